@@ -1,0 +1,28 @@
+-- Types: each elementary type of IEC 61131-3 is a range of integers.
+use Rattle.std.specs.Prelude.{Bool, true, false, ◌&&◌, ℤ, pos, negsuc, int_le}
+use Rattle.vcp_base.specs.declared.ty.Ty.{Ty}
+use Rattle.vcp_base.specs.declared.ty.Ty.TheVariants as ty
+
+-- the least value of a type; `negsuc n` is -(n + 1)
+abbrev pub least : Ty → ℤ
+least ty.Bool = pos 0
+least ty.Int = negsuc 32767
+least ty.Dint = negsuc 2147483647
+
+-- the greatest value of a type
+abbrev pub greatest : Ty → ℤ
+greatest ty.Bool = pos 1
+greatest ty.Int = pos 32767
+greatest ty.Dint = pos 2147483647
+
+-- v is a value of the type
+abbrev pub fits : Ty → ℤ → Bool
+fits t v = int_le (least t) v && int_le v (greatest t)
+
+-- values of the first type are taken where the second is wanted: they are equal, or INT and DINT
+abbrev pub within : Ty → Ty → Bool
+within ty.Bool ty.Bool = true
+within ty.Int ty.Int = true
+within ty.Int ty.Dint = true
+within ty.Dint ty.Dint = true
+within _ _ = false

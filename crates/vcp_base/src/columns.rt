@@ -1,0 +1,76 @@
+//! Columns of a table of values.
+
+ghost use Rattle.std.specs.Prelude.{◌≡◌, ◌<◌, [], ◌∷◌, ◌++◌, Some, OnOk, OnErr, length, slice_get};
+
+use crate::memory::Memory;
+use crate::text::Text;
+use crate::ty::Ty;
+use std::alloc::Global;
+use std::marker::Model;
+
+/// One input or output: its name as declared, and its type.
+#[derive(Debug, Drop)]
+pub struct Column {
+    pub name: Text,
+    pub ty: Ty,
+}
+
+/// Inputs or outputs in order, seen as a list.
+#[derive(Debug, Drop)]
+pub struct Columns {
+    columns: Vec<Column>,
+}
+
+impl Model for Columns {
+    ghost use Rattle.std.specs.Prelude.{List};
+    ghost use Rattle.vcp_base.specs.declared.columns.Column.{Column};
+
+    ghost Value = { List Column };
+
+    ghost view = { λ c. c.columns.items };
+}
+
+impl Columns {
+    pub fn new(alloc: Global) -> Columns
+        ensures { result ≡ [] }
+    {
+        Columns {
+            columns: Vec::new(alloc),
+        }
+    }
+
+    /// The list of a vector's columns. It takes no memory.
+    pub fn from_vec(columns: Vec<Column>) -> Columns
+        ensures { result ≡ columns.items }
+    {
+        Columns { columns }
+    }
+
+    /// The vector of the columns. It takes no memory.
+    pub fn into_vec(self) -> Vec<Column>
+        ensures { result.items ≡ self }
+    {
+        self.columns
+    }
+
+    pub fn push(&mut self, column: Column) -> Result<(), Memory>
+        ensures ok { OnOk result (self.new ≡ self.old ++ column ∷ []) }
+        ensures err { OnErr result (self.new ≡ self.old) }
+    {
+        self.columns.push(column)?;
+        Ok(())
+    }
+
+    pub fn len(&self) -> usize
+        ensures { result ≡ length self.now }
+    {
+        self.columns.len()
+    }
+
+    pub fn at(&self, i: usize) -> &Column
+        requires { i < length self.now }
+        ensures { slice_get self.now i ≡ Some result.now }
+    {
+        &self.columns[i]
+    }
+}

@@ -1,0 +1,82 @@
+//! Rows of values.
+
+ghost use Rattle.std.specs.Prelude.{◌≡◌, ◌<◌, pos, [], ◌∷◌, ◌++◌, Some, IfOk, OnOk, OnErr, length, slice_get, slice_set, replicate};
+
+use crate::memory::Memory;
+use std::alloc::Global;
+use std::marker::Model;
+
+/// One value per input or output, seen as a list of integers.
+#[derive(Debug, Drop)]
+pub struct Row {
+    values: Vec<i64>,
+}
+
+impl Model for Row {
+    ghost use Rattle.std.specs.Prelude.{List, ℤ};
+
+    ghost Value = { List ℤ };
+
+    ghost view = { λ r. r.values.items };
+}
+
+impl Row {
+    pub fn new(alloc: Global) -> Row
+        ensures { result ≡ [] }
+    {
+        Row {
+            values: Vec::new(alloc),
+        }
+    }
+
+    /// A row of zeros.
+    pub fn zeros(alloc: Global, len: u32) -> Result<Row, Memory>
+        ensures { IfOk result (λ r. r ≡ replicate len (pos 0)) }
+    {
+        Ok(Row {
+            values: vec![in alloc; 0; len as usize]?,
+        })
+    }
+
+    /// The row of a vector's values. It takes no memory.
+    pub fn from_vec(values: Vec<i64>) -> Row
+        ensures { result ≡ values.items }
+    {
+        Row { values }
+    }
+
+    /// The vector of the values. It takes no memory.
+    pub fn into_vec(self) -> Vec<i64>
+        ensures { result.items ≡ self }
+    {
+        self.values
+    }
+
+    pub fn push(&mut self, v: i64) -> Result<(), Memory>
+        ensures ok { OnOk result (self.new ≡ self.old ++ v ∷ []) }
+        ensures err { OnErr result (self.new ≡ self.old) }
+    {
+        self.values.push(v)?;
+        Ok(())
+    }
+
+    pub fn len(&self) -> usize
+        ensures { result ≡ length self.now }
+    {
+        self.values.len()
+    }
+
+    pub fn at(&self, i: usize) -> i64
+        requires { i < length self.now }
+        ensures { slice_get self.now i ≡ Some result }
+    {
+        self.values[i]
+    }
+
+    pub fn set(&mut self, i: u32, v: i64)
+        requires { i < length self.old }
+        ensures { self.new ≡ slice_set self.old i v }
+    {
+        self.values[i as usize] = v;
+    }
+}

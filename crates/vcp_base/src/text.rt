@@ -1,0 +1,73 @@
+//! Texts, which are lists of bytes.
+
+ghost use Rattle.std.specs.Prelude.{◌≡◌, ◌<◌, ◌↔◌, Some, IfOk, IsTrue, length, slice_get};
+ghost use Rattle.vcp_base.specs.Names.{SameName};
+
+use crate::memory::Memory;
+use std::alloc::Global;
+use std::marker::Model;
+
+/// A text, seen as the list of its bytes.
+#[derive(Debug, Drop)]
+pub struct Text {
+    content: Vec<u8>,
+}
+
+impl Model for Text {
+    ghost use Rattle.std.specs.Prelude.{List, ℕ};
+
+    ghost Value = { List ℕ };
+
+    ghost view = { λ t. t.content.items };
+}
+
+impl Text {
+    /// A copy of the bytes.
+    pub fn copy_of(alloc: Global, bytes: &[u8]) -> Result<Text, Memory>
+        ensures { IfOk result (λ t. t ≡ bytes.now) }
+    {
+        Ok(Text {
+            content: bytes.to_vec(alloc)?,
+        })
+    }
+
+    /// The text of a vector's bytes. It takes no memory.
+    pub fn from_vec(content: Vec<u8>) -> Text
+        ensures { result ≡ content.items }
+    {
+        Text { content }
+    }
+
+    /// The vector of the bytes. It takes no memory.
+    pub fn into_vec(self) -> Vec<u8>
+        ensures { result.items ≡ self }
+    {
+        self.content
+    }
+
+    pub fn bytes(&self) -> &[u8]
+        ensures { result.now ≡ self.now }
+    {
+        &self.content
+    }
+
+    pub fn len(&self) -> usize
+        ensures { result ≡ length self.now }
+    {
+        self.content.len()
+    }
+
+    pub fn at(&self, i: usize) -> u8
+        requires { i < length self.now }
+        ensures { slice_get self.now i ≡ Some result }
+    {
+        self.content[i]
+    }
+}
+
+/// Whether two names are one: names are compared without regard to the case of ASCII letters.
+pub fn same_name(a: &Text, b: &Text) -> bool
+    ensures { IsTrue result ↔ SameName a.now b.now }
+{
+    a.bytes().eq_ignore_ascii_case(b.bytes())
+}

@@ -1,0 +1,57 @@
+//! Command words.
+
+ghost use Rattle.std.specs.Prelude.{◌≡◌, ◌<◌, [], ◌∷◌, ◌++◌, Some, OnOk, OnErr, length, slice_get};
+
+use crate::memory::Memory;
+use crate::text::Text;
+use std::alloc::Global;
+use std::marker::Model;
+
+/// Words, seen as a list of texts.
+#[derive(Debug, Drop)]
+pub struct Words {
+    words: Vec<Text>,
+    alloc: Global,
+}
+
+impl Model for Words {
+    ghost use Rattle.std.specs.Prelude.{List, ℕ};
+
+    ghost Value = { List (List ℕ) };
+
+    ghost view = { λ w. w.words.items };
+}
+
+impl Words {
+    pub fn new(alloc: Global) -> Words
+        ensures { result ≡ [] }
+    {
+        Words {
+            words: Vec::new(alloc),
+            alloc,
+        }
+    }
+
+    /// Appends a copy of a word.
+    pub fn push(&mut self, word: &[u8]) -> Result<(), Memory>
+        ensures ok { OnOk result (self.new ≡ self.old ++ word.now ∷ []) }
+        ensures err { OnErr result (self.new ≡ self.old) }
+    {
+        let copy = Text::copy_of(self.alloc, word)?;
+        self.words.push(copy)?;
+        Ok(())
+    }
+
+    pub fn len(&self) -> usize
+        ensures { result ≡ length self.now }
+    {
+        self.words.len()
+    }
+
+    pub fn at(&self, i: usize) -> &Text
+        requires { i < length self.now }
+        ensures { slice_get self.now i ≡ Some result.now }
+    {
+        &self.words[i]
+    }
+}
