@@ -1,0 +1,3 @@
+pub mod Modular
+pub mod Steps
+pub mod Worked

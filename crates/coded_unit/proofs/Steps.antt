@@ -1,0 +1,31 @@
+-- The right answer to a call whose operands carry signatures, the stamp and differences.
+use Rattle.std.proofs.Common.{◌≡◌, pos, ◌+ℤ◌, ◌*ℤ◌, ap, ◌∙◌}
+use Rattle.vcp_base.specs.Kinds.{multiplier, outcome}
+use Rattle.coded_unit.specs.declared.call.Call.{Call}
+use Rattle.coded_unit.specs.Words.{modulo, value_part}
+use Rattle.coded_unit.specs.Right.{residue, residue_of, answer_of, Right}
+use Rattle.coded_unit.specs.Step.{StepLaw}
+use Rattle.coded_unit.proofs.Modular.{modulo_below, modulo_coded, value_part_coded, residues_cancel}
+
+-- the right answer keeps the step law
+pub right_steps : (call : Call) → StepLaw call (Right call)
+right_steps call s e f g d h k v w x carries =
+    let kind = call.kind in
+    let p = pos call.stamp in
+    let va : value_part call.a ≡ v = ap value_part carries.first ∙ value_part_coded v _ (modulo_below _) in
+    let vb : value_part call.b ≡ w = ap value_part carries.second ∙ value_part_coded w _ (modulo_below _) in
+    let vc : value_part call.c ≡ x = ap value_part carries.third ∙ value_part_coded x _ (modulo_below _) in
+    let ra : modulo call.a ≡ modulo (e +ℤ p +ℤ d) = ap modulo carries.first ∙ modulo_coded v _ (modulo_below _) in
+    let rb : modulo call.b ≡ modulo (f +ℤ p +ℤ h) = ap modulo carries.second ∙ modulo_coded w _ (modulo_below _) in
+    let rc : modulo call.c ≡ modulo (g +ℤ p +ℤ k) = ap modulo carries.third ∙ modulo_coded x _ (modulo_below _) in
+    let same_residue : residue_of call ≡ modulo (s +ℤ p +ℤ (multiplier kind 0 *ℤ d +ℤ multiplier kind 1 *ℤ h +ℤ multiplier kind 2 *ℤ k)) =
+    ap (λ y. residue kind y (modulo call.b) (modulo call.c) call.corr call.stamp) ra
+    ∙ ap (λ y. residue kind (modulo (e +ℤ p +ℤ d)) y (modulo call.c) call.corr call.stamp) rb
+    ∙ ap (λ y. residue kind (modulo (e +ℤ p +ℤ d)) (modulo (f +ℤ p +ℤ h)) y call.corr call.stamp) rc
+    ∙ ap (λ y. residue kind (modulo (e +ℤ p +ℤ d)) (modulo (f +ℤ p +ℤ h)) (modulo (g +ℤ p +ℤ k)) y call.stamp) carries.correction
+    ∙ residues_cancel (multiplier kind 0) (multiplier kind 1) (multiplier kind 2) e f g d h k s p in
+    let gives = outcome kind call.from call.ty call.imm in
+    ap (λ y. answer_of (gives y (value_part call.b) (value_part call.c)) (residue_of call)) va
+    ∙ ap (λ y. answer_of (gives v y (value_part call.c)) (residue_of call)) vb
+    ∙ ap (λ y. answer_of (gives v w y) (residue_of call)) vc
+    ∙ ap (answer_of (gives v w x)) same_residue

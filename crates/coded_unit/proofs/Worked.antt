@@ -1,0 +1,46 @@
+-- The right answers to the four calls of one cycle of `y := x + 1` at x = 5, worked by hand.
+use Rattle.std.proofs.Common.{refl, ℕ, ◌≡◌, ◌-◌, ◌^◌, ℤ, pos, negsuc}
+use Rattle.vcp_base.specs.declared.kind.Kind.{Kind}
+use Rattle.vcp_base.specs.declared.kind.Kind.TheVariants as kind
+use Rattle.vcp_base.specs.declared.ty.Ty.TheVariants as ty
+use Rattle.coded_unit.specs.declared.call.Call.{Call}
+use Rattle.coded_unit.specs.declared.call.Answer.TheVariants as answer
+use Rattle.coded_unit.specs.Words.{modulo, value_part, coded, nearest_word}
+use Rattle.coded_unit.specs.Right.{Right}
+
+-- a call on DINT values in cycle 0, whose stamp is 1
+called : Kind → ℤ → ℤ → ℤ → ℕ → Call
+called kind a b imm corr =
+    record { op = 0; cycle = 0; kind = kind; from = ty.Dint; ty = ty.Dint; a = a; b = b; c = pos 0; imm = imm; corr = corr; stamp = 1 }
+
+-- x has the value 5 and the signature 305419896
+right-input : Right (called kind.Input (pos 0) (pos 0) (pos 5) 305419896) ≡ answer.Word (pos 11042838132)
+unfolding called modulo value_part coded
+right-input = refl
+
+-- the constant has the value 1 and the signature 520168261
+right-const : Right (called kind.Const (pos 0) (pos 0) (pos 1) 520168261) ≡ answer.Word (pos 2667651909)
+unfolding called modulo value_part coded
+right-const = refl
+
+right-add : Right (called kind.Add (pos 11042838132) (pos 2667651909) (pos 0) 2056812116) ≡ answer.Word (pos 13619818509)
+unfolding called modulo value_part coded
+right-add = refl
+
+right-out : Right (called kind.Out (pos 13619818509) (pos 0) (pos 0) 214748365) ≡ answer.Word (pos 13834566874)
+unfolding called modulo value_part coded
+right-out = refl
+
+-- -2147483646 is the word of the value -1 and the residue 1
+split-negative : (value_part (negsuc 2147483645) ≡ negsuc 0) × (modulo (negsuc 2147483645) ≡ 1)
+unfolding modulo value_part
+split-negative = (refl, refl)
+
+-- the least DINT with the residue 1
+coded-least : coded (negsuc 2147483647) 1 ≡ negsuc 4611686016279904254
+unfolding coded
+coded-least = refl
+
+-- past the greatest word stands the greatest word
+nearest_word-past : nearest_word (pos (2 ^ 95)) ≡ pos (2 ^ 95 - 1)
+nearest_word-past = refl

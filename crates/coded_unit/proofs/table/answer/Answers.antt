@@ -1,0 +1,7 @@
+use Rattle.std.proofs.Common.{sym, subst}
+use Rattle.coded_unit.specs.Step.{StepLaw}
+use Rattle.coded_unit.proofs.Steps.{right_steps}
+use Rattle.coded_unit.proofs.table.answer.Goals as goal
+
+pub returns-clause-step : goal.returns-clause-step
+returns-clause-step c = subst (StepLaw c.args.call.now) (sym c.right.ensures) (right_steps c.args.call.now)

@@ -1,0 +1,4 @@
+pub mod Log
+pub mod Right
+pub mod Step
+pub mod Words

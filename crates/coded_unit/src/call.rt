@@ -1,0 +1,46 @@
+//! Calls of a unit, and its answers.
+
+use crate::word::Word;
+use vcp_base::{Kind, Residue, Ty};
+
+/// One elementary operation, with all that a unit is told of it.
+///
+/// An operand that the kind does not have is `Word::ZERO` by custom; no answer depends on it.
+#[derive(Clone, Copy, Debug, PartialEq, Eq)]
+pub struct Call {
+    /// The number of the operation in its program, from 0.
+    pub op: u32,
+    /// The number of the cycle, from 0.
+    pub cycle: u32,
+    pub kind: Kind,
+    /// The type of the operands; the kinds of logic, and the first operand of SEL, take BOOL.
+    pub from: Ty,
+    /// The type of the answer's value.
+    pub ty: Ty,
+    /// The first operand.
+    pub a: Word,
+    /// The second operand.
+    pub b: Word,
+    /// The third operand.
+    pub c: Word,
+    /// The value of an INPUT or a CONST; no other kind reads it.
+    pub imm: i64,
+    /// The correction, below `A`: what the answer's signature has beyond the operands' signatures,
+    /// each times its multiplier.
+    pub corr: Residue,
+    /// The stamp of the cycle, at most 1000000000.
+    pub stamp: u32,
+}
+
+/// What a unit answers to a call.
+#[derive(Clone, Copy, Debug, PartialEq, Eq)]
+pub enum Answer {
+    /// The word of the value and its residue.
+    Word(Word),
+    /// The value is outside the call's type.
+    Range,
+    /// The divisor is 0.
+    DivZero,
+    /// An operand is outside its type.
+    Operand,
+}

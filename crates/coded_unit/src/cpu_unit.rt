@@ -1,0 +1,42 @@
+//! A unit that is the processor itself.
+
+ghost use Rattle.std.specs.Prelude.{◌≡◌, ◌<◌, ◌≤◌, ◌∷◌, [], None};
+ghost use Rattle.vcp_base.specs.Code.{A as code_constant};
+ghost use Rattle.coded_unit.specs.Right.{Right};
+ghost use Rattle.coded_unit.specs.Log.{GrowsBy, Counts};
+
+use crate::call::{Answer, Call};
+use crate::table;
+use crate::unit::Unit;
+
+/// The processor that runs the program: it gives the right answers, and tells no log.
+#[derive(Debug, Drop)]
+pub struct CpuUnit;
+
+impl CpuUnit {
+    /// A processor before its first call.
+    pub fn new() -> CpuUnit
+        ensures log { ⟦<CpuUnit as Unit>⟧.log result ≡ None }
+        ensures wrong { ⟦<CpuUnit as Unit>⟧.wrong result ≡ 0 }
+    {
+        CpuUnit
+    }
+}
+
+impl Unit for CpuUnit {
+    ghost use Rattle.std.specs.Prelude.{None};
+
+    ghost log = { λ _. None };
+
+    ghost wrong = { λ _. 0 };
+
+    fn perform(&mut self, call: &Call) -> Answer
+        requires corr { call.now.corr < code_constant }
+        requires stamp { call.now.stamp ≤ 1000000000 }
+        ensures log { GrowsBy None None ((call.now, result) ∷ []) }
+        ensures wrong { Counts result (Right call.now) 0 0 }
+        ensures right { result ≡ Right call.now }
+    {
+        table::answer(call)
+    }
+}

@@ -1,0 +1,22 @@
+//! Coded words, and the units that work on them.
+//!
+//! A coded word is `A*v + r`: a value `v` and a residue `r` below `A`. A call names one elementary
+//! operation with its operands; `table::answer` gives the right answer to it, and a `Unit` does
+//! calls, rightly or not, and tells what it did.
+#![tactic(auto)]
+
+mod call;
+mod cpu_unit;
+mod log_unit;
+pub mod table;
+mod unit;
+mod word;
+
+pub use call::{Answer, Call};
+pub use cpu_unit::CpuUnit;
+pub use log_unit::LogUnit;
+pub use unit::Unit;
+pub use word::Word;
+
+#[cfg(test)]
+mod tests;

@@ -1,0 +1,177 @@
+//! The right answer to a call.
+
+ghost use Rattle.std.specs.Prelude.{◌≡◌, ◌<◌, ◌≤◌, ◌^◌, ℤ, pos, negsuc, ◌*ℤ◌, ◌+ℤ◌, ◌≤ℤ◌, true, false, IfOk};
+ghost use Rattle.vcp_base.specs.Code.{A as code_constant};
+ghost use Rattle.vcp_base.specs.Kinds.{operand_type as operand_type_of, takes as takes_of, operands_fit as operands_fit_of, divides_by_zero as divides_by_zero_of, value as value_of, truth as truth_of, outcome as outcome_of};
+ghost use Rattle.coded_unit.specs.Words.{Small};
+ghost use Rattle.coded_unit.specs.Right.{residue as residue_of, stamp_share as stamp_share_of, Right};
+ghost use Rattle.coded_unit.specs.Step.{StepLaw};
+
+use crate::call::{Answer, Call};
+use crate::word::{Word, remainder};
+use vcp_base::{Kind, Residue, StopKind, Ty, fits, multiplier, operands};
+
+/// The right answer to a call.
+///
+/// `Operand` where an operand is outside its type, else `DivZero` where the divisor is 0, else
+/// `Range` where the value is outside the call's type, else the word of the value. Its residue comes
+/// from the operands' residues, the correction and the stamp alone, never from the value: what is
+/// wrong with an operand's residue is carried on, times the operand's multiplier.
+pub fn answer(call: &Call) -> Answer
+    requires corr { call.now.corr < code_constant }
+    requires stamp { call.now.stamp ≤ 1000000000 }
+    ensures right { result ≡ Right call.now }
+    ensures step { StepLaw call.now result }
+{
+    right(call)
+}
+
+/// The right answer to a call.
+fn right(call: &Call) -> Answer
+    ensures { result ≡ Right call.now }
+{
+    let (a, r) = call.a.split();
+    let (b, s) = call.b.split();
+    let (c, t) = call.c.split();
+    match outcome(call, a, b, c) {
+        Ok(v) => Answer::Word(Word::packed(v, residue(call.kind, r, s, t, call.corr, call.stamp))),
+        Err(StopKind::Range) => Answer::Range,
+        Err(StopKind::DivZero) => Answer::DivZero,
+        Err(StopKind::Operand) => Answer::Operand,
+    }
+}
+
+/// The value of a call at these values of its operands, or why there is none.
+fn outcome(call: &Call, a: i128, b: i128, c: i128) -> Result<i128, StopKind>
+    ensures value { result ≡ outcome_of call.now.kind call.now.from call.now.ty call.now.imm a b c }
+    ensures low { IfOk result (λ v. negsuc (2 ^ 63) ≤ℤ v) }
+    ensures high { IfOk result (λ v. v ≤ℤ pos (2 ^ 63)) }
+{
+    if !operands_fit(call.kind, call.from, a, b, c) {
+        return Err(StopKind::Operand);
+    }
+    if divides_by_zero(call.kind, b) {
+        return Err(StopKind::DivZero);
+    }
+    let v = value(call.kind, call.from, call.imm, a, b, c);
+    if !fits(call.ty, v) {
+        return Err(StopKind::Range);
+    }
+    Ok(v)
+}
+
+/// Whether each operand has a value of its type.
+fn operands_fit(kind: Kind, from: Ty, a: i128, b: i128, c: i128) -> bool
+    ensures value { result ≡ operands_fit_of kind from a b c }
+    ensures first { result ≡ true → takes_of kind 0 from a ≡ true }
+    ensures second { result ≡ true → takes_of kind 1 from b ≡ true }
+{
+    takes(kind, 0, from, a) && takes(kind, 1, from, b) && takes(kind, 2, from, c)
+}
+
+/// Whether `v` may be the value of operand `j`; anything may where the kind has no operand `j`.
+fn takes(kind: Kind, j: u32, from: Ty, v: i128) -> bool
+    ensures { result ≡ takes_of kind j from v }
+{
+    if j < operands(kind) {
+        fits(operand_type(kind, j, from), v)
+    } else {
+        true
+    }
+}
+
+/// The type of operand `j` of an operation on values of type `from`.
+fn operand_type(kind: Kind, j: u32, from: Ty) -> Ty
+    ensures { result ≡ operand_type_of kind j from }
+{
+    match kind {
+        Kind::Not | Kind::And | Kind::Or | Kind::Xor => Ty::Bool,
+        Kind::Sel => if j == 0 { Ty::Bool } else { from },
+        _ => from,
+    }
+}
+
+/// Whether the kind divides, and the divisor `b` is 0.
+fn divides_by_zero(kind: Kind, b: i128) -> bool
+    ensures { result ≡ divides_by_zero_of kind b }
+{
+    match kind {
+        Kind::Div | Kind::Mod => b == 0,
+        _ => false,
+    }
+}
+
+/// The value of a kind, from the call's own number and the values of the operands.
+fn value(kind: Kind, from: Ty, imm: i64, a: i128, b: i128, c: i128) -> i128
+    requires a_fits { takes_of kind 0 from a ≡ true }
+    requires b_fits { takes_of kind 1 from b ≡ true }
+    requires divisor { divides_by_zero_of kind b ≡ false }
+    ensures { result ≡ value_of kind imm a b c }
+{
+    match kind {
+        Kind::Input | Kind::Const => imm as i128,
+        Kind::Load | Kind::Store | Kind::Out | Kind::Conv => a,
+        Kind::Neg => -a,
+        Kind::Not => 1 - a,
+        Kind::Add => a + b,
+        Kind::Sub => a - b,
+        Kind::Mul => a * b,
+        Kind::Div => a / b,
+        Kind::Mod => a % b,
+        Kind::Eq => truth(a == b),
+        Kind::Lt => truth(a < b),
+        Kind::And => truth(a == 1 && b == 1),
+        Kind::Or => truth(a == 1 || b == 1),
+        Kind::Xor => truth(a != b),
+        Kind::Sel => if a == 0 { b } else { c },
+    }
+}
+
+/// 1 for true, 0 for false.
+fn truth(b: bool) -> i128
+    ensures { result ≡ truth_of b }
+{
+    if b { 1 } else { 0 }
+}
+
+/// The residue of an answer, from those of the operands, the correction and the stamp.
+fn residue(kind: Kind, r: Residue, s: Residue, t: Residue, corr: Residue, stamp: u32) -> Residue
+    ensures value { result ≡ residue_of kind r s t corr stamp }
+    ensures below { result < code_constant }
+{
+    let first = scaled(multiplier(kind, 0), r);
+    let second = scaled(multiplier(kind, 1), s);
+    let third = scaled(multiplier(kind, 2), t);
+    let share = scaled(stamp_share(kind), stamp);
+    remainder(total(first, second, third, corr, share) as i128)
+}
+
+/// How often the stamp is added, so that it stands in the answer's residue once.
+fn stamp_share(kind: Kind) -> i32
+    ensures value { result ≡ stamp_share_of kind }
+    ensures low { negsuc 60 ≤ℤ result }
+    ensures high { result ≤ℤ pos 61 }
+{
+    1 - multiplier(kind, 0) - multiplier(kind, 1) - multiplier(kind, 2)
+}
+
+/// A factor times a residue or a stamp.
+fn scaled(factor: i32, by: u32) -> i64
+    requires low { negsuc 60 ≤ℤ factor }
+    requires high { factor ≤ℤ pos 61 }
+    ensures value { result ≡ factor *ℤ pos by }
+    ensures small { Small result }
+{
+    factor as i64 * by as i64
+}
+
+/// A sum of four terms and a correction.
+fn total(first: i64, second: i64, third: i64, corr: Residue, share: i64) -> i64
+    requires first { Small first }
+    requires second { Small second }
+    requires third { Small third }
+    requires share { Small share }
+    ensures { result ≡ first +ℤ second +ℤ third +ℤ pos corr +ℤ share }
+{
+    first + second + third + corr as i64 + share
+}

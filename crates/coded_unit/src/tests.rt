@@ -1,0 +1,178 @@
+//! A worked cycle, one answer of each kind, and the ends of words.
+
+ghost use Rattle.std.specs.Prelude.{◌≡◌};
+
+use crate::table::answer;
+use crate::{Answer, Call, CpuUnit, LogUnit, Unit, Word};
+use std::test::Fail;
+use vcp_base::{Kind, Ty};
+
+/// The word of an answer; 0 where it has none.
+fn word_of(given: &Answer) -> Word {
+    match given {
+        Answer::Word(word) => *word,
+        _ => Word::ZERO,
+    }
+}
+
+/// A call of the worked cycle, in which the stamp is 1.
+fn worked(op: u32, kind: Kind, a: &Word, b: &Word, imm: i64, corr: u32) -> Call
+    ensures corr { result.corr ≡ corr }
+    ensures stamp { result.stamp ≡ 1 }
+{
+    Call {
+        op,
+        cycle: 0,
+        kind,
+        from: Ty::Dint,
+        ty: Ty::Dint,
+        a: *a,
+        b: *b,
+        c: Word::ZERO,
+        imm,
+        corr,
+        stamp: 1,
+    }
+}
+
+/// The words of one cycle of `y := x + 1` at x = 5.
+fn increment<U: Unit>(unit: &mut U) -> [i128; 4] {
+    let zero = Word::ZERO;
+    let input = unit.perform(&worked(0, Kind::Input, &zero, &zero, 5, 305419896));
+    let one = unit.perform(&worked(1, Kind::Const, &zero, &zero, 1, 520168261));
+    let sum = unit.perform(&worked(
+        2,
+        Kind::Add,
+        &word_of(&input),
+        &word_of(&one),
+        0,
+        2056812116,
+    ));
+    let output = unit.perform(&worked(3, Kind::Out, &word_of(&sum), &zero, 0, 214748365));
+    [
+        word_of(&input).get(),
+        word_of(&one).get(),
+        word_of(&sum).get(),
+        word_of(&output).get(),
+    ]
+}
+
+#[test]
+fn units_do_a_worked_cycle(rt: HostRuntime) -> Result<(), Fail> {
+    let words = [11042838132, 2667651909, 13619818509, 13834566874];
+    let mut roomy = LogUnit::new(rt.alloc(), 4)?;
+    let mut narrow = LogUnit::new(rt.alloc(), 2)?;
+    assert_eq!(rt; increment(&mut CpuUnit::new()), words);
+    assert_eq!(rt; increment(&mut roomy), words);
+    assert_eq!(rt; increment(&mut narrow), words);
+    for i in 0..4u32 {
+        let Some((call, kept)) = roomy.entry(i) else {
+            assert!(rt; false, "no entry {i}");
+            return Ok(());
+        };
+        assert_eq!(rt; (call.op, word_of(&kept).get()), (i, words[i as usize]));
+    }
+    assert!(rt; roomy.entry(4).is_none());
+    assert!(rt; narrow.entry(1).is_some() && narrow.entry(2).is_none());
+    Ok(())
+}
+
+/// A call whose operands have these values and the residues 10, 20 and 30.
+fn of_values(kind: Kind, from: Ty, ty: Ty, values: [i32; 3]) -> Call
+    ensures corr { result.corr ≡ 1000 }
+    ensures stamp { result.stamp ≡ 1 }
+{
+    Call {
+        op: 7,
+        cycle: 2,
+        kind,
+        from,
+        ty,
+        a: Word::packed(values[0] as i128, 10),
+        b: Word::packed(values[1] as i128, 20),
+        c: Word::packed(values[2] as i128, 30),
+        imm: -4,
+        corr: 1000,
+        stamp: 1,
+    }
+}
+
+#[test]
+fn kinds_have_values_and_residues(rt: HostRuntime) {
+    let rows = [
+        (Kind::Input, [1, 2, 3], (-4, 1001)),
+        (Kind::Const, [1, 2, 3], (-4, 1001)),
+        (Kind::Load, [8, 2, 3], (8, 1010)),
+        (Kind::Store, [8, 2, 3], (8, 1010)),
+        (Kind::Out, [8, 2, 3], (8, 1010)),
+        (Kind::Conv, [8, 2, 3], (8, 1010)),
+        (Kind::Neg, [8, 2, 3], (-8, 992)),
+        (Kind::Not, [1, 2, 3], (0, 983)),
+        (Kind::Add, [7, 2, 0], (9, 1029)),
+        (Kind::Sub, [7, 2, 0], (5, 991)),
+        (Kind::Mul, [-7, 2, 0], (-14, 1076)),
+        (Kind::Div, [-7, 2, 0], (-3, 1132)),
+        (Kind::Mod, [-7, 2, 0], (-1, 1188)),
+        (Kind::Eq, [4, 4, 0], (1, 1244)),
+        (Kind::Lt, [4, 4, 0], (0, 1300)),
+        (Kind::And, [1, 0, 0], (0, 1356)),
+        (Kind::Or, [1, 0, 0], (1, 1412)),
+        (Kind::Xor, [1, 1, 0], (0, 1468)),
+        (Kind::Sel, [0, 8, 9], (8, 2104)),
+        (Kind::Sel, [1, 8, 9], (9, 2104)),
+    ];
+    for (kind, values, parts) in rows {
+        let given = answer(&of_values(kind, Ty::Int, Ty::Int, values));
+        assert_eq!(rt; word_of(&given).split(), parts, "at {kind:?}");
+    }
+}
+
+#[test]
+fn calls_stop_in_order(rt: HostRuntime) {
+    let most = 2147483647;
+    let rows = [
+        (Kind::Add, Ty::Dint, Ty::Dint, [most, 1, 0], Answer::Range),
+        (Kind::Div, Ty::Dint, Ty::Dint, [5, 0, 0], Answer::DivZero),
+        (Kind::Mod, Ty::Dint, Ty::Bool, [5, 0, 0], Answer::DivZero),
+        (Kind::Div, Ty::Int, Ty::Int, [32768, 0, 0], Answer::Operand),
+        (Kind::Add, Ty::Int, Ty::Int, [1, 32768, 0], Answer::Operand),
+        (Kind::And, Ty::Int, Ty::Bool, [1, 2, 0], Answer::Operand),
+        (Kind::Sel, Ty::Int, Ty::Int, [2, 8, 9], Answer::Operand),
+    ];
+    for (kind, from, ty, values, stop) in rows {
+        assert_eq!(rt;
+            answer(&of_values(kind, from, ty, values)),
+            stop,
+            "at {kind:?}"
+        );
+    }
+    let mut call = of_values(Kind::Add, Ty::Dint, Ty::Dint, [0, 1, 0]);
+    call.a = Word::packed(2147483648, 10);
+    assert_eq!(rt; answer(&call), Answer::Operand);
+}
+
+#[test]
+fn words_split_and_end(rt: HostRuntime) -> Result<(), Fail> {
+    let bound = 39614081257132168796771975168;
+    assert!(rt; Word::new(bound).is_none() && Word::new(-bound).is_none());
+    let (Some(most), Some(least)) = (Word::new(bound - 1), Word::new(1 - bound)) else {
+        assert!(rt; false, "no word at the ends");
+        return Ok(());
+    };
+    assert_eq!(rt; Word::packed(-1, 1).get(), -2147483646);
+    assert_eq!(rt; Word::packed(-1, 1).split(), (-1, 1));
+    assert_eq!(rt; Word::packed(-2147483648, 1).get(), -4611686016279904255);
+    assert_eq!(rt; Word::ZERO.split(), (0, 0));
+    let rows = [
+        (Word::ZERO, -7, -7),
+        (most, -1, bound - 2),
+        (most, 1, bound - 1),
+        (most, i64::MAX, bound - 1),
+        (least, 1, 2 - bound),
+        (least, i64::MIN, 1 - bound),
+    ];
+    for (word, change, wanted) in rows {
+        assert_eq!(rt; word.shift(change).get(), wanted);
+    }
+    Ok(())
+}

@@ -1,0 +1,26 @@
+//! Units: what does the calls of a program, and tells what it did.
+
+ghost use Rattle.std.specs.Prelude.{◌<◌, ◌≤◌, ℕ, List, Option, ◌∷◌, []};
+ghost use Rattle.vcp_base.specs.Code.{A as code_constant};
+ghost use Rattle.coded_unit.specs.Right.{Right};
+ghost use Rattle.coded_unit.specs.Log.{Entry, GrowsBy, Counts};
+
+use crate::call::{Answer, Call};
+
+/// What does calls: a processor, or something that stands for one and may fail.
+///
+/// A log that is not told is never told later; a told one may be told no more.
+pub trait Unit {
+    /// The calls so far with their answers, in order, where they are told.
+    ghost log: { Self → Option (List Entry) };
+
+    /// How many answers so far are not the right ones, up to 2^64 - 1.
+    ghost wrong: { Self → ℕ };
+
+    /// Does one call. The answer may be wrong, and is then counted.
+    fn perform(&mut self, call: &Call) -> Answer
+        requires corr { call.now.corr < code_constant }
+        requires stamp { call.now.stamp ≤ 1000000000 }
+        ensures log { GrowsBy (log self.old) (log self.new) ((call.now, result) ∷ []) }
+        ensures wrong { Counts result (Right call.now) (wrong self.old) (wrong self.new) };
+}

@@ -1,0 +1,22 @@
+-- What was taken of a file, from what was read of it.
+use Rattle.std.proofs.Common.{◌≡◌, ◌≤◌, ℕ, List, ◌++◌, length, Option, Some, None, IsSome, IfSome, ◌∙◌, ap, refl}
+use Rattle.std.proofs.KnownBytes.{Consumes-trans}
+use Rattle.std.specs.Io.KnownBytes.{Consumes}
+use Rattle.vcp_outside.specs.Held.{Held}
+use Rattle.vcp_outside.specs.ReadAll.{TakesBetween}
+
+-- a front that was read was taken
+takes_front : (least most : ℕ) (held : Held) (name : List ℕ) (bytes rest : Option (List ℕ)) (front : List ℕ)
+    → held name ≡ bytes → IsSome bytes → Consumes bytes rest front → least ≤ length front → length front ≤ most → TakesBetween least most held name rest
+takes_front least most held name None rest front is some reads low high = absurd (cc)
+takes_front least most held name (Some bytes) None front is some reads low high = absurd reads
+takes_front least most held name (Some bytes) (Some left) front is some reads low high =
+    (front, left, is ∙ ap Some reads, refl, low, high)
+
+-- the same after one more piece, where it is told what is held
+pub takes_more : (least most : ℕ) (held : Option Held) (name : List ℕ) (mid rest : Option (List ℕ)) (front piece : List ℕ)
+    → IfSome held (λ h. IsSome (h name) × Consumes (h name) mid front) → Consumes mid rest piece → least ≤ length (front ++ piece) → length (front ++ piece) ≤ most
+    → IfSome held (λ h. TakesBetween least most h name rest)
+takes_more least most None name mid rest front piece reads more low high = tt
+takes_more least most (Some held) name mid rest front piece reads more low high =
+    takes_front least most held name (held name) rest (front ++ piece) refl reads.0 (Consumes-trans (held name) mid rest front piece reads.1 more) low high

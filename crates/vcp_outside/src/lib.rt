@@ -1,0 +1,29 @@
+//! What lies outside a program: files that it reads and sinks that it writes to.
+//!
+//! `Files` and `Sink` say in ghost members what is held, read and written, where that is told, and
+//! count their faults. `MemFiles` and `MemSink` stand in memory and tell all. `HostFiles` and
+//! `HostSink` stand on the host and tell no bytes. A call answers `Failed` only where a count rose.
+#![tactic(auto)]
+
+mod failed;
+mod files;
+mod host_files;
+mod host_sink;
+mod mem_files;
+mod mem_sink;
+mod reading;
+mod sink;
+mod writing;
+
+pub use failed::Failed;
+pub use files::Files;
+pub use host_files::HostFiles;
+pub use host_sink::HostSink;
+pub use mem_files::{Entry, MemFiles};
+pub use mem_sink::MemSink;
+pub use reading::{ReadAll, read_all, read_all_counting};
+pub use sink::Sink;
+pub use writing::write_all;
+
+#[cfg(test)]
+mod tests;

@@ -1,0 +1,85 @@
+//! A sink in memory.
+
+ghost use Rattle.std.specs.Prelude.{◌≡◌, ◌-◌, ◌<◌, ◌≤◌, ◌↔◌, ◌++◌, [], Some, min, length, take, IsErr, IfOk, OnErr};
+ghost use Rattle.std.specs.Io.{WritesAtMost};
+ghost use Rattle.std.specs.Io.KnownBytes.{WriteAppends};
+ghost use Rattle.vcp_outside.specs.Counts.{HasCause, count_after};
+ghost use Rattle.vcp_outside.specs.MemSink.{room_left, IsFull};
+
+use crate::failed::Failed;
+use crate::sink::Sink;
+use std::alloc::Global;
+use std::marker::Model;
+use vcp_base::Memory;
+
+/// A sink that keeps what is written, up to its room. It is seen as the bytes that were written,
+/// how many it takes in all, and its count of faults.
+#[derive(Drop)]
+pub struct MemSink {
+    bytes: Vec<u8>,
+    room: usize,
+    faults: u64,
+}
+
+impl Model for MemSink {
+    ghost use Rattle.std.specs.Prelude.{◌≤◌, vec_len, vec_capacity};
+    ghost use Rattle.vcp_outside.specs.MemSink.{SinkInMemory};
+
+    ghost Value = { SinkInMemory };
+
+    ghost view = { λ s. record { bytes = s.bytes.items; room = s.room; faults = s.faults } };
+
+    ghost invariant = { λ s. (vec_len s.bytes ≤ s.room) × (s.room ≤ vec_capacity s.bytes) };
+}
+
+impl MemSink {
+    /// An empty sink that takes `room` bytes in all. It takes all its memory at once.
+    pub fn new(alloc: Global, room: u32) -> Result<MemSink, Memory>
+        ensures { IfOk result (λ sink. sink ≡ record { bytes = []; room = room; faults = 0 }) }
+    {
+        let room = room as usize;
+        Ok(MemSink {
+            bytes: Vec::with_capacity(alloc, room)?,
+            room,
+            faults: 0,
+        })
+    }
+
+    /// What was written.
+    pub fn bytes(&self) -> &[u8]
+        ensures value { result.now ≡ self.now.bytes }
+        ensures within { length result.now ≤ self.now.room }
+    {
+        &self.bytes
+    }
+}
+
+impl Sink for MemSink {
+    ghost written = { λ s. Some s.bytes };
+
+    ghost faults = { λ s. s.faults };
+
+    fn write(&mut self, piece: &[u8]) -> Result<usize, Failed>
+        ensures bound { WritesAtMost result piece.now }
+        ensures some { IfOk result (λ n. 0 < length piece.now → 0 < n) }
+        ensures bytes { WriteAppends (Some self.old.bytes) (Some self.new.bytes) result piece.now }
+        ensures cause { HasCause self.old.faults self.new.faults result }
+
+        // It fails exactly for some bytes while it is full, and else takes all that there is room for.
+        ensures full { IsErr result ↔ (IsFull self.old × (0 < length piece.now)) }
+        ensures count { IfOk result (λ n. n ≡ min (length piece.now) (room_left self.old)) }
+        ensures ok { IfOk result (λ n. self.new ≡ record self.old { bytes = self.old.bytes ++ take n piece.now }) }
+        ensures err { OnErr result (self.new ≡ record self.old { faults = count_after result self.old.faults }) }
+    {
+        let left = self.room - self.bytes.len();
+        if left == 0 && !piece.is_empty() {
+            self.faults = self.faults.saturating_add(1);
+            return Err(Failed);
+        }
+        let count = piece.len().min(left);
+        match self.bytes.extend_from_slice(&piece[..count]) {
+            Ok(()) => Ok(count),
+            Err(_) => unreachable!(),
+        }
+    }
+}

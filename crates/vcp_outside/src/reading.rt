@@ -1,0 +1,163 @@
+//! Reading whole files.
+
+ghost use Rattle.std.specs.Prelude.{◌≡◌, ◌+◌, ◌<◌, ◌≤◌, ◌^◌, length, IfSome, IfOk, OnOk, IsErrOf};
+ghost use Rattle.std.specs.Io.{ReadsAtMost};
+ghost use Rattle.std.specs.Io.KnownBytes.{ReadConsumes, IsAtEnd};
+ghost use Rattle.vcp_outside.specs.Counts.{HasCause, Rose, last_count};
+ghost use Rattle.vcp_outside.specs.Held.{OnlyBroken};
+ghost use Rattle.vcp_outside.specs.ReadAll.{ReadsAll, Takes};
+ghost use Rattle.vcp_outside.specs.declared.reading.ReadAll.TheVariants as cause;
+
+use crate::failed::Failed;
+use crate::files::Files;
+use std::alloc::{AllocError, Global};
+use std::marker::Brand;
+use std::sync::ledger::{Blank, Ledger};
+use vcp_base::{Steps, Text};
+
+/// Why a whole file isn't answered.
+#[derive(Clone, Copy, Debug, PartialEq, Eq)]
+pub enum ReadAll {
+    /// The files failed, as for a name that is lacking.
+    Failed,
+    /// The file is longer than the limit.
+    TooLong,
+    /// An allocation failed.
+    Memory,
+}
+
+impl From<Failed> for ReadAll {
+    ghost from_gives = { λ _ e. e ≡ cause.Failed };
+
+    fn from(_: Failed) -> Self {
+        ReadAll::Failed
+    }
+}
+
+impl From<AllocError> for ReadAll {
+    ghost from_gives = { λ _ e. e ≡ cause.Memory };
+
+    fn from(_: AllocError) -> Self {
+        ReadAll::Memory
+    }
+}
+
+// The most bytes that are read at once.
+const CHUNK: u64 = 4096;
+
+// One read, which is counted.
+fn read_counted<F: Files, L: Ledger>(
+    files: &mut F,
+    buf: &mut [u8],
+    reads: &mut Steps<L>,
+) -> Result<usize, Failed>
+    requires { 0 < length buf.old }
+    ensures held { F.held files.new ≡ F.held files.old }
+    ensures bound { ReadsAtMost result buf.new }
+    ensures bytes { ReadConsumes (F.rest files.old) (F.rest files.new) result buf.new }
+    ensures cause { HasCause (F.faults files.old) (F.faults files.new) result }
+    ensures broken_later { F.broken files.old ≤ F.broken files.new }
+    ensures broken_capped { F.broken files.old ≤ last_count → F.broken files.new ≤ last_count }
+    ensures only_broken { OnlyBroken (F.held files.old) (F.broken files.old) (F.broken files.new) result }
+    ensures counted { reads.new ≡ reads.old + 1 }
+{
+    reads.tick();
+    files.read(buf)
+}
+
+/// Reads a whole file of at most `limit` bytes, and counts its reads, of which it makes at most
+/// `limit + 1`.
+pub fn read_all_counting<F: Files, L: Ledger>(
+    alloc: Global,
+    files: &mut F,
+    name: &[u8],
+    limit: u64,
+    reads: &mut Steps<L>,
+) -> Result<Text, ReadAll>
+    requires { limit < 2 ^ 32 }
+
+    // What is answered.
+    ensures reads { IfSome (F.held files.old) (λ h. ReadsAll h name.now limit (F.broken files.old) (F.broken files.new) result) }
+    ensures within { IfOk result (λ text. length text ≤ limit) }
+    ensures failed { IsErrOf result ReadAll.Failed → Rose (F.faults files.old) (F.faults files.new) }
+
+    // What was taken of the file, and in how many reads.
+    ensures ended { OnOk result (IsAtEnd (F.rest files.new)) }
+    ensures taken { IfSome (F.held files.old) (λ h. Takes h name.now limit (F.rest files.new) result) }
+    ensures counted { reads.new ≤ reads.old + limit + 1 }
+
+    // What stays.
+    ensures held { F.held files.new ≡ F.held files.old }
+    ensures later { F.faults files.old ≤ F.faults files.new }
+    ensures capped { F.faults files.old ≤ last_count → F.faults files.new ≤ last_count }
+    ensures broken_later { F.broken files.old ≤ F.broken files.new }
+    ensures broken_capped { F.broken files.old ≤ last_count → F.broken files.new ≤ last_count }
+{
+    files.begin(name)?;
+    let mut content = Vec::new(alloc);
+    let mut chunk = [0u8; CHUNK as usize];
+    'reading: while content.len() as u64 <= limit {
+        let room = (limit + 1 - content.len() as u64).min(CHUNK) as usize;
+        let count = read_counted(files, &mut chunk[..room], reads)?;
+        if count == 0 {
+            return Ok(Text::from_vec(content));
+        }
+        content.extend_from_slice(&chunk[..count])?;
+    }
+    Err(ReadAll::TooLong)
+}
+
+// Reads a whole file, with a new counter of the ledger that the blank becomes.
+fn read_all_with<F: Files, L: Ledger>(
+    alloc: Global,
+    files: &mut F,
+    name: &[u8],
+    limit: u64,
+    blank: Blank,
+) -> Result<Text, ReadAll>
+    requires limit { limit < 2 ^ 32 }
+    requires name { blank.name ≡ L.name }
+    requires parts { blank.parts ≡ L.parts }
+    requires some { 0 < L.parts }
+    ensures reads { IfSome (F.held files.old) (λ h. ReadsAll h name.now limit (F.broken files.old) (F.broken files.new) result) }
+    ensures within { IfOk result (λ text. length text ≤ limit) }
+    ensures failed { IsErrOf result ReadAll.Failed → Rose (F.faults files.old) (F.faults files.new) }
+    ensures ended { OnOk result (IsAtEnd (F.rest files.new)) }
+    ensures taken { IfSome (F.held files.old) (λ h. Takes h name.now limit (F.rest files.new) result) }
+    ensures held { F.held files.new ≡ F.held files.old }
+    ensures later { F.faults files.old ≤ F.faults files.new }
+    ensures capped { F.faults files.old ≤ last_count → F.faults files.new ≤ last_count }
+    ensures broken_later { F.broken files.old ≤ F.broken files.new }
+    ensures broken_capped { F.broken files.old ≤ last_count → F.broken files.new ≤ last_count }
+{
+    let mut reads = Steps::<L>::none(blank);
+    read_all_counting(alloc, files, name, limit, &mut reads)
+}
+
+/// Reads a whole file of at most `limit` bytes, in at most `limit + 1` reads.
+pub fn read_all<F: Files>(
+    alloc: Global,
+    files: &mut F,
+    name: &[u8],
+    limit: u64,
+) -> Result<Text, ReadAll>
+    requires { limit < 2 ^ 32 }
+
+    // What is answered.
+    ensures reads { IfSome (F.held files.old) (λ h. ReadsAll h name.now limit (F.broken files.old) (F.broken files.new) result) }
+    ensures within { IfOk result (λ text. length text ≤ limit) }
+    ensures failed { IsErrOf result ReadAll.Failed → Rose (F.faults files.old) (F.faults files.new) }
+
+    // What was taken of the file.
+    ensures ended { OnOk result (IsAtEnd (F.rest files.new)) }
+    ensures taken { IfSome (F.held files.old) (λ h. Takes h name.now limit (F.rest files.new) result) }
+
+    // What stays.
+    ensures held { F.held files.new ≡ F.held files.old }
+    ensures later { F.faults files.old ≤ F.faults files.new }
+    ensures capped { F.faults files.old ≤ last_count → F.faults files.new ≤ last_count }
+    ensures broken_later { F.broken files.old ≤ F.broken files.new }
+    ensures broken_capped { F.broken files.old ≤ last_count → F.broken files.new ≤ last_count }
+{
+    read_all_with::<F, Brand>(alloc, files, name, limit, Blank::new(1))
+}
