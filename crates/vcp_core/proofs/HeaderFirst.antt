@@ -1,0 +1,48 @@
+-- A run after its header.
+use Rattle.std.proofs.Common.{ℕ, ◌≡◌, refl, sym, ◌∙◌, List, [], ◌++◌, append-nil, arith, Option, Result, Ok, Err, ℤ}
+use Rattle.coded_unit.specs.Log.{Entry}
+use Rattle.vcp_outside.specs.Written.{Writes}
+use Rattle.vcp_outside.specs.declared.failed.Failed.{Failed}
+use Rattle.vcp_outside.proofs.Known.{appends-appends, part-after, failed_start}
+use Rattle.vcp_core.specs.declared.operation.Op.{Op}
+use Rattle.vcp_core.specs.declared.cycle_end.CycleEnd.{CycleEnd}
+use Rattle.vcp_core.specs.Carries.{RunsOver, body_text}
+use Rattle.vcp_core.specs.Lines.{header_text, run_text}
+use Rattle.vcp_core.specs.Runs.{complete}
+use Rattle.vcp_core.proofs.Growth.{grows_by_none}
+
+writes_after : {T : Type 0} (a b c : Option (List ℕ)) (f g h : ℕ) (p q line : List ℕ) (r : Result T Failed) → Writes {T = Unit {0}} {E = Failed} a b f g p (Ok tt) → Writes b c g h q r → line ≡ p ++ q → Writes a c f h line r
+writes_after a b c f g h p q line (Ok x) v w is = record {
+  whole = appends-appends a b c p q line v.whole w.whole is;
+  part = tt;
+  cause = record { later = omega (arith, v.cause.later, w.cause.later); capped = λ k. w.cause.capped (v.cause.capped k); failed = tt };
+}
+writes_after a b c f g h p q line (Err e) v w is = record {
+  whole = tt;
+  part = part-after a b c p q [] line v.whole w.part (is ∙ sym (append-nil (p ++ q)));
+  cause = record { later = omega (arith, v.cause.later, w.cause.later); capped = λ k. w.cause.capped (v.cause.capped k); failed = omega (arith, v.cause.later, w.cause.failed) };
+}
+
+-- the header was printed, and then the run
+pub header_first : (names : List (List ℕ)) (seed step : ℕ) (ops : List Op) (rows : List (List ℤ)) (x y : Option (List Entry)) (m n : ℕ) (a b c : Option (List ℕ)) (f g h : ℕ) (r : Result CycleEnd Failed) →
+    Writes {T = Unit {0}} {E = Failed} a b f g (header_text names) (Ok tt) → RunsOver seed step ops (body_text names) rows x y m n b c g h r → RunsOver seed step ops (run_text names) rows x y m n a c f h r
+header_first names seed step ops rows x y m n a b c f g h r v run = record {
+  cycles = run.cycles;
+  carries = run.carries;
+  wrote = writes_after a b c f g h (header_text names) _ _ r v run.wrote refl;
+  finished = run.finished;
+  ended = run.ended;
+}
+
+-- the header could not be printed
+pub header_fails : (names : List (List ℕ)) (seed step : ℕ) (ops : List Op) (rows : List (List ℤ)) (x : Option (List Entry)) (m : ℕ) (a b : Option (List ℕ)) (f g : ℕ) (why : Failed) →
+    Writes {T = Unit {0}} a b f g (header_text names) (Err why) → RunsOver seed step ops (run_text names) rows x x m m a b f g (Err why)
+header_fails names seed step ops rows x m a b f g why w =
+    let failed = failed_start {T = Unit {0}} why a b f g (header_text names) (body_text names (record { rows = []; end = complete })) _ w refl in
+    record {
+      cycles = [];
+      carries = record { short = omega arith; whole = tt; told = grows_by_none x; never_falls = omega arith; honest = λ _ _. tt };
+      wrote = record { whole = tt; part = failed.part; cause = record { later = failed.cause.later; capped = failed.cause.capped; failed = failed.cause.failed } };
+      finished = tt;
+      ended = tt;
+    }

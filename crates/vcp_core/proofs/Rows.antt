@@ -1,0 +1,81 @@
+-- Worked rows, computed by the definitions alone.
+use Rattle.std.proofs.Common.{◌≡◌, refl, List, [], ◌∷◌, Some, None, pos, negsuc, codes}
+use Rattle.std.specs.Fmt.{digits}
+use Rattle.vcp_base.specs.declared.kind.Kind.TheVariants as kind
+use Rattle.vcp_base.specs.declared.kind.StopKind.TheVariants as stop
+use Rattle.vcp_base.specs.declared.ty.Ty.TheVariants as ty
+use Rattle.coded_unit.specs.declared.call.Answer.{Answer}
+use Rattle.coded_unit.specs.declared.call.Answer.TheVariants as answer
+use Rattle.coded_unit.specs.Right.{Right}
+use Rattle.coded_unit.specs.Words.{modulo, value_part, coded}
+use Rattle.vcp_core.specs.declared.operation.Op.{Op}
+use Rattle.vcp_core.specs.declared.program.Term.{Term}
+use Rattle.vcp_core.specs.declared.program.Sign.TheVariants.{Plus}
+use Rattle.vcp_core.specs.declared.program.Operand.TheVariants as operand
+use Rattle.vcp_core.specs.Calls.{call_of}
+use Rattle.vcp_core.specs.GraphRun.{graph_run}
+use Rattle.vcp_core.specs.Lines.{run_text}
+use Rattle.vcp_core.specs.Log.{setting_at, run_of_answers}
+use Rattle.vcp_core.specs.Meaning.{source_run}
+use Rattle.vcp_core.specs.Operations.{operations, spot}
+use Rattle.vcp_core.specs.RowsFile.{rows_of}
+use Rattle.vcp_core.specs.Runs.{complete, stopped, refused}
+use Rattle.vcp_core.specs.Signatures.{signature, correction}
+use Rattle.vcp_core.specs.Source.{terms_of}
+
+-- `y := x + 1`
+abbrev plus_one : List Term
+plus_one = record { sign = Plus; operand = operand.Number (pos 1); col = 8 } ∷ []
+
+plus_one_is_read : terms_of (codes "PROGRAM p\nVAR_INPUT x : DINT; END_VAR\nVAR_OUTPUT y : DINT; END_VAR\ny := x + 1;\nEND_PROGRAM\n") ≡ Some plus_one
+plus_one_is_read = refl
+
+two_spaces_are_refused : terms_of (codes "PROGRAM p\nVAR_INPUT x : DINT; END_VAR\nVAR_OUTPUT y : DINT; END_VAR\ny := x  + 1;\nEND_PROGRAM\n") ≡ None
+two_spaces_are_refused = refl
+
+rows_are_read : rows_of (codes "x\n5\n-007\n") ≡ Some ((pos 5 ∷ []) ∷ (negsuc 6 ∷ []) ∷ [])
+rows_are_read = refl
+
+last_line_must_end : rows_of (codes "x\n5") ≡ None
+last_line_must_end = refl
+
+six_for_five : source_run plus_one ((pos 5 ∷ []) ∷ []) ≡ record { rows = (pos 6 ∷ []) ∷ []; end = complete }
+six_for_five = refl
+
+operations_give_six : graph_run (operations plus_one) ((pos 5 ∷ []) ∷ []) ≡ record { rows = (pos 6 ∷ []) ∷ []; end = complete }
+operations_give_six = refl
+
+greatest_stops : graph_run (operations plus_one) ((pos 2147483647 ∷ []) ∷ []) ≡ record { rows = []; end = stopped stop.Range (spot 4 8) }
+greatest_stops = refl
+
+-- the answers of an honest unit to the four calls, with the default seed and step
+abbrev four_answers : List Answer
+four_answers = answer.Word (pos 11042838132) ∷ answer.Word (pos 2667651909) ∷ answer.Word (pos 13619818509) ∷ answer.Word (pos 13834566874) ∷ []
+
+abbrev add : Op
+add = record { kind = kind.Add; from = ty.Dint; ty = ty.Dint; a = 0; b = 1; c = 0; imm = pos 0; spot = spot 4 8 }
+
+correction_of_add : correction 305419896 2 add ≡ 2056812116
+unfolding signature modulo
+correction_of_add = refl
+
+third_answer : Right (call_of (setting_at 305419896 1 0 (pos 5 ∷ [])) add (answer.Word (pos 11042838132) ∷ answer.Word (pos 2667651909) ∷ [])) ≡ answer.Word (pos 13619818509)
+unfolding signature modulo value_part coded
+third_answer = refl
+
+answers_give_six : run_of_answers 305419896 1 (operations plus_one) 0 (four_answers ∷ []) ≡ record { rows = (pos 6 ∷ []) ∷ []; end = complete }
+unfolding signature modulo value_part
+answers_give_six = refl
+
+printed : run_text (codes "y" ∷ []) (record { rows = (pos 6 ∷ []) ∷ []; end = complete }) ≡ codes "cycle,y\n0,6\nend 1\n"
+unfolding digits
+printed = refl
+
+printed_stop : run_text (codes "y" ∷ []) (record { rows = []; end = stopped stop.Range (spot 4 8) }) ≡ codes "cycle,y\nstop 0 RANGE 4:8\n"
+unfolding digits
+printed_stop = refl
+
+-- the last answer replaced by a word whose residue is 5
+answers_refused : run_of_answers 305419896 1 (operations plus_one) 0 ((answer.Word (pos 11042838132) ∷ answer.Word (pos 2667651909) ∷ answer.Word (pos 13619818509) ∷ answer.Word (pos 12884901887) ∷ []) ∷ []) ≡ record { rows = []; end = refused 0 5 949664992 }
+unfolding signature modulo value_part
+answers_refused = refl

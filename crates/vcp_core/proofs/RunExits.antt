@@ -1,0 +1,131 @@
+-- How the loop over the cycles is left.
+use Rattle.std.proofs.Common.{ℕ, ◌≡◌, refl, sym, ap, ◌∙◌, List, [], ◌∷◌, ◌++◌, length, append-nil, map, arith, Option, Ok, Err, ℤ}
+use Rattle.std.proofs.lemmas.List.{length-map}
+use Rattle.coded_unit.specs.declared.call.Answer.{Answer}
+use Rattle.coded_unit.specs.Log.{Entry}
+use Rattle.vcp_outside.specs.Written.{Writes}
+use Rattle.vcp_outside.specs.declared.failed.Failed.{Failed}
+use Rattle.vcp_outside.proofs.Known.{appends-appends, failed_after}
+use Rattle.vcp_core.specs.declared.operation.Op.{Op}
+use Rattle.vcp_core.specs.declared.cycle_end.CycleEnd.{CycleEnd}
+use Rattle.vcp_core.specs.declared.cycle_end.CycleEnd.TheVariants as end
+use Rattle.vcp_core.specs.Carries.{RunsOver, cycle_text, body_text, ends_as}
+use Rattle.vcp_core.specs.CycleEnds.{outputs, cycle_at, cycle_of}
+use Rattle.vcp_core.specs.Going.{AllReleased, Going}
+use Rattle.vcp_core.specs.Lines.{rows_text, end_text}
+use Rattle.vcp_core.specs.Log.{run_of_answers}
+use Rattle.vcp_core.specs.Runs.{Run, End, ends, complete}
+use Rattle.vcp_core.proofs.RunSteps.{run_after, rest_text}
+use Rattle.vcp_core.proofs.RunTurns.{Turned, cycle_is, more, run_with, body_with}
+
+-- a cycle was carried, and its line could not be printed
+pub turn_fails : (names : List (List ℕ)) (seed step : ℕ) (ops : List Op) (rows before left : List (List ℤ)) (count : ℕ) (x y z : Option (List Entry)) (m n o : ℕ) (old mid new : Option (List ℕ)) (f g h : ℕ)
+    (row : List ℤ) (answers : List Answer) (outs : List ℤ) (e : CycleEnd) (why : Failed) → Going seed step ops rows before count x y m n old mid f g → before ≡ row ∷ left →
+    Turned seed step ops count row answers outs e y z n o →
+    Writes {T = Unit {0}} mid new g h (cycle_text names count (cycle_at ops outs e)) (Err why) →
+    RunsOver seed step ops (body_text names) rows x z m o old new f h (Err why)
+turn_fails names seed step ops rows before left count x y z m n o old mid new f g h row answers outs e why going taken t w =
+    let c = cycle_of seed step count ops answers in
+    let line = body_text names (run_of_answers seed step ops 0 (going.cycles ++ answers ∷ [])) in
+    let text : line ≡ rows_text 0 (map (outputs ops) going.cycles) ++ cycle_text names count (cycle_at ops outs e) ++ rest_text count c =
+    body_with names seed step ops count going.cycles answers going.many going.all_released
+    ∙ ap (λ d. rows_text 0 (map (outputs ops) going.cycles) ++ cycle_text names count d ++ rest_text count c) (sym (cycle_is seed step ops count row answers outs e y z n o t)) in
+    let failed = failed_after {T = Unit {0}} why old mid new f g h _ _ (rest_text count c) line going.wrote going.later going.capped w text in
+    record {
+      cycles = going.cycles ++ answers ∷ [];
+      carries = more seed step ops rows before left count x y z m n o old mid f g row answers outs e going taken t;
+      wrote = record { whole = tt; part = failed.part; cause = record { later = failed.cause.later; capped = failed.cause.capped; failed = failed.cause.failed } };
+      finished = tt;
+      ended = tt;
+    }
+
+-- the run whose last cycle ended it
+abbrev run_ended : List Op → List (List Answer) → End → Run
+run_ended ops cycles e = record { rows = map (outputs ops) cycles; end = e }
+
+-- a cycle ended the run so
+ended_by : (names : List (List ℕ)) (seed step : ℕ) (ops : List Op) (rows before left : List (List ℤ)) (count : ℕ) (x y z : Option (List Entry)) (m n o : ℕ) (old mid new : Option (List ℕ)) (f g h : ℕ)
+    (row : List ℤ) (answers : List Answer) (outs : List ℤ) (e : CycleEnd) (final : End) → Going seed step ops rows before count x y m n old mid f g → before ≡ row ∷ left →
+    Turned seed step ops count row answers outs e y z n o → cycle_at ops outs e ≡ ends final → ends_as ops e ≡ final → (final ≡ complete → ⊥) →
+    Writes {T = Unit {0}} {E = Failed} mid new g h (cycle_text names count (cycle_at ops outs e)) (Ok tt) →
+    RunsOver seed step ops (body_text names) rows x z m o old new f h (Ok e)
+ended_by names seed step ops rows before left count x y z m n o old mid new f g h row answers outs e final going taken t comes as_end other w =
+    let c = cycle_of seed step count ops answers in
+    let comes_so : c ≡ ends final = sym (cycle_is seed step ops count row answers outs e y z n o t) ∙ comes in
+    let run = run_with seed step ops count going.cycles answers (ends final) going.many going.all_released comes_so in
+    let run_end : (run_of_answers seed step ops 0 (going.cycles ++ answers ∷ [])).end ≡ final = ap (λ (r : Run). r.end) run in
+    let text : body_text names (run_of_answers seed step ops 0 (going.cycles ++ answers ∷ [])) ≡ rows_text 0 (map (outputs ops) going.cycles) ++ cycle_text names count (cycle_at ops outs e) =
+    body_with names seed step ops count going.cycles answers going.many going.all_released
+    ∙ ap (λ d. rows_text 0 (map (outputs ops) going.cycles) ++ cycle_text names count d ++ rest_text count d) (sym (cycle_is seed step ops count row answers outs e y z n o t))
+    ∙ ap (λ d. rows_text 0 (map (outputs ops) going.cycles) ++ cycle_text names count (cycle_at ops outs e) ++ rest_text count d) comes
+    ∙ append-nil _ in
+    record {
+      cycles = going.cycles ++ answers ∷ [];
+      carries = more seed step ops rows before left count x y z m n o old mid f g row answers outs e going taken t;
+      wrote = record {
+        whole = appends-appends old mid new _ _ _ going.wrote w.whole text;
+        part = tt;
+        cause = record { later = omega (arith, going.later, w.cause.later); capped = λ b. w.cause.capped (going.capped b); failed = tt };
+      };
+      finished = λ k. absurd (other (sym run_end ∙ k));
+      ended = as_end ∙ sym run_end;
+    }
+
+-- a cycle ended the run, and its line was printed
+pub turn_ends : (names : List (List ℕ)) (seed step : ℕ) (ops : List Op) (rows before left : List (List ℤ)) (count : ℕ) (x y z : Option (List Entry)) (m n o : ℕ) (old mid new : Option (List ℕ)) (f g h : ℕ)
+    (row : List ℤ) (answers : List Answer) (outs : List ℤ) (e : CycleEnd) → Going seed step ops rows before count x y m n old mid f g → before ≡ row ∷ left →
+    Turned seed step ops count row answers outs e y z n o → (e ≡ end.Released → ⊥) →
+    Writes {T = Unit {0}} {E = Failed} mid new g h (cycle_text names count (cycle_at ops outs e)) (Ok tt) →
+    RunsOver seed step ops (body_text names) rows x z m o old new f h (Ok e)
+turn_ends names seed step ops rows before left count x y z m n o old mid new f g h row answers outs end.Released going taken t other w = absurd (other refl)
+turn_ends names seed step ops rows before left count x y z m n o old mid new f g h row answers outs (end.Stopped k why) going taken t other w =
+    ended_by names seed step ops rows before left count x y z m n o old mid new f g h row answers outs (end.Stopped k why) _ going taken t refl refl (λ q. cc) w
+turn_ends names seed step ops rows before left count x y z m n o old mid new f g h row answers outs (end.Refused number found wanted) going taken t other w =
+    ended_by names seed step ops rows before left count x y z m n o old mid new f g h row answers outs (end.Refused number found wanted) _ going taken t refl refl (λ q. cc) w
+
+-- the run of cycles that were all released
+run_so : (seed step : ℕ) (ops : List Op) (cycles : List (List Answer)) → AllReleased seed step ops 0 cycles → run_of_answers seed step ops 0 cycles ≡ run_ended ops cycles complete
+run_so seed step ops cycles all =
+    ap (run_of_answers seed step ops 0) (sym (append-nil cycles)) ∙ run_after seed step ops 0 cycles [] all
+    ∙ ap (λ rs. let r : Run = record { rows = rs; end = complete } in r) (append-nil (map (outputs ops) cycles))
+
+body_so : (names : List (List ℕ)) (seed step : ℕ) (ops : List Op) (count : ℕ) (cycles : List (List Answer)) → length cycles ≡ count → AllReleased seed step ops 0 cycles →
+    body_text names (run_of_answers seed step ops 0 cycles) ≡ rows_text 0 (map (outputs ops) cycles) ++ end_text count
+body_so names seed step ops count cycles many all =
+    ap (body_text names) (run_so seed step ops cycles all)
+    ∙ ap (λ j. rows_text 0 (map (outputs ops) cycles) ++ end_text j) (length-map cycles (outputs ops) ∙ many)
+
+-- the rows ended, and the last line was printed
+pub rows_end : (names : List (List ℕ)) (seed step : ℕ) (ops : List Op) (rows before : List (List ℤ)) (count : ℕ) (x y : Option (List Entry)) (m n : ℕ) (old mid new : Option (List ℕ)) (f g h : ℕ) →
+    Going seed step ops rows before count x y m n old mid f g → before ≡ [] →
+    Writes {T = Unit {0}} {E = Failed} mid new g h (end_text count) (Ok tt) →
+    RunsOver seed step ops (body_text names) rows x y m n old new f h (Ok end.Released)
+rows_end names seed step ops rows before count x y m n old mid new f g h going none w =
+    record {
+      cycles = going.cycles;
+      carries = going.carries;
+      wrote = record {
+        whole = appends-appends old mid new _ _ _ going.wrote w.whole (body_so names seed step ops count going.cycles going.many going.all_released);
+        part = tt;
+        cause = record { later = omega (arith, going.later, w.cause.later); capped = λ b. w.cause.capped (going.capped b); failed = tt };
+      };
+      finished = λ k. let empty : length before ≡ 0 = ap length none in omega (arith, going.many, going.rest, empty);
+      ended = sym (ap (λ (r : Run). r.end) (run_so seed step ops going.cycles going.all_released));
+    }
+
+-- the rows ended, and the last line could not be printed
+pub rows_end_fails : (names : List (List ℕ)) (seed step : ℕ) (ops : List Op) (rows before : List (List ℤ)) (count : ℕ) (x y : Option (List Entry)) (m n : ℕ) (old mid new : Option (List ℕ)) (f g h : ℕ) (why : Failed) →
+    Going seed step ops rows before count x y m n old mid f g →
+    Writes {T = Unit {0}} mid new g h (end_text count) (Err why) →
+    RunsOver seed step ops (body_text names) rows x y m n old new f h (Err why)
+rows_end_fails names seed step ops rows before count x y m n old mid new f g h why going w =
+    let line = body_text names (run_of_answers seed step ops 0 going.cycles) in
+    let text : line ≡ rows_text 0 (map (outputs ops) going.cycles) ++ end_text count ++ [] = body_so names seed step ops count going.cycles going.many going.all_released ∙ sym (append-nil _) in
+    let failed = failed_after {T = Unit {0}} why old mid new f g h _ _ [] line going.wrote going.later going.capped w text in
+    record {
+      cycles = going.cycles;
+      carries = going.carries;
+      wrote = record { whole = tt; part = failed.part; cause = record { later = failed.cause.later; capped = failed.cause.capped; failed = failed.cause.failed } };
+      finished = tt;
+      ended = tt;
+    }

@@ -1,0 +1,91 @@
+-- One cycle more of a run, and its end.
+use Rattle.std.proofs.Common.{ℕ, suc, ◌+◌, ◌<◌, ◌≡◌, sym, ap, ◌∙◌, List, [], ◌∷◌, ◌++◌, length, length-append, append_assoc, append-nil, map, get_or, arith, Option, ℤ}
+use Rattle.coded_unit.specs.declared.call.Answer.{Answer}
+use Rattle.coded_unit.specs.Log.{Entry}
+use Rattle.vcp_core.specs.declared.operation.Op.{Op}
+use Rattle.vcp_core.specs.Calls.{CallsOf, Whole, AllRight}
+use Rattle.vcp_core.specs.Carried.{Carried}
+use Rattle.vcp_core.specs.Carries.{AllWhole, Carries, cycle_text, body_text}
+use Rattle.vcp_core.specs.CycleEnds.{outputs, cycle_of}
+use Rattle.vcp_core.specs.Going.{AllReleased}
+use Rattle.vcp_core.specs.Lines.{row_text, rows_text, last_text, end_text}
+use Rattle.vcp_core.specs.Log.{setting_at, calls_over, run_of_answers}
+use Rattle.vcp_core.specs.Runs.{Run, Cycle, released, ends, complete, followed_by}
+use Rattle.vcp_core.proofs.Growth.{grows_on}
+
+whole_more : (ops : List Op) (cycles : List (List Answer)) (answers : List Answer) → AllWhole ops cycles → Whole ops answers → AllWhole ops (cycles ++ answers ∷ [])
+whole_more ops [] answers h w = (w, tt)
+whole_more ops (first ∷ cycles) answers h w = (h.0, whole_more ops cycles answers h.1 w)
+
+right_append : (es fs : List Entry) → AllRight es → AllRight fs → AllRight (es ++ fs)
+right_append [] fs h k = k
+right_append (e ∷ es) fs h k = (h.0, right_append es fs h.1 k)
+
+calls_more : (seed step : ℕ) (ops : List Op) (n : ℕ) (rows : List (List ℤ)) (cycles : List (List Answer)) (answers : List Answer) (d : List ℤ) → length cycles < length rows →
+    calls_over seed step ops n rows (cycles ++ answers ∷ [])
+    ≡ calls_over seed step ops n rows cycles ++ CallsOf (setting_at seed step (n + length cycles) (get_or rows (length cycles) d)) ops answers
+calls_more seed step ops n [] cycles answers d h = absurd (omega arith)
+calls_more seed step ops n (row ∷ rows) [] answers d h =
+    append-nil (CallsOf (setting_at seed step n row) ops answers) ∙ ap (λ j. CallsOf (setting_at seed step j row) ops answers) (omega arith)
+calls_more seed step ops n (row ∷ rows) (first ∷ cycles) answers d h =
+    let here = CallsOf (setting_at seed step n row) ops first in
+    ap (λ es. here ++ es) (calls_more seed step ops (suc n) rows cycles answers d (omega arith))
+    ∙ sym (append_assoc here (calls_over seed step ops (suc n) rows cycles) _)
+    ∙ ap (λ j. here ++ calls_over seed step ops (suc n) rows cycles ++ CallsOf (setting_at seed step j (get_or rows (length cycles) d)) ops answers) (omega arith)
+
+-- the cycles so far, and one more on the next row
+pub carries_more : (seed step : ℕ) (ops : List Op) (rows : List (List ℤ)) (cycles : List (List Answer)) (x y z : Option (List Entry)) (m n o : ℕ) (answers : List Answer) (row : List ℤ) →
+    Carries seed step ops rows cycles x y m n → length cycles < length rows → row ≡ get_or rows (length cycles) row → Whole ops answers →
+    Carried (setting_at seed step (length cycles) row) ops answers y z n o →
+    Carries seed step ops rows (cycles ++ answers ∷ []) x z m o
+carries_more seed step ops rows cycles x y z m n o answers row h inside is w k =
+    let more : calls_over seed step ops 0 rows (cycles ++ answers ∷ []) ≡ calls_over seed step ops 0 rows cycles ++ CallsOf (setting_at seed step (length cycles) row) ops answers =
+    calls_more seed step ops 0 rows cycles answers row inside
+    ∙ ap (λ j. calls_over seed step ops 0 rows cycles ++ CallsOf (setting_at seed step j (get_or rows (length cycles) row)) ops answers) (omega arith)
+    ∙ ap (λ r. calls_over seed step ops 0 rows cycles ++ CallsOf (setting_at seed step (length cycles) r) ops answers) (sym is) in
+    record {
+      short = simp length-append (omega (arith, inside));
+      whole = whole_more ops cycles answers h.whole w;
+      told = rw more (grows_on x y z _ _ h.told k.told);
+      never_falls = omega (arith, h.never_falls, k.never_falls);
+      honest = λ e b. rw more (right_append _ _ (h.honest (omega (arith, h.never_falls, k.never_falls)) b) (k.honest (omega (arith, h.never_falls, k.never_falls)) (omega (arith, h.never_falls, k.never_falls))));
+    }
+
+pub released_more : (seed step : ℕ) (ops : List Op) (n : ℕ) (cycles : List (List Answer)) (answers : List Answer) → AllReleased seed step ops n cycles →
+    cycle_of seed step (n + length cycles) ops answers ≡ released (outputs ops answers) → AllReleased seed step ops n (cycles ++ answers ∷ [])
+released_more seed step ops n [] answers h e = (ap (λ j. cycle_of seed step j ops answers) (omega arith) ∙ e, tt)
+released_more seed step ops n (first ∷ cycles) answers h e =
+    (h.0, released_more seed step ops (suc n) cycles answers h.1 (ap (λ j. cycle_of seed step j ops answers) (omega arith) ∙ e))
+
+-- the run of cycles that were all released, and of those after them
+pub run_after : (seed step : ℕ) (ops : List Op) (n : ℕ) (cycles rest : List (List Answer)) → AllReleased seed step ops n cycles →
+    run_of_answers seed step ops n (cycles ++ rest)
+    ≡ record { rows = map (outputs ops) cycles ++ (run_of_answers seed step ops (n + length cycles) rest).rows; end = (run_of_answers seed step ops (n + length cycles) rest).end }
+run_after seed step ops n [] rest h = ap (λ j. run_of_answers seed step ops j rest) (omega arith)
+run_after seed step ops n (answers ∷ cycles) rest h =
+    rw (h.0, run_after seed step ops (suc n) cycles rest h.1)
+    (ap (λ j. let r : Run = record { rows = outputs ops answers ∷ map (outputs ops) cycles ++ (run_of_answers seed step ops j rest).rows; end = (run_of_answers seed step ops j rest).end } in r) (omega arith))
+
+pub rows_append : (n : ℕ) (xs ys : List (List ℤ)) → rows_text n (xs ++ ys) ≡ rows_text n xs ++ rows_text (n + length xs) ys
+rows_append n [] ys = ap (λ j. rows_text j ys) (omega arith)
+rows_append n (x ∷ xs) ys =
+    ap (λ t. row_text n x ++ t) (rows_append (suc n) xs ys ∙ ap (λ j. rows_text (suc n) xs ++ rows_text j ys) (omega arith)) ∙ sym (append_assoc (row_text n x) (rows_text (suc n) xs) _)
+
+-- what a run prints after a cycle's own line, where that cycle is the last one so far
+abbrev pub rest_text : ℕ → Cycle → List ℕ
+rest_text n (released row) = end_text (suc n)
+rest_text n (ends e) = []
+
+-- what is printed of rows and one cycle more
+pub body_more : (names : List (List ℕ)) (outs : List (List ℤ)) (n : ℕ) (c : Cycle) → length outs ≡ n →
+    body_text names (record { rows = outs ++ (followed_by c (record { rows = []; end = complete })).rows; end = (followed_by c (record { rows = []; end = complete })).end })
+    ≡ rows_text 0 outs ++ cycle_text names n c ++ rest_text n c
+body_more names outs n (released row) count =
+    ap (λ t. t ++ last_text names (length (outs ++ row ∷ [])) complete) (rows_append 0 outs (row ∷ []))
+    ∙ ap (λ j. (rows_text 0 outs ++ rows_text (0 + length outs) (row ∷ [])) ++ end_text j) (length-append outs (row ∷ []) ∙ omega (arith, count))
+    ∙ ap (λ j. (rows_text 0 outs ++ rows_text j (row ∷ [])) ++ end_text (suc n)) (omega (arith, count))
+    ∙ ap (λ t. (rows_text 0 outs ++ t) ++ end_text (suc n)) (append-nil (row_text n row))
+body_more names outs n (ends e) count =
+    ap (λ xs. rows_text 0 xs ++ last_text names (length xs) e) (append-nil outs)
+    ∙ ap (λ j. rows_text 0 outs ++ last_text names j e) count
+    ∙ sym (append-nil (rows_text 0 outs ++ last_text names n e))

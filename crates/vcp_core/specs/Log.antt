@@ -1,0 +1,25 @@
+-- The log of a run: the calls of its cycles in order, and the run that is read off the answers.
+use Rattle.std.specs.Prelude.{ℕ, suc, List, [], ◌∷◌, ◌++◌, ℤ}
+use Rattle.coded_unit.specs.declared.call.Answer.{Answer}
+use Rattle.coded_unit.specs.Log.{Entry}
+use Rattle.vcp_core.specs.declared.operation.Op.{Op}
+use Rattle.vcp_core.specs.Calls.{Setting, CallsOf}
+use Rattle.vcp_core.specs.CycleEnds.{cycle_of}
+use Rattle.vcp_core.specs.Runs.{Run, followed_by, complete}
+
+-- what cycle n begins with
+abbrev pub setting_at : ℕ → ℕ → ℕ → List ℤ → Setting
+setting_at seed step n row = record { seed = seed; step = step; row = row; cycle = n }
+
+-- the calls of the cycles from n on, one cycle a row, with the answers of each cycle
+abbrev pub calls_over : ℕ → ℕ → List Op → ℕ → List (List ℤ) → List (List Answer) → List Entry
+calls_over seed step ops n rows [] = []
+calls_over seed step ops n [] (answers ∷ cycles) = []
+calls_over seed step ops n (row ∷ rows) (answers ∷ cycles) =
+    CallsOf (setting_at seed step n row) ops answers ++ calls_over seed step ops (suc n) rows cycles
+
+-- the run that is read off the answers of the cycles from n on
+abbrev pub run_of_answers : ℕ → ℕ → List Op → ℕ → List (List Answer) → Run
+run_of_answers seed step ops n [] = record { rows = []; end = complete }
+run_of_answers seed step ops n (answers ∷ cycles) =
+    followed_by (cycle_of seed step n ops answers) (run_of_answers seed step ops (suc n) cycles)

@@ -1,0 +1,24 @@
+//! The whole program: the command words, and the top call over files, a unit and sinks that are
+//! handed in.
+#![tactic(auto)]
+
+mod building;
+mod carrying;
+mod command;
+mod cycle_end;
+mod fault;
+mod lines;
+mod numeral;
+mod operation;
+mod parts;
+mod pieces;
+mod program;
+mod rows_file;
+mod running;
+mod signature;
+mod source;
+mod telling;
+mod top;
+mod words;
+
+pub use top::vcp;

@@ -1,0 +1,79 @@
+//! The top call.
+
+ghost use Rattle.std.specs.Prelude.{◌≡◌, ◌⊎◌, false, IfSome};
+ghost use Rattle.vcp_outside.specs.Counts.{Rose};
+ghost use Rattle.vcp_core.specs.Answers.{task_of, is_run};
+ghost use Rattle.vcp_core.specs.Endings.{Ends, TellsUsage};
+
+use crate::command::run_command;
+use crate::telling::{cycle_status, fault_status, tell, tell_usage};
+use crate::words::run_words;
+use coded_unit::Unit;
+use std::alloc::Global;
+use vcp_base::Words;
+use vcp_outside::{Failed, Files, Sink};
+
+/// Does all that the program does, and answers its status: what the words say, on the files, with
+/// the unit, writing to `out`, and the line of a fault to `err`.
+///
+/// | status | comes |
+/// |---|---|
+/// | 0 | the run came to the end of its rows |
+/// | 1 | a file is refused |
+/// | 2 | the run stopped |
+/// | 3 | an output was refused |
+/// | 4 | the words are none of the forms |
+/// | 5 | a file failed |
+/// | 6 | a sink failed |
+/// | 7 | memory was wanted |
+pub fn vcp<F: Files, U: Unit, O: Sink, E: Sink>(
+    alloc: Global,
+    words: &Words,
+    files: &mut F,
+    unit: &mut U,
+    out: &mut O,
+    err: &mut E,
+) -> u8
+    // Where it is told what is held: the defined answer, or what kept it from being given.
+    ensures ends { IfSome (F.held files.old) (λ h. Ends (task_of words.now h) words.now (record {
+      log_old = U.log unit.old;
+      log_new = U.log unit.new;
+      wrong_old = U.wrong unit.old;
+      wrong_new = U.wrong unit.new;
+      out_old = O.written out.old;
+      out_new = O.written out.new;
+      out_faults_old = O.faults out.old;
+      out_faults_new = O.faults out.new;
+      err_old = E.written err.old;
+      err_new = E.written err.new;
+      err_faults_old = E.faults err.old;
+      err_faults_new = E.faults err.new;
+      broken_old = F.broken files.old;
+      broken_new = F.broken files.new;
+      status = result;
+    })) }
+
+    // Words that are none of the forms get the usage line, and nothing else is done; no other words do.
+    ensures usage { is_run words.now ≡ false → TellsUsage (E.written err.old) (E.written err.new) (E.faults err.old) (E.faults err.new) result }
+    ensures usage_alone { is_run words.now ≡ false → (U.log unit.new ≡ U.log unit.old) × (O.written out.new ≡ O.written out.old) }
+    ensures usage_only { result ≡ 4 → is_run words.now ≡ false }
+
+    // Causes that hold whatever is told.
+    ensures refused { result ≡ 3 → Rose (U.wrong unit.old) (U.wrong unit.new) }
+    ensures read { result ≡ 5 → Rose (F.faults files.old) (F.faults files.new) }
+    ensures write { result ≡ 6 → Rose (O.faults out.old) (O.faults out.new) ⊎ Rose (E.faults err.old) (E.faults err.new) }
+{
+    let Some(names) = run_words(words) else {
+        return match tell_usage(err) {
+            Ok(()) => 4,
+            Err(Failed) => 6,
+        };
+    };
+    match run_command(alloc, &names, files, unit, out) {
+        Ok(end) => cycle_status(&end),
+        Err(fault) => match tell(err, &names, &fault) {
+            Ok(()) => fault_status(&fault),
+            Err(Failed) => 6,
+        },
+    }
+}
