@@ -22,3 +22,6 @@ mod top;
 mod words;
 
 pub use top::vcp;
+
+#[cfg(test)]
+mod tests;
