@@ -1,3 +1,4 @@
+pub mod EndCauses
 pub mod Ending
 pub mod Growth
 pub mod HeaderFirst

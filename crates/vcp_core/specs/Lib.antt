@@ -2,6 +2,7 @@ pub mod Answers
 pub mod Calls
 pub mod Carried
 pub mod Carries
+pub mod Causes
 pub mod Cuts
 pub mod CycleEnds
 pub mod Going

@@ -3,6 +3,7 @@
 ghost use Rattle.std.specs.Prelude.{◌≡◌, ◌⊎◌, false, IfSome};
 ghost use Rattle.vcp_outside.specs.Counts.{Rose};
 ghost use Rattle.vcp_core.specs.Answers.{task_of, is_run};
+ghost use Rattle.vcp_core.specs.Causes.{Causes};
 ghost use Rattle.vcp_core.specs.Endings.{Ends, TellsUsage};
 
 use crate::command::run_command;
@@ -34,8 +35,26 @@ pub fn vcp<F: Files, U: Unit, O: Sink, E: Sink>(
     out: &mut O,
     err: &mut E,
 ) -> u8
-    // Where it is told what is held: the defined answer, or what kept it from being given.
+    // Where it is told what is held: the defined answer, or what kept it from being given; and the
+    // cause of each status.
     ensures ends { IfSome (F.held files.old) (λ h. Ends (task_of words.now h) words.now (record {
+      log_old = U.log unit.old;
+      log_new = U.log unit.new;
+      wrong_old = U.wrong unit.old;
+      wrong_new = U.wrong unit.new;
+      out_old = O.written out.old;
+      out_new = O.written out.new;
+      out_faults_old = O.faults out.old;
+      out_faults_new = O.faults out.new;
+      err_old = E.written err.old;
+      err_new = E.written err.new;
+      err_faults_old = E.faults err.old;
+      err_faults_new = E.faults err.new;
+      broken_old = F.broken files.old;
+      broken_new = F.broken files.new;
+      status = result;
+    })) }
+    ensures causes { IfSome (F.held files.old) (λ h. Causes (task_of words.now h) (record {
       log_old = U.log unit.old;
       log_new = U.log unit.new;
       wrong_old = U.wrong unit.old;
@@ -59,6 +78,42 @@ pub fn vcp<F: Files, U: Unit, O: Sink, E: Sink>(
     ensures usage_only { result ≡ 4 → is_run words.now ≡ false }
 
     // Causes that hold whatever is told.
+    ensures refused { result ≡ 3 → Rose (U.wrong unit.old) (U.wrong unit.new) }
+    ensures read { result ≡ 5 → Rose (F.faults files.old) (F.faults files.new) }
+    ensures write { result ≡ 6 → Rose (O.faults out.old) (O.faults out.new) ⊎ Rose (E.faults err.old) (E.faults err.new) }
+{
+    serve(alloc, words, files, unit, out, err)
+}
+
+/// The work of the top call.
+fn serve<F: Files, U: Unit, O: Sink, E: Sink>(
+    alloc: Global,
+    words: &Words,
+    files: &mut F,
+    unit: &mut U,
+    out: &mut O,
+    err: &mut E,
+) -> u8
+    ensures ends { IfSome (F.held files.old) (λ h. Ends (task_of words.now h) words.now (record {
+      log_old = U.log unit.old;
+      log_new = U.log unit.new;
+      wrong_old = U.wrong unit.old;
+      wrong_new = U.wrong unit.new;
+      out_old = O.written out.old;
+      out_new = O.written out.new;
+      out_faults_old = O.faults out.old;
+      out_faults_new = O.faults out.new;
+      err_old = E.written err.old;
+      err_new = E.written err.new;
+      err_faults_old = E.faults err.old;
+      err_faults_new = E.faults err.new;
+      broken_old = F.broken files.old;
+      broken_new = F.broken files.new;
+      status = result;
+    })) }
+    ensures usage { is_run words.now ≡ false → TellsUsage (E.written err.old) (E.written err.new) (E.faults err.old) (E.faults err.new) result }
+    ensures usage_alone { is_run words.now ≡ false → (U.log unit.new ≡ U.log unit.old) × (O.written out.new ≡ O.written out.old) }
+    ensures usage_only { result ≡ 4 → is_run words.now ≡ false }
     ensures refused { result ≡ 3 → Rose (U.wrong unit.old) (U.wrong unit.new) }
     ensures read { result ≡ 5 → Rose (F.faults files.old) (F.faults files.new) }
     ensures write { result ≡ 6 → Rose (O.faults out.old) (O.faults out.new) ⊎ Rose (E.faults err.old) (E.faults err.new) }
