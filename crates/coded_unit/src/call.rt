@@ -12,16 +12,17 @@ pub struct Call {
     pub op: u32,
     /// The number of the cycle, from 0.
     pub cycle: u32,
+    /// What the operation does, and so how many operands it has.
     pub kind: Kind,
     /// The type of the operands; the kinds of logic, and the first operand of SEL, take BOOL.
     pub from: Ty,
     /// The type of the answer's value.
     pub ty: Ty,
-    /// The first operand.
+    /// The first operand, where the kind has one.
     pub a: Word,
-    /// The second operand.
+    /// The second operand, where the kind has two.
     pub b: Word,
-    /// The third operand.
+    /// The third operand, which SEL alone has.
     pub c: Word,
     /// The value of an INPUT or a CONST; no other kind reads it.
     pub imm: i64,
@@ -37,7 +38,7 @@ pub struct Call {
 pub enum Answer {
     /// The word of the value and its residue.
     Word(Word),
-    /// The value is outside the call's type.
+    /// The value is outside the type `ty` of the call.
     Range,
     /// The divisor is 0.
     DivZero,

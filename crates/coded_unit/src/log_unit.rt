@@ -35,7 +35,8 @@ impl Model for LogUnit {
 }
 
 impl LogUnit {
-    /// A unit with room for `room` calls. All memory that it ever takes is taken here.
+    /// A unit with room for `room` calls, before its first call. All memory that it ever takes is
+    /// taken here; `Memory` where there is not so much.
     pub fn new(alloc: Global, room: u32) -> Result<LogUnit, Memory>
         ensures kept { IfOk result (λ unit. unit ≡ nothing_kept room) }
         ensures log { IfOk result (λ unit. ⟦<LogUnit as Unit>⟧.log unit ≡ Some []) }

@@ -17,7 +17,8 @@ pub trait Unit {
     /// How many answers so far are not the right ones, up to 2^64 - 1.
     ghost wrong: { Self → ℕ };
 
-    /// Does one call. The answer may be wrong, and is then counted.
+    /// Does one call, whose correction is below `A` and whose stamp is at most 1000000000. It is the
+    /// next entry of the log, where that is told. The answer may be wrong, and is then counted.
     fn perform(&mut self, call: &Call) -> Answer
         requires corr { call.now.corr < code_constant }
         requires stamp { call.now.stamp ≤ 1000000000 }

@@ -42,7 +42,7 @@ impl Word {
         }
     }
 
-    /// The integer that the word is.
+    /// The integer that the word is, above -2^95 and below 2^95.
     pub fn get(self) -> i128
         ensures value { result ≡ self }
         ensures bound { unsigned_abs self < 2 ^ 95 }
@@ -50,7 +50,8 @@ impl Word {
         self.code
     }
 
-    /// The value and the residue of the word: the one `(v, r)` with `w = A*v + r` and `r < A`.
+    /// The value and the residue of the word: the one `(v, r)` with `w = A*v + r` and `r < A`. The
+    /// value lies between -2^65 and 2^65.
     #[tactic(auto, unfolding(crate::specs::Words::modulo, crate::specs::Words::value_part, crate::specs::Words::coded))]
     pub fn split(self) -> (i128, Residue)
         ensures value { result.0 ≡ value_part self }
@@ -63,7 +64,8 @@ impl Word {
         (quotient(self.code), remainder(self.code))
     }
 
-    /// The word `A*value + residue`, for a value of 64 bits.
+    /// The word `A*value + residue`, for a value from -2^63 to 2^63. The residue should be below `A`:
+    /// only then does `split` give the two back, and a greater one adds to the value part.
     #[tactic(auto, unfolding(crate::specs::Words::coded))]
     pub fn packed(value: i128, residue: Residue) -> Word
         requires low { negsuc (2 ^ 63) ≤ℤ value }

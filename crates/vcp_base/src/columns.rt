@@ -11,7 +11,9 @@ use std::marker::Model;
 /// One input or output: its name as declared, and its type.
 #[derive(Debug, Drop)]
 pub struct Column {
+    /// The name as it was declared; `same_name` compares names.
     pub name: Text,
+    /// The type of the values in the column.
     pub ty: Ty,
 }
 
@@ -31,6 +33,7 @@ impl Model for Columns {
 }
 
 impl Columns {
+    /// No columns. It takes no memory.
     pub fn new(alloc: Global) -> Columns
         ensures { result ≡ [] }
     {
@@ -53,6 +56,7 @@ impl Columns {
         self.columns
     }
 
+    /// Appends a column. After `Memory` the list is unchanged.
     pub fn push(&mut self, column: Column) -> Result<(), Memory>
         ensures ok { OnOk result (self.new ≡ self.old ++ column ∷ []) }
         ensures err { OnErr result (self.new ≡ self.old) }
@@ -61,12 +65,14 @@ impl Columns {
         Ok(())
     }
 
+    /// How many columns there are.
     pub fn len(&self) -> usize
         ensures { result ≡ length self.now }
     {
         self.columns.len()
     }
 
+    /// The column at place `i`, counted from 0, where `i` is less than `len`.
     pub fn at(&self, i: usize) -> &Column
         requires { i < length self.now }
         ensures { slice_get self.now i ≡ Some result.now }

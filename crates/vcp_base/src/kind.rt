@@ -20,21 +20,27 @@ pub enum Kind {
     Conv,
     /// Arithmetic negation.
     Neg,
-    /// Logical negation.
+    /// Logical negation: 1 minus the operand.
     Not,
+    /// The sum.
     Add,
+    /// The first operand minus the second.
     Sub,
+    /// The product.
     Mul,
-    /// The quotient, cut towards zero.
+    /// The first operand divided by the second, cut towards zero.
     Div,
-    /// The remainder, with the sign of the dividend.
+    /// The remainder of that division, with the sign of the first operand.
     Mod,
     /// 1 where both operands are equal, else 0.
     Eq,
     /// 1 where the first operand is less than the second, else 0.
     Lt,
+    /// 1 where both operands are 1, else 0.
     And,
+    /// 1 where an operand is 1, else 0.
     Or,
+    /// 1 where the operands differ, else 0.
     Xor,
     /// The second operand where the first is 0, else the third.
     Sel,
@@ -64,7 +70,7 @@ pub fn operands(kind: Kind) -> u32
 }
 
 /// The factor by which the residue of operand `j`, counted from 0, enters the residue of the
-/// answer; 0 where the kind has no operand `j`.
+/// answer, -2 to 20; 0 where the kind has no operand `j`.
 pub fn multiplier(kind: Kind, j: u32) -> i32
     ensures value { result ≡ multiplier_of kind j }
     ensures low { negsuc 1 ≤ℤ result }

@@ -21,6 +21,7 @@ impl Model for Row {
 }
 
 impl Row {
+    /// A row of no values. It takes no memory.
     pub fn new(alloc: Global) -> Row
         ensures { result ≡ [] }
     {
@@ -29,7 +30,7 @@ impl Row {
         }
     }
 
-    /// A row of zeros.
+    /// A row of `len` zeros; `Memory` where there is no room for it.
     pub fn zeros(alloc: Global, len: u32) -> Result<Row, Memory>
         ensures { IfOk result (λ r. r ≡ replicate len (pos 0)) }
     {
@@ -52,6 +53,7 @@ impl Row {
         self.values
     }
 
+    /// Appends a value. After `Memory` the row is unchanged.
     pub fn push(&mut self, v: i64) -> Result<(), Memory>
         ensures ok { OnOk result (self.new ≡ self.old ++ v ∷ []) }
         ensures err { OnErr result (self.new ≡ self.old) }
@@ -60,12 +62,14 @@ impl Row {
         Ok(())
     }
 
+    /// How many values there are.
     pub fn len(&self) -> usize
         ensures { result ≡ length self.now }
     {
         self.values.len()
     }
 
+    /// The value at place `i`, counted from 0, where `i` is less than `len`.
     pub fn at(&self, i: usize) -> i64
         requires { i < length self.now }
         ensures { slice_get self.now i ≡ Some result }
@@ -73,6 +77,7 @@ impl Row {
         self.values[i]
     }
 
+    /// Sets the value at place `i`, counted from 0, where `i` is less than `len`. The others stay.
     pub fn set(&mut self, i: u32, v: i64)
         requires { i < length self.old }
         ensures { self.new ≡ slice_set self.old i v }

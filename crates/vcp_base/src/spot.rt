@@ -1,8 +1,10 @@
 //! Places in a source.
 
-/// A place in a source: line and column, both counted from 1; a column is a byte.
+/// A place in a source.
 #[derive(Clone, Copy, Debug, PartialEq, Eq)]
 pub struct Spot {
+    /// The line, from 1; 0 where there is no such place.
     pub line: u32,
+    /// The column in bytes, from 1; 0 where there is no such place.
     pub col: u32,
 }

@@ -22,7 +22,7 @@ impl Model for Text {
 }
 
 impl Text {
-    /// A copy of the bytes.
+    /// A copy of the bytes; `Memory` where there is no room for it.
     pub fn copy_of(alloc: Global, bytes: &[u8]) -> Result<Text, Memory>
         ensures { IfOk result (λ t. t ≡ bytes.now) }
     {
@@ -45,18 +45,21 @@ impl Text {
         self.content
     }
 
+    /// The bytes of the text.
     pub fn bytes(&self) -> &[u8]
         ensures { result.now ≡ self.now }
     {
         &self.content
     }
 
+    /// How many bytes there are.
     pub fn len(&self) -> usize
         ensures { result ≡ length self.now }
     {
         self.content.len()
     }
 
+    /// The byte at place `i`, counted from 0, where `i` is less than `len`.
     pub fn at(&self, i: usize) -> u8
         requires { i < length self.now }
         ensures { slice_get self.now i ≡ Some result }

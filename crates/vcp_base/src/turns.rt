@@ -6,10 +6,12 @@ use crate::memory::Memory;
 use std::alloc::Global;
 use std::marker::Model;
 
-/// One turn of a FOR: the place of the control variable's name in a list of names, and its value.
+/// One turn of a FOR.
 #[derive(Clone, Copy, Debug, PartialEq, Eq)]
 pub struct Turn {
+    /// The place of the control variable's name in a list of names, from 0.
     pub name: u32,
+    /// The value of the control variable in this turn.
     pub value: i64,
 }
 
@@ -29,6 +31,7 @@ impl Model for Turns {
 }
 
 impl Turns {
+    /// No turns, as outside every FOR. It takes no memory.
     pub fn new(alloc: Global) -> Turns
         ensures { result ≡ [] }
     {
@@ -51,6 +54,7 @@ impl Turns {
         self.turns
     }
 
+    /// Appends a turn, as the innermost one. After `Memory` the list is unchanged.
     pub fn push(&mut self, turn: Turn) -> Result<(), Memory>
         ensures ok { OnOk result (self.new ≡ self.old ++ turn ∷ []) }
         ensures err { OnErr result (self.new ≡ self.old) }
@@ -59,12 +63,14 @@ impl Turns {
         Ok(())
     }
 
+    /// How many turns there are: how deep the place stands in FORs.
     pub fn len(&self) -> usize
         ensures { result ≡ length self.now }
     {
         self.turns.len()
     }
 
+    /// The turn at place `i`, counted from 0 at the outermost, where `i` is less than `len`.
     pub fn at(&self, i: usize) -> Turn
         requires { i < length self.now }
         ensures { slice_get self.now i ≡ Some result }

@@ -14,7 +14,7 @@ pub enum Ty {
     Dint,
 }
 
-/// Whether `v` is a value of the type.
+/// Whether `v` is a value of the type, from its least to its greatest.
 pub fn fits(ty: Ty, v: i128) -> bool
     ensures value { result ≡ fits_of ty v }
     ensures low { result ≡ true → negsuc 2147483647 ≤ℤ v }
@@ -27,7 +27,8 @@ pub fn fits(ty: Ty, v: i128) -> bool
     }
 }
 
-/// Whether each value of the first type is taken where the second is wanted, without conversion.
+/// Whether each value of the first type is taken where the second is wanted, without conversion: the
+/// types are equal, or INT and DINT.
 pub fn within(small: Ty, wide: Ty) -> bool
     ensures { result ≡ within_of small wide }
 {

@@ -23,6 +23,7 @@ impl Model for Words {
 }
 
 impl Words {
+    /// No words. It takes no memory.
     pub fn new(alloc: Global) -> Words
         ensures { result ≡ [] }
     {
@@ -32,7 +33,7 @@ impl Words {
         }
     }
 
-    /// Appends a copy of a word.
+    /// Appends a copy of a word. After `Memory` the list is unchanged.
     pub fn push(&mut self, word: &[u8]) -> Result<(), Memory>
         ensures ok { OnOk result (self.new ≡ self.old ++ word.now ∷ []) }
         ensures err { OnErr result (self.new ≡ self.old) }
@@ -42,12 +43,14 @@ impl Words {
         Ok(())
     }
 
+    /// How many words there are.
     pub fn len(&self) -> usize
         ensures { result ≡ length self.now }
     {
         self.words.len()
     }
 
+    /// The word at place `i`, counted from 0, where `i` is less than `len`.
     pub fn at(&self, i: usize) -> &Text
         requires { i < length self.now }
         ensures { slice_get self.now i ≡ Some result.now }

@@ -11,14 +11,18 @@ use crate::signature::{Code, correction, stamp};
 use coded_unit::{Answer, Call, Unit, Word};
 use vcp_base::{Kind, Row, operands};
 
-/// What the cycles begin with: the code, the row of inputs, and the cycle's number from 0.
+/// What a cycle begins with.
 #[derive(Clone, Copy)]
 pub struct Setting<'a> {
+    /// The numbers of the code, by which signatures and stamps are made.
     pub code: Code,
+    /// The values of the inputs, in the order of their numbers.
     pub row: &'a Row,
+    /// The number of the cycle, from 0.
     pub cycle: u32,
 }
 
+/// Whether an answer is a word, and so tells no stop.
 pub fn is_word(answer: &Answer) -> bool
     ensures { result ≡ is_word_of answer.now }
 {

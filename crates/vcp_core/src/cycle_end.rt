@@ -75,6 +75,7 @@ fn stop_of(answer: &Answer) -> Option<StopKind>
     }
 }
 
+/// Whether an operation of the kind gives the value of an output.
 fn is_out(kind: Kind) -> bool
     ensures { result ≡ is_out_of kind }
 {

@@ -27,6 +27,7 @@ impl<'a> Model for Pieces<'a> {
 }
 
 impl<'a> Pieces<'a> {
+    /// All pieces of a text, of which there is at least one: an empty text is one empty piece.
     pub fn of(text: &'a [u8], separator: u8) -> Pieces<'a>
         ensures { result ≡ pieces_of separator text.now }
     {

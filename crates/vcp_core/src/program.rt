@@ -3,7 +3,9 @@
 /// Whether a term is added or taken away.
 #[derive(Clone, Copy, Debug, PartialEq, Eq)]
 pub enum Sign {
+    /// The operand is added.
     Plus,
+    /// The operand is taken away.
     Minus,
 }
 
@@ -19,8 +21,10 @@ pub enum Operand {
 /// One term of the statement.
 #[derive(Clone, Copy, Debug)]
 pub struct Term {
+    /// Whether the operand is added or taken away.
     pub sign: Sign,
+    /// What is added or taken away.
     pub operand: Operand,
-    /// The column of the sign; the operand stands two columns further.
+    /// The column of the sign in bytes, from 1; the operand stands two columns further.
     pub col: u32,
 }

@@ -38,7 +38,8 @@ impl<'a> Model for Rows<'a> {
 }
 
 impl<'a> Rows<'a> {
-    /// The rows of a file, where each byte of it has its place in the form.
+    /// The rows of a file: the line `x`, then at most 1,000,000 lines with a value of DINT each. None
+    /// where a byte of the file has no place in this form.
     pub fn of(bytes: &'a [u8]) -> Option<Rows<'a>>
         ensures { result ≡ rows_of bytes.now }
     {
@@ -47,7 +48,8 @@ impl<'a> Rows<'a> {
         Some(Rows { lines, left })
     }
 
-    /// Sets the row to the next one; false where none is left.
+    /// Sets the row, which has one value, to the next one, which is then no longer left. False where
+    /// none is left.
     pub fn next(&mut self, row: &mut Row) -> bool
         requires { length row.old ≡ 1 }
         ensures some { result ≡ true → self.old ≡ row.new ∷ self.new }

@@ -27,8 +27,11 @@ use vcp_outside::{Failed, Sink};
 /// inputs and outputs.
 #[derive(Drop)]
 pub struct Registers {
+    /// The answers to the calls of one cycle, in the order of the operations.
     pub answers: Vec<Answer>,
+    /// The values of the inputs in that cycle.
     pub inputs: Row,
+    /// The values of the outputs, set in each cycle that releases them.
     pub outputs: Row,
 }
 

@@ -8,7 +8,9 @@ use vcp_base::{Text, Words};
 /// The file words of the command `run P ROWS`.
 #[derive(Clone, Copy)]
 pub struct RunWords<'a> {
+    /// The name of the program's source, `P`: not empty, and without a `-` in front.
     pub source: &'a Text,
+    /// The name of the rows file, `ROWS`, of the same form.
     pub rows: &'a Text,
 }
 

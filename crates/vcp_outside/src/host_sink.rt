@@ -29,7 +29,7 @@ impl<W: Write> Model for HostSink<W> {
 }
 
 impl<W: Write> HostSink<W> {
-    /// A sink over a writer.
+    /// A sink over a writer, without a fault so far.
     pub fn new(writer: W) -> Self
         ensures { result ≡ record { contents = W.contents writer; faults = 0 } }
     {

@@ -13,10 +13,12 @@ use std::alloc::Global;
 use std::marker::Model;
 use vcp_base::{Memory, Text};
 
-/// A file that was put: its name and its bytes.
+/// A file that was put.
 #[derive(Drop)]
 pub struct Entry {
+    /// The name, which is compared byte by byte. Of entries with one name the last holds.
     pub name: Text,
+    /// The whole content of the file.
     pub bytes: Text,
 }
 

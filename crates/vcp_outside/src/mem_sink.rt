@@ -33,7 +33,8 @@ impl Model for MemSink {
 }
 
 impl MemSink {
-    /// An empty sink that takes `room` bytes in all. It takes all its memory at once.
+    /// An empty sink that takes `room` bytes in all. It takes all its memory at once; `Memory` where
+    /// there is not so much.
     pub fn new(alloc: Global, room: u32) -> Result<MemSink, Memory>
         ensures { IfOk result (λ sink. sink ≡ record { bytes = []; room = room; faults = 0 }) }
     {
@@ -45,7 +46,7 @@ impl MemSink {
         })
     }
 
-    /// What was written.
+    /// What was written, at most as many bytes as the sink has room for.
     pub fn bytes(&self) -> &[u8]
         ensures value { result.now ≡ self.now.bytes }
         ensures within { length result.now ≤ self.now.room }

@@ -18,9 +18,9 @@ use vcp_base::{Steps, Text};
 /// Why a whole file isn't answered.
 #[derive(Clone, Copy, Debug, PartialEq, Eq)]
 pub enum ReadAll {
-    /// The files failed, as for a name that is lacking.
+    /// The files failed, as for a name that is lacking; their count of faults rose.
     Failed,
-    /// The file is longer than the limit.
+    /// The file has more bytes than the limit.
     TooLong,
     /// An allocation failed.
     Memory,
@@ -65,7 +65,7 @@ fn read_counted<F: Files, L: Ledger>(
     files.read(buf)
 }
 
-/// Reads a whole file of at most `limit` bytes, and counts its reads, of which it makes at most
+/// Reads a whole file as `read_all` does, and counts its reads, of which it makes at most
 /// `limit + 1`.
 pub fn read_all_counting<F: Files, L: Ledger>(
     alloc: Global,
@@ -134,7 +134,11 @@ fn read_all_with<F: Files, L: Ledger>(
     read_all_counting(alloc, files, name, limit, &mut reads)
 }
 
-/// Reads a whole file of at most `limit` bytes, in at most `limit + 1` reads.
+/// Reads a whole file of at most `limit` bytes, in at most `limit + 1` reads. The limit is below 2^32.
+///
+/// `Failed` where the name is lacking or a call of the files failed, `TooLong` where the file has more
+/// bytes than the limit, and `Memory` where an allocation failed. After `Ok` the file stands at its
+/// end. After a refusal what was taken of it stays taken, and no byte of it is answered.
 pub fn read_all<F: Files>(
     alloc: Global,
     files: &mut F,

@@ -7,7 +7,7 @@ ghost use Rattle.vcp_outside.specs.Counts.{HasCause};
 
 use crate::failed::Failed;
 
-/// Takes bytes.
+/// What takes bytes, in the order in which they are written.
 pub trait Sink {
     /// The bytes that were written, where they are told.
     ghost written: { Self → Option (List ℕ) };
