@@ -1,6 +1,6 @@
 //! A writer of the host as a sink.
 
-ghost use Rattle.std.specs.Prelude.{◌≡◌, ◌<◌, ◌≤◌, None, IfOk, IfSome, OnErr, length, take};
+ghost use Rattle.std.specs.Prelude.{◌≡◌, ◌<◌, ◌≤◌, None, Some, Ok, IfOk, IfSome, OnErr, length, take};
 ghost use Rattle.std.specs.Io.{WritesAtMost};
 ghost use Rattle.std.specs.Io.KnownBytes.{Appends};
 ghost use Rattle.vcp_outside.specs.Counts.{HasCause, count_after};
@@ -12,8 +12,8 @@ use std::io::Write;
 use std::marker::Model;
 
 /// A writer as a sink, which is flushed after each write. A write that takes no byte of some is a
-/// fault. As a `Sink` it tells no bytes. It is seen as the bytes that the writer holds, where that
-/// is known of it, and the count of faults.
+/// fault; an empty piece doesn't reach the writer. As a `Sink` it tells no bytes. It is seen as the
+/// bytes that the writer holds, where that is known of it, and the count of faults.
 #[derive(Drop)]
 pub struct HostSink<W: Write> {
     writer: W,
@@ -41,6 +41,7 @@ impl<W: Write> HostSink<W> {
 fn write_some<W: Write>(writer: &mut W, piece: &[u8]) -> Option<usize>
     ensures within { IfSome result (λ n. n ≤ length piece.now) }
     ensures some { IfSome result (λ n. 0 < length piece.now → 0 < n) }
+    ensures empty { length piece.now ≡ 0 → result ≡ Some 0 }
     ensures taken { IfSome result (λ n. Appends (W.contents writer.old) (W.contents writer.new) (take n piece.now)) }
     ensures front { AppendsFront (W.contents writer.old) (W.contents writer.new) piece.now }
 {
@@ -64,6 +65,7 @@ impl<W: Write> Sink for HostSink<W> {
     fn write(&mut self, piece: &[u8]) -> Result<usize, Failed>
         ensures bound { WritesAtMost result piece.now }
         ensures some { IfOk result (λ n. 0 < length piece.now → 0 < n) }
+        ensures empty { length piece.now ≡ 0 → result ≡ Ok 0 }
         ensures cause { HasCause self.old.faults self.new.faults result }
 
         // The writer is given what is taken, and each failure counts.
