@@ -18,10 +18,11 @@ abbrev pub TakesBetween : ℕ → ℕ → Held → List ℕ → Option (List ℕ
 TakesBetween least most held name rest =
     (front left : List ℕ) × (held name ≡ Some (front ++ left)) × (rest ≡ Some left) × (least ≤ length front) × (length front ≤ most)
 
--- At most one byte more than the limit was taken, and exactly so many where the file is too long.
--- A call that failed may have left nothing, as where the name is lacking.
+-- How many bytes were taken. Of a text that is answered all of its own, within the limit. Where the files failed no
+-- more than the limit, or nothing is left, as where the name is lacking. Of a file that is too long exactly one byte
+-- more than the limit. Where an allocation failed at least one, for which it was, and at most one more than the limit.
 abbrev pub Takes : Held → List ℕ → ℕ → Option (List ℕ) → Result (List ℕ) ReadAll → Type 0
-Takes held name limit rest (Ok text) = TakesBetween 0 (limit + 1) held name rest
-Takes held name limit rest (Err Failed) = TakesBetween 0 (limit + 1) held name rest ⊎ IsAtEnd rest
+Takes held name limit rest (Ok text) = TakesBetween (length text) limit held name rest
+Takes held name limit rest (Err Failed) = TakesBetween 0 limit held name rest ⊎ IsAtEnd rest
 Takes held name limit rest (Err TooLong) = TakesBetween (limit + 1) (limit + 1) held name rest
-Takes held name limit rest (Err Memory) = TakesBetween 0 (limit + 1) held name rest
+Takes held name limit rest (Err Memory) = TakesBetween 1 (limit + 1) held name rest

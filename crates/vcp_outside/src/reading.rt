@@ -138,7 +138,8 @@ fn read_all_with<F: Files, L: Ledger>(
 ///
 /// `Failed` where the name is lacking or a call of the files failed, `TooLong` where the file has more
 /// bytes than the limit, and `Memory` where an allocation failed. After `Ok` the file stands at its
-/// end. After a refusal what was taken of it stays taken, and no byte of it is answered.
+/// end. After a refusal what was taken stays taken: at most `limit` bytes after `Failed`, `limit + 1`
+/// after `TooLong`, and 1 to `limit + 1` after `Memory`.
 pub fn read_all<F: Files>(
     alloc: Global,
     files: &mut F,
