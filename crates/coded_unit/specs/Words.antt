@@ -19,6 +19,6 @@ coded v r = pos A *ℤ v +ℤ pos r
 abbrev pub nearest_word : ℤ → ℤ
 nearest_word z = int_max (neg_ℤ (pos (2 ^ 95 - 1))) (int_min z (pos (2 ^ 95 - 1)))
 
--- z is far from the ends of 64 bits, so that five such integers are added without overflow
+-- z is far from the ends of 128 bits, so that five such integers are added without overflow
 abbrev pub Small : ℤ → Type 0
 Small z = (negsuc (2 ^ 40) ≤ℤ z) × (z ≤ℤ pos (2 ^ 40))

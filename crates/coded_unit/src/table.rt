@@ -143,7 +143,7 @@ fn residue(kind: Kind, r: Residue, s: Residue, t: Residue, corr: Residue, stamp:
     let second = scaled(multiplier(kind, 1), s);
     let third = scaled(multiplier(kind, 2), t);
     let share = scaled(stamp_share(kind), stamp);
-    remainder(total(first, second, third, corr, share) as i128)
+    remainder(total(first, second, third, corr, share))
 }
 
 /// How often the stamp is added, so that it stands in the answer's residue once.
@@ -156,22 +156,22 @@ fn stamp_share(kind: Kind) -> i32
 }
 
 /// A factor times a residue or a stamp.
-fn scaled(factor: i32, by: u32) -> i64
+fn scaled(factor: i32, by: u32) -> i128
     requires low { negsuc 60 ≤ℤ factor }
     requires high { factor ≤ℤ pos 61 }
     ensures value { result ≡ factor *ℤ pos by }
     ensures small { Small result }
 {
-    factor as i64 * by as i64
+    factor as i128 * by as i128
 }
 
 /// A sum of four terms and a correction.
-fn total(first: i64, second: i64, third: i64, corr: Residue, share: i64) -> i64
+fn total(first: i128, second: i128, third: i128, corr: Residue, share: i128) -> i128
     requires first { Small first }
     requires second { Small second }
     requires third { Small third }
     requires share { Small share }
     ensures { result ≡ first +ℤ second +ℤ third +ℤ pos corr +ℤ share }
 {
-    first + second + third + corr as i64 + share
+    first + second + third + corr as i128 + share
 }

@@ -108,7 +108,7 @@ pub(crate) fn remainder(code: i128) -> Residue
     ensures below { result < code_constant }
 {
     match i64::try_from(code) {
-        Ok(code) => code.rem_euclid(A as i64) as u32,
-        Err(_) => code.rem_euclid(A as i128) as u32,
+        Ok(code) => code.rem_euclid(A as i64) as Residue,
+        Err(_) => code.rem_euclid(A as i128) as Residue,
     }
 }

@@ -5,4 +5,4 @@ pub type Residue = u32;
 
 /// The constant of the code, 2^31 - 1, modulo which residues are counted. No promise rests on its
 /// being prime.
-pub const A: u32 = 2147483647;
+pub const A: Residue = 2147483647;
