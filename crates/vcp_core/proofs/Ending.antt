@@ -11,7 +11,7 @@ use Rattle.vcp_core.specs.declared.fault.Fault.{Fault}
 use Rattle.vcp_core.specs.declared.fault.Fault.TheVariants as fault
 use Rattle.vcp_core.specs.declared.fault.FileWord.{FileWord}
 use Rattle.vcp_core.specs.declared.fault.FileWord.TheVariants as word
-use Rattle.vcp_core.specs.Answers.{Task, usage, lacks, refuses, task_of, run_task, is_run, usage_text, Answer, answer_of, run_read, run_meant, calls_of, first_name, second_name, bytes_text, unbuilt_text, read_fault_text, memory_text, end_status, default_seed, default_step}
+use Rattle.vcp_core.specs.Answers.{Task, usage, lacks, refuses, task_of, run_task, is_run, usage_text, Answer, answer_of, run_read, run_meant, calls_of, AllAnswers, first_name, second_name, bytes_text, unbuilt_text, read_fault_text, memory_text, end_status, default_seed, default_step}
 use Rattle.vcp_core.specs.Carries.{ends_as}
 use Rattle.vcp_core.specs.Endings.{Ended, IsFileWord, Ends, answers, breaks, loses_out, loses_err, no_memory, cycle_status}
 use Rattle.vcp_core.specs.Operations.{operations}
@@ -65,6 +65,7 @@ part_front old new bytes (front, rest, is, some, w) = (front, rest, is, w)
 pub ends_well : (task : Task) (words : List (List ℕ)) (s : Around) (e : CycleEnd) (err : Option (List ℕ)) (f b n : ℕ) → RunsTask task s (Ok e) → Appends err err [] → Ends task words (ended_of s err err f f b n (cycle_status e))
 ends_well task words s e err f b n t nothing = answers (record {
   cycles = t.run.cycles;
+  all = rw t.task_is t.run.finished;
   log = rw t.task_is t.run.carries.told;
   out = rw t.task_is t.run.wrote.whole;
   err = rw t.task_is nothing;
@@ -73,10 +74,11 @@ ends_well task words s e err f b n t nothing = answers (record {
 })
 
 -- a task that comes to no run: its line was printed
-refused : (task : Task) (words : List (List ℕ)) (text : List ℕ) (code : ℕ) (s : Around) (err_old err_new : Option (List ℕ)) (f g b n : ℕ) → Untouched s → calls_of task [] ≡ [] → run_read task [] ≡ run_meant task →
+refused : (task : Task) (words : List (List ℕ)) (text : List ℕ) (code : ℕ) (s : Around) (err_old err_new : Option (List ℕ)) (f g b n : ℕ) → Untouched s → AllAnswers task [] → calls_of task [] ≡ [] → run_read task [] ≡ run_meant task →
     answer_of task (run_read task []) ≡ record { out = []; err = text; status = code } → Appends err_old err_new text → Ends task words (ended_of s err_old err_new f g b n code)
-refused task words text code s err_old err_new f g b n u calls means is w = answers (record {
+refused task words text code s err_old err_new f g b n u none calls means is w = answers (record {
   cycles = [];
+  all = none;
   log = rw calls u.log;
   out = rw is u.out;
   err = rw is w;
@@ -94,15 +96,15 @@ pub ends_told : (task : Task) (words : List (List ℕ)) (source rows : List ℕ)
     Ends task words (ended_of s err_old err_new f g b n (fault_status ft))
 ends_told task words source rows s fault.Usage err_old err_new f g b n p q r rose w = absurd r
 ends_told task words source rows s (fault.Read v) err_old err_new f g b n p q (u, inl is) rose w =
-    rw is (refused (lacks (name_of source rows v)) words (read_fault_text (name_of source rows v)) 5 s err_old err_new f g b n u refl refl refl w)
+    rw is (refused (lacks (name_of source rows v)) words (read_fault_text (name_of source rows v)) 5 s err_old err_new f g b n u refl refl refl refl w)
 ends_told task words source rows s (fault.Read v) err_old err_new f g b n p q (u, inr broke) rose w =
     breaks (record { status = refl; rose = broke; name = name_of source rows v; name_is = file_word words source rows v p q; log = u.log; out = u.out; err = w })
 ends_told task words source rows s (fault.TooLong v) err_old err_new f g b n p q (u, is) rose w =
-    rw is (refused (refuses (bytes_text (name_of source rows v))) words (bytes_text (name_of source rows v)) 1 s err_old err_new f g b n u refl refl refl w)
+    rw is (refused (refuses (bytes_text (name_of source rows v))) words (bytes_text (name_of source rows v)) 1 s err_old err_new f g b n u refl refl refl refl w)
 ends_told task words source rows s (fault.Unbuilt v) err_old err_new f g b n p q (u, is) rose w =
-    rw is (refused (refuses (unbuilt_text (name_of source rows v))) words (unbuilt_text (name_of source rows v)) 1 s err_old err_new f g b n u refl refl refl w)
+    rw is (refused (refuses (unbuilt_text (name_of source rows v))) words (unbuilt_text (name_of source rows v)) 1 s err_old err_new f g b n u refl refl refl refl w)
 ends_told task words source rows s fault.Write err_old err_new f g b n p q (why, t) rose w =
-    loses_out (record { status = refl; rose = rose refl; cycles = t.run.cycles; log = rw t.task_is t.run.carries.told; out = rw t.task_is t.run.wrote.part; err = whole_front _ _ _ w })
+    loses_out (record { status = refl; rose = rose refl; cycles = t.run.cycles; some = rw t.task_is t.run.begun; log = rw t.task_is t.run.carries.told; out = rw t.task_is t.run.wrote.part; err = whole_front _ _ _ w })
 ends_told task words source rows s fault.Memory err_old err_new f g b n p q u rose w = no_memory (record { status = refl; log = u.log; out = u.out; err = w })
 
 -- the line of a task that comes to no run could not be printed
@@ -125,7 +127,7 @@ ends_untold task words source rows s (fault.TooLong v) err_old err_new f g b n p
 ends_untold task words source rows s (fault.Unbuilt v) err_old err_new f g b n p q (u, is) wrote part rose =
     rw is (lost (refuses (unbuilt_text (name_of source rows v))) words (unbuilt_text (name_of source rows v)) 1 s err_old err_new f g b n u refl part rose)
 ends_untold task words source rows s fault.Write err_old err_new f g b n p q (why, t) wrote part rose =
-    loses_out (record { status = refl; rose = wrote refl; cycles = t.run.cycles; log = rw t.task_is t.run.carries.told; out = rw t.task_is t.run.wrote.part; err = part_front _ _ _ part })
+    loses_out (record { status = refl; rose = wrote refl; cycles = t.run.cycles; some = rw t.task_is t.run.begun; log = rw t.task_is t.run.carries.told; out = rw t.task_is t.run.wrote.part; err = part_front _ _ _ part })
 ends_untold task words source rows s fault.Memory err_old err_new f g b n p q u wrote part rose =
     loses_err (record { status = refl; rose = rose; line = memory_text; line_is = inr (inr refl); log = u.log; out = u.out; err = part })
 

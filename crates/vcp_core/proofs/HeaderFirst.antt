@@ -30,6 +30,7 @@ header_first names seed step ops rows x y m n a b c f g h r v run = record {
   cycles = run.cycles;
   carries = run.carries;
   wrote = writes_after a b c f g h (header_text names) _ _ r v run.wrote refl;
+  begun = run.begun;
   finished = run.finished;
   ended = run.ended;
 }
@@ -41,8 +42,9 @@ header_fails names seed step ops rows x m a b f g why w =
     let failed = failed_start {T = Unit {0}} why a b f g (header_text names) (body_text names (record { rows = []; end = complete })) _ w refl in
     record {
       cycles = [];
-      carries = record { short = omega arith; whole = tt; told = grows_by_none x; never_falls = omega arith; honest = λ _ _. tt };
+      carries = record { told = grows_by_none x; never_falls = omega arith; honest = λ _ _. tt };
       wrote = record { whole = tt; part = failed.part; cause = record { later = failed.cause.later; capped = failed.cause.capped; failed = failed.cause.failed } };
+      begun = tt;
       finished = tt;
       ended = tt;
     }

@@ -8,11 +8,11 @@ use Rattle.coded_unit.specs.Log.{Entry}
 use Rattle.vcp_outside.specs.Counts.{Rose}
 use Rattle.vcp_core.specs.declared.operation.Op.{Op}
 use Rattle.vcp_core.specs.Calls.{CallsOf, AllRight}
-use Rattle.vcp_core.specs.Carries.{AllWhole, Carries}
+use Rattle.vcp_core.specs.Carries.{Carries}
 use Rattle.vcp_core.specs.CycleEnds.{cycle_of}
 use Rattle.vcp_core.specs.GraphRun.{outcomes_from, stop_among, values_out, stop_or_row, cycle_on, graph_run}
 use Rattle.vcp_core.specs.Honest.{Linked}
-use Rattle.vcp_core.specs.Log.{setting_at, calls_over, run_of_answers}
+use Rattle.vcp_core.specs.Log.{setting_at, calls_over, run_of_answers, unless_ended, AllCycles}
 use Rattle.vcp_core.specs.Runs.{Run, Cycle, released, ends, complete, refused, followed_by}
 use Rattle.vcp_core.specs.Signatures.{expected}
 use Rattle.vcp_core.proofs.HonestCycle.{honest_cycle}
@@ -22,35 +22,33 @@ right_front : (es fs : List Entry) → AllRight (es ++ fs) → AllRight es × Al
 right_front [] fs h = (tt, h)
 right_front (e ∷ es) fs h = let r = right_front es fs h.1 in ((h.0, r.0), r.1)
 
-follow_case : (c : Cycle) (later wanted : Run) → ((row : List ℤ) → c ≡ released row → later ≡ wanted) → followed_by c later ≡ followed_by c wanted
-follow_case (released row) later wanted h = ap (followed_by (released row)) (h row refl)
-follow_case (ends e) later wanted h = refl
-
 -- the expected residues are residues, in the first million cycles
 abbrev pub Below : ℕ → ℕ → Type 0
 Below seed step = (k n : ℕ) → n < 1000000 → expected seed step k n < A
 
-honest_over : (seed step : ℕ) (ops : List Op) (n : ℕ) (rows : List (List ℤ)) (cycles : List (List Answer)) → Below seed step → Linked 0 ops → n + length rows ≤ 1000000 → length cycles ≤ length rows →
-    AllWhole ops cycles → AllRight (calls_over seed step ops n rows cycles) → ((run_of_answers seed step ops n cycles).end ≡ complete → length cycles ≡ length rows) →
-    run_of_answers seed step ops n cycles ≡ graph_run ops rows
-honest_over seed step ops n [] [] below linked many short whole right finished = refl
-honest_over seed step ops n (row ∷ rows) [] below linked many short whole right finished = let e = finished refl in absurd (omega (arith, e))
-honest_over seed step ops n [] (answers ∷ cycles) below linked many short whole right finished = absurd (omega arith)
-honest_over seed step ops n (row ∷ rows) (answers ∷ cycles) below linked many short whole right finished =
+ended_case : (c : Cycle) (later wanted : Run) (P Q : Type 0) → (P → later ≡ wanted) → unless_ended c P Q → followed_by c later ≡ followed_by c wanted
+ended_case (released row) later wanted P Q f h = ap (followed_by (released row)) (f h)
+ended_case (ends e) later wanted P Q f h = refl
+
+honest_over : (seed step : ℕ) (ops : List Op) (n : ℕ) (rows : List (List ℤ)) (cycles : List (List Answer)) → Below seed step → Linked 0 ops → n + length rows ≤ 1000000 →
+    AllCycles seed step ops n rows cycles → AllRight (calls_over seed step ops n rows cycles) → run_of_answers seed step ops n cycles ≡ graph_run ops rows
+honest_over seed step ops n [] [] below linked many all right = refl
+honest_over seed step ops n (row ∷ rows) [] below linked many all right = absurd all
+honest_over seed step ops n [] (answers ∷ cycles) below linked many all right = absurd all
+honest_over seed step ops n (row ∷ rows) (answers ∷ cycles) below linked many all right =
     let parts = right_front (CallsOf (setting_at seed step n row) ops answers) (calls_over seed step ops (suc n) rows cycles) right in
     let here : (k : ℕ) → expected seed step k n < A = λ k. below k n (omega arith) in
-    let same : cycle_of seed step n ops answers ≡ cycle_on ops row = honest_cycle seed step n row ops answers here (honest_run (setting_at seed step n row) ops answers here linked parts.0 whole.0) in
-    follow_case (cycle_of seed step n ops answers) (run_of_answers seed step ops (suc n) cycles) (graph_run ops rows)
-    (λ outs is. honest_over seed step ops (suc n) rows cycles below linked (omega arith) (omega arith) whole.1 parts.1
-    (λ e. let f = finished (ap (λ c. (followed_by c (run_of_answers seed step ops (suc n) cycles)).end) is ∙ e) in omega (arith, f)))
+    let same : cycle_of seed step n ops answers ≡ cycle_on ops row = honest_cycle seed step n row ops answers here (honest_run (setting_at seed step n row) ops answers here linked parts.0 all.0) in
+    ended_case (cycle_of seed step n ops answers) (run_of_answers seed step ops (suc n) cycles) (graph_run ops rows) _ _
+    (λ later. honest_over seed step ops (suc n) rows cycles below linked (omega arith) later parts.1) all.1
     ∙ ap (λ c. followed_by c (graph_run ops rows)) same
 
--- with an honest unit, a finished run is that of the operations
+-- with an honest unit, a whole run is that of the operations
 pub honest_runs : (seed step : ℕ) (ops : List Op) (rows : List (List ℤ)) (cycles : List (List Answer)) (x y : Option (List Entry)) (m n : ℕ) → Below seed step → Linked 0 ops → length rows ≤ 1000000 →
-    Carries seed step ops rows cycles x y m n → ((run_of_answers seed step ops 0 cycles).end ≡ complete → length cycles ≡ length rows) → n ≡ m → m < 2 ^ 64 - 1 →
+    Carries seed step ops rows cycles x y m n → AllCycles seed step ops 0 rows cycles → n ≡ m → m < 2 ^ 64 - 1 →
     run_of_answers seed step ops 0 cycles ≡ graph_run ops rows
-honest_runs seed step ops rows cycles x y m n below linked many c finished same small =
-    honest_over seed step ops 0 rows cycles below linked (omega arith) c.short c.whole (c.honest same small) finished
+honest_runs seed step ops rows cycles x y m n below linked many c all same small =
+    honest_over seed step ops 0 rows cycles below linked (omega arith) all (c.honest same small)
 
 stop_case : (ops : List Op) (s : Option (ℕ × StopKind)) (row : List ℤ) (later : Run) (number found wanted : ℕ) → (later.end ≡ refused number found wanted → ⊥) → (followed_by (stop_or_row ops s row) later).end ≡ refused number found wanted → ⊥
 stop_case ops None row later number found wanted h e = h e
@@ -72,7 +70,7 @@ rose_or_same before now h =
 
 -- an output is refused only where an answer was wrong
 pub refused_rose : (seed step : ℕ) (ops : List Op) (rows : List (List ℤ)) (cycles : List (List Answer)) (x y : Option (List Entry)) (m n number found wanted : ℕ) → Below seed step → Linked 0 ops → length rows ≤ 1000000 →
-    Carries seed step ops rows cycles x y m n → ((run_of_answers seed step ops 0 cycles).end ≡ complete → length cycles ≡ length rows) →
+    Carries seed step ops rows cycles x y m n → AllCycles seed step ops 0 rows cycles →
     (run_of_answers seed step ops 0 cycles).end ≡ refused number found wanted → Rose m n
 refused_rose seed step ops rows cycles x y m n number found wanted below linked many c finished e =
     elim (rose_or_same m n c.never_falls) [

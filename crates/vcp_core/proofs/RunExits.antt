@@ -1,5 +1,5 @@
 -- How the loop over the cycles is left.
-use Rattle.std.proofs.Common.{ℕ, ◌≡◌, refl, sym, ap, ◌∙◌, List, [], ◌∷◌, ◌++◌, length, append-nil, map, arith, Option, Ok, Err, ℤ}
+use Rattle.std.proofs.Common.{ℕ, ◌+◌, ◌<◌, ◌≤◌, ◌≡◌, refl, sym, ap, ◌∙◌, List, [], ◌∷◌, ◌++◌, length, append-nil, map, arith, Option, Ok, Err, ℤ}
 use Rattle.std.proofs.lemmas.List.{length-map}
 use Rattle.coded_unit.specs.declared.call.Answer.{Answer}
 use Rattle.coded_unit.specs.Log.{Entry}
@@ -15,8 +15,8 @@ use Rattle.vcp_core.specs.Going.{AllReleased, Going}
 use Rattle.vcp_core.specs.Lines.{rows_text, end_text}
 use Rattle.vcp_core.specs.Log.{run_of_answers}
 use Rattle.vcp_core.specs.Runs.{Run, End, ends, complete}
-use Rattle.vcp_core.proofs.RunSteps.{run_after, rest_text}
-use Rattle.vcp_core.proofs.RunTurns.{Turned, cycle_is, more, run_with, body_with}
+use Rattle.vcp_core.proofs.RunSteps.{run_after, rest_text, all_done, all_ended, some_more, some_done}
+use Rattle.vcp_core.proofs.RunTurns.{Turned, next_row, cycle_is, more, run_with, body_with}
 
 -- a cycle was carried, and its line could not be printed
 pub turn_fails : (names : List (List ℕ)) (seed step : ℕ) (ops : List Op) (rows before left : List (List ℤ)) (count : ℕ) (x y z : Option (List Entry)) (m n o : ℕ) (old mid new : Option (List ℕ)) (f g h : ℕ)
@@ -35,6 +35,7 @@ turn_fails names seed step ops rows before left count x y z m n o old mid new f 
       cycles = going.cycles ++ answers ∷ [];
       carries = more seed step ops rows before left count x y z m n o old mid f g row answers outs e going taken t;
       wrote = record { whole = tt; part = failed.part; cause = record { later = failed.cause.later; capped = failed.cause.capped; failed = failed.cause.failed } };
+      begun = let next = next_row rows before left count row going.left_is going.rest taken in some_more seed step ops 0 rows going.cycles answers going.all_released (omega (arith, going.many, next.inside)) t.whole;
       finished = tt;
       ended = tt;
     }
@@ -46,13 +47,14 @@ run_ended ops cycles e = record { rows = map (outputs ops) cycles; end = e }
 -- a cycle ended the run so
 ended_by : (names : List (List ℕ)) (seed step : ℕ) (ops : List Op) (rows before left : List (List ℤ)) (count : ℕ) (x y z : Option (List Entry)) (m n o : ℕ) (old mid new : Option (List ℕ)) (f g h : ℕ)
     (row : List ℤ) (answers : List Answer) (outs : List ℤ) (e : CycleEnd) (final : End) → Going seed step ops rows before count x y m n old mid f g → before ≡ row ∷ left →
-    Turned seed step ops count row answers outs e y z n o → cycle_at ops outs e ≡ ends final → ends_as ops e ≡ final → (final ≡ complete → ⊥) →
+    Turned seed step ops count row answers outs e y z n o → cycle_at ops outs e ≡ ends final → ends_as ops e ≡ final →
     Writes {T = Unit {0}} {E = Failed} mid new g h (cycle_text names count (cycle_at ops outs e)) (Ok tt) →
     RunsOver seed step ops (body_text names) rows x z m o old new f h (Ok e)
-ended_by names seed step ops rows before left count x y z m n o old mid new f g h row answers outs e final going taken t comes as_end other w =
+ended_by names seed step ops rows before left count x y z m n o old mid new f g h row answers outs e final going taken t comes as_end w =
     let c = cycle_of seed step count ops answers in
     let comes_so : c ≡ ends final = sym (cycle_is seed step ops count row answers outs e y z n o t) ∙ comes in
     let run = run_with seed step ops count going.cycles answers (ends final) going.many going.all_released comes_so in
+    let inside : length going.cycles < length rows = let next = next_row rows before left count row going.left_is going.rest taken in omega (arith, going.many, next.inside) in
     let run_end : (run_of_answers seed step ops 0 (going.cycles ++ answers ∷ [])).end ≡ final = ap (λ (r : Run). r.end) run in
     let text : body_text names (run_of_answers seed step ops 0 (going.cycles ++ answers ∷ [])) ≡ rows_text 0 (map (outputs ops) going.cycles) ++ cycle_text names count (cycle_at ops outs e) =
     body_with names seed step ops count going.cycles answers going.many going.all_released
@@ -67,7 +69,8 @@ ended_by names seed step ops rows before left count x y z m n o old mid new f g 
         part = tt;
         cause = record { later = omega (arith, going.later, w.cause.later); capped = λ b. w.cause.capped (going.capped b); failed = tt };
       };
-      finished = λ k. absurd (other (sym run_end ∙ k));
+      begun = some_more seed step ops 0 rows going.cycles answers going.all_released inside t.whole;
+      finished = all_ended seed step ops 0 rows going.cycles answers final going.all_released inside t.whole (ap (λ j. cycle_of seed step j ops answers) (omega (arith, going.many)) ∙ comes_so);
       ended = as_end ∙ sym run_end;
     }
 
@@ -79,9 +82,9 @@ pub turn_ends : (names : List (List ℕ)) (seed step : ℕ) (ops : List Op) (row
     RunsOver seed step ops (body_text names) rows x z m o old new f h (Ok e)
 turn_ends names seed step ops rows before left count x y z m n o old mid new f g h row answers outs end.Released going taken t other w = absurd (other refl)
 turn_ends names seed step ops rows before left count x y z m n o old mid new f g h row answers outs (end.Stopped k why) going taken t other w =
-    ended_by names seed step ops rows before left count x y z m n o old mid new f g h row answers outs (end.Stopped k why) _ going taken t refl refl (λ q. cc) w
+    ended_by names seed step ops rows before left count x y z m n o old mid new f g h row answers outs (end.Stopped k why) _ going taken t refl refl w
 turn_ends names seed step ops rows before left count x y z m n o old mid new f g h row answers outs (end.Refused number found wanted) going taken t other w =
-    ended_by names seed step ops rows before left count x y z m n o old mid new f g h row answers outs (end.Refused number found wanted) _ going taken t refl refl (λ q. cc) w
+    ended_by names seed step ops rows before left count x y z m n o old mid new f g h row answers outs (end.Refused number found wanted) _ going taken t refl refl w
 
 -- the run of cycles that were all released
 run_so : (seed step : ℕ) (ops : List Op) (cycles : List (List Answer)) → AllReleased seed step ops 0 cycles → run_of_answers seed step ops 0 cycles ≡ run_ended ops cycles complete
@@ -109,7 +112,8 @@ rows_end names seed step ops rows before count x y m n old mid new f g h going n
         part = tt;
         cause = record { later = omega (arith, going.later, w.cause.later); capped = λ b. w.cause.capped (going.capped b); failed = tt };
       };
-      finished = λ k. let empty : length before ≡ 0 = ap length none in omega (arith, going.many, going.rest, empty);
+      begun = some_done seed step ops 0 rows going.cycles going.all_released (omega (arith, going.many, going.rest));
+      finished = let empty : length before ≡ 0 = ap length none in all_done seed step ops 0 rows going.cycles going.all_released (omega (arith, going.many, going.rest, empty));
       ended = sym (ap (λ (r : Run). r.end) (run_so seed step ops going.cycles going.all_released));
     }
 
@@ -126,6 +130,7 @@ rows_end_fails names seed step ops rows before count x y m n old mid new f g h w
       cycles = going.cycles;
       carries = going.carries;
       wrote = record { whole = tt; part = failed.part; cause = record { later = failed.cause.later; capped = failed.cause.capped; failed = failed.cause.failed } };
+      begun = some_done seed step ops 0 rows going.cycles going.all_released (omega (arith, going.many, going.rest));
       finished = tt;
       ended = tt;
     }

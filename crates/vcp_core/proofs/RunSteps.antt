@@ -1,21 +1,17 @@
 -- One cycle more of a run, and its end.
-use Rattle.std.proofs.Common.{ℕ, suc, ◌+◌, ◌<◌, ◌≡◌, sym, ap, ◌∙◌, List, [], ◌∷◌, ◌++◌, length, length-append, append_assoc, append-nil, map, get_or, arith, Option, ℤ}
+use Rattle.std.proofs.Common.{ℕ, suc, ◌+◌, ◌<◌, ◌≤◌, ◌≡◌, refl, sym, ap, ◌∙◌, List, [], ◌∷◌, ◌++◌, length, length-append, append_assoc, append-nil, map, get_or, arith, Option, ℤ}
 use Rattle.coded_unit.specs.declared.call.Answer.{Answer}
 use Rattle.coded_unit.specs.Log.{Entry}
 use Rattle.vcp_core.specs.declared.operation.Op.{Op}
 use Rattle.vcp_core.specs.Calls.{CallsOf, Whole, AllRight}
 use Rattle.vcp_core.specs.Carried.{Carried}
-use Rattle.vcp_core.specs.Carries.{AllWhole, Carries, cycle_text, body_text}
+use Rattle.vcp_core.specs.Carries.{Carries, cycle_text, body_text}
 use Rattle.vcp_core.specs.CycleEnds.{outputs, cycle_of}
 use Rattle.vcp_core.specs.Going.{AllReleased}
 use Rattle.vcp_core.specs.Lines.{row_text, rows_text, last_text, end_text}
-use Rattle.vcp_core.specs.Log.{setting_at, calls_over, run_of_answers}
-use Rattle.vcp_core.specs.Runs.{Run, Cycle, released, ends, complete, followed_by}
+use Rattle.vcp_core.specs.Log.{setting_at, calls_over, run_of_answers, unless_ended, AllCycles, SomeCycles}
+use Rattle.vcp_core.specs.Runs.{Run, End, Cycle, released, ends, complete, followed_by}
 use Rattle.vcp_core.proofs.Growth.{grows_on}
-
-whole_more : (ops : List Op) (cycles : List (List Answer)) (answers : List Answer) → AllWhole ops cycles → Whole ops answers → AllWhole ops (cycles ++ answers ∷ [])
-whole_more ops [] answers h w = (w, tt)
-whole_more ops (first ∷ cycles) answers h w = (h.0, whole_more ops cycles answers h.1 w)
 
 right_append : (es fs : List Entry) → AllRight es → AllRight fs → AllRight (es ++ fs)
 right_append [] fs h k = k
@@ -35,27 +31,58 @@ calls_more seed step ops n (row ∷ rows) (first ∷ cycles) answers d h =
 
 -- the cycles so far, and one more on the next row
 pub carries_more : (seed step : ℕ) (ops : List Op) (rows : List (List ℤ)) (cycles : List (List Answer)) (x y z : Option (List Entry)) (m n o : ℕ) (answers : List Answer) (row : List ℤ) →
-    Carries seed step ops rows cycles x y m n → length cycles < length rows → row ≡ get_or rows (length cycles) row → Whole ops answers →
+    Carries seed step ops rows cycles x y m n → length cycles < length rows → row ≡ get_or rows (length cycles) row →
     Carried (setting_at seed step (length cycles) row) ops answers y z n o →
     Carries seed step ops rows (cycles ++ answers ∷ []) x z m o
-carries_more seed step ops rows cycles x y z m n o answers row h inside is w k =
+carries_more seed step ops rows cycles x y z m n o answers row h inside is k =
     let more : calls_over seed step ops 0 rows (cycles ++ answers ∷ []) ≡ calls_over seed step ops 0 rows cycles ++ CallsOf (setting_at seed step (length cycles) row) ops answers =
     calls_more seed step ops 0 rows cycles answers row inside
     ∙ ap (λ j. calls_over seed step ops 0 rows cycles ++ CallsOf (setting_at seed step j (get_or rows (length cycles) row)) ops answers) (omega arith)
     ∙ ap (λ r. calls_over seed step ops 0 rows cycles ++ CallsOf (setting_at seed step (length cycles) r) ops answers) (sym is) in
     record {
-      short = simp length-append (omega (arith, inside));
-      whole = whole_more ops cycles answers h.whole w;
       told = rw more (grows_on x y z _ _ h.told k.told);
       never_falls = omega (arith, h.never_falls, k.never_falls);
       honest = λ e b. rw more (right_append _ _ (h.honest (omega (arith, h.never_falls, k.never_falls)) b) (k.honest (omega (arith, h.never_falls, k.never_falls)) (omega (arith, h.never_falls, k.never_falls))));
     }
 
-pub released_more : (seed step : ℕ) (ops : List Op) (n : ℕ) (cycles : List (List Answer)) (answers : List Answer) → AllReleased seed step ops n cycles →
+pub released_more : (seed step : ℕ) (ops : List Op) (n : ℕ) (cycles : List (List Answer)) (answers : List Answer) → AllReleased seed step ops n cycles → Whole ops answers →
     cycle_of seed step (n + length cycles) ops answers ≡ released (outputs ops answers) → AllReleased seed step ops n (cycles ++ answers ∷ [])
-released_more seed step ops n [] answers h e = (ap (λ j. cycle_of seed step j ops answers) (omega arith) ∙ e, tt)
-released_more seed step ops n (first ∷ cycles) answers h e =
-    (h.0, released_more seed step ops (suc n) cycles answers h.1 (ap (λ j. cycle_of seed step j ops answers) (omega arith) ∙ e))
+released_more seed step ops n [] answers h w e = (w, ap (λ j. cycle_of seed step j ops answers) (omega arith) ∙ e, tt)
+released_more seed step ops n (first ∷ cycles) answers h w e =
+    (h.0, h.1, released_more seed step ops (suc n) cycles answers h.2 w (ap (λ j. cycle_of seed step j ops answers) (omega arith) ∙ e))
+
+-- cycles that were all released, one for each row, are all cycles
+pub all_done : (seed step : ℕ) (ops : List Op) (n : ℕ) (rows : List (List ℤ)) (cycles : List (List Answer)) → AllReleased seed step ops n cycles → length cycles ≡ length rows → AllCycles seed step ops n rows cycles
+all_done seed step ops n [] [] h e = tt
+all_done seed step ops n [] (answers ∷ cycles) h e = absurd (omega arith)
+all_done seed step ops n (row ∷ rows) [] h e = absurd (omega arith)
+all_done seed step ops n (row ∷ rows) (answers ∷ cycles) h e = (h.0, rw h.1 (all_done seed step ops (suc n) rows cycles h.2 (omega arith)))
+
+-- cycles that were all released, and one more that ended the run, are all cycles
+pub all_ended : (seed step : ℕ) (ops : List Op) (n : ℕ) (rows : List (List ℤ)) (cycles : List (List Answer)) (answers : List Answer) (e : End) → AllReleased seed step ops n cycles → length cycles < length rows → Whole ops answers →
+    cycle_of seed step (n + length cycles) ops answers ≡ ends e → AllCycles seed step ops n rows (cycles ++ answers ∷ [])
+all_ended seed step ops n [] cycles answers e h l w is = absurd (omega arith)
+all_ended seed step ops n (row ∷ rows) [] answers e h l w is =
+    let here : cycle_of seed step n ops answers ≡ ends e = ap (λ j. cycle_of seed step j ops answers) (omega arith) ∙ is in (w, rw here refl)
+all_ended seed step ops n (row ∷ rows) (first ∷ cycles) answers e h l w is =
+    (h.0, rw h.1 (all_ended seed step ops (suc n) rows cycles answers e h.2 (omega arith) w (ap (λ j. cycle_of seed step j ops answers) (omega arith) ∙ is)))
+
+some_last : (seed step : ℕ) (ops : List Op) (n : ℕ) (rows : List (List ℤ)) (c : Cycle) → unless_ended c (SomeCycles seed step ops n rows []) (let none : List (List Answer) = [] in none ≡ [])
+some_last seed step ops n rows (released row) = tt
+some_last seed step ops n rows (ends e) = refl
+
+-- cycles that were all released, and one more
+pub some_more : (seed step : ℕ) (ops : List Op) (n : ℕ) (rows : List (List ℤ)) (cycles : List (List Answer)) (answers : List Answer) → AllReleased seed step ops n cycles → length cycles < length rows → Whole ops answers →
+    SomeCycles seed step ops n rows (cycles ++ answers ∷ [])
+some_more seed step ops n [] cycles answers h l w = absurd (omega arith)
+some_more seed step ops n (row ∷ rows) [] answers h l w = (w, some_last seed step ops (suc n) rows (cycle_of seed step n ops answers))
+some_more seed step ops n (row ∷ rows) (first ∷ cycles) answers h l w = (h.0, rw h.1 (some_more seed step ops (suc n) rows cycles answers h.2 (omega arith) w))
+
+-- cycles that were all released, of some rows
+pub some_done : (seed step : ℕ) (ops : List Op) (n : ℕ) (rows : List (List ℤ)) (cycles : List (List Answer)) → AllReleased seed step ops n cycles → length cycles ≤ length rows → SomeCycles seed step ops n rows cycles
+some_done seed step ops n rows [] h l = tt
+some_done seed step ops n [] (answers ∷ cycles) h l = absurd (omega arith)
+some_done seed step ops n (row ∷ rows) (answers ∷ cycles) h l = (h.0, rw h.1 (some_done seed step ops (suc n) rows cycles h.2 (omega arith)))
 
 -- the run of cycles that were all released, and of those after them
 pub run_after : (seed step : ℕ) (ops : List Op) (n : ℕ) (cycles rest : List (List Answer)) → AllReleased seed step ops n cycles →
@@ -63,7 +90,7 @@ pub run_after : (seed step : ℕ) (ops : List Op) (n : ℕ) (cycles rest : List 
     ≡ record { rows = map (outputs ops) cycles ++ (run_of_answers seed step ops (n + length cycles) rest).rows; end = (run_of_answers seed step ops (n + length cycles) rest).end }
 run_after seed step ops n [] rest h = ap (λ j. run_of_answers seed step ops j rest) (omega arith)
 run_after seed step ops n (answers ∷ cycles) rest h =
-    rw (h.0, run_after seed step ops (suc n) cycles rest h.1)
+    rw (h.1, run_after seed step ops (suc n) cycles rest h.2)
     (ap (λ j. let r : Run = record { rows = outputs ops answers ∷ map (outputs ops) cycles ++ (run_of_answers seed step ops j rest).rows; end = (run_of_answers seed step ops j rest).end } in r) (omega arith))
 
 pub rows_append : (n : ℕ) (xs ys : List (List ℤ)) → rows_text n (xs ++ ys) ≡ rows_text n xs ++ rows_text (n + length xs) ys

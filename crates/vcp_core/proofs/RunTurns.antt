@@ -40,13 +40,13 @@ cycle_is seed step ops count row answers outs e y z n o t =
     at_case ops outs (outputs ops answers) e t.row_is ∙ ap (cycle_at ops (outputs ops answers)) t.end_is
 
 -- the next of the rows that are left
-record NextRow (rows left : List (List ℤ)) (count : ℕ) (row : List ℤ) : Type 0 where
-  inside : count < length rows
-  row_is : row ≡ get_or rows count row
-  left_is : left ≡ drop (count + 1) rows
-  rest : count + 1 + length left ≡ length rows
+pub record NextRow (rows left : List (List ℤ)) (count : ℕ) (row : List ℤ) : Type 0 where
+  pub inside : count < length rows
+  pub row_is : row ≡ get_or rows count row
+  pub left_is : left ≡ drop (count + 1) rows
+  pub rest : count + 1 + length left ≡ length rows
 
-next_row : (rows before left : List (List ℤ)) (count : ℕ) (row : List ℤ) → before ≡ drop count rows → count + length before ≡ length rows → before ≡ row ∷ left → NextRow rows left count row
+pub next_row : (rows before left : List (List ℤ)) (count : ℕ) (row : List ℤ) → before ≡ drop count rows → count + length before ≡ length rows → before ≡ row ∷ left → NextRow rows left count row
 next_row rows before left count row is rest taken =
     let some : length before ≡ suc (length left) = ap length taken in
     let inside : count < length rows = omega (arith, rest, some) in
@@ -64,7 +64,7 @@ pub more : (seed step : ℕ) (ops : List Op) (rows before left : List (List ℤ)
     Turned seed step ops count row answers outs e y z n o → Carries seed step ops rows (going.cycles ++ answers ∷ []) x z m o
 more seed step ops rows before left count x y z m n o old mid f g row answers outs e going taken t =
     let next = next_row rows before left count row going.left_is going.rest taken in
-    carries_more seed step ops rows going.cycles x y z m n o answers row going.carries (omega (arith, going.many, next.inside)) (next.row_is ∙ ap (λ j. get_or rows j row) (sym going.many)) t.whole
+    carries_more seed step ops rows going.cycles x y z m n o answers row going.carries (omega (arith, going.many, next.inside)) (next.row_is ∙ ap (λ j. get_or rows j row) (sym going.many))
     (subst (λ j. Carried (setting_at seed step j row) ops answers y z n o) (sym going.many) t.carried)
 
 -- the run of the cycles so far and one more
@@ -104,7 +104,7 @@ turn_next names seed step ops rows before left count x y z m n o old mid new f g
       cycles = going.cycles ++ answers ∷ [];
       many = simp length-append (omega (arith, going.many));
       carries = more seed step ops rows before left count x y z m n o old mid f g row answers outs e going taken t;
-      all_released = released_more seed step ops 0 going.cycles answers going.all_released (ap (λ j. cycle_of seed step j ops answers) (omega (arith, going.many)) ∙ comes);
+      all_released = released_more seed step ops 0 going.cycles answers going.all_released t.whole (ap (λ j. cycle_of seed step j ops answers) (omega (arith, going.many)) ∙ comes);
       left_is = next.left_is;
       rest = next.rest;
       wrote = appends-appends old mid new _ _ _ going.wrote w.whole text;
@@ -121,7 +121,7 @@ pub run_starts : (seed step : ℕ) (ops : List Op) (rows : List (List ℤ)) (x :
 run_starts seed step ops rows x m old f = record {
   cycles = [];
   many = refl;
-  carries = record { short = omega arith; whole = tt; told = grows_by_none x; never_falls = omega arith; honest = λ _ _. tt };
+  carries = record { told = grows_by_none x; never_falls = omega arith; honest = λ _ _. tt };
   all_released = tt;
   left_is = refl;
   rest = omega arith;

@@ -1,10 +1,10 @@
 -- The answer: what is written and the status, for the command words, what is held under their names, and the run.
-use Rattle.std.specs.Prelude.{ℕ, ◌==◌, Bool, false, cond, not, ◌&&◌, nat_lt, List, [], ◌∷◌, ◌++◌, length, Option, Some, None, ℤ, codes, bytes_eq}
+use Rattle.std.specs.Prelude.{ℕ, ◌≡◌, ◌==◌, Bool, false, cond, not, ◌&&◌, nat_lt, List, [], ◌∷◌, ◌++◌, length, Option, Some, None, ℤ, codes, bytes_eq}
 use Rattle.vcp_outside.specs.Held.{Held}
 use Rattle.coded_unit.specs.declared.call.Answer.{Answer as Given}
 use Rattle.coded_unit.specs.Log.{Entry}
 use Rattle.vcp_core.specs.declared.program.Term.{Term}
-use Rattle.vcp_core.specs.Log.{calls_over, run_of_answers}
+use Rattle.vcp_core.specs.Log.{calls_over, run_of_answers, AllCycles, SomeCycles}
 use Rattle.vcp_core.specs.Meaning.{source_run}
 use Rattle.vcp_core.specs.Operations.{operations}
 use Rattle.vcp_core.specs.Runs.{Run, End, complete, stopped, refused}
@@ -130,6 +130,16 @@ run_read _ cycles = record { rows = []; end = complete }
 abbrev pub calls_of : Task → List (List Given) → List Entry
 calls_of (runs terms rows) cycles = calls_over default_seed default_step (operations terms) 0 rows cycles
 calls_of _ cycles = []
+
+-- These are the answers to all calls of a task: of a run, cycle by cycle to its end; there are none else.
+abbrev pub AllAnswers : Task → List (List Given) → Type 0
+AllAnswers (runs terms rows) cycles = AllCycles default_seed default_step (operations terms) 0 rows cycles
+AllAnswers _ cycles = cycles ≡ []
+
+-- the same of a task that was given up between two cycles of its run
+abbrev pub SomeAnswers : Task → List (List Given) → Type 0
+SomeAnswers (runs terms rows) cycles = SomeCycles default_seed default_step (operations terms) 0 rows cycles
+SomeAnswers _ cycles = cycles ≡ []
 
 -- the run that a task means
 abbrev pub run_meant : Task → Run

@@ -6,23 +6,16 @@ use Rattle.vcp_outside.specs.Written.{Writes}
 use Rattle.vcp_outside.specs.declared.failed.Failed.{Failed}
 use Rattle.vcp_core.specs.declared.operation.Op.{Op}
 use Rattle.vcp_core.specs.declared.cycle_end.CycleEnd.{CycleEnd}
-use Rattle.vcp_core.specs.Calls.{Whole, AllRight}
+use Rattle.vcp_core.specs.Calls.{AllRight}
 use Rattle.vcp_core.specs.declared.cycle_end.CycleEnd.TheVariants as end
 use Rattle.vcp_core.specs.CycleEnds.{spot_at}
 use Rattle.vcp_core.specs.Lines.{row_text, rows_text, last_text}
-use Rattle.vcp_core.specs.Log.{calls_over, run_of_answers}
+use Rattle.vcp_core.specs.Log.{calls_over, run_of_answers, AllCycles, SomeCycles}
 use Rattle.vcp_core.specs.Runs.{Run, End, Cycle, released, ends, complete, stopped, refused}
-
--- in each cycle each operation is answered by a word, or the last answer is the first that is none
-abbrev pub AllWhole : List Op → List (List Answer) → Type 0
-AllWhole ops [] = Unit {0}
-AllWhole ops (answers ∷ cycles) = Whole ops answers × AllWhole ops cycles
 
 -- The log grew by the calls of the cycles, one cycle a row, with their answers, and by nothing else; and no answer is
 -- wrong where the count of wrong ones stayed below its last value.
 pub record Carries (seed step : ℕ) (ops : List Op) (rows : List (List ℤ)) (cycles : List (List Answer)) (told_before told_now : Option (List Entry)) (wrong_before wrong_now : ℕ) : Type 0 where
-  pub short : length cycles ≤ length rows
-  pub whole : AllWhole ops cycles
   pub told : GrowsBy told_before told_now (calls_over seed step ops 0 rows cycles)
   pub never_falls : wrong_before ≤ wrong_now
   pub honest : wrong_now ≡ wrong_before → wrong_before < 2 ^ 64 - 1 → AllRight (calls_over seed step ops 0 rows cycles)
@@ -43,11 +36,12 @@ ends_as ops (end.Stopped k why) = stopped why (spot_at ops k)
 ends_as ops (end.Refused number found wanted) = refused number found wanted
 
 -- A run over rows: cycles were carried, and what was printed is the text of the run that their answers say; where
--- nothing failed, a run that no cycle ended had a cycle for each row.
+-- nothing failed, the cycles are those of a whole run.
 pub record RunsOver (seed step : ℕ) (ops : List Op) (text : Run → List ℕ) (rows : List (List ℤ)) (told_before told_now : Option (List Entry)) (wrong_before wrong_now : ℕ)
     (old new : Option (List ℕ)) (faults_before faults_now : ℕ) (result : Result CycleEnd Failed) : Type 0 where
   pub cycles : List (List Answer)
   pub carries : Carries seed step ops rows cycles told_before told_now wrong_before wrong_now
   pub wrote : Writes old new faults_before faults_now (text (run_of_answers seed step ops 0 cycles)) result
-  pub finished : OnOk result ((run_of_answers seed step ops 0 cycles).end ≡ complete → length cycles ≡ length rows)
+  pub begun : SomeCycles seed step ops 0 rows cycles
+  pub finished : OnOk result (AllCycles seed step ops 0 rows cycles)
   pub ended : IfOk result (λ e. ends_as ops e ≡ (run_of_answers seed step ops 0 cycles).end)

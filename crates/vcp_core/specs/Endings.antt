@@ -7,7 +7,7 @@ use Rattle.vcp_outside.specs.Counts.{Rose}
 use Rattle.vcp_outside.specs.Written.{AppendsFront, AppendsPart}
 use Rattle.vcp_core.specs.declared.cycle_end.CycleEnd.{CycleEnd}
 use Rattle.vcp_core.specs.declared.cycle_end.CycleEnd.TheVariants as end
-use Rattle.vcp_core.specs.Answers.{Task, answer_of, run_read, run_meant, calls_of, first_name, second_name, read_fault_text, write_fault_text, memory_text, usage_text}
+use Rattle.vcp_core.specs.Answers.{Task, answer_of, run_read, run_meant, calls_of, AllAnswers, SomeAnswers, first_name, second_name, read_fault_text, write_fault_text, memory_text, usage_text}
 
 -- What is told before and after: the unit's log and count of wrong answers, what was written to the two sinks with their
 -- counts of faults, and the count of the files that broke; and the status.
@@ -28,11 +28,12 @@ pub record Ended : Type 0 where
   pub broken_new : ℕ
   pub status : ℕ
 
--- The defined answer was given. The log grew by the task's calls with the answers that the unit gave, cycle by cycle, and
--- by nothing else; what is written and the status are those of the run that is read off these answers; and where no answer
--- was wrong, that run is the one that the task means.
+-- The defined answer was given. The unit was asked each call of the task, cycle by cycle to the end of the run, and the
+-- log grew by these calls with its answers and by nothing else; what is written and the status are those of the run that
+-- is read off these answers; and where no answer was wrong, that run is the one that the task means.
 pub record Answers (task : Task) (e : Ended) : Type 0 where
   pub cycles : List (List Given)
+  pub all : AllAnswers task cycles
   pub log : GrowsBy e.log_old e.log_new (calls_of task cycles)
   pub out : Appends e.out_old e.out_new (answer_of task (run_read task cycles)).out
   pub err : Appends e.err_old e.err_new (answer_of task (run_read task cycles)).err
@@ -53,11 +54,13 @@ pub record Breaks (words : List (List ℕ)) (e : Ended) : Type 0 where
   pub out : Appends e.out_old e.out_new []
   pub err : Appends e.err_old e.err_new (read_fault_text name)
 
--- The sink of the output failed: it has a proper front of what the run prints that is read off the answers so far.
+-- The sink of the output failed: it has a proper front of what the run prints that is read off the answers so far, and
+-- the unit was asked nothing after them.
 pub record LosesOut (task : Task) (e : Ended) : Type 0 where
   pub status : e.status ≡ 6
   pub rose : Rose e.out_faults_old e.out_faults_new
   pub cycles : List (List Given)
+  pub some : SomeAnswers task cycles
   pub log : GrowsBy e.log_old e.log_new (calls_of task cycles)
   pub out : AppendsPart e.out_old e.out_new (answer_of task (run_read task cycles)).out
   pub err : AppendsFront e.err_old e.err_new write_fault_text

@@ -5,15 +5,17 @@ use Rattle.coded_unit.specs.declared.call.Answer.{Answer}
 use Rattle.coded_unit.specs.Log.{Entry}
 use Rattle.vcp_outside.specs.Counts.{last_count}
 use Rattle.vcp_core.specs.declared.operation.Op.{Op}
+use Rattle.vcp_core.specs.Calls.{Whole}
 use Rattle.vcp_core.specs.Carries.{Carries}
 use Rattle.vcp_core.specs.CycleEnds.{outputs, cycle_of}
 use Rattle.vcp_core.specs.Lines.{rows_text}
 use Rattle.vcp_core.specs.Runs.{released}
 
--- the outputs of each cycle from n on were released
+-- each cycle from n on was answered by words, and its outputs were released
 abbrev pub AllReleased : ℕ → ℕ → List Op → ℕ → List (List Answer) → Type 0
 AllReleased seed step ops n [] = Unit {0}
-AllReleased seed step ops n (answers ∷ cycles) = (cycle_of seed step n ops answers ≡ released (outputs ops answers)) × AllReleased seed step ops (suc n) cycles
+AllReleased seed step ops n (answers ∷ cycles) =
+    Whole ops answers × (cycle_of seed step n ops answers ≡ released (outputs ops answers)) × AllReleased seed step ops (suc n) cycles
 
 -- So many cycles were carried, one for each row that was taken; their outputs were released, and their rows were printed.
 pub record Going (seed step : ℕ) (ops : List Op) (rows left : List (List ℤ)) (count : ℕ) (told_before told_now : Option (List Entry)) (wrong_before wrong_now : ℕ)

@@ -1,11 +1,11 @@
 -- The log of a run: the calls of its cycles in order, and the run that is read off the answers.
-use Rattle.std.specs.Prelude.{ℕ, suc, List, [], ◌∷◌, ◌++◌, ℤ}
+use Rattle.std.specs.Prelude.{ℕ, suc, ◌≡◌, List, [], ◌∷◌, ◌++◌, ℤ}
 use Rattle.coded_unit.specs.declared.call.Answer.{Answer}
 use Rattle.coded_unit.specs.Log.{Entry}
 use Rattle.vcp_core.specs.declared.operation.Op.{Op}
-use Rattle.vcp_core.specs.Calls.{Setting, CallsOf}
+use Rattle.vcp_core.specs.Calls.{Setting, CallsOf, Whole}
 use Rattle.vcp_core.specs.CycleEnds.{cycle_of}
-use Rattle.vcp_core.specs.Runs.{Run, followed_by, complete}
+use Rattle.vcp_core.specs.Runs.{Run, Cycle, released, ends, followed_by, complete}
 
 -- what cycle n begins with
 abbrev pub setting_at : ℕ → ℕ → ℕ → List ℤ → Setting
@@ -23,3 +23,25 @@ abbrev pub run_of_answers : ℕ → ℕ → List Op → ℕ → List (List Answe
 run_of_answers seed step ops n [] = record { rows = []; end = complete }
 run_of_answers seed step ops n (answers ∷ cycles) =
     followed_by (cycle_of seed step n ops answers) (run_of_answers seed step ops (suc n) cycles)
+
+-- the first fact after a cycle that released its outputs, the second after one that ended the run
+abbrev pub unless_ended : Cycle → Type 0 → Type 0 → Type 0
+unless_ended (released row) goes_on ended = goes_on
+unless_ended (ends e) goes_on ended = ended
+
+-- The answers of the cycles from n on are those of a whole run over these rows: one cycle for each row, up to the first
+-- cycle that ends the run, and none after it; in each cycle each operation is answered by a word, up to the first answer
+-- that is none.
+abbrev pub AllCycles : ℕ → ℕ → List Op → ℕ → List (List ℤ) → List (List Answer) → Type 0
+AllCycles seed step ops n [] [] = Unit {0}
+AllCycles seed step ops n [] (answers ∷ cycles) = ⊥
+AllCycles seed step ops n (row ∷ rows) [] = ⊥
+AllCycles seed step ops n (row ∷ rows) (answers ∷ cycles) =
+    Whole ops answers × unless_ended (cycle_of seed step n ops answers) (AllCycles seed step ops (suc n) rows cycles) (cycles ≡ [])
+
+-- the same of a run that was given up between two of its cycles
+abbrev pub SomeCycles : ℕ → ℕ → List Op → ℕ → List (List ℤ) → List (List Answer) → Type 0
+SomeCycles seed step ops n rows [] = Unit {0}
+SomeCycles seed step ops n [] (answers ∷ cycles) = ⊥
+SomeCycles seed step ops n (row ∷ rows) (answers ∷ cycles) =
+    Whole ops answers × unless_ended (cycle_of seed step n ops answers) (SomeCycles seed step ops (suc n) rows cycles) (cycles ≡ [])
