@@ -94,7 +94,6 @@ file_word words source rows word.Rows p q = inr q
 pub ends_told : (task : Task) (words : List (List ℕ)) (source rows : List ℕ) (s : Around) (ft : Fault) (err_old err_new : Option (List ℕ)) (f g b n : ℕ) → source ≡ first_name words → rows ≡ second_name words →
     Reaches task source rows s b n (Err ft) → (ft ≡ fault.Write → Rose s.out_faults_old s.out_faults_new) → Appends err_old err_new (fault_line source rows ft) →
     Ends task words (ended_of s err_old err_new f g b n (fault_status ft))
-ends_told task words source rows s fault.Usage err_old err_new f g b n p q r rose w = absurd r
 ends_told task words source rows s (fault.Read v) err_old err_new f g b n p q (u, inl is) rose w =
     rw is (refused (lacks (name_of source rows v)) words (read_fault_text (name_of source rows v)) 5 s err_old err_new f g b n u refl refl refl refl w)
 ends_told task words source rows s (fault.Read v) err_old err_new f g b n p q (u, inr broke) rose w =
@@ -117,7 +116,6 @@ lost task words text code s err_old err_new f g b n u is part rose =
 pub ends_untold : (task : Task) (words : List (List ℕ)) (source rows : List ℕ) (s : Around) (ft : Fault) (err_old err_new : Option (List ℕ)) (f g b n : ℕ) → source ≡ first_name words → rows ≡ second_name words →
     Reaches task source rows s b n (Err ft) → (ft ≡ fault.Write → Rose s.out_faults_old s.out_faults_new) → AppendsPart err_old err_new (fault_line source rows ft) → Rose f g →
     Ends task words (ended_of s err_old err_new f g b n 6)
-ends_untold task words source rows s fault.Usage err_old err_new f g b n p q r wrote part rose = absurd r
 ends_untold task words source rows s (fault.Read v) err_old err_new f g b n p q (u, inl is) wrote part rose =
     rw is (lost (lacks (name_of source rows v)) words (read_fault_text (name_of source rows v)) 5 s err_old err_new f g b n u refl part rose)
 ends_untold task words source rows s (fault.Read v) err_old err_new f g b n p q (u, inr broke) wrote part rose =

@@ -15,6 +15,7 @@ pub mod Rows
 pub mod RowsFacts
 pub mod RunExits
 pub mod RunSteps
+pub mod RunStops
 pub mod RunTurns
 pub mod Scans
 pub mod Tasks

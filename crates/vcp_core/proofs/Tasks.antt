@@ -1,6 +1,7 @@
 -- The tasks that files come to, and the runs that tasks come to.
 use Rattle.std.proofs.Common.{ℕ, ◌<◌, ◌≤◌, ◌≡◌, inl, inr, true, false, refl, sym, ap, ◌∙◌, List, length, arith, Option, Some, None, IfSome, Result, Ok, Err, nat_lt, lit≤, ℤ}
 use Rattle.std.proofs.lemmas.Bool.Decides.{nat_tests}
+use Rattle.vcp_base.specs.declared.kind.StopKind.{StopKind}
 use Rattle.coded_unit.specs.Log.{Entry}
 use Rattle.vcp_outside.specs.Counts.{Rose}
 use Rattle.vcp_outside.specs.Held.{Held}
@@ -11,15 +12,18 @@ use Rattle.vcp_core.specs.declared.fault.Fault.TheVariants as fault
 use Rattle.vcp_core.specs.declared.fault.FileWord.TheVariants as word
 use Rattle.vcp_core.specs.declared.program.Term.{Term}
 use Rattle.vcp_core.specs.Answers.{Task, lacks, refuses, runs, with_file, rows_task, rows_file_task, source_task, run_task, bytes_text, source_limit, rows_limit, default_seed, default_step}
+use Rattle.vcp_core.specs.CycleEnds.{spot_at}
 use Rattle.vcp_core.specs.Meaning.{TermsFit, RowsFit}
 use Rattle.vcp_core.specs.Operations.{operations}
 use Rattle.vcp_core.specs.Reach.{Around, Untouched, FileRead, TermsGiven, NoTerms, RunsTerms, RunsProgram, Reaches}
 use Rattle.vcp_core.specs.RowsFile.{rows_of}
 use Rattle.vcp_core.specs.Source.{terms_of}
+use Rattle.vcp_core.specs.Stops.{GrowsByStop}
 use Rattle.vcp_core.proofs.Growth.{grows_by_none}
 use Rattle.vcp_core.proofs.HonestRuns.{refused_rose}
 use Rattle.vcp_core.proofs.ProgramLinks.{all_below, operations_linked}
 use Rattle.vcp_core.proofs.RowsFacts.{rows_given}
+use Rattle.vcp_core.proofs.RunStops.{run_stops}
 use Rattle.vcp_core.proofs.RunTurns.{appends_nothing}
 
 pub if_some_weaker : {X : Type 0} (o : Option X) (P Q : X → Type 0) → ((x : X) → P x → Q x) → IfSome o P → IfSome o Q
@@ -51,7 +55,6 @@ source_unread source b n held (fault.Read w) (is, inl none) = (is, inl (λ rows.
 source_unread source b n held (fault.Read w) (is, inr rose) = (is, inr rose)
 source_unread source b n held (fault.TooLong w) (is, (bytes, found, long)) = (is, λ rows. file_long source source_limit _ held bytes found long)
 source_unread source b n held (fault.Unbuilt w) h = absurd h
-source_unread source b n held fault.Usage h = absurd h
 source_unread source b n held fault.Write h = absurd h
 source_unread source b n held fault.Memory h = tt
 
@@ -65,7 +68,6 @@ rows_unread source name terms b m n held (fault.Read w) s (is, inl none) l u = r
 rows_unread source name terms b m n held (fault.Read w) s (is, inr rose) l u = (u, inr (omega (arith, rose)))
 rows_unread source name terms b m n held (fault.TooLong w) s (is, (bytes, found, long)) l u = rw is (u, file_long name rows_limit _ held bytes found long)
 rows_unread source name terms b m n held (fault.Unbuilt w) s h l u = absurd h
-rows_unread source name terms b m n held fault.Usage s h l u = absurd h
 rows_unread source name terms b m n held fault.Write s h l u = absurd h
 rows_unread source name terms b m n held fault.Memory s h l u = u
 
@@ -79,7 +81,6 @@ by_result : (source name : List ℕ) (terms : List Term) (rows : List (List ℤ)
 by_result source name terms rows b n task s (Ok e) is fit held few run = record { terms = terms; rows = rows; task_is = is; terms_fit = fit; rows_fit = held; few = few; run = run }
 by_result source name terms rows b n task s (Err fault.Write) is fit held few (why, run) = (why, record { terms = terms; rows = rows; task_is = is; terms_fit = fit; rows_fit = held; few = few; run = run })
 by_result source name terms rows b n task s (Err fault.Memory) is fit held few run = run
-by_result source name terms rows b n task s (Err fault.Usage) is fit held few run = absurd run
 by_result source name terms rows b n task s (Err (fault.Read w)) is fit held few run = absurd run
 by_result source name terms rows b n task s (Err (fault.TooLong w)) is fit held few run = absurd run
 by_result source name terms rows b n task s (Err (fault.Unbuilt w)) is fit held few run = absurd run
@@ -102,6 +103,16 @@ program_refused terms rows s (Ok e) few run number found wanted is =
     let same : e ≡ end.Refused number found wanted = cc in refused_cause terms rows s number found wanted few (rw same at run)
 program_refused terms rows s (Err f) few run number found wanted is = cc
 
+-- a run that stopped has an entry that stops it
+stopped_cause : (terms : List Term) (rows : List (List ℤ)) (s : Around) (k : ℕ) (why : StopKind) → RunsTerms terms rows s (Ok (end.Stopped k why)) → GrowsByStop s.log_old s.log_new
+stopped_cause terms rows s k why run =
+    (_, run.carries.told, run_stops default_seed default_step (operations terms) 0 rows run.cycles why (spot_at (operations terms) k) run.begun (sym run.ended))
+
+pub program_stopped : (terms : List Term) (rows : List (List ℤ)) (s : Around) (r : Result CycleEnd Fault) → RunsProgram terms rows s r → (k : ℕ) (why : StopKind) → r ≡ Ok (end.Stopped k why) → GrowsByStop s.log_old s.log_new
+program_stopped terms rows s (Ok e) run k why is =
+    let same : e ≡ end.Stopped k why = cc in stopped_cause terms rows s k why (rw same at run)
+program_stopped terms rows s (Err f) run k why is = cc
+
 -- what rose after a later moment rose after an earlier one
 from_later : (task : Task) (source rows : List ℕ) (s : Around) (b m n : ℕ) (r : Result CycleEnd Fault) → b ≤ m → Reaches task source rows s m n r → Reaches task source rows s b n r
 from_later task source rows s b m n (Ok e) l h = h
@@ -109,7 +120,6 @@ from_later task source rows s b m n (Err (fault.Read w)) l (u, inl is) = (u, inl
 from_later task source rows s b m n (Err (fault.Read w)) l (u, inr rose) = (u, inr (omega (arith, rose)))
 from_later task source rows s b m n (Err (fault.TooLong w)) l h = h
 from_later task source rows s b m n (Err (fault.Unbuilt w)) l h = h
-from_later task source rows s b m n (Err fault.Usage) l h = h
 from_later task source rows s b m n (Err fault.Write) l h = h
 from_later task source rows s b m n (Err fault.Memory) l h = h
 
@@ -124,7 +134,6 @@ source_ends source rows b n held s (fault.Read w) (is, inl task) u = rw is (u, i
 source_ends source rows b n held s (fault.Read w) (is, inr rose) u = (u, inr rose)
 source_ends source rows b n held s (fault.TooLong w) (is, task) u = rw is (u, task rows)
 source_ends source rows b n held s (fault.Unbuilt w) (is, task) u = rw is (u, task rows)
-source_ends source rows b n held s fault.Usage h u = absurd h
 source_ends source rows b n held s fault.Write h u = absurd h
 source_ends source rows b n held s fault.Memory h u = u
 

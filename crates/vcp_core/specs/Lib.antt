@@ -21,3 +21,4 @@ pub mod RowsLeft
 pub mod Runs
 pub mod Signatures
 pub mod Source
+pub mod Stops

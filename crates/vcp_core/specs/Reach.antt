@@ -11,7 +11,7 @@ use Rattle.vcp_core.specs.declared.fault.Fault.TheVariants as fault
 use Rattle.vcp_core.specs.declared.fault.FileWord.{FileWord}
 use Rattle.vcp_core.specs.declared.fault.FileWord.TheVariants as word
 use Rattle.vcp_core.specs.declared.program.Term.{Term}
-use Rattle.vcp_core.specs.Answers.{Task, lacks, refuses, runs, run_task, rows_file_task, output_names, default_seed, default_step, usage_text, bytes_text, unbuilt_text, read_fault_text, write_fault_text, memory_text}
+use Rattle.vcp_core.specs.Answers.{Task, lacks, refuses, runs, run_task, rows_file_task, output_names, default_seed, default_step, bytes_text, unbuilt_text, read_fault_text, write_fault_text, memory_text}
 use Rattle.vcp_core.specs.Carries.{RunsOver}
 use Rattle.vcp_core.specs.Lines.{run_text}
 use Rattle.vcp_core.specs.Meaning.{TermsFit, RowsFit}
@@ -60,7 +60,6 @@ FileRead held name limit w before now (Ok text) = (held name ≡ Some text) × (
 FileRead held name limit w before now (Err (fault.Read v)) = (v ≡ w) × ((held name ≡ None) ⊎ Rose before now)
 FileRead held name limit w before now (Err (fault.TooLong v)) = (v ≡ w) × ((bytes : List ℕ) × (held name ≡ Some bytes) × (limit < length bytes))
 FileRead held name limit w before now (Err fault.Memory) = Unit {0}
-FileRead held name limit w before now (Err fault.Usage) = ⊥
 FileRead held name limit w before now (Err (fault.Unbuilt v)) = ⊥
 FileRead held name limit w before now (Err fault.Write) = ⊥
 
@@ -74,7 +73,6 @@ NoTerms held source before now (fault.Read w) = (w ≡ word.Source) × (((rows :
 NoTerms held source before now (fault.TooLong w) = (w ≡ word.Source) × ((rows : List ℕ) → run_task source rows held ≡ refuses (bytes_text source))
 NoTerms held source before now (fault.Unbuilt w) = (w ≡ word.Source) × ((rows : List ℕ) → run_task source rows held ≡ refuses (unbuilt_text source))
 NoTerms held source before now fault.Memory = Unit {0}
-NoTerms held source before now fault.Usage = ⊥
 NoTerms held source before now fault.Write = ⊥
 
 -- what running a program on rows comes to
@@ -82,7 +80,6 @@ abbrev pub RunsProgram : List Term → List (List ℤ) → Around → Result Cyc
 RunsProgram terms rows s (Ok e) = RunsTerms terms rows s (Ok e)
 RunsProgram terms rows s (Err fault.Write) = (why : Failed) × RunsTerms terms rows s (Err why)
 RunsProgram terms rows s (Err fault.Memory) = Untouched s
-RunsProgram terms rows s (Err fault.Usage) = ⊥
 RunsProgram terms rows s (Err (fault.Read w)) = ⊥
 RunsProgram terms rows s (Err (fault.TooLong w)) = ⊥
 RunsProgram terms rows s (Err (fault.Unbuilt w)) = ⊥
@@ -90,7 +87,6 @@ RunsProgram terms rows s (Err (fault.Unbuilt w)) = ⊥
 -- how far the command came
 abbrev pub Reaches : Task → List ℕ → List ℕ → Around → ℕ → ℕ → Result CycleEnd Fault → Type 0
 Reaches task source rows s before now (Ok e) = RunsTask task s (Ok e)
-Reaches task source rows s before now (Err fault.Usage) = ⊥
 Reaches task source rows s before now (Err (fault.Read w)) = Untouched s × ((task ≡ lacks (name_of source rows w)) ⊎ Rose before now)
 Reaches task source rows s before now (Err (fault.TooLong w)) = Untouched s × (task ≡ refuses (bytes_text (name_of source rows w)))
 Reaches task source rows s before now (Err (fault.Unbuilt w)) = Untouched s × (task ≡ refuses (unbuilt_text (name_of source rows w)))
@@ -99,7 +95,6 @@ Reaches task source rows s before now (Err fault.Memory) = Untouched s
 
 -- the line of a fault
 abbrev pub fault_line : List ℕ → List ℕ → Fault → List ℕ
-fault_line source rows fault.Usage = usage_text
 fault_line source rows (fault.Read w) = read_fault_text (name_of source rows w)
 fault_line source rows (fault.TooLong w) = bytes_text (name_of source rows w)
 fault_line source rows (fault.Unbuilt w) = unbuilt_text (name_of source rows w)
@@ -108,7 +103,6 @@ fault_line source rows fault.Memory = memory_text
 
 -- the status of a fault
 abbrev pub fault_status : Fault → ℕ
-fault_status fault.Usage = 4
 fault_status (fault.Read w) = 5
 fault_status (fault.TooLong w) = 1
 fault_status (fault.Unbuilt w) = 1

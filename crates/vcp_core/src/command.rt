@@ -1,10 +1,13 @@
 //! The command `run P ROWS`, up to the line of its fault.
 
-ghost use Rattle.std.specs.Prelude.{◌≡◌, ◌<◌, ◌≤◌, ◌^◌, IfSome, IfOk, Ok, Err, MatchResult, length, ℕ, List};
+ghost use Rattle.std.specs.Prelude.{◌≡◌, ◌<◌, ◌≤◌, ◌^◌, IfSome, IfOk, OnOk, Ok, Err, MatchResult, length, ℕ, List};
+ghost use Rattle.std.specs.Io.KnownBytes.{IsAtEnd};
+ghost use Rattle.vcp_base.specs.declared.kind.StopKind.{StopKind as StopKindOf};
 ghost use Rattle.vcp_outside.specs.Counts.{Rose};
 ghost use Rattle.vcp_core.specs.Answers.{run_task, rows_file_task};
 ghost use Rattle.vcp_core.specs.Meaning.{TermsFit};
 ghost use Rattle.vcp_core.specs.Reach.{FileRead, TermsGiven, NoTerms, RunsProgram, Reaches};
+ghost use Rattle.vcp_core.specs.Stops.{GrowsByStop};
 ghost use Rattle.vcp_core.specs.declared.cycle_end.CycleEnd.TheVariants as end;
 ghost use Rattle.vcp_core.specs.declared.fault.Fault.TheVariants as fault;
 ghost use Rattle.vcp_core.specs.declared.fault.FileWord.{FileWord as FileWordOf};
@@ -42,9 +45,9 @@ fn read_file<F: Files>(
     ensures held { F.held files.new ≡ F.held files.old }
     ensures reads { IfSome (F.held files.old) (λ h. FileRead h name.now limit word (F.broken files.old) (F.broken files.new) result) }
     ensures later { F.faults files.old ≤ F.faults files.new }
+    ensures ended { OnOk result (IsAtEnd (F.rest files.new)) }
     ensures broken_later { F.broken files.old ≤ F.broken files.new }
     ensures read { (w : FileWordOf) → result ≡ Err (fault.Read w) → Rose (F.faults files.old) (F.faults files.new) }
-    ensures usage { result ≡ Err fault.Usage → ⊥ }
     ensures write { result ≡ Err fault.Write → ⊥ }
 {
     match read_all(alloc, files, name.bytes(), limit) {
@@ -63,7 +66,6 @@ fn load_terms<F: Files>(alloc: Global, files: &mut F, name: &Text) -> Result<Vec
     ensures few { IfOk result (λ ts. length ts.items ≤ 64) }
     ensures later { F.faults files.old ≤ F.faults files.new }
     ensures broken_later { F.broken files.old ≤ F.broken files.new }
-    ensures usage { result ≡ Err fault.Usage → ⊥ }
     ensures read { (w : FileWordOf) → result ≡ Err (fault.Read w) → Rose (F.faults files.old) (F.faults files.new) }
     ensures write { result ≡ Err fault.Write → ⊥ }
 {
@@ -129,10 +131,11 @@ fn run_on_rows<F: Files, U: Unit, O: Sink>(
     }) (F.broken files.old) (F.broken files.new) result) }
     ensures later { F.faults files.old ≤ F.faults files.new }
     ensures broken_later { F.broken files.old ≤ F.broken files.new }
-    ensures usage { result ≡ Err fault.Usage → ⊥ }
     ensures read { (w : FileWordOf) → result ≡ Err (fault.Read w) → Rose (F.faults files.old) (F.faults files.new) }
     ensures write { result ≡ Err fault.Write → Rose (O.faults out.old) (O.faults out.new) }
+    ensures ended { OnOk result (IsAtEnd (F.rest files.new)) }
     ensures refused { (number found wanted : ℕ) → result ≡ Ok (end.Refused number found wanted) → Rose (U.wrong unit.old) (U.wrong unit.new) }
+    ensures stopped { (k : ℕ) (why : StopKindOf) → result ≡ Ok (end.Stopped k why) → GrowsByStop (U.log unit.old) (U.log unit.new) }
 {
     let text = read_file(alloc, files, name, ROWS_LIMIT, FileWord::Rows)?;
     match Rows::of(text.bytes()) {
@@ -160,10 +163,11 @@ pub fn run_command<F: Files, U: Unit, O: Sink>(
       out_faults_old = O.faults out.old;
       out_faults_new = O.faults out.new;
     }) (F.broken files.old) (F.broken files.new) result) }
-    ensures usage { result ≡ Err fault.Usage → ⊥ }
     ensures read { (w : FileWordOf) → result ≡ Err (fault.Read w) → Rose (F.faults files.old) (F.faults files.new) }
     ensures write { result ≡ Err fault.Write → Rose (O.faults out.old) (O.faults out.new) }
+    ensures ended { OnOk result (IsAtEnd (F.rest files.new)) }
     ensures refused { (number found wanted : ℕ) → result ≡ Ok (end.Refused number found wanted) → Rose (U.wrong unit.old) (U.wrong unit.new) }
+    ensures stopped { (k : ℕ) (why : StopKindOf) → result ≡ Ok (end.Stopped k why) → GrowsByStop (U.log unit.old) (U.log unit.new) }
 {
     let terms = load_terms(alloc, files, words.source)?;
     run_on_rows(alloc, &terms, words.rows, files, unit, out)

@@ -38,7 +38,6 @@ pub fn tell<E: Sink>(err: &mut E, words: &RunWords<'_>, fault: &Fault) -> Result
     ensures { Writes (E.written err.old) (E.written err.new) (E.faults err.old) (E.faults err.new) (fault_line words.now.source.now words.now.rows.now fault.now) result }
 {
     match fault {
-        Fault::Usage => tell_usage(err),
         Fault::Read(word) => tell_of(err, name_of_word(words, *word), b" read fault\n"),
         Fault::TooLong(word) => tell_of(err, name_of_word(words, *word), b" L1 Bytes\n"),
         Fault::Unbuilt(word) => tell_of(err, name_of_word(words, *word), b" N1 Unbuilt\n"),
@@ -59,7 +58,6 @@ pub fn fault_status(fault: &Fault) -> u8
     ensures { result ≡ status_of_fault fault.now }
 {
     match fault {
-        Fault::Usage => 4,
         Fault::Read(_) => 5,
         Fault::TooLong(_) | Fault::Unbuilt(_) => 1,
         Fault::Write => 6,

@@ -1,10 +1,12 @@
 //! The top call.
 
 ghost use Rattle.std.specs.Prelude.{◌≡◌, ◌⊎◌, false, IfSome};
+ghost use Rattle.std.specs.Io.KnownBytes.{IsAtEnd};
 ghost use Rattle.vcp_outside.specs.Counts.{Rose};
 ghost use Rattle.vcp_core.specs.Answers.{task_of, is_run};
 ghost use Rattle.vcp_core.specs.Causes.{Causes};
 ghost use Rattle.vcp_core.specs.Endings.{Ends, TellsUsage};
+ghost use Rattle.vcp_core.specs.Stops.{GrowsByStop};
 
 use crate::command::run_command;
 use crate::telling::{cycle_status, fault_status, tell, tell_usage};
@@ -78,6 +80,8 @@ pub fn vcp<F: Files, U: Unit, O: Sink, E: Sink>(
     ensures usage_only { result ≡ 4 → is_run words.now ≡ false }
 
     // Causes that hold whatever is told.
+    ensures ended { result ≡ 0 → IsAtEnd (F.rest files.new) }
+    ensures stopped { result ≡ 2 → GrowsByStop (U.log unit.old) (U.log unit.new) }
     ensures refused { result ≡ 3 → Rose (U.wrong unit.old) (U.wrong unit.new) }
     ensures read { result ≡ 5 → Rose (F.faults files.old) (F.faults files.new) }
     ensures write { result ≡ 6 → Rose (O.faults out.old) (O.faults out.new) ⊎ Rose (E.faults err.old) (E.faults err.new) }
@@ -114,6 +118,8 @@ fn serve<F: Files, U: Unit, O: Sink, E: Sink>(
     ensures usage { is_run words.now ≡ false → TellsUsage (E.written err.old) (E.written err.new) (E.faults err.old) (E.faults err.new) result }
     ensures usage_alone { is_run words.now ≡ false → (U.log unit.new ≡ U.log unit.old) × (O.written out.new ≡ O.written out.old) }
     ensures usage_only { result ≡ 4 → is_run words.now ≡ false }
+    ensures ended { result ≡ 0 → IsAtEnd (F.rest files.new) }
+    ensures stopped { result ≡ 2 → GrowsByStop (U.log unit.old) (U.log unit.new) }
     ensures refused { result ≡ 3 → Rose (U.wrong unit.old) (U.wrong unit.new) }
     ensures read { result ≡ 5 → Rose (F.faults files.old) (F.faults files.new) }
     ensures write { result ≡ 6 → Rose (O.faults out.old) (O.faults out.new) ⊎ Rose (E.faults err.old) (E.faults err.new) }

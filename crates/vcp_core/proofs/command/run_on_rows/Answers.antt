@@ -1,7 +1,7 @@
 use Rattle.std.proofs.Common.{◌≡◌, Some, rules}
 use Rattle.vcp_core.specs.RowsFile.{rows_of}
 use Rattle.vcp_core.proofs.RowsFacts.{rows_given}
-use Rattle.vcp_core.proofs.Tasks.{if_some_weaker, program_runs, program_refused}
+use Rattle.vcp_core.proofs.Tasks.{if_some_weaker, program_runs, program_refused, program_stopped}
 use Rattle.vcp_core.proofs.command.run_on_rows.Goals as goal
 
 pub run_program-requires-clause-many : goal.run_program-requires-clause-many
@@ -20,3 +20,6 @@ pub returns-in-Some-clause-refused : goal.returns-in-Some-clause-refused
 returns-in-Some-clause-refused g c =
     let is : rows_of c.in_ok-text.text ≡ Some c.in-Some.rows = search rules in
     program_refused c.args.terms.now c.in-Some.rows _ c.run_program.result (rows_given c.in_ok-text.text c.in-Some.rows is).few c.run_program.ensures.runs
+
+pub returns-in-Some-clause-stopped : goal.returns-in-Some-clause-stopped
+returns-in-Some-clause-stopped g c = program_stopped c.args.terms.now c.in-Some.rows _ c.run_program.result c.run_program.ensures.runs
