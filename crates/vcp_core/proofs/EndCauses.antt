@@ -1,16 +1,18 @@
 -- From how the program ends to the causes of its statuses.
-use Rattle.std.proofs.Common.{ℕ, ◌-◌, ◌^◌, ◌<◌, ◌≡◌, ◌⊎◌, inl, inr, refl, sym, ap, ◌∙◌, List, [], arith, ℤ}
-use Rattle.std.specs.Io.KnownBytes.{Appends}
-use Rattle.coded_unit.specs.declared.call.Answer.{Answer as Given}
+use Rattle.std.proofs.Common.{ℕ, ◌≡◌, ◌⊎◌, inl, inr, Bool, true, false, cond, refl, sym, ap, ◌∙◌, List, [], ◌∷◌, arith, ℤ}
 use Rattle.vcp_base.specs.declared.kind.StopKind.{StopKind}
+use Rattle.vcp_base.specs.declared.kind.StopKind.TheVariants as stop
+use Rattle.vcp_base.specs.declared.ty.Ty.TheVariants as ty
+use Rattle.vcp_base.specs.Types.{fits}
 use Rattle.vcp_base.specs.declared.spot.Spot.{Spot}
-use Rattle.vcp_outside.specs.Counts.{Rose}
 use Rattle.vcp_core.specs.declared.program.Term.{Term}
-use Rattle.vcp_core.specs.Answers.{Task, Answer, usage, lacks, refuses, runs, answer_of, run_read, run_meant, end_status, output_names}
-use Rattle.vcp_core.specs.Causes.{WasHonest, NothingFailed, RunsAsMeant, Causes}
-use Rattle.vcp_core.specs.Endings.{Ended, Answers, Ends, answers, breaks, loses_out, loses_err, no_memory}
-use Rattle.vcp_core.specs.Meaning.{source_run}
-use Rattle.vcp_core.specs.Runs.{Run, End, complete, stopped, refused}
+use Rattle.vcp_core.specs.Answers.{Task, Answer, usage, lacks, refuses, runs, answer_of, run_read, run_meant, end_status}
+use Rattle.vcp_core.specs.Calls.{at}
+use Rattle.vcp_core.specs.Causes.{WasHonest, MeantStatus, RunsAsMeant, Causes}
+use Rattle.vcp_core.specs.Endings.{Ended, Answers, Ends, answers, files_failed, output_failed, errors_failed, no_memory}
+use Rattle.vcp_core.specs.Meaning.{operand_value, combined, sum_from, source_run}
+use Rattle.vcp_core.specs.Operations.{spot}
+use Rattle.vcp_core.specs.Runs.{Run, End, Cycle, ends, complete, stopped, refused, followed_by}
 
 -- the status of an end is none but 0, 2 and 3
 end_is_stop : (e : End) → end_status e ≡ 2 → (why : StopKind) × (spot : Spot) × (e ≡ stopped why spot)
@@ -49,50 +51,95 @@ two_stopped (lacks name) read meant is h = absurd (omega (arith, h))
 two_stopped (refuses line) read meant is h = absurd (omega (arith, h))
 two_stopped (runs terms rows) read meant is h = end_is_stop meant.end (ap (λ (r : Run). end_status r.end) (sym is) ∙ h)
 
+-- one step of a sum
+step_not_refused : (held : Bool) (c : Cycle) (e : End) (later : Run) (number found wanted : ℕ) → ((followed_by c later).end ≡ refused number found wanted → ⊥) → (e ≡ refused number found wanted → ⊥) → (followed_by (cond held c (ends e)) later).end ≡ refused number found wanted → ⊥
+step_not_refused true c e later number found wanted f g h = f h
+step_not_refused false c e later number found wanted f g h = g h
+
+-- a sum is never refused
+sum_not_refused : (x v : ℤ) (terms : List Term) (later : Run) (number found wanted : ℕ) → (later.end ≡ refused number found wanted → ⊥) → (followed_by (sum_from x v terms) later).end ≡ refused number found wanted → ⊥
+sum_not_refused x v [] later number found wanted f h = f h
+sum_not_refused x v (t ∷ terms) later number found wanted f h =
+    let w = combined t.sign v (operand_value x t.operand) in
+    step_not_refused (fits ty.Dint w) (sum_from x w terms) (stopped stop.Range (spot 4 t.col)) later number found wanted (sum_not_refused x w terms later number found wanted f) (λ e. cc) h
+
+-- nor is the run of a program
+meaning_not_refused : (terms : List Term) (rows : List (List ℤ)) (number found wanted : ℕ) → (source_run terms rows).end ≡ refused number found wanted → ⊥
+meaning_not_refused terms [] number found wanted h = cc
+meaning_not_refused terms (row ∷ rows) number found wanted h =
+    sum_not_refused (at row 0) (at row 0) terms (source_run terms rows) number found wanted (meaning_not_refused terms rows number found wanted) h
+
+meant_status : (e : End) (status : ℕ) → ((number found wanted : ℕ) → e ≡ refused number found wanted → ⊥) → status ≡ end_status e → MeantStatus e status
+meant_status complete status f h = h
+meant_status (stopped why spot) status f h = h
+meant_status (refused number found wanted) status f h = absurd (f number found wanted refl)
+
 -- the defined answer with an honest unit
 as_meant : (terms : List Term) (rows : List (List ℤ)) (task : Task) (e : Ended) → task ≡ runs terms rows → Answers task e → WasHonest e → RunsAsMeant terms rows e
 as_meant terms rows task e is a honest =
     let same : answer_of task (run_read task a.cycles) ≡ answer_of (runs terms rows) (source_run terms rows) =
     ap (answer_of task) (a.honest honest.same honest.below) ∙ ap (λ t. answer_of t (run_meant t)) is in
     record {
-      status = a.status ∙ ap (λ (b : Answer). b.status) same;
+      status = meant_status (source_run terms rows).end e.status (meaning_not_refused terms rows) (a.status ∙ ap (λ (b : Answer). b.status) same);
       out = rw (sym (ap (λ (b : Answer). b.out) same)) a.out;
       err = rw (sym (ap (λ (b : Answer). b.err) same)) a.err;
     }
 
+-- where the meaning stops, the defined answer's status is 2
+meant_stop : (task : Task) (read meant : Run) (status : ℕ) (why : StopKind) (spot : Spot) → (meant ≡ run_meant task) → read ≡ meant → meant.end ≡ stopped why spot → status ≡ (answer_of task read).status → status ≡ 2
+meant_stop usage read meant status why spot m is stops h = let e : (run_meant usage).end ≡ stopped why spot = ap (λ (r : Run). r.end) (sym m) ∙ stops in cc
+meant_stop (lacks name) read meant status why spot m is stops h = let e : (run_meant (lacks name)).end ≡ stopped why spot = ap (λ (r : Run). r.end) (sym m) ∙ stops in cc
+meant_stop (refuses line) read meant status why spot m is stops h = let e : (run_meant (refuses line)).end ≡ stopped why spot = ap (λ (r : Run). r.end) (sym m) ∙ stops in cc
+meant_stop (runs terms rows) read meant status why spot m is stops h = h ∙ ap end_status (ap (λ (r : Run). r.end) is ∙ stops)
+
 pub end_causes : (task : Task) (words : List (List ℕ)) (e : Ended) → Ends task words e → Causes task e
 end_causes task words e (answers a) = record {
-  refused = λ h. one_refused task (run_read task a.cycles) (sym a.status ∙ h);
-  refuses_file = λ line is nothing. inr (rw is at a.status, rw is at a.out, rw is at a.err);
-  stopped_so = λ h honest. two_stopped task (run_read task a.cycles) (run_meant task) (a.honest honest.same honest.below) (sym a.status ∙ h);
-  lacking = λ h. inr (five_lacking task (run_read task a.cycles) (sym a.status ∙ h));
+  one_only = λ h. one_refused task (run_read task a.cycles) (sym a.status ∙ h);
+  one = λ line is given. (rw is at a.status, rw is at a.out, rw is at a.err);
+  two_only = λ h honest. two_stopped task (run_read task a.cycles) (run_meant task) (a.honest honest.same honest.below) (sym a.status ∙ h);
+  two = λ why spot stops honest given. meant_stop task (run_read task a.cycles) (run_meant task) e.status why spot refl (a.honest honest.same honest.below) stops a.status;
+  five_only = λ h. let l = five_lacking task (run_read task a.cycles) (sym a.status ∙ h) in inr (l.0, l.1, rw l.1 at a.err);
+  five = λ name is sinks memory. rw is at a.status;
+  meant = λ terms rows is honest given. as_meant terms rows task e is a honest;
   completes = λ terms rows is nothing honest. inr (as_meant terms rows task e is a honest);
 }
-end_causes task words e (breaks b) = record {
-  refused = λ h. absurd (omega (arith, h, b.status));
-  refuses_file = λ line is nothing. absurd (nothing.files b.rose);
-  stopped_so = λ h honest. absurd (omega (arith, h, b.status));
-  lacking = λ h. inl b.rose;
+end_causes task words e (files_failed b) = record {
+  one_only = λ h. absurd (omega (arith, h, b.status));
+  one = λ line is given. absurd (given.files b.status);
+  two_only = λ h honest. absurd (omega (arith, h, b.status));
+  two = λ why spot stops honest given. absurd (given.files b.status);
+  five_only = λ h. inl b.rose;
+  five = λ name is sinks memory. b.status;
+  meant = λ terms rows is honest given. absurd (given.files b.status);
   completes = λ terms rows is nothing honest. absurd (nothing.files b.rose);
 }
-end_causes task words e (loses_out l) = record {
-  refused = λ h. absurd (omega (arith, h, l.status));
-  refuses_file = λ line is nothing. absurd (nothing.out l.rose);
-  stopped_so = λ h honest. absurd (omega (arith, h, l.status));
-  lacking = λ h. absurd (omega (arith, h, l.status));
+end_causes task words e (output_failed l) = record {
+  one_only = λ h. absurd (omega (arith, h, l.status));
+  one = λ line is given. absurd (given.sinks l.status);
+  two_only = λ h honest. absurd (omega (arith, h, l.status));
+  two = λ why spot stops honest given. absurd (given.sinks l.status);
+  five_only = λ h. absurd (omega (arith, h, l.status));
+  five = λ name is sinks memory. absurd (sinks l.status);
+  meant = λ terms rows is honest given. absurd (given.sinks l.status);
   completes = λ terms rows is nothing honest. absurd (nothing.out l.rose);
 }
-end_causes task words e (loses_err l) = record {
-  refused = λ h. absurd (omega (arith, h, l.status));
-  refuses_file = λ line is nothing. absurd (nothing.err l.rose);
-  stopped_so = λ h honest. absurd (omega (arith, h, l.status));
-  lacking = λ h. absurd (omega (arith, h, l.status));
+end_causes task words e (errors_failed l) = record {
+  one_only = λ h. absurd (omega (arith, h, l.status));
+  one = λ line is given. absurd (given.sinks l.status);
+  two_only = λ h honest. absurd (omega (arith, h, l.status));
+  two = λ why spot stops honest given. absurd (given.sinks l.status);
+  five_only = λ h. absurd (omega (arith, h, l.status));
+  five = λ name is sinks memory. absurd (sinks l.status);
+  meant = λ terms rows is honest given. absurd (given.sinks l.status);
   completes = λ terms rows is nothing honest. absurd (nothing.err l.rose);
 }
-end_causes task words e (no_memory m) = record {
-  refused = λ h. absurd (omega (arith, h, m.status));
-  refuses_file = λ line is nothing. inl m.status;
-  stopped_so = λ h honest. absurd (omega (arith, h, m.status));
-  lacking = λ h. absurd (omega (arith, h, m.status));
-  completes = λ terms rows is nothing honest. inl m.status;
+end_causes task words e (no_memory l) = record {
+  one_only = λ h. absurd (omega (arith, h, l.status));
+  one = λ line is given. absurd (given.memory l.status);
+  two_only = λ h honest. absurd (omega (arith, h, l.status));
+  two = λ why spot stops honest given. absurd (given.memory l.status);
+  five_only = λ h. absurd (omega (arith, h, l.status));
+  five = λ name is sinks memory. absurd (memory l.status);
+  meant = λ terms rows is honest given. absurd (given.memory l.status);
+  completes = λ terms rows is nothing honest. inl l.status;
 }

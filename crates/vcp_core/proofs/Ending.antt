@@ -13,16 +13,16 @@ use Rattle.vcp_core.specs.declared.fault.FileWord.{FileWord}
 use Rattle.vcp_core.specs.declared.fault.FileWord.TheVariants as word
 use Rattle.vcp_core.specs.Answers.{Task, usage, lacks, refuses, task_of, run_task, is_run, usage_text, Answer, answer_of, run_read, run_meant, calls_of, AllAnswers, first_name, second_name, bytes_text, unbuilt_text, read_fault_text, memory_text, end_status, default_seed, default_step}
 use Rattle.vcp_core.specs.Carries.{ends_as}
-use Rattle.vcp_core.specs.Endings.{Ended, IsFileWord, Ends, answers, breaks, loses_out, loses_err, no_memory, cycle_status}
+use Rattle.vcp_core.specs.Endings.{Ended, IsFileWord, Ends, answers, files_failed, output_failed, errors_failed, no_memory, cycle_status}
 use Rattle.vcp_core.specs.Operations.{operations}
-use Rattle.vcp_core.specs.Reach.{Around, Untouched, RunsTask, Reaches, name_of, fault_line, fault_status}
+use Rattle.vcp_core.specs.Reach.{BeforeAndAfter, Untouched, RunsTask, Reaches, name_of, fault_line, fault_status}
 use Rattle.vcp_core.proofs.HonestRuns.{honest_runs}
 use Rattle.vcp_core.proofs.RunTurns.{appends_nothing}
 use Rattle.vcp_core.proofs.Means.{run_means}
 use Rattle.vcp_core.proofs.ProgramLinks.{all_below, operations_linked}
 
 -- all that is told around the program
-abbrev pub ended_of : Around → Option (List ℕ) → Option (List ℕ) → ℕ → ℕ → ℕ → ℕ → ℕ → Ended
+abbrev pub ended_of : BeforeAndAfter → Option (List ℕ) → Option (List ℕ) → ℕ → ℕ → ℕ → ℕ → ℕ → Ended
 ended_of s err_old err_new f g b n status = record {
   log_old = s.log_old;
   log_new = s.log_new;
@@ -48,7 +48,7 @@ status_is ops (end.Stopped k why) = refl
 status_is ops (end.Refused number found wanted) = refl
 
 -- with an honest unit the run that is read off the answers is the one that is meant
-run_honest : (task : Task) (s : Around) (e : CycleEnd) (t : RunsTask task s (Ok e)) → s.wrong_new ≡ s.wrong_old → s.wrong_old < 2 ^ 64 - 1 → run_read task t.run.cycles ≡ run_meant task
+run_honest : (task : Task) (s : BeforeAndAfter) (e : CycleEnd) (t : RunsTask task s (Ok e)) → s.wrong_new ≡ s.wrong_old → s.wrong_old < 2 ^ 64 - 1 → run_read task t.run.cycles ≡ run_meant task
 run_honest task s e t same small =
     let run = t.run in
     rw t.task_is
@@ -62,7 +62,7 @@ part_front : (old new : Option (List ℕ)) (bytes : List ℕ) → AppendsPart ol
 part_front old new bytes (front, rest, is, some, w) = (front, rest, is, w)
 
 -- the cycles were run to the end
-pub ends_well : (task : Task) (words : List (List ℕ)) (s : Around) (e : CycleEnd) (err : Option (List ℕ)) (f b n : ℕ) → RunsTask task s (Ok e) → Appends err err [] → Ends task words (ended_of s err err f f b n (cycle_status e))
+pub ends_well : (task : Task) (words : List (List ℕ)) (s : BeforeAndAfter) (e : CycleEnd) (err : Option (List ℕ)) (f b n : ℕ) → RunsTask task s (Ok e) → Appends err err [] → Ends task words (ended_of s err err f f b n (cycle_status e))
 ends_well task words s e err f b n t nothing = answers (record {
   cycles = t.run.cycles;
   all = rw t.task_is t.run.finished;
@@ -74,7 +74,7 @@ ends_well task words s e err f b n t nothing = answers (record {
 })
 
 -- a task that comes to no run: its line was printed
-refused : (task : Task) (words : List (List ℕ)) (text : List ℕ) (code : ℕ) (s : Around) (err_old err_new : Option (List ℕ)) (f g b n : ℕ) → Untouched s → AllAnswers task [] → calls_of task [] ≡ [] → run_read task [] ≡ run_meant task →
+refused : (task : Task) (words : List (List ℕ)) (text : List ℕ) (code : ℕ) (s : BeforeAndAfter) (err_old err_new : Option (List ℕ)) (f g b n : ℕ) → Untouched s → AllAnswers task [] → calls_of task [] ≡ [] → run_read task [] ≡ run_meant task →
     answer_of task (run_read task []) ≡ record { out = []; err = text; status = code } → Appends err_old err_new text → Ends task words (ended_of s err_old err_new f g b n code)
 refused task words text code s err_old err_new f g b n u none calls means is w = answers (record {
   cycles = [];
@@ -91,68 +91,68 @@ file_word words source rows word.Source p q = inl p
 file_word words source rows word.Rows p q = inr q
 
 -- the line of the fault was printed
-pub ends_told : (task : Task) (words : List (List ℕ)) (source rows : List ℕ) (s : Around) (ft : Fault) (err_old err_new : Option (List ℕ)) (f g b n : ℕ) → source ≡ first_name words → rows ≡ second_name words →
+pub ends_told : (task : Task) (words : List (List ℕ)) (source rows : List ℕ) (s : BeforeAndAfter) (ft : Fault) (err_old err_new : Option (List ℕ)) (f g b n : ℕ) → source ≡ first_name words → rows ≡ second_name words →
     Reaches task source rows s b n (Err ft) → (ft ≡ fault.Write → Rose s.out_faults_old s.out_faults_new) → Appends err_old err_new (fault_line source rows ft) →
     Ends task words (ended_of s err_old err_new f g b n (fault_status ft))
 ends_told task words source rows s (fault.Read v) err_old err_new f g b n p q (u, inl is) rose w =
     rw is (refused (lacks (name_of source rows v)) words (read_fault_text (name_of source rows v)) 5 s err_old err_new f g b n u refl refl refl refl w)
 ends_told task words source rows s (fault.Read v) err_old err_new f g b n p q (u, inr broke) rose w =
-    breaks (record { status = refl; rose = broke; name = name_of source rows v; name_is = file_word words source rows v p q; log = u.log; out = u.out; err = w })
+    files_failed (record { status = refl; rose = broke; name = name_of source rows v; name_is = file_word words source rows v p q; log = u.log; out = u.out; err = w })
 ends_told task words source rows s (fault.TooLong v) err_old err_new f g b n p q (u, is) rose w =
     rw is (refused (refuses (bytes_text (name_of source rows v))) words (bytes_text (name_of source rows v)) 1 s err_old err_new f g b n u refl refl refl refl w)
 ends_told task words source rows s (fault.Unbuilt v) err_old err_new f g b n p q (u, is) rose w =
     rw is (refused (refuses (unbuilt_text (name_of source rows v))) words (unbuilt_text (name_of source rows v)) 1 s err_old err_new f g b n u refl refl refl refl w)
 ends_told task words source rows s fault.Write err_old err_new f g b n p q (why, t) rose w =
-    loses_out (record { status = refl; rose = rose refl; cycles = t.run.cycles; some = rw t.task_is t.run.begun; log = rw t.task_is t.run.carries.told; out = rw t.task_is t.run.wrote.part; err = whole_front _ _ _ w })
+    output_failed (record { status = refl; rose = rose refl; cycles = t.run.cycles; some = rw t.task_is t.run.begun; log = rw t.task_is t.run.carries.told; out = rw t.task_is t.run.wrote.part; err = whole_front _ _ _ w })
 ends_told task words source rows s fault.Memory err_old err_new f g b n p q u rose w = no_memory (record { status = refl; log = u.log; out = u.out; err = w })
 
 -- the line of a task that comes to no run could not be printed
-lost : (task : Task) (words : List (List ℕ)) (text : List ℕ) (code : ℕ) (s : Around) (err_old err_new : Option (List ℕ)) (f g b n : ℕ) → Untouched s →
+lost : (task : Task) (words : List (List ℕ)) (text : List ℕ) (code : ℕ) (s : BeforeAndAfter) (err_old err_new : Option (List ℕ)) (f g b n : ℕ) → Untouched s →
     answer_of task (run_read task []) ≡ record { out = []; err = text; status = code } → AppendsPart err_old err_new text → Rose f g → Ends task words (ended_of s err_old err_new f g b n 6)
 lost task words text code s err_old err_new f g b n u is part rose =
-    loses_err (record { status = refl; rose = rose; line = text; line_is = inl (sym (ap (λ (a : Answer). a.err) is)); log = u.log; out = u.out; err = part })
+    errors_failed (record { status = refl; rose = rose; line = text; line_is = inl (sym (ap (λ (a : Answer). a.err) is)); log = u.log; out = u.out; err = part })
 
 -- the line of the fault could not be printed
-pub ends_untold : (task : Task) (words : List (List ℕ)) (source rows : List ℕ) (s : Around) (ft : Fault) (err_old err_new : Option (List ℕ)) (f g b n : ℕ) → source ≡ first_name words → rows ≡ second_name words →
+pub ends_untold : (task : Task) (words : List (List ℕ)) (source rows : List ℕ) (s : BeforeAndAfter) (ft : Fault) (err_old err_new : Option (List ℕ)) (f g b n : ℕ) → source ≡ first_name words → rows ≡ second_name words →
     Reaches task source rows s b n (Err ft) → (ft ≡ fault.Write → Rose s.out_faults_old s.out_faults_new) → AppendsPart err_old err_new (fault_line source rows ft) → Rose f g →
     Ends task words (ended_of s err_old err_new f g b n 6)
 ends_untold task words source rows s (fault.Read v) err_old err_new f g b n p q (u, inl is) wrote part rose =
     rw is (lost (lacks (name_of source rows v)) words (read_fault_text (name_of source rows v)) 5 s err_old err_new f g b n u refl part rose)
 ends_untold task words source rows s (fault.Read v) err_old err_new f g b n p q (u, inr broke) wrote part rose =
-    loses_err (record { status = refl; rose = rose; line = read_fault_text (name_of source rows v); line_is = inr (inl (broke, (name_of source rows v, file_word words source rows v p q, refl))); log = u.log; out = u.out; err = part })
+    errors_failed (record { status = refl; rose = rose; line = read_fault_text (name_of source rows v); line_is = inr (inl (broke, (name_of source rows v, file_word words source rows v p q, refl))); log = u.log; out = u.out; err = part })
 ends_untold task words source rows s (fault.TooLong v) err_old err_new f g b n p q (u, is) wrote part rose =
     rw is (lost (refuses (bytes_text (name_of source rows v))) words (bytes_text (name_of source rows v)) 1 s err_old err_new f g b n u refl part rose)
 ends_untold task words source rows s (fault.Unbuilt v) err_old err_new f g b n p q (u, is) wrote part rose =
     rw is (lost (refuses (unbuilt_text (name_of source rows v))) words (unbuilt_text (name_of source rows v)) 1 s err_old err_new f g b n u refl part rose)
 ends_untold task words source rows s fault.Write err_old err_new f g b n p q (why, t) wrote part rose =
-    loses_out (record { status = refl; rose = wrote refl; cycles = t.run.cycles; some = rw t.task_is t.run.begun; log = rw t.task_is t.run.carries.told; out = rw t.task_is t.run.wrote.part; err = part_front _ _ _ part })
+    output_failed (record { status = refl; rose = wrote refl; cycles = t.run.cycles; some = rw t.task_is t.run.begun; log = rw t.task_is t.run.carries.told; out = rw t.task_is t.run.wrote.part; err = part_front _ _ _ part })
 ends_untold task words source rows s fault.Memory err_old err_new f g b n p q u wrote part rose =
-    loses_err (record { status = refl; rose = rose; line = memory_text; line_is = inr (inr refl); log = u.log; out = u.out; err = part })
+    errors_failed (record { status = refl; rose = rose; line = memory_text; line_is = inr (inr refl); log = u.log; out = u.out; err = part })
 
 -- the task of the words `run P ROWS`
 task_is : (words : List (List ℕ)) (source rows : List ℕ) (held : Held) → is_run words ≡ true → source ≡ first_name words → rows ≡ second_name words → task_of words held ≡ run_task source rows held
 task_is words source rows held form p q = rw (form, p, q) refl
 
 -- the usage line could not be printed
-pub usage_lost : (words : List (List ℕ)) (held : Held) (s : Around) (err_old err_new : Option (List ℕ)) (f g b n : ℕ) → is_run words ≡ false → Untouched s → AppendsPart err_old err_new usage_text → Rose f g →
+pub usage_lost : (words : List (List ℕ)) (held : Held) (s : BeforeAndAfter) (err_old err_new : Option (List ℕ)) (f g b n : ℕ) → is_run words ≡ false → Untouched s → AppendsPart err_old err_new usage_text → Rose f g →
     Ends (task_of words held) words (ended_of s err_old err_new f g b n 6)
 usage_lost words held s err_old err_new f g b n form u part rose = rw form (lost usage words usage_text 4 s err_old err_new f g b n u refl part rose)
 
 -- the command came to the end of its cycles
-pub command_ends : (words : List (List ℕ)) (source rows : List ℕ) (held : Held) (s : Around) (e : CycleEnd) (err : Option (List ℕ)) (f b n : ℕ) → is_run words ≡ true → source ≡ first_name words → rows ≡ second_name words →
+pub command_ends : (words : List (List ℕ)) (source rows : List ℕ) (held : Held) (s : BeforeAndAfter) (e : CycleEnd) (err : Option (List ℕ)) (f b n : ℕ) → is_run words ≡ true → source ≡ first_name words → rows ≡ second_name words →
     Reaches (run_task source rows held) source rows s b n (Ok e) → Ends (task_of words held) words (ended_of s err err f f b n (cycle_status e))
 command_ends words source rows held s e err f b n form p q reach =
     rw (task_is words source rows held form p q) (ends_well (run_task source rows held) words s e err f b n reach (appends_nothing err))
 
 -- the command ended by a fault, whose line was printed
-pub command_told : (words : List (List ℕ)) (source rows : List ℕ) (held : Held) (s : Around) (ft : Fault) (err_old err_new : Option (List ℕ)) (f g b n : ℕ) → is_run words ≡ true → source ≡ first_name words → rows ≡ second_name words →
+pub command_told : (words : List (List ℕ)) (source rows : List ℕ) (held : Held) (s : BeforeAndAfter) (ft : Fault) (err_old err_new : Option (List ℕ)) (f g b n : ℕ) → is_run words ≡ true → source ≡ first_name words → rows ≡ second_name words →
     Reaches (run_task source rows held) source rows s b n (Err ft) → (ft ≡ fault.Write → Rose s.out_faults_old s.out_faults_new) → Appends err_old err_new (fault_line source rows ft) →
     Ends (task_of words held) words (ended_of s err_old err_new f g b n (fault_status ft))
 command_told words source rows held s ft err_old err_new f g b n form p q reach rose w =
     rw (task_is words source rows held form p q) (ends_told (run_task source rows held) words source rows s ft err_old err_new f g b n p q reach rose w)
 
 -- the command ended by a fault, whose line could not be printed
-pub command_untold : (words : List (List ℕ)) (source rows : List ℕ) (held : Held) (s : Around) (ft : Fault) (err_old err_new : Option (List ℕ)) (f g b n : ℕ) → is_run words ≡ true → source ≡ first_name words → rows ≡ second_name words →
+pub command_untold : (words : List (List ℕ)) (source rows : List ℕ) (held : Held) (s : BeforeAndAfter) (ft : Fault) (err_old err_new : Option (List ℕ)) (f g b n : ℕ) → is_run words ≡ true → source ≡ first_name words → rows ≡ second_name words →
     Reaches (run_task source rows held) source rows s b n (Err ft) → (ft ≡ fault.Write → Rose s.out_faults_old s.out_faults_new) → AppendsPart err_old err_new (fault_line source rows ft) → Rose f g →
     Ends (task_of words held) words (ended_of s err_old err_new f g b n 6)
 command_untold words source rows held s ft err_old err_new f g b n form p q reach wrote part rose =

@@ -13,7 +13,7 @@ use Rattle.vcp_core.specs.CycleEnds.{cycle_of}
 use Rattle.vcp_core.specs.GraphRun.{outcomes_from, stop_among, values_out, stop_or_row, cycle_on, graph_run}
 use Rattle.vcp_core.specs.Honest.{Linked}
 use Rattle.vcp_core.specs.Log.{setting_at, calls_over, run_of_answers, unless_ended, AllCycles}
-use Rattle.vcp_core.specs.Runs.{Run, Cycle, released, ends, complete, refused, followed_by}
+use Rattle.vcp_core.specs.Runs.{Run, Cycle, released, ends, refused, followed_by}
 use Rattle.vcp_core.specs.Signatures.{expected}
 use Rattle.vcp_core.proofs.HonestCycle.{honest_cycle}
 use Rattle.vcp_core.proofs.HonestRun.{honest_run}

@@ -1,21 +1,24 @@
 -- Worked rows, computed by the definitions alone.
-use Rattle.std.proofs.Common.{◌≡◌, refl, List, [], ◌∷◌, Some, None, pos, negsuc, codes}
+use Rattle.std.proofs.Common.{◌≡◌, cond, refl, List, [], ◌∷◌, map, Some, None, pos, negsuc, codes, bytes_eq}
 use Rattle.std.specs.Fmt.{digits}
 use Rattle.vcp_base.specs.declared.kind.Kind.TheVariants as kind
 use Rattle.vcp_base.specs.declared.kind.StopKind.TheVariants as stop
 use Rattle.vcp_base.specs.declared.ty.Ty.TheVariants as ty
 use Rattle.coded_unit.specs.declared.call.Answer.{Answer}
 use Rattle.coded_unit.specs.declared.call.Answer.TheVariants as answer
+use Rattle.coded_unit.specs.Log.{Entry}
 use Rattle.coded_unit.specs.Right.{Right}
 use Rattle.coded_unit.specs.Words.{modulo, value_part, coded}
+use Rattle.vcp_outside.specs.Held.{Held}
 use Rattle.vcp_core.specs.declared.operation.Op.{Op}
 use Rattle.vcp_core.specs.declared.program.Term.{Term}
 use Rattle.vcp_core.specs.declared.program.Sign.TheVariants.{Plus}
 use Rattle.vcp_core.specs.declared.program.Operand.TheVariants as operand
+use Rattle.vcp_core.specs.Answers.{usage, lacks, refuses, task_of}
 use Rattle.vcp_core.specs.Calls.{call_of}
 use Rattle.vcp_core.specs.GraphRun.{graph_run}
 use Rattle.vcp_core.specs.Lines.{run_text}
-use Rattle.vcp_core.specs.Log.{setting_at, run_of_answers}
+use Rattle.vcp_core.specs.Log.{setting_at, calls_over, run_of_answers}
 use Rattle.vcp_core.specs.Meaning.{source_run}
 use Rattle.vcp_core.specs.Operations.{operations, spot}
 use Rattle.vcp_core.specs.RowsFile.{rows_of}
@@ -79,3 +82,38 @@ printed_stop = refl
 answers_refused : run_of_answers 305419896 1 (operations plus_one) 0 ((answer.Word (pos 11042838132) ∷ answer.Word (pos 2667651909) ∷ answer.Word (pos 13619818509) ∷ answer.Word (pos 12884901887) ∷ []) ∷ []) ≡ record { rows = []; end = refused 0 5 949664992 }
 unfolding signature modulo value_part
 answers_refused = refl
+
+-- the answers in the next cycle, on 6: each residue is 1 greater
+abbrev next_answers : List Answer
+next_answers = answer.Word (pos 13190321780) ∷ answer.Word (pos 2667651910) ∷ answer.Word (pos 15767302157) ∷ answer.Word (pos 15982050522) ∷ []
+
+two_cycles : run_of_answers 305419896 1 (operations plus_one) 0 (four_answers ∷ next_answers ∷ []) ≡ record { rows = (pos 6 ∷ []) ∷ (pos 7 ∷ []) ∷ []; end = complete }
+unfolding signature modulo value_part
+two_cycles = refl
+
+-- the first cycle's answers once more in the second: the stale word is refused
+stale_is_refused : run_of_answers 305419896 1 (operations plus_one) 0 (four_answers ∷ four_answers ∷ []) ≡ record { rows = (pos 6 ∷ []) ∷ []; end = refused 0 949664992 949664993 }
+unfolding signature modulo value_part
+stale_is_refused = refl
+
+-- the stamps of the calls, and the inputs' values
+two_cycles_are_called : map (λ (e : Entry). e.0.stamp) (calls_over 305419896 1 (operations plus_one) 0 ((pos 5 ∷ []) ∷ (pos 6 ∷ []) ∷ []) (four_answers ∷ next_answers ∷ [])) ≡ 1 ∷ 1 ∷ 1 ∷ 1 ∷ 2 ∷ 2 ∷ 2 ∷ 2 ∷ []
+unfolding signature modulo
+two_cycles_are_called = refl
+
+inputs_are_called : map (λ (e : Entry). e.0.imm) (calls_over 305419896 1 (operations plus_one) 0 ((pos 5 ∷ []) ∷ (pos 6 ∷ []) ∷ []) (four_answers ∷ next_answers ∷ [])) ≡ pos 5 ∷ pos 1 ∷ pos 0 ∷ pos 0 ∷ pos 6 ∷ pos 1 ∷ pos 0 ∷ pos 0 ∷ []
+unfolding signature modulo
+inputs_are_called = refl
+
+-- rows are held under `r`, and nothing else
+abbrev only_rows : Held
+only_rows name = cond (bytes_eq name (codes "r")) (Some (codes "x\n")) None
+
+words_without_rows : task_of (codes "run" ∷ codes "p" ∷ []) only_rows ≡ usage
+words_without_rows = refl
+
+source_is_lacking : task_of (codes "run" ∷ codes "p" ∷ codes "r" ∷ []) only_rows ≡ lacks (codes "p")
+source_is_lacking = refl
+
+source_is_refused : task_of (codes "run" ∷ codes "r" ∷ codes "r" ∷ []) only_rows ≡ refuses (codes "r N1 Unbuilt\n")
+source_is_refused = refl

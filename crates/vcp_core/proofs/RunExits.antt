@@ -1,5 +1,5 @@
 -- How the loop over the cycles is left.
-use Rattle.std.proofs.Common.{ℕ, ◌+◌, ◌<◌, ◌≤◌, ◌≡◌, refl, sym, ap, ◌∙◌, List, [], ◌∷◌, ◌++◌, length, append-nil, map, arith, Option, Ok, Err, ℤ}
+use Rattle.std.proofs.Common.{ℕ, ◌<◌, ◌≡◌, refl, sym, ap, ◌∙◌, List, [], ◌∷◌, ◌++◌, length, append-nil, map, arith, Option, Ok, Err, ℤ}
 use Rattle.std.proofs.lemmas.List.{length-map}
 use Rattle.coded_unit.specs.declared.call.Answer.{Answer}
 use Rattle.coded_unit.specs.Log.{Entry}
@@ -11,7 +11,7 @@ use Rattle.vcp_core.specs.declared.cycle_end.CycleEnd.{CycleEnd}
 use Rattle.vcp_core.specs.declared.cycle_end.CycleEnd.TheVariants as end
 use Rattle.vcp_core.specs.Carries.{RunsOver, cycle_text, body_text, ends_as}
 use Rattle.vcp_core.specs.CycleEnds.{outputs, cycle_at, cycle_of}
-use Rattle.vcp_core.specs.Going.{AllReleased, Going}
+use Rattle.vcp_core.specs.RunSoFar.{AllReleased, RunSoFar}
 use Rattle.vcp_core.specs.Lines.{rows_text, end_text}
 use Rattle.vcp_core.specs.Log.{run_of_answers}
 use Rattle.vcp_core.specs.Runs.{Run, End, ends, complete}
@@ -20,7 +20,7 @@ use Rattle.vcp_core.proofs.RunTurns.{Turned, next_row, cycle_is, more, run_with,
 
 -- a cycle was carried, and its line could not be printed
 pub turn_fails : (names : List (List ℕ)) (seed step : ℕ) (ops : List Op) (rows before left : List (List ℤ)) (count : ℕ) (x y z : Option (List Entry)) (m n o : ℕ) (old mid new : Option (List ℕ)) (f g h : ℕ)
-    (row : List ℤ) (answers : List Answer) (outs : List ℤ) (e : CycleEnd) (why : Failed) → Going seed step ops rows before count x y m n old mid f g → before ≡ row ∷ left →
+    (row : List ℤ) (answers : List Answer) (outs : List ℤ) (e : CycleEnd) (why : Failed) → RunSoFar seed step ops rows before count x y m n old mid f g → before ≡ row ∷ left →
     Turned seed step ops count row answers outs e y z n o →
     Writes {T = Unit {0}} mid new g h (cycle_text names count (cycle_at ops outs e)) (Err why) →
     RunsOver seed step ops (body_text names) rows x z m o old new f h (Err why)
@@ -46,7 +46,7 @@ run_ended ops cycles e = record { rows = map (outputs ops) cycles; end = e }
 
 -- a cycle ended the run so
 ended_by : (names : List (List ℕ)) (seed step : ℕ) (ops : List Op) (rows before left : List (List ℤ)) (count : ℕ) (x y z : Option (List Entry)) (m n o : ℕ) (old mid new : Option (List ℕ)) (f g h : ℕ)
-    (row : List ℤ) (answers : List Answer) (outs : List ℤ) (e : CycleEnd) (final : End) → Going seed step ops rows before count x y m n old mid f g → before ≡ row ∷ left →
+    (row : List ℤ) (answers : List Answer) (outs : List ℤ) (e : CycleEnd) (final : End) → RunSoFar seed step ops rows before count x y m n old mid f g → before ≡ row ∷ left →
     Turned seed step ops count row answers outs e y z n o → cycle_at ops outs e ≡ ends final → ends_as ops e ≡ final →
     Writes {T = Unit {0}} {E = Failed} mid new g h (cycle_text names count (cycle_at ops outs e)) (Ok tt) →
     RunsOver seed step ops (body_text names) rows x z m o old new f h (Ok e)
@@ -76,7 +76,7 @@ ended_by names seed step ops rows before left count x y z m n o old mid new f g 
 
 -- a cycle ended the run, and its line was printed
 pub turn_ends : (names : List (List ℕ)) (seed step : ℕ) (ops : List Op) (rows before left : List (List ℤ)) (count : ℕ) (x y z : Option (List Entry)) (m n o : ℕ) (old mid new : Option (List ℕ)) (f g h : ℕ)
-    (row : List ℤ) (answers : List Answer) (outs : List ℤ) (e : CycleEnd) → Going seed step ops rows before count x y m n old mid f g → before ≡ row ∷ left →
+    (row : List ℤ) (answers : List Answer) (outs : List ℤ) (e : CycleEnd) → RunSoFar seed step ops rows before count x y m n old mid f g → before ≡ row ∷ left →
     Turned seed step ops count row answers outs e y z n o → (e ≡ end.Released → ⊥) →
     Writes {T = Unit {0}} {E = Failed} mid new g h (cycle_text names count (cycle_at ops outs e)) (Ok tt) →
     RunsOver seed step ops (body_text names) rows x z m o old new f h (Ok e)
@@ -100,7 +100,7 @@ body_so names seed step ops count cycles many all =
 
 -- the rows ended, and the last line was printed
 pub rows_end : (names : List (List ℕ)) (seed step : ℕ) (ops : List Op) (rows before : List (List ℤ)) (count : ℕ) (x y : Option (List Entry)) (m n : ℕ) (old mid new : Option (List ℕ)) (f g h : ℕ) →
-    Going seed step ops rows before count x y m n old mid f g → before ≡ [] →
+    RunSoFar seed step ops rows before count x y m n old mid f g → before ≡ [] →
     Writes {T = Unit {0}} {E = Failed} mid new g h (end_text count) (Ok tt) →
     RunsOver seed step ops (body_text names) rows x y m n old new f h (Ok end.Released)
 rows_end names seed step ops rows before count x y m n old mid new f g h going none w =
@@ -119,7 +119,7 @@ rows_end names seed step ops rows before count x y m n old mid new f g h going n
 
 -- the rows ended, and the last line could not be printed
 pub rows_end_fails : (names : List (List ℕ)) (seed step : ℕ) (ops : List Op) (rows before : List (List ℤ)) (count : ℕ) (x y : Option (List Entry)) (m n : ℕ) (old mid new : Option (List ℕ)) (f g h : ℕ) (why : Failed) →
-    Going seed step ops rows before count x y m n old mid f g →
+    RunSoFar seed step ops rows before count x y m n old mid f g →
     Writes {T = Unit {0}} mid new g h (end_text count) (Err why) →
     RunsOver seed step ops (body_text names) rows x y m n old new f h (Err why)
 rows_end_fails names seed step ops rows before count x y m n old mid new f g h why going w =

@@ -7,7 +7,7 @@ use Rattle.vcp_core.specs.Calls.{CallsOf, Whole, AllRight}
 use Rattle.vcp_core.specs.Carried.{Carried}
 use Rattle.vcp_core.specs.Carries.{Carries, cycle_text, body_text}
 use Rattle.vcp_core.specs.CycleEnds.{outputs, cycle_of}
-use Rattle.vcp_core.specs.Going.{AllReleased}
+use Rattle.vcp_core.specs.RunSoFar.{AllReleased}
 use Rattle.vcp_core.specs.Lines.{row_text, rows_text, last_text, end_text}
 use Rattle.vcp_core.specs.Log.{setting_at, calls_over, run_of_answers, unless_ended, AllCycles, SomeCycles}
 use Rattle.vcp_core.specs.Runs.{Run, End, Cycle, released, ends, complete, followed_by}

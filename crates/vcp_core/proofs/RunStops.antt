@@ -1,5 +1,5 @@
 -- A run that stops has an entry that stops it.
-use Rattle.std.proofs.Common.{ℕ, suc, ◌≡◌, ◌⊎◌, inl, inr, Bool, true, false, cond, refl, sym, ap, ◌∙◌, List, [], ◌∷◌, ◌++◌, Option, Some, None, ℤ}
+use Rattle.std.proofs.Common.{ℕ, suc, ◌≡◌, ◌⊎◌, inl, inr, Bool, true, false, cond, refl, ap, List, [], ◌∷◌, ◌++◌, Option, Some, None, ℤ}
 use Rattle.vcp_base.specs.declared.kind.StopKind.{StopKind}
 use Rattle.vcp_base.specs.declared.spot.Spot.{Spot}
 use Rattle.vcp_base.specs.Types.{fits}
@@ -11,7 +11,7 @@ use Rattle.vcp_core.specs.declared.operation.Op.{Op}
 use Rattle.vcp_core.specs.declared.cycle_end.CycleEnd.{CycleEnd}
 use Rattle.vcp_core.specs.declared.cycle_end.CycleEnd.TheVariants as end
 use Rattle.vcp_core.specs.Calls.{Setting, calls_from, CallsOf, Whole, word_of}
-use Rattle.vcp_core.specs.CycleEnds.{is_out, first_stop, first_outside, first_refused, end_or, end_of, outputs, cycle_at, cycle_of}
+use Rattle.vcp_core.specs.CycleEnds.{is_out, first_stop, first_outside, first_refused, end_or, end_of, outputs, cycle_at}
 use Rattle.vcp_core.specs.Log.{setting_at, calls_over, run_of_answers, unless_ended, SomeCycles}
 use Rattle.vcp_core.specs.Runs.{Run, stopped, followed_by}
 use Rattle.vcp_core.specs.Signatures.{expected}

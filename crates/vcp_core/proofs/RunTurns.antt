@@ -14,7 +14,7 @@ use Rattle.vcp_core.specs.Calls.{Whole}
 use Rattle.vcp_core.specs.Carried.{Carried}
 use Rattle.vcp_core.specs.Carries.{Carries, cycle_text, body_text}
 use Rattle.vcp_core.specs.CycleEnds.{end_of, outputs, cycle_at, cycle_of}
-use Rattle.vcp_core.specs.Going.{AllReleased, Going}
+use Rattle.vcp_core.specs.RunSoFar.{AllReleased, RunSoFar}
 use Rattle.vcp_core.specs.Lines.{row_text, rows_text}
 use Rattle.vcp_core.specs.Log.{setting_at, run_of_answers}
 use Rattle.vcp_core.specs.Runs.{Run, Cycle, released, complete, followed_by}
@@ -60,7 +60,7 @@ next_row rows before left count row is rest taken =
 
 -- the cycles of a run between two cycles, and one more
 pub more : (seed step : ℕ) (ops : List Op) (rows before left : List (List ℤ)) (count : ℕ) (x y z : Option (List Entry)) (m n o : ℕ) (old mid : Option (List ℕ)) (f g : ℕ)
-    (row : List ℤ) (answers : List Answer) (outs : List ℤ) (e : CycleEnd) (going : Going seed step ops rows before count x y m n old mid f g) → before ≡ row ∷ left →
+    (row : List ℤ) (answers : List Answer) (outs : List ℤ) (e : CycleEnd) (going : RunSoFar seed step ops rows before count x y m n old mid f g) → before ≡ row ∷ left →
     Turned seed step ops count row answers outs e y z n o → Carries seed step ops rows (going.cycles ++ answers ∷ []) x z m o
 more seed step ops rows before left count x y z m n o old mid f g row answers outs e going taken t =
     let next = next_row rows before left count row going.left_is going.rest taken in
@@ -86,10 +86,10 @@ body_with names seed step ops count cycles answers many all =
 
 -- the loop goes on after a cycle whose outputs were released
 pub turn_next : (names : List (List ℕ)) (seed step : ℕ) (ops : List Op) (rows before left : List (List ℤ)) (count : ℕ) (x y z : Option (List Entry)) (m n o : ℕ) (old mid new : Option (List ℕ)) (f g h : ℕ)
-    (row : List ℤ) (answers : List Answer) (outs : List ℤ) (e : CycleEnd) → Going seed step ops rows before count x y m n old mid f g → before ≡ row ∷ left →
+    (row : List ℤ) (answers : List Answer) (outs : List ℤ) (e : CycleEnd) → RunSoFar seed step ops rows before count x y m n old mid f g → before ≡ row ∷ left →
     Turned seed step ops count row answers outs e y z n o → e ≡ end.Released →
     Writes {T = Unit {0}} {E = Failed} mid new g h (cycle_text names count (cycle_at ops outs e)) (Ok tt) →
-    Going seed step ops rows left (count + 1) x z m o old new f h
+    RunSoFar seed step ops rows left (count + 1) x z m o old new f h
 turn_next names seed step ops rows before left count x y z m n o old mid new f g h row answers outs e going taken t is w =
     let next = next_row rows before left count row going.left_is going.rest taken in
     let comes : cycle_of seed step count ops answers ≡ released (outputs ops answers) = sym (cycle_is seed step ops count row answers outs e y z n o t) ∙ ap (cycle_at ops outs) is ∙ ap released (t.row_is is) in
@@ -117,7 +117,7 @@ appends_nothing None = tt
 appends_nothing (Some bytes) = sym (append-nil bytes)
 
 -- before the first cycle
-pub run_starts : (seed step : ℕ) (ops : List Op) (rows : List (List ℤ)) (x : Option (List Entry)) (m : ℕ) (old : Option (List ℕ)) (f : ℕ) → Going seed step ops rows rows 0 x x m m old old f f
+pub run_starts : (seed step : ℕ) (ops : List Op) (rows : List (List ℤ)) (x : Option (List Entry)) (m : ℕ) (old : Option (List ℕ)) (f : ℕ) → RunSoFar seed step ops rows rows 0 x x m m old old f f
 run_starts seed step ops rows x m old f = record {
   cycles = [];
   many = refl;

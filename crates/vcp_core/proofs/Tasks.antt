@@ -15,7 +15,7 @@ use Rattle.vcp_core.specs.Answers.{Task, lacks, refuses, runs, with_file, rows_t
 use Rattle.vcp_core.specs.CycleEnds.{spot_at}
 use Rattle.vcp_core.specs.Meaning.{TermsFit, RowsFit}
 use Rattle.vcp_core.specs.Operations.{operations}
-use Rattle.vcp_core.specs.Reach.{Around, Untouched, FileRead, TermsGiven, NoTerms, RunsTerms, RunsProgram, Reaches}
+use Rattle.vcp_core.specs.Reach.{BeforeAndAfter, Untouched, FileRead, TermsGiven, NoTerms, RunsTerms, RunsProgram, Reaches}
 use Rattle.vcp_core.specs.RowsFile.{rows_of}
 use Rattle.vcp_core.specs.Source.{terms_of}
 use Rattle.vcp_core.specs.Stops.{GrowsByStop}
@@ -63,7 +63,7 @@ pub untouched : (x : Option (List Entry)) (m : ℕ) (old : Option (List ℕ)) (f
 untouched x m old f = record { log = grows_by_none x; wrong = refl; out = appends_nothing old }
 
 -- the rows could not be read
-pub rows_unread : (source name : List ℕ) (terms : List Term) (b m n : ℕ) (held : Held) (f : Fault) (s : Around) → FileRead held name rows_limit word.Rows m n (Err f) → b ≤ m → Untouched s → Reaches (rows_file_task name terms held) source name s b n (Err f)
+pub rows_unread : (source name : List ℕ) (terms : List Term) (b m n : ℕ) (held : Held) (f : Fault) (s : BeforeAndAfter) → FileRead held name rows_limit word.Rows m n (Err f) → b ≤ m → Untouched s → Reaches (rows_file_task name terms held) source name s b n (Err f)
 rows_unread source name terms b m n held (fault.Read w) s (is, inl none) l u = rw is (u, inl (file_lacks name rows_limit _ held none))
 rows_unread source name terms b m n held (fault.Read w) s (is, inr rose) l u = (u, inr (omega (arith, rose)))
 rows_unread source name terms b m n held (fault.TooLong w) s (is, (bytes, found, long)) l u = rw is (u, file_long name rows_limit _ held bytes found long)
@@ -72,11 +72,11 @@ rows_unread source name terms b m n held fault.Write s h l u = absurd h
 rows_unread source name terms b m n held fault.Memory s h l u = u
 
 -- the rows don't have the form
-pub rows_unbuilt : (source name bytes : List ℕ) (terms : List Term) (b m n : ℕ) (held : Held) (s : Around) → FileRead held name rows_limit word.Rows m n (Ok bytes) → rows_of bytes ≡ None → Untouched s → Reaches (rows_file_task name terms held) source name s b n (Err (fault.Unbuilt word.Rows))
+pub rows_unbuilt : (source name bytes : List ℕ) (terms : List Term) (b m n : ℕ) (held : Held) (s : BeforeAndAfter) → FileRead held name rows_limit word.Rows m n (Ok bytes) → rows_of bytes ≡ None → Untouched s → Reaches (rows_file_task name terms held) source name s b n (Err (fault.Unbuilt word.Rows))
 rows_unbuilt source name bytes terms b m n held s read is u =
     (u, file_reads name rows_limit (λ bs. rows_task name terms (rows_of bs)) held bytes read.0 read.1 ∙ ap (rows_task name terms) is)
 
-by_result : (source name : List ℕ) (terms : List Term) (rows : List (List ℤ)) (b n : ℕ) (task : Task) (s : Around) (r : Result CycleEnd Fault) → task ≡ runs terms rows → TermsFit terms → RowsFit rows → length rows ≤ 1000000 →
+by_result : (source name : List ℕ) (terms : List Term) (rows : List (List ℤ)) (b n : ℕ) (task : Task) (s : BeforeAndAfter) (r : Result CycleEnd Fault) → task ≡ runs terms rows → TermsFit terms → RowsFit rows → length rows ≤ 1000000 →
     RunsProgram terms rows s r → Reaches task source name s b n r
 by_result source name terms rows b n task s (Ok e) is fit held few run = record { terms = terms; rows = rows; task_is = is; terms_fit = fit; rows_fit = held; few = few; run = run }
 by_result source name terms rows b n task s (Err fault.Write) is fit held few (why, run) = (why, record { terms = terms; rows = rows; task_is = is; terms_fit = fit; rows_fit = held; few = few; run = run })
@@ -86,7 +86,7 @@ by_result source name terms rows b n task s (Err (fault.TooLong w)) is fit held 
 by_result source name terms rows b n task s (Err (fault.Unbuilt w)) is fit held few run = absurd run
 
 -- the program was run on the rows
-pub program_runs : (source name bytes : List ℕ) (terms : List Term) (rows : List (List ℤ)) (b m n : ℕ) (held : Held) (s : Around) (r : Result CycleEnd Fault) → TermsFit terms → FileRead held name rows_limit word.Rows m n (Ok bytes) → rows_of bytes ≡ Some rows →
+pub program_runs : (source name bytes : List ℕ) (terms : List Term) (rows : List (List ℤ)) (b m n : ℕ) (held : Held) (s : BeforeAndAfter) (r : Result CycleEnd Fault) → TermsFit terms → FileRead held name rows_limit word.Rows m n (Ok bytes) → rows_of bytes ≡ Some rows →
     RunsProgram terms rows s r → Reaches (rows_file_task name terms held) source name s b n r
 program_runs source name bytes terms rows b m n held s r fit read is run =
     let given = rows_given bytes rows is in
@@ -94,27 +94,27 @@ program_runs source name bytes terms rows b m n held s r fit read is run =
     by_result source name terms rows b n (rows_file_task name terms held) s r task fit given.fit given.few run
 
 -- a run whose output was refused had a wrong answer
-refused_cause : (terms : List Term) (rows : List (List ℤ)) (s : Around) (number found wanted : ℕ) → length rows ≤ 1000000 → RunsTerms terms rows s (Ok (end.Refused number found wanted)) → Rose s.wrong_old s.wrong_new
+refused_cause : (terms : List Term) (rows : List (List ℤ)) (s : BeforeAndAfter) (number found wanted : ℕ) → length rows ≤ 1000000 → RunsTerms terms rows s (Ok (end.Refused number found wanted)) → Rose s.wrong_old s.wrong_new
 refused_cause terms rows s number found wanted few run =
     refused_rose default_seed default_step (operations terms) rows run.cycles s.log_old s.log_new s.wrong_old s.wrong_new number found wanted (all_below default_seed default_step (lit≤ tt)) (operations_linked terms) few run.carries run.finished (sym run.ended)
 
-pub program_refused : (terms : List Term) (rows : List (List ℤ)) (s : Around) (r : Result CycleEnd Fault) → length rows ≤ 1000000 → RunsProgram terms rows s r → (number found wanted : ℕ) → r ≡ Ok (end.Refused number found wanted) → Rose s.wrong_old s.wrong_new
+pub program_refused : (terms : List Term) (rows : List (List ℤ)) (s : BeforeAndAfter) (r : Result CycleEnd Fault) → length rows ≤ 1000000 → RunsProgram terms rows s r → (number found wanted : ℕ) → r ≡ Ok (end.Refused number found wanted) → Rose s.wrong_old s.wrong_new
 program_refused terms rows s (Ok e) few run number found wanted is =
     let same : e ≡ end.Refused number found wanted = cc in refused_cause terms rows s number found wanted few (rw same at run)
 program_refused terms rows s (Err f) few run number found wanted is = cc
 
 -- a run that stopped has an entry that stops it
-stopped_cause : (terms : List Term) (rows : List (List ℤ)) (s : Around) (k : ℕ) (why : StopKind) → RunsTerms terms rows s (Ok (end.Stopped k why)) → GrowsByStop s.log_old s.log_new
+stopped_cause : (terms : List Term) (rows : List (List ℤ)) (s : BeforeAndAfter) (k : ℕ) (why : StopKind) → RunsTerms terms rows s (Ok (end.Stopped k why)) → GrowsByStop s.log_old s.log_new
 stopped_cause terms rows s k why run =
     (_, run.carries.told, run_stops default_seed default_step (operations terms) 0 rows run.cycles why (spot_at (operations terms) k) run.begun (sym run.ended))
 
-pub program_stopped : (terms : List Term) (rows : List (List ℤ)) (s : Around) (r : Result CycleEnd Fault) → RunsProgram terms rows s r → (k : ℕ) (why : StopKind) → r ≡ Ok (end.Stopped k why) → GrowsByStop s.log_old s.log_new
+pub program_stopped : (terms : List Term) (rows : List (List ℤ)) (s : BeforeAndAfter) (r : Result CycleEnd Fault) → RunsProgram terms rows s r → (k : ℕ) (why : StopKind) → r ≡ Ok (end.Stopped k why) → GrowsByStop s.log_old s.log_new
 program_stopped terms rows s (Ok e) run k why is =
     let same : e ≡ end.Stopped k why = cc in stopped_cause terms rows s k why (rw same at run)
 program_stopped terms rows s (Err f) run k why is = cc
 
 -- what rose after a later moment rose after an earlier one
-from_later : (task : Task) (source rows : List ℕ) (s : Around) (b m n : ℕ) (r : Result CycleEnd Fault) → b ≤ m → Reaches task source rows s m n r → Reaches task source rows s b n r
+from_later : (task : Task) (source rows : List ℕ) (s : BeforeAndAfter) (b m n : ℕ) (r : Result CycleEnd Fault) → b ≤ m → Reaches task source rows s m n r → Reaches task source rows s b n r
 from_later task source rows s b m n (Ok e) l h = h
 from_later task source rows s b m n (Err (fault.Read w)) l (u, inl is) = (u, inl is)
 from_later task source rows s b m n (Err (fault.Read w)) l (u, inr rose) = (u, inr (omega (arith, rose)))
@@ -124,12 +124,12 @@ from_later task source rows s b m n (Err fault.Write) l h = h
 from_later task source rows s b m n (Err fault.Memory) l h = h
 
 -- the command goes on from the program to the rows
-pub source_goes_on : (source rows : List ℕ) (terms : List Term) (b m n : ℕ) (held : Held) (s : Around) (r : Result CycleEnd Fault) → TermsGiven held source terms → b ≤ m →
+pub source_goes_on : (source rows : List ℕ) (terms : List Term) (b m n : ℕ) (held : Held) (s : BeforeAndAfter) (r : Result CycleEnd Fault) → TermsGiven held source terms → b ≤ m →
     Reaches (rows_file_task rows terms held) source rows s m n r → Reaches (run_task source rows held) source rows s b n r
 source_goes_on source rows terms b m n held s r given l reach = rw (given rows) (from_later (rows_file_task rows terms held) source rows s b m n r l reach)
 
 -- there was no program
-pub source_ends : (source rows : List ℕ) (b n : ℕ) (held : Held) (s : Around) (f : Fault) → NoTerms held source b n f → Untouched s → Reaches (run_task source rows held) source rows s b n (Err f)
+pub source_ends : (source rows : List ℕ) (b n : ℕ) (held : Held) (s : BeforeAndAfter) (f : Fault) → NoTerms held source b n f → Untouched s → Reaches (run_task source rows held) source rows s b n (Err f)
 source_ends source rows b n held s (fault.Read w) (is, inl task) u = rw is (u, inl (task rows))
 source_ends source rows b n held s (fault.Read w) (is, inr rose) u = (u, inr rose)
 source_ends source rows b n held s (fault.TooLong w) (is, task) u = rw is (u, task rows)

@@ -16,26 +16,31 @@ use Rattle.vcp_core.specs.Source.{terms_of}
 abbrev pub usage_text : List ℕ
 usage_text = codes "usage: vcp check P, format P, plain P ROWS, run P ROWS CODE, compile P CODE, list M, exec M ROWS, trace M ROWS CYCLE, inject M ROWS F, audit M HORIZON or demo N\n"
 
--- the lines of faults, with the word of the file
+-- the line of a file that has more bytes than its limit; a file's line begins with its name
 abbrev pub bytes_text : List ℕ → List ℕ
 bytes_text name = name ++ codes " L1 Bytes\n"
 
+-- the line of a file that doesn't have the form
 abbrev pub unbuilt_text : List ℕ → List ℕ
 unbuilt_text name = name ++ codes " N1 Unbuilt\n"
 
+-- the line of a file that couldn't be read
 abbrev pub read_fault_text : List ℕ → List ℕ
 read_fault_text name = name ++ codes " read fault\n"
 
+-- the line where the sink of the output failed
 abbrev pub write_fault_text : List ℕ
 write_fault_text = codes "write fault\n"
 
+-- the line where memory was wanted
 abbrev pub memory_text : List ℕ
 memory_text = codes "no memory\n"
 
--- the most bytes of a source, and of a rows file
+-- the most bytes of a source
 abbrev pub source_limit : ℕ
 source_limit = 1048576
 
+-- the most bytes of a rows file
 abbrev pub rows_limit : ℕ
 rows_limit = 67108864
 
@@ -61,7 +66,7 @@ abbrev pub rows_task : List ℕ → List Term → Option (List (List ℤ)) → T
 rows_task name terms None = refuses (unbuilt_text name)
 rows_task name terms (Some rows) = runs terms rows
 
--- the program's run on the rows under this name
+-- the program's run on the rows under this name, or why there is none
 abbrev pub rows_file_task : List ℕ → List Term → Held → Task
 rows_file_task name terms held = with_file name rows_limit (λ bytes. rows_task name terms (rows_of bytes)) (held name)
 
@@ -75,11 +80,12 @@ abbrev pub is_run : List (List ℕ) → Bool
 is_run (command ∷ source ∷ rows ∷ []) = bytes_eq command (codes "run") && (is_file_name source && is_file_name rows)
 is_run _ = false
 
--- the word at a place
+-- the word after the command
 abbrev pub first_name : List (List ℕ) → List ℕ
 first_name (command ∷ source ∷ more) = source
 first_name _ = []
 
+-- the word after that
 abbrev pub second_name : List (List ℕ) → List ℕ
 second_name (command ∷ source ∷ rows ∷ more) = rows
 second_name _ = []
@@ -88,6 +94,7 @@ second_name _ = []
 abbrev pub run_task : List ℕ → List ℕ → Held → Task
 run_task source rows held = with_file source source_limit (λ bytes. source_task source rows held (terms_of bytes)) (held source)
 
+-- what words come to, where this is held: the run that they say, or the usage line where they are none of the forms
 abbrev pub task_of : List (List ℕ) → Held → Task
 task_of words held = cond (is_run words) (run_task (first_name words) (second_name words) held) usage
 
@@ -114,10 +121,11 @@ answer_of (lacks name) run = record { out = []; err = read_fault_text name; stat
 answer_of (refuses line) run = record { out = []; err = line; status = 1 }
 answer_of (runs terms rows) run = record { out = run_text output_names run; err = []; status = end_status run.end }
 
--- the code where the words give none
+-- the seed of the signatures where the words give none
 abbrev pub default_seed : ℕ
 default_seed = 305419896
 
+-- the step of the stamps where the words give none
 abbrev pub default_step : ℕ
 default_step = 1
 

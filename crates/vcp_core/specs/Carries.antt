@@ -1,5 +1,5 @@
 -- What carrying the cycles of a run through a unit leaves.
-use Rattle.std.specs.Prelude.{ℕ, ◌≡◌, ◌<◌, ◌≤◌, ◌-◌, ◌^◌, List, [], ◌∷◌, ◌++◌, length, Option, ℤ, Result, OnOk, IfOk}
+use Rattle.std.specs.Prelude.{ℕ, ◌≡◌, ◌<◌, ◌≤◌, ◌-◌, ◌^◌, List, ◌++◌, length, Option, ℤ, Result, OnOk, IfOk}
 use Rattle.coded_unit.specs.declared.call.Answer.{Answer}
 use Rattle.coded_unit.specs.Log.{Entry, GrowsBy}
 use Rattle.vcp_outside.specs.Written.{Writes}
@@ -14,7 +14,7 @@ use Rattle.vcp_core.specs.Log.{calls_over, run_of_answers, AllCycles, SomeCycles
 use Rattle.vcp_core.specs.Runs.{Run, End, Cycle, released, ends, complete, stopped, refused}
 
 -- The log grew by the calls of the cycles, one cycle a row, with their answers, and by nothing else; and no answer is
--- wrong where the count of wrong ones stayed below its last value.
+-- wrong where the count of wrong ones is the same and below its last value.
 pub record Carries (seed step : ℕ) (ops : List Op) (rows : List (List ℤ)) (cycles : List (List Answer)) (told_before told_now : Option (List Entry)) (wrong_before wrong_now : ℕ) : Type 0 where
   pub told : GrowsBy told_before told_now (calls_over seed step ops 0 rows cycles)
   pub never_falls : wrong_before ≤ wrong_now
@@ -35,7 +35,7 @@ ends_as ops end.Released = complete
 ends_as ops (end.Stopped k why) = stopped why (spot_at ops k)
 ends_as ops (end.Refused number found wanted) = refused number found wanted
 
--- A run over rows: cycles were carried, and what was printed is the text of the run that their answers say; where
+-- A run over rows: cycles were carried, and what was printed is the text of the run that is read off their answers; where
 -- nothing failed, the cycles are those of a whole run.
 pub record RunsOver (seed step : ℕ) (ops : List Op) (text : Run → List ℕ) (rows : List (List ℤ)) (told_before told_now : Option (List Entry)) (wrong_before wrong_now : ℕ)
     (old new : Option (List ℕ)) (faults_before faults_now : ℕ) (result : Result CycleEnd Failed) : Type 0 where

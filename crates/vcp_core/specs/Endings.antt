@@ -45,7 +45,7 @@ abbrev pub IsFileWord : List (List ℕ) → List ℕ → Type 0
 IsFileWord words name = (name ≡ first_name words) ⊎ (name ≡ second_name words)
 
 -- The files broke before the unit was called: nothing was written but the line of a read fault of one of the file words.
-pub record Breaks (words : List (List ℕ)) (e : Ended) : Type 0 where
+pub record FilesFailed (words : List (List ℕ)) (e : Ended) : Type 0 where
   pub status : e.status ≡ 5
   pub rose : Rose e.broken_old e.broken_new
   pub name : List ℕ
@@ -56,7 +56,7 @@ pub record Breaks (words : List (List ℕ)) (e : Ended) : Type 0 where
 
 -- The sink of the output failed: it has a proper front of what the run prints that is read off the answers so far, and
 -- the unit was asked nothing after them.
-pub record LosesOut (task : Task) (e : Ended) : Type 0 where
+pub record OutputFailed (task : Task) (e : Ended) : Type 0 where
   pub status : e.status ≡ 6
   pub rose : Rose e.out_faults_old e.out_faults_new
   pub cycles : List (List Given)
@@ -66,7 +66,7 @@ pub record LosesOut (task : Task) (e : Ended) : Type 0 where
   pub err : AppendsFront e.err_old e.err_new write_fault_text
 
 -- The sink of the errors failed in the line of the status that would else have come; the unit was not called.
-pub record LosesErr (task : Task) (words : List (List ℕ)) (e : Ended) : Type 0 where
+pub record ErrorsFailed (task : Task) (words : List (List ℕ)) (e : Ended) : Type 0 where
   pub status : e.status ≡ 6
   pub rose : Rose e.err_faults_old e.err_faults_new
   pub line : List ℕ
@@ -85,9 +85,9 @@ pub record NoMemory (e : Ended) : Type 0 where
 -- how the program ends
 pub data Ends (task : Task) (words : List (List ℕ)) (e : Ended) : Type 0 where
   answers : Answers task e → Ends task words e
-  breaks : Breaks words e → Ends task words e
-  loses_out : LosesOut task e → Ends task words e
-  loses_err : LosesErr task words e → Ends task words e
+  files_failed : FilesFailed words e → Ends task words e
+  output_failed : OutputFailed task e → Ends task words e
+  errors_failed : ErrorsFailed task words e → Ends task words e
   no_memory : NoMemory e → Ends task words e
 
 -- the status of a run whose last cycle ended so

@@ -44,6 +44,7 @@ values_out [] outcomes = []
 values_out (op ∷ ops) [] = []
 values_out (op ∷ ops) (o ∷ outcomes) = cond (is_out op.kind) (value_in o ∷ values_out ops outcomes) (values_out ops outcomes)
 
+-- a stop at its operation's place, or else the row of outputs
 abbrev pub stop_or_row : List Op → Option (ℕ × StopKind) → List ℤ → Cycle
 stop_or_row ops None row = released row
 stop_or_row ops (Some (k, why)) row = ends (stopped why (spot_at ops k))

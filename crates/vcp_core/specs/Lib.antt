@@ -5,7 +5,6 @@ pub mod Carries
 pub mod Causes
 pub mod Cuts
 pub mod CycleEnds
-pub mod Going
 pub mod Endings
 pub mod GraphRun
 pub mod Honest
@@ -18,6 +17,7 @@ pub mod Parts
 pub mod Reach
 pub mod RowsFile
 pub mod RowsLeft
+pub mod RunSoFar
 pub mod Runs
 pub mod Signatures
 pub mod Source

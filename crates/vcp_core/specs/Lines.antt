@@ -26,6 +26,7 @@ row_text cycle row = decimal cycle ++ (flat_map value_cell row ++ codes "\n")
 abbrev pub end_text : ℕ → List ℕ
 end_text cycles = codes "end " ++ (decimal cycles ++ codes "\n")
 
+-- the name of a kind of stop
 abbrev pub stop_name : StopKind → List ℕ
 stop_name stop.Range = codes "RANGE"
 stop_name stop.DivZero = codes "DIVZERO"

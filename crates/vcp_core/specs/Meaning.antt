@@ -1,4 +1,5 @@
--- The meaning of a program: its statement's terms are taken from the left, and a sum outside DINT stops the run at that term's sign.
+-- The meaning of a program, in the integer profile of the Structured Text of IEC 61131-3: its statement's terms are taken
+-- from the left, and a sum outside DINT stops the run at that term's sign.
 use Rattle.std.specs.Prelude.{◌≡◌, ◌<◌, ◌^◌, true, cond, List, [], ◌∷◌, ℤ, ◌+ℤ◌, ◌-ℤ◌}
 use Rattle.vcp_base.specs.declared.ty.Ty.TheVariants as ty
 use Rattle.vcp_base.specs.declared.kind.StopKind.TheVariants as stop

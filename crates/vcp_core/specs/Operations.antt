@@ -11,6 +11,7 @@ use Rattle.vcp_core.specs.declared.program.Operand.TheVariants as operand
 use Rattle.vcp_core.specs.declared.program.Term.{Term}
 use Rattle.vcp_core.specs.declared.operation.Op.{Op}
 
+-- a place in the source: line and column, from 1
 abbrev pub spot : ℕ → ℕ → Spot
 spot line col = record { line = line; col = col }
 

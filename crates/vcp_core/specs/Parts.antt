@@ -4,6 +4,7 @@ use Rattle.std.specs.Fmt.{signed_decimal}
 use Rattle.vcp_core.specs.declared.parts.Part.{Part}
 use Rattle.vcp_core.specs.declared.parts.Part.TheVariants.{Text, Count, Value}
 
+-- the bytes of one part
 abbrev pub part_text : Part → List ℕ
 part_text (Text bytes) = bytes.now
 part_text (Count n) = decimal n

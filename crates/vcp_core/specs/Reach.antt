@@ -18,7 +18,7 @@ use Rattle.vcp_core.specs.Meaning.{TermsFit, RowsFit}
 use Rattle.vcp_core.specs.Operations.{operations}
 
 -- what is told around the command, but for the sink of the errors
-pub record Around : Type 0 where
+pub record BeforeAndAfter : Type 0 where
   pub log_old : Option (List Entry)
   pub log_new : Option (List Entry)
   pub wrong_old : ℕ
@@ -29,18 +29,18 @@ pub record Around : Type 0 where
   pub out_faults_new : ℕ
 
 -- neither the unit nor the sink was called
-pub record Untouched (s : Around) : Type 0 where
+pub record Untouched (s : BeforeAndAfter) : Type 0 where
   pub log : GrowsBy s.log_old s.log_new []
   pub wrong : s.wrong_new ≡ s.wrong_old
   pub out : Appends s.out_old s.out_new []
 
 -- the cycles of a program on rows were carried, and printed after the header
-abbrev pub RunsTerms : List Term → List (List ℤ) → Around → Result CycleEnd Failed → Type 0
+abbrev pub RunsTerms : List Term → List (List ℤ) → BeforeAndAfter → Result CycleEnd Failed → Type 0
 RunsTerms terms rows s result =
     RunsOver default_seed default_step (operations terms) (run_text output_names) rows s.log_old s.log_new s.wrong_old s.wrong_new s.out_old s.out_new s.out_faults_old s.out_faults_new result
 
 -- the task came to a run of a program on rows, whose cycles were carried and printed after the header
-pub record RunsTask (task : Task) (s : Around) (result : Result CycleEnd Failed) : Type 0 where
+pub record RunsTask (task : Task) (s : BeforeAndAfter) (result : Result CycleEnd Failed) : Type 0 where
   pub terms : List Term
   pub rows : List (List ℤ)
   pub task_is : task ≡ runs terms rows
@@ -76,7 +76,7 @@ NoTerms held source before now fault.Memory = Unit {0}
 NoTerms held source before now fault.Write = ⊥
 
 -- what running a program on rows comes to
-abbrev pub RunsProgram : List Term → List (List ℤ) → Around → Result CycleEnd Fault → Type 0
+abbrev pub RunsProgram : List Term → List (List ℤ) → BeforeAndAfter → Result CycleEnd Fault → Type 0
 RunsProgram terms rows s (Ok e) = RunsTerms terms rows s (Ok e)
 RunsProgram terms rows s (Err fault.Write) = (why : Failed) × RunsTerms terms rows s (Err why)
 RunsProgram terms rows s (Err fault.Memory) = Untouched s
@@ -85,7 +85,7 @@ RunsProgram terms rows s (Err (fault.TooLong w)) = ⊥
 RunsProgram terms rows s (Err (fault.Unbuilt w)) = ⊥
 
 -- how far the command came
-abbrev pub Reaches : Task → List ℕ → List ℕ → Around → ℕ → ℕ → Result CycleEnd Fault → Type 0
+abbrev pub Reaches : Task → List ℕ → List ℕ → BeforeAndAfter → ℕ → ℕ → Result CycleEnd Fault → Type 0
 Reaches task source rows s before now (Ok e) = RunsTask task s (Ok e)
 Reaches task source rows s before now (Err (fault.Read w)) = Untouched s × ((task ≡ lacks (name_of source rows w)) ⊎ Rose before now)
 Reaches task source rows s before now (Err (fault.TooLong w)) = Untouched s × (task ≡ refuses (bytes_text (name_of source rows w)))

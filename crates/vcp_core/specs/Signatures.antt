@@ -4,7 +4,7 @@ use Rattle.vcp_base.specs.Kinds.{multiplier}
 use Rattle.coded_unit.specs.Words.{modulo}
 use Rattle.vcp_core.specs.declared.operation.Op.{Op}
 
--- The signature of operation i. Distinct operations have distinct ones, since 5 * 214748365 = 2 ^ 30 + 1.
+-- The signature of operation i, below 2 ^ 30. Distinct operations have distinct ones, since 5 * 214748365 = 2 ^ 30 + 1.
 unfoldable pub signature : ℕ → ℕ → ℕ
 signature seed i = (seed + 214748365 * i) % 2 ^ 30
 

@@ -19,10 +19,12 @@ term_number n = cond (nat_le n 2147483647) (Some (operand.Number (pos n))) None
 abbrev pub operand_of : List ℕ → Option Operand
 operand_of word = cond (bytes_eq word (codes "x")) (Some operand.Input) (option_and_then term_number (numeral_of word))
 
+-- a term before terms
 abbrev pub term_before : Sign → Operand → ℕ → List Term → List Term
 term_before s o col terms = record { sign = s; operand = o; col = col } ∷ terms
 
--- the terms that words in turn sign and operand spell, the first sign at this column; one space stands after each sign and each operand but the last
+-- The terms that words spell, in turn a sign and an operand, where the first sign stands at this column. A space stands
+-- between a word and the next, so that the next sign stands at the length of the operand and 3 columns more.
 abbrev pub terms_of_words : ℕ → List (List ℕ) → Option (List Term)
 terms_of_words col [] = Some []
 terms_of_words col (sign ∷ []) = None
@@ -33,12 +35,12 @@ terms_of_words col (sign ∷ word ∷ words) =
 abbrev pub few_terms : List Term → Option (List Term)
 few_terms terms = cond (nat_le (length terms) 64) (Some terms) None
 
--- a piece before the terms' words: the text before the first sign's space, of which there is none
+-- the terms of these words, where the text before the first space is empty
 abbrev pub terms_after : List ℕ → List (List ℕ) → Option (List Term)
 terms_after [] words = option_and_then few_terms (terms_of_words 8 words)
 terms_after (b ∷ bytes) words = None
 
--- the terms of a sum that begins with a space; an empty sum has none
+-- the terms of the pieces of a sum, which begins with a space where it has a term
 abbrev pub terms_of_pieces : List (List ℕ) → Option (List Term)
 terms_of_pieces [] = None
 terms_of_pieces (first ∷ words) = terms_after first words
@@ -51,10 +53,11 @@ between front back bytes =
     (Some (take (length bytes - length front - length back) (drop (length front) bytes)))
     None)
 
--- the source up to its first term, and from its last one on
+-- the source up to its first term
 abbrev pub source_front : List ℕ
 source_front = codes "PROGRAM p\nVAR_INPUT x : DINT; END_VAR\nVAR_OUTPUT y : DINT; END_VAR\ny := x"
 
+-- and from its last one on
 abbrev pub source_back : List ℕ
 source_back = codes ";\nEND_PROGRAM\n"
 

@@ -153,6 +153,7 @@ pub fn run_command<F: Files, U: Unit, O: Sink>(
     unit: &mut U,
     out: &mut O,
 ) -> Result<CycleEnd, Fault>
+    ensures held { F.held files.new ≡ F.held files.old }
     ensures reaches { IfSome (F.held files.old) (λ h. Reaches (run_task words.now.source.now words.now.rows.now h) words.now.source.now words.now.rows.now (record {
       log_old = U.log unit.old;
       log_new = U.log unit.new;

@@ -1,6 +1,6 @@
 //! The top call.
 
-ghost use Rattle.std.specs.Prelude.{◌≡◌, ◌⊎◌, false, IfSome};
+ghost use Rattle.std.specs.Prelude.{◌≡◌, ◌≤◌, ◌⊎◌, false, IfSome};
 ghost use Rattle.std.specs.Io.KnownBytes.{IsAtEnd};
 ghost use Rattle.vcp_outside.specs.Counts.{Rose};
 ghost use Rattle.vcp_core.specs.Answers.{task_of, is_run};
@@ -79,7 +79,9 @@ pub fn vcp<F: Files, U: Unit, O: Sink, E: Sink>(
     ensures usage_alone { is_run words.now ≡ false → (U.log unit.new ≡ U.log unit.old) × (O.written out.new ≡ O.written out.old) }
     ensures usage_only { result ≡ 4 → is_run words.now ≡ false }
 
-    // Causes that hold whatever is told.
+    // What holds whatever is told.
+    ensures known { result ≤ 7 }
+    ensures held { F.held files.new ≡ F.held files.old }
     ensures ended { result ≡ 0 → IsAtEnd (F.rest files.new) }
     ensures stopped { result ≡ 2 → GrowsByStop (U.log unit.old) (U.log unit.new) }
     ensures refused { result ≡ 3 → Rose (U.wrong unit.old) (U.wrong unit.new) }
@@ -118,6 +120,8 @@ fn serve<F: Files, U: Unit, O: Sink, E: Sink>(
     ensures usage { is_run words.now ≡ false → TellsUsage (E.written err.old) (E.written err.new) (E.faults err.old) (E.faults err.new) result }
     ensures usage_alone { is_run words.now ≡ false → (U.log unit.new ≡ U.log unit.old) × (O.written out.new ≡ O.written out.old) }
     ensures usage_only { result ≡ 4 → is_run words.now ≡ false }
+    ensures known { result ≤ 7 }
+    ensures held { F.held files.new ≡ F.held files.old }
     ensures ended { result ≡ 0 → IsAtEnd (F.rest files.new) }
     ensures stopped { result ≡ 2 → GrowsByStop (U.log unit.old) (U.log unit.new) }
     ensures refused { result ≡ 3 → Rose (U.wrong unit.old) (U.wrong unit.new) }

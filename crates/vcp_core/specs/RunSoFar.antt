@@ -18,7 +18,7 @@ AllReleased seed step ops n (answers ∷ cycles) =
     Whole ops answers × (cycle_of seed step n ops answers ≡ released (outputs ops answers)) × AllReleased seed step ops (suc n) cycles
 
 -- So many cycles were carried, one for each row that was taken; their outputs were released, and their rows were printed.
-pub record Going (seed step : ℕ) (ops : List Op) (rows left : List (List ℤ)) (count : ℕ) (told_before told_now : Option (List Entry)) (wrong_before wrong_now : ℕ)
+pub record RunSoFar (seed step : ℕ) (ops : List Op) (rows left : List (List ℤ)) (count : ℕ) (told_before told_now : Option (List Entry)) (wrong_before wrong_now : ℕ)
     (old new : Option (List ℕ)) (faults_before faults_now : ℕ) : Type 0 where
   pub cycles : List (List Answer)
   pub many : length cycles ≡ count
