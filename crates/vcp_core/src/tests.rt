@@ -41,18 +41,36 @@ fn files(alloc: Global, statement: &[u8], rows: &[u8]) -> Result<MemFiles, Memor
     Ok(files)
 }
 
+/// What one run left.
+#[derive(Drop)]
+struct Ran {
+    status: u8,
+    out: MemSink,
+    err: MemSink,
+}
+
+/// Runs the program with sinks that have room for everything.
+fn run_on<U: Unit>(
+    alloc: Global,
+    words: &Words,
+    files: &mut MemFiles,
+    unit: &mut U,
+) -> Result<Ran, Memory> {
+    let mut out = MemSink::new(alloc, 200)?;
+    let mut err = MemSink::new(alloc, 200)?;
+    let status = vcp(alloc, words, files, unit, &mut out, &mut err);
+    Ok(Ran { status, out, err })
+}
+
 #[test]
 fn six_for_five_in_four_coded_words(rt: HostRuntime) -> Result<(), Fail> {
     let alloc = rt.alloc();
     let mut files = files(alloc, ADD, b"x\n5\n")?;
     let mut unit = LogUnit::new(alloc, 4)?;
-    let mut out = MemSink::new(alloc, 100)?;
-    let mut err = MemSink::new(alloc, 100)?;
-    let words = run_add(alloc)?;
-    let status = vcp(alloc, &words, &mut files, &mut unit, &mut out, &mut err);
-    assert_eq!(rt; status, 0);
-    assert_eq!(rt; out.bytes(), b"cycle,y\n0,6\nend 1\n".as_slice());
-    assert!(rt; err.bytes().is_empty());
+    let run = run_on(alloc, &run_add(alloc)?, &mut files, &mut unit)?;
+    assert_eq!(rt; run.status, 0);
+    assert_eq!(rt; run.out.bytes(), b"cycle,y\n0,6\nend 1\n".as_slice());
+    assert!(rt; run.err.bytes().is_empty());
     let answers = [11042838132i128, 2667651909, 13619818509, 13834566874];
     for (i, word) in answers.iter().enumerate() {
         let (call, given) = unit.entry(i as u32).ok_or("no entry")?;
@@ -67,71 +85,64 @@ fn six_for_five_in_four_coded_words(rt: HostRuntime) -> Result<(), Fail> {
 }
 
 #[test]
-fn programs_run_and_files_are_refused(rt: HostRuntime) -> Result<(), Fail> {
+fn programs_run(rt: HostRuntime) -> Result<(), Fail> {
     let alloc = rt.alloc();
-    // statement, rows, status, output, errors
-    let rows: [(&[u8], &[u8], u8, &[u8], &[u8]); 14] = [
-        (ADD, b"x\n5\n-5\n", 0, b"cycle,y\n0,6\n1,-4\nend 2\n", b""),
-        (ADD, b"x\n", 0, b"cycle,y\nend 0\n", b""),
+    let words = run_add(alloc)?;
+    // statement, rows, status, output
+    let rows: [(&[u8], &[u8], u8, &[u8]); 7] = [
+        (ADD, b"x\n5\n-5\n", 0, b"cycle,y\n0,6\n1,-4\nend 2\n"),
+        (ADD, b"x\n", 0, b"cycle,y\nend 0\n"),
         (
             ADD,
             b"x\n5\n2147483647\n1\n",
             2,
             b"cycle,y\n0,6\nstop 1 RANGE 4:8\n",
-            b"",
         ),
-        (
-            ADD,
-            b"x\n2147483647\n",
-            2,
-            b"cycle,y\nstop 0 RANGE 4:8\n",
-            b"",
-        ),
+        (ADD, b"x\n2147483647\n", 2, b"cycle,y\nstop 0 RANGE 4:8\n"),
         (
             b"y := x + x - 4 + 7;",
             b"x\n5\n",
             0,
             b"cycle,y\n0,13\nend 1\n",
-            b"",
         ),
         (
             b"y := x - 100 - 9;",
             b"x\n-2147483547\n",
             2,
             b"cycle,y\nstop 0 RANGE 4:14\n",
-            b"",
         ),
-        (b"y := x;", b"x\n5\n", 0, b"cycle,y\n0,5\nend 1\n", b""),
-        (b"y := x  + 1;", b"x\n5\n", 1, b"", b"add.st N1 Unbuilt\n"),
-        (
-            b"y := x + 2147483648;",
-            b"x\n5\n",
-            1,
-            b"",
-            b"add.st N1 Unbuilt\n",
-        ),
-        (ADD, b"x\n5", 1, b"", b"in.csv N1 Unbuilt\n"),
-        (ADD, b"", 1, b"", b"in.csv N1 Unbuilt\n"),
-        (ADD, b"x\n5\n2147483648\n", 1, b"", b"in.csv N1 Unbuilt\n"),
-        (ADD, b"x\n00000000005\n", 1, b"", b"in.csv N1 Unbuilt\n"),
-        (b"y := x * 2;", b"", 1, b"", b"add.st N1 Unbuilt\n"),
+        (b"y := x;", b"x\n5\n", 0, b"cycle,y\n0,5\nend 1\n"),
     ];
-    let words = run_add(alloc)?;
-    for (statement, table, status, text, line) in &rows {
+    for (statement, table, status, text) in &rows {
         let mut files = files(alloc, statement, table)?;
-        let mut out = MemSink::new(alloc, 200)?;
-        let mut err = MemSink::new(alloc, 200)?;
-        let given = vcp(
-            alloc,
-            &words,
-            &mut files,
-            &mut CpuUnit::new(),
-            &mut out,
-            &mut err,
-        );
-        assert_eq!(rt; given, *status);
-        assert_eq!(rt; out.bytes(), *text);
-        assert_eq!(rt; err.bytes(), *line);
+        let run = run_on(alloc, &words, &mut files, &mut CpuUnit::new())?;
+        assert_eq!(rt; run.status, *status);
+        assert_eq!(rt; run.out.bytes(), *text);
+        assert!(rt; run.err.bytes().is_empty());
+    }
+    Ok(())
+}
+
+#[test]
+fn files_of_another_form_are_refused(rt: HostRuntime) -> Result<(), Fail> {
+    let alloc = rt.alloc();
+    let words = run_add(alloc)?;
+    // statement, rows, errors
+    let rows: [(&[u8], &[u8], &[u8]); 7] = [
+        (b"y := x  + 1;", b"x\n5\n", b"add.st N1 Unbuilt\n"),
+        (b"y := x + 2147483648;", b"x\n5\n", b"add.st N1 Unbuilt\n"),
+        (ADD, b"x\n5", b"in.csv N1 Unbuilt\n"),
+        (ADD, b"", b"in.csv N1 Unbuilt\n"),
+        (ADD, b"x\n5\n2147483648\n", b"in.csv N1 Unbuilt\n"),
+        (ADD, b"x\n00000000005\n", b"in.csv N1 Unbuilt\n"),
+        (b"y := x * 2;", b"", b"add.st N1 Unbuilt\n"),
+    ];
+    for (statement, table, line) in &rows {
+        let mut files = files(alloc, statement, table)?;
+        let run = run_on(alloc, &words, &mut files, &mut CpuUnit::new())?;
+        assert_eq!(rt; run.status, 1);
+        assert!(rt; run.out.bytes().is_empty());
+        assert_eq!(rt; run.err.bytes(), *line);
     }
     Ok(())
 }
@@ -149,18 +160,9 @@ fn sixty_four_terms_pass(rt: HostRuntime) -> Result<(), Fail> {
         }
         statement.extend_from_slice(b";")?;
         let mut files = files(alloc, &statement, b"x\n5\n")?;
-        let mut out = MemSink::new(alloc, 200)?;
-        let mut err = MemSink::new(alloc, 200)?;
-        let given = vcp(
-            alloc,
-            &words,
-            &mut files,
-            &mut CpuUnit::new(),
-            &mut out,
-            &mut err,
-        );
-        assert_eq!(rt; given, *status);
-        assert_eq!(rt; out.bytes(), *text);
+        let run = run_on(alloc, &words, &mut files, &mut CpuUnit::new())?;
+        assert_eq!(rt; run.status, *status);
+        assert_eq!(rt; run.out.bytes(), *text);
     }
     Ok(())
 }
@@ -186,19 +188,10 @@ fn files_that_are_lacking_or_too_long_are_told(rt: HostRuntime) -> Result<(), Fa
         if let Some(text) = table {
             files.put(b"in.csv", text)?;
         }
-        let mut out = MemSink::new(alloc, 200)?;
-        let mut err = MemSink::new(alloc, 200)?;
-        let given = vcp(
-            alloc,
-            &words,
-            &mut files,
-            &mut CpuUnit::new(),
-            &mut out,
-            &mut err,
-        );
-        assert_eq!(rt; given, *status);
-        assert!(rt; out.bytes().is_empty());
-        assert_eq!(rt; err.bytes(), *line);
+        let run = run_on(alloc, &words, &mut files, &mut CpuUnit::new())?;
+        assert_eq!(rt; run.status, *status);
+        assert!(rt; run.out.bytes().is_empty());
+        assert_eq!(rt; run.err.bytes(), *line);
     }
     Ok(())
 }
@@ -218,20 +211,11 @@ fn words_that_are_no_form_get_the_usage_line(rt: HostRuntime) -> Result<(), Fail
             words.push(word)?;
         }
         let mut files = files(alloc, ADD, b"x\n5\n")?;
-        let mut out = MemSink::new(alloc, 200)?;
-        let mut err = MemSink::new(alloc, 200)?;
-        let status = vcp(
-            alloc,
-            &words,
-            &mut files,
-            &mut CpuUnit::new(),
-            &mut out,
-            &mut err,
-        );
-        assert_eq!(rt; status, 4);
-        assert!(rt; out.bytes().is_empty());
+        let run = run_on(alloc, &words, &mut files, &mut CpuUnit::new())?;
+        assert_eq!(rt; run.status, 4);
+        assert!(rt; run.out.bytes().is_empty());
         assert_eq!(rt;
-            err.bytes(),
+            run.err.bytes(),
             b"usage: vcp check P, format P, plain P ROWS, run P ROWS CODE, compile P CODE, list M, exec M ROWS, trace M ROWS CYCLE, inject M ROWS F, audit M HORIZON or demo N\n".as_slice()
         );
     }
@@ -301,12 +285,10 @@ fn an_output_with_a_wrong_residue_is_refused(rt: HostRuntime) -> Result<(), Fail
         instead: Answer::Word(Word::new(12884901887).ok_or("no word")?),
         wrong: 0,
     };
-    let mut out = MemSink::new(alloc, 200)?;
-    let mut err = MemSink::new(alloc, 200)?;
-    let status = vcp(alloc, &words, &mut files, &mut unit, &mut out, &mut err);
-    assert_eq!(rt; status, 3);
+    let run = run_on(alloc, &words, &mut files, &mut unit)?;
+    assert_eq!(rt; run.status, 3);
     assert_eq!(rt;
-        out.bytes(),
+        run.out.bytes(),
         b"cycle,y\nrefused 0 y found 5 expected 949664992\n".as_slice()
     );
     assert_eq!(rt; unit.wrong, 1);
