@@ -1,9 +1,9 @@
 -- From how far the command came, and what became of its fault's line, to how the program ends.
-use Rattle.std.proofs.Common.{ℕ, ◌-◌, ◌^◌, ◌<◌, ◌≡◌, inl, inr, refl, sym, ap, ◌∙◌, List, [], append-nil, lit≤, true, false, Option, Ok, Err}
+use Rattle.std.proofs.Common.{ℕ, ◌-◌, ◌^◌, ◌<◌, ◌≡◌, inl, inr, refl, sym, ap, ◌∙◌, List, [], lit≤, true, false, Option, Ok, Err}
 use Rattle.std.specs.Io.KnownBytes.{Appends}
 use Rattle.vcp_outside.specs.Counts.{Rose}
 use Rattle.vcp_outside.specs.Held.{Held}
-use Rattle.vcp_outside.specs.Written.{AppendsFront, AppendsPart}
+use Rattle.vcp_outside.specs.Written.{AppendsPart}
 use Rattle.vcp_core.specs.declared.operation.Op.{Op}
 use Rattle.vcp_core.specs.declared.cycle_end.CycleEnd.{CycleEnd}
 use Rattle.vcp_core.specs.declared.cycle_end.CycleEnd.TheVariants as end
@@ -55,12 +55,6 @@ run_honest task s e t same small =
     (honest_runs default_seed default_step (operations t.terms) t.rows run.cycles s.log_old s.log_new s.wrong_old s.wrong_new (all_below default_seed default_step (lit≤ tt)) (operations_linked t.terms) t.few run.carries run.finished same small
     ∙ run_means t.terms t.rows t.terms_fit t.rows_fit)
 
-whole_front : (old new : Option (List ℕ)) (bytes : List ℕ) → Appends old new bytes → AppendsFront old new bytes
-whole_front old new bytes w = (bytes, [], sym (append-nil bytes), w)
-
-part_front : (old new : Option (List ℕ)) (bytes : List ℕ) → AppendsPart old new bytes → AppendsFront old new bytes
-part_front old new bytes (front, rest, is, some, w) = (front, rest, is, w)
-
 -- the cycles were run to the end
 pub ends_well : (task : Task) (words : List (List ℕ)) (s : BeforeAndAfter) (e : CycleEnd) (err : Option (List ℕ)) (f b n : ℕ) → RunsTask task s (Ok e) → Appends err err [] → Ends task words (ended_of s err err f f b n (cycle_status e))
 ends_well task words s e err f b n t nothing = answers (record {
@@ -103,7 +97,7 @@ ends_told task words source rows s (fault.TooLong v) err_old err_new f g b n p q
 ends_told task words source rows s (fault.Unbuilt v) err_old err_new f g b n p q (u, is) rose w =
     rw is (refused (refuses (unbuilt_text (name_of source rows v))) words (unbuilt_text (name_of source rows v)) 1 s err_old err_new f g b n u refl refl refl refl w)
 ends_told task words source rows s fault.Write err_old err_new f g b n p q (why, t) rose w =
-    output_failed (record { status = refl; rose = rose refl; cycles = t.run.cycles; some = rw t.task_is t.run.begun; log = rw t.task_is t.run.carries.told; out = rw t.task_is t.run.wrote.part; err = whole_front _ _ _ w })
+    output_failed (record { status = refl; rose = rose refl; cycles = t.run.cycles; some = rw t.task_is t.run.begun; log = rw t.task_is t.run.carries.told; out = rw t.task_is t.run.wrote.part; err = inl w })
 ends_told task words source rows s fault.Memory err_old err_new f g b n p q u rose w = no_memory (record { status = refl; log = u.log; out = u.out; err = w })
 
 -- the line of a task that comes to no run could not be printed
@@ -125,7 +119,7 @@ ends_untold task words source rows s (fault.TooLong v) err_old err_new f g b n p
 ends_untold task words source rows s (fault.Unbuilt v) err_old err_new f g b n p q (u, is) wrote part rose =
     rw is (lost (refuses (unbuilt_text (name_of source rows v))) words (unbuilt_text (name_of source rows v)) 1 s err_old err_new f g b n u refl part rose)
 ends_untold task words source rows s fault.Write err_old err_new f g b n p q (why, t) wrote part rose =
-    output_failed (record { status = refl; rose = wrote refl; cycles = t.run.cycles; some = rw t.task_is t.run.begun; log = rw t.task_is t.run.carries.told; out = rw t.task_is t.run.wrote.part; err = part_front _ _ _ part })
+    output_failed (record { status = refl; rose = wrote refl; cycles = t.run.cycles; some = rw t.task_is t.run.begun; log = rw t.task_is t.run.carries.told; out = rw t.task_is t.run.wrote.part; err = inr (rose, part) })
 ends_untold task words source rows s fault.Memory err_old err_new f g b n p q u wrote part rose =
     errors_failed (record { status = refl; rose = rose; line = memory_text; line_is = inr (inr refl); log = u.log; out = u.out; err = part })
 

@@ -77,6 +77,7 @@ pub fn vcp<F: Files, U: Unit, O: Sink, E: Sink>(
     // Words that are none of the forms get the usage line, and nothing else is done; no other words do.
     ensures usage { is_run words.now ≡ false → TellsUsage (E.written err.old) (E.written err.new) (E.faults err.old) (E.faults err.new) result }
     ensures usage_alone { is_run words.now ≡ false → (U.log unit.new ≡ U.log unit.old) × (O.written out.new ≡ O.written out.old) }
+    ensures usage_reads_nothing { is_run words.now ≡ false → (F.rest files.new ≡ F.rest files.old) × (F.faults files.new ≡ F.faults files.old) × (F.broken files.new ≡ F.broken files.old) }
     ensures usage_only { result ≡ 4 → is_run words.now ≡ false }
 
     // What holds whatever is told.
@@ -119,6 +120,7 @@ fn serve<F: Files, U: Unit, O: Sink, E: Sink>(
     })) }
     ensures usage { is_run words.now ≡ false → TellsUsage (E.written err.old) (E.written err.new) (E.faults err.old) (E.faults err.new) result }
     ensures usage_alone { is_run words.now ≡ false → (U.log unit.new ≡ U.log unit.old) × (O.written out.new ≡ O.written out.old) }
+    ensures usage_reads_nothing { is_run words.now ≡ false → (F.rest files.new ≡ F.rest files.old) × (F.faults files.new ≡ F.faults files.old) × (F.broken files.new ≡ F.broken files.old) }
     ensures usage_only { result ≡ 4 → is_run words.now ≡ false }
     ensures known { result ≤ 7 }
     ensures held { F.held files.new ≡ F.held files.old }
