@@ -97,7 +97,7 @@ ends_told task words source rows s (fault.TooLong v) err_old err_new f g b n p q
 ends_told task words source rows s (fault.Unbuilt v) err_old err_new f g b n p q (u, is) rose w =
     rw is (refused (refuses (unbuilt_text (name_of source rows v))) words (unbuilt_text (name_of source rows v)) 1 s err_old err_new f g b n u refl refl refl refl w)
 ends_told task words source rows s fault.Write err_old err_new f g b n p q (why, t) rose w =
-    output_failed (record { status = refl; rose = rose refl; cycles = t.run.cycles; some = rw t.task_is t.run.begun; log = rw t.task_is t.run.carries.told; out = rw t.task_is t.run.wrote.part; err = inl w })
+    output_failed (record { status = refl; rose = rose refl; cycles = t.run.cycles; some = rw t.task_is t.run.begun; log = rw t.task_is t.run.carries.told; out = rw t.task_is t.run.wrote.part; earlier = rw t.task_is t.run.earlier; err = inl w })
 ends_told task words source rows s fault.Memory err_old err_new f g b n p q u rose w = no_memory (record { status = refl; log = u.log; out = u.out; err = w })
 
 -- the line of a task that comes to no run could not be printed
@@ -119,7 +119,7 @@ ends_untold task words source rows s (fault.TooLong v) err_old err_new f g b n p
 ends_untold task words source rows s (fault.Unbuilt v) err_old err_new f g b n p q (u, is) wrote part rose =
     rw is (lost (refuses (unbuilt_text (name_of source rows v))) words (unbuilt_text (name_of source rows v)) 1 s err_old err_new f g b n u refl part rose)
 ends_untold task words source rows s fault.Write err_old err_new f g b n p q (why, t) wrote part rose =
-    output_failed (record { status = refl; rose = wrote refl; cycles = t.run.cycles; some = rw t.task_is t.run.begun; log = rw t.task_is t.run.carries.told; out = rw t.task_is t.run.wrote.part; err = inr (rose, part) })
+    output_failed (record { status = refl; rose = wrote refl; cycles = t.run.cycles; some = rw t.task_is t.run.begun; log = rw t.task_is t.run.carries.told; out = rw t.task_is t.run.wrote.part; earlier = rw t.task_is t.run.earlier; err = inr (rose, part) })
 ends_untold task words source rows s fault.Memory err_old err_new f g b n p q u wrote part rose =
     errors_failed (record { status = refl; rose = rose; line = memory_text; line_is = inr (inr refl); log = u.log; out = u.out; err = part })
 

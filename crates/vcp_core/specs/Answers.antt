@@ -4,11 +4,12 @@ use Rattle.vcp_outside.specs.Held.{Held}
 use Rattle.coded_unit.specs.declared.call.Answer.{Answer as Given}
 use Rattle.coded_unit.specs.Log.{Entry}
 use Rattle.vcp_core.specs.declared.program.Term.{Term}
+use Rattle.vcp_core.specs.Carries.{EarlierWritten}
 use Rattle.vcp_core.specs.Log.{calls_over, run_of_answers, AllCycles, SomeCycles}
 use Rattle.vcp_core.specs.Meaning.{source_run}
 use Rattle.vcp_core.specs.Operations.{operations}
 use Rattle.vcp_core.specs.Runs.{Run, End, complete, stopped, refused}
-use Rattle.vcp_core.specs.Lines.{run_text}
+use Rattle.vcp_core.specs.Lines.{header_text, run_text}
 use Rattle.vcp_core.specs.RowsFile.{rows_of}
 use Rattle.vcp_core.specs.Source.{terms_of}
 
@@ -148,6 +149,11 @@ AllAnswers _ cycles = cycles ≡ []
 abbrev pub SomeAnswers : Task → List (List Given) → Type 0
 SomeAnswers (runs terms rows) cycles = SomeCycles default_seed default_step (operations terms) 0 rows cycles
 SomeAnswers _ cycles = cycles ≡ []
+
+-- all lines of a run's cycles before the last one were written, and maybe more
+abbrev pub EarlierPrinted : Task → List (List Given) → Option (List ℕ) → Option (List ℕ) → Type 0
+EarlierPrinted (runs terms rows) cycles old new = EarlierWritten (header_text output_names) (operations terms) cycles old new
+EarlierPrinted _ cycles old new = Unit {0}
 
 -- the run that a task means
 abbrev pub run_meant : Task → Run

@@ -13,7 +13,7 @@ use Rattle.vcp_core.specs.declared.fault.FileWord.TheVariants as word
 use Rattle.vcp_core.specs.declared.program.Term.{Term}
 use Rattle.vcp_core.specs.Answers.{Task, lacks, refuses, runs, run_task, rows_file_task, output_names, default_seed, default_step, bytes_text, unbuilt_text, read_fault_text, write_fault_text, memory_text}
 use Rattle.vcp_core.specs.Carries.{RunsOver}
-use Rattle.vcp_core.specs.Lines.{run_text}
+use Rattle.vcp_core.specs.Lines.{header_text, run_text}
 use Rattle.vcp_core.specs.Meaning.{TermsFit, RowsFit}
 use Rattle.vcp_core.specs.Operations.{operations}
 
@@ -37,7 +37,7 @@ pub record Untouched (s : BeforeAndAfter) : Type 0 where
 -- the cycles of a program on rows were carried, and printed after the header
 abbrev pub RunsTerms : List Term → List (List ℤ) → BeforeAndAfter → Result CycleEnd Failed → Type 0
 RunsTerms terms rows s result =
-    RunsOver default_seed default_step (operations terms) (run_text output_names) rows s.log_old s.log_new s.wrong_old s.wrong_new s.out_old s.out_new s.out_faults_old s.out_faults_new result
+    RunsOver default_seed default_step (operations terms) (header_text output_names) (run_text output_names) rows s.log_old s.log_new s.wrong_old s.wrong_new s.out_old s.out_new s.out_faults_old s.out_faults_new result
 
 -- the task came to a run of a program on rows, whose cycles were carried and printed after the header
 pub record RunsTask (task : Task) (s : BeforeAndAfter) (result : Result CycleEnd Failed) : Type 0 where

@@ -130,7 +130,7 @@ pub fn run_rows<U: Unit, O: Sink>(
     requires many { length rows.old ≤ 1000000 }
     requires inputs { length registers.old.inputs ≡ 1 }
     requires outputs { length registers.old.outputs ≡ output_count ops.now }
-    ensures run { RunsOver code.seed code.step ops.now (body_text output_names) rows.old (U.log unit.old) (U.log unit.new) (U.wrong unit.old) (U.wrong unit.new) (O.written out.old) (O.written out.new) (O.faults out.old) (O.faults out.new) result }
+    ensures run { RunsOver code.seed code.step ops.now [] (body_text output_names) rows.old (U.log unit.old) (U.log unit.new) (U.wrong unit.old) (U.wrong unit.new) (O.written out.old) (O.written out.new) (O.faults out.old) (O.faults out.new) result }
 {
     let Registers {
         answers,
