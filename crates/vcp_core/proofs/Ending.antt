@@ -1,9 +1,10 @@
 -- From how far the command came, and what became of its fault's line, to how the program ends.
-use Rattle.std.proofs.Common.{ℕ, ◌-◌, ◌^◌, ◌<◌, ◌≡◌, inl, inr, refl, sym, ap, ◌∙◌, List, [], lit≤, true, false, Option, Ok, Err}
+use Rattle.std.proofs.Common.{ℕ, ◌-◌, ◌^◌, ◌<◌, ◌≡◌, inl, inr, refl, sym, ap, ◌∙◌, List, [], length, drop, lit≤, arith, true, false, Option, Ok, Err}
 use Rattle.std.specs.Io.KnownBytes.{Appends}
 use Rattle.vcp_outside.specs.Counts.{Rose}
 use Rattle.vcp_outside.specs.Held.{Held}
 use Rattle.vcp_outside.specs.Written.{AppendsPart}
+use Rattle.vcp_outside.specs.declared.failed.Failed.{Failed}
 use Rattle.vcp_core.specs.declared.operation.Op.{Op}
 use Rattle.vcp_core.specs.declared.cycle_end.CycleEnd.{CycleEnd}
 use Rattle.vcp_core.specs.declared.cycle_end.CycleEnd.TheVariants as end
@@ -14,9 +15,10 @@ use Rattle.vcp_core.specs.declared.fault.FileWord.TheVariants as word
 use Rattle.vcp_core.specs.Answers.{Task, usage, lacks, refuses, task_of, run_task, is_run, usage_text, Answer, answer_of, run_read, run_meant, calls_of, AllAnswers, first_name, second_name, bytes_text, unbuilt_text, read_fault_text, memory_text, end_status, default_seed, default_step}
 use Rattle.vcp_core.specs.Carries.{ends_as}
 use Rattle.vcp_core.specs.Endings.{Ended, IsFileWord, Ends, answers, files_failed, output_failed, errors_failed, no_memory, cycle_status}
+use Rattle.vcp_core.specs.GraphRun.{graph_run}
 use Rattle.vcp_core.specs.Operations.{operations}
 use Rattle.vcp_core.specs.Reach.{BeforeAndAfter, Untouched, RunsTask, Reaches, name_of, fault_line, fault_status}
-use Rattle.vcp_core.proofs.HonestRuns.{honest_runs}
+use Rattle.vcp_core.proofs.HonestRuns.{honest_runs, honest_then, rest_follows}
 use Rattle.vcp_core.proofs.RunTurns.{appends_nothing}
 use Rattle.vcp_core.proofs.Means.{run_means}
 use Rattle.vcp_core.proofs.ProgramLinks.{all_below, operations_linked}
@@ -54,6 +56,15 @@ run_honest task s e t same small =
     rw t.task_is
     (honest_runs default_seed default_step (operations t.terms) t.rows run.cycles s.log_old s.log_new s.wrong_old s.wrong_new (all_below default_seed default_step (lit≤ tt)) (operations_linked t.terms) t.few run.carries run.finished same small
     ∙ run_means t.terms t.rows t.terms_fit t.rows_fit)
+
+-- with an honest unit a part of what is meant was printed
+part_meant : (task : Task) (s : BeforeAndAfter) (why : Failed) (t : RunsTask task s (Err why)) → s.wrong_new ≡ s.wrong_old → s.wrong_old < 2 ^ 64 - 1 → AppendsPart s.out_old s.out_new (answer_of task (run_meant task)).out
+part_meant task s why t same small =
+    let run = t.run in
+    let ops = operations t.terms in
+    let whole = honest_then default_seed default_step ops 0 t.rows run.cycles (all_below default_seed default_step (lit≤ tt)) (operations_linked t.terms) (omega (arith, t.few)) run.begun (run.carries.honest same small)
+    ∙ run_means t.terms t.rows t.terms_fit t.rows_fit in
+    rw (t.task_is, sym whole) (run.part (graph_run ops (drop (length run.cycles) t.rows)) (rest_follows ops t.rows run.cycles))
 
 -- the cycles were run to the end
 pub ends_well : (task : Task) (words : List (List ℕ)) (s : BeforeAndAfter) (e : CycleEnd) (err : Option (List ℕ)) (f b n : ℕ) → RunsTask task s (Ok e) → Appends err err [] → Ends task words (ended_of s err err f f b n (cycle_status e))
@@ -97,7 +108,7 @@ ends_told task words source rows s (fault.TooLong v) err_old err_new f g b n p q
 ends_told task words source rows s (fault.Unbuilt v) err_old err_new f g b n p q (u, is) rose w =
     rw is (refused (refuses (unbuilt_text (name_of source rows v))) words (unbuilt_text (name_of source rows v)) 1 s err_old err_new f g b n u refl refl refl refl w)
 ends_told task words source rows s fault.Write err_old err_new f g b n p q (why, t) rose w =
-    output_failed (record { status = refl; rose = rose refl; cycles = t.run.cycles; some = rw t.task_is t.run.begun; log = rw t.task_is t.run.carries.told; out = rw t.task_is t.run.wrote.part; earlier = rw t.task_is t.run.earlier; err = inl w })
+    output_failed (record { status = refl; rose = rose refl; cycles = t.run.cycles; some = rw t.task_is t.run.begun; log = rw t.task_is t.run.carries.told; out = rw t.task_is t.run.part; honest = part_meant task s why t; earlier = rw t.task_is t.run.earlier; err = inl w })
 ends_told task words source rows s fault.Memory err_old err_new f g b n p q u rose w = no_memory (record { status = refl; log = u.log; out = u.out; err = w })
 
 -- the line of a task that comes to no run could not be printed
@@ -119,7 +130,7 @@ ends_untold task words source rows s (fault.TooLong v) err_old err_new f g b n p
 ends_untold task words source rows s (fault.Unbuilt v) err_old err_new f g b n p q (u, is) wrote part rose =
     rw is (lost (refuses (unbuilt_text (name_of source rows v))) words (unbuilt_text (name_of source rows v)) 1 s err_old err_new f g b n u refl part rose)
 ends_untold task words source rows s fault.Write err_old err_new f g b n p q (why, t) wrote part rose =
-    output_failed (record { status = refl; rose = wrote refl; cycles = t.run.cycles; some = rw t.task_is t.run.begun; log = rw t.task_is t.run.carries.told; out = rw t.task_is t.run.wrote.part; earlier = rw t.task_is t.run.earlier; err = inr (rose, part) })
+    output_failed (record { status = refl; rose = wrote refl; cycles = t.run.cycles; some = rw t.task_is t.run.begun; log = rw t.task_is t.run.carries.told; out = rw t.task_is t.run.part; honest = part_meant task s why t; earlier = rw t.task_is t.run.earlier; err = inr (rose, part) })
 ends_untold task words source rows s fault.Memory err_old err_new f g b n p q u wrote part rose =
     errors_failed (record { status = refl; rose = rose; line = memory_text; line_is = inr (inr refl); log = u.log; out = u.out; err = part })
 

@@ -3,7 +3,7 @@ use Rattle.std.proofs.Common.{ℕ, ◌≡◌, refl, sym, ◌∙◌, List, [], �
 use Rattle.std.specs.Io.KnownBytes.{Appends}
 use Rattle.coded_unit.specs.declared.call.Answer.{Answer}
 use Rattle.coded_unit.specs.Log.{Entry}
-use Rattle.vcp_outside.specs.Written.{Writes}
+use Rattle.vcp_outside.specs.Written.{AppendsPart, Writes}
 use Rattle.vcp_outside.specs.declared.failed.Failed.{Failed}
 use Rattle.vcp_outside.proofs.Known.{appends-appends, part-after, failed_start}
 use Rattle.vcp_core.specs.declared.operation.Op.{Op}
@@ -11,7 +11,8 @@ use Rattle.vcp_core.specs.declared.cycle_end.CycleEnd.{CycleEnd}
 use Rattle.vcp_core.specs.Carries.{EarlierWritten, RunsOver, body_text}
 use Rattle.vcp_core.specs.CycleEnds.{outputs}
 use Rattle.vcp_core.specs.Lines.{header_text, rows_text, run_text}
-use Rattle.vcp_core.specs.Runs.{complete}
+use Rattle.vcp_core.specs.Log.{run_then, MayFollow}
+use Rattle.vcp_core.specs.Runs.{Run, complete}
 use Rattle.vcp_core.proofs.Growth.{grows_by_none}
 
 writes_after : {T : Type 0} (a b c : Option (List ℕ)) (f g h : ℕ) (p q line : List ℕ) (r : Result T Failed) → Writes {T = Unit {0}} {E = Failed} a b f g p (Ok tt) → Writes b c g h q r → line ≡ p ++ q → Writes a c f h line r
@@ -25,6 +26,12 @@ writes_after a b c f g h p q line (Err e) v w is = record {
   part = part-after a b c p q [] line v.whole w.part (is ∙ sym (append-nil (p ++ q)));
   cause = record { later = omega (arith, v.cause.later, w.cause.later); capped = λ k. w.cause.capped (v.cause.capped k); failed = omega (arith, v.cause.later, w.cause.failed) };
 }
+
+part_first : (names : List (List ℕ)) (seed step : ℕ) (ops : List Op) (rows : List (List ℤ)) (cycles : List (List Answer)) (a b c : Option (List ℕ)) (r : Result CycleEnd Failed) → Appends a b (header_text names) →
+    OnErr r ((later : Run) → MayFollow rows cycles later → AppendsPart b c (body_text names (run_then seed step ops 0 cycles later))) →
+    OnErr r ((later : Run) → MayFollow rows cycles later → AppendsPart a c (run_text names (run_then seed step ops 0 cycles later)))
+part_first names seed step ops rows cycles a b c (Ok x) v h = tt
+part_first names seed step ops rows cycles a b c (Err e) v h = λ later follows. part-after a b c _ _ [] _ v (h later follows) (sym (append-nil _))
 
 earlier_after : (ops : List Op) (head : List ℕ) (cycles : List (List Answer)) (a b c : Option (List ℕ)) (r : Result CycleEnd Failed) → Appends a b head → OnErr r (EarlierWritten [] ops cycles b c) → OnErr r (EarlierWritten head ops cycles a c)
 earlier_after ops head cycles a b c (Ok x) v h = tt
@@ -45,6 +52,7 @@ header_first names seed step ops rows x y m n a b c f g h r v run = record {
   wrote = writes_after a b c f g h (header_text names) _ _ r v run.wrote refl;
   begun = run.begun;
   finished = run.finished;
+  part = part_first names seed step ops rows run.cycles a b c r v.whole run.part;
   earlier = earlier_after ops (header_text names) run.cycles a b c r v.whole run.earlier;
   ended = run.ended;
 }
@@ -60,6 +68,7 @@ header_fails names seed step ops rows x m a b f g why w =
       wrote = record { whole = tt; part = failed.part; cause = record { later = failed.cause.later; capped = failed.cause.capped; failed = failed.cause.failed } };
       begun = tt;
       finished = tt;
+      part = λ later follows. (failed_start {T = Unit {0}} why a b f g (header_text names) (body_text names later) _ w refl).part;
       earlier = λ earlier last is. no_last earlier last is;
       ended = tt;
     }

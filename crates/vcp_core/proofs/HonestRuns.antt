@@ -1,5 +1,6 @@
 -- The run that is read off the answers of an honest unit is the run of the operations on plain integers.
-use Rattle.std.proofs.Common.{ℕ, suc, ◌+◌, ◌-◌, ◌^◌, ◌<◌, ◌≤◌, ◌≡◌, ◌⊎◌, inl, inr, min, refl, sym, ap, ◌∙◌, List, [], ◌∷◌, ◌++◌, length, arith, Option, Some, None, ℤ}
+use Rattle.std.proofs.Common.{ℕ, suc, ◌+◌, ◌-◌, ◌^◌, ◌<◌, ◌≤◌, ◌≡◌, ◌⊎◌, inl, inr, min, refl, sym, ap, ◌∙◌, List, [], ◌∷◌, ◌++◌, length, drop, arith, Option, Some, None, ℤ}
+use Rattle.std.proofs.Math.Seq.{drop-length}
 use Rattle.std.proofs.lemmas.Bool.{cases_lt}
 use Rattle.vcp_base.specs.declared.kind.StopKind.{StopKind}
 use Rattle.vcp_base.specs.Code.{A}
@@ -12,7 +13,7 @@ use Rattle.vcp_core.specs.Carries.{Carries}
 use Rattle.vcp_core.specs.CycleEnds.{cycle_of}
 use Rattle.vcp_core.specs.GraphRun.{outcomes_from, stop_among, values_out, stop_or_row, cycle_on, graph_run}
 use Rattle.vcp_core.specs.Honest.{Linked}
-use Rattle.vcp_core.specs.Log.{setting_at, calls_over, run_of_answers, unless_ended, AllCycles}
+use Rattle.vcp_core.specs.Log.{setting_at, calls_over, run_then, run_of_answers, MayFollow, unless_ended, AllCycles, SomeCycles}
 use Rattle.vcp_core.specs.Runs.{Run, Cycle, released, ends, refused, followed_by}
 use Rattle.vcp_core.specs.Signatures.{expected}
 use Rattle.vcp_core.proofs.HonestCycle.{honest_cycle}
@@ -42,6 +43,23 @@ honest_over seed step ops n (row ∷ rows) (answers ∷ cycles) below linked man
     ended_case (cycle_of seed step n ops answers) (run_of_answers seed step ops (suc n) cycles) (graph_run ops rows) _ _
     (λ later. honest_over seed step ops (suc n) rows cycles below linked (omega arith) later parts.1) all.1
     ∙ ap (λ c. followed_by c (graph_run ops rows)) same
+
+-- with an honest unit, the run of some cycles, and then of the operations on the rows that are left, is that of the operations on all rows
+pub honest_then : (seed step : ℕ) (ops : List Op) (n : ℕ) (rows : List (List ℤ)) (cycles : List (List Answer)) → Below seed step → Linked 0 ops → n + length rows ≤ 1000000 →
+    SomeCycles seed step ops n rows cycles → AllRight (calls_over seed step ops n rows cycles) → run_then seed step ops n cycles (graph_run ops (drop (length cycles) rows)) ≡ graph_run ops rows
+honest_then seed step ops n rows [] below linked many some right = refl
+honest_then seed step ops n [] (answers ∷ cycles) below linked many some right = absurd some
+honest_then seed step ops n (row ∷ rows) (answers ∷ cycles) below linked many some right =
+    let parts = right_front (CallsOf (setting_at seed step n row) ops answers) (calls_over seed step ops (suc n) rows cycles) right in
+    let here : (k : ℕ) → expected seed step k n < A = λ k. below k n (omega arith) in
+    let same : cycle_of seed step n ops answers ≡ cycle_on ops row = honest_cycle seed step n row ops answers here (honest_run (setting_at seed step n row) ops answers here linked parts.0 some.0) in
+    ended_case (cycle_of seed step n ops answers) (run_then seed step ops (suc n) cycles (graph_run ops (drop (length cycles) rows))) (graph_run ops rows) _ _
+    (λ later. honest_then seed step ops (suc n) rows cycles below linked (omega arith) later parts.1) some.1
+    ∙ ap (λ c. followed_by c (graph_run ops rows)) same
+
+-- the run of the operations on the rows that are left may follow
+pub rest_follows : (ops : List Op) (rows : List (List ℤ)) (cycles : List (List Answer)) → MayFollow rows cycles (graph_run ops (drop (length cycles) rows))
+rest_follows ops rows cycles e = ap (graph_run ops) (ap (λ j. drop j rows) e ∙ drop-length rows)
 
 -- with an honest unit, a whole run is that of the operations
 pub honest_runs : (seed step : ℕ) (ops : List Op) (rows : List (List ℤ)) (cycles : List (List Answer)) (x y : Option (List Entry)) (m n : ℕ) → Below seed step → Linked 0 ops → length rows ≤ 1000000 →

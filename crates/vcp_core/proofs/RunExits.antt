@@ -6,7 +6,7 @@ use Rattle.coded_unit.specs.declared.call.Answer.{Answer}
 use Rattle.coded_unit.specs.Log.{Entry}
 use Rattle.vcp_outside.specs.Written.{AppendsPart, Writes}
 use Rattle.vcp_outside.specs.declared.failed.Failed.{Failed}
-use Rattle.vcp_outside.proofs.Known.{appends-appends, failed_after}
+use Rattle.vcp_outside.proofs.Known.{appends-appends, part-after, failed_after}
 use Rattle.vcp_core.specs.declared.operation.Op.{Op}
 use Rattle.vcp_core.specs.declared.cycle_end.CycleEnd.{CycleEnd}
 use Rattle.vcp_core.specs.declared.cycle_end.CycleEnd.TheVariants as end
@@ -14,10 +14,10 @@ use Rattle.vcp_core.specs.Carries.{RunsOver, cycle_text, body_text, ends_as}
 use Rattle.vcp_core.specs.CycleEnds.{outputs, cycle_at, cycle_of}
 use Rattle.vcp_core.specs.RunSoFar.{AllReleased, RunSoFar}
 use Rattle.vcp_core.specs.Lines.{rows_text, end_text}
-use Rattle.vcp_core.specs.Log.{run_of_answers}
-use Rattle.vcp_core.specs.Runs.{Run, End, ends, complete}
-use Rattle.vcp_core.proofs.RunSteps.{run_after, rows_append, rest_text, all_done, all_ended, some_more, some_done}
-use Rattle.vcp_core.proofs.RunTurns.{Turned, next_row, cycle_is, more, run_with, body_with}
+use Rattle.vcp_core.specs.Log.{run_then, no_more, run_of_answers}
+use Rattle.vcp_core.specs.Runs.{Run, End, Cycle, ends, complete}
+use Rattle.vcp_core.proofs.RunSteps.{run_after, rows_append, rest_text, body_then, all_done, all_ended, some_more, some_done}
+use Rattle.vcp_core.proofs.RunTurns.{Turned, next_row, cycle_is, more, then_with, run_with, body_with}
 
 same_front : {X : Type 0} (xs ys : List X) (x y : X) → xs ++ x ∷ [] ≡ ys ++ y ∷ [] → xs ≡ ys
 same_front [] [] x y e = refl
@@ -27,6 +27,14 @@ same_front (first ∷ xs) (second ∷ ys) x y e =
     let heads : first ≡ second = cc in
     let tails : xs ++ x ∷ [] ≡ ys ++ y ∷ [] = cc in
     let rest : xs ≡ ys = same_front xs ys x y tails in cc
+
+-- where the line of one more cycle could not be printed, a part of the text was, whatever comes later
+part_turn : (names : List (List ℕ)) (seed step : ℕ) (ops : List Op) (count : ℕ) (cycles : List (List Answer)) (answers : List Answer) (old mid new : Option (List ℕ)) (c : Cycle) (later : Run) → length cycles ≡ count → AllReleased seed step ops 0 cycles →
+    c ≡ cycle_of seed step count ops answers → Appends old mid (rows_text 0 (map (outputs ops) cycles)) → AppendsPart mid new (cycle_text names count c) →
+    AppendsPart old new (body_text names (run_then seed step ops 0 (cycles ++ answers ∷ []) later))
+part_turn names seed step ops count cycles answers old mid new c later many all is v w =
+    let text = body_then names (map (outputs ops) cycles) count c later (length-map cycles (outputs ops) ∙ many) in
+    part-after old mid new _ _ text.0 _ v w (ap (body_text names) (then_with seed step ops count cycles answers c later many all (sym is)) ∙ text.1)
 
 -- the lines of the cycles before were written, where the line of one more could not be printed
 earlier_turn : (ops : List Op) (cycles earlier : List (List Answer)) (answers last : List Answer) (old mid new : Option (List ℕ)) (line : List ℕ) → Appends old mid (rows_text 0 (map (outputs ops) cycles)) → AppendsPart mid new line →
@@ -62,6 +70,7 @@ turn_fails names seed step ops rows before left count x y z m n o old mid new f 
       wrote = record { whole = tt; part = failed.part; cause = record { later = failed.cause.later; capped = failed.cause.capped; failed = failed.cause.failed } };
       begun = let next = next_row rows before left count row going.left_is going.rest taken in some_more seed step ops 0 rows going.cycles answers going.all_released (omega (arith, going.many, next.inside)) t.whole;
       finished = tt;
+      part = λ later follows. part_turn names seed step ops count going.cycles answers old mid new _ later going.many going.all_released (cycle_is seed step ops count row answers outs e y z n o t) going.wrote w.part;
       earlier = λ earlier last is. earlier_turn ops going.cycles earlier answers last old mid new _ going.wrote w.part is;
       ended = tt;
     }
@@ -97,6 +106,7 @@ ended_by names seed step ops rows before left count x y z m n o old mid new f g 
       };
       begun = some_more seed step ops 0 rows going.cycles answers going.all_released inside t.whole;
       finished = all_ended seed step ops 0 rows going.cycles answers final going.all_released inside t.whole (ap (λ j. cycle_of seed step j ops answers) (omega (arith, going.many)) ∙ comes_so);
+      part = tt;
       earlier = tt;
       ended = as_end ∙ sym run_end;
     }
@@ -116,7 +126,7 @@ turn_ends names seed step ops rows before left count x y z m n o old mid new f g
 -- the run of cycles that were all released
 run_so : (seed step : ℕ) (ops : List Op) (cycles : List (List Answer)) → AllReleased seed step ops 0 cycles → run_of_answers seed step ops 0 cycles ≡ run_ended ops cycles complete
 run_so seed step ops cycles all =
-    ap (run_of_answers seed step ops 0) (sym (append-nil cycles)) ∙ run_after seed step ops 0 cycles [] all
+    ap (run_of_answers seed step ops 0) (sym (append-nil cycles)) ∙ run_after seed step ops 0 cycles [] no_more all
     ∙ ap (λ rs. let r : Run = record { rows = rs; end = complete } in r) (append-nil (map (outputs ops) cycles))
 
 body_so : (names : List (List ℕ)) (seed step : ℕ) (ops : List Op) (count : ℕ) (cycles : List (List Answer)) → length cycles ≡ count → AllReleased seed step ops 0 cycles →
@@ -141,16 +151,17 @@ rows_end names seed step ops rows before count x y m n old mid new f g h going n
       };
       begun = some_done seed step ops 0 rows going.cycles going.all_released (omega (arith, going.many, going.rest));
       finished = let empty : length before ≡ 0 = ap length none in all_done seed step ops 0 rows going.cycles going.all_released (omega (arith, going.many, going.rest, empty));
+      part = tt;
       earlier = tt;
       ended = sym (ap (λ (r : Run). r.end) (run_so seed step ops going.cycles going.all_released));
     }
 
 -- the rows ended, and the last line could not be printed
 pub rows_end_fails : (names : List (List ℕ)) (seed step : ℕ) (ops : List Op) (rows before : List (List ℤ)) (count : ℕ) (x y : Option (List Entry)) (m n : ℕ) (old mid new : Option (List ℕ)) (f g h : ℕ) (why : Failed) →
-    RunSoFar seed step ops rows before count x y m n old mid f g →
+    RunSoFar seed step ops rows before count x y m n old mid f g → before ≡ [] →
     Writes {T = Unit {0}} mid new g h (end_text count) (Err why) →
     RunsOver seed step ops [] (body_text names) rows x y m n old new f h (Err why)
-rows_end_fails names seed step ops rows before count x y m n old mid new f g h why going w =
+rows_end_fails names seed step ops rows before count x y m n old mid new f g h why going none w =
     let line = body_text names (run_of_answers seed step ops 0 going.cycles) in
     let text : line ≡ rows_text 0 (map (outputs ops) going.cycles) ++ end_text count ++ [] = body_so names seed step ops count going.cycles going.many going.all_released ∙ sym (append-nil _) in
     let failed = failed_after {T = Unit {0}} why old mid new f g h _ _ [] line going.wrote going.later going.capped w text in
@@ -160,6 +171,7 @@ rows_end_fails names seed step ops rows before count x y m n old mid new f g h w
       wrote = record { whole = tt; part = failed.part; cause = record { later = failed.cause.later; capped = failed.cause.capped; failed = failed.cause.failed } };
       begun = some_done seed step ops 0 rows going.cycles going.all_released (omega (arith, going.many, going.rest));
       finished = tt;
+      part = λ later follows. let empty : length before ≡ 0 = ap length none in rw (follows (omega (arith, going.many, going.rest, empty))) failed.part;
       earlier = λ earlier last is. earlier_end ops going.cycles earlier last old mid new _ going.wrote w.part is;
       ended = tt;
     }

@@ -9,7 +9,7 @@ use Rattle.vcp_core.specs.Carries.{Carries, cycle_text, body_text}
 use Rattle.vcp_core.specs.CycleEnds.{outputs, cycle_of}
 use Rattle.vcp_core.specs.RunSoFar.{AllReleased}
 use Rattle.vcp_core.specs.Lines.{row_text, rows_text, last_text, end_text}
-use Rattle.vcp_core.specs.Log.{setting_at, calls_over, run_of_answers, unless_ended, AllCycles, SomeCycles}
+use Rattle.vcp_core.specs.Log.{setting_at, calls_over, run_then, unless_ended, AllCycles, SomeCycles}
 use Rattle.vcp_core.specs.Runs.{Run, End, Cycle, released, ends, complete, followed_by}
 use Rattle.vcp_core.proofs.Growth.{grows_on}
 
@@ -85,13 +85,13 @@ some_done seed step ops n [] (answers ∷ cycles) h l = absurd (omega arith)
 some_done seed step ops n (row ∷ rows) (answers ∷ cycles) h l = (h.0, rw h.1 (some_done seed step ops (suc n) rows cycles h.2 (omega arith)))
 
 -- the run of cycles that were all released, and of those after them
-pub run_after : (seed step : ℕ) (ops : List Op) (n : ℕ) (cycles rest : List (List Answer)) → AllReleased seed step ops n cycles →
-    run_of_answers seed step ops n (cycles ++ rest)
-    ≡ record { rows = map (outputs ops) cycles ++ (run_of_answers seed step ops (n + length cycles) rest).rows; end = (run_of_answers seed step ops (n + length cycles) rest).end }
-run_after seed step ops n [] rest h = ap (λ j. run_of_answers seed step ops j rest) (omega arith)
-run_after seed step ops n (answers ∷ cycles) rest h =
-    rw (h.1, run_after seed step ops (suc n) cycles rest h.2)
-    (ap (λ j. let r : Run = record { rows = outputs ops answers ∷ map (outputs ops) cycles ++ (run_of_answers seed step ops j rest).rows; end = (run_of_answers seed step ops j rest).end } in r) (omega arith))
+pub run_after : (seed step : ℕ) (ops : List Op) (n : ℕ) (cycles rest : List (List Answer)) (later : Run) → AllReleased seed step ops n cycles →
+    run_then seed step ops n (cycles ++ rest) later
+    ≡ record { rows = map (outputs ops) cycles ++ (run_then seed step ops (n + length cycles) rest later).rows; end = (run_then seed step ops (n + length cycles) rest later).end }
+run_after seed step ops n [] rest later h = ap (λ j. run_then seed step ops j rest later) (omega arith)
+run_after seed step ops n (answers ∷ cycles) rest later h =
+    rw (h.1, run_after seed step ops (suc n) cycles rest later h.2)
+    (ap (λ j. let r : Run = record { rows = outputs ops answers ∷ map (outputs ops) cycles ++ (run_then seed step ops j rest later).rows; end = (run_then seed step ops j rest later).end } in r) (omega arith))
 
 pub rows_append : (n : ℕ) (xs ys : List (List ℤ)) → rows_text n (xs ++ ys) ≡ rows_text n xs ++ rows_text (n + length xs) ys
 rows_append n [] ys = ap (λ j. rows_text j ys) (omega arith)
@@ -116,3 +116,14 @@ body_more names outs n (ends e) count =
     ap (λ xs. rows_text 0 xs ++ last_text names (length xs) e) (append-nil outs)
     ∙ ap (λ j. rows_text 0 outs ++ last_text names j e) count
     ∙ sym (append-nil (rows_text 0 outs ++ last_text names n e))
+
+-- what is printed of rows and one cycle more, whatever comes later
+pub body_then : (names : List (List ℕ)) (outs : List (List ℤ)) (n : ℕ) (c : Cycle) (later : Run) → length outs ≡ n →
+    (rest : List ℕ) × (body_text names (record { rows = outs ++ (followed_by c later).rows; end = (followed_by c later).end }) ≡ rows_text 0 outs ++ cycle_text names n c ++ rest)
+body_then names outs n (released row) later count =
+    let last = last_text names (length (outs ++ row ∷ later.rows)) later.end in
+    let more = rows_text (suc n) later.rows in
+    let whole : body_text names (record { rows = outs ++ row ∷ later.rows; end = later.end }) ≡ (rows_text 0 outs ++ row_text n row ++ more) ++ last =
+    ap (λ t. t ++ last) (rows_append 0 outs (row ∷ later.rows) ∙ ap (λ j. rows_text 0 outs ++ rows_text j (row ∷ later.rows)) (omega (arith, count)) ∙ sym (append_assoc (rows_text 0 outs) (row_text n row) more)) in
+    (more ++ last, whole ∙ append_assoc (rows_text 0 outs ++ row_text n row) more last)
+body_then names outs n (ends e) later count = ([], body_more names outs n (ends e) count)

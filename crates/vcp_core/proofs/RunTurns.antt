@@ -16,7 +16,7 @@ use Rattle.vcp_core.specs.Carries.{Carries, cycle_text, body_text}
 use Rattle.vcp_core.specs.CycleEnds.{end_of, outputs, cycle_at, cycle_of}
 use Rattle.vcp_core.specs.RunSoFar.{AllReleased, RunSoFar}
 use Rattle.vcp_core.specs.Lines.{row_text, rows_text}
-use Rattle.vcp_core.specs.Log.{setting_at, run_of_answers}
+use Rattle.vcp_core.specs.Log.{setting_at, run_then, no_more, run_of_answers}
 use Rattle.vcp_core.specs.Runs.{Run, Cycle, released, complete, followed_by}
 use Rattle.vcp_core.proofs.Growth.{grows_by_none}
 use Rattle.vcp_core.proofs.RunSteps.{carries_more, released_more, run_after, rows_append, rest_text, body_more}
@@ -67,14 +67,19 @@ more seed step ops rows before left count x y z m n o old mid f g row answers ou
     carries_more seed step ops rows going.cycles x y z m n o answers row going.carries (omega (arith, going.many, next.inside)) (next.row_is ∙ ap (λ j. get_or rows j row) (sym going.many))
     (subst (λ j. Carried (setting_at seed step j row) ops answers y z n o) (sym going.many) t.carried)
 
--- the run of the cycles so far and one more
+-- the run of the cycles so far and one more, and then a later run
+pub then_with : (seed step : ℕ) (ops : List Op) (count : ℕ) (cycles : List (List Answer)) (answers : List Answer) (c : Cycle) (later : Run) → length cycles ≡ count → AllReleased seed step ops 0 cycles → cycle_of seed step count ops answers ≡ c →
+    run_then seed step ops 0 (cycles ++ answers ∷ []) later ≡ record { rows = map (outputs ops) cycles ++ (followed_by c later).rows; end = (followed_by c later).end }
+then_with seed step ops count cycles answers c later many all is =
+    let here : cycle_of seed step (0 + length cycles) ops answers ≡ c = ap (λ j. cycle_of seed step j ops answers) (omega (arith, many)) ∙ is in
+    run_after seed step ops 0 cycles (answers ∷ []) later all
+    ∙ ap (λ k. let r : Run = record { rows = map (outputs ops) cycles ++ (followed_by k later).rows; end = (followed_by k later).end } in r) here
+
+-- the same, where there are no more rows
 pub run_with : (seed step : ℕ) (ops : List Op) (count : ℕ) (cycles : List (List Answer)) (answers : List Answer) (c : Cycle) → length cycles ≡ count → AllReleased seed step ops 0 cycles → cycle_of seed step count ops answers ≡ c →
     run_of_answers seed step ops 0 (cycles ++ answers ∷ [])
     ≡ record { rows = map (outputs ops) cycles ++ (followed_by c (record { rows = []; end = complete })).rows; end = (followed_by c (record { rows = []; end = complete })).end }
-run_with seed step ops count cycles answers c many all is =
-    let here : cycle_of seed step (0 + length cycles) ops answers ≡ c = ap (λ j. cycle_of seed step j ops answers) (omega (arith, many)) ∙ is in
-    run_after seed step ops 0 cycles (answers ∷ []) all
-    ∙ ap (λ k. let r : Run = record { rows = map (outputs ops) cycles ++ (followed_by k (record { rows = []; end = complete })).rows; end = (followed_by k (record { rows = []; end = complete })).end } in r) here
+run_with seed step ops count cycles answers c many all is = then_with seed step ops count cycles answers c no_more many all is
 
 -- what the run of the cycles so far and one more prints
 pub body_with : (names : List (List ℕ)) (seed step : ℕ) (ops : List Op) (count : ℕ) (cycles : List (List Answer)) (answers : List Answer) → length cycles ≡ count → AllReleased seed step ops 0 cycles →

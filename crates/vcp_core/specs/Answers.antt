@@ -5,7 +5,7 @@ use Rattle.coded_unit.specs.declared.call.Answer.{Answer as Given}
 use Rattle.coded_unit.specs.Log.{Entry}
 use Rattle.vcp_core.specs.declared.program.Term.{Term}
 use Rattle.vcp_core.specs.Carries.{EarlierWritten}
-use Rattle.vcp_core.specs.Log.{calls_over, run_of_answers, AllCycles, SomeCycles}
+use Rattle.vcp_core.specs.Log.{calls_over, run_then, run_of_answers, MayFollow, AllCycles, SomeCycles}
 use Rattle.vcp_core.specs.Meaning.{source_run}
 use Rattle.vcp_core.specs.Operations.{operations}
 use Rattle.vcp_core.specs.Runs.{Run, End, complete, stopped, refused}
@@ -134,6 +134,16 @@ default_step = 1
 abbrev pub run_read : Task → List (List Given) → Run
 run_read (runs terms rows) cycles = run_of_answers default_seed default_step (operations terms) 0 cycles
 run_read _ cycles = record { rows = []; end = complete }
+
+-- the run that is read off the answers to some of a task's calls, and then a later run
+abbrev pub run_read_then : Task → List (List Given) → Run → Run
+run_read_then (runs terms rows) cycles later = run_then default_seed default_step (operations terms) 0 cycles later
+run_read_then _ cycles later = later
+
+-- a run that may come after these answers: any at all, unless they are of all rows
+abbrev pub MayCome : Task → List (List Given) → Run → Type 0
+MayCome (runs terms rows) cycles later = MayFollow rows cycles later
+MayCome _ cycles later = Unit {0}
 
 -- the calls of a task with these answers: the unit is called for nothing but a run
 abbrev pub calls_of : Task → List (List Given) → List Entry

@@ -3,7 +3,7 @@ use Rattle.std.specs.Prelude.{ℕ, ◌≡◌, ◌<◌, ◌≤◌, ◌-◌, ◌^�
 use Rattle.std.specs.Io.KnownBytes.{Appends}
 use Rattle.coded_unit.specs.declared.call.Answer.{Answer}
 use Rattle.coded_unit.specs.Log.{Entry, GrowsBy}
-use Rattle.vcp_outside.specs.Written.{Writes}
+use Rattle.vcp_outside.specs.Written.{AppendsPart, Writes}
 use Rattle.vcp_outside.specs.declared.failed.Failed.{Failed}
 use Rattle.vcp_core.specs.declared.operation.Op.{Op}
 use Rattle.vcp_core.specs.declared.cycle_end.CycleEnd.{CycleEnd}
@@ -11,7 +11,7 @@ use Rattle.vcp_core.specs.Calls.{AllRight}
 use Rattle.vcp_core.specs.declared.cycle_end.CycleEnd.TheVariants as end
 use Rattle.vcp_core.specs.CycleEnds.{outputs, spot_at}
 use Rattle.vcp_core.specs.Lines.{row_text, rows_text, last_text}
-use Rattle.vcp_core.specs.Log.{calls_over, run_of_answers, AllCycles, SomeCycles}
+use Rattle.vcp_core.specs.Log.{calls_over, run_then, run_of_answers, MayFollow, AllCycles, SomeCycles}
 use Rattle.vcp_core.specs.Runs.{Run, End, Cycle, released, ends, complete, stopped, refused}
 
 -- The log grew by the calls of the cycles, one cycle a row, with their answers, and by nothing else; and no answer is
@@ -43,8 +43,8 @@ EarlierWritten head ops cycles old new =
     (more : List ℕ) × Appends old new ((head ++ rows_text 0 (map (outputs ops) earlier)) ++ more)
 
 -- A run over rows: cycles were carried, and what was printed is the text of the run that is read off their answers; where
--- nothing failed, the cycles are those of a whole run, and where printing failed, the lines of the cycles before the last
--- one were printed.
+-- nothing failed, the cycles are those of a whole run, and where printing failed, what was
+-- printed is a part of the text whatever would come later, with the lines of the cycles before the last one.
 pub record RunsOver (seed step : ℕ) (ops : List Op) (head : List ℕ) (text : Run → List ℕ) (rows : List (List ℤ)) (told_before told_now : Option (List Entry)) (wrong_before wrong_now : ℕ)
     (old new : Option (List ℕ)) (faults_before faults_now : ℕ) (result : Result CycleEnd Failed) : Type 0 where
   pub cycles : List (List Answer)
@@ -52,5 +52,6 @@ pub record RunsOver (seed step : ℕ) (ops : List Op) (head : List ℕ) (text : 
   pub wrote : Writes old new faults_before faults_now (text (run_of_answers seed step ops 0 cycles)) result
   pub begun : SomeCycles seed step ops 0 rows cycles
   pub finished : OnOk result (AllCycles seed step ops 0 rows cycles)
+  pub part : OnErr result ((later : Run) → MayFollow rows cycles later → AppendsPart old new (text (run_then seed step ops 0 cycles later)))
   pub earlier : OnErr result (EarlierWritten head ops cycles old new)
   pub ended : IfOk result (λ e. ends_as ops e ≡ (run_of_answers seed step ops 0 cycles).end)

@@ -7,7 +7,8 @@ use Rattle.vcp_outside.specs.Counts.{Rose}
 use Rattle.vcp_outside.specs.Written.{AppendsPart}
 use Rattle.vcp_core.specs.declared.cycle_end.CycleEnd.{CycleEnd}
 use Rattle.vcp_core.specs.declared.cycle_end.CycleEnd.TheVariants as end
-use Rattle.vcp_core.specs.Answers.{Task, answer_of, run_read, run_meant, calls_of, AllAnswers, SomeAnswers, EarlierPrinted, first_name, second_name, read_fault_text, write_fault_text, memory_text, usage_text}
+use Rattle.vcp_core.specs.Runs.{Run}
+use Rattle.vcp_core.specs.Answers.{Task, answer_of, run_read, run_read_then, MayCome, run_meant, calls_of, AllAnswers, SomeAnswers, EarlierPrinted, first_name, second_name, read_fault_text, write_fault_text, memory_text, usage_text}
 
 -- What is told before and after: the unit's log and count of wrong answers, what was written to the two sinks with their
 -- counts of faults, and the count of the files that broke; and the status.
@@ -54,15 +55,18 @@ pub record FilesFailed (words : List (List ℕ)) (e : Ended) : Type 0 where
   pub out : Appends e.out_old e.out_new []
   pub err : Appends e.err_old e.err_new (read_fault_text name)
 
--- The sink of the output failed: it has a proper front of what the run prints that is read off the answers so far, with
--- all lines of the cycles before the last one, and the unit was asked nothing after them. The line of the fault was printed, or the sink of the errors failed in it too.
+-- The sink of the output failed: it has a proper front of what the run prints that is read off the answers so far, whatever
+-- would come later, with all lines of the cycles before the last one; the unit was asked nothing more. Where no answer was
+-- wrong, that is a proper front of what the task means. The line of the fault was printed, or the sink of the errors failed
+-- in it too.
 pub record OutputFailed (task : Task) (e : Ended) : Type 0 where
   pub status : e.status ≡ 6
   pub rose : Rose e.out_faults_old e.out_faults_new
   pub cycles : List (List Given)
   pub some : SomeAnswers task cycles
   pub log : GrowsBy e.log_old e.log_new (calls_of task cycles)
-  pub out : AppendsPart e.out_old e.out_new (answer_of task (run_read task cycles)).out
+  pub out : (later : Run) → MayCome task cycles later → AppendsPart e.out_old e.out_new (answer_of task (run_read_then task cycles later)).out
+  pub honest : e.wrong_new ≡ e.wrong_old → e.wrong_old < 2 ^ 64 - 1 → AppendsPart e.out_old e.out_new (answer_of task (run_meant task)).out
   pub earlier : EarlierPrinted task cycles e.out_old e.out_new
   pub err : Appends e.err_old e.err_new write_fault_text ⊎ (Rose e.err_faults_old e.err_faults_new × AppendsPart e.err_old e.err_new write_fault_text)
 

@@ -1,5 +1,5 @@
 -- The log of a run: the calls of its cycles in order, and the run that is read off the answers.
-use Rattle.std.specs.Prelude.{ℕ, suc, ◌≡◌, List, [], ◌∷◌, ◌++◌, ℤ}
+use Rattle.std.specs.Prelude.{ℕ, suc, ◌≡◌, List, [], ◌∷◌, ◌++◌, length, ℤ}
 use Rattle.coded_unit.specs.declared.call.Answer.{Answer}
 use Rattle.coded_unit.specs.Log.{Entry}
 use Rattle.vcp_core.specs.declared.operation.Op.{Op}
@@ -18,11 +18,23 @@ calls_over seed step ops n [] (answers ∷ cycles) = []
 calls_over seed step ops n (row ∷ rows) (answers ∷ cycles) =
     CallsOf (setting_at seed step n row) ops answers ++ calls_over seed step ops (suc n) rows cycles
 
--- the run that is read off the answers of the cycles from n on
+-- the run that is read off the answers of the cycles from n on, and then a later run, unless one of the cycles ends it
+abbrev pub run_then : ℕ → ℕ → List Op → ℕ → List (List Answer) → Run → Run
+run_then seed step ops n [] later = later
+run_then seed step ops n (answers ∷ cycles) later =
+    followed_by (cycle_of seed step n ops answers) (run_then seed step ops (suc n) cycles later)
+
+-- the run after the last row
+abbrev pub no_more : Run
+no_more = record { rows = []; end = complete }
+
+-- the run that is read off the answers of the cycles from n on, where there are no more rows
 abbrev pub run_of_answers : ℕ → ℕ → List Op → ℕ → List (List Answer) → Run
-run_of_answers seed step ops n [] = record { rows = []; end = complete }
-run_of_answers seed step ops n (answers ∷ cycles) =
-    followed_by (cycle_of seed step n ops answers) (run_of_answers seed step ops (suc n) cycles)
+run_of_answers seed step ops n cycles = run_then seed step ops n cycles no_more
+
+-- a run that may come after these cycles: any at all, unless they took all rows
+abbrev pub MayFollow : List (List ℤ) → List (List Answer) → Run → Type 0
+MayFollow rows cycles later = length cycles ≡ length rows → later ≡ no_more
 
 -- the first fact after a cycle that released its outputs, the second after one that ended the run
 abbrev pub unless_ended : Cycle → Type 0 → Type 0 → Type 0

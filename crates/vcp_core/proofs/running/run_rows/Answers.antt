@@ -42,7 +42,7 @@ cycles-preserved g c = record {
 pub returns-in_err-end_line : goal.returns-in_err-end_line
 returns-in_err-end_line g c =
     let p = err_from_is_err_and c.from_residual-in_err-end_line.result c.from_residual-in_err-end_line.ensures.1 in
-    rw p.1 (record { run = rows_end_fails output_names c.args.code.seed c.args.code.step c.args.ops.now c.args.rows.now c.cycles.rows c.cycles.count _ _ _ _ _ _ _ _ _ _ _ c.cycles.invariant.going c.in_err-end_line.ensures })
+    rw p.1 (record { run = rows_end_fails output_names c.args.code.seed c.args.code.step c.args.ops.now c.args.rows.now c.cycles.rows c.cycles.count _ _ _ _ _ _ _ _ _ _ _ c.cycles.invariant.going (c.next.ensures.none c.cycles-test.false).0 c.in_err-end_line.ensures })
 
 pub returns : goal.returns
 returns g c = record {
