@@ -1,0 +1,7 @@
+pub mod Covers
+pub mod Tables
+pub mod Numbers
+pub mod Spotted
+pub mod Fronts
+pub mod Total
+mod Worked

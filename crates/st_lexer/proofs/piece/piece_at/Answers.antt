@@ -1,0 +1,5 @@
+use Rattle.st_lexer.proofs.Fronts.{finds-within}
+use Rattle.st_lexer.proofs.piece.piece_at.Goals as goal
+
+pub returns-clause-within : goal.returns-clause-within
+returns-clause-within c = finds-within c.args.at c.args.rest.now c.found_at.result c.requires c.found_at.ensures

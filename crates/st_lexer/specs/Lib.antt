@@ -1,0 +1,7 @@
+pub mod Literals
+pub mod Pieces
+pub mod Reading
+pub mod Spots
+pub mod Symbols
+pub mod TokenList
+pub mod Words

@@ -1,0 +1,80 @@
+//! The reading of a text.
+
+ghost use Rattle.std.specs.Prelude.{◌≡◌, ◌+◌, ◌≤◌, ◌<◌, ◌^◌, ◌++◌, ◌⊎◌, ℕ, List, length, IfOk, IfErr, OnOk, Some, true, All};
+ghost use Rattle.st_lexer.specs.Reading as spec;
+ghost use Rattle.st_lexer.specs.Spots.{spot_at};
+ghost use Rattle.st_lexer.specs.Symbols.{all_symbols, begins, spelling, symbol_among};
+ghost use Rattle.st_lexer.specs.declared.token.Sym.{Sym};
+ghost use Rattle.st_lexer.specs.declared.fault.Reason.{Reason};
+ghost use Rattle.st_lexer.specs.declared.token.Token.{Token};
+
+use crate::fault::{LexFault, fault_at};
+use crate::piece::{Found, piece_at};
+use crate::slices::front;
+use crate::spot::spot_behind;
+use crate::token::{Tok, Token};
+use crate::tokens::Tokens;
+use std::alloc::Global;
+use vcp_base::{Memory, Spot};
+
+// Appends the token of a piece; a gap has none.
+fn add(
+    tokens: &mut Tokens,
+    tok: Option<Tok>,
+    from: usize,
+    len: usize,
+    spot: Spot,
+) -> Result<(), Memory>
+    requires { from + len < 2 ^ 32 }
+    ensures ok { OnOk result ((text : List ℕ) → spot ≡ spot_at text from → tokens.new.tokens ≡ tokens.old.tokens ++ spec.token_of text (record { from = from; to = from + len; is = tok }) tok) }
+{
+    match tok {
+        Some(tok) => tokens.push(Token {
+            tok,
+            from: from as u32,
+            to: (from + len) as u32,
+            spot,
+        }),
+        None => Ok(()),
+    }
+}
+
+/// The tokens of the one reading of a text, or the first place where it can't go on.
+///
+/// The text has at most 1,048,576 bytes. The time is linear in their number.
+pub fn lex(alloc: Global, text: &[u8]) -> Result<Tokens, LexFault>
+    requires { length text.now ≤ 1048576 }
+    ensures ok { IfOk result (λ t. spec.Reads text.now t.tokens) }
+    ensures inside { IfOk result (λ t. All (spec.IsInside text.now) t.tokens) }
+    ensures end { IfOk result (λ t. t.end ≡ spot_at text.now (length text.now)) }
+    ensures err { IfErr result (spec.Faults text.now) }
+{
+    let mut tokens = Tokens::new(alloc);
+    let mut spot = Spot { line: 1, col: 1 };
+    let mut at: usize = 0;
+    while at < text.len() {
+        let (_, rest) = text.split_at(at);
+        match piece_at(at, rest) {
+            Found::Piece(tok, len) => {
+                add(&mut tokens, tok, at, len, spot)?;
+                spot = spot_behind(spot, front(rest, len));
+                at += len;
+            }
+            Found::Refused(reason) => return Err(fault_at(reason, spot)),
+        }
+    }
+    tokens.set_end(spot);
+    Ok(tokens)
+}
+
+/// The laws of a reading. Every text has one, or a place at which no reading goes on, and not both;
+/// the reading is one, and so are the place and its reason. Of the symbols with which a text begins
+/// the longest is taken.
+pub fn one_reading()
+    ensures total { (text : List ℕ) → ((a : List Token) × spec.Reads text a) ⊎ ((p : ℕ) × (r : Reason) × spec.LexAt text p r) }
+    ensures tokens { (text : List ℕ) (a b : List Token) → spec.Reads text a → spec.Reads text b → a ≡ b }
+    ensures either { (text : List ℕ) (a : List Token) (p : ℕ) (r : Reason) → spec.Reads text a → spec.LexAt text p r → ⊥ }
+    ensures place { (text : List ℕ) (p q : ℕ) (r s : Reason) → spec.LexAt text p r → spec.LexAt text q s → p ≡ q }
+    ensures reason { (text : List ℕ) (p q : ℕ) (r s : Reason) → spec.LexAt text p r → spec.LexAt text q s → r ≡ s }
+    ensures longest { (text : List ℕ) (y z : Sym) → symbol_among all_symbols text ≡ Some y → begins (spelling z) text ≡ true → length (spelling z) ≤ length (spelling y) }
+{}
