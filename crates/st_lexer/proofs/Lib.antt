@@ -3,5 +3,6 @@ pub mod Tables
 pub mod Numbers
 pub mod Spotted
 pub mod Fronts
+pub mod Lacking
 pub mod Total
 mod Worked

@@ -40,7 +40,7 @@ unfoldable pub number : ℕ → ℕ → List ℕ → ℕ
 number base front [] = front
 number base front (b ∷ s) = if b == 95 then number base front s else number base (front * base + digit b) s
 
--- the number that digits of the base spell, at most 2^63 - 1
+-- the number that digits of the base spell; none where s is not such digits, or the number is above 2^63 - 1
 abbrev pub digits : ℕ → List ℕ → Option ℕ
 digits base s =
     if are_digits base false s && nat_lt (number base 0 s) (2 ^ 63) then Some (number base 0 s) else None
@@ -106,7 +106,7 @@ abbrev pub literal_of : ℕ → (ℕ → ℤ) → Option ℕ → Option Literal
 literal_of bytes value None = None
 literal_of bytes value (Some n) = Some (record { value = value n; len = bytes })
 
--- the literal of a type (None: of none) that begins at s, where its prefix is left out; no literal where its run is none of the forms
+-- the literal of a type (None: of none) that begins at s, where its prefix is left out; no literal where its run is none of the forms, or its number is above 2^63 - 1
 unfoldable pub literal_at : Option Ty → List ℕ → Option Literal
 literal_at t s =
     if signed t s then literal_of (length (run (drop 1 s)) + 1) (with_sign (slice_index s 0)) (digits 10 (run (drop 1 s)))

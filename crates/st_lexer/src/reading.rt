@@ -1,10 +1,13 @@
 //! The reading of a text.
 
-ghost use Rattle.std.specs.Prelude.{◌≡◌, ◌+◌, ◌≤◌, ◌<◌, ◌^◌, ◌++◌, ◌⊎◌, ℕ, List, length, IfOk, IfErr, OnOk, Some, true, All};
+ghost use Rattle.std.specs.Prelude.{◌≡◌, ◌+◌, ◌≤◌, ◌<◌, ◌^◌, ◌++◌, ◌⊎◌, ℕ, List, length, IfOk, IfErr, OnOk, Some, None, true, false, All};
 ghost use Rattle.st_lexer.specs.Reading as spec;
 ghost use Rattle.st_lexer.specs.Spots.{spot_at};
 ghost use Rattle.st_lexer.specs.Symbols.{all_symbols, begins, spelling, symbol_among};
+ghost use Rattle.st_lexer.specs.Words.{word, spelling as word_spelling};
+ghost use Rattle.st_lexer.specs.declared.token.Key.{Key};
 ghost use Rattle.st_lexer.specs.declared.token.Sym.{Sym};
+ghost use Rattle.st_lexer.specs.declared.token.Tok.TheVariants as tok;
 ghost use Rattle.st_lexer.specs.declared.fault.Reason.{Reason};
 ghost use Rattle.st_lexer.specs.declared.token.Token.{Token};
 
@@ -39,9 +42,10 @@ fn add(
     }
 }
 
-/// The tokens of the one reading of a text, or the first place where it can't go on.
+/// The tokens of the one reading of a text, or the first place where it can't go on; or want of
+/// memory.
 ///
-/// The text has at most 1,048,576 bytes. The time is linear in their number.
+/// The text has at most 1,048,576 bytes. Each byte is looked at a fixed number of times.
 pub fn lex(alloc: Global, text: &[u8]) -> Result<Tokens, LexFault>
     requires { length text.now ≤ 1048576 }
     ensures ok { IfOk result (λ t. spec.Reads text.now t.tokens) }
@@ -68,13 +72,18 @@ pub fn lex(alloc: Global, text: &[u8]) -> Result<Tokens, LexFault>
 }
 
 /// The laws of a reading. Every text has one, or a place at which no reading goes on, and not both;
-/// the reading is one, and so are the place and its reason. Of the symbols with which a text begins
-/// the longest is taken.
+/// the reading is one, with its gaps, and so are the place and its reason. Of the symbols with which
+/// a text begins the longest is taken, and none only where it begins with none. Each reserved word is
+/// found by its spelling.
 pub fn one_reading()
     ensures total { (text : List ℕ) → ((a : List Token) × spec.Reads text a) ⊎ ((p : ℕ) × (r : Reason) × spec.LexAt text p r) }
+    ensures pieces { (text : List ℕ) (ps qs : List spec.Piece) → spec.Cover text ps 0 (length text) → spec.Cover text qs 0 (length text) → ps ≡ qs }
     ensures tokens { (text : List ℕ) (a b : List Token) → spec.Reads text a → spec.Reads text b → a ≡ b }
     ensures either { (text : List ℕ) (a : List Token) (p : ℕ) (r : Reason) → spec.Reads text a → spec.LexAt text p r → ⊥ }
     ensures place { (text : List ℕ) (p q : ℕ) (r s : Reason) → spec.LexAt text p r → spec.LexAt text q s → p ≡ q }
     ensures reason { (text : List ℕ) (p q : ℕ) (r s : Reason) → spec.LexAt text p r → spec.LexAt text q s → r ≡ s }
+    ensures begins { (text : List ℕ) (y : Sym) → symbol_among all_symbols text ≡ Some y → begins (spelling y) text ≡ true }
     ensures longest { (text : List ℕ) (y z : Sym) → symbol_among all_symbols text ≡ Some y → begins (spelling z) text ≡ true → length (spelling z) ≤ length (spelling y) }
+    ensures symbols { (text : List ℕ) (z : Sym) → symbol_among all_symbols text ≡ None → begins (spelling z) text ≡ false }
+    ensures words { (k : Key) → word (word_spelling k) ≡ tok.Key k }
 {}

@@ -66,7 +66,7 @@ fn first_wrong(alloc: Global, rows: &[(&[u8], &[u8])]) -> Result<Option<usize>, 
     Ok(None)
 }
 
-const TOKENS: [(&[u8], &[u8]); 39] = [
+const TOKENS: [(&[u8], &[u8]); 40] = [
     (b"", b""),
     (b" \t\r\n", b""),
     (b"\r", b""),
@@ -123,6 +123,7 @@ const TOKENS: [(&[u8], &[u8]); 39] = [
     (b"<<>", b"< <> "),
     (b"=>=", b"= >= "),
     (b":==", b":= = "),
+    (b">>=<=>", b"> >= <= > "),
     (b"..", b".. "),
     (b"+-*/;,()", b"+ - * / ; , ( ) "),
     (b"(x)(*y*)/z", b"( name ) / name "),
@@ -136,7 +137,7 @@ fn gaps_words_and_symbols(rt: HostRuntime) -> Result<(), Fail> {
     Ok(())
 }
 
-const LITERALS: [(&[u8], &[u8]); 20] = [
+const LITERALS: [(&[u8], &[u8]); 25] = [
     (b"1..2", b"1 .. 2 "),
     (b"0 007", b"0 7 "),
     (b"1_000", b"1000 "),
@@ -157,6 +158,11 @@ const LITERALS: [(&[u8], &[u8]); 20] = [
     (b"DINT#-9223372036854775807", b"DINT -9223372036854775807 "),
     (b"-5", b"- 5 "),
     (b"INT -5", b"INT - 5 "),
+    (b"BOOL#TRUE", b"BOOL 1 "),
+    (b"dint#16#ff", b"DINT 255 "),
+    (b"00009223372036854775807", b"9223372036854775807 "),
+    (b"INT#-1..2", b"INT -1 .. 2 "),
+    (b"INT#+0 BOOL#8#1", b"INT 0 BOOL 1 "),
 ];
 
 #[test]
@@ -166,7 +172,7 @@ fn literals(rt: HostRuntime) -> Result<(), Fail> {
     Ok(())
 }
 
-const FAULTS: [(&[u8], &[u8]); 48] = [
+const FAULTS: [(&[u8], &[u8]); 57] = [
     (b"PROGRAM p (* x", b"comment 1:11"),
     (b"PROGRAM p {", b"byte 1:11"),
     (b"PROGRAM p y := 16#G; END_PROGRAM", b"number 1:16"),
@@ -213,6 +219,15 @@ const FAULTS: [(&[u8], &[u8]); 48] = [
     (b"BOOL#TRUE_", b"number 1:1"),
     (b"DINT#5#", b"number 1:1"),
     (b"DINT#-9223372036854775808", b"number 1:1"),
+    (b"INT#", b"number 1:1"),
+    (b"INT#+", b"number 1:1"),
+    (b"BOOL#_1", b"number 1:1"),
+    (b"16#1_", b"number 1:1"),
+    (b"1_#2", b"number 1:1"),
+    (b"02#1", b"number 1:1"),
+    (b"LINT#5", b"byte 1:5"),
+    (b"a\xef\xbb\xbfb", b"byte 1:2"),
+    (b"00009223372036854775808", b"number 1:1"),
     (b"1 {  (*", b"byte 1:3"),
     (b"1x {", b"number 1:1"),
 ];

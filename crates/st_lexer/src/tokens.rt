@@ -7,7 +7,7 @@ use std::alloc::Global;
 use std::marker::Model;
 use vcp_base::{Memory, Spot};
 
-/// The tokens of a text in order, and the spot of the byte after its last.
+/// The tokens of a text in order, and the spot of the byte after the last one of the text.
 #[derive(Debug, Drop)]
 pub struct Tokens {
     list: Vec<Token>,

@@ -9,7 +9,7 @@ use Rattle.vcp_core.specs.declared.program.Term.{Term}
 use Rattle.vcp_core.specs.Answers.{Task, Answer, usage, lacks, refuses, runs, answer_of, run_read, run_meant, end_status}
 use Rattle.vcp_core.specs.Calls.{at}
 use Rattle.vcp_core.specs.Causes.{WasHonest, MeantStatus, RunsAsMeant, Causes}
-use Rattle.vcp_core.specs.Endings.{Ended, Answers, Ends, answers, files_failed, output_failed, errors_failed, no_memory}
+use Rattle.vcp_core.specs.Endings.{Ended, AnswerGiven, Ends, answers, files_failed, output_failed, errors_failed, no_memory}
 use Rattle.vcp_core.specs.Meaning.{operand_value, combined, sum_from, source_run}
 use Rattle.vcp_core.specs.Operations.{spot}
 use Rattle.vcp_core.specs.Runs.{Run, End, Cycle, ends, complete, stopped, refused, followed_by}
@@ -75,7 +75,7 @@ meant_status (stopped why spot) status f h = h
 meant_status (refused number found wanted) status f h = absurd (f number found wanted refl)
 
 -- the defined answer with an honest unit
-as_meant : (terms : List Term) (rows : List (List ℤ)) (task : Task) (e : Ended) → task ≡ runs terms rows → Answers task e → WasHonest e → RunsAsMeant terms rows e
+as_meant : (terms : List Term) (rows : List (List ℤ)) (task : Task) (e : Ended) → task ≡ runs terms rows → AnswerGiven task e → WasHonest e → RunsAsMeant terms rows e
 as_meant terms rows task e is a honest =
     let same : answer_of task (run_read task a.cycles) ≡ answer_of (runs terms rows) (source_run terms rows) =
     ap (answer_of task) (a.honest honest.same honest.below) ∙ ap (λ t. answer_of t (run_meant t)) is in
@@ -111,7 +111,7 @@ end_causes task words e (files_failed b) = record {
   five_only = λ h. inl b.rose;
   five = λ name is sinks memory. b.status;
   meant = λ terms rows is honest given. absurd (given.files b.status);
-  completes = λ terms rows is nothing honest. absurd (nothing.files b.rose);
+  completes = λ terms rows is nothing honest. absurd (nothing.unbroken b.rose);
 }
 end_causes task words e (output_failed l) = record {
   one_only = λ h. absurd (omega (arith, h, l.status));

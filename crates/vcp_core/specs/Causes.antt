@@ -1,4 +1,5 @@
--- The cause of each status, where it is told what is held.
+-- The causes of the statuses 1, 2 and 5, and completeness, where it is told what is held. The others have clauses of
+-- their own in the top call, and what the run that is read off the answers says of 0, 2 and 3 stands in the answer given.
 use Rattle.std.specs.Prelude.{ℕ, ◌≡◌, ◌≢◌, ◌⊎◌, ◌<◌, ◌-◌, ◌^◌, List, [], ℤ}
 use Rattle.std.specs.Io.KnownBytes.{Appends}
 use Rattle.vcp_base.specs.declared.kind.StopKind.{StopKind}
@@ -16,14 +17,14 @@ pub record WasHonest (e : Ended) : Type 0 where
   pub same : e.wrong_new ≡ e.wrong_old
   pub below : e.wrong_old < 2 ^ 64 - 1
 
--- no count of faults rose
+-- the files didn't break, and no sink's count of faults rose; a name may have been lacking
 pub record NothingFailed (e : Ended) : Type 0 where
-  pub files : ¬ Rose e.broken_old e.broken_new
+  pub unbroken : ¬ Rose e.broken_old e.broken_new
   pub out : ¬ Rose e.out_faults_old e.out_faults_new
   pub err : ¬ Rose e.err_faults_old e.err_faults_new
 
--- neither a file nor a sink failed, and memory was found: the status is none of theirs
-pub record IsGiven (status : ℕ) : Type 0 where
+-- the status is no fault's: neither a file nor a sink failed, and memory was found
+pub record IsNoFault (status : ℕ) : Type 0 where
   pub files : status ≢ 5
   pub sinks : status ≢ 6
   pub memory : status ≢ 7
@@ -45,16 +46,16 @@ pub record Causes (task : Task) (e : Ended) : Type 0 where
   -- 1 comes only where a file is refused
   pub one_only : e.status ≡ 1 → (line : List ℕ) × (task ≡ refuses line)
   -- and where a file is refused it comes, with that file's line and nothing else, but for 5, 6 and 7
-  pub one : (line : List ℕ) → task ≡ refuses line → IsGiven e.status → (e.status ≡ 1) × Appends e.out_old e.out_new [] × Appends e.err_old e.err_new line
+  pub one : (line : List ℕ) → task ≡ refuses line → IsNoFault e.status → (e.status ≡ 1) × Appends e.out_old e.out_new [] × Appends e.err_old e.err_new line
   -- with an honest unit 2 comes only where the program's meaning stops
   pub two_only : e.status ≡ 2 → WasHonest e → (why : StopKind) × (spot : Spot) × ((run_meant task).end ≡ stopped why spot)
   -- and where the meaning stops it comes, but for 5, 6 and 7
-  pub two : (why : StopKind) (spot : Spot) → (run_meant task).end ≡ stopped why spot → WasHonest e → IsGiven e.status → e.status ≡ 2
+  pub two : (why : StopKind) (spot : Spot) → (run_meant task).end ≡ stopped why spot → WasHonest e → IsNoFault e.status → e.status ≡ 2
   -- 5 comes only where the files broke, or where a name is lacking that was come to, which the line then names
   pub five_only : e.status ≡ 5 → Rose e.broken_old e.broken_new ⊎ ((name : List ℕ) × (task ≡ lacks name) × Appends e.err_old e.err_new (read_fault_text name))
   -- and where a name is lacking it comes, but for 6 and 7
   pub five : (name : List ℕ) → task ≡ lacks name → e.status ≢ 6 → e.status ≢ 7 → e.status ≡ 5
   -- with an honest unit a run is done as the program means it, but for 5, 6 and 7
-  pub meant : (terms : List Term) (rows : List (List ℤ)) → task ≡ runs terms rows → WasHonest e → IsGiven e.status → RunsAsMeant terms rows e
+  pub meant : (terms : List Term) (rows : List (List ℤ)) → task ≡ runs terms rows → WasHonest e → IsNoFault e.status → RunsAsMeant terms rows e
   -- and where nothing failed, it is done so, unless memory was wanted
   pub completes : (terms : List Term) (rows : List (List ℤ)) → task ≡ runs terms rows → NothingFailed e → WasHonest e → (e.status ≡ 7) ⊎ RunsAsMeant terms rows e

@@ -29,10 +29,11 @@ pub record Ended : Type 0 where
   pub broken_new : ℕ
   pub status : ℕ
 
--- The defined answer was given. The unit was asked each call of the task, cycle by cycle to the end of the run, and the
--- log grew by these calls with its answers and by nothing else; what is written and the status are those of the run that
--- is read off these answers; and where no answer was wrong, that run is the one that the task means.
-pub record Answers (task : Task) (e : Ended) : Type 0 where
+-- The defined answer was given. Where the log is told, it grew by the calls of the task, cycle by cycle to the end of the
+-- run, with the answers that the unit gave, and by nothing else; where it isn't, these are some answers of that form. What
+-- is written and the status are those of the run that is read off these answers; and where no answer was wrong, that run
+-- is the one that the task means.
+pub record AnswerGiven (task : Task) (e : Ended) : Type 0 where
   pub cycles : List (List Given)
   pub all : AllAnswers task cycles
   pub log : GrowsBy e.log_old e.log_new (calls_of task cycles)
@@ -56,8 +57,8 @@ pub record FilesFailed (words : List (List ℕ)) (e : Ended) : Type 0 where
   pub err : Appends e.err_old e.err_new (read_fault_text name)
 
 -- The sink of the output failed: it has a proper front of what the run prints that is read off the answers so far, whatever
--- would come later, with all lines of the cycles before the last one; the unit was asked nothing more. Where no answer was
--- wrong, that is a proper front of what the task means. The line of the fault was printed, or the sink of the errors failed
+-- would come later, with all lines of the cycles before the last one; and the unit was asked nothing more: this is said
+-- where what is written and the log are told. Where no answer was wrong, it has a proper front of what the task means. The line of the fault was printed, or the sink of the errors failed
 -- in it too.
 pub record OutputFailed (task : Task) (e : Ended) : Type 0 where
   pub status : e.status ≡ 6
@@ -89,7 +90,7 @@ pub record NoMemory (e : Ended) : Type 0 where
 
 -- how the program ends
 pub data Ends (task : Task) (words : List (List ℕ)) (e : Ended) : Type 0 where
-  answers : Answers task e → Ends task words e
+  answers : AnswerGiven task e → Ends task words e
   files_failed : FilesFailed words e → Ends task words e
   output_failed : OutputFailed task e → Ends task words e
   errors_failed : ErrorsFailed task words e → Ends task words e

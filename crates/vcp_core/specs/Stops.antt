@@ -15,6 +15,6 @@ abbrev pub HasStop : List Entry → Type 0
 HasStop [] = ⊥
 HasStop (entry ∷ entries) = StopsAt entry ⊎ HasStop entries
 
--- the log grew by entries of which one stops a run
+-- the log grew by entries of which one stops a run; nothing is said where the log isn't told before and after
 abbrev pub GrowsByStop : Option (List Entry) → Option (List Entry) → Type 0
 GrowsByStop before now = (entries : List Entry) × GrowsBy before now entries × HasStop entries

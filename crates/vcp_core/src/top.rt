@@ -76,11 +76,12 @@ pub fn vcp<F: Files, U: Unit, O: Sink, E: Sink>(
 
     // Words that are none of the forms get the usage line, and nothing else is done; no other words do.
     ensures usage { is_run words.now ≡ false → TellsUsage (E.written err.old) (E.written err.new) (E.faults err.old) (E.faults err.new) result }
-    ensures usage_alone { is_run words.now ≡ false → (U.log unit.new ≡ U.log unit.old) × (O.written out.new ≡ O.written out.old) }
+    ensures usage_alone { is_run words.now ≡ false → (U.log unit.new ≡ U.log unit.old) × (U.wrong unit.new ≡ U.wrong unit.old) × (O.written out.new ≡ O.written out.old) × (O.faults out.new ≡ O.faults out.old) }
     ensures usage_reads_nothing { is_run words.now ≡ false → (F.rest files.new ≡ F.rest files.old) × (F.faults files.new ≡ F.faults files.old) × (F.broken files.new ≡ F.broken files.old) }
     ensures usage_only { result ≡ 4 → is_run words.now ≡ false }
 
-    // What holds whatever is told.
+    // What holds whatever the files tell. The clause `stopped` speaks where the log is told, and `ended`
+    // where it is told what is unread.
     ensures known { result ≤ 7 }
     ensures held { F.held files.new ≡ F.held files.old }
     ensures ended { result ≡ 0 → IsAtEnd (F.rest files.new) }
@@ -119,7 +120,7 @@ fn serve<F: Files, U: Unit, O: Sink, E: Sink>(
       status = result;
     })) }
     ensures usage { is_run words.now ≡ false → TellsUsage (E.written err.old) (E.written err.new) (E.faults err.old) (E.faults err.new) result }
-    ensures usage_alone { is_run words.now ≡ false → (U.log unit.new ≡ U.log unit.old) × (O.written out.new ≡ O.written out.old) }
+    ensures usage_alone { is_run words.now ≡ false → (U.log unit.new ≡ U.log unit.old) × (U.wrong unit.new ≡ U.wrong unit.old) × (O.written out.new ≡ O.written out.old) × (O.faults out.new ≡ O.faults out.old) }
     ensures usage_reads_nothing { is_run words.now ≡ false → (F.rest files.new ≡ F.rest files.old) × (F.faults files.new ≡ F.faults files.old) × (F.broken files.new ≡ F.broken files.old) }
     ensures usage_only { result ≡ 4 → is_run words.now ≡ false }
     ensures known { result ≤ 7 }

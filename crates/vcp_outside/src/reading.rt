@@ -1,11 +1,11 @@
 //! Reading whole files.
 
-ghost use Rattle.std.specs.Prelude.{◌≡◌, ◌+◌, ◌<◌, ◌≤◌, ◌^◌, length, IfSome, IfOk, OnOk, IsErrOf};
+ghost use Rattle.std.specs.Prelude.{◌≡◌, ◌+◌, ◌<◌, ◌≤◌, ◌^◌, ◌⊎◌, length, IfSome, IfOk, OnOk, IsErrOf};
 ghost use Rattle.std.specs.Io.{ReadsAtMost};
 ghost use Rattle.std.specs.Io.KnownBytes.{ReadConsumes, IsAtEnd};
 ghost use Rattle.vcp_outside.specs.Counts.{HasCause, Rose, last_count};
 ghost use Rattle.vcp_outside.specs.Held.{OnlyBroken};
-ghost use Rattle.vcp_outside.specs.ReadAll.{ReadsAll, Takes};
+ghost use Rattle.vcp_outside.specs.ReadAll.{ReadsAll, TakesBetween, Takes};
 ghost use Rattle.vcp_outside.specs.declared.reading.ReadAll.TheVariants as cause;
 
 use crate::failed::Failed;
@@ -85,6 +85,7 @@ pub fn read_all_counting<F: Files, L: Ledger>(
     ensures ended { OnOk result (IsAtEnd (F.rest files.new)) }
     ensures taken { IfSome (F.held files.old) (λ h. Takes h name.now limit (F.rest files.new) result) }
     ensures counted { reads.new ≤ reads.old + limit + 1 }
+    ensures failed_taken { IsErrOf result ReadAll.Failed → IfSome (F.held files.old) (λ h. TakesBetween 0 limit h name.now (F.rest files.new) ⊎ (IsAtEnd (F.rest files.new) × (reads.new ≡ reads.old))) }
 
     // What stays.
     ensures held { F.held files.new ≡ F.held files.old }
