@@ -1,0 +1,37 @@
+-- Worked: the graph of `n := n + 1; y := n;` and its run, worked by hand.
+use Rattle.std.proofs.Common.{refl, ◌≡◌, ℕ, ◌∷◌, [], ℤ, pos, Some, None}
+use Rattle.vcp_base.specs.declared.spot.Spot.{Spot}
+use Rattle.vcp_base.specs.declared.ty.Ty.{Ty}
+use Rattle.vcp_base.specs.declared.ty.Ty.TheVariants as ty
+use Rattle.vcp_base.specs.declared.kind.Kind.{Kind}
+use Rattle.vcp_base.specs.declared.kind.Kind.TheVariants as kind
+use Rattle.vcp_base.specs.declared.kind.StopKind.TheVariants as stop
+use Rattle.op_graph.specs.declared.op.Op.{Op}
+use Rattle.op_graph.specs.Lists.{Lists, nothing, cells}
+use Rattle.op_graph.specs.Building.{with_name, with_load, with_op, with_output, with_store}
+use Rattle.op_graph.specs.GraphRun.{graph_run}
+
+-- an operation on values of this type, which reads a and b
+op_on : Ty → Kind → ℕ → ℕ → ℤ → Op
+op_on t k a b imm = record { kind = k; from = t; ty = t; a = a; b = b; c = 0; imm = imm; spot = record { line = 0; col = 0 }; turn = 0 }
+
+-- the counter, whose cell begins with this value
+counter : Ty → ℤ → Lists
+counter t first =
+    let spot : Spot = record { line = 0; col = 0 } in
+    let named = with_name (with_name nothing (121 ∷ [])) (110 ∷ []) in
+    let added = with_op (with_op (with_load named 1 t first spot) (op_on t kind.Const 0 0 (pos 1))) (op_on t kind.Add 0 1 (pos 0)) in
+    with_store (with_output added 0 t 2 spot) t 2 spot
+
+counter-cells : cells (counter ty.Dint (pos 0)) ≡ (record { name = 1; ty = ty.Dint; init = pos 0; load = 0; store = 4 }) ∷ []
+unfolding counter op_on
+counter-cells = refl
+
+counts : graph_run (counter ty.Dint (pos 0)) ([] ∷ [] ∷ [] ∷ []) ≡ record { rows = (pos 1 ∷ []) ∷ (pos 2 ∷ []) ∷ (pos 3 ∷ []) ∷ []; end = None }
+unfolding counter op_on
+counts = refl
+
+-- from 32766 on, an INT passes its greatest value in the second cycle, at the ADD
+passes : graph_run (counter ty.Int (pos 32766)) ([] ∷ [] ∷ [] ∷ []) ≡ record { rows = (pos 32767 ∷ []) ∷ []; end = Some (record { op = 2; kind = stop.Range }) }
+unfolding counter op_on
+passes = refl

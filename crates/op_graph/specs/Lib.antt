@@ -1,0 +1,4 @@
+pub mod Building
+pub mod GraphRun
+pub mod Lists
+pub mod Rules

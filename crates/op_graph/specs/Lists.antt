@@ -1,0 +1,37 @@
+-- Lists: what a graph, or a part of one that is being built, is made of.
+use Rattle.std.specs.Prelude.{ℕ, List, [], ◌∷◌, slice_index_or}
+use Rattle.vcp_base.specs.declared.columns.Column.{Column}
+use Rattle.op_graph.specs.declared.op.Op.{Op}
+use Rattle.op_graph.specs.declared.op.Var.{Var}
+use Rattle.op_graph.specs.declared.op.Outlet.{Outlet}
+use Rattle.op_graph.specs.declared.op.Loaded.{Loaded}
+use Rattle.op_graph.specs.declared.op.Cell.{Cell}
+use Rattle.op_graph.specs.declared.op.TurnNode.{TurnNode}
+
+-- The lists. A cell stands in two of them at one place: what its LOAD makes in `loads`, and the number of its STORE in `stores`.
+pub record Lists : Type 0 where
+  pub names : List (List ℕ)
+  pub inputs : List Var
+  pub outputs : List Outlet
+  pub loads : List Loaded
+  pub stores : List ℕ
+  pub turn_nodes : List TurnNode
+  pub operations : List Op
+
+-- before anything is added
+abbrev pub nothing : Lists
+nothing = record { names = []; inputs = []; outputs = []; loads = []; stores = []; turn_nodes = []; operations = [] }
+
+-- the cells of which both parts are there
+abbrev pub joined : List Loaded → List ℕ → List Cell
+joined [] stores = []
+joined (l ∷ loads) [] = []
+joined (l ∷ loads) (n ∷ stores) = record { name = l.name; ty = l.ty; init = l.init; load = l.load; store = n } ∷ joined loads stores
+
+-- the cells of a graph
+abbrev pub cells : Lists → List Cell
+cells g = joined g.loads g.stores
+
+-- the input's name and type
+abbrev pub column : List (List ℕ) → Var → Column
+column names v = record { name = slice_index_or names v.name []; ty = v.ty }

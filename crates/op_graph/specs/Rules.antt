@@ -1,0 +1,281 @@
+-- Rules: what makes lists a graph. They are the rules that the image format has for a graph.
+use Rattle.std.specs.Option.{is_some}
+use Rattle.std.specs.Ordering.{int_eq}
+use Rattle.std.specs.Prelude.{◌≡◌, ℕ, ◌+◌, ◌<◌, ◌≤◌, ◌==◌, ℤ, pos, Bool, true, false, not, ◌&&◌, ◌||◌, cond, nat_lt, nat_le, List, [], ◌∷◌, ◌++◌, length, slice_get, All, Option, Some, None}
+use Rattle.std.specs.List.{list_all}
+use Rattle.vcp_base.specs.declared.ty.Ty.{Ty}
+use Rattle.vcp_base.specs.declared.ty.Ty.TheVariants as ty
+use Rattle.vcp_base.specs.declared.kind.Kind.{Kind}
+use Rattle.vcp_base.specs.declared.kind.Kind.TheVariants as kind
+use Rattle.vcp_base.specs.Types.{fits, within}
+use Rattle.vcp_base.specs.Kinds.{operands, operand_type}
+use Rattle.vcp_base.specs.Names.{SameName}
+use Rattle.op_graph.specs.declared.op.Op.{Op}
+use Rattle.op_graph.specs.declared.op.Var.{Var}
+use Rattle.op_graph.specs.declared.op.Outlet.{Outlet}
+use Rattle.op_graph.specs.declared.op.Loaded.{Loaded}
+use Rattle.op_graph.specs.declared.op.TurnNode.{TurnNode}
+use Rattle.op_graph.specs.Lists.{Lists}
+
+-- P holds of each entry and those before it in its list
+abbrev pub Each : {X : Type 0} → (List X → X → Type 0) → List X → List X → Type 0
+Each P before [] = Unit {0}
+Each P before (x ∷ xs) = P before x × Each P (before ++ x ∷ []) xs
+
+-- ---- names
+
+-- the code of a letter or of `_`
+abbrev pub is_letter : ℕ → Bool
+is_letter c = (nat_le 65 c && nat_le c 90) || (nat_le 97 c && nat_le c 122) || (c == 95)
+
+-- the code of a letter, `_` or a digit
+abbrev pub is_letter_or_digit : ℕ → Bool
+is_letter_or_digit c = is_letter c || (nat_le 48 c && nat_le c 57)
+
+-- a letter or `_`, and then letters, digits and `_`
+abbrev pub is_name : List ℕ → Bool
+is_name [] = false
+is_name (c ∷ cs) = is_letter c && list_all is_letter_or_digit cs
+
+-- a name may follow those before it
+pub record NameFits (before : List (List ℕ)) (n : List ℕ) : Type 0 where
+  pub some : 1 ≤ length n
+  pub short : length n ≤ 1048576
+  pub letters : is_name n ≡ true
+  pub new : All (λ m. ¬ SameName m n) before
+
+-- ---- inputs, outputs, cells and turn nodes, where there are so many names and operations
+
+-- an input may follow those before it: its name is there, and above theirs
+pub record InputFits (names : ℕ) (before : List Var) (v : Var) : Type 0 where
+  pub name : v.name < names
+  pub name_rises : All (λ w. w.name < v.name) before
+
+-- an output may follow those before it: its name and operation are there, and above theirs
+pub record OutputFits (names operations : ℕ) (before : List Outlet) (o : Outlet) : Type 0 where
+  pub name : o.name < names
+  pub name_rises : All (λ p. p.name < o.name) before
+  pub operation : o.op < operations
+  pub operation_rises : All (λ p. p.op < o.op) before
+
+-- what a cell's LOAD makes may follow those before it: its initial value is in its type, and its LOAD is there and above theirs
+pub record LoadFits (names operations : ℕ) (before : List Loaded) (l : Loaded) : Type 0 where
+  pub name : l.name < names
+  pub init : fits l.ty l.init ≡ true
+  pub load : l.load < operations
+  pub load_rises : All (λ m. m.load < l.load) before
+
+-- the LOAD of a cell, where it is there, is before operation n
+abbrev pub LoadedBefore : Option Loaded → ℕ → Type 0
+LoadedBefore None n = ⊥
+LoadedBefore (Some l) n = l.load < n
+
+-- a cell's STORE may follow those before it: it is there, above theirs, and after the LOAD of the cell
+pub record StoreFits (loads : List Loaded) (operations : ℕ) (before : List ℕ) (n : ℕ) : Type 0 where
+  pub store : n < operations
+  pub store_rises : All (λ m. m < n) before
+  pub after_load : LoadedBefore (slice_get loads (length before)) n
+
+-- a turn node may follow those before it: its parent, counted from 1, is before it, or 0 for none, and its name is there
+pub record TurnNodeFits (names : ℕ) (before : List TurnNode) (t : TurnNode) : Type 0 where
+  pub parent : t.parent ≤ length before
+  pub name : t.name < names
+
+-- ---- what other lists say of an operation
+
+-- an input, output or cell that an operation belongs to: its number in its list, and its type
+pub record Entry : Type 0 where
+  pub number : ℕ
+  pub ty : Ty
+
+abbrev pub entry : ℕ → Ty → Entry
+entry n t = record { number = n; ty = t }
+
+-- the lists that say which operations are an input's, an output's or a cell's
+pub record Scope : Type 0 where
+  pub inputs : List Var
+  pub outputs : List Outlet
+  pub loads : List Loaded
+  pub stores : List ℕ
+
+-- what operation i is: the INPUT of an input, the LOAD or STORE of a cell, the OUT of an output
+pub record Place : Type 0 where
+  pub input : Option Entry
+  pub load : Option Entry
+  pub store : Option Entry
+  pub out : Option Entry
+
+-- input i, for the inputs are the first operations, in order
+abbrev pub numbered : ℕ → Option Var → Option Entry
+numbered i None = None
+numbered i (Some v) = Some (entry i v.ty)
+
+-- the first entry that passes the test, in a list that is numbered from k
+abbrev pub found : {X : Type 0} → (X → Bool) → (X → Ty) → ℕ → List X → Option Entry
+found p t k [] = None
+found p t k (x ∷ xs) = cond (p x) (Some (entry k (t x))) (found p t (k + 1) xs)
+
+-- cell k
+abbrev pub cell_entry : ℕ → Option Loaded → Option Entry
+cell_entry k None = None
+cell_entry k (Some l) = Some (entry k l.ty)
+
+-- the first cell that is stored by operation i, in a list that is numbered from k
+abbrev pub stored_by : List Loaded → ℕ → ℕ → List ℕ → Option Entry
+stored_by loads i k [] = None
+stored_by loads i k (n ∷ ns) = cond (n == i) (cell_entry k (slice_get loads k)) (stored_by loads i (k + 1) ns)
+
+-- what operation i is by the other lists
+abbrev pub place_of : Scope → ℕ → Place
+place_of s i = record {
+  input = numbered i (slice_get s.inputs i);
+  load = found (λ l. l.load == i) (λ l. l.ty) 0 s.loads;
+  store = stored_by s.loads i 0 s.stores;
+  out = found (λ o. o.op == i) (λ o. o.ty) 0 s.outputs;
+}
+
+-- the input, output or cell of an operation of this kind
+abbrev pub entry_of : Place → Kind → Option Entry
+entry_of p kind.Input = p.input
+entry_of p kind.Load = p.load
+entry_of p kind.Store = p.store
+entry_of p kind.Out = p.out
+entry_of p _ = None
+
+-- ---- operations
+
+abbrev pub is_input : Kind → Bool
+is_input kind.Input = true
+is_input _ = false
+
+abbrev pub is_load : Kind → Bool
+is_load kind.Load = true
+is_load _ = false
+
+abbrev pub is_store : Kind → Bool
+is_store kind.Store = true
+is_store _ = false
+
+abbrev pub is_out : Kind → Bool
+is_out kind.Out = true
+is_out _ = false
+
+-- both hold, or neither does
+abbrev pub agree : Bool → Bool → Bool
+agree true b = b
+agree false b = not b
+
+-- the kind is INPUT exactly at an input's operation, LOAD and STORE exactly at a cell's, OUT exactly at an output's
+abbrev pub kind_fits : Place → Kind → Bool
+kind_fits p k = agree (is_input k) (is_some p.input) && agree (is_load k) (is_some p.load) && agree (is_store k) (is_some p.store) && agree (is_out k) (is_some p.out)
+
+abbrev pub same_type : Ty → Ty → Bool
+same_type ty.Bool ty.Bool = true
+same_type ty.Int ty.Int = true
+same_type ty.Dint ty.Dint = true
+same_type _ _ = false
+
+-- INT or DINT
+abbrev pub is_number : Ty → Bool
+is_number ty.Bool = false
+is_number _ = true
+
+-- CONV goes from INT to DINT, from DINT to INT and from BOOL to INT
+abbrev pub converts : Ty → Ty → Bool
+converts ty.Int ty.Dint = true
+converts ty.Dint ty.Int = true
+converts ty.Bool ty.Int = true
+converts _ _ = false
+
+-- the types of arithmetic: one of the numbers for operands and result
+abbrev pub calculates : Ty → Ty → Bool
+calculates from to = same_type from to && is_number from
+
+-- the types of logic: BOOL for operands and result
+abbrev pub is_logic : Ty → Ty → Bool
+is_logic from to = same_type from ty.Bool && same_type to ty.Bool
+
+-- the types that an operation of a kind may have
+abbrev pub types_fit : Kind → Ty → Ty → Bool
+types_fit kind.Conv from to = converts from to
+types_fit kind.Neg from to = calculates from to
+types_fit kind.Add from to = calculates from to
+types_fit kind.Sub from to = calculates from to
+types_fit kind.Mul from to = calculates from to
+types_fit kind.Div from to = calculates from to
+types_fit kind.Mod from to = calculates from to
+types_fit kind.Not from to = is_logic from to
+types_fit kind.And from to = is_logic from to
+types_fit kind.Or from to = is_logic from to
+types_fit kind.Xor from to = is_logic from to
+types_fit kind.Eq from to = same_type to ty.Bool
+types_fit kind.Lt from to = is_number from && same_type to ty.Bool
+types_fit _ from to = same_type from to
+
+-- INPUT, LOAD, STORE and OUT have the type of their input, cell or output
+abbrev pub entry_type_fits : Option Entry → Ty → Bool
+entry_type_fits None to = true
+entry_type_fits (Some e) to = same_type e.ty to
+
+-- the type in which operand j is read; LOAD reads its cell, and no operation
+abbrev pub reads_as : Kind → Ty → ℕ → Option Ty
+reads_as kind.Load from j = None
+reads_as k from j = cond (nat_lt j (operands k)) (Some (operand_type k j from)) None
+
+-- an operand is an operation before this one, whose type is within the type in which it is read; 0 where there is no operand
+abbrev pub operand_fits : List Op → Option Ty → ℕ → Bool
+operand_fits before None n = n == 0
+operand_fits before (Some t) n = elim (slice_get before n) [ None ↦ false | Some op ↦ within op.ty t ]
+
+-- imm is the number of the input, cell or output, a value of the type for CONST, and else 0
+abbrev pub imm_fits : Option Entry → Kind → Ty → ℤ → Bool
+imm_fits None kind.Const to v = fits to v
+imm_fits None k to v = int_eq v (pos 0)
+imm_fits (Some e) k to v = int_eq v (pos e.number)
+
+-- the turn is 0 for INPUT, LOAD, STORE and OUT, and else 0 or the number of a turn node, from 1
+abbrev pub turn_fits : Option Entry → ℕ → ℕ → Bool
+turn_fits None turn_nodes n = nat_le n turn_nodes
+turn_fits (Some e) turn_nodes n = n == 0
+
+-- an operation that is this by the other lists may follow those before it
+pub record OpFits (p : Place) (turn_nodes : ℕ) (before : List Op) (op : Op) : Type 0 where
+  pub kind : kind_fits p op.kind ≡ true
+  pub types : types_fit op.kind op.from op.ty ≡ true
+  pub entry_type : entry_type_fits (entry_of p op.kind) op.ty ≡ true
+  pub a : operand_fits before (reads_as op.kind op.from 0) op.a ≡ true
+  pub b : operand_fits before (reads_as op.kind op.from 1) op.b ≡ true
+  pub c : operand_fits before (reads_as op.kind op.from 2) op.c ≡ true
+  pub imm : imm_fits (entry_of p op.kind) op.kind op.ty op.imm ≡ true
+  pub turn : turn_fits (entry_of p op.kind) turn_nodes op.turn ≡ true
+
+abbrev pub Operates : Scope → ℕ → List Op → Op → Type 0
+Operates s turn_nodes before op = OpFits (place_of s (length before)) turn_nodes before op
+
+-- ---- the whole
+
+abbrev pub scope : Lists → Scope
+scope g = record { inputs = g.inputs; outputs = g.outputs; loads = g.loads; stores = g.stores }
+
+-- a graph, of whose cells the first ones are stored and the others are not yet
+pub record IsPart (g : Lists) : Type 0 where
+  pub few_names : length g.names ≤ 1024
+  pub few_inputs : length g.inputs ≤ 1024
+  pub few_outputs : length g.outputs ≤ 1024
+  pub few_cells : length g.loads ≤ 1024
+  pub few_turn_nodes : length g.turn_nodes ≤ 65536
+  pub few_operations : length g.operations ≤ 65536
+  pub enough_operations : length g.inputs + length g.outputs + length g.loads + length g.stores ≤ length g.operations
+  pub stored : length g.stores ≤ length g.loads
+  pub names : Each NameFits [] g.names
+  pub inputs : Each (InputFits (length g.names)) [] g.inputs
+  pub outputs : Each (OutputFits (length g.names) (length g.operations)) [] g.outputs
+  pub loads : Each (LoadFits (length g.names) (length g.operations)) [] g.loads
+  pub stores : Each (StoreFits g.loads (length g.operations)) [] g.stores
+  pub turn_nodes : Each (TurnNodeFits (length g.names)) [] g.turn_nodes
+  pub operations : Each (Operates (scope g) (length g.turn_nodes)) [] g.operations
+
+-- a graph: every cell is stored too
+pub record IsGraph (g : Lists) : Type 0 where
+  pub part : IsPart g
+  pub all_stored : length g.stores ≡ length g.loads

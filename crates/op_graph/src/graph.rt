@@ -1,0 +1,186 @@
+//! Graphs.
+
+ghost use Rattle.std.specs.Prelude.{◌≡◌, ◌-◌, ◌<◌, ◌≤◌, Some, IfOk, length, map, slice_get};
+ghost use Rattle.op_graph.specs.Lists.{cells, column as column_of};
+ghost use Rattle.op_graph.specs.Rules.{IsGraph};
+
+use crate::op::{Cell, Loaded, Op, Outlet, TurnNode, Var};
+use std::alloc::Global;
+use std::marker::Model;
+use vcp_base::{Column, Columns, Memory, Text};
+
+/// A graph of operations, which keeps the rules of the image format.
+///
+/// Its first operations are the INPUTs, in order; each output has one OUT, and each cell one LOAD
+/// and one later STORE. Operands are earlier operations, whose types are within those in which they
+/// are read.
+#[derive(Drop)]
+pub struct Graph {
+    names: Vec<Text>,
+    inputs: Vec<Var>,
+    outputs: Vec<Outlet>,
+    loads: Vec<Loaded>,
+    stores: Vec<u32>,
+    turn_nodes: Vec<TurnNode>,
+    operations: Vec<Op>,
+}
+
+impl Model for Graph {
+    ghost use Rattle.op_graph.specs.Lists.{Lists};
+    ghost use Rattle.op_graph.specs.Rules.{IsGraph};
+
+    ghost Value = { Lists };
+
+    ghost view = { λ g. record { names = g.names.items; inputs = g.inputs.items; outputs = g.outputs.items; loads = g.loads.items; stores = g.stores.items; turn_nodes = g.turn_nodes.items; operations = g.operations.items } };
+
+    ghost invariant = { λ g. IsGraph (record { names = g.names.items; inputs = g.inputs.items; outputs = g.outputs.items; loads = g.loads.items; stores = g.stores.items; turn_nodes = g.turn_nodes.items; operations = g.operations.items }) };
+}
+
+impl Graph {
+    /// The graph of these lists, where they are one by the rules. It takes no memory.
+    pub fn from_lists(
+        names: Vec<Text>,
+        inputs: Vec<Var>,
+        outputs: Vec<Outlet>,
+        loads: Vec<Loaded>,
+        stores: Vec<u32>,
+        turn_nodes: Vec<TurnNode>,
+        operations: Vec<Op>,
+    ) -> Graph
+        requires { IsGraph (record { names = names.items; inputs = inputs.items; outputs = outputs.items; loads = loads.items; stores = stores.items; turn_nodes = turn_nodes.items; operations = operations.items }) }
+        ensures { result ≡ record { names = names.items; inputs = inputs.items; outputs = outputs.items; loads = loads.items; stores = stores.items; turn_nodes = turn_nodes.items; operations = operations.items } }
+    {
+        Graph {
+            names,
+            inputs,
+            outputs,
+            loads,
+            stores,
+            turn_nodes,
+            operations,
+        }
+    }
+
+    /// How many operations there are, at most 65,536.
+    pub fn len(&self) -> u32
+        ensures count { result ≡ length self.now.operations }
+        ensures rules { IsGraph self.now }
+    {
+        self.operations.len() as u32
+    }
+
+    /// How many names there are, at most 1,024.
+    pub fn names(&self) -> u32
+        ensures { result ≡ length self.now.names }
+    {
+        self.names.len() as u32
+    }
+
+    /// How many inputs there are, at most 1,024.
+    pub fn inputs(&self) -> u32
+        ensures { result ≡ length self.now.inputs }
+    {
+        self.inputs.len() as u32
+    }
+
+    /// How many outputs there are, at most 1,024.
+    pub fn outputs(&self) -> u32
+        ensures { result ≡ length self.now.outputs }
+    {
+        self.outputs.len() as u32
+    }
+
+    /// How many cells there are, at most 1,024.
+    pub fn cells(&self) -> u32
+        ensures count { result ≡ length (cells self.now) }
+        ensures loads { result ≡ length self.now.loads }
+        ensures stores { result ≡ length self.now.stores }
+    {
+        self.loads.len() as u32
+    }
+
+    /// How many turn nodes there are, at most 65,536.
+    pub fn turn_nodes(&self) -> u32
+        ensures { result ≡ length self.now.turn_nodes }
+    {
+        self.turn_nodes.len() as u32
+    }
+
+    /// Name `i`, where `i` is below the number of names.
+    pub fn name(&self, i: u32) -> &Text
+        requires { i < length self.now.names }
+        ensures { slice_get self.now.names i ≡ Some result.now }
+    {
+        &self.names[i as usize]
+    }
+
+    /// Input `i`, where `i` is below the number of inputs.
+    pub fn input(&self, i: u32) -> Var
+        requires { i < length self.now.inputs }
+        ensures { slice_get self.now.inputs i ≡ Some result }
+    {
+        self.inputs[i as usize]
+    }
+
+    /// Output `i`, where `i` is below the number of outputs.
+    pub fn output(&self, i: u32) -> Outlet
+        requires { i < length self.now.outputs }
+        ensures { slice_get self.now.outputs i ≡ Some result }
+    {
+        self.outputs[i as usize]
+    }
+
+    /// Cell `i`, where `i` is below the number of cells.
+    pub fn cell(&self, i: u32) -> Cell
+        requires { i < length (cells self.now) }
+        ensures { slice_get (cells self.now) i ≡ Some result }
+    {
+        let loaded = self.loads[i as usize];
+        Cell {
+            name: loaded.name,
+            ty: loaded.ty,
+            init: loaded.init,
+            load: loaded.load,
+            store: self.stores[i as usize],
+        }
+    }
+
+    /// Turn node `i`, counted from 1, where `i` is at most the number of turn nodes.
+    pub fn turn_node(&self, i: u32) -> TurnNode
+        requires from { 1 ≤ i }
+        requires to { i ≤ length self.now.turn_nodes }
+        ensures { slice_get self.now.turn_nodes (i - 1) ≡ Some result }
+    {
+        self.turn_nodes[i as usize - 1]
+    }
+
+    /// Operation `i`, where `i` is below the number of operations.
+    pub fn operation(&self, i: u32) -> Op
+        requires { i < length self.now.operations }
+        ensures { slice_get self.now.operations i ≡ Some result }
+    {
+        self.operations[i as usize]
+    }
+
+    /// The names and types of the inputs, in order.
+    pub fn columns(&self, alloc: Global) -> Result<Columns, Memory>
+        ensures { IfOk result (λ columns. columns ≡ map (column_of self.now.names) self.now.inputs) }
+    {
+        let mut columns = Columns::new(alloc);
+        'inputs: for input in &self.inputs {
+            columns.push(self.column(alloc, *input)?)?;
+        }
+        Ok(columns)
+    }
+
+    /// The name and type of an input.
+    fn column(&self, alloc: Global, input: Var) -> Result<Column, Memory>
+        requires { input.name < length self.now.names }
+        ensures { IfOk result (λ column. column ≡ column_of self.now.names input) }
+    {
+        Ok(Column {
+            name: Text::copy_of(alloc, self.names[input.name as usize].bytes())?,
+            ty: input.ty,
+        })
+    }
+}

@@ -1,0 +1,260 @@
+//! The builder of graphs.
+
+ghost use Rattle.std.specs.Prelude.{◌≡◌, ◌≤◌, ◌<◌, ◌+◌, ◌^◌, ◌↔◌, ◌++◌, ◌∷◌, [], length, Some, None, Err, true, All, IfOk, OnOk, OnErr, slice_get};
+ghost use Rattle.vcp_base.specs.Types.{fits};
+ghost use Rattle.op_graph.specs.Lists.{nothing};
+ghost use Rattle.op_graph.specs.Rules.{NameFits, TurnNodeFits, OpFits, operand_fits, IsGraph};
+ghost use Rattle.op_graph.specs.Building.{nowhere, entry_op as entry_op_of, with_name, with_turn_node, with_op, with_input, with_load, with_output, with_store, type_of, cell_type};
+
+use crate::build::Build;
+use crate::graph::Graph;
+use crate::op::{Loaded, Op, Outlet, TurnNode, Var};
+use std::alloc::Global;
+use std::marker::Model;
+use vcp_base::{Kind, Memory, Spot, Text, Ty};
+
+/// How many operations a graph has at most.
+const MOST_OPERATIONS: usize = 65536;
+
+/// A graph that is built from its front. Each call appends its one entry and operation, and changes
+/// nothing else; after a refusal nothing is changed.
+#[derive(Drop)]
+pub struct GraphBuilder {
+    alloc: Global,
+    names: Vec<Text>,
+    inputs: Vec<Var>,
+    outputs: Vec<Outlet>,
+    loads: Vec<Loaded>,
+    stores: Vec<u32>,
+    turn_nodes: Vec<TurnNode>,
+    operations: Vec<Op>,
+}
+
+impl Model for GraphBuilder {
+    ghost use Rattle.op_graph.specs.Lists.{Lists};
+    ghost use Rattle.op_graph.specs.Rules.{IsPart};
+
+    ghost Value = { Lists };
+
+    ghost view = { λ g. record { names = g.names.items; inputs = g.inputs.items; outputs = g.outputs.items; loads = g.loads.items; stores = g.stores.items; turn_nodes = g.turn_nodes.items; operations = g.operations.items } };
+
+    ghost invariant = { λ g. IsPart (record { names = g.names.items; inputs = g.inputs.items; outputs = g.outputs.items; loads = g.loads.items; stores = g.stores.items; turn_nodes = g.turn_nodes.items; operations = g.operations.items }) };
+}
+
+/// Appends an operation and an entry of another list, or neither.
+fn append_both<T: Drop>(
+    operations: &mut Vec<Op>,
+    op: Op,
+    entries: &mut Vec<T>,
+    entry: T,
+) -> Result<(), Memory>
+    ensures operation { OnOk result (operations.new.items ≡ operations.old.items ++ op ∷ []) }
+    ensures entry { OnOk result (entries.new.items ≡ entries.old.items ++ entry ∷ []) }
+    ensures no_operation { OnErr result (operations.new.items ≡ operations.old.items) }
+    ensures no_entry { OnErr result (entries.new.items ≡ entries.old.items) }
+{
+    entries.push(entry)?;
+    if operations.push(op).is_err() {
+        entries.pop();
+        return Err(Memory);
+    }
+    Ok(())
+}
+
+/// The INPUT, LOAD, STORE or OUT of the input, cell or output of a number, which reads operation `a`.
+fn entry_op(kind: Kind, ty: Ty, a: u32, number: usize, spot: Spot) -> Op
+    requires { number < 2 ^ 63 }
+    ensures { result ≡ entry_op_of kind ty a number spot }
+{
+    Op {
+        kind,
+        from: ty,
+        ty,
+        a,
+        b: 0,
+        c: 0,
+        imm: number as i64,
+        spot,
+        turn: 0,
+    }
+}
+
+/// The type of a cell.
+fn type_at(loads: &[Loaded], cell: u32) -> Ty
+    requires { cell < length loads.now }
+    ensures { result ≡ type_of (slice_get loads.now cell) }
+{
+    loads[cell as usize].ty
+}
+
+impl GraphBuilder {
+    /// Nothing so far. It takes no memory.
+    pub fn new(alloc: Global) -> GraphBuilder
+        ensures { result ≡ nothing }
+    {
+        GraphBuilder {
+            alloc,
+            names: Vec::new(alloc),
+            inputs: Vec::new(alloc),
+            outputs: Vec::new(alloc),
+            loads: Vec::new(alloc),
+            stores: Vec::new(alloc),
+            turn_nodes: Vec::new(alloc),
+            operations: Vec::new(alloc),
+        }
+    }
+
+    /// Adds a copy of a name, which the rules allow after those that are there, where there are
+    /// fewer than 1,024. Gives its number, from 0.
+    pub fn name(&mut self, name: &Text) -> Result<u32, Memory>
+        requires few { length self.old.names < 1024 }
+        requires fits { NameFits self.old.names name.now }
+        ensures number { IfOk result (λ k. k ≡ length self.old.names) }
+        ensures added { OnOk result (self.new ≡ with_name self.old name.now) }
+        ensures err { OnErr result (self.new ≡ self.old) }
+    {
+        let k = self.names.len();
+        let copy = Text::copy_of(self.alloc, name.bytes())?;
+        self.names.push(copy)?;
+        Ok(k as u32)
+    }
+
+    /// Adds a turn node, whose parent is there or 0, where there are fewer than 65,536. Gives its
+    /// number, from 1.
+    pub fn turn(&mut self, node: TurnNode) -> Result<u32, Memory>
+        requires few { length self.old.turn_nodes < 65536 }
+        requires fits { TurnNodeFits (length self.old.names) self.old.turn_nodes node }
+        ensures number { IfOk result (λ k. k ≡ length self.old.turn_nodes + 1) }
+        ensures added { OnOk result (self.new ≡ with_turn_node self.old node) }
+        ensures err { OnErr result (self.new ≡ self.old) }
+    {
+        let k = self.turn_nodes.len();
+        self.turn_nodes.push(node)?;
+        Ok(k as u32 + 1)
+    }
+
+    /// Adds an input and its INPUT, where all operations so far are inputs and the name is above
+    /// theirs. Gives the operation's number.
+    pub fn input(&mut self, name: u32, ty: Ty, spot: Spot) -> Result<u32, Build>
+        requires front { length self.old.inputs ≡ length self.old.operations }
+        requires name { name < length self.old.names }
+        requires name_rises { All (λ v. v.name < name) self.old.inputs }
+        ensures number { IfOk result (λ k. k ≡ length self.old.operations) }
+        ensures added { OnOk result (self.new ≡ with_input self.old name ty spot) }
+        ensures full { (result ≡ Err Build.Full) ↔ (length self.old.operations ≡ 65536) }
+        ensures err { OnErr result (self.new ≡ self.old) }
+    {
+        let k = self.operations.len();
+        if k >= MOST_OPERATIONS {
+            return Err(Build::Full);
+        }
+        let op = entry_op(Kind::Input, ty, 0, self.inputs.len(), spot);
+        append_both(&mut self.operations, op, &mut self.inputs, Var { name, ty })?;
+        Ok(k as u32)
+    }
+
+    /// Adds a cell and its LOAD, where there are fewer than 1,024 cells and the initial value is in
+    /// the type. Gives the operation's number.
+    pub fn load(&mut self, name: u32, ty: Ty, init: i64, spot: Spot) -> Result<u32, Build>
+        requires few { length self.old.loads < 1024 }
+        requires name { name < length self.old.names }
+        requires init { fits ty init ≡ true }
+        ensures number { IfOk result (λ k. k ≡ length self.old.operations) }
+        ensures added { OnOk result (self.new ≡ with_load self.old name ty init spot) }
+        ensures full { (result ≡ Err Build.Full) ↔ (length self.old.operations ≡ 65536) }
+        ensures err { OnErr result (self.new ≡ self.old) }
+    {
+        let k = self.operations.len();
+        if k >= MOST_OPERATIONS {
+            return Err(Build::Full);
+        }
+        let op = entry_op(Kind::Load, ty, 0, self.loads.len(), spot);
+        let cell = Loaded {
+            name,
+            ty,
+            init,
+            load: k as u32,
+        };
+        append_both(&mut self.operations, op, &mut self.loads, cell)?;
+        Ok(k as u32)
+    }
+
+    /// Adds an operation of no input, output or cell, which the rules allow after those that are
+    /// there. Gives its number.
+    pub fn push(&mut self, op: Op) -> Result<u32, Build>
+        requires { OpFits nowhere (length self.old.turn_nodes) self.old.operations op }
+        ensures number { IfOk result (λ k. k ≡ length self.old.operations) }
+        ensures added { OnOk result (self.new ≡ with_op self.old op) }
+        ensures full { (result ≡ Err Build.Full) ↔ (length self.old.operations ≡ 65536) }
+        ensures err { OnErr result (self.new ≡ self.old) }
+    {
+        let k = self.operations.len();
+        if k >= MOST_OPERATIONS {
+            return Err(Build::Full);
+        }
+        self.operations.push(op)?;
+        Ok(k as u32)
+    }
+
+    /// Adds an output and its OUT of operation `value`, where the name is above those of the outputs
+    /// so far and the value's type is within `ty`. Gives the number of the OUT.
+    pub fn output(&mut self, name: u32, ty: Ty, value: u32, spot: Spot) -> Result<u32, Build>
+        requires name { name < length self.old.names }
+        requires name_rises { All (λ o. o.name < name) self.old.outputs }
+        requires value { operand_fits self.old.operations (Some ty) value ≡ true }
+        ensures number { IfOk result (λ k. k ≡ length self.old.operations) }
+        ensures added { OnOk result (self.new ≡ with_output self.old name ty value spot) }
+        ensures full { (result ≡ Err Build.Full) ↔ (length self.old.operations ≡ 65536) }
+        ensures err { OnErr result (self.new ≡ self.old) }
+    {
+        let k = self.operations.len();
+        if k >= MOST_OPERATIONS {
+            return Err(Build::Full);
+        }
+        let op = entry_op(Kind::Out, ty, value, self.outputs.len(), spot);
+        let output = Outlet {
+            name,
+            ty,
+            op: k as u32,
+        };
+        append_both(&mut self.operations, op, &mut self.outputs, output)?;
+        Ok(k as u32)
+    }
+
+    /// Adds the STORE of a cell, which stores operation `value`, where the cells below are stored,
+    /// this one isn't, and the value's type is within the cell's. Gives the operation's number.
+    pub fn store(&mut self, cell: u32, value: u32, spot: Spot) -> Result<u32, Build>
+        requires next { cell ≡ length self.old.stores }
+        requires there { cell < length self.old.loads }
+        requires value { operand_fits self.old.operations (Some (cell_type self.old cell)) value ≡ true }
+        ensures number { IfOk result (λ k. k ≡ length self.old.operations) }
+        ensures added { OnOk result (self.new ≡ with_store self.old (cell_type self.old cell) value spot) }
+        ensures full { (result ≡ Err Build.Full) ↔ (length self.old.operations ≡ 65536) }
+        ensures err { OnErr result (self.new ≡ self.old) }
+    {
+        let k = self.operations.len();
+        if k >= MOST_OPERATIONS {
+            return Err(Build::Full);
+        }
+        let ty = type_at(&self.loads, cell);
+        let op = entry_op(Kind::Store, ty, value, cell as usize, spot);
+        append_both(&mut self.operations, op, &mut self.stores, k as u32)?;
+        Ok(k as u32)
+    }
+
+    /// The graph of what was built, where every cell is stored. It takes no memory.
+    pub fn finish(self) -> Graph
+        requires { length self.stores ≡ length self.loads }
+        ensures { result ≡ self }
+    {
+        Graph::from_lists(
+            self.names,
+            self.inputs,
+            self.outputs,
+            self.loads,
+            self.stores,
+            self.turn_nodes,
+            self.operations,
+        )
+    }
+}

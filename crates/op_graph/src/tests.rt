@@ -1,0 +1,114 @@
+//! A worked graph, and the greatest number of operations.
+
+ghost use Rattle.std.specs.Prelude.{◌≡◌, length, IfOk};
+
+use crate::{Build, Cell, Graph, GraphBuilder, Op, Outlet, TurnNode, Var};
+use std::alloc::Global;
+use std::test::Fail;
+use vcp_base::{Kind, Spot, Text, Ty};
+
+/// An operation on DINT values outside every FOR, which reads `a` and `b`.
+fn on_dint(kind: Kind, a: u32, b: u32, imm: i64) -> Op
+    ensures { result ≡ record { kind = kind; from = Ty.Dint; ty = Ty.Dint; a = a; b = b; c = 0; imm = imm; spot = record { line = 4; col = 8 }; turn = 0 } }
+{
+    Op {
+        kind,
+        from: Ty::Dint,
+        ty: Ty::Dint,
+        a,
+        b,
+        c: 0,
+        imm,
+        spot: Spot { line: 4, col: 8 },
+        turn: 0,
+    }
+}
+
+/// The graph of `y := x + n; n := y;`, where `x` is an input and `n` a cell.
+fn sums(alloc: Global) -> Result<Graph, Build> {
+    let spot = Spot { line: 2, col: 1 };
+    let mut builder = GraphBuilder::new(alloc);
+    builder.name(&Text::copy_of(alloc, b"x")?)?;
+    let x = builder.input(0, Ty::Dint, spot)?;
+    let n = builder.load(0, Ty::Dint, 7, spot)?;
+    let sum = builder.push(on_dint(Kind::Add, x, n, 0))?;
+    builder.output(0, Ty::Dint, sum, spot)?;
+    builder.store(0, sum, spot)?;
+    builder.turn(TurnNode {
+        parent: 0,
+        name: 0,
+        value: 3,
+    })?;
+    Ok(builder.finish())
+}
+
+#[test]
+fn graphs_are_built(rt: HostRuntime) -> Result<(), Fail> {
+    crate::operands_are_in_their_types();
+    let graph = sums(rt.alloc())?;
+    assert_eq!(rt; [graph.names(), graph.inputs(), graph.outputs()], [1, 1, 1]);
+    assert_eq!(rt; [graph.cells(), graph.turn_nodes(), graph.len()], [1, 1, 5]);
+    assert_eq!(rt; graph.name(0).bytes(), b"x".as_slice());
+    assert_eq!(rt;
+        graph.input(0),
+        Var {
+            name: 0,
+            ty: Ty::Dint
+        }
+    );
+    assert_eq!(rt;
+        graph.output(0),
+        Outlet {
+            name: 0,
+            ty: Ty::Dint,
+            op: 3
+        }
+    );
+    assert_eq!(rt;
+        graph.cell(0),
+        Cell {
+            name: 0,
+            ty: Ty::Dint,
+            init: 7,
+            load: 1,
+            store: 4
+        }
+    );
+    assert_eq!(rt;
+        graph.turn_node(1),
+        TurnNode {
+            parent: 0,
+            name: 0,
+            value: 3
+        }
+    );
+    assert_eq!(rt; graph.operation(2), on_dint(Kind::Add, 0, 1, 0));
+    let columns = graph.columns(rt.alloc())?;
+    assert_eq!(rt; columns.len(), 1);
+    assert_eq!(rt; columns.at(0).name.bytes(), b"x".as_slice());
+    Ok(())
+}
+
+/// A builder with 65,536 constants.
+fn filled(alloc: Global) -> Result<GraphBuilder, Build>
+    ensures { IfOk result (λ builder. length builder.stores ≡ length builder.loads) }
+{
+    let mut builder = GraphBuilder::new(alloc);
+    'constants: for _ in 0..65536 {
+        builder.push(on_dint(Kind::Const, 0, 0, 5))?;
+    }
+    Ok(builder)
+}
+
+#[test]
+fn no_operation_is_added_past_the_last(rt: HostRuntime) -> Result<(), Fail> {
+    let mut builder = filled(rt.alloc())?;
+    assert_eq!(rt;
+        builder.push(on_dint(Kind::Const, 0, 0, 6)),
+        Err(Build::Full)
+    );
+    let graph = builder.finish();
+    assert!(rt; graph.len() == 65536);
+    assert_eq!(rt; graph.operation(65535), on_dint(Kind::Const, 0, 0, 5));
+    Ok(())
+}

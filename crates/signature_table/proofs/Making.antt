@@ -1,0 +1,30 @@
+-- Making: the corrections of a graph, one operation after another.
+use Rattle.std.proofs.Common.{◌≡◌, ◌∙◌, ℕ, zero, suc, ◌+◌, ◌<◌, ◌++◌, ◌∷◌, [], All, List, length, drop, slice_get, get_or, Some, arith, add-one, drop-cons, append_assoc, length-append, sym, ap}
+use Rattle.std.proofs.lemmas.Option.{get_or_from_slice_get, slice_get_within}
+use Rattle.std.proofs.lemmas.List.Elements.{All-append}
+use Rattle.vcp_base.specs.Code.{A}
+use Rattle.op_graph.specs.declared.op.Op.{Op}
+use Rattle.op_graph.specs.declared.op.Cell.{Cell}
+use Rattle.signature_table.specs.Signatures.{correction, corrections_from}
+
+-- the corrections of the operations below k are made, and those of the others are to come
+pub record MadeUpTo (seed step : ℕ) (held : List Cell) (operations : List Op) (made : List ℕ) (k : ℕ) : Type 0 where
+  pub count : length made ≡ k
+  pub residues : All (λ c. c < A) made
+  pub rest : made ++ corrections_from seed step held k (drop k operations) ≡ corrections_from seed step held 0 operations
+
+one_at : (n c i d : ℕ) → c < n → i < 1 → get_or (c ∷ []) i d < n
+one_at n c zero d lt below = lt
+one_at n c (suc i) d lt below = absurd (omega arith)
+
+pub one_more : (seed step : ℕ) (held : List Cell) (operations : List Op) (made : List ℕ) (k : ℕ) (op : Op) (c : ℕ) → MadeUpTo seed step held operations made k → slice_get operations k ≡ Some op → c ≡ correction seed step held k op → c < A → MadeUpTo seed step held operations (made ++ c ∷ []) (k + 1)
+one_more seed step held operations made k op c m there is below =
+    let within : k < length operations = slice_get_within operations k op there in
+    let here : get_or operations k op ≡ op = get_or_from_slice_get operations k op op there in
+    let front : drop k operations ≡ op ∷ drop (k + 1) operations = rw add-one (drop-cons operations k op within ∙ ap (λ o. o ∷ drop (suc k) operations) here) in
+    let tail : List ℕ = corrections_from seed step held (k + 1) (drop (k + 1) operations) in
+    record {
+      count = simp length-append (omega (arith, m.count));
+      residues = All-append (λ x. x < A) made (c ∷ []) m.residues (λ i d one. one_at A c i d below one);
+      rest = append_assoc made (c ∷ []) tail ∙ ap (λ x. made ++ x ∷ tail) is ∙ sym (ap (λ ops. made ++ corrections_from seed step held k ops) front) ∙ m.rest;
+    }

@@ -1,0 +1,16 @@
+//! The table of signatures: each operation's signature, its correction and its expected residue.
+//!
+//! A word is made by one operation in one cycle, and its residue names both: the operation's
+//! signature, and the cycle's stamp.
+#![tactic(auto)]
+
+mod signature;
+mod table;
+
+pub use signature::{
+    constant_is_in_range, expected_residues_are_residues, signatures_are_distinct,
+};
+pub use table::Table;
+
+#[cfg(test)]
+mod tests;

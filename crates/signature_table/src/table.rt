@@ -1,0 +1,96 @@
+//! Tables of signatures.
+
+ghost use Rattle.std.specs.Prelude.{◌≡◌, ◌≤◌, ◌<◌, ◌^◌, Some, IfOk, length, slice_get};
+ghost use Rattle.vcp_base.specs.Code.{A as code_constant};
+ghost use Rattle.signature_table.specs.Signatures.{signature as signature_of, expected as expected_of, table_of, IsTable};
+
+use crate::signature::{correction, expected, signature};
+use op_graph::Graph;
+use std::alloc::Global;
+use std::marker::Model;
+use vcp_base::{Memory, Residue};
+
+/// The numbers of a graph's code: a seed, a step, and a correction for each operation.
+#[derive(Debug, Drop)]
+pub struct Table {
+    seed: u32,
+    step: u16,
+    corrections: Vec<Residue>,
+}
+
+impl Model for Table {
+    ghost use Rattle.signature_table.specs.Signatures.{Numbers, IsTable};
+
+    ghost Value = { Numbers };
+
+    ghost view = { λ t. record { seed = t.seed; step = t.step; corrections = t.corrections.items } };
+
+    ghost invariant = { λ t. IsTable (record { seed = t.seed; step = t.step; corrections = t.corrections.items }) };
+}
+
+impl Table {
+    /// The table of a graph. The seed is below 2^30 and the step 1 to 1000.
+    pub fn new(alloc: Global, graph: &Graph, seed: u32, step: u16) -> Result<Table, Memory>
+        requires seed { seed < 2 ^ 30 }
+        requires step_from { 1 ≤ step }
+        requires step_to { step ≤ 1000 }
+        ensures numbers { IfOk result (λ table. table ≡ table_of seed step graph.now) }
+        ensures count { IfOk result (λ table. length table.corrections ≡ length graph.now.operations) }
+    {
+        let mut corrections = Vec::new(alloc);
+        'operations: for k in 0..graph.len() {
+            corrections.push(correction(graph, seed, step, k, &graph.operation(k)))?;
+        }
+        Ok(Table {
+            seed,
+            step,
+            corrections,
+        })
+    }
+
+    /// The seed, below 2^30: the signature of operation 0.
+    pub fn seed(&self) -> u32
+        ensures value { result ≡ self.now.seed }
+        ensures ranges { IsTable self.now }
+    {
+        self.seed
+    }
+
+    /// By how much the stamp grows from cycle to cycle, 1 to 1000.
+    pub fn step(&self) -> u16
+        ensures value { result ≡ self.now.step }
+        ensures ranges { IsTable self.now }
+    {
+        self.step
+    }
+
+    /// The signature of operation `i`, which is below the number of operations. It is below 2^30, and
+    /// no other operation has it, as `signatures_are_distinct` says.
+    pub fn signature(&self, i: u32) -> Residue
+        requires { i < length self.now.corrections }
+        ensures value { result ≡ signature_of self.now.seed i }
+        ensures below { result < 2 ^ 30 }
+    {
+        signature(self.seed, i)
+    }
+
+    /// The correction of operation `i`, which is below the number of operations.
+    pub fn correction(&self, i: u32) -> Residue
+        requires { i < length self.now.corrections }
+        ensures value { slice_get self.now.corrections i ≡ Some result }
+        ensures below { result < code_constant }
+    {
+        self.corrections[i as usize]
+    }
+
+    /// The residue that the word of operation `i`, which is below the number of operations, has in
+    /// cycle `n`, counted from 0 and below 1,000,000, where nothing is amiss.
+    pub fn expected(&self, i: u32, n: u32) -> Residue
+        requires operation { i < length self.now.corrections }
+        requires cycle { n < 1000000 }
+        ensures value { result ≡ expected_of self.now.seed self.now.step i n }
+        ensures below { result < code_constant }
+    {
+        expected(self.seed, self.step, i, n)
+    }
+}

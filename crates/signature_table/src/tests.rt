@@ -1,0 +1,74 @@
+//! Worked numbers.
+
+ghost use Rattle.std.specs.Prelude.{◌≡◌, length, IfOk};
+
+use crate::Table;
+use op_graph::{Build, Graph, GraphBuilder, Op};
+use std::alloc::Global;
+use std::test::Fail;
+use vcp_base::{Kind, Spot, Text, Ty};
+
+/// An operation on DINT values, which reads `a` and `b`.
+fn on_dint(kind: Kind, a: u32, b: u32, imm: i64) -> Op
+    ensures { result ≡ record { kind = kind; from = Ty.Dint; ty = Ty.Dint; a = a; b = b; c = 0; imm = imm; spot = record { line = 4; col = 8 }; turn = 0 } }
+{
+    Op {
+        kind,
+        from: Ty::Dint,
+        ty: Ty::Dint,
+        a,
+        b,
+        c: 0,
+        imm,
+        spot: Spot { line: 4, col: 8 },
+        turn: 0,
+    }
+}
+
+/// The graph of `n := n + 1; y := n;`: LOAD, CONST, ADD, OUT, STORE.
+fn counter(alloc: Global) -> Result<Graph, Build>
+    ensures { IfOk result (λ graph. length graph.operations ≡ 5) }
+{
+    let spot = Spot { line: 3, col: 5 };
+    let mut builder = GraphBuilder::new(alloc);
+    builder.name(&Text::copy_of(alloc, b"y")?)?;
+    builder.name(&Text::copy_of(alloc, b"n")?)?;
+    let n = builder.load(1, Ty::Dint, 0, spot)?;
+    let one = builder.push(on_dint(Kind::Const, 0, 0, 1))?;
+    let sum = builder.push(on_dint(Kind::Add, n, one, 0))?;
+    builder.output(0, Ty::Dint, sum, spot)?;
+    builder.store(0, sum, spot)?;
+    Ok(builder.finish())
+}
+
+#[test]
+fn a_counter_has_its_numbers(rt: HostRuntime) -> Result<(), Fail> {
+    let graph = counter(rt.alloc())?;
+    let table = Table::new(rt.alloc(), &graph, 0, 1)?;
+    let signatures = [0, 214748365, 429496730, 644245095, 858993460];
+    let corrections = [1288490188, 214748365, 214748365, 214748365, 429496730];
+    let expected = [2, 214748367, 429496732, 644245097, 858993462];
+    for i in 0..5u32 {
+        assert_eq!(rt; table.signature(i), signatures[i as usize], "signature {i}");
+        assert_eq!(rt;
+            table.correction(i),
+            corrections[i as usize],
+            "correction {i}"
+        );
+        assert_eq!(rt; table.expected(i, 1), expected[i as usize], "expected {i}");
+    }
+    assert_eq!(rt; (table.seed(), table.step()), (0, 1));
+    Ok(())
+}
+
+#[test]
+fn expected_residues_reach_their_ends(rt: HostRuntime) -> Result<(), Fail> {
+    let graph = counter(rt.alloc())?;
+    let table = Table::new(rt.alloc(), &graph, 1073741823, 1000)?;
+    assert_eq!(rt; table.expected(0, 999999), 2073741823);
+    assert_eq!(rt; table.expected(1, 0), 214749364);
+    crate::constant_is_in_range();
+    crate::signatures_are_distinct();
+    crate::expected_residues_are_residues();
+    Ok(())
+}
