@@ -188,3 +188,6 @@ inside text (p ∷ ps) a b c =
 pub upto-inside : (text : List ℕ) (ts us : List Token) (at : ℕ) → us ≡ ts → Upto text ts at → All (IsInside text) us
 upto-inside text ts us at e u =
     subst (λ (l : List Token). All (IsInside text) l) (sym (e ∙ u.tokens)) (inside text u.pieces 0 at u.cover)
+
+pub reads-inside : (text : List ℕ) (ts : List Token) → Reads text ts → All (IsInside text) ts
+reads-inside text ts r = subst (λ (l : List Token). All (IsInside text) l) (sym r.2) (inside text r.0 0 (length text) r.1)

@@ -72,13 +72,15 @@ pub fn lex(alloc: Global, text: &[u8]) -> Result<Tokens, LexFault>
 }
 
 /// The laws of a reading. Every text has one, or a place at which no reading goes on, and not both;
-/// the reading is one, with its gaps, and so are the place and its reason. Of the symbols with which
+/// the reading is one, with its gaps, and so are the place and its reason. Each token stands inside the
+/// text. Of the symbols with which
 /// a text begins the longest is taken, and none only where it begins with none. Each reserved word is
 /// found by its spelling.
 pub fn one_reading()
     ensures total { (text : List ℕ) → ((a : List Token) × spec.Reads text a) ⊎ ((p : ℕ) × (r : Reason) × spec.LexAt text p r) }
     ensures pieces { (text : List ℕ) (ps qs : List spec.Piece) → spec.Cover text ps 0 (length text) → spec.Cover text qs 0 (length text) → ps ≡ qs }
     ensures tokens { (text : List ℕ) (a b : List Token) → spec.Reads text a → spec.Reads text b → a ≡ b }
+    ensures inside { (text : List ℕ) (a : List Token) → spec.Reads text a → All (spec.IsInside text) a }
     ensures either { (text : List ℕ) (a : List Token) (p : ℕ) (r : Reason) → spec.Reads text a → spec.LexAt text p r → ⊥ }
     ensures place { (text : List ℕ) (p q : ℕ) (r s : Reason) → spec.LexAt text p r → spec.LexAt text q s → p ≡ q }
     ensures reason { (text : List ℕ) (p q : ℕ) (r s : Reason) → spec.LexAt text p r → spec.LexAt text q s → r ≡ s }
