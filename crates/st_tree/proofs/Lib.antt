@@ -1,0 +1,6 @@
+pub mod Rows
+pub mod Appends
+pub mod Pointwise
+pub mod SameExprs
+pub mod SameStmts
+pub mod Worked

@@ -1,0 +1,198 @@
+-- Statements that are equal bare.
+use Rattle.std.proofs.Common.{◌≡◌, ℕ, ◌<◌, Bool, false, List, [], ◌∷◌, length, get_or, refl, sym, ap, ◌∙◌, Option}
+use Rattle.std.specs.Prelude.{IsTrue, ◌↔◌, map}
+use Rattle.vcp_base.specs.declared.spot.Spot.{Spot}
+use Rattle.vcp_base.specs.declared.text.Text.{Text}
+use Rattle.st_tree.specs.declared.expr.Expr.{Expr}
+use Rattle.st_tree.specs.declared.stmt.Label.{Label}
+use Rattle.st_tree.specs.declared.stmt.Arm.{Arm}
+use Rattle.st_tree.specs.declared.stmt.Arms.{Arms}
+use Rattle.st_tree.specs.declared.stmt.Branch.{Branch}
+use Rattle.st_tree.specs.declared.stmt.Branches.{Branches}
+use Rattle.st_tree.specs.declared.stmt.Stmts.{Stmts}
+use Rattle.st_tree.specs.declared.stmt.Stmt.{Stmt, If, Case, For}
+use Rattle.st_tree.specs.ExprTree.{ExprTree, expr_tree, expr_tree_or_none}
+use Rattle.st_tree.specs.StmtTree.{LabelTree, StmtTree, StmtTrees, ArmTrees, BranchTrees, OtherTree, label_tree, label_trees, stmt_tree, stmt_trees, arm_trees, branch_trees, other_tree, choose, select, count, no_stmts, and_stmt, no_arms, and_arm, no_branches, and_branch}
+use Rattle.st_tree.specs.Items.{arm_items, branch_items}
+use Rattle.st_tree.specs.Bare.{nowhere, bare_expr, bare_expr_or_none, bare_label, bare_stmt, bare_stmts, bare_arms, bare_branches, bare_other}
+use Rattle.st_tree.proofs.Rows.{tree-if, tree-case, tree-for}
+use Rattle.st_tree.proofs.Pointwise.{by-each, same-length, each}
+
+-- nodes of the program, bare
+abbrev pub bare_label_of : Label → LabelTree
+bare_label_of l = bare_label (label_tree l)
+
+abbrev pub bare_stmt_of : Stmt → StmtTree
+bare_stmt_of s = bare_stmt (stmt_tree s)
+
+abbrev pub bare_body_of : Stmts → StmtTrees
+bare_body_of ss = bare_stmts (stmt_trees ss.items.items)
+
+abbrev pub bare_arm_of : Arm → ExprTree × StmtTrees
+bare_arm_of a = (bare_expr (expr_tree a.cond), bare_body_of a.body)
+
+abbrev pub bare_branch_of : Branch → List LabelTree × StmtTrees
+bare_branch_of b = (map bare_label (label_trees b.labels.items.items), bare_body_of b.body)
+
+-- lists of statements
+
+abbrev joined : List StmtTree → StmtTrees
+joined [] = no_stmts
+joined (s ∷ ss) = and_stmt s (joined ss)
+
+abbrev split : StmtTrees → List StmtTree
+split no_stmts = []
+split (and_stmt s ss) = s ∷ split ss
+
+joined-map : (ss : List Stmt) → joined (map bare_stmt_of ss) ≡ bare_stmts (stmt_trees ss)
+joined-map [] = refl
+joined-map (s ∷ ss) = ap (λ (t : StmtTrees). and_stmt (bare_stmt_of s) t) (joined-map ss)
+
+split-map : (ss : List Stmt) → split (bare_stmts (stmt_trees ss)) ≡ map bare_stmt_of ss
+split-map [] = refl
+split-map (s ∷ ss) = ap (λ (t : List StmtTree). bare_stmt_of s ∷ t) (split-map ss)
+
+as-lists : (xs ys : List Stmt) → bare_stmts (stmt_trees xs) ≡ bare_stmts (stmt_trees ys) → map bare_stmt_of xs ≡ map bare_stmt_of ys
+as-lists xs ys e = sym (split-map xs) ∙ ap split e ∙ split-map ys
+
+pub stmts-by-each : (xs ys : List Stmt) → length xs ≡ length ys
+    → ((k : ℕ) (d : Stmt) → k < length xs → bare_stmt_of (get_or xs k d) ≡ bare_stmt_of (get_or ys k d))
+    → bare_stmts (stmt_trees xs) ≡ bare_stmts (stmt_trees ys)
+stmts-by-each xs ys e h = sym (joined-map xs) ∙ ap joined (by-each bare_stmt_of xs ys e h) ∙ joined-map ys
+
+pub stmts-length : (xs ys : List Stmt) → bare_stmts (stmt_trees xs) ≡ bare_stmts (stmt_trees ys) → length xs ≡ length ys
+stmts-length xs ys e = same-length bare_stmt_of xs ys (as-lists xs ys e)
+
+pub stmts-each : (xs ys : List Stmt) → bare_stmts (stmt_trees xs) ≡ bare_stmts (stmt_trees ys)
+    → (k : ℕ) (d : Stmt) → k < length xs → bare_stmt_of (get_or xs k d) ≡ bare_stmt_of (get_or ys k d)
+stmts-each xs ys e = each bare_stmt_of xs ys (as-lists xs ys e)
+
+-- lists of conditions with their bodies
+
+abbrev joined_arms : List (ExprTree × StmtTrees) → ArmTrees
+joined_arms [] = no_arms
+joined_arms (a ∷ arms) = and_arm a.0 a.1 nowhere (joined_arms arms)
+
+abbrev split_arms : ArmTrees → List (ExprTree × StmtTrees)
+split_arms no_arms = []
+split_arms (and_arm c body s arms) = (c, body) ∷ split_arms arms
+
+joined_arms-map : (arms : List Arm) → joined_arms (map bare_arm_of arms) ≡ bare_arms (arm_trees arms)
+joined_arms-map [] = refl
+joined_arms-map (a ∷ arms) =
+    ap (λ (t : ArmTrees). and_arm (bare_expr (expr_tree a.cond)) (bare_body_of a.body) nowhere t) (joined_arms-map arms)
+
+split_arms-map : (arms : List Arm) → split_arms (bare_arms (arm_trees arms)) ≡ map bare_arm_of arms
+split_arms-map [] = refl
+split_arms-map (a ∷ arms) = ap (λ (t : List (ExprTree × StmtTrees)). bare_arm_of a ∷ t) (split_arms-map arms)
+
+arms-as-lists : (xs ys : List Arm) → bare_arms (arm_trees xs) ≡ bare_arms (arm_trees ys) → map bare_arm_of xs ≡ map bare_arm_of ys
+arms-as-lists xs ys e = sym (split_arms-map xs) ∙ ap split_arms e ∙ split_arms-map ys
+
+pub arms-by-each : (xs ys : List Arm) → length xs ≡ length ys
+    → ((k : ℕ) (d : Arm) → k < length xs → bare_arm_of (get_or xs k d) ≡ bare_arm_of (get_or ys k d))
+    → bare_arms (arm_trees xs) ≡ bare_arms (arm_trees ys)
+arms-by-each xs ys e h = sym (joined_arms-map xs) ∙ ap joined_arms (by-each bare_arm_of xs ys e h) ∙ joined_arms-map ys
+
+pub arms-length : (xs ys : List Arm) → bare_arms (arm_trees xs) ≡ bare_arms (arm_trees ys) → length xs ≡ length ys
+arms-length xs ys e = same-length bare_arm_of xs ys (arms-as-lists xs ys e)
+
+pub arms-each : (xs ys : List Arm) → bare_arms (arm_trees xs) ≡ bare_arms (arm_trees ys)
+    → (k : ℕ) (d : Arm) → k < length xs → bare_arm_of (get_or xs k d) ≡ bare_arm_of (get_or ys k d)
+arms-each xs ys e = each bare_arm_of xs ys (arms-as-lists xs ys e)
+
+-- lists of branches
+
+abbrev joined_branches : List (List LabelTree × StmtTrees) → BranchTrees
+joined_branches [] = no_branches
+joined_branches (b ∷ branches) = and_branch b.0 b.1 (joined_branches branches)
+
+abbrev split_branches : BranchTrees → List (List LabelTree × StmtTrees)
+split_branches no_branches = []
+split_branches (and_branch ls body branches) = (ls, body) ∷ split_branches branches
+
+joined_branches-map : (branches : List Branch) → joined_branches (map bare_branch_of branches) ≡ bare_branches (branch_trees branches)
+joined_branches-map [] = refl
+joined_branches-map (b ∷ branches) =
+    ap (λ (t : BranchTrees). and_branch (map bare_label (label_trees b.labels.items.items)) (bare_body_of b.body) t) (joined_branches-map branches)
+
+split_branches-map : (branches : List Branch) → split_branches (bare_branches (branch_trees branches)) ≡ map bare_branch_of branches
+split_branches-map [] = refl
+split_branches-map (b ∷ branches) = ap (λ (t : List (List LabelTree × StmtTrees)). bare_branch_of b ∷ t) (split_branches-map branches)
+
+branches-as-lists : (xs ys : List Branch) → bare_branches (branch_trees xs) ≡ bare_branches (branch_trees ys)
+    → map bare_branch_of xs ≡ map bare_branch_of ys
+branches-as-lists xs ys e = sym (split_branches-map xs) ∙ ap split_branches e ∙ split_branches-map ys
+
+pub branches-by-each : (xs ys : List Branch) → length xs ≡ length ys
+    → ((k : ℕ) (d : Branch) → k < length xs → bare_branch_of (get_or xs k d) ≡ bare_branch_of (get_or ys k d))
+    → bare_branches (branch_trees xs) ≡ bare_branches (branch_trees ys)
+branches-by-each xs ys e h =
+    sym (joined_branches-map xs) ∙ ap joined_branches (by-each bare_branch_of xs ys e h) ∙ joined_branches-map ys
+
+pub branches-length : (xs ys : List Branch) → bare_branches (branch_trees xs) ≡ bare_branches (branch_trees ys) → length xs ≡ length ys
+branches-length xs ys e = same-length bare_branch_of xs ys (branches-as-lists xs ys e)
+
+pub branches-each : (xs ys : List Branch) → bare_branches (branch_trees xs) ≡ bare_branches (branch_trees ys)
+    → (k : ℕ) (d : Branch) → k < length xs → bare_branch_of (get_or xs k d) ≡ bare_branch_of (get_or ys k d)
+branches-each xs ys e = each bare_branch_of xs ys (branches-as-lists xs ys e)
+
+-- statements of the program, bare
+
+pub bare-if : (a : Stmt) (arms : Arms) (o : Option Stmts) (xs : List Arm) → a ≡ If arms o → xs ≡ arm_items arms
+    → bare_stmt_of a ≡ choose (bare_arms (arm_trees xs)) (bare_other (other_tree o))
+bare-if a arms o xs e f =
+    ap bare_stmt_of e ∙ ap bare_stmt (tree-if arms o)
+    ∙ sym (ap (λ (x : List Arm). choose (bare_arms (arm_trees x)) (bare_other (other_tree o))) f)
+
+pub bare-case : (a : Stmt) (on : Expr) (branches : Branches) (o : Option Stmts) (s : Spot) (xs : List Branch)
+    → a ≡ Case on branches o s → xs ≡ branch_items branches
+    → bare_stmt_of a ≡ select (bare_expr (expr_tree on)) (bare_branches (branch_trees xs)) (bare_other (other_tree o)) nowhere
+bare-case a on branches o s xs e f =
+    ap bare_stmt_of e ∙ ap bare_stmt (tree-case on branches o s)
+    ∙ sym (ap (λ (x : List Branch). select (bare_expr (expr_tree on)) (bare_branches (branch_trees x)) (bare_other (other_tree o)) nowhere) f)
+
+pub bare-for : (a : Stmt) (n : Text) (ns : Spot) (first last : Expr) (by : Option Expr) (body : Stmts) (s : Spot) (xs : List Stmt)
+    → a ≡ For n ns first last by body s → xs ≡ body.items.items
+    → bare_stmt_of a ≡ count n nowhere (bare_expr (expr_tree first)) (bare_expr (expr_tree last)) (bare_expr_or_none (expr_tree_or_none by)) (bare_stmts (stmt_trees xs)) nowhere
+bare-for a n ns first last by body s xs e f =
+    ap bare_stmt_of e ∙ ap bare_stmt (tree-for n ns first last by body s)
+    ∙ sym (ap (λ (x : List Stmt). count n nowhere (bare_expr (expr_tree first)) (bare_expr (expr_tree last)) (bare_expr_or_none (expr_tree_or_none by)) (bare_stmts (stmt_trees x)) nowhere) f)
+
+-- statements are equal where their parts are
+
+choose-parts : (x y : ArmTrees) (o p : OtherTree) → choose x o ≡ choose y p → (x ≡ y) × (o ≡ p)
+choose-parts x y o p e = (cc, cc)
+
+pub same-choose : (r : Bool) (x y : ArmTrees) (o p : OtherTree) (z : StmtTree) → x ≡ y → (IsTrue r ↔ (o ≡ p))
+    → z ≡ choose x o → IsTrue r ↔ (z ≡ choose y p)
+same-choose r x y o p z e h f = (λ t. f ∙ (λ i. choose (e i) (h.0 t i)), λ q. h.1 (choose-parts x y o p (sym f ∙ q)).1)
+
+pub other-choose : (r : Bool) (x y : ArmTrees) (o p : OtherTree) (z : StmtTree) → r ≡ false → (IsTrue r ↔ (x ≡ y))
+    → z ≡ choose x o → IsTrue r ↔ (z ≡ choose y p)
+other-choose r x y o p z e h f = (λ t. absurd cc, λ q. h.1 (choose-parts x y o p (sym f ∙ q)).0)
+
+select-parts : (a b : ExprTree) (x y : BranchTrees) (o p : OtherTree) → select a x o nowhere ≡ select b y p nowhere
+    → (a ≡ b) × (x ≡ y) × (o ≡ p)
+select-parts a b x y o p e = (cc, cc, cc)
+
+pub same-select : (r : Bool) (a b : ExprTree) (x y : BranchTrees) (o p : OtherTree) (z : StmtTree) → a ≡ b → x ≡ y
+    → (IsTrue r ↔ (o ≡ p)) → z ≡ select a x o nowhere → IsTrue r ↔ (z ≡ select b y p nowhere)
+same-select r a b x y o p z d e h f =
+    (λ t. f ∙ (λ i. select (d i) (e i) (h.0 t i) nowhere), λ q. h.1 (select-parts a b x y o p (sym f ∙ q)).2)
+
+pub other-select : (r : Bool) (a b : ExprTree) (x y : BranchTrees) (o p : OtherTree) (z : StmtTree) → r ≡ false
+    → (IsTrue r ↔ (x ≡ y)) → z ≡ select a x o nowhere → IsTrue r ↔ (z ≡ select b y p nowhere)
+other-select r a b x y o p z e h f = (λ t. absurd cc, λ q. h.1 (select-parts a b x y o p (sym f ∙ q)).1)
+
+count-parts : (n m : List ℕ) (f g l k : ExprTree) (by step : Option ExprTree) (x y : StmtTrees)
+    → count n nowhere f l by x nowhere ≡ count m nowhere g k step y nowhere → x ≡ y
+count-parts n m f g l k by step x y e = cc
+
+pub same-count : (r : Bool) (n m : List ℕ) (f g l k : ExprTree) (by step : Option ExprTree) (x y : StmtTrees) (z : StmtTree)
+    → n ≡ m → (f ≡ g) × (l ≡ k) × (by ≡ step) → (IsTrue r ↔ (x ≡ y))
+    → z ≡ count n nowhere f l by x nowhere → IsTrue r ↔ (z ≡ count m nowhere g k step y nowhere)
+same-count r n m f g l k by step x y z d e h w = (
+  λ t. w ∙ (λ i. count (d i) nowhere (e.0 i) (e.1 i) (e.2 i) (h.0 t i) nowhere),
+  λ q. h.1 (count-parts n m f g l k by step x y (sym w ∙ q)),
+)

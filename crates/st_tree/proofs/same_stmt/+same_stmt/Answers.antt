@@ -1,0 +1,103 @@
+use Rattle.std.proofs.Common.{◌≡◌, sym, ap, arith, refl}
+use Rattle.st_tree.proofs.Pointwise.{at-one-more, at-place, moved}
+use Rattle.st_tree.proofs.SameStmts.{bare_stmt_of, bare_arm_of, bare_branch_of, stmts-by-each, stmts-length, stmts-each, arms-by-each, arms-length, arms-each, branches-by-each, branches-length, branches-each, bare-if, bare-case, bare-for, same-choose, other-choose, same-select, other-select, same-count}
+use Rattle.st_tree.proofs.same_stmt.+same_stmt.Goals as goal
+
+pub same_stmt-returns-in-If : goal.same_stmt-returns-in-If
+same_stmt-returns-in-If t c = moved _ _ _ _ (sym (bare-if _ _ _ _ c.in-If.is c.deref.ensures.value)) c.is_choose.ensures
+
+pub same_stmt-returns-in-Case : goal.same_stmt-returns-in-Case
+same_stmt-returns-in-Case t c = moved _ _ _ _ (sym (bare-case _ _ _ _ _ _ c.in-Case.is c.deref-in-Case.ensures.value)) c.is_select.ensures
+
+pub same_stmt-returns-in-For : goal.same_stmt-returns-in-For
+same_stmt-returns-in-For t c = moved _ _ _ _ (sym (bare-for _ _ _ _ _ _ _ _ _ c.in-For.is c.deref-in-For.ensures.value)) c.is_count.ensures
+
+pub is_choose-returns-then-same_arms : goal.is_choose-returns-then-same_arms
+is_choose-returns-then-same_arms t c =
+    same-choose _ _ _ _ _ _ (c.same_arms.ensures.0 c.if-same_arms.true) c.same_other.ensures
+    (bare-if _ _ _ _ c.in-If.is c.deref.ensures.value)
+
+pub is_choose-returns-else-same_arms : goal.is_choose-returns-else-same_arms
+is_choose-returns-else-same_arms t c =
+    other-choose _ _ _ _ _ _ c.if-same_arms.false c.same_arms.ensures (bare-if _ _ _ _ c.in-If.is c.deref.ensures.value)
+
+pub is_select-returns-then-same_branches : goal.is_select-returns-then-same_branches
+is_select-returns-then-same_branches t c =
+    same-select _ _ _ _ _ _ _ _ (c.same_expr.ensures.0 c.if-not-same_expr.false) (c.same_branches.ensures.0 c.if-same_branches.true)
+    c.same_other.ensures (bare-case _ _ _ _ _ _ c.in-Case.is c.deref.ensures.value)
+
+pub is_select-returns-else-same_branches : goal.is_select-returns-else-same_branches
+is_select-returns-else-same_branches t c =
+    other-select _ _ _ _ _ _ _ _ c.if-same_branches.false c.same_branches.ensures
+    (bare-case _ _ _ _ _ _ c.in-Case.is c.deref.ensures.value)
+
+pub is_count-returns-then-same_bounds : goal.is_count-returns-then-same_bounds
+is_count-returns-then-same_bounds t c =
+    same-count _ _ _ _ _ _ _ _ _ _ _ _ (c.same_text.ensures.0 c.if-not-same_text.false) (c.same_bounds.ensures.0 c.if-same_bounds.true)
+    c.same_stmts.ensures (bare-for _ _ _ _ _ _ _ _ _ c.in-For.is c.deref.ensures.value)
+
+pub same_stmts-returns-then-a-b : goal.same_stmts-returns-then-a-b
+same_stmts-returns-then-a-b t c = (λ e. absurd cc, λ e. absurd (omega (arith, stmts-length _ _ e)))
+
+pub same_stmts-returns-then-not-same_stmt : goal.same_stmts-returns-then-not-same_stmt
+same_stmts-returns-then-not-same_stmt t c = (
+  λ e. absurd cc,
+  λ e. c.if-not-same_stmt.ensures.1
+      (at-place bare_stmt_of c.args.a.now c.args.b.now c.loop-i.i _ _ c.loop-i-test.true (omega arith) c.index-a-i.is c.index-b-i.is
+      (stmts-each _ _ e c.loop-i.i c.index-a-i.result c.loop-i-test.true)),
+)
+
+pub same_stmts-loop-i-preserved : goal.same_stmts-loop-i-preserved
+same_stmts-loop-i-preserved t c =
+    at-one-more bare_stmt_of c.args.a.now c.args.b.now c.loop-i.i _ _ c.loop-i-test.true (omega arith) c.index-a-i.is c.index-b-i.is
+    (c.if-not-same_stmt.ensures.0 refl) c.loop-i.invariant
+
+pub same_stmts-returns : goal.same_stmts-returns
+same_stmts-returns t c =
+    (λ _. stmts-by-each c.args.a.now c.args.b.now c.if-a-b.false (λ k d lt. c.loop-i.invariant k d (omega (arith, lt))), λ _. refl)
+
+pub same_arms-returns-then-a-b : goal.same_arms-returns-then-a-b
+same_arms-returns-then-a-b t c = (λ e. absurd cc, λ e. absurd (omega (arith, arms-length _ _ e)))
+
+pub same_arms-returns-then-not-same_arm : goal.same_arms-returns-then-not-same_arm
+same_arms-returns-then-not-same_arm t c = (
+  λ e. absurd cc,
+  λ e.
+      let same : bare_arm_of c.index-a-i.result ≡ bare_arm_of c.index-b-i.result =
+      at-place bare_arm_of c.args.a.now c.args.b.now c.loop-i.i _ _ c.loop-i-test.true (omega arith) c.index-a-i.is c.index-b-i.is
+      (arms-each _ _ e c.loop-i.i c.index-a-i.result c.loop-i-test.true) in
+      c.if-not-same_arm.ensures.1 (ap (λ p. p.0) same, ap (λ p. p.1) same),
+)
+
+pub same_arms-loop-i-preserved : goal.same_arms-loop-i-preserved
+same_arms-loop-i-preserved t c =
+    let both = c.if-not-same_arm.ensures.0 refl in
+    at-one-more bare_arm_of c.args.a.now c.args.b.now c.loop-i.i _ _ c.loop-i-test.true (omega arith) c.index-a-i.is c.index-b-i.is
+    (λ i. (both.0 i, both.1 i)) c.loop-i.invariant
+
+pub same_arms-returns : goal.same_arms-returns
+same_arms-returns t c =
+    (λ _. arms-by-each c.args.a.now c.args.b.now c.if-a-b.false (λ k d lt. c.loop-i.invariant k d (omega (arith, lt))), λ _. refl)
+
+pub same_branches-returns-then-a-b : goal.same_branches-returns-then-a-b
+same_branches-returns-then-a-b t c = (λ e. absurd cc, λ e. absurd (omega (arith, branches-length _ _ e)))
+
+pub same_branches-returns-then-not-same_branch : goal.same_branches-returns-then-not-same_branch
+same_branches-returns-then-not-same_branch t c = (
+  λ e. absurd cc,
+  λ e.
+      let same : bare_branch_of c.index-a-i.result ≡ bare_branch_of c.index-b-i.result =
+      at-place bare_branch_of c.args.a.now c.args.b.now c.loop-i.i _ _ c.loop-i-test.true (omega arith) c.index-a-i.is c.index-b-i.is
+      (branches-each _ _ e c.loop-i.i c.index-a-i.result c.loop-i-test.true) in
+      c.if-not-same_branch.ensures.1 (ap (λ p. p.0) same, ap (λ p. p.1) same),
+)
+
+pub same_branches-loop-i-preserved : goal.same_branches-loop-i-preserved
+same_branches-loop-i-preserved t c =
+    let both = c.if-not-same_branch.ensures.0 refl in
+    at-one-more bare_branch_of c.args.a.now c.args.b.now c.loop-i.i _ _ c.loop-i-test.true (omega arith) c.index-a-i.is c.index-b-i.is
+    (λ i. (both.0 i, both.1 i)) c.loop-i.invariant
+
+pub same_branches-returns : goal.same_branches-returns
+same_branches-returns t c =
+    (λ _. branches-by-each c.args.a.now c.args.b.now c.if-a-b.false (λ k d lt. c.loop-i.invariant k d (omega (arith, lt))), λ _. refl)

@@ -1,0 +1,5 @@
+pub mod ExprTree
+pub mod StmtTree
+pub mod ProgramTree
+pub mod Items
+pub mod Bare

@@ -1,0 +1,24 @@
+//! The tree of a program: what its source says, without brackets, comments and empty statements.
+//!
+//! A node keeps the spot of its name, literal, operator, function name or keyword. Contracts see a
+//! tree as what it holds, never where it lies in memory. Lists are made by `new` and `push`, nodes by
+//! the functions named after what they hold; the functions named `.._holds` are laws for a caller
+//! that matches on a node. `same_tree` compares programs and leaves spots aside.
+#![tactic(auto)]
+
+mod expr;
+mod laws;
+mod program;
+mod same_expr;
+mod same_program;
+mod same_stmt;
+mod stmt;
+
+pub use expr::{BinOp, Expr, Exprs, UnOp};
+pub use laws::{trees_of_appended, trees_of_nodes};
+pub use program::{Block, Blocks, Class, Decl, Declared, DeclaredNames, Decls, Program};
+pub use same_program::same_tree;
+pub use stmt::{Arm, Arms, Branch, Branches, Label, Labels, Stmt, Stmts};
+
+#[cfg(test)]
+mod tests;

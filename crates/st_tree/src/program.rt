@@ -1,0 +1,195 @@
+//! Programs and their declarations.
+
+ghost use Rattle.std.specs.Prelude.{◌≡◌, ◌<◌, ◌+◌, [], ◌∷◌, ◌++◌, Some, OnOk, OnErr, drop, length, slice_get, map};
+ghost use Rattle.st_tree.specs.ProgramTree.{declared_tree, decl_tree, block_tree};
+
+use crate::expr::Expr;
+use crate::stmt::Stmts;
+use std::alloc::Global;
+use vcp_base::{Memory, Spot, Text, Ty};
+
+/// What a block declares.
+#[derive(Clone, Copy, Debug, PartialEq, Eq, Drop)]
+pub enum Class {
+    /// VAR_INPUT
+    Input,
+    /// VAR_OUTPUT
+    Output,
+    /// VAR
+    Local,
+    /// VAR RETAIN, which means what VAR means.
+    Retain,
+    /// VAR CONSTANT
+    Constant,
+}
+
+/// A declared name, with its spot.
+#[derive(Drop)]
+pub struct Declared {
+    pub name: Text,
+    pub spot: Spot,
+}
+
+/// The names of a declaration.
+#[derive(Drop)]
+pub struct DeclaredNames {
+    pub items: Vec<Declared>,
+}
+
+/// A declaration: names, their type, and their initial value where one is given.
+#[derive(Drop)]
+pub struct Decl {
+    pub names: DeclaredNames,
+    pub ty: Ty,
+    pub init: Option<Expr>,
+}
+
+/// The declarations of a block.
+#[derive(Drop)]
+pub struct Decls {
+    pub items: Vec<Decl>,
+}
+
+/// A block of declarations.
+#[derive(Drop)]
+pub struct Block {
+    pub class: Class,
+    pub decls: Decls,
+}
+
+/// The blocks of a program.
+#[derive(Drop)]
+pub struct Blocks {
+    pub items: Vec<Block>,
+}
+
+/// A program: its name, its blocks of declarations and its body.
+#[derive(Drop)]
+pub struct Program {
+    pub name: Text,
+    pub blocks: Blocks,
+    pub body: Stmts,
+}
+
+impl DeclaredNames {
+    /// A list of no names. It takes no memory.
+    pub fn new(alloc: Global) -> DeclaredNames
+        ensures items { result.items.items ≡ [] }
+        ensures tree { map declared_tree result.items.items ≡ [] }
+    {
+        DeclaredNames {
+            items: Vec::new(alloc),
+        }
+    }
+
+    /// Appends a name. After `Memory` the list is unchanged.
+    pub fn push(&mut self, item: Declared) -> Result<(), Memory>
+        ensures items { OnOk result (self.new.items.items ≡ self.old.items.items ++ item ∷ []) }
+        ensures tree { OnOk result
+            (map declared_tree self.new.items.items
+            ≡ map declared_tree self.old.items.items ++ declared_tree item ∷ []) }
+        ensures unchanged { OnErr result (self.new.items.items ≡ self.old.items.items) }
+    {
+        self.items.push(item)?;
+        Ok(())
+    }
+
+    /// How many names there are.
+    pub fn len(&self) -> usize
+        ensures { result ≡ length self.now.items.items }
+    {
+        self.items.len()
+    }
+
+    /// The name at place `i`, counted from 0, where `i` is less than `len`.
+    pub fn at(&self, i: usize) -> &Declared
+        requires { i < length self.now.items.items }
+        ensures item { slice_get self.now.items.items i ≡ Some result.now }
+        ensures tree { map declared_tree (drop i self.now.items.items)
+            ≡ declared_tree result.now ∷ map declared_tree (drop (i + 1) self.now.items.items) }
+    {
+        &self.items[i]
+    }
+}
+
+impl Decls {
+    /// A list of no declarations. It takes no memory.
+    pub fn new(alloc: Global) -> Decls
+        ensures items { result.items.items ≡ [] }
+        ensures tree { map decl_tree result.items.items ≡ [] }
+    {
+        Decls {
+            items: Vec::new(alloc),
+        }
+    }
+
+    /// Appends a declaration. After `Memory` the list is unchanged.
+    pub fn push(&mut self, item: Decl) -> Result<(), Memory>
+        ensures items { OnOk result (self.new.items.items ≡ self.old.items.items ++ item ∷ []) }
+        ensures tree { OnOk result
+            (map decl_tree self.new.items.items
+            ≡ map decl_tree self.old.items.items ++ decl_tree item ∷ []) }
+        ensures unchanged { OnErr result (self.new.items.items ≡ self.old.items.items) }
+    {
+        self.items.push(item)?;
+        Ok(())
+    }
+
+    /// How many declarations there are.
+    pub fn len(&self) -> usize
+        ensures { result ≡ length self.now.items.items }
+    {
+        self.items.len()
+    }
+
+    /// The declaration at place `i`, counted from 0, where `i` is less than `len`.
+    pub fn at(&self, i: usize) -> &Decl
+        requires { i < length self.now.items.items }
+        ensures item { slice_get self.now.items.items i ≡ Some result.now }
+        ensures tree { map decl_tree (drop i self.now.items.items)
+            ≡ decl_tree result.now ∷ map decl_tree (drop (i + 1) self.now.items.items) }
+    {
+        &self.items[i]
+    }
+}
+
+impl Blocks {
+    /// A list of no blocks. It takes no memory.
+    pub fn new(alloc: Global) -> Blocks
+        ensures items { result.items.items ≡ [] }
+        ensures tree { map block_tree result.items.items ≡ [] }
+    {
+        Blocks {
+            items: Vec::new(alloc),
+        }
+    }
+
+    /// Appends a block. After `Memory` the list is unchanged.
+    pub fn push(&mut self, item: Block) -> Result<(), Memory>
+        ensures items { OnOk result (self.new.items.items ≡ self.old.items.items ++ item ∷ []) }
+        ensures tree { OnOk result
+            (map block_tree self.new.items.items
+            ≡ map block_tree self.old.items.items ++ block_tree item ∷ []) }
+        ensures unchanged { OnErr result (self.new.items.items ≡ self.old.items.items) }
+    {
+        self.items.push(item)?;
+        Ok(())
+    }
+
+    /// How many blocks there are.
+    pub fn len(&self) -> usize
+        ensures { result ≡ length self.now.items.items }
+    {
+        self.items.len()
+    }
+
+    /// The block at place `i`, counted from 0, where `i` is less than `len`.
+    pub fn at(&self, i: usize) -> &Block
+        requires { i < length self.now.items.items }
+        ensures item { slice_get self.now.items.items i ≡ Some result.now }
+        ensures tree { map block_tree (drop i self.now.items.items)
+            ≡ block_tree result.now ∷ map block_tree (drop (i + 1) self.now.items.items) }
+    {
+        &self.items[i]
+    }
+}

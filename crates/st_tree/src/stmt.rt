@@ -1,0 +1,358 @@
+//! Statements.
+
+ghost use Rattle.std.specs.Prelude.{◌≡◌, ◌<◌, ◌+◌, [], ◌∷◌, ◌++◌, Some, OnOk, OnErr, drop, length, slice_get};
+ghost use Rattle.st_tree.specs.declared.stmt.Stmt.{If, Case, For};
+ghost use Rattle.st_tree.specs.ExprTree.{expr_tree, expr_tree_or_none};
+ghost use Rattle.st_tree.specs.Items.{arm_items, branch_items};
+ghost use Rattle.st_tree.specs.StmtTree.{label_tree, label_trees, assign as assign_tree, choose as choose_tree, select as select_tree, count as count_tree, no_stmts, and_stmt, no_arms, and_arm, no_branches, and_branch, stmt_tree, stmt_trees, arm_trees, branch_trees, other_tree, stmts_and, arms_and, branches_and};
+
+use crate::expr::Expr;
+use std::alloc::Global;
+use vcp_base::{Memory, Spot, Text};
+
+/// A label of a CASE: one value, or the range from the first to the last.
+#[derive(Drop)]
+pub struct Label {
+    pub first: Expr,
+    pub last: Option<Expr>,
+}
+
+/// The labels of a branch of a CASE.
+#[derive(Drop)]
+pub struct Labels {
+    pub items: Vec<Label>,
+}
+
+/// A list of statements.
+#[cycle(stmt)]
+#[derive(Drop)]
+pub struct Stmts {
+    pub items: Vec<Stmt>,
+}
+
+/// A condition of an IF with its body, and the spot of the IF or ELSIF.
+#[cycle(stmt)]
+#[derive(Drop)]
+pub struct Arm {
+    pub cond: Expr,
+    pub body: Stmts,
+    pub spot: Spot,
+}
+
+/// The conditions of an IF, in order, with their bodies.
+#[cycle(stmt)]
+#[derive(Drop)]
+pub struct Arms {
+    pub items: Vec<Arm>,
+}
+
+/// The labels of a branch of a CASE, with its body.
+#[cycle(stmt)]
+#[derive(Drop)]
+pub struct Branch {
+    pub labels: Labels,
+    pub body: Stmts,
+}
+
+/// The branches of a CASE, in order.
+#[cycle(stmt)]
+#[derive(Drop)]
+pub struct Branches {
+    pub items: Vec<Branch>,
+}
+
+/// A statement.
+#[cycle(stmt)]
+#[derive(Drop)]
+pub enum Stmt {
+    /// An assignment, with the spot of the assigned name.
+    Assign {
+        name: Text,
+        value: Expr,
+        spot: Spot,
+    },
+    /// IF with its ELSIFs, and the body of ELSE where there is one.
+    If {
+        arms: Arms,
+        other: Option<Stmts>,
+    },
+    /// CASE, with the spot of its keyword, and the body of ELSE where there is one.
+    Case {
+        on: Expr,
+        branches: Branches,
+        other: Option<Stmts>,
+        spot: Spot,
+    },
+    /// FOR, with the spot of its keyword, and that of the control variable's name. `by` is the step,
+    /// where one is given.
+    For {
+        name: Text,
+        name_spot: Spot,
+        first: Expr,
+        last: Expr,
+        by: Option<Expr>,
+        body: Stmts,
+        spot: Spot,
+    },
+}
+
+impl Labels {
+    /// A list of no labels. It takes no memory.
+    pub fn new(alloc: Global) -> Labels
+        ensures items { result.items.items ≡ [] }
+        ensures tree { label_trees result.items.items ≡ [] }
+    {
+        Labels {
+            items: Vec::new(alloc),
+        }
+    }
+
+    /// Appends a label. After `Memory` the list is unchanged.
+    pub fn push(&mut self, item: Label) -> Result<(), Memory>
+        ensures items { OnOk result (self.new.items.items ≡ self.old.items.items ++ item ∷ []) }
+        ensures tree { OnOk result
+            (label_trees self.new.items.items
+            ≡ label_trees self.old.items.items ++ label_tree item ∷ []) }
+        ensures unchanged { OnErr result (self.new.items.items ≡ self.old.items.items) }
+    {
+        self.items.push(item)?;
+        Ok(())
+    }
+
+    /// How many labels there are.
+    pub fn len(&self) -> usize
+        ensures { result ≡ length self.now.items.items }
+    {
+        self.items.len()
+    }
+
+    /// The label at place `i`, counted from 0, where `i` is less than `len`.
+    pub fn at(&self, i: usize) -> &Label
+        requires { i < length self.now.items.items }
+        ensures item { slice_get self.now.items.items i ≡ Some result.now }
+        ensures tree { label_trees (drop i self.now.items.items)
+            ≡ label_tree result.now ∷ label_trees (drop (i + 1) self.now.items.items) }
+    {
+        &self.items[i]
+    }
+}
+
+impl Stmts {
+    /// A list of no statements. It takes no memory.
+    pub fn new(alloc: Global) -> Stmts
+        ensures items { result.items.items ≡ [] }
+        ensures tree { stmt_trees result.items.items ≡ no_stmts }
+    {
+        Stmts {
+            items: Vec::new(alloc),
+        }
+    }
+
+    /// Appends a statement. After `Memory` the list is unchanged.
+    pub fn push(&mut self, item: Stmt) -> Result<(), Memory>
+        ensures items { OnOk result (self.new.items.items ≡ self.old.items.items ++ item ∷ []) }
+        ensures tree { OnOk result
+            (stmt_trees self.new.items.items
+            ≡ stmts_and (stmt_trees self.old.items.items) (stmt_tree item)) }
+        ensures unchanged { OnErr result (self.new.items.items ≡ self.old.items.items) }
+    {
+        self.items.push(item)?;
+        Ok(())
+    }
+
+    /// How many statements there are.
+    pub fn len(&self) -> usize
+        ensures { result ≡ length self.now.items.items }
+    {
+        self.items.len()
+    }
+
+    /// The statement at place `i`, counted from 0, where `i` is less than `len`.
+    pub fn at(&self, i: usize) -> &Stmt
+        requires { i < length self.now.items.items }
+        ensures item { slice_get self.now.items.items i ≡ Some result.now }
+        ensures tree { stmt_trees (drop i self.now.items.items)
+            ≡ and_stmt (stmt_tree result.now) (stmt_trees (drop (i + 1) self.now.items.items)) }
+    {
+        &self.items[i]
+    }
+}
+
+impl Arms {
+    /// A list of no conditions. It takes no memory.
+    pub fn new(alloc: Global) -> Arms
+        ensures items { arm_items result ≡ [] }
+        ensures tree { arm_trees (arm_items result) ≡ no_arms }
+    {
+        Arms {
+            items: Vec::new(alloc),
+        }
+    }
+
+    /// Appends a condition with its body. After `Memory` the list is unchanged.
+    pub fn push(&mut self, item: Arm) -> Result<(), Memory>
+        ensures items { OnOk result (arm_items self.new ≡ arm_items self.old ++ item ∷ []) }
+        ensures tree { OnOk result
+            (arm_trees (arm_items self.new)
+            ≡ arms_and (arm_trees (arm_items self.old)) (expr_tree item.cond) (stmt_trees item.body.items.items) item.spot) }
+        ensures unchanged { OnErr result (arm_items self.new ≡ arm_items self.old) }
+    {
+        self.items.push(item)?;
+        Ok(())
+    }
+
+    /// How many conditions there are.
+    pub fn len(&self) -> usize
+        ensures { result ≡ length (arm_items self.now) }
+    {
+        self.items.len()
+    }
+
+    /// The condition with its body at place `i`, counted from 0, where `i` is less than `len`.
+    pub fn at(&self, i: usize) -> &Arm
+        requires { i < length (arm_items self.now) }
+        ensures item { slice_get (arm_items self.now) i ≡ Some result.now }
+        ensures tree { arm_trees (drop i (arm_items self.now))
+            ≡ and_arm (expr_tree result.now.cond) (stmt_trees result.now.body.items.items) result.now.spot (arm_trees (drop (i + 1) (arm_items self.now))) }
+    {
+        &self.items[i]
+    }
+}
+
+impl Branches {
+    /// A list of no branches. It takes no memory.
+    pub fn new(alloc: Global) -> Branches
+        ensures items { branch_items result ≡ [] }
+        ensures tree { branch_trees (branch_items result) ≡ no_branches }
+    {
+        Branches {
+            items: Vec::new(alloc),
+        }
+    }
+
+    /// Appends a branch. After `Memory` the list is unchanged.
+    pub fn push(&mut self, item: Branch) -> Result<(), Memory>
+        ensures items { OnOk result (branch_items self.new ≡ branch_items self.old ++ item ∷ []) }
+        ensures tree { OnOk result
+            (branch_trees (branch_items self.new)
+            ≡ branches_and (branch_trees (branch_items self.old)) (label_trees item.labels.items.items) (stmt_trees item.body.items.items)) }
+        ensures unchanged { OnErr result (branch_items self.new ≡ branch_items self.old) }
+    {
+        self.items.push(item)?;
+        Ok(())
+    }
+
+    /// How many branches there are.
+    pub fn len(&self) -> usize
+        ensures { result ≡ length (branch_items self.now) }
+    {
+        self.items.len()
+    }
+
+    /// The branch at place `i`, counted from 0, where `i` is less than `len`.
+    pub fn at(&self, i: usize) -> &Branch
+        requires { i < length (branch_items self.now) }
+        ensures item { slice_get (branch_items self.now) i ≡ Some result.now }
+        ensures tree { branch_trees (drop i (branch_items self.now))
+            ≡ and_branch (label_trees result.now.labels.items.items) (stmt_trees result.now.body.items.items) (branch_trees (drop (i + 1) (branch_items self.now))) }
+    {
+        &self.items[i]
+    }
+}
+
+impl Stmt {
+    /// An assignment.
+    pub fn assign(name: Text, value: Expr, spot: Spot) -> Stmt
+        ensures { stmt_tree result ≡ assign_tree name (expr_tree value) spot }
+    {
+        Stmt::Assign { name, value, spot }
+    }
+
+    /// IF with its ELSIFs, and the body of ELSE where there is one.
+    pub fn choose(arms: Arms, other: Option<Stmts>) -> Stmt
+        ensures { stmt_tree result ≡ choose_tree (arm_trees (arm_items arms)) (other_tree other) }
+    {
+        Stmt::If { arms, other }
+    }
+
+    /// CASE with its branches, and the body of ELSE where there is one.
+    pub fn select(on: Expr, branches: Branches, other: Option<Stmts>, spot: Spot) -> Stmt
+        ensures { stmt_tree result
+            ≡ select_tree (expr_tree on) (branch_trees (branch_items branches)) (other_tree other) spot }
+    {
+        Stmt::Case {
+            on,
+            branches,
+            other,
+            spot,
+        }
+    }
+
+    /// FOR, with the step where one is given.
+    pub fn count(
+        name: Text,
+        name_spot: Spot,
+        first: Expr,
+        last: Expr,
+        by: Option<Expr>,
+        body: Stmts,
+        spot: Spot,
+    ) -> Stmt
+        ensures { stmt_tree result
+            ≡ count_tree
+            name
+            name_spot
+            (expr_tree first)
+            (expr_tree last)
+            (expr_tree_or_none by)
+            (stmt_trees body.items.items)
+            spot }
+    {
+        Stmt::For {
+            name,
+            name_spot,
+            first,
+            last,
+            by,
+            body,
+            spot,
+        }
+    }
+
+    /// A law: what an IF of these parts holds.
+    pub fn if_holds(arms: &Arms, other: &Option<Stmts>)
+        ensures { stmt_tree (If arms.now other.now)
+            ≡ choose_tree (arm_trees (arm_items arms.now)) (other_tree other.now) }
+    {}
+
+    /// A law: what a CASE of these parts holds.
+    pub fn case_holds(on: &Expr, branches: &Branches, other: &Option<Stmts>, spot: Spot)
+        ensures { stmt_tree (Case on.now branches.now other.now spot)
+            ≡ select_tree
+            (expr_tree on.now)
+            (branch_trees (branch_items branches.now))
+            (other_tree other.now)
+            spot }
+    {}
+
+    /// A law: what a FOR of these parts holds.
+    pub fn for_holds(
+        name: &Text,
+        name_spot: Spot,
+        first: &Expr,
+        last: &Expr,
+        by: &Option<Expr>,
+        body: &Stmts,
+        spot: Spot,
+    )
+        ensures { stmt_tree (For name.now name_spot first.now last.now by.now body.now spot)
+            ≡ count_tree
+            name.now
+            name_spot
+            (expr_tree first.now)
+            (expr_tree last.now)
+            (expr_tree_or_none by.now)
+            (stmt_trees body.now.items.items)
+            spot }
+    {}
+}
