@@ -1,0 +1,2 @@
+pub mod Renamed
+mod Worked

@@ -1,0 +1,17 @@
+//! Laws of spelling.
+
+ghost use Rattle.std.specs.Prelude.{◌≡◌, ◌++◌, ℕ, List};
+ghost use Rattle.st_lexer.specs.declared.token.Token.{Token};
+ghost use Rattle.st_tree.specs.ProgramTree.{ProgramTree};
+ghost use Rattle.st_spelling.specs.Placed.{Placed};
+ghost use Rattle.st_spelling.specs.Programs.{SpellsProgram};
+ghost use Rattle.st_spelling.specs.Spelling.{Spells, Begins};
+
+/// What tokens spell, but for the bytes of names, depends on the tokens alone: with other bytes they
+/// spell a program too, at the same depths. So the tokens of a program begin one, and so do those of
+/// every front of tokens that begin one.
+pub fn spelling_begins()
+    ensures renamed { (b c : Token → List ℕ) (p : ProgramTree) (ps : List Placed) → SpellsProgram b p ps → (q : ProgramTree) × SpellsProgram c q ps }
+    ensures program { (p : ProgramTree) (text : List ℕ) (ts : List Token) → Spells p text ts → Begins ts }
+    ensures front { (ts us : List Token) → Begins (ts ++ us) → Begins ts }
+{}
