@@ -1,0 +1,18 @@
+use Rattle.st_spelling.specs.Spelling.{bytes_in}
+use Rattle.st_parser.specs.ExprMachine.{Context}
+use Rattle.st_parser.proofs.declarations.program_step.Goals as goal
+
+pub returns-in-AtProgram : goal.returns-in-AtProgram
+returns-in-AtProgram c =
+    let k : Context = record { bytes = bytes_in c.args.source.text.now; most = c.args.source.most } in
+    rw c.in-AtProgram.is (c.program_at.ensures k)
+
+pub returns-in-AtComma : goal.returns-in-AtComma
+returns-in-AtComma c =
+    let k : Context = record { bytes = bytes_in c.args.source.text.now; most = c.args.source.most } in
+    rw c.in-AtComma.is (c.comma_at.ensures k)
+
+pub returns-in-AtInit : goal.returns-in-AtInit
+returns-in-AtInit c =
+    let k : Context = record { bytes = bytes_in c.args.source.text.now; most = c.args.source.most } in
+    rw c.in-AtInit.is (c.init_begins.ensures k)

@@ -1,0 +1,41 @@
+use Rattle.std.proofs.Common.{is_ok, sym, ap, ◌∙◌, arith}
+use Rattle.std.proofs.ResultArms.{chosen}
+use Rattle.st_tree.specs.ExprTree.{ExprTree}
+use Rattle.st_parser.specs.ExprMachine as machine
+use Rattle.st_parser.specs.FormViews.{forms}
+use Rattle.st_parser.proofs.Frames.{close-sign, close-left, close-stays, close-none}
+use Rattle.st_parser.proofs.forms.close.Goals as goal
+
+pub closing-preserved-in-Some-Sign : goal.closing-preserved-in-Some-Sign
+closing-preserved-in-Some-Sign c =
+    let o = rw c.in-Some-Sign.field-0-is at c.in-Some-Sign.ensures.items in
+    ap (λ (x : ExprTree). machine.close c.args.level (forms c.pop.new.self.items) x) c.in_ok-have-in-Some-Sign.ensures
+    ∙ sym (close-sign c.args.level c.closing.forms.items c.pop.new.self.items _ _ _ o) ∙ c.closing.invariant
+
+pub closing-preserved : goal.closing-preserved
+closing-preserved c =
+    let o = rw c.in-Some-Left.field-0-is at c.in-Some-Left.ensures.items in
+    ap (λ (x : ExprTree). machine.close c.args.level (forms c.pop.new.self.items) x) c.in_ok-have-in-Some-Left.ensures
+    ∙ sym (close-left c.args.level c.closing.forms.items c.pop.new.self.items _ _ _ _ o (omega arith)) ∙ c.closing.invariant
+
+pub returns-then-level_of-level : goal.returns-then-level_of-level
+returns-then-level_of-level c =
+    let o = rw c.in-Some-Left.field-0-is at c.in-Some-Left.ensures.items in
+    let b = chosen _ _ _ _ c.push.ensures.items (ap is_ok c.in_ok-push-in-Some-Left.was) in
+    sym c.closing.invariant ∙ close-stays c.args.level c.closing.forms.items c.pop.new.self.items c.push.new.self.items _ _ o b (omega arith)
+
+pub returns-in-Some-Bracket : goal.returns-in-Some-Bracket
+returns-in-Some-Bracket c =
+    let o = rw c.in-Some-Bracket.field-0-is at c.in-Some-Bracket.ensures.items in
+    let b = chosen _ _ _ _ c.push-in-Some-Bracket.ensures.items (ap is_ok c.in_ok-push-in-Some-Bracket.was) in
+    sym c.closing.invariant ∙ close-stays c.args.level c.closing.forms.items c.pop.new.self.items c.push-in-Some-Bracket.new.self.items _ _ o b tt
+
+pub returns-in-Some-Arguments : goal.returns-in-Some-Arguments
+returns-in-Some-Arguments c =
+    let o = rw c.in-Some-Arguments.field-0-is at c.in-Some-Arguments.ensures.items in
+    let b = chosen _ _ _ _ c.push-in-Some-Arguments.ensures.items (ap is_ok c.in_ok-push-in-Some-Arguments.was) in
+    sym c.closing.invariant ∙ close-stays c.args.level c.closing.forms.items c.pop.new.self.items c.push-in-Some-Arguments.new.self.items _ _ o b tt
+
+pub returns-in-None : goal.returns-in-None
+returns-in-None c =
+    sym c.closing.invariant ∙ close-none c.args.level c.closing.forms.items c.pop.new.self.items _ c.in-None.ensures.items (omega (arith, c.in-None.ensures.cases.1, c.pop.new.self.ok.0))

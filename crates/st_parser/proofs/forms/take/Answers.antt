@@ -1,0 +1,7 @@
+use Rattle.std.proofs.Common.{arith}
+use Rattle.st_parser.proofs.Frames.{takes}
+use Rattle.st_parser.proofs.forms.take.Goals as goal
+
+pub returns : goal.returns
+returns c =
+    takes _ _ _ c.pop.ensures.items (λ e. let k = rw e at c.pop.ensures.cases in omega (arith, k.1, c.pop.new.self.ok.0))

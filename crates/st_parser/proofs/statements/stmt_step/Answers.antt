@@ -1,0 +1,13 @@
+use Rattle.st_spelling.specs.Spelling.{bytes_in}
+use Rattle.st_parser.specs.ExprMachine.{Context}
+use Rattle.st_parser.proofs.statements.stmt_step.Goals as goal
+
+pub returns-in-Closed : goal.returns-in-Closed
+returns-in-Closed c =
+    let k : Context = record { bytes = bytes_in c.args.source.text.now; most = c.args.source.most } in
+    rw c.in-Closed.is (c.closed_at.ensures k)
+
+pub returns-in-LoopNamed : goal.returns-in-LoopNamed
+returns-in-LoopNamed c =
+    let k : Context = record { bytes = bytes_in c.args.source.text.now; most = c.args.source.most } in
+    rw c.in-LoopNamed.is (c.loop_named_at.ensures k)

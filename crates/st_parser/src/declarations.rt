@@ -1,0 +1,363 @@
+//! Declarations, read token by token.
+
+ghost use Rattle.std.specs.Prelude.{◌≡◌, [], ◌∷◌, ◌++◌, Result, Ok, Some, IfOk, cond, map};
+ghost use Rattle.st_lexer.specs.Reading.{IsInside};
+ghost use Rattle.st_tree.specs.ExprTree.{expr_tree, expr_tree_or_none};
+ghost use Rattle.st_tree.specs.StmtTree.{no_stmts};
+ghost use Rattle.st_tree.specs.ProgramTree.{declared_tree};
+ghost use Rattle.st_spelling.specs.Spelling.{bytes_in};
+ghost use Rattle.st_parser.specs.declared.fault.SyntaxFault.{SyntaxFault as FaultOf};
+ghost use Rattle.st_parser.specs.Marks.{mark_of as mark, is as is_mark};
+ghost use Rattle.st_parser.specs.ExprMachine.{Context, want};
+ghost use Rattle.st_parser.specs.FormViews as form_view;
+ghost use Rattle.st_parser.specs.StateViews.{Gives, state};
+ghost use Rattle.st_parser.specs.ProgramViews as view;
+ghost use Rattle.st_parser.specs.StmtMachine.{At as AtOf, start, refused as refused_of, stmt_step as stmt_step_of};
+ghost use Rattle.st_parser.specs.ProgramMachine as machine;
+
+use crate::expressions::{Progress, read};
+use crate::fault::SyntaxFault;
+use crate::forms::{Form, Mode};
+use crate::levels::{nothing_read, refused};
+use crate::marks::{Mark, is, mark_of};
+use crate::names::{Source, name_of};
+use crate::state::{At, Front, Opening, State};
+use crate::statements::stmt_step;
+use st_lexer::Token;
+use st_tree::{Block, Blocks, Class, Decl, Declared, DeclaredNames, Decls, Expr};
+use std::alloc::Global;
+use vcp_base::{Memory, Ty};
+
+// The declared names with the one that a token is.
+fn with_name(source: Source, names: DeclaredNames, t: Token) -> Result<DeclaredNames, Memory>
+    requires inside { IsInside source.text.now t }
+    ensures { IfOk result (λ all. map declared_tree all.items.items
+        ≡ map declared_tree names.items.items ++ machine.declared (record { bytes = bytes_in source.entry.text.now; most = source.entry.most }) t ∷ []) }
+{
+    let mut names = names;
+    let name = name_of(source.alloc, source.text, t)?;
+    names.push(Declared { name, spot: t.spot })?;
+    Ok(names)
+}
+
+// The block with one declaration more.
+fn with_decl(
+    opening: Opening,
+    names: DeclaredNames,
+    ty: Ty,
+    init: Option<Expr>,
+) -> Result<Opening, Memory>
+    ensures { IfOk result (λ o. view.opening o
+        ≡ machine.with_decl (view.opening opening) (map declared_tree names.items.items) ty (expr_tree_or_none init)) }
+{
+    let Opening {
+        front,
+        class,
+        decls,
+    } = opening;
+    let mut decls = decls;
+    decls.push(Decl { names, ty, init })?;
+    Ok(Opening {
+        front,
+        class,
+        decls,
+    })
+}
+
+// The program's front with the block that ends.
+fn with_block(opening: Opening) -> Result<Front, Memory>
+    ensures { IfOk result (λ f. view.front f ≡ machine.with_block (view.opening opening)) }
+{
+    let Opening {
+        front,
+        class,
+        decls,
+    } = opening;
+    let Front { name, blocks } = front;
+    let mut blocks = blocks;
+    blocks.push(Block { class, decls })?;
+    Ok(Front { name, blocks })
+}
+
+// A block of no declarations yet.
+fn begun(alloc: Global, front: Front, class: Class) -> Opening
+    ensures { view.opening result ≡ machine.begun (view.front front) class }
+{
+    Opening {
+        front,
+        class,
+        decls: Decls::new(alloc),
+    }
+}
+
+// A token where a declaration may begin.
+fn decl_at(source: Source, opening: Opening, mark: Mark, t: Token) -> Result<State, SyntaxFault>
+    requires inside { IsInside source.text.now t }
+    ensures { Gives view.program result
+        (machine.decl_at (record { bytes = bytes_in source.entry.text.now; most = source.entry.most }) (view.opening opening) mark t) }
+{
+    if is(mark, Mark::Name) {
+        let names = with_name(source, DeclaredNames::new(source.alloc), t)?;
+        return Ok(State::AtComma { opening, names });
+    }
+    if is(mark, Mark::EndVar) {
+        let front = with_block(opening)?;
+        return Ok(State::AtBlock { front });
+    }
+    refused(t)
+}
+
+// What reading a token of the body comes to.
+fn body_step(front: Front, at: Result<At, SyntaxFault>) -> Result<State, SyntaxFault>
+    ensures { (r : Result AtOf FaultOf) → Gives state at r →
+        Gives view.program result (machine.body_step (view.front front) r) }
+{
+    match at {
+        Ok(at) => Ok(State::InBody { front, at }),
+        Err(SyntaxFault::Syntax { spot }) => Err(SyntaxFault::Syntax { spot }),
+        Err(SyntaxFault::Depth { spot }) => Err(SyntaxFault::Depth { spot }),
+        Err(SyntaxFault::Memory) => Err(SyntaxFault::Memory),
+    }
+}
+
+// The first token of the body.
+fn body_begins(source: Source, front: Front, t: Token) -> Result<State, SyntaxFault>
+    requires inside { IsInside source.text.now t }
+    ensures { Gives view.program result
+        (machine.body_step (view.front front) (stmt_step_of (record { bytes = bytes_in source.entry.text.now; most = source.entry.most }) [] no_stmts start t)) }
+{
+    let at = nothing_read(source.alloc);
+    body_step(front, stmt_step(source, at, t))
+}
+
+// The first token of a program.
+fn program_at(t: Token) -> Result<State, SyntaxFault>
+    ensures { (c : Context) → Gives view.program result (machine.program_step c machine.at_program t) }
+{
+    if is(mark_of(t.tok), Mark::Program) {
+        return Ok(State::AtName);
+    }
+    refused(t)
+}
+
+// The token behind PROGRAM.
+fn name_at(source: Source, t: Token) -> Result<State, SyntaxFault>
+    requires inside { IsInside source.text.now t }
+    ensures { Gives view.program result
+        (machine.program_step (record { bytes = bytes_in source.entry.text.now; most = source.entry.most }) machine.at_name t) }
+{
+    if is(mark_of(t.tok), Mark::Name) {
+        let front = Front {
+            name: name_of(source.alloc, source.text, t)?,
+            blocks: Blocks::new(source.alloc),
+        };
+        return Ok(State::AtBlock { front });
+    }
+    refused(t)
+}
+
+// A token where a block may begin, or the body.
+fn block_at(source: Source, front: Front, t: Token) -> Result<State, SyntaxFault>
+    requires inside { IsInside source.text.now t }
+    ensures { Gives view.program result
+        (machine.block_at (record { bytes = bytes_in source.entry.text.now; most = source.entry.most }) (view.front front) (mark t.tok) t) }
+{
+    let mark = mark_of(t.tok);
+    if is(mark, Mark::VarInput) {
+        let opening = begun(source.alloc, front, Class::Input);
+        return Ok(State::AtDecl { opening });
+    }
+    if is(mark, Mark::VarOutput) {
+        let opening = begun(source.alloc, front, Class::Output);
+        return Ok(State::AtDecl { opening });
+    }
+    if is(mark, Mark::Var) {
+        return Ok(State::AtVar { front });
+    }
+    body_begins(source, front, t)
+}
+
+// A token behind VAR.
+fn var_at(source: Source, front: Front, t: Token) -> Result<State, SyntaxFault>
+    requires inside { IsInside source.text.now t }
+    ensures { Gives view.program result
+        (machine.var_at (record { bytes = bytes_in source.entry.text.now; most = source.entry.most }) (view.front front) (mark t.tok) t) }
+{
+    let mark = mark_of(t.tok);
+    if is(mark, Mark::Constant) {
+        let opening = begun(source.alloc, front, Class::Constant);
+        return Ok(State::AtDecl { opening });
+    }
+    if is(mark, Mark::Retain) {
+        let opening = begun(source.alloc, front, Class::Retain);
+        return Ok(State::AtDecl { opening });
+    }
+    let opening = begun(source.alloc, front, Class::Local);
+    decl_at(source, opening, mark, t)
+}
+
+// The token behind a declared name.
+fn comma_at(opening: Opening, names: DeclaredNames, t: Token) -> Result<State, SyntaxFault>
+    ensures { (c : Context) → Gives view.program result
+        (machine.program_step c (machine.at_comma (view.opening opening) (map declared_tree names.items.items)) t) }
+{
+    let mark = mark_of(t.tok);
+    if is(mark, Mark::Comma) {
+        return Ok(State::AtNextName { opening, names });
+    }
+    if is(mark, Mark::Colon) {
+        return Ok(State::AtType { opening, names });
+    }
+    refused(t)
+}
+
+// The token behind the comma of a declared name.
+fn next_name_at(
+    source: Source,
+    opening: Opening,
+    names: DeclaredNames,
+    t: Token,
+) -> Result<State, SyntaxFault>
+    requires inside { IsInside source.text.now t }
+    ensures { Gives view.program result
+        (machine.program_step (record { bytes = bytes_in source.entry.text.now; most = source.entry.most }) (machine.at_next_name (view.opening opening) (map declared_tree names.items.items)) t) }
+{
+    if is(mark_of(t.tok), Mark::Name) {
+        let names = with_name(source, names, t)?;
+        return Ok(State::AtComma { opening, names });
+    }
+    refused(t)
+}
+
+// The token behind the colon of a declaration.
+fn type_at(opening: Opening, names: DeclaredNames, t: Token) -> Result<State, SyntaxFault>
+    ensures { Gives view.program result
+        (machine.type_at (view.opening opening) (map declared_tree names.items.items) (mark t.tok) t) }
+{
+    let mark = mark_of(t.tok);
+    if is(mark, Mark::Type(Ty::Bool)) {
+        let ty = Ty::Bool;
+        return Ok(State::AtInit { opening, names, ty });
+    }
+    if is(mark, Mark::Type(Ty::Int)) {
+        let ty = Ty::Int;
+        return Ok(State::AtInit { opening, names, ty });
+    }
+    if is(mark, Mark::Type(Ty::Dint)) {
+        let ty = Ty::Dint;
+        return Ok(State::AtInit { opening, names, ty });
+    }
+    refused(t)
+}
+
+// An initial value is to be read.
+fn expects(alloc: Global, opening: Opening, names: DeclaredNames, ty: Ty) -> State
+    ensures { view.program result ≡ machine.in_init (view.opening opening) (map declared_tree names.items.items) ty [] want }
+{
+    State::InInit {
+        opening,
+        names,
+        ty,
+        forms: Vec::new(alloc),
+        mode: Mode::Want,
+    }
+}
+
+// The token behind the type of a declaration.
+fn init_begins(
+    alloc: Global,
+    opening: Opening,
+    names: DeclaredNames,
+    ty: Ty,
+    t: Token,
+) -> Result<State, SyntaxFault>
+    ensures { (c : Context) → Gives view.program result
+        (machine.program_step c (machine.at_init (view.opening opening) (map declared_tree names.items.items) ty) t) }
+{
+    let mark = mark_of(t.tok);
+    if is(mark, Mark::Semi) {
+        let opening = with_decl(opening, names, ty, None)?;
+        return Ok(State::AtDecl { opening });
+    }
+    if is(mark, Mark::Assign) {
+        return Ok(expects(alloc, opening, names, ty));
+    }
+    refused(t)
+}
+
+// The token behind an initial value.
+fn init_ends(
+    opening: Opening,
+    names: DeclaredNames,
+    ty: Ty,
+    init: Expr,
+    t: Token,
+) -> Result<State, SyntaxFault>
+    ensures { Gives view.program result
+        (cond (is_mark (mark t.tok) Mark.Semi)
+        (Ok (machine.at_decl (machine.with_decl (view.opening opening) (map declared_tree names.items.items) ty (Some (expr_tree init)))))
+        (refused_of t)) }
+{
+    if is(mark_of(t.tok), Mark::Semi) {
+        let opening = with_decl(opening, names, ty, Some(init))?;
+        return Ok(State::AtDecl { opening });
+    }
+    refused(t)
+}
+
+// A token of an initial value, or the one behind it.
+fn init_at(
+    source: Source,
+    opening: Opening,
+    names: DeclaredNames,
+    ty: Ty,
+    forms: Vec<Form>,
+    mode: Mode,
+    t: Token,
+) -> Result<State, SyntaxFault>
+    requires inside { IsInside source.text.now t }
+    ensures { Gives view.program result
+        (machine.program_step (record { bytes = bytes_in source.entry.text.now; most = source.entry.most }) (machine.in_init (view.opening opening) (map declared_tree names.items.items) ty (form_view.forms forms.items) (form_view.mode mode)) t) }
+{
+    let mut forms = forms;
+    match read(source, 0, &mut forms, mode, t) {
+        Ok(Progress::On(mode)) => Ok(State::InInit {
+            opening,
+            names,
+            ty,
+            forms,
+            mode,
+        }),
+        Ok(Progress::Ended(e)) => init_ends(opening, names, ty, e, t),
+        Err(SyntaxFault::Syntax { spot }) => Err(SyntaxFault::Syntax { spot }),
+        Err(SyntaxFault::Depth { spot }) => Err(SyntaxFault::Depth { spot }),
+        Err(SyntaxFault::Memory) => Err(SyntaxFault::Memory),
+    }
+}
+
+/// A token of a program.
+pub fn program_step(source: Source, state: State, t: Token) -> Result<State, SyntaxFault>
+    requires inside { IsInside source.text.now t }
+    ensures { Gives view.program result
+        (machine.program_step (record { bytes = bytes_in source.entry.text.now; most = source.entry.most }) (view.program state) t) }
+{
+    match state {
+        State::AtProgram => program_at(t),
+        State::AtName => name_at(source, t),
+        State::AtBlock { front } => block_at(source, front, t),
+        State::AtVar { front } => var_at(source, front, t),
+        State::AtDecl { opening } => decl_at(source, opening, mark_of(t.tok), t),
+        State::AtComma { opening, names } => comma_at(opening, names, t),
+        State::AtNextName { opening, names } => next_name_at(source, opening, names, t),
+        State::AtType { opening, names } => type_at(opening, names, t),
+        State::AtInit { opening, names, ty } => init_begins(source.alloc, opening, names, ty, t),
+        State::InInit {
+            opening,
+            names,
+            ty,
+            forms,
+            mode,
+        } => init_at(source, opening, names, ty, forms, mode, t),
+        State::InBody { front, at } => body_step(front, stmt_step(source, at, t)),
+    }
+}

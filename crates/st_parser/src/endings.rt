@@ -1,0 +1,162 @@
+//! What ends a body, or begins the next branch.
+
+ghost use Rattle.std.specs.Prelude.{◌≡◌, IfOk};
+ghost use Rattle.st_tree.specs.ExprTree.{expr_tree};
+ghost use Rattle.st_tree.specs.Items.{arm_items};
+ghost use Rattle.st_tree.specs.StmtTree.{label_trees, stmt_trees, arm_trees, arms_and};
+ghost use Rattle.st_parser.specs.StateViews as view;
+ghost use Rattle.st_parser.specs.StmtMachine as machine;
+
+use crate::fault::SyntaxFault;
+use crate::levels::{opened, reading, refused, whole};
+use crate::state::{At, Body, Level, Purpose, Selection};
+use st_lexer::Token;
+use st_tree::{Arm, Arms, Branch, Expr, Labels, Stmt, Stmts};
+use std::alloc::Global;
+use vcp_base::{Memory, Spot};
+
+/// The CASE with one branch more.
+pub fn with_branch(selection: Selection, labels: Labels, body: Stmts) -> Result<Selection, Memory>
+    ensures { IfOk result (λ k. view.selection k ≡ machine.with_branch (view.selection selection) (label_trees labels.items.items) (stmt_trees body.items.items)) }
+{
+    let mut branches = selection.branches;
+    branches.push(Branch { labels, body })?;
+    Ok(Selection {
+        on: selection.on,
+        spot: selection.spot,
+        branches,
+    })
+}
+
+// The arms of an IF with one more.
+fn with_arm(arms: Arms, cond: Expr, body: Stmts, spot: Spot) -> Result<Arms, Memory>
+    ensures { IfOk result (λ all. arm_trees (arm_items all) ≡ arms_and (arm_trees (arm_items arms)) (expr_tree cond) (stmt_trees body.items.items) spot) }
+{
+    let mut arms = arms;
+    arms.push(Arm { cond, body, spot })?;
+    Ok(arms)
+}
+
+/// ELSIF behind these statements of a body.
+pub fn elsif_at(
+    alloc: Global,
+    body: Body,
+    outer: Vec<Level>,
+    before: Stmts,
+    stmts: Stmts,
+    t: Token,
+) -> Result<At, SyntaxFault>
+    ensures { view.Gives view.state result (machine.elsif_at (view.body body) (view.levels outer.items) (stmt_trees before.items.items) (stmt_trees stmts.items.items) t) }
+{
+    match body {
+        Body::OfArm { arms, cond, spot } => {
+            let arms = with_arm(arms, cond, stmts, spot)?;
+            let purpose = Purpose::ToTest { arms, spot: t.spot };
+            Ok(reading(alloc, outer, before, purpose))
+        }
+        Body::OfIfElse { .. }
+        | Body::OfBranch { .. }
+        | Body::OfCaseElse { .. }
+        | Body::OfLoop { .. } => refused(t),
+    }
+}
+
+/// ELSE behind these statements of a body.
+pub fn else_at(
+    alloc: Global,
+    body: Body,
+    outer: Vec<Level>,
+    before: Stmts,
+    stmts: Stmts,
+    t: Token,
+) -> Result<At, SyntaxFault>
+    ensures { view.Gives view.state result (machine.else_at (view.body body) (view.levels outer.items) (stmt_trees before.items.items) (stmt_trees stmts.items.items) t) }
+{
+    match body {
+        Body::OfArm { arms, cond, spot } => {
+            let arms = with_arm(arms, cond, stmts, spot)?;
+            opened(alloc, Body::OfIfElse { arms }, outer, before)
+        }
+        Body::OfBranch { selection, labels } => {
+            let selection = with_branch(selection, labels, stmts)?;
+            opened(alloc, Body::OfCaseElse { selection }, outer, before)
+        }
+        Body::OfIfElse { .. } | Body::OfCaseElse { .. } | Body::OfLoop { .. } => refused(t),
+    }
+}
+
+/// END_IF behind these statements of a body.
+pub fn end_if_at(
+    body: Body,
+    outer: Vec<Level>,
+    before: Stmts,
+    stmts: Stmts,
+    t: Token,
+) -> Result<At, SyntaxFault>
+    ensures { view.Gives view.state result (machine.end_if_at (view.body body) (view.levels outer.items) (stmt_trees before.items.items) (stmt_trees stmts.items.items) t) }
+{
+    match body {
+        Body::OfArm { arms, cond, spot } => {
+            let arms = with_arm(arms, cond, stmts, spot)?;
+            whole(outer, before, Stmt::choose(arms, None))
+        }
+        Body::OfIfElse { arms } => whole(outer, before, Stmt::choose(arms, Some(stmts))),
+        Body::OfBranch { .. } | Body::OfCaseElse { .. } | Body::OfLoop { .. } => refused(t),
+    }
+}
+
+/// END_CASE behind these statements of a body.
+pub fn end_case_at(
+    body: Body,
+    outer: Vec<Level>,
+    before: Stmts,
+    stmts: Stmts,
+    t: Token,
+) -> Result<At, SyntaxFault>
+    ensures { view.Gives view.state result (machine.end_case_at (view.body body) (view.levels outer.items) (stmt_trees before.items.items) (stmt_trees stmts.items.items) t) }
+{
+    match body {
+        Body::OfBranch { selection, labels } => {
+            let all = with_branch(selection, labels, stmts)?;
+            let stmt = Stmt::select(all.on, all.branches, None, all.spot);
+            whole(outer, before, stmt)
+        }
+        Body::OfCaseElse { selection } => {
+            let stmt = Stmt::select(
+                selection.on,
+                selection.branches,
+                Some(stmts),
+                selection.spot,
+            );
+            whole(outer, before, stmt)
+        }
+        Body::OfArm { .. } | Body::OfIfElse { .. } | Body::OfLoop { .. } => refused(t),
+    }
+}
+
+/// END_FOR behind these statements of a body.
+pub fn end_for_at(
+    body: Body,
+    outer: Vec<Level>,
+    before: Stmts,
+    stmts: Stmts,
+    t: Token,
+) -> Result<At, SyntaxFault>
+    ensures { view.Gives view.state result (machine.end_for_at (view.body body) (view.levels outer.items) (stmt_trees before.items.items) (stmt_trees stmts.items.items) t) }
+{
+    match body {
+        Body::OfLoop {
+            head,
+            first,
+            last,
+            by,
+        } => {
+            let stmt = Stmt::count(head.name, head.name_spot, first, last, by, stmts, head.spot);
+            whole(outer, before, stmt)
+        }
+        Body::OfArm { .. }
+        | Body::OfIfElse { .. }
+        | Body::OfBranch { .. }
+        | Body::OfCaseElse { .. } => refused(t),
+    }
+}

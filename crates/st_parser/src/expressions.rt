@@ -1,0 +1,191 @@
+//! Expressions, read token by token.
+
+ghost use Rattle.std.specs.Prelude.{◌≡◌};
+ghost use Rattle.st_lexer.specs.Reading.{IsInside};
+ghost use Rattle.st_tree.specs.ExprTree.{expr_tree};
+ghost use Rattle.st_spelling.specs.Spelling.{bytes_in};
+ghost use Rattle.st_parser.specs.Marks.{begins_by as begins, goes_by as goes};
+ghost use Rattle.st_parser.specs.ExprMachine as spec;
+ghost use Rattle.st_parser.specs.FormViews as view;
+
+use crate::fault::SyntaxFault;
+use crate::forms::{Form, Mode, add, close, extend, is_within, level_of, take};
+use crate::marks::{Begins, Goes, begins_by, goes_by};
+use crate::names::{Source, name_of};
+use st_lexer::Token;
+use st_tree::{Expr, Exprs};
+use std::alloc::Global;
+
+// The level of any expression.
+const ANY_LEVEL: u8 = 1;
+
+/// What reading one token comes to.
+#[derive(Drop)]
+pub enum Progress {
+    /// The token is part of the expression, which is not whole yet.
+    On(Mode),
+    /// The expression is whole, and the token is the one behind it.
+    Ended(Expr),
+}
+
+/// Reads one token of an expression at a depth, or the token behind it.
+///
+/// `Syntax` where the tokens so far begin nothing that is wanted, `Depth` where the token begins an
+/// operand deeper than the greatest depth; no more can then be read on.
+pub fn read(
+    source: Source,
+    depth: usize,
+    forms: &mut Vec<Form>,
+    mode: Mode,
+    t: Token,
+) -> Result<Progress, SyntaxFault>
+    requires inside { IsInside source.text.now t }
+    ensures { view.Reads result forms.new.items
+        (spec.ends_before (view.forms forms.old.items) (view.mode mode) t)
+        (spec.step (record { bytes = bytes_in source.entry.text.now; most = source.entry.most })
+        depth (view.forms forms.old.items) (view.mode mode) t) }
+{
+    match mode {
+        Mode::Want => want(source, depth, forms, t),
+        Mode::AfterName(name, spot) => {
+            if begins_by(t.tok) == Begins::Opens {
+                add(forms, Form::Arguments(name, spot, Exprs::new(source.alloc)))?;
+                return Ok(Progress::On(Mode::Want));
+            }
+            go_on(source.alloc, forms, Expr::name(name, spot), t)
+        }
+        Mode::Have(e) => go_on(source.alloc, forms, e, t),
+    }
+}
+
+// A token where an operand is wanted.
+fn want(
+    source: Source,
+    depth: usize,
+    forms: &mut Vec<Form>,
+    t: Token,
+) -> Result<Progress, SyntaxFault>
+    requires inside { IsInside source.text.now t }
+    ensures { view.GoesOn result forms.new.items
+        (spec.step (record { bytes = bytes_in source.entry.text.now; most = source.entry.most })
+        depth (view.forms forms.old.items) spec.want t) }
+{
+    let begins = begins_by(t.tok);
+    if begins == Begins::Nothing {
+        return Err(SyntaxFault::Syntax { spot: t.spot });
+    }
+    if !is_within(depth, forms, source.most) {
+        return Err(SyntaxFault::Depth { spot: t.spot });
+    }
+    operand(source, forms, begins, t)
+}
+
+// The first token of an operand that is not too deep.
+fn operand(
+    source: Source,
+    forms: &mut Vec<Form>,
+    begins: Begins,
+    t: Token,
+) -> Result<Progress, SyntaxFault>
+    requires inside { IsInside source.text.now t }
+    ensures { view.GoesOn result forms.new.items
+        (spec.operand (record { bytes = bytes_in source.entry.text.now; most = source.entry.most })
+        (view.forms forms.old.items) begins t) }
+{
+    match begins {
+        Begins::Literal { ty, value } => {
+            Ok(Progress::On(Mode::Have(Expr::literal(ty, value, t.spot))))
+        }
+        Begins::Named => {
+            let name = name_of(source.alloc, source.text, t)?;
+            Ok(Progress::On(Mode::AfterName(name, t.spot)))
+        }
+        Begins::Sign(op) => {
+            add(forms, Form::Sign(op, t.spot))?;
+            Ok(Progress::On(Mode::Want))
+        }
+        Begins::Opens => {
+            add(forms, Form::Bracket)?;
+            Ok(Progress::On(Mode::Want))
+        }
+        Begins::Nothing => Err(SyntaxFault::Syntax { spot: t.spot }),
+    }
+}
+
+// A token behind a whole operand.
+fn go_on(
+    alloc: Global,
+    forms: &mut Vec<Form>,
+    have: Expr,
+    t: Token,
+) -> Result<Progress, SyntaxFault>
+    ensures { view.Reads result forms.new.items
+        (spec.whole_before (goes t.tok) (view.forms forms.old.items) (expr_tree have))
+        (spec.go_on (goes t.tok) (view.forms forms.old.items) (expr_tree have) t) }
+{
+    match goes_by(t.tok) {
+        Goes::Joins(op) => {
+            let left = close(alloc, forms, level_of(op), have)?;
+            add(forms, Form::Left(op, left, t.spot))?;
+            Ok(Progress::On(Mode::Want))
+        }
+        Goes::Closes => {
+            let e = close(alloc, forms, ANY_LEVEL, have)?;
+            close_at(forms, e, t)
+        }
+        Goes::Parts => {
+            let e = close(alloc, forms, ANY_LEVEL, have)?;
+            part_at(forms, e, t)
+        }
+        Goes::Ends => {
+            let e = close(alloc, forms, ANY_LEVEL, have)?;
+            end_at(forms, e, t)
+        }
+    }
+}
+
+// A closing bracket behind an expression that is whole inside the forms.
+fn close_at(forms: &mut Vec<Form>, e: Expr, t: Token) -> Result<Progress, SyntaxFault>
+    ensures { view.GoesOn result forms.new.items
+        (spec.close_at (view.forms forms.old.items) (expr_tree e) t) }
+{
+    match take(forms) {
+        Some(Form::Bracket) => Ok(Progress::On(Mode::Have(e))),
+        Some(Form::Arguments(name, spot, args)) => {
+            let args = extend(args, e)?;
+            Ok(Progress::On(Mode::Have(Expr::call(name, args, spot))))
+        }
+        Some(Form::Sign(_, _)) => Err(SyntaxFault::Syntax { spot: t.spot }),
+        Some(Form::Left(_, _, _)) => Err(SyntaxFault::Syntax { spot: t.spot }),
+        None => Err(SyntaxFault::Syntax { spot: t.spot }),
+    }
+}
+
+// A comma behind an expression that is whole inside the forms.
+fn part_at(forms: &mut Vec<Form>, e: Expr, t: Token) -> Result<Progress, SyntaxFault>
+    ensures { view.GoesOn result forms.new.items
+        (spec.part_at (view.forms forms.old.items) (expr_tree e) t) }
+{
+    match take(forms) {
+        Some(Form::Arguments(name, spot, args)) => {
+            let args = extend(args, e)?;
+            add(forms, Form::Arguments(name, spot, args))?;
+            Ok(Progress::On(Mode::Want))
+        }
+        Some(Form::Bracket) => Err(SyntaxFault::Syntax { spot: t.spot }),
+        Some(Form::Sign(_, _)) => Err(SyntaxFault::Syntax { spot: t.spot }),
+        Some(Form::Left(_, _, _)) => Err(SyntaxFault::Syntax { spot: t.spot }),
+        None => Err(SyntaxFault::Syntax { spot: t.spot }),
+    }
+}
+
+// A token that is no part of an expression, behind one that is whole inside the forms.
+fn end_at(forms: &mut Vec<Form>, e: Expr, t: Token) -> Result<Progress, SyntaxFault>
+    ensures { view.Ends result forms.new.items
+        (spec.alone (view.forms forms.old.items) (expr_tree e)) t }
+{
+    match take(forms) {
+        None => Ok(Progress::Ended(e)),
+        Some(_) => Err(SyntaxFault::Syntax { spot: t.spot }),
+    }
+}

@@ -1,0 +1,23 @@
+//! The parser: the one program that the tokens of a text spell, or the place of the fault.
+#![tactic(auto)]
+
+mod declarations;
+mod endings;
+mod expressions;
+mod fault;
+mod forms;
+mod labels;
+mod levels;
+mod marks;
+mod names;
+mod parsing;
+mod state;
+mod statements;
+
+pub use fault::SyntaxFault;
+pub use parsing::parse;
+
+#[cfg(test)]
+mod expression_tests;
+#[cfg(test)]
+mod tests;

@@ -1,0 +1,132 @@
+//! The parser.
+
+ghost use Rattle.std.specs.Prelude.{◌≡◌, All, IfOk, IfErr};
+ghost use Rattle.st_lexer.specs.Reading.{Reads, IsInside};
+ghost use Rattle.st_tree.specs.StmtTree.{stmt_trees};
+ghost use Rattle.st_tree.specs.ProgramTree.{ProgramTree, program_tree};
+ghost use Rattle.st_spelling.specs.Spelling.{bytes_in, Spells, SpellsWithin};
+ghost use Rattle.st_parser.specs.Answers.{deepest, Refuses, IsAnswered};
+ghost use Rattle.st_parser.specs.StateViews.{Gives, levels, phase as phase_of};
+ghost use Rattle.st_parser.specs.StmtMachine.{finished};
+ghost use Rattle.st_parser.specs.ProgramViews as view;
+ghost use Rattle.st_parser.specs.ProgramMachine as machine;
+
+use crate::declarations::program_step;
+use crate::fault::SyntaxFault;
+use crate::levels::leave;
+use crate::names::Source;
+use crate::state::{At, Front, Level, Phase, State};
+use st_lexer::{Tokens, one_reading};
+use st_spelling::spelling_begins;
+use st_tree::{Program, Stmts};
+use std::alloc::Global;
+use vcp_base::Spot;
+
+/// The greatest depth of a token.
+const DEEPEST: usize = 64;
+
+// The program whose END_PROGRAM was read, where no body is open.
+fn root_finish(
+    end: Spot,
+    front: Front,
+    outer: Vec<Level>,
+    stmts: Stmts,
+) -> Result<Program, SyntaxFault>
+    ensures { Gives program_tree result
+        (machine.finish end (machine.in_body (view.front front) (levels outer.items) (stmt_trees stmts.items.items) finished)) }
+{
+    let mut outer = outer;
+    match leave(&mut outer) {
+        None => Ok(Program {
+            name: front.name,
+            blocks: front.blocks,
+            body: stmts,
+        }),
+        Some(_) => Err(SyntaxFault::Syntax { spot: end }),
+    }
+}
+
+// What is whole where the tokens end behind this place of a body.
+fn body_finish(end: Spot, front: Front, at: At) -> Result<Program, SyntaxFault>
+    ensures { Gives program_tree result
+        (machine.finish end (machine.in_body (view.front front) (levels at.outer.items) (stmt_trees at.stmts.items.items) (phase_of at.phase))) }
+{
+    let At {
+        outer,
+        stmts,
+        phase,
+    } = at;
+    match phase {
+        Phase::Finished => root_finish(end, front, outer, stmts),
+        Phase::Start => Err(SyntaxFault::Syntax { spot: end }),
+        Phase::Named { .. } => Err(SyntaxFault::Syntax { spot: end }),
+        Phase::Reading { .. } => Err(SyntaxFault::Syntax { spot: end }),
+        Phase::Closed => Err(SyntaxFault::Syntax { spot: end }),
+        Phase::LoopBegun { .. } => Err(SyntaxFault::Syntax { spot: end }),
+        Phase::LoopNamed { .. } => Err(SyntaxFault::Syntax { spot: end }),
+        Phase::Labelling { .. } => Err(SyntaxFault::Syntax { spot: end }),
+    }
+}
+
+// What is whole where the tokens end.
+fn finish(end: Spot, state: State) -> Result<Program, SyntaxFault>
+    ensures { Gives program_tree result (machine.finish end (view.program state)) }
+{
+    match state {
+        State::InBody { front, at } => body_finish(end, front, at),
+        State::AtProgram => Err(SyntaxFault::Syntax { spot: end }),
+        State::AtName => Err(SyntaxFault::Syntax { spot: end }),
+        State::AtBlock { .. } => Err(SyntaxFault::Syntax { spot: end }),
+        State::AtVar { .. } => Err(SyntaxFault::Syntax { spot: end }),
+        State::AtDecl { .. } => Err(SyntaxFault::Syntax { spot: end }),
+        State::AtComma { .. } => Err(SyntaxFault::Syntax { spot: end }),
+        State::AtNextName { .. } => Err(SyntaxFault::Syntax { spot: end }),
+        State::AtType { .. } => Err(SyntaxFault::Syntax { spot: end }),
+        State::AtInit { .. } => Err(SyntaxFault::Syntax { spot: end }),
+        State::InInit { .. } => Err(SyntaxFault::Syntax { spot: end }),
+    }
+}
+
+/// The program that the tokens of a text spell, none deeper than `most`, as the machine reads it.
+fn read_program(
+    alloc: Global,
+    text: &[u8],
+    tokens: &Tokens,
+    most: usize,
+) -> Result<Program, SyntaxFault>
+    requires inside { All (IsInside text.now) tokens.now.tokens }
+    ensures { Gives program_tree result
+        (machine.read_program (record { bytes = bytes_in text.now; most = most }) tokens.now.end tokens.now.tokens) }
+{
+    let source = Source { alloc, text, most };
+    let mut state = State::AtProgram;
+    for i in 0..tokens.len() {
+        state = program_step(source, state, tokens.at(i))?;
+    }
+    finish(tokens.end(), state)
+}
+
+/// The one program that the tokens of a text spell, no token deeper than 64; or the place of the
+/// fault, or want of memory.
+///
+/// The tokens are the reading of the text. Each token is looked at once, and what is open round it is
+/// at most 64 deep, so that time is linear in the tokens; nothing is kept on the machine's stack.
+pub fn parse(alloc: Global, text: &[u8], tokens: &Tokens) -> Result<Program, SyntaxFault>
+    requires reading { Reads text.now tokens.now.tokens }
+
+    // What is answered is spelled so, no token deeper than the limit, and is the only program that the
+    // tokens spell, however deep.
+    ensures spelled { IfOk result (λ p. SpellsWithin deepest (program_tree p) text.now tokens.now.tokens) }
+    ensures one { (p : ProgramTree) → Spells p text.now tokens.now.tokens → IfOk result (λ q. program_tree q ≡ p) }
+
+    // What is spelled so is answered.
+    ensures only { (p : ProgramTree) → SpellsWithin deepest p text.now tokens.now.tokens → IsAnswered result p }
+
+    // A fault of syntax is at the first token through which nothing begins, or at the end; a fault of
+    // depth is where no program within the limit goes on.
+    ensures err { IfErr result (Refuses text.now tokens.now.tokens tokens.now.end) }
+{
+    one_reading();
+    spelling_begins();
+    read_program(alloc, text, tokens, DEEPEST)
+}

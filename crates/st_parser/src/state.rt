@@ -1,0 +1,200 @@
+//! What is read so far of a program: what is whole, the bodies that are open, and what was read last.
+
+use crate::forms::{Form, Mode};
+use st_tree::{Arms, Blocks, Branches, Class, DeclaredNames, Decls, Expr, Labels, Stmts};
+use vcp_base::{Spot, Text, Ty};
+
+/// A CASE and the branches that are whole.
+#[derive(Drop)]
+pub struct Selection {
+    pub on: Expr,
+    pub spot: Spot,
+    pub branches: Branches,
+}
+
+/// A FOR and the name of its control variable.
+#[derive(Drop)]
+pub struct Loop {
+    pub name: Text,
+    pub name_spot: Spot,
+    pub spot: Spot,
+}
+
+/// What a body belongs to that is open.
+#[derive(Drop)]
+pub enum Body {
+    /// The condition of an IF or ELSIF, behind the arms that are whole.
+    OfArm {
+        arms: Arms,
+        cond: Expr,
+        spot: Spot,
+    },
+    /// The ELSE of an IF.
+    OfIfElse {
+        arms: Arms,
+    },
+    /// Labels of a CASE.
+    OfBranch {
+        selection: Selection,
+        labels: Labels,
+    },
+    /// The ELSE of a CASE.
+    OfCaseElse {
+        selection: Selection,
+    },
+    /// A FOR.
+    OfLoop {
+        head: Loop,
+        first: Expr,
+        last: Expr,
+        by: Option<Expr>,
+    },
+}
+
+/// An open body, and the statements before the one that it belongs to.
+#[derive(Drop)]
+pub struct Level {
+    pub body: Body,
+    pub before: Stmts,
+}
+
+/// What an expression is read for.
+#[derive(Drop)]
+pub enum Purpose {
+    ToAssign { name: Text, spot: Spot },
+    /// The condition of an IF or ELSIF, behind the arms that are whole.
+    ToTest { arms: Arms, spot: Spot },
+    ToSelect { spot: Spot },
+    /// The first value of a FOR.
+    ToBegin { head: Loop },
+    /// The last value of a FOR.
+    ToEnd { head: Loop, first: Expr },
+    /// The step of a FOR.
+    ToStep { head: Loop, first: Expr, last: Expr },
+}
+
+/// How far a label is read; a constant may have its sign alone so far.
+#[derive(Drop)]
+pub enum LabelPhase {
+    FirstWanted,
+    FirstNegated { sign: Spot },
+    FirstRead { first: Expr },
+    LastWanted { first: Expr },
+    LastNegated { first: Expr, sign: Spot },
+    LastRead { first: Expr, last: Expr },
+}
+
+/// What was read last.
+#[derive(Drop)]
+pub enum Phase {
+    /// A statement may begin, or the body end.
+    Start,
+    /// A name that begins a statement, or a label of the next branch.
+    Named {
+        name: Text,
+        spot: Spot,
+    },
+    /// A part of an expression.
+    Reading {
+        purpose: Purpose,
+        forms: Vec<Form>,
+        mode: Mode,
+    },
+    /// A statement but for its semicolon.
+    Closed,
+    /// FOR.
+    LoopBegun {
+        spot: Spot,
+    },
+    /// The name of a FOR's control variable.
+    LoopNamed {
+        head: Loop,
+    },
+    /// A part of the labels of a branch.
+    Labelling {
+        selection: Selection,
+        labels: Labels,
+        phase: LabelPhase,
+    },
+    /// END_PROGRAM.
+    Finished,
+}
+
+/// The levels that are open, the statements so far of the innermost body, and what was read last.
+#[derive(Drop)]
+pub struct At {
+    /// The last one is the innermost.
+    pub outer: Vec<Level>,
+    pub stmts: Stmts,
+    pub phase: Phase,
+}
+
+/// The program's name, and the blocks that are whole.
+#[derive(Drop)]
+pub struct Front {
+    pub name: Text,
+    pub blocks: Blocks,
+}
+
+/// A block that is open, and the declarations that are whole.
+#[derive(Drop)]
+pub struct Opening {
+    pub front: Front,
+    pub class: Class,
+    pub decls: Decls,
+}
+
+/// What was read last of a program.
+#[derive(Drop)]
+pub enum State {
+    /// Nothing: PROGRAM is wanted.
+    AtProgram,
+    /// PROGRAM.
+    AtName,
+    /// The program's name, or END_VAR.
+    AtBlock {
+        front: Front,
+    },
+    /// VAR.
+    AtVar {
+        front: Front,
+    },
+    /// The head of a block, or a declaration.
+    AtDecl {
+        opening: Opening,
+    },
+    /// A declared name.
+    AtComma {
+        opening: Opening,
+        names: DeclaredNames,
+    },
+    /// The comma behind a declared name.
+    AtNextName {
+        opening: Opening,
+        names: DeclaredNames,
+    },
+    /// The colon behind the declared names.
+    AtType {
+        opening: Opening,
+        names: DeclaredNames,
+    },
+    /// The type of the declared names.
+    AtInit {
+        opening: Opening,
+        names: DeclaredNames,
+        ty: Ty,
+    },
+    /// A part of an initial value.
+    InInit {
+        opening: Opening,
+        names: DeclaredNames,
+        ty: Ty,
+        forms: Vec<Form>,
+        mode: Mode,
+    },
+    /// A part of the body.
+    InBody {
+        front: Front,
+        at: At,
+    },
+}
