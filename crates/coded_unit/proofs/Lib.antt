@@ -1,3 +1,4 @@
 pub mod Modular
+pub mod Replacements
 pub mod Steps
 pub mod Worked

@@ -1,5 +1,5 @@
 -- The right answers to the four calls of one cycle of `y := x + 1` at x = 5, worked by hand.
-use Rattle.std.proofs.Common.{refl, ℕ, ◌≡◌, ◌-◌, ◌^◌, ℤ, pos, negsuc}
+use Rattle.std.proofs.Common.{refl, ℕ, ◌≡◌, ◌-◌, ◌^◌, ℤ, pos, negsuc, [], ◌∷◌, Some, None}
 use Rattle.vcp_base.specs.declared.kind.Kind.{Kind}
 use Rattle.vcp_base.specs.declared.kind.Kind.TheVariants as kind
 use Rattle.vcp_base.specs.declared.ty.Ty.TheVariants as ty
@@ -7,6 +7,7 @@ use Rattle.coded_unit.specs.declared.call.Call.{Call}
 use Rattle.coded_unit.specs.declared.call.Answer.TheVariants as answer
 use Rattle.coded_unit.specs.Words.{modulo, value_part, coded, nearest_word}
 use Rattle.coded_unit.specs.Right.{Right}
+use Rattle.coded_unit.specs.Faulty.{Faulty, nothing_replaced, replacement, next_answer}
 
 -- a call on DINT values in cycle 0, whose stamp is 1
 called : Kind → ℤ → ℤ → ℤ → ℕ → Call
@@ -44,3 +45,25 @@ coded-least = refl
 -- past the greatest word stands the greatest word
 nearest_word-past : nearest_word (pos (2 ^ 95)) ≡ pos (2 ^ 95 - 1)
 nearest_word-past = refl
+
+-- two calls done, with the answers of the calls 2 and 7 replaced
+two_done : Faulty
+two_done = record (nothing_replaced 4) { calls = 2; replacements = (2, answer.Range) ∷ (7, answer.Word (pos 4294967299)) ∷ [] }
+
+replaced-seven : replacement two_done.replacements 7 ≡ Some (answer.Word (pos 4294967299))
+unfolding two_done
+replaced-seven = refl
+
+replaced-eight : replacement two_done.replacements 8 ≡ None
+unfolding two_done
+replaced-eight = refl
+
+-- the next call is number 2
+answered-replaced : next_answer two_done (called kind.Const (pos 0) (pos 0) (pos 1) 520168261) ≡ answer.Range
+unfolding two_done called
+answered-replaced = refl
+
+-- and number 3 after it is answered rightly
+answered-right : next_answer (record two_done { calls = 3 }) (called kind.Const (pos 0) (pos 0) (pos 1) 520168261) ≡ answer.Word (pos 2667651909)
+unfolding two_done called modulo value_part coded
+answered-right = refl

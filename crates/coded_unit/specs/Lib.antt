@@ -1,3 +1,4 @@
+pub mod Faulty
 pub mod Log
 pub mod Right
 pub mod Step

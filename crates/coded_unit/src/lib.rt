@@ -5,13 +5,16 @@
 //! calls, rightly or not, and tells what it did.
 #![tactic(auto)]
 
+mod bad_unit;
 mod call;
+mod call_log;
 mod cpu_unit;
 mod log_unit;
 pub mod table;
 mod unit;
 mod word;
 
+pub use bad_unit::BadUnit;
 pub use call::{Answer, Call};
 pub use cpu_unit::CpuUnit;
 pub use log_unit::LogUnit;

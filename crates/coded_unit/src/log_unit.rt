@@ -1,11 +1,12 @@
 //! A unit that tells its log.
 
-ghost use Rattle.std.specs.Prelude.{◌≡◌, ◌<◌, ◌≤◌, ◌↔◌, ◌∷◌, [], ◌++◌, true, false, Some, IfOk, IsNone, length, slice_get, nat_lt, vec_capacity};
+ghost use Rattle.std.specs.Prelude.{◌≡◌, ◌<◌, ◌≤◌, ◌↔◌, ◌∷◌, [], Some, IfOk, IsNone, length, slice_get};
 ghost use Rattle.vcp_base.specs.Code.{A as code_constant};
 ghost use Rattle.coded_unit.specs.Right.{Right};
 ghost use Rattle.coded_unit.specs.Log.{GrowsBy, Counts, nothing_kept, told, after_call};
 
 use crate::call::{Answer, Call};
+use crate::call_log::CallLog;
 use crate::table;
 use crate::unit::Unit;
 use std::alloc::Global;
@@ -18,20 +19,15 @@ use vcp_base::Memory;
 /// are answered all the same.
 #[derive(Debug, Drop)]
 pub struct LogUnit {
-    entries: Vec<(Call, Answer)>,
-    room: u32,
-    past: bool,
+    calls: CallLog,
 }
 
 impl Model for LogUnit {
-    ghost use Rattle.std.specs.Prelude.{◌≤◌, vec_capacity};
     ghost use Rattle.coded_unit.specs.Log.{Kept};
 
     ghost Value = { Kept };
 
-    ghost view = { λ u. record { room = u.room; entries = u.entries.items; past = u.past } };
-
-    ghost invariant = { λ u. u.room ≤ vec_capacity u.entries };
+    ghost view = { λ u. u.calls };
 }
 
 impl LogUnit {
@@ -43,9 +39,7 @@ impl LogUnit {
         ensures wrong { IfOk result (λ unit. ⟦<LogUnit as Unit>⟧.wrong unit ≡ 0) }
     {
         Ok(LogUnit {
-            entries: Vec::with_capacity(alloc, room as usize)?,
-            room,
-            past: false,
+            calls: CallLog::new(alloc, room)?,
         })
     }
 
@@ -55,7 +49,7 @@ impl LogUnit {
         ensures entry { result ≡ slice_get self.now.entries i }
         ensures none { IsNone result ↔ (length self.now.entries ≤ i) }
     {
-        self.entries.get(i as usize).copied()
+        self.calls.entry(i)
     }
 }
 
@@ -75,20 +69,7 @@ impl Unit for LogUnit {
         ensures kept { self.new ≡ after_call self.old (call.now, result) }
     {
         let given = table::answer(call);
-        if !keep(&mut self.entries, self.room, call, &given) {
-            self.past = true;
-        }
+        self.calls.append(call, &given);
         given
     }
-}
-
-/// Appends a call where there is room, and says whether it did.
-fn keep(entries: &mut Vec<(Call, Answer)>, room: u32, call: &Call, given: &Answer) -> bool
-    requires { room ≤ vec_capacity entries.old }
-    ensures kept { result ≡ true → entries.new.items ≡ entries.old.items ++ (call.now, given.now) ∷ [] }
-    ensures past { result ≡ false → entries.new.items ≡ entries.old.items }
-    ensures room { result ≡ nat_lt (length entries.old.items) room }
-    ensures capacity { room ≤ vec_capacity entries.new }
-{
-    entries.len() < room as usize && entries.push((*call, *given)).is_ok()
 }

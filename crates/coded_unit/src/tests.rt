@@ -1,9 +1,12 @@
-//! A worked cycle, one answer of each kind, and the ends of words.
+//! Worked cycles, one answer of each kind, and the ends of words.
 
-ghost use Rattle.std.specs.Prelude.{◌≡◌};
+ghost use Rattle.std.specs.Prelude.{◌≡◌, ◌+◌, ◌<◌, ◌≤◌};
+ghost use Rattle.vcp_base.specs.Code.{A as code_constant};
+
+mod kinds;
 
 use crate::table::answer;
-use crate::{Answer, Call, CpuUnit, LogUnit, Unit, Word};
+use crate::{Answer, BadUnit, Call, CpuUnit, LogUnit, Unit, Word};
 use std::test::Fail;
 use vcp_base::{Kind, Ty};
 
@@ -13,6 +16,19 @@ fn word_of(given: &Answer) -> Word {
         Answer::Word(word) => *word,
         _ => Word::ZERO,
     }
+}
+
+/// The word that is an integer; 0 where it is none.
+fn word_or_zero(w: i128) -> Word {
+    match Word::new(w) {
+        Some(word) => word,
+        None => Word::ZERO,
+    }
+}
+
+/// The answer of the word that is an integer.
+fn word_answer(w: i128) -> Answer {
+    Answer::Word(word_or_zero(w))
 }
 
 /// A call of the worked cycle, in which the stamp is 1.
@@ -74,6 +90,105 @@ fn units_do_a_worked_cycle(rt: HostRuntime) -> Result<(), Fail> {
     }
     assert!(rt; roomy.entry(4).is_none());
     assert!(rt; narrow.entry(1).is_some() && narrow.entry(2).is_none());
+    Ok(())
+}
+
+/// A call of `n := n + 1; y := n;` with the seed 0 and the step 1.
+///
+/// The signatures are 214748365 times 0 to 4. LOAD has the correction 1288490188, since STORE has
+/// the signature 858993460, and 1288490188 + 858993460 - 1 is the constant of the code.
+fn counting(op: u32, cycle: u32, a: &Word, b: &Word) -> Call
+    requires { cycle < 10 }
+    ensures corr { result.corr < code_constant }
+    ensures stamp { result.stamp ≡ cycle + 1 }
+{
+    let (kind, corr) = match op {
+        0 => (Kind::Load, 1288490188),
+        1 => (Kind::Const, 214748365),
+        2 => (Kind::Add, 214748365),
+        3 => (Kind::Out, 214748365),
+        _ => (Kind::Store, 429496730),
+    };
+    Call {
+        op,
+        cycle,
+        kind,
+        from: Ty::Dint,
+        ty: Ty::Dint,
+        a: *a,
+        b: *b,
+        c: Word::ZERO,
+        imm: 1,
+        corr,
+        stamp: cycle + 1,
+    }
+}
+
+/// The words of one cycle of `n := n + 1; y := n;` from the word of the cell.
+fn count_on<U: Unit>(unit: &mut U, cycle: u32, cell: i128) -> [i128; 5]
+    requires { cycle < 10 }
+{
+    let zero = Word::ZERO;
+    let cell = word_or_zero(cell);
+    let load = unit.perform(&counting(0, cycle, &cell, &zero));
+    let one = unit.perform(&counting(1, cycle, &zero, &zero));
+    let sum = unit.perform(&counting(2, cycle, &word_of(&load), &word_of(&one)));
+    let output = unit.perform(&counting(3, cycle, &word_of(&sum), &zero));
+    let store = unit.perform(&counting(4, cycle, &word_of(&sum), &zero));
+    [
+        word_of(&load).get(),
+        word_of(&one).get(),
+        word_of(&sum).get(),
+        word_of(&output).get(),
+        word_of(&store).get(),
+    ]
+}
+
+#[test]
+fn replaced_answer_is_carried_on(rt: HostRuntime) -> Result<(), Fail> {
+    let mut unit = BadUnit::new(rt.alloc(), 8)?;
+    unit.replace(7, word_answer(4294967299))?;
+    // The cell begins with the value 0 and the signature of STORE.
+    let first = [1, 2362232013, 2576980378, 2791728743, 3006477108];
+    assert_eq!(rt; count_on(&mut unit, 0, 858993460), first);
+    assert_eq!(rt; unit.wrong(), 0);
+    // The replaced word has the value 2 and the residue 5; OUT adds 214748365 to the residue.
+    let second = [2147483649, 2362232014, 4294967299, 4509715664, 4724464029];
+    assert_eq!(rt; count_on(&mut unit, 1, 3006477108), second);
+    assert_eq!(rt; unit.wrong(), 1);
+    let Some((call, kept)) = unit.entry(7) else {
+        assert!(rt; false, "no entry 7");
+        return Ok(());
+    };
+    assert_eq!(rt;
+        (call.op, call.cycle, word_of(&kept).get()),
+        (2, 1, 4294967299)
+    );
+    assert!(rt; unit.entry(8).is_none());
+    Ok(())
+}
+
+#[test]
+fn replaced_answers_are_given_once(rt: HostRuntime) -> Result<(), Fail> {
+    let call = worked(1, Kind::Const, &Word::ZERO, &Word::ZERO, 1, 520168261);
+    let right = 2667651909;
+    let mut unit = BadUnit::new(rt.alloc(), 0)?;
+    unit.replace(3, Answer::Operand)?;
+    unit.replace(0, Answer::Range)?;
+    unit.replace(0, Answer::DivZero)?;
+    unit.replace(1, word_answer(right))?;
+    let rows = [
+        (Answer::DivZero, 1),
+        (word_answer(right), 1),
+        (word_answer(right), 1),
+        (Answer::Operand, 2),
+        (word_answer(right), 2),
+    ];
+    for (wanted, wrong) in rows {
+        assert_eq!(rt; unit.perform(&call), wanted);
+        assert_eq!(rt; unit.wrong(), wrong);
+    }
+    assert!(rt; unit.entry(0).is_none());
     Ok(())
 }
 
