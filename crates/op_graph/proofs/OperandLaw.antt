@@ -16,9 +16,10 @@ use Rattle.vcp_base.specs.Types.{fits, within}
 use Rattle.vcp_base.specs.Kinds.{operands, operand_type, takes, operands_fit, Outcome}
 use Rattle.op_graph.specs.declared.op.Op.{Op}
 use Rattle.op_graph.specs.declared.op.Loaded.{Loaded}
+use Rattle.op_graph.specs.declared.op.Outlet.{Outlet}
 use Rattle.op_graph.specs.Lists.{Lists}
-use Rattle.op_graph.specs.Rules.{scope, Place, place_of, Each, IsGraph, LoadFits, StoreFits, OpFits, Operates, Entry, entry, entry_of, found, stored_by, cell_entry, kind_fits, agree, is_input, is_load, is_out, same_type, types_fit, entry_type_fits, reads_as, operand_fits, imm_fits}
-use Rattle.op_graph.specs.GraphRun.{at, read, operand, outcome_of, Cycle, after, cycle_from, cycle, initial, stored, Run, after_cycle, run_from, graph_run, CellsFit}
+use Rattle.op_graph.specs.Rules.{scope, Place, place_of, Each, IsGraph, LoadFits, StoreFits, OutputFits, OpFits, Operates, Entry, entry, entry_of, found, stored_by, cell_entry, kind_fits, agree, is_input, is_load, is_store, is_out, same_type, types_fit, entry_type_fits, reads_as, operand_fits, imm_fits}
+use Rattle.op_graph.specs.GraphRun.{at, read, operand, outcome_of, Cycle, after, cycle_from, cycle, initial, stored, Run, after_cycle, run_from, graph_run, CellsFit, OutputsFit}
 use Rattle.op_graph.proofs.Entries.{eqb_self, last_of_push, other, get_last}
 
 -- ---- types
@@ -264,6 +265,50 @@ stored_fits g values graph typed len = λ k l there.
     let fits_op : fits op.0.ty (at values n.0) ≡ true = typed n.0 op.0 (omega (arith, store.store)) op.1 in
     subst (λ z. fits l.ty z ≡ true) (sym value) (subst (λ t. fits t (at values n.0) ≡ true) (sym type) fits_op)
 
+-- ---- outputs
+
+earlier_out : (names m : ℕ) (before xs : List Outlet) (x : Outlet) (i : ℕ) (o : Outlet) → Each (OutputFits names m) (before ++ x ∷ []) xs → slice_get xs i ≡ Some o → x.op < o.op
+earlier_out names m before xs x i o h e =
+    let fit : OutputFits names m ((before ++ x ∷ []) ++ take i xs) o = each_at (OutputFits names m) (before ++ x ∷ []) xs i o h e in
+    let all : All (λ (p : Outlet). p.op < o.op) (before ++ x ∷ take i xs) = subst (λ ps. All (λ (p : Outlet). p.op < o.op) ps) (append_assoc before (x ∷ []) (take i xs)) fit.operation_rises in
+    subst (λ (p : Outlet). p.op < o.op) (middle_of before (take i xs) x x) (all (length before) x (simp length-append (omega arith)))
+
+out_first : (names m k : ℕ) (before xs : List Outlet) (i : ℕ) (o : Outlet) → Each (OutputFits names m) before xs → slice_get xs i ≡ Some o → found (λ p. p.op == o.op) (λ p. p.ty) k xs ≡ Some (entry (k + i) o.ty)
+out_first names m k before [] i o h e = absurd cc
+out_first names m k before (x ∷ xs) zero o h e =
+    let same : x ≡ o = cc in
+    let test : (x.op == o.op) ≡ true = subst (λ (y : Outlet). (x.op == y.op) ≡ true) same (eqb_self x.op) in
+    rw test (ap (λ (y : Outlet). Some (entry k y.ty)) same ∙ ap (λ j. Some (entry j o.ty)) (omega arith))
+out_first names m k before (x ∷ xs) (suc i) o h e =
+    rw (other x.op o.op (earlier_out names m before xs x i o h.1 e)) (out_first names m (k + 1) (before ++ x ∷ []) xs i o h.1 e ∙ ap (λ j. Some (entry j o.ty)) (omega arith))
+
+fourth_of_four : (a b c d : Bool) → (a && b && c && d) ≡ true → d ≡ true
+fourth_of_four true true true d h = h
+fourth_of_four true true false d h = absurd cc
+fourth_of_four true false true d h = absurd cc
+fourth_of_four true false false d h = absurd cc
+fourth_of_four false true true d h = absurd cc
+fourth_of_four false true false d h = absurd cc
+fourth_of_four false false true d h = absurd cc
+fourth_of_four false false false d h = absurd cc
+
+out_type : (p : Place) (k : Kind) (to : Ty) (e : Entry) → p.out ≡ Some e → kind_fits p k ≡ true → entry_type_fits (entry_of p k) to ≡ true → e.ty ≡ to
+out_type p kind.Out to e is h types = same_type_is e.ty to (subst (λ o. entry_type_fits o to ≡ true) is types)
+out_type p k to e is h types = absurd (not_none p.out e is (fourth_of_four (agree (is_input k) (is_some p.input)) (agree (is_load k) (is_some p.load)) (agree (is_store k) (is_some p.store)) (not (is_some p.out)) h))
+
+outputs_fit : (g : Lists) (values : List ℤ) → IsGraph g → Typed g.operations values → length values ≡ length g.operations → OutputsFit g values
+unfolding Typed
+outputs_fit g values graph typed len = λ k o there.
+    let fits_list : OutputFits (length g.names) (length g.operations) (take k g.outputs) o = each_at (OutputFits (length g.names) (length g.operations)) [] g.outputs k o graph.part.outputs there in
+    let op = get_there g.operations o.op fits_list.operation in
+    let front : length (take o.op g.operations) ≡ o.op = length-take-le o.op g.operations (omega (arith, fits_list.operation)) in
+    let operates : Operates (scope g) (length g.turn_nodes) (take o.op g.operations) op.0 = each_at (Operates (scope g) (length g.turn_nodes)) [] g.operations o.op op.0 graph.part.operations op.1 in
+    let fit : OpFits (place_of (scope g) o.op) (length g.turn_nodes) (take o.op g.operations) op.0 = subst (λ i. OpFits (place_of (scope g) i) (length g.turn_nodes) (take o.op g.operations) op.0) front operates in
+    let out : found (λ p. p.op == o.op) (λ p. p.ty) 0 g.outputs ≡ Some (entry (0 + k) o.ty) = out_first (length g.names) (length g.operations) 0 [] g.outputs k o graph.part.outputs there in
+    let type : o.ty ≡ op.0.ty = out_type (place_of (scope g) o.op) op.0.kind op.0.ty (entry (0 + k) o.ty) out fit.kind fit.entry_type in
+    let fits_op : fits op.0.ty (at values o.op) ≡ true = typed o.op op.0 (omega (arith, fits_list.operation)) op.1 in
+    subst (λ t. fits t (at values o.op) ≡ true) (sym type) fits_op
+
 pub initial_fits : (g : Lists) → IsGraph g → CellsFit g (initial g)
 initial_fits g graph = λ k l there.
     let fit = each_at (LoadFits (length g.names) (length g.operations)) [] g.loads k l graph.part.loads there in
@@ -283,6 +328,9 @@ cycle_without_operand_stop g cells row graph held = (sound g cells row graph hel
 
 pub cycle_keeps_types : (g : Lists) (cells row : List ℤ) → IsGraph g → CellsFit g cells → (cycle g cells row).stop ≡ None → CellsFit g (stored g (cycle g cells row).values)
 cycle_keeps_types g cells row graph held whole = let c = sound g cells row graph held in stored_fits g (cycle g cells row).values graph c.typed (c.whole whole)
+
+pub cycle_outputs_fit : (g : Lists) (cells row : List ℤ) → IsGraph g → CellsFit g cells → (cycle g cells row).stop ≡ None → OutputsFit g (cycle g cells row).values
+cycle_outputs_fit g cells row graph held whole = let c = sound g cells row graph held in outputs_fit g (cycle g cells row).values graph c.typed (c.whole whole)
 
 after_cycle_fair : (g : Lists) (values : List ℤ) (next : List ℤ → Run) (s : Option StopKind) → s ≢ Some stop.Operand → (s ≡ None → IfSome (next (stored g values)).end (λ e. e.kind ≢ stop.Operand)) → IfSome (after_cycle g values next s).end (λ e. e.kind ≢ stop.Operand)
 after_cycle_fair g values next None fair rest = rest refl

@@ -7,6 +7,7 @@ use Rattle.vcp_base.specs.Kinds.{operands, Outcome, outcome}
 use Rattle.op_graph.specs.declared.op.Op.{Op}
 use Rattle.vcp_base.specs.Types.{fits}
 use Rattle.op_graph.specs.declared.op.Loaded.{Loaded}
+use Rattle.op_graph.specs.declared.op.Outlet.{Outlet}
 use Rattle.op_graph.specs.Lists.{Lists}
 
 -- the value at a place of a list, and 0 past its end
@@ -93,3 +94,7 @@ graph_run g rows = run_from g (initial g) rows
 -- each cell holds a value of its type
 abbrev pub CellsFit : Lists → List ℤ → Type 0
 CellsFit g cells = (k : ℕ) (l : Loaded) → slice_get g.loads k ≡ Some l → fits l.ty (at cells k) ≡ true
+
+-- the value of each output's OUT is in the output's type
+abbrev pub OutputsFit : Lists → List ℤ → Type 0
+OutputsFit g values = (k : ℕ) (o : Outlet) → slice_get g.outputs k ≡ Some o → fits o.ty (at values o.op) ≡ true

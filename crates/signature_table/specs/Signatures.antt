@@ -17,6 +17,10 @@ signature seed i = (seed + 214748365 * i) % 2 ^ 30
 abbrev pub stamp : ℕ → ℕ → ℕ
 stamp step n = step * (n + 1)
 
+-- the stamp of the cycle before cycle n, and 0 before cycle 0
+abbrev pub stamp_before : ℕ → ℕ → ℕ
+stamp_before step n = step * n
+
 -- the residue that the word of operation i has in cycle n where nothing is amiss
 abbrev pub expected : ℕ → ℕ → ℕ → ℕ → ℕ
 expected seed step i n = signature seed i + stamp step n
