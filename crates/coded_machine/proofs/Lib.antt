@@ -1,0 +1,11 @@
+pub mod Causes
+pub mod Ends
+pub mod Following
+pub mod Growth
+pub mod HonestAnswers
+pub mod HonestEnds
+pub mod Links
+pub mod Places
+pub mod RunLaws
+pub mod Turns
+pub mod Worked

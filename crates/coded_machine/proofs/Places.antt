@@ -1,0 +1,126 @@
+-- Places: what stands at one place of a list, and what is read off the places after it.
+use Rattle.std.proofs.Common.{ℕ, zero, suc, ◌+◌, ◌<◌, ◌≡◌, ℤ, pos, negsuc, ◌≤ℤ◌, Bool, Option, refl, sym, ap, ◌∙◌, true, false, cond, List, [], ◌∷◌, ◌++◌, length, map, drop, take, set, slice_get, Some, None, arith, add-one, drop-cons, eq-eqb, append_assoc}
+use Rattle.std.proofs.Math.Seq.{take-suc-set}
+use Rattle.std.proofs.lemmas.Option.{get_or_from_slice_get, slice_get_within}
+use Rattle.std.proofs.lemmas.Bool.{ne_eqb}
+use Rattle.std.proofs.lemmas.List.{length-map}
+use Rattle.std.proofs.lemmas.Bool.Decides.{nat_tests}
+use Rattle.vcp_base.specs.declared.ty.Ty.{Ty}
+use Rattle.vcp_base.specs.declared.ty.Ty.TheVariants as ty
+use Rattle.vcp_base.specs.Types.{fits}
+use Rattle.vcp_base.specs.declared.kind.StopKind.TheVariants as stop
+use Rattle.coded_unit.specs.declared.call.Answer.{Answer}
+use Rattle.coded_unit.specs.Words.{modulo, value_part, coded}
+use Rattle.op_graph.specs.declared.op.Op.{Op}
+use Rattle.op_graph.specs.declared.op.Outlet.{Outlet}
+use Rattle.op_graph.specs.declared.op.Loaded.{Loaded}
+use Rattle.op_graph.specs.declared.op.Cell.{Cell}
+use Rattle.op_graph.specs.Lists.{Lists, joined, cells}
+use Rattle.op_graph.specs.Rules.{IsGraph, OutputFits, StoreFits}
+use Rattle.op_graph.proofs.Cells.{length-joined}
+use Rattle.op_graph.proofs.OperandLaw.{each_at}
+use Rattle.signature_table.specs.Signatures.{Numbers, signature, expected, correction, corrections_from}
+use Rattle.coded_machine.specs.declared.cycle_end.CycleEnd.{CycleEnd}
+use Rattle.coded_machine.specs.declared.cycle_end.CycleEnd.TheVariants as end
+use Rattle.coded_machine.specs.Calls.{word_at}
+use Rattle.coded_machine.specs.CycleEnds.{first_outside, first_refused, initial_words}
+
+-- what stands at a place, and after it
+pub drop_at : {X : Type 0} (xs : List X) (k : ℕ) (x : X) → slice_get xs k ≡ Some x → drop k xs ≡ x ∷ drop (k + 1) xs
+drop_at xs k x there =
+    let within : k < length xs = slice_get_within xs k x there in
+    rw add-one (drop-cons xs k x within ∙ ap (λ y. y ∷ drop (suc k) xs) (get_or_from_slice_get xs k x x there))
+
+pub map_at : {X Y : Type 0} (f : X → Y) (xs : List X) (k : ℕ) (x : X) → slice_get xs k ≡ Some x → map f (drop k xs) ≡ f x ∷ map f (drop (k + 1) xs)
+map_at f xs k x there = ap (map f) (drop_at xs k x there)
+
+-- one more value at the front of a list that is being set
+pub front_set : {X : Type 0} (xs : List X) (i : ℕ) (x : X) (rest : List X) → i < length xs → take i xs ++ x ∷ rest ≡ take (i + 1) (set xs i x) ++ rest
+front_set xs i x rest h = rw (add-one, take-suc-set xs i x h, append_assoc) refl
+
+-- ---- scans of outputs
+
+pub outside_passed : (answers : List Answer) (outputs : List Outlet) (i : ℕ) (o : Outlet) → slice_get outputs i ≡ Some o → fits o.ty (value_part (word_at answers o.op)) ≡ true →
+    first_outside answers (drop i outputs) ≡ first_outside answers (drop (i + 1) outputs)
+outside_passed answers outputs i o there e = ap (first_outside answers) (drop_at outputs i o there) ∙ rw e refl
+
+pub outside_here : (answers : List Answer) (outputs : List Outlet) (i : ℕ) (o : Outlet) → slice_get outputs i ≡ Some o → fits o.ty (value_part (word_at answers o.op)) ≡ false →
+    first_outside answers (drop i outputs) ≡ Some (end.Stopped o.op stop.Operand)
+outside_here answers outputs i o there e = ap (first_outside answers) (drop_at outputs i o there) ∙ rw e refl
+
+pub refused_passed : (t : Numbers) (n : ℕ) (answers : List Answer) (outputs : List Outlet) (i : ℕ) (o : Outlet) → slice_get outputs i ≡ Some o → modulo (word_at answers o.op) ≡ expected t.seed t.step o.op n →
+    first_refused t n answers i (drop i outputs) ≡ first_refused t n answers (i + 1) (drop (i + 1) outputs)
+refused_passed t n answers outputs i o there e =
+    ap (first_refused t n answers i) (drop_at outputs i o there) ∙ rw (eq-eqb _ _ e) refl
+    ∙ ap (λ j. first_refused t n answers j (drop (i + 1) outputs)) (sym (add-one i))
+
+pub refused_here : (t : Numbers) (n : ℕ) (answers : List Answer) (outputs : List Outlet) (i : ℕ) (o : Outlet) → slice_get outputs i ≡ Some o → (modulo (word_at answers o.op) ≡ expected t.seed t.step o.op n → ⊥) →
+    first_refused t n answers i (drop i outputs) ≡ Some (end.Refused i (modulo (word_at answers o.op)) (expected t.seed t.step o.op n))
+refused_here t n answers outputs i o there e =
+    ap (first_refused t n answers i) (drop_at outputs i o there) ∙ rw (ne_eqb (modulo (word_at answers o.op)) (expected t.seed t.step o.op n) e) refl
+
+inside_case : (b : Bool) (x : CycleEnd) (later : Option CycleEnd) → cond b later (Some x) ≡ None → (b ≡ true) × (later ≡ None)
+inside_case true x later e = (refl, e)
+inside_case false x later e = cc
+
+-- where no output is outside its type, this one isn't
+pub outside_none : (answers : List Answer) (outputs : List Outlet) (i : ℕ) (o : Outlet) → slice_get outputs i ≡ Some o → first_outside answers (drop i outputs) ≡ None →
+    (fits o.ty (value_part (word_at answers o.op)) ≡ true) × (first_outside answers (drop (i + 1) outputs) ≡ None)
+outside_none answers outputs i o there e = inside_case _ _ _ (sym (ap (first_outside answers) (drop_at outputs i o there)) ∙ e)
+
+-- values of the types have 32 bits
+pub fits_low : (t : Ty) (v : ℤ) → fits t v ≡ true → negsuc 2147483647 ≤ℤ v
+fits_low ty.Bool (pos n) h = grind (arith, nat_tests)
+fits_low ty.Bool (negsuc n) h = grind (arith, nat_tests)
+fits_low ty.Int (pos n) h = grind (arith, nat_tests)
+fits_low ty.Int (negsuc n) h = grind (arith, nat_tests)
+fits_low ty.Dint (pos n) h = grind (arith, nat_tests)
+fits_low ty.Dint (negsuc n) h = grind (arith, nat_tests)
+
+pub fits_high : (t : Ty) (v : ℤ) → fits t v ≡ true → v ≤ℤ pos 2147483647
+fits_high ty.Bool (pos n) h = grind (arith, nat_tests)
+fits_high ty.Bool (negsuc n) h = grind (arith, nat_tests)
+fits_high ty.Int (pos n) h = grind (arith, nat_tests)
+fits_high ty.Int (negsuc n) h = grind (arith, nat_tests)
+fits_high ty.Dint (pos n) h = grind (arith, nat_tests)
+fits_high ty.Dint (negsuc n) h = grind (arith, nat_tests)
+
+-- ---- entries of a graph and of its table
+
+-- the OUT of an output is an operation
+pub output_is_there : (g : Lists) (i : ℕ) (o : Outlet) → IsGraph g → slice_get g.outputs i ≡ Some o → o.op < length g.operations
+output_is_there g i o graph there =
+    let fit = each_at (OutputFits (length g.names) (length g.operations)) [] g.outputs i o graph.part.outputs there in fit.operation
+
+-- the STORE of a cell is an operation
+pub store_is_there : (g : Lists) (i n : ℕ) → IsGraph g → slice_get g.stores i ≡ Some n → n < length g.operations
+store_is_there g i n graph there =
+    let fit = each_at (StoreFits g.loads (length g.operations)) [] g.stores i n graph.part.stores there in fit.store
+
+-- a cell has its STORE in the list of them
+pub store_of : (loads : List Loaded) (stores : List ℕ) (i : ℕ) (c : Cell) → slice_get (joined loads stores) i ≡ Some c → slice_get stores i ≡ Some c.store
+store_of [] stores i c e = absurd cc
+store_of (l ∷ loads) [] i c e = absurd cc
+store_of (l ∷ loads) (n ∷ stores) zero c e =
+    let first : Cell = record { name = l.name; ty = l.ty; init = l.init; load = l.load; store = n } in
+    let same : first ≡ c = cc in
+    ap (λ (d : Cell). Some d.store) same
+store_of (l ∷ loads) (n ∷ stores) (suc i) c e = store_of loads stores i c e
+
+pub length-corrections : (seed step : ℕ) (held : List Cell) (k : ℕ) (ops : List Op) → length (corrections_from seed step held k ops) ≡ length ops
+length-corrections seed step held k [] = refl
+length-corrections seed step held k (op ∷ ops) = ap suc (length-corrections seed step held (k + 1) ops)
+
+pub correction_at : (seed step : ℕ) (held : List Cell) (k : ℕ) (ops : List Op) (i : ℕ) (op : Op) (r : ℕ) → slice_get ops i ≡ Some op → slice_get (corrections_from seed step held k ops) i ≡ Some r → r ≡ correction seed step held (k + i) op
+correction_at seed step held k [] i op r there e = absurd cc
+correction_at seed step held k (x ∷ ops) zero op r there e =
+    let same : x ≡ op = cc in
+    let is : correction seed step held k x ≡ r = cc in
+    sym is ∙ ap (correction seed step held k) same ∙ ap (λ j. correction seed step held j op) (omega arith)
+correction_at seed step held k (x ∷ ops) (suc i) op r there e =
+    correction_at seed step held (k + 1) ops i op r there e ∙ ap (λ j. correction seed step held j op) (omega arith)
+
+-- a cell has a word before the first cycle
+pub initial_length : (g : Lists) (seed : ℕ) → IsGraph g → length (initial_words g seed) ≡ length g.stores
+initial_length g seed graph =
+    length-map (cells g) (λ (c : Cell). coded c.init (signature seed c.store)) ∙ length-joined g.loads g.stores graph.all_stored ∙ sym graph.all_stored

@@ -1,0 +1,19 @@
+use Rattle.std.proofs.Common.{◌≡◌, ◌-◌, false, length}
+use Rattle.coded_machine.specs.Calls.{CallsOf, Carried}
+use Rattle.coded_machine.specs.State.{State, given, setting}
+use Rattle.coded_machine.proofs.machine.Machine.carry.Given as goal
+
+-- the calls so far are carried, and nothing of the machine has changed but its answers
+abbrev pub invariant-calls : goal.invariant-calls
+invariant-calls g l =
+    let unit = g.U.Unit in
+    let m : State = l.self in
+    let first : State = l.fn.self in
+    record {
+      same : m ≡ record first { answers = m.answers; under_way = m.under_way };
+      idle : m.under_way ≡ false → m.answers ≡ first.answers;
+      carried : Carried (CallsOf (setting first l.row) (given m)) (unit.log l.fn.unit) (unit.log l.unit) (unit.wrong l.fn.unit) (unit.wrong l.unit);
+    }
+
+abbrev pub decreases-calls : goal.decreases-calls
+decreases-calls g l = let m : State = l.self in length m.graph.operations - length (given m)

@@ -1,0 +1,21 @@
+use Rattle.std.proofs.Common.{subst, ◌≡◌, sym, ap, ◌∙◌, None}
+use Rattle.coded_machine.specs.State.{State, given}
+use Rattle.coded_machine.specs.CycleEnds.{Cause}
+use Rattle.coded_machine.proofs.Causes.{end_has_cause}
+use Rattle.coded_machine.proofs.Ends.{released_is_accepted, accepted_is_released}
+use Rattle.coded_machine.proofs.Turns.{finished_whole}
+use Rattle.coded_machine.proofs.machine.Machine.end.Goals as goal
+
+pub returns-in-None-clause-accepted : goal.returns-in-None-clause-accepted
+returns-in-None-clause-accepted c =
+    let m : State = c.args.self.now in
+    let going : m.ended ≡ None = sym (ap (λ (s : State). s.ended) c.self.view_is) ∙ c.in-None.is in
+    let is = c.conclude.ensures.end in (
+      λ e. (going, released_is_accepted m.graph m.table m.cycles (given m) (finished_whole m going c.requires.finished) (sym is ∙ e)),
+      λ h. is ∙ accepted_is_released m.graph m.table m.cycles (given m) h.1,
+    )
+
+pub returns-in-None-clause-cause : goal.returns-in-None-clause-cause
+returns-in-None-clause-cause c = λ going.
+    let m : State = c.args.self.now in
+    subst (Cause m.graph m.table m.cycles (given m)) (sym c.conclude.ensures.end) (end_has_cause m.graph m.table m.cycles (given m) (finished_whole m going c.requires.finished))

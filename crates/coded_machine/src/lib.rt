@@ -1,0 +1,21 @@
+//! The coded machine: registers, coded memory and checker of a graph of operations.
+//!
+//! A machine carries the operations of its graph through a unit, cycle by cycle, as calls on coded
+//! words, and releases a row of outputs only where each output's word has the residue that its
+//! operation and the cycle must give.
+#![tactic(auto)]
+
+mod calling;
+mod cycle_end;
+mod laws;
+mod machine;
+mod releasing;
+
+pub use cycle_end::CycleEnd;
+pub use laws::{
+    honest_runs_follow_the_graph, right_answers_stand_for_values, runs_follow_their_answers,
+};
+pub use machine::Machine;
+
+#[cfg(test)]
+mod tests;

@@ -1,0 +1,315 @@
+//! The machine: its registers, its coded memory and its checker.
+
+ghost use Rattle.std.specs.Prelude.{◌≡◌, ◌≢◌, ◌<◌, ◌≤◌, ◌+◌, ◌↔◌, ◌++◌, ◌∷◌, ◌-◌, ◌^◌, ℤ, List, [], false, cond, None, Some, IsNone, IsSome, IfSome, IfOk, length, slice_get, vec_capacity};
+ghost use Rattle.vcp_base.specs.Code.{A as code_constant};
+ghost use Rattle.op_graph.specs.declared.op.Op.{Op as Operation};
+ghost use Rattle.op_graph.specs.GraphRun.{initial};
+ghost use Rattle.signature_table.specs.Signatures.{stamp_before, IsTableOf};
+ghost use Rattle.coded_machine.specs.Calls.{CallsOf, call_of, Next, Whole, Carried};
+ghost use Rattle.coded_machine.specs.CycleEnds.{end_of, end_or, first_outside, Accepted, Cause};
+ghost use Rattle.coded_machine.specs.Honest.{CellsHold, FollowsGraph};
+ghost use Rattle.coded_machine.specs.State.{fresh, given as given_of, setting, Awaits, Finished, with_answer, with_answers, after_end, row_after, word_in};
+ghost use Rattle.coded_machine.specs.declared.cycle_end.CycleEnd.TheVariants.{Released};
+
+use crate::calling::{Setting, call_after, is_word};
+use crate::cycle_end::{CycleEnd, cycle_end, is_released};
+use crate::releasing::{first_words, set_outputs, store_words};
+use coded_unit::{Answer, Call, Unit, Word};
+use op_graph::{Graph, Op};
+use signature_table::Table;
+use std::alloc::Global;
+use std::marker::Model;
+use vcp_base::{Memory, Row};
+
+/// A machine for the operations of a graph. It borrows the graph and the table of its code.
+///
+/// It carries cycles one after another: in each, a call for every operation in order, whose operands
+/// are earlier answers, up to the first answer that is no word. A cycle that does not end with a
+/// release is the last one: its end is repeated from then on, and no call is made any more.
+///
+/// All memory that it ever takes is taken by `new`.
+#[derive(Drop)]
+pub struct Machine<'a> {
+    graph: &'a Graph,
+    table: &'a Table,
+    held: Vec<Word>,
+    answers: Vec<Answer>,
+    under_way: bool,
+    halted: bool,
+    cycles: u32,
+    ended: Option<CycleEnd>,
+}
+
+impl<'a> Model for Machine<'a> {
+    ghost use Rattle.std.specs.Prelude.{vec_capacity};
+    ghost use Rattle.coded_machine.specs.Sound.{Sound};
+    ghost use Rattle.coded_machine.specs.State.{State};
+
+    ghost Value = { State };
+
+    ghost view = { λ m. record { graph = m.graph.now; table = m.table.now; held = m.held.items; answers = m.answers.items; under_way = m.under_way; cycles = m.cycles; ended = m.ended } };
+
+    ghost invariant = { λ m. Sound (record { graph = m.graph.now; table = m.table.now; held = m.held.items; answers = m.answers.items; under_way = m.under_way; cycles = m.cycles; ended = m.ended }) m.halted (vec_capacity m.answers) };
+}
+
+impl<'a> Machine<'a> {
+    /// A machine before its first cycle, for a graph and the graph's table. The cells hold the words
+    /// of their initial values. `Memory` where there is no room for an answer to each operation and a
+    /// word for each cell.
+    pub fn new(alloc: Global, graph: &'a Graph, table: &'a Table) -> Result<Machine<'a>, Memory>
+        requires { IsTableOf table.now graph.now }
+        ensures fresh { IfOk result (λ machine. machine ≡ fresh graph.now table.now) }
+        ensures cells { IfOk result (λ machine. CellsHold graph.now table.now.seed (stamp_before table.now.step 0) machine.held (initial graph.now)) }
+    {
+        // What these two calls ensure is kept by the machine: the rules of the graph and of the table.
+        let operations = graph.len() as usize;
+        let _step = table.step();
+        let held = first_words(alloc, graph, table)?;
+        Ok(Machine {
+            graph,
+            table,
+            held,
+            answers: Vec::with_capacity(alloc, operations)?,
+            under_way: false,
+            halted: false,
+            cycles: 0,
+            ended: None,
+        })
+    }
+
+    /// The number of released cycles, at most 1,000,000.
+    pub fn cycles(&self) -> u32
+        ensures value { result ≡ self.now.cycles }
+        ensures bound { result ≤ 1000000 }
+    {
+        self.cycles
+    }
+
+    /// The word that operation `i` answered in the last cycle that made calls; `None` where there was
+    /// no such cycle or it has no word there.
+    pub fn word(&self, i: u32) -> Option<Word>
+        ensures { result ≡ word_in (slice_get self.now.answers i) }
+    {
+        match self.answers.get(i as usize) {
+            Some(Answer::Word(word)) => Some(*word),
+            _ => None,
+        }
+    }
+
+    /// The next call of the cycle that is under way or to be begun, on this row of inputs. `None`
+    /// exactly where every operation is answered in this cycle, or the last answer put is no word, or
+    /// an earlier end is repeated. An input past the end of the row has the value 0, and one outside
+    /// its type stops its operation.
+    pub fn next_call(&self, row: &Row) -> Option<Call>
+        requires { self.now.cycles < 1000000 }
+        ensures none { IsNone result ↔ Finished self.now }
+        ensures some { IsSome result ↔ Awaits self.now }
+        ensures next { IfSome result (λ call. Next (setting self.now row.now) (given_of self.now) call) }
+        ensures call { IfSome result (λ call. (op : Operation) → slice_get self.now.graph.operations (length (given_of self.now)) ≡ Some op → call ≡ call_of (setting self.now row.now) op (given_of self.now)) }
+        ensures corr { IfSome result (λ call. call.corr < code_constant) }
+        ensures stamp { IfSome result (λ call. call.stamp ≤ 1000000000) }
+    {
+        match self.pending() {
+            Some(op) => Some(self.call(row, &op)),
+            None => None,
+        }
+    }
+
+    /// The operation that is to be called next, where there is one.
+    fn pending(&self) -> Option<Op>
+        ensures none { result ≡ None → Finished self.now }
+        ensures some { IfSome result (λ op. Awaits self.now × (slice_get self.now.graph.operations (length (given_of self.now)) ≡ Some op)) }
+    {
+        if self.halted {
+            return None;
+        }
+        if self.ended.is_some() {
+            return None;
+        }
+        let answered = given(self.under_way, &self.answers).len() as u32;
+        if answered >= self.graph.len() {
+            return None;
+        }
+        Some(self.graph.operation(answered))
+    }
+
+    /// The call of the operation that comes after the answers put in this cycle.
+    fn call(&self, row: &Row, op: &Op) -> Call
+        requires here { slice_get self.now.graph.operations (length (given_of self.now)) ≡ Some op.now }
+        requires cycle { self.now.cycles < 1000000 }
+        ensures call { result ≡ call_of (setting self.now row.now) op.now (given_of self.now) }
+        ensures corr { result.corr < code_constant }
+        ensures stamp { result.stamp ≤ 1000000000 }
+    {
+        let setting = Setting {
+            graph: self.graph,
+            table: self.table,
+            held: &self.held,
+            row,
+            cycle: self.cycles,
+        };
+        call_after(&setting, op, given(self.under_way, &self.answers))
+    }
+
+    /// Takes the answer to the next call, which there must be.
+    pub fn put(&mut self, answer: Answer)
+        requires { Awaits self.old }
+        ensures { self.new ≡ with_answer self.old answer }
+    {
+        keep_given(self.under_way, &mut self.answers);
+        self.halted = !is_word(&answer);
+        append(&mut self.answers, &answer);
+        self.under_way = true;
+    }
+
+    /// Ends the cycle in which there is no next call, and tells its end, by the answers put in it.
+    ///
+    /// After a release `out` has the values of the outputs, the cells have the words that their STOREs
+    /// answered, and one cycle more is counted. After any other end `out`, the cells and the count are
+    /// unchanged, and the end is repeated from then on.
+    pub fn end(&mut self, out: &mut Row) -> CycleEnd
+        requires cycle { self.old.cycles < 1000000 }
+        requires finished { Finished self.old }
+        requires out { length out.old ≡ length self.old.graph.outputs }
+        ensures end { result ≡ end_or self.old.ended (end_of self.old.graph self.old.table self.old.cycles (given_of self.old)) }
+        ensures machine { self.new ≡ after_end self.old result }
+        ensures out { out.new ≡ row_after self.old result out.old }
+        ensures accepted { (result ≡ Released) ↔ ((self.old.ended ≡ None) × Accepted self.old.graph self.old.table self.old.cycles (given_of self.old)) }
+        ensures cause { self.old.ended ≡ None → Cause self.old.graph self.old.table self.old.cycles (given_of self.old) result }
+        ensures repeats { IfSome self.old.ended (λ e. (result ≡ e) × (self.new ≡ self.old) × (out.new ≡ out.old)) }
+        ensures between { self.new.under_way ≡ false }
+        ensures graph { self.new.graph ≡ self.old.graph }
+        ensures table { self.new.table ≡ self.old.table }
+        ensures cycles { self.new.cycles ≤ self.old.cycles + 1 }
+        ensures width { length out.new ≡ length out.old }
+    {
+        match self.ended {
+            Some(end) => end,
+            None => self.conclude(out),
+        }
+    }
+
+    /// Ends a cycle where no earlier end is repeated.
+    fn conclude(&mut self, out: &mut Row) -> CycleEnd
+        requires cycle { self.old.cycles < 1000000 }
+        requires going { self.old.ended ≡ None }
+        requires whole { Whole self.old.graph.operations (given_of self.old) }
+        requires out { length out.old ≡ length self.old.graph.outputs }
+        ensures end { result ≡ end_of self.old.graph self.old.table self.old.cycles (given_of self.old) }
+        ensures machine { self.new ≡ after_end self.old result }
+        ensures out { out.new ≡ row_after self.old result out.old }
+    {
+        let given = given(self.under_way, &self.answers);
+        let end = cycle_end(self.graph, self.table, self.cycles, given);
+        if is_released(&end) {
+            self.release(out);
+        } else {
+            self.close(&end);
+        }
+        end
+    }
+
+    /// Releases the outputs, stores the cells and counts the cycle.
+    fn release(&mut self, out: &mut Row)
+        requires cycle { self.old.cycles < 1000000 }
+        requires going { self.old.ended ≡ None }
+        requires inside { first_outside (given_of self.old) self.old.graph.outputs ≡ None }
+        requires out { length out.old ≡ length self.old.graph.outputs }
+        ensures machine { self.new ≡ after_end self.old Released }
+        ensures out { out.new ≡ row_after self.old Released out.old }
+    {
+        let given = given(self.under_way, &self.answers);
+        set_outputs(self.graph, given, out);
+        store_words(self.graph, given, &mut self.held);
+        self.cycles += 1;
+        self.under_way = false;
+        self.halted = false;
+    }
+
+    /// Keeps an end that is no release, which is repeated from then on.
+    fn close(&mut self, end: &CycleEnd)
+        requires { end.now ≢ Released }
+        ensures { self.new ≡ after_end self.old end.now }
+    {
+        self.ended = Some(*end);
+        self.under_way = false;
+        self.halted = false;
+    }
+
+    /// Carries one cycle through a unit: a call for each operation in order, up to the first answer
+    /// that is no word. No cycle is under way before.
+    ///
+    /// It does what `next_call`, `put` and `end` do one after another. Where an earlier end is
+    /// repeated, no call is made.
+    pub fn cycle<U: Unit>(&mut self, unit: &mut U, row: &Row, out: &mut Row) -> CycleEnd
+        requires cycle { self.old.cycles < 1000000 }
+        requires between { self.old.under_way ≡ false }
+        requires out { length out.old ≡ length self.old.graph.outputs }
+        ensures whole { self.old.ended ≡ None → Whole self.old.graph.operations self.new.answers }
+        ensures carried { self.old.ended ≡ None → Carried (CallsOf (setting self.old row.now) self.new.answers) (U.log unit.old) (U.log unit.new) (U.wrong unit.old) (U.wrong unit.new) }
+        ensures end { self.old.ended ≡ None → result ≡ end_of self.old.graph self.old.table self.old.cycles self.new.answers }
+        ensures machine { self.old.ended ≡ None → self.new ≡ after_end (with_answers self.old self.new.answers) result }
+        ensures out { self.old.ended ≡ None → out.new ≡ row_after (with_answers self.old self.new.answers) result out.old }
+        ensures accepted { (result ≡ Released) ↔ ((self.old.ended ≡ None) × Accepted self.old.graph self.old.table self.old.cycles self.new.answers) }
+        ensures cause { self.old.ended ≡ None → Cause self.old.graph self.old.table self.old.cycles self.new.answers result }
+        ensures repeats { IfSome self.old.ended (λ e. (result ≡ e) × (self.new ≡ self.old) × (out.new ≡ out.old) × (unit.new ≡ unit.old)) }
+        ensures between { self.new.under_way ≡ false }
+        ensures graph { self.new.graph ≡ self.old.graph }
+        ensures table { self.new.table ≡ self.old.table }
+        ensures cycles { self.new.cycles ≤ self.old.cycles + 1 }
+        ensures width { length out.new ≡ length out.old }
+        ensures honest { self.old.ended ≡ None → U.wrong unit.new ≡ U.wrong unit.old → U.wrong unit.old < 2 ^ 64 - 1 → (values : List ℤ) → CellsHold self.old.graph self.old.table.seed (stamp_before self.old.table.step self.old.cycles) self.old.held values → FollowsGraph self.old self.new values row.now result out.new }
+    {
+        if let Some(end) = self.ended {
+            return end;
+        }
+        self.carry(unit, row);
+        self.end(out)
+    }
+
+    /// Carries the calls of a cycle through a unit, up to the first answer that is no word.
+    fn carry<U: Unit>(&mut self, unit: &mut U, row: &Row)
+        requires cycle { self.old.cycles < 1000000 }
+        requires between { self.old.under_way ≡ false }
+        requires going { self.old.ended ≡ None }
+        ensures given { given_of self.new ≡ self.new.answers }
+        ensures whole { Whole self.old.graph.operations self.new.answers }
+        ensures carried { Carried (CallsOf (setting self.old row.now) self.new.answers) (U.log unit.old) (U.log unit.new) (U.wrong unit.old) (U.wrong unit.new) }
+        ensures machine { self.new ≡ record self.old { answers = self.new.answers; under_way = self.new.under_way } }
+    {
+        // A field is read, so that the proof knows what holds of every machine.
+        let _answers = &self.answers;
+        'calls: while let Some(call) = self.next_call(row) {
+            let answer = unit.perform(&call);
+            self.put(answer);
+        }
+    }
+}
+
+/// The answers put in this cycle, of those that are kept.
+fn given(under_way: bool, answers: &[Answer]) -> &[Answer]
+    ensures { result.now ≡ cond under_way answers.now [] }
+{
+    if under_way { answers } else { &[] }
+}
+
+/// Drops the answers of an earlier cycle.
+fn keep_given(under_way: bool, answers: &mut Vec<Answer>)
+    ensures items { answers.new.items ≡ cond under_way answers.old.items [] }
+    ensures capacity { vec_capacity answers.new ≡ vec_capacity answers.old }
+{
+    if !under_way {
+        answers.clear();
+    }
+}
+
+/// Appends an answer where there is room.
+fn append(answers: &mut Vec<Answer>, given: &Answer)
+    requires { length answers.old.items < vec_capacity answers.old }
+    ensures items { answers.new.items ≡ answers.old.items ++ given.now ∷ [] }
+    ensures capacity { vec_capacity answers.old ≤ vec_capacity answers.new }
+{
+    if answers.push(*given).is_err() {
+        unreachable!()
+    }
+}

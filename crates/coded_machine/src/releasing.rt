@@ -1,0 +1,68 @@
+//! What a release sets: the row of outputs and the words of the cells.
+
+ghost use Rattle.std.specs.Prelude.{◌≡◌, ◌<◌, ◌≤◌, ◌++◌, ◌∷◌, None, IfOk, length, slice_set, pos, negsuc, ◌≤ℤ◌};
+ghost use Rattle.coded_unit.specs.Words.{value_part, coded};
+ghost use Rattle.op_graph.specs.Rules.{IsGraph};
+ghost use Rattle.signature_table.specs.Signatures.{signature, IsTableOf};
+ghost use Rattle.coded_machine.specs.CycleEnds.{outputs_of, stored_words, initial_words, first_outside as first_outside_of};
+
+use crate::calling::word_at;
+use coded_unit::{Answer, Word};
+use op_graph::{Cell, Graph};
+use signature_table::Table;
+use std::alloc::Global;
+use vcp_base::{Memory, Row};
+
+/// Sets the row to the values of the outputs, which are in their types.
+pub(crate) fn set_outputs(graph: &Graph, answers: &[Answer], out: &mut Row)
+    requires inside { first_outside_of answers.now graph.now.outputs ≡ None }
+    requires cells { length out.old ≡ length graph.now.outputs }
+    ensures { out.new ≡ outputs_of graph.now answers.now }
+{
+    'outputs: for i in 0..graph.outputs() {
+        let outlet = graph.output(i);
+        set_output(out, i, word_at(answers, outlet.op));
+    }
+}
+
+/// Sets one place of the row to the value of a word.
+fn set_output(out: &mut Row, i: u32, word: Word)
+    requires place { i < length out.old }
+    requires low { negsuc 2147483647 ≤ℤ value_part word }
+    requires high { value_part word ≤ℤ pos 2147483647 }
+    ensures { out.new ≡ slice_set out.old i (value_part word) }
+{
+    out.set(i, word.split().0 as i64);
+}
+
+/// Sets the words of the cells to those that their STOREs answered.
+pub(crate) fn store_words(graph: &Graph, answers: &[Answer], held: &mut [Word])
+    requires cells { length held.old ≡ length graph.now.stores }
+    ensures { held.new ≡ stored_words graph.now answers.now }
+{
+    'cells: for i in 0..graph.cells() {
+        held[i as usize] = word_at(answers, graph.cell(i).store);
+    }
+}
+
+/// The word of a cell before the first cycle: that of its initial value, with the signature of its
+/// STORE at stamp 0.
+fn first_word(table: &Table, cell: &Cell) -> Word
+    requires { cell.now.store < length table.now.corrections }
+    ensures { result ≡ coded cell.now.init (signature table.now.seed cell.now.store) }
+{
+    Word::packed(cell.init as i128, table.signature(cell.store))
+}
+
+/// The words of the cells before the first cycle.
+pub(crate) fn first_words(alloc: Global, graph: &Graph, table: &Table) -> Result<Vec<Word>, Memory>
+    requires graph { IsGraph graph.now }
+    requires table { IsTableOf table.now graph.now }
+    ensures { IfOk result (λ held. held.items ≡ initial_words graph.now table.now.seed) }
+{
+    let mut held = Vec::with_capacity(alloc, graph.cells() as usize)?;
+    'cells: for i in 0..graph.cells() {
+        held.push(first_word(table, &graph.cell(i)))?;
+    }
+    Ok(held)
+}
