@@ -14,8 +14,10 @@ mod words;
 
 pub use fault::LexFault;
 pub use reading::{lex, one_reading};
+pub use symbols::spelling as symbol_spelling;
 pub use token::{Key, Sym, Tok, Token};
 pub use tokens::Tokens;
+pub use words::spelling as key_spelling;
 
 #[cfg(test)]
 mod tests;
