@@ -1,0 +1,23 @@
+mod Worked
+pub mod Written
+pub mod WrittenParts
+pub mod AgainExpr
+pub mod AgainLabels
+pub mod AgainStmt
+pub mod Again
+pub mod IsReadable
+pub mod OfReading
+pub mod Readable
+pub mod Numbers
+pub mod Fits
+pub mod Covered
+pub mod FitExpr
+pub mod FitStmt
+pub mod Lexed
+pub mod ReadsBack
+pub mod SameText
+pub mod Extends
+pub mod Lists
+pub mod Exprs
+pub mod Stmts
+pub mod Programs

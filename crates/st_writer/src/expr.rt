@@ -1,0 +1,148 @@
+//! Expressions.
+
+ghost use Rattle.std.specs.Prelude.{◌≡◌, ◌++◌, ◌∷◌, ◌≤◌, [], OnOk};
+ghost use Rattle.st_lexer.specs.declared.token.Sym.TheVariants as sym;
+ghost use Rattle.st_spelling.specs.Operators as operators;
+ghost use Rattle.st_tree.specs.ExprTree.{expr_tree, expr_trees};
+ghost use Rattle.st_writer.specs.CanonicalExpr as canonical;
+ghost use Rattle.st_writer.specs.Extended.{extended, where_needed};
+ghost use Rattle.st_writer.specs.Lexemes as lexeme;
+
+use crate::writer::Writer;
+use st_lexer::{Key, Sym};
+use st_tree::{BinOp, Expr, UnOp, trees_of_nodes};
+use vcp_base::{Memory, Text};
+
+/// The level at which every expression stands without brackets.
+pub const ANY: u32 = 1;
+
+/// The level of the operand of a sign.
+const UNARY: u32 = 8;
+
+/// The level of an operator: the greater, the more strongly it binds.
+fn level(op: BinOp) -> u32
+    ensures value { result ≡ operators.level op }
+    ensures most { result ≤ 7 }
+{
+    match op {
+        BinOp::Or => 1,
+        BinOp::Xor => 2,
+        BinOp::And => 3,
+        BinOp::Eq | BinOp::Ne => 4,
+        BinOp::Lt | BinOp::Gt | BinOp::Le | BinOp::Ge => 5,
+        BinOp::Add | BinOp::Sub => 6,
+        BinOp::Mul | BinOp::Div | BinOp::Mod => 7,
+    }
+}
+
+impl Writer {
+    // Writes an operator between its operands.
+    fn operator(&mut self, op: BinOp) -> Result<(), Memory>
+        ensures text { OnOk result (self.new ≡ extended self.old (canonical.operator op ∷ [])) }
+    {
+        match op {
+            BinOp::Mul => self.symbol(Sym::Star),
+            BinOp::Div => self.symbol(Sym::Slash),
+            BinOp::Mod => self.word(Key::Mod),
+            BinOp::Add => self.symbol(Sym::Plus),
+            BinOp::Sub => self.symbol(Sym::Minus),
+            BinOp::Lt => self.symbol(Sym::Lt),
+            BinOp::Gt => self.symbol(Sym::Gt),
+            BinOp::Le => self.symbol(Sym::Le),
+            BinOp::Ge => self.symbol(Sym::Ge),
+            BinOp::Eq => self.symbol(Sym::Eq),
+            BinOp::Ne => self.symbol(Sym::Ne),
+            BinOp::And => self.word(Key::And),
+            BinOp::Xor => self.word(Key::Xor),
+            BinOp::Or => self.word(Key::Or),
+        }
+    }
+
+    // Writes an operator between its operands, with a space on both sides.
+    #[tactic(auto, using(crate::proofs::Extends::writing))]
+    fn spaced_operator(&mut self, op: BinOp) -> Result<(), Memory>
+        ensures text { OnOk result (self.new ≡ extended self.old (lexeme.blank ∷ canonical.operator op ∷ lexeme.blank ∷ [])) }
+    {
+        self.blank()?;
+        self.operator(op)?;
+        self.blank()
+    }
+
+    // Writes a bracket where brackets are needed.
+    fn bracket(&mut self, needed: bool, bracket: Sym) -> Result<(), Memory>
+        ensures text { OnOk result (self.new ≡ extended self.old (where_needed needed bracket)) }
+    {
+        if needed { self.symbol(bracket) } else { Ok(()) }
+    }
+
+    // Writes an operator before its operand.
+    fn sign(&mut self, op: UnOp) -> Result<(), Memory>
+        ensures text { OnOk result (self.new ≡ extended self.old (canonical.sign op)) }
+    {
+        match op {
+            UnOp::Neg => self.symbol(Sym::Minus),
+            UnOp::Not => {
+                self.word(Key::Not)?;
+                self.blank()
+            }
+        }
+    }
+
+    /// Writes an expression where an operator of the level `wanted` or more is wanted.
+    #[cycle(expr)]
+    #[tactic(auto, using(crate::proofs::Extends::writing))]
+    pub fn expr(&mut self, wanted: u32, e: &Expr) -> Result<(), Memory>
+        ensures text { OnOk result (self.new ≡ extended self.old (canonical.expr wanted (expr_tree e.now))) }
+    {
+        match e {
+            Expr::Lit { ty, value, .. } => self.literal(*ty, *value),
+            Expr::Name { name, .. } => self.name(name),
+            Expr::Unary { op, arg, .. } => {
+                self.sign(*op)?;
+                self.expr(UNARY, arg)
+            }
+            Expr::Binary {
+                op,
+                left,
+                right,
+                ..
+            } => {
+                let strength = level(*op);
+                let weak = strength < wanted;
+                self.bracket(weak, Sym::LParen)?;
+                self.expr(strength, left)?;
+                self.spaced_operator(*op)?;
+                self.expr(strength + 1, right)?;
+                self.bracket(weak, Sym::RParen)
+            }
+            Expr::Call { name, args, .. } => {
+                trees_of_nodes();
+                self.call(name, &args.items)
+            }
+        }
+    }
+
+    #[cycle(expr)]
+    #[tactic(auto, using(crate::proofs::Extends::writing))]
+    fn call(&mut self, name: &Text, args: &[Expr]) -> Result<(), Memory>
+        ensures text { OnOk result (self.new ≡ extended self.old
+            (lexeme.name name.now ∷ lexeme.symbol sym.LParen ∷ (canonical.args (expr_trees args.now) ++ lexeme.symbol sym.RParen ∷ []))) }
+    {
+        self.name(name)?;
+        self.symbol(Sym::LParen)?;
+        self.args(args)?;
+        self.symbol(Sym::RParen)
+    }
+
+    #[cycle(expr)]
+    #[tactic(auto, using(crate::proofs::Extends::writing))]
+    fn args(&mut self, args: &[Expr]) -> Result<(), Memory>
+        ensures text { OnOk result (self.new ≡ extended self.old (canonical.args (expr_trees args.now))) }
+    {
+        for i in 0..args.len() {
+            self.separator(i)?;
+            self.expr(ANY, &args[i])?;
+        }
+        Ok(())
+    }
+}

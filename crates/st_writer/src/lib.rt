@@ -1,0 +1,15 @@
+//! The writer: the canonical text of a program.
+//!
+//! Contracts here speak of a text as lexemes, which are the bytes of a token or of a gap, written one
+//! behind the other.
+#![tactic(auto)]
+
+mod expr;
+mod program;
+mod stmt;
+mod writer;
+
+pub use program::write_program;
+
+#[cfg(test)]
+mod tests;

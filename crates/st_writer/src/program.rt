@@ -1,0 +1,184 @@
+//! Programs and their declarations.
+
+ghost use Rattle.std.specs.Prelude.{◌≡◌, ◌++◌, ◌∷◌, [], ℕ, List, IfOk, OnOk, flat_map, map};
+ghost use Rattle.st_lexer.specs.Reading.{Reads};
+ghost use Rattle.st_lexer.specs.declared.token.Token.{Token};
+ghost use Rattle.st_lexer.specs.declared.token.Key.TheVariants as keys;
+ghost use Rattle.st_lexer.specs.declared.token.Sym.TheVariants as sym;
+ghost use Rattle.st_spelling.specs.Programs as programs;
+ghost use Rattle.st_tree.specs.ExprTree.{expr_tree_or_none};
+ghost use Rattle.st_spelling.specs.Spelling.{SpellsWithin};
+ghost use Rattle.st_tree.specs.Bare.{bare};
+ghost use Rattle.st_tree.specs.ProgramTree.{ProgramTree, declared_tree, decl_tree, block_tree, program_tree};
+ghost use Rattle.st_writer.specs.ReadsAs.{ReadsAs};
+ghost use Rattle.st_writer.specs.CanonicalProgram as spec;
+ghost use Rattle.st_writer.specs.Extended.{extended};
+ghost use Rattle.st_writer.specs.Lexemes as lexeme;
+
+use crate::expr::ANY;
+use crate::writer::Writer;
+use st_lexer::{Key, Sym};
+use st_tree::{Block, Class, Decl, Declared, Expr, Program};
+use std::alloc::Global;
+use vcp_base::{Memory, Text, Ty};
+
+// The word of a type.
+fn type_key(ty: Ty) -> Key
+    ensures { result ≡ programs.type_key ty }
+{
+    match ty {
+        Ty::Bool => Key::Bool,
+        Ty::Int => Key::Int,
+        Ty::Dint => Key::Dint,
+    }
+}
+
+impl Writer {
+    // Writes the names of a declaration.
+    fn names(&mut self, names: &[Declared]) -> Result<(), Memory>
+        ensures text { OnOk result (self.new ≡ extended self.old (spec.names (map declared_tree names.now))) }
+    {
+        for i in 0..names.len() {
+            self.separator(i)?;
+            let declared = &names[i];
+            self.name(&declared.name)?;
+        }
+        Ok(())
+    }
+
+    // Writes the initial value, where one is given.
+    #[tactic(auto, using(crate::proofs::Extends::writing))]
+    fn init(&mut self, init: &Option<Expr>) -> Result<(), Memory>
+        ensures text { OnOk result (self.new ≡ extended self.old (spec.init (expr_tree_or_none init.now))) }
+    {
+        match init {
+            None => Ok(()),
+            Some(e) => {
+                self.blank()?;
+                self.symbol(Sym::Assign)?;
+                self.blank()?;
+                self.expr(ANY, e)
+            }
+        }
+    }
+
+    // Writes `:` with a space on both sides, and the word of a type.
+    #[tactic(auto, using(crate::proofs::Extends::writing))]
+    fn of_type(&mut self, ty: Ty) -> Result<(), Memory>
+        ensures text { OnOk result (self.new ≡ extended self.old
+            (lexeme.blank ∷ lexeme.symbol sym.Colon ∷ lexeme.blank ∷ lexeme.word (programs.type_key ty) ∷ [])) }
+    {
+        self.blank()?;
+        self.symbol(Sym::Colon)?;
+        self.blank()?;
+        self.word(type_key(ty))
+    }
+
+    // Writes the line of a declaration.
+    #[tactic(auto, using(crate::proofs::Extends::writing))]
+    fn decl(&mut self, decl: &Decl) -> Result<(), Memory>
+        ensures text { OnOk result (self.new ≡ extended self.old (spec.decl (decl_tree decl.now))) }
+    {
+        self.indent(1)?;
+        self.names(&decl.names.items)?;
+        self.of_type(decl.ty)?;
+        self.init(&decl.init)?;
+        self.symbol(Sym::Semi)?;
+        self.line_end()
+    }
+
+    fn decls(&mut self, decls: &[Decl]) -> Result<(), Memory>
+        ensures text { OnOk result (self.new ≡ extended self.old (flat_map spec.decl (map decl_tree decls.now))) }
+    {
+        for i in 0..decls.len() {
+            self.decl(&decls[i])?;
+        }
+        Ok(())
+    }
+
+    // Writes the words with which a block begins.
+    #[tactic(auto, using(crate::proofs::Extends::writing))]
+    fn class(&mut self, class: Class) -> Result<(), Memory>
+        ensures text { OnOk result (self.new ≡ extended self.old (spec.head class)) }
+    {
+        match class {
+            Class::Input => self.word(Key::VarInput),
+            Class::Output => self.word(Key::VarOutput),
+            Class::Local => self.word(Key::Var),
+            Class::Constant => self.var_and(Key::Constant),
+            Class::Retain => self.var_and(Key::Retain),
+        }
+    }
+
+    // Writes VAR and the word behind it.
+    #[tactic(auto, using(crate::proofs::Extends::writing))]
+    fn var_and(&mut self, key: Key) -> Result<(), Memory>
+        ensures text { OnOk result (self.new ≡ extended self.old (lexeme.word keys.Var ∷ lexeme.blank ∷ lexeme.word key ∷ [])) }
+    {
+        self.word(Key::Var)?;
+        self.blank()?;
+        self.word(key)
+    }
+
+    #[tactic(auto, using(crate::proofs::Extends::writing))]
+    fn block(&mut self, block: &Block) -> Result<(), Memory>
+        ensures text { OnOk result (self.new ≡ extended self.old (spec.block (block_tree block.now))) }
+    {
+        self.class(block.class)?;
+        self.line_end()?;
+        self.decls(&block.decls.items)?;
+        self.keyword_line(0, Key::EndVar)
+    }
+
+    fn blocks(&mut self, blocks: &[Block]) -> Result<(), Memory>
+        ensures text { OnOk result (self.new ≡ extended self.old (flat_map spec.block (map block_tree blocks.now))) }
+    {
+        for i in 0..blocks.len() {
+            self.block(&blocks[i])?;
+        }
+        Ok(())
+    }
+
+    // Writes the first line of a program.
+    #[tactic(auto, using(crate::proofs::Extends::writing))]
+    fn heading(&mut self, name: &Text) -> Result<(), Memory>
+        ensures text { OnOk result (self.new ≡ extended self.old (lexeme.line 0 (lexeme.word keys.Program ∷ lexeme.blank ∷ lexeme.name name.now ∷ []))) }
+    {
+        self.word(Key::Program)?;
+        self.blank()?;
+        self.name(name)?;
+        self.line_end()
+    }
+
+    #[tactic(auto, using(crate::proofs::Extends::writing))]
+    fn program(&mut self, program: &Program) -> Result<(), Memory>
+        ensures text { OnOk result (self.new ≡ extended self.old (spec.program (program_tree program.now))) }
+    {
+        self.heading(&program.name)?;
+        self.blocks(&program.blocks.items)?;
+        self.stmts(1, &program.body.items)?;
+        self.keyword_line(0, Key::EndProgram)
+    }
+}
+
+/// The canonical text of a program, as a text of its own.
+fn canonical_text(alloc: Global, program: &Program) -> Result<Text, Memory>
+    ensures text { IfOk result (λ t. t ≡ spec.canonical (program_tree program.now)) }
+{
+    let mut writer = Writer::new(alloc);
+    writer.program(program)?;
+    Ok(writer.into_text())
+}
+
+/// The canonical text of a program; `Memory` where there is no room for it.
+///
+/// It is one for all programs that are the same, spots aside. Where the tokens of some text spell the
+/// program, those of its canonical text spell it too, spots aside, and no deeper. Comments, bases of
+/// literals and brackets that aren't needed are not kept.
+pub fn write_program(alloc: Global, program: &Program) -> Result<Text, Memory>
+    ensures text { IfOk result (λ t. t ≡ spec.canonical (program_tree program.now)) }
+    ensures one { (p : ProgramTree) → bare p ≡ bare (program_tree program.now) → IfOk result (λ t. t ≡ spec.canonical p) }
+    ensures reads_back { (limit : ℕ) (text : List ℕ) (ts : List Token) → Reads text ts → SpellsWithin limit (program_tree program.now) text ts → IfOk result (ReadsAs limit (program_tree program.now)) }
+{
+    canonical_text(alloc, program)
+}

@@ -1,0 +1,360 @@
+//! Statements.
+
+ghost use Rattle.std.specs.Prelude.{◌≡◌, ◌++◌, ◌∷◌, [], suc, IfOk, OnOk};
+ghost use Rattle.st_lexer.specs.declared.token.Key.TheVariants as keys;
+ghost use Rattle.st_lexer.specs.declared.token.Sym.TheVariants as sym;
+ghost use Rattle.st_spelling.specs.Operators.{any_level};
+ghost use Rattle.st_tree.specs.ExprTree.{expr_tree, expr_tree_or_none};
+ghost use Rattle.st_tree.specs.StmtTree.{label_tree, label_trees, stmt_tree, stmt_trees, arm_trees, branch_trees, other_tree};
+ghost use Rattle.st_writer.specs.CanonicalExpr.{expr};
+ghost use Rattle.st_writer.specs.CanonicalStmt as canonical;
+ghost use Rattle.st_writer.specs.Extended.{extended, arm_key as arm_key_of};
+ghost use Rattle.st_writer.specs.Lexemes as lexeme;
+
+use crate::expr::ANY;
+use crate::writer::Writer;
+use st_lexer::{Key, Sym};
+use st_tree::{Arm, Branch, Expr, Label, Stmt, Stmts, UnOp, trees_of_nodes};
+use vcp_base::{Memory, Text};
+
+/// The level below a level. One that no number counts has no room for its indent.
+fn deeper(level: u64) -> Result<u64, Memory>
+    ensures { IfOk result (λ n. n ≡ suc level) }
+{
+    match level.checked_add(1) {
+        Some(next) => Ok(next),
+        None => Err(Memory),
+    }
+}
+
+// The keyword of condition `i` of an IF.
+fn arm_key(i: usize) -> Key
+    ensures { result ≡ arm_key_of i }
+{
+    if i == 0 { Key::If } else { Key::Elsif }
+}
+
+// Labels of a CASE.
+impl Writer {
+    // Writes what stands behind the sign of a label.
+    fn negated(&mut self, e: &Expr) -> Result<(), Memory>
+        ensures text { OnOk result (self.new ≡ extended self.old (canonical.negated (expr_tree e.now))) }
+    {
+        match e {
+            Expr::Lit { ty, value, .. } => self.number(*ty, *value),
+            Expr::Name { .. } => self.expr(ANY, e),
+            Expr::Unary { .. } => self.expr(ANY, e),
+            Expr::Binary { .. } => self.expr(ANY, e),
+            Expr::Call { .. } => self.expr(ANY, e),
+        }
+    }
+
+    // Writes a constant of a label.
+    fn constant(&mut self, e: &Expr) -> Result<(), Memory>
+        ensures text { OnOk result (self.new ≡ extended self.old (canonical.constant (expr_tree e.now))) }
+    {
+        match e {
+            Expr::Unary {
+                op: UnOp::Neg,
+                arg,
+                ..
+            } => {
+                self.symbol(Sym::Minus)?;
+                self.negated(arg)
+            }
+            Expr::Unary { op: UnOp::Not, .. } => self.expr(ANY, e),
+            Expr::Lit { .. } => self.expr(ANY, e),
+            Expr::Name { .. } => self.expr(ANY, e),
+            Expr::Binary { .. } => self.expr(ANY, e),
+            Expr::Call { .. } => self.expr(ANY, e),
+        }
+    }
+
+    // Writes the end of a range, where the label is one.
+    fn last_of_range(&mut self, last: &Option<Expr>) -> Result<(), Memory>
+        ensures text { OnOk result (self.new ≡ extended self.old (canonical.last_of_range (expr_tree_or_none last.now))) }
+    {
+        match last {
+            None => Ok(()),
+            Some(e) => {
+                self.symbol(Sym::DotDot)?;
+                self.constant(e)
+            }
+        }
+    }
+
+    #[tactic(auto, using(crate::proofs::Extends::writing))]
+    fn label(&mut self, label: &Label) -> Result<(), Memory>
+        ensures text { OnOk result (self.new ≡ extended self.old (canonical.label (label_tree label.now))) }
+    {
+        self.constant(&label.first)?;
+        self.last_of_range(&label.last)
+    }
+
+    // Writes the labels of a branch.
+    fn labels(&mut self, labels: &[Label]) -> Result<(), Memory>
+        ensures text { OnOk result (self.new ≡ extended self.old (canonical.labels (label_trees labels.now))) }
+    {
+        for i in 0..labels.len() {
+            self.separator(i)?;
+            self.label(&labels[i])?;
+        }
+        Ok(())
+    }
+}
+
+// Lines of statements.
+impl Writer {
+    #[tactic(auto, using(crate::proofs::Extends::writing))]
+    fn assignment(&mut self, level: u64, name: &Text, value: &Expr) -> Result<(), Memory>
+        ensures text { OnOk result (self.new ≡ extended self.old (lexeme.line level
+            (lexeme.name name.now ∷ lexeme.blank ∷ lexeme.symbol sym.Assign ∷ lexeme.blank
+            ∷ (expr any_level (expr_tree value.now) ++ lexeme.symbol sym.Semi ∷ [])))) }
+    {
+        self.indent(level)?;
+        self.target(name)?;
+        self.expr(ANY, value)?;
+        self.symbol(Sym::Semi)?;
+        self.line_end()
+    }
+
+    // Writes the name that is set, and `:=`.
+    #[tactic(auto, using(crate::proofs::Extends::writing))]
+    fn target(&mut self, name: &Text) -> Result<(), Memory>
+        ensures text { OnOk result (self.new ≡ extended self.old (lexeme.name name.now ∷ lexeme.blank ∷ lexeme.symbol sym.Assign ∷ lexeme.blank ∷ [])) }
+    {
+        self.name(name)?;
+        self.blank()?;
+        self.symbol(Sym::Assign)?;
+        self.blank()
+    }
+
+    // Writes the line of a keyword, an expression and a keyword, as `IF x THEN`.
+    #[tactic(auto, using(crate::proofs::Extends::writing))]
+    fn head(&mut self, level: u64, first: Key, e: &Expr, last: Key) -> Result<(), Memory>
+        ensures text { OnOk result (self.new ≡ extended self.old (lexeme.line level
+            (lexeme.word first ∷ lexeme.blank ∷ (expr any_level (expr_tree e.now) ++ lexeme.blank ∷ lexeme.word last ∷ [])))) }
+    {
+        self.indent(level)?;
+        self.word(first)?;
+        self.blank()?;
+        self.expr(ANY, e)?;
+        self.blank()?;
+        self.word(last)?;
+        self.line_end()
+    }
+
+    // Writes the line that ends a statement, as `END_IF;`.
+    #[tactic(auto, using(crate::proofs::Extends::writing))]
+    fn end(&mut self, level: u64, key: Key) -> Result<(), Memory>
+        ensures text { OnOk result (self.new ≡ extended self.old (lexeme.line level (lexeme.word key ∷ lexeme.symbol sym.Semi ∷ []))) }
+    {
+        self.indent(level)?;
+        self.word(key)?;
+        self.symbol(Sym::Semi)?;
+        self.line_end()
+    }
+
+    /// Writes a line of one keyword.
+    #[tactic(auto, using(crate::proofs::Extends::writing))]
+    pub fn keyword_line(&mut self, level: u64, key: Key) -> Result<(), Memory>
+        ensures text { OnOk result (self.new ≡ extended self.old (lexeme.line level (lexeme.word key ∷ []))) }
+    {
+        self.indent(level)?;
+        self.word(key)?;
+        self.line_end()
+    }
+
+    // Writes the line of a branch's labels.
+    #[tactic(auto, using(crate::proofs::Extends::writing))]
+    fn labels_line(&mut self, level: u64, labels: &[Label]) -> Result<(), Memory>
+        ensures text { OnOk result (self.new ≡ extended self.old (lexeme.line level (canonical.labels (label_trees labels.now) ++ lexeme.symbol sym.Colon ∷ []))) }
+    {
+        self.indent(level)?;
+        self.labels(labels)?;
+        self.symbol(Sym::Colon)?;
+        self.line_end()
+    }
+
+    // Writes a keyword inside a line, with a space on both sides.
+    #[tactic(auto, using(crate::proofs::Extends::writing))]
+    fn spaced_word(&mut self, key: Key) -> Result<(), Memory>
+        ensures text { OnOk result (self.new ≡ extended self.old (lexeme.blank ∷ lexeme.word key ∷ lexeme.blank ∷ [])) }
+    {
+        self.blank()?;
+        self.word(key)?;
+        self.blank()
+    }
+
+    // Writes the step of a FOR, where one is given.
+    #[tactic(auto, using(crate::proofs::Extends::writing))]
+    fn step(&mut self, by: &Option<Expr>) -> Result<(), Memory>
+        ensures text { OnOk result (self.new ≡ extended self.old (canonical.step (expr_tree_or_none by.now))) }
+    {
+        match by {
+            None => Ok(()),
+            Some(e) => {
+                self.word(Key::By)?;
+                self.blank()?;
+                self.expr(ANY, e)?;
+                self.blank()
+            }
+        }
+    }
+
+    // Writes the bounds and the step of a FOR, up to DO.
+    #[tactic(auto, using(crate::proofs::Extends::writing))]
+    fn bounds(&mut self, first: &Expr, last: &Expr, by: &Option<Expr>) -> Result<(), Memory>
+        ensures text { OnOk result (self.new ≡ extended self.old
+            (expr any_level (expr_tree first.now) ++ lexeme.blank ∷ lexeme.word keys.To ∷ lexeme.blank
+            ∷ (expr any_level (expr_tree last.now) ++ lexeme.blank ∷ (canonical.step (expr_tree_or_none by.now) ++ lexeme.word keys.Do ∷ [])))) }
+    {
+        self.expr(ANY, first)?;
+        self.spaced_word(Key::To)?;
+        self.expr(ANY, last)?;
+        self.blank()?;
+        self.step(by)?;
+        self.word(Key::Do)
+    }
+
+    // Writes the first line of a FOR.
+    #[tactic(auto, using(crate::proofs::Extends::writing))]
+    fn count_line(
+        &mut self,
+        level: u64,
+        name: &Text,
+        first: &Expr,
+        last: &Expr,
+        by: &Option<Expr>,
+    ) -> Result<(), Memory>
+        ensures text { OnOk result (self.new ≡ extended self.old (lexeme.line level
+            (lexeme.word keys.For ∷ lexeme.blank ∷ lexeme.name name.now ∷ lexeme.blank ∷ lexeme.symbol sym.Assign ∷ lexeme.blank
+            ∷ (expr any_level (expr_tree first.now) ++ lexeme.blank ∷ lexeme.word keys.To ∷ lexeme.blank
+            ∷ (expr any_level (expr_tree last.now) ++ lexeme.blank ∷ (canonical.step (expr_tree_or_none by.now) ++ lexeme.word keys.Do ∷ [])))))) }
+    {
+        self.indent(level)?;
+        self.word(Key::For)?;
+        self.blank()?;
+        self.target(name)?;
+        self.bounds(first, last, by)?;
+        self.line_end()
+    }
+}
+
+// Statements, with their bodies.
+impl Writer {
+    /// Writes statements at a level.
+    #[cycle(stmt)]
+    #[tactic(auto, using(crate::proofs::Extends::writing))]
+    pub fn stmts(&mut self, level: u64, stmts: &[Stmt]) -> Result<(), Memory>
+        ensures text { OnOk result (self.new ≡ extended self.old (canonical.stmts level (stmt_trees stmts.now))) }
+    {
+        for i in 0..stmts.len() {
+            self.stmt(level, &stmts[i])?;
+        }
+        Ok(())
+    }
+
+    #[cycle(stmt)]
+    #[tactic(auto, using(crate::proofs::Extends::writing))]
+    fn stmt(&mut self, level: u64, s: &Stmt) -> Result<(), Memory>
+        ensures text { OnOk result (self.new ≡ extended self.old (canonical.stmt level (stmt_tree s.now))) }
+    {
+        match s {
+            Stmt::Assign { name, value, .. } => self.assignment(level, name, value),
+            Stmt::If { arms, other } => {
+                trees_of_nodes();
+                self.arms(level, &arms.items)?;
+                self.other(level, other)?;
+                self.end(level, Key::EndIf)
+            }
+            Stmt::Case {
+                on,
+                branches,
+                other,
+                ..
+            } => {
+                trees_of_nodes();
+                self.head(level, Key::Case, on, Key::Of)?;
+                self.branches(level, &branches.items)?;
+                self.other(level, other)?;
+                self.end(level, Key::EndCase)
+            }
+            Stmt::For {
+                name,
+                first,
+                last,
+                by,
+                body,
+                ..
+            } => {
+                trees_of_nodes();
+                self.count_line(level, name, first, last, by)?;
+                self.stmts(deeper(level)?, &body.items)?;
+                self.end(level, Key::EndFor)
+            }
+        }
+    }
+
+    // Writes the conditions of an IF, with their bodies.
+    #[cycle(stmt)]
+    #[tactic(auto, using(crate::proofs::Extends::writing))]
+    fn arms(&mut self, level: u64, arms: &[Arm]) -> Result<(), Memory>
+        ensures text { OnOk result (self.new ≡ extended self.old (canonical.arms_from level keys.If (arm_trees arms.now))) }
+    {
+        for i in 0..arms.len() {
+            self.arm(level, arm_key(i), &arms[i])?;
+        }
+        Ok(())
+    }
+
+    #[cycle(stmt)]
+    #[tactic(auto, using(crate::proofs::Extends::writing))]
+    fn arm(&mut self, level: u64, key: Key, arm: &Arm) -> Result<(), Memory>
+        ensures text { OnOk result (self.new ≡ extended self.old
+            (lexeme.line level (lexeme.word key ∷ lexeme.blank ∷ (expr any_level (expr_tree arm.now.cond) ++ lexeme.blank ∷ lexeme.word keys.Then ∷ []))
+            ++ canonical.stmts (suc level) (stmt_trees arm.now.body.items.items))) }
+    {
+        self.head(level, key, &arm.cond, Key::Then)?;
+        self.stmts(deeper(level)?, &arm.body.items)
+    }
+
+    // Writes the branches of a CASE.
+    #[cycle(stmt)]
+    #[tactic(auto, using(crate::proofs::Extends::writing))]
+    fn branches(&mut self, level: u64, branches: &[Branch]) -> Result<(), Memory>
+        ensures text { OnOk result (self.new ≡ extended self.old (canonical.branches_of level (branch_trees branches.now))) }
+    {
+        for i in 0..branches.len() {
+            self.branch(level, &branches[i])?;
+        }
+        Ok(())
+    }
+
+    #[cycle(stmt)]
+    #[tactic(auto, using(crate::proofs::Extends::writing))]
+    fn branch(&mut self, level: u64, branch: &Branch) -> Result<(), Memory>
+        ensures text { OnOk result (self.new ≡ extended self.old
+            (lexeme.line (suc level) (canonical.labels (label_trees branch.now.labels.items.items) ++ lexeme.symbol sym.Colon ∷ [])
+            ++ canonical.stmts (suc (suc level)) (stmt_trees branch.now.body.items.items))) }
+    {
+        let of_labels = deeper(level)?;
+        self.labels_line(of_labels, &branch.labels.items)?;
+        self.stmts(deeper(of_labels)?, &branch.body.items)
+    }
+
+    // Writes ELSE with its body, where there is one.
+    #[cycle(stmt)]
+    #[tactic(auto, using(crate::proofs::Extends::writing))]
+    fn other(&mut self, level: u64, other: &Option<Stmts>) -> Result<(), Memory>
+        ensures text { OnOk result (self.new ≡ extended self.old (canonical.else_of level (other_tree other.now))) }
+    {
+        match other {
+            None => Ok(()),
+            Some(body) => {
+                self.keyword_line(level, Key::Else)?;
+                self.stmts(deeper(level)?, &body.items)
+            }
+        }
+    }
+}

@@ -1,0 +1,152 @@
+//! The text while it is written: lexemes go to its end, one by one.
+
+ghost use Rattle.std.specs.Prelude.{◌≡◌, ◌++◌, ◌∷◌, [], OnOk};
+ghost use Rattle.st_lexer.specs.Literals.{prefix};
+ghost use Rattle.st_writer.specs.Extended.{extended, separator};
+ghost use Rattle.st_writer.specs.Lexemes as lexeme;
+
+use itoa::Buffer;
+use st_lexer::{Key, Sym, key_spelling, symbol_spelling};
+use std::alloc::Global;
+use std::marker::Model;
+use vcp_base::{Memory, Text, Ty};
+
+/// A text that is written to its end, seen as the list of its bytes. After `Memory` nothing is
+/// known of it, and it is given up.
+#[derive(Drop)]
+pub struct Writer {
+    text: Vec<u8>,
+}
+
+impl Model for Writer {
+    ghost use Rattle.std.specs.Prelude.{List, ℕ};
+
+    ghost Value = { List ℕ };
+
+    ghost view = { λ w. w.text.items };
+}
+
+impl Writer {
+    /// A text without bytes. It takes no memory.
+    pub fn new(alloc: Global) -> Writer
+        ensures { result ≡ [] }
+    {
+        Writer {
+            text: Vec::new(alloc),
+        }
+    }
+
+    /// The text that was written. It takes no memory.
+    pub fn into_text(self) -> Text
+        ensures { result ≡ self }
+    {
+        Text::from_vec(self.text)
+    }
+
+    fn put(&mut self, bytes: &[u8]) -> Result<(), Memory>
+        ensures text { OnOk result (self.new ≡ self.old ++ bytes.now) }
+    {
+        self.text.extend_from_slice(bytes)?;
+        Ok(())
+    }
+
+    /// Writes a space.
+    pub fn blank(&mut self) -> Result<(), Memory>
+        ensures text { OnOk result (self.new ≡ extended self.old (lexeme.blank ∷ [])) }
+    {
+        self.put(b" ")
+    }
+
+    /// Ends a line.
+    pub fn line_end(&mut self) -> Result<(), Memory>
+        ensures text { OnOk result (self.new ≡ extended self.old (lexeme.line_end ∷ [])) }
+    {
+        self.put(b"\n")
+    }
+
+    /// Writes a reserved word.
+    pub fn word(&mut self, key: Key) -> Result<(), Memory>
+        ensures text { OnOk result (self.new ≡ extended self.old (lexeme.word key ∷ [])) }
+    {
+        self.put(key_spelling(key))
+    }
+
+    /// Writes a symbol.
+    pub fn symbol(&mut self, symbol: Sym) -> Result<(), Memory>
+        ensures text { OnOk result (self.new ≡ extended self.old (lexeme.symbol symbol ∷ [])) }
+    {
+        self.put(symbol_spelling(symbol))
+    }
+
+    /// Writes a name, as it stands in the tree.
+    pub fn name(&mut self, name: &Text) -> Result<(), Memory>
+        ensures text { OnOk result (self.new ≡ extended self.old (lexeme.name name.now ∷ [])) }
+    {
+        self.put(name.bytes())
+    }
+
+    // Writes what stands before the digits of a number: its type where it has one, and `#`.
+    fn prefix(&mut self, ty: Option<Ty>) -> Result<(), Memory>
+        ensures text { OnOk result (self.new ≡ self.old ++ prefix ty) }
+    {
+        match ty {
+            None => Ok(()),
+            Some(Ty::Bool) => self.put(b"BOOL#"),
+            Some(Ty::Int) => self.put(b"INT#"),
+            Some(Ty::Dint) => self.put(b"DINT#"),
+        }
+    }
+
+    /// Writes a number: its type where it has one, and its value in decimal digits.
+    pub fn number(&mut self, ty: Option<Ty>, value: i64) -> Result<(), Memory>
+        ensures text { OnOk result (self.new ≡ extended self.old (lexeme.number ty value ∷ [])) }
+    {
+        self.prefix(ty)?;
+        self.put(Buffer::new().format(value).as_bytes())
+    }
+
+    // Writes a literal of BOOL.
+    fn truth(&mut self, value: i64) -> Result<(), Memory>
+        ensures text { OnOk result (self.new ≡ extended self.old (lexeme.truth value ∷ [])) }
+    {
+        match value {
+            0 => self.word(Key::False),
+            1 => self.word(Key::True),
+            _ => self.number(Some(Ty::Bool), value),
+        }
+    }
+
+    /// Writes a literal.
+    pub fn literal(&mut self, ty: Option<Ty>, value: i64) -> Result<(), Memory>
+        ensures text { OnOk result (self.new ≡ extended self.old (lexeme.literal ty value ∷ [])) }
+    {
+        match ty {
+            Some(Ty::Bool) => self.truth(value),
+            Some(Ty::Int) => self.number(ty, value),
+            Some(Ty::Dint) => self.number(ty, value),
+            None => self.number(ty, value),
+        }
+    }
+
+    /// Writes what stands before item `i` of a list: nothing before the first, and a comma and a space
+    /// before each other.
+    pub fn separator(&mut self, i: usize) -> Result<(), Memory>
+        ensures text { OnOk result (self.new ≡ extended self.old (separator i)) }
+    {
+        if i == 0 {
+            return Ok(());
+        }
+        self.symbol(Sym::Comma)?;
+        self.blank()
+    }
+
+    /// Writes the indent of a line at a level.
+    pub fn indent(&mut self, level: u64) -> Result<(), Memory>
+        ensures text { OnOk result (self.new ≡ extended self.old (lexeme.indent level)) }
+    {
+        for _ in 0..level {
+            self.put(b"  ")?;
+        }
+        Ok(())
+    }
+}
