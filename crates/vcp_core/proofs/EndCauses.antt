@@ -6,9 +6,9 @@ use Rattle.vcp_base.specs.declared.ty.Ty.TheVariants as ty
 use Rattle.vcp_base.specs.Types.{fits}
 use Rattle.vcp_base.specs.declared.spot.Spot.{Spot}
 use Rattle.vcp_core.specs.declared.program.Term.{Term}
-use Rattle.vcp_core.specs.Answers.{Task, Answer, usage, lacks, refuses, runs, answer_of, run_read, run_meant, end_status}
+use Rattle.vcp_core.specs.Answers.{Task, Answer, usage, lacks, refuses, prints, runs, answer_of, run_read, run_meant, end_status}
 use Rattle.vcp_core.specs.Calls.{at}
-use Rattle.vcp_core.specs.Causes.{WasHonest, MeantStatus, RunsAsMeant, Causes}
+use Rattle.vcp_core.specs.Causes.{WasHonest, MeantStatus, RunsAsMeant, Gave, Causes}
 use Rattle.vcp_core.specs.Endings.{Ended, AnswerGiven, Ends, answers, files_failed, output_failed, errors_failed, no_memory}
 use Rattle.vcp_core.specs.Meaning.{operand_value, combined, sum_from, source_run}
 use Rattle.vcp_core.specs.Operations.{spot}
@@ -29,16 +29,25 @@ one_refused : (task : Task) (run : Run) → (answer_of task run).status ≡ 1 �
 one_refused usage run h = absurd (omega (arith, h))
 one_refused (lacks name) run h = absurd (omega (arith, h))
 one_refused (refuses line) run h = (line, refl)
+one_refused (prints text) run h = absurd (omega (arith, h))
 one_refused (runs terms rows) run h =
     elim (end_is_small run.end 1 h) [
       | inl e ↦ absurd (omega (arith, e))
       | inr f ↦ elim f [ inl e ↦ absurd (omega (arith, e)) | inr e ↦ absurd (omega (arith, e)) ]
     ]
 
+zero_done : (task : Task) (run : Run) → (answer_of task run).status ≡ 0 → ((text : List ℕ) × (task ≡ prints text)) ⊎ ((terms : List Term) × (rows : List (List ℤ)) × (task ≡ runs terms rows))
+zero_done usage run h = absurd (omega (arith, h))
+zero_done (lacks name) run h = absurd (omega (arith, h))
+zero_done (refuses line) run h = absurd (omega (arith, h))
+zero_done (prints text) run h = inl (text, refl)
+zero_done (runs terms rows) run h = inr (terms, rows, refl)
+
 five_lacking : (task : Task) (run : Run) → (answer_of task run).status ≡ 5 → (name : List ℕ) × (task ≡ lacks name)
 five_lacking usage run h = absurd (omega (arith, h))
 five_lacking (lacks name) run h = (name, refl)
 five_lacking (refuses line) run h = absurd (omega (arith, h))
+five_lacking (prints text) run h = absurd (omega (arith, h))
 five_lacking (runs terms rows) run h =
     elim (end_is_small run.end 5 h) [
       | inl e ↦ absurd (omega (arith, e))
@@ -49,6 +58,7 @@ two_stopped : (task : Task) (read meant : Run) → read ≡ meant → (answer_of
 two_stopped usage read meant is h = absurd (omega (arith, h))
 two_stopped (lacks name) read meant is h = absurd (omega (arith, h))
 two_stopped (refuses line) read meant is h = absurd (omega (arith, h))
+two_stopped (prints text) read meant is h = absurd (omega (arith, h))
 two_stopped (runs terms rows) read meant is h = end_is_stop meant.end (ap (λ (r : Run). end_status r.end) (sym is) ∙ h)
 
 -- one step of a sum
@@ -90,12 +100,27 @@ meant_stop : (task : Task) (read meant : Run) (status : ℕ) (why : StopKind) (s
 meant_stop usage read meant status why spot m is stops h = let e : (run_meant usage).end ≡ stopped why spot = ap (λ (r : Run). r.end) (sym m) ∙ stops in cc
 meant_stop (lacks name) read meant status why spot m is stops h = let e : (run_meant (lacks name)).end ≡ stopped why spot = ap (λ (r : Run). r.end) (sym m) ∙ stops in cc
 meant_stop (refuses line) read meant status why spot m is stops h = let e : (run_meant (refuses line)).end ≡ stopped why spot = ap (λ (r : Run). r.end) (sym m) ∙ stops in cc
+meant_stop (prints text) read meant status why spot m is stops h = let e : (run_meant (prints text)).end ≡ stopped why spot = ap (λ (r : Run). r.end) (sym m) ∙ stops in cc
 meant_stop (runs terms rows) read meant status why spot m is stops h = h ∙ ap end_status (ap (λ (r : Run). r.end) is ∙ stops)
+
+-- the defined answer of a task that comes to no run
+gave : (task given : Task) (text line : List ℕ) (code : ℕ) (e : Ended) → task ≡ given → ((run : Run) → answer_of given run ≡ record { out = text; err = line; status = code }) → AnswerGiven task e → Gave text line code e
+gave task given text line code e is answer a =
+    let same : answer_of task (run_read task a.cycles) ≡ record { out = text; err = line; status = code } = ap (λ t. answer_of t (run_read task a.cycles)) is ∙ answer (run_read task a.cycles) in
+    record {
+      status = a.status ∙ ap (λ (b : Answer). b.status) same;
+      out = rw (sym (ap (λ (b : Answer). b.out) same)) a.out;
+      err = rw (sym (ap (λ (b : Answer). b.err) same)) a.err;
+    }
 
 pub end_causes : (task : Task) (words : List (List ℕ)) (e : Ended) → Ends task words e → Causes task e
 end_causes task words e (answers a) = record {
+  zero_only = λ h. zero_done task (run_read task a.cycles) (sym a.status ∙ h);
+  zero = λ text is given. gave task (prints text) text [] 0 e is (λ run. refl) a;
+  zero_completes = λ text is nothing. inr (gave task (prints text) text [] 0 e is (λ run. refl) a);
   one_only = λ h. one_refused task (run_read task a.cycles) (sym a.status ∙ h);
-  one = λ line is given. (rw is at a.status, rw is at a.out, rw is at a.err);
+  one = λ line is given. gave task (refuses line) [] line 1 e is (λ run. refl) a;
+  one_completes = λ line is nothing. inr (gave task (refuses line) [] line 1 e is (λ run. refl) a);
   two_only = λ h honest. two_stopped task (run_read task a.cycles) (run_meant task) (a.honest honest.same honest.below) (sym a.status ∙ h);
   two = λ why spot stops honest given. meant_stop task (run_read task a.cycles) (run_meant task) e.status why spot refl (a.honest honest.same honest.below) stops a.status;
   five_only = λ h. let l = five_lacking task (run_read task a.cycles) (sym a.status ∙ h) in inr (l.0, l.1, rw l.1 at a.err);
@@ -104,8 +129,12 @@ end_causes task words e (answers a) = record {
   completes = λ terms rows is nothing honest. inr (as_meant terms rows task e is a honest);
 }
 end_causes task words e (files_failed b) = record {
+  zero_only = λ h. absurd (omega (arith, h, b.status));
+  zero = λ text is given. absurd (given.files b.status);
+  zero_completes = λ text is nothing. absurd (nothing.unbroken b.rose);
   one_only = λ h. absurd (omega (arith, h, b.status));
   one = λ line is given. absurd (given.files b.status);
+  one_completes = λ line is nothing. absurd (nothing.unbroken b.rose);
   two_only = λ h honest. absurd (omega (arith, h, b.status));
   two = λ why spot stops honest given. absurd (given.files b.status);
   five_only = λ h. inl b.rose;
@@ -114,8 +143,12 @@ end_causes task words e (files_failed b) = record {
   completes = λ terms rows is nothing honest. absurd (nothing.unbroken b.rose);
 }
 end_causes task words e (output_failed l) = record {
+  zero_only = λ h. absurd (omega (arith, h, l.status));
+  zero = λ text is given. absurd (given.sinks l.status);
+  zero_completes = λ text is nothing. absurd (nothing.out l.rose);
   one_only = λ h. absurd (omega (arith, h, l.status));
   one = λ line is given. absurd (given.sinks l.status);
+  one_completes = λ line is nothing. absurd (nothing.out l.rose);
   two_only = λ h honest. absurd (omega (arith, h, l.status));
   two = λ why spot stops honest given. absurd (given.sinks l.status);
   five_only = λ h. absurd (omega (arith, h, l.status));
@@ -124,8 +157,12 @@ end_causes task words e (output_failed l) = record {
   completes = λ terms rows is nothing honest. absurd (nothing.out l.rose);
 }
 end_causes task words e (errors_failed l) = record {
+  zero_only = λ h. absurd (omega (arith, h, l.status));
+  zero = λ text is given. absurd (given.sinks l.status);
+  zero_completes = λ text is nothing. absurd (nothing.err l.rose);
   one_only = λ h. absurd (omega (arith, h, l.status));
   one = λ line is given. absurd (given.sinks l.status);
+  one_completes = λ line is nothing. absurd (nothing.err l.rose);
   two_only = λ h honest. absurd (omega (arith, h, l.status));
   two = λ why spot stops honest given. absurd (given.sinks l.status);
   five_only = λ h. absurd (omega (arith, h, l.status));
@@ -134,8 +171,12 @@ end_causes task words e (errors_failed l) = record {
   completes = λ terms rows is nothing honest. absurd (nothing.err l.rose);
 }
 end_causes task words e (no_memory l) = record {
+  zero_only = λ h. absurd (omega (arith, h, l.status));
+  zero = λ text is given. absurd (given.memory l.status);
+  zero_completes = λ text is nothing. inl l.status;
   one_only = λ h. absurd (omega (arith, h, l.status));
   one = λ line is given. absurd (given.memory l.status);
+  one_completes = λ line is nothing. inl l.status;
   two_only = λ h honest. absurd (omega (arith, h, l.status));
   two = λ why spot stops honest given. absurd (given.memory l.status);
   five_only = λ h. absurd (omega (arith, h, l.status));

@@ -1,5 +1,7 @@
 pub mod EndCauses
 pub mod Ending
+pub mod FormatEnding
+pub mod FormatTasks
 pub mod Growth
 pub mod HeaderFirst
 pub mod HonestCycle
@@ -8,6 +10,7 @@ pub mod HonestRuns
 pub mod LineSteps
 pub mod Means
 pub mod NumeralSteps
+pub mod OneTask
 pub mod PiecesCut
 pub mod ProgramLinks
 pub mod RecordSteps

@@ -1,5 +1,5 @@
 -- Worked rows, computed by the definitions alone.
-use Rattle.std.proofs.Common.{◌≡◌, cond, refl, List, [], ◌∷◌, map, Some, None, pos, negsuc, codes, bytes_eq}
+use Rattle.std.proofs.Common.{◌≡◌, cond, refl, lit≤, List, [], ◌∷◌, map, Some, None, pos, negsuc, codes, bytes_eq}
 use Rattle.std.specs.Fmt.{digits}
 use Rattle.vcp_base.specs.declared.kind.Kind.TheVariants as kind
 use Rattle.vcp_base.specs.declared.kind.StopKind.TheVariants as stop
@@ -10,14 +10,19 @@ use Rattle.coded_unit.specs.Log.{Entry}
 use Rattle.coded_unit.specs.Right.{Right}
 use Rattle.coded_unit.specs.Words.{modulo, value_part, coded}
 use Rattle.vcp_outside.specs.Held.{Held}
+use Rattle.st_lexer.specs.declared.fault.Reason.TheVariants as reason
+use Rattle.st_lexer.specs.Reading.{opening}
+use Rattle.st_lexer.specs.Spots.{spot_after}
+use Rattle.st_lexer.specs.Symbols.{symbol_among}
 use Rattle.vcp_core.specs.declared.operation.Op.{Op}
 use Rattle.vcp_core.specs.declared.program.Term.{Term}
 use Rattle.vcp_core.specs.declared.program.Sign.TheVariants.{Plus}
 use Rattle.vcp_core.specs.declared.program.Operand.TheVariants as operand
-use Rattle.vcp_core.specs.Answers.{usage, lacks, refuses, task_of}
+use Rattle.vcp_core.specs.Answers.{usage, lacks, refuses}
 use Rattle.vcp_core.specs.Calls.{call_of}
+use Rattle.vcp_core.specs.Comes.{unreadable, TaskOf}
 use Rattle.vcp_core.specs.GraphRun.{graph_run}
-use Rattle.vcp_core.specs.Lines.{run_text}
+use Rattle.vcp_core.specs.Lines.{run_text, spot_text}
 use Rattle.vcp_core.specs.Log.{setting_at, calls_over, run_of_answers}
 use Rattle.vcp_core.specs.Meaning.{source_run}
 use Rattle.vcp_core.specs.Operations.{operations, spot}
@@ -109,11 +114,32 @@ inputs_are_called = refl
 abbrev only_rows : Held
 only_rows name = cond (bytes_eq name (codes "r")) (Some (codes "x\n")) None
 
-words_without_rows : task_of (codes "run" ∷ codes "p" ∷ []) only_rows ≡ usage
+words_without_rows : TaskOf (codes "run" ∷ codes "p" ∷ []) only_rows usage
 words_without_rows = refl
 
-source_is_lacking : task_of (codes "run" ∷ codes "p" ∷ codes "r" ∷ []) only_rows ≡ lacks (codes "p")
+source_is_lacking : TaskOf (codes "run" ∷ codes "p" ∷ codes "r" ∷ []) only_rows (lacks (codes "p"))
 source_is_lacking = refl
 
-source_is_refused : task_of (codes "run" ∷ codes "r" ∷ codes "r" ∷ []) only_rows ≡ refuses (codes "r N1 Unbuilt\n")
+source_is_refused : TaskOf (codes "run" ∷ codes "r" ∷ codes "r" ∷ []) only_rows (refuses (codes "r N1 Unbuilt\n"))
 source_is_refused = refl
+
+text_is_lacking : TaskOf (codes "format" ∷ codes "p" ∷ []) only_rows (lacks (codes "p"))
+text_is_lacking = refl
+
+format_without_name : TaskOf (codes "format" ∷ []) only_rows usage
+format_without_name = refl
+
+format_with_two_names : TaskOf (codes "format" ∷ codes "p" ∷ codes "r" ∷ []) only_rows usage
+format_with_two_names = refl
+
+-- a text that begins with `{`
+abbrev no_byte : Held
+no_byte name = Some (codes "{")
+
+byte_is_refused : TaskOf (codes "format" ∷ codes "p.st" ∷ []) no_byte (refuses (codes "p.st:1:1 S1 Byte\n"))
+unfolding digits opening symbol_among spot_after
+byte_is_refused = unreadable reason.Byte (record { line = 1; col = 1 }) (0, ([], refl, lit≤ tt, refl), refl)
+
+spot_is_printed : spot_text (codes "p.st") (record { line = 1; col = 16 }) (codes "S4 Syntax") ≡ codes "p.st:1:16 S4 Syntax\n"
+unfolding digits
+spot_is_printed = refl

@@ -50,11 +50,13 @@ abbrev pub is_file_name : List ℕ → Bool
 is_file_name [] = false
 is_file_name (b ∷ bytes) = not (b == 45)
 
--- What words and files come to: the usage line; a name that is lacking; a file that is refused, by its line; or a run of a program on rows.
+-- What words and files come to: the usage line; a name that is lacking; a file that is refused, by its line; a text that
+-- is printed; or a run of a program on rows.
 pub data Task : Type 0 where
   usage : Task
   lacks : List ℕ → Task
   refuses : List ℕ → Task
+  prints : List ℕ → Task
   runs : List Term → List (List ℤ) → Task
 
 -- a file that is held and has no more bytes than the limit
@@ -95,10 +97,6 @@ second_name _ = []
 abbrev pub run_task : List ℕ → List ℕ → Held → Task
 run_task source rows held = with_file source source_limit (λ bytes. source_task source rows held (terms_of bytes)) (held source)
 
--- what words come to, where this is held: the run that they say, or the usage line where they are none of the forms
-abbrev pub task_of : List (List ℕ) → Held → Task
-task_of words held = cond (is_run words) (run_task (first_name words) (second_name words) held) usage
-
 -- what is written to the two sinks, and the status
 pub record Answer : Type 0 where
   pub out : List ℕ
@@ -120,6 +118,7 @@ abbrev pub answer_of : Task → Run → Answer
 answer_of usage run = record { out = []; err = usage_text; status = 4 }
 answer_of (lacks name) run = record { out = []; err = read_fault_text name; status = 5 }
 answer_of (refuses line) run = record { out = []; err = line; status = 1 }
+answer_of (prints text) run = record { out = text; err = []; status = 0 }
 answer_of (runs terms rows) run = record { out = run_text output_names run; err = []; status = end_status run.end }
 
 -- the seed of the signatures where the words give none

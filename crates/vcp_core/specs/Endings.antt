@@ -1,5 +1,5 @@
 -- How the program ends, by what the objects that were handed in tell before and after.
-use Rattle.std.specs.Prelude.{ℕ, ◌≡◌, ◌⊎◌, ◌<◌, ◌-◌, ◌^◌, List, [], Option}
+use Rattle.std.specs.Prelude.{ℕ, ◌≡◌, ◌⊎◌, ◌<◌, ◌-◌, ◌^◌, true, List, [], Option}
 use Rattle.std.specs.Io.KnownBytes.{Appends}
 use Rattle.coded_unit.specs.declared.call.Answer.{Answer as Given}
 use Rattle.coded_unit.specs.Log.{Entry, GrowsBy}
@@ -8,7 +8,7 @@ use Rattle.vcp_outside.specs.Written.{AppendsPart}
 use Rattle.vcp_core.specs.declared.cycle_end.CycleEnd.{CycleEnd}
 use Rattle.vcp_core.specs.declared.cycle_end.CycleEnd.TheVariants as end
 use Rattle.vcp_core.specs.Runs.{Run}
-use Rattle.vcp_core.specs.Answers.{Task, answer_of, run_read, run_read_then, MayCome, run_meant, calls_of, AllAnswers, SomeAnswers, EarlierPrinted, first_name, second_name, read_fault_text, write_fault_text, memory_text, usage_text}
+use Rattle.vcp_core.specs.Answers.{Task, answer_of, run_read, run_read_then, MayCome, run_meant, calls_of, AllAnswers, SomeAnswers, EarlierPrinted, is_run, first_name, second_name, read_fault_text, write_fault_text, memory_text, usage_text}
 
 -- What is told before and after: the unit's log and count of wrong answers, what was written to the two sinks with their
 -- counts of faults, and the count of the files that broke; and the status.
@@ -42,9 +42,9 @@ pub record AnswerGiven (task : Task) (e : Ended) : Type 0 where
   pub status : e.status ≡ (answer_of task (run_read task cycles)).status
   pub honest : e.wrong_new ≡ e.wrong_old → e.wrong_old < 2 ^ 64 - 1 → run_read task cycles ≡ run_meant task
 
--- a name is one of the two file words
+-- a name is a file word: P, or in the words `run P ROWS` also ROWS
 abbrev pub IsFileWord : List (List ℕ) → List ℕ → Type 0
-IsFileWord words name = (name ≡ first_name words) ⊎ (name ≡ second_name words)
+IsFileWord words name = (name ≡ first_name words) ⊎ ((is_run words ≡ true) × (name ≡ second_name words))
 
 -- The files broke before the unit was called: nothing was written but the line of a read fault of one of the file words.
 pub record FilesFailed (words : List (List ℕ)) (e : Ended) : Type 0 where
@@ -95,6 +95,24 @@ pub data Ends (task : Task) (words : List (List ℕ)) (e : Ended) : Type 0 where
   output_failed : OutputFailed task e → Ends task words e
   errors_failed : ErrorsFailed task words e → Ends task words e
   no_memory : NoMemory e → Ends task words e
+
+-- The sink of the errors failed in the line of a read fault, where the files broke, or of want of memory; nothing else was
+-- done.
+pub record LineFailed (words : List (List ℕ)) (e : Ended) : Type 0 where
+  pub status : e.status ≡ 6
+  pub rose : Rose e.err_faults_old e.err_faults_new
+  pub line : List ℕ
+  pub line_is : (Rose e.broken_old e.broken_new × ((name : List ℕ) × IsFileWord words name × (line ≡ read_fault_text name))) ⊎ (line ≡ memory_text)
+  pub log : GrowsBy e.log_old e.log_new []
+  pub out : Appends e.out_old e.out_new []
+  pub err : AppendsPart e.err_old e.err_new line
+
+-- The words were given up before it was known what they come to: the files broke or memory was wanted, and its line was
+-- printed, or the sink of the errors failed in it.
+pub data GivenUp (words : List (List ℕ)) (e : Ended) : Type 0 where
+  unread : FilesFailed words e → GivenUp words e
+  unmade : NoMemory e → GivenUp words e
+  untold : LineFailed words e → GivenUp words e
 
 -- the status of a run whose last cycle ended so
 abbrev pub cycle_status : CycleEnd → ℕ

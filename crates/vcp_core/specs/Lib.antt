@@ -1,11 +1,15 @@
+pub mod Answered
 pub mod Answers
 pub mod Calls
 pub mod Carried
 pub mod Carries
 pub mod Causes
+pub mod Comes
 pub mod Cuts
+pub mod Commands
 pub mod CycleEnds
 pub mod Endings
+pub mod FormatReach
 pub mod GraphRun
 pub mod Honest
 pub mod Lines

@@ -56,3 +56,8 @@ last_text names n (refused number found wanted) = refused_text n (slice_index_or
 -- all lines of a run, where the outputs have these names
 abbrev pub run_text : List (List ℕ) → Run → List ℕ
 run_text names run = header_text names ++ (rows_text 0 run.rows ++ last_text names (length run.rows) run.end)
+
+-- a fault at a place of a source: the file's name, the place, and the fault's code and name
+abbrev pub spot_text : List ℕ → Spot → List ℕ → List ℕ
+spot_text name spot what =
+    name ++ (codes ":" ++ (decimal spot.line ++ (codes ":" ++ (decimal spot.col ++ (codes " " ++ (what ++ codes "\n"))))))

@@ -1,5 +1,5 @@
 -- How far the command `run` comes before its fault's line, if there is one, is printed.
-use Rattle.std.specs.Prelude.{ℕ, ◌≡◌, ◌⊎◌, ◌<◌, ◌≤◌, List, [], length, Option, Some, None, Result, Ok, Err, ℤ}
+use Rattle.std.specs.Prelude.{ℕ, ◌≡◌, ◌⊎◌, ◌<◌, ◌≤◌, List, [], length, Option, Some, None, Result, Ok, Err, ℤ, codes}
 use Rattle.std.specs.Io.KnownBytes.{Appends}
 use Rattle.coded_unit.specs.Log.{Entry, GrowsBy}
 use Rattle.vcp_outside.specs.Counts.{Rose}
@@ -10,10 +10,12 @@ use Rattle.vcp_core.specs.declared.fault.Fault.{Fault}
 use Rattle.vcp_core.specs.declared.fault.Fault.TheVariants as fault
 use Rattle.vcp_core.specs.declared.fault.FileWord.{FileWord}
 use Rattle.vcp_core.specs.declared.fault.FileWord.TheVariants as word
+use Rattle.vcp_core.specs.declared.fault.Refusal.{Refusal}
+use Rattle.vcp_core.specs.declared.fault.Refusal.TheVariants as refusal
 use Rattle.vcp_core.specs.declared.program.Term.{Term}
 use Rattle.vcp_core.specs.Answers.{Task, lacks, refuses, runs, run_task, rows_file_task, output_names, default_seed, default_step, bytes_text, unbuilt_text, read_fault_text, write_fault_text, memory_text}
 use Rattle.vcp_core.specs.Carries.{RunsOver}
-use Rattle.vcp_core.specs.Lines.{header_text, run_text}
+use Rattle.vcp_core.specs.Lines.{header_text, run_text, spot_text}
 use Rattle.vcp_core.specs.Meaning.{TermsFit, RowsFit}
 use Rattle.vcp_core.specs.Operations.{operations}
 
@@ -61,6 +63,7 @@ FileRead held name limit w before now (Err (fault.Read v)) = (v ≡ w) × ((held
 FileRead held name limit w before now (Err (fault.TooLong v)) = (v ≡ w) × ((bytes : List ℕ) × (held name ≡ Some bytes) × (limit < length bytes))
 FileRead held name limit w before now (Err fault.Memory) = Unit {0}
 FileRead held name limit w before now (Err (fault.Unbuilt v)) = ⊥
+FileRead held name limit w before now (Err (fault.Refused why spot)) = ⊥
 FileRead held name limit w before now (Err fault.Write) = ⊥
 
 -- the terms of the program under a name: the task goes on to the rows with them
@@ -72,6 +75,7 @@ abbrev pub NoTerms : Held → List ℕ → ℕ → ℕ → Fault → Type 0
 NoTerms held source before now (fault.Read w) = (w ≡ word.Source) × (((rows : List ℕ) → run_task source rows held ≡ lacks source) ⊎ Rose before now)
 NoTerms held source before now (fault.TooLong w) = (w ≡ word.Source) × ((rows : List ℕ) → run_task source rows held ≡ refuses (bytes_text source))
 NoTerms held source before now (fault.Unbuilt w) = (w ≡ word.Source) × ((rows : List ℕ) → run_task source rows held ≡ refuses (unbuilt_text source))
+NoTerms held source before now (fault.Refused why spot) = ⊥
 NoTerms held source before now fault.Memory = Unit {0}
 NoTerms held source before now fault.Write = ⊥
 
@@ -83,6 +87,7 @@ RunsProgram terms rows s (Err fault.Memory) = Untouched s
 RunsProgram terms rows s (Err (fault.Read w)) = ⊥
 RunsProgram terms rows s (Err (fault.TooLong w)) = ⊥
 RunsProgram terms rows s (Err (fault.Unbuilt w)) = ⊥
+RunsProgram terms rows s (Err (fault.Refused why spot)) = ⊥
 
 -- how far the command came
 abbrev pub Reaches : Task → List ℕ → List ℕ → BeforeAndAfter → ℕ → ℕ → Result CycleEnd Fault → Type 0
@@ -90,14 +95,24 @@ Reaches task source rows s before now (Ok e) = RunsTask task s (Ok e)
 Reaches task source rows s before now (Err (fault.Read w)) = Untouched s × ((task ≡ lacks (name_of source rows w)) ⊎ Rose before now)
 Reaches task source rows s before now (Err (fault.TooLong w)) = Untouched s × (task ≡ refuses (bytes_text (name_of source rows w)))
 Reaches task source rows s before now (Err (fault.Unbuilt w)) = Untouched s × (task ≡ refuses (unbuilt_text (name_of source rows w)))
+Reaches task source rows s before now (Err (fault.Refused why spot)) = ⊥
 Reaches task source rows s before now (Err fault.Write) = (why : Failed) × RunsTask task s (Err why)
 Reaches task source rows s before now (Err fault.Memory) = Untouched s
+
+-- the code and name of a refusal
+abbrev pub refusal_code : Refusal → List ℕ
+refusal_code refusal.Byte = codes "S1 Byte"
+refusal_code refusal.Comment = codes "S2 Comment"
+refusal_code refusal.Number = codes "S3 Number"
+refusal_code refusal.Syntax = codes "S4 Syntax"
+refusal_code refusal.Depth = codes "S5 Depth"
 
 -- the line of a fault
 abbrev pub fault_line : List ℕ → List ℕ → Fault → List ℕ
 fault_line source rows (fault.Read w) = read_fault_text (name_of source rows w)
 fault_line source rows (fault.TooLong w) = bytes_text (name_of source rows w)
 fault_line source rows (fault.Unbuilt w) = unbuilt_text (name_of source rows w)
+fault_line source rows (fault.Refused why spot) = spot_text source spot (refusal_code why)
 fault_line source rows fault.Write = write_fault_text
 fault_line source rows fault.Memory = memory_text
 
@@ -106,5 +121,6 @@ abbrev pub fault_status : Fault → ℕ
 fault_status (fault.Read w) = 5
 fault_status (fault.TooLong w) = 1
 fault_status (fault.Unbuilt w) = 1
+fault_status (fault.Refused why spot) = 1
 fault_status fault.Write = 6
 fault_status fault.Memory = 7

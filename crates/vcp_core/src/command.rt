@@ -1,12 +1,12 @@
-//! The command `run P ROWS`, up to the line of its fault.
+//! The command `run`, up to the line of its fault.
 
-ghost use Rattle.std.specs.Prelude.{◌≡◌, ◌<◌, ◌≤◌, ◌^◌, IfSome, IfOk, OnOk, Ok, Err, MatchResult, length, ℕ, List};
+ghost use Rattle.std.specs.Prelude.{◌≡◌, ◌≤◌, IfSome, IfOk, OnOk, Ok, Err, MatchResult, length, ℕ, List};
 ghost use Rattle.std.specs.Io.KnownBytes.{IsAtEnd};
 ghost use Rattle.vcp_base.specs.declared.kind.StopKind.{StopKind as StopKindOf};
 ghost use Rattle.vcp_outside.specs.Counts.{Rose};
 ghost use Rattle.vcp_core.specs.Answers.{run_task, rows_file_task};
 ghost use Rattle.vcp_core.specs.Meaning.{TermsFit};
-ghost use Rattle.vcp_core.specs.Reach.{FileRead, TermsGiven, NoTerms, RunsProgram, Reaches};
+ghost use Rattle.vcp_core.specs.Reach.{TermsGiven, NoTerms, RunsProgram, Reaches};
 ghost use Rattle.vcp_core.specs.Stops.{GrowsByStop};
 ghost use Rattle.vcp_core.specs.declared.cycle_end.CycleEnd.TheVariants as end;
 ghost use Rattle.vcp_core.specs.declared.fault.Fault.TheVariants as fault;
@@ -17,46 +17,19 @@ use crate::cycle_end::CycleEnd;
 use crate::fault::{Fault, FileWord};
 use crate::lines::header_line;
 use crate::program::Term;
+use crate::reading::{SOURCE_LIMIT, read_file};
 use crate::rows_file::Rows;
 use crate::running::{Registers, run_rows};
 use crate::signature::DEFAULT_CODE;
 use crate::source::read_source;
-use crate::words::RunWords;
+use crate::words::FileWords;
 use coded_unit::Unit;
 use std::alloc::Global;
 use vcp_base::{Memory, Text};
-use vcp_outside::{Files, ReadAll, Sink, read_all};
-
-/// The most bytes of a source.
-const SOURCE_LIMIT: u64 = 1048576;
+use vcp_outside::{Files, Sink};
 
 /// The most bytes of a rows file.
 const ROWS_LIMIT: u64 = 67108864;
-
-/// Reads a file word's file whole.
-fn read_file<F: Files>(
-    alloc: Global,
-    files: &mut F,
-    name: &Text,
-    limit: u64,
-    word: FileWord,
-) -> Result<Text, Fault>
-    requires { limit < 2 ^ 32 }
-    ensures held { F.held files.new ≡ F.held files.old }
-    ensures reads { IfSome (F.held files.old) (λ h. FileRead h name.now limit word (F.broken files.old) (F.broken files.new) result) }
-    ensures later { F.faults files.old ≤ F.faults files.new }
-    ensures ended { OnOk result (IsAtEnd (F.rest files.new)) }
-    ensures broken_later { F.broken files.old ≤ F.broken files.new }
-    ensures read { (w : FileWordOf) → result ≡ Err (fault.Read w) → Rose (F.faults files.old) (F.faults files.new) }
-    ensures write { result ≡ Err fault.Write → ⊥ }
-{
-    match read_all(alloc, files, name.bytes(), limit) {
-        Ok(text) => Ok(text),
-        Err(ReadAll::Failed) => Err(Fault::Read(word)),
-        Err(ReadAll::TooLong) => Err(Fault::TooLong(word)),
-        Err(ReadAll::Memory) => Err(Fault::Memory),
-    }
-}
 
 /// The terms of the program under a name.
 fn load_terms<F: Files>(alloc: Global, files: &mut F, name: &Text) -> Result<Vec<Term>, Fault>
@@ -148,7 +121,7 @@ fn run_on_rows<F: Files, U: Unit, O: Sink>(
 /// its refusals, then ROWS, and then the cycles are run.
 pub fn run_command<F: Files, U: Unit, O: Sink>(
     alloc: Global,
-    words: &RunWords<'_>,
+    words: &FileWords<'_>,
     files: &mut F,
     unit: &mut U,
     out: &mut O,

@@ -7,12 +7,15 @@ mod carrying;
 mod command;
 mod cycle_end;
 mod fault;
+mod formatting;
+mod laws;
 mod lines;
 mod numeral;
 mod operation;
 mod parts;
 mod pieces;
 mod program;
+mod reading;
 mod rows_file;
 mod running;
 mod signature;
@@ -21,7 +24,10 @@ mod telling;
 mod top;
 mod words;
 
+pub use laws::one_task;
 pub use top::vcp;
 
+#[cfg(test)]
+mod format_tests;
 #[cfg(test)]
 mod tests;

@@ -1,16 +1,19 @@
 //! The top call.
 
-ghost use Rattle.std.specs.Prelude.{◌≡◌, ◌≤◌, ◌⊎◌, false, IfSome};
+ghost use Rattle.std.specs.Prelude.{◌≡◌, ◌≢◌, ◌≤◌, ◌⊎◌, true, false, IfSome, IsSome, Option, List, ℕ};
 ghost use Rattle.std.specs.Io.KnownBytes.{IsAtEnd};
+ghost use Rattle.coded_unit.specs.Log.{Entry};
 ghost use Rattle.vcp_outside.specs.Counts.{Rose};
-ghost use Rattle.vcp_core.specs.Answers.{task_of, is_run};
-ghost use Rattle.vcp_core.specs.Causes.{Causes};
-ghost use Rattle.vcp_core.specs.Endings.{Ends, TellsUsage};
+ghost use Rattle.vcp_core.specs.Answered.{Answered};
+ghost use Rattle.vcp_core.specs.Answers.{is_run, first_name, second_name};
+ghost use Rattle.vcp_core.specs.Comes.{is_format, is_form};
+ghost use Rattle.vcp_core.specs.Endings.{TellsUsage};
 ghost use Rattle.vcp_core.specs.Stops.{GrowsByStop};
 
 use crate::command::run_command;
+use crate::formatting::format_command;
 use crate::telling::{cycle_status, fault_status, tell, tell_usage};
-use crate::words::run_words;
+use crate::words::{Command, FileWords, command_of};
 use coded_unit::Unit;
 use std::alloc::Global;
 use vcp_base::Words;
@@ -21,7 +24,7 @@ use vcp_outside::{Failed, Files, Sink};
 ///
 /// | status | comes |
 /// |---|---|
-/// | 0 | the run came to the end of its rows |
+/// | 0 | the text was printed, or the run came to the end of its rows |
 /// | 1 | a file is refused |
 /// | 2 | the run stopped |
 /// | 3 | an output was refused |
@@ -39,24 +42,7 @@ pub fn vcp<F: Files, U: Unit, O: Sink, E: Sink>(
 ) -> u8
     // Where it is told what is held: the defined answer, or what kept it from being given; and the
     // cause of each status.
-    ensures ends { IfSome (F.held files.old) (λ h. Ends (task_of words.now h) words.now (record {
-      log_old = U.log unit.old;
-      log_new = U.log unit.new;
-      wrong_old = U.wrong unit.old;
-      wrong_new = U.wrong unit.new;
-      out_old = O.written out.old;
-      out_new = O.written out.new;
-      out_faults_old = O.faults out.old;
-      out_faults_new = O.faults out.new;
-      err_old = E.written err.old;
-      err_new = E.written err.new;
-      err_faults_old = E.faults err.old;
-      err_faults_new = E.faults err.new;
-      broken_old = F.broken files.old;
-      broken_new = F.broken files.new;
-      status = result;
-    })) }
-    ensures causes { IfSome (F.held files.old) (λ h. Causes (task_of words.now h) (record {
+    ensures answered { IfSome (F.held files.old) (λ h. Answered words.now h (record {
       log_old = U.log unit.old;
       log_new = U.log unit.new;
       wrong_old = U.wrong unit.old;
@@ -75,10 +61,16 @@ pub fn vcp<F: Files, U: Unit, O: Sink, E: Sink>(
     })) }
 
     // Words that are none of the forms get the usage line, and nothing else is done; no other words do.
-    ensures usage { is_run words.now ≡ false → TellsUsage (E.written err.old) (E.written err.new) (E.faults err.old) (E.faults err.new) result }
-    ensures usage_alone { is_run words.now ≡ false → (U.log unit.new ≡ U.log unit.old) × (U.wrong unit.new ≡ U.wrong unit.old) × (O.written out.new ≡ O.written out.old) × (O.faults out.new ≡ O.faults out.old) }
-    ensures usage_reads_nothing { is_run words.now ≡ false → (F.rest files.new ≡ F.rest files.old) × (F.faults files.new ≡ F.faults files.old) × (F.broken files.new ≡ F.broken files.old) }
-    ensures usage_only { result ≡ 4 → is_run words.now ≡ false }
+    ensures usage { is_form words.now ≡ false → TellsUsage (E.written err.old) (E.written err.new) (E.faults err.old) (E.faults err.new) result }
+    ensures usage_alone { is_form words.now ≡ false → (U.log unit.new ≡ U.log unit.old) × (U.wrong unit.new ≡ U.wrong unit.old) × (O.written out.new ≡ O.written out.old) × (O.faults out.new ≡ O.faults out.old) }
+    ensures usage_reads_nothing { is_form words.now ≡ false → (F.rest files.new ≡ F.rest files.old) × (F.faults files.new ≡ F.faults files.old) × (F.broken files.new ≡ F.broken files.old) }
+    ensures usage_only { result ≡ 4 → is_form words.now ≡ false }
+
+    // The words `format P` call no unit, and end with none of a run's statuses. Where P is held, nothing
+    // failed and no memory was wanted, it is refused or printed.
+    ensures format_alone { is_format words.now ≡ true → (U.log unit.new ≡ U.log unit.old) × (U.wrong unit.new ≡ U.wrong unit.old) }
+    ensures format_statuses { is_format words.now ≡ true → (result ≢ 2) × (result ≢ 3) }
+    ensures format_completes { IfSome (F.held files.old) (λ h. is_format words.now ≡ true → IsSome (h (first_name words.now)) → ¬ Rose (F.broken files.old) (F.broken files.new) → ¬ Rose (O.faults out.old) (O.faults out.new) → ¬ Rose (E.faults err.old) (E.faults err.new) → (result ≤ 1) ⊎ (result ≡ 7)) }
 
     // What holds whatever the files tell. The clause `stopped` speaks where the log is told, and `ended`
     // where it is told what is unread.
@@ -102,7 +94,7 @@ fn serve<F: Files, U: Unit, O: Sink, E: Sink>(
     out: &mut O,
     err: &mut E,
 ) -> u8
-    ensures ends { IfSome (F.held files.old) (λ h. Ends (task_of words.now h) words.now (record {
+    ensures answered { IfSome (F.held files.old) (λ h. Answered words.now h (record {
       log_old = U.log unit.old;
       log_new = U.log unit.new;
       wrong_old = U.wrong unit.old;
@@ -119,10 +111,12 @@ fn serve<F: Files, U: Unit, O: Sink, E: Sink>(
       broken_new = F.broken files.new;
       status = result;
     })) }
-    ensures usage { is_run words.now ≡ false → TellsUsage (E.written err.old) (E.written err.new) (E.faults err.old) (E.faults err.new) result }
-    ensures usage_alone { is_run words.now ≡ false → (U.log unit.new ≡ U.log unit.old) × (U.wrong unit.new ≡ U.wrong unit.old) × (O.written out.new ≡ O.written out.old) × (O.faults out.new ≡ O.faults out.old) }
-    ensures usage_reads_nothing { is_run words.now ≡ false → (F.rest files.new ≡ F.rest files.old) × (F.faults files.new ≡ F.faults files.old) × (F.broken files.new ≡ F.broken files.old) }
-    ensures usage_only { result ≡ 4 → is_run words.now ≡ false }
+    ensures usage { is_form words.now ≡ false → TellsUsage (E.written err.old) (E.written err.new) (E.faults err.old) (E.faults err.new) result }
+    ensures usage_alone { is_form words.now ≡ false → (U.log unit.new ≡ U.log unit.old) × (U.wrong unit.new ≡ U.wrong unit.old) × (O.written out.new ≡ O.written out.old) × (O.faults out.new ≡ O.faults out.old) }
+    ensures usage_reads_nothing { is_form words.now ≡ false → (F.rest files.new ≡ F.rest files.old) × (F.faults files.new ≡ F.faults files.old) × (F.broken files.new ≡ F.broken files.old) }
+    ensures usage_only { result ≡ 4 → is_form words.now ≡ false }
+    ensures format_alone { is_format words.now ≡ true → (U.log unit.new ≡ U.log unit.old) × (U.wrong unit.new ≡ U.wrong unit.old) }
+    ensures format_statuses { is_format words.now ≡ true → (result ≢ 2) × (result ≢ 3) }
     ensures known { result ≤ 7 }
     ensures held { F.held files.new ≡ F.held files.old }
     ensures ended { result ≡ 0 → IsAtEnd (F.rest files.new) }
@@ -131,15 +125,104 @@ fn serve<F: Files, U: Unit, O: Sink, E: Sink>(
     ensures read { result ≡ 5 → Rose (F.faults files.old) (F.faults files.new) }
     ensures write { result ≡ 6 → Rose (O.faults out.old) (O.faults out.new) ⊎ Rose (E.faults err.old) (E.faults err.new) }
 {
-    let Some(names) = run_words(words) else {
-        return match tell_usage(err) {
+    match command_of(words) {
+        Some(Command::Run(names)) => serve_run(alloc, words, &names, files, unit, out, err),
+        Some(Command::Format(names)) => serve_format(alloc, words, &names, files, out, err),
+        None => match tell_usage(err) {
             Ok(()) => 4,
             Err(Failed) => 6,
-        };
-    };
-    match run_command(alloc, &names, files, unit, out) {
+        },
+    }
+}
+
+/// Runs a program and, where it ends by a fault, tells the fault's line.
+fn serve_run<F: Files, U: Unit, O: Sink, E: Sink>(
+    alloc: Global,
+    words: &Words,
+    names: &FileWords<'_>,
+    files: &mut F,
+    unit: &mut U,
+    out: &mut O,
+    err: &mut E,
+) -> u8
+    requires form { is_run words.now ≡ true }
+    requires source { names.now.source.now ≡ first_name words.now }
+    requires rows { names.now.rows.now ≡ second_name words.now }
+    ensures answered { IfSome (F.held files.old) (λ h. Answered words.now h (record {
+      log_old = U.log unit.old;
+      log_new = U.log unit.new;
+      wrong_old = U.wrong unit.old;
+      wrong_new = U.wrong unit.new;
+      out_old = O.written out.old;
+      out_new = O.written out.new;
+      out_faults_old = O.faults out.old;
+      out_faults_new = O.faults out.new;
+      err_old = E.written err.old;
+      err_new = E.written err.new;
+      err_faults_old = E.faults err.old;
+      err_faults_new = E.faults err.new;
+      broken_old = F.broken files.old;
+      broken_new = F.broken files.new;
+      status = result;
+    })) }
+    ensures no_usage { result ≢ 4 }
+    ensures known { result ≤ 7 }
+    ensures held { F.held files.new ≡ F.held files.old }
+    ensures ended { result ≡ 0 → IsAtEnd (F.rest files.new) }
+    ensures stopped { result ≡ 2 → GrowsByStop (U.log unit.old) (U.log unit.new) }
+    ensures refused { result ≡ 3 → Rose (U.wrong unit.old) (U.wrong unit.new) }
+    ensures read { result ≡ 5 → Rose (F.faults files.old) (F.faults files.new) }
+    ensures write { result ≡ 6 → Rose (O.faults out.old) (O.faults out.new) ⊎ Rose (E.faults err.old) (E.faults err.new) }
+{
+    match run_command(alloc, names, files, unit, out) {
         Ok(end) => cycle_status(&end),
-        Err(fault) => match tell(err, &names, &fault) {
+        Err(fault) => match tell(err, names, &fault) {
+            Ok(()) => fault_status(&fault),
+            Err(Failed) => 6,
+        },
+    }
+}
+
+/// Formats a source and, where it ends by a fault, tells the fault's line. The unit isn't called.
+fn serve_format<F: Files, O: Sink, E: Sink>(
+    alloc: Global,
+    words: &Words,
+    names: &FileWords<'_>,
+    files: &mut F,
+    out: &mut O,
+    err: &mut E,
+) -> u8
+    requires form { is_run words.now ≡ false }
+    requires format { is_format words.now ≡ true }
+    requires source { names.now.source.now ≡ first_name words.now }
+    ensures answered { (log : Option (List Entry)) (wrong : ℕ) → IfSome (F.held files.old) (λ h. Answered words.now h (record {
+      log_old = log;
+      log_new = log;
+      wrong_old = wrong;
+      wrong_new = wrong;
+      out_old = O.written out.old;
+      out_new = O.written out.new;
+      out_faults_old = O.faults out.old;
+      out_faults_new = O.faults out.new;
+      err_old = E.written err.old;
+      err_new = E.written err.new;
+      err_faults_old = E.faults err.old;
+      err_faults_new = E.faults err.new;
+      broken_old = F.broken files.old;
+      broken_new = F.broken files.new;
+      status = result;
+    })) }
+    ensures no_usage { result ≢ 4 }
+    ensures no_run { (result ≢ 2) × (result ≢ 3) }
+    ensures known { result ≤ 7 }
+    ensures held { F.held files.new ≡ F.held files.old }
+    ensures ended { result ≡ 0 → IsAtEnd (F.rest files.new) }
+    ensures read { result ≡ 5 → Rose (F.faults files.old) (F.faults files.new) }
+    ensures write { result ≡ 6 → Rose (O.faults out.old) (O.faults out.new) ⊎ Rose (E.faults err.old) (E.faults err.new) }
+{
+    match format_command(alloc, names.source, files, out) {
+        Ok(()) => 0,
+        Err(fault) => match tell(err, names, &fault) {
             Ok(()) => fault_status(&fault),
             Err(Failed) => 6,
         },
