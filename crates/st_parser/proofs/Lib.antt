@@ -11,6 +11,7 @@ pub mod ProgramComplete
 pub mod Deeper
 pub mod TokenFaults
 pub mod OneProgram
+pub mod Lifts
 pub mod MarkTable
 pub mod SoFar
 pub mod LabelSound
@@ -18,6 +19,7 @@ pub mod StmtSound
 pub mod ProgramSound
 pub mod ProgramEarliest
 pub mod Refusal
+pub mod Paths
 pub mod Verdicts
 pub mod Frames
 pub mod LevelViews

@@ -33,7 +33,7 @@ abbrev pub Refused : Context → Spot → List Token → Result ProgramTree Synt
 Refused c end ts (Ok p) = Unit {0}
 Refused c end ts (Err f) = RefusedAt c end ts f ⊎ RefusedEnd c end ts f
 
-begins-program : (c : Context) (s : State) (cs : List Placed) → Holds c s cs → BeginsProgram c (tokens_of cs)
+pub begins-program : (c : Context) (s : State) (cs : List Placed) → Holds c s cs → BeginsProgram c (tokens_of cs)
 begins-program c s cs h =
     let b = begins c s cs h in
     (tokens_of b.1, b.0, cs ++ b.1, b.2, map-append (λ (p : Placed). p.token) cs b.1)

@@ -1,5 +1,5 @@
 -- Verdicts: what the machine's answer says of the tokens.
-use Rattle.std.proofs.Common.{◌≡◌, ℕ, List, [], ◌∷◌, ◌++◌, Result, Ok, Err, inl, inr, sym, ap, ◌∙◌, subst, append_assoc}
+use Rattle.std.proofs.Common.{◌≡◌, ◌⊎◌, ℕ, List, [], ◌∷◌, ◌++◌, Result, Ok, Err, inl, inr, sym, ap, ◌∙◌, subst, append_assoc}
 use Rattle.std.specs.Prelude.{IfOk, IfErr}
 use Rattle.vcp_base.specs.declared.spot.Spot.{Spot}
 use Rattle.st_lexer.specs.declared.token.Token.{Token}
@@ -10,14 +10,15 @@ use Rattle.st_spelling.specs.Programs.{SpellsProgram}
 use Rattle.st_spelling.specs.Spelling.{Spells, SpellsWithin, Begins, bytes_in, left_aside}
 use Rattle.st_parser.specs.declared.fault.SyntaxFault.{SyntaxFault}
 use Rattle.st_parser.specs.declared.fault.SyntaxFault.TheVariants as fault
-use Rattle.st_parser.specs.Answers.{deepest, Refuses, IsAnswered}
+use Rattle.st_parser.specs.Answers.{deepest, FirstWrong, EndsEarly, TooDeep, Refuses, IsAnswered}
 use Rattle.st_parser.specs.ExprMachine.{Context}
 use Rattle.st_parser.specs.ProgramMachine.{read_program}
 use Rattle.st_parser.specs.StateViews.{Gives}
 use Rattle.st_parser.proofs.OneProgram.{only-one, no-syntax}
 use Rattle.st_parser.proofs.ProgramComplete.{complete}
 use Rattle.st_parser.proofs.ProgramSound.{sound}
-use Rattle.st_parser.proofs.Refusal.{BeginsProgram, RefusedAt, RefusedEnd, refusal}
+use Rattle.st_parser.proofs.Paths.{DeepAt, deep-at}
+use Rattle.st_parser.proofs.Refusal.{BeginsProgram, refusal}
 
 -- what the parser reads a text's tokens by
 abbrev pub context : List ℕ → Context
@@ -56,30 +57,20 @@ module _ (renamed : (b c : Token → List ℕ) (p : ProgramTree) (ps : List Plac
       let both : Ok p ≡ Err (fault.Depth x) = sym (spelled-read text end (us ++ t ∷ more) p (ps, s, e, w)) ∙ h more in
       absurd cc
 
-  refuses-at : (text : List ℕ) (end : Spot) (ts : List Token) (f : SyntaxFault) → RefusedAt (context text) end ts f → Refuses text ts end f
-  refuses-at text end ts (fault.Syntax x) r = inl (r.0, r.1, r.2, r.3, r.4, begins-aside text r.0 r.5, not-begun text end x r.0 r.1 r.6)
-  refuses-at text end ts (fault.Depth x) r = (r.0, r.1, r.2, r.3, r.4, begins-aside text r.0 r.5, not-within text end x r.0 r.1 r.6)
-  refuses-at text end ts fault.Memory r = tt
-
-  refuses-end : (text : List ℕ) (end : Spot) (ts : List Token) (f : SyntaxFault) → read_program (context text) end ts ≡ Err f → RefusedEnd (context text) end ts f → Refuses text ts end f
-  refuses-end text end ts (fault.Syntax x) e r =
-      let f = r.0 in
-      let at_end : x ≡ end = cc in
-      inr (at_end, begins-aside text ts r.1, λ p s. refused-spelled text end x ts p s e)
-  refuses-end text end ts (fault.Depth x) e r =
-      let f = r.0 in
-      absurd cc
-  refuses-end text end ts fault.Memory e r = tt
-
-  refused : (text : List ℕ) (end : Spot) (ts : List Token) (f : SyntaxFault) → read_program (context text) end ts ≡ Err f → Refuses text ts end f
-  refused text end ts f e = elim (refusal (context text) end ts f e) [
-    | inl a ↦ refuses-at text end ts f a
-    | inr b ↦ refuses-end text end ts f e b
+  syntax-refused : (text : List ℕ) (end x : Spot) (ts : List Token) → read_program (context text) end ts ≡ Err (fault.Syntax x) → FirstWrong ts x ⊎ EndsEarly text ts end x
+  syntax-refused text end x ts e = elim (refusal (context text) end ts (fault.Syntax x) e) [
+    | inl r ↦ inl (r.0, r.1, r.2, r.3, r.4, begins-aside text r.0 r.5, not-begun text end x r.0 r.1 r.6)
+    | inr r ↦ inr ((let f = r.0 in let at_end : x ≡ end = cc in at_end), begins-aside text ts r.1, λ p s. refused-spelled text end x ts p s e)
   ]
 
+  depth-refused : (text : List ℕ) (end x : Spot) (ts : List Token) → read_program (context text) end ts ≡ Err (fault.Depth x) → TooDeep text ts x
+  depth-refused text end x ts e =
+      let r = deep-at (bytes_in text) deepest end ts x e in
+      (r.before, r.token, r.behind, r.split, r.place, begins-aside text (r.before ++ r.token ∷ []) r.goes_on, not-within text end x r.before r.token r.whatever)
+
   pub refuses : (text : List ℕ) (end : Spot) (ts : List Token) (f : SyntaxFault) → Gives program_tree (Err f) (read_program (context text) end ts) → Refuses text ts end f
-  refuses text end ts (fault.Syntax x) e = refused text end ts (fault.Syntax x) e
-  refuses text end ts (fault.Depth x) e = refused text end ts (fault.Depth x) e
+  refuses text end ts (fault.Syntax x) e = syntax-refused text end x ts e
+  refuses text end ts (fault.Depth x) e = depth-refused text end x ts e
   refuses text end ts fault.Memory e = tt
 
 pub answered : (text : List ℕ) (end : Spot) (ts : List Token) (p : ProgramTree) (r : Result Program SyntaxFault) → SpellsWithin deepest p text ts → Gives program_tree r (read_program (context text) end ts) → IsAnswered r p

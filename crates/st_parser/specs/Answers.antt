@@ -25,11 +25,12 @@ FirstWrong ts spot =
 abbrev pub EndsEarly : List ℕ → List Token → Spot → Spot → Type 0
 EndsEarly text ts end spot = (spot ≡ end) × Begins ts × ((p : ProgramTree) → Spells p text ts → ⊥)
 
--- The tokens before the one at the spot begin a program, and with it they begin none in which each token is at most so deep.
+-- The tokens before the one at the spot begin a program, and so they do with it; but with it they begin none in which each
+-- token is at most so deep.
 abbrev pub TooDeep : List ℕ → List Token → Spot → Type 0
 TooDeep text ts spot =
     (before : List Token) × (t : Token) × (behind : List Token)
-    × (ts ≡ before ++ t ∷ behind) × (spot ≡ t.spot) × Begins before
+    × (ts ≡ before ++ t ∷ behind) × (spot ≡ t.spot) × Begins (before ++ t ∷ [])
     × ((more : List Token) (p : ProgramTree) (ps : List Placed) → SpellsProgram (bytes_in text) p ps → tokens_of ps ≡ before ++ t ∷ more → Within deepest ps → ⊥)
 
 -- why the tokens are refused; of want of memory nothing is said

@@ -123,7 +123,7 @@ pub fn parse(alloc: Global, text: &[u8], tokens: &Tokens) -> Result<Program, Syn
     ensures only { (p : ProgramTree) → SpellsWithin deepest p text.now tokens.now.tokens → IsAnswered result p }
 
     // A fault of syntax is at the first token through which nothing begins, or at the end; a fault of
-    // depth is where no program within the limit goes on.
+    // depth is at a token through which a program begins, but none within the limit.
     ensures err { IfErr result (Refuses text.now tokens.now.tokens tokens.now.end) }
 {
     one_reading();
