@@ -9,7 +9,7 @@ use Rattle.vcp_base.specs.declared.kind.Kind.{Kind}
 use Rattle.vcp_base.specs.declared.kind.Kind.TheVariants as kind
 use Rattle.vcp_base.specs.Types.{fits, within}
 use Rattle.vcp_base.specs.Kinds.{operands, operand_type}
-use Rattle.vcp_base.specs.Names.{SameName}
+use Rattle.vcp_base.specs.Names.{is_name, SameName}
 use Rattle.op_graph.specs.declared.op.Op.{Op}
 use Rattle.op_graph.specs.declared.op.Var.{Var}
 use Rattle.op_graph.specs.declared.op.Outlet.{Outlet}
@@ -23,19 +23,6 @@ Each P before [] = Unit {0}
 Each P before (x ∷ xs) = P before x × Each P (before ++ x ∷ []) xs
 
 -- ---- names
-
--- the code of a letter or of `_`
-abbrev pub is_letter : ℕ → Bool
-is_letter c = (nat_le 65 c && nat_le c 90) || (nat_le 97 c && nat_le c 122) || (c == 95)
-
--- the code of a letter, `_` or a digit
-abbrev pub is_letter_or_digit : ℕ → Bool
-is_letter_or_digit c = is_letter c || (nat_le 48 c && nat_le c 57)
-
--- a letter or `_`, and then letters, digits and `_`
-abbrev pub is_name : List ℕ → Bool
-is_name [] = false
-is_name (c ∷ cs) = is_letter c && list_all is_letter_or_digit cs
 
 -- a name may follow those before it
 pub record NameFits (before : List (List ℕ)) (n : List ℕ) : Type 0 where

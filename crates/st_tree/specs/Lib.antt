@@ -3,3 +3,4 @@ pub mod StmtTree
 pub mod ProgramTree
 pub mod Items
 pub mod Bare
+pub mod Declarable

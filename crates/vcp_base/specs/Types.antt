@@ -1,5 +1,5 @@
 -- Types: each elementary type of IEC 61131-3 is a range of integers.
-use Rattle.std.specs.Prelude.{Bool, true, false, ◌&&◌, ℤ, pos, negsuc, int_le}
+use Rattle.std.specs.Prelude.{◌≡◌, Bool, true, false, ◌&&◌, ℤ, pos, negsuc, int_le, List, [], ◌∷◌}
 use Rattle.vcp_base.specs.declared.ty.Ty.{Ty}
 use Rattle.vcp_base.specs.declared.ty.Ty.TheVariants as ty
 
@@ -18,6 +18,13 @@ greatest ty.Dint = pos 2147483647
 -- v is a value of the type
 abbrev pub fits : Ty → ℤ → Bool
 fits t v = int_le (least t) v && int_le v (greatest t)
+
+-- each value is in its type, and there are as many values as types
+abbrev pub AreIn : List Ty → List ℤ → Type 0
+AreIn [] [] = Unit {0}
+AreIn [] (v ∷ vs) = ⊥
+AreIn (t ∷ ts) [] = ⊥
+AreIn (t ∷ ts) (v ∷ vs) = (fits t v ≡ true) × AreIn ts vs
 
 -- values of the first type are taken where the second is wanted: they are equal, or INT and DINT
 abbrev pub within : Ty → Ty → Bool
