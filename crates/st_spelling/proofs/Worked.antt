@@ -1,5 +1,5 @@
 -- Worked: small expressions with the depths of their tokens.
-use Rattle.std.specs.Prelude.{◌≡◌, refl, ℕ, List, [], ◌∷◌, None, Some, pos, zero}
+use Rattle.std.specs.Prelude.{refl, ℕ, List, [], ◌∷◌}
 use Rattle.std.proofs.Common.{arith}
 use Rattle.vcp_base.specs.declared.spot.Spot.{Spot}
 use Rattle.st_lexer.specs.declared.token.Sym.TheVariants as sym
@@ -8,8 +8,8 @@ use Rattle.st_lexer.specs.declared.token.Tok.TheVariants as tok
 use Rattle.st_lexer.specs.declared.token.Token.{Token}
 use Rattle.st_tree.specs.declared.expr.UnOp.TheVariants as un
 use Rattle.st_tree.specs.declared.expr.BinOp.TheVariants as bin
-use Rattle.st_tree.specs.ExprTree.{ExprTree, literal, name, unary, binary}
-use Rattle.st_spelling.specs.Placed.{Placed, at, depths_of}
+use Rattle.st_tree.specs.ExprTree.{ExprTree, name, unary, binary}
+use Rattle.st_spelling.specs.Placed.{Placed, at}
 use Rattle.st_spelling.specs.Expressions.{SpellsExpr, spells_name, spells_unary, spells_binary, spells_brackets}
 
 abbrev spot : ℕ → Spot

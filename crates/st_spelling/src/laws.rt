@@ -1,7 +1,9 @@
 //! Laws of spelling.
 
-ghost use Rattle.std.specs.Prelude.{◌≡◌, ◌++◌, ℕ, List};
+ghost use Rattle.std.specs.Prelude.{◌≡◌, ◌++◌, ◌≤◌, ℕ, List, length};
+ghost use Rattle.st_lexer.specs.Reading.{Reads};
 ghost use Rattle.st_lexer.specs.declared.token.Token.{Token};
+ghost use Rattle.st_tree.specs.Declarable.{HasNames};
 ghost use Rattle.st_tree.specs.ProgramTree.{ProgramTree};
 ghost use Rattle.st_spelling.specs.Placed.{Placed};
 ghost use Rattle.st_spelling.specs.Programs.{SpellsProgram};
@@ -14,4 +16,10 @@ pub fn spelling_begins()
     ensures renamed { (b c : Token → List ℕ) (p : ProgramTree) (ps : List Placed) → SpellsProgram b p ps → (q : ProgramTree) × SpellsProgram c q ps }
     ensures program { (p : ProgramTree) (text : List ℕ) (ts : List Token) → Spells p text ts → Begins ts }
     ensures front { (ts us : List Token) → Begins (ts ++ us) → Begins ts }
+{}
+
+/// Each name that a program declares is one that may be declared, where the tokens of a source spell
+/// the program: a letter or `_`, and then letters, digits and `_`, no longer than the source.
+pub fn spelled_names_are_declarable()
+    ensures names { (p : ProgramTree) (text : List ℕ) (ts : List Token) → Reads text ts → length text ≤ 1048576 → Spells p text ts → HasNames p }
 {}

@@ -1,10 +1,10 @@
 //! Spelling: which tokens spell which program, after the grammar of the language.
 //!
 //! The definitions go from a tree to its tokens, each at its depth. A parser goes from tokens to the
-//! tree and a writer from the tree to a text; both are held against them. The one function here
-//! states laws of the definitions.
+//! tree and a writer from the tree to a text; both are held against them. The functions here
+//! state laws of the definitions.
 #![tactic(auto)]
 
 mod laws;
 
-pub use laws::spelling_begins;
+pub use laws::{spelled_names_are_declarable, spelling_begins};

@@ -1,8 +1,7 @@
-use Rattle.std.proofs.Common.{◌≡◌, ℕ, List, [], ◌++◌, sym, ◌∙◌, append_assoc}
+use Rattle.std.proofs.Common.{ℕ, List, [], ◌++◌, sym, ◌∙◌, append_assoc}
 use Rattle.std.proofs.lemmas.List.{append-nil}
 use Rattle.st_lexer.specs.declared.token.Token.{Token}
 use Rattle.st_tree.specs.ProgramTree.{ProgramTree}
-use Rattle.st_spelling.specs.Placed.{Placed}
 use Rattle.st_spelling.specs.Spelling.{Spells, Begins, bytes_in, left_aside}
 use Rattle.st_spelling.proofs.Renamed.{program}
 use Rattle.st_spelling.proofs.laws.spelling_begins.Goals as goal
