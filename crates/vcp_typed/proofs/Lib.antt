@@ -1,0 +1,7 @@
+pub mod Rows
+pub mod Appends
+pub mod Sizes
+pub mod Keeps
+pub mod Stops
+pub mod Worked
+pub mod Addition

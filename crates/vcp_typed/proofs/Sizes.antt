@@ -1,0 +1,60 @@
+-- The Size of the nodes that hold lists.
+use Rattle.std.proofs.Common.{◌≡◌, ℕ, zero, suc, ◌+◌, ◌*◌, ◌<◌, ℤ, List, Option, refl, sym, ap, ◌∙◌, arith, inl, inr}
+use Rattle.std.proofs.str.Laws.{order}
+use Rattle.vcp_base.specs.declared.spot.Spot.{Spot}
+use Rattle.vcp_base.specs.declared.ty.Ty.{Ty}
+use Rattle.vcp_typed.specs.declared.expr.Fun.{Fun}
+use Rattle.vcp_typed.specs.declared.expr.TExprs.{TExprs}
+use Rattle.vcp_typed.specs.declared.expr.TExpr.{TExpr, Call}
+use Rattle.vcp_typed.specs.declared.stmt.TArm.{TArm}
+use Rattle.vcp_typed.specs.declared.stmt.TArms.{TArms}
+use Rattle.vcp_typed.specs.declared.stmt.TBranch.{TBranch}
+use Rattle.vcp_typed.specs.declared.stmt.TBranches.{TBranches}
+use Rattle.vcp_typed.specs.declared.stmt.TStmts.{TStmts}
+use Rattle.vcp_typed.specs.declared.stmt.TStmt.{TStmt, If, Case, For}
+use Rattle.vcp_typed.specs.Items.{tarm_items, tbranch_items}
+use Rattle.vcp_typed.specs.TExprTree.{texpr_tree, texpr_trees}
+use Rattle.vcp_typed.specs.TStmtTree.{TStmtTrees, tstmt_tree, tstmt_trees, tarm_trees, tbranch_trees, tother_tree, count}
+use Rattle.vcp_typed.specs.Size.{cut, function_size, expr_size, exprs_size, stmt_size, stmts_size, arms_size, branches_size, other_size}
+use Rattle.vcp_typed.proofs.Rows.{tree-call, tree-if, tree-case, tree-for}
+
+pub size-call : (e : TExpr) (f : Fun) (t : Ty) (es : TExprs) (s : Spot) → e ≡ Call f t es s
+    → expr_size (texpr_tree e) ≡ function_size f + exprs_size (texpr_trees es.items.items)
+size-call e f t es s is = ap (λ (x : TExpr). expr_size (texpr_tree x)) is ∙ ap expr_size (tree-call f t es s)
+
+pub size-if : (d : TStmt) (arms : TArms) (o : Option TStmts) (xs : List TArm) → d ≡ If arms o → xs ≡ tarm_items arms
+    → stmt_size (tstmt_tree d) ≡ arms_size (tarm_trees xs) + other_size (tother_tree o)
+size-if d arms o xs is same =
+    ap (λ (x : TStmt). stmt_size (tstmt_tree x)) is ∙ ap stmt_size (tree-if arms o)
+    ∙ sym (ap (λ (x : List TArm). arms_size (tarm_trees x) + other_size (tother_tree o)) same)
+
+pub size-case : (d : TStmt) (e : TExpr) (branches : TBranches) (o : Option TStmts) (s : Spot) (xs : List TBranch)
+    → d ≡ Case e branches o s → xs ≡ tbranch_items branches
+    → stmt_size (tstmt_tree d) ≡ expr_size (texpr_tree e) + branches_size (tbranch_trees xs) + other_size (tother_tree o)
+size-case d e branches o s xs is same =
+    ap (λ (x : TStmt). stmt_size (tstmt_tree x)) is ∙ ap stmt_size (tree-case e branches o s)
+    ∙ sym (ap (λ (x : List TBranch). expr_size (texpr_tree e) + branches_size (tbranch_trees x) + other_size (tother_tree o)) same)
+
+turns-size : (slot : ℕ) (first by : ℤ) (turns : ℕ) (b : TStmtTrees) (s : Spot) → 0 < turns
+    → stmt_size (count slot first by turns b s) ≡ turns * (2 + stmts_size b)
+turns-size slot first by zero b s h = absurd (omega arith)
+turns-size slot first by (suc n) b s h = refl
+
+pub size-for : (d : TStmt) (slot : ℕ) (first by : ℤ) (turns : ℕ) (body : TStmts) (s : Spot) → d ≡ For slot first by turns body s → 0 < turns
+    → stmt_size (tstmt_tree d) ≡ turns * (2 + stmts_size (tstmt_trees body.items.items))
+size-for d slot first by turns body s is h =
+    ap (λ (x : TStmt). stmt_size (tstmt_tree x)) is ∙ ap stmt_size (tree-for slot first by turns body s) ∙ turns-size slot first by turns _ s h
+
+pub cut-times : (n a : ℕ) → 0 < n → cut (n * cut a) ≡ cut (n * a)
+cut-times zero a h = absurd (omega arith)
+cut-times (suc k) a h = elim (order a 65537) [
+  | inl low ↦ let e : cut a ≡ a = omega (arith, low) in ap (λ x. cut (suc k * x)) e
+  | inr high ↦
+      let e : cut a ≡ 65537 = omega (arith, high) in
+      let l : cut (suc k * 65537) ≡ 65537 = omega arith in
+      let r : cut (suc k * a) ≡ 65537 = omega (arith, high) in
+      ap (λ x. cut (suc k * x)) e ∙ l ∙ sym r
+]
+
+pub cut-two : (r d e : ℕ) → d ≡ cut e → r ≡ cut (2 + d) → r ≡ cut (2 + e)
+cut-two r d e h k = omega arith

@@ -1,0 +1,30 @@
+-- Fitting: values that are in the types of their slots, and the columns of a program.
+use Rattle.std.specs.Prelude.{ℤ, cond, List, [], ◌∷◌, map}
+use Rattle.vcp_base.specs.declared.columns.Column.{Column}
+use Rattle.vcp_base.specs.declared.ty.Ty.{Ty}
+use Rattle.vcp_base.specs.Types.{AreIn}
+use Rattle.vcp_typed.specs.declared.slot.Slot.{Slot}
+use Rattle.vcp_typed.specs.SourceRun.{is_input, is_output}
+
+-- each row has a value of each of these types
+abbrev pub AreRows : List Ty → List (List ℤ) → Type 0
+AreRows ts [] = Unit {0}
+AreRows ts (row ∷ rows) = AreIn ts row × AreRows ts rows
+
+-- each slot has a value of its type
+abbrev pub AreFit : List Slot → List ℤ → Type 0
+AreFit slots m = AreIn (map (λ s. s.ty) slots) m
+
+-- the types of the inputs, and of the outputs, in order of declaration
+abbrev pub input_types : List Slot → List Ty
+input_types [] = []
+input_types (s ∷ slots) = cond (is_input s.class) (s.ty ∷ input_types slots) (input_types slots)
+
+abbrev pub output_types : List Slot → List Ty
+output_types [] = []
+output_types (s ∷ slots) = cond (is_output s.class) (s.ty ∷ output_types slots) (output_types slots)
+
+-- the names and types of the inputs, in order of declaration
+abbrev pub input_columns : List Slot → List Column
+input_columns [] = []
+input_columns (s ∷ slots) = cond (is_input s.class) (record { name = s.name; ty = s.ty } ∷ input_columns slots) (input_columns slots)

@@ -1,0 +1,10 @@
+pub mod TExprTree
+pub mod TStmtTree
+pub mod Rules
+pub mod Meaning
+pub mod SourceRun
+pub mod Size
+pub mod Checked
+pub mod Items
+pub mod Codes
+pub mod Fitting

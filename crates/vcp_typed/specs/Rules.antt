@@ -1,0 +1,99 @@
+-- Rules: the types of operators and functions.
+use Rattle.std.specs.Prelude.{List, [], ◌∷◌, Option, Some, None}
+use Rattle.vcp_base.specs.declared.ty.Ty.{Ty}
+use Rattle.vcp_base.specs.declared.ty.Ty.TheVariants as ty
+use Rattle.st_tree.specs.declared.expr.UnOp.{UnOp}
+use Rattle.st_tree.specs.declared.expr.UnOp.TheVariants as un
+use Rattle.st_tree.specs.declared.expr.BinOp.{BinOp}
+use Rattle.st_tree.specs.declared.expr.BinOp.TheVariants as bin
+use Rattle.vcp_typed.specs.declared.expr.Fun.{Fun}
+use Rattle.vcp_typed.specs.declared.expr.Fun.TheVariants as fun
+
+-- the type to which two types of numbers widen
+abbrev pub joined : Ty → Ty → Option Ty
+joined ty.Bool u = None
+joined ty.Int ty.Bool = None
+joined ty.Int ty.Int = Some ty.Int
+joined ty.Int ty.Dint = Some ty.Dint
+joined ty.Dint ty.Bool = None
+joined ty.Dint ty.Int = Some ty.Dint
+joined ty.Dint ty.Dint = Some ty.Dint
+
+-- BOOL, of two BOOL
+abbrev pub both_bool : Ty → Ty → Option Ty
+both_bool ty.Bool ty.Bool = Some ty.Bool
+both_bool ty.Bool ty.Int = None
+both_bool ty.Bool ty.Dint = None
+both_bool ty.Int u = None
+both_bool ty.Dint u = None
+
+-- the common type of two numbers or of two BOOL
+abbrev pub joined_or_bool : Ty → Ty → Option Ty
+joined_or_bool ty.Bool u = both_bool ty.Bool u
+joined_or_bool ty.Int u = joined ty.Int u
+joined_or_bool ty.Dint u = joined ty.Dint u
+
+-- the common type of an operator's operands, where it takes operands of these types
+abbrev pub common : BinOp → Ty → Ty → Option Ty
+common bin.Mul = joined
+common bin.Div = joined
+common bin.Mod = joined
+common bin.Add = joined
+common bin.Sub = joined
+common bin.Lt = joined
+common bin.Gt = joined
+common bin.Le = joined
+common bin.Ge = joined
+common bin.Eq = joined_or_bool
+common bin.Ne = joined_or_bool
+common bin.And = both_bool
+common bin.Xor = both_bool
+common bin.Or = both_bool
+
+-- the type of an operator's value, where its operands have this one
+abbrev pub result : BinOp → Ty → Ty
+result bin.Mul t = t
+result bin.Div t = t
+result bin.Mod t = t
+result bin.Add t = t
+result bin.Sub t = t
+result bin.Lt t = ty.Bool
+result bin.Gt t = ty.Bool
+result bin.Le t = ty.Bool
+result bin.Ge t = ty.Bool
+result bin.Eq t = ty.Bool
+result bin.Ne t = ty.Bool
+result bin.And t = ty.Bool
+result bin.Xor t = ty.Bool
+result bin.Or t = ty.Bool
+
+-- the type of a sign's value, where it takes an operand of this type
+abbrev pub signed : UnOp → Ty → Option Ty
+signed un.Neg ty.Bool = None
+signed un.Neg ty.Int = Some ty.Int
+signed un.Neg ty.Dint = Some ty.Dint
+signed un.Not ty.Bool = Some ty.Bool
+signed un.Not ty.Int = None
+signed un.Not ty.Dint = None
+
+-- the types of a function's arguments, where its value has this type; none where it hasn't such a value
+abbrev pub of_numbers : List Ty → Ty → Option (List Ty)
+of_numbers ts ty.Bool = None
+of_numbers ts ty.Int = Some ts
+of_numbers ts ty.Dint = Some ts
+
+abbrev pub arguments : Fun → Ty → Option (List Ty)
+arguments fun.Abs t = of_numbers (t ∷ []) t
+arguments fun.Min t = of_numbers (t ∷ t ∷ []) t
+arguments fun.Max t = of_numbers (t ∷ t ∷ []) t
+arguments fun.Limit t = of_numbers (t ∷ t ∷ t ∷ []) t
+arguments fun.Sel t = Some (ty.Bool ∷ t ∷ t ∷ [])
+arguments fun.IntToDint ty.Dint = Some (ty.Int ∷ [])
+arguments fun.IntToDint ty.Int = None
+arguments fun.IntToDint ty.Bool = None
+arguments fun.DintToInt ty.Int = Some (ty.Dint ∷ [])
+arguments fun.DintToInt ty.Dint = None
+arguments fun.DintToInt ty.Bool = None
+arguments fun.BoolToInt ty.Int = Some (ty.Bool ∷ [])
+arguments fun.BoolToInt ty.Dint = None
+arguments fun.BoolToInt ty.Bool = None

@@ -1,0 +1,22 @@
+//! Checked programs: every name is a slot or a value, every node has its type, and every FOR its turns.
+//!
+//! What a program means stands here too, as definitions over the tree: the values of expressions, what
+//! statements do, the run over rows of inputs, and the room that flattening may take.
+#![tactic(auto)]
+
+mod expr;
+mod laws;
+mod size;
+mod slot;
+mod stmt;
+mod typed;
+
+pub use expr::{Fun, TExpr, TExprs};
+pub use laws::{causes_of_stops, trees_of_appended, trees_of_nodes, values_fit};
+pub use size::size_of;
+pub use slot::{Slot, Slots};
+pub use stmt::{TArm, TArms, TBranch, TBranches, TLabel, TLabels, TStmt, TStmts};
+pub use typed::Typed;
+
+#[cfg(test)]
+mod tests;

@@ -1,0 +1,58 @@
+//! Slots: the variables of a program.
+
+ghost use Rattle.std.specs.Prelude.{◌≡◌, ◌<◌, [], ◌∷◌, ◌++◌, Some, OnOk, OnErr, length, slice_get};
+
+use st_tree::Class;
+use std::alloc::Global;
+use vcp_base::{Memory, Spot, Text, Ty};
+
+/// A variable: its declared name with the spot, its class, its type and its initial value.
+#[derive(Debug, Drop)]
+pub struct Slot {
+    pub name: Text,
+    pub spot: Spot,
+    pub class: Class,
+    pub ty: Ty,
+    pub init: i64,
+}
+
+/// The variables of a program, in order of declaration.
+#[derive(Debug, Drop)]
+pub struct Slots {
+    pub items: Vec<Slot>,
+}
+
+impl Slots {
+    /// A list of no slots. It takes no memory.
+    pub fn new(alloc: Global) -> Slots
+        ensures { result.items.items ≡ [] }
+    {
+        Slots {
+            items: Vec::new(alloc),
+        }
+    }
+
+    /// Appends a slot. After `Memory` the list is unchanged.
+    pub fn push(&mut self, item: Slot) -> Result<(), Memory>
+        ensures items { OnOk result (self.new.items.items ≡ self.old.items.items ++ item ∷ []) }
+        ensures unchanged { OnErr result (self.new.items.items ≡ self.old.items.items) }
+    {
+        self.items.push(item)?;
+        Ok(())
+    }
+
+    /// How many slots there are.
+    pub fn len(&self) -> usize
+        ensures { result ≡ length self.now.items.items }
+    {
+        self.items.len()
+    }
+
+    /// The slot at place `i`, counted from 0, where `i` is less than `len`.
+    pub fn at(&self, i: usize) -> &Slot
+        requires { i < length self.now.items.items }
+        ensures { slice_get self.now.items.items i ≡ Some result.now }
+    {
+        &self.items[i]
+    }
+}

@@ -1,0 +1,304 @@
+//! Checked statements.
+
+ghost use Rattle.std.specs.Prelude.{◌≡◌, ◌<◌, ◌+◌, [], ◌∷◌, ◌++◌, Some, OnOk, OnErr, drop, length, slice_get};
+ghost use Rattle.vcp_typed.specs.TExprTree.{texpr_tree};
+ghost use Rattle.vcp_typed.specs.Items.{tarm_items, tbranch_items};
+ghost use Rattle.vcp_typed.specs.TStmtTree.{assign as assign_tree, choose as choose_tree, select as select_tree, count as count_tree, no_tstmts, and_tstmt, no_tarms, and_tarm, no_tbranches, and_tbranch, tstmt_tree, tstmt_trees, tarm_trees, tbranch_trees, tother_tree, tstmts_and, tarms_and, tbranches_and};
+
+use crate::expr::TExpr;
+use std::alloc::Global;
+use vcp_base::{Memory, Spot};
+
+/// A label of a CASE: the values from `first` to `last`, written as a range or as one value.
+#[derive(Clone, Copy, Debug, PartialEq, Eq, Drop)]
+pub struct TLabel {
+    pub first: i64,
+    pub last: i64,
+    pub range: bool,
+    pub spot: Spot,
+}
+
+/// The labels of a branch of a CASE.
+#[derive(Debug, Drop)]
+pub struct TLabels {
+    pub items: Vec<TLabel>,
+}
+
+/// A list of statements.
+#[cycle(typed_stmt)]
+#[derive(Drop)]
+pub struct TStmts {
+    pub items: Vec<TStmt>,
+}
+
+/// A condition of an IF with its body, and the spot of the IF or ELSIF.
+#[cycle(typed_stmt)]
+#[derive(Drop)]
+pub struct TArm {
+    pub cond: TExpr,
+    pub body: TStmts,
+    pub spot: Spot,
+}
+
+/// The conditions of an IF, in order, with their bodies.
+#[cycle(typed_stmt)]
+#[derive(Drop)]
+pub struct TArms {
+    pub items: Vec<TArm>,
+}
+
+/// The labels of a branch of a CASE, with its body.
+#[cycle(typed_stmt)]
+#[derive(Drop)]
+pub struct TBranch {
+    pub labels: TLabels,
+    pub body: TStmts,
+}
+
+/// The branches of a CASE, in order.
+#[cycle(typed_stmt)]
+#[derive(Drop)]
+pub struct TBranches {
+    pub items: Vec<TBranch>,
+}
+
+/// A checked statement.
+#[cycle(typed_stmt)]
+#[derive(Drop)]
+pub enum TStmt {
+    /// An assignment to a slot, with the spot of the assigned name.
+    Assign {
+        slot: u32,
+        value: TExpr,
+        spot: Spot,
+    },
+    /// IF with its ELSIFs, and the body of ELSE where there is one.
+    If {
+        arms: TArms,
+        other: Option<TStmts>,
+    },
+    /// CASE, with the spot of its keyword, and the body of ELSE where there is one.
+    Case {
+        on: TExpr,
+        branches: TBranches,
+        other: Option<TStmts>,
+        spot: Spot,
+    },
+    /// FOR over so many turns: the control variable is `first`, `first + by` and so on. The spot is
+    /// that of the control variable's name.
+    For {
+        slot: u32,
+        first: i64,
+        by: i64,
+        turns: u64,
+        body: TStmts,
+        spot: Spot,
+    },
+}
+
+impl TLabels {
+    /// A list of no labels. It takes no memory.
+    pub fn new(alloc: Global) -> TLabels
+        ensures { result.items.items ≡ [] }
+    {
+        TLabels {
+            items: Vec::new(alloc),
+        }
+    }
+
+    /// Appends a label. After `Memory` the list is unchanged.
+    pub fn push(&mut self, item: TLabel) -> Result<(), Memory>
+        ensures items { OnOk result (self.new.items.items ≡ self.old.items.items ++ item ∷ []) }
+        ensures unchanged { OnErr result (self.new.items.items ≡ self.old.items.items) }
+    {
+        self.items.push(item)?;
+        Ok(())
+    }
+
+    /// How many labels there are.
+    pub fn len(&self) -> usize
+        ensures { result ≡ length self.now.items.items }
+    {
+        self.items.len()
+    }
+
+    /// The label at place `i`, counted from 0, where `i` is less than `len`.
+    pub fn at(&self, i: usize) -> &TLabel
+        requires { i < length self.now.items.items }
+        ensures { slice_get self.now.items.items i ≡ Some result.now }
+    {
+        &self.items[i]
+    }
+}
+
+impl TStmts {
+    /// A list of no statements. It takes no memory.
+    pub fn new(alloc: Global) -> TStmts
+        ensures items { result.items.items ≡ [] }
+        ensures tree { tstmt_trees result.items.items ≡ no_tstmts }
+    {
+        TStmts {
+            items: Vec::new(alloc),
+        }
+    }
+
+    /// Appends a statement. After `Memory` the list is unchanged.
+    pub fn push(&mut self, item: TStmt) -> Result<(), Memory>
+        ensures items { OnOk result (self.new.items.items ≡ self.old.items.items ++ item ∷ []) }
+        ensures tree { OnOk result
+            (tstmt_trees self.new.items.items
+            ≡ tstmts_and (tstmt_trees self.old.items.items) (tstmt_tree item)) }
+        ensures unchanged { OnErr result (self.new.items.items ≡ self.old.items.items) }
+    {
+        self.items.push(item)?;
+        Ok(())
+    }
+
+    /// How many statements there are.
+    pub fn len(&self) -> usize
+        ensures { result ≡ length self.now.items.items }
+    {
+        self.items.len()
+    }
+
+    /// The statement at place `i`, counted from 0, where `i` is less than `len`.
+    pub fn at(&self, i: usize) -> &TStmt
+        requires { i < length self.now.items.items }
+        ensures item { slice_get self.now.items.items i ≡ Some result.now }
+        ensures tree { tstmt_trees (drop i self.now.items.items)
+            ≡ and_tstmt (tstmt_tree result.now) (tstmt_trees (drop (i + 1) self.now.items.items)) }
+    {
+        &self.items[i]
+    }
+}
+
+impl TArms {
+    /// A list of no conditions. It takes no memory.
+    pub fn new(alloc: Global) -> TArms
+        ensures items { tarm_items result ≡ [] }
+        ensures tree { tarm_trees (tarm_items result) ≡ no_tarms }
+    {
+        TArms {
+            items: Vec::new(alloc),
+        }
+    }
+
+    /// Appends a condition with its body. After `Memory` the list is unchanged.
+    pub fn push(&mut self, item: TArm) -> Result<(), Memory>
+        ensures items { OnOk result (tarm_items self.new ≡ tarm_items self.old ++ item ∷ []) }
+        ensures tree { OnOk result
+            (tarm_trees (tarm_items self.new)
+            ≡ tarms_and (tarm_trees (tarm_items self.old)) (texpr_tree item.cond) (tstmt_trees item.body.items.items) item.spot) }
+        ensures unchanged { OnErr result (tarm_items self.new ≡ tarm_items self.old) }
+    {
+        self.items.push(item)?;
+        Ok(())
+    }
+
+    /// How many conditions there are.
+    pub fn len(&self) -> usize
+        ensures { result ≡ length (tarm_items self.now) }
+    {
+        self.items.len()
+    }
+
+    /// The condition at place `i`, counted from 0, where `i` is less than `len`.
+    pub fn at(&self, i: usize) -> &TArm
+        requires { i < length (tarm_items self.now) }
+        ensures item { slice_get (tarm_items self.now) i ≡ Some result.now }
+        ensures tree { tarm_trees (drop i (tarm_items self.now))
+            ≡ and_tarm (texpr_tree result.now.cond) (tstmt_trees result.now.body.items.items) result.now.spot (tarm_trees (drop (i + 1) (tarm_items self.now))) }
+    {
+        &self.items[i]
+    }
+}
+
+impl TBranches {
+    /// A list of no branches. It takes no memory.
+    pub fn new(alloc: Global) -> TBranches
+        ensures items { tbranch_items result ≡ [] }
+        ensures tree { tbranch_trees (tbranch_items result) ≡ no_tbranches }
+    {
+        TBranches {
+            items: Vec::new(alloc),
+        }
+    }
+
+    /// Appends a branch. After `Memory` the list is unchanged.
+    pub fn push(&mut self, item: TBranch) -> Result<(), Memory>
+        ensures items { OnOk result (tbranch_items self.new ≡ tbranch_items self.old ++ item ∷ []) }
+        ensures tree { OnOk result
+            (tbranch_trees (tbranch_items self.new)
+            ≡ tbranches_and (tbranch_trees (tbranch_items self.old)) item.labels.items.items (tstmt_trees item.body.items.items)) }
+        ensures unchanged { OnErr result (tbranch_items self.new ≡ tbranch_items self.old) }
+    {
+        self.items.push(item)?;
+        Ok(())
+    }
+
+    /// How many branches there are.
+    pub fn len(&self) -> usize
+        ensures { result ≡ length (tbranch_items self.now) }
+    {
+        self.items.len()
+    }
+
+    /// The branch at place `i`, counted from 0, where `i` is less than `len`.
+    pub fn at(&self, i: usize) -> &TBranch
+        requires { i < length (tbranch_items self.now) }
+        ensures item { slice_get (tbranch_items self.now) i ≡ Some result.now }
+        ensures tree { tbranch_trees (drop i (tbranch_items self.now))
+            ≡ and_tbranch result.now.labels.items.items (tstmt_trees result.now.body.items.items) (tbranch_trees (drop (i + 1) (tbranch_items self.now))) }
+    {
+        &self.items[i]
+    }
+}
+
+impl TStmt {
+    /// An assignment to a slot.
+    pub fn assign(slot: u32, value: TExpr, spot: Spot) -> TStmt
+        ensures { tstmt_tree result ≡ assign_tree slot (texpr_tree value) spot }
+    {
+        TStmt::Assign { slot, value, spot }
+    }
+
+    /// IF with its ELSIFs, and the body of ELSE where there is one.
+    pub fn choose(arms: TArms, other: Option<TStmts>) -> TStmt
+        ensures { tstmt_tree result
+            ≡ choose_tree (tarm_trees (tarm_items arms)) (tother_tree other) }
+    {
+        TStmt::If { arms, other }
+    }
+
+    /// CASE with its branches, and the body of ELSE where there is one.
+    pub fn select(on: TExpr, branches: TBranches, other: Option<TStmts>, spot: Spot) -> TStmt
+        ensures { tstmt_tree result
+            ≡ select_tree
+            (texpr_tree on)
+            (tbranch_trees (tbranch_items branches))
+            (tother_tree other)
+            spot }
+    {
+        TStmt::Case {
+            on,
+            branches,
+            other,
+            spot,
+        }
+    }
+
+    /// FOR over so many turns: the control variable is `first`, `first + by` and so on.
+    pub fn count(slot: u32, first: i64, by: i64, turns: u64, body: TStmts, spot: Spot) -> TStmt
+        ensures { tstmt_tree result
+            ≡ count_tree slot first by turns (tstmt_trees body.items.items) spot }
+    {
+        TStmt::For {
+            slot,
+            first,
+            by,
+            turns,
+            body,
+            spot,
+        }
+    }
+}

@@ -1,0 +1,108 @@
+//! Checked programs.
+
+ghost use Rattle.std.specs.Prelude.{◌≡◌, [], ◌∷◌, ◌++◌, IfOk, OnOk};
+ghost use Rattle.vcp_typed.specs.Checked.{IsChecked};
+ghost use Rattle.vcp_typed.specs.Fitting.{input_columns};
+ghost use Rattle.vcp_typed.specs.Size.{size};
+ghost use Rattle.vcp_typed.specs.TStmtTree.{tstmt_trees};
+
+use crate::size::size_of;
+use crate::slot::{Slot, Slots};
+use crate::stmt::TStmts;
+use st_tree::Class;
+use std::alloc::Global;
+use std::marker::Model;
+use vcp_base::{Column, Columns, Memory, Text};
+
+/// A checked program: its slots, its body, and its Size.
+#[derive(Drop)]
+pub struct Typed {
+    slots: Slots,
+    body: TStmts,
+    size: u32,
+}
+
+impl Model for Typed {
+    ghost use Rattle.std.specs.Prelude.{◌≡◌};
+    ghost use Rattle.vcp_typed.specs.Checked.{IsChecked};
+    ghost use Rattle.vcp_typed.specs.Codes.{program_code};
+    ghost use Rattle.vcp_typed.specs.Size.{size as program_size};
+    ghost use Rattle.vcp_typed.specs.SourceRun.{Program};
+    ghost use Rattle.vcp_typed.specs.TStmtTree.{tstmt_trees};
+
+    ghost Value = { Program };
+
+    ghost coded = { program_code };
+
+    ghost view = { λ t. record { slots = t.slots.items.items; body = tstmt_trees t.body.items.items } };
+
+    ghost invariant = { λ t.
+        IsChecked (record { slots = t.slots.items.items; body = tstmt_trees t.body.items.items })
+        × (t.size ≡ program_size (record { slots = t.slots.items.items; body = tstmt_trees t.body.items.items })) };
+}
+
+impl Typed {
+    /// The checked program of these slots and this body, which keep the rules of one. It takes no memory.
+    pub fn new(slots: Slots, body: TStmts) -> Typed
+        requires { IsChecked (record { slots = slots.items.items; body = tstmt_trees body.items.items }) }
+        ensures { result ≡ record { slots = slots.items.items; body = tstmt_trees body.items.items } }
+    {
+        let size = size_of(&slots, &body);
+        Typed { slots, body, size }
+    }
+
+    /// The variables, in order of declaration.
+    pub fn slots(&self) -> &Slots
+        ensures slots { result.now.items.items ≡ self.now.slots }
+        ensures checked { IsChecked self.now }
+    {
+        &self.slots
+    }
+
+    /// The statements.
+    pub fn body(&self) -> &TStmts
+        ensures body { tstmt_trees result.now.items.items ≡ self.now.body }
+        ensures checked { IsChecked self.now }
+    {
+        &self.body
+    }
+
+    /// The names and types of the inputs, in order of declaration; `Memory` where there is no room for them.
+    pub fn columns(&self, alloc: Global) -> Result<Columns, Memory>
+        ensures { IfOk result (λ columns. columns ≡ input_columns self.now.slots) }
+    {
+        inputs_of(alloc, &self.slots.items)
+    }
+
+    /// The Size of the program: the most operations that it is flattened to. At most 65,536.
+    pub fn size(&self) -> u32
+        ensures size { result ≡ size self.now }
+        ensures checked { IsChecked self.now }
+    {
+        self.size
+    }
+}
+
+// The columns of the inputs among the slots.
+fn inputs_of(alloc: Global, slots: &[Slot]) -> Result<Columns, Memory>
+    ensures { IfOk result (λ columns. columns ≡ input_columns slots.now) }
+{
+    let mut columns = Columns::new(alloc);
+    'each: for slot in slots {
+        add_input(alloc, &mut columns, slot)?;
+    }
+    Ok(columns)
+}
+
+/// Appends the slot's column where the slot is an input.
+fn add_input(alloc: Global, columns: &mut Columns, slot: &Slot) -> Result<(), Memory>
+    ensures { OnOk result (columns.new ≡ columns.old ++ input_columns (slot.now ∷ [])) }
+{
+    match slot.class {
+        Class::Input => columns.push(Column {
+            name: Text::copy_of(alloc, slot.name.bytes())?,
+            ty: slot.ty,
+        }),
+        _ => Ok(()),
+    }
+}
