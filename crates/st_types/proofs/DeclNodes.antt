@@ -1,0 +1,146 @@
+-- DeclNodes: the steps of typing declarations, one after another.
+use Rattle.std.proofs.Common.{◌≡◌, ◌⊎◌, inl, inr, ℤ, false, List, [], ◌∷◌, Option, Some, None, refl, subst}
+use Rattle.vcp_base.specs.declared.ty.Ty.{Ty}
+use Rattle.st_tree.specs.declared.program.Class.{Class}
+use Rattle.st_tree.specs.ExprTree.{ExprTree, literal, name, unary, binary, call}
+use Rattle.st_tree.specs.ProgramTree.{DeclaredTree, DeclTree, BlockTree}
+use Rattle.st_types.specs.declared.fault.Fault.{Fault}
+use Rattle.st_types.specs.declared.fault.Rule.TheVariants as rule
+use Rattle.st_types.specs.Faults.{fault}
+use Rattle.st_types.specs.Notes.{Notes}
+use Rattle.st_types.specs.Scope.{Entry}
+use Rattle.st_types.specs.StmtTyping.{Known}
+use Rattle.st_types.specs.DeclTyping.{Made, is_new, after_name, after_names, known_init, init_value, Misfit, NamesFault, ValueFault, InitFault, after_decl, DeclFault, after_decls, DeclsFault, after_blocks, BlocksFault}
+use Rattle.st_types.specs.DeclSteps.{FormFault, InitForm, DeclForm, DeclsForm, BlocksForm, NoName, InitNoName, DeclsNoName, BlocksNoName, JudgesInit, Makes, MakesNames}
+use Rattle.st_types.proofs.NoteLaws.{quiet, pair, notes-as}
+
+-- ---- unknown names apart from other faults
+
+value-split : (all before : List Entry) (e : ExprTree) (f : Fault) → ValueFault all before e f → FormFault before e f ⊎ NoName all e f
+value-split all before (literal t v spot) f h = inl h
+value-split all before (name n spot) f (inl h) = inr h
+value-split all before (name n spot) f (inr h) = inl h
+value-split all before (unary op a spot) f h = inl h
+value-split all before (binary op a b spot) f h = inl h
+value-split all before (call n es spot) f h = inl h
+
+value-form : (all before : List Entry) (e : ExprTree) (f : Fault) → FormFault before e f → ValueFault all before e f
+value-form all before (literal t v spot) f h = h
+value-form all before (name n spot) f h = inr h
+value-form all before (unary op a spot) f h = h
+value-form all before (binary op a b spot) f h = h
+value-form all before (call n es spot) f h = h
+
+value-name : (all before : List Entry) (e : ExprTree) (f : Fault) → NoName all e f → ValueFault all before e f
+value-name all before (literal t v spot) f h = absurd h
+value-name all before (name n spot) f h = inl h
+value-name all before (unary op a spot) f h = absurd h
+value-name all before (binary op a b spot) f h = absurd h
+value-name all before (call n es spot) f h = absurd h
+
+init-split : (all before : List Entry) (i : Option ExprTree) (f : Fault) → InitFault all before i f → InitForm before i f ⊎ InitNoName all i f
+init-split all before None f h = absurd h
+init-split all before (Some e) f h = value-split all before e f h
+
+init-form : (all before : List Entry) (i : Option ExprTree) (f : Fault) → InitForm before i f → InitFault all before i f
+init-form all before None f h = absurd h
+init-form all before (Some e) f h = value-form all before e f h
+
+init-name : (all before : List Entry) (i : Option ExprTree) (f : Fault) → InitNoName all i f → InitFault all before i f
+init-name all before None f h = absurd h
+init-name all before (Some e) f h = value-name all before e f h
+
+decl-split : (all : List Entry) (k : Class) (m : Made) (d : DeclTree) (f : Fault) → DeclFault all k m d f → DeclForm k m d f ⊎ InitNoName all d.init f
+decl-split all k m d f (inl h) = elim (init-split all m.entries d.init f h) [ inl a ↦ inl (inl a) | inr b ↦ inr b ]
+decl-split all k m d f (inr h) = inl (inr h)
+
+decl-form : (all : List Entry) (k : Class) (m : Made) (d : DeclTree) (f : Fault) → DeclForm k m d f → DeclFault all k m d f
+decl-form all k m d f (inl h) = inl (init-form all m.entries d.init f h)
+decl-form all k m d f (inr h) = inr h
+
+decls-split : (all : List Entry) (k : Class) (m : Made) (ds : List DeclTree) (f : Fault) → DeclsFault all k m ds f → DeclsForm k m ds f ⊎ DeclsNoName all ds f
+decls-split all k m [] f h = absurd h
+decls-split all k m (d ∷ ds) f (inl h) = elim (decl-split all k m d f h) [ inl a ↦ inl (inl a) | inr b ↦ inr (inl b) ]
+decls-split all k m (d ∷ ds) f (inr h) = elim (decls-split all k (after_decl k m d) ds f h) [ inl a ↦ inl (inr a) | inr b ↦ inr (inr b) ]
+
+decls-form : (all : List Entry) (k : Class) (m : Made) (ds : List DeclTree) (f : Fault) → DeclsForm k m ds f → DeclsFault all k m ds f
+decls-form all k m [] f h = absurd h
+decls-form all k m (d ∷ ds) f (inl h) = inl (decl-form all k m d f h)
+decls-form all k m (d ∷ ds) f (inr h) = inr (decls-form all k (after_decl k m d) ds f h)
+
+decls-name : (all : List Entry) (k : Class) (m : Made) (ds : List DeclTree) (f : Fault) → DeclsNoName all ds f → DeclsFault all k m ds f
+decls-name all k m [] f h = absurd h
+decls-name all k m (d ∷ ds) f (inl h) = inl (inl (init-name all m.entries d.init f h))
+decls-name all k m (d ∷ ds) f (inr h) = inr (decls-name all k (after_decl k m d) ds f h)
+
+blocks-split : (all : List Entry) (m : Made) (bs : List BlockTree) (f : Fault) → BlocksFault all m bs f → BlocksForm m bs f ⊎ BlocksNoName all bs f
+blocks-split all m [] f h = absurd h
+blocks-split all m (b ∷ bs) f (inl h) = elim (decls-split all b.class m b.decls f h) [ inl a ↦ inl (inl a) | inr b ↦ inr (inl b) ]
+blocks-split all m (b ∷ bs) f (inr h) = elim (blocks-split all (after_decls b.class m b.decls) bs f h) [ inl a ↦ inl (inr a) | inr b ↦ inr (inr b) ]
+
+blocks-form : (all : List Entry) (m : Made) (bs : List BlockTree) (f : Fault) → BlocksForm m bs f → BlocksFault all m bs f
+blocks-form all m [] f h = absurd h
+blocks-form all m (b ∷ bs) f (inl h) = inl (decls-form all b.class m b.decls f h)
+blocks-form all m (b ∷ bs) f (inr h) = inr (blocks-form all (after_decls b.class m b.decls) bs f h)
+
+blocks-name : (all : List Entry) (m : Made) (bs : List BlockTree) (f : Fault) → BlocksNoName all bs f → BlocksFault all m bs f
+blocks-name all m [] f h = absurd h
+blocks-name all m (b ∷ bs) f (inl h) = inl (decls-name all b.class m b.decls f h)
+blocks-name all m (b ∷ bs) f (inr h) = inr (blocks-name all (after_decls b.class m b.decls) bs f h)
+
+-- both walks together meet all faults of declarations
+pub two-walks : (a b c : Option Fault) (all : List Entry) (m n end : Made) (bs : List BlockTree) → Makes a b n end (BlocksForm m bs) → Notes b c (BlocksNoName all bs) → Makes a c n end (BlocksFault all m bs)
+two-walks a b c all m n end bs h k = record {
+  notes = notes-as a c (λ f. BlocksForm m bs f ⊎ BlocksNoName all bs f) (BlocksFault all m bs) (pair a b c (BlocksForm m bs) (BlocksNoName all bs) h.notes k)
+      (λ f. blocks-split all m bs f)
+      (λ f s. elim s [ inl x ↦ blocks-form all m bs f x | inr y ↦ blocks-name all m bs f y ]);
+  gives = h.gives;
+}
+
+-- ---- names
+
+pub no-names : (k : Class) (t : Ty) (v : ℤ) (x : Option Known) (m : Made) (a : Option Fault) → Makes a a m m (NamesFault m k t v x [])
+no-names k t v x m a = record { notes = quiet a (NamesFault m k t v x []) (λ f h. h); gives = refl }
+
+pub one-name : (k : Class) (t : Ty) (v : ℤ) (x : Option Known) (d : DeclaredTree) (ds : List DeclaredTree) (m n end : Made) (a b c e : Option Fault)
+    → Notes a b (λ f. (f ≡ fault rule.Duplicate d.spot) × (is_new m d.name ≡ false)) → n ≡ after_name m k t v d
+    → Notes b c (λ f. (f ≡ fault rule.Mismatch d.spot) × Misfit x t)
+    → Makes c e end (after_names n k t v ds) (NamesFault n k t v x ds)
+    → Makes a e end (after_names m k t v (d ∷ ds)) (NamesFault m k t v x (d ∷ ds))
+one-name k t v x d ds m n end a b c e n1 is n2 rest =
+    let r = subst (λ y. Makes c e end (after_names y k t v ds) (NamesFault y k t v x ds)) is rest in
+    record {
+      notes = pair a b e (λ f. (f ≡ fault rule.Duplicate d.spot) × (is_new m d.name ≡ false)) (λ f. ((f ≡ fault rule.Mismatch d.spot) × Misfit x t) ⊎ NamesFault (after_name m k t v d) k t v x ds f) n1
+          (pair b c e (λ f. (f ≡ fault rule.Mismatch d.spot) × Misfit x t) (NamesFault (after_name m k t v d) k t v x ds) n2 r.notes);
+      gives = r.gives;
+    }
+
+-- ---- declarations and blocks
+
+pub one-init : (k : Class) (d : DeclTree) (m n : Made) (a b c : Option Fault) (x : Option Known)
+    → JudgesInit m d.init a b x → MakesNames k d.ty x d.names m n b c → Makes a c n (after_decl k m d) (DeclForm k m d)
+one-init k d m n a b c x init names =
+    let r = subst (λ y. MakesNames k d.ty y d.names m n b c) init.gives names in
+    record { notes = pair a b c (InitForm m.entries d.init) (NamesFault m k d.ty (init_value m d.init) (known_init m d.init) d.names) init.notes r.notes; gives = r.gives }
+
+pub no-decls : (k : Class) (m : Made) (a : Option Fault) → Makes a a m m (DeclsForm k m [])
+no-decls k m a = record { notes = quiet a (DeclsForm k m []) (λ f h. h); gives = refl }
+
+pub one-decl : (k : Class) (d : DeclTree) (ds : List DeclTree) (m n end : Made) (a b c : Option Fault)
+    → Makes a b n (after_decl k m d) (DeclForm k m d)
+    → Makes b c end (after_decls k n ds) (DeclsForm k n ds)
+    → Makes a c end (after_decls k m (d ∷ ds)) (DeclsForm k m (d ∷ ds))
+one-decl k d ds m n end a b c first rest =
+    let r = subst (λ y. Makes b c end (after_decls k y ds) (DeclsForm k y ds)) first.gives rest in
+    record { notes = pair a b c (DeclForm k m d) (DeclsForm k (after_decl k m d) ds) first.notes r.notes; gives = r.gives }
+
+pub no-blocks : (m : Made) (a : Option Fault) → Makes a a m m (BlocksForm m [])
+no-blocks m a = record { notes = quiet a (BlocksForm m []) (λ f h. h); gives = refl }
+
+pub one-block : (g : BlockTree) (bs : List BlockTree) (m n end : Made) (a b c : Option Fault)
+    → Makes a b n (after_decls g.class m g.decls) (DeclsForm g.class m g.decls)
+    → Makes b c end (after_blocks n bs) (BlocksForm n bs)
+    → Makes a c end (after_blocks m (g ∷ bs)) (BlocksForm m (g ∷ bs))
+one-block g bs m n end a b c first rest =
+    let r = subst (λ y. Makes b c end (after_blocks y bs) (BlocksForm y bs)) first.gives rest in
+    record { notes = pair a b c (DeclsForm g.class m g.decls) (BlocksForm (after_decls g.class m g.decls) bs) first.notes r.notes; gives = r.gives }

@@ -1,0 +1,19 @@
+pub mod ExprLaws
+pub mod StmtLaws
+pub mod TurnsFit
+pub mod TurnsAre
+pub mod MadeChecked
+pub mod DeclLaws
+pub mod Faultless
+pub mod ConstantLaws
+pub mod LeastFaults
+pub mod OneAnswer
+mod TypingRows
+pub mod NoteLaws
+pub mod DeclNodes
+pub mod PlaceLaws
+pub mod ExprNodes
+pub mod Keys
+pub mod Wanted
+pub mod WholeLaws
+pub mod StmtNodes

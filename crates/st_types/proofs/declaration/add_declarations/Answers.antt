@@ -1,0 +1,21 @@
+use Rattle.std.proofs.Common.{◌≡◌, ◌+◌, drop, map, [], ◌∷◌, subst, sym, arith}
+use Rattle.std.proofs.lemmas.Grind.{common_steps}
+use Rattle.st_tree.specs.ProgramTree.{decl_tree}
+use Rattle.st_types.specs.DeclSteps.{made_by, MakesDecls}
+use Rattle.st_types.proofs.DeclNodes.{no-decls, one-decl}
+use Rattle.st_types.proofs.declaration.add_declarations.Goals as goal
+
+pub each-preserved : goal.each-preserved
+each-preserved c =
+    let e : drop c.each.d-index c.args.decls.now ≡ c.d-item.result ∷ drop (c.each.d-index + 1) c.args.decls.now = grind (arith, common_steps) in
+    λ n end h. c.each.invariant n end
+    (subst (λ ds. MakesDecls c.args.class (map decl_tree ds) (made_by c.each.made) n c.each.first end) (sym e)
+    (one-decl c.args.class (decl_tree c.d-item.result) (map decl_tree (drop (c.each.d-index + 1) c.args.decls.now)) (made_by c.each.made) (made_by c.add_declaration.new.made) n c.each.first c.add_declaration.new.first end
+    c.in_ok-add_declaration.ensures h))
+
+pub returns : goal.returns
+returns c =
+    let e : drop c.each.d-index c.args.decls.now ≡ [] = grind (arith, common_steps) in
+    c.each.invariant (made_by c.each.made) c.each.first
+    (subst (λ ds. MakesDecls c.args.class (map decl_tree ds) (made_by c.each.made) (made_by c.each.made) c.each.first c.each.first) (sym e)
+    (no-decls c.args.class (made_by c.each.made) c.each.first))

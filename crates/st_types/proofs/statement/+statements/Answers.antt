@@ -1,0 +1,101 @@
+use Rattle.std.proofs.Common.{◌≡◌, IfOk, [], ◌∷◌, ◌+◌, option_map, Some, sym, ap, ◌∙◌, subst, arith, drop}
+use Rattle.std.proofs.lemmas.Result.{IfOk-weaker}
+use Rattle.std.proofs.lemmas.Grind.{common_steps}
+use Rattle.st_tree.specs.ExprTree.{expr_tree, expr_tree_or_none}
+use Rattle.st_tree.specs.StmtTree.{assign, count, label_trees, stmt_tree, stmt_trees, arm_trees, branch_trees, other_tree}
+use Rattle.vcp_typed.specs.Items.{tarm_items, tbranch_items}
+use Rattle.vcp_typed.specs.TExprTree.{texpr_tree}
+use Rattle.vcp_typed.specs.TStmtTree.{no_tstmts, no_tarms, no_tbranches, no_tother, tstmt_tree, tstmt_trees, tarm_trees, tbranch_trees, tother_tree}
+use Rattle.st_types.specs.ExprTyping.{both}
+use Rattle.st_types.specs.StmtTyping.{arm_of, branch_of}
+use Rattle.st_types.specs.StmtSteps.{InType, TypesLabels, TypesStmt, TypesStmts, TypesArms, TypesBranches, TypesOther}
+use Rattle.st_types.proofs.StmtNodes.{choose-types, select-types, count-types, stmt_cons, more-stmts, no-more-stmts, stmts-on, stmts-end, more-arms, no-more-arms, arms-on, arms-end, more-branches, no-more-branches, branches-on, branches-end, no-else, some-else}
+use Rattle.st_types.proofs.statement.+statements.Goals as goal
+
+pub type_stmt-returns-in-Assign : goal.type_stmt-returns-in-Assign
+type_stmt-returns-in-Assign t c =
+    let inner = subst (λ n. IfOk c.assign.result (λ r. TypesStmt c.args.names.now c.args.held.now (assign n (expr_tree c.in-Assign.value) c.in-Assign.spot) c.args.first.now c.assign.new.first (option_map tstmt_tree r))) c.bytes-name.ensures c.assign.ensures in
+    IfOk-weaker c.assign.result _ _ (λ r p.
+    subst (λ d. TypesStmt c.args.names.now c.args.held.now d c.args.first.now c.assign.new.first (option_map tstmt_tree r)) (sym (ap stmt_tree c.in-Assign.is)) p) inner
+
+pub type_stmt-returns-in_ok-rest-in-If : goal.type_stmt-returns-in_ok-rest-in-If
+type_stmt-returns-in_ok-rest-in-If t c =
+    let made = subst (λ xs. TypesArms c.args.names.now c.args.held.now (arm_trees xs) c.args.first.now c.type_arms.new.first (option_map (λ a. tarm_trees (tarm_items a)) c.in_ok-made-in-If.made)) c.deref.ensures.value c.in_ok-made-in-If.ensures in
+    subst (λ d. TypesStmt c.args.names.now c.args.held.now d c.args.first.now c.type_other.new.first (option_map tstmt_tree c.chosen.result)) (sym (ap stmt_tree c.in-If.is ∙ c.if_holds.ensures))
+    (choose-types _ _ _ _ _ _ _ _ _ _ made c.in_ok-rest-in-If.ensures c.chosen.ensures)
+
+pub type_stmt-returns-in_ok-rest-in-Case : goal.type_stmt-returns-in_ok-rest-in-Case
+type_stmt-returns-in_ok-rest-in-Case t c =
+    let made = subst (λ xs. TypesBranches c.args.names.now c.args.held.now c.type_of-ty.result (branch_trees xs) c.selector-selects.new.first c.type_branches.new.first (option_map (λ b. tbranch_trees (tbranch_items b)) c.in_ok-made-in-Case.made)) c.deref-in-Case.ensures.value c.in_ok-made-in-Case.ensures in
+    subst (λ d. TypesStmt c.args.names.now c.args.held.now d c.args.first.now c.type_other-in-Case.new.first (option_map tstmt_tree c.selected.result)) (sym (ap stmt_tree c.in-Case.is ∙ c.case_holds.ensures))
+    (select-types _ _ _ _ _ _ _ _ _ _ _ _ _ _ _ _ _ c.in_ok-e-in-Case.ensures c.type_of-ty.ensures c.selector-selects.ensures.notes c.selector-selects.ensures.gives made c.in_ok-rest-in-Case.ensures c.selected.ensures)
+
+pub type_stmt-returns-in-For : goal.type_stmt-returns-in-For
+type_stmt-returns-in-For t c =
+    let inner = subst (λ n. IfOk c.count.result (λ r. TypesStmt c.args.names.now c.args.held.now (count n c.in-For.name_spot (expr_tree c.in-For.from) (expr_tree c.in-For.last) (expr_tree_or_none c.in-For.by) (stmt_trees c.deref-in-For.result.now) c.in-For.spot) c.args.first.now c.count.new.first (option_map tstmt_tree r))) c.bytes.ensures (c.count.ensures c.in-For.spot) in
+    IfOk-weaker c.count.result _ _ (λ r p.
+    subst (λ d. TypesStmt c.args.names.now c.args.held.now d c.args.first.now c.count.new.first (option_map tstmt_tree r))
+    (ap (λ xs. count c.in-For.name c.in-For.name_spot (expr_tree c.in-For.from) (expr_tree c.in-For.last) (expr_tree_or_none c.in-For.by) (stmt_trees xs) c.in-For.spot) c.deref-in-For.ensures.value ∙ sym (ap stmt_tree c.in-For.is ∙ c.for_holds.ensures)) p) inner
+
+pub count-counted-requires-clause-first : goal.count-counted-requires-clause-first
+count-counted-requires-clause-first t c = subst (λ y. InType y c.in_ok-low.low) c.entry_type-ty.ensures c.in_ok-low.ensures.small
+
+pub count-counted-requires-clause-last : goal.count-counted-requires-clause-last
+count-counted-requires-clause-last t c = subst (λ y. InType y c.in_ok-high.high) c.entry_type-ty.ensures c.in_ok-high.ensures.small
+
+pub count-returns : goal.count-returns
+count-returns t c = λ spot.
+    let body = subst (λ h. TypesStmts c.args.names.now h (stmt_trees c.args.body.now) c.step.new.first c.type_stmts.new.first (option_map (λ b. tstmt_trees b.items.items) c.in_ok-made.made)) c.deref.ensures.value c.in_ok-made.ensures in
+    count-types _ _ _ _ spot _ _ _ _ _ _ _ _ _ _ _ _ _ _ _ _ _ _ _ c.in_ok-x.ensures c.entry_type-ty.ensures c.in_ok-inner.ensures c.name_fault.ensures c.bool_fault.ensures c.in_ok-low.ensures.is c.in_ok-high.ensures.is c.in_ok-step_by.ensures.is body c.counted.ensures
+
+pub type_stmts-each-preserved : goal.type_stmts-each-preserved
+type_stmts-each-preserved t c = λ end r h.
+    let d : drop c.each.s-index c.args.stmts.now ≡ c.s-item.result ∷ drop (c.each.s-index + 1) c.args.stmts.now = grind (arith, common_steps) in
+    let m = more-stmts c.args.names.now c.args.held.now (stmt_tree c.s-item.result) (stmt_trees (drop (c.each.s-index + 1) c.args.stmts.now)) c.each.first c.type_stmt.new.first end (option_map tstmt_tree c.in_ok-made.made) r c.in_ok-made.ensures h in
+    let n = subst (λ xs. TypesStmts c.args.names.now c.args.held.now (stmt_trees xs) c.each.first end (both stmt_cons (option_map tstmt_tree c.in_ok-made.made) r)) (sym d) m in
+    subst (λ q. TypesStmts c.args.names.now c.args.held.now (stmt_trees c.args.stmts.now) c.args.first.now end q) (stmts-on _ _ _ r c.in_ok-list.ensures) (c.each.invariant end _ n)
+
+pub type_stmts-returns : goal.type_stmts-returns
+type_stmts-returns t c =
+    let d : drop c.each.s-index c.args.stmts.now ≡ [] = grind (arith, common_steps) in
+    let n = subst (λ xs. TypesStmts c.args.names.now c.args.held.now (stmt_trees xs) c.each.first c.each.first (Some no_tstmts)) (sym d) (no-more-stmts c.args.names.now c.args.held.now c.each.first) in
+    subst (λ q. TypesStmts c.args.names.now c.args.held.now (stmt_trees c.args.stmts.now) c.args.first.now c.each.first q) (stmts-end _) (c.each.invariant c.each.first (Some no_tstmts) n)
+
+pub type_arms-each-preserved : goal.type_arms-each-preserved
+type_arms-each-preserved t c = λ end r h.
+    let d : drop c.each.arm-index c.args.arms.now ≡ c.arm-item.result ∷ drop (c.each.arm-index + 1) c.args.arms.now = grind (arith, common_steps) in
+    let body = subst (λ xs. TypesStmts c.args.names.now c.args.held.now (stmt_trees xs) c.tested-cond.new.first c.type_stmts.new.first (option_map (λ b. tstmt_trees b.items.items) c.in_ok-body.body)) c.deref.ensures.value c.in_ok-body.ensures in
+    let m = more-arms c.args.names.now c.args.held.now (expr_tree c.arm-item.result.cond) (stmt_trees c.arm-item.result.body.items.items) c.arm-item.result.spot (arm_trees (drop (c.each.arm-index + 1) c.args.arms.now)) _ _ _ _ end _ _ _ r c.in_ok-e.ensures c.tested-cond.ensures.notes c.tested-cond.ensures.gives body h in
+    let n = subst (λ xs. TypesArms c.args.names.now c.args.held.now (arm_trees xs) c.each.first end (arm_of c.arm-item.result.spot (option_map texpr_tree c.tested-cond.result) (option_map (λ b. tstmt_trees b.items.items) c.in_ok-body.body) r)) (sym d) m in
+    subst (λ q. TypesArms c.args.names.now c.args.held.now (arm_trees c.args.arms.now) c.args.first.now end q) (arms-on _ _ _ _ _ r c.in_ok-list.ensures) (c.each.invariant end _ n)
+
+pub type_arms-returns : goal.type_arms-returns
+type_arms-returns t c =
+    let d : drop c.each.arm-index c.args.arms.now ≡ [] = grind (arith, common_steps) in
+    let n = subst (λ xs. TypesArms c.args.names.now c.args.held.now (arm_trees xs) c.each.first c.each.first (Some no_tarms)) (sym d) (no-more-arms c.args.names.now c.args.held.now c.each.first) in
+    subst (λ q. TypesArms c.args.names.now c.args.held.now (arm_trees c.args.arms.now) c.args.first.now c.each.first q) (arms-end _) (c.each.invariant c.each.first (Some no_tarms) n)
+
+pub type_branches-each-preserved : goal.type_branches-each-preserved
+type_branches-each-preserved t c = λ end r h.
+    let d : drop c.each.branch-index c.args.branches.now ≡ c.branch-item.result ∷ drop (c.each.branch-index + 1) c.args.branches.now = grind (arith, common_steps) in
+    let labels = subst (λ xs. TypesLabels c.args.names.now c.args.ty (label_trees xs) c.each.first c.type_labels.new.first (option_map (λ v. v.items.items) c.in_ok-labels.labels)) c.deref.ensures.value c.in_ok-labels.ensures in
+    let body = subst (λ xs. TypesStmts c.args.names.now c.args.held.now (stmt_trees xs) c.type_labels.new.first c.type_stmts.new.first (option_map (λ b. tstmt_trees b.items.items) c.in_ok-body.body)) c.deref-in-each.ensures.value c.in_ok-body.ensures in
+    let m = more-branches c.args.names.now c.args.held.now c.args.ty (label_trees c.branch-item.result.labels.items.items) (stmt_trees c.branch-item.result.body.items.items) (branch_trees (drop (c.each.branch-index + 1) c.args.branches.now)) _ _ _ end _ _ r labels body h in
+    let n = subst (λ xs. TypesBranches c.args.names.now c.args.held.now c.args.ty (branch_trees xs) c.each.first end (branch_of (option_map (λ v. v.items.items) c.in_ok-labels.labels) (option_map (λ b. tstmt_trees b.items.items) c.in_ok-body.body) r)) (sym d) m in
+    subst (λ q. TypesBranches c.args.names.now c.args.held.now c.args.ty (branch_trees c.args.branches.now) c.args.first.now end q) (branches-on _ _ _ _ r c.in_ok-list.ensures) (c.each.invariant end _ n)
+
+pub type_branches-returns : goal.type_branches-returns
+type_branches-returns t c =
+    let d : drop c.each.branch-index c.args.branches.now ≡ [] = grind (arith, common_steps) in
+    let n = subst (λ xs. TypesBranches c.args.names.now c.args.held.now c.args.ty (branch_trees xs) c.each.first c.each.first (Some no_tbranches)) (sym d) (no-more-branches c.args.names.now c.args.held.now c.args.ty c.each.first) in
+    subst (λ q. TypesBranches c.args.names.now c.args.held.now c.args.ty (branch_trees c.args.branches.now) c.args.first.now c.each.first q) (branches-end _) (c.each.invariant c.each.first (Some no_tbranches) n)
+
+pub type_other-returns-in-None : goal.type_other-returns-in-None
+type_other-returns-in-None t c =
+    subst (λ o. TypesOther c.args.names.now c.args.held.now o c.args.first.now c.args.first.now (Some no_tother)) (sym (ap other_tree c.in-None.is)) (no-else c.args.names.now c.args.held.now c.args.first.now)
+
+pub type_other-returns-in_ok-made-in-Some : goal.type_other-returns-in_ok-made-in-Some
+type_other-returns-in_ok-made-in-Some t c =
+    let body = subst (λ xs. TypesStmts c.args.names.now c.args.held.now (stmt_trees xs) c.args.first.now c.type_stmts.new.first (option_map (λ b. tstmt_trees b.items.items) c.in_ok-made-in-Some.made)) c.deref.ensures.value c.in_ok-made-in-Some.ensures in
+    subst (λ o. TypesOther c.args.names.now c.args.held.now o c.args.first.now c.type_stmts.new.first (option_map tother_tree c.with_else.result)) (sym (ap other_tree c.in-Some.is))
+    (some-else _ _ _ _ _ _ _ body c.with_else.ensures)

@@ -1,0 +1,12 @@
+pub mod Faults
+pub mod Notes
+pub mod Scope
+pub mod ExprTyping
+pub mod ExprSteps
+pub mod StmtTyping
+pub mod StmtSteps
+pub mod DeclTyping
+pub mod Typing
+pub mod DeclSteps
+pub mod Places
+pub mod Turns

@@ -1,0 +1,101 @@
+-- StmtSteps: what the steps of typing a statement give, and the faults that they note.
+use Rattle.std.specs.Prelude.{◌≡◌, ℕ, ℤ, pos, ◌≤ℤ◌, negsuc, List, [], ◌∷◌, ◌++◌, Option, Some, None}
+use Rattle.vcp_base.specs.declared.spot.Spot.{Spot}
+use Rattle.vcp_base.specs.declared.ty.Ty.{Ty}
+use Rattle.st_tree.specs.ExprTree.{ExprTree}
+use Rattle.st_tree.specs.StmtTree.{LabelTree, StmtTree, StmtTrees, ArmTrees, BranchTrees, OtherTree}
+use Rattle.vcp_typed.specs.declared.stmt.TLabel.{TLabel}
+use Rattle.vcp_typed.specs.TExprTree as typed
+use Rattle.vcp_typed.specs.TStmtTree as checked
+use Rattle.st_types.specs.declared.constants.Known.{Known}
+use Rattle.st_types.specs.declared.fault.Fault.{Fault}
+use Rattle.st_types.specs.Notes.{Notes}
+use Rattle.st_types.specs.Scope.{Entry}
+use Rattle.st_types.specs.ExprTyping.{ExprFault}
+use Rattle.st_types.specs.StmtTyping.{constant, number_in, step_of, BoundFault, StepFault, last_end, LastFault, label_of, LabelFault, labels_of, LabelsFault, StmtFault, stmt_of, StmtsFault, stmts_of, ArmsFault, arms_of, BranchesFault, branches_of, OtherFault, other_of}
+
+-- the faults F are met, and r is w
+pub record Gives {A : Type 0} (F : Fault → Type 0) (w : A) (old new : Option Fault) (r : A) : Type 0 where
+  pub notes : Notes old new F
+  pub gives : r ≡ w
+
+-- ---- constants
+
+-- the type and value of a checked literal
+abbrev pub literal_known : typed.TExprTree → Option Known
+literal_known (typed.literal t v spot) = Some (record { ty = t; value = v })
+literal_known (typed.get slot t) = None
+literal_known (typed.widen t a) = None
+literal_known (typed.unary op t a spot) = None
+literal_known (typed.binary op t a b spot) = None
+literal_known (typed.call f t es spot) = None
+
+-- a value of some type
+abbrev pub IsSmall : ℤ → Type 0
+IsSmall v = (negsuc 2147483647 ≤ℤ v) × (v ≤ℤ pos 2147483647)
+
+-- a number, where there is one; that of a known type is a value of some type
+abbrev pub InType : Option Ty → Option ℤ → Type 0
+InType None v = Unit {0}
+InType (Some t) None = Unit {0}
+InType (Some t) (Some v) = IsSmall v
+
+-- the number that an expression is
+abbrev pub Numbers : List Entry → Option Ty → ExprTree → Option Fault → Option Fault → Option ℤ → Type 0
+Numbers s t e old new r = Gives (ExprFault s e) (number_in t (constant s e)) old new r
+
+-- the bound of a FOR that an expression is
+abbrev pub Bounds : List Entry → Option Ty → ExprTree → Option Fault → Option Fault → Option ℤ → Type 0
+Bounds s t e old new r = Gives (BoundFault s t e) (number_in t (constant s e)) old new r
+
+-- the step of a FOR
+abbrev pub Steps : List Entry → Option Ty → Option ExprTree → Option Fault → Option Fault → Option ℤ → Type 0
+Steps s t e old new r = Gives (StepFault s t e) (step_of s t e) old new r
+
+-- ---- labels
+
+abbrev pub TypesLast : List Entry → Option Ty → Option ExprTree → Option Fault → Option Fault → Option (Option ℤ) → Type 0
+TypesLast s t e old new r = Gives (LastFault s e) (last_end s t e) old new r
+
+abbrev pub TypesLabel : List Entry → Option Ty → LabelTree → Option Fault → Option Fault → Option TLabel → Type 0
+TypesLabel s t l old new r = Gives (LabelFault s t l) (label_of s t l) old new r
+
+abbrev pub TypesLabels : List Entry → Option Ty → List LabelTree → Option Fault → Option Fault → Option (List TLabel) → Type 0
+TypesLabels s t ls old new r = Gives (LabelsFault s t ls) (labels_of s t ls) old new r
+
+-- ---- statements
+
+abbrev pub TypesStmt : List Entry → List ℕ → StmtTree → Option Fault → Option Fault → Option checked.TStmtTree → Type 0
+TypesStmt s held x old new r = Gives (StmtFault s held x) (stmt_of s held x) old new r
+
+abbrev pub TypesStmts : List Entry → List ℕ → StmtTrees → Option Fault → Option Fault → Option checked.TStmtTrees → Type 0
+TypesStmts s held xs old new r = Gives (StmtsFault s held xs) (stmts_of s held xs) old new r
+
+abbrev pub TypesArms : List Entry → List ℕ → ArmTrees → Option Fault → Option Fault → Option checked.TArmTrees → Type 0
+TypesArms s held arms old new r = Gives (ArmsFault s held arms) (arms_of s held arms) old new r
+
+abbrev pub TypesBranches : List Entry → List ℕ → Option Ty → BranchTrees → Option Fault → Option Fault → Option checked.TBranchTrees → Type 0
+TypesBranches s held t branches old new r = Gives (BranchesFault s held t branches) (branches_of s held t branches) old new r
+
+abbrev pub TypesOther : List Entry → List ℕ → OtherTree → Option Fault → Option Fault → Option checked.TOtherTree → Type 0
+TypesOther s held o old new r = Gives (OtherFault s held o) (other_of s held o) old new r
+
+-- one more at the end of a list; none where a part has a fault
+
+abbrev pub stmt_after : checked.TStmtTrees → checked.TStmtTree → Option checked.TStmtTrees
+stmt_after xs x = Some (checked.tstmts_and xs x)
+
+abbrev pub label_after : List TLabel → TLabel → Option (List TLabel)
+label_after ls l = Some (ls ++ l ∷ [])
+
+abbrev pub arm_after : Spot → Option checked.TArmTrees → Option typed.TExprTree → Option checked.TStmtTrees → Option checked.TArmTrees
+arm_after spot (Some arms) (Some e) (Some body) = Some (checked.tarms_and arms e body spot)
+arm_after spot _ _ _ = None
+
+abbrev pub branch_after : Option checked.TBranchTrees → Option (List TLabel) → Option checked.TStmtTrees → Option checked.TBranchTrees
+branch_after (Some branches) (Some ls) (Some body) = Some (checked.tbranches_and branches ls body)
+branch_after _ _ _ = None
+
+-- IF of these parts
+abbrev pub choose_of : checked.TArmTrees → checked.TOtherTree → Option checked.TStmtTree
+choose_of arms o = Some (checked.choose arms o)

@@ -1,0 +1,222 @@
+//! The typing of declarations.
+
+ghost use Rattle.std.specs.Prelude.{◌≡◌, IfOk, List, OnOk, false, length, map};
+ghost use Rattle.st_tree.specs.ExprTree.{expr_tree_or_none};
+ghost use Rattle.st_tree.specs.ProgramTree.{block_tree, decl_tree, declared_tree};
+ghost use Rattle.st_types.specs.declared.fault.Rule.TheVariants as rule_;
+ghost use Rattle.st_types.specs.DeclSteps.{made_by, DeclForm, JudgesInit, Makes, MakesBlocks, MakesDecls, MakesNames};
+ghost use Rattle.st_types.specs.DeclTyping.{nothing_made, is_new, slots_with, after_name, after_decl, after_blocks, value_or_zero as zero_or, Misfit, BlocksFault};
+ghost use Rattle.st_types.specs.Faults.{fault};
+ghost use Rattle.st_types.specs.Notes.{Notes};
+
+use crate::constants::Known;
+use crate::fault::{Fault, Rule};
+use crate::initial::initial;
+use crate::names::{Entry, Names};
+use crate::note::note;
+use crate::undeclared::unknown_in_blocks;
+use crate::variable::is_constant;
+use st_tree::{Block, Class, Decl, Declared, Expr};
+use std::alloc::Global;
+use vcp_base::{Memory, Spot, Text, Ty, within};
+use vcp_typed::{Slot, Slots};
+
+/// What the declarations so far have made: the names, and the slots of those that are no constants.
+#[derive(Drop)]
+pub(crate) struct Declarations {
+    pub names: Names,
+    pub slots: Slots,
+}
+
+/// What a declaration says of its names: the constant that is their initial value is none where there is none.
+#[derive(Clone, Copy, Drop)]
+struct Kind {
+    class: Class,
+    ty: Ty,
+    init: Option<Known>,
+}
+
+// An initial value that isn't given, or is none, is 0.
+fn value_or_zero(known: Option<Known>) -> i64
+    ensures { result ≡ zero_or known }
+{
+    match known {
+        None => 0,
+        Some(known) => known.value,
+    }
+}
+
+// Notes an initial value of a type that doesn't widen to the declared one.
+fn note_misfit(kind: Kind, spot: Spot, first: &mut Option<Fault>)
+    ensures { Notes first.old first.new (λ f. (f ≡ fault rule_.Mismatch spot) × Misfit kind.init kind.ty) }
+{
+    match kind.init {
+        None => {}
+        Some(known) => {
+            if !within(known.ty, kind.ty) {
+                note(first, Rule::Mismatch, spot);
+            }
+        }
+    }
+}
+
+// The number of the next slot. From 2^32 on there is no room for one.
+fn next_slot(slots: &Slots) -> Result<u32, Memory>
+    ensures { IfOk result (λ n. n ≡ length slots.now.items.items) }
+{
+    match u32::try_from(slots.len()) {
+        Ok(n) => Ok(n),
+        Err(_) => Err(Memory),
+    }
+}
+
+// Appends the variable that a name declares; a constant has no slot.
+fn add_slot(alloc: Global, slots: &mut Slots, kind: Kind, d: &Declared) -> Result<(), Memory>
+    ensures { OnOk result (slots.new.items.items ≡ slots_with slots.old.items.items kind.class (declared_tree d.now) kind.ty (zero_or kind.init)) }
+{
+    if is_constant(kind.class) {
+        return Ok(());
+    }
+    slots.push(Slot {
+        name: Text::copy_of(alloc, d.name.bytes())?,
+        spot: d.spot,
+        class: kind.class,
+        ty: kind.ty,
+        init: value_or_zero(kind.init),
+    })
+}
+
+// Adds a name; one that is declared before is noted, and the first declaration counts.
+fn add_name(
+    alloc: Global,
+    made: &mut Declarations,
+    kind: Kind,
+    d: &Declared,
+    first: &mut Option<Fault>,
+) -> Result<(), Memory>
+    ensures notes { OnOk result (Notes first.old first.new (λ f. (f ≡ fault rule_.Duplicate d.now.spot) × (is_new (made_by made.old) d.now.name ≡ false))) }
+    ensures gives { OnOk result (made_by made.new ≡ after_name (made_by made.old) kind.class kind.ty (zero_or kind.init) (declared_tree d.now)) }
+{
+    let entry = Entry {
+        name: Text::copy_of(alloc, d.name.bytes())?,
+        class: kind.class,
+        ty: kind.ty,
+        value: value_or_zero(kind.init),
+        slot: next_slot(&made.slots)?,
+    };
+    if made.names.declare(entry)? {
+        add_slot(alloc, &mut made.slots, kind, d)
+    } else {
+        note(first, Rule::Duplicate, d.spot);
+        Ok(())
+    }
+}
+
+// Adds the names of a declaration. Each of them tells an initial value of another type.
+fn add_names(
+    alloc: Global,
+    made: &mut Declarations,
+    kind: Kind,
+    names: &[Declared],
+    first: &mut Option<Fault>,
+) -> Result<(), Memory>
+    ensures { OnOk result (MakesNames kind.class kind.ty kind.init (map declared_tree names.now) (made_by made.old) (made_by made.new) first.old first.new) }
+{
+    'each: for d in names {
+        add_name(alloc, made, kind, d, first)?;
+        note_misfit(kind, d.spot, first);
+    }
+    Ok(())
+}
+
+// The constant that an initial value is, where one is given.
+fn initial_or_none(
+    made: &Declarations,
+    init: &Option<Expr>,
+    first: &mut Option<Fault>,
+) -> Result<Option<Known>, Memory>
+    ensures { IfOk result (λ r. JudgesInit (made_by made.now) (expr_tree_or_none init.now) first.old first.new r) }
+{
+    match init {
+        None => Ok(None),
+        Some(e) => initial(&made.names, e, first),
+    }
+}
+
+// Adds a declaration. Its initial value is judged by what was declared before it.
+fn add_declaration(
+    alloc: Global,
+    made: &mut Declarations,
+    class: Class,
+    d: &Decl,
+    first: &mut Option<Fault>,
+) -> Result<(), Memory>
+    ensures { OnOk result (Makes first.old first.new (made_by made.new)
+        (after_decl class (made_by made.old) (decl_tree d.now))
+        (DeclForm class (made_by made.old) (decl_tree d.now))) }
+{
+    let init = initial_or_none(made, &d.init, first)?;
+    let kind = Kind {
+        class,
+        ty: d.ty,
+        init,
+    };
+    add_names(alloc, made, kind, &d.names.items, first)
+}
+
+// Adds the declarations of a block.
+fn add_declarations(
+    alloc: Global,
+    made: &mut Declarations,
+    class: Class,
+    decls: &[Decl],
+    first: &mut Option<Fault>,
+) -> Result<(), Memory>
+    ensures { OnOk result (MakesDecls class (map decl_tree decls.now) (made_by made.old) (made_by made.new) first.old first.new) }
+{
+    'each: for d in decls {
+        add_declaration(alloc, made, class, d, first)?;
+    }
+    Ok(())
+}
+
+// Adds all blocks.
+fn add_blocks(
+    alloc: Global,
+    made: &mut Declarations,
+    blocks: &[Block],
+    first: &mut Option<Fault>,
+) -> Result<(), Memory>
+    ensures { OnOk result (MakesBlocks (map block_tree blocks.now) (made_by made.old) (made_by made.new) first.old first.new) }
+{
+    'each: for b in blocks {
+        add_declarations(alloc, made, b.class, &b.decls.items, first)?;
+    }
+    Ok(())
+}
+
+// Before the first declaration.
+fn nothing(alloc: Global) -> Declarations
+    ensures { made_by result ≡ nothing_made }
+{
+    Declarations {
+        names: Names::new(alloc),
+        slots: Slots::new(alloc),
+    }
+}
+
+/// What the blocks of a program declare; their faults are noted. `Memory` where there is no room, also for 2^32 slots.
+pub(crate) fn declared(
+    alloc: Global,
+    blocks: &[Block],
+    first: &mut Option<Fault>,
+) -> Result<Declarations, Memory>
+    ensures { IfOk result (λ r. Makes first.old first.new (made_by r)
+        (after_blocks nothing_made (map block_tree blocks.now))
+        (BlocksFault (made_by r).entries nothing_made (map block_tree blocks.now))) }
+{
+    let mut made = nothing(alloc);
+    add_blocks(alloc, &mut made, blocks, first)?;
+    unknown_in_blocks(&made.names, blocks, first)?;
+    Ok(made)
+}

@@ -1,0 +1,85 @@
+//! The types of literals.
+
+ghost use Rattle.std.specs.Prelude.{◌≡◌, neg_ℤ, option_map};
+ghost use Rattle.st_tree.specs.ExprTree.{expr_tree};
+ghost use Rattle.vcp_typed.specs.TExprTree.{literal as literal_tree, texpr_tree};
+ghost use Rattle.st_types.specs.ExprTyping.{sized as sized_of, literal_type as type_of_literal, negated as negated_of};
+
+use st_tree::{Expr, UnOp};
+use vcp_base::{Spot, Ty, fits};
+use vcp_typed::TExpr;
+
+/// A literal without a type, and its spot.
+#[derive(Clone, Copy, Debug, PartialEq, Eq, Drop)]
+pub struct Untyped {
+    pub value: i64,
+    pub spot: Spot,
+}
+
+/// The least type of numbers that a value is in.
+pub(crate) fn sized(value: i64) -> Option<Ty>
+    ensures { result ≡ sized_of value }
+{
+    if fits(Ty::Int, i128::from(value)) {
+        Some(Ty::Int)
+    } else if fits(Ty::Dint, i128::from(value)) {
+        Some(Ty::Dint)
+    } else {
+        None
+    }
+}
+
+/// The type of a literal: as it is written, or by its value; none where it is outside.
+pub(crate) fn literal_type(ty: Option<Ty>, value: i64) -> Option<Ty>
+    ensures { result ≡ type_of_literal ty value }
+{
+    match ty {
+        None => sized(value),
+        Some(t) => {
+            if fits(t, i128::from(value)) {
+                Some(t)
+            } else {
+                None
+            }
+        }
+    }
+}
+
+/// The literal without a type that stands directly behind a `-`.
+pub(crate) fn negated(op: UnOp, arg: &Expr) -> Option<Untyped>
+    ensures { result ≡ negated_of op (expr_tree arg.now) }
+{
+    match op {
+        UnOp::Not => None,
+        UnOp::Neg => match arg {
+            Expr::Lit { ty, value, spot } => match ty {
+                None => Some(Untyped {
+                    value: *value,
+                    spot: *spot,
+                }),
+                Some(_) => None,
+            },
+            Expr::Name { .. } => None,
+            Expr::Unary { .. } => None,
+            Expr::Binary { .. } => None,
+            Expr::Call { .. } => None,
+        },
+    }
+}
+
+/// A literal with `-` before it, as one literal; none where it is outside all types.
+pub(crate) fn minus(l: Untyped) -> Option<TExpr>
+    ensures { option_map texpr_tree result ≡ option_map (λ t. literal_tree t (neg_ℤ l.value) l.spot) (sized_of (neg_ℤ l.value)) }
+{
+    match l.value.checked_neg() {
+        None => None,
+        Some(value) => match sized(value) {
+            None => None,
+            Some(ty) => Some(TExpr::Lit {
+                ty,
+                value,
+                spot: l.spot,
+            }),
+        },
+    }
+}

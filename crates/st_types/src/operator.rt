@@ -1,0 +1,146 @@
+//! The types of operators.
+
+ghost use Rattle.std.specs.Prelude.{◌≡◌, IfOk};
+ghost use Rattle.vcp_typed.specs.Rules.{joined as joined_of, both_bool as both_bool_of, joined_or_bool as joined_or_bool_of, common as common_of, result as result_of, signed as signed_of};
+ghost use Rattle.vcp_typed.specs.TExprTree.{texpr_tree};
+ghost use Rattle.vcp_typed.specs.Checked.{ty_of as type_of_value};
+ghost use Rattle.st_types.specs.ExprTyping.{widened as widened_of, as_dint as dint_of};
+
+use st_tree::{BinOp, UnOp};
+use std::alloc::Global;
+use vcp_base::{Memory, Ty};
+use vcp_typed::TExpr;
+
+/// The type to which two types of numbers widen.
+pub(crate) fn joined(a: Ty, b: Ty) -> Option<Ty>
+    ensures { result ≡ joined_of a b }
+{
+    match (a, b) {
+        (Ty::Int, Ty::Int) => Some(Ty::Int),
+        (Ty::Int, Ty::Dint) => Some(Ty::Dint),
+        (Ty::Dint, Ty::Int) => Some(Ty::Dint),
+        (Ty::Dint, Ty::Dint) => Some(Ty::Dint),
+        _ => None,
+    }
+}
+
+// BOOL, of two BOOL.
+fn both_bool(a: Ty, b: Ty) -> Option<Ty>
+    ensures { result ≡ both_bool_of a b }
+{
+    match (a, b) {
+        (Ty::Bool, Ty::Bool) => Some(Ty::Bool),
+        _ => None,
+    }
+}
+
+/// The common type of two numbers or of two BOOL.
+pub(crate) fn joined_or_bool(a: Ty, b: Ty) -> Option<Ty>
+    ensures { result ≡ joined_or_bool_of a b }
+{
+    match a {
+        Ty::Bool => both_bool(a, b),
+        Ty::Int => joined(a, b),
+        Ty::Dint => joined(a, b),
+    }
+}
+
+/// The common type of an operator's operands, where it takes operands of these types.
+pub(crate) fn common(op: BinOp, a: Ty, b: Ty) -> Option<Ty>
+    ensures { result ≡ common_of op a b }
+{
+    match op {
+        BinOp::Mul => joined(a, b),
+        BinOp::Div => joined(a, b),
+        BinOp::Mod => joined(a, b),
+        BinOp::Add => joined(a, b),
+        BinOp::Sub => joined(a, b),
+        BinOp::Lt => joined(a, b),
+        BinOp::Gt => joined(a, b),
+        BinOp::Le => joined(a, b),
+        BinOp::Ge => joined(a, b),
+        BinOp::Eq => joined_or_bool(a, b),
+        BinOp::Ne => joined_or_bool(a, b),
+        BinOp::And => both_bool(a, b),
+        BinOp::Xor => both_bool(a, b),
+        BinOp::Or => both_bool(a, b),
+    }
+}
+
+// The type of an operator's value, where its operands have this one.
+fn result(op: BinOp, ty: Ty) -> Ty
+    ensures { result ≡ result_of op ty }
+{
+    match op {
+        BinOp::Mul => ty,
+        BinOp::Div => ty,
+        BinOp::Mod => ty,
+        BinOp::Add => ty,
+        BinOp::Sub => ty,
+        BinOp::Lt => Ty::Bool,
+        BinOp::Gt => Ty::Bool,
+        BinOp::Le => Ty::Bool,
+        BinOp::Ge => Ty::Bool,
+        BinOp::Eq => Ty::Bool,
+        BinOp::Ne => Ty::Bool,
+        BinOp::And => Ty::Bool,
+        BinOp::Xor => Ty::Bool,
+        BinOp::Or => Ty::Bool,
+    }
+}
+
+/// The type of a value with an operator before it, where the operator takes an operand of this type.
+pub(crate) fn signed(op: UnOp, ty: Ty) -> Option<Ty>
+    ensures { result ≡ signed_of op ty }
+{
+    match (op, ty) {
+        (UnOp::Neg, Ty::Int) => Some(Ty::Int),
+        (UnOp::Neg, Ty::Dint) => Some(Ty::Dint),
+        (UnOp::Not, Ty::Bool) => Some(Ty::Bool),
+        _ => None,
+    }
+}
+
+/// The type of a checked expression.
+pub(crate) fn ty_of(e: &TExpr) -> Ty
+    ensures { result ≡ type_of_value (texpr_tree e.now) }
+{
+    match e {
+        TExpr::Lit { ty, .. } => *ty,
+        TExpr::Get { ty, .. } => *ty,
+        TExpr::Widen { ty, .. } => *ty,
+        TExpr::Unary { ty, .. } => *ty,
+        TExpr::Binary { op, ty, .. } => result(*op, *ty),
+        TExpr::Call { ty, .. } => *ty,
+    }
+}
+
+// An INT as a DINT; a literal becomes one of DINT.
+fn as_dint(alloc: Global, e: TExpr) -> Result<TExpr, Memory>
+    ensures { IfOk result (λ r. texpr_tree r ≡ dint_of (texpr_tree e)) }
+{
+    match e {
+        TExpr::Lit { value, spot, .. } => Ok(TExpr::Lit {
+            ty: Ty::Dint,
+            value,
+            spot,
+        }),
+        _ => TExpr::widen(alloc, Ty::Dint, e),
+    }
+}
+
+/// The expression where one of type `ty` is wanted to which it widens.
+pub(crate) fn widened(alloc: Global, ty: Ty, e: TExpr) -> Result<TExpr, Memory>
+    ensures { IfOk result
+        (λ r. texpr_tree r ≡ widened_of ty (type_of_value (texpr_tree e)) (texpr_tree e)) }
+{
+    match ty {
+        Ty::Bool => Ok(e),
+        Ty::Int => Ok(e),
+        Ty::Dint => match ty_of(&e) {
+            Ty::Bool => Ok(e),
+            Ty::Int => as_dint(alloc, e),
+            Ty::Dint => Ok(e),
+        },
+    }
+}

@@ -1,0 +1,103 @@
+//! The typing of programs.
+
+ghost use Rattle.std.specs.Prelude.{◌≡◌, IfErr, IfOk, Some, option_map};
+ghost use Rattle.st_tree.specs.ProgramTree.{ProgramTree, program_tree};
+ghost use Rattle.vcp_typed.specs.SourceRun.{Program as TypedProgram};
+ghost use Rattle.vcp_typed.specs.TStmtTree.{tstmt_trees};
+ghost use Rattle.st_types.specs.declared.fault.TypeFault.TheVariants as told_;
+ghost use Rattle.st_tree.specs.Declarable.{HasNames};
+ghost use Rattle.st_types.specs.Faults.{IsLeast};
+ghost use Rattle.st_types.specs.Typing.{FaultAt, IsFaultless, IsTyped, Refuses, typed_of};
+
+use crate::declaration::declared;
+use crate::fault::{Fault, Rule, TypeFault};
+use crate::place::name_at;
+use crate::statement::type_stmts;
+use st_tree::Program;
+use std::alloc::Global;
+use vcp_typed::{Slots, TStmts, Typed, size_of};
+
+/// The most names that a program declares.
+const MOST_NAMES: usize = 1024;
+
+/// The greatest Size of a program.
+const MOST_SIZE: u32 = 65_536;
+
+// The answer that tells a fault.
+fn told(fault: Fault) -> TypeFault
+    ensures { (p : ProgramTree) → IsLeast (FaultAt p) fault → Refuses p result }
+{
+    let spot = fault.spot;
+    match fault.rule {
+        Rule::Duplicate => TypeFault::Duplicate { spot },
+        Rule::Unknown => TypeFault::Unknown { spot },
+        Rule::Mismatch => TypeFault::Mismatch { spot },
+        Rule::Assign => TypeFault::Assign { spot },
+        Rule::Bound => TypeFault::Bound { spot },
+        Rule::Label => TypeFault::Label { spot },
+        Rule::Call => TypeFault::Call { spot },
+        Rule::Literal => TypeFault::Literal { spot },
+    }
+}
+
+// The checked program of one without a fault, where it is within the limits.
+fn limited(program: &Program, slots: Slots, body: TStmts) -> Result<Typed, TypeFault>
+    requires names { HasNames (program_tree program.now) }
+    requires faultless { IsFaultless (program_tree program.now) }
+    requires is { typed_of (program_tree program.now) ≡ Some (record { slots = slots.items.items; body = tstmt_trees body.items.items }) }
+    ensures ok { IfOk result (λ t. IsTyped (program_tree program.now) t) }
+    ensures err { IfErr result (Refuses (program_tree program.now)) }
+{
+    if let Some(spot) = name_at(&program.blocks, MOST_NAMES) {
+        return Err(TypeFault::Names { spot });
+    }
+    let size = size_of(&slots, &body);
+    if size > MOST_SIZE {
+        return Err(TypeFault::Size);
+    }
+    Ok(Typed::new(slots, body))
+}
+
+// A program without a fault has a body.
+fn faultless(program: &Program, slots: Slots, body: Option<TStmts>) -> Result<Typed, TypeFault>
+    requires names { HasNames (program_tree program.now) }
+    requires faultless { IsFaultless (program_tree program.now) }
+    requires is { typed_of (program_tree program.now)
+        ≡ option_map (λ b. record { slots = slots.items.items; body = b }) (option_map (λ b. tstmt_trees b.items.items) body) }
+    ensures ok { IfOk result (λ t. IsTyped (program_tree program.now) t) }
+    ensures err { IfErr result (Refuses (program_tree program.now)) }
+{
+    match body {
+        None => unreachable!(),
+        Some(body) => limited(program, slots, body),
+    }
+}
+
+// The checked program, or why there is none: the least fault first, then the limits.
+fn judged(alloc: Global, program: &Program) -> Result<Typed, TypeFault>
+    requires names { HasNames (program_tree program.now) }
+    ensures ok { IfOk result (λ t. IsTyped (program_tree program.now) t) }
+    ensures err { IfErr result (Refuses (program_tree program.now)) }
+{
+    let mut first = None;
+    let made = declared(alloc, &program.blocks.items, &mut first)?;
+    let body = type_stmts(alloc, &made.names, &[], &program.body.items, &mut first)?;
+    match first {
+        Some(fault) => Err(told(fault)),
+        None => faultless(program, made.slots, body),
+    }
+}
+
+/// The checked program of a tree: it has no fault, declares at most 1,024 names and has a Size of at most 65,536.
+///
+/// Each declared name has 1 to 1,048,576 bytes: a letter or `_`, and then letters, digits and `_`. Else the answer is the
+/// fault whose place and number are least; where there is none, `Names` at the 1,025th name; then `Size`. `Memory` where
+/// there is no room.
+pub fn typed(alloc: Global, program: &Program) -> Result<Typed, TypeFault>
+    requires names { HasNames (program_tree program.now) }
+    ensures ok { IfOk result (λ t. IsTyped (program_tree program.now) t) }
+    ensures err { IfErr result (Refuses (program_tree program.now)) }
+    ensures only { (t : TypedProgram) → IsTyped (program_tree program.now) t → IfErr result (λ e. e ≡ told_.Memory) }
+{
+    judged(alloc, program)
+}

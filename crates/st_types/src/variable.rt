@@ -1,0 +1,100 @@
+//! The variables that statements set.
+
+ghost use Rattle.std.specs.Prelude.{◌≡◌, IfOk, option_map};
+ghost use Rattle.vcp_typed.specs.Checked.{is_set as is_set_of};
+ghost use Rattle.st_types.specs.declared.fault.Rule.TheVariants as rule_;
+ghost use Rattle.st_types.specs.Faults.{fault};
+ghost use Rattle.st_types.specs.Notes.{Notes};
+ghost use Rattle.st_types.specs.StmtTyping.{is_free as is_free_of, is_constant as is_constant_of, entry_type as entry_type_of, held_in as held_in_of, NameFault, IsBool};
+
+use crate::constants::is_bool;
+use crate::fault::{Fault, Rule};
+use crate::names::Entry;
+use crate::note::note;
+use st_tree::Class;
+use std::alloc::Global;
+use vcp_base::{Memory, Spot, Ty};
+
+// Whether statements may set variables of the class.
+fn is_set(class: Class) -> bool
+    ensures { result ≡ is_set_of class }
+{
+    match class {
+        Class::Input => false,
+        Class::Output => true,
+        Class::Local => true,
+        Class::Retain => true,
+        Class::Constant => false,
+    }
+}
+
+/// Whether names of the class are constants.
+pub(crate) fn is_constant(class: Class) -> bool
+    ensures { result ≡ is_constant_of class }
+{
+    match class {
+        Class::Input => false,
+        Class::Output => false,
+        Class::Local => false,
+        Class::Retain => false,
+        Class::Constant => true,
+    }
+}
+
+/// Whether the variable may be set inside FORs over these slots.
+pub(crate) fn is_free(held: &[u32], x: &Entry) -> bool
+    ensures { result ≡ is_free_of held.now x.now }
+{
+    is_set(x.class) && !held.contains(&x.slot)
+}
+
+/// The type of what was found.
+pub(crate) fn entry_type(x: Option<&Entry>) -> Option<Ty>
+    ensures { result ≡ entry_type_of (option_map (λ e. e.now) x.entry) }
+{
+    match x {
+        None => None,
+        Some(x) => Some(x.ty),
+    }
+}
+
+/// Notes what speaks against setting what was found.
+pub(crate) fn name_fault(held: &[u32], x: Option<&Entry>, spot: Spot, first: &mut Option<Fault>)
+    ensures { Notes first.old first.new (NameFault held.now (option_map (λ e. e.now) x.entry) spot) }
+{
+    match x {
+        None => note(first, Rule::Unknown, spot),
+        Some(x) => {
+            if !is_free(held, x) {
+                note(first, Rule::Assign, spot);
+            }
+        }
+    }
+}
+
+/// Notes that the type, where there is one, is BOOL.
+pub(crate) fn bool_fault(ty: Option<Ty>, spot: Spot, first: &mut Option<Fault>)
+    ensures { Notes first.old first.new (λ f. (f ≡ fault rule_.Mismatch spot) × IsBool ty) }
+{
+    match ty {
+        None => {}
+        Some(ty) => {
+            if is_bool(ty) {
+                note(first, Rule::Mismatch, spot);
+            }
+        }
+    }
+}
+
+/// The slots of the FORs round the body of one over what was found.
+pub(crate) fn held_in(alloc: Global, held: &[u32], x: Option<&Entry>) -> Result<Vec<u32>, Memory>
+    ensures { IfOk result (λ r. r.items ≡ held_in_of held.now (option_map (λ e. e.now) x.entry)) }
+{
+    let mut inner = held.to_vec(alloc)?;
+    if let Some(x) = x {
+        if !is_constant(x.class) {
+            inner.push(x.slot)?;
+        }
+    }
+    Ok(inner)
+}
