@@ -1,0 +1,7 @@
+pub mod Wide
+pub mod Exprs
+pub mod Depths
+pub mod Stmts
+pub mod Runs
+pub mod Cells
+pub mod Worked

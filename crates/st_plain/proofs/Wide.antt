@@ -1,0 +1,69 @@
+-- Values of 64 bits, and what the operators make of them in 128 bits.
+use Rattle.std.proofs.Common.{◌≡◌, ℕ, zero, suc, ◌≤◌, ◌<◌, ◌^◌, ◌/◌, ℤ, pos, negsuc, ◌*ℤ◌, div-le_self, w64, SFits, to_z, of_z, refl, sym, ap, ◌∙◌, arith, [], Result}
+use Rattle.std.specs.Prelude.{int_div, int_rem, unsigned_abs, neg_ℤ, false, cond}
+use Rattle.std.proofs.Math.Facts.{sfits_widen}
+use Rattle.std.proofs.lemmas.Int.{to_z-of_z, fits_signed_mul, fits_signed_from_abs}
+use Rattle.std.specs.Int.Signed.{mag, mag_rem}
+use mir.Syntax.{w128}
+use Rattle.vcp_base.specs.Kinds.{same}
+use Rattle.vcp_base.specs.declared.ty.Ty.{Ty}
+use Rattle.vcp_base.specs.declared.spot.Spot.{Spot}
+use Rattle.vcp_typed.specs.Meaning.{in_range, unless_zero}
+use Rattle.st_plain.specs.declared.stop.Stop.{Stop as Cause}
+use Rattle.st_plain.specs.Outcomes.{outside}
+
+pub in-range : (t : Ty) (s : Spot) (r : Result ℤ Cause) (x y : ℤ) → outside r ≡ in_range t s [] x → x ≡ y → outside r ≡ in_range t s [] y
+in-range t s r x y h e = h ∙ ap (λ v. in_range t s [] v) e
+
+-- a value of 64 bits as one of 128
+abbrev wide : ℤ → ℤ
+wide a = to_z w128 (of_z w128 (to_z w64 (of_z w64 a)))
+
+wide-is : (a : ℤ) → SFits w64 a → wide a ≡ a
+wide-is a f = ap (λ x. to_z w128 (of_z w128 x)) (to_z-of_z w64 a f) ∙ to_z-of_z w128 a (sfits_widen tt f)
+
+abs-below : (a : ℤ) → SFits w64 a → unsigned_abs a ≤ 9223372036854775808
+abs-below (pos n) f = omega (arith, f.sfits)
+abs-below (negsuc n) f = omega (arith, f.sfits)
+
+pub product-is : (a b : ℤ) → SFits w64 a → SFits w64 b → to_z w128 (of_z w128 (wide a *ℤ wide b)) ≡ a *ℤ b
+product-is a b f g =
+    ap (λ x. to_z w128 (of_z w128 x)) (λ i. wide-is a f i *ℤ wide-is b g i)
+    ∙ to_z-of_z w128 (a *ℤ b) (fits_signed_mul w128 a b 9223372036854775808 9223372036854775808 (abs-below a f) (abs-below b g) (omega arith))
+
+abs-neg : (n : ℕ) → unsigned_abs (neg_ℤ (pos n)) ≡ n
+abs-neg zero = refl
+abs-neg (suc n) = refl
+
+quotient-abs : (a b : ℤ) → unsigned_abs (int_div a b) ≤ unsigned_abs a
+quotient-abs (pos a) (pos b) = div-le_self a b
+quotient-abs (pos a) (negsuc b) = rw (abs-neg (a / suc b)) (div-le_self a (suc b))
+quotient-abs (negsuc a) (pos b) = rw (abs-neg (suc a / b)) (div-le_self (suc a) b)
+quotient-abs (negsuc a) (negsuc b) = div-le_self (suc a) (suc b)
+
+quotient-small : (a b : ℤ) → SFits w64 a → unsigned_abs (int_div a b) < 2 ^ 127
+quotient-small a b f = omega (arith, quotient-abs a b, abs-below a f)
+
+pub quotient-is : (a b : ℤ) → SFits w64 a → SFits w64 b → to_z w128 (of_z w128 (int_div (wide a) (wide b))) ≡ int_div a b
+quotient-is a b f g =
+    ap (λ x. to_z w128 (of_z w128 x)) (λ i. int_div (wide-is a f i) (wide-is b g i))
+    ∙ to_z-of_z w128 (int_div a b) (fits_signed_from_abs w128 (int_div a b) (quotient-small a b f))
+
+remainder-small : (a b : ℤ) → SFits w64 a → mag (int_rem a b) < 2 ^ 127
+remainder-small a b f = omega (arith, mag_rem a b, f.sfits)
+
+pub remainder-is : (a b : ℤ) → SFits w64 a → SFits w64 b → to_z w128 (of_z w128 (int_rem (wide a) (wide b))) ≡ int_rem a b
+remainder-is a b f g =
+    ap (λ x. to_z w128 (of_z w128 x)) (λ i. int_rem (wide-is a f i) (wide-is b g i))
+    ∙ to_z-of_z w128 (int_rem a b) (record { sfits = remainder-small a b f })
+
+pub not-zero : (b : ℤ) → (of_z w64 b ≡ 0 → ⊥) → same b (pos 0) ≡ false
+not-zero (pos zero) h = absurd (h refl)
+not-zero (pos (suc n)) h = grind arith
+not-zero (negsuc n) h = refl
+
+-- a quotient or a remainder, where the divisor isn't 0
+pub divided : (t : Ty) (s : Spot) (r : Result ℤ Cause) (b x y : ℤ) → outside r ≡ in_range t s [] x → x ≡ y → (of_z w64 b ≡ 0 → ⊥)
+    → outside r ≡ unless_zero b s [] (in_range t s [] y)
+divided t s r b x y h e k =
+    in-range t s r x y h e ∙ sym (ap (λ z. cond z (unless_zero (pos 0) s [] (in_range t s [] y)) (in_range t s [] y)) (not-zero b k))

@@ -1,0 +1,9 @@
+use Rattle.vcp_typed.specs.TExprTree.{texpr_tree, texpr_trees}
+use Rattle.st_plain.specs.Weight.{expr_weight, exprs_weight}
+use Rattle.st_plain.proofs.expr.+expr.Given as goal
+
+abbrev pub decreases-evaluate : goal.decreases-evaluate
+decreases-evaluate l = expr_weight (texpr_tree l.e.now)
+
+abbrev pub decreases-argument : goal.decreases-argument
+decreases-argument l = exprs_weight (texpr_trees l.args.now)

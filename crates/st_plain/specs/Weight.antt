@@ -1,0 +1,40 @@
+-- Weight: a number that falls from a node to its parts, by which the evaluator ends.
+use Rattle.std.specs.Prelude.{ℕ, ◌+◌}
+use Rattle.vcp_typed.specs.TExprTree.{TExprTree, TExprTrees, literal, get, widen, unary, binary, call, no_texprs, and_texpr}
+use Rattle.vcp_typed.specs.TStmtTree.{TStmtTree, TStmtTrees, TArmTrees, TBranchTrees, TOtherTree, assign, choose, select, count, no_tstmts, and_tstmt, no_tarms, and_tarm, no_tbranches, and_tbranch, no_tother, tother}
+
+abbrev mutual
+  pub expr_weight : TExprTree → ℕ
+  expr_weight (literal t v spot) = 0
+  expr_weight (get slot t) = 0
+  expr_weight (widen t a) = 1 + expr_weight a
+  expr_weight (unary op t a spot) = 1 + expr_weight a
+  expr_weight (binary op t a b spot) = 1 + expr_weight a + expr_weight b
+  expr_weight (call f t es spot) = 1 + exprs_weight es
+
+  pub exprs_weight : TExprTrees → ℕ
+  exprs_weight no_texprs = 0
+  exprs_weight (and_texpr e es) = 1 + expr_weight e + exprs_weight es
+
+abbrev mutual
+  pub stmt_weight : TStmtTree → ℕ
+  stmt_weight (assign slot e spot) = 0
+  stmt_weight (choose arms o) = 1 + arms_weight arms + other_weight o
+  stmt_weight (select e branches o spot) = 1 + branches_weight branches + other_weight o
+  stmt_weight (count slot first by n body spot) = 2 + stmts_weight body
+
+  pub stmts_weight : TStmtTrees → ℕ
+  stmts_weight no_tstmts = 0
+  stmts_weight (and_tstmt s ss) = 1 + stmt_weight s + stmts_weight ss
+
+  pub arms_weight : TArmTrees → ℕ
+  arms_weight no_tarms = 0
+  arms_weight (and_tarm e body spot arms) = 2 + stmts_weight body + arms_weight arms
+
+  pub branches_weight : TBranchTrees → ℕ
+  branches_weight no_tbranches = 0
+  branches_weight (and_tbranch ls body branches) = 2 + stmts_weight body + branches_weight branches
+
+  pub other_weight : TOtherTree → ℕ
+  other_weight no_tother = 0
+  other_weight (tother body) = 1 + stmts_weight body

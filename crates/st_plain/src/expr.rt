@@ -1,0 +1,68 @@
+//! The values of expressions.
+
+ghost use Rattle.std.specs.Prelude.{◌≡◌, []};
+ghost use Rattle.vcp_typed.specs.Meaning.{value as value_of};
+ghost use Rattle.vcp_typed.specs.TExprTree.{texpr_tree, texpr_trees};
+ghost use Rattle.st_plain.specs.Arguments.{argument_at};
+ghost use Rattle.st_plain.specs.Outcomes.{outside};
+ghost use Rattle.st_plain.specs.Sound.{SoundExpr, SoundExprs};
+
+use crate::operators::{apply, operate, sign};
+use crate::stop::Stop;
+use vcp_base::Row;
+use vcp_typed::{TExpr, trees_of_nodes, values_fit};
+
+/// The value of an expression where the slots have these values, or its stop.
+#[cycle(expr)]
+pub fn evaluate(e: &TExpr, values: &Row) -> Result<i64, Stop>
+    requires { SoundExpr (texpr_tree e.now) values.now }
+    ensures { outside result ≡ value_of [] (texpr_tree e.now) values.now }
+{
+    match e {
+        TExpr::Lit { value, .. } => Ok(*value),
+        TExpr::Get { slot, .. } => Ok(values.at(*slot as usize)),
+        TExpr::Widen { arg, .. } => evaluate(arg, values),
+        TExpr::Unary { op, ty, arg, spot } => {
+            values_fit();
+            let a = evaluate(arg, values)?;
+            sign(*op, *ty, *spot, a)
+        }
+        TExpr::Binary {
+            op,
+            ty,
+            left,
+            right,
+            spot,
+        } => {
+            let a = evaluate(left, values)?;
+            let b = evaluate(right, values)?;
+            operate(*op, *ty, *spot, a, b)
+        }
+        TExpr::Call {
+            fun,
+            ty,
+            args,
+            spot,
+        } => {
+            trees_of_nodes();
+            let args: &[TExpr] = &args.items;
+            let a = argument(args, 0, values)?;
+            let b = argument(args, 1, values)?;
+            let c = argument(args, 2, values)?;
+            apply(*fun, *ty, *spot, a, b, c)
+        }
+    }
+}
+
+/// The value of the argument at a place, and 0 where there is none.
+#[cycle(expr)]
+fn argument(args: &[TExpr], i: usize, values: &Row) -> Result<i64, Stop>
+    requires { SoundExprs (texpr_trees args.now) values.now }
+    ensures { outside result ≡ argument_at (texpr_trees args.now) i values.now }
+{
+    if i < args.len() {
+        evaluate(&args[i], values)
+    } else {
+        Ok(0)
+    }
+}
