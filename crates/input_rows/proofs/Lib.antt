@@ -1,0 +1,9 @@
+pub mod Fuel
+pub mod Headers
+pub mod Lefts
+pub mod Orders
+pub mod Placing
+pub mod Reading
+pub mod Sound
+pub mod Typed
+pub mod Worked

@@ -1,0 +1,19 @@
+use Rattle.std.proofs.Common.{◌≡◌, ◌∙◌, sym, ◌∷◌, [], ◌++◌, Bool, Some, None, length-set, arith}
+use Rattle.csv.specs.Records.{fields_of}
+use Rattle.input_rows.specs.Cells.{trimmed}
+use Rattle.input_rows.specs.Header.{place_of}
+use Rattle.input_rows.proofs.Headers.{no_place, one_place, order-here}
+use Rattle.input_rows.proofs.header.order.Goals as goal
+
+pub returns-in-None : goal.returns-in-None
+returns-in-None c =
+    let fields = fields_of c.args.header.now in
+    let none : place_of c.args.columns.now c.fields.free.items (trimmed c.field.result.now) ≡ None = cc in
+    sym (order-here c.args.columns.now fields (omega arith) ∙ no_place c.args.columns.now c.fields.free.items fields c.fields.places.items c.fields.j c.field.result.now _ c.fields.invariant.1 c.field.ensures none)
+
+pub fields-preserved : goal.fields-preserved
+fields-preserved c =
+    let fields = fields_of c.args.header.now in
+    let one : place_of c.args.columns.now c.fields.free.items (trimmed c.field.result.now) ≡ Some c.in-Some.place = cc in
+    let push : c.push.new.self.items ≡ c.fields.places.items ++ c.in-Some.place ∷ [] = c.in_ok-push-in-Some.ensures.items in
+    (omega (arith, length-set {A = Bool}, c.fields.invariant.0), rw push (one_place c.args.columns.now c.fields.free.items fields c.fields.places.items c.fields.j c.in-Some.place c.field.result.now _ c.fields.invariant.1 c.field.ensures one))

@@ -1,0 +1,33 @@
+use Rattle.std.proofs.Common.{◌≡◌, ◌∙◌, refl, sym, ap, false, length, replicate, None, List, [], ◌∷◌, ℕ, ◌-◌, zero, suc, ℤ, sub-one, arith}
+use Rattle.input_rows.specs.RowsOf.{RowsLeft}
+use Rattle.input_rows.specs.Sources.{rows_left}
+use Rattle.input_rows.specs.declared.rows.Source.{Source}
+use Rattle.input_rows.specs.declared.rows.Source.TheVariants.{Cycles}
+use Rattle.input_rows.proofs.rows.Rows.next.Goals as goal
+use Rattle.input_rows.proofs.rows.Rows.next.Goals.{in-Cycles-eq0, in-Cycles, in-File}
+
+no_values : (out : List ℤ) → length out ≡ 0 → out ≡ []
+no_values [] e = refl
+no_values (v ∷ out) e = absurd (omega arith)
+
+one_less : (n : ℕ) (out : List ℤ) → ¬ (n ≡ 0) → out ≡ [] → replicate n [] ≡ out ∷ replicate (n - 1) []
+one_less zero out h e = absurd (h refl)
+one_less (suc n) out h e = rw (e, sub-one) refl
+
+cycles-row : (source : Source) (left : RowsLeft) (n : ℕ) (out : List ℤ) → rows_left source ≡ left → source ≡ Cycles n → ¬ (n ≡ 0) → length out ≡ length left.types
+    → left ≡ record { types = []; rows = out ∷ replicate (n - 1) []; refusal = None; refused = false }
+cycles-row source left n out e is h l =
+    let seen : left ≡ rows_left (Cycles n) = sym e ∙ ap rows_left is in
+    let width : length out ≡ 0 = l ∙ ap (λ x. length x.types) seen in
+    seen ∙ ap (λ rows. record { types = []; rows = rows; refusal = None; refused = false }) (one_less n out h (no_values out width))
+
+pub returns-clause-row : goal.returns-clause-row
+returns-clause-row c = elim c.match-self.branch [
+  | in-Cycles-eq0 w ↦ rw w.result-is (λ e. absurd cc)
+  | in-Cycles w ↦
+      let row = cycles-row c.self.inside.source c.args.self.now w.in-Cycles.left c.args.out.now c.self.view_is w.in-Cycles.is w.in-Cycles.left-test.1 c.requires in
+      rw (w.result-is, w.self-inside-is, w.out-is) (λ k. row)
+  | in-File w ↦
+      let seen : c.args.self.now ≡ w.in-File.table = sym c.self.view_is ∙ ap rows_left w.in-File.is in
+      rw (w.result-is, w.self-inside-is, w.out-is, seen) w.next.ensures.row
+]

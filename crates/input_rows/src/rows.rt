@@ -1,0 +1,111 @@
+//! Rows, one by one.
+
+ghost use Rattle.std.specs.Prelude.{◌≡◌, ◌≢◌, ◌≤◌, [], ◌∷◌, length, All, true, false, None, Some, IfOk, IfErr, IfSome, OnErr};
+ghost use Rattle.vcp_base.specs.Types.{AreIn};
+ghost use Rattle.input_rows.specs.RowsOf.{IsOfRecord, rows_of, rows_of_cycles, types_of};
+ghost use Rattle.input_rows.specs.TableLeft.{refused_with};
+
+use crate::fault::RowFault;
+use crate::table::Table;
+use std::alloc::Global;
+use std::marker::Model;
+use vcp_base::{Columns, Row};
+
+// Where rows come from.
+#[derive(Drop)]
+enum Source<'a> {
+    // So many rows of no values are left.
+    Cycles(u32),
+    // The records of a file.
+    File(Table<'a>),
+}
+
+/// The rows that are left, from the front, and the refusal behind them, if there is one. Contracts
+/// see also the types of a row's values, in the order of the columns, and whether the refusal was
+/// given.
+#[derive(Drop)]
+pub struct Rows<'a> {
+    source: Source<'a>,
+}
+
+impl<'a> Model for Rows<'a> {
+    ghost use Rattle.input_rows.specs.RowsOf.{RowsLeft};
+
+    ghost Value = { RowsLeft };
+
+    ghost use Rattle.input_rows.specs.Sources.{rows_left};
+
+    ghost view = { λ r. rows_left r.source };
+}
+
+impl<'a> Rows<'a> {
+    /// The rows of a file's bytes, for these columns: a header, and then a record for each cycle.
+    ///
+    /// `Form` where there are no columns, and then `Header` where the first record isn't there or
+    /// isn't each column's name once and nothing else. `Memory` where there is no room, or where
+    /// there are more columns than a `u32` counts.
+    pub fn new(alloc: Global, bytes: &'a [u8], columns: &'a Columns) -> Result<Rows<'a>, RowFault>
+        ensures rows { IfOk result (λ left. rows_of bytes.now columns.now ≡ Ok left) }
+        ensures refusal { IfErr result (λ f. f ≢ RowFault.Memory → rows_of bytes.now columns.now ≡ Err f) }
+        ensures types { IfOk result (λ left. left.types ≡ types_of columns.now) }
+        ensures typed { IfOk result (λ left. All (AreIn left.types) left.rows) }
+        ensures few { IfOk result (λ left. length left.rows ≤ 1000000) }
+        ensures behind { IfOk result (λ left. IfSome left.refusal IsOfRecord) }
+        ensures fresh { IfOk result (λ left. left.refused ≡ false) }
+    {
+        if columns.len() == 0 {
+            return Err(RowFault::Form);
+        }
+        let table = Table::new(alloc, bytes, columns)?;
+        Ok(Rows {
+            source: Source::File(table),
+        })
+    }
+
+    /// So many rows of no values, at most 1,000,000. `Form` where there are columns. It takes no
+    /// memory.
+    pub fn cycles(number: u32, columns: &'a Columns) -> Result<Rows<'a>, RowFault>
+        requires { number ≤ 1000000 }
+        ensures rows { result ≡ rows_of_cycles number columns.now }
+        ensures types { IfOk result (λ left. left.types ≡ types_of columns.now) }
+        ensures typed { IfOk result (λ left. All (AreIn left.types) left.rows) }
+        ensures few { IfOk result (λ left. length left.rows ≤ 1000000) }
+        ensures behind { IfOk result (λ left. left.refusal ≡ None) }
+        ensures fresh { IfOk result (λ left. left.refused ≡ false) }
+    {
+        if columns.len() != 0 {
+            return Err(RowFault::Form);
+        }
+        Ok(Rows {
+            source: Source::Cycles(number),
+        })
+    }
+
+    /// Sets `out` to the next row and answers `true`, or answers `false` at the end. `out` has as many
+    /// values as there are columns; it keeps its length, and stays as it is at the end and after a
+    /// refusal.
+    ///
+    /// At a record that is refused: `Cycles` at the record of cycle 1,000,000, then `Width` where it
+    /// has another number of fields than there are columns, then `Cell` at its first cell that spells
+    /// no value. After a refusal, `Memory` included, each later call gives it again.
+    pub fn next(&mut self, _alloc: Global, out: &mut Row) -> Result<bool, RowFault>
+        requires { length out.old ≡ length self.old.types }
+        ensures row { IfOk result (λ found. found ≡ true → self.old ≡ record self.new { rows = out.new ∷ self.new.rows }) }
+        ensures end { IfOk result (λ found. found ≡ false → (self.old.rows ≡ []) × (self.old.refusal ≡ None)) }
+        ensures stays { IfOk result (λ found. found ≡ false → (self.new ≡ self.old) × (out.new ≡ out.old)) }
+        ensures refusal { IfErr result (λ f. f ≢ RowFault.Memory → (self.old.rows ≡ []) × (self.old.refusal ≡ Some f)) }
+        ensures refused { IfErr result (λ f. self.new ≡ refused_with self.old.types f) }
+        ensures again { self.old.refused ≡ true → IfSome self.old.refusal (λ f. result ≡ Err f) }
+        ensures out { OnErr result (out.new ≡ out.old) }
+        ensures width { length out.new ≡ length out.old }
+    {
+        match &mut self.source {
+            Source::Cycles(0) => Ok(false),
+            Source::Cycles(left) => {
+                *left -= 1;
+                Ok(true)
+            }
+            Source::File(table) => table.next(out),
+        }
+    }
+}

@@ -1,0 +1,131 @@
+//! The rows of a file's records.
+
+ghost use Rattle.std.specs.Prelude.{◌≡◌, ◌≢◌, ◌<◌, ◌≤◌, ◌^◌, ◌+◌, ◌⊎◌, [], ◌∷◌, length, true, false, None, Some, IfOk, IfErr, IfSome, OnErr};
+ghost use Rattle.csv.specs.Reading.{records as records_of, default_config, strip_bom};
+ghost use Rattle.input_rows.specs.RowsOf.{no_rows, rows_of_records};
+ghost use Rattle.input_rows.specs.TableLeft.{left_from, refused_with};
+
+use crate::fault::RowFault;
+use crate::layout::Layout;
+use crate::records::Records;
+use csv::ByteRecord;
+use std::alloc::Global;
+use std::marker::Model;
+use std::mem;
+use vcp_base::{Columns, Row};
+
+/// The most cycles of a file.
+const MOST_CYCLES: u32 = 1_000_000;
+
+/// The rows that are left of a file. The record at hand and its row are read into room that is used
+/// again.
+#[derive(Drop)]
+pub struct Table<'a> {
+    layout: Layout<'a>,
+    records: Records<'a>,
+    cells: ByteRecord,
+    cycle: u32,
+    row: Row,
+    refusal: Option<RowFault>,
+}
+
+impl<'a> Model for Table<'a> {
+    ghost use Rattle.std.specs.Prelude.{◌≡◌, ◌≤◌, length};
+    ghost use Rattle.input_rows.specs.RowsOf.{RowsLeft};
+    ghost use Rattle.input_rows.specs.TableLeft.{left_of_table};
+
+    ghost Value = { RowsLeft };
+
+    ghost view = { λ t. left_of_table t.layout t.cycle t.records t.refusal };
+
+    ghost invariant = { λ t. (length t.row ≡ length t.layout.types) × (t.cycle ≤ 1000000) };
+}
+
+// Reads the row of a cycle, and answers whether there is one.
+fn read_row(
+    layout: &Layout<'_>,
+    records: &mut Records<'_>,
+    cells: &mut ByteRecord,
+    cycle: u32,
+    row: &mut Row,
+) -> Result<bool, RowFault>
+    requires width { length row.old ≡ length layout.now.types }
+    requires cycle { cycle ≤ 1000000 }
+    ensures row { IfOk result (λ found. found ≡ true → left_from layout.now cycle records.old ≡ record (left_from layout.now (cycle + 1) records.new) { rows = row.new ∷ (left_from layout.now (cycle + 1) records.new).rows }) }
+    ensures more { IfOk result (λ found. found ≡ true → cycle < 1000000) }
+    ensures end { IfOk result (λ found. found ≡ false → (left_from layout.now cycle records.old ≡ no_rows layout.now.types None) × (records.new ≡ records.old)) }
+    ensures refusal { IfErr result (λ f. f ≢ RowFault.Memory → left_from layout.now cycle records.old ≡ no_rows layout.now.types (Some f)) }
+    ensures width { length row.new ≡ length row.old }
+{
+    if !records.next(cells)? {
+        return Ok(false);
+    }
+    if cycle >= MOST_CYCLES {
+        return Err(RowFault::Cycles);
+    }
+    layout.read(cycle + 2, cells, row)?;
+    Ok(true)
+}
+
+impl<'a> Table<'a> {
+    /// The rows of a file under its header.
+    pub fn new(alloc: Global, bytes: &'a [u8], columns: &'a Columns) -> Result<Table<'a>, RowFault>
+        ensures rows { IfOk result (λ t. rows_of_records columns.now (records_of default_config (strip_bom bytes.now)) ≡ Ok t) }
+        ensures refusal { IfErr result (λ f. f ≢ RowFault.Memory → rows_of_records columns.now (records_of default_config (strip_bom bytes.now)) ≡ Err f) }
+    {
+        let Ok(width) = u32::try_from(columns.len()) else {
+            return Err(RowFault::Memory);
+        };
+        let mut records = Records::new(alloc, bytes);
+        let mut cells = ByteRecord::new(alloc);
+        if !records.next(&mut cells)? {
+            return Err(RowFault::Header);
+        }
+        let layout = Layout::new(alloc, columns, &cells)?;
+        let row = Row::zeros(alloc, width)?;
+        Ok(Table {
+            layout,
+            records,
+            cells,
+            cycle: 0,
+            row,
+            refusal: None,
+        })
+    }
+
+    /// Sets `out` to the next row, and answers whether there was one. After a refusal each later call
+    /// gives it again.
+    pub fn next(&mut self, out: &mut Row) -> Result<bool, RowFault>
+        requires { length out.old ≡ length self.old.types }
+        ensures row { IfOk result (λ found. found ≡ true → self.old ≡ record self.new { rows = out.new ∷ self.new.rows }) }
+        ensures end { IfOk result (λ found. found ≡ false → (self.old.rows ≡ []) × (self.old.refusal ≡ None)) }
+        ensures stays { IfOk result (λ found. found ≡ false → (self.new ≡ self.old) × (out.new ≡ out.old)) }
+        ensures refusal { IfErr result (λ f. f ≢ RowFault.Memory → (self.old.rows ≡ []) × (self.old.refusal ≡ Some f)) }
+        ensures refused { IfErr result (λ f. self.new ≡ refused_with self.old.types f) }
+        ensures again { self.old.refused ≡ true → IfSome self.old.refusal (λ f. result ≡ Err f) }
+        ensures out { OnErr result (out.new ≡ out.old) }
+        ensures width { length out.new ≡ length out.old }
+    {
+        if let Some(fault) = self.refusal {
+            return Err(fault);
+        }
+        match read_row(
+            &self.layout,
+            &mut self.records,
+            &mut self.cells,
+            self.cycle,
+            &mut self.row,
+        ) {
+            Ok(true) => {
+                mem::swap(out, &mut self.row);
+                self.cycle += 1;
+                Ok(true)
+            }
+            Ok(false) => Ok(false),
+            Err(fault) => {
+                self.refusal = Some(fault);
+                Err(fault)
+            }
+        }
+    }
+}
