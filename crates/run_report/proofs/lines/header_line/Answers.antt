@@ -1,0 +1,24 @@
+use Rattle.std.proofs.Common.{◌≡◌, arith, codes, refl, take}
+use Rattle.std.proofs.lemmas.List.{take_all}
+use Rattle.std.proofs.lemmas.List.Folds.{flat_map-map}
+use Rattle.vcp_base.specs.declared.columns.Column.{Column}
+use Rattle.vcp_outside.proofs.Known.{writes_same}
+use Rattle.run_report.specs.Lines.{name_cell}
+use Rattle.run_report.proofs.Gathering.{gathered_same}
+use Rattle.run_report.proofs.Texts.{flat_map-next_two}
+use Rattle.run_report.proofs.lines.header_line.Goals as goal
+
+pub names-init : goal.names-init
+names-init g c = c.text.ensures.gathers _ _ _ (c.new-line.ensures.begun _ _)
+
+pub names-preserved : goal.names-preserved
+names-preserved g c =
+    let is = c.text-in-names-2.ensures.gathers _ _ _ (c.text-in-names.ensures.gathers _ _ _ c.names.invariant) in
+    let named = rw c.bytes.ensures at is in
+    gathered_same named (flat_map-next_two (λ (column : Column). name_cell column.name) (codes "cycle") c.args.names.now c.names.i c.at.result.now (codes ",") c.at.result.now.name c.at.ensures refl)
+
+pub returns : goal.returns
+returns g c =
+    let whole : take c.names.i c.args.names.now ≡ c.args.names.now = take_all c.names.i c.args.names.now (omega arith) in
+    let all = rw whole at c.names.invariant in
+    writes_same (c.end.ensures.writes _ _ _ all) (rw (flat_map-map name_cell (λ (column : Column). column.name) c.args.names.now) refl)

@@ -1,0 +1,8 @@
+use Rattle.std.proofs.Common.{take, flat_map, ◌++◌, decimal}
+use Rattle.run_report.specs.Gathering.{IsGathered}
+use Rattle.run_report.specs.Lines.{value_cell}
+use Rattle.run_report.proofs.lines.row_line.Given as goal
+
+abbrev pub invariant-cells : goal.invariant-cells
+invariant-cells g l = IsGathered (g.O.Sink.written l.fn.out) (g.O.Sink.written l.out) (g.O.Sink.faults l.fn.out) (g.O.Sink.faults l.out)
+    (decimal l.fn.cycle ++ flat_map value_cell (take l.i l.row)) l.line

@@ -1,0 +1,15 @@
+//! The printed lines of a run.
+//!
+//! Each call writes one line to a sink and takes no memory. After `Failed`, which comes only where
+//! the sink's count of faults rose, a part of the line is written. `Line` gathers the pieces of a
+//! line, so that a line of at most `ROOM` bytes is handed to the sink at once.
+#![tactic(auto)]
+
+mod line;
+mod lines;
+
+pub use line::{Line, ROOM};
+pub use lines::{end_line, header_line, refused_line, row_line, stop_line};
+
+#[cfg(test)]
+mod tests;

@@ -1,0 +1,133 @@
+//! The lines of a run. Each call writes one line to a sink and takes no memory. It answers `Failed`
+//! only where the sink's count of faults rose, and then a part of the line is written.
+
+ghost use Rattle.std.specs.Prelude.{◌≡◌, ◌++◌, decimal, map, flat_map};
+ghost use Rattle.vcp_outside.specs.Written.{Writes};
+ghost use Rattle.run_report.specs.Gathering.{IsGathered, Gathers};
+ghost use Rattle.run_report.specs.Lines.{header_text, row_text, end_text, stop_text, refused_text, stop_name as stop_name_of, place_text, turn_text, AreNamed};
+
+use crate::line::Line;
+use vcp_base::{Columns, Residue, Row, Spot, StopKind, Text, Turns, Words};
+use vcp_outside::{Failed, Sink};
+
+// A line that begins with a word and a number.
+fn begin<O: Sink>(out: &mut O, word: &[u8], number: u32) -> Line
+    ensures { IsGathered (O.written out.old) (O.written out.new) (O.faults out.old) (O.faults out.new) (word.now ++ decimal number) result }
+{
+    let mut line = Line::new();
+    line.text(out, word);
+    line.count(out, number as u64);
+    line
+}
+
+/// Writes the header of a run: `cycle`, and the outputs' names as declared. After `Failed` a part of
+/// the line is written.
+pub fn header_line<O: Sink>(out: &mut O, names: &Columns) -> Result<(), Failed>
+    ensures { Writes (O.written out.old) (O.written out.new) (O.faults out.old) (O.faults out.new) (header_text (map (λ c. c.name) names.now)) result }
+{
+    let mut line = Line::new();
+    line.text(out, b"cycle");
+    'names: for i in 0..names.len() {
+        line.text(out, b",");
+        line.text(out, names.at(i).name.bytes());
+    }
+    line.end(out)
+}
+
+/// Writes the values of the outputs in a cycle, which is counted from 0. After `Failed` a part of the
+/// line is written.
+pub fn row_line<O: Sink>(out: &mut O, cycle: u32, row: &Row) -> Result<(), Failed>
+    ensures { Writes (O.written out.old) (O.written out.new) (O.faults out.old) (O.faults out.new) (row_text cycle row.now) result }
+{
+    let mut line = begin(out, b"", cycle);
+    'cells: for i in 0..row.len() {
+        line.text(out, b",");
+        line.value(out, row.at(i));
+    }
+    line.end(out)
+}
+
+/// Writes the end of a run over all its rows, with their number. After `Failed` a part of the line is
+/// written.
+pub fn end_line<O: Sink>(out: &mut O, cycles: u32) -> Result<(), Failed>
+    ensures { Writes (O.written out.old) (O.written out.new) (O.faults out.old) (O.faults out.new) (end_text cycles) result }
+{
+    begin(out, b"end ", cycles).end(out)
+}
+
+fn stop_name(kind: StopKind) -> &'static [u8]
+    ensures { result.now ≡ stop_name_of kind }
+{
+    match kind {
+        StopKind::Range => b"RANGE",
+        StopKind::DivZero => b"DIVZERO",
+        StopKind::Operand => b"OPERAND",
+    }
+}
+
+// Goes on with a place in a source.
+fn then_place<O: Sink>(line: &mut Line, out: &mut O, spot: Spot)
+    ensures { Gathers (O.written out.old) (O.written out.new) (O.faults out.old) (O.faults out.new) line.old line.new (place_text spot) }
+{
+    line.count(out, spot.line as u64);
+    line.text(out, b":");
+    line.count(out, spot.col as u64);
+}
+
+// Goes on with the turns round a place, outermost first.
+fn then_turns<O: Sink>(line: &mut Line, out: &mut O, turns: &Turns, names: &Words)
+    requires { AreNamed turns.now names.now }
+    ensures { Gathers (O.written out.old) (O.written out.new) (O.faults out.old) (O.faults out.new) line.old line.new (flat_map (turn_text names.now) turns.now) }
+{
+    'turns: for i in 0..turns.len() {
+        let turn = turns.at(i);
+        line.text(out, b" ");
+        line.text(out, names.at(turn.name as usize).bytes());
+        line.text(out, b"=");
+        line.value(out, turn.value);
+    }
+}
+
+/// Writes a stop in a cycle, which is counted from 0: its kind, its place in the source and the turns
+/// round it, outermost first. The name of each turn is a place in `names`, from 0. After `Failed` a
+/// part of the line is written.
+pub fn stop_line<O: Sink>(
+    out: &mut O,
+    cycle: u32,
+    kind: StopKind,
+    spot: Spot,
+    turns: &Turns,
+    names: &Words,
+) -> Result<(), Failed>
+    requires { AreNamed turns.now names.now }
+    ensures { Writes (O.written out.old) (O.written out.new) (O.faults out.old) (O.faults out.new) (stop_text cycle kind spot turns.now names.now) result }
+{
+    let mut line = begin(out, b"stop ", cycle);
+    line.text(out, b" ");
+    line.text(out, stop_name(kind));
+    line.text(out, b" ");
+    then_place(&mut line, out, spot);
+    then_turns(&mut line, out, turns, names);
+    line.end(out)
+}
+
+/// Writes that an output is refused in a cycle, which is counted from 0, with the residue that was
+/// found and the expected one. After `Failed` a part of the line is written.
+pub fn refused_line<O: Sink>(
+    out: &mut O,
+    cycle: u32,
+    name: &Text,
+    found: Residue,
+    expected: Residue,
+) -> Result<(), Failed>
+    ensures { Writes (O.written out.old) (O.written out.new) (O.faults out.old) (O.faults out.new) (refused_text cycle name.now found expected) result }
+{
+    let mut line = begin(out, b"refused ", cycle);
+    line.text(out, b" ");
+    line.text(out, name.bytes());
+    line.text(out, b" found ");
+    line.count(out, found as u64);
+    line.text(out, b" expected ");
+    line.count(out, expected as u64);
+    line.end(out)
+}

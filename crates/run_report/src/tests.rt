@@ -1,0 +1,160 @@
+//! Each line as it is printed, and how it is written.
+
+ghost use Rattle.std.specs.Prelude.{◌≡◌, ◌<◌, None, IfOk, All, length};
+
+use crate::{end_line, header_line, refused_line, row_line, stop_line};
+use std::alloc::Global;
+use std::test::Fail;
+use vcp_base::{Column, Columns, Row, Spot, StopKind, Text, Turn, Turns, Ty, Words};
+use vcp_outside::{Failed, MemSink, Sink};
+
+fn columns(alloc: Global, names: &[&[u8]]) -> Result<Columns, Fail> {
+    let mut columns = Columns::new(alloc);
+    for name in names {
+        columns.push(Column {
+            name: Text::copy_of(alloc, name)?,
+            ty: Ty::Int,
+        })?;
+    }
+    Ok(columns)
+}
+
+fn row(alloc: Global, values: &[i64]) -> Result<Row, Fail> {
+    Ok(Row::from_vec(values.to_vec(alloc)?))
+}
+
+// The names of a loop in a loop, after that of an output.
+fn loop_names(alloc: Global) -> Result<Words, Fail>
+    ensures { IfOk result (λ names. length names ≡ 3) }
+{
+    let mut names = Words::new(alloc);
+    names.push(b"y")?;
+    names.push(b"i")?;
+    names.push(b"Outer")?;
+    Ok(names)
+}
+
+// The turn of an outer loop, and that of an inner one.
+fn loop_turns(alloc: Global) -> Result<Turns, Fail>
+    ensures { IfOk result (All (λ turn. turn.name < 3)) }
+{
+    let mut turns = Turns::new(alloc);
+    turns.push(Turn { name: 2, value: -1 })?;
+    turns.push(Turn { name: 1, value: 4 })?;
+    Ok(turns)
+}
+
+#[test]
+fn each_line_has_its_text(rt: HostRuntime) -> Result<(), Fail> {
+    let alloc = rt.alloc();
+    let mut out = MemSink::new(alloc, 1000)?;
+    let outputs = columns(alloc, &[b"lights", b"motor"])?;
+    let values = row(alloc, &[-32768, 1])?;
+    let name = Text::copy_of(alloc, b"y")?;
+    let names = loop_names(alloc)?;
+    let turns = loop_turns(alloc)?;
+    let none = Turns::new(alloc);
+    let outside = Spot { line: 4, col: 8 };
+    let inside = Spot { line: 7, col: 10 };
+    assert_eq!(rt; header_line(&mut out, &outputs), Ok(()));
+    assert_eq!(rt; row_line(&mut out, 0, &values), Ok(()));
+    assert_eq!(rt; end_line(&mut out, 8), Ok(()));
+    assert_eq!(rt;
+        stop_line(&mut out, 1, StopKind::DivZero, outside, &none, &names),
+        Ok(())
+    );
+    assert_eq!(rt;
+        stop_line(&mut out, 0, StopKind::Range, inside, &turns, &names),
+        Ok(())
+    );
+    assert_eq!(rt; refused_line(&mut out, 2, &name, 5, 949664992), Ok(()));
+    let wanted =
+        b"cycle,lights,motor\n0,-32768,1\nend 8\nstop 1 DIVZERO 4:8\nstop 0 RANGE 7:10 Outer=-1 i=4\nrefused 2 y found 5 expected 949664992\n";
+    assert_eq!(rt; out.bytes(), wanted.as_slice());
+    Ok(())
+}
+
+#[test]
+fn long_lines_are_written_whole(rt: HostRuntime) -> Result<(), Fail> {
+    let alloc = rt.alloc();
+    let mut out = MemSink::new(alloc, 3000)?;
+    let name = vec![in alloc; b'n'; 2000]?;
+    let values = vec![in alloc; -32768; 100]?;
+    assert_eq!(rt; header_line(&mut out, &columns(alloc, &[&name])?), Ok(()));
+    assert_eq!(rt; row_line(&mut out, 7, &row(alloc, &values)?), Ok(()));
+    let mut wanted = Vec::from_slice(alloc, b"cycle,")?;
+    wanted.extend_from_slice(&name)?;
+    wanted.extend_from_slice(b"\n7")?;
+    for _ in 0..100 {
+        wanted.extend_from_slice(b",-32768")?;
+    }
+    wanted.extend_from_slice(b"\n")?;
+    assert_eq!(rt; out.bytes(), wanted.as_slice());
+    Ok(())
+}
+
+#[test]
+fn a_front_is_written_up_to_the_room(rt: HostRuntime) -> Result<(), Fail> {
+    let alloc = rt.alloc();
+    let values = row(alloc, &[-32768, 1])?;
+    let rows: [(u32, Result<(), Failed>, &[u8]); 3] = [
+        (11, Ok(()), b"0,-32768,1\n"),
+        (10, Err(Failed), b"0,-32768,1"),
+        (8, Err(Failed), b"0,-32768"),
+    ];
+    for (room, wanted, bytes) in rows {
+        let mut out = MemSink::new(alloc, room)?;
+        assert_eq!(rt; row_line(&mut out, 0, &values), wanted);
+        assert_eq!(rt; out.bytes(), bytes);
+    }
+    Ok(())
+}
+
+// A sink that takes every piece whole, counts the calls and fails at one of them.
+#[derive(Drop)]
+struct Counted {
+    calls: u64,
+    failing: u64,
+    faults: u64,
+}
+
+impl Sink for Counted {
+    ghost written = { λ _. None };
+
+    ghost faults = { λ s. s.faults };
+
+    fn write(&mut self, piece: &[u8]) -> Result<usize, Failed> {
+        let call = self.calls;
+        self.calls = call.saturating_add(1);
+        if call == self.failing && !piece.is_empty() {
+            self.faults = self.faults.saturating_add(1);
+            return Err(Failed);
+        }
+        Ok(piece.len())
+    }
+}
+
+#[test]
+fn a_line_is_one_write_where_it_fits(rt: HostRuntime) -> Result<(), Fail> {
+    let alloc = rt.alloc();
+    // The bytes of the name, the call that fails, the answer, and how many calls there are.
+    let rows: [(usize, u64, Result<(), Failed>, u64); 5] = [
+        (249, 9, Ok(()), 1),
+        (250, 9, Ok(()), 2),
+        (2000, 9, Ok(()), 3),
+        (2000, 1, Err(Failed), 2),
+        (249, 0, Err(Failed), 1),
+    ];
+    for (length, failing, wanted, calls) in rows {
+        let name = vec![in alloc; b'n'; length]?;
+        let names = columns(alloc, &[&name])?;
+        let mut out = Counted {
+            calls: 0,
+            failing,
+            faults: 0,
+        };
+        assert_eq!(rt; header_line(&mut out, &names), wanted);
+        assert_eq!(rt; out.calls, calls);
+    }
+    Ok(())
+}
