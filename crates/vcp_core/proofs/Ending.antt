@@ -13,16 +13,18 @@ use Rattle.vcp_core.specs.declared.fault.Fault.TheVariants as fault
 use Rattle.vcp_core.specs.declared.fault.FileWord.{FileWord}
 use Rattle.vcp_core.specs.declared.fault.FileWord.TheVariants as word
 use Rattle.vcp_core.specs.Answered.{Answered, known}
-use Rattle.vcp_core.specs.Comes.{is_format, is_form, TaskOf}
-use Rattle.vcp_core.specs.Answers.{Task, usage, lacks, refuses, run_task, is_run, usage_text, Answer, answer_of, run_read, run_meant, calls_of, AllAnswers, first_name, second_name, bytes_text, unbuilt_text, read_fault_text, memory_text, end_status, default_seed, default_step}
+use Rattle.vcp_core.specs.Comes.{is_check, is_format, is_text_form, has_no_unit, is_form, TaskOf}
+use Rattle.vcp_core.specs.PlainWords.{is_plain}
+use Rattle.vcp_core.specs.Answers.{Task, usage, lacks, refuses, run_task, is_run, usage_text, answer_of, run_read, run_meant, calls_of, AllAnswers, first_name, second_name, bytes_text, unbuilt_text, read_fault_text, memory_text, end_status, default_seed, default_step}
 use Rattle.vcp_core.specs.Carries.{ends_as}
-use Rattle.vcp_core.specs.Endings.{Ended, IsFileWord, Ends, answers, files_failed, output_failed, errors_failed, no_memory, cycle_status}
+use Rattle.vcp_core.specs.Endings.{Ended, IsFileWord, Ends, answers, files_failed, output_failed, errors_failed, line_failed, no_memory, cycle_status}
 use Rattle.vcp_core.specs.GraphRun.{graph_run}
 use Rattle.vcp_core.specs.Operations.{operations}
 use Rattle.vcp_core.specs.Reach.{BeforeAndAfter, Untouched, RunsTask, Reaches, name_of, fault_line, fault_status}
 use Rattle.vcp_core.proofs.EndCauses.{end_causes}
 use Rattle.vcp_core.proofs.HonestRuns.{honest_runs, honest_then, rest_follows}
 use Rattle.vcp_core.proofs.RunTurns.{appends_nothing}
+use Rattle.vcp_core.proofs.TaskKinds.{task_at_most}
 use Rattle.vcp_core.proofs.Means.{run_means}
 use Rattle.vcp_core.proofs.ProgramLinks.{all_below, operations_linked}
 
@@ -96,7 +98,7 @@ refused task words text code s err_old err_new f g b n u none calls means is w =
 
 file_word : (words : List (List ℕ)) (source rows : List ℕ) (v : FileWord) → is_run words ≡ true → source ≡ first_name words → rows ≡ second_name words → IsFileWord words (name_of source rows v)
 file_word words source rows word.Source form p q = inl p
-file_word words source rows word.Rows form p q = inr (form, q)
+file_word words source rows word.Rows form p q = inr (rw form refl, q)
 
 -- the line of the fault was printed
 ends_told : (task : Task) (words : List (List ℕ)) (source rows : List ℕ) (s : BeforeAndAfter) (ft : Fault) (err_old err_new : Option (List ℕ)) (f g b n : ℕ) → is_run words ≡ true → source ≡ first_name words → rows ≡ second_name words →
@@ -111,6 +113,8 @@ ends_told task words source rows s (fault.TooLong v) err_old err_new f g b n for
 ends_told task words source rows s (fault.Unbuilt v) err_old err_new f g b n form p q (u, is) rose w =
     rw is (refused (refuses (unbuilt_text (name_of source rows v))) words (unbuilt_text (name_of source rows v)) 1 s err_old err_new f g b n u refl refl refl refl w)
 ends_told task words source rows s (fault.Refused why spot) err_old err_new f g b n form p q reach rose w = absurd reach
+ends_told task words source rows s fault.TooLarge err_old err_new f g b n form p q reach rose w = absurd reach
+ends_told task words source rows s (fault.Row why) err_old err_new f g b n form p q reach rose w = absurd reach
 ends_told task words source rows s fault.Write err_old err_new f g b n form p q (why, t) rose w =
     output_failed (record { status = refl; rose = rose refl; cycles = t.run.cycles; some = rw t.task_is t.run.begun; log = rw t.task_is t.run.carries.told; out = rw t.task_is t.run.part; honest = part_meant task s why t; earlier = rw t.task_is t.run.earlier; err = inl w })
 ends_told task words source rows s fault.Memory err_old err_new f g b n form p q u rose w = no_memory (record { status = refl; log = u.log; out = u.out; err = w })
@@ -119,7 +123,7 @@ ends_told task words source rows s fault.Memory err_old err_new f g b n form p q
 pub lost : (task : Task) (words : List (List ℕ)) (text : List ℕ) (code : ℕ) (s : BeforeAndAfter) (err_old err_new : Option (List ℕ)) (f g b n : ℕ) → Untouched s →
     answer_of task (run_read task []) ≡ record { out = []; err = text; status = code } → AppendsPart err_old err_new text → Rose f g → Ends task words (ended_of s err_old err_new f g b n 6)
 lost task words text code s err_old err_new f g b n u is part rose =
-    errors_failed (record { status = refl; rose = rose; line = text; line_is = inl (sym (ap (λ (a : Answer). a.err) is)); log = u.log; out = u.out; err = part })
+    errors_failed (record { status = refl; rose = rose; log = u.log; out = rw is u.out; err = rw is part })
 
 -- the line of the fault could not be printed
 ends_untold : (task : Task) (words : List (List ℕ)) (source rows : List ℕ) (s : BeforeAndAfter) (ft : Fault) (err_old err_new : Option (List ℕ)) (f g b n : ℕ) → is_run words ≡ true → source ≡ first_name words → rows ≡ second_name words →
@@ -128,31 +132,37 @@ ends_untold : (task : Task) (words : List (List ℕ)) (source rows : List ℕ) (
 ends_untold task words source rows s (fault.Read v) err_old err_new f g b n form p q (u, inl is) wrote part rose =
     rw is (lost (lacks (name_of source rows v)) words (read_fault_text (name_of source rows v)) 5 s err_old err_new f g b n u refl part rose)
 ends_untold task words source rows s (fault.Read v) err_old err_new f g b n form p q (u, inr broke) wrote part rose =
-    errors_failed (record { status = refl; rose = rose; line = read_fault_text (name_of source rows v); line_is = inr (inl (broke, (name_of source rows v, file_word words source rows v form p q, refl))); log = u.log; out = u.out; err = part })
+    line_failed (record { status = refl; rose = rose; line = read_fault_text (name_of source rows v); line_is = inl (broke, (name_of source rows v, file_word words source rows v form p q, refl)); log = u.log; out = u.out; err = part })
 ends_untold task words source rows s (fault.TooLong v) err_old err_new f g b n form p q (u, is) wrote part rose =
     rw is (lost (refuses (bytes_text (name_of source rows v))) words (bytes_text (name_of source rows v)) 1 s err_old err_new f g b n u refl part rose)
 ends_untold task words source rows s (fault.Unbuilt v) err_old err_new f g b n form p q (u, is) wrote part rose =
     rw is (lost (refuses (unbuilt_text (name_of source rows v))) words (unbuilt_text (name_of source rows v)) 1 s err_old err_new f g b n u refl part rose)
 ends_untold task words source rows s (fault.Refused why spot) err_old err_new f g b n form p q reach wrote part rose = absurd reach
+ends_untold task words source rows s fault.TooLarge err_old err_new f g b n form p q reach wrote part rose = absurd reach
+ends_untold task words source rows s (fault.Row why) err_old err_new f g b n form p q reach wrote part rose = absurd reach
 ends_untold task words source rows s fault.Write err_old err_new f g b n form p q (why, t) wrote part rose =
     output_failed (record { status = refl; rose = wrote refl; cycles = t.run.cycles; some = rw t.task_is t.run.begun; log = rw t.task_is t.run.carries.told; out = rw t.task_is t.run.part; honest = part_meant task s why t; earlier = rw t.task_is t.run.earlier; err = inr (rose, part) })
 ends_untold task words source rows s fault.Memory err_old err_new f g b n form p q u wrote part rose =
-    errors_failed (record { status = refl; rose = rose; line = memory_text; line_is = inr (inr refl); log = u.log; out = u.out; err = part })
+    line_failed (record { status = refl; rose = rose; line = memory_text; line_is = inr refl; log = u.log; out = u.out; err = part })
 
 -- the task of the words `run P ROWS`
 task_is : (words : List (List ℕ)) (source rows : List ℕ) (held : Held) → is_run words ≡ true → source ≡ first_name words → rows ≡ second_name words → TaskOf words held (run_task source rows held)
 task_is words source rows held form p q = rw (form, p, q) refl
 
-or_false : (a b : Bool) → (a || b) ≡ false → (a ≡ false) × (b ≡ false)
+pub or_false : (a b : Bool) → (a || b) ≡ false → (a ≡ false) × (b ≡ false)
 or_false true b h = cc
 or_false false b h = (refl, h)
 
 -- a task that words come to, and how it ended
 pub as_ended : (words : List (List ℕ)) (held : Held) (e : Ended) (task : Task) → TaskOf words held task → Ends task words e → Answered words held e
-as_ended words held e task comes ended = known task comes ended (end_causes task words e ended)
+as_ended words held e task comes ended = known task comes ended (end_causes task words e (task_at_most words held task comes) ended)
 
 usage_task : (words : List (List ℕ)) (held : Held) → is_form words ≡ false → TaskOf words held usage
-usage_task words held form = let no = or_false (is_run words) (is_format words) form in rw (no.0, no.1) refl
+usage_task words held form =
+    let no = or_false (is_run words) (has_no_unit words) form in
+    let none = or_false (is_text_form words) (is_plain words) no.1 in
+    let text = or_false (is_check words) (is_format words) none.0 in
+    rw (no.0, text.0, text.1, none.1) refl
 
 -- the usage line was printed
 pub usage_told : (words : List (List ℕ)) (held : Held) (s : BeforeAndAfter) (err_old err_new : Option (List ℕ)) (f g b n : ℕ) → is_form words ≡ false → Untouched s → Appends err_old err_new usage_text →

@@ -10,7 +10,8 @@ use Rattle.vcp_core.specs.declared.operation.Op.{Op}
 use Rattle.vcp_core.specs.declared.cycle_end.CycleEnd.{CycleEnd}
 use Rattle.vcp_core.specs.Carries.{EarlierWritten, RunsOver, body_text}
 use Rattle.vcp_core.specs.CycleEnds.{outputs}
-use Rattle.vcp_core.specs.Lines.{header_text, rows_text, run_text}
+use Rattle.run_report.specs.Lines.{header_text}
+use Rattle.vcp_core.specs.Lines.{rows_text, run_text}
 use Rattle.vcp_core.specs.Log.{run_then, MayFollow}
 use Rattle.vcp_core.specs.Runs.{Run, complete}
 use Rattle.vcp_core.proofs.Growth.{grows_by_none}

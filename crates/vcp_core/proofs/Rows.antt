@@ -14,18 +14,20 @@ use Rattle.st_lexer.specs.declared.fault.Reason.TheVariants as reason
 use Rattle.st_lexer.specs.Reading.{opening}
 use Rattle.st_lexer.specs.Spots.{spot_after}
 use Rattle.st_lexer.specs.Symbols.{symbol_among}
+use Rattle.st_types.specs.declared.fault.TypeFault.TheVariants as told
 use Rattle.vcp_core.specs.declared.operation.Op.{Op}
 use Rattle.vcp_core.specs.declared.program.Term.{Term}
 use Rattle.vcp_core.specs.declared.program.Sign.TheVariants.{Plus}
 use Rattle.vcp_core.specs.declared.program.Operand.TheVariants as operand
 use Rattle.vcp_core.specs.Answers.{usage, lacks, refuses}
 use Rattle.vcp_core.specs.Calls.{call_of}
-use Rattle.vcp_core.specs.Comes.{unreadable, TaskOf}
+use Rattle.vcp_core.specs.Comes.{without_program, typing_text, TaskOf}
 use Rattle.vcp_core.specs.GraphRun.{graph_run}
-use Rattle.vcp_core.specs.Lines.{run_text, spot_text}
+use Rattle.vcp_core.specs.Lines.{run_text, ok_text, spot_text}
 use Rattle.vcp_core.specs.Log.{setting_at, calls_over, run_of_answers}
 use Rattle.vcp_core.specs.Meaning.{source_run}
 use Rattle.vcp_core.specs.Operations.{operations, spot}
+use Rattle.vcp_core.specs.Programs.{unreadable}
 use Rattle.vcp_core.specs.RowsFile.{rows_of}
 use Rattle.vcp_core.specs.Runs.{complete, stopped, refused}
 use Rattle.vcp_core.specs.Signatures.{signature, correction}
@@ -138,8 +140,36 @@ no_byte name = Some (codes "{")
 
 byte_is_refused : TaskOf (codes "format" ∷ codes "p.st" ∷ []) no_byte (refuses (codes "p.st:1:1 S1 Byte\n"))
 unfolding digits opening symbol_among spot_after
-byte_is_refused = unreadable reason.Byte (record { line = 1; col = 1 }) (0, ([], refl, lit≤ tt, refl), refl)
+byte_is_refused = without_program _ (unreadable reason.Byte (record { line = 1; col = 1 }) (0, ([], refl, lit≤ tt, refl), refl))
 
 spot_is_printed : spot_text (codes "p.st") (record { line = 1; col = 16 }) (codes "S4 Syntax") ≡ codes "p.st:1:16 S4 Syntax\n"
 unfolding digits
 spot_is_printed = refl
+
+check_without_name : TaskOf (codes "check" ∷ []) only_rows usage
+check_without_name = refl
+
+check_with_two_names : TaskOf (codes "check" ∷ codes "p" ∷ codes "r" ∷ []) only_rows usage
+check_with_two_names = refl
+
+checked_text_is_lacking : TaskOf (codes "check" ∷ codes "p" ∷ []) only_rows (lacks (codes "p"))
+checked_text_is_lacking = refl
+
+checked_byte_is_refused : TaskOf (codes "check" ∷ codes "p.st" ∷ []) no_byte (refuses (codes "p.st:1:1 S1 Byte\n"))
+unfolding digits opening symbol_among spot_after
+checked_byte_is_refused = without_program _ (unreadable reason.Byte (record { line = 1; col = 1 }) (0, ([], refl, lit≤ tt, refl), refl))
+
+mismatch_is_printed : typing_text (codes "p.st") (told.Mismatch (record { line = 6; col = 8 })) ≡ codes "p.st:6:8 T3 Mismatch\n"
+unfolding digits
+mismatch_is_printed = refl
+
+name_too_many_is_printed : typing_text (codes "p.st") (told.Names (record { line = 2; col = 5120 })) ≡ codes "p.st:2:5120 L3 Names\n"
+unfolding digits
+name_too_many_is_printed = refl
+
+too_large_is_printed : typing_text (codes "p.st") told.Size ≡ codes "p.st L2 Size\n"
+too_large_is_printed = refl
+
+size_is_printed : ok_text 105 ≡ codes "ok 105\n"
+unfolding digits
+size_is_printed = refl

@@ -13,7 +13,8 @@ use Rattle.vcp_core.specs.declared.cycle_end.CycleEnd.TheVariants as end
 use Rattle.vcp_core.specs.Carries.{RunsOver, cycle_text, body_text, ends_as}
 use Rattle.vcp_core.specs.CycleEnds.{outputs, cycle_at, cycle_of}
 use Rattle.vcp_core.specs.RunSoFar.{AllReleased, RunSoFar}
-use Rattle.vcp_core.specs.Lines.{rows_text, end_text}
+use Rattle.run_report.specs.Lines.{end_text}
+use Rattle.vcp_core.specs.Lines.{rows_text}
 use Rattle.vcp_core.specs.Log.{run_then, no_more, run_of_answers}
 use Rattle.vcp_core.specs.Runs.{Run, End, Cycle, ends, complete}
 use Rattle.vcp_core.proofs.RunSteps.{run_after, rows_append, rest_text, body_then, all_done, all_ended, some_more, some_done}

@@ -8,7 +8,8 @@ use Rattle.vcp_core.specs.Carried.{Carried}
 use Rattle.vcp_core.specs.Carries.{Carries, cycle_text, body_text}
 use Rattle.vcp_core.specs.CycleEnds.{outputs, cycle_of}
 use Rattle.vcp_core.specs.RunSoFar.{AllReleased}
-use Rattle.vcp_core.specs.Lines.{row_text, rows_text, last_text, end_text}
+use Rattle.run_report.specs.Lines.{row_text, end_text}
+use Rattle.vcp_core.specs.Lines.{rows_text, last_text}
 use Rattle.vcp_core.specs.Log.{setting_at, calls_over, run_then, unless_ended, AllCycles, SomeCycles}
 use Rattle.vcp_core.specs.Runs.{Run, End, Cycle, released, ends, complete, followed_by}
 use Rattle.vcp_core.proofs.Growth.{grows_on}

@@ -15,7 +15,8 @@ use Rattle.vcp_core.specs.Carried.{Carried}
 use Rattle.vcp_core.specs.Carries.{Carries, cycle_text, body_text}
 use Rattle.vcp_core.specs.CycleEnds.{end_of, outputs, cycle_at, cycle_of}
 use Rattle.vcp_core.specs.RunSoFar.{AllReleased, RunSoFar}
-use Rattle.vcp_core.specs.Lines.{row_text, rows_text}
+use Rattle.run_report.specs.Lines.{row_text}
+use Rattle.vcp_core.specs.Lines.{rows_text}
 use Rattle.vcp_core.specs.Log.{setting_at, run_then, no_more, run_of_answers}
 use Rattle.vcp_core.specs.Runs.{Run, Cycle, released, complete, followed_by}
 use Rattle.vcp_core.proofs.Growth.{grows_by_none}

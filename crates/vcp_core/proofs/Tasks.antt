@@ -56,6 +56,8 @@ source_unread source b n held (fault.Read w) (is, inr rose) = (is, inr rose)
 source_unread source b n held (fault.TooLong w) (is, (bytes, found, long)) = (is, λ rows. file_long source source_limit _ held bytes found long)
 source_unread source b n held (fault.Unbuilt w) h = absurd h
 source_unread source b n held (fault.Refused why spot) h = absurd h
+source_unread source b n held fault.TooLarge h = absurd h
+source_unread source b n held (fault.Row why) h = absurd h
 source_unread source b n held fault.Write h = absurd h
 source_unread source b n held fault.Memory h = tt
 
@@ -70,6 +72,8 @@ rows_unread source name terms b m n held (fault.Read w) s (is, inr rose) l u = (
 rows_unread source name terms b m n held (fault.TooLong w) s (is, (bytes, found, long)) l u = rw is (u, file_long name rows_limit _ held bytes found long)
 rows_unread source name terms b m n held (fault.Unbuilt w) s h l u = absurd h
 rows_unread source name terms b m n held (fault.Refused why spot) s h l u = absurd h
+rows_unread source name terms b m n held fault.TooLarge s h l u = absurd h
+rows_unread source name terms b m n held (fault.Row why) s h l u = absurd h
 rows_unread source name terms b m n held fault.Write s h l u = absurd h
 rows_unread source name terms b m n held fault.Memory s h l u = u
 
@@ -87,6 +91,8 @@ by_result source name terms rows b n task s (Err (fault.Read w)) is fit held few
 by_result source name terms rows b n task s (Err (fault.TooLong w)) is fit held few run = absurd run
 by_result source name terms rows b n task s (Err (fault.Unbuilt w)) is fit held few run = absurd run
 by_result source name terms rows b n task s (Err (fault.Refused why spot)) is fit held few run = absurd run
+by_result source name terms rows b n task s (Err fault.TooLarge) is fit held few run = absurd run
+by_result source name terms rows b n task s (Err (fault.Row why)) is fit held few run = absurd run
 
 -- the program was run on the rows
 pub program_runs : (source name bytes : List ℕ) (terms : List Term) (rows : List (List ℤ)) (b m n : ℕ) (held : Held) (s : BeforeAndAfter) (r : Result CycleEnd Fault) → TermsFit terms → FileRead held name rows_limit word.Rows m n (Ok bytes) → rows_of bytes ≡ Some rows →
@@ -124,6 +130,8 @@ from_later task source rows s b m n (Err (fault.Read w)) l (u, inr rose) = (u, i
 from_later task source rows s b m n (Err (fault.TooLong w)) l h = h
 from_later task source rows s b m n (Err (fault.Unbuilt w)) l h = h
 from_later task source rows s b m n (Err (fault.Refused why spot)) l h = h
+from_later task source rows s b m n (Err fault.TooLarge) l h = h
+from_later task source rows s b m n (Err (fault.Row why)) l h = h
 from_later task source rows s b m n (Err fault.Write) l h = h
 from_later task source rows s b m n (Err fault.Memory) l h = h
 
@@ -139,6 +147,8 @@ source_ends source rows b n held s (fault.Read w) (is, inr rose) u = (u, inr ros
 source_ends source rows b n held s (fault.TooLong w) (is, task) u = rw is (u, task rows)
 source_ends source rows b n held s (fault.Unbuilt w) (is, task) u = rw is (u, task rows)
 source_ends source rows b n held s (fault.Refused why spot) h u = absurd h
+source_ends source rows b n held s fault.TooLarge h u = absurd h
+source_ends source rows b n held s (fault.Row why) h u = absurd h
 source_ends source rows b n held s fault.Write h u = absurd h
 source_ends source rows b n held s fault.Memory h u = u
 

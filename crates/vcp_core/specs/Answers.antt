@@ -9,7 +9,8 @@ use Rattle.vcp_core.specs.Log.{calls_over, run_then, run_of_answers, MayFollow, 
 use Rattle.vcp_core.specs.Meaning.{source_run}
 use Rattle.vcp_core.specs.Operations.{operations}
 use Rattle.vcp_core.specs.Runs.{Run, End, complete, stopped, refused}
-use Rattle.vcp_core.specs.Lines.{header_text, run_text}
+use Rattle.run_report.specs.Lines.{header_text}
+use Rattle.vcp_core.specs.Lines.{run_text}
 use Rattle.vcp_core.specs.RowsFile.{rows_of}
 use Rattle.vcp_core.specs.Source.{terms_of}
 
@@ -20,6 +21,10 @@ usage_text = codes "usage: vcp check P, format P, plain P ROWS, run P ROWS CODE,
 -- the line of a file that has more bytes than its limit; a file's line begins with its name
 abbrev pub bytes_text : List ℕ → List ℕ
 bytes_text name = name ++ codes " L1 Bytes\n"
+
+-- the line of a file whose program's Size is too great
+abbrev pub size_text : List ℕ → List ℕ
+size_text name = name ++ codes " L2 Size\n"
 
 -- the line of a file that doesn't have the form
 abbrev pub unbuilt_text : List ℕ → List ℕ
@@ -50,14 +55,27 @@ abbrev pub is_file_name : List ℕ → Bool
 is_file_name [] = false
 is_file_name (b ∷ bytes) = not (b == 45)
 
--- What words and files come to: the usage line; a name that is lacking; a file that is refused, by its line; a text that
--- is printed; or a run of a program on rows.
+-- what is written to the two sinks, and the status
+pub record Answer : Type 0 where
+  pub out : List ℕ
+  pub err : List ℕ
+  pub status : ℕ
+
+-- What words and files come to: the usage line; a name that is lacking; an answer for which no unit is called; or a run of
+-- a program on rows.
 pub data Task : Type 0 where
   usage : Task
   lacks : List ℕ → Task
-  refuses : List ℕ → Task
-  prints : List ℕ → Task
+  gives : Answer → Task
   runs : List Term → List (List ℤ) → Task
+
+-- a file that is refused, by its line
+abbrev pub refuses : List ℕ → Task
+refuses line = gives (record { out = []; err = line; status = 1 })
+
+-- a text that is printed
+abbrev pub prints : List ℕ → Task
+prints text = gives (record { out = text; err = []; status = 0 })
 
 -- a file that is held and has no more bytes than the limit
 abbrev pub with_file : List ℕ → ℕ → (List ℕ → Task) → Option (List ℕ) → Task
@@ -97,12 +115,6 @@ second_name _ = []
 abbrev pub run_task : List ℕ → List ℕ → Held → Task
 run_task source rows held = with_file source source_limit (λ bytes. source_task source rows held (terms_of bytes)) (held source)
 
--- what is written to the two sinks, and the status
-pub record Answer : Type 0 where
-  pub out : List ℕ
-  pub err : List ℕ
-  pub status : ℕ
-
 -- the status of a run that ends so
 abbrev pub end_status : End → ℕ
 end_status complete = 0
@@ -117,8 +129,7 @@ output_names = codes "y" ∷ []
 abbrev pub answer_of : Task → Run → Answer
 answer_of usage run = record { out = []; err = usage_text; status = 4 }
 answer_of (lacks name) run = record { out = []; err = read_fault_text name; status = 5 }
-answer_of (refuses line) run = record { out = []; err = line; status = 1 }
-answer_of (prints text) run = record { out = text; err = []; status = 0 }
+answer_of (gives a) run = a
 answer_of (runs terms rows) run = record { out = run_text output_names run; err = []; status = end_status run.end }
 
 -- the seed of the signatures where the words give none

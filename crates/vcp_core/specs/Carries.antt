@@ -10,7 +10,8 @@ use Rattle.vcp_core.specs.declared.cycle_end.CycleEnd.{CycleEnd}
 use Rattle.vcp_core.specs.Calls.{AllRight}
 use Rattle.vcp_core.specs.declared.cycle_end.CycleEnd.TheVariants as end
 use Rattle.vcp_core.specs.CycleEnds.{outputs, spot_at}
-use Rattle.vcp_core.specs.Lines.{row_text, rows_text, last_text}
+use Rattle.run_report.specs.Lines.{row_text}
+use Rattle.vcp_core.specs.Lines.{rows_text, last_text}
 use Rattle.vcp_core.specs.Log.{calls_over, run_then, run_of_answers, MayFollow, AllCycles, SomeCycles}
 use Rattle.vcp_core.specs.Runs.{Run, End, Cycle, released, ends, complete, stopped, refused}
 

@@ -6,7 +6,7 @@ use Rattle.vcp_base.specs.declared.kind.StopKind.{StopKind}
 use Rattle.vcp_base.specs.declared.spot.Spot.{Spot}
 use Rattle.vcp_outside.specs.Counts.{Rose}
 use Rattle.vcp_core.specs.declared.program.Term.{Term}
-use Rattle.vcp_core.specs.Answers.{Task, lacks, refuses, prints, runs, run_meant, output_names, read_fault_text}
+use Rattle.vcp_core.specs.Answers.{Answer, Task, lacks, gives, runs, run_meant, output_names, read_fault_text}
 use Rattle.vcp_core.specs.Endings.{Ended}
 use Rattle.vcp_core.specs.Lines.{run_text}
 use Rattle.vcp_core.specs.Meaning.{source_run}
@@ -41,29 +41,29 @@ pub record RunsAsMeant (terms : List Term) (rows : List (List ℤ)) (e : Ended) 
   pub out : Appends e.out_old e.out_new (run_text output_names (source_run terms rows))
   pub err : Appends e.err_old e.err_new []
 
--- this text was written to the output and this line to the errors, with this status
-pub record Gave (text line : List ℕ) (code : ℕ) (e : Ended) : Type 0 where
-  pub status : e.status ≡ code
-  pub out : Appends e.out_old e.out_new text
-  pub err : Appends e.err_old e.err_new line
+-- an answer came: its output and its line were written and nothing else, and it has the status
+pub record Gave (a : Answer) (e : Ended) : Type 0 where
+  pub status : e.status ≡ a.status
+  pub out : Appends e.out_old e.out_new a.out
+  pub err : Appends e.err_old e.err_new a.err
+
+-- the task is an answer with this status
+abbrev pub GivesStatus : Task → ℕ → Type 0
+GivesStatus task status = (a : Answer) × (task ≡ gives a) × (a.status ≡ status)
 
 -- The causes of the statuses, for the task that words and files come to.
 pub record Causes (task : Task) (e : Ended) : Type 0 where
-  -- 0 comes only where a text is printed, or a program is run
-  pub zero_only : e.status ≡ 0 → ((text : List ℕ) × (task ≡ prints text)) ⊎ ((terms : List Term) × (rows : List (List ℤ)) × (task ≡ runs terms rows))
-  -- and where a text is printed it comes, with that text and nothing else, but for 5, 6 and 7
-  pub zero : (text : List ℕ) → task ≡ prints text → IsNoFault e.status → Gave text [] 0 e
+  -- where the task is an answer, it comes, but for 5, 6 and 7
+  pub given : (a : Answer) → task ≡ gives a → IsNoFault e.status → Gave a e
   -- and where nothing failed, it comes so, unless memory was wanted
-  pub zero_completes : (text : List ℕ) → task ≡ prints text → NothingFailed e → (e.status ≡ 7) ⊎ Gave text [] 0 e
-  -- 1 comes only where a file is refused
-  pub one_only : e.status ≡ 1 → (line : List ℕ) × (task ≡ refuses line)
-  -- and where a file is refused it comes, with that file's line and nothing else, but for 5, 6 and 7
-  pub one : (line : List ℕ) → task ≡ refuses line → IsNoFault e.status → Gave [] line 1 e
-  -- and where nothing failed, it comes so, unless memory was wanted
-  pub one_completes : (line : List ℕ) → task ≡ refuses line → NothingFailed e → (e.status ≡ 7) ⊎ Gave [] line 1 e
-  -- with an honest unit 2 comes only where the program's meaning stops
-  pub two_only : e.status ≡ 2 → WasHonest e → (why : StopKind) × (spot : Spot) × ((run_meant task).end ≡ stopped why spot)
-  -- and where the meaning stops it comes, but for 5, 6 and 7
+  pub given_completes : (a : Answer) → task ≡ gives a → NothingFailed e → (e.status ≡ 7) ⊎ Gave a e
+  -- 0 comes only where the task is an answer with this status, or a program is run
+  pub zero_only : e.status ≡ 0 → GivesStatus task 0 ⊎ ((terms : List Term) × (rows : List (List ℤ)) × (task ≡ runs terms rows))
+  -- 1 comes only where the task is an answer with this status
+  pub one_only : e.status ≡ 1 → GivesStatus task 1
+  -- 2 comes only where the task is an answer with this status, or, with an honest unit, where the program's meaning stops
+  pub two_only : e.status ≡ 2 → GivesStatus task 2 ⊎ (WasHonest e → (why : StopKind) × (spot : Spot) × ((run_meant task).end ≡ stopped why spot))
+  -- and where the meaning of a program that is run stops it comes, but for 5, 6 and 7
   pub two : (why : StopKind) (spot : Spot) → (run_meant task).end ≡ stopped why spot → WasHonest e → IsNoFault e.status → e.status ≡ 2
   -- 5 comes only where the files broke, or where a name is lacking that was come to, which the line then names
   pub five_only : e.status ≡ 5 → Rose e.broken_old e.broken_new ⊎ ((name : List ℕ) × (task ≡ lacks name) × Appends e.err_old e.err_new (read_fault_text name))

@@ -4,11 +4,12 @@ use Rattle.std.specs.Io.KnownBytes.{Appends}
 use Rattle.coded_unit.specs.declared.call.Answer.{Answer as Given}
 use Rattle.coded_unit.specs.Log.{Entry, GrowsBy}
 use Rattle.vcp_outside.specs.Counts.{Rose}
-use Rattle.vcp_outside.specs.Written.{AppendsPart}
+use Rattle.vcp_outside.specs.Written.{AppendsFront, AppendsPart}
 use Rattle.vcp_core.specs.declared.cycle_end.CycleEnd.{CycleEnd}
 use Rattle.vcp_core.specs.declared.cycle_end.CycleEnd.TheVariants as end
 use Rattle.vcp_core.specs.Runs.{Run}
-use Rattle.vcp_core.specs.Answers.{Task, answer_of, run_read, run_read_then, MayCome, run_meant, calls_of, AllAnswers, SomeAnswers, EarlierPrinted, is_run, first_name, second_name, read_fault_text, write_fault_text, memory_text, usage_text}
+use Rattle.vcp_core.specs.PlainWords.{is_plain, has_rows_file}
+use Rattle.vcp_core.specs.Answers.{Answer, Task, gives, answer_of, run_read, run_read_then, MayCome, run_meant, calls_of, AllAnswers, SomeAnswers, EarlierPrinted, first_name, second_name, read_fault_text, write_fault_text, memory_text, usage_text}
 
 -- What is told before and after: the unit's log and count of wrong answers, what was written to the two sinks with their
 -- counts of faults, and the count of the files that broke; and the status.
@@ -42,9 +43,9 @@ pub record AnswerGiven (task : Task) (e : Ended) : Type 0 where
   pub status : e.status ≡ (answer_of task (run_read task cycles)).status
   pub honest : e.wrong_new ≡ e.wrong_old → e.wrong_old < 2 ^ 64 - 1 → run_read task cycles ≡ run_meant task
 
--- a name is a file word: P, or in the words `run P ROWS` also ROWS
+-- a name is a file word: P, or ROWS where that is a file's name
 abbrev pub IsFileWord : List (List ℕ) → List ℕ → Type 0
-IsFileWord words name = (name ≡ first_name words) ⊎ ((is_run words ≡ true) × (name ≡ second_name words))
+IsFileWord words name = (name ≡ first_name words) ⊎ ((has_rows_file words ≡ true) × (name ≡ second_name words))
 
 -- The files broke before the unit was called: nothing was written but the line of a read fault of one of the file words.
 pub record FilesFailed (words : List (List ℕ)) (e : Ended) : Type 0 where
@@ -71,30 +72,13 @@ pub record OutputFailed (task : Task) (e : Ended) : Type 0 where
   pub earlier : EarlierPrinted task cycles e.out_old e.out_new
   pub err : Appends e.err_old e.err_new write_fault_text ⊎ (Rose e.err_faults_old e.err_faults_new × AppendsPart e.err_old e.err_new write_fault_text)
 
--- The sink of the errors failed in the line of the status that would else have come; the unit was not called.
-pub record ErrorsFailed (task : Task) (words : List (List ℕ)) (e : Ended) : Type 0 where
+-- The sink of the errors failed in the line of the defined answer, after its output was written; the unit was not called.
+pub record ErrorsFailed (task : Task) (e : Ended) : Type 0 where
   pub status : e.status ≡ 6
   pub rose : Rose e.err_faults_old e.err_faults_new
-  pub line : List ℕ
-  pub line_is : (line ≡ (answer_of task (run_read task [])).err) ⊎ ((Rose e.broken_old e.broken_new × ((name : List ℕ) × IsFileWord words name × (line ≡ read_fault_text name))) ⊎ (line ≡ memory_text))
   pub log : GrowsBy e.log_old e.log_new []
-  pub out : Appends e.out_old e.out_new []
-  pub err : AppendsPart e.err_old e.err_new line
-
--- Memory was wanted, before the unit was called and before anything was written to the output.
-pub record NoMemory (e : Ended) : Type 0 where
-  pub status : e.status ≡ 7
-  pub log : GrowsBy e.log_old e.log_new []
-  pub out : Appends e.out_old e.out_new []
-  pub err : Appends e.err_old e.err_new memory_text
-
--- how the program ends
-pub data Ends (task : Task) (words : List (List ℕ)) (e : Ended) : Type 0 where
-  answers : AnswerGiven task e → Ends task words e
-  files_failed : FilesFailed words e → Ends task words e
-  output_failed : OutputFailed task e → Ends task words e
-  errors_failed : ErrorsFailed task words e → Ends task words e
-  no_memory : NoMemory e → Ends task words e
+  pub out : Appends e.out_old e.out_new (answer_of task (run_read task [])).out
+  pub err : AppendsPart e.err_old e.err_new (answer_of task (run_read task [])).err
 
 -- The sink of the errors failed in the line of a read fault, where the files broke, or of want of memory; nothing else was
 -- done.
@@ -106,6 +90,32 @@ pub record LineFailed (words : List (List ℕ)) (e : Ended) : Type 0 where
   pub log : GrowsBy e.log_old e.log_new []
   pub out : Appends e.out_old e.out_new []
   pub err : AppendsPart e.err_old e.err_new line
+
+-- Memory was wanted, before the unit was called and before anything was written to the output.
+pub record NoMemory (e : Ended) : Type 0 where
+  pub status : e.status ≡ 7
+  pub log : GrowsBy e.log_old e.log_new []
+  pub out : Appends e.out_old e.out_new []
+  pub err : Appends e.err_old e.err_new memory_text
+
+-- Memory was wanted while an answer was given for which no unit is called, and a front of its output was written. The line
+-- was printed, or the sink of the errors failed in it.
+pub record MemoryEnded (task : Task) (e : Ended) : Type 0 where
+  pub answer : Answer
+  pub task_is : task ≡ gives answer
+  pub log : GrowsBy e.log_old e.log_new []
+  pub out : AppendsFront e.out_old e.out_new answer.out
+  pub told : ((e.status ≡ 7) × Appends e.err_old e.err_new memory_text) ⊎ ((e.status ≡ 6) × Rose e.err_faults_old e.err_faults_new × AppendsPart e.err_old e.err_new memory_text)
+
+-- How the program ends. Only `plain` gives up for want of memory after it has begun to write.
+pub data Ends (task : Task) (words : List (List ℕ)) (e : Ended) : Type 0 where
+  answers : AnswerGiven task e → Ends task words e
+  files_failed : FilesFailed words e → Ends task words e
+  output_failed : OutputFailed task e → Ends task words e
+  errors_failed : ErrorsFailed task e → Ends task words e
+  line_failed : LineFailed words e → Ends task words e
+  no_memory : NoMemory e → Ends task words e
+  memory_ended : is_plain words ≡ true → MemoryEnded task e → Ends task words e
 
 -- The words were given up before it was known what they come to: the files broke or memory was wanted, and its line was
 -- printed, or the sink of the errors failed in it.

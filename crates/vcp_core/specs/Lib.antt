@@ -9,7 +9,6 @@ pub mod Cuts
 pub mod Commands
 pub mod CycleEnds
 pub mod Endings
-pub mod FormatReach
 pub mod GraphRun
 pub mod Honest
 pub mod Lines
@@ -17,8 +16,13 @@ pub mod Log
 pub mod Meaning
 pub mod Numerals
 pub mod Operations
-pub mod Parts
+pub mod PlainReach
+pub mod PlainRun
+pub mod PlainTask
+pub mod PlainWords
+pub mod Programs
 pub mod Reach
+pub mod RowFaults
 pub mod RowsFile
 pub mod RowsLeft
 pub mod RunSoFar
@@ -26,3 +30,4 @@ pub mod Runs
 pub mod Signatures
 pub mod Source
 pub mod Stops
+pub mod TextReach

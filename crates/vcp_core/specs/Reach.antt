@@ -13,11 +13,13 @@ use Rattle.vcp_core.specs.declared.fault.FileWord.TheVariants as word
 use Rattle.vcp_core.specs.declared.fault.Refusal.{Refusal}
 use Rattle.vcp_core.specs.declared.fault.Refusal.TheVariants as refusal
 use Rattle.vcp_core.specs.declared.program.Term.{Term}
-use Rattle.vcp_core.specs.Answers.{Task, lacks, refuses, runs, run_task, rows_file_task, output_names, default_seed, default_step, bytes_text, unbuilt_text, read_fault_text, write_fault_text, memory_text}
+use Rattle.vcp_core.specs.Answers.{Task, lacks, refuses, runs, run_task, rows_file_task, output_names, default_seed, default_step, bytes_text, size_text, unbuilt_text, read_fault_text, write_fault_text, memory_text}
 use Rattle.vcp_core.specs.Carries.{RunsOver}
-use Rattle.vcp_core.specs.Lines.{header_text, run_text, spot_text}
+use Rattle.run_report.specs.Lines.{header_text}
+use Rattle.vcp_core.specs.Lines.{run_text, spot_text}
 use Rattle.vcp_core.specs.Meaning.{TermsFit, RowsFit}
 use Rattle.vcp_core.specs.Operations.{operations}
+use Rattle.vcp_core.specs.RowFaults.{row_fault_text, refused_rows}
 
 -- what is told around the command, but for the sink of the errors
 pub record BeforeAndAfter : Type 0 where
@@ -64,6 +66,8 @@ FileRead held name limit w before now (Err (fault.TooLong v)) = (v ≡ w) × ((b
 FileRead held name limit w before now (Err fault.Memory) = Unit {0}
 FileRead held name limit w before now (Err (fault.Unbuilt v)) = ⊥
 FileRead held name limit w before now (Err (fault.Refused why spot)) = ⊥
+FileRead held name limit w before now (Err fault.TooLarge) = ⊥
+FileRead held name limit w before now (Err (fault.Row why)) = ⊥
 FileRead held name limit w before now (Err fault.Write) = ⊥
 
 -- the terms of the program under a name: the task goes on to the rows with them
@@ -76,6 +80,8 @@ NoTerms held source before now (fault.Read w) = (w ≡ word.Source) × (((rows :
 NoTerms held source before now (fault.TooLong w) = (w ≡ word.Source) × ((rows : List ℕ) → run_task source rows held ≡ refuses (bytes_text source))
 NoTerms held source before now (fault.Unbuilt w) = (w ≡ word.Source) × ((rows : List ℕ) → run_task source rows held ≡ refuses (unbuilt_text source))
 NoTerms held source before now (fault.Refused why spot) = ⊥
+NoTerms held source before now fault.TooLarge = ⊥
+NoTerms held source before now (fault.Row why) = ⊥
 NoTerms held source before now fault.Memory = Unit {0}
 NoTerms held source before now fault.Write = ⊥
 
@@ -88,6 +94,8 @@ RunsProgram terms rows s (Err (fault.Read w)) = ⊥
 RunsProgram terms rows s (Err (fault.TooLong w)) = ⊥
 RunsProgram terms rows s (Err (fault.Unbuilt w)) = ⊥
 RunsProgram terms rows s (Err (fault.Refused why spot)) = ⊥
+RunsProgram terms rows s (Err fault.TooLarge) = ⊥
+RunsProgram terms rows s (Err (fault.Row why)) = ⊥
 
 -- how far the command came
 abbrev pub Reaches : Task → List ℕ → List ℕ → BeforeAndAfter → ℕ → ℕ → Result CycleEnd Fault → Type 0
@@ -96,6 +104,8 @@ Reaches task source rows s before now (Err (fault.Read w)) = Untouched s × ((ta
 Reaches task source rows s before now (Err (fault.TooLong w)) = Untouched s × (task ≡ refuses (bytes_text (name_of source rows w)))
 Reaches task source rows s before now (Err (fault.Unbuilt w)) = Untouched s × (task ≡ refuses (unbuilt_text (name_of source rows w)))
 Reaches task source rows s before now (Err (fault.Refused why spot)) = ⊥
+Reaches task source rows s before now (Err fault.TooLarge) = ⊥
+Reaches task source rows s before now (Err (fault.Row why)) = ⊥
 Reaches task source rows s before now (Err fault.Write) = (why : Failed) × RunsTask task s (Err why)
 Reaches task source rows s before now (Err fault.Memory) = Untouched s
 
@@ -106,6 +116,15 @@ refusal_code refusal.Comment = codes "S2 Comment"
 refusal_code refusal.Number = codes "S3 Number"
 refusal_code refusal.Syntax = codes "S4 Syntax"
 refusal_code refusal.Depth = codes "S5 Depth"
+refusal_code refusal.Duplicate = codes "T1 Duplicate"
+refusal_code refusal.Unknown = codes "T2 Unknown"
+refusal_code refusal.Mismatch = codes "T3 Mismatch"
+refusal_code refusal.Assign = codes "T4 Assign"
+refusal_code refusal.Bound = codes "T5 Bound"
+refusal_code refusal.Label = codes "T6 Label"
+refusal_code refusal.Call = codes "T7 Call"
+refusal_code refusal.Literal = codes "T8 Literal"
+refusal_code refusal.Names = codes "L3 Names"
 
 -- the line of a fault
 abbrev pub fault_line : List ℕ → List ℕ → Fault → List ℕ
@@ -113,6 +132,8 @@ fault_line source rows (fault.Read w) = read_fault_text (name_of source rows w)
 fault_line source rows (fault.TooLong w) = bytes_text (name_of source rows w)
 fault_line source rows (fault.Unbuilt w) = unbuilt_text (name_of source rows w)
 fault_line source rows (fault.Refused why spot) = spot_text source spot (refusal_code why)
+fault_line source rows fault.TooLarge = size_text source
+fault_line source rows (fault.Row why) = row_fault_text rows (refused_rows why)
 fault_line source rows fault.Write = write_fault_text
 fault_line source rows fault.Memory = memory_text
 
@@ -122,5 +143,7 @@ fault_status (fault.Read w) = 5
 fault_status (fault.TooLong w) = 1
 fault_status (fault.Unbuilt w) = 1
 fault_status (fault.Refused why spot) = 1
+fault_status fault.TooLarge = 1
+fault_status (fault.Row why) = 1
 fault_status fault.Write = 6
 fault_status fault.Memory = 7

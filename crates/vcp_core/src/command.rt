@@ -15,21 +15,18 @@ ghost use Rattle.vcp_core.specs.declared.fault.FileWord.{FileWord as FileWordOf}
 use crate::building::operations;
 use crate::cycle_end::CycleEnd;
 use crate::fault::{Fault, FileWord};
-use crate::lines::header_line;
 use crate::program::Term;
-use crate::reading::{SOURCE_LIMIT, read_file};
+use crate::reading::{ROWS_LIMIT, SOURCE_LIMIT, read_file};
 use crate::rows_file::Rows;
 use crate::running::{Registers, run_rows};
 use crate::signature::DEFAULT_CODE;
 use crate::source::read_source;
 use crate::words::FileWords;
 use coded_unit::Unit;
+use run_report::header_line;
 use std::alloc::Global;
 use vcp_base::{Memory, Text};
 use vcp_outside::{Files, Sink};
-
-/// The most bytes of a rows file.
-const ROWS_LIMIT: u64 = 67108864;
 
 /// The terms of the program under a name.
 fn load_terms<F: Files>(alloc: Global, files: &mut F, name: &Text) -> Result<Vec<Term>, Fault>
@@ -75,8 +72,8 @@ fn run_program<U: Unit, O: Sink>(
 {
     let ops = operations(alloc, terms)?;
     let mut registers = Registers::new(alloc, ops.len())?;
-    header_line(out, b"y")?;
-    let end = run_rows(unit, out, DEFAULT_CODE, &ops, rows, &mut registers)?;
+    header_line(out, &registers.names)?;
+    let end = run_rows(alloc, unit, out, DEFAULT_CODE, &ops, rows, &mut registers)?;
     Ok(end)
 }
 

@@ -1,11 +1,14 @@
 //! Why a command ends before all is written.
 
 ghost use Rattle.std.specs.Prelude.{◌≡◌};
-ghost use Rattle.vcp_core.specs.FormatReach.{lexer_fault, parser_fault};
+ghost use Rattle.vcp_core.specs.RowFaults.{row_fault};
+ghost use Rattle.vcp_core.specs.TextReach.{lexer_fault, parser_fault, typing_fault};
 ghost use Rattle.vcp_core.specs.declared.fault.Fault.TheVariants as fault;
 
+use input_rows::RowFault;
 use st_lexer::LexFault;
 use st_parser::SyntaxFault;
+use st_types::TypeFault;
 use thiserror::Error;
 use vcp_base::{Memory, Spot};
 use vcp_outside::Failed;
@@ -32,6 +35,48 @@ pub enum Refusal {
     Syntax,
     /// The token there is deeper than the limit.
     Depth,
+    /// The name there is declared before.
+    Duplicate,
+    /// The variable there isn't declared.
+    Unknown,
+    /// Operands, arguments or a value have wrong types.
+    Mismatch,
+    /// The variable there may not be set.
+    Assign,
+    /// The bound, step or initial value there is no constant, or outside the type.
+    Bound,
+    /// The label there is no constant, or outside the type, or its range is empty.
+    Label,
+    /// The function there is unknown, or has another number of arguments.
+    Call,
+    /// The literal there is outside its type.
+    Literal,
+    /// The name there is the first of more than may be declared.
+    Names,
+}
+
+/// Why the rows of a file are refused. Records count from 1, the header's; columns count from 1, in a
+/// record's own order.
+#[derive(Clone, Copy, Debug, PartialEq, Eq)]
+pub enum RowRefusal {
+    /// The first record isn't each input's name once and nothing else.
+    Header,
+    /// The record has more or fewer fields than the program has inputs.
+    Width {
+        /// The number of the record.
+        row: u32,
+    },
+    /// The first cell of the record that spells no value of its input's type.
+    Cell {
+        /// The number of the record.
+        row: u32,
+        /// The number of the column.
+        column: u32,
+    },
+    /// A file for a program without inputs, or cycles for one that has inputs.
+    Form,
+    /// There are more records than cycles may be.
+    Cycles,
 }
 
 /// Why a command ends before all is written.
@@ -49,10 +94,17 @@ pub enum Fault {
     /// The source is refused at this place.
     #[error("the source is refused: {0:?} at {1:?}")]
     Refused(Refusal, Spot),
+    /// The source's program has a greater Size than the limit.
+    #[error("the source has too great a size")]
+    TooLarge,
+    /// The rows are refused, or the one of the next cycle; what earlier cycles gave was written.
+    #[error("the rows are refused: {0:?}")]
+    Row(RowRefusal),
     /// The sink of the output failed.
     #[error("a sink failed")]
     Write,
-    /// An allocation failed; nothing was written, and the unit was asked nothing.
+    /// An allocation failed. The unit was asked nothing; nothing was written, or of `plain` a front of
+    /// its answer.
     #[error("an allocation failed")]
     Memory,
 }
@@ -94,6 +146,41 @@ impl From<SyntaxFault> for Fault {
             SyntaxFault::Syntax { spot } => Fault::Refused(Refusal::Syntax, spot),
             SyntaxFault::Depth { spot } => Fault::Refused(Refusal::Depth, spot),
             SyntaxFault::Memory => Fault::Memory,
+        }
+    }
+}
+
+impl From<TypeFault> for Fault {
+    ghost from_gives = { λ t e. e ≡ typing_fault t };
+
+    fn from(fault: TypeFault) -> Fault {
+        match fault {
+            TypeFault::Duplicate { spot } => Fault::Refused(Refusal::Duplicate, spot),
+            TypeFault::Unknown { spot } => Fault::Refused(Refusal::Unknown, spot),
+            TypeFault::Mismatch { spot } => Fault::Refused(Refusal::Mismatch, spot),
+            TypeFault::Assign { spot } => Fault::Refused(Refusal::Assign, spot),
+            TypeFault::Bound { spot } => Fault::Refused(Refusal::Bound, spot),
+            TypeFault::Label { spot } => Fault::Refused(Refusal::Label, spot),
+            TypeFault::Call { spot } => Fault::Refused(Refusal::Call, spot),
+            TypeFault::Literal { spot } => Fault::Refused(Refusal::Literal, spot),
+            TypeFault::Names { spot } => Fault::Refused(Refusal::Names, spot),
+            TypeFault::Size => Fault::TooLarge,
+            TypeFault::Memory => Fault::Memory,
+        }
+    }
+}
+
+impl From<RowFault> for Fault {
+    ghost from_gives = { λ r e. e ≡ row_fault r };
+
+    fn from(fault: RowFault) -> Fault {
+        match fault {
+            RowFault::Header => Fault::Row(RowRefusal::Header),
+            RowFault::Width { row } => Fault::Row(RowRefusal::Width { row }),
+            RowFault::Cell { row, column } => Fault::Row(RowRefusal::Cell { row, column }),
+            RowFault::Form => Fault::Row(RowRefusal::Form),
+            RowFault::Cycles => Fault::Row(RowRefusal::Cycles),
+            RowFault::Memory => Fault::Memory,
         }
     }
 }

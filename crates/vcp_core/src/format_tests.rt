@@ -1,38 +1,10 @@
 //! Worked texts of the command `format`.
 
-use crate::vcp;
-use coded_unit::CpuUnit;
+use crate::text_calls::{ADD, CROSSING, Given, give, joined, repeated, with_crlf};
 use std::alloc::Global;
 use std::test::Fail;
-use vcp_base::{Memory, Words};
-use vcp_outside::{MemFiles, MemSink};
-
-/// The status, and what was written to the output and to the errors.
-#[derive(Drop)]
-struct Given {
-    status: u8,
-    out: MemSink,
-    err: MemSink,
-}
-
-/// What these words give where these files are held and the output has so much room.
-fn give(alloc: Global, given: &[&[u8]], files: &mut MemFiles, room: u32) -> Result<Given, Memory> {
-    let mut words = Words::new(alloc);
-    for word in given {
-        words.push(*word)?;
-    }
-    let mut out = MemSink::new(alloc, room)?;
-    let mut err = MemSink::new(alloc, 200)?;
-    let status = vcp(
-        alloc,
-        &words,
-        files,
-        &mut CpuUnit::new(),
-        &mut out,
-        &mut err,
-    );
-    Ok(Given { status, out, err })
-}
+use vcp_base::Memory;
+use vcp_outside::MemFiles;
 
 /// What `format p.st` gives where `p.st` has this text.
 fn format(alloc: Global, text: &[u8]) -> Result<Given, Memory> {
@@ -58,22 +30,6 @@ fn is_refused(alloc: Global, text: &[u8], line: &[u8]) -> Result<bool, Memory> {
     Ok(given.status == 1 && given.out.bytes().is_empty() && given.err.bytes() == line)
 }
 
-fn joined(alloc: Global, parts: &[&[u8]]) -> Result<Vec<u8>, Memory> {
-    let mut all = Vec::new(alloc);
-    for part in parts {
-        all.extend_from_slice(*part)?;
-    }
-    Ok(all)
-}
-
-const ADD: &[u8] = b"\
-PROGRAM p
-VAR_INPUT x : DINT; END_VAR
-VAR_OUTPUT y : DINT; END_VAR
-y := x + 1;
-END_PROGRAM
-";
-
 const ADD_FORMATTED: &[u8] = b"\
 PROGRAM p
 VAR_INPUT
@@ -83,34 +39,6 @@ VAR_OUTPUT
   y : DINT;
 END_VAR
   y := x + 1;
-END_PROGRAM
-";
-
-const CROSSING: &[u8] = b"\
-(* Level crossing, one track *)
-Program Crossing
-VAR_INPUT
-  approach : BOOL;  // train before the crossing
-  island : bool;    /* train on the crossing */
-  gate_down : BOOL;
-END_VAR
-VAR_OUTPUT lights : BOOL; motor : INT := 0; END_VAR
-VAR CONSTANT DEBOUNCE : INT := 2; END_VAR
-VAR state : INT; seen : INT; END_VAR
-IF approach THEN
-  seen := Min(seen + 1, DEBOUNCE);
-ELSE
-  seen := 0;
-END_IF;
-CASE state OF
-  0: IF seen >= debounce THEN state := 1; END_IF;
-  1: state := 2;
-  2: IF gate_down AND NOT approach & not island THEN state := 3; END_IF;
-ELSE
-  if NOT gate_down THEN state := 0; end_if;
-END_CASE;
-lights := state <> 0;
-motor := SEL(state = 2, SEL(state = 3, 0, 2), 1);
 END_PROGRAM
 ";
 
@@ -157,18 +85,6 @@ END_VAR
   motor := SEL(state = 2, SEL(state = 3, 0, 2), 1);
 END_PROGRAM
 ";
-
-/// The text with CR before each LF.
-fn with_crlf(alloc: Global, text: &[u8]) -> Result<Vec<u8>, Memory> {
-    let mut all = Vec::new(alloc);
-    for byte in text {
-        if *byte == b'\n' {
-            all.push(b'\r')?;
-        }
-        all.push(*byte)?;
-    }
-    Ok(all)
-}
 
 #[test]
 fn the_level_crossing_is_formatted(rt: HostRuntime) -> Result<(), Fail> {
@@ -379,15 +295,6 @@ fn faults_of_texts_are_told_with_their_places(rt: HostRuntime) -> Result<(), Fai
     let long = vec![in alloc; b' '; 1048577]?;
     assert!(rt; is_refused(alloc, &long, b"p.st L1 Bytes\n")?);
     Ok(())
-}
-
-/// So many times these bytes.
-fn repeated(alloc: Global, bytes: &[u8], times: u32) -> Result<Vec<u8>, Memory> {
-    let mut all = Vec::new(alloc);
-    for _i in 0..times {
-        all.extend_from_slice(bytes)?;
-    }
-    Ok(all)
 }
 
 /// A statement whose number stands in so many brackets.

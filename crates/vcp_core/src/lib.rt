@@ -4,6 +4,7 @@
 
 mod building;
 mod carrying;
+mod checking;
 mod command;
 mod cycle_end;
 mod fault;
@@ -12,8 +13,10 @@ mod laws;
 mod lines;
 mod numeral;
 mod operation;
-mod parts;
+mod parsing;
 mod pieces;
+mod plain;
+mod plain_run;
 mod program;
 mod reading;
 mod rows_file;
@@ -21,13 +24,21 @@ mod running;
 mod signature;
 mod source;
 mod telling;
+mod texts;
 mod top;
+mod typing;
 mod words;
 
 pub use laws::one_task;
 pub use top::vcp;
 
 #[cfg(test)]
+mod check_tests;
+#[cfg(test)]
 mod format_tests;
 #[cfg(test)]
+mod plain_tests;
+#[cfg(test)]
 mod tests;
+#[cfg(test)]
+mod text_calls;

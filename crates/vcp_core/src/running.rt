@@ -1,8 +1,9 @@
 //! The loop over the cycles of a run.
 
-ghost use Rattle.std.specs.Prelude.{◌≡◌, ◌<◌, ◌≤◌, ℕ, Ok, IfOk, IfSome, [], length, vec_capacity, slice_index_or};
+ghost use Rattle.std.specs.Prelude.{◌≡◌, ◌<◌, ◌≤◌, ℕ, Ok, IfOk, IfSome, [], length, map, vec_capacity, slice_index_or};
 ghost use Rattle.vcp_outside.specs.Counts.{Rose};
 ghost use Rattle.vcp_outside.specs.Written.{Writes};
+ghost use Rattle.run_report.specs.Lines.{refused_text};
 ghost use Rattle.vcp_core.specs.Answers.{output_names};
 ghost use Rattle.vcp_core.specs.Calls.{Whole};
 ghost use Rattle.vcp_core.specs.Carried.{Carried};
@@ -14,17 +15,17 @@ ghost use Rattle.vcp_core.specs.declared.cycle_end.CycleEnd.TheVariants as end;
 
 use crate::carrying::{Setting, carry};
 use crate::cycle_end::{CycleEnd, cycle_end, is_released};
-use crate::lines::{end_line, refused_line, row_line, stop_line};
 use crate::operation::Op;
 use crate::rows_file::Rows;
 use crate::signature::Code;
 use coded_unit::{Answer, Unit};
+use run_report::{end_line, refused_line, row_line, stop_line};
 use std::alloc::Global;
-use vcp_base::{Memory, Row, Spot};
+use vcp_base::{Column, Columns, Memory, Residue, Row, Spot, Text, Turns, Ty, Words};
 use vcp_outside::{Failed, Sink};
 
-/// The room that the cycles of a run need: the answers to the calls of one cycle, and its rows of
-/// inputs and outputs.
+/// What the cycles of a run need: room for the answers to the calls of one cycle and for its rows of
+/// inputs and outputs, and the names of the outputs.
 #[derive(Drop)]
 pub struct Registers {
     /// The answers to the calls of one cycle, in the order of the operations.
@@ -33,6 +34,8 @@ pub struct Registers {
     pub inputs: Row,
     /// The values of the outputs, set in each cycle that releases them.
     pub outputs: Row,
+    /// The outputs, with their names.
+    pub names: Columns,
 }
 
 impl Registers {
@@ -41,11 +44,13 @@ impl Registers {
         ensures room { IfOk result (λ r. ops ≤ vec_capacity r.answers) }
         ensures inputs { IfOk result (λ r. length r.inputs ≡ 1) }
         ensures outputs { IfOk result (λ r. length r.outputs ≡ 1) }
+        ensures names { IfOk result (λ r. map (λ c. c.name) r.names ≡ output_names) }
     {
         Ok(Registers {
             answers: Vec::with_capacity(alloc, ops)?,
             inputs: Row::zeros(alloc, 1)?,
             outputs: Row::zeros(alloc, 1)?,
+            names: output_columns(alloc)?,
         })
     }
 }
@@ -60,11 +65,42 @@ fn spot_at(ops: &[Op], k: u32) -> Spot
     }
 }
 
-/// The name of an output.
-fn output_name(output: u32) -> &'static [u8]
-    ensures { result.now ≡ slice_index_or output_names output [] }
+/// The outputs of the form that is built.
+fn output_columns(alloc: Global) -> Result<Columns, Memory>
+    ensures { IfOk result (λ columns. map (λ c. c.name) columns ≡ output_names) }
 {
-    if output == 0 { b"y" } else { b"" }
+    let mut columns = Columns::new(alloc);
+    columns.push(Column {
+        name: Text::copy_of(alloc, b"y")?,
+        ty: Ty::Dint,
+    })?;
+    Ok(columns)
+}
+
+/// Prints that the output at a place among these is refused; without a name where there is none.
+fn print_refused<O: Sink>(
+    alloc: Global,
+    out: &mut O,
+    cycle: u32,
+    names: &Columns,
+    output: u32,
+    found: Residue,
+    expected: Residue,
+) -> Result<(), Failed>
+    ensures { Writes (O.written out.old) (O.written out.new) (O.faults out.old) (O.faults out.new) (refused_text cycle (slice_index_or (map (λ c. c.name) names.now) output []) found expected) result }
+{
+    if (output as usize) < names.len() {
+        let name = &names.at(output as usize).name;
+        refused_line(out, cycle, name, found, expected)
+    } else {
+        refused_line(
+            out,
+            cycle,
+            &Text::from_vec(Vec::new(alloc)),
+            found,
+            expected,
+        )
+    }
 }
 
 /// Carries one cycle through the unit and reads its end off the answers. Where its outputs are
@@ -95,28 +131,42 @@ fn cycle<U: Unit>(
 
 /// Prints what a cycle comes to: its row, or the line of its end.
 fn print_cycle<O: Sink>(
+    alloc: Global,
     out: &mut O,
     cycle: u32,
     ops: &[Op],
+    names: &Columns,
     outputs: &Row,
     end: &CycleEnd,
 ) -> Result<(), Failed>
+    requires names { map (λ c. c.name) names.now ≡ output_names }
     ensures { Writes (O.written out.old) (O.written out.new) (O.faults out.old) (O.faults out.new) (cycle_text output_names cycle (cycle_at ops.now outputs.now end.now)) result }
 {
     match end {
         CycleEnd::Released => row_line(out, cycle, outputs),
-        CycleEnd::Stopped { op, kind } => stop_line(out, cycle, *kind, spot_at(ops, *op)),
+        CycleEnd::Stopped { op, kind } => {
+            let spot = spot_at(ops, *op);
+            stop_line(
+                out,
+                cycle,
+                *kind,
+                spot,
+                &Turns::new(alloc),
+                &Words::new(alloc),
+            )
+        }
         CycleEnd::Refused {
             output,
             found,
             expected,
-        } => refused_line(out, cycle, output_name(*output), *found, *expected),
+        } => print_refused(alloc, out, cycle, names, *output, *found, *expected),
     }
 }
 
 /// Runs the cycles, one for each row, and prints a line for each, up to the first that ends the run;
 /// after the last row it prints the number of the cycles. It answers how the last cycle ended.
 pub fn run_rows<U: Unit, O: Sink>(
+    alloc: Global,
     unit: &mut U,
     out: &mut O,
     code: Code,
@@ -130,12 +180,14 @@ pub fn run_rows<U: Unit, O: Sink>(
     requires many { length rows.old ≤ 1000000 }
     requires inputs { length registers.old.inputs ≡ 1 }
     requires outputs { length registers.old.outputs ≡ output_count ops.now }
+    requires names { map (λ c. c.name) registers.old.names ≡ output_names }
     ensures run { RunsOver code.seed code.step ops.now [] (body_text output_names) rows.old (U.log unit.old) (U.log unit.new) (U.wrong unit.old) (U.wrong unit.new) (O.written out.old) (O.written out.new) (O.faults out.old) (O.faults out.new) result }
 {
     let Registers {
         answers,
         inputs,
         outputs,
+        names,
     } = registers;
     let mut count = 0;
     'cycles: while rows.next(inputs) {
@@ -145,7 +197,7 @@ pub fn run_rows<U: Unit, O: Sink>(
             cycle: count,
         };
         let end = cycle(unit, &setting, ops, answers, outputs);
-        print_cycle(out, count, ops, outputs, &end)?;
+        print_cycle(alloc, out, count, ops, names, outputs, &end)?;
         if !is_released(&end) {
             return Ok(end);
         }

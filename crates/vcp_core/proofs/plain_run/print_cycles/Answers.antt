@@ -1,0 +1,58 @@
+use Rattle.std.proofs.Common.{◌≡◌, ◌≤◌, ℕ, ℤ, suc, Err, List, ◌∷◌, sym, ap, subst, ◌∙◌, arith}
+use Rattle.std.specs.Prelude.{All}
+use Rattle.std.proofs.lemmas.Result.{err_from_is_err_and}
+use Rattle.vcp_base.specs.Types.{AreIn}
+use Rattle.vcp_typed.specs.Fitting.{input_types}
+use Rattle.vcp_outside.specs.Counts.{Rose}
+use Rattle.input_rows.specs.RowsOf.{RowsLeft}
+use Rattle.vcp_core.specs.declared.fault.Fault.TheVariants as fault
+use Rattle.vcp_core.proofs.PlainTurns.{going-ends, going-on, fails-here, end-fails}
+use Rattle.vcp_core.proofs.plain_run.print_cycles.Goals as goal
+
+types-behind : (before left : RowsLeft) (row : List ℤ) → before ≡ record left { rows = row ∷ left.rows } → left.types ≡ before.types
+types-behind before left row taken = sym (ap (λ (l : RowsLeft). l.types) taken)
+
+rows-behind : (P : List ℤ → Type 0) (before left : RowsLeft) (row : List ℤ) → before ≡ record left { rows = row ∷ left.rows } → All P before.rows → All P left.rows
+rows-behind P before left row taken h = λ k d below.
+    let Q : RowsLeft → Type 0 = λ l. All P l.rows in
+    let all : All P (row ∷ left.rows) = subst Q taken h in
+    all (suc k) d (omega (arith, below))
+
+rose-later : (f g h : ℕ) → f ≤ g → Rose g h → Rose f h
+rose-later f g h later rose = omega (arith, later, rose)
+
+pub returns-in_err-print_cycle-clause-prints : goal.returns-in_err-print_cycle-clause-prints
+returns-in_err-print_cycle-clause-prints g c =
+    let p = err_from_is_err_and c.from_residual-in_err-print_cycle.result c.from_residual-in_err-print_cycle.ensures.1 in
+    let part = rw c.cycles.invariant.program at c.in_err-print_cycle.ensures.line.part in
+    rw (p.1, p.2) (going-ends c.args.plain.now.program c.args.plain.now.values c.args.rows.now (g.O.Sink.written c.args.out.now) (g.O.Sink.written c.cycles.out) (g.O.Sink.written c.print_cycle.new.out) c.cycles.count c.cycles.plain.values c.cycles.rows (Err fault.Write) c.cycles.invariant.going (fails-here c.args.plain.now.program c.cycles.count c.cycles.plain.values c.next.new.out c.cycles.rows c.next.new.self (g.O.Sink.written c.cycles.out) (g.O.Sink.written c.print_cycle.new.out) (c.in_ok-next.ensures.row c.if-branch.true) part))
+
+pub returns-in_err-print_cycle-clause-write : goal.returns-in_err-print_cycle-clause-write
+returns-in_err-print_cycle-clause-write g c = λ _. rose-later _ _ _ c.cycles.invariant.later c.in_err-print_cycle.ensures.line.cause.failed
+
+pub returns-in_err-end_line-clause-prints : goal.returns-in_err-end_line-clause-prints
+returns-in_err-end_line-clause-prints g c =
+    let p = err_from_is_err_and c.from_residual-in_err-end_line.result c.from_residual-in_err-end_line.ensures.1 in
+    let none = c.in_ok-next.ensures.end c.if-branch.false in
+    rw (p.1, p.2) (going-ends c.args.plain.now.program c.args.plain.now.values c.args.rows.now (g.O.Sink.written c.args.out.now) (g.O.Sink.written c.cycles.out) (g.O.Sink.written c.end_line.new.out) c.cycles.count c.cycles.plain.values c.cycles.rows (Err fault.Write) c.cycles.invariant.going (end-fails c.args.plain.now.program c.cycles.count c.cycles.plain.values c.cycles.rows (g.O.Sink.written c.cycles.out) (g.O.Sink.written c.end_line.new.out) (record { rows = none.0; refusal_is = none.1 }) c.in_err-end_line.ensures.part))
+
+pub returns-in_err-end_line-clause-write : goal.returns-in_err-end_line-clause-write
+returns-in_err-end_line-clause-write g c = λ _. rose-later _ _ _ c.cycles.invariant.later c.in_err-end_line.ensures.cause.failed
+
+pub cycles-preserved : goal.cycles-preserved
+cycles-preserved g c =
+    let taken = c.in_ok-next.ensures.row c.if-branch.true in
+    let more = c.if-not-branch.false in
+    let here = c.in_ok-print_cycle.ensures in
+    let program : c.print_cycle.new.plain.program ≡ c.args.plain.now.program = here.program ∙ c.cycles.invariant.program in
+    record {
+      program = program;
+      stop = here.going more;
+      fit = rw c.cycles.invariant.program at (here.fit more);
+      types = types-behind c.cycles.rows c.next.new.self c.next.new.out taken ∙ c.cycles.invariant.types;
+      typed = rows-behind (AreIn (input_types c.args.plain.now.program.slots)) c.cycles.rows c.next.new.self c.next.new.out taken c.cycles.invariant.typed;
+      inputs = c.next.ensures.width ∙ c.cycles.invariant.inputs;
+      outputs = here.cells more ∙ c.cycles.invariant.outputs;
+      later = omega (arith, c.cycles.invariant.later, here.line.cause.later);
+      going = going-on c.args.plain.now.program c.args.plain.now.values c.args.rows.now (g.O.Sink.written c.args.out.now) (g.O.Sink.written c.cycles.out) (g.O.Sink.written c.print_cycle.new.out) c.cycles.count c.cycles.plain.values c.print_cycle.new.plain.values c.next.new.out c.cycles.rows c.next.new.self c.cycles.invariant.going taken (rw c.cycles.invariant.program at (here.values more)) (rw c.cycles.invariant.program at here.line.whole);
+    }

@@ -1,0 +1,178 @@
+//! The printing of a program's own run, cycle by cycle, as the rows come.
+
+ghost use Rattle.std.specs.Prelude.{◌≡◌, ◌+◌, ◌≤◌, ◌<◌, Option, Some, None, Ok, Err, IfOk, OnOk, OnErr, true, false, pos, [], ◌∷◌, ◌++◌, length, map, replicate, All};
+ghost use Rattle.vcp_base.specs.Types.{AreIn};
+ghost use Rattle.vcp_outside.specs.Counts.{Rose};
+ghost use Rattle.vcp_outside.specs.Written.{Writes};
+ghost use Rattle.vcp_typed.specs.Checked.{IsChecked};
+ghost use Rattle.vcp_typed.specs.Fitting.{AreFit, input_types, output_types};
+ghost use Rattle.vcp_typed.specs.Meaning.{Stop as StopOf};
+ghost use Rattle.vcp_typed.specs.SourceRun.{cycle as cycle_of};
+ghost use Rattle.vcp_core.specs.PlainRun.{Prints, PrintsFrom, output_columns as output_columns_of, slot_names as slot_names_of, cycle_line};
+ghost use Rattle.vcp_core.specs.declared.fault.Fault.TheVariants as fault;
+
+use crate::fault::Fault;
+use input_rows::Rows;
+use run_report::{end_line, header_line, row_line, stop_line};
+use st_plain::Plain;
+use st_tree::Class;
+use std::alloc::Global;
+use vcp_base::{Column, Columns, Memory, Row, Text, Words};
+use vcp_outside::{Failed, Sink};
+use vcp_typed::{Slot, Typed, values_fit};
+
+/// How a run that was printed whole ended.
+#[derive(Clone, Copy, Debug, PartialEq, Eq)]
+pub enum PlainEnd {
+    /// After the last row.
+    Complete,
+    /// By a stop.
+    Stopped,
+}
+
+/// The names and types of the outputs, in order of declaration.
+fn output_columns(alloc: Global, slots: &[Slot]) -> Result<Columns, Memory>
+    ensures { IfOk result (λ columns. columns ≡ output_columns_of slots.now) }
+{
+    let mut columns = Columns::new(alloc);
+    'each: for slot in slots {
+        add_output(alloc, &mut columns, slot)?;
+    }
+    Ok(columns)
+}
+
+/// Appends the slot's column where the slot is an output.
+fn add_output(alloc: Global, columns: &mut Columns, slot: &Slot) -> Result<(), Memory>
+    ensures { OnOk result (columns.new ≡ columns.old ++ output_columns_of (slot.now ∷ [])) }
+{
+    match slot.class {
+        Class::Output => columns.push(Column {
+            name: Text::copy_of(alloc, slot.name.bytes())?,
+            ty: slot.ty,
+        }),
+        _ => Ok(()),
+    }
+}
+
+/// The names of all slots, in order of declaration.
+fn slot_names(alloc: Global, slots: &[Slot]) -> Result<Words, Memory>
+    ensures { IfOk result (λ names. names ≡ slot_names_of slots.now) }
+{
+    let mut names = Words::new(alloc);
+    'each: for slot in slots {
+        names.push(slot.name.bytes())?;
+    }
+    Ok(names)
+}
+
+/// A row of zeros, one for each column.
+fn zeros(alloc: Global, columns: &Columns) -> Result<Row, Memory>
+    ensures { IfOk result (λ row. length row ≡ length columns.now) }
+{
+    Ok(Row::from_vec(vec![in alloc; 0; columns.len()]?))
+}
+
+/// Does a cycle on a row of inputs, and prints its line: the row of outputs, or the stop. It answers
+/// whether the run goes on.
+fn print_cycle<O: Sink>(
+    plain: &mut Plain<'_>,
+    cycle: u32,
+    names: &Words,
+    inputs: &Row,
+    outputs: &mut Row,
+    out: &mut O,
+) -> Result<bool, Failed>
+    requires going { plain.old.stop ≡ None }
+    requires checked { IsChecked plain.old.program }
+    requires fit { AreFit plain.old.program.slots plain.old.values }
+    requires names { names.now ≡ slot_names_of plain.old.program.slots }
+    requires row { AreIn (input_types plain.old.program.slots) inputs.now }
+    requires cells { length outputs.old ≡ length (output_types plain.old.program.slots) }
+    ensures program { plain.new.program ≡ plain.old.program }
+    ensures line { Writes (O.written out.old) (O.written out.new) (O.faults out.old) (O.faults out.new) (cycle_line plain.old.program.slots cycle (cycle_of plain.old.program plain.old.values inputs.now)) result }
+    ensures going { IfOk result (λ more. more ≡ true → plain.new.stop ≡ None) }
+    ensures values { IfOk result (λ more. more ≡ true → cycle_of plain.old.program plain.old.values inputs.now ≡ Ok plain.new.values) }
+    ensures fit { IfOk result (λ more. more ≡ true → AreFit plain.old.program.slots plain.new.values) }
+    ensures cells { IfOk result (λ more. more ≡ true → length outputs.new ≡ length outputs.old) }
+    ensures stopped { IfOk result (λ more. more ≡ false → (s : StopOf) × (cycle_of plain.old.program plain.old.values inputs.now ≡ Err s)) }
+{
+    values_fit();
+    match plain.cycle(inputs, outputs) {
+        Ok(()) => {
+            row_line(out, cycle, outputs)?;
+            Ok(true)
+        }
+        Err(stop) => {
+            stop_line(out, cycle, stop.kind, stop.spot, plain.turns(), names)?;
+            Ok(false)
+        }
+    }
+}
+
+/// Prints the lines of the cycles, one for each row, up to a stop; and after the last row the number of
+/// the cycles.
+fn print_cycles<O: Sink>(
+    alloc: Global,
+    plain: &mut Plain<'_>,
+    names: &Words,
+    rows: &mut Rows<'_>,
+    inputs: &mut Row,
+    outputs: &mut Row,
+    out: &mut O,
+) -> Result<PlainEnd, Fault>
+    requires going { plain.old.stop ≡ None }
+    requires checked { IsChecked plain.old.program }
+    requires fit { AreFit plain.old.program.slots plain.old.values }
+    requires names { names.now ≡ slot_names_of plain.old.program.slots }
+    requires types { rows.old.types ≡ input_types plain.old.program.slots }
+    requires typed { All (AreIn rows.old.types) rows.old.rows }
+    requires few { length rows.old.rows ≤ 1000000 }
+    requires inputs { length inputs.old ≡ length (input_types plain.old.program.slots) }
+    requires outputs { length outputs.old ≡ length (output_types plain.old.program.slots) }
+    ensures prints { PrintsFrom plain.old.program 0 plain.old.values rows.old (O.written out.old) (O.written out.new) result }
+    ensures write { result ≡ Err fault.Write → Rose (O.faults out.old) (O.faults out.new) }
+{
+    let mut count: u32 = 0;
+    'cycles: while rows.next(alloc, inputs)? {
+        if !print_cycle(plain, count, names, inputs, outputs, out)? {
+            return Ok(PlainEnd::Stopped);
+        }
+        count += 1;
+    }
+    end_line(out, count)?;
+    Ok(PlainEnd::Complete)
+}
+
+/// Prints a program's own run on the rows that are left: the header, a line for each cycle as its row
+/// comes, and the stop or the end. A row that is refused ends the run, and what was printed before it
+/// stands. Where there is no memory, some front of all that may be printed was.
+pub fn print_run<O: Sink>(
+    alloc: Global,
+    program: &Typed,
+    rows: &mut Rows<'_>,
+    out: &mut O,
+) -> Result<PlainEnd, Fault>
+    requires types { rows.old.types ≡ input_types program.now.slots }
+    requires typed { All (AreIn rows.old.types) rows.old.rows }
+    requires few { length rows.old.rows ≤ 1000000 }
+    ensures prints { Prints program.now rows.old (O.written out.old) (O.written out.new) result }
+    ensures write { result ≡ Err fault.Write → Rose (O.faults out.old) (O.faults out.new) }
+{
+    values_fit();
+    let slots = &program.slots().items;
+    let columns = output_columns(alloc, slots)?;
+    let names = slot_names(alloc, slots)?;
+    let mut inputs = zeros(alloc, &program.columns(alloc)?)?;
+    let mut outputs = zeros(alloc, &columns)?;
+    let mut plain = Plain::new(alloc, program)?;
+    header_line(out, &columns)?;
+    print_cycles(
+        alloc,
+        &mut plain,
+        &names,
+        rows,
+        &mut inputs,
+        &mut outputs,
+        out,
+    )
+}
