@@ -13,3 +13,6 @@ mod stop;
 pub use laws::cycles_give_the_run;
 pub use plain::Plain;
 pub use stop::Stop;
+
+#[cfg(test)]
+mod tests;
