@@ -15,6 +15,7 @@ pub mod PlainNames
 pub mod PlainRows
 pub mod PlainSteps
 pub mod PlainTurns
+pub mod PlainWorked
 pub mod ProgramLinks
 pub mod RecordSteps
 pub mod Rows

@@ -23,11 +23,12 @@ Says words (command.Text what files) =
 Says words (command.Plain from files) =
     (is_run words ≡ false) × (is_text_form words ≡ false) × (is_plain words ≡ true) × (from ≡ rows_word words) × (files.source.now ≡ first_name words) × (files.rows.now ≡ second_name words)
 
--- a number of cycles is at most a million
+-- rows that are a number of cycles are at most a million
 abbrev pub FewRows : RowsWord → Type 0
 FewRows (rows.Cycles number) = number ≤ 1000000
 FewRows rows.File = Unit {0}
 
+-- and so are those of a command
 abbrev pub FewCycles : Command → Type 0
 FewCycles (command.Run files) = Unit {0}
 FewCycles (command.Text what files) = Unit {0}
