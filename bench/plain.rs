@@ -1,4 +1,4 @@
-//! What `vcp run add.st in.csv` prints for `y := x + 1`, without code, unit or check.
+//! What `vcp run add.st in.csv` and `vcp plain add.st in.csv` print for `y := x + 1`, without code, unit, check or proof.
 
 use std::io::{self, BufWriter, Write};
 use std::{env, fs, process};
