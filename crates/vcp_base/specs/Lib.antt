@@ -1,4 +1,7 @@
 pub mod Code
 pub mod Kinds
+pub mod Limits
 pub mod Names
+pub mod Spellings
 pub mod Types
+pub mod Values

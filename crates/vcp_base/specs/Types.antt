@@ -29,7 +29,11 @@ AreIn (t ∷ ts) (v ∷ vs) = (fits t v ≡ true) × AreIn ts vs
 -- values of the first type are taken where the second is wanted: they are equal, or INT and DINT
 abbrev pub within : Ty → Ty → Bool
 within ty.Bool ty.Bool = true
+within ty.Bool ty.Int = false
+within ty.Bool ty.Dint = false
+within ty.Int ty.Bool = false
 within ty.Int ty.Int = true
 within ty.Int ty.Dint = true
+within ty.Dint ty.Bool = false
+within ty.Dint ty.Int = false
 within ty.Dint ty.Dint = true
-within _ _ = false

@@ -7,8 +7,10 @@
 mod code;
 mod columns;
 mod kind;
+mod limits;
 mod memory;
 mod row;
+mod spellings;
 mod spot;
 mod steps;
 mod text;
@@ -19,13 +21,18 @@ mod words;
 pub use code::{A, Residue};
 pub use columns::{Column, Columns};
 pub use kind::{Kind, StopKind, multiplier, operands};
+pub use limits::{
+    MOST_CELLS, MOST_CYCLES, MOST_DEPTH, MOST_IMAGE_BYTES, MOST_NAMES, MOST_OPERATIONS,
+    MOST_ROWS_BYTES, MOST_SIZE, MOST_SOURCE_BYTES, MOST_STAMP, MOST_STEP, MOST_TURN_NODES, SEEDS,
+};
 pub use memory::Memory;
 pub use row::Row;
+pub use spellings::{kind_code, kind_name, kind_of_code, stop_name, ty_code, ty_name, ty_of_code};
 pub use spot::Spot;
 pub use steps::Steps;
-pub use text::{Text, same_name};
+pub use text::{Text, is_same_name, same_name};
 pub use turns::{Turn, Turns};
-pub use ty::{Ty, fits, within};
+pub use ty::{Ty, fits, greatest, least, within};
 pub use words::Words;
 
 #[cfg(test)]

@@ -1,8 +1,9 @@
 //! Worked values of the tables, and each list once.
 
 use crate::{
-    Column, Columns, Kind, Row, Spot, Text, Turn, Turns, Ty, Words, fits, multiplier, operands,
-    same_name, within,
+    Column, Columns, Kind, Row, Spot, StopKind, Text, Turn, Turns, Ty, Words, fits, greatest,
+    kind_code, kind_name, kind_of_code, least, multiplier, operands, same_name, stop_name, ty_code,
+    ty_name, ty_of_code, within,
 };
 use std::test::Fail;
 
@@ -18,6 +19,8 @@ fn types_are_ranges(rt: HostRuntime) {
         ),
     ];
     for (ty, inside, outside) in rows {
+        assert_eq!(rt; least(ty) as i128, inside[0]);
+        assert_eq!(rt; greatest(ty) as i128, inside[1]);
         for v in inside {
             assert!(rt; fits(ty, v));
         }
@@ -49,6 +52,27 @@ fn kinds_have_operands_and_multipliers(rt: HostRuntime) {
         assert_eq!(rt; multiplier(kind, 3), 0);
     }
     assert_eq!(rt; Kind::Sel as u8, 18);
+}
+
+#[test]
+fn kinds_types_and_stops_have_codes_and_names(rt: HostRuntime) {
+    let rows = [
+        (Kind::Input, 0, b"INPUT".as_slice()),
+        (Kind::Not, 7, b"NOT".as_slice()),
+        (Kind::Mod, 12, b"MOD".as_slice()),
+        (Kind::Sel, 18, b"SEL".as_slice()),
+    ];
+    for (kind, code, name) in rows {
+        assert_eq!(rt; kind_code(kind), code);
+        assert_eq!(rt; kind_of_code(code), Some(kind));
+        assert_eq!(rt; kind_name(kind), name);
+    }
+    assert_eq!(rt; kind_of_code(19), None);
+    assert_eq!(rt; ty_code(Ty::Dint), 2);
+    assert_eq!(rt; ty_of_code(0), Some(Ty::Bool));
+    assert_eq!(rt; ty_of_code(3), None);
+    assert_eq!(rt; ty_name(Ty::Int), b"INT".as_slice());
+    assert_eq!(rt; stop_name(StopKind::DivZero), b"DIVZERO".as_slice());
 }
 
 #[test]

@@ -1,7 +1,7 @@
 //! Texts, which are lists of bytes.
 
 ghost use Rattle.std.specs.Prelude.{◌≡◌, ◌<◌, ◌↔◌, Some, IfOk, IsTrue, length, slice_get};
-ghost use Rattle.vcp_base.specs.Names.{SameName};
+ghost use Rattle.vcp_base.specs.Names.{SameName, is_same_name as is_same_name_of};
 
 use crate::memory::Memory;
 use std::alloc::Global;
@@ -72,5 +72,13 @@ impl Text {
 pub fn same_name(a: &Text, b: &Text) -> bool
     ensures { IsTrue result ↔ SameName a.now b.now }
 {
-    a.bytes().eq_ignore_ascii_case(b.bytes())
+    is_same_name(a.bytes(), b.bytes())
+}
+
+/// Whether two names are one, given by their bytes.
+pub fn is_same_name(a: &[u8], b: &[u8]) -> bool
+    ensures test { result ≡ is_same_name_of a.now b.now }
+    ensures same { IsTrue result ↔ SameName a.now b.now }
+{
+    a.eq_ignore_ascii_case(b)
 }

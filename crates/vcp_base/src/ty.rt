@@ -1,7 +1,8 @@
 //! The elementary types of the language.
 
-ghost use Rattle.std.specs.Prelude.{◌≡◌, true, pos, negsuc, ◌≤ℤ◌};
-ghost use Rattle.vcp_base.specs.Types.{fits as fits_of, within as within_of};
+ghost use Rattle.std.specs.Prelude.{◌≡◌, true, FitsSigned};
+ghost use Rattle.std.specs.Int.{w64};
+ghost use Rattle.vcp_base.specs.Types.{least as least_of, greatest as greatest_of, fits as fits_of, within as within_of};
 
 /// An elementary type of IEC 61131-3, which is a range of integers.
 #[derive(Clone, Copy, Debug, PartialEq, Eq)]
@@ -14,17 +15,34 @@ pub enum Ty {
     Dint,
 }
 
+/// The least value of the type.
+pub fn least(ty: Ty) -> i64
+    ensures { result ≡ least_of ty }
+{
+    match ty {
+        Ty::Bool => 0,
+        Ty::Int => -32768,
+        Ty::Dint => -2147483648,
+    }
+}
+
+/// The greatest value of the type.
+pub fn greatest(ty: Ty) -> i64
+    ensures { result ≡ greatest_of ty }
+{
+    match ty {
+        Ty::Bool => 1,
+        Ty::Int => 32767,
+        Ty::Dint => 2147483647,
+    }
+}
+
 /// Whether `v` is a value of the type, from its least to its greatest.
 pub fn fits(ty: Ty, v: i128) -> bool
     ensures value { result ≡ fits_of ty v }
-    ensures low { result ≡ true → negsuc 2147483647 ≤ℤ v }
-    ensures high { result ≡ true → v ≤ℤ pos 2147483647 }
+    ensures width { result ≡ true → FitsSigned w64 v }
 {
-    match ty {
-        Ty::Bool => 0 <= v && v <= 1,
-        Ty::Int => -32768 <= v && v <= 32767,
-        Ty::Dint => -2147483648 <= v && v <= 2147483647,
-    }
+    least(ty) as i128 <= v && v <= greatest(ty) as i128
 }
 
 /// Whether each value of the first type is taken where the second is wanted, without conversion: the
@@ -34,9 +52,10 @@ pub fn within(small: Ty, wide: Ty) -> bool
 {
     match (small, wide) {
         (Ty::Bool, Ty::Bool) => true,
-        (Ty::Int, Ty::Int) => true,
-        (Ty::Int, Ty::Dint) => true,
+        (Ty::Bool, Ty::Int | Ty::Dint) => false,
+        (Ty::Int, Ty::Int | Ty::Dint) => true,
+        (Ty::Int, Ty::Bool) => false,
         (Ty::Dint, Ty::Dint) => true,
-        _ => false,
+        (Ty::Dint, Ty::Bool | Ty::Int) => false,
     }
 }
