@@ -153,6 +153,7 @@ fn the_host_reads_its_files(rt: HostRuntime) -> Result<(), Fail> {
         assert_eq!(rt; files.begin(name), Err(Failed));
         assert_eq!(rt; files.read(&mut [0u8; 1]), Ok(0));
     }
+    fs::remove_file(&rt, "in.txt")?;
     Ok(())
 }
 
@@ -166,5 +167,6 @@ fn the_host_is_written_to_and_flushed(rt: HostRuntime) -> Result<(), Fail> {
     }
     let written = fs::read(&rt, "out.txt")?;
     assert_eq!(rt; written.as_slice(), b"some bytes".as_slice());
+    fs::remove_file(&rt, "out.txt")?;
     Ok(())
 }

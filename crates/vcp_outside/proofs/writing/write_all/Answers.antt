@@ -1,5 +1,5 @@
 use Rattle.std.proofs.Common.{rules, arith}
-use Rattle.vcp_outside.proofs.Known.{appends-more}
+use Rattle.vcp_outside.proofs.Steps.{appends-more}
 use Rattle.vcp_outside.proofs.writing.write_all.Goals as goal
 
 pub writing-preserved : goal.writing-preserved
