@@ -1,10 +1,11 @@
 -- Literals: digits in the bases 2, 8, 10 and 16, after a type or without one.
-use Rattle.std.specs.Prelude.{ℕ, ℤ, pos, neg_ℤ, ◌+◌, ◌-◌, ◌*◌, ◌^◌, ◌==◌, Bool, true, false, ◌&&◌, ◌||◌, nat_lt, List, [], ◌∷◌, length, take, drop, slice_index, Option, Some, None, if◌then◌else◌, codes}
+use Rattle.std.specs.Prelude.{ℕ, ℤ, pos, neg_ℤ, ◌+◌, ◌-◌, ◌*◌, ◌^◌, ◌==◌, Bool, true, false, ◌&&◌, ◌||◌, nat_lt, List, [], ◌∷◌, ◌++◌, length, take, drop, slice_index, Option, Some, None, if◌then◌else◌, codes}
 use Rattle.std.specs.List.{prefix_len}
 use Rattle.std.specs.Char.{is_ascii_digit, is_ascii_alphabetic, is_ascii_uppercase, is_ascii_lowercase}
 use Rattle.std.specs.Str.{str_eq_ignore_ascii_case}
 use Rattle.vcp_base.specs.declared.ty.Ty.{Ty}
 use Rattle.vcp_base.specs.declared.ty.Ty.TheVariants as ty
+use Rattle.vcp_base.specs.Spellings.{ty_name}
 use Rattle.st_lexer.specs.declared.literal.Literal.{Literal}
 use Rattle.st_lexer.specs.Symbols.{begins}
 
@@ -56,9 +57,7 @@ based run =
 -- what stands before a literal of a type; nothing stands before one without
 abbrev pub prefix : Option Ty → List ℕ
 prefix None = []
-prefix (Some ty.Bool) = codes "BOOL#"
-prefix (Some ty.Int) = codes "INT#"
-prefix (Some ty.Dint) = codes "DINT#"
+prefix (Some t) = ty_name t ++ codes "#"
 
 -- s begins with the word of a type and `#`
 abbrev pub begins_typed : Ty → List ℕ → Bool

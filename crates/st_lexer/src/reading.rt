@@ -1,6 +1,7 @@
 //! The reading of a text.
 
 ghost use Rattle.std.specs.Prelude.{◌≡◌, ◌+◌, ◌≤◌, ◌<◌, ◌^◌, ◌++◌, ◌⊎◌, ℕ, List, length, IfOk, IfErr, OnOk, Some, None, true, false, All};
+ghost use Rattle.vcp_base.specs.Limits.{most_source_bytes};
 ghost use Rattle.st_lexer.specs.Reading as spec;
 ghost use Rattle.st_lexer.specs.Spots.{spot_at};
 ghost use Rattle.st_lexer.specs.Symbols.{all_symbols, begins, spelling, symbol_among};
@@ -45,9 +46,9 @@ fn add(
 /// The tokens of the one reading of a text, or the first place where it can't go on; or want of
 /// memory.
 ///
-/// The text has at most 1,048,576 bytes. Each byte is looked at a fixed number of times.
+/// The text has at most as many bytes as a source may have. Each byte is looked at a fixed number of times.
 pub fn lex(alloc: Global, text: &[u8]) -> Result<Tokens, LexFault>
-    requires { length text.now ≤ 1048576 }
+    requires { length text.now ≤ most_source_bytes }
     ensures ok { IfOk result (λ t. spec.Reads text.now t.tokens) }
     ensures inside { IfOk result (λ t. All (spec.IsInside text.now) t.tokens) }
     ensures end { IfOk result (λ t. t.end ≡ spot_at text.now (length text.now)) }

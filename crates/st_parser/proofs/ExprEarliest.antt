@@ -6,7 +6,8 @@ use Rattle.vcp_base.specs.declared.spot.Spot.{Spot}
 use Rattle.st_lexer.specs.declared.token.Sym.TheVariants as symbol
 use Rattle.st_lexer.specs.declared.token.Tok.TheVariants as tok
 use Rattle.st_lexer.specs.declared.token.Token.{Token}
-use Rattle.st_tree.specs.ExprTree.{ExprTree, literal, name, unary, binary, call, exprs_and}
+use Rattle.st_tree.specs.ExprTree.{ExprTree, literal, name, unary, binary, call}
+use Rattle.st_tree.specs.Appended.{exprs_and}
 use Rattle.st_spelling.specs.Operators.{any_level, unary_level, level, chain}
 use Rattle.st_spelling.specs.Placed.{Placed, at, Within}
 use Rattle.st_spelling.specs.Expressions.{SpellsExpr, spells_literal}

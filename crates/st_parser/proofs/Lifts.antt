@@ -1,5 +1,5 @@
 -- Lifts: a token that is refused for its depth is taken where the limit is high enough.
-use Rattle.std.proofs.Common.{◌≡◌, ℕ, suc, ◌+◌, ◌≤◌, arith, Bool, true, false, cond, leb, List, [], ◌∷◌, ◌++◌, length, Option, Some, None, Result, Ok, Err, refl, sym, ap, ◌∙◌, subst}
+use Rattle.std.proofs.Common.{◌≡◌, ℕ, suc, ◌+◌, ◌≤◌, arith, Bool, true, false, cond, List, [], ◌∷◌, ◌++◌, length, Option, Some, None, Result, Ok, Err, refl, sym, ap, ◌∙◌, subst}
 use Rattle.std.specs.Prelude.{nat_le}
 use Rattle.std.proofs.lemmas.Bool.{le-leb, leb-false}
 use Rattle.vcp_base.specs.declared.spot.Spot.{Spot}
@@ -7,14 +7,12 @@ use Rattle.vcp_base.specs.declared.ty.Ty.{Ty}
 use Rattle.vcp_base.specs.declared.ty.Ty.TheVariants as ty
 use Rattle.st_lexer.specs.declared.token.Tok.{Tok}
 use Rattle.st_lexer.specs.declared.token.Tok.TheVariants as tok
-use Rattle.st_lexer.specs.declared.token.Key.{Key}
-use Rattle.st_lexer.specs.declared.token.Sym.{Sym}
 use Rattle.st_lexer.specs.declared.token.Token.{Token}
 use Rattle.st_tree.specs.declared.expr.UnOp.TheVariants as un
 use Rattle.st_tree.specs.declared.program.Class.TheVariants as class
 use Rattle.st_tree.specs.ExprTree.{ExprTree, name}
 use Rattle.st_tree.specs.StmtTree.{LabelTree, StmtTrees, no_arms, no_stmts}
-use Rattle.st_tree.specs.ProgramTree.{DeclaredTree, ProgramTree}
+use Rattle.st_tree.specs.ProgramTree.{DeclaredTree}
 use Rattle.st_parser.specs.declared.fault.SyntaxFault.{SyntaxFault}
 use Rattle.st_parser.specs.declared.fault.SyntaxFault.TheVariants as fault
 use Rattle.st_parser.specs.declared.marks.Begins.{Begins}
@@ -24,9 +22,9 @@ use Rattle.st_parser.specs.declared.marks.Goes.TheVariants as goes
 use Rattle.st_parser.specs.declared.marks.Mark.{Mark}
 use Rattle.st_parser.specs.declared.marks.Mark.TheVariants as mark
 use Rattle.st_parser.specs.Marks.{begins_by, goes_by, mark_of, is}
-use Rattle.st_parser.specs.ExprMachine.{Context, depth_in, Form, sign_of, left_of, bracket, arguments, Mode, want, after_name, have, Reading, close, no_deeper, operand, close_at, part_at, go_on, go_on_name, step, ends_before}
-use Rattle.st_parser.specs.StmtMachine.{Level, Body, of_arm, of_if_else, of_branch, of_case_else, of_loop, Purpose, to_assign, to_test, to_select, to_begin, to_end, to_step, LabelPhase, first_wanted, first_negated, first_read, last_wanted, last_negated, last_read, Phase, start, named, reading, closed, loop_begun, loop_named, labelling, finished, At, Selection, Loop, refused, to, const_at, number_at, with_phase, label_ends, label_step, with_branch, next_label_in, next_label, elsif_at, else_at, end_if_at, end_case_at, end_for_at, body_ends, start_at, named_at, take as taken, read_on, read_at, stmt_step}
-use Rattle.st_parser.specs.ProgramMachine.{Front, Opening, State, at_program, at_name, at_block, at_var, at_decl, at_comma, at_next_name, at_type, at_init, in_init, in_body, body_step, decl_at, block_at, var_at, type_at, init_read_on, init_at, program_step, begun, finish, onward, run}
+use Rattle.st_parser.specs.ExprMachine.{Context, depth_in, Form, sign_of, left_of, bracket, arguments, Mode, want, after_name, have, close, no_deeper, operand, close_at, part_at, go_on, go_on_name, step, ends_before}
+use Rattle.st_parser.specs.StmtMachine.{Level, Body, of_arm, of_if_else, of_branch, of_case_else, of_loop, Purpose, to_assign, to_test, to_select, to_begin, to_end, to_step, LabelPhase, first_wanted, first_negated, first_read, last_wanted, last_negated, last_read, Phase, start, named, reading, closed, loop_begun, loop_named, labelling, finished, At, Selection, refused, to, const_at, number_at, with_phase, label_ends, label_step, with_branch, next_label_in, next_label, elsif_at, else_at, end_if_at, end_case_at, end_for_at, body_ends, start_at, take as taken, read_on, read_at, stmt_step}
+use Rattle.st_parser.specs.ProgramMachine.{Front, Opening, State, at_program, at_name, at_block, at_var, at_decl, at_comma, at_next_name, at_type, at_init, in_init, in_body, body_step, decl_at, block_at, var_at, type_at, init_read_on, init_at, program_step, begun}
 
 -- a result that is no fault of depth
 abbrev Flat : {X : Type 0} → Result X SyntaxFault → Type 0

@@ -1,5 +1,5 @@
 -- Paths: the states between the tokens that are taken, and the token at which they end.
-use Rattle.std.proofs.Common.{◌≡◌, ◌⊎◌, ℕ, ◌≤◌, List, [], ◌∷◌, ◌++◌, Result, Ok, Err, inl, inr, refl, sym, ap, ◌∙◌, subst, append_assoc, append-nil}
+use Rattle.std.proofs.Common.{◌≡◌, ℕ, ◌≤◌, List, [], ◌∷◌, ◌++◌, Result, Ok, Err, refl, sym, ap, ◌∙◌, subst, append_assoc, append-nil}
 use Rattle.std.proofs.lemmas.List.{map_push}
 use Rattle.vcp_base.specs.declared.spot.Spot.{Spot}
 use Rattle.st_lexer.specs.declared.token.Token.{Token}
@@ -11,7 +11,7 @@ use Rattle.st_parser.specs.ExprMachine.{Context}
 use Rattle.st_parser.specs.StmtMachine.{finished}
 use Rattle.st_parser.specs.ProgramMachine.{State, at_program, in_body, program_step, finish, onward, run, read_program}
 use Rattle.st_parser.proofs.Deeper.{Agrees, program-agrees}
-use Rattle.st_parser.proofs.Lifts.{Raised, Lifts, lifts-program}
+use Rattle.st_parser.proofs.Lifts.{Raised, lifts-program}
 use Rattle.st_parser.proofs.ProgramSound.{Holds, Kept, step-kept}
 use Rattle.st_parser.proofs.Refusal.{BeginsProgram, begins-program}
 use Rattle.st_parser.proofs.TokenFaults.{AtToken, at-program-step}

@@ -9,8 +9,9 @@ use Rattle.st_lexer.specs.declared.token.Tok.TheVariants as tok
 use Rattle.st_lexer.specs.declared.token.Token.{Token}
 use Rattle.st_tree.specs.declared.program.Class.TheVariants as class
 use Rattle.st_tree.specs.ExprTree.{ExprTree, literal}
-use Rattle.st_tree.specs.StmtTree.{LabelTree, StmtTree, StmtTrees, no_stmts, no_arms, no_branches, and_branch, no_other, stmts_and}
+use Rattle.st_tree.specs.StmtTree.{LabelTree, StmtTree, StmtTrees, no_stmts, no_arms, no_branches, and_branch, no_other}
 use Rattle.st_tree.specs.ProgramTree.{DeclaredTree, ProgramTree}
+use Rattle.st_tree.specs.Appended.{stmts_and}
 use Rattle.st_spelling.specs.Operators.{any_level}
 use Rattle.st_spelling.specs.Placed.{Placed, at}
 use Rattle.st_spelling.specs.Expressions.{SpellsExpr, spells_literal}

@@ -8,7 +8,8 @@ use Rattle.st_lexer.specs.declared.token.Tok.TheVariants as tok
 use Rattle.st_lexer.specs.declared.token.Token.{Token}
 use Rattle.st_tree.specs.declared.expr.UnOp.TheVariants as un
 use Rattle.st_tree.specs.ExprTree.{ExprTree, literal, name, unary}
-use Rattle.st_tree.specs.StmtTree.{LabelTree, StmtTree, StmtTrees, ArmTrees, BranchTrees, OtherTree, assign, choose, select, count, no_stmts, and_stmt, no_arms, and_arm, no_branches, and_branch, other, stmts_and, arms_and, branches_and}
+use Rattle.st_tree.specs.StmtTree.{LabelTree, StmtTree, StmtTrees, ArmTrees, BranchTrees, OtherTree, assign, if_, case, for_, no_stmts, and_stmt, no_arms, and_arm, no_branches, and_branch, other}
+use Rattle.st_tree.specs.Appended.{stmts_and, arms_and, branches_and}
 use Rattle.st_spelling.specs.Operators.{any_level}
 use Rattle.st_spelling.specs.Placed.{Placed, at}
 use Rattle.st_spelling.specs.Expressions.{SpellsExpr}
@@ -67,25 +68,25 @@ one_empty {bytes = bytes} {d = d} (spells_stmt r ss x vs us sr kx sps) c k =
 abbrev pub Opens : Context → ℕ → (StmtTree → List Placed → Type 0) → Body → List Placed → Type 0
 Opens c d P (of_arm arms e s) hs =
     (body : StmtTrees) (more : ArmTrees) (o : OtherTree) (us vs : List Placed) → SpellsStmts c.bytes (suc d) body us → SpellsMoreArms c.bytes d more o vs
-    → P (choose (arms_append arms (and_arm e body s more)) o) (hs ++ (us ++ vs))
+    → P (if_ (arms_append arms (and_arm e body s more)) o) (hs ++ (us ++ vs))
 Opens c d P (of_if_else arms) hs =
     (body : StmtTrees) (us : List Placed) (e : Token) → SpellsStmts c.bytes (suc d) body us → e.tok ≡ tok.Key key.EndIf
-    → P (choose arms (other body)) (hs ++ (us ++ at d e ∷ []))
+    → P (if_ arms (other body)) (hs ++ (us ++ at d e ∷ []))
 Opens c d P (of_branch k ls) hs =
     (body : StmtTrees) (more : BranchTrees) (o : OtherTree) (us vs : List Placed) → SpellsStmts c.bytes (suc d) body us → SpellsMoreBranches c.bytes d more o vs
-    → P (select k.on (branches_append k.branches (and_branch ls body more)) o k.spot) (hs ++ (us ++ vs))
+    → P (case k.on (branches_append k.branches (and_branch ls body more)) o k.spot) (hs ++ (us ++ vs))
 Opens c d P (of_case_else k) hs =
     (body : StmtTrees) (us : List Placed) (e : Token) → SpellsStmts c.bytes (suc d) body us → e.tok ≡ tok.Key key.EndCase
-    → P (select k.on k.branches (other body) k.spot) (hs ++ (us ++ at d e ∷ []))
+    → P (case k.on k.branches (other body) k.spot) (hs ++ (us ++ at d e ∷ []))
 Opens c d P (of_loop l first last by) hs =
     (body : StmtTrees) (us : List Placed) (e : Token) → SpellsStmts c.bytes (suc d) body us → e.tok ≡ tok.Key key.EndFor
-    → P (count l.name l.name_spot first last by body l.spot) (hs ++ (us ++ at d e ∷ []))
+    → P (for_ l.name l.name_spot first last by body l.spot) (hs ++ (us ++ at d e ∷ []))
 
 -- up to where a branch must come
 abbrev pub Selects : Context → ℕ → (StmtTree → List Placed → Type 0) → Selection → List Placed → Type 0
 Selects c d P k hs =
     (more : BranchTrees) (o : OtherTree) (vs : List Placed) → SpellsBranches c.bytes d more o vs
-    → P (select k.on (branches_append k.branches more) o k.spot) (hs ++ vs)
+    → P (case k.on (branches_append k.branches more) o k.spot) (hs ++ vs)
 
 -- up to where a label must come
 abbrev pub Lists : Context → ℕ → (StmtTree → List Placed → Type 0) → Selection → List LabelTree → List Placed → Type 0

@@ -8,8 +8,9 @@ use Rattle.st_lexer.specs.declared.token.Tok.{Tok}
 use Rattle.st_lexer.specs.declared.token.Tok.TheVariants as tok
 use Rattle.st_lexer.specs.declared.token.Token.{Token}
 use Rattle.st_tree.specs.ExprTree.{ExprTree}
-use Rattle.st_tree.specs.StmtTree.{LabelTree, StmtTree, StmtTrees, ArmTrees, BranchTrees, OtherTree, assign, choose, select, count, no_stmts, no_arms, no_branches, no_other, other, stmts_and, arms_and, branches_and}
+use Rattle.st_tree.specs.StmtTree.{LabelTree, StmtTree, StmtTrees, ArmTrees, BranchTrees, OtherTree, assign, if_, case, for_, no_stmts, no_arms, no_branches, no_other, other}
 use Rattle.st_tree.specs.ProgramTree.{ProgramTree}
+use Rattle.st_tree.specs.Appended.{stmts_and, arms_and, branches_and}
 use Rattle.st_spelling.specs.Operators.{any_level}
 use Rattle.st_spelling.specs.Placed.{Placed, at, tokens_of, Within}
 use Rattle.st_spelling.specs.Expressions.{SpellsExpr}
@@ -129,13 +130,13 @@ module _ (c : Context) (end : Spot) (f : Front) where
     stmt-read (spells_if arms o ts sa) outer done semi rest eq hs w =
         arms-read sa outer done no_arms (in_body f outer done start) (semi ∷ rest) eq w
         (λ i hi le. ap (λ (x : Result At SyntaxFault). body_step f x) (ap (λ (x : Tok). start_at c outer done (mark_of x) i) hi ∙ not-deeper c.most (length outer) i (record { outer = outer; stmts = done; phase = reading (to_test no_arms i.spot) [] want }) (omega (arith, eq, le))))
-        ∙ closed-read outer (stmts_and done (choose arms o)) semi rest hs
+        ∙ closed-read outer (stmts_and done (if_ arms o)) semi rest hs
     stmt-read {d = d} (spells_case e bs o t u ts us ht sp hu sb) outer done semi rest eq hs w =
         started outer done t mark.Case (tokens_of (ts ++ at d u ∷ us) ++ semi ∷ rest) (record { outer = outer; stmts = done; phase = reading (to_select t.spot) [] want }) (ap mark_of ht) refl (omega (arith, eq, w.0))
         ∙ ap (λ (x : List Token). run c end x (in_body f outer done (reading (to_select t.spot) [] want))) (tokens-append ts (at d u ∷ us) (semi ∷ rest))
         ∙ whole-read sp outer done (to_select t.spot) u mark.Of (tokens_of us ++ semi ∷ rest) (record { outer = outer; stmts = done; phase = labelling (record { on = e; spot = t.spot; branches = no_branches }) [] first_wanted }) eq (within-front c.most ts (at d u ∷ us) w.1) (stops-key u key.Of refl refl hu) refl
         ∙ branches-read sb outer done (record { on = e; spot = t.spot; branches = no_branches }) (semi ∷ rest) eq (within-back c.most ts (at d u ∷ us) w.1).1
-        ∙ closed-read outer (stmts_and done (select e bs o t.spot)) semi rest hs
+        ∙ closed-read outer (stmts_and done (case e bs o t.spot)) semi rest hs
     stmt-read {d = d} (spells_for first last by body r n a t o e ts us vs ws hr hn ha sp ht sq st ho sb he) outer done semi rest eq hs w =
         let loop : Loop = record { name = c.bytes n; name_spot = n.spot; spot = r.spot } in
         let w1 = w.1.1.1 in
@@ -154,8 +155,8 @@ module _ (c : Context) (end : Spot) (f : Front) where
         ∙ limits-read sq st outer done loop first o (tokens_of (ws ++ at d e ∷ []) ++ semi ∷ rest) eq ho (within-front c.most us (vs ++ at d o ∷ (ws ++ at d e ∷ [])) w2) (within-front c.most vs (at d o ∷ (ws ++ at d e ∷ [])) w3)
         ∙ ap (λ (x : List Token). run c end x (in_body f (record { body = of_loop loop first last by; before = done } ∷ outer) no_stmts start)) (tokens-append ws (at d e ∷ []) (semi ∷ rest))
         ∙ stmts-read sb (record { body = of_loop loop first last by; before = done } ∷ outer) no_stmts (e ∷ semi ∷ rest) (omega (arith, eq)) (within-front c.most ws (at d e ∷ []) w4)
-        ∙ ended (record { body = of_loop loop first last by; before = done } ∷ outer) body e mark.EndFor (semi ∷ rest) (record { outer = outer; stmts = stmts_and done (count (c.bytes n) n.spot first last by body r.spot); phase = closed }) (ap mark_of he) refl
-        ∙ closed-read outer (stmts_and done (count (c.bytes n) n.spot first last by body r.spot)) semi rest hs
+        ∙ ended (record { body = of_loop loop first last by; before = done } ∷ outer) body e mark.EndFor (semi ∷ rest) (record { outer = outer; stmts = stmts_and done (for_ (c.bytes n) n.spot first last by body r.spot); phase = closed }) (ap mark_of he) refl
+        ∙ closed-read outer (stmts_and done (for_ (c.bytes n) n.spot first last by body r.spot)) semi rest hs
 
     -- statements
     pub stmts-read : {d : ℕ} {ss : StmtTrees} {ps : List Placed} → SpellsStmts c.bytes d ss ps → (outer : List Level) (done : StmtTrees) (rest : List Token)
@@ -175,7 +176,7 @@ module _ (c : Context) (end : Spot) (f : Front) where
     arms-read : {d : ℕ} {k : Key} {arms : ArmTrees} {o : OtherTree} {ps : List Placed} → SpellsArms c.bytes d k arms o ps → (outer : List Level) (before : StmtTrees) (done : ArmTrees) (s : State) (rest : List Token)
         → d ≡ length outer → Within c.most ps
         → ((i : Token) → i.tok ≡ tok.Key k → d ≤ c.most → program_step c s i ≡ Ok (in_body f outer before (reading (to_test done i.spot) [] want)))
-        → run c end (tokens_of ps ++ rest) s ≡ run c end rest (in_body f outer (stmts_and before (choose (append_arms done arms) o)) closed)
+        → run c end (tokens_of ps ++ rest) s ≡ run c end rest (in_body f outer (stmts_and before (if_ (append_arms done arms) o)) closed)
     arms-read {d = d} (spells_arm k e body arms o i t ts us vs hi sp ht sb sm) outer before done s rest eq w first =
         taken c end i (tokens_of (ts ++ at d t ∷ (us ++ vs)) ++ rest) s (in_body f outer before (reading (to_test done i.spot) [] want)) (first i hi w.0)
         ∙ ap (λ (x : List Token). run c end x (in_body f outer before (reading (to_test done i.spot) [] want))) (tokens-append ts (at d t ∷ (us ++ vs)) rest)
@@ -183,12 +184,12 @@ module _ (c : Context) (end : Spot) (f : Front) where
         ∙ ap (λ (x : List Token). run c end x (in_body f (record { body = of_arm done e i.spot; before = before } ∷ outer) no_stmts start)) (tokens-append us vs rest)
         ∙ stmts-read sb (record { body = of_arm done e i.spot; before = before } ∷ outer) no_stmts (tokens_of vs ++ rest) (omega (arith, eq)) (within-front c.most us vs (within-back c.most ts (at d t ∷ (us ++ vs)) w.1).1)
         ∙ more-arms-read sm outer before done e i.spot body rest eq (within-back c.most us vs (within-back c.most ts (at d t ∷ (us ++ vs)) w.1).1)
-        ∙ ap (λ (x : ArmTrees). run c end rest (in_body f outer (stmts_and before (choose x o)) closed)) (arms-next done e body i.spot arms)
+        ∙ ap (λ (x : ArmTrees). run c end rest (in_body f outer (stmts_and before (if_ x o)) closed)) (arms-next done e body i.spot arms)
 
     -- what stands behind the body of an arm
     more-arms-read : {d : ℕ} {arms : ArmTrees} {o : OtherTree} {ps : List Placed} → SpellsMoreArms c.bytes d arms o ps → (outer : List Level) (before : StmtTrees) (done : ArmTrees) (e : ExprTree) (spot : Spot) (body : StmtTrees) (rest : List Token)
         → d ≡ length outer → Within c.most ps
-        → run c end (tokens_of ps ++ rest) (in_body f (record { body = of_arm done e spot; before = before } ∷ outer) body start) ≡ run c end rest (in_body f outer (stmts_and before (choose (append_arms (arms_and done e body spot) arms) o)) closed)
+        → run c end (tokens_of ps ++ rest) (in_body f (record { body = of_arm done e spot; before = before } ∷ outer) body start) ≡ run c end rest (in_body f outer (stmts_and before (if_ (append_arms (arms_and done e body spot) arms) o)) closed)
     more-arms-read (spells_elsif arms o ts sa) outer before done e spot body rest eq w =
         arms-read sa outer before (arms_and done e body spot) (in_body f (record { body = of_arm done e spot; before = before } ∷ outer) body start) rest eq w
         (λ i hi le. ap (λ (x : Tok). body_step f (start_at c (record { body = of_arm done e spot; before = before } ∷ outer) body (mark_of x) i)) hi)
@@ -196,36 +197,36 @@ module _ (c : Context) (end : Spot) (f : Front) where
         ended (record { body = of_arm done e spot; before = before } ∷ outer) body l mark.Else (tokens_of (ts ++ at _ t ∷ []) ++ rest) (record { outer = record { body = of_if_else (arms_and done e body spot); before = before } ∷ outer; stmts = no_stmts; phase = start }) (ap mark_of hl) refl
         ∙ ap (λ (x : List Token). run c end x (in_body f (record { body = of_if_else (arms_and done e body spot); before = before } ∷ outer) no_stmts start)) (tokens-append ts (at _ t ∷ []) rest)
         ∙ stmts-read sb (record { body = of_if_else (arms_and done e body spot); before = before } ∷ outer) no_stmts (t ∷ rest) (omega (arith, eq)) (within-front c.most ts (at _ t ∷ []) w.1)
-        ∙ ended (record { body = of_if_else (arms_and done e body spot); before = before } ∷ outer) els t mark.EndIf rest (record { outer = outer; stmts = stmts_and before (choose (arms_and done e body spot) (other els)); phase = closed }) (ap mark_of ht) refl
-        ∙ ap (λ (x : ArmTrees). run c end rest (in_body f outer (stmts_and before (choose x (other els))) closed)) (sym (arms-none (arms_and done e body spot)))
+        ∙ ended (record { body = of_if_else (arms_and done e body spot); before = before } ∷ outer) els t mark.EndIf rest (record { outer = outer; stmts = stmts_and before (if_ (arms_and done e body spot) (other els)); phase = closed }) (ap mark_of ht) refl
+        ∙ ap (λ (x : ArmTrees). run c end rest (in_body f outer (stmts_and before (if_ x (other els))) closed)) (sym (arms-none (arms_and done e body spot)))
     more-arms-read (spells_end_if t ht) outer before done e spot body rest eq w =
-        ended (record { body = of_arm done e spot; before = before } ∷ outer) body t mark.EndIf rest (record { outer = outer; stmts = stmts_and before (choose (arms_and done e body spot) no_other); phase = closed }) (ap mark_of ht) refl
-        ∙ ap (λ (x : ArmTrees). run c end rest (in_body f outer (stmts_and before (choose x no_other)) closed)) (sym (arms-none (arms_and done e body spot)))
+        ended (record { body = of_arm done e spot; before = before } ∷ outer) body t mark.EndIf rest (record { outer = outer; stmts = stmts_and before (if_ (arms_and done e body spot) no_other); phase = closed }) (ap mark_of ht) refl
+        ∙ ap (λ (x : ArmTrees). run c end rest (in_body f outer (stmts_and before (if_ x no_other)) closed)) (sym (arms-none (arms_and done e body spot)))
 
     -- a branch of a CASE, and what stands behind it
     branches-read : {d : ℕ} {bs : BranchTrees} {o : OtherTree} {ps : List Placed} → SpellsBranches c.bytes d bs o ps → (outer : List Level) (before : StmtTrees) (k : Selection) (rest : List Token)
         → d ≡ length outer → Within c.most ps
-        → run c end (tokens_of ps ++ rest) (in_body f outer before (labelling k [] first_wanted)) ≡ run c end rest (in_body f outer (stmts_and before (select k.on (append_branches k.branches bs) o k.spot)) closed)
+        → run c end (tokens_of ps ++ rest) (in_body f outer before (labelling k [] first_wanted)) ≡ run c end rest (in_body f outer (stmts_and before (case k.on (append_branches k.branches bs) o k.spot)) closed)
     branches-read (spells_branch ls body bs o ts us vs sl sb sm) outer before k rest eq w =
         ap (λ (x : List Token). run c end x (in_body f outer before (labelling k [] first_wanted))) (tokens-append ts (us ++ vs) rest)
         ∙ labels-read c end f sl outer before k [] (tokens_of (us ++ vs) ++ rest) (omega (arith, eq)) (within-front c.most ts (us ++ vs) w)
         ∙ ap (λ (x : List Token). run c end x (in_body f (record { body = of_branch k ls; before = before } ∷ outer) no_stmts start)) (tokens-append us vs rest)
         ∙ stmts-read sb (record { body = of_branch k ls; before = before } ∷ outer) no_stmts (tokens_of vs ++ rest) (omega (arith, eq)) (within-front c.most us vs (within-back c.most ts (us ++ vs) w))
         ∙ more-branches-read sm outer before k ls body rest eq (within-back c.most us vs (within-back c.most ts (us ++ vs) w))
-        ∙ ap (λ (x : BranchTrees). run c end rest (in_body f outer (stmts_and before (select k.on x o k.spot)) closed)) (branches-next k.branches ls body bs)
+        ∙ ap (λ (x : BranchTrees). run c end rest (in_body f outer (stmts_and before (case k.on x o k.spot)) closed)) (branches-next k.branches ls body bs)
 
     -- what stands behind the body of a branch
     more-branches-read : {d : ℕ} {bs : BranchTrees} {o : OtherTree} {ps : List Placed} → SpellsMoreBranches c.bytes d bs o ps → (outer : List Level) (before : StmtTrees) (k : Selection) (ls : List LabelTree) (body : StmtTrees) (rest : List Token)
         → d ≡ length outer → Within c.most ps
-        → run c end (tokens_of ps ++ rest) (in_body f (record { body = of_branch k ls; before = before } ∷ outer) body start) ≡ run c end rest (in_body f outer (stmts_and before (select k.on (append_branches (branches_and k.branches ls body) bs) o k.spot)) closed)
+        → run c end (tokens_of ps ++ rest) (in_body f (record { body = of_branch k ls; before = before } ∷ outer) body start) ≡ run c end rest (in_body f outer (stmts_and before (case k.on (append_branches (branches_and k.branches ls body) bs) o k.spot)) closed)
     more-branches-read (spells_next_branch bs o ts sb) outer before k ls body rest eq w =
         branch-next sb outer before k ls body rest eq w ∙ branches-read sb outer before (with_branch k ls body) rest eq w
     more-branches-read (spells_case_else els l t ts hl sb ht) outer before k ls body rest eq w =
         ended (record { body = of_branch k ls; before = before } ∷ outer) body l mark.Else (tokens_of (ts ++ at _ t ∷ []) ++ rest) (record { outer = record { body = of_case_else (with_branch k ls body); before = before } ∷ outer; stmts = no_stmts; phase = start }) (ap mark_of hl) refl
         ∙ ap (λ (x : List Token). run c end x (in_body f (record { body = of_case_else (with_branch k ls body); before = before } ∷ outer) no_stmts start)) (tokens-append ts (at _ t ∷ []) rest)
         ∙ stmts-read sb (record { body = of_case_else (with_branch k ls body); before = before } ∷ outer) no_stmts (t ∷ rest) (omega (arith, eq)) (within-front c.most ts (at _ t ∷ []) w.1)
-        ∙ ended (record { body = of_case_else (with_branch k ls body); before = before } ∷ outer) els t mark.EndCase rest (record { outer = outer; stmts = stmts_and before (select k.on (branches_and k.branches ls body) (other els) k.spot); phase = closed }) (ap mark_of ht) refl
-        ∙ ap (λ (x : BranchTrees). run c end rest (in_body f outer (stmts_and before (select k.on x (other els) k.spot)) closed)) (sym (branches-none (branches_and k.branches ls body)))
+        ∙ ended (record { body = of_case_else (with_branch k ls body); before = before } ∷ outer) els t mark.EndCase rest (record { outer = outer; stmts = stmts_and before (case k.on (branches_and k.branches ls body) (other els) k.spot); phase = closed }) (ap mark_of ht) refl
+        ∙ ap (λ (x : BranchTrees). run c end rest (in_body f outer (stmts_and before (case k.on x (other els) k.spot)) closed)) (sym (branches-none (branches_and k.branches ls body)))
     more-branches-read (spells_end_case t ht) outer before k ls body rest eq w =
-        ended (record { body = of_branch k ls; before = before } ∷ outer) body t mark.EndCase rest (record { outer = outer; stmts = stmts_and before (select k.on (branches_and k.branches ls body) no_other k.spot); phase = closed }) (ap mark_of ht) refl
-        ∙ ap (λ (x : BranchTrees). run c end rest (in_body f outer (stmts_and before (select k.on x no_other k.spot)) closed)) (sym (branches-none (branches_and k.branches ls body)))
+        ended (record { body = of_branch k ls; before = before } ∷ outer) body t mark.EndCase rest (record { outer = outer; stmts = stmts_and before (case k.on (branches_and k.branches ls body) no_other k.spot); phase = closed }) (ap mark_of ht) refl
+        ∙ ap (λ (x : BranchTrees). run c end rest (in_body f outer (stmts_and before (case k.on x no_other k.spot)) closed)) (sym (branches-none (branches_and k.branches ls body)))

@@ -6,7 +6,8 @@ use Rattle.st_lexer.specs.declared.token.Sym.TheVariants as symbol
 use Rattle.st_lexer.specs.declared.token.Tok.TheVariants as tok
 use Rattle.st_lexer.specs.declared.token.Token.{Token}
 use Rattle.st_tree.specs.ExprTree.{ExprTree, name}
-use Rattle.st_tree.specs.StmtTree.{LabelTree, StmtTree, StmtTrees, ArmTrees, BranchTrees, assign, choose, select, count, no_arms, and_arm, no_branches, and_branch, no_other, other, stmts_and, arms_and, branches_and}
+use Rattle.st_tree.specs.StmtTree.{LabelTree, StmtTree, StmtTrees, ArmTrees, BranchTrees, assign, if_, case, for_, no_arms, and_arm, no_branches, and_branch, no_other, other}
+use Rattle.st_tree.specs.Appended.{stmts_and, arms_and, branches_and}
 use Rattle.st_spelling.specs.Operators.{any_level}
 use Rattle.st_spelling.specs.Placed.{Placed, at}
 use Rattle.st_spelling.specs.Expressions.{SpellsExpr}
@@ -73,8 +74,8 @@ elsif-sound c t (of_arm arms e s) outer before ss hs us le h sp k =
         λ f ts u sf ku body more o vs ws sb sm.
             let rest : List Placed = at d t ∷ (ts ++ at d u ∷ (vs ++ ws)) in
             let tokens : hs ++ (us ++ rest) ≡ (front ++ (ts ++ at d u ∷ [])) ++ (vs ++ ws) = simp append_assoc in
-            subst (λ (x : List Placed). P (choose (arms_append (arms_and arms e ss s) (and_arm f body t.spot more)) o) x) tokens
-            (subst (λ (x : ArmTrees). P (choose x o) (hs ++ (us ++ rest))) (arms_then arms e ss s (and_arm f body t.spot more))
+            subst (λ (x : List Placed). P (if_ (arms_append (arms_and arms e ss s) (and_arm f body t.spot more)) o) x) tokens
+            (subst (λ (x : ArmTrees). P (if_ x o) (hs ++ (us ++ rest))) (arms_then arms e ss s (and_arm f body t.spot more))
             (h ss (and_arm f body t.spot more) o us rest sp
             (spells_elsif (and_arm f body t.spot more) o rest (spells_arm key.Elsif f body more o t u ts vs ws k sf ku sb sm)))),
         none-read c d,
@@ -96,8 +97,8 @@ else-sound c t (of_arm arms e s) outer before ss hs us le h sp k =
     (λ body vs f sb kf.
     let rest : List Placed = at d t ∷ (vs ++ at d f ∷ []) in
     let tokens : hs ++ (us ++ rest) ≡ ((hs ++ us) ++ at d t ∷ []) ++ (vs ++ at d f ∷ []) = simp append_assoc in
-    subst (λ (x : List Placed). P (choose (arms_and arms e ss s) (other body)) x) tokens
-    (subst (λ (x : ArmTrees). P (choose x (other body)) (hs ++ (us ++ rest))) (arms_last arms e ss s)
+    subst (λ (x : List Placed). P (if_ (arms_and arms e ss s) (other body)) x) tokens
+    (subst (λ (x : ArmTrees). P (if_ x (other body)) (hs ++ (us ++ rest))) (arms_last arms e ss s)
     (h ss no_arms (other body) us rest sp (spells_if_else body t f vs k sb kf))))
     refl
 else-sound c t (of_branch q ls) outer before ss hs us le h sp k =
@@ -107,8 +108,8 @@ else-sound c t (of_branch q ls) outer before ss hs us le h sp k =
     (λ body vs f sb kf.
     let rest : List Placed = at d t ∷ (vs ++ at d f ∷ []) in
     let tokens : hs ++ (us ++ rest) ≡ ((hs ++ us) ++ at d t ∷ []) ++ (vs ++ at d f ∷ []) = simp append_assoc in
-    subst (λ (x : List Placed). P (select q.on (branches_and q.branches ls ss) (other body) q.spot) x) tokens
-    (subst (λ (x : BranchTrees). P (select q.on x (other body) q.spot) (hs ++ (us ++ rest))) (branches_last q.branches ls ss)
+    subst (λ (x : List Placed). P (case q.on (branches_and q.branches ls ss) (other body) q.spot) x) tokens
+    (subst (λ (x : BranchTrees). P (case q.on x (other body) q.spot) (hs ++ (us ++ rest))) (branches_last q.branches ls ss)
     (h ss no_branches (other body) us rest sp (spells_case_else body t f vs k sb kf))))
     refl
 else-sound c t (of_if_else arms) outer before ss hs us le h sp k = tt
@@ -121,14 +122,14 @@ end_if-sound : (c : Context) (t : Token) (body : Body) (outer : List Level) (bef
 end_if-sound c t (of_arm arms e s) outer before ss hs us le h sp k =
     let d : ℕ = length outer in
     let P : StmtTree → List Placed → Type 0 = Whole c outer before in
-    whole-sound c t outer before (choose (arms_and arms e ss s) no_other) (hs ++ us) le
-    (subst (λ (x : List Placed). P (choose (arms_and arms e ss s) no_other) x) (sym (append_assoc hs us (at d t ∷ [])))
-    (subst (λ (x : ArmTrees). P (choose x no_other) (hs ++ (us ++ at d t ∷ []))) (arms_last arms e ss s)
+    whole-sound c t outer before (if_ (arms_and arms e ss s) no_other) (hs ++ us) le
+    (subst (λ (x : List Placed). P (if_ (arms_and arms e ss s) no_other) x) (sym (append_assoc hs us (at d t ∷ [])))
+    (subst (λ (x : ArmTrees). P (if_ x no_other) (hs ++ (us ++ at d t ∷ []))) (arms_last arms e ss s)
     (h ss no_arms no_other us (at d t ∷ []) sp (spells_end_if t k))))
 end_if-sound c t (of_if_else arms) outer before ss hs us le h sp k =
     let d : ℕ = length outer in
-    whole-sound c t outer before (choose arms (other ss)) (hs ++ us) le
-    (subst (λ (x : List Placed). Whole c outer before (choose arms (other ss)) x) (sym (append_assoc hs us (at d t ∷ []))) (h ss us t sp k))
+    whole-sound c t outer before (if_ arms (other ss)) (hs ++ us) le
+    (subst (λ (x : List Placed). Whole c outer before (if_ arms (other ss)) x) (sym (append_assoc hs us (at d t ∷ []))) (h ss us t sp k))
 end_if-sound c t (of_branch q ls) outer before ss hs us le h sp k = tt
 end_if-sound c t (of_case_else q) outer before ss hs us le h sp k = tt
 end_if-sound c t (of_loop l first last by) outer before ss hs us le h sp k = tt
@@ -139,14 +140,14 @@ end_case-sound : (c : Context) (t : Token) (body : Body) (outer : List Level) (b
 end_case-sound c t (of_branch q ls) outer before ss hs us le h sp k =
     let d : ℕ = length outer in
     let P : StmtTree → List Placed → Type 0 = Whole c outer before in
-    whole-sound c t outer before (select q.on (branches_and q.branches ls ss) no_other q.spot) (hs ++ us) le
-    (subst (λ (x : List Placed). P (select q.on (branches_and q.branches ls ss) no_other q.spot) x) (sym (append_assoc hs us (at d t ∷ [])))
-    (subst (λ (x : BranchTrees). P (select q.on x no_other q.spot) (hs ++ (us ++ at d t ∷ []))) (branches_last q.branches ls ss)
+    whole-sound c t outer before (case q.on (branches_and q.branches ls ss) no_other q.spot) (hs ++ us) le
+    (subst (λ (x : List Placed). P (case q.on (branches_and q.branches ls ss) no_other q.spot) x) (sym (append_assoc hs us (at d t ∷ [])))
+    (subst (λ (x : BranchTrees). P (case q.on x no_other q.spot) (hs ++ (us ++ at d t ∷ []))) (branches_last q.branches ls ss)
     (h ss no_branches no_other us (at d t ∷ []) sp (spells_end_case t k))))
 end_case-sound c t (of_case_else q) outer before ss hs us le h sp k =
     let d : ℕ = length outer in
-    whole-sound c t outer before (select q.on q.branches (other ss) q.spot) (hs ++ us) le
-    (subst (λ (x : List Placed). Whole c outer before (select q.on q.branches (other ss) q.spot) x) (sym (append_assoc hs us (at d t ∷ []))) (h ss us t sp k))
+    whole-sound c t outer before (case q.on q.branches (other ss) q.spot) (hs ++ us) le
+    (subst (λ (x : List Placed). Whole c outer before (case q.on q.branches (other ss) q.spot) x) (sym (append_assoc hs us (at d t ∷ []))) (h ss us t sp k))
 end_case-sound c t (of_arm arms e s) outer before ss hs us le h sp k = tt
 end_case-sound c t (of_if_else arms) outer before ss hs us le h sp k = tt
 end_case-sound c t (of_loop l first last by) outer before ss hs us le h sp k = tt
@@ -156,8 +157,8 @@ end_for-sound : (c : Context) (t : Token) (body : Body) (outer : List Level) (be
     → Sound c t (hs ++ us) (end_for_at body outer before ss t)
 end_for-sound c t (of_loop l first last by) outer before ss hs us le h sp k =
     let d : ℕ = length outer in
-    whole-sound c t outer before (count l.name l.name_spot first last by ss l.spot) (hs ++ us) le
-    (subst (λ (x : List Placed). Whole c outer before (count l.name l.name_spot first last by ss l.spot) x) (sym (append_assoc hs us (at d t ∷ []))) (h ss us t sp k))
+    whole-sound c t outer before (for_ l.name l.name_spot first last by ss l.spot) (hs ++ us) le
+    (subst (λ (x : List Placed). Whole c outer before (for_ l.name l.name_spot first last by ss l.spot) x) (sym (append_assoc hs us (at d t ∷ []))) (h ss us t sp k))
 end_for-sound c t (of_arm arms e s) outer before ss hs us le h sp k = tt
 end_for-sound c t (of_if_else arms) outer before ss hs us le h sp k = tt
 end_for-sound c t (of_branch q ls) outer before ss hs us le h sp k = tt
@@ -169,15 +170,15 @@ end_for-sound c t (of_case_else q) outer before ss hs us le h sp k = tt
 next-branch : (c : Context) (d : ℕ) (P : StmtTree → List Placed → Type 0) (q : Selection) (ls : List LabelTree) (ss : StmtTrees) (hs us : List Placed)
     → Opens c d P (of_branch q ls) hs → SpellsStmts c.bytes (suc d) ss us → Selects c d P (with_branch q ls ss) (hs ++ us)
 next-branch c d P q ls ss hs us h sp more o vs sm =
-    subst (λ (x : List Placed). P (select q.on (branches_append (branches_and q.branches ls ss) more) o q.spot) x) (sym (append_assoc hs us vs))
-    (subst (λ (x : BranchTrees). P (select q.on x o q.spot) (hs ++ (us ++ vs))) (branches_then q.branches ls ss more)
+    subst (λ (x : List Placed). P (case q.on (branches_append (branches_and q.branches ls ss) more) o q.spot) x) (sym (append_assoc hs us vs))
+    (subst (λ (x : BranchTrees). P (case q.on x o q.spot) (hs ++ (us ++ vs))) (branches_then q.branches ls ss more)
     (h ss more o us vs sp (spells_next_branch more o vs sm)))
 
 -- the labels of a branch begin
 pub lists-none : (c : Context) (d : ℕ) (P : StmtTree → List Placed → Type 0) (q : Selection) (hs : List Placed) → Selects c d P q hs → Lists c d P q [] hs
 lists-none c d P q hs h more us sp body rest o vs ws sb sm =
     let tokens : hs ++ (us ++ (vs ++ ws)) ≡ (hs ++ us) ++ (vs ++ ws) = simp append_assoc in
-    subst (λ (x : List Placed). P (select q.on (branches_append q.branches (and_branch more body rest)) o q.spot) x) tokens
+    subst (λ (x : List Placed). P (case q.on (branches_append q.branches (and_branch more body rest)) o q.spot) x) tokens
     (h (and_branch more body rest) o (us ++ (vs ++ ws)) (spells_branch more body rest o us vs ws sp sb sm))
 
 -- the label has come so far
@@ -256,7 +257,7 @@ begins-if c t outer ss cs r k le =
       λ e ts u se ku body more o us vs sb sm.
           let rest : List Placed = at d t ∷ (ts ++ at d u ∷ (us ++ vs)) in
           let tokens : cs ++ rest ≡ (front ++ (ts ++ at d u ∷ [])) ++ (us ++ vs) = simp append_assoc in
-          let tree : StmtTree = choose (and_arm e body t.spot more) o in
+          let tree : StmtTree = if_ (and_arm e body t.spot more) o in
           subst (λ (x : List Placed). Whole c outer ss tree x) tokens
           (whole-one c outer ss cs r tree rest (spells_if (and_arm e body t.spot more) o rest (spells_arm key.If e body more o t u ts us vs k se ku sb sm))),
       none-read c d,
@@ -274,7 +275,7 @@ begins-case c t outer ss cs r k le =
       λ e ts u se ku more o us sm.
           let rest : List Placed = at d t ∷ (ts ++ at d u ∷ us) in
           let tokens : cs ++ rest ≡ (front ++ (ts ++ at d u ∷ [])) ++ us = simp append_assoc in
-          let tree : StmtTree = select e more o t.spot in
+          let tree : StmtTree = case e more o t.spot in
           subst (λ (x : List Placed). Whole c outer ss tree x) tokens
           (whole-one c outer ss cs r tree rest (spells_case e more o t u ts us k se ku sm)),
       none-read c d,
@@ -290,7 +291,7 @@ begins-for c t outer ss cs r k le =
       λ n kn a ka e ts u se ku f by us vs o sf sb ko body ws x sw kx.
           let rest : List Placed = at d t ∷ at d n ∷ at d a ∷ (ts ++ at d u ∷ (us ++ (vs ++ at d o ∷ (ws ++ at d x ∷ [])))) in
           let tokens : cs ++ rest ≡ ((((front ++ at d n ∷ []) ++ at d a ∷ []) ++ (ts ++ at d u ∷ [])) ++ (us ++ (vs ++ at d o ∷ []))) ++ (ws ++ at d x ∷ []) = simp append_assoc in
-          let tree : StmtTree = count (c.bytes n) n.spot e f by body t.spot in
+          let tree : StmtTree = for_ (c.bytes n) n.spot e f by body t.spot in
           subst (λ (x : List Placed). Whole c outer ss tree x) tokens
           (whole-one c outer ss cs r tree rest (spells_for e f by body t n a u o x ts us vs ws k kn ka se ku sf sb ko sw kx)),
     )

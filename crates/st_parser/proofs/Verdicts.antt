@@ -1,33 +1,35 @@
 -- Verdicts: what the machine's answer says of the tokens.
 use Rattle.std.proofs.Common.{◌≡◌, ◌⊎◌, ℕ, List, [], ◌∷◌, ◌++◌, Result, Ok, Err, inl, inr, sym, ap, ◌∙◌, subst, append_assoc}
 use Rattle.std.specs.Prelude.{IfOk, IfErr}
+use Rattle.vcp_base.specs.Limits.{most_depth}
 use Rattle.vcp_base.specs.declared.spot.Spot.{Spot}
 use Rattle.st_lexer.specs.declared.token.Token.{Token}
 use Rattle.st_tree.specs.declared.program.Program.{Program}
-use Rattle.st_tree.specs.ProgramTree.{ProgramTree, program_tree}
+use Rattle.st_tree.specs.ProgramTree.{ProgramTree}
+use Rattle.st_tree.specs.ProgramViews.{program_tree}
 use Rattle.st_spelling.specs.Placed.{Placed, tokens_of, Within}
 use Rattle.st_spelling.specs.Programs.{SpellsProgram}
 use Rattle.st_spelling.specs.Spelling.{Spells, SpellsWithin, Begins, bytes_in, left_aside}
 use Rattle.st_parser.specs.declared.fault.SyntaxFault.{SyntaxFault}
 use Rattle.st_parser.specs.declared.fault.SyntaxFault.TheVariants as fault
-use Rattle.st_parser.specs.Answers.{deepest, FirstWrong, EndsEarly, TooDeep, Refuses, IsAnswered}
+use Rattle.st_parser.specs.Answers.{FirstWrong, EndsEarly, TooDeep, Refuses, IsAnswered}
 use Rattle.st_parser.specs.ExprMachine.{Context}
 use Rattle.st_parser.specs.ProgramMachine.{read_program}
 use Rattle.st_parser.specs.StateViews.{Gives}
 use Rattle.st_parser.proofs.OneProgram.{only-one, no-syntax}
 use Rattle.st_parser.proofs.ProgramComplete.{complete}
 use Rattle.st_parser.proofs.ProgramSound.{sound}
-use Rattle.st_parser.proofs.Paths.{DeepAt, deep-at}
+use Rattle.st_parser.proofs.Paths.{deep-at}
 use Rattle.st_parser.proofs.Refusal.{BeginsProgram, refusal}
 
 -- what the parser reads a text's tokens by
 abbrev pub context : List ℕ → Context
-context text = record { bytes = bytes_in text; most = deepest }
+context text = record { bytes = bytes_in text; most = most_depth }
 
-pub read-spelled : (text : List ℕ) (end : Spot) (ts : List Token) (p : ProgramTree) → read_program (context text) end ts ≡ Ok p → SpellsWithin deepest p text ts
+pub read-spelled : (text : List ℕ) (end : Spot) (ts : List Token) (p : ProgramTree) → read_program (context text) end ts ≡ Ok p → SpellsWithin most_depth p text ts
 read-spelled text end ts p r = sound (context text) end ts p r
 
-pub spelled-read : (text : List ℕ) (end : Spot) (ts : List Token) (p : ProgramTree) → SpellsWithin deepest p text ts → read_program (context text) end ts ≡ Ok p
+pub spelled-read : (text : List ℕ) (end : Spot) (ts : List Token) (p : ProgramTree) → SpellsWithin most_depth p text ts → read_program (context text) end ts ≡ Ok p
 spelled-read text end ts p s = subst (λ us. read_program (context text) end us ≡ Ok p) s.2 (complete (context text) end p s.0 s.1 s.3)
 
 -- a program that is read is the only one that the tokens spell, at whatever depth
@@ -37,7 +39,7 @@ one-read text end ts p q s r =
     only-one (bytes_in text) q p t.0 s.0 t.1 s.1 (t.2 ∙ sym s.2)
 
 refused-spelled : (text : List ℕ) (end x : Spot) (ts : List Token) (p : ProgramTree) → Spells p text ts → read_program (context text) end ts ≡ Err (fault.Syntax x) → ⊥
-refused-spelled text end x ts p s r = no-syntax (bytes_in text) deepest end p s.0 x s.1 (ap (read_program (context text) end) s.2 ∙ r)
+refused-spelled text end x ts p s r = no-syntax (bytes_in text) most_depth end p s.0 x s.1 (ap (read_program (context text) end) s.2 ∙ r)
 
 module _ (renamed : (b c : Token → List ℕ) (p : ProgramTree) (ps : List Placed) → SpellsProgram b p ps → (q : ProgramTree) × SpellsProgram c q ps) where
   -- tokens that begin a program do so whatever the bytes of its names
@@ -52,7 +54,7 @@ module _ (renamed : (b c : Token → List ℕ) (p : ProgramTree) (ps : List Plac
       refused-spelled text end x (us ++ t ∷ b.0) r.0 (b.2, r.1, b.4 ∙ append_assoc us (t ∷ []) b.0) (h b.0)
 
   not-within : (text : List ℕ) (end x : Spot) (us : List Token) (t : Token) → ((more : List Token) → read_program (context text) end (us ++ t ∷ more) ≡ Err (fault.Depth x))
-      → (more : List Token) (p : ProgramTree) (ps : List Placed) → SpellsProgram (bytes_in text) p ps → tokens_of ps ≡ us ++ t ∷ more → Within deepest ps → ⊥
+      → (more : List Token) (p : ProgramTree) (ps : List Placed) → SpellsProgram (bytes_in text) p ps → tokens_of ps ≡ us ++ t ∷ more → Within most_depth ps → ⊥
   not-within text end x us t h more p ps s e w =
       let both : Ok p ≡ Err (fault.Depth x) = sym (spelled-read text end (us ++ t ∷ more) p (ps, s, e, w)) ∙ h more in
       absurd cc
@@ -65,7 +67,7 @@ module _ (renamed : (b c : Token → List ℕ) (p : ProgramTree) (ps : List Plac
 
   depth-refused : (text : List ℕ) (end x : Spot) (ts : List Token) → read_program (context text) end ts ≡ Err (fault.Depth x) → TooDeep text ts x
   depth-refused text end x ts e =
-      let r = deep-at (bytes_in text) deepest end ts x e in
+      let r = deep-at (bytes_in text) most_depth end ts x e in
       (r.before, r.token, r.behind, r.split, r.place, begins-aside text (r.before ++ r.token ∷ []) r.goes_on, not-within text end x r.before r.token r.whatever)
 
   pub refuses : (text : List ℕ) (end : Spot) (ts : List Token) (f : SyntaxFault) → Gives program_tree (Err f) (read_program (context text) end ts) → Refuses text ts end f
@@ -73,7 +75,7 @@ module _ (renamed : (b c : Token → List ℕ) (p : ProgramTree) (ps : List Plac
   refuses text end ts (fault.Depth x) e = depth-refused text end x ts e
   refuses text end ts fault.Memory e = tt
 
-pub answered : (text : List ℕ) (end : Spot) (ts : List Token) (p : ProgramTree) (r : Result Program SyntaxFault) → SpellsWithin deepest p text ts → Gives program_tree r (read_program (context text) end ts) → IsAnswered r p
+pub answered : (text : List ℕ) (end : Spot) (ts : List Token) (p : ProgramTree) (r : Result Program SyntaxFault) → SpellsWithin most_depth p text ts → Gives program_tree r (read_program (context text) end ts) → IsAnswered r p
 answered text end ts p (Ok q) s e =
     let same : Ok p ≡ Ok (program_tree q) = sym (spelled-read text end ts p s) ∙ e in
     cc
@@ -87,7 +89,7 @@ answered text end ts p (Err fault.Memory) s e = tt
 
 -- ---- the code's answer
 
-pub spelled-of : (text : List ℕ) (end : Spot) (ts : List Token) (r : Result Program SyntaxFault) → Gives program_tree r (read_program (context text) end ts) → IfOk r (λ p. SpellsWithin deepest (program_tree p) text ts)
+pub spelled-of : (text : List ℕ) (end : Spot) (ts : List Token) (r : Result Program SyntaxFault) → Gives program_tree r (read_program (context text) end ts) → IfOk r (λ p. SpellsWithin most_depth (program_tree p) text ts)
 spelled-of text end ts (Ok q) e = read-spelled text end ts (program_tree q) e
 spelled-of text end ts (Err f) e = tt
 

@@ -1,18 +1,16 @@
 -- Answers: what is promised of the parser's answers.
 use Rattle.std.specs.Prelude.{◌≡◌, ◌⊎◌, ℕ, List, [], ◌∷◌, ◌++◌, Result, Ok, Err}
+use Rattle.vcp_base.specs.Limits.{most_depth}
 use Rattle.vcp_base.specs.declared.spot.Spot.{Spot}
 use Rattle.st_lexer.specs.declared.token.Token.{Token}
 use Rattle.st_tree.specs.declared.program.Program.{Program}
-use Rattle.st_tree.specs.ProgramTree.{ProgramTree, program_tree}
+use Rattle.st_tree.specs.ProgramTree.{ProgramTree}
+use Rattle.st_tree.specs.ProgramViews.{program_tree}
 use Rattle.st_spelling.specs.Placed.{Placed, tokens_of, Within}
 use Rattle.st_spelling.specs.Programs.{SpellsProgram}
 use Rattle.st_spelling.specs.Spelling.{bytes_in, Spells, Begins}
 use Rattle.st_parser.specs.declared.fault.SyntaxFault.{SyntaxFault}
 use Rattle.st_parser.specs.declared.fault.SyntaxFault.TheVariants as fault
-
--- the greatest depth of a token
-abbrev pub deepest : ℕ
-deepest = 64
 
 -- The token at the spot is the first such that the tokens through it begin no program: those before it begin one, and with
 -- it they begin none.
@@ -31,7 +29,7 @@ abbrev pub TooDeep : List ℕ → List Token → Spot → Type 0
 TooDeep text ts spot =
     (before : List Token) × (t : Token) × (behind : List Token)
     × (ts ≡ before ++ t ∷ behind) × (spot ≡ t.spot) × Begins (before ++ t ∷ [])
-    × ((more : List Token) (p : ProgramTree) (ps : List Placed) → SpellsProgram (bytes_in text) p ps → tokens_of ps ≡ before ++ t ∷ more → Within deepest ps → ⊥)
+    × ((more : List Token) (p : ProgramTree) (ps : List Placed) → SpellsProgram (bytes_in text) p ps → tokens_of ps ≡ before ++ t ∷ more → Within most_depth ps → ⊥)
 
 -- why the tokens are refused; of want of memory nothing is said
 abbrev pub Refuses : List ℕ → List Token → Spot → SyntaxFault → Type 0

@@ -2,7 +2,8 @@
 use Rattle.std.specs.Prelude.{◌≡◌, ℕ, suc, ◌<◌, ◌≤◌, List, [], ◌∷◌, Option, Some, None, Result, Ok, Err}
 use Rattle.st_lexer.specs.declared.token.Token.{Token}
 use Rattle.st_tree.specs.declared.expr.Expr.{Expr}
-use Rattle.st_tree.specs.ExprTree.{ExprTree, expr_tree, expr_trees}
+use Rattle.st_tree.specs.ExprTree.{ExprTree}
+use Rattle.st_tree.specs.ExprViews.{expr_tree, expr_trees}
 use Rattle.st_spelling.specs.Operators.{level, chain}
 use Rattle.st_parser.specs.declared.fault.SyntaxFault.{SyntaxFault}
 use Rattle.st_parser.specs.declared.fault.SyntaxFault.TheVariants as fault

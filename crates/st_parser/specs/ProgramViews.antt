@@ -1,7 +1,7 @@
 -- ProgramViews: the state of the code between the tokens of a program, without where it lies in memory.
 use Rattle.std.specs.Prelude.{map}
-use Rattle.st_tree.specs.StmtTree.{stmt_trees}
-use Rattle.st_tree.specs.ProgramTree.{declared_tree, decl_tree, block_tree}
+use Rattle.st_tree.specs.StmtViews.{stmt_trees}
+use Rattle.st_tree.specs.ProgramViews.{declared_tree, decl_tree, block_tree}
 use Rattle.st_parser.specs.declared.state.Front.{Front}
 use Rattle.st_parser.specs.declared.state.Opening.{Opening}
 use Rattle.st_parser.specs.declared.state.State.{State}

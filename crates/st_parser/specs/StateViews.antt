@@ -1,9 +1,10 @@
 -- StateViews: the state of the code, without where it lies in memory.
 use Rattle.std.specs.Prelude.{◌≡◌, List, [], ◌∷◌, Option, Some, None, Result, Ok, Err}
 use Rattle.vcp_base.specs.declared.spot.Spot.{Spot}
-use Rattle.st_tree.specs.ExprTree.{ExprTree, expr_tree, expr_tree_or_none}
+use Rattle.st_tree.specs.ExprTree.{ExprTree}
+use Rattle.st_tree.specs.ExprViews.{expr_tree, expr_tree_or_none}
+use Rattle.st_tree.specs.StmtViews.{label_trees, stmt_trees, arm_trees, branch_trees}
 use Rattle.st_tree.specs.Items.{arm_items, branch_items}
-use Rattle.st_tree.specs.StmtTree.{label_trees, stmt_trees, arm_trees, branch_trees}
 use Rattle.st_parser.specs.declared.fault.SyntaxFault.{SyntaxFault}
 use Rattle.st_parser.specs.declared.fault.SyntaxFault.TheVariants as fault
 use Rattle.st_parser.specs.declared.labels.Constant.{Constant}

@@ -6,7 +6,8 @@ use Rattle.st_lexer.specs.declared.token.Tok.TheVariants as tok
 use Rattle.st_lexer.specs.declared.token.Token.{Token}
 use Rattle.st_tree.specs.declared.expr.UnOp.TheVariants as un
 use Rattle.st_tree.specs.ExprTree.{ExprTree, literal, name, unary}
-use Rattle.st_tree.specs.StmtTree.{LabelTree, StmtTree, StmtTrees, ArmTrees, BranchTrees, assign, choose, select, count, no_stmts, no_arms, no_branches, no_other, other, stmts_and, arms_and, branches_and}
+use Rattle.st_tree.specs.StmtTree.{LabelTree, StmtTree, StmtTrees, ArmTrees, BranchTrees, assign, if_, case, for_, no_stmts, no_arms, no_branches, no_other, other}
+use Rattle.st_tree.specs.Appended.{stmts_and, arms_and, branches_and}
 use Rattle.st_parser.specs.declared.fault.SyntaxFault.{SyntaxFault}
 use Rattle.st_parser.specs.declared.fault.SyntaxFault.TheVariants as fault
 use Rattle.st_parser.specs.declared.marks.Begins.{Begins}
@@ -156,17 +157,17 @@ else_at (of_branch k ls) outer before ss t = opened (of_case_else (with_branch k
 else_at _ outer before ss t = refused t
 
 abbrev pub end_if_at : Body → List Level → StmtTrees → StmtTrees → Token → Result At SyntaxFault
-end_if_at (of_arm arms e s) outer before ss t = whole outer before (choose (arms_and arms e ss s) no_other)
-end_if_at (of_if_else arms) outer before ss t = whole outer before (choose arms (other ss))
+end_if_at (of_arm arms e s) outer before ss t = whole outer before (if_ (arms_and arms e ss s) no_other)
+end_if_at (of_if_else arms) outer before ss t = whole outer before (if_ arms (other ss))
 end_if_at _ outer before ss t = refused t
 
 abbrev pub end_case_at : Body → List Level → StmtTrees → StmtTrees → Token → Result At SyntaxFault
-end_case_at (of_branch k ls) outer before ss t = whole outer before (select k.on (branches_and k.branches ls ss) no_other k.spot)
-end_case_at (of_case_else k) outer before ss t = whole outer before (select k.on k.branches (other ss) k.spot)
+end_case_at (of_branch k ls) outer before ss t = whole outer before (case k.on (branches_and k.branches ls ss) no_other k.spot)
+end_case_at (of_case_else k) outer before ss t = whole outer before (case k.on k.branches (other ss) k.spot)
 end_case_at _ outer before ss t = refused t
 
 abbrev pub end_for_at : Body → List Level → StmtTrees → StmtTrees → Token → Result At SyntaxFault
-end_for_at (of_loop l first last by) outer before ss t = whole outer before (count l.name l.name_spot first last by ss l.spot)
+end_for_at (of_loop l first last by) outer before ss t = whole outer before (for_ l.name l.name_spot first last by ss l.spot)
 end_for_at _ outer before ss t = refused t
 
 -- a token that ends the innermost body, or begins the next branch

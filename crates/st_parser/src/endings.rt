@@ -1,9 +1,10 @@
 //! What ends a body, or begins the next branch.
 
 ghost use Rattle.std.specs.Prelude.{◌≡◌, IfOk};
-ghost use Rattle.st_tree.specs.ExprTree.{expr_tree};
+ghost use Rattle.st_tree.specs.Appended.{arms_and};
+ghost use Rattle.st_tree.specs.ExprViews.{expr_tree};
+ghost use Rattle.st_tree.specs.StmtViews.{label_trees, stmt_trees, arm_trees};
 ghost use Rattle.st_tree.specs.Items.{arm_items};
-ghost use Rattle.st_tree.specs.StmtTree.{label_trees, stmt_trees, arm_trees, arms_and};
 ghost use Rattle.st_parser.specs.StateViews as view;
 ghost use Rattle.st_parser.specs.StmtMachine as machine;
 
@@ -98,9 +99,9 @@ pub fn end_if_at(
     match body {
         Body::OfArm { arms, cond, spot } => {
             let arms = with_arm(arms, cond, stmts, spot)?;
-            whole(outer, before, Stmt::choose(arms, None))
+            whole(outer, before, Stmt::if_(arms, None))
         }
-        Body::OfIfElse { arms } => whole(outer, before, Stmt::choose(arms, Some(stmts))),
+        Body::OfIfElse { arms } => whole(outer, before, Stmt::if_(arms, Some(stmts))),
         Body::OfBranch { .. } | Body::OfCaseElse { .. } | Body::OfLoop { .. } => refused(t),
     }
 }
@@ -118,11 +119,11 @@ pub fn end_case_at(
     match body {
         Body::OfBranch { selection, labels } => {
             let all = with_branch(selection, labels, stmts)?;
-            let stmt = Stmt::select(all.on, all.branches, None, all.spot);
+            let stmt = Stmt::case(all.on, all.branches, None, all.spot);
             whole(outer, before, stmt)
         }
         Body::OfCaseElse { selection } => {
-            let stmt = Stmt::select(
+            let stmt = Stmt::case(
                 selection.on,
                 selection.branches,
                 Some(stmts),
@@ -151,7 +152,7 @@ pub fn end_for_at(
             last,
             by,
         } => {
-            let stmt = Stmt::count(head.name, head.name_spot, first, last, by, stmts, head.spot);
+            let stmt = Stmt::for_(head.name, head.name_spot, first, last, by, stmts, head.spot);
             whole(outer, before, stmt)
         }
         Body::OfArm { .. }

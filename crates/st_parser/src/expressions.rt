@@ -2,7 +2,7 @@
 
 ghost use Rattle.std.specs.Prelude.{◌≡◌};
 ghost use Rattle.st_lexer.specs.Reading.{IsInside};
-ghost use Rattle.st_tree.specs.ExprTree.{expr_tree};
+ghost use Rattle.st_tree.specs.ExprViews.{expr_tree};
 ghost use Rattle.st_spelling.specs.Spelling.{bytes_in};
 ghost use Rattle.st_parser.specs.Marks.{begins_by as begins, goes_by as goes};
 ghost use Rattle.st_parser.specs.ExprMachine as spec;

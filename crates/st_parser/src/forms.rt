@@ -1,7 +1,8 @@
 //! The forms of an expression that are open.
 
 ghost use Rattle.std.specs.Prelude.{◌≡◌, ◌+◌, ◌≤◌, ◌∷◌, IfOk, OnOk, ◌↔◌, IsTrue};
-ghost use Rattle.st_tree.specs.ExprTree.{expr_tree, expr_trees, exprs_and};
+ghost use Rattle.st_tree.specs.Appended.{exprs_and};
+ghost use Rattle.st_tree.specs.ExprViews.{expr_tree, expr_trees};
 ghost use Rattle.st_spelling.specs.Operators.{level, chain};
 ghost use Rattle.st_parser.specs.ExprMachine as spec;
 ghost use Rattle.st_parser.specs.FormViews as view;

@@ -1,7 +1,8 @@
 //! The bodies that are open.
 
 ghost use Rattle.std.specs.Prelude.{◌≡◌, [], ◌∷◌, Err, IfOk, OnOk, length, suc};
-ghost use Rattle.st_tree.specs.StmtTree.{stmt_tree, stmt_trees, no_stmts};
+ghost use Rattle.st_tree.specs.StmtTree.{no_stmts};
+ghost use Rattle.st_tree.specs.StmtViews.{stmt_tree, stmt_trees};
 ghost use Rattle.st_parser.specs.declared.fault.SyntaxFault.TheVariants.{Syntax};
 ghost use Rattle.st_parser.specs.ExprMachine.{want};
 ghost use Rattle.st_parser.specs.StateViews as view;

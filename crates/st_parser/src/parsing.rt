@@ -1,11 +1,13 @@
 //! The parser.
 
 ghost use Rattle.std.specs.Prelude.{◌≡◌, All, IfOk, IfErr};
+ghost use Rattle.vcp_base.specs.Limits.{most_depth};
 ghost use Rattle.st_lexer.specs.Reading.{Reads, IsInside};
-ghost use Rattle.st_tree.specs.StmtTree.{stmt_trees};
-ghost use Rattle.st_tree.specs.ProgramTree.{ProgramTree, program_tree};
+ghost use Rattle.st_tree.specs.ProgramTree.{ProgramTree};
+ghost use Rattle.st_tree.specs.StmtViews.{stmt_trees};
+ghost use Rattle.st_tree.specs.ProgramViews.{program_tree};
 ghost use Rattle.st_spelling.specs.Spelling.{bytes_in, Spells, SpellsWithin};
-ghost use Rattle.st_parser.specs.Answers.{deepest, Refuses, IsAnswered};
+ghost use Rattle.st_parser.specs.Answers.{Refuses, IsAnswered};
 ghost use Rattle.st_parser.specs.StateViews.{Gives, levels, phase as phase_of};
 ghost use Rattle.st_parser.specs.StmtMachine.{finished};
 ghost use Rattle.st_parser.specs.ProgramViews as view;
@@ -20,10 +22,7 @@ use st_lexer::{Tokens, one_reading};
 use st_spelling::spelling_begins;
 use st_tree::{Program, Stmts};
 use std::alloc::Global;
-use vcp_base::Spot;
-
-/// The greatest depth of a token.
-const DEEPEST: usize = 64;
+use vcp_base::{MOST_DEPTH, Spot};
 
 // The program whose END_PROGRAM was read, where no body is open.
 fn root_finish(
@@ -116,11 +115,11 @@ pub fn parse(alloc: Global, text: &[u8], tokens: &Tokens) -> Result<Program, Syn
 
     // What is answered is spelled so, no token deeper than the limit, and is the only program that the
     // tokens spell, however deep.
-    ensures spelled { IfOk result (λ p. SpellsWithin deepest (program_tree p) text.now tokens.now.tokens) }
+    ensures spelled { IfOk result (λ p. SpellsWithin most_depth (program_tree p) text.now tokens.now.tokens) }
     ensures one { (p : ProgramTree) → Spells p text.now tokens.now.tokens → IfOk result (λ q. program_tree q ≡ p) }
 
     // What is spelled so is answered.
-    ensures only { (p : ProgramTree) → SpellsWithin deepest p text.now tokens.now.tokens → IsAnswered result p }
+    ensures only { (p : ProgramTree) → SpellsWithin most_depth p text.now tokens.now.tokens → IsAnswered result p }
 
     // A fault of syntax is at the first token through which nothing begins, or at the end; a fault of
     // depth is at a token through which a program begins, but none within the limit.
@@ -128,5 +127,5 @@ pub fn parse(alloc: Global, text: &[u8], tokens: &Tokens) -> Result<Program, Syn
 {
     one_reading();
     spelling_begins();
-    read_program(alloc, text, tokens, DEEPEST)
+    read_program(alloc, text, tokens, MOST_DEPTH as usize)
 }

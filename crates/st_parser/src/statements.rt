@@ -2,9 +2,10 @@
 
 ghost use Rattle.std.specs.Prelude.{◌≡◌, [], ◌∷◌, Option, length};
 ghost use Rattle.st_lexer.specs.Reading.{IsInside};
-ghost use Rattle.st_tree.specs.ExprTree.{ExprTree, expr_tree};
+ghost use Rattle.st_tree.specs.ExprTree.{ExprTree};
+ghost use Rattle.st_tree.specs.ExprViews.{expr_tree};
+ghost use Rattle.st_tree.specs.StmtViews.{arm_trees, stmt_trees};
 ghost use Rattle.st_tree.specs.Items.{arm_items};
-ghost use Rattle.st_tree.specs.StmtTree.{arm_trees, stmt_trees};
 ghost use Rattle.st_spelling.specs.Spelling.{bytes_in};
 ghost use Rattle.st_parser.specs.Marks.{mark_of as mark};
 ghost use Rattle.st_parser.specs.ExprMachine.{Context, no_deeper};

@@ -9,15 +9,7 @@ use st_tree::{
 };
 use std::alloc::Global;
 use std::test::Fail;
-use vcp_base::{Spot, Text, Ty};
-
-fn type_bytes(ty: Ty) -> &'static [u8] {
-    match ty {
-        Ty::Bool => b"BOOL",
-        Ty::Int => b"INT",
-        Ty::Dint => b"DINT",
-    }
-}
+use vcp_base::{Spot, Text, ty_name};
 
 fn unary_bytes(op: UnOp) -> &'static [u8] {
     match op {
@@ -72,7 +64,7 @@ pub fn show_expr(alloc: Global, out: &mut Vec<u8>, e: &Expr) -> Result<(), Fail>
     match e {
         Expr::Lit { ty, value, spot } => {
             if let Some(ty) = ty {
-                add(out, type_bytes(*ty))?;
+                add(out, ty_name(*ty))?;
                 add(out, b"#")?;
             }
             add_at(alloc, out, format!(in alloc; "{value}")?.as_bytes(), *spot)
@@ -234,7 +226,7 @@ fn show_decl(alloc: Global, out: &mut Vec<u8>, decl: &Decl) -> Result<(), Fail> 
         add_at(alloc, out, declared.name.bytes(), declared.spot)?;
         add(out, b" ")?;
     }
-    add(out, type_bytes(decl.ty))?;
+    add(out, ty_name(decl.ty))?;
     if let Some(init) = &decl.init {
         add(out, b" := ")?;
         show_expr(alloc, out, init)?;

@@ -5,6 +5,7 @@ use Rattle.std.specs.List.{list_all, prefix_len}
 use Rattle.std.specs.Char.{is_ascii_digit}
 use Rattle.std.proofs.lemmas.Bool.Decides.{nat_tests}
 use Rattle.std.proofs.lemmas.List.Elements.{All-nil, All-cons, All-append}
+use Rattle.vcp_base.specs.Limits.{most_source_bytes}
 use Rattle.vcp_base.specs.Names.{is_letter, is_letter_or_digit, is_name}
 use Rattle.vcp_base.specs.declared.ty.Ty.{Ty}
 use Rattle.st_lexer.specs.declared.token.Key.TheVariants as key
@@ -154,10 +155,10 @@ parted bytes [] us h = (tt, h)
 parted bytes (t ∷ ts) us h = let c = parted bytes ts us h.1 in ((h.0, c.0), c.1)
 
 -- the bytes of a token are no more than those of the text
-short-in : (text : List ℕ) (t : Token) → length text ≤ 1048576 → length (bytes_in text t) ≤ 1048576
+short-in : (text : List ℕ) (t : Token) → length text ≤ most_source_bytes → length (bytes_in text t) ≤ most_source_bytes
 short-in text t short = omega (arith, short, length-take (t.to - t.from) (drop t.from text), length-drop t.from text)
 
-module _ (bytes : Token → List ℕ) (short : (t : Token) → length (bytes t) ≤ 1048576) where
+module _ (bytes : Token → List ℕ) (short : (t : Token) → length (bytes t) ≤ most_source_bytes) where
   name-of : (n : Token) → n.tok ≡ tok.Name → Says (bytes n) n.tok → IsDeclarable (bytes n)
   name-of n e h = (short n, subst (Says (bytes n)) e h)
 
@@ -184,6 +185,6 @@ module _ (bytes : Token → List ℕ) (short : (t : Token) → length (bytes t) 
   of-program (spells_program bs body p n e ts us kp kn sa sb ke) h = of-blocks sa (parted bytes ts _ h.1.1).0
 
 -- the names that a program declares which the tokens of a reading spell may be declared
-pub has_names : (p : ProgramTree) (text : List ℕ) (ts : List Token) → Reads text ts → length text ≤ 1048576 → Spells p text ts → HasNames p
+pub has_names : (p : ProgramTree) (text : List ℕ) (ts : List Token) → Reads text ts → length text ≤ most_source_bytes → Spells p text ts → HasNames p
 has_names p text ts reads short (ps, spells, is) =
     of-program (bytes_in text) (λ t. short-in text t short) spells (each-of text ps (reading-says text (tokens_of ps) (rw is reads)))

@@ -3,7 +3,7 @@ use Rattle.std.proofs.Common.{◌≡◌, ℕ, suc, ◌+◌, ◌==◌, cond, List
 use Rattle.st_lexer.specs.declared.token.Key.{Key}
 use Rattle.st_lexer.specs.declared.token.Token.{Token}
 use Rattle.st_tree.specs.ExprTree.{ExprTree, ExprTrees, literal, name, unary, binary, call, no_exprs, and_expr}
-use Rattle.st_tree.specs.StmtTree.{LabelTree, StmtTree, StmtTrees, ArmTrees, BranchTrees, OtherTree, assign, choose, select, count, no_stmts, and_stmt, no_arms, and_arm, no_branches, and_branch, no_other, other}
+use Rattle.st_tree.specs.StmtTree.{LabelTree, StmtTree, StmtTrees, ArmTrees, BranchTrees, OtherTree, assign, if_, case, for_, no_stmts, and_stmt, no_arms, and_arm, no_branches, and_branch, no_other, other}
 use Rattle.st_tree.specs.ProgramTree.{DeclaredTree, DeclTree, BlockTree, ProgramTree}
 use Rattle.st_spelling.specs.Operators.{level, chain}
 use Rattle.st_spelling.specs.Placed.{Placed, at}
@@ -81,17 +81,17 @@ module _ (b c : Token → List ℕ) where
         (assign (c n) r.0 n.spot, spells_assign n a r.0 ts kn ka r.1)
     stmt (spells_if arms o ts s) =
         let r = arms_of s in
-        (choose r.0 r.1, spells_if r.0 r.1 ts r.2)
+        (if_ r.0 r.1, spells_if r.0 r.1 ts r.2)
     stmt (spells_case e cases o x f ts us kx s kf u) =
         let r = expr s in
         let q = branches_of u in
-        (select r.0 q.0 q.1 x.spot, spells_case r.0 q.0 q.1 x f ts us kx r.1 kf q.2)
+        (case r.0 q.0 q.1 x.spot, spells_case r.0 q.0 q.1 x f ts us kx r.1 kf q.2)
     stmt (spells_for first last by body f n a t o e ts us vs ws kf kn ka s kt u ko v kd w) =
         let r = expr s in
         let q = expr u in
         let y = step ko in
         let z = stmts kd in
-        (count (c n) n.spot r.0 q.0 y.0 z.0 f.spot, spells_for r.0 q.0 y.0 z.0 f n a t o e ts us vs ws kf kn ka r.1 kt q.1 y.1 v z.1 w)
+        (for_ (c n) n.spot r.0 q.0 y.0 z.0 f.spot, spells_for r.0 q.0 y.0 z.0 f n a t o e ts us vs ws kf kn ka r.1 kt q.1 y.1 v z.1 w)
 
     stmts : {d : ℕ} {ss : StmtTrees} {ps : List Placed} → SpellsStmts b d ss ps → (rs : StmtTrees) × SpellsStmts c d rs ps
     stmts spells_no_stmt = (no_stmts, spells_no_stmt)

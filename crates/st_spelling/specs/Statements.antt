@@ -15,7 +15,7 @@ use Rattle.st_lexer.specs.declared.token.Sym.TheVariants as sym
 use Rattle.st_lexer.specs.declared.token.Tok.TheVariants as tok
 use Rattle.st_lexer.specs.declared.token.Token.{Token}
 use Rattle.st_tree.specs.ExprTree.{ExprTree}
-use Rattle.st_tree.specs.StmtTree.{LabelTree, StmtTree, StmtTrees, ArmTrees, BranchTrees, OtherTree, assign, choose, select, count, no_stmts, and_stmt, no_arms, and_arm, no_branches, and_branch, no_other, other}
+use Rattle.st_tree.specs.StmtTree.{LabelTree, StmtTree, StmtTrees, ArmTrees, BranchTrees, OtherTree, assign, if_, case, for_, no_stmts, and_stmt, no_arms, and_arm, no_branches, and_branch, no_other, other}
 use Rattle.st_spelling.specs.Operators.{any_level}
 use Rattle.st_spelling.specs.Placed.{Placed, at}
 use Rattle.st_spelling.specs.Expressions.{SpellsExpr}
@@ -39,13 +39,13 @@ mutual
         SpellsStmt bytes d (assign (bytes n) e n.spot) (at d n ∷ at d a ∷ ts)
     spells_if : {d : ℕ} (arms : ArmTrees) (o : OtherTree) (ts : List Placed) →
         SpellsArms bytes d key.If arms o ts →
-        SpellsStmt bytes d (choose arms o) ts
+        SpellsStmt bytes d (if_ arms o) ts
     spells_case : {d : ℕ} (e : ExprTree) (branches : BranchTrees) (o : OtherTree) (c f : Token) (ts us : List Placed) →
         c.tok ≡ tok.Key key.Case →
         SpellsExpr bytes d any_level e ts →
         f.tok ≡ tok.Key key.Of →
         SpellsBranches bytes d branches o us →
-        SpellsStmt bytes d (select e branches o c.spot) (at d c ∷ (ts ++ at d f ∷ us))
+        SpellsStmt bytes d (case e branches o c.spot) (at d c ∷ (ts ++ at d f ∷ us))
     spells_for : {d : ℕ} (first last : ExprTree) (by : Option ExprTree) (body : StmtTrees) (f n a t o e : Token) (ts us vs ws : List Placed) →
         f.tok ≡ tok.Key key.For →
         n.tok ≡ tok.Name →
@@ -57,7 +57,7 @@ mutual
         o.tok ≡ tok.Key key.Do →
         SpellsStmts bytes (suc d) body ws →
         e.tok ≡ tok.Key key.EndFor →
-        SpellsStmt bytes d (count (bytes n) n.spot first last by body f.spot)
+        SpellsStmt bytes d (for_ (bytes n) n.spot first last by body f.spot)
         (at d f ∷ at d n ∷ at d a ∷ (ts ++ at d t ∷ (us ++ (vs ++ at d o ∷ (ws ++ at d e ∷ [])))))
 
   -- statements at depth d, each with its semicolon, and semicolons alone anywhere

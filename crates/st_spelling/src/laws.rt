@@ -1,6 +1,7 @@
 //! Laws of spelling.
 
 ghost use Rattle.std.specs.Prelude.{◌≡◌, ◌++◌, ◌≤◌, ℕ, List, length};
+ghost use Rattle.vcp_base.specs.Limits.{most_source_bytes};
 ghost use Rattle.st_lexer.specs.Reading.{Reads};
 ghost use Rattle.st_lexer.specs.declared.token.Token.{Token};
 ghost use Rattle.st_tree.specs.Declarable.{HasNames};
@@ -21,5 +22,5 @@ pub fn spelling_begins()
 /// Each name that a program declares is one that may be declared, where the tokens of a source spell
 /// the program: a letter or `_`, and then letters, digits and `_`, no longer than the source.
 pub fn spelled_names_are_declarable()
-    ensures names { (p : ProgramTree) (text : List ℕ) (ts : List Token) → Reads text ts → length text ≤ 1048576 → Spells p text ts → HasNames p }
+    ensures names { (p : ProgramTree) (text : List ℕ) (ts : List Token) → Reads text ts → length text ≤ most_source_bytes → Spells p text ts → HasNames p }
 {}

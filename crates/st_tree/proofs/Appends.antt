@@ -4,8 +4,11 @@ use Rattle.st_tree.specs.declared.expr.Expr.{Expr}
 use Rattle.st_tree.specs.declared.stmt.Arm.{Arm}
 use Rattle.st_tree.specs.declared.stmt.Branch.{Branch}
 use Rattle.st_tree.specs.declared.stmt.Stmt.{Stmt}
-use Rattle.st_tree.specs.ExprTree.{ExprTrees, expr_tree, expr_trees, exprs_and, and_expr}
-use Rattle.st_tree.specs.StmtTree.{StmtTrees, ArmTrees, BranchTrees, label_trees, stmt_tree, stmt_trees, arm_trees, branch_trees, stmts_and, arms_and, branches_and, and_stmt, and_arm, and_branch}
+use Rattle.st_tree.specs.ExprTree.{ExprTrees, and_expr}
+use Rattle.st_tree.specs.StmtTree.{StmtTrees, ArmTrees, BranchTrees, and_stmt, and_arm, and_branch}
+use Rattle.st_tree.specs.Appended.{exprs_and, stmts_and, arms_and, branches_and}
+use Rattle.st_tree.specs.ExprViews.{expr_tree, expr_trees}
+use Rattle.st_tree.specs.StmtViews.{label_trees, stmt_tree, stmt_trees, arm_trees, branch_trees}
 
 pub exprs-append : (es : List Expr) (e : Expr) → expr_trees (es ++ e ∷ []) ≡ exprs_and (expr_trees es) (expr_tree e)
 exprs-append [] e = refl

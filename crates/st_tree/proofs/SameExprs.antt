@@ -5,7 +5,8 @@ use Rattle.vcp_base.specs.declared.spot.Spot.{Spot}
 use Rattle.vcp_base.specs.declared.text.Text.{Text}
 use Rattle.st_tree.specs.declared.expr.Exprs.{Exprs}
 use Rattle.st_tree.specs.declared.expr.Expr.{Expr, Call}
-use Rattle.st_tree.specs.ExprTree.{ExprTree, ExprTrees, no_exprs, and_expr, call, expr_tree, expr_trees}
+use Rattle.st_tree.specs.ExprTree.{ExprTree, ExprTrees, no_exprs, and_expr, call}
+use Rattle.st_tree.specs.ExprViews.{expr_tree, expr_trees}
 use Rattle.st_tree.specs.Bare.{nowhere, bare_expr, bare_exprs}
 use Rattle.st_tree.proofs.Rows.{tree-call}
 use Rattle.st_tree.proofs.Pointwise.{by-each, same-length, each}

@@ -11,8 +11,10 @@ use Rattle.st_tree.specs.declared.stmt.Branch.{Branch}
 use Rattle.st_tree.specs.declared.stmt.Branches.{Branches}
 use Rattle.st_tree.specs.declared.stmt.Stmts.{Stmts}
 use Rattle.st_tree.specs.declared.stmt.Stmt.{Stmt, If, Case, For}
-use Rattle.st_tree.specs.ExprTree.{ExprTree, expr_tree, expr_tree_or_none}
-use Rattle.st_tree.specs.StmtTree.{LabelTree, StmtTree, StmtTrees, ArmTrees, BranchTrees, OtherTree, label_tree, label_trees, stmt_tree, stmt_trees, arm_trees, branch_trees, other_tree, choose, select, count, no_stmts, and_stmt, no_arms, and_arm, no_branches, and_branch}
+use Rattle.st_tree.specs.ExprTree.{ExprTree}
+use Rattle.st_tree.specs.StmtTree.{LabelTree, StmtTree, StmtTrees, ArmTrees, BranchTrees, OtherTree, if_, case, for_, no_stmts, and_stmt, no_arms, and_arm, no_branches, and_branch}
+use Rattle.st_tree.specs.ExprViews.{expr_tree, expr_tree_or_none}
+use Rattle.st_tree.specs.StmtViews.{label_tree, label_trees, stmt_tree, stmt_trees, arm_trees, branch_trees, other_tree}
 use Rattle.st_tree.specs.Items.{arm_items, branch_items}
 use Rattle.st_tree.specs.Bare.{nowhere, bare_expr, bare_expr_or_none, bare_label, bare_stmt, bare_stmts, bare_arms, bare_branches, bare_other}
 use Rattle.st_tree.proofs.Rows.{tree-if, tree-case, tree-for}
@@ -140,59 +142,59 @@ branches-each xs ys e = each bare_branch_of xs ys (branches-as-lists xs ys e)
 -- statements of the program, bare
 
 pub bare-if : (a : Stmt) (arms : Arms) (o : Option Stmts) (xs : List Arm) → a ≡ If arms o → xs ≡ arm_items arms
-    → bare_stmt_of a ≡ choose (bare_arms (arm_trees xs)) (bare_other (other_tree o))
+    → bare_stmt_of a ≡ if_ (bare_arms (arm_trees xs)) (bare_other (other_tree o))
 bare-if a arms o xs e f =
     ap bare_stmt_of e ∙ ap bare_stmt (tree-if arms o)
-    ∙ sym (ap (λ (x : List Arm). choose (bare_arms (arm_trees x)) (bare_other (other_tree o))) f)
+    ∙ sym (ap (λ (x : List Arm). if_ (bare_arms (arm_trees x)) (bare_other (other_tree o))) f)
 
 pub bare-case : (a : Stmt) (on : Expr) (branches : Branches) (o : Option Stmts) (s : Spot) (xs : List Branch)
     → a ≡ Case on branches o s → xs ≡ branch_items branches
-    → bare_stmt_of a ≡ select (bare_expr (expr_tree on)) (bare_branches (branch_trees xs)) (bare_other (other_tree o)) nowhere
+    → bare_stmt_of a ≡ case (bare_expr (expr_tree on)) (bare_branches (branch_trees xs)) (bare_other (other_tree o)) nowhere
 bare-case a on branches o s xs e f =
     ap bare_stmt_of e ∙ ap bare_stmt (tree-case on branches o s)
-    ∙ sym (ap (λ (x : List Branch). select (bare_expr (expr_tree on)) (bare_branches (branch_trees x)) (bare_other (other_tree o)) nowhere) f)
+    ∙ sym (ap (λ (x : List Branch). case (bare_expr (expr_tree on)) (bare_branches (branch_trees x)) (bare_other (other_tree o)) nowhere) f)
 
 pub bare-for : (a : Stmt) (n : Text) (ns : Spot) (first last : Expr) (by : Option Expr) (body : Stmts) (s : Spot) (xs : List Stmt)
     → a ≡ For n ns first last by body s → xs ≡ body.items.items
-    → bare_stmt_of a ≡ count n nowhere (bare_expr (expr_tree first)) (bare_expr (expr_tree last)) (bare_expr_or_none (expr_tree_or_none by)) (bare_stmts (stmt_trees xs)) nowhere
+    → bare_stmt_of a ≡ for_ n nowhere (bare_expr (expr_tree first)) (bare_expr (expr_tree last)) (bare_expr_or_none (expr_tree_or_none by)) (bare_stmts (stmt_trees xs)) nowhere
 bare-for a n ns first last by body s xs e f =
     ap bare_stmt_of e ∙ ap bare_stmt (tree-for n ns first last by body s)
-    ∙ sym (ap (λ (x : List Stmt). count n nowhere (bare_expr (expr_tree first)) (bare_expr (expr_tree last)) (bare_expr_or_none (expr_tree_or_none by)) (bare_stmts (stmt_trees x)) nowhere) f)
+    ∙ sym (ap (λ (x : List Stmt). for_ n nowhere (bare_expr (expr_tree first)) (bare_expr (expr_tree last)) (bare_expr_or_none (expr_tree_or_none by)) (bare_stmts (stmt_trees x)) nowhere) f)
 
 -- statements are equal where their parts are
 
-choose-parts : (x y : ArmTrees) (o p : OtherTree) → choose x o ≡ choose y p → (x ≡ y) × (o ≡ p)
-choose-parts x y o p e = (cc, cc)
+if-parts : (x y : ArmTrees) (o p : OtherTree) → if_ x o ≡ if_ y p → (x ≡ y) × (o ≡ p)
+if-parts x y o p e = (cc, cc)
 
-pub same-choose : (r : Bool) (x y : ArmTrees) (o p : OtherTree) (z : StmtTree) → x ≡ y → (IsTrue r ↔ (o ≡ p))
-    → z ≡ choose x o → IsTrue r ↔ (z ≡ choose y p)
-same-choose r x y o p z e h f = (λ t. f ∙ (λ i. choose (e i) (h.0 t i)), λ q. h.1 (choose-parts x y o p (sym f ∙ q)).1)
+pub same-if : (r : Bool) (x y : ArmTrees) (o p : OtherTree) (z : StmtTree) → x ≡ y → (IsTrue r ↔ (o ≡ p))
+    → z ≡ if_ x o → IsTrue r ↔ (z ≡ if_ y p)
+same-if r x y o p z e h f = (λ t. f ∙ (λ i. if_ (e i) (h.0 t i)), λ q. h.1 (if-parts x y o p (sym f ∙ q)).1)
 
-pub other-choose : (r : Bool) (x y : ArmTrees) (o p : OtherTree) (z : StmtTree) → r ≡ false → (IsTrue r ↔ (x ≡ y))
-    → z ≡ choose x o → IsTrue r ↔ (z ≡ choose y p)
-other-choose r x y o p z e h f = (λ t. absurd cc, λ q. h.1 (choose-parts x y o p (sym f ∙ q)).0)
+pub other-if : (r : Bool) (x y : ArmTrees) (o p : OtherTree) (z : StmtTree) → r ≡ false → (IsTrue r ↔ (x ≡ y))
+    → z ≡ if_ x o → IsTrue r ↔ (z ≡ if_ y p)
+other-if r x y o p z e h f = (λ t. absurd cc, λ q. h.1 (if-parts x y o p (sym f ∙ q)).0)
 
-select-parts : (a b : ExprTree) (x y : BranchTrees) (o p : OtherTree) → select a x o nowhere ≡ select b y p nowhere
+case-parts : (a b : ExprTree) (x y : BranchTrees) (o p : OtherTree) → case a x o nowhere ≡ case b y p nowhere
     → (a ≡ b) × (x ≡ y) × (o ≡ p)
-select-parts a b x y o p e = (cc, cc, cc)
+case-parts a b x y o p e = (cc, cc, cc)
 
-pub same-select : (r : Bool) (a b : ExprTree) (x y : BranchTrees) (o p : OtherTree) (z : StmtTree) → a ≡ b → x ≡ y
-    → (IsTrue r ↔ (o ≡ p)) → z ≡ select a x o nowhere → IsTrue r ↔ (z ≡ select b y p nowhere)
-same-select r a b x y o p z d e h f =
-    (λ t. f ∙ (λ i. select (d i) (e i) (h.0 t i) nowhere), λ q. h.1 (select-parts a b x y o p (sym f ∙ q)).2)
+pub same-case : (r : Bool) (a b : ExprTree) (x y : BranchTrees) (o p : OtherTree) (z : StmtTree) → a ≡ b → x ≡ y
+    → (IsTrue r ↔ (o ≡ p)) → z ≡ case a x o nowhere → IsTrue r ↔ (z ≡ case b y p nowhere)
+same-case r a b x y o p z d e h f =
+    (λ t. f ∙ (λ i. case (d i) (e i) (h.0 t i) nowhere), λ q. h.1 (case-parts a b x y o p (sym f ∙ q)).2)
 
-pub other-select : (r : Bool) (a b : ExprTree) (x y : BranchTrees) (o p : OtherTree) (z : StmtTree) → r ≡ false
-    → (IsTrue r ↔ (x ≡ y)) → z ≡ select a x o nowhere → IsTrue r ↔ (z ≡ select b y p nowhere)
-other-select r a b x y o p z e h f = (λ t. absurd cc, λ q. h.1 (select-parts a b x y o p (sym f ∙ q)).1)
+pub other-case : (r : Bool) (a b : ExprTree) (x y : BranchTrees) (o p : OtherTree) (z : StmtTree) → r ≡ false
+    → (IsTrue r ↔ (x ≡ y)) → z ≡ case a x o nowhere → IsTrue r ↔ (z ≡ case b y p nowhere)
+other-case r a b x y o p z e h f = (λ t. absurd cc, λ q. h.1 (case-parts a b x y o p (sym f ∙ q)).1)
 
-count-parts : (n m : List ℕ) (f g l k : ExprTree) (by step : Option ExprTree) (x y : StmtTrees)
-    → count n nowhere f l by x nowhere ≡ count m nowhere g k step y nowhere → x ≡ y
-count-parts n m f g l k by step x y e = cc
+for-parts : (n m : List ℕ) (f g l k : ExprTree) (by step : Option ExprTree) (x y : StmtTrees)
+    → for_ n nowhere f l by x nowhere ≡ for_ m nowhere g k step y nowhere → x ≡ y
+for-parts n m f g l k by step x y e = cc
 
-pub same-count : (r : Bool) (n m : List ℕ) (f g l k : ExprTree) (by step : Option ExprTree) (x y : StmtTrees) (z : StmtTree)
+pub same-for : (r : Bool) (n m : List ℕ) (f g l k : ExprTree) (by step : Option ExprTree) (x y : StmtTrees) (z : StmtTree)
     → n ≡ m → (f ≡ g) × (l ≡ k) × (by ≡ step) → (IsTrue r ↔ (x ≡ y))
-    → z ≡ count n nowhere f l by x nowhere → IsTrue r ↔ (z ≡ count m nowhere g k step y nowhere)
-same-count r n m f g l k by step x y z d e h w = (
-  λ t. w ∙ (λ i. count (d i) nowhere (e.0 i) (e.1 i) (e.2 i) (h.0 t i) nowhere),
-  λ q. h.1 (count-parts n m f g l k by step x y (sym w ∙ q)),
+    → z ≡ for_ n nowhere f l by x nowhere → IsTrue r ↔ (z ≡ for_ m nowhere g k step y nowhere)
+same-for r n m f g l k by step x y z d e h w = (
+  λ t. w ∙ (λ i. for_ (d i) nowhere (e.0 i) (e.1 i) (e.2 i) (h.0 t i) nowhere),
+  λ q. h.1 (for-parts n m f g l k by step x y (sym w ∙ q)),
 )

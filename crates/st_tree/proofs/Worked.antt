@@ -6,8 +6,9 @@ use Rattle.vcp_base.specs.declared.ty.Ty.TheVariants as ty
 use Rattle.st_tree.specs.declared.expr.UnOp.TheVariants as sign
 use Rattle.st_tree.specs.declared.expr.BinOp.TheVariants as op
 use Rattle.st_tree.specs.declared.program.Class.TheVariants as class
-use Rattle.st_tree.specs.ExprTree.{ExprTree, literal, name, unary, binary, call, no_exprs, and_expr, exprs_and}
-use Rattle.st_tree.specs.StmtTree.{StmtTree, StmtTrees, ArmTrees, LabelTree, assign, choose, select, count, no_stmts, and_stmt, no_arms, and_arm, no_branches, and_branch, no_other, other, stmts_and, arms_and, branches_and}
+use Rattle.st_tree.specs.ExprTree.{ExprTree, literal, name, unary, binary, call, no_exprs, and_expr}
+use Rattle.st_tree.specs.StmtTree.{StmtTree, StmtTrees, ArmTrees, LabelTree, assign, if_, case, for_, no_stmts, and_stmt, no_arms, and_arm, no_branches, and_branch, no_other, other}
+use Rattle.st_tree.specs.Appended.{exprs_and, stmts_and, arms_and, branches_and}
 use Rattle.st_tree.specs.Bare.{nowhere, bare_expr, bare_stmt, bare}
 
 -- a place of the first line
@@ -34,22 +35,22 @@ assignment : bare_stmt (assign y (name a (at 6)) (at 1)) ≡ assign y (name a no
 assignment = refl
 
 -- IF a THEN y := a; ELSE END_IF
-choice : bare_stmt (choose (and_arm (name a (at 4)) (and_stmt (assign y (name a (at 16)) (at 11)) no_stmts) (at 1) no_arms) (other no_stmts))
-    ≡ choose (and_arm (name a nowhere) (and_stmt (assign y (name a nowhere) nowhere) no_stmts) nowhere no_arms) (other no_stmts)
+choice : bare_stmt (if_ (and_arm (name a (at 4)) (and_stmt (assign y (name a (at 16)) (at 11)) no_stmts) (at 1) no_arms) (other no_stmts))
+    ≡ if_ (and_arm (name a nowhere) (and_stmt (assign y (name a nowhere) nowhere) no_stmts) nowhere no_arms) (other no_stmts)
 choice = refl
 
 -- no ELSE isn't an empty one
-no-else : (arms : ArmTrees) → bare_stmt (choose arms no_other) ≡ bare_stmt (choose arms (other no_stmts)) → ⊥
+no-else : (arms : ArmTrees) → bare_stmt (if_ arms no_other) ≡ bare_stmt (if_ arms (other no_stmts)) → ⊥
 no-else arms e = cc
 
 -- a range is kept
-selection : bare_stmt (select (name a (at 6)) (and_branch (record { first = literal None (pos 3) (at 11); last = Some (literal None (pos 5) (at 14)) } ∷ []) no_stmts no_branches) no_other (at 1))
-    ≡ select (name a nowhere) (and_branch (record { first = literal None (pos 3) nowhere; last = Some (literal None (pos 5) nowhere) } ∷ []) no_stmts no_branches) no_other nowhere
+selection : bare_stmt (case (name a (at 6)) (and_branch (record { first = literal None (pos 3) (at 11); last = Some (literal None (pos 5) (at 14)) } ∷ []) no_stmts no_branches) no_other (at 1))
+    ≡ case (name a nowhere) (and_branch (record { first = literal None (pos 3) nowhere; last = Some (literal None (pos 5) nowhere) } ∷ []) no_stmts no_branches) no_other nowhere
 selection = refl
 
 -- both spots of a FOR are set aside, its step is kept
-repetition : bare_stmt (count y (at 5) (literal None (pos 1) (at 10)) (literal None (pos 9) (at 15)) (Some (literal None (pos 2) (at 20))) no_stmts (at 1))
-    ≡ count y nowhere (literal None (pos 1) nowhere) (literal None (pos 9) nowhere) (Some (literal None (pos 2) nowhere)) no_stmts nowhere
+repetition : bare_stmt (for_ y (at 5) (literal None (pos 1) (at 10)) (literal None (pos 9) (at 15)) (Some (literal None (pos 2) (at 20))) no_stmts (at 1))
+    ≡ for_ y nowhere (literal None (pos 1) nowhere) (literal None (pos 9) nowhere) (Some (literal None (pos 2) nowhere)) no_stmts nowhere
 repetition = refl
 
 -- PROGRAM f VAR_INPUT a : INT; END_VAR END_PROGRAM

@@ -2,7 +2,7 @@
 use Rattle.std.specs.Prelude.{Option, Some, None, map}
 use Rattle.vcp_base.specs.declared.spot.Spot.{Spot}
 use Rattle.st_tree.specs.ExprTree.{ExprTree, ExprTrees, literal, name, unary, binary, call, no_exprs, and_expr}
-use Rattle.st_tree.specs.StmtTree.{LabelTree, StmtTree, StmtTrees, ArmTrees, BranchTrees, OtherTree, assign, choose, select, count, no_stmts, and_stmt, no_arms, and_arm, no_branches, and_branch, no_other, other}
+use Rattle.st_tree.specs.StmtTree.{LabelTree, StmtTree, StmtTrees, ArmTrees, BranchTrees, OtherTree, assign, if_, case, for_, no_stmts, and_stmt, no_arms, and_arm, no_branches, and_branch, no_other, other}
 use Rattle.st_tree.specs.ProgramTree.{DeclaredTree, DeclTree, BlockTree, ProgramTree}
 
 -- no place in a source
@@ -31,10 +31,10 @@ bare_label l = record { first = bare_expr l.first; last = bare_expr_or_none l.la
 abbrev mutual
   pub bare_stmt : StmtTree → StmtTree
   bare_stmt (assign n e s) = assign n (bare_expr e) nowhere
-  bare_stmt (choose arms o) = choose (bare_arms arms) (bare_other o)
-  bare_stmt (select e branches o s) = select (bare_expr e) (bare_branches branches) (bare_other o) nowhere
-  bare_stmt (count n ns f l by body s) =
-      count n nowhere (bare_expr f) (bare_expr l) (bare_expr_or_none by) (bare_stmts body) nowhere
+  bare_stmt (if_ arms o) = if_ (bare_arms arms) (bare_other o)
+  bare_stmt (case e branches o s) = case (bare_expr e) (bare_branches branches) (bare_other o) nowhere
+  bare_stmt (for_ n ns f l by body s) =
+      for_ n nowhere (bare_expr f) (bare_expr l) (bare_expr_or_none by) (bare_stmts body) nowhere
 
   pub bare_stmts : StmtTrees → StmtTrees
   bare_stmts no_stmts = no_stmts

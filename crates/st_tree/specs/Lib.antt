@@ -1,6 +1,10 @@
 pub mod ExprTree
 pub mod StmtTree
 pub mod ProgramTree
+pub mod ExprViews
+pub mod StmtViews
+pub mod ProgramViews
+pub mod Appended
 pub mod Items
 pub mod Bare
 pub mod Declarable

@@ -2,7 +2,9 @@
 
 ghost use Rattle.std.specs.Prelude.{◌≡◌, ◌<◌, ◌+◌, [], ◌∷◌, ◌++◌, Some, IfOk, OnOk, OnErr, drop, length, slice_get};
 ghost use Rattle.st_tree.specs.declared.expr.Expr.{Call};
-ghost use Rattle.st_tree.specs.ExprTree.{literal, name as name_tree, unary as unary_tree, binary as binary_tree, call as call_tree, no_exprs, and_expr, expr_tree, expr_trees, exprs_and};
+ghost use Rattle.st_tree.specs.ExprTree.{literal, name as name_tree, unary as unary_tree, binary as binary_tree, call as call_tree, no_exprs, and_expr};
+ghost use Rattle.st_tree.specs.Appended.{exprs_and};
+ghost use Rattle.st_tree.specs.ExprViews.{expr_tree, expr_trees};
 
 use std::alloc::Global;
 use std::boxed::Box;

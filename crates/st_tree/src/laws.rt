@@ -11,16 +11,19 @@ ghost use Rattle.st_tree.specs.declared.stmt.Branch.{Branch};
 ghost use Rattle.st_tree.specs.declared.stmt.Branches.{Branches};
 ghost use Rattle.st_tree.specs.declared.stmt.Stmt.{Stmt, If, Case, For};
 ghost use Rattle.st_tree.specs.declared.stmt.Stmts.{Stmts};
-ghost use Rattle.st_tree.specs.ExprTree.{call, expr_tree, expr_trees, exprs_and, expr_tree_or_none};
+ghost use Rattle.st_tree.specs.ExprTree.{call};
+ghost use Rattle.st_tree.specs.StmtTree.{if_, case, for_};
+ghost use Rattle.st_tree.specs.Appended.{exprs_and, stmts_and, arms_and, branches_and};
+ghost use Rattle.st_tree.specs.ExprViews.{expr_tree, expr_trees, expr_tree_or_none};
+ghost use Rattle.st_tree.specs.StmtViews.{label_trees, stmt_tree, stmt_trees, arm_trees, branch_trees, other_tree};
 ghost use Rattle.st_tree.specs.Items.{arm_items, branch_items};
-ghost use Rattle.st_tree.specs.StmtTree.{choose, select, count, label_trees, stmt_tree, stmt_trees, arm_trees, branch_trees, other_tree, stmts_and, arms_and, branches_and};
 
 /// What a node holds that has lists: the trees of their items.
 pub fn trees_of_nodes()
     ensures call { (name : Text) (args : Exprs) (spot : Spot) → expr_tree (Call name args spot) ≡ call name (expr_trees args.items.items) spot }
-    ensures choose { (arms : Arms) (other : Option Stmts) → stmt_tree (If arms other) ≡ choose (arm_trees (arm_items arms)) (other_tree other) }
-    ensures select { (on : Expr) (branches : Branches) (other : Option Stmts) (spot : Spot) → stmt_tree (Case on branches other spot) ≡ select (expr_tree on) (branch_trees (branch_items branches)) (other_tree other) spot }
-    ensures count { (name : Text) (name_spot : Spot) (first last : Expr) (by : Option Expr) (body : Stmts) (spot : Spot) → stmt_tree (For name name_spot first last by body spot) ≡ count name name_spot (expr_tree first) (expr_tree last) (expr_tree_or_none by) (stmt_trees body.items.items) spot }
+    ensures if_ { (arms : Arms) (other : Option Stmts) → stmt_tree (If arms other) ≡ if_ (arm_trees (arm_items arms)) (other_tree other) }
+    ensures case { (on : Expr) (branches : Branches) (other : Option Stmts) (spot : Spot) → stmt_tree (Case on branches other spot) ≡ case (expr_tree on) (branch_trees (branch_items branches)) (other_tree other) spot }
+    ensures for_ { (name : Text) (name_spot : Spot) (first last : Expr) (by : Option Expr) (body : Stmts) (spot : Spot) → stmt_tree (For name name_spot first last by body spot) ≡ for_ name name_spot (expr_tree first) (expr_tree last) (expr_tree_or_none by) (stmt_trees body.items.items) spot }
 {}
 
 /// The trees of a list with one item more are the trees of the list with one tree more.

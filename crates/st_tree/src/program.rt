@@ -1,7 +1,7 @@
 //! Programs and their declarations.
 
 ghost use Rattle.std.specs.Prelude.{◌≡◌, ◌<◌, ◌+◌, [], ◌∷◌, ◌++◌, Some, OnOk, OnErr, drop, length, slice_get, map};
-ghost use Rattle.st_tree.specs.ProgramTree.{declared_tree, decl_tree, block_tree};
+ghost use Rattle.st_tree.specs.ProgramViews.{declared_tree, decl_tree, block_tree};
 
 use crate::expr::Expr;
 use crate::stmt::Stmts;

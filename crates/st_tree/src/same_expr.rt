@@ -2,7 +2,8 @@
 
 ghost use Rattle.std.specs.Prelude.{◌≡◌, ◌↔◌, IsTrue};
 ghost use Rattle.st_tree.specs.Bare.{nowhere, bare_expr, bare_exprs, bare_expr_or_none};
-ghost use Rattle.st_tree.specs.ExprTree.{literal, name as name_tree, unary as unary_tree, binary as binary_tree, call as call_tree, expr_tree, expr_trees, expr_tree_or_none};
+ghost use Rattle.st_tree.specs.ExprTree.{literal, name as name_tree, unary as unary_tree, binary as binary_tree, call as call_tree};
+ghost use Rattle.st_tree.specs.ExprViews.{expr_tree, expr_trees, expr_tree_or_none};
 
 use crate::expr::{BinOp, Expr, UnOp};
 use vcp_base::{Text, Ty};

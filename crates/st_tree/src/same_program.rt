@@ -2,7 +2,7 @@
 
 ghost use Rattle.std.specs.Prelude.{◌≡◌, ◌↔◌, IsTrue, map};
 ghost use Rattle.st_tree.specs.Bare.{bare, bare_declared, bare_decl, bare_block};
-ghost use Rattle.st_tree.specs.ProgramTree.{declared_tree, decl_tree, block_tree, program_tree};
+ghost use Rattle.st_tree.specs.ProgramViews.{declared_tree, decl_tree, block_tree, program_tree};
 
 use crate::program::{Block, Decl, Declared, Program};
 use crate::same_expr::{same_expr_or_none, same_text};

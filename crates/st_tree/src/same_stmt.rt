@@ -2,8 +2,9 @@
 
 ghost use Rattle.std.specs.Prelude.{◌≡◌, ◌↔◌, IsTrue, map};
 ghost use Rattle.st_tree.specs.Bare.{nowhere, bare_expr, bare_expr_or_none, bare_label, bare_stmt, bare_stmts, bare_arms, bare_branches, bare_other};
-ghost use Rattle.st_tree.specs.ExprTree.{expr_tree, expr_tree_or_none};
-ghost use Rattle.st_tree.specs.StmtTree.{label_tree, label_trees, assign as assign_tree, choose as choose_tree, select as select_tree, count as count_tree, stmt_tree, stmt_trees, arm_trees, branch_trees, other_tree};
+ghost use Rattle.st_tree.specs.StmtTree.{assign as assign_tree, if_ as if_tree, case as case_tree, for_ as for_tree};
+ghost use Rattle.st_tree.specs.ExprViews.{expr_tree, expr_tree_or_none};
+ghost use Rattle.st_tree.specs.StmtViews.{label_tree, label_trees, stmt_tree, stmt_trees, arm_trees, branch_trees, other_tree};
 
 use crate::expr::Expr;
 use crate::same_expr::{same_expr, same_expr_or_none, same_text};
@@ -38,13 +39,13 @@ pub fn same_stmt(a: &Stmt, b: &Stmt) -> bool
 {
     match b {
         Stmt::Assign { name, value, .. } => is_assign(a, name, value),
-        Stmt::If { arms, other } => is_choose(a, &arms.items, other),
+        Stmt::If { arms, other } => is_if(a, &arms.items, other),
         Stmt::Case {
             on,
             branches,
             other,
             ..
-        } => is_select(a, on, &branches.items, other),
+        } => is_case(a, on, &branches.items, other),
         Stmt::For {
             name,
             first,
@@ -52,7 +53,7 @@ pub fn same_stmt(a: &Stmt, b: &Stmt) -> bool
             by,
             body,
             ..
-        } => is_count(a, name, first, last, by, &body.items),
+        } => is_for(a, name, first, last, by, &body.items),
     }
 }
 
@@ -72,10 +73,10 @@ fn is_assign(a: &Stmt, name: &Text, value: &Expr) -> bool
 }
 
 #[cycle(same_stmt)]
-fn is_choose(a: &Stmt, arms: &[Arm], other: &Option<Stmts>) -> bool
+fn is_if(a: &Stmt, arms: &[Arm], other: &Option<Stmts>) -> bool
     ensures { IsTrue result
         ↔ (bare_stmt (stmt_tree a.now)
-        ≡ choose_tree (bare_arms (arm_trees arms.now)) (bare_other (other_tree other.now))) }
+        ≡ if_tree (bare_arms (arm_trees arms.now)) (bare_other (other_tree other.now))) }
 {
     match a {
         Stmt::If {
@@ -87,10 +88,10 @@ fn is_choose(a: &Stmt, arms: &[Arm], other: &Option<Stmts>) -> bool
 }
 
 #[cycle(same_stmt)]
-fn is_select(a: &Stmt, on: &Expr, branches: &[Branch], other: &Option<Stmts>) -> bool
+fn is_case(a: &Stmt, on: &Expr, branches: &[Branch], other: &Option<Stmts>) -> bool
     ensures { IsTrue result
         ↔ (bare_stmt (stmt_tree a.now)
-        ≡ select_tree
+        ≡ case_tree
         (bare_expr (expr_tree on.now))
         (bare_branches (branch_trees branches.now))
         (bare_other (other_tree other.now))
@@ -131,7 +132,7 @@ fn same_bounds(
 }
 
 #[cycle(same_stmt)]
-fn is_count(
+fn is_for(
     a: &Stmt,
     name: &Text,
     first: &Expr,
@@ -141,7 +142,7 @@ fn is_count(
 ) -> bool
     ensures { IsTrue result
         ↔ (bare_stmt (stmt_tree a.now)
-        ≡ count_tree
+        ≡ for_tree
         name.now
         nowhere
         (bare_expr (expr_tree first.now))

@@ -2,9 +2,11 @@
 
 ghost use Rattle.std.specs.Prelude.{◌≡◌, ◌<◌, ◌+◌, [], ◌∷◌, ◌++◌, Some, OnOk, OnErr, drop, length, slice_get};
 ghost use Rattle.st_tree.specs.declared.stmt.Stmt.{If, Case, For};
-ghost use Rattle.st_tree.specs.ExprTree.{expr_tree, expr_tree_or_none};
+ghost use Rattle.st_tree.specs.StmtTree.{assign as assign_tree, if_ as if_tree, case as case_tree, for_ as for_tree, no_stmts, and_stmt, no_arms, and_arm, no_branches, and_branch};
+ghost use Rattle.st_tree.specs.Appended.{stmts_and, arms_and, branches_and};
+ghost use Rattle.st_tree.specs.ExprViews.{expr_tree, expr_tree_or_none};
+ghost use Rattle.st_tree.specs.StmtViews.{label_tree, label_trees, stmt_tree, stmt_trees, arm_trees, branch_trees, other_tree};
 ghost use Rattle.st_tree.specs.Items.{arm_items, branch_items};
-ghost use Rattle.st_tree.specs.StmtTree.{label_tree, label_trees, assign as assign_tree, choose as choose_tree, select as select_tree, count as count_tree, no_stmts, and_stmt, no_arms, and_arm, no_branches, and_branch, stmt_tree, stmt_trees, arm_trees, branch_trees, other_tree, stmts_and, arms_and, branches_and};
 
 use crate::expr::Expr;
 use std::alloc::Global;
@@ -269,16 +271,16 @@ impl Stmt {
     }
 
     /// IF with its ELSIFs, and the body of ELSE where there is one.
-    pub fn choose(arms: Arms, other: Option<Stmts>) -> Stmt
-        ensures { stmt_tree result ≡ choose_tree (arm_trees (arm_items arms)) (other_tree other) }
+    pub fn if_(arms: Arms, other: Option<Stmts>) -> Stmt
+        ensures { stmt_tree result ≡ if_tree (arm_trees (arm_items arms)) (other_tree other) }
     {
         Stmt::If { arms, other }
     }
 
     /// CASE with its branches, and the body of ELSE where there is one.
-    pub fn select(on: Expr, branches: Branches, other: Option<Stmts>, spot: Spot) -> Stmt
+    pub fn case(on: Expr, branches: Branches, other: Option<Stmts>, spot: Spot) -> Stmt
         ensures { stmt_tree result
-            ≡ select_tree (expr_tree on) (branch_trees (branch_items branches)) (other_tree other) spot }
+            ≡ case_tree (expr_tree on) (branch_trees (branch_items branches)) (other_tree other) spot }
     {
         Stmt::Case {
             on,
@@ -289,7 +291,7 @@ impl Stmt {
     }
 
     /// FOR, with the step where one is given.
-    pub fn count(
+    pub fn for_(
         name: Text,
         name_spot: Spot,
         first: Expr,
@@ -299,7 +301,7 @@ impl Stmt {
         spot: Spot,
     ) -> Stmt
         ensures { stmt_tree result
-            ≡ count_tree
+            ≡ for_tree
             name
             name_spot
             (expr_tree first)
@@ -322,13 +324,13 @@ impl Stmt {
     /// A law: what an IF of these parts holds.
     pub fn if_holds(arms: &Arms, other: &Option<Stmts>)
         ensures { stmt_tree (If arms.now other.now)
-            ≡ choose_tree (arm_trees (arm_items arms.now)) (other_tree other.now) }
+            ≡ if_tree (arm_trees (arm_items arms.now)) (other_tree other.now) }
     {}
 
     /// A law: what a CASE of these parts holds.
     pub fn case_holds(on: &Expr, branches: &Branches, other: &Option<Stmts>, spot: Spot)
         ensures { stmt_tree (Case on.now branches.now other.now spot)
-            ≡ select_tree
+            ≡ case_tree
             (expr_tree on.now)
             (branch_trees (branch_items branches.now))
             (other_tree other.now)
@@ -346,7 +348,7 @@ impl Stmt {
         spot: Spot,
     )
         ensures { stmt_tree (For name.now name_spot first.now last.now by.now body.now spot)
-            ≡ count_tree
+            ≡ for_tree
             name.now
             name_spot
             (expr_tree first.now)

@@ -235,7 +235,7 @@ impl Maker {
         if !self.has(Change::ArmLost) {
             arms.push(self.second_arm()?)?;
         }
-        Ok(Stmt::choose(arms, self.other()?))
+        Ok(Stmt::if_(arms, self.other()?))
     }
 
     /// `1, 3..5`
@@ -282,9 +282,9 @@ impl Maker {
         let branches = self.branches()?;
         if self.has(Change::CaseElse) {
             let other = Some(Stmts::new(self.alloc));
-            return Ok(Stmt::select(on, branches, other, self.spot(10)));
+            return Ok(Stmt::case(on, branches, other, self.spot(10)));
         }
-        Ok(Stmt::select(on, branches, None, self.spot(10)))
+        Ok(Stmt::case(on, branches, None, self.spot(10)))
     }
 
     /// `FOR i := 1 TO 9 BY 2 DO y := 3; END_FOR`
@@ -293,7 +293,7 @@ impl Maker {
         let body = self.one_statement(self.assign(three)?)?;
         let name = self.text_or(b"i", Change::ControlVariable, b"j")?;
         let step = self.number_or(2, Change::Step, 3);
-        Ok(Stmt::count(
+        Ok(Stmt::for_(
             name,
             self.spot(12),
             self.number_or(1, Change::FirstValue, 2),

@@ -6,7 +6,7 @@ use Rattle.st_lexer.specs.declared.token.Sym.TheVariants as symbol
 use Rattle.st_lexer.specs.declared.token.Tok.TheVariants as tok
 use Rattle.st_lexer.specs.declared.token.Token.{Token}
 use Rattle.st_tree.specs.ExprTree.{ExprTree}
-use Rattle.st_tree.specs.StmtTree.{StmtTree, StmtTrees, ArmTrees, BranchTrees, OtherTree, assign, choose, select, count, no_stmts, and_stmt, no_arms, and_arm, no_branches, and_branch, no_other, other}
+use Rattle.st_tree.specs.StmtTree.{StmtTree, StmtTrees, ArmTrees, BranchTrees, OtherTree, assign, if_, case, for_, no_stmts, and_stmt, no_arms, and_arm, no_branches, and_branch, no_other, other}
 use Rattle.st_tree.specs.Bare.{bare_expr_or_none, bare_stmt, bare_stmts, bare_arms, bare_branches, bare_other, nowhere}
 use Rattle.st_spelling.specs.Operators.{any_level}
 use Rattle.st_spelling.specs.Placed.{Placed, at, Within}
@@ -167,7 +167,7 @@ module _ (b c : Token → List ℕ) (limit : ℕ) where
         }
     stmt_again (spells_if arms o ts s) within n le i us w =
         let q = arms_again s within n le i us w in
-        record { tree = choose q.trees q.otherwise; ended = q.ended; spells = spells_if q.trees q.otherwise q.ended.placing.placed q.spells; same = λ j. choose (q.same j) (q.same_other j) }
+        record { tree = if_ q.trees q.otherwise; ended = q.ended; spells = spells_if q.trees q.otherwise q.ended.placing.placed q.spells; same = λ j. if_ (q.same j) (q.same_other j) }
     stmt_again {d = d} (spells_case e cases o t f ts vs kt s kf u) within n le i us w =
         let rest = canon.branches_of i cases ++ (canon.else_of i o ++ end_line i key.EndCase) in
         let h = heading i key.Case key.Of e rest us w in
@@ -176,10 +176,10 @@ module _ (b c : Token → List ℕ) (limit : ℕ) where
         let p = expr_again b c limit s parts.0 n le (omega arith) h.middle h.middle_is in
         let q = branches_again u parts.1.1 n le i h.back h.back_is in
         record {
-          tree = select p.tree q.trees q.otherwise h.first.spot;
+          tree = case p.tree q.trees q.otherwise h.first.spot;
           ended = headed n us most h p.placing q.ended;
           spells = spells_case p.tree q.trees q.otherwise h.first h.last p.placing.placed q.ended.placing.placed h.first_is p.spells h.last_is q.spells;
-          same = λ j. select (p.same j) (q.same j) (q.same_other j) nowhere;
+          same = λ j. case (p.same j) (q.same j) (q.same_other j) nowhere;
         }
     stmt_again {d = d} (spells_for first last by body f x a t o e ts vs ws zs kf kx ka s kt u st ko v ke) within n le i us w =
         let most : n ≤ limit = omega (arith, le, within.0) in
@@ -195,8 +195,8 @@ module _ (b c : Token → List ℕ) (limit : ℕ) where
         let behind_last : List Lexeme = lexeme.blank ∷ (step ++ do_) in
         let behind_first : List Lexeme = lexeme.blank ∷ lexeme.word key.To ∷ lexeme.blank ∷ (expr any_level last ++ behind_last) in
         -- the tokens: FOR, the name, `:=`, the first value, TO, the last one, the step, DO, the body and the end
-        let for_ = line_before c i (lexeme.word key.For ∷ lexeme.blank ∷ lexeme.name (b x) ∷ lexeme.blank ∷ lexeme.symbol symbol.Assign ∷ lexeme.blank ∷ (expr any_level first ++ behind_first)) below us w in
-        let named = for_.5 in
+        let opening = line_before c i (lexeme.word key.For ∷ lexeme.blank ∷ lexeme.name (b x) ∷ lexeme.blank ∷ lexeme.symbol symbol.Assign ∷ lexeme.blank ∷ (expr any_level first ++ behind_first)) below us w in
+        let named = opening.5 in
         let assigned = named.5 in
         let r = cut c (expr any_level first) (behind_first ++ below) assigned.1 (regrouped c (expr any_level first) behind_first below assigned.1 assigned.5) in
         let to = r.back_is in
@@ -215,11 +215,11 @@ module _ (b c : Token → List ℕ) (limit : ℕ) where
         let from_last : Ended limit to.1 = ended_both limit r_last.front r_last.back to.1 r_last.parts q.placing from_step in
         let from_first : Ended limit assigned.1 = ended_both limit r.front r.back assigned.1 r.parts p.placing (ended_token limit n to.0 to.1 r.back most to.2 from_last) in
         record {
-          tree = count (c named.0) named.0.spot p.tree q.tree y.tree m.trees for_.0.spot;
-          ended = ended_token limit n for_.0 for_.1 us most for_.2 (ended_token limit n named.0 named.1 for_.1 most named.2 (ended_token limit n assigned.0 assigned.1 named.1 most assigned.2 from_first));
-          spells = spells_for p.tree q.tree y.tree m.trees for_.0 named.0 assigned.0 to.0 does.0 z.token p.placing.placed q.placing.placed y.placing.placed m.placing.placed
-              for_.3 named.3 assigned.3 p.spells to.3 q.spells y.spells does.3 m.spells z.is;
-          same = λ j. count (named.4 j) nowhere (p.same j) (q.same j) (y.same j) (m.same j) nowhere;
+          tree = for_ (c named.0) named.0.spot p.tree q.tree y.tree m.trees opening.0.spot;
+          ended = ended_token limit n opening.0 opening.1 us most opening.2 (ended_token limit n named.0 named.1 opening.1 most named.2 (ended_token limit n assigned.0 assigned.1 named.1 most assigned.2 from_first));
+          spells = spells_for p.tree q.tree y.tree m.trees opening.0 named.0 assigned.0 to.0 does.0 z.token p.placing.placed q.placing.placed y.placing.placed m.placing.placed
+              opening.3 named.3 assigned.3 p.spells to.3 q.spells y.spells does.3 m.spells z.is;
+          same = λ j. for_ (named.4 j) nowhere (p.same j) (q.same j) (y.same j) (m.same j) nowhere;
         }
 
     pub stmts_again : {d : ℕ} {ss : StmtTrees} {ps : List Placed} → SpellsStmts b d ss ps → Within limit ps → (n : ℕ) → n ≤ d → (i : ℕ) (us : List Token) → Written c (canon.stmts i ss) us → StmtsAgain c limit n ss us

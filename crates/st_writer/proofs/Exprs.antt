@@ -3,7 +3,8 @@ use Rattle.std.proofs.Common.{◌≡◌, ℕ, suc, ◌≤◌, Bool, true, false,
 use Rattle.st_lexer.specs.declared.token.Sym.TheVariants as symbols
 use Rattle.vcp_base.specs.declared.spot.Spot.{Spot}
 use Rattle.st_tree.specs.declared.expr.Expr.{Expr}
-use Rattle.st_tree.specs.ExprTree.{call, expr_tree, expr_trees}
+use Rattle.st_tree.specs.ExprTree.{call}
+use Rattle.st_tree.specs.ExprViews.{expr_tree, expr_trees}
 use Rattle.st_spelling.specs.Operators.{any_level}
 use Rattle.st_writer.specs.Lexemes as lexeme
 use Rattle.st_writer.specs.Lexemes.{Lexeme}

@@ -5,7 +5,7 @@ use Rattle.st_lexer.specs.declared.token.Key.TheVariants as key
 use Rattle.st_lexer.specs.declared.token.Sym.TheVariants as symbol
 use Rattle.st_tree.specs.declared.expr.UnOp.TheVariants as un
 use Rattle.st_tree.specs.ExprTree.{ExprTree, literal, name, unary, binary, call}
-use Rattle.st_tree.specs.StmtTree.{LabelTree, StmtTree, StmtTrees, ArmTrees, BranchTrees, OtherTree, assign, choose, select, count, no_stmts, and_stmt, no_arms, and_arm, no_branches, and_branch, no_other, other}
+use Rattle.st_tree.specs.StmtTree.{LabelTree, StmtTree, StmtTrees, ArmTrees, BranchTrees, OtherTree, assign, if_, case, for_, no_stmts, and_stmt, no_arms, and_arm, no_branches, and_branch, no_other, other}
 use Rattle.st_spelling.specs.Operators.{any_level}
 use Rattle.st_writer.specs.Lexemes as lexeme
 use Rattle.st_writer.specs.CanonicalExpr.{expr}
@@ -139,12 +139,12 @@ mutual
       let value = expr any_level e ++ semi in
       fit-line n (lexeme.name f ∷ lexeme.blank ∷ lexeme.symbol symbol.Assign ∷ lexeme.blank ∷ value) ys
       (fit-target f (value ++ after) r.0 (fit-expr-and e semi after r.1 refl (fit-semi _, (fit-line-end _, fit))))
-  fit-stmt n (choose arms o) ys r fit =
+  fit-stmt n (if_ arms o) ys r fit =
       let end = lexeme.line n (lexeme.word key.EndIf ∷ lexeme.symbol symbol.Semi ∷ []) in
       let rest = else_of n o ++ end in
       let fit_rest : AllFit (rest ++ ys) = joined (else_of n o) end ys (fit-other n o (end ++ ys) r.1 (fit-end n key.EndIf ys fit)) in
       joined (arms_from n key.If arms) rest ys (fit-arms n key.If arms (rest ++ ys) r.0 fit_rest)
-  fit-stmt n (select e branches o s) ys r fit =
+  fit-stmt n (case e branches o s) ys r fit =
       let end = lexeme.line n (lexeme.word key.EndCase ∷ lexeme.symbol symbol.Semi ∷ []) in
       let other_and_end = else_of n o ++ end in
       let rest = branches_of n branches ++ other_and_end in
@@ -152,7 +152,7 @@ mutual
       let fit_rest : AllFit (rest ++ ys) = joined (branches_of n branches) other_and_end ys (fit-branches n branches (other_and_end ++ ys) r.1 fit_other) in
       joined (lexeme.line n (lexeme.word key.Case ∷ lexeme.blank ∷ (expr any_level e ++ lexeme.blank ∷ lexeme.word key.Of ∷ []))) rest ys
       (fit-tested n key.Case key.Of e (rest ++ ys) r.0 fit_rest)
-  fit-stmt n (count f p first last by body s) ys r fit =
+  fit-stmt n (for_ f p first last by body s) ys r fit =
       let end = lexeme.line n (lexeme.word key.EndFor ∷ lexeme.symbol symbol.Semi ∷ []) in
       let rest = stmts (suc n) body ++ end in
       let fit_rest : AllFit (rest ++ ys) = joined (stmts (suc n) body) end ys (fit-stmts (suc n) body (end ++ ys) r.4 (fit-end n key.EndFor ys fit)) in

@@ -8,7 +8,7 @@ use Rattle.st_lexer.specs.declared.token.Tok.TheVariants as tok
 use Rattle.st_lexer.specs.Literals.{begins_word, is_word, takes_sign}
 use Rattle.st_lexer.specs.Words as words
 use Rattle.st_tree.specs.ExprTree.{ExprTree, ExprTrees, literal, name, unary, binary, call, no_exprs, and_expr}
-use Rattle.st_tree.specs.StmtTree.{LabelTree, StmtTree, StmtTrees, ArmTrees, BranchTrees, OtherTree, assign, choose, select, count, no_stmts, and_stmt, no_arms, and_arm, no_branches, and_branch, no_other, other}
+use Rattle.st_tree.specs.StmtTree.{LabelTree, StmtTree, StmtTrees, ArmTrees, BranchTrees, OtherTree, assign, if_, case, for_, no_stmts, and_stmt, no_arms, and_arm, no_branches, and_branch, no_other, other}
 use Rattle.st_tree.specs.ProgramTree.{DeclaredTree, DeclTree, BlockTree, ProgramTree}
 
 -- a word that is read as this token
@@ -49,9 +49,9 @@ ReadableLabels (l ∷ ls) = ReadableExpr l.first × ReadableOrNone l.last × Rea
 abbrev mutual
   pub ReadableStmt : StmtTree → Type 0
   ReadableStmt (assign n e s) = IsName n × ReadableExpr e
-  ReadableStmt (choose arms o) = ReadableArms arms × ReadableOther o
-  ReadableStmt (select e branches o s) = ReadableExpr e × ReadableBranches branches × ReadableOther o
-  ReadableStmt (count n ns first last by body s) =
+  ReadableStmt (if_ arms o) = ReadableArms arms × ReadableOther o
+  ReadableStmt (case e branches o s) = ReadableExpr e × ReadableBranches branches × ReadableOther o
+  ReadableStmt (for_ n ns first last by body s) =
       IsName n × ReadableExpr first × ReadableExpr last × ReadableOrNone by × ReadableStmts body
 
   pub ReadableStmts : StmtTrees → Type 0

@@ -3,7 +3,8 @@ use Rattle.std.proofs.Common.{◌≡◌, ℕ, suc, ◌≤◌, List, [], ◌∷�
 use Rattle.std.specs.Prelude.{flat_map, map}
 use Rattle.st_lexer.specs.declared.token.Sym.TheVariants as symbols
 use Rattle.st_tree.specs.declared.program.Declared.{Declared}
-use Rattle.st_tree.specs.ProgramTree.{ProgramTree, declared_tree}
+use Rattle.st_tree.specs.ProgramTree.{ProgramTree}
+use Rattle.st_tree.specs.ProgramViews.{declared_tree}
 use Rattle.st_writer.specs.Lexemes as lexeme
 use Rattle.st_writer.specs.Lexemes.{Lexeme}
 use Rattle.st_writer.specs.CanonicalProgram.{names, more_names, program, canonical}

@@ -5,7 +5,7 @@ use Rattle.st_lexer.specs.declared.token.Key.TheVariants as key
 use Rattle.st_lexer.specs.declared.token.Sym.TheVariants as symbol
 use Rattle.st_tree.specs.declared.expr.UnOp.TheVariants as un
 use Rattle.st_tree.specs.ExprTree.{ExprTree, ExprTrees, literal, name, unary, binary, call, no_exprs, and_expr}
-use Rattle.st_tree.specs.StmtTree.{LabelTree, StmtTree, StmtTrees, ArmTrees, BranchTrees, OtherTree, assign, choose, select, count, no_stmts, and_stmt, no_arms, and_arm, no_branches, and_branch, no_other, other}
+use Rattle.st_tree.specs.StmtTree.{LabelTree, StmtTree, StmtTrees, ArmTrees, BranchTrees, OtherTree, assign, if_, case, for_, no_stmts, and_stmt, no_arms, and_arm, no_branches, and_branch, no_other, other}
 use Rattle.st_tree.specs.ProgramTree.{DeclaredTree, DeclTree, BlockTree, ProgramTree}
 use Rattle.st_tree.specs.Bare.{bare_expr, bare_exprs, bare_expr_or_none, bare_label, bare_stmt, bare_stmts, bare_arms, bare_branches, bare_other, bare_declared, bare_decl, bare_block, bare}
 use Rattle.st_spelling.specs.Operators.{level, any_level, unary_level}
@@ -80,17 +80,17 @@ mutual
   stmt-bare : (n : ℕ) (s : StmtTree) → stmt n (bare_stmt s) ≡ stmt n s
   stmt-bare n (assign f e s) =
       ap (λ (xs : List Lexeme). lexeme.line n (lexeme.name f ∷ lexeme.blank ∷ lexeme.symbol symbol.Assign ∷ lexeme.blank ∷ (xs ++ lexeme.symbol symbol.Semi ∷ []))) (expr-bare any_level e)
-  stmt-bare n (choose arms o) =
+  stmt-bare n (if_ arms o) =
       let first = arms-bare n key.If arms in
       let rest = else-bare n o in
       λ i. first i ++ (rest i ++ lexeme.line n (lexeme.word key.EndIf ∷ lexeme.symbol symbol.Semi ∷ []))
-  stmt-bare n (select e cases o s) =
+  stmt-bare n (case e cases o s) =
       let on = expr-bare any_level e in
       let first = branches-bare n cases in
       let rest = else-bare n o in
       λ i. lexeme.line n (lexeme.word key.Case ∷ lexeme.blank ∷ (on i ++ lexeme.blank ∷ lexeme.word key.Of ∷ []))
       ++ (first i ++ (rest i ++ lexeme.line n (lexeme.word key.EndCase ∷ lexeme.symbol symbol.Semi ∷ [])))
-  stmt-bare n (count f p first last by body s) =
+  stmt-bare n (for_ f p first last by body s) =
       let from = expr-bare any_level first in
       let to = expr-bare any_level last in
       let steps = step-bare by in

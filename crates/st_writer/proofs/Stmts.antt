@@ -14,9 +14,11 @@ use Rattle.st_tree.specs.declared.stmt.Arm.{Arm}
 use Rattle.st_tree.specs.declared.stmt.Arms.{Arms}
 use Rattle.st_tree.specs.declared.stmt.Branch.{Branch}
 use Rattle.st_tree.specs.declared.stmt.Branches.{Branches}
-use Rattle.st_tree.specs.ExprTree.{ExprTree, expr_tree, expr_tree_or_none}
+use Rattle.st_tree.specs.ExprTree.{ExprTree}
+use Rattle.st_tree.specs.StmtTree.{StmtTree, StmtTrees, ArmTrees, BranchTrees, OtherTree, if_, case, for_}
+use Rattle.st_tree.specs.ExprViews.{expr_tree, expr_tree_or_none}
+use Rattle.st_tree.specs.StmtViews.{label_tree, label_trees, stmt_tree, stmt_trees, arm_trees, branch_trees, other_tree}
 use Rattle.st_tree.specs.Items.{arm_items, branch_items}
-use Rattle.st_tree.specs.StmtTree.{StmtTree, StmtTrees, ArmTrees, BranchTrees, OtherTree, label_tree, label_trees, stmt_tree, stmt_trees, arm_trees, branch_trees, other_tree, choose, select, count}
 use Rattle.st_spelling.specs.Operators.{any_level}
 use Rattle.st_writer.specs.Lexemes as lexeme
 use Rattle.st_writer.specs.Lexemes.{Lexeme}
@@ -93,22 +95,22 @@ pub written-branches : (n : ℕ) (branches : List Branch) (i : ℕ) (old now : L
 written-branches n branches i old now h e = ends (branch_at n) branches i old now h e ∙ ap (λ (t : List Lexeme). extended old t) (branches-are n branches)
 
 -- what statements with lists hold, by the law of their nodes
-pub tree-choose : (a : Stmt) (arms : Arms) (o : Option Stmts) (xs : List Arm) → stmt_tree (If arms o) ≡ choose (arm_trees (arm_items arms)) (other_tree o)
-    → a ≡ If arms o → xs ≡ arm_items arms → stmt_tree a ≡ choose (arm_trees xs) (other_tree o)
-tree-choose a arms o xs law e f = ap stmt_tree e ∙ law ∙ ap (λ (x : List Arm). choose (arm_trees x) (other_tree o)) (sym f)
+pub tree-if : (a : Stmt) (arms : Arms) (o : Option Stmts) (xs : List Arm) → stmt_tree (If arms o) ≡ if_ (arm_trees (arm_items arms)) (other_tree o)
+    → a ≡ If arms o → xs ≡ arm_items arms → stmt_tree a ≡ if_ (arm_trees xs) (other_tree o)
+tree-if a arms o xs law e f = ap stmt_tree e ∙ law ∙ ap (λ (x : List Arm). if_ (arm_trees x) (other_tree o)) (sym f)
 
-pub tree-select : (a : Stmt) (on : Expr) (branches : Branches) (o : Option Stmts) (s : Spot) (xs : List Branch)
-    → stmt_tree (Case on branches o s) ≡ select (expr_tree on) (branch_trees (branch_items branches)) (other_tree o) s
-    → a ≡ Case on branches o s → xs ≡ branch_items branches → stmt_tree a ≡ select (expr_tree on) (branch_trees xs) (other_tree o) s
-tree-select a on branches o s xs law e f =
-    ap stmt_tree e ∙ law ∙ ap (λ (x : List Branch). select (expr_tree on) (branch_trees x) (other_tree o) s) (sym f)
+pub tree-case : (a : Stmt) (on : Expr) (branches : Branches) (o : Option Stmts) (s : Spot) (xs : List Branch)
+    → stmt_tree (Case on branches o s) ≡ case (expr_tree on) (branch_trees (branch_items branches)) (other_tree o) s
+    → a ≡ Case on branches o s → xs ≡ branch_items branches → stmt_tree a ≡ case (expr_tree on) (branch_trees xs) (other_tree o) s
+tree-case a on branches o s xs law e f =
+    ap stmt_tree e ∙ law ∙ ap (λ (x : List Branch). case (expr_tree on) (branch_trees x) (other_tree o) s) (sym f)
 
-pub tree-count : (a : Stmt) (name : Text) (ns : Spot) (first last : Expr) (by : Option Expr) (body : Stmts) (s : Spot) (xs : List Stmt)
-    → stmt_tree (For name ns first last by body s) ≡ count name ns (expr_tree first) (expr_tree last) (expr_tree_or_none by) (stmt_trees body.items.items) s
+pub tree-for : (a : Stmt) (name : Text) (ns : Spot) (first last : Expr) (by : Option Expr) (body : Stmts) (s : Spot) (xs : List Stmt)
+    → stmt_tree (For name ns first last by body s) ≡ for_ name ns (expr_tree first) (expr_tree last) (expr_tree_or_none by) (stmt_trees body.items.items) s
     → a ≡ For name ns first last by body s → xs ≡ body.items.items
-    → stmt_tree a ≡ count name ns (expr_tree first) (expr_tree last) (expr_tree_or_none by) (stmt_trees xs) s
-tree-count a name ns first last by body s xs law e f =
-    ap stmt_tree e ∙ law ∙ ap (λ (x : List Stmt). count name ns (expr_tree first) (expr_tree last) (expr_tree_or_none by) (stmt_trees x) s) (sym f)
+    → stmt_tree a ≡ for_ name ns (expr_tree first) (expr_tree last) (expr_tree_or_none by) (stmt_trees xs) s
+tree-for a name ns first last by body s xs law e f =
+    ap stmt_tree e ∙ law ∙ ap (λ (x : List Stmt). for_ name ns (expr_tree first) (expr_tree last) (expr_tree_or_none by) (stmt_trees x) s) (sym f)
 
 -- three parts, one behind the other
 three : (old a b new : List ℕ) (xs ys zs : List Lexeme) → a ≡ extended old xs → b ≡ extended a ys → new ≡ extended b zs → new ≡ extended old (xs ++ (ys ++ zs))
@@ -121,26 +123,26 @@ four old a b c new xs ys zs us e f g h =
     three a b c new ys zs us f g h ∙ ap (λ t. extended t (ys ++ (zs ++ us))) e ∙ sym (extended-append old xs (ys ++ (zs ++ us)))
 
 -- the parts of a statement, one behind the other, are the statement
-pub written-choose : (n : ℕ) (s : StmtTree) (arms : ArmTrees) (o : OtherTree) (old a b new : List ℕ) → s ≡ choose arms o
+pub written-if : (n : ℕ) (s : StmtTree) (arms : ArmTrees) (o : OtherTree) (old a b new : List ℕ) → s ≡ if_ arms o
     → a ≡ extended old (arms_from n keys.If arms) → b ≡ extended a (else_of n o)
     → new ≡ extended b (lexeme.line n (lexeme.word keys.EndIf ∷ lexeme.symbol symbols.Semi ∷ []))
     → new ≡ extended old (stmt n s)
-written-choose n s arms o old a b new d e f g =
+written-if n s arms o old a b new d e f g =
     three old a b new (arms_from n keys.If arms) (else_of n o) (lexeme.line n (lexeme.word keys.EndIf ∷ lexeme.symbol symbols.Semi ∷ [])) e f g
     ∙ ap (λ t. extended old (stmt n t)) (sym d)
 
-pub written-select : (n : ℕ) (s : StmtTree) (on : ExprTree) (bs : BranchTrees) (o : OtherTree) (spot : Spot) (old a b c new : List ℕ) → s ≡ select on bs o spot
+pub written-case : (n : ℕ) (s : StmtTree) (on : ExprTree) (bs : BranchTrees) (o : OtherTree) (spot : Spot) (old a b c new : List ℕ) → s ≡ case on bs o spot
     → a ≡ extended old (lexeme.line n (lexeme.word keys.Case ∷ lexeme.blank ∷ (expr any_level on ++ lexeme.blank ∷ lexeme.word keys.Of ∷ [])))
     → b ≡ extended a (branches_of n bs) → c ≡ extended b (else_of n o)
     → new ≡ extended c (lexeme.line n (lexeme.word keys.EndCase ∷ lexeme.symbol symbols.Semi ∷ []))
     → new ≡ extended old (stmt n s)
-written-select n s on bs o spot old a b c new d e f g h =
+written-case n s on bs o spot old a b c new d e f g h =
     four old a b c new (lexeme.line n (lexeme.word keys.Case ∷ lexeme.blank ∷ (expr any_level on ++ lexeme.blank ∷ lexeme.word keys.Of ∷ [])))
     (branches_of n bs) (else_of n o) (lexeme.line n (lexeme.word keys.EndCase ∷ lexeme.symbol symbols.Semi ∷ [])) e f g h
     ∙ ap (λ t. extended old (stmt n t)) (sym d)
 
-pub written-count : (n m : ℕ) (s : StmtTree) (name : List ℕ) (ns : Spot) (first last : ExprTree) (by : Option ExprTree) (body : StmtTrees) (spot : Spot) (old a b new : List ℕ)
-    → s ≡ count name ns first last by body spot → m ≡ suc n
+pub written-for : (n m : ℕ) (s : StmtTree) (name : List ℕ) (ns : Spot) (first last : ExprTree) (by : Option ExprTree) (body : StmtTrees) (spot : Spot) (old a b new : List ℕ)
+    → s ≡ for_ name ns first last by body spot → m ≡ suc n
     → a ≡ extended old (lexeme.line n (
     lexeme.word keys.For ∷ lexeme.blank ∷ lexeme.name name ∷ lexeme.blank ∷ lexeme.symbol symbols.Assign ∷ lexeme.blank
     ∷ (expr any_level first ++ lexeme.blank ∷ lexeme.word keys.To ∷ lexeme.blank
@@ -148,7 +150,7 @@ pub written-count : (n m : ℕ) (s : StmtTree) (name : List ℕ) (ns : Spot) (fi
     → b ≡ extended a (stmts m body)
     → new ≡ extended b (lexeme.line n (lexeme.word keys.EndFor ∷ lexeme.symbol symbols.Semi ∷ []))
     → new ≡ extended old (stmt n s)
-written-count n m s name ns first last by body spot old a b new d k e f g =
+written-for n m s name ns first last by body spot old a b new d k e f g =
     three old a b new (lexeme.line n (
     lexeme.word keys.For ∷ lexeme.blank ∷ lexeme.name name ∷ lexeme.blank ∷ lexeme.symbol symbols.Assign ∷ lexeme.blank
     ∷ (expr any_level first ++ lexeme.blank ∷ lexeme.word keys.To ∷ lexeme.blank

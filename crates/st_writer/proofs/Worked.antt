@@ -6,7 +6,7 @@ use Rattle.st_tree.specs.declared.program.Class.TheVariants as class
 use Rattle.st_tree.specs.declared.expr.UnOp.TheVariants as un
 use Rattle.st_tree.specs.declared.expr.BinOp.TheVariants as bin
 use Rattle.st_tree.specs.ExprTree.{ExprTree, literal, name, unary, binary, call, no_exprs, and_expr}
-use Rattle.st_tree.specs.StmtTree.{assign, select, no_stmts, and_stmt, no_branches, and_branch, other}
+use Rattle.st_tree.specs.StmtTree.{assign, case, no_stmts, and_stmt, no_branches, and_branch, other}
 use Rattle.st_writer.specs.Lexemes.{text_of}
 use Rattle.st_writer.specs.CanonicalExpr.{expr}
 use Rattle.st_writer.specs.CanonicalStmt.{stmt}
@@ -39,6 +39,6 @@ calls : text_of (expr 1 (call (codes "MAX") (and_expr (v (codes "a")) (and_expr 
 calls = refl
 
 -- a CASE with a negative label, a range and an ELSE
-selection : text_of (stmt 1 (select (v (codes "s")) (and_branch (record { first = unary un.Neg (v (codes "a")) o; last = None } ∷ record { first = v (codes "b"); last = Some (v (codes "c")) } ∷ []) (and_stmt (assign (codes "y") (v (codes "z")) o) no_stmts) no_branches) (other no_stmts) o))
+selection : text_of (stmt 1 (case (v (codes "s")) (and_branch (record { first = unary un.Neg (v (codes "a")) o; last = None } ∷ record { first = v (codes "b"); last = Some (v (codes "c")) } ∷ []) (and_stmt (assign (codes "y") (v (codes "z")) o) no_stmts) no_branches) (other no_stmts) o))
     ≡ codes "  CASE s OF" ++ 10 ∷ codes "    -a, b..c:" ++ 10 ∷ codes "      y := z;" ++ 10 ∷ codes "  ELSE" ++ 10 ∷ codes "  END_CASE;" ++ 10 ∷ []
 selection = refl

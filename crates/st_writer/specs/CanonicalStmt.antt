@@ -5,7 +5,7 @@ use Rattle.st_lexer.specs.declared.token.Key.TheVariants as key
 use Rattle.st_lexer.specs.declared.token.Sym.TheVariants as sym
 use Rattle.st_tree.specs.declared.expr.UnOp.TheVariants as un
 use Rattle.st_tree.specs.ExprTree.{ExprTree, literal, unary}
-use Rattle.st_tree.specs.StmtTree.{LabelTree, StmtTree, StmtTrees, ArmTrees, BranchTrees, OtherTree, assign, choose, select, count, no_stmts, and_stmt, no_arms, and_arm, no_branches, and_branch, no_other, other}
+use Rattle.st_tree.specs.StmtTree.{LabelTree, StmtTree, StmtTrees, ArmTrees, BranchTrees, OtherTree, assign, if_, case, for_, no_stmts, and_stmt, no_arms, and_arm, no_branches, and_branch, no_other, other}
 use Rattle.st_spelling.specs.Operators.{any_level}
 use Rattle.st_writer.specs.Lexemes as lexeme
 use Rattle.st_writer.specs.CanonicalExpr.{expr}
@@ -46,11 +46,11 @@ abbrev mutual
   pub stmt : ℕ → StmtTree → List lexeme.Lexeme
   stmt n (assign f e s) =
       lexeme.line n (lexeme.name f ∷ lexeme.blank ∷ lexeme.symbol sym.Assign ∷ lexeme.blank ∷ (expr any_level e ++ lexeme.symbol sym.Semi ∷ []))
-  stmt n (choose arms o) = arms_from n key.If arms ++ (else_of n o ++ lexeme.line n (lexeme.word key.EndIf ∷ lexeme.symbol sym.Semi ∷ []))
-  stmt n (select e branches o s) =
+  stmt n (if_ arms o) = arms_from n key.If arms ++ (else_of n o ++ lexeme.line n (lexeme.word key.EndIf ∷ lexeme.symbol sym.Semi ∷ []))
+  stmt n (case e branches o s) =
       lexeme.line n (lexeme.word key.Case ∷ lexeme.blank ∷ (expr any_level e ++ lexeme.blank ∷ lexeme.word key.Of ∷ []))
       ++ (branches_of n branches ++ (else_of n o ++ lexeme.line n (lexeme.word key.EndCase ∷ lexeme.symbol sym.Semi ∷ [])))
-  stmt n (count f p first last by body s) =
+  stmt n (for_ f p first last by body s) =
       lexeme.line n (
       lexeme.word key.For ∷ lexeme.blank ∷ lexeme.name f ∷ lexeme.blank ∷ lexeme.symbol sym.Assign ∷ lexeme.blank
       ∷ (expr any_level first ++ lexeme.blank ∷ lexeme.word key.To ∷ lexeme.blank

@@ -60,7 +60,9 @@ truth v = number (Some ty.Bool) v
 -- a literal
 abbrev pub literal : Option Ty → ℤ → Lexeme
 literal (Some ty.Bool) v = truth v
-literal t v = number t v
+literal (Some ty.Int) v = number (Some ty.Int) v
+literal (Some ty.Dint) v = number (Some ty.Dint) v
+literal None v = number None v
 
 -- two spaces a level
 abbrev pub indent : ℕ → List Lexeme

@@ -3,7 +3,7 @@
 ghost use Rattle.std.specs.Prelude.{◌≡◌, ◌++◌, ◌∷◌, ◌≤◌, [], OnOk};
 ghost use Rattle.st_lexer.specs.declared.token.Sym.TheVariants as sym;
 ghost use Rattle.st_spelling.specs.Operators as operators;
-ghost use Rattle.st_tree.specs.ExprTree.{expr_tree, expr_trees};
+ghost use Rattle.st_tree.specs.ExprViews.{expr_tree, expr_trees};
 ghost use Rattle.st_writer.specs.CanonicalExpr as canonical;
 ghost use Rattle.st_writer.specs.Extended.{extended, where_needed};
 ghost use Rattle.st_writer.specs.Lexemes as lexeme;

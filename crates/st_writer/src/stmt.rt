@@ -4,8 +4,8 @@ ghost use Rattle.std.specs.Prelude.{◌≡◌, ◌++◌, ◌∷◌, [], suc, IfO
 ghost use Rattle.st_lexer.specs.declared.token.Key.TheVariants as keys;
 ghost use Rattle.st_lexer.specs.declared.token.Sym.TheVariants as sym;
 ghost use Rattle.st_spelling.specs.Operators.{any_level};
-ghost use Rattle.st_tree.specs.ExprTree.{expr_tree, expr_tree_or_none};
-ghost use Rattle.st_tree.specs.StmtTree.{label_tree, label_trees, stmt_tree, stmt_trees, arm_trees, branch_trees, other_tree};
+ghost use Rattle.st_tree.specs.ExprViews.{expr_tree, expr_tree_or_none};
+ghost use Rattle.st_tree.specs.StmtViews.{label_tree, label_trees, stmt_tree, stmt_trees, arm_trees, branch_trees, other_tree};
 ghost use Rattle.st_writer.specs.CanonicalExpr.{expr};
 ghost use Rattle.st_writer.specs.CanonicalStmt as canonical;
 ghost use Rattle.st_writer.specs.Extended.{extended, arm_key as arm_key_of};
@@ -219,7 +219,7 @@ impl Writer {
 
     // Writes the first line of a FOR.
     #[tactic(auto, using(crate::proofs::Extends::writing))]
-    fn count_line(
+    fn for_line(
         &mut self,
         level: u64,
         name: &Text,
@@ -289,7 +289,7 @@ impl Writer {
                 ..
             } => {
                 trees_of_nodes();
-                self.count_line(level, name, first, last, by)?;
+                self.for_line(level, name, first, last, by)?;
                 self.stmts(deeper(level)?, &body.items)?;
                 self.end(level, Key::EndFor)
             }

@@ -223,7 +223,7 @@ fn text_of_label(alloc: Global, label: Label) -> Result<Text, Memory> {
         labels,
         body: Stmts::new(alloc),
     })?;
-    let s = Stmt::select(name(alloc, b"s")?, branches, None, NOWHERE);
+    let s = Stmt::case(name(alloc, b"s")?, branches, None, NOWHERE);
     text(alloc, Blocks::new(alloc), one(alloc, s)?)
 }
 
@@ -390,7 +390,7 @@ fn blocks_of_all_classes(rt: HostRuntime) -> Result<(), Fail> {
 fn count(alloc: Global, by: Option<Expr>, body: Stmts) -> Result<Stmt, Memory> {
     let control = Text::copy_of(alloc, b"i")?;
     let last = name(alloc, b"n")?;
-    Ok(Stmt::count(control, NOWHERE, number(1), last, by, body, NOWHERE))
+    Ok(Stmt::for_(control, NOWHERE, number(1), last, by, body, NOWHERE))
 }
 
 fn add_arm(alloc: Global, arms: &mut Arms, cond: &[u8], body: Stmts) -> Result<(), Memory> {
@@ -429,7 +429,7 @@ fn selection(alloc: Global, of_first: Stmts) -> Result<Stmt, Memory> {
     let body = Stmts::new(alloc);
     branches.push(Branch { labels, body })?;
     let other = Some(Stmts::new(alloc));
-    Ok(Stmt::select(read(alloc, b"xy+")?, branches, other, NOWHERE))
+    Ok(Stmt::case(read(alloc, b"xy+")?, branches, other, NOWHERE))
 }
 
 /// An IF of three conditions with an ELSE, round a CASE and two FOR.
@@ -449,7 +449,7 @@ fn choice(alloc: Global) -> Result<Stmt, Memory> {
         one(alloc, assign(alloc, b"y", number(3))?)?,
     )?;
     let other = one(alloc, assign(alloc, b"Y", number(4))?)?;
-    Ok(Stmt::choose(arms, Some(other)))
+    Ok(Stmt::if_(arms, Some(other)))
 }
 
 const STATEMENTS: &[u8] = b"\
@@ -482,7 +482,7 @@ fn statements_in_statements(rt: HostRuntime) -> Result<(), Fail> {
     let mut body = one(alloc, choice(alloc)?)?;
     let mut arms = Arms::new(alloc);
     add_arm(alloc, &mut arms, b"d", Stmts::new(alloc))?;
-    body.push(Stmt::choose(arms, None))?;
+    body.push(Stmt::if_(arms, None))?;
     let got = text(alloc, Blocks::new(alloc), body)?;
     assert_eq!(rt; got.bytes(), STATEMENTS);
     Ok(())

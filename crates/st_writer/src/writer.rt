@@ -9,7 +9,7 @@ use itoa::Buffer;
 use st_lexer::{Key, Sym, key_spelling, symbol_spelling};
 use std::alloc::Global;
 use std::marker::Model;
-use vcp_base::{Memory, Text, Ty};
+use vcp_base::{Memory, Text, Ty, ty_name};
 
 /// A text that is written to its end, seen as the list of its bytes. After `Memory` nothing is
 /// known of it, and it is given up.
@@ -91,9 +91,10 @@ impl Writer {
     {
         match ty {
             None => Ok(()),
-            Some(Ty::Bool) => self.put(b"BOOL#"),
-            Some(Ty::Int) => self.put(b"INT#"),
-            Some(Ty::Dint) => self.put(b"DINT#"),
+            Some(ty) => {
+                self.put(ty_name(ty))?;
+                self.put(b"#")
+            }
         }
     }
 

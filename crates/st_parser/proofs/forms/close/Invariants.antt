@@ -1,5 +1,5 @@
 use Rattle.std.proofs.Common.{◌≡◌, vec_len}
-use Rattle.st_tree.specs.ExprTree.{expr_tree}
+use Rattle.st_tree.specs.ExprViews.{expr_tree}
 use Rattle.st_parser.specs.ExprMachine as machine
 use Rattle.st_parser.specs.FormViews.{forms}
 use Rattle.st_parser.proofs.forms.close.Given as goal

@@ -1,6 +1,6 @@
 use Rattle.std.proofs.Common.{arith, refl}
 use Rattle.st_tree.specs.declared.program.Decl.{Decl}
-use Rattle.st_tree.specs.ProgramTree.{decl_tree}
+use Rattle.st_tree.specs.ProgramViews.{decl_tree}
 use Rattle.st_tree.specs.Bare.{bare_decl}
 use Rattle.st_tree.proofs.Pointwise.{at-one-more, at-place, both-by-each, both-length, both-each}
 use Rattle.st_tree.proofs.same_program.same_decls.Goals as goal

@@ -1,6 +1,6 @@
 use Rattle.std.proofs.Common.{◌≡◌, ℕ, ◌<◌, get_or}
 use Rattle.st_tree.specs.declared.program.Decl.{Decl}
-use Rattle.st_tree.specs.ProgramTree.{decl_tree}
+use Rattle.st_tree.specs.ProgramViews.{decl_tree}
 use Rattle.st_tree.specs.Bare.{bare_decl}
 use Rattle.st_tree.proofs.same_program.same_decls.Given as goal
 

@@ -1,6 +1,6 @@
 use Rattle.std.proofs.Common.{◌≡◌, ℕ, ◌<◌, get_or}
 use Rattle.st_tree.specs.declared.program.Declared.{Declared}
-use Rattle.st_tree.specs.ProgramTree.{declared_tree}
+use Rattle.st_tree.specs.ProgramViews.{declared_tree}
 use Rattle.st_tree.specs.Bare.{bare_declared}
 use Rattle.st_tree.proofs.same_program.same_names.Given as goal
 

@@ -1,39 +1,39 @@
 use Rattle.std.proofs.Common.{◌≡◌, sym, ap, arith, refl}
 use Rattle.st_tree.proofs.Pointwise.{at-one-more, at-place, moved}
-use Rattle.st_tree.proofs.SameStmts.{bare_stmt_of, bare_arm_of, bare_branch_of, stmts-by-each, stmts-length, stmts-each, arms-by-each, arms-length, arms-each, branches-by-each, branches-length, branches-each, bare-if, bare-case, bare-for, same-choose, other-choose, same-select, other-select, same-count}
+use Rattle.st_tree.proofs.SameStmts.{bare_stmt_of, bare_arm_of, bare_branch_of, stmts-by-each, stmts-length, stmts-each, arms-by-each, arms-length, arms-each, branches-by-each, branches-length, branches-each, bare-if, bare-case, bare-for, same-if, other-if, same-case, other-case, same-for}
 use Rattle.st_tree.proofs.same_stmt.+same_stmt.Goals as goal
 
 pub same_stmt-returns-in-If : goal.same_stmt-returns-in-If
-same_stmt-returns-in-If t c = moved _ _ _ _ (sym (bare-if _ _ _ _ c.in-If.is c.deref.ensures.value)) c.is_choose.ensures
+same_stmt-returns-in-If t c = moved _ _ _ _ (sym (bare-if _ _ _ _ c.in-If.is c.deref.ensures.value)) c.is_if.ensures
 
 pub same_stmt-returns-in-Case : goal.same_stmt-returns-in-Case
-same_stmt-returns-in-Case t c = moved _ _ _ _ (sym (bare-case _ _ _ _ _ _ c.in-Case.is c.deref-in-Case.ensures.value)) c.is_select.ensures
+same_stmt-returns-in-Case t c = moved _ _ _ _ (sym (bare-case _ _ _ _ _ _ c.in-Case.is c.deref-in-Case.ensures.value)) c.is_case.ensures
 
 pub same_stmt-returns-in-For : goal.same_stmt-returns-in-For
-same_stmt-returns-in-For t c = moved _ _ _ _ (sym (bare-for _ _ _ _ _ _ _ _ _ c.in-For.is c.deref-in-For.ensures.value)) c.is_count.ensures
+same_stmt-returns-in-For t c = moved _ _ _ _ (sym (bare-for _ _ _ _ _ _ _ _ _ c.in-For.is c.deref-in-For.ensures.value)) c.is_for.ensures
 
-pub is_choose-returns-then-same_arms : goal.is_choose-returns-then-same_arms
-is_choose-returns-then-same_arms t c =
-    same-choose _ _ _ _ _ _ (c.same_arms.ensures.0 c.if-same_arms.true) c.same_other.ensures
+pub is_if-returns-then-same_arms : goal.is_if-returns-then-same_arms
+is_if-returns-then-same_arms t c =
+    same-if _ _ _ _ _ _ (c.same_arms.ensures.0 c.if-same_arms.true) c.same_other.ensures
     (bare-if _ _ _ _ c.in-If.is c.deref.ensures.value)
 
-pub is_choose-returns-else-same_arms : goal.is_choose-returns-else-same_arms
-is_choose-returns-else-same_arms t c =
-    other-choose _ _ _ _ _ _ c.if-same_arms.false c.same_arms.ensures (bare-if _ _ _ _ c.in-If.is c.deref.ensures.value)
+pub is_if-returns-else-same_arms : goal.is_if-returns-else-same_arms
+is_if-returns-else-same_arms t c =
+    other-if _ _ _ _ _ _ c.if-same_arms.false c.same_arms.ensures (bare-if _ _ _ _ c.in-If.is c.deref.ensures.value)
 
-pub is_select-returns-then-same_branches : goal.is_select-returns-then-same_branches
-is_select-returns-then-same_branches t c =
-    same-select _ _ _ _ _ _ _ _ (c.same_expr.ensures.0 c.if-not-same_expr.false) (c.same_branches.ensures.0 c.if-same_branches.true)
+pub is_case-returns-then-same_branches : goal.is_case-returns-then-same_branches
+is_case-returns-then-same_branches t c =
+    same-case _ _ _ _ _ _ _ _ (c.same_expr.ensures.0 c.if-not-same_expr.false) (c.same_branches.ensures.0 c.if-same_branches.true)
     c.same_other.ensures (bare-case _ _ _ _ _ _ c.in-Case.is c.deref.ensures.value)
 
-pub is_select-returns-else-same_branches : goal.is_select-returns-else-same_branches
-is_select-returns-else-same_branches t c =
-    other-select _ _ _ _ _ _ _ _ c.if-same_branches.false c.same_branches.ensures
+pub is_case-returns-else-same_branches : goal.is_case-returns-else-same_branches
+is_case-returns-else-same_branches t c =
+    other-case _ _ _ _ _ _ _ _ c.if-same_branches.false c.same_branches.ensures
     (bare-case _ _ _ _ _ _ c.in-Case.is c.deref.ensures.value)
 
-pub is_count-returns-then-same_bounds : goal.is_count-returns-then-same_bounds
-is_count-returns-then-same_bounds t c =
-    same-count _ _ _ _ _ _ _ _ _ _ _ _ (c.same_text.ensures.0 c.if-not-same_text.false) (c.same_bounds.ensures.0 c.if-same_bounds.true)
+pub is_for-returns-then-same_bounds : goal.is_for-returns-then-same_bounds
+is_for-returns-then-same_bounds t c =
+    same-for _ _ _ _ _ _ _ _ _ _ _ _ (c.same_text.ensures.0 c.if-not-same_text.false) (c.same_bounds.ensures.0 c.if-same_bounds.true)
     c.same_stmts.ensures (bare-for _ _ _ _ _ _ _ _ _ c.in-For.is c.deref.ensures.value)
 
 pub same_stmts-returns-then-a-b : goal.same_stmts-returns-then-a-b

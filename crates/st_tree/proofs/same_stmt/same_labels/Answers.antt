@@ -1,5 +1,5 @@
 use Rattle.std.proofs.Common.{arith, refl}
-use Rattle.st_tree.specs.StmtTree.{label_tree}
+use Rattle.st_tree.specs.StmtViews.{label_tree}
 use Rattle.st_tree.specs.Bare.{bare_label}
 use Rattle.st_tree.proofs.Pointwise.{at-one-more, at-place, both-by-each, both-length, both-each}
 use Rattle.st_tree.proofs.SameStmts.{bare_label_of}

@@ -1,4 +1,4 @@
-use Rattle.st_tree.specs.ProgramTree.{program_tree}
+use Rattle.st_tree.specs.ProgramViews.{program_tree}
 use Rattle.st_writer.proofs.Programs.{written-program}
 use Rattle.st_writer.proofs.program.canonical_text.Goals as goal
 

@@ -5,7 +5,8 @@ use Rattle.vcp_base.specs.declared.text.Text.{Text}
 use Rattle.st_lexer.specs.Reading.{Reads}
 use Rattle.st_lexer.specs.declared.token.Token.{Token}
 use Rattle.st_tree.specs.Bare.{bare}
-use Rattle.st_tree.specs.ProgramTree.{ProgramTree, program_tree}
+use Rattle.st_tree.specs.ProgramTree.{ProgramTree}
+use Rattle.st_tree.specs.ProgramViews.{program_tree}
 use Rattle.st_spelling.specs.Spelling.{SpellsWithin}
 use Rattle.st_writer.specs.CanonicalProgram.{canonical}
 use Rattle.st_writer.specs.ReadsAs.{ReadsAs}

@@ -1,5 +1,5 @@
 use Rattle.std.proofs.Common.{ap, ◌∙◌}
-use Rattle.st_tree.specs.ExprTree.{expr_trees}
+use Rattle.st_tree.specs.ExprViews.{expr_trees}
 use Rattle.st_tree.proofs.Appends.{exprs-append}
 use Rattle.st_tree.proofs.expr.Exprs.push.Goals as goal
 

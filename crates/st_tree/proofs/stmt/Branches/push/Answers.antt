@@ -1,7 +1,7 @@
 use Rattle.std.proofs.Common.{ap, ◌∙◌, rules}
 use Rattle.st_tree.specs.declared.stmt.Stmt.{the_lemmas}
 use Rattle.st_tree.specs.Items.{branch_items}
-use Rattle.st_tree.specs.StmtTree.{branch_trees}
+use Rattle.st_tree.specs.StmtViews.{branch_trees}
 use Rattle.st_tree.proofs.Appends.{branches-append}
 use Rattle.st_tree.proofs.stmt.Branches.push.Goals as goal
 

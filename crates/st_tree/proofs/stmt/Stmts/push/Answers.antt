@@ -1,5 +1,5 @@
 use Rattle.std.proofs.Common.{ap, ◌∙◌}
-use Rattle.st_tree.specs.StmtTree.{stmt_trees}
+use Rattle.st_tree.specs.StmtViews.{stmt_trees}
 use Rattle.st_tree.proofs.Appends.{stmts-append}
 use Rattle.st_tree.proofs.stmt.Stmts.push.Goals as goal
 

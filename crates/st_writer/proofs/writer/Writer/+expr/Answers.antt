@@ -1,6 +1,6 @@
 use Rattle.std.proofs.Common.{sym, ap, ◌∙◌}
 use Rattle.std.proofs.lemmas.Result.{on_ok_weaker}
-use Rattle.st_tree.specs.ExprTree.{expr_tree}
+use Rattle.st_tree.specs.ExprViews.{expr_tree}
 use Rattle.st_writer.proofs.Lists.{turn}
 use Rattle.st_writer.proofs.Exprs.{arg, written-arg, written-args, written-call}
 use Rattle.st_writer.proofs.writer.Writer.+expr.Goals as goal

@@ -1,9 +1,9 @@
 use Rattle.std.proofs.Common.{sym}
 use Rattle.std.proofs.lemmas.Result.{on_ok_weaker}
-use Rattle.st_tree.specs.ExprTree.{expr_tree, expr_tree_or_none}
-use Rattle.st_tree.specs.StmtTree.{stmt_tree, stmt_trees, arm_trees, branch_trees, other_tree}
+use Rattle.st_tree.specs.ExprViews.{expr_tree, expr_tree_or_none}
+use Rattle.st_tree.specs.StmtViews.{stmt_tree, stmt_trees, arm_trees, branch_trees, other_tree}
 use Rattle.st_writer.proofs.Lists.{turn}
-use Rattle.st_writer.proofs.Stmts.{stmt_at, arm_at, branch_at, written-stmts, written-arms, written-branches, written-arm, written-choose, written-select, written-count, tree-choose, tree-select, tree-count}
+use Rattle.st_writer.proofs.Stmts.{stmt_at, arm_at, branch_at, written-stmts, written-arms, written-branches, written-arm, written-if, written-case, written-for, tree-if, tree-case, tree-for}
 use Rattle.st_writer.proofs.writer.Writer.+stmt.Goals as goal
 
 pub stmts-loop-i-preserved : goal.stmts-loop-i-preserved
@@ -32,21 +32,21 @@ branches-returns t c = record { text = written-branches c.args.level c.args.bran
 
 pub stmt-returns-in_ok-other-in-If : goal.stmt-returns-in_ok-other-in-If
 stmt-returns-in_ok-other-in-If t c = record {
-  text = on_ok_weaker _ (written-choose c.args.level (stmt_tree c.args.s.now) (arm_trees c.deref.result.now) (other_tree c.in-If.other) c.args.self.now _ _ _
-      (tree-choose c.args.s.now c.in-If.arms c.in-If.other c.deref.result.now (c.trees_of_nodes.ensures.choose _ _) c.in-If.is c.deref.ensures.value)
+  text = on_ok_weaker _ (written-if c.args.level (stmt_tree c.args.s.now) (arm_trees c.deref.result.now) (other_tree c.in-If.other) c.args.self.now _ _ _
+      (tree-if c.args.s.now c.in-If.arms c.in-If.other c.deref.result.now (c.trees_of_nodes.ensures.if_ _ _) c.in-If.is c.deref.ensures.value)
       c.in_ok-arms-in-If.ensures.text c.in_ok-other-in-If.ensures.text) c.end.ensures.text;
 }
 
 pub stmt-returns-in_ok-other-in-Case : goal.stmt-returns-in_ok-other-in-Case
 stmt-returns-in_ok-other-in-Case t c = record {
-  text = on_ok_weaker _ (written-select c.args.level (stmt_tree c.args.s.now) (expr_tree c.in-Case.on) (branch_trees c.deref-in-Case.result.now) (other_tree c.in-Case.other) c.in-Case.spot c.args.self.now _ _ _ _
-      (tree-select c.args.s.now c.in-Case.on c.in-Case.branches c.in-Case.other c.in-Case.spot c.deref-in-Case.result.now (c.trees_of_nodes-in-Case.ensures.select _ _ _ _) c.in-Case.is c.deref-in-Case.ensures.value)
+  text = on_ok_weaker _ (written-case c.args.level (stmt_tree c.args.s.now) (expr_tree c.in-Case.on) (branch_trees c.deref-in-Case.result.now) (other_tree c.in-Case.other) c.in-Case.spot c.args.self.now _ _ _ _
+      (tree-case c.args.s.now c.in-Case.on c.in-Case.branches c.in-Case.other c.in-Case.spot c.deref-in-Case.result.now (c.trees_of_nodes-in-Case.ensures.case _ _ _ _) c.in-Case.is c.deref-in-Case.ensures.value)
       c.in_ok-head-in-Case.ensures.text c.in_ok-branches-in-Case.ensures.text c.in_ok-other-in-Case.ensures.text) c.end-in-Case.ensures.text;
 }
 
 pub stmt-returns-in_ok-stmts-in-For : goal.stmt-returns-in_ok-stmts-in-For
 stmt-returns-in_ok-stmts-in-For t c = record {
-  text = on_ok_weaker _ (written-count c.args.level c.in_ok-deeper-in-For.field-0 (stmt_tree c.args.s.now) c.in-For.name c.in-For.name_spot (expr_tree c.in-For.first) (expr_tree c.in-For.last) (expr_tree_or_none c.in-For.by) (stmt_trees c.deref-in-For.result.now) c.in-For.spot c.args.self.now _ _ _
-      (tree-count c.args.s.now c.in-For.name c.in-For.name_spot c.in-For.first c.in-For.last c.in-For.by c.in-For.body c.in-For.spot c.deref-in-For.result.now (c.trees_of_nodes-in-For.ensures.count _ _ _ _ _ _ _) c.in-For.is c.deref-in-For.ensures.value)
-      c.in_ok-deeper-in-For.ensures c.in_ok-count_line-in-For.ensures.text c.in_ok-stmts-in-For.ensures.text) c.end-in-For.ensures.text;
+  text = on_ok_weaker _ (written-for c.args.level c.in_ok-deeper-in-For.field-0 (stmt_tree c.args.s.now) c.in-For.name c.in-For.name_spot (expr_tree c.in-For.first) (expr_tree c.in-For.last) (expr_tree_or_none c.in-For.by) (stmt_trees c.deref-in-For.result.now) c.in-For.spot c.args.self.now _ _ _
+      (tree-for c.args.s.now c.in-For.name c.in-For.name_spot c.in-For.first c.in-For.last c.in-For.by c.in-For.body c.in-For.spot c.deref-in-For.result.now (c.trees_of_nodes-in-For.ensures.for_ _ _ _ _ _ _ _) c.in-For.is c.deref-in-For.ensures.value)
+      c.in_ok-deeper-in-For.ensures c.in_ok-for_line-in-For.ensures.text c.in_ok-stmts-in-For.ensures.text) c.end-in-For.ensures.text;
 }

@@ -1,5 +1,5 @@
 use Rattle.std.proofs.Common.{◌≡◌, take}
-use Rattle.st_tree.specs.ProgramTree.{block_tree}
+use Rattle.st_tree.specs.ProgramViews.{block_tree}
 use Rattle.st_writer.specs.CanonicalProgram.{block}
 use Rattle.st_writer.specs.Extended.{extended}
 use Rattle.st_writer.proofs.Lists.{all}

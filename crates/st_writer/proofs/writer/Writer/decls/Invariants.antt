@@ -1,5 +1,5 @@
 use Rattle.std.proofs.Common.{◌≡◌, take}
-use Rattle.st_tree.specs.ProgramTree.{decl_tree}
+use Rattle.st_tree.specs.ProgramViews.{decl_tree}
 use Rattle.st_writer.specs.CanonicalProgram.{decl}
 use Rattle.st_writer.specs.Extended.{extended}
 use Rattle.st_writer.proofs.Lists.{all}
