@@ -9,7 +9,8 @@ use Rattle.st_tree.specs.declared.program.Class.{Class}
 use Rattle.st_tree.specs.declared.program.Class.TheVariants as class
 use Rattle.vcp_typed.specs.declared.slot.Slot.{Slot}
 use Rattle.vcp_typed.specs.TExprTree.{TExprTree, literal, get, binary}
-use Rattle.vcp_typed.specs.TStmtTree.{TStmtTree, TStmtTrees, assign, no_tstmts, and_tstmt, tstmts_and}
+use Rattle.vcp_typed.specs.TStmtTree.{TStmtTree, TStmtTrees, assign, no_tstmts, and_tstmt}
+use Rattle.vcp_typed.specs.TStmtViews.{tstmts_and}
 use Rattle.vcp_typed.specs.SourceRun.{Program}
 use Rattle.vcp_typed.specs.Checked.{IsChecked}
 
@@ -37,8 +38,8 @@ differs p (suc k) d lt e = absurd (omega (arith, lt))
 keeps-rules : (p : Spot) → IsChecked (record { slots = variables (120 ∷ []) (121 ∷ []) p; body = statements p })
 keeps-rules p = record {
   slots = (
-    record { short = omega arith; letters = refl; new = λ k d lt. absurd (omega (arith, lt)); init = refl; variable = λ e. absurd cc },
-    (record { short = omega arith; letters = refl; new = differs p; init = refl; variable = λ e. absurd cc }, tt),
+    record { name = record { short = omega arith; letters = refl; new = λ k d lt. absurd (omega (arith, lt)) }; init = refl; variable = λ e. absurd cc },
+    (record { name = record { short = omega arith; letters = refl; new = differs p }; init = refl; variable = λ e. absurd cc }, tt),
   );
   body = (
     (

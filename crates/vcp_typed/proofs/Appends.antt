@@ -4,8 +4,10 @@ use Rattle.vcp_typed.specs.declared.expr.TExpr.{TExpr}
 use Rattle.vcp_typed.specs.declared.stmt.TArm.{TArm}
 use Rattle.vcp_typed.specs.declared.stmt.TBranch.{TBranch}
 use Rattle.vcp_typed.specs.declared.stmt.TStmt.{TStmt}
-use Rattle.vcp_typed.specs.TExprTree.{TExprTrees, texpr_tree, texpr_trees, texprs_and, and_texpr}
-use Rattle.vcp_typed.specs.TStmtTree.{TStmtTrees, TArmTrees, TBranchTrees, tstmt_tree, tstmt_trees, tarm_trees, tbranch_trees, tstmts_and, tarms_and, tbranches_and, and_tstmt, and_tarm, and_tbranch}
+use Rattle.vcp_typed.specs.TExprTree.{TExprTrees, and_texpr}
+use Rattle.vcp_typed.specs.TExprViews.{texpr_tree, texpr_trees, texprs_and}
+use Rattle.vcp_typed.specs.TStmtTree.{TStmtTrees, TArmTrees, TBranchTrees, and_tstmt, and_tarm, and_tbranch}
+use Rattle.vcp_typed.specs.TStmtViews.{tstmt_tree, tstmt_trees, tarm_trees, tbranch_trees, tstmts_and, tarms_and, tbranches_and}
 
 pub exprs-append : (es : List TExpr) (e : TExpr) → texpr_trees (es ++ e ∷ []) ≡ texprs_and (texpr_trees es) (texpr_tree e)
 exprs-append [] e = refl

@@ -7,6 +7,7 @@ use Rattle.vcp_base.specs.declared.turns.Turn.{Turn}
 use Rattle.vcp_base.specs.declared.ty.Ty.{Ty}
 use Rattle.vcp_base.specs.declared.ty.Ty.TheVariants as ty
 use Rattle.vcp_base.specs.Types.{fits}
+use Rattle.vcp_base.specs.Values.{at}
 use Rattle.vcp_base.specs.Kinds.{same, truth}
 use Rattle.st_tree.specs.declared.expr.UnOp.{UnOp}
 use Rattle.st_tree.specs.declared.expr.UnOp.TheVariants as un
@@ -16,9 +17,9 @@ use Rattle.vcp_typed.specs.declared.expr.Fun.{Fun}
 use Rattle.vcp_typed.specs.declared.expr.Fun.TheVariants as fun
 use Rattle.vcp_typed.specs.declared.slot.Slot.{Slot}
 use Rattle.vcp_typed.specs.TExprTree.{TExprTree, TExprTrees, literal, get, widen, unary, binary, call, no_texprs, and_texpr}
-use Rattle.vcp_typed.specs.TStmtTree.{TStmtTree, TStmtTrees, TArmTrees, TBranchTrees, TOtherTree, assign, choose, select, count, no_tstmts, and_tstmt, no_tarms, and_tarm, no_tbranches, and_tbranch, no_tother, tother}
+use Rattle.vcp_typed.specs.TStmtTree.{TStmtTree, TStmtTrees, TArmTrees, TBranchTrees, TOtherTree, assign, if_, case, for_, no_tstmts, and_tstmt, no_tarms, and_tarm, no_tbranches, and_tbranch, no_tother, tother}
 use Rattle.vcp_typed.specs.Rules.{result, signed, of_numbers, arguments}
-use Rattle.vcp_typed.specs.Meaning.{Stop, and_then, in_range, unless_zero, operate, sign, apply, argument, at, value, values, is_labelled, turns_from, all_turns, do_stmt, do_stmts, do_arms, do_branches, do_other}
+use Rattle.vcp_typed.specs.Meaning.{Stop, and_then, in_range, unless_zero, operate, sign, apply, value, values, is_labelled, turns_from, all_turns, do_stmt, do_stmts, do_arms, do_branches, do_other}
 use Rattle.vcp_typed.specs.SourceRun.{Program, Run, is_input, is_output, initial, with_inputs, outputs, after_cycle, cycle, run_from}
 use Rattle.vcp_typed.specs.Checked.{ty_of, tys_of, IsExpr, AreExprs, AreTurns, IsStmt, AreStmts, AreArms, AreBranches, IsOther, SlotsFit}
 use Rattle.vcp_base.specs.Types.{AreIn}
@@ -101,17 +102,17 @@ bool-int : (v : ℤ) → fits ty.Bool v ≡ true → fits ty.Int v ≡ true
 bool-int (pos n) h = grind (arith, h)
 bool-int (negsuc n) h = absurd (grind (arith, h))
 
-one : (t : Ty) (vs : List ℤ) → AreIn (t ∷ []) vs → fits t (argument vs 0) ≡ true
+one : (t : Ty) (vs : List ℤ) → AreIn (t ∷ []) vs → fits t (at vs 0) ≡ true
 one t [] h = absurd h
 one t (v ∷ vs) h = h.0
 
-two : (t u : Ty) (vs : List ℤ) → AreIn (t ∷ u ∷ []) vs → (fits t (argument vs 0) ≡ true) × (fits u (argument vs 1) ≡ true)
+two : (t u : Ty) (vs : List ℤ) → AreIn (t ∷ u ∷ []) vs → (fits t (at vs 0) ≡ true) × (fits u (at vs 1) ≡ true)
 two t u [] h = absurd h
 two t u (v ∷ []) h = absurd h.1
 two t u (v ∷ w ∷ vs) h = (h.0, h.1.0)
 
 three : (t u r : Ty) (vs : List ℤ) → AreIn (t ∷ u ∷ r ∷ []) vs
-    → (fits t (argument vs 0) ≡ true) × (fits u (argument vs 1) ≡ true) × (fits r (argument vs 2) ≡ true)
+    → (fits t (at vs 0) ≡ true) × (fits u (at vs 1) ≡ true) × (fits r (at vs 2) ≡ true)
 three t u r [] h = absurd h
 three t u r (v ∷ []) h = absurd h.1
 three t u r (v ∷ w ∷ []) h = absurd h.1.1
@@ -137,13 +138,13 @@ applied fun.Limit t s turns ts vs e h =
 applied fun.Sel t s turns ts vs e h =
     let all = three ty.Bool t t vs (subst (λ us. AreIn us vs) (sym (same-value _ _ e)) h) in
     chosen (λ x. fits t x ≡ true) _ _ _ all.1 all.2
-applied fun.IntToDint ty.Dint s turns ts vs e h = int-dint (argument vs 0) (one ty.Int vs (subst (λ us. AreIn us vs) (sym (same-value _ _ e)) h))
+applied fun.IntToDint ty.Dint s turns ts vs e h = int-dint (at vs 0) (one ty.Int vs (subst (λ us. AreIn us vs) (sym (same-value _ _ e)) h))
 applied fun.IntToDint ty.Int s turns ts vs e h = absurd cc
 applied fun.IntToDint ty.Bool s turns ts vs e h = absurd cc
-applied fun.DintToInt ty.Int s turns ts vs e h = ranged ty.Int s turns (argument vs 0)
+applied fun.DintToInt ty.Int s turns ts vs e h = ranged ty.Int s turns (at vs 0)
 applied fun.DintToInt ty.Dint s turns ts vs e h = absurd cc
 applied fun.DintToInt ty.Bool s turns ts vs e h = absurd cc
-applied fun.BoolToInt ty.Int s turns ts vs e h = bool-int (argument vs 0) (one ty.Bool vs (subst (λ us. AreIn us vs) (sym (same-value _ _ e)) h))
+applied fun.BoolToInt ty.Int s turns ts vs e h = bool-int (at vs 0) (one ty.Bool vs (subst (λ us. AreIn us vs) (sym (same-value _ _ e)) h))
 applied fun.BoolToInt ty.Dint s turns ts vs e h = absurd cc
 applied fun.BoolToInt ty.Bool s turns ts vs e h = absurd cc
 
@@ -213,12 +214,12 @@ mutual
   stmt-fits slots held (assign n e sp) turns m h f =
       if-then (λ v. fits (ty_of e) v ≡ true) (AreFit slots) (value turns e m) _ (value-fits slots e turns m h.1 f)
       (λ v g. set-fits slots m n h.0.of v h.0.there f (subst (λ (u : Ty). fits u v ≡ true) (sym h.0.ty) g))
-  stmt-fits slots held (choose arms o) turns m h f =
+  stmt-fits slots held (if_ arms o) turns m h f =
       arms-fit slots held arms turns (do_other turns o) (λ x g. other-fits slots held o turns x h.1 g) m h.0 f
-  stmt-fits slots held (select e branches o sp) turns m h f =
+  stmt-fits slots held (case e branches o sp) turns m h f =
       if-then (λ v. fits (ty_of e) v ≡ true) (AreFit slots) (value turns e m) _ (value-fits slots e turns m h.0 f)
       (λ v g. branches-fit slots held (ty_of e) v branches turns (do_other turns o) (λ x k. other-fits slots held o turns x h.3 k) m h.2 f)
-  stmt-fits slots held (count n first by k body sp) turns m h f =
+  stmt-fits slots held (for_ n first by k body sp) turns m h f =
       all-turns-fit slots h.1.of n first by _ h.1.there
       (λ v x g. stmts-fit slots (held ++ n ∷ []) body (turns ++ record { name = n; value = v } ∷ []) x h.5 g)
       k m (subst (λ (u : Ty). fits u first ≡ true) (sym h.1.ty) h.3) (subst (λ (u : Ty). AreTurns u k first by) (sym h.1.ty) h.4) f

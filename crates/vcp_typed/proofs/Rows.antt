@@ -11,9 +11,11 @@ use Rattle.vcp_typed.specs.declared.stmt.TBranches.{TBranches, out-TBranches}
 use Rattle.vcp_typed.specs.declared.stmt.TStmts.{TStmts}
 use Rattle.vcp_typed.specs.declared.stmt.TStmt.{TStmt, Row_of-TStmt, end_of-TStmt, more_of-TStmt, items-the_row-TStmt, items_hidden-the_row-TStmt-0, items_shown-the_row-TStmt-0, back-TStmt-If-1, If, Case, For}
 use Rattle.vcp_typed.specs.declared.stmt.TStmt.TheBlock.{Row_of-TArm, end_of-TArm, more_of-TArm, items-the_row-TArm, Row_of-TBranch, end_of-TBranch, more_of-TBranch, items-the_row-TBranch, hidden-the_row-TStmt-0, struct-TArms, struct-TBranches, items_shown-the_row-TArm-1, items_shown-the_row-TBranch-2}
-use Rattle.vcp_typed.specs.TExprTree.{TExprTrees, texpr_tree, texpr_trees, row_of_texprs, call, and_texpr}
+use Rattle.vcp_typed.specs.TExprTree.{TExprTrees, call, and_texpr}
+use Rattle.vcp_typed.specs.TExprViews.{texpr_tree, texpr_trees, row_of_texprs}
 use Rattle.vcp_typed.specs.Items.{tarm_items, tbranch_items}
-use Rattle.vcp_typed.specs.TStmtTree.{TStmtTrees, tstmt_tree, tstmt_trees, tarm_trees, tbranch_trees, tother_tree, row_of_tstmts, row_of_tarms, row_of_tbranches, tarms_of, tbranches_of, tother_of, choose, select, count, and_tstmt, and_tarm, and_tbranch, tother}
+use Rattle.vcp_typed.specs.TStmtTree.{TStmtTrees, if_, case, for_, and_tstmt, and_tarm, and_tbranch, tother}
+use Rattle.vcp_typed.specs.TStmtViews.{tstmt_tree, tstmt_trees, tarm_trees, tbranch_trees, tother_tree, row_of_tstmts, row_of_tarms, row_of_tbranches, tarms_of, tbranches_of, tother_of}
 
 row-exprs : (n : _) (k : Row_of-TExpr n) → row_of_texprs k ≡ texpr_trees (items-the_row-TExpr n k)
 row-exprs _ end_of-TExpr = refl
@@ -54,13 +56,13 @@ pub other-is : (o : Option TStmts) → tother_of (back-TStmt-If-1 o) ≡ tother_
 other-is None = refl
 other-is (Some ss) = ap (λ (t : TStmtTrees). tother t) (stmts-are ss.items)
 
-pub tree-if : (arms : TArms) (o : Option TStmts) → tstmt_tree (If arms o) ≡ choose (tarm_trees (tarm_items arms)) (tother_tree o)
-tree-if arms o = λ i. choose (arms-are arms i) (other-is o i)
+pub tree-if : (arms : TArms) (o : Option TStmts) → tstmt_tree (If arms o) ≡ if_ (tarm_trees (tarm_items arms)) (tother_tree o)
+tree-if arms o = λ i. if_ (arms-are arms i) (other-is o i)
 
 pub tree-case : (e : TExpr) (branches : TBranches) (o : Option TStmts) (s : Spot)
-    → tstmt_tree (Case e branches o s) ≡ select (texpr_tree e) (tbranch_trees (tbranch_items branches)) (tother_tree o) s
-tree-case e branches o s = λ i. select (texpr_tree e) (branches-are branches i) (other-is o i) s
+    → tstmt_tree (Case e branches o s) ≡ case (texpr_tree e) (tbranch_trees (tbranch_items branches)) (tother_tree o) s
+tree-case e branches o s = λ i. case (texpr_tree e) (branches-are branches i) (other-is o i) s
 
 pub tree-for : (slot : ℕ) (first by : ℤ) (turns : ℕ) (body : TStmts) (s : Spot)
-    → tstmt_tree (For slot first by turns body s) ≡ count slot first by turns (tstmt_trees body.items.items) s
-tree-for slot first by turns body s = ap (λ (t : TStmtTrees). count slot first by turns t s) (stmts-are body.items)
+    → tstmt_tree (For slot first by turns body s) ≡ for_ slot first by turns (tstmt_trees body.items.items) s
+tree-for slot first by turns body s = ap (λ (t : TStmtTrees). for_ slot first by turns t s) (stmts-are body.items)

@@ -13,8 +13,9 @@ use Rattle.vcp_typed.specs.declared.stmt.TBranches.{TBranches}
 use Rattle.vcp_typed.specs.declared.stmt.TStmts.{TStmts}
 use Rattle.vcp_typed.specs.declared.stmt.TStmt.{TStmt, If, Case, For}
 use Rattle.vcp_typed.specs.Items.{tarm_items, tbranch_items}
-use Rattle.vcp_typed.specs.TExprTree.{texpr_tree, texpr_trees}
-use Rattle.vcp_typed.specs.TStmtTree.{TStmtTrees, tstmt_tree, tstmt_trees, tarm_trees, tbranch_trees, tother_tree, count}
+use Rattle.vcp_typed.specs.TExprViews.{texpr_tree, texpr_trees}
+use Rattle.vcp_typed.specs.TStmtTree.{TStmtTrees, for_}
+use Rattle.vcp_typed.specs.TStmtViews.{tstmt_tree, tstmt_trees, tarm_trees, tbranch_trees, tother_tree}
 use Rattle.vcp_typed.specs.Size.{cut, function_size, expr_size, exprs_size, stmt_size, stmts_size, arms_size, branches_size, other_size}
 use Rattle.vcp_typed.proofs.Rows.{tree-call, tree-if, tree-case, tree-for}
 
@@ -36,7 +37,7 @@ size-case d e branches o s xs is same =
     ∙ sym (ap (λ (x : List TBranch). expr_size (texpr_tree e) + branches_size (tbranch_trees x) + other_size (tother_tree o)) same)
 
 turns-size : (slot : ℕ) (first by : ℤ) (turns : ℕ) (b : TStmtTrees) (s : Spot) → 0 < turns
-    → stmt_size (count slot first by turns b s) ≡ turns * (2 + stmts_size b)
+    → stmt_size (for_ slot first by turns b s) ≡ turns * (2 + stmts_size b)
 turns-size slot first by zero b s h = absurd (omega arith)
 turns-size slot first by (suc n) b s h = refl
 

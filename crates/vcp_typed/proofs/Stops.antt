@@ -8,6 +8,7 @@ use Rattle.vcp_base.specs.declared.ty.Ty.{Ty}
 use Rattle.vcp_base.specs.declared.ty.Ty.TheVariants as ty
 use Rattle.vcp_base.specs.declared.kind.StopKind.TheVariants as why
 use Rattle.vcp_base.specs.Types.{fits}
+use Rattle.vcp_base.specs.Values.{at}
 use Rattle.vcp_base.specs.Kinds.{same}
 use Rattle.st_tree.specs.declared.expr.UnOp.{UnOp}
 use Rattle.st_tree.specs.declared.expr.UnOp.TheVariants as un
@@ -17,8 +18,8 @@ use Rattle.vcp_typed.specs.declared.expr.Fun.{Fun}
 use Rattle.vcp_typed.specs.declared.expr.Fun.TheVariants as fun
 use Rattle.vcp_typed.specs.declared.slot.Slot.{Slot}
 use Rattle.vcp_typed.specs.TExprTree.{TExprTree, TExprTrees, literal, get, widen, unary, binary, call, no_texprs, and_texpr}
-use Rattle.vcp_typed.specs.TStmtTree.{TStmtTree, TStmtTrees, TArmTrees, TBranchTrees, TOtherTree, assign, choose, select, count, no_tstmts, and_tstmt, no_tarms, and_tarm, no_tbranches, and_tbranch, no_tother, tother}
-use Rattle.vcp_typed.specs.Meaning.{Stop, and_then, in_range, unless_zero, operate, sign, apply, argument, value, values, is_labelled, turns_from, all_turns, do_stmt, do_stmts, do_arms, do_branches, do_other}
+use Rattle.vcp_typed.specs.TStmtTree.{TStmtTree, TStmtTrees, TArmTrees, TBranchTrees, TOtherTree, assign, if_, case, for_, no_tstmts, and_tstmt, no_tarms, and_tarm, no_tbranches, and_tbranch, no_tother, tother}
+use Rattle.vcp_typed.specs.Meaning.{Stop, and_then, in_range, unless_zero, operate, sign, apply, value, values, is_labelled, turns_from, all_turns, do_stmt, do_stmts, do_arms, do_branches, do_other}
 use Rattle.vcp_typed.specs.SourceRun.{Program, Run, after_cycle, cycle, run_from}
 
 -- the stop has one of the two causes
@@ -69,7 +70,7 @@ applied fun.Max t s turns vs = tt
 applied fun.Limit t s turns vs = tt
 applied fun.Sel t s turns vs = tt
 applied fun.IntToDint t s turns vs = tt
-applied fun.DintToInt t s turns vs = ranged ty.Int s turns (argument vs 0)
+applied fun.DintToInt t s turns vs = ranged ty.Int s turns (at vs 0)
 applied fun.BoolToInt t s turns vs = tt
 
 mutual
@@ -100,10 +101,10 @@ all-turns-stop n first by body h (suc k) m = turns-stop n by body h (suc k) firs
 mutual
   stmt-stops : (s : TStmtTree) (turns : List Turn) (m : List ℤ) → Stops (do_stmt turns s m)
   stmt-stops (assign n e sp) turns m = then-stops (value turns e m) _ (value-stops e turns m) (λ v. tt)
-  stmt-stops (choose arms o) turns m = arms-stop arms turns (do_other turns o) (λ x. other-stops o turns x) m
-  stmt-stops (select e branches o sp) turns m =
+  stmt-stops (if_ arms o) turns m = arms-stop arms turns (do_other turns o) (λ x. other-stops o turns x) m
+  stmt-stops (case e branches o sp) turns m =
       then-stops (value turns e m) _ (value-stops e turns m) (λ v. branches-stop v branches turns (do_other turns o) (λ x. other-stops o turns x) m)
-  stmt-stops (count n first by k body sp) turns m =
+  stmt-stops (for_ n first by k body sp) turns m =
       all-turns-stop n first by _ (λ v x. stmts-stop body (turns ++ record { name = n; value = v } ∷ []) x) k m
 
   pub stmts-stop : (ss : TStmtTrees) (turns : List Turn) (m : List ℤ) → Stops (do_stmts turns ss m)

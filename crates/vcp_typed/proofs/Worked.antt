@@ -14,7 +14,7 @@ use Rattle.vcp_typed.specs.declared.expr.Fun.TheVariants as fun
 use Rattle.vcp_typed.specs.declared.slot.Slot.{Slot}
 use Rattle.vcp_typed.specs.declared.stmt.TLabel.{TLabel}
 use Rattle.vcp_typed.specs.TExprTree.{TExprTree, literal, get, widen, unary, binary, call, no_texprs, and_texpr}
-use Rattle.vcp_typed.specs.TStmtTree.{TStmtTree, TStmtTrees, assign, choose, select, count, no_tstmts, and_tstmt, no_tarms, and_tarm, no_tbranches, and_tbranch, no_tother, tother}
+use Rattle.vcp_typed.specs.TStmtTree.{TStmtTree, TStmtTrees, assign, if_, case, for_, no_tstmts, and_tstmt, no_tarms, and_tarm, no_tbranches, and_tbranch, no_tother, tother}
 use Rattle.vcp_typed.specs.Meaning.{Stop, value, do_stmt}
 use Rattle.vcp_typed.specs.Rules.{common, result, signed, arguments}
 use Rattle.vcp_typed.specs.SourceRun.{Program, source_run}
@@ -285,12 +285,12 @@ narrowed = refl
 -- ---- statements; slot 0 is i, and slot 1 is y
 
 -- FOR i := 1 TO 6 BY 2 DO y := y + i; END_FOR: 1, 3 and 5, which i has at the end
-loop : do_stmt [] (count 0 (pos 1) (pos 2) 3 (and_tstmt (assign 1 (binary bin.Add ty.Int (get 1 ty.Int) (get 0 ty.Int) (at 9)) (at 8)) no_tstmts) (at 2)) (pos 4 ∷ pos 0 ∷ [])
+loop : do_stmt [] (for_ 0 (pos 1) (pos 2) 3 (and_tstmt (assign 1 (binary bin.Add ty.Int (get 1 ty.Int) (get 0 ty.Int) (at 9)) (at 8)) no_tstmts) (at 2)) (pos 4 ∷ pos 0 ∷ [])
     ≡ Ok (pos 5 ∷ pos 9 ∷ [])
 loop = refl
 
 -- FOR i := 3 TO 1 DO y := 7; END_FOR: i is the first value
-no-turn : do_stmt [] (count 0 (pos 3) (pos 1) 0 (and_tstmt (assign 1 (int (pos 7)) (at 8)) no_tstmts) (at 2)) (pos 9 ∷ pos 0 ∷ [])
+no-turn : do_stmt [] (for_ 0 (pos 3) (pos 1) 0 (and_tstmt (assign 1 (int (pos 7)) (at 8)) no_tstmts) (at 2)) (pos 9 ∷ pos 0 ∷ [])
     ≡ Ok (pos 3 ∷ pos 0 ∷ [])
 no-turn = refl
 
@@ -298,7 +298,7 @@ no-turn = refl
 inner : TStmtTrees
 inner = and_tstmt (assign 2 (binary bin.Div ty.Int (int (pos 1)) (get 1 ty.Int) (at 9)) (at 8)) no_tstmts
 
-stop-in-turns : do_stmt [] (count 0 (pos 5) (pos 1) 2 (and_tstmt (count 1 (pos 1) (negsuc 0) 2 inner (at 4)) no_tstmts) (at 2)) (pos 0 ∷ pos 0 ∷ pos 0 ∷ [])
+stop-in-turns : do_stmt [] (for_ 0 (pos 5) (pos 1) 2 (and_tstmt (for_ 1 (pos 1) (negsuc 0) 2 inner (at 4)) no_tstmts) (at 2)) (pos 0 ∷ pos 0 ∷ pos 0 ∷ [])
     ≡ Err (record { kind = why.DivZero; spot = at 9; turns = record { name = 0; value = pos 5 } ∷ record { name = 1; value = pos 0 } ∷ [] })
 unfolding inner
 stop-in-turns = refl
@@ -312,7 +312,7 @@ set_y v = and_tstmt (assign 1 (int v) (at 8)) no_tstmts
 
 cases : TStmtTree
 cases =
-    select (get 0 ty.Int)
+    case (get 0 ty.Int)
     (and_tbranch (record { first = pos 1; last = pos 1; range = false; spot = at 1 } ∷ []) (set_y (pos 1))
     (and_tbranch (label (pos 3) (pos 5) ∷ []) (set_y (pos 2)) no_tbranches))
     (tother (set_y (pos 3))) (at 2)
@@ -339,7 +339,7 @@ above : ℤ → TExprTree
 above v = binary bin.Gt ty.Int (get 0 ty.Int) (int v) (at 5)
 
 choice : TStmtTree
-choice = choose (and_tarm (above (pos 1)) (set_y (pos 1)) (at 2) (and_tarm (above (pos 0)) (set_y (pos 2)) (at 3) no_tarms)) no_tother
+choice = if_ (and_tarm (above (pos 1)) (set_y (pos 1)) (at 2) (and_tarm (above (pos 0)) (set_y (pos 2)) (at 3) no_tarms)) no_tother
 
 choice-first : do_stmt [] choice (pos 2 ∷ pos 0 ∷ []) ≡ Ok (pos 2 ∷ pos 1 ∷ [])
 unfolding choice above set_y
@@ -381,7 +381,7 @@ addition-stop = refl
 abbrev loop_to : ℕ → Program
 loop_to n = record {
   slots = variable 121 class.Output ∷ variable 105 class.Local ∷ [];
-  body = and_tstmt (count 1 (pos 1) (pos 1) n (and_tstmt (assign 0 (get 1 ty.Dint) (at 9)) no_tstmts) (at 4)) no_tstmts;
+  body = and_tstmt (for_ 1 (pos 1) (pos 1) n (and_tstmt (assign 0 (get 1 ty.Dint) (at 9)) no_tstmts) (at 4)) no_tstmts;
 }
 
 loop-size : (n : ℕ) → size (loop_to (suc n)) ≡ 7 + 3 * suc n

@@ -1,7 +1,8 @@
 -- Checked: the rules that every checked program keeps.
 use Rattle.std.specs.Prelude.{◌≡◌, ℕ, zero, suc, ◌≤◌, ℤ, ◌+ℤ◌, int_le, Bool, true, false, ◌==◌, List, [], ◌∷◌, ◌++◌, length, All, Some, slice_get}
 use Rattle.std.specs.List.{list_any}
-use Rattle.vcp_base.specs.Names.{is_name, SameName}
+use Rattle.vcp_base.specs.Limits.{most_names, most_size}
+use Rattle.vcp_base.specs.Names.{NameFits}
 use Rattle.vcp_base.specs.declared.ty.Ty.{Ty}
 use Rattle.vcp_base.specs.declared.ty.Ty.TheVariants as ty
 use Rattle.vcp_base.specs.Types.{fits}
@@ -10,18 +11,16 @@ use Rattle.st_tree.specs.declared.program.Class.TheVariants as class
 use Rattle.vcp_typed.specs.declared.slot.Slot.{Slot}
 use Rattle.vcp_typed.specs.declared.stmt.TLabel.{TLabel}
 use Rattle.vcp_typed.specs.TExprTree.{TExprTree, TExprTrees, literal, get, widen, unary, binary, call, no_texprs, and_texpr}
-use Rattle.vcp_typed.specs.TStmtTree.{TStmtTree, TStmtTrees, TArmTrees, TBranchTrees, TOtherTree, assign, choose, select, count, no_tstmts, and_tstmt, no_tarms, and_tarm, no_tbranches, and_tbranch, no_tother, tother}
+use Rattle.vcp_typed.specs.TStmtTree.{TStmtTree, TStmtTrees, TArmTrees, TBranchTrees, TOtherTree, assign, if_, case, for_, no_tstmts, and_tstmt, no_tarms, and_tarm, no_tbranches, and_tbranch, no_tother, tother}
 use Rattle.vcp_typed.specs.Rules.{joined, common, result, signed, arguments}
 use Rattle.vcp_typed.specs.SourceRun.{Program}
 use Rattle.vcp_typed.specs.Size.{size}
 
 -- ---- names
 
--- a slot may follow those before it: its name is one, and is none of theirs; its initial value is in its type; it is no constant
+-- a slot may follow those before it: its name may follow theirs, its initial value is in its type, and it is no constant
 pub record SlotFits (before : List Slot) (s : Slot) : Type 0 where
-  pub short : length s.name ≤ 1048576
-  pub letters : is_name s.name ≡ true
-  pub new : All (λ r. SameName r.name s.name → ⊥) before
+  pub name : NameFits (λ (r : Slot). r.name) before s.name
   pub init : fits s.ty s.init ≡ true
   pub variable : s.class ≡ class.Constant → ⊥
 
@@ -97,10 +96,10 @@ pub record IsLabel (t : Ty) (l : TLabel) : Type 0 where
 abbrev mutual
   pub IsStmt : List Slot → List ℕ → TStmtTree → Type 0
   IsStmt slots held (assign slot e spot) = MaySet slots held slot (ty_of e) × IsExpr slots e
-  IsStmt slots held (choose arms o) = AreArms slots held arms × IsOther slots held o
-  IsStmt slots held (select e branches o spot) =
+  IsStmt slots held (if_ arms o) = AreArms slots held arms × IsOther slots held o
+  IsStmt slots held (case e branches o spot) =
       IsExpr slots e × (joined (ty_of e) (ty_of e) ≡ Some (ty_of e)) × AreBranches slots held (ty_of e) branches × IsOther slots held o
-  IsStmt slots held (count slot first by n body spot) =
+  IsStmt slots held (for_ slot first by n body spot) =
       (t : Ty) × MaySet slots held slot t × (joined t t ≡ Some t) × (fits t first ≡ true) × AreTurns t n first by × AreStmts slots (held ++ slot ∷ []) body
 
   pub AreStmts : List Slot → List ℕ → TStmtTrees → Type 0
@@ -125,5 +124,5 @@ abbrev mutual
 pub record IsChecked (p : Program) : Type 0 where
   pub slots : SlotsFit [] p.slots
   pub body : AreStmts p.slots [] p.body
-  pub few : length p.slots ≤ 1024
-  pub room : size p ≤ 65536
+  pub few : length p.slots ≤ most_names
+  pub room : size p ≤ most_size

@@ -12,7 +12,7 @@ use Rattle.st_tree.specs.declared.expr.BinOp.{BinOp}
 use Rattle.vcp_typed.specs.declared.expr.Fun.{Fun}
 use Rattle.vcp_typed.specs.declared.stmt.TLabel.{TLabel}
 use Rattle.vcp_typed.specs.TExprTree.{TExprTree, TExprTrees, literal, get, widen, unary, binary, call, no_texprs, and_texpr}
-use Rattle.vcp_typed.specs.TStmtTree.{TStmtTree, TStmtTrees, TArmTrees, TBranchTrees, TOtherTree, assign, choose, select, count, no_tstmts, and_tstmt, no_tarms, and_tarm, no_tbranches, and_tbranch, no_tother, tother}
+use Rattle.vcp_typed.specs.TStmtTree.{TStmtTree, TStmtTrees, TArmTrees, TBranchTrees, TOtherTree, assign, if_, case, for_, no_tstmts, and_tstmt, no_tarms, and_tarm, no_tbranches, and_tbranch, no_tother, tother}
 use Rattle.vcp_typed.specs.SourceRun.{Program}
 
 -- a tree with a mark at each node
@@ -107,9 +107,9 @@ StmtMark = (ℕ × TExprTree × Spot) ⊎ (Unit {0} ⊎ ((TExprTree × Spot) ⊎
 abbrev mutual
   stmt_marks : TStmtTree → Marked StmtMark
   stmt_marks (assign n e s) = node (inl (n, e, s)) end end
-  stmt_marks (choose arms o) = node (inr (inl tt)) (arm_marks arms) (other_marks o)
-  stmt_marks (select e branches o s) = node (inr (inr (inl (e, s)))) (branch_marks branches) (other_marks o)
-  stmt_marks (count n f by k body s) = node (inr (inr (inr (inl (n, f, by, k, s))))) (stmts_marks body) end
+  stmt_marks (if_ arms o) = node (inr (inl tt)) (arm_marks arms) (other_marks o)
+  stmt_marks (case e branches o s) = node (inr (inr (inl (e, s)))) (branch_marks branches) (other_marks o)
+  stmt_marks (for_ n f by k body s) = node (inr (inr (inr (inl (n, f, by, k, s))))) (stmts_marks body) end
 
   stmts_marks : TStmtTrees → Marked StmtMark
   stmts_marks no_tstmts = end
@@ -129,12 +129,12 @@ abbrev mutual
 
 abbrev mutual
   stmt_unmark : Marked StmtMark → TStmtTree
-  stmt_unmark end = choose no_tarms no_tother
+  stmt_unmark end = if_ no_tarms no_tother
   stmt_unmark (node (inl m) a b) = assign m.0 m.1 m.2
-  stmt_unmark (node (inr (inl m)) a b) = choose (arm_unmark a) (other_unmark b)
-  stmt_unmark (node (inr (inr (inl m))) a b) = select m.0 (branch_unmark a) (other_unmark b) m.1
-  stmt_unmark (node (inr (inr (inr (inl m)))) a b) = count m.0 m.1 m.2 m.3 (stmts_unmark a) m.4
-  stmt_unmark (node (inr (inr (inr (inr m)))) a b) = choose no_tarms no_tother
+  stmt_unmark (node (inr (inl m)) a b) = if_ (arm_unmark a) (other_unmark b)
+  stmt_unmark (node (inr (inr (inl m))) a b) = case m.0 (branch_unmark a) (other_unmark b) m.1
+  stmt_unmark (node (inr (inr (inr (inl m)))) a b) = for_ m.0 m.1 m.2 m.3 (stmts_unmark a) m.4
+  stmt_unmark (node (inr (inr (inr (inr m)))) a b) = if_ no_tarms no_tother
 
   stmts_unmark : Marked StmtMark → TStmtTrees
   stmts_unmark end = no_tstmts
@@ -163,9 +163,9 @@ abbrev mutual
 mutual
   stmt-same : (s : TStmtTree) → stmt_unmark (stmt_marks s) ≡ s
   stmt-same (assign n e s) = refl
-  stmt-same (choose arms o) = λ i. choose (arms-same arms i) (other-same o i)
-  stmt-same (select e branches o s) = λ i. select e (branches-same branches i) (other-same o i) s
-  stmt-same (count n f by k body s) = λ i. count n f by k (stmts-same body i) s
+  stmt-same (if_ arms o) = λ i. if_ (arms-same arms i) (other-same o i)
+  stmt-same (case e branches o s) = λ i. case e (branches-same branches i) (other-same o i) s
+  stmt-same (for_ n f by k body s) = λ i. for_ n f by k (stmts-same body i) s
 
   stmts-same : (ss : TStmtTrees) → stmts_unmark (stmts_marks ss) ≡ ss
   stmts-same no_tstmts = refl

@@ -1,6 +1,7 @@
--- Fitting: values that are in the types of their slots, and the columns of a program.
-use Rattle.std.specs.Prelude.{ℤ, cond, List, [], ◌∷◌, map}
+-- Fitting: values that are in the types of their slots, the columns of a program, and turns that name slots.
+use Rattle.std.specs.Prelude.{ℤ, ◌<◌, cond, List, [], ◌∷◌, length, map, All}
 use Rattle.vcp_base.specs.declared.columns.Column.{Column}
+use Rattle.vcp_base.specs.declared.turns.Turn.{Turn}
 use Rattle.vcp_base.specs.declared.ty.Ty.{Ty}
 use Rattle.vcp_base.specs.Types.{AreIn}
 use Rattle.vcp_typed.specs.declared.slot.Slot.{Slot}
@@ -24,7 +25,15 @@ abbrev pub output_types : List Slot → List Ty
 output_types [] = []
 output_types (s ∷ slots) = cond (is_output s.class) (s.ty ∷ output_types slots) (output_types slots)
 
--- the names and types of the inputs, in order of declaration
+-- the names and types of the inputs, and of the outputs, in order of declaration
 abbrev pub input_columns : List Slot → List Column
 input_columns [] = []
 input_columns (s ∷ slots) = cond (is_input s.class) (record { name = s.name; ty = s.ty } ∷ input_columns slots) (input_columns slots)
+
+abbrev pub output_columns : List Slot → List Column
+output_columns [] = []
+output_columns (s ∷ slots) = cond (is_output s.class) (record { name = s.name; ty = s.ty } ∷ output_columns slots) (output_columns slots)
+
+-- each turn names a slot
+pub record NameSlots (slots : List Slot) (turns : List Turn) : Type 0 where
+  pub named : All (λ turn. turn.name < length slots) turns

@@ -1,5 +1,7 @@
 pub mod TExprTree
 pub mod TStmtTree
+pub mod TExprViews
+pub mod TStmtViews
 pub mod Rules
 pub mod Meaning
 pub mod SourceRun

@@ -1,5 +1,5 @@
 -- Meaning: the values of expressions and what statements do, after IEC 61131-3, Structured Text, with this project's stops.
-use Rattle.std.specs.Prelude.{ℕ, zero, suc, ℤ, pos, neg_ℤ, ◌+ℤ◌, ◌-ℤ◌, ◌*ℤ◌, int_lt, int_le, int_div, int_rem, unsigned_abs, Bool, cond, not, ◌&&◌, ◌||◌, List, [], ◌∷◌, ◌++◌, slice_index_or, slice_set, Result, Ok, Err}
+use Rattle.std.specs.Prelude.{ℕ, zero, suc, ℤ, pos, neg_ℤ, ◌+ℤ◌, ◌-ℤ◌, ◌*ℤ◌, int_lt, int_le, int_div, int_rem, unsigned_abs, Bool, cond, not, ◌&&◌, ◌||◌, List, [], ◌∷◌, ◌++◌, slice_set, Result, Ok, Err}
 use Rattle.std.specs.List.{list_any}
 use Rattle.vcp_base.specs.declared.spot.Spot.{Spot}
 use Rattle.vcp_base.specs.declared.turns.Turn.{Turn}
@@ -9,6 +9,7 @@ use Rattle.vcp_base.specs.declared.kind.StopKind.{StopKind}
 use Rattle.vcp_base.specs.declared.kind.StopKind.TheVariants as why
 use Rattle.vcp_base.specs.Types.{fits}
 use Rattle.vcp_base.specs.Kinds.{same, truth}
+use Rattle.vcp_base.specs.Values.{at}
 use Rattle.st_tree.specs.declared.expr.UnOp.{UnOp}
 use Rattle.st_tree.specs.declared.expr.UnOp.TheVariants as un
 use Rattle.st_tree.specs.declared.expr.BinOp.{BinOp}
@@ -17,7 +18,7 @@ use Rattle.vcp_typed.specs.declared.expr.Fun.{Fun}
 use Rattle.vcp_typed.specs.declared.expr.Fun.TheVariants as fun
 use Rattle.vcp_typed.specs.declared.stmt.TLabel.{TLabel}
 use Rattle.vcp_typed.specs.TExprTree.{TExprTree, TExprTrees, literal, get, widen, unary, binary, call, no_texprs, and_texpr}
-use Rattle.vcp_typed.specs.TStmtTree.{TStmtTree, TStmtTrees, TArmTrees, TBranchTrees, TOtherTree, assign, choose, select, count, no_tstmts, and_tstmt, no_tarms, and_tarm, no_tbranches, and_tbranch, no_tother, tother}
+use Rattle.vcp_typed.specs.TStmtTree.{TStmtTree, TStmtTrees, TArmTrees, TBranchTrees, TOtherTree, assign, if_, case, for_, no_tstmts, and_tstmt, no_tarms, and_tarm, no_tbranches, and_tbranch, no_tother, tother}
 
 -- A stop: why, at which operator or function, and in which turns of the enclosing FORs, outermost first. The name of a
 -- turn is the number of the control variable's slot.
@@ -70,24 +71,16 @@ least a b = cond (int_lt b a) b a
 abbrev pub greatest : ℤ → ℤ → ℤ
 greatest a b = cond (int_lt a b) b a
 
--- the argument at a place
-abbrev pub argument : List ℤ → ℕ → ℤ
-argument vs j = slice_index_or vs j (pos 0)
-
 -- the value of a function, whose value has the type; SEL(G, IN0, IN1) is IN0 where G is FALSE, and LIMIT(MN, IN, MX) is MIN(MAX(IN, MN), MX)
 abbrev pub apply : Fun → Ty → Spot → List Turn → List ℤ → Result ℤ Stop
-apply fun.Abs t spot turns vs = in_range t spot turns (pos (unsigned_abs (argument vs 0)))
-apply fun.Min t spot turns vs = Ok (least (argument vs 0) (argument vs 1))
-apply fun.Max t spot turns vs = Ok (greatest (argument vs 0) (argument vs 1))
-apply fun.Limit t spot turns vs = Ok (least (greatest (argument vs 1) (argument vs 0)) (argument vs 2))
-apply fun.Sel t spot turns vs = Ok (cond (same (argument vs 0) (pos 0)) (argument vs 1) (argument vs 2))
-apply fun.IntToDint t spot turns vs = Ok (argument vs 0)
-apply fun.DintToInt t spot turns vs = in_range ty.Int spot turns (argument vs 0)
-apply fun.BoolToInt t spot turns vs = Ok (argument vs 0)
-
--- the value of a slot
-abbrev pub at : List ℤ → ℕ → ℤ
-at m slot = slice_index_or m slot (pos 0)
+apply fun.Abs t spot turns vs = in_range t spot turns (pos (unsigned_abs (at vs 0)))
+apply fun.Min t spot turns vs = Ok (least (at vs 0) (at vs 1))
+apply fun.Max t spot turns vs = Ok (greatest (at vs 0) (at vs 1))
+apply fun.Limit t spot turns vs = Ok (least (greatest (at vs 1) (at vs 0)) (at vs 2))
+apply fun.Sel t spot turns vs = Ok (cond (same (at vs 0) (pos 0)) (at vs 1) (at vs 2))
+apply fun.IntToDint t spot turns vs = Ok (at vs 0)
+apply fun.DintToInt t spot turns vs = in_range ty.Int spot turns (at vs 0)
+apply fun.BoolToInt t spot turns vs = Ok (at vs 0)
 
 -- The value of an expression where the slots have the values m. Operands and arguments are evaluated from the left, all of them.
 abbrev mutual
@@ -126,9 +119,9 @@ all_turns slot first by (suc n) body m = turns_from slot by body (suc n) first m
 abbrev mutual
   pub do_stmt : List Turn → TStmtTree → List ℤ → Result (List ℤ) Stop
   do_stmt turns (assign slot e spot) m = and_then (value turns e m) (λ v. Ok (slice_set m slot v))
-  do_stmt turns (choose arms o) m = do_arms turns arms (do_other turns o) m
-  do_stmt turns (select e branches o spot) m = and_then (value turns e m) (λ v. do_branches turns v branches (do_other turns o) m)
-  do_stmt turns (count slot first by n body spot) m =
+  do_stmt turns (if_ arms o) m = do_arms turns arms (do_other turns o) m
+  do_stmt turns (case e branches o spot) m = and_then (value turns e m) (λ v. do_branches turns v branches (do_other turns o) m)
+  do_stmt turns (for_ slot first by n body spot) m =
       all_turns slot first by n (λ v. do_stmts (turns ++ record { name = slot; value = v } ∷ []) body) m
 
   pub do_stmts : List Turn → TStmtTrees → List ℤ → Result (List ℤ) Stop

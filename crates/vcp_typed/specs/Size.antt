@@ -1,5 +1,6 @@
 -- Size: the room that the flattening of a program may take, in operations.
 use Rattle.std.specs.Prelude.{ℕ, zero, suc, ◌+◌, ◌*◌, min, cond, sum_by}
+use Rattle.vcp_base.specs.Limits.{most_size}
 use Rattle.st_tree.specs.declared.expr.BinOp.{BinOp}
 use Rattle.st_tree.specs.declared.expr.BinOp.TheVariants as bin
 use Rattle.st_tree.specs.declared.program.Class.{Class}
@@ -8,7 +9,7 @@ use Rattle.vcp_typed.specs.declared.expr.Fun.{Fun}
 use Rattle.vcp_typed.specs.declared.expr.Fun.TheVariants as fun
 use Rattle.vcp_typed.specs.declared.stmt.TLabel.{TLabel}
 use Rattle.vcp_typed.specs.TExprTree.{TExprTree, TExprTrees, literal, get, widen, unary, binary, call, no_texprs, and_texpr}
-use Rattle.vcp_typed.specs.TStmtTree.{TStmtTree, TStmtTrees, TArmTrees, TBranchTrees, TOtherTree, assign, choose, select, count, no_tstmts, and_tstmt, no_tarms, and_tarm, no_tbranches, and_tbranch, no_tother, tother}
+use Rattle.vcp_typed.specs.TStmtTree.{TStmtTree, TStmtTrees, TArmTrees, TBranchTrees, TOtherTree, assign, if_, case, for_, no_tstmts, and_tstmt, no_tarms, and_tarm, no_tbranches, and_tbranch, no_tother, tother}
 use Rattle.vcp_typed.specs.SourceRun.{Program}
 
 abbrev pub operator_size : BinOp → ℕ
@@ -57,10 +58,10 @@ label_size l = cond l.range 7 3
 abbrev mutual
   pub stmt_size : TStmtTree → ℕ
   stmt_size (assign slot e spot) = 1 + expr_size e
-  stmt_size (choose arms o) = arms_size arms + other_size o
-  stmt_size (select e branches o spot) = expr_size e + branches_size branches + other_size o
-  stmt_size (count slot first by zero body spot) = 2
-  stmt_size (count slot first by (suc n) body spot) = suc n * (2 + stmts_size body)
+  stmt_size (if_ arms o) = arms_size arms + other_size o
+  stmt_size (case e branches o spot) = expr_size e + branches_size branches + other_size o
+  stmt_size (for_ slot first by zero body spot) = 2
+  stmt_size (for_ slot first by (suc n) body spot) = suc n * (2 + stmts_size body)
 
   pub stmts_size : TStmtTrees → ℕ
   stmts_size no_tstmts = 0
@@ -92,4 +93,4 @@ size p = 2 + sum_by (λ s. class_size s.class) p.slots + stmts_size p.body
 
 -- a Size up to the first that is too large
 abbrev pub cut : ℕ → ℕ
-cut n = min n 65537
+cut n = min n (most_size + 1)

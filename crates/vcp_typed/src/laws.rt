@@ -18,19 +18,21 @@ ghost use Rattle.vcp_base.specs.Types.{fits};
 ghost use Rattle.vcp_typed.specs.declared.slot.Slot.{Slot};
 ghost use Rattle.vcp_typed.specs.Checked.{IsChecked, IsExpr, AreStmts, ty_of};
 ghost use Rattle.vcp_base.specs.Types.{AreIn};
-ghost use Rattle.vcp_typed.specs.Fitting.{AreRows, AreFit, input_types, output_types};
+ghost use Rattle.vcp_typed.specs.Fitting.{AreRows, AreFit, NameSlots, input_types, output_types};
 ghost use Rattle.vcp_typed.specs.Meaning.{value, do_stmts};
 ghost use Rattle.vcp_typed.specs.SourceRun.{Program, initial, with_inputs, outputs, cycle, source_run};
 ghost use Rattle.vcp_typed.specs.Items.{tarm_items, tbranch_items};
-ghost use Rattle.vcp_typed.specs.TExprTree.{TExprTree, call, texpr_tree, texpr_trees, texprs_and};
-ghost use Rattle.vcp_typed.specs.TStmtTree.{TStmtTrees, choose, select, count, tstmt_tree, tstmt_trees, tarm_trees, tbranch_trees, tother_tree, tstmts_and, tarms_and, tbranches_and};
+ghost use Rattle.vcp_typed.specs.TExprTree.{TExprTree, call};
+ghost use Rattle.vcp_typed.specs.TExprViews.{texpr_tree, texpr_trees, texprs_and};
+ghost use Rattle.vcp_typed.specs.TStmtTree.{TStmtTrees, if_, case, for_};
+ghost use Rattle.vcp_typed.specs.TStmtViews.{tstmt_tree, tstmt_trees, tarm_trees, tbranch_trees, tother_tree, tstmts_and, tarms_and, tbranches_and};
 
 /// What a node holds that has lists: the trees of their items.
 pub fn trees_of_nodes()
     ensures call { (fun : Fun) (t : Ty) (args : TExprs) (spot : Spot) → texpr_tree (Call fun t args spot) ≡ call fun t (texpr_trees args.items.items) spot }
-    ensures choose { (arms : TArms) (other : Option TStmts) → tstmt_tree (If arms other) ≡ choose (tarm_trees (tarm_items arms)) (tother_tree other) }
-    ensures select { (on : TExpr) (branches : TBranches) (other : Option TStmts) (spot : Spot) → tstmt_tree (Case on branches other spot) ≡ select (texpr_tree on) (tbranch_trees (tbranch_items branches)) (tother_tree other) spot }
-    ensures count { (slot : ℕ) (first by : ℤ) (turns : ℕ) (body : TStmts) (spot : Spot) → tstmt_tree (For slot first by turns body spot) ≡ count slot first by turns (tstmt_trees body.items.items) spot }
+    ensures if_ { (arms : TArms) (other : Option TStmts) → tstmt_tree (If arms other) ≡ if_ (tarm_trees (tarm_items arms)) (tother_tree other) }
+    ensures case { (on : TExpr) (branches : TBranches) (other : Option TStmts) (spot : Spot) → tstmt_tree (Case on branches other spot) ≡ case (texpr_tree on) (tbranch_trees (tbranch_items branches)) (tother_tree other) spot }
+    ensures for_ { (slot : ℕ) (first by : ℤ) (turns : ℕ) (body : TStmts) (spot : Spot) → tstmt_tree (For slot first by turns body spot) ≡ for_ slot first by turns (tstmt_trees body.items.items) spot }
 {}
 
 /// The trees of a list with one item more are the trees of the list with one tree more.
@@ -57,4 +59,11 @@ pub fn causes_of_stops()
     ensures value { (e : TExprTree) (turns : List Turn) (m : List ℤ) → IfErr (value turns e m) (λ s. s.kind ≡ why.Operand → ⊥) }
     ensures body { (ss : TStmtTrees) (turns : List Turn) (m : List ℤ) → IfErr (do_stmts turns ss m) (λ s. s.kind ≡ why.Operand → ⊥) }
     ensures run { (p : Program) (rows : List (List ℤ)) → IfSome (source_run p rows).end (λ s. s.kind ≡ why.Operand → ⊥) }
+{}
+
+/// Every turn of a stop of a checked program names one of its slots.
+pub fn turns_name_slots()
+    ensures body { (slots : List Slot) (held : List ℕ) (ss : TStmtTrees) (turns : List Turn) (m : List ℤ) → AreStmts slots held ss → NameSlots slots turns → IfErr (do_stmts turns ss m) (λ s. NameSlots slots s.turns) }
+    ensures cycle { (p : Program) (m row : List ℤ) → IsChecked p → IfErr (cycle p m row) (λ s. NameSlots p.slots s.turns) }
+    ensures run { (p : Program) (rows : List (List ℤ)) → IsChecked p → IfSome (source_run p rows).end (λ s. NameSlots p.slots s.turns) }
 {}

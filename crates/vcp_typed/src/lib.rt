@@ -12,7 +12,7 @@ mod stmt;
 mod typed;
 
 pub use expr::{Fun, TExpr, TExprs};
-pub use laws::{causes_of_stops, trees_of_appended, trees_of_nodes, values_fit};
+pub use laws::{causes_of_stops, trees_of_appended, trees_of_nodes, turns_name_slots, values_fit};
 pub use size::size_of;
 pub use slot::{Slot, Slots};
 pub use stmt::{TArm, TArms, TBranch, TBranches, TLabel, TLabels, TStmt, TStmts};

@@ -1,22 +1,24 @@
 //! The Size of a checked program, up to the first that is too large.
 
 ghost use Rattle.std.specs.Prelude.{◌≡◌, ◌≤◌, ◌+◌, ◌*◌, sum_by};
+ghost use Rattle.vcp_base.specs.Limits.{most_size};
 ghost use Rattle.vcp_typed.specs.Size.{cut, operator_size, function_size, expr_size, exprs_size, label_size, stmt_size, stmts_size, arms_size, branches_size, other_size, class_size, size};
-ghost use Rattle.vcp_typed.specs.TExprTree.{texpr_tree, texpr_trees};
-ghost use Rattle.vcp_typed.specs.TStmtTree.{tstmt_tree, tstmt_trees, tarm_trees, tbranch_trees, tother_tree};
+ghost use Rattle.vcp_typed.specs.TExprViews.{texpr_tree, texpr_trees};
+ghost use Rattle.vcp_typed.specs.TStmtViews.{tstmt_tree, tstmt_trees, tarm_trees, tbranch_trees, tother_tree};
 
 use crate::expr::{Fun, TExpr};
 use crate::slot::{Slot, Slots};
 use crate::stmt::{TArm, TBranch, TLabel, TStmt, TStmts};
 use st_tree::{BinOp, Class};
+use vcp_base::MOST_SIZE;
 
 /// The least Size that no program may have.
-const TOO_LARGE: u32 = 65_537;
+const TOO_LARGE: u32 = MOST_SIZE + 1;
 
 // The sum of two Sizes, cut at the first that is too large.
 fn plus(a: u32, b: u32) -> u32
-    requires a { a ≤ 65537 }
-    requires b { b ≤ 65537 }
+    requires a { a ≤ most_size + 1 }
+    requires b { b ≤ most_size + 1 }
     ensures { result ≡ cut (a + b) }
 {
     (a + b).min(TOO_LARGE)
@@ -24,11 +26,11 @@ fn plus(a: u32, b: u32) -> u32
 
 // A Size so many times, cut at the first that is too large.
 fn times(n: u64, a: u32) -> u32
-    requires { a ≤ 65537 }
+    requires { a ≤ most_size + 1 }
     ensures { result ≡ cut (n * a) }
 {
-    let n = n.min(65_537) as u32;
-    (u64::from(n) * u64::from(a)).min(65_537) as u32
+    let n = n.min(u64::from(TOO_LARGE)) as u32;
+    (u64::from(n) * u64::from(a)).min(u64::from(TOO_LARGE)) as u32
 }
 
 fn operator_size(op: BinOp) -> u32

@@ -1,9 +1,10 @@
 //! Checked statements.
 
 ghost use Rattle.std.specs.Prelude.{◌≡◌, ◌<◌, ◌+◌, [], ◌∷◌, ◌++◌, Some, OnOk, OnErr, drop, length, slice_get};
-ghost use Rattle.vcp_typed.specs.TExprTree.{texpr_tree};
+ghost use Rattle.vcp_typed.specs.TExprViews.{texpr_tree};
 ghost use Rattle.vcp_typed.specs.Items.{tarm_items, tbranch_items};
-ghost use Rattle.vcp_typed.specs.TStmtTree.{assign as assign_tree, choose as choose_tree, select as select_tree, count as count_tree, no_tstmts, and_tstmt, no_tarms, and_tarm, no_tbranches, and_tbranch, tstmt_tree, tstmt_trees, tarm_trees, tbranch_trees, tother_tree, tstmts_and, tarms_and, tbranches_and};
+ghost use Rattle.vcp_typed.specs.TStmtTree.{assign as assign_tree, if_ as if_tree, case as case_tree, for_ as for_tree, no_tstmts, and_tstmt, no_tarms, and_tarm, no_tbranches, and_tbranch};
+ghost use Rattle.vcp_typed.specs.TStmtViews.{tstmt_tree, tstmt_trees, tarm_trees, tbranch_trees, tother_tree, tstmts_and, tarms_and, tbranches_and};
 
 use crate::expr::TExpr;
 use std::alloc::Global;
@@ -263,17 +264,17 @@ impl TStmt {
     }
 
     /// IF with its ELSIFs, and the body of ELSE where there is one.
-    pub fn choose(arms: TArms, other: Option<TStmts>) -> TStmt
+    pub fn if_(arms: TArms, other: Option<TStmts>) -> TStmt
         ensures { tstmt_tree result
-            ≡ choose_tree (tarm_trees (tarm_items arms)) (tother_tree other) }
+            ≡ if_tree (tarm_trees (tarm_items arms)) (tother_tree other) }
     {
         TStmt::If { arms, other }
     }
 
     /// CASE with its branches, and the body of ELSE where there is one.
-    pub fn select(on: TExpr, branches: TBranches, other: Option<TStmts>, spot: Spot) -> TStmt
+    pub fn case(on: TExpr, branches: TBranches, other: Option<TStmts>, spot: Spot) -> TStmt
         ensures { tstmt_tree result
-            ≡ select_tree
+            ≡ case_tree
             (texpr_tree on)
             (tbranch_trees (tbranch_items branches))
             (tother_tree other)
@@ -288,9 +289,9 @@ impl TStmt {
     }
 
     /// FOR over so many turns: the control variable is `first`, `first + by` and so on.
-    pub fn count(slot: u32, first: i64, by: i64, turns: u64, body: TStmts, spot: Spot) -> TStmt
+    pub fn for_(slot: u32, first: i64, by: i64, turns: u64, body: TStmts, spot: Spot) -> TStmt
         ensures { tstmt_tree result
-            ≡ count_tree slot first by turns (tstmt_trees body.items.items) spot }
+            ≡ for_tree slot first by turns (tstmt_trees body.items.items) spot }
     {
         TStmt::For {
             slot,

@@ -71,7 +71,7 @@ fn choice(alloc: Global, other: bool) -> Result<TStmt, Memory> {
         body: one(alloc, literal())?,
         spot: spot(),
     })?;
-    Ok(TStmt::choose(arms, other_or_none(alloc, other)?))
+    Ok(TStmt::if_(arms, other_or_none(alloc, other)?))
 }
 
 fn selection(alloc: Global, other: bool) -> Result<TStmt, Memory> {
@@ -83,7 +83,7 @@ fn selection(alloc: Global, other: bool) -> Result<TStmt, Memory> {
         labels,
         body: one(alloc, literal())?,
     })?;
-    Ok(TStmt::select(
+    Ok(TStmt::case(
         TExpr::get(0, Ty::Int),
         branches,
         other_or_none(alloc, other)?,
@@ -133,7 +133,7 @@ fn body(alloc: Global, part: Part) -> Result<TStmts, Memory> {
         Part::Selection { other } => alone(alloc, selection(alloc, other)?),
         Part::Loop(turns) => {
             let inner = one(alloc, literal())?;
-            alone(alloc, TStmt::count(0, 1, 1, turns, inner, spot()))
+            alone(alloc, TStmt::for_(0, 1, 1, turns, inner, spot()))
         }
     }
 }
@@ -272,5 +272,6 @@ fn a_checked_program_tells_what_it_holds(rt: HostRuntime) -> Result<(), Fail> {
     assert_eq!(rt; program.slots().len(), 2);
     assert!(rt; assigns(program.body(), 1));
     assert!(rt; is_column(&program.columns(alloc)?, b"x", Ty::Dint));
+    assert!(rt; is_column(&program.output_columns(alloc)?, b"y", Ty::Dint));
     Ok(())
 }

@@ -2,9 +2,9 @@
 
 ghost use Rattle.std.specs.Prelude.{◌≡◌, [], ◌∷◌, ◌++◌, IfOk, OnOk};
 ghost use Rattle.vcp_typed.specs.Checked.{IsChecked};
-ghost use Rattle.vcp_typed.specs.Fitting.{input_columns};
+ghost use Rattle.vcp_typed.specs.Fitting.{input_columns, output_columns as output_columns_of};
 ghost use Rattle.vcp_typed.specs.Size.{size};
-ghost use Rattle.vcp_typed.specs.TStmtTree.{tstmt_trees};
+ghost use Rattle.vcp_typed.specs.TStmtViews.{tstmt_trees};
 
 use crate::size::size_of;
 use crate::slot::{Slot, Slots};
@@ -28,7 +28,7 @@ impl Model for Typed {
     ghost use Rattle.vcp_typed.specs.Codes.{program_code};
     ghost use Rattle.vcp_typed.specs.Size.{size as program_size};
     ghost use Rattle.vcp_typed.specs.SourceRun.{Program};
-    ghost use Rattle.vcp_typed.specs.TStmtTree.{tstmt_trees};
+    ghost use Rattle.vcp_typed.specs.TStmtViews.{tstmt_trees};
 
     ghost Value = { Program };
 
@@ -74,6 +74,13 @@ impl Typed {
         inputs_of(alloc, &self.slots.items)
     }
 
+    /// The names and types of the outputs, in order of declaration; `Memory` where there is no room for them.
+    pub fn output_columns(&self, alloc: Global) -> Result<Columns, Memory>
+        ensures { IfOk result (λ columns. columns ≡ output_columns_of self.now.slots) }
+    {
+        outputs_of(alloc, &self.slots.items)
+    }
+
     /// The Size of the program: the most operations that it is flattened to. At most 65,536.
     pub fn size(&self) -> u32
         ensures size { result ≡ size self.now }
@@ -100,6 +107,30 @@ fn add_input(alloc: Global, columns: &mut Columns, slot: &Slot) -> Result<(), Me
 {
     match slot.class {
         Class::Input => columns.push(Column {
+            name: Text::copy_of(alloc, slot.name.bytes())?,
+            ty: slot.ty,
+        }),
+        _ => Ok(()),
+    }
+}
+
+// The columns of the outputs among the slots.
+fn outputs_of(alloc: Global, slots: &[Slot]) -> Result<Columns, Memory>
+    ensures { IfOk result (λ columns. columns ≡ output_columns_of slots.now) }
+{
+    let mut columns = Columns::new(alloc);
+    'each: for slot in slots {
+        add_output(alloc, &mut columns, slot)?;
+    }
+    Ok(columns)
+}
+
+/// Appends the slot's column where the slot is an output.
+fn add_output(alloc: Global, columns: &mut Columns, slot: &Slot) -> Result<(), Memory>
+    ensures { OnOk result (columns.new ≡ columns.old ++ output_columns_of (slot.now ∷ [])) }
+{
+    match slot.class {
+        Class::Output => columns.push(Column {
             name: Text::copy_of(alloc, slot.name.bytes())?,
             ty: slot.ty,
         }),

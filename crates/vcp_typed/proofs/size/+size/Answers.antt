@@ -1,5 +1,5 @@
 use Rattle.std.proofs.Common.{ap, arith}
-use Rattle.vcp_typed.specs.TExprTree.{texpr_trees}
+use Rattle.vcp_typed.specs.TExprViews.{texpr_trees}
 use Rattle.vcp_typed.specs.Size.{exprs_size}
 use Rattle.vcp_typed.proofs.Sizes.{size-call}
 use Rattle.vcp_typed.proofs.size.+size.Goals as goal

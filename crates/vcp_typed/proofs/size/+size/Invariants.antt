@@ -1,5 +1,5 @@
 use Rattle.std.proofs.Common.{◌≡◌, ◌+◌, ◌≤◌, drop}
-use Rattle.vcp_typed.specs.TExprTree.{texpr_trees}
+use Rattle.vcp_typed.specs.TExprViews.{texpr_trees}
 use Rattle.vcp_typed.specs.Size.{cut, exprs_size}
 use Rattle.vcp_typed.proofs.size.+size.Given as goal
 

@@ -1,5 +1,5 @@
 use Rattle.std.proofs.Common.{◌+◌, ◌*◌, ◌<◌, ap, ◌∙◌, sym, arith}
-use Rattle.vcp_typed.specs.TStmtTree.{tstmt_trees}
+use Rattle.vcp_typed.specs.TStmtViews.{tstmt_trees}
 use Rattle.vcp_typed.specs.Size.{cut, stmts_size}
 use Rattle.vcp_typed.proofs.Sizes.{size-if, size-case, size-for, cut-times, cut-two}
 use Rattle.vcp_typed.proofs.size.+sizes.Goals as goal

@@ -1,5 +1,5 @@
 use Rattle.std.proofs.Common.{◌≡◌, ◌+◌, ◌≤◌, drop}
-use Rattle.vcp_typed.specs.TStmtTree.{tstmt_trees, tarm_trees, tbranch_trees}
+use Rattle.vcp_typed.specs.TStmtViews.{tstmt_trees, tarm_trees, tbranch_trees}
 use Rattle.vcp_typed.specs.Size.{cut, stmts_size, arms_size, branches_size}
 use Rattle.vcp_typed.proofs.size.+sizes.Given as goal
 

@@ -1,5 +1,5 @@
 use Rattle.std.proofs.Common.{ap, ◌∙◌}
-use Rattle.vcp_typed.specs.TExprTree.{texpr_trees}
+use Rattle.vcp_typed.specs.TExprViews.{texpr_trees}
 use Rattle.vcp_typed.proofs.Appends.{exprs-append}
 use Rattle.vcp_typed.proofs.expr.TExprs.push.Goals as goal
 

@@ -1,7 +1,7 @@
 use Rattle.std.proofs.Common.{ap, ◌∙◌, rules}
 use Rattle.vcp_typed.specs.declared.stmt.TStmt.{the_lemmas}
 use Rattle.vcp_typed.specs.Items.{tarm_items}
-use Rattle.vcp_typed.specs.TStmtTree.{tarm_trees}
+use Rattle.vcp_typed.specs.TStmtViews.{tarm_trees}
 use Rattle.vcp_typed.proofs.Appends.{arms-append}
 use Rattle.vcp_typed.proofs.stmt.TArms.push.Goals as goal
 

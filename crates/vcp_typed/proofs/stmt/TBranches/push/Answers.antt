@@ -1,7 +1,7 @@
 use Rattle.std.proofs.Common.{ap, ◌∙◌, rules}
 use Rattle.vcp_typed.specs.declared.stmt.TStmt.{the_lemmas}
 use Rattle.vcp_typed.specs.Items.{tbranch_items}
-use Rattle.vcp_typed.specs.TStmtTree.{tbranch_trees}
+use Rattle.vcp_typed.specs.TStmtViews.{tbranch_trees}
 use Rattle.vcp_typed.proofs.Appends.{branches-append}
 use Rattle.vcp_typed.proofs.stmt.TBranches.push.Goals as goal
 

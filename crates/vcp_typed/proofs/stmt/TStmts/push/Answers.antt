@@ -1,5 +1,5 @@
 use Rattle.std.proofs.Common.{ap, ◌∙◌}
-use Rattle.vcp_typed.specs.TStmtTree.{tstmt_trees}
+use Rattle.vcp_typed.specs.TStmtViews.{tstmt_trees}
 use Rattle.vcp_typed.proofs.Appends.{stmts-append}
 use Rattle.vcp_typed.proofs.stmt.TStmts.push.Goals as goal
 

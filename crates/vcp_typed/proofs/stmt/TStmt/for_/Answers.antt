@@ -2,7 +2,7 @@ use Rattle.std.proofs.Common.{w64}
 use Rattle.std.proofs.lemmas.Int.{to_z-of_z}
 use mir.Val.{SFits}
 use Rattle.vcp_typed.proofs.Rows.{tree-for}
-use Rattle.vcp_typed.proofs.stmt.TStmt.count.Goals as goal
+use Rattle.vcp_typed.proofs.stmt.TStmt.for_.Goals as goal
 
 pub returns : goal.returns
 returns c =
