@@ -5,7 +5,7 @@ use Rattle.std.proofs.lemmas.Slice.Eq.{bytes_eq-Decides}
 use Rattle.std.specs.Char.{to_ascii_lowercase}
 use Rattle.vcp_base.specs.declared.ty.Ty.{Ty}
 use Rattle.vcp_base.specs.declared.ty.Ty.TheVariants as ty
-use Rattle.vcp_base.specs.Names.{SameName}
+use Rattle.vcp_base.specs.Names.{SameName, is_same_name}
 use Rattle.vcp_base.specs.Types.{fits, within}
 use Rattle.st_tree.specs.declared.program.Class.{Class}
 use Rattle.st_tree.specs.declared.program.Class.TheVariants as class
@@ -16,7 +16,7 @@ use Rattle.vcp_typed.specs.Checked.{SlotFits, SlotsFit}
 use Rattle.st_types.specs.declared.fault.Fault.{Fault}
 use Rattle.st_types.specs.declared.fault.Rule.TheVariants as rule
 use Rattle.st_types.specs.Faults.{fault}
-use Rattle.st_types.specs.Scope.{Entry, is_same_name, find}
+use Rattle.st_types.specs.Scope.{Entry, find}
 use Rattle.st_types.specs.StmtTyping.{Known}
 use Rattle.st_tree.specs.Declarable.{IsDeclarable, AreDeclarable}
 use Rattle.st_types.specs.StmtTyping.{is_constant}
@@ -159,7 +159,7 @@ added-sound m k t v d true c h n w f = record {
 }
 added-sound m k t v d false c h n w f =
     let s = new_slot k t v d in
-    let fit : SlotFits m.slots s = record { short = w.0; letters = w.1; new = h.named d.name n; init = f; variable = not-constant k c } in
+    let fit : SlotFits m.slots s = record { name = record { short = w.0; letters = w.1; new = h.named d.name n }; init = f; variable = not-constant k c } in
     record {
       slots = slots-push [] m.slots s h.slots fit;
       scope = scope-push (m.slots ++ s ∷ []) m.entries (new_entry m k t v d) (scope-kept m.slots s m.entries h.scope)

@@ -1,56 +1,39 @@
 -- DeclNodes: the steps of typing declarations, one after another.
-use Rattle.std.proofs.Common.{◌≡◌, ◌⊎◌, inl, inr, ℤ, false, List, [], ◌∷◌, Option, Some, None, refl, subst}
+use Rattle.std.proofs.Common.{◌≡◌, ◌⊎◌, inl, inr, ℕ, ℤ, false, List, [], ◌∷◌, Option, Some, None, option_map, refl, sym, ap, ◌∙◌, subst}
+use Rattle.vcp_base.specs.declared.spot.Spot.{Spot}
 use Rattle.vcp_base.specs.declared.ty.Ty.{Ty}
+use Rattle.st_tree.specs.declared.expr.UnOp.{UnOp}
 use Rattle.st_tree.specs.declared.program.Class.{Class}
-use Rattle.st_tree.specs.ExprTree.{ExprTree, literal, name, unary, binary, call}
+use Rattle.st_tree.specs.ExprTree.{ExprTree, literal, name, unary}
 use Rattle.st_tree.specs.ProgramTree.{DeclaredTree, DeclTree, BlockTree}
 use Rattle.st_types.specs.declared.fault.Fault.{Fault}
 use Rattle.st_types.specs.declared.fault.Rule.TheVariants as rule
 use Rattle.st_types.specs.Faults.{fault}
 use Rattle.st_types.specs.Notes.{Notes}
 use Rattle.st_types.specs.Scope.{Entry}
-use Rattle.st_types.specs.StmtTyping.{Known}
-use Rattle.st_types.specs.DeclTyping.{Made, is_new, after_name, after_names, known_init, init_value, Misfit, NamesFault, ValueFault, InitFault, after_decl, DeclFault, after_decls, DeclsFault, after_blocks, BlocksFault}
-use Rattle.st_types.specs.DeclSteps.{FormFault, InitForm, DeclForm, DeclsForm, BlocksForm, NoName, InitNoName, DeclsNoName, BlocksNoName, JudgesInit, Makes, MakesNames}
-use Rattle.st_types.proofs.NoteLaws.{quiet, pair, notes-as}
+use Rattle.st_types.specs.StmtTyping.{Known, spot_of, known_negated, constant, form_of_known, form_of_negated, form}
+use Rattle.st_types.specs.ExprTyping.{Untyped, negated}
+use Rattle.st_types.specs.DeclTyping.{Made, is_new, after_name, after_names, known_init, init_value, Misfit, NamesFault, InitFault, after_decl, DeclFault, after_decls, DeclsFault, after_blocks, BlocksFault}
+use Rattle.st_types.specs.DeclSteps.{FormFault, Judges, InitForm, DeclForm, DeclsForm, BlocksForm, InitInside, DeclsInside, BlocksInside, JudgesInit, Makes, MakesNames}
+use Rattle.st_types.proofs.NoteLaws.{quiet, pair, notes-as, note-where, note-always}
+use Rattle.st_types.proofs.ConstantLaws.{name-form, sign-form}
 
--- ---- unknown names apart from other faults
+-- ---- faults inside initial values apart from other faults
 
-value-split : (all before : List Entry) (e : ExprTree) (f : Fault) → ValueFault all before e f → FormFault before e f ⊎ NoName all e f
-value-split all before (literal t v spot) f h = inl h
-value-split all before (name n spot) f (inl h) = inr h
-value-split all before (name n spot) f (inr h) = inl h
-value-split all before (unary op a spot) f h = inl h
-value-split all before (binary op a b spot) f h = inl h
-value-split all before (call n es spot) f h = inl h
-
-value-form : (all before : List Entry) (e : ExprTree) (f : Fault) → FormFault before e f → ValueFault all before e f
-value-form all before (literal t v spot) f h = h
-value-form all before (name n spot) f h = inr h
-value-form all before (unary op a spot) f h = h
-value-form all before (binary op a b spot) f h = h
-value-form all before (call n es spot) f h = h
-
-value-name : (all before : List Entry) (e : ExprTree) (f : Fault) → NoName all e f → ValueFault all before e f
-value-name all before (literal t v spot) f h = absurd h
-value-name all before (name n spot) f h = inl h
-value-name all before (unary op a spot) f h = absurd h
-value-name all before (binary op a b spot) f h = absurd h
-value-name all before (call n es spot) f h = absurd h
-
-init-split : (all before : List Entry) (i : Option ExprTree) (f : Fault) → InitFault all before i f → InitForm before i f ⊎ InitNoName all i f
+init-split : (all before : List Entry) (i : Option ExprTree) (f : Fault) → InitFault all before i f → InitForm before i f ⊎ InitInside all i f
 init-split all before None f h = absurd h
-init-split all before (Some e) f h = value-split all before e f h
+init-split all before (Some e) f (inl h) = inr h
+init-split all before (Some e) f (inr h) = inl h
 
 init-form : (all before : List Entry) (i : Option ExprTree) (f : Fault) → InitForm before i f → InitFault all before i f
 init-form all before None f h = absurd h
-init-form all before (Some e) f h = value-form all before e f h
+init-form all before (Some e) f h = inr h
 
-init-name : (all before : List Entry) (i : Option ExprTree) (f : Fault) → InitNoName all i f → InitFault all before i f
-init-name all before None f h = absurd h
-init-name all before (Some e) f h = value-name all before e f h
+init-inside : (all before : List Entry) (i : Option ExprTree) (f : Fault) → InitInside all i f → InitFault all before i f
+init-inside all before None f h = absurd h
+init-inside all before (Some e) f h = inl h
 
-decl-split : (all : List Entry) (k : Class) (m : Made) (d : DeclTree) (f : Fault) → DeclFault all k m d f → DeclForm k m d f ⊎ InitNoName all d.init f
+decl-split : (all : List Entry) (k : Class) (m : Made) (d : DeclTree) (f : Fault) → DeclFault all k m d f → DeclForm k m d f ⊎ InitInside all d.init f
 decl-split all k m d f (inl h) = elim (init-split all m.entries d.init f h) [ inl a ↦ inl (inl a) | inr b ↦ inr b ]
 decl-split all k m d f (inr h) = inl (inr h)
 
@@ -58,7 +41,7 @@ decl-form : (all : List Entry) (k : Class) (m : Made) (d : DeclTree) (f : Fault)
 decl-form all k m d f (inl h) = inl (init-form all m.entries d.init f h)
 decl-form all k m d f (inr h) = inr h
 
-decls-split : (all : List Entry) (k : Class) (m : Made) (ds : List DeclTree) (f : Fault) → DeclsFault all k m ds f → DeclsForm k m ds f ⊎ DeclsNoName all ds f
+decls-split : (all : List Entry) (k : Class) (m : Made) (ds : List DeclTree) (f : Fault) → DeclsFault all k m ds f → DeclsForm k m ds f ⊎ DeclsInside all ds f
 decls-split all k m [] f h = absurd h
 decls-split all k m (d ∷ ds) f (inl h) = elim (decl-split all k m d f h) [ inl a ↦ inl (inl a) | inr b ↦ inr (inl b) ]
 decls-split all k m (d ∷ ds) f (inr h) = elim (decls-split all k (after_decl k m d) ds f h) [ inl a ↦ inl (inr a) | inr b ↦ inr (inr b) ]
@@ -68,12 +51,12 @@ decls-form all k m [] f h = absurd h
 decls-form all k m (d ∷ ds) f (inl h) = inl (decl-form all k m d f h)
 decls-form all k m (d ∷ ds) f (inr h) = inr (decls-form all k (after_decl k m d) ds f h)
 
-decls-name : (all : List Entry) (k : Class) (m : Made) (ds : List DeclTree) (f : Fault) → DeclsNoName all ds f → DeclsFault all k m ds f
-decls-name all k m [] f h = absurd h
-decls-name all k m (d ∷ ds) f (inl h) = inl (inl (init-name all m.entries d.init f h))
-decls-name all k m (d ∷ ds) f (inr h) = inr (decls-name all k (after_decl k m d) ds f h)
+decls-inside : (all : List Entry) (k : Class) (m : Made) (ds : List DeclTree) (f : Fault) → DeclsInside all ds f → DeclsFault all k m ds f
+decls-inside all k m [] f h = absurd h
+decls-inside all k m (d ∷ ds) f (inl h) = inl (inl (init-inside all m.entries d.init f h))
+decls-inside all k m (d ∷ ds) f (inr h) = inr (decls-inside all k (after_decl k m d) ds f h)
 
-blocks-split : (all : List Entry) (m : Made) (bs : List BlockTree) (f : Fault) → BlocksFault all m bs f → BlocksForm m bs f ⊎ BlocksNoName all bs f
+blocks-split : (all : List Entry) (m : Made) (bs : List BlockTree) (f : Fault) → BlocksFault all m bs f → BlocksForm m bs f ⊎ BlocksInside all bs f
 blocks-split all m [] f h = absurd h
 blocks-split all m (b ∷ bs) f (inl h) = elim (decls-split all b.class m b.decls f h) [ inl a ↦ inl (inl a) | inr b ↦ inr (inl b) ]
 blocks-split all m (b ∷ bs) f (inr h) = elim (blocks-split all (after_decls b.class m b.decls) bs f h) [ inl a ↦ inl (inr a) | inr b ↦ inr (inr b) ]
@@ -83,18 +66,43 @@ blocks-form all m [] f h = absurd h
 blocks-form all m (b ∷ bs) f (inl h) = inl (decls-form all b.class m b.decls f h)
 blocks-form all m (b ∷ bs) f (inr h) = inr (blocks-form all (after_decls b.class m b.decls) bs f h)
 
-blocks-name : (all : List Entry) (m : Made) (bs : List BlockTree) (f : Fault) → BlocksNoName all bs f → BlocksFault all m bs f
-blocks-name all m [] f h = absurd h
-blocks-name all m (b ∷ bs) f (inl h) = inl (decls-name all b.class m b.decls f h)
-blocks-name all m (b ∷ bs) f (inr h) = inr (blocks-name all (after_decls b.class m b.decls) bs f h)
+blocks-inside : (all : List Entry) (m : Made) (bs : List BlockTree) (f : Fault) → BlocksInside all bs f → BlocksFault all m bs f
+blocks-inside all m [] f h = absurd h
+blocks-inside all m (b ∷ bs) f (inl h) = inl (decls-inside all b.class m b.decls f h)
+blocks-inside all m (b ∷ bs) f (inr h) = inr (blocks-inside all (after_decls b.class m b.decls) bs f h)
 
 -- both walks together meet all faults of declarations
-pub two-walks : (a b c : Option Fault) (all : List Entry) (m n end : Made) (bs : List BlockTree) → Makes a b n end (BlocksForm m bs) → Notes b c (BlocksNoName all bs) → Makes a c n end (BlocksFault all m bs)
+pub two-walks : (a b c : Option Fault) (all : List Entry) (m n end : Made) (bs : List BlockTree) → Makes a b n end (BlocksForm m bs) → Notes b c (BlocksInside all bs) → Makes a c n end (BlocksFault all m bs)
 two-walks a b c all m n end bs h k = record {
-  notes = notes-as a c (λ f. BlocksForm m bs f ⊎ BlocksNoName all bs f) (BlocksFault all m bs) (pair a b c (BlocksForm m bs) (BlocksNoName all bs) h.notes k)
+  notes = notes-as a c (λ f. BlocksForm m bs f ⊎ BlocksInside all bs f) (BlocksFault all m bs) (pair a b c (BlocksForm m bs) (BlocksInside all bs) h.notes k)
       (λ f. blocks-split all m bs f)
-      (λ f s. elim s [ inl x ↦ blocks-form all m bs f x | inr y ↦ blocks-name all m bs f y ]);
+      (λ f s. elim s [ inl x ↦ blocks-form all m bs f x | inr y ↦ blocks-inside all m bs f y ]);
   gives = h.gives;
+}
+
+-- ---- initial values
+
+pub literal-judges : (s : List Entry) (t : Option Ty) (v : ℤ) (p : Spot) (a : Option Fault) (k : Option Known) → k ≡ constant s (literal t v p) → Judges s (literal t v p) a a k
+literal-judges s t v p a k is = record { notes = quiet a (FormFault s (literal t v p)) (λ f h. absurd cc); gives = is }
+
+pub name-judges : (s : List Entry) (n : List ℕ) (p : Spot) (a b : Option Fault) (k : Option Known) → k ≡ constant s (name n p) → Notes a b (λ f. (f ≡ fault rule.Bound p) × (k ≡ None)) → Judges s (name n p) a b k
+name-judges s n p a b k is h = record {
+  notes = note-where a b (fault rule.Bound p) (k ≡ None) (form s (name n p) ≡ None) h (λ e. is ∙ name-form (constant s (name n p)) e) (λ e. ap (option_map form_of_known) (sym is ∙ e));
+  gives = is;
+}
+
+pub sign-judges : (s : List Entry) (op : UnOp) (x : ExprTree) (p : Spot) (a b : Option Fault) (l : Option Untyped) (k : Option Known) → l ≡ negated op x
+    → Notes a b (λ f. (f ≡ fault rule.Bound p) × (l ≡ None)) → k ≡ known_negated l → Judges s (unary op x p) a b k
+sign-judges s op x p a b l k is h gives = record {
+  notes = note-where a b (fault rule.Bound p) (l ≡ None) (form s (unary op x p) ≡ None) h (λ e. is ∙ sign-form (negated op x) e) (λ e. ap (option_map form_of_negated) (sym is ∙ e));
+  gives = gives ∙ ap known_negated is;
+}
+
+-- what else is no constant form
+pub other-judges : (s : List Entry) (e : ExprTree) (p : Spot) (a b : Option Fault) → p ≡ spot_of e → form s e ≡ None → constant s e ≡ None → Notes a b (λ f. f ≡ fault rule.Bound p) → Judges s e a b None
+other-judges s e p a b at never none h = record {
+  notes = note-always a b (fault rule.Bound (spot_of e)) (form s e ≡ None) (subst (λ q. Notes a b (λ f. f ≡ fault rule.Bound q)) at h) never;
+  gives = sym none;
 }
 
 -- ---- names

@@ -15,7 +15,8 @@ use Rattle.st_types.specs.Faults.{fault}
 use Rattle.st_types.specs.StmtTyping.{StmtsFault, stmts_of}
 use Rattle.st_types.specs.DeclTyping.{nothing_made, BlocksFault}
 use Rattle.st_tree.specs.Declarable.{names_of, HasNames}
-use Rattle.st_types.specs.Typing.{most_names, made, typed_of, IsFaultless, IsTyped, IsTooLarge, Refuses}
+use Rattle.vcp_base.specs.Limits.{most_names}
+use Rattle.st_types.specs.Typing.{made, typed_of, IsFaultless, IsTyped, IsTooLarge, Refuses}
 use Rattle.st_types.proofs.ExprLaws.{some-none, same-value}
 use Rattle.st_types.proofs.StmtLaws.{no-stmts, fault-no-stmts}
 use Rattle.st_types.proofs.MadeChecked.{stmts-checked}
@@ -82,7 +83,7 @@ typed-checked p t w h =
     let k = typed-keeps p t w h.faultless h.is in
     record { slots = k.slots; body = k.body; few = few-enough (length t.slots) (length (names_of p)) k.few h.few; room = h.room }
   where
-    few-enough : (n m : ℕ) → n ≤ m → m ≤ 1024 → n ≤ 1024
+    few-enough : (n m : ℕ) → n ≤ m → m ≤ most_names → n ≤ most_names
     few-enough n m h k = omega arith
 
 body-there : (p : ProgramTree) (o : Option TStmtTrees) (t : Program) → option_map (λ body. record { slots = (made p).slots; body = body }) o ≡ Some t → o ≡ None → ⊥

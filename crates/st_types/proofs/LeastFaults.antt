@@ -1,5 +1,5 @@
 -- LeastFaults: whatever is typed has a least fault, or none.
-use Rattle.std.proofs.Common.{◌≡◌, ◌⊎◌, inl, inr, ℕ, ◌<◌, ◌≤◌, ℤ, neg_ℤ, Bool, true, false, List, [], ◌∷◌, Option, Some, None, refl, sym, ap₂, ◌∙◌, subst, arith, true≢false}
+use Rattle.std.proofs.Common.{option_and_then, ◌≡◌, ◌⊎◌, inl, inr, ℕ, ◌<◌, ◌≤◌, ℤ, neg_ℤ, Bool, true, false, List, [], ◌∷◌, Option, Some, None, refl, sym, ap₂, ◌∙◌, subst, arith, true≢false}
 use Rattle.std.specs.Prelude.{nat_lt}
 use Rattle.std.proofs.lemmas.Bool.Decides.{nat_tests}
 use Rattle.vcp_base.specs.declared.spot.Spot.{Spot}
@@ -9,7 +9,7 @@ use Rattle.st_tree.specs.declared.expr.UnOp.{UnOp}
 use Rattle.st_tree.specs.declared.expr.BinOp.{BinOp}
 use Rattle.st_tree.specs.declared.program.Class.{Class}
 use Rattle.st_tree.specs.ExprTree.{ExprTree, ExprTrees, literal, name, unary, binary, call, no_exprs, and_expr}
-use Rattle.st_tree.specs.StmtTree.{LabelTree, StmtTree, StmtTrees, ArmTrees, BranchTrees, OtherTree, assign, choose, select, count, no_stmts, and_stmt, no_arms, and_arm, no_branches, and_branch, no_other, other}
+use Rattle.st_tree.specs.StmtTree.{LabelTree, StmtTree, StmtTrees, ArmTrees, BranchTrees, OtherTree, assign, if_, case, for_, no_stmts, and_stmt, no_arms, and_arm, no_branches, and_branch, no_other, other}
 use Rattle.st_tree.specs.ProgramTree.{DeclaredTree, DeclTree, BlockTree, ProgramTree}
 use Rattle.vcp_typed.specs.declared.expr.Fun.{Fun}
 use Rattle.vcp_typed.specs.Rules.{common, signed}
@@ -19,8 +19,8 @@ use Rattle.st_types.specs.Faults.{fault, number, AtMost, IsLeast}
 use Rattle.st_types.specs.Scope.{Entry, find}
 use Rattle.st_types.specs.ExprTyping.{sized, literal_type, Untyped, negated, called, function_type, type_of, types_of, Clash, Clashes, Misfits, SignFault, CallFault, ExprFault, ExprsFault}
 use Rattle.st_types.specs.ExprTyping as typing
-use Rattle.st_types.specs.StmtTyping.{is_bool, spot_of, Known, constant, number_in, is_free, NameFault, entry_type, Narrows, NoTest, IsBool, BoundFault, step_in, StepFault, label_of, LastFault, LabelFault, LabelsFault, held_in, StmtFault, StmtsFault, ArmsFault, BranchesFault, OtherFault}
-use Rattle.st_types.specs.DeclTyping.{Made, nothing_made, is_new, after_name, init_value, known_init, Misfit, NamesFault, NegatedFault, ValueFault, InitFault, after_decl, DeclFault, after_decls, DeclsFault, BlocksFault}
+use Rattle.st_types.specs.StmtTyping.{is_bool, spot_of, Known, form, form_number, not_zero, last_form, in_order, is_free, NameFault, entry_type, Narrows, NoTest, IsBool, BoundFault, StepFault, LastFault, LabelFault, LabelsFault, held_in, StmtFault, StmtsFault, ArmsFault, BranchesFault, OtherFault}
+use Rattle.st_types.specs.DeclTyping.{Made, nothing_made, is_new, after_name, init_value, known_init, Misfit, NamesFault, ValueFault, InitFault, after_decl, DeclFault, after_decls, DeclsFault, BlocksFault}
 use Rattle.st_types.specs.Typing.{made, FaultAt, IsFaultless}
 use Rattle.st_types.proofs.ExprLaws.{none-some, some-none, same-value}
 
@@ -173,11 +173,11 @@ abbrev test-least : (spot : Spot) (t : Option Ty) → Least (λ f. (f ≡ fault 
 test-least spot t = where-least (fault rule.Mismatch spot) (NoTest t) (some-or (λ x. is_bool x ≡ false) t (λ x. false-or (is_bool x)))
 
 abbrev bound-least : (s : List Entry) (t : Option Ty) (e : ExprTree) → Least (BoundFault s t e)
-bound-least s t e = or-least (ExprFault s e) (λ f. (f ≡ fault rule.Bound (spot_of e)) × (number_in t (constant s e) ≡ None)) (expr-least s e) (where-least (fault rule.Bound (spot_of e)) (number_in t (constant s e) ≡ None) (none-or (number_in t (constant s e))))
+bound-least s t e = or-least (ExprFault s e) (λ f. (f ≡ fault rule.Bound (spot_of e)) × (form_number t (form s e) ≡ None)) (expr-least s e) (where-least (fault rule.Bound (spot_of e)) (form_number t (form s e) ≡ None) (none-or (form_number t (form s e))))
 
 abbrev step-least : (s : List Entry) (t : Option Ty) (by : Option ExprTree) → Least (StepFault s t by)
 step-least s t None = none-least
-step-least s t (Some e) = or-least (ExprFault s e) (λ f. (f ≡ fault rule.Bound (spot_of e)) × (step_in t (constant s e) ≡ None)) (expr-least s e) (where-least (fault rule.Bound (spot_of e)) (step_in t (constant s e) ≡ None) (none-or (step_in t (constant s e))))
+step-least s t (Some e) = or-least (ExprFault s e) (λ f. (f ≡ fault rule.Bound (spot_of e)) × (option_and_then not_zero (form_number t (form s e)) ≡ None)) (expr-least s e) (where-least (fault rule.Bound (spot_of e)) (option_and_then not_zero (form_number t (form s e)) ≡ None) (none-or (option_and_then not_zero (form_number t (form s e)))))
 
 abbrev last-least : (s : List Entry) (last : Option ExprTree) → Least (LastFault s last)
 last-least s None = none-least
@@ -185,9 +185,9 @@ last-least s (Some e) = expr-least s e
 
 abbrev label-least : (s : List Entry) (t : Option Ty) (l : LabelTree) → Least (LabelFault s t l)
 label-least s t l =
-    or-least (ExprFault s l.first) (λ f. LastFault s l.last f ⊎ ((f ≡ fault rule.Label (spot_of l.first)) × (label_of s t l ≡ None))) (expr-least s l.first)
-    (or-least (LastFault s l.last) (λ f. (f ≡ fault rule.Label (spot_of l.first)) × (label_of s t l ≡ None)) (last-least s l.last)
-    (where-least (fault rule.Label (spot_of l.first)) (label_of s t l ≡ None) (none-or (label_of s t l))))
+    or-least (ExprFault s l.first) (λ f. LastFault s l.last f ⊎ ((f ≡ fault rule.Label (spot_of l.first)) × (in_order (form_number t (form s l.first)) (last_form s t l.last) ≡ false))) (expr-least s l.first)
+    (or-least (LastFault s l.last) (λ f. (f ≡ fault rule.Label (spot_of l.first)) × (in_order (form_number t (form s l.first)) (last_form s t l.last) ≡ false)) (last-least s l.last)
+    (where-least (fault rule.Label (spot_of l.first)) (in_order (form_number t (form s l.first)) (last_form s t l.last) ≡ false) (false-or (in_order (form_number t (form s l.first)) (last_form s t l.last)))))
 
 abbrev labels-least : (s : List Entry) (t : Option Ty) (ls : List LabelTree) → Least (LabelsFault s t ls)
 labels-least s t [] = none-least
@@ -199,12 +199,12 @@ abbrev mutual
       or-least (NameFault held (find s n) spot) (λ f. ExprFault s e f ⊎ ((f ≡ fault rule.Mismatch spot) × Narrows (entry_type (find s n)) (type_of s e))) (name-least held (find s n) spot)
       (or-least (ExprFault s e) (λ f. (f ≡ fault rule.Mismatch spot) × Narrows (entry_type (find s n)) (type_of s e)) (expr-least s e)
       (where-least (fault rule.Mismatch spot) (Narrows (entry_type (find s n)) (type_of s e)) (narrows-or (entry_type (find s n)) (type_of s e))))
-  stmt-least s held (choose arms o) = or-least (ArmsFault s held arms) (OtherFault s held o) (arms-least s held arms) (other-least s held o)
-  stmt-least s held (select e branches o spot) =
+  stmt-least s held (if_ arms o) = or-least (ArmsFault s held arms) (OtherFault s held o) (arms-least s held arms) (other-least s held o)
+  stmt-least s held (case e branches o spot) =
       or-least (ExprFault s e) (λ f. ((f ≡ fault rule.Mismatch spot) × IsBool (type_of s e)) ⊎ (BranchesFault s held (type_of s e) branches f ⊎ OtherFault s held o f)) (expr-least s e)
       (or-least (λ f. (f ≡ fault rule.Mismatch spot) × IsBool (type_of s e)) (λ f. BranchesFault s held (type_of s e) branches f ⊎ OtherFault s held o f) (bool-least spot (type_of s e))
       (or-least (BranchesFault s held (type_of s e) branches) (OtherFault s held o) (branches-least s held (type_of s e) branches) (other-least s held o)))
-  stmt-least s held (count n name_spot first last by body spot) =
+  stmt-least s held (for_ n name_spot first last by body spot) =
       let t = entry_type (find s n) in
       let inner = held_in held (find s n) in
       or-least (NameFault held (find s n) name_spot) (λ f. ((f ≡ fault rule.Mismatch name_spot) × IsBool t) ⊎ (BoundFault s t first f ⊎ (BoundFault s t last f ⊎ (StepFault s t by f ⊎ StmtsFault s inner body f)))) (name-least held (find s n) name_spot)
@@ -247,19 +247,10 @@ names-least m k t v x (d ∷ ds) =
     (or-least (λ f. (f ≡ fault rule.Mismatch d.spot) × Misfit x t) (NamesFault (after_name m k t v d) k t v x ds)
     (where-least (fault rule.Mismatch d.spot) (Misfit x t) (misfit-or x t)) (names-least (after_name m k t v d) k t v x ds))
 
-abbrev negated-least : (o : Option Untyped) (spot : Spot) → Least (NegatedFault o spot)
-negated-least (Some l) spot = where-least (fault rule.Literal l.spot) (sized (neg_ℤ l.value) ≡ None) (none-or (sized (neg_ℤ l.value)))
-negated-least None spot = just-least (fault rule.Bound spot)
-
 abbrev value-least : (all before : List Entry) (e : ExprTree) → Least (ValueFault all before e)
-value-least all before (literal t v spot) = where-least (fault rule.Literal spot) (literal_type t v ≡ None) (none-or (literal_type t v))
-value-least all before (name n spot) =
-    or-least (λ f. (f ≡ fault rule.Unknown spot) × (find all n ≡ None)) (λ f. (f ≡ fault rule.Bound spot) × (constant before (name n spot) ≡ None))
-    (where-least (fault rule.Unknown spot) (find all n ≡ None) (none-or (find all n)))
-    (where-least (fault rule.Bound spot) (constant before (name n spot) ≡ None) (none-or (constant before (name n spot))))
-value-least all before (unary op a spot) = negated-least (negated op a) spot
-value-least all before (binary op a b spot) = just-least (fault rule.Bound spot)
-value-least all before (call n es spot) = just-least (fault rule.Bound spot)
+value-least all before e =
+    or-least (ExprFault all e) (λ f. (f ≡ fault rule.Bound (spot_of e)) × (form before e ≡ None)) (expr-least all e)
+    (where-least (fault rule.Bound (spot_of e)) (form before e ≡ None) (none-or (form before e)))
 
 abbrev init-least : (all before : List Entry) (init : Option ExprTree) → Least (InitFault all before init)
 init-least all before None = none-least

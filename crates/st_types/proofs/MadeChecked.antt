@@ -16,7 +16,7 @@ use Rattle.st_tree.specs.declared.expr.BinOp.TheVariants as bin
 use Rattle.st_tree.specs.declared.program.Class.{Class}
 use Rattle.st_tree.specs.declared.program.Class.TheVariants as class
 use Rattle.st_tree.specs.ExprTree.{ExprTree, ExprTrees, literal, name, unary, binary, call, no_exprs, and_expr}
-use Rattle.st_tree.specs.StmtTree.{LabelTree, StmtTree, StmtTrees, ArmTrees, BranchTrees, OtherTree, assign, choose, select, count, no_stmts, and_stmt, no_arms, and_arm, no_branches, and_branch, no_other, other}
+use Rattle.st_tree.specs.StmtTree.{LabelTree, StmtTree, StmtTrees, ArmTrees, BranchTrees, OtherTree, assign, if_, case, for_, no_stmts, and_stmt, no_arms, and_arm, no_branches, and_branch, no_other, other}
 use Rattle.vcp_typed.specs.declared.expr.Fun.{Fun}
 use Rattle.vcp_typed.specs.declared.slot.Slot.{Slot}
 use Rattle.vcp_typed.specs.declared.stmt.TLabel.{TLabel}
@@ -27,7 +27,7 @@ use Rattle.vcp_typed.specs.Checked.{ty_of, tys_of, is_set, IsExpr, AreExprs, May
 use Rattle.st_types.specs.Scope.{Entry, find}
 use Rattle.st_types.specs.ExprTyping.{both, sized, literal_type, Untyped, negated, called, function_type, type_of, got, as_dint, widened, widened_all, sign_of, operation_of, call_of, expr_of, exprs_of}
 use Rattle.st_types.specs.ExprTyping as typing
-use Rattle.st_types.specs.StmtTyping.{is_bool, is_constant, Known, known_entry, known_negated, constant, number_in, is_free, entry_type, not_zero, label_ends, last_end, label_of, held_in, assign_of, test_of, selector_of, turns_of, step_of, count_of, arm_of, branch_of, select_of, labels_of, stmt_of, stmts_of, arms_of, branches_of, other_of, spot_of}
+use Rattle.st_types.specs.StmtTyping.{is_bool, is_constant, Known, known_entry, known_negated, constant, number_in, is_free, entry_type, not_zero, label_ends, last_end, label_of, held_in, assign_of, test_of, selector_of, turns_of, step_of, for_of, arm_of, branch_of, case_of, labels_of, stmt_of, stmts_of, arms_of, branches_of, other_of, spot_of}
 use Rattle.st_types.proofs.ExprLaws.{none-some, same-value, AllTaken, Takes, takes, type-is}
 use Rattle.st_types.proofs.TurnsFit.{turns-fit}
 
@@ -348,10 +348,10 @@ assign-made slots held spot None x h i = tt
 assign-made slots held spot (Some e) None h i = tt
 assign-made slots held spot (Some e) (Some x) h i = assign-if slots held spot e x (is_free held e && within (ty_of x) e.ty) refl (h e refl) i
 
-choose-made : (slots : List Slot) (held : List ℕ) (a : Option checked.TArmTrees) (o : Option checked.TOtherTree) → ArmsMade slots held a → OtherMade slots held o → StmtMade slots held (both (λ x y. Some (checked.choose x y)) a o)
-choose-made slots held None o h k = tt
-choose-made slots held (Some a) None h k = tt
-choose-made slots held (Some a) (Some o) h k = (h, k)
+if-made : (slots : List Slot) (held : List ℕ) (a : Option checked.TArmTrees) (o : Option checked.TOtherTree) → ArmsMade slots held a → OtherMade slots held o → StmtMade slots held (both (λ x y. Some (checked.if_ x y)) a o)
+if-made slots held None o h k = tt
+if-made slots held (Some a) None h k = tt
+if-made slots held (Some a) (Some o) h k = (h, k)
 
 number-joins : (t : Ty) → is_bool t ≡ false → joined t t ≡ Some t
 number-joins ty.Bool e = absurd cc
@@ -363,15 +363,15 @@ bool-is ty.Bool e = refl
 bool-is ty.Int e = absurd cc
 bool-is ty.Dint e = absurd cc
 
-select-if : (slots : List Slot) (held : List ℕ) (spot : Spot) (x : typed.TExprTree) (c : Bool) (b : Option checked.TBranchTrees) (o : Option checked.TOtherTree) → is_bool (ty_of x) ≡ c → IsExpr slots x → BranchesMade slots held (ty_of x) b → OtherMade slots held o → StmtMade slots held (select_of spot (cond c None (Some x)) b o)
-select-if slots held spot x true b o e h i j = tt
-select-if slots held spot x false None o e h i j = tt
-select-if slots held spot x false (Some b) None e h i j = tt
-select-if slots held spot x false (Some b) (Some o) e h i j = (h, number-joins (ty_of x) e, i, j)
+case-if : (slots : List Slot) (held : List ℕ) (spot : Spot) (x : typed.TExprTree) (c : Bool) (b : Option checked.TBranchTrees) (o : Option checked.TOtherTree) → is_bool (ty_of x) ≡ c → IsExpr slots x → BranchesMade slots held (ty_of x) b → OtherMade slots held o → StmtMade slots held (case_of spot (cond c None (Some x)) b o)
+case-if slots held spot x true b o e h i j = tt
+case-if slots held spot x false None o e h i j = tt
+case-if slots held spot x false (Some b) None e h i j = tt
+case-if slots held spot x false (Some b) (Some o) e h i j = (h, number-joins (ty_of x) e, i, j)
 
-select-made : (slots : List Slot) (held : List ℕ) (spot : Spot) (x : Option typed.TExprTree) (t : Option Ty) (b : Option checked.TBranchTrees) (o : Option checked.TOtherTree) → t ≡ option_map ty_of x → IsMade slots x → ((u : Ty) → t ≡ Some u → BranchesMade slots held u b) → OtherMade slots held o → StmtMade slots held (select_of spot (option_and_then selector_of x) b o)
-select-made slots held spot None t b o e h i j = tt
-select-made slots held spot (Some x) t b o e h i j = select-if slots held spot x (is_bool (ty_of x)) b o refl h (i (ty_of x) e) j
+case-made : (slots : List Slot) (held : List ℕ) (spot : Spot) (x : Option typed.TExprTree) (t : Option Ty) (b : Option checked.TBranchTrees) (o : Option checked.TOtherTree) → t ≡ option_map ty_of x → IsMade slots x → ((u : Ty) → t ≡ Some u → BranchesMade slots held u b) → OtherMade slots held o → StmtMade slots held (case_of spot (option_and_then selector_of x) b o)
+case-made slots held spot None t b o e h i j = tt
+case-made slots held spot (Some x) t b o e h i j = case-if slots held spot x (is_bool (ty_of x)) b o refl h (i (ty_of x) e) j
 
 -- a variable that may be set is no constant
 set-variable : (c : Class) → is_set c ≡ true → is_constant c ≡ false
@@ -387,19 +387,19 @@ held-free slots held e body f h =
     let set = (two-parts (is_set e.class) (not (list_any (λ n. n == e.slot) held)) f).0 in
     subst (λ (b : Bool). AreStmts slots (cond b held (held ++ e.slot ∷ [])) body) (set-variable e.class set) h
 
-held-made : (slots : List Slot) (held : List ℕ) (spot : Spot) (e : Entry) (v w q : ℤ) (body : checked.TStmtTrees) (b : Bool) → is_free held e && not (is_bool e.ty) ≡ b → IsEntry slots e e.class → fits e.ty v ≡ true → fits e.ty w ≡ true → (q ≡ pos 0 → ⊥) → AreStmts slots (held_in held (Some e)) body → StmtMade slots held (cond b (Some (checked.count e.slot v q (turns_of v w q) body spot)) None)
+held-made : (slots : List Slot) (held : List ℕ) (spot : Spot) (e : Entry) (v w q : ℤ) (body : checked.TStmtTrees) (b : Bool) → is_free held e && not (is_bool e.ty) ≡ b → IsEntry slots e e.class → fits e.ty v ≡ true → fits e.ty w ≡ true → (q ≡ pos 0 → ⊥) → AreStmts slots (held_in held (Some e)) body → StmtMade slots held (cond b (Some (checked.for_ e.slot v q (turns_of v w q) body spot)) None)
 held-made slots held spot e v w q body false k h f g i j = tt
 held-made slots held spot e v w q body true k h f g i j =
     let p = free-parts (is_free held e) (is_bool e.ty) k in
     (e.ty, may-set slots held e e.ty refl h p.0, number-joins e.ty p.1, f, turns-fit e.ty v w q i f g, held-free slots held e body p.0 j)
 
-count-made : (slots : List Slot) (held : List ℕ) (spot : Spot) (o : Option Entry) (k l : Option Known) (v w q : Option ℤ) (body : Option checked.TStmtTrees) → ((e : Entry) → o ≡ Some e → IsEntry slots e e.class) → number_in (entry_type o) k ≡ v → number_in (entry_type o) l ≡ w → IfSome q (λ x. x ≡ pos 0 → ⊥) → StmtsMade slots (held_in held o) body → StmtMade slots held (count_of held spot o v w q body)
-count-made slots held spot None k l v w q body h f g i j = tt
-count-made slots held spot (Some e) k l None w q body h f g i j = tt
-count-made slots held spot (Some e) k l (Some v) None q body h f g i j = tt
-count-made slots held spot (Some e) k l (Some v) (Some w) None body h f g i j = tt
-count-made slots held spot (Some e) k l (Some v) (Some w) (Some q) None h f g i j = tt
-count-made slots held spot (Some e) k l (Some v) (Some w) (Some q) (Some body) h f g i j =
+for-made : (slots : List Slot) (held : List ℕ) (spot : Spot) (o : Option Entry) (k l : Option Known) (v w q : Option ℤ) (body : Option checked.TStmtTrees) → ((e : Entry) → o ≡ Some e → IsEntry slots e e.class) → number_in (entry_type o) k ≡ v → number_in (entry_type o) l ≡ w → IfSome q (λ x. x ≡ pos 0 → ⊥) → StmtsMade slots (held_in held o) body → StmtMade slots held (for_of held spot o v w q body)
+for-made slots held spot None k l v w q body h f g i j = tt
+for-made slots held spot (Some e) k l None w q body h f g i j = tt
+for-made slots held spot (Some e) k l (Some v) None q body h f g i j = tt
+for-made slots held spot (Some e) k l (Some v) (Some w) None body h f g i j = tt
+for-made slots held spot (Some e) k l (Some v) (Some w) (Some q) None h f g i j = tt
+for-made slots held spot (Some e) k l (Some v) (Some w) (Some q) (Some body) h f g i j =
     held-made slots held spot e v w q body (is_free held e && not (is_bool e.ty)) refl (h e refl) (number-fits e.ty k v f) (number-fits e.ty l w g) i j
 
 no-zero : (v : ℤ) (b : Bool) → same v (pos 0) ≡ b → IfSome (cond b None (Some v)) (λ x. x ≡ pos 0 → ⊥)
@@ -481,12 +481,12 @@ other-made slots held (Some body) h = h
 mutual
   pub stmt-made : (slots : List Slot) (s : List Entry) (held : List ℕ) (x : StmtTree) → IsScope slots s → StmtMade slots held (stmt_of s held x)
   stmt-made slots s held (assign n e spot) h = assign-made slots held spot (find s n) (expr_of s e) (h n) (expr-made slots s e h)
-  stmt-made slots s held (choose arms o) h = choose-made slots held (arms_of s held arms) (other_of s held o) (arms-made slots s held arms h) (others-made slots s held o h)
-  stmt-made slots s held (select e branches o spot) h =
-      select-made slots held spot (expr_of s e) (type_of s e) (branches_of s held (type_of s e) branches) (other_of s held o) (type-is s e)
+  stmt-made slots s held (if_ arms o) h = if-made slots held (arms_of s held arms) (other_of s held o) (arms-made slots s held arms h) (others-made slots s held o h)
+  stmt-made slots s held (case e branches o spot) h =
+      case-made slots held spot (expr_of s e) (type_of s e) (branches_of s held (type_of s e) branches) (other_of s held o) (type-is s e)
       (expr-made slots s e h) (λ u is. branches-made slots s held (type_of s e) u branches is h) (others-made slots s held o h)
-  stmt-made slots s held (count n name_spot first last by body spot) h =
-      count-made slots held name_spot (find s n) (constant s first) (constant s last) (number_in (entry_type (find s n)) (constant s first)) (number_in (entry_type (find s n)) (constant s last))
+  stmt-made slots s held (for_ n name_spot first last by body spot) h =
+      for-made slots held name_spot (find s n) (constant s first) (constant s last) (number_in (entry_type (find s n)) (constant s first)) (number_in (entry_type (find s n)) (constant s last))
       (step_of s (entry_type (find s n)) by) (stmts_of s (held_in held (find s n)) body) (h n) refl refl (step-made s (entry_type (find s n)) by) (stmts-made slots s (held_in held (find s n)) body h)
 
   pub stmts-made : (slots : List Slot) (s : List Entry) (held : List ℕ) (xs : StmtTrees) → IsScope slots s → StmtsMade slots held (stmts_of s held xs)

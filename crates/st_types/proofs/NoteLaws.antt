@@ -44,6 +44,14 @@ notes-as a b F H x back forth = record {
   finds = λ f h. x.finds f (back f h);
 }
 
+-- the same fault, where the same is so
+pub note-where : (a b : Option Fault) (g : Fault) (P Q : Type 0) → Notes a b (λ f. (f ≡ g) × P) → (Q → P) → (P → Q) → Notes a b (λ f. (f ≡ g) × Q)
+note-where a b g P Q x back forth = notes-as a b (λ f. (f ≡ g) × P) (λ f. (f ≡ g) × Q) x (λ f h. (h.0, back h.1)) (λ f h. (h.0, forth h.1))
+
+-- a fault that is noted anyway
+pub note-always : (a b : Option Fault) (g : Fault) (Q : Type 0) → Notes a b (λ f. f ≡ g) → Q → Notes a b (λ f. (f ≡ g) × Q)
+note-always a b g Q x q = notes-as a b (λ f. f ≡ g) (λ f. (f ≡ g) × Q) x (λ f h. h.0) (λ f h. (h, q))
+
 pub least-some : (g : Fault) (F : Fault → Type 0) → Notes None (Some g) F → IsLeast F g
 least-some g F n = (elim (n.from g refl) [ inl e ↦ absurd cc | inr h ↦ h ], n.finds)
 

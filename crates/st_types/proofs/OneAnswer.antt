@@ -11,7 +11,8 @@ use Rattle.st_types.specs.declared.fault.TypeFault.{TypeFault}
 use Rattle.st_types.specs.declared.fault.TypeFault.TheVariants as told
 use Rattle.st_types.specs.Faults.{fault, number, AtMost, IsLeast}
 use Rattle.st_tree.specs.Declarable.{names_of}
-use Rattle.st_types.specs.Typing.{most_names, most_size, FaultAt, typed_of, IsFaultless, IsTyped, IsPast, IsTooLarge, Refuses}
+use Rattle.vcp_base.specs.Limits.{most_names, most_size}
+use Rattle.st_types.specs.Typing.{FaultAt, typed_of, IsFaultless, IsTyped, IsPast, IsTooLarge, Refuses}
 use Rattle.st_types.proofs.ExprLaws.{same-value}
 use Rattle.st_types.proofs.Faultless.{faultless-typed, past-none}
 use Rattle.st_types.proofs.LeastFaults.{Least, program-least}

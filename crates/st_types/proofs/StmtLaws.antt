@@ -1,11 +1,11 @@
 -- StmtLaws: statements have checked statements exactly where they have no fault.
-use Rattle.std.proofs.Common.{◌≡◌, ℕ, ℤ, neg_ℤ, ◌⊎◌, inl, inr, Bool, true, false, cond, not, ◌&&◌, List, [], ◌∷◌, Option, Some, None, option_map, option_and_then, refl, sym, ap, ap₂, ◌∙◌}
+use Rattle.std.proofs.Common.{◌≡◌, ℕ, ℤ, neg_ℤ, ◌⊎◌, inl, inr, Bool, true, false, cond, not, ◌&&◌, List, [], ◌∷◌, Option, Some, None, option_map, option_and_then, int_le, refl, sym, ap, ap₂, ◌∙◌}
 use Rattle.vcp_base.specs.declared.spot.Spot.{Spot}
 use Rattle.vcp_base.specs.declared.ty.Ty.{Ty}
 use Rattle.vcp_base.specs.Types.{within}
 use Rattle.st_tree.specs.declared.expr.UnOp.{UnOp}
 use Rattle.st_tree.specs.ExprTree.{ExprTree, literal, name, unary, binary, call}
-use Rattle.st_tree.specs.StmtTree.{LabelTree, StmtTree, StmtTrees, ArmTrees, BranchTrees, OtherTree, assign, choose, select, count, no_stmts, and_stmt, no_arms, and_arm, no_branches, and_branch, no_other, other}
+use Rattle.st_tree.specs.StmtTree.{LabelTree, StmtTree, StmtTrees, ArmTrees, BranchTrees, OtherTree, assign, if_, case, for_, no_stmts, and_stmt, no_arms, and_arm, no_branches, and_branch, no_other, other}
 use Rattle.vcp_typed.specs.declared.stmt.TLabel.{TLabel}
 use Rattle.vcp_typed.specs.TExprTree as typed
 use Rattle.vcp_typed.specs.TStmtTree as checked
@@ -15,7 +15,8 @@ use Rattle.st_types.specs.declared.fault.Rule.TheVariants as rule
 use Rattle.st_types.specs.Faults.{fault}
 use Rattle.st_types.specs.Scope.{Entry, find}
 use Rattle.st_types.specs.ExprTyping.{both, Untyped, negated, type_of, SignFault, ExprFault, expr_of, widened}
-use Rattle.st_types.specs.StmtTyping.{is_bool, spot_of, known_entry, known_negated, constant, number_in, is_free, NameFault, entry_type, Narrows, NoTest, IsBool, BoundFault, step_in, StepFault, label_ends, last_end, label_of, LastFault, LabelFault, LabelsFault, held_in, StmtFault, StmtsFault, ArmsFault, BranchesFault, OtherFault, assign_of, test_of, selector_of, turns_of, step_of, count_of, arm_of, branch_of, select_of, labels_of, stmt_of, stmts_of, arms_of, branches_of, other_of}
+use Rattle.st_types.specs.StmtTyping.{is_bool, spot_of, known_entry, known_negated, constant, number_in, is_free, NameFault, entry_type, Narrows, NoTest, IsBool, BoundFault, not_zero, step_in, StepFault, label_ends, last_end, in_order, label_of, LastFault, LabelFault, LabelsFault, held_in, StmtFault, StmtsFault, ArmsFault, BranchesFault, OtherFault, assign_of, test_of, selector_of, turns_of, step_of, for_of, arm_of, branch_of, case_of, labels_of, stmt_of, stmts_of, arms_of, branches_of, other_of}
+use Rattle.st_types.proofs.ConstantLaws.{number-or, last-or}
 use Rattle.st_types.proofs.ExprLaws.{some-none, same-value, map-none, pair-none, pair-fault, typed-is, no-expr, fault-no-expr}
 
 -- ---- conditions
@@ -71,20 +72,29 @@ fault-no-constant s (call n es spot) f h = refl
 -- ---- bounds and labels
 
 bound-none : (s : List Entry) (t : Option Ty) (e : ExprTree) → number_in t (constant s e) ≡ None → (f : Fault) × BoundFault s t e f
-bound-none s t e h = (fault rule.Bound (spot_of e), inr (refl, h))
+bound-none s t e h = elim (number-or s t e) [
+  | inl same ↦ (fault rule.Bound (spot_of e), inr (refl, sym same ∙ h))
+  | inr g ↦ (g.1.0, inl g.1.1)
+]
 
 bound-fault : (s : List Entry) (t : Option Ty) (e : ExprTree) (f : Fault) → BoundFault s t e f → number_in t (constant s e) ≡ None
 bound-fault s t e f (inl h) = ap (number_in t) (fault-no-constant s e f h)
-bound-fault s t e f (inr h) = h.1
+bound-fault s t e f (inr h) = elim (number-or s t e) [ inl same ↦ same ∙ h.1 | inr g ↦ g.0 ]
 
 step-none : (s : List Entry) (t : Option Ty) (by : Option ExprTree) → step_of s t by ≡ None → (f : Fault) × StepFault s t by f
 step-none s t None h = absurd cc
-step-none s t (Some e) h = (fault rule.Bound (spot_of e), inr (refl, h))
+step-none s t (Some e) h = elim (number-or s t e) [
+  | inl same ↦ (fault rule.Bound (spot_of e), inr (refl, sym (ap (option_and_then not_zero) same) ∙ h))
+  | inr g ↦ (g.1.0, inl g.1.1)
+]
 
 step-fault : (s : List Entry) (t : Option Ty) (by : Option ExprTree) (f : Fault) → StepFault s t by f → step_of s t by ≡ None
 step-fault s t None f h = absurd h
 step-fault s t (Some e) f (inl h) = ap (step_in t) (fault-no-constant s e f h)
-step-fault s t (Some e) f (inr h) = h.1
+step-fault s t (Some e) f (inr h) = elim (number-or s t e) [
+  | inl same ↦ ap (option_and_then not_zero) same ∙ h.1
+  | inr g ↦ ap (option_and_then not_zero) g.0
+]
 
 no-last : (spot : Spot) (a : Option ℤ) → label_ends spot a (Some None) ≡ None
 no-last spot None = refl
@@ -94,13 +104,38 @@ last-fault : (s : List Entry) (t : Option Ty) (spot : Spot) (a : Option ℤ) (la
 last-fault s t spot a None f h = absurd h
 last-fault s t spot a (Some e) f h = ap (λ k. label_ends spot a (Some (number_in t k))) (fault-no-constant s e f h) ∙ no-last spot a
 
+-- there is no label exactly where its ends are no numbers in order
+ends-none : (spot : Spot) (a : Option ℤ) (b : Option (Option ℤ)) → label_ends spot a b ≡ None → in_order a b ≡ false
+ends-none spot None b h = refl
+ends-none spot (Some a) None h = absurd cc
+ends-none spot (Some a) (Some None) h = refl
+ends-none spot (Some a) (Some (Some b)) h = one-cond (int_le a b) _ h
+
+order-none : (spot : Spot) (a : Option ℤ) (b : Option (Option ℤ)) → in_order a b ≡ false → label_ends spot a b ≡ None
+order-none spot None b h = refl
+order-none spot (Some a) None h = absurd cc
+order-none spot (Some a) (Some None) h = refl
+order-none spot (Some a) (Some (Some b)) h = one-false (int_le a b) _ h
+
 label-fault : (s : List Entry) (t : Option Ty) (l : LabelTree) (f : Fault) → LabelFault s t l f → label_of s t l ≡ None
 label-fault s t l f (inl h) = ap (λ k. label_ends (spot_of l.first) (number_in t k) (last_end s t l.last)) (fault-no-constant s l.first f h)
 label-fault s t l f (inr (inl h)) = last-fault s t (spot_of l.first) (number_in t (constant s l.first)) l.last f h
-label-fault s t l f (inr (inr h)) = h.1
+label-fault s t l f (inr (inr h)) = elim (number-or s t l.first) [
+  | inr g ↦ ap (λ k. label_ends (spot_of l.first) k (last_end s t l.last)) g.0
+  | inl same ↦ elim (last-or s t l.last) [
+    | inr g ↦ ap (λ k. label_ends (spot_of l.first) (number_in t (constant s l.first)) k) g.0 ∙ no-last (spot_of l.first) (number_in t (constant s l.first))
+    | inl also ↦ order-none (spot_of l.first) (number_in t (constant s l.first)) (last_end s t l.last) ((λ i. in_order (same i) (also i)) ∙ h.1)
+  ]
+]
 
 label-none : (s : List Entry) (t : Option Ty) (l : LabelTree) → label_of s t l ≡ None → (f : Fault) × LabelFault s t l f
-label-none s t l h = (fault rule.Label (spot_of l.first), inr (inr (refl, h)))
+label-none s t l h = elim (number-or s t l.first) [
+  | inr g ↦ (g.1.0, inl g.1.1)
+  | inl same ↦ elim (last-or s t l.last) [
+    | inr g ↦ (g.1.0, inr (inl g.1.1))
+    | inl also ↦ (fault rule.Label (spot_of l.first), inr (inr (refl, sym (λ i. in_order (same i) (also i)) ∙ ends-none (spot_of l.first) (number_in t (constant s l.first)) (last_end s t l.last) h)))
+  ]
+]
 
 pub labels-none : (s : List Entry) (t : Option Ty) (ls : List LabelTree) → labels_of s t ls ≡ None → (f : Fault) × LabelsFault s t ls f
 labels-none s t [] h = let none : List TLabel = [] in absurd (some-none none h)
@@ -133,11 +168,11 @@ regroup : (F M R : Type 0) → F ⊎ M → F ⊎ (M ⊎ R)
 regroup F M R (inl a) = inl a
 regroup F M R (inr b) = inr (inl b)
 
-select-none : (spot : Spot) (x : Option typed.TExprTree) (b : Option checked.TBranchTrees) (o : Option checked.TOtherTree) (F M G H : Fault → Type 0) → (x ≡ None → (f : Fault) × (F f ⊎ M f)) → (b ≡ None → (f : Fault) × G f) → (o ≡ None → (f : Fault) × H f) → select_of spot x b o ≡ None → (f : Fault) × (F f ⊎ (M f ⊎ (G f ⊎ H f)))
-select-none spot None b o F M G H h i j e = let g = h refl in (g.0, regroup (F g.0) (M g.0) (G g.0 ⊎ H g.0) g.1)
-select-none spot (Some x) None o F M G H h i j e = let g = i refl in (g.0, inr (inr (inl g.1)))
-select-none spot (Some x) (Some b) None F M G H h i j e = let g = j refl in (g.0, inr (inr (inr g.1)))
-select-none spot (Some x) (Some b) (Some o) F M G H h i j e = absurd cc
+case-none : (spot : Spot) (x : Option typed.TExprTree) (b : Option checked.TBranchTrees) (o : Option checked.TOtherTree) (F M G H : Fault → Type 0) → (x ≡ None → (f : Fault) × (F f ⊎ M f)) → (b ≡ None → (f : Fault) × G f) → (o ≡ None → (f : Fault) × H f) → case_of spot x b o ≡ None → (f : Fault) × (F f ⊎ (M f ⊎ (G f ⊎ H f)))
+case-none spot None b o F M G H h i j e = let g = h refl in (g.0, regroup (F g.0) (M g.0) (G g.0 ⊎ H g.0) g.1)
+case-none spot (Some x) None o F M G H h i j e = let g = i refl in (g.0, inr (inr (inl g.1)))
+case-none spot (Some x) (Some b) None F M G H h i j e = let g = j refl in (g.0, inr (inr (inr g.1)))
+case-none spot (Some x) (Some b) (Some o) F M G H h i j e = absurd cc
 
 arm-none : (spot : Spot) (x : Option typed.TExprTree) (b : Option checked.TStmtTrees) (a : Option checked.TArmTrees) (F M G H : Fault → Type 0) → (x ≡ None → (f : Fault) × (F f ⊎ M f)) → (b ≡ None → (f : Fault) × G f) → (a ≡ None → (f : Fault) × H f) → arm_of spot x b a ≡ None → (f : Fault) × (F f ⊎ (M f ⊎ (G f ⊎ H f)))
 arm-none spot None b a F M G H h i j e = let g = h refl in (g.0, regroup (F g.0) (M g.0) (G g.0 ⊎ H g.0) g.1)
@@ -151,13 +186,13 @@ branch-none (Some ls) None r F G H h i j e = let g = i refl in (g.0, inr (inl g.
 branch-none (Some ls) (Some b) None F G H h i j e = let g = j refl in (g.0, inr (inr g.1))
 branch-none (Some ls) (Some b) (Some r) F G H h i j e = absurd cc
 
-count-none : (held : List ℕ) (spot : Spot) (o : Option Entry) (v w q : Option ℤ) (b : Option checked.TStmtTrees) (F G H I : Fault → Type 0) → (v ≡ None → (f : Fault) × F f) → (w ≡ None → (f : Fault) × G f) → (q ≡ None → (f : Fault) × H f) → (b ≡ None → (f : Fault) × I f) → count_of held spot o v w q b ≡ None → (f : Fault) × (NameFault held o spot f ⊎ (((f ≡ fault rule.Mismatch spot) × IsBool (entry_type o)) ⊎ (F f ⊎ (G f ⊎ (H f ⊎ I f)))))
-count-none held spot None v w q b F G H I k l m n e = (fault rule.Unknown spot, inl refl)
-count-none held spot (Some x) None w q b F G H I k l m n e = let g = k refl in (g.0, inr (inr (inl g.1)))
-count-none held spot (Some x) (Some v) None q b F G H I k l m n e = let g = l refl in (g.0, inr (inr (inr (inl g.1))))
-count-none held spot (Some x) (Some v) (Some w) None b F G H I k l m n e = let g = m refl in (g.0, inr (inr (inr (inr (inl g.1)))))
-count-none held spot (Some x) (Some v) (Some w) (Some q) None F G H I k l m n e = let g = n refl in (g.0, inr (inr (inr (inr (inr g.1)))))
-count-none held spot (Some x) (Some v) (Some w) (Some q) (Some b) F G H I k l m n e = elim (both-conds (is_free held x) (not (is_bool x.ty)) (checked.count x.slot v q (turns_of v w q) b spot) e) [
+for-none : (held : List ℕ) (spot : Spot) (o : Option Entry) (v w q : Option ℤ) (b : Option checked.TStmtTrees) (F G H I : Fault → Type 0) → (v ≡ None → (f : Fault) × F f) → (w ≡ None → (f : Fault) × G f) → (q ≡ None → (f : Fault) × H f) → (b ≡ None → (f : Fault) × I f) → for_of held spot o v w q b ≡ None → (f : Fault) × (NameFault held o spot f ⊎ (((f ≡ fault rule.Mismatch spot) × IsBool (entry_type o)) ⊎ (F f ⊎ (G f ⊎ (H f ⊎ I f)))))
+for-none held spot None v w q b F G H I k l m n e = (fault rule.Unknown spot, inl refl)
+for-none held spot (Some x) None w q b F G H I k l m n e = let g = k refl in (g.0, inr (inr (inl g.1)))
+for-none held spot (Some x) (Some v) None q b F G H I k l m n e = let g = l refl in (g.0, inr (inr (inr (inl g.1))))
+for-none held spot (Some x) (Some v) (Some w) None b F G H I k l m n e = let g = m refl in (g.0, inr (inr (inr (inr (inl g.1)))))
+for-none held spot (Some x) (Some v) (Some w) (Some q) None F G H I k l m n e = let g = n refl in (g.0, inr (inr (inr (inr (inr g.1)))))
+for-none held spot (Some x) (Some v) (Some w) (Some q) (Some b) F G H I k l m n e = elim (both-conds (is_free held x) (not (is_bool x.ty)) (checked.for_ x.slot v q (turns_of v w q) b spot) e) [
   | inl a ↦ (fault rule.Assign spot, inl (refl, a))
   | inr a ↦ (fault rule.Mismatch spot, inr (inl (refl, (x.ty, refl, not-false (is_bool x.ty) a))))
 ]
@@ -165,13 +200,13 @@ count-none held spot (Some x) (Some v) (Some w) (Some q) (Some b) F G H I k l m 
 mutual
   pub no-stmt : (s : List Entry) (held : List ℕ) (x : StmtTree) → stmt_of s held x ≡ None → (f : Fault) × StmtFault s held x f
   no-stmt s held (assign n e spot) k = assign-none held spot (find s n) (expr_of s e) (type_of s e) (ExprFault s e) (no-expr s e) (typed-is s e) k
-  no-stmt s held (choose arms o) k = pair-none (λ x y. checked.choose x y) (arms_of s held arms) (other_of s held o) (ArmsFault s held arms) (OtherFault s held o) (no-arms s held arms) (no-other s held o) k
-  no-stmt s held (select e branches o spot) k =
-      select-none spot (option_and_then selector_of (expr_of s e)) (branches_of s held (type_of s e) branches) (other_of s held o)
+  no-stmt s held (if_ arms o) k = pair-none (λ x y. checked.if_ x y) (arms_of s held arms) (other_of s held o) (ArmsFault s held arms) (OtherFault s held o) (no-arms s held arms) (no-other s held o) k
+  no-stmt s held (case e branches o spot) k =
+      case-none spot (option_and_then selector_of (expr_of s e)) (branches_of s held (type_of s e) branches) (other_of s held o)
       (ExprFault s e) (λ f. (f ≡ fault rule.Mismatch spot) × IsBool (type_of s e)) (BranchesFault s held (type_of s e) branches) (OtherFault s held o)
       (selector-none spot (expr_of s e) (type_of s e) (ExprFault s e) (no-expr s e) (typed-is s e)) (no-branches s held (type_of s e) branches) (no-other s held o) k
-  no-stmt s held (count n name_spot first last by body spot) k =
-      count-none held name_spot (find s n) (number_in (entry_type (find s n)) (constant s first)) (number_in (entry_type (find s n)) (constant s last))
+  no-stmt s held (for_ n name_spot first last by body spot) k =
+      for-none held name_spot (find s n) (number_in (entry_type (find s n)) (constant s first)) (number_in (entry_type (find s n)) (constant s last))
       (step_of s (entry_type (find s n)) by) (stmts_of s (held_in held (find s n)) body)
       (BoundFault s (entry_type (find s n)) first) (BoundFault s (entry_type (find s n)) last) (StepFault s (entry_type (find s n)) by) (StmtsFault s (held_in held (find s n)) body)
       (bound-none s (entry_type (find s n)) first) (bound-none s (entry_type (find s n)) last) (step-none s (entry_type (find s n)) by) (no-stmts s (held_in held (find s n)) body) k
@@ -219,14 +254,14 @@ selector-fault : (spot : Spot) (x : Option typed.TExprTree) (t : Option Ty) (f :
 selector-fault spot None t f e m = refl
 selector-fault spot (Some x) t f e m = other-true (is_bool (ty_of x)) x (ap is_bool (same-value (ty_of x) m.1.0 (e ∙ m.1.1)) ∙ m.1.2)
 
-select-fault : (spot : Spot) (x : Option typed.TExprTree) (b : Option checked.TBranchTrees) (o : Option checked.TOtherTree) (F M G H : Type 0) → (F → x ≡ None) → (M → x ≡ None) → (G → b ≡ None) → (H → o ≡ None) → F ⊎ (M ⊎ (G ⊎ H)) → select_of spot x b o ≡ None
-select-fault spot None b o F M G H h i j k e = refl
-select-fault spot (Some x) None o F M G H h i j k e = refl
-select-fault spot (Some x) (Some b) None F M G H h i j k e = refl
-select-fault spot (Some x) (Some b) (Some o) F M G H h i j k (inl g) = absurd (some-none x (h g))
-select-fault spot (Some x) (Some b) (Some o) F M G H h i j k (inr (inl g)) = absurd (some-none x (i g))
-select-fault spot (Some x) (Some b) (Some o) F M G H h i j k (inr (inr (inl g))) = absurd (some-none b (j g))
-select-fault spot (Some x) (Some b) (Some o) F M G H h i j k (inr (inr (inr g))) = absurd (some-none o (k g))
+case-fault : (spot : Spot) (x : Option typed.TExprTree) (b : Option checked.TBranchTrees) (o : Option checked.TOtherTree) (F M G H : Type 0) → (F → x ≡ None) → (M → x ≡ None) → (G → b ≡ None) → (H → o ≡ None) → F ⊎ (M ⊎ (G ⊎ H)) → case_of spot x b o ≡ None
+case-fault spot None b o F M G H h i j k e = refl
+case-fault spot (Some x) None o F M G H h i j k e = refl
+case-fault spot (Some x) (Some b) None F M G H h i j k e = refl
+case-fault spot (Some x) (Some b) (Some o) F M G H h i j k (inl g) = absurd (some-none x (h g))
+case-fault spot (Some x) (Some b) (Some o) F M G H h i j k (inr (inl g)) = absurd (some-none x (i g))
+case-fault spot (Some x) (Some b) (Some o) F M G H h i j k (inr (inr (inl g))) = absurd (some-none b (j g))
+case-fault spot (Some x) (Some b) (Some o) F M G H h i j k (inr (inr (inr g))) = absurd (some-none o (k g))
 
 arm-fault : (spot : Spot) (x : Option typed.TExprTree) (b : Option checked.TStmtTrees) (a : Option checked.TArmTrees) (F M G H : Type 0) → (F → x ≡ None) → (M → x ≡ None) → (G → b ≡ None) → (H → a ≡ None) → F ⊎ (M ⊎ (G ⊎ H)) → arm_of spot x b a ≡ None
 arm-fault spot None b a F M G H h i j k e = refl
@@ -249,19 +284,19 @@ bool-not : (b : Bool) → b ≡ true → not b ≡ false
 bool-not true e = refl
 bool-not false e = absurd cc
 
-count-fault : (held : List ℕ) (spot : Spot) (o : Option Entry) (v w q : Option ℤ) (b : Option checked.TStmtTrees) (f : Fault) (F G H I : Type 0) → (F → v ≡ None) → (G → w ≡ None) → (H → q ≡ None) → (I → b ≡ None) → NameFault held o spot f ⊎ (((f ≡ fault rule.Mismatch spot) × IsBool (entry_type o)) ⊎ (F ⊎ (G ⊎ (H ⊎ I)))) → count_of held spot o v w q b ≡ None
-count-fault held spot None v w q b f F G H I k l m n e = refl
-count-fault held spot (Some x) None w q b f F G H I k l m n e = refl
-count-fault held spot (Some x) (Some v) None q b f F G H I k l m n e = refl
-count-fault held spot (Some x) (Some v) (Some w) None b f F G H I k l m n e = refl
-count-fault held spot (Some x) (Some v) (Some w) (Some q) None f F G H I k l m n e = refl
-count-fault held spot (Some x) (Some v) (Some w) (Some q) (Some b) f F G H I k l m n (inl g) = first-false (is_free held x) (not (is_bool x.ty)) (checked.count x.slot v q (turns_of v w q) b spot) g.1
-count-fault held spot (Some x) (Some v) (Some w) (Some q) (Some b) f F G H I k l m n (inr (inl g)) =
-    last-false (is_free held x) (not (is_bool x.ty)) (checked.count x.slot v q (turns_of v w q) b spot) (bool-not (is_bool x.ty) (ap is_bool (same-value x.ty g.1.0 g.1.1) ∙ g.1.2))
-count-fault held spot (Some x) (Some v) (Some w) (Some q) (Some b) f F G H I k l m n (inr (inr (inl g))) = absurd (some-none v (k g))
-count-fault held spot (Some x) (Some v) (Some w) (Some q) (Some b) f F G H I k l m n (inr (inr (inr (inl g)))) = absurd (some-none w (l g))
-count-fault held spot (Some x) (Some v) (Some w) (Some q) (Some b) f F G H I k l m n (inr (inr (inr (inr (inl g))))) = absurd (some-none q (m g))
-count-fault held spot (Some x) (Some v) (Some w) (Some q) (Some b) f F G H I k l m n (inr (inr (inr (inr (inr g))))) = absurd (some-none b (n g))
+for-fault : (held : List ℕ) (spot : Spot) (o : Option Entry) (v w q : Option ℤ) (b : Option checked.TStmtTrees) (f : Fault) (F G H I : Type 0) → (F → v ≡ None) → (G → w ≡ None) → (H → q ≡ None) → (I → b ≡ None) → NameFault held o spot f ⊎ (((f ≡ fault rule.Mismatch spot) × IsBool (entry_type o)) ⊎ (F ⊎ (G ⊎ (H ⊎ I)))) → for_of held spot o v w q b ≡ None
+for-fault held spot None v w q b f F G H I k l m n e = refl
+for-fault held spot (Some x) None w q b f F G H I k l m n e = refl
+for-fault held spot (Some x) (Some v) None q b f F G H I k l m n e = refl
+for-fault held spot (Some x) (Some v) (Some w) None b f F G H I k l m n e = refl
+for-fault held spot (Some x) (Some v) (Some w) (Some q) None f F G H I k l m n e = refl
+for-fault held spot (Some x) (Some v) (Some w) (Some q) (Some b) f F G H I k l m n (inl g) = first-false (is_free held x) (not (is_bool x.ty)) (checked.for_ x.slot v q (turns_of v w q) b spot) g.1
+for-fault held spot (Some x) (Some v) (Some w) (Some q) (Some b) f F G H I k l m n (inr (inl g)) =
+    last-false (is_free held x) (not (is_bool x.ty)) (checked.for_ x.slot v q (turns_of v w q) b spot) (bool-not (is_bool x.ty) (ap is_bool (same-value x.ty g.1.0 g.1.1) ∙ g.1.2))
+for-fault held spot (Some x) (Some v) (Some w) (Some q) (Some b) f F G H I k l m n (inr (inr (inl g))) = absurd (some-none v (k g))
+for-fault held spot (Some x) (Some v) (Some w) (Some q) (Some b) f F G H I k l m n (inr (inr (inr (inl g)))) = absurd (some-none w (l g))
+for-fault held spot (Some x) (Some v) (Some w) (Some q) (Some b) f F G H I k l m n (inr (inr (inr (inr (inl g))))) = absurd (some-none q (m g))
+for-fault held spot (Some x) (Some v) (Some w) (Some q) (Some b) f F G H I k l m n (inr (inr (inr (inr (inr g))))) = absurd (some-none b (n g))
 
 fault-no-test : (s : List Entry) (e : ExprTree) (f : Fault) → ExprFault s e f → option_and_then test_of (expr_of s e) ≡ None
 fault-no-test s e f h = ap (option_and_then test_of) (fault-no-expr s e f h)
@@ -272,13 +307,13 @@ fault-no-selector s e f h = ap (option_and_then selector_of) (fault-no-expr s e 
 mutual
   pub fault-no-stmt : (s : List Entry) (held : List ℕ) (x : StmtTree) (f : Fault) → StmtFault s held x f → stmt_of s held x ≡ None
   fault-no-stmt s held (assign n e spot) f k = assign-fault held spot (find s n) (expr_of s e) (type_of s e) (ExprFault s e) f (fault-no-expr s e f) (typed-is s e) k
-  fault-no-stmt s held (choose arms o) f k = pair-fault (λ x y. checked.choose x y) (arms_of s held arms) (other_of s held o) (ArmsFault s held arms) (OtherFault s held o) f (fault-no-arms s held arms f) (fault-no-other s held o f) k
-  fault-no-stmt s held (select e branches o spot) f k =
-      select-fault spot (option_and_then selector_of (expr_of s e)) (branches_of s held (type_of s e) branches) (other_of s held o)
+  fault-no-stmt s held (if_ arms o) f k = pair-fault (λ x y. checked.if_ x y) (arms_of s held arms) (other_of s held o) (ArmsFault s held arms) (OtherFault s held o) f (fault-no-arms s held arms f) (fault-no-other s held o f) k
+  fault-no-stmt s held (case e branches o spot) f k =
+      case-fault spot (option_and_then selector_of (expr_of s e)) (branches_of s held (type_of s e) branches) (other_of s held o)
       (ExprFault s e f) ((f ≡ fault rule.Mismatch spot) × IsBool (type_of s e)) (BranchesFault s held (type_of s e) branches f) (OtherFault s held o f)
       (fault-no-selector s e f) (selector-fault spot (expr_of s e) (type_of s e) f (typed-is s e)) (fault-no-branches s held (type_of s e) branches f) (fault-no-other s held o f) k
-  fault-no-stmt s held (count n name_spot first last by body spot) f k =
-      count-fault held name_spot (find s n) (number_in (entry_type (find s n)) (constant s first)) (number_in (entry_type (find s n)) (constant s last))
+  fault-no-stmt s held (for_ n name_spot first last by body spot) f k =
+      for-fault held name_spot (find s n) (number_in (entry_type (find s n)) (constant s first)) (number_in (entry_type (find s n)) (constant s last))
       (step_of s (entry_type (find s n)) by) (stmts_of s (held_in held (find s n)) body) f
       (BoundFault s (entry_type (find s n)) first f) (BoundFault s (entry_type (find s n)) last f) (StepFault s (entry_type (find s n)) by f) (StmtsFault s (held_in held (find s n)) body f)
       (bound-fault s (entry_type (find s n)) first f) (bound-fault s (entry_type (find s n)) last f) (step-fault s (entry_type (find s n)) by f) (fault-no-stmts s (held_in held (find s n)) body f) k

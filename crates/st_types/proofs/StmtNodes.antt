@@ -1,16 +1,18 @@
 -- StmtNodes: one lemma for each node of a statement: the faults of its parts, in order, and what they give.
-use Rattle.std.proofs.Common.{◌≡◌, ◌≢◌, ℕ, ℤ, pos, ◌⊎◌, List, [], ◌∷◌, ◌++◌, true, Option, Some, None, IfSome, option_map, option_and_then, refl, sym, ap, ap₂, ◌∙◌, subst, arith}
+use Rattle.std.proofs.Common.{◌≡◌, ◌≢◌, ℕ, ℤ, pos, ◌⊎◌, List, [], ◌∷◌, ◌++◌, Bool, true, false, Option, Some, None, IfSome, option_map, option_and_then, refl, sym, ap, ap₂, ◌∙◌, subst, arith}
 use Rattle.std.proofs.lemmas.Int.{ints}
 use Rattle.vcp_base.specs.declared.spot.Spot.{Spot}
 use Rattle.vcp_base.specs.declared.ty.Ty.{Ty}
 use Rattle.vcp_base.specs.declared.ty.Ty.TheVariants as ty
 use Rattle.vcp_base.specs.Types.{fits}
 use Rattle.st_tree.specs.ExprTree.{ExprTree}
-use Rattle.st_tree.specs.StmtTree.{LabelTree, StmtTree, StmtTrees, ArmTrees, BranchTrees, OtherTree, assign, choose, select, count, no_stmts, and_stmt, no_arms, and_arm, no_branches, and_branch, no_other, other}
+use Rattle.st_tree.specs.StmtTree.{LabelTree, StmtTree, StmtTrees, ArmTrees, BranchTrees, OtherTree, assign, if_, case, for_, no_stmts, and_stmt, no_arms, and_arm, no_branches, and_branch, no_other, other}
 use Rattle.vcp_typed.specs.declared.stmt.TLabel.{TLabel}
 use Rattle.vcp_typed.specs.TExprTree as typed
 use Rattle.vcp_typed.specs.TStmtTree as checked
+use Rattle.vcp_typed.specs.TStmtViews.{tstmts_and, tarms_and, tbranches_and}
 use Rattle.vcp_typed.specs.Checked.{ty_of}
+use Rattle.st_types.specs.declared.constants.Number.{Number}
 use Rattle.st_types.specs.declared.fault.Fault.{Fault}
 use Rattle.st_types.specs.declared.fault.Rule.TheVariants as rule
 use Rattle.st_types.specs.Faults.{fault}
@@ -18,8 +20,8 @@ use Rattle.st_types.specs.Notes.{Notes}
 use Rattle.st_types.specs.Scope.{Entry, find}
 use Rattle.st_types.specs.ExprTyping.{both, type_of, expr_of}
 use Rattle.st_types.specs.ExprSteps.{Types}
-use Rattle.st_types.specs.StmtTyping.{Known, spot_of, constant, number_in, step_in, step_of, NameFault, entry_type, Narrows, NoTest, IsBool, BoundFault, StepFault, LastFault, label_ends, label_of, LabelsFault, held_in, StmtsFault, stmts_of, ArmsFault, BranchesFault, OtherFault, assign_of, test_of, selector_of, count_of, arm_of, branch_of, select_of}
-use Rattle.st_types.specs.StmtSteps.{Gives, literal_known, IsSmall, InType, Numbers, Bounds, Steps, TypesLast, TypesLabel, TypesLabels, TypesStmt, TypesStmts, TypesArms, TypesBranches, TypesOther, stmt_after, label_after, arm_after, branch_after, choose_of}
+use Rattle.st_types.specs.StmtTyping.{Known, Form, spot_of, constant, form, form_number, number_in, not_zero, step_of, NameFault, entry_type, Narrows, NoTest, IsBool, BoundFault, StepFault, LastFault, last_end, last_form, in_order, label_ends, label_of, LabelsFault, held_in, StmtsFault, stmts_of, ArmsFault, BranchesFault, OtherFault, assign_of, test_of, selector_of, for_of, arm_of, branch_of, case_of}
+use Rattle.st_types.specs.StmtSteps.{Gives, literal_known, IsSmall, InType, Numbers, Bounds, Steps, TypesLast, TypesLabel, TypesLabels, TypesStmt, TypesStmts, TypesArms, TypesBranches, TypesOther, stmt_after, label_after, arm_after, branch_after, if_of}
 use Rattle.st_types.proofs.ConstantLaws.{constant-is}
 use Rattle.st_types.proofs.ExprLaws.{typed-is}
 use Rattle.st_types.proofs.MadeChecked.{number-fits, not-zero-made}
@@ -31,24 +33,25 @@ own-type s e x is = ap (option_map ty_of) is ∙ typed-is s e
 
 -- ---- constants
 
-pub numbers : (s : List Entry) (t : Option Ty) (e : ExprTree) (a b : Option Fault) (x : Option typed.TExprTree) (v : Option ℤ) → Types s e a b x → v ≡ number_in t (option_and_then literal_known x) → Numbers s t e a b v
-numbers s t e a b x v h is = record {
-  notes = h.notes;
-  gives = is ∙ ap (λ y. number_in t (option_and_then literal_known y)) h.gives ∙ ap (number_in t) (constant-is s e);
-}
+pub numbers : (s : List Entry) (t : Option Ty) (e : ExprTree) (a b : Option Fault) (x : Option typed.TExprTree) (k : Option Known) (o : Option Form) (w v : Option ℤ)
+    → Types s e a b x → k ≡ option_and_then literal_known x → (k ≡ constant s e → o ≡ form s e) → w ≡ form_number t o → v ≡ number_in t k
+    → Numbers s t e a b (record { form = w; value = v })
+numbers s t e a b x k o w v h known formed fw fv =
+    let is : k ≡ constant s e = known ∙ ap (option_and_then literal_known) h.gives ∙ constant-is s e in
+    record { notes = h.notes; value = fv ∙ ap (number_in t) is; form = fw ∙ ap (form_number t) (formed is) }
 
-pub bounds : (s : List Entry) (t : Option Ty) (e : ExprTree) (p : Spot) (a b c : Option Fault) (v : Option ℤ) → Numbers s t e a b v → p ≡ spot_of e → Notes b c (λ f. (f ≡ fault rule.Bound p) × (v ≡ None)) → Bounds s t e a c v
-bounds s t e p a b c v h at n =
-    let m = subst (λ q. Notes b c (λ f. (f ≡ fault rule.Bound q) × (v ≡ None))) at n in
-    let o = subst (λ y. Notes b c (λ f. (f ≡ fault rule.Bound (spot_of e)) × (y ≡ None))) h.gives m in
-    record { notes = pair a b c _ _ h.notes o; gives = h.gives }
+pub bounds : (s : List Entry) (t : Option Ty) (e : ExprTree) (p : Spot) (a b c : Option Fault) (r : Number) → Numbers s t e a b r → p ≡ spot_of e → Notes b c (λ f. (f ≡ fault rule.Bound p) × (r.form ≡ None)) → Bounds s t e a c r.value
+bounds s t e p a b c r h at n =
+    let m = subst (λ q. Notes b c (λ f. (f ≡ fault rule.Bound q) × (r.form ≡ None))) at n in
+    let o = subst (λ y. Notes b c (λ f. (f ≡ fault rule.Bound (spot_of e)) × (y ≡ None))) h.form m in
+    record { notes = pair a b c _ _ h.notes o; gives = h.value }
 
-pub steps : (s : List Entry) (t : Option Ty) (e : ExprTree) (p : Spot) (a b c : Option Fault) (x : Option typed.TExprTree) (v : Option ℤ) → Types s e a b x → v ≡ step_in t (option_and_then literal_known x) → p ≡ spot_of e → Notes b c (λ f. (f ≡ fault rule.Bound p) × (v ≡ None)) → Steps s t (Some e) a c v
-steps s t e p a b c x v h is at n =
-    let w : v ≡ step_in t (constant s e) = is ∙ ap (λ y. step_in t (option_and_then literal_known y)) h.gives ∙ ap (step_in t) (constant-is s e) in
-    let m = subst (λ q. Notes b c (λ f. (f ≡ fault rule.Bound q) × (v ≡ None))) at n in
-    let o = subst (λ y. Notes b c (λ f. (f ≡ fault rule.Bound (spot_of e)) × (y ≡ None))) w m in
-    record { notes = pair a b c _ _ h.notes o; gives = w }
+pub steps : (s : List Entry) (t : Option Ty) (e : ExprTree) (p : Spot) (a b c : Option Fault) (r : Number) (w v : Option ℤ) → Numbers s t e a b r → p ≡ spot_of e
+    → w ≡ option_and_then not_zero r.form → Notes b c (λ f. (f ≡ fault rule.Bound p) × (w ≡ None)) → v ≡ option_and_then not_zero r.value → Steps s t (Some e) a c v
+steps s t e p a b c r w v h at fw n fv =
+    let m = subst (λ q. Notes b c (λ f. (f ≡ fault rule.Bound q) × (w ≡ None))) at n in
+    let o = subst (λ y. Notes b c (λ f. (f ≡ fault rule.Bound (spot_of e)) × (y ≡ None))) (fw ∙ ap (option_and_then not_zero) h.form) m in
+    record { notes = pair a b c _ _ h.notes o; gives = fv ∙ ap (option_and_then not_zero) h.value }
 
 pub one-step : (s : List Entry) (t : Option Ty) (a : Option Fault) → Steps s t None a a (Some (pos 1))
 one-step s t a = record { notes = quiet a (StepFault s t None) (λ f h. h); gives = refl }
@@ -56,17 +59,23 @@ one-step s t a = record { notes = quiet a (StepFault s t None) (λ f h. h); give
 -- ---- labels
 
 pub no-last : (s : List Entry) (t : Option Ty) (a : Option Fault) → TypesLast s t None a a None
-no-last s t a = record { notes = quiet a (LastFault s None) (λ f h. h); gives = refl }
+no-last s t a = record { notes = quiet a (LastFault s None) (λ f h. h); value = refl; form = refl }
 
-pub some-last : (s : List Entry) (t : Option Ty) (e : ExprTree) (a b : Option Fault) (v : Option ℤ) → Numbers s t e a b v → TypesLast s t (Some e) a b (Some v)
-some-last s t e a b v h = record { notes = h.notes; gives = ap Some h.gives }
+pub some-last : (s : List Entry) (t : Option Ty) (e : ExprTree) (a b : Option Fault) (r : Number) → Numbers s t e a b r → TypesLast s t (Some e) a b (Some r)
+some-last s t e a b r h = record { notes = h.notes; value = ap Some h.value; form = ap Some h.form }
 
-pub label-types : (s : List Entry) (t : Option Ty) (l : LabelTree) (p : Spot) (a b c d : Option Fault) (v : Option ℤ) (w : Option (Option ℤ)) (r : Option TLabel) → Numbers s t l.first a b v → TypesLast s t l.last b c w → p ≡ spot_of l.first → r ≡ label_ends p v w → Notes c d (λ f. (f ≡ fault rule.Label p) × (r ≡ None)) → TypesLabel s t l a d r
-label-types s t l p a b c d v w r h k at is n =
-    let made : r ≡ label_of s t l = is ∙ (λ i. label_ends (at i) (h.gives i) (k.gives i)) in
-    let m = subst (λ q. Notes c d (λ f. (f ≡ fault rule.Label q) × (r ≡ None))) at n in
-    let o = subst (λ y. Notes c d (λ f. (f ≡ fault rule.Label (spot_of l.first)) × (y ≡ None))) made m in
-    record { notes = pair a b d _ _ h.notes (pair b c d _ _ k.notes o); gives = made }
+pub label-types : (s : List Entry) (t : Option Ty) (l : LabelTree) (p : Spot) (a b c d : Option Fault) (v : Number) (w : Option Number) (x y : Option (Option ℤ)) (o : Bool) (r : Option TLabel)
+    → Numbers s t l.first a b v → TypesLast s t l.last b c w → p ≡ spot_of l.first
+    → x ≡ option_map (λ n. n.form) w → o ≡ in_order v.form x → Notes c d (λ f. (f ≡ fault rule.Label p) × (o ≡ false))
+    → y ≡ option_map (λ n. n.value) w → r ≡ label_ends p v.value y → TypesLabel s t l a d r
+label-types s t l p a b c d v w x y o r h k at fx fo n fy is =
+    let forms : x ≡ last_form s t l.last = fx ∙ k.form in
+    let ends : y ≡ last_end s t l.last = fy ∙ k.value in
+    let made : r ≡ label_of s t l = is ∙ (λ i. label_ends (at i) (h.value i) (ends i)) in
+    let ordered : o ≡ in_order (form_number t (form s l.first)) (last_form s t l.last) = fo ∙ (λ i. in_order (h.form i) (forms i)) in
+    let m = subst (λ q. Notes c d (λ f. (f ≡ fault rule.Label q) × (o ≡ false))) at n in
+    let z = subst (λ y. Notes c d (λ f. (f ≡ fault rule.Label (spot_of l.first)) × (y ≡ false))) ordered m in
+    record { notes = pair a b d _ _ h.notes (pair b c d _ _ k.notes z); gives = made }
 
 abbrev pub label_cons : TLabel → List TLabel → Option (List TLabel)
 label_cons x xs = Some (x ∷ xs)
@@ -112,35 +121,35 @@ assign-types s held n e p a b c d o x r is n1 t v =
       gives = v.gives ∙ ap₂ (both (assign_of held p)) is t.gives;
     }
 
-pub choose-types : (s : List Entry) (held : List ℕ) (arms : ArmTrees) (o : OtherTree) (a b c : Option Fault) (x : Option checked.TArmTrees) (y : Option checked.TOtherTree) (r : Option checked.TStmtTree)
-    → TypesArms s held arms a b x → TypesOther s held o b c y → r ≡ both choose_of x y → TypesStmt s held (choose arms o) a c r
-choose-types s held arms o a b c x y r h k is = record {
+pub if-types : (s : List Entry) (held : List ℕ) (arms : ArmTrees) (o : OtherTree) (a b c : Option Fault) (x : Option checked.TArmTrees) (y : Option checked.TOtherTree) (r : Option checked.TStmtTree)
+    → TypesArms s held arms a b x → TypesOther s held o b c y → r ≡ both if_of x y → TypesStmt s held (if_ arms o) a c r
+if-types s held arms o a b c x y r h k is = record {
   notes = pair a b c _ _ h.notes k.notes;
-  gives = is ∙ ap₂ (both choose_of) h.gives k.gives;
+  gives = is ∙ ap₂ (both if_of) h.gives k.gives;
 }
 
-pub select-types : (s : List Entry) (held : List ℕ) (e : ExprTree) (branches : BranchTrees) (o : OtherTree) (p : Spot) (a b c d g : Option Fault) (x q : Option typed.TExprTree) (t : Option Ty) (y : Option checked.TBranchTrees) (z : Option checked.TOtherTree) (r : Option checked.TStmtTree)
+pub case-types : (s : List Entry) (held : List ℕ) (e : ExprTree) (branches : BranchTrees) (o : OtherTree) (p : Spot) (a b c d g : Option Fault) (x q : Option typed.TExprTree) (t : Option Ty) (y : Option checked.TBranchTrees) (z : Option checked.TOtherTree) (r : Option checked.TStmtTree)
     → Types s e a b x → t ≡ option_map ty_of x
     → Notes b c (λ f. (f ≡ fault rule.Mismatch p) × IsBool (option_map ty_of x)) → q ≡ option_and_then selector_of x
-    → TypesBranches s held t branches c d y → TypesOther s held o d g z → r ≡ select_of p q y z
-    → TypesStmt s held (select e branches o p) a g r
-select-types s held e branches o p a b c d g x q t y z r h is n sel k l gives =
+    → TypesBranches s held t branches c d y → TypesOther s held o d g z → r ≡ case_of p q y z
+    → TypesStmt s held (case e branches o p) a g r
+case-types s held e branches o p a b c d g x q t y z r h is n sel k l gives =
     let own = own-type s e x h.gives in
     let m = subst (λ w. Notes b c (λ f. (f ≡ fault rule.Mismatch p) × IsBool w)) own n in
     let k1 = subst (λ w. TypesBranches s held w branches c d y) (is ∙ own) k in
     let q1 : q ≡ option_and_then selector_of (expr_of s e) = sel ∙ ap (option_and_then selector_of) h.gives in
     record {
       notes = pair a b g _ _ h.notes (pair b c g _ _ m (pair c d g _ _ k1.notes l.notes));
-      gives = gives ∙ (λ i. select_of p (q1 i) (k1.gives i) (l.gives i));
+      gives = gives ∙ (λ i. case_of p (q1 i) (k1.gives i) (l.gives i));
     }
 
-pub count-types : (s : List Entry) (held : List ℕ) (n : List ℕ) (p q : Spot) (e f : ExprTree) (by : Option ExprTree) (body : StmtTrees) (a b c d g h k : Option Fault) (o : Option Entry) (t : Option Ty) (inner : List ℕ) (v w u : Option ℤ) (y : Option checked.TStmtTrees) (r : Option checked.TStmtTree)
+pub for-types : (s : List Entry) (held : List ℕ) (n : List ℕ) (p q : Spot) (e f : ExprTree) (by : Option ExprTree) (body : StmtTrees) (a b c d g h k : Option Fault) (o : Option Entry) (t : Option Ty) (inner : List ℕ) (v w u : Option ℤ) (y : Option checked.TStmtTrees) (r : Option checked.TStmtTree)
     → o ≡ find s n → t ≡ entry_type o → inner ≡ held_in held o
     → Notes a b (NameFault held o p) → Notes b c (λ m. (m ≡ fault rule.Mismatch p) × IsBool t)
     → Bounds s t e c d v → Bounds s t f d g w → Steps s t by g h u
-    → TypesStmts s inner body h k y → r ≡ count_of held p o v w u y
-    → TypesStmt s held (count n p e f by body q) a k r
-count-types s held n p q e f by body a b c d g h k o t inner v w u y r is ty1 in1 n1 n2 x1 x2 x3 x4 gives =
+    → TypesStmts s inner body h k y → r ≡ for_of held p o v w u y
+    → TypesStmt s held (for_ n p e f by body q) a k r
+for-types s held n p q e f by body a b c d g h k o t inner v w u y r is ty1 in1 n1 n2 x1 x2 x3 x4 gives =
     let all = pair a b k _ _ n1 (pair b c k _ _ n2 (pair c d k _ _ x1.notes (pair d g k _ _ x2.notes (pair g h k _ _ x3.notes x4.notes)))) in
     let ty2 : t ≡ entry_type (find s n) = ty1 ∙ ap entry_type is in
     let in2 : inner ≡ held_in held (find s n) = in1 ∙ ap (held_in held) is in
@@ -148,8 +157,8 @@ count-types s held n p q e f by body a b c d g h k o t inner v w u y r is ty1 in
       notes = subst (λ z. Notes a k (λ m. NameFault held z p m ⊎ (((m ≡ fault rule.Mismatch p) × IsBool (entry_type (find s n))) ⊎ (BoundFault s (entry_type (find s n)) e m ⊎ (BoundFault s (entry_type (find s n)) f m ⊎ (StepFault s (entry_type (find s n)) by m ⊎ StmtsFault s (held_in held (find s n)) body m)))))) is
           (subst (λ z. Notes a k (λ m. NameFault held o p m ⊎ (((m ≡ fault rule.Mismatch p) × IsBool z) ⊎ (BoundFault s z e m ⊎ (BoundFault s z f m ⊎ (StepFault s z by m ⊎ StmtsFault s (held_in held (find s n)) body m)))))) ty2
           (subst (λ z. Notes a k (λ m. NameFault held o p m ⊎ (((m ≡ fault rule.Mismatch p) × IsBool t) ⊎ (BoundFault s t e m ⊎ (BoundFault s t f m ⊎ (StepFault s t by m ⊎ StmtsFault s z body m)))))) in2 all));
-      gives = gives ∙ (λ i. count_of held p o (x1.gives i) (x2.gives i) (x3.gives i) (x4.gives i))
-          ∙ (λ i. count_of held p (is i) (number_in (ty2 i) (constant s e)) (number_in (ty2 i) (constant s f)) (step_of s (ty2 i) by) (stmts_of s (in2 i) body));
+      gives = gives ∙ (λ i. for_of held p o (x1.gives i) (x2.gives i) (x3.gives i) (x4.gives i))
+          ∙ (λ i. for_of held p (is i) (number_in (ty2 i) (constant s e)) (number_in (ty2 i) (constant s f)) (step_of s (ty2 i) by) (stmts_of s (in2 i) body));
     }
 
 -- ---- lists
@@ -170,7 +179,7 @@ more-stmts s held l ls a b c x xs h k = record { notes = pair a b c _ _ h.notes 
 pub no-more-stmts : (s : List Entry) (held : List ℕ) (a : Option Fault) → TypesStmts s held no_stmts a a (Some checked.no_tstmts)
 no-more-stmts s held a = record { notes = quiet a (StmtsFault s held no_stmts) (λ f h. h); gives = refl }
 
-stmts-assoc : (xs : checked.TStmtTrees) (x : checked.TStmtTree) (ys : checked.TStmtTrees) → stmts_all (checked.tstmts_and xs x) ys ≡ stmts_all xs (checked.and_tstmt x ys)
+stmts-assoc : (xs : checked.TStmtTrees) (x : checked.TStmtTree) (ys : checked.TStmtTrees) → stmts_all (tstmts_and xs x) ys ≡ stmts_all xs (checked.and_tstmt x ys)
 stmts-assoc checked.no_tstmts x ys = refl
 stmts-assoc (checked.and_tstmt z xs) x ys = ap (λ (t : checked.TStmtTrees). checked.and_tstmt z t) (stmts-assoc xs x ys)
 
@@ -210,7 +219,7 @@ more-arms s held e body p ls a b c d g x q y z h n is k l =
 pub no-more-arms : (s : List Entry) (held : List ℕ) (a : Option Fault) → TypesArms s held no_arms a a (Some checked.no_tarms)
 no-more-arms s held a = record { notes = quiet a (ArmsFault s held no_arms) (λ f h. h); gives = refl }
 
-arms-assoc : (xs : checked.TArmTrees) (e : typed.TExprTree) (body : checked.TStmtTrees) (p : Spot) (ys : checked.TArmTrees) → arms_all (checked.tarms_and xs e body p) ys ≡ arms_all xs (checked.and_tarm e body p ys)
+arms-assoc : (xs : checked.TArmTrees) (e : typed.TExprTree) (body : checked.TStmtTrees) (p : Spot) (ys : checked.TArmTrees) → arms_all (tarms_and xs e body p) ys ≡ arms_all xs (checked.and_tarm e body p ys)
 arms-assoc checked.no_tarms e body p ys = refl
 arms-assoc (checked.and_tarm c b q xs) e body p ys = ap (λ (t : checked.TArmTrees). checked.and_tarm c b q t) (arms-assoc xs e body p ys)
 
@@ -247,7 +256,7 @@ more-branches s held t ls body rest a b c d x y z h k l = record {
 pub no-more-branches : (s : List Entry) (held : List ℕ) (t : Option Ty) (a : Option Fault) → TypesBranches s held t no_branches a a (Some checked.no_tbranches)
 no-more-branches s held t a = record { notes = quiet a (BranchesFault s held t no_branches) (λ f h. h); gives = refl }
 
-branches-assoc : (xs : checked.TBranchTrees) (ls : List TLabel) (body : checked.TStmtTrees) (ys : checked.TBranchTrees) → branches_all (checked.tbranches_and xs ls body) ys ≡ branches_all xs (checked.and_tbranch ls body ys)
+branches-assoc : (xs : checked.TBranchTrees) (ls : List TLabel) (body : checked.TStmtTrees) (ys : checked.TBranchTrees) → branches_all (tbranches_and xs ls body) ys ≡ branches_all xs (checked.and_tbranch ls body ys)
 branches-assoc checked.no_tbranches ls body ys = refl
 branches-assoc (checked.and_tbranch c b xs) ls body ys = ap (λ (t : checked.TBranchTrees). checked.and_tbranch c b t) (branches-assoc xs ls body ys)
 
@@ -288,5 +297,5 @@ number-small (Some t) k None e = tt
 number-small (Some t) k (Some v) e = small-of t v (number-fits t k v (sym e))
 
 -- a step isn't 0
-pub step-some : (t : Option Ty) (k : Option Known) (o : Option ℤ) → o ≡ step_in t k → IfSome o (λ v. v ≢ pos 0)
-step-some t k o e = subst (λ x. IfSome x (λ v. v ≢ pos 0)) (sym e) (not-zero-made (number_in t k))
+pub step-some : (k o : Option ℤ) → o ≡ option_and_then not_zero k → IfSome o (λ v. v ≢ pos 0)
+step-some k o e = subst (λ x. IfSome x (λ v. v ≢ pos 0)) (sym e) (not-zero-made k)

@@ -9,7 +9,7 @@ use Rattle.st_tree.specs.declared.expr.UnOp.TheVariants as un
 use Rattle.st_tree.specs.declared.expr.BinOp.TheVariants as bin
 use Rattle.st_tree.specs.declared.program.Class.TheVariants as class
 use Rattle.st_tree.specs.ExprTree.{ExprTree, literal, name, unary, binary, call, no_exprs, and_expr}
-use Rattle.st_tree.specs.StmtTree.{LabelTree, StmtTree, StmtTrees, assign, choose, select, count, no_stmts, and_stmt, no_arms, and_arm, no_branches, and_branch, no_other, other}
+use Rattle.st_tree.specs.StmtTree.{LabelTree, StmtTree, StmtTrees, assign, if_, case, for_, no_stmts, and_stmt, no_arms, and_arm, no_branches, and_branch, no_other, other}
 use Rattle.st_tree.specs.ProgramTree.{DeclaredTree, DeclTree, BlockTree, ProgramTree}
 use Rattle.vcp_typed.specs.declared.expr.Fun.TheVariants as fun
 use Rattle.vcp_typed.specs.declared.slot.Slot.{Slot}
@@ -74,7 +74,7 @@ body_of n col by = and_stmt (assign (codes "q") (num n by) (at 6 col)) no_stmts
 
 -- CASE e OF L: q := 1; END_CASE;
 abbrev case_of : ExprTree → List LabelTree → ProgramTree
-case_of e ls = one (select e (and_branch ls (body_of 1 24 29) no_branches) no_other (at 6 1))
+case_of e ls = one (case e (and_branch ls (body_of 1 24 29) no_branches) no_other (at 6 1))
 
 abbrev label : ExprTree → LabelTree
 label e = record { first = e; last = None }
@@ -150,7 +150,7 @@ least_literal : checks (set (codes "q") (unary un.Neg (num 2147483648 7) (at 6 6
 least_literal = refl
 
 -- FOR k := T TO DINT#5 DO q := k; END_FOR;
-counted : checks (one (count (codes "k") (at 6 5) (var (codes "T") 10) (literal (Some ty.Dint) (pos 5) (at 6 15)) None (and_stmt (assign (codes "q") (var (codes "k") 30) (at 6 25)) no_stmts) (at 6 1))) ≡ (None, Some 25)
+counted : checks (one (for_ (codes "k") (at 6 5) (var (codes "T") 10) (literal (Some ty.Dint) (pos 5) (at 6 15)) None (and_stmt (assign (codes "q") (var (codes "k") 30) (at 6 25)) no_stmts) (at 6 1))) ≡ (None, Some 25)
 counted = refl
 
 -- q := SEL(b, i, d);
@@ -182,7 +182,7 @@ range_of_one : checks (case_of (var (codes "i") 6) (range (num 3 11) (num 3 14) 
 range_of_one = refl
 
 -- FOR k := 1 TO 3 DO q := 1; END_FOR; k := 2; the loop is over
-set_after : checks (record { name = codes "p"; blocks = header; body = and_stmt (count (codes "k") (at 6 5) (num 1 10) (num 3 15) None (body_of 1 20 25) (at 6 1)) (and_stmt (assign (codes "k") (num 2 42) (at 6 37)) no_stmts) }) ≡ (None, Some 30)
+set_after : checks (record { name = codes "p"; blocks = header; body = and_stmt (for_ (codes "k") (at 6 5) (num 1 10) (num 3 15) None (body_of 1 20 25) (at 6 1)) (and_stmt (assign (codes "k") (num 2 42) (at 6 37)) no_stmts) }) ≡ (None, Some 30)
 set_after = refl
 
 -- ---- checked trees
@@ -208,15 +208,15 @@ call_tree : expr_of names (call (codes "DINT_TO_INT") (and_expr (var (codes "i")
 call_tree = refl
 
 -- FOR k := 7 TO 1 BY -3 DO q := 0; END_FOR: 7, 4 and 1
-count_tree : stmts_of names []
-    (and_stmt (count (codes "k") (at 6 5) (num 7 10) (num 1 15) (Some (unary un.Neg (num 3 21) (at 6 20))) (body_of 0 26 31) (at 6 1)) no_stmts)
-    ≡ Some (checked.and_tstmt (checked.count 6 (pos 7) (ℤ.negsuc 2) 3 (checked.and_tstmt (checked.assign 3 (typed.literal ty.Dint (pos 0) (at 6 31)) (at 6 26)) checked.no_tstmts) (at 6 5)) checked.no_tstmts)
-count_tree = refl
+for_tree : stmts_of names []
+    (and_stmt (for_ (codes "k") (at 6 5) (num 7 10) (num 1 15) (Some (unary un.Neg (num 3 21) (at 6 20))) (body_of 0 26 31) (at 6 1)) no_stmts)
+    ≡ Some (checked.and_tstmt (checked.for_ 6 (pos 7) (ℤ.negsuc 2) 3 (checked.and_tstmt (checked.assign 3 (typed.literal ty.Dint (pos 0) (at 6 31)) (at 6 26)) checked.no_tstmts) (at 6 5)) checked.no_tstmts)
+for_tree = refl
 
 -- FOR k := 2 TO 1 DO q := 0; END_FOR: no turn
 no_turn_tree : stmts_of names []
-    (and_stmt (count (codes "k") (at 6 5) (num 2 10) (num 1 15) None (body_of 0 20 25) (at 6 1)) no_stmts)
-    ≡ Some (checked.and_tstmt (checked.count 6 (pos 2) (pos 1) 0 (checked.and_tstmt (checked.assign 3 (typed.literal ty.Dint (pos 0) (at 6 25)) (at 6 20)) checked.no_tstmts) (at 6 5)) checked.no_tstmts)
+    (and_stmt (for_ (codes "k") (at 6 5) (num 2 10) (num 1 15) None (body_of 0 20 25) (at 6 1)) no_stmts)
+    ≡ Some (checked.and_tstmt (checked.for_ 6 (pos 2) (pos 1) 0 (checked.and_tstmt (checked.assign 3 (typed.literal ty.Dint (pos 0) (at 6 25)) (at 6 20)) checked.no_tstmts) (at 6 5)) checked.no_tstmts)
 no_turn_tree = refl
 
 -- q := n, checked
@@ -224,19 +224,19 @@ abbrev set_q : ℕ → ℕ → ℕ → checked.TStmtTrees
 set_q n col by = checked.and_tstmt (checked.assign 3 (typed.literal ty.Dint (pos n) (at 6 by)) (at 6 col)) checked.no_tstmts
 
 -- IF b THEN q := 1; ELSIF c THEN q := 2; ELSE q := 3; END_IF: each body stands with its condition
-choose_tree : stmts_of names []
-    (and_stmt (choose (and_arm (var (codes "b") 4) (body_of 1 11 16) (at 6 1) (and_arm (var (codes "c") 25) (body_of 2 32 37) (at 6 19) no_arms)) (other (body_of 3 45 50))) no_stmts)
-    ≡ Some (checked.and_tstmt (checked.choose (checked.and_tarm (typed.get 2 ty.Bool) (set_q 1 11 16) (at 6 1) (checked.and_tarm (typed.get 5 ty.Bool) (set_q 2 32 37) (at 6 19) checked.no_tarms)) (checked.tother (set_q 3 45 50))) checked.no_tstmts)
-choose_tree = refl
+if_tree : stmts_of names []
+    (and_stmt (if_ (and_arm (var (codes "b") 4) (body_of 1 11 16) (at 6 1) (and_arm (var (codes "c") 25) (body_of 2 32 37) (at 6 19) no_arms)) (other (body_of 3 45 50))) no_stmts)
+    ≡ Some (checked.and_tstmt (checked.if_ (checked.and_tarm (typed.get 2 ty.Bool) (set_q 1 11 16) (at 6 1) (checked.and_tarm (typed.get 5 ty.Bool) (set_q 2 32 37) (at 6 19) checked.no_tarms)) (checked.tother (set_q 3 45 50))) checked.no_tstmts)
+if_tree = refl
 
 -- CASE i OF -1, 2..T: q := 1; 7: q := 2; ELSE q := 3; END_CASE: a value is its own first and last
-select_tree : stmts_of names []
-    (and_stmt (select (var (codes "i") 6) (and_branch (label (unary un.Neg (num 1 12) (at 6 11)) ∷ range (num 2 15) (var (codes "T") 18) ∷ []) (body_of 1 21 26) (and_branch (label (num 7 29) ∷ []) (body_of 2 32 37) no_branches)) (other (body_of 3 45 50)) (at 6 1)) no_stmts)
-    ≡ Some (checked.and_tstmt (checked.select (typed.get 0 ty.Int)
+case_tree : stmts_of names []
+    (and_stmt (case (var (codes "i") 6) (and_branch (label (unary un.Neg (num 1 12) (at 6 11)) ∷ range (num 2 15) (var (codes "T") 18) ∷ []) (body_of 1 21 26) (and_branch (label (num 7 29) ∷ []) (body_of 2 32 37) no_branches)) (other (body_of 3 45 50)) (at 6 1)) no_stmts)
+    ≡ Some (checked.and_tstmt (checked.case (typed.get 0 ty.Int)
     (checked.and_tbranch (record { first = ℤ.negsuc 0; last = ℤ.negsuc 0; range = false; spot = at 6 11 } ∷ record { first = pos 2; last = pos 3; range = true; spot = at 6 15 } ∷ []) (set_q 1 21 26)
     (checked.and_tbranch (record { first = pos 7; last = pos 7; range = false; spot = at 6 29 } ∷ []) (set_q 2 32 37) checked.no_tbranches))
     (checked.tother (set_q 3 45 50)) (at 6 1)) checked.no_tstmts)
-select_tree = refl
+case_tree = refl
 
 -- ---- the least faults
 
@@ -277,39 +277,39 @@ beyond_written : first_fault (set (codes "q") (literal (Some ty.Int) (pos 32768)
 beyond_written = refl
 
 -- FOR k := 1 TO d DO q := 1; END_FOR;
-bound_variable : first_fault (one (count (codes "k") (at 6 5) (num 1 10) (var (codes "d") 15) None (body_of 1 20 25) (at 6 1))) ≡ Some (fault rule.Bound (at 6 15))
+bound_variable : first_fault (one (for_ (codes "k") (at 6 5) (num 1 10) (var (codes "d") 15) None (body_of 1 20 25) (at 6 1))) ≡ Some (fault rule.Bound (at 6 15))
 bound_variable = refl
 
 -- FOR k := 1 TO 40000 DO q := 1; END_FOR;
-bound_beyond : first_fault (one (count (codes "k") (at 6 5) (num 1 10) (num 40000 15) None (body_of 1 24 29) (at 6 1))) ≡ Some (fault rule.Bound (at 6 15))
+bound_beyond : first_fault (one (for_ (codes "k") (at 6 5) (num 1 10) (num 40000 15) None (body_of 1 24 29) (at 6 1))) ≡ Some (fault rule.Bound (at 6 15))
 bound_beyond = refl
 
 -- FOR k := 1 TO 3 BY 0 DO q := 1; END_FOR;
-no_step : first_fault (one (count (codes "k") (at 6 5) (num 1 10) (num 3 15) (Some (num 0 20)) (body_of 1 25 30) (at 6 1))) ≡ Some (fault rule.Bound (at 6 20))
+no_step : first_fault (one (for_ (codes "k") (at 6 5) (num 1 10) (num 3 15) (Some (num 0 20)) (body_of 1 25 30) (at 6 1))) ≡ Some (fault rule.Bound (at 6 20))
 no_step = refl
 
 -- FOR b := 1 TO 2 DO q := 1; END_FOR;
-counts_bool : first_fault (one (count (codes "b") (at 6 5) (num 1 10) (num 2 15) None (body_of 1 20 25) (at 6 1))) ≡ Some (fault rule.Mismatch (at 6 5))
+counts_bool : first_fault (one (for_ (codes "b") (at 6 5) (num 1 10) (num 2 15) None (body_of 1 20 25) (at 6 1))) ≡ Some (fault rule.Mismatch (at 6 5))
 counts_bool = refl
 
 -- FOR k := 1 TO 3 DO k := 2; END_FOR;
-sets_held : first_fault (one (count (codes "k") (at 6 5) (num 1 10) (num 3 15) None (and_stmt (assign (codes "k") (num 2 25) (at 6 20)) no_stmts) (at 6 1))) ≡ Some (fault rule.Assign (at 6 20))
+sets_held : first_fault (one (for_ (codes "k") (at 6 5) (num 1 10) (num 3 15) None (and_stmt (assign (codes "k") (num 2 25) (at 6 20)) no_stmts) (at 6 1))) ≡ Some (fault rule.Assign (at 6 20))
 sets_held = refl
 
 -- FOR T := 1 TO 3 DO q := 1; END_FOR;
-counts_constant : first_fault (one (count (codes "T") (at 6 5) (num 1 10) (num 3 15) None (body_of 1 20 25) (at 6 1))) ≡ Some (fault rule.Assign (at 6 5))
+counts_constant : first_fault (one (for_ (codes "T") (at 6 5) (num 1 10) (num 3 15) None (body_of 1 20 25) (at 6 1))) ≡ Some (fault rule.Assign (at 6 5))
 counts_constant = refl
 
 -- IF i THEN q := 1; END_IF;
-tests_int : first_fault (one (choose (and_arm (var (codes "i") 4) (body_of 1 11 16) (at 6 1) no_arms) no_other)) ≡ Some (fault rule.Mismatch (at 6 1))
+tests_int : first_fault (one (if_ (and_arm (var (codes "i") 4) (body_of 1 11 16) (at 6 1) no_arms) no_other)) ≡ Some (fault rule.Mismatch (at 6 1))
 tests_int = refl
 
 -- CASE b OF 1: q := 1; END_CASE;
-selects_bool : first_fault (one (select (var (codes "b") 6) (and_branch (record { first = num 1 11; last = None } ∷ []) (body_of 1 14 19) no_branches) no_other (at 6 1))) ≡ Some (fault rule.Mismatch (at 6 1))
+selects_bool : first_fault (one (case (var (codes "b") 6) (and_branch (record { first = num 1 11; last = None } ∷ []) (body_of 1 14 19) no_branches) no_other (at 6 1))) ≡ Some (fault rule.Mismatch (at 6 1))
 selects_bool = refl
 
 -- CASE i OF 5..3: q := 1; END_CASE;
-empty_range : first_fault (one (select (var (codes "i") 6) (and_branch (record { first = num 5 11; last = Some (num 3 14) } ∷ []) (body_of 1 17 22) no_branches) no_other (at 6 1))) ≡ Some (fault rule.Label (at 6 11))
+empty_range : first_fault (one (case (var (codes "i") 6) (and_branch (record { first = num 5 11; last = Some (num 3 14) } ∷ []) (body_of 1 17 22) no_branches) no_other (at 6 1))) ≡ Some (fault rule.Label (at 6 11))
 empty_range = refl
 
 -- q := MIN(i, d, d);
@@ -361,15 +361,15 @@ sets_unknown : first_fault (set (codes "zz") (literal (Some ty.Bool) (pos 1) (at
 sets_unknown = refl
 
 -- IF b THEN q := 1; ELSIF i THEN q := 2; END_IF;
-tests_int_next : first_fault (one (choose (and_arm (var (codes "b") 4) (body_of 1 11 16) (at 6 1) (and_arm (var (codes "i") 25) (body_of 2 32 37) (at 6 19) no_arms)) no_other)) ≡ Some (fault rule.Mismatch (at 6 19))
+tests_int_next : first_fault (one (if_ (and_arm (var (codes "b") 4) (body_of 1 11 16) (at 6 1) (and_arm (var (codes "i") 25) (body_of 2 32 37) (at 6 19) no_arms)) no_other)) ≡ Some (fault rule.Mismatch (at 6 19))
 tests_int_next = refl
 
 -- IF b THEN q := 1; ELSE zz := 2; END_IF;
-unknown_in_else : first_fault (one (choose (and_arm (var (codes "b") 4) (body_of 1 11 16) (at 6 1) no_arms) (other (and_stmt (assign (codes "zz") (num 2 30) (at 6 24)) no_stmts)))) ≡ Some (fault rule.Unknown (at 6 24))
+unknown_in_else : first_fault (one (if_ (and_arm (var (codes "b") 4) (body_of 1 11 16) (at 6 1) no_arms) (other (and_stmt (assign (codes "zz") (num 2 30) (at 6 24)) no_stmts)))) ≡ Some (fault rule.Unknown (at 6 24))
 unknown_in_else = refl
 
 -- CASE i OF 1: q := 1; ELSE zz := 2; END_CASE;
-unknown_in_case : first_fault (one (select (var (codes "i") 6) (and_branch (label (num 1 11) ∷ []) (body_of 1 14 19) no_branches) (other (and_stmt (assign (codes "zz") (num 2 33) (at 6 27)) no_stmts)) (at 6 1))) ≡ Some (fault rule.Unknown (at 6 27))
+unknown_in_case : first_fault (one (case (var (codes "i") 6) (and_branch (label (num 1 11) ∷ []) (body_of 1 14 19) no_branches) (other (and_stmt (assign (codes "zz") (num 2 33) (at 6 27)) no_stmts)) (at 6 1))) ≡ Some (fault rule.Unknown (at 6 27))
 unknown_in_case = refl
 
 -- CASE i OF 40000: q := 1; END_CASE;
@@ -385,16 +385,16 @@ variable_label : first_fault (case_of (var (codes "i") 6) (label (var (codes "k"
 variable_label = refl
 
 -- FOR k := TRUE TO 1 DO q := 1; END_FOR;
-true_bound : first_fault (one (count (codes "k") (at 6 5) (literal (Some ty.Bool) (pos 1) (at 6 10)) (num 1 18) None (body_of 1 23 28) (at 6 1))) ≡ Some (fault rule.Bound (at 6 10))
+true_bound : first_fault (one (for_ (codes "k") (at 6 5) (literal (Some ty.Bool) (pos 1) (at 6 10)) (num 1 18) None (body_of 1 23 28) (at 6 1))) ≡ Some (fault rule.Bound (at 6 10))
 true_bound = refl
 
 -- FOR k := 1 TO 3 BY 40000 DO q := 1; END_FOR;
-step_beyond : first_fault (one (count (codes "k") (at 6 5) (num 1 10) (num 3 15) (Some (num 40000 20)) (body_of 1 29 34) (at 6 1))) ≡ Some (fault rule.Bound (at 6 20))
+step_beyond : first_fault (one (for_ (codes "k") (at 6 5) (num 1 10) (num 3 15) (Some (num 40000 20)) (body_of 1 29 34) (at 6 1))) ≡ Some (fault rule.Bound (at 6 20))
 step_beyond = refl
 
 -- FOR k := 1 TO 3 DO FOR r := 1 TO 2 DO k := 1; END_FOR; END_FOR;
 abbrev within_two : List ℕ → StmtTrees → ProgramTree
-within_two n body = one (count (codes "k") (at 6 5) (num 1 10) (num 3 15) None (and_stmt (count n (at 6 24) (num 1 29) (num 2 34) None body (at 6 20)) no_stmts) (at 6 1))
+within_two n body = one (for_ (codes "k") (at 6 5) (num 1 10) (num 3 15) None (and_stmt (for_ n (at 6 24) (num 1 29) (num 2 34) None body (at 6 20)) no_stmts) (at 6 1))
 
 sets_outer : first_fault (within_two (codes "r") (and_stmt (assign (codes "k") (num 1 44) (at 6 39)) no_stmts)) ≡ Some (fault rule.Assign (at 6 39))
 sets_outer = refl
@@ -413,11 +413,11 @@ true_to_input : first_fault (set (codes "i") (literal (Some ty.Bool) (pos 1) (at
 true_to_input = refl
 
 -- IF 5 THEN zz := 1; END_IF;
-number_tested : first_fault (one (choose (and_arm (num 5 4) (and_stmt (assign (codes "zz") (num 1 17) (at 6 11)) no_stmts) (at 6 1) no_arms) no_other)) ≡ Some (fault rule.Mismatch (at 6 1))
+number_tested : first_fault (one (if_ (and_arm (num 5 4) (and_stmt (assign (codes "zz") (num 1 17) (at 6 11)) no_stmts) (at 6 1) no_arms) no_other)) ≡ Some (fault rule.Mismatch (at 6 1))
 number_tested = refl
 
 -- CASE i OF 1..zz: q := 1; END_CASE;
-open_range : first_fault (one (select (var (codes "i") 6) (and_branch (record { first = num 1 11; last = Some (var (codes "zz") 14) } ∷ []) (body_of 1 18 23) no_branches) no_other (at 6 1))) ≡ Some (fault rule.Label (at 6 11))
+open_range : first_fault (one (case (var (codes "i") 6) (and_branch (record { first = num 1 11; last = Some (var (codes "zz") 14) } ∷ []) (body_of 1 18 23) no_branches) no_other (at 6 1))) ≡ Some (fault rule.Label (at 6 11))
 open_range = refl
 
 -- q := (zz + b) * (b + 1); the sum and the product that hold zz tell nothing of their own
@@ -425,23 +425,23 @@ unknown_part : first_fault (set (codes "q") (binary bin.Mul (binary bin.Add (var
 unknown_part = refl
 
 -- FOR k := 1 TO zz DO q := 1; END_FOR; an unknown bound is Unknown
-unknown_bound : first_fault (one (count (codes "k") (at 6 5) (num 1 10) (var (codes "zz") 15) None (body_of 1 21 26) (at 6 1))) ≡ Some (fault rule.Unknown (at 6 15))
+unknown_bound : first_fault (one (for_ (codes "k") (at 6 5) (num 1 10) (var (codes "zz") 15) None (body_of 1 21 26) (at 6 1))) ≡ Some (fault rule.Unknown (at 6 15))
 unknown_bound = refl
 
 -- FOR k := -99999999999 TO 1 DO q := 1; END_FOR; Bound at the `-`
-literal_bound : first_fault (one (count (codes "k") (at 6 5) (unary un.Neg (num 99999999999 11) (at 6 10)) (num 1 26) None (body_of 1 31 36) (at 6 1))) ≡ Some (fault rule.Bound (at 6 10))
+literal_bound : first_fault (one (for_ (codes "k") (at 6 5) (unary un.Neg (num 99999999999 11) (at 6 10)) (num 1 26) None (body_of 1 31 36) (at 6 1))) ≡ Some (fault rule.Bound (at 6 10))
 literal_bound = refl
 
 -- FOR k := -TRUE TO 1 DO q := 1; END_FOR;
-bool_bound : first_fault (one (count (codes "k") (at 6 5) (unary un.Neg (literal (Some ty.Bool) (pos 1) (at 6 11)) (at 6 10)) (num 1 19) None (body_of 1 24 29) (at 6 1))) ≡ Some (fault rule.Mismatch (at 6 10))
+bool_bound : first_fault (one (for_ (codes "k") (at 6 5) (unary un.Neg (literal (Some ty.Bool) (pos 1) (at 6 11)) (at 6 10)) (num 1 19) None (body_of 1 24 29) (at 6 1))) ≡ Some (fault rule.Mismatch (at 6 10))
 bool_bound = refl
 
 -- FOR k := 1 TO DINT#1 DO q := 1; END_FOR; bounds are tested by value
-bound_by_value : first_fault (one (count (codes "k") (at 6 5) (num 1 10) (literal (Some ty.Dint) (pos 1) (at 6 15)) None (body_of 1 25 30) (at 6 1))) ≡ None
+bound_by_value : first_fault (one (for_ (codes "k") (at 6 5) (num 1 10) (literal (Some ty.Dint) (pos 1) (at 6 15)) None (body_of 1 25 30) (at 6 1))) ≡ None
 bound_by_value = refl
 
 -- CASE i OF 99999999999: q := 1; END_CASE;
-literal_label : first_fault (one (select (var (codes "i") 6) (and_branch (record { first = num 99999999999 11; last = None } ∷ []) (body_of 1 24 29) no_branches) no_other (at 6 1))) ≡ Some (fault rule.Label (at 6 11))
+literal_label : first_fault (one (case (var (codes "i") 6) (and_branch (record { first = num 99999999999 11; last = None } ∷ []) (body_of 1 24 29) no_branches) no_other (at 6 1))) ≡ Some (fault rule.Label (at 6 11))
 literal_label = refl
 
 -- VAR a : INT := x; x : INT; END_VAR: x is declared, but later
@@ -469,7 +469,7 @@ not_of_unknown : first_fault (set (codes "c") (unary un.Not (var (codes "zz") 10
 not_of_unknown = refl
 
 -- IF zz THEN q := 1; END_IF;
-tests_unknown : first_fault (one (choose (and_arm (var (codes "zz") 4) (body_of 1 12 17) (at 6 1) no_arms) no_other)) ≡ Some (fault rule.Unknown (at 6 4))
+tests_unknown : first_fault (one (if_ (and_arm (var (codes "zz") 4) (body_of 1 12 17) (at 6 1) no_arms) no_other)) ≡ Some (fault rule.Unknown (at 6 4))
 tests_unknown = refl
 
 -- CASE zz OF 1: q := 1; END_CASE;
@@ -484,9 +484,117 @@ earlier_line = refl
 own_name : first_fault (record { name = codes "p"; blocks = record { class = class.Constant; decls = decl (codes "a") (at 2 5) ty.Int (Some (name (codes "a") (at 2 16))) ∷ [] } ∷ []; body = no_stmts }) ≡ Some (fault rule.Bound (at 2 16))
 own_name = refl
 
--- VAR a : INT := -zz; END_VAR: what is no constant form is Bound alone
+-- VAR a : INT := -zz; END_VAR: `-` before a name is no constant form, and stands before the unknown name
 negated_name : first_fault (vars (decl (codes "a") (at 2 5) ty.Int (Some (unary un.Neg (name (codes "zz") (at 2 17)) (at 2 16))) ∷ [])) ≡ Some (fault rule.Bound (at 2 16))
 negated_name = refl
+
+-- ---- typed literals outside their own type, as bounds, steps and labels
+
+abbrev int_40000 : ℕ → ExprTree
+int_40000 col = literal (Some ty.Int) (pos 40000) (at 6 col)
+
+abbrev loop : List ℕ → ExprTree → ExprTree → Option ExprTree → ProgramTree
+loop n first last by = one (for_ n (at 6 5) first last by (body_of 1 40 45) (at 6 1))
+
+-- FOR q := INT#40000 TO 50000 DO q := 1; END_FOR; q is DINT: the literal alone is wrong
+wide_bound : first_fault (loop (codes "q") (int_40000 10) (num 50000 23) None) ≡ Some (fault rule.Literal (at 6 10))
+wide_bound = refl
+
+-- FOR q := 1 TO INT#40000 ..
+wide_last : first_fault (loop (codes "q") (num 1 10) (int_40000 15) None) ≡ Some (fault rule.Literal (at 6 15))
+wide_last = refl
+
+-- FOR q := 1 TO 9 BY INT#40000 ..
+wide_step : first_fault (loop (codes "q") (num 1 10) (num 9 15) (Some (int_40000 20))) ≡ Some (fault rule.Literal (at 6 20))
+wide_step = refl
+
+-- FOR k := INT#40000 TO 50000 .. k is INT: the value is outside k's type too, and the lesser number is told
+narrow_bound : first_fault (loop (codes "k") (int_40000 10) (num 1 23) None) ≡ Some (fault rule.Bound (at 6 10))
+narrow_bound = refl
+
+narrow_step : first_fault (loop (codes "k") (num 1 10) (num 9 15) (Some (int_40000 20))) ≡ Some (fault rule.Bound (at 6 20))
+narrow_step = refl
+
+-- FOR q := BOOL#2 TO 9 .. BOOL is no number
+bool_beyond : first_fault (loop (codes "q") (literal (Some ty.Bool) (pos 2) (at 6 10)) (num 9 20) None) ≡ Some (fault rule.Bound (at 6 10))
+bool_beyond = refl
+
+-- CASE d OF INT#40000: d is DINT
+literal_label_of_int : first_fault (case_of (var (codes "d") 6) (label (int_40000 11) ∷ [])) ≡ Some (fault rule.Literal (at 6 11))
+literal_label_of_int = refl
+
+-- CASE d OF 1..INT#40000:
+wide_end : first_fault (case_of (var (codes "d") 6) (range (num 1 11) (int_40000 14) ∷ [])) ≡ Some (fault rule.Literal (at 6 14))
+wide_end = refl
+
+-- CASE d OF INT#40000..1: the first is above the last
+wide_range : first_fault (case_of (var (codes "d") 6) (range (int_40000 11) (num 1 22) ∷ [])) ≡ Some (fault rule.Label (at 6 11))
+wide_range = refl
+
+-- CASE i OF INT#40000: i is INT
+narrow_label : first_fault (case_of (var (codes "i") 6) (label (int_40000 11) ∷ [])) ≡ Some (fault rule.Label (at 6 11))
+narrow_label = refl
+
+-- CASE i OF 1..INT#40000: what is wrong with the last end's value is told at the first
+narrow_end : first_fault (case_of (var (codes "i") 6) (range (num 1 11) (int_40000 14) ∷ [])) ≡ Some (fault rule.Label (at 6 11))
+narrow_end = refl
+
+-- ---- faults inside initial values that are no constant forms
+
+-- VAR a : T := e; x : DINT; b : BOOL; END_VAR
+abbrev initial : Ty → ExprTree → ProgramTree
+initial t e = vars (decl (codes "a") (at 2 5) t (Some e) ∷ decl (codes "x") (at 2 60) ty.Dint None ∷ decl (codes "b") (at 2 70) ty.Bool None ∷ [])
+
+-- what stands at a column of line 2
+abbrev name2 : List ℕ → ℕ → ExprTree
+name2 n col = name n (at 2 col)
+
+abbrev num2 : ℕ → ℕ → ExprTree
+num2 v col = literal None (pos v) (at 2 col)
+
+-- VAR a : INT := zz + 1;
+unknown_inside : first_fault (initial ty.Int (binary bin.Add (name2 (codes "zz") 16) (num2 1 21) (at 2 19))) ≡ Some (fault rule.Unknown (at 2 16))
+unknown_inside = refl
+
+-- VAR a : DINT := x + 1; x is declared later, and counts as declared there
+sum_of_later : first_fault (initial ty.Dint (binary bin.Add (name2 (codes "x") 17) (num2 1 21) (at 2 19))) ≡ Some (fault rule.Bound (at 2 19))
+sum_of_later = refl
+
+-- VAR a : INT := 99999999999 + 1;
+literal_inside : first_fault (initial ty.Int (binary bin.Add (num2 99999999999 16) (num2 1 30) (at 2 28))) ≡ Some (fault rule.Literal (at 2 16))
+literal_inside = refl
+
+-- VAR a : BOOL := x AND x; at one spot the lesser number
+mismatch_inside : first_fault (initial ty.Bool (binary bin.And (name2 (codes "x") 17) (name2 (codes "x") 23) (at 2 19))) ≡ Some (fault rule.Mismatch (at 2 19))
+mismatch_inside = refl
+
+-- VAR a : INT := DINT_TO_INT(b);
+argument_inside : first_fault (initial ty.Int (call (codes "DINT_TO_INT") (and_expr (name2 (codes "b") 28) no_exprs) (at 2 16))) ≡ Some (fault rule.Mismatch (at 2 16))
+argument_inside = refl
+
+-- VAR a : INT := DINT_TO_INT(x);
+call_is_no_form : first_fault (initial ty.Int (call (codes "DINT_TO_INT") (and_expr (name2 (codes "x") 28) no_exprs) (at 2 16))) ≡ Some (fault rule.Bound (at 2 16))
+call_is_no_form = refl
+
+-- VAR a : INT := foo(1) + 1;
+call_inside : first_fault (initial ty.Int (binary bin.Add (call (codes "foo") (and_expr (num2 1 20) no_exprs) (at 2 16)) (num2 1 25) (at 2 23))) ≡ Some (fault rule.Call (at 2 16))
+call_inside = refl
+
+-- VAR a : INT := foo(1);
+no_such_function : first_fault (initial ty.Int (call (codes "foo") (and_expr (num2 1 20) no_exprs) (at 2 16))) ≡ Some (fault rule.Bound (at 2 16))
+no_such_function = refl
+
+-- VAR a : BOOL := -TRUE;
+minus_true : first_fault (initial ty.Bool (unary un.Neg (literal (Some ty.Bool) (pos 1) (at 2 18)) (at 2 17))) ≡ Some (fault rule.Mismatch (at 2 17))
+minus_true = refl
+
+-- VAR a : BOOL := x; that x is DINT isn't told at a, since x is no constant form
+variable_of_other_type : first_fault (initial ty.Bool (name2 (codes "x") 17)) ≡ Some (fault rule.Bound (at 2 17))
+variable_of_other_type = refl
+
+-- VAR a : BOOL := INT#40000; a constant form with a fault has no type
+literal_alone : first_fault (initial ty.Bool (literal (Some ty.Int) (pos 40000) (at 2 17))) ≡ Some (fault rule.Literal (at 2 17))
+literal_alone = refl
 
 -- ---- whole answers
 
@@ -525,7 +633,7 @@ copy line col = assign (codes "y") (name (codes "i") (at line (col + 5))) (at li
 
 -- FOR i := 1 TO 21843 DO y := i; END_FOR;
 abbrev long_loop : StmtTree
-long_loop = count (codes "i") (at 4 5) (literal None (pos 1) (at 4 10)) (literal None (pos 21843) (at 4 15)) None (and_stmt (copy 4 24) no_stmts) (at 4 1)
+long_loop = for_ (codes "i") (at 4 5) (literal None (pos 1) (at 4 10)) (literal None (pos 21843) (at 4 15)) None (and_stmt (copy 4 24) no_stmts) (at 4 1)
 
 largest : checks (counting (and_stmt long_loop no_stmts)) ≡ (None, Some 65536)
 largest = refl
@@ -538,7 +646,7 @@ counting_slots =
 
 -- the loop, and what follows it
 abbrev long_checked : checked.TStmtTrees → checked.TStmtTrees
-long_checked rest = checked.and_tstmt (checked.count 1 (pos 1) (pos 1) 21843 (checked.and_tstmt (checked.assign 0 (typed.get 1 ty.Dint) (at 4 24)) checked.no_tstmts) (at 4 5)) rest
+long_checked rest = checked.and_tstmt (checked.for_ 1 (pos 1) (pos 1) 21843 (checked.and_tstmt (checked.assign 0 (typed.get 1 ty.Dint) (at 4 24)) checked.no_tstmts) (at 4 5)) rest
 
 largest_typed : IsTyped (counting (and_stmt long_loop no_stmts)) (record { slots = counting_slots; body = long_checked checked.no_tstmts })
 largest_typed = record { faultless = none-is-faultless (counting (and_stmt long_loop no_stmts)) refl; few = omega arith; is = refl; room = omega arith }
@@ -558,13 +666,13 @@ larger_refused = record { faultless = none-is-faultless larger refl; few = omega
 
 -- FOR i := -2147483648 TO 2147483647 DO FOR y := -2147483648 TO 2147483647 DO END_FOR; END_FOR; the most turns there are
 abbrev most_turns : List ℕ → ℕ → StmtTrees → StmtTrees
-most_turns n col body = and_stmt (count n (at 4 (col + 4)) (unary un.Neg (literal None (pos 2147483648) (at 4 (col + 10))) (at 4 (col + 9))) (literal None (pos 2147483647) (at 4 (col + 24))) None body (at 4 col)) no_stmts
+most_turns n col body = and_stmt (for_ n (at 4 (col + 4)) (unary un.Neg (literal None (pos 2147483648) (at 4 (col + 10))) (at 4 (col + 9))) (literal None (pos 2147483647) (at 4 (col + 24))) None body (at 4 col)) no_stmts
 
 immense : checks (counting (most_turns (codes "i") 1 (most_turns (codes "y") 40 no_stmts))) ≡ (None, Some 36893488156009037831)
 immense = refl
 
 -- FOR i := 3 TO 1 BY 0 DO y := 7; END_FOR;
-still_loop : first_fault (counting (and_stmt (count (codes "i") (at 4 5) (literal None (pos 3) (at 4 10)) (literal None (pos 1) (at 4 15)) (Some (literal None (pos 0) (at 4 20))) (and_stmt (assign (codes "y") (literal None (pos 7) (at 4 30)) (at 4 25)) no_stmts) (at 4 1)) no_stmts)) ≡ Some (fault rule.Bound (at 4 20))
+still_loop : first_fault (counting (and_stmt (for_ (codes "i") (at 4 5) (literal None (pos 3) (at 4 10)) (literal None (pos 1) (at 4 15)) (Some (literal None (pos 0) (at 4 20))) (and_stmt (assign (codes "y") (literal None (pos 7) (at 4 30)) (at 4 25)) no_stmts) (at 4 1)) no_stmts)) ≡ Some (fault rule.Bound (at 4 20))
 still_loop = refl
 
 -- a program of n names in line 2, one in each column

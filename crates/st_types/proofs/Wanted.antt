@@ -2,8 +2,9 @@
 use Rattle.std.proofs.Common.{◌≡◌, suc, List, [], ◌∷◌, ◌++◌, length, Option, Some, None, refl, sym, ap, ◌∙◌, append_assoc, append-nil}
 use Rattle.vcp_base.specs.declared.ty.Ty.{Ty}
 use Rattle.st_tree.specs.declared.expr.Expr.{Expr}
-use Rattle.st_tree.specs.ExprTree.{expr_trees}
-use Rattle.vcp_typed.specs.TExprTree.{TExprTree, TExprTrees, no_texprs, and_texpr, texprs_and}
+use Rattle.st_tree.specs.ExprViews.{expr_trees}
+use Rattle.vcp_typed.specs.TExprTree.{TExprTree, TExprTrees, no_texprs, and_texpr}
+use Rattle.vcp_typed.specs.TExprViews.{texprs_and}
 use Rattle.vcp_typed.specs.Checked.{ty_of}
 use Rattle.st_types.specs.ExprTyping.{both, count, widened, widened_all}
 use Rattle.st_types.proofs.ExprNodes.{cons, glue}

@@ -10,7 +10,8 @@ use Rattle.st_types.specs.DeclTyping.{Made, nothing_made, BlocksFault}
 use Rattle.st_types.specs.Notes.{Notes}
 use Rattle.st_types.specs.StmtTyping.{StmtsFault, stmts_of}
 use Rattle.st_tree.specs.Declarable.{names_of}
-use Rattle.st_types.specs.Typing.{made, FaultAt, typed_of, most_names, most_size, IsFaultless, IsTyped}
+use Rattle.vcp_base.specs.Limits.{most_names, most_size}
+use Rattle.st_types.specs.Typing.{made, FaultAt, typed_of, IsFaultless, IsTyped}
 use Rattle.st_types.proofs.ExprLaws.{some-none}
 use Rattle.st_types.proofs.Faultless.{faultless-typed}
 use Rattle.st_types.proofs.NoteLaws.{pair}
@@ -33,17 +34,17 @@ program-gives p n o e g =
 pub never-none : (p : ProgramTree) → IsFaultless p → typed_of p ≡ None → ⊥
 never-none p never e = let k = faultless-typed p never in some-none k.0 (sym k.1 ∙ e)
 
-cut-large : (n : ℕ) → 65536 < cut n → 65536 < n
+cut-large : (n : ℕ) → most_size < cut n → most_size < n
 cut-large n h = omega arith
 
-cut-small : (n : ℕ) → cut n ≤ 65536 → n ≤ 65536
+cut-small : (n : ℕ) → cut n ≤ most_size → n ≤ most_size
 cut-small n h = omega arith
 
-pub large-size : (t : Program) (n : ℕ) → n ≡ cut (size t) → 65536 < n → most_size < size t
-large-size t n e h = cut-large (size t) (subst (λ k. 65536 < k) e h)
+pub large-size : (t : Program) (n : ℕ) → n ≡ cut (size t) → most_size < n → most_size < size t
+large-size t n e h = cut-large (size t) (subst (λ k. most_size < k) e h)
 
-pub small-size : (t : Program) (n : ℕ) → n ≡ cut (size t) → n ≤ 65536 → size t ≤ most_size
-small-size t n e h = cut-small (size t) (subst (λ k. k ≤ 65536) e h)
+pub small-size : (t : Program) (n : ℕ) → n ≡ cut (size t) → n ≤ most_size → size t ≤ most_size
+small-size t n e h = cut-small (size t) (subst (λ k. k ≤ most_size) e h)
 
 pub checked : (p : ProgramTree) (t : Program) → IsFaultless p → length (names_of p) ≤ most_names → typed_of p ≡ Some t → size t ≤ most_size → IsTyped p t
 checked p t never few is room = record { faultless = never; few = few; is = is; room = room }

@@ -1,31 +1,28 @@
--- DeclSteps: what the steps of typing declarations give, and the faults that they note. Names that are declared nowhere are
--- told apart from all other faults: they are known once all declarations have been read.
+-- DeclSteps: what the steps of typing declarations give, and the faults that they note. The faults inside initial values are
+-- told apart from all others: the names that these go by are known once all declarations have been read.
 use Rattle.std.specs.Prelude.{◌≡◌, ◌⊎◌, List, [], ◌∷◌, Option, Some, None}
 use Rattle.vcp_base.specs.declared.ty.Ty.{Ty}
 use Rattle.st_tree.specs.declared.program.Class.{Class}
-use Rattle.st_tree.specs.ExprTree.{ExprTree, literal, name, unary, binary, call}
+use Rattle.st_tree.specs.ExprTree.{ExprTree}
 use Rattle.st_tree.specs.ProgramTree.{DeclaredTree, DeclTree, BlockTree}
 use Rattle.st_types.specs.declared.declaration.Declarations.{Declarations}
 use Rattle.st_types.specs.declared.fault.Fault.{Fault}
 use Rattle.st_types.specs.declared.fault.Rule.TheVariants as rule
 use Rattle.st_types.specs.Faults.{fault}
 use Rattle.st_types.specs.Notes.{Notes}
-use Rattle.st_types.specs.Scope.{Entry, find}
-use Rattle.st_types.specs.ExprTyping.{literal_type, negated}
-use Rattle.st_types.specs.StmtTyping.{Known, constant}
-use Rattle.st_types.specs.DeclTyping.{Made, value_or_zero, known_init, init_value, NegatedFault, NamesFault, after_names, after_decl, after_decls, after_blocks}
+use Rattle.st_types.specs.Scope.{Entry}
+use Rattle.st_types.specs.ExprTyping.{ExprFault}
+use Rattle.st_types.specs.StmtTyping.{Known, spot_of, constant, form}
+use Rattle.st_types.specs.DeclTyping.{Made, value_or_zero, known_init, init_value, NamesFault, after_names, after_decl, after_decls, after_blocks}
 
 abbrev pub made_by : Declarations → Made
 made_by d = record { entries = d.names; slots = d.slots.items.items }
 
--- ---- faults but for unknown names
+-- ---- faults but for those inside initial values
 
+-- the initial value is no constant form of what was declared before it
 abbrev pub FormFault : List Entry → ExprTree → Fault → Type 0
-FormFault before (literal t v spot) f = (f ≡ fault rule.Literal spot) × (literal_type t v ≡ None)
-FormFault before (name n spot) f = (f ≡ fault rule.Bound spot) × (constant before (name n spot) ≡ None)
-FormFault before (unary op a spot) f = NegatedFault (negated op a) spot f
-FormFault before (binary op a b spot) f = f ≡ fault rule.Bound spot
-FormFault before (call n es spot) f = f ≡ fault rule.Bound spot
+FormFault before e f = (f ≡ fault rule.Bound (spot_of e)) × (form before e ≡ None)
 
 abbrev pub InitForm : List Entry → Option ExprTree → Fault → Type 0
 InitForm before None f = ⊥
@@ -42,26 +39,19 @@ abbrev pub BlocksForm : Made → List BlockTree → Fault → Type 0
 BlocksForm m [] f = ⊥
 BlocksForm m (b ∷ bs) f = DeclsForm b.class m b.decls f ⊎ BlocksForm (after_decls b.class m b.decls) bs f
 
--- ---- unknown names
+-- ---- faults inside initial values
 
-abbrev pub NoName : List Entry → ExprTree → Fault → Type 0
-NoName all (literal t v spot) f = ⊥
-NoName all (name n spot) f = (f ≡ fault rule.Unknown spot) × (find all n ≡ None)
-NoName all (unary op a spot) f = ⊥
-NoName all (binary op a b spot) f = ⊥
-NoName all (call n es spot) f = ⊥
+abbrev pub InitInside : List Entry → Option ExprTree → Fault → Type 0
+InitInside all None f = ⊥
+InitInside all (Some e) f = ExprFault all e f
 
-abbrev pub InitNoName : List Entry → Option ExprTree → Fault → Type 0
-InitNoName all None f = ⊥
-InitNoName all (Some e) f = NoName all e f
+abbrev pub DeclsInside : List Entry → List DeclTree → Fault → Type 0
+DeclsInside all [] f = ⊥
+DeclsInside all (d ∷ ds) f = InitInside all d.init f ⊎ DeclsInside all ds f
 
-abbrev pub DeclsNoName : List Entry → List DeclTree → Fault → Type 0
-DeclsNoName all [] f = ⊥
-DeclsNoName all (d ∷ ds) f = InitNoName all d.init f ⊎ DeclsNoName all ds f
-
-abbrev pub BlocksNoName : List Entry → List BlockTree → Fault → Type 0
-BlocksNoName all [] f = ⊥
-BlocksNoName all (b ∷ bs) f = DeclsNoName all b.decls f ⊎ BlocksNoName all bs f
+abbrev pub BlocksInside : List Entry → List BlockTree → Fault → Type 0
+BlocksInside all [] f = ⊥
+BlocksInside all (b ∷ bs) f = DeclsInside all b.decls f ⊎ BlocksInside all bs f
 
 -- ---- steps
 

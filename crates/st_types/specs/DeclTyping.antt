@@ -1,18 +1,17 @@
 -- DeclTyping: what declarations make, and their faults.
-use Rattle.std.specs.Prelude.{◌≡◌, ◌⊎◌, ℕ, ℤ, pos, neg_ℤ, Bool, false, cond, is_none, List, [], ◌∷◌, ◌++◌, length, Option, Some, None}
-use Rattle.vcp_base.specs.declared.spot.Spot.{Spot}
+use Rattle.std.specs.Prelude.{◌≡◌, ◌⊎◌, ℕ, ℤ, pos, Bool, false, cond, is_none, List, [], ◌∷◌, ◌++◌, length, Option, Some, None}
 use Rattle.vcp_base.specs.declared.ty.Ty.{Ty}
 use Rattle.vcp_base.specs.Types.{within}
 use Rattle.st_tree.specs.declared.program.Class.{Class}
-use Rattle.st_tree.specs.ExprTree.{ExprTree, literal, name, unary, binary, call}
+use Rattle.st_tree.specs.ExprTree.{ExprTree}
 use Rattle.st_tree.specs.ProgramTree.{DeclaredTree, DeclTree, BlockTree}
 use Rattle.vcp_typed.specs.declared.slot.Slot.{Slot}
 use Rattle.st_types.specs.declared.fault.Fault.{Fault}
 use Rattle.st_types.specs.declared.fault.Rule.TheVariants as rule
 use Rattle.st_types.specs.Faults.{fault}
 use Rattle.st_types.specs.Scope.{Entry, find}
-use Rattle.st_types.specs.ExprTyping.{sized, literal_type, Untyped, negated}
-use Rattle.st_types.specs.StmtTyping.{Known, constant, is_constant}
+use Rattle.st_types.specs.ExprTyping.{ExprFault}
+use Rattle.st_types.specs.StmtTyping.{Known, spot_of, constant, form, is_constant}
 
 -- what the declarations so far have made: the names, and the slots of those that are no constants
 pub record Made : Type 0 where
@@ -51,7 +50,7 @@ abbrev pub value_or_zero : Option Known → ℤ
 value_or_zero None = pos 0
 value_or_zero (Some k) = k.value
 
--- the constant that an initial value is: by what was declared before its declaration
+-- the constant that an initial value is, by what was declared before its declaration; one that is none is told at its expression alone
 abbrev pub known_init : Made → Option ExprTree → Option Known
 known_init m None = None
 known_init m (Some e) = constant m.entries e
@@ -73,21 +72,10 @@ NamesFault m k t v x (d ∷ ds) f =
     ((f ≡ fault rule.Duplicate d.spot) × (is_new m d.name ≡ false))
     ⊎ (((f ≡ fault rule.Mismatch d.spot) × Misfit x t) ⊎ NamesFault (after_name m k t v d) k t v x ds f)
 
--- a `-` in an initial value: with a literal without a type it is one literal, else it is no constant form
-abbrev pub NegatedFault : Option Untyped → Spot → Fault → Type 0
-NegatedFault (Some l) spot f = (f ≡ fault rule.Literal l.spot) × (sized (neg_ℤ l.value) ≡ None)
-NegatedFault None spot f = f ≡ fault rule.Bound spot
-
--- f is a fault of an initial value. A literal may be outside its type; a name that is declared nowhere is unknown, and one
--- that is no constant declared before is no constant form; what else is no constant form is told so alone, whatever it
--- holds. `all` are all names of the program.
+-- f is a fault of an initial value: one inside it, by all names of the program, or that it is no constant form of what was
+-- declared before it
 abbrev pub ValueFault : List Entry → List Entry → ExprTree → Fault → Type 0
-ValueFault all before (literal t v spot) f = (f ≡ fault rule.Literal spot) × (literal_type t v ≡ None)
-ValueFault all before (name n spot) f =
-    ((f ≡ fault rule.Unknown spot) × (find all n ≡ None)) ⊎ ((f ≡ fault rule.Bound spot) × (constant before (name n spot) ≡ None))
-ValueFault all before (unary op a spot) f = NegatedFault (negated op a) spot f
-ValueFault all before (binary op a b spot) f = f ≡ fault rule.Bound spot
-ValueFault all before (call n es spot) f = f ≡ fault rule.Bound spot
+ValueFault all before e f = ExprFault all e f ⊎ ((f ≡ fault rule.Bound (spot_of e)) × (form before e ≡ None))
 
 abbrev pub InitFault : List Entry → List Entry → Option ExprTree → Fault → Type 0
 InitFault all before None f = ⊥

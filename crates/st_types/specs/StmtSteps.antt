@@ -1,18 +1,22 @@
 -- StmtSteps: what the steps of typing a statement give, and the faults that they note.
-use Rattle.std.specs.Prelude.{◌≡◌, ℕ, ℤ, pos, ◌≤ℤ◌, negsuc, List, [], ◌∷◌, ◌++◌, Option, Some, None}
+use Rattle.std.specs.Prelude.{◌≡◌, ℕ, ℤ, ◌≤ℤ◌, List, [], ◌∷◌, ◌++◌, Option, Some, None, option_map}
 use Rattle.vcp_base.specs.declared.spot.Spot.{Spot}
 use Rattle.vcp_base.specs.declared.ty.Ty.{Ty}
+use Rattle.vcp_base.specs.declared.ty.Ty.TheVariants as ty
+use Rattle.vcp_base.specs.Types.{least, greatest}
 use Rattle.st_tree.specs.ExprTree.{ExprTree}
 use Rattle.st_tree.specs.StmtTree.{LabelTree, StmtTree, StmtTrees, ArmTrees, BranchTrees, OtherTree}
 use Rattle.vcp_typed.specs.declared.stmt.TLabel.{TLabel}
 use Rattle.vcp_typed.specs.TExprTree as typed
 use Rattle.vcp_typed.specs.TStmtTree as checked
+use Rattle.vcp_typed.specs.TStmtViews.{tstmts_and, tarms_and, tbranches_and}
 use Rattle.st_types.specs.declared.constants.Known.{Known}
+use Rattle.st_types.specs.declared.constants.Number.{Number}
 use Rattle.st_types.specs.declared.fault.Fault.{Fault}
 use Rattle.st_types.specs.Notes.{Notes}
 use Rattle.st_types.specs.Scope.{Entry}
 use Rattle.st_types.specs.ExprTyping.{ExprFault}
-use Rattle.st_types.specs.StmtTyping.{constant, number_in, step_of, BoundFault, StepFault, last_end, LastFault, label_of, LabelFault, labels_of, LabelsFault, StmtFault, stmt_of, StmtsFault, stmts_of, ArmsFault, arms_of, BranchesFault, branches_of, OtherFault, other_of}
+use Rattle.st_types.specs.StmtTyping.{constant, form, form_number, number_in, step_of, BoundFault, StepFault, last_end, last_form, LastFault, label_of, LabelFault, labels_of, LabelsFault, StmtFault, stmt_of, StmtsFault, stmts_of, ArmsFault, arms_of, BranchesFault, branches_of, OtherFault, other_of}
 
 -- the faults F are met, and r is w
 pub record Gives {A : Type 0} (F : Fault → Type 0) (w : A) (old new : Option Fault) (r : A) : Type 0 where
@@ -30,9 +34,9 @@ literal_known (typed.unary op t a spot) = None
 literal_known (typed.binary op t a b spot) = None
 literal_known (typed.call f t es spot) = None
 
--- a value of some type
+-- a value of the widest type
 abbrev pub IsSmall : ℤ → Type 0
-IsSmall v = (negsuc 2147483647 ≤ℤ v) × (v ≤ℤ pos 2147483647)
+IsSmall v = (least ty.Dint ≤ℤ v) × (v ≤ℤ greatest ty.Dint)
 
 -- a number, where there is one; that of a known type is a value of some type
 abbrev pub InType : Option Ty → Option ℤ → Type 0
@@ -40,9 +44,11 @@ InType None v = Unit {0}
 InType (Some t) None = Unit {0}
 InType (Some t) (Some v) = IsSmall v
 
--- the number that an expression is
-abbrev pub Numbers : List Entry → Option Ty → ExprTree → Option Fault → Option Fault → Option ℤ → Type 0
-Numbers s t e old new r = Gives (ExprFault s e) (number_in t (constant s e)) old new r
+-- an expression is typed where a number of the type is wanted: the number of the constant that it is, and that of its form
+pub record Numbers (s : List Entry) (t : Option Ty) (e : ExprTree) (old new : Option Fault) (r : Number) : Type 0 where
+  pub notes : Notes old new (ExprFault s e)
+  pub value : r.value ≡ number_in t (constant s e)
+  pub form : r.form ≡ form_number t (form s e)
 
 -- the bound of a FOR that an expression is
 abbrev pub Bounds : List Entry → Option Ty → ExprTree → Option Fault → Option Fault → Option ℤ → Type 0
@@ -54,8 +60,11 @@ Steps s t e old new r = Gives (StepFault s t e) (step_of s t e) old new r
 
 -- ---- labels
 
-abbrev pub TypesLast : List Entry → Option Ty → Option ExprTree → Option Fault → Option Fault → Option (Option ℤ) → Type 0
-TypesLast s t e old new r = Gives (LastFault s e) (last_end s t e) old new r
+-- the last end of a range, where there is one
+pub record TypesLast (s : List Entry) (t : Option Ty) (e : Option ExprTree) (old new : Option Fault) (r : Option Number) : Type 0 where
+  pub notes : Notes old new (LastFault s e)
+  pub value : option_map (λ n. n.value) r ≡ last_end s t e
+  pub form : option_map (λ n. n.form) r ≡ last_form s t e
 
 abbrev pub TypesLabel : List Entry → Option Ty → LabelTree → Option Fault → Option Fault → Option TLabel → Type 0
 TypesLabel s t l old new r = Gives (LabelFault s t l) (label_of s t l) old new r
@@ -83,19 +92,19 @@ TypesOther s held o old new r = Gives (OtherFault s held o) (other_of s held o) 
 -- one more at the end of a list; none where a part has a fault
 
 abbrev pub stmt_after : checked.TStmtTrees → checked.TStmtTree → Option checked.TStmtTrees
-stmt_after xs x = Some (checked.tstmts_and xs x)
+stmt_after xs x = Some (tstmts_and xs x)
 
 abbrev pub label_after : List TLabel → TLabel → Option (List TLabel)
 label_after ls l = Some (ls ++ l ∷ [])
 
 abbrev pub arm_after : Spot → Option checked.TArmTrees → Option typed.TExprTree → Option checked.TStmtTrees → Option checked.TArmTrees
-arm_after spot (Some arms) (Some e) (Some body) = Some (checked.tarms_and arms e body spot)
+arm_after spot (Some arms) (Some e) (Some body) = Some (tarms_and arms e body spot)
 arm_after spot _ _ _ = None
 
 abbrev pub branch_after : Option checked.TBranchTrees → Option (List TLabel) → Option checked.TStmtTrees → Option checked.TBranchTrees
-branch_after (Some branches) (Some ls) (Some body) = Some (checked.tbranches_and branches ls body)
+branch_after (Some branches) (Some ls) (Some body) = Some (tbranches_and branches ls body)
 branch_after _ _ _ = None
 
 -- IF of these parts
-abbrev pub choose_of : checked.TArmTrees → checked.TOtherTree → Option checked.TStmtTree
-choose_of arms o = Some (checked.choose arms o)
+abbrev pub if_of : checked.TArmTrees → checked.TOtherTree → Option checked.TStmtTree
+if_of arms o = Some (checked.if_ arms o)

@@ -9,12 +9,13 @@ use Rattle.vcp_base.specs.Kinds.{same}
 use Rattle.st_tree.specs.declared.program.Class.{Class}
 use Rattle.st_tree.specs.declared.program.Class.TheVariants as class
 use Rattle.st_tree.specs.ExprTree.{ExprTree, literal, name, unary, binary, call}
-use Rattle.st_tree.specs.StmtTree.{LabelTree, StmtTree, StmtTrees, ArmTrees, BranchTrees, OtherTree, assign, choose, select, count, no_stmts, and_stmt, no_arms, and_arm, no_branches, and_branch, no_other, other}
+use Rattle.st_tree.specs.StmtTree.{LabelTree, StmtTree, StmtTrees, ArmTrees, BranchTrees, OtherTree, assign, if_, case, for_, no_stmts, and_stmt, no_arms, and_arm, no_branches, and_branch, no_other, other}
 use Rattle.vcp_typed.specs.declared.stmt.TLabel.{TLabel}
 use Rattle.vcp_typed.specs.TExprTree as typed
 use Rattle.vcp_typed.specs.TStmtTree as checked
 use Rattle.vcp_typed.specs.Checked.{ty_of, is_set}
 pub use Rattle.st_types.specs.declared.constants.Known.{Known}
+pub use Rattle.st_types.specs.declared.constants.Form.{Form}
 use Rattle.st_types.specs.declared.fault.Fault.{Fault}
 use Rattle.st_types.specs.declared.fault.Rule.TheVariants as rule
 use Rattle.st_types.specs.Faults.{fault}
@@ -46,13 +47,39 @@ abbrev pub known_negated : Option Untyped → Option Known
 known_negated None = None
 known_negated (Some l) = option_map (λ t. record { ty = t; value = neg_ℤ l.value }) (sized (neg_ℤ l.value))
 
--- A constant form is a literal, `-` before a literal without a type, or the name of a constant that is declared.
+-- the constant that an expression is: a constant form without a fault, with its type
 abbrev pub constant : List Entry → ExprTree → Option Known
 constant s (literal t v spot) = option_map (λ u. record { ty = u; value = v }) (literal_type t v)
 constant s (name n spot) = option_and_then (λ e. known_entry e e.class) (find s n)
 constant s (unary op a spot) = known_negated (negated op a)
 constant s (binary op a b spot) = None
 constant s (call n es spot) = None
+
+abbrev pub form_of_known : Known → Form
+form_of_known k = record { ty = Some k.ty; value = k.value }
+
+abbrev pub form_of_negated : Untyped → Form
+form_of_negated l = record { ty = None; value = neg_ℤ l.value }
+
+-- A constant form is a literal, `-` before a literal without a type, or the name of a constant that is declared. It is one
+-- also where the literal is outside its type. Its type is the one that is written or declared.
+abbrev pub form : List Entry → ExprTree → Option Form
+form s (literal t v spot) = Some (record { ty = t; value = v })
+form s (name n spot) = option_map form_of_known (constant s (name n spot))
+form s (unary op a spot) = option_map form_of_negated (negated op a)
+form s (binary op a b spot) = None
+form s (call n es spot) = None
+
+-- a literal without a type is a number
+abbrev pub is_form_bool : Option Ty → Bool
+is_form_bool None = false
+is_form_bool (Some t) = is_bool t
+
+-- the number that a constant form is, where it is no BOOL, and is in the type where there is one
+abbrev pub form_number : Option Ty → Option Form → Option ℤ
+form_number t None = None
+form_number None (Some k) = cond (is_form_bool k.ty) None (Some k.value)
+form_number (Some t) (Some k) = cond (is_form_bool k.ty) None (cond (fits t k.value) (Some k.value) None)
 
 -- the number that a constant is, where it is no BOOL, and is in the type where there is one
 abbrev pub number_in : Option Ty → Option Known → Option ℤ
@@ -95,8 +122,9 @@ IsBool t = (x : Ty) × (t ≡ Some x) × (is_bool x ≡ true)
 
 -- ---- bounds and labels
 
+-- f is a fault inside a bound, or that its form is no number of the control variable's type
 abbrev pub BoundFault : List Entry → Option Ty → ExprTree → Fault → Type 0
-BoundFault s t e f = ExprFault s e f ⊎ ((f ≡ fault rule.Bound (spot_of e)) × (number_in t (constant s e) ≡ None))
+BoundFault s t e f = ExprFault s e f ⊎ ((f ≡ fault rule.Bound (spot_of e)) × (form_number t (form s e) ≡ None))
 
 abbrev pub not_zero : ℤ → Option ℤ
 not_zero v = cond (same v (pos 0)) None (Some v)
@@ -107,7 +135,8 @@ step_in t k = option_and_then not_zero (number_in t k)
 
 abbrev pub StepFault : List Entry → Option Ty → Option ExprTree → Fault → Type 0
 StepFault s t None f = ⊥
-StepFault s t (Some e) f = ExprFault s e f ⊎ ((f ≡ fault rule.Bound (spot_of e)) × (step_in t (constant s e) ≡ None))
+StepFault s t (Some e) f =
+    ExprFault s e f ⊎ ((f ≡ fault rule.Bound (spot_of e)) × (option_and_then not_zero (form_number t (form s e)) ≡ None))
 
 -- the label of these two ends, where they are in order
 abbrev pub range_of : Spot → ℤ → ℤ → Option TLabel
@@ -127,13 +156,27 @@ last_end s t (Some e) = Some (number_in t (constant s e))
 abbrev pub label_of : List Entry → Option Ty → LabelTree → Option TLabel
 label_of s t l = label_ends (spot_of l.first) (number_in t (constant s l.first)) (last_end s t l.last)
 
+-- the number that the form of a range's last end is
+abbrev pub last_form : List Entry → Option Ty → Option ExprTree → Option (Option ℤ)
+last_form s t None = None
+last_form s t (Some e) = Some (form_number t (form s e))
+
+-- the ends are numbers, and the first isn't above the last
+abbrev pub in_order : Option ℤ → Option (Option ℤ) → Bool
+in_order None b = false
+in_order (Some a) None = true
+in_order (Some a) (Some None) = false
+in_order (Some a) (Some (Some b)) = int_le a b
+
 abbrev pub LastFault : List Entry → Option ExprTree → Fault → Type 0
 LastFault s None f = ⊥
 LastFault s (Some e) f = ExprFault s e f
 
 abbrev pub LabelFault : List Entry → Option Ty → LabelTree → Fault → Type 0
 LabelFault s t l f =
-    ExprFault s l.first f ⊎ (LastFault s l.last f ⊎ ((f ≡ fault rule.Label (spot_of l.first)) × (label_of s t l ≡ None)))
+    ExprFault s l.first f
+    ⊎ (LastFault s l.last f
+    ⊎ ((f ≡ fault rule.Label (spot_of l.first)) × (in_order (form_number t (form s l.first)) (last_form s t l.last) ≡ false)))
 
 abbrev pub LabelsFault : List Entry → Option Ty → List LabelTree → Fault → Type 0
 LabelsFault s t [] f = ⊥
@@ -152,12 +195,12 @@ abbrev mutual
   StmtFault s held (assign n e spot) f =
       NameFault held (find s n) spot f
       ⊎ (ExprFault s e f ⊎ ((f ≡ fault rule.Mismatch spot) × Narrows (entry_type (find s n)) (type_of s e)))
-  StmtFault s held (choose arms o) f = ArmsFault s held arms f ⊎ OtherFault s held o f
-  StmtFault s held (select e branches o spot) f =
+  StmtFault s held (if_ arms o) f = ArmsFault s held arms f ⊎ OtherFault s held o f
+  StmtFault s held (case e branches o spot) f =
       ExprFault s e f
       ⊎ (((f ≡ fault rule.Mismatch spot) × IsBool (type_of s e))
       ⊎ (BranchesFault s held (type_of s e) branches f ⊎ OtherFault s held o f))
-  StmtFault s held (count n name_spot first last by body spot) f =
+  StmtFault s held (for_ n name_spot first last by body spot) f =
       NameFault held (find s n) name_spot f
       ⊎ (((f ≡ fault rule.Mismatch name_spot) × IsBool (entry_type (find s n)))
       ⊎ (BoundFault s (entry_type (find s n)) first f
@@ -211,10 +254,10 @@ abbrev pub step_of : List Entry → Option Ty → Option ExprTree → Option ℤ
 step_of s t None = Some (pos 1)
 step_of s t (Some e) = step_in t (constant s e)
 
-abbrev pub count_of : List ℕ → Spot → Option Entry → Option ℤ → Option ℤ → Option ℤ → Option checked.TStmtTrees → Option checked.TStmtTree
-count_of held spot (Some e) (Some first) (Some last) (Some by) (Some body) =
-    cond (is_free held e && not (is_bool e.ty)) (Some (checked.count e.slot first by (turns_of first last by) body spot)) None
-count_of held spot _ _ _ _ _ = None
+abbrev pub for_of : List ℕ → Spot → Option Entry → Option ℤ → Option ℤ → Option ℤ → Option checked.TStmtTrees → Option checked.TStmtTree
+for_of held spot (Some e) (Some first) (Some last) (Some by) (Some body) =
+    cond (is_free held e && not (is_bool e.ty)) (Some (checked.for_ e.slot first by (turns_of first last by) body spot)) None
+for_of held spot _ _ _ _ _ = None
 
 abbrev pub arm_of : Spot → Option typed.TExprTree → Option checked.TStmtTrees → Option checked.TArmTrees → Option checked.TArmTrees
 arm_of spot (Some e) (Some body) (Some arms) = Some (checked.and_tarm e body spot arms)
@@ -224,9 +267,9 @@ abbrev pub branch_of : Option (List TLabel) → Option checked.TStmtTrees → Op
 branch_of (Some ls) (Some body) (Some branches) = Some (checked.and_tbranch ls body branches)
 branch_of _ _ _ = None
 
-abbrev pub select_of : Spot → Option typed.TExprTree → Option checked.TBranchTrees → Option checked.TOtherTree → Option checked.TStmtTree
-select_of spot (Some e) (Some branches) (Some o) = Some (checked.select e branches o spot)
-select_of spot _ _ _ = None
+abbrev pub case_of : Spot → Option typed.TExprTree → Option checked.TBranchTrees → Option checked.TOtherTree → Option checked.TStmtTree
+case_of spot (Some e) (Some branches) (Some o) = Some (checked.case e branches o spot)
+case_of spot _ _ _ = None
 
 abbrev pub labels_of : List Entry → Option Ty → List LabelTree → Option (List TLabel)
 labels_of s t [] = Some []
@@ -236,11 +279,11 @@ labels_of s t (l ∷ ls) = both (λ x xs. Some (x ∷ xs)) (label_of s t l) (lab
 abbrev mutual
   pub stmt_of : List Entry → List ℕ → StmtTree → Option checked.TStmtTree
   stmt_of s held (assign n e spot) = both (assign_of held spot) (find s n) (expr_of s e)
-  stmt_of s held (choose arms o) = both (λ x y. Some (checked.choose x y)) (arms_of s held arms) (other_of s held o)
-  stmt_of s held (select e branches o spot) =
-      select_of spot (option_and_then selector_of (expr_of s e)) (branches_of s held (type_of s e) branches) (other_of s held o)
-  stmt_of s held (count n name_spot first last by body spot) =
-      count_of held name_spot (find s n)
+  stmt_of s held (if_ arms o) = both (λ x y. Some (checked.if_ x y)) (arms_of s held arms) (other_of s held o)
+  stmt_of s held (case e branches o spot) =
+      case_of spot (option_and_then selector_of (expr_of s e)) (branches_of s held (type_of s e) branches) (other_of s held o)
+  stmt_of s held (for_ n name_spot first last by body spot) =
+      for_of held name_spot (find s n)
       (number_in (entry_type (find s n)) (constant s first))
       (number_in (entry_type (find s n)) (constant s last))
       (step_of s (entry_type (find s n)) by)

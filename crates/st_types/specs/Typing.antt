@@ -1,6 +1,7 @@
 -- Typing: the faults of a program, the checked program of one without a fault, and its limits.
-use Rattle.std.specs.Prelude.{◌≡◌, ◌⊎◌, ℕ, ◌<◌, ◌≤◌, [], length, slice_get, Option, Some, option_map}
+use Rattle.std.specs.Prelude.{◌≡◌, ◌⊎◌, ◌<◌, ◌≤◌, [], length, slice_get, Option, Some, option_map}
 use Rattle.vcp_base.specs.declared.spot.Spot.{Spot}
+use Rattle.vcp_base.specs.Limits.{most_names, most_size}
 use Rattle.st_tree.specs.ProgramTree.{DeclaredTree, ProgramTree}
 use Rattle.st_tree.specs.Declarable.{names_of}
 use Rattle.vcp_typed.specs.SourceRun.{Program}
@@ -12,14 +13,6 @@ use Rattle.st_types.specs.declared.fault.TypeFault.TheVariants as told
 use Rattle.st_types.specs.Faults.{fault, IsLeast}
 use Rattle.st_types.specs.StmtTyping.{StmtsFault, stmts_of}
 use Rattle.st_types.specs.DeclTyping.{Made, nothing_made, after_blocks, BlocksFault}
-
--- the most names that are declared, constants included
-abbrev pub most_names : ℕ
-most_names = 1024
-
--- the greatest Size
-abbrev pub most_size : ℕ
-most_size = 65536
 
 -- what the declarations of a program make
 abbrev pub made : ProgramTree → Made

@@ -1,16 +1,18 @@
 //! Constants: the bounds and steps of FORs, and the ends of labels.
 
-ghost use Rattle.std.specs.Prelude.{◌≡◌, ◌≢◌, pos, IfOk, IfSome, None, option_map, option_and_then};
-ghost use Rattle.st_tree.specs.ExprTree.{expr_tree, expr_tree_or_none};
-ghost use Rattle.vcp_typed.specs.TExprTree.{texpr_tree};
+ghost use Rattle.std.specs.Prelude.{◌≡◌, ◌≢◌, pos, IfOk, IfSome, List, None, option_map, option_and_then};
+ghost use Rattle.st_tree.specs.ExprViews.{expr_tree, expr_tree_or_none};
+ghost use Rattle.vcp_typed.specs.TExprViews.{texpr_tree};
 ghost use Rattle.st_types.specs.declared.fault.Rule.TheVariants as rule_;
 ghost use Rattle.st_types.specs.Faults.{fault};
+ghost use Rattle.st_types.specs.Scope.{Entry as Entry_};
 ghost use Rattle.st_types.specs.Notes.{Notes};
-ghost use Rattle.st_types.specs.StmtTyping.{is_bool as is_bool_of, spot_of as spot_of_tree, number_in as number_in_of, not_zero as not_zero_of, step_in as step_in_of};
+ghost use Rattle.st_types.specs.StmtTyping.{is_bool as is_bool_of, spot_of as spot_of_tree, constant, form as form_of_tree, form_of_known as form_of_constant, form_of_negated as negated_form, is_form_bool as is_form_bool_of, form_number as form_number_of, number_in as number_in_of, not_zero as not_zero_of};
 ghost use Rattle.st_types.specs.StmtSteps.{literal_known as literal_known_of, InType, Numbers, Bounds, Steps};
 
 use crate::expression::type_expression;
 use crate::fault::{Fault, Rule};
+use crate::literal::{Untyped, negated};
 use crate::names::Names;
 use crate::note::note;
 use st_tree::Expr;
@@ -23,6 +25,21 @@ use vcp_typed::TExpr;
 pub struct Known {
     pub ty: Ty,
     pub value: i64,
+}
+
+/// A constant form: its value, and its type where one is written or declared. A literal may be outside its type.
+#[derive(Clone, Copy, Debug, PartialEq, Eq, Drop)]
+pub struct Form {
+    pub ty: Option<Ty>,
+    pub value: i128,
+}
+
+/// What stands where a number of a type is wanted: the number of the constant form, and the same where there is no
+/// fault inside it.
+#[derive(Clone, Copy, Debug, PartialEq, Eq, Drop)]
+pub struct Number {
+    pub form: Option<i128>,
+    pub value: Option<i64>,
 }
 
 /// Whether the type is BOOL.
@@ -88,45 +105,126 @@ fn number_in(ty: Option<Ty>, known: Option<Known>) -> Option<i64>
     }
 }
 
-// The value, unless it is 0.
-fn not_zero(value: i64) -> Option<i64>
-    ensures { result ≡ not_zero_of value }
+// The form of a name that stands for this constant.
+fn form_of_known(known: Option<Known>) -> Option<Form>
+    ensures { result ≡ option_map form_of_constant known }
 {
-    if value == 0 { None } else { Some(value) }
+    match known {
+        None => None,
+        Some(known) => Some(Form {
+            ty: Some(known.ty),
+            value: i128::from(known.value),
+        }),
+    }
 }
 
-// The step that a constant is, over a variable of the type.
-fn step_in(ty: Option<Ty>, known: Option<Known>) -> Option<i64>
-    ensures { result ≡ step_in_of ty known }
+// The form of a `-`: only a literal without a type may stand behind it.
+fn form_of_negated(l: Option<Untyped>) -> Option<Form>
+    ensures { result ≡ option_map negated_form l }
 {
-    match number_in(ty, known) {
+    match l {
         None => None,
-        Some(value) => not_zero(value),
+        Some(l) => Some(Form {
+            ty: None,
+            value: -i128::from(l.value),
+        }),
+    }
+}
+
+// The constant form that an expression is, which stands for this constant where it has no fault.
+fn form_of(e: &Expr, known: Option<Known>) -> Option<Form>
+    ensures { (s : List Entry_) → known ≡ constant s (expr_tree e.now) → result ≡ form_of_tree s (expr_tree e.now) }
+{
+    match e {
+        Expr::Lit { ty, value, .. } => Some(Form {
+            ty: *ty,
+            value: i128::from(*value),
+        }),
+        Expr::Name { .. } => form_of_known(known),
+        Expr::Unary { op, arg, .. } => form_of_negated(negated(*op, arg)),
+        Expr::Binary { .. } => None,
+        Expr::Call { .. } => None,
+    }
+}
+
+// Whether a form of the type is BOOL; without a type it is a number.
+fn is_form_bool(ty: Option<Ty>) -> bool
+    ensures { result ≡ is_form_bool_of ty }
+{
+    match ty {
+        None => false,
+        Some(ty) => is_bool(ty),
+    }
+}
+
+// The number that a form is, where it is no BOOL, and is in the type where there is one.
+fn form_number(ty: Option<Ty>, form: Option<Form>) -> Option<i128>
+    ensures { result ≡ form_number_of ty form }
+{
+    let Some(form) = form else {
+        return None;
+    };
+    if is_form_bool(form.ty) {
+        return None;
+    }
+    match ty {
+        None => Some(form.value),
+        Some(ty) => {
+            if fits(ty, form.value) {
+                Some(form.value)
+            } else {
+                None
+            }
+        }
+    }
+}
+
+// The value, unless it is 0 or none.
+fn not_zero(value: Option<i64>) -> Option<i64>
+    ensures { result ≡ option_and_then not_zero_of value }
+{
+    match value {
+        None => None,
+        Some(value) => { if value == 0 { None } else { Some(value) } }
+    }
+}
+
+// The same of the number of a form.
+fn form_not_zero(value: Option<i128>) -> Option<i128>
+    ensures { result ≡ option_and_then not_zero_of value }
+{
+    match value {
+        None => None,
+        Some(value) => { if value == 0 { None } else { Some(value) } }
     }
 }
 
 // Notes that a bound or step is none.
-fn bound_fault(value: Option<i64>, spot: Spot, first: &mut Option<Fault>)
-    ensures { Notes first.old first.new (λ f. (f ≡ fault rule_.Bound spot) × (value ≡ None)) }
+fn bound_fault(form: Option<i128>, spot: Spot, first: &mut Option<Fault>)
+    ensures { Notes first.old first.new (λ f. (f ≡ fault rule_.Bound spot) × (form ≡ None)) }
 {
-    match value {
+    match form {
         None => note(first, Rule::Bound, spot),
         Some(_) => {}
     }
 }
 
-/// The number that an expression is, in the type where there is one: notes its faults.
-pub(crate) fn number(
+/// The number that an expression is, in the type where there is one: notes the faults inside it.
+pub(crate) fn read_number(
     alloc: Global,
     names: &Names,
     ty: Option<Ty>,
     e: &Expr,
     first: &mut Option<Fault>,
-) -> Result<Option<i64>, Memory>
+) -> Result<Number, Memory>
     ensures { IfOk result (λ r. Numbers names.now ty (expr_tree e.now) first.old first.new r) }
 {
     let x = type_expression(alloc, names, e, first)?;
-    Ok(number_in(ty, literal_known(x)))
+    let known = literal_known(x);
+    Ok(Number {
+        form: form_number(ty, form_of(e, known)),
+        value: number_in(ty, known),
+    })
 }
 
 /// The bound of a FOR that an expression is, over a variable of the type: notes its faults, and where it
@@ -141,9 +239,9 @@ pub(crate) fn bound(
     ensures is { IfOk result (λ r. Bounds names.now ty (expr_tree e.now) first.old first.new r) }
     ensures small { IfOk result (λ r. InType ty r) }
 {
-    let value = number(alloc, names, ty, e, first)?;
-    bound_fault(value, spot_of(e), first);
-    Ok(value)
+    let found = read_number(alloc, names, ty, e, first)?;
+    bound_fault(found.form, spot_of(e), first);
+    Ok(found.value)
 }
 
 /// The step of a FOR, 1 where none is given: notes its faults, and where it is none.
@@ -161,10 +259,9 @@ pub(crate) fn step(
     match e {
         None => Ok(Some(1)),
         Some(e) => {
-            let x = type_expression(alloc, names, e, first)?;
-            let value = step_in(ty, literal_known(x));
-            bound_fault(value, spot_of(e), first);
-            Ok(value)
+            let found = read_number(alloc, names, ty, e, first)?;
+            bound_fault(form_not_zero(found.form), spot_of(e), first);
+            Ok(not_zero(found.value))
         }
     }
 }

@@ -1,8 +1,8 @@
 //! The typing of declarations.
 
 ghost use Rattle.std.specs.Prelude.{◌≡◌, IfOk, List, OnOk, false, length, map};
-ghost use Rattle.st_tree.specs.ExprTree.{expr_tree_or_none};
-ghost use Rattle.st_tree.specs.ProgramTree.{block_tree, decl_tree, declared_tree};
+ghost use Rattle.st_tree.specs.ExprViews.{expr_tree_or_none};
+ghost use Rattle.st_tree.specs.ProgramViews.{block_tree, decl_tree, declared_tree};
 ghost use Rattle.st_types.specs.declared.fault.Rule.TheVariants as rule_;
 ghost use Rattle.st_types.specs.DeclSteps.{made_by, DeclForm, JudgesInit, Makes, MakesBlocks, MakesDecls, MakesNames};
 ghost use Rattle.st_types.specs.DeclTyping.{nothing_made, is_new, slots_with, after_name, after_decl, after_blocks, value_or_zero as zero_or, Misfit, BlocksFault};
@@ -12,9 +12,9 @@ ghost use Rattle.st_types.specs.Notes.{Notes};
 use crate::constants::Known;
 use crate::fault::{Fault, Rule};
 use crate::initial::initial;
+use crate::inside::inside_blocks;
 use crate::names::{Entry, Names};
 use crate::note::note;
-use crate::undeclared::unknown_in_blocks;
 use crate::variable::is_constant;
 use st_tree::{Block, Class, Decl, Declared, Expr};
 use std::alloc::Global;
@@ -217,6 +217,6 @@ pub(crate) fn declared(
 {
     let mut made = nothing(alloc);
     add_blocks(alloc, &mut made, blocks, first)?;
-    unknown_in_blocks(&made.names, blocks, first)?;
+    inside_blocks(alloc, &made.names, blocks, first)?;
     Ok(made)
 }

@@ -3,12 +3,15 @@
 use crate::declaration::declared;
 use crate::fault::{Fault, Rule};
 use crate::place::name_at;
-use st_tree::{BinOp, Block, Blocks, Class, Decl, Declared, DeclaredNames, Decls, Expr, UnOp};
+use st_tree::{
+    BinOp, Block, Blocks, Class, Decl, Declared, DeclaredNames, Decls, Expr, Exprs, UnOp,
+};
 use std::alloc::Global;
 use std::test::Fail;
 use vcp_base::{Memory, Spot, Text, Ty};
 
-/// An initial value: a number, TRUE, a name of one letter, `-` before a number, `1 + 2`.
+/// An initial value: a number, TRUE, a name of one letter, `-` before a number, two numbers with `+`, a name `AND` a name,
+/// `foo(1)`.
 #[derive(Clone, Copy)]
 enum Init {
     Absent,
@@ -16,7 +19,10 @@ enum Init {
     Truth,
     Name(u8),
     Minus(i64),
-    Sum,
+    Sum(i64, i64),
+    Plus(u8),
+    And(u8, u8),
+    Call,
 }
 
 /// A declaration of one name in a block of its own, with its class, type and initial value: the first
@@ -37,11 +43,28 @@ fn initial(alloc: Global, init: Init, line: u32) -> Result<Option<Expr>, Memory>
             let number = Expr::literal(None, value, Spot { line, col: 17 });
             Ok(Some(Expr::unary(alloc, UnOp::Neg, number, spot)?))
         }
-        Init::Sum => {
-            let one = Expr::literal(None, 1, spot);
-            let two = Expr::literal(None, 2, Spot { line, col: 20 });
+        Init::Sum(left, right) => {
+            let left = Expr::literal(None, left, spot);
+            let right = Expr::literal(None, right, Spot { line, col: 20 });
             let plus = Spot { line, col: 18 };
-            Ok(Some(Expr::binary(alloc, BinOp::Add, one, two, plus)?))
+            Ok(Some(Expr::binary(alloc, BinOp::Add, left, right, plus)?))
+        }
+        Init::Plus(name) => {
+            let left = Expr::name(Text::copy_of(alloc, &[name])?, spot);
+            let right = Expr::literal(None, 1, Spot { line, col: 20 });
+            let plus = Spot { line, col: 18 };
+            Ok(Some(Expr::binary(alloc, BinOp::Add, left, right, plus)?))
+        }
+        Init::And(left, right) => {
+            let left = Expr::name(Text::copy_of(alloc, &[left])?, spot);
+            let right = Expr::name(Text::copy_of(alloc, &[right])?, Spot { line, col: 22 });
+            let and = Spot { line, col: 18 };
+            Ok(Some(Expr::binary(alloc, BinOp::And, left, right, and)?))
+        }
+        Init::Call => {
+            let mut args = Exprs::new(alloc);
+            args.push(Expr::literal(None, 1, Spot { line, col: 20 }))?;
+            Ok(Some(Expr::call(Text::copy_of(alloc, b"foo")?, args, spot)))
         }
     }
 }
@@ -70,7 +93,7 @@ fn two_blocks(alloc: Global, first: Line, second: Line) -> Result<Blocks, Memory
 }
 
 /// Two declarations, the least fault, and the number of slots.
-const ROWS: [(Line, Line, Option<Place>, usize); 20] = [
+const ROWS: [(Line, Line, Option<Place>, usize); 27] = [
     (
         (b'a', Class::Local, Ty::Int, Init::Absent),
         (b'b', Class::Local, Ty::Int, Init::Absent),
@@ -150,9 +173,51 @@ const ROWS: [(Line, Line, Option<Place>, usize); 20] = [
         0,
     ),
     (
-        (b'a', Class::Local, Ty::Int, Init::Sum),
+        (b'a', Class::Local, Ty::Int, Init::Sum(1, 2)),
         (b'b', Class::Local, Ty::Int, Init::Absent),
         Some((Rule::Bound, 2, 18)),
+        2,
+    ),
+    (
+        (b'a', Class::Local, Ty::Int, Init::Sum(99_999_999_999, 1)),
+        (b'b', Class::Local, Ty::Int, Init::Absent),
+        Some((Rule::Literal, 2, 16)),
+        2,
+    ),
+    (
+        (b'a', Class::Local, Ty::Int, Init::Plus(b'z')),
+        (b'b', Class::Local, Ty::Int, Init::Absent),
+        Some((Rule::Unknown, 2, 16)),
+        2,
+    ),
+    (
+        (b'a', Class::Local, Ty::Int, Init::Plus(b'b')),
+        (b'b', Class::Local, Ty::Int, Init::Absent),
+        Some((Rule::Bound, 2, 18)),
+        2,
+    ),
+    (
+        (b'a', Class::Local, Ty::Bool, Init::And(b'b', b'b')),
+        (b'b', Class::Local, Ty::Dint, Init::Absent),
+        Some((Rule::Mismatch, 2, 18)),
+        2,
+    ),
+    (
+        (b'a', Class::Local, Ty::Bool, Init::And(b'b', b'b')),
+        (b'b', Class::Local, Ty::Bool, Init::Absent),
+        Some((Rule::Bound, 2, 18)),
+        2,
+    ),
+    (
+        (b'a', Class::Local, Ty::Int, Init::Call),
+        (b'b', Class::Local, Ty::Int, Init::Absent),
+        Some((Rule::Bound, 2, 16)),
+        2,
+    ),
+    (
+        (b'a', Class::Local, Ty::Bool, Init::Name(b'b')),
+        (b'b', Class::Local, Ty::Dint, Init::Absent),
+        Some((Rule::Bound, 2, 16)),
         2,
     ),
     (

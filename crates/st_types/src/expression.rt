@@ -1,8 +1,10 @@
 //! The typing of expressions.
 
 ghost use Rattle.std.specs.Prelude.{◌≡◌, IfOk, List, ℕ, ◌++◌, ◌∷◌, [], Some, None, neg_ℤ, map, option_map};
-ghost use Rattle.st_tree.specs.ExprTree.{literal as literal_tree, name as name_tree, call as call_tree, expr_tree, expr_trees};
-ghost use Rattle.vcp_typed.specs.TExprTree.{texpr_tree, texpr_trees, literal as literal_of};
+ghost use Rattle.st_tree.specs.ExprTree.{literal as literal_tree, name as name_tree, call as call_tree};
+ghost use Rattle.st_tree.specs.ExprViews.{expr_tree, expr_trees};
+ghost use Rattle.vcp_typed.specs.TExprTree.{literal as literal_of};
+ghost use Rattle.vcp_typed.specs.TExprViews.{texpr_tree, texpr_trees};
 ghost use Rattle.st_types.specs.declared.fault.Rule.TheVariants as rule_;
 ghost use Rattle.st_types.specs.Faults.{fault};
 ghost use Rattle.st_types.specs.Scope.{Entry};

@@ -3,7 +3,7 @@
 ghost use Rattle.std.specs.Prelude.{◌≡◌, IfOk, map, option_map};
 ghost use Rattle.vcp_typed.specs.declared.expr.Fun.TheVariants as fun_;
 ghost use Rattle.vcp_typed.specs.Rules.{of_numbers as of_numbers_of, arguments as arguments_of};
-ghost use Rattle.vcp_typed.specs.TExprTree.{texpr_tree};
+ghost use Rattle.vcp_typed.specs.TExprViews.{texpr_tree};
 ghost use Rattle.vcp_typed.specs.Checked.{ty_of as type_of_value};
 ghost use Rattle.st_types.specs.ExprTyping.{function as function_of, arity as arity_of, called as called_of, from_int as from_int_of, from_number as from_number_of, from_bool as from_bool_of, selected as selected_of, of_one as of_one_of, of_two as of_two_of, of_three as of_three_of, function_type as function_type_of};
 

@@ -1,15 +1,15 @@
 //! Initial values: literals, `-` before a literal without a type, and names of constants that are declared before.
 
-ghost use Rattle.std.specs.Prelude.{◌≡◌, IfOk, List, None, Some, neg_ℤ, option_and_then, option_map};
-ghost use Rattle.st_tree.specs.ExprTree.{literal as literal_tree, name as name_tree, expr_tree};
+ghost use Rattle.std.specs.Prelude.{◌≡◌, IfOk, None, Some, neg_ℤ, option_and_then, option_map};
+ghost use Rattle.st_tree.specs.ExprTree.{name as name_tree};
+ghost use Rattle.st_tree.specs.ExprViews.{expr_tree};
 ghost use Rattle.st_types.specs.declared.fault.Rule.TheVariants as rule_;
 ghost use Rattle.st_types.specs.DeclSteps.{Judges};
-ghost use Rattle.st_types.specs.DeclTyping.{NegatedFault};
 ghost use Rattle.st_types.specs.ExprTyping.{literal_type as type_of_literal};
 ghost use Rattle.st_types.specs.Faults.{fault};
 ghost use Rattle.st_types.specs.Notes.{Notes};
-ghost use Rattle.st_types.specs.Scope.{Entry as Entry_, find};
-ghost use Rattle.st_types.specs.StmtTyping.{Known as Known_, known_entry, known_negated};
+ghost use Rattle.st_types.specs.Scope.{find};
+ghost use Rattle.st_types.specs.StmtTyping.{known_entry, known_negated};
 
 use crate::constants::Known;
 use crate::fault::{Fault, Rule};
@@ -19,12 +19,12 @@ use crate::note::note;
 use st_tree::{Class, Expr};
 use vcp_base::{Memory, Spot, Ty};
 
-// Notes the rule where there is no constant.
-fn note_unless(known: Option<Known>, rule: Rule, spot: Spot, first: &mut Option<Fault>)
-    ensures { Notes first.old first.new (λ f. (f ≡ fault rule spot) × (known ≡ None)) }
+// Notes that there is no constant form, where there is no constant.
+fn note_unless(known: Option<Known>, spot: Spot, first: &mut Option<Fault>)
+    ensures { Notes first.old first.new (λ f. (f ≡ fault rule_.Bound spot) × (known ≡ None)) }
 {
     match known {
-        None => note(first, rule, spot),
+        None => note(first, Rule::Bound, spot),
         Some(_) => {}
     }
 }
@@ -78,18 +78,9 @@ fn of_name(names: &Names, name: &[u8]) -> Result<Option<Known>, Memory>
     }
 }
 
-// A literal as an initial value.
-fn literal(ty: Option<Ty>, value: i64, spot: Spot, first: &mut Option<Fault>) -> Option<Known>
-    ensures { (before : List Entry_) → Judges before (literal_tree ty value spot) first.old first.new result }
-{
-    let known = of_literal(ty, value);
-    note_unless(known, Rule::Literal, spot, first);
-    known
-}
-
 // A `-` as an initial value: only a literal without a type may stand behind it.
 fn negative(l: Option<Untyped>, spot: Spot, first: &mut Option<Fault>) -> Option<Known>
-    ensures notes { Notes first.old first.new (NegatedFault l spot) }
+    ensures notes { Notes first.old first.new (λ f. (f ≡ fault rule_.Bound spot) × (l ≡ None)) }
     ensures gives { result ≡ known_negated l }
 {
     match l {
@@ -97,11 +88,7 @@ fn negative(l: Option<Untyped>, spot: Spot, first: &mut Option<Fault>) -> Option
             note(first, Rule::Bound, spot);
             None
         }
-        Some(l) => {
-            let known = of_negated(l);
-            note_unless(known, Rule::Literal, l.spot, first);
-            known
-        }
+        Some(l) => of_negated(l),
     }
 }
 
@@ -115,12 +102,12 @@ fn name(
     ensures { IfOk result (λ r. Judges names.now (name_tree name.now spot) first.old first.new r) }
 {
     let known = of_name(names, name)?;
-    note_unless(known, Rule::Bound, spot, first);
+    note_unless(known, spot, first);
     Ok(known)
 }
 
-/// Judges an initial value by the names declared before it: notes its faults but for a name that is declared nowhere,
-/// and gives the constant that it is, none where it is none.
+/// Judges an initial value by the names declared before it: notes that it is no constant form, and gives the constant
+/// that it is, none where it is none. The faults inside it are not noted here.
 pub(crate) fn initial(
     names: &Names,
     e: &Expr,
@@ -129,7 +116,7 @@ pub(crate) fn initial(
     ensures { IfOk result (λ r. Judges names.now (expr_tree e.now) first.old first.new r) }
 {
     match e {
-        Expr::Lit { ty, value, spot } => Ok(literal(*ty, *value, *spot, first)),
+        Expr::Lit { ty, value, .. } => Ok(of_literal(*ty, *value)),
         Expr::Name { name: n, spot } => name(names, n.bytes(), *spot, first),
         Expr::Unary { op, arg, spot } => Ok(negative(negated(*op, arg), *spot, first)),
         Expr::Binary { spot, .. } => {

@@ -1,16 +1,16 @@
 //! The labels of a CASE.
 
-ghost use Rattle.std.specs.Prelude.{◌≡◌, IfOk, None, option_map};
-ghost use Rattle.st_tree.specs.ExprTree.{expr_tree, expr_tree_or_none};
-ghost use Rattle.st_tree.specs.StmtTree.{label_tree, label_trees};
+ghost use Rattle.std.specs.Prelude.{◌≡◌, IfOk, false, option_map};
+ghost use Rattle.st_tree.specs.ExprViews.{expr_tree, expr_tree_or_none};
+ghost use Rattle.st_tree.specs.StmtViews.{label_tree, label_trees};
 ghost use Rattle.st_types.specs.declared.fault.Rule.TheVariants as rule_;
 ghost use Rattle.st_types.specs.Faults.{fault};
 ghost use Rattle.st_types.specs.Notes.{Notes};
 ghost use Rattle.st_types.specs.ExprTyping.{both};
-ghost use Rattle.st_types.specs.StmtTyping.{range_of as range_of_ends, label_ends as label_ends_of};
+ghost use Rattle.st_types.specs.StmtTyping.{range_of as range_of_ends, label_ends as label_ends_of, in_order as in_order_of};
 ghost use Rattle.st_types.specs.StmtSteps.{TypesLast, TypesLabel, TypesLabels, label_after};
 
-use crate::constants::{number, spot_of};
+use crate::constants::{Number, read_number, spot_of};
 use crate::fault::{Fault, Rule};
 use crate::names::Names;
 use crate::note::note;
@@ -56,6 +56,42 @@ fn label_ends(spot: Spot, first: Option<i64>, last: Option<Option<i64>>) -> Opti
     }
 }
 
+// Whether the ends are numbers, the first not above the last.
+fn in_order(first: Option<i128>, last: Option<Option<i128>>) -> bool
+    ensures { result ≡ in_order_of first last }
+{
+    let Some(first) = first else {
+        return false;
+    };
+    match last {
+        None => true,
+        Some(last) => match last {
+            None => false,
+            Some(last) => first <= last,
+        },
+    }
+}
+
+// The values of the last end of a range; none of one value.
+fn last_value(last: Option<Number>) -> Option<Option<i64>>
+    ensures { result ≡ option_map (λ n. n.value) last }
+{
+    match last {
+        None => None,
+        Some(last) => Some(last.value),
+    }
+}
+
+// The same of its form.
+fn last_form(last: Option<Number>) -> Option<Option<i128>>
+    ensures { result ≡ option_map (λ n. n.form) last }
+{
+    match last {
+        None => None,
+        Some(last) => Some(last.form),
+    }
+}
+
 // The last end of a range; none of one value.
 fn last_end(
     alloc: Global,
@@ -63,23 +99,22 @@ fn last_end(
     ty: Option<Ty>,
     e: &Option<Expr>,
     first: &mut Option<Fault>,
-) -> Result<Option<Option<i64>>, Memory>
+) -> Result<Option<Number>, Memory>
     ensures { IfOk result
         (λ r. TypesLast names.now ty (expr_tree_or_none e.now) first.old first.new r) }
 {
     match e {
         None => Ok(None),
-        Some(e) => Ok(Some(number(alloc, names, ty, e, first)?)),
+        Some(e) => Ok(Some(read_number(alloc, names, ty, e, first)?)),
     }
 }
 
-// Notes that there is no label.
-fn label_fault(label: Option<TLabel>, spot: Spot, first: &mut Option<Fault>)
-    ensures { Notes first.old first.new (λ f. (f ≡ fault rule_.Label spot) × (label ≡ None)) }
+// Notes that the ends of a label aren't in order.
+fn label_fault(ordered: bool, spot: Spot, first: &mut Option<Fault>)
+    ensures { Notes first.old first.new (λ f. (f ≡ fault rule_.Label spot) × (ordered ≡ false)) }
 {
-    match label {
-        None => note(first, Rule::Label, spot),
-        Some(_) => {}
+    if !ordered {
+        note(first, Rule::Label, spot);
     }
 }
 
@@ -93,12 +128,11 @@ fn type_label(
 ) -> Result<Option<TLabel>, Memory>
     ensures { IfOk result (λ r. TypesLabel names.now ty (label_tree label.now) first.old first.new r) }
 {
-    let low = number(alloc, names, ty, &label.first, first)?;
+    let low = read_number(alloc, names, ty, &label.first, first)?;
     let high = last_end(alloc, names, ty, &label.last, first)?;
     let spot = spot_of(&label.first);
-    let made = label_ends(spot, low, high);
-    label_fault(made, spot, first);
-    Ok(made)
+    label_fault(in_order(low.form, last_form(high)), spot, first);
+    Ok(label_ends(spot, low.value, last_value(high)))
 }
 
 // The labels with one more; none where one of them has a fault.

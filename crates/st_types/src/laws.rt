@@ -2,8 +2,8 @@
 
 ghost use Rattle.std.specs.Prelude.{◌≡◌, ◌⊎◌, ◌↔◌, ℕ, ◌<◌, ℤ, pos, true, List, Option, Some, None, option_map};
 ghost use Rattle.st_tree.specs.ExprTree.{ExprTree};
-ghost use Rattle.st_tree.specs.ProgramTree.{ProgramTree};
 ghost use Rattle.st_tree.specs.StmtTree.{StmtTrees};
+ghost use Rattle.st_tree.specs.ProgramTree.{ProgramTree};
 ghost use Rattle.st_tree.specs.Declarable.{HasNames};
 ghost use Rattle.st_types.specs.ExprTyping.{type_of, ExprFault, expr_of};
 ghost use Rattle.st_types.specs.Scope.{Entry};

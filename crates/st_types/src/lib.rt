@@ -7,6 +7,7 @@ mod expression;
 mod fault;
 mod function;
 mod initial;
+mod inside;
 mod labels;
 mod laws;
 mod literal;
@@ -16,7 +17,6 @@ mod operator;
 mod place;
 mod statement;
 mod typing;
-mod undeclared;
 mod variable;
 
 pub use fault::TypeFault;
@@ -26,6 +26,8 @@ pub use laws::{
 };
 pub use typing::typed;
 
+#[cfg(test)]
+mod constant_tests;
 #[cfg(test)]
 mod declaration_tests;
 #[cfg(test)]

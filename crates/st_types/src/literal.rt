@@ -1,8 +1,9 @@
 //! The types of literals.
 
 ghost use Rattle.std.specs.Prelude.{◌≡◌, neg_ℤ, option_map};
-ghost use Rattle.st_tree.specs.ExprTree.{expr_tree};
-ghost use Rattle.vcp_typed.specs.TExprTree.{literal as literal_tree, texpr_tree};
+ghost use Rattle.st_tree.specs.ExprViews.{expr_tree};
+ghost use Rattle.vcp_typed.specs.TExprTree.{literal as literal_tree};
+ghost use Rattle.vcp_typed.specs.TExprViews.{texpr_tree};
 ghost use Rattle.st_types.specs.ExprTyping.{sized as sized_of, literal_type as type_of_literal, negated as negated_of};
 
 use st_tree::{Expr, UnOp};

@@ -1,7 +1,7 @@
 //! Places of declared names.
 
 ghost use Rattle.std.specs.Prelude.{◌≤◌, IfErr, IfNone, IfOk, IfSome, length, map};
-ghost use Rattle.st_tree.specs.ProgramTree.{block_tree, decl_tree, declared_tree};
+ghost use Rattle.st_tree.specs.ProgramViews.{block_tree, decl_tree, declared_tree};
 ghost use Rattle.st_types.specs.Places.{IsAfter, IsAmong, IsAt, block_names, decl_names};
 
 use st_tree::{Block, Blocks, Decl, DeclaredNames};

@@ -1,18 +1,20 @@
 //! The typing of statements.
 
 ghost use Rattle.std.specs.Prelude.{◌≡◌, ◌≢◌, pos, IfOk, IfSome, option_map, option_and_then};
-ghost use Rattle.st_tree.specs.ExprTree.{expr_tree, expr_tree_or_none};
-ghost use Rattle.st_tree.specs.StmtTree.{assign as assign_tree, count as count_tree, stmt_tree, stmt_trees, arm_trees, branch_trees, other_tree};
+ghost use Rattle.st_tree.specs.StmtTree.{assign as assign_tree, for_ as for_tree};
+ghost use Rattle.st_tree.specs.ExprViews.{expr_tree, expr_tree_or_none};
+ghost use Rattle.st_tree.specs.StmtViews.{stmt_tree, stmt_trees, arm_trees, branch_trees, other_tree};
 ghost use Rattle.vcp_typed.specs.Checked.{ty_of as type_of_value};
 ghost use Rattle.vcp_typed.specs.Items.{tarm_items, tbranch_items};
-ghost use Rattle.vcp_typed.specs.TExprTree.{texpr_tree};
-ghost use Rattle.vcp_typed.specs.TStmtTree.{tstmt_tree, tstmt_trees, tarm_trees, tbranch_trees, tother_tree, tother};
+ghost use Rattle.vcp_typed.specs.TExprViews.{texpr_tree};
+ghost use Rattle.vcp_typed.specs.TStmtTree.{tother};
+ghost use Rattle.vcp_typed.specs.TStmtViews.{tstmt_tree, tstmt_trees, tarm_trees, tbranch_trees, tother_tree};
 ghost use Rattle.st_types.specs.declared.fault.Rule.TheVariants as rule_;
 ghost use Rattle.st_types.specs.Faults.{fault};
 ghost use Rattle.st_types.specs.Notes.{Notes};
 ghost use Rattle.st_types.specs.ExprTyping.{both};
-ghost use Rattle.st_types.specs.StmtTyping.{entry_type as entry_type_of, Narrows, NoTest, IsBool, assign_of, test_of, selector_of, begins as begins_of, turns_of as turns_of_bounds, count_of, select_of};
-ghost use Rattle.st_types.specs.StmtSteps.{Gives, IsSmall, InType, TypesStmt, TypesStmts, TypesArms, TypesBranches, TypesOther, stmt_after, arm_after, branch_after, choose_of};
+ghost use Rattle.st_types.specs.StmtTyping.{entry_type as entry_type_of, Narrows, NoTest, IsBool, assign_of, test_of, selector_of, begins as begins_of, turns_of as turns_of_bounds, for_of, case_of};
+ghost use Rattle.st_types.specs.StmtSteps.{Gives, IsSmall, InType, TypesStmt, TypesStmts, TypesArms, TypesBranches, TypesOther, stmt_after, arm_after, branch_after, if_of};
 
 use crate::constants::{bound, is_bool, step};
 use crate::expression::type_expression;
@@ -138,7 +140,7 @@ fn counted(
     requires last { InType (entry_type_of (option_map (λ y. y.now) x)) last }
     requires some { IfSome by (λ v. v ≢ pos 0) }
     ensures { option_map tstmt_tree result
-        ≡ count_of held.now spot (option_map (λ y. y.now) x.entry) first last by (option_map (λ b. tstmt_trees b.items.items) body) }
+        ≡ for_of held.now spot (option_map (λ y. y.now) x.entry) first last by (option_map (λ b. tstmt_trees b.items.items) body) }
 {
     let Some(x) = x else {
         return None;
@@ -162,13 +164,13 @@ fn counted(
         return None;
     }
     let turns = turns_of(first, last, by);
-    Some(TStmt::count(x.slot, first, by, turns, body, spot))
+    Some(TStmt::for_(x.slot, first, by, turns, body, spot))
 }
 
 // IF of these parts; none where one of them has a fault.
 fn chosen(arms: Option<TArms>, other: Option<Option<TStmts>>) -> Option<TStmt>
     ensures { option_map tstmt_tree result
-        ≡ both choose_of (option_map (λ a. tarm_trees (tarm_items a)) arms) (option_map tother_tree other) }
+        ≡ both if_of (option_map (λ a. tarm_trees (tarm_items a)) arms) (option_map tother_tree other) }
 {
     let Some(arms) = arms else {
         return None;
@@ -176,7 +178,7 @@ fn chosen(arms: Option<TArms>, other: Option<Option<TStmts>>) -> Option<TStmt>
     let Some(other) = other else {
         return None;
     };
-    Some(TStmt::choose(arms, other))
+    Some(TStmt::if_(arms, other))
 }
 
 // CASE of these parts; none where one of them has a fault.
@@ -187,7 +189,7 @@ fn selected(
     spot: Spot,
 ) -> Option<TStmt>
     ensures { option_map tstmt_tree result
-        ≡ select_of spot (option_map texpr_tree on) (option_map (λ b. tbranch_trees (tbranch_items b)) branches) (option_map tother_tree other) }
+        ≡ case_of spot (option_map texpr_tree on) (option_map (λ b. tbranch_trees (tbranch_items b)) branches) (option_map tother_tree other) }
 {
     let Some(on) = on else {
         return None;
@@ -198,7 +200,7 @@ fn selected(
     let Some(other) = other else {
         return None;
     };
-    Some(TStmt::select(on, branches, other, spot))
+    Some(TStmt::case(on, branches, other, spot))
 }
 
 // ---- lists with one more
@@ -335,7 +337,7 @@ fn type_stmt(
             spot,
         } => {
             Stmt::for_holds(name, *name_spot, from, last, by, body, *spot);
-            count(
+            type_for(
                 alloc,
                 names,
                 held,
@@ -354,7 +356,7 @@ fn type_stmt(
 // The body stands before the bounds: it is what the recursion goes down. The spot of the FOR itself is in no
 // fault, nor in what is made.
 #[cycle(statements)]
-fn count(
+fn type_for(
     alloc: Global,
     names: &Names,
     held: &[u32],
@@ -367,7 +369,7 @@ fn count(
     first: &mut Option<Fault>,
 ) -> Result<Option<TStmt>, Memory>
     ensures { (spot : Spot) → IfOk result
-        (λ r. TypesStmt names.now held.now (count_tree name.now name_spot (expr_tree from.now) (expr_tree last.now) (expr_tree_or_none by.now) (stmt_trees body.now) spot) first.old first.new (option_map tstmt_tree r)) }
+        (λ r. TypesStmt names.now held.now (for_tree name.now name_spot (expr_tree from.now) (expr_tree last.now) (expr_tree_or_none by.now) (stmt_trees body.now) spot) first.old first.new (option_map tstmt_tree r)) }
 {
     let x = names.find(name)?;
     let ty = entry_type(x);

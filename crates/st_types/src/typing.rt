@@ -1,9 +1,10 @@
 //! The typing of programs.
 
 ghost use Rattle.std.specs.Prelude.{◌≡◌, IfErr, IfOk, Some, option_map};
-ghost use Rattle.st_tree.specs.ProgramTree.{ProgramTree, program_tree};
+ghost use Rattle.st_tree.specs.ProgramTree.{ProgramTree};
+ghost use Rattle.st_tree.specs.ProgramViews.{program_tree};
 ghost use Rattle.vcp_typed.specs.SourceRun.{Program as TypedProgram};
-ghost use Rattle.vcp_typed.specs.TStmtTree.{tstmt_trees};
+ghost use Rattle.vcp_typed.specs.TStmtViews.{tstmt_trees};
 ghost use Rattle.st_types.specs.declared.fault.TypeFault.TheVariants as told_;
 ghost use Rattle.st_tree.specs.Declarable.{HasNames};
 ghost use Rattle.st_types.specs.Faults.{IsLeast};
@@ -15,13 +16,8 @@ use crate::place::name_at;
 use crate::statement::type_stmts;
 use st_tree::Program;
 use std::alloc::Global;
+use vcp_base::{MOST_NAMES, MOST_SIZE};
 use vcp_typed::{Slots, TStmts, Typed, size_of};
-
-/// The most names that a program declares.
-const MOST_NAMES: usize = 1024;
-
-/// The greatest Size of a program.
-const MOST_SIZE: u32 = 65_536;
 
 // The answer that tells a fault.
 fn told(fault: Fault) -> TypeFault
@@ -48,7 +44,7 @@ fn limited(program: &Program, slots: Slots, body: TStmts) -> Result<Typed, TypeF
     ensures ok { IfOk result (λ t. IsTyped (program_tree program.now) t) }
     ensures err { IfErr result (Refuses (program_tree program.now)) }
 {
-    if let Some(spot) = name_at(&program.blocks, MOST_NAMES) {
+    if let Some(spot) = name_at(&program.blocks, MOST_NAMES as usize) {
         return Err(TypeFault::Names { spot });
     }
     let size = size_of(&slots, &body);

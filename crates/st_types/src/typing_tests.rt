@@ -2,7 +2,7 @@
 
 ghost use Rattle.std.specs.Prelude.{IfOk};
 ghost use Rattle.st_tree.specs.Declarable.{HasNames};
-ghost use Rattle.st_tree.specs.ProgramTree.{program_tree};
+ghost use Rattle.st_tree.specs.ProgramViews.{program_tree};
 
 use crate::fault::TypeFault;
 use crate::typing::typed;

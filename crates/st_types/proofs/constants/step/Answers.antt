@@ -1,6 +1,5 @@
-use Rattle.std.proofs.Common.{pos, Some, ap, ◌∙◌, subst, sym}
-use Rattle.st_tree.specs.ExprTree.{expr_tree_or_none}
-use Rattle.st_types.specs.StmtTyping.{step_in}
+use Rattle.std.proofs.Common.{pos, Some, ap, subst, sym}
+use Rattle.st_tree.specs.ExprViews.{expr_tree_or_none}
 use Rattle.st_types.specs.StmtSteps.{Steps}
 use Rattle.st_types.proofs.StmtNodes.{steps, one-step, step-some}
 use Rattle.st_types.proofs.constants.step.Goals as goal
@@ -10,10 +9,10 @@ returns-in-None-clause-is c =
     subst (λ e. Steps c.args.names.now c.args.ty e c.args.first.now c.args.first.now (Some (pos 1))) (sym (ap expr_tree_or_none c.in-None.is))
     (one-step c.args.names.now c.args.ty c.args.first.now)
 
-pub returns-in_ok-x-in-Some-clause-is : goal.returns-in_ok-x-in-Some-clause-is
-returns-in_ok-x-in-Some-clause-is c =
-    subst (λ e. Steps c.args.names.now c.args.ty e c.args.first.now c.bound_fault.new.first c.step_in-value.result) (sym (ap expr_tree_or_none c.in-Some.is))
-    (steps _ _ _ _ _ _ _ _ _ c.in_ok-x-in-Some.ensures (c.step_in-value.ensures ∙ ap (step_in c.args.ty) c.literal_known.ensures) c.spot_of.ensures c.bound_fault.ensures)
+pub returns-in_ok-found-in-Some-clause-is : goal.returns-in_ok-found-in-Some-clause-is
+returns-in_ok-found-in-Some-clause-is c =
+    subst (λ e. Steps c.args.names.now c.args.ty e c.args.first.now c.bound_fault.new.first c.not_zero.result) (sym (ap expr_tree_or_none c.in-Some.is))
+    (steps _ _ _ _ _ _ _ _ _ _ c.in_ok-found-in-Some.ensures c.spot_of.ensures c.form_not_zero.ensures c.bound_fault.ensures c.not_zero.ensures)
 
-pub returns-in_ok-x-in-Some-clause-some : goal.returns-in_ok-x-in-Some-clause-some
-returns-in_ok-x-in-Some-clause-some c = step-some c.args.ty _ _ c.step_in-value.ensures
+pub returns-in_ok-found-in-Some-clause-some : goal.returns-in_ok-found-in-Some-clause-some
+returns-in_ok-found-in-Some-clause-some c = step-some c.in_ok-found-in-Some.found.value _ c.not_zero.ensures

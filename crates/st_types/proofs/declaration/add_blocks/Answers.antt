@@ -1,6 +1,6 @@
 use Rattle.std.proofs.Common.{◌≡◌, ◌+◌, drop, map, [], ◌∷◌, subst, sym, arith}
 use Rattle.std.proofs.lemmas.Grind.{common_steps}
-use Rattle.st_tree.specs.ProgramTree.{block_tree, decl_tree}
+use Rattle.st_tree.specs.ProgramViews.{block_tree, decl_tree}
 use Rattle.st_types.specs.DeclSteps.{made_by, MakesBlocks, MakesDecls}
 use Rattle.st_types.proofs.DeclNodes.{no-blocks, one-block}
 use Rattle.st_types.proofs.declaration.add_blocks.Goals as goal

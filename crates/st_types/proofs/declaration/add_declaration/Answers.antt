@@ -1,6 +1,6 @@
 use Rattle.std.proofs.Common.{map, subst}
 use Rattle.std.proofs.lemmas.Result.{on_ok_weaker}
-use Rattle.st_tree.specs.ProgramTree.{declared_tree, decl_tree}
+use Rattle.st_tree.specs.ProgramViews.{declared_tree, decl_tree}
 use Rattle.st_types.specs.DeclSteps.{made_by, MakesNames}
 use Rattle.st_types.proofs.DeclNodes.{one-init}
 use Rattle.st_types.proofs.declaration.add_declaration.Goals as goal

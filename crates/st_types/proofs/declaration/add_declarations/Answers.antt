@@ -1,6 +1,6 @@
 use Rattle.std.proofs.Common.{◌≡◌, ◌+◌, drop, map, [], ◌∷◌, subst, sym, arith}
 use Rattle.std.proofs.lemmas.Grind.{common_steps}
-use Rattle.st_tree.specs.ProgramTree.{decl_tree}
+use Rattle.st_tree.specs.ProgramViews.{decl_tree}
 use Rattle.st_types.specs.DeclSteps.{made_by, MakesDecls}
 use Rattle.st_types.proofs.DeclNodes.{no-decls, one-decl}
 use Rattle.st_types.proofs.declaration.add_declarations.Goals as goal

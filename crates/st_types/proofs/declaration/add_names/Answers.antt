@@ -1,6 +1,6 @@
 use Rattle.std.proofs.Common.{◌≡◌, ◌+◌, drop, map, [], ◌∷◌, subst, sym, arith}
 use Rattle.std.proofs.lemmas.Grind.{common_steps}
-use Rattle.st_tree.specs.ProgramTree.{declared_tree}
+use Rattle.st_tree.specs.ProgramViews.{declared_tree}
 use Rattle.st_types.specs.DeclTyping.{value_or_zero}
 use Rattle.st_types.specs.DeclSteps.{made_by, MakesNames}
 use Rattle.st_types.proofs.DeclNodes.{no-names, one-name}

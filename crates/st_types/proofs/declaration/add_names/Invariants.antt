@@ -1,5 +1,5 @@
 use Rattle.std.proofs.Common.{drop, map, Option}
-use Rattle.st_tree.specs.ProgramTree.{declared_tree}
+use Rattle.st_tree.specs.ProgramViews.{declared_tree}
 use Rattle.st_types.specs.declared.fault.Fault.{Fault}
 use Rattle.st_types.specs.DeclTyping.{Made}
 use Rattle.st_types.specs.DeclSteps.{made_by, MakesNames}

@@ -3,8 +3,9 @@ use Rattle.std.proofs.lemmas.Result.{IfOk-weaker}
 use Rattle.std.proofs.lemmas.Int.{to_z-of_z}
 use Rattle.std.proofs.lemmas.Grind.{common_steps}
 use mir.Val.{SFits}
-use Rattle.st_tree.specs.ExprTree.{expr_tree, expr_trees, literal, call}
-use Rattle.vcp_typed.specs.TExprTree.{texpr_tree}
+use Rattle.st_tree.specs.ExprTree.{literal, call}
+use Rattle.st_tree.specs.ExprViews.{expr_tree, expr_trees}
+use Rattle.vcp_typed.specs.TExprViews.{texpr_tree}
 use Rattle.st_types.specs.ExprTyping.{called, count, both}
 use Rattle.st_types.specs.ExprSteps.{Types, TypesAll}
 use Rattle.st_types.proofs.ExprNodes.{cons, binary-types, unary-types, call-types, unknown-call, more-types, none-left}

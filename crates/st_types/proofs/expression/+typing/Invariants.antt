@@ -1,6 +1,7 @@
 use Rattle.std.proofs.Common.{List, Option, option_map, map, drop}
-use Rattle.st_tree.specs.ExprTree.{expr_trees}
-use Rattle.vcp_typed.specs.TExprTree.{TExprTree, texpr_tree}
+use Rattle.st_tree.specs.ExprViews.{expr_trees}
+use Rattle.vcp_typed.specs.TExprTree.{TExprTree}
+use Rattle.vcp_typed.specs.TExprViews.{texpr_tree}
 use Rattle.st_types.specs.declared.fault.Fault.{Fault}
 use Rattle.st_types.specs.ExprTyping.{both}
 use Rattle.st_types.specs.ExprSteps.{TypesAll}

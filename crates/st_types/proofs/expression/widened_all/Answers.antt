@@ -1,6 +1,6 @@
 use Rattle.std.proofs.Common.{◌≡◌, [], ◌∷◌, ◌+◌, map, drop, sym, ap, ◌∙◌, arith}
 use Rattle.std.proofs.lemmas.Grind.{common_steps}
-use Rattle.vcp_typed.specs.TExprTree.{texpr_tree, texpr_trees}
+use Rattle.vcp_typed.specs.TExprViews.{texpr_tree, texpr_trees}
 use Rattle.st_types.specs.ExprTyping.{widened_all}
 use Rattle.st_types.proofs.Wanted.{behind, widened-more, widened-end, none-wanted}
 use Rattle.st_types.proofs.expression.widened_all.Goals as goal

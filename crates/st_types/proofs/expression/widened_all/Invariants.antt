@@ -1,5 +1,5 @@
 use Rattle.std.proofs.Common.{◌≡◌, map, drop}
-use Rattle.vcp_typed.specs.TExprTree.{texpr_tree, texpr_trees}
+use Rattle.vcp_typed.specs.TExprViews.{texpr_tree, texpr_trees}
 use Rattle.st_types.specs.ExprTyping.{widened_all}
 use Rattle.st_types.proofs.Wanted.{behind}
 use Rattle.st_types.proofs.expression.widened_all.Given as goal

@@ -1,6 +1,6 @@
 use Rattle.std.proofs.Common.{◌≡◌, [], ◌∷◌, ◌+◌, Some, sym, subst, arith, drop}
 use Rattle.std.proofs.lemmas.Grind.{common_steps}
-use Rattle.st_tree.specs.StmtTree.{label_tree, label_trees}
+use Rattle.st_tree.specs.StmtViews.{label_tree, label_trees}
 use Rattle.st_types.specs.ExprTyping.{both}
 use Rattle.st_types.specs.StmtSteps.{TypesLabels}
 use Rattle.st_types.proofs.StmtNodes.{label_cons, more-labels, no-labels, labels-on, labels-end}

@@ -1,5 +1,5 @@
 use Rattle.std.proofs.Common.{List, Option, option_map, drop}
-use Rattle.st_tree.specs.StmtTree.{label_trees}
+use Rattle.st_tree.specs.StmtViews.{label_trees}
 use Rattle.vcp_typed.specs.declared.stmt.TLabel.{TLabel}
 use Rattle.st_types.specs.declared.fault.Fault.{Fault}
 use Rattle.st_types.specs.ExprTyping.{both}

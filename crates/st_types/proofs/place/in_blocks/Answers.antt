@@ -1,6 +1,6 @@
 use Rattle.std.proofs.Common.{◌≡◌, ◌+◌, ◌++◌, drop, map, [], ◌∷◌, slice_get, subst, sym, arith}
 use Rattle.std.proofs.lemmas.Grind.{common_steps}
-use Rattle.st_tree.specs.ProgramTree.{block_tree, decl_tree}
+use Rattle.st_tree.specs.ProgramViews.{block_tree, decl_tree}
 use Rattle.st_types.specs.Places.{IsAfter, IsAmong, decl_names, block_names}
 use Rattle.st_types.proofs.PlaceLaws.{among-here, after-here}
 use Rattle.st_types.proofs.place.in_blocks.Goals as goal

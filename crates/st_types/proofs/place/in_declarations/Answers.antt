@@ -1,6 +1,6 @@
 use Rattle.std.proofs.Common.{◌≡◌, ◌+◌, ◌++◌, drop, map, [], ◌∷◌, slice_get, subst, sym, arith}
 use Rattle.std.proofs.lemmas.Grind.{common_steps}
-use Rattle.st_tree.specs.ProgramTree.{decl_tree}
+use Rattle.st_tree.specs.ProgramViews.{decl_tree}
 use Rattle.st_types.specs.Places.{decl_names}
 use Rattle.st_types.proofs.PlaceLaws.{among-here, after-here}
 use Rattle.st_types.proofs.place.in_declarations.Goals as goal

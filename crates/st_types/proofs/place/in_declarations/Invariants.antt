@@ -1,5 +1,6 @@
 use Rattle.std.proofs.Common.{◌≡◌, ◌++◌, List, drop, map, slice_get}
-use Rattle.st_tree.specs.ProgramTree.{DeclaredTree, decl_tree}
+use Rattle.st_tree.specs.ProgramTree.{DeclaredTree}
+use Rattle.st_tree.specs.ProgramViews.{decl_tree}
 use Rattle.st_types.specs.Places.{decl_names}
 use Rattle.st_types.proofs.place.in_declarations.Given as goal
 

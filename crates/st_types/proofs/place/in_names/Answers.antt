@@ -1,6 +1,6 @@
 use Rattle.std.proofs.Common.{◌-◌, ◌≤◌, Some, None, map, length, slice_get, refl, sym, ap, ◌∙◌, arith}
 use Rattle.std.proofs.lemmas.List.{length-map}
-use Rattle.st_tree.specs.ProgramTree.{declared_tree}
+use Rattle.st_tree.specs.ProgramViews.{declared_tree}
 use Rattle.st_types.proofs.PlaceLaws.{front-place, back-place, none-past, get-map}
 use Rattle.st_types.proofs.place.in_names.Goals as goal
 

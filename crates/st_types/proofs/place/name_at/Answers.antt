@@ -1,5 +1,5 @@
 use Rattle.std.proofs.Common.{map, subst}
-use Rattle.st_tree.specs.ProgramTree.{block_tree}
+use Rattle.st_tree.specs.ProgramViews.{block_tree}
 use Rattle.st_types.specs.Places.{IsAfter, IsAmong, block_names}
 use Rattle.st_types.proofs.PlaceLaws.{whole, beyond}
 use Rattle.st_types.proofs.place.name_at.Goals as goal

@@ -1,15 +1,17 @@
 use Rattle.std.proofs.Common.{◌≡◌, IfOk, [], ◌∷◌, ◌+◌, option_map, Some, sym, ap, ◌∙◌, subst, arith, drop}
 use Rattle.std.proofs.lemmas.Result.{IfOk-weaker}
 use Rattle.std.proofs.lemmas.Grind.{common_steps}
-use Rattle.st_tree.specs.ExprTree.{expr_tree, expr_tree_or_none}
-use Rattle.st_tree.specs.StmtTree.{assign, count, label_trees, stmt_tree, stmt_trees, arm_trees, branch_trees, other_tree}
+use Rattle.st_tree.specs.StmtTree.{assign, for_}
+use Rattle.st_tree.specs.ExprViews.{expr_tree, expr_tree_or_none}
+use Rattle.st_tree.specs.StmtViews.{label_trees, stmt_tree, stmt_trees, arm_trees, branch_trees, other_tree}
 use Rattle.vcp_typed.specs.Items.{tarm_items, tbranch_items}
-use Rattle.vcp_typed.specs.TExprTree.{texpr_tree}
-use Rattle.vcp_typed.specs.TStmtTree.{no_tstmts, no_tarms, no_tbranches, no_tother, tstmt_tree, tstmt_trees, tarm_trees, tbranch_trees, tother_tree}
+use Rattle.vcp_typed.specs.TExprViews.{texpr_tree}
+use Rattle.vcp_typed.specs.TStmtTree.{no_tstmts, no_tarms, no_tbranches, no_tother}
+use Rattle.vcp_typed.specs.TStmtViews.{tstmt_tree, tstmt_trees, tarm_trees, tbranch_trees, tother_tree}
 use Rattle.st_types.specs.ExprTyping.{both}
 use Rattle.st_types.specs.StmtTyping.{arm_of, branch_of}
 use Rattle.st_types.specs.StmtSteps.{InType, TypesLabels, TypesStmt, TypesStmts, TypesArms, TypesBranches, TypesOther}
-use Rattle.st_types.proofs.StmtNodes.{choose-types, select-types, count-types, stmt_cons, more-stmts, no-more-stmts, stmts-on, stmts-end, more-arms, no-more-arms, arms-on, arms-end, more-branches, no-more-branches, branches-on, branches-end, no-else, some-else}
+use Rattle.st_types.proofs.StmtNodes.{if-types, case-types, for-types, stmt_cons, more-stmts, no-more-stmts, stmts-on, stmts-end, more-arms, no-more-arms, arms-on, arms-end, more-branches, no-more-branches, branches-on, branches-end, no-else, some-else}
 use Rattle.st_types.proofs.statement.+statements.Goals as goal
 
 pub type_stmt-returns-in-Assign : goal.type_stmt-returns-in-Assign
@@ -22,31 +24,31 @@ pub type_stmt-returns-in_ok-rest-in-If : goal.type_stmt-returns-in_ok-rest-in-If
 type_stmt-returns-in_ok-rest-in-If t c =
     let made = subst (λ xs. TypesArms c.args.names.now c.args.held.now (arm_trees xs) c.args.first.now c.type_arms.new.first (option_map (λ a. tarm_trees (tarm_items a)) c.in_ok-made-in-If.made)) c.deref.ensures.value c.in_ok-made-in-If.ensures in
     subst (λ d. TypesStmt c.args.names.now c.args.held.now d c.args.first.now c.type_other.new.first (option_map tstmt_tree c.chosen.result)) (sym (ap stmt_tree c.in-If.is ∙ c.if_holds.ensures))
-    (choose-types _ _ _ _ _ _ _ _ _ _ made c.in_ok-rest-in-If.ensures c.chosen.ensures)
+    (if-types _ _ _ _ _ _ _ _ _ _ made c.in_ok-rest-in-If.ensures c.chosen.ensures)
 
 pub type_stmt-returns-in_ok-rest-in-Case : goal.type_stmt-returns-in_ok-rest-in-Case
 type_stmt-returns-in_ok-rest-in-Case t c =
     let made = subst (λ xs. TypesBranches c.args.names.now c.args.held.now c.type_of-ty.result (branch_trees xs) c.selector-selects.new.first c.type_branches.new.first (option_map (λ b. tbranch_trees (tbranch_items b)) c.in_ok-made-in-Case.made)) c.deref-in-Case.ensures.value c.in_ok-made-in-Case.ensures in
     subst (λ d. TypesStmt c.args.names.now c.args.held.now d c.args.first.now c.type_other-in-Case.new.first (option_map tstmt_tree c.selected.result)) (sym (ap stmt_tree c.in-Case.is ∙ c.case_holds.ensures))
-    (select-types _ _ _ _ _ _ _ _ _ _ _ _ _ _ _ _ _ c.in_ok-e-in-Case.ensures c.type_of-ty.ensures c.selector-selects.ensures.notes c.selector-selects.ensures.gives made c.in_ok-rest-in-Case.ensures c.selected.ensures)
+    (case-types _ _ _ _ _ _ _ _ _ _ _ _ _ _ _ _ _ c.in_ok-e-in-Case.ensures c.type_of-ty.ensures c.selector-selects.ensures.notes c.selector-selects.ensures.gives made c.in_ok-rest-in-Case.ensures c.selected.ensures)
 
 pub type_stmt-returns-in-For : goal.type_stmt-returns-in-For
 type_stmt-returns-in-For t c =
-    let inner = subst (λ n. IfOk c.count.result (λ r. TypesStmt c.args.names.now c.args.held.now (count n c.in-For.name_spot (expr_tree c.in-For.from) (expr_tree c.in-For.last) (expr_tree_or_none c.in-For.by) (stmt_trees c.deref-in-For.result.now) c.in-For.spot) c.args.first.now c.count.new.first (option_map tstmt_tree r))) c.bytes.ensures (c.count.ensures c.in-For.spot) in
-    IfOk-weaker c.count.result _ _ (λ r p.
-    subst (λ d. TypesStmt c.args.names.now c.args.held.now d c.args.first.now c.count.new.first (option_map tstmt_tree r))
-    (ap (λ xs. count c.in-For.name c.in-For.name_spot (expr_tree c.in-For.from) (expr_tree c.in-For.last) (expr_tree_or_none c.in-For.by) (stmt_trees xs) c.in-For.spot) c.deref-in-For.ensures.value ∙ sym (ap stmt_tree c.in-For.is ∙ c.for_holds.ensures)) p) inner
+    let inner = subst (λ n. IfOk c.type_for.result (λ r. TypesStmt c.args.names.now c.args.held.now (for_ n c.in-For.name_spot (expr_tree c.in-For.from) (expr_tree c.in-For.last) (expr_tree_or_none c.in-For.by) (stmt_trees c.deref-in-For.result.now) c.in-For.spot) c.args.first.now c.type_for.new.first (option_map tstmt_tree r))) c.bytes.ensures (c.type_for.ensures c.in-For.spot) in
+    IfOk-weaker c.type_for.result _ _ (λ r p.
+    subst (λ d. TypesStmt c.args.names.now c.args.held.now d c.args.first.now c.type_for.new.first (option_map tstmt_tree r))
+    (ap (λ xs. for_ c.in-For.name c.in-For.name_spot (expr_tree c.in-For.from) (expr_tree c.in-For.last) (expr_tree_or_none c.in-For.by) (stmt_trees xs) c.in-For.spot) c.deref-in-For.ensures.value ∙ sym (ap stmt_tree c.in-For.is ∙ c.for_holds.ensures)) p) inner
 
-pub count-counted-requires-clause-first : goal.count-counted-requires-clause-first
-count-counted-requires-clause-first t c = subst (λ y. InType y c.in_ok-low.low) c.entry_type-ty.ensures c.in_ok-low.ensures.small
+pub type_for-counted-requires-clause-first : goal.type_for-counted-requires-clause-first
+type_for-counted-requires-clause-first t c = subst (λ y. InType y c.in_ok-low.low) c.entry_type-ty.ensures c.in_ok-low.ensures.small
 
-pub count-counted-requires-clause-last : goal.count-counted-requires-clause-last
-count-counted-requires-clause-last t c = subst (λ y. InType y c.in_ok-high.high) c.entry_type-ty.ensures c.in_ok-high.ensures.small
+pub type_for-counted-requires-clause-last : goal.type_for-counted-requires-clause-last
+type_for-counted-requires-clause-last t c = subst (λ y. InType y c.in_ok-high.high) c.entry_type-ty.ensures c.in_ok-high.ensures.small
 
-pub count-returns : goal.count-returns
-count-returns t c = λ spot.
+pub type_for-returns : goal.type_for-returns
+type_for-returns t c = λ spot.
     let body = subst (λ h. TypesStmts c.args.names.now h (stmt_trees c.args.body.now) c.step.new.first c.type_stmts.new.first (option_map (λ b. tstmt_trees b.items.items) c.in_ok-made.made)) c.deref.ensures.value c.in_ok-made.ensures in
-    count-types _ _ _ _ spot _ _ _ _ _ _ _ _ _ _ _ _ _ _ _ _ _ _ _ c.in_ok-x.ensures c.entry_type-ty.ensures c.in_ok-inner.ensures c.name_fault.ensures c.bool_fault.ensures c.in_ok-low.ensures.is c.in_ok-high.ensures.is c.in_ok-step_by.ensures.is body c.counted.ensures
+    for-types _ _ _ _ spot _ _ _ _ _ _ _ _ _ _ _ _ _ _ _ _ _ _ _ c.in_ok-x.ensures c.entry_type-ty.ensures c.in_ok-inner.ensures c.name_fault.ensures c.bool_fault.ensures c.in_ok-low.ensures.is c.in_ok-high.ensures.is c.in_ok-step_by.ensures.is body c.counted.ensures
 
 pub type_stmts-each-preserved : goal.type_stmts-each-preserved
 type_stmts-each-preserved t c = λ end r h.

@@ -1,7 +1,8 @@
 use Rattle.std.proofs.Common.{Option, option_map, drop}
-use Rattle.st_tree.specs.StmtTree.{stmt_trees, arm_trees, branch_trees}
+use Rattle.st_tree.specs.StmtViews.{stmt_trees, arm_trees, branch_trees}
 use Rattle.vcp_typed.specs.Items.{tarm_items, tbranch_items}
-use Rattle.vcp_typed.specs.TStmtTree.{TStmtTrees, TArmTrees, TBranchTrees, tstmt_trees, tarm_trees, tbranch_trees}
+use Rattle.vcp_typed.specs.TStmtTree.{TStmtTrees, TArmTrees, TBranchTrees}
+use Rattle.vcp_typed.specs.TStmtViews.{tstmt_trees, tarm_trees, tbranch_trees}
 use Rattle.st_types.specs.declared.fault.Fault.{Fault}
 use Rattle.st_types.specs.ExprTyping.{both}
 use Rattle.st_types.specs.StmtSteps.{TypesStmts, TypesArms, TypesBranches}

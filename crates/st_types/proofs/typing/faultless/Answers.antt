@@ -1,6 +1,6 @@
 use Rattle.std.proofs.Common.{option_map, ap, ◌∙◌}
-use Rattle.st_tree.specs.ProgramTree.{program_tree}
-use Rattle.vcp_typed.specs.TStmtTree.{tstmt_trees}
+use Rattle.st_tree.specs.ProgramViews.{program_tree}
+use Rattle.vcp_typed.specs.TStmtViews.{tstmt_trees}
 use Rattle.st_types.proofs.WholeLaws.{never-none}
 use Rattle.st_types.proofs.typing.faultless.Goals as goal
 

@@ -1,7 +1,7 @@
 use Rattle.std.proofs.Common.{◌≡◌, [], Option, None, option_map, map, subst}
-use Rattle.st_tree.specs.ProgramTree.{block_tree, program_tree}
-use Rattle.st_tree.specs.StmtTree.{stmt_trees}
-use Rattle.vcp_typed.specs.TStmtTree.{tstmt_trees}
+use Rattle.st_tree.specs.StmtViews.{stmt_trees}
+use Rattle.st_tree.specs.ProgramViews.{block_tree, program_tree}
+use Rattle.vcp_typed.specs.TStmtViews.{tstmt_trees}
 use Rattle.st_types.specs.declared.fault.Fault.{Fault}
 use Rattle.st_types.specs.DeclSteps.{made_by, Makes}
 use Rattle.st_types.specs.DeclTyping.{nothing_made, after_blocks, BlocksFault}

@@ -1,7 +1,8 @@
 use Rattle.std.proofs.Common.{◌≤◌, arith}
-use Rattle.st_tree.specs.ProgramTree.{program_tree}
+use Rattle.vcp_base.specs.Limits.{most_size}
+use Rattle.st_tree.specs.ProgramViews.{program_tree}
 use Rattle.vcp_typed.specs.SourceRun.{Program}
-use Rattle.vcp_typed.specs.TStmtTree.{tstmt_trees}
+use Rattle.vcp_typed.specs.TStmtViews.{tstmt_trees}
 use Rattle.st_types.proofs.Faultless.{typed-checked}
 use Rattle.st_types.proofs.WholeLaws.{small-size, checked}
 use Rattle.st_types.proofs.typing.limited.Goals as goal
@@ -13,5 +14,5 @@ pub new-requires : goal.new-requires
 new-requires c =
     let p = program_tree c.args.program.now in
     let t : Program = record { slots = c.args.slots.items.items; body = tstmt_trees c.args.body.items.items } in
-    let low : c.size_of-size.result ≤ 65536 = grind arith in
+    let low : c.size_of-size.result ≤ most_size = grind arith in
     typed-checked p t c.requires.names (checked p t c.requires.faultless c.in_default.ensures.none c.requires.is (small-size t c.size_of-size.result c.size_of-size.ensures low))

@@ -1,5 +1,5 @@
 use Rattle.std.proofs.lemmas.Result.{IfErr-weaker}
-use Rattle.st_tree.specs.ProgramTree.{program_tree}
+use Rattle.st_tree.specs.ProgramViews.{program_tree}
 use Rattle.st_types.proofs.Faultless.{typed-refused}
 use Rattle.st_types.proofs.typing.typed.Goals as goal
 

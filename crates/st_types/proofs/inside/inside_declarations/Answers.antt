@@ -1,10 +1,10 @@
 use Rattle.std.proofs.Common.{◌≡◌, ◌+◌, drop, map, [], ◌∷◌, subst, sym, arith}
 use Rattle.std.proofs.lemmas.Grind.{common_steps}
-use Rattle.st_tree.specs.ProgramTree.{decl_tree}
+use Rattle.st_tree.specs.ProgramViews.{decl_tree}
 use Rattle.st_types.specs.Notes.{Notes}
-use Rattle.st_types.specs.DeclSteps.{InitNoName, DeclsNoName}
+use Rattle.st_types.specs.DeclSteps.{InitInside, DeclsInside}
 use Rattle.st_types.proofs.NoteLaws.{quiet, pair}
-use Rattle.st_types.proofs.undeclared.unknown_in_declarations.Goals as goal
+use Rattle.st_types.proofs.inside.inside_declarations.Goals as goal
 
 pub each-preserved : goal.each-preserved
 each-preserved c =
@@ -13,13 +13,13 @@ each-preserved c =
     let ds = map decl_tree (drop (c.each.d-index + 1) c.args.decls.now) in
     let e : drop c.each.d-index c.args.decls.now ≡ c.d-item.result ∷ drop (c.each.d-index + 1) c.args.decls.now = grind (arith, common_steps) in
     λ end h. c.each.invariant end
-    (subst (λ xs. Notes c.each.first end (DeclsNoName all (map decl_tree xs))) (sym e)
-    (pair c.each.first c.unknown_or_none.new.first end (InitNoName all d.init) (DeclsNoName all ds) c.in_ok-unknown_or_none.ensures h))
+    (subst (λ xs. Notes c.each.first end (DeclsInside all (map decl_tree xs))) (sym e)
+    (pair c.each.first c.inside_init.new.first end (InitInside all d.init) (DeclsInside all ds) c.in_ok-inside_init.ensures h))
 
 pub returns : goal.returns
 returns c =
     let all = c.args.names.now in
     let e : drop c.each.d-index c.args.decls.now ≡ [] = grind (arith, common_steps) in
     c.each.invariant c.each.first
-    (subst (λ xs. Notes c.each.first c.each.first (DeclsNoName all (map decl_tree xs))) (sym e)
-    (quiet c.each.first (DeclsNoName all []) (λ f h. h)))
+    (subst (λ xs. Notes c.each.first c.each.first (DeclsInside all (map decl_tree xs))) (sym e)
+    (quiet c.each.first (DeclsInside all []) (λ f h. h)))
