@@ -1,4 +1,5 @@
 -- The values of inputs and outputs, slot by slot.
+use Rattle.vcp_base.specs.Limits.{most_size}
 use Rattle.std.proofs.Common.{◌≡◌, ℕ, zero, suc, ◌+◌, ◌-◌, ◌≤◌, ◌<◌, add-one, drop-cons, length-drop, ℤ, Bool, true, false, cond, List, [], ◌∷◌, ◌++◌, length, take, drop, get_or, slice_get, slice_set, Option, Some, None, ◌⊎◌, inl, inr, length-set, refl, sym, ap, ◌∙◌, subst, arith}
 use Rattle.vcp_base.specs.declared.turns.Turn.{Turn}
 use Rattle.vcp_base.specs.declared.ty.Ty.{Ty}
@@ -206,7 +207,7 @@ cells-next slots i s out next_out n next v lt is put more left same cells = elim
 ]
 
 pub starts : (p : Program) (values zeros : List ℤ) (turns rest : List Turn) (d cap : ℕ) → AreFit p.slots values → length zeros ≡ length p.slots → turns ≡ [] → rest ≡ [] → d ≡ cut (stmts_depth p.body)
-    → stmts_size p.body ≤ 65536 → d ≤ cap → Standing p values zeros None turns rest cap
+    → stmts_size p.body ≤ most_size → d ≤ cap → Standing p values zeros None turns rest cap
 starts p values zeros turns rest d cap fit long none empty depth few room =
     let low : stmts_depth p.body ≤ stmts_size p.body = depth-of-stmts p.body in
     record { fit = fit; told = none; cause = tt; room = (empty, omega (arith, low, depth, few, room), long ∙ sym (fit-length p.slots values fit)) }

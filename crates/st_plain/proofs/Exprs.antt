@@ -14,11 +14,13 @@ use Rattle.vcp_typed.specs.declared.expr.Fun.TheVariants as fun
 use Rattle.vcp_typed.specs.declared.expr.TExpr.{TExpr, Call}
 use Rattle.vcp_typed.specs.declared.expr.TExprs.{TExprs}
 use Rattle.vcp_typed.specs.declared.slot.Slot.{Slot}
-use Rattle.vcp_typed.specs.TExprTree.{TExprTree, TExprTrees, get, unary, call, no_texprs, and_texpr, texpr_tree, texpr_trees}
+use Rattle.vcp_typed.specs.TExprTree.{TExprTree, TExprTrees, get, unary, call, no_texprs, and_texpr}
+use Rattle.vcp_typed.specs.TExprViews.{texpr_tree, texpr_trees}
 use Rattle.vcp_typed.specs.Rules.{signed, arguments}
 use Rattle.vcp_typed.specs.Checked.{ty_of, tys_of, HasType, IsExpr, AreExprs}
 use Rattle.vcp_typed.specs.Fitting.{AreFit}
-use Rattle.vcp_typed.specs.Meaning.{Stop, and_then, at, apply, value, values}
+use Rattle.vcp_typed.specs.Meaning.{Stop, and_then, apply, value, values}
+use Rattle.vcp_base.specs.Values.{at}
 use Rattle.st_plain.specs.Arguments.{argument_at}
 use Rattle.st_plain.specs.Sound.{SoundExpr, SoundExprs}
 use Rattle.st_plain.specs.Weight.{expr_weight, exprs_weight}

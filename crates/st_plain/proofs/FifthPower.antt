@@ -12,7 +12,8 @@ use Rattle.st_tree.specs.declared.program.Class.{Class}
 use Rattle.st_tree.specs.declared.program.Class.TheVariants as class
 use Rattle.vcp_typed.specs.declared.slot.Slot.{Slot}
 use Rattle.vcp_typed.specs.TExprTree.{TExprTree, literal, get, binary}
-use Rattle.vcp_typed.specs.TStmtTree.{TStmtTree, TStmtTrees, assign, count, no_tstmts, and_tstmt, tstmts_and}
+use Rattle.vcp_typed.specs.TStmtTree.{TStmtTree, TStmtTrees, assign, for_, no_tstmts, and_tstmt}
+use Rattle.vcp_typed.specs.TStmtViews.{tstmts_and}
 use Rattle.vcp_typed.specs.SourceRun.{Program}
 use Rattle.vcp_typed.specs.Checked.{IsChecked}
 
@@ -37,7 +38,7 @@ abbrev pub slots_of : Spot → List Slot
 slots_of p = variable 105 class.Local ty.Int p ∷ variable 120 class.Input ty.Int p ∷ variable 121 class.Output ty.Int p ∷ []
 
 abbrev pub powers : Spot → TStmtTree
-powers p = count 0 (pos 1) (pos 1) 5 (and_tstmt (assign 2 (binary bin.Mul ty.Int (get 2 ty.Int) (get 1 ty.Int) p) p) no_tstmts) p
+powers p = for_ 0 (pos 1) (pos 1) 5 (and_tstmt (assign 2 (binary bin.Mul ty.Int (get 2 ty.Int) (get 1 ty.Int) p) p) no_tstmts) p
 
 abbrev statements : Spot → TStmtTrees
 statements p = and_tstmt (assign 2 (literal ty.Int (pos 1) p) p) (and_tstmt (powers p) no_tstmts)
@@ -45,15 +46,17 @@ statements p = and_tstmt (assign 2 (literal ty.Int (pos 1) p) p) (and_tstmt (pow
 keeps-rules : (p : Spot) → IsChecked (record { slots = slots_of p; body = statements p })
 keeps-rules p = record {
   slots = (
-    record { short = omega arith; letters = refl; new = none (105 ∷ []); init = refl; variable = λ e. absurd cc },
+    record { name = record { short = omega arith; letters = refl; new = none (105 ∷ []) }; init = refl; variable = λ e. absurd cc },
     (
-      record { short = omega arith; letters = refl; new = All-cons (λ (r : Slot). SameName r.name (120 ∷ []) → ⊥) (variable 105 class.Local ty.Int p) [] (differ 105 120 [] [] (omega arith)) (none (120 ∷ [])); init = refl; variable = λ e. absurd cc },
+      record { name = record { short = omega arith; letters = refl; new = All-cons (λ (r : Slot). SameName r.name (120 ∷ []) → ⊥) (variable 105 class.Local ty.Int p) [] (differ 105 120 [] [] (omega arith)) (none (120 ∷ [])) }; init = refl; variable = λ e. absurd cc },
       (
         record {
-          short = omega arith;
-          letters = refl;
-          new = All-cons (λ (r : Slot). SameName r.name (121 ∷ []) → ⊥) (variable 105 class.Local ty.Int p) (variable 120 class.Input ty.Int p ∷ []) (differ 105 121 [] [] (omega arith))
-              (All-cons (λ (r : Slot). SameName r.name (121 ∷ []) → ⊥) (variable 120 class.Input ty.Int p) [] (differ 120 121 [] [] (omega arith)) (none (121 ∷ [])));
+          name = record {
+            short = omega arith;
+            letters = refl;
+            new = All-cons (λ (r : Slot). SameName r.name (121 ∷ []) → ⊥) (variable 105 class.Local ty.Int p) (variable 120 class.Input ty.Int p ∷ []) (differ 105 121 [] [] (omega arith))
+                (All-cons (λ (r : Slot). SameName r.name (121 ∷ []) → ⊥) (variable 120 class.Input ty.Int p) [] (differ 120 121 [] [] (omega arith)) (none (121 ∷ [])));
+          };
           init = refl;
           variable = λ e. absurd cc;
         },

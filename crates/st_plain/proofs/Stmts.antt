@@ -1,5 +1,5 @@
 -- What statements do, part by part.
-use Rattle.std.proofs.Common.{◌≡◌, ℕ, zero, suc, ◌+◌, ◌<◌, add-one, drop-cons, w64, SFits, of_z, ℤ, pos, negsuc, ◌+ℤ◌, ◌≤ℤ◌, true, false, cond, List, [], ◌∷◌, ◌++◌, length, drop, get_or, slice_get, slice_set, Some, Result, Ok, Err, refl, sym, ap, ◌∙◌, subst, arith}
+use Rattle.std.proofs.Common.{◌≡◌, ℕ, zero, suc, ◌+◌, ◌<◌, add-one, drop-cons, w64, SFits, of_z, ℤ, pos, negsuc, ◌+ℤ◌, true, false, cond, List, [], ◌∷◌, ◌++◌, length, drop, get_or, slice_get, slice_set, Some, Result, Ok, Err, refl, sym, ap, ◌∙◌, subst, arith}
 use Rattle.std.specs.Prelude.{IfOk}
 use Rattle.vcp_base.specs.declared.spot.Spot.{Spot}
 use Rattle.vcp_base.specs.declared.turns.Turn.{Turn}
@@ -13,11 +13,14 @@ use Rattle.vcp_typed.specs.declared.stmt.TLabel.{TLabel}
 use Rattle.vcp_typed.specs.declared.stmt.TArm.{TArm}
 use Rattle.vcp_typed.specs.declared.stmt.TBranch.{TBranch}
 use Rattle.vcp_typed.specs.declared.stmt.TStmt.{TStmt}
-use Rattle.vcp_typed.specs.TExprTree.{TExprTree, TExprTrees, literal, get, widen, unary, binary, call, no_texprs, and_texpr, texpr_tree}
-use Rattle.vcp_typed.specs.TStmtTree.{TStmtTree, TStmtTrees, TArmTrees, TBranchTrees, TOtherTree, assign, choose, select, count, no_tstmts, and_tstmt, no_tarms, and_tarm, no_tbranches, and_tbranch, tstmt_tree, tstmt_trees, tarm_trees, tbranch_trees}
+use Rattle.vcp_typed.specs.TExprTree.{TExprTree, TExprTrees, literal, get, widen, unary, binary, call, no_texprs, and_texpr}
+use Rattle.vcp_typed.specs.TExprViews.{texpr_tree}
+use Rattle.vcp_typed.specs.TStmtTree.{TStmtTree, TStmtTrees, TArmTrees, TBranchTrees, TOtherTree, assign, if_, case, for_, no_tstmts, and_tstmt, no_tarms, and_tarm, no_tbranches, and_tbranch}
+use Rattle.vcp_typed.specs.TStmtViews.{tstmt_tree, tstmt_trees, tarm_trees, tbranch_trees}
 use Rattle.vcp_typed.specs.Checked.{ty_of, AreTurns, IsStmt, AreStmts, AreArms, AreBranches}
 use Rattle.vcp_typed.specs.Fitting.{AreFit}
-use Rattle.vcp_typed.specs.Meaning.{Stop, and_then, stop, in_range, unless_zero, operate, sign, apply, argument, value, values, turns_from, all_turns, do_stmt, do_stmts, do_arms, do_branches, do_other}
+use Rattle.vcp_typed.specs.Meaning.{Stop, and_then, stop, in_range, unless_zero, operate, sign, apply, value, values, turns_from, all_turns, do_stmt, do_stmts, do_arms, do_branches, do_other}
+use Rattle.vcp_base.specs.Values.{at}
 use Rattle.st_tree.specs.declared.expr.UnOp.{UnOp}
 use Rattle.st_tree.specs.declared.expr.UnOp.TheVariants as un
 use Rattle.st_tree.specs.declared.expr.BinOp.{BinOp}
@@ -83,7 +86,7 @@ inside-function turns fun.Max t s vs = refl
 inside-function turns fun.Limit t s vs = refl
 inside-function turns fun.Sel t s vs = refl
 inside-function turns fun.IntToDint t s vs = refl
-inside-function turns fun.DintToInt t s vs = inside-range turns ty.Int s (argument vs 0)
+inside-function turns fun.DintToInt t s vs = inside-range turns ty.Int s (at vs 0)
 inside-function turns fun.BoolToInt t s vs = refl
 
 mutual
@@ -134,65 +137,65 @@ assign-err turns s slot e sp m d is h =
 
 -- ---- IF and CASE
 
-pub choose-arms : (s : TStmtTree) (arms : TArmTrees) (o : TOtherTree) (m : List ℤ) → s ≡ choose arms o → SoundStmt s m → SoundArms arms m
-choose-arms s arms o m is h =
-    let typed : IsStmt h.slots h.held (choose arms o) = subst (λ x. IsStmt h.slots h.held x) is h.typed in
+pub if-arms : (s : TStmtTree) (arms : TArmTrees) (o : TOtherTree) (m : List ℤ) → s ≡ if_ arms o → SoundStmt s m → SoundArms arms m
+if-arms s arms o m is h =
+    let typed : IsStmt h.slots h.held (if_ arms o) = subst (λ x. IsStmt h.slots h.held x) is h.typed in
     record { slots = h.slots; held = h.held; typed = typed.0; fit = h.fit }
 
-pub choose-other : (s : TStmtTree) (arms : TArmTrees) (o : TOtherTree) (m next : List ℤ) → s ≡ choose arms o → SoundStmt s m → next ≡ m → SoundOther o next
-choose-other s arms o m next is h e =
-    let typed : IsStmt h.slots h.held (choose arms o) = subst (λ x. IsStmt h.slots h.held x) is h.typed in
+pub if-other : (s : TStmtTree) (arms : TArmTrees) (o : TOtherTree) (m next : List ℤ) → s ≡ if_ arms o → SoundStmt s m → next ≡ m → SoundOther o next
+if-other s arms o m next is h e =
+    let typed : IsStmt h.slots h.held (if_ arms o) = subst (λ x. IsStmt h.slots h.held x) is h.typed in
     record { slots = h.slots; held = h.held; typed = typed.1; fit = subst (λ x. AreFit h.slots x) (sym e) h.fit }
 
-pub choose-is : (turns : List Turn) (s : TStmtTree) (arms : TArmTrees) (o : TOtherTree) (m : List ℤ) (r : Result (List ℤ) Stop) → s ≡ choose arms o
+pub if-is : (turns : List Turn) (s : TStmtTree) (arms : TArmTrees) (o : TOtherTree) (m : List ℤ) (r : Result (List ℤ) Stop) → s ≡ if_ arms o
     → r ≡ do_arms turns arms (do_other turns o) m → r ≡ do_stmt turns s m
-choose-is turns s arms o m r is h = h ∙ sym (ap (λ x. do_stmt turns x m) is)
+if-is turns s arms o m r is h = h ∙ sym (ap (λ x. do_stmt turns x m) is)
 
-pub select-on : (s : TStmtTree) (e : TExprTree) (b : TBranchTrees) (o : TOtherTree) (sp : Spot) (m : List ℤ) → s ≡ select e b o sp → SoundStmt s m → SoundExpr e m
-select-on s e b o sp m is h =
-    let typed : IsStmt h.slots h.held (select e b o sp) = subst (λ x. IsStmt h.slots h.held x) is h.typed in
+pub case-on : (s : TStmtTree) (e : TExprTree) (b : TBranchTrees) (o : TOtherTree) (sp : Spot) (m : List ℤ) → s ≡ case e b o sp → SoundStmt s m → SoundExpr e m
+case-on s e b o sp m is h =
+    let typed : IsStmt h.slots h.held (case e b o sp) = subst (λ x. IsStmt h.slots h.held x) is h.typed in
     record { slots = h.slots; typed = typed.0; fit = h.fit }
 
-pub select-branches : (s : TStmtTree) (e : TExprTree) (b : TBranchTrees) (o : TOtherTree) (sp : Spot) (m : List ℤ) → s ≡ select e b o sp → SoundStmt s m → SoundBranches b m
-select-branches s e b o sp m is h =
-    let typed : IsStmt h.slots h.held (select e b o sp) = subst (λ x. IsStmt h.slots h.held x) is h.typed in
+pub case-branches : (s : TStmtTree) (e : TExprTree) (b : TBranchTrees) (o : TOtherTree) (sp : Spot) (m : List ℤ) → s ≡ case e b o sp → SoundStmt s m → SoundBranches b m
+case-branches s e b o sp m is h =
+    let typed : IsStmt h.slots h.held (case e b o sp) = subst (λ x. IsStmt h.slots h.held x) is h.typed in
     record { slots = h.slots; held = h.held; of = ty_of e; typed = typed.2; fit = h.fit }
 
-pub select-other : (s : TStmtTree) (e : TExprTree) (b : TBranchTrees) (o : TOtherTree) (sp : Spot) (m next : List ℤ) → s ≡ select e b o sp → SoundStmt s m → next ≡ m → SoundOther o next
-select-other s e b o sp m next is h same =
-    let typed : IsStmt h.slots h.held (select e b o sp) = subst (λ x. IsStmt h.slots h.held x) is h.typed in
+pub case-other : (s : TStmtTree) (e : TExprTree) (b : TBranchTrees) (o : TOtherTree) (sp : Spot) (m next : List ℤ) → s ≡ case e b o sp → SoundStmt s m → next ≡ m → SoundOther o next
+case-other s e b o sp m next is h same =
+    let typed : IsStmt h.slots h.held (case e b o sp) = subst (λ x. IsStmt h.slots h.held x) is h.typed in
     record { slots = h.slots; held = h.held; typed = typed.3; fit = subst (λ x. AreFit h.slots x) (sym same) h.fit }
 
-pub select-is : (turns : List Turn) (s : TStmtTree) (e : TExprTree) (b : TBranchTrees) (o : TOtherTree) (sp : Spot) (m : List ℤ) (v : ℤ) (r : Result (List ℤ) Stop) → s ≡ select e b o sp
+pub case-is : (turns : List Turn) (s : TStmtTree) (e : TExprTree) (b : TBranchTrees) (o : TOtherTree) (sp : Spot) (m : List ℤ) (v : ℤ) (r : Result (List ℤ) Stop) → s ≡ case e b o sp
     → Ok v ≡ value [] e m → r ≡ do_branches turns v b (do_other turns o) m → r ≡ do_stmt turns s m
-select-is turns s e b o sp m v r is on h =
+case-is turns s e b o sp m v r is on h =
     h ∙ sym (ap (λ x. do_stmt turns x m) is ∙ ap (λ x. and_then x (λ w. do_branches turns w b (do_other turns o) m)) (value-ok turns e m v on))
 
-pub select-err : (turns : List Turn) (s : TStmtTree) (e : TExprTree) (b : TBranchTrees) (o : TOtherTree) (sp : Spot) (m : List ℤ) (d : Cause) → s ≡ select e b o sp
+pub case-err : (turns : List Turn) (s : TStmtTree) (e : TExprTree) (b : TBranchTrees) (o : TOtherTree) (sp : Spot) (m : List ℤ) (d : Cause) → s ≡ case e b o sp
     → Err (within_turns [] d) ≡ value [] e m → Err (within_turns turns d) ≡ do_stmt turns s m
-select-err turns s e b o sp m d is on =
+case-err turns s e b o sp m d is on =
     sym (ap (λ x. do_stmt turns x m) is ∙ ap (λ x. and_then x (λ w. do_branches turns w b (do_other turns o) m)) (value-err turns e m d on))
 
 -- ---- FOR
 
-pub count-inside : (s : TStmtTree) (slot : ℕ) (first by : ℤ) (n : ℕ) (body : TStmtTrees) (sp : Spot) (m : List ℤ) → s ≡ count slot first by n body sp → SoundStmt s m → slot < length m
-count-inside s slot first by n body sp m is h =
-    let typed : IsStmt h.slots h.held (count slot first by n body sp) = subst (λ x. IsStmt h.slots h.held x) is h.typed in
+pub for-inside : (s : TStmtTree) (slot : ℕ) (first by : ℤ) (n : ℕ) (body : TStmtTrees) (sp : Spot) (m : List ℤ) → s ≡ for_ slot first by n body sp → SoundStmt s m → slot < length m
+for-inside s slot first by n body sp m is h =
+    let typed : IsStmt h.slots h.held (for_ slot first by n body sp) = subst (λ x. IsStmt h.slots h.held x) is h.typed in
     fit-inside h.slots m slot typed.1.of typed.1.there h.fit
 
-pub count-sound : (s : TStmtTree) (slot : ℕ) (first by : ℤ) (n : ℕ) (body : TStmtTrees) (sp : Spot) (m : List ℤ) → s ≡ count slot first by n body sp → SoundStmt s m
+pub for-sound : (s : TStmtTree) (slot : ℕ) (first by : ℤ) (n : ℕ) (body : TStmtTrees) (sp : Spot) (m : List ℤ) → s ≡ for_ slot first by n body sp → SoundStmt s m
     → SoundTurns slot first by n body m
-count-sound s slot first by n body sp m is h =
-    let typed : IsStmt h.slots h.held (count slot first by n body sp) = subst (λ x. IsStmt h.slots h.held x) is h.typed in
+for-sound s slot first by n body sp m is h =
+    let typed : IsStmt h.slots h.held (for_ slot first by n body sp) = subst (λ x. IsStmt h.slots h.held x) is h.typed in
     record { slots = h.slots; held = h.held; of = typed.0; set = typed.1; values = typed.4; typed = typed.5; fit = h.fit }
 
-pub count-none : (turns : List Turn) (s : TStmtTree) (slot : ℕ) (first by : ℤ) (n : ℕ) (body : TStmtTrees) (sp : Spot) (m : List ℤ) → s ≡ count slot first by n body sp → n ≡ 0
+pub for-none : (turns : List Turn) (s : TStmtTree) (slot : ℕ) (first by : ℤ) (n : ℕ) (body : TStmtTrees) (sp : Spot) (m : List ℤ) → s ≡ for_ slot first by n body sp → n ≡ 0
     → Ok (slice_set m slot first) ≡ do_stmt turns s m
-count-none turns s slot first by n body sp m is none = sym (ap (λ x. do_stmt turns x m) is ∙ ap (λ k. do_stmt turns (count slot first by k body sp) m) none)
+for-none turns s slot first by n body sp m is none = sym (ap (λ x. do_stmt turns x m) is ∙ ap (λ k. do_stmt turns (for_ slot first by k body sp) m) none)
 
-pub count-some : (turns : List Turn) (s : TStmtTree) (slot : ℕ) (first by : ℤ) (n : ℕ) (body : TStmtTrees) (sp : Spot) (m : List ℤ) (r : Result (List ℤ) Stop) → s ≡ count slot first by n body sp
+pub for-some : (turns : List Turn) (s : TStmtTree) (slot : ℕ) (first by : ℤ) (n : ℕ) (body : TStmtTrees) (sp : Spot) (m : List ℤ) (r : Result (List ℤ) Stop) → s ≡ for_ slot first by n body sp
     → r ≡ all_turns slot first by n (λ v. do_stmts (turns ++ record { name = slot; value = v } ∷ []) body) m → r ≡ do_stmt turns s m
-count-some turns s slot first by n body sp m r is h = h ∙ sym (ap (λ x. do_stmt turns x m) is)
+for-some turns s slot first by n body sp m r is h = h ∙ sym (ap (λ x. do_stmt turns x m) is)
 
 -- ---- lists of statements
 
@@ -370,26 +373,19 @@ turns-rest law t slot v by w n k body m entered next is h set done e =
       fit = subst (λ r. IfOk r (AreFit h.slots)) (sym done) fit;
     }
 
-fits-low : (t : Ty) (v : ℤ) → fits t v ≡ true → negsuc 2147483647 ≤ℤ v
-fits-low ty.Bool v h = grind (arith, h)
-fits-low ty.Int v h = grind (arith, h)
-fits-low ty.Dint v h = grind (arith, h)
-
-fits-high : (t : Ty) (v : ℤ) → fits t v ≡ true → v ≤ℤ pos 2147483647
-fits-high ty.Bool v h = grind (arith, h)
-fits-high ty.Int v h = grind (arith, h)
-fits-high ty.Dint v h = grind (arith, h)
+-- each type has values of 64 bits
+fits-width : (t : Ty) (v : ℤ) → fits t v ≡ true → SFits w64 v
+fits-width ty.Bool v h = grind (arith, h)
+fits-width ty.Int v h = grind (arith, h)
+fits-width ty.Dint v h = grind (arith, h)
 
 next-fits : (slot : ℕ) (v by : ℤ) (n k : ℕ) (body : TStmtTrees) (m : List ℤ) → n ≡ suc (suc k) → (h : SoundTurns slot v by n body m) → fits h.of (v +ℤ by) ≡ true
 next-fits slot v by n k body m is h =
     let values : AreTurns h.of (suc (suc k)) v by = subst (λ x. AreTurns h.of x v by) is h.values in
     values.1.0
 
-pub turns-low : (slot : ℕ) (v by : ℤ) (n k : ℕ) (body : TStmtTrees) (m : List ℤ) → n ≡ suc (suc k) → SoundTurns slot v by n body m → negsuc 2147483647 ≤ℤ (v +ℤ by)
-turns-low slot v by n k body m is h = fits-low h.of (v +ℤ by) (next-fits slot v by n k body m is h)
-
-pub turns-high : (slot : ℕ) (v by : ℤ) (n k : ℕ) (body : TStmtTrees) (m : List ℤ) → n ≡ suc (suc k) → SoundTurns slot v by n body m → (v +ℤ by) ≤ℤ pos 2147483647
-turns-high slot v by n k body m is h = fits-high h.of (v +ℤ by) (next-fits slot v by n k body m is h)
+pub next-width : (slot : ℕ) (v by : ℤ) (n k : ℕ) (body : TStmtTrees) (m : List ℤ) → n ≡ suc (suc k) → SoundTurns slot v by n body m → SFits w64 (v +ℤ by)
+next-width slot v by n k body m is h = fits-width h.of (v +ℤ by) (next-fits slot v by n k body m is h)
 
 over-next : (slot : ℕ) (by : ℤ) (f : ℤ → Doing) (k : ℕ) (v w : ℤ) (next : List ℤ) → (0 < k → w ≡ v +ℤ by) → turns_from slot by f k w next ≡ turns_from slot by f k (v +ℤ by) next
 over-next slot by f zero v w next e = refl

@@ -8,7 +8,7 @@ use Rattle.st_tree.specs.declared.program.Class.{Class}
 use Rattle.st_tree.specs.declared.program.Class.TheVariants as class
 use Rattle.vcp_typed.specs.declared.slot.Slot.{Slot}
 use Rattle.vcp_typed.specs.TExprTree.{TExprTree, literal, get, binary}
-use Rattle.vcp_typed.specs.TStmtTree.{TStmtTree, TStmtTrees, assign, count, no_tstmts, and_tstmt}
+use Rattle.vcp_typed.specs.TStmtTree.{TStmtTree, TStmtTrees, assign, for_, no_tstmts, and_tstmt}
 use Rattle.vcp_typed.specs.Meaning.{Stop}
 use Rattle.vcp_typed.specs.SourceRun.{Program}
 use Rattle.st_plain.specs.Evaluator.{started, comes_to, answers}
@@ -71,7 +71,7 @@ abbrev product : Program
 product = record {
   slots = slot (120 ∷ []) class.Input (pos 0) ∷ slot (105 ∷ []) class.Local (pos 0) ∷ slot (121 ∷ []) class.Output (pos 0) ∷ [];
   body = and_tstmt (assign 2 (int (pos 1)) (at 5 1))
-      (and_tstmt (count 1 (pos 1) (pos 1) 5 (and_tstmt (assign 2 (binary bin.Mul ty.Int (get 2 ty.Int) (get 0 ty.Int) (at 7 10)) (at 7 3)) no_tstmts) (at 6 5)) no_tstmts);
+      (and_tstmt (for_ 1 (pos 1) (pos 1) 5 (and_tstmt (assign 2 (binary bin.Mul ty.Int (get 2 ty.Int) (get 0 ty.Int) (at 7 10)) (at 7 3)) no_tstmts) (at 6 5)) no_tstmts);
 }
 
 -- 7 * 7 * 7 * 7 * 7
@@ -85,12 +85,12 @@ twenty = refl
 -- ---- how many turns can be round a place
 
 deep : TStmtTrees → TStmtTree
-deep body = count 0 (pos 1) (pos 1) 2 body (at 1 1)
+deep body = for_ 0 (pos 1) (pos 1) 2 body (at 1 1)
 
 two-deep : stmts_depth (and_tstmt (deep (and_tstmt (deep no_tstmts) no_tstmts)) (and_tstmt (deep no_tstmts) no_tstmts)) ≡ 2
 unfolding deep
 two-deep = refl
 
 -- a FOR without turns has none round its body
-none-deep : stmts_depth (and_tstmt (count 0 (pos 1) (pos 1) 0 (and_tstmt (count 1 (pos 1) (pos 1) 2 no_tstmts (at 1 1)) no_tstmts) (at 1 1)) no_tstmts) ≡ 0
+none-deep : stmts_depth (and_tstmt (for_ 0 (pos 1) (pos 1) 0 (and_tstmt (for_ 1 (pos 1) (pos 1) 2 no_tstmts (at 1 1)) no_tstmts) (at 1 1)) no_tstmts) ≡ 0
 none-deep = refl

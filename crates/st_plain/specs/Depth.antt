@@ -1,14 +1,14 @@
 -- Depth: how deep statements nest FORs that make a turn, which is how many turns can be round a place at most.
 use Rattle.std.specs.Prelude.{ℕ, zero, suc, ◌+◌, min, max}
-use Rattle.vcp_typed.specs.TStmtTree.{TStmtTree, TStmtTrees, TArmTrees, TBranchTrees, TOtherTree, assign, choose, select, count, no_tstmts, and_tstmt, no_tarms, and_tarm, no_tbranches, and_tbranch, no_tother, tother}
+use Rattle.vcp_typed.specs.TStmtTree.{TStmtTree, TStmtTrees, TArmTrees, TBranchTrees, TOtherTree, assign, if_, case, for_, no_tstmts, and_tstmt, no_tarms, and_tarm, no_tbranches, and_tbranch, no_tother, tother}
 
 abbrev mutual
   pub stmt_depth : TStmtTree → ℕ
   stmt_depth (assign slot e spot) = 0
-  stmt_depth (choose arms o) = max (arms_depth arms) (other_depth o)
-  stmt_depth (select e branches o spot) = max (branches_depth branches) (other_depth o)
-  stmt_depth (count slot first by zero body spot) = 0
-  stmt_depth (count slot first by (suc n) body spot) = 1 + stmts_depth body
+  stmt_depth (if_ arms o) = max (arms_depth arms) (other_depth o)
+  stmt_depth (case e branches o spot) = max (branches_depth branches) (other_depth o)
+  stmt_depth (for_ slot first by zero body spot) = 0
+  stmt_depth (for_ slot first by (suc n) body spot) = 1 + stmts_depth body
 
   pub stmts_depth : TStmtTrees → ℕ
   stmts_depth no_tstmts = 0

@@ -1,7 +1,7 @@
 -- Weight: a number that falls from a node to its parts, by which the evaluator ends.
 use Rattle.std.specs.Prelude.{ℕ, ◌+◌}
 use Rattle.vcp_typed.specs.TExprTree.{TExprTree, TExprTrees, literal, get, widen, unary, binary, call, no_texprs, and_texpr}
-use Rattle.vcp_typed.specs.TStmtTree.{TStmtTree, TStmtTrees, TArmTrees, TBranchTrees, TOtherTree, assign, choose, select, count, no_tstmts, and_tstmt, no_tarms, and_tarm, no_tbranches, and_tbranch, no_tother, tother}
+use Rattle.vcp_typed.specs.TStmtTree.{TStmtTree, TStmtTrees, TArmTrees, TBranchTrees, TOtherTree, assign, if_, case, for_, no_tstmts, and_tstmt, no_tarms, and_tarm, no_tbranches, and_tbranch, no_tother, tother}
 
 abbrev mutual
   pub expr_weight : TExprTree → ℕ
@@ -19,9 +19,9 @@ abbrev mutual
 abbrev mutual
   pub stmt_weight : TStmtTree → ℕ
   stmt_weight (assign slot e spot) = 0
-  stmt_weight (choose arms o) = 1 + arms_weight arms + other_weight o
-  stmt_weight (select e branches o spot) = 1 + branches_weight branches + other_weight o
-  stmt_weight (count slot first by n body spot) = 2 + stmts_weight body
+  stmt_weight (if_ arms o) = 1 + arms_weight arms + other_weight o
+  stmt_weight (case e branches o spot) = 1 + branches_weight branches + other_weight o
+  stmt_weight (for_ slot first by n body spot) = 2 + stmts_weight body
 
   pub stmts_weight : TStmtTrees → ℕ
   stmts_weight no_tstmts = 0

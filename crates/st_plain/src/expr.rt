@@ -2,7 +2,7 @@
 
 ghost use Rattle.std.specs.Prelude.{◌≡◌, []};
 ghost use Rattle.vcp_typed.specs.Meaning.{value as value_of};
-ghost use Rattle.vcp_typed.specs.TExprTree.{texpr_tree, texpr_trees};
+ghost use Rattle.vcp_typed.specs.TExprViews.{texpr_tree, texpr_trees};
 ghost use Rattle.st_plain.specs.Arguments.{argument_at};
 ghost use Rattle.st_plain.specs.Outcomes.{outside};
 ghost use Rattle.st_plain.specs.Sound.{SoundExpr, SoundExprs};

@@ -1,6 +1,7 @@
 //! The values of inputs and outputs among those of all slots.
 
 ghost use Rattle.std.specs.Prelude.{◌≡◌, ◌<◌, ◌≤◌, ◌+◌, true, false, IfOk, Some, length, slice_get, slice_set};
+ghost use Rattle.vcp_base.specs.Limits.{most_names};
 ghost use Rattle.vcp_base.specs.Types.{AreIn};
 ghost use Rattle.vcp_typed.specs.Fitting.{input_types, output_types};
 ghost use Rattle.vcp_typed.specs.SourceRun.{is_input as is_input_of, is_output as is_output_of, initial, with_inputs, outputs};
@@ -35,7 +36,7 @@ fn is_output(class: Class) -> bool
 
 /// The next value of the row for an input, and else the value that is kept.
 fn input_or_kept(class: Class, row: &Row, next: &mut usize, kept: i64) -> i64
-    requires few { next.old ≤ 1024 }
+    requires few { next.old ≤ most_names }
     requires there { is_input_of class ≡ true → next.old < length row.now }
     ensures input { is_input_of class ≡ true → slice_get row.now next.old ≡ Some result }
     ensures taken { is_input_of class ≡ true → next.new ≡ next.old + 1 }
@@ -53,7 +54,7 @@ fn input_or_kept(class: Class, row: &Row, next: &mut usize, kept: i64) -> i64
 
 /// Sets all values: the inputs to those of the row, and the others to what they were before.
 pub fn set_inputs(slots: &[Slot], row: &Row, before: &Row, values: &mut Row)
-    requires few { length slots.now ≤ 1024 }
+    requires few { length slots.now ≤ most_names }
     requires row { AreIn (input_types slots.now) row.now }
     requires before { length before.now ≡ length slots.now }
     requires places { length values.old ≡ length slots.now }
@@ -68,7 +69,7 @@ pub fn set_inputs(slots: &[Slot], row: &Row, before: &Row, values: &mut Row)
 
 /// Sets the next cell of the row, where the class is that of an output.
 fn put_output(class: Class, value: i64, out: &mut Row, next: &mut u32)
-    requires few { next.old < 1024 }
+    requires few { next.old < most_names }
     requires cell { is_output_of class ≡ true → next.old < length out.old }
     ensures put { is_output_of class ≡ true → out.new ≡ slice_set out.old next.old value }
     ensures counted { is_output_of class ≡ true → next.new ≡ next.old + 1 }
@@ -84,7 +85,7 @@ fn put_output(class: Class, value: i64, out: &mut Row, next: &mut u32)
 
 /// Sets a row to the values of the outputs, in order of declaration.
 pub fn set_outputs(slots: &[Slot], values: &Row, out: &mut Row)
-    requires few { length slots.now ≤ 1024 }
+    requires few { length slots.now ≤ most_names }
     requires values { length values.now ≡ length slots.now }
     requires cells { length out.old ≡ length (output_types slots.now) }
     ensures values { out.new ≡ outputs slots.now values.now }

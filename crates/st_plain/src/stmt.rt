@@ -1,11 +1,13 @@
 //! What statements do to the values of the slots.
 
-ghost use Rattle.std.specs.Prelude.{◌≡◌, ◌<◌, ◌≤◌, ◌+◌, ◌+ℤ◌, ◌≤ℤ◌, negsuc, pos, true, false, List, [], ◌∷◌, ◌++◌, Ok, OnOk, length, slice_set, vec_capacity};
+ghost use Rattle.std.specs.Prelude.{◌≡◌, ◌<◌, ◌≤◌, ◌+◌, ◌+ℤ◌, FitsSigned, true, false, List, [], ◌∷◌, ◌++◌, Ok, OnOk, length, slice_set, vec_capacity};
+ghost use Rattle.std.specs.Int.{w64};
 ghost use Rattle.std.specs.List.{list_any};
 ghost use Rattle.vcp_base.specs.declared.turns.Turn.{Turn};
 ghost use Rattle.vcp_typed.specs.Meaning.{is_labelled, all_turns, do_stmt as do_stmt_of, do_stmts as do_stmts_of, do_arms as do_arms_of, do_branches as do_branches_of, do_other as do_other_of};
-ghost use Rattle.vcp_typed.specs.TExprTree.{texpr_tree};
-ghost use Rattle.vcp_typed.specs.TStmtTree.{no_tarms, and_tarm, no_tbranches, and_tbranch, tstmt_tree, tstmt_trees, tarm_trees, tbranch_trees, tother_tree};
+ghost use Rattle.vcp_typed.specs.TExprViews.{texpr_tree};
+ghost use Rattle.vcp_typed.specs.TStmtTree.{no_tarms, and_tarm, no_tbranches, and_tbranch};
+ghost use Rattle.vcp_typed.specs.TStmtViews.{tstmt_tree, tstmt_trees, tarm_trees, tbranch_trees, tother_tree};
 ghost use Rattle.st_plain.specs.Depth.{stmt_depth, stmts_depth, arms_depth, branches_depth, other_depth};
 ghost use Rattle.st_plain.specs.Outcomes.{Doing, left, left_or};
 ghost use Rattle.st_plain.specs.Sound.{SoundStmt, SoundStmts, SoundArms, SoundBranches, SoundOther, SoundTurns};
@@ -242,8 +244,7 @@ fn do_turns(
 
 /// The control variable's value in the next turn; after the last turn it keeps its value.
 fn next_value(value: i64, by: i64, more: bool) -> i64
-    requires low { more ≡ true → negsuc 2147483647 ≤ℤ (value +ℤ by) }
-    requires high { more ≡ true → (value +ℤ by) ≤ℤ pos 2147483647 }
+    requires { more ≡ true → FitsSigned w64 (value +ℤ by) }
     ensures next { more ≡ true → result ≡ value +ℤ by }
     ensures last { more ≡ false → result ≡ value }
 {

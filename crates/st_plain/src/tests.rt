@@ -8,7 +8,8 @@ ghost use Rattle.vcp_typed.specs.Rules.{joined, common, result as result_of};
 ghost use Rattle.vcp_base.specs.declared.ty.Ty.TheVariants as type_of;
 ghost use Rattle.st_tree.specs.declared.expr.BinOp.TheVariants as bin;
 ghost use Rattle.vcp_typed.specs.TExprTree.{get, binary};
-ghost use Rattle.vcp_typed.specs.TStmtTree.{assign, count, no_tstmts, and_tstmt, tstmt_tree};
+ghost use Rattle.vcp_typed.specs.TStmtTree.{assign, for_, no_tstmts, and_tstmt};
+ghost use Rattle.vcp_typed.specs.TStmtViews.{tstmt_tree};
 
 use crate::{Plain, Stop};
 use st_tree::{BinOp, Class};
@@ -158,7 +159,7 @@ fn operators_have_their_values_or_stop(rt: HostRuntime) -> Result<(), Fail> {
 /// `FOR i := 1 TO 5 DO y := y * x; END_FOR;` where slot 0 is i, slot 1 is x and slot 2 is y.
 fn powers(alloc: Global) -> Result<TStmt, Memory>
     ensures { IfOk result (λ s. tstmt_tree s
-        ≡ count 0 (pos 1) (pos 1) 5 (and_tstmt (assign 2 (binary bin.Mul type_of.Int (get 2 type_of.Int) (get 1 type_of.Int) PLACE) PLACE) no_tstmts) PLACE) }
+        ≡ for_ 0 (pos 1) (pos 1) 5 (and_tstmt (assign 2 (binary bin.Mul type_of.Int (get 2 type_of.Int) (get 1 type_of.Int) PLACE) PLACE) no_tstmts) PLACE) }
 {
     let value = TExpr::binary(
         alloc,
@@ -170,7 +171,7 @@ fn powers(alloc: Global) -> Result<TStmt, Memory>
     )?;
     let mut body = TStmts::new(alloc);
     body.push(TStmt::assign(2, value, PLACE))?;
-    Ok(TStmt::count(0, 1, 1, 5, body, PLACE))
+    Ok(TStmt::for_(0, 1, 1, 5, body, PLACE))
 }
 
 /// `VAR i : INT; END_VAR VAR_INPUT x : INT; END_VAR VAR_OUTPUT y : INT; END_VAR y := 1; FOR ..`

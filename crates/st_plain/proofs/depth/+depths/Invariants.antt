@@ -1,5 +1,5 @@
 use Rattle.std.proofs.Common.{◌≡◌, ◌≤◌, drop, max}
-use Rattle.vcp_typed.specs.TStmtTree.{tstmt_trees, tarm_trees, tbranch_trees}
+use Rattle.vcp_typed.specs.TStmtViews.{tstmt_trees, tarm_trees, tbranch_trees}
 use Rattle.st_plain.specs.Depth.{cut, stmts_depth, arms_depth, branches_depth}
 use Rattle.st_plain.proofs.depth.+depths.Given as goal
 

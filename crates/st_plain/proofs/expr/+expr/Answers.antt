@@ -2,7 +2,8 @@ use Rattle.std.proofs.Common.{rules, ◌≡◌, true, ap, sym, subst, ◌∙◌,
 use Rattle.std.proofs.lemmas.Int.{to_z-of_z}
 use Rattle.vcp_base.specs.declared.ty.Ty.TheVariants as ty
 use Rattle.vcp_base.specs.Types.{fits}
-use Rattle.vcp_typed.specs.TExprTree.{texpr_tree, texpr_trees, unary}
+use Rattle.vcp_typed.specs.TExprTree.{unary}
+use Rattle.vcp_typed.specs.TExprViews.{texpr_tree, texpr_trees}
 use Rattle.std.proofs.lemmas.Result.{err_from_is_err_and}
 use Rattle.st_plain.specs.Weight.{expr_weight}
 use Rattle.st_plain.proofs.Exprs.{argument-lighter, tree-of-call, apply-at, slot-inside, value-of-slot, not-operand, argument-sound, argument-is, argument-none, call-sound, first-stops, second-stops, third-stops, none-stops}

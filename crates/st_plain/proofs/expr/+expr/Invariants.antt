@@ -1,4 +1,4 @@
-use Rattle.vcp_typed.specs.TExprTree.{texpr_tree, texpr_trees}
+use Rattle.vcp_typed.specs.TExprViews.{texpr_tree, texpr_trees}
 use Rattle.st_plain.specs.Weight.{expr_weight, exprs_weight}
 use Rattle.st_plain.proofs.expr.+expr.Given as goal
 

@@ -4,12 +4,13 @@ use Rattle.std.proofs.lemmas.Bool.{lt-ltb}
 use Rattle.std.proofs.lemmas.Int.{to_z-of_z}
 use Rattle.std.proofs.lemmas.Result.{err_from_is_err_and}
 use Rattle.vcp_typed.specs.Meaning.{do_stmt, do_stmts, do_arms, do_branches, do_other}
-use Rattle.vcp_typed.specs.TExprTree.{texpr_tree}
-use Rattle.vcp_typed.specs.TStmtTree.{choose, select, count, tstmt_tree, tstmt_trees, tarm_trees, tbranch_trees, tother_tree}
+use Rattle.vcp_typed.specs.TExprViews.{texpr_tree}
+use Rattle.vcp_typed.specs.TStmtTree.{if_, case, for_}
+use Rattle.vcp_typed.specs.TStmtViews.{tstmt_tree, tstmt_trees, tarm_trees, tbranch_trees, tother_tree}
 use Rattle.st_plain.specs.Depth.{stmt_depth, stmts_depth, arms_depth, branches_depth}
 use Rattle.st_plain.specs.Weight.{stmt_weight}
 use Rattle.st_plain.specs.Outcomes.{left_or}
-use Rattle.st_plain.proofs.Stmts.{assign-inside, assign-ok, assign-err, choose-arms, choose-other, choose-is, select-branches, select-other, select-is, select-err, count-inside, count-sound, count-some, stmts-at, stmt-lighter, stmts-first, stmts-rest, stmts-next, arms-at, arm-lighter, arms-first, arms-rest, arms-step, arms-over, arm-err, arm-not, arm-is, branches-at, branch-lighter, branches-first, branches-step, turns-inside, turns-enter, turns-rest, turns-low, turns-high, turns-next, body-at, sound-at, turns-at, branches-value, other-at}
+use Rattle.st_plain.proofs.Stmts.{assign-inside, assign-ok, assign-err, if-arms, if-other, if-is, case-branches, case-other, case-is, case-err, for-inside, for-sound, for-some, stmts-at, stmt-lighter, stmts-first, stmts-rest, stmts-next, arms-at, arm-lighter, arms-first, arms-rest, arms-step, arms-over, arm-err, arm-not, arm-is, branches-at, branch-lighter, branches-first, branches-step, turns-inside, turns-enter, turns-rest, next-width, turns-next, body-at, sound-at, turns-at, branches-value, other-at}
 use Rattle.st_plain.proofs.Depths.{depth-of-for}
 use borrow.Author.Tests.{ltb-true}
 use Rattle.st_plain.proofs.stmt.+statements.Goals as goal
@@ -110,90 +111,90 @@ do_stmt-returns-in_ok-v-in-Assign-clause-done t c =
 
 pub do_stmt-do_arms-requires : goal.do_stmt-do_arms-requires
 do_stmt-do_arms-requires t c =
-    let is = ap tstmt_tree c.in-If.is ∙ c.trees_of_nodes.ensures.choose c.in-If.arms c.in-If.other ∙ ap (λ xs. choose (tarm_trees xs) (tother_tree c.in-If.other)) (sym c.deref.ensures.value) in
-    (omega (arith, ap stmt_weight is), (choose-arms (tstmt_tree c.args.s.now) (tarm_trees c.deref.result.now) (tother_tree c.in-If.other) c.args.state.now.values is c.requires.sound, omega (arith, ap stmt_depth is)))
+    let is = ap tstmt_tree c.in-If.is ∙ c.trees_of_nodes.ensures.if_ c.in-If.arms c.in-If.other ∙ ap (λ xs. if_ (tarm_trees xs) (tother_tree c.in-If.other)) (sym c.deref.ensures.value) in
+    (omega (arith, ap stmt_weight is), (if-arms (tstmt_tree c.args.s.now) (tarm_trees c.deref.result.now) (tother_tree c.in-If.other) c.args.state.now.values is c.requires.sound, omega (arith, ap stmt_depth is)))
 
 pub do_stmt-returns-in_err-do_arms-in-If-clause-done : goal.do_stmt-returns-in_err-do_arms-in-If-clause-done
 do_stmt-returns-in_err-do_arms-in-If-clause-done t c =
     let p = err_from_is_err_and c.from_residual-in_err-do_arms-in-If.result c.from_residual-in_err-do_arms-in-If.ensures.1 in
-    let is = ap tstmt_tree c.in-If.is ∙ c.trees_of_nodes.ensures.choose c.in-If.arms c.in-If.other ∙ ap (λ xs. choose (tarm_trees xs) (tother_tree c.in-If.other)) (sym c.deref.ensures.value) in
-    rw (p.1, p.2) (choose-is c.args.state.now.turns.items (tstmt_tree c.args.s.now) (tarm_trees c.deref.result.now) (tother_tree c.in-If.other) c.args.state.now.values _ is (c.in_err-do_arms-in-If.ensures.done (do_other c.args.state.now.turns.items (tother_tree c.in-If.other))))
+    let is = ap tstmt_tree c.in-If.is ∙ c.trees_of_nodes.ensures.if_ c.in-If.arms c.in-If.other ∙ ap (λ xs. if_ (tarm_trees xs) (tother_tree c.in-If.other)) (sym c.deref.ensures.value) in
+    rw (p.1, p.2) (if-is c.args.state.now.turns.items (tstmt_tree c.args.s.now) (tarm_trees c.deref.result.now) (tother_tree c.in-If.other) c.args.state.now.values _ is (c.in_err-do_arms-in-If.ensures.done (do_other c.args.state.now.turns.items (tother_tree c.in-If.other))))
 
 pub do_stmt-do_other-requires : goal.do_stmt-do_other-requires
 do_stmt-do_other-requires t c =
-    let is = ap tstmt_tree c.in-If.is ∙ c.trees_of_nodes.ensures.choose c.in-If.arms c.in-If.other ∙ ap (λ xs. choose (tarm_trees xs) (tother_tree c.in-If.other)) (sym c.deref.ensures.value) in
+    let is = ap tstmt_tree c.in-If.is ∙ c.trees_of_nodes.ensures.if_ c.in-If.arms c.in-If.other ∙ ap (λ xs. if_ (tarm_trees xs) (tother_tree c.in-If.other)) (sym c.deref.ensures.value) in
     let same = c.in_ok-do_arms-in-If.ensures.unchanged (ap (λ b. Ok b) c.if-branch.false) in
-    (omega (arith, ap stmt_weight is), (choose-other (tstmt_tree c.args.s.now) (tarm_trees c.deref.result.now) (tother_tree c.in-If.other) c.args.state.now.values c.do_arms.new.state.values is c.requires.sound same, omega (arith, ap stmt_depth is, ap length c.in_ok-do_arms-in-If.ensures.turns, c.do_arms.ensures.capacity)))
+    (omega (arith, ap stmt_weight is), (if-other (tstmt_tree c.args.s.now) (tarm_trees c.deref.result.now) (tother_tree c.in-If.other) c.args.state.now.values c.do_arms.new.state.values is c.requires.sound same, omega (arith, ap stmt_depth is, ap length c.in_ok-do_arms-in-If.ensures.turns, c.do_arms.ensures.capacity)))
 
 pub do_stmt-returns-then-branch-clause-done : goal.do_stmt-returns-then-branch-clause-done
 do_stmt-returns-then-branch-clause-done t c =
-    let is = ap tstmt_tree c.in-If.is ∙ c.trees_of_nodes.ensures.choose c.in-If.arms c.in-If.other ∙ ap (λ xs. choose (tarm_trees xs) (tother_tree c.in-If.other)) (sym c.deref.ensures.value) in
-    choose-is c.args.state.now.turns.items (tstmt_tree c.args.s.now) (tarm_trees c.deref.result.now) (tother_tree c.in-If.other) c.args.state.now.values _ is (ap (λ b. left_or (do_other c.args.state.now.turns.items (tother_tree c.in-If.other)) c.do_arms.new.state.values c.do_arms.new.state.turns.items (Ok b)) (sym c.if-branch.true) ∙ c.in_ok-do_arms-in-If.ensures.done (do_other c.args.state.now.turns.items (tother_tree c.in-If.other)))
+    let is = ap tstmt_tree c.in-If.is ∙ c.trees_of_nodes.ensures.if_ c.in-If.arms c.in-If.other ∙ ap (λ xs. if_ (tarm_trees xs) (tother_tree c.in-If.other)) (sym c.deref.ensures.value) in
+    if-is c.args.state.now.turns.items (tstmt_tree c.args.s.now) (tarm_trees c.deref.result.now) (tother_tree c.in-If.other) c.args.state.now.values _ is (ap (λ b. left_or (do_other c.args.state.now.turns.items (tother_tree c.in-If.other)) c.do_arms.new.state.values c.do_arms.new.state.turns.items (Ok b)) (sym c.if-branch.true) ∙ c.in_ok-do_arms-in-If.ensures.done (do_other c.args.state.now.turns.items (tother_tree c.in-If.other)))
 
 pub do_stmt-returns-else-branch-clause-done : goal.do_stmt-returns-else-branch-clause-done
 do_stmt-returns-else-branch-clause-done t c =
-    let is = ap tstmt_tree c.in-If.is ∙ c.trees_of_nodes.ensures.choose c.in-If.arms c.in-If.other ∙ ap (λ xs. choose (tarm_trees xs) (tother_tree c.in-If.other)) (sym c.deref.ensures.value) in
+    let is = ap tstmt_tree c.in-If.is ∙ c.trees_of_nodes.ensures.if_ c.in-If.arms c.in-If.other ∙ ap (λ xs. if_ (tarm_trees xs) (tother_tree c.in-If.other)) (sym c.deref.ensures.value) in
     let same = c.in_ok-do_arms-in-If.ensures.unchanged (ap (λ b. Ok b) c.if-branch.false) in
     let done = other-at c.do_arms.new.state.turns.items c.args.state.now.turns.items (tother_tree c.in-If.other) c.do_arms.new.state.values c.do_arms.new.state.values _ c.in_ok-do_arms-in-If.ensures.turns (λ i. c.do_arms.new.state.values) c.do_other.ensures.done in
-    choose-is c.args.state.now.turns.items (tstmt_tree c.args.s.now) (tarm_trees c.deref.result.now) (tother_tree c.in-If.other) c.args.state.now.values _ is (done ∙ (ap (λ b. left_or (do_other c.args.state.now.turns.items (tother_tree c.in-If.other)) c.do_arms.new.state.values c.do_arms.new.state.turns.items (Ok b)) (sym c.if-branch.false) ∙ c.in_ok-do_arms-in-If.ensures.done (do_other c.args.state.now.turns.items (tother_tree c.in-If.other))))
+    if-is c.args.state.now.turns.items (tstmt_tree c.args.s.now) (tarm_trees c.deref.result.now) (tother_tree c.in-If.other) c.args.state.now.values _ is (done ∙ (ap (λ b. left_or (do_other c.args.state.now.turns.items (tother_tree c.in-If.other)) c.do_arms.new.state.values c.do_arms.new.state.turns.items (Ok b)) (sym c.if-branch.false) ∙ c.in_ok-do_arms-in-If.ensures.done (do_other c.args.state.now.turns.items (tother_tree c.in-If.other))))
 
 pub do_stmt-returns-in_err-v-in-Case-clause-done : goal.do_stmt-returns-in_err-v-in-Case-clause-done
 do_stmt-returns-in_err-v-in-Case-clause-done t c =
     let p = err_from_is_err_and c.from_residual-in_err-v-in-Case.result c.from_residual-in_err-v-in-Case.ensures.1 in
-    let is = ap tstmt_tree c.in-Case.is ∙ c.trees_of_nodes-in-Case.ensures.select c.in-Case.on c.in-Case.branches c.in-Case.other c.in-Case.spot in
-    rw (p.1, p.2) (select-err c.args.state.now.turns.items (tstmt_tree c.args.s.now) (texpr_tree c.in-Case.on) _ (tother_tree c.in-Case.other) c.in-Case.spot c.args.state.now.values _ is c.in_err-v-in-Case.ensures)
+    let is = ap tstmt_tree c.in-Case.is ∙ c.trees_of_nodes-in-Case.ensures.case c.in-Case.on c.in-Case.branches c.in-Case.other c.in-Case.spot in
+    rw (p.1, p.2) (case-err c.args.state.now.turns.items (tstmt_tree c.args.s.now) (texpr_tree c.in-Case.on) _ (tother_tree c.in-Case.other) c.in-Case.spot c.args.state.now.values _ is c.in_err-v-in-Case.ensures)
 
 pub do_stmt-do_branches-requires : goal.do_stmt-do_branches-requires
 do_stmt-do_branches-requires t c =
-    let is = ap tstmt_tree c.in-Case.is ∙ c.trees_of_nodes-in-Case.ensures.select c.in-Case.on c.in-Case.branches c.in-Case.other c.in-Case.spot ∙ ap (λ xs. select (texpr_tree c.in-Case.on) (tbranch_trees xs) (tother_tree c.in-Case.other) c.in-Case.spot) (sym c.deref-in-Case.ensures.value) in
-    (omega (arith, ap stmt_weight is), (select-branches (tstmt_tree c.args.s.now) (texpr_tree c.in-Case.on) (tbranch_trees c.deref-in-Case.result.now) (tother_tree c.in-Case.other) c.in-Case.spot c.args.state.now.values is c.requires.sound, omega (arith, ap stmt_depth is)))
+    let is = ap tstmt_tree c.in-Case.is ∙ c.trees_of_nodes-in-Case.ensures.case c.in-Case.on c.in-Case.branches c.in-Case.other c.in-Case.spot ∙ ap (λ xs. case (texpr_tree c.in-Case.on) (tbranch_trees xs) (tother_tree c.in-Case.other) c.in-Case.spot) (sym c.deref-in-Case.ensures.value) in
+    (omega (arith, ap stmt_weight is), (case-branches (tstmt_tree c.args.s.now) (texpr_tree c.in-Case.on) (tbranch_trees c.deref-in-Case.result.now) (tother_tree c.in-Case.other) c.in-Case.spot c.args.state.now.values is c.requires.sound, omega (arith, ap stmt_depth is)))
 
 pub do_stmt-returns-in_err-do_branches-in-Case-clause-done : goal.do_stmt-returns-in_err-do_branches-in-Case-clause-done
 do_stmt-returns-in_err-do_branches-in-Case-clause-done t c =
     let p = err_from_is_err_and c.from_residual-in_err-do_branches-in-Case.result c.from_residual-in_err-do_branches-in-Case.ensures.1 in
-    let is = ap tstmt_tree c.in-Case.is ∙ c.trees_of_nodes-in-Case.ensures.select c.in-Case.on c.in-Case.branches c.in-Case.other c.in-Case.spot ∙ ap (λ xs. select (texpr_tree c.in-Case.on) (tbranch_trees xs) (tother_tree c.in-Case.other) c.in-Case.spot) (sym c.deref-in-Case.ensures.value) in
+    let is = ap tstmt_tree c.in-Case.is ∙ c.trees_of_nodes-in-Case.ensures.case c.in-Case.on c.in-Case.branches c.in-Case.other c.in-Case.spot ∙ ap (λ xs. case (texpr_tree c.in-Case.on) (tbranch_trees xs) (tother_tree c.in-Case.other) c.in-Case.spot) (sym c.deref-in-Case.ensures.value) in
     let f : SFits w64 c.in_ok-v-in-Case.v = search rules in
-    rw (p.1, p.2) (select-is c.args.state.now.turns.items (tstmt_tree c.args.s.now) (texpr_tree c.in-Case.on) (tbranch_trees c.deref-in-Case.result.now) (tother_tree c.in-Case.other) c.in-Case.spot c.args.state.now.values c.in_ok-v-in-Case.v _ is c.in_ok-v-in-Case.ensures (branches-value c.args.state.now.turns.items c.in_ok-v-in-Case.v (to_z w64 (of_z w64 c.in_ok-v-in-Case.v)) (tbranch_trees c.deref-in-Case.result.now) (do_other c.args.state.now.turns.items (tother_tree c.in-Case.other)) c.args.state.now.values _ (to_z-of_z w64 c.in_ok-v-in-Case.v f) (c.in_err-do_branches-in-Case.ensures.done (do_other c.args.state.now.turns.items (tother_tree c.in-Case.other)))))
+    rw (p.1, p.2) (case-is c.args.state.now.turns.items (tstmt_tree c.args.s.now) (texpr_tree c.in-Case.on) (tbranch_trees c.deref-in-Case.result.now) (tother_tree c.in-Case.other) c.in-Case.spot c.args.state.now.values c.in_ok-v-in-Case.v _ is c.in_ok-v-in-Case.ensures (branches-value c.args.state.now.turns.items c.in_ok-v-in-Case.v (to_z w64 (of_z w64 c.in_ok-v-in-Case.v)) (tbranch_trees c.deref-in-Case.result.now) (do_other c.args.state.now.turns.items (tother_tree c.in-Case.other)) c.args.state.now.values _ (to_z-of_z w64 c.in_ok-v-in-Case.v f) (c.in_err-do_branches-in-Case.ensures.done (do_other c.args.state.now.turns.items (tother_tree c.in-Case.other)))))
 
 pub do_stmt-do_other-requires-else-branch-2 : goal.do_stmt-do_other-requires-else-branch-2
 do_stmt-do_other-requires-else-branch-2 t c =
-    let is = ap tstmt_tree c.in-Case.is ∙ c.trees_of_nodes-in-Case.ensures.select c.in-Case.on c.in-Case.branches c.in-Case.other c.in-Case.spot ∙ ap (λ xs. select (texpr_tree c.in-Case.on) (tbranch_trees xs) (tother_tree c.in-Case.other) c.in-Case.spot) (sym c.deref-in-Case.ensures.value) in
+    let is = ap tstmt_tree c.in-Case.is ∙ c.trees_of_nodes-in-Case.ensures.case c.in-Case.on c.in-Case.branches c.in-Case.other c.in-Case.spot ∙ ap (λ xs. case (texpr_tree c.in-Case.on) (tbranch_trees xs) (tother_tree c.in-Case.other) c.in-Case.spot) (sym c.deref-in-Case.ensures.value) in
     let same = c.in_ok-do_branches-in-Case.ensures.unchanged (ap (λ b. Ok b) c.if-branch-2.false) in
-    (omega (arith, ap stmt_weight is), (select-other (tstmt_tree c.args.s.now) (texpr_tree c.in-Case.on) (tbranch_trees c.deref-in-Case.result.now) (tother_tree c.in-Case.other) c.in-Case.spot c.args.state.now.values c.do_branches.new.state.values is c.requires.sound same, omega (arith, ap stmt_depth is, ap length c.in_ok-do_branches-in-Case.ensures.turns, c.do_branches.ensures.capacity)))
+    (omega (arith, ap stmt_weight is), (case-other (tstmt_tree c.args.s.now) (texpr_tree c.in-Case.on) (tbranch_trees c.deref-in-Case.result.now) (tother_tree c.in-Case.other) c.in-Case.spot c.args.state.now.values c.do_branches.new.state.values is c.requires.sound same, omega (arith, ap stmt_depth is, ap length c.in_ok-do_branches-in-Case.ensures.turns, c.do_branches.ensures.capacity)))
 
 pub do_stmt-returns-then-branch-2-clause-done : goal.do_stmt-returns-then-branch-2-clause-done
 do_stmt-returns-then-branch-2-clause-done t c =
-    let is = ap tstmt_tree c.in-Case.is ∙ c.trees_of_nodes-in-Case.ensures.select c.in-Case.on c.in-Case.branches c.in-Case.other c.in-Case.spot ∙ ap (λ xs. select (texpr_tree c.in-Case.on) (tbranch_trees xs) (tother_tree c.in-Case.other) c.in-Case.spot) (sym c.deref-in-Case.ensures.value) in
+    let is = ap tstmt_tree c.in-Case.is ∙ c.trees_of_nodes-in-Case.ensures.case c.in-Case.on c.in-Case.branches c.in-Case.other c.in-Case.spot ∙ ap (λ xs. case (texpr_tree c.in-Case.on) (tbranch_trees xs) (tother_tree c.in-Case.other) c.in-Case.spot) (sym c.deref-in-Case.ensures.value) in
     let f : SFits w64 c.in_ok-v-in-Case.v = search rules in
-    select-is c.args.state.now.turns.items (tstmt_tree c.args.s.now) (texpr_tree c.in-Case.on) (tbranch_trees c.deref-in-Case.result.now) (tother_tree c.in-Case.other) c.in-Case.spot c.args.state.now.values c.in_ok-v-in-Case.v _ is c.in_ok-v-in-Case.ensures (branches-value c.args.state.now.turns.items c.in_ok-v-in-Case.v (to_z w64 (of_z w64 c.in_ok-v-in-Case.v)) (tbranch_trees c.deref-in-Case.result.now) (do_other c.args.state.now.turns.items (tother_tree c.in-Case.other)) c.args.state.now.values _ (to_z-of_z w64 c.in_ok-v-in-Case.v f) (ap (λ b. left_or (do_other c.args.state.now.turns.items (tother_tree c.in-Case.other)) c.do_branches.new.state.values c.do_branches.new.state.turns.items (Ok b)) (sym c.if-branch-2.true) ∙ c.in_ok-do_branches-in-Case.ensures.done (do_other c.args.state.now.turns.items (tother_tree c.in-Case.other))))
+    case-is c.args.state.now.turns.items (tstmt_tree c.args.s.now) (texpr_tree c.in-Case.on) (tbranch_trees c.deref-in-Case.result.now) (tother_tree c.in-Case.other) c.in-Case.spot c.args.state.now.values c.in_ok-v-in-Case.v _ is c.in_ok-v-in-Case.ensures (branches-value c.args.state.now.turns.items c.in_ok-v-in-Case.v (to_z w64 (of_z w64 c.in_ok-v-in-Case.v)) (tbranch_trees c.deref-in-Case.result.now) (do_other c.args.state.now.turns.items (tother_tree c.in-Case.other)) c.args.state.now.values _ (to_z-of_z w64 c.in_ok-v-in-Case.v f) (ap (λ b. left_or (do_other c.args.state.now.turns.items (tother_tree c.in-Case.other)) c.do_branches.new.state.values c.do_branches.new.state.turns.items (Ok b)) (sym c.if-branch-2.true) ∙ c.in_ok-do_branches-in-Case.ensures.done (do_other c.args.state.now.turns.items (tother_tree c.in-Case.other))))
 
 pub do_stmt-returns-else-branch-2-clause-done : goal.do_stmt-returns-else-branch-2-clause-done
 do_stmt-returns-else-branch-2-clause-done t c =
-    let is = ap tstmt_tree c.in-Case.is ∙ c.trees_of_nodes-in-Case.ensures.select c.in-Case.on c.in-Case.branches c.in-Case.other c.in-Case.spot ∙ ap (λ xs. select (texpr_tree c.in-Case.on) (tbranch_trees xs) (tother_tree c.in-Case.other) c.in-Case.spot) (sym c.deref-in-Case.ensures.value) in
+    let is = ap tstmt_tree c.in-Case.is ∙ c.trees_of_nodes-in-Case.ensures.case c.in-Case.on c.in-Case.branches c.in-Case.other c.in-Case.spot ∙ ap (λ xs. case (texpr_tree c.in-Case.on) (tbranch_trees xs) (tother_tree c.in-Case.other) c.in-Case.spot) (sym c.deref-in-Case.ensures.value) in
     let f : SFits w64 c.in_ok-v-in-Case.v = search rules in
     let done = other-at c.do_branches.new.state.turns.items c.args.state.now.turns.items (tother_tree c.in-Case.other) c.do_branches.new.state.values c.do_branches.new.state.values _ c.in_ok-do_branches-in-Case.ensures.turns (λ i. c.do_branches.new.state.values) c.do_other-else-branch-2.ensures.done in
-    select-is c.args.state.now.turns.items (tstmt_tree c.args.s.now) (texpr_tree c.in-Case.on) (tbranch_trees c.deref-in-Case.result.now) (tother_tree c.in-Case.other) c.in-Case.spot c.args.state.now.values c.in_ok-v-in-Case.v _ is c.in_ok-v-in-Case.ensures (done ∙ (branches-value c.args.state.now.turns.items c.in_ok-v-in-Case.v (to_z w64 (of_z w64 c.in_ok-v-in-Case.v)) (tbranch_trees c.deref-in-Case.result.now) (do_other c.args.state.now.turns.items (tother_tree c.in-Case.other)) c.args.state.now.values _ (to_z-of_z w64 c.in_ok-v-in-Case.v f) (ap (λ b. left_or (do_other c.args.state.now.turns.items (tother_tree c.in-Case.other)) c.do_branches.new.state.values c.do_branches.new.state.turns.items (Ok b)) (sym c.if-branch-2.false) ∙ c.in_ok-do_branches-in-Case.ensures.done (do_other c.args.state.now.turns.items (tother_tree c.in-Case.other)))))
+    case-is c.args.state.now.turns.items (tstmt_tree c.args.s.now) (texpr_tree c.in-Case.on) (tbranch_trees c.deref-in-Case.result.now) (tother_tree c.in-Case.other) c.in-Case.spot c.args.state.now.values c.in_ok-v-in-Case.v _ is c.in_ok-v-in-Case.ensures (done ∙ (branches-value c.args.state.now.turns.items c.in_ok-v-in-Case.v (to_z w64 (of_z w64 c.in_ok-v-in-Case.v)) (tbranch_trees c.deref-in-Case.result.now) (do_other c.args.state.now.turns.items (tother_tree c.in-Case.other)) c.args.state.now.values _ (to_z-of_z w64 c.in_ok-v-in-Case.v f) (ap (λ b. left_or (do_other c.args.state.now.turns.items (tother_tree c.in-Case.other)) c.do_branches.new.state.values c.do_branches.new.state.turns.items (Ok b)) (sym c.if-branch-2.false) ∙ c.in_ok-do_branches-in-Case.ensures.done (do_other c.args.state.now.turns.items (tother_tree c.in-Case.other)))))
 
 pub do_stmt-set-requires-then-turns-eq0 : goal.do_stmt-set-requires-then-turns-eq0
 do_stmt-set-requires-then-turns-eq0 t c =
-    let is = ap tstmt_tree c.in-For.is ∙ c.trees_of_nodes-in-For.ensures.count c.in-For.slot c.in-For.first c.in-For.by c.in-For.turns c.in-For.body c.in-For.spot in
-    count-inside (tstmt_tree c.args.s.now) c.in-For.slot c.in-For.first c.in-For.by c.in-For.turns (tstmt_trees c.in-For.body.items.items) c.in-For.spot c.args.state.now.values is c.requires.sound
+    let is = ap tstmt_tree c.in-For.is ∙ c.trees_of_nodes-in-For.ensures.for_ c.in-For.slot c.in-For.first c.in-For.by c.in-For.turns c.in-For.body c.in-For.spot in
+    for-inside (tstmt_tree c.args.s.now) c.in-For.slot c.in-For.first c.in-For.by c.in-For.turns (tstmt_trees c.in-For.body.items.items) c.in-For.spot c.args.state.now.values is c.requires.sound
 
 pub do_stmt-do_turns-requires : goal.do_stmt-do_turns-requires
 do_stmt-do_turns-requires t c =
-    let is = ap tstmt_tree c.in-For.is ∙ c.trees_of_nodes-in-For.ensures.count c.in-For.slot c.in-For.first c.in-For.by c.in-For.turns c.in-For.body c.in-For.spot ∙ ap (λ xs. count c.in-For.slot c.in-For.first c.in-For.by c.in-For.turns (tstmt_trees xs) c.in-For.spot) (sym c.deref-else-turns-eq0.ensures.value) in
+    let is = ap tstmt_tree c.in-For.is ∙ c.trees_of_nodes-in-For.ensures.for_ c.in-For.slot c.in-For.first c.in-For.by c.in-For.turns c.in-For.body c.in-For.spot ∙ ap (λ xs. for_ c.in-For.slot c.in-For.first c.in-For.by c.in-For.turns (tstmt_trees xs) c.in-For.spot) (sym c.deref-else-turns-eq0.ensures.value) in
     let f : SFits w64 c.in-For.first = search rules in
     let g : SFits w64 c.in-For.by = search rules in
     let some : 0 < c.in-For.turns = omega (arith, c.if-turns-eq0.false) in
     let deep = depth-of-for c.in-For.slot c.in-For.first c.in-For.by c.in-For.turns (tstmt_trees c.deref-else-turns-eq0.result.now) c.in-For.spot some in
-    (omega (arith, ap stmt_weight is), (some, (sound-at c.in-For.slot _ _ _ _ c.in-For.turns _ c.args.state.now.values (count-sound (tstmt_tree c.args.s.now) c.in-For.slot c.in-For.first c.in-For.by c.in-For.turns (tstmt_trees c.deref-else-turns-eq0.result.now) c.in-For.spot c.args.state.now.values is c.requires.sound) (to_z-of_z w64 c.in-For.first f) (to_z-of_z w64 c.in-For.by g), omega (arith, ap stmt_depth is ∙ deep))))
+    (omega (arith, ap stmt_weight is), (some, (sound-at c.in-For.slot _ _ _ _ c.in-For.turns _ c.args.state.now.values (for-sound (tstmt_tree c.args.s.now) c.in-For.slot c.in-For.first c.in-For.by c.in-For.turns (tstmt_trees c.deref-else-turns-eq0.result.now) c.in-For.spot c.args.state.now.values is c.requires.sound) (to_z-of_z w64 c.in-For.first f) (to_z-of_z w64 c.in-For.by g), omega (arith, ap stmt_depth is ∙ deep))))
 
 pub do_stmt-returns-else-turns-eq0-clause-done : goal.do_stmt-returns-else-turns-eq0-clause-done
 do_stmt-returns-else-turns-eq0-clause-done t c =
-    let is = ap tstmt_tree c.in-For.is ∙ c.trees_of_nodes-in-For.ensures.count c.in-For.slot c.in-For.first c.in-For.by c.in-For.turns c.in-For.body c.in-For.spot ∙ ap (λ xs. count c.in-For.slot c.in-For.first c.in-For.by c.in-For.turns (tstmt_trees xs) c.in-For.spot) (sym c.deref-else-turns-eq0.ensures.value) in
+    let is = ap tstmt_tree c.in-For.is ∙ c.trees_of_nodes-in-For.ensures.for_ c.in-For.slot c.in-For.first c.in-For.by c.in-For.turns c.in-For.body c.in-For.spot ∙ ap (λ xs. for_ c.in-For.slot c.in-For.first c.in-For.by c.in-For.turns (tstmt_trees xs) c.in-For.spot) (sym c.deref-else-turns-eq0.ensures.value) in
     let f : SFits w64 c.in-For.first = search rules in
     let g : SFits w64 c.in-For.by = search rules in
-    count-some c.args.state.now.turns.items (tstmt_tree c.args.s.now) c.in-For.slot c.in-For.first c.in-For.by c.in-For.turns (tstmt_trees c.deref-else-turns-eq0.result.now) c.in-For.spot c.args.state.now.values _ is (turns-at c.in-For.slot _ _ _ _ c.in-For.turns _ c.args.state.now.values _ (to_z-of_z w64 c.in-For.first f) (to_z-of_z w64 c.in-For.by g) c.do_turns.ensures.done)
+    for-some c.args.state.now.turns.items (tstmt_tree c.args.s.now) c.in-For.slot c.in-For.first c.in-For.by c.in-For.turns (tstmt_trees c.deref-else-turns-eq0.result.now) c.in-For.spot c.args.state.now.values _ is (turns-at c.in-For.slot _ _ _ _ c.in-For.turns _ c.args.state.now.values _ (to_z-of_z w64 c.in-For.first f) (to_z-of_z w64 c.in-For.by g) c.do_turns.ensures.done)
 
 pub do_turns-enter-requires-clause-slot : goal.do_turns-enter-requires-clause-slot
 do_turns-enter-requires-clause-slot t c =
@@ -204,17 +205,11 @@ do_turns-do_stmts-requires t c =
     let is : (c.args.turns - c.turns.turn) ≡ suc (c.args.turns - (c.turns.turn + 1)) = omega (arith, c.turns-test.true) in
     (omega arith, (turns-enter c.args.slot _ _ _ (c.args.turns - (c.turns.turn + 1)) (tstmt_trees c.args.body.now) c.turns.state.values c.enter.new.self.values is c.turns.invariant.sound c.enter.ensures.values, omega (arith, ap length c.enter.ensures.turns, length-append c.turns.state.turns.items (record { name = c.args.slot; value = to_z w64 c.turns.value-bits } ∷ []), ap length c.turns.invariant.turns, c.enter.ensures.capacity, c.turns.invariant.capacity, c.requires.room)))
 
-pub do_turns-next_value-value-requires-clause-low : goal.do_turns-next_value-value-requires-clause-low
-do_turns-next_value-value-requires-clause-low t c e =
+pub do_turns-next_value-value-requires : goal.do_turns-next_value-value-requires
+do_turns-next_value-value-requires t c e =
     let lt : c.turns.turn + 1 < c.args.turns = omega (arith, ltb-true, e) in
     let is : (c.args.turns - c.turns.turn) ≡ suc (suc (c.args.turns - (c.turns.turn + 2))) = omega (arith, lt) in
-    turns-low c.args.slot _ _ _ _ _ _ is c.turns.invariant.sound
-
-pub do_turns-next_value-value-requires-clause-high : goal.do_turns-next_value-value-requires-clause-high
-do_turns-next_value-value-requires-clause-high t c e =
-    let lt : c.turns.turn + 1 < c.args.turns = omega (arith, ltb-true, e) in
-    let is : (c.args.turns - c.turns.turn) ≡ suc (suc (c.args.turns - (c.turns.turn + 2))) = omega (arith, lt) in
-    turns-high c.args.slot _ _ _ _ _ _ is c.turns.invariant.sound
+    next-width c.args.slot _ _ _ _ _ _ is c.turns.invariant.sound
 
 pub do_turns-turns-preserved : goal.do_turns-turns-preserved
 do_turns-turns-preserved t c =

@@ -1,7 +1,7 @@
 use Rattle.std.proofs.Common.{◌≡◌, ◌≤◌, ◌+◌, ◌-◌, ◌++◌, ◌∷◌, [], drop, length, vec_capacity}
 use Rattle.st_plain.specs.Outcomes.{Doing}
 use Rattle.vcp_typed.specs.Meaning.{turns_from, all_turns, do_stmts, do_arms, do_branches}
-use Rattle.vcp_typed.specs.TStmtTree.{tstmt_tree, tstmt_trees, tarm_trees, tbranch_trees, tother_tree}
+use Rattle.vcp_typed.specs.TStmtViews.{tstmt_tree, tstmt_trees, tarm_trees, tbranch_trees, tother_tree}
 use Rattle.st_plain.specs.Depth.{stmts_depth, arms_depth, branches_depth}
 use Rattle.st_plain.specs.Sound.{SoundStmts, SoundArms, SoundBranches, SoundTurns}
 use Rattle.st_plain.specs.Weight.{stmt_weight, stmts_weight, arms_weight, branches_weight, other_weight}
