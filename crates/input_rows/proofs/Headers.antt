@@ -3,7 +3,8 @@ use Rattle.std.proofs.Common.{◌≡◌, ◌<◌, ◌≤◌, ℕ, ◌+◌, zero,
 use Rattle.std.proofs.lemmas.List.{drop_all}
 use Rattle.std.proofs.lemmas.Bool.{eq-eqb}
 use Rattle.vcp_base.specs.declared.columns.Column.{Column}
-use Rattle.input_rows.specs.Cells.{is_same, trimmed}
+use Rattle.vcp_base.specs.Names.{is_same_name}
+use Rattle.input_rows.specs.Cells.{trimmed}
 use Rattle.input_rows.specs.Header.{place_of, places_of, places_after, order_of}
 
 -- a place found among the columns from i on, as a place among all
@@ -31,24 +32,24 @@ before-none None = refl
 before-none (Some qs) = refl
 
 -- the column at i isn't the one
-place-next : (columns : List Column) (free : List Bool) (name : List ℕ) (i : ℕ) (c : Column) → slice_get columns i ≡ Some c → i < length free → (get_or free i false && is_same c.name name) ≡ false
+place-next : (columns : List Column) (free : List Bool) (name : List ℕ) (i : ℕ) (c : Column) → slice_get columns i ≡ Some c → i < length free → (get_or free i false && is_same_name c.name name) ≡ false
     → place_of (drop i columns) (drop i free) name ≡ option_map (λ p. p + 1) (place_of (drop (suc i) columns) (drop (suc i) free) name)
 place-next [] free name i c e l f = absurd cc
 place-next (d ∷ columns) [] name i c e l f = absurd (omega arith)
 place-next (d ∷ columns) (b ∷ free) name zero c e l f =
     let same : d ≡ c = cc in
-    let test : (b && is_same d.name name) ≡ false = rw same f in
+    let test : (b && is_same_name d.name name) ≡ false = rw same f in
     rw test refl
 place-next (d ∷ columns) (b ∷ free) name (suc i) c e l f = place-next columns free name i c e (omega arith) f
 
 -- the column at i is the one
-place-here : (columns : List Column) (free : List Bool) (name : List ℕ) (i : ℕ) (c : Column) → slice_get columns i ≡ Some c → i < length free → (get_or free i false && is_same c.name name) ≡ true
+place-here : (columns : List Column) (free : List Bool) (name : List ℕ) (i : ℕ) (c : Column) → slice_get columns i ≡ Some c → i < length free → (get_or free i false && is_same_name c.name name) ≡ true
     → place_of (drop i columns) (drop i free) name ≡ Some 0
 place-here [] free name i c e l f = absurd cc
 place-here (d ∷ columns) [] name i c e l f = absurd (omega arith)
 place-here (d ∷ columns) (b ∷ free) name zero c e l f =
     let same : d ≡ c = cc in
-    let test : (b && is_same d.name name) ≡ true = rw same f in
+    let test : (b && is_same_name d.name name) ≡ true = rw same f in
     rw test refl
 place-here (d ∷ columns) (b ∷ free) name (suc i) c e l f = place-here columns free name i c e (omega arith) f
 
@@ -61,14 +62,14 @@ place-end (d ∷ columns) [] name i e l = absurd (omega arith)
 place-end (d ∷ columns) (b ∷ free) name zero e l = absurd (omega arith)
 place-end (d ∷ columns) (b ∷ free) name (suc i) e l = place-end columns free name i (omega arith) (omega arith)
 
-pub goes_on : (columns : List Column) (free : List Bool) (name : List ℕ) (i : ℕ) (c : Column) (o : Option ℕ) → o ≡ from_place i (place_of (drop i columns) (drop i free) name) → slice_get columns i ≡ Some c → i < length free → (get_or free i false && is_same c.name name) ≡ false
+pub goes_on : (columns : List Column) (free : List Bool) (name : List ℕ) (i : ℕ) (c : Column) (o : Option ℕ) → o ≡ from_place i (place_of (drop i columns) (drop i free) name) → slice_get columns i ≡ Some c → i < length free → (get_or free i false && is_same_name c.name name) ≡ false
     → o ≡ from_place (i + 1) (place_of (drop (i + 1) columns) (drop (i + 1) free) name)
 goes_on columns free name i c o h e l f =
     let k : o ≡ from_place (i + 1) (place_of (drop (suc i) columns) (drop (suc i) free) name) =
     h ∙ ap (from_place i) (place-next columns free name i c e l f) ∙ from-next i (place_of (drop (suc i) columns) (drop (suc i) free) name) in
     simp add-one (simp add-one at k)
 
-pub found_here : (columns : List Column) (free : List Bool) (name : List ℕ) (i : ℕ) (c : Column) (o : Option ℕ) → o ≡ from_place i (place_of (drop i columns) (drop i free) name) → slice_get columns i ≡ Some c → i < length free → (get_or free i false && is_same c.name name) ≡ true
+pub found_here : (columns : List Column) (free : List Bool) (name : List ℕ) (i : ℕ) (c : Column) (o : Option ℕ) → o ≡ from_place i (place_of (drop i columns) (drop i free) name) → slice_get columns i ≡ Some c → i < length free → (get_or free i false && is_same_name c.name name) ≡ true
     → o ≡ Some i
 found_here columns free name i c o h e l f = h ∙ ap (from_place i) (place-here columns free name i c e l f) ∙ ap Some (omega arith)
 

@@ -1,6 +1,7 @@
 -- What is left of records, whatever they are.
 use Rattle.std.proofs.Common.{◌≡◌, ◌≤◌, ℕ, ◌+◌, ◌-◌, Bool, true, false, ◌==◌, nat_lt, cond, List, [], ◌∷◌, length, map, replicate, Option, Some, None, IfSome, IfErr, Result, Ok, Err, ℤ, pos, refl, arith}
 use Rattle.std.proofs.lemmas.Bool.{ltb-true}
+use Rattle.vcp_base.specs.Limits.{most_cycles}
 use Rattle.vcp_base.specs.declared.ty.Ty.{Ty}
 use Rattle.input_rows.specs.declared.fault.RowFault.{RowFault}
 use Rattle.input_rows.specs.declared.fault.RowFault.TheVariants as fault
@@ -13,7 +14,7 @@ before-types types (Err why) more e = refl
 
 pub types-from : (types : List Ty) (order : List ℕ) (cycle : ℕ) (records : List (List (List ℕ))) → (rows_from types order cycle records).types ≡ types
 types-from types order cycle [] = refl
-types-from types order cycle (cells ∷ records) = by_test (nat_lt cycle 1000000) (types-from types order (cycle + 1) records)
+types-from types order cycle (cells ∷ records) = by_test (nat_lt cycle most_cycles) (types-from types order (cycle + 1) records)
   where
     by_test : (b : Bool) → (rows_from types order (cycle + 1) records).types ≡ types
         → (cond b (row_before types (row_of types order (cycle + 2) cells) (rows_from types order (cycle + 1) records)) (no_rows types (Some fault.Cycles))).types ≡ types
@@ -26,7 +27,7 @@ before-fresh types (Err why) more e = refl
 
 pub fresh-from : (types : List Ty) (order : List ℕ) (cycle : ℕ) (records : List (List (List ℕ))) → (rows_from types order cycle records).refused ≡ false
 fresh-from types order cycle [] = refl
-fresh-from types order cycle (cells ∷ records) = by_test (nat_lt cycle 1000000) (fresh-from types order (cycle + 1) records)
+fresh-from types order cycle (cells ∷ records) = by_test (nat_lt cycle most_cycles) (fresh-from types order (cycle + 1) records)
   where
     by_test : (b : Bool) → (rows_from types order (cycle + 1) records).refused ≡ false
         → (cond b (row_before types (row_of types order (cycle + 2) cells) (rows_from types order (cycle + 1) records)) (no_rows types (Some fault.Cycles))).refused ≡ false
@@ -46,15 +47,15 @@ before-few : (types : List Ty) (r : Result (List ℤ) RowFault) (more : RowsLeft
 before-few types (Ok row) more n e = omega arith
 before-few types (Err why) more n e = omega arith
 
-pub few-from : (types : List Ty) (order : List ℕ) (cycle : ℕ) (records : List (List (List ℕ))) → length (rows_from types order cycle records).rows ≤ 1000000 - cycle
+pub few-from : (types : List Ty) (order : List ℕ) (cycle : ℕ) (records : List (List (List ℕ))) → length (rows_from types order cycle records).rows ≤ most_cycles - cycle
 few-from types order cycle [] = omega arith
-few-from types order cycle (cells ∷ records) = by_test (nat_lt cycle 1000000) refl (few-from types order (cycle + 1) records)
+few-from types order cycle (cells ∷ records) = by_test (nat_lt cycle most_cycles) refl (few-from types order (cycle + 1) records)
   where
-    by_test : (b : Bool) → nat_lt cycle 1000000 ≡ b → length (rows_from types order (cycle + 1) records).rows ≤ 1000000 - (cycle + 1)
-        → length (cond b (row_before types (row_of types order (cycle + 2) cells) (rows_from types order (cycle + 1) records)) (no_rows types (Some fault.Cycles))).rows ≤ 1000000 - cycle
+    by_test : (b : Bool) → nat_lt cycle most_cycles ≡ b → length (rows_from types order (cycle + 1) records).rows ≤ most_cycles - (cycle + 1)
+        → length (cond b (row_before types (row_of types order (cycle + 2) cells) (rows_from types order (cycle + 1) records)) (no_rows types (Some fault.Cycles))).rows ≤ most_cycles - cycle
     by_test true t e =
-        let less = ltb-true cycle 1000000 t in
-        let k = before-few types (row_of types order (cycle + 2) cells) (rows_from types order (cycle + 1) records) (1000000 - (cycle + 1)) e in
+        let less = ltb-true cycle most_cycles t in
+        let k = before-few types (row_of types order (cycle + 2) cells) (rows_from types order (cycle + 1) records) (most_cycles - (cycle + 1)) e in
         omega arith
     by_test false t e = omega arith
 
@@ -76,7 +77,7 @@ before-kind types (Err why) more k e = k
 
 pub kind-from : (types : List Ty) (order : List ℕ) (cycle : ℕ) (records : List (List (List ℕ))) → IfSome (rows_from types order cycle records).refusal IsOfRecord
 kind-from types order cycle [] = tt
-kind-from types order cycle (cells ∷ records) = by_test (nat_lt cycle 1000000) (kind-from types order (cycle + 1) records)
+kind-from types order cycle (cells ∷ records) = by_test (nat_lt cycle most_cycles) (kind-from types order (cycle + 1) records)
   where
     by_test : (b : Bool) → IfSome (rows_from types order (cycle + 1) records).refusal IsOfRecord
         → IfSome (cond b (row_before types (row_of types order (cycle + 2) cells) (rows_from types order (cycle + 1) records)) (no_rows types (Some fault.Cycles))).refusal IsOfRecord

@@ -3,7 +3,8 @@ use Rattle.std.proofs.Common.{◌≡◌, ◌≢◌, ◌⊎◌, inl, inr, ◌<◌
 use Rattle.std.proofs.lemmas.Bool.Decides.{eqb_tells}
 use Rattle.std.proofs.lemmas.List.{get_or-set_other, get_or-replicate}
 use Rattle.vcp_base.specs.declared.columns.Column.{Column}
-use Rattle.input_rows.specs.Cells.{is_same, trimmed}
+use Rattle.vcp_base.specs.Names.{is_same_name}
+use Rattle.input_rows.specs.Cells.{trimmed}
 use Rattle.input_rows.specs.Header.{place_of, places_of, places_after, order_of, IsOrder}
 
 -- how many columns are free
@@ -42,10 +43,10 @@ first false b e = absurd cc
 place-free : (columns : List Column) (free : List Bool) (name : List ℕ) (p : ℕ) → place_of columns free name ≡ Some p → (get_or free p false ≡ true) × (p < length columns)
 place-free [] free name p e = absurd cc
 place-free (c ∷ columns) [] name p e = absurd cc
-place-free (c ∷ columns) (f ∷ free) name p e = by_case (place-free columns free name) (by_test (f && is_same c.name name) (place_of columns free name) p e)
+place-free (c ∷ columns) (f ∷ free) name p e = by_case (place-free columns free name) (by_test (f && is_same_name c.name name) (place_of columns free name) p e)
   where
-    by_case : ((q : ℕ) → place_of columns free name ≡ Some q → (get_or free q false ≡ true) × (q < length columns)) → (((f && is_same c.name name) ≡ true) × (p ≡ 0)) ⊎ ((q : ℕ) × (place_of columns free name ≡ Some q) × (p ≡ suc q)) → (get_or (f ∷ free) p false ≡ true) × (p < length (c ∷ columns))
-    by_case ih (inl h) = rw h.1 (first f (is_same c.name name) h.0, omega arith)
+    by_case : ((q : ℕ) → place_of columns free name ≡ Some q → (get_or free q false ≡ true) × (q < length columns)) → (((f && is_same_name c.name name) ≡ true) × (p ≡ 0)) ⊎ ((q : ℕ) × (place_of columns free name ≡ Some q) × (p ≡ suc q)) → (get_or (f ∷ free) p false ≡ true) × (p < length (c ∷ columns))
+    by_case ih (inl h) = rw h.1 (first f (is_same_name c.name name) h.0, omega arith)
     by_case ih (inr h) = let k = ih h.0 h.1 in rw h.2 (k.0, omega arith)
 
 -- what a list of places begins with

@@ -1,5 +1,6 @@
 -- What holds of the rows of any bytes.
 use Rattle.std.proofs.Common.{◌≡◌, ◌≤◌, ℕ, false, List, [], ◌∷◌, length, All, Option, Some, None, IfSome, Ok, arith}
+use Rattle.vcp_base.specs.Limits.{most_cycles}
 use Rattle.vcp_base.specs.Types.{AreIn}
 use Rattle.vcp_base.specs.declared.columns.Column.{Column}
 use Rattle.input_rows.specs.Header.{order_of}
@@ -10,7 +11,7 @@ use Rattle.input_rows.proofs.Typed.{rows-in}
 pub record Sound (columns : List Column) (left : RowsLeft) : Type 0 where
   pub types : left.types ≡ types_of columns
   pub typed : All (AreIn left.types) left.rows
-  pub few : length left.rows ≤ 1000000
+  pub few : length left.rows ≤ most_cycles
   pub behind : IfSome left.refusal IsOfRecord
   pub fresh : left.refused ≡ false
 

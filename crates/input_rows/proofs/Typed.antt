@@ -1,12 +1,14 @@
 -- Each value of a row is one of its type.
 use Rattle.std.proofs.Common.{◌≡◌, ℕ, ◌+◌, zero, suc, Bool, true, false, ◌==◌, nat_lt, cond, List, [], ◌∷◌, length, map, slice_set, replicate, All, Option, Some, None, option_and_then, Result, Ok, Err, IfOk, ℤ, pos, refl, codes, ◌||◌}
 use Rattle.std.proofs.lemmas.List.Elements.{All-nil, All-cons}
+use Rattle.vcp_base.specs.Limits.{most_cycles}
 use Rattle.vcp_base.specs.declared.ty.Ty.{Ty}
 use Rattle.vcp_base.specs.declared.ty.Ty.TheVariants as ty
+use Rattle.vcp_base.specs.Names.{is_same_name}
 use Rattle.vcp_base.specs.Types.{fits, AreIn}
 use Rattle.input_rows.specs.declared.fault.RowFault.{RowFault}
 use Rattle.input_rows.specs.declared.fault.RowFault.TheVariants as fault
-use Rattle.input_rows.specs.Cells.{is_same, trimmed, integer_of, in_type, spelled, value_of}
+use Rattle.input_rows.specs.Cells.{trimmed, integer_of, in_type, spelled, value_of}
 use Rattle.input_rows.specs.RowsOf.{RowsLeft, type_at, values_of, values_after, placed, row_onto, row_of, row_before, no_rows, rows_from}
 
 in-type : (t : Ty) (o : Option ℤ) (v : ℤ) → option_and_then (in_type t) o ≡ Some v → fits t v ≡ true
@@ -23,7 +25,7 @@ truth-fits false true v e = let k : pos 0 ≡ v = cc in rw (← k) refl
 truth-fits false false v e = absurd cc
 
 spelled-fits : (t : Ty) (text : List ℕ) (v : ℤ) → spelled t text ≡ Some v → fits t v ≡ true
-spelled-fits ty.Bool text v e = truth-fits (is_same text (codes "1") || is_same text (codes "true")) (is_same text (codes "0") || is_same text (codes "false")) v e
+spelled-fits ty.Bool text v e = truth-fits (is_same_name text (codes "1") || is_same_name text (codes "true")) (is_same_name text (codes "0") || is_same_name text (codes "false")) v e
 spelled-fits ty.Int text v e = in-type ty.Int (integer_of text) v e
 spelled-fits ty.Dint text v e = in-type ty.Dint (integer_of text) v e
 
@@ -74,7 +76,7 @@ before-in types (Err why) more h all = All-nil (AreIn types)
 
 pub rows-in : (types : List Ty) (order : List ℕ) (cycle : ℕ) (records : List (List (List ℕ))) → All (AreIn types) (rows_from types order cycle records).rows
 rows-in types order cycle [] = All-nil (AreIn types)
-rows-in types order cycle (cells ∷ records) = by_test (nat_lt cycle 1000000) (rows-in types order (cycle + 1) records)
+rows-in types order cycle (cells ∷ records) = by_test (nat_lt cycle most_cycles) (rows-in types order (cycle + 1) records)
   where
     by_test : (b : Bool) → All (AreIn types) (rows_from types order (cycle + 1) records).rows
         → All (AreIn types) (cond b (row_before types (row_of types order (cycle + 2) cells) (rows_from types order (cycle + 1) records)) (no_rows types (Some fault.Cycles))).rows

@@ -1,14 +1,11 @@
 -- Cells: which text spells which value of a type.
-use Rattle.std.specs.Prelude.{ℕ, ◌+◌, ◌-◌, ◌*◌, ◌==◌, Bool, ◌||◌, cond, List, [], ◌∷◌, map, reverse, fold, Option, Some, None, option_map, option_and_then, ℤ, pos, neg_ℤ, codes, bytes_eq}
-use Rattle.std.specs.Char.{is_ascii_digit, to_ascii_lowercase}
+use Rattle.std.specs.Prelude.{ℕ, ◌+◌, ◌-◌, ◌*◌, ◌==◌, Bool, ◌||◌, cond, List, [], ◌∷◌, reverse, fold, Option, Some, None, option_map, option_and_then, ℤ, pos, neg_ℤ, codes}
+use Rattle.std.specs.Char.{is_ascii_digit}
 use Rattle.std.specs.List.{list_all}
 use Rattle.vcp_base.specs.declared.ty.Ty.{Ty}
 use Rattle.vcp_base.specs.declared.ty.Ty.TheVariants as ty
+use Rattle.vcp_base.specs.Names.{is_same_name}
 use Rattle.vcp_base.specs.Types.{fits}
-
--- the two texts are one, without regard to the case of ASCII letters
-abbrev pub is_same : List ℕ → List ℕ → Bool
-is_same a b = bytes_eq (map to_ascii_lowercase a) (map to_ascii_lowercase b)
 
 -- a space or a tab
 abbrev pub is_blank : ℕ → Bool
@@ -47,8 +44,8 @@ in_type t v = cond (fits t v) (Some v) None
 -- 1 and TRUE are 1, 0 and FALSE are 0, in any case
 abbrev pub truth_of : List ℕ → Option ℤ
 truth_of text =
-    cond (is_same text (codes "1") || is_same text (codes "true")) (Some (pos 1))
-    (cond (is_same text (codes "0") || is_same text (codes "false")) (Some (pos 0)) None)
+    cond (is_same_name text (codes "1") || is_same_name text (codes "true")) (Some (pos 1))
+    (cond (is_same_name text (codes "0") || is_same_name text (codes "false")) (Some (pos 0)) None)
 
 -- the value of the type that a text spells, if it spells one
 abbrev pub spelled : Ty → List ℕ → Option ℤ

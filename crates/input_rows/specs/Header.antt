@@ -1,14 +1,15 @@
 -- The header: each column's name once, in any order, without regard to the case of ASCII letters.
 use Rattle.std.specs.Prelude.{◌≡◌, ℕ, ◌+◌, ◌<◌, ◌==◌, Bool, true, false, ◌&&◌, cond, List, [], ◌∷◌, length, replicate, slice_set, All, Contains, Option, Some, None, option_map}
 use Rattle.vcp_base.specs.declared.columns.Column.{Column}
-use Rattle.input_rows.specs.Cells.{is_same, trimmed}
+use Rattle.vcp_base.specs.Names.{is_same_name}
+use Rattle.input_rows.specs.Cells.{trimmed}
 
 -- the place, counted from 0, of the first column that is still free and has the name
 abbrev pub place_of : List Column → List Bool → List ℕ → Option ℕ
 place_of [] free name = None
 place_of (c ∷ columns) [] name = None
 place_of (c ∷ columns) (f ∷ free) name =
-    cond (f && is_same c.name name) (Some 0) (option_map (λ i. i + 1) (place_of columns free name))
+    cond (f && is_same_name c.name name) (Some 0) (option_map (λ i. i + 1) (place_of columns free name))
 
 -- the place of a field's column before the places of the fields after it
 abbrev pub places_after : Option ℕ → (ℕ → Option (List ℕ)) → Option (List ℕ)

@@ -1,6 +1,7 @@
 -- The rows of a file, or of a number of cycles.
 use Rattle.std.specs.Prelude.{ℕ, ◌+◌, ◌==◌, nat_lt, Bool, false, cond, List, [], ◌∷◌, length, map, replicate, slice_index_or, ⊤, slice_set, Option, Some, None, Result, Ok, Err, ℤ, pos}
 use Rattle.csv.specs.Reading.{records, default_config, strip_bom}
+use Rattle.vcp_base.specs.Limits.{most_cycles}
 use Rattle.vcp_base.specs.declared.ty.Ty.{Ty}
 use Rattle.vcp_base.specs.declared.ty.Ty.TheVariants as ty
 use Rattle.vcp_base.specs.declared.columns.Column.{Column}
@@ -68,7 +69,7 @@ row_before types (Err why) more = no_rows types (Some why)
 abbrev pub rows_from : List Ty → List ℕ → ℕ → List (List (List ℕ)) → RowsLeft
 rows_from types order cycle [] = no_rows types None
 rows_from types order cycle (cells ∷ records) =
-    cond (nat_lt cycle 1000000)
+    cond (nat_lt cycle most_cycles)
     (row_before types (row_of types order (cycle + 2) cells) (rows_from types order (cycle + 1) records))
     (no_rows types (Some fault.Cycles))
 

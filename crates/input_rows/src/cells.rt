@@ -1,19 +1,13 @@
 //! The value that a cell spells.
 
-ghost use Rattle.std.specs.Prelude.{◌≡◌, ◌≤◌, Some, min, reverse, IfSome, option_map, option_and_then};
-ghost use Rattle.input_rows.specs.Cells.{is_same as is_same_of, trimmed, unindented, natural_of, integer_of, in_type, truth_of, value_of};
+ghost use Rattle.std.specs.Prelude.{◌≡◌, ◌≤◌, ◌^◌, Some, min, reverse, IfSome, option_map, option_and_then};
+ghost use Rattle.input_rows.specs.Cells.{trimmed, unindented, natural_of, integer_of, in_type, truth_of, value_of};
 
-use vcp_base::{Ty, fits};
+use vcp_base::{Ty, fits, is_same_name};
 
-/// More than any type's least or greatest value takes, so the value of longer digits is cut to it.
-const BEYOND: u64 = 2_147_483_649;
-
-/// Whether two texts are one, without regard to the case of ASCII letters.
-pub fn is_same(a: &[u8], b: &[u8]) -> bool
-    ensures { result ≡ is_same_of a.now b.now }
-{
-    a.eq_ignore_ascii_case(b)
-}
+/// More than any value of 64 bits, with or without a sign before it, so that the value of longer
+/// digits is cut to it.
+const BEYOND: u128 = 18_446_744_073_709_551_616;
 
 /// A text without the spaces and tabs at both ends.
 pub fn trim(text: &[u8]) -> &[u8]
@@ -45,16 +39,16 @@ fn without_last_blanks(text: &[u8]) -> &[u8]
 }
 
 // The number that decimal digits spell, or `BEYOND` if it is greater; `None` if they are no digits.
-fn natural(digits: &[u8]) -> Option<u64>
-    ensures value { result ≡ option_map (λ n. min n BEYOND) (natural_of digits.now) }
-    ensures low { IfSome result (λ n. n ≤ BEYOND) }
+fn natural(digits: &[u8]) -> Option<u128>
+    ensures value { result ≡ option_map (λ n. min n (2 ^ 64)) (natural_of digits.now) }
+    ensures low { IfSome result (λ n. n ≤ 2 ^ 64) }
 {
     let mut number = 0;
     'digits: for digit in digits {
         if !digit.is_ascii_digit() {
             return None;
         }
-        number = (number * 10 + (*digit - b'0') as u64).min(BEYOND);
+        number = (number * 10 + u128::from(*digit - b'0')).min(BEYOND);
     }
     if digits.is_empty() {
         return None;
@@ -64,13 +58,13 @@ fn natural(digits: &[u8]) -> Option<u64>
 
 // The value that an optional sign and digits spell, if there is a type that has it; else one that no
 // type has.
-fn integer(text: &[u8]) -> Option<i64>
+fn integer(text: &[u8]) -> Option<i128>
     ensures { (t : Ty) → option_and_then (in_type t) result ≡ option_and_then (in_type t) (integer_of text.now) }
 {
     match text {
-        [b'+', digits @ ..] => Some(natural(digits)? as i64),
-        [b'-', digits @ ..] => Some(-(natural(digits)? as i64)),
-        _ => Some(natural(text)? as i64),
+        [b'+', digits @ ..] => Some(natural(digits)? as i128),
+        [b'-', digits @ ..] => Some(-(natural(digits)? as i128)),
+        _ => Some(natural(text)? as i128),
     }
 }
 
@@ -78,9 +72,9 @@ fn integer(text: &[u8]) -> Option<i64>
 fn truth(text: &[u8]) -> Option<i64>
     ensures { result ≡ truth_of text.now }
 {
-    if is_same(text, b"1") || is_same(text, b"true") {
+    if is_same_name(text, b"1") || is_same_name(text, b"true") {
         Some(1)
-    } else if is_same(text, b"0") || is_same(text, b"false") {
+    } else if is_same_name(text, b"0") || is_same_name(text, b"false") {
         Some(0)
     } else {
         None
@@ -92,7 +86,7 @@ fn number_in(ty: Ty, text: &[u8]) -> Option<i64>
     ensures { result ≡ option_and_then (in_type ty) (integer_of text.now) }
 {
     let v = integer(text)?;
-    if fits(ty, v as i128) { Some(v) } else { None }
+    if fits(ty, v) { Some(v as i64) } else { None }
 }
 
 /// The value of the type that a cell spells, if it spells one.

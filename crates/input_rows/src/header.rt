@@ -4,11 +4,11 @@ ghost use Rattle.std.specs.Prelude.{◌≡◌, ◌<◌, ◌^◌, length, IfOk, I
 ghost use Rattle.csv.specs.Records.{fields_of};
 ghost use Rattle.input_rows.specs.Header.{order_of, place_of};
 
-use crate::cells::{is_same, trim};
+use crate::cells::trim;
 use crate::records::field;
 use csv::ByteRecord;
 use std::alloc::Global;
-use vcp_base::{Columns, Memory};
+use vcp_base::{Columns, Memory, is_same_name};
 
 // The place of the first column that is still free and has the name.
 fn free_place(columns: &Columns, free: &[bool], name: &[u8]) -> Option<usize>
@@ -18,7 +18,7 @@ fn free_place(columns: &Columns, free: &[bool], name: &[u8]) -> Option<usize>
 {
     'columns: for i in 0..free.len() {
         let column = columns.at(i);
-        if free[i] && is_same(column.name.bytes(), name) {
+        if free[i] && is_same_name(column.name.bytes(), name) {
             return Some(i);
         }
     }

@@ -1,6 +1,7 @@
 //! Rows, one by one.
 
-ghost use Rattle.std.specs.Prelude.{◌≡◌, ◌≢◌, ◌≤◌, [], ◌∷◌, length, All, true, false, None, Some, IfOk, IfErr, IfSome, OnErr};
+ghost use Rattle.std.specs.Prelude.{◌≡◌, ◌≢◌, ◌<◌, ◌≤◌, ◌^◌, [], ◌∷◌, length, All, true, false, None, Some, IfOk, IfErr, IfSome, OnErr};
+ghost use Rattle.vcp_base.specs.Limits.{most_cycles};
 ghost use Rattle.vcp_base.specs.Types.{AreIn};
 ghost use Rattle.input_rows.specs.RowsOf.{IsOfRecord, rows_of, rows_of_cycles, types_of};
 ghost use Rattle.input_rows.specs.TableLeft.{refused_with};
@@ -42,14 +43,15 @@ impl<'a> Rows<'a> {
     /// The rows of a file's bytes, for these columns: a header, and then a record for each cycle.
     ///
     /// `Form` where there are no columns, and then `Header` where the first record isn't there or
-    /// isn't each column's name once and nothing else. `Memory` where there is no room, or where
-    /// there are more columns than a `u32` counts.
+    /// isn't each column's name once and nothing else. `Memory` where there is no room. There are no
+    /// more columns than a `u32` counts.
     pub fn new(alloc: Global, bytes: &'a [u8], columns: &'a Columns) -> Result<Rows<'a>, RowFault>
+        requires { length columns.now < 2 ^ 32 }
         ensures rows { IfOk result (λ left. rows_of bytes.now columns.now ≡ Ok left) }
         ensures refusal { IfErr result (λ f. f ≢ RowFault.Memory → rows_of bytes.now columns.now ≡ Err f) }
         ensures types { IfOk result (λ left. left.types ≡ types_of columns.now) }
         ensures typed { IfOk result (λ left. All (AreIn left.types) left.rows) }
-        ensures few { IfOk result (λ left. length left.rows ≤ 1000000) }
+        ensures few { IfOk result (λ left. length left.rows ≤ most_cycles) }
         ensures behind { IfOk result (λ left. IfSome left.refusal IsOfRecord) }
         ensures fresh { IfOk result (λ left. left.refused ≡ false) }
     {
@@ -65,11 +67,11 @@ impl<'a> Rows<'a> {
     /// So many rows of no values, at most 1,000,000. `Form` where there are columns. It takes no
     /// memory.
     pub fn cycles(number: u32, columns: &'a Columns) -> Result<Rows<'a>, RowFault>
-        requires { number ≤ 1000000 }
+        requires { number ≤ most_cycles }
         ensures rows { result ≡ rows_of_cycles number columns.now }
         ensures types { IfOk result (λ left. left.types ≡ types_of columns.now) }
         ensures typed { IfOk result (λ left. All (AreIn left.types) left.rows) }
-        ensures few { IfOk result (λ left. length left.rows ≤ 1000000) }
+        ensures few { IfOk result (λ left. length left.rows ≤ most_cycles) }
         ensures behind { IfOk result (λ left. left.refusal ≡ None) }
         ensures fresh { IfOk result (λ left. left.refused ≡ false) }
     {

@@ -2,6 +2,7 @@
 
 ghost use Rattle.std.specs.Prelude.{◌≡◌, ◌≢◌, ◌<◌, ◌≤◌, ◌^◌, ◌+◌, ◌⊎◌, [], ◌∷◌, length, true, false, None, Some, IfOk, IfErr, IfSome, OnErr};
 ghost use Rattle.csv.specs.Reading.{records as records_of, default_config, strip_bom};
+ghost use Rattle.vcp_base.specs.Limits.{most_cycles};
 ghost use Rattle.input_rows.specs.RowsOf.{no_rows, rows_of_records};
 ghost use Rattle.input_rows.specs.TableLeft.{left_from, refused_with};
 
@@ -12,10 +13,7 @@ use csv::ByteRecord;
 use std::alloc::Global;
 use std::marker::Model;
 use std::mem;
-use vcp_base::{Columns, Row};
-
-/// The most cycles of a file.
-const MOST_CYCLES: u32 = 1_000_000;
+use vcp_base::{Columns, MOST_CYCLES, Row};
 
 /// The rows that are left of a file. The record at hand and its row are read into room that is used
 /// again.
@@ -31,6 +29,7 @@ pub struct Table<'a> {
 
 impl<'a> Model for Table<'a> {
     ghost use Rattle.std.specs.Prelude.{◌≡◌, ◌≤◌, length};
+    ghost use Rattle.vcp_base.specs.Limits.{most_cycles};
     ghost use Rattle.input_rows.specs.RowsOf.{RowsLeft};
     ghost use Rattle.input_rows.specs.TableLeft.{left_of_table};
 
@@ -38,7 +37,7 @@ impl<'a> Model for Table<'a> {
 
     ghost view = { λ t. left_of_table t.layout t.cycle t.records t.refusal };
 
-    ghost invariant = { λ t. (length t.row ≡ length t.layout.types) × (t.cycle ≤ 1000000) };
+    ghost invariant = { λ t. (length t.row ≡ length t.layout.types) × (t.cycle ≤ most_cycles) };
 }
 
 // Reads the row of a cycle, and answers whether there is one.
@@ -50,9 +49,9 @@ fn read_row(
     row: &mut Row,
 ) -> Result<bool, RowFault>
     requires width { length row.old ≡ length layout.now.types }
-    requires cycle { cycle ≤ 1000000 }
+    requires cycle { cycle ≤ most_cycles }
     ensures row { IfOk result (λ found. found ≡ true → left_from layout.now cycle records.old ≡ record (left_from layout.now (cycle + 1) records.new) { rows = row.new ∷ (left_from layout.now (cycle + 1) records.new).rows }) }
-    ensures more { IfOk result (λ found. found ≡ true → cycle < 1000000) }
+    ensures more { IfOk result (λ found. found ≡ true → cycle < most_cycles) }
     ensures end { IfOk result (λ found. found ≡ false → (left_from layout.now cycle records.old ≡ no_rows layout.now.types None) × (records.new ≡ records.old)) }
     ensures refusal { IfErr result (λ f. f ≢ RowFault.Memory → left_from layout.now cycle records.old ≡ no_rows layout.now.types (Some f)) }
     ensures width { length row.new ≡ length row.old }
@@ -70,19 +69,17 @@ fn read_row(
 impl<'a> Table<'a> {
     /// The rows of a file under its header.
     pub fn new(alloc: Global, bytes: &'a [u8], columns: &'a Columns) -> Result<Table<'a>, RowFault>
+        requires { length columns.now < 2 ^ 32 }
         ensures rows { IfOk result (λ t. rows_of_records columns.now (records_of default_config (strip_bom bytes.now)) ≡ Ok t) }
         ensures refusal { IfErr result (λ f. f ≢ RowFault.Memory → rows_of_records columns.now (records_of default_config (strip_bom bytes.now)) ≡ Err f) }
     {
-        let Ok(width) = u32::try_from(columns.len()) else {
-            return Err(RowFault::Memory);
-        };
         let mut records = Records::new(alloc, bytes);
         let mut cells = ByteRecord::new(alloc);
         if !records.next(&mut cells)? {
             return Err(RowFault::Header);
         }
         let layout = Layout::new(alloc, columns, &cells)?;
-        let row = Row::zeros(alloc, width)?;
+        let row = Row::zeros(alloc, columns.len() as u32)?;
         Ok(Table {
             layout,
             records,

@@ -1,6 +1,6 @@
 //! Files with their rows, as the rules of the format give them.
 
-ghost use Rattle.std.specs.Prelude.{◌≡◌, length};
+ghost use Rattle.std.specs.Prelude.{◌≡◌, length, IfOk};
 
 use crate::{RowFault, Rows, order_has_each_place};
 use std::alloc::Global;
@@ -16,6 +16,18 @@ fn columns_of(alloc: Global, list: &[(&[u8], Ty)]) -> Result<Columns, Fail> {
             ty: *ty,
         })?;
     }
+    Ok(columns)
+}
+
+/// One column, `x` of type DINT.
+fn one_column(alloc: Global) -> Result<Columns, Fail>
+    ensures { IfOk result (λ columns. length columns ≡ 1) }
+{
+    let mut columns = Columns::new(alloc);
+    columns.push(Column {
+        name: Text::copy_of(alloc, b"x")?,
+        ty: Ty::Dint,
+    })?;
     Ok(columns)
 }
 
@@ -69,11 +81,11 @@ fn show_rows(
 /// What a file is read as.
 fn shown(alloc: Global, columns: &Columns, bytes: &[u8]) -> Result<Vec<u8>, Fail> {
     let mut out = Vec::new(alloc);
+    let Ok(width) = u32::try_from(columns.len()) else {
+        return Ok(out);
+    };
     match Rows::new(alloc, bytes, columns) {
         Ok(mut rows) => {
-            let Ok(width) = u32::try_from(columns.len()) else {
-                return Ok(out);
-            };
             let mut row = Row::zeros(alloc, width)?;
             show_rows(alloc, &mut out, &mut rows, &mut row)?;
         }
@@ -221,8 +233,7 @@ fn long_file(alloc: Global, records: u32) -> Result<Vec<u8>, Fail> {
 #[test]
 fn a_file_has_at_most_a_million_cycles(rt: HostRuntime) -> Result<(), Fail> {
     let alloc = rt.alloc();
-    let list: [(&[u8], Ty); 1] = [(b"x", Ty::Dint)];
-    let columns = columns_of(alloc, &list)?;
+    let columns = one_column(alloc)?;
     let bytes = long_file(alloc, 1000001)?;
     if let Ok(mut rows) = Rows::new(alloc, &bytes, &columns) {
         let end = taken(alloc, &mut rows, &columns)?;
@@ -237,8 +248,7 @@ fn a_file_has_at_most_a_million_cycles(rt: HostRuntime) -> Result<(), Fail> {
 fn cycles_have_no_inputs(rt: HostRuntime) -> Result<(), Fail> {
     let alloc = rt.alloc();
     let none = Columns::new(alloc);
-    let list: [(&[u8], Ty); 1] = [(b"x", Ty::Dint)];
-    let one = columns_of(alloc, &list)?;
+    let one = one_column(alloc)?;
     assert_eq!(rt;
         Rows::new(alloc, b"x\n1\n", &none).err(),
         Some(RowFault::Form)

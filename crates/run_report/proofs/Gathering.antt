@@ -42,6 +42,11 @@ pub gathered_same : {start now : Option (List ℕ)} {before f : ℕ} {text other
     → IsGathered start now before f text line → other ≡ text → IsGathered start now before f other line
 gathered_same is same = rw same is
 
+-- the same bytes, written otherwise
+pub written_same : {T E : Type 0} {start now : Option (List ℕ)} {before f : ℕ} {bytes other : List ℕ} {r : Result T E}
+    → Writes start now before f bytes r → other ≡ bytes → Writes start now before f other r
+written_same written is = rw is written
+
 -- what doesn't change after a failure in one step nor in the next doesn't change in both
 pub unchanged_on : {A T E : Type 0} (a b c : A) (r s : Result T E) → OnErr r (b ≡ a) → (IsErr r → IsErr s) → OnErr s (c ≡ b) → OnErr r (c ≡ a)
 unchanged_on a b c (Ok v) s first failed second = tt

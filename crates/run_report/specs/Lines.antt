@@ -2,9 +2,9 @@
 use Rattle.std.specs.Prelude.{ℕ, ◌<◌, List, [], ◌++◌, length, ℤ, decimal, codes, flat_map, slice_index_or, All}
 use Rattle.std.specs.Fmt.{signed_decimal}
 use Rattle.vcp_base.specs.declared.kind.StopKind.{StopKind}
-use Rattle.vcp_base.specs.declared.kind.StopKind.TheVariants as stop
 use Rattle.vcp_base.specs.declared.spot.Spot.{Spot}
 use Rattle.vcp_base.specs.declared.turns.Turn.{Turn}
+use Rattle.vcp_base.specs.Spellings.{stop_name}
 
 -- a name after its comma
 abbrev pub name_cell : List ℕ → List ℕ
@@ -25,12 +25,6 @@ row_text cycle row = decimal cycle ++ (flat_map value_cell row ++ codes "\n")
 -- the end of a run over all its rows, with their number
 abbrev pub end_text : ℕ → List ℕ
 end_text cycles = codes "end " ++ (decimal cycles ++ codes "\n")
-
--- the name of a kind of stop
-abbrev pub stop_name : StopKind → List ℕ
-stop_name stop.Range = codes "RANGE"
-stop_name stop.DivZero = codes "DIVZERO"
-stop_name stop.Operand = codes "OPERAND"
 
 -- a place in a source: its line and its column
 abbrev pub place_text : Spot → List ℕ

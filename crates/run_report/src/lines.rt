@@ -4,10 +4,10 @@
 ghost use Rattle.std.specs.Prelude.{◌≡◌, ◌++◌, decimal, map, flat_map};
 ghost use Rattle.vcp_outside.specs.Written.{Writes};
 ghost use Rattle.run_report.specs.Gathering.{IsGathered, Gathers};
-ghost use Rattle.run_report.specs.Lines.{header_text, row_text, end_text, stop_text, refused_text, stop_name as stop_name_of, place_text, turn_text, AreNamed};
+ghost use Rattle.run_report.specs.Lines.{header_text, row_text, end_text, stop_text, refused_text, place_text, turn_text, AreNamed};
 
 use crate::line::Line;
-use vcp_base::{Columns, Residue, Row, Spot, StopKind, Text, Turns, Words};
+use vcp_base::{Columns, Residue, Row, Spot, StopKind, Text, Turns, Words, stop_name};
 use vcp_outside::{Failed, Sink};
 
 // A line that begins with a word and a number.
@@ -53,16 +53,6 @@ pub fn end_line<O: Sink>(out: &mut O, cycles: u32) -> Result<(), Failed>
     ensures { Writes (O.written out.old) (O.written out.new) (O.faults out.old) (O.faults out.new) (end_text cycles) result }
 {
     begin(out, b"end ", cycles).end(out)
-}
-
-fn stop_name(kind: StopKind) -> &'static [u8]
-    ensures { result.now ≡ stop_name_of kind }
-{
-    match kind {
-        StopKind::Range => b"RANGE",
-        StopKind::DivZero => b"DIVZERO",
-        StopKind::Operand => b"OPERAND",
-    }
 }
 
 // Goes on with a place in a source.

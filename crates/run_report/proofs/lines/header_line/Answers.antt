@@ -2,7 +2,6 @@ use Rattle.std.proofs.Common.{◌≡◌, arith, codes, refl, take}
 use Rattle.std.proofs.lemmas.List.{take_all}
 use Rattle.std.proofs.lemmas.List.Folds.{flat_map-map}
 use Rattle.vcp_base.specs.declared.columns.Column.{Column}
-use Rattle.vcp_outside.proofs.Known.{writes_same}
 use Rattle.run_report.specs.Lines.{name_cell}
 use Rattle.run_report.proofs.Gathering.{gathered_same}
 use Rattle.run_report.proofs.Texts.{flat_map-next_two}
@@ -21,4 +20,4 @@ pub returns : goal.returns
 returns g c =
     let whole : take c.names.i c.args.names.now ≡ c.args.names.now = take_all c.names.i c.args.names.now (omega arith) in
     let all = rw whole at c.names.invariant in
-    writes_same (c.end.ensures.writes _ _ _ all) (rw (flat_map-map name_cell (λ (column : Column). column.name) c.args.names.now) refl)
+    rw (← (flat_map-map name_cell (λ (column : Column). column.name) c.args.names.now)) at (c.end.ensures.writes _ _ _ all)

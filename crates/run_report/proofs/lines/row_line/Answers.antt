@@ -2,7 +2,6 @@ use Rattle.std.proofs.Common.{◌≡◌, rules, arith, append_assoc, decimal, ta
 use mir.Val.{SFits}
 use Rattle.std.proofs.Math.Facts.{to_z-of_z}
 use Rattle.std.proofs.lemmas.List.{append-nil, take_all}
-use Rattle.vcp_outside.proofs.Known.{writes_same}
 use Rattle.run_report.specs.Lines.{value_cell}
 use Rattle.run_report.proofs.Gathering.{gathered_same}
 use Rattle.run_report.proofs.Texts.{flat_map-next}
@@ -21,4 +20,4 @@ pub returns : goal.returns
 returns g c =
     let whole : take c.cells.i c.args.row.now ≡ c.args.row.now = take_all c.cells.i c.args.row.now (omega arith) in
     let all = rw whole at c.cells.invariant in
-    writes_same (c.end.ensures.writes _ _ _ all) (simp append_assoc)
+    rw append_assoc at (c.end.ensures.writes _ _ _ all)
