@@ -1,5 +1,9 @@
 pub mod Cells
+pub mod Chains
 pub mod Entries
-pub mod Parts
-pub mod Worked
+pub mod Fitting
+pub mod Links
 pub mod OperandLaw
+pub mod Parts
+pub mod Walks
+pub mod Worked

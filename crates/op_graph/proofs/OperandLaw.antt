@@ -13,18 +13,19 @@ use Rattle.vcp_base.specs.declared.kind.Kind.TheVariants as kind
 use Rattle.vcp_base.specs.declared.kind.StopKind.{StopKind}
 use Rattle.vcp_base.specs.declared.kind.StopKind.TheVariants as stop
 use Rattle.vcp_base.specs.Types.{fits, within}
+use Rattle.vcp_base.specs.Values.{at}
 use Rattle.vcp_base.specs.Kinds.{operands, operand_type, takes, operands_fit, Outcome}
 use Rattle.op_graph.specs.declared.op.Op.{Op}
 use Rattle.op_graph.specs.declared.op.Loaded.{Loaded}
 use Rattle.op_graph.specs.declared.op.Outlet.{Outlet}
 use Rattle.op_graph.specs.Lists.{Lists}
-use Rattle.op_graph.specs.Rules.{scope, Place, place_of, Each, IsGraph, LoadFits, StoreFits, OutputFits, OpFits, Operates, Entry, entry, entry_of, found, stored_by, cell_entry, kind_fits, agree, is_input, is_load, is_store, is_out, same_type, types_fit, entry_type_fits, reads_as, operand_fits, imm_fits}
-use Rattle.op_graph.specs.GraphRun.{at, read, operand, outcome_of, Cycle, after, cycle_from, cycle, initial, stored, Run, after_cycle, run_from, graph_run, CellsFit, OutputsFit}
+use Rattle.op_graph.specs.Rules.{scope, Place, place_of, Each, IsGraph, IsPart, LoadFits, StoreFits, OutputFits, OpFits, Operates, Entry, entry, entry_of, found, stored_by, cell_entry, kind_fits, agree, is_input, is_load, is_store, is_out, same_type, from_fits, ty_fits, reads_as, operand_fits, imm_fits}
+use Rattle.op_graph.specs.GraphRun.{read, operand, outcome_of, Cycle, after, cycle_from, cycle, initial, stored, Run, after_cycle, run_from, graph_run, CellsFit, OutputsFit, ValuesFit}
 use Rattle.op_graph.proofs.Entries.{eqb_self, last_of_push, other, get_last}
 
 -- ---- types
 
-within_fits : (s t : Ty) (v : ℤ) → within s t ≡ true → fits s v ≡ true → fits t v ≡ true
+pub within_fits : (s t : Ty) (v : ℤ) → within s t ≡ true → fits s v ≡ true → fits t v ≡ true
 within_fits ty.Bool ty.Bool v w h = h
 within_fits ty.Bool ty.Int v w h = absurd cc
 within_fits ty.Bool ty.Dint v w h = absurd cc
@@ -64,7 +65,7 @@ at_push [] v i lt = absurd (omega arith)
 at_push (x ∷ values) v zero lt = refl
 at_push (x ∷ values) v (suc i) lt = at_push values v i (omega arith)
 
-get_there : {X : Type 0} (xs : List X) (i : ℕ) → i < length xs → (x : X) × (slice_get xs i ≡ Some x)
+pub get_there : {X : Type 0} (xs : List X) (i : ℕ) → i < length xs → (x : X) × (slice_get xs i ≡ Some x)
 get_there [] i lt = absurd (omega arith)
 get_there (x ∷ xs) zero lt = (x, refl)
 get_there (x ∷ xs) (suc i) lt = get_there xs i (omega arith)
@@ -123,16 +124,16 @@ found_cell (l ∷ loads) p k e h = found_by l loads k e (p l) _ (λ g. found_cel
 number_is : (v : ℤ) (n : ℕ) → int_eq v (pos n) ≡ true → v ≡ pos n
 number_is v n h = (Decides-int_eq v (pos n)).0 h
 
-load_reads_by : (g : Lists) (cells : List ℤ) (o : Option Entry) (from to : Ty) (imm : ℤ) → CellsFit g cells → ((e : Entry) → o ≡ Some e → HasCell g.loads 0 e) → is_some o ≡ true → same_type from to ≡ true → entry_type_fits o to ≡ true → imm_fits o kind.Load to imm ≡ true → fits from (at cells (unsigned_abs imm)) ≡ true
+load_reads_by : (g : Lists) (cells : List ℤ) (o : Option Entry) (from to : Ty) (imm : ℤ) → CellsFit g cells → ((e : Entry) → o ≡ Some e → HasCell g.loads 0 e) → is_some o ≡ true → from_fits o kind.Load from ≡ true → imm_fits o kind.Load to imm ≡ true → fits from (at cells (unsigned_abs imm)) ≡ true
 unfolding HasCell
-load_reads_by g cells None from to imm held there is_load same entry_same number = absurd cc
-load_reads_by g cells (Some e) from to imm held there is_load same entry_same number =
+load_reads_by g cells None from to imm held there is_load same number = absurd cc
+load_reads_by g cells (Some e) from to imm held there is_load same number =
     let cell = there e refl in
     let at_number : unsigned_abs imm ≡ cell.0 = ap unsigned_abs (number_is imm e.number number) ∙ (omega (arith, cell.2)) in
-    let types : cell.1.ty ≡ from = cell.4 ∙ same_type_is e.ty to entry_same ∙ sym (same_type_is from to same) in
+    let types : cell.1.ty ≡ from = cell.4 ∙ same_type_is e.ty from same in
     subst (λ i. fits from (at cells i) ≡ true) (sym at_number) (subst (λ t. fits t (at cells cell.0) ≡ true) types (held cell.0 cell.1 cell.3))
 
-second_of_four : (a b c d : Bool) → (a && b && c && d) ≡ true → b ≡ true
+pub second_of_four : (a b c d : Bool) → (a && b && c && d) ≡ true → b ≡ true
 second_of_four true true c d h = refl
 second_of_four true false c d h = absurd cc
 second_of_four false true c d h = absurd cc
@@ -148,17 +149,17 @@ third_of_four false true false d h = absurd cc
 third_of_four false false true d h = absurd cc
 third_of_four false false false d h = absurd cc
 
-load_reads : (g : Lists) (cells : List ℤ) (i : ℕ) (k : Kind) (from to : Ty) (imm : ℤ) → CellsFit g cells → kind_fits (place_of (scope g) i) k ≡ true → types_fit k from to ≡ true → entry_type_fits (entry_of (place_of (scope g) i) k) to ≡ true → imm_fits (entry_of (place_of (scope g) i) k) k to imm ≡ true → LoadReads cells k from imm
+load_reads : (g : Lists) (cells : List ℤ) (i : ℕ) (k : Kind) (from to : Ty) (imm : ℤ) → CellsFit g cells → kind_fits (place_of (scope g) i) k ≡ true → from_fits (entry_of (place_of (scope g) i) k) k from ≡ true → imm_fits (entry_of (place_of (scope g) i) k) k to imm ≡ true → LoadReads cells k from imm
 unfolding LoadReads
-load_reads g cells i kind.Load from to imm held h types entry_type number =
-    load_reads_by g cells (place_of (scope g) i).load from to imm held (λ e is. found_cell g.loads (λ l. l.load == i) 0 e is) (second_of_four _ (is_some (place_of (scope g) i).load) _ _ h) types entry_type number
-load_reads g cells i _ from to imm held h types entry_type number = tt
+load_reads g cells i kind.Load from to imm held h types number =
+    load_reads_by g cells (place_of (scope g) i).load from to imm held (λ e is. found_cell g.loads (λ l. l.load == i) 0 e is) (second_of_four _ (is_some (place_of (scope g) i).load) _ _ h) types number
+load_reads g cells i _ from to imm held h types number = tt
 
 -- ---- one operation
 
 operands_typed : (g : Lists) (turns : ℕ) (cells values : List ℤ) (before : List Op) (op : Op) → CellsFit g cells → Operates (scope g) turns before op → Typed before values → length values ≡ length before → operands_fit op.kind op.from (operand cells values op 0 op.a) (operand cells values op 1 op.b) (operand cells values op 2 op.c) ≡ true
 operands_typed g turns cells values before op held o typed len =
-    let load = load_reads g cells (length before) op.kind op.from op.ty op.imm held o.kind o.types o.entry_type o.imm in
+    let load = load_reads g cells (length before) op.kind op.from op.ty op.imm held o.kind o.from o.imm in
     let first = takes_operand cells values before op.kind op.from op.imm 0 op.a o.a load typed len in
     let second = takes_operand cells values before op.kind op.from op.imm 1 op.b o.b load typed len in
     let third = takes_operand cells values before op.kind op.from op.imm 2 op.c o.c load typed len in
@@ -245,9 +246,9 @@ not_none : (o : Option Entry) (e : Entry) → o ≡ Some e → not (is_some o) �
 not_none None e is h = absurd cc
 not_none (Some x) e is h = absurd cc
 
-store_type : (p : Place) (k : Kind) (to : Ty) (e : Entry) → p.store ≡ Some e → kind_fits p k ≡ true → entry_type_fits (entry_of p k) to ≡ true → e.ty ≡ to
-store_type p kind.Store to e is h types = same_type_is e.ty to (subst (λ o. entry_type_fits o to ≡ true) is types)
-store_type p k to e is h types = absurd (not_none p.store e is (third_of_four (agree (is_input k) (is_some p.input)) (agree (is_load k) (is_some p.load)) (not (is_some p.store)) (agree (is_out k) (is_some p.out)) h))
+store_type : (p : Place) (k : Kind) (from to : Ty) (e : Entry) → p.store ≡ Some e → kind_fits p k ≡ true → from_fits (entry_of p k) k from ≡ true → ty_fits k from to ≡ true → e.ty ≡ to
+store_type p kind.Store from to e is h reads types = same_type_is e.ty from (subst (λ o. from_fits o kind.Store from ≡ true) is reads) ∙ same_type_is from to types
+store_type p k from to e is h reads types = absurd (not_none p.store e is (third_of_four (agree (is_input k) (is_some p.input)) (agree (is_load k) (is_some p.load)) (not (is_some p.store)) (agree (is_out k) (is_some p.out)) h))
 
 stored_fits : (g : Lists) (values : List ℤ) → IsGraph g → Typed g.operations values → length values ≡ length g.operations → CellsFit g (stored g values)
 unfolding Typed
@@ -260,7 +261,7 @@ stored_fits g values graph typed len = λ k l there.
     let operates : Operates (scope g) (length g.turn_nodes) (take n.0 g.operations) op.0 = each_at (Operates (scope g) (length g.turn_nodes)) [] g.operations n.0 op.0 graph.part.operations op.1 in
     let fit : OpFits (place_of (scope g) n.0) (length g.turn_nodes) (take n.0 g.operations) op.0 = subst (λ i. OpFits (place_of (scope g) i) (length g.turn_nodes) (take n.0 g.operations) op.0) front operates in
     let cell : stored_by g.loads n.0 0 g.stores ≡ Some (entry k l.ty) = stored_first g.loads (length g.operations) 0 [] g.stores k n.0 graph.part.stores n.1 ∙ ap (λ i. cell_entry i (slice_get g.loads i)) (omega arith) ∙ ap (cell_entry k) there in
-    let type : l.ty ≡ op.0.ty = store_type (place_of (scope g) n.0) op.0.kind op.0.ty (entry k l.ty) cell fit.kind fit.entry_type in
+    let type : l.ty ≡ op.0.ty = store_type (place_of (scope g) n.0) op.0.kind op.0.from op.0.ty (entry k l.ty) cell fit.kind fit.from fit.ty in
     let value : at (stored g values) k ≡ at values n.0 = map_at (λ i. at values i) g.stores k n.0 n.1 in
     let fits_op : fits op.0.ty (at values n.0) ≡ true = typed n.0 op.0 (omega (arith, store.store)) op.1 in
     subst (λ z. fits l.ty z ≡ true) (sym value) (subst (λ t. fits t (at values n.0) ≡ true) (sym type) fits_op)
@@ -292,9 +293,9 @@ fourth_of_four false true false d h = absurd cc
 fourth_of_four false false true d h = absurd cc
 fourth_of_four false false false d h = absurd cc
 
-out_type : (p : Place) (k : Kind) (to : Ty) (e : Entry) → p.out ≡ Some e → kind_fits p k ≡ true → entry_type_fits (entry_of p k) to ≡ true → e.ty ≡ to
-out_type p kind.Out to e is h types = same_type_is e.ty to (subst (λ o. entry_type_fits o to ≡ true) is types)
-out_type p k to e is h types = absurd (not_none p.out e is (fourth_of_four (agree (is_input k) (is_some p.input)) (agree (is_load k) (is_some p.load)) (agree (is_store k) (is_some p.store)) (not (is_some p.out)) h))
+out_type : (p : Place) (k : Kind) (from to : Ty) (e : Entry) → p.out ≡ Some e → kind_fits p k ≡ true → from_fits (entry_of p k) k from ≡ true → ty_fits k from to ≡ true → e.ty ≡ to
+out_type p kind.Out from to e is h reads types = same_type_is e.ty from (subst (λ o. from_fits o kind.Out from ≡ true) is reads) ∙ same_type_is from to types
+out_type p k from to e is h reads types = absurd (not_none p.out e is (fourth_of_four (agree (is_input k) (is_some p.input)) (agree (is_load k) (is_some p.load)) (agree (is_store k) (is_some p.store)) (not (is_some p.out)) h))
 
 outputs_fit : (g : Lists) (values : List ℤ) → IsGraph g → Typed g.operations values → length values ≡ length g.operations → OutputsFit g values
 unfolding Typed
@@ -305,7 +306,7 @@ outputs_fit g values graph typed len = λ k o there.
     let operates : Operates (scope g) (length g.turn_nodes) (take o.op g.operations) op.0 = each_at (Operates (scope g) (length g.turn_nodes)) [] g.operations o.op op.0 graph.part.operations op.1 in
     let fit : OpFits (place_of (scope g) o.op) (length g.turn_nodes) (take o.op g.operations) op.0 = subst (λ i. OpFits (place_of (scope g) i) (length g.turn_nodes) (take o.op g.operations) op.0) front operates in
     let out : found (λ p. p.op == o.op) (λ p. p.ty) 0 g.outputs ≡ Some (entry (0 + k) o.ty) = out_first (length g.names) (length g.operations) 0 [] g.outputs k o graph.part.outputs there in
-    let type : o.ty ≡ op.0.ty = out_type (place_of (scope g) o.op) op.0.kind op.0.ty (entry (0 + k) o.ty) out fit.kind fit.entry_type in
+    let type : o.ty ≡ op.0.ty = out_type (place_of (scope g) o.op) op.0.kind op.0.from op.0.ty (entry (0 + k) o.ty) out fit.kind fit.from fit.ty in
     let fits_op : fits op.0.ty (at values o.op) ≡ true = typed o.op op.0 (omega (arith, fits_list.operation)) op.1 in
     subst (λ t. fits t (at values o.op) ≡ true) (sym type) fits_op
 
@@ -344,3 +345,13 @@ run_fair g cells (row ∷ rows) graph held =
 
 pub run_without_operand_stop : (g : Lists) (rows : List (List ℤ)) → IsGraph g → IfSome (graph_run g rows).end (λ e. e.kind ≢ stop.Operand)
 run_without_operand_stop g rows graph = run_fair g (initial g) rows graph (initial_fits g graph)
+
+part_sound : (g : Lists) (cells row : List ℤ) → IsPart g → CellsFit g cells → Sound g.operations (cycle g cells row)
+part_sound g cells row part held = cycle_sound g (length g.turn_nodes) cells row [] [] g.operations held part.operations (typed_nothing []) refl
+
+pub part_without_operand_stop : (g : Lists) (cells row : List ℤ) → IsPart g → CellsFit g cells → (cycle g cells row).stop ≢ Some stop.Operand
+part_without_operand_stop g cells row part held = (part_sound g cells row part held).no_operand
+
+pub part_values_fit : (g : Lists) (cells row : List ℤ) → IsPart g → CellsFit g cells → ValuesFit g (cycle g cells row).values
+unfolding Typed
+part_values_fit g cells row part held = (part_sound g cells row part held).typed

@@ -16,7 +16,12 @@ use Rattle.op_graph.specs.declared.op.Op.{Op}
 use Rattle.op_graph.specs.declared.op.Loaded.{Loaded}
 use Rattle.op_graph.specs.declared.op.TurnNode.{TurnNode}
 use Rattle.op_graph.specs.Lists.{Lists}
-use Rattle.op_graph.specs.Rules.{Scope, scope, Place, place_of, Each, IsPart, NameFits, InputFits, OutputFits, LoadFits, StoreFits, TurnNodeFits, OpFits, Operates, turn_fits, LoadedBefore, operand_fits, numbered, same_type, Entry, entry, cell_entry}
+use Rattle.std.specs.Int.{w64}
+use Rattle.std.specs.Prelude.{FitsSigned}
+use Rattle.std.proofs.lemmas.List.Elements.{All-push}
+use Rattle.vcp_base.specs.Limits.{most_names, most_cells, most_turn_nodes, most_operations}
+use Rattle.vcp_base.specs.Names.{NameFits}
+use Rattle.op_graph.specs.Rules.{PlaceFits, Scope, scope, Place, place_of, Each, IsPart, InputFits, OutputFits, LoadFits, StoreFits, TurnNodeFits, OpFits, Operates, turn_fits, LoadedBefore, operand_fits, numbered, same_type, Entry, entry, cell_entry}
 use Rattle.op_graph.specs.Building.{nowhere, entry_op, with_name, with_turn_node, with_op, with_input, with_load, with_output, with_store, type_of}
 use Rattle.op_graph.proofs.Entries.{each_push, each_more, Under, each_under, under_all, rising_count, le_more, under_none, found_push, found_last, stored_none, stored_push, get_push, get_last, stored_more, stored_last, under_get, eqb_self, get_some}
 
@@ -83,13 +88,14 @@ record Wider (n : ℕ) (s t : Scope) (turns more : ℕ) : Type 0 where
 ops_more : (n : ℕ) (s t : Scope) (turns more : ℕ) (ops : List Op) → length ops ≤ n → Wider n s t turns more → Each (Operates s turns) [] ops → Each (Operates t more) [] ops
 ops_more n s t turns more ops le w h = each_more (Operates s turns) (Operates t more) n [] ops (omega arith) (λ b op lt o.
     let same : OpFits (place_of t (length b)) turns b op = subst (λ p. OpFits p turns b op) (w.places (length b) lt) o in
-    record { kind = same.kind; types = same.types; entry_type = same.entry_type; a = same.a; b = same.b; c = same.c; imm = same.imm; turn = turn_fits_more _ _ _ op.turn w.turn_nodes same.turn }) h
+    record { kind = same.kind; from = same.from; ty = same.ty; a = same.a; b = same.b; c = same.c; imm = same.imm; turn = turn_fits_more _ _ _ op.turn w.turn_nodes same.turn }) h
 
-pub with_name_fits : (g : Lists) (n : List ℕ) → IsPart g → length g.names < 1024 → NameFits g.names n → IsPart (with_name g n)
+pub with_name_fits : (g : Lists) (n : List ℕ) → IsPart g → length g.names < most_names → NameFits (λ m. m) g.names n → IsPart (with_name g n)
 with_name_fits g n p few h =
     let len = length_push g.names n in
     let c = counted g (length (g.names ++ n ∷ [])) (length g.operations) p (omega arith) (omega arith) in
     record {
+      widths = record { places = p.widths.places; values = p.widths.values };
       few_names = omega arith;
       few_inputs = p.few_inputs;
       few_outputs = p.few_outputs;
@@ -98,7 +104,7 @@ with_name_fits g n p few h =
       few_operations = p.few_operations;
       enough_operations = p.enough_operations;
       stored = p.stored;
-      names = each_push NameFits [] g.names n p.names h;
+      names = each_push (NameFits (λ m. m)) [] g.names n p.names h;
       inputs = c.inputs;
       outputs = c.outputs;
       loads = c.loads;
@@ -107,10 +113,11 @@ with_name_fits g n p few h =
       operations = p.operations;
     }
 
-pub with_turn_node_fits : (g : Lists) (t : TurnNode) → IsPart g → length g.turn_nodes < 65536 → TurnNodeFits (length g.names) g.turn_nodes t → IsPart (with_turn_node g t)
-with_turn_node_fits g t p few h =
+pub with_turn_node_fits : (g : Lists) (t : TurnNode) → IsPart g → length g.turn_nodes < most_turn_nodes → TurnNodeFits (length g.names) g.turn_nodes t → FitsSigned w64 t.value → IsPart (with_turn_node g t)
+with_turn_node_fits g t p few h wide =
     let len = length_push g.turn_nodes t in
     record {
+      widths = record { places = p.widths.places; values = All-push (λ (n : TurnNode). FitsSigned w64 n.value) g.turn_nodes _ p.widths.values wide };
       few_names = p.few_names;
       few_inputs = p.few_inputs;
       few_outputs = p.few_outputs;
@@ -128,11 +135,12 @@ with_turn_node_fits g t p few h =
       operations = ops_more (length g.operations) (scope g) (scope g) (length g.turn_nodes) _ g.operations (omega arith) (record { places = λ i lt. refl; turn_nodes = omega arith }) p.operations;
     }
 
-pub with_op_fits : (g : Lists) (op : Op) → IsPart g → length g.operations < 65536 → OpFits nowhere (length g.turn_nodes) g.operations op → IsPart (with_op g op)
-with_op_fits g op p few h =
+pub with_op_fits : (g : Lists) (op : Op) → IsPart g → length g.operations < most_operations → OpFits nowhere (length g.turn_nodes) g.operations op → PlaceFits op.spot → IsPart (with_op g op)
+with_op_fits g op p few h wide =
     let len = length_push g.operations op in
     let c = counted g (length g.names) (length (g.operations ++ op ∷ [])) p (omega arith) (omega arith) in
     record {
+      widths = record { places = All-push (λ (o : Op). PlaceFits o.spot) g.operations _ p.widths.places wide; values = p.widths.values };
       few_names = p.few_names;
       few_inputs = p.few_inputs;
       few_outputs = p.few_outputs;
@@ -161,8 +169,9 @@ number_self m n e = rw e (int_eq_equiv.refl (pos n))
 at_place : (g : Lists) (turns : ℕ) (op : Op) (q r : Place) → q ≡ r → OpFits r turns g.operations op → OpFits q turns g.operations op
 at_place g turns op q r e h = subst (λ s. OpFits s turns g.operations op) (sym e) h
 
-pub with_input_fits : (g : Lists) (name : ℕ) (t : Ty) (spot : Spot) → IsPart g → length g.operations < 65536 → length g.inputs ≡ length g.operations → name < length g.names → All (λ w. w.name < name) g.inputs → IsPart (with_input g name t spot)
-with_input_fits g name t spot p few front there rising =
+pub with_input_fits : (g : Lists) (name : ℕ) (t : Ty) (spot : Spot) → IsPart g → length g.inputs ≡ length g.operations → name < length g.names → All (λ w. w.name < name) g.inputs → PlaceFits spot → IsPart (with_input g name t spot)
+with_input_fits g name t spot p front there rising wide =
+    let few : length g.operations < most_operations = omega (arith, p.few_inputs) in
     let new = with_input g name t spot in
     let v : Var = record { name = name; ty = t } in
     let len = length_push g.operations (entry_op kind.Input t 0 (length g.inputs) spot) in
@@ -181,6 +190,7 @@ with_input_fits g name t spot p few front there rising =
     let inputs : Each (InputFits (length g.names)) [] (g.inputs ++ v ∷ []) = each_push (InputFits (length g.names)) [] g.inputs v k.inputs (record { name = there; name_rises = rising }) in
     let no_more = few_inputs (length g.names) (g.inputs ++ v ∷ []) inputs in
     record {
+      widths = record { places = All-push (λ (o : Op). PlaceFits o.spot) g.operations _ p.widths.places wide; values = p.widths.values };
       few_names = p.few_names;
       few_inputs = omega (arith, p.few_names);
       few_outputs = p.few_outputs;
@@ -196,11 +206,11 @@ with_input_fits g name t spot p few front there rising =
       stores = k.stores;
       turn_nodes = k.turn_nodes;
       operations = each_push (Operates (scope new) (length g.turn_nodes)) [] g.operations _ (ops_more (length g.operations) (scope g) (scope new) (length g.turn_nodes) (length g.turn_nodes) g.operations (omega arith) wider p.operations)
-          (at_place g (length g.turn_nodes) _ _ _ here (record { kind = refl; types = same_self t; entry_type = same_self t; a = refl; b = refl; c = refl; imm = number_self (length g.inputs) (length g.operations) front; turn = refl }));
+          (at_place g (length g.turn_nodes) _ _ _ here (record { kind = refl; from = same_self t; ty = same_self t; a = refl; b = refl; c = refl; imm = number_self (length g.inputs) (length g.operations) front; turn = refl }));
     }
 
-pub with_load_fits : (g : Lists) (name : ℕ) (t : Ty) (init : ℤ) (spot : Spot) → IsPart g → length g.operations < 65536 → length g.loads < 1024 → name < length g.names → fits t init ≡ true → IsPart (with_load g name t init spot)
-with_load_fits g name t init spot p few few_cells there fit =
+pub with_load_fits : (g : Lists) (name : ℕ) (t : Ty) (init : ℤ) (spot : Spot) → IsPart g → length g.operations < most_operations → length g.loads < most_cells → name < length g.names → fits t init ≡ true → PlaceFits spot → IsPart (with_load g name t init spot)
+with_load_fits g name t init spot p few few_cells there fit wide =
     let new = with_load g name t init spot in
     let c : Loaded = record { name = name; ty = t; init = init; load = length g.operations } in
     let len = length_push g.operations (entry_op kind.Load t 0 (length g.loads) spot) in
@@ -217,6 +227,7 @@ with_load_fits g name t init spot p few few_cells there fit =
     (stored_more g.loads c (length g.operations) 0 g.stores (omega (arith, p.stored)) ∙ stored_none g.loads (length g.operations) 0 g.stores f.stores)
     (under_none (λ o. o.op) (λ o. o.ty) (length g.operations) 0 g.outputs f.outputs) in
     record {
+      widths = record { places = All-push (λ (o : Op). PlaceFits o.spot) g.operations _ p.widths.places wide; values = p.widths.values };
       few_names = p.few_names;
       few_inputs = p.few_inputs;
       few_outputs = p.few_outputs;
@@ -232,11 +243,11 @@ with_load_fits g name t init spot p few few_cells there fit =
       stores = each_more _ _ (length g.stores) [] g.stores (omega arith) (λ b x lt h. record { store = h.store; store_rises = h.store_rises; after_load = subst (λ o. LoadedBefore o x) (sym (get_push g.loads c (length b) (omega (arith, p.stored)))) h.after_load }) k.stores;
       turn_nodes = k.turn_nodes;
       operations = each_push (Operates (scope new) (length g.turn_nodes)) [] g.operations _ (ops_more (length g.operations) (scope g) (scope new) (length g.turn_nodes) (length g.turn_nodes) g.operations (omega arith) wider p.operations)
-          (at_place g (length g.turn_nodes) _ _ _ here (record { kind = refl; types = same_self t; entry_type = same_self t; a = refl; b = refl; c = refl; imm = number_self (length g.loads) (0 + length g.loads) (omega arith); turn = refl }));
+          (at_place g (length g.turn_nodes) _ _ _ here (record { kind = refl; from = same_self t; ty = same_self t; a = refl; b = refl; c = refl; imm = number_self (length g.loads) (0 + length g.loads) (omega arith); turn = refl }));
     }
 
-pub with_output_fits : (g : Lists) (name : ℕ) (t : Ty) (value : ℕ) (spot : Spot) → IsPart g → length g.operations < 65536 → name < length g.names → All (λ o. o.name < name) g.outputs → operand_fits g.operations (Some t) value ≡ true → IsPart (with_output g name t value spot)
-with_output_fits g name t value spot p few there rising reads =
+pub with_output_fits : (g : Lists) (name : ℕ) (t : Ty) (value : ℕ) (spot : Spot) → IsPart g → length g.operations < most_operations → name < length g.names → All (λ o. o.name < name) g.outputs → operand_fits g.operations (Some t) value ≡ true → PlaceFits spot → IsPart (with_output g name t value spot)
+with_output_fits g name t value spot p few there rising reads wide =
     let new = with_output g name t value spot in
     let o : Outlet = record { name = name; ty = t; op = length g.operations } in
     let len = length_push g.operations (entry_op kind.Out t value (length g.outputs) spot) in
@@ -255,6 +266,7 @@ with_output_fits g name t value spot p few there rising reads =
     let outputs : Each (OutputFits (length g.names) (length new.operations)) [] (g.outputs ++ o ∷ []) = each_push (OutputFits (length g.names) (length new.operations)) [] g.outputs o k.outputs (record { name = there; name_rises = rising; operation = omega arith; operation_rises = under_all (λ x. x.op) (length g.operations) g.outputs f.outputs }) in
     let no_more = few_outputs (length g.names) (length new.operations) (g.outputs ++ o ∷ []) outputs in
     record {
+      widths = record { places = All-push (λ (o : Op). PlaceFits o.spot) g.operations _ p.widths.places wide; values = p.widths.values };
       few_names = p.few_names;
       few_inputs = p.few_inputs;
       few_outputs = omega (arith, p.few_names);
@@ -270,11 +282,11 @@ with_output_fits g name t value spot p few there rising reads =
       stores = k.stores;
       turn_nodes = k.turn_nodes;
       operations = each_push (Operates (scope new) (length g.turn_nodes)) [] g.operations _ (ops_more (length g.operations) (scope g) (scope new) (length g.turn_nodes) (length g.turn_nodes) g.operations (omega arith) wider p.operations)
-          (at_place g (length g.turn_nodes) _ _ _ here (record { kind = refl; types = same_self t; entry_type = same_self t; a = reads; b = refl; c = refl; imm = number_self (length g.outputs) (0 + length g.outputs) (omega arith); turn = refl }));
+          (at_place g (length g.turn_nodes) _ _ _ here (record { kind = refl; from = same_self t; ty = same_self t; a = reads; b = refl; c = refl; imm = number_self (length g.outputs) (0 + length g.outputs) (omega arith); turn = refl }));
     }
 
-with_store_fits : (g : Lists) (c : Loaded) (value : ℕ) (spot : Spot) → IsPart g → length g.operations < 65536 → slice_get g.loads (length g.stores) ≡ Some c → operand_fits g.operations (Some c.ty) value ≡ true → IsPart (with_store g c.ty value spot)
-with_store_fits g c value spot p few cell reads =
+with_store_fits : (g : Lists) (c : Loaded) (value : ℕ) (spot : Spot) → IsPart g → length g.operations < most_operations → slice_get g.loads (length g.stores) ≡ Some c → operand_fits g.operations (Some c.ty) value ≡ true → PlaceFits spot → IsPart (with_store g c.ty value spot)
+with_store_fits g c value spot p few cell reads wide =
     let new = with_store g c.ty value spot in
     let len = length_push g.operations (entry_op kind.Store c.ty value (length g.stores) spot) in
     let len_stores = length_push g.stores (length g.operations) in
@@ -291,6 +303,7 @@ with_store_fits g c value spot p few cell reads =
     (stored_last g.loads (length g.operations) 0 g.stores f.stores ∙ ap (cell_entry (0 + length g.stores)) (ap (slice_get g.loads) (zero-add (length g.stores)) ∙ cell))
     (under_none (λ o. o.op) (λ o. o.ty) (length g.operations) 0 g.outputs f.outputs) in
     record {
+      widths = record { places = All-push (λ (o : Op). PlaceFits o.spot) g.operations _ p.widths.places wide; values = p.widths.values };
       few_names = p.few_names;
       few_inputs = p.few_inputs;
       few_outputs = p.few_outputs;
@@ -306,12 +319,12 @@ with_store_fits g c value spot p few cell reads =
       stores = each_push (StoreFits g.loads (length new.operations)) [] g.stores (length g.operations) k.stores (record { store = omega arith; store_rises = under_all (λ n. n) (length g.operations) g.stores f.stores; after_load = subst (λ o. LoadedBefore o (length g.operations)) (sym cell) (under_get (λ d. d.load) (length g.operations) g.loads (length g.stores) c f.loads cell) });
       turn_nodes = k.turn_nodes;
       operations = each_push (Operates (scope new) (length g.turn_nodes)) [] g.operations _ (ops_more (length g.operations) (scope g) (scope new) (length g.turn_nodes) (length g.turn_nodes) g.operations (omega arith) wider p.operations)
-          (at_place g (length g.turn_nodes) _ _ _ here (record { kind = refl; types = same_self c.ty; entry_type = same_self c.ty; a = reads; b = refl; c = refl; imm = number_self (length g.stores) (0 + length g.stores) (omega arith); turn = refl }));
+          (at_place g (length g.turn_nodes) _ _ _ here (record { kind = refl; from = same_self c.ty; ty = same_self c.ty; a = reads; b = refl; c = refl; imm = number_self (length g.stores) (0 + length g.stores) (omega arith); turn = refl }));
     }
 
-stored_at_place : (g : Lists) (o : Option Loaded) (value : ℕ) (spot : Spot) → slice_get g.loads (length g.stores) ≡ o → IsPart g → length g.operations < 65536 → length g.stores < length g.loads → operand_fits g.operations (Some (type_of o)) value ≡ true → IsPart (with_store g (type_of o) value spot)
-stored_at_place g None value spot e p few there reads = absurd (omega (arith, get_some g.loads (length g.stores) e))
-stored_at_place g (Some c) value spot e p few there reads = with_store_fits g c value spot p few e reads
+stored_at_place : (g : Lists) (o : Option Loaded) (value : ℕ) (spot : Spot) → slice_get g.loads (length g.stores) ≡ o → IsPart g → length g.operations < most_operations → length g.stores < length g.loads → operand_fits g.operations (Some (type_of o)) value ≡ true → PlaceFits spot → IsPart (with_store g (type_of o) value spot)
+stored_at_place g None value spot e p few there reads wide = absurd (omega (arith, get_some g.loads (length g.stores) e))
+stored_at_place g (Some c) value spot e p few there reads wide = with_store_fits g c value spot p few e reads wide
 
-pub with_cell_fits : (g : Lists) (cell value : ℕ) (spot : Spot) → IsPart g → length g.operations < 65536 → cell ≡ length g.stores → cell < length g.loads → operand_fits g.operations (Some (type_of (slice_get g.loads cell))) value ≡ true → IsPart (with_store g (type_of (slice_get g.loads cell)) value spot)
-with_cell_fits g cell value spot p few next there reads = stored_at_place g (slice_get g.loads cell) value spot (ap (slice_get g.loads) (sym next)) p few (omega arith) reads
+pub with_cell_fits : (g : Lists) (cell value : ℕ) (spot : Spot) → IsPart g → length g.operations < most_operations → cell ≡ length g.stores → cell < length g.loads → operand_fits g.operations (Some (type_of (slice_get g.loads cell))) value ≡ true → PlaceFits spot → IsPart (with_store g (type_of (slice_get g.loads cell)) value spot)
+with_cell_fits g cell value spot p few next there reads wide = stored_at_place g (slice_get g.loads cell) value spot (ap (slice_get g.loads) (sym next)) p few (omega arith) reads wide

@@ -7,9 +7,10 @@ use Rattle.vcp_base.specs.declared.kind.Kind.{Kind}
 use Rattle.vcp_base.specs.declared.kind.Kind.TheVariants as kind
 use Rattle.vcp_base.specs.declared.kind.StopKind.TheVariants as stop
 use Rattle.op_graph.specs.declared.op.Op.{Op}
-use Rattle.op_graph.specs.Lists.{Lists, nothing, cells}
+use Rattle.op_graph.specs.Lists.{Lists, nothing, cells, turns_of}
+use Rattle.op_graph.specs.Building.{with_turn_node}
 use Rattle.op_graph.specs.Building.{with_name, with_load, with_op, with_output, with_store}
-use Rattle.op_graph.specs.GraphRun.{graph_run}
+use Rattle.op_graph.specs.GraphRun.{graph_run, cells_after}
 
 -- an operation on values of this type, which reads a and b
 op_on : Ty → Kind → ℕ → ℕ → ℤ → Op
@@ -35,3 +36,10 @@ counts = refl
 passes : graph_run (counter ty.Int (pos 32766)) ([] ∷ [] ∷ [] ∷ []) ≡ record { rows = (pos 32767 ∷ []) ∷ []; end = Some (record { op = 2; kind = stop.Range }) }
 unfolding counter op_on
 passes = refl
+
+turns-are : turns_of (with_turn_node (with_turn_node (with_turn_node nothing (record { parent = 0; name = 5; value = pos 1 })) (record { parent = 1; name = 6; value = pos 2 })) (record { parent = 1; name = 6; value = pos 3 })) 3 ≡ (record { name = 5; value = pos 1 }) ∷ (record { name = 6; value = pos 3 }) ∷ []
+turns-are = refl
+
+cells-after : cells_after (counter ty.Dint (pos 0)) (pos 0 ∷ []) ([] ∷ [] ∷ []) ≡ pos 2 ∷ []
+unfolding counter op_on
+cells-after = refl

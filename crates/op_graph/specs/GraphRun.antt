@@ -1,18 +1,15 @@
 -- GraphRun: the run of a graph on plain integers. No word, no signature and no stamp stands in it.
-use Rattle.std.specs.Prelude.{◌≡◌, ℕ, true, ℤ, pos, unsigned_abs, cond, nat_lt, List, [], ◌∷◌, ◌++◌, length, map, slice_get, slice_index_or, Option, Some, None, Ok, Err}
+use Rattle.std.specs.Prelude.{◌≡◌, ℕ, ◌<◌, true, ℤ, pos, unsigned_abs, cond, nat_lt, List, [], ◌∷◌, ◌++◌, length, map, slice_get, Option, Some, None, Ok, Err}
 use Rattle.vcp_base.specs.declared.kind.Kind.{Kind}
 use Rattle.vcp_base.specs.declared.kind.Kind.TheVariants as kind
 use Rattle.vcp_base.specs.declared.kind.StopKind.{StopKind}
 use Rattle.vcp_base.specs.Kinds.{operands, Outcome, outcome}
-use Rattle.op_graph.specs.declared.op.Op.{Op}
 use Rattle.vcp_base.specs.Types.{fits}
+use Rattle.vcp_base.specs.Values.{at}
+use Rattle.op_graph.specs.declared.op.Op.{Op}
 use Rattle.op_graph.specs.declared.op.Loaded.{Loaded}
 use Rattle.op_graph.specs.declared.op.Outlet.{Outlet}
 use Rattle.op_graph.specs.Lists.{Lists}
-
--- the value at a place of a list, and 0 past its end
-abbrev pub at : List ℤ → ℕ → ℤ
-at values i = slice_index_or values i (pos 0)
 
 -- the operation's own number: the value of its input in the row for INPUT, and else its `imm`
 abbrev pub own : List ℤ → Kind → ℤ → ℤ
@@ -98,3 +95,16 @@ CellsFit g cells = (k : ℕ) (l : Loaded) → slice_get g.loads k ≡ Some l →
 -- the value of each output's OUT is in the output's type
 abbrev pub OutputsFit : Lists → List ℤ → Type 0
 OutputsFit g values = (k : ℕ) (o : Outlet) → slice_get g.outputs k ≡ Some o → fits o.ty (at values o.op) ≡ true
+
+-- each value of a cycle is in the type of its operation
+abbrev pub ValuesFit : Lists → List ℤ → Type 0
+ValuesFit g values = (i : ℕ) (op : Op) → i < length values → slice_get g.operations i ≡ Some op → fits op.ty (at values i) ≡ true
+
+-- the values that the cells hold after cycles over these rows, up to the first that stops
+abbrev pub cells_or : List ℤ → List ℤ → Option StopKind → List ℤ
+cells_or held next None = next
+cells_or held next (Some why) = held
+
+abbrev pub cells_after : Lists → List ℤ → List (List ℤ) → List ℤ
+cells_after g held [] = held
+cells_after g held (row ∷ rows) = cells_after g (cells_or held (stored g (cycle g held row).values) (cycle g held row).stop) rows

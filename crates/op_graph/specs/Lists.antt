@@ -1,5 +1,6 @@
 -- Lists: what a graph, or a part of one that is being built, is made of.
-use Rattle.std.specs.Prelude.{ℕ, List, [], ◌∷◌, slice_index_or}
+use Rattle.std.specs.Prelude.{ℕ, suc, ◌==◌, cond, List, [], ◌∷◌, ◌++◌, length, reverse, slice_index_or}
+use Rattle.vcp_base.specs.declared.turns.Turn.{Turn}
 use Rattle.vcp_base.specs.declared.columns.Column.{Column}
 use Rattle.op_graph.specs.declared.op.Op.{Op}
 use Rattle.op_graph.specs.declared.op.Var.{Var}
@@ -35,3 +36,20 @@ cells g = joined g.loads g.stores
 -- the input's name and type
 abbrev pub column : List (List ℕ) → Var → Column
 column names v = record { name = slice_index_or names v.name []; ty = v.ty }
+
+-- the output's name and type
+abbrev pub output_column : List (List ℕ) → Outlet → Column
+output_column names o = record { name = slice_index_or names o.name []; ty = o.ty }
+
+-- the turn that a node stands for
+abbrev pub turn_of : TurnNode → Turn
+turn_of t = record { name = t.name; value = t.value }
+
+-- the turns from node n, counted from 1, outwards; the nodes come last first, and a parent stands before its node
+abbrev pub turns_back : List TurnNode → ℕ → List Turn
+turns_back [] n = []
+turns_back (t ∷ earlier) n = cond (suc (length earlier) == n) (turns_back earlier t.parent ++ turn_of t ∷ []) (turns_back earlier n)
+
+-- the turns round an operation of turn node n, outermost first; none for 0
+abbrev pub turns_of : Lists → ℕ → List Turn
+turns_of g n = turns_back (reverse g.turn_nodes) n

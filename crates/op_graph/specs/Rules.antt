@@ -1,15 +1,17 @@
 -- Rules: what makes lists a graph. They are the rules that the image format has for a graph.
 use Rattle.std.specs.Option.{is_some}
 use Rattle.std.specs.Ordering.{int_eq}
-use Rattle.std.specs.Prelude.{◌≡◌, ℕ, ◌+◌, ◌<◌, ◌≤◌, ◌==◌, ℤ, pos, Bool, true, false, not, ◌&&◌, ◌||◌, cond, nat_lt, nat_le, List, [], ◌∷◌, ◌++◌, length, slice_get, All, Option, Some, None}
-use Rattle.std.specs.List.{list_all}
+use Rattle.std.specs.Int.{w64}
+use Rattle.vcp_base.specs.declared.spot.Spot.{Spot}
+use Rattle.std.specs.Prelude.{FitsSigned, ◌≡◌, ℕ, ◌+◌, ◌^◌, ◌<◌, ◌≤◌, ◌==◌, ℤ, pos, Bool, true, false, not, ◌&&◌, cond, nat_lt, nat_le, List, [], ◌∷◌, ◌++◌, length, slice_get, All, Option, Some, None}
 use Rattle.vcp_base.specs.declared.ty.Ty.{Ty}
 use Rattle.vcp_base.specs.declared.ty.Ty.TheVariants as ty
 use Rattle.vcp_base.specs.declared.kind.Kind.{Kind}
 use Rattle.vcp_base.specs.declared.kind.Kind.TheVariants as kind
 use Rattle.vcp_base.specs.Types.{fits, within}
 use Rattle.vcp_base.specs.Kinds.{operands, operand_type}
-use Rattle.vcp_base.specs.Names.{is_name, SameName}
+use Rattle.vcp_base.specs.Limits.{most_names, most_cells, most_turn_nodes, most_operations}
+use Rattle.vcp_base.specs.Names.{NameFits}
 use Rattle.op_graph.specs.declared.op.Op.{Op}
 use Rattle.op_graph.specs.declared.op.Var.{Var}
 use Rattle.op_graph.specs.declared.op.Outlet.{Outlet}
@@ -21,15 +23,6 @@ use Rattle.op_graph.specs.Lists.{Lists}
 abbrev pub Each : {X : Type 0} → (List X → X → Type 0) → List X → List X → Type 0
 Each P before [] = Unit {0}
 Each P before (x ∷ xs) = P before x × Each P (before ++ x ∷ []) xs
-
--- ---- names
-
--- a name may follow those before it
-pub record NameFits (before : List (List ℕ)) (n : List ℕ) : Type 0 where
-  pub some : 1 ≤ length n
-  pub short : length n ≤ 1048576
-  pub letters : is_name n ≡ true
-  pub new : All (λ m. ¬ SameName m n) before
 
 -- ---- inputs, outputs, cells and turn nodes, where there are so many names and operations
 
@@ -129,6 +122,15 @@ entry_of p kind.Store = p.store
 entry_of p kind.Out = p.out
 entry_of p _ = None
 
+-- how many inputs, cells and outputs an entry is
+abbrev pub one : Option Entry → ℕ
+one None = 0
+one (Some e) = 1
+
+-- in how many lists an operation stands
+abbrev pub lists_of : Place → ℕ
+lists_of p = one p.input + one p.load + one p.store + one p.out
+
 -- ---- operations
 
 abbrev pub is_input : Kind → Bool
@@ -158,51 +160,63 @@ kind_fits p k = agree (is_input k) (is_some p.input) && agree (is_load k) (is_so
 
 abbrev pub same_type : Ty → Ty → Bool
 same_type ty.Bool ty.Bool = true
+same_type ty.Bool ty.Int = false
+same_type ty.Bool ty.Dint = false
+same_type ty.Int ty.Bool = false
 same_type ty.Int ty.Int = true
+same_type ty.Int ty.Dint = false
+same_type ty.Dint ty.Bool = false
+same_type ty.Dint ty.Int = false
 same_type ty.Dint ty.Dint = true
-same_type _ _ = false
 
 -- INT or DINT
 abbrev pub is_number : Ty → Bool
 is_number ty.Bool = false
-is_number _ = true
+is_number ty.Int = true
+is_number ty.Dint = true
 
 -- CONV goes from INT to DINT, from DINT to INT and from BOOL to INT
 abbrev pub converts : Ty → Ty → Bool
-converts ty.Int ty.Dint = true
-converts ty.Dint ty.Int = true
+converts ty.Bool ty.Bool = false
 converts ty.Bool ty.Int = true
-converts _ _ = false
+converts ty.Bool ty.Dint = false
+converts ty.Int ty.Bool = false
+converts ty.Int ty.Int = false
+converts ty.Int ty.Dint = true
+converts ty.Dint ty.Bool = false
+converts ty.Dint ty.Int = true
+converts ty.Dint ty.Dint = false
 
--- the types of arithmetic: one of the numbers for operands and result
-abbrev pub calculates : Ty → Ty → Bool
-calculates from to = same_type from to && is_number from
+-- a kind takes operands of the type: arithmetic and `<` take numbers, logic takes BOOL, every other kind any type
+abbrev pub takes_type : Kind → Ty → Bool
+takes_type kind.Neg from = is_number from
+takes_type kind.Add from = is_number from
+takes_type kind.Sub from = is_number from
+takes_type kind.Mul from = is_number from
+takes_type kind.Div from = is_number from
+takes_type kind.Mod from = is_number from
+takes_type kind.Lt from = is_number from
+takes_type kind.Not from = same_type from ty.Bool
+takes_type kind.And from = same_type from ty.Bool
+takes_type kind.Or from = same_type from ty.Bool
+takes_type kind.Xor from = same_type from ty.Bool
+takes_type _ from = true
 
--- the types of logic: BOOL for operands and result
-abbrev pub is_logic : Ty → Ty → Bool
-is_logic from to = same_type from ty.Bool && same_type to ty.Bool
+-- the type of the operands: that of the input, cell or output, and else one that the kind takes
+abbrev pub from_fits : Option Entry → Kind → Ty → Bool
+from_fits None k from = takes_type k from
+from_fits (Some e) k from = same_type e.ty from
 
--- the types that an operation of a kind may have
+-- the type of the result, where that of the operands fits: BOOL for comparisons, one to convert to for CONV, and else the same
+abbrev pub ty_fits : Kind → Ty → Ty → Bool
+ty_fits kind.Conv from to = converts from to
+ty_fits kind.Eq from to = same_type to ty.Bool
+ty_fits kind.Lt from to = same_type to ty.Bool
+ty_fits _ from to = same_type from to
+
+-- the types of operands and result of an operation that is no input's, output's or cell's
 abbrev pub types_fit : Kind → Ty → Ty → Bool
-types_fit kind.Conv from to = converts from to
-types_fit kind.Neg from to = calculates from to
-types_fit kind.Add from to = calculates from to
-types_fit kind.Sub from to = calculates from to
-types_fit kind.Mul from to = calculates from to
-types_fit kind.Div from to = calculates from to
-types_fit kind.Mod from to = calculates from to
-types_fit kind.Not from to = is_logic from to
-types_fit kind.And from to = is_logic from to
-types_fit kind.Or from to = is_logic from to
-types_fit kind.Xor from to = is_logic from to
-types_fit kind.Eq from to = same_type to ty.Bool
-types_fit kind.Lt from to = is_number from && same_type to ty.Bool
-types_fit _ from to = same_type from to
-
--- INPUT, LOAD, STORE and OUT have the type of their input, cell or output
-abbrev pub entry_type_fits : Option Entry → Ty → Bool
-entry_type_fits None to = true
-entry_type_fits (Some e) to = same_type e.ty to
+types_fit k from to = takes_type k from && ty_fits k from to
 
 -- the type in which operand j is read; LOAD reads its cell, and no operation
 abbrev pub reads_as : Kind → Ty → ℕ → Option Ty
@@ -228,8 +242,8 @@ turn_fits (Some e) turn_nodes n = n == 0
 -- an operation that is this by the other lists may follow those before it
 pub record OpFits (p : Place) (turn_nodes : ℕ) (before : List Op) (op : Op) : Type 0 where
   pub kind : kind_fits p op.kind ≡ true
-  pub types : types_fit op.kind op.from op.ty ≡ true
-  pub entry_type : entry_type_fits (entry_of p op.kind) op.ty ≡ true
+  pub from : from_fits (entry_of p op.kind) op.kind op.from ≡ true
+  pub ty : ty_fits op.kind op.from op.ty ≡ true
   pub a : operand_fits before (reads_as op.kind op.from 0) op.a ≡ true
   pub b : operand_fits before (reads_as op.kind op.from 1) op.b ≡ true
   pub c : operand_fits before (reads_as op.kind op.from 2) op.c ≡ true
@@ -244,23 +258,33 @@ Operates s turn_nodes before op = OpFits (place_of s (length before)) turn_nodes
 abbrev pub scope : Lists → Scope
 scope g = record { inputs = g.inputs; outputs = g.outputs; loads = g.loads; stores = g.stores }
 
+-- lines and columns have 32 bits
+abbrev pub PlaceFits : Spot → Type 0
+PlaceFits s = (s.line < 2 ^ 32) × (s.col < 2 ^ 32)
+
+-- the numbers that no other rule bounds have the widths of the format: 32 bits for lines and columns, 64 for the values of turns
+pub record Widths (g : Lists) : Type 0 where
+  pub places : All (λ op. PlaceFits op.spot) g.operations
+  pub values : All (λ t. FitsSigned w64 t.value) g.turn_nodes
+
 -- a graph, of whose cells the first ones are stored and the others are not yet
 pub record IsPart (g : Lists) : Type 0 where
-  pub few_names : length g.names ≤ 1024
-  pub few_inputs : length g.inputs ≤ 1024
-  pub few_outputs : length g.outputs ≤ 1024
-  pub few_cells : length g.loads ≤ 1024
-  pub few_turn_nodes : length g.turn_nodes ≤ 65536
-  pub few_operations : length g.operations ≤ 65536
+  pub few_names : length g.names ≤ most_names
+  pub few_inputs : length g.inputs ≤ most_names
+  pub few_outputs : length g.outputs ≤ most_names
+  pub few_cells : length g.loads ≤ most_cells
+  pub few_turn_nodes : length g.turn_nodes ≤ most_turn_nodes
+  pub few_operations : length g.operations ≤ most_operations
   pub enough_operations : length g.inputs + length g.outputs + length g.loads + length g.stores ≤ length g.operations
   pub stored : length g.stores ≤ length g.loads
-  pub names : Each NameFits [] g.names
+  pub names : Each (NameFits (λ n. n)) [] g.names
   pub inputs : Each (InputFits (length g.names)) [] g.inputs
   pub outputs : Each (OutputFits (length g.names) (length g.operations)) [] g.outputs
   pub loads : Each (LoadFits (length g.names) (length g.operations)) [] g.loads
   pub stores : Each (StoreFits g.loads (length g.operations)) [] g.stores
   pub turn_nodes : Each (TurnNodeFits (length g.names)) [] g.turn_nodes
   pub operations : Each (Operates (scope g) (length g.turn_nodes)) [] g.operations
+  pub widths : Widths g
 
 -- a graph: every cell is stored too
 pub record IsGraph (g : Lists) : Type 0 where

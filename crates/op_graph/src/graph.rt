@@ -1,13 +1,14 @@
 //! Graphs.
 
-ghost use Rattle.std.specs.Prelude.{◌≡◌, ◌-◌, ◌<◌, ◌≤◌, Some, IfOk, length, map, slice_get};
-ghost use Rattle.op_graph.specs.Lists.{cells, column as column_of};
+ghost use Rattle.std.specs.Prelude.{◌≡◌, ◌-◌, ◌<◌, ◌≤◌, Some, IfOk, IfSome, [], length, map, slice_get, slice_index_or};
+ghost use Rattle.op_graph.specs.Lists.{cells, column as column_of, output_column, turns_of};
 ghost use Rattle.op_graph.specs.Rules.{IsGraph};
 
 use crate::op::{Cell, Loaded, Op, Outlet, TurnNode, Var};
+use crate::turns_round::{TurnsRound, turns_round};
 use std::alloc::Global;
 use std::marker::Model;
-use vcp_base::{Column, Columns, Memory, Text};
+use vcp_base::{Column, Columns, Memory, Text, Ty};
 
 /// A graph of operations, which keeps the rules of the image format.
 ///
@@ -162,25 +163,46 @@ impl Graph {
         self.operations[i as usize]
     }
 
+    /// The turns round operation `i`, outermost first, where `i` is below the number of operations.
+    /// It takes no memory.
+    pub fn turns(&self, i: u32) -> TurnsRound<'_>
+        requires { i < length self.now.operations }
+        ensures { IfSome (slice_get self.now.operations i) (λ op. result ≡ turns_of self.now op.turn) }
+    {
+        let op = &self.operations[i as usize];
+        turns_round(&self.turn_nodes, op.turn)
+    }
+
     /// The names and types of the inputs, in order.
     pub fn columns(&self, alloc: Global) -> Result<Columns, Memory>
         ensures { IfOk result (λ columns. columns ≡ map (column_of self.now.names) self.now.inputs) }
     {
         let mut columns = Columns::new(alloc);
         'inputs: for input in &self.inputs {
-            columns.push(self.column(alloc, *input)?)?;
+            columns.push(self.column(alloc, input.name, input.ty)?)?;
         }
         Ok(columns)
     }
 
-    /// The name and type of an input.
-    fn column(&self, alloc: Global, input: Var) -> Result<Column, Memory>
-        requires { input.name < length self.now.names }
-        ensures { IfOk result (λ column. column ≡ column_of self.now.names input) }
+    /// The names and types of the outputs, in order.
+    pub fn output_columns(&self, alloc: Global) -> Result<Columns, Memory>
+        ensures { IfOk result (λ columns. columns ≡ map (output_column self.now.names) self.now.outputs) }
+    {
+        let mut columns = Columns::new(alloc);
+        'outputs: for output in &self.outputs {
+            columns.push(self.column(alloc, output.name, output.ty)?)?;
+        }
+        Ok(columns)
+    }
+
+    /// The column of a name and a type.
+    fn column(&self, alloc: Global, name: u32, ty: Ty) -> Result<Column, Memory>
+        requires { name < length self.now.names }
+        ensures { IfOk result (λ column. column ≡ record { name = slice_index_or self.now.names name []; ty = ty }) }
     {
         Ok(Column {
-            name: Text::copy_of(alloc, self.names[input.name as usize].bytes())?,
-            ty: input.ty,
+            name: Text::copy_of(alloc, self.names[name as usize].bytes())?,
+            ty,
         })
     }
 }

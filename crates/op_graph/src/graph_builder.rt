@@ -2,8 +2,10 @@
 
 ghost use Rattle.std.specs.Prelude.{◌≡◌, ◌≤◌, ◌<◌, ◌+◌, ◌^◌, ◌↔◌, ◌++◌, ◌∷◌, [], length, Some, None, Err, true, All, IfOk, OnOk, OnErr, slice_get};
 ghost use Rattle.vcp_base.specs.Types.{fits};
+ghost use Rattle.vcp_base.specs.Limits.{most_names, most_cells, most_turn_nodes, most_operations};
+ghost use Rattle.vcp_base.specs.Names.{NameFits};
 ghost use Rattle.op_graph.specs.Lists.{nothing};
-ghost use Rattle.op_graph.specs.Rules.{NameFits, TurnNodeFits, OpFits, operand_fits, IsGraph};
+ghost use Rattle.op_graph.specs.Rules.{TurnNodeFits, OpFits, operand_fits, IsGraph, IsPart};
 ghost use Rattle.op_graph.specs.Building.{nowhere, entry_op as entry_op_of, with_name, with_turn_node, with_op, with_input, with_load, with_output, with_store, type_of, cell_type};
 
 use crate::build::Build;
@@ -11,10 +13,7 @@ use crate::graph::Graph;
 use crate::op::{Loaded, Op, Outlet, TurnNode, Var};
 use std::alloc::Global;
 use std::marker::Model;
-use vcp_base::{Kind, Memory, Spot, Text, Ty};
-
-/// How many operations a graph has at most.
-const MOST_OPERATIONS: usize = 65536;
+use vcp_base::{Kind, MOST_OPERATIONS, Memory, Spot, Text, Ty};
 
 /// A graph that is built from its front. Each call appends its one entry and operation, and changes
 /// nothing else; after a refusal nothing is changed.
@@ -104,11 +103,34 @@ impl GraphBuilder {
         }
     }
 
+    /// How many operations there are so far.
+    pub fn len(&self) -> u32
+        ensures count { result ≡ length self.now.operations }
+        ensures rules { IsPart self.now }
+    {
+        self.operations.len() as u32
+    }
+
+    /// How many cells there are so far, at most 1,024.
+    pub fn cells(&self) -> u32
+        ensures { result ≡ length self.now.loads }
+    {
+        self.loads.len() as u32
+    }
+
+    /// What the LOAD of cell `i` makes, where `i` is below the number of cells.
+    pub fn cell(&self, i: u32) -> Loaded
+        requires { i < length self.now.loads }
+        ensures { slice_get self.now.loads i ≡ Some result }
+    {
+        self.loads[i as usize]
+    }
+
     /// Adds a copy of a name, which the rules allow after those that are there, where there are
     /// fewer than 1,024. Gives its number, from 0.
     pub fn name(&mut self, name: &Text) -> Result<u32, Memory>
-        requires few { length self.old.names < 1024 }
-        requires fits { NameFits self.old.names name.now }
+        requires few { length self.old.names < most_names }
+        requires fits { NameFits (λ n. n) self.old.names name.now }
         ensures number { IfOk result (λ k. k ≡ length self.old.names) }
         ensures added { OnOk result (self.new ≡ with_name self.old name.now) }
         ensures err { OnErr result (self.new ≡ self.old) }
@@ -122,7 +144,7 @@ impl GraphBuilder {
     /// Adds a turn node, whose parent is there or 0, where there are fewer than 65,536. Gives its
     /// number, from 1.
     pub fn turn(&mut self, node: TurnNode) -> Result<u32, Memory>
-        requires few { length self.old.turn_nodes < 65536 }
+        requires few { length self.old.turn_nodes < most_turn_nodes }
         requires fits { TurnNodeFits (length self.old.names) self.old.turn_nodes node }
         ensures number { IfOk result (λ k. k ≡ length self.old.turn_nodes + 1) }
         ensures added { OnOk result (self.new ≡ with_turn_node self.old node) }
@@ -134,20 +156,17 @@ impl GraphBuilder {
     }
 
     /// Adds an input and its INPUT, where all operations so far are inputs and the name is above
-    /// theirs. Gives the operation's number.
-    pub fn input(&mut self, name: u32, ty: Ty, spot: Spot) -> Result<u32, Build>
+    /// theirs; there is room for it, as there are no more inputs than names. Gives the operation's
+    /// number.
+    pub fn input(&mut self, name: u32, ty: Ty, spot: Spot) -> Result<u32, Memory>
         requires front { length self.old.inputs ≡ length self.old.operations }
         requires name { name < length self.old.names }
         requires name_rises { All (λ v. v.name < name) self.old.inputs }
         ensures number { IfOk result (λ k. k ≡ length self.old.operations) }
         ensures added { OnOk result (self.new ≡ with_input self.old name ty spot) }
-        ensures full { (result ≡ Err Build.Full) ↔ (length self.old.operations ≡ 65536) }
         ensures err { OnErr result (self.new ≡ self.old) }
     {
         let k = self.operations.len();
-        if k >= MOST_OPERATIONS {
-            return Err(Build::Full);
-        }
         let op = entry_op(Kind::Input, ty, 0, self.inputs.len(), spot);
         append_both(&mut self.operations, op, &mut self.inputs, Var { name, ty })?;
         Ok(k as u32)
@@ -156,16 +175,16 @@ impl GraphBuilder {
     /// Adds a cell and its LOAD, where there are fewer than 1,024 cells and the initial value is in
     /// the type. Gives the operation's number.
     pub fn load(&mut self, name: u32, ty: Ty, init: i64, spot: Spot) -> Result<u32, Build>
-        requires few { length self.old.loads < 1024 }
+        requires few { length self.old.loads < most_cells }
         requires name { name < length self.old.names }
         requires init { fits ty init ≡ true }
         ensures number { IfOk result (λ k. k ≡ length self.old.operations) }
         ensures added { OnOk result (self.new ≡ with_load self.old name ty init spot) }
-        ensures full { (result ≡ Err Build.Full) ↔ (length self.old.operations ≡ 65536) }
+        ensures full { (result ≡ Err Build.Full) ↔ (length self.old.operations ≡ most_operations) }
         ensures err { OnErr result (self.new ≡ self.old) }
     {
         let k = self.operations.len();
-        if k >= MOST_OPERATIONS {
+        if k >= MOST_OPERATIONS as usize {
             return Err(Build::Full);
         }
         let op = entry_op(Kind::Load, ty, 0, self.loads.len(), spot);
@@ -185,11 +204,11 @@ impl GraphBuilder {
         requires { OpFits nowhere (length self.old.turn_nodes) self.old.operations op }
         ensures number { IfOk result (λ k. k ≡ length self.old.operations) }
         ensures added { OnOk result (self.new ≡ with_op self.old op) }
-        ensures full { (result ≡ Err Build.Full) ↔ (length self.old.operations ≡ 65536) }
+        ensures full { (result ≡ Err Build.Full) ↔ (length self.old.operations ≡ most_operations) }
         ensures err { OnErr result (self.new ≡ self.old) }
     {
         let k = self.operations.len();
-        if k >= MOST_OPERATIONS {
+        if k >= MOST_OPERATIONS as usize {
             return Err(Build::Full);
         }
         self.operations.push(op)?;
@@ -204,11 +223,11 @@ impl GraphBuilder {
         requires value { operand_fits self.old.operations (Some ty) value ≡ true }
         ensures number { IfOk result (λ k. k ≡ length self.old.operations) }
         ensures added { OnOk result (self.new ≡ with_output self.old name ty value spot) }
-        ensures full { (result ≡ Err Build.Full) ↔ (length self.old.operations ≡ 65536) }
+        ensures full { (result ≡ Err Build.Full) ↔ (length self.old.operations ≡ most_operations) }
         ensures err { OnErr result (self.new ≡ self.old) }
     {
         let k = self.operations.len();
-        if k >= MOST_OPERATIONS {
+        if k >= MOST_OPERATIONS as usize {
             return Err(Build::Full);
         }
         let op = entry_op(Kind::Out, ty, value, self.outputs.len(), spot);
@@ -229,11 +248,11 @@ impl GraphBuilder {
         requires value { operand_fits self.old.operations (Some (cell_type self.old cell)) value ≡ true }
         ensures number { IfOk result (λ k. k ≡ length self.old.operations) }
         ensures added { OnOk result (self.new ≡ with_store self.old (cell_type self.old cell) value spot) }
-        ensures full { (result ≡ Err Build.Full) ↔ (length self.old.operations ≡ 65536) }
+        ensures full { (result ≡ Err Build.Full) ↔ (length self.old.operations ≡ most_operations) }
         ensures err { OnErr result (self.new ≡ self.old) }
     {
         let k = self.operations.len();
-        if k >= MOST_OPERATIONS {
+        if k >= MOST_OPERATIONS as usize {
             return Err(Build::Full);
         }
         let ty = type_at(&self.loads, cell);

@@ -9,12 +9,18 @@ mod graph;
 mod graph_builder;
 mod laws;
 mod op;
+mod turns_round;
 
 pub use build::Build;
 pub use graph::Graph;
 pub use graph_builder::GraphBuilder;
-pub use laws::operands_are_in_their_types;
+pub use laws::{
+    cells_have_two_parts, entries_are_found_by_one_walk, entries_keep_their_rules,
+    fields_are_wrong_in_order, numbers_have_64_bits, operands_are_in_their_types,
+    operands_are_there,
+};
 pub use op::{Cell, Loaded, Op, Outlet, TurnNode, Var};
+pub use turns_round::TurnsRound;
 
 #[cfg(test)]
 mod tests;

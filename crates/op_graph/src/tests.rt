@@ -5,7 +5,7 @@ ghost use Rattle.std.specs.Prelude.{◌≡◌, length, IfOk};
 use crate::{Build, Cell, Graph, GraphBuilder, Op, Outlet, TurnNode, Var};
 use std::alloc::Global;
 use std::test::Fail;
-use vcp_base::{Kind, Spot, Text, Ty};
+use vcp_base::{Kind, Spot, Text, Turn, Ty};
 
 /// An operation on DINT values outside every FOR, which reads `a` and `b`.
 fn on_dint(kind: Kind, a: u32, b: u32, imm: i64) -> Op
@@ -32,7 +32,8 @@ fn sums(alloc: Global) -> Result<Graph, Build> {
     let x = builder.input(0, Ty::Dint, spot)?;
     let n = builder.load(0, Ty::Dint, 7, spot)?;
     let sum = builder.push(on_dint(Kind::Add, x, n, 0))?;
-    builder.output(0, Ty::Dint, sum, spot)?;
+    builder.name(&Text::copy_of(alloc, b"y")?)?;
+    builder.output(1, Ty::Dint, sum, spot)?;
     builder.store(0, sum, spot)?;
     builder.turn(TurnNode {
         parent: 0,
@@ -44,9 +45,15 @@ fn sums(alloc: Global) -> Result<Graph, Build> {
 
 #[test]
 fn graphs_are_built(rt: HostRuntime) -> Result<(), Fail> {
+    crate::cells_have_two_parts();
+    crate::entries_are_found_by_one_walk();
+    crate::entries_keep_their_rules();
+    crate::fields_are_wrong_in_order();
+    crate::numbers_have_64_bits();
     crate::operands_are_in_their_types();
+    crate::operands_are_there();
     let graph = sums(rt.alloc())?;
-    assert_eq!(rt; [graph.names(), graph.inputs(), graph.outputs()], [1, 1, 1]);
+    assert_eq!(rt; [graph.names(), graph.inputs(), graph.outputs()], [2, 1, 1]);
     assert_eq!(rt; [graph.cells(), graph.turn_nodes(), graph.len()], [1, 1, 5]);
     assert_eq!(rt; graph.name(0).bytes(), b"x".as_slice());
     assert_eq!(rt;
@@ -59,7 +66,7 @@ fn graphs_are_built(rt: HostRuntime) -> Result<(), Fail> {
     assert_eq!(rt;
         graph.output(0),
         Outlet {
-            name: 0,
+            name: 1,
             ty: Ty::Dint,
             op: 3
         }
@@ -86,6 +93,10 @@ fn graphs_are_built(rt: HostRuntime) -> Result<(), Fail> {
     let columns = graph.columns(rt.alloc())?;
     assert_eq!(rt; columns.len(), 1);
     assert_eq!(rt; columns.at(0).name.bytes(), b"x".as_slice());
+    let columns = graph.output_columns(rt.alloc())?;
+    assert_eq!(rt; columns.len(), 1);
+    assert_eq!(rt; columns.at(0).name.bytes(), b"y".as_slice());
+    assert!(rt; columns.at(0).ty == Ty::Dint);
     Ok(())
 }
 
@@ -103,6 +114,7 @@ fn filled(alloc: Global) -> Result<GraphBuilder, Build>
 #[test]
 fn no_operation_is_added_past_the_last(rt: HostRuntime) -> Result<(), Fail> {
     let mut builder = filled(rt.alloc())?;
+    assert!(rt; builder.len() == 65536);
     assert_eq!(rt;
         builder.push(on_dint(Kind::Const, 0, 0, 6)),
         Err(Build::Full)
@@ -110,5 +122,37 @@ fn no_operation_is_added_past_the_last(rt: HostRuntime) -> Result<(), Fail> {
     let graph = builder.finish();
     assert!(rt; graph.len() == 65536);
     assert_eq!(rt; graph.operation(65535), on_dint(Kind::Const, 0, 0, 5));
+    Ok(())
+}
+
+/// A graph with one operation, within 600 turns of values 0 to 599, each in the one before.
+fn nested(alloc: Global) -> Result<Graph, Build>
+    ensures { IfOk result (λ graph. length graph.operations ≡ 1) }
+{
+    let mut builder = GraphBuilder::new(alloc);
+    builder.name(&Text::copy_of(alloc, b"i")?)?;
+    'turns: for i in 0..600u32 {
+        builder.turn(TurnNode {
+            parent: i,
+            name: 0,
+            value: i as i64,
+        })?;
+    }
+    builder.push(Op {
+        turn: 600,
+        ..on_dint(Kind::Const, 0, 0, 5)
+    })?;
+    Ok(builder.finish())
+}
+
+#[test]
+fn turns_are_told_from_the_outermost_inwards(rt: HostRuntime) -> Result<(), Fail> {
+    let graph = nested(rt.alloc())?;
+    let mut turns = graph.turns(0);
+    for i in 0..600i64 {
+        assert_eq!(rt; turns.next(), Some(Turn { name: 0, value: i }));
+    }
+    assert!(rt; turns.next().is_none());
+    assert!(rt; turns.next().is_none());
     Ok(())
 }

@@ -1,6 +1,7 @@
 use Rattle.std.proofs.Common.{arith, rules, sym, subst, ◌≡◌, ◌<◌, length}
 use Rattle.std.proofs.lemmas.Grind.{common_steps}
 use Rattle.std.proofs.lemmas.Int.{to_z-of_z}
+use Rattle.vcp_base.specs.Limits.{most_operations}
 use Rattle.op_graph.specs.Lists.{Lists}
 use Rattle.op_graph.specs.Rules.{IsPart}
 use Rattle.op_graph.specs.Building.{with_store, cell_type}
@@ -12,5 +13,5 @@ invariant_of-self-2 c =
     let v : Lists = c.args.self.now in
     let new : Lists = record { names = c.self.inside.names.items; inputs = c.self.inside.inputs.items; outputs = c.self.inside.outputs.items; loads = c.self.inside.loads.items; stores = c.append_both.new.entries.items; turn_nodes = c.self.inside.turn_nodes.items; operations = c.append_both.new.operations.items } in
     let e : new ≡ with_store v (cell_type v c.args.cell) c.args.value c.args.spot = first_of (search rules, grind (arith, common_steps, to_z-of_z)) in
-    let few : length v.operations < 65536 = subst (λ (x : Lists). length x.operations < 65536) c.self.view_is (omega arith) in
-    subst IsPart (sym e) (with_cell_fits v c.args.cell c.args.value c.args.spot (subst IsPart c.self.view_is c.self.invariant) few c.requires.next c.requires.there c.requires.value)
+    let few : length v.operations < most_operations = subst (λ (x : Lists). length x.operations < most_operations) c.self.view_is (omega arith) in
+    subst IsPart (sym e) (with_cell_fits v c.args.cell c.args.value c.args.spot (subst IsPart c.self.view_is c.self.invariant) few c.requires.next c.requires.there c.requires.value (omega arith, omega arith))
