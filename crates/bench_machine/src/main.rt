@@ -3,6 +3,7 @@
 #![tactic(auto)]
 
 ghost use Rattle.std.specs.Prelude.{◌≤◌, IfOk};
+ghost use Rattle.vcp_base.specs.Limits.{most_cycles};
 
 mod mixed_graph;
 
@@ -13,7 +14,7 @@ use op_graph::Build;
 use signature_table::Table;
 use std::alloc::Global;
 use std::{env, io};
-use vcp_base::Row;
+use vcp_base::{MOST_CYCLES, Row};
 
 /// The seed of the signatures.
 const SEED: u32 = 305419896;
@@ -35,7 +36,7 @@ fn input_of(cycle: u32) -> i64 {
 
 /// Runs at most 1,000,000 cycles, up to the first that is not released.
 fn run(alloc: Global, cycles: u32) -> Result<Total, Build>
-    requires { cycles ≤ 1000000 }
+    requires { cycles ≤ most_cycles }
 {
     let graph = mixed_graph(alloc)?;
     let table = Table::new(alloc, &graph, SEED, STEP)?;
@@ -59,7 +60,7 @@ fn run(alloc: Global, cycles: u32) -> Result<Total, Build>
 
 /// The number of cycles that the first word says, at most 1,000,000.
 fn wanted_cycles(rt: &(impl env::Env + AllocGlobal)) -> io::Result<u32>
-    ensures { IfOk result (λ cycles. cycles ≤ 1000000) }
+    ensures { IfOk result (λ cycles. cycles ≤ most_cycles) }
 {
     match env::args(rt)?.nth(1) {
         Some(word) => cycles_of(word.as_str()),
@@ -69,10 +70,10 @@ fn wanted_cycles(rt: &(impl env::Env + AllocGlobal)) -> io::Result<u32>
 
 /// The number of cycles that a word says.
 fn cycles_of(word: &str) -> io::Result<u32>
-    ensures { IfOk result (λ cycles. cycles ≤ 1000000) }
+    ensures { IfOk result (λ cycles. cycles ≤ most_cycles) }
 {
     match word.parse::<u32>() {
-        Ok(cycles) if cycles <= 1000000 => Ok(cycles),
+        Ok(cycles) if cycles <= MOST_CYCLES => Ok(cycles),
         _ => Err(io::Error::from(io::ErrorKind::InvalidInput)),
     }
 }

@@ -7,7 +7,7 @@ ghost use Rattle.op_graph.specs.Lists.{nothing};
 ghost use Rattle.op_graph.specs.declared.op.Op.{Op as Operation};
 ghost use Rattle.bench_machine.specs.Readable.{Readable, operation as operation_of};
 
-use op_graph::{Build, Graph, GraphBuilder, Op};
+use op_graph::{Build, Graph, GraphBuilder, Op, operands_are_there};
 use std::alloc::Global;
 use vcp_base::{Kind, Spot, Text, Ty};
 
@@ -40,6 +40,7 @@ pub fn mixed_graph(alloc: Global) -> Result<Graph, Build>
     ensures outputs { IfOk result (λ graph. length graph.outputs ≡ 1) }
     ensures operations { IfOk result (λ graph. length graph.operations ≡ 1000) }
 {
+    operands_are_there();
     let mut builder = GraphBuilder::new(alloc);
     builder.name(&Text::copy_of(alloc, b"x")?)?;
     let mut operands = first_operands(&mut builder)?;
@@ -92,13 +93,14 @@ fn step(builder: &mut GraphBuilder, operands: &Operands, i: u32) -> Result<Opera
 fn with_newest(operands: &Operands, ty: Ty, k: u32) -> Operands
     ensures { (ops : List Operation) (op : Operation) → op.ty ≡ ty → k ≡ length ops → Readable ops operands.now → Readable (ops ++ op ∷ []) result }
 {
+    operands_are_there();
     match ty {
         Ty::Bool => Operands {
             older_truth: operands.newer_truth,
             newer_truth: k,
             ..*operands
         },
-        _ => Operands {
+        Ty::Int | Ty::Dint => Operands {
             older: operands.newer,
             newer: k,
             ..*operands

@@ -42,13 +42,13 @@ follows old new values row e out before stands is machine row_is =
 
 -- ---- a cycle that is carried and then ended
 
-answers_kept : (m : State) (e : CycleEnd) → (after_end m e).answers ≡ m.answers
+pub answers_kept : (m : State) (e : CycleEnd) → (after_end m e).answers ≡ m.answers
 answers_kept m end.Released = refl
 answers_kept m (end.Stopped k why) = refl
 answers_kept m (end.Refused k found wanted) = refl
 
 -- the end is made of the answers that were carried
-after_same : (old mid : State) (e : CycleEnd) → mid ≡ record old { answers = mid.answers; under_way = mid.under_way } → given mid ≡ mid.answers → after_end mid e ≡ after_end (with_answers old mid.answers) e
+pub after_same : (old mid : State) (e : CycleEnd) → mid ≡ record old { answers = mid.answers; under_way = mid.under_way } → given mid ≡ mid.answers → after_end mid e ≡ after_end (with_answers old mid.answers) e
 after_same old mid end.Released same all =
     ap (λ xs. record mid { held = stored_words mid.graph xs; under_way = false; cycles = mid.cycles + 1 }) all
     ∙ ap (λ (m : State). record m { held = stored_words m.graph mid.answers; under_way = false; cycles = m.cycles + 1 }) same
@@ -60,7 +60,7 @@ row_same old mid end.Released row same all = ap (outputs_of mid.graph) all ∙ a
 row_same old mid (end.Stopped k why) row same all = refl
 row_same old mid (end.Refused k found wanted) row same all = refl
 
-end_same : (old mid : State) → old.ended ≡ None → mid ≡ record old { answers = mid.answers; under_way = mid.under_way } → given mid ≡ mid.answers →
+pub end_same : (old mid : State) → old.ended ≡ None → mid ≡ record old { answers = mid.answers; under_way = mid.under_way } → given mid ≡ mid.answers →
     end_or mid.ended (end_of mid.graph mid.table mid.cycles (given mid)) ≡ end_of old.graph old.table old.cycles mid.answers
 end_same old mid going same all =
     ap (λ xs. end_or mid.ended (end_of mid.graph mid.table mid.cycles xs)) all

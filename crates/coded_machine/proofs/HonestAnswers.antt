@@ -15,17 +15,17 @@ use Rattle.coded_unit.specs.declared.call.Answer.TheVariants as answer
 use Rattle.coded_unit.specs.Words.{modulo, coded}
 use Rattle.coded_unit.specs.Right.{Right, answer_of}
 use Rattle.coded_unit.specs.Step.{Carries}
-use Rattle.coded_unit.proofs.Modular.{modulo_zero, coded_zero, modulo_small}
-use Rattle.coded_unit.proofs.Steps.{right_steps}
 use Rattle.op_graph.specs.declared.op.Op.{Op}
 use Rattle.op_graph.specs.Lists.{Lists, cells}
 use Rattle.op_graph.specs.Rules.{IsGraph, Each, Operates, scope}
-use Rattle.op_graph.specs.GraphRun.{at, own, read, operand, outcome_of, Cycle, after, cycle_from, cycle}
-use Rattle.op_graph.proofs.Cells.{joined_at}
-use Rattle.signature_table.specs.Signatures.{signature, stamp, stamp_before, expected, stored_signature, read_signature, operand_signature}
-use Rattle.coded_machine.specs.Calls.{Setting, calls_from, CallsOf, call_of, Whole, AllRight, is_word, word_at, read_word}
+use Rattle.vcp_base.specs.Values.{at}
+use Rattle.op_graph.specs.Reads.{OperandThere, Linked}
+use Rattle.op_graph.specs.GraphRun.{own, read, operand, outcome_of, Cycle, after, cycle_from, cycle}
+use Rattle.signature_table.specs.Signatures.{signature, stamp, stamp_before, expected, stored_signature, read_signature, store_in, store_of}
+use Rattle.coded_machine.specs.Calls.{Setting, calls_from, CallsOf, call_of, own_number, Whole, AllRight, is_word, word_at, read_word}
 use Rattle.coded_machine.specs.Honest.{CellsHold, words_from, answers_for}
-use Rattle.coded_machine.proofs.Links.{get_there, OperandThere, Linked, linked}
+use Rattle.coded_machine.proofs.Promised.{Laws}
+use Rattle.coded_machine.proofs.Places.{get_there}
 
 -- the expected residues of a cycle are residues
 abbrev pub Below : Setting → Type 0
@@ -43,15 +43,18 @@ any_signature true m e f h = refl
 any_signature false m e f h = ap (λ n. n *ℤ f) (h refl) ∙ zero-*ℤ f ∙ sym (ap (λ n. n *ℤ e) (h refl) ∙ zero-*ℤ e)
 
 -- one operand, present or not
-operand_case : (present : Bool) (word v e : ℤ) (stamp : ℕ) → (present ≡ true → word ≡ coded v (modulo (e +ℤ pos stamp))) →
+operand_case : (laws : Laws) (present : Bool) (word v e : ℤ) (stamp : ℕ) → (present ≡ true → word ≡ coded v (modulo (e +ℤ pos stamp))) →
     cond present word (pos 0) ≡ coded (cond present v (pos 0)) (modulo (cond present e (neg_ℤ (pos stamp)) +ℤ pos stamp +ℤ pos 0))
-operand_case false word v e stamp h = let z : neg_ℤ (pos stamp) +ℤ pos stamp +ℤ pos 0 ≡ pos 0 = omega (arith, ints) in rw (z, modulo_zero) (sym coded_zero)
-operand_case true word v e stamp h = let z : e +ℤ pos stamp +ℤ pos 0 ≡ e +ℤ pos stamp = omega (arith, ints) in rw z (h refl)
+operand_case laws false word v e stamp h =
+    let z : neg_ℤ (pos stamp) +ℤ pos stamp +ℤ pos 0 ≡ pos 0 = omega (arith, ints) in
+    let none : modulo (pos 0) ≡ 0 = laws.coded.words.small 0 (omega arith) in
+    rw (z, none) (sym laws.coded.words.zero)
+operand_case laws true word v e stamp h = let z : e +ℤ pos stamp +ℤ pos 0 ≡ e +ℤ pos stamp = omega (arith, ints) in rw z (h refl)
 
 -- ---- words of values
 
-expected_residue : (seed step k n : ℕ) → expected seed step k n < A → modulo (pos (signature seed k) +ℤ pos (stamp step n)) ≡ expected seed step k n
-expected_residue seed step k n h = ap modulo (omega (arith, ints)) ∙ modulo_small (expected seed step k n) h
+expected_residue : (laws : Laws) (seed step k n : ℕ) → expected seed step k n < A → modulo (pos (signature seed k) +ℤ pos (stamp step n)) ≡ expected seed step k n
+expected_residue laws seed step k n h = ap modulo (omega (arith, ints)) ∙ laws.coded.words.small (expected seed step k n) h
 
 pub length-words : (seed step n k : ℕ) (values : List ℤ) → length (words_from seed step n k values) ≡ length values
 length-words seed step n k [] = refl
@@ -73,53 +76,57 @@ more_words seed step n k (w ∷ values) v =
     ∙ ap (λ j. words_from seed step n (suc k) values ++ answer.Word (coded v (expected seed step j n)) ∷ []) (omega arith))
 
 -- the word of an earlier operation
-word_before : (seed step n from : ℕ) (values : List ℤ) (before : List Answer) → expected seed step from n < A →
+word_before : (laws : Laws) (seed step n from : ℕ) (values : List ℤ) (before : List Answer) → expected seed step from n < A →
     before ≡ words_from seed step n 0 values → from < length values → word_at before from ≡ coded (at values from) (modulo (pos (signature seed from) +ℤ pos (stamp step n)))
-word_before seed step n from values before below words h =
+word_before laws seed step n from values before below words h =
     ap (λ b. word_at b from) words ∙ at_words seed step n 0 values from h ∙ ap (λ j. coded (at values from) (expected seed step j n)) (omega arith)
-    ∙ ap (coded (at values from)) (sym (expected_residue seed step from n below))
+    ∙ ap (coded (at values from)) (sym (expected_residue laws seed step from n below))
 
 -- ---- the words of cells
 
-stored_residue : (seed step m n : ℕ) → expected seed step m n < A → modulo (pos (signature seed m) -ℤ pos step +ℤ pos (stamp step n)) ≡ signature seed m + stamp_before step n
-stored_residue seed step m n h =
+stored_residue : (laws : Laws) (seed step m n : ℕ) → expected seed step m n < A → modulo (pos (signature seed m) -ℤ pos step +ℤ pos (stamp step n)) ≡ signature seed m + stamp_before step n
+stored_residue laws seed step m n h =
     let least : signature seed m + step * n < A = omega (arith, h) in
-    ap modulo (omega (arith, ints)) ∙ modulo_small (signature seed m + step * n) least
+    ap modulo (omega (arith, ints)) ∙ laws.coded.words.small (signature seed m + step * n) least
 
-cell_signature : (g : Lists) (seed step i m : ℕ) → IsGraph g → slice_get g.stores i ≡ Some m → stored_signature seed step (slice_get (cells g) i) ≡ pos (signature seed m) -ℤ pos step
-cell_signature g seed step i m graph there =
+cell_signature : (laws : Laws) (g : Lists) (seed step i m : ℕ) → IsGraph g → slice_get g.stores i ≡ Some m → stored_signature seed step (store_of (cells g) i) ≡ pos (signature seed m) -ℤ pos step
+cell_signature laws g seed step i m graph there =
     let within : i < length g.stores = slice_get_within g.stores i m there in
     let l = get_there g.loads i (omega (arith, graph.all_stored)) in
-    ap (stored_signature seed step) (joined_at g.loads g.stores i l.0 m l.1 there)
+    ap (λ c. stored_signature seed step (store_in c)) (laws.entries.cell g.loads g.stores i l.0 m l.1 there)
 
-cell_word : (s : Setting) (held : List ℤ) (i m : ℕ) → Below s → IsGraph s.graph → CellsHold s.graph s.table.seed (stamp_before s.table.step s.cycle) s.held held → slice_get s.graph.stores i ≡ Some m →
-    at s.held i ≡ coded (at held i) (modulo (stored_signature s.table.seed s.table.step (slice_get (cells s.graph) i) +ℤ pos (stamp s.table.step s.cycle)))
-cell_word s held i m below graph hold there =
+cell_word : (laws : Laws) (s : Setting) (held : List ℤ) (i m : ℕ) → Below s → IsGraph s.graph → CellsHold s.graph s.table.seed (stamp_before s.table.step s.cycle) s.held held → slice_get s.graph.stores i ≡ Some m →
+    at s.held i ≡ coded (at held i) (modulo (stored_signature s.table.seed s.table.step (store_of (cells s.graph) i) +ℤ pos (stamp s.table.step s.cycle)))
+cell_word laws s held i m below graph hold there =
     hold.words i m there
-    ∙ ap (coded (at held i)) (sym (stored_residue s.table.seed s.table.step m s.cycle (below m)))
-    ∙ ap (λ z. coded (at held i) (modulo (z +ℤ pos (stamp s.table.step s.cycle)))) (sym (cell_signature s.graph s.table.seed s.table.step i m graph there))
+    ∙ ap (coded (at held i)) (sym (stored_residue laws s.table.seed s.table.step m s.cycle (below m)))
+    ∙ ap (λ z. coded (at held i) (modulo (z +ℤ pos (stamp s.table.step s.cycle)))) (sym (cell_signature laws s.graph s.table.seed s.table.step i m graph there))
 
 -- what an operand reads has its value, and its signature with the stamp
-read_is : (s : Setting) (held values : List ℤ) (ops : List Op) (before : List Answer) (k : Kind) (imm : ℤ) (n : ℕ) → Below s → IsGraph s.graph → CellsHold s.graph s.table.seed (stamp_before s.table.step s.cycle) s.held held →
+read_is : (laws : Laws) (s : Setting) (held values : List ℤ) (ops : List Op) (before : List Answer) (k : Kind) (imm : ℤ) (n : ℕ) → Below s → IsGraph s.graph → CellsHold s.graph s.table.seed (stamp_before s.table.step s.cycle) s.held held →
     before ≡ words_from s.table.seed s.table.step s.cycle 0 values → length values ≡ length ops → OperandThere ops s.graph.stores k imm n →
-    read_word s.held before k imm n ≡ coded (read held values k imm n) (modulo (read_signature s.table.seed s.table.step (cells s.graph) k imm n +ℤ pos (stamp s.table.step s.cycle)))
-read_is s held values ops before kind.Load imm n below graph hold words count there = cell_word s held (unsigned_abs imm) there.0 below graph hold there.1
-read_is s held values ops before k imm n below graph hold words count there =
-    word_before s.table.seed s.table.step s.cycle n values before (below n) words (omega (arith, there, count))
+    read_word s.held before k imm n ≡ coded (read held values k imm n) (modulo (read_signature s.table.seed s.table.step (store_of (cells s.graph) (unsigned_abs imm)) k n +ℤ pos (stamp s.table.step s.cycle)))
+read_is laws s held values ops before kind.Load imm n below graph hold words count there = cell_word laws s held (unsigned_abs imm) there.0 below graph hold there.1
+read_is laws s held values ops before k imm n below graph hold words count there =
+    word_before laws s.table.seed s.table.step s.cycle n values before (below n) words (omega (arith, there, count))
 
 -- ---- one call
 
-one_answer : (s : Setting) (held values : List ℤ) (ops : List Op) (op : Op) (before : List Answer) → Below s → IsGraph s.graph → CellsHold s.graph s.table.seed (stamp_before s.table.step s.cycle) s.held held →
+own_is : (row : List ℤ) (k : Kind) (imm : ℤ) → own_number k imm (at row (unsigned_abs imm)) ≡ own row k imm
+own_is row kind.Input imm = refl
+own_is row k imm = refl
+
+one_answer : (laws : Laws) (s : Setting) (held values : List ℤ) (ops : List Op) (op : Op) (before : List Answer) → Below s → IsGraph s.graph → CellsHold s.graph s.table.seed (stamp_before s.table.step s.cycle) s.held held →
     before ≡ words_from s.table.seed s.table.step s.cycle 0 values → length before ≡ length values → length values ≡ length ops → Linked s.graph.stores ops op →
     Right (call_of s op before) ≡ answer_of (outcome_of held s.row values op) (expected s.table.seed s.table.step (length values) s.cycle)
-one_answer s held values ops op before below graph hold words number_is count link =
+one_answer laws s held values ops op before below graph hold words number_is count link =
     let kind = op.kind in
     let seed = s.table.seed in
     let step = s.table.step in
     let t = stamp step s.cycle in
     let none = neg_ℤ (pos t) in
     let sig = λ (j : ℕ). pos (signature seed j) in
-    let from = λ (j : ℕ). operand_signature seed step (cells s.graph) op j in
+    let from = λ (j : ℕ). read_signature seed step (store_of (cells s.graph) (unsigned_abs op.imm)) op.kind j in
     let m = multiplier kind 0 in
     let n = multiplier kind 1 in
     let o = multiplier kind 2 in
@@ -133,20 +140,21 @@ one_answer s held values ops op before below graph hold words number_is count li
     let w = operand held values op 1 op.b in
     let x = operand held values op 2 op.c in
     let call = call_of s op before in
-    let is = λ (j : ℕ). read_is s held values ops before kind op.imm j below graph hold words count in
-    let carries : Carries call (sig (length values)) e' f' g' (pos 0) (pos 0) (pos 0) v w x = record {
-      first = operand_case (nat_lt 0 (operands kind)) _ _ e t (λ r. is op.a (link.first r));
-      second = operand_case (nat_lt 1 (operands kind)) _ _ f t (λ r. is op.b (link.second r));
-      third = operand_case (nat_lt 2 (operands kind)) _ _ g t (λ r. is op.c (link.third r));
+    let is = λ (j : ℕ). read_is laws s held values ops before kind op.imm j below graph hold words count in
+    let carries : Carries call kind (sig (length values)) e' f' g' (pos 0) (pos 0) (pos 0) v w x = record {
+      first = operand_case laws (nat_lt 0 (operands kind)) _ _ e t (λ r. is op.a (link.first r));
+      second = operand_case laws (nat_lt 1 (operands kind)) _ _ f t (λ r. is op.b (link.second r));
+      third = operand_case laws (nat_lt 2 (operands kind)) _ _ g t (λ r. is op.c (link.third r));
       correction = ap (λ j. modulo (sig j -ℤ m *ℤ e -ℤ n *ℤ f -ℤ o *ℤ g)) number_is
           ∙ ap (λ z. modulo (sig (length values) -ℤ z -ℤ n *ℤ f -ℤ o *ℤ g)) (sym (any_signature (nat_lt 0 (operands kind)) m e none (absent kind 0)))
           ∙ ap (λ z. modulo (sig (length values) -ℤ m *ℤ e' -ℤ z -ℤ o *ℤ g)) (sym (any_signature (nat_lt 1 (operands kind)) n f none (absent kind 1)))
           ∙ ap (λ z. modulo (sig (length values) -ℤ m *ℤ e' -ℤ n *ℤ f' -ℤ z)) (sym (any_signature (nat_lt 2 (operands kind)) o g none (absent kind 2)));
     } in
     let plain : sig (length values) +ℤ pos t +ℤ (m *ℤ pos 0 +ℤ n *ℤ pos 0 +ℤ o *ℤ pos 0) ≡ sig (length values) +ℤ pos t = omega (arith, ints) in
-    right_steps call (sig (length values)) e' f' g' (pos 0) (pos 0) (pos 0) v w x carries
+    laws.coded.steps call (sig (length values)) e' f' g' (pos 0) (pos 0) (pos 0) v w x carries
+    ∙ ap (λ i. answer_of (outcome kind op.from op.ty i v w x) (modulo (sig (length values) +ℤ pos t +ℤ (m *ℤ pos 0 +ℤ n *ℤ pos 0 +ℤ o *ℤ pos 0)))) (own_is s.row kind op.imm)
     ∙ ap (λ z. answer_of (outcome kind op.from op.ty (own s.row kind op.imm) v w x) (modulo z)) plain
-    ∙ ap (λ r. answer_of (outcome kind op.from op.ty (own s.row kind op.imm) v w x) r) (expected_residue seed step (length values) s.cycle (below (length values)))
+    ∙ ap (λ r. answer_of (outcome kind op.from op.ty (own s.row kind op.imm) v w x) r) (expected_residue laws seed step (length values) s.cycle (below (length values)))
 
 -- ---- all calls of a cycle
 
@@ -160,33 +168,33 @@ turn_case W (Err stop.Range) next values a before answers r seed step n e words 
 turn_case W (Err stop.DivZero) next values a before answers r seed step n e words whole rest = let none : answers ≡ [] = subst (λ b. cond (is_word b) W (answers ≡ [])) e whole in rw (e, none, words) refl
 turn_case W (Err stop.Operand) next values a before answers r seed step n e words whole rest = let none : answers ≡ [] = subst (λ b. cond (is_word b) W (answers ≡ [])) e whole in rw (e, none, words) refl
 
-honest_from : (s : Setting) (turns : ℕ) (held values : List ℤ) (front ops : List Op) (before answers : List Answer) → Below s → IsGraph s.graph → CellsHold s.graph s.table.seed (stamp_before s.table.step s.cycle) s.held held →
+honest_from : (laws : Laws) (s : Setting) (turns : ℕ) (held values : List ℤ) (front ops : List Op) (before answers : List Answer) → Below s → IsGraph s.graph → CellsHold s.graph s.table.seed (stamp_before s.table.step s.cycle) s.held held →
     Each (Operates (scope s.graph) turns) front ops → before ≡ words_from s.table.seed s.table.step s.cycle 0 values → length values ≡ length front →
     AllRight (calls_from s before ops answers) → Whole ops answers →
     before ++ answers ≡ answers_for s.table.seed s.table.step s.cycle (cycle_from held s.row values ops)
-honest_from s turns held values front [] before [] below graph hold fit words count right whole = ap (λ xs. xs ++ []) words
-honest_from s turns held values front [] before (a ∷ answers) below graph hold fit words count right whole = absurd whole
-honest_from s turns held values front (op ∷ ops) before [] below graph hold fit words count right whole = absurd whole
-honest_from s turns held values front (op ∷ ops) before (a ∷ answers) below graph hold fit words count right whole =
+honest_from laws s turns held values front [] before [] below graph hold fit words count right whole = ap (λ xs. xs ++ []) words
+honest_from laws s turns held values front [] before (a ∷ answers) below graph hold fit words count right whole = absurd whole
+honest_from laws s turns held values front (op ∷ ops) before [] below graph hold fit words count right whole = absurd whole
+honest_from laws s turns held values front (op ∷ ops) before (a ∷ answers) below graph hold fit words count right whole =
     let seed = s.table.seed in
     let step = s.table.step in
     let n = s.cycle in
     let o = outcome_of held s.row values op in
     let r = expected seed step (length values) n in
     let many : length before ≡ length values = ap length words ∙ length-words seed step n 0 values in
-    let first : a ≡ answer_of o r = right.0 ∙ one_answer s held values front op before below graph hold words many count (linked s.graph turns front op graph fit.0) in
+    let first : a ≡ answer_of o r = right.0 ∙ one_answer laws s held values front op before below graph hold words many count (laws.entries.linked s.graph turns front op graph fit.0) in
     turn_case (Whole ops answers) o (λ v. cycle_from held s.row (values ++ v ∷ []) ops) values a before answers r seed step n first words whole
     (λ v given is rest.
     let grown : before ++ a ∷ [] ≡ words_from seed step n 0 (values ++ v ∷ []) =
     ap (λ b. b ++ a ∷ []) words ∙ ap (λ b. words_from seed step n 0 values ++ b ∷ []) is
     ∙ ap (λ j. words_from seed step n 0 values ++ answer.Word (coded v (expected seed step j n)) ∷ []) (omega arith)
     ∙ sym (more_words seed step n 0 values v) in
-    let later = honest_from s turns held (values ++ v ∷ []) (front ++ op ∷ []) ops (before ++ a ∷ []) answers below graph hold fit.1 grown (simp length-append (omega arith)) right.1 rest in
+    let later = honest_from laws s turns held (values ++ v ∷ []) (front ++ op ∷ []) ops (before ++ a ∷ []) answers below graph hold fit.1 grown (simp length-append (omega arith)) right.1 rest in
     sym (append_assoc before (a ∷ []) answers) ∙ later)
 
 -- With the right answers alone, the answers of a cycle stand for the cycle on plain integers.
-pub honest_answers : (s : Setting) (held : List ℤ) (answers : List Answer) → Below s → IsGraph s.graph → CellsHold s.graph s.table.seed (stamp_before s.table.step s.cycle) s.held held →
+pub honest_answers : (laws : Laws) (s : Setting) (held : List ℤ) (answers : List Answer) → Below s → IsGraph s.graph → CellsHold s.graph s.table.seed (stamp_before s.table.step s.cycle) s.held held →
     AllRight (CallsOf s answers) → Whole s.graph.operations answers →
     answers ≡ answers_for s.table.seed s.table.step s.cycle (cycle s.graph held s.row)
-honest_answers s held answers below graph hold right whole =
-    honest_from s (length s.graph.turn_nodes) held [] [] s.graph.operations [] answers below graph hold graph.part.operations refl refl right whole
+honest_answers laws s held answers below graph hold right whole =
+    honest_from laws s (length s.graph.turn_nodes) held [] [] s.graph.operations [] answers below graph hold graph.part.operations refl refl right whole

@@ -4,14 +4,13 @@ use Rattle.vcp_base.specs.declared.kind.StopKind.{StopKind}
 use Rattle.vcp_base.specs.declared.kind.StopKind.TheVariants as stop
 use Rattle.vcp_base.specs.Types.{fits}
 use Rattle.vcp_base.specs.Code.{A}
+use Rattle.vcp_base.specs.Values.{at}
 use Rattle.coded_unit.specs.declared.call.Answer.{Answer}
 use Rattle.coded_unit.specs.Words.{modulo, value_part, coded}
-use Rattle.coded_unit.proofs.Modular.{modulo_coded, value_part_coded}
 use Rattle.op_graph.specs.declared.op.Outlet.{Outlet}
 use Rattle.op_graph.specs.Lists.{Lists}
 use Rattle.op_graph.specs.Rules.{IsGraph}
-use Rattle.op_graph.specs.GraphRun.{at, Cycle, cycle, stored, CellsFit}
-use Rattle.op_graph.proofs.OperandLaw.{cycle_without_operand_stop, cycle_keeps_types, cycle_outputs_fit}
+use Rattle.op_graph.specs.GraphRun.{Cycle, cycle, stored, CellsFit}
 use Rattle.signature_table.specs.Signatures.{Numbers, stamp_before, expected}
 use Rattle.coded_machine.specs.declared.cycle_end.CycleEnd.TheVariants as end
 use Rattle.coded_machine.specs.Calls.{Setting, CallsOf, Whole, AllRight, word_at}
@@ -19,7 +18,7 @@ use Rattle.coded_machine.specs.CycleEnds.{first_stop, first_outside, first_refus
 use Rattle.coded_machine.specs.Honest.{CellsHold, words_from, stop_answer, answers_for, end_at, StandsFor}
 use Rattle.coded_machine.proofs.Ends.{no_stop_all}
 use Rattle.coded_machine.proofs.HonestAnswers.{Below, at_words, length-words, honest_answers}
-use Rattle.coded_machine.proofs.Places.{output_is_there, store_is_there}
+use Rattle.coded_machine.proofs.Promised.{Laws}
 
 -- ---- the first stop
 
@@ -48,32 +47,32 @@ later_outs : (t : Numbers) (n : ℕ) (answers : List Answer) (values : List ℤ)
 unfolding OutsAre
 later_outs t n answers values o outs h = λ k p there. h (suc k) p there
 
-out_value : (t : Numbers) (n : ℕ) (answers : List Answer) (values : List ℤ) (o : Outlet) (outs : List Outlet) → OutsAre t n answers values (o ∷ outs) → value_part (word_at answers o.op) ≡ at values o.op
+out_value : (laws : Laws) (t : Numbers) (n : ℕ) (answers : List Answer) (values : List ℤ) (o : Outlet) (outs : List Outlet) → OutsAre t n answers values (o ∷ outs) → value_part (word_at answers o.op) ≡ at values o.op
 unfolding OutsAre
-out_value t n answers values o outs h = let x = h 0 o refl in ap value_part x.0 ∙ value_part_coded (at values o.op) (expected t.seed t.step o.op n) x.2
+out_value laws t n answers values o outs h = let x = h 0 o refl in ap value_part x.0 ∙ laws.coded.words.value (at values o.op) (expected t.seed t.step o.op n) x.2
 
-out_residue : (t : Numbers) (n : ℕ) (answers : List Answer) (values : List ℤ) (o : Outlet) (outs : List Outlet) → OutsAre t n answers values (o ∷ outs) → modulo (word_at answers o.op) ≡ expected t.seed t.step o.op n
+out_residue : (laws : Laws) (t : Numbers) (n : ℕ) (answers : List Answer) (values : List ℤ) (o : Outlet) (outs : List Outlet) → OutsAre t n answers values (o ∷ outs) → modulo (word_at answers o.op) ≡ expected t.seed t.step o.op n
 unfolding OutsAre
-out_residue t n answers values o outs h = let x = h 0 o refl in ap modulo x.0 ∙ modulo_coded (at values o.op) (expected t.seed t.step o.op n) x.2
+out_residue laws t n answers values o outs h = let x = h 0 o refl in ap modulo x.0 ∙ laws.coded.words.residue (at values o.op) (expected t.seed t.step o.op n) x.2
 
-out_fits : (t : Numbers) (n : ℕ) (answers : List Answer) (values : List ℤ) (o : Outlet) (outs : List Outlet) → OutsAre t n answers values (o ∷ outs) → fits o.ty (value_part (word_at answers o.op)) ≡ true
+out_fits : (laws : Laws) (t : Numbers) (n : ℕ) (answers : List Answer) (values : List ℤ) (o : Outlet) (outs : List Outlet) → OutsAre t n answers values (o ∷ outs) → fits o.ty (value_part (word_at answers o.op)) ≡ true
 unfolding OutsAre
-out_fits t n answers values o outs h = subst (λ v. fits o.ty v ≡ true) (sym (out_value t n answers values o outs h)) (h 0 o refl).1
+out_fits laws t n answers values o outs h = subst (λ v. fits o.ty v ≡ true) (sym (out_value laws t n answers values o outs h)) (h 0 o refl).1
 
-outside_none : (t : Numbers) (n : ℕ) (answers : List Answer) (values : List ℤ) (outs : List Outlet) → OutsAre t n answers values outs → first_outside answers outs ≡ None
-outside_none t n answers values [] h = refl
-outside_none t n answers values (o ∷ outs) h = rw (out_fits t n answers values o outs h) (outside_none t n answers values outs (later_outs t n answers values o outs h))
+outside_none : (laws : Laws) (t : Numbers) (n : ℕ) (answers : List Answer) (values : List ℤ) (outs : List Outlet) → OutsAre t n answers values outs → first_outside answers outs ≡ None
+outside_none laws t n answers values [] h = refl
+outside_none laws t n answers values (o ∷ outs) h = rw (out_fits laws t n answers values o outs h) (outside_none laws t n answers values outs (later_outs t n answers values o outs h))
 
-refused_none : (t : Numbers) (n : ℕ) (answers : List Answer) (values : List ℤ) (number : ℕ) (outs : List Outlet) → OutsAre t n answers values outs → first_refused t n answers number outs ≡ None
-refused_none t n answers values number [] h = refl
-refused_none t n answers values number (o ∷ outs) h =
-    rw (eq-eqb _ _ (out_residue t n answers values o outs h)) (refused_none t n answers values (suc number) outs (later_outs t n answers values o outs h))
+refused_none : (laws : Laws) (t : Numbers) (n : ℕ) (answers : List Answer) (values : List ℤ) (number : ℕ) (outs : List Outlet) → OutsAre t n answers values outs → first_refused t n answers number outs ≡ None
+refused_none laws t n answers values number [] h = refl
+refused_none laws t n answers values number (o ∷ outs) h =
+    rw (eq-eqb _ _ (out_residue laws t n answers values o outs h)) (refused_none laws t n answers values (suc number) outs (later_outs t n answers values o outs h))
 
-outputs_same : (t : Numbers) (n : ℕ) (answers : List Answer) (values : List ℤ) (outs : List Outlet) → OutsAre t n answers values outs → map (λ (o : Outlet). value_part (word_at answers o.op)) outs ≡ map (λ (o : Outlet). at values o.op) outs
-outputs_same t n answers values [] h = refl
-outputs_same t n answers values (o ∷ outs) h =
-    ap (λ v. v ∷ map (λ (p : Outlet). value_part (word_at answers p.op)) outs) (out_value t n answers values o outs h)
-    ∙ ap (λ vs. at values o.op ∷ vs) (outputs_same t n answers values outs (later_outs t n answers values o outs h))
+outputs_same : (laws : Laws) (t : Numbers) (n : ℕ) (answers : List Answer) (values : List ℤ) (outs : List Outlet) → OutsAre t n answers values outs → map (λ (o : Outlet). value_part (word_at answers o.op)) outs ≡ map (λ (o : Outlet). at values o.op) outs
+outputs_same laws t n answers values [] h = refl
+outputs_same laws t n answers values (o ∷ outs) h =
+    ap (λ v. v ∷ map (λ (p : Outlet). value_part (word_at answers p.op)) outs) (out_value laws t n answers values o outs h)
+    ∙ ap (λ vs. at values o.op ∷ vs) (outputs_same laws t n answers values outs (later_outs t n answers values o outs h))
 
 -- ---- a cycle
 
@@ -82,13 +81,13 @@ at_map f [] k n e = absurd cc
 at_map f (x ∷ xs) zero n e = let same : x ≡ n = cc in ap f same
 at_map f (x ∷ xs) (suc k) n e = at_map f xs k n e
 
-end_case : (g : Lists) (t : Numbers) (n : ℕ) (answers : List Answer) (c : Cycle) (s : Option StopKind) → c.stop ≡ s → answers ≡ answers_for t.seed t.step n c →
+end_case : (laws : Laws) (g : Lists) (t : Numbers) (n : ℕ) (answers : List Answer) (c : Cycle) (s : Option StopKind) → c.stop ≡ s → answers ≡ answers_for t.seed t.step n c →
     (s ≡ None → OutsAre t n answers c.values g.outputs) → end_of g t n answers ≡ end_at (length c.values) s
-end_case g t n answers c None stops is outs =
+end_case laws g t n answers c None stops is outs =
     let words : answers ≡ words_from t.seed t.step n 0 c.values = is ∙ ap (λ x. words_from t.seed t.step n 0 c.values ++ stop_answer x) stops ∙ append-nil _ in
     let none : first_stop 0 answers ≡ None = ap (first_stop 0) words ∙ stop_none t.seed t.step n 0 0 c.values in
-    rw (none, outside_none t n answers c.values g.outputs (outs refl), refused_none t n answers c.values 0 g.outputs (outs refl)) refl
-end_case g t n answers c (Some why) stops is outs =
+    rw (none, outside_none laws t n answers c.values g.outputs (outs refl), refused_none laws t n answers c.values 0 g.outputs (outs refl)) refl
+end_case laws g t n answers c (Some why) stops is outs =
     let found : first_stop 0 answers ≡ Some (end.Stopped (0 + length c.values) why) =
     ap (first_stop 0) (is ∙ ap (λ x. words_from t.seed t.step n 0 c.values ++ stop_answer x) stops) ∙ stop_found t.seed t.step n 0 0 c.values why in
     rw found (ap (λ i. end.Stopped i why) (omega arith))
@@ -105,39 +104,39 @@ words_are s held answers graph whole is stops = λ i below.
     let here : i < length values = omega (arith, many, ap length words, length-words s.table.seed s.table.step s.cycle 0 values, below) in
     ap (λ xs. word_at xs i) words ∙ at_words s.table.seed s.table.step s.cycle 0 values i here ∙ ap (λ j. coded (at values i) (expected s.table.seed s.table.step j s.cycle)) (omega arith)
 
-outs_are : (s : Setting) (held : List ℤ) (answers : List Answer) → Below s → IsGraph s.graph → CellsFit s.graph held → Whole s.graph.operations answers →
+outs_are : (laws : Laws) (s : Setting) (held : List ℤ) (answers : List Answer) → Below s → IsGraph s.graph → CellsFit s.graph held → Whole s.graph.operations answers →
     answers ≡ answers_for s.table.seed s.table.step s.cycle (cycle s.graph held s.row) → (cycle s.graph held s.row).stop ≡ None →
     OutsAre s.table s.cycle answers (cycle s.graph held s.row).values s.graph.outputs
 unfolding OutsAre
-outs_are s held answers below graph typed whole is stops = λ k o there. (
-  words_are s held answers graph whole is stops o.op (output_is_there s.graph k o graph there),
-  cycle_outputs_fit s.graph held s.row graph typed stops k o there,
+outs_are laws s held answers below graph typed whole is stops = λ k o there. (
+  words_are s held answers graph whole is stops o.op (laws.entries.outs s.graph k o graph.part there).operation,
+  laws.typed.outputs s.graph held s.row graph typed stops k o there,
   below o.op,
 )
 
-cells_are : (s : Setting) (held : List ℤ) (answers : List Answer) → IsGraph s.graph → CellsFit s.graph held → Whole s.graph.operations answers →
+cells_are : (laws : Laws) (s : Setting) (held : List ℤ) (answers : List Answer) → IsGraph s.graph → CellsFit s.graph held → Whole s.graph.operations answers →
     answers ≡ answers_for s.table.seed s.table.step s.cycle (cycle s.graph held s.row) → (cycle s.graph held s.row).stop ≡ None →
     CellsHold s.graph s.table.seed (stamp_before s.table.step (s.cycle + 1)) (stored_words s.graph answers) (stored s.graph (cycle s.graph held s.row).values)
-cells_are s held answers graph typed whole is stops =
+cells_are laws s held answers graph typed whole is stops =
     let values = (cycle s.graph held s.row).values in
     record {
       words = λ k n there.
           at_map (λ i. word_at answers i) s.graph.stores k n there
-          ∙ words_are s held answers graph whole is stops n (store_is_there s.graph k n graph there)
+          ∙ words_are s held answers graph whole is stops n (laws.entries.stores s.graph k n graph.part there).store
           ∙ ap (λ v. coded v (expected s.table.seed s.table.step n s.cycle)) (sym (at_map (λ i. at values i) s.graph.stores k n there));
-      typed = cycle_keeps_types s.graph held s.row graph typed stops;
+      typed = laws.typed.cells_kept s.graph held s.row graph typed stops;
     }
 
 -- the right answers to the calls of a whole cycle stand for the graph's cycle
-pub stands_for : (s : Setting) (held : List ℤ) (answers : List Answer) → Below s → IsGraph s.graph → CellsHold s.graph s.table.seed (stamp_before s.table.step s.cycle) s.held held →
+pub stands_for : (laws : Laws) (s : Setting) (held : List ℤ) (answers : List Answer) → Below s → IsGraph s.graph → CellsHold s.graph s.table.seed (stamp_before s.table.step s.cycle) s.held held →
     AllRight (CallsOf s answers) → Whole s.graph.operations answers → StandsFor s held answers
-stands_for s held answers below graph hold right whole =
-    let is = honest_answers s held answers below graph hold right whole in
+stands_for laws s held answers below graph hold right whole =
+    let is = honest_answers laws s held answers below graph hold right whole in
     let c = cycle s.graph held s.row in
     record {
       answers_are = is;
-      end_is = end_case s.graph s.table s.cycle answers c c.stop refl is (λ stops. outs_are s held answers below graph hold.typed whole is stops);
-      row_is = λ stops. outputs_same s.table s.cycle answers c.values s.graph.outputs (outs_are s held answers below graph hold.typed whole is stops);
-      cells_are = λ stops. cells_are s held answers graph hold.typed whole is stops;
-      no_operand = cycle_without_operand_stop s.graph held s.row graph hold.typed;
+      end_is = end_case laws s.graph s.table s.cycle answers c c.stop refl is (λ stops. outs_are laws s held answers below graph hold.typed whole is stops);
+      row_is = λ stops. outputs_same laws s.table s.cycle answers c.values s.graph.outputs (outs_are laws s held answers below graph hold.typed whole is stops);
+      cells_are = λ stops. cells_are laws s held answers graph hold.typed whole is stops;
+      no_operand = laws.typed.cycle s.graph held s.row graph hold.typed;
     }

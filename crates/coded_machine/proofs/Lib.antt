@@ -1,11 +1,13 @@
+pub mod ByHand
 pub mod Causes
 pub mod Ends
+pub mod FirstCells
 pub mod Following
 pub mod Growth
 pub mod HonestAnswers
 pub mod HonestEnds
-pub mod Links
 pub mod Places
+pub mod Promised
 pub mod RunLaws
 pub mod Turns
 pub mod Worked

@@ -1,29 +1,27 @@
 -- Places: what stands at one place of a list, and what is read off the places after it.
-use Rattle.std.proofs.Common.{ℕ, zero, suc, ◌+◌, ◌<◌, ◌≡◌, ℤ, pos, negsuc, ◌≤ℤ◌, Bool, Option, refl, sym, ap, ◌∙◌, true, false, cond, List, [], ◌∷◌, ◌++◌, length, map, drop, take, set, slice_get, Some, None, arith, add-one, drop-cons, eq-eqb, append_assoc}
+use Rattle.std.proofs.Common.{ℕ, zero, suc, ◌+◌, ◌<◌, ◌≡◌, ℤ, pos, negsuc, Bool, Option, refl, sym, ap, ◌∙◌, true, false, cond, List, [], ◌∷◌, ◌++◌, length, map, drop, take, set, slice_get, Some, None, arith, add-one, drop-cons, eq-eqb, append_assoc}
+use Rattle.std.specs.Prelude.{FitsSigned, unsigned_abs}
+use Rattle.std.specs.Int.{w64}
 use Rattle.std.proofs.Math.Seq.{take-suc-set}
 use Rattle.std.proofs.lemmas.Option.{get_or_from_slice_get, slice_get_within}
 use Rattle.std.proofs.lemmas.Bool.{ne_eqb}
-use Rattle.std.proofs.lemmas.List.{length-map}
 use Rattle.std.proofs.lemmas.Bool.Decides.{nat_tests}
 use Rattle.vcp_base.specs.declared.ty.Ty.{Ty}
 use Rattle.vcp_base.specs.declared.ty.Ty.TheVariants as ty
 use Rattle.vcp_base.specs.Types.{fits}
 use Rattle.vcp_base.specs.declared.kind.StopKind.TheVariants as stop
 use Rattle.coded_unit.specs.declared.call.Answer.{Answer}
-use Rattle.coded_unit.specs.Words.{modulo, value_part, coded}
+use Rattle.coded_unit.specs.Words.{modulo, value_part}
 use Rattle.op_graph.specs.declared.op.Op.{Op}
 use Rattle.op_graph.specs.declared.op.Outlet.{Outlet}
 use Rattle.op_graph.specs.declared.op.Loaded.{Loaded}
 use Rattle.op_graph.specs.declared.op.Cell.{Cell}
-use Rattle.op_graph.specs.Lists.{Lists, joined, cells}
-use Rattle.op_graph.specs.Rules.{IsGraph, OutputFits, StoreFits}
-use Rattle.op_graph.proofs.Cells.{length-joined}
-use Rattle.op_graph.proofs.OperandLaw.{each_at}
-use Rattle.signature_table.specs.Signatures.{Numbers, signature, expected, correction, corrections_from}
+use Rattle.op_graph.specs.Lists.{joined}
+use Rattle.signature_table.specs.Signatures.{Numbers, expected, correction, store_of, corrections_from}
 use Rattle.coded_machine.specs.declared.cycle_end.CycleEnd.{CycleEnd}
 use Rattle.coded_machine.specs.declared.cycle_end.CycleEnd.TheVariants as end
 use Rattle.coded_machine.specs.Calls.{word_at}
-use Rattle.coded_machine.specs.CycleEnds.{first_outside, first_refused, initial_words}
+use Rattle.coded_machine.specs.CycleEnds.{first_outside, first_refused}
 
 -- what stands at a place, and after it
 pub drop_at : {X : Type 0} (xs : List X) (k : ℕ) (x : X) → slice_get xs k ≡ Some x → drop k xs ≡ x ∷ drop (k + 1) xs
@@ -33,6 +31,11 @@ drop_at xs k x there =
 
 pub map_at : {X Y : Type 0} (f : X → Y) (xs : List X) (k : ℕ) (x : X) → slice_get xs k ≡ Some x → map f (drop k xs) ≡ f x ∷ map f (drop (k + 1) xs)
 map_at f xs k x there = ap (map f) (drop_at xs k x there)
+
+pub get_there : {X : Type 0} (xs : List X) (i : ℕ) → i < length xs → (x : X) × (slice_get xs i ≡ Some x)
+get_there [] i lt = absurd (omega arith)
+get_there (x ∷ xs) zero lt = (x, refl)
+get_there (x ∷ xs) (suc i) lt = get_there xs i (omega arith)
 
 -- one more value at the front of a list that is being set
 pub front_set : {X : Type 0} (xs : List X) (i : ℕ) (x : X) (rest : List X) → i < length xs → take i xs ++ x ∷ rest ≡ take (i + 1) (set xs i x) ++ rest
@@ -68,59 +71,37 @@ pub outside_none : (answers : List Answer) (outputs : List Outlet) (i : ℕ) (o 
     (fits o.ty (value_part (word_at answers o.op)) ≡ true) × (first_outside answers (drop (i + 1) outputs) ≡ None)
 outside_none answers outputs i o there e = inside_case _ _ _ (sym (ap (first_outside answers) (drop_at outputs i o there)) ∙ e)
 
--- values of the types have 32 bits
-pub fits_low : (t : Ty) (v : ℤ) → fits t v ≡ true → negsuc 2147483647 ≤ℤ v
-fits_low ty.Bool (pos n) h = grind (arith, nat_tests)
-fits_low ty.Bool (negsuc n) h = grind (arith, nat_tests)
-fits_low ty.Int (pos n) h = grind (arith, nat_tests)
-fits_low ty.Int (negsuc n) h = grind (arith, nat_tests)
-fits_low ty.Dint (pos n) h = grind (arith, nat_tests)
-fits_low ty.Dint (negsuc n) h = grind (arith, nat_tests)
-
-pub fits_high : (t : Ty) (v : ℤ) → fits t v ≡ true → v ≤ℤ pos 2147483647
-fits_high ty.Bool (pos n) h = grind (arith, nat_tests)
-fits_high ty.Bool (negsuc n) h = grind (arith, nat_tests)
-fits_high ty.Int (pos n) h = grind (arith, nat_tests)
-fits_high ty.Int (negsuc n) h = grind (arith, nat_tests)
-fits_high ty.Dint (pos n) h = grind (arith, nat_tests)
-fits_high ty.Dint (negsuc n) h = grind (arith, nat_tests)
+-- values of the types have 64 bits
+pub fits_64 : (t : Ty) (v : ℤ) → fits t v ≡ true → FitsSigned w64 v
+fits_64 ty.Bool (pos n) h = grind (arith, nat_tests)
+fits_64 ty.Bool (negsuc n) h = grind (arith, nat_tests)
+fits_64 ty.Int (pos n) h = grind (arith, nat_tests)
+fits_64 ty.Int (negsuc n) h = grind (arith, nat_tests)
+fits_64 ty.Dint (pos n) h = grind (arith, nat_tests)
+fits_64 ty.Dint (negsuc n) h = grind (arith, nat_tests)
 
 -- ---- entries of a graph and of its table
 
--- the OUT of an output is an operation
-pub output_is_there : (g : Lists) (i : ℕ) (o : Outlet) → IsGraph g → slice_get g.outputs i ≡ Some o → o.op < length g.operations
-output_is_there g i o graph there =
-    let fit = each_at (OutputFits (length g.names) (length g.operations)) [] g.outputs i o graph.part.outputs there in fit.operation
-
--- the STORE of a cell is an operation
-pub store_is_there : (g : Lists) (i n : ℕ) → IsGraph g → slice_get g.stores i ≡ Some n → n < length g.operations
-store_is_there g i n graph there =
-    let fit = each_at (StoreFits g.loads (length g.operations)) [] g.stores i n graph.part.stores there in fit.store
-
 -- a cell has its STORE in the list of them
-pub store_of : (loads : List Loaded) (stores : List ℕ) (i : ℕ) (c : Cell) → slice_get (joined loads stores) i ≡ Some c → slice_get stores i ≡ Some c.store
-store_of [] stores i c e = absurd cc
-store_of (l ∷ loads) [] i c e = absurd cc
-store_of (l ∷ loads) (n ∷ stores) zero c e =
+pub store_at : (loads : List Loaded) (stores : List ℕ) (i : ℕ) (c : Cell) → slice_get (joined loads stores) i ≡ Some c → slice_get stores i ≡ Some c.store
+store_at [] stores i c e = absurd cc
+store_at (l ∷ loads) [] i c e = absurd cc
+store_at (l ∷ loads) (n ∷ stores) zero c e =
     let first : Cell = record { name = l.name; ty = l.ty; init = l.init; load = l.load; store = n } in
     let same : first ≡ c = cc in
     ap (λ (d : Cell). Some d.store) same
-store_of (l ∷ loads) (n ∷ stores) (suc i) c e = store_of loads stores i c e
+store_at (l ∷ loads) (n ∷ stores) (suc i) c e = store_at loads stores i c e
 
 pub length-corrections : (seed step : ℕ) (held : List Cell) (k : ℕ) (ops : List Op) → length (corrections_from seed step held k ops) ≡ length ops
 length-corrections seed step held k [] = refl
 length-corrections seed step held k (op ∷ ops) = ap suc (length-corrections seed step held (k + 1) ops)
 
-pub correction_at : (seed step : ℕ) (held : List Cell) (k : ℕ) (ops : List Op) (i : ℕ) (op : Op) (r : ℕ) → slice_get ops i ≡ Some op → slice_get (corrections_from seed step held k ops) i ≡ Some r → r ≡ correction seed step held (k + i) op
+pub correction_at : (seed step : ℕ) (held : List Cell) (k : ℕ) (ops : List Op) (i : ℕ) (op : Op) (r : ℕ) → slice_get ops i ≡ Some op → slice_get (corrections_from seed step held k ops) i ≡ Some r →
+    r ≡ correction seed step (k + i) op (store_of held (unsigned_abs op.imm))
 correction_at seed step held k [] i op r there e = absurd cc
 correction_at seed step held k (x ∷ ops) zero op r there e =
     let same : x ≡ op = cc in
-    let is : correction seed step held k x ≡ r = cc in
-    sym is ∙ ap (correction seed step held k) same ∙ ap (λ j. correction seed step held j op) (omega arith)
+    let is : correction seed step k x (store_of held (unsigned_abs x.imm)) ≡ r = cc in
+    sym is ∙ ap (λ (o : Op). correction seed step k o (store_of held (unsigned_abs o.imm))) same ∙ ap (λ j. correction seed step j op (store_of held (unsigned_abs op.imm))) (omega arith)
 correction_at seed step held k (x ∷ ops) (suc i) op r there e =
-    correction_at seed step held (k + 1) ops i op r there e ∙ ap (λ j. correction seed step held j op) (omega arith)
-
--- a cell has a word before the first cycle
-pub initial_length : (g : Lists) (seed : ℕ) → IsGraph g → length (initial_words g seed) ≡ length g.stores
-initial_length g seed graph =
-    length-map (cells g) (λ (c : Cell). coded c.init (signature seed c.store)) ∙ length-joined g.loads g.stores graph.all_stored ∙ sym graph.all_stored
+    correction_at seed step held (k + 1) ops i op r there e ∙ ap (λ j. correction seed step j op (store_of held (unsigned_abs op.imm))) (omega arith)

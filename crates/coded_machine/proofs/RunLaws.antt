@@ -1,27 +1,21 @@
 -- RunLaws: runs over rows, one cycle after another.
-use Rattle.std.proofs.Common.{ℕ, zero, suc, ◌+◌, ◌-◌, ◌^◌, ◌<◌, ◌≤◌, ◌≡◌, refl, sym, ap, subst, ◌∙◌, List, [], ◌∷◌, ◌++◌, length, length-append, append_assoc, append-nil, map, slice_get, arith, ℤ, Option, Some, None}
+use Rattle.std.proofs.Common.{ℕ, suc, ◌+◌, ◌-◌, ◌^◌, ◌<◌, ◌≤◌, ◌≡◌, refl, sym, ap, subst, ◌∙◌, List, [], ◌∷◌, ◌++◌, length, length-append, append_assoc, append-nil, map, arith, ℤ, Option, Some, None}
 use Rattle.vcp_base.specs.declared.kind.StopKind.{StopKind}
-use Rattle.vcp_base.specs.Code.{A}
+use Rattle.vcp_base.specs.Limits.{most_cycles}
 use Rattle.coded_unit.specs.declared.call.Answer.{Answer}
 use Rattle.coded_unit.specs.Log.{Entry}
-use Rattle.coded_unit.specs.Words.{coded}
-use Rattle.op_graph.specs.declared.op.Cell.{Cell}
-use Rattle.op_graph.specs.declared.op.Loaded.{Loaded}
-use Rattle.op_graph.specs.Lists.{Lists, joined}
+use Rattle.op_graph.specs.Lists.{Lists}
 use Rattle.op_graph.specs.Rules.{IsGraph}
-use Rattle.op_graph.specs.GraphRun.{at, Cycle, cycle, initial, outputs, stored, Run, after_cycle, run_from, graph_run}
-use Rattle.op_graph.proofs.OperandLaw.{initial_fits}
-use Rattle.signature_table.specs.Signatures.{Numbers, IsTable, signature, expected, stamp_before}
-use Rattle.signature_table.proofs.Distinct.{expected_below}
+use Rattle.op_graph.specs.GraphRun.{Cycle, cycle, initial, outputs, stored, Run, after_cycle, run_from, graph_run, cells_after, cells_or}
+use Rattle.signature_table.specs.Signatures.{Numbers, IsTable, stamp_before}
 use Rattle.coded_machine.specs.declared.cycle_end.CycleEnd.{CycleEnd}
 use Rattle.coded_machine.specs.declared.cycle_end.CycleEnd.TheVariants as end
 use Rattle.coded_machine.specs.Calls.{Setting, CallsOf, Whole, AllRight, Carried}
 use Rattle.coded_machine.specs.CycleEnds.{end_of, outputs_of, stored_words, initial_words}
-use Rattle.coded_machine.specs.Honest.{CellsHold, StandsFor, end_at}
+use Rattle.coded_machine.specs.Honest.{CellsHold, StandsFor, HonestCycles, HonestCells, end_at}
 use Rattle.coded_machine.specs.Runs.{setting_at, calls_over, Outcome, followed_by, outcome_over, unless_ended, AllCycles, AllReleased, held_after, RunSoFar, RunOver, FollowsSoFar, Turn, row_if, outcome_for}
 use Rattle.coded_machine.specs.State.{State, fresh, setting}
 use Rattle.coded_machine.proofs.Growth.{carried_on, nothing_carried, right_front}
-use Rattle.coded_machine.proofs.HonestEnds.{stands_for}
 
 -- ---- one more cycle
 
@@ -158,23 +152,6 @@ run_ends g t rows cycles m n row e x y z i j k r turn = record {
 
 -- ---- honest runs
 
-pub all_below : (t : Numbers) (n : ℕ) → IsTable t → n < 1000000 → (k : ℕ) → expected t.seed t.step k n < A
-all_below t n table few = λ k. expected_below t.seed t.step k n table.step_to few
-
-initial_at : (seed d : ℕ) (loads : List Loaded) (stores : List ℕ) (k n : ℕ) → d ≡ 0 → length stores ≡ length loads → slice_get stores k ≡ Some n →
-    at (map (λ (c : Cell). coded c.init (signature seed c.store)) (joined loads stores)) k ≡ coded (at (map (λ (l : Loaded). l.init) loads) k) (signature seed n + d)
-initial_at seed d [] [] k n zero_ e there = absurd cc
-initial_at seed d [] (m ∷ stores) k n zero_ e there = absurd (omega arith)
-initial_at seed d (l ∷ loads) [] k n zero_ e there = absurd (omega arith)
-initial_at seed d (l ∷ loads) (m ∷ stores) zero n zero_ e there = let same : m ≡ n = cc in ap (λ j. coded l.init (signature seed j)) same ∙ ap (coded l.init) (omega (arith, zero_))
-initial_at seed d (l ∷ loads) (m ∷ stores) (suc k) n zero_ e there = initial_at seed d loads stores k n zero_ (omega arith) there
-
-pub cells_at_first : (g : Lists) (seed step : ℕ) → IsGraph g → CellsHold g seed (stamp_before step 0) (initial_words g seed) (initial g)
-cells_at_first g seed step graph = record {
-  words = λ k n there. initial_at seed (stamp_before step 0) g.loads g.stores k n (omega arith) graph.all_stored there;
-  typed = initial_fits g graph;
-}
-
 turn_follows : (g : Lists) (t : Numbers) (n : ℕ) (answers : List Answer) (c : Cycle) (s : Option StopKind) (next : List ℤ → Run) (later : Outcome) → c.stop ≡ s →
     end_of g t n answers ≡ end_at (length c.values) s → (s ≡ None → outputs_of g answers ≡ outputs g c.values) → (s ≡ None → later ≡ outcome_for (next (stored g c.values))) →
     followed_by (end_of g t n answers) (outputs_of g answers) later ≡ outcome_for (after_cycle g c.values next s)
@@ -186,33 +163,34 @@ unless_here end.Released P Q is h = h
 unless_here (end.Stopped k why) P Q is h = absurd cc
 unless_here (end.Refused k found wanted) P Q is h = absurd cc
 
-honest_over : (g : Lists) (t : Numbers) (n : ℕ) (rows : List (List ℤ)) (cycles : List (List Answer)) (held values : List ℤ) → IsGraph g → IsTable t → CellsHold g t.seed (stamp_before t.step n) held values → n + length rows ≤ 1000000 →
+honest_over : HonestCycles → (g : Lists) (t : Numbers) (n : ℕ) (rows : List (List ℤ)) (cycles : List (List Answer)) (held values : List ℤ) → IsGraph g → IsTable t → CellsHold g t.seed (stamp_before t.step n) held values → n + length rows ≤ most_cycles →
     AllCycles g t n rows cycles → AllRight (calls_over g t n held rows cycles) → outcome_over g t n cycles ≡ outcome_for (run_from g values rows)
-honest_over g t n [] [] held values graph table hold many all right = refl
-honest_over g t n (row ∷ rows) [] held values graph table hold many all right = absurd all
-honest_over g t n [] (answers ∷ cycles) held values graph table hold many all right = absurd all
-honest_over g t n (row ∷ rows) (answers ∷ cycles) held values graph table hold many all right =
+honest_over law g t n [] [] held values graph table hold many all right = refl
+honest_over law g t n (row ∷ rows) [] held values graph table hold many all right = absurd all
+honest_over law g t n [] (answers ∷ cycles) held values graph table hold many all right = absurd all
+honest_over law g t n (row ∷ rows) (answers ∷ cycles) held values graph table hold many all right =
     let s : Setting = setting_at g t n held row in
     let parts = right_front (CallsOf s answers) (calls_over g t (suc n) (stored_words g answers) rows cycles) right in
     let c : Cycle = cycle g values row in
-    let stands : StandsFor s values answers = stands_for s values answers (all_below t n table (omega arith)) graph hold parts.0 all.0 in
+    let stands : StandsFor s values answers = law s values answers graph table (omega arith) hold parts.0 all.0 in
     turn_follows g t n answers c c.stop (λ h. run_from g h rows) (outcome_over g t (suc n) cycles) refl stands.end_is stands.row_is
     (λ stops.
     let released : end_of g t n answers ≡ end.Released = stands.end_is ∙ ap (end_at (length c.values)) stops in
     let next : CellsHold g t.seed (stamp_before t.step (suc n)) (stored_words g answers) (stored g c.values) =
     subst (λ j. CellsHold g t.seed (stamp_before t.step j) (stored_words g answers) (stored g c.values)) (omega arith) (stands.cells_are stops) in
-    honest_over g t (suc n) rows cycles (stored_words g answers) (stored g c.values) graph table next (omega arith) (unless_here (end_of g t n answers) _ _ released all.1) parts.1)
+    honest_over law g t (suc n) rows cycles (stored_words g answers) (stored g c.values) graph table next (omega arith) (unless_here (end_of g t n answers) _ _ released all.1) parts.1)
 
-pub honest_run : (g : Lists) (t : Numbers) (rows : List (List ℤ)) (cycles : List (List Answer)) → IsGraph g → IsTable t → length rows ≤ 1000000 → AllCycles g t 0 rows cycles →
+pub honest_run : HonestCycles → HonestCells → (g : Lists) (t : Numbers) (rows : List (List ℤ)) (cycles : List (List Answer)) → IsGraph g → IsTable t → length rows ≤ most_cycles → AllCycles g t 0 rows cycles →
     AllRight (calls_over g t 0 (initial_words g t.seed) rows cycles) → outcome_over g t 0 cycles ≡ outcome_for (graph_run g rows)
-honest_run g t rows cycles graph table many all right =
-    honest_over g t 0 rows cycles (initial_words g t.seed) (initial g) graph table (cells_at_first g t.seed t.step graph) (omega arith) all right
+honest_run law first g t rows cycles graph table many all right =
+    honest_over law g t 0 rows cycles (initial_words g t.seed) (initial g) graph table (first g t.seed t.step graph) (omega arith) all right
 
 -- ---- honest runs between two cycles
 
 -- the graph's run goes on from values that the cells hold
 pub record GoesOn (g : Lists) (t : Numbers) (n : ℕ) (rows : List (List ℤ)) (cycles : List (List Answer)) (held values : List ℤ) : Type 0 where
   pub later : List ℤ
+  pub later_is : later ≡ cells_after g values rows
   pub hold : CellsHold g t.seed (stamp_before t.step (n + length cycles)) (held_after g held cycles) later
   pub run : (more : List (List ℤ)) →
       run_from g values (rows ++ more) ≡ record { rows = map (outputs_of g) cycles ++ (run_from g later more).rows; end = (run_from g later more).end }
@@ -221,27 +199,29 @@ released_stop : (k : ℕ) (s : Option StopKind) → end_at k s ≡ end.Released 
 released_stop k None e = refl
 released_stop k (Some why) e = absurd cc
 
-goes_on : (g : Lists) (t : Numbers) (n : ℕ) (rows : List (List ℤ)) (cycles : List (List Answer)) (held values : List ℤ) → IsGraph g → IsTable t → CellsHold g t.seed (stamp_before t.step n) held values → n + length rows ≤ 1000000 → length rows ≡ length cycles →
+goes_on : HonestCycles → (g : Lists) (t : Numbers) (n : ℕ) (rows : List (List ℤ)) (cycles : List (List Answer)) (held values : List ℤ) → IsGraph g → IsTable t → CellsHold g t.seed (stamp_before t.step n) held values → n + length rows ≤ most_cycles → length rows ≡ length cycles →
     AllReleased g t n cycles → AllRight (calls_over g t n held rows cycles) → GoesOn g t n rows cycles held values
-goes_on g t n [] [] held values graph table hold many count all right = record {
+goes_on law g t n [] [] held values graph table hold many count all right = record {
   later = values;
+  later_is = refl;
   hold = subst (λ j. CellsHold g t.seed (stamp_before t.step j) held values) (omega arith) hold;
   run = λ more. refl;
 }
-goes_on g t n (row ∷ rows) [] held values graph table hold many count all right = absurd (omega arith)
-goes_on g t n [] (answers ∷ cycles) held values graph table hold many count all right = absurd (omega arith)
-goes_on g t n (row ∷ rows) (answers ∷ cycles) held values graph table hold many count all right =
+goes_on law g t n (row ∷ rows) [] held values graph table hold many count all right = absurd (omega arith)
+goes_on law g t n [] (answers ∷ cycles) held values graph table hold many count all right = absurd (omega arith)
+goes_on law g t n (row ∷ rows) (answers ∷ cycles) held values graph table hold many count all right =
     let s : Setting = setting_at g t n held row in
     let parts = right_front (CallsOf s answers) (calls_over g t (suc n) (stored_words g answers) rows cycles) right in
     let c : Cycle = cycle g values row in
-    let stands : StandsFor s values answers = stands_for s values answers (all_below t n table (omega arith)) graph hold parts.0 all.0 in
+    let stands : StandsFor s values answers = law s values answers graph table (omega arith) hold parts.0 all.0 in
     let stops : c.stop ≡ None = released_stop (length c.values) c.stop (sym stands.end_is ∙ all.1) in
     let next : CellsHold g t.seed (stamp_before t.step (suc n)) (stored_words g answers) (stored g c.values) =
     subst (λ j. CellsHold g t.seed (stamp_before t.step j) (stored_words g answers) (stored g c.values)) (omega arith) (stands.cells_are stops) in
     let rest : GoesOn g t (suc n) rows cycles (stored_words g answers) (stored g c.values) =
-    goes_on g t (suc n) rows cycles (stored_words g answers) (stored g c.values) graph table next (omega arith) (omega arith) all.2 parts.1 in
+    goes_on law g t (suc n) rows cycles (stored_words g answers) (stored g c.values) graph table next (omega arith) (omega arith) all.2 parts.1 in
     record {
       later = rest.later;
+      later_is = rest.later_is ∙ ap (λ s. cells_after g (cells_or values (stored g c.values) s) rows) (sym stops);
       hold = subst (λ j. CellsHold g t.seed (stamp_before t.step j) (held_after g (stored_words g answers) cycles) rest.later) (omega arith) rest.hold;
       run = λ more.
           ap (λ x. after_cycle g c.values (λ h. run_from g h (rows ++ more)) x) stops
@@ -249,13 +229,14 @@ goes_on g t n (row ∷ rows) (answers ∷ cycles) held values graph table hold m
           ∙ ap (λ x. record { rows = x ∷ (map (outputs_of g) cycles ++ (run_from g rest.later more).rows); end = (run_from g rest.later more).end }) (sym (stands.row_is stops));
     }
 
-pub follows_so_far : (g : Lists) (t : Numbers) (rows : List (List ℤ)) (cycles : List (List Answer)) (m : State) (x y : Option (List Entry)) (i j : ℕ) → IsGraph g → IsTable t → length rows ≤ 1000000 → RunSoFar g t rows cycles m x y i j → j ≡ i → i < 2 ^ 64 - 1 → FollowsSoFar g rows cycles m
-follows_so_far g t rows cycles m x y i j graph table many r same small =
+pub follows_so_far : HonestCycles → HonestCells → (g : Lists) (t : Numbers) (rows : List (List ℤ)) (cycles : List (List Answer)) (m : State) (x y : Option (List Entry)) (i j : ℕ) → IsGraph g → IsTable t → length rows ≤ most_cycles → RunSoFar g t rows cycles m x y i j → j ≡ i → i < 2 ^ 64 - 1 → FollowsSoFar g rows cycles m
+follows_so_far law first g t rows cycles m x y i j graph table many r same small =
     let on : GoesOn g t 0 rows cycles (initial_words g t.seed) (initial g) =
-    goes_on g t 0 rows cycles (initial_words g t.seed) (initial g) graph table (cells_at_first g t.seed t.step graph) (omega arith) r.many_rows r.released (r.carried.honest same small) in
+    goes_on law g t 0 rows cycles (initial_words g t.seed) (initial g) graph table (first g t.seed t.step graph) (omega arith) r.many_rows r.released (r.carried.honest same small) in
     let count : m.cycles ≡ 0 + length cycles = omega (arith, r.many_cycles) in
     record {
       values = on.later;
+      values_are = on.later_is;
       hold = rw (r.graph, r.table, r.held, count) on.hold;
       run = on.run;
     }

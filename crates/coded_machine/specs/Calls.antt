@@ -3,6 +3,7 @@ use Rattle.std.specs.Prelude.{ℕ, ◌≡◌, ◌<◌, ◌≤◌, ◌-◌, ◌^�
 use Rattle.vcp_base.specs.declared.kind.Kind.{Kind}
 use Rattle.vcp_base.specs.declared.kind.Kind.TheVariants as kind
 use Rattle.vcp_base.specs.Kinds.{operands}
+use Rattle.vcp_base.specs.Values.{at}
 use Rattle.coded_unit.specs.declared.call.Call.{Call}
 use Rattle.coded_unit.specs.declared.call.Answer.{Answer}
 use Rattle.coded_unit.specs.declared.call.Answer.TheVariants as answer
@@ -10,8 +11,8 @@ use Rattle.coded_unit.specs.Log.{Entry, GrowsBy}
 use Rattle.coded_unit.specs.Right.{Right}
 use Rattle.op_graph.specs.declared.op.Op.{Op}
 use Rattle.op_graph.specs.Lists.{Lists, cells}
-use Rattle.op_graph.specs.GraphRun.{at, own}
-use Rattle.signature_table.specs.Signatures.{Numbers, correction, stamp}
+use Rattle.signature_table.specs.Signatures.{Numbers, correction, store_of, stamp}
+use Rattle.coded_machine.specs.declared.calling.Operands.{Operands}
 
 -- What a cycle begins with: the graph, the numbers of its code, the words of its cells, the row of inputs, and the
 -- cycle's number, counted from 0.
@@ -49,21 +50,39 @@ read_word held answers _ imm n = word_at answers n
 abbrev pub operand_word : List ℤ → List Answer → Op → ℕ → ℕ → ℤ
 operand_word held answers op j n = cond (nat_lt j (operands op.kind)) (read_word held answers op.kind op.imm n) (pos 0)
 
--- the call of the next operation, after the answers to the earlier ones
-abbrev pub call_of : Setting → Op → List Answer → Call
-call_of s op answers = record {
-  op = length answers;
-  cycle = s.cycle;
+-- an operation's own number: the value of its input for INPUT, and else its `imm`
+abbrev pub own_number : Kind → ℤ → ℤ → ℤ
+own_number kind.Input imm input = input
+own_number _ imm input = imm
+
+-- the call of operation k of a graph in cycle n, with what it reads
+abbrev pub operation_call : Lists → Numbers → ℕ → ℕ → Op → Operands → Call
+operation_call g t n k op reads = record {
+  op = k;
+  cycle = n;
   kind = op.kind;
   from = op.from;
   ty = op.ty;
+  a = reads.a;
+  b = reads.b;
+  c = reads.c;
+  imm = own_number op.kind op.imm reads.input;
+  corr = correction t.seed t.step k op (store_of (cells g) (unsigned_abs op.imm));
+  stamp = stamp t.step n;
+}
+
+-- what an operation reads, after the answers to the earlier ones
+abbrev pub operands_of : Setting → Op → List Answer → Operands
+operands_of s op answers = record {
   a = operand_word s.held answers op 0 op.a;
   b = operand_word s.held answers op 1 op.b;
   c = operand_word s.held answers op 2 op.c;
-  imm = own s.row op.kind op.imm;
-  corr = correction s.table.seed s.table.step (cells s.graph) (length answers) op;
-  stamp = stamp s.table.step s.cycle;
+  input = at s.row (unsigned_abs op.imm);
 }
+
+-- the call of the next operation, after the answers to the earlier ones
+abbrev pub call_of : Setting → Op → List Answer → Call
+call_of s op answers = operation_call s.graph s.table s.cycle (length answers) op (operands_of s op answers)
 
 -- the calls of these operations with these answers, where `before` answered the earlier ones
 abbrev pub calls_from : Setting → List Answer → List Op → List Answer → List Entry

@@ -1,17 +1,20 @@
 -- Honest: what an honest unit gives, by the run of the graph on plain integers.
-use Rattle.std.specs.Prelude.{ℕ, suc, ◌≡◌, ◌≢◌, ◌+◌, List, [], ◌∷◌, ◌++◌, length, slice_get, Option, Some, None, ℤ}
+use Rattle.std.specs.Prelude.{ℕ, suc, ◌≡◌, ◌≢◌, ◌+◌, ◌<◌, List, [], ◌∷◌, ◌++◌, length, slice_get, Option, Some, None, ℤ}
 use Rattle.vcp_base.specs.declared.kind.StopKind.{StopKind}
 use Rattle.vcp_base.specs.declared.kind.StopKind.TheVariants as stop
+use Rattle.vcp_base.specs.Values.{at}
+use Rattle.vcp_base.specs.Limits.{most_cycles}
 use Rattle.coded_unit.specs.declared.call.Answer.{Answer}
 use Rattle.coded_unit.specs.declared.call.Answer.TheVariants as answer
 use Rattle.coded_unit.specs.Words.{coded}
 use Rattle.op_graph.specs.Lists.{Lists}
-use Rattle.op_graph.specs.GraphRun.{at, Cycle, CellsFit, cycle, outputs, stored}
-use Rattle.signature_table.specs.Signatures.{signature, expected, stamp_before}
+use Rattle.op_graph.specs.GraphRun.{Cycle, CellsFit, cycle, initial, outputs, stored}
+use Rattle.op_graph.specs.Rules.{IsGraph}
+use Rattle.signature_table.specs.Signatures.{IsTable, signature, expected, stamp_before}
 use Rattle.coded_machine.specs.declared.cycle_end.CycleEnd.{CycleEnd}
 use Rattle.coded_machine.specs.declared.cycle_end.CycleEnd.TheVariants as end
-use Rattle.coded_machine.specs.Calls.{Setting}
-use Rattle.coded_machine.specs.CycleEnds.{end_of, outputs_of, stored_words}
+use Rattle.coded_machine.specs.Calls.{Setting, CallsOf, Whole, AllRight}
+use Rattle.coded_machine.specs.CycleEnds.{end_of, outputs_of, stored_words, initial_words}
 use Rattle.coded_machine.specs.State.{State}
 
 -- The cells hold honest words of these values, each in its cell's type: the word of a cell whose STORE is operation n is
@@ -55,6 +58,17 @@ pub record StandsFor (s : Setting) (values : List ℤ) (answers : List Answer) :
   pub cells_are : (cycle s.graph values s.row).stop ≡ None →
       CellsHold s.graph s.table.seed (stamp_before s.table.step (s.cycle + 1)) (stored_words s.graph answers) (stored s.graph (cycle s.graph values s.row).values)
   pub no_operand : (cycle s.graph values s.row).stop ≢ Some stop.Operand
+
+-- where all answers to the calls of a cycle are right and the cells hold honest words, the answers stand for the graph's cycle
+abbrev pub HonestCycles : Type 0
+HonestCycles =
+    (s : Setting) (values : List ℤ) (answers : List Answer) → IsGraph s.graph → IsTable s.table → s.cycle < most_cycles →
+    CellsHold s.graph s.table.seed (stamp_before s.table.step s.cycle) s.held values → AllRight (CallsOf s answers) → Whole s.graph.operations answers →
+    StandsFor s values answers
+
+-- before the first cycle the cells hold honest words of their initial values
+abbrev pub HonestCells : Type 0
+HonestCells = (g : Lists) (seed step : ℕ) → IsGraph g → CellsHold g seed (stamp_before step 0) (initial_words g seed) (initial g)
 
 -- What a cycle of a machine did, where its cells held honest words of these values: the answers, the end and the row of
 -- outputs are those of the graph's cycle on plain integers, after a release the cells hold honest words of what that cycle

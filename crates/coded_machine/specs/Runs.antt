@@ -3,14 +3,14 @@ use Rattle.std.specs.Prelude.{ℕ, suc, ◌≡◌, List, [], ◌∷◌, ◌++◌
 use Rattle.coded_unit.specs.declared.call.Answer.{Answer}
 use Rattle.coded_unit.specs.Log.{Entry}
 use Rattle.op_graph.specs.Lists.{Lists}
-use Rattle.op_graph.specs.GraphRun.{Run, Stop, run_from, graph_run}
+use Rattle.op_graph.specs.GraphRun.{Run, Stop, run_from, graph_run, initial, cells_after}
 use Rattle.signature_table.specs.Signatures.{Numbers, stamp_before}
 use Rattle.coded_machine.specs.declared.cycle_end.CycleEnd.{CycleEnd}
 use Rattle.coded_machine.specs.declared.cycle_end.CycleEnd.TheVariants as end
 use Rattle.coded_machine.specs.Calls.{Setting, CallsOf, Whole, Carried}
 use Rattle.coded_machine.specs.CycleEnds.{end_of, outputs_of, stored_words, initial_words}
 use Rattle.coded_machine.specs.Honest.{CellsHold}
-use Rattle.coded_machine.specs.State.{State, setting, with_answers, after_end}
+use Rattle.coded_machine.specs.State.{State, given, setting, with_answers, after_end}
 
 -- what cycle n begins with
 abbrev pub setting_at : Lists → Numbers → ℕ → List ℤ → List ℤ → Setting
@@ -76,6 +76,22 @@ pub record RunSoFar (g : Lists) (t : Numbers) (rows : List (List ℤ)) (cycles :
   pub held : m.held ≡ held_after g (initial_words g t.seed) cycles
   pub going : m.ended ≡ None
 
+-- A machine in the midst of a cycle that a caller carries by `next_call` and `put`: it began the cycle as `old`, with no end
+-- before, and has nothing new but its answers; the calls so far are these, with their answers.
+pub record UnderWay (old m : State) (row : List ℤ) (calls : List Entry) : Type 0 where
+  pub going : old.ended ≡ None
+  pub same : m ≡ record old { answers = m.answers; under_way = m.under_way }
+  pub calls_are : calls ≡ CallsOf (setting old row) (given m)
+
+-- A cycle of a machine with no end before, from one state to another: it is whole, these are its calls with their answers, its
+-- end is the one that is read off its answers, and the machine is as that end leaves it.
+pub record Ended (old new : State) (row : List ℤ) (calls : List Entry) (e : CycleEnd) : Type 0 where
+  pub going : old.ended ≡ None
+  pub whole : Whole old.graph.operations new.answers
+  pub calls_are : calls ≡ CallsOf (setting old row) new.answers
+  pub end_is : e ≡ end_of old.graph old.table old.cycles new.answers
+  pub machine : new ≡ after_end (with_answers old new.answers) e
+
 -- A cycle of a machine with no end before, from one state to another, as `Machine::cycle` promises it: it is whole, the log grew
 -- by its calls, its end is the one that is read off its answers, and the machine is as that end leaves it.
 pub record Turn (old new : State) (row : List ℤ) (e : CycleEnd) (told_before told_now : Option (List Entry)) (wrong_before wrong_now : ℕ) : Type 0 where
@@ -110,6 +126,7 @@ outcome_for r = record { rows = r.rows; end = end_of_run r.end }
 -- these rows and any others after them gives the outputs so far and then goes on from these values.
 pub record FollowsSoFar (g : Lists) (rows : List (List ℤ)) (cycles : List (List Answer)) (m : State) : Type 0 where
   pub values : List ℤ
+  pub values_are : values ≡ cells_after g (initial g) rows
   pub hold : CellsHold m.graph m.table.seed (stamp_before m.table.step m.cycles) m.held values
   pub run : (more : List (List ℤ)) →
       graph_run g (rows ++ more) ≡ record { rows = map (outputs_of g) cycles ++ (run_from g values more).rows; end = (run_from g values more).end }

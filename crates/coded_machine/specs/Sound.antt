@@ -1,5 +1,6 @@
 -- Sound: what holds of every machine.
 use Rattle.std.specs.Prelude.{ℕ, ◌≡◌, ◌≢◌, ◌≤◌, Bool, false, cond, length, IfSome}
+use Rattle.vcp_base.specs.Limits.{most_cycles}
 use Rattle.op_graph.specs.Rules.{IsGraph}
 use Rattle.signature_table.specs.Signatures.{IsTable, IsTableOf}
 use Rattle.coded_machine.specs.declared.cycle_end.CycleEnd.TheVariants as end
@@ -16,5 +17,5 @@ pub record Sound (m : State) (halted : Bool) (capacity : ℕ) : Type 0 where
   pub cells : length m.held ≡ length m.graph.stores
   pub few : length m.answers ≤ length m.graph.operations
   pub progress : cond halted (Whole m.graph.operations (given m)) (AllWords (given m))
-  pub cycles : m.cycles ≤ 1000000
+  pub cycles : m.cycles ≤ most_cycles
   pub closed : IfSome m.ended (λ e. (e ≢ end.Released) × (m.under_way ≡ false))

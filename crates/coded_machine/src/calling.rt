@@ -1,10 +1,12 @@
 //! The call of one operation, from the answers to the earlier ones.
 
-ghost use Rattle.std.specs.Prelude.{◌≡◌, ◌<◌, ◌≤◌, Some, length, slice_get, unsigned_abs};
-ghost use Rattle.vcp_base.specs.Code.{A as code_constant};
-ghost use Rattle.op_graph.specs.GraphRun.{at, own as own_of};
+ghost use Rattle.std.specs.Prelude.{◌≡◌, ◌<◌, ◌≤◌, Some, length, slice_get};
+ghost use Rattle.vcp_base.specs.Limits.{most_operations, most_cycles};
+ghost use Rattle.vcp_base.specs.Values.{at};
+ghost use Rattle.coded_unit.specs.Asked.{Asked};
+ghost use Rattle.op_graph.specs.declared.op.Op.{Op as Operation};
 ghost use Rattle.signature_table.specs.Signatures.{IsTableOf};
-ghost use Rattle.coded_machine.specs.Calls.{is_word as is_word_of, word_of as word_of_answer, word_at as word_at_of, operand_word, call_of};
+ghost use Rattle.coded_machine.specs.Calls.{is_word as is_word_of, word_of as word_of_answer, word_at as word_at_of, operand_word, own_number as own_number_of, operation_call as call_of_operation, call_of};
 ghost use Rattle.coded_machine.specs.Runs.{setting_at};
 
 use coded_unit::{Answer, Call, Word};
@@ -25,6 +27,21 @@ pub(crate) struct Setting<'a> {
     pub row: &'a Row,
     /// The number of the cycle, from 0.
     pub cycle: u32,
+}
+
+/// What an operation reads.
+///
+/// An operand that the kind does not have is `Word::ZERO` by custom; no answer depends on it.
+#[derive(Clone, Copy, Debug, PartialEq, Eq)]
+pub struct Operands {
+    /// The word of the first operand.
+    pub a: Word,
+    /// The word of the second operand.
+    pub b: Word,
+    /// The word of the third operand.
+    pub c: Word,
+    /// The value of the input that an INPUT reads; no other kind reads it.
+    pub input: i64,
 }
 
 /// Whether an answer is a word, and so tells no stop.
@@ -89,37 +106,60 @@ fn operand(setting: &Setting<'_>, op: &Op, answers: &[Answer], j: u32, from: u32
 }
 
 /// An operation's own number: the value of its input for INPUT, and else its `imm`.
-fn own(row: &Row, op: &Op) -> i64
-    ensures { result ≡ own_of row.now op.now.kind op.now.imm }
+fn own_number(op: &Op, input: i64) -> i64
+    ensures { result ≡ own_number_of op.now.kind op.now.imm input }
 {
     match op.kind {
-        Kind::Input => input_at(row, op.imm.unsigned_abs()),
+        Kind::Input => input,
         _ => op.imm,
+    }
+}
+
+/// The call of operation `i` of a graph in a cycle, counted from 0 and below 1,000,000, with what the
+/// operation reads.
+pub fn operation_call(graph: &Graph, table: &Table, i: u32, cycle: u32, operands: &Operands) -> Call
+    requires operation { i < length graph.now.operations }
+    requires table { IsTableOf table.now graph.now }
+    requires cycle { cycle < most_cycles }
+    ensures call { (op : Operation) → slice_get graph.now.operations i ≡ Some op → result ≡ call_of_operation graph.now table.now cycle i op operands.now }
+    ensures asked { Asked result }
+{
+    let op = graph.operation(i);
+    Call {
+        op: i,
+        cycle,
+        kind: op.kind,
+        from: op.from,
+        ty: op.ty,
+        a: operands.a,
+        b: operands.b,
+        c: operands.c,
+        imm: own_number(&op, operands.input),
+        corr: table.correction(i),
+        stamp: table.step() as u32 * (cycle + 1),
     }
 }
 
 /// The call of the operation that comes after these answers, which there is.
 pub(crate) fn call_after(setting: &Setting<'_>, op: &Op, answers: &[Answer]) -> Call
     requires here { slice_get setting.now.graph.now.operations (length answers.now) ≡ Some op.now }
-    requires few { length answers.now ≤ 65536 }
+    requires few { length answers.now ≤ most_operations }
     requires table { IsTableOf setting.now.table.now setting.now.graph.now }
-    requires cycle { setting.now.cycle < 1000000 }
+    requires cycle { setting.now.cycle < most_cycles }
     ensures call { result ≡ call_of (setting_at setting.now.graph.now setting.now.table.now setting.now.cycle setting.now.held.now setting.now.row.now) op.now answers.now }
-    ensures corr { result.corr < code_constant }
-    ensures stamp { result.stamp ≤ 1000000000 }
+    ensures asked { Asked result }
 {
-    let k = answers.len() as u32;
-    Call {
-        op: k,
-        cycle: setting.cycle,
-        kind: op.kind,
-        from: op.from,
-        ty: op.ty,
+    let operands = Operands {
         a: operand(setting, op, answers, 0, op.a),
         b: operand(setting, op, answers, 1, op.b),
         c: operand(setting, op, answers, 2, op.c),
-        imm: own(setting.row, op),
-        corr: setting.table.correction(k),
-        stamp: setting.table.step() as u32 * (setting.cycle + 1),
-    }
+        input: input_at(setting.row, op.imm.unsigned_abs()),
+    };
+    operation_call(
+        setting.graph,
+        setting.table,
+        answers.len() as u32,
+        setting.cycle,
+        &operands,
+    )
 }

@@ -1,6 +1,7 @@
 //! How a cycle ends, read off the answers to its calls.
 
 ghost use Rattle.std.specs.Prelude.{◌≡◌, ◌≢◌, ◌<◌, ◌≤◌, true, false, length};
+ghost use Rattle.vcp_base.specs.Limits.{most_operations, most_cycles};
 ghost use Rattle.vcp_base.specs.Types.{fits as fits_of};
 ghost use Rattle.coded_unit.specs.Words.{modulo, value_part};
 ghost use Rattle.coded_machine.specs.Calls.{word_at as word_at_of};
@@ -11,7 +12,7 @@ ghost use Rattle.signature_table.specs.Signatures.{IsTableOf};
 
 use crate::calling::word_at;
 use coded_unit::Answer;
-use op_graph::{Graph, Outlet};
+use op_graph::{Graph, Outlet, entries_keep_their_rules};
 use signature_table::Table;
 use vcp_base::{Residue, StopKind, fits};
 
@@ -36,10 +37,10 @@ pub enum CycleEnd {
 
 /// How a cycle with these answers ends.
 pub(crate) fn cycle_end(graph: &Graph, table: &Table, cycle: u32, answers: &[Answer]) -> CycleEnd
-    requires few { length answers.now ≤ 65536 }
+    requires few { length answers.now ≤ most_operations }
     requires graph { IsGraph graph.now }
     requires table { IsTableOf table.now graph.now }
-    requires cycle { cycle < 1000000 }
+    requires cycle { cycle < most_cycles }
     ensures { result ≡ end_of graph.now table.now cycle answers.now }
 {
     if let Some(end) = first_stop(answers) {
@@ -76,7 +77,7 @@ fn stop_of(answer: &Answer) -> Option<StopKind>
 
 /// The first answer that is a stop.
 fn first_stop(answers: &[Answer]) -> Option<CycleEnd>
-    requires { length answers.now ≤ 65536 }
+    requires { length answers.now ≤ most_operations }
     ensures { result ≡ first_stop_of 0 answers.now }
 {
     'answers: for (k, answer) in answers.iter().enumerate() {
@@ -121,9 +122,11 @@ fn residue_at(answers: &[Answer], k: u32) -> Residue
 fn first_refused(graph: &Graph, table: &Table, cycle: u32, answers: &[Answer]) -> Option<CycleEnd>
     requires graph { IsGraph graph.now }
     requires table { IsTableOf table.now graph.now }
-    requires cycle { cycle < 1000000 }
+    requires cycle { cycle < most_cycles }
     ensures { result ≡ first_refused_of table.now cycle answers.now 0 graph.now.outputs }
 {
+    // The OUT of each output is an operation.
+    entries_keep_their_rules();
     'outputs: for i in 0..graph.outputs() {
         let outlet = graph.output(i);
         let found = residue_at(answers, outlet.op);

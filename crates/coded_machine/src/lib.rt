@@ -11,9 +11,11 @@ mod laws;
 mod machine;
 mod releasing;
 
+pub use calling::{Operands, operation_call};
 pub use cycle_end::CycleEnd;
 pub use laws::{
-    honest_runs_follow_the_graph, right_answers_stand_for_values, runs_follow_their_answers,
+    cycles_by_hand_are_whole, honest_runs_follow_the_graph, right_answers_stand_for_values,
+    runs_follow_their_answers,
 };
 pub use machine::Machine;
 

@@ -1,18 +1,21 @@
 //! The machine: its registers, its coded memory and its checker.
 
 ghost use Rattle.std.specs.Prelude.{◌≡◌, ◌≢◌, ◌<◌, ◌≤◌, ◌+◌, ◌↔◌, ◌++◌, ◌∷◌, ◌-◌, ◌^◌, ℤ, List, [], false, cond, None, Some, IsNone, IsSome, IfSome, IfOk, length, slice_get, vec_capacity};
-ghost use Rattle.vcp_base.specs.Code.{A as code_constant};
+ghost use Rattle.vcp_base.specs.Limits.{most_cycles};
+ghost use Rattle.coded_unit.specs.Asked.{Asked};
 ghost use Rattle.op_graph.specs.declared.op.Op.{Op as Operation};
 ghost use Rattle.op_graph.specs.GraphRun.{initial};
 ghost use Rattle.signature_table.specs.Signatures.{stamp_before, IsTableOf};
 ghost use Rattle.coded_machine.specs.Calls.{CallsOf, call_of, Next, Whole, Carried};
 ghost use Rattle.coded_machine.specs.CycleEnds.{end_of, end_or, first_outside, Accepted, Cause};
 ghost use Rattle.coded_machine.specs.Honest.{CellsHold, FollowsGraph};
+ghost use Rattle.coded_machine.specs.Runs.{Turn};
 ghost use Rattle.coded_machine.specs.State.{fresh, given as given_of, setting, Awaits, Finished, with_answer, with_answers, after_end, row_after, word_in};
 ghost use Rattle.coded_machine.specs.declared.cycle_end.CycleEnd.TheVariants.{Released};
 
 use crate::calling::{Setting, call_after, is_word};
 use crate::cycle_end::{CycleEnd, cycle_end, is_released};
+use crate::laws::right_answers_stand_for_values;
 use crate::releasing::{first_words, set_outputs, store_words};
 use coded_unit::{Answer, Call, Unit, Word};
 use op_graph::{Graph, Op};
@@ -61,9 +64,11 @@ impl<'a> Machine<'a> {
         ensures fresh { IfOk result (λ machine. machine ≡ fresh graph.now table.now) }
         ensures cells { IfOk result (λ machine. CellsHold graph.now table.now.seed (stamp_before table.now.step 0) machine.held (initial graph.now)) }
     {
-        // What these two calls ensure is kept by the machine: the rules of the graph and of the table.
+        // What these calls ensure is kept by the machine: the rules of the graph and of the table, and
+        // that honest words stand for values.
         let operations = graph.len() as usize;
         let _step = table.step();
+        right_answers_stand_for_values();
         let held = first_words(alloc, graph, table)?;
         Ok(Machine {
             graph,
@@ -80,7 +85,7 @@ impl<'a> Machine<'a> {
     /// The number of released cycles, at most 1,000,000.
     pub fn cycles(&self) -> u32
         ensures value { result ≡ self.now.cycles }
-        ensures bound { result ≤ 1000000 }
+        ensures bound { result ≤ most_cycles }
     {
         self.cycles
     }
@@ -101,13 +106,12 @@ impl<'a> Machine<'a> {
     /// an earlier end is repeated. An input past the end of the row has the value 0, and one outside
     /// its type stops its operation.
     pub fn next_call(&self, row: &Row) -> Option<Call>
-        requires { self.now.cycles < 1000000 }
+        requires { self.now.cycles < most_cycles }
         ensures none { IsNone result ↔ Finished self.now }
         ensures some { IsSome result ↔ Awaits self.now }
         ensures next { IfSome result (λ call. Next (setting self.now row.now) (given_of self.now) call) }
         ensures call { IfSome result (λ call. (op : Operation) → slice_get self.now.graph.operations (length (given_of self.now)) ≡ Some op → call ≡ call_of (setting self.now row.now) op (given_of self.now)) }
-        ensures corr { IfSome result (λ call. call.corr < code_constant) }
-        ensures stamp { IfSome result (λ call. call.stamp ≤ 1000000000) }
+        ensures asked { IfSome result (λ call. Asked call) }
     {
         match self.pending() {
             Some(op) => Some(self.call(row, &op)),
@@ -136,10 +140,9 @@ impl<'a> Machine<'a> {
     /// The call of the operation that comes after the answers put in this cycle.
     fn call(&self, row: &Row, op: &Op) -> Call
         requires here { slice_get self.now.graph.operations (length (given_of self.now)) ≡ Some op.now }
-        requires cycle { self.now.cycles < 1000000 }
+        requires cycle { self.now.cycles < most_cycles }
         ensures call { result ≡ call_of (setting self.now row.now) op.now (given_of self.now) }
-        ensures corr { result.corr < code_constant }
-        ensures stamp { result.stamp ≤ 1000000000 }
+        ensures asked { Asked result }
     {
         let setting = Setting {
             graph: self.graph,
@@ -162,13 +165,15 @@ impl<'a> Machine<'a> {
         self.under_way = true;
     }
 
-    /// Ends the cycle in which there is no next call, and tells its end, by the answers put in it.
+    /// Ends the cycle in which there is no next call, and tells its end, by the answers put in it. A
+    /// cycle that is carried by these three calls is one that `cycle` carries, as
+    /// `cycles_by_hand_are_whole` says.
     ///
     /// After a release `out` has the values of the outputs, the cells have the words that their STOREs
     /// answered, and one cycle more is counted. After any other end `out`, the cells and the count are
     /// unchanged, and the end is repeated from then on.
     pub fn end(&mut self, out: &mut Row) -> CycleEnd
-        requires cycle { self.old.cycles < 1000000 }
+        requires cycle { self.old.cycles < most_cycles }
         requires finished { Finished self.old }
         requires out { length out.old ≡ length self.old.graph.outputs }
         ensures end { result ≡ end_or self.old.ended (end_of self.old.graph self.old.table self.old.cycles (given_of self.old)) }
@@ -178,6 +183,7 @@ impl<'a> Machine<'a> {
         ensures cause { self.old.ended ≡ None → Cause self.old.graph self.old.table self.old.cycles (given_of self.old) result }
         ensures repeats { IfSome self.old.ended (λ e. (result ≡ e) × (self.new ≡ self.old) × (out.new ≡ out.old)) }
         ensures between { self.new.under_way ≡ false }
+        ensures answers { self.old.ended ≡ None → self.new.answers ≡ given_of self.old }
         ensures graph { self.new.graph ≡ self.old.graph }
         ensures table { self.new.table ≡ self.old.table }
         ensures cycles { self.new.cycles ≤ self.old.cycles + 1 }
@@ -191,7 +197,7 @@ impl<'a> Machine<'a> {
 
     /// Ends a cycle where no earlier end is repeated.
     fn conclude(&mut self, out: &mut Row) -> CycleEnd
-        requires cycle { self.old.cycles < 1000000 }
+        requires cycle { self.old.cycles < most_cycles }
         requires going { self.old.ended ≡ None }
         requires whole { Whole self.old.graph.operations (given_of self.old) }
         requires out { length out.old ≡ length self.old.graph.outputs }
@@ -211,7 +217,7 @@ impl<'a> Machine<'a> {
 
     /// Releases the outputs, stores the cells and counts the cycle.
     fn release(&mut self, out: &mut Row)
-        requires cycle { self.old.cycles < 1000000 }
+        requires cycle { self.old.cycles < most_cycles }
         requires going { self.old.ended ≡ None }
         requires inside { first_outside (given_of self.old) self.old.graph.outputs ≡ None }
         requires out { length out.old ≡ length self.old.graph.outputs }
@@ -242,7 +248,7 @@ impl<'a> Machine<'a> {
     /// It does what `next_call`, `put` and `end` do one after another. Where an earlier end is
     /// repeated, no call is made.
     pub fn cycle<U: Unit>(&mut self, unit: &mut U, row: &Row, out: &mut Row) -> CycleEnd
-        requires cycle { self.old.cycles < 1000000 }
+        requires cycle { self.old.cycles < most_cycles }
         requires between { self.old.under_way ≡ false }
         requires out { length out.old ≡ length self.old.graph.outputs }
         ensures whole { self.old.ended ≡ None → Whole self.old.graph.operations self.new.answers }
@@ -258,18 +264,20 @@ impl<'a> Machine<'a> {
         ensures table { self.new.table ≡ self.old.table }
         ensures cycles { self.new.cycles ≤ self.old.cycles + 1 }
         ensures width { length out.new ≡ length out.old }
+        ensures turn { self.old.ended ≡ None → Turn self.old self.new row.now result (U.log unit.old) (U.log unit.new) (U.wrong unit.old) (U.wrong unit.new) }
         ensures honest { self.old.ended ≡ None → U.wrong unit.new ≡ U.wrong unit.old → U.wrong unit.old < 2 ^ 64 - 1 → (values : List ℤ) → CellsHold self.old.graph self.old.table.seed (stamp_before self.old.table.step self.old.cycles) self.old.held values → FollowsGraph self.old self.new values row.now result out.new }
     {
         if let Some(end) = self.ended {
             return end;
         }
+        right_answers_stand_for_values();
         self.carry(unit, row);
         self.end(out)
     }
 
     /// Carries the calls of a cycle through a unit, up to the first answer that is no word.
     fn carry<U: Unit>(&mut self, unit: &mut U, row: &Row)
-        requires cycle { self.old.cycles < 1000000 }
+        requires cycle { self.old.cycles < most_cycles }
         requires between { self.old.under_way ≡ false }
         requires going { self.old.ended ≡ None }
         ensures given { given_of self.new ≡ self.new.answers }

@@ -1,6 +1,7 @@
 //! What a release sets: the row of outputs and the words of the cells.
 
-ghost use Rattle.std.specs.Prelude.{◌≡◌, ◌<◌, ◌≤◌, ◌++◌, ◌∷◌, None, IfOk, length, slice_set, pos, negsuc, ◌≤ℤ◌};
+ghost use Rattle.std.specs.Prelude.{◌≡◌, ◌<◌, ◌≤◌, ◌++◌, ◌∷◌, None, IfOk, length, slice_set, FitsSigned};
+ghost use Rattle.std.specs.Int.{w64};
 ghost use Rattle.coded_unit.specs.Words.{value_part, coded};
 ghost use Rattle.op_graph.specs.Rules.{IsGraph};
 ghost use Rattle.signature_table.specs.Signatures.{signature, IsTableOf};
@@ -8,7 +9,7 @@ ghost use Rattle.coded_machine.specs.CycleEnds.{outputs_of, stored_words, initia
 
 use crate::calling::word_at;
 use coded_unit::{Answer, Word};
-use op_graph::{Cell, Graph};
+use op_graph::{Cell, Graph, entries_keep_their_rules};
 use signature_table::Table;
 use std::alloc::Global;
 use vcp_base::{Memory, Row};
@@ -28,8 +29,7 @@ pub(crate) fn set_outputs(graph: &Graph, answers: &[Answer], out: &mut Row)
 /// Sets one place of the row to the value of a word.
 fn set_output(out: &mut Row, i: u32, word: Word)
     requires place { i < length out.old }
-    requires low { negsuc 2147483647 ≤ℤ value_part word }
-    requires high { value_part word ≤ℤ pos 2147483647 }
+    requires value { FitsSigned w64 (value_part word) }
     ensures { out.new ≡ slice_set out.old i (value_part word) }
 {
     out.set(i, word.split().0 as i64);
@@ -58,8 +58,11 @@ fn first_word(table: &Table, cell: &Cell) -> Word
 pub(crate) fn first_words(alloc: Global, graph: &Graph, table: &Table) -> Result<Vec<Word>, Memory>
     requires graph { IsGraph graph.now }
     requires table { IsTableOf table.now graph.now }
-    ensures { IfOk result (λ held. held.items ≡ initial_words graph.now table.now.seed) }
+    ensures words { IfOk result (λ held. held.items ≡ initial_words graph.now table.now.seed) }
+    ensures count { IfOk result (λ held. length held.items ≡ length graph.now.stores) }
 {
+    // The STORE of each cell is an operation.
+    entries_keep_their_rules();
     let mut held = Vec::with_capacity(alloc, graph.cells() as usize)?;
     'cells: for i in 0..graph.cells() {
         held.push(first_word(table, &graph.cell(i)))?;

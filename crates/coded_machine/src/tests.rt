@@ -1,9 +1,11 @@
 //! Worked cycles, with expected values worked out by hand: seed 0 and step 1, so operation i has the
 //! signature 214748365*i modulo 2^30, and cycle n the stamp n + 1.
 
-ghost use Rattle.std.specs.Prelude.{◌≡◌, ◌≤◌, ◌<◌, ◌+◌, false, IfOk, length};
+ghost use Rattle.std.specs.Prelude.{◌≡◌, ◌≤◌, ◌<◌, ◌+◌, false, None, IfOk, length};
+ghost use Rattle.coded_machine.specs.Runs.{Turn};
 
-use crate::{CycleEnd, Machine};
+use crate::{CycleEnd, Machine, Operands, cycles_by_hand_are_whole, operation_call};
+use coded_unit::table::answer;
 use coded_unit::{Answer, BadUnit, CpuUnit, LogUnit, Unit, Word};
 use op_graph::{Build, Graph, GraphBuilder, Op};
 use signature_table::Table;
@@ -30,7 +32,8 @@ fn on_dint(kind: Kind, a: u32, b: u32, imm: i64) -> Op
 
 /// The graph of `n := n + 1; y := n;`: LOAD, CONST, ADD, OUT, STORE.
 fn counter(alloc: Global) -> Result<Graph, Build>
-    ensures { IfOk result (λ graph. length graph.outputs ≡ 1) }
+    ensures outputs { IfOk result (λ graph. length graph.outputs ≡ 1) }
+    ensures operations { IfOk result (λ graph. length graph.operations ≡ 5) }
 {
     let spot = Spot { line: 3, col: 5 };
     let mut builder = GraphBuilder::new(alloc);
@@ -108,13 +111,16 @@ fn cycle<U: Unit>(machine: &mut Machine<'_>, unit: &mut U, row: &Row, out: &mut 
 /// The same by the three calls of which a cycle is made.
 fn cycle_by_hand<U: Unit>(machine: &mut Machine<'_>, unit: &mut U, row: &Row, out: &mut Row) -> Seen
     requires cycle { machine.old.cycles < 1000000 }
+    requires between { machine.old.under_way ≡ false }
     requires outputs { length machine.old.graph.outputs ≡ 1 }
     requires out { length out.old ≡ 1 }
+    ensures turn { machine.old.ended ≡ None → Turn machine.old machine.new row.now result.end (U.log unit.old) (U.log unit.new) (U.wrong unit.old) (U.wrong unit.new) }
     ensures cycles { machine.new.cycles ≤ machine.old.cycles + 1 }
     ensures between { machine.new.under_way ≡ false }
     ensures outputs { length machine.new.graph.outputs ≡ 1 }
     ensures out { length out.new ≡ 1 }
 {
+    cycles_by_hand_are_whole();
     'calls: while let Some(call) = machine.next_call(row) {
         machine.put(unit.perform(&call));
     }
@@ -224,6 +230,23 @@ fn a_cycle_is_made_of_three_calls(rt: HostRuntime) -> Result<(), Fail> {
     crate::right_answers_stand_for_values();
     crate::runs_follow_their_answers();
     crate::honest_runs_follow_the_graph();
+    Ok(())
+}
+
+#[test]
+fn a_call_is_made_outside_a_machine(rt: HostRuntime) -> Result<(), Fail> {
+    let graph = counter(rt.alloc())?;
+    let table = Table::new(rt.alloc(), &graph, 0, 1)?;
+    // The ADD of the second cycle reads the words 2147483649 and 2362232014.
+    let operands = Operands {
+        a: Word::packed(1, 2),
+        b: Word::packed(1, 214748367),
+        c: Word::ZERO,
+        input: 0,
+    };
+    let call = operation_call(&graph, &table, 2, 1, &operands);
+    assert_eq!(rt; (call.op, call.cycle, call.stamp), (2, 1, 2));
+    assert_eq!(rt; answer(&call), Answer::Word(Word::packed(2, 429496732)));
     Ok(())
 }
 

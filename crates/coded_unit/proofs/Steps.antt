@@ -1,10 +1,11 @@
 -- The right answer to a call whose operands carry signatures, the stamp and differences.
-use Rattle.std.proofs.Common.{◌≡◌, pos, ◌+ℤ◌, ◌*ℤ◌, ap, ◌∙◌}
+use Rattle.std.proofs.Common.{◌≡◌, pos, ◌+ℤ◌, ◌-ℤ◌, ◌*ℤ◌, ap, ◌∙◌, arith}
+use Rattle.std.proofs.lemmas.Int.{ints}
 use Rattle.vcp_base.specs.Kinds.{multiplier, outcome}
 use Rattle.coded_unit.specs.declared.call.Call.{Call}
 use Rattle.coded_unit.specs.Words.{modulo, value_part}
 use Rattle.coded_unit.specs.Right.{residue, residue_of, answer_of, Right}
-use Rattle.coded_unit.specs.Step.{StepLaw}
+use Rattle.coded_unit.specs.Step.{Carries, StepLaw, ExchangedLaw, weighed}
 use Rattle.coded_unit.proofs.Modular.{modulo_below, modulo_coded, value_part_coded, residues_cancel}
 
 -- the right answer keeps the step law
@@ -29,3 +30,17 @@ right_steps call s e f g d h k v w x carries =
     ∙ ap (λ y. answer_of (gives v y (value_part call.c)) (residue_of call)) vb
     ∙ ap (λ y. answer_of (gives v w y) (residue_of call)) vc
     ∙ ap (answer_of (gives v w x)) same_residue
+
+-- and it keeps it for another kind than was meant: the correction is then the one for a signature that differs
+pub exchanged_steps : (call : Call) → ExchangedLaw call (Right call)
+exchanged_steps call meant s e f g d h k v w x carries =
+    let kind = call.kind in
+    let more = weighed kind e f g -ℤ weighed meant e f g in
+    let here : Carries call kind (s +ℤ more) e f g d h k v w x = record {
+      first = carries.first;
+      second = carries.second;
+      third = carries.third;
+      correction = carries.correction ∙ ap modulo (omega (arith, ints));
+    } in
+    right_steps call (s +ℤ more) e f g d h k v w x here
+    ∙ ap (λ z. answer_of (outcome kind call.from call.ty call.imm v w x) (modulo z)) (omega (arith, ints))

@@ -1,5 +1,7 @@
+pub mod Asked
 pub mod Faulty
 pub mod Log
 pub mod Right
 pub mod Step
+pub mod WordLaws
 pub mod Words

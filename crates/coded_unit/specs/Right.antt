@@ -1,4 +1,4 @@
--- Right: the right answer to a call. No other definition computes a word.
+-- Right: the right answer to a call. No other definition computes the word of an answer.
 use Rattle.std.specs.Prelude.{ℕ, ℤ, pos, ◌+ℤ◌, ◌-ℤ◌, ◌*ℤ◌, Ok, Err}
 use Rattle.vcp_base.specs.declared.kind.Kind.{Kind}
 use Rattle.vcp_base.specs.declared.kind.StopKind.TheVariants as stop

@@ -1,7 +1,7 @@
 //! A unit that gives some answers as it is told to.
 
 ghost use Rattle.std.specs.Prelude.{◌≡◌, ◌≢◌, ℕ, ◌<◌, ◌≤◌, ◌-◌, ◌^◌, ◌↔◌, ◌∷◌, [], Some, IfOk, OnOk, OnErr, IsNone, length, slice_get, unwrap_or};
-ghost use Rattle.vcp_base.specs.Code.{A as code_constant};
+ghost use Rattle.coded_unit.specs.Asked.{Asked};
 ghost use Rattle.coded_unit.specs.Right.{Right};
 ghost use Rattle.coded_unit.specs.Log.{GrowsBy, Counts, one_more, told, after_call};
 ghost use Rattle.coded_unit.specs.Faulty.{nothing_replaced, replacement, next_answer};
@@ -93,8 +93,7 @@ impl Unit for BadUnit {
     ghost wrong = { λ unit. unit.wrong };
 
     fn perform(&mut self, call: &Call) -> Answer
-        requires corr { call.now.corr < code_constant }
-        requires stamp { call.now.stamp ≤ 1000000000 }
+        requires { Asked call.now }
         ensures log { GrowsBy (told self.old.kept) (told self.new.kept) ((call.now, result) ∷ []) }
         ensures wrong { Counts result (Right call.now) self.old.wrong self.new.wrong }
         ensures answer { result ≡ next_answer self.old call.now }

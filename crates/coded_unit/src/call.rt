@@ -29,7 +29,7 @@ pub struct Call {
     /// The correction, below `A`: what the answer's signature has beyond the operands' signatures,
     /// each times its multiplier.
     pub corr: Residue,
-    /// The stamp of the cycle, at most 1000000000.
+    /// The stamp of the cycle, at most 1,000,000,000.
     pub stamp: u32,
 }
 

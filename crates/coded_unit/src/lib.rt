@@ -9,6 +9,7 @@ mod bad_unit;
 mod call;
 mod call_log;
 mod cpu_unit;
+mod laws;
 mod log_unit;
 pub mod table;
 mod unit;
@@ -17,9 +18,10 @@ mod word;
 pub use bad_unit::BadUnit;
 pub use call::{Answer, Call};
 pub use cpu_unit::CpuUnit;
+pub use laws::{right_answers_keep_the_step_law, words_split_in_one_way};
 pub use log_unit::LogUnit;
 pub use unit::Unit;
-pub use word::Word;
+pub use word::{Word, remainder};
 
 #[cfg(test)]
 mod tests;

@@ -1,7 +1,7 @@
 //! A unit that tells its log.
 
-ghost use Rattle.std.specs.Prelude.{◌≡◌, ◌<◌, ◌≤◌, ◌↔◌, ◌∷◌, [], Some, IfOk, IsNone, length, slice_get};
-ghost use Rattle.vcp_base.specs.Code.{A as code_constant};
+ghost use Rattle.std.specs.Prelude.{◌≡◌, ◌≤◌, ◌↔◌, ◌∷◌, [], Some, IfOk, IsNone, length, slice_get};
+ghost use Rattle.coded_unit.specs.Asked.{Asked};
 ghost use Rattle.coded_unit.specs.Right.{Right};
 ghost use Rattle.coded_unit.specs.Log.{GrowsBy, Counts, nothing_kept, told, after_call};
 
@@ -61,8 +61,7 @@ impl Unit for LogUnit {
     ghost wrong = { λ _. 0 };
 
     fn perform(&mut self, call: &Call) -> Answer
-        requires corr { call.now.corr < code_constant }
-        requires stamp { call.now.stamp ≤ 1000000000 }
+        requires { Asked call.now }
         ensures log { GrowsBy (told self.old) (told self.new) ((call.now, result) ∷ []) }
         ensures wrong { Counts result (Right call.now) 0 0 }
         ensures right { result ≡ Right call.now }

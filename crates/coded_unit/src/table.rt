@@ -1,8 +1,9 @@
 //! The right answer to a call.
 
-ghost use Rattle.std.specs.Prelude.{◌≡◌, ◌<◌, ◌≤◌, ◌^◌, ℤ, pos, negsuc, ◌*ℤ◌, ◌+ℤ◌, ◌≤ℤ◌, true, false, IfOk};
+ghost use Rattle.std.specs.Prelude.{◌≡◌, ◌<◌, ◌^◌, ℤ, pos, negsuc, ◌*ℤ◌, ◌+ℤ◌, ◌≤ℤ◌, true, false, IfOk};
 ghost use Rattle.vcp_base.specs.Code.{A as code_constant};
 ghost use Rattle.vcp_base.specs.Kinds.{operand_type as operand_type_of, takes as takes_of, operands_fit as operands_fit_of, divides_by_zero as divides_by_zero_of, value as value_of, truth as truth_of, outcome as outcome_of};
+ghost use Rattle.coded_unit.specs.Asked.{Asked};
 ghost use Rattle.coded_unit.specs.Words.{Small};
 ghost use Rattle.coded_unit.specs.Right.{residue as residue_of, stamp_share as stamp_share_of, Right};
 ghost use Rattle.coded_unit.specs.Step.{StepLaw};
@@ -18,8 +19,7 @@ use vcp_base::{Kind, Residue, StopKind, Ty, fits, multiplier, operands};
 /// from the operands' residues, the correction and the stamp alone, never from the value: what is
 /// wrong with an operand's residue is carried on, times the operand's multiplier.
 pub fn answer(call: &Call) -> Answer
-    requires corr { call.now.corr < code_constant }
-    requires stamp { call.now.stamp ≤ 1000000000 }
+    requires { Asked call.now }
     ensures right { result ≡ Right call.now }
     ensures step { StepLaw call.now result }
 {

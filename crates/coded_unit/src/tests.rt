@@ -1,7 +1,7 @@
 //! Worked cycles, one answer of each kind, and the ends of words.
 
-ghost use Rattle.std.specs.Prelude.{◌≡◌, ◌+◌, ◌<◌, ◌≤◌};
-ghost use Rattle.vcp_base.specs.Code.{A as code_constant};
+ghost use Rattle.std.specs.Prelude.{◌≡◌, ◌<◌};
+ghost use Rattle.coded_unit.specs.Asked.{Asked};
 
 mod kinds;
 
@@ -99,8 +99,7 @@ fn units_do_a_worked_cycle(rt: HostRuntime) -> Result<(), Fail> {
 /// the signature 858993460, and 1288490188 + 858993460 - 1 is the constant of the code.
 fn counting(op: u32, cycle: u32, a: &Word, b: &Word) -> Call
     requires { cycle < 10 }
-    ensures corr { result.corr < code_constant }
-    ensures stamp { result.stamp ≡ cycle + 1 }
+    ensures { Asked result }
 {
     let (kind, corr) = match op {
         0 => (Kind::Load, 1288490188),
@@ -290,4 +289,10 @@ fn words_split_and_end(rt: HostRuntime) -> Result<(), Fail> {
         assert_eq!(rt; word.shift(change).get(), wanted);
     }
     Ok(())
+}
+
+#[test]
+fn laws_are_called() {
+    crate::words_split_in_one_way();
+    crate::right_answers_keep_the_step_law();
 }

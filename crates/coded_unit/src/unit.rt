@@ -1,7 +1,7 @@
 //! Units: what does the calls of a program, and tells what it did.
 
-ghost use Rattle.std.specs.Prelude.{◌<◌, ◌≤◌, ℕ, List, Option, ◌∷◌, []};
-ghost use Rattle.vcp_base.specs.Code.{A as code_constant};
+ghost use Rattle.std.specs.Prelude.{ℕ, List, Option, ◌∷◌, []};
+ghost use Rattle.coded_unit.specs.Asked.{Asked};
 ghost use Rattle.coded_unit.specs.Right.{Right};
 ghost use Rattle.coded_unit.specs.Log.{Entry, GrowsBy, Counts};
 
@@ -17,11 +17,11 @@ pub trait Unit {
     /// How many answers so far are not the right ones, up to 2^64 - 1.
     ghost wrong: { Self → ℕ };
 
-    /// Does one call, whose correction is below `A` and whose stamp is at most 1000000000. It is the
-    /// next entry of the log, where that is told. The answer may be wrong, and is then counted.
+    /// Does one call that may be asked: its correction is below `A`, and its stamp at most
+    /// 1,000,000,000. It is the next entry of the log, where that is told. The answer may be wrong, and
+    /// is then counted.
     fn perform(&mut self, call: &Call) -> Answer
-        requires corr { call.now.corr < code_constant }
-        requires stamp { call.now.stamp ≤ 1000000000 }
+        requires { Asked call.now }
         ensures log { GrowsBy (log self.old) (log self.new) ((call.now, result) ∷ []) }
         ensures wrong { Counts result (Right call.now) (wrong self.old) (wrong self.new) };
 }

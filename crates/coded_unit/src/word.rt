@@ -101,9 +101,10 @@ fn quotient(code: i128) -> i128
     }
 }
 
-/// The residue of an integer modulo `A`, by 64 bits where they are enough.
+/// The residue of an integer modulo `A`. It takes 64 bits where they are enough, which divide faster
+/// than 128.
 #[tactic(auto, unfolding(crate::specs::Words::modulo))]
-pub(crate) fn remainder(code: i128) -> Residue
+pub fn remainder(code: i128) -> Residue
     ensures value { result ≡ modulo code }
     ensures below { result < code_constant }
 {

@@ -1,11 +1,12 @@
 -- Making: the corrections of a graph, one operation after another.
 use Rattle.std.proofs.Common.{◌≡◌, ◌∙◌, ℕ, zero, suc, ◌+◌, ◌<◌, ◌++◌, ◌∷◌, [], All, List, length, drop, slice_get, get_or, Some, arith, add-one, drop-cons, append_assoc, length-append, sym, ap}
+use Rattle.std.specs.Prelude.{unsigned_abs}
 use Rattle.std.proofs.lemmas.Option.{get_or_from_slice_get, slice_get_within}
 use Rattle.std.proofs.lemmas.List.Elements.{All-append}
 use Rattle.vcp_base.specs.Code.{A}
 use Rattle.op_graph.specs.declared.op.Op.{Op}
 use Rattle.op_graph.specs.declared.op.Cell.{Cell}
-use Rattle.signature_table.specs.Signatures.{correction, corrections_from}
+use Rattle.signature_table.specs.Signatures.{correction, corrections_from, store_of}
 
 -- the corrections of the operations below k are made, and those of the others are to come
 pub record MadeUpTo (seed step : ℕ) (held : List Cell) (operations : List Op) (made : List ℕ) (k : ℕ) : Type 0 where
@@ -17,7 +18,7 @@ one_at : (n c i d : ℕ) → c < n → i < 1 → get_or (c ∷ []) i d < n
 one_at n c zero d lt below = lt
 one_at n c (suc i) d lt below = absurd (omega arith)
 
-pub one_more : (seed step : ℕ) (held : List Cell) (operations : List Op) (made : List ℕ) (k : ℕ) (op : Op) (c : ℕ) → MadeUpTo seed step held operations made k → slice_get operations k ≡ Some op → c ≡ correction seed step held k op → c < A → MadeUpTo seed step held operations (made ++ c ∷ []) (k + 1)
+pub one_more : (seed step : ℕ) (held : List Cell) (operations : List Op) (made : List ℕ) (k : ℕ) (op : Op) (c : ℕ) → MadeUpTo seed step held operations made k → slice_get operations k ≡ Some op → c ≡ correction seed step k op (store_of held (unsigned_abs op.imm)) → c < A → MadeUpTo seed step held operations (made ++ c ∷ []) (k + 1)
 one_more seed step held operations made k op c m there is below =
     let within : k < length operations = slice_get_within operations k op there in
     let here : get_or operations k op ≡ op = get_or_from_slice_get operations k op op there in

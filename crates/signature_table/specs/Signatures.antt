@@ -1,6 +1,7 @@
 -- Signatures: the numbers of which the residues of words are made.
 use Rattle.std.specs.Prelude.{◌≡◌, ℕ, ◌+◌, ◌*◌, ◌%◌, ◌^◌, ◌<◌, ◌≤◌, ℤ, pos, ◌-ℤ◌, ◌*ℤ◌, unsigned_abs, List, [], ◌∷◌, length, slice_get, Option, Some, None, All}
 use Rattle.vcp_base.specs.Code.{A}
+use Rattle.vcp_base.specs.Limits.{seeds, most_step, most_operations}
 use Rattle.vcp_base.specs.Kinds.{multiplier}
 use Rattle.vcp_base.specs.declared.kind.Kind.{Kind}
 use Rattle.vcp_base.specs.declared.kind.Kind.TheVariants as kind
@@ -9,9 +10,18 @@ use Rattle.op_graph.specs.declared.op.Op.{Op}
 use Rattle.op_graph.specs.declared.op.Cell.{Cell}
 use Rattle.op_graph.specs.Lists.{Lists, cells}
 
--- The signature of operation i, below 2 ^ 30. Distinct operations have distinct ones, since 5 * 214748365 = 2 ^ 30 + 1.
+-- how many signatures there are: they are the numbers below this one
+abbrev pub signatures : ℕ
+signatures = 2 ^ 30
+
+-- by how much signatures grow from one operation to the next
+abbrev pub growth : ℕ
+growth = 214748365
+
+-- The signature of operation i. Distinct operations have distinct ones, since 5 times the growth is one more than the
+-- number of signatures.
 unfoldable pub signature : ℕ → ℕ → ℕ
-signature seed i = (seed + 214748365 * i) % 2 ^ 30
+signature seed i = (seed + growth * i) % signatures
 
 -- the stamp of cycle n, counted from 0
 abbrev pub stamp : ℕ → ℕ → ℕ
@@ -25,34 +35,40 @@ stamp_before step n = step * n
 abbrev pub expected : ℕ → ℕ → ℕ → ℕ → ℕ
 expected seed step i n = signature seed i + stamp step n
 
--- what a LOAD reads: the word that its cell's STORE answered in the cycle before, whose stamp is less by the step
-abbrev pub stored_signature : ℕ → ℕ → Option Cell → ℤ
+-- what a LOAD reads: the word that its cell's STORE, this operation, answered in the cycle before, whose stamp is less by
+-- the step
+abbrev pub stored_signature : ℕ → ℕ → Option ℕ → ℤ
 stored_signature seed step None = pos 0
-stored_signature seed step (Some cell) = pos (signature seed cell.store) -ℤ pos step
+stored_signature seed step (Some store) = pos (signature seed store) -ℤ pos step
 
--- the signature of an operand of an operation of this kind and `imm` that reads operation n
-abbrev pub read_signature : ℕ → ℕ → List Cell → Kind → ℤ → ℕ → ℤ
-read_signature seed step held kind.Load imm n = stored_signature seed step (slice_get held (unsigned_abs imm))
-read_signature seed step held _ imm n = pos (signature seed n)
-
--- the signature of an operand of `op` that reads operation n
-abbrev pub operand_signature : ℕ → ℕ → List Cell → Op → ℕ → ℤ
-operand_signature seed step held op n = read_signature seed step held op.kind op.imm n
+-- the signature of an operand of an operation of this kind that reads operation n, or for a LOAD, of what it reads
+abbrev pub read_signature : ℕ → ℕ → Option ℕ → Kind → ℕ → ℤ
+read_signature seed step store kind.Load n = stored_signature seed step store
+read_signature seed step store _ n = pos (signature seed n)
 
 -- The correction of operation k takes the signatures of its operands out of the answer's residue and puts its own in.
--- An operand that isn't there has the multiplier 0.
-abbrev pub correction : ℕ → ℕ → List Cell → ℕ → Op → ℕ
-correction seed step held k op =
+-- An operand that isn't there has the multiplier 0. For a LOAD the STORE of its cell is given.
+abbrev pub correction : ℕ → ℕ → ℕ → Op → Option ℕ → ℕ
+correction seed step k op store =
     modulo
     (pos (signature seed k)
-    -ℤ multiplier op.kind 0 *ℤ operand_signature seed step held op op.a
-    -ℤ multiplier op.kind 1 *ℤ operand_signature seed step held op op.b
-    -ℤ multiplier op.kind 2 *ℤ operand_signature seed step held op op.c)
+    -ℤ multiplier op.kind 0 *ℤ read_signature seed step store op.kind op.a
+    -ℤ multiplier op.kind 1 *ℤ read_signature seed step store op.kind op.b
+    -ℤ multiplier op.kind 2 *ℤ read_signature seed step store op.kind op.c)
+
+-- the STORE of a cell that is there
+abbrev pub store_in : Option Cell → Option ℕ
+store_in None = None
+store_in (Some cell) = Some cell.store
+
+-- the STORE of cell i of these
+abbrev pub store_of : List Cell → ℕ → Option ℕ
+store_of held i = store_in (slice_get held i)
 
 -- the corrections of operations that are counted from k, where these are the cells
 abbrev pub corrections_from : ℕ → ℕ → List Cell → ℕ → List Op → List ℕ
 corrections_from seed step held k [] = []
-corrections_from seed step held k (op ∷ ops) = correction seed step held k op ∷ corrections_from seed step held (k + 1) ops
+corrections_from seed step held k (op ∷ ops) = correction seed step k op (store_of held (unsigned_abs op.imm)) ∷ corrections_from seed step held (k + 1) ops
 
 -- the corrections of a graph's operations
 abbrev pub corrections : ℕ → ℕ → Lists → List ℕ
@@ -64,12 +80,12 @@ pub record Numbers : Type 0 where
   pub step : ℕ
   pub corrections : List ℕ
 
--- a seed and a step in their ranges, at most 65,536 operations, and corrections that are residues
+-- a seed and a step in their ranges, no more operations than a graph may have, and corrections that are residues
 pub record IsTable (t : Numbers) : Type 0 where
-  pub seed : t.seed < 2 ^ 30
+  pub seed : t.seed < seeds
   pub step_from : 1 ≤ t.step
-  pub step_to : t.step ≤ 1000
-  pub few : length t.corrections ≤ 65536
+  pub step_to : t.step ≤ most_step
+  pub few : length t.corrections ≤ most_operations
   pub residues : All (λ c. c < A) t.corrections
 
 -- the table of a graph

@@ -4,12 +4,14 @@
 //! signature, and the cycle's stamp.
 #![tactic(auto)]
 
-mod signature;
+mod corrections;
+mod laws;
+mod signatures;
 mod table;
 
-pub use signature::{
-    constant_is_in_range, expected_residues_are_residues, signatures_are_distinct,
-};
+pub use corrections::correction;
+pub use laws::{constant_is_in_range, expected_residues_are_residues, signatures_are_distinct};
+pub use signatures::signature;
 pub use table::Table;
 
 #[cfg(test)]

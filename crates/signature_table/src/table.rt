@@ -1,11 +1,14 @@
 //! Tables of signatures.
 
-ghost use Rattle.std.specs.Prelude.{◌≡◌, ◌≤◌, ◌<◌, ◌^◌, Some, IfOk, length, slice_get};
+ghost use Rattle.std.specs.Prelude.{◌≡◌, ◌≤◌, ◌<◌, Some, IfOk, length, slice_get, unsigned_abs};
 ghost use Rattle.vcp_base.specs.Code.{A as code_constant};
-ghost use Rattle.signature_table.specs.Signatures.{signature as signature_of, expected as expected_of, table_of, IsTable};
+ghost use Rattle.vcp_base.specs.Limits.{seeds, most_step, most_cycles};
+ghost use Rattle.op_graph.specs.Lists.{cells};
+ghost use Rattle.signature_table.specs.Signatures.{signatures, signature as signature_of, expected as expected_of, store_of as store_of_cell, table_of, IsTable};
 
-use crate::signature::{correction, expected, signature};
-use op_graph::Graph;
+use crate::corrections::correction;
+use crate::signatures::{expected, signature};
+use op_graph::{Graph, Op};
 use std::alloc::Global;
 use std::marker::Model;
 use vcp_base::{Memory, Residue};
@@ -31,15 +34,17 @@ impl Model for Table {
 impl Table {
     /// The table of a graph. The seed is below 2^30 and the step 1 to 1000.
     pub fn new(alloc: Global, graph: &Graph, seed: u32, step: u16) -> Result<Table, Memory>
-        requires seed { seed < 2 ^ 30 }
+        requires seed { seed < seeds }
         requires step_from { 1 ≤ step }
-        requires step_to { step ≤ 1000 }
+        requires step_to { step ≤ most_step }
         ensures numbers { IfOk result (λ table. table ≡ table_of seed step graph.now) }
         ensures count { IfOk result (λ table. length table.corrections ≡ length graph.now.operations) }
     {
         let mut corrections = Vec::new(alloc);
         'operations: for k in 0..graph.len() {
-            corrections.push(correction(graph, seed, step, k, &graph.operation(k)))?;
+            let op = graph.operation(k);
+            let store = store_of(graph, &op);
+            corrections.push(correction(seed, step, k, &op, store))?;
         }
         Ok(Table {
             seed,
@@ -69,7 +74,7 @@ impl Table {
     pub fn signature(&self, i: u32) -> Residue
         requires { i < length self.now.corrections }
         ensures value { result ≡ signature_of self.now.seed i }
-        ensures below { result < 2 ^ 30 }
+        ensures below { result < signatures }
     {
         signature(self.seed, i)
     }
@@ -87,10 +92,22 @@ impl Table {
     /// cycle `n`, counted from 0 and below 1,000,000, where nothing is amiss.
     pub fn expected(&self, i: u32, n: u32) -> Residue
         requires operation { i < length self.now.corrections }
-        requires cycle { n < 1000000 }
+        requires cycle { n < most_cycles }
         ensures value { result ≡ expected_of self.now.seed self.now.step i n }
         ensures below { result < code_constant }
     {
         expected(self.seed, self.step, i, n)
     }
+}
+
+/// The number of the STORE of the cell that a LOAD reads, which its `imm` names; `None` where there is
+/// no such cell.
+fn store_of(graph: &Graph, op: &Op) -> Option<u32>
+    ensures { result ≡ store_of_cell (cells graph.now) (unsigned_abs op.now.imm) }
+{
+    let i = op.imm.unsigned_abs();
+    if i >= graph.cells() as u64 {
+        return None;
+    }
+    Some(graph.cell(i as u32).store)
 }

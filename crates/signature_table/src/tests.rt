@@ -2,7 +2,7 @@
 
 ghost use Rattle.std.specs.Prelude.{◌≡◌, length, IfOk};
 
-use crate::Table;
+use crate::{Table, correction, signature};
 use op_graph::{Build, Graph, GraphBuilder, Op};
 use std::alloc::Global;
 use std::test::Fail;
@@ -50,6 +50,7 @@ fn a_counter_has_its_numbers(rt: HostRuntime) -> Result<(), Fail> {
     let expected = [2, 214748367, 429496732, 644245097, 858993462];
     for i in 0..5u32 {
         assert_eq!(rt; table.signature(i), signatures[i as usize], "signature {i}");
+        assert_eq!(rt; signature(0, i), signatures[i as usize], "signature {i}");
         assert_eq!(rt;
             table.correction(i),
             corrections[i as usize],
@@ -58,6 +59,15 @@ fn a_counter_has_its_numbers(rt: HostRuntime) -> Result<(), Fail> {
         assert_eq!(rt; table.expected(i, 1), expected[i as usize], "expected {i}");
     }
     assert_eq!(rt; (table.seed(), table.step()), (0, 1));
+    // The LOAD reads what operation 4 stored; an ADD reads no STORE.
+    assert_eq!(rt;
+        correction(0, 1, 0, &on_dint(Kind::Load, 0, 0, 0), Some(4)),
+        corrections[0]
+    );
+    assert_eq!(rt;
+        correction(0, 1, 2, &on_dint(Kind::Add, 0, 1, 0), None),
+        corrections[2]
+    );
     Ok(())
 }
 

@@ -4,6 +4,7 @@
 
 ghost use Rattle.std.specs.Prelude.{◌≡◌, ◌<◌, ◌≤◌};
 ghost use Rattle.vcp_base.specs.Code.{A as code_constant};
+ghost use Rattle.vcp_base.specs.Limits.{most_stamp};
 
 use super::{word_answer, word_or_zero};
 use crate::table::answer;
@@ -43,7 +44,7 @@ struct Carried {
 /// first value as their number.
 fn answer_at(kind: Kind, types: Types, values: [i64; 3], carried: &Carried) -> Answer
     requires corr { carried.now.corr < code_constant }
-    requires stamp { carried.now.stamp ≤ 1000000000 }
+    requires stamp { carried.now.stamp ≤ most_stamp }
 {
     let [a, b, c] = values;
     answer(&Call {

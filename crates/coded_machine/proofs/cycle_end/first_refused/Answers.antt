@@ -3,14 +3,14 @@ use Rattle.op_graph.specs.Lists.{cells}
 use Rattle.coded_unit.specs.Words.{modulo}
 use Rattle.signature_table.specs.Signatures.{expected}
 use Rattle.coded_machine.specs.Calls.{word_at}
-use Rattle.coded_machine.proofs.Places.{output_is_there, length-corrections, refused_passed, refused_here}
+use Rattle.coded_machine.proofs.Places.{length-corrections, refused_passed, refused_here}
 use Rattle.coded_machine.proofs.cycle_end.first_refused.Goals as goal
 
 pub expected-expected-requires-clause-operation : goal.expected-expected-requires-clause-operation
 expected-expected-requires-clause-operation c =
     let g = c.args.graph.now in
     let t = c.args.table.now in
-    omega (arith, output_is_there g c.outputs.i c.output-outlet.result c.requires.graph c.output-outlet.ensures, ap length c.requires.table, length-corrections t.seed t.step (cells g) 0 g.operations)
+    omega (arith, (c.entries_keep_their_rules.ensures.output g c.outputs.i c.output-outlet.result c.requires.graph.part c.output-outlet.ensures).operation, ap length c.requires.table, length-corrections t.seed t.step (cells g) 0 g.operations)
 
 pub returns-then-found-expected : goal.returns-then-found-expected
 returns-then-found-expected c =

@@ -1,9 +1,25 @@
+use Rattle.coded_machine.proofs.FirstCells.{all_below, cells_at_first}
 use Rattle.coded_machine.proofs.HonestEnds.{stands_for}
-use Rattle.coded_machine.proofs.RunLaws.{all_below, cells_at_first}
+use Rattle.coded_machine.proofs.Promised.{Laws}
 use Rattle.coded_machine.proofs.laws.right_answers_stand_for_values.Goals as goal
 
-pub returns-clause-cycle : goal.returns-clause-cycle
-returns-clause-cycle c = λ s values answers graph table few hold right whole. stands_for s values answers (all_below s.table s.cycle table few) graph hold right whole
-
-pub returns-clause-cells_at_first : goal.returns-clause-cells_at_first
-returns-clause-cells_at_first c = λ g seed step graph. cells_at_first g seed step graph
+pub returns : goal.returns
+returns c =
+    let laws : Laws = record {
+      coded = record {
+        words = c.words_split_in_one_way.ensures;
+        steps = c.right_answers_keep_the_step_law.ensures.step;
+        residues = c.expected_residues_are_residues.ensures;
+      };
+      typed = c.operands_are_in_their_types.ensures;
+      entries = record {
+        outs = c.entries_keep_their_rules.ensures.output;
+        stores = c.entries_keep_their_rules.ensures.store;
+        cell = c.cells_have_two_parts.ensures.at;
+        linked = c.operands_are_there.ensures.linked;
+      };
+    } in
+    record {
+      cycle = λ s values answers graph table few hold right whole. stands_for laws s values answers (all_below laws s.table s.cycle table few) graph hold right whole;
+      cells_at_first = λ g seed step graph. cells_at_first laws g seed step graph;
+    }

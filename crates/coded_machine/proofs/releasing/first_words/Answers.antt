@@ -1,17 +1,17 @@
-use Rattle.std.proofs.Common.{sym, ap, ◌∙◌, ◌++◌, ◌∷◌, [], ◌+◌, arith, drop, map, length, append_assoc}
+use Rattle.std.proofs.Common.{sym, ap, ◌∙◌, ◌++◌, ◌∷◌, [], ◌+◌, arith, drop, map, length, length-append, append_assoc}
 use Rattle.coded_unit.specs.Words.{coded}
 use Rattle.op_graph.specs.declared.op.Cell.{Cell}
 use Rattle.op_graph.specs.Lists.{cells}
 use Rattle.signature_table.specs.Signatures.{signature}
-use Rattle.coded_machine.proofs.Places.{map_at, store_of, store_is_there, length-corrections}
+use Rattle.coded_machine.proofs.Places.{map_at, store_at, length-corrections}
 use Rattle.coded_machine.proofs.releasing.first_words.Goals as goal
 
 pub first_word-requires : goal.first_word-requires
 first_word-requires c =
     let g = c.args.graph.now in
     let t = c.args.table.now in
-    let there = store_of g.loads g.stores c.cells.i c.cell.result c.cell.ensures in
-    omega (arith, store_is_there g c.cells.i _ c.requires.graph there, ap length c.requires.table, length-corrections t.seed t.step (cells g) 0 g.operations)
+    let there = store_at g.loads g.stores c.cells.i c.cell.result c.cell.ensures in
+    omega (arith, (c.entries_keep_their_rules.ensures.store g c.cells.i _ c.requires.graph.part there).store, ap length c.requires.table, length-corrections t.seed t.step (cells g) 0 g.operations)
 
 pub cells-preserved : goal.cells-preserved
 cells-preserved c =
@@ -19,8 +19,11 @@ cells-preserved c =
     let i = c.cells.i in
     let word = λ (d : Cell). coded d.init (signature c.args.table.now.seed d.store) in
     let later = map word (drop (i + 1) (cells g)) in
-    c.cells.invariant
-    ∙ ap (λ r. c.cells.held.items ++ r) (map_at word (cells g) i c.cell.result c.cell.ensures)
-    ∙ ap (λ w. c.cells.held.items ++ w ∷ later) (sym c.first_word.ensures)
-    ∙ sym (append_assoc c.cells.held.items (c.first_word.result ∷ []) later)
-    ∙ ap (λ xs. xs ++ later) (sym c.in_ok-push.ensures.items)
+    record {
+      count = ap length c.in_ok-push.ensures.items ∙ simp length-append (omega (arith, c.cells.invariant.count));
+      words = c.cells.invariant.words
+          ∙ ap (λ r. c.cells.held.items ++ r) (map_at word (cells g) i c.cell.result c.cell.ensures)
+          ∙ ap (λ w. c.cells.held.items ++ w ∷ later) (sym c.first_word.ensures)
+          ∙ sym (append_assoc c.cells.held.items (c.first_word.result ∷ []) later)
+          ∙ ap (λ xs. xs ++ later) (sym c.in_ok-push.ensures.items);
+    }

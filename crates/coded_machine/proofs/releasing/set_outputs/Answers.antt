@@ -1,20 +1,17 @@
-use Rattle.std.proofs.Common.{sym, ap, subst, ◌∙◌, ◌++◌, ◌∷◌, ◌+◌, ◌<◌, ◌≤ℤ◌, negsuc, pos, arith, take, drop, map, length}
+use Rattle.std.proofs.Common.{sym, ap, subst, ◌∙◌, ◌++◌, ◌∷◌, ◌+◌, ◌<◌, arith, take, drop, map, length}
+use Rattle.std.specs.Prelude.{FitsSigned}
+use Rattle.std.specs.Int.{w64}
 use Rattle.std.proofs.Math.ListN.{length-set}
 use Rattle.coded_unit.specs.Words.{value_part}
 use Rattle.op_graph.specs.declared.op.Outlet.{Outlet}
 use Rattle.coded_machine.specs.Calls.{word_at}
-use Rattle.coded_machine.proofs.Places.{map_at, front_set, outside_none, fits_low, fits_high}
+use Rattle.coded_machine.proofs.Places.{map_at, front_set, outside_none, fits_64}
 use Rattle.coded_machine.proofs.releasing.set_outputs.Goals as goal
 
-pub set_output-requires-clause-low : goal.set_output-requires-clause-low
-set_output-requires-clause-low c =
+pub set_output-requires-clause-value : goal.set_output-requires-clause-value
+set_output-requires-clause-value c =
     let fit = outside_none c.args.answers.now c.args.graph.now.outputs c.outputs.i c.output-outlet.result c.output-outlet.ensures c.outputs.invariant.inside in
-    subst (λ w. negsuc 2147483647 ≤ℤ value_part w) (sym c.word_at.ensures) (fits_low _ _ fit.0)
-
-pub set_output-requires-clause-high : goal.set_output-requires-clause-high
-set_output-requires-clause-high c =
-    let fit = outside_none c.args.answers.now c.args.graph.now.outputs c.outputs.i c.output-outlet.result c.output-outlet.ensures c.outputs.invariant.inside in
-    subst (λ w. value_part w ≤ℤ pos 2147483647) (sym c.word_at.ensures) (fits_high _ _ fit.0)
+    subst (λ w. FitsSigned w64 (value_part w)) (sym c.word_at.ensures) (fits_64 _ _ fit.0)
 
 pub outputs-preserved : goal.outputs-preserved
 outputs-preserved c =

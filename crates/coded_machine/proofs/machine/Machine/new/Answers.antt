@@ -1,9 +1,7 @@
-use Rattle.std.proofs.Common.{subst, sym, ap, ◌∙◌, arith, length}
+use Rattle.std.proofs.Common.{subst, sym, arith}
 use Rattle.op_graph.specs.GraphRun.{initial}
 use Rattle.signature_table.specs.Signatures.{stamp_before}
 use Rattle.coded_machine.specs.Honest.{CellsHold}
-use Rattle.coded_machine.proofs.Places.{initial_length}
-use Rattle.coded_machine.proofs.RunLaws.{cells_at_first}
 use Rattle.coded_machine.proofs.machine.Machine.new.Goals as goal
 
 pub first_words-requires-clause-graph : goal.first_words-requires-clause-graph
@@ -15,7 +13,7 @@ invariant_of-result c = record {
   table = c.step-step.ensures.ranges;
   table_of = c.requires;
   room = omega (arith, c.len-operations.ensures.count, c.in_ok-with_capacity.ensures.capacity);
-  cells = ap length c.in_ok-held.ensures ∙ initial_length c.args.graph.now c.args.table.now.seed c.len-operations.ensures.rules;
+  cells = c.in_ok-held.ensures.count;
   few = rw c.in_ok-with_capacity.ensures.items (omega arith);
   progress = tt;
   cycles = omega arith;
@@ -26,4 +24,4 @@ pub returns-clause-cells : goal.returns-clause-cells
 returns-clause-cells c =
     let g = c.args.graph.now in
     let t = c.args.table.now in
-    subst (λ held. CellsHold g t.seed (stamp_before t.step 0) held (initial g)) (sym c.in_ok-held.ensures) (cells_at_first g t.seed t.step c.len-operations.ensures.rules)
+    subst (λ held. CellsHold g t.seed (stamp_before t.step 0) held (initial g)) (sym c.in_ok-held.ensures.words) (c.right_answers_stand_for_values.ensures.cells_at_first g t.seed t.step c.len-operations.ensures.rules)

@@ -1,0 +1,18 @@
+//! Laws of words and of right answers.
+
+ghost use Rattle.coded_unit.specs.declared.call.Call.{Call};
+ghost use Rattle.coded_unit.specs.Right.{Right};
+ghost use Rattle.coded_unit.specs.Step.{StepLaw, ExchangedLaw};
+ghost use Rattle.coded_unit.specs.WordLaws.{WordLaws};
+
+/// Integers split into a value part and a residue in one way. It does nothing: it states a law.
+pub fn words_split_in_one_way()
+    ensures { WordLaws }
+{}
+
+/// The right answer to every call keeps the step law, also where the kind that is carried out is not
+/// the one for which the correction was made. It does nothing: it states a law.
+pub fn right_answers_keep_the_step_law()
+    ensures step { (call : Call) → StepLaw call (Right call) }
+    ensures exchanged { (call : Call) → ExchangedLaw call (Right call) }
+{}
