@@ -7,7 +7,7 @@ use Rattle.vcp_base.specs.Types.{fits}
 use Rattle.vcp_base.specs.declared.spot.Spot.{Spot}
 use Rattle.vcp_core.specs.declared.program.Term.{Term}
 use Rattle.vcp_core.specs.Answers.{Task, Answer, usage, lacks, gives, runs, answer_of, run_read, run_meant, end_status}
-use Rattle.vcp_core.specs.Calls.{at}
+use Rattle.vcp_base.specs.Values.{at}
 use Rattle.vcp_core.specs.Causes.{WasHonest, NothingFailed, MeantStatus, RunsAsMeant, Gave, GivesStatus, Causes}
 use Rattle.vcp_core.specs.Endings.{Ended, AnswerGiven, MemoryEnded, Ends, answers, files_failed, output_failed, errors_failed, line_failed, no_memory, memory_ended}
 use Rattle.vcp_core.specs.Meaning.{operand_value, combined, sum_from, source_run}

@@ -22,6 +22,7 @@ use Rattle.vcp_core.specs.GraphRun.{graph_run}
 use Rattle.vcp_core.specs.Operations.{operations}
 use Rattle.vcp_core.specs.Reach.{BeforeAndAfter, Untouched, RunsTask, Reaches, name_of, fault_line, fault_status}
 use Rattle.vcp_core.proofs.EndCauses.{end_causes}
+use Rattle.vcp_core.proofs.HonestRun.{Laws}
 use Rattle.vcp_core.proofs.HonestRuns.{honest_runs, honest_then, rest_follows}
 use Rattle.vcp_core.proofs.RunTurns.{appends_nothing}
 use Rattle.vcp_core.proofs.TaskKinds.{task_at_most}
@@ -55,32 +56,32 @@ status_is ops (end.Stopped k why) = refl
 status_is ops (end.Refused number found wanted) = refl
 
 -- with an honest unit the run that is read off the answers is the one that is meant
-run_honest : (task : Task) (s : BeforeAndAfter) (e : CycleEnd) (t : RunsTask task s (Ok e)) → s.wrong_new ≡ s.wrong_old → s.wrong_old < 2 ^ 64 - 1 → run_read task t.run.cycles ≡ run_meant task
-run_honest task s e t same small =
+run_honest : Laws → (task : Task) (s : BeforeAndAfter) (e : CycleEnd) (t : RunsTask task s (Ok e)) → s.wrong_new ≡ s.wrong_old → s.wrong_old < 2 ^ 64 - 1 → run_read task t.run.cycles ≡ run_meant task
+run_honest laws task s e t same small =
     let run = t.run in
     rw t.task_is
-    (honest_runs default_seed default_step (operations t.terms) t.rows run.cycles s.log_old s.log_new s.wrong_old s.wrong_new (all_below default_seed default_step (lit≤ tt)) (operations_linked t.terms) t.few run.carries run.finished same small
+    (honest_runs laws default_seed default_step (operations t.terms) t.rows run.cycles s.log_old s.log_new s.wrong_old s.wrong_new (all_below default_seed default_step (lit≤ tt)) (operations_linked t.terms) t.few run.carries run.finished same small
     ∙ run_means t.terms t.rows t.terms_fit t.rows_fit)
 
 -- with an honest unit a part of what is meant was printed
-part_meant : (task : Task) (s : BeforeAndAfter) (why : Failed) (t : RunsTask task s (Err why)) → s.wrong_new ≡ s.wrong_old → s.wrong_old < 2 ^ 64 - 1 → AppendsPart s.out_old s.out_new (answer_of task (run_meant task)).out
-part_meant task s why t same small =
+part_meant : Laws → (task : Task) (s : BeforeAndAfter) (why : Failed) (t : RunsTask task s (Err why)) → s.wrong_new ≡ s.wrong_old → s.wrong_old < 2 ^ 64 - 1 → AppendsPart s.out_old s.out_new (answer_of task (run_meant task)).out
+part_meant laws task s why t same small =
     let run = t.run in
     let ops = operations t.terms in
-    let whole = honest_then default_seed default_step ops 0 t.rows run.cycles (all_below default_seed default_step (lit≤ tt)) (operations_linked t.terms) (omega (arith, t.few)) run.begun (run.carries.honest same small)
+    let whole = honest_then laws default_seed default_step ops 0 t.rows run.cycles (all_below default_seed default_step (lit≤ tt)) (operations_linked t.terms) (omega (arith, t.few)) run.begun (run.carries.honest same small)
     ∙ run_means t.terms t.rows t.terms_fit t.rows_fit in
     rw (t.task_is, sym whole) (run.part (graph_run ops (drop (length run.cycles) t.rows)) (rest_follows ops t.rows run.cycles))
 
 -- the cycles were run to the end
-pub ends_well : (task : Task) (words : List (List ℕ)) (s : BeforeAndAfter) (e : CycleEnd) (err : Option (List ℕ)) (f b n : ℕ) → RunsTask task s (Ok e) → Appends err err [] → Ends task words (ended_of s err err f f b n (cycle_status e))
-ends_well task words s e err f b n t nothing = answers (record {
+pub ends_well : Laws → (task : Task) (words : List (List ℕ)) (s : BeforeAndAfter) (e : CycleEnd) (err : Option (List ℕ)) (f b n : ℕ) → RunsTask task s (Ok e) → Appends err err [] → Ends task words (ended_of s err err f f b n (cycle_status e))
+ends_well laws task words s e err f b n t nothing = answers (record {
   cycles = t.run.cycles;
   all = rw t.task_is t.run.finished;
   log = rw t.task_is t.run.carries.told;
   out = rw t.task_is t.run.wrote.whole;
   err = rw t.task_is nothing;
   status = rw t.task_is (status_is (operations t.terms) e ∙ ap end_status t.run.ended);
-  honest = run_honest task s e t;
+  honest = run_honest laws task s e t;
 })
 
 -- a task that comes to no run: its line was printed
@@ -101,23 +102,23 @@ file_word words source rows word.Source form p q = inl p
 file_word words source rows word.Rows form p q = inr (rw form refl, q)
 
 -- the line of the fault was printed
-ends_told : (task : Task) (words : List (List ℕ)) (source rows : List ℕ) (s : BeforeAndAfter) (ft : Fault) (err_old err_new : Option (List ℕ)) (f g b n : ℕ) → is_run words ≡ true → source ≡ first_name words → rows ≡ second_name words →
+ends_told : Laws → (task : Task) (words : List (List ℕ)) (source rows : List ℕ) (s : BeforeAndAfter) (ft : Fault) (err_old err_new : Option (List ℕ)) (f g b n : ℕ) → is_run words ≡ true → source ≡ first_name words → rows ≡ second_name words →
     Reaches task source rows s b n (Err ft) → (ft ≡ fault.Write → Rose s.out_faults_old s.out_faults_new) → Appends err_old err_new (fault_line source rows ft) →
     Ends task words (ended_of s err_old err_new f g b n (fault_status ft))
-ends_told task words source rows s (fault.Read v) err_old err_new f g b n form p q (u, inl is) rose w =
+ends_told laws task words source rows s (fault.Read v) err_old err_new f g b n form p q (u, inl is) rose w =
     rw is (refused (lacks (name_of source rows v)) words (read_fault_text (name_of source rows v)) 5 s err_old err_new f g b n u refl refl refl refl w)
-ends_told task words source rows s (fault.Read v) err_old err_new f g b n form p q (u, inr broke) rose w =
+ends_told laws task words source rows s (fault.Read v) err_old err_new f g b n form p q (u, inr broke) rose w =
     files_failed (record { status = refl; rose = broke; name = name_of source rows v; name_is = file_word words source rows v form p q; log = u.log; out = u.out; err = w })
-ends_told task words source rows s (fault.TooLong v) err_old err_new f g b n form p q (u, is) rose w =
+ends_told laws task words source rows s (fault.TooLong v) err_old err_new f g b n form p q (u, is) rose w =
     rw is (refused (refuses (bytes_text (name_of source rows v))) words (bytes_text (name_of source rows v)) 1 s err_old err_new f g b n u refl refl refl refl w)
-ends_told task words source rows s (fault.Unbuilt v) err_old err_new f g b n form p q (u, is) rose w =
+ends_told laws task words source rows s (fault.Unbuilt v) err_old err_new f g b n form p q (u, is) rose w =
     rw is (refused (refuses (unbuilt_text (name_of source rows v))) words (unbuilt_text (name_of source rows v)) 1 s err_old err_new f g b n u refl refl refl refl w)
-ends_told task words source rows s (fault.Refused why spot) err_old err_new f g b n form p q reach rose w = absurd reach
-ends_told task words source rows s fault.TooLarge err_old err_new f g b n form p q reach rose w = absurd reach
-ends_told task words source rows s (fault.Row why) err_old err_new f g b n form p q reach rose w = absurd reach
-ends_told task words source rows s fault.Write err_old err_new f g b n form p q (why, t) rose w =
-    output_failed (record { status = refl; rose = rose refl; cycles = t.run.cycles; some = rw t.task_is t.run.begun; log = rw t.task_is t.run.carries.told; out = rw t.task_is t.run.part; honest = part_meant task s why t; earlier = rw t.task_is t.run.earlier; err = inl w })
-ends_told task words source rows s fault.Memory err_old err_new f g b n form p q u rose w = no_memory (record { status = refl; log = u.log; out = u.out; err = w })
+ends_told laws task words source rows s (fault.Refused why spot) err_old err_new f g b n form p q reach rose w = absurd reach
+ends_told laws task words source rows s fault.TooLarge err_old err_new f g b n form p q reach rose w = absurd reach
+ends_told laws task words source rows s (fault.Row why) err_old err_new f g b n form p q reach rose w = absurd reach
+ends_told laws task words source rows s fault.Write err_old err_new f g b n form p q (why, t) rose w =
+    output_failed (record { status = refl; rose = rose refl; cycles = t.run.cycles; some = rw t.task_is t.run.begun; log = rw t.task_is t.run.carries.told; out = rw t.task_is t.run.part; honest = part_meant laws task s why t; earlier = rw t.task_is t.run.earlier; err = inl w })
+ends_told laws task words source rows s fault.Memory err_old err_new f g b n form p q u rose w = no_memory (record { status = refl; log = u.log; out = u.out; err = w })
 
 -- the line of a task that comes to no run could not be printed
 pub lost : (task : Task) (words : List (List ℕ)) (text : List ℕ) (code : ℕ) (s : BeforeAndAfter) (err_old err_new : Option (List ℕ)) (f g b n : ℕ) → Untouched s →
@@ -126,23 +127,23 @@ lost task words text code s err_old err_new f g b n u is part rose =
     errors_failed (record { status = refl; rose = rose; log = u.log; out = rw is u.out; err = rw is part })
 
 -- the line of the fault could not be printed
-ends_untold : (task : Task) (words : List (List ℕ)) (source rows : List ℕ) (s : BeforeAndAfter) (ft : Fault) (err_old err_new : Option (List ℕ)) (f g b n : ℕ) → is_run words ≡ true → source ≡ first_name words → rows ≡ second_name words →
+ends_untold : Laws → (task : Task) (words : List (List ℕ)) (source rows : List ℕ) (s : BeforeAndAfter) (ft : Fault) (err_old err_new : Option (List ℕ)) (f g b n : ℕ) → is_run words ≡ true → source ≡ first_name words → rows ≡ second_name words →
     Reaches task source rows s b n (Err ft) → (ft ≡ fault.Write → Rose s.out_faults_old s.out_faults_new) → AppendsPart err_old err_new (fault_line source rows ft) → Rose f g →
     Ends task words (ended_of s err_old err_new f g b n 6)
-ends_untold task words source rows s (fault.Read v) err_old err_new f g b n form p q (u, inl is) wrote part rose =
+ends_untold laws task words source rows s (fault.Read v) err_old err_new f g b n form p q (u, inl is) wrote part rose =
     rw is (lost (lacks (name_of source rows v)) words (read_fault_text (name_of source rows v)) 5 s err_old err_new f g b n u refl part rose)
-ends_untold task words source rows s (fault.Read v) err_old err_new f g b n form p q (u, inr broke) wrote part rose =
+ends_untold laws task words source rows s (fault.Read v) err_old err_new f g b n form p q (u, inr broke) wrote part rose =
     line_failed (record { status = refl; rose = rose; line = read_fault_text (name_of source rows v); line_is = inl (broke, (name_of source rows v, file_word words source rows v form p q, refl)); log = u.log; out = u.out; err = part })
-ends_untold task words source rows s (fault.TooLong v) err_old err_new f g b n form p q (u, is) wrote part rose =
+ends_untold laws task words source rows s (fault.TooLong v) err_old err_new f g b n form p q (u, is) wrote part rose =
     rw is (lost (refuses (bytes_text (name_of source rows v))) words (bytes_text (name_of source rows v)) 1 s err_old err_new f g b n u refl part rose)
-ends_untold task words source rows s (fault.Unbuilt v) err_old err_new f g b n form p q (u, is) wrote part rose =
+ends_untold laws task words source rows s (fault.Unbuilt v) err_old err_new f g b n form p q (u, is) wrote part rose =
     rw is (lost (refuses (unbuilt_text (name_of source rows v))) words (unbuilt_text (name_of source rows v)) 1 s err_old err_new f g b n u refl part rose)
-ends_untold task words source rows s (fault.Refused why spot) err_old err_new f g b n form p q reach wrote part rose = absurd reach
-ends_untold task words source rows s fault.TooLarge err_old err_new f g b n form p q reach wrote part rose = absurd reach
-ends_untold task words source rows s (fault.Row why) err_old err_new f g b n form p q reach wrote part rose = absurd reach
-ends_untold task words source rows s fault.Write err_old err_new f g b n form p q (why, t) wrote part rose =
-    output_failed (record { status = refl; rose = wrote refl; cycles = t.run.cycles; some = rw t.task_is t.run.begun; log = rw t.task_is t.run.carries.told; out = rw t.task_is t.run.part; honest = part_meant task s why t; earlier = rw t.task_is t.run.earlier; err = inr (rose, part) })
-ends_untold task words source rows s fault.Memory err_old err_new f g b n form p q u wrote part rose =
+ends_untold laws task words source rows s (fault.Refused why spot) err_old err_new f g b n form p q reach wrote part rose = absurd reach
+ends_untold laws task words source rows s fault.TooLarge err_old err_new f g b n form p q reach wrote part rose = absurd reach
+ends_untold laws task words source rows s (fault.Row why) err_old err_new f g b n form p q reach wrote part rose = absurd reach
+ends_untold laws task words source rows s fault.Write err_old err_new f g b n form p q (why, t) wrote part rose =
+    output_failed (record { status = refl; rose = wrote refl; cycles = t.run.cycles; some = rw t.task_is t.run.begun; log = rw t.task_is t.run.carries.told; out = rw t.task_is t.run.part; honest = part_meant laws task s why t; earlier = rw t.task_is t.run.earlier; err = inr (rose, part) })
+ends_untold laws task words source rows s fault.Memory err_old err_new f g b n form p q u wrote part rose =
     line_failed (record { status = refl; rose = rose; line = memory_text; line_is = inr refl; log = u.log; out = u.out; err = part })
 
 -- the task of the words `run P ROWS`
@@ -177,21 +178,21 @@ usage_lost words held s err_old err_new f g b n form u part rose =
     as_ended words held _ usage (usage_task words held form) (lost usage words usage_text 4 s err_old err_new f g b n u refl part rose)
 
 -- the command came to the end of its cycles
-pub command_ends : (words : List (List ℕ)) (source rows : List ℕ) (held : Held) (s : BeforeAndAfter) (e : CycleEnd) (err : Option (List ℕ)) (f b n : ℕ) → is_run words ≡ true → source ≡ first_name words → rows ≡ second_name words →
+pub command_ends : Laws → (words : List (List ℕ)) (source rows : List ℕ) (held : Held) (s : BeforeAndAfter) (e : CycleEnd) (err : Option (List ℕ)) (f b n : ℕ) → is_run words ≡ true → source ≡ first_name words → rows ≡ second_name words →
     Reaches (run_task source rows held) source rows s b n (Ok e) → Answered words held (ended_of s err err f f b n (cycle_status e))
-command_ends words source rows held s e err f b n form p q reach =
-    as_ended words held _ (run_task source rows held) (task_is words source rows held form p q) (ends_well (run_task source rows held) words s e err f b n reach (appends_nothing err))
+command_ends laws words source rows held s e err f b n form p q reach =
+    as_ended words held _ (run_task source rows held) (task_is words source rows held form p q) (ends_well laws (run_task source rows held) words s e err f b n reach (appends_nothing err))
 
 -- the command ended by a fault, whose line was printed
-pub command_told : (words : List (List ℕ)) (source rows : List ℕ) (held : Held) (s : BeforeAndAfter) (ft : Fault) (err_old err_new : Option (List ℕ)) (f g b n : ℕ) → is_run words ≡ true → source ≡ first_name words → rows ≡ second_name words →
+pub command_told : Laws → (words : List (List ℕ)) (source rows : List ℕ) (held : Held) (s : BeforeAndAfter) (ft : Fault) (err_old err_new : Option (List ℕ)) (f g b n : ℕ) → is_run words ≡ true → source ≡ first_name words → rows ≡ second_name words →
     Reaches (run_task source rows held) source rows s b n (Err ft) → (ft ≡ fault.Write → Rose s.out_faults_old s.out_faults_new) → Appends err_old err_new (fault_line source rows ft) →
     Answered words held (ended_of s err_old err_new f g b n (fault_status ft))
-command_told words source rows held s ft err_old err_new f g b n form p q reach rose w =
-    as_ended words held _ (run_task source rows held) (task_is words source rows held form p q) (ends_told (run_task source rows held) words source rows s ft err_old err_new f g b n form p q reach rose w)
+command_told laws words source rows held s ft err_old err_new f g b n form p q reach rose w =
+    as_ended words held _ (run_task source rows held) (task_is words source rows held form p q) (ends_told laws (run_task source rows held) words source rows s ft err_old err_new f g b n form p q reach rose w)
 
 -- the command ended by a fault, whose line could not be printed
-pub command_untold : (words : List (List ℕ)) (source rows : List ℕ) (held : Held) (s : BeforeAndAfter) (ft : Fault) (err_old err_new : Option (List ℕ)) (f g b n : ℕ) → is_run words ≡ true → source ≡ first_name words → rows ≡ second_name words →
+pub command_untold : Laws → (words : List (List ℕ)) (source rows : List ℕ) (held : Held) (s : BeforeAndAfter) (ft : Fault) (err_old err_new : Option (List ℕ)) (f g b n : ℕ) → is_run words ≡ true → source ≡ first_name words → rows ≡ second_name words →
     Reaches (run_task source rows held) source rows s b n (Err ft) → (ft ≡ fault.Write → Rose s.out_faults_old s.out_faults_new) → AppendsPart err_old err_new (fault_line source rows ft) → Rose f g →
     Answered words held (ended_of s err_old err_new f g b n 6)
-command_untold words source rows held s ft err_old err_new f g b n form p q reach wrote part rose =
-    as_ended words held _ (run_task source rows held) (task_is words source rows held form p q) (ends_untold (run_task source rows held) words source rows s ft err_old err_new f g b n form p q reach wrote part rose)
+command_untold laws words source rows held s ft err_old err_new f g b n form p q reach wrote part rose =
+    as_ended words held _ (run_task source rows held) (task_is words source rows held form p q) (ends_untold laws (run_task source rows held) words source rows s ft err_old err_new f g b n form p q reach wrote part rose)

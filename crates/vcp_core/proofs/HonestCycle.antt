@@ -8,7 +8,7 @@ use Rattle.vcp_base.specs.Code.{A}
 use Rattle.vcp_base.specs.Types.{fits}
 use Rattle.vcp_base.specs.Kinds.{Outcome, outcome, value}
 use Rattle.coded_unit.specs.declared.call.Answer.{Answer}
-use Rattle.coded_unit.proofs.Modular.{modulo_coded, value_part_coded}
+use Rattle.coded_unit.specs.WordLaws.{WordLaws}
 use Rattle.vcp_core.specs.declared.operation.Op.{Op}
 use Rattle.vcp_core.specs.declared.cycle_end.CycleEnd.{CycleEnd}
 use Rattle.vcp_core.specs.declared.cycle_end.CycleEnd.TheVariants as end
@@ -45,46 +45,46 @@ cond_same : {T : Type 0} (b : Bool) (x : T) → cond b x x ≡ x
 cond_same true x = refl
 cond_same false x = refl
 
-outside_step : (seed step n k : ℕ) (op : Op) (ops : List Op) (o : Outcome) (rest : List Outcome) → expected seed step k n < A → ((v : ℤ) → o ≡ Ok v → fits op.ty v ≡ true) →
+outside_step : WordLaws → (seed step n k : ℕ) (op : Op) (ops : List Op) (o : Outcome) (rest : List Outcome) → expected seed step k n < A → ((v : ℤ) → o ≡ Ok v → fits op.ty v ≡ true) →
     (stop_among (suc k) rest ≡ None → first_outside (suc k) ops (answers_of seed step n (suc k) rest) ≡ None) →
     stop_among k (o ∷ cond (goes_on o) rest []) ≡ None →
     first_outside k (op ∷ ops) (answers_of seed step n k (o ∷ cond (goes_on o) rest [])) ≡ None
-outside_step seed step n k op ops (Err why) rest below fit later e = cc
-outside_step seed step n k op ops (Ok v) rest below fit later e =
-    rw (value_part_coded v (expected seed step k n) below, fit v refl) (cond_same (is_out op.kind) _ ∙ later e)
+outside_step w seed step n k op ops (Err why) rest below fit later e = cc
+outside_step w seed step n k op ops (Ok v) rest below fit later e =
+    rw (w.value v (expected seed step k n) below, fit v refl) (cond_same (is_out op.kind) _ ∙ later e)
 
-outside_none : (seed step n k : ℕ) (row values : List ℤ) (ops : List Op) → ((j : ℕ) → expected seed step j n < A) →
+outside_none : WordLaws → (seed step n k : ℕ) (row values : List ℤ) (ops : List Op) → ((j : ℕ) → expected seed step j n < A) →
     stop_among k (outcomes_from row values ops) ≡ None → first_outside k ops (answers_of seed step n k (outcomes_from row values ops)) ≡ None
-outside_none seed step n k row values [] below e = refl
-outside_none seed step n k row values (op ∷ ops) below e =
-    outside_step seed step n k op ops (outcome_at row op values) _ (below k) (λ v h. gives_fitting op.kind op.from op.ty _ _ _ _ v h) (outside_none seed step n (suc k) row _ ops below) e
+outside_none w seed step n k row values [] below e = refl
+outside_none w seed step n k row values (op ∷ ops) below e =
+    outside_step w seed step n k op ops (outcome_at row op values) _ (below k) (λ v h. gives_fitting op.kind op.from op.ty _ _ _ _ v h) (outside_none w seed step n (suc k) row _ ops below) e
 
-refused_step : (seed step n number k : ℕ) (op : Op) (ops : List Op) (o : Outcome) (rest : List Outcome) → expected seed step k n < A →
+refused_step : WordLaws → (seed step n number k : ℕ) (op : Op) (ops : List Op) (o : Outcome) (rest : List Outcome) → expected seed step k n < A →
     ((m : ℕ) → stop_among (suc k) rest ≡ None → first_refused seed step n m (suc k) ops (answers_of seed step n (suc k) rest) ≡ None) →
     stop_among k (o ∷ cond (goes_on o) rest []) ≡ None →
     first_refused seed step n number k (op ∷ ops) (answers_of seed step n k (o ∷ cond (goes_on o) rest [])) ≡ None
-refused_step seed step n number k op ops (Err why) rest below later e = cc
-refused_step seed step n number k op ops (Ok v) rest below later e =
-    rw (modulo_coded v (expected seed step k n) below, eq-eqb (expected seed step k n) (expected seed step k n) refl) (rw (later (suc number) e, later number e) (cond_same (is_out op.kind) None))
+refused_step w seed step n number k op ops (Err why) rest below later e = cc
+refused_step w seed step n number k op ops (Ok v) rest below later e =
+    rw (w.residue v (expected seed step k n) below, eq-eqb (expected seed step k n) (expected seed step k n) refl) (rw (later (suc number) e, later number e) (cond_same (is_out op.kind) None))
 
-refused_none : (seed step n number k : ℕ) (row values : List ℤ) (ops : List Op) → ((j : ℕ) → expected seed step j n < A) →
+refused_none : WordLaws → (seed step n number k : ℕ) (row values : List ℤ) (ops : List Op) → ((j : ℕ) → expected seed step j n < A) →
     stop_among k (outcomes_from row values ops) ≡ None → first_refused seed step n number k ops (answers_of seed step n k (outcomes_from row values ops)) ≡ None
-refused_none seed step n number k row values [] below e = refl
-refused_none seed step n number k row values (op ∷ ops) below e =
-    refused_step seed step n number k op ops (outcome_at row op values) _ (below k) (λ m. refused_none seed step n m (suc k) row _ ops below) e
+refused_none w seed step n number k row values [] below e = refl
+refused_none w seed step n number k row values (op ∷ ops) below e =
+    refused_step w seed step n number k op ops (outcome_at row op values) _ (below k) (λ m. refused_none w seed step n m (suc k) row _ ops below) e
 
-outputs_step : (seed step n k : ℕ) (op : Op) (ops : List Op) (o : Outcome) (rest : List Outcome) → expected seed step k n < A →
+outputs_step : WordLaws → (seed step n k : ℕ) (op : Op) (ops : List Op) (o : Outcome) (rest : List Outcome) → expected seed step k n < A →
     (stop_among (suc k) rest ≡ None → outputs ops (answers_of seed step n (suc k) rest) ≡ values_out ops rest) →
     stop_among k (o ∷ cond (goes_on o) rest []) ≡ None →
     outputs (op ∷ ops) (answers_of seed step n k (o ∷ cond (goes_on o) rest [])) ≡ values_out (op ∷ ops) (o ∷ cond (goes_on o) rest [])
-outputs_step seed step n k op ops (Err why) rest below later e = cc
-outputs_step seed step n k op ops (Ok v) rest below later e = rw (value_part_coded v (expected seed step k n) below, later e) refl
+outputs_step w seed step n k op ops (Err why) rest below later e = cc
+outputs_step w seed step n k op ops (Ok v) rest below later e = rw (w.value v (expected seed step k n) below, later e) refl
 
-outputs_same : (seed step n k : ℕ) (row values : List ℤ) (ops : List Op) → ((j : ℕ) → expected seed step j n < A) →
+outputs_same : WordLaws → (seed step n k : ℕ) (row values : List ℤ) (ops : List Op) → ((j : ℕ) → expected seed step j n < A) →
     stop_among k (outcomes_from row values ops) ≡ None → outputs ops (answers_of seed step n k (outcomes_from row values ops)) ≡ values_out ops (outcomes_from row values ops)
-outputs_same seed step n k row values [] below e = refl
-outputs_same seed step n k row values (op ∷ ops) below e =
-    outputs_step seed step n k op ops (outcome_at row op values) _ (below k) (outputs_same seed step n (suc k) row _ ops below) e
+outputs_same w seed step n k row values [] below e = refl
+outputs_same w seed step n k row values (op ∷ ops) below e =
+    outputs_step w seed step n k op ops (outcome_at row op values) _ (below k) (outputs_same w seed step n (suc k) row _ ops below) e
 
 cycle_case : (ops : List Op) (s : Option (ℕ × StopKind)) (a b c : Option CycleEnd) (given wanted : List ℤ) →
     a ≡ end_at s → (s ≡ None → b ≡ None) → (s ≡ None → c ≡ None) → (s ≡ None → given ≡ wanted) →
@@ -94,9 +94,9 @@ cycle_case ops None a b c given wanted ea eb ec ev = rw (ea, eb refl, ec refl, e
 cycle_case ops (Some (k, why)) a b c given wanted ea eb ec ev = rw ea refl
 
 -- the answers that stand for the outcomes of a cycle end it as the outcomes do
-pub honest_cycle : (seed step n : ℕ) (row : List ℤ) (ops : List Op) (answers : List Answer) → ((j : ℕ) → expected seed step j n < A) →
+pub honest_cycle : WordLaws → (seed step n : ℕ) (row : List ℤ) (ops : List Op) (answers : List Answer) → ((j : ℕ) → expected seed step j n < A) →
     answers ≡ answers_of seed step n 0 (outcomes_from row [] ops) → cycle_of seed step n ops answers ≡ cycle_on ops row
-honest_cycle seed step n row ops answers below is =
+honest_cycle w seed step n row ops answers below is =
     ap (cycle_of seed step n ops) is
     ∙ cycle_case ops (stop_among 0 (outcomes_from row [] ops)) _ _ _ _ _
-    (stop_same seed step n 0 (outcomes_from row [] ops)) (outside_none seed step n 0 row [] ops below) (refused_none seed step n 0 0 row [] ops below) (outputs_same seed step n 0 row [] ops below)
+    (stop_same seed step n 0 (outcomes_from row [] ops)) (outside_none w seed step n 0 row [] ops below) (refused_none w seed step n 0 0 row [] ops below) (outputs_same w seed step n 0 row [] ops below)

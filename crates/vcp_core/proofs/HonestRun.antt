@@ -11,14 +11,20 @@ use Rattle.coded_unit.specs.declared.call.Answer.{Answer}
 use Rattle.coded_unit.specs.declared.call.Answer.TheVariants as answer
 use Rattle.coded_unit.specs.Words.{modulo, coded}
 use Rattle.coded_unit.specs.Right.{Right, answer_of}
-use Rattle.coded_unit.specs.Step.{Carries}
-use Rattle.coded_unit.proofs.Modular.{modulo_zero, coded_zero, modulo_small}
-use Rattle.coded_unit.proofs.Steps.{right_steps}
+use Rattle.coded_unit.specs.declared.call.Call.{Call}
+use Rattle.coded_unit.specs.Step.{Carries, StepLaw}
+use Rattle.coded_unit.specs.WordLaws.{WordLaws}
 use Rattle.vcp_core.specs.declared.operation.Op.{Op}
 use Rattle.vcp_core.specs.Signatures.{signature, stamp, expected}
-use Rattle.vcp_core.specs.Calls.{Setting, at, calls_from, CallsOf, call_of, Whole, AllRight, is_word, word_at, number}
+use Rattle.vcp_core.specs.Calls.{Setting, calls_from, CallsOf, call_of, Whole, AllRight, is_word, word_at, number}
+use Rattle.vcp_base.specs.Values.{at}
 use Rattle.vcp_core.specs.GraphRun.{outcome_at, goes_on, value_in, read, outcomes_from}
 use Rattle.vcp_core.specs.Honest.{answers_of, LinkedAt, Linked}
+
+-- the laws of words and of right answers
+pub record Laws : Type 0 where
+  pub words : WordLaws
+  pub step : (call : Call) → StepLaw call (Right call)
 
 -- an absent operand has the multiplier 0
 absent : (k : Kind) (j : ℕ) → nat_lt j (operands k) ≡ false → multiplier k j ≡ pos 0
@@ -30,15 +36,17 @@ any_signature true m e f h = refl
 any_signature false m e f h = ap (λ n. n *ℤ f) (h refl) ∙ zero-*ℤ f ∙ sym (ap (λ n. n *ℤ e) (h refl) ∙ zero-*ℤ e)
 
 -- the expected residue, as the residue of a sum
-expected_residue : (seed step k n : ℕ) → expected seed step k n < A → modulo (pos (signature seed k) +ℤ pos (stamp step n)) ≡ expected seed step k n
-expected_residue seed step k n h = ap modulo (omega (arith, ints)) ∙ modulo_small (expected seed step k n) h
+expected_residue : Laws → (seed step k n : ℕ) → expected seed step k n < A → modulo (pos (signature seed k) +ℤ pos (stamp step n)) ≡ expected seed step k n
+expected_residue laws seed step k n h = ap modulo (omega (arith, ints)) ∙ laws.words.small (expected seed step k n) h
 
 -- one operand, present or not
-operand_case : (present : Bool) (word v e : ℤ) (r stamp : ℕ) →
+operand_case : Laws → (present : Bool) (word v e : ℤ) (r stamp : ℕ) →
     (present ≡ true → word ≡ coded v r) → (present ≡ true → modulo (e +ℤ pos stamp) ≡ r) →
     cond present word (pos 0) ≡ coded (cond present v (pos 0)) (modulo (cond present e (neg_ℤ (pos stamp)) +ℤ pos stamp +ℤ pos 0))
-operand_case false word v e r stamp h k = let z : neg_ℤ (pos stamp) +ℤ pos stamp +ℤ pos 0 ≡ pos 0 = omega (arith, ints) in rw (z, modulo_zero) (sym coded_zero)
-operand_case true word v e r stamp h k =
+operand_case laws false word v e r stamp h k =
+    let z : neg_ℤ (pos stamp) +ℤ pos stamp +ℤ pos 0 ≡ pos 0 = omega (arith, ints) in
+    let none : modulo (pos 0) ≡ 0 = laws.words.small 0 (omega (arith, laws.words.below (pos 0))) in rw (z, none) (sym laws.words.zero)
+operand_case laws true word v e r stamp h k =
     let z : e +ℤ pos stamp +ℤ pos 0 ≡ e +ℤ pos stamp = omega (arith, ints) in rw (z, k refl) (h refl)
 
 -- the words of these values in cycle n, from operation k on
@@ -74,10 +82,10 @@ abbrev Below : ℕ → ℕ → ℕ → Type 0
 Below seed step n = (k : ℕ) → expected seed step k n < A
 
 -- the right answer to the call of operation k
-one_answer : (s : Setting) (values : List ℤ) (op : Op) (before : List Answer) (k : ℕ) → Below s.seed s.step s.cycle →
+one_answer : Laws → (s : Setting) (values : List ℤ) (op : Op) (before : List Answer) (k : ℕ) → Below s.seed s.step s.cycle →
     before ≡ words_of s.seed s.step s.cycle 0 values → length before ≡ k → length values ≡ k → LinkedAt k op →
     Right (call_of s op before) ≡ answer_of (outcome_at s.row op values) (expected s.seed s.step k s.cycle)
-one_answer s values op before k below words number_is count linked =
+one_answer laws s values op before k below words number_is count linked =
     let kind = op.kind in
     let t = stamp s.step s.cycle in
     let none = neg_ℤ (pos t) in
@@ -95,19 +103,19 @@ one_answer s values op before k below words number_is count linked =
     let w = read op values 1 op.b in
     let x = read op values 2 op.c in
     let call = call_of s op before in
-    let carries : Carries call (sig k) e' f' g' (pos 0) (pos 0) (pos 0) v w x = record {
-      first = operand_case (nat_lt 0 (operands kind)) _ _ e _ t (λ r. word_before s.seed s.step s.cycle k op.a values before words count (linked.first r)) (λ r. expected_residue s.seed s.step op.a s.cycle (below op.a));
-      second = operand_case (nat_lt 1 (operands kind)) _ _ f _ t (λ r. word_before s.seed s.step s.cycle k op.b values before words count (linked.second r)) (λ r. expected_residue s.seed s.step op.b s.cycle (below op.b));
-      third = operand_case (nat_lt 2 (operands kind)) _ _ g _ t (λ r. word_before s.seed s.step s.cycle k op.c values before words count (linked.third r)) (λ r. expected_residue s.seed s.step op.c s.cycle (below op.c));
+    let carries : Carries call kind (sig k) e' f' g' (pos 0) (pos 0) (pos 0) v w x = record {
+      first = operand_case laws (nat_lt 0 (operands kind)) _ _ e _ t (λ r. word_before s.seed s.step s.cycle k op.a values before words count (linked.first r)) (λ r. expected_residue laws s.seed s.step op.a s.cycle (below op.a));
+      second = operand_case laws (nat_lt 1 (operands kind)) _ _ f _ t (λ r. word_before s.seed s.step s.cycle k op.b values before words count (linked.second r)) (λ r. expected_residue laws s.seed s.step op.b s.cycle (below op.b));
+      third = operand_case laws (nat_lt 2 (operands kind)) _ _ g _ t (λ r. word_before s.seed s.step s.cycle k op.c values before words count (linked.third r)) (λ r. expected_residue laws s.seed s.step op.c s.cycle (below op.c));
       correction = ap (λ j. modulo (sig j -ℤ m *ℤ e -ℤ n *ℤ f -ℤ o *ℤ g)) number_is
           ∙ ap (λ z. modulo (sig k -ℤ z -ℤ n *ℤ f -ℤ o *ℤ g)) (sym (any_signature (nat_lt 0 (operands kind)) m e none (absent kind 0)))
           ∙ ap (λ z. modulo (sig k -ℤ m *ℤ e' -ℤ z -ℤ o *ℤ g)) (sym (any_signature (nat_lt 1 (operands kind)) n f none (absent kind 1)))
           ∙ ap (λ z. modulo (sig k -ℤ m *ℤ e' -ℤ n *ℤ f' -ℤ z)) (sym (any_signature (nat_lt 2 (operands kind)) o g none (absent kind 2)));
     } in
     let plain : sig k +ℤ pos t +ℤ (m *ℤ pos 0 +ℤ n *ℤ pos 0 +ℤ o *ℤ pos 0) ≡ sig k +ℤ pos t = omega (arith, ints) in
-    right_steps call (sig k) e' f' g' (pos 0) (pos 0) (pos 0) v w x carries
+    laws.step call (sig k) e' f' g' (pos 0) (pos 0) (pos 0) v w x carries
     ∙ ap (λ z. answer_of (outcome kind op.from op.ty (number s.row op) v w x) (modulo z)) plain
-    ∙ ap (λ r. answer_of (outcome kind op.from op.ty (number s.row op) v w x) r) (expected_residue s.seed s.step k s.cycle (below k))
+    ∙ ap (λ r. answer_of (outcome kind op.from op.ty (number s.row op) v w x) r) (expected_residue laws s.seed s.step k s.cycle (below k))
 
 word_given : (o : Outcome) (r : ℕ) → goes_on o ≡ true → answer_of o r ≡ answer.Word (coded (value_in o) r)
 word_given (Ok v) r h = refl
@@ -122,30 +130,30 @@ rest_case W (Err stop.Range) a answers rest r k seed step n e w h = subst (λ b.
 rest_case W (Err stop.DivZero) a answers rest r k seed step n e w h = subst (λ b. cond (is_word b) W (answers ≡ [])) e w
 rest_case W (Err stop.Operand) a answers rest r k seed step n e w h = subst (λ b. cond (is_word b) W (answers ≡ [])) e w
 
-honest_from : (s : Setting) (values : List ℤ) (ops : List Op) (before answers : List Answer) (k : ℕ) → Below s.seed s.step s.cycle →
+honest_from : Laws → (s : Setting) (values : List ℤ) (ops : List Op) (before answers : List Answer) (k : ℕ) → Below s.seed s.step s.cycle →
     before ≡ words_of s.seed s.step s.cycle 0 values → length before ≡ k → length values ≡ k → Linked k ops →
     AllRight (calls_from s before ops answers) → Whole ops answers →
     answers ≡ answers_of s.seed s.step s.cycle k (outcomes_from s.row values ops)
-honest_from s values [] before [] k below words number_is count linked right whole = refl
-honest_from s values [] before (a ∷ answers) k below words number_is count linked right whole = absurd whole
-honest_from s values (op ∷ ops) before [] k below words number_is count linked right whole = absurd whole
-honest_from s values (op ∷ ops) before (a ∷ answers) k below words number_is count linked right whole =
+honest_from laws s values [] before [] k below words number_is count linked right whole = refl
+honest_from laws s values [] before (a ∷ answers) k below words number_is count linked right whole = absurd whole
+honest_from laws s values (op ∷ ops) before [] k below words number_is count linked right whole = absurd whole
+honest_from laws s values (op ∷ ops) before (a ∷ answers) k below words number_is count linked right whole =
     let o = outcome_at s.row op values in
     let r = expected s.seed s.step k s.cycle in
     let rest = outcomes_from s.row (values ++ value_in o ∷ []) ops in
-    let first : a ≡ answer_of o r = right.0 ∙ one_answer s values op before k below words number_is count linked.0 in
+    let first : a ≡ answer_of o r = right.0 ∙ one_answer laws s values op before k below words number_is count linked.0 in
     let grown : goes_on o ≡ true → before ++ a ∷ [] ≡ words_of s.seed s.step s.cycle 0 (values ++ value_in o ∷ []) = λ g.
     ap (λ b. b ++ a ∷ []) words ∙ ap (λ b. words_of s.seed s.step s.cycle 0 values ++ b ∷ []) (first ∙ word_given o r g)
     ∙ ap (λ j. words_of s.seed s.step s.cycle 0 values ++ answer.Word (coded (value_in o) (expected s.seed s.step j s.cycle)) ∷ []) (omega arith)
     ∙ sym (more_words s.seed s.step s.cycle 0 values (value_in o)) in
     let then : answers ≡ answers_of s.seed s.step s.cycle (suc k) (cond (goes_on o) rest []) =
     rest_case (Whole ops answers) o a answers rest r (suc k) s.seed s.step s.cycle first whole
-    (λ g w. honest_from s (values ++ value_in o ∷ []) ops (before ++ a ∷ []) answers (suc k) below (grown g) (simp length-append (omega arith)) (simp length-append (omega arith)) linked.1 right.1 w) in
+    (λ g w. honest_from laws s (values ++ value_in o ∷ []) ops (before ++ a ∷ []) answers (suc k) below (grown g) (simp length-append (omega arith)) (simp length-append (omega arith)) linked.1 right.1 w) in
     ap (λ b. b ∷ answers) first ∙ ap (λ b. answer_of o r ∷ b) then
 
 -- With the right answers alone, the answers of a cycle stand for the outcomes of its operations.
-pub honest_run : (s : Setting) (ops : List Op) (answers : List Answer) → ((k : ℕ) → expected s.seed s.step k s.cycle < A) → Linked 0 ops →
+pub honest_run : Laws → (s : Setting) (ops : List Op) (answers : List Answer) → ((k : ℕ) → expected s.seed s.step k s.cycle < A) → Linked 0 ops →
     AllRight (CallsOf s ops answers) → Whole ops answers →
     answers ≡ answers_of s.seed s.step s.cycle 0 (outcomes_from s.row [] ops)
 unfolding words_of
-honest_run s ops answers below linked right whole = honest_from s [] ops [] answers 0 below refl refl refl linked right whole
+honest_run laws s ops answers below linked right whole = honest_from laws s [] ops [] answers 0 below refl refl refl linked right whole

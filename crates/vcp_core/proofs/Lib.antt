@@ -6,7 +6,6 @@ pub mod HonestCycle
 pub mod HonestRun
 pub mod HonestRuns
 pub mod Means
-pub mod NamedTurns
 pub mod NumeralSteps
 pub mod OneTask
 pub mod PiecesCut
@@ -31,3 +30,4 @@ pub mod TermOperations
 pub mod TermSteps
 pub mod TextEnding
 pub mod TextTasks
+pub mod Written

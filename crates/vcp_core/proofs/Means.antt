@@ -14,7 +14,7 @@ use Rattle.vcp_core.specs.declared.program.Sign.TheVariants.{Plus, Minus}
 use Rattle.vcp_core.specs.declared.program.Operand.{Operand}
 use Rattle.vcp_core.specs.declared.program.Operand.TheVariants as operand
 use Rattle.vcp_core.specs.declared.program.Term.{Term}
-use Rattle.vcp_core.specs.Calls.{at}
+use Rattle.vcp_base.specs.Values.{at}
 use Rattle.vcp_core.specs.CycleEnds.{is_out, spot_at}
 use Rattle.vcp_core.specs.GraphRun.{outcome_at, outcomes_from, stop_among, values_out, stop_or_row, cycle_on, graph_run}
 use Rattle.vcp_core.specs.Meaning.{operand_value, combined, sum_from, source_run, OperandFits, TermsFit, RowsFit}

@@ -7,7 +7,7 @@ use Rattle.st_lexer.specs.declared.token.Token.{Token}
 use Rattle.st_lexer.specs.Reading.{Reads, LexAt}
 use Rattle.st_lexer.specs.Spots.{spot_at}
 use Rattle.st_parser.specs.declared.fault.SyntaxFault.TheVariants as syntax
-use Rattle.st_parser.specs.Answers.{deepest, FirstWrong, Refuses}
+use Rattle.st_parser.specs.Answers.{FirstWrong, Refuses}
 use Rattle.st_spelling.specs.Spelling.{Spells, SpellsWithin, Begins}
 use Rattle.st_tree.specs.ProgramTree.{ProgramTree}
 use Rattle.st_types.specs.declared.fault.TypeFault.{TypeFault}
@@ -15,7 +15,8 @@ use Rattle.st_types.specs.declared.fault.TypeFault.TheVariants as told
 use Rattle.st_types.specs.Typing.{IsTyped, Refuses as RefusesTree}
 use Rattle.vcp_typed.specs.SourceRun.{Program}
 use Rattle.vcp_core.specs.declared.words.RowsWord.{RowsWord}
-use Rattle.vcp_core.specs.Answers.{Answer, Task, usage, gives, refuses, is_run, first_name, second_name, run_task, source_limit, bytes_text}
+use Rattle.vcp_core.specs.Answers.{Answer, Task, usage, gives, refuses, is_run, first_name, second_name, run_task, bytes_text}
+use Rattle.vcp_base.specs.Limits.{most_depth, most_source_bytes}
 use Rattle.vcp_core.specs.Comes.{is_check, is_format, TextComes, without_program, with_program, TypesTo, mistyped, well_typed, size_task, typing_text, Formats, WithFile, CheckTask, FormatTask, PlainTask, TaskOf}
 use Rattle.vcp_core.specs.PlainTask.{rows_task}
 use Rattle.vcp_core.specs.PlainWords.{is_plain, rows_word}
@@ -79,10 +80,10 @@ spelled_syntax laws text ts end a p spells (inl f) = wrong_begins laws ts a f (l
 spelled_syntax laws text ts end a p spells (inr f) = f.2 p spells
 
 -- nor one of depth, where no token is deeper than the limit
-spelled_depth : (text : List ℕ) (ts : List Token) (end a : Spot) (p : ProgramTree) → SpellsWithin deepest p text ts → Refuses text ts end (syntax.Depth a) → ⊥
+spelled_depth : (text : List ℕ) (ts : List Token) (end a : Spot) (p : ProgramTree) → SpellsWithin most_depth p text ts → Refuses text ts end (syntax.Depth a) → ⊥
 spelled_depth text ts end a p (ps, spells, tokens, within) (before, t, behind, is, spot, good, deep) = deep behind p ps spells (tokens ∙ is) within
 
-as_spelled : (text : List ℕ) (ts : List Token) (p : ProgramTree) → SpellsWithin deepest p text ts → Spells p text ts
+as_spelled : (text : List ℕ) (ts : List Token) (p : ProgramTree) → SpellsWithin most_depth p text ts → Spells p text ts
 as_spelled text ts p (ps, spells, tokens, within) = (ps, spells, tokens)
 
 -- two tasks of a text: they are one, unless one tells the depth; and an answer with another status than a refusal's is the
@@ -162,9 +163,9 @@ module _ (laws : Laws) (name : List ℕ) (Then : ProgramTree → Task → Type 0
   long_agrees true text a b h k = agree_equal name a b (h ∙ sym k)
   long_agrees false text a b h k = text_agrees text a b h k
 
-  file_agrees : (file : Option (List ℕ)) (a b : Task) → WithFile name source_limit (λ text task. TextComes name text Then task) file a → WithFile name source_limit (λ text task. TextComes name text Then task) file b → Agree name a b
+  file_agrees : (file : Option (List ℕ)) (a b : Task) → WithFile name most_source_bytes (λ text task. TextComes name text Then task) file a → WithFile name most_source_bytes (λ text task. TextComes name text Then task) file b → Agree name a b
   file_agrees None a b h k = agree_equal name a b (h ∙ sym k)
-  file_agrees (Some text) a b h k = long_agrees (nat_lt source_limit (length text)) text a b h k
+  file_agrees (Some text) a b h k = long_agrees (nat_lt most_source_bytes (length text)) text a b h k
 
   -- a text that is a program comes to one task
   text_once : (text : List ℕ) (p : ProgramTree) (a b : Task) → IsProgram text p → TextComes name text Then a → TextComes name text Then b → a ≡ b
@@ -176,11 +177,11 @@ module _ (laws : Laws) (name : List ℕ) (Then : ProgramTree → Task → Type 0
   long_once true text p a b is h k = h ∙ sym k
   long_once false text p a b is h k = text_once text p a b is h k
 
-  file_once : (file : Option (List ℕ)) (text : List ℕ) (p : ProgramTree) (a b : Task) → file ≡ Some text → IsProgram text p → WithFile name source_limit (λ text task. TextComes name text Then task) file a → WithFile name source_limit (λ text task. TextComes name text Then task) file b → a ≡ b
+  file_once : (file : Option (List ℕ)) (text : List ℕ) (p : ProgramTree) (a b : Task) → file ≡ Some text → IsProgram text p → WithFile name most_source_bytes (λ text task. TextComes name text Then task) file a → WithFile name most_source_bytes (λ text task. TextComes name text Then task) file b → a ≡ b
   file_once None text p a b held is h k = absurd cc
   file_once (Some held) text p a b same is h k =
       let it : held ≡ text = cc in
-      long_once (nat_lt source_limit (length held)) held p a b (rw it is) h k
+      long_once (nat_lt most_source_bytes (length held)) held p a b (rw it is) h k
 
 -- what words come to, by the forms that they have
 abbrev ByForm : (run check format plain : Bool) → RowsWord → List ℕ → List ℕ → Held → Task → Type 0

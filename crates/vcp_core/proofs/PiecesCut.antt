@@ -4,7 +4,7 @@ use Rattle.std.specs.List.{position, prefix_len}
 use Rattle.std.proofs.lemmas.Bool.{cases_Bool}
 use Rattle.std.proofs.lemmas.Bool.Decides.{nat_tests}
 use Rattle.std.proofs.lemmas.List.Quantifiers.{position-Some}
-use Rattle.vcp_outside.proofs.Known.{tail_slice}
+use Rattle.vcp_core.proofs.Written.{tail_slice}
 use Rattle.vcp_core.specs.Numerals.{pieces_of, onto_first}
 
 -- the separator stands at i, and nowhere before

@@ -18,7 +18,8 @@ use Rattle.vcp_core.specs.declared.plain_run.PlainEnd.{PlainEnd}
 use Rattle.vcp_core.specs.declared.plain_run.PlainEnd.TheVariants as plain
 use Rattle.vcp_core.specs.declared.words.RowsWord.{RowsWord}
 use Rattle.vcp_core.specs.declared.words.RowsWord.TheVariants as rows
-use Rattle.vcp_core.specs.Answers.{Task, gives, refuses, rows_limit}
+use Rattle.vcp_core.specs.Answers.{Task, gives, refuses}
+use Rattle.vcp_base.specs.Limits.{most_rows_bytes}
 use Rattle.vcp_core.specs.Comes.{TypedTask}
 use Rattle.vcp_core.specs.PlainReach.{Loads, PlainReaches}
 use Rattle.vcp_core.specs.PlainRun.{Prints}
@@ -90,17 +91,17 @@ rows_refused from source name task old new b n row.Cycles is u = (record { out =
 rows_refused from source name task old new b n row.Memory is u = inl u
 
 -- the task of a file of rows that is held and read
-pub file_task : (name bytes : List ℕ) (held : Held) (p : Program) (columns : List Column) (m n : ℕ) → (length columns ≡ 0 → ⊥) → FileRead held name rows_limit word.Rows m n (Ok bytes) → on_file name held p columns ≡ on_rows name p (rows_of bytes columns)
+pub file_task : (name bytes : List ℕ) (held : Held) (p : Program) (columns : List Column) (m n : ℕ) → (length columns ≡ 0 → ⊥) → FileRead held name most_rows_bytes word.Rows m n (Ok bytes) → on_file name held p columns ≡ on_rows name p (rows_of bytes columns)
 file_task name bytes held p [] m n some read = absurd (some refl)
-file_task name bytes held p (c ∷ columns) m n some read = file_reads name rows_limit (λ bs. on_rows name p (rows_of bs (c ∷ columns))) held bytes read.0 read.1
+file_task name bytes held p (c ∷ columns) m n some read = file_reads name most_rows_bytes (λ bs. on_rows name p (rows_of bs (c ∷ columns))) held bytes read.0 read.1
 
 -- a file of rows that couldn't be read
-pub file_unread : (source name : List ℕ) (held : Held) (p : Program) (columns : List Column) (old new : Option (List ℕ)) (m n : ℕ) (f : Fault) → (length columns ≡ 0 → ⊥) → FileRead held name rows_limit word.Rows m n (Err f) → Appends old new [] →
+pub file_unread : (source name : List ℕ) (held : Held) (p : Program) (columns : List Column) (old new : Option (List ℕ)) (m n : ℕ) (f : Fault) → (length columns ≡ 0 → ⊥) → FileRead held name most_rows_bytes word.Rows m n (Err f) → Appends old new [] →
     PlainReaches (λ task. task ≡ on_file name held p columns) rows.File source name old new m n (Err f)
 file_unread source name held p [] old new m n f some read u = absurd (some refl)
-file_unread source name held p (c ∷ columns) old new m n (fault.Read w) some (is, inl lacking) u = rw is (u, refl, inl (sym (file_lacks name rows_limit _ held lacking)))
+file_unread source name held p (c ∷ columns) old new m n (fault.Read w) some (is, inl lacking) u = rw is (u, refl, inl (sym (file_lacks name most_rows_bytes _ held lacking)))
 file_unread source name held p (c ∷ columns) old new m n (fault.Read w) some (is, inr rose) u = rw is (u, refl, inr rose)
-file_unread source name held p (c ∷ columns) old new m n (fault.TooLong w) some (is, (bytes, found, long)) u = rw is (u, sym (file_long name rows_limit _ held bytes found long))
+file_unread source name held p (c ∷ columns) old new m n (fault.TooLong w) some (is, (bytes, found, long)) u = rw is (u, sym (file_long name most_rows_bytes _ held bytes found long))
 file_unread source name held p (c ∷ columns) old new m n (fault.Unbuilt w) some h u = absurd h
 file_unread source name held p (c ∷ columns) old new m n (fault.Refused why spot) some h u = absurd h
 file_unread source name held p (c ∷ columns) old new m n fault.TooLarge some h u = absurd h

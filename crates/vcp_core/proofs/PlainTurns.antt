@@ -2,8 +2,9 @@
 use Rattle.std.proofs.Common.{◌≡◌, ℕ, suc, ◌+◌, ◌≤◌, add-one, ℤ, List, [], ◌∷◌, ◌++◌, append-nil, append_assoc, length, refl, sym, ap, subst, ◌∙◌, arith, Option, Some, None, Result, Ok, Err}
 use Rattle.std.specs.Io.KnownBytes.{Appends}
 use Rattle.std.proofs.KnownBytes.{Appends-trans}
+use Rattle.vcp_base.specs.Limits.{most_cycles}
 use Rattle.vcp_outside.specs.Written.{AppendsFront, AppendsPart}
-use Rattle.vcp_outside.proofs.Known.{appends-appends, part-after}
+use Rattle.vcp_core.proofs.Written.{appends-appends, part-after}
 use Rattle.vcp_typed.specs.Meaning.{Stop}
 use Rattle.vcp_typed.specs.SourceRun.{Program, after_cycle, cycle, run_from, source_run, initial}
 use Rattle.input_rows.specs.declared.fault.RowFault.{RowFault}
@@ -73,9 +74,9 @@ pub record Going (p : Program) (first_values : List ℤ) (first : RowsLeft) (old
   pub text : rest_text p 0 first_values first ≡ front ++ rest_text p n m left
   pub stop : (run_from p first_values first.rows).end ≡ (run_from p m left.rows).end
   pub refusal : first.refusal ≡ left.refusal
-  pub counted : n + length left.rows ≤ 1000000
+  pub counted : n + length left.rows ≤ most_cycles
 
-pub going-starts : (p : Program) (m : List ℤ) (left : RowsLeft) (old : Option (List ℕ)) → length left.rows ≤ 1000000 → Going p m left old old 0 m left
+pub going-starts : (p : Program) (m : List ℤ) (left : RowsLeft) (old : Option (List ℕ)) → length left.rows ≤ most_cycles → Going p m left old old 0 m left
 going-starts p m left old few = record { front = []; wrote = appends-nothing old; text = refl; stop = refl; refusal = refl; counted = omega (arith, few) }
 
 -- what the rest prints from here on, the run prints from the first cycle on

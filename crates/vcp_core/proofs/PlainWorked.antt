@@ -8,7 +8,7 @@ use Rattle.st_tree.specs.declared.program.Class.{Class}
 use Rattle.st_tree.specs.declared.program.Class.TheVariants as class
 use Rattle.vcp_typed.specs.declared.slot.Slot.{Slot}
 use Rattle.vcp_typed.specs.TExprTree.{literal, get, binary}
-use Rattle.vcp_typed.specs.TStmtTree.{assign, count, no_tstmts, and_tstmt}
+use Rattle.vcp_typed.specs.TStmtTree.{assign, for_, no_tstmts, and_tstmt}
 use Rattle.vcp_typed.specs.SourceRun.{Program}
 use Rattle.input_rows.specs.declared.fault.RowFault.{RowFault}
 use Rattle.input_rows.specs.declared.fault.RowFault.TheVariants as rows
@@ -65,7 +65,7 @@ before-a-first-refusal = refl
 abbrev division : Program
 division = record {
   slots = variable (codes "y") class.Output ∷ variable (codes "i") class.Local ∷ variable (codes "z") class.Output ∷ [];
-  body = and_tstmt (count 1 (pos 1) (negsuc 0) 3 (and_tstmt (assign 0 (binary bin.Div ty.Dint (literal ty.Dint (pos 6) (at 6)) (get 1 ty.Dint) (at 8)) (at 4)) no_tstmts) (at 2)) no_tstmts;
+  body = and_tstmt (for_ 1 (pos 1) (negsuc 0) 3 (and_tstmt (assign 0 (binary bin.Div ty.Dint (literal ty.Dint (pos 6) (at 6)) (get 1 ty.Dint) (at 8)) (at 4)) no_tstmts) (at 2)) no_tstmts;
 }
 
 -- a stop inside a FOR is told with its turn

@@ -1,6 +1,7 @@
 -- The operations of a program read earlier ones, and one of them gives an output.
 use Rattle.std.proofs.Common.{ℕ, suc, ◌+◌, ◌*◌, ◌^◌, ◌<◌, ◌≤◌, ◌≡◌, refl, ◌∙◌, List, [], ◌∷◌, ◌++◌, arith, pos}
 use Rattle.std.proofs.Math.Nat.{mul-le-mul}
+use Rattle.vcp_base.specs.Limits.{most_cycles, most_step}
 use Rattle.vcp_core.specs.declared.operation.Op.{Op}
 use Rattle.vcp_core.specs.declared.program.Sign.{Sign}
 use Rattle.vcp_core.specs.declared.program.Sign.TheVariants.{Plus, Minus}
@@ -17,10 +18,10 @@ pub signature_below : (seed i : ℕ) → signature seed i < 2 ^ 30
 unfolding signature
 signature_below seed i = omega arith
 
-pub all_below : (seed step : ℕ) → step ≤ 1000 → Below seed step
+pub all_below : (seed step : ℕ) → step ≤ most_step → Below seed step
 all_below seed step h k n l =
     let s = signature_below seed k in
-    let p : step * (n + 1) ≤ 1000 * 1000000 = mul-le-mul h (let q : n + 1 ≤ 1000000 = omega arith in q) in
+    let p : step * (n + 1) ≤ 1000 * most_cycles = mul-le-mul h (let q : n + 1 ≤ most_cycles = omega arith in q) in
     omega (arith, s, p)
 
 sum_linked : (sign : Sign) (a b k col : ℕ) → a < k → b < k → LinkedAt k (dint_op (kind_of sign) a b (pos 0) (spot 4 col))

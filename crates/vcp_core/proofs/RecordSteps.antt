@@ -2,13 +2,14 @@
 use Rattle.std.proofs.Common.{◌≡◌, ℕ, ◌+◌, ◌-◌, Bool, true, false, cond, List, [], ◌∷◌, length, refl, ap, sym, ◌∙◌, arith, zero-add, ℤ, Option, Some, None, nat_le, set, codes}
 use Rattle.std.specs.Option.{option_map, option_and_then, unwrap_or}
 use Rattle.std.proofs.lemmas.Bool.Decides.{nat_tests}
+use Rattle.vcp_base.specs.Limits.{most_cycles}
 use Rattle.vcp_core.specs.Numerals.{ended_pieces, pieces_of}
 use Rattle.vcp_core.specs.RowsFile.{value_of, row_before, rows_of_records, few_records, records_of, rows_of}
 use Rattle.vcp_core.specs.RowsLeft.{rows_left, SpellsRows}
 
 -- how many rows there are with those of these records, where they are few enough, after so many others
 abbrev pub count_with : ℕ → List (List ℕ) → Option ℕ
-count_with n records = cond (nat_le (n + length records) 1000000) (option_map (λ rows. n + length rows) (rows_of_records records)) None
+count_with n records = cond (nat_le (n + length records) most_cycles) (option_map (λ rows. n + length rows) (rows_of_records records)) None
 
 -- how many rows there are with those of these pieces, after so many others
 abbrev pub count_after : ℕ → List (List ℕ) → Option ℕ
@@ -24,7 +25,7 @@ few_enough false records = refl
 
 count_all : (records : Option (List (List ℕ))) → option_and_then (count_with 0) records ≡ option_map length (option_and_then rows_of_records (option_and_then few_records records))
 count_all None = refl
-count_all (Some records) = rw (zero-add (length records)) (few_enough (nat_le (length records) 1000000) records)
+count_all (Some records) = rw (zero-add (length records)) (few_enough (nat_le (length records) most_cycles) records)
 
 -- where nothing is counted after those counted so far, nothing is
 pub count_none : (pieces : List (List ℕ)) → count_after 0 pieces ≡ None → None ≡ option_map length (option_and_then rows_of_records (option_and_then few_records (ended_pieces pieces)))
@@ -45,14 +46,14 @@ pub count_more : (n : ℕ) (line : List ℕ) (v : ℤ) (all later : List (List �
 count_more n line v all [] cut some is_value = absurd (some refl)
 count_more n line v all (next ∷ pieces) cut some is_value = rw cut (record_more n line v (ended_pieces (next ∷ pieces)) is_value)
 
-past : (n : ℕ) (line : List ℕ) (records : Option (List (List ℕ))) → n ≡ 1000000 → option_and_then (count_with n) (option_map (λ rs. line ∷ rs) records) ≡ None
+past : (n : ℕ) (line : List ℕ) (records : Option (List (List ℕ))) → n ≡ most_cycles → option_and_then (count_with n) (option_map (λ rs. line ∷ rs) records) ≡ None
 past n line None full = refl
 past n line (Some records) full =
-    let more : nat_le (n + length (line ∷ records)) 1000000 ≡ false = grind (arith, nat_tests) in
+    let more : nat_le (n + length (line ∷ records)) most_cycles ≡ false = grind (arith, nat_tests) in
     rw more refl
 
 -- a record after 1,000,000
-pub count_past : (n : ℕ) (line : List ℕ) (all later : List (List ℕ)) → all ≡ line ∷ later → (later ≡ [] → ⊥) → n ≡ 1000000 → count_after n all ≡ None
+pub count_past : (n : ℕ) (line : List ℕ) (all later : List (List ℕ)) → all ≡ line ∷ later → (later ≡ [] → ⊥) → n ≡ most_cycles → count_after n all ≡ None
 count_past n line all [] cut some full = absurd (some refl)
 count_past n line all (next ∷ pieces) cut some full = rw cut (past n line (ended_pieces (next ∷ pieces)) full)
 
@@ -62,7 +63,7 @@ no_value false count = refl
 
 refused : (n : ℕ) (line : List ℕ) (records : Option (List (List ℕ))) → value_of line ≡ None → option_and_then (count_with n) (option_map (λ rs. line ∷ rs) records) ≡ None
 refused n line None none = refl
-refused n line (Some records) none = rw none (no_value (nat_le (n + length (line ∷ records)) 1000000) (λ rows. n + length rows))
+refused n line (Some records) none = rw none (no_value (nat_le (n + length (line ∷ records)) most_cycles) (λ rows. n + length rows))
 
 -- a record that spells no value
 pub count_refused : (n : ℕ) (line : List ℕ) (all later : List (List ℕ)) → all ≡ line ∷ later → (later ≡ [] → ⊥) → value_of line ≡ None → count_after n all ≡ None

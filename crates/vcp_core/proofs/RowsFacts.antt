@@ -2,6 +2,7 @@
 use Rattle.std.proofs.Common.{ℕ, suc, ◌≤◌, ◌≡◌, ◌==◌, refl, sym, ap, ◌∙◌, Bool, true, false, cond, List, [], ◌∷◌, length, arith, Option, Some, None, ℤ, pos, neg_ℤ}
 use Rattle.std.specs.Prelude.{option_and_then, option_map, bytes_eq, codes, nat_le}
 use Rattle.std.proofs.lemmas.Bool.Decides.{nat_tests}
+use Rattle.vcp_base.specs.Limits.{most_cycles}
 use Rattle.vcp_base.specs.declared.ty.Ty.TheVariants as ty
 use Rattle.vcp_base.specs.Types.{fits}
 use Rattle.vcp_core.specs.Meaning.{RowsFit}
@@ -44,30 +45,30 @@ rows_hold : (records : List (List ℕ)) (rows : List (List ℤ)) → rows_of_rec
 rows_hold [] rows e = let same : [] ≡ rows = cc in rw (← same) (record { count = refl; fit = tt })
 rows_hold (line ∷ records) rows e = hold_case (value_of line) (rows_of_records records) line records rows refl (rows_hold records) e
 
-few_case : (few : Bool) (records given : List (List ℕ)) → nat_le (length records) 1000000 ≡ few → cond few (Some records) None ≡ Some given → length given ≤ 1000000
+few_case : (few : Bool) (records given : List (List ℕ)) → nat_le (length records) most_cycles ≡ few → cond few (Some records) None ≡ Some given → length given ≤ most_cycles
 few_case true records given h e = let same : records ≡ given = cc in rw (← same) (grind (arith, nat_tests))
 few_case false records given h e = cc
 
-records_few : (named : Bool) (records given : List (List ℕ)) → cond named (few_records records) None ≡ Some given → length given ≤ 1000000
-records_few true records given e = few_case (nat_le (length records) 1000000) records given refl e
+records_few : (named : Bool) (records given : List (List ℕ)) → cond named (few_records records) None ≡ Some given → length given ≤ most_cycles
+records_few true records given e = few_case (nat_le (length records) most_cycles) records given refl e
 records_few false records given e = cc
 
-few_lines : (lines given : List (List ℕ)) → records_of lines ≡ Some given → length given ≤ 1000000
+few_lines : (lines given : List (List ℕ)) → records_of lines ≡ Some given → length given ≤ most_cycles
 few_lines [] given e = cc
 few_lines (header ∷ records) given e = records_few (bytes_eq header (codes "x")) records given e
 
 pub record RowsGiven (rows : List (List ℤ)) : Type 0 where
-  pub few : length rows ≤ 1000000
+  pub few : length rows ≤ most_cycles
   pub fit : RowsFit rows
 
-given_case : (records : Option (List (List ℕ))) (rows : List (List ℤ)) → ((given : List (List ℕ)) → records ≡ Some given → length given ≤ 1000000) → option_and_then rows_of_records records ≡ Some rows → RowsGiven rows
+given_case : (records : Option (List (List ℕ))) (rows : List (List ℤ)) → ((given : List (List ℕ)) → records ≡ Some given → length given ≤ most_cycles) → option_and_then rows_of_records records ≡ Some rows → RowsGiven rows
 given_case None rows h e = cc
 given_case (Some records) rows h e =
     let held = rows_hold records rows e in
     let few = h records refl in
     record { few = omega (arith, held.count, few); fit = held.fit }
 
-lines_case : (lines : Option (List (List ℕ))) (given : List (List ℕ)) → option_and_then records_of lines ≡ Some given → length given ≤ 1000000
+lines_case : (lines : Option (List (List ℕ))) (given : List (List ℕ)) → option_and_then records_of lines ≡ Some given → length given ≤ most_cycles
 lines_case None given e = cc
 lines_case (Some lines) given e = few_lines lines given e
 

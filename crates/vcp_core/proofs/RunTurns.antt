@@ -6,7 +6,7 @@ use Rattle.coded_unit.specs.declared.call.Answer.{Answer}
 use Rattle.coded_unit.specs.Log.{Entry}
 use Rattle.vcp_outside.specs.Written.{Writes}
 use Rattle.vcp_outside.specs.declared.failed.Failed.{Failed}
-use Rattle.vcp_outside.proofs.Known.{appends-appends}
+use Rattle.vcp_core.proofs.Written.{appends-appends}
 use Rattle.vcp_core.specs.declared.operation.Op.{Op}
 use Rattle.vcp_core.specs.declared.cycle_end.CycleEnd.{CycleEnd}
 use Rattle.vcp_core.specs.declared.cycle_end.CycleEnd.TheVariants as end

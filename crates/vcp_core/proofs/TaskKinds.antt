@@ -11,7 +11,8 @@ use Rattle.vcp_typed.specs.SourceRun.{Program, source_run}
 use Rattle.vcp_core.specs.declared.program.Term.{Term}
 use Rattle.vcp_core.specs.declared.words.RowsWord.{RowsWord}
 use Rattle.vcp_core.specs.declared.words.RowsWord.TheVariants as from
-use Rattle.vcp_core.specs.Answers.{Answer, Task, usage, lacks, gives, runs, refuses, with_file, rows_task as run_rows_task, source_task, run_task, is_run, first_name, second_name, bytes_text, source_limit, rows_limit}
+use Rattle.vcp_core.specs.Answers.{Answer, Task, usage, lacks, gives, runs, refuses, with_file, rows_task as run_rows_task, source_task, run_task, is_run, first_name, second_name, bytes_text}
+use Rattle.vcp_base.specs.Limits.{most_source_bytes, most_rows_bytes}
 use Rattle.vcp_core.specs.Comes.{is_check, is_format, TextComes, without_program, with_program, TypesTo, mistyped, well_typed, size_task, Formats, WithFile, CheckTask, FormatTask, PlainTask, TaskOf}
 use Rattle.vcp_core.specs.PlainTask.{plain_status, plain_answer, on_rows, on_file, rows_task}
 use Rattle.vcp_core.specs.PlainWords.{is_plain, rows_word}
@@ -52,9 +53,9 @@ module _ (P : Task → Type 0) (refused : (line : List ℕ) → P (refuses line)
 
   -- the same of a source that comes to a task
   pub source_has : (name : List ℕ) (file : Option (List ℕ)) (Then : ProgramTree → Task → Type 0) (task : Task) → (file ≡ None → P (lacks name)) → ((p : ProgramTree) (t : Task) → Then p t → P t) →
-      WithFile name source_limit (λ text task. TextComes name text Then task) file task → P task
+      WithFile name most_source_bytes (λ text task. TextComes name text Then task) file task → P task
   source_has name None Then task lacking all comes = rw comes (lacking refl)
-  source_has name (Some text) Then task lacking all comes = long_has (nat_lt source_limit (length text)) name text Then task all comes
+  source_has name (Some text) Then task lacking all comes = long_has (nat_lt most_source_bytes (length text)) name text Then task all comes
 
   -- and of a program that is typed
   pub typed_has : (name : List ℕ) (Then : Program → Task) → ((t : Program) → P (Then t)) → (p : ProgramTree) (task : Task) → TypesTo name Then p task → P task
@@ -76,7 +77,7 @@ module _ (P : Task → Type 0) (refused : (line : List ℕ) → P (refuses line)
 
   file_have : (held : Held) (columns : List Column) → (held name ≡ None → P (lacks name)) → P (on_file name held p columns)
   file_have held [] lacking = refused _
-  file_have held (c ∷ columns) lacking = file_has P refused name rows_limit (λ bytes. on_rows name p (rows_of bytes (c ∷ columns))) (held name) lacking (λ bytes. rows_have (rows_of bytes (c ∷ columns)))
+  file_have held (c ∷ columns) lacking = file_has P refused name most_rows_bytes (λ bytes. on_rows name p (rows_of bytes (c ∷ columns))) (held name) lacking (λ bytes. rows_have (rows_of bytes (c ∷ columns)))
 
   pub rows_task_has : (word : RowsWord) (held : Held) → (word ≡ from.File → held name ≡ None → P (lacks name)) → P (rows_task word name held p)
   rows_task_has from.File held lacking = file_have held (input_columns p.slots) (lacking refl)
@@ -94,11 +95,11 @@ run_rows_at_most rows terms (Some values) = tt
 run_source_at_most : (source rows : List ℕ) (held : Held) (terms : Option (List Term)) → AtMost 2 (source_task source rows held terms)
 run_source_at_most source rows held None = lit≤ tt
 run_source_at_most source rows held (Some terms) =
-    file_has (AtMost 2) one_at_most rows rows_limit (λ bytes. run_rows_task rows terms (run_rows_of bytes)) (held rows) (λ none. tt) (λ bytes. run_rows_at_most rows terms (run_rows_of bytes))
+    file_has (AtMost 2) one_at_most rows most_rows_bytes (λ bytes. run_rows_task rows terms (run_rows_of bytes)) (held rows) (λ none. tt) (λ bytes. run_rows_at_most rows terms (run_rows_of bytes))
 
 run_at_most : (source rows : List ℕ) (held : Held) → AtMost 2 (run_task source rows held)
 run_at_most source rows held =
-    file_has (AtMost 2) one_at_most source source_limit (λ bytes. source_task source rows held (terms_of bytes)) (held source) (λ none. tt) (λ bytes. run_source_at_most source rows held (terms_of bytes))
+    file_has (AtMost 2) one_at_most source most_source_bytes (λ bytes. source_task source rows held (terms_of bytes)) (held source) (λ none. tt) (λ bytes. run_source_at_most source rows held (terms_of bytes))
 
 check_at_most : (name : List ℕ) (held : Held) (task : Task) → CheckTask name held task → AtMost 2 task
 check_at_most name held task comes = source_has (AtMost 2) one_at_most name (held name) (TypesTo name size_task) task (λ none. tt) (typed_has (AtMost 2) one_at_most name size_task (λ t. lit≤ tt)) comes

@@ -2,6 +2,7 @@
 use Rattle.std.proofs.Common.{ℕ, ◌<◌, ◌≤◌, ◌≡◌, inl, inr, true, false, refl, sym, ap, List, [], length, arith, Option, Some, Result, Ok, Err, nat_lt}
 use Rattle.std.proofs.lemmas.Bool.Decides.{nat_tests}
 use Rattle.std.specs.Io.KnownBytes.{Appends}
+use Rattle.vcp_base.specs.Limits.{most_depth, most_source_bytes}
 use Rattle.vcp_outside.specs.Held.{Held}
 use Rattle.vcp_outside.specs.Written.{AppendsPart}
 use Rattle.st_lexer.specs.declared.token.Token.{Token}
@@ -12,7 +13,7 @@ use Rattle.st_lexer.specs.Reading.{Reads, Faults}
 use Rattle.st_lexer.specs.Spots.{spot_at}
 use Rattle.st_parser.specs.declared.fault.SyntaxFault.{SyntaxFault}
 use Rattle.st_parser.specs.declared.fault.SyntaxFault.TheVariants as syntax
-use Rattle.st_parser.specs.Answers.{deepest, Refuses}
+use Rattle.st_parser.specs.Answers.{Refuses}
 use Rattle.st_spelling.specs.Spelling.{Spells, SpellsWithin}
 use Rattle.st_tree.specs.Declarable.{HasNames}
 use Rattle.st_tree.specs.ProgramTree.{ProgramTree}
@@ -25,7 +26,7 @@ use Rattle.vcp_typed.specs.SourceRun.{Program}
 use Rattle.vcp_core.specs.declared.fault.Fault.{Fault}
 use Rattle.vcp_core.specs.declared.fault.Fault.TheVariants as fault
 use Rattle.vcp_core.specs.declared.fault.FileWord.TheVariants as word
-use Rattle.vcp_core.specs.Answers.{Task, refuses, prints, bytes_text, source_limit}
+use Rattle.vcp_core.specs.Answers.{Task, refuses, prints, bytes_text}
 use Rattle.vcp_core.specs.Comes.{TextComes, without_program, with_program, mistyped, well_typed, size_task, TypedText, ChecksText, FormatsText, WithFile}
 use Rattle.vcp_core.specs.PlainReach.{TypedOf, Loads}
 use Rattle.vcp_core.specs.Lines.{ok_text}
@@ -47,7 +48,7 @@ parser_refuses text ts (syntax.Depth spot) reads refused = λ name. too_deep ts 
 parser_refuses text ts syntax.Memory reads refused = tt
 
 -- the parser's program is the text's
-pub is_program : (text : List ℕ) (ts : List Token) (p : ProgramTree) → Reads text ts → SpellsWithin deepest p text ts → ((q : ProgramTree) → Spells q text ts → p ≡ q) → IsProgram text p
+pub is_program : (text : List ℕ) (ts : List Token) (p : ProgramTree) → Reads text ts → SpellsWithin most_depth p text ts → ((q : ProgramTree) → Spells q text ts → p ≡ q) → IsProgram text p
 is_program text ts p reads spells only = record { tokens = ts; reads = reads; spells = spells; only = λ q s. sym (only q s) }
 
 -- a text without a program is refused by each command
@@ -62,7 +63,7 @@ unparsed shown Then text (fault.Row why) h = absurd h
 unparsed shown Then text fault.Write h = absurd h
 
 -- each name that the text's program declares may be declared
-pub has_names : (text : List ℕ) (p : ProgramTree) → ((q : ProgramTree) (t : List ℕ) (ts : List Token) → Reads t ts → length t ≤ 1048576 → Spells q t ts → HasNames q) → length text ≤ 1048576 → IsProgram text p → HasNames p
+pub has_names : (text : List ℕ) (p : ProgramTree) → ((q : ProgramTree) (t : List ℕ) (ts : List Token) → Reads t ts → length t ≤ most_source_bytes → Spells q t ts → HasNames q) → length text ≤ most_source_bytes → IsProgram text p → HasNames p
 has_names text p law short is = law p text is.tokens is.reads short (is.spells.0, is.spells.1, is.spells.2)
 
 -- a text without a program has no typed one
@@ -112,17 +113,17 @@ text_formats text written p is written_is = λ name. with_program p _ is (ap pri
 module _ (Comes : List ℕ → List ℕ → Task → Type 0) (source : List ℕ) (held : Held) where
   -- what the file comes to
   abbrev Takes : Task → Type 0
-  Takes task = WithFile source source_limit (Comes source) (held source) task
+  Takes task = WithFile source most_source_bytes (Comes source) (held source) task
 
   -- a text that is held and read
-  in_file : (bytes : List ℕ) (task : Task) → held source ≡ Some bytes → length bytes ≤ source_limit → Comes source bytes task → Takes task
-  in_file bytes task is short comes = let no : nat_lt source_limit (length bytes) ≡ false = grind (arith, nat_tests) in rw (is, no) comes
+  in_file : (bytes : List ℕ) (task : Task) → held source ≡ Some bytes → length bytes ≤ most_source_bytes → Comes source bytes task → Takes task
+  in_file bytes task is short comes = let no : nat_lt most_source_bytes (length bytes) ≡ false = grind (arith, nat_tests) in rw (is, no) comes
 
-  long_file : (bytes : List ℕ) → held source ≡ Some bytes → source_limit < length bytes → Takes (refuses (bytes_text source))
-  long_file bytes is long = let yes : nat_lt source_limit (length bytes) ≡ true = grind (arith, nat_tests) in rw (is, yes) refl
+  long_file : (bytes : List ℕ) → held source ≡ Some bytes → most_source_bytes < length bytes → Takes (refuses (bytes_text source))
+  long_file bytes is long = let yes : nat_lt most_source_bytes (length bytes) ≡ true = grind (arith, nat_tests) in rw (is, yes) refl
 
   -- a source that couldn't be read
-  pub text_unread : (old new : Option (List ℕ)) (b n : ℕ) (f : Fault) → FileRead held source source_limit word.Source b n (Err f) → Appends old new [] → TextReaches {T = Unit {0}} Takes source old new b n (Err f)
+  pub text_unread : (old new : Option (List ℕ)) (b n : ℕ) (f : Fault) → FileRead held source most_source_bytes word.Source b n (Err f) → Appends old new [] → TextReaches {T = Unit {0}} Takes source old new b n (Err f)
   text_unread old new b n (fault.Read w) (is, inl lacking) u = (u, is, inl (rw lacking refl))
   text_unread old new b n (fault.Read w) (is, inr rose) u = (u, is, inr rose)
   text_unread old new b n (fault.TooLong w) (is, (bytes, found, long)) u = (u, is, long_file bytes found long)
@@ -135,7 +136,7 @@ module _ (Comes : List ℕ → List ℕ → Task → Type 0) (source : List ℕ)
 
   module _ {V : Type 0} (shown : V → List ℕ) (bytes : List ℕ) where
     -- a source that is refused
-    pub text_refused : (old new : Option (List ℕ)) (b n : ℕ) (f : Fault) → FileRead held source source_limit word.Source b n (Ok bytes) → TextGives shown Comes bytes (Err f) → Appends old new [] → TextReaches {T = Unit {0}} Takes source old new b n (Err f)
+    pub text_refused : (old new : Option (List ℕ)) (b n : ℕ) (f : Fault) → FileRead held source most_source_bytes word.Source b n (Ok bytes) → TextGives shown Comes bytes (Err f) → Appends old new [] → TextReaches {T = Unit {0}} Takes source old new b n (Err f)
     text_refused old new b n (fault.Read w) read h u = absurd h
     text_refused old new b n (fault.TooLong w) read h u = absurd h
     text_refused old new b n (fault.Unbuilt w) read h u = absurd h
@@ -146,15 +147,15 @@ module _ (Comes : List ℕ → List ℕ → Task → Type 0) (source : List ℕ)
     text_refused old new b n fault.Memory read h u = u
 
     -- a source of which something is shown
-    pub text_written : (v : V) (old new : Option (List ℕ)) (b n : ℕ) → FileRead held source source_limit word.Source b n (Ok bytes) → TextGives shown Comes bytes (Ok v) → Appends old new (shown v) → TextReaches {T = Unit {0}} Takes source old new b n (Ok tt)
+    pub text_written : (v : V) (old new : Option (List ℕ)) (b n : ℕ) → FileRead held source most_source_bytes word.Source b n (Ok bytes) → TextGives shown Comes bytes (Ok v) → Appends old new (shown v) → TextReaches {T = Unit {0}} Takes source old new b n (Ok tt)
     text_written v old new b n read h w = (shown v, in_file bytes (prints (shown v)) read.0 read.1 (h source), w)
 
     -- a source of which it could not be written
-    pub text_unwritten : (v : V) (old new : Option (List ℕ)) (b n : ℕ) → FileRead held source source_limit word.Source b n (Ok bytes) → TextGives shown Comes bytes (Ok v) → AppendsPart old new (shown v) → TextReaches {T = Unit {0}} Takes source old new b n (Err fault.Write)
+    pub text_unwritten : (v : V) (old new : Option (List ℕ)) (b n : ℕ) → FileRead held source most_source_bytes word.Source b n (Ok bytes) → TextGives shown Comes bytes (Ok v) → AppendsPart old new (shown v) → TextReaches {T = Unit {0}} Takes source old new b n (Err fault.Write)
     text_unwritten v old new b n read h part = (shown v, in_file bytes (prints (shown v)) read.0 read.1 (h source), part)
 
 -- the typed program of a source
-pub program_loads : (source : List ℕ) (held : Held) (bytes : List ℕ) (b n : ℕ) (r : Result Program Fault) → FileRead held source source_limit word.Source b n (Ok bytes) → TypedOf bytes r → Loads source held b n r
+pub program_loads : (source : List ℕ) (held : Held) (bytes : List ℕ) (b n : ℕ) (r : Result Program Fault) → FileRead held source most_source_bytes word.Source b n (Ok bytes) → TypedOf bytes r → Loads source held b n r
 program_loads source held bytes b n (Ok t) read (p, is, typed) = λ Then. in_file (TypedText Then) source held bytes (Then t) read.0 read.1 (with_program p _ is (well_typed t typed))
 program_loads source held bytes b n (Err (fault.Refused why spot)) read h = λ Then. in_file (TypedText Then) source held bytes _ read.0 read.1 (h Then source)
 program_loads source held bytes b n (Err fault.TooLarge) read h = λ Then. in_file (TypedText Then) source held bytes _ read.0 read.1 (h Then source)
@@ -166,7 +167,7 @@ program_loads source held bytes b n (Err (fault.Row why)) read h = absurd h
 program_loads source held bytes b n (Err fault.Write) read h = absurd h
 
 -- a source that couldn't be read has none
-pub program_unread : (source : List ℕ) (held : Held) (b n : ℕ) (f : Fault) → FileRead held source source_limit word.Source b n (Err f) → Loads source held b n (Err f)
+pub program_unread : (source : List ℕ) (held : Held) (b n : ℕ) (f : Fault) → FileRead held source most_source_bytes word.Source b n (Err f) → Loads source held b n (Err f)
 program_unread source held b n (fault.Read w) (is, inl lacking) = (is, inl (λ Then. rw lacking refl))
 program_unread source held b n (fault.Read w) (is, inr rose) = (is, inr rose)
 program_unread source held b n (fault.TooLong w) (is, (bytes, found, long)) = (is, λ Then. long_file (TypedText Then) source held bytes found long)

@@ -1,5 +1,6 @@
 -- The answer: what is written and the status, for the command words, what is held under their names, and the run.
 use Rattle.std.specs.Prelude.{ℕ, ◌≡◌, ◌==◌, Bool, false, cond, not, ◌&&◌, nat_lt, List, [], ◌∷◌, ◌++◌, length, Option, Some, None, ℤ, codes, bytes_eq}
+use Rattle.vcp_base.specs.Limits.{most_rows_bytes, most_source_bytes}
 use Rattle.vcp_outside.specs.Held.{Held}
 use Rattle.coded_unit.specs.declared.call.Answer.{Answer as Given}
 use Rattle.coded_unit.specs.Log.{Entry}
@@ -42,14 +43,6 @@ write_fault_text = codes "write fault\n"
 abbrev pub memory_text : List ℕ
 memory_text = codes "no memory\n"
 
--- the most bytes of a source
-abbrev pub source_limit : ℕ
-source_limit = 1048576
-
--- the most bytes of a rows file
-abbrev pub rows_limit : ℕ
-rows_limit = 67108864
-
 -- a word that can be a file's name: it isn't empty and doesn't begin with `-`
 abbrev pub is_file_name : List ℕ → Bool
 is_file_name [] = false
@@ -89,7 +82,7 @@ rows_task name terms (Some rows) = runs terms rows
 
 -- the program's run on the rows under this name, or why there is none
 abbrev pub rows_file_task : List ℕ → List Term → Held → Task
-rows_file_task name terms held = with_file name rows_limit (λ bytes. rows_task name terms (rows_of bytes)) (held name)
+rows_file_task name terms held = with_file name most_rows_bytes (λ bytes. rows_task name terms (rows_of bytes)) (held name)
 
 -- the program under the first name, and then the rows under the second
 abbrev pub source_task : List ℕ → List ℕ → Held → Option (List Term) → Task
@@ -113,7 +106,7 @@ second_name _ = []
 
 -- P is read whole and taken through its refusals, and then ROWS
 abbrev pub run_task : List ℕ → List ℕ → Held → Task
-run_task source rows held = with_file source source_limit (λ bytes. source_task source rows held (terms_of bytes)) (held source)
+run_task source rows held = with_file source most_source_bytes (λ bytes. source_task source rows held (terms_of bytes)) (held source)
 
 -- the status of a run that ends so
 abbrev pub end_status : End → ℕ

@@ -3,6 +3,7 @@ use Rattle.std.specs.Prelude.{ℕ, ◌≡◌, Bool, true, false, cond, nat_lt, L
 use Rattle.vcp_base.specs.declared.kind.Kind.{Kind}
 use Rattle.vcp_base.specs.declared.kind.Kind.TheVariants as kind
 use Rattle.vcp_base.specs.Kinds.{operands}
+use Rattle.vcp_base.specs.Values.{at}
 use Rattle.coded_unit.specs.declared.call.Call.{Call}
 use Rattle.coded_unit.specs.declared.call.Answer.{Answer}
 use Rattle.coded_unit.specs.declared.call.Answer.TheVariants as answer
@@ -17,10 +18,6 @@ pub record Setting : Type 0 where
   pub step : ℕ
   pub row : List ℤ
   pub cycle : ℕ
-
--- the entry at a place of a list of integers, and 0 past its end
-abbrev pub at : List ℤ → ℕ → ℤ
-at values k = slice_index_or values k (pos 0)
 
 -- an operation takes its value from the row
 abbrev pub is_input : Kind → Bool

@@ -10,7 +10,8 @@ use Rattle.st_writer.specs.CanonicalProgram.{canonical}
 use Rattle.vcp_typed.specs.Size.{size}
 use Rattle.vcp_typed.specs.SourceRun.{Program}
 use Rattle.vcp_core.specs.declared.words.RowsWord.{RowsWord}
-use Rattle.vcp_core.specs.Answers.{Task, usage, lacks, refuses, prints, is_run, is_file_name, first_name, second_name, run_task, source_limit, bytes_text, size_text, memory_text}
+use Rattle.vcp_core.specs.Answers.{Task, usage, lacks, refuses, prints, is_run, is_file_name, first_name, second_name, run_task, bytes_text, size_text, memory_text}
+use Rattle.vcp_base.specs.Limits.{most_source_bytes}
 use Rattle.vcp_core.specs.Lines.{spot_text, ok_text}
 use Rattle.vcp_core.specs.PlainTask.{rows_task}
 use Rattle.vcp_core.specs.PlainWords.{is_plain, rows_word}
@@ -89,7 +90,7 @@ WithFile name limit Then (Some bytes) task = cond (nat_lt limit (length bytes)) 
 
 -- P is read whole and taken through its refusals, those of typing last
 abbrev pub TypedTask : (Program → Task) → List ℕ → Held → Task → Type 0
-TypedTask Then source held task = WithFile source source_limit (TypedText Then source) (held source) task
+TypedTask Then source held task = WithFile source most_source_bytes (TypedText Then source) (held source) task
 
 -- with `check`
 abbrev pub CheckTask : List ℕ → Held → Task → Type 0
@@ -101,7 +102,7 @@ PlainTask rows source name held task = TypedTask (rows_task rows name held) sour
 
 -- P is read whole and taken through its refusals, those of typing left out
 abbrev pub FormatTask : List ℕ → Held → Task → Type 0
-FormatTask source held task = WithFile source source_limit (FormatsText source) (held source) task
+FormatTask source held task = WithFile source most_source_bytes (FormatsText source) (held source) task
 
 -- what words come to, where this is held: what is said of the run or the text that they name, or the usage line where they are none of the forms
 abbrev pub TaskOf : List (List ℕ) → Held → Task → Type 0

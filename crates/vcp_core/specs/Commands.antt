@@ -1,5 +1,6 @@
 -- Commands, as what command words say.
 use Rattle.std.specs.Prelude.{ℕ, ◌≡◌, ◌≤◌, true, false, List}
+use Rattle.vcp_base.specs.Limits.{most_cycles}
 use Rattle.vcp_core.specs.declared.words.Command.{Command}
 use Rattle.vcp_core.specs.declared.words.Command.TheVariants as command
 use Rattle.vcp_core.specs.declared.words.RowsWord.{RowsWord}
@@ -25,7 +26,7 @@ Says words (command.Plain from files) =
 
 -- rows that are a number of cycles are at most a million
 abbrev pub FewRows : RowsWord → Type 0
-FewRows (rows.Cycles number) = number ≤ 1000000
+FewRows (rows.Cycles number) = number ≤ most_cycles
 FewRows rows.File = Unit {0}
 
 -- and so are those of a command

@@ -3,7 +3,8 @@ use Rattle.std.specs.Prelude.{ℕ, suc, Bool, true, false, cond, nat_lt, List, [
 use Rattle.vcp_base.specs.declared.kind.StopKind.{StopKind}
 use Rattle.vcp_base.specs.Kinds.{operands, Outcome, outcome}
 use Rattle.vcp_core.specs.declared.operation.Op.{Op}
-use Rattle.vcp_core.specs.Calls.{at, number}
+use Rattle.vcp_core.specs.Calls.{number}
+use Rattle.vcp_base.specs.Values.{at}
 use Rattle.vcp_core.specs.CycleEnds.{is_out, spot_at}
 use Rattle.vcp_core.specs.Runs.{Run, Cycle, released, ends, stopped, complete, followed_by}
 

@@ -9,7 +9,7 @@ use Rattle.vcp_core.specs.declared.program.Sign.TheVariants.{Plus, Minus}
 use Rattle.vcp_core.specs.declared.program.Operand.{Operand}
 use Rattle.vcp_core.specs.declared.program.Operand.TheVariants as operand
 use Rattle.vcp_core.specs.declared.program.Term.{Term}
-use Rattle.vcp_core.specs.Calls.{at}
+use Rattle.vcp_base.specs.Values.{at}
 use Rattle.vcp_core.specs.Operations.{spot}
 use Rattle.vcp_core.specs.Runs.{Run, Cycle, released, ends, stopped, complete, followed_by}
 

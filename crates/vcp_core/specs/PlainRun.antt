@@ -1,7 +1,6 @@
 -- PlainRun: what a program's own run prints on the rows of inputs that are left, and how the printing ends.
 use Rattle.std.specs.Prelude.{ℕ, suc, ◌≡◌, ℤ, cond, List, [], ◌∷◌, ◌++◌, length, map, Option, Some, None, Result, Ok, Err}
 use Rattle.std.specs.Io.KnownBytes.{Appends}
-use Rattle.vcp_base.specs.declared.columns.Column.{Column}
 use Rattle.vcp_outside.specs.Written.{AppendsFront, AppendsPart}
 use Rattle.vcp_typed.specs.declared.slot.Slot.{Slot}
 use Rattle.vcp_typed.specs.Meaning.{Stop}
@@ -17,11 +16,6 @@ use Rattle.vcp_core.specs.declared.plain_run.PlainEnd.TheVariants as plain
 use Rattle.vcp_core.specs.RowFaults.{row_fault}
 
 -- ---- names
-
--- the names and types of the outputs, in order of declaration
-abbrev pub output_columns : List Slot → List Column
-output_columns [] = []
-output_columns (s ∷ slots) = cond (is_output s.class) (record { name = s.name; ty = s.ty } ∷ output_columns slots) (output_columns slots)
 
 -- the names of the outputs, in order of declaration
 abbrev pub output_names_of : List Slot → List (List ℕ)

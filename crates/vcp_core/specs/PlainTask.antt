@@ -10,7 +10,8 @@ use Rattle.vcp_typed.specs.Meaning.{Stop}
 use Rattle.vcp_typed.specs.SourceRun.{Program, source_run}
 use Rattle.vcp_core.specs.declared.words.RowsWord.{RowsWord}
 use Rattle.vcp_core.specs.declared.words.RowsWord.TheVariants as rows
-use Rattle.vcp_core.specs.Answers.{Answer, Task, gives, refuses, with_file, rows_limit}
+use Rattle.vcp_core.specs.Answers.{Answer, Task, gives, refuses, with_file}
+use Rattle.vcp_base.specs.Limits.{most_rows_bytes}
 use Rattle.vcp_core.specs.PlainRun.{plain_text}
 use Rattle.vcp_core.specs.RowFaults.{row_fault_text}
 
@@ -43,7 +44,7 @@ on_rows name p (Err why) = refuses (row_fault_text name why)
 -- the same for the rows of the file under a name; it isn't begun where there are no columns
 abbrev pub on_file : List ℕ → Held → Program → List Column → Task
 on_file name held p [] = refuses (row_fault_text name row.Form)
-on_file name held p (c ∷ columns) = with_file name rows_limit (λ bytes. on_rows name p (rows_of bytes (c ∷ columns))) (held name)
+on_file name held p (c ∷ columns) = with_file name most_rows_bytes (λ bytes. on_rows name p (rows_of bytes (c ∷ columns))) (held name)
 
 -- what a program and ROWS come to
 abbrev pub rows_task : RowsWord → List ℕ → Held → Program → Task

@@ -1,5 +1,6 @@
 -- The words `plain P ROWS`, where ROWS is a file's name, or the two words `--cycles N`.
 use Rattle.std.specs.Prelude.{ℕ, Bool, false, ◌&&◌, ◌||◌, nat_le, List, [], ◌∷◌, Option, Some, None, unwrap_or, codes, bytes_eq}
+use Rattle.vcp_base.specs.Limits.{most_cycles}
 use Rattle.vcp_core.specs.declared.words.RowsWord.{RowsWord}
 use Rattle.vcp_core.specs.declared.words.RowsWord.TheVariants as rows
 use Rattle.vcp_core.specs.Answers.{is_run, is_file_name}
@@ -8,7 +9,7 @@ use Rattle.vcp_core.specs.Numerals.{numeral_of}
 -- a number of cycles, of which a run has at most so many
 abbrev pub few_cycles : Option ℕ → Bool
 few_cycles None = false
-few_cycles (Some n) = nat_le n 1000000
+few_cycles (Some n) = nat_le n most_cycles
 
 -- the words `plain P FILE`, with names of files
 abbrev pub is_plain_file : List (List ℕ) → Bool

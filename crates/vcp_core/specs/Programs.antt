@@ -7,7 +7,8 @@ use Rattle.st_lexer.specs.declared.token.Token.{Token}
 use Rattle.st_lexer.specs.Reading.{Reads, StopsAt}
 use Rattle.st_lexer.specs.Spots.{spot_at}
 use Rattle.st_parser.specs.declared.fault.SyntaxFault.TheVariants as syntax
-use Rattle.st_parser.specs.Answers.{deepest, Refuses}
+use Rattle.vcp_base.specs.Limits.{most_depth}
+use Rattle.st_parser.specs.Answers.{Refuses}
 use Rattle.st_spelling.specs.Spelling.{Spells, SpellsWithin}
 use Rattle.st_tree.specs.ProgramTree.{ProgramTree}
 use Rattle.vcp_core.specs.Lines.{spot_text}
@@ -16,7 +17,7 @@ use Rattle.vcp_core.specs.Lines.{spot_text}
 pub record IsProgram (text : List ℕ) (p : ProgramTree) : Type 0 where
   pub tokens : List Token
   pub reads : Reads text tokens
-  pub spells : SpellsWithin deepest p text tokens
+  pub spells : SpellsWithin most_depth p text tokens
   pub only : (q : ProgramTree) → Spells q text tokens → q ≡ p
 
 -- the code and name of a fault of the lexer

@@ -1,6 +1,7 @@
 -- How far the command `run` comes before its fault's line, if there is one, is printed.
 use Rattle.std.specs.Prelude.{ℕ, ◌≡◌, ◌⊎◌, ◌<◌, ◌≤◌, List, [], length, Option, Some, None, Result, Ok, Err, ℤ, codes}
 use Rattle.std.specs.Io.KnownBytes.{Appends}
+use Rattle.vcp_base.specs.Limits.{most_cycles}
 use Rattle.coded_unit.specs.Log.{Entry, GrowsBy}
 use Rattle.vcp_outside.specs.Counts.{Rose}
 use Rattle.vcp_outside.specs.Held.{Held}
@@ -50,7 +51,7 @@ pub record RunsTask (task : Task) (s : BeforeAndAfter) (result : Result CycleEnd
   pub task_is : task ≡ runs terms rows
   pub terms_fit : TermsFit terms
   pub rows_fit : RowsFit rows
-  pub few : length rows ≤ 1000000
+  pub few : length rows ≤ most_cycles
   pub run : RunsTerms terms rows s result
 
 -- the name of a file word

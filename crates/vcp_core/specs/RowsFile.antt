@@ -1,5 +1,6 @@
 -- The rows file: a header and records, each on a line that LF ends.
 use Rattle.std.specs.Prelude.{ℕ, ◌==◌, cond, nat_le, List, [], ◌∷◌, length, Option, Some, None, option_map, option_and_then, ℤ, pos, neg_ℤ, codes, bytes_eq}
+use Rattle.vcp_base.specs.Limits.{most_cycles}
 use Rattle.vcp_base.specs.declared.ty.Ty.TheVariants as ty
 use Rattle.vcp_base.specs.Types.{fits}
 use Rattle.vcp_core.specs.Numerals.{numeral_of, pieces_ended_by}
@@ -27,7 +28,7 @@ rows_of_records (record' ∷ records) = option_and_then (λ v. option_map (row_b
 
 -- at most so many records
 abbrev pub few_records : List (List ℕ) → Option (List (List ℕ))
-few_records records = cond (nat_le (length records) 1000000) (Some records) None
+few_records records = cond (nat_le (length records) most_cycles) (Some records) None
 
 -- the records after the header `x`
 abbrev pub records_of : List (List ℕ) → Option (List (List ℕ))

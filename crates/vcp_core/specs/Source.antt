@@ -1,5 +1,7 @@
 -- The source: a program with one input, one output and one statement, a sum of terms.
 use Rattle.std.specs.Prelude.{ℕ, ◌+◌, ◌-◌, cond, ◌&&◌, nat_le, nat_lt, List, [], ◌∷◌, length, take, drop, Option, Some, None, option_map, option_and_then, pos, codes, bytes_eq}
+use Rattle.vcp_base.specs.declared.ty.Ty.TheVariants as ty
+use Rattle.vcp_base.specs.Types.{fits}
 use Rattle.vcp_core.specs.declared.program.Sign.{Sign}
 use Rattle.vcp_core.specs.declared.program.Sign.TheVariants.{Plus, Minus}
 use Rattle.vcp_core.specs.declared.program.Operand.{Operand}
@@ -13,9 +15,9 @@ sign_of word = cond (bytes_eq word (codes "+")) (Some Plus) (cond (bytes_eq word
 
 -- a number that a term may have
 abbrev pub term_number : ℕ → Option Operand
-term_number n = cond (nat_le n 2147483647) (Some (operand.Number (pos n))) None
+term_number n = cond (fits ty.Dint (pos n)) (Some (operand.Number (pos n))) None
 
--- the operand that a word spells: `x`, or one to ten decimal digits with a value of at most 2147483647
+-- the operand that a word spells: `x`, or one to ten decimal digits with a value of DINT
 abbrev pub operand_of : List ℕ → Option Operand
 operand_of word = cond (bytes_eq word (codes "x")) (Some operand.Input) (option_and_then term_number (numeral_of word))
 

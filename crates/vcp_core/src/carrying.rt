@@ -1,8 +1,10 @@
 //! The calls of one cycle, carried through a unit.
 
 ghost use Rattle.std.specs.Prelude.{◌≡◌, ◌<◌, ◌≤◌, ◌++◌, ◌∷◌, ◌^◌, [], length, vec_capacity};
-ghost use Rattle.vcp_base.specs.Code.{A as code_constant};
-ghost use Rattle.vcp_core.specs.Calls.{is_word as is_word_of, word_of as word_of_answer, word_at as word_at_of, operand as operand_of, number as number_of, at, call_of, Whole};
+ghost use Rattle.vcp_base.specs.Limits.{most_cycles, most_operations, most_step};
+ghost use Rattle.coded_unit.specs.Asked.{Asked};
+ghost use Rattle.vcp_core.specs.Calls.{is_word as is_word_of, word_of as word_of_answer, word_at as word_at_of, operand as operand_of, number as number_of, call_of, Whole};
+ghost use Rattle.vcp_base.specs.Values.{at};
 ghost use Rattle.vcp_core.specs.Log.{setting_at};
 ghost use Rattle.vcp_core.specs.Carried.{Carried};
 
@@ -83,12 +85,11 @@ fn number(row: &Row, op: &Op) -> i64
 
 /// The call of the next operation, after the answers to the earlier ones.
 fn next_call(setting: &Setting<'_>, op: &Op, answers: &[Answer]) -> Call
-    requires few { length answers.now ≤ 65536 }
-    requires step { setting.now.code.step ≤ 1000 }
-    requires cycle { setting.now.cycle < 1000000 }
+    requires few { length answers.now ≤ most_operations }
+    requires step { setting.now.code.step ≤ most_step }
+    requires cycle { setting.now.cycle < most_cycles }
     ensures call { result ≡ call_of (setting_at setting.now.code.seed setting.now.code.step setting.now.cycle setting.now.row.now) op.now answers.now }
-    ensures corr { result.corr < code_constant }
-    ensures stamp { result.stamp ≤ 1000000000 }
+    ensures asked { Asked result }
 {
     let k = answers.len() as u32;
     Call {
@@ -122,9 +123,9 @@ fn append(answers: &mut Vec<Answer>, given: &Answer)
 pub fn carry<U: Unit>(unit: &mut U, setting: &Setting<'_>, ops: &[Op], answers: &mut Vec<Answer>)
     requires fresh { answers.old.items ≡ [] }
     requires room { length ops.now ≤ vec_capacity answers.old }
-    requires few { length ops.now ≤ 65536 }
-    requires step { setting.now.code.step ≤ 1000 }
-    requires cycle { setting.now.cycle < 1000000 }
+    requires few { length ops.now ≤ most_operations }
+    requires step { setting.now.code.step ≤ most_step }
+    requires cycle { setting.now.cycle < most_cycles }
     ensures whole { Whole ops.now answers.new.items }
     ensures room { length ops.now ≤ vec_capacity answers.new }
     ensures carried { Carried (setting_at setting.now.code.seed setting.now.code.step setting.now.cycle setting.now.row.now) ops.now answers.new.items (U.log unit.old) (U.log unit.new) (U.wrong unit.old) (U.wrong unit.new) }

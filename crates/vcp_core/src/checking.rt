@@ -2,6 +2,7 @@
 
 ghost use Rattle.std.specs.Prelude.{◌≡◌, ◌≤◌, IfSome, OnOk, Err, length};
 ghost use Rattle.std.specs.Io.KnownBytes.{IsAtEnd};
+ghost use Rattle.vcp_base.specs.Limits.{most_source_bytes};
 ghost use Rattle.vcp_outside.specs.Counts.{Rose};
 ghost use Rattle.vcp_core.specs.Comes.{ChecksText, CheckTask};
 ghost use Rattle.vcp_core.specs.Lines.{ok_text};
@@ -11,15 +12,15 @@ ghost use Rattle.vcp_core.specs.declared.fault.FileWord.{FileWord as FileWordOf}
 
 use crate::fault::{Fault, FileWord};
 use crate::lines::ok_line;
-use crate::reading::{SOURCE_LIMIT, read_file};
+use crate::reading::read_file;
 use crate::typing::typed_program;
 use std::alloc::Global;
-use vcp_base::Text;
+use vcp_base::{MOST_SOURCE_BYTES, Text};
 use vcp_outside::{Files, Sink};
 
 /// The Size of a source's program, where it has no fault.
 fn checked_size(alloc: Global, source: &[u8]) -> Result<u32, Fault>
-    requires short { length source.now ≤ 1048576 }
+    requires short { length source.now ≤ most_source_bytes }
     ensures size { TextGives ok_text ChecksText source.now result }
 {
     let program = typed_program(alloc, source)?;
@@ -40,7 +41,7 @@ pub fn check_command<F: Files, O: Sink>(
     ensures write { result ≡ Err fault.Write → Rose (O.faults out.old) (O.faults out.new) }
     ensures ended { OnOk result (IsAtEnd (F.rest files.new)) }
 {
-    let text = read_file(alloc, files, source, SOURCE_LIMIT, FileWord::Source)?;
+    let text = read_file(alloc, files, source, MOST_SOURCE_BYTES, FileWord::Source)?;
     let size = checked_size(alloc, text.bytes())?;
     ok_line(out, size)?;
     Ok(())

@@ -2,6 +2,7 @@
 
 ghost use Rattle.std.specs.Prelude.{◌≡◌, ◌≤◌, IfSome, IfOk, OnOk, Ok, Err, MatchResult, length, ℕ, List};
 ghost use Rattle.std.specs.Io.KnownBytes.{IsAtEnd};
+ghost use Rattle.vcp_base.specs.Limits.{most_cycles};
 ghost use Rattle.vcp_base.specs.declared.kind.StopKind.{StopKind as StopKindOf};
 ghost use Rattle.vcp_outside.specs.Counts.{Rose};
 ghost use Rattle.vcp_core.specs.Answers.{run_task, rows_file_task};
@@ -16,16 +17,16 @@ use crate::building::operations;
 use crate::cycle_end::CycleEnd;
 use crate::fault::{Fault, FileWord};
 use crate::program::Term;
-use crate::reading::{ROWS_LIMIT, SOURCE_LIMIT, read_file};
+use crate::reading::read_file;
 use crate::rows_file::Rows;
 use crate::running::{Registers, run_rows};
 use crate::signature::DEFAULT_CODE;
 use crate::source::read_source;
 use crate::words::FileWords;
-use coded_unit::Unit;
+use coded_unit::{Unit, right_answers_keep_the_step_law, words_split_in_one_way};
 use run_report::header_line;
 use std::alloc::Global;
-use vcp_base::{Memory, Text};
+use vcp_base::{MOST_ROWS_BYTES, MOST_SOURCE_BYTES, Memory, Text};
 use vcp_outside::{Files, Sink};
 
 /// The terms of the program under a name.
@@ -39,7 +40,7 @@ fn load_terms<F: Files>(alloc: Global, files: &mut F, name: &Text) -> Result<Vec
     ensures read { (w : FileWordOf) → result ≡ Err (fault.Read w) → Rose (F.faults files.old) (F.faults files.new) }
     ensures write { result ≡ Err fault.Write → ⊥ }
 {
-    let source = read_file(alloc, files, name, SOURCE_LIMIT, FileWord::Source)?;
+    let source = read_file(alloc, files, name, MOST_SOURCE_BYTES, FileWord::Source)?;
     match read_source(alloc, source.bytes()) {
         Ok(Some(terms)) => Ok(terms),
         Ok(None) => Err(Fault::Unbuilt(FileWord::Source)),
@@ -58,7 +59,7 @@ fn run_program<U: Unit, O: Sink>(
 ) -> Result<CycleEnd, Fault>
     requires fit { TermsFit terms.now }
     requires few { length terms.now ≤ 64 }
-    requires many { length rows.old ≤ 1000000 }
+    requires many { length rows.old ≤ most_cycles }
     ensures runs { RunsProgram terms.now rows.old (record {
       log_old = U.log unit.old;
       log_new = U.log unit.new;
@@ -107,7 +108,9 @@ fn run_on_rows<F: Files, U: Unit, O: Sink>(
     ensures refused { (number found wanted : ℕ) → result ≡ Ok (end.Refused number found wanted) → Rose (U.wrong unit.old) (U.wrong unit.new) }
     ensures stopped { (k : ℕ) (why : StopKindOf) → result ≡ Ok (end.Stopped k why) → GrowsByStop (U.log unit.old) (U.log unit.new) }
 {
-    let text = read_file(alloc, files, name, ROWS_LIMIT, FileWord::Rows)?;
+    words_split_in_one_way();
+    right_answers_keep_the_step_law();
+    let text = read_file(alloc, files, name, MOST_ROWS_BYTES, FileWord::Rows)?;
     match Rows::of(text.bytes()) {
         Some(mut rows) => run_program(alloc, terms, &mut rows, unit, out),
         None => Err(Fault::Unbuilt(FileWord::Rows)),

@@ -1,6 +1,7 @@
 //! How a cycle ends, read off the answers to its calls.
 
-ghost use Rattle.std.specs.Prelude.{◌≡◌, ◌≢◌, ◌<◌, ◌≤◌, ◌&&◌, not, true, false, None, length, slice_set, pos, negsuc, ◌≤ℤ◌};
+ghost use Rattle.std.specs.Prelude.{◌≡◌, ◌≢◌, ◌<◌, ◌≤◌, ◌&&◌, not, true, false, None, length, slice_set};
+ghost use Rattle.vcp_base.specs.Limits.{most_cycles, most_operations, most_step};
 ghost use Rattle.vcp_base.specs.Types.{fits as fits_of};
 ghost use Rattle.coded_unit.specs.Words.{value_part};
 ghost use Rattle.vcp_core.specs.Calls.{Whole, word_of as word_of_answer};
@@ -11,7 +12,7 @@ use crate::carrying::word_of;
 use crate::operation::Op;
 use crate::signature::{Code, expected};
 use coded_unit::Answer;
-use vcp_base::{Kind, Residue, Row, StopKind, fits};
+use vcp_base::{Kind, Residue, Row, StopKind, Ty, fits};
 
 /// How a cycle ends.
 #[derive(Clone, Copy, Debug, PartialEq, Eq)]
@@ -34,9 +35,9 @@ pub enum CycleEnd {
 /// How a cycle with these answers ends. Where its outputs are released, the row has their values.
 pub fn cycle_end(code: Code, cycle: u32, ops: &[Op], answers: &[Answer], row: &mut Row) -> CycleEnd
     requires whole { Whole ops.now answers.now }
-    requires few { length ops.now ≤ 65536 }
-    requires step { code.step ≤ 1000 }
-    requires cycle { cycle < 1000000 }
+    requires few { length ops.now ≤ most_operations }
+    requires step { code.step ≤ most_step }
+    requires cycle { cycle < most_cycles }
     requires cells { length row.old ≡ output_count ops.now }
     ensures end { result ≡ end_of code.seed code.step cycle ops.now answers.now }
     ensures row { result ≡ Released → row.new ≡ outputs_of ops.now answers.now }
@@ -84,7 +85,7 @@ fn is_out(kind: Kind) -> bool
 
 /// The first answer that is a stop.
 fn first_stop(answers: &[Answer]) -> Option<CycleEnd>
-    requires { length answers.now ≤ 65536 }
+    requires { length answers.now ≤ most_operations }
     ensures { result ≡ first_stop_of 0 answers.now }
 {
     'answers: for (k, answer) in answers.iter().enumerate() {
@@ -105,7 +106,7 @@ fn is_outside(op: &Op, answer: &Answer) -> bool
 /// The first output whose value is outside its type.
 fn first_outside(ops: &[Op], answers: &[Answer]) -> Option<CycleEnd>
     requires same { length answers.now ≡ length ops.now }
-    requires few { length ops.now ≤ 65536 }
+    requires few { length ops.now ≤ most_operations }
     ensures { result ≡ first_outside_of 0 ops.now answers.now }
 {
     'ops: for (k, op) in ops.iter().enumerate() {
@@ -122,9 +123,9 @@ fn first_outside(ops: &[Op], answers: &[Answer]) -> Option<CycleEnd>
 /// The first output whose residue is not the expected one.
 fn first_refused(code: Code, cycle: u32, ops: &[Op], answers: &[Answer]) -> Option<CycleEnd>
     requires same { length answers.now ≡ length ops.now }
-    requires few { length ops.now ≤ 65536 }
-    requires step { code.step ≤ 1000 }
-    requires cycle { cycle < 1000000 }
+    requires few { length ops.now ≤ most_operations }
+    requires step { code.step ≤ most_step }
+    requires cycle { cycle < most_cycles }
     ensures { result ≡ first_refused_of code.seed code.step cycle 0 0 ops.now answers.now }
 {
     let mut output = 0;
@@ -148,7 +149,7 @@ fn first_refused(code: Code, cycle: u32, ops: &[Op], answers: &[Answer]) -> Opti
 /// Sets the row to the values of the outputs, which are in their types.
 fn collect_outputs(ops: &[Op], answers: &[Answer], row: &mut Row)
     requires same { length answers.now ≡ length ops.now }
-    requires few { length ops.now ≤ 65536 }
+    requires few { length ops.now ≤ most_operations }
     requires inside { first_outside_of 0 ops.now answers.now ≡ None }
     requires cells { length row.old ≡ output_count ops.now }
     ensures values { row.new ≡ outputs_of ops.now answers.now }
@@ -156,18 +157,22 @@ fn collect_outputs(ops: &[Op], answers: &[Answer], row: &mut Row)
     let mut output = 0;
     'ops: for (k, op) in ops.iter().enumerate() {
         if is_out(op.kind) {
-            set_output(row, output, &answers[k]);
+            set_output(row, output, op.ty, &answers[k]);
             output += 1;
         }
     }
 }
 
-/// Sets one cell of the row to the value of a word.
-fn set_output(row: &mut Row, output: u32, answer: &Answer)
+/// Sets one cell of the row to the value of a word, which is in the type.
+fn set_output(row: &mut Row, output: u32, ty: Ty, answer: &Answer)
     requires cell { output < length row.old }
-    requires low { negsuc 2147483647 ≤ℤ value_part (word_of_answer answer.now) }
-    requires high { value_part (word_of_answer answer.now) ≤ℤ pos 2147483647 }
+    requires inside { fits_of ty (value_part (word_of_answer answer.now)) ≡ true }
     ensures { row.new ≡ slice_set row.old output (value_part (word_of_answer answer.now)) }
 {
-    row.set(output, word_of(answer).split().0 as i64);
+    let value = word_of(answer).split().0;
+    if fits(ty, value) {
+        row.set(output, value as i64);
+    } else {
+        unreachable!()
+    }
 }

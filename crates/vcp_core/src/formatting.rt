@@ -2,6 +2,7 @@
 
 ghost use Rattle.std.specs.Prelude.{◌≡◌, ◌≤◌, IfSome, OnOk, Err, length};
 ghost use Rattle.std.specs.Io.KnownBytes.{IsAtEnd};
+ghost use Rattle.vcp_base.specs.Limits.{most_source_bytes};
 ghost use Rattle.vcp_outside.specs.Counts.{Rose};
 ghost use Rattle.vcp_core.specs.Comes.{FormatsText, FormatTask};
 ghost use Rattle.vcp_core.specs.TextReach.{TextGives, TextReaches};
@@ -10,15 +11,15 @@ ghost use Rattle.vcp_core.specs.declared.fault.FileWord.{FileWord as FileWordOf}
 
 use crate::fault::{Fault, FileWord};
 use crate::parsing::program_of;
-use crate::reading::{SOURCE_LIMIT, read_file};
+use crate::reading::read_file;
 use st_writer::write_program;
 use std::alloc::Global;
-use vcp_base::Text;
+use vcp_base::{MOST_SOURCE_BYTES, Text};
 use vcp_outside::{Files, Sink, write_all};
 
 /// The canonical text of a source, where it is a program. It isn't typed.
 fn canonical_text(alloc: Global, source: &[u8]) -> Result<Text, Fault>
-    requires short { length source.now ≤ 1048576 }
+    requires short { length source.now ≤ most_source_bytes }
     ensures text { TextGives (λ t. t) FormatsText source.now result }
 {
     let program = program_of(alloc, source)?;
@@ -40,7 +41,7 @@ pub fn format_command<F: Files, O: Sink>(
     ensures write { result ≡ Err fault.Write → Rose (O.faults out.old) (O.faults out.new) }
     ensures ended { OnOk result (IsAtEnd (F.rest files.new)) }
 {
-    let text = read_file(alloc, files, source, SOURCE_LIMIT, FileWord::Source)?;
+    let text = read_file(alloc, files, source, MOST_SOURCE_BYTES, FileWord::Source)?;
     let canonical = canonical_text(alloc, text.bytes())?;
     write_all(out, canonical.bytes())?;
     Ok(())

@@ -31,14 +31,3 @@ mod words;
 
 pub use laws::one_task;
 pub use top::vcp;
-
-#[cfg(test)]
-mod check_tests;
-#[cfg(test)]
-mod format_tests;
-#[cfg(test)]
-mod plain_tests;
-#[cfg(test)]
-mod tests;
-#[cfg(test)]
-mod text_calls;

@@ -1,7 +1,8 @@
 //! The program of a source.
 
 ghost use Rattle.std.specs.Prelude.{◌≤◌, IfErr, IfOk, length};
-ghost use Rattle.st_tree.specs.ProgramTree.{program_tree};
+ghost use Rattle.vcp_base.specs.Limits.{most_source_bytes};
+ghost use Rattle.st_tree.specs.ProgramViews.{program_tree};
 ghost use Rattle.vcp_core.specs.Programs.{IsProgram};
 ghost use Rattle.vcp_core.specs.TextReach.{Unparsed};
 
@@ -13,7 +14,7 @@ use std::alloc::Global;
 
 /// The program of a source, taken through the refusals of the lexer and the parser.
 pub fn program_of(alloc: Global, source: &[u8]) -> Result<Program, Fault>
-    requires short { length source.now ≤ 1048576 }
+    requires short { length source.now ≤ most_source_bytes }
     ensures ok { IfOk result (λ p. IsProgram source.now (program_tree p)) }
     ensures err { IfErr result (Unparsed source.now) }
 {

@@ -1,10 +1,11 @@
 //! The command `plain`, up to the line of its fault.
 
-ghost use Rattle.std.specs.Prelude.{◌≡◌, ◌≤◌, IfSome, OnOk, Err, List, ℕ};
+ghost use Rattle.std.specs.Prelude.{◌≡◌, ◌≤◌, IfSome, IfOk, OnOk, Err, List, ℕ, length};
 ghost use Rattle.std.specs.Io.KnownBytes.{IsAtEnd};
+ghost use Rattle.vcp_base.specs.Limits.{most_cycles, most_names};
 ghost use Rattle.vcp_outside.specs.Counts.{Rose};
 ghost use Rattle.input_rows.specs.RowsOf.{rows_of_cycles};
-ghost use Rattle.vcp_typed.specs.Fitting.{input_columns};
+ghost use Rattle.vcp_typed.specs.Fitting.{input_columns as input_columns_of};
 ghost use Rattle.vcp_core.specs.Comes.{PlainTask};
 ghost use Rattle.vcp_core.specs.Commands.{FewRows};
 ghost use Rattle.vcp_core.specs.PlainReach.{Loads, PlainReaches};
@@ -15,12 +16,12 @@ ghost use Rattle.vcp_core.specs.declared.words.RowsWord.{RowsWord as RowsWordOf}
 
 use crate::fault::{Fault, FileWord, RowRefusal};
 use crate::plain_run::{PlainEnd, print_run};
-use crate::reading::{ROWS_LIMIT, SOURCE_LIMIT, read_file};
+use crate::reading::read_file;
 use crate::typing::typed_program;
 use crate::words::{FileWords, RowsWord};
 use input_rows::Rows;
 use std::alloc::Global;
-use vcp_base::{Columns, Text};
+use vcp_base::{Columns, MOST_ROWS_BYTES, MOST_SOURCE_BYTES, Memory, Text};
 use vcp_outside::{Files, Sink};
 use vcp_typed::Typed;
 
@@ -34,8 +35,17 @@ fn load_program<F: Files>(alloc: Global, files: &mut F, name: &Text) -> Result<T
     ensures write { result ≡ Err fault.Write → ⊥ }
     ensures ended { OnOk result (IsAtEnd (F.rest files.new)) }
 {
-    let source = read_file(alloc, files, name, SOURCE_LIMIT, FileWord::Source)?;
+    let source = read_file(alloc, files, name, MOST_SOURCE_BYTES, FileWord::Source)?;
     typed_program(alloc, source.bytes())
+}
+
+/// The columns of a program's inputs, of which there are no more than names.
+fn input_columns(alloc: Global, program: &Typed) -> Result<Columns, Memory>
+    ensures columns { IfOk result (λ columns. columns ≡ input_columns_of program.now.slots) }
+    ensures few { IfOk result (λ columns. length columns ≤ most_names) }
+{
+    let _ = program.slots();
+    program.columns(alloc)
 }
 
 /// Runs a program on the rows of the file under a name.
@@ -47,7 +57,8 @@ fn run_on_file<F: Files, O: Sink>(
     files: &mut F,
     out: &mut O,
 ) -> Result<PlainEnd, Fault>
-    requires columns { columns.now ≡ input_columns program.now.slots }
+    requires columns { columns.now ≡ input_columns_of program.now.slots }
+    requires narrow { length columns.now ≤ most_names }
     ensures held { F.held files.new ≡ F.held files.old }
     ensures reaches { IfSome (F.held files.old) (λ h. (source : List ℕ) → PlainReaches (λ task. task ≡ on_file name.now h program.now columns.now) RowsWord.File source name.now (O.written out.old) (O.written out.new) (F.broken files.old) (F.broken files.new) result) }
     ensures read { (w : FileWordOf) → result ≡ Err (fault.Read w) → Rose (F.faults files.old) (F.faults files.new) }
@@ -57,7 +68,7 @@ fn run_on_file<F: Files, O: Sink>(
     if columns.len() == 0 {
         return Err(Fault::Row(RowRefusal::Form));
     }
-    let text = read_file(alloc, files, name, ROWS_LIMIT, FileWord::Rows)?;
+    let text = read_file(alloc, files, name, MOST_ROWS_BYTES, FileWord::Rows)?;
     let mut rows = Rows::new(alloc, text.bytes(), columns)?;
     print_run(alloc, program, &mut rows, out)
 }
@@ -70,8 +81,8 @@ fn run_for_cycles<O: Sink>(
     number: u32,
     out: &mut O,
 ) -> Result<PlainEnd, Fault>
-    requires columns { columns.now ≡ input_columns program.now.slots }
-    requires few { number ≤ 1000000 }
+    requires columns { columns.now ≡ input_columns_of program.now.slots }
+    requires few { number ≤ most_cycles }
     ensures reaches { (from : RowsWordOf) (source name : List ℕ) (b n : ℕ) → PlainReaches (λ task. task ≡ on_rows name program.now (rows_of_cycles number columns.now)) from source name (O.written out.old) (O.written out.new) b n result }
     ensures read { (w : FileWordOf) → result ≡ Err (fault.Read w) → ⊥ }
     ensures write { result ≡ Err fault.Write → Rose (O.faults out.old) (O.faults out.new) }
@@ -97,7 +108,7 @@ fn run_on_rows<F: Files, O: Sink>(
     ensures write { result ≡ Err fault.Write → Rose (O.faults out.old) (O.faults out.new) }
     ensures ended { OnOk result (IsAtEnd (F.rest files.new)) }
 {
-    let columns = program.columns(alloc)?;
+    let columns = input_columns(alloc, program)?;
     match rows {
         RowsWord::File => run_on_file(alloc, program, &columns, name, files, out),
         RowsWord::Cycles(number) => run_for_cycles(alloc, program, &columns, number, out),

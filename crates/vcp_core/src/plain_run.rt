@@ -1,6 +1,7 @@
 //! The printing of a program's own run, cycle by cycle, as the rows come.
 
 ghost use Rattle.std.specs.Prelude.{◌≡◌, ◌+◌, ◌≤◌, ◌<◌, Option, Some, None, Ok, Err, IfOk, OnOk, OnErr, true, false, pos, [], ◌∷◌, ◌++◌, length, map, replicate, All};
+ghost use Rattle.vcp_base.specs.Limits.{most_cycles};
 ghost use Rattle.vcp_base.specs.Types.{AreIn};
 ghost use Rattle.vcp_outside.specs.Counts.{Rose};
 ghost use Rattle.vcp_outside.specs.Written.{Writes};
@@ -8,18 +9,17 @@ ghost use Rattle.vcp_typed.specs.Checked.{IsChecked};
 ghost use Rattle.vcp_typed.specs.Fitting.{AreFit, input_types, output_types};
 ghost use Rattle.vcp_typed.specs.Meaning.{Stop as StopOf};
 ghost use Rattle.vcp_typed.specs.SourceRun.{cycle as cycle_of};
-ghost use Rattle.vcp_core.specs.PlainRun.{Prints, PrintsFrom, output_columns as output_columns_of, slot_names as slot_names_of, cycle_line};
+ghost use Rattle.vcp_core.specs.PlainRun.{Prints, PrintsFrom, slot_names as slot_names_of, cycle_line};
 ghost use Rattle.vcp_core.specs.declared.fault.Fault.TheVariants as fault;
 
 use crate::fault::Fault;
 use input_rows::Rows;
 use run_report::{end_line, header_line, row_line, stop_line};
 use st_plain::Plain;
-use st_tree::Class;
 use std::alloc::Global;
-use vcp_base::{Column, Columns, Memory, Row, Text, Words};
+use vcp_base::{Columns, Memory, Row, Words};
 use vcp_outside::{Failed, Sink};
-use vcp_typed::{Slot, Typed, values_fit};
+use vcp_typed::{Slot, Typed, turns_name_slots, values_fit};
 
 /// How a run that was printed whole ended.
 #[derive(Clone, Copy, Debug, PartialEq, Eq)]
@@ -28,30 +28,6 @@ pub enum PlainEnd {
     Complete,
     /// By a stop.
     Stopped,
-}
-
-/// The names and types of the outputs, in order of declaration.
-fn output_columns(alloc: Global, slots: &[Slot]) -> Result<Columns, Memory>
-    ensures { IfOk result (λ columns. columns ≡ output_columns_of slots.now) }
-{
-    let mut columns = Columns::new(alloc);
-    'each: for slot in slots {
-        add_output(alloc, &mut columns, slot)?;
-    }
-    Ok(columns)
-}
-
-/// Appends the slot's column where the slot is an output.
-fn add_output(alloc: Global, columns: &mut Columns, slot: &Slot) -> Result<(), Memory>
-    ensures { OnOk result (columns.new ≡ columns.old ++ output_columns_of (slot.now ∷ [])) }
-{
-    match slot.class {
-        Class::Output => columns.push(Column {
-            name: Text::copy_of(alloc, slot.name.bytes())?,
-            ty: slot.ty,
-        }),
-        _ => Ok(()),
-    }
 }
 
 /// The names of all slots, in order of declaration.
@@ -97,6 +73,7 @@ fn print_cycle<O: Sink>(
     ensures stopped { IfOk result (λ more. more ≡ false → (s : StopOf) × (cycle_of plain.old.program plain.old.values inputs.now ≡ Err s)) }
 {
     values_fit();
+    turns_name_slots();
     match plain.cycle(inputs, outputs) {
         Ok(()) => {
             row_line(out, cycle, outputs)?;
@@ -126,7 +103,7 @@ fn print_cycles<O: Sink>(
     requires names { names.now ≡ slot_names_of plain.old.program.slots }
     requires types { rows.old.types ≡ input_types plain.old.program.slots }
     requires typed { All (AreIn rows.old.types) rows.old.rows }
-    requires few { length rows.old.rows ≤ 1000000 }
+    requires few { length rows.old.rows ≤ most_cycles }
     requires inputs { length inputs.old ≡ length (input_types plain.old.program.slots) }
     requires outputs { length outputs.old ≡ length (output_types plain.old.program.slots) }
     ensures prints { PrintsFrom plain.old.program 0 plain.old.values rows.old (O.written out.old) (O.written out.new) result }
@@ -154,13 +131,13 @@ pub fn print_run<O: Sink>(
 ) -> Result<PlainEnd, Fault>
     requires types { rows.old.types ≡ input_types program.now.slots }
     requires typed { All (AreIn rows.old.types) rows.old.rows }
-    requires few { length rows.old.rows ≤ 1000000 }
+    requires few { length rows.old.rows ≤ most_cycles }
     ensures prints { Prints program.now rows.old (O.written out.old) (O.written out.new) result }
     ensures write { result ≡ Err fault.Write → Rose (O.faults out.old) (O.faults out.new) }
 {
     values_fit();
     let slots = &program.slots().items;
-    let columns = output_columns(alloc, slots)?;
+    let columns = program.output_columns(alloc)?;
     let names = slot_names(alloc, slots)?;
     let mut inputs = zeros(alloc, &program.columns(alloc)?)?;
     let mut outputs = zeros(alloc, &columns)?;

@@ -14,7 +14,7 @@ pub enum Sign {
 pub enum Operand {
     /// The input.
     Input,
-    /// A number, 0 to 2147483647.
+    /// A number, from 0 to the greatest value of DINT.
     Number(i64),
 }
 

@@ -12,12 +12,6 @@ use std::alloc::Global;
 use vcp_base::Text;
 use vcp_outside::{Files, ReadAll, read_all};
 
-/// The most bytes of a source.
-pub const SOURCE_LIMIT: u64 = 1048576;
-
-/// The most bytes of a rows file.
-pub const ROWS_LIMIT: u64 = 67108864;
-
 /// Reads a file word's file whole.
 pub fn read_file<F: Files>(
     alloc: Global,

@@ -8,13 +8,10 @@ ghost use Rattle.vcp_core.specs.RowsFile.{few_records, in_dint as in_dint_of, ro
 use crate::numeral::numeral;
 use crate::pieces::Pieces;
 use std::marker::Model;
-use vcp_base::{Row, Ty, fits};
+use vcp_base::{MOST_CYCLES, Row, Ty, fits};
 
 /// The first line of a file.
 const HEADER: &[u8] = b"x";
-
-/// How many records a file may have.
-const MOST_RECORDS: u32 = 1000000;
 
 /// The rows of a file that are left, from the front, seen as a list of rows of one value. The bytes
 /// are read again as the rows are taken, so that a run keeps the file alone.
@@ -91,7 +88,7 @@ fn count_records(mut lines: Pieces<'_>) -> Option<u32>
             // What stands after the last LF.
             return if line.is_empty() { Some(count) } else { None };
         }
-        if count == MOST_RECORDS {
+        if count == MOST_CYCLES {
             return None;
         }
         value_of(line)?;

@@ -1,6 +1,7 @@
 //! The loop over the cycles of a run.
 
 ghost use Rattle.std.specs.Prelude.{◌≡◌, ◌<◌, ◌≤◌, ℕ, Ok, IfOk, IfSome, [], length, map, vec_capacity, slice_index_or};
+ghost use Rattle.vcp_base.specs.Limits.{most_cycles, most_operations, most_step};
 ghost use Rattle.vcp_outside.specs.Counts.{Rose};
 ghost use Rattle.vcp_outside.specs.Written.{Writes};
 ghost use Rattle.run_report.specs.Lines.{refused_text};
@@ -113,9 +114,9 @@ fn cycle<U: Unit>(
     outputs: &mut Row,
 ) -> CycleEnd
     requires room { length ops.now ≤ vec_capacity answers.old }
-    requires few { length ops.now ≤ 65536 }
-    requires step { setting.now.code.step ≤ 1000 }
-    requires cycle { setting.now.cycle < 1000000 }
+    requires few { length ops.now ≤ most_operations }
+    requires step { setting.now.code.step ≤ most_step }
+    requires cycle { setting.now.cycle < most_cycles }
     requires cells { length outputs.old ≡ output_count ops.now }
     ensures room { length ops.now ≤ vec_capacity answers.new }
     ensures cells { length outputs.new ≡ length outputs.old }
@@ -175,9 +176,9 @@ pub fn run_rows<U: Unit, O: Sink>(
     registers: &mut Registers,
 ) -> Result<CycleEnd, Failed>
     requires room { length ops.now ≤ vec_capacity registers.old.answers }
-    requires few { length ops.now ≤ 65536 }
-    requires step { code.step ≤ 1000 }
-    requires many { length rows.old ≤ 1000000 }
+    requires few { length ops.now ≤ most_operations }
+    requires step { code.step ≤ most_step }
+    requires many { length rows.old ≤ most_cycles }
     requires inputs { length registers.old.inputs ≡ 1 }
     requires outputs { length registers.old.outputs ≡ output_count ops.now }
     requires names { map (λ c. c.name) registers.old.names ≡ output_names }

@@ -1,13 +1,14 @@
 //! Signatures, stamps and corrections.
 
 ghost use Rattle.std.specs.Prelude.{◌≡◌, ◌+◌, ◌*◌, ◌<◌, ◌≤◌, ◌^◌, ℤ, pos, negsuc, ◌*ℤ◌, ◌-ℤ◌, ◌≤ℤ◌};
+ghost use Rattle.vcp_base.specs.Limits.{most_cycles, most_stamp, most_step};
 ghost use Rattle.vcp_base.specs.Code.{A as code_constant};
 ghost use Rattle.vcp_base.specs.Kinds.{multiplier as multiplier_of};
 ghost use Rattle.coded_unit.specs.Words.{modulo, Small};
 ghost use Rattle.vcp_core.specs.Signatures.{signature as signature_of, stamp as stamp_of, expected as expected_of, correction as correction_of};
 
 use crate::operation::Op;
-use vcp_base::{A, Residue, multiplier};
+use vcp_base::{A, Residue, SEEDS, multiplier};
 
 /// The numbers of a code.
 #[derive(Clone, Copy, Debug)]
@@ -30,23 +31,23 @@ pub fn signature(seed: u32, i: u32) -> Residue
     ensures value { result ≡ signature_of seed i }
     ensures below { result < 2 ^ 30 }
 {
-    ((seed as u64 + 214748365 * i as u64) % (1 << 30)) as u32
+    ((seed as u64 + 214748365 * i as u64) % SEEDS as u64) as u32
 }
 
 /// The stamp of a cycle, counted from 0.
 pub fn stamp(step: u32, cycle: u32) -> u32
-    requires step { step ≤ 1000 }
-    requires cycle { cycle < 1000000 }
+    requires step { step ≤ most_step }
+    requires cycle { cycle < most_cycles }
     ensures value { result ≡ stamp_of step cycle }
-    ensures below { result ≤ 1000000000 }
+    ensures below { result ≤ most_stamp }
 {
     step * (cycle + 1)
 }
 
 /// The residue that the word of operation `i` has in a cycle where nothing is amiss.
 pub fn expected(code: Code, i: u32, cycle: u32) -> Residue
-    requires step { code.step ≤ 1000 }
-    requires cycle { cycle < 1000000 }
+    requires step { code.step ≤ most_step }
+    requires cycle { cycle < most_cycles }
     ensures value { result ≡ expected_of code.seed code.step i cycle }
     ensures below { result < code_constant }
 {

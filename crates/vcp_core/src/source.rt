@@ -9,7 +9,7 @@ use crate::numeral::numeral;
 use crate::pieces::Pieces;
 use crate::program::{Operand, Sign, Term};
 use std::alloc::Global;
-use vcp_base::Memory;
+use vcp_base::{Memory, Ty, fits};
 
 /// The source up to its first term.
 const FRONT: &[u8] =
@@ -23,9 +23,6 @@ const FIRST_COL: u32 = 8;
 
 /// How many terms a source may have.
 const MOST_TERMS: usize = 64;
-
-/// The greatest number that a term may have.
-const GREATEST: u64 = 2147483647;
 
 /// The terms of a source, where it has the form; at most 64.
 pub fn read_source(alloc: Global, source: &[u8]) -> Result<Option<Vec<Term>>, Memory>
@@ -112,8 +109,7 @@ fn sign_of(word: &[u8]) -> Option<Sign>
     }
 }
 
-/// The operand that a word spells: `x`, or one to ten decimal digits with a value of at most
-/// 2147483647.
+/// The operand that a word spells: `x`, or one to ten decimal digits with a value of DINT.
 fn operand_of(word: &[u8]) -> Option<Operand>
     ensures value { result ≡ operand_of_word word.now }
     ensures fits { IfSome result OperandFits }
@@ -123,7 +119,7 @@ fn operand_of(word: &[u8]) -> Option<Operand>
         return Some(Operand::Input);
     }
     let number = numeral(word)?;
-    if number <= GREATEST {
+    if fits(Ty::Dint, number as i128) {
         Some(Operand::Number(number as i64))
     } else {
         None

@@ -17,7 +17,7 @@ use crate::plain::plain_command;
 use crate::telling::{cycle_status, fault_status, plain_status, tell, tell_usage};
 use crate::texts::text_command;
 use crate::words::{Command, FileWords, RowsWord, TextCommand, command_of};
-use coded_unit::Unit;
+use coded_unit::{Unit, right_answers_keep_the_step_law, words_split_in_one_way};
 use std::alloc::Global;
 use vcp_base::Words;
 use vcp_outside::{Failed, Files, Sink};
@@ -191,6 +191,8 @@ fn serve_run<F: Files, U: Unit, O: Sink, E: Sink>(
     ensures read { result ≡ 5 → Rose (F.faults files.old) (F.faults files.new) }
     ensures write { result ≡ 6 → Rose (O.faults out.old) (O.faults out.new) ⊎ Rose (E.faults err.old) (E.faults err.new) }
 {
+    words_split_in_one_way();
+    right_answers_keep_the_step_law();
     match run_command(alloc, names, files, unit, out) {
         Ok(end) => cycle_status(&end),
         Err(fault) => match tell(err, names, &fault) {

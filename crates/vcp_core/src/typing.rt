@@ -1,6 +1,7 @@
 //! The typed program of a source.
 
 ghost use Rattle.std.specs.Prelude.{◌≤◌, length};
+ghost use Rattle.vcp_base.specs.Limits.{most_source_bytes};
 ghost use Rattle.vcp_core.specs.PlainReach.{TypedOf};
 
 use crate::fault::Fault;
@@ -12,7 +13,7 @@ use vcp_typed::Typed;
 
 /// The typed program of a source, taken through all its refusals.
 pub fn typed_program(alloc: Global, source: &[u8]) -> Result<Typed, Fault>
-    requires short { length source.now ≤ 1048576 }
+    requires short { length source.now ≤ most_source_bytes }
     ensures typed { TypedOf source.now result }
 {
     let program = program_of(alloc, source)?;

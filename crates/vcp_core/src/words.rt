@@ -1,6 +1,7 @@
 //! The command words.
 
 ghost use Rattle.std.specs.Prelude.{◌≡◌, ◌≤◌, ◌∷◌, [], false, length, is_some, Some, IfSome, MatchOption};
+ghost use Rattle.vcp_base.specs.Limits.{most_cycles};
 ghost use Rattle.vcp_core.specs.Answers.{is_file_name as is_file_name_of, is_run};
 ghost use Rattle.vcp_core.specs.Comes.{is_check, is_format, is_form};
 ghost use Rattle.vcp_core.specs.Commands.{Says, FewCycles};
@@ -8,7 +9,7 @@ ghost use Rattle.vcp_core.specs.Numerals.{numeral_of};
 ghost use Rattle.vcp_core.specs.PlainWords.{is_plain_file, is_plain_cycles};
 
 use crate::numeral::numeral;
-use vcp_base::{Text, Words};
+use vcp_base::{MOST_CYCLES, Text, Words};
 
 /// The file words of a command.
 #[derive(Clone, Copy)]
@@ -59,9 +60,6 @@ fn is_file_name(word: &Text) -> bool
     }
 }
 
-/// The most cycles of a run.
-const MOST_CYCLES: u64 = 1000000;
-
 /// The command that the words say, where they are one of the forms.
 pub fn command_of(words: &Words) -> Option<Command<'_>>
     ensures form { MatchOption result (is_form words.now ≡ false) (Says words.now) }
@@ -109,13 +107,13 @@ fn cycles_command_of(words: &Words) -> Option<Command<'_>>
 fn plain_cycles(command: &Text, source: &Text, option: &Text, number: &Text) -> Option<u32>
     ensures form { is_some result ≡ is_plain_cycles (command.now ∷ source.now ∷ option.now ∷ number.now ∷ []) }
     ensures number { IfSome result (λ n. numeral_of number.now ≡ Some n) }
-    ensures few { IfSome result (λ n. n ≤ 1000000) }
+    ensures few { IfSome result (λ n. n ≤ most_cycles) }
 {
     let cycles = numeral(number.bytes())?;
     if command.bytes() == b"plain".as_slice()
         && is_file_name(source)
         && option.bytes() == b"--cycles".as_slice()
-        && cycles <= MOST_CYCLES
+        && cycles <= MOST_CYCLES as u64
     {
         Some(cycles as u32)
     } else {

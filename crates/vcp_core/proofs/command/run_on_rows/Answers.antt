@@ -19,7 +19,7 @@ returns-in-Some-clause-reaches g c =
 pub returns-in-Some-clause-refused : goal.returns-in-Some-clause-refused
 returns-in-Some-clause-refused g c =
     let is : rows_of c.in_ok-text.text ≡ Some c.in-Some.rows = search rules in
-    program_refused c.args.terms.now c.in-Some.rows _ c.run_program.result (rows_given c.in_ok-text.text c.in-Some.rows is).few c.run_program.ensures.runs
+    program_refused (record { words = c.words_split_in_one_way.ensures; step = c.right_answers_keep_the_step_law.ensures.step }) c.args.terms.now c.in-Some.rows _ c.run_program.result (rows_given c.in_ok-text.text c.in-Some.rows is).few c.run_program.ensures.runs
 
 pub returns-in-Some-clause-stopped : goal.returns-in-Some-clause-stopped
 returns-in-Some-clause-stopped g c = program_stopped c.args.terms.now c.in-Some.rows _ c.run_program.result c.run_program.ensures.runs

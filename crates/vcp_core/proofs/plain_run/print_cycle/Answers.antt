@@ -1,10 +1,13 @@
 use Rattle.std.proofs.Common.{◌≡◌, None, Result, List, ℤ, length, sym, ap, subst, ◌∙◌}
-use Rattle.std.specs.Prelude.{IfOk}
-use Rattle.vcp_typed.specs.Fitting.{AreFit}
+use Rattle.std.specs.Prelude.{IfOk, IfErr, Err}
+use Rattle.std.proofs.lemmas.List.{length-map}
+use Rattle.vcp_typed.specs.declared.slot.Slot.{Slot}
+use Rattle.vcp_typed.specs.Fitting.{AreFit, NameSlots}
+use Rattle.run_report.specs.Lines.{AreNamed}
 use Rattle.vcp_typed.specs.Meaning.{Stop}
 use Rattle.vcp_typed.specs.SourceRun.{cycle as cycle_of}
 use Rattle.st_plain.specs.Evaluator.{Evaluator, or_again, comes_to}
-use Rattle.vcp_core.proofs.NamedTurns.{cycle-names}
+use Rattle.vcp_core.specs.PlainRun.{slot_names}
 use Rattle.vcp_core.proofs.PlainNames.{in-length}
 use Rattle.vcp_core.proofs.plain_run.print_cycle.Goals as goal
 
@@ -12,10 +15,17 @@ use Rattle.vcp_core.proofs.plain_run.print_cycle.Goals as goal
 goes : (e : Evaluator) (row : List ℤ) (r : Result (List ℤ) Stop) → e.stop ≡ None → comes_to e row ≡ r → cycle_of e.program e.values row ≡ r
 goes e row r is h = sym (ap (λ s. or_again s (cycle_of e.program e.values row)) is) ∙ h
 
+-- turns that name slots have names among those of the slots
+named : (slots : List Slot) (r : Result (List ℤ) Stop) (s : Stop) → IfErr r (λ x. NameSlots slots x.turns) → r ≡ Err s → AreNamed s.turns (slot_names slots)
+named slots r s h is =
+    let Q : Result (List ℤ) Stop → Type 0 = λ x. IfErr x (λ y. NameSlots slots y.turns) in
+    let all : NameSlots slots s.turns = subst Q is h in
+    λ k d below. rw (length-map slots (λ s. s.name)) (all.named k d below)
+
 pub stop_line-requires : goal.stop_line-requires
 stop_line-requires g c =
     let e = c.args.plain.now in
-    rw (c.turns.ensures, c.requires.names) (cycle-names e.program e.values c.args.inputs.now _ c.requires.checked (goes e c.args.inputs.now _ c.requires.going c.in-Err.ensures.stop))
+    rw (c.turns.ensures, c.requires.names) (named e.program.slots _ _ (c.turns_name_slots.ensures.cycle e.program e.values c.args.inputs.now c.requires.checked) (goes e c.args.inputs.now _ c.requires.going c.in-Err.ensures.stop))
 
 pub returns-in_ok-row_line-in-Ok-clause-cells : goal.returns-in_ok-row_line-in-Ok-clause-cells
 returns-in_ok-row_line-in-Ok-clause-cells g c = λ _.

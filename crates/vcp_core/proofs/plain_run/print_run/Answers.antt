@@ -2,9 +2,9 @@ use Rattle.std.proofs.Common.{◌≡◌, List, length, map, sym, ap, ◌∙◌}
 use Rattle.std.proofs.lemmas.Result.{err_from_is_err_and}
 use Rattle.vcp_base.specs.declared.columns.Column.{Column}
 use Rattle.vcp_typed.specs.declared.slot.Slot.{Slot}
-use Rattle.vcp_typed.specs.Fitting.{input_types, output_types}
+use Rattle.vcp_typed.specs.Fitting.{input_types, output_types, output_columns}
 use Rattle.st_plain.specs.Evaluator.{Evaluator}
-use Rattle.vcp_core.specs.PlainRun.{output_columns, output_names_of}
+use Rattle.vcp_core.specs.PlainRun.{output_names_of}
 use Rattle.vcp_core.proofs.PlainNames.{names-of-outputs, inputs-count, outputs-count}
 use Rattle.vcp_core.proofs.PlainTurns.{header-first, header-fails}
 use Rattle.vcp_core.proofs.plain_run.print_run.Goals as goal
@@ -15,8 +15,7 @@ named slots columns is = ap (map (λ (c : Column). c.name)) is ∙ names-of-outp
 pub returns-in_err-header_line-clause-prints : goal.returns-in_err-header_line-clause-prints
 returns-in_err-header_line-clause-prints g c =
     let p = err_from_is_err_and c.from_residual-in_err-header_line.result c.from_residual-in_err-header_line.ensures.1 in
-    let slots_are = c.deref.ensures.value ∙ c.slots.ensures.slots in
-    let names = named c.args.program.now.slots c.in_ok-columns.columns (c.in_ok-columns.ensures ∙ ap output_columns slots_are) in
+    let names = named c.args.program.now.slots c.in_ok-columns.columns c.in_ok-columns.ensures in
     rw (p.1, p.2) (header-fails c.args.program.now c.args.rows.now (g.O.Sink.written c.args.out.now) (g.O.Sink.written c.header_line.new.out) (rw names at c.in_err-header_line.ensures.part))
 
 pub print_cycles-requires-clause-inputs : goal.print_cycles-requires-clause-inputs
@@ -25,11 +24,9 @@ print_cycles-requires-clause-inputs g c =
 
 pub print_cycles-requires-clause-outputs : goal.print_cycles-requires-clause-outputs
 print_cycles-requires-clause-outputs g c =
-    let slots_are = c.deref.ensures.value ∙ c.slots.ensures.slots in
-    c.in_ok-outputs.ensures ∙ ap length (c.in_ok-columns.ensures ∙ ap output_columns slots_are) ∙ outputs-count c.args.program.now.slots ∙ ap (λ (e : Evaluator). length (output_types e.program.slots)) (sym c.in_ok-plain.ensures)
+    c.in_ok-outputs.ensures ∙ ap length c.in_ok-columns.ensures ∙ outputs-count c.args.program.now.slots ∙ ap (λ (e : Evaluator). length (output_types e.program.slots)) (sym c.in_ok-plain.ensures)
 
 pub returns-clause-prints : goal.returns-clause-prints
 returns-clause-prints g c =
-    let slots_are = c.deref.ensures.value ∙ c.slots.ensures.slots in
-    let names = named c.args.program.now.slots c.in_ok-columns.columns (c.in_ok-columns.ensures ∙ ap output_columns slots_are) in
+    let names = named c.args.program.now.slots c.in_ok-columns.columns c.in_ok-columns.ensures in
     header-first c.args.program.now c.args.rows.now (g.O.Sink.written c.args.out.now) (g.O.Sink.written c.header_line.new.out) (g.O.Sink.written c.print_cycles.new.out) c.print_cycles.result (rw names at c.in_ok-header_line.ensures.whole) (rw c.in_ok-plain.ensures at c.print_cycles.ensures.prints)

@@ -1,5 +1,5 @@
 use Rattle.std.proofs.Common.{◌≡◌, ℕ, List, ◌++◌, codes, decimal, append_assoc}
-use Rattle.vcp_outside.proofs.Known.{writes_same}
+use Rattle.vcp_core.proofs.Written.{writes_same}
 use Rattle.vcp_core.specs.Reach.{refusal_code}
 use Rattle.vcp_core.proofs.telling.tell_at.Goals as goal
 

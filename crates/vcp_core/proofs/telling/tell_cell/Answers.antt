@@ -1,5 +1,5 @@
 use Rattle.std.proofs.Common.{◌≡◌, ℕ, List, ◌++◌, codes, decimal, append_assoc}
-use Rattle.vcp_outside.proofs.Known.{writes_same}
+use Rattle.vcp_core.proofs.Written.{writes_same}
 use Rattle.vcp_core.proofs.telling.tell_cell.Goals as goal
 
 pieces : (name row column : List ℕ) → name ++ (codes ":" ++ (row ++ (codes ":" ++ (column ++ codes " R3 Cell\n")))) ≡ name ++ codes ":" ++ row ++ codes ":" ++ column ++ codes " R3 Cell" ++ codes "\n"

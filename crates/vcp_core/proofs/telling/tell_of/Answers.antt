@@ -1,5 +1,5 @@
 use Rattle.std.proofs.Common.{append_assoc}
-use Rattle.vcp_outside.proofs.Known.{writes_same}
+use Rattle.vcp_core.proofs.Written.{writes_same}
 use Rattle.vcp_core.proofs.telling.tell_of.Goals as goal
 
 pub returns : goal.returns

@@ -1,5 +1,5 @@
 use Rattle.std.proofs.Common.{◌≡◌, ℕ, List, ◌++◌, codes, decimal, append_assoc}
-use Rattle.vcp_outside.proofs.Known.{writes_same}
+use Rattle.vcp_core.proofs.Written.{writes_same}
 use Rattle.vcp_core.proofs.telling.tell_record.Goals as goal
 
 pieces : (name row : List ℕ) → name ++ (codes ":" ++ (row ++ codes " R2 Width\n")) ≡ name ++ codes ":" ++ row ++ codes " R2 Width" ++ codes "\n"

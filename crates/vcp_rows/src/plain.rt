@@ -1,11 +1,11 @@
 //! Worked runs of the command `plain`.
 
-use crate::text_calls::{ADD, CROSSING, Given, give, joined, repeated, with_crlf};
-use crate::vcp;
+use crate::calls::{ADD, CROSSING, Given, give, joined, repeated, with_crlf};
 use coded_unit::CpuUnit;
 use std::alloc::Global;
 use std::test::Fail;
 use vcp_base::{Memory, Words};
+use vcp_core::vcp;
 use vcp_outside::{MemFiles, MemSink};
 
 /// What a command gives: the output, the errors, and the status.

@@ -1,9 +1,9 @@
 //! Calls of the program on texts in memory, for tests.
 
-use crate::vcp;
 use coded_unit::CpuUnit;
 use std::alloc::Global;
 use vcp_base::{Memory, Words};
+use vcp_core::vcp;
 use vcp_outside::{MemFiles, MemSink};
 
 /// The status, and what was written to the output and to the errors.

@@ -1,6 +1,6 @@
 //! Worked texts of the command `check`.
 
-use crate::text_calls::{ADD, CROSSING, give, joined, repeated, with_crlf};
+use crate::calls::{ADD, CROSSING, give, joined, repeated, with_crlf};
 use std::alloc::Global;
 use std::test::Fail;
 use vcp_base::Memory;

@@ -1,13 +1,10 @@
 //! Worked runs over files, units and sinks in memory.
 
-ghost use Rattle.std.specs.Prelude.{None};
-
-use crate::vcp;
-use coded_unit::table::answer;
-use coded_unit::{Answer, Call, CpuUnit, LogUnit, Unit, Word};
+use coded_unit::{Answer, BadUnit, CpuUnit, LogUnit, Unit, Word};
 use std::alloc::{AllocError, Global};
 use std::test::Fail;
 use vcp_base::{Memory, Words};
+use vcp_core::vcp;
 use vcp_outside::{MemFiles, MemSink};
 
 const HEAD: &[u8] = b"PROGRAM p\nVAR_INPUT x : DINT; END_VAR\nVAR_OUTPUT y : DINT; END_VAR\n";
@@ -247,50 +244,20 @@ fn a_full_sink_keeps_a_front(rt: HostRuntime) -> Result<(), Fail> {
     Ok(())
 }
 
-/// A unit that gives one answer of its own, and is honest else.
-#[derive(Drop)]
-struct OneWrong {
-    op: u32,
-    instead: Answer,
-    wrong: u64,
-}
-
-impl Unit for OneWrong {
-    ghost log = { λ _. None };
-
-    ghost wrong = { λ u. u.wrong };
-
-    fn perform(&mut self, call: &Call) -> Answer {
-        let right = answer(call);
-        let given = if call.op == self.op {
-            self.instead
-        } else {
-            right
-        };
-        if given != right {
-            self.wrong = self.wrong.saturating_add(1);
-        }
-        given
-    }
-}
-
 #[test]
 fn an_output_with_a_wrong_residue_is_refused(rt: HostRuntime) -> Result<(), Fail> {
     let alloc = rt.alloc();
     let words = run_add(alloc)?;
     let mut files = files(alloc, ADD, b"x\n5\n7\n")?;
     // The word of value 6 and residue 5.
-    let mut unit = OneWrong {
-        op: 3,
-        instead: Answer::Word(Word::new(12884901887).ok_or("no word")?),
-        wrong: 0,
-    };
+    let mut unit = BadUnit::new(alloc, 8)?;
+    unit.replace(3, Answer::Word(Word::new(12884901887).ok_or("no word")?))?;
     let run = run_on(alloc, &words, &mut files, &mut unit)?;
     assert_eq!(rt; run.status, 3);
     assert_eq!(rt;
         run.out.bytes(),
         b"cycle,y\nrefused 0 y found 5 expected 949664992\n".as_slice()
     );
-    assert_eq!(rt; unit.wrong, 1);
+    assert_eq!(rt; unit.wrong(), 1);
     Ok(())
 }

@@ -1,0 +1,48 @@
+-- Bytes that were written in one step and then another.
+use Rattle.std.proofs.Common.{◌≡◌, ℕ, ◌-◌, ◌≤◌, Result, Err, arith, length-append, List, ◌++◌, length, take, drop, Option, append_assoc}
+use Rattle.std.proofs.KnownBytes.{Appends-trans}
+use Rattle.std.proofs.Math.Seq.{take-length}
+use Rattle.std.proofs.lemmas.List.{length-drop}
+use Rattle.std.specs.Io.KnownBytes.{Appends}
+use Rattle.vcp_outside.specs.Counts.{last_count}
+use Rattle.vcp_outside.specs.Written.{AppendsPart, Writes}
+
+-- some bytes were written and then others, which together are all of these
+pub appends-appends : (a b c : Option (List ℕ)) (p q all : List ℕ) → Appends a b p → Appends b c q → all ≡ p ++ q → Appends a c all
+appends-appends a b c p q all first second is = rw is (Appends-trans a b c p q first second)
+
+-- the list of `&s[n..]`
+pub tail_slice : (n : ℕ) (s : List ℕ) → take (length s - n) (drop n s) ≡ drop n s
+tail_slice n s = rw (← (length-drop n s)) (take-length (drop n s))
+
+-- a part of some bytes, written after others, is a part of all of them with more behind
+pub part-after : (a b c : Option (List ℕ)) (p q more all : List ℕ) → Appends a b p → AppendsPart b c q → all ≡ p ++ q ++ more → AppendsPart a c all
+part-after a b c p q more all before (front, rest, is, some, taken) whole =
+    (p ++ front, rest ++ more, rw (whole, is) (simp append_assoc), rw length-append (omega arith), Appends-trans a b c p front before taken)
+
+-- some bytes were written, and then a call failed in the midst of others
+pub failed_after : {T E : Type 0} (e : E) (a b c : Option (List ℕ)) (f g h : ℕ) (p q more all : List ℕ)
+    → Appends a b p → f ≤ g → (f ≤ last_count → g ≤ last_count) → Writes {T = T} b c g h q (Err e) → all ≡ p ++ q ++ more → Writes {T = T} a c f h all (Err e)
+failed_after e a b c f g h p q more all before later capped failure is = record {
+  whole = tt;
+  part = part-after a b c p q more all before failure.part is;
+  cause = record {
+    later = omega (arith, failure.cause.later);
+    capped = λ within. failure.cause.capped (capped within);
+    failed = omega (arith, failure.cause.failed);
+  };
+}
+
+-- a call failed in the midst of the first bytes
+pub failed_start : {T E : Type 0} (e : E) (a b : Option (List ℕ)) (f g : ℕ) (p more all : List ℕ)
+    → Writes {T = T} a b f g p (Err e) → all ≡ p ++ more → Writes {T = T} a b f g all (Err e)
+failed_start e a b f g p more all failure whole =
+    let (front, rest, is, some, taken) = failure.part in record {
+      whole = tt;
+      part = (front, rest ++ more, rw (whole, is) (simp append_assoc), rw length-append (omega arith), taken);
+      cause = failure.cause;
+    }
+
+-- the same bytes, written otherwise
+pub writes_same : {T E : Type 0} {a b : Option (List ℕ)} {f g : ℕ} {p q : List ℕ} {r : Result T E} → Writes a b f g p r → q ≡ p → Writes a b f g q r
+writes_same written is = rw is written
