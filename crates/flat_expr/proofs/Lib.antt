@@ -1,0 +1,16 @@
+pub mod Absolute
+pub mod Arguments
+pub mod Assigning
+pub mod Beginning
+pub mod Calls
+pub mod Closing
+pub mod Exprs
+pub mod Guarded
+pub mod Loads
+pub mod Operators
+pub mod Ops
+pub mod Refusals
+pub mod Runs
+pub mod Steps
+pub mod Turns
+pub mod Worked

@@ -1,0 +1,128 @@
+-- Ops: operations that the rules allow, and the places of operands.
+use Rattle.std.proofs.Common.{◌≡◌, ℕ, zero, suc, ◌<◌, ◌≤◌, ℤ, pos, Bool, true, false, ◌&&◌, List, [], ◌∷◌, ◌++◌, length, slice_get, Option, Some, None, refl, ap, ◌∙◌, arith, nat_le}
+use Rattle.std.proofs.lemmas.Bool.Decides.{nat_tests}
+use Rattle.std.proofs.lemmas.Option.{slice_get_within}
+use Rattle.vcp_base.specs.declared.spot.Spot.{Spot}
+use Rattle.vcp_base.specs.declared.ty.Ty.{Ty}
+use Rattle.vcp_base.specs.declared.ty.Ty.TheVariants as ty
+use Rattle.vcp_base.specs.declared.kind.Kind.{Kind}
+use Rattle.vcp_base.specs.declared.kind.Kind.TheVariants as kind
+use Rattle.vcp_base.specs.Types.{within, fits}
+use Rattle.op_graph.specs.declared.op.Op.{Op}
+use Rattle.op_graph.specs.Building.{nowhere}
+use Rattle.op_graph.specs.Rules.{OpFits, kind_fits, types_fit, from_fits, takes_type, ty_fits, same_type, entry_of, imm_fits, turn_fits, reads_as, operand_fits}
+use Rattle.vcp_base.specs.Values.{at}
+use Rattle.op_graph.specs.GraphRun.{own, read}
+use Rattle.flat_expr.specs.State.{IsA, IsPlace, is_plain, reads}
+
+-- what the rules and the run say of a plain kind
+pub record Plain (k : Kind) : Type 0 where
+  pub kind : kind_fits nowhere k ≡ true
+  pub entry : entry_of nowhere k ≡ None
+  pub imm : (to : Ty) → imm_fits None k to (pos 0) ≡ true
+  pub reads : (from : Ty) (j : ℕ) → reads_as k from j ≡ reads k from j
+  pub read : (cells vs : List ℤ) (imm : ℤ) (n : ℕ) → read cells vs k imm n ≡ at vs n
+  pub own : (row : List ℤ) (imm : ℤ) → own row k imm ≡ imm
+
+pub plain : (k : Kind) → is_plain k ≡ true → Plain k
+plain kind.Input h = absurd cc
+plain kind.Const h = absurd cc
+plain kind.Load h = absurd cc
+plain kind.Store h = absurd cc
+plain kind.Out h = absurd cc
+plain kind.Conv h = record { kind = refl; entry = refl; imm = λ to. refl; reads = λ from j. refl; read = λ cells vs imm n. refl; own = λ row imm. refl }
+plain kind.Neg h = record { kind = refl; entry = refl; imm = λ to. refl; reads = λ from j. refl; read = λ cells vs imm n. refl; own = λ row imm. refl }
+plain kind.Not h = record { kind = refl; entry = refl; imm = λ to. refl; reads = λ from j. refl; read = λ cells vs imm n. refl; own = λ row imm. refl }
+plain kind.Add h = record { kind = refl; entry = refl; imm = λ to. refl; reads = λ from j. refl; read = λ cells vs imm n. refl; own = λ row imm. refl }
+plain kind.Sub h = record { kind = refl; entry = refl; imm = λ to. refl; reads = λ from j. refl; read = λ cells vs imm n. refl; own = λ row imm. refl }
+plain kind.Mul h = record { kind = refl; entry = refl; imm = λ to. refl; reads = λ from j. refl; read = λ cells vs imm n. refl; own = λ row imm. refl }
+plain kind.Div h = record { kind = refl; entry = refl; imm = λ to. refl; reads = λ from j. refl; read = λ cells vs imm n. refl; own = λ row imm. refl }
+plain kind.Mod h = record { kind = refl; entry = refl; imm = λ to. refl; reads = λ from j. refl; read = λ cells vs imm n. refl; own = λ row imm. refl }
+plain kind.Eq h = record { kind = refl; entry = refl; imm = λ to. refl; reads = λ from j. refl; read = λ cells vs imm n. refl; own = λ row imm. refl }
+plain kind.Lt h = record { kind = refl; entry = refl; imm = λ to. refl; reads = λ from j. refl; read = λ cells vs imm n. refl; own = λ row imm. refl }
+plain kind.And h = record { kind = refl; entry = refl; imm = λ to. refl; reads = λ from j. refl; read = λ cells vs imm n. refl; own = λ row imm. refl }
+plain kind.Or h = record { kind = refl; entry = refl; imm = λ to. refl; reads = λ from j. refl; read = λ cells vs imm n. refl; own = λ row imm. refl }
+plain kind.Xor h = record { kind = refl; entry = refl; imm = λ to. refl; reads = λ from j. refl; read = λ cells vs imm n. refl; own = λ row imm. refl }
+plain kind.Sel h = record { kind = refl; entry = refl; imm = λ to. refl; reads = λ from j. refl; read = λ cells vs imm n. refl; own = λ row imm. refl }
+
+both_true : (a b : Bool) → (a && b) ≡ true → (a ≡ true) × (b ≡ true)
+both_true true true h = (refl, refl)
+both_true true false h = absurd cc
+both_true false b h = absurd cc
+
+pub get_push : {X : Type 0} (xs : List X) (y : X) (i : ℕ) → i < length xs → slice_get (xs ++ y ∷ []) i ≡ slice_get xs i
+get_push [] y i lt = absurd (omega arith)
+get_push (x ∷ xs) y zero lt = refl
+get_push (x ∷ xs) y (suc i) lt = get_push xs y i (omega arith)
+
+pub get_last : {X : Type 0} (xs : List X) (y : X) → slice_get (xs ++ y ∷ []) (length xs) ≡ Some y
+get_last [] y = refl
+get_last (x ∷ xs) y = get_last xs y
+
+pub turn_is : (n m : ℕ) → n ≤ m → nat_le n m ≡ true
+turn_is n m h = grind (arith, nat_tests)
+
+-- a plain operation whose operands are there
+pub plain_fits : (k : Kind) (from to : Ty) (a b c : ℕ) (spot : Spot) (turn nodes : ℕ) (ops : List Op) → is_plain k ≡ true → types_fit k from to ≡ true →
+    operand_fits ops (reads k from 0) a ≡ true → operand_fits ops (reads k from 1) b ≡ true → operand_fits ops (reads k from 2) c ≡ true → turn ≤ nodes →
+    OpFits nowhere nodes ops (record { kind = k; from = from; ty = to; a = a; b = b; c = c; imm = pos 0; spot = spot; turn = turn })
+plain_fits k from to a b c spot turn nodes ops is types fa fb fc le =
+    let p = plain k is in
+    record {
+      kind = p.kind;
+      from = ap (λ e. from_fits e k from) p.entry ∙ (both_true (takes_type k from) (ty_fits k from to) types).0;
+      ty = (both_true (takes_type k from) (ty_fits k from to) types).1;
+      a = ap (λ r. operand_fits ops r a) (p.reads from 0) ∙ fa;
+      b = ap (λ r. operand_fits ops r b) (p.reads from 1) ∙ fb;
+      c = ap (λ r. operand_fits ops r c) (p.reads from 2) ∙ fc;
+      imm = ap (λ e. imm_fits e k to (pos 0)) p.entry ∙ p.imm to;
+      turn = ap (λ e. turn_fits e nodes turn) p.entry ∙ turn_is turn nodes le;
+    }
+
+-- a constant
+pub const_fits : (to : Ty) (v : ℤ) (spot : Spot) (turn nodes : ℕ) (ops : List Op) → fits to v ≡ true → turn ≤ nodes →
+    OpFits nowhere nodes ops (record { kind = kind.Const; from = to; ty = to; a = 0; b = 0; c = 0; imm = v; spot = spot; turn = turn })
+const_fits to v spot turn nodes ops h le = record { kind = refl; from = refl; ty = same_self to; a = refl; b = refl; c = refl; imm = h; turn = turn_is turn nodes le }
+  where
+    same_self : (t : Ty) → same_type t t ≡ true
+    same_self ty.Bool = refl
+    same_self ty.Int = refl
+    same_self ty.Dint = refl
+
+-- ---- places
+
+pub within_self : (t : Ty) → within t t ≡ true
+within_self ty.Bool = refl
+within_self ty.Int = refl
+within_self ty.Dint = refl
+
+-- an operation that may be read as a type
+pub record There (t : Ty) (ops : List Op) (k : ℕ) : Type 0 where
+  pub op : Op
+  pub is : slice_get ops k ≡ Some op
+  pub type : within op.ty t ≡ true
+
+there_of : (t : Ty) (ops : List Op) (k : ℕ) (o : Option Op) → slice_get ops k ≡ o → (elim o [ None ↦ false | Some op ↦ within op.ty t ]) ≡ true → There t ops k
+there_of t ops k None e h = absurd cc
+there_of t ops k (Some op) e h = record { op = op; is = e; type = h }
+
+pub there : (t : Ty) (ops : List Op) (k : ℕ) → IsA t ops k → There t ops k
+there t ops k h = there_of t ops k (slice_get ops k) refl h
+
+pub isa : (t : Ty) (ops : List Op) (k : ℕ) (op : Op) → slice_get ops k ≡ Some op → within op.ty t ≡ true → IsA t ops k
+isa t ops k op e h = ap (λ o. elim o [ None ↦ false | Some op ↦ within op.ty t ]) e ∙ h
+
+pub isa_below : (t : Ty) (ops : List Op) (k : ℕ) → IsA t ops k → k < length ops
+isa_below t ops k h = let p = there t ops k h in slice_get_within ops k p.op p.is
+
+pub isa_push : (t : Ty) (ops : List Op) (op : Op) (k : ℕ) → IsA t ops k → IsA t (ops ++ op ∷ []) k
+isa_push t ops op k h =
+    let p = there t ops k h in
+    isa t (ops ++ op ∷ []) k p.op (get_push ops op k (isa_below t ops k h) ∙ p.is) p.type
+
+pub isa_last : (t : Ty) (ops : List Op) (op : Op) (k : ℕ) → k ≡ length ops → op.ty ≡ t → IsA t (ops ++ op ∷ []) k
+isa_last t ops op k e h = isa t (ops ++ op ∷ []) k op (ap (slice_get (ops ++ op ∷ [])) e ∙ get_last ops op) (ap (λ x. within x t) h ∙ within_self t)
+
+pub place_push : (t : Ty) (ops : List Op) (op : Op) (o : Option ℕ) → IsPlace t ops o → IsPlace t (ops ++ op ∷ []) o
+place_push t ops op None h = h
+place_push t ops op (Some k) h = isa_push t ops op k h

@@ -1,0 +1,36 @@
+use Rattle.std.proofs.Common.{◌≡◌, ℕ, List, Option, None, sym, ap, ◌∙◌, subst}
+use Rattle.op_graph.specs.Lists.{Lists}
+use Rattle.op_graph.specs.Rules.{IsPart}
+use Rattle.vcp_typed.specs.declared.slot.Slot.{Slot}
+use Rattle.flat_expr.specs.Begin.{entered, held_from}
+use Rattle.flat_expr.specs.State.{State, IsState, Begins}
+use Rattle.flat_expr.specs.Told.{names_of}
+use Rattle.flat_expr.proofs.Beginning.{begins}
+use Rattle.flat_expr.proofs.flat.Flat.new.Goals as goal
+
+-- a state before the body
+before : List Slot → Lists → List (Option ℕ) → State
+before slots graph known = record { slots = slots; graph = graph; known = known; path = None; turn = 0; nought = None; unit = None }
+
+same_state : (l m : List Slot) (g h : Lists) (k n : List (Option ℕ)) → l ≡ m → g ≡ h → k ≡ n → before l g k ≡ before m h n
+same_state l m g h k n e f q = ap (λ x. before x g k) e ∙ ap (λ x. before m x k) f ∙ ap (λ x. before m h x) q
+
+pub invariant_of-result : goal.invariant_of-result
+unfolding before
+invariant_of-result c =
+    let p = c.args.program.now in
+    let slots : c.deref-2.result.now ≡ p.slots = c.deref-2.ensures.value ∙ c.slots-slots.ensures.slots in
+    let graph : c.enter_all.new.graph ≡ entered (names_of p.slots) p.slots = c.in_ok-known.ensures.graph ∙ ap (λ l. entered (names_of l) l) slots in
+    let known : c.in_ok-known.known.items ≡ held_from 0 p.slots = c.in_ok-known.ensures.known ∙ ap (held_from 0) slots in
+    let all = begins p c.slots-slots.ensures.checked (subst IsPart graph c.len-rules.ensures.rules) c.operands_are_in_their_types.ensures in
+    subst IsState (sym (same_state c.slots-slots.result.now.items.items p.slots c.enter_all.new.graph _ c.in_ok-known.known.items _ c.slots-slots.ensures.slots graph known)) all.state
+
+pub returns : goal.returns
+unfolding before
+returns c =
+    let p = c.args.program.now in
+    let slots : c.deref-2.result.now ≡ p.slots = c.deref-2.ensures.value ∙ c.slots-slots.ensures.slots in
+    let graph : c.enter_all.new.graph ≡ entered (names_of p.slots) p.slots = c.in_ok-known.ensures.graph ∙ ap (λ l. entered (names_of l) l) slots in
+    let known : c.in_ok-known.known.items ≡ held_from 0 p.slots = c.in_ok-known.ensures.known ∙ ap (held_from 0) slots in
+    let all = begins p c.slots-slots.ensures.checked (subst IsPart graph c.len-rules.ensures.rules) c.operands_are_in_their_types.ensures in
+    subst (λ s. Begins s p) (sym (same_state c.slots-slots.result.now.items.items p.slots c.enter_all.new.graph _ c.in_ok-known.known.items _ c.slots-slots.ensures.slots graph known)) all

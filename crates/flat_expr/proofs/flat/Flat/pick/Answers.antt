@@ -1,0 +1,13 @@
+use Rattle.std.proofs.lemmas.Result.{IfOk-weaker}
+use Rattle.flat_expr.proofs.Operators.{picked}
+use Rattle.std.proofs.Common.{◌+◌, arith}
+use Rattle.flat_expr.proofs.Refusals.{later_refuses, more_refuses}
+use Rattle.flat_expr.proofs.flat.Flat.pick.Goals as goal
+
+pub returns-clause-made : goal.returns-clause-made
+returns-clause-made c =
+    IfOk-weaker c.add-2.result _ _ (λ k p.
+    picked c.args.self.now c.add.new.self c.add-2.new.self c.args.ty c.args.x c.args.y c.args.a c.args.b c.in_ok-r.r k c.args.spot c.requires.a c.requires.b c.in_ok-r.ensures.made p) c.add-2.ensures.made
+
+pub returns-clause-refuses : goal.returns-clause-refuses
+returns-clause-refuses c = more_refuses c.args.self.now c.add-2.new.self (1 + 1) 2 c.add-2.result (omega arith) (later_refuses c.args.self.now c.add.new.self c.add-2.new.self 1 1 c.add-2.result c.in_ok-r.ensures.made.follows c.in_ok-r.ensures.made.count c.add-2.ensures.refuses)

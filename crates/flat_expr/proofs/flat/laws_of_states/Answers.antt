@@ -1,0 +1,13 @@
+use Rattle.flat_expr.proofs.Runs.{run-length, typed}
+use Rattle.flat_expr.proofs.Ops.{isa_below}
+use Rattle.flat_expr.proofs.Steps.{follows-trans, knows-kept}
+use Rattle.flat_expr.proofs.flat.laws_of_states.Goals as goal
+
+pub returns : goal.returns
+returns c = record {
+  long = run-length;
+  typed = λ s cells row start vs t k i r loaded h. typed i.laws s.graph cells row start vs i.part loaded r t k h;
+  knows = knows-kept;
+  follows = follows-trans;
+  below = isa_below;
+}

@@ -1,0 +1,12 @@
+use Rattle.std.proofs.Common.{length, refl, sym, ap, subst}
+use Rattle.std.proofs.lemmas.Option.{slice_get_read}
+use Rattle.vcp_base.specs.Names.{NameFits}
+use Rattle.op_graph.specs.Lists.{Lists}
+use Rattle.flat_expr.proofs.Beginning.{own_name_fits}
+use Rattle.flat_expr.proofs.flat.named.Goals as goal
+
+pub name-requires-clause-fits : goal.name-requires-clause-fits
+name-requires-clause-fits c =
+    let there = slice_get_read c.args.slots.now (length c.args.slots.now) c.names.slot-index c.slot-item.result refl c.names-test.true c.slot-item.is in
+    subst (λ names. NameFits (λ n. n) names c.slot-item.result.name) (sym (ap (λ (g : Lists). g.names) c.names.invariant))
+    (own_name_fits c.args.slots.now c.names.slot-index c.slot-item.result c.requires.names there)

@@ -1,0 +1,19 @@
+-- Laws: what holds of every state of a flattening, and of its runs.
+use Rattle.std.specs.Prelude.{◌≡◌, ℕ, ◌<◌, true, ℤ, List, length, Ok}
+use Rattle.vcp_base.specs.declared.ty.Ty.{Ty}
+use Rattle.vcp_base.specs.Types.{fits}
+use Rattle.op_graph.specs.declared.op.Op.{Op}
+use Rattle.op_graph.specs.Lists.{Lists}
+use Rattle.vcp_base.specs.Values.{at}
+use Rattle.flat_expr.specs.State.{State, IsState, IsA, AreLoaded, Knows, Kept, Follows, run}
+
+pub record Laws : Type 0 where
+  -- a run without a stop has a value for each operation
+  pub long : (g : Lists) (cells row vs : List ℤ) → run g cells row ≡ Ok vs → length vs ≡ length g.operations
+  -- an operation's value may be read where the operation may
+  pub typed : (s : State) (cells row start vs : List ℤ) (t : Ty) (k : ℕ) → IsState s → run s.graph cells row ≡ Ok vs → AreLoaded s.graph.loads cells start → IsA t s.graph.operations k → fits t (at vs k) ≡ true
+  -- what is known stays where the earlier values stay
+  pub knows : (s : State) (start now vs ws : List ℤ) → IsState s → length vs ≡ length s.graph.operations → Kept vs ws → Knows s start now vs → Knows s start now ws
+  pub follows : (a b c : State) → Follows a b → Follows b c → Follows a c
+  -- an operation that may be read is there
+  pub below : (t : Ty) (ops : List Op) (k : ℕ) → IsA t ops k → k < length ops

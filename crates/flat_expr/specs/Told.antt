@@ -1,0 +1,68 @@
+-- Told: a run as it is told. The run of a program and the run of a graph each have one function into it.
+use Rattle.std.specs.Prelude.{◌≡◌, ℕ, ℤ, List, [], map, slice_get, slice_index_or, Option, Some, None}
+use Rattle.vcp_base.specs.declared.spot.Spot.{Spot}
+use Rattle.vcp_base.specs.declared.turns.Turn.{Turn}
+use Rattle.vcp_base.specs.declared.kind.StopKind.{StopKind}
+use Rattle.op_graph.specs.declared.op.Op.{Op}
+use Rattle.op_graph.specs.Lists.{Lists, column, output_column, turns_of}
+use Rattle.op_graph.specs.GraphRun.{graph_run, Stop as Halt}
+use Rattle.vcp_typed.specs.declared.slot.Slot.{Slot}
+use Rattle.vcp_typed.specs.Meaning.{Stop}
+use Rattle.vcp_typed.specs.Fitting.{AreRows, input_types, input_columns, output_columns}
+use Rattle.vcp_typed.specs.SourceRun.{Program, source_run}
+
+-- one turn of a FOR: its control variable's name, and the value
+pub record ToldTurn : Type 0 where
+  pub name : List ℕ
+  pub value : ℤ
+
+-- a stop: why, where, and in which turns, outermost first
+pub record ToldStop : Type 0 where
+  pub kind : StopKind
+  pub spot : Spot
+  pub turns : List ToldTurn
+
+-- the rows of the outputs, and the stop that ended the run, or none
+pub record Told : Type 0 where
+  pub rows : List (List ℤ)
+  pub end : Option ToldStop
+
+-- a turn whose name is a number in a list of names
+abbrev pub told_turn : List (List ℕ) → Turn → ToldTurn
+told_turn names t = record { name = slice_index_or names t.name []; value = t.value }
+
+abbrev pub told_stop : List (List ℕ) → StopKind → Spot → List Turn → ToldStop
+told_stop names kind spot turns = record { kind = kind; spot = spot; turns = map (told_turn names) turns }
+
+-- ---- the run of a program
+
+abbrev pub names_of : List Slot → List (List ℕ)
+names_of slots = map (λ s. s.name) slots
+
+abbrev pub source_end : List (List ℕ) → Option Stop → Option ToldStop
+source_end names None = None
+source_end names (Some s) = Some (told_stop names s.kind s.spot s.turns)
+
+abbrev pub told_source : Program → List (List ℤ) → Told
+told_source p rows = record { rows = (source_run p rows).rows; end = source_end (names_of p.slots) (source_run p rows).end }
+
+-- ---- the run of a graph
+
+abbrev pub halted_at : Lists → StopKind → Option Op → Option ToldStop
+halted_at g kind None = None
+halted_at g kind (Some op) = Some (told_stop g.names kind op.spot (turns_of g op.turn))
+
+abbrev pub graph_end : Lists → Option Halt → Option ToldStop
+graph_end g None = None
+graph_end g (Some s) = halted_at g s.kind (slice_get g.operations s.op)
+
+abbrev pub told_graph : Lists → List (List ℤ) → Told
+told_graph g rows = record { rows = (graph_run g rows).rows; end = graph_end g (graph_run g rows).end }
+
+-- ---- meaning
+
+-- the graph means the program: its inputs and outputs are the program's, and over all rows that fit both runs are told the same
+pub record Means (g : Lists) (p : Program) : Type 0 where
+  pub inputs : map (column g.names) g.inputs ≡ input_columns p.slots
+  pub outputs : map (output_column g.names) g.outputs ≡ output_columns p.slots
+  pub runs : (rows : List (List ℤ)) → AreRows (input_types p.slots) rows → told_graph g rows ≡ told_source p rows

@@ -1,0 +1,119 @@
+//! The end of a cycle: the OUTs, and the STOREs of the slots' present values.
+
+ghost use Rattle.std.specs.Prelude.{◌≡◌, ◌<◌, ◌+◌, ℕ, length, get_or, slice_get, Some, None, IfOk, IfErr, OnOk};
+ghost use Rattle.op_graph.specs.declared.build.Build.TheVariants as build;
+ghost use Rattle.vcp_base.specs.Limits.{most_operations};
+ghost use Rattle.vcp_typed.specs.SourceRun.{is_output as is_output_of};
+ghost use Rattle.flat_expr.specs.Closing.{Closes};
+ghost use Rattle.flat_expr.specs.State.{State, reserved, last_size};
+
+use op_graph::{Build, GraphBuilder};
+use st_tree::Class;
+use vcp_typed::{Slot, Slots};
+
+/// Adds the OUTs in order of declaration, each with the LOAD of its output where no operation holds
+/// the output's value.
+pub(crate) fn close_outputs(
+    slots: &Slots,
+    graph: &mut GraphBuilder,
+    known: &mut Vec<Option<u32>>,
+) -> Result<(), Build>
+    requires { (s : State) × Closes s 0 0 graph.old known.old.items × (s.slots ≡ slots.now.items.items) }
+    ensures made { (s : State) → Closes s 0 0 graph.old known.old.items → s.slots ≡ slots.now.items.items → OnOk result (Closes s (length s.slots) 0 graph.new known.new.items) }
+    ensures refuses { (s : State) → Closes s 0 0 graph.old known.old.items → s.slots ≡ slots.now.items.items → IfErr result (λ why. why ≡ build.Full → most_operations < reserved s + last_size s.slots) }
+{
+    'outputs: for slot in 0..slots.len() {
+        close_output(slots, graph, known, slot as u32)?;
+    }
+    Ok(())
+}
+
+/// Adds the OUT of a slot that is an output.
+fn close_output(
+    slots: &Slots,
+    graph: &mut GraphBuilder,
+    known: &mut Vec<Option<u32>>,
+    slot: u32,
+) -> Result<(), Build>
+    requires { (s : State) × Closes s slot 0 graph.old known.old.items × (s.slots ≡ slots.now.items.items) × (slot < length s.slots) }
+    ensures made { (s : State) → Closes s slot 0 graph.old known.old.items → s.slots ≡ slots.now.items.items → OnOk result (Closes s (slot + 1) 0 graph.new known.new.items) }
+    ensures refuses { (s : State) → Closes s slot 0 graph.old known.old.items → s.slots ≡ slots.now.items.items → IfErr result (λ why. why ≡ build.Full → most_operations < reserved s + last_size s.slots) }
+{
+    let variable = slots.at(slot as usize);
+    if !is_output(variable.class) {
+        return Ok(());
+    }
+    let k = held(graph, known, slot, variable)?;
+    graph.output(slot, variable.ty, k, variable.spot)?;
+    let _rules = graph.len();
+    Ok(())
+}
+
+/// Whether a variable of the class is an output.
+fn is_output(class: Class) -> bool
+    ensures { result ≡ is_output_of class }
+{
+    match class {
+        Class::Output => true,
+        Class::Input | Class::Local | Class::Retain | Class::Constant => false,
+    }
+}
+
+/// The operation that holds a slot's value: the slot's LOAD, which is added, where there is none.
+fn held(
+    graph: &mut GraphBuilder,
+    known: &mut Vec<Option<u32>>,
+    slot: u32,
+    variable: &Slot,
+) -> Result<u32, Build>
+    requires { (s : State) × (n : ℕ) × Closes s n 0 graph.old known.old.items × (slice_get s.slots slot ≡ Some variable.now) }
+    ensures made { (s : State) (n : ℕ) → Closes s n 0 graph.old known.old.items → slice_get s.slots slot ≡ Some variable.now → IfOk result (λ k. Closes s n 0 graph.new known.new.items × (get_or known.new.items slot None ≡ Some k)) }
+    ensures refuses { (s : State) (n : ℕ) → Closes s n 0 graph.old known.old.items → slice_get s.slots slot ≡ Some variable.now → IfErr result (λ why. why ≡ build.Full → most_operations < reserved s + last_size s.slots) }
+{
+    if let Some(k) = known[slot as usize] {
+        return Ok(k);
+    }
+    let k = graph.load(slot, variable.ty, variable.init, variable.spot)?;
+    let _rules = graph.len();
+    known[slot as usize] = Some(k);
+    Ok(k)
+}
+
+/// Adds the STOREs in order of the cells.
+pub(crate) fn close_cells(
+    slots: &Slots,
+    graph: &mut GraphBuilder,
+    known: &[Option<u32>],
+) -> Result<(), Build>
+    requires { (s : State) × (n : ℕ) × Closes s n 0 graph.old known.now × (s.slots ≡ slots.now.items.items) }
+    ensures made { (s : State) (n : ℕ) → Closes s n 0 graph.old known.now → s.slots ≡ slots.now.items.items → OnOk result (Closes s n (length graph.new.loads) graph.new known.now) }
+    ensures refuses { (s : State) (n : ℕ) → Closes s n 0 graph.old known.now → s.slots ≡ slots.now.items.items → IfErr result (λ why. why ≡ build.Full → most_operations < reserved s + last_size s.slots) }
+{
+    let last = graph.cells();
+    'cells: for cell in 0..last {
+        close_cell(slots, graph, known, cell)?;
+    }
+    Ok(())
+}
+
+/// Adds the STORE of a cell, the first that has none.
+fn close_cell(
+    slots: &Slots,
+    graph: &mut GraphBuilder,
+    known: &[Option<u32>],
+    cell: u32,
+) -> Result<(), Build>
+    requires { (s : State) × (n : ℕ) × Closes s n cell graph.old known.now × (s.slots ≡ slots.now.items.items) × (cell < length graph.old.loads) }
+    ensures made { (s : State) (n : ℕ) → Closes s n cell graph.old known.now → s.slots ≡ slots.now.items.items → OnOk result (Closes s n (cell + 1) graph.new known.now) }
+    ensures loads { OnOk result (graph.new.loads ≡ graph.old.loads) }
+    ensures refuses { (s : State) (n : ℕ) → Closes s n cell graph.old known.now → s.slots ≡ slots.now.items.items → IfErr result (λ why. why ≡ build.Full → most_operations < reserved s + last_size s.slots) }
+{
+    let loaded = graph.cell(cell);
+    let variable = slots.at(loaded.name as usize);
+    let Some(k) = known[loaded.name as usize] else {
+        unreachable!();
+    };
+    graph.store(cell, k, variable.spot)?;
+    let _rules = graph.len();
+    Ok(())
+}
