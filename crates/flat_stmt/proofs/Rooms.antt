@@ -1,0 +1,25 @@
+-- Rooms: why there may be no room, after a step.
+use Rattle.std.proofs.Common.{◌≡◌, ℕ, ◌+◌, ◌≤◌, Result, Ok, Err, sym, ◌∙◌, arith}
+use Rattle.std.specs.Prelude.{IfErr}
+use Rattle.op_graph.specs.declared.build.Build.{Build}
+use Rattle.op_graph.specs.declared.build.Build.TheVariants as build
+use Rattle.flat_expr.specs.State.{State, Refuses, reserved}
+use Rattle.flat_stmt.specs.Parts.{Fills}
+
+pub refused_fills : {A : Type 0} → (old mid new : State) (n1 n2 n : ℕ) (r : Result A Build) → reserved mid ≤ reserved old + n1 → n1 + n2 ≤ n → IfErr r (λ e. Refuses mid new n2 e) → IfErr r (λ e. Fills old n e)
+refused_fills old mid new n1 n2 n (Ok k) le fits h = tt
+refused_fills old mid new n1 n2 n (Err e) le fits h = λ is. omega (arith, h.room is, le, fits)
+
+pub fills_later : {A : Type 0} → (old mid : State) (n1 n2 n : ℕ) (r : Result A Build) → reserved mid ≤ reserved old + n1 → n1 + n2 ≤ n → IfErr r (λ e. Fills mid n2 e) → IfErr r (λ e. Fills old n e)
+fills_later old mid n1 n2 n (Ok k) le fits h = tt
+fills_later old mid n1 n2 n (Err e) le fits h = λ is. omega (arith, h is, le, fits)
+
+-- the same where the refusal is handed on
+pub fills_at : (old mid : State) (n1 n2 n : ℕ) (e : Build) → reserved mid ≤ reserved old + n1 → n1 + n2 ≤ n → Fills mid n2 e → Fills old n e
+fills_at old mid n1 n2 n e le fits h = λ is. omega (arith, h is, le, fits)
+
+pub refused_at : (old mid new : State) (n1 n2 n : ℕ) (e : Build) → reserved mid ≤ reserved old + n1 → n1 + n2 ≤ n → Refuses mid new n2 e → Fills old n e
+refused_at old mid new n1 n2 n e le fits h = λ is. omega (arith, h.room is, le, fits)
+
+pub from_memory : (old : State) (n : ℕ) (e : Build) → e ≡ build.Memory → Fills old n e
+from_memory old n e is = λ full. let no : build.Memory ≡ build.Full = sym is ∙ full in absurd cc

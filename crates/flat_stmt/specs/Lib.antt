@@ -1,0 +1,5 @@
+pub mod Moves
+pub mod Conditions
+pub mod Branches
+pub mod Weight
+pub mod Parts

@@ -1,0 +1,341 @@
+//! The operations of statements.
+
+ghost use Rattle.std.specs.Prelude.{◌≡◌, ◌<◌, ◌≤◌, ◌+◌, ◌+ℤ◌, ◌++◌, ◌∷◌, [], ℤ, Bool, true, false, FitsSigned, Some, List, IfOk, IfErr, OnOk, length, slice_get, sum_by};
+ghost use Rattle.std.specs.Int.{w64};
+ghost use Rattle.std.specs.List.{list_any};
+ghost use Rattle.vcp_base.specs.Kinds.{truth};
+ghost use Rattle.vcp_base.specs.Limits.{most_turn_nodes};
+ghost use Rattle.vcp_base.specs.Types.{fits};
+ghost use Rattle.vcp_base.specs.declared.ty.Ty.TheVariants as type_of_value;
+ghost use Rattle.op_graph.specs.Lists.{turns_of};
+ghost use Rattle.vcp_base.specs.Values.{at};
+ghost use Rattle.vcp_typed.specs.declared.slot.Slot.{Slot};
+ghost use Rattle.vcp_typed.specs.Checked.{IsExpr, ty_of};
+ghost use Rattle.vcp_typed.specs.Rules.{joined as joined_type};
+ghost use Rattle.vcp_typed.specs.Meaning.{is_labelled, turn as turn_of, all_turns, do_stmt, do_stmts, do_arms, do_branches, do_other};
+ghost use Rattle.vcp_typed.specs.Size.{expr_size, stmt_size, stmts_size, arms_size, branches_size, other_size, label_size};
+ghost use Rattle.vcp_typed.specs.TExprViews.{texpr_tree};
+ghost use Rattle.vcp_typed.specs.TStmtTree.{no_tarms, and_tarm, no_tbranches, and_tbranch, no_tother, for_};
+ghost use Rattle.vcp_typed.specs.TStmtViews.{tstmt_tree, tstmt_trees, tarm_trees, tbranch_trees, tother_tree};
+ghost use Rattle.flat_expr.specs.State.{State, IsA, IsPlace, active};
+ghost use Rattle.flat_stmt.specs.Moves.{Moves, Does, Any, where_reached, setting, assigning};
+ghost use Rattle.flat_stmt.specs.Branches.{Conditions, branch_of, arm_of, next_of, choosing};
+ghost use Rattle.flat_stmt.specs.Parts.{StmtPart, StmtsPart, ArmsPart, BranchesPart, OtherPart, Fills};
+
+use crate::condition::{deny, join, labels};
+use crate::types::type_of;
+use flat_expr::{Flat, laws_of_states};
+use op_graph::{Build, TurnNode};
+use vcp_base::{Spot, Ty};
+use vcp_typed::{TArm, TBranch, TExpr, TStmt, TStmts, trees_of_nodes};
+
+/// The slot gets the value where the place is reached.
+fn add_value(flat: &mut Flat, slot: u32, value: i64, spot: Spot) -> Result<(), Build>
+    requires slot { slot < length flat.old.slots }
+    requires fits { (x : Slot) → slice_get flat.old.slots slot ≡ Some x → fits x.ty value ≡ true }
+    ensures made { IfOk result (λ _. Does flat.old flat.new 2 (setting slot value)) }
+    ensures nodes { OnOk result (flat.new.graph.turn_nodes ≡ flat.old.graph.turn_nodes) }
+    ensures fills { IfErr result (λ e. Fills flat.old 2 e) }
+{
+    laws_of_states();
+    let ty = flat.type_of(slot);
+    let k = flat.constant(ty, value, spot)?;
+    flat.assign(slot, k, spot)
+}
+
+/// An assignment.
+fn add_assignment(flat: &mut Flat, slot: u32, value: &TExpr, spot: Spot) -> Result<(), Build>
+    requires checked { IsExpr flat.old.slots (texpr_tree value.now) }
+    requires slot { slot < length flat.old.slots }
+    requires fits { (x : Slot) → slice_get flat.old.slots slot ≡ Some x → x.ty ≡ ty_of (texpr_tree value.now) }
+    ensures made { IfOk result (λ _. Does flat.old flat.new (1 + expr_size (texpr_tree value.now)) (assigning (turns_of flat.old.graph flat.old.turn) slot (texpr_tree value.now))) }
+    ensures fills { IfErr result (λ e. Fills flat.old (1 + expr_size (texpr_tree value.now)) e) }
+{
+    laws_of_states();
+    let k = flat.expr(value)?;
+    flat.assign(slot, k, spot)
+}
+
+/// The path condition of what comes after a branch: the outer condition, and not the branch's `r`.
+fn go_on(flat: &mut Flat, outer: Option<u32>, r: u32, spot: Spot) -> Result<(), Build>
+    requires outer { IsPlace type_of_value.Bool flat.old.graph.operations outer }
+    requires r { IsA type_of_value.Bool flat.old.graph.operations r }
+    ensures made { IfOk result (λ _. (x : ℤ) (o : Bool) → Moves flat.old flat.new (Conditions r x outer o) 2 (next_of x o)) }
+    ensures fills { IfErr result (λ e. Fills flat.old 2 e) }
+{
+    laws_of_states();
+    let n = deny(flat, r, spot)?;
+    let next = join(flat, outer, n, spot)?;
+    flat.set_condition(Some(next));
+    Ok(())
+}
+
+/// Whether another branch follows branch `i` of so many, or ELSE.
+fn has_next(i: usize, branches: usize, other: &Option<TStmts>) -> bool
+    requires { i < branches }
+    ensures { result ≡ false → (branches ≡ i + 1) × (tother_tree other.now ≡ no_tother) }
+{
+    i + 1 < branches || other.is_some()
+}
+
+/// The control variable's value in the next turn; after the last turn it keeps its value.
+fn next_value(value: i64, by: i64, more: bool) -> i64
+    requires { more ≡ true → FitsSigned w64 (value +ℤ by) }
+    ensures next { more ≡ true → result ≡ value +ℤ by }
+    ensures last { more ≡ false → result ≡ value }
+{
+    if more { value + by } else { value }
+}
+
+/// A statement.
+#[cycle(statements)]
+fn add_stmt(flat: &mut Flat, s: &TStmt) -> Result<(), Build>
+    requires checked { StmtPart flat.old.slots (tstmt_tree s.now) }
+    requires room { length flat.old.graph.turn_nodes + stmt_size (tstmt_tree s.now) ≤ most_turn_nodes }
+    ensures made { IfOk result (λ _. Does flat.old flat.new (stmt_size (tstmt_tree s.now)) (do_stmt (turns_of flat.old.graph flat.old.turn) (tstmt_tree s.now))) }
+    ensures fills { IfErr result (λ e. Fills flat.old (stmt_size (tstmt_tree s.now)) e) }
+{
+    trees_of_nodes();
+    match s {
+        TStmt::Assign { slot, value, spot } => add_assignment(flat, *slot, value, *spot),
+        TStmt::If { arms, other } => add_if(flat, &arms.items, other),
+        TStmt::Case {
+            on,
+            branches,
+            other,
+            ..
+        } => add_case(flat, on, &branches.items, other),
+        TStmt::For {
+            slot,
+            first,
+            by,
+            turns,
+            body,
+            spot,
+        } => add_for(flat, *slot, *first, *by, *turns, &body.items, *spot),
+    }
+}
+
+/// The statements, in order.
+#[cycle(statements)]
+pub fn add_stmts(flat: &mut Flat, ss: &[TStmt]) -> Result<(), Build>
+    requires checked { StmtsPart flat.old.slots (tstmt_trees ss.now) }
+    requires room { length flat.old.graph.turn_nodes + stmts_size (tstmt_trees ss.now) ≤ most_turn_nodes }
+    ensures made { IfOk result (λ _. Does flat.old flat.new (stmts_size (tstmt_trees ss.now)) (do_stmts (turns_of flat.old.graph flat.old.turn) (tstmt_trees ss.now))) }
+    ensures fills { IfErr result (λ e. Fills flat.old (stmts_size (tstmt_trees ss.now)) e) }
+{
+    laws_of_states();
+    let _state = flat.condition();
+    'each: for s in ss {
+        add_stmt(flat, s)?;
+    }
+    Ok(())
+}
+
+/// The body of a branch under its condition `r`, and then the path condition of what comes next.
+#[cycle(statements)]
+fn add_branch(flat: &mut Flat, r: u32, body: &[TStmt], spot: Spot, more: bool) -> Result<(), Build>
+    requires r { IsA type_of_value.Bool flat.old.graph.operations r }
+    requires checked { StmtsPart flat.old.slots (tstmt_trees body.now) }
+    requires room { length flat.old.graph.turn_nodes + stmts_size (tstmt_trees body.now) ≤ most_turn_nodes }
+    ensures made { IfOk result (λ _. (x : ℤ) → Moves flat.old flat.new (λ vs. at vs r ≡ x) (3 + stmts_size (tstmt_trees body.now)) (branch_of more x (do_stmts (turns_of flat.old.graph flat.old.turn) (tstmt_trees body.now)))) }
+    ensures fills { IfErr result (λ e. Fills flat.old (3 + stmts_size (tstmt_trees body.now)) e) }
+{
+    laws_of_states();
+    let outer = flat.condition();
+    let path = join(flat, outer, r, spot)?;
+    flat.set_condition(Some(path));
+    add_stmts(flat, body)?;
+    if more {
+        go_on(flat, outer, r, spot)
+    } else {
+        flat.set_condition(outer);
+        Ok(())
+    }
+}
+
+/// An arm of IF: its condition, and its body under it.
+#[cycle(statements)]
+fn add_arm(flat: &mut Flat, arm: &TArm, more: bool) -> Result<(), Build>
+    requires checked { ArmsPart flat.old.slots (and_tarm (texpr_tree arm.now.cond) (tstmt_trees arm.now.body.items.items) arm.now.spot no_tarms) }
+    requires room { length flat.old.graph.turn_nodes + stmts_size (tstmt_trees arm.now.body.items.items) ≤ most_turn_nodes }
+    ensures made { IfOk result (λ _. Moves flat.old flat.new Any (3 + expr_size (texpr_tree arm.now.cond) + stmts_size (tstmt_trees arm.now.body.items.items)) (arm_of more (turns_of flat.old.graph flat.old.turn) (texpr_tree arm.now.cond) (do_stmts (turns_of flat.old.graph flat.old.turn) (tstmt_trees arm.now.body.items.items)))) }
+    ensures fills { IfErr result (λ e. Fills flat.old (3 + expr_size (texpr_tree arm.now.cond) + stmts_size (tstmt_trees arm.now.body.items.items)) e) }
+{
+    laws_of_states();
+    let r = flat.expr(&arm.cond)?;
+    add_branch(flat, r, &arm.body.items, arm.spot, more)
+}
+
+/// IF with its ELSIFs and its ELSE: each arm under the outer condition that those before leave.
+#[cycle(statements)]
+fn add_if(flat: &mut Flat, arms: &[TArm], other: &Option<TStmts>) -> Result<(), Build>
+    requires arms { ArmsPart flat.old.slots (tarm_trees arms.now) }
+    requires other { OtherPart flat.old.slots (tother_tree other.now) }
+    requires room { length flat.old.graph.turn_nodes + (arms_size (tarm_trees arms.now) + other_size (tother_tree other.now)) ≤ most_turn_nodes }
+    ensures made { IfOk result (λ _. Does flat.old flat.new (arms_size (tarm_trees arms.now) + other_size (tother_tree other.now)) (do_arms (turns_of flat.old.graph flat.old.turn) (tarm_trees arms.now) (do_other (turns_of flat.old.graph flat.old.turn) (tother_tree other.now)))) }
+    ensures fills { IfErr result (λ e. Fills flat.old (arms_size (tarm_trees arms.now) + other_size (tother_tree other.now)) e) }
+{
+    laws_of_states();
+    let outer = flat.condition();
+    'each: for i in 0..arms.len() {
+        add_arm(flat, &arms[i], has_next(i, arms.len(), other))?;
+    }
+    add_other(flat, other)?;
+    flat.set_condition(outer);
+    Ok(())
+}
+
+/// A branch of CASE over the value `k`. A branch without labels is never taken, and adds nothing.
+#[cycle(statements)]
+fn add_case_branch(
+    flat: &mut Flat,
+    k: u32,
+    ty: Ty,
+    branch: &TBranch,
+    more: bool,
+) -> Result<(), Build>
+    requires k { IsA ty flat.old.graph.operations k }
+    requires number { joined_type ty ty ≡ Some ty }
+    requires checked { BranchesPart flat.old.slots ty (and_tbranch branch.now.labels.items.items (tstmt_trees branch.now.body.items.items) no_tbranches) }
+    requires room { length flat.old.graph.turn_nodes + stmts_size (tstmt_trees branch.now.body.items.items) ≤ most_turn_nodes }
+    ensures made { IfOk result (λ _. (v : ℤ) → Moves flat.old flat.new (λ vs. at vs k ≡ v) (3 + sum_by label_size branch.now.labels.items.items + stmts_size (tstmt_trees branch.now.body.items.items)) (branch_of more (truth (list_any (is_labelled v) branch.now.labels.items.items)) (do_stmts (turns_of flat.old.graph flat.old.turn) (tstmt_trees branch.now.body.items.items)))) }
+    ensures fills { IfErr result (λ e. Fills flat.old (3 + sum_by label_size branch.now.labels.items.items + stmts_size (tstmt_trees branch.now.body.items.items)) e) }
+{
+    laws_of_states();
+    let _state = flat.condition();
+    if branch.labels.items.is_empty() {
+        return Ok(());
+    }
+    let r = labels(flat, k, ty, &branch.labels.items)?;
+    add_branch(
+        flat,
+        r,
+        &branch.body.items,
+        branch.labels.items[0].spot,
+        more,
+    )
+}
+
+/// The branches of CASE over the value `k`, and its ELSE.
+#[cycle(statements)]
+fn add_branches(
+    flat: &mut Flat,
+    k: u32,
+    ty: Ty,
+    branches: &[TBranch],
+    other: &Option<TStmts>,
+) -> Result<(), Build>
+    requires k { IsA ty flat.old.graph.operations k }
+    requires number { joined_type ty ty ≡ Some ty }
+    requires branches { BranchesPart flat.old.slots ty (tbranch_trees branches.now) }
+    requires other { OtherPart flat.old.slots (tother_tree other.now) }
+    requires room { length flat.old.graph.turn_nodes + (branches_size (tbranch_trees branches.now) + other_size (tother_tree other.now)) ≤ most_turn_nodes }
+    ensures made { IfOk result (λ _. (v : ℤ) → Moves flat.old flat.new (λ vs. at vs k ≡ v) (branches_size (tbranch_trees branches.now) + other_size (tother_tree other.now)) (where_reached (do_branches (turns_of flat.old.graph flat.old.turn) v (tbranch_trees branches.now) (do_other (turns_of flat.old.graph flat.old.turn) (tother_tree other.now))))) }
+    ensures path { OnOk result (flat.new.path ≡ flat.old.path) }
+    ensures fills { IfErr result (λ e. Fills flat.old (branches_size (tbranch_trees branches.now) + other_size (tother_tree other.now)) e) }
+{
+    laws_of_states();
+    let outer = flat.condition();
+    'each: for i in 0..branches.len() {
+        add_case_branch(
+            flat,
+            k,
+            ty,
+            &branches[i],
+            has_next(i, branches.len(), other),
+        )?;
+    }
+    add_other(flat, other)?;
+    flat.set_condition(outer);
+    Ok(())
+}
+
+/// CASE: its selector, and then its branches.
+#[cycle(statements)]
+fn add_case(
+    flat: &mut Flat,
+    on: &TExpr,
+    branches: &[TBranch],
+    other: &Option<TStmts>,
+) -> Result<(), Build>
+    requires on { IsExpr flat.old.slots (texpr_tree on.now) }
+    requires number { joined_type (ty_of (texpr_tree on.now)) (ty_of (texpr_tree on.now)) ≡ Some (ty_of (texpr_tree on.now)) }
+    requires branches { BranchesPart flat.old.slots (ty_of (texpr_tree on.now)) (tbranch_trees branches.now) }
+    requires other { OtherPart flat.old.slots (tother_tree other.now) }
+    requires room { length flat.old.graph.turn_nodes + (expr_size (texpr_tree on.now) + branches_size (tbranch_trees branches.now) + other_size (tother_tree other.now)) ≤ most_turn_nodes }
+    ensures made { IfOk result (λ _. Does flat.old flat.new (expr_size (texpr_tree on.now) + branches_size (tbranch_trees branches.now) + other_size (tother_tree other.now)) (choosing (turns_of flat.old.graph flat.old.turn) (texpr_tree on.now) (tbranch_trees branches.now) (tother_tree other.now))) }
+    ensures fills { IfErr result (λ e. Fills flat.old (expr_size (texpr_tree on.now) + branches_size (tbranch_trees branches.now) + other_size (tother_tree other.now)) e) }
+{
+    laws_of_states();
+    let k = flat.expr(on)?;
+    add_branches(flat, k, type_of(on), branches, other)
+}
+
+/// The body of ELSE, where there is one.
+#[cycle(statements)]
+fn add_other(flat: &mut Flat, other: &Option<TStmts>) -> Result<(), Build>
+    requires checked { OtherPart flat.old.slots (tother_tree other.now) }
+    requires room { length flat.old.graph.turn_nodes + other_size (tother_tree other.now) ≤ most_turn_nodes }
+    ensures made { IfOk result (λ _. Does flat.old flat.new (other_size (tother_tree other.now)) (do_other (turns_of flat.old.graph flat.old.turn) (tother_tree other.now))) }
+    ensures fills { IfErr result (λ e. Fills flat.old (other_size (tother_tree other.now)) e) }
+{
+    let _state = flat.condition();
+    match other {
+        None => Ok(()),
+        Some(body) => add_stmts(flat, &body.items),
+    }
+}
+
+/// FOR: its turns; where there is none, the control variable gets the first value.
+#[cycle(statements)]
+fn add_for(
+    flat: &mut Flat,
+    slot: u32,
+    first: i64,
+    by: i64,
+    turns: u64,
+    body: &[TStmt],
+    spot: Spot,
+) -> Result<(), Build>
+    requires checked { StmtPart flat.old.slots (for_ slot first by turns (tstmt_trees body.now) spot) }
+    requires room { length flat.old.graph.turn_nodes + stmt_size (for_ slot first by turns (tstmt_trees body.now) spot) ≤ most_turn_nodes }
+    ensures made { IfOk result (λ _. Does flat.old flat.new (stmt_size (for_ slot first by turns (tstmt_trees body.now) spot)) (do_stmt (turns_of flat.old.graph flat.old.turn) (for_ slot first by turns (tstmt_trees body.now) spot))) }
+    ensures fills { IfErr result (λ e. Fills flat.old (stmt_size (for_ slot first by turns (tstmt_trees body.now) spot)) e) }
+{
+    if turns == 0 {
+        return add_value(flat, slot, first, spot);
+    }
+    laws_of_states();
+    let _state = flat.condition();
+    let mut value = first;
+    'turns: for turn in 0..turns {
+        add_turn(flat, slot, value, body, spot)?;
+        value = next_value(value, by, turn + 1 < turns);
+    }
+    Ok(())
+}
+
+/// A turn of FOR: the control variable gets its value, and the body is done, inside a new turn node.
+#[cycle(statements)]
+fn add_turn(flat: &mut Flat, slot: u32, value: i64, body: &[TStmt], spot: Spot) -> Result<(), Build>
+    requires slot { slot < length flat.old.slots }
+    requires fits { (x : Slot) → slice_get flat.old.slots slot ≡ Some x → fits x.ty value ≡ true }
+    requires checked { StmtsPart flat.old.slots (tstmt_trees body.now) }
+    requires room { length flat.old.graph.turn_nodes + (2 + stmts_size (tstmt_trees body.now)) ≤ most_turn_nodes }
+    ensures made { IfOk result (λ _. Does flat.old flat.new (2 + stmts_size (tstmt_trees body.now)) (turn_of slot (λ v. do_stmts (turns_of flat.old.graph flat.old.turn ++ record { name = slot; value = v } ∷ []) (tstmt_trees body.now)) value)) }
+    ensures fills { IfErr result (λ e. Fills flat.old (2 + stmts_size (tstmt_trees body.now)) e) }
+{
+    laws_of_states();
+    let outer = flat.turn_now();
+    let node = flat.turn(TurnNode {
+        parent: outer,
+        name: slot,
+        value,
+    })?;
+    flat.set_turn(node);
+    add_value(flat, slot, value, spot)?;
+    add_stmts(flat, body)?;
+    flat.set_turn(outer);
+    Ok(())
+}
