@@ -1,0 +1,16 @@
+//! Worked rows of flattening: the graphs of programs beside their listings, and what the machine gives
+//! on these graphs beside what the source means.
+#![tactic(auto)]
+
+#[cfg(test)]
+mod listing;
+#[cfg(test)]
+mod listings;
+#[cfg(test)]
+mod running;
+#[cfg(test)]
+mod runs;
+#[cfg(test)]
+mod sizes;
+#[cfg(test)]
+mod sources;
