@@ -8,7 +8,7 @@ use crate::{
 };
 use std::alloc::Global;
 use std::fs;
-use std::io::BufWriter;
+use std::io::{self, BufWriter, Write};
 use std::marker::Brand;
 use std::sync::ledger::{Blank, Ledger};
 use std::test::Fail;
@@ -168,5 +168,31 @@ fn the_host_is_written_to_and_flushed(rt: HostRuntime) -> Result<(), Fail> {
     let written = fs::read(&rt, "out.txt")?;
     assert_eq!(rt; written.as_slice(), b"some bytes".as_slice());
     fs::remove_file(&rt, "out.txt")?;
+    Ok(())
+}
+
+/// A writer that takes all bytes, and whose flush fails.
+#[derive(Drop)]
+struct NeverFlushed {
+    taken: u64,
+}
+
+impl Write for NeverFlushed {
+    fn write(&mut self, buf: &[u8]) -> io::Result<usize> {
+        self.taken = self.taken.saturating_add(buf.len() as u64);
+        Ok(buf.len())
+    }
+
+    fn flush(&mut self) -> io::Result<()> {
+        Err(io::Error::from(io::ErrorKind::StorageFull))
+    }
+}
+
+#[test]
+fn a_flush_that_fails_is_a_fault(rt: HostRuntime) -> Result<(), Fail> {
+    let mut out = HostSink::new(NeverFlushed { taken: 0 });
+    assert_eq!(rt; out.write(b""), Ok(0));
+    assert_eq!(rt; out.write(b"bytes"), Err(Failed));
+    assert_eq!(rt; write_all(&mut out, b"more"), Err(Failed));
     Ok(())
 }
