@@ -5,5 +5,6 @@ pub mod Fitting
 pub mod Links
 pub mod OperandLaw
 pub mod Parts
+pub mod Turns
 pub mod Walks
 pub mod Worked

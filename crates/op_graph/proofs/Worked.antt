@@ -1,5 +1,5 @@
 -- Worked: the graph of `n := n + 1; y := n;` and its run, worked by hand.
-use Rattle.std.proofs.Common.{refl, ◌≡◌, ℕ, ◌∷◌, [], ℤ, pos, Some, None}
+use Rattle.std.proofs.Common.{refl, ◌≡◌, ℕ, List, ◌∷◌, [], ℤ, pos, false, Some, None}
 use Rattle.vcp_base.specs.declared.spot.Spot.{Spot}
 use Rattle.vcp_base.specs.declared.ty.Ty.{Ty}
 use Rattle.vcp_base.specs.declared.ty.Ty.TheVariants as ty
@@ -7,6 +7,9 @@ use Rattle.vcp_base.specs.declared.kind.Kind.{Kind}
 use Rattle.vcp_base.specs.declared.kind.Kind.TheVariants as kind
 use Rattle.vcp_base.specs.declared.kind.StopKind.TheVariants as stop
 use Rattle.op_graph.specs.declared.op.Op.{Op}
+use Rattle.op_graph.specs.declared.op.Outlet.{Outlet}
+use Rattle.op_graph.specs.Rules.{entry, from_fits, ty_fits}
+use Rattle.op_graph.specs.Walk.{passed, walked_to, next_passed}
 use Rattle.op_graph.specs.Lists.{Lists, nothing, cells, turns_of}
 use Rattle.op_graph.specs.Building.{with_turn_node}
 use Rattle.op_graph.specs.Building.{with_name, with_load, with_op, with_output, with_store}
@@ -43,3 +46,31 @@ turns-are = refl
 cells-after : cells_after (counter ty.Dint (pos 0)) (pos 0 ∷ []) ([] ∷ [] ∷ []) ≡ pos 2 ∷ []
 unfolding counter op_on
 cells-after = refl
+
+-- ---- walks and types
+
+abbrev outs : List Outlet
+outs = (record { name = 0; ty = ty.Int; op = 3 }) ∷ (record { name = 1; ty = ty.Dint; op = 5 }) ∷ []
+
+walk-passes : passed (λ (o : Outlet). o.op) 5 outs ≡ 1
+walk-passes = refl
+
+walk-finds : walked_to (λ (o : Outlet). o.op) (λ o. o.ty) 5 outs ≡ Some (entry 1 ty.Dint)
+walk-finds = refl
+
+walk-finds-none : walked_to (λ (o : Outlet). o.op) (λ o. o.ty) 4 outs ≡ None
+walk-finds-none = refl
+
+walk-goes-on : next_passed (λ (o : Outlet). o.op) 3 outs ≡ 1
+walk-goes-on = refl
+
+-- `<` of BOOL is wrong in the type of its operands, whatever that of its result; CONV of INT to BOOL in that of its result
+from-is-wrong : from_fits None kind.Lt ty.Bool ≡ false
+from-is-wrong = refl
+
+ty-is-wrong : ty_fits kind.Conv ty.Int ty.Bool ≡ false
+ty-is-wrong = refl
+
+-- an OUT has the type of its output
+out-is-wrong : from_fits (Some (entry 0 ty.Int)) kind.Out ty.Dint ≡ false
+out-is-wrong = refl

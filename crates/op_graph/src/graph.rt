@@ -1,6 +1,6 @@
 //! Graphs.
 
-ghost use Rattle.std.specs.Prelude.{◌≡◌, ◌-◌, ◌<◌, ◌≤◌, Some, IfOk, IfSome, [], length, map, slice_get, slice_index_or};
+ghost use Rattle.std.specs.Prelude.{◌≡◌, ◌-◌, ◌<◌, ◌≤◌, Some, IfOk, IfSome, [], length, map, slice_get, slice_index_or, All};
 ghost use Rattle.op_graph.specs.Lists.{cells, column as column_of, output_column, turns_of};
 ghost use Rattle.op_graph.specs.Rules.{IsGraph};
 
@@ -164,10 +164,11 @@ impl Graph {
     }
 
     /// The turns round operation `i`, outermost first, where `i` is below the number of operations.
-    /// It takes no memory.
+    /// The name of each is one of the graph's names. It takes no memory.
     pub fn turns(&self, i: u32) -> TurnsRound<'_>
         requires { i < length self.now.operations }
-        ensures { IfSome (slice_get self.now.operations i) (λ op. result ≡ turns_of self.now op.turn) }
+        ensures turns { IfSome (slice_get self.now.operations i) (λ op. result ≡ turns_of self.now op.turn) }
+        ensures named { All (λ turn. turn.name < length self.now.names) result }
     {
         let op = &self.operations[i as usize];
         turns_round(&self.turn_nodes, op.turn)

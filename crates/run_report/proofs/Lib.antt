@@ -1,3 +1,4 @@
 mod Gathering
 mod Rows
 mod Texts
+mod Turns

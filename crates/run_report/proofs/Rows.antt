@@ -2,6 +2,7 @@
 use Rattle.std.proofs.Common.{◌≡◌, [], ◌∷◌, refl, pos, negsuc, codes}
 use Rattle.std.specs.Fmt.{digits}
 use Rattle.vcp_base.specs.declared.kind.StopKind.TheVariants as stop
+use Rattle.vcp_base.specs.Stops.{told_stop}
 use Rattle.run_report.specs.Lines.{header_text, row_text, end_text, stop_text, refused_text}
 
 header_of_two : header_text (codes "lights" ∷ codes "motor" ∷ []) ≡ codes "cycle,lights,motor\n"
@@ -28,15 +29,15 @@ end_of_three : end_text 3 ≡ codes "end 3\n"
 unfolding digits
 end_of_three = refl
 
-stop_outside_a_loop : stop_text 1 stop.DivZero (record { line = 4; col = 8 }) [] [] ≡ codes "stop 1 DIVZERO 4:8\n"
+stop_outside_a_loop : stop_text 1 (record { kind = stop.DivZero; spot = record { line = 4; col = 8 }; turns = [] }) ≡ codes "stop 1 DIVZERO 4:8\n"
 unfolding digits
 stop_outside_a_loop = refl
 
-stop_in_a_loop : stop_text 0 stop.Range (record { line = 7; col = 10 }) (record { name = 2; value = pos 4 } ∷ []) (codes "x" ∷ codes "y" ∷ codes "i" ∷ []) ≡ codes "stop 0 RANGE 7:10 i=4\n"
+stop_in_a_loop : stop_text 0 (told_stop (codes "x" ∷ codes "y" ∷ codes "i" ∷ []) stop.Range (record { line = 7; col = 10 }) (record { name = 2; value = pos 4 } ∷ [])) ≡ codes "stop 0 RANGE 7:10 i=4\n"
 unfolding digits
 stop_in_a_loop = refl
 
-stop_in_two_loops : stop_text 12 stop.Operand (record { line = 30; col = 1 }) (record { name = 1; value = negsuc 0 } ∷ record { name = 0; value = pos 20 } ∷ []) (codes "inner" ∷ codes "Outer" ∷ []) ≡ codes "stop 12 OPERAND 30:1 Outer=-1 inner=20\n"
+stop_in_two_loops : stop_text 12 (told_stop (codes "inner" ∷ codes "Outer" ∷ []) stop.Operand (record { line = 30; col = 1 }) (record { name = 1; value = negsuc 0 } ∷ record { name = 0; value = pos 20 } ∷ [])) ≡ codes "stop 12 OPERAND 30:1 Outer=-1 inner=20\n"
 unfolding digits
 stop_in_two_loops = refl
 

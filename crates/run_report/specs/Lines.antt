@@ -1,10 +1,11 @@
 -- The printed lines of a run. Each ends with LF.
-use Rattle.std.specs.Prelude.{ℕ, ◌<◌, List, [], ◌++◌, length, ℤ, decimal, codes, flat_map, slice_index_or, All}
+use Rattle.std.specs.Prelude.{ℕ, ◌<◌, List, ◌++◌, length, ℤ, decimal, codes, flat_map, All}
 use Rattle.std.specs.Fmt.{signed_decimal}
 use Rattle.vcp_base.specs.declared.kind.StopKind.{StopKind}
 use Rattle.vcp_base.specs.declared.spot.Spot.{Spot}
 use Rattle.vcp_base.specs.declared.turns.Turn.{Turn}
 use Rattle.vcp_base.specs.Spellings.{stop_name}
+use Rattle.vcp_base.specs.Stops.{ToldStop, ToldTurn}
 
 -- a name after its comma
 abbrev pub name_cell : List ℕ → List ℕ
@@ -35,13 +36,16 @@ abbrev pub AreNamed : List Turn → List (List ℕ) → Type 0
 AreNamed turns names = All (λ turn. turn.name < length names) turns
 
 -- a turn of a FOR: the name of its control variable, and the value of that variable
-abbrev pub turn_text : List (List ℕ) → Turn → List ℕ
-turn_text names turn = codes " " ++ (slice_index_or names turn.name [] ++ (codes "=" ++ signed_decimal turn.value))
+abbrev pub turn_text : ToldTurn → List ℕ
+turn_text turn = codes " " ++ (turn.name ++ (codes "=" ++ signed_decimal turn.value))
+
+-- a stop up to its turns: the cycle, the kind, and the place in the source
+abbrev pub stop_front : ℕ → StopKind → Spot → List ℕ
+stop_front cycle kind spot = codes "stop " ++ (decimal cycle ++ (codes " " ++ (stop_name kind ++ (codes " " ++ place_text spot))))
 
 -- a stop: the cycle, the kind, the place in the source, and the turns round it, outermost first
-abbrev pub stop_text : ℕ → StopKind → Spot → List Turn → List (List ℕ) → List ℕ
-stop_text cycle why spot turns names =
-    codes "stop " ++ (decimal cycle ++ (codes " " ++ (stop_name why ++ (codes " " ++ (place_text spot ++ (flat_map (turn_text names) turns ++ codes "\n"))))))
+abbrev pub stop_text : ℕ → ToldStop → List ℕ
+stop_text cycle stop = stop_front cycle stop.kind stop.spot ++ (flat_map turn_text stop.turns ++ codes "\n")
 
 -- an output that is refused, with the residue that was found and the expected one
 abbrev pub refused_text : ℕ → List ℕ → ℕ → ℕ → List ℕ

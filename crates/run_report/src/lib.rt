@@ -5,9 +5,11 @@
 //! line, so that a line of at most `ROOM` bytes is handed to the sink at once.
 #![tactic(auto)]
 
+mod graph_stop;
 mod line;
 mod lines;
 
+pub use graph_stop::graph_stop_line;
 pub use line::{Line, ROOM};
 pub use lines::{end_line, header_line, refused_line, row_line, stop_line};
 

@@ -2,9 +2,10 @@
 //! only where the sink's count of faults rose, and then a part of the line is written.
 
 ghost use Rattle.std.specs.Prelude.{◌≡◌, ◌++◌, decimal, map, flat_map};
+ghost use Rattle.vcp_base.specs.Stops.{told_stop, told_turn};
 ghost use Rattle.vcp_outside.specs.Written.{Writes};
 ghost use Rattle.run_report.specs.Gathering.{IsGathered, Gathers};
-ghost use Rattle.run_report.specs.Lines.{header_text, row_text, end_text, stop_text, refused_text, place_text, turn_text, AreNamed};
+ghost use Rattle.run_report.specs.Lines.{header_text, row_text, end_text, stop_front, stop_text, refused_text, place_text, turn_text, AreNamed};
 
 use crate::line::Line;
 use vcp_base::{Columns, Residue, Row, Spot, StopKind, Text, Turns, Words, stop_name};
@@ -64,17 +65,36 @@ fn then_place<O: Sink>(line: &mut Line, out: &mut O, spot: Spot)
     line.count(out, spot.col as u64);
 }
 
+// A line that tells a stop up to its turns.
+pub(crate) fn begin_stop<O: Sink>(out: &mut O, cycle: u32, kind: StopKind, spot: Spot) -> Line
+    ensures { IsGathered (O.written out.old) (O.written out.new) (O.faults out.old) (O.faults out.new) (stop_front cycle kind spot) result }
+{
+    let mut line = begin(out, b"stop ", cycle);
+    line.text(out, b" ");
+    line.text(out, stop_name(kind));
+    line.text(out, b" ");
+    then_place(&mut line, out, spot);
+    line
+}
+
+// Goes on with a turn: the name of its control variable, and that variable's value.
+pub(crate) fn then_turn<O: Sink>(line: &mut Line, out: &mut O, name: &Text, value: i64)
+    ensures { Gathers (O.written out.old) (O.written out.new) (O.faults out.old) (O.faults out.new) line.old line.new (turn_text (record { name = name.now; value = value })) }
+{
+    line.text(out, b" ");
+    line.text(out, name.bytes());
+    line.text(out, b"=");
+    line.value(out, value);
+}
+
 // Goes on with the turns round a place, outermost first.
 fn then_turns<O: Sink>(line: &mut Line, out: &mut O, turns: &Turns, names: &Words)
     requires { AreNamed turns.now names.now }
-    ensures { Gathers (O.written out.old) (O.written out.new) (O.faults out.old) (O.faults out.new) line.old line.new (flat_map (turn_text names.now) turns.now) }
+    ensures { Gathers (O.written out.old) (O.written out.new) (O.faults out.old) (O.faults out.new) line.old line.new (flat_map turn_text (map (told_turn names.now) turns.now)) }
 {
     'turns: for i in 0..turns.len() {
         let turn = turns.at(i);
-        line.text(out, b" ");
-        line.text(out, names.at(turn.name as usize).bytes());
-        line.text(out, b"=");
-        line.value(out, turn.value);
+        then_turn(line, out, names.at(turn.name as usize), turn.value);
     }
 }
 
@@ -90,13 +110,9 @@ pub fn stop_line<O: Sink>(
     names: &Words,
 ) -> Result<(), Failed>
     requires { AreNamed turns.now names.now }
-    ensures { Writes (O.written out.old) (O.written out.new) (O.faults out.old) (O.faults out.new) (stop_text cycle kind spot turns.now names.now) result }
+    ensures { Writes (O.written out.old) (O.written out.new) (O.faults out.old) (O.faults out.new) (stop_text cycle (told_stop names.now kind spot turns.now)) result }
 {
-    let mut line = begin(out, b"stop ", cycle);
-    line.text(out, b" ");
-    line.text(out, stop_name(kind));
-    line.text(out, b" ");
-    then_place(&mut line, out, spot);
+    let mut line = begin_stop(out, cycle, kind, spot);
     then_turns(&mut line, out, turns, names);
     line.end(out)
 }

@@ -2,10 +2,11 @@
 
 ghost use Rattle.std.specs.Prelude.{◌≡◌, ◌<◌, None, IfOk, All, length};
 
-use crate::{end_line, header_line, refused_line, row_line, stop_line};
+use crate::{end_line, graph_stop_line, header_line, refused_line, row_line, stop_line};
+use op_graph::{Build, Graph, GraphBuilder, Op, TurnNode};
 use std::alloc::Global;
 use std::test::Fail;
-use vcp_base::{Column, Columns, Row, Spot, StopKind, Text, Turn, Turns, Ty, Words};
+use vcp_base::{Column, Columns, Kind, Row, Spot, StopKind, Text, Turn, Turns, Ty, Words};
 use vcp_outside::{Failed, MemSink, Sink};
 
 fn columns(alloc: Global, names: &[&[u8]]) -> Result<Columns, Fail> {
@@ -70,6 +71,51 @@ fn each_line_has_its_text(rt: HostRuntime) -> Result<(), Fail> {
     assert_eq!(rt; refused_line(&mut out, 2, &name, 5, 949664992), Ok(()));
     let wanted =
         b"cycle,lights,motor\n0,-32768,1\nend 8\nstop 1 DIVZERO 4:8\nstop 0 RANGE 7:10 Outer=-1 i=4\nrefused 2 y found 5 expected 949664992\n";
+    assert_eq!(rt; out.bytes(), wanted.as_slice());
+    Ok(())
+}
+
+// A graph with one operation, in the turn of an inner loop within that of an outer one.
+fn looped(alloc: Global) -> Result<Graph, Build>
+    ensures { IfOk result (λ graph. length graph.operations ≡ 1) }
+{
+    let mut builder = GraphBuilder::new(alloc);
+    builder.name(&Text::copy_of(alloc, b"i")?)?;
+    builder.name(&Text::copy_of(alloc, b"Outer")?)?;
+    builder.turn(TurnNode {
+        parent: 0,
+        name: 1,
+        value: -1,
+    })?;
+    builder.turn(TurnNode {
+        parent: 1,
+        name: 0,
+        value: 4,
+    })?;
+    builder.push(Op {
+        kind: Kind::Const,
+        from: Ty::Int,
+        ty: Ty::Int,
+        a: 0,
+        b: 0,
+        c: 0,
+        imm: 5,
+        spot: Spot { line: 7, col: 10 },
+        turn: 2,
+    })?;
+    Ok(builder.finish())
+}
+
+#[test]
+fn a_stop_in_a_graph_has_its_text(rt: HostRuntime) -> Result<(), Fail> {
+    let alloc = rt.alloc();
+    let mut out = MemSink::new(alloc, 100)?;
+    let graph = looped(alloc)?;
+    assert_eq!(rt;
+        graph_stop_line(&mut out, 0, StopKind::Range, &graph, 0),
+        Ok(())
+    );
+    let wanted = b"stop 0 RANGE 7:10 Outer=-1 i=4\n";
     assert_eq!(rt; out.bytes(), wanted.as_slice());
     Ok(())
 }

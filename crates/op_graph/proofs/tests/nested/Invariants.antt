@@ -1,4 +1,4 @@
-use Rattle.std.proofs.Common.{◌≡◌, ◌+◌, length}
+use Rattle.std.proofs.Common.{◌≡◌, length}
 use Rattle.op_graph.proofs.tests.nested.Given as goal
 
 abbrev pub invariant-turns : goal.invariant-turns

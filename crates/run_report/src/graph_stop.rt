@@ -1,0 +1,43 @@
+//! The line of a stop in a graph's run. It is told from the graph, and takes no memory.
+
+ghost use Rattle.std.specs.Prelude.{◌<◌, IfSome, map, flat_map, length, slice_get};
+ghost use Rattle.vcp_base.specs.Stops.{told_stop, told_turn};
+ghost use Rattle.vcp_outside.specs.Written.{Writes};
+ghost use Rattle.op_graph.specs.Lists.{turns_of};
+ghost use Rattle.run_report.specs.Gathering.{Gathers};
+ghost use Rattle.run_report.specs.Lines.{stop_text, turn_text};
+
+use crate::line::Line;
+use crate::lines::{begin_stop, then_turn};
+use op_graph::Graph;
+use vcp_base::StopKind;
+use vcp_outside::{Failed, Sink};
+
+// Goes on with the turns round operation `op`, outermost first.
+fn then_turns_round<O: Sink>(line: &mut Line, out: &mut O, graph: &Graph, op: u32)
+    requires { op < length graph.now.operations }
+    ensures { IfSome (slice_get graph.now.operations op) (λ o. Gathers (O.written out.old) (O.written out.new) (O.faults out.old) (O.faults out.new) line.old line.new (flat_map turn_text (map (told_turn graph.now.names) (turns_of graph.now o.turn)))) }
+{
+    let mut turns = graph.turns(op);
+    'turns: while let Some(turn) = turns.next() {
+        then_turn(line, out, graph.name(turn.name), turn.value);
+    }
+}
+
+/// Writes that operation `op` of a graph stopped in a cycle, which is counted from 0: why, its place
+/// in the source, and the turns round it, outermost first. It takes no memory, however many turns
+/// there are. After `Failed` a part of the line is written.
+pub fn graph_stop_line<O: Sink>(
+    out: &mut O,
+    cycle: u32,
+    kind: StopKind,
+    graph: &Graph,
+    op: u32,
+) -> Result<(), Failed>
+    requires { op < length graph.now.operations }
+    ensures { IfSome (slice_get graph.now.operations op) (λ o. Writes (O.written out.old) (O.written out.new) (O.faults out.old) (O.faults out.new) (stop_text cycle (told_stop graph.now.names kind o.spot (turns_of graph.now o.turn))) result) }
+{
+    let mut line = begin_stop(out, cycle, kind, graph.operation(op).spot);
+    then_turns_round(&mut line, out, graph, op);
+    line.end(out)
+}
