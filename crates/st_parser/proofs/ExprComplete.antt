@@ -71,13 +71,13 @@ level-within bin.Or = (omega arith, omega arith)
 Lets-weaker : (l m : ℕ) (t : Token) → l ≤ m → Lets l t → Lets m t
 Lets-weaker l m t le h = (omega (arith, h.0, le), h.1)
 
-Lets-closed : (l : ℕ) (t : Token) → t.tok ≡ tok.Sym symbol.RParen → Lets l t
+pub Lets-closed : (l : ℕ) (t : Token) → t.tok ≡ tok.Sym symbol.RParen → Lets l t
 Lets-closed l t e = rw e (omega arith, λ h. absurd cc)
 
-Lets-parted : (l : ℕ) (t : Token) → t.tok ≡ tok.Sym symbol.Comma → Lets l t
+pub Lets-parted : (l : ℕ) (t : Token) → t.tok ≡ tok.Sym symbol.Comma → Lets l t
 Lets-parted l t e = rw e (omega arith, λ h. absurd cc)
 
-Lets-joined : (op : BinOp) (t : Token) → t.tok ≡ operator op → Lets (level op) t
+pub Lets-joined : (op : BinOp) (t : Token) → t.tok ≡ operator op → Lets (level op) t
 Lets-joined op t e = rw (e, operator-joins op) (omega arith, operator-opens-not op)
 
 Lets-ended : (l : ℕ) (t : Token) → goes_by t.tok ≡ goes.Ends → (begins_by t.tok ≡ begins.Opens → ⊥) → Lets l t
@@ -115,7 +115,7 @@ close-left l op a s fs e le =
     ap (λ (b : Bool). cond b (close l fs (binary op a e s)) (record { forms = left_of op a s ∷ fs; expr = e })) (le-leb l (level op) le)
 
 -- an operator behind an operand that is closed
-abbrev joined : BinOp → Token → Closed → Result Reading SyntaxFault
+abbrev pub joined : BinOp → Token → Closed → Result Reading SyntaxFault
 joined op t x = Ok (record { forms = left_of op x.expr t.spot ∷ x.forms; mode = want })
 
 go-left : (g : Goes) (op : BinOp) (a : ExprTree) (s : Spot) (fs : List Form) (e : ExprTree) (t : Token) → takes_by g ≤ level op → go_on g (left_of op a s ∷ fs) e t ≡ go_on g fs (binary op a e s) t
@@ -158,7 +158,7 @@ whole-name begins.Opens g fs e h = absurd (h refl)
 whole-name begins.Nothing g fs e h = refl
 
 -- an operator of a level that is wanted closes nothing
-keeps : (l : ℕ) (fs : List Form) (e : ExprTree) → wants fs ≤ l → l ≤ 7 → close l fs e ≡ record { forms = fs; expr = e }
+pub keeps : (l : ℕ) (fs : List Form) (e : ExprTree) → wants fs ≤ l → l ≤ 7 → close l fs e ≡ record { forms = fs; expr = e }
 keeps l [] e w b = refl
 keeps l (sign_of op s ∷ fs) e w b = absurd (omega (arith, w, b))
 keeps l (left_of op a s ∷ fs) e w b =
@@ -202,13 +202,13 @@ step-have : (c : Context) (d : ℕ) (fs : List Form) (e : ExprTree) (t : Token) 
 step-have c d fs e t g r k o = ap (λ (x : Goes). go_on x fs e t) k ∙ o
 
 module _ {X : Type 0} (c : Context) (d : ℕ) (go : List Token → List Form → Mode → X) (rs : Reads c d go) where
-  by_step : (t : Token) (ts : List Token) (fs : List Form) (m : Mode) (r : Reading) → step c d fs m t ≡ Ok r → go (t ∷ ts) fs m ≡ go ts r.forms r.mode
+  pub by_step : (t : Token) (ts : List Token) (fs : List Form) (m : Mode) (r : Reading) → step c d fs m t ≡ Ok r → go (t ∷ ts) fs m ≡ go ts r.forms r.mode
   by_step t ts fs m r h = rs.ok t ts fs m r (taken-ends-not c d fs m t r h) h
 
-  by_want : (fs : List Form) (t : Token) (b : Begins) (r : Reading) (rest : List Token) → begins_by t.tok ≡ b → operand c fs b t ≡ Ok r → d + depth_in fs ≤ c.most → go (t ∷ rest) fs want ≡ go rest r.forms r.mode
+  pub by_want : (fs : List Form) (t : Token) (b : Begins) (r : Reading) (rest : List Token) → begins_by t.tok ≡ b → operand c fs b t ≡ Ok r → d + depth_in fs ≤ c.most → go (t ∷ rest) fs want ≡ go rest r.forms r.mode
   by_want fs t b r rest e o le = by_step t rest fs want r (step-want c d fs t b r e o le)
 
-  by_have : (fs : List Form) (e : ExprTree) (t : Token) (g : Goes) (r : Reading) (rest : List Token) → goes_by t.tok ≡ g → go_on g fs e t ≡ Ok r → go (t ∷ rest) fs (have e) ≡ go rest r.forms r.mode
+  pub by_have : (fs : List Form) (e : ExprTree) (t : Token) (g : Goes) (r : Reading) (rest : List Token) → goes_by t.tok ≡ g → go_on g fs e t ≡ Ok r → go (t ∷ rest) fs (have e) ≡ go rest r.forms r.mode
   by_have fs e t g r rest k o = by_step t rest fs (have e) r (step-have c d fs e t g r k o)
 
   pub by_left : (t : Token) (ts : List Token) (op : BinOp) (a : ExprTree) (s : Spot) (fs : List Form) (e : ExprTree) → Lets (level op) t → go (t ∷ ts) (left_of op a s ∷ fs) (have e) ≡ go (t ∷ ts) fs (have (binary op a e s))
@@ -224,7 +224,7 @@ module _ {X : Type 0} (c : Context) (d : ℕ) (go : List Token → List Form →
       rs.same t ts fs fs (after_name f s) (have (name f s)) (whole-name (begins_by t.tok) (goes_by t.tok) fs (name f s) lets.1) (go-name (begins_by t.tok) fs f s t lets.1)
 
   mutual
-    reads : {k l : ℕ} {e : ExprTree} {ps : List Placed} → SpellsExpr c.bytes k l e ps → (fs : List Form) (x : Token) (rest : List Token) → wants fs ≤ l → l ≤ unary_level → d + depth_in fs ≡ k → Within c.most ps → Lets l x
+    pub reads : {k l : ℕ} {e : ExprTree} {ps : List Placed} → SpellsExpr c.bytes k l e ps → (fs : List Form) (x : Token) (rest : List Token) → wants fs ≤ l → l ≤ unary_level → d + depth_in fs ≡ k → Within c.most ps → Lets l x
         → go (tokens_of ps ++ x ∷ rest) fs want ≡ go (x ∷ rest) fs (have e)
     reads (spells_literal v t i) fs x rest w b k within lets =
         by_want fs t (begins.Literal v.ty v.value) (record { forms = fs; mode = have (literal v.ty v.value t.spot) }) (x ∷ rest) (literal-begins t.tok v i) refl (omega (arith, k, within.0))
@@ -256,7 +256,7 @@ module _ {X : Type 0} (c : Context) (d : ℕ) (go : List Token → List Form →
         ∙ reads sa (bracket ∷ fs) z (x ∷ rest) (omega arith) (omega arith) (omega (arith, k)) parts.0 (Lets-closed any_level z j)
         ∙ by_have (bracket ∷ fs) e z goes.Closes (record { forms = fs; mode = have e }) (x ∷ rest) (ap goes_by j) refl
 
-    reads_args : {k : ℕ} {es : ExprTrees} {ps : List Placed} → SpellsArgs c.bytes k es ps → (fs : List Form) (f : List ℕ) (s : Spot) (before : ExprTrees) (x : Token) (rest : List Token) → d + depth_in fs ≡ k → Within c.most ps
+    pub reads_args : {k : ℕ} {es : ExprTrees} {ps : List Placed} → SpellsArgs c.bytes k es ps → (fs : List Form) (f : List ℕ) (s : Spot) (before : ExprTrees) (x : Token) (rest : List Token) → d + depth_in fs ≡ k → Within c.most ps
         → go (tokens_of ps ++ x ∷ rest) (arguments f s before ∷ fs) want ≡ go (x ∷ rest) fs (have (call f (and_exprs before es) s))
     reads_args {k = depth} (spells_last e z ts j sa) fs f s before x rest k within =
         let parts = within-split c.most ts (at depth z ∷ []) within in

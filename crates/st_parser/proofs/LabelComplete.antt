@@ -23,7 +23,7 @@ use Rattle.st_parser.specs.ProgramMachine.{Front, in_body, body_step, onward, ru
 use Rattle.st_parser.proofs.Appends.{tokens-append, within-front, within-back}
 use Rattle.st_parser.proofs.TokenSteps.{body-taken, not-deeper}
 
-abbrev literal_or_nothing : Option Value → Begins
+abbrev pub literal_or_nothing : Option Value → Begins
 literal_or_nothing (Some v) = begins.Literal v.ty v.value
 literal_or_nothing None = begins.Nothing
 
@@ -34,14 +34,14 @@ begins-literal (tok.Key key.True) v h = ap literal_or_nothing h
 begins-literal (tok.Key key.False) v h = ap literal_or_nothing h
 begins-literal _ v h = absurd cc
 
-with-phase-ok : (most depth : ℕ) (outer : List Level) (ss : StmtTrees) (k : Selection) (ls : List LabelTree) (t : Token) (r : Result LabelPhase SyntaxFault) (q : LabelPhase) → r ≡ Ok q → depth ≤ most
+pub with-phase-ok : (most depth : ℕ) (outer : List Level) (ss : StmtTrees) (k : Selection) (ls : List LabelTree) (t : Token) (r : Result LabelPhase SyntaxFault) (q : LabelPhase) → r ≡ Ok q → depth ≤ most
     → with_phase outer ss k ls (no_deeper most depth t r) ≡ to outer ss (labelling k ls q)
 with-phase-ok most depth outer ss k ls t r q h le =
     ap (λ (x : Result LabelPhase SyntaxFault). with_phase outer ss k ls (no_deeper most depth t x)) h ∙ ap (λ (x : Result LabelPhase SyntaxFault). with_phase outer ss k ls x) (not-deeper most depth t q le)
 
 module _ (c : Context) (end : Spot) (f : Front) where
   -- a constant: in phase p one is wanted, `negated` has its sign and `read` the whole
-  const-read : {d : ℕ} {e : ExprTree} {ps : List Placed} → SpellsConst c.bytes d e ps → (outer : List Level) (ss : StmtTrees) (k : Selection) (ls : List LabelTree) (p : LabelPhase) (read : ExprTree → LabelPhase) (negated : Spot → LabelPhase)
+  pub const-read : {d : ℕ} {e : ExprTree} {ps : List Placed} → SpellsConst c.bytes d e ps → (outer : List Level) (ss : StmtTrees) (k : Selection) (ls : List LabelTree) (p : LabelPhase) (read : ExprTree → LabelPhase) (negated : Spot → LabelPhase)
       → ((t : Token) → label_step c outer ss k ls p t ≡ with_phase outer ss k ls (no_deeper c.most (suc (length outer)) t (const_at c read negated (begins_by t.tok) t)))
       → ((s : Spot) (t : Token) → label_step c outer ss k ls (negated s) t ≡ with_phase outer ss k ls (no_deeper c.most (suc (suc (length outer))) t (number_at read s t.tok t)))
       → d ≡ suc (length outer) → Within c.most ps → (rest : List Token)
@@ -59,7 +59,7 @@ module _ (c : Context) (end : Spot) (f : Front) where
       (second m.spot t ∙ with-phase-ok c.most (suc (suc (length outer))) outer ss k ls t (number_at read m.spot t.tok t) (read (unary un.Neg (literal ty value t.spot) m.spot)) (ap (λ (x : Tok). number_at read m.spot x t) ht) (omega (arith, eq, w.1.0)))
 
   -- a label and the token behind it
-  label-read : {d : ℕ} {l : LabelTree} {ps : List Placed} → SpellsLabel c.bytes d l ps → (outer : List Level) (ss : StmtTrees) (k : Selection) (ls : List LabelTree) (t : Token) (m : Mark) (rest : List Token) (a : At)
+  pub label-read : {d : ℕ} {l : LabelTree} {ps : List Placed} → SpellsLabel c.bytes d l ps → (outer : List Level) (ss : StmtTrees) (k : Selection) (ls : List LabelTree) (t : Token) (m : Mark) (rest : List Token) (a : At)
       → d ≡ suc (length outer) → Within c.most ps → mark_of t.tok ≡ m → is m mark.DotDot ≡ false → label_ends outer ss k (ls ++ l ∷ []) m t ≡ Ok a
       → run c end (tokens_of ps ++ t ∷ rest) (in_body f outer ss (labelling k ls first_wanted)) ≡ run c end rest (in_body f a.outer a.stmts a.phase)
   label-read (spells_one e ts sp) outer ss k ls t m rest a eq w hm dots h =
@@ -92,17 +92,17 @@ module _ (c : Context) (end : Spot) (f : Front) where
   -- ---- behind a branch, labels are read as those of the next branch
 
   -- a token other than a name that begins a constant
-  begins-next : (outer : List Level) (before ss : StmtTrees) (k : Selection) (ls : List LabelTree) (t : Token) (rest : List Token) → mark_of t.tok ≡ mark.Other
+  pub begins-next : (outer : List Level) (before ss : StmtTrees) (k : Selection) (ls : List LabelTree) (t : Token) (rest : List Token) → mark_of t.tok ≡ mark.Other
       → run c end (t ∷ rest) (in_body f (record { body = of_branch k ls; before = before } ∷ outer) ss start) ≡ run c end (t ∷ rest) (in_body f outer before (labelling (with_branch k ls ss) [] first_wanted))
   begins-next outer before ss k ls t rest h = ap (λ (m : Mark). onward (body_step f (start_at c (record { body = of_branch k ls; before = before } ∷ outer) ss m t)) (run c end rest)) h
 
-  mark-literal : (x : Tok) (v : Value) → literal_of x ≡ Some v → mark_of x ≡ mark.Other
+  pub mark-literal : (x : Tok) (v : Value) → literal_of x ≡ Some v → mark_of x ≡ mark.Other
   mark-literal (tok.Number ty n) v h = refl
   mark-literal (tok.Key key.True) v h = refl
   mark-literal (tok.Key key.False) v h = refl
   mark-literal _ v h = absurd cc
 
-  const-next : {d : ℕ} {e : ExprTree} {ps : List Placed} → SpellsConst c.bytes d e ps → (outer : List Level) (before ss : StmtTrees) (k : Selection) (ls : List LabelTree) (t : Token) (rest : List Token)
+  pub const-next : {d : ℕ} {e : ExprTree} {ps : List Placed} → SpellsConst c.bytes d e ps → (outer : List Level) (before ss : StmtTrees) (k : Selection) (ls : List LabelTree) (t : Token) (rest : List Token)
       → d ≡ suc (length outer) → Within c.most ps → is (mark_of t.tok) mark.Assign ≡ false
       → run c end (tokens_of ps ++ t ∷ rest) (in_body f (record { body = of_branch k ls; before = before } ∷ outer) ss start) ≡ run c end (tokens_of ps ++ t ∷ rest) (in_body f outer before (labelling (with_branch k ls ss) [] first_wanted))
   const-next (spells_value v u h) outer before ss k ls t rest eq w na = begins-next outer before ss k ls u (t ∷ rest) (mark-literal u.tok v h)
@@ -113,7 +113,7 @@ module _ (c : Context) (end : Spot) (f : Front) where
       ∙ ap (λ (b : Bool). onward (body_step f (cond b (to (record { body = of_branch k ls; before = before } ∷ outer) ss (reading (to_assign (c.bytes u) u.spot) [] want)) (label_step c outer before (with_branch k ls ss) [] (first_read (name (c.bytes u) u.spot)) t))) (run c end rest)) na
       ∙ sym (const-read {d = _} (spells_named u h) outer before (with_branch k ls ss) [] first_wanted first_read first_negated (λ x. refl) (λ s x. refl) eq w (t ∷ rest))
 
-  label-next : {d : ℕ} {l : LabelTree} {ps : List Placed} → SpellsLabel c.bytes d l ps → (outer : List Level) (before ss : StmtTrees) (k : Selection) (ls : List LabelTree) (t : Token) (rest : List Token)
+  pub label-next : {d : ℕ} {l : LabelTree} {ps : List Placed} → SpellsLabel c.bytes d l ps → (outer : List Level) (before ss : StmtTrees) (k : Selection) (ls : List LabelTree) (t : Token) (rest : List Token)
       → d ≡ suc (length outer) → Within c.most ps → is (mark_of t.tok) mark.Assign ≡ false
       → run c end (tokens_of ps ++ t ∷ rest) (in_body f (record { body = of_branch k ls; before = before } ∷ outer) ss start) ≡ run c end (tokens_of ps ++ t ∷ rest) (in_body f outer before (labelling (with_branch k ls ss) [] first_wanted))
   label-next (spells_one e ts sp) outer before ss k ls t rest eq w na = const-next sp outer before ss k ls t rest eq w na

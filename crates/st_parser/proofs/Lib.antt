@@ -2,6 +2,11 @@ mod Worked
 pub mod ExprTables
 pub mod ExprComplete
 pub mod ExprSound
+pub mod ExprDeep
+pub mod StmtDeep
+pub mod ProgramDeep
+pub mod ExactPlace
+pub mod OneAnswer
 pub mod ExprEarliest
 pub mod Appends
 pub mod TokenSteps

@@ -116,6 +116,8 @@ pub record DeepAt (bytes : Token → List ℕ) (m : ℕ) (end : Spot) (ts : List
   pub limit : ℕ
   pub goes_on : BeginsProgram (record { bytes = bytes; most = limit }) (before ++ token ∷ [])
   pub whatever : (more : List Token) → read_program (record { bytes = bytes; most = m }) end (before ++ token ∷ more) ≡ Err (fault.Depth x)
+  pub state : State
+  pub reach : (more : List Token) → run (record { bytes = bytes; most = m }) end (before ++ more) at_program ≡ run (record { bytes = bytes; most = m }) end more state
 
 pub deep-at : (bytes : Token → List ℕ) (m : ℕ) (end : Spot) (ts : List Token) (x : Spot) → read_program (record { bytes = bytes; most = m }) end ts ≡ Err (fault.Depth x) → DeepAt bytes m end ts x
 deep-at bytes m end ts x e =
@@ -134,4 +136,6 @@ deep-at bytes m end ts x e =
           path-begins (record { bytes = bytes; most = raised.0 }) raised.2.0 (h.0 ++ h.1 ∷ [])
           (path-push (record { bytes = bytes; most = raised.0 }) at_program h.3 raised.2.0 h.0 h.1 (path-higher bytes m raised.0 raised.1 at_program h.3 h.0 h.5) raised.2.1);
       whatever = λ more. path-run c end at_program h.3 h.0 (h.1 ∷ more) h.5 ∙ ap (λ (r : Result State SyntaxFault). onward r (run c end more)) h.6;
+      state = h.3;
+      reach = λ more. path-run c end at_program h.3 h.0 more h.5;
     }

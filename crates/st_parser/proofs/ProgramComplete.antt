@@ -33,46 +33,46 @@ use Rattle.st_parser.proofs.StmtComplete.{stops-semi, not-opens, stmts-read}
 
 -- ---- an initial value is read as any expression
 
-abbrev init_by : Opening → List DeclaredTree → Ty → Token → Option ExprTree → Result Reading SyntaxFault → Result State SyntaxFault
+abbrev pub init_by : Opening → List DeclaredTree → Ty → Token → Option ExprTree → Result Reading SyntaxFault → Result State SyntaxFault
 init_by o ds ty t (Some e) r = cond (is (mark_of t.tok) mark.Semi) (Ok (at_decl (with_decl o ds ty (Some e)))) (Err (fault.Syntax t.spot))
 init_by o ds ty t None r = init_read_on o ds ty r
 
-init-by : (c : Context) (o : Opening) (ds : List DeclaredTree) (ty : Ty) (fs : List Form) (m : Mode) (t : Token) (e : Option ExprTree) → init_at c o ds ty fs m t e ≡ init_by o ds ty t e (step c 0 fs m t)
+pub init-by : (c : Context) (o : Opening) (ds : List DeclaredTree) (ty : Ty) (fs : List Form) (m : Mode) (t : Token) (e : Option ExprTree) → init_at c o ds ty fs m t e ≡ init_by o ds ty t e (step c 0 fs m t)
 init-by c o ds ty fs m t (Some e) = refl
 init-by c o ds ty fs m t None = refl
 
 -- the front behind the program's name
-abbrev named_front : Context → Token → Front
+abbrev pub named_front : Context → Token → Front
 named_front c n = record { name = c.bytes n; blocks = [] }
 
 -- the opening with these declarations more
-abbrev with_decls : Opening → List DeclTree → Opening
+abbrev pub with_decls : Opening → List DeclTree → Opening
 with_decls o ds = record { front = o.front; class = o.class; decls = o.decls ++ ds }
 
 -- the front with these blocks more
-abbrev with_blocks : Front → List BlockTree → Front
+abbrev pub with_blocks : Front → List BlockTree → Front
 with_blocks f bs = record { name = f.name; blocks = f.blocks ++ bs }
 
-type-at : (o : Opening) (ds : List DeclaredTree) (ty : Ty) (t : Token) → type_at o ds (mark_of (tok.Key (type_key ty))) t ≡ Ok (at_init o ds ty)
+pub type-at : (o : Opening) (ds : List DeclaredTree) (ty : Ty) (t : Token) → type_at o ds (mark_of (tok.Key (type_key ty))) t ≡ Ok (at_init o ds ty)
 type-at o ds ty.Bool t = refl
 type-at o ds ty.Int t = refl
 type-at o ds ty.Dint t = refl
 
 -- what stands behind the type of a declaration, an initial value and a name
-abbrev init_first : Opening → List DeclaredTree → Ty → Mark → Token → Result State SyntaxFault
+abbrev pub init_first : Opening → List DeclaredTree → Ty → Mark → Token → Result State SyntaxFault
 init_first o ds ty m t = cond (is m mark.Semi) (Ok (at_decl (with_decl o ds ty None))) (cond (is m mark.Assign) (Ok (in_init o ds ty [] want)) (Err (fault.Syntax t.spot)))
 
-abbrev init_by_mark : Opening → List DeclaredTree → Ty → ExprTree → Mark → Token → Result State SyntaxFault
+abbrev pub init_by_mark : Opening → List DeclaredTree → Ty → ExprTree → Mark → Token → Result State SyntaxFault
 init_by_mark o ds ty e m t = cond (is m mark.Semi) (Ok (at_decl (with_decl o ds ty (Some e)))) (Err (fault.Syntax t.spot))
 
-abbrev behind_name : Opening → List DeclaredTree → Mark → Token → Result State SyntaxFault
+abbrev pub behind_name : Opening → List DeclaredTree → Mark → Token → Result State SyntaxFault
 behind_name o ds m t = cond (is m mark.Comma) (Ok (at_next_name o ds)) (cond (is m mark.Colon) (Ok (at_type o ds)) (Err (fault.Syntax t.spot)))
 
 module _ (c : Context) (end : Spot) where
-  abbrev initial : Opening → List DeclaredTree → Ty → List Token → List Form → Mode → Result ProgramTree SyntaxFault
+  abbrev pub initial : Opening → List DeclaredTree → Ty → List Token → List Form → Mode → Result ProgramTree SyntaxFault
   initial o ds ty ts fs m = run c end ts (in_init o ds ty fs m)
 
-  initial-reads : (o : Opening) (ds : List DeclaredTree) (ty : Ty) → Reads c 0 (initial o ds ty)
+  pub initial-reads : (o : Opening) (ds : List DeclaredTree) (ty : Ty) → Reads c 0 (initial o ds ty)
   initial-reads o ds ty = record {
     ok = λ t ts fs m r n h.
         ap (λ (x : Result State SyntaxFault). onward x (run c end ts)) (init-by c o ds ty fs m t (ends_before fs m t)
@@ -84,7 +84,7 @@ module _ (c : Context) (end : Spot) where
   }
 
   -- an initial value, if there is one, and the semicolon
-  init-read : {init : Option ExprTree} {ps : List Placed} → SpellsInit c.bytes init ps → (o : Opening) (ds : List DeclaredTree) (ty : Ty) (rest : List Token) → Within c.most ps
+  pub init-read : {init : Option ExprTree} {ps : List Placed} → SpellsInit c.bytes init ps → (o : Opening) (ds : List DeclaredTree) (ty : Ty) (rest : List Token) → Within c.most ps
       → run c end (tokens_of ps ++ rest) (at_init o ds ty) ≡ run c end rest (at_decl (with_decl o ds ty init))
   init-read (spells_no_init t ht) o ds ty rest w =
       taken c end t rest (at_init o ds ty) (at_decl (with_decl o ds ty None)) (ap (λ (x : Tok). init_first o ds ty (mark_of x) t) ht)
@@ -96,7 +96,7 @@ module _ (c : Context) (end : Spot) where
       (ap (λ (x : Option ExprTree). init_at c o ds ty [] (have e) t x) (ends-have e t (stops-semi t ht).goes) ∙ ap (λ (m : Mark). init_by_mark o ds ty e m t) (stops-semi t ht).is)
 
   -- the names of a declaration, from a state that takes the first
-  names-read : {ds : List DeclaredTree} {ps : List Placed} → SpellsNames c.bytes ds ps → (o : Opening) (done : List DeclaredTree) (s : State) (rest : List Token)
+  pub names-read : {ds : List DeclaredTree} {ps : List Placed} → SpellsNames c.bytes ds ps → (o : Opening) (done : List DeclaredTree) (s : State) (rest : List Token)
       → ((n : Token) → n.tok ≡ tok.Name → program_step c s n ≡ Ok (at_comma o (done ++ declared c n ∷ [])))
       → run c end (tokens_of ps ++ rest) s ≡ run c end rest (at_type o (done ++ ds))
   names-read (spells_last_name n t hn ht) o done s rest first =
@@ -110,7 +110,7 @@ module _ (c : Context) (end : Spot) where
       ∙ ap (λ (x : List DeclaredTree). run c end rest (at_type o x)) (append_assoc done (declared c n ∷ []) ds)
 
   -- a declaration, from a state that takes its first name
-  decl-read : {d : DeclTree} {ps : List Placed} → SpellsDecl c.bytes d ps → (o : Opening) (s : State) (rest : List Token) → Within c.most ps
+  pub decl-read : {d : DeclTree} {ps : List Placed} → SpellsDecl c.bytes d ps → (o : Opening) (s : State) (rest : List Token) → Within c.most ps
       → ((n : Token) → n.tok ≡ tok.Name → program_step c s n ≡ Ok (at_comma o (declared c n ∷ [])))
       → run c end (tokens_of ps ++ rest) s ≡ run c end rest (at_decl (with_decl o d.names d.ty d.init))
   decl-read (spells_decl ds ty init t ts us sn ht si) o s rest w first =
@@ -120,7 +120,7 @@ module _ (c : Context) (end : Spot) where
       ∙ init-read si o ds ty rest (within-back c.most ts (at 0 t ∷ us) w).1
 
   -- the declarations of a block, and END_VAR, from a state that takes the first name or END_VAR
-  decls-read : {ds : List DeclTree} {ps : List Placed} → SpellsDecls c.bytes ds ps → (o : Opening) (s : State) (rest : List Token) → Within c.most ps
+  pub decls-read : {ds : List DeclTree} {ps : List Placed} → SpellsDecls c.bytes ds ps → (o : Opening) (s : State) (rest : List Token) → Within c.most ps
       → ((n : Token) → n.tok ≡ tok.Name → program_step c s n ≡ Ok (at_comma o (declared c n ∷ [])))
       → ((e : Token) → e.tok ≡ tok.Key key.EndVar → program_step c s e ≡ Ok (at_block (with_block o)))
       → run c end (tokens_of ps ++ rest) s ≡ run c end rest (at_block (with_block (with_decls o ds)))
@@ -136,12 +136,12 @@ module _ (c : Context) (end : Spot) where
       ∙ ap (λ (x : List DeclTree). run c end rest (at_block (with_block (record { front = o.front; class = o.class; decls = x })))) (append_assoc o.decls (d ∷ []) ds)
 
   -- the declarations of a block, from its head on
-  opened-read : {ds : List DeclTree} {ps : List Placed} → SpellsDecls c.bytes ds ps → (o : Opening) (rest : List Token) → Within c.most ps
+  pub opened-read : {ds : List DeclTree} {ps : List Placed} → SpellsDecls c.bytes ds ps → (o : Opening) (rest : List Token) → Within c.most ps
       → run c end (tokens_of ps ++ rest) (at_decl o) ≡ run c end rest (at_block (with_block (with_decls o ds)))
   opened-read sp o rest w = decls-read sp o (at_decl o) rest w (λ n hn. ap (λ (x : Tok). decl_at c o (mark_of x) n) hn) (λ e he. ap (λ (x : Tok). decl_at c o (mark_of x) e) he)
 
   -- the head of a block and its declarations
-  block-read : {k : Class} {ds : List DeclTree} {ps qs : List Placed} → SpellsHead k ps → SpellsDecls c.bytes ds qs → (f : Front) (rest : List Token) → Within c.most qs
+  pub block-read : {k : Class} {ds : List DeclTree} {ps qs : List Placed} → SpellsHead k ps → SpellsDecls c.bytes ds qs → (f : Front) (rest : List Token) → Within c.most qs
       → run c end (tokens_of ps ++ (tokens_of qs ++ rest)) (at_block f) ≡ run c end rest (at_block (with_block (with_decls (begun f k) ds)))
   block-read {qs = qs} (spells_input t ht) sp f rest w =
       taken c end t (tokens_of qs ++ rest) (at_block f) (at_decl (begun f class.Input)) (ap (λ (x : Tok). block_at c f (mark_of x) t) ht)
@@ -164,7 +164,7 @@ module _ (c : Context) (end : Spot) where
       ∙ opened-read sp (begun f class.Retain) rest w
 
   -- the blocks of a program
-  blocks-read : {bs : List BlockTree} {ps : List Placed} → SpellsBlocks c.bytes bs ps → (f : Front) (rest : List Token) → Within c.most ps
+  pub blocks-read : {bs : List BlockTree} {ps : List Placed} → SpellsBlocks c.bytes bs ps → (f : Front) (rest : List Token) → Within c.most ps
       → run c end (tokens_of ps ++ rest) (at_block f) ≡ run c end rest (at_block (with_blocks f bs))
   blocks-read spells_no_block f rest w = ap (λ (x : List BlockTree). run c end rest (at_block (record { name = f.name; blocks = x }))) (sym (append-nil f.blocks))
   blocks-read (spells_block k ds bs ts us vs sh sd sb) f rest w =
@@ -176,17 +176,17 @@ module _ (c : Context) (end : Spot) where
   -- ---- the body
 
   -- a token that begins no block is read as the first of the body
-  body-first : (f : Front) (t : Token) (rest : List Token) (k : Tok) → t.tok ≡ k → block_at c f (mark_of k) t ≡ body_step f (start_at c [] no_stmts (mark_of t.tok) t)
+  pub body-first : (f : Front) (t : Token) (rest : List Token) (k : Tok) → t.tok ≡ k → block_at c f (mark_of k) t ≡ body_step f (start_at c [] no_stmts (mark_of t.tok) t)
       → run c end (t ∷ rest) (at_block f) ≡ run c end (t ∷ rest) (in_body f [] no_stmts start)
   body-first f t rest k h b =
       ap (λ (x : Result State SyntaxFault). onward x (run c end rest)) (ap (λ (x : Tok). block_at c f (mark_of x) t) h ∙ b)
 
-  arms-first : {d : ℕ} {k : Key} {arms : ArmTrees} {o : OtherTree} {ps : List Placed} → SpellsArms c.bytes d k arms o ps → k ≡ key.If → (f : Front) (rest : List Token)
+  pub arms-first : {d : ℕ} {k : Key} {arms : ArmTrees} {o : OtherTree} {ps : List Placed} → SpellsArms c.bytes d k arms o ps → k ≡ key.If → (f : Front) (rest : List Token)
       → run c end (tokens_of ps ++ rest) (at_block f) ≡ run c end (tokens_of ps ++ rest) (in_body f [] no_stmts start)
   arms-first {d = d} (spells_arm k e body arms o i t ts us vs hi sp ht sb sm) is_if f rest =
       body-first f i (tokens_of (ts ++ at d t ∷ (us ++ vs)) ++ rest) (tok.Key key.If) (hi ∙ ap tok.Key is_if) refl
 
-  stmt-first : {d : ℕ} {s : StmtTree} {ps : List Placed} → SpellsStmt c.bytes d s ps → (f : Front) (rest : List Token)
+  pub stmt-first : {d : ℕ} {s : StmtTree} {ps : List Placed} → SpellsStmt c.bytes d s ps → (f : Front) (rest : List Token)
       → run c end (tokens_of ps ++ rest) (at_block f) ≡ run c end (tokens_of ps ++ rest) (in_body f [] no_stmts start)
   stmt-first {d = d} (spells_assign n a e ts hn ha sp) f rest = body-first f n (a ∷ (tokens_of ts ++ rest)) tok.Name hn refl
   stmt-first {d = d} (spells_if arms o ts sa) f rest = arms-first sa refl f rest
@@ -195,7 +195,7 @@ module _ (c : Context) (end : Spot) where
       body-first f r (n ∷ a ∷ (tokens_of (ts ++ at d t ∷ (us ++ (vs ++ at d o ∷ (ws ++ at d e ∷ [])))) ++ rest)) (tok.Key key.For) hr refl
 
   -- statements and END_PROGRAM
-  stmts-first : {d : ℕ} {ss : StmtTrees} {ps : List Placed} → SpellsStmts c.bytes d ss ps → (f : Front) (e : Token) (rest : List Token) → e.tok ≡ tok.Key key.EndProgram
+  pub stmts-first : {d : ℕ} {ss : StmtTrees} {ps : List Placed} → SpellsStmts c.bytes d ss ps → (f : Front) (e : Token) (rest : List Token) → e.tok ≡ tok.Key key.EndProgram
       → run c end (tokens_of ps ++ e ∷ rest) (at_block f) ≡ run c end (tokens_of ps ++ e ∷ rest) (in_body f [] no_stmts start)
   stmts-first spells_no_stmt f e rest he = body-first f e rest (tok.Key key.EndProgram) he refl
   stmts-first (spells_empty ss t ts ht sp) f e rest he = body-first f t (tokens_of ts ++ e ∷ rest) (tok.Sym symbol.Semi) ht refl
@@ -205,7 +205,7 @@ module _ (c : Context) (end : Spot) where
       ∙ ap (λ (x : List Token). run c end x (in_body f [] no_stmts start)) (sym (tokens-append ts (at _ t ∷ us) (e ∷ rest)))
 
   -- the body and END_PROGRAM
-  body-read : {ss : StmtTrees} {ps : List Placed} → SpellsStmts c.bytes 0 ss ps → (f : Front) (e : Token) → e.tok ≡ tok.Key key.EndProgram → Within c.most ps
+  pub body-read : {ss : StmtTrees} {ps : List Placed} → SpellsStmts c.bytes 0 ss ps → (f : Front) (e : Token) → e.tok ≡ tok.Key key.EndProgram → Within c.most ps
       → run c end (tokens_of ps ++ e ∷ []) (at_block f) ≡ Ok (record { name = f.name; blocks = f.blocks; body = ss })
   body-read {ss = ss} sp f e he w =
       stmts-first sp f e [] he

@@ -34,11 +34,11 @@ use Rattle.st_parser.proofs.LabelComplete.{labels-read, labels-next}
 -- ---- the expressions of a statement are read as any
 
 -- what a token does, by the expression that ends before it and what the expression's own step gives
-abbrev read_by : List Level → StmtTrees → Purpose → Token → Option ExprTree → Result Reading SyntaxFault → Result At SyntaxFault
+abbrev pub read_by : List Level → StmtTrees → Purpose → Token → Option ExprTree → Result Reading SyntaxFault → Result At SyntaxFault
 read_by outer ss p t (Some e) r = take outer ss p e (mark_of t.tok) t
 read_by outer ss p t None r = read_on outer ss p r
 
-read-by : (c : Context) (outer : List Level) (ss : StmtTrees) (p : Purpose) (fs : List Form) (m : Mode) (t : Token) (o : Option ExprTree) → read_at c outer ss p fs m t o ≡ read_by outer ss p t o (step c (length outer) fs m t)
+pub read-by : (c : Context) (outer : List Level) (ss : StmtTrees) (p : Purpose) (fs : List Form) (m : Mode) (t : Token) (o : Option ExprTree) → read_at c outer ss p fs m t o ≡ read_by outer ss p t o (step c (length outer) fs m t)
 read-by c outer ss p fs m t (Some e) = refl
 read-by c outer ss p fs m t None = refl
 
@@ -48,7 +48,7 @@ pub record Stops (t : Token) (k : Mark) : Type 0 where
   pub begins : begins_by t.tok ≡ begins.Nothing
   pub is : mark_of t.tok ≡ k
 
-stops-key : (t : Token) (k : Key) → goes_by (tok.Key k) ≡ goes.Ends → begins_by (tok.Key k) ≡ begins.Nothing → t.tok ≡ tok.Key k → Stops t (mark_of (tok.Key k))
+pub stops-key : (t : Token) (k : Key) → goes_by (tok.Key k) ≡ goes.Ends → begins_by (tok.Key k) ≡ begins.Nothing → t.tok ≡ tok.Key k → Stops t (mark_of (tok.Key k))
 stops-key t k g b h = record { goes = ap goes_by h ∙ g; begins = ap begins_by h ∙ b; is = ap mark_of h }
 
 pub stops-semi : (t : Token) → t.tok ≡ tok.Sym symbol.Semi → Stops t mark.Semi
@@ -58,10 +58,10 @@ pub not-opens : (b : Begins) → b ≡ begins.Nothing → b ≡ begins.Opens →
 not-opens b h i = let e : begins.Nothing ≡ begins.Opens = sym h ∙ i in absurd cc
 
 module _ (c : Context) (end : Spot) (f : Front) where
-  abbrev inside : List Level → StmtTrees → Purpose → List Token → List Form → Mode → Result ProgramTree SyntaxFault
+  abbrev pub inside : List Level → StmtTrees → Purpose → List Token → List Form → Mode → Result ProgramTree SyntaxFault
   inside outer ss p ts fs m = run c end ts (in_body f outer ss (reading p fs m))
 
-  inside-reads : (outer : List Level) (ss : StmtTrees) (p : Purpose) → Reads c (length outer) (inside outer ss p)
+  pub inside-reads : (outer : List Level) (ss : StmtTrees) (p : Purpose) → Reads c (length outer) (inside outer ss p)
   inside-reads outer ss p = record {
     ok = λ t ts fs m r n h.
         ap (λ (x : Result At SyntaxFault). onward (body_step f x) (run c end ts)) (read-by c outer ss p fs m t (ends_before fs m t)
@@ -73,7 +73,7 @@ module _ (c : Context) (end : Spot) (f : Front) where
   }
 
   -- a whole expression, and the token that ends it
-  whole-read : {d : ℕ} {e : ExprTree} {ps : List Placed} → SpellsExpr c.bytes d any_level e ps → (outer : List Level) (ss : StmtTrees) (p : Purpose) (t : Token) (k : Mark) (rest : List Token) (a : At)
+  pub whole-read : {d : ℕ} {e : ExprTree} {ps : List Placed} → SpellsExpr c.bytes d any_level e ps → (outer : List Level) (ss : StmtTrees) (p : Purpose) (t : Token) (k : Mark) (rest : List Token) (a : At)
       → d ≡ length outer → Within c.most ps → Stops t k → take outer ss p e k t ≡ Ok a
       → run c end (tokens_of ps ++ t ∷ rest) (in_body f outer ss (reading p [] want)) ≡ run c end rest (in_body f a.outer a.stmts a.phase)
   whole-read {e = e} {ps = ps} sp outer ss p t k rest a eq w st h =
@@ -82,24 +82,24 @@ module _ (c : Context) (end : Spot) (f : Front) where
       (ap (λ (o : Option ExprTree). read_at c outer ss p [] (have e) t o) (ends-have e t st.goes) ∙ ap (λ (m : Mark). take outer ss p e m t) st.is ∙ h)
 
   -- the first token of a statement, within the limit
-  started : (outer : List Level) (ss : StmtTrees) (t : Token) (k : Mark) (rest : List Token) (a : At) → mark_of t.tok ≡ k → start_at c outer ss k t ≡ no_deeper c.most (length outer) t (Ok a) → length outer ≤ c.most
+  pub started : (outer : List Level) (ss : StmtTrees) (t : Token) (k : Mark) (rest : List Token) (a : At) → mark_of t.tok ≡ k → start_at c outer ss k t ≡ no_deeper c.most (length outer) t (Ok a) → length outer ≤ c.most
       → run c end (t ∷ rest) (in_body f outer ss start) ≡ run c end rest (in_body f a.outer a.stmts a.phase)
   started outer ss t k rest a m h le =
       body-taken c end f outer ss start t rest a (ap (λ (x : Mark). start_at c outer ss x t) m ∙ h ∙ not-deeper c.most (length outer) t a le)
 
   -- a token that ends a body
-  ended : (outer : List Level) (ss : StmtTrees) (t : Token) (k : Mark) (rest : List Token) (a : At) → mark_of t.tok ≡ k → start_at c outer ss k t ≡ Ok a
+  pub ended : (outer : List Level) (ss : StmtTrees) (t : Token) (k : Mark) (rest : List Token) (a : At) → mark_of t.tok ≡ k → start_at c outer ss k t ≡ Ok a
       → run c end (t ∷ rest) (in_body f outer ss start) ≡ run c end rest (in_body f a.outer a.stmts a.phase)
   ended outer ss t k rest a m h = body-taken c end f outer ss start t rest a (ap (λ (x : Mark). start_at c outer ss x t) m ∙ h)
 
   -- the semicolon behind a statement that ends with a keyword
-  closed-read : (outer : List Level) (ss : StmtTrees) (t : Token) (rest : List Token) → t.tok ≡ tok.Sym symbol.Semi
+  pub closed-read : (outer : List Level) (ss : StmtTrees) (t : Token) (rest : List Token) → t.tok ≡ tok.Sym symbol.Semi
       → run c end (t ∷ rest) (in_body f outer ss closed) ≡ run c end rest (in_body f outer ss start)
   closed-read outer ss t rest h =
       body-taken c end f outer ss closed t rest (record { outer = outer; stmts = ss; phase = start }) (ap (λ (x : Tok). cond (is (mark_of x) mark.Semi) (to outer ss start) (Err (fault.Syntax t.spot))) h)
 
   -- the last value of a FOR, its step if there is one, and DO
-  limits-read : {d : ℕ} {last : ExprTree} {by : Option ExprTree} {us vs : List Placed} → SpellsExpr c.bytes d any_level last us → SpellsStep c.bytes d by vs → (outer : List Level) (ss : StmtTrees) (l : Loop) (first : ExprTree) (o : Token) (rest : List Token)
+  pub limits-read : {d : ℕ} {last : ExprTree} {by : Option ExprTree} {us vs : List Placed} → SpellsExpr c.bytes d any_level last us → SpellsStep c.bytes d by vs → (outer : List Level) (ss : StmtTrees) (l : Loop) (first : ExprTree) (o : Token) (rest : List Token)
       → d ≡ length outer → o.tok ≡ tok.Key key.Do → Within c.most us → Within c.most vs
       → run c end (tokens_of us ++ (tokens_of vs ++ o ∷ rest)) (in_body f outer ss (reading (to_end l first) [] want)) ≡ run c end rest (in_body f (record { body = of_loop l first last by; before = ss } ∷ outer) no_stmts start)
   limits-read {last = last} sp spells_no_step outer ss l first o rest eq ho wu wv =
@@ -109,7 +109,7 @@ module _ (c : Context) (end : Spot) (f : Front) where
       ∙ whole-read sq outer ss (to_step l first last) o mark.Do rest (record { outer = record { body = of_loop l first last (Some e); before = ss } ∷ outer; stmts = no_stmts; phase = start }) eq wv.1 (stops-key o key.Do refl refl ho) refl
 
   -- behind a branch, the next one is read as behind OF
-  branch-next : {d : ℕ} {bs : BranchTrees} {o : OtherTree} {ps : List Placed} → SpellsBranches c.bytes d bs o ps → (outer : List Level) (before : StmtTrees) (k : Selection) (ls : List LabelTree) (body : StmtTrees) (rest : List Token)
+  pub branch-next : {d : ℕ} {bs : BranchTrees} {o : OtherTree} {ps : List Placed} → SpellsBranches c.bytes d bs o ps → (outer : List Level) (before : StmtTrees) (k : Selection) (ls : List LabelTree) (body : StmtTrees) (rest : List Token)
       → d ≡ length outer → Within c.most ps
       → run c end (tokens_of ps ++ rest) (in_body f (record { body = of_branch k ls; before = before } ∷ outer) body start) ≡ run c end (tokens_of ps ++ rest) (in_body f outer before (labelling (with_branch k ls body) [] first_wanted))
   branch-next (spells_branch ms next_body bs o ts us vs sl sb sm) outer before k ls body rest eq w =
@@ -119,7 +119,7 @@ module _ (c : Context) (end : Spot) (f : Front) where
 
   mutual
     -- a statement and its semicolon
-    stmt-read : {d : ℕ} {s : StmtTree} {ps : List Placed} → SpellsStmt c.bytes d s ps → (outer : List Level) (done : StmtTrees) (semi : Token) (rest : List Token)
+    pub stmt-read : {d : ℕ} {s : StmtTree} {ps : List Placed} → SpellsStmt c.bytes d s ps → (outer : List Level) (done : StmtTrees) (semi : Token) (rest : List Token)
         → d ≡ length outer → semi.tok ≡ tok.Sym symbol.Semi → Within c.most ps
         → run c end (tokens_of ps ++ semi ∷ rest) (in_body f outer done start) ≡ run c end rest (in_body f outer (stmts_and done s) start)
     stmt-read (spells_assign n a e ts hn ha sp) outer done semi rest eq hs w =
@@ -173,7 +173,7 @@ module _ (c : Context) (end : Spot) (f : Front) where
         ∙ ap (λ (x : StmtTrees). run c end rest (in_body f outer x start)) (stmts-next done s ss)
 
     -- an arm of an IF, and what stands behind it, from a state that takes the arm's keyword
-    arms-read : {d : ℕ} {k : Key} {arms : ArmTrees} {o : OtherTree} {ps : List Placed} → SpellsArms c.bytes d k arms o ps → (outer : List Level) (before : StmtTrees) (done : ArmTrees) (s : State) (rest : List Token)
+    pub arms-read : {d : ℕ} {k : Key} {arms : ArmTrees} {o : OtherTree} {ps : List Placed} → SpellsArms c.bytes d k arms o ps → (outer : List Level) (before : StmtTrees) (done : ArmTrees) (s : State) (rest : List Token)
         → d ≡ length outer → Within c.most ps
         → ((i : Token) → i.tok ≡ tok.Key k → d ≤ c.most → program_step c s i ≡ Ok (in_body f outer before (reading (to_test done i.spot) [] want)))
         → run c end (tokens_of ps ++ rest) s ≡ run c end rest (in_body f outer (stmts_and before (if_ (append_arms done arms) o)) closed)
@@ -187,7 +187,7 @@ module _ (c : Context) (end : Spot) (f : Front) where
         ∙ ap (λ (x : ArmTrees). run c end rest (in_body f outer (stmts_and before (if_ x o)) closed)) (arms-next done e body i.spot arms)
 
     -- what stands behind the body of an arm
-    more-arms-read : {d : ℕ} {arms : ArmTrees} {o : OtherTree} {ps : List Placed} → SpellsMoreArms c.bytes d arms o ps → (outer : List Level) (before : StmtTrees) (done : ArmTrees) (e : ExprTree) (spot : Spot) (body : StmtTrees) (rest : List Token)
+    pub more-arms-read : {d : ℕ} {arms : ArmTrees} {o : OtherTree} {ps : List Placed} → SpellsMoreArms c.bytes d arms o ps → (outer : List Level) (before : StmtTrees) (done : ArmTrees) (e : ExprTree) (spot : Spot) (body : StmtTrees) (rest : List Token)
         → d ≡ length outer → Within c.most ps
         → run c end (tokens_of ps ++ rest) (in_body f (record { body = of_arm done e spot; before = before } ∷ outer) body start) ≡ run c end rest (in_body f outer (stmts_and before (if_ (append_arms (arms_and done e body spot) arms) o)) closed)
     more-arms-read (spells_elsif arms o ts sa) outer before done e spot body rest eq w =
@@ -204,7 +204,7 @@ module _ (c : Context) (end : Spot) (f : Front) where
         ∙ ap (λ (x : ArmTrees). run c end rest (in_body f outer (stmts_and before (if_ x no_other)) closed)) (sym (arms-none (arms_and done e body spot)))
 
     -- a branch of a CASE, and what stands behind it
-    branches-read : {d : ℕ} {bs : BranchTrees} {o : OtherTree} {ps : List Placed} → SpellsBranches c.bytes d bs o ps → (outer : List Level) (before : StmtTrees) (k : Selection) (rest : List Token)
+    pub branches-read : {d : ℕ} {bs : BranchTrees} {o : OtherTree} {ps : List Placed} → SpellsBranches c.bytes d bs o ps → (outer : List Level) (before : StmtTrees) (k : Selection) (rest : List Token)
         → d ≡ length outer → Within c.most ps
         → run c end (tokens_of ps ++ rest) (in_body f outer before (labelling k [] first_wanted)) ≡ run c end rest (in_body f outer (stmts_and before (case k.on (append_branches k.branches bs) o k.spot)) closed)
     branches-read (spells_branch ls body bs o ts us vs sl sb sm) outer before k rest eq w =
@@ -216,7 +216,7 @@ module _ (c : Context) (end : Spot) (f : Front) where
         ∙ ap (λ (x : BranchTrees). run c end rest (in_body f outer (stmts_and before (case k.on x o k.spot)) closed)) (branches-next k.branches ls body bs)
 
     -- what stands behind the body of a branch
-    more-branches-read : {d : ℕ} {bs : BranchTrees} {o : OtherTree} {ps : List Placed} → SpellsMoreBranches c.bytes d bs o ps → (outer : List Level) (before : StmtTrees) (k : Selection) (ls : List LabelTree) (body : StmtTrees) (rest : List Token)
+    pub more-branches-read : {d : ℕ} {bs : BranchTrees} {o : OtherTree} {ps : List Placed} → SpellsMoreBranches c.bytes d bs o ps → (outer : List Level) (before : StmtTrees) (k : Selection) (ls : List LabelTree) (body : StmtTrees) (rest : List Token)
         → d ≡ length outer → Within c.most ps
         → run c end (tokens_of ps ++ rest) (in_body f (record { body = of_branch k ls; before = before } ∷ outer) body start) ≡ run c end rest (in_body f outer (stmts_and before (case k.on (append_branches (branches_and k.branches ls body) bs) o k.spot)) closed)
     more-branches-read (spells_next_branch bs o ts sb) outer before k ls body rest eq w =

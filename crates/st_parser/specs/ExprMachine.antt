@@ -1,4 +1,5 @@
 -- ExprMachine: an expression read token by token. What is open stands in forms, the innermost first.
+-- How the parser reads, and no promise: what it promises is in Answers.
 use Rattle.std.specs.Prelude.{ℕ, suc, ◌+◌, nat_le, List, [], ◌∷◌, Option, Some, None, Result, Ok, Err, cond}
 use Rattle.vcp_base.specs.declared.spot.Spot.{Spot}
 use Rattle.st_lexer.specs.declared.token.Token.{Token}

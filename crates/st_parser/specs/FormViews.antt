@@ -1,4 +1,5 @@
 -- FormViews: the open forms and the mode of the program as those of the machine, and what it answers to a token.
+-- What ties the code to the machine, and no promise: those are in Answers.
 use Rattle.std.specs.Prelude.{◌≡◌, ℕ, suc, ◌<◌, ◌≤◌, List, [], ◌∷◌, Option, Some, None, Result, Ok, Err}
 use Rattle.st_lexer.specs.declared.token.Token.{Token}
 use Rattle.st_tree.specs.declared.expr.Expr.{Expr}

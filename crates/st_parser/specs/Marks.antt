@@ -1,4 +1,5 @@
 -- Marks: what a token does, by its place.
+-- How the parser reads, and no promise: what it promises is in Answers.
 use Rattle.std.specs.Prelude.{ℕ, ◌==◌, Bool, pos, Some}
 use Rattle.vcp_base.specs.declared.ty.Ty.{Ty}
 use Rattle.vcp_base.specs.declared.ty.Ty.TheVariants as ty

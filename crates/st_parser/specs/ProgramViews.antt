@@ -1,4 +1,5 @@
 -- ProgramViews: the state of the code between the tokens of a program, without where it lies in memory.
+-- What ties the code to the machine, and no promise: those are in Answers.
 use Rattle.std.specs.Prelude.{map}
 use Rattle.st_tree.specs.StmtViews.{stmt_trees}
 use Rattle.st_tree.specs.ProgramViews.{declared_tree, decl_tree, block_tree}

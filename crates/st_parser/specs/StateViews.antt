@@ -1,4 +1,5 @@
 -- StateViews: the state of the code, without where it lies in memory.
+-- What ties the code to the machine, and no promise: those are in Answers.
 use Rattle.std.specs.Prelude.{◌≡◌, List, [], ◌∷◌, Option, Some, None, Result, Ok, Err}
 use Rattle.vcp_base.specs.declared.spot.Spot.{Spot}
 use Rattle.st_tree.specs.ExprTree.{ExprTree}

@@ -1,4 +1,5 @@
 -- StmtMachine: statements read token by token. What is open stands in levels, the innermost first.
+-- How the parser reads, and no promise: what it promises is in Answers.
 use Rattle.std.specs.Prelude.{ℕ, suc, List, [], ◌∷◌, ◌++◌, length, Option, Some, None, Result, Ok, Err, cond}
 use Rattle.vcp_base.specs.declared.spot.Spot.{Spot}
 use Rattle.st_lexer.specs.declared.token.Tok.{Tok}

@@ -7,6 +7,7 @@ mod expressions;
 mod fault;
 mod forms;
 mod labels;
+mod laws;
 mod levels;
 mod marks;
 mod names;
@@ -15,9 +16,12 @@ mod state;
 mod statements;
 
 pub use fault::SyntaxFault;
+pub use laws::one_answer;
 pub use parsing::parse;
 
 #[cfg(test)]
 mod expression_tests;
+#[cfg(test)]
+mod place_tests;
 #[cfg(test)]
 mod tests;

@@ -7,7 +7,7 @@ ghost use Rattle.st_tree.specs.ProgramTree.{ProgramTree};
 ghost use Rattle.st_tree.specs.StmtViews.{stmt_trees};
 ghost use Rattle.st_tree.specs.ProgramViews.{program_tree};
 ghost use Rattle.st_spelling.specs.Spelling.{bytes_in, Spells, SpellsWithin};
-ghost use Rattle.st_parser.specs.Answers.{Refuses, IsAnswered};
+ghost use Rattle.st_parser.specs.Answers.{NoneTooDeep, Refuses, IsAnswered};
 ghost use Rattle.st_parser.specs.StateViews.{Gives, levels, phase as phase_of};
 ghost use Rattle.st_parser.specs.StmtMachine.{finished};
 ghost use Rattle.st_parser.specs.ProgramViews as view;
@@ -114,15 +114,17 @@ pub fn parse(alloc: Global, text: &[u8], tokens: &Tokens) -> Result<Program, Syn
     requires reading { Reads text.now tokens.now.tokens }
 
     // What is answered is spelled so, no token deeper than the limit, and is the only program that the
-    // tokens spell, however deep.
+    // tokens spell, however deep; and no token is too deep, whatever program the tokens through it begin.
     ensures spelled { IfOk result (λ p. SpellsWithin most_depth (program_tree p) text.now tokens.now.tokens) }
     ensures one { (p : ProgramTree) → Spells p text.now tokens.now.tokens → IfOk result (λ q. program_tree q ≡ p) }
+    ensures shallow { IfOk result (λ p. NoneTooDeep tokens.now.tokens) }
 
-    // What is spelled so is answered.
+    // What is spelled so is answered; and so is what is spelled, where no token is too deep.
     ensures only { (p : ProgramTree) → SpellsWithin most_depth p text.now tokens.now.tokens → IsAnswered result p }
+    ensures all { (p : ProgramTree) → Spells p text.now tokens.now.tokens → NoneTooDeep tokens.now.tokens → IsAnswered result p }
 
-    // A fault of syntax is at the first token through which nothing begins, or at the end; a fault of
-    // depth is at a token through which a program begins, but none within the limit.
+    // A fault of syntax is at the first token through which nothing begins, or at the end, and no token
+    // before it is too deep; a fault of depth is at the first token that is too deep.
     ensures err { IfErr result (Refuses text.now tokens.now.tokens tokens.now.end) }
 {
     one_reading();

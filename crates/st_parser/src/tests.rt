@@ -372,20 +372,7 @@ const PROGRAMS: [(&[u8], &[u8]); 21] = [
     ),
 ];
 
-const FAULTS: [(&[u8], &[u8]); 50] = [
-    (b"", b"syntax 1:1"),
-    (b"PROGRAM p y := ; END_PROGRAM", b"syntax 1:16"),
-    (b"PROGRAM p", b"syntax 1:10"),
-    (b"PROGRAM p y := 1 := 2; END_PROGRAM", b"syntax 1:18"),
-    (b"PROGRAM p CASE s OF END_CASE; END_PROGRAM", b"syntax 1:21"),
-    (
-        b"PROGRAM p VAR x : DINT END_VAR END_PROGRAM",
-        b"syntax 1:24",
-    ),
-    (
-        b"PROGRAM p IF x THEN y := 1 END_IF; END_PROGRAM",
-        b"syntax 1:28",
-    ),
+const FAULTS: [(&[u8], &[u8]); 43] = [
     (b"p", b"syntax 1:1"),
     (b"PROGRAM PROGRAM", b"syntax 1:9"),
     (b"PROGRAM p END_PROGRAM ;", b"syntax 1:23"),

@@ -17,9 +17,6 @@ at d t = record { token = t; depth = d }
 abbrev pub tokens_of : List Placed → List Token
 tokens_of ps = map (λ p. p.token) ps
 
-abbrev pub depths_of : List Placed → List ℕ
-depths_of ps = map (λ p. p.depth) ps
-
 -- no token is deeper than the limit
 abbrev pub Within : ℕ → List Placed → Type 0
 Within limit [] = Unit {0}

@@ -1,8 +1,8 @@
 -- Spelling: which programs the tokens of a text spell, which tokens begin a program, and how deep a token stands.
-use Rattle.std.specs.Prelude.{◌≡◌, ℕ, suc, ◌-◌, List, [], ◌++◌, take, drop, slice_get, Some}
+use Rattle.std.specs.Prelude.{◌≡◌, ℕ, ◌-◌, List, [], ◌∷◌, ◌++◌, take, drop}
 use Rattle.st_lexer.specs.declared.token.Token.{Token}
 use Rattle.st_tree.specs.ProgramTree.{ProgramTree}
-use Rattle.st_spelling.specs.Placed.{Placed, tokens_of, depths_of, Within}
+use Rattle.st_spelling.specs.Placed.{Placed, at, tokens_of, Within}
 use Rattle.st_spelling.specs.Programs.{SpellsProgram}
 
 -- the bytes of a token in its text
@@ -28,8 +28,8 @@ Begins ts =
     (more : List Token) × (program : ProgramTree) × (ps : List Placed)
     × SpellsProgram left_aside program ps × (tokens_of ps ≡ ts ++ more)
 
--- The tokens through token i begin a program, in which it has the depth d.
-abbrev pub Depth : List Token → ℕ → ℕ → Type 0
-Depth ts i d =
-    (more : List Token) × (program : ProgramTree) × (ps : List Placed)
-    × SpellsProgram left_aside program ps × (tokens_of ps ≡ take (suc i) ts ++ more) × (slice_get (depths_of ps) i ≡ Some d)
+-- With further tokens, those before t and then t at the depth d spell a program, the bytes of names left aside.
+abbrev pub Depth : List Token → Token → ℕ → Type 0
+Depth before t d =
+    (program : ProgramTree) × (front more : List Placed)
+    × SpellsProgram left_aside program (front ++ at d t ∷ more) × (tokens_of front ≡ before)

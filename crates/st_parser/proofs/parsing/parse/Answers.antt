@@ -1,4 +1,5 @@
-use Rattle.st_parser.proofs.Verdicts.{spelled-of, one-of, answered, err-of}
+use Rattle.st_parser.proofs.Verdicts.{spelled-of, one-of, answered, err-of, shallow-of}
+use Rattle.st_parser.proofs.OneAnswer.{within-by-none}
 use Rattle.st_parser.proofs.parsing.parse.Goals as goal
 
 pub returns : goal.returns
@@ -12,5 +13,7 @@ returns c =
       spelled = spelled-of text end ts r e;
       one = one-of text end ts r e;
       only = λ p s. answered text end ts p r s e;
+      all = λ p s none. answered text end ts p r (within-by-none c.spelling_begins.ensures.renamed text ts p s none) e;
+      shallow = shallow-of c.spelling_begins.ensures.renamed text end ts r e;
       err = err-of c.spelling_begins.ensures.renamed text end ts r e;
     }
