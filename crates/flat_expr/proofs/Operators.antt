@@ -1,5 +1,5 @@
 -- Operators: masks, comparisons and arithmetic, step by step.
-use Rattle.std.proofs.Common.{◌≡◌, ℕ, zero, suc, ◌+◌, ◌≤◌, ℤ, pos, negsuc, ◌-ℤ◌, neg_ℤ, int_lt, int_le, Bool, true, false, not, cond, List, [], reverse, Option, Some, None, Result, Ok, Err, refl, sym, ap, ap₂, ◌∙◌, subst, arith, nat_lt}
+use Rattle.std.proofs.Common.{◌≡◌, ℕ, zero, suc, ◌+◌, ◌≤◌, ℤ, pos, negsuc, ◌-ℤ◌, neg_ℤ, int_lt, int_le, Bool, true, false, not, cond, List, [], reverse, Option, Some, None, length, Result, Ok, Err, refl, sym, ap, ap₂, ◌∙◌, subst, arith, nat_lt}
 use Rattle.std.proofs.lemmas.Bool.Decides.{nat_tests}
 use Rattle.vcp_base.specs.declared.spot.Spot.{Spot}
 use Rattle.vcp_base.specs.declared.turns.Turn.{Turn}
@@ -16,7 +16,7 @@ use Rattle.op_graph.specs.Rules.{is_number}
 use Rattle.vcp_base.specs.Values.{at}
 use Rattle.vcp_typed.specs.Meaning.{Stop, in_range}
 use Rattle.st_tree.specs.declared.expr.UnOp.TheVariants as un
-use Rattle.flat_expr.specs.State.{State, stopped, missing, IsState, IsA, IsPlace, active, IsNumber, guarded, exactly, IsValue, Follows, Meant, Makes, Pushes, act, acts, giving, neutral, masks, guards, is_arithmetic, divides, is_comparison, compares, denies, signs, picks, limits, selects, narrows, copies}
+use Rattle.flat_expr.specs.State.{State, stopped, missing, IsState, IsA, IsPlace, active, IsNumber, guarded, exactly, IsValue, Follows, Meant, Makes, Pushes, act, acts, giving, neutral, neutral_place, with_neutral, reserved, masks, guards, is_arithmetic, divides, is_comparison, compares, denies, signs, picks, limits, selects, narrows, copies}
 use Rattle.flat_expr.proofs.Ops.{there, isa}
 use Rattle.flat_expr.proofs.Runs.{Typed}
 use Rattle.flat_expr.proofs.Steps.{made, then, weaker, stays, follows-self, Tells, AsGood, as_good-self, as_good-is}
@@ -108,6 +108,36 @@ unit_new s p k e e2 f = record {
   where
     i : IsState p
     i = f.follows.after
+
+-- the constant of masks, by its number
+number_fits : (one : Bool) → fits ty.Int (neutral one) ≡ true
+number_fits true = refl
+number_fits false = refl
+
+pub made_neutral : (s p : State) (one : Bool) (v : ℤ) (k : ℕ) → v ≡ neutral one
+    → Pushes s p (record { kind = kind.Const; from = ty.Int; ty = ty.Int; a = 0; b = 0; c = 0; imm = v; spot = record { line = 0; col = 0 }; turn = 0 }) k → Makes s p ty.Int 1 (giving (neutral one)) k
+made_neutral s p one v k e h =
+    made_const s p ty.Int (neutral one) (record { line = 0; col = 0 }) 0 k (number_fits one)
+    (subst (λ n. Pushes s p (record { kind = kind.Const; from = ty.Int; ty = ty.Int; a = 0; b = 0; c = 0; imm = n; spot = record { line = 0; col = 0 }; turn = 0 }) k) e h)
+
+pub neutral_there : (s : State) (one : Bool) (k : ℕ) → IsState s → neutral_place s one ≡ Some k → Makes s s ty.Int 0 (giving (neutral one)) k
+neutral_there s true k i e = unit_there s k i e
+neutral_there s false k i e = nought_there s k i e
+
+pub neutral_new : (s p : State) (one : Bool) (k : ℕ) → neutral_place s one ≡ None → neutral_place p one ≡ None → Makes s p ty.Int 1 (giving (neutral one)) k
+    → Makes s (with_neutral p one k) ty.Int 0 (giving (neutral one)) k
+neutral_new s p true k e e2 f = unit_new s p k e e2 f
+neutral_new s p false k e e2 f = nought_new s p k e e2 f
+
+-- there is room for the constant that isn't there yet
+pub neutral_room : (s : State) (one : Bool) → neutral_place s one ≡ None → 1 + length s.graph.operations ≤ reserved s
+neutral_room s true e = let missed = ap missing e in omega (arith, missed)
+neutral_room s false e = let missed = ap missing e in omega (arith, missed)
+
+-- another operation leaves the constants as they are
+pub neutral_pushed : (s p : State) (op : Op) (one : Bool) (k : ℕ) → Pushes s p op k → neutral_place p one ≡ neutral_place s one
+neutral_pushed s p op true k h = ap (λ (x : State). x.unit) h.is
+neutral_pushed s p op false k h = ap (λ (x : State). x.nought) h.is
 
 -- ---- masks
 

@@ -277,6 +277,16 @@ op_at s k from to a b c imm spot = record { kind = k; from = from; ty = to; a = 
 abbrev pub neutral : Bool → ℤ
 neutral one = cond one (pos 1) (pos 0)
 
+-- the operation of that number, where it is there
+abbrev pub neutral_place : State → Bool → Option ℕ
+neutral_place s true = s.unit
+neutral_place s false = s.nought
+
+-- operation k is that of the number
+abbrev pub with_neutral : State → Bool → ℕ → State
+with_neutral s true k = record s { unit = Some k }
+with_neutral s false k = record s { nought = Some k }
+
 -- an operand where the place is reached, and else the neutral number
 abbrev pub masks : State → Bool → ℕ → Meant
 masks s one k = λ now vs. Ok (Some (cond (active s.path vs) (at vs k) (neutral one)))

@@ -1,7 +1,6 @@
 -- Told: a run as it is told. The run of a program and the run of a graph each have one function into it.
-use Rattle.std.specs.Prelude.{◌≡◌, ℕ, ℤ, List, [], map, slice_get, slice_index_or, Option, Some, None}
-use Rattle.vcp_base.specs.declared.spot.Spot.{Spot}
-use Rattle.vcp_base.specs.declared.turns.Turn.{Turn}
+use Rattle.std.specs.Prelude.{◌≡◌, ℕ, ℤ, List, map, slice_get, Option, Some, None}
+use Rattle.vcp_base.specs.Stops.{ToldStop, told_stop}
 use Rattle.vcp_base.specs.declared.kind.StopKind.{StopKind}
 use Rattle.op_graph.specs.declared.op.Op.{Op}
 use Rattle.op_graph.specs.Lists.{Lists, column, output_column, turns_of}
@@ -11,28 +10,10 @@ use Rattle.vcp_typed.specs.Meaning.{Stop}
 use Rattle.vcp_typed.specs.Fitting.{AreRows, input_types, input_columns, output_columns}
 use Rattle.vcp_typed.specs.SourceRun.{Program, source_run}
 
--- one turn of a FOR: its control variable's name, and the value
-pub record ToldTurn : Type 0 where
-  pub name : List ℕ
-  pub value : ℤ
-
--- a stop: why, where, and in which turns, outermost first
-pub record ToldStop : Type 0 where
-  pub kind : StopKind
-  pub spot : Spot
-  pub turns : List ToldTurn
-
 -- the rows of the outputs, and the stop that ended the run, or none
 pub record Told : Type 0 where
   pub rows : List (List ℤ)
   pub end : Option ToldStop
-
--- a turn whose name is a number in a list of names
-abbrev pub told_turn : List (List ℕ) → Turn → ToldTurn
-told_turn names t = record { name = slice_index_or names t.name []; value = t.value }
-
-abbrev pub told_stop : List (List ℕ) → StopKind → Spot → List Turn → ToldStop
-told_stop names kind spot turns = record { kind = kind; spot = spot; turns = map (told_turn names) turns }
 
 -- ---- the run of a program
 

@@ -1,6 +1,6 @@
 //! The state of a flattening.
 
-ghost use Rattle.std.specs.Prelude.{◌≡◌, ◌<◌, ◌≤◌, ◌↔◌, ◌+◌, ℤ, pos, true, length, get_or, slice_get, set, Some, None, Ok, Err, IfOk, IfErr, OnOk, OnErr, [], All, cond};
+ghost use Rattle.std.specs.Prelude.{◌≡◌, ◌<◌, ◌≤◌, ◌↔◌, ◌+◌, ℤ, true, length, get_or, slice_get, set, Some, None, Ok, Err, IfOk, IfErr, OnOk, OnErr, [], All, cond};
 ghost use Rattle.op_graph.specs.Rules.{OpFits, TurnNodeFits, operand_fits, types_fit, is_number};
 ghost use Rattle.op_graph.specs.Building.{nowhere, with_input};
 ghost use Rattle.op_graph.specs.Lists.{nothing};
@@ -8,7 +8,7 @@ ghost use Rattle.op_graph.specs.declared.build.Build.TheVariants as build;
 ghost use Rattle.vcp_base.specs.declared.ty.Ty.TheVariants as type_of;
 ghost use Rattle.flat_expr.specs.Begin.{entered, held_from};
 ghost use Rattle.flat_expr.specs.Laws.{Laws};
-ghost use Rattle.flat_expr.specs.State.{IsState, IsPlace, IsA, Pushes, Makes, is_plain, reads, acts, giving, neutral as neutral_of, masks, guards, is_arithmetic, divides, is_comparison, denies, operates, signs, reading, Flattens, FlattensOne, FunFits, applies, argument as argument_of, one_size, picks, limits, selects, narrows, copies, sizes_up, placed, Refuses, Assigns, Nests, Begins, Finishes, reserved, last_size};
+ghost use Rattle.flat_expr.specs.State.{IsState, IsPlace, IsA, Pushes, Makes, is_plain, reads, acts, giving, neutral as neutral_of, neutral_place, with_neutral, masks, guards, is_arithmetic, divides, is_comparison, denies, operates, signs, reading, Flattens, FlattensOne, FunFits, applies, argument as argument_of, one_size, picks, limits, selects, narrows, copies, sizes_up, placed, Refuses, Assigns, Nests, Begins, Finishes, reserved, last_size};
 ghost use Rattle.flat_expr.specs.Told.{names_of};
 ghost use Rattle.vcp_base.specs.declared.kind.Kind.TheVariants as kind_of;
 ghost use Rattle.vcp_typed.specs.declared.slot.Slot.{Slot as SlotOf};
@@ -97,6 +97,14 @@ fn enter(graph: &mut GraphBuilder, name: u32, slot: &Slot) -> Result<Option<u32>
         Class::Input => Ok(Some(graph.input(name, slot.ty, slot.spot)?)),
         Class::Output | Class::Local | Class::Retain | Class::Constant => Ok(None),
     }
+}
+
+/// The neutral number of a mask: 1 for a divisor, and else 0.
+fn neutral_number(one: bool) -> i64
+    ensures is { result ≡ neutral_of one }
+    ensures fits { fits type_of.Int result ≡ true }
+{
+    if one { 1 } else { 0 }
 }
 
 impl<'a> Flat<'a> {
@@ -240,58 +248,47 @@ impl<'a> Flat<'a> {
         })
     }
 
-    // The INT 0 of the masks, which is added when it is first needed.
-    fn nought(&mut self) -> Result<u32, Build>
-        ensures made { IfOk result (λ k. Makes self.old self.new type_of.Int 0 (giving (pos 0)) k) }
-        ensures refuses { IfErr result (λ why. Refuses self.old self.new 0 why) }
+    // The operation of a mask's neutral number, where it is there.
+    fn neutral_there(&self, one: bool) -> Option<u32>
+        ensures place { result ≡ neutral_place self.now one }
+        ensures state { IsState self.now }
     {
-        if let Some(k) = self.nought {
-            return Ok(k);
-        }
-        let k = self.push(Op {
-            kind: Kind::Const,
-            from: Ty::Int,
-            ty: Ty::Int,
-            a: 0,
-            b: 0,
-            c: 0,
-            imm: 0,
-            spot: Spot { line: 0, col: 0 },
-            turn: 0,
-        })?;
-        self.nought = Some(k);
-        Ok(k)
+        if one { self.unit } else { self.nought }
     }
 
-    // The INT 1 of the masks, which is added when it is first needed.
-    fn unit(&mut self) -> Result<u32, Build>
-        ensures made { IfOk result (λ k. Makes self.old self.new type_of.Int 0 (giving (pos 1)) k) }
-        ensures refuses { IfErr result (λ why. Refuses self.old self.new 0 why) }
+    // From now on the operation is that of a mask's neutral number.
+    fn keep_neutral(&mut self, one: bool, k: u32)
+        requires { IsA type_of.Int self.old.graph.operations k }
+        ensures { self.new ≡ with_neutral self.old one k }
     {
-        if let Some(k) = self.unit {
-            return Ok(k);
+        if one {
+            self.unit = Some(k);
+        } else {
+            self.nought = Some(k);
         }
-        let k = self.push(Op {
-            kind: Kind::Const,
-            from: Ty::Int,
-            ty: Ty::Int,
-            a: 0,
-            b: 0,
-            c: 0,
-            imm: 1,
-            spot: Spot { line: 0, col: 0 },
-            turn: 0,
-        })?;
-        self.unit = Some(k);
-        Ok(k)
     }
 
-    // The neutral number of a mask.
+    // The neutral number of a mask, which is added when it is first needed.
     fn neutral(&mut self, one: bool) -> Result<u32, Build>
         ensures made { IfOk result (λ k. Makes self.old self.new type_of.Int 0 (giving (neutral_of one)) k) }
         ensures refuses { IfErr result (λ why. Refuses self.old self.new 0 why) }
     {
-        if one { self.unit() } else { self.nought() }
+        if let Some(k) = self.neutral_there(one) {
+            return Ok(k);
+        }
+        let k = self.push(Op {
+            kind: Kind::Const,
+            from: Ty::Int,
+            ty: Ty::Int,
+            a: 0,
+            b: 0,
+            c: 0,
+            imm: neutral_number(one),
+            spot: Spot { line: 0, col: 0 },
+            turn: 0,
+        })?;
+        self.keep_neutral(one, k);
+        Ok(k)
     }
 
     // The value of operation k where the place is reached, and else the neutral number.
@@ -622,7 +619,7 @@ impl<'a> Flat<'a> {
         ensures refuses { IfErr result (λ why. Refuses self.old self.new 5 why) }
     {
         let m = self.mask(a, ty, false, spot)?;
-        let z = self.nought()?;
+        let z = self.neutral(false)?;
         let r = self.add(Kind::Lt, ty, Ty::Bool, m, z, 0, spot)?;
         let n = self.add(Kind::Neg, ty, ty, m, 0, 0, spot)?;
         self.add(Kind::Sel, ty, ty, r, m, n, spot)

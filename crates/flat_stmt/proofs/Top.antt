@@ -18,7 +18,8 @@ use Rattle.vcp_typed.specs.SourceRun.{Program, Run, is_input, initial, with_inpu
 use Rattle.vcp_typed.specs.SourceRun.{after_cycle as after_source}
 use Rattle.flat_expr.specs.State.{State, active, AreLoaded, Begins, IsCell, Finishes, stopped}
 use Rattle.flat_expr.specs.State.{run_from as ops_from, run as graph_run}
-use Rattle.flat_expr.specs.Told.{Told, told_stop, names_of, source_end, halted_at, graph_end, Means}
+use Rattle.vcp_base.specs.Stops.{told_stop}
+use Rattle.flat_expr.specs.Told.{Told, names_of, source_end, halted_at, graph_end, Means}
 use Rattle.flat_stmt.specs.Moves.{here, EndsIn, Tells, where_reached, Does}
 
 -- ---- a run of operations, and the cycle of a graph

@@ -1,5 +1,6 @@
 pub mod Moves
 pub mod Conditions
 pub mod Branches
+pub mod Adds
 pub mod Weight
 pub mod Parts

@@ -1,25 +1,22 @@
 //! The operations of statements.
 
-ghost use Rattle.std.specs.Prelude.{◌≡◌, ◌<◌, ◌≤◌, ◌+◌, ◌+ℤ◌, ◌++◌, ◌∷◌, [], ℤ, Bool, true, false, FitsSigned, Some, List, IfOk, IfErr, OnOk, length, slice_get, sum_by};
+ghost use Rattle.std.specs.Prelude.{◌≡◌, ◌<◌, ◌≤◌, ◌+◌, ◌+ℤ◌, ℤ, Bool, true, false, FitsSigned, Some, IfOk, IfErr, OnOk, length, slice_get};
 ghost use Rattle.std.specs.Int.{w64};
-ghost use Rattle.std.specs.List.{list_any};
-ghost use Rattle.vcp_base.specs.Kinds.{truth};
 ghost use Rattle.vcp_base.specs.Limits.{most_turn_nodes};
 ghost use Rattle.vcp_base.specs.Types.{fits};
 ghost use Rattle.vcp_base.specs.declared.ty.Ty.TheVariants as type_of_value;
-ghost use Rattle.op_graph.specs.Lists.{turns_of};
-ghost use Rattle.vcp_base.specs.Values.{at};
 ghost use Rattle.vcp_typed.specs.declared.slot.Slot.{Slot};
 ghost use Rattle.vcp_typed.specs.Checked.{IsExpr, ty_of};
 ghost use Rattle.vcp_typed.specs.Rules.{joined as joined_type};
-ghost use Rattle.vcp_typed.specs.Meaning.{is_labelled, turn as turn_of, all_turns, do_stmt, do_stmts, do_arms, do_branches, do_other};
-ghost use Rattle.vcp_typed.specs.Size.{expr_size, stmt_size, stmts_size, arms_size, branches_size, other_size, label_size};
+ghost use Rattle.vcp_typed.specs.Size.{expr_size, stmt_size, stmts_size, other_size};
 ghost use Rattle.vcp_typed.specs.TExprViews.{texpr_tree};
 ghost use Rattle.vcp_typed.specs.TStmtTree.{no_tarms, and_tarm, no_tbranches, and_tbranch, no_tother, for_};
 ghost use Rattle.vcp_typed.specs.TStmtViews.{tstmt_tree, tstmt_trees, tarm_trees, tbranch_trees, tother_tree};
-ghost use Rattle.flat_expr.specs.State.{State, IsA, IsPlace, active};
-ghost use Rattle.flat_stmt.specs.Moves.{Moves, Does, Any, where_reached, setting, assigning};
-ghost use Rattle.flat_stmt.specs.Branches.{Conditions, branch_of, arm_of, next_of, choosing};
+ghost use Rattle.flat_expr.specs.State.{IsA, IsPlace};
+ghost use Rattle.flat_stmt.specs.Moves.{Moves, Does, setting};
+ghost use Rattle.flat_stmt.specs.Branches.{Conditions, next_of};
+ghost use Rattle.flat_stmt.specs.Adds.{AddsAssignment, AddsStmt, AddsStmts, AddsBody, AddsArm, AddsIf, AddsBranch, AddsBranches, AddsCase, AddsOther, AddsTurn};
+ghost use Rattle.flat_stmt.specs.Adds.{arm_size, if_size, branch_size, rest_size, case_size};
 ghost use Rattle.flat_stmt.specs.Parts.{StmtPart, StmtsPart, ArmsPart, BranchesPart, OtherPart, Fills};
 
 use crate::condition::{deny, join, labels};
@@ -48,7 +45,7 @@ fn add_assignment(flat: &mut Flat, slot: u32, value: &TExpr, spot: Spot) -> Resu
     requires checked { IsExpr flat.old.slots (texpr_tree value.now) }
     requires slot { slot < length flat.old.slots }
     requires fits { (x : Slot) → slice_get flat.old.slots slot ≡ Some x → x.ty ≡ ty_of (texpr_tree value.now) }
-    ensures made { IfOk result (λ _. Does flat.old flat.new (1 + expr_size (texpr_tree value.now)) (assigning (turns_of flat.old.graph flat.old.turn) slot (texpr_tree value.now))) }
+    ensures made { IfOk result (λ _. AddsAssignment flat.old flat.new slot (texpr_tree value.now)) }
     ensures fills { IfErr result (λ e. Fills flat.old (1 + expr_size (texpr_tree value.now)) e) }
 {
     laws_of_states();
@@ -92,7 +89,7 @@ fn next_value(value: i64, by: i64, more: bool) -> i64
 fn add_stmt(flat: &mut Flat, s: &TStmt) -> Result<(), Build>
     requires checked { StmtPart flat.old.slots (tstmt_tree s.now) }
     requires room { length flat.old.graph.turn_nodes + stmt_size (tstmt_tree s.now) ≤ most_turn_nodes }
-    ensures made { IfOk result (λ _. Does flat.old flat.new (stmt_size (tstmt_tree s.now)) (do_stmt (turns_of flat.old.graph flat.old.turn) (tstmt_tree s.now))) }
+    ensures made { IfOk result (λ _. AddsStmt flat.old flat.new (tstmt_tree s.now)) }
     ensures fills { IfErr result (λ e. Fills flat.old (stmt_size (tstmt_tree s.now)) e) }
 {
     trees_of_nodes();
@@ -121,7 +118,7 @@ fn add_stmt(flat: &mut Flat, s: &TStmt) -> Result<(), Build>
 pub fn add_stmts(flat: &mut Flat, ss: &[TStmt]) -> Result<(), Build>
     requires checked { StmtsPart flat.old.slots (tstmt_trees ss.now) }
     requires room { length flat.old.graph.turn_nodes + stmts_size (tstmt_trees ss.now) ≤ most_turn_nodes }
-    ensures made { IfOk result (λ _. Does flat.old flat.new (stmts_size (tstmt_trees ss.now)) (do_stmts (turns_of flat.old.graph flat.old.turn) (tstmt_trees ss.now))) }
+    ensures made { IfOk result (λ _. AddsStmts flat.old flat.new (tstmt_trees ss.now)) }
     ensures fills { IfErr result (λ e. Fills flat.old (stmts_size (tstmt_trees ss.now)) e) }
 {
     laws_of_states();
@@ -138,7 +135,7 @@ fn add_branch(flat: &mut Flat, r: u32, body: &[TStmt], spot: Spot, more: bool) -
     requires r { IsA type_of_value.Bool flat.old.graph.operations r }
     requires checked { StmtsPart flat.old.slots (tstmt_trees body.now) }
     requires room { length flat.old.graph.turn_nodes + stmts_size (tstmt_trees body.now) ≤ most_turn_nodes }
-    ensures made { IfOk result (λ _. (x : ℤ) → Moves flat.old flat.new (λ vs. at vs r ≡ x) (3 + stmts_size (tstmt_trees body.now)) (branch_of more x (do_stmts (turns_of flat.old.graph flat.old.turn) (tstmt_trees body.now)))) }
+    ensures made { IfOk result (λ _. AddsBody flat.old flat.new r (tstmt_trees body.now) more) }
     ensures fills { IfErr result (λ e. Fills flat.old (3 + stmts_size (tstmt_trees body.now)) e) }
 {
     laws_of_states();
@@ -159,8 +156,8 @@ fn add_branch(flat: &mut Flat, r: u32, body: &[TStmt], spot: Spot, more: bool) -
 fn add_arm(flat: &mut Flat, arm: &TArm, more: bool) -> Result<(), Build>
     requires checked { ArmsPart flat.old.slots (and_tarm (texpr_tree arm.now.cond) (tstmt_trees arm.now.body.items.items) arm.now.spot no_tarms) }
     requires room { length flat.old.graph.turn_nodes + stmts_size (tstmt_trees arm.now.body.items.items) ≤ most_turn_nodes }
-    ensures made { IfOk result (λ _. Moves flat.old flat.new Any (3 + expr_size (texpr_tree arm.now.cond) + stmts_size (tstmt_trees arm.now.body.items.items)) (arm_of more (turns_of flat.old.graph flat.old.turn) (texpr_tree arm.now.cond) (do_stmts (turns_of flat.old.graph flat.old.turn) (tstmt_trees arm.now.body.items.items)))) }
-    ensures fills { IfErr result (λ e. Fills flat.old (3 + expr_size (texpr_tree arm.now.cond) + stmts_size (tstmt_trees arm.now.body.items.items)) e) }
+    ensures made { IfOk result (λ _. AddsArm flat.old flat.new (texpr_tree arm.now.cond) (tstmt_trees arm.now.body.items.items) more) }
+    ensures fills { IfErr result (λ e. Fills flat.old (arm_size (texpr_tree arm.now.cond) (tstmt_trees arm.now.body.items.items)) e) }
 {
     laws_of_states();
     let r = flat.expr(&arm.cond)?;
@@ -172,9 +169,9 @@ fn add_arm(flat: &mut Flat, arm: &TArm, more: bool) -> Result<(), Build>
 fn add_if(flat: &mut Flat, arms: &[TArm], other: &Option<TStmts>) -> Result<(), Build>
     requires arms { ArmsPart flat.old.slots (tarm_trees arms.now) }
     requires other { OtherPart flat.old.slots (tother_tree other.now) }
-    requires room { length flat.old.graph.turn_nodes + (arms_size (tarm_trees arms.now) + other_size (tother_tree other.now)) ≤ most_turn_nodes }
-    ensures made { IfOk result (λ _. Does flat.old flat.new (arms_size (tarm_trees arms.now) + other_size (tother_tree other.now)) (do_arms (turns_of flat.old.graph flat.old.turn) (tarm_trees arms.now) (do_other (turns_of flat.old.graph flat.old.turn) (tother_tree other.now)))) }
-    ensures fills { IfErr result (λ e. Fills flat.old (arms_size (tarm_trees arms.now) + other_size (tother_tree other.now)) e) }
+    requires room { length flat.old.graph.turn_nodes + (if_size (tarm_trees arms.now) (tother_tree other.now)) ≤ most_turn_nodes }
+    ensures made { IfOk result (λ _. AddsIf flat.old flat.new (tarm_trees arms.now) (tother_tree other.now)) }
+    ensures fills { IfErr result (λ e. Fills flat.old (if_size (tarm_trees arms.now) (tother_tree other.now)) e) }
 {
     laws_of_states();
     let outer = flat.condition();
@@ -199,8 +196,8 @@ fn add_case_branch(
     requires number { joined_type ty ty ≡ Some ty }
     requires checked { BranchesPart flat.old.slots ty (and_tbranch branch.now.labels.items.items (tstmt_trees branch.now.body.items.items) no_tbranches) }
     requires room { length flat.old.graph.turn_nodes + stmts_size (tstmt_trees branch.now.body.items.items) ≤ most_turn_nodes }
-    ensures made { IfOk result (λ _. (v : ℤ) → Moves flat.old flat.new (λ vs. at vs k ≡ v) (3 + sum_by label_size branch.now.labels.items.items + stmts_size (tstmt_trees branch.now.body.items.items)) (branch_of more (truth (list_any (is_labelled v) branch.now.labels.items.items)) (do_stmts (turns_of flat.old.graph flat.old.turn) (tstmt_trees branch.now.body.items.items)))) }
-    ensures fills { IfErr result (λ e. Fills flat.old (3 + sum_by label_size branch.now.labels.items.items + stmts_size (tstmt_trees branch.now.body.items.items)) e) }
+    ensures made { IfOk result (λ _. AddsBranch flat.old flat.new k branch.now.labels.items.items (tstmt_trees branch.now.body.items.items) more) }
+    ensures fills { IfErr result (λ e. Fills flat.old (branch_size branch.now.labels.items.items (tstmt_trees branch.now.body.items.items)) e) }
 {
     laws_of_states();
     let _state = flat.condition();
@@ -230,10 +227,10 @@ fn add_branches(
     requires number { joined_type ty ty ≡ Some ty }
     requires branches { BranchesPart flat.old.slots ty (tbranch_trees branches.now) }
     requires other { OtherPart flat.old.slots (tother_tree other.now) }
-    requires room { length flat.old.graph.turn_nodes + (branches_size (tbranch_trees branches.now) + other_size (tother_tree other.now)) ≤ most_turn_nodes }
-    ensures made { IfOk result (λ _. (v : ℤ) → Moves flat.old flat.new (λ vs. at vs k ≡ v) (branches_size (tbranch_trees branches.now) + other_size (tother_tree other.now)) (where_reached (do_branches (turns_of flat.old.graph flat.old.turn) v (tbranch_trees branches.now) (do_other (turns_of flat.old.graph flat.old.turn) (tother_tree other.now))))) }
+    requires room { length flat.old.graph.turn_nodes + (rest_size (tbranch_trees branches.now) (tother_tree other.now)) ≤ most_turn_nodes }
+    ensures made { IfOk result (λ _. AddsBranches flat.old flat.new k (tbranch_trees branches.now) (tother_tree other.now)) }
     ensures path { OnOk result (flat.new.path ≡ flat.old.path) }
-    ensures fills { IfErr result (λ e. Fills flat.old (branches_size (tbranch_trees branches.now) + other_size (tother_tree other.now)) e) }
+    ensures fills { IfErr result (λ e. Fills flat.old (rest_size (tbranch_trees branches.now) (tother_tree other.now)) e) }
 {
     laws_of_states();
     let outer = flat.condition();
@@ -263,9 +260,9 @@ fn add_case(
     requires number { joined_type (ty_of (texpr_tree on.now)) (ty_of (texpr_tree on.now)) ≡ Some (ty_of (texpr_tree on.now)) }
     requires branches { BranchesPart flat.old.slots (ty_of (texpr_tree on.now)) (tbranch_trees branches.now) }
     requires other { OtherPart flat.old.slots (tother_tree other.now) }
-    requires room { length flat.old.graph.turn_nodes + (expr_size (texpr_tree on.now) + branches_size (tbranch_trees branches.now) + other_size (tother_tree other.now)) ≤ most_turn_nodes }
-    ensures made { IfOk result (λ _. Does flat.old flat.new (expr_size (texpr_tree on.now) + branches_size (tbranch_trees branches.now) + other_size (tother_tree other.now)) (choosing (turns_of flat.old.graph flat.old.turn) (texpr_tree on.now) (tbranch_trees branches.now) (tother_tree other.now))) }
-    ensures fills { IfErr result (λ e. Fills flat.old (expr_size (texpr_tree on.now) + branches_size (tbranch_trees branches.now) + other_size (tother_tree other.now)) e) }
+    requires room { length flat.old.graph.turn_nodes + (case_size (texpr_tree on.now) (tbranch_trees branches.now) (tother_tree other.now)) ≤ most_turn_nodes }
+    ensures made { IfOk result (λ _. AddsCase flat.old flat.new (texpr_tree on.now) (tbranch_trees branches.now) (tother_tree other.now)) }
+    ensures fills { IfErr result (λ e. Fills flat.old (case_size (texpr_tree on.now) (tbranch_trees branches.now) (tother_tree other.now)) e) }
 {
     laws_of_states();
     let k = flat.expr(on)?;
@@ -277,7 +274,7 @@ fn add_case(
 fn add_other(flat: &mut Flat, other: &Option<TStmts>) -> Result<(), Build>
     requires checked { OtherPart flat.old.slots (tother_tree other.now) }
     requires room { length flat.old.graph.turn_nodes + other_size (tother_tree other.now) ≤ most_turn_nodes }
-    ensures made { IfOk result (λ _. Does flat.old flat.new (other_size (tother_tree other.now)) (do_other (turns_of flat.old.graph flat.old.turn) (tother_tree other.now))) }
+    ensures made { IfOk result (λ _. AddsOther flat.old flat.new (tother_tree other.now)) }
     ensures fills { IfErr result (λ e. Fills flat.old (other_size (tother_tree other.now)) e) }
 {
     let _state = flat.condition();
@@ -300,7 +297,7 @@ fn add_for(
 ) -> Result<(), Build>
     requires checked { StmtPart flat.old.slots (for_ slot first by turns (tstmt_trees body.now) spot) }
     requires room { length flat.old.graph.turn_nodes + stmt_size (for_ slot first by turns (tstmt_trees body.now) spot) ≤ most_turn_nodes }
-    ensures made { IfOk result (λ _. Does flat.old flat.new (stmt_size (for_ slot first by turns (tstmt_trees body.now) spot)) (do_stmt (turns_of flat.old.graph flat.old.turn) (for_ slot first by turns (tstmt_trees body.now) spot))) }
+    ensures made { IfOk result (λ _. AddsStmt flat.old flat.new (for_ slot first by turns (tstmt_trees body.now) spot)) }
     ensures fills { IfErr result (λ e. Fills flat.old (stmt_size (for_ slot first by turns (tstmt_trees body.now) spot)) e) }
 {
     if turns == 0 {
@@ -323,7 +320,7 @@ fn add_turn(flat: &mut Flat, slot: u32, value: i64, body: &[TStmt], spot: Spot) 
     requires fits { (x : Slot) → slice_get flat.old.slots slot ≡ Some x → fits x.ty value ≡ true }
     requires checked { StmtsPart flat.old.slots (tstmt_trees body.now) }
     requires room { length flat.old.graph.turn_nodes + (2 + stmts_size (tstmt_trees body.now)) ≤ most_turn_nodes }
-    ensures made { IfOk result (λ _. Does flat.old flat.new (2 + stmts_size (tstmt_trees body.now)) (turn_of slot (λ v. do_stmts (turns_of flat.old.graph flat.old.turn ++ record { name = slot; value = v } ∷ []) (tstmt_trees body.now)) value)) }
+    ensures made { IfOk result (λ _. AddsTurn flat.old flat.new slot (tstmt_trees body.now) value) }
     ensures fills { IfErr result (λ e. Fills flat.old (2 + stmts_size (tstmt_trees body.now)) e) }
 {
     laws_of_states();
