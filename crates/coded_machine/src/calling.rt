@@ -1,6 +1,6 @@
 //! The call of one operation, from the answers to the earlier ones.
 
-ghost use Rattle.std.specs.Prelude.{◌≡◌, ◌<◌, ◌≤◌, Some, length, slice_get};
+ghost use Rattle.std.specs.Prelude.{◌≡◌, ◌<◌, ◌≤◌, Some, length, slice_get, unsigned_abs};
 ghost use Rattle.vcp_base.specs.Limits.{most_operations, most_cycles};
 ghost use Rattle.vcp_base.specs.Values.{at};
 ghost use Rattle.coded_unit.specs.Asked.{Asked};
@@ -92,6 +92,16 @@ fn input_at(row: &Row, i: u64) -> i64
     }
 }
 
+/// The value of the input that an INPUT reads, and 0 for any other kind, which reads none.
+fn own_input(row: &Row, op: &Op) -> i64
+    ensures { op.now.kind ≡ Kind.Input → result ≡ at row.now (unsigned_abs op.now.imm) }
+{
+    match op.kind {
+        Kind::Input => input_at(row, op.imm.unsigned_abs()),
+        _ => 0,
+    }
+}
+
 /// The word of operand `j` of an operation, which reads operation `from`.
 fn operand(setting: &Setting<'_>, op: &Op, answers: &[Answer], j: u32, from: u32) -> Word
     ensures { result ≡ operand_word setting.now.held.now answers.now op.now j from }
@@ -153,7 +163,7 @@ pub(crate) fn call_after(setting: &Setting<'_>, op: &Op, answers: &[Answer]) -> 
         a: operand(setting, op, answers, 0, op.a),
         b: operand(setting, op, answers, 1, op.b),
         c: operand(setting, op, answers, 2, op.c),
-        input: input_at(setting.row, op.imm.unsigned_abs()),
+        input: own_input(setting.row, op),
     };
     operation_call(
         setting.graph,

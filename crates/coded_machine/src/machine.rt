@@ -82,6 +82,20 @@ impl<'a> Machine<'a> {
         })
     }
 
+    /// The graph whose operations it carries.
+    pub fn graph(&self) -> &'a Graph
+        ensures { result.now ≡ self.now.graph }
+    {
+        self.graph
+    }
+
+    /// The table of the graph's code.
+    pub fn table(&self) -> &'a Table
+        ensures { result.now ≡ self.now.table }
+    {
+        self.table
+    }
+
     /// The number of released cycles, at most 1,000,000.
     pub fn cycles(&self) -> u32
         ensures value { result ≡ self.now.cycles }
