@@ -1,0 +1,26 @@
+use Rattle.std.proofs.Common.{◌≡◌, length}
+use Rattle.coded_machine.specs.State.{State}
+use Rattle.machine_run.specs.Moments.{moment}
+use Rattle.machine_run.proofs.Overall.{Fair}
+use Rattle.machine_run.proofs.Promised.{RunLaws, HonestLaws}
+use Rattle.machine_run.proofs.UpTo.{UpTo}
+use Rattle.machine_run.proofs.run.run_rows.Given as goal
+
+abbrev pub invariant-cycles : goal.invariant-cycles
+invariant-cycles g l =
+    let first : State = l.fn.machine in
+    let unit = g.U.Unit in
+    let sink = g.O.Sink in
+    let released = g.R.ReleasedRows in
+    record {
+      runs : RunLaws;
+      honest : HonestLaws;
+      fair : Fair first.graph first.table l.fn.rows.rows;
+      inputs : length l.inputs ≡ length l.rows.types;
+      outputs : length l.outputs ≡ length first.graph.outputs;
+      so_far :
+          UpTo first.graph first.table l.fn.rows l.rows released.text (moment (unit.log l.fn.unit) (unit.wrong l.fn.unit) (sink.written l.fn.out) (sink.faults l.fn.out)) (moment (unit.log l.unit) (unit.wrong l.unit) (sink.written l.out) (sink.faults l.out)) (released.Keeps l.fn.released) (released.Keeps l.released) l.machine;
+    }
+
+abbrev pub decreases-cycles : goal.decreases-cycles
+decreases-cycles g l = length l.rows.rows

@@ -1,0 +1,6 @@
+pub mod Cycles
+pub mod Leaves
+pub mod Moments
+pub mod Refusals
+pub mod RowRuns
+pub mod Stops

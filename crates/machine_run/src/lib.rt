@@ -1,0 +1,14 @@
+//! Running a graph on the coded machine over rows of inputs: one loop, whatever the graph comes from and whatever is done with the
+//! outputs of a released cycle.
+#![tactic(auto)]
+
+mod fault;
+mod released;
+mod run;
+
+pub use fault::RunFault;
+pub use released::ReleasedRows;
+pub use run::run_rows;
+
+#[cfg(test)]
+mod tests;

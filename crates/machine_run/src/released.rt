@@ -1,0 +1,21 @@
+//! What is done with the outputs of a released cycle.
+
+ghost use Rattle.std.specs.Prelude.{ℕ, ℤ, List, [], ◌∷◌, ◌++◌, OnOk};
+ghost use Rattle.vcp_outside.specs.Written.{Writes};
+
+use vcp_base::Row;
+use vcp_outside::{Failed, Sink};
+
+/// What is done with the outputs of each released cycle of a run: a line is written, or a sum is kept.
+pub trait ReleasedRows {
+    /// What is written for the outputs of a cycle.
+    ghost text: { ℕ → List ℤ → List ℕ };
+
+    /// What is kept after these rows of outputs.
+    ghost Keeps: { Self → List (List ℤ) → Type 0 };
+
+    /// Takes the outputs of a cycle, which is counted from 0. After `Failed` a part of its text is written.
+    fn take<O: Sink>(&mut self, out: &mut O, cycle: u32, outputs: &Row) -> Result<(), Failed>
+        ensures writes { Writes (O.written out.old) (O.written out.new) (O.faults out.old) (O.faults out.new) (text cycle outputs.now) result }
+        ensures keeps { (rows : List (List ℤ)) → Keeps self.old rows → OnOk result (Keeps self.new (rows ++ outputs.now ∷ [])) };
+}
