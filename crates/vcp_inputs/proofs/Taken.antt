@@ -1,0 +1,108 @@
+-- Texts that are programs, and refusals of others.
+use Rattle.std.proofs.Common.{ℕ, ◌≤◌, ◌≡◌, refl, sym, List, length, Option, Some, None, Result, Ok, Err}
+use Rattle.std.specs.Prelude.{IfSome, IfOk, IfErr}
+use Rattle.vcp_outside.specs.ReadAll.{ReadsAll}
+use Rattle.vcp_outside.specs.declared.reading.ReadAll.{ReadAll}
+use Rattle.vcp_outside.specs.declared.reading.ReadAll.TheVariants as reading
+use Rattle.vcp_outside.specs.Held.{Held}
+use Rattle.vcp_base.specs.Limits.{most_depth, most_source_bytes}
+use Rattle.st_lexer.specs.declared.token.Token.{Token}
+use Rattle.st_lexer.specs.declared.fault.LexFault.{LexFault}
+use Rattle.st_lexer.specs.declared.fault.LexFault.TheVariants as lexer
+use Rattle.st_lexer.specs.Reading.{Reads, Faults}
+use Rattle.st_lexer.specs.Spots.{spot_at}
+use Rattle.st_parser.specs.declared.fault.SyntaxFault.{SyntaxFault}
+use Rattle.st_parser.specs.declared.fault.SyntaxFault.TheVariants as syntax
+use Rattle.st_parser.specs.Answers.{Refuses as RefusesTokens}
+use Rattle.st_spelling.specs.Spelling.{Spells, SpellsWithin}
+use Rattle.st_tree.specs.Declarable.{HasNames}
+use Rattle.st_tree.specs.ProgramTree.{ProgramTree}
+use Rattle.st_types.specs.declared.fault.TypeFault.{TypeFault}
+use Rattle.st_types.specs.declared.fault.TypeFault.TheVariants as typing
+use Rattle.st_types.specs.Typing.{Refuses as RefusesTree}
+use Rattle.vcp_inputs.specs.declared.refusal.Refusal.{Refusal}
+use Rattle.vcp_inputs.specs.declared.refusal.Refusal.TheVariants as refusal
+use Rattle.vcp_inputs.specs.declared.refusal.NoInput.{NoInput}
+use Rattle.vcp_inputs.specs.declared.refusal.NoInput.TheVariants as input
+use Rattle.vcp_inputs.specs.Files.{Untaken, long, short, NotLoaded, Loads, FileRead}
+use Rattle.vcp_inputs.specs.Programs.{IsProgram, NoProgram, NotTyped, unlexed, unparsed, no_program, mistyped}
+use Rattle.vcp_inputs.specs.Refusals as none
+
+-- the lexer's fault is told
+pub lexer_refuses : (text : List ℕ) (f : LexFault) → Faults text f → Untaken (NoProgram text) (none.unlexed f)
+lexer_refuses text (lexer.Byte spot) stops = unlexed (lexer.Byte spot) (λ e. cc) stops
+lexer_refuses text (lexer.Comment spot) stops = unlexed (lexer.Comment spot) (λ e. cc) stops
+lexer_refuses text (lexer.Number spot) stops = unlexed (lexer.Number spot) (λ e. cc) stops
+lexer_refuses text lexer.Memory stops = tt
+
+-- the parser's fault is told
+pub parser_refuses : (text : List ℕ) (ts : List Token) (f : SyntaxFault) → Reads text ts → RefusesTokens text ts (spot_at text (length text)) f → Untaken (NoProgram text) (none.unparsed f)
+parser_refuses text ts (syntax.Syntax spot) reads refused = unparsed ts (syntax.Syntax spot) (λ e. cc) reads refused
+parser_refuses text ts (syntax.Depth spot) reads refused = unparsed ts (syntax.Depth spot) (λ e. cc) reads refused
+parser_refuses text ts syntax.Memory reads refused = tt
+
+-- the parser's program is the text's
+pub is_program : (text : List ℕ) (ts : List Token) (p : ProgramTree) → Reads text ts → SpellsWithin most_depth p text ts → ((q : ProgramTree) → Spells q text ts → p ≡ q) → IsProgram text p
+is_program text ts p reads spells only = record { tokens = ts; reads = reads; spells = spells; only = λ q s. sym (only q s) }
+
+-- each name that the text's program declares may be declared
+pub has_names : (text : List ℕ) (p : ProgramTree) → ((q : ProgramTree) (t : List ℕ) (ts : List Token) → Reads t ts → length t ≤ most_source_bytes → Spells q t ts → HasNames q) → length text ≤ most_source_bytes → IsProgram text p → HasNames p
+has_names text p law few is = law p text is.tokens is.reads few (is.spells.0, is.spells.1, is.spells.2)
+
+-- a text without a program has no typed one
+pub without_tree : (text : List ℕ) (e : NoInput) → Untaken (NoProgram text) e → Untaken (NotTyped text) e
+without_tree text input.Unread h = h
+without_tree text (input.Refused r) h = no_program r h
+without_tree text input.Memory h = tt
+
+-- typing's fault is told
+pub typing_refuses : (text : List ℕ) (p : ProgramTree) (f : TypeFault) → IsProgram text p → RefusesTree p f → Untaken (NotTyped text) (none.untyped f)
+typing_refuses text p (typing.Duplicate spot) is refused = mistyped p (typing.Duplicate spot) is (λ e. cc) refused
+typing_refuses text p (typing.Unknown spot) is refused = mistyped p (typing.Unknown spot) is (λ e. cc) refused
+typing_refuses text p (typing.Mismatch spot) is refused = mistyped p (typing.Mismatch spot) is (λ e. cc) refused
+typing_refuses text p (typing.Assign spot) is refused = mistyped p (typing.Assign spot) is (λ e. cc) refused
+typing_refuses text p (typing.Bound spot) is refused = mistyped p (typing.Bound spot) is (λ e. cc) refused
+typing_refuses text p (typing.Label spot) is refused = mistyped p (typing.Label spot) is (λ e. cc) refused
+typing_refuses text p (typing.Call spot) is refused = mistyped p (typing.Call spot) is (λ e. cc) refused
+typing_refuses text p (typing.Literal spot) is refused = mistyped p (typing.Literal spot) is (λ e. cc) refused
+typing_refuses text p (typing.Names spot) is refused = mistyped p (typing.Names spot) is (λ e. cc) refused
+typing_refuses text p typing.Size is refused = mistyped p typing.Size is (λ e. cc) refused
+typing_refuses text p typing.Memory is refused = tt
+
+-- ---- files
+
+pub if_some_weaker : {X : Type 0} (o : Option X) (P Q : X → Type 0) → ((x : X) → P x → Q x) → IfSome o P → IfSome o Q
+if_some_weaker None P Q f h = tt
+if_some_weaker (Some x) P Q f h = f x h
+
+-- reading a whole file, and its refusals
+pub file_unread : (held : Held) (name : List ℕ) (limit b n : ℕ) (r : ReadAll) → ReadsAll held name limit b n (Err r) → FileRead held name limit b n (Err (none.unread r))
+file_unread held name limit b n reading.Failed h = h
+file_unread held name limit b n reading.TooLong (bytes, is, l) = (bytes, is, long l)
+file_unread held name limit b n reading.Memory h = tt
+
+-- a file that isn't read isn't loaded
+pub not_read : (Why : List ℕ → Refusal → Type 0) (held : Held) (name : List ℕ) (limit b n : ℕ) (i : NoInput) → FileRead held name limit b n (Err i) → NotLoaded Why held name limit b n i
+not_read Why held name limit b n input.Unread h = h
+not_read Why held name limit b n (input.Refused r) (text, is, long l) = (text, is, long l)
+not_read Why held name limit b n (input.Refused r) (text, is, short _ l never) = absurd never
+not_read Why held name limit b n input.Memory h = tt
+
+-- a file that is read and taken
+module _ {V : Type 0} (Is : List ℕ → V → Type 0) (Why : List ℕ → Refusal → Type 0) (held : Held) (name : List ℕ) (limit b n : ℕ) (bytes : List ℕ) where
+  pub taken : (v : V) → FileRead held name limit b n (Ok bytes) → Is bytes v → Loads Is Why held name limit b n (Ok v)
+  taken v (text, found, l, same) is = (bytes, rw same found, rw same l, is)
+
+  pub not_taken : (i : NoInput) → FileRead held name limit b n (Ok bytes) → Untaken (Why bytes) i → NotLoaded Why held name limit b n i
+  not_taken input.Unread read h = absurd h
+  not_taken (input.Refused r) (text, found, l, same) why = (bytes, rw same found, short r (rw same l) why)
+  not_taken input.Memory read h = tt
+
+  pub by_result : (r : Result V NoInput) → FileRead held name limit b n (Ok bytes) → IfOk r (Is bytes) → IfErr r (Untaken (Why bytes)) → Loads Is Why held name limit b n r
+  by_result (Ok v) read is none = taken v read is
+  by_result (Err i) read is none = not_taken i read none
+
+-- a refusal for another cause than its bytes comes from a text that was read
+pub not_bytes : (held : Held) (name : List ℕ) (limit b n : ℕ) (r : Refusal) → FileRead held name limit b n (Err (input.Refused r)) → r ≡ refusal.Bytes
+not_bytes held name limit b n r (text, is, long l) = refl
+not_bytes held name limit b n r (text, is, short _ l never) = absurd never

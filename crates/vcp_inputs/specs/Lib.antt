@@ -1,0 +1,5 @@
+pub mod Files
+pub mod Lines
+pub mod Programs
+pub mod Refusals
+pub mod RowsOutcome

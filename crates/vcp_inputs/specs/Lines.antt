@@ -1,0 +1,66 @@
+-- Lines: the line of each refusal of a file. It begins with the file's name and ends with LF.
+use Rattle.std.specs.Prelude.{ℕ, List, ◌++◌, decimal, codes}
+use Rattle.vcp_base.specs.declared.spot.Spot.{Spot}
+use Rattle.st_lexer.specs.declared.fault.LexFault.{LexFault}
+use Rattle.st_lexer.specs.declared.fault.LexFault.TheVariants as lexer
+use Rattle.st_parser.specs.declared.fault.SyntaxFault.{SyntaxFault}
+use Rattle.st_parser.specs.declared.fault.SyntaxFault.TheVariants as syntax
+use Rattle.st_types.specs.declared.fault.TypeFault.{TypeFault}
+use Rattle.st_types.specs.declared.fault.TypeFault.TheVariants as typing
+use Rattle.input_rows.specs.declared.fault.RowFault.{RowFault}
+use Rattle.input_rows.specs.declared.fault.RowFault.TheVariants as rows
+use Rattle.vcp_inputs.specs.declared.refusal.Refusal.{Refusal}
+use Rattle.vcp_inputs.specs.declared.refusal.Refusal.TheVariants as refusal
+
+-- the line where memory was wanted; it names no file
+abbrev pub memory_text : List ℕ
+memory_text = codes "no memory\n"
+
+-- a fault at a place of a source: the file's name, the place, and the fault's code and name
+abbrev pub spot_text : List ℕ → Spot → List ℕ → List ℕ
+spot_text name spot what =
+    name ++ (codes ":" ++ (decimal spot.line ++ (codes ":" ++ (decimal spot.col ++ (codes " " ++ (what ++ codes "\n"))))))
+
+-- a fault of the lexer
+abbrev pub lexing_text : List ℕ → LexFault → List ℕ
+lexing_text name (lexer.Byte spot) = spot_text name spot (codes "S1 Byte")
+lexing_text name (lexer.Comment spot) = spot_text name spot (codes "S2 Comment")
+lexing_text name (lexer.Number spot) = spot_text name spot (codes "S3 Number")
+lexing_text name lexer.Memory = memory_text
+
+-- a fault of the parser
+abbrev pub parsing_text : List ℕ → SyntaxFault → List ℕ
+parsing_text name (syntax.Syntax spot) = spot_text name spot (codes "S4 Syntax")
+parsing_text name (syntax.Depth spot) = spot_text name spot (codes "S5 Depth")
+parsing_text name syntax.Memory = memory_text
+
+-- a fault of typing: a program that is too large has no place
+abbrev pub typing_text : List ℕ → TypeFault → List ℕ
+typing_text name (typing.Duplicate spot) = spot_text name spot (codes "T1 Duplicate")
+typing_text name (typing.Unknown spot) = spot_text name spot (codes "T2 Unknown")
+typing_text name (typing.Mismatch spot) = spot_text name spot (codes "T3 Mismatch")
+typing_text name (typing.Assign spot) = spot_text name spot (codes "T4 Assign")
+typing_text name (typing.Bound spot) = spot_text name spot (codes "T5 Bound")
+typing_text name (typing.Label spot) = spot_text name spot (codes "T6 Label")
+typing_text name (typing.Call spot) = spot_text name spot (codes "T7 Call")
+typing_text name (typing.Literal spot) = spot_text name spot (codes "T8 Literal")
+typing_text name (typing.Names spot) = spot_text name spot (codes "L3 Names")
+typing_text name typing.Size = name ++ codes " L2 Size\n"
+typing_text name typing.Memory = memory_text
+
+-- a fault of rows: the record and the column, where it has them, and its code and name
+abbrev pub rows_text : List ℕ → RowFault → List ℕ
+rows_text name rows.Header = name ++ codes ":1 R1 Header\n"
+rows_text name (rows.Width row) = name ++ (codes ":" ++ (decimal row ++ codes " R2 Width\n"))
+rows_text name (rows.Cell row column) = name ++ (codes ":" ++ (decimal row ++ (codes ":" ++ (decimal column ++ codes " R3 Cell\n"))))
+rows_text name rows.Form = name ++ codes " R4 Form\n"
+rows_text name rows.Cycles = name ++ codes " L4 Cycles\n"
+rows_text name rows.Memory = memory_text
+
+-- a refusal of the file under a name
+abbrev pub refusal_text : List ℕ → Refusal → List ℕ
+refusal_text name refusal.Bytes = name ++ codes " L1 Bytes\n"
+refusal_text name (refusal.Lexing f) = lexing_text name f
+refusal_text name (refusal.Parsing f) = parsing_text name f
+refusal_text name (refusal.Typing f) = typing_text name f
+refusal_text name (refusal.Rows f) = rows_text name f

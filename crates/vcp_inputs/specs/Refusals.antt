@@ -1,0 +1,56 @@
+-- Refusals: a fault of a layer below, as a refusal of the file, or as want of memory.
+use Rattle.vcp_outside.specs.declared.reading.ReadAll.{ReadAll}
+use Rattle.vcp_outside.specs.declared.reading.ReadAll.TheVariants as reading
+use Rattle.st_lexer.specs.declared.fault.LexFault.{LexFault}
+use Rattle.st_lexer.specs.declared.fault.LexFault.TheVariants as lexer
+use Rattle.st_parser.specs.declared.fault.SyntaxFault.{SyntaxFault}
+use Rattle.st_parser.specs.declared.fault.SyntaxFault.TheVariants as syntax
+use Rattle.st_types.specs.declared.fault.TypeFault.{TypeFault}
+use Rattle.st_types.specs.declared.fault.TypeFault.TheVariants as typing
+use Rattle.input_rows.specs.declared.fault.RowFault.{RowFault}
+use Rattle.input_rows.specs.declared.fault.RowFault.TheVariants as rows
+use Rattle.vcp_inputs.specs.declared.refusal.Refusal.TheVariants as refusal
+use Rattle.vcp_inputs.specs.declared.refusal.NoInput.{NoInput}
+use Rattle.vcp_inputs.specs.declared.refusal.NoInput.TheVariants as input
+
+-- of the reading of a whole file
+abbrev pub unread : ReadAll → NoInput
+unread reading.Failed = input.Unread
+unread reading.TooLong = input.Refused refusal.Bytes
+unread reading.Memory = input.Memory
+
+-- of the lexer
+abbrev pub unlexed : LexFault → NoInput
+unlexed (lexer.Byte spot) = input.Refused (refusal.Lexing (lexer.Byte spot))
+unlexed (lexer.Comment spot) = input.Refused (refusal.Lexing (lexer.Comment spot))
+unlexed (lexer.Number spot) = input.Refused (refusal.Lexing (lexer.Number spot))
+unlexed lexer.Memory = input.Memory
+
+-- of the parser
+abbrev pub unparsed : SyntaxFault → NoInput
+unparsed (syntax.Syntax spot) = input.Refused (refusal.Parsing (syntax.Syntax spot))
+unparsed (syntax.Depth spot) = input.Refused (refusal.Parsing (syntax.Depth spot))
+unparsed syntax.Memory = input.Memory
+
+-- of typing
+abbrev pub untyped : TypeFault → NoInput
+untyped (typing.Duplicate spot) = input.Refused (refusal.Typing (typing.Duplicate spot))
+untyped (typing.Unknown spot) = input.Refused (refusal.Typing (typing.Unknown spot))
+untyped (typing.Mismatch spot) = input.Refused (refusal.Typing (typing.Mismatch spot))
+untyped (typing.Assign spot) = input.Refused (refusal.Typing (typing.Assign spot))
+untyped (typing.Bound spot) = input.Refused (refusal.Typing (typing.Bound spot))
+untyped (typing.Label spot) = input.Refused (refusal.Typing (typing.Label spot))
+untyped (typing.Call spot) = input.Refused (refusal.Typing (typing.Call spot))
+untyped (typing.Literal spot) = input.Refused (refusal.Typing (typing.Literal spot))
+untyped (typing.Names spot) = input.Refused (refusal.Typing (typing.Names spot))
+untyped typing.Size = input.Refused (refusal.Typing typing.Size)
+untyped typing.Memory = input.Memory
+
+-- of rows
+abbrev pub no_rows : RowFault → NoInput
+no_rows rows.Header = input.Refused (refusal.Rows rows.Header)
+no_rows (rows.Width row) = input.Refused (refusal.Rows (rows.Width row))
+no_rows (rows.Cell row column) = input.Refused (refusal.Rows (rows.Cell row column))
+no_rows rows.Form = input.Refused (refusal.Rows rows.Form)
+no_rows rows.Cycles = input.Refused (refusal.Rows rows.Cycles)
+no_rows rows.Memory = input.Memory

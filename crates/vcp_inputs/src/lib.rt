@@ -1,0 +1,17 @@
+//! The files that commands read, each taken through its refusals, and the lines of these.
+#![tactic(auto)]
+
+mod reading;
+mod refusal;
+mod rows;
+mod sources;
+mod telling;
+
+pub use reading::read_file;
+pub use refusal::{NoInput, Refusal};
+pub use rows::{RowsSource, load_rows};
+pub use sources::{load_program, load_typed};
+pub use telling::{tell_of, tell_refusal};
+
+#[cfg(test)]
+mod tests;

@@ -1,0 +1,36 @@
+//! Files that are read whole.
+
+ghost use Rattle.std.specs.Prelude.{◌≡◌, ◌<◌, ◌≤◌, ◌^◌, IfSome, IfOk, OnOk, Err, length};
+ghost use Rattle.std.specs.Io.KnownBytes.{IsAtEnd};
+ghost use Rattle.vcp_outside.specs.Counts.{Rose};
+ghost use Rattle.vcp_inputs.specs.Files.{FileRead};
+ghost use Rattle.vcp_inputs.specs.declared.refusal.NoInput.TheVariants as input;
+ghost use Rattle.vcp_inputs.specs.declared.refusal.Refusal.{Refusal as RefusalOf};
+ghost use Rattle.vcp_inputs.specs.declared.refusal.Refusal.TheVariants as refusal;
+
+use crate::refusal::NoInput;
+use std::alloc::Global;
+use vcp_base::Text;
+use vcp_outside::{Files, read_all};
+
+/// Reads the file under a name whole, which has at most so many bytes, fewer than 2^32.
+pub fn read_file<F: Files>(
+    alloc: Global,
+    files: &mut F,
+    name: &Text,
+    limit: u64,
+) -> Result<Text, NoInput>
+    requires { limit < 2 ^ 32 }
+    // What is answered: the bytes, or why there are none.
+    ensures reads { IfSome (F.held files.old) (λ h. FileRead h name.now limit (F.broken files.old) (F.broken files.new) result) }
+    ensures within { IfOk result (λ text. length text ≤ limit) }
+    ensures unread { result ≡ Err input.Unread → Rose (F.faults files.old) (F.faults files.new) }
+    ensures long { (r : RefusalOf) → result ≡ Err (input.Refused r) → r ≡ refusal.Bytes }
+    // What stays.
+    ensures ended { OnOk result (IsAtEnd (F.rest files.new)) }
+    ensures held { F.held files.new ≡ F.held files.old }
+    ensures later { F.faults files.old ≤ F.faults files.new }
+    ensures broken_later { F.broken files.old ≤ F.broken files.new }
+{
+    Ok(read_all(alloc, files, name.bytes(), limit)?)
+}

@@ -1,0 +1,120 @@
+//! Why a file isn't taken.
+
+ghost use Rattle.std.specs.Prelude.{◌≡◌};
+ghost use Rattle.vcp_inputs.specs.Refusals.{unread, unlexed, unparsed, untyped, no_rows};
+ghost use Rattle.vcp_inputs.specs.declared.refusal.NoInput.TheVariants as input;
+
+use input_rows::RowFault;
+use st_lexer::LexFault;
+use st_parser::SyntaxFault;
+use st_types::TypeFault;
+use vcp_base::Memory;
+use vcp_outside::ReadAll;
+
+/// Why a file is refused. Where its bytes are looked at, the fault is one of the layer that looks, and
+/// never its want of memory.
+#[derive(Clone, Copy, Debug, PartialEq, Eq)]
+pub enum Refusal {
+    /// The file has more bytes than its limit.
+    Bytes,
+    /// The source can't be read on as tokens.
+    Lexing(LexFault),
+    /// The source's tokens are no program, or go too deep.
+    Parsing(SyntaxFault),
+    /// The source's program breaks a rule of types, or is too large.
+    Typing(TypeFault),
+    /// The file is no table of rows for the program, or has too many.
+    Rows(RowFault),
+}
+
+/// Why there is nothing of a file.
+#[derive(Clone, Copy, Debug, PartialEq, Eq)]
+pub enum NoInput {
+    /// The file couldn't be begun or read, as where its name is lacking.
+    Unread,
+    /// The file is refused.
+    Refused(Refusal),
+    /// An allocation failed.
+    Memory,
+}
+
+impl From<Memory> for NoInput {
+    ghost from_gives = { λ _ e. e ≡ input.Memory };
+
+    fn from(_: Memory) -> NoInput {
+        NoInput::Memory
+    }
+}
+
+impl From<ReadAll> for NoInput {
+    ghost from_gives = { λ r e. e ≡ unread r };
+
+    fn from(fault: ReadAll) -> NoInput {
+        match fault {
+            ReadAll::Failed => NoInput::Unread,
+            ReadAll::TooLong => NoInput::Refused(Refusal::Bytes),
+            ReadAll::Memory => NoInput::Memory,
+        }
+    }
+}
+
+impl From<LexFault> for NoInput {
+    ghost from_gives = { λ l e. e ≡ unlexed l };
+
+    fn from(fault: LexFault) -> NoInput {
+        match fault {
+            LexFault::Memory => NoInput::Memory,
+            LexFault::Byte { .. } | LexFault::Comment { .. } | LexFault::Number { .. } => {
+                NoInput::Refused(Refusal::Lexing(fault))
+            }
+        }
+    }
+}
+
+impl From<SyntaxFault> for NoInput {
+    ghost from_gives = { λ p e. e ≡ unparsed p };
+
+    fn from(fault: SyntaxFault) -> NoInput {
+        match fault {
+            SyntaxFault::Memory => NoInput::Memory,
+            SyntaxFault::Syntax { .. } | SyntaxFault::Depth { .. } => {
+                NoInput::Refused(Refusal::Parsing(fault))
+            }
+        }
+    }
+}
+
+impl From<TypeFault> for NoInput {
+    ghost from_gives = { λ t e. e ≡ untyped t };
+
+    fn from(fault: TypeFault) -> NoInput {
+        match fault {
+            TypeFault::Memory => NoInput::Memory,
+            TypeFault::Duplicate { .. }
+            | TypeFault::Unknown { .. }
+            | TypeFault::Mismatch { .. }
+            | TypeFault::Assign { .. }
+            | TypeFault::Bound { .. }
+            | TypeFault::Label { .. }
+            | TypeFault::Call { .. }
+            | TypeFault::Literal { .. }
+            | TypeFault::Names { .. }
+            | TypeFault::Size => NoInput::Refused(Refusal::Typing(fault)),
+        }
+    }
+}
+
+impl From<RowFault> for NoInput {
+    ghost from_gives = { λ r e. e ≡ no_rows r };
+
+    fn from(fault: RowFault) -> NoInput {
+        match fault {
+            RowFault::Memory => NoInput::Memory,
+            RowFault::Header
+            | RowFault::Width { .. }
+            | RowFault::Cell { .. }
+            | RowFault::Form
+            | RowFault::Cycles => NoInput::Refused(Refusal::Rows(fault)),
+        }
+    }
+}

@@ -1,0 +1,120 @@
+//! The rows of a run, taken through their refusals.
+
+ghost use Rattle.std.specs.Prelude.{◌≡◌, ◌≢◌, ◌<◌, ◌≤◌, ◌^◌, ℕ, false, true, All, IfSome, IfOk, OnOk, Err, length};
+ghost use Rattle.std.specs.Io.KnownBytes.{IsAtEnd};
+ghost use Rattle.vcp_base.specs.Limits.{most_cycles};
+ghost use Rattle.vcp_base.specs.Types.{AreIn};
+ghost use Rattle.vcp_outside.specs.Counts.{Rose};
+ghost use Rattle.vcp_outside.specs.Held.{Held};
+ghost use Rattle.input_rows.specs.RowsOf.{IsOfRecord, types_of};
+ghost use Rattle.vcp_words.specs.Forms.{rows_of, file, AreFew};
+ghost use Rattle.vcp_inputs.specs.RowsOutcome.{rows_outcome, source_outcome, Opens, LoadsRows, begins, HasLongFile, HasFewCycles};
+ghost use Rattle.vcp_inputs.specs.declared.refusal.NoInput.TheVariants as input;
+ghost use Rattle.vcp_inputs.specs.declared.refusal.Refusal.{Refusal as RefusalOf};
+ghost use Rattle.vcp_inputs.specs.declared.refusal.Refusal.TheVariants as refusal;
+
+use crate::reading::read_file;
+use crate::refusal::{NoInput, Refusal};
+use input_rows::{RowFault, Rows};
+use std::alloc::Global;
+use vcp_base::{Columns, MOST_ROWS_BYTES, Text};
+use vcp_outside::Files;
+use vcp_words::RowsWord;
+
+/// The rows of a run before they are read.
+#[derive(Debug, Drop)]
+pub enum RowsSource {
+    /// The bytes of a file, at most 67,108,864.
+    File(Text),
+    /// So many cycles without inputs, at most 1,000,000.
+    Cycles(u32),
+}
+
+/// The bytes of the rows file under a name, which isn't begun where there are no columns.
+fn load_file<F: Files>(
+    alloc: Global,
+    files: &mut F,
+    name: &Text,
+    columns: &Columns,
+) -> Result<RowsSource, NoInput>
+    ensures loads { IfSome (F.held files.old) (λ h. LoadsRows (rows_outcome (file name.now) h columns.now) columns.now (F.broken files.old) (F.broken files.new) result) }
+    ensures without_file { begins (file name.now) columns.now ≡ false →
+        (h : Held) → LoadsRows (rows_outcome (file name.now) h columns.now) columns.now (F.broken files.old) (F.broken files.new) result }
+    ensures few { IfOk result HasFewCycles }
+    ensures unread { result ≡ Err input.Unread → Rose (F.faults files.old) (F.faults files.new) }
+    ensures begun { result ≡ Err input.Unread → begins (file name.now) columns.now ≡ true }
+    ensures refused { (r : RefusalOf) → result ≡ Err (input.Refused r) → begins (file name.now) columns.now ≡ true → r ≡ refusal.Bytes }
+    ensures long { result ≡ Err (input.Refused refusal.Bytes) → IfSome (F.held files.old) (HasLongFile (file name.now)) }
+    ensures unbegun { begins (file name.now) columns.now ≡ false →
+        (F.rest files.new ≡ F.rest files.old) × (F.faults files.new ≡ F.faults files.old) × (F.broken files.new ≡ F.broken files.old) }
+    ensures ended { OnOk result (IsAtEnd (F.rest files.new)) }
+    ensures whole { (r : RefusalOf) → result ≡ Err (input.Refused r) → r ≢ refusal.Bytes → F.rest files.new ≡ F.rest files.old }
+    ensures held { F.held files.new ≡ F.held files.old }
+    ensures later { F.faults files.old ≤ F.faults files.new }
+    ensures broken_later { F.broken files.old ≤ F.broken files.new }
+{
+    if columns.len() == 0 {
+        return Err(NoInput::Refused(Refusal::Rows(RowFault::Form)));
+    }
+    match read_file(alloc, files, name, MOST_ROWS_BYTES) {
+        Ok(text) => Ok(RowsSource::File(text)),
+        Err(why) => Err(why),
+    }
+}
+
+/// Takes ROWS through their refusals up to their header. `Form` comes for a file where there are no
+/// columns, and nothing is begun then; next `Unread`, and then `Bytes`.
+pub fn load_rows<F: Files>(
+    alloc: Global,
+    files: &mut F,
+    rows: RowsWord<'_>,
+    columns: &Columns,
+) -> Result<RowsSource, NoInput>
+    requires few { AreFew (rows_of rows) }
+    // What is answered: what comes to the same as ROWS, or why there is nothing. Where no file is begun,
+    // that is so whatever files hold, and else the one refusal is that of too many bytes.
+    ensures loads { IfSome (F.held files.old) (λ h. LoadsRows (rows_outcome (rows_of rows.entry) h columns.now) columns.now (F.broken files.old) (F.broken files.new) result) }
+    ensures without_file { begins (rows_of rows.entry) columns.now ≡ false →
+        (h : Held) → LoadsRows (rows_outcome (rows_of rows.entry) h columns.now) columns.now (F.broken files.old) (F.broken files.new) result }
+    ensures few { IfOk result HasFewCycles }
+    ensures unread { result ≡ Err input.Unread → Rose (F.faults files.old) (F.faults files.new) }
+    ensures begun { result ≡ Err input.Unread → begins (rows_of rows.entry) columns.now ≡ true }
+    ensures refused { (r : RefusalOf) → result ≡ Err (input.Refused r) → begins (rows_of rows.entry) columns.now ≡ true → r ≡ refusal.Bytes }
+    ensures long { result ≡ Err (input.Refused refusal.Bytes) → IfSome (F.held files.old) (HasLongFile (rows_of rows.entry)) }
+    // What was taken of the file: nothing where none is begun, else all, unless it has too many bytes.
+    ensures unbegun { begins (rows_of rows.entry) columns.now ≡ false →
+        (F.rest files.new ≡ F.rest files.old) × (F.faults files.new ≡ F.faults files.old) × (F.broken files.new ≡ F.broken files.old) }
+    ensures ended { OnOk result (IsAtEnd (F.rest files.old) → IsAtEnd (F.rest files.new)) }
+    ensures whole { (r : RefusalOf) → result ≡ Err (input.Refused r) → r ≢ refusal.Bytes → F.rest files.new ≡ F.rest files.old }
+    // What stays.
+    ensures held { F.held files.new ≡ F.held files.old }
+    ensures later { F.faults files.old ≤ F.faults files.new }
+    ensures broken_later { F.broken files.old ≤ F.broken files.new }
+{
+    match rows {
+        RowsWord::File(name) => load_file(alloc, files, name, columns),
+        RowsWord::Cycles(number) => Ok(RowsSource::Cycles(number)),
+    }
+}
+
+impl RowsSource {
+    /// The rows for the columns with which the source was loaded. `Header` where a file's first
+    /// record isn't each column's name once, and `Form` for cycles where there are columns. There are
+    /// no more columns than a `u32` counts.
+    pub fn open<'a>(&'a self, alloc: Global, columns: &'a Columns) -> Result<Rows<'a>, NoInput>
+        requires few { HasFewCycles self.now }
+        requires narrow { length columns.now < 2 ^ 32 }
+        ensures opens { (before now : ℕ) → Opens (source_outcome self.now columns.now) before now result }
+        ensures read { result ≢ Err input.Unread }
+        ensures types { IfOk result (λ left. left.types ≡ types_of columns.now) }
+        ensures typed { IfOk result (λ left. All (AreIn left.types) left.rows) }
+        ensures few { IfOk result (λ left. length left.rows ≤ most_cycles) }
+        ensures behind { IfOk result (λ left. IfSome left.refusal IsOfRecord) }
+        ensures fresh { IfOk result (λ left. left.refused ≡ false) }
+    {
+        match self {
+            RowsSource::File(text) => Ok(Rows::new(alloc, text.bytes(), columns)?),
+            RowsSource::Cycles(number) => Ok(Rows::cycles(*number, columns)?),
+        }
+    }
+}

@@ -1,0 +1,83 @@
+//! Sources: the program of a file, and its typed program.
+
+ghost use Rattle.std.specs.Prelude.{◌≡◌, ◌≢◌, ◌≤◌, IfErr, IfOk, IfSome, OnOk, Err, length};
+ghost use Rattle.std.specs.Io.KnownBytes.{IsAtEnd};
+ghost use Rattle.vcp_base.specs.Limits.{most_source_bytes};
+ghost use Rattle.vcp_outside.specs.Counts.{Rose};
+ghost use Rattle.st_tree.specs.ProgramViews.{program_tree};
+ghost use Rattle.vcp_inputs.specs.Files.{Untaken, Loads};
+ghost use Rattle.vcp_inputs.specs.Programs.{IsProgram, NoProgram, NotTyped, TypedOf, IsTreeOf};
+ghost use Rattle.vcp_inputs.specs.declared.refusal.NoInput.TheVariants as input;
+ghost use Rattle.vcp_inputs.specs.declared.refusal.Refusal.{Refusal as RefusalOf};
+ghost use Rattle.vcp_inputs.specs.declared.refusal.Refusal.TheVariants as refusal;
+
+use crate::reading::read_file;
+use crate::refusal::NoInput;
+use st_lexer::lex;
+use st_parser::parse;
+use st_spelling::spelled_names_are_declarable;
+use st_tree::Program;
+use st_types::typed;
+use std::alloc::Global;
+use vcp_base::{MOST_SOURCE_BYTES, Text};
+use vcp_outside::Files;
+use vcp_typed::Typed;
+
+/// The program of a source, taken through the refusals of the lexer and the parser.
+fn program_of(alloc: Global, source: &[u8]) -> Result<Program, NoInput>
+    requires short { length source.now ≤ most_source_bytes }
+    ensures ok { IfOk result (λ p. IsProgram source.now (program_tree p)) }
+    ensures err { IfErr result (Untaken (NoProgram source.now)) }
+{
+    let tokens = lex(alloc, source)?;
+    let program = parse(alloc, source, &tokens)?;
+    Ok(program)
+}
+
+/// The typed program of a source, taken through all its refusals.
+fn typed_program(alloc: Global, source: &[u8]) -> Result<Typed, NoInput>
+    requires short { length source.now ≤ most_source_bytes }
+    ensures ok { IfOk result (TypedOf source.now) }
+    ensures err { IfErr result (Untaken (NotTyped source.now)) }
+{
+    let program = program_of(alloc, source)?;
+    // So each declared name is one that may be.
+    spelled_names_are_declarable();
+    Ok(typed(alloc, &program)?)
+}
+
+/// The program of the file under a name, which is read whole and taken through the refusals of the
+/// lexer and the parser.
+pub fn load_program<F: Files>(alloc: Global, files: &mut F, name: &Text) -> Result<Program, NoInput>
+    // What is answered: the file's program, or why there is none.
+    ensures loads { IfSome (F.held files.old) (λ h. Loads IsTreeOf NoProgram h name.now most_source_bytes (F.broken files.old) (F.broken files.new) result) }
+    ensures unread { result ≡ Err input.Unread → Rose (F.faults files.old) (F.faults files.new) }
+    // What was taken of the file: all, unless it has too many bytes.
+    ensures ended { OnOk result (IsAtEnd (F.rest files.new)) }
+    ensures whole { (r : RefusalOf) → result ≡ Err (input.Refused r) → r ≢ refusal.Bytes → IsAtEnd (F.rest files.new) }
+    // What stays.
+    ensures held { F.held files.new ≡ F.held files.old }
+    ensures later { F.faults files.old ≤ F.faults files.new }
+    ensures broken_later { F.broken files.old ≤ F.broken files.new }
+{
+    let source = read_file(alloc, files, name, MOST_SOURCE_BYTES)?;
+    program_of(alloc, source.bytes())
+}
+
+/// The typed program of the file under a name, which is read whole and taken through all its refusals.
+/// Its text and tokens are not kept.
+pub fn load_typed<F: Files>(alloc: Global, files: &mut F, name: &Text) -> Result<Typed, NoInput>
+    // What is answered: the file's typed program, or why there is none.
+    ensures loads { IfSome (F.held files.old) (λ h. Loads TypedOf NotTyped h name.now most_source_bytes (F.broken files.old) (F.broken files.new) result) }
+    ensures unread { result ≡ Err input.Unread → Rose (F.faults files.old) (F.faults files.new) }
+    // What was taken of the file: all, unless it has too many bytes.
+    ensures ended { OnOk result (IsAtEnd (F.rest files.new)) }
+    ensures whole { (r : RefusalOf) → result ≡ Err (input.Refused r) → r ≢ refusal.Bytes → IsAtEnd (F.rest files.new) }
+    // What stays.
+    ensures held { F.held files.new ≡ F.held files.old }
+    ensures later { F.faults files.old ≤ F.faults files.new }
+    ensures broken_later { F.broken files.old ≤ F.broken files.new }
+{
+    let source = read_file(alloc, files, name, MOST_SOURCE_BYTES)?;
+    typed_program(alloc, source.bytes())
+}

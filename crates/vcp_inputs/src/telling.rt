@@ -1,0 +1,138 @@
+//! The lines of refusals.
+
+ghost use Rattle.std.specs.Prelude.{◌++◌, codes};
+ghost use Rattle.vcp_outside.specs.Written.{Writes};
+ghost use Rattle.input_rows.specs.declared.fault.RowFault.TheVariants as rows;
+ghost use Rattle.vcp_inputs.specs.Lines.{spot_text, lexing_text, parsing_text, typing_text, rows_text, refusal_text};
+
+use crate::refusal::Refusal;
+use input_rows::RowFault;
+use run_report::Line;
+use st_lexer::LexFault;
+use st_parser::SyntaxFault;
+use st_types::TypeFault;
+use vcp_base::Spot;
+use vcp_outside::{Failed, Sink, write_all};
+
+/// The line where memory was wanted.
+const NO_MEMORY: &[u8] = b"no memory\n";
+
+/// Prints the line of a refusal of the file under a name.
+pub fn tell_refusal<E: Sink>(err: &mut E, name: &[u8], refusal: &Refusal) -> Result<(), Failed>
+    ensures { Writes (E.written err.old) (E.written err.new) (E.faults err.old) (E.faults err.new) (refusal_text name.now refusal.now) result }
+{
+    match refusal {
+        Refusal::Bytes => tell_of(err, name, b" L1 Bytes"),
+        Refusal::Lexing(fault) => tell_lexing(err, name, *fault),
+        Refusal::Parsing(fault) => tell_parsing(err, name, *fault),
+        Refusal::Typing(fault) => tell_typing(err, name, *fault),
+        Refusal::Rows(fault) => tell_rows(err, name, *fault),
+    }
+}
+
+/// Prints a line of a name and what is said of it.
+pub fn tell_of<E: Sink>(err: &mut E, name: &[u8], what: &[u8]) -> Result<(), Failed>
+    ensures { Writes (E.written err.old) (E.written err.new) (E.faults err.old) (E.faults err.new) (name.now ++ (what.now ++ codes "\n")) result }
+{
+    let mut line = Line::new();
+    line.text(err, name);
+    line.text(err, what);
+    line.end(err)
+}
+
+/// Prints a line of a place in a source and what is said of it.
+fn tell_at<E: Sink>(err: &mut E, name: &[u8], spot: Spot, what: &[u8]) -> Result<(), Failed>
+    ensures { Writes (E.written err.old) (E.written err.new) (E.faults err.old) (E.faults err.new) (spot_text name.now spot what.now) result }
+{
+    let mut line = Line::new();
+    line.text(err, name);
+    line.text(err, b":");
+    line.count(err, spot.line as u64);
+    line.text(err, b":");
+    line.count(err, spot.col as u64);
+    line.text(err, b" ");
+    line.text(err, what);
+    line.end(err)
+}
+
+/// Prints the line of a fault of the lexer.
+fn tell_lexing<E: Sink>(err: &mut E, name: &[u8], fault: LexFault) -> Result<(), Failed>
+    ensures { Writes (E.written err.old) (E.written err.new) (E.faults err.old) (E.faults err.new) (lexing_text name.now fault) result }
+{
+    match fault {
+        LexFault::Byte { spot } => tell_at(err, name, spot, b"S1 Byte"),
+        LexFault::Comment { spot } => tell_at(err, name, spot, b"S2 Comment"),
+        LexFault::Number { spot } => tell_at(err, name, spot, b"S3 Number"),
+        LexFault::Memory => write_all(err, NO_MEMORY),
+    }
+}
+
+/// Prints the line of a fault of the parser.
+fn tell_parsing<E: Sink>(err: &mut E, name: &[u8], fault: SyntaxFault) -> Result<(), Failed>
+    ensures { Writes (E.written err.old) (E.written err.new) (E.faults err.old) (E.faults err.new) (parsing_text name.now fault) result }
+{
+    match fault {
+        SyntaxFault::Syntax { spot } => tell_at(err, name, spot, b"S4 Syntax"),
+        SyntaxFault::Depth { spot } => tell_at(err, name, spot, b"S5 Depth"),
+        SyntaxFault::Memory => write_all(err, NO_MEMORY),
+    }
+}
+
+/// Prints the line of a fault of typing.
+fn tell_typing<E: Sink>(err: &mut E, name: &[u8], fault: TypeFault) -> Result<(), Failed>
+    ensures { Writes (E.written err.old) (E.written err.new) (E.faults err.old) (E.faults err.new) (typing_text name.now fault) result }
+{
+    match fault {
+        TypeFault::Duplicate { spot } => tell_at(err, name, spot, b"T1 Duplicate"),
+        TypeFault::Unknown { spot } => tell_at(err, name, spot, b"T2 Unknown"),
+        TypeFault::Mismatch { spot } => tell_at(err, name, spot, b"T3 Mismatch"),
+        TypeFault::Assign { spot } => tell_at(err, name, spot, b"T4 Assign"),
+        TypeFault::Bound { spot } => tell_at(err, name, spot, b"T5 Bound"),
+        TypeFault::Label { spot } => tell_at(err, name, spot, b"T6 Label"),
+        TypeFault::Call { spot } => tell_at(err, name, spot, b"T7 Call"),
+        TypeFault::Literal { spot } => tell_at(err, name, spot, b"T8 Literal"),
+        TypeFault::Names { spot } => tell_at(err, name, spot, b"L3 Names"),
+        TypeFault::Size => tell_of(err, name, b" L2 Size"),
+        TypeFault::Memory => write_all(err, NO_MEMORY),
+    }
+}
+
+/// Prints the line of a refusal of rows.
+fn tell_rows<E: Sink>(err: &mut E, name: &[u8], fault: RowFault) -> Result<(), Failed>
+    ensures { Writes (E.written err.old) (E.written err.new) (E.faults err.old) (E.faults err.new) (rows_text name.now fault) result }
+{
+    match fault {
+        RowFault::Header => tell_of(err, name, b":1 R1 Header"),
+        RowFault::Width { row } => tell_record(err, name, row),
+        RowFault::Cell { row, column } => tell_cell(err, name, row, column),
+        RowFault::Form => tell_of(err, name, b" R4 Form"),
+        RowFault::Cycles => tell_of(err, name, b" L4 Cycles"),
+        RowFault::Memory => write_all(err, NO_MEMORY),
+    }
+}
+
+/// Prints the line of a record with another number of fields than there are columns.
+fn tell_record<E: Sink>(err: &mut E, name: &[u8], row: u32) -> Result<(), Failed>
+    ensures { Writes (E.written err.old) (E.written err.new) (E.faults err.old) (E.faults err.new) (rows_text name.now (rows.Width row)) result }
+{
+    let mut line = Line::new();
+    line.text(err, name);
+    line.text(err, b":");
+    line.count(err, row as u64);
+    line.text(err, b" R2 Width");
+    line.end(err)
+}
+
+/// Prints the line of a cell that spells no value.
+fn tell_cell<E: Sink>(err: &mut E, name: &[u8], row: u32, column: u32) -> Result<(), Failed>
+    ensures { Writes (E.written err.old) (E.written err.new) (E.faults err.old) (E.faults err.new) (rows_text name.now (rows.Cell row column)) result }
+{
+    let mut line = Line::new();
+    line.text(err, name);
+    line.text(err, b":");
+    line.count(err, row as u64);
+    line.text(err, b":");
+    line.count(err, column as u64);
+    line.text(err, b" R3 Cell");
+    line.end(err)
+}

@@ -1,0 +1,4 @@
+pub mod CodeWords
+pub mod NumeralSteps
+pub mod Rows
+pub mod WordsSteps

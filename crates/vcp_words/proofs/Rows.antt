@@ -1,0 +1,89 @@
+-- Worked rows, computed by the definitions alone.
+use Rattle.std.proofs.Common.{◌≡◌, ℕ, refl, List, [], ◌∷◌, Option, Some, None, codes}
+use Rattle.vcp_words.specs.Forms.{Form, form_of, check, format, plain, run, file, cycles}
+
+format_words : form_of (codes "format" ∷ codes "p" ∷ []) ≡ Some (format (codes "p"))
+format_words = refl
+
+check_words : form_of (codes "check" ∷ codes "p" ∷ []) ≡ Some (check (codes "p"))
+check_words = refl
+
+check_without_name : form_of (codes "check" ∷ []) ≡ None
+check_without_name = refl
+
+check_with_two_names : form_of (codes "check" ∷ codes "p" ∷ codes "r" ∷ []) ≡ None
+check_with_two_names = refl
+
+name_with_a_dash : form_of (codes "check" ∷ codes "-p" ∷ []) ≡ None
+name_with_a_dash = refl
+
+plain_words : form_of (codes "plain" ∷ codes "p" ∷ codes "r" ∷ []) ≡ Some (plain (codes "p") (file (codes "r")))
+plain_words = refl
+
+plain_for_cycles : form_of (codes "plain" ∷ codes "p" ∷ codes "--cycles" ∷ codes "007" ∷ []) ≡ Some (plain (codes "p") (cycles 7))
+plain_for_cycles = refl
+
+cycles_without_number : form_of (codes "plain" ∷ codes "p" ∷ codes "--cycles" ∷ []) ≡ None
+cycles_without_number = refl
+
+too_many_cycles : form_of (codes "plain" ∷ codes "p" ∷ codes "--cycles" ∷ codes "1000001" ∷ []) ≡ None
+too_many_cycles = refl
+
+most_cycles : form_of (codes "plain" ∷ codes "p" ∷ codes "--cycles" ∷ codes "1000000" ∷ []) ≡ Some (plain (codes "p") (cycles 1000000))
+most_cycles = refl
+
+plain_takes_no_code : form_of (codes "plain" ∷ codes "p" ∷ codes "r" ∷ codes "--seed" ∷ codes "7" ∷ []) ≡ None
+plain_takes_no_code = refl
+
+-- `run p r` and the words of CODE
+abbrev run_with : List (List ℕ) → Option Form
+run_with code = form_of (codes "run" ∷ codes "p" ∷ codes "r" ∷ code)
+
+-- the run of p on r with this seed and step
+abbrev run_of : ℕ → ℕ → Option Form
+run_of seed step = Some (run (codes "p") (file (codes "r")) (record { seed = seed; step = step }))
+
+run_words : run_with [] ≡ run_of 305419896 1
+run_words = refl
+
+run_without_rows : form_of (codes "run" ∷ codes "p" ∷ []) ≡ None
+run_without_rows = refl
+
+run_for_cycles : form_of (codes "run" ∷ codes "p" ∷ codes "--cycles" ∷ codes "3" ∷ codes "--seed" ∷ codes "7" ∷ []) ≡ Some (run (codes "p") (cycles 3) (record { seed = 7; step = 1 }))
+run_for_cycles = refl
+
+a_seed : run_with (codes "--seed" ∷ codes "1073741823" ∷ []) ≡ run_of 1073741823 1
+a_seed = refl
+
+a_step : run_with (codes "--step" ∷ codes "0000000007" ∷ []) ≡ run_of 305419896 7
+a_step = refl
+
+seed_and_step : run_with (codes "--seed" ∷ codes "7" ∷ codes "--step" ∷ codes "5" ∷ []) ≡ run_of 7 5
+seed_and_step = refl
+
+step_and_seed : run_with (codes "--step" ∷ codes "5" ∷ codes "--seed" ∷ codes "7" ∷ []) ≡ run_of 7 5
+step_and_seed = refl
+
+seed_twice : run_with (codes "--seed" ∷ codes "7" ∷ codes "--seed" ∷ codes "7" ∷ []) ≡ None
+seed_twice = refl
+
+seed_without_number : run_with (codes "--seed" ∷ []) ≡ None
+seed_without_number = refl
+
+seed_below_zero : run_with (codes "--seed" ∷ codes "-1" ∷ []) ≡ None
+seed_below_zero = refl
+
+eleven_digits : run_with (codes "--seed" ∷ codes "00000000007" ∷ []) ≡ None
+eleven_digits = refl
+
+seed_too_great : run_with (codes "--seed" ∷ codes "1073741824" ∷ []) ≡ None
+seed_too_great = refl
+
+step_zero : run_with (codes "--step" ∷ codes "0" ∷ []) ≡ None
+step_zero = refl
+
+step_too_great : run_with (codes "--step" ∷ codes "1001" ∷ []) ≡ None
+step_too_great = refl
+
+code_before_rows : form_of (codes "run" ∷ codes "p" ∷ codes "--seed" ∷ codes "7" ∷ codes "r" ∷ []) ≡ None
+code_before_rows = refl

@@ -1,0 +1,41 @@
+-- Tables: what each command is about, a line a command.
+use Rattle.std.specs.Prelude.{ℕ, Bool, true, false, List, [], ◌∷◌, codes}
+use Rattle.vcp_words.specs.Forms.{Form, Rows, check, format, plain, run, file, cycles}
+
+-- ROWS, as lines name it
+abbrev pub rows_name : Rows → List ℕ
+rows_name (file r) = r
+rows_name (cycles n) = codes "--cycles"
+
+-- the files of ROWS
+abbrev pub rows_files : Rows → List (List ℕ)
+rows_files (file r) = r ∷ []
+rows_files (cycles n) = []
+
+-- the names of the files that a command reads
+abbrev pub file_words : Form → List (List ℕ)
+file_words (check p) = p ∷ []
+file_words (format p) = p ∷ []
+file_words (plain p rows) = p ∷ rows_files rows
+file_words (run p rows code) = p ∷ rows_files rows
+
+-- whether a command calls the unit
+abbrev pub calls_unit : Form → Bool
+calls_unit (check p) = false
+calls_unit (format p) = false
+calls_unit (plain p rows) = false
+calls_unit (run p rows code) = true
+
+-- whether a command takes memory, or its rows through their refusals, when it has begun to write
+abbrev pub takes_rows_late : Form → Bool
+takes_rows_late (check p) = false
+takes_rows_late (format p) = false
+takes_rows_late (plain p rows) = true
+takes_rows_late (run p rows code) = true
+
+-- the statuses that a command may end with beside 5, 6 and 7, for a file or a sink that failed and for want of memory
+abbrev pub own_statuses : Form → List ℕ
+own_statuses (check p) = 0 ∷ 1 ∷ []
+own_statuses (format p) = 0 ∷ 1 ∷ []
+own_statuses (plain p rows) = 0 ∷ 1 ∷ 2 ∷ []
+own_statuses (run p rows code) = 0 ∷ 1 ∷ 2 ∷ 3 ∷ []

@@ -1,0 +1,58 @@
+//! Commands.
+
+use vcp_base::Text;
+
+/// Where the rows of a run come from.
+#[derive(Clone, Copy, Debug)]
+pub enum RowsWord<'a> {
+    /// The file under this name.
+    File(&'a Text),
+    /// So many cycles without inputs: `--cycles N`, at most 1,000,000.
+    Cycles(u32),
+}
+
+/// The code of a run: what the signatures of its operations and the stamps of its cycles are made of.
+#[derive(Clone, Copy, Debug, PartialEq, Eq)]
+pub struct Code {
+    /// The seed of the signatures: `--seed N`, below 2^30.
+    pub seed: u32,
+    /// The step of the stamps: `--step N`, 1 to 1000.
+    pub step: u16,
+}
+
+/// The code where the words give none, and the part of it that they don't give.
+pub const DEFAULT_CODE: Code = Code {
+    seed: 305419896,
+    step: 1,
+};
+
+/// A command, with its own words. A name of a file isn't empty and doesn't begin with `-`.
+#[derive(Clone, Copy, Debug)]
+pub enum Command<'a> {
+    /// `check P`: whether the file is a program, and its Size.
+    Check {
+        /// The name of the program's source, P.
+        source: &'a Text,
+    },
+    /// `format P`: the program's canonical text.
+    Format {
+        /// The name of the program's source, P.
+        source: &'a Text,
+    },
+    /// `plain P ROWS`: the source's own run on rows.
+    Plain {
+        /// The name of the program's source, P.
+        source: &'a Text,
+        /// The recorded inputs, ROWS.
+        rows: RowsWord<'a>,
+    },
+    /// `run P ROWS CODE`: the run of the program's operations on rows, on a unit.
+    Run {
+        /// The name of the program's source, P.
+        source: &'a Text,
+        /// The recorded inputs, ROWS.
+        rows: RowsWord<'a>,
+        /// The code, CODE.
+        code: Code,
+    },
+}
