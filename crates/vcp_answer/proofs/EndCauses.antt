@@ -1,0 +1,169 @@
+-- From how a command ends to the causes of its statuses.
+use Rattle.std.proofs.Common.{ℕ, ◌≡◌, ◌≢◌, ◌≤◌, lit≤, ◌⊎◌, inl, inr, refl, sym, ap, ◌∙◌, List, Option, Some, None, arith}
+use Rattle.vcp_base.specs.Stops.{ToldStop}
+use Rattle.vcp_outside.specs.Counts.{Rose}
+use Rattle.input_rows.specs.declared.fault.RowFault.{RowFault}
+use Rattle.vcp_words.specs.Forms.{Form}
+use Rattle.vcp_answer.specs.Answer.{Task, Answer, Job, lacks, gives, runs}
+use Rattle.vcp_answer.specs.Causes.{WasHonest, NothingFailed, Gave, GivesStatus, Causes, HasOwnStatus, meant_answer}
+use Rattle.vcp_answer.specs.Courses.{answer_of, report_of, meant}
+use Rattle.vcp_answer.specs.Endings.{AnswerGiven, TellsLine, Ends, answers, files_failed, output_failed, errors_failed, line_failed, no_memory, memory_ended}
+use Rattle.vcp_answer.specs.Moments.{Ended, Errors}
+use Rattle.vcp_answer.specs.Reports.{Report, End, complete, stopped, refused, run_status}
+
+-- ---- the status of a run
+
+stop_of : (e : End) (behind : Option RowFault) → run_status e behind ≡ 2 → (s : ToldStop) × (e ≡ stopped s)
+stop_of complete None h = absurd (omega (arith, h))
+stop_of complete (Some f) h = absurd (omega (arith, h))
+stop_of (stopped s) behind h = (s, refl)
+stop_of (refused output found wanted) behind h = absurd (omega (arith, h))
+
+stopped_two : (e : End) (behind : Option RowFault) (s : ToldStop) → e ≡ stopped s → run_status e behind ≡ 2
+stopped_two e behind s is = rw is refl
+
+done_none : (e : End) (behind : Option RowFault) → run_status e behind ≡ 0 → behind ≡ None
+done_none complete None h = refl
+done_none complete (Some f) h = absurd (omega (arith, h))
+done_none (stopped s) behind h = absurd (omega (arith, h))
+done_none (refused output found wanted) behind h = absurd (omega (arith, h))
+
+refused_some : (e : End) (behind : Option RowFault) → run_status e behind ≡ 1 → behind ≢ None
+refused_some complete None h is = absurd (omega (arith, h))
+refused_some complete (Some f) h is = cc
+refused_some (stopped s) behind h is = absurd (omega (arith, h))
+refused_some (refused output found wanted) behind h is = absurd (omega (arith, h))
+
+status_small : (e : End) (behind : Option RowFault) → run_status e behind ≤ 3
+status_small complete None = lit≤ tt
+status_small complete (Some f) = lit≤ tt
+status_small (stopped s) behind = lit≤ tt
+status_small (refused output found wanted) behind = lit≤ tt
+
+-- ---- the status of a task
+
+one_cause : (task : Task) (r : Report) → (answer_of task r).status ≡ 1 → GivesStatus task 1 ⊎ ((job : Job) × (task ≡ runs job) × (job.rows.refusal ≢ None))
+one_cause (lacks name) r h = absurd (omega (arith, h))
+one_cause (gives a) r h = inl (a, refl, h)
+one_cause (runs job) r h = inr (job, refl, refused_some r.end job.rows.refusal h)
+
+zero_cause : (task : Task) (r : Report) → (answer_of task r).status ≡ 0 → GivesStatus task 0 ⊎ ((job : Job) × (task ≡ runs job) × (job.rows.refusal ≡ None))
+zero_cause (lacks name) r h = absurd (omega (arith, h))
+zero_cause (gives a) r h = inl (a, refl, h)
+zero_cause (runs job) r h = inr (job, refl, done_none r.end job.rows.refusal h)
+
+five_cause : (task : Task) (r : Report) → HasOwnStatus task → (answer_of task r).status ≡ 5 → (name : List ℕ) × (task ≡ lacks name)
+five_cause (lacks name) r few h = (name, refl)
+five_cause (gives a) r few h = absurd (omega (arith, few, h))
+five_cause (runs job) r few h = absurd (omega (arith, h, status_small r.end job.rows.refusal))
+
+two_cause : (task : Task) (read : Report) → (answer_of task read).status ≡ 2 → GivesStatus task 2 ⊎ ((meant : Report) → read ≡ meant → (s : ToldStop) × (meant.end ≡ stopped s))
+two_cause (lacks name) read h = absurd (omega (arith, h))
+two_cause (gives a) read h = inl (a, refl, h)
+two_cause (runs job) read h = inr (λ meant is. stop_of meant.end job.rows.refusal (ap (λ (r : Report). run_status r.end job.rows.refusal) (sym is) ∙ h))
+
+-- where the meaning stops, the defined answer's status is 2
+meant_stop : (task : Task) (s : ToldStop) → (meant task).end ≡ stopped s → (meant_answer task).status ≡ 2
+meant_stop (lacks name) s is = cc
+meant_stop (gives a) s is = cc
+meant_stop (runs job) s is = stopped_two (meant (runs job)).end job.rows.refusal s is
+
+-- ---- the defined answer was given
+
+came : (task : Task) (e : Ended) (g : AnswerGiven task e) → Gave (answer_of task (report_of task g.reached.course)) e
+came task e g = record { status = sym g.reached.status_is; out = g.reached.out; err = rw g.reached.line_is g.err }
+
+-- the defined answer of a task that is an answer
+gave : (task : Task) (a : Answer) (e : Ended) → task ≡ gives a → AnswerGiven task e → Gave a e
+gave task a e is g =
+    let same : answer_of task (report_of task g.reached.course) ≡ a = ap (λ t. answer_of t (report_of task g.reached.course)) is in
+    rw same at (came task e g)
+
+-- the defined answer with an honest unit
+as_meant : (task : Task) (e : Ended) → AnswerGiven task e → WasHonest e → Gave (meant_answer task) e
+as_meant task e g honest =
+    let same : answer_of task (report_of task g.reached.course) ≡ meant_answer task = ap (answer_of task) (g.reached.honest honest.same honest.below) in
+    rw same at (came task e g)
+
+given_causes : (task : Task) (e : Ended) → HasOwnStatus task → AnswerGiven task e → Causes task e
+given_causes task e few g =
+    let read = report_of task g.reached.course in
+    let status : (answer_of task read).status ≡ e.status = g.reached.status_is in
+    record {
+      given = λ x is given. gave task x e is g;
+      given_completes = λ x is nothing. inr (gave task x e is g);
+      as_meant = λ job is honest given. as_meant task e g honest;
+      completes = λ job is nothing honest. inr (as_meant task e g honest);
+      zero_only = λ h. zero_cause task read (status ∙ h);
+      one_only = λ h. one_cause task read (status ∙ h);
+      two_only = λ h.
+          elim (two_cause task read (status ∙ h)) [
+            | inl g ↦ inl g
+            | inr f ↦ inr (λ honest. f (meant task) (g.reached.honest honest.same honest.below))
+          ];
+      two = λ s stops honest given. (as_meant task e g honest).status ∙ meant_stop task s stops;
+      five_only = λ h. let l = five_cause task read few (status ∙ h) in inr (l.0, l.1, rw (ap (λ t. answer_of t read) l.1) at ((came task e g).err));
+      five = λ name is sinks memory. sym status ∙ ap (λ t. (answer_of t read).status) is;
+    }
+
+-- ---- what kept the answer from being given
+
+data Kept (e : Ended) : Type 0 where
+  by_files : e.status ≡ 5 → Rose e.broken_before e.broken_after → Kept e
+  by_sink : e.status ≡ 6 → (NothingFailed e → ⊥) → Kept e
+  by_memory : e.status ≡ 7 → Kept e
+
+kept_causes : (task : Task) (e : Ended) → Kept e → Causes task e
+kept_causes task e (by_files s rose) = record {
+  given = λ x is given. absurd (given.files s);
+  given_completes = λ x is nothing. absurd (nothing.unbroken rose);
+  as_meant = λ job is honest given. absurd (given.files s);
+  completes = λ job is nothing honest. absurd (nothing.unbroken rose);
+  zero_only = λ h. absurd (omega (arith, h, s));
+  one_only = λ h. absurd (omega (arith, h, s));
+  two_only = λ h. absurd (omega (arith, h, s));
+  two = λ stop stops honest given. absurd (given.files s);
+  five_only = λ h. inl rose;
+  five = λ name is sinks memory. s;
+}
+kept_causes task e (by_sink s failed) = record {
+  given = λ x is given. absurd (given.sinks s);
+  given_completes = λ x is nothing. absurd (failed nothing);
+  as_meant = λ job is honest given. absurd (given.sinks s);
+  completes = λ job is nothing honest. absurd (failed nothing);
+  zero_only = λ h. absurd (omega (arith, h, s));
+  one_only = λ h. absurd (omega (arith, h, s));
+  two_only = λ h. absurd (omega (arith, h, s));
+  two = λ stop stops honest given. absurd (given.sinks s);
+  five_only = λ h. absurd (omega (arith, h, s));
+  five = λ name is sinks memory. absurd (sinks s);
+}
+kept_causes task e (by_memory s) = record {
+  given = λ x is given. absurd (given.memory s);
+  given_completes = λ x is nothing. inl s;
+  as_meant = λ job is honest given. absurd (given.memory s);
+  completes = λ job is nothing honest. inl s;
+  zero_only = λ h. absurd (omega (arith, h, s));
+  one_only = λ h. absurd (omega (arith, h, s));
+  two_only = λ h. absurd (omega (arith, h, s));
+  two = λ stop stops honest given. absurd (given.memory s);
+  five_only = λ h. absurd (omega (arith, h, s));
+  five = λ name is sinks memory. absurd (memory s);
+}
+
+six : (line : List ℕ) (a b : Errors) (status : ℕ) → TellsLine line 6 a b status → status ≡ 6
+six line a b status (inl t) = t.0
+six line a b status (inr t) = t.0
+
+memory_kept : (e : Ended) (line : List ℕ) → TellsLine line 7 e.err_before e.err_after e.status → Kept e
+memory_kept e line (inl t) = by_memory t.0
+memory_kept e line (inr t) = by_sink t.0 (λ nothing. nothing.err t.1)
+
+pub end_causes : (f : Form) (task : Task) (e : Ended) → HasOwnStatus task → Ends f task e → Causes task e
+end_causes f task e few (answers a) = given_causes task e few a
+end_causes f task e few (files_failed b) = kept_causes task e (by_files b.status b.rose)
+end_causes f task e few (output_failed l) = kept_causes task e (by_sink (six _ _ _ _ l.told) (λ nothing. nothing.out l.rose))
+end_causes f task e few (errors_failed l) = kept_causes task e (by_sink l.status (λ nothing. nothing.err l.rose))
+end_causes f task e few (line_failed l) = kept_causes task e (by_sink l.status (λ nothing. nothing.err l.rose))
+end_causes f task e few (no_memory l) = kept_causes task e (memory_kept e _ l.told)
+end_causes f task e few (memory_ended late l) = kept_causes task e (memory_kept e _ l.told)

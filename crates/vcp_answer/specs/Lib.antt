@@ -1,0 +1,9 @@
+pub mod Answer
+pub mod Answered
+pub mod Causes
+pub mod Courses
+pub mod Endings
+pub mod Moments
+pub mod Reports
+pub mod Sources
+pub mod Statuses
