@@ -1,214 +1,178 @@
--- Words and files come to one task, but for the place at which a text is refused for its depth.
-use Rattle.std.proofs.Common.{ℕ, ◌≡◌, ◌≢◌, ◌⊎◌, inl, inr, Bool, true, false, cond, refl, sym, ap, ◌∙◌, append_assoc, List, [], ◌∷◌, ◌++◌, length, Option, Some, None, nat_lt, codes}
+-- A command and files come to one task, and without a unit to the answer that is meant.
+use Rattle.std.proofs.Common.{ℕ, ◌≡◌, ◌≢◌, Bool, true, false, cond, refl, sym, ap, ◌∙◌, List, length, Option, Some, None, nat_lt}
+use Rattle.vcp_base.specs.Limits.{most_depth, most_source_bytes}
 use Rattle.vcp_base.specs.declared.spot.Spot.{Spot}
 use Rattle.vcp_outside.specs.Held.{Held}
+use Rattle.st_lexer.specs.declared.fault.LexFault.{LexFault}
+use Rattle.st_lexer.specs.declared.fault.LexFault.TheVariants as lexer
 use Rattle.st_lexer.specs.declared.fault.Reason.{Reason}
+use Rattle.st_lexer.specs.declared.fault.Reason.TheVariants as reason
 use Rattle.st_lexer.specs.declared.token.Token.{Token}
-use Rattle.st_lexer.specs.Reading.{Reads, LexAt}
+use Rattle.st_lexer.specs.Reading.{Reads, LexAt, StopsAt, Faults}
 use Rattle.st_lexer.specs.Spots.{spot_at}
+use Rattle.st_parser.specs.declared.fault.SyntaxFault.{SyntaxFault}
 use Rattle.st_parser.specs.declared.fault.SyntaxFault.TheVariants as syntax
-use Rattle.st_parser.specs.Answers.{FirstWrong, Refuses}
-use Rattle.st_spelling.specs.Spelling.{Spells, SpellsWithin, Begins}
+use Rattle.st_parser.specs.Answers.{Refuses}
+use Rattle.st_spelling.specs.Spelling.{Spells, SpellsWithin}
 use Rattle.st_tree.specs.ProgramTree.{ProgramTree}
 use Rattle.st_types.specs.declared.fault.TypeFault.{TypeFault}
-use Rattle.st_types.specs.declared.fault.TypeFault.TheVariants as told
+use Rattle.st_types.specs.declared.fault.TypeFault.TheVariants as typing
 use Rattle.st_types.specs.Typing.{IsTyped, Refuses as RefusesTree}
+use Rattle.vcp_typed.specs.Fitting.{input_columns}
 use Rattle.vcp_typed.specs.SourceRun.{Program}
-use Rattle.vcp_core.specs.declared.words.RowsWord.{RowsWord}
-use Rattle.vcp_core.specs.Answers.{Answer, Task, usage, gives, refuses, is_run, first_name, second_name, run_task, bytes_text}
-use Rattle.vcp_base.specs.Limits.{most_depth, most_source_bytes}
-use Rattle.vcp_core.specs.Comes.{is_check, is_format, TextComes, without_program, with_program, TypesTo, mistyped, well_typed, size_task, typing_text, Formats, WithFile, CheckTask, FormatTask, PlainTask, TaskOf}
-use Rattle.vcp_core.specs.PlainTask.{rows_task}
-use Rattle.vcp_core.specs.PlainWords.{is_plain, rows_word}
-use Rattle.vcp_core.specs.Lines.{spot_text}
-use Rattle.vcp_core.specs.Programs.{IsProgram, NoProgram, lexer_code, unreadable, no_program, too_deep}
+use Rattle.vcp_words.specs.Forms.{Form, Rows, Code, check, format, plain, run}
+use Rattle.vcp_words.specs.Tables.{rows_name}
+use Rattle.vcp_inputs.specs.declared.refusal.Refusal.{Refusal}
+use Rattle.vcp_inputs.specs.declared.refusal.Refusal.TheVariants as refusal
+use Rattle.vcp_inputs.specs.Programs.{IsProgram, NoProgram, unlexed, unparsed, TypedOf, NotTyped, no_program, mistyped}
+use Rattle.vcp_inputs.specs.RowsOutcome.{RowsOutcome, rows_outcome}
+use Rattle.vcp_inputs.specs.RowsOutcome as outcome
+use Rattle.vcp_answer.specs.Answer.{Task, gives, runs, refuses, WithFile}
+use Rattle.vcp_answer.specs.Sources.{ParsedText, TypedText, on_rows, rows_task}
+use Rattle.vcp_answer.specs.Sources as taken
+use Rattle.vcp_core.specs.Check.{size_task}
+use Rattle.vcp_core.specs.Format.{text_task}
+use Rattle.vcp_core.specs.Plain.{plain_answer}
+use Rattle.vcp_core.specs.Run.{job}
+use Rattle.vcp_core.specs.Tasks.{TaskOf, without_unit, as_meant}
+use Rattle.vcp_core.proofs.TaskKinds.{task_has}
 
--- the laws of reading, of spelling and of typing
+-- the laws of reading, of parsing and of typing
 pub record Laws : Type 0 where
   pub tokens : (text : List ℕ) (a b : List Token) → Reads text a → Reads text b → a ≡ b
   pub either : (text : List ℕ) (a : List Token) (p : ℕ) (r : Reason) → Reads text a → LexAt text p r → ⊥
   pub place : (text : List ℕ) (p q : ℕ) (r s : Reason) → LexAt text p r → LexAt text q s → p ≡ q
   pub reason : (text : List ℕ) (p q : ℕ) (r s : Reason) → LexAt text p r → LexAt text q s → r ≡ s
-  pub program : (p : ProgramTree) (text : List ℕ) (ts : List Token) → Spells p text ts → Begins ts
-  pub front : (ts us : List Token) → Begins (ts ++ us) → Begins ts
+  pub spelled : (p : ProgramTree) (text : List ℕ) (ts : List Token) (end : Spot) (f : SyntaxFault) → SpellsWithin most_depth p text ts → Refuses text ts end f → f ≡ syntax.Memory
+  pub parsed : (text : List ℕ) (ts : List Token) (end : Spot) (f g : SyntaxFault) → f ≢ syntax.Memory → g ≢ syntax.Memory → Refuses text ts end f → Refuses text ts end g → f ≡ g
   pub typed : (p : ProgramTree) (t u : Program) → IsTyped p t → IsTyped p u → t ≡ u
-  pub apart : (p : ProgramTree) (t : Program) (e : TypeFault) → IsTyped p t → RefusesTree p e → e ≡ told.Memory
-  pub refused : (p : ProgramTree) (e g : TypeFault) → (e ≡ told.Memory → ⊥) → (g ≡ told.Memory → ⊥) → RefusesTree p e → RefusesTree p g → e ≡ g
+  pub apart : (p : ProgramTree) (t : Program) (e : TypeFault) → IsTyped p t → RefusesTree p e → e ≡ typing.Memory
+  pub refused : (p : ProgramTree) (e g : TypeFault) → (e ≡ typing.Memory → ⊥) → (g ≡ typing.Memory → ⊥) → RefusesTree p e → RefusesTree p g → e ≡ g
 
--- two tokens of a list: they are one, or one stands before the other
-cut_twice : (xs ys us vs : List Token) (x y : Token) → xs ++ x ∷ us ≡ ys ++ y ∷ vs → (x ≡ y) ⊎ (((m : List Token) × (ys ≡ xs ++ x ∷ m)) ⊎ ((m : List Token) × (xs ≡ ys ++ y ∷ m)))
-cut_twice [] [] us vs x y h = inl cc
-cut_twice [] (z ∷ ys) us vs x y h = inr (inl (ys, cc))
-cut_twice (z ∷ xs) [] us vs x y h = inr (inr (xs, cc))
-cut_twice (z ∷ xs) (w ∷ ys) us vs x y h =
-    let first : z ≡ w = cc in
-    let rest : xs ++ x ∷ us ≡ ys ++ y ∷ vs = cc in
-    elim (cut_twice xs ys us vs x y rest) [
-      | inl same ↦ inl same
-      | inr other ↦ elim other [ inl m ↦ inr (inl (m.0, cc)) | inr m ↦ inr (inr (m.0, cc)) ]
-    ]
+-- ---- a text is one program, or is refused in one way
 
--- tokens that begin a program begin one through each of them
-begins_through : (laws : Laws) (xs m : List Token) (x : Token) → Begins (xs ++ x ∷ m) → Begins (xs ++ x ∷ [])
-begins_through laws xs m x begins = laws.front (xs ++ x ∷ []) m (rw (append_assoc xs (x ∷ []) m) begins)
+-- a fault of the lexer, from its reason and its place
+abbrev fault_of : Reason → Spot → LexFault
+fault_of reason.Byte spot = lexer.Byte spot
+fault_of reason.Comment spot = lexer.Comment spot
+fault_of reason.Number spot = lexer.Number spot
 
--- the first wrong token is one
-wrong_once : (laws : Laws) (ts : List Token) (a b : Spot) → FirstWrong ts a → FirstWrong ts b → a ≡ b
-wrong_once laws ts a b (xs, x, us, is, spot, good, bad) (ys, y, vs, is', spot', good', bad') =
-    elim (cut_twice xs ys us vs x y (sym is ∙ is')) [
-      | inl same ↦ spot ∙ (ap (λ (t : Token). t.spot) same ∙ sym spot')
-      | inr other ↦ elim other [
-        | inl m ↦ absurd (bad (begins_through laws xs m.0 x (rw m.1 at good')))
-        | inr m ↦ absurd (bad' (begins_through laws ys m.0 y (rw m.1 at good)))
-      ]
-    ]
+stops : (text : List ℕ) (f : LexFault) → f ≢ lexer.Memory → Faults text f → (why : Reason) × (spot : Spot) × StopsAt text spot why × (f ≡ fault_of why spot)
+stops text (lexer.Byte spot) known h = (reason.Byte, spot, h, refl)
+stops text (lexer.Comment spot) known h = (reason.Comment, spot, h, refl)
+stops text (lexer.Number spot) known h = (reason.Number, spot, h, refl)
+stops text lexer.Memory known h = absurd (known refl)
 
--- tokens with a wrong one begin no program
-wrong_begins : (laws : Laws) (ts : List Token) (a : Spot) → FirstWrong ts a → Begins ts → ⊥
-wrong_begins laws ts a (xs, x, us, is, spot, good, bad) begins = bad (begins_through laws xs us x (rw is at begins))
+module _ (laws : Laws) where
+  lexed_once : (text : List ℕ) (f g : LexFault) → f ≢ lexer.Memory → g ≢ lexer.Memory → Faults text f → Faults text g → f ≡ g
+  lexed_once text f g known known' h k =
+      let (why, spot, (p, at, is), f_is) = stops text f known h in
+      let (why', spot', (q, at', is'), g_is) = stops text g known' k in
+      let spots : spot ≡ spot' = is ∙ (ap (spot_at text) (laws.place text p q why why' at at') ∙ sym is') in
+      let reasons : why ≡ why' = laws.reason text p q why why' at at' in
+      f_is ∙ ap (λ w. fault_of w spot) reasons ∙ ap (fault_of why') spots ∙ sym g_is
 
--- the place of a fault of syntax is one
-syntax_once : (laws : Laws) (text : List ℕ) (ts : List Token) (end a b : Spot) → Refuses text ts end (syntax.Syntax a) → Refuses text ts end (syntax.Syntax b) → a ≡ b
-syntax_once laws text ts end a b (inl f) (inl g) = wrong_once laws ts a b f g
-syntax_once laws text ts end a b (inl f) (inr g) = absurd (wrong_begins laws ts a f g.1)
-syntax_once laws text ts end a b (inr f) (inl g) = absurd (wrong_begins laws ts b g f.1)
-syntax_once laws text ts end a b (inr f) (inr g) = f.0 ∙ sym g.0
+  lexed_apart : (text : List ℕ) (f : LexFault) (ts : List Token) → f ≢ lexer.Memory → Faults text f → Reads text ts → ⊥
+  lexed_apart text f ts known h reads =
+      let (why, spot, (p, at, is), f_is) = stops text f known h in laws.either text ts p why reads at
 
--- what is spelled has no fault of syntax
-spelled_syntax : (laws : Laws) (text : List ℕ) (ts : List Token) (end a : Spot) (p : ProgramTree) → Spells p text ts → Refuses text ts end (syntax.Syntax a) → ⊥
-spelled_syntax laws text ts end a p spells (inl f) = wrong_begins laws ts a f (laws.program p text ts spells)
-spelled_syntax laws text ts end a p spells (inr f) = f.2 p spells
+  refused_once : (text : List ℕ) (r s : Refusal) → NoProgram text r → NoProgram text s → r ≡ s
+  refused_once text _ _ (unlexed f known h) (unlexed g known' k) = ap refusal.Lexing (lexed_once text f g known known' h k)
+  refused_once text _ _ (unlexed f known h) (unparsed us g known' reads' wrong') = absurd (lexed_apart text f us known h reads')
+  refused_once text _ _ (unparsed ts f known reads wrong) (unlexed g known' k) = absurd (lexed_apart text g ts known' k reads)
+  refused_once text _ _ (unparsed ts f known reads wrong) (unparsed us g known' reads' wrong') =
+      ap refusal.Parsing (laws.parsed text ts (spot_at text (length text)) f g known known' wrong (rw (laws.tokens text us ts reads' reads) at wrong'))
 
--- nor one of depth, where no token is deeper than the limit
-spelled_depth : (text : List ℕ) (ts : List Token) (end a : Spot) (p : ProgramTree) → SpellsWithin most_depth p text ts → Refuses text ts end (syntax.Depth a) → ⊥
-spelled_depth text ts end a p (ps, spells, tokens, within) (before, t, behind, is, spot, good, deep) = deep behind p ps spells (tokens ∙ is) within
+  program_or_none : (text : List ℕ) (r : Refusal) (p : ProgramTree) → IsProgram text p → NoProgram text r → ⊥
+  program_or_none text _ p is (unlexed f known h) = lexed_apart text f is.tokens known h is.reads
+  program_or_none text _ p is (unparsed us f known reads wrong) =
+      known (laws.spelled p text us (spot_at text (length text)) f (rw (laws.tokens text is.tokens us is.reads reads) at is.spells) wrong)
 
-as_spelled : (text : List ℕ) (ts : List Token) (p : ProgramTree) → SpellsWithin most_depth p text ts → Spells p text ts
-as_spelled text ts p (ps, spells, tokens, within) = (ps, spells, tokens)
+  as_spelled : (text : List ℕ) (ts : List Token) (p : ProgramTree) → SpellsWithin most_depth p text ts → Spells p text ts
+  as_spelled text ts p (ps, spells, tokens, within) = (ps, spells, tokens)
 
--- two tasks of a text: they are one, unless one tells the depth; and an answer with another status than a refusal's is the
--- only one
-pub record Agree (name : List ℕ) (a b : Task) : Type 0 where
-  pub one : (a ≡ b) ⊎ (((spot : Spot) × (a ≡ refuses (spot_text name spot (codes "S5 Depth")))) ⊎ ((spot : Spot) × (b ≡ refuses (spot_text name spot (codes "S5 Depth")))))
-  pub given : (answer : Answer) → a ≡ gives answer → answer.status ≢ 1 → b ≡ a
+  program_once : (text : List ℕ) (p q : ProgramTree) → IsProgram text p → IsProgram text q → p ≡ q
+  program_once text p q is other =
+      other.only p (rw (laws.tokens text is.tokens other.tokens is.reads other.reads) at (as_spelled text is.tokens p is.spells))
 
-agree_same : (name : List ℕ) (a : Task) → Agree name a a
-agree_same name a = record { one = inl refl; given = λ answer is other. refl }
+  typed_once : (text : List ℕ) (t u : Program) → TypedOf text t → TypedOf text u → t ≡ u
+  typed_once text t u is other =
+      laws.typed is.tree t u is.typed (rw (program_once text other.tree is.tree other.program is.program) at other.typed)
 
-agree_equal : (name : List ℕ) (a b : Task) → a ≡ b → Agree name a b
-agree_equal name a b is = rw is (agree_same name b)
+  typed_apart : (text : List ℕ) (t : Program) (r : Refusal) → TypedOf text t → NotTyped text r → ⊥
+  typed_apart text t _ is (no_program r h) = program_or_none text r is.tree is.program h
+  typed_apart text t _ is (mistyped p f program known refused) =
+      known (laws.apart is.tree t f is.typed (rw (program_once text p is.tree program is.program) at refused))
 
-not_given : (line : List ℕ) (answer : Answer) (b : Task) → refuses line ≡ gives answer → answer.status ≢ 1 → b ≡ refuses line
-not_given line answer b is other =
-    let same : record { out = []; err = line; status = 1 } ≡ answer = cc in
-    absurd (other (sym (ap (λ (a : Answer). a.status) same)))
+  untyped_once : (text : List ℕ) (r s : Refusal) → NotTyped text r → NotTyped text s → r ≡ s
+  untyped_once text _ _ (no_program r h) (no_program s k) = refused_once text r s h k
+  untyped_once text _ _ (no_program r h) (mistyped q g program known refused) = absurd (program_or_none text r q program h)
+  untyped_once text _ _ (mistyped p f program known refused) (no_program s k) = absurd (program_or_none text s p program k)
+  untyped_once text _ _ (mistyped p f program known refused) (mistyped q g program' known' refused') =
+      ap refusal.Typing (laws.refused p f g known known' refused (rw (program_once text q p program' program) at refused'))
 
-agree_deep : (name line : List ℕ) (b : Task) (spot : Spot) → line ≡ spot_text name spot (codes "S5 Depth") → Agree name (refuses line) b
-agree_deep name line b spot is = record { one = inr (inl (spot, ap refuses is)); given = λ answer same other. not_given line answer b same other }
+  -- ---- tasks
 
-agree_with_deep : (name line : List ℕ) (spot : Spot) → Agree name (refuses line) (refuses (spot_text name spot (codes "S5 Depth")))
-agree_with_deep name line spot = record { one = inr (inr (spot, refl)); given = λ answer same other. not_given line answer _ same other }
+  typed_text_once : (Then : Program → Task) (name text : List ℕ) (a b : Task) → TypedText Then name text a → TypedText Then name text b → a ≡ b
+  typed_text_once Then name text _ _ (taken.untyped r h) (taken.untyped s k) = ap (refuses name) (untyped_once text r s h k)
+  typed_text_once Then name text _ _ (taken.untyped r h) (taken.typed u k) = absurd (typed_apart text u r k h)
+  typed_text_once Then name text _ _ (taken.typed t h) (taken.untyped s k) = absurd (typed_apart text t s h k)
+  typed_text_once Then name text _ _ (taken.typed t h) (taken.typed u k) = ap Then (typed_once text t u h k)
 
--- two lines that tell that a text is no program
-lines_agree : (laws : Laws) (name text line other : List ℕ) → NoProgram name text line → NoProgram name text other → Agree name (refuses line) (refuses other)
-lines_agree laws name text _ _ (unreadable why spot (p, at, is)) (unreadable why' spot' (q, at', is')) =
-    let spots : spot ≡ spot' = is ∙ (ap (spot_at text) (laws.place text p q why why' at at') ∙ sym is') in
-    let reasons : why ≡ why' = laws.reason text p q why why' at at' in
-    agree_equal name _ _ (ap (λ s. refuses (spot_text name s (lexer_code why))) spots ∙ ap (λ w. refuses (spot_text name spot' (lexer_code w))) reasons)
-lines_agree laws name text _ _ (unreadable why spot (p, at, is)) (no_program us spot' reads' wrong') = absurd (laws.either text us p why reads' at)
-lines_agree laws name text _ _ (unreadable why spot stops) (too_deep us spot' reads' deep') = agree_with_deep name _ spot'
-lines_agree laws name text _ _ (no_program ts spot reads wrong) (unreadable why' spot' (q, at', is')) = absurd (laws.either text ts q why' reads at')
-lines_agree laws name text _ _ (no_program ts spot reads wrong) (no_program us spot' reads' wrong') =
-    agree_equal name _ _ (ap (λ s. refuses (spot_text name s (codes "S4 Syntax"))) (syntax_once laws text ts (spot_at text (length text)) spot spot' wrong (rw (laws.tokens text us ts reads' reads) at wrong')))
-lines_agree laws name text _ _ (no_program ts spot reads wrong) (too_deep us spot' reads' deep') = agree_with_deep name _ spot'
-lines_agree laws name text _ other (too_deep ts spot reads deep) told = agree_deep name _ (refuses other) spot refl
+  parsed_text_once : (Then : ProgramTree → Task) (name text : List ℕ) (a b : Task) → ParsedText Then name text a → ParsedText Then name text b → a ≡ b
+  parsed_text_once Then name text _ _ (taken.unparsed r h) (taken.unparsed s k) = ap (refuses name) (refused_once text r s h k)
+  parsed_text_once Then name text _ _ (taken.unparsed r h) (taken.parsed q k) = absurd (program_or_none text r q k h)
+  parsed_text_once Then name text _ _ (taken.parsed p h) (taken.unparsed s k) = absurd (program_or_none text s p h k)
+  parsed_text_once Then name text _ _ (taken.parsed p h) (taken.parsed q k) = ap Then (program_once text p q h k)
 
--- a text that is a program isn't told to be none
-program_or_none : (laws : Laws) (name text line : List ℕ) (p : ProgramTree) → IsProgram text p → NoProgram name text line → ⊥
-program_or_none laws name text _ p is (unreadable why spot (q, at, spot_is)) = laws.either text is.tokens q why is.reads at
-program_or_none laws name text _ p is (no_program us spot reads wrong) =
-    spelled_syntax laws text us (spot_at text (length text)) spot p (rw (laws.tokens text is.tokens us is.reads reads) at (as_spelled text is.tokens p is.spells)) wrong
-program_or_none laws name text _ p is (too_deep us spot reads deep) =
-    spelled_depth text us (spot_at text (length text)) spot p (rw (laws.tokens text is.tokens us is.reads reads) at is.spells) deep
+module _ (name : List ℕ) (Text : List ℕ → Task → Type 0) (once : (text : List ℕ) (a b : Task) → Text text a → Text text b → a ≡ b) where
+  long_once : (over : Bool) (text : List ℕ) (a b : Task) → cond over (a ≡ refuses name refusal.Bytes) (Text text a) → cond over (b ≡ refuses name refusal.Bytes) (Text text b) → a ≡ b
+  long_once true text a b h k = h ∙ sym k
+  long_once false text a b h k = once text a b h k
 
--- a text is one program
-program_once : (laws : Laws) (text : List ℕ) (p q : ProgramTree) → IsProgram text p → IsProgram text q → p ≡ q
-program_once laws text p q is other =
-    other.only p (rw (laws.tokens text is.tokens other.tokens is.reads other.reads) at (as_spelled text is.tokens p is.spells))
+  file_once : (found : Option (List ℕ)) (a b : Task) → WithFile name most_source_bytes Text found a → WithFile name most_source_bytes Text found b → a ≡ b
+  file_once None a b h k = h ∙ sym k
+  file_once (Some text) a b h k = long_once (nat_lt most_source_bytes (length text)) text a b h k
 
--- what is said of a program is one task
-abbrev SaysOnce : (ProgramTree → Task → Type 0) → Type 0
-SaysOnce Then = (p : ProgramTree) (a b : Task) → Then p a → Then p b → a ≡ b
+typed_task_once : (laws : Laws) (Then : Program → Task) (p : List ℕ) (held : Held) (a b : Task) → taken.TypedTask Then p held a → taken.TypedTask Then p held b → a ≡ b
+typed_task_once laws Then p held a b h k = file_once p (TypedText Then p) (typed_text_once laws Then p) (held p) a b h k
 
-typed_once : (laws : Laws) (name : List ℕ) (Then : Program → Task) → SaysOnce (TypesTo name Then)
-typed_once laws name Then p _ _ (mistyped f known refused) (mistyped g known' refused') = ap (λ t. refuses (typing_text name t)) (laws.refused p f g known known' refused refused')
-typed_once laws name Then p _ _ (mistyped f known refused) (well_typed u typed') = absurd (known (laws.apart p u f typed' refused))
-typed_once laws name Then p _ _ (well_typed t typed) (mistyped g known' refused') = absurd (known' (laws.apart p t g typed refused'))
-typed_once laws name Then p _ _ (well_typed t typed) (well_typed u typed') = ap Then (laws.typed p t u typed typed')
+-- the tasks of a command are one
+pub task_once : (laws : Laws) (f : Form) (held : Held) (a b : Task) → TaskOf f held a → TaskOf f held b → a ≡ b
+task_once laws (check p) held a b h k = typed_task_once laws size_task p held a b h k
+task_once laws (format p) held a b h k = file_once p (ParsedText text_task p) (parsed_text_once laws text_task p) (held p) a b h k
+task_once laws (plain p rows) held a b h k = typed_task_once laws (λ t. rows_task rows held (input_columns t.slots) (λ left. gives (plain_answer (rows_name rows) t left))) p held a b h k
+task_once laws (run p rows code) held a b h k = typed_task_once laws (λ t. rows_task rows held (input_columns t.slots) (λ left. runs (job (rows_name rows) code t left))) p held a b h k
 
-format_once : SaysOnce Formats
-format_once p a b h k = h ∙ sym k
+-- ---- without a unit
 
-module _ (laws : Laws) (name : List ℕ) (Then : ProgramTree → Task → Type 0) (once : SaysOnce Then) where
-  program_says : (text : List ℕ) (p q : ProgramTree) (a b : Task) → IsProgram text p → IsProgram text q → Then p a → Then q b → a ≡ b
-  program_says text p q a b is other h k = once p a b h (rw (program_once laws text q p other is) at k)
+-- a task that isn't run is the one that is meant
+meant_same : (f : Form) (held : Held) (task : Task) → ((p : List ℕ) (rows : Rows) (code : Code) → f ≡ run p rows code → ⊥) → TaskOf f held task → as_meant task ≡ task
+meant_same f held task other comes = task_has (λ t. as_meant t ≡ t) (λ a small. refl) f held task (λ name among none. refl) (λ p rows code is j. absurd (other p rows code is)) comes
 
-  text_agrees : (text : List ℕ) (a b : Task) → TextComes name text Then a → TextComes name text Then b → Agree name a b
-  text_agrees text _ _ (without_program line told) (without_program other told') = lines_agree laws name text line other told told'
-  text_agrees text _ _ (without_program line told) (with_program q b other k) = absurd (program_or_none laws name text line q other told)
-  text_agrees text _ _ (with_program p a is h) (without_program line told) = absurd (program_or_none laws name text line p is told)
-  text_agrees text _ _ (with_program p a is h) (with_program q b other k) = agree_equal name a b (program_says text p q a b is other h k)
+module _ (Runs Plain : Program → Task) (same : (t : Program) → as_meant (Runs t) ≡ Plain t) (name : List ℕ) where
+  text_meant : (text : List ℕ) (task : Task) → TypedText Runs name text task → TypedText Plain name text (as_meant task)
+  text_meant text _ (taken.untyped r h) = taken.untyped r h
+  text_meant text _ (taken.typed t h) = rw (same t) (taken.typed t h)
 
-  long_agrees : (long : Bool) (text : List ℕ) (a b : Task) → cond long (a ≡ refuses (bytes_text name)) (TextComes name text Then a) → cond long (b ≡ refuses (bytes_text name)) (TextComes name text Then b) → Agree name a b
-  long_agrees true text a b h k = agree_equal name a b (h ∙ sym k)
-  long_agrees false text a b h k = text_agrees text a b h k
+  long_meant : (over : Bool) (text : List ℕ) (task : Task) → cond over (task ≡ refuses name refusal.Bytes) (TypedText Runs name text task) → cond over (as_meant task ≡ refuses name refusal.Bytes) (TypedText Plain name text (as_meant task))
+  long_meant true text task h = ap as_meant h
+  long_meant false text task h = text_meant text task h
 
-  file_agrees : (file : Option (List ℕ)) (a b : Task) → WithFile name most_source_bytes (λ text task. TextComes name text Then task) file a → WithFile name most_source_bytes (λ text task. TextComes name text Then task) file b → Agree name a b
-  file_agrees None a b h k = agree_equal name a b (h ∙ sym k)
-  file_agrees (Some text) a b h k = long_agrees (nat_lt most_source_bytes (length text)) text a b h k
+  file_meant : (found : Option (List ℕ)) (task : Task) → WithFile name most_source_bytes (TypedText Runs name) found task → WithFile name most_source_bytes (TypedText Plain name) found (as_meant task)
+  file_meant None task h = ap as_meant h
+  file_meant (Some text) task h = long_meant (nat_lt most_source_bytes (length text)) text task h
 
-  -- a text that is a program comes to one task
-  text_once : (text : List ℕ) (p : ProgramTree) (a b : Task) → IsProgram text p → TextComes name text Then a → TextComes name text Then b → a ≡ b
-  text_once text p _ b is (without_program line told) k = absurd (program_or_none laws name text line p is told)
-  text_once text p _ _ is (with_program q a other h) (without_program line told) = absurd (program_or_none laws name text line p is told)
-  text_once text p _ _ is (with_program q a other h) (with_program r b another k) = program_says text q r a b other another h k
+rows_meant : (name : List ℕ) (code : Code) (t : Program) (o : RowsOutcome) → as_meant (on_rows name (λ left. runs (job name code t left)) o) ≡ on_rows name (λ left. gives (plain_answer name t left)) o
+rows_meant name code t outcome.lacking = refl
+rows_meant name code t (outcome.refused r) = refl
+rows_meant name code t (outcome.opened left) = refl
 
-  long_once : (long : Bool) (text : List ℕ) (p : ProgramTree) (a b : Task) → IsProgram text p → cond long (a ≡ refuses (bytes_text name)) (TextComes name text Then a) → cond long (b ≡ refuses (bytes_text name)) (TextComes name text Then b) → a ≡ b
-  long_once true text p a b is h k = h ∙ sym k
-  long_once false text p a b is h k = text_once text p a b is h k
-
-  file_once : (file : Option (List ℕ)) (text : List ℕ) (p : ProgramTree) (a b : Task) → file ≡ Some text → IsProgram text p → WithFile name most_source_bytes (λ text task. TextComes name text Then task) file a → WithFile name most_source_bytes (λ text task. TextComes name text Then task) file b → a ≡ b
-  file_once None text p a b held is h k = absurd cc
-  file_once (Some held) text p a b same is h k =
-      let it : held ≡ text = cc in
-      long_once (nat_lt most_source_bytes (length held)) held p a b (rw it is) h k
-
--- what words come to, by the forms that they have
-abbrev ByForm : (run check format plain : Bool) → RowsWord → List ℕ → List ℕ → Held → Task → Type 0
-ByForm run check format plain word name rows held a =
-    cond run (a ≡ run_task name rows held) (cond check (CheckTask name held a) (cond format (FormatTask name held a) (cond plain (PlainTask word name rows held a) (a ≡ usage))))
-
-form_agrees : (laws : Laws) (run check format plain : Bool) (word : RowsWord) (name rows : List ℕ) (held : Held) (a b : Task) → ByForm run check format plain word name rows held a → ByForm run check format plain word name rows held b → Agree name a b
-form_agrees laws true check format plain word name rows held a b h k = agree_equal name a b (h ∙ sym k)
-form_agrees laws false true format plain word name rows held a b h k = file_agrees laws name (TypesTo name size_task) (typed_once laws name size_task) (held name) a b h k
-form_agrees laws false false true plain word name rows held a b h k = file_agrees laws name Formats format_once (held name) a b h k
-form_agrees laws false false false true word name rows held a b h k =
-    file_agrees laws name (TypesTo name (rows_task word rows held)) (typed_once laws name (rows_task word rows held)) (held name) a b h k
-form_agrees laws false false false false word name rows held a b h k = agree_equal name a b (h ∙ sym k)
-
--- two tasks of words
-pub tasks_agree : (laws : Laws) (words : List (List ℕ)) (held : Held) (a b : Task) → TaskOf words held a → TaskOf words held b → Agree (first_name words) a b
-tasks_agree laws words held a b h k = form_agrees laws (is_run words) (is_check words) (is_format words) (is_plain words) (rows_word words) (first_name words) (second_name words) held a b h k
-
-form_once : (laws : Laws) (run check format plain : Bool) (word : RowsWord) (name rows text : List ℕ) (p : ProgramTree) (held : Held) (a b : Task) → held name ≡ Some text → IsProgram text p → ByForm run check format plain word name rows held a → ByForm run check format plain word name rows held b → a ≡ b
-form_once laws true check format plain word name rows text p held a b has is h k = h ∙ sym k
-form_once laws false true format plain word name rows text p held a b has is h k = file_once laws name (TypesTo name size_task) (typed_once laws name size_task) (held name) text p a b has is h k
-form_once laws false false true plain word name rows text p held a b has is h k = file_once laws name Formats format_once (held name) text p a b has is h k
-form_once laws false false false true word name rows text p held a b has is h k =
-    file_once laws name (TypesTo name (rows_task word rows held)) (typed_once laws name (rows_task word rows held)) (held name) text p a b has is h k
-form_once laws false false false false word name rows text p held a b has is h k = h ∙ sym k
-
--- the tasks of words where the text of P is a program
-pub program_task : (laws : Laws) (words : List (List ℕ)) (held : Held) (text : List ℕ) (p : ProgramTree) (a b : Task) → held (first_name words) ≡ Some text → IsProgram text p → TaskOf words held a → TaskOf words held b → a ≡ b
-program_task laws words held text p a b has is h k =
-    form_once laws (is_run words) (is_check words) (is_format words) (is_plain words) (rows_word words) (first_name words) (second_name words) text p held a b has is h k
+-- the command without a unit comes to the answer that is meant
+pub task_meant : (f : Form) (held : Held) (task : Task) → TaskOf f held task → TaskOf (without_unit f) held (as_meant task)
+task_meant (check p) held task h = rw (meant_same (check p) held task (λ q rows code e. cc) h) h
+task_meant (format p) held task h = rw (meant_same (format p) held task (λ q rows code e. cc) h) h
+task_meant (plain p rows) held task h = rw (meant_same (plain p rows) held task (λ q other code e. cc) h) h
+task_meant (run p rows code) held task h =
+    file_meant (λ t. rows_task rows held (input_columns t.slots) (λ left. runs (job (rows_name rows) code t left))) (λ t. rows_task rows held (input_columns t.slots) (λ left. gives (plain_answer (rows_name rows) t left)))
+    (λ t. rows_meant (rows_name rows) code t (rows_outcome rows held (input_columns t.slots))) p (held p) task h

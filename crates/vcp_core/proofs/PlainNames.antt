@@ -8,7 +8,6 @@ use Rattle.vcp_typed.specs.declared.slot.Slot.{Slot}
 use Rattle.vcp_typed.specs.Fitting.{input_types, output_types, input_columns, output_columns}
 use Rattle.vcp_typed.specs.SourceRun.{is_input, is_output}
 use Rattle.input_rows.specs.RowsOf.{types_of}
-use Rattle.vcp_core.specs.PlainRun.{output_names_of}
 
 either-map : {X Y : Type 0} (f : X → Y) (b : Bool) (x : X) (xs : List X) (y : Y) (ys : List Y) → f x ≡ y → map f xs ≡ ys → map f (cond b (x ∷ xs) xs) ≡ cond b (y ∷ ys) ys
 either-map f true x xs y ys e more = cc
@@ -27,11 +26,6 @@ types-of-inputs (s ∷ slots) = either-map (λ (c : Column). c.ty) (is_input s.c
 pub types-of-outputs : (slots : List Slot) → types_of (output_columns slots) ≡ output_types slots
 types-of-outputs [] = refl
 types-of-outputs (s ∷ slots) = either-map (λ (c : Column). c.ty) (is_output s.class) _ (output_columns slots) s.ty (output_types slots) refl (types-of-outputs slots)
-
--- the names of the columns of the outputs
-pub names-of-outputs : (slots : List Slot) → map (λ (c : Column). c.name) (output_columns slots) ≡ output_names_of slots
-names-of-outputs [] = refl
-names-of-outputs (s ∷ slots) = either-map (λ (c : Column). c.name) (is_output s.class) _ (output_columns slots) s.name (output_names_of slots) refl (names-of-outputs slots)
 
 -- there are as many values as types
 pub in-length : (types : List Ty) (values : List ℤ) → AreIn types values → length values ≡ length types

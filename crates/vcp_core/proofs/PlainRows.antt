@@ -14,12 +14,15 @@ use Rattle.vcp_typed.specs.declared.slot.Slot.{Slot}
 use Rattle.vcp_typed.specs.TExprTree.{literal, get, binary}
 use Rattle.vcp_typed.specs.TStmtTree.{assign, no_tstmts, and_tstmt}
 use Rattle.vcp_typed.specs.SourceRun.{Program}
-use Rattle.vcp_core.specs.declared.words.RowsWord.TheVariants as rows
-use Rattle.vcp_core.specs.Answers.{usage, lacks, refuses}
-use Rattle.vcp_core.specs.Comes.{TaskOf}
-use Rattle.vcp_core.specs.PlainTask.{plain_answer, rows_task}
-use Rattle.vcp_core.specs.PlainWords.{rows_word}
-use Rattle.vcp_core.specs.RowFaults.{row_fault_text}
+use Rattle.vcp_typed.specs.Fitting.{input_columns}
+use Rattle.vcp_words.specs.Forms.{Rows, plain, file, cycles}
+use Rattle.vcp_words.specs.Tables.{rows_name}
+use Rattle.vcp_inputs.specs.declared.refusal.Refusal.TheVariants as refusal
+use Rattle.vcp_inputs.specs.Lines.{rows_text}
+use Rattle.vcp_answer.specs.Answer.{Task, gives, lacks, refuses}
+use Rattle.vcp_answer.specs.Sources.{rows_task}
+use Rattle.vcp_core.specs.Plain.{plain_answer}
+use Rattle.vcp_core.specs.Tasks.{TaskOf}
 
 abbrev at : ℕ → ℕ → Spot
 at line col = record { line = line; col = col }
@@ -54,30 +57,25 @@ greatest_stops = refl
 abbrev nothing : Held
 nothing name = None
 
-cycles_of_inputs : rows_task (rows.Cycles 3) (codes "--cycles") nothing plus_one ≡ refuses (codes "--cycles R4 Form\n")
+-- what the program comes to on ROWS
+abbrev on_rows : Rows → Task
+on_rows rows = rows_task rows nothing (input_columns plus_one.slots) (λ left. gives (plain_answer (rows_name rows) plus_one left))
+
+cycles_of_inputs : on_rows (cycles 3) ≡ refuses (codes "--cycles") (refusal.Rows row.Form)
 cycles_of_inputs = refl
 
-rows_are_lacking : rows_task rows.File (codes "in.csv") nothing plus_one ≡ lacks (codes "in.csv")
+rows_are_lacking : on_rows (file (codes "in.csv")) ≡ lacks (codes "in.csv")
 rows_are_lacking = refl
 
-source_is_lacking : TaskOf (codes "plain" ∷ codes "p" ∷ codes "r" ∷ []) nothing (lacks (codes "p"))
+source_is_lacking : TaskOf (plain (codes "p") (file (codes "r"))) nothing (lacks (codes "p"))
 source_is_lacking = refl
 
-cycles_without_number : TaskOf (codes "plain" ∷ codes "p" ∷ codes "--cycles" ∷ []) nothing usage
-cycles_without_number = refl
-
-too_many_cycles : TaskOf (codes "plain" ∷ codes "p" ∷ codes "--cycles" ∷ codes "1000001" ∷ []) nothing usage
-too_many_cycles = refl
-
-most_cycles : TaskOf (codes "plain" ∷ codes "p" ∷ codes "--cycles" ∷ codes "1000000" ∷ []) nothing (lacks (codes "p"))
-most_cycles = refl
-
-number_of_cycles : rows_word (codes "plain" ∷ codes "p" ∷ codes "--cycles" ∷ codes "007" ∷ []) ≡ rows.Cycles 7
-number_of_cycles = refl
-
-header_is_refused : row_fault_text (codes "in.csv") row.Header ≡ codes "in.csv:1 R1 Header\n"
+header_is_refused : rows_text (codes "in.csv") row.Header ≡ codes "in.csv:1 R1 Header\n"
 header_is_refused = refl
 
-width_is_refused : row_fault_text (codes "in.csv") (row.Width 3) ≡ codes "in.csv:3 R2 Width\n"
+width_is_refused : rows_text (codes "in.csv") (row.Width 3) ≡ codes "in.csv:3 R2 Width\n"
 unfolding digits
 width_is_refused = refl
+
+form_is_refused : rows_text (codes "--cycles") row.Form ≡ codes "--cycles R4 Form\n"
+form_is_refused = refl

@@ -11,13 +11,15 @@ use Rattle.input_rows.specs.declared.fault.RowFault.{RowFault}
 use Rattle.input_rows.specs.declared.fault.RowFault.TheVariants as rows
 use Rattle.input_rows.specs.RowsOf.{RowsLeft}
 use Rattle.run_report.specs.Lines.{header_text, row_text, end_text}
-use Rattle.vcp_core.specs.Lines.{rows_text}
+use Rattle.machine_run.specs.RowRuns.{texts_from}
+use Rattle.vcp_answer.specs.Reports.{output_names}
 use Rattle.vcp_core.specs.declared.fault.Fault.{Fault}
 use Rattle.vcp_core.specs.declared.fault.Fault.TheVariants as fault
-use Rattle.vcp_core.specs.declared.plain_run.PlainEnd.{PlainEnd}
-use Rattle.vcp_core.specs.declared.plain_run.PlainEnd.TheVariants as plain
-use Rattle.vcp_core.specs.RowFaults.{row_fault}
-use Rattle.vcp_core.specs.PlainRun.{output_names_of, slot_names, last_line, plain_text, PrintsText, Prints, cycle_line, lines_from, rest_text, PrintsFrom}
+use Rattle.vcp_inputs.specs.declared.refusal.NoInput.TheVariants as input
+use Rattle.vcp_inputs.specs.Refusals.{no_rows}
+use Rattle.vcp_core.specs.declared.ending.End.{End}
+use Rattle.vcp_core.specs.declared.ending.End.TheVariants as end
+use Rattle.vcp_core.specs.PlainRun.{last_line, plain_text, PrintsText, Prints, cycle_line, lines_from, rest_text, PrintsFrom}
 
 pub appends-nothing : (old : Option (List ℕ)) → Appends old old []
 appends-nothing None = tt
@@ -34,18 +36,17 @@ front-of old mid new front rest text is before (some, more, cut, taken) =
     (front ++ some, more, is ∙ ap (λ t. front ++ t) cut ∙ sym (append_assoc front some more), Appends-trans old mid new front some before taken)
 
 -- the rest was printed so, and so was the whole
-pub prints-after : (stop : Option Stop) (refusal : Option RowFault) (old mid new : Option (List ℕ)) (front rest text : List ℕ) (r : Result PlainEnd Fault) →
+pub prints-after : (stop : Option Stop) (refusal : Option RowFault) (old mid new : Option (List ℕ)) (front rest text : List ℕ) (r : Result End Fault) →
     text ≡ front ++ rest → Appends old mid front → PrintsText rest stop refusal mid new r → PrintsText text stop refusal old new r
-prints-after stop refusal old mid new front rest text (Ok plain.Complete) is before (e, f, w) = (e, f, appends-appends old mid new front rest text before w is)
-prints-after stop refusal old mid new front rest text (Ok plain.Stopped) is before (s, e, w) = (s, e, appends-appends old mid new front rest text before w is)
-prints-after stop refusal old mid new front rest text (Err (fault.Row why)) is before (f, e, g, h, w) = (f, e, g, h, appends-appends old mid new front rest text before w is)
+prints-after stop refusal old mid new front rest text (Ok end.Done) is before (e, f, w) = (e, f, appends-appends old mid new front rest text before w is)
+prints-after stop refusal old mid new front rest text (Ok end.Stopped) is before (s, e, w) = (s, e, appends-appends old mid new front rest text before w is)
+prints-after stop refusal old mid new front rest text (Ok end.Refused) is before h = absurd h
+prints-after stop refusal old mid new front rest text (Err (fault.Rows (input.Refused r))) is before (f, e, g, h, w) = (f, e, g, h, appends-appends old mid new front rest text before w is)
+prints-after stop refusal old mid new front rest text (Err (fault.Rows input.Unread)) is before h = absurd h
+prints-after stop refusal old mid new front rest text (Err (fault.Rows input.Memory)) is before w = front-of old mid new front rest text is before w
 prints-after stop refusal old mid new front rest text (Err fault.Write) is before w = part-of old mid new front rest text is before w
 prints-after stop refusal old mid new front rest text (Err fault.Memory) is before w = front-of old mid new front rest text is before w
-prints-after stop refusal old mid new front rest text (Err (fault.Read w)) is before h = absurd h
-prints-after stop refusal old mid new front rest text (Err (fault.TooLong w)) is before h = absurd h
-prints-after stop refusal old mid new front rest text (Err (fault.Unbuilt w)) is before h = absurd h
-prints-after stop refusal old mid new front rest text (Err (fault.Refused why spot)) is before h = absurd h
-prints-after stop refusal old mid new front rest text (Err fault.TooLarge) is before h = absurd h
+prints-after stop refusal old mid new front rest text (Err (fault.Source i)) is before h = absurd h
 
 -- ---- one cycle
 
@@ -55,7 +56,7 @@ after_line p n (Ok m) left = rest_text p (suc n) m left
 after_line p n (Err s) left = []
 
 split-by : (p : Program) (n : ℕ) (r : Result (List ℤ) Stop) (left : RowsLeft) →
-    lines_from (slot_names p.slots) n (after_cycle p.slots (λ next. run_from p next left.rows) r).rows (after_cycle p.slots (λ next. run_from p next left.rows) r).end left.refusal
+    lines_from p n (after_cycle p.slots (λ next. run_from p next left.rows) r).rows (after_cycle p.slots (λ next. run_from p next left.rows) r).end left.refusal
     ≡ cycle_line p.slots n r ++ after_line p n r left
 split-by p n (Ok m) left = refl
 split-by p n (Err s) left = sym (append-nil _)
@@ -80,7 +81,7 @@ pub going-starts : (p : Program) (m : List ℤ) (left : RowsLeft) (old : Option 
 going-starts p m left old few = record { front = []; wrote = appends-nothing old; text = refl; stop = refl; refusal = refl; counted = omega (arith, few) }
 
 -- what the rest prints from here on, the run prints from the first cycle on
-pub going-ends : (p : Program) (m0 : List ℤ) (first : RowsLeft) (old now new : Option (List ℕ)) (n : ℕ) (m : List ℤ) (left : RowsLeft) (r : Result PlainEnd Fault) →
+pub going-ends : (p : Program) (m0 : List ℤ) (first : RowsLeft) (old now new : Option (List ℕ)) (n : ℕ) (m : List ℤ) (left : RowsLeft) (r : Result End Fault) →
     Going p m0 first old now n m left → PrintsFrom p n m left now new r → PrintsFrom p 0 m0 first old new r
 going-ends p m0 first old now new n m left r going prints =
     let from = prints-after (run_from p m left.rows).end left.refusal old now new going.front (rest_text p n m left) (rest_text p 0 m0 first) r going.text going.wrote prints in
@@ -113,7 +114,7 @@ going-on p m0 first old now new n m next row before left going taken is w =
 
 -- a cycle that stops
 pub stops-here : (p : Program) (n : ℕ) (m row : List ℤ) (s : Stop) (before left : RowsLeft) (now new : Option (List ℕ)) →
-    before ≡ record left { rows = row ∷ left.rows } → cycle p m row ≡ Err s → Appends now new (cycle_line p.slots n (cycle p m row)) → PrintsFrom p n m before now new (Ok plain.Stopped)
+    before ≡ record left { rows = row ∷ left.rows } → cycle p m row ≡ Err s → Appends now new (cycle_line p.slots n (cycle p m row)) → PrintsFrom p n m before now new (Ok end.Stopped)
 stops-here p n m row s before left now new taken is w =
     let text : rest_text p n m before ≡ cycle_line p.slots n (cycle p m row) =
     ap (rest_text p n m) taken ∙ rest-split p n m row left ∙ ap (λ t. cycle_line p.slots n (cycle p m row) ++ t) (ap (λ r. after_line p n r left) is) ∙ append-nil _ in
@@ -132,14 +133,14 @@ pub record NoRows (left : RowsLeft) (refusal : Option RowFault) : Type 0 where
   pub rows : left.rows ≡ []
   pub refusal_is : left.refusal ≡ refusal
 
-pub text-without-rows : (p : Program) (n : ℕ) (m : List ℤ) (left : RowsLeft) (refusal : Option RowFault) → NoRows left refusal → rest_text p n m left ≡ last_line (slot_names p.slots) n None refusal
+pub text-without-rows : (p : Program) (n : ℕ) (m : List ℤ) (left : RowsLeft) (refusal : Option RowFault) → NoRows left refusal → rest_text p n m left ≡ last_line p n None refusal
 text-without-rows p n m left refusal none =
-    ap (λ rows. lines_from (slot_names p.slots) n (run_from p m rows).rows (run_from p m rows).end left.refusal) none.rows ∙ ap (last_line (slot_names p.slots) n None) none.refusal_is
+    ap (λ rows. lines_from p n (run_from p m rows).rows (run_from p m rows).end left.refusal) none.rows ∙ ap (last_line p n None) none.refusal_is
 
 pub stop-without-rows : (p : Program) (m : List ℤ) (left : RowsLeft) (refusal : Option RowFault) → NoRows left refusal → (run_from p m left.rows).end ≡ None
 stop-without-rows p m left refusal none = ap (λ rows. (run_from p m rows).end) none.rows
 
-pub completes : (p : Program) (n : ℕ) (m : List ℤ) (left : RowsLeft) (now new : Option (List ℕ)) → NoRows left None → Appends now new (end_text n) → PrintsFrom p n m left now new (Ok plain.Complete)
+pub completes : (p : Program) (n : ℕ) (m : List ℤ) (left : RowsLeft) (now new : Option (List ℕ)) → NoRows left None → Appends now new (end_text n) → PrintsFrom p n m left now new (Ok end.Done)
 completes p n m left now new none w = (stop-without-rows p m left None none, none.refusal_is, rw (text-without-rows p n m left None none) w)
 
 pub end-fails : (p : Program) (n : ℕ) (m : List ℤ) (left : RowsLeft) (now new : Option (List ℕ)) → NoRows left None → AppendsPart now new (end_text n) → PrintsFrom p n m left now new (Err fault.Write)
@@ -150,7 +151,7 @@ pub wants-memory : (text : List ℕ) (stop : Option Stop) (refusal : Option RowF
 wants-memory text stop refusal now = ([], text, refl, appends-nothing now)
 
 -- the next row is refused
-pub refuses-here : (p : Program) (n : ℕ) (m : List ℤ) (left : RowsLeft) (now : Option (List ℕ)) (f : RowFault) → ((f ≡ rows.Memory → ⊥) → NoRows left (Some f)) → PrintsFrom p n m left now now (Err (row_fault f))
+pub refuses-here : (p : Program) (n : ℕ) (m : List ℤ) (left : RowsLeft) (now : Option (List ℕ)) (f : RowFault) → ((f ≡ rows.Memory → ⊥) → NoRows left (Some f)) → PrintsFrom p n m left now now (Err (fault.Rows (no_rows f)))
 refuses-here p n m left now rows.Memory h = wants-memory (rest_text p n m left) (run_from p m left.rows).end left.refusal now
 refuses-here p n m left now rows.Header h = let none = h (λ e. absurd cc) in (rows.Header, stop-without-rows p m left _ none, none.refusal_is, refl, rw (text-without-rows p n m left _ none) (appends-nothing now))
 refuses-here p n m left now (rows.Width row) h = let none = h (λ e. absurd cc) in (rows.Width row, stop-without-rows p m left _ none, none.refusal_is, refl, rw (text-without-rows p n m left _ none) (appends-nothing now))
@@ -161,24 +162,24 @@ refuses-here p n m left now rows.Cycles h = let none = h (λ e. absurd cc) in (r
 -- ---- the whole
 
 -- the lines from a cycle on are the lines of the rows, and then the last one
-pub lines-are : (names : List (List ℕ)) (n : ℕ) (rows : List (List ℤ)) (stop : Option Stop) (refusal : Option RowFault) → lines_from names n rows stop refusal ≡ rows_text n rows ++ last_line names (n + length rows) stop refusal
-lines-are names n [] stop refusal = ap (λ k. last_line names k stop refusal) (omega arith)
-lines-are names n (row ∷ rows) stop refusal =
+pub lines-are : (p : Program) (n : ℕ) (rows : List (List ℤ)) (stop : Option Stop) (refusal : Option RowFault) → lines_from p n rows stop refusal ≡ texts_from row_text n rows ++ last_line p (n + length rows) stop refusal
+lines-are p n [] stop refusal = ap (λ k. last_line p k stop refusal) (omega arith)
+lines-are p n (row ∷ rows) stop refusal =
     let shift : suc n + length rows ≡ n + length (row ∷ rows) = omega arith in
-    ap (λ t. row_text n row ++ t) (lines-are names (suc n) rows stop refusal ∙ ap (λ k. rows_text (suc n) rows ++ last_line names k stop refusal) shift)
-    ∙ sym (append_assoc (row_text n row) (rows_text (suc n) rows) _)
+    ap (λ t. row_text n row ++ t) (lines-are p (suc n) rows stop refusal ∙ ap (λ k. texts_from row_text (suc n) rows ++ last_line p k stop refusal) shift)
+    ∙ sym (append_assoc (row_text n row) (texts_from row_text (suc n) rows) _)
 
 -- the header, and the lines from the first cycle on
-pub whole-is : (p : Program) (left : RowsLeft) → plain_text p left ≡ header_text (output_names_of p.slots) ++ rest_text p 0 (initial p.slots) left
+pub whole-is : (p : Program) (left : RowsLeft) → plain_text p left ≡ header_text (output_names p) ++ rest_text p 0 (initial p.slots) left
 whole-is p left =
     let run = source_run p left.rows in
-    ap (λ t. header_text (output_names_of p.slots) ++ t) (ap (λ k. rows_text 0 run.rows ++ last_line (slot_names p.slots) k run.end left.refusal) (omega arith) ∙ sym (lines-are (slot_names p.slots) 0 run.rows run.end left.refusal))
+    ap (λ t. header_text (output_names p) ++ t) (ap (λ k. texts_from row_text 0 run.rows ++ last_line p k run.end left.refusal) (omega arith) ∙ sym (lines-are p 0 run.rows run.end left.refusal))
 
 -- the header was printed, and then the cycles from the first on
-pub header-first : (p : Program) (left : RowsLeft) (old mid new : Option (List ℕ)) (r : Result PlainEnd Fault) →
-    Appends old mid (header_text (output_names_of p.slots)) → PrintsFrom p 0 (initial p.slots) left mid new r → Prints p left old new r
+pub header-first : (p : Program) (left : RowsLeft) (old mid new : Option (List ℕ)) (r : Result End Fault) →
+    Appends old mid (header_text (output_names p)) → PrintsFrom p 0 (initial p.slots) left mid new r → Prints p left old new r
 header-first p left old mid new r w prints = prints-after _ _ old mid new _ _ _ r (whole-is p left) w prints
 
 -- the header could not be printed
-pub header-fails : (p : Program) (left : RowsLeft) (old new : Option (List ℕ)) → AppendsPart old new (header_text (output_names_of p.slots)) → Prints p left old new (Err fault.Write)
+pub header-fails : (p : Program) (left : RowsLeft) (old new : Option (List ℕ)) → AppendsPart old new (header_text (output_names p)) → Prints p left old new (Err fault.Write)
 header-fails p left old new w = part-after old old new [] _ (rest_text p 0 (initial p.slots) left) _ (appends-nothing old) w (whole-is p left)

@@ -9,9 +9,11 @@ ghost use Rattle.vcp_typed.specs.Checked.{IsChecked};
 ghost use Rattle.vcp_typed.specs.Fitting.{AreFit, input_types, output_types};
 ghost use Rattle.vcp_typed.specs.Meaning.{Stop as StopOf};
 ghost use Rattle.vcp_typed.specs.SourceRun.{cycle as cycle_of};
-ghost use Rattle.vcp_core.specs.PlainRun.{Prints, PrintsFrom, slot_names as slot_names_of, cycle_line};
+ghost use Rattle.flat_expr.specs.Told.{names_of};
+ghost use Rattle.vcp_core.specs.PlainRun.{Prints, PrintsFrom, cycle_line};
 ghost use Rattle.vcp_core.specs.declared.fault.Fault.TheVariants as fault;
 
+use crate::ending::End;
 use crate::fault::Fault;
 use input_rows::Rows;
 use run_report::{end_line, header_line, row_line, stop_line};
@@ -21,18 +23,9 @@ use vcp_base::{Columns, Memory, Row, Words};
 use vcp_outside::{Failed, Sink};
 use vcp_typed::{Slot, Typed, turns_name_slots, values_fit};
 
-/// How a run that was printed whole ended.
-#[derive(Clone, Copy, Debug, PartialEq, Eq)]
-pub enum PlainEnd {
-    /// After the last row.
-    Complete,
-    /// By a stop.
-    Stopped,
-}
-
 /// The names of all slots, in order of declaration.
 fn slot_names(alloc: Global, slots: &[Slot]) -> Result<Words, Memory>
-    ensures { IfOk result (λ names. names ≡ slot_names_of slots.now) }
+    ensures { IfOk result (λ names. names ≡ names_of slots.now) }
 {
     let mut names = Words::new(alloc);
     'each: for slot in slots {
@@ -61,11 +54,12 @@ fn print_cycle<O: Sink>(
     requires going { plain.old.stop ≡ None }
     requires checked { IsChecked plain.old.program }
     requires fit { AreFit plain.old.program.slots plain.old.values }
-    requires names { names.now ≡ slot_names_of plain.old.program.slots }
+    requires names { names.now ≡ names_of plain.old.program.slots }
     requires row { AreIn (input_types plain.old.program.slots) inputs.now }
     requires cells { length outputs.old ≡ length (output_types plain.old.program.slots) }
     ensures program { plain.new.program ≡ plain.old.program }
-    ensures line { Writes (O.written out.old) (O.written out.new) (O.faults out.old) (O.faults out.new) (cycle_line plain.old.program.slots cycle (cycle_of plain.old.program plain.old.values inputs.now)) result }
+    ensures line { Writes (O.written out.old) (O.written out.new) (O.faults out.old) (O.faults out.new)
+        (cycle_line plain.old.program.slots cycle (cycle_of plain.old.program plain.old.values inputs.now)) result }
     ensures going { IfOk result (λ more. more ≡ true → plain.new.stop ≡ None) }
     ensures values { IfOk result (λ more. more ≡ true → cycle_of plain.old.program plain.old.values inputs.now ≡ Ok plain.new.values) }
     ensures fit { IfOk result (λ more. more ≡ true → AreFit plain.old.program.slots plain.new.values) }
@@ -96,11 +90,11 @@ fn print_cycles<O: Sink>(
     inputs: &mut Row,
     outputs: &mut Row,
     out: &mut O,
-) -> Result<PlainEnd, Fault>
+) -> Result<End, Fault>
     requires going { plain.old.stop ≡ None }
     requires checked { IsChecked plain.old.program }
     requires fit { AreFit plain.old.program.slots plain.old.values }
-    requires names { names.now ≡ slot_names_of plain.old.program.slots }
+    requires names { names.now ≡ names_of plain.old.program.slots }
     requires types { rows.old.types ≡ input_types plain.old.program.slots }
     requires typed { All (AreIn rows.old.types) rows.old.rows }
     requires few { length rows.old.rows ≤ most_cycles }
@@ -112,12 +106,12 @@ fn print_cycles<O: Sink>(
     let mut count: u32 = 0;
     'cycles: while rows.next(alloc, inputs)? {
         if !print_cycle(plain, count, names, inputs, outputs, out)? {
-            return Ok(PlainEnd::Stopped);
+            return Ok(End::Stopped);
         }
         count += 1;
     }
     end_line(out, count)?;
-    Ok(PlainEnd::Complete)
+    Ok(End::Done)
 }
 
 /// Prints a program's own run on the rows that are left: the header, a line for each cycle as its row
@@ -128,7 +122,7 @@ pub fn print_run<O: Sink>(
     program: &Typed,
     rows: &mut Rows<'_>,
     out: &mut O,
-) -> Result<PlainEnd, Fault>
+) -> Result<End, Fault>
     requires types { rows.old.types ≡ input_types program.now.slots }
     requires typed { All (AreIn rows.old.types) rows.old.rows }
     requires few { length rows.old.rows ≤ most_cycles }

@@ -1,26 +1,35 @@
 //! The top call.
 
-ghost use Rattle.std.specs.Prelude.{◌≡◌, ◌≢◌, ◌≤◌, ◌⊎◌, true, false, IfSome, IsSome, Option, List, ℕ};
+ghost use Rattle.std.specs.Prelude.{◌≡◌, ◌≢◌, ◌≤◌, ◌⊎◌, true, false, IfSome, IfOk, OnOk, Ok, Err, None, Option, List, ℕ};
 ghost use Rattle.std.specs.Io.KnownBytes.{IsAtEnd};
-ghost use Rattle.coded_unit.specs.Log.{Entry};
 ghost use Rattle.vcp_outside.specs.Counts.{Rose};
-ghost use Rattle.vcp_core.specs.Answered.{Answered};
-ghost use Rattle.vcp_core.specs.Answers.{is_run, first_name, second_name};
-ghost use Rattle.vcp_core.specs.Commands.{SaysOfText, FewRows};
-ghost use Rattle.vcp_core.specs.Comes.{is_form, is_text_form};
-ghost use Rattle.vcp_core.specs.Endings.{TellsUsage};
-ghost use Rattle.vcp_core.specs.PlainWords.{is_plain, is_plain_file, rows_word};
-ghost use Rattle.vcp_core.specs.Stops.{GrowsByStop};
+ghost use Rattle.vcp_words.specs.Forms.{form, form_of, IsSound};
+ghost use Rattle.vcp_words.specs.Tables.{calls_unit};
+ghost use Rattle.machine_run.specs.Moments.{moment};
+ghost use Rattle.machine_run.specs.Stops.{GrowsByStop};
+ghost use Rattle.vcp_answer.specs.Answered.{Answered};
+ghost use Rattle.vcp_answer.specs.Endings.{TellsUsage};
+ghost use Rattle.vcp_answer.specs.Moments.{errors, ended};
+ghost use Rattle.vcp_answer.specs.Statuses.{IsEnd, MayEnd, FilesHeld, Refused};
+ghost use Rattle.vcp_core.specs.Reach.{Reaches, OwnEnd, Unread, Taken};
+ghost use Rattle.vcp_core.specs.Tasks.{TaskOf, AsPlain};
+ghost use Rattle.vcp_core.specs.declared.ending.End.TheVariants as end;
+ghost use Rattle.vcp_core.specs.declared.fault.Fault.TheVariants as fault;
 
-use crate::command::run_command;
+use crate::check::check_command;
+use crate::ending::{End, status_of};
+use crate::fault::Fault;
+use crate::format::format_command;
+use crate::laws::one_task;
 use crate::plain::plain_command;
-use crate::telling::{cycle_status, fault_status, plain_status, tell, tell_usage};
-use crate::texts::text_command;
-use crate::words::{Command, FileWords, RowsWord, TextCommand, command_of};
-use coded_unit::{Unit, right_answers_keep_the_step_law, words_split_in_one_way};
+use crate::run::run_command;
+use crate::telling::{fault_status, tell, tell_usage};
+use coded_unit::Unit;
 use std::alloc::Global;
+use vcp_answer::endings_have_causes;
 use vcp_base::Words;
 use vcp_outside::{Failed, Files, Sink};
+use vcp_words::{Command, command_of};
 
 /// Does all that the program does, and answers its status: what the words say, on the files, with
 /// the unit, writing to `out`, and the line of a fault to `err`.
@@ -45,106 +54,49 @@ pub fn vcp<F: Files, U: Unit, O: Sink, E: Sink>(
 ) -> u8
     // Where it is told what is held: the defined answer, or what kept it from being given; and the
     // cause of each status.
-    ensures answered { IfSome (F.held files.old) (λ h. Answered words.now h (record {
-      log_old = U.log unit.old;
-      log_new = U.log unit.new;
-      wrong_old = U.wrong unit.old;
-      wrong_new = U.wrong unit.new;
-      out_old = O.written out.old;
-      out_new = O.written out.new;
-      out_faults_old = O.faults out.old;
-      out_faults_new = O.faults out.new;
-      err_old = E.written err.old;
-      err_new = E.written err.new;
-      err_faults_old = E.faults err.old;
-      err_faults_new = E.faults err.new;
-      broken_old = F.broken files.old;
-      broken_new = F.broken files.new;
-      status = result;
-    })) }
+    ensures answered { IfSome (F.held files.old) (λ h. IfSome (form_of words.now) (λ f. Answered f (TaskOf f h) (ended
+        (moment (U.log unit.old) (U.wrong unit.old) (O.written out.old) (O.faults out.old))
+        (moment (U.log unit.new) (U.wrong unit.new) (O.written out.new) (O.faults out.new))
+        (errors (E.written err.old) (E.faults err.old)) (errors (E.written err.new) (E.faults err.new))
+        (F.broken files.old) (F.broken files.new) result))) }
+
+    // With an honest unit a command writes what it would write without one: `run` the bytes of `plain`.
+    ensures as_plain { IfSome (F.held files.old) (λ h. IfSome (form_of words.now) (λ f. AsPlain f h (ended
+        (moment (U.log unit.old) (U.wrong unit.old) (O.written out.old) (O.faults out.old))
+        (moment (U.log unit.new) (U.wrong unit.new) (O.written out.new) (O.faults out.new))
+        (errors (E.written err.old) (E.faults err.old)) (errors (E.written err.new) (E.faults err.new))
+        (F.broken files.old) (F.broken files.new) result))) }
 
     // Words that are none of the forms get the usage line, and nothing else is done; no other words do.
-    ensures usage { is_form words.now ≡ false → TellsUsage (E.written err.old) (E.written err.new) (E.faults err.old) (E.faults err.new) result }
-    ensures usage_alone { is_form words.now ≡ false → (U.log unit.new ≡ U.log unit.old) × (U.wrong unit.new ≡ U.wrong unit.old) × (O.written out.new ≡ O.written out.old) × (O.faults out.new ≡ O.faults out.old) }
-    ensures usage_reads_nothing { is_form words.now ≡ false → (F.rest files.new ≡ F.rest files.old) × (F.faults files.new ≡ F.faults files.old) × (F.broken files.new ≡ F.broken files.old) }
-    ensures usage_only { result ≡ 4 → is_form words.now ≡ false }
+    ensures usage { form_of words.now ≡ None → TellsUsage (errors (E.written err.old) (E.faults err.old)) (errors (E.written err.new) (E.faults err.new)) result }
+    ensures usage_alone { form_of words.now ≡ None → (U.log unit.new ≡ U.log unit.old) × (U.wrong unit.new ≡ U.wrong unit.old) ×
+        (O.written out.new ≡ O.written out.old) × (O.faults out.new ≡ O.faults out.old) }
+    ensures usage_reads_nothing { form_of words.now ≡ None → (F.rest files.new ≡ F.rest files.old) ×
+        (F.faults files.new ≡ F.faults files.old) × (F.broken files.new ≡ F.broken files.old) }
+    ensures usage_only { result ≡ 4 → form_of words.now ≡ None }
 
-    // The words `check P` and `format P` call no unit, and end with none of a run's statuses. Where P is
-    // held, nothing failed and no memory was wanted, it is refused, or its Size or text is printed.
-    ensures text_alone { is_text_form words.now ≡ true → (U.log unit.new ≡ U.log unit.old) × (U.wrong unit.new ≡ U.wrong unit.old) }
-    ensures text_statuses { is_text_form words.now ≡ true → (result ≢ 2) × (result ≢ 3) }
-    ensures text_completes { IfSome (F.held files.old) (λ h. is_text_form words.now ≡ true → IsSome (h (first_name words.now)) → ¬ Rose (F.broken files.old) (F.broken files.new) → ¬ Rose (O.faults out.old) (O.faults out.new) → ¬ Rose (E.faults err.old) (E.faults err.new) → (result ≤ 1) ⊎ (result ≡ 7)) }
+    // By the tables of commands: one that calls no unit leaves its log and count; a command ends only
+    // with its statuses; where its files are held and nothing failed, it completes, or memory was wanted.
+    ensures unit_alone { IfSome (form_of words.now) (λ f. calls_unit f ≡ false → (U.log unit.new ≡ U.log unit.old) × (U.wrong unit.new ≡ U.wrong unit.old)) }
+    ensures statuses { IfSome (form_of words.now) (λ f. MayEnd f result) }
+    ensures completes { IfSome (F.held files.old) (λ h. IfSome (form_of words.now) (λ f. FilesHeld h f → ¬ Rose (F.broken files.old) (F.broken files.new) →
+        ¬ Rose (O.faults out.old) (O.faults out.new) → ¬ Rose (E.faults err.old) (E.faults err.new) → (result ≢ 5) × (result ≢ 6))) }
 
-    // The words `plain P ROWS` call no unit either, and no output is refused. Where P and the file of rows
-    // are held, nothing failed and no memory was wanted, something is refused, or the program was run to
-    // its end or its stop.
-    ensures plain_alone { is_plain words.now ≡ true → (U.log unit.new ≡ U.log unit.old) × (U.wrong unit.new ≡ U.wrong unit.old) }
-    ensures plain_statuses { is_plain words.now ≡ true → result ≢ 3 }
-    ensures plain_completes { IfSome (F.held files.old) (λ h. is_plain words.now ≡ true → IsSome (h (first_name words.now)) → (is_plain_file words.now ≡ true → IsSome (h (second_name words.now))) → ¬ Rose (F.broken files.old) (F.broken files.new) → ¬ Rose (O.faults out.old) (O.faults out.new) → ¬ Rose (E.faults err.old) (E.faults err.new) → (result ≤ 2) ⊎ (result ≡ 7)) }
-
-    // What holds whatever the files tell. The clause `stopped` speaks where the log is told, and `ended`
-    // where it is told what is unread.
+    // What holds whatever the files tell. The clause `stopped` speaks where the log is told; `ended` and
+    // `taken` where it is told what is unread.
     ensures known { result ≤ 7 }
     ensures held { F.held files.new ≡ F.held files.old }
-    ensures ended { result ≡ 0 → IsAtEnd (F.rest files.new) }
-    ensures stopped { is_plain words.now ≡ false → result ≡ 2 → GrowsByStop (U.log unit.old) (U.log unit.new) }
+    ensures ended { IsEnd result → IsAtEnd (F.rest files.new) }
+    ensures taken { IfSome (F.held files.old) (λ h. IfSome (form_of words.now) (λ f. result ≡ 1 → Refused f h (F.rest files.new))) }
+    ensures stopped { IfSome (form_of words.now) (λ f. calls_unit f ≡ true → result ≡ 2 → GrowsByStop (U.log unit.old) (U.log unit.new)) }
     ensures refused { result ≡ 3 → Rose (U.wrong unit.old) (U.wrong unit.new) }
     ensures read { result ≡ 5 → Rose (F.faults files.old) (F.faults files.new) }
     ensures write { result ≡ 6 → Rose (O.faults out.old) (O.faults out.new) ⊎ Rose (E.faults err.old) (E.faults err.new) }
 {
-    serve(alloc, words, files, unit, out, err)
-}
-
-/// The work of the top call.
-fn serve<F: Files, U: Unit, O: Sink, E: Sink>(
-    alloc: Global,
-    words: &Words,
-    files: &mut F,
-    unit: &mut U,
-    out: &mut O,
-    err: &mut E,
-) -> u8
-    ensures answered { IfSome (F.held files.old) (λ h. Answered words.now h (record {
-      log_old = U.log unit.old;
-      log_new = U.log unit.new;
-      wrong_old = U.wrong unit.old;
-      wrong_new = U.wrong unit.new;
-      out_old = O.written out.old;
-      out_new = O.written out.new;
-      out_faults_old = O.faults out.old;
-      out_faults_new = O.faults out.new;
-      err_old = E.written err.old;
-      err_new = E.written err.new;
-      err_faults_old = E.faults err.old;
-      err_faults_new = E.faults err.new;
-      broken_old = F.broken files.old;
-      broken_new = F.broken files.new;
-      status = result;
-    })) }
-    ensures usage { is_form words.now ≡ false → TellsUsage (E.written err.old) (E.written err.new) (E.faults err.old) (E.faults err.new) result }
-    ensures usage_alone { is_form words.now ≡ false → (U.log unit.new ≡ U.log unit.old) × (U.wrong unit.new ≡ U.wrong unit.old) × (O.written out.new ≡ O.written out.old) × (O.faults out.new ≡ O.faults out.old) }
-    ensures usage_reads_nothing { is_form words.now ≡ false → (F.rest files.new ≡ F.rest files.old) × (F.faults files.new ≡ F.faults files.old) × (F.broken files.new ≡ F.broken files.old) }
-    ensures usage_only { result ≡ 4 → is_form words.now ≡ false }
-    ensures text_alone { is_text_form words.now ≡ true → (U.log unit.new ≡ U.log unit.old) × (U.wrong unit.new ≡ U.wrong unit.old) }
-    ensures text_statuses { is_text_form words.now ≡ true → (result ≢ 2) × (result ≢ 3) }
-    ensures plain_alone { is_plain words.now ≡ true → (U.log unit.new ≡ U.log unit.old) × (U.wrong unit.new ≡ U.wrong unit.old) }
-    ensures plain_statuses { is_plain words.now ≡ true → result ≢ 3 }
-    ensures known { result ≤ 7 }
-    ensures held { F.held files.new ≡ F.held files.old }
-    ensures ended { result ≡ 0 → IsAtEnd (F.rest files.new) }
-    ensures stopped { is_plain words.now ≡ false → result ≡ 2 → GrowsByStop (U.log unit.old) (U.log unit.new) }
-    ensures refused { result ≡ 3 → Rose (U.wrong unit.old) (U.wrong unit.new) }
-    ensures read { result ≡ 5 → Rose (F.faults files.old) (F.faults files.new) }
-    ensures write { result ≡ 6 → Rose (O.faults out.old) (O.faults out.new) ⊎ Rose (E.faults err.old) (E.faults err.new) }
-{
+    // So with an honest unit the answer is that of the command without one.
+    one_task();
     match command_of(words) {
-        Some(Command::Run(names)) => serve_run(alloc, words, &names, files, unit, out, err),
-        Some(Command::Text(command, names)) => {
-            serve_text(alloc, words, command, &names, files, out, err)
-        }
-        Some(Command::Plain(rows, names)) => {
-            serve_plain(alloc, words, rows, &names, files, out, err)
-        }
+        Some(command) => serve(alloc, &command, files, unit, out, err),
         None => match tell_usage(err) {
             Ok(()) => 4,
             Err(Failed) => 6,
@@ -152,150 +104,73 @@ fn serve<F: Files, U: Unit, O: Sink, E: Sink>(
     }
 }
 
-/// Runs a program and, where it ends by a fault, tells the fault's line.
-fn serve_run<F: Files, U: Unit, O: Sink, E: Sink>(
+/// Does a command and, where it ends by a fault, tells the fault's line.
+fn serve<F: Files, U: Unit, O: Sink, E: Sink>(
     alloc: Global,
-    words: &Words,
-    names: &FileWords<'_>,
+    command: &Command<'_>,
     files: &mut F,
     unit: &mut U,
     out: &mut O,
     err: &mut E,
 ) -> u8
-    requires form { is_run words.now ≡ true }
-    requires source { names.now.source.now ≡ first_name words.now }
-    requires rows { names.now.rows.now ≡ second_name words.now }
-    ensures answered { IfSome (F.held files.old) (λ h. Answered words.now h (record {
-      log_old = U.log unit.old;
-      log_new = U.log unit.new;
-      wrong_old = U.wrong unit.old;
-      wrong_new = U.wrong unit.new;
-      out_old = O.written out.old;
-      out_new = O.written out.new;
-      out_faults_old = O.faults out.old;
-      out_faults_new = O.faults out.new;
-      err_old = E.written err.old;
-      err_new = E.written err.new;
-      err_faults_old = E.faults err.old;
-      err_faults_new = E.faults err.new;
-      broken_old = F.broken files.old;
-      broken_new = F.broken files.new;
-      status = result;
-    })) }
+    requires sound { IsSound (form command.now) }
+    ensures answered { IfSome (F.held files.old) (λ h. Answered (form command.now) (TaskOf (form command.now) h) (ended
+        (moment (U.log unit.old) (U.wrong unit.old) (O.written out.old) (O.faults out.old))
+        (moment (U.log unit.new) (U.wrong unit.new) (O.written out.new) (O.faults out.new))
+        (errors (E.written err.old) (E.faults err.old)) (errors (E.written err.new) (E.faults err.new))
+        (F.broken files.old) (F.broken files.new) result)) }
     ensures no_usage { result ≢ 4 }
+    ensures unit_alone { calls_unit (form command.now) ≡ false → (U.log unit.new ≡ U.log unit.old) × (U.wrong unit.new ≡ U.wrong unit.old) }
+    ensures statuses { MayEnd (form command.now) result }
     ensures known { result ≤ 7 }
     ensures held { F.held files.new ≡ F.held files.old }
-    ensures ended { result ≡ 0 → IsAtEnd (F.rest files.new) }
-    ensures stopped { result ≡ 2 → GrowsByStop (U.log unit.old) (U.log unit.new) }
+    ensures ended { IsEnd result → IsAtEnd (F.rest files.new) }
+    ensures taken { IfSome (F.held files.old) (λ h. result ≡ 1 → Refused (form command.now) h (F.rest files.new)) }
+    ensures stopped { calls_unit (form command.now) ≡ true → result ≡ 2 → GrowsByStop (U.log unit.old) (U.log unit.new) }
     ensures refused { result ≡ 3 → Rose (U.wrong unit.old) (U.wrong unit.new) }
     ensures read { result ≡ 5 → Rose (F.faults files.old) (F.faults files.new) }
     ensures write { result ≡ 6 → Rose (O.faults out.old) (O.faults out.new) ⊎ Rose (E.faults err.old) (E.faults err.new) }
 {
-    words_split_in_one_way();
-    right_answers_keep_the_step_law();
-    match run_command(alloc, names, files, unit, out) {
-        Ok(end) => cycle_status(&end),
-        Err(fault) => match tell(err, names, &fault) {
+    // So each status has its cause.
+    endings_have_causes();
+    match perform(alloc, command, files, unit, out) {
+        Ok(end) => status_of(end),
+        Err(fault) => match tell(err, command, &fault) {
             Ok(()) => fault_status(&fault),
             Err(Failed) => 6,
         },
     }
 }
 
-/// Does a command on a text and, where it ends by a fault, tells the fault's line. The unit isn't called.
-fn serve_text<F: Files, O: Sink, E: Sink>(
+/// Does what a command says, and writes to `out` alone.
+fn perform<F: Files, U: Unit, O: Sink>(
     alloc: Global,
-    words: &Words,
-    command: TextCommand,
-    names: &FileWords<'_>,
+    command: &Command<'_>,
     files: &mut F,
+    unit: &mut U,
     out: &mut O,
-    err: &mut E,
-) -> u8
-    requires form { is_run words.now ≡ false }
-    requires says { SaysOfText words.now command }
-    requires source { names.now.source.now ≡ first_name words.now }
-    ensures answered { (log : Option (List Entry)) (wrong : ℕ) → IfSome (F.held files.old) (λ h. Answered words.now h (record {
-      log_old = log;
-      log_new = log;
-      wrong_old = wrong;
-      wrong_new = wrong;
-      out_old = O.written out.old;
-      out_new = O.written out.new;
-      out_faults_old = O.faults out.old;
-      out_faults_new = O.faults out.new;
-      err_old = E.written err.old;
-      err_new = E.written err.new;
-      err_faults_old = E.faults err.old;
-      err_faults_new = E.faults err.new;
-      broken_old = F.broken files.old;
-      broken_new = F.broken files.new;
-      status = result;
-    })) }
-    ensures no_usage { result ≢ 4 }
-    ensures no_run { (result ≢ 2) × (result ≢ 3) }
-    ensures known { result ≤ 7 }
+) -> Result<End, Fault>
+    requires sound { IsSound (form command.now) }
     ensures held { F.held files.new ≡ F.held files.old }
-    ensures ended { result ≡ 0 → IsAtEnd (F.rest files.new) }
-    ensures read { result ≡ 5 → Rose (F.faults files.old) (F.faults files.new) }
-    ensures write { result ≡ 6 → Rose (O.faults out.old) (O.faults out.new) ⊎ Rose (E.faults err.old) (E.faults err.new) }
+    ensures reaches { IfSome (F.held files.old) (λ h. Reaches (form command.now) (TaskOf (form command.now) h)
+        (moment (U.log unit.old) (U.wrong unit.old) (O.written out.old) (O.faults out.old))
+        (moment (U.log unit.new) (U.wrong unit.new) (O.written out.new) (O.faults out.new))
+        (F.broken files.old) (F.broken files.new) result) }
+    ensures unit_alone { calls_unit (form command.now) ≡ false → (U.log unit.new ≡ U.log unit.old) × (U.wrong unit.new ≡ U.wrong unit.old) }
+    ensures own { IfOk result (OwnEnd (form command.now)) }
+    ensures unread { Unread result → Rose (F.faults files.old) (F.faults files.new) }
+    ensures write { result ≡ Err fault.Write → Rose (O.faults out.old) (O.faults out.new) }
+    ensures ended { OnOk result (IsAtEnd (F.rest files.new)) }
+    ensures taken { IfSome (F.held files.old) (λ h. Taken (form command.now) h (F.rest files.new) result) }
+    ensures refused { result ≡ Ok end.Refused → Rose (U.wrong unit.old) (U.wrong unit.new) }
+    ensures stopped { calls_unit (form command.now) ≡ true → result ≡ Ok end.Stopped → GrowsByStop (U.log unit.old) (U.log unit.new) }
 {
-    match text_command(alloc, command, names.source, files, out) {
-        Ok(()) => 0,
-        Err(fault) => match tell(err, names, &fault) {
-            Ok(()) => fault_status(&fault),
-            Err(Failed) => 6,
-        },
-    }
-}
-
-/// Does the command `plain` and, where it ends by a fault, tells the fault's line. The unit isn't called.
-fn serve_plain<F: Files, O: Sink, E: Sink>(
-    alloc: Global,
-    words: &Words,
-    rows: RowsWord,
-    names: &FileWords<'_>,
-    files: &mut F,
-    out: &mut O,
-    err: &mut E,
-) -> u8
-    requires not_run { is_run words.now ≡ false }
-    requires not_text { is_text_form words.now ≡ false }
-    requires form { is_plain words.now ≡ true }
-    requires few { FewRows rows }
-    requires from { rows ≡ rows_word words.now }
-    requires source { names.now.source.now ≡ first_name words.now }
-    requires rows { names.now.rows.now ≡ second_name words.now }
-    ensures answered { (log : Option (List Entry)) (wrong : ℕ) → IfSome (F.held files.old) (λ h. Answered words.now h (record {
-      log_old = log;
-      log_new = log;
-      wrong_old = wrong;
-      wrong_new = wrong;
-      out_old = O.written out.old;
-      out_new = O.written out.new;
-      out_faults_old = O.faults out.old;
-      out_faults_new = O.faults out.new;
-      err_old = E.written err.old;
-      err_new = E.written err.new;
-      err_faults_old = E.faults err.old;
-      err_faults_new = E.faults err.new;
-      broken_old = F.broken files.old;
-      broken_new = F.broken files.new;
-      status = result;
-    })) }
-    ensures no_usage { result ≢ 4 }
-    ensures no_refused { result ≢ 3 }
-    ensures known { result ≤ 7 }
-    ensures held { F.held files.new ≡ F.held files.old }
-    ensures ended { result ≡ 0 → IsAtEnd (F.rest files.new) }
-    ensures read { result ≡ 5 → Rose (F.faults files.old) (F.faults files.new) }
-    ensures write { result ≡ 6 → Rose (O.faults out.old) (O.faults out.new) ⊎ Rose (E.faults err.old) (E.faults err.new) }
-{
-    match plain_command(alloc, rows, names, files, out) {
-        Ok(end) => plain_status(end),
-        Err(fault) => match tell(err, names, &fault) {
-            Ok(()) => fault_status(&fault),
-            Err(Failed) => 6,
-        },
+    match command {
+        Command::Check { source } => check_command(alloc, source, files, out),
+        Command::Format { source } => format_command(alloc, source, files, out),
+        Command::Plain { source, rows } => plain_command(alloc, source, *rows, files, out),
+        Command::Run { source, rows, code } => run_command(
+            alloc, source, *rows, *code, files, unit, out,
+        ),
     }
 }

@@ -7,7 +7,7 @@ use Rattle.run_report.specs.Lines.{AreNamed}
 use Rattle.vcp_typed.specs.Meaning.{Stop}
 use Rattle.vcp_typed.specs.SourceRun.{cycle as cycle_of}
 use Rattle.st_plain.specs.Evaluator.{Evaluator, or_again, comes_to}
-use Rattle.vcp_core.specs.PlainRun.{slot_names}
+use Rattle.flat_expr.specs.Told.{names_of}
 use Rattle.vcp_core.proofs.PlainNames.{in-length}
 use Rattle.vcp_core.proofs.plain_run.print_cycle.Goals as goal
 
@@ -16,7 +16,7 @@ goes : (e : Evaluator) (row : List ℤ) (r : Result (List ℤ) Stop) → e.stop 
 goes e row r is h = sym (ap (λ s. or_again s (cycle_of e.program e.values row)) is) ∙ h
 
 -- turns that name slots have names among those of the slots
-named : (slots : List Slot) (r : Result (List ℤ) Stop) (s : Stop) → IfErr r (λ x. NameSlots slots x.turns) → r ≡ Err s → AreNamed s.turns (slot_names slots)
+named : (slots : List Slot) (r : Result (List ℤ) Stop) (s : Stop) → IfErr r (λ x. NameSlots slots x.turns) → r ≡ Err s → AreNamed s.turns (names_of slots)
 named slots r s h is =
     let Q : Result (List ℤ) Stop → Type 0 = λ x. IfErr x (λ y. NameSlots slots y.turns) in
     let all : NameSlots slots s.turns = subst Q is h in

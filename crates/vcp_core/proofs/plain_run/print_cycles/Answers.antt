@@ -1,12 +1,13 @@
-use Rattle.std.proofs.Common.{◌≡◌, ◌≤◌, ℕ, ℤ, suc, Err, List, ◌∷◌, sym, ap, subst, ◌∙◌, arith}
+use Rattle.std.proofs.Common.{◌≡◌, ◌≤◌, ℕ, ℤ, suc, Ok, Err, List, ◌∷◌, sym, ap, subst, ◌∙◌, arith}
 use Rattle.std.specs.Prelude.{All}
 use Rattle.std.proofs.lemmas.Result.{err_from_is_err_and}
 use Rattle.vcp_base.specs.Types.{AreIn}
 use Rattle.vcp_typed.specs.Fitting.{input_types}
 use Rattle.vcp_outside.specs.Counts.{Rose}
 use Rattle.input_rows.specs.RowsOf.{RowsLeft}
+use Rattle.vcp_core.specs.declared.ending.End.TheVariants as end
 use Rattle.vcp_core.specs.declared.fault.Fault.TheVariants as fault
-use Rattle.vcp_core.proofs.PlainTurns.{going-ends, going-on, fails-here, end-fails}
+use Rattle.vcp_core.proofs.PlainTurns.{going-ends, going-on, fails-here, stops-here, end-fails}
 use Rattle.vcp_core.proofs.plain_run.print_cycles.Goals as goal
 
 types-behind : (before left : RowsLeft) (row : List ℤ) → before ≡ record left { rows = row ∷ left.rows } → left.types ≡ before.types
@@ -56,3 +57,11 @@ cycles-preserved g c =
       later = omega (arith, c.cycles.invariant.later, here.line.cause.later);
       going = going-on c.args.plain.now.program c.args.plain.now.values c.args.rows.now (g.O.Sink.written c.args.out.now) (g.O.Sink.written c.cycles.out) (g.O.Sink.written c.print_cycle.new.out) c.cycles.count c.cycles.plain.values c.print_cycle.new.plain.values c.next.new.out c.cycles.rows c.next.new.self c.cycles.invariant.going taken (rw c.cycles.invariant.program at (here.values more)) (rw c.cycles.invariant.program at here.line.whole);
     }
+
+pub returns-then-not-branch-clause-prints : goal.returns-then-not-branch-clause-prints
+returns-then-not-branch-clause-prints g c =
+    let p = c.args.plain.now.program in
+    let here = c.in_ok-print_cycle.ensures in
+    let stopped = here.stopped c.if-not-branch.true in
+    going-ends p c.args.plain.now.values c.args.rows.now (g.O.Sink.written c.args.out.now) (g.O.Sink.written c.cycles.out) (g.O.Sink.written c.print_cycle.new.out) c.cycles.count c.cycles.plain.values c.cycles.rows (Ok end.Stopped) c.cycles.invariant.going
+    (stops-here p c.cycles.count c.cycles.plain.values c.next.new.out stopped.0 c.cycles.rows c.next.new.self (g.O.Sink.written c.cycles.out) (g.O.Sink.written c.print_cycle.new.out) (c.in_ok-next.ensures.row c.if-branch.true) (rw c.cycles.invariant.program at stopped.1) (rw c.cycles.invariant.program at here.line.whole))

@@ -4,13 +4,12 @@ use Rattle.vcp_base.specs.declared.columns.Column.{Column}
 use Rattle.vcp_typed.specs.declared.slot.Slot.{Slot}
 use Rattle.vcp_typed.specs.Fitting.{input_types, output_types, output_columns}
 use Rattle.st_plain.specs.Evaluator.{Evaluator}
-use Rattle.vcp_core.specs.PlainRun.{output_names_of}
-use Rattle.vcp_core.proofs.PlainNames.{names-of-outputs, inputs-count, outputs-count}
+use Rattle.vcp_core.proofs.PlainNames.{inputs-count, outputs-count}
 use Rattle.vcp_core.proofs.PlainTurns.{header-first, header-fails}
 use Rattle.vcp_core.proofs.plain_run.print_run.Goals as goal
 
-named : (slots : List Slot) (columns : List Column) → columns ≡ output_columns slots → map (λ (c : Column). c.name) columns ≡ output_names_of slots
-named slots columns is = ap (map (λ (c : Column). c.name)) is ∙ names-of-outputs slots
+named : (slots : List Slot) (columns : List Column) → columns ≡ output_columns slots → map (λ (c : Column). c.name) columns ≡ map (λ (c : Column). c.name) (output_columns slots)
+named slots columns is = ap (map (λ (c : Column). c.name)) is
 
 pub returns-in_err-header_line-clause-prints : goal.returns-in_err-header_line-clause-prints
 returns-in_err-header_line-clause-prints g c =

@@ -1,16 +1,24 @@
-use Rattle.vcp_core.proofs.PlainEnding.{plain_completes, plain_not_run, plain_not_text}
-use Rattle.vcp_core.proofs.TextEnding.{text_completes, text_not_run}
-use Rattle.vcp_core.proofs.Tasks.{if_some_weaker}
+use Rattle.std.proofs.Common.{inl, inr}
+use Rattle.vcp_words.specs.Forms.{form, form_of}
+use Rattle.vcp_core.proofs.Facts.{if_some_weaker, if_some_is}
+use Rattle.vcp_core.proofs.Serving.{as_plain, reads_all}
 use Rattle.vcp_core.proofs.top.vcp.Goals as goal
 
-pub returns-clause-text_completes : goal.returns-clause-text_completes
-returns-clause-text_completes g c =
+pub returns-in-Some-clause-completes : goal.returns-in-Some-clause-completes
+returns-in-Some-clause-completes g c =
     if_some_weaker (g.F.Files.held c.args.files.now) _ _
-    (λ h ended form some broken out err. text_completes c.args.words.now h _ ended (text_not_run c.args.words.now form) form some (record { unbroken = broken; out = out; err = err }))
+    (λ h answered. if_some_is (form_of c.args.words.now) (form c.in-Some.command) _ c.in-Some.ensures.form
+    (λ all broken out err. (reads_all (form c.in-Some.command) h _ answered all (record { unbroken = broken; out = out; err = err }), λ six. elim (c.serve.ensures.write six) [ inl o ↦ out o | inr e ↦ err e ])))
     c.serve.ensures.answered
 
-pub returns-clause-plain_completes : goal.returns-clause-plain_completes
-returns-clause-plain_completes g c =
+pub returns-in-Some-clause-taken : goal.returns-in-Some-clause-taken
+returns-in-Some-clause-taken g c =
+    if_some_weaker (g.F.Files.held c.args.files.now) _ _ (λ h taken. if_some_is (form_of c.args.words.now) (form c.in-Some.command) _ c.in-Some.ensures.form taken) c.serve.ensures.taken
+
+pub returns-in-Some-clause-stopped : goal.returns-in-Some-clause-stopped
+returns-in-Some-clause-stopped g c = if_some_is (form_of c.args.words.now) (form c.in-Some.command) _ c.in-Some.ensures.form c.serve.ensures.stopped
+
+pub returns-in-Some-clause-as_plain : goal.returns-in-Some-clause-as_plain
+returns-in-Some-clause-as_plain g c =
     if_some_weaker (g.F.Files.held c.args.files.now) _ _
-    (λ h ended form some found broken out err. plain_completes c.args.words.now h _ ended (plain_not_run c.args.words.now form) (plain_not_text c.args.words.now form) form some found (record { unbroken = broken; out = out; err = err }))
-    c.serve.ensures.answered
+    (λ h answered. if_some_is (form_of c.args.words.now) (form c.in-Some.command) _ c.in-Some.ensures.form (as_plain c.one_task.ensures.one c.one_task.ensures.as_plain (form c.in-Some.command) h _ answered)) c.serve.ensures.answered

@@ -1,0 +1,82 @@
+-- What the calls of a job's run give, as its lemmas take it.
+use Rattle.std.proofs.Common.{ℕ, ◌≡◌, ◌<◌, ◌≤◌, refl, sym, ap, subst, ◌∙◌, List, length, map, slice_get, Option, None, Some, Result, Ok, All, arith, ℤ}
+use Rattle.std.proofs.lemmas.List.{length-map}
+use Rattle.vcp_base.specs.Types.{AreIn}
+use Rattle.vcp_base.specs.declared.columns.Column.{Column}
+use Rattle.vcp_base.specs.declared.kind.StopKind.{StopKind}
+use Rattle.vcp_base.specs.declared.ty.Ty.{Ty}
+use Rattle.vcp_typed.specs.Fitting.{AreRows, input_types}
+use Rattle.vcp_typed.specs.Size.{size}
+use Rattle.vcp_typed.specs.SourceRun.{Program}
+use Rattle.input_rows.specs.RowsOf.{RowsLeft}
+use Rattle.coded_unit.specs.Log.{Entry}
+use Rattle.op_graph.specs.declared.op.Op.{Op}
+use Rattle.op_graph.specs.Lists.{Lists, column, output_column}
+use Rattle.op_graph.specs.Rules.{IsGraph}
+use Rattle.signature_table.specs.Signatures.{Numbers}
+use Rattle.coded_machine.specs.declared.cycle_end.CycleEnd.{CycleEnd}
+use Rattle.coded_machine.specs.declared.cycle_end.CycleEnd.TheVariants as cycle
+use Rattle.coded_machine.specs.State.{State, fresh}
+use Rattle.flat_expr.specs.Told.{Means, halted_at}
+use Rattle.machine_run.specs.declared.fault.RunFault.{RunFault}
+use Rattle.machine_run.specs.Leaves.{Leaves}
+use Rattle.machine_run.specs.Moments.{Moment, moment}
+use Rattle.vcp_words.specs.Forms.{Code}
+use Rattle.vcp_answer.specs.Courses.{MayRun}
+use Rattle.vcp_answer.specs.Moments.{Untouched}
+use Rattle.vcp_answer.specs.Reports.{end_read, end_told, output_names, run_status}
+use Rattle.vcp_core.specs.MachineRun.{IsThere}
+use Rattle.vcp_core.specs.Run.{job}
+use Rattle.vcp_core.proofs.JobRun.{all-rows, grows-none}
+use Rattle.vcp_core.proofs.PlainNames.{inputs-count}
+use Rattle.vcp_core.proofs.PlainTurns.{appends-nothing}
+
+-- neither the unit nor the sink was called
+pub untouched-by : (log : Option (List Entry)) (wrong : ℕ) (out : Option (List ℕ)) (f h : ℕ) → Untouched (moment log wrong out f) (moment log wrong out h)
+untouched-by log wrong out f h = record { log = grows-none log; wrong = refl; out = appends-nothing out }
+
+-- the graph may be run as the job's program
+pub may-run : (name : List ℕ) (code : Code) (p : Program) (left : RowsLeft) (g : Lists) → IsGraph g → Means g p → length g.operations ≤ size p → MayRun (job name code p left) g
+may-run name code p left g graph means few = record { graph = graph; means = means; few = few }
+
+-- the names of the outputs
+pub names-are : (g : Lists) (p : Program) (outputs : List Column) → Means g p → outputs ≡ map (output_column g.names) g.outputs → map (λ (c : Column). c.name) outputs ≡ output_names p
+names-are g p outputs means is = ap (map (λ (c : Column). c.name)) (is ∙ means.outputs)
+
+-- the rows fit the program's inputs
+pub left-fit : (p : Program) (left : RowsLeft) → left.types ≡ input_types p.slots → All (AreIn left.types) left.rows → AreRows (input_types p.slots) left.rows
+left-fit p left is typed = subst (λ types. AreRows types left.rows) is (all-rows left.types left.rows typed)
+
+-- and have a value for each input of the graph
+pub width-is : (g : Lists) (p : Program) (types : List Ty) → Means g p → types ≡ input_types p.slots → length types ≡ length g.inputs
+width-is g p types means is = ap length is ∙ sym (inputs-count p.slots) ∙ ap length (sym means.inputs) ∙ length-map g.inputs (column g.names)
+
+-- what a fresh machine's run leaves, for its graph and table
+pub leaves-here : (m n : State) (g : Lists) (u t : Numbers) (left : RowsLeft) (text : ℕ → List ℤ → List ℕ) (before after : Moment) (kept_before kept_after : List (List ℤ) → Type 0) (r : Result CycleEnd RunFault) →
+    m ≡ fresh g u → u ≡ t → Leaves m.graph m.table left text before after kept_before kept_after n r → Leaves g t left text before after kept_before kept_after n r
+leaves-here m n g u t left text before after kept_before kept_after r is same h =
+    subst (λ x. Leaves g x left text before after kept_before kept_after n r) same
+    (subst (λ (x : State). Leaves x.graph x.table left text before after kept_before kept_after n r) is h)
+
+-- the operation that stopped is there, and so is the output that is refused
+pub there-is : {E : Type 0} (m : State) (g : Lists) (e : CycleEnd) (ok : Result CycleEnd E) → ok ≡ Ok e → m.graph ≡ g → ((k : ℕ) (why : StopKind) → ok ≡ Ok (cycle.Stopped k why) → k < length m.graph.operations) →
+    ((i found wanted : ℕ) → ok ≡ Ok (cycle.Refused i found wanted) → i < length m.graph.outputs) → IsThere g e
+there-is m g cycle.Released ok is same placed numbered = tt
+there-is m g (cycle.Stopped k why) ok is same placed numbered = subst (λ (x : Lists). k < length x.operations) same (placed k why is)
+there-is m g (cycle.Refused i found wanted) ok is same placed numbered = subst (λ (x : Lists). i < length x.outputs) same (numbered i found wanted is)
+
+-- the status of a stop is that of no other end
+pub stopped-is : (g : Lists) (e : CycleEnd) → 2 ≡ run_status (end_read g e) None → (k : ℕ) × (why : StopKind) × (e ≡ cycle.Stopped k why)
+stopped-is g cycle.Released is = absurd (omega (arith, is))
+stopped-is g (cycle.Stopped k why) is = (k, why, refl)
+stopped-is g (cycle.Refused i found wanted) is = absurd (omega (arith, is))
+
+not-three : (g : Lists) (why : StopKind) (o : Option Op) → 3 ≡ run_status (end_told (halted_at g why o)) None → ⊥
+not-three g why None is = omega (arith, is)
+not-three g why (Some op) is = omega (arith, is)
+
+-- and so is that of an output that is refused
+pub refused-is : (g : Lists) (e : CycleEnd) → 3 ≡ run_status (end_read g e) None → (i : ℕ) × (found : ℕ) × (wanted : ℕ) × (e ≡ cycle.Refused i found wanted)
+refused-is g cycle.Released is = absurd (omega (arith, is))
+refused-is g (cycle.Stopped k why) is = absurd (not-three g why (slice_get g.operations k) is)
+refused-is g (cycle.Refused i found wanted) is = (i, found, wanted, refl)

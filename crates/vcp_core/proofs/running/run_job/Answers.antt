@@ -1,0 +1,71 @@
+use Rattle.std.proofs.Common.{◌≡◌, length, None, Ok, inl, refl, sym, ap, ◌∙◌, arith}
+use Rattle.std.proofs.lemmas.Result.{err_from_is_err_and}
+use Rattle.coded_machine.specs.State.{State}
+use Rattle.vcp_core.specs.declared.ending.End.TheVariants as ending
+use Rattle.vcp_core.specs.Reach.{end_status}
+use Rattle.vcp_core.proofs.JobRun.{header-cut, last-cut, ended-job, given-up-job}
+use Rattle.vcp_core.proofs.JobFacts.{may-run, names-are, left-fit, width-is, leaves-here, there-is, stopped-is, refused-is, untouched-by}
+use Rattle.vcp_core.proofs.running.run_job.Goals as goal
+
+pub returns-in_err-outputs-clause-runs : goal.returns-in_err-outputs-clause-runs
+returns-in_err-outputs-clause-runs g c name =
+    let q = err_from_is_err_and c.from_residual-in_err-outputs.result c.from_residual-in_err-outputs.ensures.1 in
+    rw (q.1, q.2) (inl (untouched-by _ _ _ _ _))
+
+pub returns-in_err-header_line-clause-runs : goal.returns-in_err-header_line-clause-runs
+returns-in_err-header_line-clause-runs g c name =
+    let q = err_from_is_err_and c.from_residual-in_err-header_line.result c.from_residual-in_err-header_line.ensures.1 in
+    let graph = c.in_ok-graph.graph in
+    let names = names-are graph c.args.program.now c.in_ok-outputs.outputs c.in_ok-graph.ensures.means c.in_ok-outputs.ensures in
+    let may = may-run name _ c.args.program.now c.args.rows.now graph c.len.ensures.rules c.in_ok-graph.ensures.means c.in_ok-graph.ensures.few in
+    rw (q.1, q.2) (header-cut graph c.args.program.now name _ c.args.rows.now may (left-fit c.args.program.now c.args.rows.now c.requires.types c.requires.typed) _ None _ 0 _ _ _ _ (rw names at c.in_err-header_line.ensures.part))
+
+pub run_rows-requires-clause-width : goal.run_rows-requires-clause-width
+run_rows-requires-clause-width g c =
+    width-is c.in_ok-graph.graph c.args.program.now c.args.rows.now.types c.in_ok-graph.ensures.means c.requires.types ∙ ap (λ (m : State). length m.graph.inputs) (sym c.in_ok-machine.ensures.fresh)
+
+pub returns-in_err-end-clause-runs : goal.returns-in_err-end-clause-runs
+returns-in_err-end-clause-runs g c name =
+    let q = err_from_is_err_and c.from_residual-in_err-end.result c.from_residual-in_err-end.ensures.1 in
+    let graph = c.in_ok-graph.graph in
+    let names = names-are graph c.args.program.now c.in_ok-outputs.outputs c.in_ok-graph.ensures.means c.in_ok-outputs.ensures in
+    let may = may-run name _ c.args.program.now c.args.rows.now graph c.len.ensures.rules c.in_ok-graph.ensures.means c.in_ok-graph.ensures.few in
+    let leaves = leaves-here c.in_ok-machine.machine _ graph c.in_ok-table.table _ c.args.rows.now _ _ _ _ _ _ c.in_ok-machine.ensures.fresh c.in_ok-table.ensures.numbers c.in_err-end.ensures.leaves in
+    rw (q.1, q.2) (given-up-job graph c.args.program.now name _ c.args.rows.now may (left-fit c.args.program.now c.args.rows.now c.requires.types c.requires.typed) _ _ _ _ _ _ _ _ _ _ _ c.requires.behind (rw names at c.in_ok-header_line.ensures.whole) leaves.run)
+
+pub print_end-requires-clause-there : goal.print_end-requires-clause-there
+print_end-requires-clause-there g c = there-is c.in_ok-machine.machine c.in_ok-graph.graph c.in_ok-end.end (Ok c.in_ok-end.end) refl (ap (λ (m : State). m.graph) c.in_ok-machine.ensures.fresh) c.in_ok-end.ensures.placed c.in_ok-end.ensures.numbered
+
+pub returns-in_err-print_end-clause-runs : goal.returns-in_err-print_end-clause-runs
+returns-in_err-print_end-clause-runs g c name =
+    let q = err_from_is_err_and c.from_residual-in_err-print_end.result c.from_residual-in_err-print_end.ensures.1 in
+    let graph = c.in_ok-graph.graph in
+    let names = names-are graph c.args.program.now c.in_ok-outputs.outputs c.in_ok-graph.ensures.means c.in_ok-outputs.ensures in
+    let may = may-run name _ c.args.program.now c.args.rows.now graph c.len.ensures.rules c.in_ok-graph.ensures.means c.in_ok-graph.ensures.few in
+    let leaves = leaves-here c.in_ok-machine.machine _ graph c.in_ok-table.table _ c.args.rows.now _ _ _ _ _ _ c.in_ok-machine.ensures.fresh c.in_ok-table.ensures.numbers c.in_ok-end.ensures.leaves in
+    let there = there-is c.in_ok-machine.machine graph c.in_ok-end.end (Ok c.in_ok-end.end) refl (ap (λ (m : State). m.graph) c.in_ok-machine.ensures.fresh) c.in_ok-end.ensures.placed c.in_ok-end.ensures.numbered in
+    rw (q.1, q.2) (last-cut graph c.args.program.now name _ c.args.rows.now may (left-fit c.args.program.now c.args.rows.now c.requires.types c.requires.typed) _ _ _ _ c.in_ok-end.end _ _ _ _ _ _ _ _ c.cycles.result (rw names at c.in_ok-header_line.ensures.whole) leaves.run there (c.cycles.ensures.value ∙ leaves.machine.cycles) (rw names at c.in_err-print_end.ensures.1))
+
+pub returns-in_err-print_end-clause-write : goal.returns-in_err-print_end-clause-write
+returns-in_err-print_end-clause-write g c = λ is. omega (arith, c.in_ok-header_line.ensures.cause.later, c.run_rows.ensures.later, c.in_err-print_end.ensures.0)
+
+pub returns-clause-runs : goal.returns-clause-runs
+returns-clause-runs g c name =
+    let graph = c.in_ok-graph.graph in
+    let names = names-are graph c.args.program.now c.in_ok-outputs.outputs c.in_ok-graph.ensures.means c.in_ok-outputs.ensures in
+    let may = may-run name _ c.args.program.now c.args.rows.now graph c.len.ensures.rules c.in_ok-graph.ensures.means c.in_ok-graph.ensures.few in
+    let leaves = leaves-here c.in_ok-machine.machine _ graph c.in_ok-table.table _ c.args.rows.now _ _ _ _ _ _ c.in_ok-machine.ensures.fresh c.in_ok-table.ensures.numbers c.in_ok-end.ensures.leaves in
+    let there = there-is c.in_ok-machine.machine graph c.in_ok-end.end (Ok c.in_ok-end.end) refl (ap (λ (m : State). m.graph) c.in_ok-machine.ensures.fresh) c.in_ok-end.ensures.placed c.in_ok-end.ensures.numbered in
+    ended-job graph c.args.program.now name _ c.args.rows.now may (left-fit c.args.program.now c.args.rows.now c.requires.types c.requires.typed) _ _ _ _ c.in_ok-end.end c.in_ok-print_end.field-0 _ _ _ _ _ _ _ _ c.cycles.result (rw names at c.in_ok-header_line.ensures.whole) leaves.run there (c.cycles.ensures.value ∙ leaves.machine.cycles) (rw names at c.in_ok-print_end.ensures.0) c.in_ok-print_end.ensures.1
+
+pub returns-clause-refused : goal.returns-clause-refused
+returns-clause-refused g c is =
+    let same : c.in_ok-print_end.field-0 ≡ ending.Refused = cc in
+    let (i, found, wanted, e) = refused-is c.in_ok-graph.graph c.in_ok-end.end (ap end_status (sym same) ∙ c.in_ok-print_end.ensures.1) in
+    c.in_ok-end.ensures.refused i found wanted (ap Ok e)
+
+pub returns-clause-stopped : goal.returns-clause-stopped
+returns-clause-stopped g c is =
+    let same : c.in_ok-print_end.field-0 ≡ ending.Stopped = cc in
+    let (k, why, e) = stopped-is c.in_ok-graph.graph c.in_ok-end.end (ap end_status (sym same) ∙ c.in_ok-print_end.ensures.1) in
+    c.in_ok-end.ensures.stopped k why (ap Ok e)

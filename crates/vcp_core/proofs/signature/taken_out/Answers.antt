@@ -1,6 +1,0 @@
-use Rattle.std.proofs.Common.{arith}
-use Rattle.std.proofs.lemmas.Int.{ints}
-use Rattle.vcp_core.proofs.signature.taken_out.Goals as goal
-
-pub returns : goal.returns
-returns c = omega (arith, ints)

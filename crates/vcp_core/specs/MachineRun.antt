@@ -1,0 +1,41 @@
+-- MachineRun: how far the run of a job came on the machine.
+use Rattle.std.specs.Prelude.{ℕ, ◌≡◌, ◌<◌, ◌⊎◌, List, [], length, Option, None, Result, Ok, Err}
+use Rattle.std.specs.Io.KnownBytes.{Appends}
+use Rattle.vcp_outside.specs.Counts.{Rose}
+use Rattle.vcp_outside.specs.Written.{AppendsPart}
+use Rattle.vcp_outside.specs.declared.failed.Failed.{Failed}
+use Rattle.op_graph.specs.Lists.{Lists}
+use Rattle.coded_machine.specs.declared.cycle_end.CycleEnd.{CycleEnd}
+use Rattle.coded_machine.specs.declared.cycle_end.CycleEnd.TheVariants as cycle
+use Rattle.machine_run.specs.Moments.{Moment}
+use Rattle.vcp_inputs.specs.declared.refusal.NoInput.TheVariants as input
+use Rattle.vcp_inputs.specs.Lines.{refusal_text}
+use Rattle.vcp_answer.specs.Answer.{Job, runs}
+use Rattle.vcp_answer.specs.Endings.{Reached, Cut, Front}
+use Rattle.vcp_answer.specs.Moments.{Untouched}
+use Rattle.vcp_answer.specs.Reports.{end_read, last_text, run_status}
+use Rattle.vcp_core.specs.declared.ending.End.{End}
+use Rattle.vcp_core.specs.declared.fault.Fault.{Fault}
+use Rattle.vcp_core.specs.declared.fault.Fault.TheVariants as fault
+use Rattle.vcp_core.specs.Reach.{end_status}
+
+-- how far the run of a job came: to its end, to a row that is refused, or until writing failed or memory was wanted
+abbrev pub RunsJob : Job → Moment → Moment → Result End Fault → Type 0
+RunsJob job before after (Ok e) = Reached (runs job) [] (end_status e) before after
+RunsJob job before after (Err (fault.Rows (input.Refused r))) = Reached (runs job) (refusal_text job.rows_name r) 1 before after
+RunsJob job before after (Err (fault.Rows input.Unread)) = ⊥
+RunsJob job before after (Err (fault.Rows input.Memory)) = Front (runs job) before after
+RunsJob job before after (Err fault.Write) = Cut (runs job) before after
+RunsJob job before after (Err fault.Memory) = Untouched before after ⊎ Front (runs job) before after
+RunsJob job before after (Err (fault.Source i)) = ⊥
+
+-- the operation that stopped is there, and so is the output that is refused
+abbrev pub IsThere : Lists → CycleEnd → Type 0
+IsThere g cycle.Released = Unit {0}
+IsThere g (cycle.Stopped k why) = k < length g.operations
+IsThere g (cycle.Refused output found wanted) = output < length g.outputs
+
+-- the last line of a graph's run of so many cycles was printed, with outputs of these names; or a part of it, where the sink failed
+abbrev pub PrintsEnd : Lists → List (List ℕ) → ℕ → CycleEnd → Option (List ℕ) → Option (List ℕ) → ℕ → ℕ → Result End Failed → Type 0
+PrintsEnd g names n e old new f h (Ok end) = Appends old new (last_text names n (end_read g e) None) × (end_status end ≡ run_status (end_read g e) None)
+PrintsEnd g names n e old new f h (Err why) = Rose f h × AppendsPart old new (last_text names n (end_read g e) None)

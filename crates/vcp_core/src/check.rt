@@ -1,0 +1,58 @@
+//! The command `check`, up to the line of its fault.
+
+ghost use Rattle.std.specs.Prelude.{◌≡◌, IfSome, IfOk, OnOk, Err, List, Option, ℕ};
+ghost use Rattle.std.specs.Io.KnownBytes.{IsAtEnd};
+ghost use Rattle.coded_unit.specs.Log.{Entry};
+ghost use Rattle.vcp_outside.specs.Counts.{Rose};
+ghost use Rattle.vcp_outside.specs.Written.{Writes};
+ghost use Rattle.vcp_words.specs.Forms.{check};
+ghost use Rattle.vcp_core.specs.Check.{CheckTask, ok_text};
+ghost use Rattle.vcp_core.specs.Reach.{Reaches, Unread, Taken};
+ghost use Rattle.machine_run.specs.Moments.{moment};
+ghost use Rattle.vcp_core.specs.declared.ending.End.TheVariants as end;
+ghost use Rattle.vcp_core.specs.declared.fault.Fault.TheVariants as fault;
+
+use crate::ending::End;
+use crate::fault::Fault;
+use run_report::Line;
+use std::alloc::Global;
+use vcp_base::Text;
+use vcp_inputs::load_typed;
+use vcp_outside::{Failed, Files, Sink};
+
+/// A program that is one of the language, with its Size.
+fn ok_line<O: Sink>(out: &mut O, size: u32) -> Result<(), Failed>
+    ensures { Writes (O.written out.old) (O.written out.new) (O.faults out.old) (O.faults out.new) (ok_text size) result }
+{
+    let mut line = Line::new();
+    line.text(out, b"ok ");
+    line.count(out, size as u64);
+    line.end(out)
+}
+
+/// Does what the words `check P` say, and writes to `out` alone: P is read whole and taken through
+/// its refusals, and then the Size of its program is written.
+pub fn check_command<F: Files, O: Sink>(
+    alloc: Global,
+    source: &Text,
+    files: &mut F,
+    out: &mut O,
+) -> Result<End, Fault>
+    ensures held { F.held files.new ≡ F.held files.old }
+    ensures reaches { (log : Option (List Entry)) (wrong : ℕ) → IfSome (F.held files.old) (λ h. Reaches (check source.now) (CheckTask source.now h)
+        (moment log wrong (O.written out.old) (O.faults out.old)) (moment log wrong (O.written out.new) (O.faults out.new))
+        (F.broken files.old) (F.broken files.new) result) }
+    ensures done { IfOk result (λ e. e ≡ end.Done) }
+    ensures unread { Unread result → Rose (F.faults files.old) (F.faults files.new) }
+    ensures write { result ≡ Err fault.Write → Rose (O.faults out.old) (O.faults out.new) }
+    ensures ended { OnOk result (IsAtEnd (F.rest files.new)) }
+    ensures taken { IfSome (F.held files.old) (λ h. Taken (check source.now) h (F.rest files.new) result) }
+{
+    match load_typed(alloc, files, source) {
+        Ok(program) => {
+            ok_line(out, program.size())?;
+            Ok(End::Done)
+        }
+        Err(input) => Err(Fault::Source(input)),
+    }
+}

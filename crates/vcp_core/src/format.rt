@@ -1,0 +1,48 @@
+//! The command `format`, up to the line of its fault.
+
+ghost use Rattle.std.specs.Prelude.{◌≡◌, IfSome, IfOk, OnOk, Err, List, Option, ℕ};
+ghost use Rattle.std.specs.Io.KnownBytes.{IsAtEnd};
+ghost use Rattle.coded_unit.specs.Log.{Entry};
+ghost use Rattle.vcp_outside.specs.Counts.{Rose};
+ghost use Rattle.vcp_words.specs.Forms.{format};
+ghost use Rattle.vcp_core.specs.Format.{FormatTask};
+ghost use Rattle.vcp_core.specs.Reach.{Reaches, Unread, Taken};
+ghost use Rattle.machine_run.specs.Moments.{moment};
+ghost use Rattle.vcp_core.specs.declared.ending.End.TheVariants as end;
+ghost use Rattle.vcp_core.specs.declared.fault.Fault.TheVariants as fault;
+
+use crate::ending::End;
+use crate::fault::Fault;
+use st_writer::write_program;
+use std::alloc::Global;
+use vcp_base::Text;
+use vcp_inputs::load_program;
+use vcp_outside::{Files, Sink, write_all};
+
+/// Does what the words `format P` say, and writes to `out` alone: P is read whole and taken through
+/// its refusals, those of typing left out, and then its canonical text is written.
+pub fn format_command<F: Files, O: Sink>(
+    alloc: Global,
+    source: &Text,
+    files: &mut F,
+    out: &mut O,
+) -> Result<End, Fault>
+    ensures held { F.held files.new ≡ F.held files.old }
+    ensures reaches { (log : Option (List Entry)) (wrong : ℕ) → IfSome (F.held files.old) (λ h. Reaches (format source.now) (FormatTask source.now h)
+        (moment log wrong (O.written out.old) (O.faults out.old)) (moment log wrong (O.written out.new) (O.faults out.new))
+        (F.broken files.old) (F.broken files.new) result) }
+    ensures done { IfOk result (λ e. e ≡ end.Done) }
+    ensures unread { Unread result → Rose (F.faults files.old) (F.faults files.new) }
+    ensures write { result ≡ Err fault.Write → Rose (O.faults out.old) (O.faults out.new) }
+    ensures ended { OnOk result (IsAtEnd (F.rest files.new)) }
+    ensures taken { IfSome (F.held files.old) (λ h. Taken (format source.now) h (F.rest files.new) result) }
+{
+    match load_program(alloc, files, source) {
+        Ok(program) => {
+            let text = write_program(alloc, &program)?;
+            write_all(out, text.bytes())?;
+            Ok(End::Done)
+        }
+        Err(input) => Err(Fault::Source(input)),
+    }
+}

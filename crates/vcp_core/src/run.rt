@@ -1,0 +1,54 @@
+//! The command `run`, up to the line of its fault.
+
+ghost use Rattle.std.specs.Prelude.{◌≡◌, IfSome, OnOk, Ok, Err};
+ghost use Rattle.std.specs.Io.KnownBytes.{IsAtEnd};
+ghost use Rattle.machine_run.specs.Moments.{moment};
+ghost use Rattle.machine_run.specs.Stops.{GrowsByStop};
+ghost use Rattle.vcp_outside.specs.Counts.{Rose};
+ghost use Rattle.vcp_words.specs.Forms.{run, rows_of, as_code, AreFew, IsCode};
+ghost use Rattle.vcp_core.specs.Reach.{Reaches, Unread, Taken};
+ghost use Rattle.vcp_core.specs.Run.{RunTask};
+ghost use Rattle.vcp_core.specs.declared.ending.End.TheVariants as end;
+ghost use Rattle.vcp_core.specs.declared.fault.Fault.TheVariants as fault;
+
+use crate::ending::End;
+use crate::fault::Fault;
+use crate::loading::load;
+use crate::running::run_job;
+use coded_unit::Unit;
+use std::alloc::Global;
+use vcp_base::Text;
+use vcp_outside::{Files, Sink};
+use vcp_words::{Code, RowsWord};
+
+/// Does what the words `run P ROWS CODE` say, and writes to `out` alone: P is read whole and taken
+/// through its refusals, then ROWS, and then the program's operations are run on the rows, on the unit.
+pub fn run_command<F: Files, U: Unit, O: Sink>(
+    alloc: Global,
+    source: &Text,
+    rows: RowsWord<'_>,
+    code: Code,
+    files: &mut F,
+    unit: &mut U,
+    out: &mut O,
+) -> Result<End, Fault>
+    requires few { AreFew (rows_of rows) }
+    requires code { IsCode (as_code code) }
+    ensures held { F.held files.new ≡ F.held files.old }
+    ensures reaches { IfSome (F.held files.old) (λ h. Reaches (run source.now (rows_of rows.entry) (as_code code)) (RunTask source.now (rows_of rows.entry) (as_code code) h)
+        (moment (U.log unit.old) (U.wrong unit.old) (O.written out.old) (O.faults out.old))
+        (moment (U.log unit.new) (U.wrong unit.new) (O.written out.new) (O.faults out.new))
+        (F.broken files.old) (F.broken files.new) result) }
+    ensures unread { Unread result → Rose (F.faults files.old) (F.faults files.new) }
+    ensures write { result ≡ Err fault.Write → Rose (O.faults out.old) (O.faults out.new) }
+    ensures ended { OnOk result (IsAtEnd (F.rest files.new)) }
+    ensures taken { IfSome (F.held files.old) (λ h. Taken (run source.now (rows_of rows.entry) (as_code code)) h (F.rest files.new) result) }
+    ensures refused { result ≡ Ok end.Refused → Rose (U.wrong unit.old) (U.wrong unit.new) }
+    ensures stopped { result ≡ Ok end.Stopped → GrowsByStop (U.log unit.old) (U.log unit.new) }
+{
+    let loaded = load(alloc, source, rows, files)?;
+    match loaded.rows.open(alloc, &loaded.columns) {
+        Ok(mut rows) => run_job(alloc, &loaded.program, code, &mut rows, unit, out),
+        Err(input) => Err(Fault::Rows(input)),
+    }
+}
