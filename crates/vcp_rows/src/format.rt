@@ -164,11 +164,20 @@ END_PROGRAM
     ),
 ];
 
+/// The first of these texts that has another canonical text.
+fn first_wrong(alloc: Global, table: &[(&[u8], &[u8])]) -> Result<Option<usize>, Memory> {
+    for (i, (source, canonical)) in table.iter().enumerate() {
+        if !is_formatted(alloc, *source, *canonical)? {
+            return Ok(Some(i));
+        }
+    }
+    Ok(None)
+}
+
 #[test]
 fn programs_are_formatted(rt: HostRuntime) -> Result<(), Fail> {
-    let alloc = rt.alloc();
-    for (i, (source, canonical)) in PROGRAMS.iter().enumerate() {
-        assert!(rt; is_formatted(alloc, *source, *canonical)?, "at {i}");
+    if let Some(i) = first_wrong(rt.alloc(), &PROGRAMS)? {
+        assert!(rt; false, "at {i}");
     }
     Ok(())
 }
@@ -216,11 +225,23 @@ const EXPRESSIONS: [(&[u8], &[u8]); 26] = [
     (b"1_000*007", b"1000 * 7"),
 ];
 
+/// The first of these expressions that is written otherwise.
+fn first_wrong_expression(
+    alloc: Global,
+    table: &[(&[u8], &[u8])],
+) -> Result<Option<usize>, Memory> {
+    for (i, (expression, canonical)) in table.iter().enumerate() {
+        if !is_written(alloc, *expression, *canonical)? {
+            return Ok(Some(i));
+        }
+    }
+    Ok(None)
+}
+
 #[test]
 fn expressions_are_formatted(rt: HostRuntime) -> Result<(), Fail> {
-    let alloc = rt.alloc();
-    for (i, (expression, canonical)) in EXPRESSIONS.iter().enumerate() {
-        assert!(rt; is_written(alloc, *expression, *canonical)?, "at {i}");
+    if let Some(i) = first_wrong_expression(rt.alloc(), &EXPRESSIONS)? {
+        assert!(rt; false, "at {i}");
     }
     Ok(())
 }
@@ -258,13 +279,30 @@ fn keeps_brackets(alloc: Global, inner: (u8, &[u8]), outer: (u8, &[u8])) -> Resu
     Ok(is_written(alloc, &left, wanted_left)? && is_written(alloc, &right, wanted_right)?)
 }
 
+/// Whether this operator and each of these keep their brackets so.
+fn keeps_with(alloc: Global, inner: (u8, &[u8]), table: &[(u8, &[u8])]) -> Result<bool, Memory> {
+    for outer in table {
+        if !keeps_brackets(alloc, inner, *outer)? {
+            return Ok(false);
+        }
+    }
+    Ok(true)
+}
+
+/// The first of these operators that doesn't keep its brackets so with each of them.
+fn first_astray(alloc: Global, table: &[(u8, &[u8])]) -> Result<Option<usize>, Memory> {
+    for (i, inner) in table.iter().enumerate() {
+        if !keeps_with(alloc, *inner, table)? {
+            return Ok(Some(i));
+        }
+    }
+    Ok(None)
+}
+
 #[test]
 fn brackets_stay_where_they_are_needed(rt: HostRuntime) -> Result<(), Fail> {
-    let alloc = rt.alloc();
-    for inner in OPERATORS {
-        for outer in OPERATORS {
-            assert!(rt; keeps_brackets(alloc, inner, outer)?);
-        }
+    if let Some(i) = first_astray(rt.alloc(), &OPERATORS)? {
+        assert!(rt; false, "operator {i}");
     }
     Ok(())
 }
@@ -286,11 +324,21 @@ const REFUSED: [(&[u8], &[u8]); 7] = [
     (b"PROGRAM p\n", b"p.st:2:1 S4 Syntax\n"),
 ];
 
+/// The first of these texts that isn't refused so.
+fn first_taken(alloc: Global, table: &[(&[u8], &[u8])]) -> Result<Option<usize>, Memory> {
+    for (i, (text, line)) in table.iter().enumerate() {
+        if !is_refused(alloc, *text, *line)? {
+            return Ok(Some(i));
+        }
+    }
+    Ok(None)
+}
+
 #[test]
 fn faults_of_texts_are_told_with_their_places(rt: HostRuntime) -> Result<(), Fail> {
     let alloc = rt.alloc();
-    for (i, (text, line)) in REFUSED.iter().enumerate() {
-        assert!(rt; is_refused(alloc, *text, *line)?, "at {i}");
+    if let Some(i) = first_taken(alloc, &REFUSED)? {
+        assert!(rt; false, "at {i}");
     }
     let long = vec![in alloc; b' '; 1048577]?;
     assert!(rt; is_refused(alloc, &long, b"p.st L1 Bytes\n")?);
@@ -346,32 +394,35 @@ fn the_depth_is_limited(rt: HostRuntime) -> Result<(), Fail> {
 }
 
 #[test]
-fn a_lacking_text_and_other_words_are_told(rt: HostRuntime) -> Result<(), Fail> {
+fn a_lacking_text_is_told(rt: HostRuntime) -> Result<(), Fail> {
     let alloc = rt.alloc();
+    let given = give(
+        alloc,
+        &[b"format", b"q.st"],
+        &mut MemFiles::new(alloc),
+        4000,
+    )?;
+    assert!(rt; given.status == 5 && given.out.bytes().is_empty());
+    assert!(rt; given.err.bytes() == b"q.st read fault\n".as_slice());
+    Ok(())
+}
+
+/// Whether an output of so much room gets a front of the text that fills it, and the fault is told.
+fn fills(alloc: Global, room: u32, length: u32) -> Result<bool, Memory> {
     let mut files = MemFiles::new(alloc);
     files.put(b"p.st", ADD)?;
-    let given = give(alloc, &[b"format", b"q.st"], &mut files, 4000)?;
-    assert_eq!(rt; given.status, 5);
-    assert_eq!(rt; given.err.bytes(), b"q.st read fault\n".as_slice());
-    let rows: [&[&[u8]]; 5] = [
-        &[b"format"],
-        &[b"format", b""],
-        &[b"format", b"-p.st"],
-        &[b"format", b"p.st", b"p.st"],
-        &[b"Format", b"p.st"],
-    ];
-    for words in &rows {
-        let given = give(alloc, *words, &mut files, 4000)?;
-        assert_eq!(rt; given.status, 4);
-        assert!(rt; given.out.bytes().is_empty());
-        assert!(rt;
-            given
-                .err
-                .bytes()
-                .starts_with(b"usage: vcp check P, format P, ")
-        );
-    }
-    Ok(())
+    let given = give(alloc, &[b"format", b"p.st"], &mut files, room)?;
+    let told: &[u8] = if room == length {
+        b""
+    } else {
+        b"write fault\n"
+    };
+    Ok(
+        given.status == if room == length { 0 } else { 6 }
+            && given.out.bytes().len() == room as usize
+            && ADD_FORMATTED.starts_with(given.out.bytes())
+            && given.err.bytes() == told,
+    )
 }
 
 #[test]
@@ -379,18 +430,7 @@ fn a_full_sink_keeps_a_front_of_the_text(rt: HostRuntime) -> Result<(), Fail> {
     let alloc = rt.alloc();
     let length = ADD_FORMATTED.len() as u32;
     for room in 0..length + 1 {
-        let mut files = MemFiles::new(alloc);
-        files.put(b"p.st", ADD)?;
-        let given = give(alloc, &[b"format", b"p.st"], &mut files, room)?;
-        assert_eq!(rt; given.status, if room == length { 0 } else { 6 });
-        assert_eq!(rt; given.out.bytes().len(), room as usize);
-        assert!(rt; ADD_FORMATTED.starts_with(given.out.bytes()));
-        let told: &[u8] = if room == length {
-            b""
-        } else {
-            b"write fault\n"
-        };
-        assert_eq!(rt; given.err.bytes(), told);
+        assert!(rt; fills(alloc, room, length)?, "room {room}");
     }
     Ok(())
 }

@@ -1,4 +1,4 @@
-//! Worked rows of the whole program: for each command, words and files, and what they give.
+//! Worked texts of the commands that run nothing, `check` and `format`: texts, and what each command tells of them.
 #![tactic(auto)]
 
 #[cfg(test)]
@@ -8,6 +8,4 @@ mod check;
 #[cfg(test)]
 mod format;
 #[cfg(test)]
-mod plain;
-#[cfg(test)]
-mod run;
+mod words;

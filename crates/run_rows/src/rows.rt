@@ -1,29 +1,30 @@
-//! Worked runs of the command `plain`.
+//! Rows of recorded inputs, and what `plain` and `run` both give on them.
 
-use crate::calls::{ADD, CROSSING, Given, give, joined, repeated, with_crlf};
-use coded_unit::CpuUnit;
+use crate::calls::{Gives, both_give, joined, repeated, with_crlf};
+use crate::programs::{ADD, COUNTER, CROSSING};
 use std::alloc::Global;
 use std::test::Fail;
-use vcp_base::{Memory, Words};
-use vcp_core::vcp;
-use vcp_outside::{MemFiles, MemSink};
+use vcp_base::Memory;
+use vcp_outside::MemFiles;
 
-/// What a command gives: the output, the errors, and the status.
-type Gives<'a> = (&'a [u8], &'a [u8], u8);
-
-/// Whether these are the output, the errors and the status.
-fn is(given: &Given, expected: Gives<'_>) -> bool {
-    let (out, err, status) = expected;
-    given.out.bytes() == out && given.err.bytes() == err && given.status == status
-}
-
-/// Whether `plain p.st in.csv` gives this where `p.st` and `in.csv` have these texts.
+/// Whether both give this on the rows of `in.csv` where `p.st` and `in.csv` have these texts.
 fn gives(alloc: Global, source: &[u8], rows: &[u8], expected: Gives<'_>) -> Result<bool, Memory> {
     let mut files = MemFiles::new(alloc);
     files.put(b"p.st", source)?;
     files.put(b"in.csv", rows)?;
-    let given = give(alloc, &[b"plain", b"p.st", b"in.csv"], &mut files, 200)?;
-    Ok(is(&given, expected))
+    both_give(alloc, &mut files, &[b"p.st", b"in.csv"], expected)
+}
+
+/// Whether both give this for so many cycles where `p.st` has this text.
+fn gives_for(
+    alloc: Global,
+    source: &[u8],
+    number: &[u8],
+    expected: Gives<'_>,
+) -> Result<bool, Memory> {
+    let mut files = MemFiles::new(alloc);
+    files.put(b"p.st", source)?;
+    both_give(alloc, &mut files, &[b"p.st", b"--cycles", number], expected)
 }
 
 /// Rows of a program of one sum, and what it gives on them.
@@ -71,17 +72,30 @@ const SUMS: [(&[u8], Gives<'_>); 22] = [
     (b"x\n+\n", (b"cycle,y\n", b"in.csv:2:1 R3 Cell\n", 1)),
 ];
 
+/// The first of these rows on which a program doesn't give what is expected.
+fn first_wrong_rows(
+    alloc: Global,
+    source: &[u8],
+    table: &[(&[u8], Gives<'_>)],
+) -> Result<Option<usize>, Memory> {
+    for (i, (rows, expected)) in table.iter().enumerate() {
+        if !gives(alloc, source, *rows, *expected)? {
+            return Ok(Some(i));
+        }
+    }
+    Ok(None)
+}
+
 #[test]
 fn rows_are_read_as_their_format_says(rt: HostRuntime) -> Result<(), Fail> {
-    let alloc = rt.alloc();
-    for (i, (rows, expected)) in SUMS.iter().enumerate() {
-        assert!(rt; gives(alloc, ADD, *rows, *expected)?, "rows {i}");
+    if let Some(i) = first_wrong_rows(rt.alloc(), ADD, &SUMS)? {
+        assert!(rt; false, "rows {i}");
     }
     Ok(())
 }
 
 /// Programs from their second line on, rows of inputs, and what the program gives on them.
-const PROGRAMS: [(&[u8], &[u8], Gives<'_>); 14] = [
+const PROGRAMS: [(&[u8], &[u8], Gives<'_>); 18] = [
     (
         b"VAR_INPUT x : INT; END_VAR\nVAR_OUTPUT y : INT; END_VAR\ny := x + 1;\n",
         b"x\n32767\n",
@@ -167,45 +181,94 @@ const PROGRAMS: [(&[u8], &[u8], Gives<'_>); 14] = [
         b"",
         (b"cycle,y\n0,3\nend 1\n", b"", 0),
     ),
+    // Gaps may have any length.
+    (
+        b"VAR_INPUT x : DINT; END_VAR\nVAR_OUTPUT y : DINT; END_VAR\ny := x  + 1;\n",
+        b"x\n5\n-1\n-2147483648\n",
+        (b"cycle,y\n0,6\n1,0\n2,-2147483647\nend 3\n", b"", 0),
+    ),
+    // Operators of one level go from the left.
+    (
+        b"VAR_INPUT x : DINT; END_VAR\nVAR_OUTPUT y : DINT; END_VAR\ny := x - 100 - 9;\n",
+        b"x\n100\n-2147483547\n",
+        (b"cycle,y\n0,-9\nstop 1 RANGE 4:14\n", b"", 2),
+    ),
+    (
+        b"VAR_INPUT b : BOOL; END_VAR\nVAR_OUTPUT y : BOOL; END_VAR\ny := NOT b;\n",
+        b"b\n0\n1\nTRUE\n",
+        (b"cycle,y\n0,1\n1,0\n2,0\nend 3\n", b"", 0),
+    ),
+    // The greatest Size.
+    (
+        b"VAR_OUTPUT y : DINT; END_VAR\nVAR i : DINT; END_VAR\nFOR i := 1 TO 21843 DO y := i; END_FOR;\n",
+        b"",
+        (b"cycle,y\n0,21843\nend 1\n", b"", 0),
+    ),
 ];
 
-/// Whether `plain p.st --cycles N` gives this where `p.st` has this text.
-fn gives_for(
+/// The first of these programs that doesn't give what is expected; without rows it is run for one cycle.
+fn first_wrong_program(
     alloc: Global,
-    source: &[u8],
-    number: &[u8],
-    expected: Gives<'_>,
-) -> Result<bool, Memory> {
-    let mut files = MemFiles::new(alloc);
-    files.put(b"p.st", source)?;
-    let words: [&[u8]; 4] = [b"plain", b"p.st", b"--cycles", number];
-    let given = give(alloc, &words, &mut files, 200)?;
-    Ok(is(&given, expected))
-}
-
-#[test]
-fn programs_do_what_their_text_says(rt: HostRuntime) -> Result<(), Fail> {
-    let alloc = rt.alloc();
-    for (i, (body, rows, expected)) in PROGRAMS.iter().enumerate() {
+    table: &[(&[u8], &[u8], Gives<'_>)],
+) -> Result<Option<usize>, Memory> {
+    for (i, (body, rows, expected)) in table.iter().enumerate() {
         let source = joined(alloc, &[b"PROGRAM p\n", *body, b"END_PROGRAM\n"])?;
         let done = if rows.is_empty() {
             gives_for(alloc, &source, b"1", *expected)?
         } else {
             gives(alloc, &source, *rows, *expected)?
         };
-        assert!(rt; done, "program {i}");
+        if !done {
+            return Ok(Some(i));
+        }
+    }
+    Ok(None)
+}
+
+#[test]
+fn programs_do_what_their_text_says(rt: HostRuntime) -> Result<(), Fail> {
+    if let Some(i) = first_wrong_program(rt.alloc(), &PROGRAMS)? {
+        assert!(rt; false, "program {i}");
     }
     Ok(())
 }
 
-/// A counter of its cycles.
-const COUNTER: &[u8] = b"\
-PROGRAM p
-VAR_OUTPUT y : DINT; END_VAR
-VAR n : DINT; END_VAR
-n := n + 1; y := n;
-END_PROGRAM
-";
+/// A sum of x and so many ones.
+fn sum(alloc: Global, ones: u32) -> Result<Vec<u8>, Memory> {
+    let ones = repeated(alloc, b" + 1", ones)?;
+    joined(
+        alloc,
+        &[
+            b"PROGRAM p VAR_INPUT x : DINT; END_VAR VAR_OUTPUT y : DINT; END_VAR\ny := x",
+            &ones,
+            b"; END_PROGRAM",
+        ],
+    )
+}
+
+#[test]
+fn a_chain_has_at_most_64_operators(rt: HostRuntime) -> Result<(), Fail> {
+    let alloc = rt.alloc();
+    let longest = sum(alloc, 64)?;
+    let longer = sum(alloc, 65)?;
+    assert!(rt;
+        gives(
+            alloc,
+            &longest,
+            b"x\n5\n",
+            (b"cycle,y\n0,69\nend 1\n", b"", 0)
+        )?
+    );
+    assert!(rt;
+        gives(
+            alloc,
+            &longer,
+            b"x\n5\n",
+            (b"", b"p.st:2:266 S5 Depth\n", 1)
+        )?
+    );
+    Ok(())
+}
 
 #[test]
 fn cycles_without_inputs_are_counted(rt: HostRuntime) -> Result<(), Fail> {
@@ -231,80 +294,38 @@ fn a_level_crossing_is_run_on_its_rows(rt: HostRuntime) -> Result<(), Fail> {
     Ok(())
 }
 
+/// Texts that are refused before their rows, and the line of each.
+const REFUSED: [(&[u8], &[u8]); 5] = [
+    (b"PROGRAM p {", b"p.st:1:11 S1 Byte\n"),
+    (b"PROGRAM p", b"p.st:1:10 S4 Syntax\n"),
+    (b"PROGRAM p y := zz; END_PROGRAM", b"p.st:1:11 T2 Unknown\n"),
+    (
+        b"PROGRAM p\nVAR_OUTPUT y : INT; END_VAR\nVAR i : INT; END_VAR\nFOR i := 3 TO 1 BY 0 DO y := 7; END_FOR;\nEND_PROGRAM\n",
+        b"p.st:4:20 T5 Bound\n",
+    ),
+    (
+        b"PROGRAM p VAR_OUTPUT y : DINT; END_VAR VAR i : DINT; END_VAR FOR i := 1 TO 21843 DO y := i; END_FOR; y := i; END_PROGRAM",
+        b"p.st L2 Size\n",
+    ),
+];
+
+/// The first of these texts that isn't refused so on an empty rows file.
+fn first_taken(alloc: Global, table: &[(&[u8], &[u8])]) -> Result<Option<usize>, Memory> {
+    for (i, (source, line)) in table.iter().enumerate() {
+        if !gives(alloc, *source, b"", (b"", *line, 1))? {
+            return Ok(Some(i));
+        }
+    }
+    Ok(None)
+}
+
 #[test]
 fn a_source_is_refused_before_its_rows(rt: HostRuntime) -> Result<(), Fail> {
     let alloc = rt.alloc();
+    if let Some(i) = first_taken(alloc, &REFUSED)? {
+        assert!(rt; false, "source {i}");
+    }
     let long = repeated(alloc, b" ", 1048577)?;
-    let sources: [(&[u8], &[u8]); 4] = [
-        (b"PROGRAM p {", b"p.st:1:11 S1 Byte\n"),
-        (b"PROGRAM p", b"p.st:1:10 S4 Syntax\n"),
-        (b"PROGRAM p y := zz; END_PROGRAM", b"p.st:1:11 T2 Unknown\n"),
-        (&long, b"p.st L1 Bytes\n"),
-    ];
-    for (source, line) in &sources {
-        assert!(rt; gives(alloc, *source, b"", (b"", *line, 1))?);
-    }
-    Ok(())
-}
-
-#[test]
-fn other_words_and_lacking_files_are_told(rt: HostRuntime) -> Result<(), Fail> {
-    let alloc = rt.alloc();
-    let mut files = MemFiles::new(alloc);
-    files.put(b"p.st", ADD)?;
-    files.put(b"n.st", COUNTER)?;
-    files.put(b"in.csv", b"x\n5\n")?;
-    let usage: &[u8] = b"usage: vcp check P, format P, plain P ROWS";
-    let rows: [(&[&[u8]], u8, &[u8]); 13] = [
-        (&[b"plain"], 4, usage),
-        (&[b"plain", b"p.st"], 4, usage),
-        (&[b"plain", b"p.st", b""], 4, usage),
-        (&[b"plain", b"-p", b"in.csv"], 4, usage),
-        (&[b"plain", b"n.st", b"--cycles"], 4, usage),
-        (&[b"plain", b"n.st", b"--cycles", b""], 4, usage),
-        (&[b"plain", b"n.st", b"--cycles", b"1000001"], 4, usage),
-        (&[b"plain", b"n.st", b"--cycles", b"00000000003"], 4, usage),
-        (&[b"plain", b"n.st", b"--cycles", b"+3"], 4, usage),
-        (&[b"plain", b"n.st", b"in.csv", b"3"], 4, usage),
-        (&[b"plain", b"q.st", b"in.csv"], 5, b"q.st read fault\n"),
-        (&[b"plain", b"p.st", b"no.csv"], 5, b"no.csv read fault\n"),
-        (&[b"plain", b"n.st", b"no.csv"], 1, b"no.csv R4 Form\n"),
-    ];
-    for (i, (words, status, line)) in rows.iter().enumerate() {
-        let given = give(alloc, *words, &mut files, 40)?;
-        assert!(rt;
-            given.status == *status && given.out.bytes().is_empty(),
-            "words {i}"
-        );
-        assert!(rt; given.err.bytes().starts_with(*line), "line {i}");
-    }
-    Ok(())
-}
-
-#[test]
-fn sinks_that_fail_have_a_front(rt: HostRuntime) -> Result<(), Fail> {
-    let alloc = rt.alloc();
-    let mut files = MemFiles::new(alloc);
-    files.put(b"p.st", ADD)?;
-    files.put(b"in.csv", b"x\n5\nz\n")?;
-    let words: [&[u8]; 3] = [b"plain", b"p.st", b"in.csv"];
-    for room in 0..12 {
-        let given = give(alloc, &words, &mut files, room)?;
-        assert_eq!(rt; given.status, 6);
-        assert!(rt; b"cycle,y\n0,6\n".starts_with(given.out.bytes()));
-        assert_eq!(rt; given.err.bytes(), b"write fault\n".as_slice());
-    }
-    // What earlier cycles gave stands where the line of the refusal can't be printed.
-    let mut given = Words::new(alloc);
-    for word in &words {
-        given.push(*word)?;
-    }
-    let mut out = MemSink::new(alloc, 40)?;
-    let mut err = MemSink::new(alloc, 7)?;
-    let mut unit = CpuUnit::new();
-    let status = vcp(alloc, &given, &mut files, &mut unit, &mut out, &mut err);
-    assert_eq!(rt; status, 6);
-    assert_eq!(rt; out.bytes(), b"cycle,y\n0,6\n".as_slice());
-    assert!(rt; b"in.csv:3:1 R3 Cell\n".starts_with(err.bytes()));
+    assert!(rt; gives(alloc, &long, b"", (b"", b"p.st L1 Bytes\n", 1))?);
     Ok(())
 }
