@@ -1,6 +1,6 @@
 #!/bin/sh
 # The machine's stack that the built program needs: for each of these programs the least `ulimit -s`, in steps of 16 KB,
-# with which `check`, `format` and `plain` end by a status and aren't killed by a signal.
+# with which `check`, `format`, `plain` and `run` end by a status and aren't killed by a signal.
 here=$(CDPATH='' cd -- "$(dirname -- "$0")" && pwd) || exit 1
 program=${VCP:-$here/../crates/vcp/out/vcp}
 work=$(mktemp -d) || exit 1
@@ -39,8 +39,8 @@ least() {
 
 measure() {
     file=$work/$1.st
-    printf '%-40s %6s %6s %6s   %s\n' "$2" "$(least check "$file")" "$(least format "$file")" \
-        "$(least plain "$file" --cycles 1)" "$("$program" check "$file" 2>&1 | sed "s:.*/::")"
+    printf '%-40s %6s %6s %6s %6s   %s\n' "$2" "$(least check "$file")" "$(least format "$file")" \
+        "$(least plain "$file" --cycles 1)" "$(least run "$file" --cycles 1)" "$("$program" check "$file" 2>&1 | sed "s:.*/::")"
 }
 
 source_of least "x : INT;" "x := 1;"
@@ -53,7 +53,7 @@ source_of mixed "b : BOOL; x : INT;" "$(repeated 32 'IF b THEN ') x := $(repeate
 source_of many "x : INT;" "$(repeated 30000 'x := 1; ')"
 source_of large "x : INT;" "$(repeated 87000 'x := x + 1; ')"
 
-printf '%-40s %6s %6s %6s   %s\n' "least stack, KB" check format plain "what check prints"
+printf '%-40s %6s %6s %6s %6s   %s\n' "least stack, KB" check format plain run "what check prints"
 measure least "one assignment"
 measure ifs "64 nested IFs"
 measure cases "64 nested CASEs"

@@ -1,0 +1,281 @@
+//! What `vcp run P ROWS` does once P is a list of operations, in plain Rust, without a contract: it reads the rows, carries the
+//! operations of each cycle in coded words, compares the residues of the outputs, and writes each line by one write, and a flush.
+//!
+//! The words are LIST ROWS MODE. LIST begins with the line that the run begins with, and has then a line an operation, in the
+//! form of `docs/FLATTENING.md`; all cells begin with 0. ROWS has the inputs in their order. MODE is `wide`, which splits words on
+//! `i128`, `narrow`, which splits them on `i64` where a word has no more than 64 bits, or `uncoded`, which carries plain values
+//! alone, as `vcp plain` means them. Where a run doesn't come to its end, it says so on standard error.
+
+mod code;
+
+use code::{
+    A, Kind, Op, STEP, Ty, corrections, fits, op, operand_type, operands, quotient, remainder,
+    signature, value, word,
+};
+use std::io::{self, Write};
+use std::{env, fs, process};
+
+struct Graph {
+    head: String,
+    ops: Vec<Op>,
+    inputs: Vec<Ty>,
+    outs: Vec<usize>,
+    stores: Vec<usize>,
+}
+
+fn kind(name: &str) -> Option<Kind> {
+    Some(match name {
+        "INPUT" => Kind::Input,
+        "CONST" => Kind::Const,
+        "LOAD" => Kind::Load,
+        "STORE" => Kind::Store,
+        "OUT" => Kind::Out,
+        "CONV" => Kind::Conv,
+        "NEG" => Kind::Neg,
+        "NOT" => Kind::Not,
+        "ADD" => Kind::Add,
+        "SUB" => Kind::Sub,
+        "MUL" => Kind::Mul,
+        "DIV" => Kind::Div,
+        "MOD" => Kind::Mod,
+        "EQ" => Kind::Eq,
+        "LT" => Kind::Lt,
+        "AND" => Kind::And,
+        "OR" => Kind::Or,
+        "XOR" => Kind::Xor,
+        "SEL" => Kind::Sel,
+        _ => return None,
+    })
+}
+
+fn ty(name: &str) -> Option<Ty> {
+    match name {
+        "BOOL" => Some(Ty::Bool),
+        "INT" => Some(Ty::Int),
+        "DINT" => Some(Ty::Dint),
+        _ => None,
+    }
+}
+
+/// One operation of a list: `OP KIND FROM TY`, its operands, its own number behind a word, and its place.
+fn operation(line: &str) -> Option<Op> {
+    let mut words = line.split(' ').skip(1);
+    let kind = kind(words.next()?)?;
+    let (from, to) = (ty(words.next()?)?, ty(words.next()?)?);
+    let mut read = [0; 3];
+    if kind != Kind::Load {
+        for operand in read.iter_mut().take(operands(kind)) {
+            *operand = words.next()?.parse().ok()?;
+        }
+    }
+    let imm = match words.next()? {
+        "at" => 0,
+        _ => words.next()?.parse().ok()?,
+    };
+    Some(op(kind, from, to, read, imm))
+}
+
+fn graph(text: &str) -> Option<Graph> {
+    let mut lines = text.lines();
+    let head = lines.next()?.to_owned();
+    let ops: Vec<Op> = lines.map(operation).collect::<Option<_>>()?;
+    let of_kind = |kind| {
+        let found = ops.iter().enumerate().filter(move |(_, op)| op.kind == kind);
+        found.map(|(i, _)| i).collect::<Vec<_>>()
+    };
+    let inputs = of_kind(Kind::Input).iter().map(|i| ops[*i].ty).collect();
+    let (outs, stores) = (of_kind(Kind::Out), of_kind(Kind::Store));
+    Some(Graph {
+        head,
+        ops,
+        inputs,
+        outs,
+        stores,
+    })
+}
+
+/// Reads the values of a record; false where one isn't of its type, or their number is another.
+fn read_record(line: &str, types: &[Ty], row: &mut Vec<i64>) -> bool {
+    row.clear();
+    for cell in line.split(',') {
+        match (cell.parse::<i64>(), types.get(row.len())) {
+            (Ok(v), Some(ty)) if fits(*ty, v as i128) => row.push(v),
+            _ => return false,
+        }
+    }
+    row.len() == types.len()
+}
+
+/// One line and its write.
+struct Lines<W> {
+    out: W,
+    line: Vec<u8>,
+}
+
+impl<W: Write> Lines<W> {
+    fn row(&mut self, cycle: usize, outputs: impl Iterator<Item = i128>) -> io::Result<()> {
+        self.line.clear();
+        write!(self.line, "{cycle}")?;
+        for v in outputs {
+            write!(self.line, ",{v}")?;
+        }
+        self.line.push(b'\n');
+        self.out.write_all(&self.line)?;
+        self.out.flush()
+    }
+
+    fn text(&mut self, text: &str) -> io::Result<()> {
+        writeln!(self.out, "{text}")?;
+        self.out.flush()
+    }
+}
+
+/// Carries a cycle, and answers whether its outputs are released.
+trait Carries {
+    fn carry(&mut self, graph: &Graph, row: &[i64], cycle: usize) -> bool;
+
+    fn output(&self, out: usize) -> i128;
+}
+
+/// A machine on coded words.
+struct Coded<const NARROW: bool> {
+    corrections: Vec<i128>,
+    cells: Vec<i128>,
+    words: Vec<i128>,
+}
+
+impl<const NARROW: bool> Coded<NARROW> {
+    fn new(graph: &Graph) -> Self {
+        Coded {
+            corrections: corrections(&graph.ops, &graph.stores),
+            cells: graph.stores.iter().map(|store| signature(*store)).collect(),
+            words: Vec::with_capacity(graph.ops.len()),
+        }
+    }
+}
+
+impl<const NARROW: bool> Carries for Coded<NARROW> {
+    fn carry(&mut self, graph: &Graph, row: &[i64], cycle: usize) -> bool {
+        let stamp = (STEP as usize * (cycle + 1)) as i128;
+        self.words.clear();
+        for (op, correction) in graph.ops.iter().zip(&self.corrections) {
+            let mut read = [0; 3];
+            for (j, read) in read.iter_mut().enumerate().take(operands(op.kind)) {
+                *read = match op.kind {
+                    Kind::Load => self.cells[op.imm as usize],
+                    _ => self.words[op.operands[j]],
+                };
+            }
+            let imm = match op.kind {
+                Kind::Input => row[op.imm as usize],
+                _ => op.imm,
+            };
+            match word::<NARROW>(op, read, imm, *correction, stamp) {
+                Some(w) => self.words.push(w),
+                None => return false,
+            }
+        }
+        for out in &graph.outs {
+            if remainder::<NARROW>(self.words[*out]) != (signature(*out) + stamp) % A {
+                return false;
+            }
+        }
+        for (cell, store) in self.cells.iter_mut().zip(&graph.stores) {
+            *cell = self.words[*store];
+        }
+        true
+    }
+
+    fn output(&self, out: usize) -> i128 {
+        quotient::<NARROW>(self.words[out])
+    }
+}
+
+/// A machine on plain values.
+struct Uncoded {
+    cells: Vec<i128>,
+    values: Vec<i128>,
+}
+
+impl Carries for Uncoded {
+    fn carry(&mut self, graph: &Graph, row: &[i64], _cycle: usize) -> bool {
+        self.values.clear();
+        for op in &graph.ops {
+            let mut read = [0; 3];
+            for (j, read) in read.iter_mut().enumerate().take(operands(op.kind)) {
+                *read = match op.kind {
+                    Kind::Load => self.cells[op.imm as usize],
+                    _ => self.values[op.operands[j]],
+                };
+                if !fits(operand_type(op.kind, j, op.from), *read) {
+                    return false;
+                }
+            }
+            let imm = match op.kind {
+                Kind::Input => row[op.imm as usize],
+                _ => op.imm,
+            };
+            if matches!(op.kind, Kind::Div | Kind::Mod) && read[1] == 0 {
+                return false;
+            }
+            let v = value(op.kind, imm, read);
+            if !fits(op.ty, v) {
+                return false;
+            }
+            self.values.push(v);
+        }
+        for (cell, store) in self.cells.iter_mut().zip(&graph.stores) {
+            *cell = self.values[*store];
+        }
+        true
+    }
+
+    fn output(&self, out: usize) -> i128 {
+        self.values[out]
+    }
+}
+
+fn run<C: Carries>(graph: &Graph, rows: &str, mut machine: C) -> io::Result<bool> {
+    let out = io::stdout().lock();
+    let line = Vec::with_capacity(256);
+    let mut lines = Lines { out, line };
+    lines.text(&graph.head)?;
+    let mut row = Vec::with_capacity(graph.inputs.len());
+    let mut cycles = 0;
+    for record in rows.lines().skip(1) {
+        if !read_record(record, &graph.inputs, &mut row) || !machine.carry(graph, &row, cycles) {
+            return Ok(false);
+        }
+        lines.row(cycles, graph.outs.iter().map(|out| machine.output(*out)))?;
+        cycles += 1;
+    }
+    lines.text(&format!("end {cycles}"))?;
+    Ok(true)
+}
+
+fn main() -> io::Result<()> {
+    let words: Vec<String> = env::args().skip(1).collect();
+    let [list, rows, mode] = &words[..] else {
+        eprintln!("usage: coded LIST ROWS wide, narrow or uncoded");
+        process::exit(4);
+    };
+    let graph = graph(&fs::read_to_string(list)?).unwrap_or_else(|| {
+        eprintln!("{list} is no list");
+        process::exit(1)
+    });
+    let rows = fs::read_to_string(rows)?;
+    let ended = match mode.as_str() {
+        "wide" => run(&graph, &rows, Coded::<false>::new(&graph))?,
+        "narrow" => run(&graph, &rows, Coded::<true>::new(&graph))?,
+        _ => {
+            let cells = vec![0; graph.stores.len()];
+            let values = Vec::with_capacity(graph.ops.len());
+            run(&graph, &rows, Uncoded { cells, values })?
+        }
+    };
+    if !ended {
+        eprintln!("the run was not ended");
+        process::exit(2);
+    }
+    Ok(())
+}
