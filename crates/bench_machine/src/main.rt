@@ -14,7 +14,7 @@ use op_graph::Build;
 use signature_table::Table;
 use std::alloc::Global;
 use std::{env, io};
-use vcp_base::{MOST_CYCLES, Row};
+use vcp_base::{MOST_CYCLES, Profile, Row};
 
 /// The seed of the signatures.
 const SEED: u32 = 305419896;
@@ -35,10 +35,10 @@ fn input_of(cycle: u32) -> i64 {
 }
 
 /// Runs at most 1,000,000 cycles, up to the first that is not released.
-fn run(alloc: Global, cycles: u32) -> Result<Total, Build>
+fn run(alloc: Global, profile: Profile, cycles: u32) -> Result<Total, Build>
     requires { cycles ≤ most_cycles }
 {
-    let graph = mixed_graph(alloc)?;
+    let graph = mixed_graph(alloc, profile)?;
     let table = Table::new(alloc, &graph, SEED, STEP)?;
     let mut machine = Machine::new(alloc, &graph, &table)?;
     let mut row = Row::zeros(alloc, graph.inputs())?;
@@ -68,6 +68,14 @@ fn wanted_cycles(rt: &(impl env::Env + AllocGlobal)) -> io::Result<u32>
     }
 }
 
+/// The wide code where there is a second word, else the narrow one.
+fn wanted_profile(rt: &(impl env::Env + AllocGlobal)) -> io::Result<Profile> {
+    match env::args(rt)?.nth(2) {
+        Some(_) => Ok(Profile::Wide),
+        None => Ok(Profile::Narrow),
+    }
+}
+
 /// The number of cycles that a word says.
 fn cycles_of(word: &str) -> io::Result<u32>
     ensures { IfOk result (λ cycles. cycles ≤ most_cycles) }
@@ -80,7 +88,8 @@ fn cycles_of(word: &str) -> io::Result<u32>
 
 fn main(rt: HostRuntime) -> io::Result<()> {
     let cycles = wanted_cycles(&rt)?;
-    match run(rt.alloc(), cycles) {
+    let profile = wanted_profile(&rt)?;
+    match run(rt.alloc(), profile, cycles) {
         Ok(total) => println!(rt; "cycles {} sum {}", total.released, total.sum),
         Err(_) => Err(io::Error::from(io::ErrorKind::OutOfMemory)),
     }

@@ -1,7 +1,8 @@
 //! A graph of 1,000 operations, with all 19 kinds among them.
 
 ghost use Rattle.std.specs.Prelude.{◌≡◌, ℕ, ◌+◌, ◌<◌, ◌++◌, ◌∷◌, [], List, IfOk, OnOk, length, pos};
-ghost use Rattle.op_graph.specs.Rules.{OpFits};
+ghost use Rattle.vcp_base.specs.declared.code.Profile.{Profile as Code};
+ghost use Rattle.op_graph.specs.Rules.{OpFits, Admitted};
 ghost use Rattle.op_graph.specs.Building.{nowhere};
 ghost use Rattle.op_graph.specs.Lists.{nothing};
 ghost use Rattle.op_graph.specs.declared.op.Op.{Op as Operation};
@@ -9,7 +10,7 @@ ghost use Rattle.bench_machine.specs.Readable.{Readable, operation as operation_
 
 use op_graph::{Build, Graph, GraphBuilder, Op, operands_are_there};
 use std::alloc::Global;
-use vcp_base::{Kind, Spot, Text, Ty};
+use vcp_base::{Kind, Profile, Spot, Text, Ty};
 
 /// How many operations stand between the first six and the STORE and the OUT.
 const MIXED_OPERATIONS: u32 = 992;
@@ -35,13 +36,13 @@ pub struct Operands {
 /// With inputs from -1000 to 1000 no cycle should stop, and the count of released cycles tells
 /// whether one did: every 16 operations begin with numbers of at most 32756 in size, whose product is
 /// below 2^31.
-pub fn mixed_graph(alloc: Global) -> Result<Graph, Build>
+pub fn mixed_graph(alloc: Global, profile: Profile) -> Result<Graph, Build>
     ensures inputs { IfOk result (λ graph. length graph.inputs ≡ 1) }
     ensures outputs { IfOk result (λ graph. length graph.outputs ≡ 1) }
     ensures operations { IfOk result (λ graph. length graph.operations ≡ 1000) }
 {
     operands_are_there();
-    let mut builder = GraphBuilder::new(alloc);
+    let mut builder = GraphBuilder::new(alloc, profile);
     builder.name(&Text::copy_of(alloc, b"x")?)?;
     let mut operands = first_operands(&mut builder)?;
     for i in 0..MIXED_OPERATIONS {
@@ -55,10 +56,10 @@ pub fn mixed_graph(alloc: Global) -> Result<Graph, Build>
 /// The input, the cell and the constants.
 fn first_operands(builder: &mut GraphBuilder) -> Result<Operands, Build>
     requires names { length builder.old.names ≡ 1 }
-    requires empty { builder.old ≡ record nothing { names = builder.old.names } }
+    requires empty { builder.old ≡ record (nothing builder.old.profile) { names = builder.old.names } }
     ensures readable { IfOk result (λ operands. Readable builder.new.operations operands) }
     ensures operations { OnOk result (length builder.new.operations ≡ 6) }
-    ensures rest { OnOk result (builder.new ≡ record nothing { names = builder.old.names; inputs = (record { name = 0; ty = Ty.Dint }) ∷ []; loads = (record { name = 0; ty = Ty.Dint; init = pos 1; load = 1 }) ∷ []; operations = builder.new.operations }) }
+    ensures rest { OnOk result (builder.new ≡ record (nothing builder.old.profile) { names = builder.old.names; inputs = (record { name = 0; ty = Ty.Dint }) ∷ []; loads = (record { name = 0; ty = Ty.Dint; init = pos 1; load = 1 }) ∷ []; operations = builder.new.operations }) }
 {
     let input = builder.input(0, Ty::Dint, SPOT)?;
     let cell = builder.load(0, Ty::Dint, 1, SPOT)?;
@@ -100,6 +101,7 @@ fn with_newest(operands: &Operands, ty: Ty, k: u32) -> Operands
             newer_truth: k,
             ..*operands
         },
+        Ty::Lint => *operands,
         Ty::Int | Ty::Dint => Operands {
             older: operands.newer,
             newer: k,
@@ -110,7 +112,8 @@ fn with_newest(operands: &Operands, ty: Ty, k: u32) -> Operands
 
 /// Operation number `i` of the mixed ones.
 fn mixed_operation(operands: &Operands, i: u32) -> Op
-    ensures { (ops : List Operation) (n : ℕ) → Readable ops operands.now → OpFits nowhere n ops result }
+    ensures fits { (ops : List Operation) (n : ℕ) → Readable ops operands.now → OpFits nowhere n ops result }
+    ensures types { (p : Code) → Admitted p result }
 {
     let Operands {
         input,

@@ -4,6 +4,7 @@ use Rattle.vcp_base.specs.declared.ty.Ty.TheVariants as ty
 use Rattle.vcp_base.specs.declared.kind.StopKind.TheVariants as stop
 use Rattle.vcp_base.specs.declared.kind.Kind.{Kind}
 use Rattle.vcp_base.specs.declared.kind.Kind.TheVariants as kind
+use Rattle.vcp_base.specs.declared.code.Profile.TheVariants as profile
 use Rattle.coded_unit.specs.declared.call.Answer.{Answer}
 use Rattle.coded_unit.specs.declared.call.Answer.TheVariants as answer
 use Rattle.coded_unit.specs.Words.{modulo, value_part, coded}
@@ -24,6 +25,7 @@ on_dint k a b imm = record { kind = k; from = ty.Dint; ty = ty.Dint; a = a; b = 
 
 counter : Lists
 counter = record {
+  profile = profile.Narrow;
   names = [];
   inputs = [];
   outputs = (record { name = 0; ty = ty.Dint; op = 3 }) ∷ [];
@@ -34,7 +36,7 @@ counter = record {
 }
 
 numbers : Numbers
-numbers = record { seed = 0; step = 1; corrections = [] }
+numbers = record { profile = profile.Narrow; seed = 0; step = 1; corrections = [] }
 
 -- the answers that are right, to the calls of operations after earlier answers
 right_from : Setting → List Answer → List Op → List Answer
@@ -77,7 +79,7 @@ unfolding counter on_dint numbers words second right_from signature modulo value
 right-second = refl
 
 -- they stand for the cycle on plain integers
-stands-second : answers_for 0 1 1 (cycle counter (pos 1 ∷ []) []) ≡ second
+stands-second : answers_for profile.Narrow 0 1 1 (cycle counter (pos 1 ∷ []) []) ≡ second
 unfolding counter on_dint words second signature coded
 stands-second = refl
 

@@ -1,5 +1,6 @@
 -- Calls: the one list of the calls of a cycle, from the answers to them.
-use Rattle.std.specs.Prelude.{ℕ, ◌≡◌, ◌<◌, ◌≤◌, ◌-◌, ◌^◌, Bool, true, false, cond, nat_lt, List, [], ◌∷◌, ◌++◌, length, Option, ℤ, pos, unsigned_abs, slice_index_or}
+use Rattle.std.specs.Prelude.{ℕ, ◌≡◌, ◌<◌, ◌≤◌, ◌-◌, ◌^◌, Bool, true, false, cond, nat_lt, List, [], ◌∷◌, ◌++◌, length, Option, Some, ℤ, pos, unsigned_abs}
+use Rattle.std.specs.Prelude.{slice_get, slice_index_or}
 use Rattle.vcp_base.specs.declared.kind.Kind.{Kind}
 use Rattle.vcp_base.specs.declared.kind.Kind.TheVariants as kind
 use Rattle.vcp_base.specs.Kinds.{operands}
@@ -58,6 +59,7 @@ own_number _ imm input = imm
 -- the call of operation k of a graph in cycle n, with what it reads
 abbrev pub operation_call : Lists → Numbers → ℕ → ℕ → Op → Operands → Call
 operation_call g t n k op reads = record {
+  profile = g.profile;
   op = k;
   cycle = n;
   kind = op.kind;
@@ -67,7 +69,7 @@ operation_call g t n k op reads = record {
   b = reads.b;
   c = reads.c;
   imm = own_number op.kind op.imm reads.input;
-  corr = correction t.seed t.step k op (store_of (cells g) (unsigned_abs op.imm));
+  corr = correction g.profile t.seed t.step k op (store_of (cells g) (unsigned_abs op.imm));
   stamp = stamp t.step n;
 }
 
@@ -97,6 +99,10 @@ CallsOf s answers = calls_from s [] s.graph.operations answers
 -- the call is the next one of a cycle after these answers: with it and any answer to it, the list of calls has this entry more
 abbrev pub Next : Setting → List Answer → Call → Type 0
 Next s answers call = (a : Answer) → CallsOf s (answers ++ a ∷ []) ≡ CallsOf s answers ++ (call, a) ∷ []
+
+-- the call is that of the operation that comes after these answers
+abbrev pub CallsNextOperation : Setting → List Answer → Call → Type 0
+CallsNextOperation s answers call = (op : Op) → slice_get s.graph.operations (length answers) ≡ Some op → call ≡ call_of s op answers
 
 -- each answer is a word
 abbrev pub AllWords : List Answer → Type 0

@@ -1,5 +1,6 @@
 -- CycleEnds: how a cycle ends, read off the answers to its calls.
 use Rattle.std.specs.Prelude.{ℕ, suc, ◌≡◌, ◌≢◌, ◌==◌, ◌⊎◌, true, false, cond, List, [], ◌∷◌, length, map, slice_get, Option, Some, None, ℤ}
+use Rattle.vcp_base.specs.declared.code.Profile.{Profile}
 use Rattle.vcp_base.specs.declared.kind.StopKind.{StopKind}
 use Rattle.vcp_base.specs.declared.kind.StopKind.TheVariants as stop
 use Rattle.vcp_base.specs.Types.{fits}
@@ -31,18 +32,18 @@ first_stop k [] = None
 first_stop k (a ∷ answers) = stop_or k (stop_of a) (first_stop (suc k) answers)
 
 -- the first of these outputs whose OUT answered a value part that is outside the output's type
-abbrev pub first_outside : List Answer → List Outlet → Option CycleEnd
-first_outside answers [] = None
-first_outside answers (o ∷ outputs) =
-    cond (fits o.ty (value_part (word_at answers o.op))) (first_outside answers outputs) (Some (end.Stopped o.op stop.Operand))
+abbrev pub first_outside : Profile → List Answer → List Outlet → Option CycleEnd
+first_outside p answers [] = None
+first_outside p answers (o ∷ outputs) =
+    cond (fits o.ty (value_part p (word_at answers o.op))) (first_outside p answers outputs) (Some (end.Stopped o.op stop.Operand))
 
 -- the first of these outputs, which are counted from `number`, whose OUT answered another residue in cycle n than the expected one
-abbrev pub first_refused : Numbers → ℕ → List Answer → ℕ → List Outlet → Option CycleEnd
-first_refused t n answers number [] = None
-first_refused t n answers number (o ∷ outputs) =
-    cond (modulo (word_at answers o.op) == expected t.seed t.step o.op n)
-    (first_refused t n answers (suc number) outputs)
-    (Some (end.Refused number (modulo (word_at answers o.op)) (expected t.seed t.step o.op n)))
+abbrev pub first_refused : Profile → Numbers → ℕ → List Answer → ℕ → List Outlet → Option CycleEnd
+first_refused p t n answers number [] = None
+first_refused p t n answers number (o ∷ outputs) =
+    cond (modulo p (word_at answers o.op) == expected p t.seed t.step o.op n)
+    (first_refused p t n answers (suc number) outputs)
+    (Some (end.Refused number (modulo p (word_at answers o.op)) (expected p t.seed t.step o.op n)))
 
 -- this end, or the later one where there is none
 abbrev pub end_or : Option CycleEnd → CycleEnd → CycleEnd
@@ -54,12 +55,12 @@ end_or None later = later
 abbrev pub end_of : Lists → Numbers → ℕ → List Answer → CycleEnd
 end_of g t n answers =
     end_or (first_stop 0 answers)
-    (end_or (first_outside answers g.outputs)
-    (end_or (first_refused t n answers 0 g.outputs) end.Released))
+    (end_or (first_outside g.profile answers g.outputs)
+    (end_or (first_refused g.profile t n answers 0 g.outputs) end.Released))
 
 -- the row of outputs: each has the value part that its OUT answered
 abbrev pub outputs_of : Lists → List Answer → List ℤ
-outputs_of g answers = map (λ o. value_part (word_at answers o.op)) g.outputs
+outputs_of g answers = map (λ o. value_part g.profile (word_at answers o.op)) g.outputs
 
 -- what the cells hold next: each has the word that its STORE answered
 abbrev pub stored_words : Lists → List Answer → List ℤ
@@ -67,41 +68,41 @@ stored_words g answers = map (λ n. word_at answers n) g.stores
 
 -- what the cells hold before cycle 0: each has the word of its initial value with the signature of its STORE, at stamp 0
 abbrev pub initial_words : Lists → ℕ → List ℤ
-initial_words g seed = map (λ c. coded c.init (signature seed c.store)) (cells g)
+initial_words g seed = map (λ c. coded g.profile c.init (signature g.profile seed c.store)) (cells g)
 
 -- the value part that each of these outputs' OUT answered is in the output's type
-abbrev pub AllInside : List Answer → List Outlet → Type 0
-AllInside answers [] = Unit {0}
-AllInside answers (o ∷ outputs) = (fits o.ty (value_part (word_at answers o.op)) ≡ true) × AllInside answers outputs
+abbrev pub AllInside : Profile → List Answer → List Outlet → Type 0
+AllInside p answers [] = Unit {0}
+AllInside p answers (o ∷ outputs) = (fits o.ty (value_part p (word_at answers o.op)) ≡ true) × AllInside p answers outputs
 
 -- the residue that each of these outputs' OUT answered in cycle n is the expected one
-abbrev pub AllExpected : Numbers → ℕ → List Answer → List Outlet → Type 0
-AllExpected t n answers [] = Unit {0}
-AllExpected t n answers (o ∷ outputs) = (modulo (word_at answers o.op) ≡ expected t.seed t.step o.op n) × AllExpected t n answers outputs
+abbrev pub AllExpected : Profile → Numbers → ℕ → List Answer → List Outlet → Type 0
+AllExpected p t n answers [] = Unit {0}
+AllExpected p t n answers (o ∷ outputs) = (modulo p (word_at answers o.op) ≡ expected p t.seed t.step o.op n) × AllExpected p t n answers outputs
 
 -- Every operation was answered by a word, every OUT's value part is in the type of its output, and every OUT's residue is the expected one.
 pub record Accepted (g : Lists) (t : Numbers) (n : ℕ) (answers : List Answer) : Type 0 where
   pub all : length answers ≡ length g.operations
   pub words : AllWords answers
-  pub inside : AllInside answers g.outputs
-  pub expected : AllExpected t n answers g.outputs
+  pub inside : AllInside g.profile answers g.outputs
+  pub expected : AllExpected g.profile t n answers g.outputs
 
 -- operation k answered this stop
 abbrev pub Answered : List Answer → ℕ → StopKind → Type 0
 Answered answers k why = (a : Answer) × (slice_get answers k ≡ Some a) × (stop_of a ≡ Some why)
 
 -- one of these outputs has operation k as its OUT, which answered a value part outside the output's type
-abbrev pub Outside : List Answer → List Outlet → ℕ → Type 0
-Outside answers outputs k = (i : ℕ) × (o : Outlet) × (slice_get outputs i ≡ Some o) × (o.op ≡ k) × (fits o.ty (value_part (word_at answers k)) ≡ false)
+abbrev pub Outside : Profile → List Answer → List Outlet → ℕ → Type 0
+Outside p answers outputs k = (i : ℕ) × (o : Outlet) × (slice_get outputs i ≡ Some o) × (o.op ≡ k) × (fits o.ty (value_part p (word_at answers k)) ≡ false)
 
 -- the OUT of output i answered this residue in cycle n, where another one is expected
-abbrev pub Unexpected : Numbers → ℕ → List Answer → List Outlet → ℕ → ℕ → ℕ → Type 0
-Unexpected t n answers outputs i found wanted =
-    (o : Outlet) × (slice_get outputs i ≡ Some o) × (found ≡ modulo (word_at answers o.op)) × (wanted ≡ expected t.seed t.step o.op n) × (found ≢ wanted)
+abbrev pub Unexpected : Profile → Numbers → ℕ → List Answer → List Outlet → ℕ → ℕ → ℕ → Type 0
+Unexpected p t n answers outputs i found wanted =
+    (o : Outlet) × (slice_get outputs i ≡ Some o) × (found ≡ modulo p (word_at answers o.op)) × (wanted ≡ expected p t.seed t.step o.op n) × (found ≢ wanted)
 
 -- Why a cycle with these answers ends so: all is accepted; or that operation answered that stop, or is an OUT whose value part
 -- is outside its output's type; or that output has that residue, and not the expected one.
 abbrev pub Cause : Lists → Numbers → ℕ → List Answer → CycleEnd → Type 0
 Cause g t n answers end.Released = Accepted g t n answers
-Cause g t n answers (end.Stopped k why) = Answered answers k why ⊎ ((why ≡ stop.Operand) × Outside answers g.outputs k)
-Cause g t n answers (end.Refused i found wanted) = Unexpected t n answers g.outputs i found wanted
+Cause g t n answers (end.Stopped k why) = Answered answers k why ⊎ ((why ≡ stop.Operand) × Outside g.profile answers g.outputs k)
+Cause g t n answers (end.Refused i found wanted) = Unexpected g.profile t n answers g.outputs i found wanted

@@ -1,6 +1,7 @@
 pub mod Calls
 pub mod CycleEnds
 pub mod Honest
+pub mod Laws
 pub mod Runs
 pub mod Sound
 pub mod State

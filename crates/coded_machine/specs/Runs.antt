@@ -92,12 +92,17 @@ pub record Ended (old new : State) (row : List ℤ) (calls : List Entry) (e : Cy
   pub end_is : e ≡ end_of old.graph old.table old.cycles new.answers
   pub machine : new ≡ after_end (with_answers old new.answers) e
 
+-- what carrying the calls of a machine's cycle, from one state to another, left of a unit
+abbrev pub CarriedCycle : State → State → List ℤ → Option (List Entry) → Option (List Entry) → ℕ → ℕ → Type 0
+CarriedCycle old new row told_before told_now wrong_before wrong_now =
+    Carried (CallsOf (setting old row) new.answers) told_before told_now wrong_before wrong_now
+
 -- A cycle of a machine with no end before, from one state to another, as `Machine::cycle` promises it: it is whole, the log grew
 -- by its calls, its end is the one that is read off its answers, and the machine is as that end leaves it.
 pub record Turn (old new : State) (row : List ℤ) (e : CycleEnd) (told_before told_now : Option (List Entry)) (wrong_before wrong_now : ℕ) : Type 0 where
   pub going : old.ended ≡ None
   pub whole : Whole old.graph.operations new.answers
-  pub carried : Carried (CallsOf (setting old row) new.answers) told_before told_now wrong_before wrong_now
+  pub carried : CarriedCycle old new row told_before told_now wrong_before wrong_now
   pub end_is : e ≡ end_of old.graph old.table old.cycles new.answers
   pub machine : new ≡ after_end (with_answers old new.answers) e
 

@@ -136,6 +136,7 @@ pub fn operation_call(graph: &Graph, table: &Table, i: u32, cycle: u32, operands
 {
     let op = graph.operation(i);
     Call {
+        profile: graph.profile(),
         op: i,
         cycle,
         kind: op.kind,

@@ -8,7 +8,7 @@ ghost use Rattle.coded_machine.specs.Calls.{word_at as word_at_of};
 ghost use Rattle.coded_machine.specs.CycleEnds.{stop_of as stop_of_answer, first_stop as first_stop_of, first_outside as first_outside_of, first_refused as first_refused_of, end_of};
 ghost use Rattle.coded_machine.specs.declared.cycle_end.CycleEnd.TheVariants.{Released};
 ghost use Rattle.op_graph.specs.Rules.{IsGraph};
-ghost use Rattle.signature_table.specs.Signatures.{IsTableOf};
+ghost use Rattle.signature_table.specs.Signatures.{IsTableOf, expected as expected_of};
 
 use crate::calling::word_at;
 use coded_unit::Answer;
@@ -89,19 +89,22 @@ fn first_stop(answers: &[Answer]) -> Option<CycleEnd>
 }
 
 /// Whether the value that an output's OUT answered is in the output's type.
-fn is_inside(outlet: &Outlet, answers: &[Answer]) -> bool
-    ensures { result ≡ fits_of outlet.now.ty (value_part (word_at_of answers.now outlet.now.op)) }
+fn is_inside(graph: &Graph, outlet: &Outlet, answers: &[Answer]) -> bool
+    ensures { result ≡ fits_of outlet.now.ty (value_part graph.now.profile (word_at_of answers.now outlet.now.op)) }
 {
-    fits(outlet.ty, word_at(answers, outlet.op).split().0)
+    fits(
+        outlet.ty,
+        word_at(answers, outlet.op).split(graph.profile()).0,
+    )
 }
 
 /// The first output whose value is outside its type.
 fn first_outside(graph: &Graph, answers: &[Answer]) -> Option<CycleEnd>
-    ensures { result ≡ first_outside_of answers.now graph.now.outputs }
+    ensures { result ≡ first_outside_of graph.now.profile answers.now graph.now.outputs }
 {
     'outputs: for i in 0..graph.outputs() {
         let outlet = graph.output(i);
-        if !is_inside(&outlet, answers) {
+        if !is_inside(graph, &outlet, answers) {
             return Some(CycleEnd::Stopped {
                 op: outlet.op,
                 kind: StopKind::Operand,
@@ -112,10 +115,20 @@ fn first_outside(graph: &Graph, answers: &[Answer]) -> Option<CycleEnd>
 }
 
 /// The residue of the word that operation `k` answered.
-fn residue_at(answers: &[Answer], k: u32) -> Residue
-    ensures { result ≡ modulo (word_at_of answers.now k) }
+fn residue_at(graph: &Graph, answers: &[Answer], k: u32) -> Residue
+    ensures { result ≡ modulo graph.now.profile (word_at_of answers.now k) }
 {
-    word_at(answers, k).split().1
+    word_at(answers, k).split(graph.profile()).1
+}
+
+/// The residue that the word of operation `k` has in a cycle where nothing is amiss.
+fn expected_at(graph: &Graph, table: &Table, k: u32, cycle: u32) -> Residue
+    requires operation { k < length table.now.corrections }
+    requires table { IsTableOf table.now graph.now }
+    requires cycle { cycle < most_cycles }
+    ensures { result ≡ expected_of graph.now.profile table.now.seed table.now.step k cycle }
+{
+    table.expected(k, cycle)
 }
 
 /// The first output whose residue is not the expected one.
@@ -123,14 +136,14 @@ fn first_refused(graph: &Graph, table: &Table, cycle: u32, answers: &[Answer]) -
     requires graph { IsGraph graph.now }
     requires table { IsTableOf table.now graph.now }
     requires cycle { cycle < most_cycles }
-    ensures { result ≡ first_refused_of table.now cycle answers.now 0 graph.now.outputs }
+    ensures { result ≡ first_refused_of graph.now.profile table.now cycle answers.now 0 graph.now.outputs }
 {
     // The OUT of each output is an operation.
     entries_keep_their_rules();
     'outputs: for i in 0..graph.outputs() {
         let outlet = graph.output(i);
-        let found = residue_at(answers, outlet.op);
-        let expected = table.expected(outlet.op, cycle);
+        let found = residue_at(graph, answers, outlet.op);
+        let expected = expected_at(graph, table, outlet.op, cycle);
         if found != expected {
             return Some(CycleEnd::Refused {
                 output: i,

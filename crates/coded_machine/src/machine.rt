@@ -1,15 +1,14 @@
 //! The machine: its registers, its coded memory and its checker.
 
-ghost use Rattle.std.specs.Prelude.{◌≡◌, ◌≢◌, ◌<◌, ◌≤◌, ◌+◌, ◌↔◌, ◌++◌, ◌∷◌, ◌-◌, ◌^◌, ℤ, List, [], false, cond, None, Some, IsNone, IsSome, IfSome, IfOk, length, slice_get, vec_capacity};
+ghost use Rattle.std.specs.Prelude.{◌≡◌, ◌≢◌, ◌<◌, ◌≤◌, ◌+◌, ◌↔◌, ◌++◌, ◌∷◌, ◌-◌, ◌^◌, [], false, cond, None, Some, IsNone, IsSome, IfSome, IfOk, length, slice_get, vec_capacity};
 ghost use Rattle.vcp_base.specs.Limits.{most_cycles};
 ghost use Rattle.coded_unit.specs.Asked.{Asked};
-ghost use Rattle.op_graph.specs.declared.op.Op.{Op as Operation};
 ghost use Rattle.op_graph.specs.GraphRun.{initial};
 ghost use Rattle.signature_table.specs.Signatures.{stamp_before, IsTableOf};
-ghost use Rattle.coded_machine.specs.Calls.{CallsOf, call_of, Next, Whole, Carried};
+ghost use Rattle.coded_machine.specs.Calls.{call_of, CallsNextOperation, Next, Whole};
 ghost use Rattle.coded_machine.specs.CycleEnds.{end_of, end_or, first_outside, Accepted, Cause};
-ghost use Rattle.coded_machine.specs.Honest.{CellsHold, FollowsGraph};
-ghost use Rattle.coded_machine.specs.Runs.{Turn};
+ghost use Rattle.coded_machine.specs.Honest.{CellsHold, FollowsFromCells};
+ghost use Rattle.coded_machine.specs.Runs.{CarriedCycle, Turn};
 ghost use Rattle.coded_machine.specs.State.{fresh, given as given_of, setting, Awaits, Finished, with_answer, with_answers, after_end, row_after, word_in};
 ghost use Rattle.coded_machine.specs.declared.cycle_end.CycleEnd.TheVariants.{Released};
 
@@ -124,7 +123,7 @@ impl<'a> Machine<'a> {
         ensures none { IsNone result ↔ Finished self.now }
         ensures some { IsSome result ↔ Awaits self.now }
         ensures next { IfSome result (λ call. Next (setting self.now row.now) (given_of self.now) call) }
-        ensures call { IfSome result (λ call. (op : Operation) → slice_get self.now.graph.operations (length (given_of self.now)) ≡ Some op → call ≡ call_of (setting self.now row.now) op (given_of self.now)) }
+        ensures call { IfSome result (λ call. CallsNextOperation (setting self.now row.now) (given_of self.now) call) }
         ensures asked { IfSome result (λ call. Asked call) }
     {
         match self.pending() {
@@ -233,7 +232,7 @@ impl<'a> Machine<'a> {
     fn release(&mut self, out: &mut Row)
         requires cycle { self.old.cycles < most_cycles }
         requires going { self.old.ended ≡ None }
-        requires inside { first_outside (given_of self.old) self.old.graph.outputs ≡ None }
+        requires inside { first_outside self.old.graph.profile (given_of self.old) self.old.graph.outputs ≡ None }
         requires out { length out.old ≡ length self.old.graph.outputs }
         ensures machine { self.new ≡ after_end self.old Released }
         ensures out { out.new ≡ row_after self.old Released out.old }
@@ -266,7 +265,7 @@ impl<'a> Machine<'a> {
         requires between { self.old.under_way ≡ false }
         requires out { length out.old ≡ length self.old.graph.outputs }
         ensures whole { self.old.ended ≡ None → Whole self.old.graph.operations self.new.answers }
-        ensures carried { self.old.ended ≡ None → Carried (CallsOf (setting self.old row.now) self.new.answers) (U.log unit.old) (U.log unit.new) (U.wrong unit.old) (U.wrong unit.new) }
+        ensures carried { self.old.ended ≡ None → CarriedCycle self.old self.new row.now (U.log unit.old) (U.log unit.new) (U.wrong unit.old) (U.wrong unit.new) }
         ensures end { self.old.ended ≡ None → result ≡ end_of self.old.graph self.old.table self.old.cycles self.new.answers }
         ensures machine { self.old.ended ≡ None → self.new ≡ after_end (with_answers self.old self.new.answers) result }
         ensures out { self.old.ended ≡ None → out.new ≡ row_after (with_answers self.old self.new.answers) result out.old }
@@ -279,7 +278,7 @@ impl<'a> Machine<'a> {
         ensures cycles { self.new.cycles ≤ self.old.cycles + 1 }
         ensures width { length out.new ≡ length out.old }
         ensures turn { self.old.ended ≡ None → Turn self.old self.new row.now result (U.log unit.old) (U.log unit.new) (U.wrong unit.old) (U.wrong unit.new) }
-        ensures honest { self.old.ended ≡ None → U.wrong unit.new ≡ U.wrong unit.old → U.wrong unit.old < 2 ^ 64 - 1 → (values : List ℤ) → CellsHold self.old.graph self.old.table.seed (stamp_before self.old.table.step self.old.cycles) self.old.held values → FollowsGraph self.old self.new values row.now result out.new }
+        ensures honest { self.old.ended ≡ None → U.wrong unit.new ≡ U.wrong unit.old → U.wrong unit.old < 2 ^ 64 - 1 → FollowsFromCells self.old self.new row.now result out.new }
     {
         if let Some(end) = self.ended {
             return end;
@@ -296,7 +295,7 @@ impl<'a> Machine<'a> {
         requires going { self.old.ended ≡ None }
         ensures given { given_of self.new ≡ self.new.answers }
         ensures whole { Whole self.old.graph.operations self.new.answers }
-        ensures carried { Carried (CallsOf (setting self.old row.now) self.new.answers) (U.log unit.old) (U.log unit.new) (U.wrong unit.old) (U.wrong unit.new) }
+        ensures carried { CarriedCycle self.old self.new row.now (U.log unit.old) (U.log unit.new) (U.wrong unit.old) (U.wrong unit.new) }
         ensures machine { self.new ≡ record self.old { answers = self.new.answers; under_way = self.new.under_way } }
     {
         // A field is read, so that the proof knows what holds of every machine.

@@ -16,23 +16,23 @@ use vcp_base::{Memory, Row};
 
 /// Sets the row to the values of the outputs, which are in their types.
 pub(crate) fn set_outputs(graph: &Graph, answers: &[Answer], out: &mut Row)
-    requires inside { first_outside_of answers.now graph.now.outputs ≡ None }
+    requires inside { first_outside_of graph.now.profile answers.now graph.now.outputs ≡ None }
     requires cells { length out.old ≡ length graph.now.outputs }
     ensures { out.new ≡ outputs_of graph.now answers.now }
 {
     'outputs: for i in 0..graph.outputs() {
         let outlet = graph.output(i);
-        set_output(out, i, word_at(answers, outlet.op));
+        set_output(graph, out, i, word_at(answers, outlet.op));
     }
 }
 
 /// Sets one place of the row to the value of a word.
-fn set_output(out: &mut Row, i: u32, word: Word)
+fn set_output(graph: &Graph, out: &mut Row, i: u32, word: Word)
     requires place { i < length out.old }
-    requires value { FitsSigned w64 (value_part word) }
-    ensures { out.new ≡ slice_set out.old i (value_part word) }
+    requires value { FitsSigned w64 (value_part graph.now.profile word) }
+    ensures { out.new ≡ slice_set out.old i (value_part graph.now.profile word) }
 {
-    out.set(i, word.split().0 as i64);
+    out.set(i, word.split(graph.profile()).0 as i64);
 }
 
 /// Sets the words of the cells to those that their STOREs answered.
@@ -47,11 +47,16 @@ pub(crate) fn store_words(graph: &Graph, answers: &[Answer], held: &mut [Word])
 
 /// The word of a cell before the first cycle: that of its initial value, with the signature of its
 /// STORE at stamp 0.
-fn first_word(table: &Table, cell: &Cell) -> Word
-    requires { cell.now.store < length table.now.corrections }
-    ensures { result ≡ coded cell.now.init (signature table.now.seed cell.now.store) }
+fn first_word(graph: &Graph, table: &Table, cell: &Cell) -> Word
+    requires operation { cell.now.store < length table.now.corrections }
+    requires table { IsTableOf table.now graph.now }
+    ensures { result ≡ coded graph.now.profile cell.now.init (signature graph.now.profile table.now.seed cell.now.store) }
 {
-    Word::packed(cell.init as i128, table.signature(cell.store))
+    Word::packed(
+        graph.profile(),
+        cell.init as i128,
+        table.signature(cell.store),
+    )
 }
 
 /// The words of the cells before the first cycle.
@@ -65,7 +70,7 @@ pub(crate) fn first_words(alloc: Global, graph: &Graph, table: &Table) -> Result
     entries_keep_their_rules();
     let mut held = Vec::with_capacity(alloc, graph.cells() as usize)?;
     'cells: for i in 0..graph.cells() {
-        held.push(first_word(table, &graph.cell(i)))?;
+        held.push(first_word(graph, table, &graph.cell(i)))?;
     }
     Ok(held)
 }

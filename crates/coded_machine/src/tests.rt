@@ -11,7 +11,7 @@ use op_graph::{Build, Graph, GraphBuilder, Op};
 use signature_table::Table;
 use std::alloc::Global;
 use std::test::Fail;
-use vcp_base::{Kind, Memory, Row, Spot, StopKind, Text, Ty};
+use vcp_base::{Kind, Memory, Profile, Row, Spot, StopKind, Text, Ty};
 
 /// An operation on DINT values, which reads `a` and `b`.
 fn on_dint(kind: Kind, a: u32, b: u32, imm: i64) -> Op
@@ -30,13 +30,24 @@ fn on_dint(kind: Kind, a: u32, b: u32, imm: i64) -> Op
     }
 }
 
+/// An operation on LINT values, which reads `a` and `b`.
+fn on_lint(kind: Kind, a: u32, b: u32, imm: i64) -> Op
+    ensures { result ≡ record { kind = kind; from = Ty.Lint; ty = Ty.Lint; a = a; b = b; c = 0; imm = imm; spot = record { line = 4; col = 8 }; turn = 0 } }
+{
+    Op {
+        from: Ty::Lint,
+        ty: Ty::Lint,
+        ..on_dint(kind, a, b, imm)
+    }
+}
+
 /// The graph of `n := n + 1; y := n;`: LOAD, CONST, ADD, OUT, STORE.
 fn counter(alloc: Global) -> Result<Graph, Build>
     ensures outputs { IfOk result (λ graph. length graph.outputs ≡ 1) }
     ensures operations { IfOk result (λ graph. length graph.operations ≡ 5) }
 {
     let spot = Spot { line: 3, col: 5 };
-    let mut builder = GraphBuilder::new(alloc);
+    let mut builder = GraphBuilder::new(alloc, Profile::Narrow);
     builder.name(&Text::copy_of(alloc, b"y")?)?;
     builder.name(&Text::copy_of(alloc, b"n")?)?;
     let n = builder.load(1, Ty::Dint, 0, spot)?;
@@ -52,13 +63,28 @@ fn increment(alloc: Global) -> Result<Graph, Build>
     ensures { IfOk result (λ graph. length graph.outputs ≡ 1) }
 {
     let spot = Spot { line: 2, col: 11 };
-    let mut builder = GraphBuilder::new(alloc);
+    let mut builder = GraphBuilder::new(alloc, Profile::Narrow);
     builder.name(&Text::copy_of(alloc, b"x")?)?;
     builder.name(&Text::copy_of(alloc, b"y")?)?;
     let x = builder.input(0, Ty::Dint, spot)?;
     let one = builder.push(on_dint(Kind::Const, 0, 0, 1))?;
     let sum = builder.push(on_dint(Kind::Add, x, one, 0))?;
     builder.output(1, Ty::Dint, sum, spot)?;
+    Ok(builder.finish())
+}
+
+/// The graph of `y := x + 1;` on LINT in the wide code: INPUT, CONST, ADD, OUT.
+fn increment_of_lint(alloc: Global) -> Result<Graph, Build>
+    ensures { IfOk result (λ graph. length graph.outputs ≡ 1) }
+{
+    let spot = Spot { line: 2, col: 11 };
+    let mut builder = GraphBuilder::new(alloc, Profile::Wide);
+    builder.name(&Text::copy_of(alloc, b"x")?)?;
+    builder.name(&Text::copy_of(alloc, b"y")?)?;
+    let x = builder.input(0, Ty::Lint, spot)?;
+    let one = builder.push(on_lint(Kind::Const, 0, 0, 1))?;
+    let sum = builder.push(on_lint(Kind::Add, x, one, 0))?;
+    builder.output(1, Ty::Lint, sum, spot)?;
     Ok(builder.finish())
 }
 
@@ -239,14 +265,17 @@ fn a_call_is_made_outside_a_machine(rt: HostRuntime) -> Result<(), Fail> {
     let table = Table::new(rt.alloc(), &graph, 0, 1)?;
     // The ADD of the second cycle reads the words 2147483649 and 2362232014.
     let operands = Operands {
-        a: Word::packed(1, 2),
-        b: Word::packed(1, 214748367),
+        a: Word::packed(Profile::Narrow, 1, 2),
+        b: Word::packed(Profile::Narrow, 1, 214748367),
         c: Word::ZERO,
         input: 0,
     };
     let call = operation_call(&graph, &table, 2, 1, &operands);
     assert_eq!(rt; (call.op, call.cycle, call.stamp), (2, 1, 2));
-    assert_eq!(rt; answer(&call), Answer::Word(Word::packed(2, 429496732)));
+    assert_eq!(rt;
+        answer(&call),
+        Answer::Word(Word::packed(Profile::Narrow, 2, 429496732))
+    );
     Ok(())
 }
 
@@ -277,6 +306,34 @@ fn values_have_their_words(rt: HostRuntime) -> Result<(), Fail> {
 }
 
 #[test]
+fn wide_values_have_their_words(rt: HostRuntime) -> Result<(), Fail> {
+    let graph = increment_of_lint(rt.alloc())?;
+    let first = row_of(rt.alloc(), 5)?;
+    let later = row_of(rt.alloc(), 9223372036854775807)?;
+    let seen = three_cycles(rt.alloc(), &graph, &mut CpuUnit::new(), &first, &later)?;
+    let words = [
+        11529215046068469756,
+        3228180212899171533,
+        14526810958046271893,
+        14296226657124902498,
+        0,
+    ];
+    assert_eq!(rt; (seen[0].y, seen[0].words), (6, words));
+    let stopped = CycleEnd::Stopped {
+        op: 2,
+        kind: StopKind::Range,
+    };
+    assert_eq!(rt; [seen[0].end, seen[1].end], [CycleEnd::Released, stopped]);
+    let last = row_of(rt.alloc(), 9223372036854775806)?;
+    let seen = three_cycles(rt.alloc(), &graph, &mut CpuUnit::new(), &last, &last)?;
+    assert_eq!(rt;
+        (seen[0].end, seen[0].y),
+        (CycleEnd::Released, 9223372036854775807)
+    );
+    Ok(())
+}
+
+#[test]
 fn a_stop_is_repeated(rt: HostRuntime) -> Result<(), Fail> {
     let graph = increment(rt.alloc())?;
     let first = row_of(rt.alloc(), 7)?;
@@ -298,7 +355,7 @@ fn a_stop_is_repeated(rt: HostRuntime) -> Result<(), Fail> {
 fn a_wrong_residue_is_refused(rt: HostRuntime) -> Result<(), Fail> {
     let graph = counter(rt.alloc())?;
     let mut unit = BadUnit::new(rt.alloc(), 15)?;
-    unit.replace(7, Answer::Word(Word::packed(2, 5)))?;
+    unit.replace(7, Answer::Word(Word::packed(Profile::Narrow, 2, 5)))?;
     let refused = CycleEnd::Refused {
         output: 0,
         found: 214748370,

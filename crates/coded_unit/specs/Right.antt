@@ -1,5 +1,6 @@
 -- Right: the right answer to a call. No other definition computes the word of an answer.
 use Rattle.std.specs.Prelude.{ℕ, ℤ, pos, ◌+ℤ◌, ◌-ℤ◌, ◌*ℤ◌, Ok, Err}
+use Rattle.vcp_base.specs.declared.code.Profile.{Profile}
 use Rattle.vcp_base.specs.declared.kind.Kind.{Kind}
 use Rattle.vcp_base.specs.declared.kind.StopKind.TheVariants as stop
 use Rattle.vcp_base.specs.Kinds.{multiplier, Outcome, outcome}
@@ -13,25 +14,28 @@ abbrev pub stamp_share : Kind → ℤ
 stamp_share k = pos 1 -ℤ multiplier k 0 -ℤ multiplier k 1 -ℤ multiplier k 2
 
 -- the residue of an answer, from the residues r, s, t of the operands, the correction and the stamp
-abbrev pub residue : Kind → ℕ → ℕ → ℕ → ℕ → ℕ → ℕ
-residue k r s t corr stamp =
-    modulo
+abbrev pub residue : Profile → Kind → ℕ → ℕ → ℕ → ℕ → ℕ → ℕ
+residue p k r s t corr stamp =
+    modulo p
     (multiplier k 0 *ℤ pos r +ℤ multiplier k 1 *ℤ pos s +ℤ multiplier k 2 *ℤ pos t +ℤ pos corr +ℤ stamp_share k *ℤ pos stamp)
 
 -- the residue of the answer to a call
 abbrev pub residue_of : Call → ℕ
-residue_of call = residue call.kind (modulo call.a) (modulo call.b) (modulo call.c) call.corr call.stamp
+residue_of call =
+    residue call.profile call.kind (modulo call.profile call.a) (modulo call.profile call.b) (modulo call.profile call.c)
+    call.corr call.stamp
 
 -- the answer that tells an outcome: the word of the value and this residue, or why there is none
-abbrev pub answer_of : Outcome → ℕ → Answer
-answer_of (Ok v) r = answer.Word (coded v r)
-answer_of (Err stop.Range) r = answer.Range
-answer_of (Err stop.DivZero) r = answer.DivZero
-answer_of (Err stop.Operand) r = answer.Operand
+abbrev pub answer_of : Profile → Outcome → ℕ → Answer
+answer_of p (Ok v) r = answer.Word (coded p v r)
+answer_of p (Err stop.Range) r = answer.Range
+answer_of p (Err stop.DivZero) r = answer.DivZero
+answer_of p (Err stop.Operand) r = answer.Operand
 
 -- the right answer to a call: the outcome of its kind at the value parts of its operands, with the residue of the call
 abbrev pub Right : Call → Answer
 Right call =
-    answer_of
-    (outcome call.kind call.from call.ty call.imm (value_part call.a) (value_part call.b) (value_part call.c))
+    answer_of call.profile
+    (outcome call.kind call.from call.ty call.imm (value_part call.profile call.a) (value_part call.profile call.b)
+    (value_part call.profile call.c))
     (residue_of call)

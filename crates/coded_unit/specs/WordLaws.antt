@@ -1,16 +1,18 @@
 -- WordLaws: how integers split into value parts and residues.
 use Rattle.std.specs.Prelude.{ℕ, ◌≡◌, ◌<◌, ℤ, pos, ◌+ℤ◌, ◌*ℤ◌}
-use Rattle.vcp_base.specs.Code.{A}
+use Rattle.vcp_base.specs.declared.code.Profile.{Profile}
+use Rattle.vcp_base.specs.Code.{modulus}
 use Rattle.coded_unit.specs.Words.{modulo, value_part, coded}
 
--- An integer is the word of its value part and its residue, and of no other value and residue below A. A number below A is
--- its own residue, and integers that differ by a multiple of A have one residue.
-pub record WordLaws : Type 0 where
-  pub whole : (z : ℤ) → z ≡ coded (value_part z) (modulo z)
-  pub below : (z : ℤ) → modulo z < A
-  pub one : (v w : ℤ) (r s : ℕ) → r < A → s < A → coded v r ≡ coded w s → (v ≡ w) × (r ≡ s)
-  pub value : (v : ℤ) (r : ℕ) → r < A → value_part (coded v r) ≡ v
-  pub residue : (v : ℤ) (r : ℕ) → r < A → modulo (coded v r) ≡ r
-  pub small : (n : ℕ) → n < A → modulo (pos n) ≡ n
-  pub multiple : (z y k : ℤ) → z ≡ y +ℤ pos A *ℤ k → modulo z ≡ modulo y
-  pub zero : coded (pos 0) 0 ≡ pos 0
+-- In each code an integer is the word of its value part and its residue, and of no other value and residue below the
+-- constant. A number below the constant is its own residue, and integers that differ by a multiple of the constant have one
+-- residue.
+pub record WordLaws (p : Profile) : Type 0 where
+  pub whole : (z : ℤ) → z ≡ coded p (value_part p z) (modulo p z)
+  pub below : (z : ℤ) → modulo p z < modulus p
+  pub one : (v w : ℤ) (r s : ℕ) → r < modulus p → s < modulus p → coded p v r ≡ coded p w s → (v ≡ w) × (r ≡ s)
+  pub value : (v : ℤ) (r : ℕ) → r < modulus p → value_part p (coded p v r) ≡ v
+  pub residue : (v : ℤ) (r : ℕ) → r < modulus p → modulo p (coded p v r) ≡ r
+  pub small : (n : ℕ) → n < modulus p → modulo p (pos n) ≡ n
+  pub multiple : (z y k : ℤ) → z ≡ y +ℤ pos (modulus p) *ℤ k → modulo p z ≡ modulo p y
+  pub zero : coded p (pos 0) 0 ≡ pos 0

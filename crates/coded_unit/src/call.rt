@@ -1,13 +1,15 @@
 //! Calls of a unit, and its answers.
 
 use crate::word::Word;
-use vcp_base::{Kind, Residue, Ty};
+use vcp_base::{Kind, Profile, Residue, Ty};
 
 /// One elementary operation, with all that a unit is told of it.
 ///
 /// An operand that the kind does not have is `Word::ZERO` by custom; no answer depends on it.
 #[derive(Clone, Copy, Debug, PartialEq, Eq)]
 pub struct Call {
+    /// The code of its words.
+    pub profile: Profile,
     /// The number of the operation in its program, from 0.
     pub op: u32,
     /// The number of the cycle, from 0.
@@ -26,8 +28,8 @@ pub struct Call {
     pub c: Word,
     /// The value of an INPUT or a CONST; no other kind reads it.
     pub imm: i64,
-    /// The correction, below `A`: what the answer's signature has beyond the operands' signatures,
-    /// each times its multiplier.
+    /// The correction, below the constant of the code: what the answer's signature has beyond the
+    /// operands' signatures, each times its multiplier.
     pub corr: Residue,
     /// The stamp of the cycle, at most 1,000,000,000.
     pub stamp: u32,

@@ -1,13 +1,15 @@
 //! Laws of words and of right answers.
 
+ghost use Rattle.vcp_base.specs.declared.code.Profile.{Profile};
 ghost use Rattle.coded_unit.specs.declared.call.Call.{Call};
 ghost use Rattle.coded_unit.specs.Right.{Right};
 ghost use Rattle.coded_unit.specs.Step.{StepLaw, ExchangedLaw};
 ghost use Rattle.coded_unit.specs.WordLaws.{WordLaws};
 
-/// Integers split into a value part and a residue in one way. It does nothing: it states a law.
+/// In each code integers split into a value part and a residue in one way. It does nothing: it states
+/// a law.
 pub fn words_split_in_one_way()
-    ensures { WordLaws }
+    ensures { (p : Profile) → WordLaws p }
 {}
 
 /// The right answer to every call keeps the step law, also where the kind that is carried out is not

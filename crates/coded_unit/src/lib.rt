@@ -1,8 +1,8 @@
 //! Coded words, and the units that work on them.
 //!
-//! A coded word is `A*v + r`: a value `v` and a residue `r` below `A`. A call names one elementary
-//! operation with its operands; `table::answer` gives the right answer to it, and a `Unit` does
-//! calls, rightly or not, and tells what it did.
+//! A coded word is `A*v + r`: a value `v` and a residue `r` below `A`, the constant of its code. A
+//! call names one elementary operation with its operands; `table::answer` gives the right answer to
+//! it, and a `Unit` does calls, rightly or not, and tells what it did.
 #![tactic(auto)]
 
 mod bad_unit;

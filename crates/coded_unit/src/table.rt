@@ -1,16 +1,16 @@
 //! The right answer to a call.
 
 ghost use Rattle.std.specs.Prelude.{◌≡◌, ◌<◌, ◌^◌, ℤ, pos, negsuc, ◌*ℤ◌, ◌+ℤ◌, ◌≤ℤ◌, true, false, IfOk};
-ghost use Rattle.vcp_base.specs.Code.{A as code_constant};
+ghost use Rattle.vcp_base.specs.Code.{modulus as modulus_of};
 ghost use Rattle.vcp_base.specs.Kinds.{operand_type as operand_type_of, takes as takes_of, operands_fit as operands_fit_of, divides_by_zero as divides_by_zero_of, value as value_of, truth as truth_of, outcome as outcome_of};
 ghost use Rattle.coded_unit.specs.Asked.{Asked};
-ghost use Rattle.coded_unit.specs.Words.{Small};
+ghost use Rattle.coded_unit.specs.Words.{Short, Small};
 ghost use Rattle.coded_unit.specs.Right.{residue as residue_of, stamp_share as stamp_share_of, Right};
 ghost use Rattle.coded_unit.specs.Step.{StepLaw};
 
 use crate::call::{Answer, Call};
-use crate::word::{Word, remainder};
-use vcp_base::{Kind, Residue, StopKind, Ty, fits, multiplier, operands};
+use crate::word::{Word, narrow_remainder, remainder};
+use vcp_base::{Kind, Profile, Residue, StopKind, Ty, fits, multiplier, operands};
 
 /// The right answer to a call.
 ///
@@ -26,15 +26,20 @@ pub fn answer(call: &Call) -> Answer
     right(call)
 }
 
-/// The right answer to a call.
+/// The right answer to a call whose correction is a residue of its code.
 fn right(call: &Call) -> Answer
+    requires { call.now.corr < modulus_of call.now.profile }
     ensures { result ≡ Right call.now }
 {
-    let (a, r) = call.a.split();
-    let (b, s) = call.b.split();
-    let (c, t) = call.c.split();
+    let (a, r) = call.a.split(call.profile);
+    let (b, s) = call.b.split(call.profile);
+    let (c, t) = call.c.split(call.profile);
     match outcome(call, a, b, c) {
-        Ok(v) => Answer::Word(Word::packed(v, residue(call.kind, r, s, t, call.corr, call.stamp))),
+        Ok(v) => Answer::Word(Word::packed(
+            call.profile,
+            v,
+            residue(call.profile, call.kind, r, s, t, call.corr, call.stamp),
+        )),
         Err(StopKind::Range) => Answer::Range,
         Err(StopKind::DivZero) => Answer::DivZero,
         Err(StopKind::Operand) => Answer::Operand,
@@ -134,16 +139,80 @@ fn truth(b: bool) -> i128
     if b { 1 } else { 0 }
 }
 
-/// The residue of an answer, from those of the operands, the correction and the stamp.
-fn residue(kind: Kind, r: Residue, s: Residue, t: Residue, corr: Residue, stamp: u32) -> Residue
-    ensures value { result ≡ residue_of kind r s t corr stamp }
-    ensures below { result < code_constant }
+/// The residue of an answer, from those of the operands, the correction and the stamp. In the narrow
+/// code it takes 64 bits, which multiply and divide faster than 128.
+fn residue(
+    profile: Profile,
+    kind: Kind,
+    r: Residue,
+    s: Residue,
+    t: Residue,
+    corr: Residue,
+    stamp: u32,
+) -> Residue
+    requires r { r < modulus_of profile }
+    requires s { s < modulus_of profile }
+    requires t { t < modulus_of profile }
+    requires corr { corr < modulus_of profile }
+    ensures value { result ≡ residue_of profile kind r s t corr stamp }
+    ensures below { result < modulus_of profile }
+{
+    match profile {
+        Profile::Narrow => narrow_residue(kind, r as u32, s as u32, t as u32, corr as u32, stamp),
+        Profile::Wide => wide_residue(kind, r, s, t, corr, stamp),
+    }
+}
+
+/// The residue of an answer in the narrow code.
+fn narrow_residue(kind: Kind, r: u32, s: u32, t: u32, corr: u32, stamp: u32) -> Residue
+    ensures value { result ≡ residue_of Profile.Narrow kind r s t corr stamp }
+    ensures below { result < 2147483647 }
+{
+    let first = short_scaled(multiplier(kind, 0), r);
+    let second = short_scaled(multiplier(kind, 1), s);
+    let third = short_scaled(multiplier(kind, 2), t);
+    let share = short_scaled(stamp_share(kind), stamp);
+    narrow_remainder(short_total(first, second, third, corr, share))
+}
+
+/// A factor times a residue or a stamp of the narrow code.
+fn short_scaled(factor: i32, by: u32) -> i64
+    requires low { negsuc 60 ≤ℤ factor }
+    requires high { factor ≤ℤ pos 61 }
+    ensures value { result ≡ factor *ℤ pos by }
+    ensures small { Short result }
+{
+    factor as i64 * by as i64
+}
+
+/// A sum of four terms and a correction of the narrow code.
+fn short_total(first: i64, second: i64, third: i64, corr: u32, share: i64) -> i64
+    requires first { Short first }
+    requires second { Short second }
+    requires third { Short third }
+    requires share { Short share }
+    ensures { result ≡ first +ℤ second +ℤ third +ℤ pos corr +ℤ share }
+{
+    first + second + third + corr as i64 + share
+}
+
+/// The residue of an answer in the wide code.
+fn wide_residue(
+    kind: Kind,
+    r: Residue,
+    s: Residue,
+    t: Residue,
+    corr: Residue,
+    stamp: u32,
+) -> Residue
+    ensures value { result ≡ residue_of Profile.Wide kind r s t corr stamp }
+    ensures below { result < 2305843009213693951 }
 {
     let first = scaled(multiplier(kind, 0), r);
     let second = scaled(multiplier(kind, 1), s);
     let third = scaled(multiplier(kind, 2), t);
-    let share = scaled(stamp_share(kind), stamp);
-    remainder(total(first, second, third, corr, share))
+    let share = scaled(stamp_share(kind), stamp as u64);
+    remainder(Profile::Wide, total(first, second, third, corr, share))
 }
 
 /// How often the stamp is added, so that it stands in the answer's residue once.
@@ -156,7 +225,7 @@ fn stamp_share(kind: Kind) -> i32
 }
 
 /// A factor times a residue or a stamp.
-fn scaled(factor: i32, by: u32) -> i128
+fn scaled(factor: i32, by: u64) -> i128
     requires low { negsuc 60 ≤ℤ factor }
     requires high { factor ≤ℤ pos 61 }
     ensures value { result ≡ factor *ℤ pos by }

@@ -1,14 +1,16 @@
 //! Worked cycles, one answer of each kind, and the ends of words.
 
-ghost use Rattle.std.specs.Prelude.{◌≡◌, ◌<◌};
+ghost use Rattle.std.specs.Prelude.{◌≡◌, ◌<◌, true};
+ghost use Rattle.vcp_base.specs.Code.{modulus, admits};
 ghost use Rattle.coded_unit.specs.Asked.{Asked};
 
 mod kinds;
+mod wide;
 
 use crate::table::answer;
 use crate::{Answer, BadUnit, Call, CpuUnit, LogUnit, Unit, Word};
 use std::test::Fail;
-use vcp_base::{Kind, Ty};
+use vcp_base::{Kind, Profile, Ty};
 
 /// The word of an answer; 0 where it has none.
 fn word_of(given: &Answer) -> Word {
@@ -32,11 +34,12 @@ fn word_answer(w: i128) -> Answer {
 }
 
 /// A call of the worked cycle, in which the stamp is 1.
-fn worked(op: u32, kind: Kind, a: &Word, b: &Word, imm: i64, corr: u32) -> Call
-    ensures corr { result.corr ≡ corr }
-    ensures stamp { result.stamp ≡ 1 }
+fn worked(op: u32, kind: Kind, a: &Word, b: &Word, imm: i64, corr: u64) -> Call
+    requires { corr < 2147483647 }
+    ensures { Asked result }
 {
     Call {
+        profile: Profile::Narrow,
         op,
         cycle: 0,
         kind,
@@ -109,6 +112,7 @@ fn counting(op: u32, cycle: u32, a: &Word, b: &Word) -> Call
         _ => (Kind::Store, 429496730),
     };
     Call {
+        profile: Profile::Narrow,
         op,
         cycle,
         kind,
@@ -193,18 +197,20 @@ fn replaced_answers_are_given_once(rt: HostRuntime) -> Result<(), Fail> {
 
 /// A call whose operands have these values and the residues 10, 20 and 30.
 fn of_values(kind: Kind, from: Ty, ty: Ty, values: [i32; 3]) -> Call
-    ensures corr { result.corr ≡ 1000 }
-    ensures stamp { result.stamp ≡ 1 }
+    requires from { admits Profile.Narrow from ≡ true }
+    requires ty { admits Profile.Narrow ty ≡ true }
+    ensures { Asked result }
 {
     Call {
+        profile: Profile::Narrow,
         op: 7,
         cycle: 2,
         kind,
         from,
         ty,
-        a: Word::packed(values[0] as i128, 10),
-        b: Word::packed(values[1] as i128, 20),
-        c: Word::packed(values[2] as i128, 30),
+        a: Word::packed(Profile::Narrow, values[0] as i128, 10),
+        b: Word::packed(Profile::Narrow, values[1] as i128, 20),
+        c: Word::packed(Profile::Narrow, values[2] as i128, 30),
         imm: -4,
         corr: 1000,
         stamp: 1,
@@ -237,7 +243,11 @@ fn kinds_have_values_and_residues(rt: HostRuntime) {
     ];
     for (kind, values, parts) in rows {
         let given = answer(&of_values(kind, Ty::Int, Ty::Int, values));
-        assert_eq!(rt; word_of(&given).split(), parts, "at {kind:?}");
+        assert_eq!(rt;
+            word_of(&given).split(Profile::Narrow),
+            parts,
+            "at {kind:?}"
+        );
     }
 }
 
@@ -261,22 +271,28 @@ fn calls_stop_in_order(rt: HostRuntime) {
         );
     }
     let mut call = of_values(Kind::Add, Ty::Dint, Ty::Dint, [0, 1, 0]);
-    call.a = Word::packed(2147483648, 10);
+    call.a = Word::packed(Profile::Narrow, 2147483648, 10);
     assert_eq!(rt; answer(&call), Answer::Operand);
 }
 
 #[test]
 fn words_split_and_end(rt: HostRuntime) -> Result<(), Fail> {
-    let bound = 39614081257132168796771975168;
+    let bound = 85070591730234615865843651857942052864;
     assert!(rt; Word::new(bound).is_none() && Word::new(-bound).is_none());
     let (Some(most), Some(least)) = (Word::new(bound - 1), Word::new(1 - bound)) else {
         assert!(rt; false, "no word at the ends");
         return Ok(());
     };
-    assert_eq!(rt; Word::packed(-1, 1).get(), -2147483646);
-    assert_eq!(rt; Word::packed(-1, 1).split(), (-1, 1));
-    assert_eq!(rt; Word::packed(-2147483648, 1).get(), -4611686016279904255);
-    assert_eq!(rt; Word::ZERO.split(), (0, 0));
+    assert_eq!(rt; Word::packed(Profile::Narrow, -1, 1).get(), -2147483646);
+    assert_eq!(rt;
+        Word::packed(Profile::Narrow, -1, 1).split(Profile::Narrow),
+        (-1, 1)
+    );
+    assert_eq!(rt;
+        Word::packed(Profile::Narrow, -2147483648, 1).get(),
+        -4611686016279904255
+    );
+    assert_eq!(rt; Word::ZERO.split(Profile::Narrow), (0, 0));
     let rows = [
         (Word::ZERO, -7, -7),
         (most, -1, bound - 2),

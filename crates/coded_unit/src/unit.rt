@@ -17,9 +17,9 @@ pub trait Unit {
     /// How many answers so far are not the right ones, up to 2^64 - 1.
     ghost wrong: { Self → ℕ };
 
-    /// Does one call that may be asked: its correction is below `A`, and its stamp at most
-    /// 1,000,000,000. It is the next entry of the log, where that is told. The answer may be wrong, and
-    /// is then counted.
+    /// Does one call that may be asked: its correction is below the constant of its code, its stamp at
+    /// most 1,000,000,000, and it has no LINT in the narrow code. It is the next entry of the log,
+    /// where that is told. The answer may be wrong, and is then counted.
     fn perform(&mut self, call: &Call) -> Answer
         requires { Asked call.now }
         ensures log { GrowsBy (log self.old) (log self.new) ((call.now, result) ∷ []) }

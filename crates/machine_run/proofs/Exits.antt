@@ -23,9 +23,9 @@ use Rattle.machine_run.specs.Moments.{Moment}
 use Rattle.machine_run.specs.Refusals.{given_up_by}
 use Rattle.machine_run.specs.RowRuns.{RunsRows, CameToEnd, EarlierWritten, texts_from}
 use Rattle.machine_run.proofs.Overall.{Fair, Over, over_all, came_to_end, whole_follows, front_follows}
-use Rattle.machine_run.proofs.Promised.{RunLaws, HonestLaws}
 use Rattle.machine_run.proofs.UpTo.{UpTo, machine_stands, machine_on, rows_on, text_here, written_on, kept_on, map_more}
 use Rattle.machine_run.proofs.Writing.{appends_on, part_written}
+use Rattle.coded_machine.specs.Laws.{RunLaws, HonestLaws}
 
 -- ---- between two cycles
 

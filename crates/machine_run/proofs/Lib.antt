@@ -1,8 +1,8 @@
 pub mod Exits
+pub mod Failing
 pub mod Longer
 pub mod Outs
 pub mod Overall
-pub mod Promised
 pub mod Stopping
 pub mod UpTo
 pub mod Writing

@@ -11,7 +11,7 @@ use Rattle.op_graph.specs.declared.op.Op.{Op}
 use Rattle.op_graph.specs.declared.op.Outlet.{Outlet}
 use Rattle.op_graph.specs.Lists.{Lists}
 use Rattle.op_graph.specs.Rules.{IsGraph, Entry, entry, found, agree, is_out, kind_fits, Place, same_type, from_fits, ty_fits, entry_of, OpFits, scope, place_of}
-use Rattle.machine_run.proofs.Promised.{EntryLaws}
+use Rattle.op_graph.specs.Laws.{EntryLaws}
 
 -- the output of an operation is the first of that operation, whose number is above those of the outputs before it
 found_at : (outputs : List Outlet) (i : ℕ) (o : Outlet) (j : ℕ) → slice_get outputs i ≡ Some o → All (λ (p : Outlet). p.op < o.op) (take i outputs) → found (λ (p : Outlet). p.op == o.op) (λ p. p.ty) j outputs ≡ Some (entry (j + i) o.ty)
@@ -45,15 +45,22 @@ out_kind p k e is fits =
     is_out_kind k (agrees (is_out k) (subst (λ o. agree (is_out k) (is_some o) ≡ true) is last))
 
 same_type_is : (a b : Ty) → same_type a b ≡ true → a ≡ b
-same_type_is ty.Bool ty.Bool e = refl
-same_type_is ty.Bool ty.Int e = absurd cc
-same_type_is ty.Bool ty.Dint e = absurd cc
-same_type_is ty.Int ty.Bool e = absurd cc
-same_type_is ty.Int ty.Int e = refl
-same_type_is ty.Int ty.Dint e = absurd cc
-same_type_is ty.Dint ty.Bool e = absurd cc
-same_type_is ty.Dint ty.Int e = absurd cc
-same_type_is ty.Dint ty.Dint e = refl
+same_type_is ty.Bool ty.Bool h = refl
+same_type_is ty.Bool ty.Int h = absurd cc
+same_type_is ty.Bool ty.Dint h = absurd cc
+same_type_is ty.Bool ty.Lint h = absurd cc
+same_type_is ty.Int ty.Bool h = absurd cc
+same_type_is ty.Int ty.Int h = refl
+same_type_is ty.Int ty.Dint h = absurd cc
+same_type_is ty.Int ty.Lint h = absurd cc
+same_type_is ty.Dint ty.Bool h = absurd cc
+same_type_is ty.Dint ty.Int h = absurd cc
+same_type_is ty.Dint ty.Dint h = refl
+same_type_is ty.Dint ty.Lint h = absurd cc
+same_type_is ty.Lint ty.Bool h = absurd cc
+same_type_is ty.Lint ty.Int h = absurd cc
+same_type_is ty.Lint ty.Dint h = absurd cc
+same_type_is ty.Lint ty.Lint h = refl
 
 -- and of the output's type
 out_type : (p : Place) (from to : Ty) (e : Entry) → p.out ≡ Some e → from_fits (entry_of p kind.Out) kind.Out from ≡ true → ty_fits kind.Out from to ≡ true → e.ty ≡ to

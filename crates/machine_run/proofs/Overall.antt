@@ -15,7 +15,7 @@ use Rattle.coded_machine.specs.State.{State}
 use Rattle.machine_run.specs.Moments.{Moment}
 use Rattle.machine_run.specs.RowRuns.{SomeCycles, CameToEnd, IsFront}
 use Rattle.machine_run.proofs.Longer.{cycles_within, calls_longer, some_of_all, all_cycles}
-use Rattle.machine_run.proofs.Promised.{HonestLaws}
+use Rattle.coded_machine.specs.Laws.{HonestLaws}
 
 -- what the run's graph and table keep, and how many rows there are
 pub record Fair (g : Lists) (t : Numbers) (rows : List (List ℤ)) : Type 0 where

@@ -21,7 +21,7 @@ use Rattle.coded_machine.specs.Runs.{Turn}
 use Rattle.coded_machine.specs.State.{State, setting}
 use Rattle.machine_run.specs.Stops.{HasStop, GrowsByStop}
 use Rattle.machine_run.proofs.Outs.{IsOut, output_is_out}
-use Rattle.machine_run.proofs.Promised.{EntryLaws}
+use Rattle.op_graph.specs.Laws.{EntryLaws}
 
 -- every operation is answered by a word
 record AllAnswered (ops : List Op) (answers : List Answer) : Type 0 where
@@ -52,12 +52,12 @@ no_stop (answer.Operand ∷ answers) zero a why words there stops = let first : 
 no_stop (b ∷ answers) (suc k) a why words there stops = no_stop answers k a why words.1 there stops
 
 -- the word of an OUT that is outside its type is a stop
-out_stops : (s : Setting) (before : List Answer) (ops : List Op) (answers : List Answer) (k : ℕ) (op : Op) → slice_get ops k ≡ Some op → op.kind ≡ kind.Out → k < length answers → fits op.ty (value_part (word_at answers k)) ≡ false → HasStop (calls_from s before ops answers)
+out_stops : (s : Setting) (before : List Answer) (ops : List Op) (answers : List Answer) (k : ℕ) (op : Op) → slice_get ops k ≡ Some op → op.kind ≡ kind.Out → k < length answers → fits op.ty (value_part s.graph.profile (word_at answers k)) ≡ false → HasStop (calls_from s before ops answers)
 out_stops s before ops [] k op there is few outside = absurd (omega arith)
 out_stops s before [] (a ∷ answers) k op there is few outside = absurd cc
 out_stops s before (p ∷ ops) (a ∷ answers) zero op there is few outside =
     let same : op ≡ p = cc in
-    inl (inr (subst (λ (x : Op). x.kind ≡ kind.Out) same is, subst (λ (x : Op). fits x.ty (value_part (word_of a)) ≡ false) same outside))
+    inl (inr (subst (λ (x : Op). x.kind ≡ kind.Out) same is, subst (λ (x : Op). fits x.ty (value_part s.graph.profile (word_of a)) ≡ false) same outside))
 out_stops s before (p ∷ ops) (a ∷ answers) (suc k) op there is few outside = inr (out_stops s (before ++ a ∷ []) ops answers k op there is (omega arith) outside)
 
 there_is : {X : Type 0} (xs : List X) (k : ℕ) → k < length xs → (x : X) × (slice_get xs k ≡ Some x)
@@ -65,14 +65,14 @@ there_is [] k few = absurd (omega arith)
 there_is (x ∷ xs) zero few = (x, refl)
 there_is (x ∷ xs) (suc k) few = there_is xs k (omega arith)
 
-outside_stops : EntryLaws → (s : Setting) (answers : List Answer) (k : ℕ) → IsGraph s.graph → length answers ≡ length s.graph.operations → Outside answers s.graph.outputs k → HasStop (CallsOf s answers)
+outside_stops : EntryLaws → (s : Setting) (answers : List Answer) (k : ℕ) → IsGraph s.graph → length answers ≡ length s.graph.operations → Outside s.graph.profile answers s.graph.outputs k → HasStop (CallsOf s answers)
 outside_stops laws s answers k graph all h =
     let g = s.graph in
     let o : Outlet = h.1 in
     let few : o.op < length g.operations = (laws.output g h.0 o graph.part h.2).operation in
     let here = there_is g.operations o.op few in
     let out : IsOut here.0 o.ty = output_is_out laws g h.0 o here.0 graph h.2 here.1 in
-    let outside : fits here.0.ty (value_part (word_at answers o.op)) ≡ false = rw out.ty (subst (λ i. fits o.ty (value_part (word_at answers i)) ≡ false) (sym h.3) h.4) in
+    let outside : fits here.0.ty (value_part g.profile (word_at answers o.op)) ≡ false = rw out.ty (subst (λ i. fits o.ty (value_part g.profile (word_at answers i)) ≡ false) (sym h.3) h.4) in
     out_stops s [] g.operations answers o.op here.0 here.1 out.kind (omega (arith, few, all)) outside
 
 -- a cycle that ended with a stop has one

@@ -15,8 +15,8 @@ use Rattle.coded_machine.specs.State.{State, fresh}
 use Rattle.machine_run.specs.Leaves.{MachineAfter, last_answers}
 use Rattle.machine_run.specs.Moments.{Moment}
 use Rattle.machine_run.specs.RowRuns.{texts_from}
-use Rattle.machine_run.proofs.Promised.{RunLaws}
 use Rattle.machine_run.proofs.Writing.{appends_nothing, rows_written}
+use Rattle.coded_machine.specs.Laws.{RunLaws}
 
 -- What stands between two cycles of a run over the rows `left`, of which `rest` are left: a cycle was carried and released for each
 -- of the rows taken, all is written and kept for them, and the machine is the one after them.

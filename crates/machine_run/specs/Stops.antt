@@ -8,7 +8,7 @@ use Rattle.coded_machine.specs.Calls.{is_word, word_of}
 
 -- the answer is a stop, or the call is of an output and the answer's word has a value part outside the output's type
 abbrev pub StopsAt : Entry → Type 0
-StopsAt (call, answer) = (is_word answer ≡ false) ⊎ ((call.kind ≡ kind.Out) × (fits call.ty (value_part (word_of answer)) ≡ false))
+StopsAt (call, answer) = (is_word answer ≡ false) ⊎ ((call.kind ≡ kind.Out) × (fits call.ty (value_part call.profile (word_of answer)) ≡ false))
 
 -- one of the entries is such a one
 abbrev pub HasStop : List Entry → Type 0

@@ -11,7 +11,7 @@ use op_graph::{Build, Graph, GraphBuilder, Op};
 use signature_table::Table;
 use std::alloc::Global;
 use std::test::Fail;
-use vcp_base::{Kind, Row, Spot, Text, Ty};
+use vcp_base::{Kind, Profile, Row, Spot, Text, Ty};
 use vcp_outside::{Failed, MemSink, Sink, write_all};
 
 /// Counts the rows and adds up their first values, and writes the last digit of each cycle's number.
@@ -58,7 +58,7 @@ fn increment(alloc: Global) -> Result<Graph, Build>
     ensures { IfOk result (λ graph. length graph.inputs ≡ 1) }
 {
     let spot = Spot { line: 2, col: 11 };
-    let mut builder = GraphBuilder::new(alloc);
+    let mut builder = GraphBuilder::new(alloc, Profile::Narrow);
     builder.name(&Text::copy_of(alloc, b"x")?)?;
     builder.name(&Text::copy_of(alloc, b"y")?)?;
     let x = builder.input(0, Ty::Dint, spot)?;
@@ -111,7 +111,7 @@ fn runs_end_as_their_rows_do(rt: HostRuntime) -> Result<(), Fail> {
 fn a_wrong_answer_is_refused(rt: HostRuntime) -> Result<(), Fail> {
     let mut unit = BadUnit::new(rt.alloc(), 12)?;
     // The ADD of the second cycle.
-    unit.replace(6, Answer::Word(Word::packed(0, 5)))?;
+    unit.replace(6, Answer::Word(Word::packed(Profile::Narrow, 0, 5)))?;
     let seen = run_on(rt.alloc(), b"x\n5\n-1\n7\n", 8, &mut unit)?;
     let expected = "Ok(Refused { output: 0, found: 214748370, expected: 644245097 }) [48] 1 6";
     assert_eq!(rt; seen.as_str(), expected);

@@ -90,11 +90,13 @@ same_self : (t : Ty) → same_type t t ≡ true
 same_self ty.Bool = refl
 same_self ty.Int = refl
 same_self ty.Dint = refl
+same_self ty.Lint = refl
 
 pub result_type : (k : Kind) (from : Ty) → (to : Ty) × (ty_fits k from to ≡ true)
 result_type kind.Conv ty.Bool = (ty.Int, refl)
 result_type kind.Conv ty.Int = (ty.Dint, refl)
 result_type kind.Conv ty.Dint = (ty.Int, refl)
+result_type kind.Conv ty.Lint = (ty.Int, refl)
 result_type kind.Eq from = (ty.Bool, refl)
 result_type kind.Lt from = (ty.Bool, refl)
 result_type k from = (from, same_self from)
@@ -108,6 +110,8 @@ value_width ty.Int (pos n) h = grind (arith, nat_tests)
 value_width ty.Int (negsuc n) h = grind (arith, nat_tests)
 value_width ty.Dint (pos n) h = grind (arith, nat_tests)
 value_width ty.Dint (negsuc n) h = grind (arith, nat_tests)
+value_width ty.Lint (pos n) h = grind (arith, nat_tests)
+value_width ty.Lint (negsuc n) h = grind (arith, nat_tests)
 
 number_width : (n : ℕ) → n < 2 ^ 63 → FitsSigned w64 (pos n)
 number_width n lt = grind (arith, nat_tests)

@@ -29,24 +29,40 @@ pub within_fits : (s t : Ty) (v : ℤ) → within s t ≡ true → fits s v ≡ 
 within_fits ty.Bool ty.Bool v w h = h
 within_fits ty.Bool ty.Int v w h = absurd cc
 within_fits ty.Bool ty.Dint v w h = absurd cc
+within_fits ty.Bool ty.Lint v w h = absurd cc
 within_fits ty.Int ty.Bool v w h = absurd cc
 within_fits ty.Int ty.Int v w h = h
 within_fits ty.Int ty.Dint (pos n) w h = grind (arith, nat_tests)
 within_fits ty.Int ty.Dint (negsuc n) w h = grind (arith, nat_tests)
+within_fits ty.Int ty.Lint (pos n) w h = grind (arith, nat_tests)
+within_fits ty.Int ty.Lint (negsuc n) w h = grind (arith, nat_tests)
 within_fits ty.Dint ty.Bool v w h = absurd cc
 within_fits ty.Dint ty.Int v w h = absurd cc
 within_fits ty.Dint ty.Dint v w h = h
+within_fits ty.Dint ty.Lint (pos n) w h = grind (arith, nat_tests)
+within_fits ty.Dint ty.Lint (negsuc n) w h = grind (arith, nat_tests)
+within_fits ty.Lint ty.Bool v w h = absurd cc
+within_fits ty.Lint ty.Int v w h = absurd cc
+within_fits ty.Lint ty.Dint v w h = absurd cc
+within_fits ty.Lint ty.Lint v w h = h
 
 same_type_is : (s t : Ty) → same_type s t ≡ true → s ≡ t
 same_type_is ty.Bool ty.Bool h = refl
 same_type_is ty.Bool ty.Int h = absurd cc
 same_type_is ty.Bool ty.Dint h = absurd cc
+same_type_is ty.Bool ty.Lint h = absurd cc
 same_type_is ty.Int ty.Bool h = absurd cc
 same_type_is ty.Int ty.Int h = refl
 same_type_is ty.Int ty.Dint h = absurd cc
+same_type_is ty.Int ty.Lint h = absurd cc
 same_type_is ty.Dint ty.Bool h = absurd cc
 same_type_is ty.Dint ty.Int h = absurd cc
 same_type_is ty.Dint ty.Dint h = refl
+same_type_is ty.Dint ty.Lint h = absurd cc
+same_type_is ty.Lint ty.Bool h = absurd cc
+same_type_is ty.Lint ty.Int h = absurd cc
+same_type_is ty.Lint ty.Dint h = absurd cc
+same_type_is ty.Lint ty.Lint h = refl
 
 -- ---- lists
 

@@ -1,7 +1,7 @@
 -- Parts: what each call of a builder adds keeps the rules.
 use Rattle.std.proofs.Common.{◌≡◌, ℕ, ◌+◌, ◌<◌, ◌≤◌, ◌==◌, ℤ, pos, true, List, [], ◌∷◌, ◌++◌, length, slice_get, All, Option, Some, None, refl, sym, ap, subst, ◌∙◌, arith, zero-add}
 use Rattle.std.proofs.lemmas.List.{length_push}
-use Rattle.std.proofs.lemmas.Option.{slice_get_past, slice_get_within}
+use Rattle.std.proofs.lemmas.Option.{slice_get_past, slice_get_within, get_or_from_slice_get}
 use Rattle.std.proofs.lemmas.Bool.{ne_eqb}
 use Rattle.std.specs.Ordering.{int_eq}
 use Rattle.std.proofs.lemmas.Cmp.{int_eq_equiv}
@@ -19,9 +19,12 @@ use Rattle.op_graph.specs.Lists.{Lists}
 use Rattle.std.specs.Int.{w64}
 use Rattle.std.specs.Prelude.{FitsSigned}
 use Rattle.std.proofs.lemmas.List.Elements.{All-push}
+use Rattle.vcp_base.specs.declared.code.Profile.{Profile}
+use Rattle.vcp_base.specs.declared.code.Profile.TheVariants as profile
+use Rattle.vcp_base.specs.Code.{admits}
 use Rattle.vcp_base.specs.Limits.{most_names, most_cells, most_turn_nodes, most_operations}
 use Rattle.vcp_base.specs.Names.{NameFits}
-use Rattle.op_graph.specs.Rules.{PlaceFits, Scope, scope, Place, place_of, Each, IsPart, InputFits, OutputFits, LoadFits, StoreFits, TurnNodeFits, OpFits, Operates, turn_fits, LoadedBefore, operand_fits, numbered, same_type, Entry, entry, cell_entry}
+use Rattle.op_graph.specs.Rules.{Admitted, IsGraph, PlaceFits, Scope, scope, Place, place_of, Each, IsPart, InputFits, OutputFits, LoadFits, StoreFits, TurnNodeFits, OpFits, Operates, turn_fits, LoadedBefore, operand_fits, numbered, same_type, Entry, entry, cell_entry}
 use Rattle.op_graph.specs.Building.{nowhere, entry_op, with_name, with_turn_node, with_op, with_input, with_load, with_output, with_store, type_of}
 use Rattle.op_graph.proofs.Entries.{each_push, each_more, Under, each_under, under_all, rising_count, le_more, under_none, found_push, found_last, stored_none, stored_push, get_push, get_last, stored_more, stored_last, under_get, eqb_self, get_some}
 
@@ -96,6 +99,7 @@ with_name_fits g n p few h =
     let c = counted g (length (g.names ++ n ∷ [])) (length g.operations) p (omega arith) (omega arith) in
     record {
       widths = record { places = p.widths.places; values = p.widths.values };
+      types = record { operations = p.types.operations; loads = p.types.loads };
       few_names = omega arith;
       few_inputs = p.few_inputs;
       few_outputs = p.few_outputs;
@@ -118,6 +122,7 @@ with_turn_node_fits g t p few h wide =
     let len = length_push g.turn_nodes t in
     record {
       widths = record { places = p.widths.places; values = All-push (λ (n : TurnNode). FitsSigned w64 n.value) g.turn_nodes _ p.widths.values wide };
+      types = record { operations = p.types.operations; loads = p.types.loads };
       few_names = p.few_names;
       few_inputs = p.few_inputs;
       few_outputs = p.few_outputs;
@@ -135,12 +140,13 @@ with_turn_node_fits g t p few h wide =
       operations = ops_more (length g.operations) (scope g) (scope g) (length g.turn_nodes) _ g.operations (omega arith) (record { places = λ i lt. refl; turn_nodes = omega arith }) p.operations;
     }
 
-pub with_op_fits : (g : Lists) (op : Op) → IsPart g → length g.operations < most_operations → OpFits nowhere (length g.turn_nodes) g.operations op → PlaceFits op.spot → IsPart (with_op g op)
-with_op_fits g op p few h wide =
+pub with_op_fits : (g : Lists) (op : Op) → IsPart g → length g.operations < most_operations → OpFits nowhere (length g.turn_nodes) g.operations op → PlaceFits op.spot → Admitted g.profile op → IsPart (with_op g op)
+with_op_fits g op p few h wide admitted =
     let len = length_push g.operations op in
     let c = counted g (length g.names) (length (g.operations ++ op ∷ [])) p (omega arith) (omega arith) in
     record {
       widths = record { places = All-push (λ (o : Op). PlaceFits o.spot) g.operations _ p.widths.places wide; values = p.widths.values };
+      types = record { operations = All-push (Admitted g.profile) g.operations _ p.types.operations admitted; loads = p.types.loads };
       few_names = p.few_names;
       few_inputs = p.few_inputs;
       few_outputs = p.few_outputs;
@@ -162,6 +168,7 @@ same_self : (t : Ty) → same_type t t ≡ true
 same_self ty.Bool = refl
 same_self ty.Int = refl
 same_self ty.Dint = refl
+same_self ty.Lint = refl
 
 number_self : (m n : ℕ) → m ≡ n → int_eq (pos m) (pos n) ≡ true
 number_self m n e = rw e (int_eq_equiv.refl (pos n))
@@ -169,8 +176,8 @@ number_self m n e = rw e (int_eq_equiv.refl (pos n))
 at_place : (g : Lists) (turns : ℕ) (op : Op) (q r : Place) → q ≡ r → OpFits r turns g.operations op → OpFits q turns g.operations op
 at_place g turns op q r e h = subst (λ s. OpFits s turns g.operations op) (sym e) h
 
-pub with_input_fits : (g : Lists) (name : ℕ) (t : Ty) (spot : Spot) → IsPart g → length g.inputs ≡ length g.operations → name < length g.names → All (λ w. w.name < name) g.inputs → PlaceFits spot → IsPart (with_input g name t spot)
-with_input_fits g name t spot p front there rising wide =
+pub with_input_fits : (g : Lists) (name : ℕ) (t : Ty) (spot : Spot) → IsPart g → length g.inputs ≡ length g.operations → name < length g.names → All (λ w. w.name < name) g.inputs → PlaceFits spot → admits g.profile t ≡ true → IsPart (with_input g name t spot)
+with_input_fits g name t spot p front there rising wide admitted =
     let few : length g.operations < most_operations = omega (arith, p.few_inputs) in
     let new = with_input g name t spot in
     let v : Var = record { name = name; ty = t } in
@@ -191,6 +198,7 @@ with_input_fits g name t spot p front there rising wide =
     let no_more = few_inputs (length g.names) (g.inputs ++ v ∷ []) inputs in
     record {
       widths = record { places = All-push (λ (o : Op). PlaceFits o.spot) g.operations _ p.widths.places wide; values = p.widths.values };
+      types = record { operations = All-push (Admitted g.profile) g.operations _ p.types.operations (admitted, admitted); loads = p.types.loads };
       few_names = p.few_names;
       few_inputs = omega (arith, p.few_names);
       few_outputs = p.few_outputs;
@@ -209,8 +217,8 @@ with_input_fits g name t spot p front there rising wide =
           (at_place g (length g.turn_nodes) _ _ _ here (record { kind = refl; from = same_self t; ty = same_self t; a = refl; b = refl; c = refl; imm = number_self (length g.inputs) (length g.operations) front; turn = refl }));
     }
 
-pub with_load_fits : (g : Lists) (name : ℕ) (t : Ty) (init : ℤ) (spot : Spot) → IsPart g → length g.operations < most_operations → length g.loads < most_cells → name < length g.names → fits t init ≡ true → PlaceFits spot → IsPart (with_load g name t init spot)
-with_load_fits g name t init spot p few few_cells there fit wide =
+pub with_load_fits : (g : Lists) (name : ℕ) (t : Ty) (init : ℤ) (spot : Spot) → IsPart g → length g.operations < most_operations → length g.loads < most_cells → name < length g.names → fits t init ≡ true → PlaceFits spot → admits g.profile t ≡ true → IsPart (with_load g name t init spot)
+with_load_fits g name t init spot p few few_cells there fit wide admitted =
     let new = with_load g name t init spot in
     let c : Loaded = record { name = name; ty = t; init = init; load = length g.operations } in
     let len = length_push g.operations (entry_op kind.Load t 0 (length g.loads) spot) in
@@ -228,6 +236,7 @@ with_load_fits g name t init spot p few few_cells there fit wide =
     (under_none (λ o. o.op) (λ o. o.ty) (length g.operations) 0 g.outputs f.outputs) in
     record {
       widths = record { places = All-push (λ (o : Op). PlaceFits o.spot) g.operations _ p.widths.places wide; values = p.widths.values };
+      types = record { operations = All-push (Admitted g.profile) g.operations _ p.types.operations (admitted, admitted); loads = All-push (λ (l : Loaded). admits g.profile l.ty ≡ true) g.loads c p.types.loads admitted };
       few_names = p.few_names;
       few_inputs = p.few_inputs;
       few_outputs = p.few_outputs;
@@ -246,8 +255,8 @@ with_load_fits g name t init spot p few few_cells there fit wide =
           (at_place g (length g.turn_nodes) _ _ _ here (record { kind = refl; from = same_self t; ty = same_self t; a = refl; b = refl; c = refl; imm = number_self (length g.loads) (0 + length g.loads) (omega arith); turn = refl }));
     }
 
-pub with_output_fits : (g : Lists) (name : ℕ) (t : Ty) (value : ℕ) (spot : Spot) → IsPart g → length g.operations < most_operations → name < length g.names → All (λ o. o.name < name) g.outputs → operand_fits g.operations (Some t) value ≡ true → PlaceFits spot → IsPart (with_output g name t value spot)
-with_output_fits g name t value spot p few there rising reads wide =
+pub with_output_fits : (g : Lists) (name : ℕ) (t : Ty) (value : ℕ) (spot : Spot) → IsPart g → length g.operations < most_operations → name < length g.names → All (λ o. o.name < name) g.outputs → operand_fits g.operations (Some t) value ≡ true → PlaceFits spot → admits g.profile t ≡ true → IsPart (with_output g name t value spot)
+with_output_fits g name t value spot p few there rising reads wide admitted =
     let new = with_output g name t value spot in
     let o : Outlet = record { name = name; ty = t; op = length g.operations } in
     let len = length_push g.operations (entry_op kind.Out t value (length g.outputs) spot) in
@@ -267,6 +276,7 @@ with_output_fits g name t value spot p few there rising reads wide =
     let no_more = few_outputs (length g.names) (length new.operations) (g.outputs ++ o ∷ []) outputs in
     record {
       widths = record { places = All-push (λ (o : Op). PlaceFits o.spot) g.operations _ p.widths.places wide; values = p.widths.values };
+      types = record { operations = All-push (Admitted g.profile) g.operations _ p.types.operations (admitted, admitted); loads = p.types.loads };
       few_names = p.few_names;
       few_inputs = p.few_inputs;
       few_outputs = omega (arith, p.few_names);
@@ -284,6 +294,9 @@ with_output_fits g name t value spot p few there rising reads wide =
       operations = each_push (Operates (scope new) (length g.turn_nodes)) [] g.operations _ (ops_more (length g.operations) (scope g) (scope new) (length g.turn_nodes) (length g.turn_nodes) g.operations (omega arith) wider p.operations)
           (at_place g (length g.turn_nodes) _ _ _ here (record { kind = refl; from = same_self t; ty = same_self t; a = reads; b = refl; c = refl; imm = number_self (length g.outputs) (0 + length g.outputs) (omega arith); turn = refl }));
     }
+
+loaded_type : (q : Profile) (loads : List Loaded) (k : ℕ) (c : Loaded) → All (λ (l : Loaded). admits q l.ty ≡ true) loads → slice_get loads k ≡ Some c → admits q c.ty ≡ true
+loaded_type q loads k c all there = subst (λ (l : Loaded). admits q l.ty ≡ true) (get_or_from_slice_get loads k c c there) (all k c (slice_get_within loads k c there))
 
 with_store_fits : (g : Lists) (c : Loaded) (value : ℕ) (spot : Spot) → IsPart g → length g.operations < most_operations → slice_get g.loads (length g.stores) ≡ Some c → operand_fits g.operations (Some c.ty) value ≡ true → PlaceFits spot → IsPart (with_store g c.ty value spot)
 with_store_fits g c value spot p few cell reads wide =
@@ -304,6 +317,7 @@ with_store_fits g c value spot p few cell reads wide =
     (under_none (λ o. o.op) (λ o. o.ty) (length g.operations) 0 g.outputs f.outputs) in
     record {
       widths = record { places = All-push (λ (o : Op). PlaceFits o.spot) g.operations _ p.widths.places wide; values = p.widths.values };
+      types = (let admitted : admits g.profile c.ty ≡ true = loaded_type g.profile g.loads (length g.stores) c p.types.loads cell in record { operations = All-push (Admitted g.profile) g.operations _ p.types.operations (admitted, admitted); loads = p.types.loads });
       few_names = p.few_names;
       few_inputs = p.few_inputs;
       few_outputs = p.few_outputs;
@@ -328,3 +342,37 @@ stored_at_place g (Some c) value spot e p few there reads wide = with_store_fits
 
 pub with_cell_fits : (g : Lists) (cell value : ℕ) (spot : Spot) → IsPart g → length g.operations < most_operations → cell ≡ length g.stores → cell < length g.loads → operand_fits g.operations (Some (type_of (slice_get g.loads cell))) value ≡ true → PlaceFits spot → IsPart (with_store g (type_of (slice_get g.loads cell)) value spot)
 with_cell_fits g cell value spot p few next there reads wide = stored_at_place g (slice_get g.loads cell) value spot (ap (slice_get g.loads) (sym next)) p few (omega arith) reads wide
+
+-- ---- the same lists in the wide code
+
+wide_admits : (t : Ty) → admits profile.Wide t ≡ true
+wide_admits ty.Bool = refl
+wide_admits ty.Int = refl
+wide_admits ty.Dint = refl
+wide_admits ty.Lint = refl
+
+pub widened_fits : (g : Lists) → IsGraph g → IsGraph (record g { profile = profile.Wide })
+widened_fits g h =
+    let p = h.part in
+    record {
+      all_stored = h.all_stored;
+      part = record {
+        widths = record { places = p.widths.places; values = p.widths.values };
+        types = record { operations = λ i d below. (wide_admits _, wide_admits _); loads = λ i d below. wide_admits _ };
+        few_names = p.few_names;
+        few_inputs = p.few_inputs;
+        few_outputs = p.few_outputs;
+        few_cells = p.few_cells;
+        few_turn_nodes = p.few_turn_nodes;
+        few_operations = p.few_operations;
+        enough_operations = p.enough_operations;
+        stored = p.stored;
+        names = p.names;
+        inputs = p.inputs;
+        outputs = p.outputs;
+        loads = p.loads;
+        stores = p.stores;
+        turn_nodes = p.turn_nodes;
+        operations = p.operations;
+      };
+    }

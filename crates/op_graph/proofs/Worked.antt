@@ -1,6 +1,7 @@
 -- Worked: the graph of `n := n + 1; y := n;` and its run, worked by hand.
 use Rattle.std.proofs.Common.{refl, ◌≡◌, ℕ, List, ◌∷◌, [], ℤ, pos, false, Some, None}
 use Rattle.vcp_base.specs.declared.spot.Spot.{Spot}
+use Rattle.vcp_base.specs.declared.code.Profile.TheVariants as profile
 use Rattle.vcp_base.specs.declared.ty.Ty.{Ty}
 use Rattle.vcp_base.specs.declared.ty.Ty.TheVariants as ty
 use Rattle.vcp_base.specs.declared.kind.Kind.{Kind}
@@ -23,7 +24,7 @@ op_on t k a b imm = record { kind = k; from = t; ty = t; a = a; b = b; c = 0; im
 counter : Ty → ℤ → Lists
 counter t first =
     let spot : Spot = record { line = 0; col = 0 } in
-    let named = with_name (with_name nothing (121 ∷ [])) (110 ∷ []) in
+    let named = with_name (with_name (nothing profile.Narrow) (121 ∷ [])) (110 ∷ []) in
     let added = with_op (with_op (with_load named 1 t first spot) (op_on t kind.Const 0 0 (pos 1))) (op_on t kind.Add 0 1 (pos 0)) in
     with_store (with_output added 0 t 2 spot) t 2 spot
 
@@ -40,7 +41,7 @@ passes : graph_run (counter ty.Int (pos 32766)) ([] ∷ [] ∷ [] ∷ []) ≡ re
 unfolding counter op_on
 passes = refl
 
-turns-are : turns_of (with_turn_node (with_turn_node (with_turn_node nothing (record { parent = 0; name = 5; value = pos 1 })) (record { parent = 1; name = 6; value = pos 2 })) (record { parent = 1; name = 6; value = pos 3 })) 3 ≡ (record { name = 5; value = pos 1 }) ∷ (record { name = 6; value = pos 3 }) ∷ []
+turns-are : turns_of (with_turn_node (with_turn_node (with_turn_node (nothing profile.Narrow) (record { parent = 0; name = 5; value = pos 1 })) (record { parent = 1; name = 6; value = pos 2 })) (record { parent = 1; name = 6; value = pos 3 })) 3 ≡ (record { name = 5; value = pos 1 }) ∷ (record { name = 6; value = pos 3 }) ∷ []
 turns-are = refl
 
 cells-after : cells_after (counter ty.Dint (pos 0)) (pos 0 ∷ []) ([] ∷ [] ∷ []) ≡ pos 2 ∷ []

@@ -1,5 +1,6 @@
 -- Lists: what a graph, or a part of one that is being built, is made of.
 use Rattle.std.specs.Prelude.{ℕ, suc, ◌==◌, cond, List, [], ◌∷◌, ◌++◌, length, reverse, slice_index_or}
+use Rattle.vcp_base.specs.declared.code.Profile.{Profile}
 use Rattle.vcp_base.specs.declared.turns.Turn.{Turn}
 use Rattle.vcp_base.specs.declared.columns.Column.{Column}
 use Rattle.op_graph.specs.declared.op.Op.{Op}
@@ -9,8 +10,10 @@ use Rattle.op_graph.specs.declared.op.Loaded.{Loaded}
 use Rattle.op_graph.specs.declared.op.Cell.{Cell}
 use Rattle.op_graph.specs.declared.op.TurnNode.{TurnNode}
 
--- The lists. A cell stands in two of them at one place: what its LOAD makes in `loads`, and the number of its STORE in `stores`.
+-- The code, and the lists. A cell stands in two of them at one place: what its LOAD makes in `loads`, and the number of its
+-- STORE in `stores`.
 pub record Lists : Type 0 where
+  pub profile : Profile
   pub names : List (List ℕ)
   pub inputs : List Var
   pub outputs : List Outlet
@@ -20,14 +23,18 @@ pub record Lists : Type 0 where
   pub operations : List Op
 
 -- before anything is added
-abbrev pub nothing : Lists
-nothing = record { names = []; inputs = []; outputs = []; loads = []; stores = []; turn_nodes = []; operations = [] }
+abbrev pub nothing : Profile → Lists
+nothing p = record { profile = p; names = []; inputs = []; outputs = []; loads = []; stores = []; turn_nodes = []; operations = [] }
+
+-- the cell of what its LOAD makes and of the number of its STORE
+abbrev pub whole_cell : Loaded → ℕ → Cell
+whole_cell l n = record { name = l.name; ty = l.ty; init = l.init; load = l.load; store = n }
 
 -- the cells of which both parts are there
 abbrev pub joined : List Loaded → List ℕ → List Cell
 joined [] stores = []
 joined (l ∷ loads) [] = []
-joined (l ∷ loads) (n ∷ stores) = record { name = l.name; ty = l.ty; init = l.init; load = l.load; store = n } ∷ joined loads stores
+joined (l ∷ loads) (n ∷ stores) = whole_cell l n ∷ joined loads stores
 
 -- the cells of a graph
 abbrev pub cells : Lists → List Cell

@@ -4,10 +4,12 @@ use Rattle.std.specs.Ordering.{int_eq}
 use Rattle.std.specs.Int.{w64}
 use Rattle.vcp_base.specs.declared.spot.Spot.{Spot}
 use Rattle.std.specs.Prelude.{FitsSigned, ◌≡◌, ℕ, ◌+◌, ◌^◌, ◌<◌, ◌≤◌, ◌==◌, ℤ, pos, Bool, true, false, not, ◌&&◌, cond, nat_lt, nat_le, List, [], ◌∷◌, ◌++◌, length, slice_get, All, Option, Some, None}
+use Rattle.vcp_base.specs.declared.code.Profile.{Profile}
 use Rattle.vcp_base.specs.declared.ty.Ty.{Ty}
 use Rattle.vcp_base.specs.declared.ty.Ty.TheVariants as ty
 use Rattle.vcp_base.specs.declared.kind.Kind.{Kind}
 use Rattle.vcp_base.specs.declared.kind.Kind.TheVariants as kind
+use Rattle.vcp_base.specs.Code.{admits}
 use Rattle.vcp_base.specs.Types.{fits, within}
 use Rattle.vcp_base.specs.Kinds.{operands, operand_type}
 use Rattle.vcp_base.specs.Limits.{most_names, most_cells, most_turn_nodes, most_operations}
@@ -162,30 +164,45 @@ abbrev pub same_type : Ty → Ty → Bool
 same_type ty.Bool ty.Bool = true
 same_type ty.Bool ty.Int = false
 same_type ty.Bool ty.Dint = false
+same_type ty.Bool ty.Lint = false
 same_type ty.Int ty.Bool = false
 same_type ty.Int ty.Int = true
 same_type ty.Int ty.Dint = false
+same_type ty.Int ty.Lint = false
 same_type ty.Dint ty.Bool = false
 same_type ty.Dint ty.Int = false
 same_type ty.Dint ty.Dint = true
+same_type ty.Dint ty.Lint = false
+same_type ty.Lint ty.Bool = false
+same_type ty.Lint ty.Int = false
+same_type ty.Lint ty.Dint = false
+same_type ty.Lint ty.Lint = true
 
--- INT or DINT
+-- INT, DINT or LINT
 abbrev pub is_number : Ty → Bool
 is_number ty.Bool = false
 is_number ty.Int = true
 is_number ty.Dint = true
+is_number ty.Lint = true
 
--- CONV goes from INT to DINT, from DINT to INT and from BOOL to INT
+-- CONV goes from a number to another number, and from BOOL to INT
 abbrev pub converts : Ty → Ty → Bool
 converts ty.Bool ty.Bool = false
 converts ty.Bool ty.Int = true
 converts ty.Bool ty.Dint = false
+converts ty.Bool ty.Lint = false
 converts ty.Int ty.Bool = false
 converts ty.Int ty.Int = false
 converts ty.Int ty.Dint = true
+converts ty.Int ty.Lint = true
 converts ty.Dint ty.Bool = false
 converts ty.Dint ty.Int = true
 converts ty.Dint ty.Dint = false
+converts ty.Dint ty.Lint = true
+converts ty.Lint ty.Bool = false
+converts ty.Lint ty.Int = true
+converts ty.Lint ty.Dint = true
+converts ty.Lint ty.Lint = false
 
 -- a kind takes operands of the type: arithmetic and `<` take numbers, logic takes BOOL, every other kind any type
 abbrev pub takes_type : Kind → Ty → Bool
@@ -267,6 +284,15 @@ pub record Widths (g : Lists) : Type 0 where
   pub places : All (λ op. PlaceFits op.spot) g.operations
   pub values : All (λ t. FitsSigned w64 t.value) g.turn_nodes
 
+-- an operation's types are of the code
+abbrev pub Admitted : Profile → Op → Type 0
+Admitted p op = (admits p op.from ≡ true) × (admits p op.ty ≡ true)
+
+-- a graph has the types of its code, so a narrow one has no LINT
+pub record HasTypes (g : Lists) : Type 0 where
+  pub operations : All (Admitted g.profile) g.operations
+  pub loads : All (λ l. admits g.profile l.ty ≡ true) g.loads
+
 -- a graph, of whose cells the first ones are stored and the others are not yet
 pub record IsPart (g : Lists) : Type 0 where
   pub few_names : length g.names ≤ most_names
@@ -285,6 +311,7 @@ pub record IsPart (g : Lists) : Type 0 where
   pub turn_nodes : Each (TurnNodeFits (length g.names)) [] g.turn_nodes
   pub operations : Each (Operates (scope g) (length g.turn_nodes)) [] g.operations
   pub widths : Widths g
+  pub types : HasTypes g
 
 -- a graph: every cell is stored too
 pub record IsGraph (g : Lists) : Type 0 where

@@ -1,14 +1,15 @@
 //! Graphs.
 
-ghost use Rattle.std.specs.Prelude.{◌≡◌, ◌-◌, ◌<◌, ◌≤◌, Some, IfOk, IfSome, [], length, map, slice_get, slice_index_or, All};
+ghost use Rattle.std.specs.Prelude.{◌≡◌, ◌-◌, ◌<◌, ◌≤◌, ℤ, List, Some, IfOk, IfSome, [], length, map, slice_get, slice_index_or, All};
 ghost use Rattle.op_graph.specs.Lists.{cells, column as column_of, output_column, turns_of};
-ghost use Rattle.op_graph.specs.Rules.{IsGraph};
+ghost use Rattle.op_graph.specs.Rules.{IsGraph, HasTypes};
+ghost use Rattle.op_graph.specs.GraphRun.{graph_run};
 
 use crate::op::{Cell, Loaded, Op, Outlet, TurnNode, Var};
 use crate::turns_round::{TurnsRound, turns_round};
 use std::alloc::Global;
 use std::marker::Model;
-use vcp_base::{Column, Columns, Memory, Text, Ty};
+use vcp_base::{Column, Columns, Memory, Profile, Text, Ty};
 
 /// A graph of operations, which keeps the rules of the image format.
 ///
@@ -17,6 +18,7 @@ use vcp_base::{Column, Columns, Memory, Text, Ty};
 /// are read.
 #[derive(Drop)]
 pub struct Graph {
+    profile: Profile,
     names: Vec<Text>,
     inputs: Vec<Var>,
     outputs: Vec<Outlet>,
@@ -32,14 +34,15 @@ impl Model for Graph {
 
     ghost Value = { Lists };
 
-    ghost view = { λ g. record { names = g.names.items; inputs = g.inputs.items; outputs = g.outputs.items; loads = g.loads.items; stores = g.stores.items; turn_nodes = g.turn_nodes.items; operations = g.operations.items } };
+    ghost view = { λ g. record { profile = g.profile; names = g.names.items; inputs = g.inputs.items; outputs = g.outputs.items; loads = g.loads.items; stores = g.stores.items; turn_nodes = g.turn_nodes.items; operations = g.operations.items } };
 
-    ghost invariant = { λ g. IsGraph (record { names = g.names.items; inputs = g.inputs.items; outputs = g.outputs.items; loads = g.loads.items; stores = g.stores.items; turn_nodes = g.turn_nodes.items; operations = g.operations.items }) };
+    ghost invariant = { λ g. IsGraph (record { profile = g.profile; names = g.names.items; inputs = g.inputs.items; outputs = g.outputs.items; loads = g.loads.items; stores = g.stores.items; turn_nodes = g.turn_nodes.items; operations = g.operations.items }) };
 }
 
 impl Graph {
     /// The graph of these lists, where they are one by the rules. It takes no memory.
     pub fn from_lists(
+        profile: Profile,
         names: Vec<Text>,
         inputs: Vec<Var>,
         outputs: Vec<Outlet>,
@@ -48,10 +51,11 @@ impl Graph {
         turn_nodes: Vec<TurnNode>,
         operations: Vec<Op>,
     ) -> Graph
-        requires { IsGraph (record { names = names.items; inputs = inputs.items; outputs = outputs.items; loads = loads.items; stores = stores.items; turn_nodes = turn_nodes.items; operations = operations.items }) }
-        ensures { result ≡ record { names = names.items; inputs = inputs.items; outputs = outputs.items; loads = loads.items; stores = stores.items; turn_nodes = turn_nodes.items; operations = operations.items } }
+        requires { IsGraph (record { profile = profile; names = names.items; inputs = inputs.items; outputs = outputs.items; loads = loads.items; stores = stores.items; turn_nodes = turn_nodes.items; operations = operations.items }) }
+        ensures { result ≡ record { profile = profile; names = names.items; inputs = inputs.items; outputs = outputs.items; loads = loads.items; stores = stores.items; turn_nodes = turn_nodes.items; operations = operations.items } }
     {
         Graph {
+            profile,
             names,
             inputs,
             outputs,
@@ -60,6 +64,31 @@ impl Graph {
             turn_nodes,
             operations,
         }
+    }
+
+    /// The code of the graph, which has words of each type in it: a narrow graph has no LINT.
+    pub fn profile(&self) -> Profile
+        ensures value { result ≡ self.now.profile }
+        ensures types { HasTypes self.now }
+    {
+        self.profile
+    }
+
+    /// The same lists in the wide code, and so the same run. It takes no memory.
+    pub fn widened(self) -> Graph
+        ensures lists { result ≡ record self { profile = Profile.Wide } }
+        ensures run { (rows : List (List ℤ)) → graph_run result rows ≡ graph_run self rows }
+    {
+        Graph::from_lists(
+            Profile::Wide,
+            self.names,
+            self.inputs,
+            self.outputs,
+            self.loads,
+            self.stores,
+            self.turn_nodes,
+            self.operations,
+        )
     }
 
     /// How many operations there are, at most 65,536.

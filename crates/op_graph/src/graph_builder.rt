@@ -1,11 +1,12 @@
 //! The builder of graphs.
 
 ghost use Rattle.std.specs.Prelude.{◌≡◌, ◌≤◌, ◌<◌, ◌+◌, ◌^◌, ◌↔◌, ◌++◌, ◌∷◌, [], length, Some, None, Err, true, All, IfOk, OnOk, OnErr, slice_get};
+ghost use Rattle.vcp_base.specs.Code.{admits};
 ghost use Rattle.vcp_base.specs.Types.{fits};
 ghost use Rattle.vcp_base.specs.Limits.{most_names, most_cells, most_turn_nodes, most_operations};
 ghost use Rattle.vcp_base.specs.Names.{NameFits};
 ghost use Rattle.op_graph.specs.Lists.{nothing};
-ghost use Rattle.op_graph.specs.Rules.{TurnNodeFits, OpFits, operand_fits, IsGraph, IsPart};
+ghost use Rattle.op_graph.specs.Rules.{TurnNodeFits, OpFits, Admitted, operand_fits, IsGraph, IsPart};
 ghost use Rattle.op_graph.specs.Building.{nowhere, entry_op as entry_op_of, with_name, with_turn_node, with_op, with_input, with_load, with_output, with_store, type_of, cell_type};
 
 use crate::build::Build;
@@ -13,13 +14,14 @@ use crate::graph::Graph;
 use crate::op::{Loaded, Op, Outlet, TurnNode, Var};
 use std::alloc::Global;
 use std::marker::Model;
-use vcp_base::{Kind, MOST_OPERATIONS, Memory, Spot, Text, Ty};
+use vcp_base::{Kind, MOST_OPERATIONS, Memory, Profile, Spot, Text, Ty};
 
 /// A graph that is built from its front. Each call appends its one entry and operation, and changes
 /// nothing else; after a refusal nothing is changed.
 #[derive(Drop)]
 pub struct GraphBuilder {
     alloc: Global,
+    profile: Profile,
     names: Vec<Text>,
     inputs: Vec<Var>,
     outputs: Vec<Outlet>,
@@ -35,9 +37,9 @@ impl Model for GraphBuilder {
 
     ghost Value = { Lists };
 
-    ghost view = { λ g. record { names = g.names.items; inputs = g.inputs.items; outputs = g.outputs.items; loads = g.loads.items; stores = g.stores.items; turn_nodes = g.turn_nodes.items; operations = g.operations.items } };
+    ghost view = { λ g. record { profile = g.profile; names = g.names.items; inputs = g.inputs.items; outputs = g.outputs.items; loads = g.loads.items; stores = g.stores.items; turn_nodes = g.turn_nodes.items; operations = g.operations.items } };
 
-    ghost invariant = { λ g. IsPart (record { names = g.names.items; inputs = g.inputs.items; outputs = g.outputs.items; loads = g.loads.items; stores = g.stores.items; turn_nodes = g.turn_nodes.items; operations = g.operations.items }) };
+    ghost invariant = { λ g. IsPart (record { profile = g.profile; names = g.names.items; inputs = g.inputs.items; outputs = g.outputs.items; loads = g.loads.items; stores = g.stores.items; turn_nodes = g.turn_nodes.items; operations = g.operations.items }) };
 }
 
 /// Appends an operation and an entry of another list, or neither.
@@ -87,12 +89,13 @@ fn type_at(loads: &[Loaded], cell: u32) -> Ty
 }
 
 impl GraphBuilder {
-    /// Nothing so far. It takes no memory.
-    pub fn new(alloc: Global) -> GraphBuilder
-        ensures { result ≡ nothing }
+    /// Nothing so far, of a graph in this code. It takes no memory.
+    pub fn new(alloc: Global, profile: Profile) -> GraphBuilder
+        ensures { result ≡ nothing profile }
     {
         GraphBuilder {
             alloc,
+            profile,
             names: Vec::new(alloc),
             inputs: Vec::new(alloc),
             outputs: Vec::new(alloc),
@@ -162,6 +165,7 @@ impl GraphBuilder {
         requires front { length self.old.inputs ≡ length self.old.operations }
         requires name { name < length self.old.names }
         requires name_rises { All (λ v. v.name < name) self.old.inputs }
+        requires ty { admits self.old.profile ty ≡ true }
         ensures number { IfOk result (λ k. k ≡ length self.old.operations) }
         ensures added { OnOk result (self.new ≡ with_input self.old name ty spot) }
         ensures err { OnErr result (self.new ≡ self.old) }
@@ -178,6 +182,7 @@ impl GraphBuilder {
         requires few { length self.old.loads < most_cells }
         requires name { name < length self.old.names }
         requires init { fits ty init ≡ true }
+        requires ty { admits self.old.profile ty ≡ true }
         ensures number { IfOk result (λ k. k ≡ length self.old.operations) }
         ensures added { OnOk result (self.new ≡ with_load self.old name ty init spot) }
         ensures full { (result ≡ Err Build.Full) ↔ (length self.old.operations ≡ most_operations) }
@@ -201,7 +206,8 @@ impl GraphBuilder {
     /// Adds an operation of no input, output or cell, which the rules allow after those that are
     /// there. Gives its number.
     pub fn push(&mut self, op: Op) -> Result<u32, Build>
-        requires { OpFits nowhere (length self.old.turn_nodes) self.old.operations op }
+        requires fits { OpFits nowhere (length self.old.turn_nodes) self.old.operations op }
+        requires types { Admitted self.old.profile op }
         ensures number { IfOk result (λ k. k ≡ length self.old.operations) }
         ensures added { OnOk result (self.new ≡ with_op self.old op) }
         ensures full { (result ≡ Err Build.Full) ↔ (length self.old.operations ≡ most_operations) }
@@ -220,6 +226,7 @@ impl GraphBuilder {
     pub fn output(&mut self, name: u32, ty: Ty, value: u32, spot: Spot) -> Result<u32, Build>
         requires name { name < length self.old.names }
         requires name_rises { All (λ o. o.name < name) self.old.outputs }
+        requires ty { admits self.old.profile ty ≡ true }
         requires value { operand_fits self.old.operations (Some ty) value ≡ true }
         ensures number { IfOk result (λ k. k ≡ length self.old.operations) }
         ensures added { OnOk result (self.new ≡ with_output self.old name ty value spot) }
@@ -267,6 +274,7 @@ impl GraphBuilder {
         ensures { result ≡ self }
     {
         Graph::from_lists(
+            self.profile,
             self.names,
             self.inputs,
             self.outputs,

@@ -5,7 +5,7 @@ ghost use Rattle.std.specs.Prelude.{◌≡◌, length, IfOk};
 use crate::{Build, Cell, Graph, GraphBuilder, Op, Outlet, TurnNode, Var};
 use std::alloc::Global;
 use std::test::Fail;
-use vcp_base::{Kind, Spot, Text, Turn, Ty};
+use vcp_base::{Kind, Profile, Spot, Text, Turn, Ty};
 
 /// An operation on DINT values outside every FOR, which reads `a` and `b`.
 fn on_dint(kind: Kind, a: u32, b: u32, imm: i64) -> Op
@@ -27,7 +27,7 @@ fn on_dint(kind: Kind, a: u32, b: u32, imm: i64) -> Op
 /// The graph of `y := x + n; n := y;`, where `x` is an input and `n` a cell.
 fn sums(alloc: Global) -> Result<Graph, Build> {
     let spot = Spot { line: 2, col: 1 };
-    let mut builder = GraphBuilder::new(alloc);
+    let mut builder = GraphBuilder::new(alloc, Profile::Narrow);
     builder.name(&Text::copy_of(alloc, b"x")?)?;
     let x = builder.input(0, Ty::Dint, spot)?;
     let n = builder.load(0, Ty::Dint, 7, spot)?;
@@ -100,11 +100,38 @@ fn graphs_are_built(rt: HostRuntime) -> Result<(), Fail> {
     Ok(())
 }
 
+/// The graph of `y := x;` on LINT.
+fn copies_lint(alloc: Global) -> Result<Graph, Build> {
+    let spot = Spot { line: 2, col: 1 };
+    let mut builder = GraphBuilder::new(alloc, Profile::Wide);
+    builder.name(&Text::copy_of(alloc, b"x")?)?;
+    let x = builder.input(0, Ty::Lint, spot)?;
+    builder.name(&Text::copy_of(alloc, b"y")?)?;
+    builder.output(1, Ty::Lint, x, spot)?;
+    Ok(builder.finish())
+}
+
+#[test]
+fn graphs_have_a_code(rt: HostRuntime) -> Result<(), Fail> {
+    let narrow = sums(rt.alloc())?;
+    assert_eq!(rt; narrow.profile(), Profile::Narrow);
+    let widened = narrow.widened();
+    assert_eq!(rt; widened.profile(), Profile::Wide);
+    assert_eq!(rt; [widened.cells(), widened.turn_nodes()], [1, 1]);
+    assert!(rt; widened.len() == 5);
+    assert_eq!(rt; widened.operation(2), on_dint(Kind::Add, 0, 1, 0));
+    let wide = copies_lint(rt.alloc())?;
+    assert_eq!(rt; wide.profile(), Profile::Wide);
+    assert!(rt; wide.len() == 2);
+    assert!(rt; wide.operation(1).ty == Ty::Lint);
+    Ok(())
+}
+
 /// A builder with 65,536 constants.
 fn filled(alloc: Global) -> Result<GraphBuilder, Build>
     ensures { IfOk result (λ builder. length builder.stores ≡ length builder.loads) }
 {
-    let mut builder = GraphBuilder::new(alloc);
+    let mut builder = GraphBuilder::new(alloc, Profile::Narrow);
     'constants: for _ in 0..65536 {
         builder.push(on_dint(Kind::Const, 0, 0, 5))?;
     }
@@ -129,7 +156,7 @@ fn no_operation_is_added_past_the_last(rt: HostRuntime) -> Result<(), Fail> {
 fn nested(alloc: Global) -> Result<Graph, Build>
     ensures { IfOk result (λ graph. length graph.operations ≡ 1) }
 {
-    let mut builder = GraphBuilder::new(alloc);
+    let mut builder = GraphBuilder::new(alloc, Profile::Narrow);
     builder.name(&Text::copy_of(alloc, b"i")?)?;
     'turns: for i in 0..600u32 {
         builder.turn(TurnNode {

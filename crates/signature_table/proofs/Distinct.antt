@@ -1,25 +1,45 @@
 -- Distinct operations have distinct signatures, and expected residues are residues.
-use Rattle.std.proofs.Common.{◌≡◌, ℕ, ◌≤◌, ◌+◌, ◌*◌, ◌%◌, ◌/◌, ◌<◌, arith}
+use Rattle.std.proofs.Common.{◌≡◌, ℕ, ◌≤◌, ◌+◌, ◌*◌, ◌%◌, ◌/◌, ◌<◌, ◌^◌, arith}
 use Rattle.std.proofs.Math.Nat.{mul-le-mul}
-use Rattle.vcp_base.specs.Code.{A}
-use Rattle.vcp_base.specs.Limits.{most_operations, most_step, most_cycles}
+use Rattle.vcp_base.specs.declared.code.Profile.{Profile}
+use Rattle.vcp_base.specs.declared.code.Profile.TheVariants as profile
+use Rattle.vcp_base.specs.Code.{modulus}
+use Rattle.vcp_base.specs.Limits.{most_operations, most_step, most_cycles, most_stamp}
 use Rattle.signature_table.specs.Signatures.{signatures, growth, signature, expected}
 
--- 5 times the growth of signatures is 2 ^ 30 + 1, so a multiple of 2 ^ 30 that is the difference of two signatures' numbers is a multiple of that for the operations too
-apart : (seed i j p q r : ℕ) → i < most_operations → j < most_operations → seed + growth * i ≡ signatures * p + r → seed + growth * j ≡ signatures * q + r → j ≡ i
-apart seed i j p q r i_few j_few at_i at_j = omega arith
+pub modulus_positive : (p : Profile) → 0 < modulus p
+modulus_positive profile.Narrow = omega arith
+modulus_positive profile.Wide = omega arith
 
-pub signature_distinct : (seed i j : ℕ) → i < most_operations → j < most_operations → signature seed j ≡ signature seed i → j ≡ i
+pub modulus_below : (p : Profile) → modulus p < 2 ^ 61
+modulus_below profile.Narrow = omega arith
+modulus_below profile.Wide = omega arith
+
+-- 5 times the growth of signatures is 2 ^ 30 + 1, so a multiple of 2 ^ 30 that is the difference of two signatures' numbers is
+-- a multiple of that for the operations too; likewise in the wide code, where it is 2 ^ 62 + 1
+apart : (p : Profile) (seed i j m n r : ℕ) → i < most_operations → j < most_operations → seed + growth p * i ≡ signatures p * m + r → seed + growth p * j ≡ signatures p * n + r → j ≡ i
+apart profile.Narrow seed i j m n r i_few j_few at_i at_j = omega arith
+apart profile.Wide seed i j m n r i_few j_few at_i at_j = omega arith
+
+pub signature_distinct : (p : Profile) (seed i j : ℕ) → i < most_operations → j < most_operations → signature p seed j ≡ signature p seed i → j ≡ i
 unfolding signature
-signature_distinct seed i j i_few j_few same =
-    apart seed i j ((seed + growth * i) / signatures) ((seed + growth * j) / signatures) ((seed + growth * i) % signatures) i_few j_few (omega arith) (omega arith)
+signature_distinct profile.Narrow seed i j i_few j_few same =
+    apart profile.Narrow seed i j ((seed + 214748365 * i) / 2 ^ 30) ((seed + 214748365 * j) / 2 ^ 30) ((seed + 214748365 * i) % 2 ^ 30) i_few j_few (omega arith) (omega arith)
+signature_distinct profile.Wide seed i j i_few j_few same =
+    apart profile.Wide seed i j ((seed + 922337203685477581 * i) / 2 ^ 60) ((seed + 922337203685477581 * j) / 2 ^ 60) ((seed + 922337203685477581 * i) % 2 ^ 60) i_few j_few (omega arith) (omega arith)
 
-signature_below : (seed i : ℕ) → signature seed i < signatures
+pub signature_below : (p : Profile) (seed i : ℕ) → signature p seed i < signatures p
 unfolding signature
-signature_below seed i = omega arith
+signature_below profile.Narrow seed i = omega arith
+signature_below profile.Wide seed i = omega arith
 
-pub expected_below : (seed step i n : ℕ) → step ≤ most_step → n < most_cycles → expected seed step i n < A
-expected_below seed step i n h l =
-    let s = signature_below seed i in
-    let p : step * (n + 1) ≤ most_step * most_cycles = mul-le-mul h (let q : n + 1 ≤ most_cycles = omega arith in q) in
-    omega (arith, s, p)
+-- the greatest stamp keeps a signature below the constant
+room : (p : Profile) → signatures p + most_stamp ≤ modulus p
+room profile.Narrow = omega arith
+room profile.Wide = omega arith
+
+pub expected_below : (p : Profile) (seed step i n : ℕ) → step ≤ most_step → n < most_cycles → expected p seed step i n < modulus p
+expected_below p seed step i n h l =
+    let s = signature_below p seed i in
+    let m : step * (n + 1) ≤ most_step * most_cycles = mul-le-mul h (let q : n + 1 ≤ most_cycles = omega arith in q) in
+    omega (arith, s, m, room p)

@@ -1,3 +1,4 @@
 pub mod Distinct
 pub mod Making
+pub mod Weighing
 pub mod Worked

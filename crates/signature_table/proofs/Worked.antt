@@ -1,5 +1,6 @@
 -- Worked: expected residues at the ends of their ranges, and the corrections of `n := n + 1; y := n;` with seed 0 and step 1.
 use Rattle.std.proofs.Common.{refl, ◌≡◌, ℕ, ◌∷◌, [], List, pos, ℤ}
+use Rattle.vcp_base.specs.declared.code.Profile.TheVariants as profile
 use Rattle.vcp_base.specs.declared.ty.Ty.TheVariants as ty
 use Rattle.vcp_base.specs.declared.kind.Kind.{Kind}
 use Rattle.vcp_base.specs.declared.kind.Kind.TheVariants as kind
@@ -8,13 +9,21 @@ use Rattle.op_graph.specs.declared.op.Op.{Op}
 use Rattle.op_graph.specs.declared.op.Cell.{Cell}
 use Rattle.signature_table.specs.Signatures.{signature, expected, corrections_from}
 
-expected-last : expected 1073741823 1000 0 999999 ≡ 2073741823
+expected-last : expected profile.Narrow 1073741823 1000 0 999999 ≡ 2073741823
 unfolding signature
 expected-last = refl
 
-expected-first : expected 1073741823 1000 1 0 ≡ 214749364
+expected-first : expected profile.Narrow 1073741823 1000 1 0 ≡ 214749364
 unfolding signature
 expected-first = refl
+
+wide-last : expected profile.Wide 1073741823 1000 0 999999 ≡ 2073741823
+unfolding signature
+wide-last = refl
+
+wide-first : expected profile.Wide 1073741823 1000 1 0 ≡ 922337204759220404
+unfolding signature
+wide-first = refl
 
 -- an operation on DINT values, which reads a and b
 on_dint : Kind → ℕ → ℕ → ℤ → Op
@@ -26,10 +35,10 @@ counter = on_dint kind.Load 0 0 (pos 0) ∷ on_dint kind.Const 0 0 (pos 1) ∷ o
 counter_cells : List Cell
 counter_cells = (record { name = 1; ty = ty.Dint; init = pos 0; load = 0; store = 4 }) ∷ []
 
-corrections_from-counter : corrections_from 0 1 counter_cells 0 counter ≡ 1288490188 ∷ 214748365 ∷ 214748365 ∷ 214748365 ∷ 429496730 ∷ []
+corrections_from-counter : corrections_from profile.Narrow 0 1 counter_cells 0 counter ≡ 1288490188 ∷ 214748365 ∷ 214748365 ∷ 214748365 ∷ 429496730 ∷ []
 unfolding counter counter_cells on_dint signature modulo
 corrections_from-counter = refl
 
-signatures-counter : signature 0 0 ∷ signature 0 1 ∷ signature 0 2 ∷ signature 0 3 ∷ signature 0 4 ∷ [] ≡ 0 ∷ 214748365 ∷ 429496730 ∷ 644245095 ∷ 858993460 ∷ []
+signatures-counter : signature profile.Narrow 0 0 ∷ signature profile.Narrow 0 1 ∷ signature profile.Narrow 0 2 ∷ signature profile.Narrow 0 3 ∷ signature profile.Narrow 0 4 ∷ [] ≡ 0 ∷ 214748365 ∷ 429496730 ∷ 644245095 ∷ 858993460 ∷ []
 unfolding signature
 signatures-counter = refl

@@ -1,63 +1,78 @@
 //! Corrections.
 
-ghost use Rattle.std.specs.Prelude.{◌≡◌, ◌<◌, ◌≤◌, ◌^◌, pos, negsuc, ◌*ℤ◌, ◌-ℤ◌, ◌≤ℤ◌, FitsSigned};
-ghost use Rattle.std.specs.Int.{w64};
-ghost use Rattle.vcp_base.specs.Code.{A as code_constant};
+ghost use Rattle.std.specs.Prelude.{◌≡◌, ◌<◌, ◌≤◌, ◌^◌, pos, negsuc, ◌*ℤ◌, ◌-ℤ◌, ◌≤ℤ◌};
+ghost use Rattle.vcp_base.specs.Code.{modulus};
 ghost use Rattle.vcp_base.specs.Limits.{most_step};
-ghost use Rattle.signature_table.specs.Signatures.{signatures, stored_signature as stored_signature_of, read_signature as read_signature_of, correction as correction_of};
+ghost use Rattle.coded_unit.specs.Words.{Small as Moderate};
+ghost use Rattle.signature_table.specs.Signatures.{stored_signature as stored_signature_of, read_signature as read_signature_of, correction as correction_of};
 
-use crate::signatures::signature;
+use crate::signatures::signature_of;
 use coded_unit::remainder;
 use op_graph::Op;
-use vcp_base::{Kind, Residue, multiplier};
+use vcp_base::{Kind, Profile, Residue, multiplier};
 
-/// The correction of operation `k`, which is `op`, for a seed and a step. It is below the constant of
-/// the code.
+/// The correction of operation `k`, which is `op`, in a code with a seed and a step. It is below the
+/// constant of the code.
 ///
 /// `store` is the number of the STORE of the cell that a LOAD reads; no other kind reads it. `None`
 /// says that there is no such cell, and counts as the signature 0.
-pub fn correction(seed: u32, step: u16, k: u32, op: &Op, store: Option<u32>) -> Residue
+pub fn correction(
+    profile: Profile,
+    seed: u32,
+    step: u16,
+    k: u32,
+    op: &Op,
+    store: Option<u32>,
+) -> Residue
     requires { step ≤ most_step }
-    ensures value { result ≡ correction_of seed step k op.now store }
-    ensures below { result < code_constant }
+    ensures value { result ≡ correction_of profile seed step k op.now store }
+    ensures below { result < modulus profile }
 {
     let first = weighed(
         multiplier(op.kind, 0),
-        read_signature(seed, step, store, op.kind, op.a),
+        read_signature(profile, seed, step, store, op.kind, op.a),
     );
     let second = weighed(
         multiplier(op.kind, 1),
-        read_signature(seed, step, store, op.kind, op.b),
+        read_signature(profile, seed, step, store, op.kind, op.b),
     );
     let third = weighed(
         multiplier(op.kind, 2),
-        read_signature(seed, step, store, op.kind, op.c),
+        read_signature(profile, seed, step, store, op.kind, op.c),
     );
-    remainder(taken_out(signature(seed, k), first, second, third))
+    let own = signature_of(profile, seed, k);
+    remainder(profile, taken_out(own, first, second, third))
 }
 
 /// The signature of an operand that reads operation `n`.
-fn read_signature(seed: u32, step: u16, store: Option<u32>, kind: Kind, n: u32) -> i64
+fn read_signature(
+    profile: Profile,
+    seed: u32,
+    step: u16,
+    store: Option<u32>,
+    kind: Kind,
+    n: u32,
+) -> i64
     requires { step ≤ most_step }
-    ensures value { result ≡ read_signature_of seed step store kind n }
+    ensures value { result ≡ read_signature_of profile seed step store kind n }
     ensures low { negsuc most_step ≤ℤ result }
-    ensures high { result ≤ℤ pos signatures }
+    ensures high { result ≤ℤ pos (2 ^ 60) }
 {
     match kind {
-        Kind::Load => stored_signature(seed, step, store),
-        _ => signature(seed, n) as i64,
+        Kind::Load => stored_signature(profile, seed, step, store),
+        _ => signature_of(profile, seed, n) as i64,
     }
 }
 
 /// The signature of what the LOAD of a cell reads: that of its STORE, less the step.
-fn stored_signature(seed: u32, step: u16, store: Option<u32>) -> i64
+fn stored_signature(profile: Profile, seed: u32, step: u16, store: Option<u32>) -> i64
     requires { step ≤ most_step }
-    ensures value { result ≡ stored_signature_of seed step store }
+    ensures value { result ≡ stored_signature_of profile seed step store }
     ensures low { negsuc most_step ≤ℤ result }
-    ensures high { result ≤ℤ pos signatures }
+    ensures high { result ≤ℤ pos (2 ^ 60) }
 {
     match store {
-        Some(n) => signature(seed, n) as i64 - step as i64,
+        Some(n) => signature_of(profile, seed, n) as i64 - step as i64,
         None => 0,
     }
 }
@@ -67,18 +82,18 @@ fn weighed(factor: i32, signature: i64) -> i128
     requires factor_low { negsuc 1 ≤ℤ factor }
     requires factor_high { factor ≤ℤ pos 20 }
     requires low { negsuc most_step ≤ℤ signature }
-    requires high { signature ≤ℤ pos signatures }
+    requires high { signature ≤ℤ pos (2 ^ 60) }
     ensures value { result ≡ factor *ℤ signature }
-    ensures fits { FitsSigned w64 result }
+    ensures fits { Moderate result }
 {
     factor as i128 * signature as i128
 }
 
 /// A signature, with three others taken out of it.
 fn taken_out(signature: Residue, first: i128, second: i128, third: i128) -> i128
-    requires first { FitsSigned w64 first }
-    requires second { FitsSigned w64 second }
-    requires third { FitsSigned w64 third }
+    requires first { Moderate first }
+    requires second { Moderate second }
+    requires third { Moderate third }
     ensures { result ≡ pos signature -ℤ first -ℤ second -ℤ third }
 {
     signature as i128 - first - second - third

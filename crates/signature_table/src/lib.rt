@@ -10,8 +10,8 @@ mod signatures;
 mod table;
 
 pub use corrections::correction;
-pub use laws::{constant_is_in_range, expected_residues_are_residues, signatures_are_distinct};
-pub use signatures::signature;
+pub use laws::{constants_are_in_range, expected_residues_are_residues, signatures_are_distinct};
+pub use signatures::signature_of;
 pub use table::Table;
 
 #[cfg(test)]

@@ -1,38 +1,42 @@
 //! Signatures and stamps.
 
-ghost use Rattle.std.specs.Prelude.{◌≡◌, ◌<◌, ◌≤◌};
-ghost use Rattle.vcp_base.specs.Code.{A as code_constant};
+ghost use Rattle.std.specs.Prelude.{◌≡◌, ◌<◌, ◌≤◌, ◌^◌};
+ghost use Rattle.vcp_base.specs.Code.{modulus};
 ghost use Rattle.vcp_base.specs.Limits.{most_step, most_cycles, most_stamp};
-ghost use Rattle.signature_table.specs.Signatures.{signatures, signature as signature_of, stamp as stamp_of, expected as expected_of};
+ghost use Rattle.signature_table.specs.Signatures.{signatures, signature, stamp as stamp_value, expected as expected_value};
 
-use vcp_base::Residue;
+use vcp_base::{Profile, Residue};
 
-/// The signature of operation `i` for a seed, below 2^30. Each operation of a graph has its own, as
-/// `signatures_are_distinct` says.
+/// The signature of operation `i` for a seed: below 2^30 in the narrow code, and below 2^60 in the wide
+/// one. Each operation of a graph has its own, as `signatures_are_distinct` says.
 #[tactic(auto, unfolding(crate::specs::Signatures::signature))]
-pub fn signature(seed: u32, i: u32) -> Residue
-    ensures value { result ≡ signature_of seed i }
-    ensures below { result < signatures }
+pub fn signature_of(profile: Profile, seed: u32, i: u32) -> Residue
+    ensures value { result ≡ signature profile seed i }
+    ensures below { result < signatures profile }
+    ensures small { result < 2 ^ 60 }
 {
-    ((seed as u64 + 214748365 * i as u64) % (1 << 30)) as Residue
+    match profile {
+        Profile::Narrow => (seed as u64 + 214748365 * i as u64) % (1 << 30),
+        Profile::Wide => ((seed as u128 + 922337203685477581 * i as u128) % (1 << 60)) as Residue,
+    }
 }
 
 /// The stamp of a cycle, counted from 0.
 fn stamp(step: u16, cycle: u32) -> u32
     requires step { step ≤ most_step }
     requires cycle { cycle < most_cycles }
-    ensures value { result ≡ stamp_of step cycle }
+    ensures value { result ≡ stamp_value step cycle }
     ensures below { result ≤ most_stamp }
 {
     step as u32 * (cycle + 1)
 }
 
 /// The residue that the word of operation `i` has in a cycle where nothing is amiss.
-pub(crate) fn expected(seed: u32, step: u16, i: u32, cycle: u32) -> Residue
+pub(crate) fn expected(profile: Profile, seed: u32, step: u16, i: u32, cycle: u32) -> Residue
     requires step { step ≤ most_step }
     requires cycle { cycle < most_cycles }
-    ensures value { result ≡ expected_of seed step i cycle }
-    ensures below { result < code_constant }
+    ensures value { result ≡ expected_value profile seed step i cycle }
+    ensures below { result < modulus profile }
 {
-    signature(seed, i) + stamp(step, cycle)
+    signature_of(profile, seed, i) + stamp(step, cycle) as Residue
 }

@@ -1,21 +1,22 @@
 //! Tables of signatures.
 
 ghost use Rattle.std.specs.Prelude.{◌≡◌, ◌≤◌, ◌<◌, Some, IfOk, length, slice_get, unsigned_abs};
-ghost use Rattle.vcp_base.specs.Code.{A as code_constant};
+ghost use Rattle.vcp_base.specs.Code.{modulus};
 ghost use Rattle.vcp_base.specs.Limits.{seeds, most_step, most_cycles};
 ghost use Rattle.op_graph.specs.Lists.{cells};
-ghost use Rattle.signature_table.specs.Signatures.{signatures, signature as signature_of, expected as expected_of, store_of as store_of_cell, table_of, IsTable};
+ghost use Rattle.signature_table.specs.Signatures.{signatures, signature, expected as expected_value, store_of as store_of_cell, table_of, IsTable};
 
 use crate::corrections::correction;
-use crate::signatures::{expected, signature};
+use crate::signatures::{expected, signature_of};
 use op_graph::{Graph, Op};
 use std::alloc::Global;
 use std::marker::Model;
-use vcp_base::{Memory, Residue};
+use vcp_base::{Memory, Profile, Residue};
 
 /// The numbers of a graph's code: a seed, a step, and a correction for each operation.
 #[derive(Debug, Drop)]
 pub struct Table {
+    profile: Profile,
     seed: u32,
     step: u16,
     corrections: Vec<Residue>,
@@ -26,9 +27,9 @@ impl Model for Table {
 
     ghost Value = { Numbers };
 
-    ghost view = { λ t. record { seed = t.seed; step = t.step; corrections = t.corrections.items } };
+    ghost view = { λ t. record { profile = t.profile; seed = t.seed; step = t.step; corrections = t.corrections.items } };
 
-    ghost invariant = { λ t. IsTable (record { seed = t.seed; step = t.step; corrections = t.corrections.items }) };
+    ghost invariant = { λ t. IsTable (record { profile = t.profile; seed = t.seed; step = t.step; corrections = t.corrections.items }) };
 }
 
 impl Table {
@@ -44,13 +45,21 @@ impl Table {
         'operations: for k in 0..graph.len() {
             let op = graph.operation(k);
             let store = store_of(graph, &op);
-            corrections.push(correction(seed, step, k, &op, store))?;
+            corrections.push(correction(graph.profile(), seed, step, k, &op, store))?;
         }
         Ok(Table {
+            profile: graph.profile(),
             seed,
             step,
             corrections,
         })
+    }
+
+    /// The code of the graph.
+    pub fn profile(&self) -> Profile
+        ensures { result ≡ self.now.profile }
+    {
+        self.profile
     }
 
     /// The seed, below 2^30: the signature of operation 0.
@@ -69,21 +78,22 @@ impl Table {
         self.step
     }
 
-    /// The signature of operation `i`, which is below the number of operations. It is below 2^30, and
-    /// no other operation has it, as `signatures_are_distinct` says.
+    /// The signature of operation `i`, which is below the number of operations. It is below 2^30 in the
+    /// narrow code and below 2^60 in the wide one, and no other operation has it, as
+    /// `signatures_are_distinct` says.
     pub fn signature(&self, i: u32) -> Residue
         requires { i < length self.now.corrections }
-        ensures value { result ≡ signature_of self.now.seed i }
-        ensures below { result < signatures }
+        ensures value { result ≡ signature self.now.profile self.now.seed i }
+        ensures below { result < signatures self.now.profile }
     {
-        signature(self.seed, i)
+        signature_of(self.profile, self.seed, i)
     }
 
     /// The correction of operation `i`, which is below the number of operations.
     pub fn correction(&self, i: u32) -> Residue
         requires { i < length self.now.corrections }
         ensures value { slice_get self.now.corrections i ≡ Some result }
-        ensures below { result < code_constant }
+        ensures below { result < modulus self.now.profile }
     {
         self.corrections[i as usize]
     }
@@ -93,10 +103,10 @@ impl Table {
     pub fn expected(&self, i: u32, n: u32) -> Residue
         requires operation { i < length self.now.corrections }
         requires cycle { n < most_cycles }
-        ensures value { result ≡ expected_of self.now.seed self.now.step i n }
-        ensures below { result < code_constant }
+        ensures value { result ≡ expected_value self.now.profile self.now.seed self.now.step i n }
+        ensures below { result < modulus self.now.profile }
     {
-        expected(self.seed, self.step, i, n)
+        expected(self.profile, self.seed, self.step, i, n)
     }
 }
 

@@ -2,11 +2,11 @@
 
 ghost use Rattle.std.specs.Prelude.{◌≡◌, length, IfOk};
 
-use crate::{Table, correction, signature};
+use crate::{Table, correction, signature_of};
 use op_graph::{Build, Graph, GraphBuilder, Op};
 use std::alloc::Global;
 use std::test::Fail;
-use vcp_base::{Kind, Spot, Text, Ty};
+use vcp_base::{Kind, Profile, Spot, Text, Ty};
 
 /// An operation on DINT values, which reads `a` and `b`.
 fn on_dint(kind: Kind, a: u32, b: u32, imm: i64) -> Op
@@ -30,7 +30,7 @@ fn counter(alloc: Global) -> Result<Graph, Build>
     ensures { IfOk result (λ graph. length graph.operations ≡ 5) }
 {
     let spot = Spot { line: 3, col: 5 };
-    let mut builder = GraphBuilder::new(alloc);
+    let mut builder = GraphBuilder::new(alloc, Profile::Narrow);
     builder.name(&Text::copy_of(alloc, b"y")?)?;
     builder.name(&Text::copy_of(alloc, b"n")?)?;
     let n = builder.load(1, Ty::Dint, 0, spot)?;
@@ -50,7 +50,11 @@ fn a_counter_has_its_numbers(rt: HostRuntime) -> Result<(), Fail> {
     let expected = [2, 214748367, 429496732, 644245097, 858993462];
     for i in 0..5u32 {
         assert_eq!(rt; table.signature(i), signatures[i as usize], "signature {i}");
-        assert_eq!(rt; signature(0, i), signatures[i as usize], "signature {i}");
+        assert_eq!(rt;
+            signature_of(Profile::Narrow, 0, i),
+            signatures[i as usize],
+            "signature {i}"
+        );
         assert_eq!(rt;
             table.correction(i),
             corrections[i as usize],
@@ -58,17 +62,53 @@ fn a_counter_has_its_numbers(rt: HostRuntime) -> Result<(), Fail> {
         );
         assert_eq!(rt; table.expected(i, 1), expected[i as usize], "expected {i}");
     }
+    assert_eq!(rt; table.profile(), Profile::Narrow);
     assert_eq!(rt; (table.seed(), table.step()), (0, 1));
     // The LOAD reads what operation 4 stored; an ADD reads no STORE.
     assert_eq!(rt;
-        correction(0, 1, 0, &on_dint(Kind::Load, 0, 0, 0), Some(4)),
+        correction(
+            Profile::Narrow,
+            0,
+            1,
+            0,
+            &on_dint(Kind::Load, 0, 0, 0),
+            Some(4)
+        ),
         corrections[0]
     );
     assert_eq!(rt;
-        correction(0, 1, 2, &on_dint(Kind::Add, 0, 1, 0), None),
+        correction(Profile::Narrow, 0, 1, 2, &on_dint(Kind::Add, 0, 1, 0), None),
         corrections[2]
     );
     Ok(())
+}
+
+/// The operations INPUT, CONST, ADD and OUT of `y := x + 1` in the wide code, with the seed 0.
+#[test]
+fn wide_signatures_and_corrections(rt: HostRuntime) {
+    let rows = [
+        (on_dint(Kind::Input, 0, 0, 0), 0, 0),
+        (
+            on_dint(Kind::Const, 0, 0, 1),
+            922337203685477581,
+            922337203685477581,
+        ),
+        (
+            on_dint(Kind::Add, 0, 1, 0),
+            691752902764108186,
+            2075258708292324556,
+        ),
+        (
+            on_dint(Kind::Out, 2, 0, 0),
+            461168601842738791,
+            2075258708292324556,
+        ),
+    ];
+    for i in 0..4u32 {
+        let (op, signature, wanted) = rows[i as usize];
+        assert_eq!(rt; signature_of(Profile::Wide, 0, i), signature);
+        assert_eq!(rt; correction(Profile::Wide, 0, 1, i, &op, None), wanted);
+    }
 }
 
 #[test]
@@ -77,7 +117,11 @@ fn expected_residues_reach_their_ends(rt: HostRuntime) -> Result<(), Fail> {
     let table = Table::new(rt.alloc(), &graph, 1073741823, 1000)?;
     assert_eq!(rt; table.expected(0, 999999), 2073741823);
     assert_eq!(rt; table.expected(1, 0), 214749364);
-    crate::constant_is_in_range();
+    let wide = Table::new(rt.alloc(), &graph.widened(), 1073741823, 1000)?;
+    assert_eq!(rt; wide.profile(), Profile::Wide);
+    assert_eq!(rt; wide.expected(0, 999999), 2073741823);
+    assert_eq!(rt; wide.expected(1, 0), 922337204759220404);
+    crate::constants_are_in_range();
     crate::signatures_are_distinct();
     crate::expected_residues_are_residues();
     Ok(())

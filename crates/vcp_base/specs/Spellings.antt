@@ -59,19 +59,21 @@ kind_name kind.Sel = codes "SEL"
 
 -- the types in the order of their codes, from 0
 abbrev pub types : List Ty
-types = ty.Bool ∷ ty.Int ∷ ty.Dint ∷ []
+types = ty.Bool ∷ ty.Int ∷ ty.Dint ∷ ty.Lint ∷ []
 
 -- the code of a type: its place among the types
 abbrev pub ty_code : Ty → ℕ
 ty_code ty.Bool = 0
 ty_code ty.Int = 1
 ty_code ty.Dint = 2
+ty_code ty.Lint = 3
 
 -- the name of a type
 abbrev pub ty_name : Ty → List ℕ
 ty_name ty.Bool = codes "BOOL"
 ty_name ty.Int = codes "INT"
 ty_name ty.Dint = codes "DINT"
+ty_name ty.Lint = codes "LINT"
 
 -- the name of a kind of stop
 abbrev pub stop_name : StopKind → List ℕ

@@ -8,12 +8,14 @@ abbrev pub least : Ty → ℤ
 least ty.Bool = pos 0
 least ty.Int = negsuc 32767
 least ty.Dint = negsuc 2147483647
+least ty.Lint = negsuc 9223372036854775807
 
 -- the greatest value of a type
 abbrev pub greatest : Ty → ℤ
 greatest ty.Bool = pos 1
 greatest ty.Int = pos 32767
 greatest ty.Dint = pos 2147483647
+greatest ty.Lint = pos 9223372036854775807
 
 -- v is a value of the type
 abbrev pub fits : Ty → ℤ → Bool
@@ -26,14 +28,22 @@ AreIn [] (v ∷ vs) = ⊥
 AreIn (t ∷ ts) [] = ⊥
 AreIn (t ∷ ts) (v ∷ vs) = (fits t v ≡ true) × AreIn ts vs
 
--- values of the first type are taken where the second is wanted: they are equal, or INT and DINT
+-- Values of the first type are taken where the second is wanted: the types are equal, or both are among INT, DINT, LINT
+-- and the first stands before the second in this order.
 abbrev pub within : Ty → Ty → Bool
 within ty.Bool ty.Bool = true
 within ty.Bool ty.Int = false
 within ty.Bool ty.Dint = false
+within ty.Bool ty.Lint = false
 within ty.Int ty.Bool = false
 within ty.Int ty.Int = true
 within ty.Int ty.Dint = true
+within ty.Int ty.Lint = true
 within ty.Dint ty.Bool = false
 within ty.Dint ty.Int = false
 within ty.Dint ty.Dint = true
+within ty.Dint ty.Lint = true
+within ty.Lint ty.Bool = false
+within ty.Lint ty.Int = false
+within ty.Lint ty.Dint = false
+within ty.Lint ty.Lint = true

@@ -1,8 +1,29 @@
-//! The constant of the code, and what is counted modulo it.
+//! The two codes, and what is counted modulo their constants.
 
-/// A residue modulo `A`: of a word, or a signature, a correction or a weight. It is 0 to `A - 1`.
-pub type Residue = u32;
+ghost use Rattle.std.specs.Prelude.{◌≡◌, ◌<◌, ◌^◌};
+ghost use Rattle.vcp_base.specs.Code.{modulus as modulus_of};
 
-/// The constant of the code, 2^31 - 1, modulo which residues are counted. No promise rests on its
-/// being prime.
-pub const A: Residue = 2147483647;
+/// A residue modulo the constant of a code: of a word, or a signature, a correction or a weight. It
+/// is 0 to the constant less 1.
+pub type Residue = u64;
+
+/// A code. Each graph has one.
+#[derive(Clone, Copy, Debug, PartialEq, Eq)]
+pub enum Profile {
+    /// The code with the constant 2^31 - 1, which has no words of LINT.
+    Narrow,
+    /// The code with the constant 2^61 - 1.
+    Wide,
+}
+
+/// The constant of a code, modulo which residues are counted. No promise rests on its being prime.
+pub fn modulus(profile: Profile) -> Residue
+    ensures value { result ≡ modulus_of profile }
+    ensures positive { 0 < result }
+    ensures below { result < 2 ^ 61 }
+{
+    match profile {
+        Profile::Narrow => 2147483647,
+        Profile::Wide => 2305843009213693951,
+    }
+}

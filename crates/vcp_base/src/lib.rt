@@ -18,7 +18,7 @@ mod turns;
 mod ty;
 mod words;
 
-pub use code::{A, Residue};
+pub use code::{Profile, Residue, modulus};
 pub use columns::{Column, Columns};
 pub use kind::{Kind, StopKind, multiplier, operands};
 pub use limits::{

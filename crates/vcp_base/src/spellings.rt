@@ -89,7 +89,7 @@ pub fn kind_name(kind: Kind) -> &'static [u8]
     }
 }
 
-/// The code of a type, 0 to 2: its place in the list of types.
+/// The code of a type, 0 to 3: its place in the list of types.
 pub fn ty_code(ty: Ty) -> u8
     ensures code { result ≡ ty_code_of ty }
     ensures place { slice_get types result ≡ Some ty }
@@ -98,10 +98,11 @@ pub fn ty_code(ty: Ty) -> u8
         Ty::Bool => 0,
         Ty::Int => 1,
         Ty::Dint => 2,
+        Ty::Lint => 3,
     }
 }
 
-/// The type with the code; None where there is none, from 3 on.
+/// The type with the code; None where there is none, from 4 on.
 pub fn ty_of_code(code: u8) -> Option<Ty>
     ensures ty { result ≡ slice_get types code }
 {
@@ -109,6 +110,7 @@ pub fn ty_of_code(code: u8) -> Option<Ty>
         0 => Some(Ty::Bool),
         1 => Some(Ty::Int),
         2 => Some(Ty::Dint),
+        3 => Some(Ty::Lint),
         _ => None,
     }
 }
@@ -121,6 +123,7 @@ pub fn ty_name(ty: Ty) -> &'static [u8]
         Ty::Bool => b"BOOL",
         Ty::Int => b"INT",
         Ty::Dint => b"DINT",
+        Ty::Lint => b"LINT",
     }
 }
 

@@ -17,6 +17,11 @@ fn types_are_ranges(rt: HostRuntime) {
             [-2147483648, 2147483647],
             [-2147483649, 2147483648],
         ),
+        (
+            Ty::Lint,
+            [-9223372036854775808, 9223372036854775807],
+            [-9223372036854775809, 9223372036854775808],
+        ),
     ];
     for (ty, inside, outside) in rows {
         assert_eq!(rt; least(ty) as i128, inside[0]);
@@ -28,8 +33,14 @@ fn types_are_ranges(rt: HostRuntime) {
             assert!(rt; !fits(ty, v));
         }
     }
-    assert!(rt; within(Ty::Int, Ty::Dint) && within(Ty::Bool, Ty::Bool));
-    assert!(rt; !within(Ty::Dint, Ty::Int) && !within(Ty::Bool, Ty::Int));
+    assert!(rt;
+        within(Ty::Int, Ty::Dint) && within(Ty::Int, Ty::Lint) && within(Ty::Dint, Ty::Lint)
+    );
+    assert!(rt;
+        !within(Ty::Dint, Ty::Int) && !within(Ty::Lint, Ty::Int) && !within(Ty::Lint, Ty::Dint)
+    );
+    assert!(rt; !within(Ty::Bool, Ty::Int) && !within(Ty::Lint, Ty::Bool));
+    assert!(rt; within(Ty::Bool, Ty::Bool));
 }
 
 #[test]
@@ -70,8 +81,9 @@ fn kinds_types_and_stops_have_codes_and_names(rt: HostRuntime) {
     assert_eq!(rt; kind_of_code(19), None);
     assert_eq!(rt; ty_code(Ty::Dint), 2);
     assert_eq!(rt; ty_of_code(0), Some(Ty::Bool));
-    assert_eq!(rt; ty_of_code(3), None);
-    assert_eq!(rt; ty_name(Ty::Int), b"INT".as_slice());
+    assert_eq!(rt; ty_of_code(3), Some(Ty::Lint));
+    assert_eq!(rt; ty_of_code(4), None);
+    assert_eq!(rt; ty_name(Ty::Lint), b"LINT".as_slice());
     assert_eq!(rt; stop_name(StopKind::DivZero), b"DIVZERO".as_slice());
 }
 

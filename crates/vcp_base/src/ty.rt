@@ -13,6 +13,8 @@ pub enum Ty {
     Int,
     /// -2147483648 to 2147483647.
     Dint,
+    /// -9223372036854775808 to 9223372036854775807.
+    Lint,
 }
 
 /// The least value of the type.
@@ -23,6 +25,7 @@ pub fn least(ty: Ty) -> i64
         Ty::Bool => 0,
         Ty::Int => -32768,
         Ty::Dint => -2147483648,
+        Ty::Lint => i64::MIN,
     }
 }
 
@@ -34,6 +37,7 @@ pub fn greatest(ty: Ty) -> i64
         Ty::Bool => 1,
         Ty::Int => 32767,
         Ty::Dint => 2147483647,
+        Ty::Lint => i64::MAX,
     }
 }
 
@@ -46,16 +50,18 @@ pub fn fits(ty: Ty, v: i128) -> bool
 }
 
 /// Whether each value of the first type is taken where the second is wanted, without conversion: the
-/// types are equal, or INT and DINT.
+/// types are equal, or both are among INT, DINT and LINT and the first stands before the second.
 pub fn within(small: Ty, wide: Ty) -> bool
     ensures { result ≡ within_of small wide }
 {
     match (small, wide) {
         (Ty::Bool, Ty::Bool) => true,
-        (Ty::Bool, Ty::Int | Ty::Dint) => false,
-        (Ty::Int, Ty::Int | Ty::Dint) => true,
+        (Ty::Bool, Ty::Int | Ty::Dint | Ty::Lint) => false,
+        (Ty::Int, Ty::Int | Ty::Dint | Ty::Lint) => true,
         (Ty::Int, Ty::Bool) => false,
-        (Ty::Dint, Ty::Dint) => true,
+        (Ty::Dint, Ty::Dint | Ty::Lint) => true,
         (Ty::Dint, Ty::Bool | Ty::Int) => false,
+        (Ty::Lint, Ty::Lint) => true,
+        (Ty::Lint, Ty::Bool | Ty::Int | Ty::Dint) => false,
     }
 }

@@ -2,14 +2,14 @@
 //!
 //! A stands for 2147483647, the constant of the code.
 
-ghost use Rattle.std.specs.Prelude.{◌≡◌, ◌<◌, ◌≤◌};
-ghost use Rattle.vcp_base.specs.Code.{A as code_constant};
+ghost use Rattle.std.specs.Prelude.{◌≡◌, ◌<◌, ◌≤◌, true};
+ghost use Rattle.vcp_base.specs.Code.{modulus, admits};
 ghost use Rattle.vcp_base.specs.Limits.{most_stamp};
 
 use super::{word_answer, word_or_zero};
 use crate::table::answer;
 use crate::{Answer, Call, Word};
-use vcp_base::{Kind, Ty};
+use vcp_base::{Kind, Profile, Residue, Ty};
 
 /// The types of a call: that of its operands, and that of its value.
 type Types = (Ty, Ty);
@@ -35,24 +35,35 @@ const DINT: Types = (Ty::Dint, Ty::Dint);
 /// What a call carries beside its values.
 #[derive(Drop)]
 struct Carried {
-    residue: u32,
-    corr: u32,
+    residue: Residue,
+    corr: Residue,
     stamp: u32,
+}
+
+/// The type, and DINT for LINT, which the narrow code does not have.
+fn narrow(ty: Ty) -> Ty
+    ensures { admits Profile.Narrow result ≡ true }
+{
+    match ty {
+        Ty::Lint => Ty::Dint,
+        _ => ty,
+    }
 }
 
 /// The answer at operands of these values, each with the same residue. INPUT and CONST take the
 /// first value as their number.
 fn answer_at(kind: Kind, types: Types, values: [i64; 3], carried: &Carried) -> Answer
-    requires corr { carried.now.corr < code_constant }
+    requires corr { carried.now.corr < modulus Profile.Narrow }
     requires stamp { carried.now.stamp ≤ most_stamp }
 {
     let [a, b, c] = values;
     answer(&Call {
+        profile: Profile::Narrow,
         op: 0,
         cycle: 0,
         kind,
-        from: types.0,
-        ty: types.1,
+        from: narrow(types.0),
+        ty: narrow(types.1),
         a: word_at(a, carried.residue),
         b: word_at(b, carried.residue),
         c: word_at(c, carried.residue),
@@ -63,7 +74,7 @@ fn answer_at(kind: Kind, types: Types, values: [i64; 3], carried: &Carried) -> A
 }
 
 /// The word of a value and a residue.
-fn word_at(value: i64, residue: u32) -> Word {
+fn word_at(value: i64, residue: Residue) -> Word {
     word_or_zero(2147483647 * value as i128 + residue as i128)
 }
 
@@ -102,7 +113,7 @@ fn twice(given: &Answer) -> [Answer; 2] {
 /// The residue of an answer whose operands' residues and correction are A - 1, at the stamp
 /// 1000000000. A - 1 is -1 modulo A, so that with the sum m of the kind's multipliers it is
 /// -m - 1 + (1 - m)*1000000000 modulo A.
-fn greatest_residue(kind: Kind) -> u32 {
+fn greatest_residue(kind: Kind) -> Residue {
     match kind {
         // m = 0: -1 + 1000000000
         Kind::Input | Kind::Const | Kind::Sub => 999999999,
@@ -539,6 +550,7 @@ fn operands_outside_their_type_stop(rt: HostRuntime) {
 fn answer_to(kind: Kind, words: [i128; 3]) -> Answer {
     let [a, b, c] = words;
     answer(&Call {
+        profile: Profile::Narrow,
         op: 0,
         cycle: 0,
         kind,

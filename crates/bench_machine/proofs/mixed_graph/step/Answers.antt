@@ -1,4 +1,4 @@
 use Rattle.bench_machine.proofs.mixed_graph.step.Goals as goal
 
-pub push-requires : goal.push-requires
-push-requires c = c.mixed_operation-op.ensures c.args.builder.now.operations _ c.requires.readable
+pub push-requires-clause-fits : goal.push-requires-clause-fits
+push-requires-clause-fits c = c.mixed_operation-op.ensures.fits c.args.builder.now.operations _ c.requires.readable

@@ -29,3 +29,16 @@ returns-in-Int c = λ ops op is k r.
       older_truth = stays ty.Bool _ r.older_truth;
       newer_truth = stays ty.Bool _ r.newer_truth;
     }
+
+pub returns-in-Lint : goal.returns-in-Lint
+returns-in-Lint c = λ ops op is k r.
+    let stays = c.operands_are_there.ensures.stays ops (op ∷ []) in
+    record {
+      input = stays ty.Dint _ r.input;
+      modulus = stays ty.Dint _ r.modulus;
+      divisor = stays ty.Dint _ r.divisor;
+      older = stays ty.Dint _ r.older;
+      newer = stays ty.Dint _ r.newer;
+      older_truth = stays ty.Bool _ r.older_truth;
+      newer_truth = stays ty.Bool _ r.newer_truth;
+    }

@@ -12,14 +12,11 @@ returns c =
         residues = c.expected_residues_are_residues.ensures;
       };
       typed = c.operands_are_in_their_types.ensures;
-      entries = record {
-        outs = c.entries_keep_their_rules.ensures.output;
-        stores = c.entries_keep_their_rules.ensures.store;
-        cell = c.cells_have_two_parts.ensures.at;
-        linked = c.operands_are_there.ensures.linked;
-      };
+      entries = c.entries_keep_their_rules.ensures;
+      cells = c.cells_have_two_parts.ensures;
+      reads = c.operands_are_there.ensures;
     } in
     record {
-      cycle = λ s values answers graph table few hold right whole. stands_for laws s values answers (all_below laws s.table s.cycle table few) graph hold right whole;
+      cycle = λ s values answers graph table few hold right whole. stands_for laws s values answers (all_below laws s.graph.profile s.table s.cycle table few) graph hold right whole;
       cells_at_first = λ g seed step graph. cells_at_first laws g seed step graph;
     }

@@ -6,18 +6,18 @@ use Rattle.signature_table.specs.Signatures.{signature}
 use Rattle.coded_machine.proofs.Places.{map_at, store_at, length-corrections}
 use Rattle.coded_machine.proofs.releasing.first_words.Goals as goal
 
-pub first_word-requires : goal.first_word-requires
-first_word-requires c =
+pub first_word-requires-clause-operation : goal.first_word-requires-clause-operation
+first_word-requires-clause-operation c =
     let g = c.args.graph.now in
     let t = c.args.table.now in
     let there = store_at g.loads g.stores c.cells.i c.cell.result c.cell.ensures in
-    omega (arith, (c.entries_keep_their_rules.ensures.store g c.cells.i _ c.requires.graph.part there).store, ap length c.requires.table, length-corrections t.seed t.step (cells g) 0 g.operations)
+    omega (arith, (c.entries_keep_their_rules.ensures.store g c.cells.i _ c.requires.graph.part there).store, ap length c.requires.table.1, length-corrections g.profile t.seed t.step (cells g) 0 g.operations)
 
 pub cells-preserved : goal.cells-preserved
 cells-preserved c =
     let g = c.args.graph.now in
     let i = c.cells.i in
-    let word = λ (d : Cell). coded d.init (signature c.args.table.now.seed d.store) in
+    let word = λ (d : Cell). coded c.args.graph.now.profile d.init (signature c.args.graph.now.profile c.args.table.now.seed d.store) in
     let later = map word (drop (i + 1) (cells g)) in
     record {
       count = ap length c.in_ok-push.ensures.items ∙ simp length-append (omega (arith, c.cells.invariant.count));

@@ -7,7 +7,6 @@ use Rattle.op_graph.specs.Rules.{IsGraph}
 use Rattle.signature_table.specs.Signatures.{IsTable}
 use Rattle.machine_run.proofs.Exits.{memory_exit, row_exit, last_exit, cycle_exit, write_exit, refused_rose}
 use Rattle.machine_run.proofs.Overall.{Fair}
-use Rattle.machine_run.proofs.Promised.{RunLaws, HonestLaws, EntryLaws}
 use Rattle.machine_run.proofs.Stopping.{stopped_log, stop_placed, refusal_numbered}
 use Rattle.machine_run.proofs.UpTo.{up_to_first, up_to_next, cycles_left}
 use Rattle.machine_run.proofs.run.run_rows.Goals as goal
@@ -15,23 +14,19 @@ use Rattle.machine_run.proofs.run.run_rows.Goals as goal
 pub returns-in_err-inputs-clause-leaves : goal.returns-in_err-inputs-clause-leaves
 returns-in_err-inputs-clause-leaves g c =
     let p = err_from_is_err_and c.from_residual.result c.from_residual.ensures.1 in
-    let law = c.runs_follow_their_answers.ensures in
-    let runs : RunLaws = record { starts = law.starts; goes_on = law.goes_on; stands = law.stands; ends = law.ends } in
-    let follow = c.honest_runs_follow_the_graph.ensures in
-    let honest : HonestLaws = record { so_far = follow.so_far; whole = follow.whole } in
+    let runs = c.runs_follow_their_answers.ensures in
+    let honest = c.honest_runs_follow_the_graph.ensures in
     let m = c.args.machine.now in
     let fair : Fair m.graph m.table c.args.rows.now.rows = record { graph = subst IsGraph c.graph-graph.ensures c.len-operations.ensures.rules; table = subst IsTable c.table.ensures c.step-step.ensures.ranges; few = c.requires.few } in
     rw (p.1, p.2) (memory_exit runs honest m.graph m.table c.args.rows.now c.args.rows.now g.R.ReleasedRows.text _ _ (g.R.ReleasedRows.Keeps c.args.released.now) (g.R.ReleasedRows.Keeps c.args.released.now) m fair (up_to_first runs c.args.rows.now g.R.ReleasedRows.text _ (g.R.ReleasedRows.Keeps c.args.released.now) m c.requires.fresh))
 
 pub cycles-init : goal.cycles-init
 cycles-init g c =
-    let law = c.runs_follow_their_answers.ensures in
-    let runs : RunLaws = record { starts = law.starts; goes_on = law.goes_on; stands = law.stands; ends = law.ends } in
-    let follow = c.honest_runs_follow_the_graph.ensures in
+    let runs = c.runs_follow_their_answers.ensures in
     let m = c.args.machine.now in
     record {
       runs = runs;
-      honest = record { so_far = follow.so_far; whole = follow.whole };
+      honest = c.honest_runs_follow_the_graph.ensures;
       fair = record { graph = subst IsGraph c.graph-graph.ensures c.len-operations.ensures.rules; table = subst IsTable c.table.ensures c.step-step.ensures.ranges; few = c.requires.few };
       inputs = ap length c.in_ok-inputs.ensures ∙ length-replicate _ _ ∙ c.inputs.ensures ∙ ap (λ (x : Lists). length x.inputs) c.graph-graph.ensures ∙ sym c.requires.width;
       outputs = ap length c.in_ok-outputs.ensures ∙ length-replicate _ _ ∙ c.outputs.ensures ∙ ap (λ (x : Lists). length x.outputs) c.graph-graph.ensures;
@@ -114,8 +109,7 @@ returns-in_default-clause-stopped g c = λ k why is.
     let so_far = c.cycles.invariant in
     let cycle = c.in_ok-end.ensures in
     let graph = subst IsGraph (sym so_far.so_far.run.graph) so_far.fair.graph in
-    let law = c.entries_keep_their_rules.ensures in
-    let entries : EntryLaws = record { output = law.output; operation = law.operation } in
+    let entries = c.entries_keep_their_rules.ensures in
     stopped_log entries c.cycles.machine c.run_cycle.new.machine c.next.new.out c.in_ok-end.end k why _ _ _ _ _ _ graph cycle.turn cycle.cause (cc) so_far.so_far.run.carried.told
 
 pub returns-in_default-clause-refused : goal.returns-in_default-clause-refused
@@ -128,8 +122,7 @@ returns-in_default-clause-placed g c = λ k why is.
     let so_far = c.cycles.invariant in
     let cycle = c.in_ok-end.ensures in
     let graph = subst IsGraph (sym so_far.so_far.run.graph) so_far.fair.graph in
-    let law = c.entries_keep_their_rules.ensures in
-    let entries : EntryLaws = record { output = law.output; operation = law.operation } in
+    let entries = c.entries_keep_their_rules.ensures in
     let m = c.cycles.machine in
     subst (λ (x : Lists). k < length x.operations) so_far.so_far.run.graph (stop_placed entries m.graph m.table m.cycles c.run_cycle.new.machine.answers c.in_ok-end.end k why graph cycle.turn.whole cycle.cause (cc))
 
@@ -142,10 +135,8 @@ returns-in_default-clause-numbered g c = λ i found wanted is.
 pub returns-in_err-outputs-clause-leaves : goal.returns-in_err-outputs-clause-leaves
 returns-in_err-outputs-clause-leaves g c =
     let p = err_from_is_err_and c.from_residual-in_err-outputs.result c.from_residual-in_err-outputs.ensures.1 in
-    let law = c.runs_follow_their_answers.ensures in
-    let runs : RunLaws = record { starts = law.starts; goes_on = law.goes_on; stands = law.stands; ends = law.ends } in
-    let follow = c.honest_runs_follow_the_graph.ensures in
-    let honest : HonestLaws = record { so_far = follow.so_far; whole = follow.whole } in
+    let runs = c.runs_follow_their_answers.ensures in
+    let honest = c.honest_runs_follow_the_graph.ensures in
     let m = c.args.machine.now in
     let fair : Fair m.graph m.table c.args.rows.now.rows = record { graph = subst IsGraph c.graph-graph.ensures c.len-operations.ensures.rules; table = subst IsTable c.table.ensures c.step-step.ensures.ranges; few = c.requires.few } in
     rw (p.1, p.2) (memory_exit runs honest m.graph m.table c.args.rows.now c.args.rows.now g.R.ReleasedRows.text _ _ (g.R.ReleasedRows.Keeps c.args.released.now) (g.R.ReleasedRows.Keeps c.args.released.now) m fair (up_to_first runs c.args.rows.now g.R.ReleasedRows.text _ (g.R.ReleasedRows.Keeps c.args.released.now) m c.requires.fresh))

@@ -2,8 +2,8 @@ use Rattle.std.proofs.Common.{◌≡◌, length}
 use Rattle.coded_machine.specs.State.{State}
 use Rattle.machine_run.specs.Moments.{moment}
 use Rattle.machine_run.proofs.Overall.{Fair}
-use Rattle.machine_run.proofs.Promised.{RunLaws, HonestLaws}
 use Rattle.machine_run.proofs.UpTo.{UpTo}
+use Rattle.coded_machine.specs.Laws.{RunLaws, HonestLaws}
 use Rattle.machine_run.proofs.run.run_rows.Given as goal
 
 abbrev pub invariant-cycles : goal.invariant-cycles
