@@ -28,6 +28,7 @@ spelled-fits : (t : Ty) (text : List ℕ) (v : ℤ) → spelled t text ≡ Some 
 spelled-fits ty.Bool text v e = truth-fits (is_same_name text (codes "1") || is_same_name text (codes "true")) (is_same_name text (codes "0") || is_same_name text (codes "false")) v e
 spelled-fits ty.Int text v e = in-type ty.Int (integer_of text) v e
 spelled-fits ty.Dint text v e = in-type ty.Dint (integer_of text) v e
+spelled-fits ty.Lint text v e = in-type ty.Lint (integer_of text) v e
 
 zeros-in : (types : List Ty) → AreIn types (replicate (length types) (pos 0))
 zeros-in [] = tt
@@ -37,6 +38,7 @@ zeros-in (t ∷ types) = (zero-fits t, zeros-in types)
     zero-fits ty.Bool = refl
     zero-fits ty.Int = refl
     zero-fits ty.Dint = refl
+    zero-fits ty.Lint = refl
 
 set-in : (types : List Ty) (row : List ℤ) (p : ℕ) (v : ℤ) → AreIn types row → fits (type_at types p) v ≡ true → AreIn types (slice_set row p v)
 set-in [] [] p v h f = tt

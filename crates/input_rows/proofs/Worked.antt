@@ -38,6 +38,12 @@ blank_inside = refl
 empty_cell : value_of ty.Dint [] ≡ None
 empty_cell = refl
 
+least_lint : value_of ty.Lint (codes "-9223372036854775808") ≡ Some (negsuc 9223372036854775807)
+least_lint = refl
+
+past_lint : value_of ty.Lint (codes "9223372036854775808") ≡ None
+past_lint = refl
+
 abbrev x : Column
 x = record { name = codes "x"; ty = ty.Int }
 

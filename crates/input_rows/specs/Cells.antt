@@ -52,6 +52,7 @@ abbrev pub spelled : Ty → List ℕ → Option ℤ
 spelled ty.Bool text = truth_of text
 spelled ty.Int text = option_and_then (in_type ty.Int) (integer_of text)
 spelled ty.Dint text = option_and_then (in_type ty.Dint) (integer_of text)
+spelled ty.Lint text = option_and_then (in_type ty.Lint) (integer_of text)
 
 -- the value of the type that a cell spells, if it spells one: blanks at both ends do not count
 abbrev pub value_of : Ty → List ℕ → Option ℤ

@@ -16,8 +16,8 @@ pub fn trim(text: &[u8]) -> &[u8]
     without_last_blanks(without_first_blanks(text))
 }
 
-// A text without the blanks at its start.
-fn without_first_blanks(text: &[u8]) -> &[u8]
+/// A text without the spaces and tabs at its start.
+pub fn without_first_blanks(text: &[u8]) -> &[u8]
     ensures { result.now ≡ unindented text.now }
 {
     let mut rest = text;
@@ -81,8 +81,8 @@ fn truth(text: &[u8]) -> Option<i64>
     }
 }
 
-// The value that a text spells, if it is one of the type.
-fn number_in(ty: Ty, text: &[u8]) -> Option<i64>
+/// The value that an optional sign and decimal digits spell, if it is one of the type.
+pub fn number_in(ty: Ty, text: &[u8]) -> Option<i64>
     ensures { result ≡ option_and_then (in_type ty) (integer_of text.now) }
 {
     let v = integer(text)?;
@@ -96,6 +96,6 @@ pub fn value(ty: Ty, cell: &[u8]) -> Option<i64>
     let text = trim(cell);
     match ty {
         Ty::Bool => truth(text),
-        Ty::Int | Ty::Dint => number_in(ty, text),
+        Ty::Int | Ty::Dint | Ty::Lint => number_in(ty, text),
     }
 }

@@ -14,6 +14,7 @@ mod records;
 mod rows;
 mod table;
 
+pub use cells::{number_in, without_first_blanks};
 pub use fault::RowFault;
 pub use laws::order_has_each_place;
 pub use rows::Rows;

@@ -188,6 +188,16 @@ const CELLS: [(&[u8], &[u8]); 30] = [
     ),
 ];
 
+const LINT_CELLS: [(&[u8], &[u8]); 4] = [
+    (
+        b"l\n-9223372036854775808\n9223372036854775807\n",
+        b"-9223372036854775808 / 9223372036854775807 / end",
+    ),
+    (b"l\n9223372036854775808\n", b"Cell { row: 2, column: 1 }"),
+    (b"l\n-9223372036854775809\n", b"Cell { row: 2, column: 1 }"),
+    (b"l\nTRUE\n", b"Cell { row: 2, column: 1 }"),
+];
+
 #[test]
 fn files_give_rows_or_the_first_fault(rt: HostRuntime) -> Result<(), Fail> {
     let alloc = rt.alloc();
@@ -195,6 +205,8 @@ fn files_give_rows_or_the_first_fault(rt: HostRuntime) -> Result<(), Fail> {
     let columns = columns_of(alloc, &list)?;
     assert_eq!(rt; first_wrong(alloc, &columns, &HEADERS)?, None);
     assert_eq!(rt; first_wrong(alloc, &columns, &CELLS)?, None);
+    let wide = columns_of(alloc, &[(b"l", Ty::Lint)])?;
+    assert_eq!(rt; first_wrong(alloc, &wide, &LINT_CELLS)?, None);
     Ok(())
 }
 

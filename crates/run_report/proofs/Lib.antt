@@ -1,4 +1,5 @@
 mod Gathering
+mod OperationRows
 mod Rows
 mod Texts
 mod Turns

@@ -14,7 +14,7 @@ use vcp_base::StopKind;
 use vcp_outside::{Failed, Sink};
 
 // Goes on with the turns round operation `op`, outermost first.
-fn then_turns_round<O: Sink>(line: &mut Line, out: &mut O, graph: &Graph, op: u32)
+pub(crate) fn then_turns_round<O: Sink>(line: &mut Line, out: &mut O, graph: &Graph, op: u32)
     requires { op < length graph.now.operations }
     ensures { IfSome (slice_get graph.now.operations op) (λ o. Gathers (O.written out.old) (O.written out.new) (O.faults out.old) (O.faults out.new) line.old line.new (flat_map turn_text (map (told_turn graph.now.names) (turns_of graph.now o.turn)))) }
 {

@@ -106,6 +106,17 @@ impl Line {
         self.text(out, Buffer::new().format(v).as_bytes());
     }
 
+    /// Goes on with a number of 128 bits in decimal digits, after `-` where it is negative.
+    pub fn long_value<O: Sink>(&mut self, out: &mut O, number: i128)
+        ensures gathers { Gathers (O.written out.old) (O.written out.new) (O.faults out.old) (O.faults out.new) self.old self.new (signed_decimal number) }
+        ensures unwritten { length self.old.pending + length (signed_decimal number) ≤ ROOM → out.new ≡ out.old }
+        ensures kept { length self.old.pending + length (signed_decimal number) ≤ ROOM → self.new ≡ record self.old { pending = self.old.pending ++ signed_decimal number } }
+        ensures after_failure { OnErr self.old.so_far (out.new ≡ out.old) }
+        ensures stays_failed { IsErr self.old.so_far → IsErr self.new.so_far }
+    {
+        self.text(out, Buffer::new().format(number).as_bytes());
+    }
+
     /// Ends the line with LF, and writes what is pending. It fails where a write of the line failed,
     /// and then a part of the line is written.
     pub fn end<O: Sink>(mut self, out: &mut O) -> Result<(), Failed>

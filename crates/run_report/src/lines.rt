@@ -12,7 +12,7 @@ use vcp_base::{Columns, Residue, Row, Spot, StopKind, Text, Turns, Words, stop_n
 use vcp_outside::{Failed, Sink};
 
 // A line that begins with a word and a number.
-fn begin<O: Sink>(out: &mut O, word: &[u8], number: u32) -> Line
+pub(crate) fn begin<O: Sink>(out: &mut O, word: &[u8], number: u32) -> Line
     ensures { IsGathered (O.written out.old) (O.written out.new) (O.faults out.old) (O.faults out.new) (word.now ++ decimal number) result }
 {
     let mut line = Line::new();
@@ -57,7 +57,7 @@ pub fn end_line<O: Sink>(out: &mut O, cycles: u32) -> Result<(), Failed>
 }
 
 // Goes on with a place in a source.
-fn then_place<O: Sink>(line: &mut Line, out: &mut O, spot: Spot)
+pub(crate) fn then_place<O: Sink>(line: &mut Line, out: &mut O, spot: Spot)
     ensures { Gathers (O.written out.old) (O.written out.new) (O.faults out.old) (O.faults out.new) line.old line.new (place_text spot) }
 {
     line.count(out, spot.line as u64);
@@ -132,8 +132,8 @@ pub fn refused_line<O: Sink>(
     line.text(out, b" ");
     line.text(out, name.bytes());
     line.text(out, b" found ");
-    line.count(out, found as u64);
+    line.count(out, found);
     line.text(out, b" expected ");
-    line.count(out, expected as u64);
+    line.count(out, expected);
     line.end(out)
 }

@@ -2,11 +2,16 @@
 
 ghost use Rattle.std.specs.Prelude.{◌≡◌, ◌<◌, None, IfOk, All, length};
 
-use crate::{end_line, graph_stop_line, header_line, refused_line, row_line, stop_line};
+use crate::{
+    end_line, graph_stop_line, header_line, list_line, refused_line, row_line, stop_line,
+    trace_line,
+};
+use coded_unit::Word;
 use op_graph::{Build, Graph, GraphBuilder, Op, TurnNode};
+use signature_table::Table;
 use std::alloc::Global;
 use std::test::Fail;
-use vcp_base::{Column, Columns, Kind, Row, Spot, StopKind, Text, Turn, Turns, Ty, Words};
+use vcp_base::{Column, Columns, Kind, Profile, Row, Spot, StopKind, Text, Turn, Turns, Ty, Words};
 use vcp_outside::{Failed, MemSink, Sink};
 
 fn columns(alloc: Global, names: &[&[u8]]) -> Result<Columns, Fail> {
@@ -79,7 +84,7 @@ fn each_line_has_its_text(rt: HostRuntime) -> Result<(), Fail> {
 fn looped(alloc: Global) -> Result<Graph, Build>
     ensures { IfOk result (λ graph. length graph.operations ≡ 1) }
 {
-    let mut builder = GraphBuilder::new(alloc);
+    let mut builder = GraphBuilder::new(alloc, Profile::Narrow);
     builder.name(&Text::copy_of(alloc, b"i")?)?;
     builder.name(&Text::copy_of(alloc, b"Outer")?)?;
     builder.turn(TurnNode {
@@ -116,6 +121,24 @@ fn a_stop_in_a_graph_has_its_text(rt: HostRuntime) -> Result<(), Fail> {
         Ok(())
     );
     let wanted = b"stop 0 RANGE 7:10 Outer=-1 i=4\n";
+    assert_eq!(rt; out.bytes(), wanted.as_slice());
+    Ok(())
+}
+
+#[test]
+fn an_operation_is_listed_and_traced(rt: HostRuntime) -> Result<(), Fail> {
+    let alloc = rt.alloc();
+    let mut out = MemSink::new(alloc, 200)?;
+    let graph = looped(alloc)?;
+    let table = Table::new(alloc, &graph, 7, 1)?;
+    assert_eq!(rt; list_line(&mut out, &graph, &table, 0), Ok(()));
+    // The value 5 with the residue 8, and the value -1 with the residue 1.
+    let right = Word::new(10737418243).ok_or("no word")?;
+    let other = Word::new(-2147483646).ok_or("no word")?;
+    assert_eq!(rt; trace_line(&mut out, &graph, &table, 0, 0, right), Ok(()));
+    assert_eq!(rt; trace_line(&mut out, &graph, &table, 0, 4, other), Ok(()));
+    let wanted =
+        b"0 CONST INT INT val 5 sig 7 cor 7 at 7:10 Outer=-1 i=4\n0 CONST 10737418243 5 8 8\n0 CONST -2147483646 -1 1 12\n";
     assert_eq!(rt; out.bytes(), wanted.as_slice());
     Ok(())
 }
