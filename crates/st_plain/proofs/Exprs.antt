@@ -53,6 +53,7 @@ bool-signed : (t : Ty) → signed un.Not t ≡ Some t → t ≡ ty.Bool
 bool-signed ty.Bool e = refl
 bool-signed ty.Int e = absurd cc
 bool-signed ty.Dint e = absurd cc
+bool-signed ty.Lint e = absurd cc
 
 pub not-operand : ValuesFit → (e : TExprTree) (op : UnOp) (t : Ty) (a : TExprTree) (s : Spot) (m : List ℤ) (v : ℤ) → e ≡ unary op t a s → SoundExpr e m
     → Ok v ≡ value [] a m → op ≡ un.Not → fits ty.Bool v ≡ true
@@ -107,25 +108,48 @@ few-arguments : (f : Fun) (t : Ty) → Few (arguments f t)
 few-arguments fun.Abs ty.Bool = tt
 few-arguments fun.Abs ty.Int = omega arith
 few-arguments fun.Abs ty.Dint = omega arith
+few-arguments fun.Abs ty.Lint = omega arith
 few-arguments fun.Min ty.Bool = tt
 few-arguments fun.Min ty.Int = omega arith
 few-arguments fun.Min ty.Dint = omega arith
+few-arguments fun.Min ty.Lint = omega arith
 few-arguments fun.Max ty.Bool = tt
 few-arguments fun.Max ty.Int = omega arith
 few-arguments fun.Max ty.Dint = omega arith
+few-arguments fun.Max ty.Lint = omega arith
 few-arguments fun.Limit ty.Bool = tt
 few-arguments fun.Limit ty.Int = omega arith
 few-arguments fun.Limit ty.Dint = omega arith
+few-arguments fun.Limit ty.Lint = omega arith
 few-arguments fun.Sel t = omega arith
 few-arguments fun.IntToDint ty.Bool = tt
 few-arguments fun.IntToDint ty.Int = tt
 few-arguments fun.IntToDint ty.Dint = omega arith
+few-arguments fun.IntToDint ty.Lint = tt
+few-arguments fun.IntToLint ty.Bool = tt
+few-arguments fun.IntToLint ty.Int = tt
+few-arguments fun.IntToLint ty.Dint = tt
+few-arguments fun.IntToLint ty.Lint = omega arith
 few-arguments fun.DintToInt ty.Bool = tt
 few-arguments fun.DintToInt ty.Int = omega arith
 few-arguments fun.DintToInt ty.Dint = tt
+few-arguments fun.DintToInt ty.Lint = tt
+few-arguments fun.DintToLint ty.Bool = tt
+few-arguments fun.DintToLint ty.Int = tt
+few-arguments fun.DintToLint ty.Dint = tt
+few-arguments fun.DintToLint ty.Lint = omega arith
+few-arguments fun.LintToInt ty.Bool = tt
+few-arguments fun.LintToInt ty.Int = omega arith
+few-arguments fun.LintToInt ty.Dint = tt
+few-arguments fun.LintToInt ty.Lint = tt
+few-arguments fun.LintToDint ty.Bool = tt
+few-arguments fun.LintToDint ty.Int = tt
+few-arguments fun.LintToDint ty.Dint = omega arith
+few-arguments fun.LintToDint ty.Lint = tt
 few-arguments fun.BoolToInt ty.Bool = tt
 few-arguments fun.BoolToInt ty.Int = omega arith
 few-arguments fun.BoolToInt ty.Dint = tt
+few-arguments fun.BoolToInt ty.Lint = tt
 
 -- arguments that aren't there count for nothing
 apply-none : (f : Fun) (t : Ty) (s : Spot) → apply f t s [] [] ≡ apply f t s [] (pos 0 ∷ pos 0 ∷ pos 0 ∷ [])
@@ -135,7 +159,11 @@ apply-none fun.Max t s = refl
 apply-none fun.Limit t s = refl
 apply-none fun.Sel t s = refl
 apply-none fun.IntToDint t s = refl
+apply-none fun.IntToLint t s = refl
 apply-none fun.DintToInt t s = refl
+apply-none fun.DintToLint t s = refl
+apply-none fun.LintToInt t s = refl
+apply-none fun.LintToDint t s = refl
 apply-none fun.BoolToInt t s = refl
 
 apply-one : (f : Fun) (t : Ty) (s : Spot) (a : ℤ) → apply f t s [] (a ∷ []) ≡ apply f t s [] (a ∷ pos 0 ∷ pos 0 ∷ [])
@@ -145,7 +173,11 @@ apply-one fun.Max t s a = refl
 apply-one fun.Limit t s a = refl
 apply-one fun.Sel t s a = refl
 apply-one fun.IntToDint t s a = refl
+apply-one fun.IntToLint t s a = refl
 apply-one fun.DintToInt t s a = refl
+apply-one fun.DintToLint t s a = refl
+apply-one fun.LintToInt t s a = refl
+apply-one fun.LintToDint t s a = refl
 apply-one fun.BoolToInt t s a = refl
 
 apply-two : (f : Fun) (t : Ty) (s : Spot) (a b : ℤ) → apply f t s [] (a ∷ b ∷ []) ≡ apply f t s [] (a ∷ b ∷ pos 0 ∷ [])
@@ -155,7 +187,11 @@ apply-two fun.Max t s a b = refl
 apply-two fun.Limit t s a b = refl
 apply-two fun.Sel t s a b = refl
 apply-two fun.IntToDint t s a b = refl
+apply-two fun.IntToLint t s a b = refl
 apply-two fun.DintToInt t s a b = refl
+apply-two fun.DintToLint t s a b = refl
+apply-two fun.LintToInt t s a b = refl
+apply-two fun.LintToDint t s a b = refl
 apply-two fun.BoolToInt t s a b = refl
 
 -- three results, one after the other

@@ -86,7 +86,11 @@ inside-function turns fun.Max t s vs = refl
 inside-function turns fun.Limit t s vs = refl
 inside-function turns fun.Sel t s vs = refl
 inside-function turns fun.IntToDint t s vs = refl
+inside-function turns fun.IntToLint t s vs = refl
 inside-function turns fun.DintToInt t s vs = inside-range turns ty.Int s (at vs 0)
+inside-function turns fun.DintToLint t s vs = refl
+inside-function turns fun.LintToInt t s vs = inside-range turns ty.Int s (at vs 0)
+inside-function turns fun.LintToDint t s vs = inside-range turns ty.Dint s (at vs 0)
 inside-function turns fun.BoolToInt t s vs = refl
 
 mutual
@@ -378,6 +382,7 @@ fits-width : (t : Ty) (v : ℤ) → fits t v ≡ true → SFits w64 v
 fits-width ty.Bool v h = grind (arith, h)
 fits-width ty.Int v h = grind (arith, h)
 fits-width ty.Dint v h = grind (arith, h)
+fits-width ty.Lint v h = grind (arith, h)
 
 next-fits : (slot : ℕ) (v by : ℤ) (n k : ℕ) (body : TStmtTrees) (m : List ℤ) → n ≡ suc (suc k) → (h : SoundTurns slot v by n body m) → fits h.of (v +ℤ by) ≡ true
 next-fits slot v by n k body m is h =

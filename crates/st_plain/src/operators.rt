@@ -110,6 +110,8 @@ pub fn apply(fun: Fun, ty: Ty, spot: Spot, a: i64, b: i64, c: i64) -> Result<i64
         Fun::Limit => Ok(b.max(a).min(c)),
         Fun::Sel => Ok(if a == 0 { b } else { c }),
         Fun::IntToDint | Fun::BoolToInt => Ok(a),
-        Fun::DintToInt => in_range(Ty::Int, spot, a as i128),
+        Fun::IntToLint | Fun::DintToLint => Ok(a),
+        Fun::DintToInt | Fun::LintToInt => in_range(Ty::Int, spot, a as i128),
+        Fun::LintToDint => in_range(Ty::Dint, spot, a as i128),
     }
 }

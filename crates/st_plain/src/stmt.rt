@@ -220,7 +220,7 @@ fn do_turns(
     slot: u32,
     first: i64,
     by: i64,
-    turns: u64,
+    turns: u128,
     body: &[TStmt],
     state: &mut Working,
 ) -> Result<(), Stop>

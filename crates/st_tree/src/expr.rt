@@ -1,7 +1,6 @@
 //! Expressions.
 
 ghost use Rattle.std.specs.Prelude.{◌≡◌, ◌<◌, ◌+◌, [], ◌∷◌, ◌++◌, Some, IfOk, OnOk, OnErr, drop, length, slice_get};
-ghost use Rattle.st_tree.specs.declared.expr.Expr.{Call};
 ghost use Rattle.st_tree.specs.ExprTree.{literal, name as name_tree, unary as unary_tree, binary as binary_tree, call as call_tree, no_exprs, and_expr};
 ghost use Rattle.st_tree.specs.Appended.{exprs_and};
 ghost use Rattle.st_tree.specs.ExprViews.{expr_tree, expr_trees};
@@ -188,10 +187,4 @@ impl Expr {
     {
         Expr::Call { name, args, spot }
     }
-
-    /// A law: what a function of these arguments holds.
-    pub fn call_holds(name: &Text, args: &Exprs, spot: Spot)
-        ensures { expr_tree (Call name.now args.now spot)
-            ≡ call_tree name.now (expr_trees args.now.items.items) spot }
-    {}
 }

@@ -2,8 +2,8 @@
 //!
 //! A node keeps the spot of its name, literal, operator, function name or keyword. Contracts see a
 //! tree as what it holds, never where it lies in memory. Lists are made by `new` and `push`, nodes by
-//! the functions named after what they hold; the functions named `.._holds` are laws for a caller
-//! that matches on a node. `same_tree` compares programs and leaves spots aside.
+//! the functions named after what they hold; `trees_of_nodes` states laws for a caller that matches on
+//! a node. `same_tree` compares programs and leaves spots aside.
 #![tactic(auto)]
 
 mod expr;

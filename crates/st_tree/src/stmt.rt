@@ -1,7 +1,6 @@
 //! Statements.
 
 ghost use Rattle.std.specs.Prelude.{◌≡◌, ◌<◌, ◌+◌, [], ◌∷◌, ◌++◌, Some, OnOk, OnErr, drop, length, slice_get};
-ghost use Rattle.st_tree.specs.declared.stmt.Stmt.{If, Case, For};
 ghost use Rattle.st_tree.specs.StmtTree.{assign as assign_tree, if_ as if_tree, case as case_tree, for_ as for_tree, no_stmts, and_stmt, no_arms, and_arm, no_branches, and_branch};
 ghost use Rattle.st_tree.specs.Appended.{stmts_and, arms_and, branches_and};
 ghost use Rattle.st_tree.specs.ExprViews.{expr_tree, expr_tree_or_none};
@@ -320,41 +319,4 @@ impl Stmt {
             spot,
         }
     }
-
-    /// A law: what an IF of these parts holds.
-    pub fn if_holds(arms: &Arms, other: &Option<Stmts>)
-        ensures { stmt_tree (If arms.now other.now)
-            ≡ if_tree (arm_trees (arm_items arms.now)) (other_tree other.now) }
-    {}
-
-    /// A law: what a CASE of these parts holds.
-    pub fn case_holds(on: &Expr, branches: &Branches, other: &Option<Stmts>, spot: Spot)
-        ensures { stmt_tree (Case on.now branches.now other.now spot)
-            ≡ case_tree
-            (expr_tree on.now)
-            (branch_trees (branch_items branches.now))
-            (other_tree other.now)
-            spot }
-    {}
-
-    /// A law: what a FOR of these parts holds.
-    pub fn for_holds(
-        name: &Text,
-        name_spot: Spot,
-        first: &Expr,
-        last: &Expr,
-        by: &Option<Expr>,
-        body: &Stmts,
-        spot: Spot,
-    )
-        ensures { stmt_tree (For name.now name_spot first.now last.now by.now body.now spot)
-            ≡ for_tree
-            name.now
-            name_spot
-            (expr_tree first.now)
-            (expr_tree last.now)
-            (expr_tree_or_none by.now)
-            (stmt_trees body.now.items.items)
-            spot }
-    {}
 }

@@ -78,13 +78,14 @@ constant-is s (call n es spot) = call-is (called n (count es)) spot (exprs_of s 
 
 -- ---- forms
 
-sized-if : (b c : Bool) (x : Ty) → cond b (Some ty.Int) (cond c (Some ty.Dint) None) ≡ Some x → is_bool x ≡ false
-sized-if true c x e = sym (ap is_bool (same-value ty.Int x e))
-sized-if false true x e = sym (ap is_bool (same-value ty.Dint x e))
-sized-if false false x e = absurd (none-some x e)
+sized-if : (b c d : Bool) (x : Ty) → cond b (Some ty.Int) (cond c (Some ty.Dint) (cond d (Some ty.Lint) None)) ≡ Some x → is_bool x ≡ false
+sized-if true c d x e = sym (ap is_bool (same-value ty.Int x e))
+sized-if false true d x e = sym (ap is_bool (same-value ty.Dint x e))
+sized-if false false true x e = sym (ap is_bool (same-value ty.Lint x e))
+sized-if false false false x e = absurd (none-some x e)
 
 sized-number : (v : ℤ) (x : Ty) → sized v ≡ Some x → is_bool x ≡ false
-sized-number v x e = sized-if (fits ty.Int v) (fits ty.Dint v) x e
+sized-number v x e = sized-if (fits ty.Int v) (fits ty.Dint v) (fits ty.Lint v) x e
 
 written-if : (b : Bool) (y x : Ty) → cond b (Some y) None ≡ Some x → is_bool x ≡ is_bool y
 written-if true y x e = sym (ap is_bool (same-value y x e))

@@ -179,6 +179,7 @@ zero-fits : (t : Ty) → fits t (pos 0) ≡ true
 zero-fits ty.Bool = refl
 zero-fits ty.Int = refl
 zero-fits ty.Dint = refl
+zero-fits ty.Lint = refl
 
 is-within : (b : Bool) → (b ≡ false → ⊥) → b ≡ true
 is-within true h = refl

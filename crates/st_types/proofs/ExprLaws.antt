@@ -1,5 +1,5 @@
 -- ExprLaws: an expression has a type, and a checked expression of that type, exactly where it has no fault.
-use Rattle.std.proofs.Common.{◌≡◌, neg_ℤ, ◌⊎◌, inl, inr, List, [], ◌∷◌, map, Option, Some, None, option_map, option_and_then, IfSome, refl, sym, ap, ap₂, ◌∙◌, true}
+use Rattle.std.proofs.Common.{◌≡◌, neg_ℤ, ◌⊎◌, inl, inr, List, [], ◌∷◌, map, Option, Some, None, option_map, option_and_then, IfSome, refl, sym, ap, ap₂, ◌∙◌, Bool, true, false, cond}
 use Rattle.vcp_base.specs.declared.spot.Spot.{Spot}
 use Rattle.vcp_base.specs.declared.ty.Ty.{Ty}
 use Rattle.vcp_base.specs.declared.ty.Ty.TheVariants as ty
@@ -18,7 +18,7 @@ use Rattle.st_types.specs.declared.fault.Fault.{Fault}
 use Rattle.st_types.specs.declared.fault.Rule.TheVariants as rule
 use Rattle.st_types.specs.Faults.{fault}
 use Rattle.st_types.specs.Scope.{Entry, find}
-use Rattle.st_types.specs.ExprTyping.{both, sized, literal_type, Untyped, negated, count, called, from_int, from_number, from_bool, selected, of_one, of_two, of_three, function_type, sign_type, type_of, types_of, Clashes, SignFault, CallFault, ExprFault, ExprsFault, got, widened, widened_all, sign_of, operation_of, call_of, expr_of, exprs_of}
+use Rattle.st_types.specs.ExprTyping.{both, sized, literal_type, Untyped, negated, count, called, of_sel, of_one, of_two, of_three, function_type, sign_type, type_of, types_of, Clashes, SignFault, CallFault, ExprFault, ExprsFault, got, widened, widened_all, sign_of, operation_of, call_of, expr_of, exprs_of}
 
 -- ---- options
 
@@ -69,41 +69,51 @@ joins ty.Bool b = tt
 joins ty.Int ty.Bool = tt
 joins ty.Int ty.Int = (refl, refl, λ ts. refl)
 joins ty.Int ty.Dint = (refl, refl, λ ts. refl)
+joins ty.Int ty.Lint = (refl, refl, λ ts. refl)
 joins ty.Dint ty.Bool = tt
 joins ty.Dint ty.Int = (refl, refl, λ ts. refl)
 joins ty.Dint ty.Dint = (refl, refl, λ ts. refl)
+joins ty.Dint ty.Lint = (refl, refl, λ ts. refl)
+joins ty.Lint ty.Bool = tt
+joins ty.Lint ty.Int = (refl, refl, λ ts. refl)
+joins ty.Lint ty.Dint = (refl, refl, λ ts. refl)
+joins ty.Lint ty.Lint = (refl, refl, λ ts. refl)
 
 within-on : (a t u : Ty) → within a t ≡ true → within t u ≡ true → within a u ≡ true
 within-on ty.Bool ty.Bool u h k = k
 within-on ty.Bool ty.Int u h k = absurd cc
 within-on ty.Bool ty.Dint u h k = absurd cc
+within-on ty.Bool ty.Lint u h k = absurd cc
 within-on ty.Int ty.Bool u h k = absurd cc
 within-on ty.Int ty.Int u h k = k
 within-on ty.Int ty.Dint ty.Bool h k = absurd cc
 within-on ty.Int ty.Dint ty.Int h k = refl
 within-on ty.Int ty.Dint ty.Dint h k = refl
+within-on ty.Int ty.Dint ty.Lint h k = refl
+within-on ty.Int ty.Lint ty.Bool h k = absurd cc
+within-on ty.Int ty.Lint ty.Int h k = refl
+within-on ty.Int ty.Lint ty.Dint h k = refl
+within-on ty.Int ty.Lint ty.Lint h k = refl
 within-on ty.Dint ty.Bool u h k = absurd cc
 within-on ty.Dint ty.Int u h k = absurd cc
 within-on ty.Dint ty.Dint u h k = k
+within-on ty.Dint ty.Lint ty.Bool h k = absurd cc
+within-on ty.Dint ty.Lint ty.Int h k = absurd cc
+within-on ty.Dint ty.Lint ty.Dint h k = refl
+within-on ty.Dint ty.Lint ty.Lint h k = refl
+within-on ty.Lint ty.Bool u h k = absurd cc
+within-on ty.Lint ty.Int u h k = absurd cc
+within-on ty.Lint ty.Dint u h k = absurd cc
+within-on ty.Lint ty.Lint u h k = k
 
 abs-takes : (a : Ty) (o : Option Ty) → IfSome o (Joins a a) → IfSome o (Takes fun.Abs (a ∷ []))
 abs-takes a None h = tt
 abs-takes a (Some t) h = (t ∷ [], h.2 (t ∷ []), (h.0, tt))
 
-int-takes : (a : Ty) → IfSome (from_int a) (Takes fun.IntToDint (a ∷ []))
-int-takes ty.Int = (ty.Int ∷ [], refl, (refl, tt))
-int-takes ty.Dint = tt
-int-takes ty.Bool = tt
-
-number-takes : (a : Ty) → IfSome (from_number a) (Takes fun.DintToInt (a ∷ []))
-number-takes ty.Int = (ty.Dint ∷ [], refl, (refl, tt))
-number-takes ty.Dint = (ty.Dint ∷ [], refl, (refl, tt))
-number-takes ty.Bool = tt
-
-bool-takes : (a : Ty) → IfSome (from_bool a) (Takes fun.BoolToInt (a ∷ []))
-bool-takes ty.Bool = (ty.Bool ∷ [], refl, (refl, tt))
-bool-takes ty.Int = tt
-bool-takes ty.Dint = tt
+-- a conversion to t takes its source type, and one that widens to it
+conversion-takes : (f : Fun) (source t a : Ty) (b : Bool) → within a source ≡ b → arguments f t ≡ Some (source ∷ []) → IfSome (cond b (Some t) None) (Takes f (a ∷ []))
+conversion-takes f source t a false w h = tt
+conversion-takes f source t a true w h = (source ∷ [], h, (w, tt))
 
 one-takes : (f : Fun) (a : Ty) → IfSome (of_one f a) (Takes f (a ∷ []))
 one-takes fun.Abs a = abs-takes a (joined a a) (joins a a)
@@ -111,9 +121,13 @@ one-takes fun.Min a = tt
 one-takes fun.Max a = tt
 one-takes fun.Limit a = tt
 one-takes fun.Sel a = tt
-one-takes fun.IntToDint a = int-takes a
-one-takes fun.DintToInt a = number-takes a
-one-takes fun.BoolToInt a = bool-takes a
+one-takes fun.IntToDint a = conversion-takes fun.IntToDint ty.Int ty.Dint a (within a ty.Int) refl refl
+one-takes fun.IntToLint a = conversion-takes fun.IntToLint ty.Int ty.Lint a (within a ty.Int) refl refl
+one-takes fun.DintToInt a = conversion-takes fun.DintToInt ty.Dint ty.Int a (within a ty.Dint) refl refl
+one-takes fun.DintToLint a = conversion-takes fun.DintToLint ty.Dint ty.Lint a (within a ty.Dint) refl refl
+one-takes fun.LintToInt a = conversion-takes fun.LintToInt ty.Lint ty.Int a (within a ty.Lint) refl refl
+one-takes fun.LintToDint a = conversion-takes fun.LintToDint ty.Lint ty.Dint a (within a ty.Lint) refl refl
+one-takes fun.BoolToInt a = conversion-takes fun.BoolToInt ty.Bool ty.Int a (within a ty.Bool) refl refl
 
 min-takes : (a b : Ty) (o : Option Ty) → IfSome o (Joins a b) → IfSome o (Takes fun.Min (a ∷ b ∷ []))
 min-takes a b None h = tt
@@ -130,7 +144,11 @@ two-takes fun.Max a b = max-takes a b (joined a b) (joins a b)
 two-takes fun.Limit a b = tt
 two-takes fun.Sel a b = tt
 two-takes fun.IntToDint a b = tt
+two-takes fun.IntToLint a b = tt
 two-takes fun.DintToInt a b = tt
+two-takes fun.DintToLint a b = tt
+two-takes fun.LintToInt a b = tt
+two-takes fun.LintToDint a b = tt
 two-takes fun.BoolToInt a b = tt
 
 limit-takes-last : (a b c t : Ty) (o : Option Ty) → Joins a b t → IfSome o (Joins t c) → IfSome o (Takes fun.Limit (a ∷ b ∷ c ∷ []))
@@ -141,18 +159,21 @@ limit-takes : (a b c : Ty) (o : Option Ty) → IfSome o (Joins a b) → IfSome (
 limit-takes a b c None h = tt
 limit-takes a b c (Some t) h = limit-takes-last a b c t (joined t c) h (joins t c)
 
-sel-takes : (a b c : Ty) → IfSome (selected a b c) (Takes fun.Sel (a ∷ b ∷ c ∷ []))
+sel-takes-both : (b c : Ty) (o : Option Ty) → IfSome o (Joins b c) → IfSome o (Takes fun.Sel (ty.Bool ∷ b ∷ c ∷ []))
+sel-takes-both b c None h = tt
+sel-takes-both b c (Some t) h = (ty.Bool ∷ t ∷ t ∷ [], refl, (refl, (h.0, (h.1, tt))))
+
+sel-takes : (a b c : Ty) → IfSome (of_sel a b c) (Takes fun.Sel (a ∷ b ∷ c ∷ []))
 sel-takes ty.Bool ty.Bool ty.Bool = (ty.Bool ∷ ty.Bool ∷ ty.Bool ∷ [], refl, (refl, (refl, (refl, tt))))
 sel-takes ty.Bool ty.Bool ty.Int = tt
 sel-takes ty.Bool ty.Bool ty.Dint = tt
-sel-takes ty.Bool ty.Int ty.Bool = tt
-sel-takes ty.Bool ty.Int ty.Int = (ty.Bool ∷ ty.Int ∷ ty.Int ∷ [], refl, (refl, (refl, (refl, tt))))
-sel-takes ty.Bool ty.Int ty.Dint = (ty.Bool ∷ ty.Dint ∷ ty.Dint ∷ [], refl, (refl, (refl, (refl, tt))))
-sel-takes ty.Bool ty.Dint ty.Bool = tt
-sel-takes ty.Bool ty.Dint ty.Int = (ty.Bool ∷ ty.Dint ∷ ty.Dint ∷ [], refl, (refl, (refl, (refl, tt))))
-sel-takes ty.Bool ty.Dint ty.Dint = (ty.Bool ∷ ty.Dint ∷ ty.Dint ∷ [], refl, (refl, (refl, (refl, tt))))
+sel-takes ty.Bool ty.Bool ty.Lint = tt
+sel-takes ty.Bool ty.Int c = sel-takes-both ty.Int c (joined ty.Int c) (joins ty.Int c)
+sel-takes ty.Bool ty.Dint c = sel-takes-both ty.Dint c (joined ty.Dint c) (joins ty.Dint c)
+sel-takes ty.Bool ty.Lint c = sel-takes-both ty.Lint c (joined ty.Lint c) (joins ty.Lint c)
 sel-takes ty.Int b c = tt
 sel-takes ty.Dint b c = tt
+sel-takes ty.Lint b c = tt
 
 three-takes : (f : Fun) (a b c : Ty) → IfSome (of_three f a b c) (Takes f (a ∷ b ∷ c ∷ []))
 three-takes fun.Abs a b c = tt
@@ -161,7 +182,11 @@ three-takes fun.Max a b c = tt
 three-takes fun.Limit a b c = limit-takes a b c (joined a b) (joins a b)
 three-takes fun.Sel a b c = sel-takes a b c
 three-takes fun.IntToDint a b c = tt
+three-takes fun.IntToLint a b c = tt
 three-takes fun.DintToInt a b c = tt
+three-takes fun.DintToLint a b c = tt
+three-takes fun.LintToInt a b c = tt
+three-takes fun.LintToDint a b c = tt
 three-takes fun.BoolToInt a b c = tt
 
 -- a function that has a value takes its arguments, widened

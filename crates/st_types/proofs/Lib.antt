@@ -7,8 +7,10 @@ pub mod DeclLaws
 pub mod Faultless
 pub mod ConstantLaws
 pub mod LeastFaults
+pub mod Lighter
 pub mod OneAnswer
-mod TypingRows
+pub mod TypingRows
+mod LintRows
 pub mod NoteLaws
 pub mod DeclNodes
 pub mod PlaceLaws

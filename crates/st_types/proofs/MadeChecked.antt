@@ -22,10 +22,10 @@ use Rattle.vcp_typed.specs.declared.slot.Slot.{Slot}
 use Rattle.vcp_typed.specs.declared.stmt.TLabel.{TLabel}
 use Rattle.vcp_typed.specs.TExprTree as typed
 use Rattle.vcp_typed.specs.TStmtTree as checked
-use Rattle.vcp_typed.specs.Rules.{joined, both_bool, joined_or_bool, common, signed, arguments}
+use Rattle.vcp_typed.specs.Rules.{widens, joined, both_bool, joined_or_bool, common, signed, arguments}
 use Rattle.vcp_typed.specs.Checked.{ty_of, tys_of, is_set, IsExpr, AreExprs, MaySet, IsLabel, IsStmt, AreStmts, AreArms, AreBranches, IsOther}
 use Rattle.st_types.specs.Scope.{Entry, find}
-use Rattle.st_types.specs.ExprTyping.{both, sized, literal_type, Untyped, negated, called, function_type, type_of, got, as_dint, widened, widened_all, sign_of, operation_of, call_of, expr_of, exprs_of}
+use Rattle.st_types.specs.ExprTyping.{both, sized, literal_type, Untyped, negated, called, function_type, type_of, got, as_type, widened, widened_all, sign_of, operation_of, call_of, expr_of, exprs_of}
 use Rattle.st_types.specs.ExprTyping as typing
 use Rattle.st_types.specs.StmtTyping.{is_bool, is_constant, Known, known_entry, known_negated, constant, number_in, is_free, entry_type, not_zero, label_ends, last_end, label_of, held_in, assign_of, test_of, selector_of, turns_of, step_of, for_of, arm_of, branch_of, case_of, labels_of, stmt_of, stmts_of, arms_of, branches_of, other_of, spot_of}
 use Rattle.st_types.proofs.ExprLaws.{none-some, same-value, AllTaken, Takes, takes, type-is}
@@ -55,13 +55,22 @@ pub within-fits : (t u : Ty) (v : ℤ) → within t u ≡ true → fits t v ≡ 
 within-fits ty.Bool ty.Bool v w h = h
 within-fits ty.Bool ty.Int v w h = absurd cc
 within-fits ty.Bool ty.Dint v w h = absurd cc
+within-fits ty.Bool ty.Lint v w h = absurd cc
 within-fits ty.Int ty.Bool v w h = absurd cc
 within-fits ty.Int ty.Int v w h = h
 within-fits ty.Int ty.Dint (pos n) w h = grind (arith, nat_tests)
 within-fits ty.Int ty.Dint (negsuc n) w h = grind (arith, nat_tests)
+within-fits ty.Int ty.Lint (pos n) w h = grind (arith, nat_tests)
+within-fits ty.Int ty.Lint (negsuc n) w h = grind (arith, nat_tests)
 within-fits ty.Dint ty.Bool v w h = absurd cc
 within-fits ty.Dint ty.Int v w h = absurd cc
 within-fits ty.Dint ty.Dint v w h = h
+within-fits ty.Dint ty.Lint (pos n) w h = grind (arith, nat_tests)
+within-fits ty.Dint ty.Lint (negsuc n) w h = grind (arith, nat_tests)
+within-fits ty.Lint ty.Bool v w h = absurd cc
+within-fits ty.Lint ty.Int v w h = absurd cc
+within-fits ty.Lint ty.Dint v w h = absurd cc
+within-fits ty.Lint ty.Lint v w h = h
 
 -- a value of the type that stands in an option
 abbrev FitsTo : ℤ → Option Ty → Type 0
@@ -72,7 +81,10 @@ cond-fits t v true o e h = e
 cond-fits t v false o e h = h
 
 sized-fits : (v : ℤ) → FitsTo v (sized v)
-sized-fits v = cond-fits ty.Int v (fits ty.Int v) (cond (fits ty.Dint v) (Some ty.Dint) None) refl (cond-fits ty.Dint v (fits ty.Dint v) None refl tt)
+sized-fits v =
+    cond-fits ty.Int v (fits ty.Int v) (cond (fits ty.Dint v) (Some ty.Dint) (cond (fits ty.Lint v) (Some ty.Lint) None)) refl
+    (cond-fits ty.Dint v (fits ty.Dint v) (cond (fits ty.Lint v) (Some ty.Lint) None) refl
+    (cond-fits ty.Lint v (fits ty.Lint v) None refl tt))
 
 literal-fits : (t : Option Ty) (v : ℤ) → FitsTo v (literal_type t v)
 literal-fits None v = sized-fits v
@@ -98,24 +110,56 @@ name-made : (slots : List Slot) (spot : Spot) (o : Option Entry) → ((e : Entry
 name-made slots spot None h = tt
 name-made slots spot (Some e) h = got-made slots spot e e.class (h e refl)
 
-dint-made : (slots : List Slot) (a : typed.TExprTree) → ty_of a ≡ ty.Int → IsExpr slots a → IsExpr slots (as_dint a) × (ty_of (as_dint a) ≡ ty.Dint)
-dint-made slots (typed.literal t v spot) e h = (within-fits t ty.Dint v (ap (λ u. within u ty.Dint) e) h, refl)
-dint-made slots (typed.get slot t) e h = ((h, e, refl), refl)
-dint-made slots (typed.widen t a) e h = ((h, e, refl), refl)
-dint-made slots (typed.unary op t a spot) e h = ((h, e, refl), refl)
-dint-made slots (typed.binary op t a b spot) e h = ((h, e, refl), refl)
-dint-made slots (typed.call f t es spot) e h = ((h, e, refl), refl)
+widens-within : (u t : Ty) → widens u t ≡ true → within u t ≡ true
+widens-within ty.Bool ty.Bool w = absurd cc
+widens-within ty.Bool ty.Int w = absurd cc
+widens-within ty.Bool ty.Dint w = absurd cc
+widens-within ty.Bool ty.Lint w = absurd cc
+widens-within ty.Int ty.Bool w = absurd cc
+widens-within ty.Int ty.Int w = absurd cc
+widens-within ty.Int ty.Dint w = refl
+widens-within ty.Int ty.Lint w = refl
+widens-within ty.Dint ty.Bool w = absurd cc
+widens-within ty.Dint ty.Int w = absurd cc
+widens-within ty.Dint ty.Dint w = absurd cc
+widens-within ty.Dint ty.Lint w = refl
+widens-within ty.Lint ty.Bool w = absurd cc
+widens-within ty.Lint ty.Int w = absurd cc
+widens-within ty.Lint ty.Dint w = absurd cc
+widens-within ty.Lint ty.Lint w = absurd cc
+
+same-type : (u t : Ty) → widens u t ≡ false → within u t ≡ true → u ≡ t
+same-type ty.Bool ty.Bool w h = refl
+same-type ty.Bool ty.Int w h = absurd cc
+same-type ty.Bool ty.Dint w h = absurd cc
+same-type ty.Bool ty.Lint w h = absurd cc
+same-type ty.Int ty.Bool w h = absurd cc
+same-type ty.Int ty.Int w h = refl
+same-type ty.Int ty.Dint w h = absurd cc
+same-type ty.Int ty.Lint w h = absurd cc
+same-type ty.Dint ty.Bool w h = absurd cc
+same-type ty.Dint ty.Int w h = absurd cc
+same-type ty.Dint ty.Dint w h = refl
+same-type ty.Dint ty.Lint w h = absurd cc
+same-type ty.Lint ty.Bool w h = absurd cc
+same-type ty.Lint ty.Int w h = absurd cc
+same-type ty.Lint ty.Dint w h = absurd cc
+same-type ty.Lint ty.Lint w h = refl
+
+as-made : (slots : List Slot) (t u : Ty) (a : typed.TExprTree) → ty_of a ≡ u → widens u t ≡ true → IsExpr slots a → IsExpr slots (as_type t a) × (ty_of (as_type t a) ≡ t)
+as-made slots t u (typed.literal x v spot) e w h = (within-fits x t v (ap (λ y. within y t) e ∙ widens-within u t w) h, refl)
+as-made slots t u (typed.get slot x) e w h = ((h, ap (λ y. widens y t) e ∙ w), refl)
+as-made slots t u (typed.widen x a) e w h = ((h, ap (λ y. widens y t) e ∙ w), refl)
+as-made slots t u (typed.unary op x a spot) e w h = ((h, ap (λ y. widens y t) e ∙ w), refl)
+as-made slots t u (typed.binary op x a b spot) e w h = ((h, ap (λ y. widens y t) e ∙ w), refl)
+as-made slots t u (typed.call f x es spot) e w h = ((h, ap (λ y. widens y t) e ∙ w), refl)
+
+widened-if : (slots : List Slot) (t u : Ty) (a : typed.TExprTree) (b : Bool) → widens u t ≡ b → ty_of a ≡ u → within u t ≡ true → IsExpr slots a → IsExpr slots (cond b (as_type t a) a) × (ty_of (cond b (as_type t a) a) ≡ t)
+widened-if slots t u a true c e w h = as-made slots t u a e c h
+widened-if slots t u a false c e w h = (h, e ∙ same-type u t c w)
 
 pub widened-made : (slots : List Slot) (t u : Ty) (a : typed.TExprTree) → ty_of a ≡ u → within u t ≡ true → IsExpr slots a → IsExpr slots (widened t u a) × (ty_of (widened t u a) ≡ t)
-widened-made slots ty.Dint ty.Int a e w h = dint-made slots a e h
-widened-made slots ty.Dint ty.Dint a e w h = (h, e)
-widened-made slots ty.Dint ty.Bool a e w h = absurd cc
-widened-made slots ty.Int ty.Int a e w h = (h, e)
-widened-made slots ty.Int ty.Dint a e w h = absurd cc
-widened-made slots ty.Int ty.Bool a e w h = absurd cc
-widened-made slots ty.Bool ty.Bool a e w h = (h, e)
-widened-made slots ty.Bool ty.Int a e w h = absurd cc
-widened-made slots ty.Bool ty.Dint a e w h = absurd cc
+widened-made slots t u a e w h = widened-if slots t u a (widens u t) refl e w h
 
 -- values of both types are taken where the third is wanted, which is the common type of two of its own
 abbrev Meets : (Ty → Ty → Option Ty) → Ty → Ty → Ty → Type 0
@@ -126,27 +170,42 @@ joined-meets ty.Bool y = tt
 joined-meets ty.Int ty.Bool = tt
 joined-meets ty.Int ty.Int = (refl, refl, refl)
 joined-meets ty.Int ty.Dint = (refl, refl, refl)
+joined-meets ty.Int ty.Lint = (refl, refl, refl)
 joined-meets ty.Dint ty.Bool = tt
 joined-meets ty.Dint ty.Int = (refl, refl, refl)
 joined-meets ty.Dint ty.Dint = (refl, refl, refl)
+joined-meets ty.Dint ty.Lint = (refl, refl, refl)
+joined-meets ty.Lint ty.Bool = tt
+joined-meets ty.Lint ty.Int = (refl, refl, refl)
+joined-meets ty.Lint ty.Dint = (refl, refl, refl)
+joined-meets ty.Lint ty.Lint = (refl, refl, refl)
 
 bool-meets : (x y : Ty) → IfSome (both_bool x y) (Meets both_bool x y)
 bool-meets ty.Bool ty.Bool = (refl, refl, refl)
 bool-meets ty.Bool ty.Int = tt
 bool-meets ty.Bool ty.Dint = tt
+bool-meets ty.Bool ty.Lint = tt
 bool-meets ty.Int y = tt
 bool-meets ty.Dint y = tt
+bool-meets ty.Lint y = tt
 
 either-meets : (x y : Ty) → IfSome (joined_or_bool x y) (Meets joined_or_bool x y)
 either-meets ty.Bool ty.Bool = (refl, refl, refl)
 either-meets ty.Bool ty.Int = tt
 either-meets ty.Bool ty.Dint = tt
+either-meets ty.Bool ty.Lint = tt
 either-meets ty.Int ty.Bool = tt
 either-meets ty.Int ty.Int = (refl, refl, refl)
 either-meets ty.Int ty.Dint = (refl, refl, refl)
+either-meets ty.Int ty.Lint = (refl, refl, refl)
 either-meets ty.Dint ty.Bool = tt
 either-meets ty.Dint ty.Int = (refl, refl, refl)
 either-meets ty.Dint ty.Dint = (refl, refl, refl)
+either-meets ty.Dint ty.Lint = (refl, refl, refl)
+either-meets ty.Lint ty.Bool = tt
+either-meets ty.Lint ty.Int = (refl, refl, refl)
+either-meets ty.Lint ty.Dint = (refl, refl, refl)
+either-meets ty.Lint ty.Lint = (refl, refl, refl)
 
 common-meets : (op : BinOp) (x y : Ty) → IfSome (common op x y) (Meets (common op) x y)
 common-meets bin.Mul x y = joined-meets x y
@@ -183,9 +242,11 @@ signs : (op : UnOp) (x : Ty) → IfSome (signed op x) (Signs op x)
 signs un.Neg ty.Bool = tt
 signs un.Neg ty.Int = (refl, refl)
 signs un.Neg ty.Dint = (refl, refl)
+signs un.Neg ty.Lint = (refl, refl)
 signs un.Not ty.Bool = (refl, refl)
 signs un.Not ty.Int = tt
 signs un.Not ty.Dint = tt
+signs un.Not ty.Lint = tt
 
 signed-made : (slots : List Slot) (op : UnOp) (spot : Spot) (x : typed.TExprTree) (o : Option Ty) → IfSome o (Signs op (ty_of x)) → IsExpr slots x → IsMade slots (option_map (λ t. typed.unary op t x spot) o)
 signed-made slots op spot x None c h = tt
@@ -357,11 +418,13 @@ number-joins : (t : Ty) → is_bool t ≡ false → joined t t ≡ Some t
 number-joins ty.Bool e = absurd cc
 number-joins ty.Int e = refl
 number-joins ty.Dint e = refl
+number-joins ty.Lint e = refl
 
 bool-is : (t : Ty) → is_bool t ≡ true → t ≡ ty.Bool
 bool-is ty.Bool e = refl
 bool-is ty.Int e = absurd cc
 bool-is ty.Dint e = absurd cc
+bool-is ty.Lint e = absurd cc
 
 case-if : (slots : List Slot) (held : List ℕ) (spot : Spot) (x : typed.TExprTree) (c : Bool) (b : Option checked.TBranchTrees) (o : Option checked.TOtherTree) → is_bool (ty_of x) ≡ c → IsExpr slots x → BranchesMade slots held (ty_of x) b → OtherMade slots held o → StmtMade slots held (case_of spot (cond c None (Some x)) b o)
 case-if slots held spot x true b o e h i j = tt

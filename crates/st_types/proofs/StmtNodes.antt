@@ -1,10 +1,7 @@
 -- StmtNodes: one lemma for each node of a statement: the faults of its parts, in order, and what they give.
-use Rattle.std.proofs.Common.{◌≡◌, ◌≢◌, ℕ, ℤ, pos, ◌⊎◌, List, [], ◌∷◌, ◌++◌, Bool, true, false, Option, Some, None, IfSome, option_map, option_and_then, refl, sym, ap, ap₂, ◌∙◌, subst, arith}
-use Rattle.std.proofs.lemmas.Int.{ints}
+use Rattle.std.proofs.Common.{◌≡◌, ◌≢◌, ℕ, ℤ, pos, ◌⊎◌, List, [], ◌∷◌, ◌++◌, Bool, false, Option, Some, None, IfSome, option_map, option_and_then, refl, sym, ap, ap₂, ◌∙◌, subst}
 use Rattle.vcp_base.specs.declared.spot.Spot.{Spot}
 use Rattle.vcp_base.specs.declared.ty.Ty.{Ty}
-use Rattle.vcp_base.specs.declared.ty.Ty.TheVariants as ty
-use Rattle.vcp_base.specs.Types.{fits}
 use Rattle.st_tree.specs.ExprTree.{ExprTree}
 use Rattle.st_tree.specs.StmtTree.{LabelTree, StmtTree, StmtTrees, ArmTrees, BranchTrees, OtherTree, assign, if_, case, for_, no_stmts, and_stmt, no_arms, and_arm, no_branches, and_branch, no_other, other}
 use Rattle.vcp_typed.specs.declared.stmt.TLabel.{TLabel}
@@ -21,12 +18,11 @@ use Rattle.st_types.specs.Scope.{Entry, find}
 use Rattle.st_types.specs.ExprTyping.{both, type_of, expr_of}
 use Rattle.st_types.specs.ExprSteps.{Types}
 use Rattle.st_types.specs.StmtTyping.{Known, Form, spot_of, constant, form, form_number, number_in, not_zero, step_of, NameFault, entry_type, Narrows, NoTest, IsBool, BoundFault, StepFault, LastFault, last_end, last_form, in_order, label_ends, label_of, LabelsFault, held_in, StmtsFault, stmts_of, ArmsFault, BranchesFault, OtherFault, assign_of, test_of, selector_of, for_of, arm_of, branch_of, case_of}
-use Rattle.st_types.specs.StmtSteps.{Gives, literal_known, IsSmall, InType, Numbers, Bounds, Steps, TypesLast, TypesLabel, TypesLabels, TypesStmt, TypesStmts, TypesArms, TypesBranches, TypesOther, stmt_after, label_after, arm_after, branch_after, if_of}
+use Rattle.st_types.specs.StmtSteps.{Gives, literal_known, Numbers, Bounds, Steps, TypesLast, TypesLabel, TypesLabels, TypesStmt, TypesStmts, TypesArms, TypesBranches, TypesOther, stmt_after, label_after, arm_after, branch_after, if_of}
 use Rattle.st_types.proofs.ConstantLaws.{constant-is}
 use Rattle.st_types.proofs.ExprLaws.{typed-is}
-use Rattle.st_types.proofs.MadeChecked.{number-fits, not-zero-made}
+use Rattle.st_types.proofs.MadeChecked.{not-zero-made}
 use Rattle.st_types.proofs.NoteLaws.{quiet, pair}
-use Rattle.st_types.proofs.TurnsFit.{order-of}
 
 own-type : (s : List Entry) (e : ExprTree) (x : Option typed.TExprTree) → x ≡ expr_of s e → option_map ty_of x ≡ type_of s e
 own-type s e x is = ap (option_map ty_of) is ∙ typed-is s e
@@ -284,17 +280,6 @@ pub some-else : (s : List Entry) (held : List ℕ) (body : StmtTrees) (a b : Opt
 some-else s held body a b y r h is = record { notes = h.notes; gives = is ∙ ap (option_map (λ x. checked.tother x)) h.gives }
 
 -- ---- values
-
-small-of : (t : Ty) (v : ℤ) → fits t v ≡ true → IsSmall v
-small-of ty.Bool v h = let k = order-of ty.Bool v h in let low = k.0 in let high = k.1 in (omega (arith, ints, low), omega (arith, ints, high))
-small-of ty.Int v h = let k = order-of ty.Int v h in let low = k.0 in let high = k.1 in (omega (arith, ints, low), omega (arith, ints, high))
-small-of ty.Dint v h = order-of ty.Dint v h
-
--- a number of a known type is a value of some type
-pub number-small : (t : Option Ty) (k : Option Known) (o : Option ℤ) → o ≡ number_in t k → InType t o
-number-small None k o e = tt
-number-small (Some t) k None e = tt
-number-small (Some t) k (Some v) e = small-of t v (number-fits t k v (sym e))
 
 -- a step isn't 0
 pub step-some : (k o : Option ℤ) → o ≡ option_and_then not_zero k → IfSome o (λ v. v ≢ pos 0)

@@ -6,12 +6,14 @@ use Rattle.vcp_base.specs.declared.spot.Spot.{Spot}
 use Rattle.vcp_base.specs.declared.ty.Ty.{Ty}
 use Rattle.vcp_base.specs.declared.ty.Ty.TheVariants as ty
 use Rattle.st_tree.specs.declared.expr.UnOp.TheVariants as un
+use Rattle.st_tree.specs.declared.expr.BinOp.{BinOp}
 use Rattle.st_tree.specs.declared.expr.BinOp.TheVariants as bin
 use Rattle.st_tree.specs.declared.program.Class.TheVariants as class
 use Rattle.st_tree.specs.ExprTree.{ExprTree, literal, name, unary, binary, call, no_exprs, and_expr}
 use Rattle.st_tree.specs.StmtTree.{LabelTree, StmtTree, StmtTrees, assign, if_, case, for_, no_stmts, and_stmt, no_arms, and_arm, no_branches, and_branch, no_other, other}
 use Rattle.st_tree.specs.ProgramTree.{DeclaredTree, DeclTree, BlockTree, ProgramTree}
 use Rattle.vcp_typed.specs.declared.expr.Fun.TheVariants as fun
+use Rattle.vcp_typed.specs.Rules.{common, signed}
 use Rattle.vcp_typed.specs.declared.slot.Slot.{Slot}
 use Rattle.vcp_typed.specs.TExprTree as typed
 use Rattle.vcp_typed.specs.TStmtTree as checked
@@ -20,7 +22,7 @@ use Rattle.vcp_typed.specs.Size.{size}
 use Rattle.st_types.specs.declared.fault.Fault.{Fault}
 use Rattle.st_types.specs.declared.fault.Rule.TheVariants as rule
 use Rattle.st_types.specs.Faults.{fault}
-use Rattle.st_types.specs.ExprTyping.{function, arity, function_type, expr_of}
+use Rattle.st_types.specs.ExprTyping.{sized, function, arity, function_type, expr_of}
 use Rattle.st_types.specs.Scope.{Entry}
 use Rattle.st_types.specs.StmtTyping.{turns_of, stmts_of}
 use Rattle.st_types.specs.DeclTyping.{nothing_made, after_blocks}
@@ -29,10 +31,10 @@ use Rattle.st_types.specs.declared.fault.TypeFault.TheVariants as told
 use Rattle.st_types.proofs.ExprLaws.{none-some}
 use Rattle.st_types.proofs.LeastFaults.{first_fault, none-is-faultless}
 
-abbrev at : ℕ → ℕ → Spot
+abbrev pub at : ℕ → ℕ → Spot
 at line col = record { line = line; col = col }
 
-abbrev decl : List ℕ → Spot → Ty → Option ExprTree → DeclTree
+abbrev pub decl : List ℕ → Spot → Ty → Option ExprTree → DeclTree
 decl n spot t init = record { names = record { name = n; spot = spot } ∷ []; ty = t; init = init }
 
 abbrev header : List BlockTree
@@ -52,14 +54,14 @@ abbrev one : StmtTree → ProgramTree
 one x = record { name = codes "p"; blocks = header; body = and_stmt x no_stmts }
 
 -- a program of one block of variables in line 2, without a body
-abbrev vars : List DeclTree → ProgramTree
+abbrev pub vars : List DeclTree → ProgramTree
 vars ds = record { name = codes "p"; blocks = record { class = class.Local; decls = ds } ∷ []; body = no_stmts }
 
 abbrev set : List ℕ → ExprTree → ProgramTree
 set n e = one (assign n e (at 6 1))
 
 -- the least fault, and the Size of the checked program
-abbrev checks : ProgramTree → (Option Fault) × (Option ℕ)
+abbrev pub checks : ProgramTree → (Option Fault) × (Option ℕ)
 checks p = (first_fault p, option_map size (typed_of p))
 
 abbrev var : List ℕ → ℕ → ExprTree
@@ -76,67 +78,116 @@ body_of n col by = and_stmt (assign (codes "q") (num n by) (at 6 col)) no_stmts
 abbrev case_of : ExprTree → List LabelTree → ProgramTree
 case_of e ls = one (case e (and_branch ls (body_of 1 24 29) no_branches) no_other (at 6 1))
 
-abbrev label : ExprTree → LabelTree
+abbrev pub label : ExprTree → LabelTree
 label e = record { first = e; last = None }
 
-abbrev range : ExprTree → ExprTree → LabelTree
+abbrev pub range : ExprTree → ExprTree → LabelTree
 range a b = record { first = a; last = Some b }
 
 -- ---- tables
 
 -- a name of a function is found without regard to case
-functions : map (λ n. function n) (codes "abs" ∷ codes "MIN" ∷ codes "Max" ∷ codes "limit" ∷ codes "SEL" ∷ codes "int_to_dint" ∷ codes "DINT_TO_INT" ∷ codes "Bool_To_Int" ∷ codes "SQRT" ∷ [])
-    ≡ Some fun.Abs ∷ Some fun.Min ∷ Some fun.Max ∷ Some fun.Limit ∷ Some fun.Sel ∷ Some fun.IntToDint ∷ Some fun.DintToInt ∷ Some fun.BoolToInt ∷ None ∷ []
+functions : map (λ n. function n) (codes "abs" ∷ codes "MIN" ∷ codes "Max" ∷ codes "limit" ∷ codes "SEL" ∷ codes "int_to_dint" ∷ codes "int_to_LINT" ∷ codes "DINT_TO_INT" ∷ codes "Dint_To_Lint" ∷ codes "LINT_TO_INT" ∷ codes "lint_to_dint" ∷ codes "Bool_To_Int" ∷ codes "BOOL_TO_LINT" ∷ codes "SQRT" ∷ [])
+    ≡ Some fun.Abs ∷ Some fun.Min ∷ Some fun.Max ∷ Some fun.Limit ∷ Some fun.Sel ∷ Some fun.IntToDint ∷ Some fun.IntToLint ∷ Some fun.DintToInt ∷ Some fun.DintToLint ∷ Some fun.LintToInt ∷ Some fun.LintToDint ∷ Some fun.BoolToInt ∷ None ∷ None ∷ []
 functions = refl
 
-arguments : map (λ f. arity f) (fun.Abs ∷ fun.Min ∷ fun.Max ∷ fun.Limit ∷ fun.Sel ∷ fun.IntToDint ∷ fun.DintToInt ∷ fun.BoolToInt ∷ [])
-    ≡ 1 ∷ 2 ∷ 2 ∷ 3 ∷ 3 ∷ 1 ∷ 1 ∷ 1 ∷ []
+arguments : map (λ f. arity f) (fun.Abs ∷ fun.Min ∷ fun.Max ∷ fun.Limit ∷ fun.Sel ∷ fun.IntToDint ∷ fun.IntToLint ∷ fun.DintToInt ∷ fun.DintToLint ∷ fun.LintToInt ∷ fun.LintToDint ∷ fun.BoolToInt ∷ [])
+    ≡ 1 ∷ 2 ∷ 2 ∷ 3 ∷ 3 ∷ 1 ∷ 1 ∷ 1 ∷ 1 ∷ 1 ∷ 1 ∷ 1 ∷ []
 arguments = refl
 
 abbrev types : List Ty
-types = ty.Bool ∷ ty.Int ∷ ty.Dint ∷ []
+types = ty.Bool ∷ ty.Int ∷ ty.Dint ∷ ty.Lint ∷ []
 
--- of one BOOL, INT or DINT
-of_one : map (λ f. map (λ t. function_type f (t ∷ [])) types) (fun.Abs ∷ fun.IntToDint ∷ fun.DintToInt ∷ fun.BoolToInt ∷ [])
-    ≡ (None ∷ Some ty.Int ∷ Some ty.Dint ∷ [])
-    ∷ (None ∷ Some ty.Dint ∷ None ∷ [])
-    ∷ (None ∷ Some ty.Int ∷ Some ty.Int ∷ [])
-    ∷ (Some ty.Int ∷ None ∷ None ∷ []) ∷ []
+-- the least type of numbers that a value is in; `negsuc n` is -(n + 1)
+least_types : map sized (pos 32767 ∷ pos 32768 ∷ pos 2147483647 ∷ pos 2147483648 ∷ pos 9223372036854775807 ∷ pos 9223372036854775808 ∷ ℤ.negsuc 32767 ∷ ℤ.negsuc 32768 ∷ ℤ.negsuc 2147483647 ∷ ℤ.negsuc 2147483648 ∷ ℤ.negsuc 9223372036854775807 ∷ [])
+    ≡ Some ty.Int ∷ Some ty.Dint ∷ Some ty.Dint ∷ Some ty.Lint ∷ Some ty.Lint ∷ None ∷ Some ty.Int ∷ Some ty.Dint ∷ Some ty.Dint ∷ Some ty.Lint ∷ Some ty.Lint ∷ []
+least_types = refl
+
+-- of one BOOL, INT, DINT or LINT
+of_one : map (λ f. map (λ t. function_type f (t ∷ [])) types) (fun.Abs ∷ fun.IntToDint ∷ fun.IntToLint ∷ fun.DintToInt ∷ fun.DintToLint ∷ fun.LintToInt ∷ fun.LintToDint ∷ fun.BoolToInt ∷ [])
+    ≡ (None ∷ Some ty.Int ∷ Some ty.Dint ∷ Some ty.Lint ∷ [])
+    ∷ (None ∷ Some ty.Dint ∷ None ∷ None ∷ [])
+    ∷ (None ∷ Some ty.Lint ∷ None ∷ None ∷ [])
+    ∷ (None ∷ Some ty.Int ∷ Some ty.Int ∷ None ∷ [])
+    ∷ (None ∷ Some ty.Lint ∷ Some ty.Lint ∷ None ∷ [])
+    ∷ (None ∷ Some ty.Int ∷ Some ty.Int ∷ Some ty.Int ∷ [])
+    ∷ (None ∷ Some ty.Dint ∷ Some ty.Dint ∷ Some ty.Dint ∷ [])
+    ∷ (Some ty.Int ∷ None ∷ None ∷ None ∷ []) ∷ []
 of_one = refl
 
 -- a row for each type of the first argument, in it a column for each of the second
 abbrev two_numbers : List (List (Option Ty))
 two_numbers =
-    (None ∷ None ∷ None ∷ [])
-    ∷ (None ∷ Some ty.Int ∷ Some ty.Dint ∷ [])
-    ∷ (None ∷ Some ty.Dint ∷ Some ty.Dint ∷ []) ∷ []
+    (None ∷ None ∷ None ∷ None ∷ [])
+    ∷ (None ∷ Some ty.Int ∷ Some ty.Dint ∷ Some ty.Lint ∷ [])
+    ∷ (None ∷ Some ty.Dint ∷ Some ty.Dint ∷ Some ty.Lint ∷ [])
+    ∷ (None ∷ Some ty.Lint ∷ Some ty.Lint ∷ Some ty.Lint ∷ []) ∷ []
 
 of_two : map (λ f. map (λ t. map (λ u. function_type f (t ∷ u ∷ [])) types) types) (fun.Min ∷ fun.Max ∷ []) ≡ two_numbers ∷ two_numbers ∷ []
 of_two = refl
 
--- the same of LIMIT, with an INT and with a DINT as its third argument
-of_limit : map (λ v. map (λ t. map (λ u. function_type fun.Limit (t ∷ u ∷ v ∷ [])) types) types) (ty.Int ∷ ty.Dint ∷ [])
+-- the same of LIMIT, with an INT, a DINT and a LINT as its third argument
+of_limit : map (λ v. map (λ t. map (λ u. function_type fun.Limit (t ∷ u ∷ v ∷ [])) types) types) (ty.Int ∷ ty.Dint ∷ ty.Lint ∷ [])
     ≡ two_numbers
-    ∷ ((None ∷ None ∷ None ∷ []) ∷ (None ∷ Some ty.Dint ∷ Some ty.Dint ∷ []) ∷ (None ∷ Some ty.Dint ∷ Some ty.Dint ∷ []) ∷ []) ∷ []
+    ∷ ((None ∷ None ∷ None ∷ None ∷ [])
+    ∷ (None ∷ Some ty.Dint ∷ Some ty.Dint ∷ Some ty.Lint ∷ [])
+    ∷ (None ∷ Some ty.Dint ∷ Some ty.Dint ∷ Some ty.Lint ∷ [])
+    ∷ (None ∷ Some ty.Lint ∷ Some ty.Lint ∷ Some ty.Lint ∷ []) ∷ [])
+    ∷ ((None ∷ None ∷ None ∷ None ∷ [])
+    ∷ (None ∷ Some ty.Lint ∷ Some ty.Lint ∷ Some ty.Lint ∷ [])
+    ∷ (None ∷ Some ty.Lint ∷ Some ty.Lint ∷ Some ty.Lint ∷ [])
+    ∷ (None ∷ Some ty.Lint ∷ Some ty.Lint ∷ Some ty.Lint ∷ []) ∷ []) ∷ []
 of_limit = refl
 
-no_limit : map (λ t. function_type fun.Limit (t ∷ t ∷ ty.Bool ∷ [])) types ≡ None ∷ None ∷ None ∷ []
+no_limit : map (λ t. function_type fun.Limit (t ∷ t ∷ ty.Bool ∷ [])) types ≡ None ∷ None ∷ None ∷ None ∷ []
 no_limit = refl
 
+-- the same where two BOOL are taken too
+abbrev two_numbers_or_bools : List (List (Option Ty))
+two_numbers_or_bools =
+    (Some ty.Bool ∷ None ∷ None ∷ None ∷ [])
+    ∷ (None ∷ Some ty.Int ∷ Some ty.Dint ∷ Some ty.Lint ∷ [])
+    ∷ (None ∷ Some ty.Dint ∷ Some ty.Dint ∷ Some ty.Lint ∷ [])
+    ∷ (None ∷ Some ty.Lint ∷ Some ty.Lint ∷ Some ty.Lint ∷ []) ∷ []
+
 -- of SEL by BOOL, and by a number
-of_sel : map (λ t. map (λ u. function_type fun.Sel (ty.Bool ∷ t ∷ u ∷ [])) types) types
-    ≡ (Some ty.Bool ∷ None ∷ None ∷ [])
-    ∷ (None ∷ Some ty.Int ∷ Some ty.Dint ∷ [])
-    ∷ (None ∷ Some ty.Dint ∷ Some ty.Dint ∷ []) ∷ []
+of_sel : map (λ t. map (λ u. function_type fun.Sel (ty.Bool ∷ t ∷ u ∷ [])) types) types ≡ two_numbers_or_bools
 of_sel = refl
 
-no_sel : map (λ t. function_type fun.Sel (ty.Int ∷ t ∷ t ∷ [])) types ≡ None ∷ None ∷ None ∷ []
+no_sel : map (λ n. map (λ t. function_type fun.Sel (n ∷ t ∷ t ∷ [])) types) (ty.Int ∷ ty.Dint ∷ ty.Lint ∷ [])
+    ≡ (None ∷ None ∷ None ∷ None ∷ []) ∷ (None ∷ None ∷ None ∷ None ∷ []) ∷ (None ∷ None ∷ None ∷ None ∷ []) ∷ []
 no_sel = refl
+
+-- the types that the operands of operators widen to
+abbrev operators : List BinOp → List (List (List (Option Ty)))
+operators ops = map (λ op. map (λ t. map (λ u. common op t u) types) types) ops
+
+of_numbers : operators (bin.Mul ∷ bin.Div ∷ bin.Mod ∷ bin.Add ∷ bin.Sub ∷ bin.Lt ∷ bin.Gt ∷ bin.Le ∷ bin.Ge ∷ [])
+    ≡ two_numbers ∷ two_numbers ∷ two_numbers ∷ two_numbers ∷ two_numbers ∷ two_numbers ∷ two_numbers ∷ two_numbers ∷ two_numbers ∷ []
+of_numbers = refl
+
+of_equality : operators (bin.Eq ∷ bin.Ne ∷ []) ≡ two_numbers_or_bools ∷ two_numbers_or_bools ∷ []
+of_equality = refl
+
+abbrev two_bools : List (List (Option Ty))
+two_bools =
+    (Some ty.Bool ∷ None ∷ None ∷ None ∷ [])
+    ∷ (None ∷ None ∷ None ∷ None ∷ [])
+    ∷ (None ∷ None ∷ None ∷ None ∷ [])
+    ∷ (None ∷ None ∷ None ∷ None ∷ []) ∷ []
+
+of_bools : operators (bin.And ∷ bin.Xor ∷ bin.Or ∷ []) ≡ two_bools ∷ two_bools ∷ two_bools ∷ []
+of_bools = refl
+
+-- `-` and NOT before an operand
+of_signs : map (λ op. map (λ t. signed op t) types) (un.Neg ∷ un.Not ∷ [])
+    ≡ (None ∷ Some ty.Int ∷ Some ty.Dint ∷ Some ty.Lint ∷ []) ∷ (Some ty.Bool ∷ None ∷ None ∷ None ∷ []) ∷ []
+of_signs = refl
 
 -- how many turns FOR has from a first to a last bound by a step; `negsuc n` is -(n + 1)
 turns : map (λ (b : ℤ × ℤ × ℤ). turns_of b.0 b.1 b.2)
-    ((pos 1, pos 6, pos 2) ∷ (pos 1, pos 7, pos 2) ∷ (pos 2, pos 2, pos 1) ∷ (pos 2, pos 2, ℤ.negsuc 0) ∷ (pos 2, pos 1, pos 1) ∷ (pos 1, pos 2, ℤ.negsuc 0) ∷ (pos 7, pos 1, ℤ.negsuc 2) ∷ (ℤ.negsuc 32767, pos 32767, pos 1) ∷ (ℤ.negsuc 2147483647, pos 2147483647, pos 1) ∷ [])
-    ≡ 3 ∷ 4 ∷ 1 ∷ 1 ∷ 0 ∷ 0 ∷ 3 ∷ 65536 ∷ 4294967296 ∷ []
+    ((pos 1, pos 6, pos 2) ∷ (pos 1, pos 7, pos 2) ∷ (pos 2, pos 2, pos 1) ∷ (pos 2, pos 2, ℤ.negsuc 0) ∷ (pos 2, pos 1, pos 1) ∷ (pos 1, pos 2, ℤ.negsuc 0) ∷ (pos 7, pos 1, ℤ.negsuc 2) ∷ (ℤ.negsuc 32767, pos 32767, pos 1) ∷ (ℤ.negsuc 2147483647, pos 2147483647, pos 1) ∷ (ℤ.negsuc 9223372036854775807, pos 9223372036854775807, pos 1) ∷ (ℤ.negsuc 9223372036854775806, pos 9223372036854775807, pos 9223372036854775807) ∷ (pos 9223372036854775806, pos 9223372036854775807, pos 1) ∷ [])
+    ≡ 3 ∷ 4 ∷ 1 ∷ 1 ∷ 0 ∷ 0 ∷ 3 ∷ 65536 ∷ 4294967296 ∷ 18446744073709551616 ∷ 3 ∷ 2 ∷ []
 turns = refl
 
 -- ---- programs without a fault, with their Size
@@ -264,9 +315,9 @@ sets_input = refl
 sets_constant : first_fault (set (codes "T") (num 1 6)) ≡ Some (fault rule.Assign (at 6 1))
 sets_constant = refl
 
--- q := 2147483648;
-beyond_all : first_fault (set (codes "q") (num 2147483648 6)) ≡ Some (fault rule.Literal (at 6 6))
-beyond_all = refl
+-- q := 2147483648; the literal is LINT
+beyond_dint : first_fault (set (codes "q") (num 2147483648 6)) ≡ Some (fault rule.Mismatch (at 6 1))
+beyond_dint = refl
 
 -- r := -32769;
 beyond_int : first_fault (set (codes "r") (unary un.Neg (num 32769 7) (at 6 6))) ≡ Some (fault rule.Mismatch (at 6 1))
@@ -560,8 +611,8 @@ unknown_inside = refl
 sum_of_later : first_fault (initial ty.Dint (binary bin.Add (name2 (codes "x") 17) (num2 1 21) (at 2 19))) ≡ Some (fault rule.Bound (at 2 19))
 sum_of_later = refl
 
--- VAR a : INT := 99999999999 + 1;
-literal_inside : first_fault (initial ty.Int (binary bin.Add (num2 99999999999 16) (num2 1 30) (at 2 28))) ≡ Some (fault rule.Literal (at 2 16))
+-- VAR a : INT := INT#40000 + 1;
+literal_inside : first_fault (initial ty.Int (binary bin.Add (literal (Some ty.Int) (pos 40000) (at 2 16)) (num2 1 28) (at 2 26))) ≡ Some (fault rule.Literal (at 2 16))
 literal_inside = refl
 
 -- VAR a : BOOL := x AND x; at one spot the lesser number

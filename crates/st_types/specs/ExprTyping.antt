@@ -4,7 +4,7 @@ use Rattle.std.specs.Str.{str_eq_ignore_ascii_case}
 use Rattle.vcp_base.specs.declared.spot.Spot.{Spot}
 use Rattle.vcp_base.specs.declared.ty.Ty.{Ty}
 use Rattle.vcp_base.specs.declared.ty.Ty.TheVariants as ty
-use Rattle.vcp_base.specs.Types.{fits}
+use Rattle.vcp_base.specs.Types.{fits, within}
 use Rattle.st_tree.specs.declared.expr.UnOp.{UnOp}
 use Rattle.st_tree.specs.declared.expr.UnOp.TheVariants as un
 use Rattle.st_tree.specs.declared.expr.BinOp.{BinOp}
@@ -13,7 +13,7 @@ use Rattle.st_tree.specs.declared.program.Class.TheVariants as class
 use Rattle.st_tree.specs.ExprTree.{ExprTree, ExprTrees, literal, name, unary, binary, call, no_exprs, and_expr}
 use Rattle.vcp_typed.specs.declared.expr.Fun.{Fun}
 use Rattle.vcp_typed.specs.declared.expr.Fun.TheVariants as fun
-use Rattle.vcp_typed.specs.Rules.{joined, joined_or_bool, common, result, signed, arguments}
+use Rattle.vcp_typed.specs.Rules.{widens, joined, joined_or_bool, common, result, signed, arguments}
 use Rattle.vcp_typed.specs.TExprTree as typed
 use Rattle.vcp_typed.specs.Checked.{ty_of}
 pub use Rattle.st_types.specs.declared.literal.Untyped.{Untyped}
@@ -31,7 +31,7 @@ both f (Some x) (Some y) = f x y
 
 -- the least type of numbers that a value is in
 abbrev pub sized : ℤ → Option Ty
-sized v = cond (fits ty.Int v) (Some ty.Int) (cond (fits ty.Dint v) (Some ty.Dint) None)
+sized v = cond (fits ty.Int v) (Some ty.Int) (cond (fits ty.Dint v) (Some ty.Dint) (cond (fits ty.Lint v) (Some ty.Lint) None))
 
 -- the type of a literal: as it is written, or by its value; none where it is outside
 abbrev pub literal_type : Option Ty → ℤ → Option Ty
@@ -62,9 +62,13 @@ function n =
     (is_called n (codes "LIMIT") fun.Limit
     (is_called n (codes "SEL") fun.Sel
     (is_called n (codes "INT_TO_DINT") fun.IntToDint
+    (is_called n (codes "INT_TO_LINT") fun.IntToLint
     (is_called n (codes "DINT_TO_INT") fun.DintToInt
+    (is_called n (codes "DINT_TO_LINT") fun.DintToLint
+    (is_called n (codes "LINT_TO_INT") fun.LintToInt
+    (is_called n (codes "LINT_TO_DINT") fun.LintToDint
     (is_called n (codes "BOOL_TO_INT") fun.BoolToInt
-    None)))))))
+    None)))))))))))
 
 -- how many arguments a function has
 abbrev pub arity : Fun → ℕ
@@ -74,7 +78,11 @@ arity fun.Max = 2
 arity fun.Limit = 3
 arity fun.Sel = 3
 arity fun.IntToDint = 1
+arity fun.IntToLint = 1
 arity fun.DintToInt = 1
+arity fun.DintToLint = 1
+arity fun.LintToInt = 1
+arity fun.LintToDint = 1
 arity fun.BoolToInt = 1
 
 abbrev pub count : ExprTrees → ℕ
@@ -85,36 +93,27 @@ count (and_expr e es) = suc (count es)
 abbrev pub called : List ℕ → ℕ → Option Fun
 called n k = option_and_then (λ f. cond (k == arity f) (Some f) None) (function n)
 
--- the type of INT_TO_DINT, which takes INT alone
-abbrev pub from_int : Ty → Option Ty
-from_int ty.Int = Some ty.Dint
-from_int ty.Dint = None
-from_int ty.Bool = None
-
--- the type of DINT_TO_INT, which takes an INT too
-abbrev pub from_number : Ty → Option Ty
-from_number ty.Int = Some ty.Int
-from_number ty.Dint = Some ty.Int
-from_number ty.Bool = None
-
--- the type of BOOL_TO_INT
-abbrev pub from_bool : Ty → Option Ty
-from_bool ty.Bool = Some ty.Int
-from_bool ty.Int = None
-from_bool ty.Dint = None
+-- the type t of a conversion from the type `source`, of an argument of type a: it takes its source type, and one that widens to it
+abbrev pub converted : Ty → Ty → Ty → Option Ty
+converted source t a = cond (within a source) (Some t) None
 
 -- the type of SEL, whose first argument is BOOL
-abbrev pub selected : Ty → Ty → Ty → Option Ty
-selected ty.Bool a b = joined_or_bool a b
-selected ty.Int a b = None
-selected ty.Dint a b = None
+abbrev pub of_sel : Ty → Ty → Ty → Option Ty
+of_sel ty.Bool a b = joined_or_bool a b
+of_sel ty.Int a b = None
+of_sel ty.Dint a b = None
+of_sel ty.Lint a b = None
 
 -- the type of a function of one, two or three arguments of these types
 abbrev pub of_one : Fun → Ty → Option Ty
 of_one fun.Abs a = joined a a
-of_one fun.IntToDint a = from_int a
-of_one fun.DintToInt a = from_number a
-of_one fun.BoolToInt a = from_bool a
+of_one fun.IntToDint a = converted ty.Int ty.Dint a
+of_one fun.IntToLint a = converted ty.Int ty.Lint a
+of_one fun.DintToInt a = converted ty.Dint ty.Int a
+of_one fun.DintToLint a = converted ty.Dint ty.Lint a
+of_one fun.LintToInt a = converted ty.Lint ty.Int a
+of_one fun.LintToDint a = converted ty.Lint ty.Dint a
+of_one fun.BoolToInt a = converted ty.Bool ty.Int a
 of_one _ a = None
 
 abbrev pub of_two : Fun → Ty → Ty → Option Ty
@@ -124,7 +123,7 @@ of_two _ a b = None
 
 abbrev pub of_three : Fun → Ty → Ty → Ty → Option Ty
 of_three fun.Limit a b c = option_and_then (λ t. joined t c) (joined a b)
-of_three fun.Sel a b c = selected a b c
+of_three fun.Sel a b c = of_sel a b c
 of_three _ a b c = None
 
 -- the type of a function's value, where it takes arguments of these types
@@ -197,18 +196,14 @@ got spot e class.Output = typed.get e.slot e.ty
 got spot e class.Local = typed.get e.slot e.ty
 got spot e class.Retain = typed.get e.slot e.ty
 
--- an INT as a DINT; a literal becomes one of DINT
-abbrev pub as_dint : typed.TExprTree → typed.TExprTree
-as_dint (typed.literal t v spot) = typed.literal ty.Dint v spot
-as_dint a = typed.widen ty.Dint a
+-- an expression as one of the wider type t; a literal becomes one of that type
+abbrev pub as_type : Ty → typed.TExprTree → typed.TExprTree
+as_type t (typed.literal u v spot) = typed.literal t v spot
+as_type t a = typed.widen t a
 
--- the expression, of type u, where one of type t is wanted to which it widens
+-- the expression, of type u, where one of type t is wanted: widened where u widens to it
 abbrev pub widened : Ty → Ty → typed.TExprTree → typed.TExprTree
-widened ty.Dint ty.Int a = as_dint a
-widened ty.Dint ty.Dint a = a
-widened ty.Dint ty.Bool a = a
-widened ty.Int u a = a
-widened ty.Bool u a = a
+widened t u a = cond (widens u t) (as_type t a) a
 
 -- each argument widened to the type that is wanted of it
 abbrev pub widened_all : List Ty → List typed.TExprTree → typed.TExprTrees

@@ -10,3 +10,4 @@ pub mod Typing
 pub mod DeclSteps
 pub mod Places
 pub mod Turns
+pub mod Weight

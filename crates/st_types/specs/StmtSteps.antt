@@ -1,9 +1,7 @@
 -- StmtSteps: what the steps of typing a statement give, and the faults that they note.
-use Rattle.std.specs.Prelude.{◌≡◌, ℕ, ℤ, ◌≤ℤ◌, List, [], ◌∷◌, ◌++◌, Option, Some, None, option_map}
+use Rattle.std.specs.Prelude.{◌≡◌, ℕ, ℤ, List, [], ◌∷◌, ◌++◌, Option, Some, None, option_map}
 use Rattle.vcp_base.specs.declared.spot.Spot.{Spot}
 use Rattle.vcp_base.specs.declared.ty.Ty.{Ty}
-use Rattle.vcp_base.specs.declared.ty.Ty.TheVariants as ty
-use Rattle.vcp_base.specs.Types.{least, greatest}
 use Rattle.st_tree.specs.ExprTree.{ExprTree}
 use Rattle.st_tree.specs.StmtTree.{LabelTree, StmtTree, StmtTrees, ArmTrees, BranchTrees, OtherTree}
 use Rattle.vcp_typed.specs.declared.stmt.TLabel.{TLabel}
@@ -33,16 +31,6 @@ literal_known (typed.widen t a) = None
 literal_known (typed.unary op t a spot) = None
 literal_known (typed.binary op t a b spot) = None
 literal_known (typed.call f t es spot) = None
-
--- a value of the widest type
-abbrev pub IsSmall : ℤ → Type 0
-IsSmall v = (least ty.Dint ≤ℤ v) × (v ≤ℤ greatest ty.Dint)
-
--- a number, where there is one; that of a known type is a value of some type
-abbrev pub InType : Option Ty → Option ℤ → Type 0
-InType None v = Unit {0}
-InType (Some t) None = Unit {0}
-InType (Some t) (Some v) = IsSmall v
 
 -- an expression is typed where a number of the type is wanted: the number of the constant that it is, and that of its form
 pub record Numbers (s : List Entry) (t : Option Ty) (e : ExprTree) (old new : Option Fault) (r : Number) : Type 0 where

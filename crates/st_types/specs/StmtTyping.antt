@@ -26,6 +26,7 @@ abbrev pub is_bool : Ty → Bool
 is_bool ty.Bool = true
 is_bool ty.Int = false
 is_bool ty.Dint = false
+is_bool ty.Lint = false
 
 abbrev pub spot_of : ExprTree → Spot
 spot_of (literal t v spot) = spot

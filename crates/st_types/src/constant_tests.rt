@@ -1,8 +1,7 @@
 //! Bounds, steps and labels: literals with and without a type, inside and outside it.
 
-use crate::constants::{bound, step};
+use crate::environment::Environment;
 use crate::fault::{Fault, Rule};
-use crate::labels::type_labels;
 use crate::names::Names;
 use st_tree::{Expr, Label, Labels};
 use std::alloc::Global;
@@ -28,7 +27,7 @@ fn place_of(first: Option<Fault>) -> Option<Place> {
 }
 
 /// The type of the control variable, a bound in column 5, what is told of it, and what is told where it is the step.
-const BOUNDS: [(Ty, Written, Option<Place>, Option<Place>); 10] = [
+const BOUNDS: [(Ty, Written, Option<Place>, Option<Place>); 11] = [
     (Ty::Int, (None, 7), None, None),
     (Ty::Int, (None, 0), None, Some((Rule::Bound, 5))),
     (
@@ -58,10 +57,11 @@ const BOUNDS: [(Ty, Written, Option<Place>, Option<Place>); 10] = [
     ),
     (
         Ty::Dint,
-        (None, 99_999_999_999),
+        (None, 2_147_483_648),
         Some((Rule::Bound, 5)),
         Some((Rule::Bound, 5)),
     ),
+    (Ty::Lint, (None, 2_147_483_648), None, None),
     (
         Ty::Dint,
         (Some(Ty::Bool), 1),
@@ -81,12 +81,16 @@ fn first_wrong_bound(
     rows: &[(Ty, Written, Option<Place>, Option<Place>)],
 ) -> Result<Option<usize>, Memory> {
     for (place, (ty, written, as_bound, as_step)) in rows.iter().enumerate() {
-        let names = Names::new(alloc);
+        let environment = Environment {
+            alloc,
+            names: &Names::new(alloc),
+            held: &[],
+        };
         let mut first = None;
-        bound(alloc, &names, Some(*ty), &literal(*written, 5), &mut first)?;
+        environment.bound(Some(*ty), &literal(*written, 5), &mut first)?;
         let mut second = None;
         let by = Some(literal(*written, 5));
-        step(alloc, &names, Some(*ty), &by, &mut second)?;
+        environment.step(Some(*ty), &by, &mut second)?;
         if place_of(first) != *as_bound || place_of(second) != *as_step {
             return Ok(Some(place));
         }
@@ -95,7 +99,7 @@ fn first_wrong_bound(
 }
 
 /// The type of the selector, the ends of a label in columns 5 and 9, and what is told.
-const LABELS: [(Ty, Written, Option<Written>, Option<Place>); 9] = [
+const LABELS: [(Ty, Written, Option<Written>, Option<Place>); 11] = [
     (Ty::Dint, (None, 7), None, None),
     (Ty::Dint, (None, 7), Some((None, 7)), None),
     (Ty::Dint, (None, 8), Some((None, 7)), Some((Rule::Label, 5))),
@@ -130,6 +134,13 @@ const LABELS: [(Ty, Written, Option<Written>, Option<Place>); 9] = [
         Some((Rule::Label, 5)),
     ),
     (Ty::Dint, (Some(Ty::Bool), 1), None, Some((Rule::Label, 5))),
+    (
+        Ty::Dint,
+        (None, 2_147_483_648),
+        None,
+        Some((Rule::Label, 5)),
+    ),
+    (Ty::Lint, (None, 1), Some((None, 2_147_483_648)), None),
 ];
 
 fn first_wrong_label(
@@ -147,13 +158,12 @@ fn first_wrong_label(
             last,
         })?;
         let mut first = None;
-        type_labels(
+        let environment = Environment {
             alloc,
-            &Names::new(alloc),
-            Some(*ty),
-            &labels.items,
-            &mut first,
-        )?;
+            names: &Names::new(alloc),
+            held: &[],
+        };
+        environment.type_labels(Some(*ty), &labels.items, &mut first)?;
         if place_of(first) != *wanted {
             return Ok(Some(place));
         }

@@ -8,15 +8,13 @@ ghost use Rattle.st_types.specs.Faults.{fault};
 ghost use Rattle.st_types.specs.Scope.{Entry as Entry_};
 ghost use Rattle.st_types.specs.Notes.{Notes};
 ghost use Rattle.st_types.specs.StmtTyping.{is_bool as is_bool_of, spot_of as spot_of_tree, constant, form as form_of_tree, form_of_known as form_of_constant, form_of_negated as negated_form, is_form_bool as is_form_bool_of, form_number as form_number_of, number_in as number_in_of, not_zero as not_zero_of};
-ghost use Rattle.st_types.specs.StmtSteps.{literal_known as literal_known_of, InType, Numbers, Bounds, Steps};
+ghost use Rattle.st_types.specs.StmtSteps.{literal_known as literal_known_of, Numbers, Bounds, Steps};
 
-use crate::expression::type_expression;
+use crate::environment::Environment;
 use crate::fault::{Fault, Rule};
 use crate::literal::{Untyped, negated};
-use crate::names::Names;
 use crate::note::note;
 use st_tree::Expr;
-use std::alloc::Global;
 use vcp_base::{Memory, Spot, Ty, fits};
 use vcp_typed::TExpr;
 
@@ -50,6 +48,7 @@ pub(crate) fn is_bool(ty: Ty) -> bool
         Ty::Bool => true,
         Ty::Int => false,
         Ty::Dint => false,
+        Ty::Lint => false,
     }
 }
 
@@ -70,16 +69,13 @@ pub(crate) fn spot_of(e: &Expr) -> Spot
 fn literal_known(e: Option<TExpr>) -> Option<Known>
     ensures { result ≡ option_and_then literal_known_of (option_map texpr_tree e) }
 {
-    match e {
-        None => None,
-        Some(e) => match e {
-            TExpr::Lit { ty, value, .. } => Some(Known { ty, value }),
-            TExpr::Get { .. } => None,
-            TExpr::Widen { .. } => None,
-            TExpr::Unary { .. } => None,
-            TExpr::Binary { .. } => None,
-            TExpr::Call { .. } => None,
-        },
+    match e? {
+        TExpr::Lit { ty, value, .. } => Some(Known { ty, value }),
+        TExpr::Get { .. } => None,
+        TExpr::Widen { .. } => None,
+        TExpr::Unary { .. } => None,
+        TExpr::Binary { .. } => None,
+        TExpr::Call { .. } => None,
     }
 }
 
@@ -87,9 +83,7 @@ fn literal_known(e: Option<TExpr>) -> Option<Known>
 fn number_in(ty: Option<Ty>, known: Option<Known>) -> Option<i64>
     ensures { result ≡ number_in_of ty known }
 {
-    let Some(known) = known else {
-        return None;
-    };
+    let known = known?;
     if is_bool(known.ty) {
         return None;
     }
@@ -109,26 +103,22 @@ fn number_in(ty: Option<Ty>, known: Option<Known>) -> Option<i64>
 fn form_of_known(known: Option<Known>) -> Option<Form>
     ensures { result ≡ option_map form_of_constant known }
 {
-    match known {
-        None => None,
-        Some(known) => Some(Form {
-            ty: Some(known.ty),
-            value: i128::from(known.value),
-        }),
-    }
+    let known = known?;
+    Some(Form {
+        ty: Some(known.ty),
+        value: i128::from(known.value),
+    })
 }
 
 // The form of a `-`: only a literal without a type may stand behind it.
 fn form_of_negated(l: Option<Untyped>) -> Option<Form>
     ensures { result ≡ option_map negated_form l }
 {
-    match l {
-        None => None,
-        Some(l) => Some(Form {
-            ty: None,
-            value: -i128::from(l.value),
-        }),
-    }
+    let l = l?;
+    Some(Form {
+        ty: None,
+        value: -i128::from(l.value),
+    })
 }
 
 // The constant form that an expression is, which stands for this constant where it has no fault.
@@ -161,9 +151,7 @@ fn is_form_bool(ty: Option<Ty>) -> bool
 fn form_number(ty: Option<Ty>, form: Option<Form>) -> Option<i128>
     ensures { result ≡ form_number_of ty form }
 {
-    let Some(form) = form else {
-        return None;
-    };
+    let form = form?;
     if is_form_bool(form.ty) {
         return None;
     }
@@ -183,20 +171,16 @@ fn form_number(ty: Option<Ty>, form: Option<Form>) -> Option<i128>
 fn not_zero(value: Option<i64>) -> Option<i64>
     ensures { result ≡ option_and_then not_zero_of value }
 {
-    match value {
-        None => None,
-        Some(value) => { if value == 0 { None } else { Some(value) } }
-    }
+    let value = value?;
+    if value == 0 { None } else { Some(value) }
 }
 
 // The same of the number of a form.
 fn form_not_zero(value: Option<i128>) -> Option<i128>
     ensures { result ≡ option_and_then not_zero_of value }
 {
-    match value {
-        None => None,
-        Some(value) => { if value == 0 { None } else { Some(value) } }
-    }
+    let value = value?;
+    if value == 0 { None } else { Some(value) }
 }
 
 // Notes that a bound or step is none.
@@ -209,59 +193,57 @@ fn bound_fault(form: Option<i128>, spot: Spot, first: &mut Option<Fault>)
     }
 }
 
-/// The number that an expression is, in the type where there is one: notes the faults inside it.
-pub(crate) fn read_number(
-    alloc: Global,
-    names: &Names,
-    ty: Option<Ty>,
-    e: &Expr,
-    first: &mut Option<Fault>,
-) -> Result<Number, Memory>
-    ensures { IfOk result (λ r. Numbers names.now ty (expr_tree e.now) first.old first.new r) }
-{
-    let x = type_expression(alloc, names, e, first)?;
-    let known = literal_known(x);
-    Ok(Number {
-        form: form_number(ty, form_of(e, known)),
-        value: number_in(ty, known),
-    })
-}
+impl Environment<'_> {
+    /// The number that an expression is, in the type where there is one: notes the faults inside it.
+    pub(crate) fn read_number(
+        &self,
+        ty: Option<Ty>,
+        e: &Expr,
+        first: &mut Option<Fault>,
+    ) -> Result<Number, Memory>
+        ensures { IfOk result (λ r. Numbers self.now.names.now ty (expr_tree e.now) first.old first.new r) }
+    {
+        let x = self.type_expression(e, first)?;
+        let known = literal_known(x);
+        Ok(Number {
+            form: form_number(ty, form_of(e, known)),
+            value: number_in(ty, known),
+        })
+    }
 
-/// The bound of a FOR that an expression is, over a variable of the type: notes its faults, and where it
-/// is none.
-pub(crate) fn bound(
-    alloc: Global,
-    names: &Names,
-    ty: Option<Ty>,
-    e: &Expr,
-    first: &mut Option<Fault>,
-) -> Result<Option<i64>, Memory>
-    ensures is { IfOk result (λ r. Bounds names.now ty (expr_tree e.now) first.old first.new r) }
-    ensures small { IfOk result (λ r. InType ty r) }
-{
-    let found = read_number(alloc, names, ty, e, first)?;
-    bound_fault(found.form, spot_of(e), first);
-    Ok(found.value)
-}
+    /// The bound of a FOR that an expression is, over a variable of the type: notes its faults, and where it
+    /// is none.
+    pub(crate) fn bound(
+        &self,
+        ty: Option<Ty>,
+        e: &Expr,
+        first: &mut Option<Fault>,
+    ) -> Result<Option<i64>, Memory>
+        ensures { IfOk result (λ r. Bounds self.now.names.now ty (expr_tree e.now) first.old first.new r) }
+    {
+        let found = self.read_number(ty, e, first)?;
+        bound_fault(found.form, spot_of(e), first);
+        Ok(found.value)
+    }
 
-/// The step of a FOR, 1 where none is given: notes its faults, and where it is none.
-pub(crate) fn step(
-    alloc: Global,
-    names: &Names,
-    ty: Option<Ty>,
-    e: &Option<Expr>,
-    first: &mut Option<Fault>,
-) -> Result<Option<i64>, Memory>
-    ensures is { IfOk result
-        (λ r. Steps names.now ty (expr_tree_or_none e.now) first.old first.new r) }
-    ensures some { IfOk result (λ r. IfSome r (λ v. v ≢ pos 0)) }
-{
-    match e {
-        None => Ok(Some(1)),
-        Some(e) => {
-            let found = read_number(alloc, names, ty, e, first)?;
-            bound_fault(form_not_zero(found.form), spot_of(e), first);
-            Ok(not_zero(found.value))
+    /// The step of a FOR, 1 where none is given: notes its faults, and where it is none.
+    pub(crate) fn step(
+        &self,
+        ty: Option<Ty>,
+        e: &Option<Expr>,
+        first: &mut Option<Fault>,
+    ) -> Result<Option<i64>, Memory>
+        ensures is { IfOk result
+            (λ r. Steps self.now.names.now ty (expr_tree_or_none e.now) first.old first.new r) }
+        ensures some { IfOk result (λ r. IfSome r (λ v. v ≢ pos 0)) }
+    {
+        match e {
+            None => Ok(Some(1)),
+            Some(e) => {
+                let found = self.read_number(ty, e, first)?;
+                bound_fault(form_not_zero(found.form), spot_of(e), first);
+                Ok(not_zero(found.value))
+            }
         }
     }
 }

@@ -10,9 +10,9 @@ ghost use Rattle.st_types.specs.Faults.{fault};
 ghost use Rattle.st_types.specs.Notes.{Notes};
 
 use crate::constants::Known;
+use crate::environment::Environment;
 use crate::fault::{Fault, Rule};
 use crate::initial::initial;
-use crate::inside::inside_blocks;
 use crate::names::{Entry, Names};
 use crate::note::note;
 use crate::variable::is_constant;
@@ -217,6 +217,11 @@ pub(crate) fn declared(
 {
     let mut made = nothing(alloc);
     add_blocks(alloc, &mut made, blocks, first)?;
-    inside_blocks(alloc, &made.names, blocks, first)?;
+    let whole = Environment {
+        alloc,
+        names: &made.names,
+        held: &[],
+    };
+    whole.inside_blocks(blocks, first)?;
     Ok(made)
 }

@@ -179,9 +179,9 @@ const ROWS: [(Line, Line, Option<Place>, usize); 27] = [
         2,
     ),
     (
-        (b'a', Class::Local, Ty::Int, Init::Sum(99_999_999_999, 1)),
-        (b'b', Class::Local, Ty::Int, Init::Absent),
-        Some((Rule::Literal, 2, 16)),
+        (b'a', Class::Local, Ty::Lint, Init::Number(2_147_483_648)),
+        (b'b', Class::Local, Ty::Lint, Init::Minus(1)),
+        None,
         2,
     ),
     (
@@ -229,13 +229,13 @@ const ROWS: [(Line, Line, Option<Place>, usize); 27] = [
     (
         (b'a', Class::Local, Ty::Dint, Init::Minus(2_147_483_649)),
         (b'b', Class::Local, Ty::Int, Init::Absent),
-        Some((Rule::Literal, 2, 17)),
+        Some((Rule::Mismatch, 2, 5)),
         2,
     ),
     (
         (b'a', Class::Local, Ty::Dint, Init::Number(2_147_483_648)),
         (b'b', Class::Local, Ty::Int, Init::Absent),
-        Some((Rule::Literal, 2, 16)),
+        Some((Rule::Mismatch, 2, 5)),
         2,
     ),
     (

@@ -12,13 +12,14 @@ ghost use Rattle.st_types.specs.Notes.{Notes};
 ghost use Rattle.st_types.specs.ExprTyping.{both, sized as sized_of, got as got_of, widened_all as widened_all_of};
 ghost use Rattle.st_types.specs.ExprSteps.{Types, TypesAll, Signs, Operates, Applies};
 
+use crate::environment::Environment;
 use crate::fault::{Fault, Rule};
 use crate::function::{arguments, called, function_type};
 use crate::literal::{Untyped, literal_type, minus, negated};
-use crate::names::{Entry, Names};
+use crate::names::Entry;
 use crate::note::note;
 use crate::operator::{common, signed, ty_of, widened};
-use st_tree::{BinOp, Class, Expr, UnOp};
+use st_tree::{BinOp, Class, Expr, UnOp, trees_of_nodes};
 use std::alloc::Global;
 use vcp_base::{Memory, Spot, Ty};
 use vcp_typed::{Fun, TExpr, TExprs};
@@ -60,24 +61,6 @@ fn negative(l: Untyped, first: &mut Option<Fault>) -> Option<TExpr>
             None
         }
         Some(e) => Some(e),
-    }
-}
-
-// A name: a variable, or a constant.
-fn known(
-    names: &Names,
-    name: &[u8],
-    spot: Spot,
-    first: &mut Option<Fault>,
-) -> Result<Option<TExpr>, Memory>
-    ensures { IfOk result (λ r. Types names.now (name_tree name.now spot) first.old first.new (option_map texpr_tree r)) }
-{
-    match names.find(name)? {
-        None => {
-            note(first, Rule::Unknown, spot);
-            Ok(None)
-        }
-        Some(e) => Ok(Some(got(spot, e))),
     }
 }
 
@@ -135,7 +118,9 @@ fn operate(
 
 // The arguments with one more; none where one of them has a fault.
 fn push(list: Option<Vec<TExpr>>, e: Option<TExpr>) -> Result<Option<Vec<TExpr>>, Memory>
-    ensures { IfOk result (λ r. option_map (λ v. map texpr_tree v.items) r ≡ both (λ xs x. Some (xs ++ x ∷ [])) (option_map (λ v. map texpr_tree v.items) list) (option_map texpr_tree e)) }
+    ensures { IfOk result
+        (λ r. option_map (λ v. map texpr_tree v.items) r
+        ≡ both (λ xs x. Some (xs ++ x ∷ [])) (option_map (λ v. map texpr_tree v.items) list) (option_map texpr_tree e)) }
 {
     let Some(mut list) = list else {
         return Ok(None);
@@ -191,79 +176,96 @@ fn apply(
     }
 }
 
-/// Types an expression: notes its faults, and gives its checked expression, none where it has a fault.
-#[cycle(typing)]
-pub(crate) fn type_expression(
-    alloc: Global,
-    names: &Names,
-    e: &Expr,
-    first: &mut Option<Fault>,
-) -> Result<Option<TExpr>, Memory>
-    ensures { IfOk result (λ r. Types names.now (expr_tree e.now) first.old first.new (option_map texpr_tree r)) }
-{
-    match e {
-        Expr::Lit { ty, value, spot } => Ok(literal(*ty, *value, *spot, first)),
-        Expr::Name { name, spot } => known(names, name.bytes(), *spot, first),
-        Expr::Unary { op, arg, spot } => match negated(*op, arg) {
-            Some(l) => Ok(negative(l, first)),
+impl Environment<'_> {
+    // A name: a variable, or a constant.
+    fn known(
+        &self,
+        name: &[u8],
+        spot: Spot,
+        first: &mut Option<Fault>,
+    ) -> Result<Option<TExpr>, Memory>
+        ensures { IfOk result (λ r. Types self.now.names.now (name_tree name.now spot) first.old first.new (option_map texpr_tree r)) }
+    {
+        match self.names.find(name)? {
             None => {
-                let x = type_expression(alloc, names, arg, first)?;
-                sign(alloc, *op, x, *spot, first)
+                note(first, Rule::Unknown, spot);
+                Ok(None)
             }
-        },
-        Expr::Binary {
-            op,
-            left,
-            right,
-            spot,
-        } => {
-            let x = type_expression(alloc, names, left, first)?;
-            let y = type_expression(alloc, names, right, first)?;
-            operate(alloc, *op, x, y, *spot, first)
-        }
-        Expr::Call { name, args, spot } => {
-            Expr::call_holds(name, args, *spot);
-            call(alloc, names, name.bytes(), &args.items, *spot, first)
+            Some(e) => Ok(Some(got(spot, e))),
         }
     }
-}
 
-// A call: its arguments, and whether there is such a function of so many.
-#[cycle(typing)]
-fn call(
-    alloc: Global,
-    names: &Names,
-    name: &[u8],
-    args: &[Expr],
-    spot: Spot,
-    first: &mut Option<Fault>,
-) -> Result<Option<TExpr>, Memory>
-    ensures { IfOk result (λ r. Types names.now (call_tree name.now (expr_trees args.now) spot) first.old first.new (option_map texpr_tree r)) }
-{
-    let list = type_all(alloc, names, args, first)?;
-    match called(name, args.len()) {
-        None => {
-            note(first, Rule::Call, spot);
-            Ok(None)
+    /// Types an expression: notes its faults, and gives its checked expression, none where it has a fault.
+    #[cycle(typing)]
+    pub(crate) fn type_expression(
+        &self,
+        e: &Expr,
+        first: &mut Option<Fault>,
+    ) -> Result<Option<TExpr>, Memory>
+        ensures { IfOk result (λ r. Types self.now.names.now (expr_tree e.now) first.old first.new (option_map texpr_tree r)) }
+    {
+        match e {
+            Expr::Lit { ty, value, spot } => Ok(literal(*ty, *value, *spot, first)),
+            Expr::Name { name, spot } => self.known(name.bytes(), *spot, first),
+            Expr::Unary { op, arg, spot } => match negated(*op, arg) {
+                Some(l) => Ok(negative(l, first)),
+                None => {
+                    let x = self.type_expression(arg, first)?;
+                    sign(self.alloc, *op, x, *spot, first)
+                }
+            },
+            Expr::Binary {
+                op,
+                left,
+                right,
+                spot,
+            } => {
+                let x = self.type_expression(left, first)?;
+                let y = self.type_expression(right, first)?;
+                operate(self.alloc, *op, x, y, *spot, first)
+            }
+            Expr::Call { name, args, spot } => {
+                trees_of_nodes();
+                self.call(name.bytes(), &args.items, *spot, first)
+            }
         }
-        Some(fun) => apply(alloc, fun, list, spot, first),
     }
-}
 
-// The arguments of a call, from the left; none where one of them has a fault.
-#[cycle(typing)]
-fn type_all(
-    alloc: Global,
-    names: &Names,
-    args: &[Expr],
-    first: &mut Option<Fault>,
-) -> Result<Option<Vec<TExpr>>, Memory>
-    ensures { IfOk result (λ r. TypesAll names.now (expr_trees args.now) first.old first.new (option_map (λ v. map texpr_tree v.items) r)) }
-{
-    let mut list = Some(Vec::new(alloc));
-    'each: for e in args {
-        let x = type_expression(alloc, names, e, first)?;
-        list = push(list, x)?;
+    // A call: its arguments, and whether there is such a function of so many.
+    #[cycle(typing)]
+    fn call(
+        &self,
+        name: &[u8],
+        args: &[Expr],
+        spot: Spot,
+        first: &mut Option<Fault>,
+    ) -> Result<Option<TExpr>, Memory>
+        ensures { IfOk result (λ r. Types self.now.names.now (call_tree name.now (expr_trees args.now) spot) first.old first.new (option_map texpr_tree r)) }
+    {
+        let list = self.type_all(args, first)?;
+        match called(name, args.len()) {
+            None => {
+                note(first, Rule::Call, spot);
+                Ok(None)
+            }
+            Some(fun) => apply(self.alloc, fun, list, spot, first),
+        }
     }
-    Ok(list)
+
+    // The arguments of a call, from the left; none where one of them has a fault.
+    #[cycle(typing)]
+    fn type_all(
+        &self,
+        args: &[Expr],
+        first: &mut Option<Fault>,
+    ) -> Result<Option<Vec<TExpr>>, Memory>
+        ensures { IfOk result (λ r. TypesAll self.now.names.now (expr_trees args.now) first.old first.new (option_map (λ v. map texpr_tree v.items) r)) }
+    {
+        let mut list = Some(Vec::new(self.alloc));
+        'each: for e in args {
+            let x = self.type_expression(e, first)?;
+            list = push(list, x)?;
+        }
+        Ok(list)
+    }
 }

@@ -1,6 +1,6 @@
-//! Expressions over a constant N : INT := 5, a variable d : DINT and a variable b : BOOL.
+//! Expressions over a constant N : INT := 5 and variables d : DINT, l : LINT and b : BOOL.
 
-use crate::expression::type_expression;
+use crate::environment::Environment;
 use crate::fault::{Fault, Rule};
 use crate::names::{Entry, Names};
 use crate::operator::ty_of;
@@ -94,13 +94,19 @@ fn declared(alloc: Global) -> Result<Names, Memory> {
     names.declare(entry(alloc, b"d", Class::Local, Ty::Dint, 0, 0)?)?;
     names.declare(entry(alloc, b"b", Class::Local, Ty::Bool, 0, 1)?)?;
     names.declare(entry(alloc, b"D", Class::Local, Ty::Bool, 0, 2)?)?;
+    names.declare(entry(alloc, b"l", Class::Local, Ty::Lint, 0, 3)?)?;
     Ok(names)
 }
 
 fn judged(alloc: Global, names: &Names, row: Row) -> Result<Outcome, Memory> {
     let e = expression(alloc, row)?;
     let mut first: Option<Fault> = None;
-    let typed = type_expression(alloc, names, &e, &mut first)?;
+    let environment = Environment {
+        alloc,
+        names,
+        held: &[],
+    };
+    let typed = environment.type_expression(&e, &mut first)?;
     match (typed, first) {
         (Some(t), None) => Ok(Outcome::Typed(ty_of(&t))),
         (None, Some(f)) => Ok(Outcome::Refused(f.rule, f.spot.col)),
@@ -108,20 +114,18 @@ fn judged(alloc: Global, names: &Names, row: Row) -> Result<Outcome, Memory> {
     }
 }
 
-const ROWS: [(Row, Outcome); 25] = [
+const ROWS: [(Row, Outcome); 31] = [
     (Row::Number(32_767), Outcome::Typed(Ty::Int)),
     (Row::Number(32_768), Outcome::Typed(Ty::Dint)),
+    (Row::Number(2_147_483_648), Outcome::Typed(Ty::Lint)),
     (
-        Row::Number(2_147_483_648),
-        Outcome::Refused(Rule::Literal, 1),
+        Row::Number(9_223_372_036_854_775_807),
+        Outcome::Typed(Ty::Lint),
     ),
     (Row::IntNumber(32_768), Outcome::Refused(Rule::Literal, 1)),
     (Row::Minus(32_768), Outcome::Typed(Ty::Int)),
     (Row::Minus(2_147_483_648), Outcome::Typed(Ty::Dint)),
-    (
-        Row::Minus(2_147_483_649),
-        Outcome::Refused(Rule::Literal, 1),
-    ),
+    (Row::Minus(2_147_483_649), Outcome::Typed(Ty::Lint)),
     (Row::MinusInt(32_767), Outcome::Typed(Ty::Int)),
     (Row::MinusInt(32_768), Outcome::Refused(Rule::Literal, 1)),
     (Row::Word(b"n"), Outcome::Typed(Ty::Int)),
@@ -132,6 +136,10 @@ const ROWS: [(Row, Outcome); 25] = [
     (
         Row::Between(BinOp::Add, b"n", b"d"),
         Outcome::Typed(Ty::Dint),
+    ),
+    (
+        Row::Between(BinOp::Add, b"l", b"d"),
+        Outcome::Typed(Ty::Lint),
     ),
     (
         Row::Between(BinOp::Lt, b"n", b"d"),
@@ -151,6 +159,13 @@ const ROWS: [(Row, Outcome); 25] = [
     ),
     (Row::OfOne(b"Abs", b"n"), Outcome::Typed(Ty::Int)),
     (Row::OfOne(b"dint_to_int", b"n"), Outcome::Typed(Ty::Int)),
+    (Row::OfOne(b"lint_to_dint", b"n"), Outcome::Typed(Ty::Dint)),
+    (Row::OfOne(b"lint_to_int", b"l"), Outcome::Typed(Ty::Int)),
+    (Row::OfOne(b"dint_to_lint", b"d"), Outcome::Typed(Ty::Lint)),
+    (
+        Row::OfOne(b"int_to_lint", b"d"),
+        Outcome::Refused(Rule::Mismatch, 4),
+    ),
     (Row::OfOne(b"MIN", b"n"), Outcome::Refused(Rule::Call, 4)),
     (
         Row::OfOne(b"SQRT", b"x"),

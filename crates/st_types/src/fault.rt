@@ -21,7 +21,7 @@ pub enum Rule {
     Label,
     /// The function is unknown, or has another number of arguments.
     Call,
-    /// A literal is outside its type.
+    /// A literal with a type is outside it.
     Literal,
 }
 
@@ -51,7 +51,7 @@ pub enum TypeFault {
     Label { spot: Spot },
     /// The function is unknown, or has another number of arguments.
     Call { spot: Spot },
-    /// A literal is outside its type, or of no type outside all.
+    /// A literal with a type is outside it; or `-` stands before the literal -2^63, which no source spells.
     Literal { spot: Spot },
     /// More than 1,024 names are declared: this is the 1,025th.
     Names { spot: Spot },

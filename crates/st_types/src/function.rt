@@ -1,15 +1,15 @@
 //! The functions of the language: their names, their arguments and their types.
 
-ghost use Rattle.std.specs.Prelude.{◌≡◌, IfOk, map, option_map};
+ghost use Rattle.std.specs.Prelude.{◌≡◌, [], ◌∷◌, IfOk, Some, map, option_map};
 ghost use Rattle.vcp_typed.specs.declared.expr.Fun.TheVariants as fun_;
 ghost use Rattle.vcp_typed.specs.Rules.{of_numbers as of_numbers_of, arguments as arguments_of};
 ghost use Rattle.vcp_typed.specs.TExprViews.{texpr_tree};
 ghost use Rattle.vcp_typed.specs.Checked.{ty_of as type_of_value};
-ghost use Rattle.st_types.specs.ExprTyping.{function as function_of, arity as arity_of, called as called_of, from_int as from_int_of, from_number as from_number_of, from_bool as from_bool_of, selected as selected_of, of_one as of_one_of, of_two as of_two_of, of_three as of_three_of, function_type as function_type_of};
+ghost use Rattle.st_types.specs.ExprTyping.{function as function_of, arity as arity_of, called as called_of, converted as converted_of, of_sel as of_sel_of, of_one as of_one_of, of_two as of_two_of, of_three as of_three_of, function_type as function_type_of};
 
 use crate::operator::{joined, joined_or_bool, ty_of};
 use std::alloc::Global;
-use vcp_base::{Memory, Ty};
+use vcp_base::{Memory, Ty, within};
 use vcp_typed::{Fun, TExpr};
 
 // The function of a name, without regard to case.
@@ -28,8 +28,16 @@ fn function(name: &[u8]) -> Option<Fun>
         Some(Fun::Sel)
     } else if name.eq_ignore_ascii_case(b"INT_TO_DINT") {
         Some(Fun::IntToDint)
+    } else if name.eq_ignore_ascii_case(b"INT_TO_LINT") {
+        Some(Fun::IntToLint)
     } else if name.eq_ignore_ascii_case(b"DINT_TO_INT") {
         Some(Fun::DintToInt)
+    } else if name.eq_ignore_ascii_case(b"DINT_TO_LINT") {
+        Some(Fun::DintToLint)
+    } else if name.eq_ignore_ascii_case(b"LINT_TO_INT") {
+        Some(Fun::LintToInt)
+    } else if name.eq_ignore_ascii_case(b"LINT_TO_DINT") {
+        Some(Fun::LintToDint)
     } else if name.eq_ignore_ascii_case(b"BOOL_TO_INT") {
         Some(Fun::BoolToInt)
     } else {
@@ -48,7 +56,11 @@ fn arity(fun: Fun) -> usize
         Fun::Limit => 3,
         Fun::Sel => 3,
         Fun::IntToDint => 1,
+        Fun::IntToLint => 1,
         Fun::DintToInt => 1,
+        Fun::DintToLint => 1,
+        Fun::LintToInt => 1,
+        Fun::LintToDint => 1,
         Fun::BoolToInt => 1,
     }
 }
@@ -57,53 +69,26 @@ fn arity(fun: Fun) -> usize
 pub(crate) fn called(name: &[u8], count: usize) -> Option<Fun>
     ensures { result ≡ called_of name.now count }
 {
-    match function(name) {
-        None => None,
-        Some(fun) => { if count == arity(fun) { Some(fun) } else { None } }
-    }
+    let fun = function(name)?;
+    if count == arity(fun) { Some(fun) } else { None }
 }
 
-// The type of INT_TO_DINT, which takes INT alone.
-fn from_int(ty: Ty) -> Option<Ty>
-    ensures { result ≡ from_int_of ty }
+// The type of a conversion to `ty`, which takes its source type, and one that widens to it.
+fn converted(source: Ty, ty: Ty, arg: Ty) -> Option<Ty>
+    ensures { result ≡ converted_of source ty arg }
 {
-    match ty {
-        Ty::Int => Some(Ty::Dint),
-        Ty::Dint => None,
-        Ty::Bool => None,
-    }
-}
-
-// The type of DINT_TO_INT, which takes an INT too, widened.
-fn from_number(ty: Ty) -> Option<Ty>
-    ensures { result ≡ from_number_of ty }
-{
-    match ty {
-        Ty::Int => Some(Ty::Int),
-        Ty::Dint => Some(Ty::Int),
-        Ty::Bool => None,
-    }
-}
-
-// The type of BOOL_TO_INT.
-fn from_bool(ty: Ty) -> Option<Ty>
-    ensures { result ≡ from_bool_of ty }
-{
-    match ty {
-        Ty::Bool => Some(Ty::Int),
-        Ty::Int => None,
-        Ty::Dint => None,
-    }
+    if within(arg, source) { Some(ty) } else { None }
 }
 
 // The type of SEL, whose first argument is BOOL.
-fn selected(on: Ty, a: Ty, b: Ty) -> Option<Ty>
-    ensures { result ≡ selected_of on a b }
+fn of_sel(on: Ty, a: Ty, b: Ty) -> Option<Ty>
+    ensures { result ≡ of_sel_of on a b }
 {
     match on {
         Ty::Bool => joined_or_bool(a, b),
         Ty::Int => None,
         Ty::Dint => None,
+        Ty::Lint => None,
     }
 }
 
@@ -113,9 +98,13 @@ fn of_one(fun: Fun, a: Ty) -> Option<Ty>
 {
     match fun {
         Fun::Abs => joined(a, a),
-        Fun::IntToDint => from_int(a),
-        Fun::DintToInt => from_number(a),
-        Fun::BoolToInt => from_bool(a),
+        Fun::IntToDint => converted(Ty::Int, Ty::Dint, a),
+        Fun::IntToLint => converted(Ty::Int, Ty::Lint, a),
+        Fun::DintToInt => converted(Ty::Dint, Ty::Int, a),
+        Fun::DintToLint => converted(Ty::Dint, Ty::Lint, a),
+        Fun::LintToInt => converted(Ty::Lint, Ty::Int, a),
+        Fun::LintToDint => converted(Ty::Lint, Ty::Dint, a),
+        Fun::BoolToInt => converted(Ty::Bool, Ty::Int, a),
         Fun::Min => None,
         Fun::Max => None,
         Fun::Limit => None,
@@ -134,19 +123,21 @@ fn of_two(fun: Fun, a: Ty, b: Ty) -> Option<Ty>
         Fun::Limit => None,
         Fun::Sel => None,
         Fun::IntToDint => None,
+        Fun::IntToLint => None,
         Fun::DintToInt => None,
+        Fun::DintToLint => None,
+        Fun::LintToInt => None,
+        Fun::LintToDint => None,
         Fun::BoolToInt => None,
     }
 }
 
 // The type of LIMIT: the one to which its three arguments widen.
-fn limited(a: Ty, b: Ty, c: Ty) -> Option<Ty>
+fn of_limit(a: Ty, b: Ty, c: Ty) -> Option<Ty>
     ensures { result ≡ of_three_of fun_.Limit a b c }
 {
-    match joined(a, b) {
-        None => None,
-        Some(t) => joined(t, c),
-    }
+    let ty = joined(a, b)?;
+    joined(ty, c)
 }
 
 // The type of a function of three arguments.
@@ -154,13 +145,17 @@ fn of_three(fun: Fun, a: Ty, b: Ty, c: Ty) -> Option<Ty>
     ensures { result ≡ of_three_of fun a b c }
 {
     match fun {
-        Fun::Limit => limited(a, b, c),
-        Fun::Sel => selected(a, b, c),
+        Fun::Limit => of_limit(a, b, c),
+        Fun::Sel => of_sel(a, b, c),
         Fun::Abs => None,
         Fun::Min => None,
         Fun::Max => None,
         Fun::IntToDint => None,
+        Fun::IntToLint => None,
         Fun::DintToInt => None,
+        Fun::DintToLint => None,
+        Fun::LintToInt => None,
+        Fun::LintToDint => None,
         Fun::BoolToInt => None,
     }
 }
@@ -185,54 +180,38 @@ fn of_numbers(alloc: Global, types: &[Ty], ty: Ty) -> Result<Option<Vec<Ty>>, Me
         Ty::Bool => Ok(None),
         Ty::Int => Ok(Some(types.to_vec(alloc)?)),
         Ty::Dint => Ok(Some(types.to_vec(alloc)?)),
+        Ty::Lint => Ok(Some(types.to_vec(alloc)?)),
     }
+}
+
+// The one argument's type.
+fn one_type(alloc: Global, ty: Ty) -> Result<Option<Vec<Ty>>, Memory>
+    ensures { IfOk result (λ r. option_map (λ v. v.items) r ≡ Some (ty ∷ [])) }
+{
+    Ok(Some([ty].to_vec(alloc)?))
 }
 
 /// The types of a function's arguments, where its value has this type; none where it hasn't such a value.
 pub(crate) fn arguments(alloc: Global, fun: Fun, ty: Ty) -> Result<Option<Vec<Ty>>, Memory>
     ensures { IfOk result (λ r. option_map (λ v. v.items) r ≡ arguments_of fun ty) }
 {
-    match fun {
-        Fun::Abs => of_numbers(alloc, &[ty], ty),
-        Fun::Min => of_numbers(alloc, &[ty, ty], ty),
-        Fun::Max => of_numbers(alloc, &[ty, ty], ty),
-        Fun::Limit => of_numbers(alloc, &[ty, ty, ty], ty),
-        Fun::Sel => Ok(Some([Ty::Bool, ty, ty].to_vec(alloc)?)),
-        Fun::IntToDint => int_to_dint(alloc, ty),
-        Fun::DintToInt => dint_to_int(alloc, ty),
-        Fun::BoolToInt => bool_to_int(alloc, ty),
-    }
-}
-
-// The types of the arguments of INT_TO_DINT.
-fn int_to_dint(alloc: Global, ty: Ty) -> Result<Option<Vec<Ty>>, Memory>
-    ensures { IfOk result (λ r. option_map (λ v. v.items) r ≡ arguments_of fun_.IntToDint ty) }
-{
-    match ty {
-        Ty::Dint => Ok(Some([Ty::Int].to_vec(alloc)?)),
-        Ty::Int => Ok(None),
-        Ty::Bool => Ok(None),
-    }
-}
-
-// The types of the arguments of DINT_TO_INT.
-fn dint_to_int(alloc: Global, ty: Ty) -> Result<Option<Vec<Ty>>, Memory>
-    ensures { IfOk result (λ r. option_map (λ v. v.items) r ≡ arguments_of fun_.DintToInt ty) }
-{
-    match ty {
-        Ty::Int => Ok(Some([Ty::Dint].to_vec(alloc)?)),
-        Ty::Dint => Ok(None),
-        Ty::Bool => Ok(None),
-    }
-}
-
-// The types of the arguments of BOOL_TO_INT.
-fn bool_to_int(alloc: Global, ty: Ty) -> Result<Option<Vec<Ty>>, Memory>
-    ensures { IfOk result (λ r. option_map (λ v. v.items) r ≡ arguments_of fun_.BoolToInt ty) }
-{
-    match ty {
-        Ty::Int => Ok(Some([Ty::Bool].to_vec(alloc)?)),
-        Ty::Dint => Ok(None),
-        Ty::Bool => Ok(None),
+    match (fun, ty) {
+        (Fun::Abs, _) => of_numbers(alloc, &[ty], ty),
+        (Fun::Min, _) => of_numbers(alloc, &[ty, ty], ty),
+        (Fun::Max, _) => of_numbers(alloc, &[ty, ty], ty),
+        (Fun::Limit, _) => of_numbers(alloc, &[ty, ty, ty], ty),
+        (Fun::Sel, _) => Ok(Some([Ty::Bool, ty, ty].to_vec(alloc)?)),
+        (Fun::IntToDint, Ty::Dint) => one_type(alloc, Ty::Int),
+        (Fun::IntToLint, Ty::Lint) => one_type(alloc, Ty::Int),
+        (Fun::DintToInt, Ty::Int) => one_type(alloc, Ty::Dint),
+        (Fun::DintToLint, Ty::Lint) => one_type(alloc, Ty::Dint),
+        (Fun::LintToInt, Ty::Int) => one_type(alloc, Ty::Lint),
+        (Fun::LintToDint, Ty::Dint) => one_type(alloc, Ty::Lint),
+        (Fun::BoolToInt, Ty::Int) => one_type(alloc, Ty::Bool),
+        (Fun::IntToDint | Fun::LintToDint, Ty::Bool | Ty::Int | Ty::Lint) => Ok(None),
+        (Fun::IntToLint | Fun::DintToLint, Ty::Bool | Ty::Int | Ty::Dint) => Ok(None),
+        (Fun::DintToInt | Fun::LintToInt | Fun::BoolToInt, Ty::Bool | Ty::Dint | Ty::Lint) => Ok(
+            None,
+        ),
     }
 }

@@ -33,23 +33,19 @@ fn note_unless(known: Option<Known>, spot: Spot, first: &mut Option<Fault>)
 fn of_literal(ty: Option<Ty>, value: i64) -> Option<Known>
     ensures { result ≡ option_map (λ u. record { ty = u; value = value }) (type_of_literal ty value) }
 {
-    match literal_type(ty, value) {
-        None => None,
-        Some(ty) => Some(Known { ty, value }),
-    }
+    let ty = literal_type(ty, value)?;
+    Some(Known { ty, value })
 }
 
 // The constant that a literal is with the `-` before it.
 fn of_negated(l: Untyped) -> Option<Known>
     ensures { result ≡ known_negated (Some l) }
 {
-    match l.value.checked_neg() {
-        None => None,
-        Some(value) => match sized(value) {
-            None => None,
-            Some(ty) => Some(Known { ty, value }),
-        },
-    }
+    let value = l.value.checked_neg()?;
+    Some(Known {
+        ty: sized(value),
+        value,
+    })
 }
 
 // The constant that a name stands for; a variable is none.

@@ -10,12 +10,11 @@ ghost use Rattle.st_types.specs.ExprTyping.{both};
 ghost use Rattle.st_types.specs.StmtTyping.{range_of as range_of_ends, label_ends as label_ends_of, in_order as in_order_of};
 ghost use Rattle.st_types.specs.StmtSteps.{TypesLast, TypesLabel, TypesLabels, label_after};
 
-use crate::constants::{Number, read_number, spot_of};
+use crate::constants::{Number, spot_of};
+use crate::environment::Environment;
 use crate::fault::{Fault, Rule};
-use crate::names::Names;
 use crate::note::note;
 use st_tree::{Expr, Label};
-use std::alloc::Global;
 use vcp_base::{Memory, Spot, Ty};
 use vcp_typed::{TLabel, TLabels};
 
@@ -39,9 +38,7 @@ fn range_of(spot: Spot, first: i64, last: i64) -> Option<TLabel>
 fn label_ends(spot: Spot, first: Option<i64>, last: Option<Option<i64>>) -> Option<TLabel>
     ensures { result ≡ label_ends_of spot first last }
 {
-    let Some(first) = first else {
-        return None;
-    };
+    let first = first?;
     match last {
         None => Some(TLabel {
             first,
@@ -49,10 +46,7 @@ fn label_ends(spot: Spot, first: Option<i64>, last: Option<Option<i64>>) -> Opti
             range: false,
             spot,
         }),
-        Some(last) => match last {
-            None => None,
-            Some(last) => range_of(spot, first, last),
-        },
+        Some(last) => range_of(spot, first, last?),
     }
 }
 
@@ -92,23 +86,6 @@ fn last_form(last: Option<Number>) -> Option<Option<i128>>
     }
 }
 
-// The last end of a range; none of one value.
-fn last_end(
-    alloc: Global,
-    names: &Names,
-    ty: Option<Ty>,
-    e: &Option<Expr>,
-    first: &mut Option<Fault>,
-) -> Result<Option<Number>, Memory>
-    ensures { IfOk result
-        (λ r. TypesLast names.now ty (expr_tree_or_none e.now) first.old first.new r) }
-{
-    match e {
-        None => Ok(None),
-        Some(e) => Ok(Some(read_number(alloc, names, ty, e, first)?)),
-    }
-}
-
 // Notes that the ends of a label aren't in order.
 fn label_fault(ordered: bool, spot: Spot, first: &mut Option<Fault>)
     ensures { Notes first.old first.new (λ f. (f ≡ fault rule_.Label spot) × (ordered ≡ false)) }
@@ -116,23 +93,6 @@ fn label_fault(ordered: bool, spot: Spot, first: &mut Option<Fault>)
     if !ordered {
         note(first, Rule::Label, spot);
     }
-}
-
-// A label. What is wrong with either end is told at the first one.
-fn type_label(
-    alloc: Global,
-    names: &Names,
-    ty: Option<Ty>,
-    label: &Label,
-    first: &mut Option<Fault>,
-) -> Result<Option<TLabel>, Memory>
-    ensures { IfOk result (λ r. TypesLabel names.now ty (label_tree label.now) first.old first.new r) }
-{
-    let low = read_number(alloc, names, ty, &label.first, first)?;
-    let high = last_end(alloc, names, ty, &label.last, first)?;
-    let spot = spot_of(&label.first);
-    label_fault(in_order(low.form, last_form(high)), spot, first);
-    Ok(label_ends(spot, low.value, last_value(high)))
 }
 
 // The labels with one more; none where one of them has a fault.
@@ -151,22 +111,55 @@ fn with_label(list: Option<TLabels>, label: Option<TLabel>) -> Result<Option<TLa
     Ok(Some(list))
 }
 
-/// Types the labels of a branch, for a selector of the type: notes their faults, and gives the checked
-/// labels, none where one has a fault.
-pub(crate) fn type_labels(
-    alloc: Global,
-    names: &Names,
-    ty: Option<Ty>,
-    labels: &[Label],
-    first: &mut Option<Fault>,
-) -> Result<Option<TLabels>, Memory>
-    ensures { IfOk result
-        (λ r. TypesLabels names.now ty (label_trees labels.now) first.old first.new (option_map (λ v. v.items.items) r)) }
-{
-    let mut list = Some(TLabels::new(alloc));
-    'each: for label in labels {
-        let made = type_label(alloc, names, ty, label, first)?;
-        list = with_label(list, made)?;
+impl Environment<'_> {
+    // The last end of a range; none of one value.
+    fn last_end(
+        &self,
+        ty: Option<Ty>,
+        e: &Option<Expr>,
+        first: &mut Option<Fault>,
+    ) -> Result<Option<Number>, Memory>
+        ensures { IfOk result
+            (λ r. TypesLast self.now.names.now ty (expr_tree_or_none e.now) first.old first.new r) }
+    {
+        match e {
+            None => Ok(None),
+            Some(e) => Ok(Some(self.read_number(ty, e, first)?)),
+        }
     }
-    Ok(list)
+
+    // A label. What is wrong with either end is told at the first one.
+    fn type_label(
+        &self,
+        ty: Option<Ty>,
+        label: &Label,
+        first: &mut Option<Fault>,
+    ) -> Result<Option<TLabel>, Memory>
+        ensures { IfOk result (λ r. TypesLabel self.now.names.now ty (label_tree label.now) first.old first.new r) }
+    {
+        let low = self.read_number(ty, &label.first, first)?;
+        let high = self.last_end(ty, &label.last, first)?;
+        let spot = spot_of(&label.first);
+        label_fault(in_order(low.form, last_form(high)), spot, first);
+        Ok(label_ends(spot, low.value, last_value(high)))
+    }
+
+    /// Types the labels of a branch, for a selector of the type: notes their faults, and gives the checked
+    /// labels, none where one has a fault.
+    pub(crate) fn type_labels(
+        &self,
+        ty: Option<Ty>,
+        labels: &[Label],
+        first: &mut Option<Fault>,
+    ) -> Result<Option<TLabels>, Memory>
+        ensures { IfOk result
+            (λ r. TypesLabels self.now.names.now ty (label_trees labels.now) first.old first.new (option_map (λ v. v.items.items) r)) }
+    {
+        let mut list = Some(TLabels::new(self.alloc));
+        'each: for label in labels {
+            let made = self.type_label(ty, label, first)?;
+            list = with_label(list, made)?;
+        }
+        Ok(list)
+    }
 }

@@ -3,6 +3,7 @@
 
 mod constants;
 mod declaration;
+mod environment;
 mod expression;
 mod fault;
 mod function;

@@ -1,6 +1,6 @@
 //! The types of literals.
 
-ghost use Rattle.std.specs.Prelude.{◌≡◌, neg_ℤ, option_map};
+ghost use Rattle.std.specs.Prelude.{◌≡◌, Some, neg_ℤ, option_map};
 ghost use Rattle.st_tree.specs.ExprViews.{expr_tree};
 ghost use Rattle.vcp_typed.specs.TExprTree.{literal as literal_tree};
 ghost use Rattle.vcp_typed.specs.TExprViews.{texpr_tree};
@@ -18,15 +18,15 @@ pub struct Untyped {
 }
 
 /// The least type of numbers that a value is in.
-pub(crate) fn sized(value: i64) -> Option<Ty>
-    ensures { result ≡ sized_of value }
+pub(crate) fn sized(value: i64) -> Ty
+    ensures { Some result ≡ sized_of value }
 {
     if fits(Ty::Int, i128::from(value)) {
-        Some(Ty::Int)
+        Ty::Int
     } else if fits(Ty::Dint, i128::from(value)) {
-        Some(Ty::Dint)
+        Ty::Dint
     } else {
-        None
+        Ty::Lint
     }
 }
 
@@ -35,7 +35,7 @@ pub(crate) fn literal_type(ty: Option<Ty>, value: i64) -> Option<Ty>
     ensures { result ≡ type_of_literal ty value }
 {
     match ty {
-        None => sized(value),
+        None => Some(sized(value)),
         Some(t) => {
             if fits(t, i128::from(value)) {
                 Some(t)
@@ -68,19 +68,14 @@ pub(crate) fn negated(op: UnOp, arg: &Expr) -> Option<Untyped>
     }
 }
 
-/// A literal with `-` before it, as one literal; none where it is outside all types.
+/// A literal with `-` before it, as one literal; none where it is outside all types, as 2^63 is.
 pub(crate) fn minus(l: Untyped) -> Option<TExpr>
     ensures { option_map texpr_tree result ≡ option_map (λ t. literal_tree t (neg_ℤ l.value) l.spot) (sized_of (neg_ℤ l.value)) }
 {
-    match l.value.checked_neg() {
-        None => None,
-        Some(value) => match sized(value) {
-            None => None,
-            Some(ty) => Some(TExpr::Lit {
-                ty,
-                value,
-                spot: l.spot,
-            }),
-        },
-    }
+    let value = l.value.checked_neg()?;
+    Some(TExpr::Lit {
+        ty: sized(value),
+        value,
+        spot: l.spot,
+    })
 }

@@ -1,10 +1,10 @@
 //! The types of operators.
 
 ghost use Rattle.std.specs.Prelude.{◌≡◌, IfOk};
-ghost use Rattle.vcp_typed.specs.Rules.{joined as joined_of, both_bool as both_bool_of, joined_or_bool as joined_or_bool_of, common as common_of, result as result_of, signed as signed_of};
+ghost use Rattle.vcp_typed.specs.Rules.{widens as widens_of, joined as joined_of, both_bool as both_bool_of, joined_or_bool as joined_or_bool_of, common as common_of, result as result_of, signed as signed_of};
 ghost use Rattle.vcp_typed.specs.TExprViews.{texpr_tree};
 ghost use Rattle.vcp_typed.specs.Checked.{ty_of as type_of_value};
-ghost use Rattle.st_types.specs.ExprTyping.{widened as widened_of, as_dint as dint_of};
+ghost use Rattle.st_types.specs.ExprTyping.{widened as widened_of, as_type as as_type_of};
 
 use st_tree::{BinOp, UnOp};
 use std::alloc::Global;
@@ -18,9 +18,12 @@ pub(crate) fn joined(a: Ty, b: Ty) -> Option<Ty>
     match (a, b) {
         (Ty::Int, Ty::Int) => Some(Ty::Int),
         (Ty::Int, Ty::Dint) => Some(Ty::Dint),
-        (Ty::Dint, Ty::Int) => Some(Ty::Dint),
-        (Ty::Dint, Ty::Dint) => Some(Ty::Dint),
-        _ => None,
+        (Ty::Int, Ty::Lint) => Some(Ty::Lint),
+        (Ty::Dint, Ty::Int | Ty::Dint) => Some(Ty::Dint),
+        (Ty::Dint, Ty::Lint) => Some(Ty::Lint),
+        (Ty::Lint, Ty::Int | Ty::Dint | Ty::Lint) => Some(Ty::Lint),
+        (Ty::Int | Ty::Dint | Ty::Lint, Ty::Bool) => None,
+        (Ty::Bool, _) => None,
     }
 }
 
@@ -30,7 +33,8 @@ fn both_bool(a: Ty, b: Ty) -> Option<Ty>
 {
     match (a, b) {
         (Ty::Bool, Ty::Bool) => Some(Ty::Bool),
-        _ => None,
+        (Ty::Bool, Ty::Int | Ty::Dint | Ty::Lint) => None,
+        (Ty::Int | Ty::Dint | Ty::Lint, _) => None,
     }
 }
 
@@ -42,6 +46,7 @@ pub(crate) fn joined_or_bool(a: Ty, b: Ty) -> Option<Ty>
         Ty::Bool => both_bool(a, b),
         Ty::Int => joined(a, b),
         Ty::Dint => joined(a, b),
+        Ty::Lint => joined(a, b),
     }
 }
 
@@ -96,8 +101,10 @@ pub(crate) fn signed(op: UnOp, ty: Ty) -> Option<Ty>
     match (op, ty) {
         (UnOp::Neg, Ty::Int) => Some(Ty::Int),
         (UnOp::Neg, Ty::Dint) => Some(Ty::Dint),
+        (UnOp::Neg, Ty::Lint) => Some(Ty::Lint),
+        (UnOp::Neg, Ty::Bool) => None,
         (UnOp::Not, Ty::Bool) => Some(Ty::Bool),
-        _ => None,
+        (UnOp::Not, Ty::Int | Ty::Dint | Ty::Lint) => None,
     }
 }
 
@@ -115,32 +122,38 @@ pub(crate) fn ty_of(e: &TExpr) -> Ty
     }
 }
 
-// An INT as a DINT; a literal becomes one of DINT.
-fn as_dint(alloc: Global, e: TExpr) -> Result<TExpr, Memory>
-    ensures { IfOk result (λ r. texpr_tree r ≡ dint_of (texpr_tree e)) }
+// Whether values of the first type widen to the second, another one.
+fn widens(from: Ty, to: Ty) -> bool
+    ensures { result ≡ widens_of from to }
 {
-    match e {
-        TExpr::Lit { value, spot, .. } => Ok(TExpr::Lit {
-            ty: Ty::Dint,
-            value,
-            spot,
-        }),
-        _ => TExpr::widen(alloc, Ty::Dint, e),
+    match (from, to) {
+        (Ty::Bool, Ty::Bool | Ty::Int | Ty::Dint | Ty::Lint) => false,
+        (Ty::Int, Ty::Bool | Ty::Int) => false,
+        (Ty::Int, Ty::Dint | Ty::Lint) => true,
+        (Ty::Dint, Ty::Bool | Ty::Int | Ty::Dint) => false,
+        (Ty::Dint, Ty::Lint) => true,
+        (Ty::Lint, Ty::Bool | Ty::Int | Ty::Dint | Ty::Lint) => false,
     }
 }
 
-/// The expression where one of type `ty` is wanted to which it widens.
+// An expression as one of the wider type; a literal becomes one of that type.
+fn as_type(alloc: Global, ty: Ty, e: TExpr) -> Result<TExpr, Memory>
+    ensures { IfOk result (λ r. texpr_tree r ≡ as_type_of ty (texpr_tree e)) }
+{
+    match e {
+        TExpr::Lit { value, spot, .. } => Ok(TExpr::Lit { ty, value, spot }),
+        _ => TExpr::widen(alloc, ty, e),
+    }
+}
+
+/// The expression where one of type `ty` is wanted: widened where its own type widens to that one.
 pub(crate) fn widened(alloc: Global, ty: Ty, e: TExpr) -> Result<TExpr, Memory>
     ensures { IfOk result
         (λ r. texpr_tree r ≡ widened_of ty (type_of_value (texpr_tree e)) (texpr_tree e)) }
 {
-    match ty {
-        Ty::Bool => Ok(e),
-        Ty::Int => Ok(e),
-        Ty::Dint => match ty_of(&e) {
-            Ty::Bool => Ok(e),
-            Ty::Int => as_dint(alloc, e),
-            Ty::Dint => Ok(e),
-        },
+    if widens(ty_of(&e), ty) {
+        as_type(alloc, ty, e)
+    } else {
+        Ok(e)
     }
 }

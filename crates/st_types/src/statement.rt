@@ -1,7 +1,7 @@
 //! The typing of statements.
 
 ghost use Rattle.std.specs.Prelude.{◌≡◌, ◌≢◌, pos, IfOk, IfSome, option_map, option_and_then};
-ghost use Rattle.st_tree.specs.StmtTree.{assign as assign_tree, for_ as for_tree};
+ghost use Rattle.st_tree.specs.StmtTree.{assign as assign_tree, if_ as if_tree, case as case_tree, for_ as for_tree};
 ghost use Rattle.st_tree.specs.ExprViews.{expr_tree, expr_tree_or_none};
 ghost use Rattle.st_tree.specs.StmtViews.{stmt_tree, stmt_trees, arm_trees, branch_trees, other_tree};
 ghost use Rattle.vcp_typed.specs.Checked.{ty_of as type_of_value};
@@ -14,17 +14,16 @@ ghost use Rattle.st_types.specs.Faults.{fault};
 ghost use Rattle.st_types.specs.Notes.{Notes};
 ghost use Rattle.st_types.specs.ExprTyping.{both};
 ghost use Rattle.st_types.specs.StmtTyping.{entry_type as entry_type_of, Narrows, NoTest, IsBool, assign_of, test_of, selector_of, begins as begins_of, turns_of as turns_of_bounds, for_of, case_of};
-ghost use Rattle.st_types.specs.StmtSteps.{Gives, IsSmall, InType, TypesStmt, TypesStmts, TypesArms, TypesBranches, TypesOther, stmt_after, arm_after, branch_after, if_of};
+ghost use Rattle.st_types.specs.StmtSteps.{Gives, TypesStmt, TypesStmts, TypesArms, TypesBranches, TypesOther, stmt_after, arm_after, branch_after, if_of};
 
-use crate::constants::{bound, is_bool, step};
-use crate::expression::type_expression;
+use crate::constants::is_bool;
+use crate::environment::Environment;
 use crate::fault::{Fault, Rule};
-use crate::labels::type_labels;
-use crate::names::{Entry, Names};
+use crate::names::Entry;
 use crate::note::note;
 use crate::operator::{ty_of, widened};
 use crate::variable::{bool_fault, entry_type, held_in, is_free, name_fault};
-use st_tree::{Arm, Branch, Expr, Stmt, Stmts};
+use st_tree::{Arm, Branch, Expr, Stmt, Stmts, trees_of_nodes};
 use std::alloc::Global;
 use vcp_base::{Memory, Spot, Ty, within};
 use vcp_typed::{TArm, TArms, TBranch, TBranches, TExpr, TLabels, TStmt, TStmts};
@@ -32,7 +31,7 @@ use vcp_typed::{TArm, TArms, TBranch, TBranches, TExpr, TLabels, TStmt, TStmts};
 // ---- what single nodes give
 
 // An assignment of a value to what was found by its name.
-fn set(
+fn assign_of(
     alloc: Global,
     held: &[u32],
     x: Option<&Entry>,
@@ -70,9 +69,7 @@ fn tested(e: Option<TExpr>, spot: Spot, first: &mut Option<Fault>) -> Option<TEx
     ensures notes { Notes first.old first.new (λ f. (f ≡ fault rule_.Mismatch spot) × NoTest (option_map type_of_value (option_map texpr_tree e))) }
     ensures gives { option_map texpr_tree result ≡ option_and_then test_of (option_map texpr_tree e) }
 {
-    let Some(e) = e else {
-        return None;
-    };
+    let e = e?;
     if !is_bool(ty_of(&e)) {
         note(first, Rule::Mismatch, spot);
         return None;
@@ -85,9 +82,7 @@ fn selector(e: Option<TExpr>, spot: Spot, first: &mut Option<Fault>) -> Option<T
     ensures notes { Notes first.old first.new (λ f. (f ≡ fault rule_.Mismatch spot) × IsBool (option_map type_of_value (option_map texpr_tree e))) }
     ensures gives { option_map texpr_tree result ≡ option_and_then selector_of (option_map texpr_tree e) }
 {
-    let Some(e) = e else {
-        return None;
-    };
+    let e = e?;
     if is_bool(ty_of(&e)) {
         note(first, Rule::Mismatch, spot);
         return None;
@@ -113,21 +108,19 @@ fn begins(first: i64, last: i64, by: i64) -> bool
 }
 
 // How many values a FOR takes.
-fn turns_of(first: i64, last: i64, by: i64) -> u64
-    requires first { IsSmall first }
-    requires last { IsSmall last }
+fn turns_of(first: i64, last: i64, by: i64) -> u128
     requires some { by ≢ pos 0 }
     ensures { result ≡ turns_of_bounds first last by }
 {
     if begins(first, last, by) {
-        last.abs_diff(first) / by.unsigned_abs() + 1
+        u128::from(last.abs_diff(first) / by.unsigned_abs()) + 1
     } else {
         0
     }
 }
 
 // FOR of these parts; none where one of them has a fault.
-fn counted(
+fn for_of(
     held: &[u32],
     x: Option<&Entry>,
     first: Option<i64>,
@@ -136,27 +129,15 @@ fn counted(
     body: Option<TStmts>,
     spot: Spot,
 ) -> Option<TStmt>
-    requires first { InType (entry_type_of (option_map (λ y. y.now) x)) first }
-    requires last { InType (entry_type_of (option_map (λ y. y.now) x)) last }
     requires some { IfSome by (λ v. v ≢ pos 0) }
     ensures { option_map tstmt_tree result
         ≡ for_of held.now spot (option_map (λ y. y.now) x.entry) first last by (option_map (λ b. tstmt_trees b.items.items) body) }
 {
-    let Some(x) = x else {
-        return None;
-    };
-    let Some(first) = first else {
-        return None;
-    };
-    let Some(last) = last else {
-        return None;
-    };
-    let Some(by) = by else {
-        return None;
-    };
-    let Some(body) = body else {
-        return None;
-    };
+    let x = x?;
+    let first = first?;
+    let last = last?;
+    let by = by?;
+    let body = body?;
     if !is_free(held, x) {
         return None;
     }
@@ -168,21 +149,17 @@ fn counted(
 }
 
 // IF of these parts; none where one of them has a fault.
-fn chosen(arms: Option<TArms>, other: Option<Option<TStmts>>) -> Option<TStmt>
+fn if_of(arms: Option<TArms>, other: Option<Option<TStmts>>) -> Option<TStmt>
     ensures { option_map tstmt_tree result
         ≡ both if_of (option_map (λ a. tarm_trees (tarm_items a)) arms) (option_map tother_tree other) }
 {
-    let Some(arms) = arms else {
-        return None;
-    };
-    let Some(other) = other else {
-        return None;
-    };
+    let arms = arms?;
+    let other = other?;
     Some(TStmt::if_(arms, other))
 }
 
 // CASE of these parts; none where one of them has a fault.
-fn selected(
+fn case_of(
     on: Option<TExpr>,
     branches: Option<TBranches>,
     other: Option<Option<TStmts>>,
@@ -191,15 +168,9 @@ fn selected(
     ensures { option_map tstmt_tree result
         ≡ case_of spot (option_map texpr_tree on) (option_map (λ b. tbranch_trees (tbranch_items b)) branches) (option_map tother_tree other) }
 {
-    let Some(on) = on else {
-        return None;
-    };
-    let Some(branches) = branches else {
-        return None;
-    };
-    let Some(other) = other else {
-        return None;
-    };
+    let on = on?;
+    let branches = branches?;
+    let other = other?;
     Some(TStmt::case(on, branches, other, spot))
 }
 
@@ -253,7 +224,10 @@ fn with_branch(
 ) -> Result<Option<TBranches>, Memory>
     ensures { IfOk result
         (λ r. option_map (λ b. tbranch_trees (tbranch_items b)) r
-        ≡ branch_after (option_map (λ b. tbranch_trees (tbranch_items b)) list) (option_map (λ v. v.items.items) labels) (option_map (λ b. tstmt_trees b.items.items) body)) }
+        ≡ branch_after
+        (option_map (λ b. tbranch_trees (tbranch_items b)) list)
+        (option_map (λ v. v.items.items) labels)
+        (option_map (λ b. tstmt_trees b.items.items) body)) }
 {
     let Some(mut list) = list else {
         return Ok(None);
@@ -270,205 +244,6 @@ fn with_branch(
 
 // ---- statements
 
-// An assignment.
-fn assign(
-    alloc: Global,
-    names: &Names,
-    held: &[u32],
-    name: &[u8],
-    value: &Expr,
-    spot: Spot,
-    first: &mut Option<Fault>,
-) -> Result<Option<TStmt>, Memory>
-    ensures { IfOk result
-        (λ r. TypesStmt names.now held.now (assign_tree name.now (expr_tree value.now) spot) first.old first.new (option_map tstmt_tree r)) }
-{
-    let x = names.find(name)?;
-    name_fault(held, x, spot, first);
-    let e = type_expression(alloc, names, value, first)?;
-    set(alloc, held, x, e, spot, first)
-}
-
-/// Types a statement inside FORs over the slots `held`: notes its faults, and gives the checked statement, none
-/// where it has a fault.
-#[cycle(statements)]
-fn type_stmt(
-    alloc: Global,
-    names: &Names,
-    held: &[u32],
-    s: &Stmt,
-    first: &mut Option<Fault>,
-) -> Result<Option<TStmt>, Memory>
-    ensures { IfOk result
-        (λ r. TypesStmt names.now held.now (stmt_tree s.now) first.old first.new (option_map tstmt_tree r)) }
-{
-    match s {
-        Stmt::Assign { name, value, spot } => {
-            let name = name.bytes();
-            assign(alloc, names, held, name, value, *spot, first)
-        }
-        Stmt::If { arms, other } => {
-            Stmt::if_holds(arms, other);
-            let made = type_arms(alloc, names, held, &arms.items, first)?;
-            let rest = type_other(alloc, names, held, other, first)?;
-            Ok(chosen(made, rest))
-        }
-        Stmt::Case {
-            on,
-            branches,
-            other,
-            spot,
-        } => {
-            Stmt::case_holds(on, branches, other, *spot);
-            let e = type_expression(alloc, names, on, first)?;
-            let ty = type_of(&e);
-            let selects = selector(e, *spot, first);
-            let made = type_branches(alloc, names, held, ty, &branches.items, first)?;
-            let rest = type_other(alloc, names, held, other, first)?;
-            Ok(selected(selects, made, rest, *spot))
-        }
-        Stmt::For {
-            name,
-            name_spot,
-            first: from,
-            last,
-            by,
-            body,
-            spot,
-        } => {
-            Stmt::for_holds(name, *name_spot, from, last, by, body, *spot);
-            type_for(
-                alloc,
-                names,
-                held,
-                &body.items,
-                name.bytes(),
-                *name_spot,
-                from,
-                last,
-                by,
-                first,
-            )
-        }
-    }
-}
-
-// The body stands before the bounds: it is what the recursion goes down. The spot of the FOR itself is in no
-// fault, nor in what is made.
-#[cycle(statements)]
-fn type_for(
-    alloc: Global,
-    names: &Names,
-    held: &[u32],
-    body: &[Stmt],
-    name: &[u8],
-    name_spot: Spot,
-    from: &Expr,
-    last: &Expr,
-    by: &Option<Expr>,
-    first: &mut Option<Fault>,
-) -> Result<Option<TStmt>, Memory>
-    ensures { (spot : Spot) → IfOk result
-        (λ r. TypesStmt names.now held.now (for_tree name.now name_spot (expr_tree from.now) (expr_tree last.now) (expr_tree_or_none by.now) (stmt_trees body.now) spot) first.old first.new (option_map tstmt_tree r)) }
-{
-    let x = names.find(name)?;
-    let ty = entry_type(x);
-    name_fault(held, x, name_spot, first);
-    bool_fault(ty, name_spot, first);
-    let low = bound(alloc, names, ty, from, first)?;
-    let high = bound(alloc, names, ty, last, first)?;
-    let step_by = step(alloc, names, ty, by, first)?;
-    let inner = held_in(alloc, held, x)?;
-    let made = type_stmts(alloc, names, &inner, body, first)?;
-    Ok(counted(held, x, low, high, step_by, made, name_spot))
-}
-
-/// Types statements inside FORs over the slots `held`: notes their faults, and gives the checked statements, none
-/// where one has a fault.
-#[cycle(statements)]
-pub(crate) fn type_stmts(
-    alloc: Global,
-    names: &Names,
-    held: &[u32],
-    stmts: &[Stmt],
-    first: &mut Option<Fault>,
-) -> Result<Option<TStmts>, Memory>
-    ensures { IfOk result
-        (λ r. TypesStmts names.now held.now (stmt_trees stmts.now) first.old first.new (option_map (λ b. tstmt_trees b.items.items) r)) }
-{
-    let mut list = Some(TStmts::new(alloc));
-    'each: for s in stmts {
-        let made = type_stmt(alloc, names, held, s, first)?;
-        list = with_stmt(list, made)?;
-    }
-    Ok(list)
-}
-
-// The conditions of an IF with their bodies; none where one of them has a fault.
-#[cycle(statements)]
-fn type_arms(
-    alloc: Global,
-    names: &Names,
-    held: &[u32],
-    arms: &[Arm],
-    first: &mut Option<Fault>,
-) -> Result<Option<TArms>, Memory>
-    ensures { IfOk result
-        (λ r. TypesArms names.now held.now (arm_trees arms.now) first.old first.new (option_map (λ a. tarm_trees (tarm_items a)) r)) }
-{
-    let mut list = Some(TArms::new(alloc));
-    'each: for arm in arms {
-        let e = type_expression(alloc, names, &arm.cond, first)?;
-        let cond = tested(e, arm.spot, first);
-        let body = type_stmts(alloc, names, held, &arm.body.items, first)?;
-        list = with_arm(list, cond, body, arm.spot)?;
-    }
-    Ok(list)
-}
-
-// The branches of a CASE over a selector of the type; none where one of them has a fault.
-#[cycle(statements)]
-fn type_branches(
-    alloc: Global,
-    names: &Names,
-    held: &[u32],
-    ty: Option<Ty>,
-    branches: &[Branch],
-    first: &mut Option<Fault>,
-) -> Result<Option<TBranches>, Memory>
-    ensures { IfOk result
-        (λ r. TypesBranches names.now held.now ty (branch_trees branches.now) first.old first.new (option_map (λ b. tbranch_trees (tbranch_items b)) r)) }
-{
-    let mut list = Some(TBranches::new(alloc));
-    'each: for branch in branches {
-        let labels = type_labels(alloc, names, ty, &branch.labels.items, first)?;
-        let body = type_stmts(alloc, names, held, &branch.body.items, first)?;
-        list = with_branch(list, labels, body)?;
-    }
-    Ok(list)
-}
-
-// The body of ELSE, where there is one.
-#[cycle(statements)]
-fn type_other(
-    alloc: Global,
-    names: &Names,
-    held: &[u32],
-    other: &Option<Stmts>,
-    first: &mut Option<Fault>,
-) -> Result<Option<Option<TStmts>>, Memory>
-    ensures { IfOk result
-        (λ r. TypesOther names.now held.now (other_tree other.now) first.old first.new (option_map tother_tree r)) }
-{
-    match other {
-        None => Ok(Some(None)),
-        Some(body) => {
-            let made = type_stmts(alloc, names, held, &body.items, first)?;
-            Ok(with_else(made))
-        }
-    }
-}
-
 // The body of an ELSE that is there.
 fn with_else(body: Option<TStmts>) -> Option<Option<TStmts>>
     ensures { option_map tother_tree result ≡ option_map (λ x. tother x) (option_map (λ b. tstmt_trees b.items.items) body) }
@@ -476,5 +251,217 @@ fn with_else(body: Option<TStmts>) -> Option<Option<TStmts>>
     match body {
         None => None,
         Some(body) => Some(Some(body)),
+    }
+}
+
+impl Environment<'_> {
+    // An assignment.
+    fn assign(
+        &self,
+        name: &[u8],
+        value: &Expr,
+        spot: Spot,
+        first: &mut Option<Fault>,
+    ) -> Result<Option<TStmt>, Memory>
+        ensures { IfOk result
+            (λ r. TypesStmt self.now.names.now self.now.held.now
+            (assign_tree name.now (expr_tree value.now) spot)
+            first.old first.new (option_map tstmt_tree r)) }
+    {
+        let x = self.names.find(name)?;
+        name_fault(self.held, x, spot, first);
+        let e = self.type_expression(value, first)?;
+        assign_of(self.alloc, self.held, x, e, spot, first)
+    }
+
+    /// Types a statement inside FORs over the slots `held`: notes its faults, and gives the checked statement, none
+    /// where it has a fault.
+    #[cycle(statements)]
+    fn type_stmt(&self, s: &Stmt, first: &mut Option<Fault>) -> Result<Option<TStmt>, Memory>
+        ensures { IfOk result
+            (λ r. TypesStmt self.now.names.now self.now.held.now (stmt_tree s.now) first.old first.new (option_map tstmt_tree r)) }
+    {
+        match s {
+            Stmt::Assign { name, value, spot } => {
+                let name = name.bytes();
+                self.assign(name, value, *spot, first)
+            }
+            Stmt::If { arms, other } => {
+                trees_of_nodes();
+                self.type_if(&arms.items, other, first)
+            }
+            Stmt::Case {
+                on,
+                branches,
+                other,
+                spot,
+            } => {
+                trees_of_nodes();
+                let branches = &branches.items;
+                self.type_case(on, branches, other, *spot, first)
+            }
+            Stmt::For {
+                name,
+                name_spot,
+                first: from,
+                last,
+                by,
+                body,
+                ..
+            } => {
+                trees_of_nodes();
+                self.type_for(&body.items, name.bytes(), *name_spot, from, last, by, first)
+            }
+        }
+    }
+
+    // An IF.
+    #[cycle(statements)]
+    fn type_if(
+        &self,
+        arms: &[Arm],
+        other: &Option<Stmts>,
+        first: &mut Option<Fault>,
+    ) -> Result<Option<TStmt>, Memory>
+        ensures { IfOk result
+            (λ r. TypesStmt self.now.names.now self.now.held.now
+            (if_tree (arm_trees arms.now) (other_tree other.now))
+            first.old first.new (option_map tstmt_tree r)) }
+    {
+        let made = self.type_arms(arms, first)?;
+        let rest = self.type_other(other, first)?;
+        Ok(if_of(made, rest))
+    }
+
+    // A CASE.
+    #[cycle(statements)]
+    fn type_case(
+        &self,
+        on: &Expr,
+        branches: &[Branch],
+        other: &Option<Stmts>,
+        spot: Spot,
+        first: &mut Option<Fault>,
+    ) -> Result<Option<TStmt>, Memory>
+        ensures { IfOk result
+            (λ r. TypesStmt self.now.names.now self.now.held.now
+            (case_tree (expr_tree on.now) (branch_trees branches.now) (other_tree other.now) spot)
+            first.old first.new (option_map tstmt_tree r)) }
+    {
+        let e = self.type_expression(on, first)?;
+        let ty = type_of(&e);
+        let selects = selector(e, spot, first);
+        let made = self.type_branches(ty, branches, first)?;
+        let rest = self.type_other(other, first)?;
+        Ok(case_of(selects, made, rest, spot))
+    }
+
+    // A FOR. The spot of the FOR itself is in no fault, nor in what is made.
+    #[cycle(statements)]
+    fn type_for(
+        &self,
+        body: &[Stmt],
+        name: &[u8],
+        name_spot: Spot,
+        from: &Expr,
+        last: &Expr,
+        by: &Option<Expr>,
+        first: &mut Option<Fault>,
+    ) -> Result<Option<TStmt>, Memory>
+        ensures { (spot : Spot) → IfOk result
+            (λ r. TypesStmt self.now.names.now self.now.held.now
+            (for_tree name.now name_spot (expr_tree from.now) (expr_tree last.now) (expr_tree_or_none by.now) (stmt_trees body.now) spot)
+            first.old first.new (option_map tstmt_tree r)) }
+    {
+        let x = self.names.find(name)?;
+        let ty = entry_type(x);
+        name_fault(self.held, x, name_spot, first);
+        bool_fault(ty, name_spot, first);
+        let low = self.bound(ty, from, first)?;
+        let high = self.bound(ty, last, first)?;
+        let step_by = self.step(ty, by, first)?;
+        let held = held_in(self.alloc, self.held, x)?;
+        let inner = Environment {
+            alloc: self.alloc,
+            names: self.names,
+            held: &held,
+        };
+        let made = inner.type_stmts(body, first)?;
+        Ok(for_of(self.held, x, low, high, step_by, made, name_spot))
+    }
+
+    /// Types statements inside FORs over the slots `held`: notes their faults, and gives the checked statements, none
+    /// where one has a fault.
+    #[cycle(statements)]
+    pub(crate) fn type_stmts(
+        &self,
+        stmts: &[Stmt],
+        first: &mut Option<Fault>,
+    ) -> Result<Option<TStmts>, Memory>
+        ensures { IfOk result
+            (λ r. TypesStmts self.now.names.now self.now.held.now (stmt_trees stmts.now) first.old first.new (option_map (λ b. tstmt_trees b.items.items) r)) }
+    {
+        let mut list = Some(TStmts::new(self.alloc));
+        'each: for s in stmts {
+            let made = self.type_stmt(s, first)?;
+            list = with_stmt(list, made)?;
+        }
+        Ok(list)
+    }
+
+    // The conditions of an IF with their bodies; none where one of them has a fault.
+    #[cycle(statements)]
+    fn type_arms(&self, arms: &[Arm], first: &mut Option<Fault>) -> Result<Option<TArms>, Memory>
+        ensures { IfOk result
+            (λ r. TypesArms self.now.names.now self.now.held.now (arm_trees arms.now) first.old first.new (option_map (λ a. tarm_trees (tarm_items a)) r)) }
+    {
+        let mut list = Some(TArms::new(self.alloc));
+        'each: for arm in arms {
+            let e = self.type_expression(&arm.cond, first)?;
+            let cond = tested(e, arm.spot, first);
+            let body = self.type_stmts(&arm.body.items, first)?;
+            list = with_arm(list, cond, body, arm.spot)?;
+        }
+        Ok(list)
+    }
+
+    // The branches of a CASE over a selector of the type; none where one of them has a fault.
+    #[cycle(statements)]
+    fn type_branches(
+        &self,
+        ty: Option<Ty>,
+        branches: &[Branch],
+        first: &mut Option<Fault>,
+    ) -> Result<Option<TBranches>, Memory>
+        ensures { IfOk result
+            (λ r. TypesBranches self.now.names.now self.now.held.now ty (branch_trees branches.now)
+            first.old first.new (option_map (λ b. tbranch_trees (tbranch_items b)) r)) }
+    {
+        let mut list = Some(TBranches::new(self.alloc));
+        'each: for branch in branches {
+            let labels = self.type_labels(ty, &branch.labels.items, first)?;
+            let body = self.type_stmts(&branch.body.items, first)?;
+            list = with_branch(list, labels, body)?;
+        }
+        Ok(list)
+    }
+
+    // The body of ELSE, where there is one.
+    #[cycle(statements)]
+    fn type_other(
+        &self,
+        other: &Option<Stmts>,
+        first: &mut Option<Fault>,
+    ) -> Result<Option<Option<TStmts>>, Memory>
+        ensures { IfOk result
+            (λ r. TypesOther self.now.names.now self.now.held.now (other_tree other.now) first.old first.new (option_map tother_tree r)) }
+    {
+        match other {
+            None => Ok(Some(None)),
+            Some(body) => {
+                let made = self.type_stmts(&body.items, first)?;
+                Ok(with_else(made))
+            }
+        }
     }
 }

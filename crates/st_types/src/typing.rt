@@ -11,9 +11,9 @@ ghost use Rattle.st_types.specs.Faults.{IsLeast};
 ghost use Rattle.st_types.specs.Typing.{FaultAt, IsFaultless, IsTyped, Refuses, typed_of};
 
 use crate::declaration::declared;
+use crate::environment::Environment;
 use crate::fault::{Fault, Rule, TypeFault};
 use crate::place::name_at;
-use crate::statement::type_stmts;
 use st_tree::Program;
 use std::alloc::Global;
 use vcp_base::{MOST_NAMES, MOST_SIZE};
@@ -77,7 +77,12 @@ fn judged(alloc: Global, program: &Program) -> Result<Typed, TypeFault>
 {
     let mut first = None;
     let made = declared(alloc, &program.blocks.items, &mut first)?;
-    let body = type_stmts(alloc, &made.names, &[], &program.body.items, &mut first)?;
+    let whole = Environment {
+        alloc,
+        names: &made.names,
+        held: &[],
+    };
+    let body = whole.type_stmts(&program.body.items, &mut first)?;
     match first {
         Some(fault) => Err(told(fault)),
         None => faultless(program, made.slots, body),

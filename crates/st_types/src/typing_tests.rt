@@ -66,7 +66,7 @@ fn a_program_is_typed_or_refused(rt: HostRuntime) -> Result<(), Fail> {
     assert_eq!(rt; answer(alloc, 2_147_483_647)?, Ok(7));
     assert_eq!(rt;
         answer(alloc, 2_147_483_648)?,
-        Err(TypeFault::Literal { spot: at(3, 6) })
+        Err(TypeFault::Mismatch { spot: at(3, 1) })
     );
     Ok(())
 }

@@ -52,10 +52,7 @@ pub(crate) fn is_free(held: &[u32], x: &Entry) -> bool
 pub(crate) fn entry_type(x: Option<&Entry>) -> Option<Ty>
     ensures { result ≡ entry_type_of (option_map (λ e. e.now) x.entry) }
 {
-    match x {
-        None => None,
-        Some(x) => Some(x.ty),
-    }
+    Some(x?.ty)
 }
 
 /// Notes what speaks against setting what was found.

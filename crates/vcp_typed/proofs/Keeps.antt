@@ -18,7 +18,7 @@ use Rattle.vcp_typed.specs.declared.expr.Fun.TheVariants as fun
 use Rattle.vcp_typed.specs.declared.slot.Slot.{Slot}
 use Rattle.vcp_typed.specs.TExprTree.{TExprTree, TExprTrees, literal, get, widen, unary, binary, call, no_texprs, and_texpr}
 use Rattle.vcp_typed.specs.TStmtTree.{TStmtTree, TStmtTrees, TArmTrees, TBranchTrees, TOtherTree, assign, if_, case, for_, no_tstmts, and_tstmt, no_tarms, and_tarm, no_tbranches, and_tbranch, no_tother, tother}
-use Rattle.vcp_typed.specs.Rules.{result, signed, of_numbers, arguments}
+use Rattle.vcp_typed.specs.Rules.{widens, result, signed, of_numbers, arguments}
 use Rattle.vcp_typed.specs.Meaning.{Stop, and_then, in_range, unless_zero, operate, sign, apply, value, values, is_labelled, turns_from, all_turns, do_stmt, do_stmts, do_arms, do_branches, do_other}
 use Rattle.vcp_typed.specs.SourceRun.{Program, Run, is_input, is_output, initial, with_inputs, outputs, after_cycle, cycle, run_from}
 use Rattle.vcp_typed.specs.Checked.{ty_of, tys_of, IsExpr, AreExprs, AreTurns, IsStmt, AreStmts, AreArms, AreBranches, IsOther, SlotsFit}
@@ -91,12 +91,39 @@ signed-fits un.Neg t s turns a e h = ranged t s turns _
 signed-fits un.Not ty.Bool s turns a e h = turned a h
 signed-fits un.Not ty.Int s turns a e h = absurd cc
 signed-fits un.Not ty.Dint s turns a e h = absurd cc
+signed-fits un.Not ty.Lint s turns a e h = absurd cc
 
 -- ---- functions
 
 int-dint : (v : ℤ) → fits ty.Int v ≡ true → fits ty.Dint v ≡ true
 int-dint (pos n) h = grind (arith, h)
 int-dint (negsuc n) h = grind (arith, h)
+
+int-lint : (v : ℤ) → fits ty.Int v ≡ true → fits ty.Lint v ≡ true
+int-lint (pos n) h = grind (arith, h)
+int-lint (negsuc n) h = grind (arith, h)
+
+dint-lint : (v : ℤ) → fits ty.Dint v ≡ true → fits ty.Lint v ≡ true
+dint-lint (pos n) h = grind (arith, h)
+dint-lint (negsuc n) h = grind (arith, h)
+
+widened-fits : (s t : Ty) (v : ℤ) → widens s t ≡ true → fits s v ≡ true → fits t v ≡ true
+widened-fits ty.Bool ty.Bool v w h = absurd cc
+widened-fits ty.Bool ty.Int v w h = absurd cc
+widened-fits ty.Bool ty.Dint v w h = absurd cc
+widened-fits ty.Bool ty.Lint v w h = absurd cc
+widened-fits ty.Int ty.Bool v w h = absurd cc
+widened-fits ty.Int ty.Int v w h = absurd cc
+widened-fits ty.Int ty.Dint v w h = int-dint v h
+widened-fits ty.Int ty.Lint v w h = int-lint v h
+widened-fits ty.Dint ty.Bool v w h = absurd cc
+widened-fits ty.Dint ty.Int v w h = absurd cc
+widened-fits ty.Dint ty.Dint v w h = absurd cc
+widened-fits ty.Dint ty.Lint v w h = dint-lint v h
+widened-fits ty.Lint ty.Bool v w h = absurd cc
+widened-fits ty.Lint ty.Int v w h = absurd cc
+widened-fits ty.Lint ty.Dint v w h = absurd cc
+widened-fits ty.Lint ty.Lint v w h = absurd cc
 
 bool-int : (v : ℤ) → fits ty.Bool v ≡ true → fits ty.Int v ≡ true
 bool-int (pos n) h = grind (arith, h)
@@ -122,6 +149,7 @@ numbers-are : (ts us : List Ty) (t : Ty) → of_numbers ts t ≡ Some us → us 
 numbers-are ts us ty.Bool e = absurd cc
 numbers-are ts us ty.Int e = sym (same-value ts us e)
 numbers-are ts us ty.Dint e = sym (same-value ts us e)
+numbers-are ts us ty.Lint e = sym (same-value ts us e)
 
 applied : (f : Fun) (t : Ty) (s : Spot) (turns : List Turn) (ts : List Ty) (vs : List ℤ) → arguments f t ≡ Some ts → AreIn ts vs
     → IfOk (apply f t s turns vs) (λ x. fits t x ≡ true)
@@ -138,15 +166,34 @@ applied fun.Limit t s turns ts vs e h =
 applied fun.Sel t s turns ts vs e h =
     let all = three ty.Bool t t vs (subst (λ us. AreIn us vs) (sym (same-value _ _ e)) h) in
     chosen (λ x. fits t x ≡ true) _ _ _ all.1 all.2
-applied fun.IntToDint ty.Dint s turns ts vs e h = int-dint (at vs 0) (one ty.Int vs (subst (λ us. AreIn us vs) (sym (same-value _ _ e)) h))
-applied fun.IntToDint ty.Int s turns ts vs e h = absurd cc
 applied fun.IntToDint ty.Bool s turns ts vs e h = absurd cc
+applied fun.IntToDint ty.Int s turns ts vs e h = absurd cc
+applied fun.IntToDint ty.Dint s turns ts vs e h = int-dint (at vs 0) (one ty.Int vs (subst (λ us. AreIn us vs) (sym (same-value _ _ e)) h))
+applied fun.IntToDint ty.Lint s turns ts vs e h = absurd cc
+applied fun.IntToLint ty.Bool s turns ts vs e h = absurd cc
+applied fun.IntToLint ty.Int s turns ts vs e h = absurd cc
+applied fun.IntToLint ty.Dint s turns ts vs e h = absurd cc
+applied fun.IntToLint ty.Lint s turns ts vs e h = int-lint (at vs 0) (one ty.Int vs (subst (λ us. AreIn us vs) (sym (same-value _ _ e)) h))
+applied fun.DintToInt ty.Bool s turns ts vs e h = absurd cc
 applied fun.DintToInt ty.Int s turns ts vs e h = ranged ty.Int s turns (at vs 0)
 applied fun.DintToInt ty.Dint s turns ts vs e h = absurd cc
-applied fun.DintToInt ty.Bool s turns ts vs e h = absurd cc
+applied fun.DintToInt ty.Lint s turns ts vs e h = absurd cc
+applied fun.DintToLint ty.Bool s turns ts vs e h = absurd cc
+applied fun.DintToLint ty.Int s turns ts vs e h = absurd cc
+applied fun.DintToLint ty.Dint s turns ts vs e h = absurd cc
+applied fun.DintToLint ty.Lint s turns ts vs e h = dint-lint (at vs 0) (one ty.Dint vs (subst (λ us. AreIn us vs) (sym (same-value _ _ e)) h))
+applied fun.LintToInt ty.Bool s turns ts vs e h = absurd cc
+applied fun.LintToInt ty.Int s turns ts vs e h = ranged ty.Int s turns (at vs 0)
+applied fun.LintToInt ty.Dint s turns ts vs e h = absurd cc
+applied fun.LintToInt ty.Lint s turns ts vs e h = absurd cc
+applied fun.LintToDint ty.Bool s turns ts vs e h = absurd cc
+applied fun.LintToDint ty.Int s turns ts vs e h = absurd cc
+applied fun.LintToDint ty.Dint s turns ts vs e h = ranged ty.Dint s turns (at vs 0)
+applied fun.LintToDint ty.Lint s turns ts vs e h = absurd cc
+applied fun.BoolToInt ty.Bool s turns ts vs e h = absurd cc
 applied fun.BoolToInt ty.Int s turns ts vs e h = bool-int (at vs 0) (one ty.Bool vs (subst (λ us. AreIn us vs) (sym (same-value _ _ e)) h))
 applied fun.BoolToInt ty.Dint s turns ts vs e h = absurd cc
-applied fun.BoolToInt ty.Bool s turns ts vs e h = absurd cc
+applied fun.BoolToInt ty.Lint s turns ts vs e h = absurd cc
 
 -- ---- slots
 
@@ -172,7 +219,7 @@ mutual
   value-fits slots (get n t) turns m h f = subst (λ (u : Ty). fits u (at m n) ≡ true) h.2 (at-fits slots m n h.0 h.1 f)
   value-fits slots (widen t a) turns m h f =
       if-more (λ v. fits (ty_of a) v ≡ true) (λ v. fits t v ≡ true) (value turns a m) (value-fits slots a turns m h.0 f)
-      (λ v g. subst (λ (u : Ty). fits u v ≡ true) (sym h.2) (int-dint v (subst (λ (u : Ty). fits u v ≡ true) h.1 g)))
+      (λ v g. widened-fits (ty_of a) t v h.1 g)
   value-fits slots (unary op t a s) turns m h f =
       if-then (λ v. fits (ty_of a) v ≡ true) (λ v. fits t v ≡ true) (value turns a m) _ (value-fits slots a turns m h.0 f)
       (λ v g. signed-fits op t s turns v h.2 (subst (λ (u : Ty). fits u v ≡ true) h.1 g))

@@ -70,7 +70,11 @@ applied slots fun.Max t s turns vs n = tt
 applied slots fun.Limit t s turns vs n = tt
 applied slots fun.Sel t s turns vs n = tt
 applied slots fun.IntToDint t s turns vs n = tt
+applied slots fun.IntToLint t s turns vs n = tt
 applied slots fun.DintToInt t s turns vs n = ranged slots ty.Int s turns (at vs 0) n
+applied slots fun.DintToLint t s turns vs n = tt
+applied slots fun.LintToInt t s turns vs n = ranged slots ty.Int s turns (at vs 0) n
+applied slots fun.LintToDint t s turns vs n = ranged slots ty.Dint s turns (at vs 0) n
 applied slots fun.BoolToInt t s turns vs n = tt
 
 mutual

@@ -70,7 +70,11 @@ applied fun.Max t s turns vs = tt
 applied fun.Limit t s turns vs = tt
 applied fun.Sel t s turns vs = tt
 applied fun.IntToDint t s turns vs = tt
+applied fun.IntToLint t s turns vs = tt
 applied fun.DintToInt t s turns vs = ranged ty.Int s turns (at vs 0)
+applied fun.DintToLint t s turns vs = tt
+applied fun.LintToInt t s turns vs = ranged ty.Int s turns (at vs 0)
+applied fun.LintToDint t s turns vs = ranged ty.Dint s turns (at vs 0)
 applied fun.BoolToInt t s turns vs = tt
 
 mutual

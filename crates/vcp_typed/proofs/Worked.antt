@@ -40,10 +40,10 @@ of_three f a b c = value [] (call f ty.Int (and_texpr a (and_texpr b (and_texpr 
 abbrev stopped : {A : Type 0} → Stop → Result A Stop
 stopped s = Err s
 
--- ---- tables, over the types BOOL, INT and DINT
+-- ---- tables, over the types BOOL, INT, DINT and LINT
 
 abbrev types : List Ty
-types = ty.Bool ∷ ty.Int ∷ ty.Dint ∷ []
+types = ty.Bool ∷ ty.Int ∷ ty.Dint ∷ ty.Lint ∷ []
 
 -- in the order of the table of strengths
 abbrev arithmetic : List BinOp
@@ -59,7 +59,7 @@ abbrev logic : List BinOp
 logic = bin.And ∷ bin.Xor ∷ bin.Or ∷ []
 
 abbrev functions : List Fun
-functions = fun.Abs ∷ fun.Min ∷ fun.Max ∷ fun.Limit ∷ fun.Sel ∷ fun.IntToDint ∷ fun.DintToInt ∷ fun.BoolToInt ∷ []
+functions = fun.Abs ∷ fun.Min ∷ fun.Max ∷ fun.Limit ∷ fun.Sel ∷ fun.IntToDint ∷ fun.IntToLint ∷ fun.DintToInt ∷ fun.DintToLint ∷ fun.LintToInt ∷ fun.LintToDint ∷ fun.BoolToInt ∷ []
 
 abbrev classes : List Class
 classes = class.Input ∷ class.Output ∷ class.Local ∷ class.Retain ∷ class.Constant ∷ []
@@ -70,21 +70,24 @@ common_table op = map (λ t. map (λ u. common op t u) types) types
 
 abbrev two_numbers : List (List (Option Ty))
 two_numbers =
-    (None ∷ None ∷ None ∷ [])
-    ∷ (None ∷ Some ty.Int ∷ Some ty.Dint ∷ [])
-    ∷ (None ∷ Some ty.Dint ∷ Some ty.Dint ∷ []) ∷ []
+    (None ∷ None ∷ None ∷ None ∷ [])
+    ∷ (None ∷ Some ty.Int ∷ Some ty.Dint ∷ Some ty.Lint ∷ [])
+    ∷ (None ∷ Some ty.Dint ∷ Some ty.Dint ∷ Some ty.Lint ∷ [])
+    ∷ (None ∷ Some ty.Lint ∷ Some ty.Lint ∷ Some ty.Lint ∷ []) ∷ []
 
 abbrev two_alike : List (List (Option Ty))
 two_alike =
-    (Some ty.Bool ∷ None ∷ None ∷ [])
-    ∷ (None ∷ Some ty.Int ∷ Some ty.Dint ∷ [])
-    ∷ (None ∷ Some ty.Dint ∷ Some ty.Dint ∷ []) ∷ []
+    (Some ty.Bool ∷ None ∷ None ∷ None ∷ [])
+    ∷ (None ∷ Some ty.Int ∷ Some ty.Dint ∷ Some ty.Lint ∷ [])
+    ∷ (None ∷ Some ty.Dint ∷ Some ty.Dint ∷ Some ty.Lint ∷ [])
+    ∷ (None ∷ Some ty.Lint ∷ Some ty.Lint ∷ Some ty.Lint ∷ []) ∷ []
 
 abbrev two_bools : List (List (Option Ty))
 two_bools =
-    (Some ty.Bool ∷ None ∷ None ∷ [])
-    ∷ (None ∷ None ∷ None ∷ [])
-    ∷ (None ∷ None ∷ None ∷ []) ∷ []
+    (Some ty.Bool ∷ None ∷ None ∷ None ∷ [])
+    ∷ (None ∷ None ∷ None ∷ None ∷ [])
+    ∷ (None ∷ None ∷ None ∷ None ∷ [])
+    ∷ (None ∷ None ∷ None ∷ None ∷ []) ∷ []
 
 arithmetic-types : map common_table arithmetic ≡ map (λ op. two_numbers) arithmetic
 arithmetic-types = refl
@@ -111,7 +114,7 @@ equality-results = refl
 logic-results : map (λ op. result op ty.Bool) logic ≡ map (λ op. ty.Bool) logic
 logic-results = refl
 
-sign-types : map (λ op. map (signed op) types) (un.Neg ∷ un.Not ∷ []) ≡ (None ∷ Some ty.Int ∷ Some ty.Dint ∷ []) ∷ (Some ty.Bool ∷ None ∷ None ∷ []) ∷ []
+sign-types : map (λ op. map (signed op) types) (un.Neg ∷ un.Not ∷ []) ≡ (None ∷ Some ty.Int ∷ Some ty.Dint ∷ Some ty.Lint ∷ []) ∷ (Some ty.Bool ∷ None ∷ None ∷ None ∷ []) ∷ []
 sign-types = refl
 
 -- the arguments of each function whose value is an INT
@@ -122,16 +125,23 @@ int-arguments : map (λ f. arguments f ty.Int) functions
     ∷ Some (ty.Int ∷ ty.Int ∷ ty.Int ∷ [])
     ∷ Some (ty.Bool ∷ ty.Int ∷ ty.Int ∷ [])
     ∷ None
+    ∷ None
     ∷ Some (ty.Dint ∷ [])
+    ∷ None
+    ∷ Some (ty.Lint ∷ [])
+    ∷ None
     ∷ Some (ty.Bool ∷ []) ∷ []
 int-arguments = refl
 
--- of those that can have a BOOL or a DINT
-bool-arguments : map (λ f. arguments f ty.Bool) functions ≡ None ∷ None ∷ None ∷ None ∷ Some (ty.Bool ∷ ty.Bool ∷ ty.Bool ∷ []) ∷ None ∷ None ∷ None ∷ []
+-- of those that can have a BOOL, a DINT or a LINT
+bool-arguments : map (λ f. arguments f ty.Bool) functions ≡ None ∷ None ∷ None ∷ None ∷ Some (ty.Bool ∷ ty.Bool ∷ ty.Bool ∷ []) ∷ None ∷ None ∷ None ∷ None ∷ None ∷ None ∷ None ∷ []
 bool-arguments = refl
 
 dint-arguments : map (λ f. arguments f ty.Dint) (fun.IntToDint ∷ fun.DintToInt ∷ fun.BoolToInt ∷ fun.Sel ∷ []) ≡ Some (ty.Int ∷ []) ∷ None ∷ None ∷ Some (ty.Bool ∷ ty.Dint ∷ ty.Dint ∷ []) ∷ []
 dint-arguments = refl
+
+lint-arguments : map (λ f. arguments f ty.Lint) (fun.IntToLint ∷ fun.DintToLint ∷ fun.LintToDint ∷ fun.Sel ∷ []) ≡ Some (ty.Int ∷ []) ∷ Some (ty.Dint ∷ []) ∷ None ∷ Some (ty.Bool ∷ ty.Lint ∷ ty.Lint ∷ []) ∷ []
+lint-arguments = refl
 
 may-be-set : map is_set classes ≡ false ∷ true ∷ true ∷ true ∷ false ∷ []
 may-be-set = refl
@@ -143,7 +153,7 @@ operator-sizes : map (λ ops. map operator_size ops) (arithmetic ∷ orders ∷ 
     ≡ (3 ∷ 3 ∷ 3 ∷ 3 ∷ 3 ∷ []) ∷ (3 ∷ 3 ∷ 4 ∷ 4 ∷ []) ∷ (3 ∷ 4 ∷ []) ∷ (3 ∷ 3 ∷ 3 ∷ []) ∷ []
 operator-sizes = refl
 
-function-sizes : map function_size functions ≡ 5 ∷ 3 ∷ 3 ∷ 6 ∷ 3 ∷ 2 ∷ 2 ∷ 2 ∷ []
+function-sizes : map function_size functions ≡ 5 ∷ 3 ∷ 3 ∷ 6 ∷ 3 ∷ 2 ∷ 2 ∷ 2 ∷ 2 ∷ 2 ∷ 2 ∷ 2 ∷ []
 function-sizes = refl
 
 -- ---- operators; `negsuc n` is -(n + 1)
@@ -281,6 +291,9 @@ absolute = refl
 
 narrowed : value [] (call fun.DintToInt ty.Int (and_texpr (literal ty.Dint (pos 32768) (at 1)) no_texprs) (at 5)) [] ≡ Err (record { kind = why.Range; spot = at 5; turns = [] })
 narrowed = refl
+
+narrowed_lint : value [] (call fun.LintToDint ty.Dint (and_texpr (literal ty.Lint (pos 2147483648) (at 1)) no_texprs) (at 5)) [] ≡ Err (record { kind = why.Range; spot = at 5; turns = [] })
+narrowed_lint = refl
 
 -- ---- statements; slot 0 is i, and slot 1 is y
 

@@ -12,7 +12,7 @@ use Rattle.vcp_typed.specs.declared.slot.Slot.{Slot}
 use Rattle.vcp_typed.specs.declared.stmt.TLabel.{TLabel}
 use Rattle.vcp_typed.specs.TExprTree.{TExprTree, TExprTrees, literal, get, widen, unary, binary, call, no_texprs, and_texpr}
 use Rattle.vcp_typed.specs.TStmtTree.{TStmtTree, TStmtTrees, TArmTrees, TBranchTrees, TOtherTree, assign, if_, case, for_, no_tstmts, and_tstmt, no_tarms, and_tarm, no_tbranches, and_tbranch, no_tother, tother}
-use Rattle.vcp_typed.specs.Rules.{joined, common, result, signed, arguments}
+use Rattle.vcp_typed.specs.Rules.{widens, joined, common, result, signed, arguments}
 use Rattle.vcp_typed.specs.SourceRun.{Program}
 use Rattle.vcp_typed.specs.Size.{size}
 
@@ -53,7 +53,7 @@ abbrev mutual
   pub IsExpr : List Slot → TExprTree → Type 0
   IsExpr slots (literal t v spot) = fits t v ≡ true
   IsExpr slots (get slot t) = HasType slots slot t
-  IsExpr slots (widen t a) = IsExpr slots a × (ty_of a ≡ ty.Int) × (t ≡ ty.Dint)
+  IsExpr slots (widen t a) = IsExpr slots a × (widens (ty_of a) t ≡ true)
   IsExpr slots (unary op t a spot) = IsExpr slots a × (ty_of a ≡ t) × (signed op t ≡ Some t)
   IsExpr slots (binary op t a b spot) = IsExpr slots a × IsExpr slots b × (ty_of a ≡ t) × (ty_of b ≡ t) × (common op t t ≡ Some t)
   IsExpr slots (call f t es spot) = AreExprs slots es × (arguments f t ≡ Some (tys_of es))

@@ -6,6 +6,7 @@ pub mod Rules
 pub mod Meaning
 pub mod SourceRun
 pub mod Size
+pub mod Wide
 pub mod Checked
 pub mod Items
 pub mod Codes

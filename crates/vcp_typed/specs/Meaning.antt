@@ -65,21 +65,27 @@ abbrev pub sign : UnOp → Ty → Spot → List Turn → ℤ → Result ℤ Stop
 sign un.Neg t spot turns a = in_range t spot turns (neg_ℤ a)
 sign un.Not t spot turns a = Ok (pos 1 -ℤ a)
 
-abbrev pub least : ℤ → ℤ → ℤ
-least a b = cond (int_lt b a) b a
+-- the lesser of two numbers
+abbrev pub lesser : ℤ → ℤ → ℤ
+lesser a b = cond (int_lt b a) b a
 
-abbrev pub greatest : ℤ → ℤ → ℤ
-greatest a b = cond (int_lt a b) b a
+-- the greater of two numbers
+abbrev pub greater : ℤ → ℤ → ℤ
+greater a b = cond (int_lt a b) b a
 
 -- the value of a function, whose value has the type; SEL(G, IN0, IN1) is IN0 where G is FALSE, and LIMIT(MN, IN, MX) is MIN(MAX(IN, MN), MX)
 abbrev pub apply : Fun → Ty → Spot → List Turn → List ℤ → Result ℤ Stop
 apply fun.Abs t spot turns vs = in_range t spot turns (pos (unsigned_abs (at vs 0)))
-apply fun.Min t spot turns vs = Ok (least (at vs 0) (at vs 1))
-apply fun.Max t spot turns vs = Ok (greatest (at vs 0) (at vs 1))
-apply fun.Limit t spot turns vs = Ok (least (greatest (at vs 1) (at vs 0)) (at vs 2))
+apply fun.Min t spot turns vs = Ok (lesser (at vs 0) (at vs 1))
+apply fun.Max t spot turns vs = Ok (greater (at vs 0) (at vs 1))
+apply fun.Limit t spot turns vs = Ok (lesser (greater (at vs 1) (at vs 0)) (at vs 2))
 apply fun.Sel t spot turns vs = Ok (cond (same (at vs 0) (pos 0)) (at vs 1) (at vs 2))
 apply fun.IntToDint t spot turns vs = Ok (at vs 0)
+apply fun.IntToLint t spot turns vs = Ok (at vs 0)
 apply fun.DintToInt t spot turns vs = in_range ty.Int spot turns (at vs 0)
+apply fun.DintToLint t spot turns vs = Ok (at vs 0)
+apply fun.LintToInt t spot turns vs = in_range ty.Int spot turns (at vs 0)
+apply fun.LintToDint t spot turns vs = in_range ty.Dint spot turns (at vs 0)
 apply fun.BoolToInt t spot turns vs = Ok (at vs 0)
 
 -- The value of an expression where the slots have the values m. Operands and arguments are evaluated from the left, all of them.

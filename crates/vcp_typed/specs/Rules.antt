@@ -1,5 +1,5 @@
 -- Rules: the types of operators and functions.
-use Rattle.std.specs.Prelude.{List, [], ◌∷◌, Option, Some, None}
+use Rattle.std.specs.Prelude.{Bool, true, false, List, [], ◌∷◌, Option, Some, None}
 use Rattle.vcp_base.specs.declared.ty.Ty.{Ty}
 use Rattle.vcp_base.specs.declared.ty.Ty.TheVariants as ty
 use Rattle.st_tree.specs.declared.expr.UnOp.{UnOp}
@@ -9,29 +9,57 @@ use Rattle.st_tree.specs.declared.expr.BinOp.TheVariants as bin
 use Rattle.vcp_typed.specs.declared.expr.Fun.{Fun}
 use Rattle.vcp_typed.specs.declared.expr.Fun.TheVariants as fun
 
+-- a value of the first type widens to the second: INT to DINT and LINT, and DINT to LINT
+abbrev pub widens : Ty → Ty → Bool
+widens ty.Bool ty.Bool = false
+widens ty.Bool ty.Int = false
+widens ty.Bool ty.Dint = false
+widens ty.Bool ty.Lint = false
+widens ty.Int ty.Bool = false
+widens ty.Int ty.Int = false
+widens ty.Int ty.Dint = true
+widens ty.Int ty.Lint = true
+widens ty.Dint ty.Bool = false
+widens ty.Dint ty.Int = false
+widens ty.Dint ty.Dint = false
+widens ty.Dint ty.Lint = true
+widens ty.Lint ty.Bool = false
+widens ty.Lint ty.Int = false
+widens ty.Lint ty.Dint = false
+widens ty.Lint ty.Lint = false
+
 -- the type to which two types of numbers widen
 abbrev pub joined : Ty → Ty → Option Ty
 joined ty.Bool u = None
 joined ty.Int ty.Bool = None
 joined ty.Int ty.Int = Some ty.Int
 joined ty.Int ty.Dint = Some ty.Dint
+joined ty.Int ty.Lint = Some ty.Lint
 joined ty.Dint ty.Bool = None
 joined ty.Dint ty.Int = Some ty.Dint
 joined ty.Dint ty.Dint = Some ty.Dint
+joined ty.Dint ty.Lint = Some ty.Lint
+joined ty.Lint ty.Bool = None
+joined ty.Lint ty.Int = Some ty.Lint
+joined ty.Lint ty.Dint = Some ty.Lint
+joined ty.Lint ty.Lint = Some ty.Lint
 
 -- BOOL, of two BOOL
 abbrev pub both_bool : Ty → Ty → Option Ty
 both_bool ty.Bool ty.Bool = Some ty.Bool
 both_bool ty.Bool ty.Int = None
 both_bool ty.Bool ty.Dint = None
+both_bool ty.Bool ty.Lint = None
 both_bool ty.Int u = None
 both_bool ty.Dint u = None
+both_bool ty.Lint u = None
 
 -- the common type of two numbers or of two BOOL
 abbrev pub joined_or_bool : Ty → Ty → Option Ty
 joined_or_bool ty.Bool u = both_bool ty.Bool u
 joined_or_bool ty.Int u = joined ty.Int u
 joined_or_bool ty.Dint u = joined ty.Dint u
+joined_or_bool ty.Lint u = joined ty.Lint u
 
 -- the common type of an operator's operands, where it takes operands of these types
 abbrev pub common : BinOp → Ty → Ty → Option Ty
@@ -72,15 +100,18 @@ abbrev pub signed : UnOp → Ty → Option Ty
 signed un.Neg ty.Bool = None
 signed un.Neg ty.Int = Some ty.Int
 signed un.Neg ty.Dint = Some ty.Dint
+signed un.Neg ty.Lint = Some ty.Lint
 signed un.Not ty.Bool = Some ty.Bool
 signed un.Not ty.Int = None
 signed un.Not ty.Dint = None
+signed un.Not ty.Lint = None
 
 -- the types of a function's arguments, where its value has this type; none where it hasn't such a value
 abbrev pub of_numbers : List Ty → Ty → Option (List Ty)
 of_numbers ts ty.Bool = None
 of_numbers ts ty.Int = Some ts
 of_numbers ts ty.Dint = Some ts
+of_numbers ts ty.Lint = Some ts
 
 abbrev pub arguments : Fun → Ty → Option (List Ty)
 arguments fun.Abs t = of_numbers (t ∷ []) t
@@ -88,12 +119,31 @@ arguments fun.Min t = of_numbers (t ∷ t ∷ []) t
 arguments fun.Max t = of_numbers (t ∷ t ∷ []) t
 arguments fun.Limit t = of_numbers (t ∷ t ∷ t ∷ []) t
 arguments fun.Sel t = Some (ty.Bool ∷ t ∷ t ∷ [])
-arguments fun.IntToDint ty.Dint = Some (ty.Int ∷ [])
-arguments fun.IntToDint ty.Int = None
 arguments fun.IntToDint ty.Bool = None
+arguments fun.IntToDint ty.Int = None
+arguments fun.IntToDint ty.Dint = Some (ty.Int ∷ [])
+arguments fun.IntToDint ty.Lint = None
+arguments fun.IntToLint ty.Bool = None
+arguments fun.IntToLint ty.Int = None
+arguments fun.IntToLint ty.Dint = None
+arguments fun.IntToLint ty.Lint = Some (ty.Int ∷ [])
+arguments fun.DintToInt ty.Bool = None
 arguments fun.DintToInt ty.Int = Some (ty.Dint ∷ [])
 arguments fun.DintToInt ty.Dint = None
-arguments fun.DintToInt ty.Bool = None
+arguments fun.DintToInt ty.Lint = None
+arguments fun.DintToLint ty.Bool = None
+arguments fun.DintToLint ty.Int = None
+arguments fun.DintToLint ty.Dint = None
+arguments fun.DintToLint ty.Lint = Some (ty.Dint ∷ [])
+arguments fun.LintToInt ty.Bool = None
+arguments fun.LintToInt ty.Int = Some (ty.Lint ∷ [])
+arguments fun.LintToInt ty.Dint = None
+arguments fun.LintToInt ty.Lint = None
+arguments fun.LintToDint ty.Bool = None
+arguments fun.LintToDint ty.Int = None
+arguments fun.LintToDint ty.Dint = Some (ty.Lint ∷ [])
+arguments fun.LintToDint ty.Lint = None
+arguments fun.BoolToInt ty.Bool = None
 arguments fun.BoolToInt ty.Int = Some (ty.Bool ∷ [])
 arguments fun.BoolToInt ty.Dint = None
-arguments fun.BoolToInt ty.Bool = None
+arguments fun.BoolToInt ty.Lint = None

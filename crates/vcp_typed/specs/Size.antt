@@ -35,7 +35,11 @@ function_size fun.Max = 3
 function_size fun.Limit = 6
 function_size fun.Sel = 3
 function_size fun.IntToDint = 2
+function_size fun.IntToLint = 2
 function_size fun.DintToInt = 2
+function_size fun.DintToLint = 2
+function_size fun.LintToInt = 2
+function_size fun.LintToDint = 2
 function_size fun.BoolToInt = 2
 
 abbrev mutual

@@ -24,8 +24,16 @@ pub enum Fun {
     Sel,
     /// INT_TO_DINT
     IntToDint,
+    /// INT_TO_LINT
+    IntToLint,
     /// DINT_TO_INT
     DintToInt,
+    /// DINT_TO_LINT
+    DintToLint,
+    /// LINT_TO_INT
+    LintToInt,
+    /// LINT_TO_DINT
+    LintToDint,
     /// BOOL_TO_INT
     BoolToInt,
 }

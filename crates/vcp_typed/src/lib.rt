@@ -10,6 +10,7 @@ mod size;
 mod slot;
 mod stmt;
 mod typed;
+mod wide;
 
 pub use expr::{Fun, TExpr, TExprs};
 pub use laws::{causes_of_stops, trees_of_appended, trees_of_nodes, turns_name_slots, values_fit};

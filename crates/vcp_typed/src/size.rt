@@ -25,11 +25,11 @@ fn plus(a: u32, b: u32) -> u32
 }
 
 // A Size so many times, cut at the first that is too large.
-fn times(n: u64, a: u32) -> u32
+fn times(n: u128, a: u32) -> u32
     requires { a ≤ most_size + 1 }
     ensures { result ≡ cut (n * a) }
 {
-    let n = n.min(u64::from(TOO_LARGE)) as u32;
+    let n = n.min(u128::from(TOO_LARGE)) as u32;
     (u64::from(n) * u64::from(a)).min(u64::from(TOO_LARGE)) as u32
 }
 
@@ -54,7 +54,11 @@ fn function_size(fun: Fun) -> u32
         Fun::Limit => 6,
         Fun::Sel => 3,
         Fun::IntToDint => 2,
+        Fun::IntToLint => 2,
         Fun::DintToInt => 2,
+        Fun::DintToLint => 2,
+        Fun::LintToInt => 2,
+        Fun::LintToDint => 2,
         Fun::BoolToInt => 2,
     }
 }

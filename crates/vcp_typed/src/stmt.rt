@@ -91,7 +91,7 @@ pub enum TStmt {
         slot: u32,
         first: i64,
         by: i64,
-        turns: u64,
+        turns: u128,
         body: TStmts,
         spot: Spot,
     },
@@ -289,7 +289,7 @@ impl TStmt {
     }
 
     /// FOR over so many turns: the control variable is `first`, `first + by` and so on.
-    pub fn for_(slot: u32, first: i64, by: i64, turns: u64, body: TStmts, spot: Spot) -> TStmt
+    pub fn for_(slot: u32, first: i64, by: i64, turns: u128, body: TStmts, spot: Spot) -> TStmt
         ensures { tstmt_tree result
             ≡ for_tree slot first by turns (tstmt_trees body.items.items) spot }
     {

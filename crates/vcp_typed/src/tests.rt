@@ -31,7 +31,7 @@ enum Part {
     /// CASE of a slot with one label and one range, and an assignment of a literal; with ELSE the same once more.
     Selection { other: bool },
     /// FOR with so many turns over an assignment of a literal.
-    Loop(u64),
+    Loop(u128),
 }
 
 fn spot() -> Spot {
@@ -153,7 +153,7 @@ fn slots(alloc: Global, part: Part) -> Result<Slots, Memory> {
 }
 
 /// Each part with the Size of its program: 2, 1 for an assignment, 1 for a literal, and what the table of Size says.
-const SIZES: [(Part, u32); 40] = [
+const SIZES: [(Part, u32); 44] = [
     (Part::Variable(Class::Input), 3),
     (Part::Variable(Class::Output), 5),
     (Part::Variable(Class::Local), 4),
@@ -184,6 +184,10 @@ const SIZES: [(Part, u32); 40] = [
     (Part::Function(Fun::Sel), 7),
     (Part::Function(Fun::IntToDint), 6),
     (Part::Function(Fun::DintToInt), 6),
+    (Part::Function(Fun::IntToLint), 6),
+    (Part::Function(Fun::DintToLint), 6),
+    (Part::Function(Fun::LintToInt), 6),
+    (Part::Function(Fun::LintToDint), 6),
     (Part::Function(Fun::BoolToInt), 6),
     (Part::Choice { other: false }, 8),
     (Part::Choice { other: true }, 10),
@@ -193,7 +197,7 @@ const SIZES: [(Part, u32); 40] = [
     (Part::Loop(3), 14),
     (Part::Loop(16_383), 65_534),
     (Part::Loop(16_384), 65_537),
-    (Part::Loop(u64::MAX), 65_537),
+    (Part::Loop(18_446_744_073_709_551_616), 65_537),
 ];
 
 /// The first part whose program has another Size than its row says, with that Size.
@@ -272,6 +276,7 @@ fn a_checked_program_tells_what_it_holds(rt: HostRuntime) -> Result<(), Fail> {
     assert_eq!(rt; program.slots().len(), 2);
     assert!(rt; assigns(program.body(), 1));
     assert!(rt; is_column(&program.columns(alloc)?, b"x", Ty::Dint));
+    assert!(rt; !program.wide());
     assert!(rt; is_column(&program.output_columns(alloc)?, b"y", Ty::Dint));
     Ok(())
 }

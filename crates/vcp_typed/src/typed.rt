@@ -4,11 +4,13 @@ ghost use Rattle.std.specs.Prelude.{◌≡◌, [], ◌∷◌, ◌++◌, IfOk, On
 ghost use Rattle.vcp_typed.specs.Checked.{IsChecked};
 ghost use Rattle.vcp_typed.specs.Fitting.{input_columns, output_columns as output_columns_of};
 ghost use Rattle.vcp_typed.specs.Size.{size};
+ghost use Rattle.vcp_typed.specs.Wide.{wide};
 ghost use Rattle.vcp_typed.specs.TStmtViews.{tstmt_trees};
 
 use crate::size::size_of;
 use crate::slot::{Slot, Slots};
 use crate::stmt::TStmts;
+use crate::wide::is_wide;
 use st_tree::Class;
 use std::alloc::Global;
 use std::marker::Model;
@@ -79,6 +81,13 @@ impl Typed {
         ensures { IfOk result (λ columns. columns ≡ output_columns_of self.now.slots) }
     {
         outputs_of(alloc, &self.slots.items)
+    }
+
+    /// Whether a slot or a node has the type LINT, so that the program's words need the wide code.
+    pub fn wide(&self) -> bool
+        ensures { result ≡ wide self.now }
+    {
+        is_wide(&self.slots, &self.body)
     }
 
     /// The Size of the program: the most operations that it is flattened to. At most 65,536.
