@@ -7,15 +7,15 @@ use Rattle.st_lexer.specs.declared.token.Token.{Token}
 use Rattle.st_lexer.specs.declared.token.Tok.{Tok}
 use Rattle.st_lexer.specs.declared.token.Tok.TheVariants as tok
 use Rattle.st_lexer.specs.declared.fault.Reason.{Reason}
-use Rattle.st_lexer.specs.declared.fault.Reason.TheVariants as reason
-use Rattle.vcp_base.specs.declared.spot.Spot.{Spot}
 use Rattle.st_lexer.specs.declared.literal.Literal.{Literal}
 use Rattle.st_lexer.specs.declared.piece.Opening.{Opening}
 use Rattle.st_lexer.specs.declared.piece.Opening.TheVariants as opens
 use Rattle.st_lexer.specs.Literals.{prefix}
 use Rattle.st_lexer.specs.Spots.{spot_at}
 use Rattle.st_lexer.specs.Words.{word}
-use Rattle.st_lexer.specs.Reading.{opening, Stands, Refuses, ClosesFirst, Piece, IsPiece, Cover, token_of, tokens_of, IsInside, Reads, LexAt, Faults, fault_of}
+use Rattle.st_lexer.specs.Reading.{Stands, Refuses, StandsAt, RefusedAt, ClosesFirst, Piece, IsPiece, Cover, token_of, tokens_of, IsInside, Reads, LexAt}
+use Rattle.st_lexer.specs.Pieces.{opening}
+use Rattle.st_lexer.proofs.Openings.{stands-found, refused-found}
 
 cover-push : (text : List ℕ) (ps : List Piece) (p : Piece) (a : ℕ) → Cover text ps a p.from → IsPiece text p → Cover text (ps ++ p ∷ []) a p.to
 cover-push text [] p a c h = (sym c, h, refl)
@@ -37,7 +37,7 @@ pub upto-start : (text : List ℕ) → Upto text [] 0
 upto-start text = record { pieces = []; cover = refl; tokens = refl }
 
 -- one piece more
-pub upto-more : (text : List ℕ) (ts : List Token) (at n : ℕ) (t : Option Tok) → Upto text ts at → 0 < n → n ≤ length (drop at text) → at < length text → Stands (opening at (drop at text)) (drop at text) n t → Upto text (ts ++ token_of text (record { from = at; to = at + n; is = t }) t) (at + n)
+pub upto-more : (text : List ℕ) (ts : List Token) (at n : ℕ) (t : Option Tok) → Upto text ts at → 0 < n → n ≤ length (drop at text) → at < length text → StandsAt at (drop at text) n t → Upto text (ts ++ token_of text (record { from = at; to = at + n; is = t }) t) (at + n)
 upto-more text ts at n t u pos le lt st =
     let p : Piece = record { from = at; to = at + n; is = t } in
     record {
@@ -45,17 +45,6 @@ upto-more text ts at n t u pos le lt st =
       cover = cover-push text u.pieces p 0 u.cover (n, pos, refl, omega (arith, length-drop at text), st);
       tokens = ap (λ (l : List Token). l ++ token_of text p t) u.tokens ∙ sym (tokens-push text u.pieces p);
     }
-
--- a piece that is a gap
-pub upto-gap : (text : List ℕ) (ts : List Token) (at n : ℕ) → Upto text ts at → 0 < n → n ≤ length (drop at text) → at < length text → Stands (opening at (drop at text)) (drop at text) n None → Upto text ts (at + n)
-upto-gap text ts at n u pos le lt st =
-    subst (λ (l : List Token). Upto text l (at + n)) (append-nil ts) (upto-more text ts at n None u pos le lt st)
-
--- where no piece stands, the fault is told
-pub told : (text : List ℕ) (ts : List Token) (at : ℕ) (r : Reason) (spot : Spot) → Upto text ts at → at < length text → Refuses (opening at (drop at text)) (drop at text) r → spot ≡ spot_at text at → Faults text (fault_of r spot)
-told text ts at reason.Byte spot u lt ref e = (at, (u.pieces, u.cover, lt, ref), e)
-told text ts at reason.Comment spot u lt ref e = (at, (u.pieces, u.cover, lt, ref), e)
-told text ts at reason.Number spot u lt ref e = (at, (u.pieces, u.cover, lt, ref), e)
 
 -- ---- one reading
 
@@ -115,12 +104,21 @@ refuses-one opens.Word s q r a b = absurd a
 refuses-one opens.Ampersand s q r a b = absurd a
 refuses-one (opens.Symbol y) s q r a b = absurd a
 
-moved : (text : List ℕ) (i j n : ℕ) (t : Option Tok) → i ≡ j → Stands (opening i (drop i text)) (drop i text) n t → Stands (opening j (drop j text)) (drop j text) n t
-moved text i j n t e st = subst (λ k. Stands (opening k (drop k text)) (drop k text) n t) e st
+stands-one-at : (p : ℕ) (s : List ℕ) (m n : ℕ) (t u : Option Tok) → StandsAt p s m t → StandsAt p s n u → SameCut m n t u
+stands-one-at p s m n t u a b = stands-one (opening p s) s m n t u (stands-found p s m t a) (stands-found p s n u b)
+
+stands-not-at : (p : ℕ) (s : List ℕ) (n : ℕ) (t : Option Tok) (r : Reason) → StandsAt p s n t → RefusedAt p s r → ⊥
+stands-not-at p s n t r a b = stands-not (opening p s) s n t r (stands-found p s n t a) (refused-found p s r b)
+
+refuses-one-at : (p : ℕ) (s : List ℕ) (q r : Reason) → RefusedAt p s q → RefusedAt p s r → q ≡ r
+refuses-one-at p s q r a b = refuses-one (opening p s) s q r (refused-found p s q a) (refused-found p s r b)
+
+moved : (text : List ℕ) (i j n : ℕ) (t : Option Tok) → i ≡ j → StandsAt i (drop i text) n t → StandsAt j (drop j text) n t
+moved text i j n t e st = subst (λ k. StandsAt k (drop k text) n t) e st
 
 piece-one : (text : List ℕ) (p q : Piece) → p.from ≡ q.from → IsPiece text p → IsPiece text q → p ≡ q
 piece-one text p q e a b =
-    let s = stands-one (opening q.from (drop q.from text)) (drop q.from text) a.0 b.0 p.is q.is (moved text p.from q.from a.0 p.is e a.4) b.4 in
+    let s = stands-one-at q.from (drop q.from text) a.0 b.0 p.is q.is (moved text p.from q.from a.0 p.is e a.4) b.4 in
     let t : p.to ≡ q.to = a.2 ∙ ap (λ i. i + a.0) e ∙ ap (λ i. q.from + i) s.len ∙ sym b.2 in
     λ i. record { from = e i; to = t i; is = s.is i }
 
@@ -138,21 +136,21 @@ cover-one text (p ∷ ps) (q ∷ qs) a c d =
     λ i. e i ∷ rest i
 
 -- a whole cover stops at no place that is refused
-cover-refused : (text : List ℕ) (ps qs : List Piece) (a p : ℕ) (r : Reason) → Cover text ps a (length text) → Cover text qs a p → p < length text → Refuses (opening p (drop p text)) (drop p text) r → ⊥
+cover-refused : (text : List ℕ) (ps qs : List Piece) (a p : ℕ) (r : Reason) → Cover text ps a (length text) → Cover text qs a p → p < length text → RefusedAt p (drop p text) r → ⊥
 cover-refused text [] [] a p r c d lt ref = omega (arith, c, d)
 cover-refused text [] (q ∷ qs) a p r c d lt ref = omega (arith, c, cover-past text q qs a p d)
 cover-refused text (x ∷ ps) [] a p r c d lt ref =
-    stands-not (opening p (drop p text)) (drop p text) c.1.0 x.is r (moved text x.from p c.1.0 x.is (c.0 ∙ d) c.1.4) ref
+    stands-not-at p (drop p text) c.1.0 x.is r (moved text x.from p c.1.0 x.is (c.0 ∙ d) c.1.4) ref
 cover-refused text (x ∷ ps) (q ∷ qs) a p r c d lt ref =
     let e = piece-one text x q (c.0 ∙ sym d.0) c.1 d.1 in
     cover-refused text ps qs q.to p r (subst (λ (y : Piece). Cover text ps y.to (length text)) e c.2) d.2 lt ref
 
-refused-one : (text : List ℕ) (ps qs : List Piece) (a p q : ℕ) (r s : Reason) → Cover text ps a p → Refuses (opening p (drop p text)) (drop p text) r → Cover text qs a q → Refuses (opening q (drop q text)) (drop q text) s → p ≡ q
+refused-one : (text : List ℕ) (ps qs : List Piece) (a p q : ℕ) (r s : Reason) → Cover text ps a p → RefusedAt p (drop p text) r → Cover text qs a q → RefusedAt q (drop q text) s → p ≡ q
 refused-one text [] [] a p q r s c ref d ref' = sym c ∙ d
 refused-one text [] (y ∷ qs) a p q r s c ref d ref' =
-    absurd (stands-not (opening p (drop p text)) (drop p text) d.1.0 y.is r (moved text y.from p d.1.0 y.is (d.0 ∙ c) d.1.4) ref)
+    absurd (stands-not-at p (drop p text) d.1.0 y.is r (moved text y.from p d.1.0 y.is (d.0 ∙ c) d.1.4) ref)
 refused-one text (x ∷ ps) [] a p q r s c ref d ref' =
-    absurd (stands-not (opening q (drop q text)) (drop q text) c.1.0 x.is s (moved text x.from q c.1.0 x.is (c.0 ∙ d) c.1.4) ref')
+    absurd (stands-not-at q (drop q text) c.1.0 x.is s (moved text x.from q c.1.0 x.is (c.0 ∙ d) c.1.4) ref')
 refused-one text (x ∷ ps) (y ∷ qs) a p q r s c ref d ref' =
     let e = piece-one text x y (c.0 ∙ sym d.0) c.1 d.1 in
     refused-one text ps qs y.to p q r s (subst (λ (z : Piece). Cover text ps z.to p) e c.2) ref d.2 ref'
@@ -168,8 +166,8 @@ place-one text p q r s x y = refused-one text x.0 y.0 0 p q r s x.1 x.3 y.1 y.3
 
 pub reason-one : (text : List ℕ) (p q : ℕ) (r s : Reason) → LexAt text p r → LexAt text q s → r ≡ s
 reason-one text p q r s x y =
-    refuses-one (opening q (drop q text)) (drop q text) r s
-    (subst (λ i. Refuses (opening i (drop i text)) (drop i text) r) (place-one text p q r s x y) x.3) y.3
+    refuses-one-at q (drop q text) r s
+    (subst (λ i. RefusedAt i (drop i text) r) (place-one text p q r s x y) x.3) y.3
 
 none-inside : (text : List ℕ) → All (IsInside text) []
 none-inside text k d h = absurd (omega arith)

@@ -1,10 +1,9 @@
 -- What begins at the front has at least one byte, and no more than there are.
-use Rattle.std.proofs.Common.{◌≡◌, ℕ, ℤ, pos, ◌+◌, ◌<◌, ◌≤◌, Bool, true, false, cond, ◌&&◌, ◌||◌, List, [], ◌∷◌, ◌++◌, length, take, drop, Option, Some, None, refl, sym, ap, ◌∙◌, arith, length-drop}
-use Rattle.std.specs.Prelude.{slice_index, ◌==◌, IfSome, codes}
+use Rattle.std.proofs.Common.{◌≡◌, ℕ, ℤ, pos, ◌+◌, ◌<◌, ◌≤◌, Bool, true, false, cond, ◌||◌, List, [], ◌∷◌, ◌++◌, length, take, drop, Option, Some, None, refl, sym, ap, ◌∙◌, arith, length-drop}
+use Rattle.std.specs.Prelude.{slice_index, IfSome, codes}
 use Rattle.std.specs.List.{prefix_len}
-use Rattle.std.specs.Char.{is_ascii_digit}
 use Rattle.std.specs.Cmp.Lexicographic.{same_text}
-use Rattle.std.proofs.lemmas.List.{length-take, take-append-drop}
+use Rattle.std.proofs.lemmas.List.{length-take}
 use Rattle.std.proofs.lemmas.List.Sums.{prefix_len-le-length}
 use Rattle.std.proofs.lemmas.List.Folds.{length-prefix_len}
 use Rattle.vcp_base.specs.declared.ty.Ty.{Ty}
@@ -17,11 +16,13 @@ use Rattle.st_lexer.specs.declared.piece.Found.{Found}
 use Rattle.st_lexer.specs.declared.piece.Found.TheVariants as found
 use Rattle.st_lexer.specs.declared.piece.Opening.{Opening}
 use Rattle.st_lexer.specs.declared.piece.Opening.TheVariants as opens
-use Rattle.st_lexer.specs.Literals.{is_run, is_word, begins_word, run, signed, plain, based, are_digits, literal_at, literal_of, prefix, type_at}
+use Rattle.st_lexer.specs.Literals.{is_run, is_word, begins_word, run, signed, plain, based, are_digits, literal_at, literal_of, prefix}
 use Rattle.st_lexer.specs.Spots.{is_not_lf}
 use Rattle.st_lexer.specs.Symbols.{begins, spelling, symbol_among, all_symbols}
-use Rattle.st_lexer.specs.Reading.{is_blank, order_mark, opening, word_opening, symbol_opening, Stands}
-use Rattle.st_lexer.specs.Pieces.{Finds, IsWithin}
+use Rattle.st_lexer.specs.Reading.{order_mark, Begins, Stands, StandsAt}
+use Rattle.st_lexer.specs.Pieces.{FindsAt, IsWithin}
+use Rattle.st_lexer.proofs.Lacking.{symbol-begins}
+use Rattle.st_lexer.proofs.Openings.{begins-with}
 
 -- ---- literals
 
@@ -32,8 +33,9 @@ plain-empty None = refl
 plain-empty (Some ty.Bool) = refl
 plain-empty (Some ty.Int) = refl
 plain-empty (Some ty.Dint) = refl
+plain-empty (Some ty.Lint) = refl
 
-of-some : (m : ℕ) (f : ℕ → ℤ) (o : Option ℕ) (l : Literal) → literal_of m f o ≡ Some l → l.len ≡ m
+pub of-some : (m : ℕ) (f : ℕ → ℤ) (o : Option ℕ) (l : Literal) → literal_of m f o ≡ Some l → l.len ≡ m
 of-some m f None l e = absurd cc
 of-some m f (Some n) l e = cc
 
@@ -49,6 +51,7 @@ no-sign None e = cc
 no-sign (Some ty.Bool) e = cc
 no-sign (Some ty.Int) e = cc
 no-sign (Some ty.Dint) e = cc
+no-sign (Some ty.Lint) e = cc
 
 signed-len : (t : Option Ty) (s : List ℕ) → signed t s ≡ true → length (run (drop 1 s)) + 1 ≤ length s
 signed-len t [] e = absurd (no-sign t e)
@@ -58,7 +61,7 @@ either : (t : Bool) (x y : Option Literal) (l : Literal) (P : Type 0) → cond t
 either true x y l P e f g = f refl e
 either false x y l P e f g = g refl e
 
-literal-sized : (t : Option Ty) (s : List ℕ) (l : Literal) → literal_at t s ≡ Some l → (0 < l.len) × (l.len ≤ length s)
+pub literal-sized : (t : Option Ty) (s : List ℕ) (l : Literal) → literal_at t s ≡ Some l → (0 < l.len) × (l.len ≤ length s)
 unfolding literal_at
 literal-sized t s l e =
     either (signed t s) _ _ l _ e
@@ -71,7 +74,7 @@ literal-within t s (Some l) e = (literal-sized t s l (sym e)).1
 
 -- ---- openings
 
-begins-is : (w s : List ℕ) → begins w s ≡ true → w ≡ take (length w) s
+pub begins-is : (w s : List ℕ) → begins w s ≡ true → w ≡ take (length w) s
 begins-is w s e = same_text w (take (length w) s) (sym e)
 
 begins-len : (w s : List ℕ) → begins w s ≡ true → length w ≤ length s
@@ -85,28 +88,6 @@ Fronts opens.Word s = is_word (slice_index s 0) ≡ true
 Fronts (opens.Symbol y) s = length (spelling y) ≤ length s
 Fronts _ s = Unit {0}
 
-chosen : (P : Opening → Type 0) (t : Bool) (x y : Opening) → (t ≡ true → P x) → (t ≡ false → P y) → P (cond t x y)
-chosen P true x y f g = f refl
-chosen P false x y f g = g refl
-
-symbol-chosen : (t : Bool) (y : Sym) (o : Option Sym) (s : List ℕ) → (t ≡ true → length (spelling y) ≤ length s) → Fronts (symbol_opening o) s → Fronts (symbol_opening (cond t (Some y) o)) s
-symbol-chosen true y o s f g = f refl
-symbol-chosen false y o s f g = g
-
-symbol-front : (ys : List Sym) (s : List ℕ) → Fronts (symbol_opening (symbol_among ys s)) s
-unfolding symbol_among
-symbol-front [] s = tt
-symbol-front (y ∷ ys) s =
-    symbol-chosen (begins (spelling y) s) y (symbol_among ys s) s (begins-len (spelling y) s) (symbol-front ys s)
-
-word-front : (t : Option Ty) (s : List ℕ) → is_word (slice_index s 0) ≡ true → Fronts (word_opening t) s
-word-front None s e = e
-word-front (Some t) s e = tt
-
-both : (t u : Bool) → t && u ≡ true → u ≡ true
-both true u e = e
-both false u e = absurd cc
-
 word-byte : (t u : Bool) → t ≡ true → t || u ≡ true
 word-byte true u e = refl
 word-byte false u e = absurd cc
@@ -117,19 +98,16 @@ line-front (b ∷ s) e =
     let h : b ≡ 47 = sym (ap (λ (l : List ℕ). slice_index l 0) (begins-is (codes "//") (b ∷ s) e)) in
     rw h refl
 
-fronts : (p : ℕ) (s : List ℕ) → Fronts (opening p s) s
-unfolding opening
-fronts p s =
-    let P : Opening → Type 0 = λ o. Fronts o s in
-    chosen P (is_blank (slice_index s 0)) _ _ (λ _. tt)
-    (λ _. chosen P (p == 0 && begins order_mark s) _ _ (λ e. begins-len order_mark s (both (p == 0) _ e))
-    (λ _. chosen P (begins (codes "(*") s) _ _ (λ _. tt)
-    (λ _. chosen P (begins (codes "/*") s) _ _ (λ _. tt)
-    (λ _. chosen P (begins (codes "//") s) _ _ (λ e. line-front s e)
-    (λ _. chosen P (begins_word (slice_index s 0)) _ _ (λ e. word-front (type_at s) s (word-byte _ _ e))
-    (λ _. chosen P (is_ascii_digit (slice_index s 0)) _ _ (λ _. tt)
-    (λ _. chosen P (slice_index s 0 == 38) _ _ (λ _. tt)
-    (λ _. symbol-front all_symbols s))))))))
+fronts : (p : ℕ) (s : List ℕ) (o : Opening) → Begins p s o → Fronts o s
+fronts p s opens.Blank h = tt
+fronts p s opens.OrderMark h = begins-len order_mark s h.1
+fronts p s (opens.Comment last) h = tt
+fronts p s opens.LineComment h = line-front s h
+fronts p s opens.Word h = word-byte (begins_word (slice_index s 0)) _ h.0
+fronts p s (opens.Literal t) h = tt
+fronts p s opens.Ampersand h = tt
+fronts p s (opens.Symbol y) h = begins-len (spelling y) s (symbol-begins s y h.1)
+fronts p s opens.Nothing h = tt
 
 symbol-pos : (y : Sym) → 0 < length (spelling y)
 symbol-pos symbol.Assign = omega arith
@@ -168,26 +146,21 @@ by_front (opens.Symbol y) s n t h f st = (omega (arith, st.0, symbol-pos y), ome
 by_front opens.Nothing s n t h f st = absurd st
 
 -- what stands has some bytes, and no more than there are
-pub stands-within : (p : ℕ) (s : List ℕ) (n : ℕ) (t : Option Tok) → 0 < length s → Stands (opening p s) s n t → (0 < n) × (n ≤ length s)
-stands-within p s n t h st = by_front (opening p s) s n t h (fronts p s) st
+pub stands-within : (p : ℕ) (s : List ℕ) (n : ℕ) (t : Option Tok) → 0 < length s → StandsAt p s n t → (0 < n) × (n ≤ length s)
+stands-within p s n t h st = by_front st.0 s n t h (fronts p s st.0 st.1) st.2
 
-pub finds-within : (p : ℕ) (s : List ℕ) (f : Found) → 0 < length s → Finds (opening p s) s f → IsWithin (length s) f
+pub finds-within : (p : ℕ) (s : List ℕ) (f : Found) → 0 < length s → FindsAt p s f → IsWithin (length s) f
 finds-within p s (found.Piece t n) h st = stands-within p s n t h st
 finds-within p s (found.Refused r) h st = tt
 
 -- ---- the longest symbol
-
-two-bytes : (z : Sym) (s : List ℕ) → begins (spelling z) s ≡ true → spelling z ++ drop (length (spelling z)) s ≡ s
-two-bytes z s e =
-    ap (λ (l : List ℕ). l ++ drop (length (spelling z)) s) (begins-is (spelling z) s e)
-    ∙ take-append-drop (length (spelling z)) s
 
 same-symbol : (y z : Sym) (o : Option Sym) → o ≡ Some y → o ≡ Some z → y ≡ z
 same-symbol y z o e f = cc
 
 found-first : (z y : Sym) (s : List ℕ) → ((r : List ℕ) → symbol_among all_symbols (spelling z ++ r) ≡ Some z) → symbol_among all_symbols s ≡ Some y → begins (spelling z) s ≡ true → length (spelling z) ≤ length (spelling y)
 found-first z y s f e b =
-    let g = ap (λ (l : List ℕ). symbol_among all_symbols l) (sym (two-bytes z s b)) ∙ f (drop (length (spelling z)) s) in
+    let g = ap (λ (l : List ℕ). symbol_among all_symbols l) (sym (begins-with (spelling z) s b)) ∙ f (drop (length (spelling z)) s) in
     let h = same-symbol y z _ e g in omega (arith, ap (λ (x : Sym). length (spelling x)) h)
 
 pub longest-symbol : (s : List ℕ) (y z : Sym) → symbol_among all_symbols s ≡ Some y → begins (spelling z) s ≡ true → length (spelling z) ≤ length (spelling y)

@@ -18,7 +18,9 @@ use Rattle.st_lexer.specs.Literals.{is_word, literal_at, prefix}
 use Rattle.st_lexer.specs.Spots.{is_not_lf}
 use Rattle.st_lexer.specs.Symbols.{spelling}
 use Rattle.st_lexer.specs.Words.{word}
-use Rattle.st_lexer.specs.Reading.{opening, Closes, ClosesFirst, Stands, Refuses, Cover, Reads, LexAt}
+use Rattle.st_lexer.specs.Reading.{Closes, ClosesFirst, Stands, Refuses, StandsAt, RefusedAt, Cover, Reads, LexAt}
+use Rattle.st_lexer.specs.Pieces.{opening}
+use Rattle.st_lexer.proofs.Openings.{found-stands, found-refused}
 use Rattle.st_lexer.proofs.Covers.{Upto, upto-start, upto-more}
 use Rattle.st_lexer.proofs.Fronts.{stands-within}
 
@@ -76,13 +78,19 @@ decided opens.Ampersand s = inl (1, Some (tok.Key key.And), (refl, refl))
 decided (opens.Symbol y) s = inl (length (spelling y), Some (tok.Sym y), (refl, refl))
 decided opens.Nothing s = inr (reason.Byte, refl)
 
+decided-at : (p : ℕ) (s : List ℕ) → ((n : ℕ) × (t : Option Tok) × StandsAt p s n t) ⊎ ((r : Reason) × RefusedAt p s r)
+decided-at p s = elim (decided (opening p s) s) [
+  | inl st ↦ inl (st.0, st.1, found-stands p s st.0 st.1 st.2)
+  | inr ref ↦ inr (ref.0, found-refused p s ref.0 ref.1)
+]
+
 from-place : (text : List ℕ) (fuel at : ℕ) (ts : List Token) → length text ≤ fuel + at → at ≤ length text → Upto text ts at
     → ((us : List Token) × Reads text us) ⊎ ((p : ℕ) × (r : Reason) × LexAt text p r)
 from-place text zero at ts h le u =
     let e : at ≡ length text = omega arith in
     inl (ts, (u.pieces, subst (λ i. Cover text u.pieces 0 i) e u.cover, u.tokens))
 from-place text (suc fuel) at ts h le u = elim (order at (length text)) [
-  | inl lt ↦ elim (decided (opening at (drop at text)) (drop at text)) [
+  | inl lt ↦ elim (decided-at at (drop at text)) [
     | inl st ↦
         let some : 0 < length (drop at text) = omega (arith, length-drop at text) in
         let w = stands-within at (drop at text) st.0 st.1 some st.2 in

@@ -4,4 +4,5 @@ pub mod Reading
 pub mod Spots
 pub mod Symbols
 pub mod TokenList
+pub mod TokenSpellings
 pub mod Words

@@ -1,5 +1,5 @@
 -- Literals: digits in the bases 2, 8, 10 and 16, after a type or without one.
-use Rattle.std.specs.Prelude.{ℕ, ℤ, pos, neg_ℤ, ◌+◌, ◌-◌, ◌*◌, ◌^◌, ◌==◌, Bool, true, false, ◌&&◌, ◌||◌, nat_lt, List, [], ◌∷◌, ◌++◌, length, take, drop, slice_index, Option, Some, None, if◌then◌else◌, codes}
+use Rattle.std.specs.Prelude.{◌≡◌, ℕ, ℤ, pos, neg_ℤ, ◌+◌, ◌-◌, ◌*◌, ◌^◌, ◌==◌, Bool, true, false, ◌&&◌, ◌||◌, nat_lt, List, [], ◌∷◌, ◌++◌, length, take, drop, slice_index, Option, Some, None, if◌then◌else◌, codes}
 use Rattle.std.specs.List.{prefix_len}
 use Rattle.std.specs.Char.{is_ascii_digit, is_ascii_alphabetic, is_ascii_uppercase, is_ascii_lowercase}
 use Rattle.std.specs.Str.{str_eq_ignore_ascii_case}
@@ -63,22 +63,21 @@ prefix (Some t) = ty_name t ++ codes "#"
 abbrev pub begins_typed : Ty → List ℕ → Bool
 begins_typed t s = str_eq_ignore_ascii_case (take (length (prefix (Some t))) s) (prefix (Some t))
 
--- the type of the typed literal that begins at s
-unfoldable pub type_at : List ℕ → Option Ty
-type_at s =
-    if begins_typed ty.Bool s then Some ty.Bool
-    else (if begins_typed ty.Int s then Some ty.Int
-    else (if begins_typed ty.Dint s then Some ty.Dint
-    else None))
+-- a literal begins at s: one of a type by its word and `#`, one without by a digit
+abbrev pub BeginsLiteral : Option Ty → List ℕ → Type 0
+BeginsLiteral None s = is_ascii_digit (slice_index s 0) ≡ true
+BeginsLiteral (Some t) s = begins_typed t s ≡ true
 
--- INT and DINT take a sign
+-- INT, DINT and LINT take a sign
 abbrev pub takes_sign : Option Ty → Bool
 takes_sign None = false
 takes_sign (Some ty.Bool) = false
 takes_sign (Some ty.Int) = true
 takes_sign (Some ty.Dint) = true
+takes_sign (Some ty.Lint) = true
 
--- the text s, behind a prefix, begins with a sign that belongs to the literal, `+` (43) or `-` (45); without decimal digits behind it there is no literal, with the sign or without
+-- the text s, behind a prefix, begins with a sign that belongs to the literal, `+` (43) or `-` (45); without decimal digits behind it there is no
+-- literal, with the sign or without
 abbrev pub signed : Option Ty → List ℕ → Bool
 signed t s = takes_sign t && (slice_index s 0 == 43 || slice_index s 0 == 45)
 
@@ -94,6 +93,7 @@ plain (Some ty.Bool) r =
     else based r)
 plain (Some ty.Int) r = based r
 plain (Some ty.Dint) r = based r
+plain (Some ty.Lint) r = based r
 plain None r = based r
 
 -- the value of a number behind a sign: 45 is `-`
@@ -105,7 +105,8 @@ abbrev pub literal_of : ℕ → (ℕ → ℤ) → Option ℕ → Option Literal
 literal_of bytes value None = None
 literal_of bytes value (Some n) = Some (record { value = value n; len = bytes })
 
--- the literal of a type (None: of none) that begins at s, where its prefix is left out; no literal where its run is none of the forms, or its number is above 2^63 - 1
+-- the literal of a type (None: of none) that begins at s, where its prefix is left out; no literal where its run is none of the forms, or its number
+-- is above 2^63 - 1
 unfoldable pub literal_at : Option Ty → List ℕ → Option Literal
 literal_at t s =
     if signed t s then literal_of (length (run (drop 1 s)) + 1) (with_sign (slice_index s 0)) (digits 10 (run (drop 1 s)))

@@ -1,11 +1,10 @@
 -- The one reading of a text: pieces that adjoin, each a gap or, where no gap begins, the longest token at its place.
-use Rattle.std.specs.Prelude.{◌≡◌, ℕ, ◌+◌, ◌<◌, ◌≤◌, ◌==◌, Bool, ◌&&◌, ◌||◌, List, [], ◌∷◌, ◌++◌, length, take, drop, slice_index, Option, Some, None, if◌then◌else◌, codes}
+use Rattle.std.specs.Prelude.{◌≡◌, ◌⊎◌, ℕ, ◌+◌, ◌<◌, ◌≤◌, ◌==◌, Bool, true, false, ◌&&◌, ◌||◌, List, [], ◌∷◌, ◌++◌, length, take, drop, slice_index, Option, Some, None, codes}
 use Rattle.std.specs.List.{prefix_len}
 use Rattle.std.specs.Char.{is_ascii_digit}
 use Rattle.vcp_base.specs.declared.spot.Spot.{Spot}
 use Rattle.vcp_base.specs.declared.ty.Ty.{Ty}
 use Rattle.st_lexer.specs.declared.token.Key.TheVariants as key
-use Rattle.st_lexer.specs.declared.token.Sym.{Sym}
 use Rattle.st_lexer.specs.declared.token.Tok.{Tok}
 use Rattle.st_lexer.specs.declared.token.Tok.TheVariants as tok
 use Rattle.st_lexer.specs.declared.token.Token.{Token}
@@ -16,7 +15,7 @@ use Rattle.st_lexer.specs.declared.fault.LexFault.TheVariants as fault
 use Rattle.st_lexer.specs.declared.literal.Literal.{Literal}
 use Rattle.st_lexer.specs.declared.piece.Opening.{Opening}
 use Rattle.st_lexer.specs.declared.piece.Opening.TheVariants as opens
-use Rattle.st_lexer.specs.Literals.{begins_word, is_word, prefix, type_at, literal_at}
+use Rattle.st_lexer.specs.Literals.{begins_word, is_word, prefix, begins_typed, BeginsLiteral, literal_at}
 use Rattle.st_lexer.specs.Spots.{is_not_lf, spot_at}
 use Rattle.st_lexer.specs.Symbols.{all_symbols, begins, spelling, symbol_among}
 use Rattle.st_lexer.specs.Words.{word}
@@ -29,28 +28,32 @@ is_blank b = b == 32 || b == 9 || b == 13 || b == 10
 abbrev pub order_mark : List ℕ
 order_mark = 239 ∷ 187 ∷ 191 ∷ []
 
--- a word, or a literal where the word is a type that `#` follows
-abbrev pub word_opening : Option Ty → Opening
-word_opening None = opens.Word
-word_opening (Some t) = opens.Literal (Some t)
+-- a comment opens that `*` and the byte `last` close: `)` (41) one that `(*` opens, `/` (47) one that `/*` opens
+abbrev pub OpensComment : ℕ → List ℕ → Type 0
+OpensComment last s = ((last ≡ 41) × (begins (codes "(*") s ≡ true)) ⊎ ((last ≡ 47) × (begins (codes "/*") s ≡ true))
 
--- a symbol, or nothing
-abbrev pub symbol_opening : Option Sym → Opening
-symbol_opening None = opens.Nothing
-symbol_opening (Some y) = opens.Symbol y
+-- a gap begins at place p of a text, where s is the text from there on: a blank, the order mark at the very front, or a comment
+abbrev pub begins_gap : ℕ → List ℕ → Bool
+begins_gap p s =
+    is_blank (slice_index s 0) || ((begins order_mark s && p == 0) || (begins (codes "(*") s || (begins (codes "/*") s || begins (codes "//") s)))
 
--- what begins at place p of a text, where s is the text from there on; gaps come first (38 is `&`, 41 is `)`, 47 is `/`)
-unfoldable pub opening : ℕ → List ℕ → Opening
-opening p s =
-    if is_blank (slice_index s 0) then opens.Blank
-    else (if p == 0 && begins order_mark s then opens.OrderMark
-    else (if begins (codes "(*") s then opens.Comment 41
-    else (if begins (codes "/*") s then opens.Comment 47
-    else (if begins (codes "//") s then opens.LineComment
-    else (if begins_word (slice_index s 0) then word_opening (type_at s)
-    else (if is_ascii_digit (slice_index s 0) then opens.Literal None
-    else (if slice_index s 0 == 38 then opens.Ampersand
-    else symbol_opening (symbol_among all_symbols s))))))))
+-- a byte with which a token begins that is no symbol: a word, a literal, or `&` (38)
+abbrev pub begins_token : ℕ → Bool
+begins_token b = begins_word b || (is_ascii_digit b || b == 38)
+
+-- What begins at place p of a text, where s is the text from there on. A symbol, the longest with which s begins, is one
+-- only where no gap begins; nothing begins where no gap, token or literal does.
+abbrev pub Begins : ℕ → List ℕ → Opening → Type 0
+Begins p s opens.Blank = is_blank (slice_index s 0) ≡ true
+Begins p s opens.OrderMark = (p ≡ 0) × (begins order_mark s ≡ true)
+Begins p s (opens.Comment last) = OpensComment last s
+Begins p s opens.LineComment = begins (codes "//") s ≡ true
+Begins p s opens.Word = (begins_word (slice_index s 0) ≡ true) × ((t : Ty) → begins_typed t s ≡ false)
+Begins p s (opens.Literal t) = BeginsLiteral t s
+Begins p s opens.Ampersand = (slice_index s 0 == 38) ≡ true
+Begins p s (opens.Symbol y) = (begins_gap p s ≡ false) × (symbol_among all_symbols s ≡ Some y)
+Begins p s opens.Nothing =
+    (begins_gap p s ≡ false) × (begins_token (slice_index s 0) ≡ false) × (symbol_among all_symbols s ≡ None)
 
 -- the mark that closes a comment, `*` (42) and one more byte, stands at k
 abbrev pub Closes : ℕ → List ℕ → ℕ → Type 0
@@ -61,7 +64,7 @@ abbrev pub ClosesFirst : ℕ → List ℕ → ℕ → Type 0
 ClosesFirst last s n =
     (k : ℕ) × (n ≡ k + 2) × (2 ≤ k) × Closes last s k × ((j : ℕ) → 2 ≤ j → j < k → Closes last s j → ⊥)
 
--- n bytes at the front of s are a gap (None) or a token, by what begins there
+-- n bytes at the front of s are a gap (None) or a token, where this begins there
 abbrev pub Stands : Opening → List ℕ → ℕ → Option Tok → Type 0
 Stands opens.Blank s n t = (n ≡ 1) × (t ≡ None)
 Stands opens.OrderMark s n t = (n ≡ 3) × (t ≡ None)
@@ -75,12 +78,20 @@ Stands opens.Ampersand s n t = (n ≡ 1) × (t ≡ Some (tok.Key key.And))
 Stands (opens.Symbol y) s n t = (n ≡ length (spelling y)) × (t ≡ Some (tok.Sym y))
 Stands opens.Nothing s n t = ⊥
 
--- no piece stands at the front of s, for this reason
+-- no piece stands at the front of s, where this begins there, for this reason
 abbrev pub Refuses : Opening → List ℕ → Reason → Type 0
 Refuses opens.Nothing s r = r ≡ reason.Byte
 Refuses (opens.Comment last) s r = (r ≡ reason.Comment) × ((k : ℕ) → 2 ≤ k → Closes last s k → ⊥)
 Refuses (opens.Literal ty) s r = (r ≡ reason.Number) × (literal_at ty (drop (length (prefix ty)) s) ≡ None)
 Refuses _ s r = ⊥
+
+-- n bytes at place p of a text, where s is the text from there on, are a gap (None) or a token
+abbrev pub StandsAt : ℕ → List ℕ → ℕ → Option Tok → Type 0
+StandsAt p s n t = (o : Opening) × Begins p s o × Stands o s n t
+
+-- no piece stands there, for this reason
+abbrev pub RefusedAt : ℕ → List ℕ → Reason → Type 0
+RefusedAt p s r = (o : Opening) × Begins p s o × Refuses o s r
 
 -- a piece of a text, with its token unless it is a gap
 pub record Piece : Type 0 where
@@ -92,7 +103,7 @@ pub record Piece : Type 0 where
 abbrev pub IsPiece : List ℕ → Piece → Type 0
 IsPiece text p =
     (n : ℕ) × (0 < n) × (p.to ≡ p.from + n) × (p.to ≤ length text)
-    × Stands (opening p.from (drop p.from text)) (drop p.from text) n p.is
+    × StandsAt p.from (drop p.from text) n p.is
 
 -- pieces that adjoin, and cover the text from a to b
 abbrev pub Cover : List ℕ → List Piece → ℕ → ℕ → Type 0
@@ -119,7 +130,7 @@ IsInside text t = (t.from < t.to) × (t.to ≤ length text)
 -- pieces cover the text up to byte p, and none stands there, for this reason
 abbrev pub LexAt : List ℕ → ℕ → Reason → Type 0
 LexAt text p r =
-    (ps : List Piece) × Cover text ps 0 p × (p < length text) × Refuses (opening p (drop p text)) (drop p text) r
+    (ps : List Piece) × Cover text ps 0 p × (p < length text) × RefusedAt p (drop p text) r
 
 -- a fault at this spot is told for this reason: the reading goes no further than the spot's byte
 abbrev pub StopsAt : List ℕ → Spot → Reason → Type 0

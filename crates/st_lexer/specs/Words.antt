@@ -19,6 +19,7 @@ spelling key.EndVar = codes "END_VAR"
 spelling key.Bool = codes "BOOL"
 spelling key.Int = codes "INT"
 spelling key.Dint = codes "DINT"
+spelling key.Lint = codes "LINT"
 spelling key.If = codes "IF"
 spelling key.Then = codes "THEN"
 spelling key.Elsif = codes "ELSIF"
@@ -39,7 +40,6 @@ spelling key.Not = codes "NOT"
 spelling key.Mod = codes "MOD"
 spelling key.True = codes "TRUE"
 spelling key.False = codes "FALSE"
-spelling key.Lint = codes "LINT"
 spelling key.Sint = codes "SINT"
 spelling key.Usint = codes "USINT"
 spelling key.Uint = codes "UINT"
@@ -65,11 +65,11 @@ spelling key.FunctionBlock = codes "FUNCTION_BLOCK"
 abbrev pub all_keys : List Key
 all_keys =
     key.Program ∷ key.EndProgram ∷ key.Var ∷ key.VarInput ∷ key.VarOutput ∷ key.Constant ∷
-    key.Retain ∷ key.EndVar ∷ key.Bool ∷ key.Int ∷ key.Dint ∷ key.If ∷
-    key.Then ∷ key.Elsif ∷ key.Else ∷ key.EndIf ∷ key.Case ∷ key.Of ∷
-    key.EndCase ∷ key.For ∷ key.To ∷ key.By ∷ key.Do ∷ key.EndFor ∷
-    key.And ∷ key.Or ∷ key.Xor ∷ key.Not ∷ key.Mod ∷ key.True ∷
-    key.False ∷ key.Lint ∷ key.Sint ∷ key.Usint ∷ key.Uint ∷ key.Udint ∷
+    key.Retain ∷ key.EndVar ∷ key.Bool ∷ key.Int ∷ key.Dint ∷ key.Lint ∷
+    key.If ∷ key.Then ∷ key.Elsif ∷ key.Else ∷ key.EndIf ∷ key.Case ∷
+    key.Of ∷ key.EndCase ∷ key.For ∷ key.To ∷ key.By ∷ key.Do ∷
+    key.EndFor ∷ key.And ∷ key.Or ∷ key.Xor ∷ key.Not ∷ key.Mod ∷
+    key.True ∷ key.False ∷ key.Sint ∷ key.Usint ∷ key.Uint ∷ key.Udint ∷
     key.Ulint ∷ key.Real ∷ key.Lreal ∷ key.String ∷ key.Time ∷ key.Array ∷
     key.Struct ∷ key.While ∷ key.Repeat ∷ key.Until ∷ key.Exit ∷ key.Continue ∷
     key.Return ∷ key.At ∷ key.Function ∷ key.FunctionBlock ∷ []

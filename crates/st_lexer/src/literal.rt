@@ -114,6 +114,7 @@ fn plain(ty: Option<Ty>, run: &[u8]) -> Option<u64>
         }
         Some(Ty::Int) => based(run),
         Some(Ty::Dint) => based(run),
+        Some(Ty::Lint) => based(run),
         None => based(run),
     }
 }
@@ -124,6 +125,7 @@ fn takes_sign(ty: Option<Ty>) -> bool
     match ty {
         Some(Ty::Int) => true,
         Some(Ty::Dint) => true,
+        Some(Ty::Lint) => true,
         Some(Ty::Bool) => false,
         None => false,
     }

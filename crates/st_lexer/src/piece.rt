@@ -3,11 +3,11 @@
 ghost use Rattle.std.specs.Prelude.{◌≡◌, ◌==◌, ◌&&◌, ◌∷◌, ◌+◌, ◌<◌, ◌≤◌, ℕ, length, take, IfSome, IfNone, Some, None};
 ghost use Rattle.std.specs.List.{prefix_len};
 ghost use Rattle.std.specs.Str.{str_eq_ignore_ascii_case};
-ghost use Rattle.st_lexer.specs.Literals.{type_at as type_of, prefix, is_word as is_word_byte};
+ghost use Rattle.st_lexer.specs.Literals.{prefix, is_word as is_word_byte};
 ghost use Rattle.st_lexer.specs.Spots.{is_not_lf};
 ghost use Rattle.st_lexer.specs.Symbols.{all_symbols, symbol_among, begins as begins_with};
 ghost use Rattle.st_lexer.specs.declared.piece.Opening.TheVariants.{Comment, Word, Literal};
-ghost use Rattle.st_lexer.specs.Pieces.{Finds, IsWithin};
+ghost use Rattle.st_lexer.specs.Pieces as pieces;
 ghost use Rattle.st_lexer.specs.Reading as spec;
 
 use crate::fault::Reason;
@@ -60,9 +60,9 @@ fn begins(rest: &[u8], word: &[u8]) -> bool
 }
 
 // The type of the typed literal that begins at the front.
-#[tactic(auto, unfolding(crate::specs::Literals::type_at))]
+#[tactic(auto, unfolding(crate::specs::Pieces::type_at))]
 fn type_at(rest: &[u8]) -> Option<Ty>
-    ensures { result ≡ type_of rest.now }
+    ensures { result ≡ pieces.type_at rest.now }
 {
     if begins(rest, b"BOOL#") {
         Some(Ty::Bool)
@@ -70,6 +70,8 @@ fn type_at(rest: &[u8]) -> Option<Ty>
         Some(Ty::Int)
     } else if begins(rest, b"DINT#") {
         Some(Ty::Dint)
+    } else if begins(rest, b"LINT#") {
+        Some(Ty::Lint)
     } else {
         None
     }
@@ -85,11 +87,12 @@ fn prefix_len_of(ty: Option<Ty>) -> usize
         Some(Ty::Bool) => 5,
         Some(Ty::Int) => 4,
         Some(Ty::Dint) => 5,
+        Some(Ty::Lint) => 5,
     }
 }
 
 fn word_opening(rest: &[u8]) -> Opening
-    ensures { result ≡ spec.word_opening (type_of rest.now) }
+    ensures { result ≡ pieces.word_opening (pieces.type_at rest.now) }
 {
     match type_at(rest) {
         Some(ty) => Opening::Literal(Some(ty)),
@@ -98,7 +101,7 @@ fn word_opening(rest: &[u8]) -> Opening
 }
 
 fn symbol_opening(rest: &[u8]) -> Opening
-    ensures { result ≡ spec.symbol_opening (symbol_among all_symbols rest.now) }
+    ensures { result ≡ pieces.symbol_opening (symbol_among all_symbols rest.now) }
 {
     match symbol_of(rest) {
         Some(symbol) => Opening::Symbol(symbol),
@@ -107,15 +110,15 @@ fn symbol_opening(rest: &[u8]) -> Opening
 }
 
 fn begins_order_mark(at: usize, rest: &[u8]) -> bool
-    ensures { result ≡ (at == 0 && begins_with spec.order_mark rest.now) }
+    ensures { result ≡ (begins_with spec.order_mark rest.now && at == 0) }
 {
-    at == 0 && rest.starts_with(&[0xef, 0xbb, 0xbf])
+    rest.starts_with(&[0xef, 0xbb, 0xbf]) && at == 0
 }
 
 /// What begins at place `at` of a text; `rest` is the text from there on.
-#[tactic(auto, unfolding(crate::specs::Reading::opening))]
+#[tactic(auto, unfolding(crate::specs::Pieces::opening))]
 fn opening_at(at: usize, rest: &[u8]) -> Opening
-    ensures { result ≡ spec.opening at rest.now }
+    ensures { result ≡ pieces.opening at rest.now }
 {
     let first = first(rest);
     if is_blank(first) {
@@ -167,7 +170,7 @@ fn comment_end(last: u8, rest: &[u8]) -> Option<usize>
 }
 
 fn comment_piece(last: u8, rest: &[u8]) -> Found
-    ensures { Finds (Comment last) rest.now result }
+    ensures { pieces.Finds (Comment last) rest.now result }
 {
     match comment_end(last, rest) {
         Some(n) => Found::Piece(None, n),
@@ -176,14 +179,14 @@ fn comment_piece(last: u8, rest: &[u8]) -> Found
 }
 
 fn word_piece(rest: &[u8]) -> Found
-    ensures { Finds Word rest.now result }
+    ensures { pieces.Finds Word rest.now result }
 {
     let n = word_len(rest);
     Found::Piece(Some(word_token(front(rest, n))), n)
 }
 
 fn literal_piece(ty: Option<Ty>, rest: &[u8]) -> Found
-    ensures { Finds (Literal ty) rest.now result }
+    ensures { pieces.Finds (Literal ty) rest.now result }
 {
     let skipped = prefix_len_of(ty);
     match literal_at(ty, behind(rest, skipped)) {
@@ -196,7 +199,7 @@ fn literal_piece(ty: Option<Ty>, rest: &[u8]) -> Found
 }
 
 fn found_at(at: usize, rest: &[u8]) -> Found
-    ensures { Finds (spec.opening at rest.now) rest.now result }
+    ensures { pieces.Finds (pieces.opening at rest.now) rest.now result }
 {
     match opening_at(at, rest) {
         Opening::Blank => Found::Piece(None, 1),
@@ -214,8 +217,8 @@ fn found_at(at: usize, rest: &[u8]) -> Found
 /// What stands at place `at` of a text; `rest` is the text from there on.
 pub fn piece_at(at: usize, rest: &[u8]) -> Found
     requires { 0 < length rest.now }
-    ensures finds { Finds (spec.opening at rest.now) rest.now result }
-    ensures within { IsWithin (length rest.now) result }
+    ensures finds { pieces.FindsAt at rest.now result }
+    ensures within { pieces.IsWithin (length rest.now) result }
 {
     found_at(at, rest)
 }

@@ -1,14 +1,17 @@
 //! The reading of a text.
 
-ghost use Rattle.std.specs.Prelude.{◌≡◌, ◌+◌, ◌≤◌, ◌<◌, ◌^◌, ◌++◌, ◌⊎◌, ℕ, List, length, IfOk, IfErr, OnOk, Some, None, true, false, All};
+ghost use Rattle.std.specs.Prelude.{◌≡◌, ◌+◌, ◌≤◌, ◌<◌, ◌^◌, ◌++◌, ◌⊎◌, ℕ, List, length, take, IfOk, IfErr, OnOk, Some, None, true, false, All};
 ghost use Rattle.vcp_base.specs.Limits.{most_source_bytes};
 ghost use Rattle.st_lexer.specs.Reading as spec;
 ghost use Rattle.st_lexer.specs.Spots.{spot_at};
 ghost use Rattle.st_lexer.specs.Symbols.{all_symbols, begins, spelling, symbol_among};
+ghost use Rattle.st_lexer.specs.TokenSpellings.{IsSpelling};
 ghost use Rattle.st_lexer.specs.Words.{word, spelling as word_spelling};
 ghost use Rattle.st_lexer.specs.declared.token.Key.{Key};
 ghost use Rattle.st_lexer.specs.declared.token.Sym.{Sym};
+ghost use Rattle.st_lexer.specs.declared.token.Tok.{Tok};
 ghost use Rattle.st_lexer.specs.declared.token.Tok.TheVariants as tok;
+ghost use Rattle.st_lexer.specs.declared.piece.Opening.{Opening};
 ghost use Rattle.st_lexer.specs.declared.fault.Reason.{Reason};
 ghost use Rattle.st_lexer.specs.declared.token.Token.{Token};
 
@@ -30,7 +33,8 @@ fn add(
     spot: Spot,
 ) -> Result<(), Memory>
     requires { from + len < 2 ^ 32 }
-    ensures ok { OnOk result ((text : List ℕ) → spot ≡ spot_at text from → tokens.new.tokens ≡ tokens.old.tokens ++ spec.token_of text (record { from = from; to = from + len; is = tok }) tok) }
+    ensures ok { OnOk result ((text : List ℕ) → spot ≡ spot_at text from
+        → tokens.new.tokens ≡ tokens.old.tokens ++ spec.token_of text (record { from = from; to = from + len; is = tok }) tok) }
 {
     match tok {
         Some(tok) => tokens.push(Token {
@@ -73,10 +77,10 @@ pub fn lex(alloc: Global, text: &[u8]) -> Result<Tokens, LexFault>
 }
 
 /// The laws of a reading. Every text has one, or a place at which no reading goes on, and not both;
-/// the reading is one, with its gaps, and so are the place and its reason. Each token stands inside the
-/// text. Of the symbols with which
-/// a text begins the longest is taken, and none only where it begins with none. Each reserved word is
-/// found by its spelling.
+/// the reading is one, with its gaps, and so are the place and its reason. At each place one thing
+/// begins. Each token stands inside the text, and only where no gap begins; its bytes are a spelling of
+/// it, and no token has a longer spelling at its place. Of the symbols with which a text begins the longest is taken, and none only where it
+/// begins with none. Each reserved word is found by its spelling.
 pub fn one_reading()
     ensures total { (text : List ℕ) → ((a : List Token) × spec.Reads text a) ⊎ ((p : ℕ) × (r : Reason) × spec.LexAt text p r) }
     ensures pieces { (text : List ℕ) (ps qs : List spec.Piece) → spec.Cover text ps 0 (length text) → spec.Cover text qs 0 (length text) → ps ≡ qs }
@@ -85,8 +89,13 @@ pub fn one_reading()
     ensures either { (text : List ℕ) (a : List Token) (p : ℕ) (r : Reason) → spec.Reads text a → spec.LexAt text p r → ⊥ }
     ensures place { (text : List ℕ) (p q : ℕ) (r s : Reason) → spec.LexAt text p r → spec.LexAt text q s → p ≡ q }
     ensures reason { (text : List ℕ) (p q : ℕ) (r s : Reason) → spec.LexAt text p r → spec.LexAt text q s → r ≡ s }
+    ensures opens { (p : ℕ) (text : List ℕ) → (o : Opening) × spec.Begins p text o × ((q : Opening) → spec.Begins p text q → q ≡ o) }
+    ensures gaps { (p : ℕ) (text : List ℕ) (n : ℕ) (t : Tok) → spec.StandsAt p text n (Some t) → spec.begins_gap p text ≡ false }
+    ensures spelled { (p : ℕ) (text : List ℕ) (n : ℕ) (t : Tok) → 0 < length text → spec.StandsAt p text n (Some t) → IsSpelling t (take n text) }
+    ensures longest { (p : ℕ) (text : List ℕ) (n m : ℕ) (t u : Tok) → spec.StandsAt p text n (Some t) → m ≤ length text → IsSpelling u (take m text) → m ≤ n }
     ensures begins { (text : List ℕ) (y : Sym) → symbol_among all_symbols text ≡ Some y → begins (spelling y) text ≡ true }
-    ensures longest { (text : List ℕ) (y z : Sym) → symbol_among all_symbols text ≡ Some y → begins (spelling z) text ≡ true → length (spelling z) ≤ length (spelling y) }
+    ensures longest_symbol { (text : List ℕ) (y z : Sym) → symbol_among all_symbols text ≡ Some y → begins (spelling z) text ≡ true
+        → length (spelling z) ≤ length (spelling y) }
     ensures symbols { (text : List ℕ) (z : Sym) → symbol_among all_symbols text ≡ None → begins (spelling z) text ≡ false }
     ensures words { (k : Key) → word (word_spelling k) ≡ tok.Key k }
 {}

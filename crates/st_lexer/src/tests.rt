@@ -13,6 +13,7 @@ fn type_bytes(ty: Option<Ty>) -> &'static [u8] {
         Some(Ty::Bool) => b"BOOL ",
         Some(Ty::Int) => b"INT ",
         Some(Ty::Dint) => b"DINT ",
+        Some(Ty::Lint) => b"LINT ",
     }
 }
 
@@ -93,8 +94,8 @@ const TOKENS: [(&[u8], &[u8]); 40] = [
         b"PROGRAM END_PROGRAM VAR VAR_INPUT VAR_OUTPUT ",
     ),
     (
-        b"CONSTANT retain END_VAR bool INT dint",
-        b"CONSTANT RETAIN END_VAR BOOL INT DINT ",
+        b"CONSTANT retain END_VAR bool INT dint lInt",
+        b"CONSTANT RETAIN END_VAR BOOL INT DINT LINT ",
     ),
     (
         b"if then elsif else end_if case of end_case",
@@ -105,8 +106,8 @@ const TOKENS: [(&[u8], &[u8]); 40] = [
         b"FOR TO BY DO END_FOR AND OR XOR NOT MOD TRUE FALSE ",
     ),
     (
-        b"lint sint usint uint udint ulint real lreal string",
-        b"LINT SINT USINT UINT UDINT ULINT REAL LREAL STRING ",
+        b"sint usint uint udint ulint real lreal string",
+        b"SINT USINT UINT UDINT ULINT REAL LREAL STRING ",
     ),
     (
         b"time array struct while repeat until exit",
@@ -137,7 +138,7 @@ fn gaps_words_and_symbols(rt: HostRuntime) -> Result<(), Fail> {
     Ok(())
 }
 
-const LITERALS: [(&[u8], &[u8]); 25] = [
+const LITERALS: [(&[u8], &[u8]); 29] = [
     (b"1..2", b"1 .. 2 "),
     (b"0 007", b"0 7 "),
     (b"1_000", b"1000 "),
@@ -163,6 +164,13 @@ const LITERALS: [(&[u8], &[u8]); 25] = [
     (b"00009223372036854775807", b"9223372036854775807 "),
     (b"INT#-1..2", b"INT -1 .. 2 "),
     (b"INT#+0 BOOL#8#1", b"INT 0 BOOL 1 "),
+    (b"LINT#5", b"LINT 5 "),
+    (b"LINT#-5", b"LINT -5 "),
+    (b"lint#16#ff LINT#16#FF", b"LINT 255 LINT 255 "),
+    (
+        b"LINT#-9223372036854775807 Lint#9223372036854775807",
+        b"LINT -9223372036854775807 LINT 9223372036854775807 ",
+    ),
 ];
 
 #[test]
@@ -172,7 +180,7 @@ fn literals(rt: HostRuntime) -> Result<(), Fail> {
     Ok(())
 }
 
-const FAULTS: [(&[u8], &[u8]); 57] = [
+const FAULTS: [(&[u8], &[u8]); 60] = [
     (b"PROGRAM p (* x", b"comment 1:11"),
     (b"PROGRAM p {", b"byte 1:11"),
     (b"PROGRAM p y := 16#G; END_PROGRAM", b"number 1:16"),
@@ -225,7 +233,10 @@ const FAULTS: [(&[u8], &[u8]); 57] = [
     (b"16#1_", b"number 1:1"),
     (b"1_#2", b"number 1:1"),
     (b"02#1", b"number 1:1"),
-    (b"LINT#5", b"byte 1:5"),
+    (b"ULINT#5", b"byte 1:6"),
+    (b"LINT#9223372036854775808", b"number 1:1"),
+    (b"LINT#-9223372036854775808", b"number 1:1"),
+    (b"LINT#-16#7F", b"number 1:1"),
     (b"a\xef\xbb\xbfb", b"byte 1:2"),
     (b"00009223372036854775808", b"number 1:1"),
     (b"1 {  (*", b"byte 1:3"),

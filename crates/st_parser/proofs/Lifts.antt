@@ -354,7 +354,8 @@ module _ (bytes : Token → List ℕ) (m : ℕ) where
   flat-type o ds k t =
       flat-cond (is k (mark.Type ty.Bool)) (Ok (at_init o ds ty.Bool)) _ tt
       (flat-cond (is k (mark.Type ty.Int)) (Ok (at_init o ds ty.Int)) _ tt
-      (flat-cond (is k (mark.Type ty.Dint)) (Ok (at_init o ds ty.Dint)) (refused t) tt tt))
+      (flat-cond (is k (mark.Type ty.Dint)) (Ok (at_init o ds ty.Dint)) _ tt
+      (flat-cond (is k (mark.Type ty.Lint)) (Ok (at_init o ds ty.Lint)) (refused t) tt tt)))
 
   lifts-init : (o : Opening) (ds : List DeclaredTree) (ty : Ty) (fs : List Form) (md : Mode) (t : Token) (e : Option ExprTree) → Lifts (λ n. init_at (at_limit n) o ds ty fs md t e) m
   lifts-init o ds ty fs md t (Some e) = lifts-flat (λ n. init_at (at_limit n) o ds ty fs md t (Some e)) m (init_at (at_limit m) o ds ty fs md t (Some e)) (flat-cond (is (mark_of t.tok) mark.Semi) _ _ tt tt)

@@ -55,6 +55,7 @@ marked (tok.Key key.EndVar) = refl
 marked (tok.Key key.Bool) = refl
 marked (tok.Key key.Int) = refl
 marked (tok.Key key.Dint) = refl
+marked (tok.Key key.Lint) = refl
 marked (tok.Key key.If) = refl
 marked (tok.Key key.Then) = refl
 marked (tok.Key key.Elsif) = refl
@@ -75,7 +76,6 @@ marked (tok.Key key.Not) = tt
 marked (tok.Key key.Mod) = tt
 marked (tok.Key key.True) = tt
 marked (tok.Key key.False) = tt
-marked (tok.Key key.Lint) = tt
 marked (tok.Key key.Sint) = tt
 marked (tok.Key key.Usint) = tt
 marked (tok.Key key.Uint) = tt
@@ -145,7 +145,8 @@ numbered n =
     cond (n == 24) mark.By (
     cond (n == 25) mark.Do (
     cond (n == 26) mark.EndFor (
-    cond (n == 28) (mark.Type ty.Bool) (cond (n == 29) (mark.Type ty.Int) (cond (n == 30) (mark.Type ty.Dint) mark.Other)))))))))))))))))))))))))))))
+    cond (n == 28) (mark.Type ty.Bool) (cond (n == 29) (mark.Type ty.Int) (cond (n == 30) (mark.Type ty.Dint) (
+    cond (n == 31) (mark.Type ty.Lint) mark.Other))))))))))))))))))))))))))))))
 
 numbered_back : (m : Mark) → numbered (mark_number m) ≡ m
 numbered_back mark.Semi = refl
@@ -179,6 +180,7 @@ numbered_back mark.Other = refl
 numbered_back (mark.Type ty.Bool) = refl
 numbered_back (mark.Type ty.Int) = refl
 numbered_back (mark.Type ty.Dint) = refl
+numbered_back (mark.Type ty.Lint) = refl
 
 pub one_mark : (a b : Mark) → is a b ≡ true → a ≡ b
 one_mark a b e = sym (numbered_back a) ∙ ap numbered (eqb-true (mark_number a) (mark_number b) e) ∙ numbered_back b

@@ -57,6 +57,7 @@ pub type-at : (o : Opening) (ds : List DeclaredTree) (ty : Ty) (t : Token) → t
 type-at o ds ty.Bool t = refl
 type-at o ds ty.Int t = refl
 type-at o ds ty.Dint t = refl
+type-at o ds ty.Lint t = refl
 
 -- what stands behind the type of a declaration, an initial value and a name
 abbrev pub init_first : Opening → List DeclaredTree → Ty → Mark → Token → Result State SyntaxFault

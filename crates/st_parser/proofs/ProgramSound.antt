@@ -193,8 +193,10 @@ type-kept c t o ds m cs h mk =
     (λ e. outside c t cs (at_init o ds ty.Bool) (h ty.Bool t (mk (mark.Type ty.Bool) e)))
     (chosen P (is m (mark.Type ty.Int)) (Ok (at_init o ds ty.Int)) _
     (λ e. outside c t cs (at_init o ds ty.Int) (h ty.Int t (mk (mark.Type ty.Int) e)))
-    (chosen P (is m (mark.Type ty.Dint)) (Ok (at_init o ds ty.Dint)) (refused t)
-    (λ e. outside c t cs (at_init o ds ty.Dint) (h ty.Dint t (mk (mark.Type ty.Dint) e))) tt))
+    (chosen P (is m (mark.Type ty.Dint)) (Ok (at_init o ds ty.Dint)) _
+    (λ e. outside c t cs (at_init o ds ty.Dint) (h ty.Dint t (mk (mark.Type ty.Dint) e)))
+    (chosen P (is m (mark.Type ty.Lint)) (Ok (at_init o ds ty.Lint)) (refused t)
+    (λ e. outside c t cs (at_init o ds ty.Lint) (h ty.Lint t (mk (mark.Type ty.Lint) e))) tt)))
 
 -- ---- the initial value
 

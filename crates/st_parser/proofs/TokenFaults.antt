@@ -236,7 +236,8 @@ at-program-step c (at_next_name o ds) t = at-cond t (is (mark_of t.tok) mark.Nam
 at-program-step c (at_type o ds) t =
     at-cond t (is (mark_of t.tok) (mark.Type ty.Bool)) _ _ tt
     (at-cond t (is (mark_of t.tok) (mark.Type ty.Int)) _ _ tt
-    (at-cond t (is (mark_of t.tok) (mark.Type ty.Dint)) _ _ tt refl))
+    (at-cond t (is (mark_of t.tok) (mark.Type ty.Dint)) _ _ tt
+    (at-cond t (is (mark_of t.tok) (mark.Type ty.Lint)) _ _ tt refl)))
 at-program-step c (at_init o ds ty) t = at-cond t (is (mark_of t.tok) mark.Semi) _ _ tt (at-cond t (is (mark_of t.tok) mark.Assign) _ _ tt refl)
 at-program-step c (in_init o ds ty fs p) t = at-init-at c o ds ty fs p t (ends_before fs p t)
 at-program-step c (in_body f outer ss phase) t = at-body c f outer ss phase t

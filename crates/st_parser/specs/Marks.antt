@@ -66,6 +66,7 @@ mark_of (tok.Key key.EndVar) = mark.EndVar
 mark_of (tok.Key key.Bool) = mark.Type ty.Bool
 mark_of (tok.Key key.Int) = mark.Type ty.Int
 mark_of (tok.Key key.Dint) = mark.Type ty.Dint
+mark_of (tok.Key key.Lint) = mark.Type ty.Lint
 mark_of (tok.Key key.If) = mark.If
 mark_of (tok.Key key.Then) = mark.Then
 mark_of (tok.Key key.Elsif) = mark.Elsif
@@ -86,6 +87,7 @@ abbrev pub type_number : Ty → ℕ
 type_number ty.Bool = 28
 type_number ty.Int = 29
 type_number ty.Dint = 30
+type_number ty.Lint = 31
 
 abbrev pub mark_number : Mark → ℕ
 mark_number mark.Semi = 0

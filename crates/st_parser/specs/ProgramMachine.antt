@@ -88,7 +88,8 @@ abbrev pub type_at : Opening → List DeclaredTree → Mark → Token → Result
 type_at o ds m t =
     cond (is m (mark.Type ty.Bool)) (Ok (at_init o ds ty.Bool))
     (cond (is m (mark.Type ty.Int)) (Ok (at_init o ds ty.Int))
-    (cond (is m (mark.Type ty.Dint)) (Ok (at_init o ds ty.Dint)) (refused t)))
+    (cond (is m (mark.Type ty.Dint)) (Ok (at_init o ds ty.Dint))
+    (cond (is m (mark.Type ty.Lint)) (Ok (at_init o ds ty.Lint)) (refused t))))
 
 -- the token behind an initial value
 abbrev pub init_read_on : Opening → List DeclaredTree → Ty → Result Reading SyntaxFault → Result State SyntaxFault

@@ -124,7 +124,8 @@ fn body_step(front: Front, at: Result<At, SyntaxFault>) -> Result<State, SyntaxF
 fn body_begins(source: Source, front: Front, t: Token) -> Result<State, SyntaxFault>
     requires inside { IsInside source.text.now t }
     ensures { Gives view.program result
-        (machine.body_step (view.front front) (stmt_step_of (record { bytes = bytes_in source.entry.text.now; most = source.entry.most }) [] no_stmts start t)) }
+        (machine.body_step (view.front front) (stmt_step_of (record { bytes = bytes_in source.entry.text.now; most = source.entry.most })
+        [] no_stmts start t)) }
 {
     let at = nothing_read(source.alloc);
     body_step(front, stmt_step(source, at, t))
@@ -220,7 +221,8 @@ fn next_name_at(
 ) -> Result<State, SyntaxFault>
     requires inside { IsInside source.text.now t }
     ensures { Gives view.program result
-        (machine.program_step (record { bytes = bytes_in source.entry.text.now; most = source.entry.most }) (machine.at_next_name (view.opening opening) (map declared_tree names.items.items)) t) }
+        (machine.program_step (record { bytes = bytes_in source.entry.text.now; most = source.entry.most })
+        (machine.at_next_name (view.opening opening) (map declared_tree names.items.items)) t) }
 {
     if is(mark_of(t.tok), Mark::Name) {
         let names = with_name(source, names, t)?;
@@ -245,6 +247,10 @@ fn type_at(opening: Opening, names: DeclaredNames, t: Token) -> Result<State, Sy
     }
     if is(mark, Mark::Type(Ty::Dint)) {
         let ty = Ty::Dint;
+        return Ok(State::AtInit { opening, names, ty });
+    }
+    if is(mark, Mark::Type(Ty::Lint)) {
+        let ty = Ty::Lint;
         return Ok(State::AtInit { opening, names, ty });
     }
     refused(t)
@@ -317,7 +323,8 @@ fn init_at(
 ) -> Result<State, SyntaxFault>
     requires inside { IsInside source.text.now t }
     ensures { Gives view.program result
-        (machine.program_step (record { bytes = bytes_in source.entry.text.now; most = source.entry.most }) (machine.in_init (view.opening opening) (map declared_tree names.items.items) ty (form_view.forms forms.items) (form_view.mode mode)) t) }
+        (machine.program_step (record { bytes = bytes_in source.entry.text.now; most = source.entry.most })
+        (machine.in_init (view.opening opening) (map declared_tree names.items.items) ty (form_view.forms forms.items) (form_view.mode mode)) t) }
 {
     let mut forms = forms;
     match read(source, 0, &mut forms, mode, t) {

@@ -18,7 +18,8 @@ use vcp_base::{Memory, Spot};
 
 /// The CASE with one branch more.
 pub fn with_branch(selection: Selection, labels: Labels, body: Stmts) -> Result<Selection, Memory>
-    ensures { IfOk result (λ k. view.selection k ≡ machine.with_branch (view.selection selection) (label_trees labels.items.items) (stmt_trees body.items.items)) }
+    ensures { IfOk result (λ k. view.selection k ≡ machine.with_branch (view.selection selection) (label_trees labels.items.items)
+        (stmt_trees body.items.items)) }
 {
     let mut branches = selection.branches;
     branches.push(Branch { labels, body })?;
@@ -47,7 +48,8 @@ pub fn elsif_at(
     stmts: Stmts,
     t: Token,
 ) -> Result<At, SyntaxFault>
-    ensures { view.Gives view.state result (machine.elsif_at (view.body body) (view.levels outer.items) (stmt_trees before.items.items) (stmt_trees stmts.items.items) t) }
+    ensures { view.Gives view.state result (machine.elsif_at (view.body body) (view.levels outer.items) (stmt_trees before.items.items)
+        (stmt_trees stmts.items.items) t) }
 {
     match body {
         Body::OfArm { arms, cond, spot } => {
@@ -71,7 +73,8 @@ pub fn else_at(
     stmts: Stmts,
     t: Token,
 ) -> Result<At, SyntaxFault>
-    ensures { view.Gives view.state result (machine.else_at (view.body body) (view.levels outer.items) (stmt_trees before.items.items) (stmt_trees stmts.items.items) t) }
+    ensures { view.Gives view.state result (machine.else_at (view.body body) (view.levels outer.items) (stmt_trees before.items.items)
+        (stmt_trees stmts.items.items) t) }
 {
     match body {
         Body::OfArm { arms, cond, spot } => {
@@ -94,7 +97,8 @@ pub fn end_if_at(
     stmts: Stmts,
     t: Token,
 ) -> Result<At, SyntaxFault>
-    ensures { view.Gives view.state result (machine.end_if_at (view.body body) (view.levels outer.items) (stmt_trees before.items.items) (stmt_trees stmts.items.items) t) }
+    ensures { view.Gives view.state result (machine.end_if_at (view.body body) (view.levels outer.items) (stmt_trees before.items.items)
+        (stmt_trees stmts.items.items) t) }
 {
     match body {
         Body::OfArm { arms, cond, spot } => {
@@ -114,7 +118,8 @@ pub fn end_case_at(
     stmts: Stmts,
     t: Token,
 ) -> Result<At, SyntaxFault>
-    ensures { view.Gives view.state result (machine.end_case_at (view.body body) (view.levels outer.items) (stmt_trees before.items.items) (stmt_trees stmts.items.items) t) }
+    ensures { view.Gives view.state result (machine.end_case_at (view.body body) (view.levels outer.items) (stmt_trees before.items.items)
+        (stmt_trees stmts.items.items) t) }
 {
     match body {
         Body::OfBranch { selection, labels } => {
@@ -143,7 +148,8 @@ pub fn end_for_at(
     stmts: Stmts,
     t: Token,
 ) -> Result<At, SyntaxFault>
-    ensures { view.Gives view.state result (machine.end_for_at (view.body body) (view.levels outer.items) (stmt_trees before.items.items) (stmt_trees stmts.items.items) t) }
+    ensures { view.Gives view.state result (machine.end_for_at (view.body body) (view.levels outer.items) (stmt_trees before.items.items)
+        (stmt_trees stmts.items.items) t) }
 {
     match body {
         Body::OfLoop {

@@ -101,7 +101,8 @@ fn first_at(source: Source, depth: usize, t: Token) -> Result<LabelPhase, Syntax
     requires inside { IsInside source.text.now t }
     ensures { view.Gives view.label_phase result
         (no_deeper source.entry.most depth t
-        (machine.const_at (record { bytes = bytes_in source.entry.text.now; most = source.entry.most }) machine.first_read machine.first_negated (begins t.tok) t)) }
+        (machine.const_at (record { bytes = bytes_in source.entry.text.now; most = source.entry.most }) machine.first_read machine.first_negated
+        (begins t.tok) t)) }
 {
     match const_within(source, depth, t)? {
         Constant::Whole(first) => Ok(LabelPhase::FirstRead { first }),
@@ -114,7 +115,8 @@ fn last_at(source: Source, depth: usize, first: Expr, t: Token) -> Result<LabelP
     requires inside { IsInside source.text.now t }
     ensures { view.Gives view.label_phase result
         (no_deeper source.entry.most depth t
-        (machine.const_at (record { bytes = bytes_in source.entry.text.now; most = source.entry.most }) (machine.last_read (expr_tree first)) (machine.last_negated (expr_tree first)) (begins t.tok) t)) }
+        (machine.const_at (record { bytes = bytes_in source.entry.text.now; most = source.entry.most }) (machine.last_read (expr_tree first))
+        (machine.last_negated (expr_tree first)) (begins t.tok) t)) }
 {
     match const_within(source, depth, t)? {
         Constant::Whole(last) => Ok(LabelPhase::LastRead { first, last }),
@@ -160,7 +162,8 @@ fn with_phase(
     phase: Result<LabelPhase, SyntaxFault>,
 ) -> Result<At, SyntaxFault>
     ensures { (r : Result machine.LabelPhase FaultOf) → view.Gives view.label_phase phase r →
-        view.Gives view.state result (machine.with_phase (view.levels outer.items) (stmt_trees stmts.items.items) (view.selection selection) (label_trees labels.items.items) r) }
+        view.Gives view.state result (machine.with_phase (view.levels outer.items) (stmt_trees stmts.items.items) (view.selection selection)
+        (label_trees labels.items.items) r) }
 {
     match phase {
         Ok(phase) => Ok(At {
@@ -190,8 +193,10 @@ fn first_ends(
 ) -> Result<At, SyntaxFault>
     ensures { view.Gives view.state result
         (cond (is_mark (mark t.tok) Mark.DotDot)
-        (machine.to (view.levels outer.items) (stmt_trees stmts.items.items) (machine.labelling (view.selection selection) (label_trees labels.items.items) (machine.last_wanted (expr_tree first))))
-        (machine.label_ends (view.levels outer.items) (stmt_trees stmts.items.items) (view.selection selection) (label_trees labels.items.items ++ record { first = expr_tree first; last = None } ∷ []) (mark t.tok) t)) }
+        (machine.to (view.levels outer.items) (stmt_trees stmts.items.items)
+        (machine.labelling (view.selection selection) (label_trees labels.items.items) (machine.last_wanted (expr_tree first))))
+        (machine.label_ends (view.levels outer.items) (stmt_trees stmts.items.items) (view.selection selection)
+        (label_trees labels.items.items ++ record { first = expr_tree first; last = None } ∷ []) (mark t.tok) t)) }
 {
     if is(mark_of(t.tok), Mark::DotDot) {
         return Ok(At {
@@ -219,7 +224,8 @@ fn label_ends(
     t: Token,
 ) -> Result<At, SyntaxFault>
     ensures { view.Gives view.state result
-        (machine.label_ends (view.levels outer.items) (stmt_trees stmts.items.items) (view.selection selection) (label_trees labels.items.items ++ label_tree label ∷ []) (mark t.tok) t) }
+        (machine.label_ends (view.levels outer.items) (stmt_trees stmts.items.items) (view.selection selection)
+        (label_trees labels.items.items ++ label_tree label ∷ []) (mark t.tok) t) }
 {
     let mut labels = labels;
     labels.push(label)?;
@@ -253,7 +259,8 @@ pub fn label_step(
 ) -> Result<At, SyntaxFault>
     requires inside { IsInside source.text.now t }
     ensures { view.Gives view.state result
-        (machine.label_step (record { bytes = bytes_in source.entry.text.now; most = source.entry.most }) (view.levels outer.items) (stmt_trees stmts.items.items) (view.selection selection) (label_trees labels.items.items) (view.label_phase phase) t) }
+        (machine.label_step (record { bytes = bytes_in source.entry.text.now; most = source.entry.most }) (view.levels outer.items)
+        (stmt_trees stmts.items.items) (view.selection selection) (label_trees labels.items.items) (view.label_phase phase) t) }
 {
     let depth = depth_of_labels(&outer);
     match phase {

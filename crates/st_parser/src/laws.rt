@@ -16,10 +16,13 @@ use st_spelling::spelling_begins;
 /// spell one program at most, and are refused in one way. They spell a program within the limit exactly
 /// where they spell it and none of them is too deep, whatever program the tokens through it begin.
 pub fn one_answer()
-    ensures some { (text : List ℕ) (ts : List Token) (end : Spot) → ((p : ProgramTree) × SpellsWithin most_depth p text ts) ⊎ ((f : SyntaxFault) × (f ≢ fault.Memory) × Refuses text ts end f) }
-    ensures either { (p : ProgramTree) (text : List ℕ) (ts : List Token) (end : Spot) (f : SyntaxFault) → SpellsWithin most_depth p text ts → Refuses text ts end f → f ≡ fault.Memory }
+    ensures some { (text : List ℕ) (ts : List Token) (end : Spot) → ((p : ProgramTree) × SpellsWithin most_depth p text ts)
+        ⊎ ((f : SyntaxFault) × (f ≢ fault.Memory) × Refuses text ts end f) }
+    ensures either { (p : ProgramTree) (text : List ℕ) (ts : List Token) (end : Spot) (f : SyntaxFault) → SpellsWithin most_depth p text ts
+        → Refuses text ts end f → f ≡ fault.Memory }
     ensures program { (p q : ProgramTree) (text : List ℕ) (ts : List Token) → Spells p text ts → Spells q text ts → p ≡ q }
-    ensures refused { (text : List ℕ) (ts : List Token) (end : Spot) (f g : SyntaxFault) → f ≢ fault.Memory → g ≢ fault.Memory → Refuses text ts end f → Refuses text ts end g → f ≡ g }
+    ensures refused { (text : List ℕ) (ts : List Token) (end : Spot) (f g : SyntaxFault) → f ≢ fault.Memory → g ≢ fault.Memory
+        → Refuses text ts end f → Refuses text ts end g → f ≡ g }
     ensures shallow { (p : ProgramTree) (text : List ℕ) (ts : List Token) → SpellsWithin most_depth p text ts → NoneTooDeep ts }
     ensures within { (p : ProgramTree) (text : List ℕ) (ts : List Token) → Spells p text ts → NoneTooDeep ts → SpellsWithin most_depth p text ts }
 {

@@ -96,7 +96,11 @@ pub fn expects(alloc: Global, purpose: Purpose) -> Phase
 
 /// An expression begins.
 pub fn reading(alloc: Global, outer: Vec<Level>, stmts: Stmts, purpose: Purpose) -> At
-    ensures { view.state result ≡ record { outer = view.levels outer.items; stmts = stmt_trees stmts.items.items; phase = machine.reading (view.purpose purpose) [] want } }
+    ensures { view.state result ≡ record {
+      outer = view.levels outer.items;
+      stmts = stmt_trees stmts.items.items;
+      phase = machine.reading (view.purpose purpose) [] want;
+    } }
 {
     At {
         outer,

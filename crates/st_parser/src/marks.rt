@@ -140,6 +140,7 @@ pub fn mark_of(tok: Tok) -> Mark
         Tok::Key(Key::Bool) => Mark::Type(Ty::Bool),
         Tok::Key(Key::Int) => Mark::Type(Ty::Int),
         Tok::Key(Key::Dint) => Mark::Type(Ty::Dint),
+        Tok::Key(Key::Lint) => Mark::Type(Ty::Lint),
         Tok::Key(Key::If) => Mark::If,
         Tok::Key(Key::Then) => Mark::Then,
         Tok::Key(Key::Elsif) => Mark::Elsif,
@@ -193,6 +194,7 @@ fn mark_number(mark: Mark) -> u8
         Mark::Type(Ty::Bool) => 28,
         Mark::Type(Ty::Int) => 29,
         Mark::Type(Ty::Dint) => 30,
+        Mark::Type(Ty::Lint) => 31,
     }
 }
 

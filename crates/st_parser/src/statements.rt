@@ -39,7 +39,8 @@ fn next_label_in(
 ) -> Result<At, SyntaxFault>
     requires inside { IsInside source.text.now t }
     ensures { view.Gives view.state result
-        (machine.next_label_in (record { bytes = bytes_in source.entry.text.now; most = source.entry.most }) (view.body body) (view.levels outer.items) (stmt_trees before.items.items) (stmt_trees stmts.items.items) (view.label_phase phase) t) }
+        (machine.next_label_in (record { bytes = bytes_in source.entry.text.now; most = source.entry.most }) (view.body body)
+        (view.levels outer.items) (stmt_trees before.items.items) (stmt_trees stmts.items.items) (view.label_phase phase) t) }
 {
     match body {
         Body::OfBranch { selection, labels } => {
@@ -64,7 +65,8 @@ fn next_label(
 ) -> Result<At, SyntaxFault>
     requires inside { IsInside source.text.now t }
     ensures { view.Gives view.state result
-        (machine.next_label (record { bytes = bytes_in source.entry.text.now; most = source.entry.most }) (view.levels outer.items) (stmt_trees stmts.items.items) (view.label_phase phase) t) }
+        (machine.next_label (record { bytes = bytes_in source.entry.text.now; most = source.entry.most }) (view.levels outer.items)
+        (stmt_trees stmts.items.items) (view.label_phase phase) t) }
 {
     let mut outer = outer;
     match leave(&mut outer) {
@@ -84,7 +86,8 @@ fn level_ends(
 ) -> Result<At, SyntaxFault>
     requires inside { IsInside source.text.now t }
     ensures { view.Gives view.state result
-        (machine.body_ends (record { bytes = bytes_in source.entry.text.now; most = source.entry.most }) (view.level level ∷ view.levels outer.items) (stmt_trees stmts.items.items) mark t) }
+        (machine.body_ends (record { bytes = bytes_in source.entry.text.now; most = source.entry.most }) (view.level level ∷ view.levels outer.items)
+        (stmt_trees stmts.items.items) mark t) }
 {
     let alloc = source.alloc;
     let Level { body, before } = level;
@@ -132,7 +135,8 @@ fn body_ends(
 ) -> Result<At, SyntaxFault>
     requires inside { IsInside source.text.now t }
     ensures { view.Gives view.state result
-        (machine.body_ends (record { bytes = bytes_in source.entry.text.now; most = source.entry.most }) (view.levels outer.items) (stmt_trees stmts.items.items) mark t) }
+        (machine.body_ends (record { bytes = bytes_in source.entry.text.now; most = source.entry.most }) (view.levels outer.items)
+        (stmt_trees stmts.items.items) mark t) }
 {
     let mut outer = outer;
     match leave(&mut outer) {
@@ -172,7 +176,8 @@ fn start_at(
 ) -> Result<At, SyntaxFault>
     requires inside { IsInside source.text.now t }
     ensures { view.Gives view.state result
-        (machine.start_at (record { bytes = bytes_in source.entry.text.now; most = source.entry.most }) (view.levels outer.items) (stmt_trees stmts.items.items) mark t) }
+        (machine.start_at (record { bytes = bytes_in source.entry.text.now; most = source.entry.most }) (view.levels outer.items)
+        (stmt_trees stmts.items.items) mark t) }
 {
     if is(mark, Mark::Semi) {
         return begun(source.most, outer, stmts, Phase::Start, t);
@@ -209,7 +214,8 @@ fn named_at(
 ) -> Result<At, SyntaxFault>
     requires inside { IsInside source.text.now t }
     ensures { view.Gives view.state result
-        (machine.named_at (record { bytes = bytes_in source.entry.text.now; most = source.entry.most }) (view.levels outer.items) (stmt_trees stmts.items.items) name spot (mark t.tok) t) }
+        (machine.named_at (record { bytes = bytes_in source.entry.text.now; most = source.entry.most }) (view.levels outer.items)
+        (stmt_trees stmts.items.items) name spot (mark t.tok) t) }
 {
     if is(mark_of(t.tok), Mark::Assign) {
         let purpose = Purpose::ToAssign { name, spot };
@@ -254,7 +260,8 @@ fn tested(
     t: Token,
 ) -> Result<At, SyntaxFault>
     ensures { view.Gives view.state result
-        (machine.take (view.levels outer.items) (stmt_trees stmts.items.items) (machine.to_test (arm_trees (arm_items arms)) spot) (expr_tree cond) (mark t.tok) t) }
+        (machine.take (view.levels outer.items) (stmt_trees stmts.items.items) (machine.to_test (arm_trees (arm_items arms)) spot) (expr_tree cond)
+        (mark t.tok) t) }
 {
     if is(mark_of(t.tok), Mark::Then) {
         return opened(alloc, Body::OfArm { arms, cond, spot }, outer, stmts);
@@ -319,7 +326,8 @@ fn loop_ends(
     t: Token,
 ) -> Result<At, SyntaxFault>
     ensures { view.Gives view.state result
-        (machine.take (view.levels outer.items) (stmt_trees stmts.items.items) (machine.to_end (view.loop head) (expr_tree first)) (expr_tree last) (mark t.tok) t) }
+        (machine.take (view.levels outer.items) (stmt_trees stmts.items.items) (machine.to_end (view.loop head) (expr_tree first)) (expr_tree last)
+        (mark t.tok) t) }
 {
     let mark = mark_of(t.tok);
     if is(mark, Mark::By) {
@@ -350,7 +358,8 @@ fn loop_steps(
     t: Token,
 ) -> Result<At, SyntaxFault>
     ensures { view.Gives view.state result
-        (machine.take (view.levels outer.items) (stmt_trees stmts.items.items) (machine.to_step (view.loop head) (expr_tree first) (expr_tree last)) (expr_tree by) (mark t.tok) t) }
+        (machine.take (view.levels outer.items) (stmt_trees stmts.items.items) (machine.to_step (view.loop head) (expr_tree first) (expr_tree last))
+        (expr_tree by) (mark t.tok) t) }
 {
     if is(mark_of(t.tok), Mark::Do) {
         let body = Body::OfLoop {
@@ -400,7 +409,8 @@ fn read_at(
 ) -> Result<At, SyntaxFault>
     requires inside { IsInside source.text.now t }
     ensures { view.Gives view.state result
-        (machine.stmt_step (record { bytes = bytes_in source.entry.text.now; most = source.entry.most }) (view.levels outer.items) (stmt_trees stmts.items.items) (machine.reading (view.purpose purpose) (form_view.forms forms.items) (form_view.mode mode)) t) }
+        (machine.stmt_step (record { bytes = bytes_in source.entry.text.now; most = source.entry.most }) (view.levels outer.items)
+        (stmt_trees stmts.items.items) (machine.reading (view.purpose purpose) (form_view.forms forms.items) (form_view.mode mode)) t) }
 {
     let mut forms = forms;
     match read(source, depth(&outer), &mut forms, mode, t) {
@@ -445,7 +455,8 @@ fn loop_begun_at(
 ) -> Result<At, SyntaxFault>
     requires inside { IsInside source.text.now t }
     ensures { view.Gives view.state result
-        (machine.stmt_step (record { bytes = bytes_in source.entry.text.now; most = source.entry.most }) (view.levels outer.items) (stmt_trees stmts.items.items) (machine.loop_begun spot) t) }
+        (machine.stmt_step (record { bytes = bytes_in source.entry.text.now; most = source.entry.most }) (view.levels outer.items)
+        (stmt_trees stmts.items.items) (machine.loop_begun spot) t) }
 {
     if is(mark_of(t.tok), Mark::Name) {
         let head = Loop {
@@ -484,7 +495,8 @@ fn loop_named_at(
 pub fn stmt_step(source: Source, at: At, t: Token) -> Result<At, SyntaxFault>
     requires inside { IsInside source.text.now t }
     ensures { view.Gives view.state result
-        (machine.stmt_step (record { bytes = bytes_in source.entry.text.now; most = source.entry.most }) (view.levels at.outer.items) (stmt_trees at.stmts.items.items) (view.phase at.phase) t) }
+        (machine.stmt_step (record { bytes = bytes_in source.entry.text.now; most = source.entry.most }) (view.levels at.outer.items)
+        (stmt_trees at.stmts.items.items) (view.phase at.phase) t) }
 {
     let At {
         outer,

@@ -291,7 +291,7 @@ fn first_wrong(alloc: Global, rows: &[(&[u8], &[u8])]) -> Result<Option<usize>, 
     Ok(None)
 }
 
-const PROGRAMS: [(&[u8], &[u8]); 21] = [
+const PROGRAMS: [(&[u8], &[u8]); 22] = [
     (b"PROGRAM p END_PROGRAM", b"p "),
     (b"program Pump ;;; End_Program", b"Pump "),
     (
@@ -301,6 +301,10 @@ const PROGRAMS: [(&[u8], &[u8]); 21] = [
     (
         b"PROGRAM p VAR RETAIN r : INT := -1; END_VAR VAR CONSTANT k : BOOL := NOT TRUE; j, l : DINT := k + 2; END_VAR VAR x : BOOL := FALSE; END_VAR ; END_PROGRAM",
         b"p RETAIN { r@22 INT := (-@33 1@34); } CONSTANT { k@58 BOOL := (NOT@70 BOOL#1@74); j@80 l@83 DINT := (+@97 k@95 2@99); } VAR { x@114 BOOL := BOOL#0@126; } ",
+    ),
+    (
+        b"PROGRAM p VAR w : LINT := LINT#-5; END_VAR y := w = lint#16#FF; END_PROGRAM",
+        b"p VAR { w@15 LINT := LINT#-5@27; } y@44 := (=@51 w@49 LINT#255@53); ",
     ),
     (
         b"PROGRAM p y := a - b - c; END_PROGRAM",
@@ -372,7 +376,7 @@ const PROGRAMS: [(&[u8], &[u8]); 21] = [
     ),
 ];
 
-const FAULTS: [(&[u8], &[u8]); 43] = [
+const FAULTS: [(&[u8], &[u8]); 45] = [
     (b"p", b"syntax 1:1"),
     (b"PROGRAM PROGRAM", b"syntax 1:9"),
     (b"PROGRAM p END_PROGRAM ;", b"syntax 1:23"),
@@ -395,6 +399,14 @@ const FAULTS: [(&[u8], &[u8]); 43] = [
     (
         b"PROGRAM p VAR x : REAL; END_VAR END_PROGRAM",
         b"syntax 1:19",
+    ),
+    (
+        b"PROGRAM p VAR x : ULINT; END_VAR END_PROGRAM",
+        b"syntax 1:19",
+    ),
+    (
+        b"PROGRAM p VAR lint : INT; END_VAR END_PROGRAM",
+        b"syntax 1:15",
     ),
     (
         b"PROGRAM p VAR x : INT := ; END_VAR END_PROGRAM",

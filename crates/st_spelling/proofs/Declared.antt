@@ -1,23 +1,20 @@
 -- The names that are declared where the tokens of a text spell a program: each is a word of the text.
 use Rattle.std.proofs.Common.{◌≡◌, ℕ, suc, ◌+◌, ◌-◌, ◌≤◌, Bool, true, false, cond, ◌&&◌, ◌||◌, List, [], ◌∷◌, ◌++◌, length, take, drop, flat_map, Option, Some, None, sym, refl, ap, ◌∙◌, subst, arith, length-take, length-drop}
-use Rattle.std.specs.Prelude.{◌==◌, codes, slice_index}
+use Rattle.std.specs.Prelude.{slice_index}
 use Rattle.std.specs.List.{list_all, prefix_len}
 use Rattle.std.specs.Char.{is_ascii_digit}
 use Rattle.std.proofs.lemmas.Bool.Decides.{nat_tests}
 use Rattle.std.proofs.lemmas.List.Elements.{All-nil, All-cons, All-append}
 use Rattle.vcp_base.specs.Limits.{most_source_bytes}
 use Rattle.vcp_base.specs.Names.{is_letter, is_letter_or_digit, is_name}
-use Rattle.vcp_base.specs.declared.ty.Ty.{Ty}
 use Rattle.st_lexer.specs.declared.token.Key.TheVariants as key
-use Rattle.st_lexer.specs.declared.token.Sym.{Sym}
 use Rattle.st_lexer.specs.declared.token.Tok.{Tok}
 use Rattle.st_lexer.specs.declared.token.Tok.TheVariants as tok
 use Rattle.st_lexer.specs.declared.token.Token.{Token}
 use Rattle.st_lexer.specs.declared.piece.Opening.{Opening}
 use Rattle.st_lexer.specs.declared.piece.Opening.TheVariants as opens
-use Rattle.st_lexer.specs.Literals.{begins_word, is_word, type_at}
-use Rattle.st_lexer.specs.Reading.{is_blank, order_mark, opening, word_opening, symbol_opening, Stands, Piece, Cover, token_of, tokens_of as tokens_of_pieces, Reads}
-use Rattle.st_lexer.specs.Symbols.{begins, symbol_among, all_symbols}
+use Rattle.st_lexer.specs.Literals.{begins_word, is_word}
+use Rattle.st_lexer.specs.Reading.{Begins, Stands, StandsAt, Piece, Cover, token_of, tokens_of as tokens_of_pieces, Reads}
 use Rattle.st_tree.specs.Declarable.{IsDeclarable, AreDeclarable, HasNames}
 use Rattle.st_tree.specs.ProgramTree.{DeclaredTree, DeclTree, BlockTree, ProgramTree}
 use Rattle.st_spelling.specs.Placed.{Placed, tokens_of}
@@ -66,37 +63,6 @@ run-is-name (b ∷ s) e =
     let long : prefix_len is_word (b ∷ s) ≡ 1 + prefix_len is_word s = rw (word-byte (begins_word b) (is_ascii_digit b) e) refl in
     ap is_name (ap (λ k. take k (b ∷ s)) long ∙ one-more (prefix_len is_word s) b s) ∙ both-hold (is_letter b) _ (letter b e) (run s)
 
--- what an opening says of the text
-abbrev Fronts : Opening → List ℕ → Type 0
-Fronts opens.Word s = begins_word (slice_index s 0) ≡ true
-Fronts _ s = Unit {0}
-
-opens-so : (P : Opening → Type 0) (t : Bool) (x y : Opening) → (t ≡ true → P x) → (t ≡ false → P y) → P (cond t x y)
-opens-so P true x y f g = f refl
-opens-so P false x y f g = g refl
-
-word-front : (t : Option Ty) (s : List ℕ) → begins_word (slice_index s 0) ≡ true → Fronts (word_opening t) s
-word-front None s e = e
-word-front (Some t) s e = tt
-
-symbol-front : (o : Option Sym) (s : List ℕ) → Fronts (symbol_opening o) s
-symbol-front None s = tt
-symbol-front (Some y) s = tt
-
-fronts : (p : ℕ) (s : List ℕ) → Fronts (opening p s) s
-unfolding opening
-fronts p s =
-    let P : Opening → Type 0 = λ o. Fronts o s in
-    opens-so P (is_blank (slice_index s 0)) _ _ (λ _. tt)
-    (λ _. opens-so P (p == 0 && begins order_mark s) _ _ (λ _. tt)
-    (λ _. opens-so P (begins (codes "(*") s) _ _ (λ _. tt)
-    (λ _. opens-so P (begins (codes "/*") s) _ _ (λ _. tt)
-    (λ _. opens-so P (begins (codes "//") s) _ _ (λ _. tt)
-    (λ _. opens-so P (begins_word (slice_index s 0)) _ _ (λ e. word-front (type_at s) s e)
-    (λ _. opens-so P (is_ascii_digit (slice_index s 0)) _ _ (λ _. tt)
-    (λ _. opens-so P (slice_index s 0 == 38) _ _ (λ _. tt)
-    (λ _. symbol-front (symbol_among all_symbols s) s))))))))
-
 -- ---- tokens
 
 same-tok : (w : List ℕ) (t u : Tok) → Some t ≡ Some u → Says w u → Says w t
@@ -108,16 +74,16 @@ says-name w (tok.Number t v) h = tt
 says-name w (tok.Key k) h = tt
 says-name w (tok.Sym y) h = tt
 
-by-opening : (o : Opening) (s : List ℕ) (n : ℕ) (t : Tok) → Fronts o s → Stands o s n (Some t) → Says (take n s) t
-by-opening opens.Blank s n t f st = absurd (let e = st.1 in cc)
-by-opening opens.OrderMark s n t f st = absurd (let e = st.1 in cc)
-by-opening (opens.Comment last) s n t f st = absurd (let e = st.1 in cc)
-by-opening opens.LineComment s n t f st = absurd (let e = st.1 in cc)
-by-opening opens.Word s n t f st = says-name (take n s) t (ap (λ k. is_name (take k s)) st.0 ∙ run-is-name s f)
-by-opening (opens.Literal ty) s n t f st = same-tok (take n s) t (tok.Number ty st.0.value) st.3 tt
-by-opening opens.Ampersand s n t f st = same-tok (take n s) t (tok.Key key.And) st.1 tt
-by-opening (opens.Symbol y) s n t f st = same-tok (take n s) t (tok.Sym y) st.1 tt
-by-opening opens.Nothing s n t f st = absurd st
+by-opening : (o : Opening) (p : ℕ) (s : List ℕ) (n : ℕ) (t : Tok) → Begins p s o → Stands o s n (Some t) → Says (take n s) t
+by-opening opens.Blank p s n t b st = absurd (let e = st.1 in cc)
+by-opening opens.OrderMark p s n t b st = absurd (let e = st.1 in cc)
+by-opening (opens.Comment last) p s n t b st = absurd (let e = st.1 in cc)
+by-opening opens.LineComment p s n t b st = absurd (let e = st.1 in cc)
+by-opening opens.Word p s n t b st = says-name (take n s) t (ap (λ k. is_name (take k s)) st.0 ∙ run-is-name s b.0)
+by-opening (opens.Literal ty) p s n t b st = same-tok (take n s) t (tok.Number ty st.0.value) st.3 tt
+by-opening opens.Ampersand p s n t b st = same-tok (take n s) t (tok.Key key.And) st.1 tt
+by-opening (opens.Symbol y) p s n t b st = same-tok (take n s) t (tok.Sym y) st.1 tt
+by-opening opens.Nothing p s n t b st = absurd st
 
 -- each token is what its bytes are read as
 abbrev EachSays : List ℕ → List Token → Type 0
@@ -125,12 +91,12 @@ EachSays text [] = Unit {0}
 EachSays text (t ∷ ts) = Says (bytes_in text t) t.tok × EachSays text ts
 
 says-one : (text : List ℕ) (p : Piece) (n : ℕ) (o : Option Tok) (ts : List Token) → p.to ≡ p.from + n
-    → Stands (opening p.from (drop p.from text)) (drop p.from text) n o → EachSays text ts → EachSays text (token_of text p o ++ ts)
+    → StandsAt p.from (drop p.from text) n o → EachSays text ts → EachSays text (token_of text p o ++ ts)
 says-one text p n None ts e st h = h
 says-one text p n (Some t) ts e st h =
     let s = drop p.from text in
     let len : n ≡ p.to - p.from = omega (arith, e) in
-    (subst (λ k. Says (take k s) t) len (by-opening (opening p.from s) s n t (fronts p.from s) st), h)
+    (subst (λ k. Says (take k s) t) len (by-opening st.0 p.from s n t st.1 st.2), h)
 
 says-each : (text : List ℕ) (ps : List Piece) (a b : ℕ) → Cover text ps a b → EachSays text (tokens_of_pieces text ps)
 says-each text [] a b c = tt

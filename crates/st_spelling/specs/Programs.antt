@@ -2,7 +2,7 @@
 --
 --   program = PROGRAM name {block} stmts END_PROGRAM
 --   block   = (VAR_INPUT | VAR_OUTPUT | VAR [CONSTANT | RETAIN]) {decl} END_VAR
---   decl    = name {"," name} ":" (BOOL | INT | DINT) [":=" expr] ";"
+--   decl    = name {"," name} ":" (BOOL | INT | DINT | LINT) [":=" expr] ";"
 use Rattle.std.specs.Prelude.{◌≡◌, ℕ, List, [], ◌∷◌, ◌++◌, Option, Some, None}
 use Rattle.vcp_base.specs.declared.ty.Ty.{Ty}
 use Rattle.vcp_base.specs.declared.ty.Ty.TheVariants as ty
@@ -26,6 +26,7 @@ abbrev pub type_key : Ty → Key
 type_key ty.Bool = key.Bool
 type_key ty.Int = key.Int
 type_key ty.Dint = key.Dint
+type_key ty.Lint = key.Lint
 
 -- the names of a declaration, from the first to the colon behind the last
 pub data SpellsNames (bytes : Token → List ℕ) : List DeclaredTree → List Placed → Type 0 where

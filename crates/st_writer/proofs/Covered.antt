@@ -3,13 +3,12 @@ use Rattle.std.proofs.Common.{◌≡◌, ℕ, ◌+◌, ◌-◌, ◌≤◌, List,
 use Rattle.std.proofs.lemmas.List.{drop-drop, drop_at, take_at}
 use Rattle.st_lexer.specs.declared.token.Tok.{Tok}
 use Rattle.st_lexer.specs.declared.token.Token.{Token}
-use Rattle.st_lexer.specs.declared.piece.Opening.{Opening}
-use Rattle.st_lexer.specs.Reading.{opening, Stands, Piece, Cover, token_of, tokens_of, Reads}
+use Rattle.st_lexer.specs.Reading.{StandsAt, Piece, Cover, token_of, tokens_of, Reads}
 use Rattle.st_lexer.specs.Spots.{spot_at}
 use Rattle.st_spelling.specs.Spelling.{bytes_in}
 use Rattle.st_writer.specs.Lexemes.{Lexeme, text_of}
 use Rattle.st_writer.proofs.Written.{written_one, Written}
-use Rattle.st_writer.proofs.Fits.{Fits, opening-any}
+use Rattle.st_writer.proofs.Fits.{Fits}
 
 -- each lexeme fits before those behind it
 abbrev pub AllFit : List Lexeme → Type 0
@@ -35,9 +34,7 @@ covered text a (x ∷ xs) le e fit =
     let on : drop (a + n) text ≡ rest = sym (drop-drop n a text) ∙ ap (drop n) e ∙ drop_at x.bytes rest n refl in
     let within : a + n ≤ length text = omega (arith, le, length-drop a text, ap length e, length-append x.bytes rest) in
     let c = covered text (a + n) xs within on fit.1 in
-    let stands : Stands (opening a (drop a text)) (drop a text) n x.tok =
-    subst (λ (s : List ℕ). Stands (opening a s) s n x.tok) (sym e)
-    (subst (λ (o : Opening). Stands o (x.bytes ++ rest) n x.tok) (sym (opening-any a (x.bytes ++ rest) fit.0.no_mark)) fit.0.stands) in
+    let stands : StandsAt a (drop a text) n x.tok = subst (λ (s : List ℕ). StandsAt a s n x.tok) (sym e) (fit.0.stands a) in
     let bytes : take (a + n - a) (drop a text) ≡ x.bytes =
     ap (λ m. take m (drop a text)) (omega arith) ∙ ap (take n) e ∙ take_at x.bytes rest n refl in
     record {

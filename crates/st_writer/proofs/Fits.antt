@@ -1,5 +1,5 @@
 -- Lexemes that stand where they are put.
-use Rattle.std.proofs.Common.{◌≡◌, ℕ, ℤ, pos, negsuc, suc, ◌+◌, ◌<◌, Bool, true, false, cond, ◌&&◌, List, [], ◌∷◌, ◌++◌, length, take, Option, Some, None, sym, refl, ap, ◌∙◌, subst, arith}
+use Rattle.std.proofs.Common.{◌≡◌, ℕ, ℤ, pos, negsuc, suc, ◌+◌, ◌<◌, Bool, true, false, cond, List, [], ◌∷◌, ◌++◌, length, take, Option, Some, None, sym, refl, ap, ◌∙◌, arith}
 use Rattle.std.specs.Prelude.{nat_eq, ◌==◌, slice_index}
 use Rattle.std.specs.List.{list_all, prefix_len}
 use Rattle.std.specs.Char.{is_ascii_digit, to_ascii_lowercase}
@@ -16,11 +16,10 @@ use Rattle.st_lexer.specs.declared.token.Sym.TheVariants as symbol
 use Rattle.st_lexer.specs.declared.token.Tok.{Tok}
 use Rattle.st_lexer.specs.declared.token.Tok.TheVariants as tok
 use Rattle.st_lexer.specs.declared.literal.Literal.{Literal}
-use Rattle.st_lexer.specs.declared.piece.Opening.{Opening}
 use Rattle.st_lexer.specs.declared.piece.Opening.TheVariants as opens
-use Rattle.st_lexer.specs.Literals.{begins_word, is_word, is_run, run, takes_sign, signed, type_at, literal_at}
-use Rattle.st_lexer.specs.Reading.{is_blank, order_mark, opening, word_opening, Stands}
-use Rattle.st_lexer.specs.Symbols.{begins, symbol_among}
+use Rattle.st_lexer.specs.Literals.{begins_word, is_word, is_run, run, takes_sign, signed, begins_typed, literal_at}
+use Rattle.st_lexer.specs.Reading.{StandsAt}
+use Rattle.st_lexer.specs.Symbols.{symbol_among}
 use Rattle.st_lexer.specs.Words as words
 use Rattle.st_writer.specs.Lexemes.{Lexeme, blank, line_end, word, symbol, number, truth, literal}
 use Rattle.st_writer.proofs.Numbers.{both, and-false, AreDecimal, decimal-is, plain-is}
@@ -29,99 +28,78 @@ use Rattle.st_writer.proofs.IsReadable.{IsWordOf, IsName, IsValue}
 -- the lexeme stands before these bytes, at any place of a text
 pub record Fits (x : Lexeme) (rest : List ℕ) : Type 0 where
   pub some_of : 0 < length x.bytes
-  pub no_mark : begins order_mark (x.bytes ++ rest) ≡ false
-  pub stands : Stands (opening 1 (x.bytes ++ rest)) (x.bytes ++ rest) (length x.bytes) x.tok
+  pub stands : (p : ℕ) → StandsAt p (x.bytes ++ rest) (length x.bytes) x.tok
 
 -- no word and no literal goes on with these bytes
 abbrev pub Free : List ℕ → Type 0
 Free rest = is_run (slice_index rest 0) ≡ false
 
--- ---- the order mark is one at the front of a text alone
-
-no-mark-first : (c b m : Bool) (x y z : Opening) → m ≡ false → cond c z (cond (b && m) x y) ≡ cond c z y
-no-mark-first c true m x y z e = rw e refl
-no-mark-first c false m x y z e = refl
-
-pub opening-any : (p : ℕ) (s : List ℕ) → begins order_mark s ≡ false → opening p s ≡ opening 1 s
-unfolding opening
-opening-any p s e = no-mark-first (is_blank (slice_index s 0)) (p == 0) (begins order_mark s) _ _ _ e
-
 -- ---- gaps and symbols
 
 pub fit-blank : (rest : List ℕ) → Fits blank rest
-unfolding opening
-fit-blank rest = record { some_of = omega arith; no_mark = refl; stands = (refl, refl) }
+fit-blank rest = record { some_of = omega arith; stands = λ p. (opens.Blank, refl, (refl, refl)) }
 
 pub fit-line-end : (rest : List ℕ) → Fits line_end rest
-unfolding opening
-fit-line-end rest = record { some_of = omega arith; no_mark = refl; stands = (refl, refl) }
+fit-line-end rest = record { some_of = omega arith; stands = λ p. (opens.Blank, refl, (refl, refl)) }
 
 pub fit-semi : (rest : List ℕ) → Fits (symbol symbol.Semi) rest
-unfolding opening symbol_among
-fit-semi rest = record { some_of = omega arith; no_mark = refl; stands = (refl, refl) }
+unfolding symbol_among
+fit-semi rest = record { some_of = omega arith; stands = λ p. (opens.Symbol symbol.Semi, (refl, refl), (refl, refl)) }
 
 pub fit-comma : (rest : List ℕ) → Fits (symbol symbol.Comma) rest
-unfolding opening symbol_among
-fit-comma rest = record { some_of = omega arith; no_mark = refl; stands = (refl, refl) }
+unfolding symbol_among
+fit-comma rest = record { some_of = omega arith; stands = λ p. (opens.Symbol symbol.Comma, (refl, refl), (refl, refl)) }
 
 pub fit-close : (rest : List ℕ) → Fits (symbol symbol.RParen) rest
-unfolding opening symbol_among
-fit-close rest = record { some_of = omega arith; no_mark = refl; stands = (refl, refl) }
+unfolding symbol_among
+fit-close rest = record { some_of = omega arith; stands = λ p. (opens.Symbol symbol.RParen, (refl, refl), (refl, refl)) }
 
 pub fit-minus : (rest : List ℕ) → Fits (symbol symbol.Minus) rest
-unfolding opening symbol_among
-fit-minus rest = record { some_of = omega arith; no_mark = refl; stands = (refl, refl) }
+unfolding symbol_among
+fit-minus rest = record { some_of = omega arith; stands = λ p. (opens.Symbol symbol.Minus, (refl, refl), (refl, refl)) }
 
 pub fit-assign : (rest : List ℕ) → Fits (symbol symbol.Assign) rest
-unfolding opening symbol_among
-fit-assign rest = record { some_of = omega arith; no_mark = refl; stands = (refl, refl) }
+unfolding symbol_among
+fit-assign rest = record { some_of = omega arith; stands = λ p. (opens.Symbol symbol.Assign, (refl, refl), (refl, refl)) }
 
 pub fit-dots : (rest : List ℕ) → Fits (symbol symbol.DotDot) rest
-unfolding opening symbol_among
-fit-dots rest = record { some_of = omega arith; no_mark = refl; stands = (refl, refl) }
+unfolding symbol_among
+fit-dots rest = record { some_of = omega arith; stands = λ p. (opens.Symbol symbol.DotDot, (refl, refl), (refl, refl)) }
 
 -- before a space
 pub fit-symbol : (y : Sym) (rest : List ℕ) → Fits (symbol y) (32 ∷ rest)
-unfolding opening symbol_among
-fit-symbol symbol.Assign rest = record { some_of = omega arith; no_mark = refl; stands = (refl, refl) }
-fit-symbol symbol.Colon rest = record { some_of = omega arith; no_mark = refl; stands = (refl, refl) }
-fit-symbol symbol.Semi rest = record { some_of = omega arith; no_mark = refl; stands = (refl, refl) }
-fit-symbol symbol.Comma rest = record { some_of = omega arith; no_mark = refl; stands = (refl, refl) }
-fit-symbol symbol.LParen rest = record { some_of = omega arith; no_mark = refl; stands = (refl, refl) }
-fit-symbol symbol.RParen rest = record { some_of = omega arith; no_mark = refl; stands = (refl, refl) }
-fit-symbol symbol.DotDot rest = record { some_of = omega arith; no_mark = refl; stands = (refl, refl) }
-fit-symbol symbol.Plus rest = record { some_of = omega arith; no_mark = refl; stands = (refl, refl) }
-fit-symbol symbol.Minus rest = record { some_of = omega arith; no_mark = refl; stands = (refl, refl) }
-fit-symbol symbol.Star rest = record { some_of = omega arith; no_mark = refl; stands = (refl, refl) }
-fit-symbol symbol.Slash rest = record { some_of = omega arith; no_mark = refl; stands = (refl, refl) }
-fit-symbol symbol.Eq rest = record { some_of = omega arith; no_mark = refl; stands = (refl, refl) }
-fit-symbol symbol.Ne rest = record { some_of = omega arith; no_mark = refl; stands = (refl, refl) }
-fit-symbol symbol.Le rest = record { some_of = omega arith; no_mark = refl; stands = (refl, refl) }
-fit-symbol symbol.Ge rest = record { some_of = omega arith; no_mark = refl; stands = (refl, refl) }
-fit-symbol symbol.Lt rest = record { some_of = omega arith; no_mark = refl; stands = (refl, refl) }
-fit-symbol symbol.Gt rest = record { some_of = omega arith; no_mark = refl; stands = (refl, refl) }
+unfolding symbol_among
+fit-symbol symbol.Assign rest = record { some_of = omega arith; stands = λ p. (opens.Symbol symbol.Assign, (refl, refl), (refl, refl)) }
+fit-symbol symbol.Colon rest = record { some_of = omega arith; stands = λ p. (opens.Symbol symbol.Colon, (refl, refl), (refl, refl)) }
+fit-symbol symbol.Semi rest = record { some_of = omega arith; stands = λ p. (opens.Symbol symbol.Semi, (refl, refl), (refl, refl)) }
+fit-symbol symbol.Comma rest = record { some_of = omega arith; stands = λ p. (opens.Symbol symbol.Comma, (refl, refl), (refl, refl)) }
+fit-symbol symbol.LParen rest = record { some_of = omega arith; stands = λ p. (opens.Symbol symbol.LParen, (refl, refl), (refl, refl)) }
+fit-symbol symbol.RParen rest = record { some_of = omega arith; stands = λ p. (opens.Symbol symbol.RParen, (refl, refl), (refl, refl)) }
+fit-symbol symbol.DotDot rest = record { some_of = omega arith; stands = λ p. (opens.Symbol symbol.DotDot, (refl, refl), (refl, refl)) }
+fit-symbol symbol.Plus rest = record { some_of = omega arith; stands = λ p. (opens.Symbol symbol.Plus, (refl, refl), (refl, refl)) }
+fit-symbol symbol.Minus rest = record { some_of = omega arith; stands = λ p. (opens.Symbol symbol.Minus, (refl, refl), (refl, refl)) }
+fit-symbol symbol.Star rest = record { some_of = omega arith; stands = λ p. (opens.Symbol symbol.Star, (refl, refl), (refl, refl)) }
+fit-symbol symbol.Slash rest = record { some_of = omega arith; stands = λ p. (opens.Symbol symbol.Slash, (refl, refl), (refl, refl)) }
+fit-symbol symbol.Eq rest = record { some_of = omega arith; stands = λ p. (opens.Symbol symbol.Eq, (refl, refl), (refl, refl)) }
+fit-symbol symbol.Ne rest = record { some_of = omega arith; stands = λ p. (opens.Symbol symbol.Ne, (refl, refl), (refl, refl)) }
+fit-symbol symbol.Le rest = record { some_of = omega arith; stands = λ p. (opens.Symbol symbol.Le, (refl, refl), (refl, refl)) }
+fit-symbol symbol.Ge rest = record { some_of = omega arith; stands = λ p. (opens.Symbol symbol.Ge, (refl, refl), (refl, refl)) }
+fit-symbol symbol.Lt rest = record { some_of = omega arith; stands = λ p. (opens.Symbol symbol.Lt, (refl, refl), (refl, refl)) }
+fit-symbol symbol.Gt rest = record { some_of = omega arith; stands = λ p. (opens.Symbol symbol.Gt, (refl, refl), (refl, refl)) }
 
 -- the colon behind the labels of a branch, which ends their line
 pub fit-colon-at-end : (rest : List ℕ) → Fits (symbol symbol.Colon) (10 ∷ rest)
-unfolding opening symbol_among
-fit-colon-at-end rest = record { some_of = omega arith; no_mark = refl; stands = (refl, refl) }
+unfolding symbol_among
+fit-colon-at-end rest = record { some_of = omega arith; stands = λ p. (opens.Symbol symbol.Colon, (refl, refl), (refl, refl)) }
 
 -- no comment begins with these bytes behind `(`
 abbrev pub Safe : List ℕ → Type 0
 Safe rest = nat_eq 42 (slice_index rest 0) ≡ false
 
-open-one : (c : ℕ) (rest : List ℕ) → nat_eq 42 c ≡ false → opening 1 (40 ∷ c ∷ rest) ≡ opens.Symbol symbol.LParen
-unfolding opening symbol_among
-open-one c rest e = rw e refl
-
 pub fit-open : (rest : List ℕ) → Safe rest → Fits (symbol symbol.LParen) rest
-unfolding opening symbol_among
-fit-open [] e = record { some_of = omega arith; no_mark = refl; stands = (refl, refl) }
-fit-open (c ∷ rest) e = record {
-  some_of = omega arith;
-  no_mark = refl;
-  stands = subst (λ (o : Opening). Stands o (40 ∷ c ∷ rest) 1 (Some (tok.Sym symbol.LParen))) (sym (open-one c rest e)) (refl, refl);
-}
+unfolding symbol_among
+fit-open [] e = record { some_of = omega arith; stands = λ p. (opens.Symbol symbol.LParen, (refl, refl), (refl, refl)) }
+fit-open (c ∷ rest) e = record { some_of = omega arith; stands = λ p. (opens.Symbol symbol.LParen, (rw e refl, refl), (refl, refl)) }
 
 -- ---- runs
 
@@ -145,15 +123,8 @@ digit-is-run b e = grind (arith, nat_tests)
 
 -- ---- words
 
-begins-no-gap : (b : ℕ) → begins_word b ≡ true → is_blank b ≡ false
-begins-no-gap b e = grind (arith, nat_tests)
-
-begins-no-mark : (b : ℕ) → begins_word b ≡ true → (nat_eq 40 b ≡ false) × (nat_eq 47 b ≡ false) × (nat_eq 239 b ≡ false) × (nat_eq 42 b ≡ false)
-begins-no-mark b e = (grind (arith, nat_tests), grind (arith, nat_tests), grind (arith, nat_tests), grind (arith, nat_tests))
-
-opening-word : (b : ℕ) (s : List ℕ) → begins_word b ≡ true → opening 1 (b ∷ s) ≡ word_opening (type_at (b ∷ s))
-unfolding opening
-opening-word b s e = let m = begins-no-mark b e in rw (begins-no-gap b e, m.0, m.1, e) refl
+begins-no-star : (b : ℕ) → begins_word b ≡ true → nat_eq 42 b ≡ false
+begins-no-star b e = grind (arith, nat_tests)
 
 -- no word with `#` behind it stands where a word ends
 
@@ -176,24 +147,25 @@ no-prefix (b ∷ w) rest [] e f g = rw (no-hash-within b (both (is_word b) _ e).
 no-prefix (b ∷ w) rest (c ∷ q) e f g =
     and-false (nat_eq (to_ascii_lowercase b) (to_ascii_lowercase c)) _ (no-prefix w rest q (both (is_word b) _ e).1 f (both (is_word c) _ g).1)
 
-no-type : (w rest : List ℕ) → list_all is_word w ≡ true → Free rest → type_at (w ++ rest) ≡ None
-unfolding type_at
-no-type w rest e f =
-    rw (no-prefix w rest (66 ∷ 79 ∷ 79 ∷ 76 ∷ []) e f refl, no-prefix w rest (73 ∷ 78 ∷ 84 ∷ []) e f refl, no-prefix w rest (68 ∷ 73 ∷ 78 ∷ 84 ∷ []) e f refl)
-    refl
+no-type : (w rest : List ℕ) → list_all is_word w ≡ true → Free rest → (t : Ty) → begins_typed t (w ++ rest) ≡ false
+no-type w rest e f ty.Bool = no-prefix w rest (66 ∷ 79 ∷ 79 ∷ 76 ∷ []) e f refl
+no-type w rest e f ty.Int = no-prefix w rest (73 ∷ 78 ∷ 84 ∷ []) e f refl
+no-type w rest e f ty.Dint = no-prefix w rest (68 ∷ 73 ∷ 78 ∷ 84 ∷ []) e f refl
+no-type w rest e f ty.Lint = no-prefix w rest (76 ∷ 73 ∷ 78 ∷ 84 ∷ []) e f refl
 
 pub fit-word : (w : List ℕ) (t : Tok) (rest : List ℕ) → IsWordOf w t → Free rest → Fits (record { bytes = w; tok = Some t }) rest
 fit-word [] t rest h f = absurd (let e = h.begins in cc)
 fit-word (b ∷ bs) t rest h f =
     let s = b ∷ (bs ++ rest) in
-    let is_read : opening 1 s ≡ opens.Word = opening-word b (bs ++ rest) h.begins ∙ ap word_opening (no-type (b ∷ bs) rest h.each f) in
     let long : prefix_len is_word s ≡ length (b ∷ bs) =
     run-is is_word (b ∷ bs) rest h.each refl (no-run-no-word (slice_index rest 0) f) in
     record {
       some_of = omega arith;
-      no_mark = rw (begins-no-mark b h.begins).2 refl;
-      stands = subst (λ (o : Opening). Stands o s (length (b ∷ bs)) (Some t)) (sym is_read)
-          (sym long, ap (λ (x : Tok). Some x) (sym h.is ∙ ap words.word (sym (take_at (b ∷ bs) rest (length (b ∷ bs)) refl))));
+      stands = λ p. (
+        opens.Word,
+        (h.begins, no-type (b ∷ bs) rest h.each f),
+        (sym long, ap (λ (x : Tok). Some x) (sym h.is ∙ ap words.word (sym (take_at (b ∷ bs) rest (length (b ∷ bs)) refl)))),
+      );
     }
 
 pub key-is : (k : Key) → IsWordOf (words.spelling k) (tok.Key k)
@@ -209,6 +181,7 @@ key-is key.EndVar = record { begins = refl; each = refl; is = refl }
 key-is key.Bool = record { begins = refl; each = refl; is = refl }
 key-is key.Int = record { begins = refl; each = refl; is = refl }
 key-is key.Dint = record { begins = refl; each = refl; is = refl }
+key-is key.Lint = record { begins = refl; each = refl; is = refl }
 key-is key.If = record { begins = refl; each = refl; is = refl }
 key-is key.Then = record { begins = refl; each = refl; is = refl }
 key-is key.Elsif = record { begins = refl; each = refl; is = refl }
@@ -229,7 +202,6 @@ key-is key.Not = record { begins = refl; each = refl; is = refl }
 key-is key.Mod = record { begins = refl; each = refl; is = refl }
 key-is key.True = record { begins = refl; each = refl; is = refl }
 key-is key.False = record { begins = refl; each = refl; is = refl }
-key-is key.Lint = record { begins = refl; each = refl; is = refl }
 key-is key.Sint = record { begins = refl; each = refl; is = refl }
 key-is key.Usint = record { begins = refl; each = refl; is = refl }
 key-is key.Uint = record { begins = refl; each = refl; is = refl }
@@ -255,13 +227,6 @@ pub fit-key : (k : Key) (rest : List ℕ) → Free rest → Fits (word k) rest
 fit-key k rest f = fit-word (words.spelling k) (tok.Key k) rest (key-is k) f
 
 -- ---- numbers
-
-digit-opens : (b : ℕ) → is_ascii_digit b ≡ true → (is_blank b ≡ false) × (nat_eq 40 b ≡ false) × (nat_eq 47 b ≡ false) × (nat_eq 239 b ≡ false) × (begins_word b ≡ false)
-digit-opens b e = (grind (arith, nat_tests), grind (arith, nat_tests), grind (arith, nat_tests), grind (arith, nat_tests), grind (arith, nat_tests))
-
-opening-digit : (b : ℕ) (s : List ℕ) → is_ascii_digit b ≡ true → opening 1 (b ∷ s) ≡ opens.Literal None
-unfolding opening
-opening-digit b s e = let m = digit-opens b e in rw (m.0, m.1, m.2, m.4, e) refl
 
 run-of : (ds rest : List ℕ) → list_all is_ascii_digit ds ≡ true → Free rest → run (ds ++ rest) ≡ ds
 run-of ds rest e f =
@@ -313,35 +278,51 @@ untyped n (c ∷ ds) rest d r =
     let e = (both (is_ascii_digit c) _ d.each).0 in
     record {
       some_of = omega arith;
-      no_mark = rw (digit-opens c e).3 refl;
-      stands = subst (λ (o : Opening). Stands o (c ∷ (ds ++ rest)) (length (c ∷ ds)) (Some (tok.Number None (pos n)))) (sym (opening-digit c (ds ++ rest) e))
-          (r.literal, r.is_read, omega (arith, r.len), ap (λ (x : ℤ). Some (tok.Number None x)) (sym r.value));
+      stands = λ p. (opens.Literal None, e, (r.literal, r.is_read, omega (arith, r.len), ap (λ (x : ℤ). Some (tok.Number None x)) (sym r.value)));
     }
 
 pub fit-number : (t : Option Ty) (v : ℤ) (rest : List ℕ) → IsValue t v → Free rest → Fits (number t v) rest
-unfolding opening type_at
 fit-number None (pos n) rest h f = untyped n (decimal n) rest (decimal-is n h) (read-value None (pos n) rest h f)
 fit-number None (negsuc n) rest h f = absurd (let e = h.0 in cc)
 fit-number (Some ty.Bool) v rest h f =
     let r = read-value (Some ty.Bool) v rest h f in
     record {
       some_of = omega arith;
-      no_mark = refl;
-      stands = (r.literal, r.is_read, omega (arith, r.len), ap (λ (x : ℤ). Some (tok.Number (Some ty.Bool) x)) (sym r.value));
+      stands = λ p. (
+        opens.Literal (Some ty.Bool),
+        refl,
+        (r.literal, r.is_read, omega (arith, r.len), ap (λ (x : ℤ). Some (tok.Number (Some ty.Bool) x)) (sym r.value)),
+      );
     }
 fit-number (Some ty.Int) v rest h f =
     let r = read-value (Some ty.Int) v rest h f in
     record {
       some_of = omega arith;
-      no_mark = refl;
-      stands = (r.literal, r.is_read, omega (arith, r.len), ap (λ (x : ℤ). Some (tok.Number (Some ty.Int) x)) (sym r.value));
+      stands = λ p. (
+        opens.Literal (Some ty.Int),
+        refl,
+        (r.literal, r.is_read, omega (arith, r.len), ap (λ (x : ℤ). Some (tok.Number (Some ty.Int) x)) (sym r.value)),
+      );
     }
 fit-number (Some ty.Dint) v rest h f =
     let r = read-value (Some ty.Dint) v rest h f in
     record {
       some_of = omega arith;
-      no_mark = refl;
-      stands = (r.literal, r.is_read, omega (arith, r.len), ap (λ (x : ℤ). Some (tok.Number (Some ty.Dint) x)) (sym r.value));
+      stands = λ p. (
+        opens.Literal (Some ty.Dint),
+        refl,
+        (r.literal, r.is_read, omega (arith, r.len), ap (λ (x : ℤ). Some (tok.Number (Some ty.Dint) x)) (sym r.value)),
+      );
+    }
+fit-number (Some ty.Lint) v rest h f =
+    let r = read-value (Some ty.Lint) v rest h f in
+    record {
+      some_of = omega arith;
+      stands = λ p. (
+        opens.Literal (Some ty.Lint),
+        refl,
+        (r.literal, r.is_read, omega (arith, r.len), ap (λ (x : ℤ). Some (tok.Number (Some ty.Lint) x)) (sym r.value)),
+      );
     }
 
 either : (P : Lexeme → Type 0) (t : Bool) (x y : Lexeme) → P x → P y → P (cond t x y)
@@ -359,12 +340,13 @@ fit-literal None v rest h f = fit-number None v rest h f
 fit-literal (Some ty.Bool) v rest h f = fit-truth v rest h f
 fit-literal (Some ty.Int) v rest h f = fit-number (Some ty.Int) v rest h f
 fit-literal (Some ty.Dint) v rest h f = fit-number (Some ty.Dint) v rest h f
+fit-literal (Some ty.Lint) v rest h f = fit-number (Some ty.Lint) v rest h f
 
 -- ---- how a word or a literal begins, behind an opening bracket
 
 word-safe : (w rest : List ℕ) (t : Tok) → IsWordOf w t → Safe (w ++ rest)
 word-safe [] rest t h = absurd (let e = h.begins in cc)
-word-safe (b ∷ w) rest t h = (begins-no-mark b h.begins).3
+word-safe (b ∷ w) rest t h = begins-no-star b h.begins
 
 pub name-safe : (w rest : List ℕ) → IsName w → Safe (w ++ rest)
 name-safe w rest h = word-safe w rest tok.Name h
@@ -382,6 +364,7 @@ number-safe None (negsuc n) rest h = absurd (let e = h.0 in cc)
 number-safe (Some ty.Bool) v rest h = refl
 number-safe (Some ty.Int) v rest h = refl
 number-safe (Some ty.Dint) v rest h = refl
+number-safe (Some ty.Lint) v rest h = refl
 
 truth-safe : (v : ℤ) (rest : List ℕ) → IsValue (Some ty.Bool) v → Safe ((truth v).bytes ++ rest)
 truth-safe (pos n) rest h =
@@ -394,3 +377,4 @@ literal-safe None v rest h = number-safe None v rest h
 literal-safe (Some ty.Bool) v rest h = truth-safe v rest h
 literal-safe (Some ty.Int) v rest h = number-safe (Some ty.Int) v rest h
 literal-safe (Some ty.Dint) v rest h = number-safe (Some ty.Dint) v rest h
+literal-safe (Some ty.Lint) v rest h = number-safe (Some ty.Lint) v rest h

@@ -1,7 +1,6 @@
 -- The lexemes of a list of items, each by its place, and what a loop over the items has written.
-use Rattle.std.proofs.Common.{◌≡◌, ℕ, zero, suc, ◌+◌, ◌<◌, ◌≤◌, List, [], ◌∷◌, ◌++◌, length, get_or, take, arith, refl, sym, ap, ◌∙◌}
+use Rattle.std.proofs.Common.{◌≡◌, ℕ, zero, suc, ◌+◌, ◌<◌, ◌≤◌, List, [], ◌∷◌, ◌++◌, length, get_or, take, arith, sym, ap, ◌∙◌}
 use Rattle.std.proofs.lemmas.List.{append_assoc, append-nil, take_all}
-use Rattle.st_writer.specs.Lexemes as lexeme
 use Rattle.st_writer.specs.Lexemes.{Lexeme}
 use Rattle.st_writer.specs.Extended.{extended}
 use Rattle.st_writer.proofs.Extends.{extended-append}
@@ -31,18 +30,3 @@ turn f xs i x old now new h e m n =
 pub ends : {X : Type 0} (f : ℕ → X → List Lexeme) (xs : List X) (i : ℕ) (old now : List ℕ) → length xs ≤ i
     → now ≡ extended old (all f (take i xs)) → now ≡ extended old (all f xs)
 ends f xs i old now h e = e ∙ ap (λ t. extended old (all f t)) (take_all i xs h)
-
-indent-more : (n : ℕ) → lexeme.indent (suc n) ≡ lexeme.indent n ++ lexeme.blank ∷ lexeme.blank ∷ []
-indent-more zero = refl
-indent-more (suc n) = ap (λ (t : List Lexeme). lexeme.blank ∷ lexeme.blank ∷ t) (indent-more n)
-
-spaces : (text : List ℕ) → text ++ 32 ∷ 32 ∷ [] ≡ (text ++ 32 ∷ []) ++ 32 ∷ []
-spaces text = sym (append_assoc text (32 ∷ []) (32 ∷ []))
-
--- the turn of the loop that writes an indent
-pub indent-turn : (i : ℕ) (old now new : List ℕ) → now ≡ extended old (lexeme.indent i) → new ≡ now ++ 32 ∷ 32 ∷ [] → new ≡ extended old (lexeme.indent (i + 1))
-indent-turn i old now new m n =
-    let more : i + 1 ≡ suc i = omega arith in
-    n ∙ ap (λ (t : List ℕ). t ++ 32 ∷ 32 ∷ []) m ∙ spaces (extended old (lexeme.indent i))
-    ∙ sym (extended-append old (lexeme.indent i) (lexeme.blank ∷ lexeme.blank ∷ []))
-    ∙ ap (λ (t : List Lexeme). extended old t) (sym (indent-more i)) ∙ ap (λ t. extended old (lexeme.indent t)) (sym more)

@@ -110,3 +110,4 @@ plain-is (Some ty.Bool) ds n d =
     rw (no-word 84 (82 ∷ 85 ∷ 69 ∷ []) ds n d (omega arith), no-word 70 (65 ∷ 76 ∷ 83 ∷ 69 ∷ []) ds n d (omega arith)) (based-is ds n d)
 plain-is (Some ty.Int) ds n d = based-is ds n d
 plain-is (Some ty.Dint) ds n d = based-is ds n d
+plain-is (Some ty.Lint) ds n d = based-is ds n d

@@ -9,16 +9,15 @@ use Rattle.vcp_base.specs.declared.ty.Ty.{Ty}
 use Rattle.vcp_base.specs.declared.ty.Ty.TheVariants as ty
 use Rattle.st_lexer.specs.declared.token.Key.{Key}
 use Rattle.st_lexer.specs.declared.token.Key.TheVariants as key
-use Rattle.st_lexer.specs.declared.token.Sym.{Sym}
 use Rattle.st_lexer.specs.declared.token.Tok.{Tok}
 use Rattle.st_lexer.specs.declared.token.Tok.TheVariants as tok
 use Rattle.st_lexer.specs.declared.token.Token.{Token}
 use Rattle.st_lexer.specs.declared.literal.Literal.{Literal}
 use Rattle.st_lexer.specs.declared.piece.Opening.{Opening}
 use Rattle.st_lexer.specs.declared.piece.Opening.TheVariants as opens
-use Rattle.st_lexer.specs.Literals.{begins_word, is_word, are_digits, number, digits, based, plain, prefix, takes_sign, signed, type_at, literal_at, literal_of}
-use Rattle.st_lexer.specs.Reading.{is_blank, order_mark, opening, word_opening, symbol_opening, Stands, Piece, Cover, token_of, tokens_of, Reads}
-use Rattle.st_lexer.specs.Symbols.{begins, symbol_among, all_symbols}
+use Rattle.st_lexer.specs.Literals.{begins_word, is_word, are_digits, number, digits, based, plain, prefix, takes_sign, signed, literal_at, literal_of}
+use Rattle.st_lexer.specs.Reading.{Begins, Stands, StandsAt, Piece, Cover, token_of, tokens_of, Reads}
+use Rattle.st_lexer.specs.Symbols.{begins}
 use Rattle.st_lexer.specs.Words.{word, key_or_name, key_among, all_keys}
 use Rattle.st_spelling.specs.Spelling.{bytes_in}
 use Rattle.st_writer.proofs.Numbers.{both}
@@ -70,6 +69,7 @@ plain-below (Some ty.Bool) s n e =
     (λ _ h. based-below s n h))
 plain-below (Some ty.Int) s n e = based-below s n e
 plain-below (Some ty.Dint) s n e = based-below s n e
+plain-below (Some ty.Lint) s n e = based-below s n e
 
 of-number : (t : Option Ty) (m : ℕ) (f : ℕ → ℤ) (o : Option ℕ) (l : Literal) → literal_of m f o ≡ Some l → ((n : ℕ) → o ≡ Some n → IsValue t (f n)) → IsValue t l.value
 of-number t m f None l e g = absurd cc
@@ -124,57 +124,26 @@ says-word w (tok.Number t v) b h e = absurd (no-number (key_among all_keys w) t 
 says-word w (tok.Key k) b h e = tt
 says-word w (tok.Sym y) b h e = tt
 
--- what an opening says of the text
-abbrev Fronts : Opening → List ℕ → Type 0
-Fronts opens.Word s = begins_word (slice_index s 0) ≡ true
-Fronts _ s = Unit {0}
-
-opens-so : (P : Opening → Type 0) (t : Bool) (x y : Opening) → (t ≡ true → P x) → (t ≡ false → P y) → P (cond t x y)
-opens-so P true x y f g = f refl
-opens-so P false x y f g = g refl
-
-word-front : (t : Option Ty) (s : List ℕ) → begins_word (slice_index s 0) ≡ true → Fronts (word_opening t) s
-word-front None s e = e
-word-front (Some t) s e = tt
-
-symbol-front : (o : Option Sym) (s : List ℕ) → Fronts (symbol_opening o) s
-symbol-front None s = tt
-symbol-front (Some y) s = tt
-
-fronts : (p : ℕ) (s : List ℕ) → Fronts (opening p s) s
-unfolding opening
-fronts p s =
-    let P : Opening → Type 0 = λ o. Fronts o s in
-    opens-so P (is_blank (slice_index s 0)) _ _ (λ _. tt)
-    (λ _. opens-so P (p == 0 && begins order_mark s) _ _ (λ _. tt)
-    (λ _. opens-so P (begins (codes "(*") s) _ _ (λ _. tt)
-    (λ _. opens-so P (begins (codes "/*") s) _ _ (λ _. tt)
-    (λ _. opens-so P (begins (codes "//") s) _ _ (λ _. tt)
-    (λ _. opens-so P (begins_word (slice_index s 0)) _ _ (λ e. word-front (type_at s) s e)
-    (λ _. opens-so P (is_ascii_digit (slice_index s 0)) _ _ (λ _. tt)
-    (λ _. opens-so P (slice_index s 0 == 38) _ _ (λ _. tt)
-    (λ _. symbol-front (symbol_among all_symbols s) s))))))))
-
 -- ---- tokens
 
 same-tok : (w : List ℕ) (t u : Tok) → Some t ≡ Some u → Says w u → Says w t
 same-tok w t u e h = let same : u ≡ t = cc in subst (Says w) same h
 
-by-opening : (o : Opening) (s : List ℕ) (n : ℕ) (t : Tok) → Fronts o s → Stands o s n (Some t) → Says (take n s) t
-by-opening opens.Blank s n t f st = absurd (let e = st.1 in cc)
-by-opening opens.OrderMark s n t f st = absurd (let e = st.1 in cc)
-by-opening (opens.Comment last) s n t f st = absurd (let e = st.1 in cc)
-by-opening opens.LineComment s n t f st = absurd (let e = st.1 in cc)
-by-opening opens.Word s n t f st =
+by-opening : (o : Opening) (p : ℕ) (s : List ℕ) (n : ℕ) (t : Tok) → Begins p s o → Stands o s n (Some t) → Says (take n s) t
+by-opening opens.Blank p s n t b st = absurd (let e = st.1 in cc)
+by-opening opens.OrderMark p s n t b st = absurd (let e = st.1 in cc)
+by-opening (opens.Comment last) p s n t b st = absurd (let e = st.1 in cc)
+by-opening opens.LineComment p s n t b st = absurd (let e = st.1 in cc)
+by-opening opens.Word p s n t b st =
     let w = take (prefix_len is_word s) s in
     let cut : take n s ≡ w = ap (λ k. take k s) st.0 in
     subst (λ (x : List ℕ). Says x t) (sym cut)
-    (same-tok w t (word w) (st.1 ∙ ap (λ (x : List ℕ). Some (word x)) cut) (says-word w (word w) (first-of-run s f) (all-of-run is_word s) refl))
-by-opening (opens.Literal ty) s n t f st =
+    (same-tok w t (word w) (st.1 ∙ ap (λ (x : List ℕ). Some (word x)) cut) (says-word w (word w) (first-of-run s b.0) (all-of-run is_word s) refl))
+by-opening (opens.Literal ty) p s n t b st =
     same-tok (take n s) t (tok.Number ty st.0.value) st.3 (literal-value ty (drop (length (prefix ty)) s) st.0 st.1)
-by-opening opens.Ampersand s n t f st = same-tok (take n s) t (tok.Key key.And) st.1 tt
-by-opening (opens.Symbol y) s n t f st = same-tok (take n s) t (tok.Sym y) st.1 tt
-by-opening opens.Nothing s n t f st = absurd st
+by-opening opens.Ampersand p s n t b st = same-tok (take n s) t (tok.Key key.And) st.1 tt
+by-opening (opens.Symbol y) p s n t b st = same-tok (take n s) t (tok.Sym y) st.1 tt
+by-opening opens.Nothing p s n t b st = absurd st
 
 -- each token is what its bytes are read as
 abbrev pub EachSays : List ℕ → List Token → Type 0
@@ -182,12 +151,12 @@ EachSays text [] = Unit {0}
 EachSays text (t ∷ ts) = Says (bytes_in text t) t.tok × EachSays text ts
 
 says-one : (text : List ℕ) (p : Piece) (n : ℕ) (o : Option Tok) (ts : List Token) → p.to ≡ p.from + n
-    → Stands (opening p.from (drop p.from text)) (drop p.from text) n o → EachSays text ts → EachSays text (token_of text p o ++ ts)
+    → StandsAt p.from (drop p.from text) n o → EachSays text ts → EachSays text (token_of text p o ++ ts)
 says-one text p n None ts e st h = h
 says-one text p n (Some t) ts e st h =
     let s = drop p.from text in
     let len : n ≡ p.to - p.from = omega (arith, e) in
-    (subst (λ k. Says (take k s) t) len (by-opening (opening p.from s) s n t (fronts p.from s) st), h)
+    (subst (λ k. Says (take k s) t) len (by-opening st.0 p.from s n t st.1 st.2), h)
 
 says-each : (text : List ℕ) (ps : List Piece) (a b : ℕ) → Cover text ps a b → EachSays text (tokens_of text ps)
 says-each text [] a b c = tt

@@ -18,13 +18,13 @@ o = record { line = 1; col = 1 }
 abbrev v : List ℕ → ExprTree
 v n = name n o
 
--- y := x + z on a DINT (numbers are not computed here: their digits are those of std)
+-- y := x + z on a DINT, into a LINT (numbers are not computed here: their digits are those of std)
 increment : canonical (record {
   name = codes "p";
   blocks = record { class = class.Input; decls = record { names = record { name = codes "x"; spot = o } ∷ []; ty = ty.Dint; init = None } ∷ [] }
-      ∷ record { class = class.Output; decls = record { names = record { name = codes "y"; spot = o } ∷ []; ty = ty.Dint; init = None } ∷ [] } ∷ [];
+      ∷ record { class = class.Output; decls = record { names = record { name = codes "y"; spot = o } ∷ []; ty = ty.Lint; init = None } ∷ [] } ∷ [];
   body = and_stmt (assign (codes "y") (binary bin.Add (v (codes "x")) (v (codes "z")) o) o) no_stmts;
-}) ≡ codes "PROGRAM p" ++ 10 ∷ codes "VAR_INPUT" ++ 10 ∷ codes "  x : DINT;" ++ 10 ∷ codes "END_VAR" ++ 10 ∷ codes "VAR_OUTPUT" ++ 10 ∷ codes "  y : DINT;" ++ 10
+}) ≡ codes "PROGRAM p" ++ 10 ∷ codes "VAR_INPUT" ++ 10 ∷ codes "  x : DINT;" ++ 10 ∷ codes "END_VAR" ++ 10 ∷ codes "VAR_OUTPUT" ++ 10 ∷ codes "  y : LINT;" ++ 10
     ∷ codes "END_VAR" ++ 10 ∷ codes "  y := x + z;" ++ 10 ∷ codes "END_PROGRAM" ++ 10 ∷ []
 increment = refl
 

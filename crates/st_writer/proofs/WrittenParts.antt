@@ -116,6 +116,7 @@ module _ (bytes : Token → List ℕ) where
   literal_by_type (Some ty.Bool) (negsuc n) ts w = literal_by (tok.Number (Some ty.Bool) (negsuc n)) _ _ ts refl w
   literal_by_type (Some ty.Int) v ts w = literal_by (tok.Number (Some ty.Int) v) _ _ ts refl w
   literal_by_type (Some ty.Dint) v ts w = literal_by (tok.Number (Some ty.Dint) v) _ _ ts refl w
+  literal_by_type (Some ty.Lint) v ts w = literal_by (tok.Number (Some ty.Lint) v) _ _ ts refl w
 
   pub literal_again : (v : Value) (ts : List Token) → Written bytes (lexeme.literal v.ty v.value ∷ []) ts → Literal v ts
   literal_again v ts w = literal_by_type v.ty v.value ts w

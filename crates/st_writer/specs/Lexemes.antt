@@ -62,6 +62,7 @@ abbrev pub literal : Option Ty → ℤ → Lexeme
 literal (Some ty.Bool) v = truth v
 literal (Some ty.Int) v = number (Some ty.Int) v
 literal (Some ty.Dint) v = number (Some ty.Dint) v
+literal (Some ty.Lint) v = number (Some ty.Lint) v
 literal None v = number None v
 
 -- two spaces a level

@@ -5,6 +5,7 @@
 #![tactic(auto)]
 
 mod expr;
+mod indent;
 mod program;
 mod stmt;
 mod writer;

@@ -31,6 +31,7 @@ fn type_key(ty: Ty) -> Key
         Ty::Bool => Key::Bool,
         Ty::Int => Key::Int,
         Ty::Dint => Key::Dint,
+        Ty::Lint => Key::Lint,
     }
 }
 
@@ -80,7 +81,8 @@ impl Writer {
     fn decl(&mut self, decl: &Decl) -> Result<(), Memory>
         ensures text { OnOk result (self.new ≡ extended self.old (spec.decl (decl_tree decl.now))) }
     {
-        self.indent(1)?;
+        self.blank()?;
+        self.blank()?;
         self.names(&decl.names.items)?;
         self.of_type(decl.ty)?;
         self.init(&decl.init)?;
@@ -128,7 +130,7 @@ impl Writer {
         self.class(block.class)?;
         self.line_end()?;
         self.decls(&block.decls.items)?;
-        self.keyword_line(0, Key::EndVar)
+        self.keyword_line(Key::EndVar)
     }
 
     fn blocks(&mut self, blocks: &[Block]) -> Result<(), Memory>
@@ -157,8 +159,9 @@ impl Writer {
     {
         self.heading(&program.name)?;
         self.blocks(&program.blocks.items)?;
-        self.stmts(1, &program.body.items)?;
-        self.keyword_line(0, Key::EndProgram)
+        let indent = self.first_indent()?;
+        self.stmts(&indent, &program.body.items)?;
+        self.keyword_line(Key::EndProgram)
     }
 }
 
@@ -179,7 +182,8 @@ fn canonical_text(alloc: Global, program: &Program) -> Result<Text, Memory>
 pub fn write_program(alloc: Global, program: &Program) -> Result<Text, Memory>
     ensures text { IfOk result (λ t. t ≡ spec.canonical (program_tree program.now)) }
     ensures one { (p : ProgramTree) → bare p ≡ bare (program_tree program.now) → IfOk result (λ t. t ≡ spec.canonical p) }
-    ensures reads_back { (limit : ℕ) (text : List ℕ) (ts : List Token) → Reads text ts → SpellsWithin limit (program_tree program.now) text ts → IfOk result (ReadsAs limit (program_tree program.now)) }
+    ensures reads_back { (limit : ℕ) (text : List ℕ) (ts : List Token) → Reads text ts
+        → SpellsWithin limit (program_tree program.now) text ts → IfOk result (ReadsAs limit (program_tree program.now)) }
 {
     canonical_text(alloc, program)
 }

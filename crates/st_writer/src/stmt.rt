@@ -1,6 +1,6 @@
 //! Statements.
 
-ghost use Rattle.std.specs.Prelude.{◌≡◌, ◌++◌, ◌∷◌, [], suc, IfOk, OnOk};
+ghost use Rattle.std.specs.Prelude.{◌≡◌, ◌++◌, ◌∷◌, [], suc, OnOk};
 ghost use Rattle.st_lexer.specs.declared.token.Key.TheVariants as keys;
 ghost use Rattle.st_lexer.specs.declared.token.Sym.TheVariants as sym;
 ghost use Rattle.st_spelling.specs.Operators.{any_level};
@@ -12,20 +12,11 @@ ghost use Rattle.st_writer.specs.Extended.{extended, arm_key as arm_key_of};
 ghost use Rattle.st_writer.specs.Lexemes as lexeme;
 
 use crate::expr::ANY;
+use crate::indent::Indent;
 use crate::writer::Writer;
 use st_lexer::{Key, Sym};
 use st_tree::{Arm, Branch, Expr, Label, Stmt, Stmts, UnOp, trees_of_nodes};
 use vcp_base::{Memory, Text};
-
-/// The level below a level. One that no number counts has no room for its indent.
-fn deeper(level: u64) -> Result<u64, Memory>
-    ensures { IfOk result (λ n. n ≡ suc level) }
-{
-    match level.checked_add(1) {
-        Some(next) => Ok(next),
-        None => Err(Memory),
-    }
-}
 
 // The keyword of condition `i` of an IF.
 fn arm_key(i: usize) -> Key
@@ -106,12 +97,12 @@ impl Writer {
 // Lines of statements.
 impl Writer {
     #[tactic(auto, using(crate::proofs::Extends::writing))]
-    fn assignment(&mut self, level: u64, name: &Text, value: &Expr) -> Result<(), Memory>
-        ensures text { OnOk result (self.new ≡ extended self.old (lexeme.line level
+    fn assignment(&mut self, indent: &Indent, name: &Text, value: &Expr) -> Result<(), Memory>
+        ensures text { OnOk result (self.new ≡ extended self.old (lexeme.line indent.now
             (lexeme.name name.now ∷ lexeme.blank ∷ lexeme.symbol sym.Assign ∷ lexeme.blank
             ∷ (expr any_level (expr_tree value.now) ++ lexeme.symbol sym.Semi ∷ [])))) }
     {
-        self.indent(level)?;
+        self.indent(indent)?;
         self.target(name)?;
         self.expr(ANY, value)?;
         self.symbol(Sym::Semi)?;
@@ -131,11 +122,11 @@ impl Writer {
 
     // Writes the line of a keyword, an expression and a keyword, as `IF x THEN`.
     #[tactic(auto, using(crate::proofs::Extends::writing))]
-    fn head(&mut self, level: u64, first: Key, e: &Expr, last: Key) -> Result<(), Memory>
-        ensures text { OnOk result (self.new ≡ extended self.old (lexeme.line level
+    fn head(&mut self, indent: &Indent, first: Key, e: &Expr, last: Key) -> Result<(), Memory>
+        ensures text { OnOk result (self.new ≡ extended self.old (lexeme.line indent.now
             (lexeme.word first ∷ lexeme.blank ∷ (expr any_level (expr_tree e.now) ++ lexeme.blank ∷ lexeme.word last ∷ [])))) }
     {
-        self.indent(level)?;
+        self.indent(indent)?;
         self.word(first)?;
         self.blank()?;
         self.expr(ANY, e)?;
@@ -146,31 +137,31 @@ impl Writer {
 
     // Writes the line that ends a statement, as `END_IF;`.
     #[tactic(auto, using(crate::proofs::Extends::writing))]
-    fn end(&mut self, level: u64, key: Key) -> Result<(), Memory>
-        ensures text { OnOk result (self.new ≡ extended self.old (lexeme.line level (lexeme.word key ∷ lexeme.symbol sym.Semi ∷ []))) }
+    fn end(&mut self, indent: &Indent, key: Key) -> Result<(), Memory>
+        ensures text { OnOk result (self.new ≡ extended self.old (lexeme.line indent.now (lexeme.word key ∷ lexeme.symbol sym.Semi ∷ []))) }
     {
-        self.indent(level)?;
+        self.indent(indent)?;
         self.word(key)?;
         self.symbol(Sym::Semi)?;
         self.line_end()
     }
 
-    /// Writes a line of one keyword.
+    /// Writes a keyword and ends the line.
     #[tactic(auto, using(crate::proofs::Extends::writing))]
-    pub fn keyword_line(&mut self, level: u64, key: Key) -> Result<(), Memory>
-        ensures text { OnOk result (self.new ≡ extended self.old (lexeme.line level (lexeme.word key ∷ []))) }
+    pub fn keyword_line(&mut self, key: Key) -> Result<(), Memory>
+        ensures text { OnOk result (self.new ≡ extended self.old (lexeme.line 0 (lexeme.word key ∷ []))) }
     {
-        self.indent(level)?;
         self.word(key)?;
         self.line_end()
     }
 
     // Writes the line of a branch's labels.
     #[tactic(auto, using(crate::proofs::Extends::writing))]
-    fn labels_line(&mut self, level: u64, labels: &[Label]) -> Result<(), Memory>
-        ensures text { OnOk result (self.new ≡ extended self.old (lexeme.line level (canonical.labels (label_trees labels.now) ++ lexeme.symbol sym.Colon ∷ []))) }
+    fn labels_line(&mut self, indent: &Indent, labels: &[Label]) -> Result<(), Memory>
+        ensures text { OnOk result (self.new
+            ≡ extended self.old (lexeme.line indent.now (canonical.labels (label_trees labels.now) ++ lexeme.symbol sym.Colon ∷ []))) }
     {
-        self.indent(level)?;
+        self.indent(indent)?;
         self.labels(labels)?;
         self.symbol(Sym::Colon)?;
         self.line_end()
@@ -221,18 +212,18 @@ impl Writer {
     #[tactic(auto, using(crate::proofs::Extends::writing))]
     fn for_line(
         &mut self,
-        level: u64,
+        indent: &Indent,
         name: &Text,
         first: &Expr,
         last: &Expr,
         by: &Option<Expr>,
     ) -> Result<(), Memory>
-        ensures text { OnOk result (self.new ≡ extended self.old (lexeme.line level
+        ensures text { OnOk result (self.new ≡ extended self.old (lexeme.line indent.now
             (lexeme.word keys.For ∷ lexeme.blank ∷ lexeme.name name.now ∷ lexeme.blank ∷ lexeme.symbol sym.Assign ∷ lexeme.blank
             ∷ (expr any_level (expr_tree first.now) ++ lexeme.blank ∷ lexeme.word keys.To ∷ lexeme.blank
             ∷ (expr any_level (expr_tree last.now) ++ lexeme.blank ∷ (canonical.step (expr_tree_or_none by.now) ++ lexeme.word keys.Do ∷ [])))))) }
     {
-        self.indent(level)?;
+        self.indent(indent)?;
         self.word(Key::For)?;
         self.blank()?;
         self.target(name)?;
@@ -243,30 +234,30 @@ impl Writer {
 
 // Statements, with their bodies.
 impl Writer {
-    /// Writes statements at a level.
+    /// Writes statements behind an indent.
     #[cycle(stmt)]
     #[tactic(auto, using(crate::proofs::Extends::writing))]
-    pub fn stmts(&mut self, level: u64, stmts: &[Stmt]) -> Result<(), Memory>
-        ensures text { OnOk result (self.new ≡ extended self.old (canonical.stmts level (stmt_trees stmts.now))) }
+    pub fn stmts(&mut self, indent: &Indent, stmts: &[Stmt]) -> Result<(), Memory>
+        ensures text { OnOk result (self.new ≡ extended self.old (canonical.stmts indent.now (stmt_trees stmts.now))) }
     {
         for i in 0..stmts.len() {
-            self.stmt(level, &stmts[i])?;
+            self.stmt(indent, &stmts[i])?;
         }
         Ok(())
     }
 
     #[cycle(stmt)]
     #[tactic(auto, using(crate::proofs::Extends::writing))]
-    fn stmt(&mut self, level: u64, s: &Stmt) -> Result<(), Memory>
-        ensures text { OnOk result (self.new ≡ extended self.old (canonical.stmt level (stmt_tree s.now))) }
+    fn stmt(&mut self, indent: &Indent, s: &Stmt) -> Result<(), Memory>
+        ensures text { OnOk result (self.new ≡ extended self.old (canonical.stmt indent.now (stmt_tree s.now))) }
     {
         match s {
-            Stmt::Assign { name, value, .. } => self.assignment(level, name, value),
+            Stmt::Assign { name, value, .. } => self.assignment(indent, name, value),
             Stmt::If { arms, other } => {
                 trees_of_nodes();
-                self.arms(level, &arms.items)?;
-                self.other(level, other)?;
-                self.end(level, Key::EndIf)
+                self.arms(indent, &arms.items)?;
+                self.other(indent, other)?;
+                self.end(indent, Key::EndIf)
             }
             Stmt::Case {
                 on,
@@ -275,10 +266,10 @@ impl Writer {
                 ..
             } => {
                 trees_of_nodes();
-                self.head(level, Key::Case, on, Key::Of)?;
-                self.branches(level, &branches.items)?;
-                self.other(level, other)?;
-                self.end(level, Key::EndCase)
+                self.head(indent, Key::Case, on, Key::Of)?;
+                self.branches(indent, &branches.items)?;
+                self.other(indent, other)?;
+                self.end(indent, Key::EndCase)
             }
             Stmt::For {
                 name,
@@ -289,9 +280,10 @@ impl Writer {
                 ..
             } => {
                 trees_of_nodes();
-                self.for_line(level, name, first, last, by)?;
-                self.stmts(deeper(level)?, &body.items)?;
-                self.end(level, Key::EndFor)
+                self.for_line(indent, name, first, last, by)?;
+                let inner = self.deeper(indent)?;
+                self.stmts(&inner, &body.items)?;
+                self.end(indent, Key::EndFor)
             }
         }
     }
@@ -299,61 +291,65 @@ impl Writer {
     // Writes the conditions of an IF, with their bodies.
     #[cycle(stmt)]
     #[tactic(auto, using(crate::proofs::Extends::writing))]
-    fn arms(&mut self, level: u64, arms: &[Arm]) -> Result<(), Memory>
-        ensures text { OnOk result (self.new ≡ extended self.old (canonical.arms_from level keys.If (arm_trees arms.now))) }
+    fn arms(&mut self, indent: &Indent, arms: &[Arm]) -> Result<(), Memory>
+        ensures text { OnOk result (self.new ≡ extended self.old (canonical.arms_from indent.now keys.If (arm_trees arms.now))) }
     {
         for i in 0..arms.len() {
-            self.arm(level, arm_key(i), &arms[i])?;
+            self.arm(indent, arm_key(i), &arms[i])?;
         }
         Ok(())
     }
 
     #[cycle(stmt)]
     #[tactic(auto, using(crate::proofs::Extends::writing))]
-    fn arm(&mut self, level: u64, key: Key, arm: &Arm) -> Result<(), Memory>
+    fn arm(&mut self, indent: &Indent, key: Key, arm: &Arm) -> Result<(), Memory>
         ensures text { OnOk result (self.new ≡ extended self.old
-            (lexeme.line level (lexeme.word key ∷ lexeme.blank ∷ (expr any_level (expr_tree arm.now.cond) ++ lexeme.blank ∷ lexeme.word keys.Then ∷ []))
-            ++ canonical.stmts (suc level) (stmt_trees arm.now.body.items.items))) }
+            (lexeme.line indent.now (lexeme.word key ∷ lexeme.blank ∷ (expr any_level (expr_tree arm.now.cond) ++ lexeme.blank ∷ lexeme.word keys.Then ∷ []))
+            ++ canonical.stmts (suc indent.now) (stmt_trees arm.now.body.items.items))) }
     {
-        self.head(level, key, &arm.cond, Key::Then)?;
-        self.stmts(deeper(level)?, &arm.body.items)
+        self.head(indent, key, &arm.cond, Key::Then)?;
+        let inner = self.deeper(indent)?;
+        self.stmts(&inner, &arm.body.items)
     }
 
     // Writes the branches of a CASE.
     #[cycle(stmt)]
     #[tactic(auto, using(crate::proofs::Extends::writing))]
-    fn branches(&mut self, level: u64, branches: &[Branch]) -> Result<(), Memory>
-        ensures text { OnOk result (self.new ≡ extended self.old (canonical.branches_of level (branch_trees branches.now))) }
+    fn branches(&mut self, indent: &Indent, branches: &[Branch]) -> Result<(), Memory>
+        ensures text { OnOk result (self.new ≡ extended self.old (canonical.branches_of indent.now (branch_trees branches.now))) }
     {
         for i in 0..branches.len() {
-            self.branch(level, &branches[i])?;
+            self.branch(indent, &branches[i])?;
         }
         Ok(())
     }
 
     #[cycle(stmt)]
     #[tactic(auto, using(crate::proofs::Extends::writing))]
-    fn branch(&mut self, level: u64, branch: &Branch) -> Result<(), Memory>
+    fn branch(&mut self, indent: &Indent, branch: &Branch) -> Result<(), Memory>
         ensures text { OnOk result (self.new ≡ extended self.old
-            (lexeme.line (suc level) (canonical.labels (label_trees branch.now.labels.items.items) ++ lexeme.symbol sym.Colon ∷ [])
-            ++ canonical.stmts (suc (suc level)) (stmt_trees branch.now.body.items.items))) }
+            (lexeme.line (suc indent.now) (canonical.labels (label_trees branch.now.labels.items.items) ++ lexeme.symbol sym.Colon ∷ [])
+            ++ canonical.stmts (suc (suc indent.now)) (stmt_trees branch.now.body.items.items))) }
     {
-        let of_labels = deeper(level)?;
-        self.labels_line(of_labels, &branch.labels.items)?;
-        self.stmts(deeper(of_labels)?, &branch.body.items)
+        let of_labels = self.deeper(indent)?;
+        self.labels_line(&of_labels, &branch.labels.items)?;
+        let inner = self.deeper(&of_labels)?;
+        self.stmts(&inner, &branch.body.items)
     }
 
     // Writes ELSE with its body, where there is one.
     #[cycle(stmt)]
     #[tactic(auto, using(crate::proofs::Extends::writing))]
-    fn other(&mut self, level: u64, other: &Option<Stmts>) -> Result<(), Memory>
-        ensures text { OnOk result (self.new ≡ extended self.old (canonical.else_of level (other_tree other.now))) }
+    fn other(&mut self, indent: &Indent, other: &Option<Stmts>) -> Result<(), Memory>
+        ensures text { OnOk result (self.new ≡ extended self.old (canonical.else_of indent.now (other_tree other.now))) }
     {
         match other {
             None => Ok(()),
             Some(body) => {
-                self.keyword_line(level, Key::Else)?;
-                self.stmts(deeper(level)?, &body.items)
+                self.indent(indent)?;
+                self.keyword_line(Key::Else)?;
+                let inner = self.deeper(indent)?;
+                self.stmts(&inner, &body.items)
             }
         }
     }

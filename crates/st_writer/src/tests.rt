@@ -189,7 +189,7 @@ fn signs_and_chains(rt: HostRuntime) -> Result<(), Fail> {
 }
 
 /// Literals, each as it is written in an expression, and behind the sign of a label.
-const LITERALS: [(Option<Ty>, i64, &[u8], &[u8]); 12] = [
+const LITERALS: [(Option<Ty>, i64, &[u8], &[u8]); 15] = [
     (None, 0, b"0", b"-0"),
     (None, 32768, b"32768", b"-32768"),
     (
@@ -211,6 +211,14 @@ const LITERALS: [(Option<Ty>, i64, &[u8], &[u8]); 12] = [
         -9223372036854775807,
         b"DINT#-9223372036854775807",
         b"-DINT#-9223372036854775807",
+    ),
+    (Some(Ty::Lint), 255, b"LINT#255", b"-LINT#255"),
+    (Some(Ty::Lint), -5, b"LINT#-5", b"-LINT#-5"),
+    (
+        Some(Ty::Lint),
+        9223372036854775807,
+        b"LINT#9223372036854775807",
+        b"-LINT#9223372036854775807",
     ),
 ];
 

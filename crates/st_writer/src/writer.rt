@@ -1,10 +1,11 @@
 //! The text while it is written: lexemes go to its end, one by one.
 
-ghost use Rattle.std.specs.Prelude.{◌≡◌, ◌++◌, ◌∷◌, [], OnOk};
+ghost use Rattle.std.specs.Prelude.{◌≡◌, ◌++◌, ◌∷◌, [], suc, IfOk, OnOk};
 ghost use Rattle.st_lexer.specs.Literals.{prefix};
 ghost use Rattle.st_writer.specs.Extended.{extended, separator};
 ghost use Rattle.st_writer.specs.Lexemes as lexeme;
 
+use crate::indent::Indent;
 use itoa::Buffer;
 use st_lexer::{Key, Sym, key_spelling, symbol_spelling};
 use std::alloc::Global;
@@ -15,6 +16,7 @@ use vcp_base::{Memory, Text, Ty, ty_name};
 /// known of it, and it is given up.
 #[derive(Drop)]
 pub struct Writer {
+    alloc: Global,
     text: Vec<u8>,
 }
 
@@ -32,6 +34,7 @@ impl Writer {
         ensures { result ≡ [] }
     {
         Writer {
+            alloc,
             text: Vec::new(alloc),
         }
     }
@@ -125,6 +128,7 @@ impl Writer {
             Some(Ty::Bool) => self.truth(value),
             Some(Ty::Int) => self.number(ty, value),
             Some(Ty::Dint) => self.number(ty, value),
+            Some(Ty::Lint) => self.number(ty, value),
             None => self.number(ty, value),
         }
     }
@@ -141,13 +145,24 @@ impl Writer {
         self.blank()
     }
 
-    /// Writes the indent of a line at a level.
-    pub fn indent(&mut self, level: u64) -> Result<(), Memory>
-        ensures text { OnOk result (self.new ≡ extended self.old (lexeme.indent level)) }
+    /// Writes the indent of a line.
+    pub fn indent(&mut self, indent: &Indent) -> Result<(), Memory>
+        ensures text { OnOk result (self.new ≡ extended self.old (lexeme.indent indent.now)) }
     {
-        for _ in 0..level {
-            self.put(b"  ")?;
-        }
-        Ok(())
+        self.put(indent.bytes())
+    }
+
+    /// The indent one level deeper; `Memory` where there is no room for it.
+    pub fn deeper(&self, indent: &Indent) -> Result<Indent, Memory>
+        ensures { IfOk result (λ inner. inner ≡ suc indent.now) }
+    {
+        indent.deeper(self.alloc)
+    }
+
+    /// The indent of the statements of a program; `Memory` where there is no room for it.
+    pub fn first_indent(&self) -> Result<Indent, Memory>
+        ensures { IfOk result (λ first. first ≡ 1) }
+    {
+        Indent::first(self.alloc)
     }
 }

@@ -2,7 +2,7 @@ use Rattle.std.proofs.Common.{ℕ, ◌+◌, ◌≤◌, List, ◌++◌, length, d
 use Rattle.std.proofs.Math.Seq.{take-add}
 use Rattle.std.proofs.lemmas.List.{length-take}
 use Rattle.st_lexer.specs.declared.token.Token.{Token}
-use Rattle.st_lexer.specs.Reading.{opening, Stands}
+use Rattle.st_lexer.specs.Reading.{StandsAt}
 use Rattle.st_lexer.specs.Spots.{spot_after}
 use Rattle.st_lexer.proofs.Covers.{Upto, upto-start, upto-more, upto-inside}
 use Rattle.st_lexer.proofs.reading.lex.Goals as goal
@@ -28,7 +28,7 @@ loop-at-preserved c =
     let fits : n ≤ length (drop at text) = omega (arith, w.1, ap length b) in
     let first = c.front.ensures ∙ ap (λ (l : List ℕ). take n l) b in
     let short : length c.front.result.now ≤ n = omega (arith, ap length c.front.ensures, length-take n (c.split_at.result.1.now)) in
-    let stands = subst (λ (s : List ℕ). Stands (opening at s) s n t) b c.in-Piece.ensures.finds in
+    let stands = subst (λ (s : List ℕ). StandsAt at s n t) b c.in-Piece.ensures.finds in
     let more = upto-more text c.loop-at.tokens.tokens at n t c.loop-at.invariant.upto w.0 fits c.loop-at-test.true stands in
     let added = c.in_ok-add-in-Piece.ensures.ok text c.loop-at.invariant.spot in
     record {

@@ -1,5 +1,6 @@
-use Rattle.st_writer.proofs.Lists.{indent-turn}
+use Rattle.std.proofs.lemmas.Result.{on_ok_weaker}
+use Rattle.st_writer.proofs.Extends.{indent-written}
 use Rattle.st_writer.proofs.writer.Writer.indent.Goals as goal
 
-pub loop-preserved : goal.loop-preserved
-loop-preserved c = indent-turn c.loop.counter c.args.self.now _ _ c.loop.invariant c.in_ok-put.ensures.text
+pub returns : goal.returns
+returns c = record { text = on_ok_weaker _ (indent-written c.args.indent.now c.bytes.result.now c.args.self.now _ c.bytes.ensures) c.put.ensures.text }
