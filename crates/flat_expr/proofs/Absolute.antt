@@ -31,6 +31,8 @@ neg_fits ty.Int zero num h = refl
 neg_fits ty.Int (suc n) num h = grind (arith, nat_tests)
 neg_fits ty.Dint zero num h = refl
 neg_fits ty.Dint (suc n) num h = grind (arith, nat_tests)
+neg_fits ty.Lint zero num h = refl
+neg_fits ty.Lint (suc n) num h = grind (arith, nat_tests)
 
 not_negative : (n : ℕ) → int_lt (pos n) (pos 0) ≡ false
 not_negative n = grind (arith, nat_tests)
@@ -44,6 +46,7 @@ abs_zero : (t : Ty) (spot : Spot) (turns : List Turn) → abs_of t spot turns (p
 abs_zero ty.Bool spot turns = refl
 abs_zero ty.Int spot turns = refl
 abs_zero ty.Dint spot turns = refl
+abs_zero ty.Lint spot turns = refl
 
 swap : (c : Bool) (r : Result ℤ Stop) (x : ℤ) → and_then r (λ y. Ok (cond (same (truth c) (pos 0)) x y)) ≡ and_then r (λ y. Ok (cond c y x))
 swap true r x = refl

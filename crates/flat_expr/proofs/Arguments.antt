@@ -36,12 +36,17 @@ arity fun.Limit = 3
 arity fun.Sel = 3
 arity fun.IntToDint = 1
 arity fun.DintToInt = 1
+arity fun.IntToLint = 1
+arity fun.DintToLint = 1
+arity fun.LintToInt = 1
+arity fun.LintToDint = 1
 arity fun.BoolToInt = 1
 
 from_numbers : (ts us : List Ty) (t : Ty) → of_numbers ts t ≡ Some us → (is_number t ≡ true) × (ts ≡ us)
 from_numbers ts us ty.Bool h = absurd cc
 from_numbers ts us ty.Int h = (refl, cc)
 from_numbers ts us ty.Dint h = (refl, cc)
+from_numbers ts us ty.Lint h = (refl, cc)
 
 arity_is : (f : Fun) (t : Ty) (ts : List Ty) → arguments f t ≡ Some ts → length ts ≡ arity f
 unfolding arity
@@ -53,12 +58,31 @@ arity_is fun.Sel t ts h = let e : ty.Bool ∷ t ∷ t ∷ [] ≡ ts = cc in ap l
 arity_is fun.IntToDint ty.Bool ts h = absurd cc
 arity_is fun.IntToDint ty.Int ts h = absurd cc
 arity_is fun.IntToDint ty.Dint ts h = let e : ty.Int ∷ [] ≡ ts = cc in ap length (sym e)
+arity_is fun.IntToDint ty.Lint ts h = absurd cc
+arity_is fun.IntToLint ty.Bool ts h = absurd cc
+arity_is fun.IntToLint ty.Int ts h = absurd cc
+arity_is fun.IntToLint ty.Dint ts h = absurd cc
+arity_is fun.IntToLint ty.Lint ts h = let e : ty.Int ∷ [] ≡ ts = cc in ap length (sym e)
 arity_is fun.DintToInt ty.Bool ts h = absurd cc
 arity_is fun.DintToInt ty.Int ts h = let e : ty.Dint ∷ [] ≡ ts = cc in ap length (sym e)
 arity_is fun.DintToInt ty.Dint ts h = absurd cc
+arity_is fun.DintToInt ty.Lint ts h = absurd cc
+arity_is fun.DintToLint ty.Bool ts h = absurd cc
+arity_is fun.DintToLint ty.Int ts h = absurd cc
+arity_is fun.DintToLint ty.Dint ts h = absurd cc
+arity_is fun.DintToLint ty.Lint ts h = let e : ty.Dint ∷ [] ≡ ts = cc in ap length (sym e)
+arity_is fun.LintToInt ty.Bool ts h = absurd cc
+arity_is fun.LintToInt ty.Int ts h = let e : ty.Lint ∷ [] ≡ ts = cc in ap length (sym e)
+arity_is fun.LintToInt ty.Dint ts h = absurd cc
+arity_is fun.LintToInt ty.Lint ts h = absurd cc
+arity_is fun.LintToDint ty.Bool ts h = absurd cc
+arity_is fun.LintToDint ty.Int ts h = absurd cc
+arity_is fun.LintToDint ty.Dint ts h = let e : ty.Lint ∷ [] ≡ ts = cc in ap length (sym e)
+arity_is fun.LintToDint ty.Lint ts h = absurd cc
 arity_is fun.BoolToInt ty.Bool ts h = absurd cc
 arity_is fun.BoolToInt ty.Int ts h = let e : ty.Bool ∷ [] ≡ ts = cc in ap length (sym e)
 arity_is fun.BoolToInt ty.Dint ts h = absurd cc
+arity_is fun.BoolToInt ty.Lint ts h = absurd cc
 
 some_argument : (f : Fun) → (1 ≤ arity f) × (arity f ≤ 3)
 unfolding arity
@@ -68,7 +92,11 @@ some_argument fun.Max = (omega arith, omega arith)
 some_argument fun.Limit = (omega arith, omega arith)
 some_argument fun.Sel = (omega arith, omega arith)
 some_argument fun.IntToDint = (omega arith, omega arith)
+some_argument fun.IntToLint = (omega arith, omega arith)
 some_argument fun.DintToInt = (omega arith, omega arith)
+some_argument fun.DintToLint = (omega arith, omega arith)
+some_argument fun.LintToInt = (omega arith, omega arith)
+some_argument fun.LintToDint = (omega arith, omega arith)
 some_argument fun.BoolToInt = (omega arith, omega arith)
 
 -- ---- a function takes no more than its arguments
@@ -81,7 +109,11 @@ one_of_three fun.Max t spot turns x y z h = absurd (omega (arith, h))
 one_of_three fun.Limit t spot turns x y z h = absurd (omega (arith, h))
 one_of_three fun.Sel t spot turns x y z h = absurd (omega (arith, h))
 one_of_three fun.IntToDint t spot turns x y z h = refl
+one_of_three fun.IntToLint t spot turns x y z h = refl
 one_of_three fun.DintToInt t spot turns x y z h = refl
+one_of_three fun.DintToLint t spot turns x y z h = refl
+one_of_three fun.LintToInt t spot turns x y z h = refl
+one_of_three fun.LintToDint t spot turns x y z h = refl
 one_of_three fun.BoolToInt t spot turns x y z h = refl
 
 two_of_three : (f : Fun) (t : Ty) (spot : Spot) (turns : List Turn) (x y z : ℤ) → 2 ≡ arity f → apply f t spot turns (x ∷ y ∷ z ∷ []) ≡ apply f t spot turns (x ∷ y ∷ [])
@@ -92,7 +124,11 @@ two_of_three fun.Max t spot turns x y z h = refl
 two_of_three fun.Limit t spot turns x y z h = absurd (omega (arith, h))
 two_of_three fun.Sel t spot turns x y z h = absurd (omega (arith, h))
 two_of_three fun.IntToDint t spot turns x y z h = absurd (omega (arith, h))
+two_of_three fun.IntToLint t spot turns x y z h = absurd (omega (arith, h))
 two_of_three fun.DintToInt t spot turns x y z h = absurd (omega (arith, h))
+two_of_three fun.DintToLint t spot turns x y z h = absurd (omega (arith, h))
+two_of_three fun.LintToInt t spot turns x y z h = absurd (omega (arith, h))
+two_of_three fun.LintToDint t spot turns x y z h = absurd (omega (arith, h))
 two_of_three fun.BoolToInt t spot turns x y z h = absurd (omega (arith, h))
 
 -- ---- the whole call
@@ -164,12 +200,31 @@ fits_of fun.Sel t ts ops a b c h p = let e : ts ≡ ty.Bool ∷ t ∷ t ∷ [] =
 fits_of fun.IntToDint ty.Bool ts ops a b c h p = absurd cc
 fits_of fun.IntToDint ty.Int ts ops a b c h p = absurd cc
 fits_of fun.IntToDint ty.Dint ts ops a b c h p = let e : ts ≡ ty.Int ∷ [] = cc in let q = subst (λ l. Placed l ops (a ∷ b ∷ c ∷ [])) e p in (refl, q.0)
+fits_of fun.IntToDint ty.Lint ts ops a b c h p = absurd cc
+fits_of fun.IntToLint ty.Bool ts ops a b c h p = absurd cc
+fits_of fun.IntToLint ty.Int ts ops a b c h p = absurd cc
+fits_of fun.IntToLint ty.Dint ts ops a b c h p = absurd cc
+fits_of fun.IntToLint ty.Lint ts ops a b c h p = let e : ts ≡ ty.Int ∷ [] = cc in let q = subst (λ l. Placed l ops (a ∷ b ∷ c ∷ [])) e p in (refl, q.0)
 fits_of fun.DintToInt ty.Bool ts ops a b c h p = absurd cc
 fits_of fun.DintToInt ty.Int ts ops a b c h p = let e : ts ≡ ty.Dint ∷ [] = cc in let q = subst (λ l. Placed l ops (a ∷ b ∷ c ∷ [])) e p in (refl, q.0)
 fits_of fun.DintToInt ty.Dint ts ops a b c h p = absurd cc
+fits_of fun.DintToInt ty.Lint ts ops a b c h p = absurd cc
+fits_of fun.DintToLint ty.Bool ts ops a b c h p = absurd cc
+fits_of fun.DintToLint ty.Int ts ops a b c h p = absurd cc
+fits_of fun.DintToLint ty.Dint ts ops a b c h p = absurd cc
+fits_of fun.DintToLint ty.Lint ts ops a b c h p = let e : ts ≡ ty.Dint ∷ [] = cc in let q = subst (λ l. Placed l ops (a ∷ b ∷ c ∷ [])) e p in (refl, q.0)
+fits_of fun.LintToInt ty.Bool ts ops a b c h p = absurd cc
+fits_of fun.LintToInt ty.Int ts ops a b c h p = let e : ts ≡ ty.Lint ∷ [] = cc in let q = subst (λ l. Placed l ops (a ∷ b ∷ c ∷ [])) e p in (refl, q.0)
+fits_of fun.LintToInt ty.Dint ts ops a b c h p = absurd cc
+fits_of fun.LintToInt ty.Lint ts ops a b c h p = absurd cc
+fits_of fun.LintToDint ty.Bool ts ops a b c h p = absurd cc
+fits_of fun.LintToDint ty.Int ts ops a b c h p = absurd cc
+fits_of fun.LintToDint ty.Dint ts ops a b c h p = let e : ts ≡ ty.Lint ∷ [] = cc in let q = subst (λ l. Placed l ops (a ∷ b ∷ c ∷ [])) e p in (refl, q.0)
+fits_of fun.LintToDint ty.Lint ts ops a b c h p = absurd cc
 fits_of fun.BoolToInt ty.Bool ts ops a b c h p = absurd cc
 fits_of fun.BoolToInt ty.Int ts ops a b c h p = let e : ts ≡ ty.Bool ∷ [] = cc in let q = subst (λ l. Placed l ops (a ∷ b ∷ c ∷ [])) e p in (refl, q.0)
 fits_of fun.BoolToInt ty.Dint ts ops a b c h p = absurd cc
+fits_of fun.BoolToInt ty.Lint ts ops a b c h p = absurd cc
 
 pub call_fits : (s0 s1 s2 s3 : State) (f : Fun) (t : Ty) (es : TExprTrees) (a b c : ℕ) → arguments f t ≡ Some (tys_of es) →
     FlattensOne s0 s1 (argument es 0) a → FlattensOne s1 s2 (argument es 1) b → FlattensOne s2 s3 (argument es 2) c → FunFits f t s3.graph.operations a b c

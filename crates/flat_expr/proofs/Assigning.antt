@@ -40,6 +40,7 @@ set_assigns s0 s1 t n slot k j le lt state f = record {
     slots = f.follows.slots;
     path = f.follows.path;
     turn = f.follows.turn;
+    profile = f.follows.profile;
     nodes = let same_nodes = ap length f.follows.turn_nodes in omega (arith, same_nodes);
     turns = λ m below. ap (λ l. turns_back (reverse l) m) f.follows.turn_nodes;
     ends = (f.follows.inputs, f.follows.outputs, f.follows.stores);

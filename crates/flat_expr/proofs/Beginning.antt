@@ -6,6 +6,8 @@ use Rattle.op_graph.specs.Lists.{turns_back}
 use Rattle.vcp_typed.specs.Meaning.{and_then}
 use Rattle.std.proofs.lemmas.List.{append-nil, length_push, length-take-le}
 use Rattle.vcp_base.specs.declared.columns.Column.{Column}
+use Rattle.vcp_base.specs.declared.code.Profile.{Profile}
+use Rattle.vcp_base.specs.Code.{is_wide}
 use Rattle.vcp_base.specs.declared.kind.Kind.TheVariants as kind
 use Rattle.vcp_base.specs.Limits.{most_names}
 use Rattle.vcp_base.specs.Names.{NameFits, SameName}
@@ -26,8 +28,10 @@ use Rattle.vcp_typed.specs.Fitting.{input_types, input_columns}
 use Rattle.vcp_typed.specs.Size.{class_size}
 use Rattle.vcp_typed.specs.SourceRun.{Program, is_input, with_inputs}
 use Rattle.flat_expr.specs.Begin.{inputs_from, input_ops, held_from, entered, begun}
-use Rattle.flat_expr.specs.State.{IsState, IsPlace, IsHeld, KnowsOne, Begins, unknown, others, last_of, last_size, run_from, stopped}
+use Rattle.vcp_typed.specs.Wide.{wide}
+use Rattle.flat_expr.specs.State.{SlotsAllowed, IsState, IsPlace, IsHeld, KnowsOne, Begins, unknown, others, last_of, last_size, run_from, stopped}
 use Rattle.flat_expr.specs.Told.{names_of}
+use Rattle.flat_expr.proofs.Codes.{slots_allowed}
 use Rattle.flat_expr.proofs.Ops.{isa, within_self}
 use Rattle.flat_expr.proofs.Runs.{step}
 
@@ -215,9 +219,10 @@ columns_from before (s ∷ slots) =
     go true rest = ap (λ (n : List ℕ). (let c : Column = record { name = n; ty = s.ty } in c) ∷ map (column (before ++ s.name ∷ names_of slots)) (inputs_from (suc (length before)) slots)) (name_at before s.name (names_of slots)) ∙ ap (λ l. (let c : Column = record { name = s.name; ty = s.ty } in c) ∷ l) rest
     go false rest = rest
 
-pub begun_state : (slots : List Slot) → SlotsFit [] slots → length slots ≤ most_names → IsPart (entered (names_of slots) slots) → OperandLaws → IsState (begun slots)
-begun_state slots fit few part laws = record {
+pub begun_state : (profile : Profile) (slots : List Slot) → SlotsAllowed profile slots → SlotsFit [] slots → length slots ≤ most_names → IsPart (entered profile (names_of slots) slots) → OperandLaws → IsState (begun profile slots)
+begun_state profile slots code fit few part laws = record {
   part = part;
+  code = code;
   names = refl;
   few = few;
   inits = λ i s e. (fit_at slots [] i s fit e).0;
@@ -344,10 +349,11 @@ with_inputs-long (s ∷ slots) (x ∷ row) (v ∷ m) len = go (is_input s.class)
     go true f g = ap suc f
     go false f g = ap suc g
 
-pub begins : (p : Program) → IsChecked p → IsPart (entered (names_of p.slots) p.slots) → OperandLaws → Begins (begun p.slots) p
-begins p checked part laws = record {
-  state = begun_state p.slots checked.slots checked.few part laws;
+pub begins : (profile : Profile) (p : Program) → is_wide profile ≡ wide p → IsChecked p → IsPart (entered profile (names_of p.slots) p.slots) → OperandLaws → Begins (begun profile p.slots) p
+begins profile p code checked part laws = record {
+  state = begun_state profile p.slots (slots_allowed profile p code) checked.slots checked.few part laws;
   slots = refl;
+  code = code;
   path = refl;
   turn = refl;
   nodes = refl;
@@ -362,12 +368,12 @@ begins p checked part laws = record {
 
 -- ---- one INPUT more
 
-enter_is : (names : List (List ℕ)) (before : List Slot) (s : Slot) →
-    cond (is_input s.class) (with_input (entered names before) (length before) s.ty s.spot) (entered names before) ≡ entered names (before ++ s ∷ [])
-enter_is names before s = go (is_input s.class) ∙ ap₂ made (sym (inputs_push 0 before s)) (sym (ops_push 0 before s))
+enter_is : (profile : Profile) (names : List (List ℕ)) (before : List Slot) (s : Slot) →
+    cond (is_input s.class) (with_input (entered profile names before) (length before) s.ty s.spot) (entered profile names before) ≡ entered profile names (before ++ s ∷ [])
+enter_is profile names before s = go (is_input s.class) ∙ ap₂ made (sym (inputs_push 0 before s)) (sym (ops_push 0 before s))
   where
     made : List Var → List Op → Lists
-    made x y = record nothing { names = names; inputs = x; operations = y }
+    made x y = record (nothing profile) { names = names; inputs = x; operations = y }
 
     var : ℕ → Var
     var n = record { name = n; ty = s.ty }
@@ -375,7 +381,7 @@ enter_is names before s = go (is_input s.class) ∙ ap₂ made (sym (inputs_push
     op : ℕ → Op
     op n = entry_op kind.Input s.ty 0 n s.spot
 
-    go : (a : Bool) → cond a (with_input (entered names before) (length before) s.ty s.spot) (entered names before) ≡
+    go : (a : Bool) → cond a (with_input (entered profile names before) (length before) s.ty s.spot) (entered profile names before) ≡
         made (cond a (inputs_from 0 before ++ var (0 + length before) ∷ []) (inputs_from 0 before)) (cond a (input_ops 0 before ++ op (0 + length (input_ops 0 before)) ∷ []) (input_ops 0 before))
     go true =
         let first : length before ≡ 0 + length before = omega arith in
@@ -383,18 +389,18 @@ enter_is names before s = go (is_input s.class) ∙ ap₂ made (sym (inputs_push
         ap₂ (λ n m. made (inputs_from 0 before ++ var n ∷ []) (input_ops 0 before ++ op m ∷ [])) first second
     go false = refl
 
-pub enter_next : (names : List (List ℕ)) (slots : List Slot) (i : ℕ) (s : Slot) (g g' : Lists) → i ≤ length slots → take (i + 1) slots ≡ take i slots ++ s ∷ [] → g ≡ entered names (take i slots) →
-    g' ≡ cond (is_input s.class) (with_input g i s.ty s.spot) g → g' ≡ entered names (take (i + 1) slots)
-enter_next names slots i s g g' le more is new =
+pub enter_next : (profile : Profile) (names : List (List ℕ)) (slots : List Slot) (i : ℕ) (s : Slot) (g g' : Lists) → i ≤ length slots → take (i + 1) slots ≡ take i slots ++ s ∷ [] → g ≡ entered profile names (take i slots) →
+    g' ≡ cond (is_input s.class) (with_input g i s.ty s.spot) g → g' ≡ entered profile names (take (i + 1) slots)
+enter_next profile names slots i s g g' le more is new =
     new
     ∙ ap (λ x. cond (is_input s.class) (with_input x i s.ty s.spot) x) is
-    ∙ ap (λ n. cond (is_input s.class) (with_input (entered names (take i slots)) n s.ty s.spot) (entered names (take i slots))) (sym (length-take-le i slots le))
-    ∙ enter_is names (take i slots) s
-    ∙ ap (entered names) (sym more)
+    ∙ ap (λ n. cond (is_input s.class) (with_input (entered profile names (take i slots)) n s.ty s.spot) (entered profile names (take i slots))) (sym (length-take-le i slots le))
+    ∙ enter_is profile names (take i slots) s
+    ∙ ap (entered profile names) (sym more)
 
-pub known_next : (slots : List Slot) (i : ℕ) (s : Slot) (g : Lists) (names : List (List ℕ)) (known known' : List (Option ℕ)) (k : Option ℕ) → take (i + 1) slots ≡ take i slots ++ s ∷ [] → g ≡ entered names (take i slots) → known ≡ held_from 0 (take i slots) →
+pub known_next : (profile : Profile) (slots : List Slot) (i : ℕ) (s : Slot) (g : Lists) (names : List (List ℕ)) (known known' : List (Option ℕ)) (k : Option ℕ) → take (i + 1) slots ≡ take i slots ++ s ∷ [] → g ≡ entered profile names (take i slots) → known ≡ held_from 0 (take i slots) →
     k ≡ cond (is_input s.class) (Some (length g.operations)) None → known' ≡ known ++ k ∷ [] → known' ≡ held_from 0 (take (i + 1) slots)
-known_next slots i s g names known known' k more is held place new =
+known_next profile slots i s g names known known' k more is held place new =
     let number : length g.operations ≡ 0 + length (input_ops 0 (take i slots)) = let same = ap (λ (x : Lists). length x.operations) is in omega (arith, same) in
     new
     ∙ ap₂ (λ l q. l ++ q ∷ []) held (place ∙ ap (λ n. cond (is_input s.class) (Some n) None) number)

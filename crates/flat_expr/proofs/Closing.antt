@@ -43,6 +43,7 @@ pub closes_begin : (s : State) → IsState s → Closes s 0 0 s.graph s.known
 closes_begin s i = record {
   from = i;
   part = i.part;
+  profile = refl;
   names = refl;
   inputs = refl;
   turn_nodes = refl;
@@ -128,6 +129,7 @@ pub closes_skip : (s : State) (n m : ℕ) (g : Lists) (known : List (Option ℕ)
 closes_skip s n m g known x e isnt h = record {
   from = h.from;
   part = h.part;
+  profile = h.profile;
   names = h.names;
   inputs = h.inputs;
   turn_nodes = h.turn_nodes;
@@ -158,6 +160,7 @@ pub closes_load : (s : State) (n m : ℕ) (g : Lists) (known : List (Option ℕ)
 closes_load s n m g known slot x e none part h = record {
   from = h.from;
   part = part;
+  profile = h.profile;
   names = h.names;
   inputs = h.inputs;
   turn_nodes = h.turn_nodes;
@@ -279,6 +282,7 @@ pub closes_out : (s : State) (n m k : ℕ) (g : Lists) (known : List (Option ℕ
 closes_out s n m k g known x e is_one place part h = record {
   from = h.from;
   part = part;
+  profile = h.profile;
   names = h.names;
   inputs = h.inputs;
   turn_nodes = h.turn_nodes;
@@ -343,6 +347,7 @@ pub closes_store : (s : State) (n m k : ℕ) (g : Lists) (known : List (Option �
 closes_store s n m k g known l spot e place part h = record {
   from = h.from;
   part = part;
+  profile = h.profile;
   names = h.names;
   inputs = h.inputs;
   turn_nodes = h.turn_nodes;
@@ -456,6 +461,7 @@ store_room s n m g known most h less all =
 
 pub finishes : (s : State) (m : ℕ) (g : Lists) (known : List (Option ℕ)) → m ≡ length g.loads → Closes s (length s.slots) m g known → Finishes s g
 finishes s m g known full h = record {
+  profile = h.profile;
   names = h.names ∙ h.from.names;
   ins = ap₂ (λ l q. map (column l) q) h.names h.inputs ∙ h.from.columns;
   outs = h.columns ∙ ap output_columns (take_all (length s.slots) s.slots (omega arith));

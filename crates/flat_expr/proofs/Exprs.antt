@@ -3,7 +3,6 @@ use Rattle.std.proofs.Common.{◌≡◌, ℕ, ◌+◌, ℤ, Bool, true, false, L
 use Rattle.vcp_base.specs.declared.spot.Spot.{Spot}
 use Rattle.vcp_base.specs.declared.turns.Turn.{Turn}
 use Rattle.vcp_base.specs.declared.ty.Ty.{Ty}
-use Rattle.vcp_base.specs.declared.ty.Ty.TheVariants as ty
 use Rattle.op_graph.specs.Lists.{turns_of}
 use Rattle.vcp_base.specs.Values.{at}
 use Rattle.st_tree.specs.declared.expr.UnOp.{UnOp}
@@ -11,11 +10,11 @@ use Rattle.st_tree.specs.declared.expr.BinOp.{BinOp}
 use Rattle.vcp_typed.specs.Meaning.{Stop, and_then, value, sign, operate}
 use Rattle.vcp_typed.specs.TExprTree.{TExprTree, literal, get, widen, unary, binary}
 use Rattle.vcp_typed.specs.Checked.{ty_of}
-use Rattle.vcp_typed.specs.Rules.{result}
+use Rattle.vcp_typed.specs.Rules.{result, widens}
 use Rattle.vcp_typed.specs.Size.{expr_size, operator_size}
-use Rattle.flat_expr.specs.State.{State, IsA, active, guarded, IsValue, Meant, Makes, Flattens, meaning_of, giving, reading, signs, operates}
+use Rattle.flat_expr.specs.State.{State, active, guarded, IsValue, Meant, Makes, Flattens, meaning_of, giving, reading, signs, operates}
 use Rattle.flat_expr.proofs.Steps.{then, weaker, AsGood, as_good-self, as_good-is}
-use Rattle.flat_expr.proofs.Operators.{turns-same, good_total, int_as}
+use Rattle.flat_expr.proofs.Operators.{turns-same, good_total, wider_as}
 
 pub literal_made : (s new : State) (t : Ty) (v : ℤ) (spot : Spot) (k : ℕ) → Makes s new t 1 (giving v) k → Flattens s new (literal t v spot) k
 literal_made s new t v spot k f = weaker s new t 1 1 (giving v) _ k (omega arith) (λ now vs types. good_total (active s.path vs) (Ok (Some v)) v refl) f
@@ -23,10 +22,10 @@ literal_made s new t v spot k f = weaker s new t 1 1 (giving v) _ k (omega arith
 pub get_made : (s new : State) (t : Ty) (slot k : ℕ) → Makes s new t 0 (reading slot) k → Flattens s new (get slot t) k
 get_made s new t slot k f = weaker s new t 0 0 (reading slot) _ k (omega arith) (λ now vs types. good_total (active s.path vs) (Ok (Some (at now slot))) (at now slot) refl) f
 
-pub widen_made : (s new : State) (t : Ty) (a : TExprTree) (k : ℕ) → ty_of a ≡ ty.Int → t ≡ ty.Dint → Flattens s new a k → Flattens s new (widen t a) k
-widen_made s new t a k e1 e2 f = record {
+pub widen_made : (s new : State) (t : Ty) (a : TExprTree) (k : ℕ) → widens (ty_of a) t ≡ true → Flattens s new a k → Flattens s new (widen t a) k
+widen_made s new t a k w f = record {
   follows = f.follows;
-  place = subst (λ u. IsA u new.graph.operations k) (sym e2) (int_as ty.Dint new.graph.operations k refl (subst (λ u. IsA u new.graph.operations k) e1 f.place));
+  place = wider_as (ty_of a) t new.graph.operations k w f.place;
   count = f.count;
   gives = f.gives;
 }

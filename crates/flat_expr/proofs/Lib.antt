@@ -3,6 +3,7 @@ pub mod Arguments
 pub mod Assigning
 pub mod Beginning
 pub mod Calls
+pub mod Codes
 pub mod Closing
 pub mod Exprs
 pub mod Guarded

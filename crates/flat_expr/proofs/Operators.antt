@@ -16,6 +16,7 @@ use Rattle.op_graph.specs.Rules.{is_number}
 use Rattle.vcp_base.specs.Values.{at}
 use Rattle.vcp_typed.specs.Meaning.{Stop, in_range}
 use Rattle.st_tree.specs.declared.expr.UnOp.TheVariants as un
+use Rattle.vcp_typed.specs.Rules.{widens}
 use Rattle.flat_expr.specs.State.{State, stopped, missing, IsState, IsA, IsPlace, active, IsNumber, guarded, exactly, IsValue, Follows, Meant, Makes, Pushes, act, acts, giving, neutral, neutral_place, with_neutral, reserved, masks, guards, is_arithmetic, divides, is_comparison, compares, denies, signs, picks, limits, selects, narrows, copies}
 use Rattle.flat_expr.proofs.Ops.{there, isa}
 use Rattle.flat_expr.proofs.Runs.{Typed}
@@ -57,10 +58,11 @@ pub nought_new : (s p : State) (k : ℕ) → s.nought ≡ None → p.nought ≡ 
 nought_new s p k e e2 f = record {
   follows = record {
     before = f.follows.before;
-    after = record { part = i.part; names = i.names; few = i.few; inits = i.inits; long = i.long; known = i.known; variables = i.variables; inputs = i.inputs; columns = i.columns; loads = i.loads; held = i.held; no_outputs = i.no_outputs; no_stores = i.no_stores; laws = i.laws; cells = i.cells; path = i.path; turn = i.turn; nought = f.place; unit = i.unit };
+    after = record { part = i.part; code = i.code; names = i.names; few = i.few; inits = i.inits; long = i.long; known = i.known; variables = i.variables; inputs = i.inputs; columns = i.columns; loads = i.loads; held = i.held; no_outputs = i.no_outputs; no_stores = i.no_stores; laws = i.laws; cells = i.cells; path = i.path; turn = i.turn; nought = f.place; unit = i.unit };
     slots = f.follows.slots;
     path = f.follows.path;
     turn = f.follows.turn;
+    profile = f.follows.profile;
     turn_nodes = f.follows.turn_nodes;
     inputs = f.follows.inputs;
     outputs = f.follows.outputs;
@@ -85,10 +87,11 @@ pub unit_new : (s p : State) (k : ℕ) → s.unit ≡ None → p.unit ≡ None �
 unit_new s p k e e2 f = record {
   follows = record {
     before = f.follows.before;
-    after = record { part = i.part; names = i.names; few = i.few; inits = i.inits; long = i.long; known = i.known; variables = i.variables; inputs = i.inputs; columns = i.columns; loads = i.loads; held = i.held; no_outputs = i.no_outputs; no_stores = i.no_stores; laws = i.laws; cells = i.cells; path = i.path; turn = i.turn; nought = i.nought; unit = f.place };
+    after = record { part = i.part; code = i.code; names = i.names; few = i.few; inits = i.inits; long = i.long; known = i.known; variables = i.variables; inputs = i.inputs; columns = i.columns; loads = i.loads; held = i.held; no_outputs = i.no_outputs; no_stores = i.no_stores; laws = i.laws; cells = i.cells; path = i.path; turn = i.turn; nought = i.nought; unit = f.place };
     slots = f.follows.slots;
     path = f.follows.path;
     turn = f.follows.turn;
+    profile = f.follows.profile;
     turn_nodes = f.follows.turn_nodes;
     inputs = f.follows.inputs;
     outputs = f.follows.outputs;
@@ -147,10 +150,47 @@ within_int s ty.Int n h = h
 within_int ty.Bool ty.Dint n h = absurd cc
 within_int ty.Int ty.Dint n h = refl
 within_int ty.Dint ty.Dint n h = absurd cc
+within_int ty.Lint ty.Dint n h = absurd cc
+within_int ty.Bool ty.Lint n h = absurd cc
+within_int ty.Int ty.Lint n h = refl
+within_int ty.Dint ty.Lint n h = absurd cc
+within_int ty.Lint ty.Lint n h = absurd cc
 
 -- an INT is a number of either type
 pub int_as : (t : Ty) (ops : List Op) (k : ℕ) → is_number t ≡ true → IsA ty.Int ops k → IsA t ops k
 int_as t ops k n h = let p = there ty.Int ops k h in isa t ops k p.op p.is (within_int p.op.ty t n p.type)
+
+-- what is within a type is within one that it widens to
+within_wider : (u s t : Ty) → widens s t ≡ true → within u s ≡ true → within u t ≡ true
+within_wider u ty.Bool ty.Bool w h = absurd cc
+within_wider u ty.Bool ty.Int w h = absurd cc
+within_wider u ty.Bool ty.Dint w h = absurd cc
+within_wider u ty.Bool ty.Lint w h = absurd cc
+within_wider u ty.Int ty.Bool w h = absurd cc
+within_wider u ty.Int ty.Int w h = absurd cc
+within_wider ty.Bool ty.Int ty.Dint w h = absurd cc
+within_wider ty.Int ty.Int ty.Dint w h = refl
+within_wider ty.Dint ty.Int ty.Dint w h = absurd cc
+within_wider ty.Lint ty.Int ty.Dint w h = absurd cc
+within_wider ty.Bool ty.Int ty.Lint w h = absurd cc
+within_wider ty.Int ty.Int ty.Lint w h = refl
+within_wider ty.Dint ty.Int ty.Lint w h = absurd cc
+within_wider ty.Lint ty.Int ty.Lint w h = absurd cc
+within_wider u ty.Dint ty.Bool w h = absurd cc
+within_wider u ty.Dint ty.Int w h = absurd cc
+within_wider u ty.Dint ty.Dint w h = absurd cc
+within_wider ty.Bool ty.Dint ty.Lint w h = absurd cc
+within_wider ty.Int ty.Dint ty.Lint w h = refl
+within_wider ty.Dint ty.Dint ty.Lint w h = refl
+within_wider ty.Lint ty.Dint ty.Lint w h = absurd cc
+within_wider u ty.Lint ty.Bool w h = absurd cc
+within_wider u ty.Lint ty.Int w h = absurd cc
+within_wider u ty.Lint ty.Dint w h = absurd cc
+within_wider u ty.Lint ty.Lint w h = absurd cc
+
+-- a value of a type may be read as one that the type widens to
+pub wider_as : (s t : Ty) (ops : List Op) (k : ℕ) → widens s t ≡ true → IsA s ops k → IsA t ops k
+wider_as s t ops k w h = let p = there s ops k h in isa t ops k p.op p.is (within_wider p.op.ty s t w p.type)
 
 pub some_is : (o : Option ℤ) (v x : ℤ) → giving v [] [] ≡ Ok o → IsValue o x → x ≡ v
 some_is None v x e h = absurd cc
@@ -196,14 +236,19 @@ masked s0 s1 s2 t one path other k j spot num e h f g =
 neutral_ok : (k : Kind) (t : Ty) (spot : Spot) (turns : List Turn) → is_arithmetic k ≡ true → is_number t ≡ true → act turns k t spot (pos 0) (pos 0) (neutral (divides k)) (pos 0) ≡ Ok (pos 0)
 neutral_ok kind.Add ty.Int spot turns a n = refl
 neutral_ok kind.Add ty.Dint spot turns a n = refl
+neutral_ok kind.Add ty.Lint spot turns a n = refl
 neutral_ok kind.Sub ty.Int spot turns a n = refl
 neutral_ok kind.Sub ty.Dint spot turns a n = refl
+neutral_ok kind.Sub ty.Lint spot turns a n = refl
 neutral_ok kind.Mul ty.Int spot turns a n = refl
 neutral_ok kind.Mul ty.Dint spot turns a n = refl
+neutral_ok kind.Mul ty.Lint spot turns a n = refl
 neutral_ok kind.Div ty.Int spot turns a n = refl
 neutral_ok kind.Div ty.Dint spot turns a n = refl
+neutral_ok kind.Div ty.Lint spot turns a n = refl
 neutral_ok kind.Mod ty.Int spot turns a n = refl
 neutral_ok kind.Mod ty.Dint spot turns a n = refl
+neutral_ok kind.Mod ty.Lint spot turns a n = refl
 neutral_ok kind.Add ty.Bool spot turns a n = absurd cc
 neutral_ok kind.Sub ty.Bool spot turns a n = absurd cc
 neutral_ok kind.Mul ty.Bool spot turns a n = absurd cc
@@ -316,6 +361,7 @@ neg_zero : (t : Ty) (spot : Spot) (turns : List Turn) → in_range t spot turns 
 neg_zero ty.Bool spot turns = refl
 neg_zero ty.Int spot turns = refl
 neg_zero ty.Dint spot turns = refl
+neg_zero ty.Lint spot turns = refl
 
 pub negated : (s0 s1 s2 : State) (t : Ty) (a m k : ℕ) (spot : Spot) → Makes s0 s1 t 1 (masks s0 false a) m → Makes s1 s2 t 1 (acts s1 kind.Neg t m 0 0 spot) k → Makes s0 s2 t 2 (signs s0 un.Neg t a spot) k
 negated s0 s1 s2 t a m k spot f g =
@@ -373,14 +419,20 @@ selected s new t g a b k spot ha hb f =
     weaker s new t 1 3 (acts s kind.Sel t g a b spot) (selects g a b) k (omega arith)
     (λ now vs types. as_good-is _ _ (ap exactly (in_range-fits t spot (turns_of s.graph s.turn) _ (sel_fits t (same (at vs g) (pos 0)) (at vs a) (at vs b) (types t a ha) (types t b hb))))) f
 
-pub narrowed : (s0 s1 s2 : State) (a m k : ℕ) (spot : Spot) → Makes s0 s1 ty.Dint 1 (masks s0 false a) m → Makes s1 s2 ty.Int 1 (acts s1 kind.Conv ty.Int m 0 0 spot) k → Makes s0 s2 ty.Int 2 (narrows s0 ty.Int a spot) k
-narrowed s0 s1 s2 a m k spot f g =
-    then s0 s1 s2 ty.Dint ty.Int 1 1 (masks s0 false a) (acts s1 kind.Conv ty.Int m 0 0 spot) (narrows s0 ty.Int a spot) m k f g (record {
+zero_ok : (t : Ty) (spot : Spot) (turns : List Turn) → in_range t spot turns (pos 0) ≡ Ok (pos 0)
+zero_ok ty.Bool spot turns = refl
+zero_ok ty.Int spot turns = refl
+zero_ok ty.Dint spot turns = refl
+zero_ok ty.Lint spot turns = refl
+
+pub narrowed : (s0 s1 s2 : State) (from to : Ty) (a m k : ℕ) (spot : Spot) → Makes s0 s1 from 1 (masks s0 false a) m → Makes s1 s2 to 1 (acts s1 kind.Conv to m 0 0 spot) k → Makes s0 s2 to 2 (narrows s0 to a spot) k
+narrowed s0 s1 s2 from to a m k spot f g =
+    then s0 s1 s2 from to 1 1 (masks s0 false a) (acts s1 kind.Conv to m 0 0 spot) (narrows s0 to a spot) m k f g (record {
       stops = λ now vs s x. absurd cc;
       goes = λ now vs ws o is kept same_path types value.
-          subst (λ r. AsGood r (narrows s0 ty.Int a spot now vs))
-          (sym (ap₂ (λ u x. exactly (in_range ty.Int spot u x)) (turns-same s0 s1 f.follows) (some_is o _ (at ws m) is value)))
-          (guard_one (active s0.path vs) (λ x. in_range ty.Int spot (turns_of s0.graph s0.turn) x) (at vs a) (pos 0) refl);
+          subst (λ r. AsGood r (narrows s0 to a spot now vs))
+          (sym (ap₂ (λ u x. exactly (in_range to spot u x)) (turns-same s0 s1 f.follows) (some_is o _ (at ws m) is value)))
+          (guard_one (active s0.path vs) (λ x. in_range to spot (turns_of s0.graph s0.turn) x) (at vs a) (pos 0) (zero_ok to spot (turns_of s0.graph s0.turn)));
     })
 
 pub copied : (s new : State) (from to : Ty) (a k : ℕ) (spot : Spot) → ((v : ℤ) → fits from v ≡ true → fits to v ≡ true) → IsA from s.graph.operations a → Makes s new to 1 (acts s kind.Conv to a 0 0 spot) k → Makes s new to 2 (copies a) k

@@ -88,6 +88,7 @@ const_fits to v spot turn nodes ops h le = record { kind = refl; from = refl; ty
     same_self ty.Bool = refl
     same_self ty.Int = refl
     same_self ty.Dint = refl
+    same_self ty.Lint = refl
 
 -- ---- places
 
@@ -95,6 +96,7 @@ pub within_self : (t : Ty) → within t t ≡ true
 within_self ty.Bool = refl
 within_self ty.Int = refl
 within_self ty.Dint = refl
+within_self ty.Lint = refl
 
 -- an operation that may be read as a type
 pub record There (t : Ty) (ops : List Op) (k : ℕ) : Type 0 where

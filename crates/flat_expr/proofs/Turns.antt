@@ -56,6 +56,7 @@ nested s node i part law = record {
   before = i;
   after = record {
     part = part;
+    code = i.code;
     names = i.names;
     few = i.few;
     inits = i.inits;

@@ -1,6 +1,7 @@
--- Worked: a division in one turn of a FOR, as a program and as a graph, and how both runs are told.
-use Rattle.std.proofs.Common.{◌≡◌, refl, ℕ, pos, ℤ, List, [], ◌∷◌, Some, None}
+-- Worked: a division in one turn of a FOR, and a sum of LINT, as programs and as graphs, and how both runs are told.
+use Rattle.std.proofs.Common.{◌≡◌, refl, ℕ, pos, ℤ, true, false, List, [], ◌∷◌, Some, None}
 use Rattle.vcp_base.specs.declared.spot.Spot.{Spot}
+use Rattle.vcp_base.specs.declared.code.Profile.TheVariants as profile
 use Rattle.vcp_base.specs.declared.ty.Ty.TheVariants as ty
 use Rattle.vcp_base.specs.declared.kind.Kind.TheVariants as kind
 use Rattle.vcp_base.specs.declared.kind.StopKind.TheVariants as why
@@ -9,9 +10,10 @@ use Rattle.st_tree.specs.declared.program.Class.{Class}
 use Rattle.st_tree.specs.declared.program.Class.TheVariants as class
 use Rattle.st_tree.specs.declared.expr.BinOp.TheVariants as bin
 use Rattle.vcp_typed.specs.declared.slot.Slot.{Slot}
-use Rattle.vcp_typed.specs.TExprTree.{get, binary}
+use Rattle.vcp_typed.specs.TExprTree.{literal, get, binary}
 use Rattle.vcp_typed.specs.TStmtTree.{assign, for_, no_tstmts, and_tstmt}
 use Rattle.vcp_typed.specs.SourceRun.{Program}
+use Rattle.vcp_typed.specs.Wide.{wide}
 use Rattle.flat_expr.specs.Begin.{held_from}
 use Rattle.flat_expr.specs.State.{last_size}
 use Rattle.flat_expr.specs.Told.{told_source, told_graph}
@@ -31,6 +33,7 @@ program = record {
 
 graph : Lists
 graph = record {
+  profile = profile.Narrow;
   names = (120 ∷ []) ∷ (121 ∷ []) ∷ (105 ∷ []) ∷ [];
   inputs = (record { name = 0; ty = ty.Int }) ∷ [];
   outputs = (record { name = 1; ty = ty.Int; op = 2 }) ∷ [];
@@ -62,3 +65,45 @@ begin-holds = refl
 last-three : last_size program.slots ≡ 3
 unfolding program slot
 last-three = refl
+
+-- ---- the same of LINT, in the wide code
+
+lint_slot : List ℕ → Class → Slot
+lint_slot name c = record { name = name; spot = record { line = 0; col = 0 }; class = c; ty = ty.Lint; init = pos 0 }
+
+-- y := x + 1;
+lint_program : Program
+lint_program = record {
+  slots = lint_slot (120 ∷ []) class.Input ∷ lint_slot (121 ∷ []) class.Output ∷ [];
+  body = and_tstmt (assign 1 (binary bin.Add ty.Lint (get 0 ty.Lint) (literal ty.Lint (pos 1) place) place) place) no_tstmts;
+}
+
+lint_graph : Lists
+lint_graph = record {
+  profile = profile.Wide;
+  names = (120 ∷ []) ∷ (121 ∷ []) ∷ [];
+  inputs = (record { name = 0; ty = ty.Lint }) ∷ [];
+  outputs = (record { name = 1; ty = ty.Lint; op = 3 }) ∷ [];
+  loads = [];
+  stores = [];
+  turn_nodes = [];
+  operations = (record { kind = kind.Input; from = ty.Lint; ty = ty.Lint; a = 0; b = 0; c = 0; imm = pos 0; spot = place; turn = 0 })
+      ∷ (record { kind = kind.Const; from = ty.Lint; ty = ty.Lint; a = 0; b = 0; c = 0; imm = pos 1; spot = place; turn = 0 })
+      ∷ (record { kind = kind.Add; from = ty.Lint; ty = ty.Lint; a = 0; b = 1; c = 0; imm = pos 0; spot = place; turn = 0 })
+      ∷ (record { kind = kind.Out; from = ty.Lint; ty = ty.Lint; a = 2; b = 0; c = 0; imm = pos 0; spot = place; turn = 0 }) ∷ [];
+}
+
+lint_rows : List (List ℤ)
+lint_rows = (pos 9223372036854775806 ∷ []) ∷ (pos 9223372036854775807 ∷ []) ∷ []
+
+codes-are-theirs : (wide program ≡ false) × (wide lint_program ≡ true)
+unfolding program lint_program slot lint_slot place
+codes-are-theirs = (refl, refl)
+
+lint-stops : told_source lint_program lint_rows ≡ record { rows = (pos 9223372036854775807 ∷ []) ∷ []; end = Some (record { kind = why.Range; spot = place; turns = [] }) }
+unfolding lint_program lint_slot place lint_rows
+lint-stops = refl
+
+lint-is-told-the-same : told_graph lint_graph lint_rows ≡ told_source lint_program lint_rows
+unfolding lint_graph lint_program lint_slot place lint_rows
+lint-is-told-the-same = refl

@@ -1,5 +1,6 @@
 -- Begin: the lists and the places of slots before the body, where the INPUTs are there.
 use Rattle.std.specs.Prelude.{ℕ, suc, cond, List, [], ◌∷◌, Option, Some, None}
+use Rattle.vcp_base.specs.declared.code.Profile.{Profile}
 use Rattle.vcp_base.specs.declared.kind.Kind.TheVariants as kind
 use Rattle.op_graph.specs.declared.op.Op.{Op}
 use Rattle.op_graph.specs.declared.op.Var.{Var}
@@ -25,10 +26,10 @@ abbrev pub held_from : ℕ → List Slot → List (Option ℕ)
 held_from j [] = []
 held_from j (s ∷ slots) = cond (is_input s.class) (Some j ∷ held_from (suc j) slots) (None ∷ held_from j slots)
 
--- the lists with the names and the inputs of these slots
-abbrev pub entered : List (List ℕ) → List Slot → Lists
-entered names slots = record nothing { names = names; inputs = inputs_from 0 slots; operations = input_ops 0 slots }
+-- the lists in the code, with the names and the inputs of these slots
+abbrev pub entered : Profile → List (List ℕ) → List Slot → Lists
+entered p names slots = record (nothing p) { names = names; inputs = inputs_from 0 slots; operations = input_ops 0 slots }
 
 -- the state before the body
-abbrev pub begun : List Slot → State
-begun slots = record { slots = slots; graph = entered (names_of slots) slots; known = held_from 0 slots; path = None; turn = 0; nought = None; unit = None }
+abbrev pub begun : Profile → List Slot → State
+begun p slots = record { slots = slots; graph = entered p (names_of slots) slots; known = held_from 0 slots; path = None; turn = 0; nought = None; unit = None }

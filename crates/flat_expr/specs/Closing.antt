@@ -6,11 +6,27 @@ use Rattle.op_graph.specs.declared.op.Outlet.{Outlet}
 use Rattle.op_graph.specs.Lists.{Lists, output_column}
 use Rattle.op_graph.specs.Rules.{IsPart}
 use Rattle.op_graph.specs.GraphRun.{stored, outputs as graph_outputs}
+use Rattle.vcp_base.specs.Limits.{most_operations}
+use Rattle.op_graph.specs.declared.build.Build.{Build}
+use Rattle.op_graph.specs.declared.build.Build.TheVariants as build
 use Rattle.vcp_typed.specs.declared.slot.Slot.{Slot}
+use Rattle.vcp_typed.specs.declared.slot.Slots.{Slots}
 use Rattle.vcp_typed.specs.Fitting.{output_columns}
 use Rattle.vcp_typed.specs.Meaning.{Stop}
 use Rattle.vcp_typed.specs.SourceRun.{is_input, outputs}
-use Rattle.flat_expr.specs.State.{State, IsState, IsPlace, IsHeld, IsCell, KnowsOne, Knows, AreLoaded, unknown, others, reserved, run}
+use Rattle.flat_expr.specs.State.{State, IsState, IsPlace, IsHeld, IsCell, KnowsOne, Knows, AreLoaded, unknown, others, reserved, last_size, run}
+
+-- the flattening is of these slots
+abbrev pub IsOver : State → Slots → Type 0
+IsOver s slots = s.slots ≡ slots.items.items
+
+-- the slot of the number
+abbrev pub IsSlot : State → ℕ → Slot → Type 0
+IsSlot s n slot = slice_get s.slots n ≡ Some slot
+
+-- there is no room only where more operations are wanted for the end of the cycle than a graph may have
+abbrev pub NoRoom : State → Build → Type 0
+NoRoom s why = why ≡ build.Full → most_operations < reserved s + last_size s.slots
 
 -- the operations' values tell the slots' values now, where the slots are held by these operations
 abbrev pub Tell : List Slot → List (Option ℕ) → List ℤ → List ℤ → List ℤ → Type 0
@@ -21,6 +37,7 @@ Tell slots known start now vs = (slot : ℕ) → slot < length slots → KnowsOn
 pub record Closes (s : State) (n m : ℕ) (g : Lists) (known : List (Option ℕ)) : Type 0 where
   pub from : IsState s
   pub part : IsPart g
+  pub profile : g.profile ≡ s.graph.profile
   pub names : g.names ≡ s.graph.names
   pub inputs : g.inputs ≡ s.graph.inputs
   pub turn_nodes : g.turn_nodes ≡ s.graph.turn_nodes
@@ -39,3 +56,7 @@ pub record Closes (s : State) (n m : ℕ) (g : Lists) (known : List (Option ℕ)
   pub gives : (cells row start now vs : List ℤ) → run s.graph cells row ≡ Ok vs → AreLoaded g.loads cells start → Knows s start now vs →
       (ws : List ℤ) × (run g cells row ≡ Ok ws) × Tell s.slots known start now ws × (graph_outputs g ws ≡ outputs (take n s.slots) now)
       × (stored g ws ≡ map (λ l. at now l.name) (take (length g.stores) g.loads))
+
+-- as far as the OUTs of the first n slots, where operation k holds the slot
+abbrev pub Holds : State → ℕ → Lists → List (Option ℕ) → ℕ → ℕ → Type 0
+Holds s n g known slot k = Closes s n 0 g known × (get_or known slot None ≡ Some k)

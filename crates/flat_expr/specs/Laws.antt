@@ -5,7 +5,12 @@ use Rattle.vcp_base.specs.Types.{fits}
 use Rattle.op_graph.specs.declared.op.Op.{Op}
 use Rattle.op_graph.specs.Lists.{Lists}
 use Rattle.vcp_base.specs.Values.{at}
-use Rattle.flat_expr.specs.State.{State, IsState, IsA, AreLoaded, Knows, Kept, Follows, run}
+use Rattle.vcp_base.specs.declared.code.Profile.{Profile}
+use Rattle.vcp_base.specs.Code.{admits}
+use Rattle.vcp_typed.specs.TExprTree.{TExprTree}
+use Rattle.vcp_typed.specs.Checked.{ty_of}
+use Rattle.vcp_typed.specs.Wide.{expr_is_wide}
+use Rattle.flat_expr.specs.State.{State, IsState, Allows, IsA, AreLoaded, Knows, Kept, Follows, run}
 
 pub record Laws : Type 0 where
   -- a run without a stop has a value for each operation
@@ -15,5 +20,7 @@ pub record Laws : Type 0 where
   -- what is known stays where the earlier values stay
   pub knows : (s : State) (start now vs ws : List ℤ) → IsState s → length vs ≡ length s.graph.operations → Kept vs ws → Knows s start now vs → Knows s start now ws
   pub follows : (a b c : State) → Follows a b → Follows b c → Follows a c
+  -- an expression's value has a type of the code that the expression stands in
+  pub value : (p : Profile) (e : TExprTree) → Allows p (expr_is_wide e) → admits p (ty_of e) ≡ true
   -- an operation that may be read is there
   pub below : (t : Ty) (ops : List Op) (k : ℕ) → IsA t ops k → k < length ops

@@ -8,6 +8,8 @@ use Rattle.vcp_base.specs.declared.kind.Kind.{Kind}
 use Rattle.vcp_base.specs.declared.kind.Kind.TheVariants as kind
 use Rattle.vcp_base.specs.declared.kind.StopKind.TheVariants as why
 use Rattle.vcp_base.specs.Types.{fits}
+use Rattle.vcp_base.specs.declared.code.Profile.{Profile}
+use Rattle.vcp_base.specs.Code.{admits, is_wide}
 use Rattle.vcp_base.specs.Limits.{most_names, most_operations}
 use Rattle.vcp_base.specs.Kinds.{same, truth, divides_by_zero, operands, operand_type}
 use Rattle.vcp_base.specs.Kinds.{value as kind_value}
@@ -24,7 +26,7 @@ use Rattle.vcp_base.specs.Values.{at}
 use Rattle.op_graph.specs.GraphRun.{outcome_of, stored, outputs as graph_outputs}
 use Rattle.vcp_base.specs.Kinds.{Outcome}
 use Rattle.vcp_typed.specs.declared.slot.Slot.{Slot}
-use Rattle.vcp_typed.specs.Meaning.{Stop, and_then, stop, in_range, value, operate, sign, apply, least, greatest}
+use Rattle.vcp_typed.specs.Meaning.{Stop, and_then, stop, in_range, value, operate, sign, apply, lesser, greater}
 use Rattle.st_tree.specs.declared.expr.UnOp.{UnOp}
 use Rattle.st_tree.specs.declared.expr.BinOp.{BinOp}
 use Rattle.vcp_typed.specs.TExprTree.{TExprTree, TExprTrees, no_texprs, and_texpr}
@@ -35,6 +37,7 @@ use Rattle.vcp_typed.specs.Size.{expr_size}
 use Rattle.vcp_typed.specs.Size.{class_size}
 use Rattle.vcp_typed.specs.SourceRun.{Program, is_input, with_inputs, outputs}
 use Rattle.vcp_typed.specs.Fitting.{input_types, input_columns, output_columns}
+use Rattle.vcp_typed.specs.Wide.{wide}
 use Rattle.vcp_base.specs.Types.{AreIn}
 use Rattle.st_tree.specs.declared.program.Class.{Class}
 use Rattle.st_tree.specs.declared.program.Class.TheVariants as class
@@ -121,9 +124,20 @@ IsHeld false o = ⊤
 IsHeld true None = ⊥
 IsHeld true (Some k) = ⊤
 
+-- ---- the code
+
+-- a part of a program that has a node of LINT stands in the wide code alone
+abbrev pub Allows : Profile → Bool → Type 0
+Allows p has_lint = is_wide p ≡ false → has_lint ≡ false
+
+-- the code has words of each slot's type
+abbrev pub SlotsAllowed : Profile → List Slot → Type 0
+SlotsAllowed p slots = (slot : ℕ) (x : Slot) → slice_get slots slot ≡ Some x → admits p x.ty ≡ true
+
 -- A state that flattening may come to. The laws of runs are kept with it, for whatever is said of its runs rests on them.
 pub record IsState (s : State) : Type 0 where
   pub part : IsPart s.graph
+  pub code : SlotsAllowed s.graph.profile s.slots
   pub names : s.graph.names ≡ names_of s.slots
   pub few : length s.slots ≤ most_names
   pub inits : (slot : ℕ) (x : Slot) → slice_get s.slots slot ≡ Some x → fits x.ty x.init ≡ true
@@ -201,6 +215,7 @@ pub record Follows (old new : State) : Type 0 where
   pub slots : new.slots ≡ old.slots
   pub path : new.path ≡ old.path
   pub turn : new.turn ≡ old.turn
+  pub profile : new.graph.profile ≡ old.graph.profile
   pub turn_nodes : new.graph.turn_nodes ≡ old.graph.turn_nodes
   pub inputs : new.graph.inputs ≡ old.graph.inputs
   pub outputs : new.graph.outputs ≡ old.graph.outputs
@@ -342,7 +357,7 @@ abbrev pub picks : ℕ → ℕ → ℕ → ℕ → Meant
 picks x y a b = λ now vs. Ok (Some (cond (int_lt (at vs x) (at vs y)) (at vs b) (at vs a)))
 
 abbrev pub limits : ℕ → ℕ → ℕ → Meant
-limits low a high = λ now vs. Ok (Some (least (greatest (at vs a) (at vs low)) (at vs high)))
+limits low a high = λ now vs. Ok (Some (lesser (greater (at vs a) (at vs low)) (at vs high)))
 
 -- a where the BOOL g is 0, and else b
 abbrev pub selects : ℕ → ℕ → ℕ → Meant
@@ -366,8 +381,27 @@ FunFits fun.Max t ops a b c = (is_number t ≡ true) × IsA t ops a × IsA t ops
 FunFits fun.Limit t ops a b c = (is_number t ≡ true) × IsA t ops a × IsA t ops b × IsA t ops c
 FunFits fun.Sel t ops a b c = IsA ty.Bool ops a × IsA t ops b × IsA t ops c
 FunFits fun.IntToDint t ops a b c = (t ≡ ty.Dint) × IsA ty.Int ops a
+FunFits fun.IntToLint t ops a b c = (t ≡ ty.Lint) × IsA ty.Int ops a
 FunFits fun.DintToInt t ops a b c = (t ≡ ty.Int) × IsA ty.Dint ops a
+FunFits fun.DintToLint t ops a b c = (t ≡ ty.Lint) × IsA ty.Dint ops a
+FunFits fun.LintToInt t ops a b c = (t ≡ ty.Int) × IsA ty.Lint ops a
+FunFits fun.LintToDint t ops a b c = (t ≡ ty.Dint) × IsA ty.Lint ops a
 FunFits fun.BoolToInt t ops a b c = (t ≡ ty.Int) × IsA ty.Bool ops a
+
+-- the type of a function's last argument, where its value has the type
+abbrev pub last_type : Fun → Ty → Ty
+last_type fun.Abs t = t
+last_type fun.Min t = t
+last_type fun.Max t = t
+last_type fun.Limit t = t
+last_type fun.Sel t = t
+last_type fun.IntToDint t = ty.Int
+last_type fun.IntToLint t = ty.Int
+last_type fun.DintToInt t = ty.Dint
+last_type fun.DintToLint t = ty.Dint
+last_type fun.LintToInt t = ty.Lint
+last_type fun.LintToDint t = ty.Lint
+last_type fun.BoolToInt t = ty.Bool
 
 -- what a function gives where the place is reached; it takes no more of these arguments than it has
 abbrev pub applies : State → Fun → Ty → ℕ → ℕ → ℕ → Spot → Meant
@@ -395,6 +429,7 @@ pub record Continues (old new : State) : Type 0 where
   pub slots : new.slots ≡ old.slots
   pub path : new.path ≡ old.path
   pub turn : new.turn ≡ old.turn
+  pub profile : new.graph.profile ≡ old.graph.profile
   pub nodes : length old.graph.turn_nodes ≤ length new.graph.turn_nodes
   pub turns : (n : ℕ) → n ≤ length old.graph.turn_nodes → turns_of new.graph n ≡ turns_of old.graph n
   pub ends : (new.graph.inputs ≡ old.graph.inputs) × (new.graph.outputs ≡ old.graph.outputs) × (new.graph.stores ≡ old.graph.stores)
@@ -427,6 +462,7 @@ pub record Nests (old new : State) (node : TurnNode) (n : ℕ) : Type 0 where
 pub record Begins (s : State) (p : Program) : Type 0 where
   pub state : IsState s
   pub slots : s.slots ≡ p.slots
+  pub code : is_wide s.graph.profile ≡ wide p
   pub path : s.path ≡ None
   pub turn : s.turn ≡ 0
   pub nodes : s.graph.turn_nodes ≡ []
@@ -437,6 +473,7 @@ pub record Begins (s : State) (p : Program) : Type 0 where
 
 -- the whole graph: the outputs and the next values of the cells
 pub record Finishes (s : State) (g : Lists) : Type 0 where
+  pub profile : g.profile ≡ s.graph.profile
   pub names : g.names ≡ names_of s.slots
   pub ins : map (column g.names) g.inputs ≡ input_columns s.slots
   pub outs : map (output_column g.names) g.outputs ≡ output_columns s.slots

@@ -1,5 +1,6 @@
 -- Told: a run as it is told. The run of a program and the run of a graph each have one function into it.
 use Rattle.std.specs.Prelude.{◌≡◌, ℕ, ℤ, List, map, slice_get, Option, Some, None}
+use Rattle.vcp_base.specs.Code.{is_wide}
 use Rattle.vcp_base.specs.Stops.{ToldStop, told_stop}
 use Rattle.vcp_base.specs.declared.kind.StopKind.{StopKind}
 use Rattle.op_graph.specs.declared.op.Op.{Op}
@@ -9,6 +10,7 @@ use Rattle.vcp_typed.specs.declared.slot.Slot.{Slot}
 use Rattle.vcp_typed.specs.Meaning.{Stop}
 use Rattle.vcp_typed.specs.Fitting.{AreRows, input_types, input_columns, output_columns}
 use Rattle.vcp_typed.specs.SourceRun.{Program, source_run}
+use Rattle.vcp_typed.specs.Wide.{wide}
 
 -- the rows of the outputs, and the stop that ended the run, or none
 pub record Told : Type 0 where
@@ -42,8 +44,10 @@ told_graph g rows = record { rows = (graph_run g rows).rows; end = graph_end g (
 
 -- ---- meaning
 
--- the graph means the program: its inputs and outputs are the program's, and over all rows that fit both runs are told the same
+-- The graph means the program: its code is the wide one exactly where the program has values of LINT, its inputs and outputs are the
+-- program's, and over all rows that fit both runs are told the same.
 pub record Means (g : Lists) (p : Program) : Type 0 where
+  pub code : is_wide g.profile ≡ wide p
   pub inputs : map (column g.names) g.inputs ≡ input_columns p.slots
   pub outputs : map (output_column g.names) g.outputs ≡ output_columns p.slots
   pub runs : (rows : List (List ℤ)) → AreRows (input_types p.slots) rows → told_graph g rows ≡ told_source p rows

@@ -1,11 +1,9 @@
 //! The end of a cycle: the OUTs, and the STOREs of the slots' present values.
 
-ghost use Rattle.std.specs.Prelude.{◌≡◌, ◌<◌, ◌+◌, ℕ, length, get_or, slice_get, Some, None, IfOk, IfErr, OnOk};
-ghost use Rattle.op_graph.specs.declared.build.Build.TheVariants as build;
-ghost use Rattle.vcp_base.specs.Limits.{most_operations};
+ghost use Rattle.std.specs.Prelude.{◌≡◌, ◌<◌, ◌+◌, ℕ, length, IfOk, IfErr, OnOk};
 ghost use Rattle.vcp_typed.specs.SourceRun.{is_output as is_output_of};
-ghost use Rattle.flat_expr.specs.Closing.{Closes};
-ghost use Rattle.flat_expr.specs.State.{State, reserved, last_size};
+ghost use Rattle.flat_expr.specs.Closing.{Closes, Holds, IsOver, IsSlot, NoRoom};
+ghost use Rattle.flat_expr.specs.State.{State};
 
 use op_graph::{Build, GraphBuilder};
 use st_tree::Class;
@@ -18,9 +16,10 @@ pub(crate) fn close_outputs(
     graph: &mut GraphBuilder,
     known: &mut Vec<Option<u32>>,
 ) -> Result<(), Build>
-    requires { (s : State) × Closes s 0 0 graph.old known.old.items × (s.slots ≡ slots.now.items.items) }
-    ensures made { (s : State) → Closes s 0 0 graph.old known.old.items → s.slots ≡ slots.now.items.items → OnOk result (Closes s (length s.slots) 0 graph.new known.new.items) }
-    ensures refuses { (s : State) → Closes s 0 0 graph.old known.old.items → s.slots ≡ slots.now.items.items → IfErr result (λ why. why ≡ build.Full → most_operations < reserved s + last_size s.slots) }
+    requires { (s : State) × Closes s 0 0 graph.old known.old.items × IsOver s slots.now }
+    ensures made { (s : State) → Closes s 0 0 graph.old known.old.items → IsOver s slots.now →
+        OnOk result (Closes s (length s.slots) 0 graph.new known.new.items) }
+    ensures refuses { (s : State) → Closes s 0 0 graph.old known.old.items → IsOver s slots.now → IfErr result (NoRoom s) }
 {
     'outputs: for slot in 0..slots.len() {
         close_output(slots, graph, known, slot as u32)?;
@@ -35,9 +34,10 @@ fn close_output(
     known: &mut Vec<Option<u32>>,
     slot: u32,
 ) -> Result<(), Build>
-    requires { (s : State) × Closes s slot 0 graph.old known.old.items × (s.slots ≡ slots.now.items.items) × (slot < length s.slots) }
-    ensures made { (s : State) → Closes s slot 0 graph.old known.old.items → s.slots ≡ slots.now.items.items → OnOk result (Closes s (slot + 1) 0 graph.new known.new.items) }
-    ensures refuses { (s : State) → Closes s slot 0 graph.old known.old.items → s.slots ≡ slots.now.items.items → IfErr result (λ why. why ≡ build.Full → most_operations < reserved s + last_size s.slots) }
+    requires { (s : State) × Closes s slot 0 graph.old known.old.items × IsOver s slots.now × (slot < length s.slots) }
+    ensures made { (s : State) → Closes s slot 0 graph.old known.old.items → IsOver s slots.now →
+        OnOk result (Closes s (slot + 1) 0 graph.new known.new.items) }
+    ensures refuses { (s : State) → Closes s slot 0 graph.old known.old.items → IsOver s slots.now → IfErr result (NoRoom s) }
 {
     let variable = slots.at(slot as usize);
     if !is_output(variable.class) {
@@ -66,9 +66,10 @@ fn held(
     slot: u32,
     variable: &Slot,
 ) -> Result<u32, Build>
-    requires { (s : State) × (n : ℕ) × Closes s n 0 graph.old known.old.items × (slice_get s.slots slot ≡ Some variable.now) }
-    ensures made { (s : State) (n : ℕ) → Closes s n 0 graph.old known.old.items → slice_get s.slots slot ≡ Some variable.now → IfOk result (λ k. Closes s n 0 graph.new known.new.items × (get_or known.new.items slot None ≡ Some k)) }
-    ensures refuses { (s : State) (n : ℕ) → Closes s n 0 graph.old known.old.items → slice_get s.slots slot ≡ Some variable.now → IfErr result (λ why. why ≡ build.Full → most_operations < reserved s + last_size s.slots) }
+    requires { (s : State) × (n : ℕ) × Closes s n 0 graph.old known.old.items × IsSlot s slot variable.now }
+    ensures made { (s : State) (n : ℕ) → Closes s n 0 graph.old known.old.items → IsSlot s slot variable.now →
+        IfOk result (Holds s n graph.new known.new.items slot) }
+    ensures refuses { (s : State) (n : ℕ) → Closes s n 0 graph.old known.old.items → IsSlot s slot variable.now → IfErr result (NoRoom s) }
 {
     if let Some(k) = known[slot as usize] {
         return Ok(k);
@@ -85,9 +86,10 @@ pub(crate) fn close_cells(
     graph: &mut GraphBuilder,
     known: &[Option<u32>],
 ) -> Result<(), Build>
-    requires { (s : State) × (n : ℕ) × Closes s n 0 graph.old known.now × (s.slots ≡ slots.now.items.items) }
-    ensures made { (s : State) (n : ℕ) → Closes s n 0 graph.old known.now → s.slots ≡ slots.now.items.items → OnOk result (Closes s n (length graph.new.loads) graph.new known.now) }
-    ensures refuses { (s : State) (n : ℕ) → Closes s n 0 graph.old known.now → s.slots ≡ slots.now.items.items → IfErr result (λ why. why ≡ build.Full → most_operations < reserved s + last_size s.slots) }
+    requires { (s : State) × (n : ℕ) × Closes s n 0 graph.old known.now × IsOver s slots.now }
+    ensures made { (s : State) (n : ℕ) → Closes s n 0 graph.old known.now → IsOver s slots.now →
+        OnOk result (Closes s n (length graph.new.loads) graph.new known.now) }
+    ensures refuses { (s : State) (n : ℕ) → Closes s n 0 graph.old known.now → IsOver s slots.now → IfErr result (NoRoom s) }
 {
     let last = graph.cells();
     'cells: for cell in 0..last {
@@ -103,10 +105,10 @@ fn close_cell(
     known: &[Option<u32>],
     cell: u32,
 ) -> Result<(), Build>
-    requires { (s : State) × (n : ℕ) × Closes s n cell graph.old known.now × (s.slots ≡ slots.now.items.items) × (cell < length graph.old.loads) }
-    ensures made { (s : State) (n : ℕ) → Closes s n cell graph.old known.now → s.slots ≡ slots.now.items.items → OnOk result (Closes s n (cell + 1) graph.new known.now) }
+    requires { (s : State) × (n : ℕ) × Closes s n cell graph.old known.now × IsOver s slots.now × (cell < length graph.old.loads) }
+    ensures made { (s : State) (n : ℕ) → Closes s n cell graph.old known.now → IsOver s slots.now → OnOk result (Closes s n (cell + 1) graph.new known.now) }
     ensures loads { OnOk result (graph.new.loads ≡ graph.old.loads) }
-    ensures refuses { (s : State) (n : ℕ) → Closes s n cell graph.old known.now → s.slots ≡ slots.now.items.items → IfErr result (λ why. why ≡ build.Full → most_operations < reserved s + last_size s.slots) }
+    ensures refuses { (s : State) (n : ℕ) → Closes s n cell graph.old known.now → IsOver s slots.now → IfErr result (NoRoom s) }
 {
     let loaded = graph.cell(cell);
     let variable = slots.at(loaded.name as usize);

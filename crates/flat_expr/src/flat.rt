@@ -1,14 +1,14 @@
 //! The state of a flattening.
 
 ghost use Rattle.std.specs.Prelude.{◌≡◌, ◌<◌, ◌≤◌, ◌↔◌, ◌+◌, ℤ, true, length, get_or, slice_get, set, Some, None, Ok, Err, IfOk, IfErr, OnOk, OnErr, [], All, cond};
-ghost use Rattle.op_graph.specs.Rules.{OpFits, TurnNodeFits, operand_fits, types_fit, is_number};
+ghost use Rattle.op_graph.specs.Rules.{OpFits, Admitted, TurnNodeFits, operand_fits, types_fit, is_number};
 ghost use Rattle.op_graph.specs.Building.{nowhere, with_input};
 ghost use Rattle.op_graph.specs.Lists.{nothing};
 ghost use Rattle.op_graph.specs.declared.build.Build.TheVariants as build;
 ghost use Rattle.vcp_base.specs.declared.ty.Ty.TheVariants as type_of;
 ghost use Rattle.flat_expr.specs.Begin.{entered, held_from};
 ghost use Rattle.flat_expr.specs.Laws.{Laws};
-ghost use Rattle.flat_expr.specs.State.{IsState, IsPlace, IsA, Pushes, Makes, is_plain, reads, acts, giving, neutral as neutral_of, neutral_place, with_neutral, masks, guards, is_arithmetic, divides, is_comparison, denies, operates, signs, reading, Flattens, FlattensOne, FunFits, applies, argument as argument_of, one_size, picks, limits, selects, narrows, copies, sizes_up, placed, Refuses, Assigns, Nests, Begins, Finishes, reserved, last_size};
+ghost use Rattle.flat_expr.specs.State.{IsState, IsPlace, IsA, Pushes, Makes, is_plain, reads, acts, giving, neutral as neutral_of, neutral_place, with_neutral, masks, guards, is_arithmetic, divides, is_comparison, denies, operates, signs, reading, Flattens, FlattensOne, FunFits, last_type, Allows, SlotsAllowed, applies, argument as argument_of, one_size, picks, limits, selects, narrows, copies, sizes_up, placed, Refuses, Assigns, Nests, Begins, Finishes, reserved, last_size};
 ghost use Rattle.flat_expr.specs.Told.{names_of};
 ghost use Rattle.vcp_base.specs.declared.kind.Kind.TheVariants as kind_of;
 ghost use Rattle.vcp_typed.specs.declared.slot.Slot.{Slot as SlotOf};
@@ -17,6 +17,8 @@ ghost use Rattle.vcp_typed.specs.Checked.{IsExpr, AreExprs, SlotsFit};
 ghost use Rattle.vcp_typed.specs.TExprViews.{texpr_tree, texpr_trees};
 ghost use Rattle.vcp_base.specs.Limits.{most_names, most_operations, most_turn_nodes};
 ghost use Rattle.vcp_base.specs.Types.{fits};
+ghost use Rattle.vcp_base.specs.Code.{admits, is_wide};
+ghost use Rattle.vcp_typed.specs.Wide.{expr_is_wide, exprs_are_wide};
 ghost use Rattle.vcp_typed.specs.Rules.{common, signed, result as result_type};
 ghost use Rattle.vcp_typed.specs.Size.{operator_size, function_size, expr_size};
 
@@ -27,7 +29,7 @@ use op_graph::{
 use st_tree::{BinOp, Class, UnOp};
 use std::alloc::Global;
 use std::marker::Model;
-use vcp_base::{Kind, Memory, Spot, Ty};
+use vcp_base::{Kind, Memory, Profile, Spot, Ty};
 use vcp_typed::{Fun, Slot, Slots, TExpr, Typed, trees_of_nodes};
 
 /// The state of a flattening: the graph so far, the operation that has each slot's value, the path
@@ -53,13 +55,24 @@ impl<'a> Model for Flat<'a> {
     ghost invariant = { λ f. IsState (record { slots = f.slots.now.items.items; graph = f.graph; known = f.known.items; path = f.path; turn = f.turn; nought = f.nought; unit = f.unit }) };
 }
 
-/// A builder with the names of the slots.
-fn named(alloc: Global, slots: &[Slot]) -> Result<GraphBuilder, Memory>
+/// The code of a program: the wide one where it has values of LINT.
+fn profile_of(has_lint: bool) -> Profile
+    ensures { is_wide result ≡ has_lint }
+{
+    if has_lint {
+        Profile::Wide
+    } else {
+        Profile::Narrow
+    }
+}
+
+/// A builder in the code, with the names of the slots.
+fn named(alloc: Global, profile: Profile, slots: &[Slot]) -> Result<GraphBuilder, Memory>
     requires names { SlotsFit [] slots.now }
     requires few { length slots.now ≤ most_names }
-    ensures { IfOk result (λ graph. graph ≡ record nothing { names = names_of slots.now }) }
+    ensures { IfOk result (λ graph. graph ≡ record (nothing profile) { names = names_of slots.now }) }
 {
-    let mut graph = GraphBuilder::new(alloc);
+    let mut graph = GraphBuilder::new(alloc, profile);
     'names: for slot in slots {
         graph.name(&slot.name)?;
     }
@@ -73,8 +86,9 @@ fn enter_all(
     slots: &[Slot],
 ) -> Result<Vec<Option<u32>>, Memory>
     requires few { length slots.now ≤ most_names }
-    requires empty { graph.old ≡ entered (names_of slots.now) [] }
-    ensures graph { OnOk result (graph.new ≡ entered (names_of slots.now) slots.now) }
+    requires empty { graph.old ≡ entered graph.old.profile (names_of slots.now) [] }
+    requires code { SlotsAllowed graph.old.profile slots.now }
+    ensures graph { OnOk result (graph.new ≡ entered graph.old.profile (names_of slots.now) slots.now) }
     ensures known { IfOk result (λ known. known.items ≡ held_from 0 slots.now) }
 {
     let mut known = Vec::new(alloc);
@@ -90,6 +104,7 @@ fn enter(graph: &mut GraphBuilder, name: u32, slot: &Slot) -> Result<Option<u32>
     requires front { length graph.old.inputs ≡ length graph.old.operations }
     requires name { name < length graph.old.names }
     requires rises { All (λ v. v.name < name) graph.old.inputs }
+    requires code { admits graph.old.profile slot.now.ty ≡ true }
     ensures place { IfOk result (λ k. k ≡ cond (is_input slot.now.class) (Some (length graph.old.operations)) None) }
     ensures graph { OnOk result (graph.new ≡ cond (is_input slot.now.class) (with_input graph.old name slot.now.ty slot.now.spot) graph.old) }
 {
@@ -108,14 +123,15 @@ fn neutral_number(one: bool) -> i64
 }
 
 impl<'a> Flat<'a> {
-    /// The state before the body of a program: its names and INPUTs are there, and the inputs alone are
-    /// known.
+    /// The state before the body of a program, in the program's code: its names and INPUTs are there, and
+    /// the inputs alone are known.
     pub fn new(alloc: Global, program: &'a Typed) -> Result<Flat<'a>, Memory>
         ensures { IfOk result (λ s. Begins s program.now) }
     {
         operands_are_in_their_types();
         let slots = program.slots();
-        let mut graph = named(alloc, &slots.items)?;
+        let profile = profile_of(program.wide());
+        let mut graph = named(alloc, profile, &slots.items)?;
         let known = enter_all(alloc, &mut graph, &slots.items)?;
         let _rules = graph.len();
         Ok(Flat {
@@ -150,6 +166,7 @@ impl<'a> Flat<'a> {
     pub fn type_of(&self, slot: u32) -> Ty
         requires { slot < length self.now.slots }
         ensures value { (x : SlotOf) → slice_get self.now.slots slot ≡ Some x → result ≡ x.ty }
+        ensures code { admits self.now.graph.profile result ≡ true }
         ensures state { IsState self.now }
     {
         self.slots.at(slot as usize).ty
@@ -184,7 +201,8 @@ impl<'a> Flat<'a> {
     /// Adds an operation of no input, output or cell, which the rules allow after those that are
     /// there. Gives its number.
     pub fn push(&mut self, op: Op) -> Result<u32, Build>
-        requires { OpFits nowhere (length self.old.graph.turn_nodes) self.old.graph.operations op }
+        requires fits { OpFits nowhere (length self.old.graph.turn_nodes) self.old.graph.operations op }
+        requires code { Admitted self.old.graph.profile op }
         ensures ok { IfOk result (λ k. Pushes self.old self.new op k) }
         ensures full { (result ≡ Err build.Full) ↔ (length self.old.graph.operations ≡ most_operations) }
         ensures err { OnErr result (self.new ≡ self.old) }
@@ -195,7 +213,7 @@ impl<'a> Flat<'a> {
     }
 
     /// Adds an operation of two or three operands, or one, at the present turn: of no input, output or
-    /// cell, and no constant. Gives its number.
+    /// cell, and no constant. Its types are of the graph's code. Gives its number.
     pub fn add(
         &mut self,
         kind: Kind,
@@ -208,6 +226,8 @@ impl<'a> Flat<'a> {
     ) -> Result<u32, Build>
         requires plain { is_plain kind ≡ true }
         requires types { types_fit kind from ty ≡ true }
+        requires from { admits self.old.graph.profile from ≡ true }
+        requires ty { admits self.old.graph.profile ty ≡ true }
         requires a { operand_fits self.old.graph.operations (reads kind from 0) a ≡ true }
         requires b { operand_fits self.old.graph.operations (reads kind from 1) b ≡ true }
         requires c { operand_fits self.old.graph.operations (reads kind from 2) c ≡ true }
@@ -228,9 +248,10 @@ impl<'a> Flat<'a> {
         })
     }
 
-    /// Adds a constant at the present turn. Gives its number.
+    /// Adds a constant at the present turn, of a type of the graph's code. Gives its number.
     pub fn constant(&mut self, ty: Ty, value: i64, spot: Spot) -> Result<u32, Build>
-        requires { fits ty value ≡ true }
+        requires fits { fits ty value ≡ true }
+        requires code { admits self.old.graph.profile ty ≡ true }
         ensures made { IfOk result (λ k. Makes self.old self.new ty 1 (giving value) k) }
         ensures refuses { IfErr result (λ why. Refuses self.old self.new 1 why) }
     {
@@ -295,6 +316,7 @@ impl<'a> Flat<'a> {
     fn mask(&mut self, k: u32, ty: Ty, one: bool, spot: Spot) -> Result<u32, Build>
         requires there { IsA ty self.old.graph.operations k }
         requires number { is_number ty ≡ true }
+        requires code { admits self.old.graph.profile ty ≡ true }
         ensures made { IfOk result (λ j. Makes self.old self.new ty 1 (masks self.old one k) j) }
         ensures refuses { IfErr result (λ why. Refuses self.old self.new 1 why) }
     {
@@ -318,6 +340,7 @@ impl<'a> Flat<'a> {
         requires kind { is_arithmetic kind ≡ true }
         requires one { divides kind ≡ one }
         requires number { is_number ty ≡ true }
+        requires code { admits self.old.graph.profile ty ≡ true }
         requires a { IsA ty self.old.graph.operations a }
         requires b { IsA ty self.old.graph.operations b }
         ensures made { IfOk result (λ k. Makes self.old self.new ty 3 (guards self.old kind ty a b spot) k) }
@@ -332,6 +355,7 @@ impl<'a> Flat<'a> {
     fn deny(&mut self, kind: Kind, ty: Ty, a: u32, b: u32, spot: Spot) -> Result<u32, Build>
         requires kind { is_comparison kind ≡ true }
         requires types { types_fit kind ty type_of.Bool ≡ true }
+        requires code { admits self.old.graph.profile ty ≡ true }
         requires a { IsA ty self.old.graph.operations a }
         requires b { IsA ty self.old.graph.operations b }
         ensures made { IfOk result (λ k. Makes self.old self.new type_of.Bool 2 (denies kind a b) k) }
@@ -344,6 +368,7 @@ impl<'a> Flat<'a> {
     // The value of an operator between operands of the type.
     fn operate(&mut self, op: BinOp, ty: Ty, a: u32, b: u32, spot: Spot) -> Result<u32, Build>
         requires types { common op ty ty ≡ Some ty }
+        requires code { admits self.old.graph.profile ty ≡ true }
         requires a { IsA ty self.old.graph.operations a }
         requires b { IsA ty self.old.graph.operations b }
         ensures made { IfOk result (λ k. Makes self.old self.new (result_type op ty) (operator_size op) (operates self.old op ty a b spot) k) }
@@ -370,6 +395,7 @@ impl<'a> Flat<'a> {
     // The value of a sign before an operand of the type.
     fn sign(&mut self, op: UnOp, ty: Ty, a: u32, spot: Spot) -> Result<u32, Build>
         requires types { signed op ty ≡ Some ty }
+        requires code { admits self.old.graph.profile ty ≡ true }
         requires a { IsA ty self.old.graph.operations a }
         ensures made { IfOk result (λ k. Makes self.old self.new ty 2 (signs self.old op ty a spot) k) }
         ensures refuses { IfErr result (λ why. Refuses self.old self.new 2 why) }
@@ -402,11 +428,12 @@ impl<'a> Flat<'a> {
     }
 
     /// Adds the operations of an expression of the program under the present path condition. Gives the
-    /// number of its value. After a refusal the operations that it added stay, and what was known stays
-    /// known.
+    /// number of its value. A widening adds none. After a refusal the operations that it added stay, and
+    /// what was known stays known.
     #[cycle(expr)]
     pub fn expr(&mut self, e: &TExpr) -> Result<u32, Build>
-        requires { IsExpr self.old.slots (texpr_tree e.now) }
+        requires checked { IsExpr self.old.slots (texpr_tree e.now) }
+        requires code { Allows self.old.graph.profile (expr_is_wide (texpr_tree e.now)) }
         ensures made { IfOk result (λ k. Flattens self.old self.new (texpr_tree e.now) k) }
         ensures refuses { IfErr result (λ why. Refuses self.old self.new (expr_size (texpr_tree e.now)) why) }
     {
@@ -448,7 +475,8 @@ impl<'a> Flat<'a> {
     // The operations of the argument at a place; none, and 0, where there is no such argument.
     #[cycle(expr)]
     fn argument(&mut self, args: &[TExpr], i: usize) -> Result<u32, Build>
-        requires { AreExprs self.old.slots (texpr_trees args.now) }
+        requires checked { AreExprs self.old.slots (texpr_trees args.now) }
+        requires code { Allows self.old.graph.profile (exprs_are_wide (texpr_trees args.now)) }
         ensures made { IfOk result (λ k. FlattensOne self.old self.new (argument_of (texpr_trees args.now) i) k) }
         ensures refuses { IfErr result (λ why. Refuses self.old self.new (one_size (argument_of (texpr_trees args.now) i)) why) }
     {
@@ -461,7 +489,9 @@ impl<'a> Flat<'a> {
 
     // The value of a function of arguments at these places.
     fn apply(&mut self, fun: Fun, ty: Ty, a: u32, b: u32, c: u32, spot: Spot) -> Result<u32, Build>
-        requires { FunFits fun ty self.old.graph.operations a b c }
+        requires arguments { FunFits fun ty self.old.graph.operations a b c }
+        requires ty { admits self.old.graph.profile ty ≡ true }
+        requires last { admits self.old.graph.profile (last_type fun ty) ≡ true }
         ensures made { IfOk result (λ k. Makes self.old self.new ty (function_size fun) (applies self.old fun ty a b c spot) k) }
         ensures refuses { IfErr result (λ why. Refuses self.old self.new (function_size fun) why) }
     {
@@ -472,7 +502,11 @@ impl<'a> Flat<'a> {
             Fun::Limit => self.limit(ty, a, b, c, spot),
             Fun::Sel => self.select(ty, a, b, c, spot),
             Fun::IntToDint => self.copy(Ty::Int, Ty::Dint, a, spot),
-            Fun::DintToInt => self.narrow(a, spot),
+            Fun::IntToLint => self.copy(Ty::Int, Ty::Lint, a, spot),
+            Fun::DintToInt => self.narrow(Ty::Dint, Ty::Int, a, spot),
+            Fun::DintToLint => self.copy(Ty::Dint, Ty::Lint, a, spot),
+            Fun::LintToInt => self.narrow(Ty::Lint, Ty::Int, a, spot),
+            Fun::LintToDint => self.narrow(Ty::Lint, Ty::Dint, a, spot),
             Fun::BoolToInt => self.copy(Ty::Bool, Ty::Int, a, spot),
         }
     }
@@ -555,6 +589,7 @@ impl<'a> Flat<'a> {
     // `a` where `x` isn't less than `y`, and else `b`.
     fn pick(&mut self, ty: Ty, x: u32, y: u32, a: u32, b: u32, spot: Spot) -> Result<u32, Build>
         requires number { is_number ty ≡ true }
+        requires code { admits self.old.graph.profile ty ≡ true }
         requires x { IsA ty self.old.graph.operations x }
         requires y { IsA ty self.old.graph.operations y }
         requires a { IsA ty self.old.graph.operations a }
@@ -569,6 +604,7 @@ impl<'a> Flat<'a> {
     // LIMIT: MAX of the value and the lower bound, then MIN with the upper one.
     fn limit(&mut self, ty: Ty, low: u32, a: u32, high: u32, spot: Spot) -> Result<u32, Build>
         requires number { is_number ty ≡ true }
+        requires code { admits self.old.graph.profile ty ≡ true }
         requires low { IsA ty self.old.graph.operations low }
         requires a { IsA ty self.old.graph.operations a }
         requires high { IsA ty self.old.graph.operations high }
@@ -581,6 +617,7 @@ impl<'a> Flat<'a> {
 
     // `a` where the BOOL `g` is 0, and else `b`.
     fn select(&mut self, ty: Ty, g: u32, a: u32, b: u32, spot: Spot) -> Result<u32, Build>
+        requires code { admits self.old.graph.profile ty ≡ true }
         requires g { IsA type_of.Bool self.old.graph.operations g }
         requires a { IsA ty self.old.graph.operations a }
         requires b { IsA ty self.old.graph.operations b }
@@ -590,19 +627,25 @@ impl<'a> Flat<'a> {
         self.add(Kind::Sel, ty, ty, g, a, b, spot)
     }
 
-    // DINT_TO_INT, which can stop.
-    fn narrow(&mut self, a: u32, spot: Spot) -> Result<u32, Build>
-        requires { IsA type_of.Dint self.old.graph.operations a }
-        ensures made { IfOk result (λ k. Makes self.old self.new type_of.Int 2 (narrows self.old type_of.Int a spot) k) }
+    // A conversion from a number to a narrower one, which can stop.
+    fn narrow(&mut self, from: Ty, to: Ty, a: u32, spot: Spot) -> Result<u32, Build>
+        requires types { types_fit kind_of.Conv from to ≡ true }
+        requires number { is_number from ≡ true }
+        requires from { admits self.old.graph.profile from ≡ true }
+        requires to { admits self.old.graph.profile to ≡ true }
+        requires a { IsA from self.old.graph.operations a }
+        ensures made { IfOk result (λ k. Makes self.old self.new to 2 (narrows self.old to a spot) k) }
         ensures refuses { IfErr result (λ why. Refuses self.old self.new 2 why) }
     {
-        let m = self.mask(a, Ty::Dint, false, spot)?;
-        self.add(Kind::Conv, Ty::Dint, Ty::Int, m, 0, 0, spot)
+        let m = self.mask(a, from, false, spot)?;
+        self.add(Kind::Conv, from, to, m, 0, 0, spot)
     }
 
-    // INT_TO_DINT and BOOL_TO_INT, which can't stop.
+    // A conversion to a wider number, or from BOOL to INT, which can't stop.
     fn copy(&mut self, from: Ty, to: Ty, a: u32, spot: Spot) -> Result<u32, Build>
         requires types { types_fit kind_of.Conv from to ≡ true }
+        requires from { admits self.old.graph.profile from ≡ true }
+        requires to { admits self.old.graph.profile to ≡ true }
         requires wider { (v : ℤ) → fits from v ≡ true → fits to v ≡ true }
         requires a { IsA from self.old.graph.operations a }
         ensures made { IfOk result (λ k. Makes self.old self.new to 2 (copies a) k) }
@@ -614,6 +657,7 @@ impl<'a> Flat<'a> {
     // ABS: the masked argument, where it isn't less than 0, and else its NEG.
     fn absolute(&mut self, ty: Ty, a: u32, spot: Spot) -> Result<u32, Build>
         requires number { is_number ty ≡ true }
+        requires code { admits self.old.graph.profile ty ≡ true }
         requires a { IsA ty self.old.graph.operations a }
         ensures made { IfOk result (λ k. Makes self.old self.new ty 5 (sizes_up self.old ty a spot) k) }
         ensures refuses { IfErr result (λ why. Refuses self.old self.new 5 why) }

@@ -14,3 +14,5 @@ mod runs;
 mod sizes;
 #[cfg(test)]
 mod sources;
+#[cfg(test)]
+mod wide;

@@ -2,10 +2,11 @@
 
 use crate::running::machine_lines;
 use crate::sources::graph_of;
+use std::alloc::Global;
 use std::test::Fail;
 
 /// A program from its second line on, rows of its inputs, and what the machine gives on them.
-type Run<'a> = (&'a [u8], &'a [&'a [i64]], &'a [u8]);
+pub type Run<'a> = (&'a [u8], &'a [&'a [i64]], &'a [u8]);
 
 const RUNS: [Run<'static>; 14] = [
     // A branch that isn't taken stops nothing, whatever dividend and divisor are.
@@ -97,18 +98,21 @@ const RUNS: [Run<'static>; 14] = [
     ),
 ];
 
+/// Whether the machine gives these lines.
+pub fn gives(alloc: Global, run: &Run<'_>) -> Result<bool, Fail> {
+    let (body, rows, lines) = *run;
+    let mut source = b"PROGRAM p\n".to_vec(alloc)?;
+    source.extend_from_slice(body)?;
+    source.extend_from_slice(b"END_PROGRAM\n")?;
+    let graph = graph_of(alloc, &source).ok_or("no graph")?;
+    Ok(machine_lines(alloc, &graph, rows)?.as_slice() == lines)
+}
+
 #[test]
 fn the_machine_gives_what_the_sources_mean(rt: HostRuntime) -> Result<(), Fail> {
     let alloc = rt.alloc();
-    for (i, (body, rows, lines)) in RUNS.iter().enumerate() {
-        let mut source = b"PROGRAM p\n".to_vec(alloc)?;
-        source.extend_from_slice(*body)?;
-        source.extend_from_slice(b"END_PROGRAM\n")?;
-        let graph = graph_of(alloc, &source).ok_or("no graph")?;
-        assert!(rt;
-            machine_lines(alloc, &graph, *rows)?.as_slice() == *lines,
-            "run {i}"
-        );
+    for (i, run) in RUNS.iter().enumerate() {
+        assert!(rt; gives(alloc, run)?, "run {i}");
     }
     Ok(())
 }

@@ -28,7 +28,7 @@ pub kept_trans : (us vs ws : List ℤ) → length us ≤ length vs → Kept us v
 kept_trans us vs ws le f g k lt = g k (omega (arith, le, lt)) ∙ f k lt
 
 pub repathed : (s : State) (p : Option ℕ) → IsState s → IsPlace ty.Bool s.graph.operations p → IsState (record s { path = p })
-repathed s p i h = record { part = i.part; names = i.names; few = i.few; inits = i.inits; variables = i.variables; long = i.long; known = i.known; inputs = i.inputs; columns = i.columns; loads = i.loads; held = i.held; cells = i.cells; no_outputs = i.no_outputs; no_stores = i.no_stores; path = h; turn = i.turn; nought = i.nought; unit = i.unit; laws = i.laws }
+repathed s p i h = record { part = i.part; code = i.code; names = i.names; few = i.few; inits = i.inits; variables = i.variables; long = i.long; known = i.known; inputs = i.inputs; columns = i.columns; loads = i.loads; held = i.held; cells = i.cells; no_outputs = i.no_outputs; no_stores = i.no_stores; path = h; turn = i.turn; nought = i.nought; unit = i.unit; laws = i.laws }
 
 pub place_typed : (a b : State) (t : Ty) (o : Option ℕ) → ((u : Ty) (k : ℕ) → IsA u a.graph.operations k → IsA u b.graph.operations k) → IsPlace t a.graph.operations o → IsPlace t b.graph.operations o
 place_typed a b t None f h = tt
@@ -48,6 +48,7 @@ continues-trans a b c f g = record {
   slots = g.slots ∙ f.slots;
   path = g.path ∙ f.path;
   turn = g.turn ∙ f.turn;
+  profile = g.profile ∙ f.profile;
   nodes = omega (arith, f.nodes, g.nodes);
   turns = λ n le. g.turns n (omega (arith, le, f.nodes)) ∙ f.turns n le;
   ends = (g.ends.0 ∙ f.ends.0, g.ends.1 ∙ f.ends.1, g.ends.2 ∙ f.ends.2);
@@ -64,6 +65,7 @@ continues-self s i = record {
   slots = refl;
   path = refl;
   turn = refl;
+  profile = refl;
   nodes = omega arith;
   turns = λ n le. refl;
   ends = (refl, refl, refl);
@@ -81,6 +83,7 @@ continues-at a b p h f = record {
   slots = f.slots;
   path = refl;
   turn = f.turn;
+  profile = f.profile;
   nodes = f.nodes;
   turns = f.turns;
   ends = f.ends;
@@ -97,6 +100,7 @@ follows_continues a b f = record {
   slots = f.slots;
   path = f.path;
   turn = f.turn;
+  profile = f.profile;
   nodes = omega (arith, ap length f.turn_nodes);
   turns = λ n le. turns_same n;
   ends = (f.inputs, f.outputs, f.stores);
@@ -116,6 +120,7 @@ follows-none s i = record {
   slots = refl;
   path = refl;
   turn = refl;
+  profile = refl;
   turn_nodes = refl;
   inputs = refl;
   outputs = refl;

@@ -255,6 +255,7 @@ pub orders : (t : Ty) → joined_type t t ≡ Some t → types_fit kind.Lt t ty.
 orders ty.Bool h = absurd cc
 orders ty.Int h = refl
 orders ty.Dint h = refl
+orders ty.Lint h = refl
 
 -- ---- the loop over labels
 

@@ -2,6 +2,11 @@
 use Rattle.std.proofs.Common.{◌≡◌, ℕ, zero, suc, add-one, ◌+◌, ◌*◌, ◌<◌, ◌≤◌, ℤ, ◌+ℤ◌, Bool, true, false, cond, List, [], ◌∷◌, ◌++◌, length, length-append, drop, drop-cons, get_or, slice_get, Option, Some, Result, Ok, Err, refl, sym, ap, ap₂, ◌∙◌, subst, arith, w64, SFits}
 use Rattle.std.specs.Prelude.{sum_by, IfOk, OnOk}
 use Rattle.std.specs.List.{list_any}
+use Rattle.std.specs.Prelude.{◌||◌}
+use Rattle.std.proofs.lemmas.Bool.{or_parts}
+use Rattle.vcp_base.specs.declared.code.Profile.{Profile}
+use Rattle.vcp_base.specs.Code.{admits}
+use Rattle.vcp_typed.specs.Wide.{expr_is_wide, stmt_is_wide, stmts_are_wide, arms_are_wide, branches_are_wide}
 use Rattle.std.proofs.lemmas.Option.{slice_get_within}
 use Rattle.op_graph.specs.declared.op.TurnNode.{TurnNode}
 use Rattle.vcp_base.specs.declared.ty.Ty.{Ty}
@@ -26,11 +31,11 @@ use Rattle.vcp_typed.specs.Meaning.{Stop, and_then, value, is_labelled, turn, tu
 use Rattle.vcp_typed.specs.Checked.{ty_of, AreTurns}
 use Rattle.vcp_typed.specs.Size.{expr_size, stmt_size, stmts_size, arms_size, branches_size, other_size, label_size}
 use Rattle.flat_expr.specs.Laws.{Laws}
-use Rattle.flat_expr.specs.State.{State, IsState, IsA, active, Makes, Flattens, Nests, guarded, meaning_of}
+use Rattle.flat_expr.specs.State.{State, IsState, IsA, active, Makes, Flattens, Nests, Continues, Allows, guarded, meaning_of}
 use Rattle.flat_stmt.specs.Moves.{here, Moves, Any, where_reached, Does, setting}
 use Rattle.flat_stmt.specs.Conditions.{joins, any_labelled}
 use Rattle.flat_stmt.specs.Branches.{Conditions, branch_of, arm_of, next_of, choosing}
-use Rattle.flat_stmt.specs.Parts.{StmtPart, StmtsPart, ArmsPart, BranchesPart, OtherPart}
+use Rattle.flat_stmt.specs.Parts.{Context, context, StmtPart, StmtsPart, ArmsPart, BranchesPart, OtherPart}
 use Rattle.flat_stmt.specs.Weight.{stmt_weight, stmts_weight, arms_weight, branches_weight}
 use Rattle.flat_stmt.proofs.Algebra.{With, Binds, moves_same, moves_with, follows_continues}
 use Rattle.flat_stmt.proofs.Branches.{lasts_any, lasts_at, branch_more, branch_last, arm_moves, labels_moves}
@@ -227,23 +232,92 @@ drop_past (x ∷ xs) (suc n) le = drop_past xs n (omega (arith, le))
 pub done_slots : (a b : State) (left most : ℕ) (rest whole : List ℤ → Result (List ℤ) Stop) → Done a b left most rest whole → b.slots ≡ a.slots
 done_slots a b left most rest whole d = d.does.moves.continues.slots
 
-pub stmts_first : (before slots : List Slot) (all : TStmtTrees) (s : TStmtTree) (ss : TStmtTrees) → all ≡ and_tstmt s ss → slots ≡ before → StmtsPart before all → StmtPart slots s
-stmts_first before slots all s ss is same_slots h = subst (λ x. StmtPart x s) (sym same_slots) (let g = subst (λ x. StmtsPart before x) is h in (g.0, g.1.0))
+pub same_context : (a b : State) → Continues a b → context b ≡ context a
+same_context a b f = ap₂ (λ slots profile. record { slots = slots; profile = profile }) f.slots f.profile
 
-pub stmts_rest : (slots : List Slot) (all : TStmtTrees) (s : TStmtTree) (ss : TStmtTrees) → all ≡ and_tstmt s ss → StmtsPart slots all → StmtsPart slots ss
-stmts_rest slots all s ss is h = let g = subst (λ x. StmtsPart slots x) is h in (g.0, g.1.1)
+-- the same inside a loop, whose path condition may be another
+pub in_loop : (a b : State) (p : Option ℕ) → Continues a (record b { path = p }) → context b ≡ context a
+in_loop a b p f = same_context a (record b { path = p }) f
 
-pub arms_first : (before slots : List Slot) (all : TArmTrees) (e : TExprTree) (body : TStmtTrees) (spot : Spot) (arms : TArmTrees) → all ≡ and_tarm e body spot arms → slots ≡ before → ArmsPart before all → ArmsPart slots (and_tarm e body spot no_tarms)
-arms_first before slots all e body spot arms is same_slots h = subst (λ x. ArmsPart x (and_tarm e body spot no_tarms)) (sym same_slots) (let g = subst (λ x. ArmsPart before x) is h in (g.0, (g.1.0, g.1.1, g.1.2, tt)))
+-- a type of the code is one later
+pub admitted_later : (a b : State) (t : Ty) → b.graph.profile ≡ a.graph.profile → admits a.graph.profile t ≡ true → admits b.graph.profile t ≡ true
+admitted_later a b t e h = ap (λ p. admits p t) e ∙ h
 
-pub arms_rest : (slots : List Slot) (all : TArmTrees) (e : TExprTree) (body : TStmtTrees) (spot : Spot) (arms : TArmTrees) → all ≡ and_tarm e body spot arms → ArmsPart slots all → ArmsPart slots arms
-arms_rest slots all e body spot arms is h = let g = subst (λ x. ArmsPart slots x) is h in (g.0, g.1.3)
+pub allows_first : (p : Profile) (a b : Bool) → Allows p (a || b) → Allows p a
+allows_first p a b h = λ narrow. (or_parts a b (h narrow)).0
 
-pub branches_first : (before slots : List Slot) (t : Ty) (all : TBranchTrees) (ls : List TLabel) (body : TStmtTrees) (branches : TBranchTrees) → all ≡ and_tbranch ls body branches → slots ≡ before → BranchesPart before t all → BranchesPart slots t (and_tbranch ls body no_tbranches)
-branches_first before slots t all ls body branches is same_slots h = subst (λ x. BranchesPart x t (and_tbranch ls body no_tbranches)) (sym same_slots) (let g = subst (λ x. BranchesPart before t x) is h in (g.0, (g.1.0, g.1.1, tt)))
+pub allows_second : (p : Profile) (a b : Bool) → Allows p (a || b) → Allows p b
+allows_second p a b h = λ narrow. (or_parts a b (h narrow)).1
 
-pub branches_rest : (slots : List Slot) (t : Ty) (all : TBranchTrees) (ls : List TLabel) (body : TStmtTrees) (branches : TBranchTrees) → all ≡ and_tbranch ls body branches → BranchesPart slots t all → BranchesPart slots t branches
-branches_rest slots t all ls body branches is h = let g = subst (λ x. BranchesPart slots t x) is h in (g.0, g.1.2)
+three_parts : (a b c : Bool) → (a || b || c) ≡ false → (a ≡ false) × (b ≡ false) × (c ≡ false)
+three_parts true b c h = absurd cc
+three_parts false true c h = absurd cc
+three_parts false false c h = (refl, refl, h)
+
+pub allows_three : (p : Profile) (a b c : Bool) → Allows p (a || b || c) → Allows p a × Allows p b × Allows p c
+allows_three p a b c h = ((λ narrow. (three_parts a b c (h narrow)).0), (λ narrow. (three_parts a b c (h narrow)).1), (λ narrow. (three_parts a b c (h narrow)).2))
+
+last_one : (b : Bool) → b ≡ false → (b || false) ≡ false
+last_one true e = e
+last_one false e = e
+
+last_two : (a b : Bool) → a ≡ false → b ≡ false → (a || b || false) ≡ false
+last_two true b e f = absurd cc
+last_two false true e f = absurd cc
+last_two false false e f = refl
+
+pub stmts_first : (before c : Context) (all : TStmtTrees) (s : TStmtTree) (ss : TStmtTrees) → all ≡ and_tstmt s ss → c ≡ before → StmtsPart before all → StmtPart c s
+stmts_first before c all s ss is same h =
+    subst (λ x. StmtPart x s) (sym same) (let g = subst (λ x. StmtsPart before x) is h in (g.0, g.1.0, allows_first before.profile (stmt_is_wide s) (stmts_are_wide ss) g.2))
+
+pub stmts_rest : (c : Context) (all : TStmtTrees) (s : TStmtTree) (ss : TStmtTrees) → all ≡ and_tstmt s ss → StmtsPart c all → StmtsPart c ss
+stmts_rest c all s ss is h = let g = subst (λ x. StmtsPart c x) is h in (g.0, g.1.1, allows_second c.profile (stmt_is_wide s) (stmts_are_wide ss) g.2)
+
+pub arms_first : (before c : Context) (all : TArmTrees) (e : TExprTree) (body : TStmtTrees) (spot : Spot) (arms : TArmTrees) → all ≡ and_tarm e body spot arms → c ≡ before → ArmsPart before all → ArmsPart c (and_tarm e body spot no_tarms)
+arms_first before c all e body spot arms is same h =
+    subst (λ x. ArmsPart x (and_tarm e body spot no_tarms)) (sym same)
+    (let g = subst (λ x. ArmsPart before x) is h in
+    let w = allows_three before.profile (expr_is_wide e) (stmts_are_wide body) (arms_are_wide arms) g.2 in
+    (g.0, (g.1.0, g.1.1, g.1.2, tt), (λ narrow. last_two (expr_is_wide e) (stmts_are_wide body) (w.0 narrow) (w.1 narrow))))
+
+pub arms_rest : (c : Context) (all : TArmTrees) (e : TExprTree) (body : TStmtTrees) (spot : Spot) (arms : TArmTrees) → all ≡ and_tarm e body spot arms → ArmsPart c all → ArmsPart c arms
+arms_rest c all e body spot arms is h =
+    let g = subst (λ x. ArmsPart c x) is h in
+    (g.0, g.1.3, (allows_three c.profile (expr_is_wide e) (stmts_are_wide body) (arms_are_wide arms) g.2).2)
+
+-- the condition and the body of an arm
+pub arm_condition : (c : Context) (e : TExprTree) (body : TStmtTrees) (spot : Spot) → ArmsPart c (and_tarm e body spot no_tarms) → Allows c.profile (expr_is_wide e)
+arm_condition c e body spot h = (allows_three c.profile (expr_is_wide e) (stmts_are_wide body) false h.2).0
+
+pub arm_body : (before c : Context) (e : TExprTree) (body : TStmtTrees) (spot : Spot) → c ≡ before → ArmsPart before (and_tarm e body spot no_tarms) → StmtsPart c body
+arm_body before c e body spot same h =
+    subst (λ x. StmtsPart x body) (sym same) (h.0, h.1.2, (allows_three before.profile (expr_is_wide e) (stmts_are_wide body) false h.2).1)
+
+pub branches_first : (before c : Context) (t : Ty) (all : TBranchTrees) (ls : List TLabel) (body : TStmtTrees) (branches : TBranchTrees) → all ≡ and_tbranch ls body branches → c ≡ before → BranchesPart before t all → BranchesPart c t (and_tbranch ls body no_tbranches)
+branches_first before c t all ls body branches is same h =
+    subst (λ x. BranchesPart x t (and_tbranch ls body no_tbranches)) (sym same)
+    (let g = subst (λ x. BranchesPart before t x) is h in
+    let w = allows_first before.profile (stmts_are_wide body) (branches_are_wide branches) g.2 in
+    (g.0, (g.1.0, g.1.1, tt), (λ narrow. last_one (stmts_are_wide body) (w narrow))))
+
+pub branches_rest : (c : Context) (t : Ty) (all : TBranchTrees) (ls : List TLabel) (body : TStmtTrees) (branches : TBranchTrees) → all ≡ and_tbranch ls body branches → BranchesPart c t all → BranchesPart c t branches
+branches_rest c t all ls body branches is h =
+    let g = subst (λ x. BranchesPart c t x) is h in
+    (g.0, g.1.2, allows_second c.profile (stmts_are_wide body) (branches_are_wide branches) g.2)
+
+-- the body of a branch of CASE
+pub branch_body : (before c : Context) (t : Ty) (ls : List TLabel) (body : TStmtTrees) → c ≡ before → BranchesPart before t (and_tbranch ls body no_tbranches) → StmtsPart c body
+branch_body before c t ls body same h = subst (λ x. StmtsPart x body) (sym same) (h.0, h.1.1, allows_first before.profile (stmts_are_wide body) false h.2)
+
+-- parts in a later state
+pub stmts_part : (before c : Context) (ss : TStmtTrees) → c ≡ before → StmtsPart before ss → StmtsPart c ss
+stmts_part before c ss same h = subst (λ x. StmtsPart x ss) (sym same) h
+
+pub branches_part : (before c : Context) (t : Ty) (branches : TBranchTrees) → c ≡ before → BranchesPart before t branches → BranchesPart c t branches
+branches_part before c t branches same h = subst (λ x. BranchesPart x t branches) (sym same) h
+
+pub other_part : (before c : Context) (o : TOtherTree) → c ≡ before → OtherPart before o → OtherPart c o
+other_part before c o same h = subst (λ x. OtherPart x o) (sym same) h
 
 -- ---- the ends of loops
 
@@ -324,8 +398,8 @@ pub for_size : (slot : ℕ) (first by : ℤ) (n : ℕ) (body : TStmtTrees) (spot
 for_size slot first by zero body spot some = absurd (some refl)
 for_size slot first by (suc n) body spot some = refl
 
-pub for_values : (slots : List Slot) (slot : ℕ) (first by : ℤ) (n : ℕ) (body : TStmtTrees) (spot : Spot) → StmtPart slots (for_ slot first by n body spot) → (x : Slot) → slice_get slots slot ≡ Some x → AreTurns x.ty n first by
-for_values slots slot first by n body spot h x e =
+pub for_values : (c : Context) (slot : ℕ) (first by : ℤ) (n : ℕ) (body : TStmtTrees) (spot : Spot) → StmtPart c (for_ slot first by n body spot) → (x : Slot) → slice_get c.slots slot ≡ Some x → AreTurns x.ty n first by
+for_values c slot first by n body spot h x e =
     let may = h.1.1 in
     let is : may.of ≡ x = some_same (sym may.there ∙ e) in
     subst (λ t. AreTurns t n first by) (sym may.ty ∙ ap (λ (y : Slot). y.ty) is) h.1.4
@@ -333,8 +407,8 @@ for_values slots slot first by n body spot h x e =
     some_same : {a b : Slot} → Some a ≡ Some b → a ≡ b
     some_same e = cc
 
-pub for_first : (slots : List Slot) (slot : ℕ) (first by : ℤ) (n : ℕ) (body : TStmtTrees) (spot : Spot) → StmtPart slots (for_ slot first by n body spot) → (x : Slot) → slice_get slots slot ≡ Some x → fits x.ty first ≡ true
-for_first slots slot first by n body spot h x e =
+pub for_first : (c : Context) (slot : ℕ) (first by : ℤ) (n : ℕ) (body : TStmtTrees) (spot : Spot) → StmtPart c (for_ slot first by n body spot) → (x : Slot) → slice_get c.slots slot ≡ Some x → fits x.ty first ≡ true
+for_first c slot first by n body spot h x e =
     let may = h.1.1 in
     let is : may.of ≡ x = some_same (sym may.there ∙ e) in
     subst (λ t. fits t first ≡ true) (sym may.ty ∙ ap (λ (y : Slot). y.ty) is) h.1.3
@@ -342,11 +416,11 @@ for_first slots slot first by n body spot h x e =
     some_same : {a b : Slot} → Some a ≡ Some b → a ≡ b
     some_same e = cc
 
-pub for_slot : (slots : List Slot) (slot : ℕ) (first by : ℤ) (n : ℕ) (body : TStmtTrees) (spot : Spot) → StmtPart slots (for_ slot first by n body spot) → slot < length slots
-for_slot slots slot first by n body spot h = slice_get_within slots slot h.1.1.of h.1.1.there
+pub for_slot : (c : Context) (slot : ℕ) (first by : ℤ) (n : ℕ) (body : TStmtTrees) (spot : Spot) → StmtPart c (for_ slot first by n body spot) → slot < length c.slots
+for_slot c slot first by n body spot h = slice_get_within c.slots slot h.1.1.of h.1.1.there
 
-pub for_body : (before slots : List Slot) (slot : ℕ) (first by : ℤ) (n : ℕ) (body : TStmtTrees) (spot : Spot) → slots ≡ before → StmtPart before (for_ slot first by n body spot) → StmtsPart slots body
-for_body before slots slot first by n body spot same_slots h = subst (λ x. StmtsPart x body) (sym same_slots) (h.0 ++ slot ∷ [], h.1.5)
+pub for_body : (before c : Context) (slot : ℕ) (first by : ℤ) (n : ℕ) (body : TStmtTrees) (spot : Spot) → c ≡ before → StmtPart before (for_ slot first by n body spot) → StmtsPart c body
+for_body before c slot first by n body spot same h = subst (λ x. StmtsPart x body) (sym same) (h.0 ++ slot ∷ [], h.1.5, h.2)
 
 pub turns_start : (a : State) (slot : ℕ) (by v : ℤ) (body : ℤ → List ℤ → Result (List ℤ) Stop) (n k each : ℕ) → k ≡ n → IsState a → Done a a (k * each) (n * each) (turns_from slot by body k v) (turns_from slot by body n v)
 turns_start a slot by v body n k each e i = subst (λ j. Done a a (j * each) (n * each) (turns_from slot by body j v) (turns_from slot by body n v)) (sym e) (done_start a (n * each) (turns_from slot by body n v) i)
@@ -393,6 +467,7 @@ pub fits_width : (t : Ty) (v : ℤ) → fits t v ≡ true → SFits w64 v
 fits_width ty.Bool v h = grind (arith, h)
 fits_width ty.Int v h = grind (arith, h)
 fits_width ty.Dint v h = grind (arith, h)
+fits_width ty.Lint v h = grind (arith, h)
 
 pub next_width : (t : Ty) (v by : ℤ) (n k : ℕ) → n ≡ suc (suc k) → AreTurns t n v by → SFits w64 (v +ℤ by)
 next_width t v by n k e h = fits_width t (v +ℤ by) (subst (λ j. AreTurns t j v by) e h).1.0
@@ -411,9 +486,6 @@ pub turn_room : (each n k nodes size most : ℕ) → n ≡ suc k → size + n * 
 turn_room each n k nodes size most e fit room later le =
     let h : size + suc k * each ≤ most = subst (λ j. size + j * each ≤ most) e fit in
     omega (arith, h, room, le)
-
-pub other_part : (before slots : List Slot) (o : TOtherTree) → slots ≡ before → OtherPart before o → OtherPart slots o
-other_part before slots o same_slots h = subst (λ x. OtherPart x o) (sym same_slots) h
 
 -- the tree of a statement
 pub stmt_does : (a b : State) (ts : List Turn) (s tree : TStmtTree) (f : List ℤ → Result (List ℤ) Stop) → s ≡ tree → ((m : List ℤ) → f m ≡ do_stmt ts tree m) → Does a b (stmt_size tree) f → Does a b (stmt_size s) (do_stmt ts s)

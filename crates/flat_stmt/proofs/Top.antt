@@ -13,6 +13,7 @@ use Rattle.op_graph.specs.GraphRun.{outcome_of, Cycle, after, cycle_from, after_
 use Rattle.op_graph.specs.GraphRun.{Run as GraphOutcome, cycle as graph_cycle, run_from as graph_from, initial as first_cells, outputs as graph_outputs}
 use Rattle.vcp_typed.specs.declared.slot.Slot.{Slot}
 use Rattle.vcp_typed.specs.Fitting.{AreRows, AreFit, input_types, input_columns, output_columns}
+use Rattle.vcp_base.specs.Code.{is_wide}
 use Rattle.vcp_typed.specs.Meaning.{Stop, and_then, do_stmts}
 use Rattle.vcp_typed.specs.SourceRun.{Program, Run, is_input, initial, with_inputs, outputs, cycle, run_from}
 use Rattle.vcp_typed.specs.SourceRun.{after_cycle as after_source}
@@ -180,6 +181,7 @@ module _ (p : Program) (g : Lists) (s0 s1 : State) (n : ℕ) (law : ValuesFit p)
   pub means : Means g p
   unfolding tell_graph tell_source
   means = record {
+    code = ap is_wide (f.profile ∙ d.moves.continues.profile) ∙ b.code;
     inputs = f.ins ∙ ap input_columns slots1;
     outputs = f.outs ∙ ap output_columns slots1;
     runs = λ rows h. all_rows rows (initial p.slots) (first_cells g) h law.initial

@@ -121,6 +121,7 @@ nested a b c node n k f nest d few = record {
       slots = d1.moves.continues.slots;
       path = refl;
       turn = refl;
+      profile = d1.moves.continues.profile;
       nodes = omega (arith, d1.moves.continues.nodes, length-append a.graph.turn_nodes (node ∷ []));
       turns = λ j le. d1.moves.continues.turns j (omega (arith, le, length-append a.graph.turn_nodes (node ∷ []))) ∙ subst (λ s. turns_of s.graph j ≡ turns_of a.graph j) nest.is (nest.turns j le);
       ends = d1.moves.continues.ends;
@@ -149,7 +150,7 @@ nested a b c node n k f nest d few = record {
     runs cells row = subst (λ s. run s.graph cells row ≡ run a.graph cells row) nest.is (nest.runs cells row)
 
     returned : (s : State) (t : ℕ) → IsState s → t ≤ length s.graph.turn_nodes → IsState (record s { turn = t })
-    returned s t i le = record { part = i.part; names = i.names; few = i.few; inits = i.inits; variables = i.variables; long = i.long; known = i.known; inputs = i.inputs; columns = i.columns; loads = i.loads; held = i.held; cells = i.cells; no_outputs = i.no_outputs; no_stores = i.no_stores; path = i.path; turn = le; nought = i.nought; unit = i.unit; laws = i.laws }
+    returned s t i le = record { part = i.part; code = i.code; names = i.names; few = i.few; inits = i.inits; variables = i.variables; long = i.long; known = i.known; inputs = i.inputs; columns = i.columns; loads = i.loads; held = i.held; cells = i.cells; no_outputs = i.no_outputs; no_stores = i.no_stores; path = i.path; turn = le; nought = i.nought; unit = i.unit; laws = i.laws }
 
 -- a turn: the control variable gets its value, and the body is done
 pub turned : Laws → (s0 s1 s2 s3 s4 : State) (t : Ty) (slot n k nb : ℕ) (v : ℤ) (body : List Turn → List ℤ → Result (List ℤ) Stop) → Nests s0 s1 (record { parent = s0.turn; name = slot; value = v }) n →

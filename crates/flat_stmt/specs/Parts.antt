@@ -1,32 +1,38 @@
--- Parts: parts of a checked program, inside some FORs; and why there may be no room for their operations.
+-- Parts: parts of a checked program, inside some FORs, whose types are of the graph's code; and why there may be no room for their operations.
 use Rattle.std.specs.Prelude.{◌≡◌, ℕ, ◌+◌, ◌<◌, List}
 use Rattle.vcp_base.specs.Limits.{most_operations}
+use Rattle.vcp_base.specs.declared.code.Profile.{Profile}
 use Rattle.vcp_base.specs.declared.ty.Ty.{Ty}
 use Rattle.op_graph.specs.declared.build.Build.{Build}
 use Rattle.op_graph.specs.declared.build.Build.TheVariants as build
 use Rattle.vcp_typed.specs.declared.slot.Slot.{Slot}
 use Rattle.vcp_typed.specs.TStmtTree.{TStmtTree, TStmtTrees, TArmTrees, TBranchTrees, TOtherTree}
-use Rattle.vcp_typed.specs.Checked.{MaySet, IsStmt, AreStmts, AreArms, AreBranches, IsOther}
-use Rattle.flat_expr.specs.State.{State, reserved}
+use Rattle.vcp_typed.specs.Checked.{IsStmt, AreStmts, AreArms, AreBranches, IsOther}
+use Rattle.vcp_typed.specs.Wide.{stmt_is_wide, stmts_are_wide, arms_are_wide, branches_are_wide, other_is_wide}
+use Rattle.flat_expr.specs.State.{State, Allows, reserved}
 
-abbrev pub StmtPart : List Slot → TStmtTree → Type 0
-StmtPart slots s = (held : List ℕ) × IsStmt slots held s
+-- what parts of a program stand over: its slots, and the code of the graph
+pub record Context : Type 0 where
+  pub slots : List Slot
+  pub profile : Profile
 
-abbrev pub StmtsPart : List Slot → TStmtTrees → Type 0
-StmtsPart slots ss = (held : List ℕ) × AreStmts slots held ss
+abbrev pub context : State → Context
+context s = record { slots = s.slots; profile = s.graph.profile }
 
-abbrev pub ArmsPart : List Slot → TArmTrees → Type 0
-ArmsPart slots arms = (held : List ℕ) × AreArms slots held arms
+abbrev pub StmtPart : Context → TStmtTree → Type 0
+StmtPart c s = (held : List ℕ) × IsStmt c.slots held s × Allows c.profile (stmt_is_wide s)
 
-abbrev pub BranchesPart : List Slot → Ty → TBranchTrees → Type 0
-BranchesPart slots t branches = (held : List ℕ) × AreBranches slots held t branches
+abbrev pub StmtsPart : Context → TStmtTrees → Type 0
+StmtsPart c ss = (held : List ℕ) × AreStmts c.slots held ss × Allows c.profile (stmts_are_wide ss)
 
-abbrev pub OtherPart : List Slot → TOtherTree → Type 0
-OtherPart slots o = (held : List ℕ) × IsOther slots held o
+abbrev pub ArmsPart : Context → TArmTrees → Type 0
+ArmsPart c arms = (held : List ℕ) × AreArms c.slots held arms × Allows c.profile (arms_are_wide arms)
 
--- a slot of the type that FOR counts with
-abbrev pub Counts : List Slot → ℕ → Ty → Type 0
-Counts slots slot t = (held : List ℕ) × MaySet slots held slot t
+abbrev pub BranchesPart : Context → Ty → TBranchTrees → Type 0
+BranchesPart c t branches = (held : List ℕ) × AreBranches c.slots held t branches × Allows c.profile (branches_are_wide branches)
+
+abbrev pub OtherPart : Context → TOtherTree → Type 0
+OtherPart c o = (held : List ℕ) × IsOther c.slots held o × Allows c.profile (other_is_wide o)
 
 -- there is no room only where more operations are wanted than a graph may have
 abbrev pub Fills : State → ℕ → Build → Type 0

@@ -2,6 +2,7 @@
 
 ghost use Rattle.std.specs.Prelude.{◌≡◌, ◌<◌, ◌+◌, false, true, Some, IfOk, IfErr, length, sum_by, All};
 ghost use Rattle.vcp_base.specs.declared.ty.Ty.TheVariants as type_of;
+ghost use Rattle.vcp_base.specs.Code.{admits};
 ghost use Rattle.flat_expr.specs.State.{IsA, IsPlace, Makes};
 ghost use Rattle.flat_stmt.specs.Conditions.{joins, denies, labelled, or_labelled, any_labelled, alone_size};
 ghost use Rattle.flat_stmt.specs.Parts.{Fills};
@@ -42,6 +43,7 @@ pub fn deny(flat: &mut Flat, k: u32, spot: Spot) -> Result<u32, Build>
 /// Whether the value `k` is the label.
 fn equal(flat: &mut Flat, k: u32, ty: Ty, label: TLabel) -> Result<u32, Build>
     requires one { label.range ≡ false }
+    requires code { admits flat.old.graph.profile ty ≡ true }
     requires k { IsA ty flat.old.graph.operations k }
     requires label { IsLabel ty label }
     ensures made { IfOk result (λ j. Makes flat.old flat.new type_of.Bool (alone_size label) (labelled k label) j) }
@@ -56,6 +58,7 @@ fn equal(flat: &mut Flat, k: u32, ty: Ty, label: TLabel) -> Result<u32, Build>
 fn within(flat: &mut Flat, k: u32, ty: Ty, label: TLabel) -> Result<u32, Build>
     requires range { label.range ≡ true }
     requires number { joined_type ty ty ≡ Some ty }
+    requires code { admits flat.old.graph.profile ty ≡ true }
     requires k { IsA ty flat.old.graph.operations k }
     requires label { IsLabel ty label }
     ensures made { IfOk result (λ j. Makes flat.old flat.new type_of.Bool (alone_size label) (labelled k label) j) }
@@ -73,6 +76,7 @@ fn within(flat: &mut Flat, k: u32, ty: Ty, label: TLabel) -> Result<u32, Build>
 /// Whether the value `k` has the label.
 fn label(flat: &mut Flat, k: u32, ty: Ty, label: TLabel) -> Result<u32, Build>
     requires number { joined_type ty ty ≡ Some ty }
+    requires code { admits flat.old.graph.profile ty ≡ true }
     requires k { IsA ty flat.old.graph.operations k }
     requires label { IsLabel ty label }
     ensures made { IfOk result (λ j. Makes flat.old flat.new type_of.Bool (alone_size label) (labelled k label) j) }
@@ -95,6 +99,7 @@ fn label_too(
     spot: Spot,
 ) -> Result<u32, Build>
     requires number { joined_type ty ty ≡ Some ty }
+    requires code { admits flat.old.graph.profile ty ≡ true }
     requires k { IsA ty flat.old.graph.operations k }
     requires so_far { IsA type_of.Bool flat.old.graph.operations so_far }
     requires label { IsLabel ty next }
@@ -111,6 +116,7 @@ fn label_too(
 pub fn labels(flat: &mut Flat, k: u32, ty: Ty, labels: &[TLabel]) -> Result<u32, Build>
     requires some { 0 < length labels.now }
     requires number { joined_type ty ty ≡ Some ty }
+    requires code { admits flat.old.graph.profile ty ≡ true }
     requires k { IsA ty flat.old.graph.operations k }
     requires labels { All (IsLabel ty) labels.now }
     ensures made { IfOk result (λ j. Makes flat.old flat.new type_of.Bool (sum_by label_size labels.now) (any_labelled k labels.now) j) }

@@ -12,12 +12,14 @@ ghost use Rattle.vcp_typed.specs.Size.{expr_size, stmt_size, stmts_size, other_s
 ghost use Rattle.vcp_typed.specs.TExprViews.{texpr_tree};
 ghost use Rattle.vcp_typed.specs.TStmtTree.{no_tarms, and_tarm, no_tbranches, and_tbranch, no_tother, for_};
 ghost use Rattle.vcp_typed.specs.TStmtViews.{tstmt_tree, tstmt_trees, tarm_trees, tbranch_trees, tother_tree};
-ghost use Rattle.flat_expr.specs.State.{IsA, IsPlace};
+ghost use Rattle.vcp_base.specs.Code.{admits};
+ghost use Rattle.vcp_typed.specs.Wide.{expr_is_wide};
+ghost use Rattle.flat_expr.specs.State.{Allows, IsA, IsPlace};
 ghost use Rattle.flat_stmt.specs.Moves.{Moves, Does, setting};
 ghost use Rattle.flat_stmt.specs.Branches.{Conditions, next_of};
 ghost use Rattle.flat_stmt.specs.Adds.{AddsAssignment, AddsStmt, AddsStmts, AddsBody, AddsArm, AddsIf, AddsBranch, AddsBranches, AddsCase, AddsOther, AddsTurn};
 ghost use Rattle.flat_stmt.specs.Adds.{arm_size, if_size, branch_size, rest_size, case_size};
-ghost use Rattle.flat_stmt.specs.Parts.{StmtPart, StmtsPart, ArmsPart, BranchesPart, OtherPart, Fills};
+ghost use Rattle.flat_stmt.specs.Parts.{context, StmtPart, StmtsPart, ArmsPart, BranchesPart, OtherPart, Fills};
 
 use crate::condition::{deny, join, labels};
 use crate::types::type_of;
@@ -43,6 +45,7 @@ fn add_value(flat: &mut Flat, slot: u32, value: i64, spot: Spot) -> Result<(), B
 /// An assignment.
 fn add_assignment(flat: &mut Flat, slot: u32, value: &TExpr, spot: Spot) -> Result<(), Build>
     requires checked { IsExpr flat.old.slots (texpr_tree value.now) }
+    requires code { Allows flat.old.graph.profile (expr_is_wide (texpr_tree value.now)) }
     requires slot { slot < length flat.old.slots }
     requires fits { (x : Slot) → slice_get flat.old.slots slot ≡ Some x → x.ty ≡ ty_of (texpr_tree value.now) }
     ensures made { IfOk result (λ _. AddsAssignment flat.old flat.new slot (texpr_tree value.now)) }
@@ -87,7 +90,7 @@ fn next_value(value: i64, by: i64, more: bool) -> i64
 /// A statement.
 #[cycle(statements)]
 fn add_stmt(flat: &mut Flat, s: &TStmt) -> Result<(), Build>
-    requires checked { StmtPart flat.old.slots (tstmt_tree s.now) }
+    requires checked { StmtPart (context flat.old) (tstmt_tree s.now) }
     requires room { length flat.old.graph.turn_nodes + stmt_size (tstmt_tree s.now) ≤ most_turn_nodes }
     ensures made { IfOk result (λ _. AddsStmt flat.old flat.new (tstmt_tree s.now)) }
     ensures fills { IfErr result (λ e. Fills flat.old (stmt_size (tstmt_tree s.now)) e) }
@@ -116,7 +119,7 @@ fn add_stmt(flat: &mut Flat, s: &TStmt) -> Result<(), Build>
 /// The statements, in order.
 #[cycle(statements)]
 pub fn add_stmts(flat: &mut Flat, ss: &[TStmt]) -> Result<(), Build>
-    requires checked { StmtsPart flat.old.slots (tstmt_trees ss.now) }
+    requires checked { StmtsPart (context flat.old) (tstmt_trees ss.now) }
     requires room { length flat.old.graph.turn_nodes + stmts_size (tstmt_trees ss.now) ≤ most_turn_nodes }
     ensures made { IfOk result (λ _. AddsStmts flat.old flat.new (tstmt_trees ss.now)) }
     ensures fills { IfErr result (λ e. Fills flat.old (stmts_size (tstmt_trees ss.now)) e) }
@@ -133,7 +136,7 @@ pub fn add_stmts(flat: &mut Flat, ss: &[TStmt]) -> Result<(), Build>
 #[cycle(statements)]
 fn add_branch(flat: &mut Flat, r: u32, body: &[TStmt], spot: Spot, more: bool) -> Result<(), Build>
     requires r { IsA type_of_value.Bool flat.old.graph.operations r }
-    requires checked { StmtsPart flat.old.slots (tstmt_trees body.now) }
+    requires checked { StmtsPart (context flat.old) (tstmt_trees body.now) }
     requires room { length flat.old.graph.turn_nodes + stmts_size (tstmt_trees body.now) ≤ most_turn_nodes }
     ensures made { IfOk result (λ _. AddsBody flat.old flat.new r (tstmt_trees body.now) more) }
     ensures fills { IfErr result (λ e. Fills flat.old (3 + stmts_size (tstmt_trees body.now)) e) }
@@ -154,7 +157,7 @@ fn add_branch(flat: &mut Flat, r: u32, body: &[TStmt], spot: Spot, more: bool) -
 /// An arm of IF: its condition, and its body under it.
 #[cycle(statements)]
 fn add_arm(flat: &mut Flat, arm: &TArm, more: bool) -> Result<(), Build>
-    requires checked { ArmsPart flat.old.slots (and_tarm (texpr_tree arm.now.cond) (tstmt_trees arm.now.body.items.items) arm.now.spot no_tarms) }
+    requires checked { ArmsPart (context flat.old) (and_tarm (texpr_tree arm.now.cond) (tstmt_trees arm.now.body.items.items) arm.now.spot no_tarms) }
     requires room { length flat.old.graph.turn_nodes + stmts_size (tstmt_trees arm.now.body.items.items) ≤ most_turn_nodes }
     ensures made { IfOk result (λ _. AddsArm flat.old flat.new (texpr_tree arm.now.cond) (tstmt_trees arm.now.body.items.items) more) }
     ensures fills { IfErr result (λ e. Fills flat.old (arm_size (texpr_tree arm.now.cond) (tstmt_trees arm.now.body.items.items)) e) }
@@ -167,8 +170,8 @@ fn add_arm(flat: &mut Flat, arm: &TArm, more: bool) -> Result<(), Build>
 /// IF with its ELSIFs and its ELSE: each arm under the outer condition that those before leave.
 #[cycle(statements)]
 fn add_if(flat: &mut Flat, arms: &[TArm], other: &Option<TStmts>) -> Result<(), Build>
-    requires arms { ArmsPart flat.old.slots (tarm_trees arms.now) }
-    requires other { OtherPart flat.old.slots (tother_tree other.now) }
+    requires arms { ArmsPart (context flat.old) (tarm_trees arms.now) }
+    requires other { OtherPart (context flat.old) (tother_tree other.now) }
     requires room { length flat.old.graph.turn_nodes + (if_size (tarm_trees arms.now) (tother_tree other.now)) ≤ most_turn_nodes }
     ensures made { IfOk result (λ _. AddsIf flat.old flat.new (tarm_trees arms.now) (tother_tree other.now)) }
     ensures fills { IfErr result (λ e. Fills flat.old (if_size (tarm_trees arms.now) (tother_tree other.now)) e) }
@@ -194,7 +197,8 @@ fn add_case_branch(
 ) -> Result<(), Build>
     requires k { IsA ty flat.old.graph.operations k }
     requires number { joined_type ty ty ≡ Some ty }
-    requires checked { BranchesPart flat.old.slots ty (and_tbranch branch.now.labels.items.items (tstmt_trees branch.now.body.items.items) no_tbranches) }
+    requires code { admits flat.old.graph.profile ty ≡ true }
+    requires checked { BranchesPart (context flat.old) ty (and_tbranch branch.now.labels.items.items (tstmt_trees branch.now.body.items.items) no_tbranches) }
     requires room { length flat.old.graph.turn_nodes + stmts_size (tstmt_trees branch.now.body.items.items) ≤ most_turn_nodes }
     ensures made { IfOk result (λ _. AddsBranch flat.old flat.new k branch.now.labels.items.items (tstmt_trees branch.now.body.items.items) more) }
     ensures fills { IfErr result (λ e. Fills flat.old (branch_size branch.now.labels.items.items (tstmt_trees branch.now.body.items.items)) e) }
@@ -225,8 +229,9 @@ fn add_branches(
 ) -> Result<(), Build>
     requires k { IsA ty flat.old.graph.operations k }
     requires number { joined_type ty ty ≡ Some ty }
-    requires branches { BranchesPart flat.old.slots ty (tbranch_trees branches.now) }
-    requires other { OtherPart flat.old.slots (tother_tree other.now) }
+    requires code { admits flat.old.graph.profile ty ≡ true }
+    requires branches { BranchesPart (context flat.old) ty (tbranch_trees branches.now) }
+    requires other { OtherPart (context flat.old) (tother_tree other.now) }
     requires room { length flat.old.graph.turn_nodes + (rest_size (tbranch_trees branches.now) (tother_tree other.now)) ≤ most_turn_nodes }
     ensures made { IfOk result (λ _. AddsBranches flat.old flat.new k (tbranch_trees branches.now) (tother_tree other.now)) }
     ensures path { OnOk result (flat.new.path ≡ flat.old.path) }
@@ -257,9 +262,10 @@ fn add_case(
     other: &Option<TStmts>,
 ) -> Result<(), Build>
     requires on { IsExpr flat.old.slots (texpr_tree on.now) }
+    requires code { Allows flat.old.graph.profile (expr_is_wide (texpr_tree on.now)) }
     requires number { joined_type (ty_of (texpr_tree on.now)) (ty_of (texpr_tree on.now)) ≡ Some (ty_of (texpr_tree on.now)) }
-    requires branches { BranchesPart flat.old.slots (ty_of (texpr_tree on.now)) (tbranch_trees branches.now) }
-    requires other { OtherPart flat.old.slots (tother_tree other.now) }
+    requires branches { BranchesPart (context flat.old) (ty_of (texpr_tree on.now)) (tbranch_trees branches.now) }
+    requires other { OtherPart (context flat.old) (tother_tree other.now) }
     requires room { length flat.old.graph.turn_nodes + (case_size (texpr_tree on.now) (tbranch_trees branches.now) (tother_tree other.now)) ≤ most_turn_nodes }
     ensures made { IfOk result (λ _. AddsCase flat.old flat.new (texpr_tree on.now) (tbranch_trees branches.now) (tother_tree other.now)) }
     ensures fills { IfErr result (λ e. Fills flat.old (case_size (texpr_tree on.now) (tbranch_trees branches.now) (tother_tree other.now)) e) }
@@ -272,7 +278,7 @@ fn add_case(
 /// The body of ELSE, where there is one.
 #[cycle(statements)]
 fn add_other(flat: &mut Flat, other: &Option<TStmts>) -> Result<(), Build>
-    requires checked { OtherPart flat.old.slots (tother_tree other.now) }
+    requires checked { OtherPart (context flat.old) (tother_tree other.now) }
     requires room { length flat.old.graph.turn_nodes + other_size (tother_tree other.now) ≤ most_turn_nodes }
     ensures made { IfOk result (λ _. AddsOther flat.old flat.new (tother_tree other.now)) }
     ensures fills { IfErr result (λ e. Fills flat.old (other_size (tother_tree other.now)) e) }
@@ -291,11 +297,11 @@ fn add_for(
     slot: u32,
     first: i64,
     by: i64,
-    turns: u64,
+    turns: u128,
     body: &[TStmt],
     spot: Spot,
 ) -> Result<(), Build>
-    requires checked { StmtPart flat.old.slots (for_ slot first by turns (tstmt_trees body.now) spot) }
+    requires checked { StmtPart (context flat.old) (for_ slot first by turns (tstmt_trees body.now) spot) }
     requires room { length flat.old.graph.turn_nodes + stmt_size (for_ slot first by turns (tstmt_trees body.now) spot) ≤ most_turn_nodes }
     ensures made { IfOk result (λ _. AddsStmt flat.old flat.new (for_ slot first by turns (tstmt_trees body.now) spot)) }
     ensures fills { IfErr result (λ e. Fills flat.old (stmt_size (for_ slot first by turns (tstmt_trees body.now) spot)) e) }
@@ -318,7 +324,7 @@ fn add_for(
 fn add_turn(flat: &mut Flat, slot: u32, value: i64, body: &[TStmt], spot: Spot) -> Result<(), Build>
     requires slot { slot < length flat.old.slots }
     requires fits { (x : Slot) → slice_get flat.old.slots slot ≡ Some x → fits x.ty value ≡ true }
-    requires checked { StmtsPart flat.old.slots (tstmt_trees body.now) }
+    requires checked { StmtsPart (context flat.old) (tstmt_trees body.now) }
     requires room { length flat.old.graph.turn_nodes + (2 + stmts_size (tstmt_trees body.now)) ≤ most_turn_nodes }
     ensures made { IfOk result (λ _. AddsTurn flat.old flat.new slot (tstmt_trees body.now) value) }
     ensures fills { IfErr result (λ e. Fills flat.old (2 + stmts_size (tstmt_trees body.now)) e) }

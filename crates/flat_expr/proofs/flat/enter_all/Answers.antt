@@ -26,6 +26,6 @@ slots-preserved c =
     let le : c.slots.i ≤ length slots = omega (arith, c.slots-test.true) in
     let more : take (c.slots.i + 1) slots ≡ take c.slots.i slots ++ s ∷ [] = take_more slots c.slots.i s c.slots-test.true ∙ ap (λ x. take c.slots.i slots ++ x ∷ []) (sym c.index-slots-i.is) in
     record {
-      graph = enter_next (names_of slots) slots c.slots.i s c.slots.graph c.enter.new.graph le more c.slots.invariant.graph c.in_ok-k.ensures.graph;
-      known = known_next slots c.slots.i s c.slots.graph (names_of slots) c.slots.known.items c.push.new.self.items c.in_ok-k.k more c.slots.invariant.graph c.slots.invariant.known c.in_ok-k.ensures.place c.in_ok-push.ensures.items;
+      graph = enter_next c.args.graph.now.profile (names_of slots) slots c.slots.i s c.slots.graph c.enter.new.graph le more c.slots.invariant.graph c.in_ok-k.ensures.graph;
+      known = known_next c.args.graph.now.profile slots c.slots.i s c.slots.graph (names_of slots) c.slots.known.items c.push.new.self.items c.in_ok-k.k more c.slots.invariant.graph c.slots.invariant.known c.in_ok-k.ensures.place c.in_ok-push.ensures.items;
     }

@@ -1,4 +1,5 @@
 use Rattle.flat_expr.proofs.Runs.{run-length, typed}
+use Rattle.flat_expr.proofs.Codes.{value_admitted}
 use Rattle.flat_expr.proofs.Ops.{isa_below}
 use Rattle.flat_expr.proofs.Steps.{follows-trans, knows-kept}
 use Rattle.flat_expr.proofs.flat.laws_of_states.Goals as goal
@@ -9,5 +10,6 @@ returns c = record {
   typed = λ s cells row start vs t k i r loaded h. typed i.laws s.graph cells row start vs i.part loaded r t k h;
   knows = knows-kept;
   follows = follows-trans;
+  value = value_admitted;
   below = isa_below;
 }

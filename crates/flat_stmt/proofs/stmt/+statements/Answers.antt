@@ -14,12 +14,14 @@ use Rattle.vcp_typed.specs.Meaning.{do_stmt, do_stmts}
 use Rattle.vcp_typed.specs.Size.{stmt_size, stmts_size, arms_size, branches_size, other_size, label_size}
 use Rattle.flat_expr.specs.State.{IsPlace}
 use Rattle.flat_stmt.specs.Moves.{Does}
-use Rattle.flat_stmt.specs.Parts.{StmtPart, Fills}
+use Rattle.vcp_typed.specs.Wide.{expr_is_wide, arms_are_wide, branches_are_wide, other_is_wide}
+use Rattle.flat_stmt.specs.Parts.{context, StmtPart, Fills}
 use Rattle.flat_stmt.specs.Weight.{stmt_weight}
 use Rattle.flat_stmt.proofs.Algebra.{place_typed}
 use Rattle.flat_stmt.proofs.Loops.{done_start, branched_start}
 use Rattle.flat_stmt.proofs.Rooms.{fills_later}
-use Rattle.flat_stmt.proofs.Statements.{stmts_at, stmt_lighter, arms_at, arm_lighter, branches_at, branch_lighter, branch_then, branch_else, stmts_step, arms_step, case_step, arm_done, case_done, stmts_first, stmts_rest, arms_first, arms_rest, branches_first, branches_rest, stmts_end, arms_end, branches_end, case_branch_done, turn_done, for_size, for_values, for_slot, for_body, turns_start, turns_step, turns_end, next_width, next_values, first_fits, turn_room, slot_there, stmt_does, other_part, turns_at, both_ok}
+use Rattle.flat_stmt.proofs.Statements.{stmts_at, stmt_lighter, arms_at, arm_lighter, branches_at, branch_lighter, branch_then, branch_else, stmts_step, arms_step, case_step, arm_done, case_done, stmts_first, stmts_rest, arms_first, arms_rest, branches_first, branches_rest, stmts_end, arms_end, branches_end, case_branch_done, turn_done, for_size, for_values, for_slot, for_body, turns_start, turns_step, turns_end, next_width, next_values, first_fits, turn_room, slot_there, stmt_does, other_part, turns_at, both_ok, same_context, in_loop, admitted_later, allows_first, allows_second, allows_three}
+use Rattle.flat_stmt.proofs.Turns.{does_continues}
 use Rattle.flat_stmt.proofs.stmt.+statements.Goals as goal
 
 pub add_arm-returns-clause-made : goal.add_arm-returns-clause-made
@@ -52,7 +54,7 @@ add_branches-add_case_branch-requires t c =
       omega (arith, lighter),
       (
         d.moves.continues.typed c.args.ty c.args.k c.requires.k,
-        (c.requires.number, (branches_first c.args.flat.now.slots c.each.flat.slots c.args.ty _ _ _ _ tree d.moves.continues.slots c.each.invariant.checked, omega (arith, ap branches_size tree, d.moves.few, d.fits, c.requires.room))),
+        (c.requires.number, (admitted_later c.args.flat.now c.each.flat c.args.ty d.moves.continues.profile c.requires.code, (branches_first (context c.args.flat.now) (context c.each.flat) c.args.ty _ _ _ _ tree (in_loop c.args.flat.now c.each.flat _ d.moves.continues) c.each.invariant.checked, omega (arith, ap branches_size tree, d.moves.few, d.fits, c.requires.room)))),
       ),
     )
 
@@ -72,13 +74,13 @@ add_branches-each-preserved t c =
     let tree = branches_at c.args.branches.now c.each.i c.index-branches-i.result lt c.index-branches-i.is in
     record {
       done = λ v. case_step c.laws_of_states.ensures c.args.flat.now c.each.flat c.add_case_branch.new.flat c.args.ty c.args.k c.args.branches.now c.each.i c.index-branches-i.result c.has_next.result (tother_tree c.args.other.now) lt c.index-branches-i.is c.has_next.ensures c.requires.k v (c.each.invariant.done v) (c.in_ok-add_case_branch.ensures.made v);
-      checked = branches_rest c.args.flat.now.slots c.args.ty _ _ _ _ tree c.each.invariant.checked;
+      checked = branches_rest (context c.args.flat.now) c.args.ty _ _ _ _ tree c.each.invariant.checked;
     }
 
 pub add_branches-add_other-requires : goal.add_branches-add_other-requires
 add_branches-add_other-requires t c =
     let d = c.each.invariant.done (pos 0) in
-    (omega arith, (other_part c.args.flat.now.slots c.each.flat.slots _ d.moves.continues.slots c.requires.other, omega (arith, d.moves.few, d.fits, c.requires.room)))
+    (omega arith, (other_part (context c.args.flat.now) (context c.each.flat) _ (in_loop c.args.flat.now c.each.flat _ d.moves.continues) c.requires.other, omega (arith, d.moves.few, d.fits, c.requires.room)))
 
 pub add_branches-returns-in_err-add_other-clause-fills : goal.add_branches-returns-in_err-add_other-clause-fills
 add_branches-returns-in_err-add_other-clause-fills t c =
@@ -118,7 +120,7 @@ add_for-turns-init t c =
     let ts = turns_of c.args.flat.now.graph c.args.flat.now.turn in
     record {
       done = turns_start c.args.flat.now c.args.slot (to_z w64 (of_z w64 c.args.by)) (to_z w64 (of_z w64 c.args.first)) (λ v. do_stmts (ts ++ record { name = c.args.slot; value = v } ∷ []) (tstmt_trees c.args.body.now)) c.args.turns (c.args.turns - 0) (2 + stmts_size (tstmt_trees c.args.body.now)) e c.condition-state.ensures.state;
-      each = λ x h. turns_at x.ty _ _ _ _ _ _ e (to_z-of_z w64 c.args.first f) (to_z-of_z w64 c.args.by g) (for_values c.args.flat.now.slots c.args.slot c.args.first c.args.by c.args.turns (tstmt_trees c.args.body.now) c.args.spot c.requires.checked x h);
+      each = λ x h. turns_at x.ty _ _ _ _ _ _ e (to_z-of_z w64 c.args.first f) (to_z-of_z w64 c.args.by g) (for_values (context c.args.flat.now) c.args.slot c.args.first c.args.by c.args.turns (tstmt_trees c.args.body.now) c.args.spot c.requires.checked x h);
     }
 
 pub add_for-add_turn-requires : goal.add_for-add_turn-requires
@@ -128,11 +130,11 @@ add_for-add_turn-requires t c =
     let is : (c.args.turns - c.turns.turn) ≡ suc (c.args.turns - (c.turns.turn + 1)) = omega (arith, c.turns-test.true) in (
       omega arith,
       (
-        subst (λ xs. c.args.slot < length xs) (sym same_slots) (for_slot c.args.flat.now.slots c.args.slot c.args.first c.args.by c.args.turns (tstmt_trees c.args.body.now) c.args.spot c.requires.checked),
+        subst (λ xs. c.args.slot < length xs) (sym same_slots) (for_slot (context c.args.flat.now) c.args.slot c.args.first c.args.by c.args.turns (tstmt_trees c.args.body.now) c.args.spot c.requires.checked),
         (
           (λ x h. first_fits x.ty _ _ _ _ is (c.turns.invariant.each x (subst (λ xs. slice_get xs c.args.slot ≡ Some x) same_slots h))),
           (
-            for_body c.args.flat.now.slots c.turns.flat.slots c.args.slot c.args.first c.args.by c.args.turns (tstmt_trees c.args.body.now) c.args.spot same_slots c.requires.checked,
+            for_body (context c.args.flat.now) (context c.turns.flat) c.args.slot c.args.first c.args.by c.args.turns (tstmt_trees c.args.body.now) c.args.spot (same_context c.args.flat.now c.turns.flat (does_continues c.args.flat.now c.turns.flat d.size d.doing d.does)) c.requires.checked,
             turn_room (2 + stmts_size (tstmt_trees c.args.body.now)) (c.args.turns - c.turns.turn) (c.args.turns - (c.turns.turn + 1)) (length c.args.flat.now.graph.turn_nodes) d.size (c.args.turns * (2 + stmts_size (tstmt_trees c.args.body.now))) is d.fits
                 (omega (arith, for_size c.args.slot c.args.first c.args.by c.args.turns (tstmt_trees c.args.body.now) c.args.spot c.if-turns-eq0.false, c.requires.room)) (length c.turns.flat.graph.turn_nodes) d.does.moves.few,
           ),
@@ -144,7 +146,7 @@ pub add_for-next_value-value-requires : goal.add_for-next_value-value-requires
 add_for-next_value-value-requires t c = λ e.
     let lt : c.turns.turn + 1 < c.args.turns = omega (arith, ltb-true, e) in
     let is : (c.args.turns - c.turns.turn) ≡ suc (suc (c.args.turns - (c.turns.turn + 2))) = omega (arith, lt) in
-    let x = slot_there c.args.flat.now.slots c.args.slot (for_slot c.args.flat.now.slots c.args.slot c.args.first c.args.by c.args.turns (tstmt_trees c.args.body.now) c.args.spot c.requires.checked) in
+    let x = slot_there c.args.flat.now.slots c.args.slot (for_slot (context c.args.flat.now) c.args.slot c.args.first c.args.by c.args.turns (tstmt_trees c.args.body.now) c.args.spot c.requires.checked) in
     next_width x.0.ty _ _ _ _ is (c.turns.invariant.each x.0 x.1)
 
 pub add_for-turns-preserved : goal.add_for-turns-preserved
@@ -183,7 +185,7 @@ add_if-add_arm-requires t c =
     let d = c.each.invariant.done in (
       omega (arith, lighter),
       (
-        arms_first c.args.flat.now.slots c.each.flat.slots _ _ _ _ _ tree d.moves.continues.slots c.each.invariant.checked,
+        arms_first (context c.args.flat.now) (context c.each.flat) _ _ _ _ _ tree (in_loop c.args.flat.now c.each.flat _ d.moves.continues) c.each.invariant.checked,
         omega (arith, ap arms_size tree, d.moves.few, d.fits, c.requires.room),
       ),
     )
@@ -194,7 +196,7 @@ add_if-each-preserved t c =
     let tree = arms_at c.args.arms.now c.each.i c.index-arms-i.result lt c.index-arms-i.is in
     record {
       done = arms_step c.laws_of_states.ensures c.args.flat.now c.each.flat c.add_arm.new.flat c.args.arms.now c.each.i c.index-arms-i.result c.has_next.result (tother_tree c.args.other.now) lt c.index-arms-i.is c.has_next.ensures c.each.invariant.done c.in_ok-add_arm.ensures.made;
-      checked = arms_rest c.args.flat.now.slots _ _ _ _ _ tree c.each.invariant.checked;
+      checked = arms_rest (context c.args.flat.now) _ _ _ _ _ tree c.each.invariant.checked;
     }
 
 pub add_if-returns-clause-made : goal.add_if-returns-clause-made
@@ -206,8 +208,11 @@ add_if-returns-clause-made t c =
 pub add_stmt-add_if-requires : goal.add_stmt-add_if-requires
 add_stmt-add_if-requires t c =
     let is = ap tstmt_tree c.in-If.is ∙ c.trees_of_nodes.ensures.if_ c.in-If.arms c.in-If.other ∙ ap (λ xs. if_ (tarm_trees xs) (tother_tree c.in-If.other)) (sym c.deref.ensures.value) in
-    let parts = subst (λ s. StmtPart c.args.flat.now.slots s) is c.requires.checked in
-    (omega (arith, ap stmt_weight is), ((parts.0, parts.1.0), ((parts.0, parts.1.1), omega (arith, ap stmt_size is, c.requires.room))))
+    let parts = subst (λ s. StmtPart (context c.args.flat.now) s) is c.requires.checked in
+    let p = c.args.flat.now.graph.profile in
+    let arms = arms_are_wide (tarm_trees c.deref.result.now) in
+    let other = other_is_wide (tother_tree c.in-If.other) in
+    (omega (arith, ap stmt_weight is), ((parts.0, parts.1.0, allows_first p arms other parts.2), ((parts.0, parts.1.1, allows_second p arms other parts.2), omega (arith, ap stmt_size is, c.requires.room))))
 
 pub add_stmt-returns-in-If-clause-made : goal.add_stmt-returns-in-If-clause-made
 add_stmt-returns-in-If-clause-made t c =
@@ -222,8 +227,9 @@ add_stmt-returns-in-If-clause-fills t c =
 pub add_stmt-add_case-requires : goal.add_stmt-add_case-requires
 add_stmt-add_case-requires t c =
     let is = ap tstmt_tree c.in-Case.is ∙ c.trees_of_nodes.ensures.case c.in-Case.on c.in-Case.branches c.in-Case.other c.in-Case.spot ∙ ap (λ xs. case (texpr_tree c.in-Case.on) (tbranch_trees xs) (tother_tree c.in-Case.other) c.in-Case.spot) (sym c.deref-in-Case.ensures.value) in
-    let parts = subst (λ s. StmtPart c.args.flat.now.slots s) is c.requires.checked in
-    (omega (arith, ap stmt_weight is), (parts.1.0, (parts.1.1, ((parts.0, parts.1.2), ((parts.0, parts.1.3), omega (arith, ap stmt_size is, c.requires.room))))))
+    let parts = subst (λ s. StmtPart (context c.args.flat.now) s) is c.requires.checked in
+    let w = allows_three c.args.flat.now.graph.profile (expr_is_wide (texpr_tree c.in-Case.on)) (branches_are_wide (tbranch_trees c.deref-in-Case.result.now)) (other_is_wide (tother_tree c.in-Case.other)) parts.2 in
+    (omega (arith, ap stmt_weight is), (parts.1.0, (w.0, (parts.1.1, ((parts.0, parts.1.2, w.1), ((parts.0, parts.1.3, w.2), omega (arith, ap stmt_size is, c.requires.room)))))))
 
 pub add_stmt-returns-in-Case-clause-made : goal.add_stmt-returns-in-Case-clause-made
 add_stmt-returns-in-Case-clause-made t c =
@@ -241,7 +247,7 @@ add_stmt-add_for-requires t c =
     let g : SFits w64 c.in-For.by = search rules in
     let is = ap tstmt_tree c.in-For.is ∙ c.trees_of_nodes.ensures.for_ c.in-For.slot c.in-For.first c.in-For.by c.in-For.turns c.in-For.body c.in-For.spot ∙ ap (λ xs. for_ c.in-For.slot c.in-For.first c.in-For.by c.in-For.turns (tstmt_trees xs) c.in-For.spot) (sym c.deref-in-For.ensures.value)
     ∙ ap₂ (λ x y. for_ c.in-For.slot x y c.in-For.turns (tstmt_trees c.deref-in-For.result.now) c.in-For.spot) (sym (to_z-of_z w64 c.in-For.first f)) (sym (to_z-of_z w64 c.in-For.by g)) in
-    (omega (arith, ap stmt_weight is), (subst (λ s. StmtPart c.args.flat.now.slots s) is c.requires.checked, subst (λ s. length c.args.flat.now.graph.turn_nodes + stmt_size s ≤ most_turn_nodes) is c.requires.room))
+    (omega (arith, ap stmt_weight is), (subst (λ s. StmtPart (context c.args.flat.now) s) is c.requires.checked, subst (λ s. length c.args.flat.now.graph.turn_nodes + stmt_size s ≤ most_turn_nodes) is c.requires.room))
 
 pub add_stmt-returns-in-For-clause-made : goal.add_stmt-returns-in-For-clause-made
 add_stmt-returns-in-For-clause-made t c =
@@ -272,7 +278,7 @@ add_stmts-add_stmt-requires t c =
     let d = c.each.invariant.done in (
       omega (arith, lighter),
       (
-        stmts_first c.args.flat.now.slots c.each.flat.slots _ _ _ tree d.does.moves.continues.slots c.each.invariant.checked,
+        stmts_first (context c.args.flat.now) (context c.each.flat) _ _ _ tree (same_context c.args.flat.now c.each.flat (does_continues c.args.flat.now c.each.flat d.size d.doing d.does)) c.each.invariant.checked,
         omega (arith, ap stmts_size tree, d.does.moves.few, d.fits, c.requires.room),
       ),
     )
@@ -283,7 +289,7 @@ add_stmts-each-preserved t c =
     let tree = stmts_at c.args.ss.now c.each.s-index c.s-item.result lt c.s-item.is in
     record {
       done = stmts_step c.laws_of_states.ensures c.args.flat.now c.each.flat c.add_stmt.new.flat c.args.ss.now c.each.s-index c.s-item.result lt c.s-item.is c.each.invariant.done c.in_ok-add_stmt.ensures.made;
-      checked = stmts_rest c.args.flat.now.slots _ _ _ tree c.each.invariant.checked;
+      checked = stmts_rest (context c.args.flat.now) _ _ _ tree c.each.invariant.checked;
     }
 
 pub add_stmts-returns-clause-made : goal.add_stmts-returns-clause-made

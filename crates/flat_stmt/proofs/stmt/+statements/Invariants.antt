@@ -7,7 +7,7 @@ use Rattle.vcp_typed.specs.Meaning.{turns_from, do_stmts, do_arms, do_branches, 
 use Rattle.vcp_typed.specs.Size.{stmts_size, arms_size, branches_size, other_size}
 use Rattle.vcp_typed.specs.TStmtViews.{tstmt_tree, tstmt_trees, tarm_trees, tbranch_trees, tother_tree}
 use Rattle.flat_stmt.specs.Moves.{Any}
-use Rattle.flat_stmt.specs.Parts.{StmtsPart, ArmsPart, BranchesPart}
+use Rattle.flat_stmt.specs.Parts.{context, StmtsPart, ArmsPart, BranchesPart}
 use Rattle.flat_stmt.specs.Weight.{stmt_weight, stmts_weight, arms_weight, branches_weight, other_weight}
 use Rattle.flat_stmt.proofs.Loops.{Done, Branched}
 use Rattle.flat_stmt.proofs.stmt.+statements.Given as goal
@@ -49,7 +49,7 @@ abbrev pub invariant-add_stmts-each : goal.invariant-add_stmts-each
 invariant-add_stmts-each l = record {
   done : Done l.fn.flat l.flat (stmts_size (tstmt_trees (drop l.s-index l.ss))) (stmts_size (tstmt_trees l.ss))
       (do_stmts (turns_of l.fn.flat.graph l.fn.flat.turn) (tstmt_trees (drop l.s-index l.ss))) (do_stmts (turns_of l.fn.flat.graph l.fn.flat.turn) (tstmt_trees l.ss));
-  checked : StmtsPart l.fn.flat.slots (tstmt_trees (drop l.s-index l.ss));
+  checked : StmtsPart (context l.fn.flat) (tstmt_trees (drop l.s-index l.ss));
 }
 
 abbrev pub invariant-add_if-each : goal.invariant-add_if-each
@@ -57,7 +57,7 @@ invariant-add_if-each l = record {
   done : Branched l.fn.flat l.flat Any (arms_size (tarm_trees (drop l.i l.arms)) + other_size (tother_tree l.other)) (arms_size (tarm_trees l.arms) + other_size (tother_tree l.other))
       (do_arms (turns_of l.fn.flat.graph l.fn.flat.turn) (tarm_trees (drop l.i l.arms)) (do_other (turns_of l.fn.flat.graph l.fn.flat.turn) (tother_tree l.other)))
       (do_arms (turns_of l.fn.flat.graph l.fn.flat.turn) (tarm_trees l.arms) (do_other (turns_of l.fn.flat.graph l.fn.flat.turn) (tother_tree l.other)));
-  checked : ArmsPart l.fn.flat.slots (tarm_trees (drop l.i l.arms));
+  checked : ArmsPart (context l.fn.flat) (tarm_trees (drop l.i l.arms));
 }
 
 abbrev pub invariant-add_branches-each : goal.invariant-add_branches-each
@@ -65,7 +65,7 @@ invariant-add_branches-each l = record {
   done : (v : ℤ) → Branched l.fn.flat l.flat (λ vs. at vs l.k ≡ v) (branches_size (tbranch_trees (drop l.i l.branches)) + other_size (tother_tree l.other)) (branches_size (tbranch_trees l.branches) + other_size (tother_tree l.other))
       (do_branches (turns_of l.fn.flat.graph l.fn.flat.turn) v (tbranch_trees (drop l.i l.branches)) (do_other (turns_of l.fn.flat.graph l.fn.flat.turn) (tother_tree l.other)))
       (do_branches (turns_of l.fn.flat.graph l.fn.flat.turn) v (tbranch_trees l.branches) (do_other (turns_of l.fn.flat.graph l.fn.flat.turn) (tother_tree l.other)));
-  checked : BranchesPart l.fn.flat.slots l.ty (tbranch_trees (drop l.i l.branches));
+  checked : BranchesPart (context l.fn.flat) l.ty (tbranch_trees (drop l.i l.branches));
 }
 
 abbrev pub invariant-add_for-turns : goal.invariant-add_for-turns

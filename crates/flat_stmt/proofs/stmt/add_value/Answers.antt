@@ -7,8 +7,8 @@ use Rattle.flat_stmt.proofs.Statements.{slot_there}
 use Rattle.flat_stmt.proofs.Turns.{assigned_constant}
 use Rattle.flat_stmt.proofs.stmt.add_value.Goals as goal
 
-pub constant-requires : goal.constant-requires
-constant-requires c =
+pub constant-requires-clause-fits : goal.constant-requires-clause-fits
+constant-requires-clause-fits c =
     let f : SFits w64 c.args.value = search rules in
     let x = slot_there c.args.flat.now.slots c.args.slot c.requires.slot in
     subst (λ v. fits c.type_of-ty.result v ≡ true) (sym (to_z-of_z w64 c.args.value f))

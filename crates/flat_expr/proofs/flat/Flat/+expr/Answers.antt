@@ -18,6 +18,10 @@ use Rattle.vcp_typed.specs.Checked.{AreExprs, tys_of}
 use Rattle.vcp_typed.specs.Rules.{arguments}
 use Rattle.vcp_typed.specs.Size.{expr_size, operator_size, function_size}
 use Rattle.flat_expr.specs.State.{FlattensOne, Follows, argument, one_size}
+use Rattle.flat_expr.specs.State.{Allows, last_type}
+use Rattle.vcp_typed.specs.Wide.{is_lint, expr_is_wide, exprs_are_wide}
+use Rattle.std.specs.Prelude.{◌||◌}
+use Rattle.flat_expr.proofs.Codes.{still, allows_at, allows_second, call_admitted, argument_code}
 use Rattle.flat_expr.specs.Weight.{expr_weight}
 use Rattle.flat_expr.proofs.Arguments.{call_made, call_fits, one_follows, one_count, first_follows, sizes, argument_is, argument_none, argument_expr, argument_lighter, tree_of_call}
 use Rattle.flat_expr.proofs.flat.Flat.+expr.Goals as goal
@@ -32,7 +36,7 @@ expr-returns-in-Lit-clause-made t c =
 pub expr-returns-in-Get-clause-made : goal.expr-returns-in-Get-clause-made
 expr-returns-in-Get-clause-made t c =
     let is : texpr_tree c.args.e.now ≡ get c.in-Get.slot c.in-Get.ty = ap texpr_tree c.in-Get.is in
-    let has : HasType c.args.self.now.slots c.in-Get.slot c.in-Get.ty = subst (IsExpr c.args.self.now.slots) is c.requires in
+    let has : HasType c.args.self.now.slots c.in-Get.slot c.in-Get.ty = subst (IsExpr c.args.self.now.slots) is c.requires.checked in
     IfOk-weaker c.read.result _ _ (λ k p.
     subst (λ e. Flattens c.args.self.now c.read.new.self e k) (sym is)
     (get_made c.args.self.now c.read.new.self c.in-Get.ty c.in-Get.slot k (subst (λ u. Makes c.args.self.now c.read.new.self u 0 (reading c.in-Get.slot) k) has.2 (p has.0 has.1)))) c.read.ensures.made
@@ -88,7 +92,7 @@ expr-returns-in_ok-b-in-Binary-clause-refuses t c =
 pub argument-expr-requires : goal.argument-expr-requires
 argument-expr-requires t c =
     let there = slice_get_read c.args.args.now (length c.args.args.now) c.args.i c.index-args-i.result refl c.if-i-args.true c.index-args-i.is in
-    (omega (arith, argument_lighter c.args.args.now c.args.i c.index-args-i.result there), argument_expr c.args.self.now.slots c.args.args.now c.args.i c.index-args-i.result there c.requires)
+    (omega (arith, argument_lighter c.args.args.now c.args.i c.index-args-i.result there), (argument_expr c.args.self.now.slots c.args.args.now c.args.i c.index-args-i.result there c.requires.checked, argument_code c.args.self.now.graph.profile c.args.args.now c.args.i c.index-args-i.result there c.requires.code))
 
 pub argument-returns-then-i-args-clause-made : goal.argument-returns-then-i-args-clause-made
 argument-returns-then-i-args-clause-made t c =
@@ -109,38 +113,68 @@ pub expr-argument-requires : goal.expr-argument-requires
 expr-argument-requires t c =
     let es = texpr_trees c.deref-args.result.now in
     let e : texpr_tree c.args.e.now ≡ call c.in-Call.fun c.in-Call.ty es c.in-Call.spot = tree_of_call c.args.e.now c.in-Call.fun c.in-Call.ty c.in-Call.args c.in-Call.spot c.deref-args.result.now c.in-Call.is (c.trees_of_nodes.ensures.call _ _ _ _) c.deref-args.ensures.value in
-    let ok : AreExprs c.args.self.now.slots es × (arguments c.in-Call.fun c.in-Call.ty ≡ Some (tys_of es)) = subst (IsExpr c.args.self.now.slots) e c.requires in
-    (omega (arith, ap expr_weight e), ok.0)
+    let ok : AreExprs c.args.self.now.slots es × (arguments c.in-Call.fun c.in-Call.ty ≡ Some (tys_of es)) = subst (IsExpr c.args.self.now.slots) e c.requires.checked in
+    let code : Allows c.args.self.now.graph.profile (is_lint c.in-Call.ty || exprs_are_wide es) = subst (λ x. Allows c.args.self.now.graph.profile (expr_is_wide x)) e c.requires.code in
+    let args = allows_second c.args.self.now.graph.profile (is_lint c.in-Call.ty) (exprs_are_wide es) code in
+    (omega (arith, ap expr_weight e), (ok.0, args))
 
 pub expr-argument-requires-in-Call : goal.expr-argument-requires-in-Call
 expr-argument-requires-in-Call t c =
     let es = texpr_trees c.deref-args.result.now in
     let e : texpr_tree c.args.e.now ≡ call c.in-Call.fun c.in-Call.ty es c.in-Call.spot = tree_of_call c.args.e.now c.in-Call.fun c.in-Call.ty c.in-Call.args c.in-Call.spot c.deref-args.result.now c.in-Call.is (c.trees_of_nodes.ensures.call _ _ _ _) c.deref-args.ensures.value in
-    let ok : AreExprs c.args.self.now.slots es × (arguments c.in-Call.fun c.in-Call.ty ≡ Some (tys_of es)) = subst (IsExpr c.args.self.now.slots) e c.requires in
+    let ok : AreExprs c.args.self.now.slots es × (arguments c.in-Call.fun c.in-Call.ty ≡ Some (tys_of es)) = subst (IsExpr c.args.self.now.slots) e c.requires.checked in
     let first : Follows c.args.self.now c.argument.new.self = first_follows c.args.self.now c.argument.new.self c.in-Call.fun c.in-Call.ty es c.in_ok-a-in-Call.a ok.1 c.in_ok-a-in-Call.ensures.made in
-    (omega (arith, ap expr_weight e), subst (λ sl. AreExprs sl es) (sym first.slots) ok.0)
+    let code : Allows c.args.self.now.graph.profile (is_lint c.in-Call.ty || exprs_are_wide es) = subst (λ x. Allows c.args.self.now.graph.profile (expr_is_wide x)) e c.requires.code in
+    let args = allows_second c.args.self.now.graph.profile (is_lint c.in-Call.ty) (exprs_are_wide es) code in
+    (omega (arith, ap expr_weight e), (subst (λ sl. AreExprs sl es) (sym first.slots) ok.0, allows_at c.args.self.now.graph.profile c.argument.new.self.graph.profile (exprs_are_wide es) first.profile args))
 
 pub expr-argument-requires-in-Call-2 : goal.expr-argument-requires-in-Call-2
 expr-argument-requires-in-Call-2 t c =
     let es = texpr_trees c.deref-args.result.now in
     let e : texpr_tree c.args.e.now ≡ call c.in-Call.fun c.in-Call.ty es c.in-Call.spot = tree_of_call c.args.e.now c.in-Call.fun c.in-Call.ty c.in-Call.args c.in-Call.spot c.deref-args.result.now c.in-Call.is (c.trees_of_nodes.ensures.call _ _ _ _) c.deref-args.ensures.value in
-    let ok : AreExprs c.args.self.now.slots es × (arguments c.in-Call.fun c.in-Call.ty ≡ Some (tys_of es)) = subst (IsExpr c.args.self.now.slots) e c.requires in
+    let ok : AreExprs c.args.self.now.slots es × (arguments c.in-Call.fun c.in-Call.ty ≡ Some (tys_of es)) = subst (IsExpr c.args.self.now.slots) e c.requires.checked in
     let first : Follows c.args.self.now c.argument.new.self = first_follows c.args.self.now c.argument.new.self c.in-Call.fun c.in-Call.ty es c.in_ok-a-in-Call.a ok.1 c.in_ok-a-in-Call.ensures.made in
     let second : Follows c.argument.new.self c.argument-in-Call.new.self = one_follows c.argument.new.self c.argument-in-Call.new.self (argument es 1) c.in_ok-b-in-Call.b first.after c.in_ok-b-in-Call.ensures.made in
-    (omega (arith, ap expr_weight e), subst (λ sl. AreExprs sl es) (sym (second.slots ∙ first.slots)) ok.0)
+    let code : Allows c.args.self.now.graph.profile (is_lint c.in-Call.ty || exprs_are_wide es) = subst (λ x. Allows c.args.self.now.graph.profile (expr_is_wide x)) e c.requires.code in
+    let args = allows_second c.args.self.now.graph.profile (is_lint c.in-Call.ty) (exprs_are_wide es) code in
+    (omega (arith, ap expr_weight e), (subst (λ sl. AreExprs sl es) (sym (second.slots ∙ first.slots)) ok.0, allows_at c.args.self.now.graph.profile c.argument-in-Call.new.self.graph.profile (exprs_are_wide es) (second.profile ∙ first.profile) args))
 
-pub expr-apply-requires : goal.expr-apply-requires
-expr-apply-requires t c =
+pub expr-apply-requires-clause-arguments : goal.expr-apply-requires-clause-arguments
+expr-apply-requires-clause-arguments t c =
     let es = texpr_trees c.deref-args.result.now in
     let e : texpr_tree c.args.e.now ≡ call c.in-Call.fun c.in-Call.ty es c.in-Call.spot = tree_of_call c.args.e.now c.in-Call.fun c.in-Call.ty c.in-Call.args c.in-Call.spot c.deref-args.result.now c.in-Call.is (c.trees_of_nodes.ensures.call _ _ _ _) c.deref-args.ensures.value in
-    let ok : AreExprs c.args.self.now.slots es × (arguments c.in-Call.fun c.in-Call.ty ≡ Some (tys_of es)) = subst (IsExpr c.args.self.now.slots) e c.requires in
+    let ok : AreExprs c.args.self.now.slots es × (arguments c.in-Call.fun c.in-Call.ty ≡ Some (tys_of es)) = subst (IsExpr c.args.self.now.slots) e c.requires.checked in
     call_fits c.args.self.now c.argument.new.self c.argument-in-Call.new.self c.argument-in-Call-2.new.self c.in-Call.fun c.in-Call.ty es c.in_ok-a-in-Call.a c.in_ok-b-in-Call.b c.in_ok-c-in-Call.c ok.1 c.in_ok-a-in-Call.ensures.made c.in_ok-b-in-Call.ensures.made c.in_ok-c-in-Call.ensures.made
+
+pub expr-apply-requires-clause-ty : goal.expr-apply-requires-clause-ty
+expr-apply-requires-clause-ty t c =
+    let es = texpr_trees c.deref-args.result.now in
+    let e : texpr_tree c.args.e.now ≡ call c.in-Call.fun c.in-Call.ty es c.in-Call.spot = tree_of_call c.args.e.now c.in-Call.fun c.in-Call.ty c.in-Call.args c.in-Call.spot c.deref-args.result.now c.in-Call.is (c.trees_of_nodes.ensures.call _ _ _ _) c.deref-args.ensures.value in
+    let ok : AreExprs c.args.self.now.slots es × (arguments c.in-Call.fun c.in-Call.ty ≡ Some (tys_of es)) = subst (IsExpr c.args.self.now.slots) e c.requires.checked in
+    let code : Allows c.args.self.now.graph.profile (is_lint c.in-Call.ty || exprs_are_wide es) = subst (λ x. Allows c.args.self.now.graph.profile (expr_is_wide x)) e c.requires.code in
+    let first : Follows c.args.self.now c.argument.new.self = first_follows c.args.self.now c.argument.new.self c.in-Call.fun c.in-Call.ty es c.in_ok-a-in-Call.a ok.1 c.in_ok-a-in-Call.ensures.made in
+    let second : Follows c.argument.new.self c.argument-in-Call.new.self = one_follows c.argument.new.self c.argument-in-Call.new.self (argument es 1) c.in_ok-b-in-Call.b first.after c.in_ok-b-in-Call.ensures.made in
+    let third : Follows c.argument-in-Call.new.self c.argument-in-Call-2.new.self = one_follows c.argument-in-Call.new.self c.argument-in-Call-2.new.self (argument es 2) c.in_ok-c-in-Call.c second.after c.in_ok-c-in-Call.ensures.made in
+    let own = call_admitted c.args.self.now.graph.profile c.in-Call.fun c.in-Call.ty es ok.1 code in
+    still c.args.self.now.graph.profile c.argument-in-Call-2.new.self.graph.profile c.in-Call.ty (third.profile ∙ second.profile ∙ first.profile) own.0
+
+pub expr-apply-requires-clause-last : goal.expr-apply-requires-clause-last
+expr-apply-requires-clause-last t c =
+    let es = texpr_trees c.deref-args.result.now in
+    let e : texpr_tree c.args.e.now ≡ call c.in-Call.fun c.in-Call.ty es c.in-Call.spot = tree_of_call c.args.e.now c.in-Call.fun c.in-Call.ty c.in-Call.args c.in-Call.spot c.deref-args.result.now c.in-Call.is (c.trees_of_nodes.ensures.call _ _ _ _) c.deref-args.ensures.value in
+    let ok : AreExprs c.args.self.now.slots es × (arguments c.in-Call.fun c.in-Call.ty ≡ Some (tys_of es)) = subst (IsExpr c.args.self.now.slots) e c.requires.checked in
+    let code : Allows c.args.self.now.graph.profile (is_lint c.in-Call.ty || exprs_are_wide es) = subst (λ x. Allows c.args.self.now.graph.profile (expr_is_wide x)) e c.requires.code in
+    let first : Follows c.args.self.now c.argument.new.self = first_follows c.args.self.now c.argument.new.self c.in-Call.fun c.in-Call.ty es c.in_ok-a-in-Call.a ok.1 c.in_ok-a-in-Call.ensures.made in
+    let second : Follows c.argument.new.self c.argument-in-Call.new.self = one_follows c.argument.new.self c.argument-in-Call.new.self (argument es 1) c.in_ok-b-in-Call.b first.after c.in_ok-b-in-Call.ensures.made in
+    let third : Follows c.argument-in-Call.new.self c.argument-in-Call-2.new.self = one_follows c.argument-in-Call.new.self c.argument-in-Call-2.new.self (argument es 2) c.in_ok-c-in-Call.c second.after c.in_ok-c-in-Call.ensures.made in
+    let own = call_admitted c.args.self.now.graph.profile c.in-Call.fun c.in-Call.ty es ok.1 code in
+    still c.args.self.now.graph.profile c.argument-in-Call-2.new.self.graph.profile (last_type c.in-Call.fun c.in-Call.ty) (third.profile ∙ second.profile ∙ first.profile) own.1
 
 pub expr-returns-in_ok-c-in-Call-clause-made : goal.expr-returns-in_ok-c-in-Call-clause-made
 expr-returns-in_ok-c-in-Call-clause-made t c =
     let es = texpr_trees c.deref-args.result.now in
     let e : texpr_tree c.args.e.now ≡ call c.in-Call.fun c.in-Call.ty es c.in-Call.spot = tree_of_call c.args.e.now c.in-Call.fun c.in-Call.ty c.in-Call.args c.in-Call.spot c.deref-args.result.now c.in-Call.is (c.trees_of_nodes.ensures.call _ _ _ _) c.deref-args.ensures.value in
-    let ok : AreExprs c.args.self.now.slots es × (arguments c.in-Call.fun c.in-Call.ty ≡ Some (tys_of es)) = subst (IsExpr c.args.self.now.slots) e c.requires in
+    let ok : AreExprs c.args.self.now.slots es × (arguments c.in-Call.fun c.in-Call.ty ≡ Some (tys_of es)) = subst (IsExpr c.args.self.now.slots) e c.requires.checked in
     IfOk-weaker c.apply.result _ _ (λ k p.
     subst (λ x. Flattens c.args.self.now c.apply.new.self x k) (sym e)
     (call_made c.args.self.now c.argument.new.self c.argument-in-Call.new.self c.argument-in-Call-2.new.self c.apply.new.self c.in-Call.fun c.in-Call.ty es c.in-Call.spot c.in_ok-a-in-Call.a c.in_ok-b-in-Call.b c.in_ok-c-in-Call.c k ok.1 c.in_ok-a-in-Call.ensures.made c.in_ok-b-in-Call.ensures.made c.in_ok-c-in-Call.ensures.made p)) c.apply.ensures.made
@@ -149,7 +183,7 @@ pub expr-returns-in_err-a-in-Call-clause-refuses : goal.expr-returns-in_err-a-in
 expr-returns-in_err-a-in-Call-clause-refuses t c =
     let es = texpr_trees c.deref-args.result.now in
     let e : texpr_tree c.args.e.now ≡ call c.in-Call.fun c.in-Call.ty es c.in-Call.spot = tree_of_call c.args.e.now c.in-Call.fun c.in-Call.ty c.in-Call.args c.in-Call.spot c.deref-args.result.now c.in-Call.is (c.trees_of_nodes.ensures.call _ _ _ _) c.deref-args.ensures.value in
-    let ok : AreExprs c.args.self.now.slots es × (arguments c.in-Call.fun c.in-Call.ty ≡ Some (tys_of es)) = subst (IsExpr c.args.self.now.slots) e c.requires in
+    let ok : AreExprs c.args.self.now.slots es × (arguments c.in-Call.fun c.in-Call.ty ≡ Some (tys_of es)) = subst (IsExpr c.args.self.now.slots) e c.requires.checked in
     let q = err_from_is_err_and c.from_residual-in_err-a-in-Call.result c.from_residual-in_err-a-in-Call.ensures.1 in
     let h = more_refuses c.args.self.now c.argument.new.self (one_size (argument es 0)) (expr_size (texpr_tree c.args.e.now)) c.argument.result (omega (arith, ap expr_size e, sizes es)) c.argument.ensures.refuses in
     rw (q.1, q.2) (subst (λ r. IfErr r (λ e. Refuses c.args.self.now c.argument.new.self (expr_size (texpr_tree c.args.e.now)) e)) c.in_err-a-in-Call.was h)
@@ -158,7 +192,7 @@ pub expr-returns-in_err-b-in-Call-clause-refuses : goal.expr-returns-in_err-b-in
 expr-returns-in_err-b-in-Call-clause-refuses t c =
     let es = texpr_trees c.deref-args.result.now in
     let e : texpr_tree c.args.e.now ≡ call c.in-Call.fun c.in-Call.ty es c.in-Call.spot = tree_of_call c.args.e.now c.in-Call.fun c.in-Call.ty c.in-Call.args c.in-Call.spot c.deref-args.result.now c.in-Call.is (c.trees_of_nodes.ensures.call _ _ _ _) c.deref-args.ensures.value in
-    let ok : AreExprs c.args.self.now.slots es × (arguments c.in-Call.fun c.in-Call.ty ≡ Some (tys_of es)) = subst (IsExpr c.args.self.now.slots) e c.requires in
+    let ok : AreExprs c.args.self.now.slots es × (arguments c.in-Call.fun c.in-Call.ty ≡ Some (tys_of es)) = subst (IsExpr c.args.self.now.slots) e c.requires.checked in
     let first : Follows c.args.self.now c.argument.new.self = first_follows c.args.self.now c.argument.new.self c.in-Call.fun c.in-Call.ty es c.in_ok-a-in-Call.a ok.1 c.in_ok-a-in-Call.ensures.made in
     let count = one_count c.args.self.now c.argument.new.self (argument es 0) c.in_ok-a-in-Call.a c.in_ok-a-in-Call.ensures.made in
     let q = err_from_is_err_and c.from_residual-in_err-b-in-Call.result c.from_residual-in_err-b-in-Call.ensures.1 in
@@ -170,7 +204,7 @@ pub expr-returns-in_err-c-in-Call-clause-refuses : goal.expr-returns-in_err-c-in
 expr-returns-in_err-c-in-Call-clause-refuses t c =
     let es = texpr_trees c.deref-args.result.now in
     let e : texpr_tree c.args.e.now ≡ call c.in-Call.fun c.in-Call.ty es c.in-Call.spot = tree_of_call c.args.e.now c.in-Call.fun c.in-Call.ty c.in-Call.args c.in-Call.spot c.deref-args.result.now c.in-Call.is (c.trees_of_nodes.ensures.call _ _ _ _) c.deref-args.ensures.value in
-    let ok : AreExprs c.args.self.now.slots es × (arguments c.in-Call.fun c.in-Call.ty ≡ Some (tys_of es)) = subst (IsExpr c.args.self.now.slots) e c.requires in
+    let ok : AreExprs c.args.self.now.slots es × (arguments c.in-Call.fun c.in-Call.ty ≡ Some (tys_of es)) = subst (IsExpr c.args.self.now.slots) e c.requires.checked in
     let first : Follows c.args.self.now c.argument.new.self = first_follows c.args.self.now c.argument.new.self c.in-Call.fun c.in-Call.ty es c.in_ok-a-in-Call.a ok.1 c.in_ok-a-in-Call.ensures.made in
     let second : Follows c.argument.new.self c.argument-in-Call.new.self = one_follows c.argument.new.self c.argument-in-Call.new.self (argument es 1) c.in_ok-b-in-Call.b first.after c.in_ok-b-in-Call.ensures.made in
     let count = one_count c.args.self.now c.argument.new.self (argument es 0) c.in_ok-a-in-Call.a c.in_ok-a-in-Call.ensures.made in
@@ -185,7 +219,7 @@ pub expr-returns-in_ok-c-in-Call-clause-refuses : goal.expr-returns-in_ok-c-in-C
 expr-returns-in_ok-c-in-Call-clause-refuses t c =
     let es = texpr_trees c.deref-args.result.now in
     let e : texpr_tree c.args.e.now ≡ call c.in-Call.fun c.in-Call.ty es c.in-Call.spot = tree_of_call c.args.e.now c.in-Call.fun c.in-Call.ty c.in-Call.args c.in-Call.spot c.deref-args.result.now c.in-Call.is (c.trees_of_nodes.ensures.call _ _ _ _) c.deref-args.ensures.value in
-    let ok : AreExprs c.args.self.now.slots es × (arguments c.in-Call.fun c.in-Call.ty ≡ Some (tys_of es)) = subst (IsExpr c.args.self.now.slots) e c.requires in
+    let ok : AreExprs c.args.self.now.slots es × (arguments c.in-Call.fun c.in-Call.ty ≡ Some (tys_of es)) = subst (IsExpr c.args.self.now.slots) e c.requires.checked in
     let first : Follows c.args.self.now c.argument.new.self = first_follows c.args.self.now c.argument.new.self c.in-Call.fun c.in-Call.ty es c.in_ok-a-in-Call.a ok.1 c.in_ok-a-in-Call.ensures.made in
     let second : Follows c.argument.new.self c.argument-in-Call.new.self = one_follows c.argument.new.self c.argument-in-Call.new.self (argument es 1) c.in_ok-b-in-Call.b first.after c.in_ok-b-in-Call.ensures.made in
     let third : Follows c.argument-in-Call.new.self c.argument-in-Call-2.new.self = one_follows c.argument-in-Call.new.self c.argument-in-Call-2.new.self (argument es 2) c.in_ok-c-in-Call.c second.after c.in_ok-c-in-Call.ensures.made in

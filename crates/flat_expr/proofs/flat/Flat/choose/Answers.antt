@@ -5,6 +5,7 @@ use Rattle.vcp_base.specs.declared.kind.Kind.TheVariants as kind
 use Rattle.vcp_base.specs.declared.ty.Ty.TheVariants as ty
 use Rattle.flat_expr.specs.State.{IsState, IsA, IsPlace, Makes, Assigns, Refuses, acts}
 use Rattle.flat_expr.proofs.Assigning.{chosen}
+use Rattle.flat_expr.proofs.Codes.{still}
 use Rattle.flat_expr.proofs.Refusals.{later_refuses}
 use Rattle.flat_expr.proofs.Steps.{slot_there}
 use Rattle.flat_expr.proofs.flat.Flat.choose.Goals as goal
@@ -57,3 +58,15 @@ set-requires-clause-fits c = λ y h.
     let old = c.in_ok-old.ensures.made x.0 x.1 in
     let there : slice_get c.args.self.now.slots c.args.slot ≡ Some y = sym (ap (λ l. slice_get l c.args.slot) (c.in_ok-value.ensures.made.follows.slots ∙ old.follows.slots)) ∙ h in
     subst (λ u. IsA u c.add.new.self.graph.operations c.in_ok-value.value) (c.type_of-ty.ensures.value y there) c.in_ok-value.ensures.made.place
+
+pub add-requires-clause-from : goal.add-requires-clause-from
+add-requires-clause-from c =
+    let x = slot_there c.args.self.now.slots c.args.slot c.requires.slot in
+    let old = c.in_ok-old.ensures.made x.0 x.1 in
+    still c.args.self.now.graph.profile c.read.new.self.graph.profile c.type_of-ty.result old.follows.profile c.type_of-ty.ensures.code
+
+pub add-requires-clause-ty : goal.add-requires-clause-ty
+add-requires-clause-ty c =
+    let x = slot_there c.args.self.now.slots c.args.slot c.requires.slot in
+    let old = c.in_ok-old.ensures.made x.0 x.1 in
+    still c.args.self.now.graph.profile c.read.new.self.graph.profile c.type_of-ty.result old.follows.profile c.type_of-ty.ensures.code

@@ -21,6 +21,7 @@ bool_of : (t : Ty) → signed un.Not t ≡ Some t → t ≡ ty.Bool
 bool_of ty.Bool h = refl
 bool_of ty.Int h = absurd cc
 bool_of ty.Dint h = absurd cc
+bool_of ty.Lint h = absurd cc
 
 pub returns-in-Not-clause-made : goal.returns-in-Not-clause-made
 returns-in-Not-clause-made c =
