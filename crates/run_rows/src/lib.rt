@@ -7,6 +7,8 @@ mod calls;
 #[cfg(test)]
 mod failing;
 #[cfg(test)]
+mod lint;
+#[cfg(test)]
 mod options;
 #[cfg(test)]
 mod programs;

@@ -141,8 +141,8 @@ fn has_code(alloc: Global, code: &[&[u8]], seed: u32, step: u32) -> Result<bool,
     }
     match (unit.entry(0), unit.entry(4)) {
         (Some((first, _)), Some((later, _))) => Ok(
-            first.corr == seed
-                && later.corr == seed
+            first.corr == seed as u64
+                && later.corr == seed as u64
                 && first.stamp == step
                 && later.stamp as u64 == 2 * (step as u64),
         ),

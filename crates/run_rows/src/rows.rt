@@ -207,7 +207,7 @@ const PROGRAMS: [(&[u8], &[u8], Gives<'_>); 18] = [
 ];
 
 /// The first of these programs that doesn't give what is expected; without rows it is run for one cycle.
-fn first_wrong_program(
+pub fn first_wrong_program(
     alloc: Global,
     table: &[(&[u8], &[u8], Gives<'_>)],
 ) -> Result<Option<usize>, Memory> {

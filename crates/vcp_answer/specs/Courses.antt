@@ -1,6 +1,7 @@
 -- Courses: how the run of a task went on the unit, and what is read off it.
 use Rattle.std.specs.Prelude.{ℕ, ◌≡◌, ◌≤◌, List, [], ◌∷◌, ◌++◌, length, map, Option}
 use Rattle.std.specs.Io.KnownBytes.{Appends}
+use Rattle.vcp_base.specs.declared.code.Profile.TheVariants as profile
 use Rattle.coded_unit.specs.declared.call.Answer.{Answer as Given}
 use Rattle.coded_unit.specs.Log.{Entry}
 use Rattle.op_graph.specs.Lists.{Lists, nothing}
@@ -22,7 +23,7 @@ pub record Course : Type 0 where
 
 -- nothing was run
 abbrev pub no_course : Course
-no_course = record { graph = nothing; cycles = [] }
+no_course = record { graph = nothing profile.Narrow; cycles = [] }
 
 -- A graph as which a job's program may be run: any that means the program and has at most as many operations as its Size.
 pub record MayRun (job : Job) (g : Lists) : Type 0 where

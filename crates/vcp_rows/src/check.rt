@@ -28,7 +28,7 @@ VAR CONSTANT T : INT := 3; END_VAR
 ";
 
 /// Bodies that stand in line 6, and what is told of each.
-const BODIES: [(&[u8], &[u8]); 33] = [
+const BODIES: [(&[u8], &[u8]); 38] = [
     (b"q := i + d;", b"ok 20\n"),
     (b"r := d;", b"p.st:6:1 T3 Mismatch\n"),
     (b"q := i + b;", b"p.st:6:8 T3 Mismatch\n"),
@@ -37,7 +37,18 @@ const BODIES: [(&[u8], &[u8]); 33] = [
     (b"i := 1;", b"p.st:6:1 T4 Assign\n"),
     (b"i := TRUE;", b"p.st:6:1 T3 Mismatch\n"),
     (b"T := 1;", b"p.st:6:1 T4 Assign\n"),
-    (b"q := 2147483648;", b"p.st:6:6 T8 Literal\n"),
+    (b"q := 2147483648;", b"p.st:6:1 T3 Mismatch\n"),
+    (b"q := DINT#2147483648;", b"p.st:6:6 T8 Literal\n"),
+    (b"q := 9223372036854775808;", b"p.st:6:6 S3 Number\n"),
+    (b"q := INT_TO_LINT(d);", b"p.st:6:6 T3 Mismatch\n"),
+    (
+        b"CASE d OF 2147483648: q := 1; END_CASE;",
+        b"p.st:6:11 T6 Label\n",
+    ),
+    (
+        b"FOR q := 1 TO 2147483648 DO r := 1; END_FOR;",
+        b"p.st:6:15 T5 Bound\n",
+    ),
     (b"q := -2147483648;", b"ok 18\n"),
     (b"r := -32769;", b"p.st:6:1 T3 Mismatch\n"),
     (b"q := INT#32768;", b"p.st:6:6 T8 Literal\n"),
@@ -86,7 +97,7 @@ const BODIES: [(&[u8], &[u8]); 33] = [
 ];
 
 /// Declarations that stand in line 2 of a program without a body, and what is told of each.
-const BLOCKS: [(&[u8], &[u8]); 8] = [
+const BLOCKS: [(&[u8], &[u8]); 10] = [
     (b"VAR a, A : INT; END_VAR", b"p.st:2:8 T1 Duplicate\n"),
     (b"VAR a : INT := TRUE; END_VAR", b"p.st:2:5 T3 Mismatch\n"),
     (b"VAR a : INT := 40000; END_VAR", b"p.st:2:5 T3 Mismatch\n"),
@@ -98,6 +109,11 @@ const BLOCKS: [(&[u8], &[u8]); 8] = [
     (b"VAR a, b : BOOL := 1; END_VAR", b"p.st:2:5 T3 Mismatch\n"),
     (b"VAR a : INT := 1 + 2; END_VAR", b"p.st:2:18 T5 Bound\n"),
     (b"VAR a : DINT := -2147483648; END_VAR", b"ok 4\n"),
+    (
+        b"VAR a : DINT := 2147483648; END_VAR",
+        b"p.st:2:5 T3 Mismatch\n",
+    ),
+    (b"VAR a : LINT := 9223372036854775807; END_VAR", b"ok 4\n"),
 ];
 
 /// The first of these texts, between this front and the end of a program, of which another line is told.
@@ -128,8 +144,12 @@ fn faults_and_sizes_of_bodies_and_declarations_are_told(rt: HostRuntime) -> Resu
 }
 
 /// Whole texts, and what is told of each.
-const TEXTS: [(&[u8], &[u8]); 10] = [
+const TEXTS: [(&[u8], &[u8]); 12] = [
     (ADD, b"ok 11\n"),
+    (
+        b"PROGRAM p\nVAR_INPUT x : LINT; END_VAR\nVAR_OUTPUT y : LINT; END_VAR\ny := x + 1;\nEND_PROGRAM\n",
+        b"ok 11\n",
+    ),
     (
         b"PROGRAM p\nVAR_OUTPUT y : INT; END_VAR\nVAR i : INT; END_VAR\nFOR i := 3 TO 1 BY 0 DO y := 7; END_FOR;\nEND_PROGRAM\n",
         b"p.st:4:20 T5 Bound\n",
@@ -144,6 +164,10 @@ const TEXTS: [(&[u8], &[u8]); 10] = [
     ),
     (
         b"PROGRAM p VAR i, j, k : DINT; END_VAR FOR i := -2147483648 TO 2147483647 DO FOR j := -2147483648 TO 2147483647 DO FOR k := -2147483648 TO 2147483647 DO ; END_FOR; END_FOR; END_FOR; END_PROGRAM",
+        b"p.st L2 Size\n",
+    ),
+    (
+        b"PROGRAM p VAR i : LINT; END_VAR FOR i := -9223372036854775807 TO 9223372036854775807 DO ; END_FOR; END_PROGRAM",
         b"p.st L2 Size\n",
     ),
     // The faults of the lexer and the parser come first.

@@ -193,7 +193,7 @@ fn is_written(alloc: Global, expression: &[u8], canonical: &[u8]) -> Result<bool
 }
 
 /// Expressions, and their canonical texts.
-const EXPRESSIONS: [(&[u8], &[u8]); 26] = [
+const EXPRESSIONS: [(&[u8], &[u8]); 28] = [
     (b"--a", b"--a"),
     (b"- - ( -a)", b"---a"),
     (b"not not b", b"NOT NOT b"),
@@ -219,6 +219,11 @@ const EXPRESSIONS: [(&[u8], &[u8]); 26] = [
     (b"int#16#7F", b"INT#127"),
     (b"DINT#2#1010_1010", b"DINT#170"),
     (b"INT#8#17", b"INT#15"),
+    (b"lint#16#ff", b"LINT#255"),
+    (
+        b"LINT#-5+9223372036854775807",
+        b"LINT#-5 + 9223372036854775807",
+    ),
     (b"INT#-5+DINT#+7", b"INT#-5 + DINT#7"),
     (b"8#17-2#11", b"15 - 3"),
     (b"16#fF", b"255"),
