@@ -1,10 +1,55 @@
-//! The code in plain Rust: kinds, words, signatures, corrections.
-//!
-//! Words are split on `i128` by `div_euclid` and `rem_euclid`; with `NARROW` on `i64`, where a word has no more than 64 bits.
+//! Both codes in plain Rust: kinds, words, signatures, corrections.
 
-pub const A: i128 = 2147483647;
-pub const SEED: u64 = 305419896;
+pub const SEED: u128 = 305419896;
 pub const STEP: u32 = 1;
+
+/// A code, and how its words are split.
+pub trait Code {
+    /// The constant.
+    const A: i128;
+    /// The bound of signatures.
+    const N: u128;
+    /// The distance of signatures.
+    const DISTANCE: u128;
+
+    /// The value part and the residue of a word.
+    fn split(w: i128) -> (i128, i128) {
+        (w.div_euclid(Self::A), w.rem_euclid(Self::A))
+    }
+
+    /// The signature of an operation.
+    fn signature(i: usize) -> i128 {
+        ((SEED + Self::DISTANCE * i as u128) % Self::N) as i128
+    }
+}
+
+/// The narrow code, whose words are split on 128 bits.
+pub struct Narrow;
+
+impl Code for Narrow {
+    const A: i128 = (1 << 31) - 1;
+    const N: u128 = 1 << 30;
+    const DISTANCE: u128 = 214748365;
+}
+
+/// The narrow code, whose words are split on 64 bits where they have no more.
+pub struct NarrowShort;
+
+impl Code for NarrowShort {
+    const A: i128 = Narrow::A;
+    const N: u128 = Narrow::N;
+    const DISTANCE: u128 = Narrow::DISTANCE;
+
+    fn split(w: i128) -> (i128, i128) {
+        match i64::try_from(w) {
+            Ok(w) => {
+                let a = Self::A as i64;
+                (w.div_euclid(a) as i128, w.rem_euclid(a) as i128)
+            }
+            Err(_) => Narrow::split(w),
+        }
+    }
+}
 
 #[derive(Clone, Copy, PartialEq)]
 pub enum Kind {
@@ -113,31 +158,16 @@ pub fn value(kind: Kind, imm: i64, v: [i128; 3]) -> i128 {
     }
 }
 
-/// The value part of a word.
-pub fn quotient<const NARROW: bool>(w: i128) -> i128 {
-    match i64::try_from(w) {
-        Ok(w) if NARROW => w.div_euclid(A as i64) as i128,
-        _ => w.div_euclid(A),
-    }
-}
-
-/// The residue of an integer modulo A.
-pub fn remainder<const NARROW: bool>(w: i128) -> i128 {
-    match i64::try_from(w) {
-        Ok(w) if NARROW => w.rem_euclid(A as i64) as i128,
-        _ => w.rem_euclid(A),
-    }
-}
-
 /// The word of an operation, or none where it stops.
-pub fn word<const NARROW: bool>(
+pub fn word<C: Code>(
     op: &Op,
     words: [i128; 3],
     imm: i64,
     correction: i128,
     stamp: i128,
 ) -> Option<i128> {
-    let values = words.map(quotient::<NARROW>);
+    let parts = words.map(C::split);
+    let values = parts.map(|part| part.0);
     let factors = multipliers(op.kind);
     for (j, v) in values.iter().enumerate().take(factors.len()) {
         if !fits(operand_type(op.kind, j, op.from), *v) {
@@ -153,16 +183,11 @@ pub fn word<const NARROW: bool>(
     }
     let mut residue = correction;
     let mut share = 1;
-    for (w, factor) in words.iter().zip(factors) {
-        residue += factor * remainder::<NARROW>(*w);
+    for (part, factor) in parts.iter().zip(factors) {
+        residue += factor * part.1;
         share -= factor;
     }
-    Some(A * v + remainder::<NARROW>(residue + share * stamp))
-}
-
-/// The signature of an operation.
-pub fn signature(i: usize) -> i128 {
-    ((SEED + 214748365 * i as u64) % (1 << 30)) as i128
+    Some(C::A * v + C::split(residue + share * stamp).1)
 }
 
 pub fn op(kind: Kind, from: Ty, ty: Ty, operands: [usize; 3], imm: i64) -> Op {
@@ -176,18 +201,18 @@ pub fn op(kind: Kind, from: Ty, ty: Ty, operands: [usize; 3], imm: i64) -> Op {
 }
 
 /// The corrections of operations, where the LOAD of cell `imm` reads the STORE `stores[imm]`.
-pub fn corrections(ops: &[Op], stores: &[usize]) -> Vec<i128> {
+pub fn corrections<C: Code>(ops: &[Op], stores: &[usize]) -> Vec<i128> {
     let mut all = Vec::new();
     for (k, op) in ops.iter().enumerate() {
-        let mut sum = signature(k);
+        let mut sum = C::signature(k);
         for (factor, n) in multipliers(op.kind).iter().zip(op.operands) {
             sum -= factor
                 * match op.kind {
-                    Kind::Load => signature(stores[op.imm as usize]) - STEP as i128,
-                    _ => signature(n),
+                    Kind::Load => C::signature(stores[op.imm as usize]) - STEP as i128,
+                    _ => C::signature(n),
                 };
         }
-        all.push(sum.rem_euclid(A));
+        all.push(sum.rem_euclid(C::A));
     }
     all
 }

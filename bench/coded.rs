@@ -2,17 +2,18 @@
 //! operations of each cycle in coded words, compares the residues of the outputs, and writes each line by one write, and a flush.
 //!
 //! The words are LIST ROWS MODE. LIST begins with the line that the run begins with, and has then a line an operation, in the
-//! form of `docs/FLATTENING.md`; all cells begin with 0. ROWS has the inputs in their order. MODE is `wide`, which splits words on
-//! `i128`, `narrow`, which splits them on `i64` where a word has no more than 64 bits, or `uncoded`, which carries plain values
+//! form of `docs/FLATTENING.md`; all cells begin with 0. ROWS has the inputs in their order. MODE is `long`, which splits words on
+//! `i128`, `short`, which splits them on `i64` where a word has no more than 64 bits, or `uncoded`, which carries plain values
 //! alone, as `vcp plain` means them. Where a run doesn't come to its end, it says so on standard error.
 
 mod code;
 
 use code::{
-    A, Kind, Op, STEP, Ty, corrections, fits, op, operand_type, operands, quotient, remainder,
-    signature, value, word,
+    Code, Kind, Narrow, NarrowShort, Op, STEP, Ty, corrections, fits, op, operand_type, operands,
+    value, word,
 };
 use std::io::{self, Write};
+use std::marker::PhantomData;
 use std::{env, fs, process};
 
 struct Graph {
@@ -80,7 +81,10 @@ fn graph(text: &str) -> Option<Graph> {
     let head = lines.next()?.to_owned();
     let ops: Vec<Op> = lines.map(operation).collect::<Option<_>>()?;
     let of_kind = |kind| {
-        let found = ops.iter().enumerate().filter(move |(_, op)| op.kind == kind);
+        let found = ops
+            .iter()
+            .enumerate()
+            .filter(move |(_, op)| op.kind == kind);
         found.map(|(i, _)| i).collect::<Vec<_>>()
     };
     let inputs = of_kind(Kind::Input).iter().map(|i| ops[*i].ty).collect();
@@ -138,23 +142,29 @@ trait Carries {
 }
 
 /// A machine on coded words.
-struct Coded<const NARROW: bool> {
+struct Coded<C: Code> {
+    code: PhantomData<C>,
     corrections: Vec<i128>,
     cells: Vec<i128>,
     words: Vec<i128>,
 }
 
-impl<const NARROW: bool> Coded<NARROW> {
+impl<C: Code> Coded<C> {
     fn new(graph: &Graph) -> Self {
         Coded {
-            corrections: corrections(&graph.ops, &graph.stores),
-            cells: graph.stores.iter().map(|store| signature(*store)).collect(),
+            code: PhantomData,
+            corrections: corrections::<C>(&graph.ops, &graph.stores),
+            cells: graph
+                .stores
+                .iter()
+                .map(|store| C::signature(*store))
+                .collect(),
             words: Vec::with_capacity(graph.ops.len()),
         }
     }
 }
 
-impl<const NARROW: bool> Carries for Coded<NARROW> {
+impl<C: Code> Carries for Coded<C> {
     fn carry(&mut self, graph: &Graph, row: &[i64], cycle: usize) -> bool {
         let stamp = (STEP as usize * (cycle + 1)) as i128;
         self.words.clear();
@@ -170,13 +180,13 @@ impl<const NARROW: bool> Carries for Coded<NARROW> {
                 Kind::Input => row[op.imm as usize],
                 _ => op.imm,
             };
-            match word::<NARROW>(op, read, imm, *correction, stamp) {
+            match word::<C>(op, read, imm, *correction, stamp) {
                 Some(w) => self.words.push(w),
                 None => return false,
             }
         }
         for out in &graph.outs {
-            if remainder::<NARROW>(self.words[*out]) != (signature(*out) + stamp) % A {
+            if C::split(self.words[*out]).1 != C::signature(*out) + stamp {
                 return false;
             }
         }
@@ -187,7 +197,7 @@ impl<const NARROW: bool> Carries for Coded<NARROW> {
     }
 
     fn output(&self, out: usize) -> i128 {
-        quotient::<NARROW>(self.words[out])
+        C::split(self.words[out]).0
     }
 }
 
@@ -256,7 +266,7 @@ fn run<C: Carries>(graph: &Graph, rows: &str, mut machine: C) -> io::Result<bool
 fn main() -> io::Result<()> {
     let words: Vec<String> = env::args().skip(1).collect();
     let [list, rows, mode] = &words[..] else {
-        eprintln!("usage: coded LIST ROWS wide, narrow or uncoded");
+        eprintln!("usage: coded LIST ROWS long, short or uncoded");
         process::exit(4);
     };
     let graph = graph(&fs::read_to_string(list)?).unwrap_or_else(|| {
@@ -265,8 +275,8 @@ fn main() -> io::Result<()> {
     });
     let rows = fs::read_to_string(rows)?;
     let ended = match mode.as_str() {
-        "wide" => run(&graph, &rows, Coded::<false>::new(&graph))?,
-        "narrow" => run(&graph, &rows, Coded::<true>::new(&graph))?,
+        "long" => run(&graph, &rows, Coded::<Narrow>::new(&graph))?,
+        "short" => run(&graph, &rows, Coded::<NarrowShort>::new(&graph))?,
         _ => {
             let cells = vec![0; graph.stores.len()];
             let values = Vec::with_capacity(graph.ops.len());

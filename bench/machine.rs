@@ -1,12 +1,44 @@
 //! What the program `bench_machine` prints: a coded machine in plain Rust.
 //!
-//! The first word is the number of cycles. Words are split on `i128` by `div_euclid` and `rem_euclid`;
-//! with a second word `narrow` on `i64`, where a word has no more than 64 bits.
+//! The first word is the number of cycles. The second is how words are coded and split: `long` on 128 bits, `short` on 64 where
+//! a word has no more, `wide` by a division of 128 bits, `shifted` by shifts.
 
 mod code;
 
-use code::{A, Kind, Op, STEP, Ty, corrections, op, operands, quotient, remainder, signature, word};
+use code::{Code, Kind, Narrow, NarrowShort, Op, STEP, Ty, corrections, op, operands, word};
 use std::env;
+
+/// The wide code, whose words are split by a division of 128 bits.
+struct Wide;
+
+impl Code for Wide {
+    const A: i128 = (1 << 61) - 1;
+    const N: u128 = 1 << 60;
+    const DISTANCE: u128 = 922337203685477581;
+}
+
+/// The wide code, whose words are split by shifts: 2^61*h + l is A*h + (h + l).
+struct WideShifted;
+
+impl Code for WideShifted {
+    const A: i128 = Wide::A;
+    const N: u128 = Wide::N;
+    const DISTANCE: u128 = Wide::DISTANCE;
+
+    fn split(w: i128) -> (i128, i128) {
+        let (high, low) = (w >> 61, w & Self::A);
+        let sum = high + low;
+        let (more, rest) = (sum >> 61, sum & Self::A);
+        let (value, residue) = (high + more, more + rest);
+        if residue < 0 {
+            (value - 1, residue + Self::A)
+        } else if residue >= Self::A {
+            (value + 1, residue - Self::A)
+        } else {
+            (value, residue)
+        }
+    }
+}
 
 /// The same 1,000 operations as the program's.
 fn graph() -> Vec<Op> {
@@ -55,7 +87,7 @@ fn graph() -> Vec<Op> {
 }
 
 /// The words of one cycle, up to the first operation that stops.
-fn carry<const NARROW: bool>(
+fn carry<C: Code>(
     ops: &[Op],
     corrections: &[i128],
     cell: i128,
@@ -77,7 +109,7 @@ fn carry<const NARROW: bool>(
         } else {
             op.imm
         };
-        match word::<NARROW>(op, read, imm, *correction, stamp) {
+        match word::<C>(op, read, imm, *correction, stamp) {
             Some(w) => words.push(w),
             None => return,
         }
@@ -85,23 +117,27 @@ fn carry<const NARROW: bool>(
 }
 
 /// The number of released cycles, and the sum of their outputs.
-fn run<const NARROW: bool>(cycles: u32) -> (u32, i64) {
+fn run<C: Code>(cycles: u32) -> (u32, i64) {
     let ops = graph();
     let (store, out) = (ops.len() - 2, ops.len() - 1);
-    let corrections = corrections(&ops, &[store]);
-    let mut cell = A + signature(store);
+    let corrections = corrections::<C>(&ops, &[store]);
+    let mut cell = C::A + C::signature(store);
     let mut words = Vec::with_capacity(ops.len());
     let (mut released, mut sum) = (0, 0i64);
     for cycle in 0..cycles {
         let input = cycle as i64 * 7919 % 2001 - 1000;
         let stamp = (STEP * (cycle + 1)) as i128;
-        carry::<NARROW>(&ops, &corrections, cell, input, stamp, &mut words);
-        if words.len() < ops.len() || remainder::<NARROW>(words[out]) != signature(out) + stamp {
+        carry::<C>(&ops, &corrections, cell, input, stamp, &mut words);
+        if words.len() < ops.len() {
+            break;
+        }
+        let (value, residue) = C::split(words[out]);
+        if residue != C::signature(out) + stamp {
             break;
         }
         cell = words[store];
         released += 1;
-        sum = sum.wrapping_add(quotient::<NARROW>(words[out]) as i64);
+        sum = sum.wrapping_add(value as i64);
     }
     (released, sum)
 }
@@ -113,8 +149,10 @@ fn main() {
         .and_then(|w| w.parse().ok())
         .expect("a number of cycles");
     let (released, sum) = match words.get(2).map(String::as_str) {
-        Some("narrow") => run::<true>(cycles),
-        _ => run::<false>(cycles),
+        Some("short") => run::<NarrowShort>(cycles),
+        Some("wide") => run::<Wide>(cycles),
+        Some("shifted") => run::<WideShifted>(cycles),
+        _ => run::<Narrow>(cycles),
     };
     println!("cycles {released} sum {sum}");
 }

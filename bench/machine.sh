@@ -1,7 +1,8 @@
 #!/bin/sh
-# The time that the proved program takes for 10,000 cycles of 1,000 coded operations, over the time of
-# a plain Rust program that does the same sums: on 128-bit words, and on 64 bits where a word has no
-# more. All must print the same.
+# The time that the proved program takes for 10,000 cycles of 1,000 coded operations, in each of the two codes, beside that of
+# a plain Rust program that does the same sums: in the narrow code on 128-bit words (`long`), and on 64 bits where a word has no
+# more (`short`); in the wide code by a division of 128 bits (`wide`), and by shifts (`shifted`). All must print the same.
+# With RUNS=N before it the least of N runs is taken, else of 5.
 here=$(CDPATH='' cd -- "$(dirname -- "$0")" && pwd) || exit 1
 crate=$here/../crates/bench_machine
 work=$(mktemp -d) || exit 1
@@ -16,17 +17,25 @@ measure() {
     shift
     /usr/bin/time -a -o "$work/$name.seconds" -f %U "$@" >"$work/$name.out"
 }
-for _ in 1 2 3 4 5; do
+for _ in $(seq "${RUNS:-5}"); do
     measure coded "$crate/out/bench_machine" 10000
-    measure plain "$work/machine" 10000
-    measure narrow "$work/machine" 10000 narrow
+    measure coded_wide "$crate/out/bench_machine" 10000 wide
+    for mode in long short wide shifted; do
+        measure "$mode" "$work/machine" 10000 "$mode"
+    done
 done
-cmp "$work/coded.out" "$work/plain.out" || exit 1
-cmp "$work/coded.out" "$work/narrow.out" || exit 1
 least() {
     sort -n "$work/$1.seconds" | head -n 1
 }
-awk -v coded="$(least coded)" -v plain="$(least plain)" -v narrow="$(least narrow)" 'BEGIN {
-    printf "coded %.2f s, plain %.2f s, plain in 64 bits %.2f s\n", coded, plain, narrow
-    printf "ratio %.2f, in 64 bits %.2f\n", coded / plain, coded / narrow
-}'
+# The times of the proved program and of a plain one, and their ratio.
+tell() {
+    cmp "$work/$1.out" "$work/$2.out" || exit 1
+    echo "$(least "$1") $(least "$2")" | awk -v name="$1" -v other="$2" '{
+        printf "%-10s %.2f s, %-7s %.2f s, ratio %.2f\n", name, $1, other, $2, $1 / $2
+    }'
+}
+cmp "$work/coded.out" "$work/coded_wide.out" || exit 1
+tell coded long
+tell coded short
+tell coded_wide wide
+tell coded_wide shifted

@@ -38,13 +38,13 @@ tell() {
 for load in add crossing straight; do
     measure run "$vcp" run "$work/$load.st" "$work/$load.csv"
     measure plain "$vcp" plain "$work/$load.st" "$work/$load.csv"
-    for mode in wide narrow uncoded; do
+    for mode in long short uncoded; do
         measure "$mode" "$work/coded" "$work/$load.list" "$work/$load.csv" "$mode"
     done
     echo "$load: $(wc -l <"$work/$load.csv") records with the header, $(($(wc -l <"$work/$load.list") - 1)) operations"
-    tell run narrow
+    tell run short
     tell plain uncoded
-    tell wide narrow
-    tell narrow narrow
-    tell uncoded narrow
+    tell long short
+    tell short short
+    tell uncoded short
 done
