@@ -1,0 +1,14 @@
+pub mod PieceLaws
+pub mod Entries
+pub mod Sections
+pub mod Places
+pub mod Loop
+pub mod Keys
+pub mod Kept
+pub mod Found
+pub mod Worked
+pub mod Appended
+pub mod Admits
+pub mod FittingLists
+pub mod FittingOperations
+pub mod FittingGraphs

@@ -1,0 +1,9 @@
+use Rattle.std.proofs.Common.{◌≡◌, ◌++◌, [], take, ℕ, length, List}
+use Rattle.vcp_base.specs.declared.code.Profile.{Profile}
+use Rattle.op_graph.specs.Lists.{cells}
+use Rattle.image_file.specs.Pieces.{entries}
+use Rattle.image_file.specs.Image.{cell_piece}
+use Rattle.image_file.proofs.writing.put_cells.Given as goal
+
+abbrev pub invariant-entries : goal.invariant-entries
+invariant-entries l = (p : Profile) (names operations : ℕ) → l.out.items ≡ l.initial.out.items ++ entries (λ b. (cell_piece p names operations b).spell) [] (take l.i (cells l.graph))

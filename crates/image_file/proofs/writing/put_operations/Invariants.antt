@@ -1,0 +1,12 @@
+use Rattle.std.proofs.Common.{◌≡◌, ◌++◌, ◌+◌, ◌<◌, [], take, ℕ, length, List, slice_get, Some, ap, sym, subst, ◌∙◌, arith}
+use Rattle.std.proofs.lemmas.List.{length-take}
+use Rattle.op_graph.specs.Lists.{cells}
+use Rattle.op_graph.specs.declared.op.Op.{Op}
+use Rattle.op_graph.specs.declared.op.Var.{Var}
+use Rattle.op_graph.specs.declared.op.Outlet.{Outlet}
+use Rattle.image_file.specs.Pieces.{entries}
+use Rattle.image_file.specs.Image.{op_piece, said, Said, correction_of}
+use Rattle.image_file.proofs.writing.put_operations.Given as goal
+
+abbrev pub invariant-entries : goal.invariant-entries
+invariant-entries l = (ins : List Var) (outs : List Outlet) (n : ℕ) → l.out.items ≡ l.initial.out.items ++ entries (λ b. (op_piece (said l.graph.profile l.table.seed l.table.step ins outs (cells l.graph) n) b).spell) [] (take l.i l.graph.operations)

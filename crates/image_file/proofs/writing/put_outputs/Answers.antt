@@ -1,0 +1,10 @@
+use Rattle.std.proofs.Common.{◌≡◌, ◌++◌, [], take, ℕ, length, List}
+use Rattle.op_graph.specs.Lists.{cells}
+use Rattle.image_file.specs.Pieces.{entries}
+use Rattle.image_file.specs.Image.{output_piece}
+use Rattle.image_file.proofs.Appended.{next_entry}
+use Rattle.image_file.proofs.writing.put_outputs.Goals as goal
+
+pub entries-preserved : goal.entries-preserved
+entries-preserved c = λ p names operations.
+    next_entry (λ b. (output_piece p names operations b).spell) c.args.out.now.items c.entries.out.items c.put_output.new.out.items c.args.graph.now.outputs c.entries.i c.output.result c.output.ensures (c.entries.invariant p names operations) (c.in_ok-put_output.ensures p names operations (take c.entries.i c.args.graph.now.outputs))

@@ -1,0 +1,134 @@
+//! The head of an image.
+
+ghost use Rattle.std.specs.Prelude.{◌≡◌, ◌≤◌, ◌<◌, ◌==◌, ◌&&◌, ◌+◌, ◌*◌, ◌^◌, nat_lt, nat_le, true, Some, IfOk};
+ghost use Rattle.image_file.specs.declared.fault.Fault.TheVariants as fault;
+ghost use Rattle.image_file.specs.Pieces.{Gives, byte_field};
+ghost use Rattle.image_file.specs.Image.{number, number16, version_field, head_piece, counts_piece, IsByte};
+ghost use Rattle.image_file.specs.Codes.{version_of};
+ghost use Rattle.vcp_base.specs.Limits.{most_step, most_operations, most_turn_nodes};
+ghost use Rattle.image_file.specs.Views.{head as head_of};
+
+use crate::fault::{Fault, ReadError};
+use crate::fields::{at_most_here, below_here, u8_at, u16_at, u32_at};
+use vcp_base::{
+    MOST_CELLS, MOST_NAMES, MOST_OPERATIONS, MOST_STEP, MOST_TURN_NODES, Profile, SEEDS,
+};
+
+/// The numbers in front.
+#[derive(Clone, Copy)]
+pub(crate) struct Counts {
+    pub(crate) profile: Profile,
+    pub(crate) step: u16,
+    pub(crate) seed: u32,
+    pub(crate) names: u32,
+    pub(crate) inputs: u32,
+    pub(crate) outputs: u32,
+    pub(crate) cells: u32,
+    pub(crate) turn_nodes: u32,
+    pub(crate) operations: u32,
+}
+
+/// A byte of the magic.
+fn magic_here(wanted: u8, bytes: &[u8]) -> Result<(u8, &[u8]), ReadError>
+    ensures { Gives (λ x. (x.0, x.1.now)) result ((byte_field (λ n. Some n) (λ n. n) IsByte (λ n. n == wanted) (λ left. fault.Magic left)).read bytes.now) }
+{
+    let (n, rest) = u8_at(bytes)?;
+    if n == wanted {
+        Ok((n, rest))
+    } else {
+        Err(ReadError::Fault(Fault::Magic { left: bytes.len() }))
+    }
+}
+
+/// The code of a version.
+fn profile_named(n: u16) -> Option<Profile>
+    ensures { result ≡ version_of n }
+{
+    match n {
+        1 => Some(Profile::Narrow),
+        2 => Some(Profile::Wide),
+        _ => None,
+    }
+}
+
+fn version_here(bytes: &[u8]) -> Result<(Profile, &[u8]), ReadError>
+    ensures { Gives (λ x. (x.0, x.1.now)) result (version_field.read bytes.now) }
+{
+    let (n, rest) = u16_at(bytes)?;
+    match profile_named(n) {
+        None => Err(ReadError::Fault(Fault::Version { left: bytes.len() })),
+        Some(profile) => Ok((profile, rest)),
+    }
+}
+
+fn step_here(bytes: &[u8]) -> Result<(u16, &[u8]), ReadError>
+    ensures is { Gives (λ x. (x.0, x.1.now)) result ((number16 (λ n. nat_le 1 n && nat_le n most_step) (λ left n. fault.Field left)).read bytes.now) }
+    ensures from { IfOk result (λ x. 1 ≤ x.0) }
+    ensures to { IfOk result (λ x. x.0 ≤ most_step) }
+{
+    let (n, rest) = u16_at(bytes)?;
+    if 1 <= n && n <= MOST_STEP {
+        Ok((n, rest))
+    } else {
+        Err(ReadError::Fault(Fault::Field { left: bytes.len() }))
+    }
+}
+
+fn operations_here(low: u32, bytes: &[u8]) -> Result<(u32, &[u8]), ReadError>
+    ensures is { Gives (λ x. (x.0, x.1.now)) result ((number (λ n. nat_le low n && nat_le n most_operations)).read bytes.now) }
+    ensures below { IfOk result (λ x. x.0 ≤ most_operations) }
+{
+    let (n, rest) = u32_at(bytes)?;
+    if low <= n && n <= MOST_OPERATIONS {
+        Ok((n, rest))
+    } else {
+        Err(ReadError::Fault(Fault::Field { left: bytes.len() }))
+    }
+}
+
+#[tactic(auto, unfolding(crate::specs::Image::counts_piece))]
+fn counts_here(bytes: &[u8]) -> Result<(Counts, &[u8]), ReadError>
+    ensures is { Gives (λ x. (head_of x.0, x.1.now)) result (counts_piece.read bytes.now) }
+    ensures below { IfOk result (λ x. (x.0.step ≤ most_step) × (x.0.turn_nodes ≤ most_turn_nodes) × (x.0.operations ≤ most_operations)) }
+{
+    let (profile, rest) = version_here(bytes)?;
+    let (step, rest) = step_here(rest)?;
+    let (seed, rest) = below_here(SEEDS, rest)?;
+    let (names, rest) = at_most_here(MOST_NAMES, rest)?;
+    let (inputs, rest) = at_most_here(MOST_NAMES, rest)?;
+    let (outputs, rest) = at_most_here(MOST_NAMES, rest)?;
+    let (cells, rest) = at_most_here(MOST_CELLS, rest)?;
+    let (turn_nodes, rest) = at_most_here(MOST_TURN_NODES, rest)?;
+    let (operations, rest) = operations_here(inputs + outputs + 2 * cells, rest)?;
+    Ok((
+        Counts {
+            profile,
+            step,
+            seed,
+            names,
+            inputs,
+            outputs,
+            cells,
+            turn_nodes,
+            operations,
+        },
+        rest,
+    ))
+}
+
+/// The head at the front.
+#[tactic(auto, unfolding(crate::specs::Image::head_piece))]
+pub(crate) fn head_here(bytes: &[u8]) -> Result<(Counts, &[u8]), ReadError>
+    ensures is { Gives (λ x. (head_of x.0, x.1.now)) result (head_piece.read bytes.now) }
+    ensures below { IfOk result (λ x. (x.0.step ≤ most_step) × (x.0.turn_nodes ≤ most_turn_nodes) × (x.0.operations ≤ most_operations)) }
+{
+    let (_v, rest) = magic_here(86, bytes)?;
+    let (_c, rest) = magic_here(67, rest)?;
+    let (_p, rest) = magic_here(80, rest)?;
+    let (_a, rest) = magic_here(65, rest)?;
+    let (_n, rest) = magic_here(78, rest)?;
+    let (_b, rest) = magic_here(66, rest)?;
+    let (_d, rest) = magic_here(68, rest)?;
+    let (_end, rest) = magic_here(10, rest)?;
+    counts_here(rest)
+}

@@ -1,0 +1,23 @@
+//! Image files: a graph, its seed and its step as bytes, both ways.
+#![tactic(auto)]
+
+mod fault;
+mod fields;
+mod head;
+mod image;
+mod laws;
+mod lists;
+mod names;
+mod operation;
+mod rules;
+mod walk;
+mod whole;
+mod writing;
+
+pub use fault::{Fault, ImageFault};
+pub use image::read_image;
+pub use laws::images_are_told_apart;
+pub use writing::write_image;
+
+#[cfg(test)]
+mod tests;

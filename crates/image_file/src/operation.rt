@@ -1,0 +1,237 @@
+//! The operations of an image.
+
+ghost use Rattle.std.specs.Prelude.{◌≡◌, ◌≤◌, ◌<◌, ◌==◌, ◌^◌, length, true, [], slice_get, unsigned_abs};
+ghost use Rattle.vcp_base.specs.Limits.{most_step, most_operations};
+ghost use Rattle.op_graph.specs.Rules.{place_of, entry_of, kind_fits as kind_fits_of, from_fits as from_fits_of, ty_fits as ty_fits_of, operand_fits as operand_fits_of, reads_as as reads_as_of, imm_fits as imm_fits_of, turn_fits as turn_fits_of};
+ghost use Rattle.signature_table.specs.Signatures.{store_of as store_of_cell};
+ghost use Rattle.image_file.specs.declared.fault.Fault.TheVariants as fault;
+ghost use Rattle.image_file.specs.Pieces.{Gives, listed};
+ghost use Rattle.image_file.specs.Image.{kind_field, type_field, signed, number, corrected, operand, op_by, op_piece, correction_of};
+ghost use Rattle.image_file.specs.Views.{scope_of, said_of, place as place_view, Rising};
+
+use crate::fault::{Fault, ReadError};
+use crate::fields::{any_number_here, residue_at, ty_named, u8_at, u32_at, u64_at};
+use crate::rules::{
+    Place, Scope, from_fits, imm_fits, kind_fits, operand_fits, reads_as, turn_fits, ty_fits,
+};
+use crate::walk::Walk;
+use op_graph::{Cell, Op};
+use signature_table::correction;
+use std::alloc::Global;
+use vcp_base::{Kind, Profile, Residue, Spot, Ty, kind_of_code};
+
+fn kind_here<'a>(p: &Place, bytes: &'a [u8]) -> Result<(Kind, &'a [u8]), ReadError>
+    ensures { Gives (λ x. (x.0, x.1.now)) result ((kind_field (kind_fits_of (place_view p.now))).read bytes.now) }
+{
+    let (n, rest) = u8_at(bytes)?;
+    match kind_of_code(n) {
+        None => Err(ReadError::Fault(Fault::Field { left: bytes.len() })),
+        Some(kind) => {
+            if kind_fits(p, kind) {
+                Ok((kind, rest))
+            } else {
+                Err(ReadError::Fault(Fault::Field { left: bytes.len() }))
+            }
+        }
+    }
+}
+
+fn from_here<'a>(
+    profile: Profile,
+    p: &Place,
+    kind: Kind,
+    bytes: &'a [u8],
+) -> Result<(Ty, &'a [u8]), ReadError>
+    ensures { Gives (λ x. (x.0, x.1.now)) result ((type_field profile (from_fits_of (entry_of (place_view p.now) kind) kind)).read bytes.now) }
+{
+    let (n, rest) = u8_at(bytes)?;
+    match ty_named(profile, n) {
+        None => Err(ReadError::Fault(Fault::Field { left: bytes.len() })),
+        Some(ty) => {
+            if from_fits(p, kind, ty) {
+                Ok((ty, rest))
+            } else {
+                Err(ReadError::Fault(Fault::Field { left: bytes.len() }))
+            }
+        }
+    }
+}
+
+fn ty_here(profile: Profile, kind: Kind, from: Ty, bytes: &[u8]) -> Result<(Ty, &[u8]), ReadError>
+    ensures { Gives (λ x. (x.0, x.1.now)) result ((type_field profile (ty_fits_of kind from)).read bytes.now) }
+{
+    let (n, rest) = u8_at(bytes)?;
+    match ty_named(profile, n) {
+        None => Err(ReadError::Fault(Fault::Field { left: bytes.len() })),
+        Some(ty) => {
+            if ty_fits(kind, from, ty) {
+                Ok((ty, rest))
+            } else {
+                Err(ReadError::Fault(Fault::Field { left: bytes.len() }))
+            }
+        }
+    }
+}
+
+fn operand_here<'a>(
+    earlier: &[Op],
+    kind: Kind,
+    from: Ty,
+    j: u32,
+    bytes: &'a [u8],
+) -> Result<(u32, &'a [u8]), ReadError>
+    ensures { Gives (λ x. (x.0, x.1.now)) result ((operand (operand_fits_of earlier.now (reads_as_of kind from j))).read bytes.now) }
+{
+    let (n, rest) = u32_at(bytes)?;
+    if operand_fits(earlier, reads_as(kind, from, j), n) {
+        Ok((n, rest))
+    } else {
+        Err(ReadError::Fault(Fault::Operand { left: bytes.len() }))
+    }
+}
+
+fn imm_here<'a>(
+    p: &Place,
+    kind: Kind,
+    to: Ty,
+    bytes: &'a [u8],
+) -> Result<(i64, &'a [u8]), ReadError>
+    ensures { Gives (λ x. (x.0, x.1.now)) result ((signed (imm_fits_of (entry_of (place_view p.now) kind) kind to)).read bytes.now) }
+{
+    let (n, rest) = u64_at(bytes)?;
+    let imm = n.cast_signed();
+    if imm_fits(p, kind, to, imm) {
+        Ok((imm, rest))
+    } else {
+        Err(ReadError::Fault(Fault::Field { left: bytes.len() }))
+    }
+}
+
+fn turn_here<'a>(
+    p: &Place,
+    kind: Kind,
+    turn_nodes: u32,
+    bytes: &'a [u8],
+) -> Result<(u32, &'a [u8]), ReadError>
+    ensures { Gives (λ x. (x.0, x.1.now)) result ((number (turn_fits_of (entry_of (place_view p.now) kind) turn_nodes)).read bytes.now) }
+{
+    let (n, rest) = u32_at(bytes)?;
+    if turn_fits(p, kind, turn_nodes, n) {
+        Ok((n, rest))
+    } else {
+        Err(ReadError::Fault(Fault::Field { left: bytes.len() }))
+    }
+}
+
+/// The number of the STORE of the cell that an operation's own number names, where it is there.
+fn store_read(cells: &[Cell], imm: i64) -> Option<u32>
+    ensures { result ≡ store_of_cell cells.now (unsigned_abs imm) }
+{
+    let k = imm.unsigned_abs();
+    if k >= cells.len() as u64 {
+        return None;
+    }
+    Some(cells[k as usize].store)
+}
+
+/// The correction that an operation after others has.
+fn expected(s: &Scope<'_>, earlier: &[Op], op: &Op) -> Residue
+    requires step { s.now.step ≤ most_step }
+    requires few { length earlier.now ≤ most_operations }
+    ensures { result ≡ correction_of (said_of s.now) earlier.now op.now }
+{
+    correction(
+        s.profile,
+        s.seed,
+        s.step,
+        earlier.len() as u32,
+        op,
+        store_read(s.cells, op.imm),
+    )
+}
+
+/// The operation, where its correction stands at the front.
+#[tactic(auto, unfolding(crate::specs::Image::corrected))]
+fn corrected_here<'a>(
+    s: &Scope<'_>,
+    earlier: &[Op],
+    op: Op,
+    bytes: &'a [u8],
+) -> Result<(Op, &'a [u8]), ReadError>
+    requires step { s.now.step ≤ most_step }
+    requires few { length earlier.now ≤ most_operations }
+    ensures { Gives (λ x. (x.0, x.1.now)) result ((corrected (said_of s.now) earlier.now op).read bytes.now) }
+{
+    let expected = expected(s, earlier, &op);
+    let (n, rest) = residue_at(s.profile, bytes)?;
+    if n == expected {
+        Ok((op, rest))
+    } else {
+        Err(ReadError::Fault(Fault::Table {
+            left: bytes.len(),
+            stored: n,
+            expected,
+        }))
+    }
+}
+
+/// The operation at the front, after others, which is this by the other lists.
+#[tactic(auto, unfolding(crate::specs::Image::op_by))]
+fn op_of<'a>(
+    s: &Scope<'_>,
+    p: &Place,
+    earlier: &[Op],
+    bytes: &'a [u8],
+) -> Result<(Op, &'a [u8]), ReadError>
+    requires step { s.now.step ≤ most_step }
+    requires few { length earlier.now ≤ most_operations }
+    ensures { Gives (λ x. (x.0, x.1.now)) result ((op_by (place_view p.now) (said_of s.now) earlier.now).read bytes.now) }
+{
+    let (kind, rest) = kind_here(p, bytes)?;
+    let (from, rest) = from_here(s.profile, p, kind, rest)?;
+    let (ty, rest) = ty_here(s.profile, kind, from, rest)?;
+    let (a, rest) = operand_here(earlier, kind, from, 0, rest)?;
+    let (b, rest) = operand_here(earlier, kind, from, 1, rest)?;
+    let (c, rest) = operand_here(earlier, kind, from, 2, rest)?;
+    let (imm, rest) = imm_here(p, kind, ty, rest)?;
+    let (line, rest) = any_number_here(rest)?;
+    let (col, rest) = any_number_here(rest)?;
+    let (turn, rest) = turn_here(p, kind, s.turn_nodes, rest)?;
+    let op = Op {
+        kind,
+        from,
+        ty,
+        a,
+        b,
+        c,
+        imm,
+        spot: Spot { line, col },
+        turn,
+    };
+    corrected_here(s, earlier, op, rest)
+}
+
+/// That many operations.
+pub(crate) fn operations_of<'a>(
+    alloc: Global,
+    s: &Scope<'_>,
+    count: u32,
+    bytes: &'a [u8],
+) -> Result<(Vec<Op>, &'a [u8]), ReadError>
+    requires step { s.now.step ≤ most_step }
+    requires few { count ≤ most_operations }
+    requires rising { Rising (scope_of s.now) }
+    ensures { Gives (λ x. (x.0.items, x.1.now)) result ((listed count (op_piece (said_of s.now))).read bytes.now) }
+{
+    let mut found: Vec<Op> = Vec::new(alloc);
+    let mut walk = Walk::new(s);
+    let mut rest = bytes;
+    'entries: for i in 0..count {
+        let place = walk.place(s, i);
+        let (entry, after) = op_of(s, &place, &found, rest)?;
+        found.push(entry)?;
+        walk = walk.past(s, i);
+        rest = after;
+    }
+    Ok((found, rest))
+}

@@ -1,0 +1,158 @@
+//! One walk over the operations of outputs and cells, beside the operations.
+
+ghost use Rattle.std.specs.Prelude.{◌≡◌, ◌==◌, ◌+◌, ℕ, cond, slice_get, length};
+ghost use Rattle.op_graph.specs.Rules.{numbered, cell_entry, place_of};
+ghost use Rattle.op_graph.specs.Walk.{entry_at, store_at, is_of};
+ghost use Rattle.image_file.specs.Views.{scope_of, option_entry, place, Rising, IsAt};
+
+use crate::rules::{Entry, Place, Scope};
+use op_graph::{Loaded, Outlet, Var, entries_are_found_by_one_walk};
+
+/// Where the walk stands: how many outputs, LOADs and STOREs are of earlier operations.
+#[derive(Clone, Copy)]
+pub(crate) struct Walk {
+    out: usize,
+    load: usize,
+    store: usize,
+}
+
+fn input_at(inputs: &[Var], i: u32) -> Option<Entry>
+    ensures { option_entry result ≡ numbered i (slice_get inputs.now i) }
+{
+    match inputs.get(i as usize) {
+        None => None,
+        Some(v) => Some(Entry {
+            number: i as usize,
+            ty: v.ty,
+        }),
+    }
+}
+
+fn output_at(outputs: &[Outlet], k: usize, i: u32) -> Option<Entry>
+    ensures { option_entry result ≡ entry_at (λ o. o.op) (λ o. o.ty) i k (slice_get outputs.now k) }
+{
+    match outputs.get(k) {
+        None => None,
+        Some(o) => {
+            if o.op == i {
+                Some(Entry {
+                    number: k,
+                    ty: o.ty,
+                })
+            } else {
+                None
+            }
+        }
+    }
+}
+
+fn loaded_at(loads: &[Loaded], k: usize, i: u32) -> Option<Entry>
+    ensures { option_entry result ≡ entry_at (λ l. l.load) (λ l. l.ty) i k (slice_get loads.now k) }
+{
+    match loads.get(k) {
+        None => None,
+        Some(l) => {
+            if l.load == i {
+                Some(Entry {
+                    number: k,
+                    ty: l.ty,
+                })
+            } else {
+                None
+            }
+        }
+    }
+}
+
+fn cell_at(loads: &[Loaded], k: usize) -> Option<Entry>
+    ensures { option_entry result ≡ cell_entry k (slice_get loads.now k) }
+{
+    match loads.get(k) {
+        None => None,
+        Some(l) => Some(Entry {
+            number: k,
+            ty: l.ty,
+        }),
+    }
+}
+
+fn stored_at(loads: &[Loaded], stores: &[u32], k: usize, i: u32) -> Option<Entry>
+    ensures { option_entry result ≡ store_at loads.now i k (slice_get stores.now k) }
+{
+    match stores.get(k) {
+        None => None,
+        Some(n) => if *n == i { cell_at(loads, k) } else { None },
+    }
+}
+
+/// One output further, where the walk has come to one of operation `i`.
+fn next_output(outputs: &[Outlet], k: usize, i: u32) -> usize
+    ensures { result ≡ cond (is_of (λ o. o.op) i (slice_get outputs.now k)) (k + 1) k }
+{
+    match outputs.get(k) {
+        None => k,
+        Some(o) => if o.op == i { k + 1 } else { k },
+    }
+}
+
+fn next_load(loads: &[Loaded], k: usize, i: u32) -> usize
+    ensures { result ≡ cond (is_of (λ l. l.load) i (slice_get loads.now k)) (k + 1) k }
+{
+    match loads.get(k) {
+        None => k,
+        Some(l) => if l.load == i { k + 1 } else { k },
+    }
+}
+
+fn next_store(stores: &[u32], k: usize, i: u32) -> usize
+    ensures { result ≡ cond (is_of (λ n. n) i (slice_get stores.now k)) (k + 1) k }
+{
+    match stores.get(k) {
+        None => k,
+        Some(n) => if *n == i { k + 1 } else { k },
+    }
+}
+
+impl Walk {
+    /// At the front.
+    pub(crate) fn new(s: &Scope<'_>) -> Walk
+        ensures { IsAt (scope_of s.now) 0 result }
+    {
+        entries_are_found_by_one_walk();
+        let _scope = *s;
+        Walk {
+            out: 0,
+            load: 0,
+            store: 0,
+        }
+    }
+
+    /// What operation `i` is by the other lists, where the walk has come to it.
+    pub(crate) fn place(&self, s: &Scope<'_>, i: u32) -> Place
+        requires rising { Rising (scope_of s.now) }
+        requires here { IsAt (scope_of s.now) i self.now }
+        ensures { place result ≡ place_of (scope_of s.now) i }
+    {
+        entries_are_found_by_one_walk();
+        Place {
+            input: input_at(s.inputs, i),
+            load: loaded_at(s.loads, self.load, i),
+            store: stored_at(s.loads, s.stores, self.store, i),
+            out: output_at(s.outputs, self.out, i),
+        }
+    }
+
+    /// Past operation `i`, where the walk has come to it.
+    pub(crate) fn past(&self, s: &Scope<'_>, i: u32) -> Walk
+        requires rising { Rising (scope_of s.now) }
+        requires here { IsAt (scope_of s.now) i self.now }
+        ensures { IsAt (scope_of s.now) (i + 1) result }
+    {
+        entries_are_found_by_one_walk();
+        Walk {
+            out: next_output(s.outputs, self.out, i),
+            load: next_load(s.loads, self.load, i),
+            store: next_store(s.stores, self.store, i),
+        }
+    }
+}

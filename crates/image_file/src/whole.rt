@@ -1,0 +1,146 @@
+//! A whole image, read.
+
+ghost use Rattle.std.specs.Prelude.{◌≡◌, ◌≤◌, ◌<◌, ◌==◌, ◌^◌, length, map, Ok, Err, IfOk, List, ℕ};
+ghost use Rattle.vcp_base.specs.Limits.{most_step, most_operations};
+ghost use Rattle.image_file.specs.Pieces.{Gives, listed, read_all, FaultOf};
+ghost use Rattle.image_file.specs.Image.{op_piece, said, load_of, store_of, image_piece, Parts};
+ghost use Rattle.image_file.specs.Views.{parts, Rising};
+
+use crate::fault::{Fault, ReadError};
+use crate::head::{Counts, head_here};
+use crate::lists::{cells_of, inputs_of, outputs_of, turns_of};
+use crate::names::names_of;
+use crate::operation::operations_of;
+use crate::rules::Scope;
+use op_graph::{Cell, Loaded, Op, Outlet, TurnNode, Var};
+use std::alloc::Global;
+use vcp_base::{Profile, Text};
+
+/// What an image says.
+#[derive(Drop)]
+pub(crate) struct Whole {
+    pub(crate) profile: Profile,
+    pub(crate) step: u16,
+    pub(crate) seed: u32,
+    pub(crate) names: Vec<Text>,
+    pub(crate) inputs: Vec<Var>,
+    pub(crate) outputs: Vec<Outlet>,
+    pub(crate) cells: Vec<Cell>,
+    pub(crate) turn_nodes: Vec<TurnNode>,
+    pub(crate) operations: Vec<Op>,
+}
+
+pub(crate) fn loads_of(alloc: Global, cells: &[Cell]) -> Result<Vec<Loaded>, ReadError>
+    ensures { Gives (λ v. v.items) result (Ok (map load_of cells.now)) }
+{
+    let mut loads = Vec::new(alloc);
+    'cells: for c in cells {
+        loads.push(Loaded {
+            name: c.name,
+            ty: c.ty,
+            init: c.init,
+            load: c.load,
+        })?;
+    }
+    Ok(loads)
+}
+
+pub(crate) fn stores_of(alloc: Global, cells: &[Cell]) -> Result<Vec<u32>, ReadError>
+    ensures { Gives (λ v. v.items) result (Ok (map store_of cells.now)) }
+{
+    let mut stores = Vec::new(alloc);
+    'cells: for c in cells {
+        stores.push(c.store)?;
+    }
+    Ok(stores)
+}
+
+fn operations_after<'a>(
+    alloc: Global,
+    counts: &Counts,
+    inputs: &[Var],
+    outputs: &[Outlet],
+    cells: &[Cell],
+    bytes: &'a [u8],
+) -> Result<(Vec<Op>, &'a [u8]), ReadError>
+    requires step { counts.now.step ≤ most_step }
+    requires few { counts.now.operations ≤ most_operations }
+    requires rising { Rising (record { inputs = inputs.now; outputs = outputs.now; loads = map load_of cells.now; stores = map store_of cells.now }) }
+    ensures { Gives (λ x. (x.0.items, x.1.now)) result ((listed counts.now.operations (op_piece (said counts.now.profile counts.now.seed counts.now.step inputs.now outputs.now cells.now counts.now.turn_nodes))).read bytes.now) }
+{
+    let loads = loads_of(alloc, cells)?;
+    let stores = stores_of(alloc, cells)?;
+    let scope = Scope {
+        profile: counts.profile,
+        seed: counts.seed,
+        step: counts.step,
+        inputs,
+        outputs,
+        cells,
+        loads: &loads,
+        stores: &stores,
+        turn_nodes: counts.turn_nodes,
+    };
+    let (operations, rest) = operations_of(alloc, &scope, counts.operations, bytes)?;
+    Ok((operations, rest))
+}
+
+#[tactic(auto, unfolding(crate::specs::Image::image_piece))]
+fn whole_of(alloc: Global, bytes: &[u8]) -> Result<(Whole, &[u8]), ReadError>
+    ensures { Gives (λ x. (parts x.0, x.1.now)) result (image_piece.read bytes.now) }
+{
+    let (counts, rest) = head_here(bytes)?;
+    let (names, rest) = names_of(alloc, counts.names, rest)?;
+    let (inputs, rest) = inputs_of(alloc, counts.profile, counts.names, counts.inputs, rest)?;
+    let (outputs, rest) = outputs_of(
+        alloc,
+        counts.profile,
+        counts.names,
+        counts.operations,
+        counts.outputs,
+        rest,
+    )?;
+    let (cells, rest) = cells_of(
+        alloc,
+        counts.profile,
+        counts.names,
+        counts.operations,
+        counts.cells,
+        rest,
+    )?;
+    let (turn_nodes, rest) = turns_of(alloc, counts.names, counts.turn_nodes, rest)?;
+    let (operations, rest) = operations_after(alloc, &counts, &inputs, &outputs, &cells, rest)?;
+    Ok((
+        Whole {
+            profile: counts.profile,
+            step: counts.step,
+            seed: counts.seed,
+            names,
+            inputs,
+            outputs,
+            cells,
+            turn_nodes,
+            operations,
+        },
+        rest,
+    ))
+}
+
+fn all(alloc: Global, bytes: &[u8]) -> Result<Whole, ReadError>
+    ensures { Gives parts result (read_all image_piece bytes.now) }
+{
+    let (whole, rest) = whole_of(alloc, bytes)?;
+    if rest.is_empty() {
+        Ok(whole)
+    } else {
+        Err(ReadError::Fault(Fault::Rest { left: rest.len() }))
+    }
+}
+
+/// The image that the bytes are.
+pub(crate) fn read(alloc: Global, bytes: &[u8]) -> Result<Whole, ReadError>
+    ensures found { IfOk result (λ w. image_piece.fits (parts w) × (bytes.now ≡ image_piece.spell (parts w))) }
+    ensures fault { (f : Fault) → result ≡ Err (ReadError.Fault f) → FaultOf image_piece bytes.now f }
+{
+    all(alloc, bytes)
+}
