@@ -1,0 +1,5 @@
+pub mod Changes
+pub mod Differences
+pub mod Fits
+pub mod Forms
+pub mod ScriptOf

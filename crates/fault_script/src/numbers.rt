@@ -1,0 +1,72 @@
+//! The numbers and the kinds that words write.
+
+ghost use Rattle.std.specs.Prelude.{◌≡◌, ◌<◌, ◌≤◌, ◌^◌, true, IfSome};
+ghost use Rattle.vcp_base.specs.Limits.{most_cycles};
+ghost use Rattle.fault_script.specs.Forms.{number_below as number_below_of, cycle_of, index_of, is_addend as is_addend_of, addend_of, kind_of};
+
+use input_rows::number_in;
+use vcp_base::{Kind, MOST_CYCLES, Ty, kind_name, kind_of_code};
+use vcp_words::numeral;
+
+/// The most that an act adds, in size.
+const MOST_ADDEND: i64 = 1 << 62;
+
+// The number that one to ten digits write, where it is below the bound.
+fn number_below(bound: u64, word: &[u8]) -> Option<u32>
+    requires { bound ≤ 2 ^ 32 }
+    ensures value { result ≡ number_below_of bound word.now }
+    ensures below { IfSome result (λ n. n < bound) }
+{
+    let number = numeral(word)?;
+    if number < bound {
+        Some(number as u32)
+    } else {
+        None
+    }
+}
+
+/// The number of a cycle, below 1,000,000.
+pub fn cycle(word: &[u8]) -> Option<u32>
+    ensures value { result ≡ cycle_of word.now }
+    ensures below { IfSome result (λ n. n < most_cycles) }
+{
+    number_below(MOST_CYCLES as u64, word)
+}
+
+/// The number of an operation, an operand or a register.
+pub fn index(word: &[u8]) -> Option<u32>
+    ensures { result ≡ index_of word.now }
+{
+    number_below(1 << 32, word)
+}
+
+// Whether a number is at most 2^62 in size.
+fn is_addend(e: i64) -> bool
+    ensures { result ≡ is_addend_of e }
+{
+    -MOST_ADDEND <= e && e <= MOST_ADDEND
+}
+
+/// The number that is added: an optional sign and digits, at most 2^62 in size.
+#[tactic(auto, using(crate::proofs::Written::cut_addend))]
+pub fn addend(word: &[u8]) -> Option<i64>
+    ensures value { result ≡ addend_of word.now }
+    ensures moderate { IfSome result (λ e. is_addend_of e ≡ true) }
+{
+    let e = number_in(Ty::Lint, word)?;
+    if is_addend(e) { Some(e) } else { None }
+}
+
+/// The kind with the name, which is in capitals.
+#[tactic(auto, using(crate::proofs::Written::kind_at, crate::proofs::Written::no_kind_at))]
+pub fn kind_named(word: &[u8]) -> Option<Kind>
+    ensures { result ≡ kind_of word.now }
+{
+    'kinds: for code in 0..19u8 {
+        let kind = kind_of_code(code)?;
+        if word == kind_name(kind) {
+            return Some(kind);
+        }
+    }
+    None
+}
