@@ -1,0 +1,10 @@
+mod Along
+mod Auditing
+mod Closing
+mod FirstSteps
+mod Loads
+mod Marking
+mod Places
+mod Residues
+mod Sweep
+mod Worked

@@ -1,0 +1,5 @@
+pub mod Audit
+pub mod Differences
+pub mod Paths
+pub mod Sweeping
+pub mod Weights
