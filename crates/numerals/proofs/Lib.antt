@@ -1,0 +1,2 @@
+pub mod NumeralSteps
+pub mod Worked

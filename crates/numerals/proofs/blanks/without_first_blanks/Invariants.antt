@@ -1,0 +1,9 @@
+use Rattle.std.proofs.Common.{◌≡◌, length}
+use Rattle.numerals.specs.Blanks.{unindented}
+use Rattle.numerals.proofs.blanks.without_first_blanks.Given as goal
+
+abbrev pub invariant-blanks : goal.invariant-blanks
+invariant-blanks l = unindented l.rest ≡ unindented l.fn.text
+
+abbrev pub decreases-blanks : goal.decreases-blanks
+decreases-blanks l = length l.rest

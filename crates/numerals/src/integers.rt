@@ -1,0 +1,48 @@
+//! Integers with an optional sign.
+
+ghost use Rattle.std.specs.Prelude.{◌≡◌, ◌≤◌, ◌^◌, min, IfSome, option_map, option_and_then};
+ghost use Rattle.numerals.specs.Numerals.{natural_of, integer_of, in_type};
+
+use vcp_base::{Ty, fits};
+
+/// More than any value of 64 bits, with or without a sign before it, so that the value of longer
+/// digits is cut to it.
+const BEYOND: u128 = 18_446_744_073_709_551_616;
+
+// The number that decimal digits spell, or `BEYOND` if it is greater; `None` if they are no digits.
+fn natural(digits: &[u8]) -> Option<u128>
+    ensures value { result ≡ option_map (λ n. min n (2 ^ 64)) (natural_of digits.now) }
+    ensures low { IfSome result (λ n. n ≤ 2 ^ 64) }
+{
+    let mut number = 0;
+    'digits: for digit in digits {
+        if !digit.is_ascii_digit() {
+            return None;
+        }
+        number = (number * 10 + u128::from(*digit - b'0')).min(BEYOND);
+    }
+    if digits.is_empty() {
+        return None;
+    }
+    Some(number)
+}
+
+// The value that an optional sign and digits spell, if there is a type that has it; else one that no
+// type has.
+fn integer(text: &[u8]) -> Option<i128>
+    ensures { (t : Ty) → option_and_then (in_type t) result ≡ option_and_then (in_type t) (integer_of text.now) }
+{
+    match text {
+        [b'+', digits @ ..] => Some(natural(digits)? as i128),
+        [b'-', digits @ ..] => Some(-(natural(digits)? as i128)),
+        _ => Some(natural(text)? as i128),
+    }
+}
+
+/// The value that an optional sign and decimal digits spell, if it is one of the type.
+pub fn number_in(ty: Ty, text: &[u8]) -> Option<i64>
+    ensures { result ≡ option_and_then (in_type ty) (integer_of text.now) }
+{
+    let v = integer(text)?;
+    if fits(ty, v) { Some(v as i64) } else { None }
+}
