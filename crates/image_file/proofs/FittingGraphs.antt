@@ -1,20 +1,20 @@
 -- What keeps the rules of a graph has an image: cells, and the whole, where the numbers have the format's widths.
-use Rattle.std.proofs.Common.{◌≡◌, ℕ, zero, suc, ◌+◌, ◌*◌, ◌<◌, ◌≤◌, ◌==◌, ◌^◌, ◌&&◌, nat_le, nat_lt, Bool, true, false, List, [], ◌∷◌, ◌++◌, length, map, All, Option, Some, None, slice_get, refl, sym, ap, subst, ◌∙◌, append_assoc, arith, length-append}
+use Rattle.std.proofs.Common.{◌≡◌, ℕ, suc, ◌+◌, ◌*◌, ◌<◌, ◌≤◌, true, List, [], ◌∷◌, ◌++◌, length, map, All, Some, slice_get, refl, sym, ap, subst, ◌∙◌, append_assoc, arith, length-append}
 use Rattle.std.proofs.lemmas.Bool.{lt-ltb}
-use Rattle.std.proofs.lemmas.Bool.Decides.{nat_tests}
 use Rattle.std.proofs.lemmas.List.Elements.{All-cons, All-nil}
 use Rattle.std.specs.Int.{w64}
 use Rattle.std.specs.Prelude.{FitsSigned}
 use Rattle.vcp_base.specs.declared.code.Profile.{Profile}
 use Rattle.vcp_base.specs.Code.{admits}
-use Rattle.vcp_base.specs.Limits.{seeds, most_step, most_names, most_cells, most_turn_nodes, most_operations}
+use Rattle.vcp_base.specs.Limits.{most_names, most_cells, most_operations}
 use Rattle.op_graph.specs.declared.op.Op.{Op}
 use Rattle.op_graph.specs.declared.op.Cell.{Cell}
 use Rattle.op_graph.specs.declared.op.Loaded.{Loaded}
 use Rattle.op_graph.specs.Lists.{Lists, cells, joined}
-use Rattle.op_graph.specs.Rules.{Each, LoadFits, StoreFits, LoadedBefore, IsGraph}
-use Rattle.op_graph.specs.Rules.{scope, Scope, Operates, PlaceFits, Admitted}
-use Rattle.image_file.specs.Image.{Parts, parts_of, said, load_of, store_of, cell_piece, image_piece, head_piece, counts_piece}
+use Rattle.op_graph.specs.Rules.{Each, LoadFits, StoreFits, LoadedBefore}
+use Rattle.op_graph.specs.Rules.{scope, Operates, PlaceFits, Admitted}
+use Rattle.image_fields.specs.Entries.{cell_piece}
+use Rattle.image_file.specs.Image.{parts_of, said, load_of, store_of, image_piece, head_piece, counts_piece}
 use Rattle.image_file.specs.Graphs.{HasImage, lists_of}
 use Rattle.image_file.proofs.FittingLists.{names_fit, inputs_fit, outputs_fit, turns_fit, le_true}
 use Rattle.image_file.proofs.FittingOperations.{operations_fit, Sized}

@@ -1,5 +1,5 @@
 -- What keeps the rules of a graph has an image: names, inputs, outputs and turn nodes.
-use Rattle.std.proofs.Common.{◌≡◌, ℕ, ◌<◌, ◌≤◌, ◌^◌, ◌&&◌, not, nat_lt, nat_le, Bool, true, false, List, [], ◌∷◌, length, All, refl, ap, arith}
+use Rattle.std.proofs.Common.{◌≡◌, ℕ, ◌≤◌, not, nat_le, true, List, [], ◌∷◌, length, All, refl, ap, arith}
 use Rattle.std.proofs.lemmas.Bool.{lt-ltb}
 use Rattle.std.proofs.lemmas.Bool.Decides.{nat_tests}
 use Rattle.std.specs.Int.{w64}
@@ -13,7 +13,7 @@ use Rattle.vcp_base.specs.Names.{NameFits, is_name}
 use Rattle.vcp_base.specs.Limits.{most_names, most_turn_nodes, most_operations}
 use Rattle.op_graph.specs.Rules.{Each, InputFits, OutputFits, TurnNodeFits}
 use Rattle.image_file.proofs.Entries.{each_more}
-use Rattle.image_file.specs.Image.{name_by, name_piece, input_piece, output_piece, turn_piece}
+use Rattle.image_fields.specs.Entries.{name_by, name_piece, input_piece, output_piece, turn_piece}
 use Rattle.image_file.proofs.Kept.{and, none_any, all_rises, each_with_all}
 
 pub le_true : (a b : ℕ) → a ≤ b → nat_le a b ≡ true

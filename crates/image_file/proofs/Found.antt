@@ -1,11 +1,11 @@
 -- What the reader found.
 use Rattle.std.proofs.Common.{◌≡◌, ◌<◌, ◌∷◌, [], zero, suc, List, ℕ, Result, Ok, Err, ap, sym, subst, All, arith, ◌⊎◌, inl, inr}
 use Rattle.std.specs.Prelude.{IfOk}
-use Rattle.image_file.specs.declared.fault.Fault.{Fault}
-use Rattle.image_file.specs.declared.fault.ReadError.{ReadError}
-use Rattle.image_file.specs.declared.fault.ReadError.TheVariants as errors
+use Rattle.image_fields.specs.declared.fault.Fault.{Fault}
+use Rattle.image_fields.specs.declared.fault.ReadError.{ReadError}
+use Rattle.image_fields.specs.declared.fault.ReadError.TheVariants as errors
 use Rattle.image_file.specs.declared.whole.Whole.{Whole}
-use Rattle.image_file.specs.Pieces.{Gives, read_all, FaultOf}
+use Rattle.image_fields.specs.Pieces.{Gives, read_all, FaultOf}
 use Rattle.image_file.specs.Image.{image_piece}
 use Rattle.image_file.specs.Views.{parts}
 use Rattle.image_file.proofs.PieceLaws.{IsBytes, all_takes, all_fails}
@@ -13,11 +13,11 @@ use Rattle.image_file.proofs.Sections.{image_law}
 use Rattle.std.proofs.Common.{◌∙◌, refl, length}
 use Rattle.op_graph.specs.Lists.{Lists}
 use Rattle.signature_table.specs.Signatures.{Numbers, table_of, IsTableOf}
-use Rattle.image_file.specs.declared.fault.Fault.TheVariants as left
+use Rattle.image_fields.specs.declared.fault.Fault.TheVariants as left
 use Rattle.image_file.specs.declared.fault.ImageFault.{ImageFault}
 use Rattle.image_file.specs.declared.fault.ImageFault.TheVariants as at
-use Rattle.image_file.specs.Image.{Parts, parts_of, image_of}
-use Rattle.image_file.specs.Graphs.{lists_of, placed, Reads, OrMemory, HasImage, IsImage, FaultAt}
+use Rattle.image_file.specs.Image.{Parts, image_of}
+use Rattle.image_file.specs.Graphs.{lists_of, placed, Reads, OrMemory, HasImage, IsImage, FaultAt, OneGraph, NoFault, ImageOrFault}
 use Rattle.image_file.proofs.Kept.{fits_graph, parts_back}
 
 pub is_found : (bytes : List ℕ) (r : Result Whole ReadError) → IsBytes bytes → Gives parts r (read_all image_piece bytes) → IfOk r (λ w. image_piece.fits (parts w) × (bytes ≡ image_piece.spell (parts w)))
@@ -43,12 +43,6 @@ reads_err bytes (errors.Fault f) r fault memory told = subst (λ (x : ImageFault
 pub reads_ok : (bytes : List ℕ) (p : Parts) (g : Lists) (t : Numbers) → image_piece.fits p → bytes ≡ image_piece.spell p → g ≡ lists_of p → t ≡ table_of p.seed p.step (lists_of p) → Reads bytes (Ok (g, t))
 reads_ok bytes p g t h e eg et =
     subst (λ (x : Numbers). Reads bytes (Ok (g, x))) (sym et) (subst (λ (y : Lists). Reads bytes (Ok (y, table_of p.seed p.step (lists_of p)))) (sym eg) (fits_graph p h, e ∙ ap image_piece.spell (sym (parts_back p)), refl))
-
-abbrev pub OneGraph : Type 0
-OneGraph = (g h : Lists) (seed other_seed step other_step : ℕ) → HasImage g seed step → HasImage h other_seed other_step → image_of g seed step ≡ image_of h other_seed other_step → (g ≡ h) × (seed ≡ other_seed) × (step ≡ other_step)
-
-abbrev pub NoFault : Type 0
-NoFault = (g : Lists) (seed step : ℕ) (e : ImageFault) → HasImage g seed step → FaultAt (image_of g seed step) e → ⊥
 
 -- an image has no fault, so the answer is its graph, or memory ran out
 pub only_image : OneGraph → NoFault → (bytes : List ℕ) (r : Result (Lists × Numbers) ImageFault) → Reads bytes r → (g : Lists) (seed step : ℕ) → HasImage g seed step → bytes ≡ image_of g seed step → OrMemory r (g, table_of seed step g)
@@ -79,7 +73,7 @@ are_bytes [] all i = omega arith
 are_bytes (b ∷ bytes) all zero = all 0 b (omega arith)
 are_bytes (b ∷ bytes) all (suc i) = are_bytes bytes (λ k d lt. all (suc k) d (omega arith)) i
 
-pub either : (bytes : List ℕ) → All (λ b. b < 256) bytes → IsImage bytes ⊎ ((e : ImageFault) × FaultAt bytes e)
+pub either : ImageOrFault
 either bytes all = either_by bytes (are_bytes bytes all) (read_all image_piece bytes) refl
 
 pub reads_table : (bytes : List ℕ) (r : Result (Lists × Numbers) ImageFault) → Reads bytes r → IfOk r (λ x. IsTableOf x.1 x.0)

@@ -1,15 +1,14 @@
 -- What was read keeps the rules of a graph, and what keeps them is read.
-use Rattle.std.proofs.Common.{◌≡◌, ℕ, zero, suc, ◌+◌, ◌-◌, ◌*◌, ◌<◌, ◌≤◌, ◌==◌, ◌&&◌, ◌||◌, not, nat_lt, nat_le, Bool, true, false, List, [], ◌∷◌, ◌++◌, length, map, slice_get, slice_index_or, All, Option, Some, None, bytes_eq, refl, sym, ap, subst, ◌∙◌, append_assoc, length-append, arith}
+use Rattle.std.proofs.Common.{◌≡◌, ℕ, zero, suc, ◌-◌, ◌<◌, ◌≤◌, ◌&&◌, ◌||◌, not, nat_lt, Bool, true, false, List, [], ◌∷◌, ◌++◌, length, map, slice_get, All, Option, Some, None, bytes_eq, refl, sym, ap, subst, ◌∙◌, append_assoc, arith}
 use Rattle.std.specs.List.{list_any}
 use Rattle.std.specs.Prelude.{FitsSigned}
 use Rattle.std.specs.Int.{w64}
 use Rattle.std.proofs.lemmas.Bool.{leb-true, ltb-true, lt-ltb}
-use Rattle.std.proofs.lemmas.Bool.Decides.{nat_tests}
-use Rattle.std.proofs.lemmas.List.{append-nil, length-map, map-append, length_push}
+use Rattle.std.proofs.lemmas.List.{length-map, map-append, length_push}
 use Rattle.std.proofs.lemmas.List.Elements.{All-cons, All-nil}
 use Rattle.std.proofs.lemmas.Slice.Eq.{bytes_eq-Decides}
 use Rattle.vcp_base.specs.declared.code.Profile.{Profile}
-use Rattle.vcp_base.specs.Names.{SameName, NameFits, is_name}
+use Rattle.vcp_base.specs.Names.{SameName, NameFits}
 use Rattle.vcp_base.specs.Code.{admits}
 use Rattle.op_graph.specs.declared.op.Op.{Op}
 use Rattle.op_graph.specs.declared.op.Cell.{Cell}
@@ -17,10 +16,11 @@ use Rattle.op_graph.specs.declared.op.Loaded.{Loaded}
 use Rattle.op_graph.specs.declared.op.Var.{Var}
 use Rattle.op_graph.specs.declared.op.Outlet.{Outlet}
 use Rattle.op_graph.specs.declared.op.TurnNode.{TurnNode}
-use Rattle.op_graph.specs.Lists.{Lists, cells, joined}
-use Rattle.op_graph.specs.Rules.{Each, IsGraph, IsPart, InputFits, OutputFits, LoadFits, StoreFits, TurnNodeFits, OpFits, Operates, LoadedBefore, Admitted, PlaceFits}
+use Rattle.op_graph.specs.Lists.{joined}
+use Rattle.op_graph.specs.Rules.{Each, IsPart, InputFits, OutputFits, LoadFits, StoreFits, TurnNodeFits, Operates, LoadedBefore, Admitted, PlaceFits}
 use Rattle.image_file.proofs.Entries.{each_more, Under, under_all, get_last}
-use Rattle.image_file.specs.Image.{lower, above, number_of, rises, Parts, load_of, store_of, Said, said, image_piece, head_piece, counts_piece, name_by, name_piece, input_piece, output_piece, cell_piece, turn_piece, op_by, op_piece, parts_of}
+use Rattle.image_fields.specs.Entries.{lower, above, number_of, rises, name_by, name_piece, input_piece, output_piece, cell_piece, turn_piece}
+use Rattle.image_file.specs.Image.{Parts, load_of, store_of, Said, said, image_piece, head_piece, counts_piece, op_by, op_piece, parts_of}
 use Rattle.image_file.specs.Graphs.{lists_of, HasImage}
 
 pub both : (a b : Bool) → (a && b) ≡ true → (a ≡ true) × (b ≡ true)

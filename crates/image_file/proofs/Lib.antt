@@ -3,7 +3,6 @@ pub mod Entries
 pub mod Sections
 pub mod Places
 pub mod Loop
-pub mod Keys
 pub mod Kept
 pub mod Found
 pub mod Worked

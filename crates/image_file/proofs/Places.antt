@@ -1,5 +1,5 @@
 -- Places: two that agree in each part are one.
-use Rattle.std.proofs.Common.{◌≡◌, Option, refl, ap, ◌∙◌}
+use Rattle.std.proofs.Common.{◌≡◌, Option, ap, ◌∙◌}
 use Rattle.op_graph.specs.Rules.{Entry, Place}
 
 pub place_is : (a a' b b' c c' d d' : Option Entry) → a ≡ a' → b ≡ b' → c ≡ c' → d ≡ d'

@@ -1,15 +1,15 @@
 -- Graphs and tables, as an image says them.
-use Rattle.std.specs.Prelude.{◌≡◌, ℕ, ◌-◌, ◌<◌, ◌≤◌, ◌^◌, List, length, map, Result, Ok, Err}
+use Rattle.std.specs.Prelude.{◌≡◌, ℕ, ◌-◌, ◌<◌, ◌≤◌, List, length, map, All, Result, Ok, Err, ◌⊎◌}
 use Rattle.vcp_base.specs.Limits.{seeds, most_step}
 use Rattle.op_graph.specs.Lists.{Lists}
 use Rattle.op_graph.specs.Rules.{IsGraph}
 use Rattle.signature_table.specs.Signatures.{Numbers, table_of}
-use Rattle.image_file.specs.declared.fault.Fault.{Fault}
-use Rattle.image_file.specs.declared.fault.Fault.TheVariants as left
+use Rattle.image_fields.specs.declared.fault.Fault.{Fault}
+use Rattle.image_fields.specs.declared.fault.Fault.TheVariants as left
 use Rattle.image_file.specs.declared.fault.ImageFault.{ImageFault}
 use Rattle.image_file.specs.declared.fault.ImageFault.TheVariants as at
-use Rattle.image_file.specs.Pieces.{FaultOf}
-use Rattle.image_file.specs.Image.{Parts, load_of, store_of, image_piece, image_of, parts_of}
+use Rattle.image_fields.specs.Pieces.{FaultOf}
+use Rattle.image_file.specs.Image.{Parts, load_of, store_of, image_piece, image_of}
 
 -- the graph that the parts say
 abbrev pub lists_of : Parts → Lists
@@ -59,3 +59,21 @@ abbrev pub Reads : List ℕ → Result (Lists × Numbers) ImageFault → Type 0
 Reads bytes (Ok x) = HasImage x.0 x.1.seed x.1.step × (bytes ≡ image_of x.0 x.1.seed x.1.step) × (x.1 ≡ table_of x.1.seed x.1.step x.0)
 Reads bytes (Err at.Memory) = Unit {0}
 Reads bytes (Err e) = FaultAt bytes e
+
+-- an image is of one graph, seed and step
+abbrev pub OneGraph : Type 0
+OneGraph =
+    (g h : Lists) (seed other_seed step other_step : ℕ) → HasImage g seed step → HasImage h other_seed other_step
+    → image_of g seed step ≡ image_of h other_seed other_step → (g ≡ h) × (seed ≡ other_seed) × (step ≡ other_step)
+
+-- bytes have one fault at most
+abbrev pub OneFault : Type 0
+OneFault = (bytes : List ℕ) (e f : ImageFault) → FaultAt bytes e → FaultAt bytes f → e ≡ f
+
+-- an image has no fault
+abbrev pub NoFault : Type 0
+NoFault = (g : Lists) (seed step : ℕ) (e : ImageFault) → HasImage g seed step → FaultAt (image_of g seed step) e → ⊥
+
+-- bytes that are no image have a fault
+abbrev pub ImageOrFault : Type 0
+ImageOrFault = (bytes : List ℕ) → All (λ b. b < 256) bytes → IsImage bytes ⊎ ((e : ImageFault) × FaultAt bytes e)

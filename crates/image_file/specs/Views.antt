@@ -7,8 +7,13 @@ use Rattle.image_file.specs.declared.rules.Entry.{Entry}
 use Rattle.image_file.specs.declared.rules.Place.{Place}
 use Rattle.image_file.specs.declared.walk.Walk.{Walk}
 use Rattle.op_graph.specs.Walk.{passed}
+use Rattle.op_graph.specs.declared.op.Var.{Var}
+use Rattle.op_graph.specs.declared.op.Outlet.{Outlet}
+use Rattle.op_graph.specs.declared.op.Cell.{Cell}
+use Rattle.op_graph.specs.declared.op.Op.{Op}
+use Rattle.image_fields.specs.Pieces.{Piece, listed}
 use Rattle.image_file.specs.declared.whole.Whole.{Whole}
-use Rattle.image_file.specs.Image.{Head, Said, Parts}
+use Rattle.image_file.specs.Image.{Head, Said, said, op_piece, Parts}
 
 abbrev pub head : Counts → Head
 head c = record {
@@ -65,3 +70,7 @@ pub record IsAt (s : Lists) (i : ℕ) (w : Walk) : Type 0 where
   pub out : w.out ≡ passed (λ o. o.op) i s.outputs
   pub load : w.load ≡ passed (λ l. l.load) i s.loads
   pub store : w.store ≡ passed (λ n. n) i s.stores
+
+-- the operations, after what the head, the inputs, the outputs and the cells say
+abbrev pub operations_piece : Counts → List Var → List Outlet → List Cell → Piece (List Op)
+operations_piece c inputs outputs cells = listed c.operations (op_piece (said c.profile c.seed c.step inputs outputs cells c.turn_nodes))

@@ -1,15 +1,15 @@
 //! The head of an image.
 
-ghost use Rattle.std.specs.Prelude.{◌≡◌, ◌≤◌, ◌<◌, ◌==◌, ◌&&◌, ◌+◌, ◌*◌, ◌^◌, nat_lt, nat_le, true, Some, IfOk};
-ghost use Rattle.image_file.specs.declared.fault.Fault.TheVariants as fault;
-ghost use Rattle.image_file.specs.Pieces.{Gives, byte_field};
-ghost use Rattle.image_file.specs.Image.{number, number16, version_field, head_piece, counts_piece, IsByte};
-ghost use Rattle.image_file.specs.Codes.{version_of};
+ghost use Rattle.std.specs.Prelude.{◌≡◌, ◌≤◌, ◌==◌, ◌&&◌, ◌+◌, ◌*◌, nat_le, Some, IfOk};
+ghost use Rattle.image_fields.specs.declared.fault.Fault.TheVariants as fault;
+ghost use Rattle.image_fields.specs.Pieces.{Gives, byte_field};
+ghost use Rattle.image_fields.specs.Fields.{number, number16, version_field, IsByte};
+ghost use Rattle.image_file.specs.Image.{head_piece, counts_piece};
+ghost use Rattle.image_fields.specs.Codes.{version_of};
 ghost use Rattle.vcp_base.specs.Limits.{most_step, most_operations, most_turn_nodes};
 ghost use Rattle.image_file.specs.Views.{head as head_of};
 
-use crate::fault::{Fault, ReadError};
-use crate::fields::{at_most_here, below_here, u8_at, u16_at, u32_at};
+use image_fields::{Fault, ReadError, at_most_here, below_here, u8_at, u16_at, u32_at};
 use vcp_base::{
     MOST_CELLS, MOST_NAMES, MOST_OPERATIONS, MOST_STEP, MOST_TURN_NODES, Profile, SEEDS,
 };
@@ -51,6 +51,7 @@ fn profile_named(n: u16) -> Option<Profile>
     }
 }
 
+/// The version at the front, as the code that it stands for.
 fn version_here(bytes: &[u8]) -> Result<(Profile, &[u8]), ReadError>
     ensures { Gives (λ x. (x.0, x.1.now)) result (version_field.read bytes.now) }
 {
@@ -61,6 +62,7 @@ fn version_here(bytes: &[u8]) -> Result<(Profile, &[u8]), ReadError>
     }
 }
 
+/// The step at the front, 1 to 1000.
 fn step_here(bytes: &[u8]) -> Result<(u16, &[u8]), ReadError>
     ensures is { Gives (λ x. (x.0, x.1.now)) result ((number16 (λ n. nat_le 1 n && nat_le n most_step) (λ left n. fault.Field left)).read bytes.now) }
     ensures from { IfOk result (λ x. 1 ≤ x.0) }
@@ -74,6 +76,7 @@ fn step_here(bytes: &[u8]) -> Result<(u16, &[u8]), ReadError>
     }
 }
 
+/// The number of operations at the front, at least that of those that inputs, outputs and cells need.
 fn operations_here(low: u32, bytes: &[u8]) -> Result<(u32, &[u8]), ReadError>
     ensures is { Gives (λ x. (x.0, x.1.now)) result ((number (λ n. nat_le low n && nat_le n most_operations)).read bytes.now) }
     ensures below { IfOk result (λ x. x.0 ≤ most_operations) }

@@ -1,24 +1,24 @@
 //! Bytes, read as a graph and its table.
 
-ghost use Rattle.std.specs.Prelude.{◌≡◌, ◌≤◌, ◌<◌, length, ℕ, Err, IfOk, OnErr};
+ghost use Rattle.std.specs.Prelude.{◌≡◌, ◌≤◌, length, ℕ, Err, IfOk, OnErr};
 ghost use Rattle.std.specs.Result.{IsErrOf};
 ghost use Rattle.vcp_base.specs.Limits.{most_image_bytes};
 ghost use Rattle.op_graph.specs.Lists.{Lists};
-ghost use Rattle.op_graph.specs.Rules.{IsGraph};
 ghost use Rattle.signature_table.specs.Signatures.{IsTableOf, table_of};
-ghost use Rattle.image_file.specs.declared.fault.ReadError.TheVariants as errors;
-ghost use Rattle.image_file.specs.Pieces.{FaultOf};
+ghost use Rattle.image_fields.specs.declared.fault.ReadError.TheVariants as errors;
 ghost use Rattle.image_file.specs.Image.{image_piece, image_of};
 ghost use Rattle.image_file.specs.Views.{parts};
-ghost use Rattle.image_file.specs.Graphs.{lists_of, HasImage, placed as placed_of, FaultAt, Reads, OrMemory};
+ghost use Rattle.image_file.specs.Graphs.{lists_of, HasImage, placed as placed_of, Reads, OrMemory};
 
-use crate::fault::{Fault, ImageFault, ReadError};
+use crate::fault::ImageFault;
 use crate::laws::images_are_told_apart;
 use crate::whole::{Whole, loads_of, read, stores_of};
+use image_fields::{Fault, ReadError};
 use op_graph::Graph;
 use signature_table::Table;
 use std::alloc::Global;
 
+/// The graph that an image says, and its table.
 fn graph_of(alloc: Global, whole: Whole) -> Result<(Graph, Table), ReadError>
     requires { image_piece.fits (parts whole) }
     ensures graph { IfOk result (λ x. x.0 ≡ lists_of (parts whole)) }
@@ -77,6 +77,7 @@ fn placed(len: usize, fault: Fault) -> ImageFault
     }
 }
 
+/// What is answered for an error, in so many bytes.
 fn told(len: usize, error: ReadError) -> ImageFault
     requires { len ≤ most_image_bytes }
     ensures memory { error ≡ errors.Memory → result ≡ ImageFault.Memory }

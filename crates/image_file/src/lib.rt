@@ -2,19 +2,17 @@
 #![tactic(auto)]
 
 mod fault;
-mod fields;
 mod head;
 mod image;
 mod laws;
 mod lists;
-mod names;
 mod operation;
 mod rules;
 mod walk;
 mod whole;
 mod writing;
 
-pub use fault::{Fault, ImageFault};
+pub use fault::ImageFault;
 pub use image::read_image;
 pub use laws::images_are_told_apart;
 pub use writing::write_image;

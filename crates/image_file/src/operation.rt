@@ -1,25 +1,28 @@
 //! The operations of an image.
 
-ghost use Rattle.std.specs.Prelude.{◌≡◌, ◌≤◌, ◌<◌, ◌==◌, ◌^◌, length, true, [], slice_get, unsigned_abs};
+ghost use Rattle.std.specs.Prelude.{◌≡◌, ◌≤◌, ◌==◌, length, unsigned_abs};
 ghost use Rattle.vcp_base.specs.Limits.{most_step, most_operations};
-ghost use Rattle.op_graph.specs.Rules.{place_of, entry_of, kind_fits as kind_fits_of, from_fits as from_fits_of, ty_fits as ty_fits_of, operand_fits as operand_fits_of, reads_as as reads_as_of, imm_fits as imm_fits_of, turn_fits as turn_fits_of};
+ghost use Rattle.op_graph.specs.Rules.{entry_of, kind_fits as kind_fits_of, from_fits as from_fits_of, ty_fits as ty_fits_of, operand_fits as operand_fits_of, reads_as as reads_as_of, imm_fits as imm_fits_of, turn_fits as turn_fits_of};
 ghost use Rattle.signature_table.specs.Signatures.{store_of as store_of_cell};
-ghost use Rattle.image_file.specs.declared.fault.Fault.TheVariants as fault;
-ghost use Rattle.image_file.specs.Pieces.{Gives, listed};
-ghost use Rattle.image_file.specs.Image.{kind_field, type_field, signed, number, corrected, operand, op_by, op_piece, correction_of};
+ghost use Rattle.image_fields.specs.declared.fault.Fault.TheVariants as fault;
+ghost use Rattle.image_fields.specs.Pieces.{Gives, listed};
+ghost use Rattle.image_fields.specs.Fields.{kind_field, type_field, signed, number, operand};
+ghost use Rattle.image_file.specs.Image.{corrected, op_by, op_piece, correction_of};
 ghost use Rattle.image_file.specs.Views.{scope_of, said_of, place as place_view, Rising};
 
-use crate::fault::{Fault, ReadError};
-use crate::fields::{any_number_here, residue_at, ty_named, u8_at, u32_at, u64_at};
 use crate::rules::{
     Place, Scope, from_fits, imm_fits, kind_fits, operand_fits, reads_as, turn_fits, ty_fits,
 };
 use crate::walk::Walk;
+use image_fields::{
+    Fault, ReadError, any_number_here, residue_at, ty_named, u8_at, u32_at, u64_at,
+};
 use op_graph::{Cell, Op};
 use signature_table::correction;
 use std::alloc::Global;
 use vcp_base::{Kind, Profile, Residue, Spot, Ty, kind_of_code};
 
+/// The kind at the front, one that the place may have.
 fn kind_here<'a>(p: &Place, bytes: &'a [u8]) -> Result<(Kind, &'a [u8]), ReadError>
     ensures { Gives (λ x. (x.0, x.1.now)) result ((kind_field (kind_fits_of (place_view p.now))).read bytes.now) }
 {
@@ -36,6 +39,7 @@ fn kind_here<'a>(p: &Place, bytes: &'a [u8]) -> Result<(Kind, &'a [u8]), ReadErr
     }
 }
 
+/// The type of the operands at the front.
 fn from_here<'a>(
     profile: Profile,
     p: &Place,
@@ -57,6 +61,7 @@ fn from_here<'a>(
     }
 }
 
+/// The type of the result at the front.
 fn ty_here(profile: Profile, kind: Kind, from: Ty, bytes: &[u8]) -> Result<(Ty, &[u8]), ReadError>
     ensures { Gives (λ x. (x.0, x.1.now)) result ((type_field profile (ty_fits_of kind from)).read bytes.now) }
 {
@@ -73,6 +78,7 @@ fn ty_here(profile: Profile, kind: Kind, from: Ty, bytes: &[u8]) -> Result<(Ty, 
     }
 }
 
+/// Operand `j` at the front, counted from 0.
 fn operand_here<'a>(
     earlier: &[Op],
     kind: Kind,
@@ -90,6 +96,7 @@ fn operand_here<'a>(
     }
 }
 
+/// The operation's own number at the front.
 fn imm_here<'a>(
     p: &Place,
     kind: Kind,
@@ -107,6 +114,7 @@ fn imm_here<'a>(
     }
 }
 
+/// The turn at the front.
 fn turn_here<'a>(
     p: &Place,
     kind: Kind,

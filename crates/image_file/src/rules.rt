@@ -1,6 +1,6 @@
 //! The tests behind the rules of operations.
 
-ghost use Rattle.std.specs.Prelude.{◌≡◌, ◌≤◌, ◌<◌, ◌^◌, ◌==◌, pos, length, slice_get};
+ghost use Rattle.std.specs.Prelude.{◌≡◌, ◌<◌, ◌==◌, pos};
 ghost use Rattle.std.specs.Ordering.{int_eq};
 ghost use Rattle.std.specs.Option.{is_some};
 ghost use Rattle.op_graph.specs.Rules.{entry_of, agree as agree_of, kind_fits as kind_fits_of, same_type as same_type_of, is_number as is_number_of, converts as converts_of, takes_type as takes_type_of, from_fits as from_fits_of, ty_fits as ty_fits_of, reads_as as reads_as_of, operand_fits as operand_fits_of, imm_fits as imm_fits_of, turn_fits as turn_fits_of};
@@ -53,6 +53,7 @@ fn entry_at(p: &Place, kind: Kind) -> Option<Entry>
     }
 }
 
+/// Whether both hold, or neither does.
 fn agree(one: bool, other: bool) -> bool
     ensures { result ≡ agree_of one other }
 {
@@ -83,6 +84,7 @@ pub(crate) fn kind_fits(p: &Place, kind: Kind) -> bool
         && agree(matches!(kind, Kind::Out), out)
 }
 
+/// Whether two types are one.
 fn same_type(one: Ty, other: Ty) -> bool
     ensures { result ≡ same_type_of one other }
 {
@@ -95,12 +97,14 @@ fn same_type(one: Ty, other: Ty) -> bool
     }
 }
 
+/// Whether a type is INT, DINT or LINT.
 fn is_number(ty: Ty) -> bool
     ensures { result ≡ is_number_of ty }
 {
     !matches!(ty, Ty::Bool)
 }
 
+/// Whether CONV goes from one type to the other.
 fn converts(from: Ty, to: Ty) -> bool
     ensures { result ≡ converts_of from to }
 {
@@ -147,6 +151,7 @@ pub(crate) fn ty_fits(kind: Kind, from: Ty, to: Ty) -> bool
     }
 }
 
+/// The type of operand `j`, counted from 0, of an operation on values of type `from`.
 fn operand_type(kind: Kind, j: u32, from: Ty) -> Ty
     ensures { result ≡ operand_type_of kind j from }
 {
@@ -186,6 +191,7 @@ pub(crate) fn operand_fits(earlier: &[Op], wanted: Option<Ty>, n: u32) -> bool
     }
 }
 
+/// Whether a value is this number.
 fn is_this(v: i64, n: usize) -> bool
     ensures { result ≡ int_eq v (pos n) }
 {

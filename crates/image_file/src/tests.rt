@@ -1,6 +1,6 @@
 //! Worked images.
 
-ghost use Rattle.std.specs.Prelude.{◌≡◌, IfOk};
+ghost use Rattle.std.specs.Prelude.{◌≡◌};
 
 mod rules;
 
@@ -36,6 +36,17 @@ const PLUS_ONE_WIDE: &[u8] = b"\
     0102020000000000000000000000000000000000000001000000040000000a000000000ccccccccccccccd \
     08020200000000000000010000000000000000000000000000000400000008000000001ccccccccccccccc \
     0402020000000200000000000000000000000000000000000000030000000c000000001ccccccccccccccc";
+
+/// The image of `y := x + 1` with LINT values.
+const PLUS_ONE_LINT: &[u8] = b"\
+    564350414e42440a0002000100000000000000020000000100000001000000000000000000000004 \
+    00000001780000000179 \
+    0000000003 \
+    000000010300000003 \
+    0003030000000000000000000000000000000000000000000000020000000b000000000000000000000000 \
+    0103030000000000000000000000000000000000000001000000040000000a000000000ccccccccccccccd \
+    08030300000000000000010000000000000000000000000000000400000008000000001ccccccccccccccc \
+    0403030000000200000000000000000000000000000000000000030000000c000000001ccccccccccccccc";
 
 fn digit(c: u8) -> Option<u8> {
     match c {
@@ -183,6 +194,9 @@ fn a_graph_has_its_image_in_both_codes(rt: HostRuntime) -> Result<(), Fail> {
     assert_eq!(rt; wanted.len(), 236);
     assert_eq!(rt; image.bytes(), &wanted[..]);
     assert!(rt; is_refused_or_written(rt.alloc(), &wanted)?);
+    let lint = bytes_of(rt.alloc(), PLUS_ONE_LINT)?;
+    assert_eq!(rt; (lint.len(), fault_of(rt.alloc(), &lint)), (236, None));
+    assert!(rt; is_refused_or_written(rt.alloc(), &lint)?);
     let empty = GraphBuilder::new(rt.alloc(), Profile::Narrow).finish();
     let table = Table::new(rt.alloc(), &empty, 0, 1)?;
     assert_eq!(rt; write_image(rt.alloc(), &empty, &table)?.len(), 40);
@@ -355,9 +369,9 @@ fn the_longest_names_are_read_in_time(rt: HostRuntime) -> Result<(), Fail> {
     Ok(())
 }
 
-/// Here too.
+/// Here too, with the time to write it.
 #[test]
-fn the_largest_graph_is_read_in_time(rt: HostRuntime) -> Result<(), Fail> {
+fn the_largest_graph_is_read_and_written_in_time(rt: HostRuntime) -> Result<(), Fail> {
     let mut graph = with_counts(
         rt.alloc(),
         b"00000001 00000000 00000000 00000000 00010000 00010000",
@@ -365,5 +379,6 @@ fn the_largest_graph_is_read_in_time(rt: HostRuntime) -> Result<(), Fail> {
     )?;
     nodes_and_constants(&mut graph, 65536)?;
     assert_eq!(rt; fault_of(rt.alloc(), &graph), None);
+    assert!(rt; is_refused_or_written(rt.alloc(), &graph)?);
     Ok(())
 }

@@ -1,6 +1,6 @@
 //! One walk over the operations of outputs and cells, beside the operations.
 
-ghost use Rattle.std.specs.Prelude.{◌≡◌, ◌==◌, ◌+◌, ℕ, cond, slice_get, length};
+ghost use Rattle.std.specs.Prelude.{◌≡◌, ◌==◌, ◌+◌, cond, slice_get};
 ghost use Rattle.op_graph.specs.Rules.{numbered, cell_entry, place_of};
 ghost use Rattle.op_graph.specs.Walk.{entry_at, store_at, is_of};
 ghost use Rattle.image_file.specs.Views.{scope_of, option_entry, place, Rising, IsAt};
@@ -16,6 +16,7 @@ pub(crate) struct Walk {
     store: usize,
 }
 
+/// Input `i`, of which operation `i` is.
 fn input_at(inputs: &[Var], i: u32) -> Option<Entry>
     ensures { option_entry result ≡ numbered i (slice_get inputs.now i) }
 {
@@ -28,6 +29,7 @@ fn input_at(inputs: &[Var], i: u32) -> Option<Entry>
     }
 }
 
+/// Output `k`, where it is of operation `i`.
 fn output_at(outputs: &[Outlet], k: usize, i: u32) -> Option<Entry>
     ensures { option_entry result ≡ entry_at (λ o. o.op) (λ o. o.ty) i k (slice_get outputs.now k) }
 {
@@ -46,6 +48,7 @@ fn output_at(outputs: &[Outlet], k: usize, i: u32) -> Option<Entry>
     }
 }
 
+/// Cell `k`, where operation `i` is its LOAD.
 fn loaded_at(loads: &[Loaded], k: usize, i: u32) -> Option<Entry>
     ensures { option_entry result ≡ entry_at (λ l. l.load) (λ l. l.ty) i k (slice_get loads.now k) }
 {
@@ -64,6 +67,7 @@ fn loaded_at(loads: &[Loaded], k: usize, i: u32) -> Option<Entry>
     }
 }
 
+/// Cell `k`, where it is there.
 fn cell_at(loads: &[Loaded], k: usize) -> Option<Entry>
     ensures { option_entry result ≡ cell_entry k (slice_get loads.now k) }
 {
@@ -76,6 +80,7 @@ fn cell_at(loads: &[Loaded], k: usize) -> Option<Entry>
     }
 }
 
+/// Cell `k`, where operation `i` is its STORE.
 fn stored_at(loads: &[Loaded], stores: &[u32], k: usize, i: u32) -> Option<Entry>
     ensures { option_entry result ≡ store_at loads.now i k (slice_get stores.now k) }
 {
@@ -95,6 +100,7 @@ fn next_output(outputs: &[Outlet], k: usize, i: u32) -> usize
     }
 }
 
+/// One LOAD further, where the walk has come to one of operation `i`.
 fn next_load(loads: &[Loaded], k: usize, i: u32) -> usize
     ensures { result ≡ cond (is_of (λ l. l.load) i (slice_get loads.now k)) (k + 1) k }
 {
@@ -104,6 +110,7 @@ fn next_load(loads: &[Loaded], k: usize, i: u32) -> usize
     }
 }
 
+/// One STORE further, where the walk has come to one of operation `i`.
 fn next_store(stores: &[u32], k: usize, i: u32) -> usize
     ensures { result ≡ cond (is_of (λ n. n) i (slice_get stores.now k)) (k + 1) k }
 {

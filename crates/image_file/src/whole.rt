@@ -1,17 +1,16 @@
 //! A whole image, read.
 
-ghost use Rattle.std.specs.Prelude.{◌≡◌, ◌≤◌, ◌<◌, ◌==◌, ◌^◌, length, map, Ok, Err, IfOk, List, ℕ};
+ghost use Rattle.std.specs.Prelude.{◌≡◌, ◌≤◌, map, Ok, Err, IfOk};
 ghost use Rattle.vcp_base.specs.Limits.{most_step, most_operations};
-ghost use Rattle.image_file.specs.Pieces.{Gives, listed, read_all, FaultOf};
-ghost use Rattle.image_file.specs.Image.{op_piece, said, load_of, store_of, image_piece, Parts};
-ghost use Rattle.image_file.specs.Views.{parts, Rising};
+ghost use Rattle.image_fields.specs.Pieces.{Gives, read_all, FaultOf};
+ghost use Rattle.image_file.specs.Image.{load_of, store_of, image_piece};
+ghost use Rattle.image_file.specs.Views.{parts, operations_piece, Rising};
 
-use crate::fault::{Fault, ReadError};
 use crate::head::{Counts, head_here};
-use crate::lists::{cells_of, inputs_of, outputs_of, turns_of};
-use crate::names::names_of;
+use crate::lists::{cells_of, inputs_of, names_of, outputs_of, turns_of};
 use crate::operation::operations_of;
 use crate::rules::Scope;
+use image_fields::{Fault, ReadError};
 use op_graph::{Cell, Loaded, Op, Outlet, TurnNode, Var};
 use std::alloc::Global;
 use vcp_base::{Profile, Text};
@@ -30,6 +29,7 @@ pub(crate) struct Whole {
     pub(crate) operations: Vec<Op>,
 }
 
+/// The cells' LOADs.
 pub(crate) fn loads_of(alloc: Global, cells: &[Cell]) -> Result<Vec<Loaded>, ReadError>
     ensures { Gives (λ v. v.items) result (Ok (map load_of cells.now)) }
 {
@@ -45,6 +45,7 @@ pub(crate) fn loads_of(alloc: Global, cells: &[Cell]) -> Result<Vec<Loaded>, Rea
     Ok(loads)
 }
 
+/// The numbers of the cells' STOREs.
 pub(crate) fn stores_of(alloc: Global, cells: &[Cell]) -> Result<Vec<u32>, ReadError>
     ensures { Gives (λ v. v.items) result (Ok (map store_of cells.now)) }
 {
@@ -55,6 +56,7 @@ pub(crate) fn stores_of(alloc: Global, cells: &[Cell]) -> Result<Vec<u32>, ReadE
     Ok(stores)
 }
 
+/// The operations, after what an image says before them.
 fn operations_after<'a>(
     alloc: Global,
     counts: &Counts,
@@ -66,7 +68,7 @@ fn operations_after<'a>(
     requires step { counts.now.step ≤ most_step }
     requires few { counts.now.operations ≤ most_operations }
     requires rising { Rising (record { inputs = inputs.now; outputs = outputs.now; loads = map load_of cells.now; stores = map store_of cells.now }) }
-    ensures { Gives (λ x. (x.0.items, x.1.now)) result ((listed counts.now.operations (op_piece (said counts.now.profile counts.now.seed counts.now.step inputs.now outputs.now cells.now counts.now.turn_nodes))).read bytes.now) }
+    ensures { Gives (λ x. (x.0.items, x.1.now)) result ((operations_piece counts.now inputs.now outputs.now cells.now).read bytes.now) }
 {
     let loads = loads_of(alloc, cells)?;
     let stores = stores_of(alloc, cells)?;
@@ -126,6 +128,7 @@ fn whole_of(alloc: Global, bytes: &[u8]) -> Result<(Whole, &[u8]), ReadError>
     ))
 }
 
+/// The image, after which no byte is left.
 fn all(alloc: Global, bytes: &[u8]) -> Result<Whole, ReadError>
     ensures { Gives parts result (read_all image_piece bytes.now) }
 {

@@ -1,79 +1,27 @@
 //! A graph and its table, written as bytes.
 
-ghost use Rattle.std.specs.Prelude.{◌≡◌, ◌≤◌, ◌<◌, ◌++◌, ◌∷◌, [], ℕ, List, length, slice_get, OnOk, IfOk, Some};
-ghost use Rattle.std.specs.Int.{w16, w32, w64, to_be_bytes, cast_unsigned};
+ghost use Rattle.std.specs.Prelude.{◌≡◌, ◌≤◌, ◌<◌, ◌++◌, [], ℕ, List, length, OnOk, IfOk};
 ghost use Rattle.op_graph.specs.Lists.{cells};
-ghost use Rattle.op_graph.specs.declared.op.Var.{Var as Input};
-ghost use Rattle.op_graph.specs.declared.op.Outlet.{Outlet as Output};
-ghost use Rattle.op_graph.specs.declared.op.Cell.{Cell as Held};
-ghost use Rattle.op_graph.specs.declared.op.TurnNode.{TurnNode as Node};
-ghost use Rattle.op_graph.specs.declared.op.Op.{Op as Operation};
 ghost use Rattle.op_graph.specs.Rules.{IsGraph};
 ghost use Rattle.signature_table.specs.Signatures.{IsTableOf};
 ghost use Rattle.vcp_base.specs.Code.{modulus};
 ghost use Rattle.vcp_base.specs.Limits.{most_name_bytes};
-ghost use Rattle.vcp_base.specs.Spellings.{ty_code as ty_code_of, kind_code as kind_code_of};
-ghost use Rattle.vcp_base.specs.declared.code.Profile.{Profile as Code};
-ghost use Rattle.image_file.specs.Pieces.{entries};
-ghost use Rattle.image_file.specs.Codes.{version_code, correction_width};
+ghost use Rattle.image_fields.specs.Pieces.{entries};
+ghost use Rattle.image_fields.specs.Codes.{version_code};
 ghost use Rattle.image_file.specs.Views.{head as head_view};
-ghost use Rattle.image_file.specs.Image.{image_of, image_piece, counts_piece, head_piece, head_of, parts_of, name_piece, input_piece, output_piece, cell_piece, turn_piece, op_piece, said, Said, correction_of, Head};
+ghost use Rattle.image_file.specs.Written.{AddsInput, AddsOutput, AddsCell, AddsTurn, AddsOp};
+ghost use Rattle.image_file.specs.Written.{AddsInputs, AddsOutputs, AddsCells, AddsTurns, AddsOperations};
+ghost use Rattle.image_fields.specs.Entries.{name_piece};
+ghost use Rattle.image_file.specs.Image.{image_of, counts_piece, head_piece, head_of, parts_of};
 
 use crate::head::Counts;
+use image_fields::{put_i64, put_kind, put_residue, put_ty, put_u16, put_u32};
 use op_graph::{Cell, Graph, Op, Outlet, TurnNode, Var};
 use signature_table::Table;
 use std::alloc::{AllocError, Global};
-use vcp_base::{Kind, Memory, Profile, Residue, Text, Ty, kind_code, ty_code};
+use vcp_base::{Memory, Profile, Residue, Text};
 
-fn put_ty(out: &mut Vec<u8>, ty: Ty) -> Result<(), AllocError>
-    ensures { OnOk result (out.new.items ≡ out.old.items ++ (ty_code_of ty ∷ [])) }
-{
-    out.extend_from_slice(&[ty_code(ty)])
-}
-
-fn put_kind(out: &mut Vec<u8>, kind: Kind) -> Result<(), AllocError>
-    ensures { OnOk result (out.new.items ≡ out.old.items ++ (kind_code_of kind ∷ [])) }
-{
-    out.extend_from_slice(&[kind_code(kind)])
-}
-
-fn put_u16(out: &mut Vec<u8>, n: u16) -> Result<(), AllocError>
-    ensures { OnOk result (out.new.items ≡ out.old.items ++ to_be_bytes w16 n) }
-{
-    out.extend_from_slice(&n.to_be_bytes())
-}
-
-fn put_u32(out: &mut Vec<u8>, n: u32) -> Result<(), AllocError>
-    ensures { OnOk result (out.new.items ≡ out.old.items ++ to_be_bytes w32 n) }
-{
-    out.extend_from_slice(&n.to_be_bytes())
-}
-
-fn put_i64(out: &mut Vec<u8>, v: i64) -> Result<(), AllocError>
-    ensures { OnOk result (out.new.items ≡ out.old.items ++ to_be_bytes w64 (cast_unsigned w64 v)) }
-{
-    let n = v.cast_unsigned();
-    out.extend_from_slice(&n.to_be_bytes())
-}
-
-fn put_u64(out: &mut Vec<u8>, n: u64) -> Result<(), AllocError>
-    ensures { OnOk result (out.new.items ≡ out.old.items ++ to_be_bytes w64 n) }
-{
-    out.extend_from_slice(&n.to_be_bytes())
-}
-
-/// A residue, in four bytes in the narrow code and in eight in the wide one.
-fn put_residue(out: &mut Vec<u8>, profile: Profile, n: Residue) -> Result<(), AllocError>
-    requires { n < modulus profile }
-    ensures { OnOk result (out.new.items ≡ out.old.items ++ to_be_bytes (correction_width profile) n) }
-{
-    match profile {
-        Profile::Narrow => put_u32(out, n as u32),
-        Profile::Wide => put_u64(out, n),
-    }
-}
-
-/// The version of the code.
+/// The version of a code's images.
 fn version(profile: Profile) -> u16
     ensures { result ≡ version_code profile }
 {
@@ -83,16 +31,18 @@ fn version(profile: Profile) -> u16
     }
 }
 
+/// Appends an input.
 fn put_input(out: &mut Vec<u8>, v: Var) -> Result<(), AllocError>
-    ensures { OnOk result ((p : Code) (names : ℕ) (earlier : List Input) → out.new.items ≡ out.old.items ++ (input_piece p names earlier).spell v) }
+    ensures { OnOk result (AddsInput out.old.items out.new.items v) }
 {
     put_u32(out, v.name)?;
     put_ty(out, v.ty)?;
     Ok(())
 }
 
+/// Appends an output.
 fn put_output(out: &mut Vec<u8>, v: Outlet) -> Result<(), AllocError>
-    ensures { OnOk result ((p : Code) (names operations : ℕ) (earlier : List Output) → out.new.items ≡ out.old.items ++ (output_piece p names operations earlier).spell v) }
+    ensures { OnOk result (AddsOutput out.old.items out.new.items v) }
 {
     put_u32(out, v.name)?;
     put_ty(out, v.ty)?;
@@ -100,8 +50,9 @@ fn put_output(out: &mut Vec<u8>, v: Outlet) -> Result<(), AllocError>
     Ok(())
 }
 
+/// Appends a cell.
 fn put_cell(out: &mut Vec<u8>, v: Cell) -> Result<(), AllocError>
-    ensures { OnOk result ((p : Code) (names operations : ℕ) (earlier : List Held) → out.new.items ≡ out.old.items ++ (cell_piece p names operations earlier).spell v) }
+    ensures { OnOk result (AddsCell out.old.items out.new.items v) }
 {
     put_u32(out, v.name)?;
     put_ty(out, v.ty)?;
@@ -111,8 +62,9 @@ fn put_cell(out: &mut Vec<u8>, v: Cell) -> Result<(), AllocError>
     Ok(())
 }
 
+/// Appends a turn node.
 fn put_turn(out: &mut Vec<u8>, v: TurnNode) -> Result<(), AllocError>
-    ensures { OnOk result ((names : ℕ) (earlier : List Node) → out.new.items ≡ out.old.items ++ (turn_piece names earlier).spell v) }
+    ensures { OnOk result (AddsTurn out.old.items out.new.items v) }
 {
     put_u32(out, v.parent)?;
     put_u32(out, v.name)?;
@@ -120,9 +72,10 @@ fn put_turn(out: &mut Vec<u8>, v: TurnNode) -> Result<(), AllocError>
     Ok(())
 }
 
+/// Appends an operation with its correction.
 fn put_op(out: &mut Vec<u8>, profile: Profile, v: Op, correction: Residue) -> Result<(), AllocError>
     requires { correction < modulus profile }
-    ensures { OnOk result ((s : Said) (earlier : List Operation) → profile ≡ s.profile → correction ≡ correction_of s earlier v → out.new.items ≡ out.old.items ++ (op_piece s earlier).spell v) }
+    ensures { OnOk result (AddsOp out.old.items out.new.items profile v correction) }
 {
     put_kind(out, v.kind)?;
     put_ty(out, v.from)?;
@@ -138,8 +91,9 @@ fn put_op(out: &mut Vec<u8>, profile: Profile, v: Op, correction: Residue) -> Re
     Ok(())
 }
 
+/// Appends the inputs.
 fn put_inputs(out: &mut Vec<u8>, graph: &Graph) -> Result<(), AllocError>
-    ensures { OnOk result ((p : Code) (names : ℕ) → out.new.items ≡ out.old.items ++ entries (λ b. (input_piece p names b).spell) [] graph.now.inputs) }
+    ensures { OnOk result (AddsInputs out.old.items out.new.items graph.now.inputs) }
 {
     'entries: for i in 0..graph.inputs() {
         put_input(out, graph.input(i))?;
@@ -147,8 +101,9 @@ fn put_inputs(out: &mut Vec<u8>, graph: &Graph) -> Result<(), AllocError>
     Ok(())
 }
 
+/// Appends the outputs.
 fn put_outputs(out: &mut Vec<u8>, graph: &Graph) -> Result<(), AllocError>
-    ensures { OnOk result ((p : Code) (names operations : ℕ) → out.new.items ≡ out.old.items ++ entries (λ b. (output_piece p names operations b).spell) [] graph.now.outputs) }
+    ensures { OnOk result (AddsOutputs out.old.items out.new.items graph.now.outputs) }
 {
     'entries: for i in 0..graph.outputs() {
         put_output(out, graph.output(i))?;
@@ -156,8 +111,9 @@ fn put_outputs(out: &mut Vec<u8>, graph: &Graph) -> Result<(), AllocError>
     Ok(())
 }
 
+/// Appends the cells.
 fn put_cells(out: &mut Vec<u8>, graph: &Graph) -> Result<(), AllocError>
-    ensures { OnOk result ((p : Code) (names operations : ℕ) → out.new.items ≡ out.old.items ++ entries (λ b. (cell_piece p names operations b).spell) [] (cells graph.now)) }
+    ensures { OnOk result (AddsCells out.old.items out.new.items (cells graph.now)) }
 {
     'entries: for i in 0..graph.cells() {
         put_cell(out, graph.cell(i))?;
@@ -165,8 +121,9 @@ fn put_cells(out: &mut Vec<u8>, graph: &Graph) -> Result<(), AllocError>
     Ok(())
 }
 
+/// Appends the turn nodes.
 fn put_turns(out: &mut Vec<u8>, graph: &Graph) -> Result<(), AllocError>
-    ensures { OnOk result ((names : ℕ) → out.new.items ≡ out.old.items ++ entries (λ b. (turn_piece names b).spell) [] graph.now.turn_nodes) }
+    ensures { OnOk result (AddsTurns out.old.items out.new.items graph.now.turn_nodes) }
 {
     'entries: for i in 0..graph.turn_nodes() {
         put_turn(out, graph.turn_node(i + 1))?;
@@ -174,6 +131,7 @@ fn put_turns(out: &mut Vec<u8>, graph: &Graph) -> Result<(), AllocError>
     Ok(())
 }
 
+/// Appends the version and the numbers in front.
 fn put_counts(out: &mut Vec<u8>, v: Counts) -> Result<(), AllocError>
     ensures { OnOk result (out.new.items ≡ out.old.items ++ counts_piece.spell (head_view v)) }
 {
@@ -189,6 +147,7 @@ fn put_counts(out: &mut Vec<u8>, v: Counts) -> Result<(), AllocError>
     Ok(())
 }
 
+/// Appends the head.
 fn put_head(out: &mut Vec<u8>, v: Counts) -> Result<(), AllocError>
     ensures { OnOk result (out.new.items ≡ out.old.items ++ head_piece.spell (head_view v)) }
 {
@@ -197,6 +156,7 @@ fn put_head(out: &mut Vec<u8>, v: Counts) -> Result<(), AllocError>
     Ok(())
 }
 
+/// Appends a name with its length.
 fn put_name(out: &mut Vec<u8>, name: &Text) -> Result<(), AllocError>
     requires { length name.now ≤ most_name_bytes }
     ensures { OnOk result ((earlier : List (List ℕ)) → out.new.items ≡ out.old.items ++ (name_piece earlier).spell name.now) }
@@ -206,6 +166,7 @@ fn put_name(out: &mut Vec<u8>, name: &Text) -> Result<(), AllocError>
     Ok(())
 }
 
+/// Appends the names.
 fn put_names(out: &mut Vec<u8>, graph: &Graph) -> Result<(), AllocError>
     requires { IsGraph graph.now }
     ensures { OnOk result (out.new.items ≡ out.old.items ++ entries (λ b. (name_piece b).spell) [] graph.now.names) }
@@ -216,9 +177,10 @@ fn put_names(out: &mut Vec<u8>, graph: &Graph) -> Result<(), AllocError>
     Ok(())
 }
 
+/// Appends the operations.
 fn put_operations(out: &mut Vec<u8>, graph: &Graph, table: &Table) -> Result<(), AllocError>
     requires { IsTableOf table.now graph.now }
-    ensures { OnOk result ((ins : List Input) (outs : List Output) (n : ℕ) → out.new.items ≡ out.old.items ++ entries (λ b. (op_piece (said graph.now.profile table.now.seed table.now.step ins outs (cells graph.now) n) b).spell) [] graph.now.operations) }
+    ensures { OnOk result (AddsOperations out.old.items out.new.items graph.now table.now.seed table.now.step) }
 {
     'entries: for i in 0..graph.len() {
         put_op(
@@ -249,7 +211,8 @@ fn counts_of(graph: &Graph, table: &Table) -> Counts
     }
 }
 
-/// The image of a graph, whose table this is.
+/// The image of a graph with the seed and the step of its table, in version 1 for the narrow code and 2 for
+/// the wide one. Want of memory is the only refusal.
 pub fn write_image(alloc: Global, graph: &Graph, table: &Table) -> Result<Text, Memory>
     requires { IsTableOf table.now graph.now }
     ensures { IfOk result (λ t. t ≡ image_of graph.now table.now.seed table.now.step) }

@@ -1,9 +1,9 @@
-use Rattle.std.proofs.Common.{Ok, ◌≡◌, ◌++◌, ◌∷◌, [], subst, arith, length, ℕ, List, ◌≤◌, ◌+◌, map, sym, ap, ◌∙◌}
+use Rattle.std.proofs.Common.{Ok, ◌≡◌, [], subst, arith, List}
 use Rattle.std.proofs.lemmas.Result.{err_from_is_err_and}
-use Rattle.std.proofs.lemmas.List.{length_push, map-append}
+use Rattle.std.proofs.lemmas.List.{length_push}
 use Rattle.op_graph.specs.declared.op.Cell.{Cell}
-use Rattle.image_file.specs.Pieces.{many, Fails}
-use Rattle.image_file.specs.Image.{cell_piece, lower, said}
+use Rattle.image_fields.specs.Pieces.{many, Fails}
+use Rattle.image_fields.specs.Entries.{cell_piece}
 use Rattle.image_file.proofs.Loop.{goes_on, ends, is_done}
 use Rattle.image_file.proofs.PieceLaws.{listed_law}
 use Rattle.image_file.proofs.Sections.{cell_law}

@@ -1,9 +1,9 @@
-use Rattle.std.proofs.Common.{Ok, ◌≡◌, ◌++◌, ◌∷◌, [], subst, arith, length, ℕ, List, ◌+◌, sym, ap, ◌∙◌}
+use Rattle.std.proofs.Common.{Ok, ◌≡◌, [], subst, arith, length, List, sym, ap, ◌∙◌}
 use Rattle.std.proofs.lemmas.Result.{err_from_is_err_and}
 use Rattle.std.proofs.lemmas.List.{length_push}
 use Rattle.op_graph.specs.declared.op.Op.{Op}
 use Rattle.op_graph.specs.Rules.{Place, place_of}
-use Rattle.image_file.specs.Pieces.{many, Fails}
+use Rattle.image_fields.specs.Pieces.{many, Fails}
 use Rattle.image_file.specs.Image.{Said, op_by, op_piece}
 use Rattle.image_file.specs.Views.{said_of, place}
 use Rattle.image_file.proofs.Loop.{goes_on, ends, is_done}

@@ -1,9 +1,8 @@
-use Rattle.std.proofs.Common.{◌≡◌, ◌++◌, ◌∷◌, [], List, ℕ, length, ap, ◌∙◌, arith, rules, sym, take, slice_get, Some}
-use Rattle.std.specs.Int.{w16, w32, w64, to_be_bytes, cast_unsigned}
-use Rattle.image_file.specs.Pieces.{entries}
-use Rattle.image_file.specs.Image.{name_by, name_piece, head_piece, counts_piece, op_piece, Said, correction_of}
-use Rattle.image_file.specs.Codes.{version_code}
-use Rattle.image_file.proofs.Appended.{joined, ended, next_entry}
+use Rattle.std.proofs.Common.{◌++◌, [], ap, ◌∙◌}
+use Rattle.std.specs.Int.{w16, w32, to_be_bytes}
+use Rattle.image_file.specs.Image.{counts_piece}
+use Rattle.image_fields.specs.Codes.{version_code}
+use Rattle.image_file.proofs.Appended.{joined, ended}
 use Rattle.image_file.proofs.writing.put_counts.Goals as goal
 
 pub returns : goal.returns

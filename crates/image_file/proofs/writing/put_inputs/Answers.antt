@@ -1,7 +1,5 @@
-use Rattle.std.proofs.Common.{◌≡◌, ◌++◌, [], take, ℕ, length, List}
-use Rattle.op_graph.specs.Lists.{cells}
-use Rattle.image_file.specs.Pieces.{entries}
-use Rattle.image_file.specs.Image.{input_piece}
+use Rattle.std.proofs.Common.{take}
+use Rattle.image_fields.specs.Entries.{input_piece}
 use Rattle.image_file.proofs.Appended.{next_entry}
 use Rattle.image_file.proofs.writing.put_inputs.Goals as goal
 

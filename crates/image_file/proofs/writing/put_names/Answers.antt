@@ -1,8 +1,6 @@
-use Rattle.std.proofs.Common.{◌≡◌, ◌++◌, ◌∷◌, [], List, ℕ, length, ap, ◌∙◌, arith, rules, sym, take, slice_get, Some}
-use Rattle.std.specs.Int.{w16, w32, w64, to_be_bytes, cast_unsigned}
-use Rattle.image_file.specs.Pieces.{entries}
-use Rattle.image_file.specs.Image.{name_by, name_piece, head_piece, counts_piece, op_piece, Said, correction_of}
-use Rattle.image_file.proofs.Appended.{joined, ended, next_entry}
+use Rattle.std.proofs.Common.{[], List, ℕ, length, take}
+use Rattle.image_fields.specs.Entries.{name_piece}
+use Rattle.image_file.proofs.Appended.{next_entry}
 use Rattle.vcp_base.specs.Limits.{most_name_bytes}
 use Rattle.vcp_base.specs.Names.{NameFits}
 use Rattle.image_file.proofs.Appended.{each_at}

@@ -1,13 +1,11 @@
-use Rattle.std.proofs.Common.{◌≡◌, ◌++◌, ◌+◌, ◌<◌, [], take, ℕ, length, List, slice_get, Some, ap, sym, subst, ◌∙◌, arith}
+use Rattle.std.proofs.Common.{◌≡◌, ◌++◌, ◌+◌, [], take, length, List, slice_get, ap, sym, ◌∙◌, arith}
 use Rattle.std.proofs.lemmas.List.{length-take, take_all}
 use Rattle.op_graph.specs.Lists.{cells}
 use Rattle.op_graph.specs.declared.op.Op.{Op}
-use Rattle.op_graph.specs.declared.op.Var.{Var}
-use Rattle.op_graph.specs.declared.op.Outlet.{Outlet}
 use Rattle.signature_table.specs.Signatures.{correction, store_of}
 use Rattle.std.specs.Prelude.{unsigned_abs}
-use Rattle.image_file.specs.Pieces.{entries}
-use Rattle.image_file.specs.Image.{op_piece, said, Said, correction_of}
+use Rattle.image_fields.specs.Pieces.{entries}
+use Rattle.image_file.specs.Image.{op_piece, said, Said}
 use Rattle.image_file.proofs.Appended.{next_entry, correction_at, length-corrections, some_nat}
 use Rattle.image_file.proofs.writing.put_operations.Goals as goal
 

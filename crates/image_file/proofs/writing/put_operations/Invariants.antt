@@ -1,11 +1,9 @@
-use Rattle.std.proofs.Common.{◌≡◌, ◌++◌, ◌+◌, ◌<◌, [], take, ℕ, length, List, slice_get, Some, ap, sym, subst, ◌∙◌, arith}
-use Rattle.std.proofs.lemmas.List.{length-take}
+use Rattle.std.proofs.Common.{◌≡◌, ◌++◌, [], take, ℕ, List}
 use Rattle.op_graph.specs.Lists.{cells}
-use Rattle.op_graph.specs.declared.op.Op.{Op}
 use Rattle.op_graph.specs.declared.op.Var.{Var}
 use Rattle.op_graph.specs.declared.op.Outlet.{Outlet}
-use Rattle.image_file.specs.Pieces.{entries}
-use Rattle.image_file.specs.Image.{op_piece, said, Said, correction_of}
+use Rattle.image_fields.specs.Pieces.{entries}
+use Rattle.image_file.specs.Image.{op_piece, said}
 use Rattle.image_file.proofs.writing.put_operations.Given as goal
 
 abbrev pub invariant-entries : goal.invariant-entries

@@ -1,10 +1,7 @@
-use Rattle.std.proofs.Common.{◌≡◌, ◌++◌, ◌∷◌, [], List, ℕ, length, ap, ◌∙◌, arith, rules, sym}
-use mir.Val.{SFits}
-use Rattle.std.proofs.lemmas.Int.{to_z-of_z}
-use Rattle.std.specs.Int.{w16, w32, w64, to_be_bytes, cast_unsigned}
-use Rattle.vcp_base.specs.declared.code.Profile.{Profile}
-use Rattle.vcp_base.specs.Spellings.{ty_code, kind_code}
-use Rattle.image_file.specs.Image.{input_piece, output_piece, cell_piece, turn_piece, op_piece, name_by, head_piece, counts_piece, correction_of}
+use Rattle.std.proofs.Common.{◌++◌, ◌∷◌, []}
+use Rattle.std.specs.Int.{w32, to_be_bytes}
+use Rattle.vcp_base.specs.Spellings.{ty_code}
+use Rattle.image_fields.specs.Entries.{output_piece}
 use Rattle.image_file.proofs.Appended.{joined, ended}
 use Rattle.image_file.proofs.writing.put_output.Goals as goal
 

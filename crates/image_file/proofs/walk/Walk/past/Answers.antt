@@ -1,6 +1,6 @@
-use Rattle.std.proofs.Common.{◌≡◌, ◌∙◌, ◌+◌, sym, ap, slice_get, cond}
+use Rattle.std.proofs.Common.{◌∙◌, ◌+◌, sym, ap, slice_get, cond}
 use Rattle.op_graph.specs.Rules.{Scope}
-use Rattle.op_graph.specs.Walk.{is_of, passed}
+use Rattle.op_graph.specs.Walk.{is_of}
 use Rattle.image_file.specs.Views.{scope_of}
 use Rattle.image_file.proofs.walk.Walk.past.Goals as goal
 

@@ -1,11 +1,11 @@
 -- Pieces of a format: what may stand there, how it is spelled, and which fault stands in bytes that begin with no such piece.
-use Rattle.std.specs.Prelude.{◌≡◌, ℕ, zero, suc, ◌+◌, ◌*◌, ◌^◌, ◌<◌, ◌≤◌, ◌==◌, ◌≢◌, nat_lt, ℤ, Bool, true, false, cond, List, [], ◌∷◌, ◌++◌, length, take, drop, Option, Some, None, Result, Ok, Err, ◌⊎◌}
-use Rattle.std.specs.Int.{Width, w8, w16, w32, w64, byte_len, from_be_bytes, to_be_bytes}
+use Rattle.std.specs.Prelude.{◌≡◌, ℕ, zero, suc, ◌*◌, ◌^◌, ◌<◌, ◌==◌, ◌≢◌, nat_lt, Bool, true, false, cond, List, [], ◌∷◌, ◌++◌, length, take, drop, Option, Some, None, Result, Ok, Err, ◌⊎◌}
+use Rattle.std.specs.Int.{Width, byte_len, from_be_bytes, to_be_bytes}
 use Rattle.op_graph.specs.Rules.{Each}
-use Rattle.image_file.specs.declared.fault.Fault.{Fault}
-use Rattle.image_file.specs.declared.fault.Fault.TheVariants.{Short, Rest}
-use Rattle.image_file.specs.declared.fault.ReadError.{ReadError}
-use Rattle.image_file.specs.declared.fault.ReadError.TheVariants as errors
+use Rattle.image_fields.specs.declared.fault.Fault.{Fault}
+use Rattle.image_fields.specs.declared.fault.Fault.TheVariants.{Short, Rest}
+use Rattle.image_fields.specs.declared.fault.ReadError.{ReadError}
+use Rattle.image_fields.specs.declared.fault.ReadError.TheVariants as errors
 
 infixl 10 ◌>>=◌
 abbrev pub ◌>>=◌ : {A B : Type 0} → Result A Fault → (A → Result B Fault) → Result B Fault

@@ -1,18 +1,18 @@
 //! Fields at the front of bytes.
 
-ghost use Rattle.std.specs.Prelude.{◌≡◌, ◌≤◌, ◌<◌, ◌==◌, ◌&&◌, nat_lt, nat_le, true, IfOk};
+ghost use Rattle.std.specs.Prelude.{◌≡◌, ◌≤◌, ◌<◌, ◌&&◌, nat_lt, nat_le, true, IfOk};
 ghost use Rattle.std.specs.Int.{w16, w32, w64};
 ghost use Rattle.vcp_base.specs.Types.{fits as fits_of};
 ghost use Rattle.vcp_base.specs.Code.{admits as admits_of};
-ghost use Rattle.image_file.specs.declared.fault.Fault.TheVariants as fault;
-ghost use Rattle.image_file.specs.Pieces.{Gives, byte_at, number_at};
-ghost use Rattle.image_file.specs.Codes.{type_of, correction_width};
-ghost use Rattle.image_file.specs.Image.{number, number16, signed, type_field};
+ghost use Rattle.image_fields.specs.Pieces.{Gives, byte_at, number_at};
+ghost use Rattle.image_fields.specs.Codes.{type_of, correction_width};
+ghost use Rattle.image_fields.specs.Fields.{number, signed, type_field};
 
 use crate::fault::{Fault, ReadError};
 use vcp_base::{Profile, Residue, Ty, fits, ty_of_code};
 
-pub(crate) fn u8_at(bytes: &[u8]) -> Result<(u8, &[u8]), ReadError>
+/// The byte at the front, and the bytes after it; `Short` where there is none.
+pub fn u8_at(bytes: &[u8]) -> Result<(u8, &[u8]), ReadError>
     ensures { Gives (λ x. (x.0, x.1.now)) result (byte_at bytes.now) }
 {
     match bytes {
@@ -21,7 +21,8 @@ pub(crate) fn u8_at(bytes: &[u8]) -> Result<(u8, &[u8]), ReadError>
     }
 }
 
-pub(crate) fn u16_at(bytes: &[u8]) -> Result<(u16, &[u8]), ReadError>
+/// The number of two bytes at the front, and the bytes after it; `Short` where they are fewer.
+pub fn u16_at(bytes: &[u8]) -> Result<(u16, &[u8]), ReadError>
     ensures { Gives (λ x. (x.0, x.1.now)) result (number_at w16 bytes.now) }
 {
     if bytes.len() < 2 {
@@ -32,7 +33,8 @@ pub(crate) fn u16_at(bytes: &[u8]) -> Result<(u16, &[u8]), ReadError>
     Ok((number, rest))
 }
 
-pub(crate) fn u32_at(bytes: &[u8]) -> Result<(u32, &[u8]), ReadError>
+/// The number of four bytes at the front, and the bytes after it; `Short` where they are fewer.
+pub fn u32_at(bytes: &[u8]) -> Result<(u32, &[u8]), ReadError>
     ensures { Gives (λ x. (x.0, x.1.now)) result (number_at w32 bytes.now) }
 {
     if bytes.len() < 4 {
@@ -43,8 +45,8 @@ pub(crate) fn u32_at(bytes: &[u8]) -> Result<(u32, &[u8]), ReadError>
     Ok((number, rest))
 }
 
-/// The bytes of a residue: four in the narrow code, and eight in the wide one.
-pub(crate) fn residue_at(profile: Profile, bytes: &[u8]) -> Result<(Residue, &[u8]), ReadError>
+/// The residue at the front: four bytes in the narrow code, and eight in the wide one.
+pub fn residue_at(profile: Profile, bytes: &[u8]) -> Result<(Residue, &[u8]), ReadError>
     ensures { Gives (λ x. (x.0, x.1.now)) result (number_at (correction_width profile) bytes.now) }
 {
     match profile {
@@ -56,7 +58,8 @@ pub(crate) fn residue_at(profile: Profile, bytes: &[u8]) -> Result<(Residue, &[u
     }
 }
 
-pub(crate) fn u64_at(bytes: &[u8]) -> Result<(u64, &[u8]), ReadError>
+/// The number of eight bytes at the front, and the bytes after it; `Short` where they are fewer.
+pub fn u64_at(bytes: &[u8]) -> Result<(u64, &[u8]), ReadError>
     ensures { Gives (λ x. (x.0, x.1.now)) result (number_at w64 bytes.now) }
 {
     if bytes.len() < 8 {
@@ -79,8 +82,8 @@ fn admits(profile: Profile, ty: Ty) -> bool
     }
 }
 
-/// The type with the code, where the profile has words of it.
-pub(crate) fn ty_named(profile: Profile, n: u8) -> Option<Ty>
+/// The type with the code, where the profile has words of it: LINT in the wide code alone.
+pub fn ty_named(profile: Profile, n: u8) -> Option<Ty>
     ensures { result ≡ type_of profile n }
 {
     match ty_of_code(n) {
@@ -100,8 +103,8 @@ pub(crate) fn any_ty_here(profile: Profile, bytes: &[u8]) -> Result<(Ty, &[u8]),
     }
 }
 
-/// A number below a limit.
-pub(crate) fn below_here(limit: u32, bytes: &[u8]) -> Result<(u32, &[u8]), ReadError>
+/// A number of four bytes below a limit; another one is `Field`.
+pub fn below_here(limit: u32, bytes: &[u8]) -> Result<(u32, &[u8]), ReadError>
     ensures { Gives (λ x. (x.0, x.1.now)) result ((number (λ n. nat_lt n limit)).read bytes.now) }
 {
     let (n, rest) = u32_at(bytes)?;
@@ -112,8 +115,8 @@ pub(crate) fn below_here(limit: u32, bytes: &[u8]) -> Result<(u32, &[u8]), ReadE
     }
 }
 
-/// A number up to a limit.
-pub(crate) fn at_most_here(limit: u32, bytes: &[u8]) -> Result<(u32, &[u8]), ReadError>
+/// A number of four bytes up to a limit; another one is `Field`.
+pub fn at_most_here(limit: u32, bytes: &[u8]) -> Result<(u32, &[u8]), ReadError>
     ensures is { Gives (λ x. (x.0, x.1.now)) result ((number (λ n. nat_le n limit)).read bytes.now) }
     ensures below { IfOk result (λ x. x.0 ≤ limit) }
 {
@@ -138,8 +141,8 @@ pub(crate) fn between_here(low: u32, high: u32, bytes: &[u8]) -> Result<(u32, &[
     }
 }
 
-/// Any number.
-pub(crate) fn any_number_here(bytes: &[u8]) -> Result<(u32, &[u8]), ReadError>
+/// Any number of four bytes.
+pub fn any_number_here(bytes: &[u8]) -> Result<(u32, &[u8]), ReadError>
     ensures { Gives (λ x. (x.0, x.1.now)) result ((number (λ n. true)).read bytes.now) }
 {
     u32_at(bytes)

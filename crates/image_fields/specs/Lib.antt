@@ -1,0 +1,4 @@
+pub mod Pieces
+pub mod Codes
+pub mod Fields
+pub mod Entries
