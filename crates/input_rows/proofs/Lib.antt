@@ -1,3 +1,4 @@
+pub mod Flat
 pub mod Fuel
 pub mod Headers
 pub mod Lefts

@@ -8,7 +8,8 @@ use Rattle.vcp_base.specs.Names.{is_same_name}
 use Rattle.vcp_base.specs.Types.{fits, AreIn}
 use Rattle.input_rows.specs.declared.fault.RowFault.{RowFault}
 use Rattle.input_rows.specs.declared.fault.RowFault.TheVariants as fault
-use Rattle.input_rows.specs.Cells.{trimmed, integer_of, in_type, spelled, value_of}
+use Rattle.numerals.specs.Numerals.{integer_of, in_type}
+use Rattle.input_rows.specs.Cells.{trimmed, spelled, value_of}
 use Rattle.input_rows.specs.RowsOf.{RowsLeft, type_at, values_of, values_after, placed, row_onto, row_of, row_before, no_rows, rows_from}
 
 in-type : (t : Ty) (o : Option ℤ) (v : ℤ) → option_and_then (in_type t) o ≡ Some v → fits t v ≡ true

@@ -8,7 +8,7 @@ use Rattle.input_rows.specs.declared.fault.RowFault.{RowFault}
 use Rattle.input_rows.specs.declared.fault.RowFault.TheVariants as fault
 use Rattle.input_rows.specs.Cells.{value_of}
 use Rattle.input_rows.specs.Header.{order_of}
-use Rattle.input_rows.specs.RowsOf.{RowsLeft, row_of, rows_of_records, rows_of, rows_of_cycles}
+use Rattle.input_rows.specs.RowsOf.{RowsLeft, row_of, rows_of_records, rows_of, rows_of_cycles, through}
 
 -- `true` in any case, blanks at both ends
 truth : value_of ty.Bool (codes " TrUe" ++ 9 ∷ []) ≡ Some (pos 1)
@@ -95,3 +95,20 @@ three_cycles = refl
 
 cycles_with_columns : rows_of_cycles 3 (x ∷ []) ≡ Err fault.Form
 cycles_with_columns = refl
+
+-- two rows and a refusal behind them
+abbrev two : RowsLeft
+two = record { types = ty.Dint ∷ []; rows = (pos 5 ∷ []) ∷ (pos 6 ∷ []) ∷ []; refusal = Some (fault.Cell 4 1); refused = false }
+
+through_the_first : through 0 two ≡ record two { rows = (pos 5 ∷ []) ∷ []; refusal = None }
+through_the_first = refl
+
+-- what stands behind the cycle is not looked at
+through_the_last : through 1 two ≡ record two { refusal = None }
+through_the_last = refl
+
+refused_before : through 2 two ≡ two
+refused_before = refl
+
+ended_before : through 2 (record two { refusal = None }) ≡ record two { refusal = Some fault.Cycle }
+ended_before = refl

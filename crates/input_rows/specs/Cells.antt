@@ -1,45 +1,14 @@
 -- Cells: which text spells which value of a type.
-use Rattle.std.specs.Prelude.{ℕ, ◌+◌, ◌-◌, ◌*◌, ◌==◌, Bool, ◌||◌, cond, List, [], ◌∷◌, reverse, fold, Option, Some, None, option_map, option_and_then, ℤ, pos, neg_ℤ, codes}
-use Rattle.std.specs.Char.{is_ascii_digit}
-use Rattle.std.specs.List.{list_all}
+use Rattle.std.specs.Prelude.{ℕ, ◌||◌, cond, List, reverse, Option, Some, None, option_and_then, ℤ, pos, codes}
+use Rattle.numerals.specs.Blanks.{unindented}
+use Rattle.numerals.specs.Numerals.{integer_of, in_type}
 use Rattle.vcp_base.specs.declared.ty.Ty.{Ty}
 use Rattle.vcp_base.specs.declared.ty.Ty.TheVariants as ty
 use Rattle.vcp_base.specs.Names.{is_same_name}
-use Rattle.vcp_base.specs.Types.{fits}
-
--- a space or a tab
-abbrev pub is_blank : ℕ → Bool
-is_blank c = (c == 32) || (c == 9)
-
--- a text without the blanks at its start
-abbrev pub unindented : List ℕ → List ℕ
-unindented [] = []
-unindented (c ∷ text) = cond (is_blank c) (unindented text) (c ∷ text)
 
 -- a text without the blanks at both ends
 abbrev pub trimmed : List ℕ → List ℕ
 trimmed text = reverse (unindented (reverse (unindented text)))
-
--- the number that decimal digits spell
-abbrev pub number_of : List ℕ → ℕ
-number_of digits = fold (λ n digit. n * 10 + (digit - 48)) 0 digits
-
--- one or more decimal digits
-abbrev pub natural_of : List ℕ → Option ℕ
-natural_of [] = None
-natural_of (c ∷ text) = cond (list_all is_ascii_digit (c ∷ text)) (Some (number_of (c ∷ text))) None
-
--- an optional `+` or `-`, and one or more decimal digits
-abbrev pub integer_of : List ℕ → Option ℤ
-integer_of [] = None
-integer_of (c ∷ text) =
-    cond (c == 43) (option_map pos (natural_of text))
-    (cond (c == 45) (option_map (λ n. neg_ℤ (pos n)) (natural_of text))
-    (option_map pos (natural_of (c ∷ text))))
-
--- the value, where it is one of the type
-abbrev pub in_type : Ty → ℤ → Option ℤ
-in_type t v = cond (fits t v) (Some v) None
 
 -- 1 and TRUE are 1, 0 and FALSE are 0, in any case
 abbrev pub truth_of : List ℕ → Option ℤ

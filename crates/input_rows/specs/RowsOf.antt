@@ -1,5 +1,5 @@
 -- The rows of a file, or of a number of cycles.
-use Rattle.std.specs.Prelude.{ℕ, ◌+◌, ◌==◌, nat_lt, Bool, false, cond, List, [], ◌∷◌, length, map, replicate, slice_index_or, ⊤, slice_set, Option, Some, None, Result, Ok, Err, ℤ, pos}
+use Rattle.std.specs.Prelude.{ℕ, ◌+◌, ◌==◌, nat_le, nat_lt, Bool, true, false, cond, List, [], ◌∷◌, length, map, replicate, take, slice_index_or, ⊤, slice_set, Option, Some, None, Result, Ok, Err, ℤ, pos}
 use Rattle.csv.specs.Reading.{records, default_config, strip_bom}
 use Rattle.vcp_base.specs.Limits.{most_cycles}
 use Rattle.vcp_base.specs.declared.ty.Ty.{Ty}
@@ -94,11 +94,27 @@ abbrev pub rows_of_cycles : ℕ → List Column → Result RowsLeft RowFault
 rows_of_cycles number [] = Ok (record { types = []; rows = replicate number []; refusal = None; refused = false })
 rows_of_cycles number (c ∷ columns) = Err fault.Form
 
--- a refusal of one record, and not of a header, a form or for want of memory
+-- what stands behind rows that are wanted: this where there are as many, else the refusal behind those that there are, or `Cycle` where there
+-- is none
+abbrev pub behind_wanted : Bool → Option RowFault → Option RowFault → Option RowFault
+behind_wanted true this refusal = this
+behind_wanted false this None = Some fault.Cycle
+behind_wanted false this (Some why) = Some why
+
+-- the first so many rows, and this behind them
+abbrev pub first_rows : ℕ → Option RowFault → RowsLeft → RowsLeft
+first_rows n this left = record left { rows = take n left.rows; refusal = behind_wanted (nat_le n (length left.rows)) this left.refusal }
+
+-- the rows through a cycle and no further, where cycles count from 0: behind it nothing stands
+abbrev pub through : ℕ → RowsLeft → RowsLeft
+through cycle left = first_rows (cycle + 1) None left
+
+-- a refusal of one record, or of a cycle without one, and not of a header, a form or for want of memory
 abbrev pub IsOfRecord : RowFault → Type 0
 IsOfRecord (fault.Width row) = ⊤
 IsOfRecord (fault.Cell row column) = ⊤
 IsOfRecord fault.Cycles = ⊤
+IsOfRecord fault.Cycle = ⊤
 IsOfRecord fault.Header = ⊥
 IsOfRecord fault.Form = ⊥
 IsOfRecord fault.Memory = ⊥

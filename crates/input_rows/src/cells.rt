@@ -1,30 +1,17 @@
 //! The value that a cell spells.
 
-ghost use Rattle.std.specs.Prelude.{◌≡◌, ◌≤◌, ◌^◌, Some, min, reverse, IfSome, option_map, option_and_then};
-ghost use Rattle.input_rows.specs.Cells.{trimmed, unindented, natural_of, integer_of, in_type, truth_of, value_of};
+ghost use Rattle.std.specs.Prelude.{◌≡◌, Some, reverse};
+ghost use Rattle.numerals.specs.Blanks.{unindented};
+ghost use Rattle.input_rows.specs.Cells.{trimmed, truth_of, value_of};
 
-use vcp_base::{Ty, fits, is_same_name};
-
-/// More than any value of 64 bits, with or without a sign before it, so that the value of longer
-/// digits is cut to it.
-const BEYOND: u128 = 18_446_744_073_709_551_616;
+use numerals::{number_in, without_first_blanks};
+use vcp_base::{Ty, is_same_name};
 
 /// A text without the spaces and tabs at both ends.
 pub fn trim(text: &[u8]) -> &[u8]
     ensures { result.now ≡ trimmed text.now }
 {
     without_last_blanks(without_first_blanks(text))
-}
-
-/// A text without the spaces and tabs at its start.
-pub fn without_first_blanks(text: &[u8]) -> &[u8]
-    ensures { result.now ≡ unindented text.now }
-{
-    let mut rest = text;
-    'blanks: while let [b' ' | b'\t', more @ ..] = rest {
-        rest = more;
-    }
-    rest
 }
 
 // A text without the blanks at its end.
@@ -38,36 +25,6 @@ fn without_last_blanks(text: &[u8]) -> &[u8]
     rest
 }
 
-// The number that decimal digits spell, or `BEYOND` if it is greater; `None` if they are no digits.
-fn natural(digits: &[u8]) -> Option<u128>
-    ensures value { result ≡ option_map (λ n. min n (2 ^ 64)) (natural_of digits.now) }
-    ensures low { IfSome result (λ n. n ≤ 2 ^ 64) }
-{
-    let mut number = 0;
-    'digits: for digit in digits {
-        if !digit.is_ascii_digit() {
-            return None;
-        }
-        number = (number * 10 + u128::from(*digit - b'0')).min(BEYOND);
-    }
-    if digits.is_empty() {
-        return None;
-    }
-    Some(number)
-}
-
-// The value that an optional sign and digits spell, if there is a type that has it; else one that no
-// type has.
-fn integer(text: &[u8]) -> Option<i128>
-    ensures { (t : Ty) → option_and_then (in_type t) result ≡ option_and_then (in_type t) (integer_of text.now) }
-{
-    match text {
-        [b'+', digits @ ..] => Some(natural(digits)? as i128),
-        [b'-', digits @ ..] => Some(-(natural(digits)? as i128)),
-        _ => Some(natural(text)? as i128),
-    }
-}
-
 // The value of BOOL that a text spells.
 fn truth(text: &[u8]) -> Option<i64>
     ensures { result ≡ truth_of text.now }
@@ -79,14 +36,6 @@ fn truth(text: &[u8]) -> Option<i64>
     } else {
         None
     }
-}
-
-/// The value that an optional sign and decimal digits spell, if it is one of the type.
-pub fn number_in(ty: Ty, text: &[u8]) -> Option<i64>
-    ensures { result ≡ option_and_then (in_type ty) (integer_of text.now) }
-{
-    let v = integer(text)?;
-    if fits(ty, v) { Some(v as i64) } else { None }
 }
 
 /// The value of the type that a cell spells, if it spells one.

@@ -27,6 +27,8 @@ pub enum RowFault {
     Form,
     /// There is a record for the cycle 1,000,000, where cycles count from 0.
     Cycles,
+    /// The rows end before the cycle through which they are wanted.
+    Cycle,
     /// There was no memory. It is merged with no other cause.
     Memory,
 }

@@ -53,6 +53,13 @@ impl<'a> Layout<'a> {
         }
     }
 
+    /// How many columns there are.
+    pub fn width(&self) -> u32
+        ensures { result ≡ length self.now.types }
+    {
+        self.columns.len() as u32
+    }
+
     // Sets the values of a record with as many fields as there are columns.
     fn set_values(&self, number: u32, cells: &ByteRecord, row: &mut Row) -> Result<(), RowFault>
         requires as_many { length (fields_of cells.now) ≡ length self.now.places }

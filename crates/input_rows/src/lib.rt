@@ -2,21 +2,24 @@
 //! inputs.
 //!
 //! A file's records are those that `csv` gives, the first of them the header. Rows are taken one by
-//! one, in the order of the columns. Nothing is kept of a row that was taken.
+//! one, in the order of the columns, or all kept in a list.
 #![tactic(auto)]
 
+mod all_rows;
 mod cells;
 mod fault;
 mod header;
 mod laws;
 mod layout;
 mod records;
+mod row_list;
 mod rows;
 mod table;
+mod wanted;
 
-pub use cells::{number_in, without_first_blanks};
 pub use fault::RowFault;
 pub use laws::order_has_each_place;
+pub use row_list::{RowList, collect_rows};
 pub use rows::Rows;
 
 #[cfg(test)]

@@ -1,42 +1,36 @@
 //! Rows, one by one.
 
-ghost use Rattle.std.specs.Prelude.{◌≡◌, ◌≢◌, ◌<◌, ◌≤◌, ◌^◌, [], ◌∷◌, length, All, true, false, None, Some, IfOk, IfErr, IfSome, OnErr};
+ghost use Rattle.std.specs.Prelude.{◌≡◌, ◌≢◌, ◌<◌, ◌≤◌, ◌^◌, [], ◌∷◌, length, All, true, false, None, Some, Ok, Err, IfOk, IfErr, IfSome, IfNone, OnErr};
 ghost use Rattle.vcp_base.specs.Limits.{most_cycles};
 ghost use Rattle.vcp_base.specs.Types.{AreIn};
-ghost use Rattle.input_rows.specs.RowsOf.{IsOfRecord, rows_of, rows_of_cycles, types_of};
+ghost use Rattle.input_rows.specs.RowsOf.{IsOfRecord, rows_of, rows_of_cycles, through as through_of, types_of};
 ghost use Rattle.input_rows.specs.TableLeft.{refused_with};
 
+use crate::all_rows::AllRows;
 use crate::fault::RowFault;
-use crate::table::Table;
+use crate::wanted::Wanted;
 use std::alloc::Global;
 use std::marker::Model;
 use vcp_base::{Columns, Row};
-
-// Where rows come from.
-#[derive(Drop)]
-enum Source<'a> {
-    // So many rows of no values are left.
-    Cycles(u32),
-    // The records of a file.
-    File(Table<'a>),
-}
 
 /// The rows that are left, from the front, and the refusal behind them, if there is one. Contracts
 /// see also the types of a row's values, in the order of the columns, and whether the refusal was
 /// given.
 #[derive(Drop)]
 pub struct Rows<'a> {
-    source: Source<'a>,
+    rows: AllRows<'a>,
+    wanted: Wanted,
 }
 
 impl<'a> Model for Rows<'a> {
     ghost use Rattle.input_rows.specs.RowsOf.{RowsLeft};
+    ghost use Rattle.input_rows.specs.WantedRows.{wanted_rows, EndsWhenRefused};
 
     ghost Value = { RowsLeft };
 
-    ghost use Rattle.input_rows.specs.Sources.{rows_left};
+    ghost view = { λ r. wanted_rows r.wanted r.rows };
 
-    ghost view = { λ r. rows_left r.source };
+    ghost invariant = { λ r. EndsWhenRefused r.rows };
 }
 
 impl<'a> Rows<'a> {
@@ -55,12 +49,10 @@ impl<'a> Rows<'a> {
         ensures behind { IfOk result (λ left. IfSome left.refusal IsOfRecord) }
         ensures fresh { IfOk result (λ left. left.refused ≡ false) }
     {
-        if columns.len() == 0 {
-            return Err(RowFault::Form);
-        }
-        let table = Table::new(alloc, bytes, columns)?;
+        let rows = AllRows::new(alloc, bytes, columns)?;
         Ok(Rows {
-            source: Source::File(table),
+            rows,
+            wanted: Wanted::All,
         })
     }
 
@@ -75,12 +67,34 @@ impl<'a> Rows<'a> {
         ensures behind { IfOk result (λ left. left.refusal ≡ None) }
         ensures fresh { IfOk result (λ left. left.refused ≡ false) }
     {
-        if columns.len() != 0 {
-            return Err(RowFault::Form);
-        }
+        let rows = AllRows::cycles(number, columns)?;
         Ok(Rows {
-            source: Source::Cycles(number),
+            rows,
+            wanted: Wanted::All,
         })
+    }
+
+    /// The rows through a cycle and no further, where cycles count from 0. Those behind it are not
+    /// read. Where the rows end before it, `Cycle` is the refusal behind them.
+    pub fn through(self, cycle: u32) -> Rows<'a>
+        ensures rows { result ≡ through_of cycle self.entry }
+        ensures types { result.types ≡ self.entry.types }
+        ensures typed { All (AreIn self.entry.types) self.entry.rows → All (AreIn result.types) result.rows }
+        ensures few { length result.rows ≤ length self.entry.rows }
+        ensures behind { IfSome self.entry.refusal IsOfRecord → IfSome result.refusal IsOfRecord }
+        ensures fresh { result.refused ≡ self.entry.refused }
+    {
+        Rows {
+            rows: self.rows,
+            wanted: self.wanted.through(cycle),
+        }
+    }
+
+    /// How many values a row has.
+    pub fn width(&self) -> u32
+        ensures { result ≡ length self.now.types }
+    {
+        self.rows.width()
     }
 
     /// Sets `out` to the next row and answers `true`, or answers `false` at the end. `out` has as many
@@ -89,7 +103,8 @@ impl<'a> Rows<'a> {
     ///
     /// At a record that is refused: `Cycles` at the record of cycle 1,000,000, then `Width` where it
     /// has another number of fields than there are columns, then `Cell` at its first cell that spells
-    /// no value. After a refusal, `Memory` included, each later call gives it again.
+    /// no value. `Cycle` where a row is wanted and there is none. After a refusal, `Memory` included,
+    /// each later call gives it again.
     pub fn next(&mut self, _alloc: Global, out: &mut Row) -> Result<bool, RowFault>
         requires { length out.old ≡ length self.old.types }
         ensures row { IfOk result (λ found. found ≡ true → self.old ≡ record self.new { rows = out.new ∷ self.new.rows }) }
@@ -101,13 +116,34 @@ impl<'a> Rows<'a> {
         ensures out { OnErr result (out.new ≡ out.old) }
         ensures width { length out.new ≡ length out.old }
     {
-        match &mut self.source {
-            Source::Cycles(0) => Ok(false),
-            Source::Cycles(left) => {
-                *left -= 1;
-                Ok(true)
+        match self.wanted {
+            Wanted::All => self.rows.next(out),
+            Wanted::First { rows: 0, behind } => self.end(behind),
+            Wanted::First { rows, behind } => {
+                if self.rows.next(out)? {
+                    self.wanted = Wanted::First {
+                        rows: rows - 1,
+                        behind,
+                    };
+                    return Ok(true);
+                }
+                self.end(Some(RowFault::Cycle))
             }
-            Source::File(table) => table.next(out),
+            Wanted::Refused(why) => Err(why),
+        }
+    }
+
+    // The answer where no row is left, and this stands behind them.
+    fn end(&mut self, behind: Option<RowFault>) -> Result<bool, RowFault>
+        ensures end { IfNone behind ((result ≡ Ok false) × (self.new ≡ self.old)) }
+        ensures refused { IfSome behind (λ why. (result ≡ Err why) × (self.new ≡ refused_with self.old.types why)) }
+    {
+        match behind {
+            None => Ok(false),
+            Some(why) => {
+                self.wanted = Wanted::Refused(why);
+                Err(why)
+            }
         }
     }
 }

@@ -90,6 +90,13 @@ impl<'a> Table<'a> {
         })
     }
 
+    /// How many values a row has.
+    pub fn width(&self) -> u32
+        ensures { result ≡ length self.now.types }
+    {
+        self.layout.width()
+    }
+
     /// Sets `out` to the next row, and answers whether there was one. After a refusal each later call
     /// gives it again.
     pub fn next(&mut self, out: &mut Row) -> Result<bool, RowFault>

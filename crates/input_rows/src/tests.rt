@@ -2,7 +2,7 @@
 
 ghost use Rattle.std.specs.Prelude.{◌≡◌, length, IfOk};
 
-use crate::{RowFault, Rows, order_has_each_place};
+use crate::{RowFault, RowList, Rows, collect_rows, order_has_each_place};
 use std::alloc::Global;
 use std::test::Fail;
 use vcp_base::{Column, Columns, Row, Text, Ty};
@@ -270,6 +270,77 @@ fn cycles_have_no_inputs(rt: HostRuntime) -> Result<(), Fail> {
     if let Ok(mut rows) = Rows::cycles(3, &none) {
         let end = taken(alloc, &mut rows, &none)?;
         assert_eq!(rt; end, (3, Ok(false)));
+        return Ok(());
+    }
+    assert!(rt; false);
+    Ok(())
+}
+
+/// The rows of a list, one after another.
+fn show_list(alloc: Global, list: &RowList) -> Result<Vec<u8>, Fail> {
+    let mut out = Vec::new(alloc);
+    let width = list.width();
+    'rows: for i in 0..list.len() {
+        let mut row = Row::zeros(alloc, width)?;
+        list.get(i as u32, &mut row);
+        show_row(alloc, &mut out, &row)?;
+    }
+    Ok(out)
+}
+
+#[test]
+fn all_rows_are_kept_or_the_refusal_is_told(rt: HostRuntime) -> Result<(), Fail> {
+    let alloc = rt.alloc();
+    let columns = one_column(alloc)?;
+    let list = collect_rows(alloc, Rows::new(alloc, b"x\n5\n-7\n", &columns)?)?;
+    assert_eq!(rt;
+        show_list(alloc, &list)?.as_slice(),
+        b"5 / -7 / ".as_slice()
+    );
+    let Err(fault) = collect_rows(alloc, Rows::new(alloc, b"x\n5\ny\n", &columns)?) else {
+        assert!(rt; false, "rows of a file that is refused");
+        return Ok(());
+    };
+    assert_eq!(rt; fault, RowFault::Cell { row: 3, column: 1 });
+    let none = Columns::new(alloc);
+    let list = collect_rows(alloc, Rows::cycles(3, &none)?)?;
+    assert_eq!(rt; show_list(alloc, &list)?.as_slice(), b"/ / / ".as_slice());
+    Ok(())
+}
+
+/// How many of three cycles are taken through these cycles, one after another, and what is said then.
+fn taken_through(
+    alloc: Global,
+    first: u32,
+    then: u32,
+) -> Result<(u32, Result<bool, RowFault>), Fail> {
+    let none = Columns::new(alloc);
+    match Rows::cycles(3, &none) {
+        Ok(rows) => {
+            let mut rows = rows.through(first).through(then);
+            taken(alloc, &mut rows, &none)
+        }
+        Err(fault) => Ok((0, Err(fault))),
+    }
+}
+
+#[test]
+fn rows_end_behind_a_cycle_or_are_refused_before_it(rt: HostRuntime) -> Result<(), Fail> {
+    let alloc = rt.alloc();
+    let lacks = Err(RowFault::Cycle);
+    assert_eq!(rt; taken_through(alloc, 2, 2)?, (3, Ok(false)));
+    assert_eq!(rt; taken_through(alloc, 3, 3)?, (3, lacks));
+    assert_eq!(rt; taken_through(alloc, 2, 0)?, (1, Ok(false)));
+    // The second cycle is wanted of rows that end with the first.
+    assert_eq!(rt; taken_through(alloc, 0, 1)?, (1, lacks));
+    let columns = one_column(alloc)?;
+    if let Ok(rows) = Rows::new(alloc, b"x\n5\nq\n", &columns) {
+        let end = taken(alloc, &mut rows.through(0), &columns)?;
+        assert_eq!(rt; end, (1, Ok(false)));
+    }
+    if let Ok(rows) = Rows::new(alloc, b"x\n5\nq\n", &columns) {
+        let end = taken(alloc, &mut rows.through(7), &columns)?;
+        assert_eq!(rt; end, (1, Err(RowFault::Cell { row: 3, column: 1 })));
         return Ok(());
     }
     assert!(rt; false);

@@ -110,6 +110,7 @@ row_exit laws honest g t left rest text b n kept_before kept_now m (row.Width nu
 row_exit laws honest g t left rest text b n kept_before kept_now m (row.Cell number column) fair u h = let x = h (λ e. cc) in refused_exit laws honest g t left rest text b n kept_before kept_now m (row.Cell number column) fair u x.0 x.1
 row_exit laws honest g t left rest text b n kept_before kept_now m row.Form fair u h = let x = h (λ e. cc) in refused_exit laws honest g t left rest text b n kept_before kept_now m row.Form fair u x.0 x.1
 row_exit laws honest g t left rest text b n kept_before kept_now m row.Cycles fair u h = let x = h (λ e. cc) in refused_exit laws honest g t left rest text b n kept_before kept_now m row.Cycles fair u x.0 x.1
+row_exit laws honest g t left rest text b n kept_before kept_now m row.Cycle fair u h = let x = h (λ e. cc) in refused_exit laws honest g t left rest text b n kept_before kept_now m row.Cycle fair u x.0 x.1
 
 -- ---- a cycle that isn't released
 

@@ -1,6 +1,6 @@
 use Rattle.csv.specs.Reading.{records, default_config, strip_bom}
 use Rattle.input_rows.proofs.Sound.{of_records}
-use Rattle.input_rows.proofs.rows.Rows.new.Goals as goal
+use Rattle.input_rows.proofs.all_rows.AllRows.new.Goals as goal
 
 pub returns-clause-types : goal.returns-clause-types
 returns-clause-types c = (of_records c.args.columns.now (records default_config (strip_bom c.args.bytes.now)) c.in_ok-table.table c.in_ok-table.ensures.rows).types

@@ -1,10 +1,10 @@
 use Rattle.std.proofs.Common.{◌≡◌, ◌∙◌, refl, sym, ap, false, length, replicate, None, List, [], ◌∷◌, ℕ, ◌-◌, zero, suc, ℤ, sub-one, arith}
 use Rattle.input_rows.specs.RowsOf.{RowsLeft}
 use Rattle.input_rows.specs.Sources.{rows_left}
-use Rattle.input_rows.specs.declared.rows.Source.{Source}
-use Rattle.input_rows.specs.declared.rows.Source.TheVariants.{Cycles}
-use Rattle.input_rows.proofs.rows.Rows.next.Goals as goal
-use Rattle.input_rows.proofs.rows.Rows.next.Goals.{in-Cycles-eq0, in-Cycles, in-File}
+use Rattle.input_rows.specs.declared.all_rows.Source.{Source}
+use Rattle.input_rows.specs.declared.all_rows.Source.TheVariants.{Cycles}
+use Rattle.input_rows.proofs.all_rows.AllRows.next.Goals as goal
+use Rattle.input_rows.proofs.all_rows.AllRows.next.Goals.{in-Cycles-eq0, in-Cycles, in-File}
 
 no_values : (out : List ℤ) → length out ≡ 0 → out ≡ []
 no_values [] e = refl

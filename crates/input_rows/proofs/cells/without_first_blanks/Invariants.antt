@@ -1,9 +1,0 @@
-use Rattle.std.proofs.Common.{◌≡◌, length}
-use Rattle.input_rows.specs.Cells.{unindented}
-use Rattle.input_rows.proofs.cells.without_first_blanks.Given as goal
-
-abbrev pub invariant-blanks : goal.invariant-blanks
-invariant-blanks l = unindented l.rest ≡ unindented l.fn.text
-
-abbrev pub decreases-blanks : goal.decreases-blanks
-decreases-blanks l = length l.rest

@@ -1,0 +1,24 @@
+use Rattle.std.proofs.Common.{◌≡◌, ℕ, ◌+◌, All, List, ℤ, length, sym, subst, ◌∙◌}
+use Rattle.input_rows.specs.RowLists.{rows_in}
+use Rattle.input_rows.proofs.Flat.{Gathered, gathered_more, rows_width}
+use Rattle.input_rows.proofs.row_list.collect_rows.Goals as goal
+
+pub rows-preserved : goal.rows-preserved
+rows-preserved c =
+    let width = c.width-width.result in
+    let row = c.next.new.out in
+    let same : length row ≡ width = c.next.ensures.width ∙ c.rows.invariant.row in
+    let one = c.in_ok-next.ensures.row c.if-branch.true in
+    record {
+      gathered =
+          subst (λ (vs : List ℤ). Gathered c.args.rows c.next.new.self (c.rows.count + 1) width vs) (sym c.in_ok-append.ensures)
+          (gathered_more c.args.rows c.rows.rows c.next.new.self c.rows.count width c.rows.values.items row c.rows.invariant.gathered one same);
+      row = same;
+      width = c.rows.invariant.width;
+    }
+
+pub returns-clause-width : goal.returns-clause-width
+returns-clause-width c =
+    let width = c.width-width.result in
+    subst (λ (n : ℕ). All (λ row. length row ≡ n) (rows_in c.rows.count width c.rows.values.items)) c.rows.invariant.width
+    (rows_width c.rows.count width c.rows.values.items c.rows.invariant.gathered.many)
