@@ -9,7 +9,7 @@ use Rattle.vcp_base.specs.declared.kind.Kind.TheVariants as kind
 use Rattle.vcp_base.specs.declared.ty.Ty.TheVariants as ty
 use Rattle.vcp_base.specs.Spellings.{kinds, kind_name}
 use Rattle.vcp_base.specs.Types.{fits}
-use Rattle.input_rows.specs.Cells.{in_type}
+use Rattle.numerals.specs.Numerals.{in_type}
 use Rattle.fault_script.specs.Forms.{is_addend, first_named}
 
 -- what may be added is a number of 64 bits
