@@ -1,3 +1,4 @@
+mod FaultRows
 mod Gathering
 mod OperationRows
 mod Rows

@@ -14,11 +14,11 @@ use Rattle.signature_table.specs.Signatures.{Numbers, signature, table_of}
 use Rattle.run_report.specs.OperationLines.{list_text, trace_text}
 
 -- an operation of this kind, on values of this type, which reads a and b, at this place
-on : Kind → Ty → ℕ → ℕ → ℤ → ℕ → ℕ → Op
+abbrev pub on : Kind → Ty → ℕ → ℕ → ℤ → ℕ → ℕ → Op
 on k t a b imm line col = record { kind = k; from = t; ty = t; a = a; b = b; c = 0; imm = imm; spot = record { line = line; col = col }; turn = 0 }
 
 -- `y := x + 1;` over values of this type
-adding : Profile → Ty → Lists
+abbrev pub adding : Profile → Ty → Lists
 adding p t = record {
   profile = p;
   names = codes "x" ∷ codes "y" ∷ [];
@@ -37,7 +37,7 @@ listing g t i (op ∷ ops) = list_text g t i op ++ listing g t (i + 1) ops
 
 of_a_sum : listing (adding profile.Narrow ty.Dint) (table_of 0 1 (adding profile.Narrow ty.Dint)) 0 (adding profile.Narrow ty.Dint).operations
     ≡ codes "0 INPUT DINT DINT in 0 sig 0 cor 0 at 2:11\n1 CONST DINT DINT val 1 sig 214748365 cor 214748365 at 4:10\n2 ADD DINT DINT 0 1 sig 429496730 cor 214748365 at 4:8\n3 OUT DINT DINT 2 out 0 sig 644245095 cor 214748365 at 3:12\n"
-unfolding digits listing adding on signature modulo
+unfolding digits listing signature modulo
 of_a_sum = refl
 
 -- a graph of one turn, with i as 4
@@ -49,15 +49,15 @@ numbers : List ℕ → Numbers
 numbers corrections = record { profile = profile.Narrow; seed = 0; step = 1; corrections = corrections }
 
 in_a_turn : list_text turning (numbers (0 ∷ 0 ∷ 0 ∷ 0 ∷ 0 ∷ 0 ∷ 0 ∷ 0 ∷ 0 ∷ 2147483646 ∷ [])) 9 (record (on kind.Mul ty.Int 7 0 (pos 0) 7 10) { turn = 1 }) ≡ codes "9 MUL INT INT 7 0 sig 858993461 cor 2147483646 at 7:10 i=4\n"
-unfolding digits turning numbers on signature
+unfolding digits turning numbers signature
 in_a_turn = refl
 
 of_a_load : list_text turning (numbers (1288490188 ∷ [])) 0 (on kind.Load ty.Dint 0 0 (pos 0) 3 5) ≡ codes "0 LOAD DINT DINT cell 0 sig 0 cor 1288490188 at 3:5\n"
-unfolding digits turning numbers on signature
+unfolding digits turning numbers signature
 of_a_load = refl
 
 of_a_negative_constant : list_text turning (numbers (429496730 ∷ [])) 0 (on kind.Const ty.Int 0 0 (negsuc 4) 6 3) ≡ codes "0 CONST INT INT val -5 sig 0 cor 429496730 at 6:3\n"
-unfolding digits turning numbers on signature
+unfolding digits turning numbers signature
 of_a_negative_constant = refl
 
 -- a table with seed 0 and step 1, whose corrections no trace shows

@@ -1,3 +1,6 @@
+pub mod AuditLines
+pub mod FaultLines
 pub mod Gathering
 pub mod Lines
 pub mod OperationLines
+pub mod OutputNames

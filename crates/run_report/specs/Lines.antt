@@ -39,15 +39,22 @@ AreNamed turns names = All (λ turn. turn.name < length names) turns
 abbrev pub turn_text : ToldTurn → List ℕ
 turn_text turn = codes " " ++ (turn.name ++ (codes "=" ++ signed_decimal turn.value))
 
+-- why a run stopped, and the place in the source
+abbrev pub cause_text : StopKind → Spot → List ℕ
+cause_text kind spot = stop_name kind ++ (codes " " ++ place_text spot)
+
 -- a stop up to its turns: the cycle, the kind, and the place in the source
 abbrev pub stop_front : ℕ → StopKind → Spot → List ℕ
-stop_front cycle kind spot = codes "stop " ++ (decimal cycle ++ (codes " " ++ (stop_name kind ++ (codes " " ++ place_text spot))))
+stop_front cycle kind spot = codes "stop " ++ (decimal cycle ++ (codes " " ++ cause_text kind spot))
 
 -- a stop: the cycle, the kind, the place in the source, and the turns round it, outermost first
 abbrev pub stop_text : ℕ → ToldStop → List ℕ
 stop_text cycle stop = stop_front cycle stop.kind stop.spot ++ (flat_map turn_text stop.turns ++ codes "\n")
 
 -- an output that is refused, with the residue that was found and the expected one
+abbrev pub refused_front : ℕ → List ℕ → ℕ → ℕ → List ℕ
+refused_front cycle name found wanted =
+    codes "refused " ++ (decimal cycle ++ (codes " " ++ (name ++ (codes " found " ++ (decimal found ++ (codes " expected " ++ decimal wanted))))))
+
 abbrev pub refused_text : ℕ → List ℕ → ℕ → ℕ → List ℕ
-refused_text cycle name found wanted =
-    codes "refused " ++ (decimal cycle ++ (codes " " ++ (name ++ (codes " found " ++ (decimal found ++ (codes " expected " ++ (decimal wanted ++ codes "\n")))))))
+refused_text cycle name found wanted = refused_front cycle name found wanted ++ codes "\n"

@@ -5,7 +5,7 @@ ghost use Rattle.std.specs.Prelude.{◌≡◌, ◌++◌, decimal, map, flat_map}
 ghost use Rattle.vcp_base.specs.Stops.{told_stop, told_turn};
 ghost use Rattle.vcp_outside.specs.Written.{Writes};
 ghost use Rattle.run_report.specs.Gathering.{IsGathered, Gathers};
-ghost use Rattle.run_report.specs.Lines.{header_text, row_text, end_text, stop_front, stop_text, refused_text, place_text, turn_text, AreNamed};
+ghost use Rattle.run_report.specs.Lines.{header_text, row_text, end_text, cause_text, stop_front, stop_text, refused_front, refused_text, place_text, turn_text, AreNamed};
 
 use crate::line::Line;
 use vcp_base::{Columns, Residue, Row, Spot, StopKind, Text, Turns, Words, stop_name};
@@ -65,15 +65,22 @@ pub(crate) fn then_place<O: Sink>(line: &mut Line, out: &mut O, spot: Spot)
     line.count(out, spot.col as u64);
 }
 
+// Goes on with why a run stopped, and the place in the source.
+pub(crate) fn then_cause<O: Sink>(line: &mut Line, out: &mut O, kind: StopKind, spot: Spot)
+    ensures { Gathers (O.written out.old) (O.written out.new) (O.faults out.old) (O.faults out.new) line.old line.new (cause_text kind spot) }
+{
+    line.text(out, stop_name(kind));
+    line.text(out, b" ");
+    then_place(line, out, spot);
+}
+
 // A line that tells a stop up to its turns.
 pub(crate) fn begin_stop<O: Sink>(out: &mut O, cycle: u32, kind: StopKind, spot: Spot) -> Line
     ensures { IsGathered (O.written out.old) (O.written out.new) (O.faults out.old) (O.faults out.new) (stop_front cycle kind spot) result }
 {
     let mut line = begin(out, b"stop ", cycle);
     line.text(out, b" ");
-    line.text(out, stop_name(kind));
-    line.text(out, b" ");
-    then_place(&mut line, out, spot);
+    then_cause(&mut line, out, kind, spot);
     line
 }
 
@@ -117,6 +124,27 @@ pub fn stop_line<O: Sink>(
     line.end(out)
 }
 
+// Goes on with an output that is refused in a cycle, the residue that was found and the expected one.
+pub(crate) fn then_refused<O: Sink>(
+    line: &mut Line,
+    out: &mut O,
+    cycle: u32,
+    name: &Text,
+    found: Residue,
+    expected: Residue,
+)
+    ensures { Gathers (O.written out.old) (O.written out.new) (O.faults out.old) (O.faults out.new) line.old line.new (refused_front cycle name.now found expected) }
+{
+    line.text(out, b"refused ");
+    line.count(out, cycle as u64);
+    line.text(out, b" ");
+    line.text(out, name.bytes());
+    line.text(out, b" found ");
+    line.count(out, found);
+    line.text(out, b" expected ");
+    line.count(out, expected);
+}
+
 /// Writes that an output is refused in a cycle, which is counted from 0, with the residue that was
 /// found and the expected one. After `Failed` a part of the line is written.
 pub fn refused_line<O: Sink>(
@@ -128,12 +156,7 @@ pub fn refused_line<O: Sink>(
 ) -> Result<(), Failed>
     ensures { Writes (O.written out.old) (O.written out.new) (O.faults out.old) (O.faults out.new) (refused_text cycle name.now found expected) result }
 {
-    let mut line = begin(out, b"refused ", cycle);
-    line.text(out, b" ");
-    line.text(out, name.bytes());
-    line.text(out, b" found ");
-    line.count(out, found);
-    line.text(out, b" expected ");
-    line.count(out, expected);
+    let mut line = Line::new();
+    then_refused(&mut line, out, cycle, name, found, expected);
     line.end(out)
 }

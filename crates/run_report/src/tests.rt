@@ -3,10 +3,11 @@
 ghost use Rattle.std.specs.Prelude.{◌≡◌, ◌<◌, None, IfOk, All, length};
 
 use crate::{
-    end_line, graph_stop_line, header_line, list_line, refused_line, row_line, stop_line,
-    trace_line,
+    Totals, blind_line, end_line, graph_stop_line, header_line, list_line, reached_line,
+    refused_line, row_line, stop_line, totals_line, trace_line, verdict_line,
 };
 use coded_unit::Word;
+use fault_verdict::Verdict;
 use op_graph::{Build, Graph, GraphBuilder, Op, TurnNode};
 use signature_table::Table;
 use std::alloc::Global;
@@ -80,21 +81,23 @@ fn each_line_has_its_text(rt: HostRuntime) -> Result<(), Fail> {
     Ok(())
 }
 
-// A graph with one operation, in the turn of an inner loop within that of an outer one.
+// A graph with one output, of a constant in the turn of an inner loop within that of an outer one.
 fn looped(alloc: Global) -> Result<Graph, Build>
-    ensures { IfOk result (λ graph. length graph.operations ≡ 1) }
+    ensures operations { IfOk result (λ graph. length graph.operations ≡ 2) }
+    ensures outputs { IfOk result (λ graph. length graph.outputs ≡ 1) }
 {
     let mut builder = GraphBuilder::new(alloc, Profile::Narrow);
+    builder.name(&Text::copy_of(alloc, b"y")?)?;
     builder.name(&Text::copy_of(alloc, b"i")?)?;
     builder.name(&Text::copy_of(alloc, b"Outer")?)?;
     builder.turn(TurnNode {
         parent: 0,
-        name: 1,
+        name: 2,
         value: -1,
     })?;
     builder.turn(TurnNode {
         parent: 1,
-        name: 0,
+        name: 1,
         value: 4,
     })?;
     builder.push(Op {
@@ -108,6 +111,7 @@ fn looped(alloc: Global) -> Result<Graph, Build>
         spot: Spot { line: 7, col: 10 },
         turn: 2,
     })?;
+    builder.output(0, Ty::Int, 0, Spot { line: 3, col: 12 })?;
     Ok(builder.finish())
 }
 
@@ -139,6 +143,67 @@ fn an_operation_is_listed_and_traced(rt: HostRuntime) -> Result<(), Fail> {
     assert_eq!(rt; trace_line(&mut out, &graph, &table, 0, 4, other), Ok(()));
     let wanted =
         b"0 CONST INT INT val 5 sig 7 cor 7 at 7:10 Outer=-1 i=4\n0 CONST 10737418243 5 8 8\n0 CONST -2147483646 -1 1 12\n";
+    assert_eq!(rt; out.bytes(), wanted.as_slice());
+    Ok(())
+}
+
+#[test]
+fn each_verdict_has_its_line(rt: HostRuntime) -> Result<(), Fail> {
+    let alloc = rt.alloc();
+    let mut out = MemSink::new(alloc, 400)?;
+    let graph = looped(alloc)?;
+    let wrong = Verdict::Wrong {
+        cycle: 0,
+        output: 0,
+        got: 5,
+        want: -5,
+    };
+    let refused = Verdict::Refused {
+        cycle: 0,
+        output: 0,
+        found: 429496731,
+        expected: 644245096,
+    };
+    let stopped = Verdict::Stopped {
+        cycle: 4,
+        op: 0,
+        kind: StopKind::Operand,
+    };
+    let ran_on = Verdict::RanOn { cycle: 0 };
+    assert_eq!(rt; verdict_line(&mut out, &graph, 1, &Verdict::Same), Ok(()));
+    assert_eq!(rt; verdict_line(&mut out, &graph, 2, &wrong), Ok(()));
+    assert_eq!(rt; verdict_line(&mut out, &graph, 3, &ran_on), Ok(()));
+    assert_eq!(rt; verdict_line(&mut out, &graph, 4, &refused), Ok(()));
+    assert_eq!(rt; verdict_line(&mut out, &graph, 10000, &stopped), Ok(()));
+    let wanted =
+        b"1 same\n2 wrong 0 y got 5 want -5\n3 ran-on 0\n4 refused 0 y found 429496731 expected 644245096\n10000 stopped 4 0 OPERAND 7:10 Outer=-1 i=4\n";
+    assert_eq!(rt; out.bytes(), wanted.as_slice());
+    Ok(())
+}
+
+#[test]
+fn totals_and_the_lines_of_an_audit_have_their_texts(rt: HostRuntime) -> Result<(), Fail> {
+    let alloc = rt.alloc();
+    let mut out = MemSink::new(alloc, 400)?;
+    let mut totals = Totals {
+        same: 1,
+        wrong: 2,
+        ran_on: 0,
+        refused: 3,
+        stopped: 1,
+    };
+    totals.count(&Verdict::Stopped {
+        cycle: 7,
+        op: 34,
+        kind: StopKind::Range,
+    });
+    assert_eq!(rt; totals_line(&mut out, &Totals::new()), Ok(()));
+    assert_eq!(rt; totals_line(&mut out, &totals), Ok(()));
+    let name = Text::copy_of(alloc, b"y")?;
+    assert_eq!(rt; reached_line(&mut out, &name, 0, 3, 1), Ok(()));
+    assert_eq!(rt; blind_line(&mut out, 0, Kind::Input), Ok(()));
+    let wanted =
+        b"faults 0 same 0 wrong 0 ran-on 0 refused 0 stopped 0\nfaults 8 same 1 wrong 2 ran-on 0 refused 3 stopped 2\ny 0 reached 3 blind 1\nblind 0 INPUT\n";
     assert_eq!(rt; out.bytes(), wanted.as_slice());
     Ok(())
 }
