@@ -1,0 +1,12 @@
+pub mod Carrying
+pub mod Products
+pub mod Shifts
+pub mod Steps
+pub mod Worked
+pub mod AloneRun
+pub mod CycleRun
+pub mod Frames
+pub mod WholeRun
+pub mod EndsRead
+pub mod Scripting
+pub mod WorkedVerdicts

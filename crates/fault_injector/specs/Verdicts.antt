@@ -1,0 +1,107 @@
+-- Verdicts: how the run with a fault differs from the run without it.
+use Rattle.std.specs.Prelude.{◌≡◌, ◌<◌, ℕ, suc, ◌==◌, Bool, true, false, cond, ◌&&◌, List, [], ◌∷◌, Option, Some, None, ℤ}
+use Rattle.vcp_base.specs.Kinds.{same}
+use Rattle.vcp_base.specs.Values.{at}
+use Rattle.vcp_base.specs.declared.kind.StopKind.{StopKind}
+use Rattle.vcp_base.specs.declared.kind.StopKind.TheVariants as stop
+use Rattle.vcp_base.specs.Limits.{most_cycles}
+use Rattle.coded_unit.specs.declared.call.Answer.{Answer}
+use Rattle.op_graph.specs.declared.op.Outlet.{Outlet}
+use Rattle.op_graph.specs.GraphRun.{Cycle, Stop, cycle, initial, stored}
+use Rattle.op_graph.specs.Lists.{Lists}
+use Rattle.op_graph.specs.Rules.{IsGraph}
+use Rattle.signature_table.specs.Signatures.{Numbers, IsTable}
+use Rattle.coded_machine.specs.declared.cycle_end.CycleEnd.{CycleEnd}
+use Rattle.coded_machine.specs.declared.cycle_end.CycleEnd.TheVariants as end
+use Rattle.coded_machine.specs.CycleEnds.{end_of}
+use Rattle.fault_script.specs.declared.act.Fault.{Fault}
+use Rattle.fault_script.specs.Changes.{Acts, acts_of}
+use Rattle.fault_script.specs.Differences.{Frame}
+use Rattle.fault_verdict.specs.declared.verdict.Verdict.{Verdict}
+use Rattle.fault_verdict.specs.declared.verdict.Verdict.TheVariants as verdict
+use Rattle.fault_injector.specs.FaultRun.{begun, cycle_under, operation_stop, stop_under, followed, fault_run}
+use Rattle.fault_injector.specs.RunLaw.{answers_under}
+use Rattle.fault_injector.specs.Accepted.{RefusedAt, first_unaccepted}
+
+-- ---- the run without the fault, cycle by cycle
+
+-- the cycles over these rows, up to the first that stops, where the cells hold these values
+abbrev pub plain_cycles : Lists → List ℤ → List (List ℤ) → List Cycle
+plain_cycles g held [] = []
+plain_cycles g held (row ∷ rows) = followed operation_stop (λ c. plain_cycles g (stored g c.values) rows) (cycle g held row)
+
+-- ---- one cycle of both runs
+
+-- an output with another value: its number, the value under the fault and the value without it
+pub record WrongAt : Type 0 where
+  pub output : ℕ
+  pub got : ℤ
+  pub want : ℤ
+
+-- the first of these outputs, which are counted from `number`, whose value differs
+abbrev pub first_wrong : List ℤ → List ℤ → ℕ → List Outlet → Option WrongAt
+first_wrong got want number [] = None
+first_wrong got want number (o ∷ outputs) =
+    cond (same (at got o.op) (at want o.op)) (first_wrong got want (suc number) outputs)
+    (Some (record { output = number; got = at got o.op; want = at want o.op }))
+
+abbrev pub same_kind : StopKind → StopKind → Bool
+same_kind stop.Range stop.Range = true
+same_kind stop.DivZero stop.DivZero = true
+same_kind stop.Operand stop.Operand = true
+same_kind _ _ = false
+
+-- the run without the fault stops at the same operation with the same kind
+abbrev pub stops_alike : Stop → Option Stop → Bool
+stops_alike s None = false
+stops_alike s (Some other) = s.op == other.op && same_kind s.kind other.kind
+
+-- The verdict of cycle n, if it has one. The first of these cases counts: the run with the fault stops; an output isn't accepted; the other run
+-- stops; a value of the output rows differs.
+abbrev pub judged : ℕ → Option Stop → Option RefusedAt → Option Stop → Option WrongAt → Option Verdict
+judged n (Some s) refused other wrong = Some (cond (stops_alike s other) verdict.Same (verdict.Stopped n s.op s.kind))
+judged n None (Some r) other wrong = Some (verdict.Refused n r.output r.found r.expected)
+judged n None None (Some s) wrong = Some (verdict.RanOn n)
+judged n None None None (Some w) = Some (verdict.Wrong n w.output w.got w.want)
+judged n None None None None = None
+
+-- the verdict of cycle n of a run under acts, beside the run without
+abbrev pub judged_cycle : Numbers → Lists → Acts → ℕ → Cycle → Cycle → Option Verdict
+judged_cycle t g acts n c other = judged n (stop_under g c) (first_unaccepted t g acts n 0 g.outputs) (operation_stop other)
+    (first_wrong c.values other.values 0 g.outputs)
+
+-- ---- whole runs
+
+-- this verdict, or the later one where there is none
+abbrev pub verdict_or : Option Verdict → Verdict → Verdict
+verdict_or (Some v) later = v
+verdict_or None later = later
+
+-- the verdict of the first cycle that has one, from cycle n on; where the cycles end it is Same
+abbrev pub compared : Numbers → Lists → Acts → ℕ → List Cycle → List Cycle → Verdict
+compared t g acts n [] others = verdict.Same
+compared t g acts n (c ∷ cycles) [] = verdict.Same
+compared t g acts n (c ∷ cycles) (other ∷ others) = verdict_or (judged_cycle t g acts n c other) (compared t g acts (suc n) cycles others)
+
+-- the verdict of a fault over rows of inputs
+abbrev pub verdict_of : Numbers → Lists → Fault → List (List ℤ) → Verdict
+verdict_of t g f rows = compared t g (acts_of (f ∷ [])) 0 (fault_run t g f rows) (plain_cycles g (initial g) rows)
+
+-- ---- how a machine ends a cycle
+
+-- the end of a cycle that stops so, or else has this output that isn't accepted, or none
+abbrev pub ending : Option Stop → Option RefusedAt → CycleEnd
+ending (Some s) r = end.Stopped s.op s.kind
+ending None (Some r) = end.Refused r.output r.found r.expected
+ending None None = end.Released
+
+-- Where the answers of a cycle keep the run law, its end as the machine reads it off them is its stop; or else a refusal of the first output whose
+-- equation doesn't hold, with both residues; or else a release. So an output of a cycle that ends without a stop is accepted exactly where its
+-- equation over signatures and stamps holds, as long as those before it are.
+abbrev pub EndsAreRead : Type 0
+EndsAreRead =
+    (t : Numbers) (g : Lists) (acts : Acts) (n : ℕ) (past : Frame) (held row : List ℤ) (answers : List Answer) → IsGraph g → IsTable t →
+    t.profile ≡ g.profile → n < most_cycles →
+    answers ≡ answers_under (begun t g acts n past held row) (cycle_under (begun t g acts n past held row)) →
+    end_of g t n answers
+    ≡ ending (stop_under g (cycle_under (begun t g acts n past held row))) (first_unaccepted t g acts n 0 g.outputs)
