@@ -1,7 +1,7 @@
 -- Closing: the closed form, by exchange of the sums over operations and over their readers.
-use Rattle.std.proofs.Common.{◌≡◌, ◌≢◌, ◌⊎◌, ◌↔◌, ⊎_elim, ℕ, zero, suc, ◌+◌, ◌<◌, ◌≤◌, ◌==◌, ◌&&◌, cond, Bool, true, false, ℤ, pos, neg_ℤ, unsigned_abs, ◌+ℤ◌, ◌-ℤ◌, ◌*ℤ◌, List, [], ◌∷◌, length, map, take, slice_get, Option, Some, None, All, ap, ap₂, sym, ◌∙◌, subst, refl, arith}
+use Rattle.std.proofs.Common.{◌≡◌, ◌≢◌, ◌↔◌, ⊎_elim, ℕ, zero, suc, ◌+◌, ◌<◌, ◌≤◌, ◌==◌, ◌&&◌, cond, Bool, true, false, ℤ, pos, neg_ℤ, unsigned_abs, ◌+ℤ◌, ◌-ℤ◌, ◌*ℤ◌, List, [], ◌∷◌, length, map, take, slice_get, Option, Some, None, ap, ap₂, sym, ◌∙◌, refl, arith}
 use Rattle.std.specs.Option.{is_some}
-use Rattle.std.proofs.Math.IntN.{*ℤ_comm, *ℤ-zero, zero-*ℤ}
+use Rattle.std.proofs.Math.IntN.{*ℤ_comm}
 use Rattle.std.proofs.lemmas.Int.{ints}
 use Rattle.std.proofs.lemmas.Bool.{eq-eqb}
 use Rattle.std.proofs.lemmas.Bool.Decides.{eqb_tells}
@@ -20,9 +20,10 @@ use Rattle.op_graph.specs.declared.op.Op.{Op}
 use Rattle.op_graph.specs.Lists.{Lists, cells}
 use Rattle.op_graph.specs.Reads.{named}
 use Rattle.op_graph.specs.Rules.{IsGraph, LoadFits, OpFits, place_of, scope, reads_as}
-use Rattle.weight_audit.specs.Weights.{weight, share, factor, by_readers, weights_from, at_out, across, sums}
-use Rattle.weight_audit.specs.Differences.{read_as, AreOfCycle, held_after, AreDifferences, alone, Comes}
-use Rattle.weight_audit.proofs.Along.{along, along_plus, along_times, along_same, along_zero, along_pick, along_exchange, cond_no, cond_yes}
+use Rattle.fault_script.specs.Differences.{held_after}
+use Rattle.weight_audit.specs.Weights.{share, factor, by_readers, weights_from, at_out, across, sums}
+use Rattle.weight_audit.proofs.Cycles.{read_as, AreOfCycle, AreDifferences, alone, Closes}
+use Rattle.weight_audit.proofs.Along.{along, along_plus, along_times, along_same, along_zero, along_pick, along_exchange}
 use Rattle.weight_audit.proofs.FirstSteps.{ReadsBefore, first_steps, length-weights_from}
 use Rattle.weight_audit.proofs.Auditing.{there_is}
 use Rattle.weight_audit.proofs.Loads.{Rising, rising_by, leaving_is, entering_is, back, loaded_as, loads_by, loaded_zero, comes_back, comes_none}
@@ -47,7 +48,7 @@ taken_is op d =
     along_plus (λ i. share op i 0 +ℤ share op i 1) (λ i. share op i 2) 0 d
     ∙ ap₂ (λ a b. a +ℤ b) (along_plus (λ i. share op i 0) (λ i. share op i 1) 0 d ∙ ap₂ (λ a b. a +ℤ b) (along_share op 0 d) (along_share op 1 d)) (along_share op 2 d)
 
-by_kind : (k : Kind) (from : Ty) (h x y z : ℤ) → weighed k (read_as k h x) (read_as k h y) (read_as k h z)
+pub by_kind : (k : Kind) (from : Ty) (h x y z : ℤ) → weighed k (read_as k h x) (read_as k h y) (read_as k h z)
     ≡ loaded_as k h +ℤ (cond (is_some (reads_as k from 0)) (x *ℤ multiplier k 0) (pos 0) +ℤ cond (is_some (reads_as k from 1)) (y *ℤ multiplier k 1) (pos 0) +ℤ cond (is_some (reads_as k from 2)) (z *ℤ multiplier k 2) (pos 0))
 by_kind kind.Input from h x y z = omega (arith, ints)
 by_kind kind.Const from h x y z = omega (arith, ints)
@@ -131,7 +132,7 @@ duality g leaving held own d before are =
 
 -- ---- cycle after cycle
 
-abbrev OpsFit : Lists → Type 0
+abbrev pub OpsFit : Lists → Type 0
 OpsFit g = (i : ℕ) (op : Op) → slice_get g.operations i ≡ Some op → OpFits (place_of (scope g) i) (length g.turn_nodes) (take i g.operations) op
 
 loaded_back : (g : Lists) (d : List ℤ) (i : ℕ) (op : Op) → Rising g.loads → IsGraph g → OpFits (place_of (scope g) i) (length g.turn_nodes) (take i g.operations) op → loaded (held_after g d) (Some op) ≡ back (cells g) d i
@@ -149,7 +150,7 @@ border g d ws rising is fit many =
 
 -- the differences of the words that the cells have when cycle m begins
 abbrev held_at : Lists → (ℕ → List ℤ) → ℕ → List ℤ
-held_at g given zero = []
+held_at g given zero = held_after g []
 held_at g given (suc m) = held_after g (given m)
 
 cycle_at : (g : Lists) (own : ℕ → ℕ → ℤ) (given : ℕ → List ℤ) → AreDifferences g own given → (m : ℕ) → AreOfCycle g (held_at g given m) (own m) (given m)
@@ -183,7 +184,7 @@ general g own given out before rising is fit are (suc h) m quiet =
 
 -- ---- one difference alone
 
-alone_other : (n k : ℕ) (delta : ℤ) (m i : ℕ) → m ≢ n → alone n k delta m i ≡ pos 0
+pub alone_other : (n k : ℕ) (delta : ℤ) (m i : ℕ) → m ≢ n → alone n k delta m i ≡ pos 0
 alone_other n k delta m i ne = ⊎_elim
     (λ (h : ((m == n) ≡ true) × (m ≡ n)). absurd (ne h.1))
     (λ (h : ((m == n) ≡ false) × (m ≢ n)). ap (λ b. cond (b && (i == k)) delta (pos 0)) h.0)
@@ -192,13 +193,13 @@ alone_other n k delta m i ne = ⊎_elim
 alone_here : (n k : ℕ) (delta : ℤ) (i : ℕ) → alone n k delta n i ≡ cond (i == k) delta (pos 0)
 alone_here n k delta i = ap (λ b. cond (b && (i == k)) delta (pos 0)) (eq-eqb n n refl)
 
-at_zeros : (ns : List ℕ) (d : List ℤ) (j : ℕ) → ((x : ℕ) → at d x ≡ pos 0) → at (map (λ n. at d n) ns) j ≡ pos 0
+pub at_zeros : (ns : List ℕ) (d : List ℤ) (j : ℕ) → ((x : ℕ) → at d x ≡ pos 0) → at (map (λ n. at d n) ns) j ≡ pos 0
 at_zeros [] d zero none = refl
 at_zeros [] d (suc j) none = refl
 at_zeros (n ∷ ns) d zero none = none n
 at_zeros (n ∷ ns) d (suc j) none = at_zeros ns d j none
 
-at_nothing : (j : ℕ) → at [] j ≡ pos 0
+pub at_nothing : (j : ℕ) → at [] j ≡ pos 0
 at_nothing zero = refl
 at_nothing (suc j) = refl
 
@@ -226,7 +227,7 @@ module _ (g : Lists) (n k : ℕ) (delta : ℤ) (given : ℕ → List ℤ) (befor
       ∙ alone_other n k delta m j (λ e. omega (arith, e, lt)))
 
   held_none : (m : ℕ) → m ≤ n → (j : ℕ) → at (held_at g given m) j ≡ pos 0
-  held_none zero le j = at_nothing j
+  held_none zero le j = at_zeros g.stores [] j at_nothing
   held_none (suc m) le j = at_zeros g.stores (given m) j (given_by m (omega (arith, le)) (held_none m (omega (arith, le))))
 
   given_none : (m : ℕ) → m < n → (x : ℕ) → at (given m) x ≡ pos 0
@@ -240,14 +241,14 @@ module _ (g : Lists) (n k : ℕ) (delta : ℤ) (given : ℕ → List ℤ) (befor
       ∙ alone_here n k delta j)
       ∙ along_pick k delta 0 k (sums g out h) (omega arith)
 
-  comes : (out : ℕ) → Comes g n k delta given out
+  comes : (out : ℕ) → Closes g n k delta given out
   comes out = record {
     before = λ m lt. given_none m lt out;
     after = λ h. after_is out h;
     residue = λ h. residue_is g.profile laws (at (given (n + h)) out) (at (sums g out h) k) delta (after_is out h);
   }
 
-pub closed_form : (g : Lists) → WordLaws g.profile → Earlier g → ((b : ℕ) (m : Loaded) → slice_get g.loads b ≡ Some m → LoadFits (length g.names) (length g.operations) (take b g.loads) m) → OpsFit g → IsGraph g → (n k : ℕ) (delta : ℤ) (given : ℕ → List ℤ) → AreDifferences g (alone n k delta) given → (out : ℕ) → Comes g n k delta given out
+pub closed_form : (g : Lists) → WordLaws g.profile → Earlier g → ((b : ℕ) (m : Loaded) → slice_get g.loads b ≡ Some m → LoadFits (length g.names) (length g.operations) (take b g.loads) m) → OpsFit g → IsGraph g → (n k : ℕ) (delta : ℤ) (given : ℕ → List ℤ) → AreDifferences g (alone n k delta) given → (out : ℕ) → Closes g n k delta given out
 closed_form g laws earlier loads fit is n k delta given are out = comes g n k delta given (reads_before g earlier) (rising_by g loads) is fit laws are out
 
 -- ---- a stale operand

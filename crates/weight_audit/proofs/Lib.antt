@@ -1,7 +1,9 @@
 mod Along
 mod Auditing
 mod Closing
+mod Cycles
 mod FirstSteps
+mod Frames
 mod Loads
 mod Marking
 mod Places

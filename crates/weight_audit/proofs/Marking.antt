@@ -1,13 +1,11 @@
 -- Marking: which operations are marked, and from which a path leads.
-use Rattle.std.proofs.Common.{◌≡◌, ◌≢◌, ◌⊎◌, ⊎_elim, inl, inr, ℕ, zero, suc, ◌+◌, ◌<◌, ◌≤◌, ◌==◌, Bool, true, false, List, [], ◌∷◌, length, replicate, ap, sym, ◌∙◌, subst, refl, arith}
+use Rattle.std.proofs.Common.{◌≡◌, ◌≢◌, ◌⊎◌, ⊎_elim, ℕ, zero, suc, ◌<◌, ◌≤◌, ◌==◌, Bool, true, false, List, [], ◌∷◌, replicate, sym, subst, refl, arith}
 use Rattle.std.proofs.lemmas.Bool.Decides.{eqb_tells}
-use Rattle.op_graph.specs.declared.op.Cell.{Cell}
 use Rattle.op_graph.specs.declared.op.Op.{Op}
 use Rattle.op_graph.specs.Lists.{Lists, cells}
 use Rattle.op_graph.specs.Reads.{Reads}
 use Rattle.weight_audit.specs.Paths.{Step, Crosses, Leads, Reached}
 use Rattle.weight_audit.specs.Sweeping.{mark, MarksRead, CrossesMarked}
-use Rattle.weight_audit.proofs.Places.{Earlier}
 
 -- each operation that a marked one from n on reads is marked
 abbrev pub ClosedFrom : List Op → ℕ → List Bool → Type 0

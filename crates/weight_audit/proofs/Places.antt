@@ -1,5 +1,5 @@
 -- Places: the LOAD and the STORE of a cell are operations, and what operations read comes before them.
-use Rattle.std.proofs.Common.{◌≡◌, ℕ, zero, suc, ◌<◌, ◌≤◌, ◌+◌, ℤ, pos, true, List, [], ◌∷◌, length, drop, take, slice_get, get_or, Some, None, Option, ap, sym, ◌∙◌, subst, arith, refl}
+use Rattle.std.proofs.Common.{◌≡◌, ℕ, zero, suc, ◌<◌, true, List, [], ◌∷◌, length, drop, take, slice_get, Some, ap, ◌∙◌, subst, arith, refl}
 use Rattle.std.proofs.lemmas.Option.{get_or_from_slice_get, slice_get_within}
 use Rattle.std.proofs.Math.Seq.{drop-cons}
 use Rattle.std.specs.Option.{is_some}
@@ -9,7 +9,6 @@ use Rattle.op_graph.specs.declared.op.Op.{Op}
 use Rattle.op_graph.specs.Lists.{Lists, joined, cells}
 use Rattle.op_graph.specs.Reads.{named, Reads}
 use Rattle.op_graph.specs.Rules.{IsPart, LoadFits, StoreFits, reads_as}
-use Rattle.weight_audit.specs.Weights.{factor}
 use Rattle.weight_audit.proofs.FirstSteps.{ReadsBefore, factor-none}
 
 -- the laws of graphs on which this rests, as they are called

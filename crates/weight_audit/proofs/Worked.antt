@@ -1,5 +1,5 @@
 -- Worked: the weights of small graphs, worked by hand.
-use Rattle.std.proofs.Common.{refl, ◌≡◌, ℕ, List, ◌∷◌, [], ℤ, pos, negsuc}
+use Rattle.std.proofs.Common.{refl, ◌≡◌, ℕ, ◌∷◌, [], ℤ, pos, negsuc}
 use Rattle.vcp_base.specs.declared.spot.Spot.{Spot}
 use Rattle.vcp_base.specs.declared.code.Profile.TheVariants as profile
 use Rattle.vcp_base.specs.declared.ty.Ty.TheVariants as ty

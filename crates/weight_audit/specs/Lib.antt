@@ -1,5 +1,5 @@
 pub mod Audit
-pub mod Differences
+pub mod ClosedForm
 pub mod Paths
 pub mod Sweeping
 pub mod Weights

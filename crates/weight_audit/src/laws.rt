@@ -2,19 +2,24 @@
 
 ghost use Rattle.op_graph.specs.Lists.{Lists};
 ghost use Rattle.op_graph.specs.Rules.{IsGraph};
-ghost use Rattle.weight_audit.specs.Differences.{ClosedForm, StaleForm};
+ghost use Rattle.signature_table.specs.Signatures.{Numbers};
+ghost use Rattle.weight_audit.specs.ClosedForm.{ClosedForm, StaleForm};
 
 use coded_unit::words_split_in_one_way;
+use fault_script::one_fault_makes_its_difference;
 use op_graph::{entries_keep_their_rules, operands_are_there};
 
-/// A difference that is made at one operation in one cycle comes to every other, each number of cycle
-/// borders later, as the weight times the difference, and comes to none before.
+/// The difference that a fault makes at its operation in its cycle comes to every other operation,
+/// each number of cycle borders later, as the weight times that difference, and comes to none before.
+/// A stale operand comes as no difference exactly where the step times its multiplier times the weight
+/// is 0. Both are said modulo the constant of the graph's code, for any seed and step.
 pub fn differences_come_as_weights()
-    ensures closed { (g : Lists) → IsGraph g → ClosedForm g }
-    ensures stale { (g : Lists) → IsGraph g → StaleForm g }
+    ensures closed { (t : Numbers) (g : Lists) → IsGraph g → ClosedForm t g }
+    ensures stale { (t : Numbers) (g : Lists) → IsGraph g → StaleForm t g }
 {
     // What an operation reads is an earlier one, and LOADs name their cells.
     operands_are_there();
     entries_keep_their_rules();
     words_split_in_one_way();
+    one_fault_makes_its_difference();
 }

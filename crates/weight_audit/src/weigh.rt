@@ -3,7 +3,7 @@
 ghost use Rattle.std.specs.Prelude.{◌≡◌, ◌<◌, ◌≤◌, ℕ, suc, Err, IfOk, IfErr, length};
 ghost use Rattle.signature_table.specs.Signatures.{IsTableOf};
 ghost use Rattle.op_graph.specs.Rules.{IsGraph};
-ghost use Rattle.weight_audit.specs.Differences.{ClosedForm, StaleForm};
+ghost use Rattle.weight_audit.specs.ClosedForm.{ClosedForm, StaleForm};
 ghost use Rattle.weight_audit.specs.Audit.{most_weights, most_horizon, weights_up_to as weights_of, IsAudit};
 ghost use Rattle.weight_audit.specs.Sweeping.{IsDistance, AreDistances};
 ghost use Rattle.weight_audit.specs.declared.kept.AuditFault.TheVariants as fault;
@@ -24,9 +24,10 @@ const MOST_WEIGHTS: u64 = 16777216;
 /// horizon, which is at most 1000. The table is the graph's.
 ///
 /// `TooLarge` where operations times outputs times one more than the horizon is above 16,777,216,
-/// before any memory is taken. A difference that is made at one operation in one cycle comes to each
-/// OUT as its weight times the difference, as `closed` says. The time is linear in that product, and so is the memory: eight bytes
-/// for each weight and one for its mark.
+/// before any memory is taken. The difference that a fault of a script makes at its operation comes to
+/// each OUT, so many cycle borders later, as the weight times that difference, as `closed` says; of a
+/// stale operand `stale` says where that is none. The time is linear in the number of weights, and so
+/// is the memory: eight bytes for each, and one for its mark.
 pub fn weights(
     alloc: Global,
     graph: &Graph,
@@ -36,8 +37,8 @@ pub fn weights(
     requires table { IsTableOf table.now graph.now }
     requires horizon { horizon ≤ most_horizon }
     ensures weights { IfOk result (λ w. IsAudit graph.now horizon w) }
-    ensures closed { ClosedForm graph.now }
-    ensures stale { StaleForm graph.now }
+    ensures closed { ClosedForm table.now graph.now }
+    ensures stale { StaleForm table.now graph.now }
     ensures too_large { most_weights < weights_of graph.now horizon → result ≡ Err (fault.TooLarge (weights_of graph.now horizon)) }
     ensures not_too_large { weights_of graph.now horizon ≤ most_weights → IfErr result (λ why. why ≡ fault.Memory) }
 {

@@ -1,4 +1,4 @@
-use Rattle.std.proofs.Common.{ℕ, suc, ◌∙◌}
+use Rattle.std.proofs.Common.{suc, ◌∙◌}
 use Rattle.weight_audit.proofs.Marking.{crossed_sound, crossed_complete}
 use Rattle.weight_audit.proofs.marks.mark_to_border.Goals as goal
 

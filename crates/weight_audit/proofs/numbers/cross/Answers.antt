@@ -1,4 +1,4 @@
-use Rattle.std.proofs.Common.{◌≡◌, ℕ, ℤ, pos, ◌+ℤ◌, ◌*ℤ◌, ◌==◌, cond, Bool, true, false, ap, arith}
+use Rattle.std.proofs.Common.{◌≡◌, pos, ◌+ℤ◌, ◌*ℤ◌, ◌==◌, cond, ap, arith}
 use Rattle.std.proofs.lemmas.Int.{ints}
 use Rattle.weight_audit.specs.Sweeping.{number, greater}
 use Rattle.weight_audit.proofs.Residues.{are_equal}

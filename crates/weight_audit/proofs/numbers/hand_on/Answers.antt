@@ -1,4 +1,4 @@
-use Rattle.std.proofs.Common.{◌≡◌, ℤ, pos, ◌+ℤ◌, ◌*ℤ◌, ap, sym, subst, ◌∙◌, to_z, of_z, arith}
+use Rattle.std.proofs.Common.{◌≡◌, pos, ◌+ℤ◌, ◌*ℤ◌, ap, sym, subst, ◌∙◌, to_z, of_z, arith}
 use mir.Syntax.{w32}
 use Rattle.std.proofs.lemmas.Int.{to_z-of_z}
 use Rattle.weight_audit.specs.Weights.{share}

@@ -1,4 +1,4 @@
-use Rattle.std.proofs.Common.{◌≡◌, ℕ, suc, ◌-◌, ◌∙◌, length, subst, arith}
+use Rattle.std.proofs.Common.{◌≡◌, suc, ◌-◌, ◌∙◌, length, subst, arith}
 use Rattle.weight_audit.specs.Sweeping.{AreResidues}
 use Rattle.weight_audit.proofs.Places.{operand_inside, reads_before}
 use Rattle.weight_audit.proofs.Sweep.{handed_on, one_more, all_have}

@@ -1,4 +1,4 @@
-use Rattle.std.proofs.Common.{◌≡◌, ℕ, suc, ◌+◌, ℤ, pos, length, sym, subst, ◌∙◌, add-one, arith}
+use Rattle.std.proofs.Common.{◌≡◌, suc, ◌+◌, pos, length, sym, subst, ◌∙◌, arith}
 use Rattle.op_graph.specs.Lists.{cells}
 use Rattle.weight_audit.specs.Sweeping.{AreResidues}
 use Rattle.weight_audit.proofs.Places.{load_inside, store_inside}

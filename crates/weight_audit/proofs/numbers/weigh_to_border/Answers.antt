@@ -1,4 +1,4 @@
-use Rattle.std.proofs.Common.{◌≡◌, length, sym, subst}
+use Rattle.std.proofs.Common.{length, sym, subst}
 use Rattle.vcp_base.specs.Values.{at}
 use Rattle.op_graph.specs.Lists.{cells}
 use Rattle.weight_audit.specs.Weights.{sums, across, weights_from}

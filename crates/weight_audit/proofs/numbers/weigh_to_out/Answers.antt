@@ -1,7 +1,7 @@
-use Rattle.std.proofs.Common.{◌≡◌, ℕ, ℤ, pos, ◌*ℤ◌, length, replicate, sym, subst}
+use Rattle.std.proofs.Common.{pos, length, sym, subst}
 use Rattle.vcp_base.specs.Values.{at}
 use Rattle.weight_audit.specs.Weights.{at_out, weights_from}
-use Rattle.weight_audit.specs.Sweeping.{AreResidues, AreWeights}
+use Rattle.weight_audit.specs.Sweeping.{AreResidues}
 use Rattle.weight_audit.proofs.Residues.{are_zeros}
 use Rattle.weight_audit.proofs.Sweep.{are_at_out}
 use Rattle.weight_audit.proofs.numbers.weigh_to_out.Goals as goal
