@@ -1,0 +1,16 @@
+pub mod Chosen
+pub mod Copies
+pub mod Cycles
+pub mod Entries
+pub mod FoldedGraph
+pub mod Folds
+pub mod Keeping
+pub mod PartGraph
+pub mod PartPlaces
+pub mod Pruned
+pub mod PrunedShares
+pub mod Renumbering
+pub mod Rising
+pub mod Shared
+pub mod Stops
+pub mod Worked

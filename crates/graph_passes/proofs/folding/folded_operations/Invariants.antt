@@ -1,0 +1,6 @@
+use Rattle.std.proofs.Common.{◌≡◌, [], take}
+use Rattle.graph_passes.specs.Folding.{folded_after}
+use Rattle.graph_passes.proofs.folding.folded_operations.Given as goal
+
+abbrev pub invariant-operations : goal.invariant-operations
+invariant-operations l = l.operations.items ≡ folded_after [] (take l.i l.graph.operations)
