@@ -1,0 +1,4 @@
+pub mod Draws
+pub mod Pieces
+pub mod MadeSource
+pub mod MadeRows
