@@ -1,3 +1,4 @@
 pub mod Lines
 pub mod RowsWorked
 pub mod Taken
+pub mod TakenImages

@@ -1,4 +1,5 @@
 pub mod Files
+pub mod Images
 pub mod Lines
 pub mod Programs
 pub mod Refusals

@@ -9,6 +9,8 @@ use Rattle.st_types.specs.declared.fault.TypeFault.{TypeFault}
 use Rattle.st_types.specs.declared.fault.TypeFault.TheVariants as typing
 use Rattle.input_rows.specs.declared.fault.RowFault.{RowFault}
 use Rattle.input_rows.specs.declared.fault.RowFault.TheVariants as rows
+use Rattle.image_file.specs.declared.fault.ImageFault.{ImageFault}
+use Rattle.image_file.specs.declared.fault.ImageFault.TheVariants as image
 use Rattle.vcp_inputs.specs.declared.refusal.Refusal.{Refusal}
 use Rattle.vcp_inputs.specs.declared.refusal.Refusal.TheVariants as refusal
 
@@ -55,7 +57,28 @@ rows_text name (rows.Width row) = name ++ (codes ":" ++ (decimal row ++ codes " 
 rows_text name (rows.Cell row column) = name ++ (codes ":" ++ (decimal row ++ (codes ":" ++ (decimal column ++ codes " R3 Cell\n"))))
 rows_text name rows.Form = name ++ codes " R4 Form\n"
 rows_text name rows.Cycles = name ++ codes " L4 Cycles\n"
+rows_text name rows.Cycle = name ++ codes " R5 Cycle\n"
 rows_text name rows.Memory = memory_text
+
+-- a fault at an offset of an image: the file's name, the offset, and the fault's code and name
+abbrev pub offset_text : List ℕ → ℕ → List ℕ → List ℕ
+offset_text name offset what = name ++ (codes ":" ++ (decimal offset ++ (codes " " ++ (what ++ codes "\n"))))
+
+-- a correction that isn't the expected one
+abbrev pub correction_text : List ℕ → ℕ → ℕ → ℕ → List ℕ
+correction_text name offset stored expected =
+    name ++ (codes ":" ++ (decimal offset ++ (codes " I6 Table stored " ++ (decimal stored ++ (codes " expected " ++ (decimal expected ++ codes "\n"))))))
+
+-- a fault of an image
+abbrev pub image_text : List ℕ → ImageFault → List ℕ
+image_text name (image.Magic at) = offset_text name at (codes "I1 Magic")
+image_text name (image.Version at) = offset_text name at (codes "I2 Version")
+image_text name (image.Short at) = offset_text name at (codes "I3 Short")
+image_text name (image.Field at) = offset_text name at (codes "I4 Field")
+image_text name (image.Operand at) = offset_text name at (codes "I5 Operand")
+image_text name (image.Table at stored expected) = correction_text name at stored expected
+image_text name (image.Rest at) = offset_text name at (codes "I7 Rest")
+image_text name image.Memory = memory_text
 
 -- a refusal of the file under a name
 abbrev pub refusal_text : List ℕ → Refusal → List ℕ
@@ -64,3 +87,4 @@ refusal_text name (refusal.Lexing f) = lexing_text name f
 refusal_text name (refusal.Parsing f) = parsing_text name f
 refusal_text name (refusal.Typing f) = typing_text name f
 refusal_text name (refusal.Rows f) = rows_text name f
+refusal_text name (refusal.Image f) = image_text name f

@@ -9,6 +9,8 @@ use Rattle.st_types.specs.declared.fault.TypeFault.{TypeFault}
 use Rattle.st_types.specs.declared.fault.TypeFault.TheVariants as typing
 use Rattle.input_rows.specs.declared.fault.RowFault.{RowFault}
 use Rattle.input_rows.specs.declared.fault.RowFault.TheVariants as rows
+use Rattle.image_file.specs.declared.fault.ImageFault.{ImageFault}
+use Rattle.image_file.specs.declared.fault.ImageFault.TheVariants as image
 use Rattle.vcp_inputs.specs.declared.refusal.Refusal.TheVariants as refusal
 use Rattle.vcp_inputs.specs.declared.refusal.NoInput.{NoInput}
 use Rattle.vcp_inputs.specs.declared.refusal.NoInput.TheVariants as input
@@ -53,4 +55,16 @@ no_rows (rows.Width row) = input.Refused (refusal.Rows (rows.Width row))
 no_rows (rows.Cell row column) = input.Refused (refusal.Rows (rows.Cell row column))
 no_rows rows.Form = input.Refused (refusal.Rows rows.Form)
 no_rows rows.Cycles = input.Refused (refusal.Rows rows.Cycles)
+no_rows rows.Cycle = input.Refused (refusal.Rows rows.Cycle)
 no_rows rows.Memory = input.Memory
+
+-- of an image
+abbrev pub unimaged : ImageFault → NoInput
+unimaged (image.Magic at) = input.Refused (refusal.Image (image.Magic at))
+unimaged (image.Version at) = input.Refused (refusal.Image (image.Version at))
+unimaged (image.Short at) = input.Refused (refusal.Image (image.Short at))
+unimaged (image.Field at) = input.Refused (refusal.Image (image.Field at))
+unimaged (image.Operand at) = input.Refused (refusal.Image (image.Operand at))
+unimaged (image.Table at stored expected) = input.Refused (refusal.Image (image.Table at stored expected))
+unimaged (image.Rest at) = input.Refused (refusal.Image (image.Rest at))
+unimaged image.Memory = input.Memory

@@ -1,12 +1,14 @@
 //! The files that commands read, each taken through its refusals, and the lines of these.
 #![tactic(auto)]
 
+mod images;
 mod reading;
 mod refusal;
 mod rows;
 mod sources;
 mod telling;
 
+pub use images::{Image, load_image};
 pub use reading::read_file;
 pub use refusal::{NoInput, Refusal};
 pub use rows::{RowsSource, load_rows};

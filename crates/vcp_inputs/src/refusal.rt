@@ -1,9 +1,10 @@
 //! Why a file isn't taken.
 
 ghost use Rattle.std.specs.Prelude.{◌≡◌};
-ghost use Rattle.vcp_inputs.specs.Refusals.{unread, unlexed, unparsed, untyped, no_rows};
+ghost use Rattle.vcp_inputs.specs.Refusals.{unread, unlexed, unparsed, untyped, no_rows, unimaged};
 ghost use Rattle.vcp_inputs.specs.declared.refusal.NoInput.TheVariants as input;
 
+use image_file::ImageFault;
 use input_rows::RowFault;
 use st_lexer::LexFault;
 use st_parser::SyntaxFault;
@@ -23,8 +24,10 @@ pub enum Refusal {
     Parsing(SyntaxFault),
     /// The source's program breaks a rule of types, or is too large.
     Typing(TypeFault),
-    /// The file is no table of rows for the program, or has too many.
+    /// The file is no table of rows for the program, or has too many or too few.
     Rows(RowFault),
+    /// The file is no image.
+    Image(ImageFault),
 }
 
 /// Why there is nothing of a file.
@@ -114,7 +117,25 @@ impl From<RowFault> for NoInput {
             | RowFault::Width { .. }
             | RowFault::Cell { .. }
             | RowFault::Form
-            | RowFault::Cycles => NoInput::Refused(Refusal::Rows(fault)),
+            | RowFault::Cycles
+            | RowFault::Cycle => NoInput::Refused(Refusal::Rows(fault)),
+        }
+    }
+}
+
+impl From<ImageFault> for NoInput {
+    ghost from_gives = { λ i e. e ≡ unimaged i };
+
+    fn from(fault: ImageFault) -> NoInput {
+        match fault {
+            ImageFault::Memory => NoInput::Memory,
+            ImageFault::Magic { .. }
+            | ImageFault::Version { .. }
+            | ImageFault::Short { .. }
+            | ImageFault::Field { .. }
+            | ImageFault::Operand { .. }
+            | ImageFault::Table { .. }
+            | ImageFault::Rest { .. } => NoInput::Refused(Refusal::Image(fault)),
         }
     }
 }

@@ -3,15 +3,16 @@
 ghost use Rattle.std.specs.Prelude.{◌++◌, codes};
 ghost use Rattle.vcp_outside.specs.Written.{Writes};
 ghost use Rattle.input_rows.specs.declared.fault.RowFault.TheVariants as rows;
-ghost use Rattle.vcp_inputs.specs.Lines.{spot_text, lexing_text, parsing_text, typing_text, rows_text, refusal_text};
+ghost use Rattle.vcp_inputs.specs.Lines.{spot_text, lexing_text, parsing_text, typing_text, rows_text, offset_text, correction_text, image_text, refusal_text};
 
 use crate::refusal::Refusal;
+use image_file::ImageFault;
 use input_rows::RowFault;
 use run_report::Line;
 use st_lexer::LexFault;
 use st_parser::SyntaxFault;
 use st_types::TypeFault;
-use vcp_base::Spot;
+use vcp_base::{Residue, Spot};
 use vcp_outside::{Failed, Sink, write_all};
 
 /// The line where memory was wanted.
@@ -27,6 +28,7 @@ pub fn tell_refusal<E: Sink>(err: &mut E, name: &[u8], refusal: &Refusal) -> Res
         Refusal::Parsing(fault) => tell_parsing(err, name, *fault),
         Refusal::Typing(fault) => tell_typing(err, name, *fault),
         Refusal::Rows(fault) => tell_rows(err, name, *fault),
+        Refusal::Image(fault) => tell_image(err, name, *fault),
     }
 }
 
@@ -107,6 +109,7 @@ fn tell_rows<E: Sink>(err: &mut E, name: &[u8], fault: RowFault) -> Result<(), F
         RowFault::Cell { row, column } => tell_cell(err, name, row, column),
         RowFault::Form => tell_of(err, name, b" R4 Form"),
         RowFault::Cycles => tell_of(err, name, b" L4 Cycles"),
+        RowFault::Cycle => tell_of(err, name, b" R5 Cycle"),
         RowFault::Memory => write_all(err, NO_MEMORY),
     }
 }
@@ -134,5 +137,59 @@ fn tell_cell<E: Sink>(err: &mut E, name: &[u8], row: u32, column: u32) -> Result
     line.text(err, b":");
     line.count(err, column as u64);
     line.text(err, b" R3 Cell");
+    line.end(err)
+}
+
+/// Prints the line of a fault of an image.
+fn tell_image<E: Sink>(err: &mut E, name: &[u8], fault: ImageFault) -> Result<(), Failed>
+    ensures { Writes (E.written err.old) (E.written err.new) (E.faults err.old) (E.faults err.new) (image_text name.now fault) result }
+{
+    match fault {
+        ImageFault::Magic { at } => tell_offset(err, name, at, b"I1 Magic"),
+        ImageFault::Version { at } => tell_offset(err, name, at, b"I2 Version"),
+        ImageFault::Short { at } => tell_offset(err, name, at, b"I3 Short"),
+        ImageFault::Field { at } => tell_offset(err, name, at, b"I4 Field"),
+        ImageFault::Operand { at } => tell_offset(err, name, at, b"I5 Operand"),
+        ImageFault::Table {
+            at,
+            stored,
+            expected,
+        } => tell_correction(err, name, at, stored, expected),
+        ImageFault::Rest { at } => tell_offset(err, name, at, b"I7 Rest"),
+        ImageFault::Memory => write_all(err, NO_MEMORY),
+    }
+}
+
+/// Prints a line of an offset in an image and what is said of it.
+fn tell_offset<E: Sink>(err: &mut E, name: &[u8], offset: u32, what: &[u8]) -> Result<(), Failed>
+    ensures { Writes (E.written err.old) (E.written err.new) (E.faults err.old) (E.faults err.new) (offset_text name.now offset what.now) result }
+{
+    let mut line = Line::new();
+    line.text(err, name);
+    line.text(err, b":");
+    line.count(err, offset as u64);
+    line.text(err, b" ");
+    line.text(err, what);
+    line.end(err)
+}
+
+/// Prints the line of a correction that isn't the expected one.
+fn tell_correction<E: Sink>(
+    err: &mut E,
+    name: &[u8],
+    offset: u32,
+    stored: Residue,
+    expected: Residue,
+) -> Result<(), Failed>
+    ensures { Writes (E.written err.old) (E.written err.new) (E.faults err.old) (E.faults err.new) (correction_text name.now offset stored expected) result }
+{
+    let mut line = Line::new();
+    line.text(err, name);
+    line.text(err, b":");
+    line.count(err, offset as u64);
+    line.text(err, b" I6 Table stored ");
+    line.count(err, stored);
+    line.text(err, b" expected ");
+    line.count(err, expected);
     line.end(err)
 }

@@ -3,7 +3,10 @@
 ghost use Rattle.std.specs.Prelude.{◌≡◌, ◌<◌, ◌^◌, length, IfOk};
 ghost use Rattle.vcp_words.specs.Forms.{rows_of, AreFew};
 
-use crate::{NoInput, Refusal, load_program, load_rows, load_typed, read_file, tell_refusal};
+use crate::{
+    NoInput, Refusal, load_image, load_program, load_rows, load_typed, read_file, tell_refusal,
+};
+use image_file::ImageFault;
 use input_rows::RowFault;
 use st_lexer::LexFault;
 use st_parser::SyntaxFault;
@@ -19,7 +22,7 @@ const SPOT: Spot = Spot { line: 3, col: 14 };
 #[test]
 fn lines_of_refusals_are_written(rt: HostRuntime) -> Result<(), Fail> {
     let alloc = rt.alloc();
-    let rows: [(Refusal, &[u8]); 7] = [
+    let rows: [(Refusal, &[u8]); 10] = [
         (Refusal::Bytes, b"p L1 Bytes\n"),
         (
             Refusal::Lexing(LexFault::Comment { spot: SPOT }),
@@ -39,9 +42,22 @@ fn lines_of_refusals_are_written(rt: HostRuntime) -> Result<(), Fail> {
             Refusal::Rows(RowFault::Cell { row: 7, column: 2 }),
             b"p:7:2 R3 Cell\n",
         ),
+        (Refusal::Rows(RowFault::Cycle), b"p R5 Cycle\n"),
+        (
+            Refusal::Image(ImageFault::Short { at: 219 }),
+            b"p:219 I3 Short\n",
+        ),
+        (
+            Refusal::Image(ImageFault::Table {
+                at: 177,
+                stored: 214748366,
+                expected: 214748365,
+            }),
+            b"p:177 I6 Table stored 214748366 expected 214748365\n",
+        ),
     ];
     for (i, (refusal, line)) in rows.iter().enumerate() {
-        let mut err = MemSink::new(alloc, 40)?;
+        let mut err = MemSink::new(alloc, 60)?;
         let done = tell_refusal(&mut err, b"p", refusal);
         assert!(rt; done.is_ok() && err.bytes() == *line, "line {i}");
     }
@@ -83,6 +99,30 @@ fn files_are_taken_or_refused(rt: HostRuntime) -> Result<(), Fail> {
     assert_eq!(rt;
         load_program(alloc, &mut files, &r).err(),
         Some(NoInput::Refused(Refusal::Lexing(byte)))
+    );
+    Ok(())
+}
+
+/// The image of a graph without operations, with seed 7 and step 1.
+const EMPTY: &[u8] = b"\
+    VCPANBD\n\x00\x01\x00\x01\x00\x00\x00\x07\x00\x00\x00\x00\x00\x00\x00\x00\
+    \x00\x00\x00\x00\x00\x00\x00\x00\x00\x00\x00\x00\x00\x00\x00\x00";
+
+#[test]
+fn images_are_taken_or_refused(rt: HostRuntime) -> Result<(), Fail> {
+    let alloc = rt.alloc();
+    let mut files = MemFiles::new(alloc);
+    files.put(b"m", EMPTY)?;
+    files.put(b"p", b"PROGRAM p END_PROGRAM")?;
+    let m = Text::copy_of(alloc, b"m")?;
+    let p = Text::copy_of(alloc, b"p")?;
+    match load_image(alloc, &mut files, &m) {
+        Ok(image) => assert!(rt; image.graph.len() == 0 && image.table.seed() == 7),
+        Err(_) => assert!(rt; false),
+    }
+    assert_eq!(rt;
+        load_image(alloc, &mut files, &p).err(),
+        Some(NoInput::Refused(Refusal::Image(ImageFault::Magic { at: 0 })))
     );
     Ok(())
 }

@@ -1,4 +1,3 @@
 pub mod CodeWords
-pub mod NumeralSteps
 pub mod Rows
 pub mod WordsSteps

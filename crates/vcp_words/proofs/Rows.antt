@@ -1,6 +1,6 @@
 -- Worked rows, computed by the definitions alone.
 use Rattle.std.proofs.Common.{◌≡◌, ℕ, refl, List, [], ◌∷◌, Option, Some, None, codes}
-use Rattle.vcp_words.specs.Forms.{Form, form_of, check, format, plain, run, file, cycles}
+use Rattle.vcp_words.specs.Forms.{Form, form_of, check, format, plain, run, compile, list, exec, trace, widen, file, cycles}
 
 format_words : form_of (codes "format" ∷ codes "p" ∷ []) ≡ Some (format (codes "p"))
 format_words = refl
@@ -87,3 +87,40 @@ step_too_great = refl
 
 code_before_rows : form_of (codes "run" ∷ codes "p" ∷ codes "--seed" ∷ codes "7" ∷ codes "r" ∷ []) ≡ None
 code_before_rows = refl
+
+-- `compile p` and the words of CODE
+compile_words : form_of (codes "compile" ∷ codes "p" ∷ []) ≡ Some (compile (codes "p") (record { seed = 305419896; step = 1 }))
+compile_words = refl
+
+compile_of_a_seed : form_of (codes "compile" ∷ codes "p" ∷ codes "--seed" ∷ codes "0" ∷ []) ≡ Some (compile (codes "p") (record { seed = 0; step = 1 }))
+compile_of_a_seed = refl
+
+compile_takes_no_rows : form_of (codes "compile" ∷ codes "p" ∷ codes "r" ∷ []) ≡ None
+compile_takes_no_rows = refl
+
+list_words : form_of (codes "list" ∷ codes "m" ∷ []) ≡ Some (list (codes "m"))
+list_words = refl
+
+list_takes_no_code : form_of (codes "list" ∷ codes "m" ∷ codes "--seed" ∷ codes "7" ∷ []) ≡ None
+list_takes_no_code = refl
+
+exec_words : form_of (codes "exec" ∷ codes "m" ∷ codes "r" ∷ []) ≡ Some (exec (codes "m") (file (codes "r")))
+exec_words = refl
+
+exec_takes_no_code : form_of (codes "exec" ∷ codes "m" ∷ codes "r" ∷ codes "--seed" ∷ codes "7" ∷ []) ≡ None
+exec_takes_no_code = refl
+
+trace_words : form_of (codes "trace" ∷ codes "m" ∷ codes "r" ∷ codes "0000000007" ∷ []) ≡ Some (trace (codes "m") (file (codes "r")) 7)
+trace_words = refl
+
+last_cycle : form_of (codes "trace" ∷ codes "m" ∷ codes "--cycles" ∷ codes "3" ∷ codes "999999" ∷ []) ≡ Some (trace (codes "m") (cycles 3) 999999)
+last_cycle = refl
+
+no_such_cycle : form_of (codes "trace" ∷ codes "m" ∷ codes "r" ∷ codes "1000000" ∷ []) ≡ None
+no_such_cycle = refl
+
+trace_without_cycle : form_of (codes "trace" ∷ codes "m" ∷ codes "r" ∷ []) ≡ None
+trace_without_cycle = refl
+
+widen_words : form_of (codes "widen" ∷ codes "m" ∷ []) ≡ Some (widen (codes "m"))
+widen_words = refl

@@ -7,7 +7,7 @@ use Rattle.vcp_words.specs.declared.command.Command.{Command}
 use Rattle.vcp_words.specs.declared.command.Command.TheVariants as command
 use Rattle.vcp_words.specs.declared.command.RowsWord.{RowsWord}
 use Rattle.vcp_words.specs.declared.command.RowsWord.TheVariants as word
-use Rattle.vcp_words.specs.Numerals.{numeral_of}
+use Rattle.numerals.specs.Numerals.{numeral_of}
 
 -- where the rows of a run come from: the file under a name, or so many cycles without inputs
 pub data Rows : Type 0 where
@@ -29,12 +29,17 @@ default_step = 1
 abbrev pub default_code : Code
 default_code = record { seed = default_seed; step = default_step }
 
--- a command with its words: P, ROWS and CODE
+-- a command with its words: P is a source's name, M an image's; then ROWS, CODE and CYCLE
 pub data Form : Type 0 where
   check : List ℕ → Form
   format : List ℕ → Form
   plain : List ℕ → Rows → Form
   run : List ℕ → Rows → Code → Form
+  compile : List ℕ → Code → Form
+  list : List ℕ → Form
+  exec : List ℕ → Rows → Form
+  trace : List ℕ → Rows → ℕ → Form
+  widen : List ℕ → Form
 
 -- ---- single words
 
@@ -68,6 +73,11 @@ rows_and_rest [] = None
 rows_and_rest (w ∷ rest) =
     cond (bytes_eq w (codes "--cycles")) (cycles_and_rest rest)
     (cond (is_file_name w) (Some (file w, rest)) None)
+
+-- CYCLE: a cycle that a run may have, counted from 0
+abbrev pub cycle_and_rest : List (List ℕ) → Option (ℕ × List (List ℕ))
+cycle_and_rest [] = None
+cycle_and_rest (w ∷ rest) = option_map (λ n. (n, rest)) (number_within 0 (most_cycles - 1) w)
 
 -- ---- CODE: neither of the options `--seed N` and `--step N`, one, or both in either order
 
@@ -109,6 +119,10 @@ name_then more words = followed (name_and_rest words) more
 abbrev pub rows_then : (Rows → List (List ℕ) → Option Form) → List (List ℕ) → Option Form
 rows_then more words = followed (rows_and_rest words) more
 
+-- CYCLE, and then more words
+abbrev pub cycle_then : (ℕ → List (List ℕ) → Option Form) → List (List ℕ) → Option Form
+cycle_then more words = followed (cycle_and_rest words) more
+
 -- CODE to the last word
 abbrev pub code_then : (Code → Form) → List (List ℕ) → Option Form
 code_then f words = option_map f (code_of words)
@@ -121,6 +135,15 @@ is_end (w ∷ rest) = false
 abbrev pub end_then : Form → List (List ℕ) → Option Form
 end_then f words = cond (is_end words) (Some f) None
 
+-- the command on an image that a name and the words behind it say, a line a form
+abbrev pub image_form : List ℕ → List (List ℕ) → Option Form
+image_form w words =
+    cond (bytes_eq w (codes "list")) (name_then (λ m. end_then (list m)) words)
+    (cond (bytes_eq w (codes "exec")) (name_then (λ m. rows_then (λ rows. end_then (exec m rows))) words)
+    (cond (bytes_eq w (codes "trace")) (name_then (λ m. rows_then (λ rows. cycle_then (λ c. end_then (trace m rows c)))) words)
+    (cond (bytes_eq w (codes "widen")) (name_then (λ m. end_then (widen m)) words)
+    None)))
+
 -- the command that words say, a line a form
 abbrev pub form_of : List (List ℕ) → Option Form
 form_of [] = None
@@ -129,7 +152,8 @@ form_of (w ∷ words) =
     (cond (bytes_eq w (codes "format")) (name_then (λ p. end_then (format p)) words)
     (cond (bytes_eq w (codes "plain")) (name_then (λ p. rows_then (λ rows. end_then (plain p rows))) words)
     (cond (bytes_eq w (codes "run")) (name_then (λ p. rows_then (λ rows. code_then (run p rows))) words)
-    None)))
+    (cond (bytes_eq w (codes "compile")) (name_then (λ p. code_then (compile p)) words)
+    (image_form w words)))))
 
 -- ---- commands as values
 
@@ -148,6 +172,11 @@ form (command.Check source) = check source.now
 form (command.Format source) = format source.now
 form (command.Plain source rows) = plain source.now (rows_of rows)
 form (command.Run source rows code) = run source.now (rows_of rows) (as_code code)
+form (command.Compile source code) = compile source.now (as_code code)
+form (command.List image) = list image.now
+form (command.Exec image rows) = exec image.now (rows_of rows)
+form (command.Trace image rows cycle) = trace image.now (rows_of rows) cycle
+form (command.Widen image) = widen image.now
 
 -- ---- what holds of each command
 
@@ -162,9 +191,14 @@ pub record IsCode (code : Code) : Type 0 where
   pub step_from : 1 ≤ code.step
   pub step_to : code.step ≤ most_step
 
--- the rows are few and the code in its ranges, where the command has them
+-- the rows are few, the code in its ranges and the cycle one that a run may have, where the command has them
 abbrev pub IsSound : Form → Type 0
 IsSound (check p) = Unit {0}
 IsSound (format p) = Unit {0}
 IsSound (plain p rows) = AreFew rows
 IsSound (run p rows code) = AreFew rows × IsCode code
+IsSound (compile p code) = IsCode code
+IsSound (list m) = Unit {0}
+IsSound (exec m rows) = AreFew rows
+IsSound (trace m rows cycle) = AreFew rows × (cycle < most_cycles)
+IsSound (widen m) = Unit {0}

@@ -1,4 +1,3 @@
 pub mod Forms
-pub mod Numerals
 pub mod Tables
 pub mod Usage

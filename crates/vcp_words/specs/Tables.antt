@@ -1,6 +1,6 @@
 -- Tables: what each command is about, a line a command.
 use Rattle.std.specs.Prelude.{ℕ, Bool, true, false, List, [], ◌∷◌, codes}
-use Rattle.vcp_words.specs.Forms.{Form, Rows, check, format, plain, run, file, cycles}
+use Rattle.vcp_words.specs.Forms.{Form, Rows, check, format, plain, run, compile, list, exec, trace, widen, file, cycles}
 
 -- ROWS, as lines name it
 abbrev pub rows_name : Rows → List ℕ
@@ -18,6 +18,11 @@ file_words (check p) = p ∷ []
 file_words (format p) = p ∷ []
 file_words (plain p rows) = p ∷ rows_files rows
 file_words (run p rows code) = p ∷ rows_files rows
+file_words (compile p code) = p ∷ []
+file_words (list m) = m ∷ []
+file_words (exec m rows) = m ∷ rows_files rows
+file_words (trace m rows cycle) = m ∷ rows_files rows
+file_words (widen m) = m ∷ []
 
 -- whether a command calls the unit
 abbrev pub calls_unit : Form → Bool
@@ -25,6 +30,11 @@ calls_unit (check p) = false
 calls_unit (format p) = false
 calls_unit (plain p rows) = false
 calls_unit (run p rows code) = true
+calls_unit (compile p code) = false
+calls_unit (list m) = false
+calls_unit (exec m rows) = true
+calls_unit (trace m rows cycle) = true
+calls_unit (widen m) = false
 
 -- whether a command takes memory, or its rows through their refusals, when it has begun to write
 abbrev pub takes_rows_late : Form → Bool
@@ -32,6 +42,11 @@ takes_rows_late (check p) = false
 takes_rows_late (format p) = false
 takes_rows_late (plain p rows) = true
 takes_rows_late (run p rows code) = true
+takes_rows_late (compile p code) = false
+takes_rows_late (list m) = false
+takes_rows_late (exec m rows) = true
+takes_rows_late (trace m rows cycle) = true
+takes_rows_late (widen m) = false
 
 -- the statuses that a command may end with beside 5, 6 and 7, for a file or a sink that failed and for want of memory
 abbrev pub own_statuses : Form → List ℕ
@@ -39,3 +54,8 @@ own_statuses (check p) = 0 ∷ 1 ∷ []
 own_statuses (format p) = 0 ∷ 1 ∷ []
 own_statuses (plain p rows) = 0 ∷ 1 ∷ 2 ∷ []
 own_statuses (run p rows code) = 0 ∷ 1 ∷ 2 ∷ 3 ∷ []
+own_statuses (compile p code) = 0 ∷ 1 ∷ []
+own_statuses (list m) = 0 ∷ 1 ∷ []
+own_statuses (exec m rows) = 0 ∷ 1 ∷ 2 ∷ 3 ∷ []
+own_statuses (trace m rows cycle) = 0 ∷ 1 ∷ 2 ∷ 3 ∷ []
+own_statuses (widen m) = 0 ∷ 1 ∷ []

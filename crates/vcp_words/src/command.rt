@@ -55,4 +55,37 @@ pub enum Command<'a> {
         /// The code, CODE.
         code: Code,
     },
+    /// `compile P CODE`: the image of the program's operations, and of a code.
+    Compile {
+        /// The name of the program's source, P.
+        source: &'a Text,
+        /// The code, CODE.
+        code: Code,
+    },
+    /// `list M`: the operations of an image.
+    List {
+        /// The name of the image, M.
+        image: &'a Text,
+    },
+    /// `exec M ROWS`: the run of an image's operations on rows, on a unit.
+    Exec {
+        /// The name of the image, M.
+        image: &'a Text,
+        /// The recorded inputs, ROWS.
+        rows: RowsWord<'a>,
+    },
+    /// `trace M ROWS CYCLE`: the words of one cycle of that run.
+    Trace {
+        /// The name of the image, M.
+        image: &'a Text,
+        /// The recorded inputs, ROWS.
+        rows: RowsWord<'a>,
+        /// The cycle, counted from 0, below 1,000,000.
+        cycle: u32,
+    },
+    /// `widen M`: the image of the same operations and code in words of 64 bits.
+    Widen {
+        /// The name of the image, M.
+        image: &'a Text,
+    },
 }

@@ -2,13 +2,11 @@
 #![tactic(auto)]
 
 mod command;
-mod numerals;
 mod usage_line;
 mod words;
 mod words_left;
 
 pub use command::{Code, Command, DEFAULT_CODE, RowsWord};
-pub use numerals::numeral;
 pub use usage_line::usage;
 pub use words::command_of;
 

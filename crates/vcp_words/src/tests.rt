@@ -1,6 +1,6 @@
 //! Words that are a command, and words that are none.
 
-use crate::{Command, DEFAULT_CODE, RowsWord, command_of, numeral, usage};
+use crate::{Command, DEFAULT_CODE, RowsWord, command_of, usage};
 use std::alloc::Global;
 use std::test::Fail;
 use vcp_base::{Memory, Words};
@@ -14,8 +14,8 @@ fn words(alloc: Global, given: &[&[u8]]) -> Result<Words, Memory> {
     Ok(words)
 }
 
-/// What a command is called in the table, with the cycles, the seed and the step that it has, and 0
-/// for those that it hasn't.
+/// What a command is called in the table, with the cycles, the seed or the cycle, and the step that it
+/// has, and 0 for those that it hasn't.
 type Told = (&'static [u8], u32, u32, u16);
 
 /// Words that are none of the forms.
@@ -36,13 +36,18 @@ fn told(command: &Command<'_>) -> Told {
         Command::Format { .. } => (b"format", 0, 0, 0),
         Command::Plain { rows, .. } => (b"plain", cycles(rows), 0, 0),
         Command::Run { rows, code, .. } => (b"run", cycles(rows), code.seed, code.step),
+        Command::Compile { code, .. } => (b"compile", 0, code.seed, code.step),
+        Command::List { .. } => (b"list", 0, 0, 0),
+        Command::Exec { rows, .. } => (b"exec", cycles(rows), 0, 0),
+        Command::Trace { rows, cycle, .. } => (b"trace", cycles(rows), *cycle, 0),
+        Command::Widen { .. } => (b"widen", 0, 0, 0),
     }
 }
 
 #[test]
 fn words_are_told(rt: HostRuntime) -> Result<(), Fail> {
     let alloc = rt.alloc();
-    let rows: [(&[&[u8]], Told); 22] = [
+    let rows: [(&[&[u8]], Told); 28] = [
         (&[b"check", b"p.st"], (b"check", 0, 0, 0)),
         (&[b"format", b"p.st"], (b"format", 0, 0, 0)),
         (&[b"plain", b"p.st", b"in.csv"], (b"plain", 0, 0, 0)),
@@ -79,6 +84,18 @@ fn words_are_told(rt: HostRuntime) -> Result<(), Fail> {
             ],
             (b"run", 0, 1073741823, 1000),
         ),
+        (
+            &[b"compile", b"p.st", b"--seed", b"0"],
+            (b"compile", 0, 0, 1),
+        ),
+        (&[b"list", b"m.img"], (b"list", 0, 0, 0)),
+        (&[b"exec", b"m.img", b"--cycles", b"3"], (b"exec", 3, 0, 0)),
+        (
+            &[b"trace", b"m.img", b"in.csv", b"0000999999"],
+            (b"trace", 0, 999999, 0),
+        ),
+        (&[b"widen", b"m.img"], (b"widen", 0, 0, 0)),
+        (&[b"trace", b"m.img", b"in.csv", b"1000000"], NONE),
         (&[b"plain", b"p.st", b"--cycles", b"1000001"], NONE),
         (&[b"plain", b"p.st", b"--cycles", b"00000000003"], NONE),
         (&[b"plain", b"p.st", b"--cycles", b"+3"], NONE),
@@ -111,7 +128,5 @@ fn words_are_told(rt: HostRuntime) -> Result<(), Fail> {
 fn the_usage_line_ends(rt: HostRuntime) -> Result<(), Fail> {
     assert!(rt; usage().starts_with(b"usage: vcp check P, format P, plain P ROWS, "));
     assert!(rt; usage().ends_with(b" or demo N\n"));
-    assert_eq!(rt; numeral(b"0042"), Some(42));
-    assert_eq!(rt; numeral(b""), None);
     Ok(())
 }

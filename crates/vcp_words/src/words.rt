@@ -2,7 +2,7 @@
 
 ghost use Rattle.std.specs.Prelude.{◌≡◌, IfSome};
 ghost use Rattle.std.specs.Option.{option_map};
-ghost use Rattle.vcp_words.specs.Forms.{check, format, plain, run, name_then, rows_then, code_then, end_then, form, form_of, IsSound};
+ghost use Rattle.vcp_words.specs.Forms.{check, format, plain, run, compile, list, exec, trace, widen, name_then, rows_then, cycle_then, code_then, end_then, form, form_of, image_form, IsSound};
 
 use crate::command::Command;
 use crate::words_left::WordsLeft;
@@ -26,6 +26,29 @@ pub fn command_of(words: &Words) -> Option<Command<'_>>
     }
     if command == b"run".as_slice() {
         return run_words(&mut left);
+    }
+    if command == b"compile".as_slice() {
+        return compile_words(&mut left);
+    }
+    image_command(command, &mut left)
+}
+
+/// The command on an image that its name and its own words say.
+fn image_command<'a>(command: &[u8], words: &mut WordsLeft<'a>) -> Option<Command<'a>>
+    ensures form { option_map form result ≡ image_form command.now words.old }
+    ensures sound { IfSome result (λ command. IsSound (form command)) }
+{
+    if command == b"list".as_slice() {
+        return list_words(words);
+    }
+    if command == b"exec".as_slice() {
+        return exec_words(words);
+    }
+    if command == b"trace".as_slice() {
+        return trace_words(words);
+    }
+    if command == b"widen".as_slice() {
+        return widen_words(words);
     }
     None
 }
@@ -79,4 +102,69 @@ fn run_words<'a>(words: &mut WordsLeft<'a>) -> Option<Command<'a>>
     let rows = words.rows()?;
     let code = words.code()?;
     Some(Command::Run { source, rows, code })
+}
+
+/// The words of `compile`: P and CODE.
+fn compile_words<'a>(words: &mut WordsLeft<'a>) -> Option<Command<'a>>
+    ensures form { option_map form result ≡ name_then (λ p. code_then (compile p)) words.old }
+    ensures sound { IfSome result (λ command. IsSound (form command)) }
+{
+    let source = words.name()?;
+    let code = words.code()?;
+    Some(Command::Compile { source, code })
+}
+
+/// The words of `list`: M.
+fn list_words<'a>(words: &mut WordsLeft<'a>) -> Option<Command<'a>>
+    ensures form { option_map form result ≡ name_then (λ m. end_then (list m)) words.old }
+    ensures sound { IfSome result (λ command. IsSound (form command)) }
+{
+    let image = words.name()?;
+    if words.is_end() {
+        Some(Command::List { image })
+    } else {
+        None
+    }
+}
+
+/// The words of `exec`: M and ROWS.
+fn exec_words<'a>(words: &mut WordsLeft<'a>) -> Option<Command<'a>>
+    ensures form { option_map form result ≡ name_then (λ m. rows_then (λ rows. end_then (exec m rows))) words.old }
+    ensures sound { IfSome result (λ command. IsSound (form command)) }
+{
+    let image = words.name()?;
+    let rows = words.rows()?;
+    if words.is_end() {
+        Some(Command::Exec { image, rows })
+    } else {
+        None
+    }
+}
+
+/// The words of `trace`: M, ROWS and CYCLE.
+fn trace_words<'a>(words: &mut WordsLeft<'a>) -> Option<Command<'a>>
+    ensures form { option_map form result ≡ name_then (λ m. rows_then (λ rows. cycle_then (λ c. end_then (trace m rows c)))) words.old }
+    ensures sound { IfSome result (λ command. IsSound (form command)) }
+{
+    let image = words.name()?;
+    let rows = words.rows()?;
+    let cycle = words.cycle()?;
+    if words.is_end() {
+        Some(Command::Trace { image, rows, cycle })
+    } else {
+        None
+    }
+}
+
+/// The words of `widen`: M.
+fn widen_words<'a>(words: &mut WordsLeft<'a>) -> Option<Command<'a>>
+    ensures form { option_map form result ≡ name_then (λ m. end_then (widen m)) words.old }
+    ensures sound { IfSome result (λ command. IsSound (form command)) }
+{
+    let image = words.name()?;
+    if words.is_end() {
+        Some(Command::Widen { image })
+    } else {
+        None
+    }
 }

@@ -1,12 +1,12 @@
 //! The words of a command, read from the front.
 
-ghost use Rattle.std.specs.Prelude.{◌≡◌, ◌≤◌, ◌∷◌, [], IfSome, IfNone};
+ghost use Rattle.std.specs.Prelude.{◌≡◌, ◌≤◌, ◌<◌, ◌∷◌, [], IfSome, IfNone};
 ghost use Rattle.std.specs.Option.{option_map};
 ghost use Rattle.vcp_base.specs.Limits.{most_cycles, seeds, most_step};
-ghost use Rattle.vcp_words.specs.Forms.{is_file_name as is_file_name_of, is_end as is_end_of, number_within, name_and_rest, rows_and_rest, code_of, rows_of, as_code, AreFew, IsCode};
+ghost use Rattle.vcp_words.specs.Forms.{is_file_name as is_file_name_of, is_end as is_end_of, number_within, name_and_rest, rows_and_rest, cycle_and_rest, code_of, rows_of, as_code, AreFew, IsCode};
 
 use crate::command::{Code, DEFAULT_CODE, RowsWord};
-use crate::numerals::numeral;
+use numerals::numeral;
 use std::marker::Model;
 use vcp_base::{MOST_CYCLES, MOST_STEP, SEEDS, Text, Words};
 
@@ -100,6 +100,15 @@ impl<'a> WordsLeft<'a> {
         } else {
             None
         }
+    }
+
+    /// Takes CYCLE.
+    pub fn cycle(&mut self) -> Option<u32>
+        ensures cycle { option_map (λ n. (n, self.new)) result ≡ cycle_and_rest self.old }
+        ensures below { IfSome result (λ n. n < most_cycles) }
+    {
+        let cycle = number(self.next()?, 0, MOST_CYCLES as u64 - 1)?;
+        Some(cycle as u32)
     }
 
     /// Takes CODE, to the last word: `--seed N` and `--step N`, each at most once.

@@ -1,0 +1,59 @@
+//! Images: the graph that a file says, and its table.
+
+ghost use Rattle.std.specs.Prelude.{◌≡◌, ◌≢◌, ◌≤◌, IfErr, IfOk, IfSome, OnOk, Err, length};
+ghost use Rattle.std.specs.Io.KnownBytes.{IsAtEnd};
+ghost use Rattle.vcp_base.specs.Limits.{most_image_bytes};
+ghost use Rattle.vcp_outside.specs.Counts.{Rose};
+ghost use Rattle.signature_table.specs.Signatures.{table_of};
+ghost use Rattle.vcp_inputs.specs.Files.{Untaken, Loads};
+ghost use Rattle.vcp_inputs.specs.Images.{ImageOf, NotImage};
+ghost use Rattle.vcp_inputs.specs.declared.refusal.NoInput.TheVariants as input;
+ghost use Rattle.vcp_inputs.specs.declared.refusal.Refusal.{Refusal as RefusalOf};
+ghost use Rattle.vcp_inputs.specs.declared.refusal.Refusal.TheVariants as refusal;
+
+use crate::reading::read_file;
+use crate::refusal::NoInput;
+use image_file::read_image;
+use op_graph::Graph;
+use signature_table::Table;
+use std::alloc::Global;
+use vcp_base::{MOST_IMAGE_BYTES, Text};
+use vcp_outside::Files;
+
+/// What an image says.
+#[derive(Drop)]
+pub struct Image {
+    /// The graph.
+    pub graph: Graph,
+    /// Its table, with the seed and the step.
+    pub table: Table,
+}
+
+/// The image that a text is.
+fn image_of(alloc: Global, text: &[u8]) -> Result<Image, NoInput>
+    requires short { length text.now ≤ most_image_bytes }
+    ensures ok { IfOk result (ImageOf text.now) }
+    ensures err { IfErr result (Untaken (NotImage text.now)) }
+{
+    let (graph, table) = read_image(alloc, text)?;
+    Ok(Image { graph, table })
+}
+
+/// The image under a name: the file is read whole, and has at most 16,777,216 bytes.
+pub fn load_image<F: Files>(alloc: Global, files: &mut F, name: &Text) -> Result<Image, NoInput>
+    // What is answered: the image that the file is, or why there is none.
+    ensures loads { IfSome (F.held files.old) (λ h. Loads ImageOf NotImage h name.now most_image_bytes (F.broken files.old) (F.broken files.new) result) }
+    // Its table is the graph's, whatever the files tell.
+    ensures table { IfOk result (λ i. i.table ≡ table_of i.table.seed i.table.step i.graph) }
+    ensures unread { result ≡ Err input.Unread → Rose (F.faults files.old) (F.faults files.new) }
+    // What was taken of the file: all, unless it has too many bytes.
+    ensures ended { OnOk result (IsAtEnd (F.rest files.new)) }
+    ensures whole { (r : RefusalOf) → result ≡ Err (input.Refused r) → r ≢ refusal.Bytes → IsAtEnd (F.rest files.new) }
+    // What stays.
+    ensures held { F.held files.new ≡ F.held files.old }
+    ensures later { F.faults files.old ≤ F.faults files.new }
+    ensures broken_later { F.broken files.old ≤ F.broken files.new }
+{
+    let text = read_file(alloc, files, name, MOST_IMAGE_BYTES)?;
+    image_of(alloc, text.bytes())
+}
