@@ -1,12 +1,15 @@
 -- From how a command ends to the causes of its statuses.
-use Rattle.std.proofs.Common.{ℕ, ◌≡◌, ◌≢◌, ◌≤◌, lit≤, ◌⊎◌, inl, inr, refl, sym, ap, ◌∙◌, List, Option, Some, None, arith}
+use Rattle.std.proofs.Common.{ℕ, ◌≡◌, ◌≢◌, ◌≤◌, lit≤, ◌⊎◌, inl, inr, refl, sym, ap, subst, ◌∙◌, List, Option, Some, None, arith}
 use Rattle.vcp_base.specs.Stops.{ToldStop}
 use Rattle.vcp_outside.specs.Counts.{Rose}
 use Rattle.input_rows.specs.declared.fault.RowFault.{RowFault}
 use Rattle.vcp_words.specs.Forms.{Form}
-use Rattle.vcp_answer.specs.Answer.{Task, Answer, Job, lacks, gives, runs}
-use Rattle.vcp_answer.specs.Causes.{WasHonest, NothingFailed, Gave, GivesStatus, Causes, HasOwnStatus, meant_answer}
-use Rattle.vcp_answer.specs.Courses.{answer_of, report_of, meant}
+use Rattle.op_graph.specs.Lists.{Lists}
+use Rattle.vcp_typed.specs.SourceRun.{Program}
+use Rattle.vcp_words.specs.Forms.{Code}
+use Rattle.vcp_answer.specs.Answer.{Task, Answer, Job, lacks, gives, runs, compiles}
+use Rattle.vcp_answer.specs.Causes.{WasHonest, NothingFailed, Gave, GaveImage, GivesStatus, RunsToEnd, RunsToRefusal, WritesImage, Causes, HasOwnStatus, meant_answer}
+use Rattle.vcp_answer.specs.Courses.{Course, IsWhole, answer_of, answer_read, answer_meant, image_answer, report_of, meant}
 use Rattle.vcp_answer.specs.Endings.{AnswerGiven, TellsLine, Ends, answers, files_failed, output_failed, errors_failed, line_failed, no_memory, memory_ended}
 use Rattle.vcp_answer.specs.Moments.{Ended, Errors}
 use Rattle.vcp_answer.specs.Reports.{Report, End, complete, stopped, refused, run_status}
@@ -42,68 +45,93 @@ status_small (refused output found wanted) behind = lit≤ tt
 
 -- ---- the status of a task
 
-one_cause : (task : Task) (r : Report) → (answer_of task r).status ≡ 1 → GivesStatus task 1 ⊎ ((job : Job) × (task ≡ runs job) × (job.rows.refusal ≢ None))
-one_cause (lacks name) r h = absurd (omega (arith, h))
-one_cause (gives a) r h = inl (a, refl, h)
-one_cause (runs job) r h = inr (job, refl, refused_some r.end job.rows.refusal h)
+one_cause : (task : Task) (g : Lists) (r : Report) → (answer_of task g r).status ≡ 1 → GivesStatus task 1 ⊎ RunsToRefusal task
+one_cause (lacks name) g r h = absurd (omega (arith, h))
+one_cause (gives a) g r h = inl (a, refl, h)
+one_cause (runs job) g r h = inr (job, refl, refused_some r.end job.rows.refusal h)
+one_cause (compiles p code) g r h = absurd (omega (arith, h))
 
-zero_cause : (task : Task) (r : Report) → (answer_of task r).status ≡ 0 → GivesStatus task 0 ⊎ ((job : Job) × (task ≡ runs job) × (job.rows.refusal ≡ None))
-zero_cause (lacks name) r h = absurd (omega (arith, h))
-zero_cause (gives a) r h = inl (a, refl, h)
-zero_cause (runs job) r h = inr (job, refl, done_none r.end job.rows.refusal h)
+zero_cause : (task : Task) (g : Lists) (r : Report) → (answer_of task g r).status ≡ 0 → GivesStatus task 0 ⊎ (RunsToEnd task ⊎ WritesImage task)
+zero_cause (lacks name) g r h = absurd (omega (arith, h))
+zero_cause (gives a) g r h = inl (a, refl, h)
+zero_cause (runs job) g r h = inr (inl (job, refl, done_none r.end job.rows.refusal h))
+zero_cause (compiles p code) g r h = inr (inr (p, code, refl))
 
-five_cause : (task : Task) (r : Report) → HasOwnStatus task → (answer_of task r).status ≡ 5 → (name : List ℕ) × (task ≡ lacks name)
-five_cause (lacks name) r few h = (name, refl)
-five_cause (gives a) r few h = absurd (omega (arith, few, h))
-five_cause (runs job) r few h = absurd (omega (arith, h, status_small r.end job.rows.refusal))
+five_cause : (task : Task) (g : Lists) (r : Report) → HasOwnStatus task → (answer_of task g r).status ≡ 5 → (name : List ℕ) × (task ≡ lacks name)
+five_cause (lacks name) g r few h = (name, refl)
+five_cause (gives a) g r few h = absurd (omega (arith, few, h))
+five_cause (runs job) g r few h = absurd (omega (arith, h, status_small r.end job.rows.refusal))
+five_cause (compiles p code) g r few h = absurd (omega (arith, h))
 
-two_cause : (task : Task) (read : Report) → (answer_of task read).status ≡ 2 → GivesStatus task 2 ⊎ ((meant : Report) → read ≡ meant → (s : ToldStop) × (meant.end ≡ stopped s))
-two_cause (lacks name) read h = absurd (omega (arith, h))
-two_cause (gives a) read h = inl (a, refl, h)
-two_cause (runs job) read h = inr (λ meant is. stop_of meant.end job.rows.refusal (ap (λ (r : Report). run_status r.end job.rows.refusal) (sym is) ∙ h))
+two_cause : (task : Task) (g : Lists) (read : Report) → (answer_of task g read).status ≡ 2 → GivesStatus task 2 ⊎ ((meant : Report) → read ≡ meant → (s : ToldStop) × (meant.end ≡ stopped s))
+two_cause (lacks name) g read h = absurd (omega (arith, h))
+two_cause (gives a) g read h = inl (a, refl, h)
+two_cause (runs job) g read h = inr (λ meant is. stop_of meant.end job.rows.refusal (ap (λ (r : Report). run_status r.end job.rows.refusal) (sym is) ∙ h))
+two_cause (compiles p code) g read h = absurd (omega (arith, h))
 
 -- where the meaning stops, the defined answer's status is 2
-meant_stop : (task : Task) (s : ToldStop) → (meant task).end ≡ stopped s → (meant_answer task).status ≡ 2
-meant_stop (lacks name) s is = cc
-meant_stop (gives a) s is = cc
-meant_stop (runs job) s is = stopped_two (meant (runs job)).end job.rows.refusal s is
+meant_stop : (task : Task) (g : Lists) (s : ToldStop) → (meant task).end ≡ stopped s → (answer_of task g (meant task)).status ≡ 2
+meant_stop (lacks name) g s is = cc
+meant_stop (gives a) g s is = cc
+meant_stop (runs job) g s is = stopped_two (meant (runs job)).end job.rows.refusal s is
+meant_stop (compiles p code) g s is = cc
 
 -- ---- the defined answer was given
 
-came : (task : Task) (e : Ended) (g : AnswerGiven task e) → Gave (answer_of task (report_of task g.reached.course)) e
+came : (task : Task) (e : Ended) (g : AnswerGiven task e) → Gave (answer_read task g.reached.course) e
 came task e g = record { status = sym g.reached.status_is; out = g.reached.out; err = rw g.reached.line_is g.err }
 
 -- the defined answer of a task that is an answer
 gave : (task : Task) (a : Answer) (e : Ended) → task ≡ gives a → AnswerGiven task e → Gave a e
 gave task a e is g =
-    let same : answer_of task (report_of task g.reached.course) ≡ a = ap (λ t. answer_of t (report_of task g.reached.course)) is in
+    let c : Course = g.reached.course in
+    let same : answer_read task c ≡ a = ap (λ t. answer_of t c.graph (report_of t c)) is in
     rw same at (came task e g)
 
+-- the image of a graph of a program
+gave_image : (task : Task) (p : Program) (code : Code) (e : Ended) → task ≡ compiles p code → AnswerGiven task e → GaveImage p code e
+gave_image task p code e is g =
+    let c : Course = g.reached.course in
+    let whole : IsWhole (compiles p code) c = subst (λ t. IsWhole t c) is g.reached.whole in
+    let same : answer_read task c ≡ image_answer code c.graph = ap (λ t. answer_of t c.graph (report_of t c)) is in
+    record { graph = c.graph; may = whole.0; gave = rw same at (came task e g) }
+
 -- the defined answer with an honest unit
-as_meant : (task : Task) (e : Ended) → AnswerGiven task e → WasHonest e → Gave (meant_answer task) e
+as_meant : (task : Task) (e : Ended) (g : AnswerGiven task e) → WasHonest e → Gave (answer_meant task g.reached.course) e
 as_meant task e g honest =
-    let same : answer_of task (report_of task g.reached.course) ≡ meant_answer task = ap (answer_of task) (g.reached.honest honest.same honest.below) in
+    let c : Course = g.reached.course in
+    let same : answer_read task c ≡ answer_meant task c = ap (answer_of task c.graph) (g.reached.honest honest.same honest.below) in
     rw same at (came task e g)
+
+-- and of a run
+job_as_meant : (task : Task) (job : Job) (e : Ended) → task ≡ runs job → AnswerGiven task e → WasHonest e → Gave (meant_answer job) e
+job_as_meant task job e is g honest =
+    let c : Course = g.reached.course in
+    let same : answer_meant task c ≡ meant_answer job = ap (λ t. answer_of t c.graph (meant t)) is in
+    rw same at (as_meant task e g honest)
 
 given_causes : (task : Task) (e : Ended) → HasOwnStatus task → AnswerGiven task e → Causes task e
 given_causes task e few g =
-    let read = report_of task g.reached.course in
-    let status : (answer_of task read).status ≡ e.status = g.reached.status_is in
+    let c : Course = g.reached.course in
+    let read = report_of task c in
+    let status : (answer_of task c.graph read).status ≡ e.status = g.reached.status_is in
     record {
       given = λ x is given. gave task x e is g;
       given_completes = λ x is nothing. inr (gave task x e is g);
-      as_meant = λ job is honest given. as_meant task e g honest;
-      completes = λ job is nothing honest. inr (as_meant task e g honest);
-      zero_only = λ h. zero_cause task read (status ∙ h);
-      one_only = λ h. one_cause task read (status ∙ h);
+      as_meant = λ job is honest given. job_as_meant task job e is g honest;
+      completes = λ job is nothing honest. inr (job_as_meant task job e is g honest);
+      compiled = λ p code is given. gave_image task p code e is g;
+      compiled_completes = λ p code is nothing. inr (gave_image task p code e is g);
+      zero_only = λ h. zero_cause task c.graph read (status ∙ h);
+      one_only = λ h. one_cause task c.graph read (status ∙ h);
       two_only = λ h.
-          elim (two_cause task read (status ∙ h)) [
+          elim (two_cause task c.graph read (status ∙ h)) [
             | inl g ↦ inl g
             | inr f ↦ inr (λ honest. f (meant task) (g.reached.honest honest.same honest.below))
           ];
-      two = λ s stops honest given. (as_meant task e g honest).status ∙ meant_stop task s stops;
-      five_only = λ h. let l = five_cause task read few (status ∙ h) in inr (l.0, l.1, rw (ap (λ t. answer_of t read) l.1) at ((came task e g).err));
-      five = λ name is sinks memory. sym status ∙ ap (λ t. (answer_of t read).status) is;
+      two = λ s stops honest given. (as_meant task e g honest).status ∙ meant_stop task c.graph s stops;
+      five_only = λ h. let l = five_cause task c.graph read few (status ∙ h) in inr (l.0, l.1, rw (ap (λ t. answer_of t c.graph read) l.1) at ((came task e g).err));
+      five = λ name is sinks memory. sym status ∙ ap (λ t. (answer_of t c.graph read).status) is;
     }
 
 -- ---- what kept the answer from being given
@@ -117,6 +145,8 @@ kept_causes : (task : Task) (e : Ended) → Kept e → Causes task e
 kept_causes task e (by_files s rose) = record {
   given = λ x is given. absurd (given.files s);
   given_completes = λ x is nothing. absurd (nothing.unbroken rose);
+  compiled = λ p code is given. absurd (given.files s);
+  compiled_completes = λ p code is nothing. absurd (nothing.unbroken rose);
   as_meant = λ job is honest given. absurd (given.files s);
   completes = λ job is nothing honest. absurd (nothing.unbroken rose);
   zero_only = λ h. absurd (omega (arith, h, s));
@@ -129,6 +159,8 @@ kept_causes task e (by_files s rose) = record {
 kept_causes task e (by_sink s failed) = record {
   given = λ x is given. absurd (given.sinks s);
   given_completes = λ x is nothing. absurd (failed nothing);
+  compiled = λ p code is given. absurd (given.sinks s);
+  compiled_completes = λ p code is nothing. absurd (failed nothing);
   as_meant = λ job is honest given. absurd (given.sinks s);
   completes = λ job is nothing honest. absurd (failed nothing);
   zero_only = λ h. absurd (omega (arith, h, s));
@@ -141,6 +173,8 @@ kept_causes task e (by_sink s failed) = record {
 kept_causes task e (by_memory s) = record {
   given = λ x is given. absurd (given.memory s);
   given_completes = λ x is nothing. inl s;
+  compiled = λ p code is given. absurd (given.memory s);
+  compiled_completes = λ p code is nothing. inl s;
   as_meant = λ job is honest given. absurd (given.memory s);
   completes = λ job is nothing honest. inl s;
   zero_only = λ h. absurd (omega (arith, h, s));

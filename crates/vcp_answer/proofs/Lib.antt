@@ -1,1 +1,2 @@
 mod EndCauses
+pub mod Worked

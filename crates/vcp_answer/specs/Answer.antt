@@ -1,6 +1,7 @@
 -- Answer: what is written and the status; and the task that words and files come to.
 use Rattle.std.specs.Prelude.{ℕ, ◌≡◌, cond, nat_lt, List, [], ◌++◌, length, Option, Some, None, codes}
 use Rattle.input_rows.specs.RowsOf.{RowsLeft}
+use Rattle.op_graph.specs.Lists.{Lists}
 use Rattle.vcp_typed.specs.SourceRun.{Program}
 use Rattle.vcp_words.specs.Forms.{Code}
 use Rattle.vcp_inputs.specs.declared.refusal.Refusal.{Refusal}
@@ -13,19 +14,32 @@ pub record Answer : Type 0 where
   pub err : List ℕ
   pub status : ℕ
 
--- A program to be run on a unit: the rows of its inputs with the refusal behind them, the name by which lines tell ROWS, and the
--- numbers of its code.
+-- what is run on a unit: a program, by any graph that means it, or the graph of an image
+pub data Subject : Type 0 where
+  source : Program → Subject
+  image : Lists → Subject
+
+-- what is printed of a run: each of its rows of outputs, or the words that the operations of this graph gave in one cycle
+pub data Shown : Type 0 where
+  every_row : Shown
+  words_of : Lists → ℕ → Shown
+
+-- A run on a unit: of what, the rows of its inputs with the refusal behind them, the name by which lines tell ROWS, the numbers of
+-- its code, and what is printed of it.
 pub record Job : Type 0 where
-  pub program : Program
+  pub subject : Subject
   pub rows : RowsLeft
   pub rows_name : List ℕ
   pub code : Code
+  pub shown : Shown
 
--- What a command and files come to: a name that is lacking; an answer for which no unit is called; or a program that is run.
+-- What a command and files come to: a name that is lacking; an answer for which no unit is called; a run; or a program of which the
+-- image of some graph that means it is written, with the numbers of a code.
 pub data Task : Type 0 where
   lacks : List ℕ → Task
   gives : Answer → Task
   runs : Job → Task
+  compiles : Program → Code → Task
 
 -- the line of a file that couldn't be read
 abbrev pub read_fault_text : List ℕ → List ℕ
@@ -39,9 +53,12 @@ write_fault_text = codes "write fault\n"
 abbrev pub refuses : List ℕ → Refusal → Task
 refuses name r = gives (record { out = []; err = refusal_text name r; status = 1 })
 
--- a text is printed
+-- a text is printed and nothing else
+abbrev pub printed : List ℕ → Answer
+printed text = record { out = text; err = []; status = 0 }
+
 abbrev pub prints : List ℕ → Task
-prints text = gives (record { out = text; err = []; status = 0 })
+prints text = gives (printed text)
 
 -- what the file under a name comes to, of whose bytes this is said; it has at most so many
 abbrev pub WithFile : List ℕ → ℕ → (List ℕ → Task → Type 0) → Option (List ℕ) → Task → Type 0

@@ -4,10 +4,13 @@ use Rattle.std.specs.Prelude.{ℕ, ◌≡◌, ◌≢◌, ◌⊎◌, ◌<◌, ◌
 use Rattle.std.specs.Io.KnownBytes.{Appends}
 use Rattle.vcp_base.specs.Stops.{ToldStop}
 use Rattle.vcp_outside.specs.Counts.{Rose}
-use Rattle.vcp_answer.specs.Answer.{Answer, Job, Task, lacks, gives, runs, read_fault_text}
-use Rattle.vcp_answer.specs.Courses.{meant, answer_of}
+use Rattle.op_graph.specs.Lists.{Lists}
+use Rattle.vcp_typed.specs.SourceRun.{Program}
+use Rattle.vcp_words.specs.Forms.{Code}
+use Rattle.vcp_answer.specs.Answer.{Answer, Job, Task, lacks, gives, runs, compiles, read_fault_text}
+use Rattle.vcp_answer.specs.Courses.{MayCompile, meant, image_answer}
 use Rattle.vcp_answer.specs.Moments.{Ended}
-use Rattle.vcp_answer.specs.Reports.{stopped}
+use Rattle.vcp_answer.specs.Reports.{stopped, job_answer}
 
 -- no answer of the unit was wrong: its count of wrong answers is the same, and below its last value
 pub record WasHonest (e : Ended) : Type 0 where
@@ -32,13 +35,30 @@ pub record Gave (a : Answer) (e : Ended) : Type 0 where
   pub out : Appends e.before.out e.after.out a.out
   pub err : Appends e.err_before.written e.err_after.written a.err
 
--- the answer to a task whose run, if it comes to one, is the one that it means
-abbrev pub meant_answer : Task → Answer
-meant_answer task = answer_of task (meant task)
+-- the answer to a run that goes as it is meant
+abbrev pub meant_answer : Job → Answer
+meant_answer job = job_answer job (meant (runs job))
+
+-- the image of some graph that may stand for the program was written, with the numbers of the code
+pub record GaveImage (p : Program) (code : Code) (e : Ended) : Type 0 where
+  pub graph : Lists
+  pub may : MayCompile p code graph
+  pub gave : Gave (image_answer code graph) e
 
 -- the task is an answer with this status
 abbrev pub GivesStatus : Task → ℕ → Type 0
 GivesStatus task status = (a : Answer) × (task ≡ gives a) × (a.status ≡ status)
+
+-- the task is a run on rows with no refusal behind them, or with one
+abbrev pub RunsToEnd : Task → Type 0
+RunsToEnd task = (job : Job) × (task ≡ runs job) × (job.rows.refusal ≡ None)
+
+abbrev pub RunsToRefusal : Task → Type 0
+RunsToRefusal task = (job : Job) × (task ≡ runs job) × (job.rows.refusal ≢ None)
+
+-- an image of a program is written
+abbrev pub WritesImage : Task → Type 0
+WritesImage task = (p : Program) × (code : Code) × (task ≡ compiles p code)
 
 -- The causes of the statuses, for the task that words and files come to.
 pub record Causes (task : Task) (e : Ended) : Type 0 where
@@ -46,17 +66,21 @@ pub record Causes (task : Task) (e : Ended) : Type 0 where
   pub given : (a : Answer) → task ≡ gives a → IsNoFault e.status → Gave a e
   -- and where nothing failed, it comes so, unless memory was wanted
   pub given_completes : (a : Answer) → task ≡ gives a → NothingFailed e → (e.status ≡ 7) ⊎ Gave a e
-  -- with an honest unit a run is done as the program means it, but for 5, 6 and 7
-  pub as_meant : (job : Job) → task ≡ runs job → WasHonest e → IsNoFault e.status → Gave (meant_answer task) e
+  -- with an honest unit a run is done as it is meant, but for 5, 6 and 7
+  pub as_meant : (job : Job) → task ≡ runs job → WasHonest e → IsNoFault e.status → Gave (meant_answer job) e
   -- and where nothing failed, it is done so, unless memory was wanted
-  pub completes : (job : Job) → task ≡ runs job → NothingFailed e → WasHonest e → (e.status ≡ 7) ⊎ Gave (meant_answer task) e
-  -- 0 comes only where the task is an answer with this status, or a run with no refusal behind its rows
-  pub zero_only : e.status ≡ 0 → GivesStatus task 0 ⊎ ((job : Job) × (task ≡ runs job) × (job.rows.refusal ≡ None))
+  pub completes : (job : Job) → task ≡ runs job → NothingFailed e → WasHonest e → (e.status ≡ 7) ⊎ Gave (meant_answer job) e
+  -- the image of a program is written, but for 5, 6 and 7
+  pub compiled : (p : Program) (code : Code) → task ≡ compiles p code → IsNoFault e.status → GaveImage p code e
+  -- and where nothing failed, it is written, unless memory was wanted
+  pub compiled_completes : (p : Program) (code : Code) → task ≡ compiles p code → NothingFailed e → (e.status ≡ 7) ⊎ GaveImage p code e
+  -- 0 comes only where the task is an answer with this status, a run with no refusal behind its rows, or an image is written
+  pub zero_only : e.status ≡ 0 → GivesStatus task 0 ⊎ (RunsToEnd task ⊎ WritesImage task)
   -- 1 comes only where the task is an answer with this status, or a run with a refusal behind its rows
-  pub one_only : e.status ≡ 1 → GivesStatus task 1 ⊎ ((job : Job) × (task ≡ runs job) × (job.rows.refusal ≢ None))
-  -- 2 comes only where the task is an answer with this status, or, with an honest unit, where the program's meaning stops
+  pub one_only : e.status ≡ 1 → GivesStatus task 1 ⊎ RunsToRefusal task
+  -- 2 comes only where the task is an answer with this status, or, with an honest unit, where the run stops that is meant
   pub two_only : e.status ≡ 2 → GivesStatus task 2 ⊎ (WasHonest e → (s : ToldStop) × ((meant task).end ≡ stopped s))
-  -- and where the meaning of a program that is run stops it comes, but for 5, 6 and 7
+  -- and where the run that is meant stops it comes, but for 5, 6 and 7
   pub two : (s : ToldStop) → (meant task).end ≡ stopped s → WasHonest e → IsNoFault e.status → e.status ≡ 2
   -- 5 comes only where the files broke, or where a name is lacking that was come to, which the line then names
   pub five_only : e.status ≡ 5 → Rose e.broken_before e.broken_after ⊎ ((name : List ℕ) × (task ≡ lacks name) × Appends e.err_before.written e.err_after.written (read_fault_text name))
@@ -68,3 +92,4 @@ abbrev pub HasOwnStatus : Task → Type 0
 HasOwnStatus (lacks name) = Unit {0}
 HasOwnStatus (gives a) = a.status ≤ 2
 HasOwnStatus (runs job) = Unit {0}
+HasOwnStatus (compiles p code) = Unit {0}

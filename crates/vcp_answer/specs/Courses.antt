@@ -12,11 +12,15 @@ use Rattle.coded_machine.specs.Runs.{AllCycles, calls_over, outcome_over}
 use Rattle.flat_expr.specs.Told.{Means}
 use Rattle.vcp_typed.specs.Size.{size}
 use Rattle.run_report.specs.Lines.{header_text, row_text}
+use Rattle.image_file.specs.Graphs.{HasImage}
+use Rattle.image_file.specs.Image.{image_of}
 use Rattle.machine_run.specs.RowRuns.{SomeCycles, texts_from}
-use Rattle.vcp_answer.specs.Answer.{Answer, Job, Task, lacks, gives, runs, read_fault_text}
-use Rattle.vcp_answer.specs.Reports.{Report, report_meant, report_read, no_report, followed_by, output_names, run_answer}
+use Rattle.vcp_typed.specs.SourceRun.{Program}
+use Rattle.vcp_words.specs.Forms.{Code}
+use Rattle.vcp_answer.specs.Answer.{Answer, Subject, source, image, Shown, every_row, words_of, Job, Task, lacks, gives, runs, compiles, printed, read_fault_text}
+use Rattle.vcp_answer.specs.Reports.{Report, report_told, told_of, report_read, shown_read, shown_meant, no_report, followed_by, names_of, job_answer}
 
--- the graph that was run, and the unit's answers, cycle by cycle
+-- the graph that was taken, and the unit's answers, cycle by cycle
 pub record Course : Type 0 where
   pub graph : Lists
   pub cycles : List (List Given)
@@ -25,66 +29,100 @@ pub record Course : Type 0 where
 abbrev pub no_course : Course
 no_course = record { graph = nothing profile.Narrow; cycles = [] }
 
--- A graph as which a job's program may be run: any that means the program and has at most as many operations as its Size.
-pub record MayRun (job : Job) (g : Lists) : Type 0 where
+-- A graph that may stand for a program: any that means it and has at most as many operations as its Size.
+pub record StandsFor (p : Program) (g : Lists) : Type 0 where
   pub graph : IsGraph g
-  pub means : Means g job.program
-  pub few : length g.operations ≤ size job.program
+  pub means : Means g p
+  pub few : length g.operations ≤ size p
+
+-- the graph may be run: it stands for the program, or it is the image's
+abbrev pub MayRun : Subject → Lists → Type 0
+MayRun (source p) g = StandsFor p g
+MayRun (image h) g = g ≡ h
+
+-- the graph stands for the program, and it has an image with the numbers of the code
+pub record MayCompile (p : Program) (code : Code) (g : Lists) : Type 0 where
+  pub stands : StandsFor p g
+  pub has : HasImage g code.seed code.step
 
 -- the numbers of a job's code, for a graph
 abbrev pub numbers : Job → Lists → Numbers
 numbers job g = table_of job.code.seed job.code.step g
 
--- a course of a whole run: a cycle for each row, to the end of the rows or the first cycle that isn't released
+-- A course of a whole run: a cycle for each row, to the end of the rows or the first cycle that isn't released. Of a program of
+-- which an image is written it has the graph alone.
 abbrev pub IsWhole : Task → Course → Type 0
-IsWhole (runs job) c = MayRun job c.graph × AllCycles c.graph (numbers job c.graph) 0 job.rows.rows c.cycles
+IsWhole (runs job) c = MayRun job.subject c.graph × AllCycles c.graph (numbers job c.graph) 0 job.rows.rows c.cycles
 IsWhole (lacks name) c = c ≡ no_course
 IsWhole (gives a) c = c ≡ no_course
+IsWhole (compiles p code) c = MayCompile p code c.graph × (c.cycles ≡ [])
 
 -- the same of a run that may have been given up between two of its cycles
 abbrev pub IsBegun : Task → Course → Type 0
-IsBegun (runs job) c = MayRun job c.graph × SomeCycles c.graph (numbers job c.graph) 0 job.rows.rows c.cycles
+IsBegun (runs job) c = MayRun job.subject c.graph × SomeCycles c.graph (numbers job c.graph) 0 job.rows.rows c.cycles
 IsBegun (lacks name) c = c ≡ no_course
 IsBegun (gives a) c = c ≡ no_course
+IsBegun (compiles p code) c = MayCompile p code c.graph × (c.cycles ≡ [])
 
 -- the calls of a course with their answers, cycle after cycle: the unit is called for nothing but a run
 abbrev pub calls_of : Task → Course → List Entry
 calls_of (runs job) c = calls_over c.graph (numbers job c.graph) 0 (initial_words c.graph job.code.seed) job.rows.rows c.cycles
 calls_of (lacks name) c = []
 calls_of (gives a) c = []
+calls_of (compiles p code) c = []
 
 -- the run that is read off the answers
 abbrev pub report_of : Task → Course → Report
-report_of (runs job) c = report_read c.graph (outcome_over c.graph (numbers job c.graph) 0 c.cycles)
+report_of (runs job) c = report_read c.graph (outcome_over c.graph (numbers job c.graph) 0 c.cycles) (shown_read job.shown c.cycles)
 report_of (lacks name) c = no_report
 report_of (gives a) c = no_report
+report_of (compiles p code) c = no_report
 
 -- the run that the task means
 abbrev pub meant : Task → Report
-meant (runs job) = report_meant job.program job.rows.rows
+meant (runs job) = report_told (told_of job.subject job.rows.rows) (shown_meant job.shown job.code job.rows.rows)
 meant (lacks name) = no_report
 meant (gives a) = no_report
+meant (compiles p code) = no_report
 
--- the answer to a task whose run, if it comes to one, is told so
-abbrev pub answer_of : Task → Report → Answer
-answer_of (runs job) r = run_answer job.rows_name job.program job.rows r
-answer_of (lacks name) r = record { out = []; err = read_fault_text name; status = 5 }
-answer_of (gives a) r = a
+-- the answer where the image of a graph is written, with the numbers of a code
+abbrev pub image_answer : Code → Lists → Answer
+image_answer code g = printed (image_of g code.seed code.step)
+
+-- the answer to a task, where this graph was taken, and where its run, if it comes to one, is told so
+abbrev pub answer_of : Task → Lists → Report → Answer
+answer_of (runs job) g r = job_answer job r
+answer_of (lacks name) g r = record { out = []; err = read_fault_text name; status = 5 }
+answer_of (gives a) g r = a
+answer_of (compiles p code) g r = image_answer code g
+
+-- the answer to a task, as it is read off the answers in a course, and as the task means it
+abbrev pub answer_read : Task → Course → Answer
+answer_read task c = answer_of task c.graph (report_of task c)
+
+abbrev pub answer_meant : Task → Course → Answer
+answer_meant task c = answer_of task c.graph (meant task)
 
 -- a run that may come after that of a course: any at all, unless all rows were taken
 abbrev pub MayCome : Task → Course → Report → Type 0
 MayCome (runs job) c later = length c.cycles ≡ length job.rows.rows → later ≡ no_report
 MayCome (lacks name) c later = later ≡ no_report
 MayCome (gives a) c later = later ≡ no_report
+MayCome (compiles p code) c later = later ≡ no_report
 
 -- the answer to a task whose run is that of a course and then a later one
 abbrev pub answer_then : Task → Course → Report → Answer
-answer_then task c later = answer_of task (followed_by (report_of task c) later)
+answer_then task c later = answer_of task c.graph (followed_by (report_of task c) later)
 
--- all lines of the cycles before the last one were written, and maybe more
-abbrev pub EarlierPrinted : Task → Course → Option (List ℕ) → Option (List ℕ) → Type 0
-EarlierPrinted (runs job) c old new =
+-- all lines of the cycles before the last one were written, and maybe more, where each row is printed
+abbrev pub EarlierShown : Shown → List (List ℕ) → Course → Option (List ℕ) → Option (List ℕ) → Type 0
+EarlierShown every_row names c old new =
     (earlier : List (List Given)) (last : List Given) → c.cycles ≡ earlier ++ last ∷ [] →
-    (more : List ℕ) × Appends old new ((header_text (output_names job.program) ++ texts_from row_text 0 (map (outputs_of c.graph) earlier)) ++ more)
+    (more : List ℕ) × Appends old new ((header_text names ++ texts_from row_text 0 (map (outputs_of c.graph) earlier)) ++ more)
+EarlierShown (words_of g n) names c old new = Unit {0}
+
+abbrev pub EarlierPrinted : Task → Course → Option (List ℕ) → Option (List ℕ) → Type 0
+EarlierPrinted (runs job) c old new = EarlierShown job.shown (names_of job.subject) c old new
 EarlierPrinted (lacks name) c old new = Unit {0}
 EarlierPrinted (gives a) c old new = Unit {0}
+EarlierPrinted (compiles p code) c old new = Unit {0}

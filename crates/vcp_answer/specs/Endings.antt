@@ -10,11 +10,12 @@ use Rattle.vcp_words.specs.Usage.{usage_text}
 use Rattle.vcp_inputs.specs.Lines.{memory_text}
 use Rattle.vcp_answer.specs.Answer.{Task, read_fault_text, write_fault_text}
 use Rattle.machine_run.specs.Moments.{Moment}
-use Rattle.vcp_answer.specs.Courses.{Course, IsWhole, IsBegun, calls_of, report_of, meant, answer_of, answer_then, MayCome, EarlierPrinted}
+use Rattle.vcp_answer.specs.Courses.{Course, IsWhole, IsBegun, calls_of, report_of, meant, answer_read, answer_meant, answer_then, MayCome, EarlierPrinted}
 use Rattle.vcp_answer.specs.Moments.{Errors, Ended, Untouched}
 use Rattle.vcp_answer.specs.Reports.{Report}
 
--- The defined answer was given, but for its line of errors. Where the log is told, it grew by the calls of a whole course, cycle
+-- The defined answer was given, but for its line of errors; of a program of which an image is written, that of some graph that may
+-- stand for it. Where the log is told, it grew by the calls of a whole course, cycle
 -- after cycle to the end of the run, with the answers that the unit gave, and by nothing else; where it isn't, these are some
 -- answers of that form. The output, the line and the status are those of the run that is read off these answers; and where
 -- no answer was wrong, that run is the one that the task means.
@@ -22,9 +23,9 @@ pub record Reached (task : Task) (line : List ℕ) (status : ℕ) (before after 
   pub course : Course
   pub whole : IsWhole task course
   pub log : GrowsBy before.log after.log (calls_of task course)
-  pub out : Appends before.out after.out (answer_of task (report_of task course)).out
-  pub line_is : (answer_of task (report_of task course)).err ≡ line
-  pub status_is : (answer_of task (report_of task course)).status ≡ status
+  pub out : Appends before.out after.out (answer_read task course).out
+  pub line_is : (answer_read task course).err ≡ line
+  pub status_is : (answer_read task course).status ≡ status
   pub honest : after.wrong ≡ before.wrong → before.wrong < 2 ^ 64 - 1 → report_of task course ≡ meant task
 
 -- the defined answer was given: its line was written too, and the status is its own
@@ -55,7 +56,7 @@ pub record Cut (task : Task) (before after : Moment) : Type 0 where
   pub begun : IsBegun task course
   pub log : GrowsBy before.log after.log (calls_of task course)
   pub out : (later : Report) → MayCome task course later → AppendsPart before.out after.out (answer_then task course later).out
-  pub honest : after.wrong ≡ before.wrong → before.wrong < 2 ^ 64 - 1 → AppendsPart before.out after.out (answer_of task (meant task)).out
+  pub honest : after.wrong ≡ before.wrong → before.wrong < 2 ^ 64 - 1 → AppendsPart before.out after.out (answer_meant task course).out
   pub earlier : EarlierPrinted task course before.out after.out
 
 -- the line was printed with this status, or the sink of the errors failed in it, with status 6
@@ -100,7 +101,7 @@ pub record Front (task : Task) (before after : Moment) : Type 0 where
   pub begun : IsBegun task course
   pub log : GrowsBy before.log after.log (calls_of task course)
   pub out : (later : Report) → MayCome task course later → AppendsFront before.out after.out (answer_then task course later).out
-  pub honest : after.wrong ≡ before.wrong → before.wrong < 2 ^ 64 - 1 → AppendsFront before.out after.out (answer_of task (meant task)).out
+  pub honest : after.wrong ≡ before.wrong → before.wrong < 2 ^ 64 - 1 → AppendsFront before.out after.out (answer_meant task course).out
 
 -- memory was wanted when the command had begun to write
 pub record MemoryEnded (task : Task) (e : Ended) : Type 0 where

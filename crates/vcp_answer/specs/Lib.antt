@@ -2,6 +2,7 @@ pub mod Answer
 pub mod Answered
 pub mod Causes
 pub mod Courses
+pub mod CycleWords
 pub mod Endings
 pub mod Moments
 pub mod Reports

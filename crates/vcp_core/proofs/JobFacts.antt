@@ -1,5 +1,5 @@
 -- What the calls of a job's run give, as its lemmas take it.
-use Rattle.std.proofs.Common.{ℕ, ◌≡◌, ◌<◌, ◌≤◌, refl, sym, ap, subst, ◌∙◌, List, length, map, slice_get, Option, None, Some, Result, Ok, All, arith, ℤ}
+use Rattle.std.proofs.Common.{ℕ, suc, [], ◌∷◌, ◌≡◌, ◌<◌, ◌≤◌, refl, sym, ap, subst, ◌∙◌, List, length, map, slice_get, Option, None, Some, Result, Ok, All, arith, ℤ}
 use Rattle.std.proofs.lemmas.List.{length-map}
 use Rattle.vcp_base.specs.Types.{AreIn}
 use Rattle.vcp_base.specs.declared.columns.Column.{Column}
@@ -13,7 +13,7 @@ use Rattle.coded_unit.specs.Log.{Entry}
 use Rattle.op_graph.specs.declared.op.Op.{Op}
 use Rattle.op_graph.specs.Lists.{Lists, column, output_column}
 use Rattle.op_graph.specs.Rules.{IsGraph}
-use Rattle.signature_table.specs.Signatures.{Numbers}
+use Rattle.signature_table.specs.Signatures.{Numbers, table_of}
 use Rattle.coded_machine.specs.declared.cycle_end.CycleEnd.{CycleEnd}
 use Rattle.coded_machine.specs.declared.cycle_end.CycleEnd.TheVariants as cycle
 use Rattle.coded_machine.specs.State.{State, fresh}
@@ -22,12 +22,11 @@ use Rattle.machine_run.specs.declared.fault.RunFault.{RunFault}
 use Rattle.machine_run.specs.Leaves.{Leaves}
 use Rattle.machine_run.specs.Moments.{Moment, moment}
 use Rattle.vcp_words.specs.Forms.{Code}
-use Rattle.vcp_answer.specs.Courses.{MayRun}
+use Rattle.vcp_answer.specs.Answer.{Subject, source}
 use Rattle.vcp_answer.specs.Moments.{Untouched}
-use Rattle.vcp_answer.specs.Reports.{end_read, end_told, output_names, run_status}
-use Rattle.vcp_core.specs.MachineRun.{IsThere}
-use Rattle.vcp_core.specs.Run.{job}
-use Rattle.vcp_core.proofs.JobRun.{all-rows, grows-none}
+use Rattle.vcp_answer.specs.Reports.{end_read, end_told, names_of, run_status}
+use Rattle.vcp_core.specs.MachineRun.{CarriesOut, IsThere}
+use Rattle.vcp_core.proofs.JobRun.{grows-none}
 use Rattle.vcp_core.proofs.PlainNames.{inputs-count}
 use Rattle.vcp_core.proofs.PlainTurns.{appends-nothing}
 
@@ -35,17 +34,24 @@ use Rattle.vcp_core.proofs.PlainTurns.{appends-nothing}
 pub untouched-by : (log : Option (List Entry)) (wrong : ℕ) (out : Option (List ℕ)) (f h : ℕ) → Untouched (moment log wrong out f) (moment log wrong out h)
 untouched-by log wrong out f h = record { log = grows-none log; wrong = refl; out = appends-nothing out }
 
--- the graph may be run as the job's program
-pub may-run : (name : List ℕ) (code : Code) (p : Program) (left : RowsLeft) (g : Lists) → IsGraph g → Means g p → length g.operations ≤ size p → MayRun (job name code p left) g
-may-run name code p left g graph means few = record { graph = graph; means = means; few = few }
+-- rows of values of these types, as a list of rows
+all-rows : (types : List Ty) (rows : List (List ℤ)) → All (AreIn types) rows → AreRows types rows
+all-rows types [] h = tt
+all-rows types (row ∷ rows) h = (h 0 row (omega arith), all-rows types rows (λ k d below. h (suc k) d (omega (arith, below))))
+
+-- a graph that means a program is run in its place on rows that fit its inputs
+pub source-carried : (p : Program) (code : Code) (left : RowsLeft) (g : Lists) (t : Numbers) → IsGraph g → Means g p → length g.operations ≤ size p → t ≡ table_of code.seed code.step g →
+    left.types ≡ input_types p.slots → All (AreIn left.types) left.rows → CarriesOut g t left (source p) code
+source-carried p code left g t graph means few table types typed = record {
+  may = record { graph = graph; means = means; few = few };
+  numbers = table;
+  names = ap (map (λ (c : Column). c.name)) means.outputs;
+  told = means.runs left.rows (subst (λ types. AreRows types left.rows) types (all-rows left.types left.rows typed));
+}
 
 -- the names of the outputs
-pub names-are : (g : Lists) (p : Program) (outputs : List Column) → Means g p → outputs ≡ map (output_column g.names) g.outputs → map (λ (c : Column). c.name) outputs ≡ output_names p
-names-are g p outputs means is = ap (map (λ (c : Column). c.name)) (is ∙ means.outputs)
-
--- the rows fit the program's inputs
-pub left-fit : (p : Program) (left : RowsLeft) → left.types ≡ input_types p.slots → All (AreIn left.types) left.rows → AreRows (input_types p.slots) left.rows
-left-fit p left is typed = subst (λ types. AreRows types left.rows) is (all-rows left.types left.rows typed)
+pub names-are : (g : Lists) (t : Numbers) (left : RowsLeft) (s : Subject) (code : Code) (outputs : List Column) → CarriesOut g t left s code → outputs ≡ map (output_column g.names) g.outputs → map (λ (c : Column). c.name) outputs ≡ names_of s
+names-are g t left s code outputs carries is = ap (map (λ (c : Column). c.name)) is ∙ carries.names
 
 -- and have a value for each input of the graph
 pub width-is : (g : Lists) (p : Program) (types : List Ty) → Means g p → types ≡ input_types p.slots → length types ≡ length g.inputs

@@ -1,6 +1,8 @@
 pub mod Facts
+pub mod ImageLoaded
 pub mod JobFacts
 pub mod JobRun
+pub mod Listed
 pub mod Loaded
 pub mod OneTask
 pub mod PlainNames
@@ -12,4 +14,9 @@ pub mod Reaching
 pub mod RunReaching
 pub mod Serving
 pub mod TaskKinds
+pub mod Traced
+pub mod WideImages
+pub mod WordsHonest
+pub mod WordsPrinted
+pub mod WordsRun
 pub mod Written

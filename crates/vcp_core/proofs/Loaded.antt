@@ -98,15 +98,16 @@ rows_taken f rows held (input.Refused (refusal.Lexing why)) mid rest named at_en
 rows_taken f rows held (input.Refused (refusal.Parsing why)) mid rest named at_end stays long is = inl (rw (stays (refusal.Parsing why) refl (λ e. cc)) at_end)
 rows_taken f rows held (input.Refused (refusal.Typing why)) mid rest named at_end stays long is = inl (rw (stays (refusal.Typing why) refl (λ e. cc)) at_end)
 rows_taken f rows held (input.Refused (refusal.Rows why)) mid rest named at_end stays long is = inl (rw (stays (refusal.Rows why) refl (λ e. cc)) at_end)
+rows_taken f rows held (input.Refused (refusal.Image why)) mid rest named at_end stays long is = inl (rw (stays (refusal.Image why) refl (λ e. cc)) at_end)
 rows_taken f rows held input.Memory mid rest named at_end stays long is = absurd (omega (arith, is))
 
--- ---- a command that reads P and ROWS
+-- ---- a command that reads P or M, and ROWS
 
 module _ (f : Form) (p : List ℕ) (rows : Rows) (reads : ReadsRows f p rows) where
-  reads_source : Among p (file_words f)
+  pub reads_source : Among p (file_words f)
   reads_source = let Q : List (List ℕ) → Type 0 = λ names. Among p names in subst Q (sym reads.files) (inl refl)
 
-  reads_more : (name : List ℕ) → Among name (rows_files rows) → Among name (file_words f)
+  pub reads_more : (name : List ℕ) → Among name (rows_files rows) → Among name (file_words f)
   reads_more name among = let Q : List (List ℕ) → Type 0 = λ names. Among name names in subst Q (sym reads.files) (inr among)
 
   -- where P is refused

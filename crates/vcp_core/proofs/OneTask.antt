@@ -1,6 +1,6 @@
 -- A command and files come to one task, and without a unit to the answer that is meant.
-use Rattle.std.proofs.Common.{ℕ, ◌≡◌, ◌≢◌, Bool, true, false, cond, refl, sym, ap, ◌∙◌, List, length, Option, Some, None, nat_lt}
-use Rattle.vcp_base.specs.Limits.{most_depth, most_source_bytes}
+use Rattle.std.proofs.Common.{ℕ, ◌≡◌, ◌≢◌, Bool, true, false, cond, refl, sym, ap, ◌∙◌, List, length, map, Option, Some, None, nat_lt}
+use Rattle.vcp_base.specs.Limits.{most_depth, most_image_bytes, most_source_bytes}
 use Rattle.vcp_base.specs.declared.spot.Spot.{Spot}
 use Rattle.vcp_outside.specs.Held.{Held}
 use Rattle.st_lexer.specs.declared.fault.LexFault.{LexFault}
@@ -20,24 +20,41 @@ use Rattle.st_types.specs.declared.fault.TypeFault.TheVariants as typing
 use Rattle.st_types.specs.Typing.{IsTyped, Refuses as RefusesTree}
 use Rattle.vcp_typed.specs.Fitting.{input_columns}
 use Rattle.vcp_typed.specs.SourceRun.{Program}
-use Rattle.vcp_words.specs.Forms.{Form, Rows, Code, check, format, plain, run}
+use Rattle.vcp_words.specs.Forms.{Form, Rows, Code, check, format, plain, run, compile, list, exec, trace, widen}
 use Rattle.vcp_words.specs.Tables.{rows_name}
 use Rattle.vcp_inputs.specs.declared.refusal.Refusal.{Refusal}
 use Rattle.vcp_inputs.specs.declared.refusal.Refusal.TheVariants as refusal
 use Rattle.vcp_inputs.specs.Programs.{IsProgram, NoProgram, unlexed, unparsed, TypedOf, NotTyped, no_program, mistyped}
+use Rattle.input_rows.specs.RowsOf.{through}
+use Rattle.op_graph.specs.Lists.{Lists, column}
+use Rattle.signature_table.specs.Signatures.{Numbers, table_of}
+use Rattle.image_file.specs.declared.fault.ImageFault.{ImageFault}
+use Rattle.image_file.specs.Graphs.{HasImage, FaultAt}
+use Rattle.image_file.specs.Image.{image_of}
+use Rattle.vcp_inputs.specs.declared.images.Image.{Image}
+use Rattle.vcp_inputs.specs.Images.{ImageOf, NotImage, no_image}
 use Rattle.vcp_inputs.specs.RowsOutcome.{RowsOutcome, rows_outcome}
 use Rattle.vcp_inputs.specs.RowsOutcome as outcome
-use Rattle.vcp_answer.specs.Answer.{Task, gives, runs, refuses, WithFile}
-use Rattle.vcp_answer.specs.Sources.{ParsedText, TypedText, on_rows, rows_task}
+use Rattle.vcp_answer.specs.Answer.{Task, gives, runs, compiles, refuses, WithFile}
+use Rattle.vcp_answer.specs.Sources.{ParsedText, TypedText, ImageText, on_rows, rows_task}
 use Rattle.vcp_answer.specs.Sources as taken
 use Rattle.vcp_core.specs.Check.{size_task}
 use Rattle.vcp_core.specs.Format.{text_task}
-use Rattle.vcp_core.specs.Plain.{plain_answer}
-use Rattle.vcp_core.specs.Run.{job}
-use Rattle.vcp_core.specs.Tasks.{TaskOf, without_unit, as_meant}
-use Rattle.vcp_core.proofs.TaskKinds.{task_has}
+use Rattle.vcp_core.specs.Exec.{image_job}
+use Rattle.vcp_core.specs.Listing.{listing_task}
+use Rattle.vcp_core.specs.Plain.{PlainTask, plain_answer}
+use Rattle.vcp_core.specs.Run.{RunTask, job}
+use Rattle.vcp_core.specs.Tasks.{TaskOf, as_meant}
+use Rattle.vcp_core.specs.Trace.{words_job}
+use Rattle.vcp_core.specs.Widen.{wide_task}
 
--- the laws of reading, of parsing and of typing
+-- the law of images
+pub record ImageLaws : Type 0 where
+  pub graph : (g h : Lists) (seed other_seed step other_step : ℕ) → HasImage g seed step → HasImage h other_seed other_step → image_of g seed step ≡ image_of h other_seed other_step → (g ≡ h) × (seed ≡ other_seed) × (step ≡ other_step)
+  pub fault : (bytes : List ℕ) (e f : ImageFault) → FaultAt bytes e → FaultAt bytes f → e ≡ f
+  pub none : (g : Lists) (seed step : ℕ) (e : ImageFault) → HasImage g seed step → FaultAt (image_of g seed step) e → ⊥
+
+-- the laws of reading, of parsing, of typing and of images
 pub record Laws : Type 0 where
   pub tokens : (text : List ℕ) (a b : List Token) → Reads text a → Reads text b → a ≡ b
   pub either : (text : List ℕ) (a : List Token) (p : ℕ) (r : Reason) → Reads text a → LexAt text p r → ⊥
@@ -48,6 +65,7 @@ pub record Laws : Type 0 where
   pub typed : (p : ProgramTree) (t u : Program) → IsTyped p t → IsTyped p u → t ≡ u
   pub apart : (p : ProgramTree) (t : Program) (e : TypeFault) → IsTyped p t → RefusesTree p e → e ≡ typing.Memory
   pub refused : (p : ProgramTree) (e g : TypeFault) → (e ≡ typing.Memory → ⊥) → (g ≡ typing.Memory → ⊥) → RefusesTree p e → RefusesTree p g → e ≡ g
+  pub images : ImageLaws
 
 -- ---- a text is one program, or is refused in one way
 
@@ -125,30 +143,64 @@ module _ (laws : Laws) where
   parsed_text_once Then name text _ _ (taken.parsed p h) (taken.unparsed s k) = absurd (program_or_none text s p h k)
   parsed_text_once Then name text _ _ (taken.parsed p h) (taken.parsed q k) = ap Then (program_once text p q h k)
 
-module _ (name : List ℕ) (Text : List ℕ → Task → Type 0) (once : (text : List ℕ) (a b : Task) → Text text a → Text text b → a ≡ b) where
+-- ---- a text is one image, or is refused in one way
+
+-- a table is that of its graph, with its seed and its step
+table_is : (t u : Numbers) (g h : Lists) → t ≡ table_of t.seed t.step g → u ≡ table_of u.seed u.step h → g ≡ h → t.seed ≡ u.seed → t.step ≡ u.step → t ≡ u
+table_is t u g h one other graphs seeds steps =
+    one ∙ ap (λ x. table_of x t.step g) seeds ∙ ap (λ x. table_of u.seed x g) steps ∙ ap (table_of u.seed u.step) graphs ∙ sym other
+
+module _ (laws : ImageLaws) where
+  pub image_once : (text : List ℕ) (i j : Image) → ImageOf text i → ImageOf text j → (i.graph ≡ j.graph) × (i.table ≡ j.table)
+  image_once text i j one other =
+      let (graphs, seeds, steps) = laws.graph i.graph j.graph i.table.seed j.table.seed i.table.step j.table.step one.has other.has (sym one.bytes ∙ other.bytes) in
+      (graphs, table_is i.table j.table i.graph j.graph one.table other.table graphs seeds steps)
+
+  image_or_none : (text : List ℕ) (i : Image) (r : Refusal) → ImageOf text i → NotImage text r → ⊥
+  image_or_none text i _ one (no_image f at) = laws.none i.graph i.table.seed i.table.step f one.has (rw one.bytes at at)
+
+  no_image_once : (text : List ℕ) (r s : Refusal) → NotImage text r → NotImage text s → r ≡ s
+  no_image_once text _ _ (no_image e h) (no_image f k) = ap refusal.Image (laws.fault text e f h k)
+
+  then_once : (Then : Lists → Numbers → Task) (i j : Image) → (i.graph ≡ j.graph) × (i.table ≡ j.table) → Then i.graph i.table ≡ Then j.graph j.table
+  then_once Then i j same = ap (λ g. Then g i.table) same.0 ∙ ap (Then j.graph) same.1
+
+  pub image_text_once : (Then : Lists → Numbers → Task) (name text : List ℕ) (a b : Task) → ImageText Then name text a → ImageText Then name text b → a ≡ b
+  image_text_once Then name text _ _ (taken.not_image r h) (taken.not_image s k) = ap (refuses name) (no_image_once text r s h k)
+  image_text_once Then name text _ _ (taken.not_image r h) (taken.is_image j k) = absurd (image_or_none text j r k h)
+  image_text_once Then name text _ _ (taken.is_image i h) (taken.not_image s k) = absurd (image_or_none text i s h k)
+  image_text_once Then name text _ _ (taken.is_image i h) (taken.is_image j k) = then_once Then i j (image_once text i j h k)
+
+-- ---- tasks of commands
+
+module _ (name : List ℕ) (limit : ℕ) (Text : List ℕ → Task → Type 0) (once : (text : List ℕ) (a b : Task) → Text text a → Text text b → a ≡ b) where
   long_once : (over : Bool) (text : List ℕ) (a b : Task) → cond over (a ≡ refuses name refusal.Bytes) (Text text a) → cond over (b ≡ refuses name refusal.Bytes) (Text text b) → a ≡ b
   long_once true text a b h k = h ∙ sym k
   long_once false text a b h k = once text a b h k
 
-  file_once : (found : Option (List ℕ)) (a b : Task) → WithFile name most_source_bytes Text found a → WithFile name most_source_bytes Text found b → a ≡ b
+  file_once : (found : Option (List ℕ)) (a b : Task) → WithFile name limit Text found a → WithFile name limit Text found b → a ≡ b
   file_once None a b h k = h ∙ sym k
-  file_once (Some text) a b h k = long_once (nat_lt most_source_bytes (length text)) text a b h k
+  file_once (Some text) a b h k = long_once (nat_lt limit (length text)) text a b h k
 
 typed_task_once : (laws : Laws) (Then : Program → Task) (p : List ℕ) (held : Held) (a b : Task) → taken.TypedTask Then p held a → taken.TypedTask Then p held b → a ≡ b
-typed_task_once laws Then p held a b h k = file_once p (TypedText Then p) (typed_text_once laws Then p) (held p) a b h k
+typed_task_once laws Then p held a b h k = file_once p most_source_bytes (TypedText Then p) (typed_text_once laws Then p) (held p) a b h k
+
+pub image_task_once : (laws : ImageLaws) (Then : Lists → Numbers → Task) (m : List ℕ) (held : Held) (a b : Task) → taken.ImageTask Then m held a → taken.ImageTask Then m held b → a ≡ b
+image_task_once laws Then m held a b h k = file_once m most_image_bytes (ImageText Then m) (image_text_once laws Then m) (held m) a b h k
 
 -- the tasks of a command are one
 pub task_once : (laws : Laws) (f : Form) (held : Held) (a b : Task) → TaskOf f held a → TaskOf f held b → a ≡ b
 task_once laws (check p) held a b h k = typed_task_once laws size_task p held a b h k
-task_once laws (format p) held a b h k = file_once p (ParsedText text_task p) (parsed_text_once laws text_task p) (held p) a b h k
+task_once laws (format p) held a b h k = file_once p most_source_bytes (ParsedText text_task p) (parsed_text_once laws text_task p) (held p) a b h k
 task_once laws (plain p rows) held a b h k = typed_task_once laws (λ t. rows_task rows held (input_columns t.slots) (λ left. gives (plain_answer (rows_name rows) t left))) p held a b h k
 task_once laws (run p rows code) held a b h k = typed_task_once laws (λ t. rows_task rows held (input_columns t.slots) (λ left. runs (job (rows_name rows) code t left))) p held a b h k
+task_once laws (compile p code) held a b h k = typed_task_once laws (λ t. compiles t code) p held a b h k
+task_once laws (list m) held a b h k = image_task_once laws.images listing_task m held a b h k
+task_once laws (exec m rows) held a b h k = image_task_once laws.images (λ g t. rows_task rows held (map (column g.names) g.inputs) (λ left. runs (image_job (rows_name rows) g t left))) m held a b h k
+task_once laws (trace m rows n) held a b h k = image_task_once laws.images (λ g t. rows_task rows held (map (column g.names) g.inputs) (λ left. runs (words_job (rows_name rows) n g t (through n left)))) m held a b h k
+task_once laws (widen m) held a b h k = image_task_once laws.images wide_task m held a b h k
 
 -- ---- without a unit
-
--- a task that isn't run is the one that is meant
-meant_same : (f : Form) (held : Held) (task : Task) → ((p : List ℕ) (rows : Rows) (code : Code) → f ≡ run p rows code → ⊥) → TaskOf f held task → as_meant task ≡ task
-meant_same f held task other comes = task_has (λ t. as_meant t ≡ t) (λ a small. refl) f held task (λ name among none. refl) (λ p rows code is j. absurd (other p rows code is)) comes
 
 module _ (Runs Plain : Program → Task) (same : (t : Program) → as_meant (Runs t) ≡ Plain t) (name : List ℕ) where
   text_meant : (text : List ℕ) (task : Task) → TypedText Runs name text task → TypedText Plain name text (as_meant task)
@@ -168,11 +220,8 @@ rows_meant name code t outcome.lacking = refl
 rows_meant name code t (outcome.refused r) = refl
 rows_meant name code t (outcome.opened left) = refl
 
--- the command without a unit comes to the answer that is meant
-pub task_meant : (f : Form) (held : Held) (task : Task) → TaskOf f held task → TaskOf (without_unit f) held (as_meant task)
-task_meant (check p) held task h = rw (meant_same (check p) held task (λ q rows code e. cc) h) h
-task_meant (format p) held task h = rw (meant_same (format p) held task (λ q rows code e. cc) h) h
-task_meant (plain p rows) held task h = rw (meant_same (plain p rows) held task (λ q other code e. cc) h) h
-task_meant (run p rows code) held task h =
+-- `plain` comes to the answer that is meant by `run`
+pub task_meant : (p : List ℕ) (rows : Rows) (code : Code) (held : Held) (task : Task) → RunTask p rows code held task → PlainTask p rows held (as_meant task)
+task_meant p rows code held task h =
     file_meant (λ t. rows_task rows held (input_columns t.slots) (λ left. runs (job (rows_name rows) code t left))) (λ t. rows_task rows held (input_columns t.slots) (λ left. gives (plain_answer (rows_name rows) t left)))
     (λ t. rows_meant (rows_name rows) code t (rows_outcome rows held (input_columns t.slots))) p (held p) task h

@@ -30,6 +30,7 @@ row_line name (row.Width n) r is = let e : r ≡ refusal.Rows (row.Width n) = cc
 row_line name (row.Cell n m) r is = let e : r ≡ refusal.Rows (row.Cell n m) = cc in rw e refl
 row_line name row.Form r is = let e : r ≡ refusal.Rows row.Form = cc in rw e refl
 row_line name row.Cycles r is = let e : r ≡ refusal.Rows row.Cycles = cc in rw e refl
+row_line name row.Cycle r is = let e : r ≡ refusal.Rows row.Cycle = cc in rw e refl
 row_line name row.Memory r is = cc
 
 module _ (p : List ℕ) (rows : Rows) (Takes : Task → Type 0) (log : Option (List Entry)) (wrong : ℕ) (old new : Option (List ℕ)) (f g b n : ℕ) (t : Program) (left : RowsLeft) (takes : Takes (gives (plain_answer (rows_name rows) t left))) where

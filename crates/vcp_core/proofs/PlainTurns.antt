@@ -158,6 +158,7 @@ refuses-here p n m left now (rows.Width row) h = let none = h (λ e. absurd cc) 
 refuses-here p n m left now (rows.Cell row column) h = let none = h (λ e. absurd cc) in (rows.Cell row column, stop-without-rows p m left _ none, none.refusal_is, refl, rw (text-without-rows p n m left _ none) (appends-nothing now))
 refuses-here p n m left now rows.Form h = let none = h (λ e. absurd cc) in (rows.Form, stop-without-rows p m left _ none, none.refusal_is, refl, rw (text-without-rows p n m left _ none) (appends-nothing now))
 refuses-here p n m left now rows.Cycles h = let none = h (λ e. absurd cc) in (rows.Cycles, stop-without-rows p m left _ none, none.refusal_is, refl, rw (text-without-rows p n m left _ none) (appends-nothing now))
+refuses-here p n m left now rows.Cycle h = let none = h (λ e. absurd cc) in (rows.Cycle, stop-without-rows p m left _ none, none.refusal_is, refl, rw (text-without-rows p n m left _ none) (appends-nothing now))
 
 -- ---- the whole
 

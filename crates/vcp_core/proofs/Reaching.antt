@@ -23,7 +23,7 @@ use Rattle.vcp_answer.specs.Statuses.{HasLong}
 use Rattle.vcp_core.specs.Reach.{Gives, Lost, input_status}
 
 -- nothing was logged
-grows_by_none : (x : Option (List Entry)) → GrowsBy x x []
+pub grows_by_none : (x : Option (List Entry)) → GrowsBy x x []
 grows_by_none (Some es) = sym (append-nil es)
 grows_by_none None = tt
 

@@ -4,12 +4,12 @@ use Rattle.std.specs.Io.KnownBytes.{Appends}
 use Rattle.vcp_outside.specs.Counts.{Rose}
 use Rattle.vcp_outside.specs.Held.{Held}
 use Rattle.machine_run.specs.Moments.{Moment}
-use Rattle.vcp_words.specs.Forms.{Form, check, format, plain, run}
+use Rattle.vcp_words.specs.Forms.{Form, Rows, Code, check, format, plain, run, compile, list, exec, trace, widen}
 use Rattle.vcp_words.specs.Tables.{own_statuses}
 use Rattle.vcp_inputs.specs.declared.refusal.NoInput.{NoInput}
 use Rattle.vcp_inputs.specs.declared.refusal.NoInput.TheVariants as input
 use Rattle.vcp_inputs.specs.Lines.{memory_text}
-use Rattle.vcp_answer.specs.Answer.{Answer, Task, lacks, gives, runs, read_fault_text}
+use Rattle.vcp_answer.specs.Answer.{Answer, Task, lacks, gives, runs, compiles, read_fault_text}
 use Rattle.vcp_answer.specs.Answered.{Answered, known, given_up}
 use Rattle.vcp_answer.specs.Causes.{Causes, Gave, HasOwnStatus, IsNoFault, NothingFailed, WasHonest, meant_answer}
 use Rattle.vcp_answer.specs.Endings.{TellsLine, Among, Ends, answers, output_failed, errors_failed, memory_ended, unread, unmade, untold}
@@ -19,6 +19,8 @@ use Rattle.vcp_core.specs.declared.ending.End.{End}
 use Rattle.vcp_core.specs.declared.fault.Fault.{Fault}
 use Rattle.vcp_core.specs.declared.fault.Fault.TheVariants as fault
 use Rattle.vcp_core.specs.Reach.{Gives, WantsMemory, Broke, Lost, Reaches, rows_told, input_text, input_status, fault_text, fault_status, end_status, OwnEnd}
+use Rattle.vcp_core.specs.Plain.{PlainTask}
+use Rattle.vcp_core.specs.Run.{RunTask}
 use Rattle.vcp_core.specs.Tasks.{TaskOf, AsPlain, as_meant, source_name, without_unit}
 use Rattle.vcp_core.proofs.TaskKinds.{own_status, never_lacks}
 
@@ -69,6 +71,11 @@ one_own (check p) = inr (inl refl)
 one_own (format p) = inr (inl refl)
 one_own (plain p rows) = inr (inl refl)
 one_own (run p rows code) = inr (inl refl)
+one_own (compile p code) = inr (inl refl)
+one_own (list m) = inr (inl refl)
+one_own (exec m rows) = inr (inl refl)
+one_own (trace m rows n) = inr (inl refl)
+one_own (widen m) = inr (inl refl)
 
 among_more : (x : ℕ) (xs ys : List ℕ) → Among x xs → Among x (xs ++ ys)
 among_more x [] ys h = absurd h
@@ -119,13 +126,29 @@ meant_gave (gives x) a e causes is honest no_fault =
     let same : x ≡ a = cc in
     let P : Answer → Type 0 = λ y. Gave y e in subst P same (causes.given x refl no_fault)
 meant_gave (runs job) a e causes is honest no_fault =
-    let same : meant_answer (runs job) ≡ a = cc in
+    let same : meant_answer job ≡ a = cc in
     let P : Answer → Type 0 = λ y. Gave y e in subst P same (causes.as_meant job refl honest no_fault)
+meant_gave (compiles p code) a e causes is honest no_fault = absurd cc
 
--- it is the answer of the command without a unit
-pub as_plain : ((f : Form) (held : Held) (a b : Task) → TaskOf f held a → TaskOf f held b → a ≡ b) → ((f : Form) (held : Held) (task : Task) → TaskOf f held task → TaskOf (without_unit f) held (as_meant task)) →
-    (f : Form) (held : Held) (e : Ended) → Answered f (TaskOf f held) e → AsPlain f held e
-as_plain one meant f held e (known task comes ends causes) a takes honest no_fault = meant_gave task a e causes (one (without_unit f) held (as_meant task) (gives a) (meant f held task comes) takes) honest no_fault
-as_plain one meant f held e (given_up (unread b)) a takes honest no_fault = absurd (no_fault.files b.status)
-as_plain one meant f held e (given_up (unmade l)) a takes honest no_fault = elim l.told [ inl t ↦ absurd (no_fault.memory t.0) | inr t ↦ absurd (no_fault.sinks t.0) ]
-as_plain one meant f held e (given_up (untold l)) a takes honest no_fault = absurd (no_fault.sinks l.status)
+-- it is the answer of the command without a unit, or of the command itself
+module _ (one : (f : Form) (held : Held) (a b : Task) → TaskOf f held a → TaskOf f held b → a ≡ b) (meant : (p : List ℕ) (rows : Rows) (code : Code) (held : Held) (task : Task) → RunTask p rows code held task → PlainTask p rows held (as_meant task)) where
+  own_gave : (f : Form) (held : Held) (task : Task) (a : Answer) (e : Ended) → TaskOf f held task → TaskOf f held (gives a) → Causes task e → IsNoFault e.status → Gave a e
+  own_gave f held task a e comes takes causes no_fault = causes.given a (one f held task (gives a) comes takes) no_fault
+
+  known_plain : (f : Form) (held : Held) (task : Task) (a : Answer) (e : Ended) → TaskOf f held task → TaskOf (without_unit f) held (gives a) → Causes task e → WasHonest e → IsNoFault e.status → Gave a e
+  known_plain (check p) held task a e comes takes causes honest no_fault = own_gave (check p) held task a e comes takes causes no_fault
+  known_plain (format p) held task a e comes takes causes honest no_fault = own_gave (format p) held task a e comes takes causes no_fault
+  known_plain (plain p rows) held task a e comes takes causes honest no_fault = own_gave (plain p rows) held task a e comes takes causes no_fault
+  known_plain (run p rows code) held task a e comes takes causes honest no_fault =
+      meant_gave task a e causes (one (plain p rows) held (as_meant task) (gives a) (meant p rows code held task comes) takes) honest no_fault
+  known_plain (compile p code) held task a e comes takes causes honest no_fault = own_gave (compile p code) held task a e comes takes causes no_fault
+  known_plain (list m) held task a e comes takes causes honest no_fault = own_gave (list m) held task a e comes takes causes no_fault
+  known_plain (exec m rows) held task a e comes takes causes honest no_fault = own_gave (exec m rows) held task a e comes takes causes no_fault
+  known_plain (trace m rows n) held task a e comes takes causes honest no_fault = own_gave (trace m rows n) held task a e comes takes causes no_fault
+  known_plain (widen m) held task a e comes takes causes honest no_fault = own_gave (widen m) held task a e comes takes causes no_fault
+
+  pub as_plain : (f : Form) (held : Held) (e : Ended) → Answered f (TaskOf f held) e → AsPlain f held e
+  as_plain f held e (known task comes ends causes) a takes honest no_fault = known_plain f held task a e comes takes causes honest no_fault
+  as_plain f held e (given_up (unread b)) a takes honest no_fault = absurd (no_fault.files b.status)
+  as_plain f held e (given_up (unmade l)) a takes honest no_fault = elim l.told [ inl t ↦ absurd (no_fault.memory t.0) | inr t ↦ absurd (no_fault.sinks t.0) ]
+  as_plain f held e (given_up (untold l)) a takes honest no_fault = absurd (no_fault.sinks l.status)

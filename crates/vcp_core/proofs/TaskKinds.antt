@@ -1,32 +1,39 @@
 -- What can be said of each task that a command comes to.
-use Rattle.std.proofs.Common.{ℕ, ◌≤◌, ◌≡◌, inl, inr, Bool, true, false, cond, refl, List, [], ◌∷◌, length, lit≤, Option, Some, None, IsSome, Result, Ok, Err, nat_lt}
-use Rattle.vcp_base.specs.Limits.{most_source_bytes, most_rows_bytes}
+use Rattle.std.proofs.Common.{ℕ, ◌≤◌, ◌≡◌, inl, inr, Bool, true, false, cond, refl, List, [], ◌∷◌, length, map, lit≤, Option, Some, None, IsSome, Result, Ok, Err, nat_lt}
+use Rattle.vcp_base.specs.Limits.{most_image_bytes, most_source_bytes, most_rows_bytes}
 use Rattle.vcp_base.specs.Stops.{ToldStop}
 use Rattle.vcp_base.specs.declared.columns.Column.{Column}
 use Rattle.vcp_outside.specs.Held.{Held}
 use Rattle.input_rows.specs.declared.fault.RowFault.{RowFault}
 use Rattle.input_rows.specs.RowsOf.{RowsLeft, rows_of, rows_of_cycles}
+use Rattle.input_rows.specs.RowsOf.{through}
+use Rattle.op_graph.specs.Lists.{Lists, column}
+use Rattle.signature_table.specs.Signatures.{Numbers}
 use Rattle.st_tree.specs.ProgramTree.{ProgramTree}
 use Rattle.vcp_typed.specs.Fitting.{input_columns}
 use Rattle.vcp_typed.specs.SourceRun.{Program}
 use Rattle.flat_expr.specs.Told.{told_source}
-use Rattle.vcp_words.specs.Forms.{Form, Rows, Code, check, format, plain, run, file, cycles}
+use Rattle.vcp_words.specs.Forms.{Form, Rows, Code, check, format, plain, run, compile, list, exec, trace, widen, file, cycles}
 use Rattle.vcp_words.specs.Tables.{file_words, rows_files, rows_name}
 use Rattle.vcp_inputs.specs.declared.refusal.Refusal.{Refusal}
 use Rattle.vcp_inputs.specs.declared.refusal.Refusal.TheVariants as refusal
 use Rattle.vcp_inputs.specs.RowsOutcome.{RowsOutcome, lacking, opened, rows_or_refusal, file_outcome, rows_outcome}
 use Rattle.vcp_inputs.specs.RowsOutcome as outcome
-use Rattle.vcp_answer.specs.Answer.{Answer, Job, Task, lacks, gives, runs, refuses, WithFile}
+use Rattle.vcp_answer.specs.Answer.{Answer, Job, Task, lacks, gives, runs, compiles, refuses, WithFile}
 use Rattle.vcp_answer.specs.Causes.{HasOwnStatus}
 use Rattle.vcp_answer.specs.Endings.{Among}
 use Rattle.vcp_answer.specs.Reports.{end_told, run_status}
-use Rattle.vcp_answer.specs.Sources.{ParsedText, unparsed, parsed, TypedText, untyped, typed, on_rows, rows_task, ProgramTask}
+use Rattle.vcp_answer.specs.Sources.{ParsedText, unparsed, parsed, TypedText, untyped, typed, ImageText, not_image, is_image, on_rows, rows_task, ProgramTask, GraphTask}
 use Rattle.vcp_answer.specs.Statuses.{AreHeld, FilesHeld}
 use Rattle.vcp_core.specs.Check.{size_task}
 use Rattle.vcp_core.specs.Format.{text_task}
+use Rattle.vcp_core.specs.Exec.{image_job}
+use Rattle.vcp_core.specs.Listing.{listing_task}
 use Rattle.vcp_core.specs.Plain.{plain_answer}
 use Rattle.vcp_core.specs.Run.{job}
 use Rattle.vcp_core.specs.Tasks.{TaskOf}
+use Rattle.vcp_core.specs.Trace.{words_job}
+use Rattle.vcp_core.specs.Widen.{wide_task}
 
 -- ---- rows are lacking only where their file is
 
@@ -64,9 +71,9 @@ module _ (P : Task → Type 0) (given : (a : Answer) → a.status ≤ 2 → P (g
   text_has true name Text task all h = rw h (refused name refusal.Bytes)
   text_has false name Text task all h = all task h
 
-  source_has : (name : List ℕ) (Text : List ℕ → Task → Type 0) (found : Option (List ℕ)) (task : Task) → (found ≡ None → P (lacks name)) → ((text : List ℕ) (t : Task) → Text text t → P t) → WithFile name most_source_bytes Text found task → P task
-  source_has name Text None task none all comes = rw comes (none refl)
-  source_has name Text (Some text) task none all comes = text_has (nat_lt most_source_bytes (length text)) name (Text text) task (all text) comes
+  file_has : (name : List ℕ) (limit : ℕ) (Text : List ℕ → Task → Type 0) (found : Option (List ℕ)) (task : Task) → (found ≡ None → P (lacks name)) → ((text : List ℕ) (t : Task) → Text text t → P t) → WithFile name limit Text found task → P task
+  file_has name limit Text None task none all comes = rw comes (none refl)
+  file_has name limit Text (Some text) task none all comes = text_has (nat_lt limit (length text)) name (Text text) task (all text) comes
 
   typed_has : (Then : Program → Task) (name : List ℕ) → ((t : Program) → P (Then t)) → (text : List ℕ) (task : Task) → TypedText Then name text task → P task
   typed_has Then name all text _ (untyped r h) = refused name r
@@ -75,6 +82,10 @@ module _ (P : Task → Type 0) (given : (a : Answer) → a.status ≤ 2 → P (g
   parsed_has : (Then : ProgramTree → Task) (name : List ℕ) → ((p : ProgramTree) → P (Then p)) → (text : List ℕ) (task : Task) → ParsedText Then name text task → P task
   parsed_has Then name all text _ (unparsed r h) = refused name r
   parsed_has Then name all text _ (parsed p h) = all p
+
+  image_has : (Then : Lists → Numbers → Task) (name : List ℕ) → ((g : Lists) (t : Numbers) → P (Then g t)) → (text : List ℕ) (task : Task) → ImageText Then name text task → P task
+  image_has Then name all text _ (not_image r h) = refused name r
+  image_has Then name all text _ (is_image i h) = all i.graph i.table
 
   rows_have : (name : List ℕ) (then : RowsLeft → Task) (o : RowsOutcome) → (o ≡ lacking → P (lacks name)) → ((left : RowsLeft) → P (then left)) → P (on_rows name then o)
   rows_have name then outcome.lacking none all = none refl
@@ -85,20 +96,31 @@ module _ (P : Task → Type 0) (given : (a : Answer) → a.status ≤ 2 → P (g
       ((t : Program) (left : RowsLeft) → P (then t left)) → ProgramTask then p rows held task → P task
   program_has then p rows held task none all comes =
       let Then : Program → Task = λ t. rows_task rows held (input_columns t.slots) (then t) in
-      source_has p (TypedText Then p) (held p) task (none p (inl refl))
+      file_has p most_source_bytes (TypedText Then p) (held p) task (none p (inl refl))
       (typed_has Then p (λ t. rows_have (rows_name rows) (then t) (rows_outcome rows held (input_columns t.slots)) (λ lack. let l = rows_lack rows held (input_columns t.slots) lack in none (rows_name rows) (inr l.0) l.1) (all t))) comes
 
-  -- a run is come to by `run` alone
-  pub task_has : (f : Form) (held : Held) (task : Task) → ((name : List ℕ) → Among name (file_words f) → held name ≡ None → P (lacks name)) → ((p : List ℕ) (rows : Rows) (code : Code) → f ≡ run p rows code → (j : Job) → P (runs j)) → TaskOf f held task → P task
-  task_has (check p) held task none running comes = source_has p (TypedText size_task p) (held p) task (none p (inl refl)) (typed_has size_task p (λ t. given _ (lit≤ tt))) comes
-  task_has (format p) held task none running comes = source_has p (ParsedText text_task p) (held p) task (none p (inl refl)) (parsed_has text_task p (λ t. given _ (lit≤ tt))) comes
-  task_has (plain p rows) held task none running comes =
+  graph_has : (then : Lists → Numbers → RowsLeft → Task) (m : List ℕ) (rows : Rows) (held : Held) (task : Task) → ((name : List ℕ) → Among name (m ∷ rows_files rows) → held name ≡ None → P (lacks name)) →
+      ((g : Lists) (t : Numbers) (left : RowsLeft) → P (then g t left)) → GraphTask then m rows held task → P task
+  graph_has then m rows held task none all comes =
+      let Then : Lists → Numbers → Task = λ g t. rows_task rows held (map (column g.names) g.inputs) (then g t) in
+      file_has m most_image_bytes (ImageText Then m) (held m) task (none m (inl refl))
+      (image_has Then m (λ g t. rows_have (rows_name rows) (then g t) (rows_outcome rows held (map (column g.names) g.inputs)) (λ lack. let l = rows_lack rows held (map (column g.names) g.inputs) lack in none (rows_name rows) (inr l.0) l.1) (all g t))) comes
+
+  pub task_has : (f : Form) (held : Held) (task : Task) → ((name : List ℕ) → Among name (file_words f) → held name ≡ None → P (lacks name)) → ((j : Job) → P (runs j)) → ((p : Program) (code : Code) → P (compiles p code)) → TaskOf f held task → P task
+  task_has (check p) held task none running writing comes = file_has p most_source_bytes (TypedText size_task p) (held p) task (none p (inl refl)) (typed_has size_task p (λ t. given _ (lit≤ tt))) comes
+  task_has (format p) held task none running writing comes = file_has p most_source_bytes (ParsedText text_task p) (held p) task (none p (inl refl)) (parsed_has text_task p (λ t. given _ (lit≤ tt))) comes
+  task_has (plain p rows) held task none running writing comes =
       program_has (λ t left. gives (plain_answer (rows_name rows) t left)) p rows held task none (λ t left. given _ (meant_small (told_source t left.rows).end left.refusal)) comes
-  task_has (run p rows code) held task none running comes = program_has (λ t left. runs (job (rows_name rows) code t left)) p rows held task none (λ t left. running p rows code refl (job (rows_name rows) code t left)) comes
+  task_has (run p rows code) held task none running writing comes = program_has (λ t left. runs (job (rows_name rows) code t left)) p rows held task none (λ t left. running (job (rows_name rows) code t left)) comes
+  task_has (compile p code) held task none running writing comes = file_has p most_source_bytes (TypedText (λ t. compiles t code) p) (held p) task (none p (inl refl)) (typed_has (λ t. compiles t code) p (λ t. writing t code)) comes
+  task_has (list m) held task none running writing comes = file_has m most_image_bytes (ImageText listing_task m) (held m) task (none m (inl refl)) (image_has listing_task m (λ g t. given _ (lit≤ tt))) comes
+  task_has (exec m rows) held task none running writing comes = graph_has (λ g t left. runs (image_job (rows_name rows) g t left)) m rows held task none (λ g t left. running (image_job (rows_name rows) g t left)) comes
+  task_has (trace m rows n) held task none running writing comes = graph_has (λ g t left. runs (words_job (rows_name rows) n g t (through n left))) m rows held task none (λ g t left. running (words_job (rows_name rows) n g t (through n left))) comes
+  task_has (widen m) held task none running writing comes = file_has m most_image_bytes (ImageText wide_task m) (held m) task (none m (inl refl)) (image_has wide_task m (λ g t. given _ (lit≤ tt))) comes
 
 -- each task has a status of its own
 pub own_status : (f : Form) (held : Held) (task : Task) → TaskOf f held task → HasOwnStatus task
-own_status f held task comes = task_has HasOwnStatus (λ a small. small) f held task (λ name among none. tt) (λ p rows code is j. tt) comes
+own_status f held task comes = task_has HasOwnStatus (λ a small. small) f held task (λ name among none. tt) (λ j. tt) (λ p code. tt) comes
 
 -- ---- where all files are held, none is lacking
 
@@ -117,4 +139,4 @@ Lacks task = (name : List ℕ) → task ≡ lacks name → ⊥
 
 pub never_lacks : (f : Form) (held : Held) (task : Task) → FilesHeld held f → TaskOf f held task → Lacks task
 never_lacks f held task all comes =
-    task_has Lacks (λ a small name e. cc) f held task (λ name among none. absurd (held_among held (file_words f) name all among none)) (λ p rows code is j name e. cc) comes
+    task_has Lacks (λ a small name e. cc) f held task (λ name among none. absurd (held_among held (file_words f) name all among none)) (λ j name e. cc) (λ p code name e. cc) comes

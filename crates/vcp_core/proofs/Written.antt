@@ -1,5 +1,5 @@
 -- Bytes that were written in one step and then another.
-use Rattle.std.proofs.Common.{◌≡◌, ℕ, ◌-◌, ◌≤◌, Result, Err, arith, length-append, List, ◌++◌, length, take, drop, Option, append_assoc}
+use Rattle.std.proofs.Common.{◌≡◌, ℕ, ◌-◌, ◌≤◌, Result, Ok, Err, [], arith, length-append, List, ◌++◌, length, take, drop, Option, append_assoc}
 use Rattle.std.proofs.KnownBytes.{Appends-trans}
 use Rattle.std.proofs.Math.Seq.{take-length}
 use Rattle.std.proofs.lemmas.List.{length-drop}
@@ -46,3 +46,25 @@ failed_start e a b f g p more all failure whole =
 -- the same bytes, written otherwise
 pub writes_same : {T E : Type 0} {a b : Option (List ℕ)} {f g : ℕ} {p q : List ℕ} {r : Result T E} → Writes a b f g p r → q ≡ p → Writes a b f g q r
 writes_same written is = rw is written
+
+-- all of some bytes was written and then all of others
+pub writes-on : {T E : Type 0} (x y z : T) (a b c : Option (List ℕ)) (f g h : ℕ) (p q all : List ℕ) → Writes {T = T} {E = E} a b f g p (Ok x) → Writes {T = T} {E = E} b c g h q (Ok y) → all ≡ p ++ q → Writes {T = T} {E = E} a c f h all (Ok z)
+writes-on x y z a b c f g h p q all before next is = record {
+  whole = rw is (Appends-trans a b c p q before.whole next.whole);
+  part = tt;
+  cause = record {
+    later = omega (arith, before.cause.later, next.cause.later);
+    capped = λ within. next.cause.capped (before.cause.capped within);
+    failed = tt;
+  };
+}
+
+-- and then a call failed in the midst of others
+pub writes-fail : {T E : Type 0} (x : T) (e d : E) (a b c : Option (List ℕ)) (f g h : ℕ) (p q more all : List ℕ) → Writes {T = T} {E = E} a b f g p (Ok x) → Writes {T = T} b c g h q (Err e) → all ≡ p ++ q ++ more → Writes {T = T} a c f h all (Err d)
+writes-fail x e d a b c f g h p q more all before failure is =
+    let w = failed_after e a b c f g h p q more all before.whole before.cause.later before.cause.capped failure is in
+    record { whole = tt; part = w.part; cause = record { later = w.cause.later; capped = w.cause.capped; failed = w.cause.failed } }
+
+-- before any byte
+pub writes-nothing : {T E : Type 0} (x : T) (a : Option (List ℕ)) (f : ℕ) → Appends a a [] → Writes {T = T} {E = E} a a f f [] (Ok x)
+writes-nothing x a f none = record { whole = none; part = tt; cause = record { later = omega arith; capped = λ within. within; failed = tt } }

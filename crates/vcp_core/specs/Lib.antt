@@ -1,6 +1,10 @@
 pub mod Check
+pub mod Compile
+pub mod Exec
 pub mod Faults
 pub mod Format
+pub mod Jobs
+pub mod Listing
 pub mod Loading
 pub mod MachineRun
 pub mod Plain
@@ -8,3 +12,6 @@ pub mod PlainRun
 pub mod Reach
 pub mod Run
 pub mod Tasks
+pub mod Trace
+pub mod TraceRun
+pub mod Widen

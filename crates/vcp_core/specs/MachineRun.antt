@@ -1,23 +1,36 @@
 -- MachineRun: how far the run of a job came on the machine.
-use Rattle.std.specs.Prelude.{ℕ, ◌≡◌, ◌<◌, ◌⊎◌, List, [], length, Option, None, Result, Ok, Err}
+use Rattle.std.specs.Prelude.{ℕ, ◌≡◌, ◌<◌, ◌⊎◌, List, [], length, map, Option, None, Result, Ok, Err}
 use Rattle.std.specs.Io.KnownBytes.{Appends}
 use Rattle.vcp_outside.specs.Counts.{Rose}
 use Rattle.vcp_outside.specs.Written.{AppendsPart}
 use Rattle.vcp_outside.specs.declared.failed.Failed.{Failed}
-use Rattle.op_graph.specs.Lists.{Lists}
+use Rattle.input_rows.specs.RowsOf.{RowsLeft}
+use Rattle.op_graph.specs.Lists.{Lists, output_column}
+use Rattle.signature_table.specs.Signatures.{Numbers, table_of}
+use Rattle.flat_expr.specs.Told.{told_graph}
+use Rattle.vcp_words.specs.Forms.{Code}
 use Rattle.coded_machine.specs.declared.cycle_end.CycleEnd.{CycleEnd}
 use Rattle.coded_machine.specs.declared.cycle_end.CycleEnd.TheVariants as cycle
 use Rattle.machine_run.specs.Moments.{Moment}
 use Rattle.vcp_inputs.specs.declared.refusal.NoInput.TheVariants as input
 use Rattle.vcp_inputs.specs.Lines.{refusal_text}
-use Rattle.vcp_answer.specs.Answer.{Job, runs}
+use Rattle.vcp_answer.specs.Answer.{Job, Subject, runs}
+use Rattle.vcp_answer.specs.Courses.{MayRun}
 use Rattle.vcp_answer.specs.Endings.{Reached, Cut, Front}
 use Rattle.vcp_answer.specs.Moments.{Untouched}
-use Rattle.vcp_answer.specs.Reports.{end_read, last_text, run_status}
+use Rattle.vcp_answer.specs.Reports.{end_read, last_text, names_of, run_status, told_of}
 use Rattle.vcp_core.specs.declared.ending.End.{End}
 use Rattle.vcp_core.specs.declared.fault.Fault.{Fault}
 use Rattle.vcp_core.specs.declared.fault.Fault.TheVariants as fault
 use Rattle.vcp_core.specs.Reach.{end_status}
+
+-- To run a graph with this table on the rows that are left is to run this with the numbers of a code: the graph may be run, the
+-- table is its own in that code, its outputs have the names, and on these rows its run on plain integers is told as the one meant.
+pub record CarriesOut (g : Lists) (t : Numbers) (left : RowsLeft) (s : Subject) (code : Code) : Type 0 where
+  pub may : MayRun s g
+  pub numbers : t ≡ table_of code.seed code.step g
+  pub names : map (λ c. c.name) (map (output_column g.names) g.outputs) ≡ names_of s
+  pub told : told_graph g left.rows ≡ told_of s left.rows
 
 -- how far the run of a job came: to its end, to a row that is refused, or until writing failed or memory was wanted
 abbrev pub RunsJob : Job → Moment → Moment → Result End Fault → Type 0

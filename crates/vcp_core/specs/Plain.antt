@@ -7,12 +7,12 @@ use Rattle.vcp_typed.specs.SourceRun.{Program}
 use Rattle.vcp_words.specs.Forms.{Rows}
 use Rattle.vcp_words.specs.Tables.{rows_name}
 use Rattle.vcp_answer.specs.Answer.{Answer, Task, gives}
-use Rattle.vcp_answer.specs.Reports.{report_meant, run_answer}
+use Rattle.vcp_answer.specs.Reports.{output_names, report_meant, report_text, run_answer}
 use Rattle.vcp_answer.specs.Sources.{ProgramTask}
 
 -- the answer of a program's own run on the rows that are left, which are told by this name
 abbrev pub plain_answer : List ℕ → Program → RowsLeft → Answer
-plain_answer name p left = run_answer name p left (report_meant p left.rows)
+plain_answer name p left = run_answer (report_text (output_names p) (report_meant p left.rows) left.refusal) name left (report_meant p left.rows).end
 
 -- what `plain P ROWS` comes to
 abbrev pub PlainTask : List ℕ → Rows → Held → Task → Type 0

@@ -3,7 +3,7 @@ use Rattle.std.specs.Prelude.{ℕ, ◌≡◌, ◌⊎◌, true, List, [], Option,
 use Rattle.vcp_outside.specs.Counts.{Rose}
 use Rattle.vcp_outside.specs.Held.{Held}
 use Rattle.machine_run.specs.Moments.{Moment}
-use Rattle.vcp_words.specs.Forms.{Form, check, format, plain, run}
+use Rattle.vcp_words.specs.Forms.{Form, check, format, plain, run, compile, list, exec, trace, widen}
 use Rattle.vcp_words.specs.Tables.{file_words, own_statuses, rows_name, takes_rows_late}
 use Rattle.vcp_inputs.specs.declared.refusal.NoInput.{NoInput}
 use Rattle.vcp_inputs.specs.declared.refusal.NoInput.TheVariants as input
@@ -30,6 +30,11 @@ rows_told (check p) = []
 rows_told (format p) = []
 rows_told (plain p rows) = rows_name rows
 rows_told (run p rows code) = rows_name rows
+rows_told (compile p code) = []
+rows_told (list m) = []
+rows_told (exec m rows) = rows_name rows
+rows_told (trace m rows n) = rows_name rows
+rows_told (widen m) = []
 
 -- the line where there is nothing of the file under a name, and the status
 abbrev pub input_text : List ℕ → NoInput → List ℕ

@@ -15,8 +15,8 @@ use vcp_outside::Failed;
 /// Why a command ends before all is written.
 #[derive(Debug, Drop, Error)]
 pub enum Fault {
-    /// There is nothing of the program's source, P.
-    #[error("the source: {0:?}")]
+    /// There is nothing of the program's source, P, or of the image, M.
+    #[error("the source or image: {0:?}")]
     Source(NoInput),
     /// There is nothing of the rows, ROWS, or no row for the next cycle; what earlier cycles gave was
     /// written.

@@ -1,22 +1,49 @@
 //! Laws of what commands come to.
 
-ghost use Rattle.std.specs.Prelude.{◌≡◌};
+ghost use Rattle.std.specs.Prelude.{◌≡◌, ◌≤◌, Some, List, ℕ, ℤ, length};
+ghost use Rattle.vcp_base.specs.Limits.{most_image_bytes};
+ghost use Rattle.vcp_base.specs.declared.code.Profile.TheVariants as profile;
 ghost use Rattle.vcp_outside.specs.Held.{Held};
-ghost use Rattle.vcp_words.specs.Forms.{Form};
+ghost use Rattle.op_graph.specs.GraphRun.{graph_run};
+ghost use Rattle.op_graph.specs.Lists.{Lists};
+ghost use Rattle.signature_table.specs.Signatures.{Numbers, table_of};
+ghost use Rattle.image_file.specs.Graphs.{HasImage};
+ghost use Rattle.image_file.specs.Image.{image_of};
+ghost use Rattle.vcp_words.specs.Forms.{Form, Rows, Code};
 ghost use Rattle.vcp_answer.specs.Answer.{Task};
-ghost use Rattle.vcp_core.specs.Tasks.{TaskOf, without_unit, as_meant};
+ghost use Rattle.vcp_answer.specs.Sources.{ImageTask};
+ghost use Rattle.vcp_core.specs.Plain.{PlainTask};
+ghost use Rattle.vcp_core.specs.Run.{RunTask};
+ghost use Rattle.vcp_core.specs.Tasks.{TaskOf, as_meant};
+ghost use Rattle.vcp_core.specs.Widen.{widened};
 
+use image_file::images_are_told_apart;
 use st_lexer::one_reading;
 use st_parser::one_answer;
 use st_types::answers_are_one;
 
-/// What a command comes to, where this is held, is one task; and a command without a unit comes to the answer that the one with an
-/// honest unit gives.
+/// What a command comes to, where this is held, is one task; and `plain` comes to the answer that `run` gives with an honest unit.
 pub fn one_task()
     ensures one { (f : Form) (held : Held) (a b : Task) → TaskOf f held a → TaskOf f held b → a ≡ b }
-    ensures as_plain { (f : Form) (held : Held) (task : Task) → TaskOf f held task → TaskOf (without_unit f) held (as_meant task) }
+    ensures as_plain { (p : List ℕ) (rows : Rows) (code : Code) (held : Held) (task : Task) → RunTask p rows code held task →
+        PlainTask p rows held (as_meant task) }
 {
     one_reading();
     one_answer();
     answers_are_one();
+    images_are_told_apart();
+}
+
+/// The image of any graph, seed and step is taken by each command that reads one, unless it has too
+/// many bytes: so what `compile` and `widen` write is never refused. The wide graph that `widen` writes
+/// has an image too and the same run, and it is the graph itself where that is wide.
+pub fn written_images_are_taken()
+    ensures taken { (g : Lists) (seed step : ℕ) (Then : Lists → Numbers → Task) (name : List ℕ) (held : Held) (task : Task) →
+        HasImage g seed step → length (image_of g seed step) ≤ most_image_bytes →
+        held name ≡ Some (image_of g seed step) → ImageTask Then name held task → task ≡ Then g (table_of seed step g) }
+    ensures widened { (g : Lists) (seed step : ℕ) → HasImage g seed step → HasImage (widened g) seed step }
+    ensures run { (g : Lists) (rows : List (List ℤ)) → graph_run (widened g) rows ≡ graph_run g rows }
+    ensures wide { (g : Lists) → g.profile ≡ profile.Wide → widened g ≡ g }
+{
+    images_are_told_apart();
 }

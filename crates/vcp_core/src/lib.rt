@@ -2,10 +2,14 @@
 #![tactic(auto)]
 
 mod check;
+mod compile;
 mod ending;
+mod exec;
 mod fault;
 mod format;
+mod image_loading;
 mod laws;
+mod listing;
 mod loading;
 mod plain;
 mod plain_run;
@@ -13,6 +17,9 @@ mod run;
 mod running;
 mod telling;
 mod top;
+mod trace;
+mod tracing;
+mod widen;
 
-pub use laws::one_task;
+pub use laws::{one_task, written_images_are_taken};
 pub use top::vcp;

@@ -14,7 +14,7 @@ ghost use Rattle.vcp_core.specs.declared.fault.Fault.TheVariants as fault;
 use crate::ending::End;
 use crate::fault::Fault;
 use crate::loading::load;
-use crate::running::run_job;
+use crate::running::run_program;
 use coded_unit::Unit;
 use std::alloc::Global;
 use vcp_base::Text;
@@ -48,7 +48,7 @@ pub fn run_command<F: Files, U: Unit, O: Sink>(
 {
     let loaded = load(alloc, source, rows, files)?;
     match loaded.rows.open(alloc, &loaded.columns) {
-        Ok(mut rows) => run_job(alloc, &loaded.program, code, &mut rows, unit, out),
+        Ok(mut rows) => run_program(alloc, &loaded.program, code, &mut rows, unit, out),
         Err(input) => Err(Fault::Rows(input)),
     }
 }

@@ -1,4 +1,4 @@
-//! The run of a program's operations on rows, on a unit.
+//! The run of a graph's operations, and of a program's, on rows, on a unit.
 
 ghost use Rattle.std.specs.Prelude.{◌≡◌, ◌<◌, ◌≤◌, ℕ, List, Ok, Err, IfSome, All, length, map};
 ghost use Rattle.vcp_base.specs.Limits.{most_cycles};
@@ -9,8 +9,11 @@ ghost use Rattle.input_rows.specs.RowsOf.{IsOfRecord};
 ghost use Rattle.run_report.specs.Lines.{row_text};
 ghost use Rattle.machine_run.specs.Moments.{moment};
 ghost use Rattle.machine_run.specs.Stops.{GrowsByStop};
-ghost use Rattle.vcp_words.specs.Forms.{as_code, IsCode};
-ghost use Rattle.vcp_core.specs.MachineRun.{RunsJob, IsThere, PrintsEnd};
+ghost use Rattle.signature_table.specs.Signatures.{IsTableOf};
+ghost use Rattle.vcp_words.specs.Forms.{Code as CodeOf, as_code, IsCode};
+ghost use Rattle.vcp_answer.specs.Answer.{Subject};
+ghost use Rattle.vcp_core.specs.Jobs.{job_of};
+ghost use Rattle.vcp_core.specs.MachineRun.{CarriesOut, RunsJob, IsThere, PrintsEnd};
 ghost use Rattle.vcp_core.specs.Run.{job};
 ghost use Rattle.vcp_core.specs.declared.ending.End.TheVariants as end;
 ghost use Rattle.vcp_core.specs.declared.fault.Fault.TheVariants as fault;
@@ -47,7 +50,7 @@ impl ReleasedRows for RowLines {
 
 /// Prints the last line of a graph's run of so many cycles: its end, its stop, or the output that is
 /// refused.
-fn print_end<O: Sink>(
+pub fn print_end<O: Sink>(
     out: &mut O,
     graph: &Graph,
     outputs: &Columns,
@@ -79,10 +82,39 @@ fn print_end<O: Sink>(
     }
 }
 
-/// Runs a program's operations on the rows that are left, on the unit, as words of the code: the header, a
-/// line for each cycle as its row comes, and the last line. A row that is refused ends the run, and what
-/// was printed before it stands. Where there is no memory, some front of all that may be printed was.
-pub fn run_job<U: Unit, O: Sink>(
+/// Runs the operations of a graph, whose table this is, on the rows that are left, on the unit: the
+/// header, a line for each cycle as its row comes, and the last line. A row that is refused ends the
+/// run, and what was printed before it stands. Where there is no memory, some front of all that may be
+/// printed was.
+pub fn run_graph<U: Unit, O: Sink>(
+    alloc: Global,
+    graph: &Graph,
+    table: &Table,
+    rows: &mut Rows<'_>,
+    unit: &mut U,
+    out: &mut O,
+) -> Result<End, Fault>
+    requires table { IsTableOf table.now graph.now }
+    requires width { length rows.old.types ≡ length graph.now.inputs }
+    requires few { length rows.old.rows ≤ most_cycles }
+    requires behind { IfSome rows.old.refusal IsOfRecord }
+    ensures runs { (name : List ℕ) (subject : Subject) (code : CodeOf) → CarriesOut graph.now table.now rows.old subject code →
+        RunsJob (job_of name code subject rows.old)
+        (moment (U.log unit.old) (U.wrong unit.old) (O.written out.old) (O.faults out.old))
+        (moment (U.log unit.new) (U.wrong unit.new) (O.written out.new) (O.faults out.new)) result }
+    ensures write { result ≡ Err fault.Write → Rose (O.faults out.old) (O.faults out.new) }
+    ensures refused { result ≡ Ok end.Refused → Rose (U.wrong unit.old) (U.wrong unit.new) }
+    ensures stopped { result ≡ Ok end.Stopped → GrowsByStop (U.log unit.old) (U.log unit.new) }
+{
+    let mut machine = Machine::new(alloc, graph, table)?;
+    let outputs = graph.output_columns(alloc)?;
+    header_line(out, &outputs)?;
+    let end = run_rows(alloc, &mut machine, rows, unit, out, &mut RowLines)?;
+    Ok(print_end(out, graph, &outputs, machine.cycles(), &end)?)
+}
+
+/// Runs a program's operations on the rows that are left, on the unit, as words of the code.
+pub fn run_program<U: Unit, O: Sink>(
     alloc: Global,
     program: &Typed,
     code: Code,
@@ -103,11 +135,7 @@ pub fn run_job<U: Unit, O: Sink>(
     ensures stopped { result ≡ Ok end.Stopped → GrowsByStop (U.log unit.old) (U.log unit.new) }
 {
     let graph = flatten(alloc, program)?;
-    let _ = graph.len();
+    let _rules = graph.len();
     let table = Table::new(alloc, &graph, code.seed, code.step)?;
-    let mut machine = Machine::new(alloc, &graph, &table)?;
-    let outputs = graph.output_columns(alloc)?;
-    header_line(out, &outputs)?;
-    let end = run_rows(alloc, &mut machine, rows, unit, out, &mut RowLines)?;
-    Ok(print_end(out, &graph, &outputs, machine.cycles(), &end)?)
+    run_graph(alloc, &graph, &table, rows, unit, out)
 }

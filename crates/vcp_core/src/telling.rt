@@ -23,7 +23,7 @@ pub fn tell_usage<E: Sink>(err: &mut E) -> Result<(), Failed>
     write_all(err, usage())
 }
 
-/// The name of P.
+/// The name of P or M.
 fn source_name<'a>(command: &Command<'a>) -> &'a [u8]
     ensures { result.now ≡ source_name_of (form command.now) }
 {
@@ -32,6 +32,11 @@ fn source_name<'a>(command: &Command<'a>) -> &'a [u8]
         Command::Format { source } => source.bytes(),
         Command::Plain { source, .. } => source.bytes(),
         Command::Run { source, .. } => source.bytes(),
+        Command::Compile { source, .. } => source.bytes(),
+        Command::List { image } => image.bytes(),
+        Command::Exec { image, .. } => image.bytes(),
+        Command::Trace { image, .. } => image.bytes(),
+        Command::Widen { image } => image.bytes(),
     }
 }
 
@@ -40,8 +45,10 @@ fn rows_name<'a>(command: &Command<'a>) -> &'a [u8]
     ensures { result.now ≡ rows_told (form command.now) }
 {
     match command {
-        Command::Check { .. } | Command::Format { .. } => b"",
+        Command::Check { .. } | Command::Format { .. } | Command::Compile { .. } => b"",
+        Command::List { .. } | Command::Widen { .. } => b"",
         Command::Plain { rows, .. } | Command::Run { rows, .. } => name_of(*rows),
+        Command::Exec { rows, .. } | Command::Trace { rows, .. } => name_of(*rows),
     }
 }
 

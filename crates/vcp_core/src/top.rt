@@ -17,13 +17,18 @@ ghost use Rattle.vcp_core.specs.declared.ending.End.TheVariants as end;
 ghost use Rattle.vcp_core.specs.declared.fault.Fault.TheVariants as fault;
 
 use crate::check::check_command;
+use crate::compile::compile_command;
 use crate::ending::{End, status_of};
+use crate::exec::exec_command;
 use crate::fault::Fault;
 use crate::format::format_command;
 use crate::laws::one_task;
+use crate::listing::list_command;
 use crate::plain::plain_command;
 use crate::run::run_command;
 use crate::telling::{fault_status, tell, tell_usage};
+use crate::trace::trace_command;
+use crate::widen::widen_command;
 use coded_unit::Unit;
 use std::alloc::Global;
 use vcp_answer::endings_have_causes;
@@ -36,7 +41,7 @@ use vcp_words::{Command, command_of};
 ///
 /// | status | comes |
 /// |---|---|
-/// | 0 | the Size or the text was printed, or the run came to the end of its rows |
+/// | 0 | the Size, the text, the image or the lines were printed, or the run came to the end of its rows |
 /// | 1 | a file is refused, or a row of one |
 /// | 2 | the run stopped |
 /// | 3 | an output was refused |
@@ -172,5 +177,12 @@ fn perform<F: Files, U: Unit, O: Sink>(
         Command::Run { source, rows, code } => run_command(
             alloc, source, *rows, *code, files, unit, out,
         ),
+        Command::Compile { source, code } => compile_command(alloc, source, *code, files, out),
+        Command::List { image } => list_command(alloc, image, files, out),
+        Command::Exec { image, rows } => exec_command(alloc, image, *rows, files, unit, out),
+        Command::Trace { image, rows, cycle } => trace_command(
+            alloc, image, *rows, *cycle, files, unit, out,
+        ),
+        Command::Widen { image } => widen_command(alloc, image, files, out),
     }
 }

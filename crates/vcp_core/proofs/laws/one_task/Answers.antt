@@ -1,8 +1,13 @@
-use Rattle.vcp_core.proofs.OneTask.{Laws, task_once, task_meant}
+use Rattle.vcp_core.proofs.OneTask.{ImageLaws, Laws, task_once, task_meant}
 use Rattle.vcp_core.proofs.laws.one_task.Goals as goal
 
 pub returns-clause-one : goal.returns-clause-one
 returns-clause-one c =
+    let images : ImageLaws = record {
+      graph = c.images_are_told_apart.ensures.one_graph;
+      fault = c.images_are_told_apart.ensures.one_fault;
+      none = c.images_are_told_apart.ensures.no_fault;
+    } in
     let laws : Laws = record {
       tokens = c.one_reading.ensures.tokens;
       either = c.one_reading.ensures.either;
@@ -13,6 +18,7 @@ returns-clause-one c =
       typed = c.answers_are_one.ensures.typed;
       apart = c.answers_are_one.ensures.either;
       refused = c.answers_are_one.ensures.refused;
+      images = images;
     } in
     task_once laws
 

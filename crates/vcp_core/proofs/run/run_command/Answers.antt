@@ -31,8 +31,8 @@ returns-in_err-loaded-clause-taken g c =
     if_some_weaker (g.F.Files.held c.args.files.now) _ _
     (λ h taken. rw (q.1, q.2) taken) (c.in_err-loaded.ensures.taken (run c.args.source.now (rows_of c.args.rows) (as_code c.args.code)) (record { source = refl; told = refl; files = refl }))
 
-pub run_job-requires-clause-types : goal.run_job-requires-clause-types
-run_job-requires-clause-types g c = c.in-Ok.ensures.types ∙ (ap types_of c.in_ok-loaded.ensures.columns ∙ types-of-inputs c.in_ok-loaded.loaded.program.slots)
+pub run_program-requires-clause-types : goal.run_program-requires-clause-types
+run_program-requires-clause-types g c = c.in-Ok.ensures.types ∙ (ap types_of c.in_ok-loaded.ensures.columns ∙ types-of-inputs c.in_ok-loaded.loaded.program.slots)
 
 pub returns-in-Ok-clause-reaches : goal.returns-in-Ok-clause-reaches
 returns-in-Ok-clause-reaches g c =
@@ -44,13 +44,13 @@ returns-in-Ok-clause-reaches g c =
     if_some_weaker (g.F.Files.held c.args.files.now) _ _
     (λ h comes.
     let P : RowsOutcome → Type 0 = λ o. ProgramTask then p rows h (on_rows (rows_name rows) (then loaded.program) o) in
-    job_ran p rows code (RunTask p rows code h)
+    job_ran (run p rows code) (job (rows_name rows) code loaded.program c.in-Ok.rows) refl refl (RunTask p rows code h)
     (moment (g.U.Unit.log c.args.unit.now) (g.U.Unit.wrong c.args.unit.now) (g.O.Sink.written c.args.out.now) (g.O.Sink.faults c.args.out.now))
-    (moment (g.U.Unit.log c.run_job.new.unit) (g.U.Unit.wrong c.run_job.new.unit) (g.O.Sink.written c.run_job.new.out) (g.O.Sink.faults c.run_job.new.out))
-    (g.F.Files.broken c.args.files.now) (g.F.Files.broken c.load.new.files) loaded.program c.in-Ok.rows (subst P (c.in-Ok.ensures.opens 0 0) (comes then)) c.run_job.result (c.run_job.ensures.runs (rows_name rows))) c.in_ok-loaded.ensures.comes
+    (moment (g.U.Unit.log c.run_program.new.unit) (g.U.Unit.wrong c.run_program.new.unit) (g.O.Sink.written c.run_program.new.out) (g.O.Sink.faults c.run_program.new.out))
+    (g.F.Files.broken c.args.files.now) (g.F.Files.broken c.load.new.files) (subst P (c.in-Ok.ensures.opens 0 0) (comes then)) c.run_program.result (c.run_program.ensures.runs (rows_name rows))) c.in_ok-loaded.ensures.comes
 
 pub returns-in-Ok-clause-unread : goal.returns-in-Ok-clause-unread
-returns-in-Ok-clause-unread g c = λ is. absurd (run_reads (rows_name (rows_of c.args.rows)) (as_code c.args.code) c.in_ok-loaded.loaded.program c.in-Ok.rows _ _ c.run_job.result (c.run_job.ensures.runs (rows_name (rows_of c.args.rows))) is)
+returns-in-Ok-clause-unread g c = λ is. absurd (run_reads (job (rows_name (rows_of c.args.rows)) (as_code c.args.code) c.in_ok-loaded.loaded.program c.in-Ok.rows) _ _ c.run_program.result (c.run_program.ensures.runs (rows_name (rows_of c.args.rows))) is)
 
 pub returns-clause-reaches : goal.returns-clause-reaches
 returns-clause-reaches g c =

@@ -11,3 +11,18 @@ returns-in-Plain-clause-reaches g c = rw c.in-Plain.is (c.plain_command.ensures.
 
 pub returns-in-Run-clause-reaches : goal.returns-in-Run-clause-reaches
 returns-in-Run-clause-reaches g c = rw c.in-Run.is c.run_command.ensures.reaches
+
+pub returns-in-Compile-clause-reaches : goal.returns-in-Compile-clause-reaches
+returns-in-Compile-clause-reaches g c = rw c.in-Compile.is (c.compile_command.ensures.reaches (g.U.Unit.log c.args.unit.now) (g.U.Unit.wrong c.args.unit.now))
+
+pub returns-in-List-clause-reaches : goal.returns-in-List-clause-reaches
+returns-in-List-clause-reaches g c = rw c.in-List.is (c.list_command.ensures.reaches (g.U.Unit.log c.args.unit.now) (g.U.Unit.wrong c.args.unit.now))
+
+pub returns-in-Widen-clause-reaches : goal.returns-in-Widen-clause-reaches
+returns-in-Widen-clause-reaches g c = rw c.in-Widen.is (c.widen_command.ensures.reaches (g.U.Unit.log c.args.unit.now) (g.U.Unit.wrong c.args.unit.now))
+
+pub returns-in-Exec-clause-reaches : goal.returns-in-Exec-clause-reaches
+returns-in-Exec-clause-reaches g c = rw c.in-Exec.is c.exec_command.ensures.reaches
+
+pub returns-in-Trace-clause-reaches : goal.returns-in-Trace-clause-reaches
+returns-in-Trace-clause-reaches g c = rw c.in-Trace.is c.trace_command.ensures.reaches

@@ -22,3 +22,7 @@ pub returns-in-Some-clause-as_plain : goal.returns-in-Some-clause-as_plain
 returns-in-Some-clause-as_plain g c =
     if_some_weaker (g.F.Files.held c.args.files.now) _ _
     (λ h answered. if_some_is (form_of c.args.words.now) (form c.in-Some.command) _ c.in-Some.ensures.form (as_plain c.one_task.ensures.one c.one_task.ensures.as_plain (form c.in-Some.command) h _ answered)) c.serve.ensures.answered
+
+pub returns-in-Some-clause-answered : goal.returns-in-Some-clause-answered
+returns-in-Some-clause-answered g c =
+    if_some_weaker (g.F.Files.held c.args.files.now) _ _ (λ h answered. if_some_is (form_of c.args.words.now) (form c.in-Some.command) _ c.in-Some.ensures.form answered) c.serve.ensures.answered

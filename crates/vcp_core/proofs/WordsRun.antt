@@ -1,0 +1,317 @@
+-- WordsRun: how far the run of an image came of which the words of one cycle are printed, from what running its graph leaves.
+use Rattle.std.proofs.Common.{ℕ, zero, suc, ◌+◌, ◌≡◌, ◌≤◌, ◌<◌, ◌-◌, ◌^◌, Bool, true, false, cond, nat_le, inr, refl, sym, ap, subst, ◌∙◌, List, [], ◌∷◌, ◌++◌, length, append-nil, slice_index_or, Option, Some, None, Ok, Err, IfSome, arith, ℤ}
+use Rattle.std.proofs.lemmas.Bool.Decides.{nat_tests}
+use Rattle.std.proofs.lemmas.List.{length-append, length-take}
+use Rattle.std.proofs.KnownBytes.{Appends-trans}
+use Rattle.std.specs.Io.KnownBytes.{Appends}
+use Rattle.vcp_outside.specs.Written.{AppendsPart}
+use Rattle.input_rows.specs.declared.fault.RowFault.{RowFault}
+use Rattle.input_rows.specs.RowsOf.{RowsLeft, IsOfRecord, behind_wanted, through}
+use Rattle.coded_unit.specs.declared.call.Answer.{Answer as Given}
+use Rattle.coded_unit.specs.Log.{Entry}
+use Rattle.op_graph.specs.Lists.{Lists}
+use Rattle.op_graph.specs.GraphRun.{graph_run}
+use Rattle.signature_table.specs.Signatures.{Numbers, table_of}
+use Rattle.coded_machine.specs.declared.cycle_end.CycleEnd.{CycleEnd}
+use Rattle.coded_machine.specs.declared.cycle_end.CycleEnd.TheVariants as cycle
+use Rattle.coded_machine.specs.Calls.{AllRight, Carried, Whole}
+use Rattle.coded_machine.specs.CycleEnds.{end_of, initial_words, outputs_of}
+use Rattle.coded_machine.specs.Runs.{AllCycles, Outcome, calls_over, followed_by, outcome_for, outcome_over, unless_ended}
+use Rattle.coded_machine.specs.State.{State}
+use Rattle.flat_expr.specs.Told.{told_graph}
+use Rattle.machine_run.specs.declared.fault.RunFault.{RunFault}
+use Rattle.machine_run.specs.declared.fault.RunFault.TheVariants as given_up
+use Rattle.machine_run.specs.Leaves.{MachineAfter, last_answers}
+use Rattle.machine_run.specs.Moments.{moment}
+use Rattle.machine_run.specs.RowRuns.{CameToEnd, RunsRows, texts_from}
+use Rattle.vcp_inputs.specs.Lines.{rows_text}
+use Rattle.vcp_answer.specs.Answer.{image, runs, words_of}
+use Rattle.vcp_answer.specs.CycleWords.{word_lines, words_among, words_in, words_meant}
+use Rattle.vcp_answer.specs.Endings.{Cut, Front, Reached}
+use Rattle.vcp_answer.specs.Reports.{End, Report, behind_text, complete, end_read, goes_on, names_of, no_report, refused, report_read, report_told, run_status, shown_text, stopped, words_then}
+use Rattle.vcp_core.specs.declared.ending.End.{End as Ends}
+use Rattle.vcp_core.specs.Faults.{of_run}
+use Rattle.vcp_core.specs.Jobs.{code_of}
+use Rattle.vcp_core.specs.MachineRun.{IsThere, RunsJob}
+use Rattle.vcp_core.specs.Reach.{end_status}
+use Rattle.vcp_core.specs.Trace.{words_job}
+use Rattle.vcp_core.specs.TraceRun.{answered_words, traced_text}
+use Rattle.vcp_core.proofs.JobRun.{as-many, complete-is, no-behind-by, read-end, record-of, status-by, told-by}
+
+-- ---- rows through a cycle
+
+module _ (n : ℕ) (left : RowsLeft) where
+  pub through-few : length (through n left).rows ≤ n + 1
+  through-few = omega (arith, length-take (n + 1) left.rows)
+
+  wanted-all : (b : Bool) (o : Option RowFault) → behind_wanted b None o ≡ None → b ≡ true
+  wanted-all true o is = refl
+  wanted-all false None is = absurd cc
+  wanted-all false (Some why) is = absurd cc
+
+  pub through-all : (through n left).refusal ≡ None → length (through n left).rows ≡ n + 1
+  through-all is =
+      let many : nat_le (n + 1) (length left.rows) ≡ true = wanted-all (nat_le (n + 1) (length left.rows)) left.refusal is in
+      let enough : n + 1 ≤ length left.rows = grind (arith, nat_tests) in
+      omega (arith, length-take (n + 1) left.rows, enough)
+
+-- ---- cycles and their answers
+
+-- how many cycles there are, by the rows that were released and the end
+abbrev Counts : ℕ → ℕ → CycleEnd → Type 0
+Counts released cycles cycle.Released = released ≡ cycles
+Counts released cycles e = suc released ≡ cycles
+
+count-next : (e : CycleEnd) (i j : ℕ) → Counts i j e → Counts (suc i) (suc j) e
+count-next cycle.Released i j is = ap suc is
+count-next (cycle.Stopped k why) i j is = ap suc is
+count-next (cycle.Refused output f w) i j is = ap suc is
+
+count-step : (e : CycleEnd) (row : List ℤ) (o : Outcome) (More : Type 0) (cycles : List (List Given)) → unless_ended e More (cycles ≡ []) → (More → Counts (length o.rows) (length cycles) o.end) →
+    Counts (length (followed_by e row o).rows) (suc (length cycles)) (followed_by e row o).end
+count-step cycle.Released row o More cycles h go = count-next o.end (length o.rows) (length cycles) (go h)
+count-step (cycle.Stopped k why) row o More cycles h go = ap (λ (l : List (List Given)). suc (length l)) (sym h)
+count-step (cycle.Refused i f w) row o More cycles h go = ap (λ (l : List (List Given)). suc (length l)) (sym h)
+
+cycles-count : (g : Lists) (t : Numbers) (k : ℕ) (rows : List (List ℤ)) (cycles : List (List Given)) → AllCycles g t k rows cycles → Counts (length (outcome_over g t k cycles).rows) (length cycles) (outcome_over g t k cycles).end
+cycles-count g t k [] [] all = refl
+cycles-count g t k [] (a ∷ cycles) all = absurd all
+cycles-count g t k (row ∷ rows) [] all = absurd all
+cycles-count g t k (row ∷ rows) (a ∷ cycles) all =
+    count-step (end_of g t k a) (outputs_of g a) (outcome_over g t (suc k) cycles) (AllCycles g t (suc k) rows cycles) cycles all.1 (λ more. cycles-count g t (suc k) rows cycles more)
+
+few-step : (e : CycleEnd) (More : Type 0) (cycles : List (List Given)) (r : ℕ) → unless_ended e More (cycles ≡ []) → (More → length cycles ≤ r) → suc (length cycles) ≤ suc r
+few-step cycle.Released More cycles r h go = omega (arith, go h)
+few-step (cycle.Stopped k why) More cycles r h go = rw h (omega arith)
+few-step (cycle.Refused i f w) More cycles r h go = rw h (omega arith)
+
+-- there are no more cycles than rows
+cycles-few : (g : Lists) (t : Numbers) (k : ℕ) (rows : List (List ℤ)) (cycles : List (List Given)) → AllCycles g t k rows cycles → length cycles ≤ length rows
+cycles-few g t k [] [] all = omega arith
+cycles-few g t k [] (a ∷ cycles) all = absurd all
+cycles-few g t k (row ∷ rows) [] all = absurd all
+cycles-few g t k (row ∷ rows) (a ∷ cycles) all = few-step (end_of g t k a) (AllCycles g t (suc k) rows cycles) cycles (length rows) all.1 (λ more. cycles-few g t (suc k) rows cycles more)
+
+-- the answers of the last cycle
+last-is : (cycles : List (List Given)) (n : ℕ) → length cycles ≡ suc n → last_answers cycles ≡ slice_index_or cycles n []
+last-is [] n is = absurd (omega (arith, is))
+last-is (a ∷ []) zero is = refl
+last-is (a ∷ []) (suc n) is = absurd (omega (arith, is))
+last-is (a ∷ b ∷ cycles) zero is = absurd (omega (arith, is))
+last-is (a ∷ b ∷ cycles) (suc n) is = last-is (b ∷ cycles) n (omega (arith, is))
+
+-- no cycle is there behind the last one
+none-is : (cycles : List (List Given)) (n : ℕ) → length cycles ≤ n → slice_index_or cycles n [] ≡ []
+none-is [] n few = refl
+none-is (a ∷ cycles) zero few = absurd (omega (arith, few))
+none-is (a ∷ cycles) (suc n) few = none-is cycles n (omega (arith, few))
+
+unless-some : (e : CycleEnd) (More P : Type 0) (a : List Given) (cycles : List (List Given)) → unless_ended e More ((a ∷ cycles) ≡ []) → (More → P) → P
+unless-some cycle.Released More P a cycles h go = go h
+unless-some (cycle.Stopped k why) More P a cycles h go = absurd cc
+unless-some (cycle.Refused i f w) More P a cycles h go = absurd cc
+
+-- the last cycle is whole
+last-whole : (g : Lists) (t : Numbers) (k : ℕ) (rows : List (List ℤ)) (cycles : List (List Given)) → AllCycles g t k rows cycles → 0 < length cycles → Whole g.operations (last_answers cycles)
+last-whole g t k rows [] all some = absurd (omega (arith, some))
+last-whole g t k [] (a ∷ cycles) all some = absurd all
+last-whole g t k (row ∷ rows) (a ∷ []) all some = all.0
+last-whole g t k (row ∷ rows) (a ∷ b ∷ cycles) all some =
+    unless-some (end_of g t k a) (AllCycles g t (suc k) rows (b ∷ cycles)) (Whole g.operations (last_answers (b ∷ cycles))) b cycles all.1 (λ more. last-whole g t (suc k) rows (b ∷ cycles) more (omega arith))
+
+-- how many cycles there are of a run over the rows through cycle n, where so many were released
+pub record HasCycles (n released cycles : ℕ) : Type 0 where
+  pub begun : n ≤ released → cycles ≡ suc n
+  pub before : (n ≤ released → ⊥) → cycles ≤ n
+
+not-begun-by : (b : Bool) (n released cycles : ℕ) → nat_le n released ≡ b → suc released ≡ cycles → (n ≤ released → ⊥) → cycles ≤ n
+not-begun-by true n released cycles test is not = absurd (not (grind (arith, nat_tests)))
+not-begun-by false n released cycles test is not = grind (arith, nat_tests)
+
+not-begun : (n released cycles : ℕ) → suc released ≡ cycles → (n ≤ released → ⊥) → cycles ≤ n
+not-begun n released cycles is not = not-begun-by (nat_le n released) n released cycles refl is not
+
+has-cycles : (n released cycles rows : ℕ) (e : CycleEnd) → Counts released cycles e → cycles ≤ rows → rows ≤ n + 1 → (e ≡ cycle.Released → (cycles ≡ rows) × (rows ≡ n + 1)) → HasCycles n released cycles
+has-cycles n released cycles rows cycle.Released is few within all =
+    let (whole, many) = all refl in
+    record { begun = λ below. omega (arith, whole, many); before = λ not. absurd (not (omega (arith, is, whole, many))) }
+has-cycles n released cycles rows (cycle.Stopped k why) is few within all = record { begun = λ below. omega (arith, is, few, within, below); before = λ not. not-begun n released cycles is not }
+has-cycles n released cycles rows (cycle.Refused i f w) is few within all = record { begun = λ below. omega (arith, is, few, within, below); before = λ not. not-begun n released cycles is not }
+
+-- ---- the words
+
+answered-by : (n released : ℕ) (b : Bool) (cycles : List (List Given)) → nat_le n released ≡ b → HasCycles n released (length cycles) → cond b (words_among (last_answers cycles)) [] ≡ words_in n cycles
+answered-by n released true cycles is has =
+    let below : n ≤ released = grind (arith, nat_tests) in
+    ap words_among (last-is cycles n (has.begun below))
+answered-by n released false cycles is has =
+    let not : n ≤ released → ⊥ = λ below. let yes : nat_le n released ≡ true = grind (arith, nat_tests) in cc in
+    ap words_among (sym (none-is cycles n (has.before not)))
+
+-- ---- what is printed
+
+-- a cycle's end that is told as one that ends the run is told so whatever is behind the rows
+words-same-by : (lines : List ℕ) (names : List (List ℕ)) (k : ℕ) (e : End) (behind : Option RowFault) → (e ≡ complete → behind ≡ None) → words_then lines names k e None ≡ words_then lines names k e behind
+words-same-by lines names k complete behind h = ap (words_then lines names k complete) (sym (h refl))
+words-same-by lines names k (stopped s) behind h = refl
+words-same-by lines names k (refused i f w) behind h = refl
+
+-- only the end of a run that was released is followed by a later one
+words-stay-by : (e : End) (rows : List (List ℤ)) (words : List ℤ) (later : Report) → (e ≡ complete → later ≡ no_report) → goes_on rows e words later ≡ record { rows = rows; end = e; words = words }
+words-stay-by complete rows words later h = ap (goes_on rows complete words) (h refl) ∙ ap (λ r. record { rows = r; end = complete; words = words ++ [] }) (append-nil rows) ∙ ap (λ ws. record { rows = rows; end = complete; words = ws }) (append-nil words)
+words-stay-by (stopped s) rows words later h = refl
+words-stay-by (refused i f w) rows words later h = refl
+
+-- nothing is written for rows
+abbrev no_text : ℕ → List ℤ → List ℕ
+no_text = λ n row. []
+
+texts-none : (k : ℕ) (rows : List (List ℤ)) → texts_from no_text k rows ≡ []
+texts-none k [] = refl
+texts-none k (row ∷ rows) = texts-none (suc k) rows
+
+-- and no part of nothing
+no-part : (old new : Option (List ℕ)) (bytes : List ℕ) → bytes ≡ [] → AppendsPart old new bytes → ⊥
+no-part old new bytes none (front, rest, is, some, w) =
+    let all : length bytes ≡ length front + length rest = ap length is ∙ length-append front rest in
+    let empty : length bytes ≡ 0 = ap length none in
+    omega (arith, all, empty, some)
+
+-- ---- the job
+
+module _ (g : Lists) (n : ℕ) (name : List ℕ) (t : Numbers) (left : RowsLeft) (few-rows : length left.rows ≤ n + 1) (all-there : left.refusal ≡ None → length left.rows ≡ n + 1) (l0 l1 : Option (List Entry)) (w0 w1 : ℕ)
+    (words-meant : (cycles : List (List Given)) → AllRight (calls_over g (table_of t.seed t.step g) 0 (initial_words g t.seed) left.rows cycles) → AllCycles g (table_of t.seed t.step g) 0 left.rows cycles → words_in n cycles ≡ words_meant g (code_of t) n left.rows) where
+  abbrev names : List (List ℕ)
+  names = names_of (image g)
+
+  abbrev table : Numbers
+  table = table_of t.seed t.step g
+
+  abbrev outcome_is : List (List Given) → Outcome
+  outcome_is cycles = outcome_over g table 0 cycles
+
+  -- the lines of a run's words
+  abbrev lines_of : List (List Given) → List ℕ
+  lines_of cycles = word_lines g table n 0 g.operations (words_in n cycles)
+
+  -- what is read off answers that stand for the graph's run is what is meant
+  read-meant : (cycles : List (List Given)) → AllRight (calls_over g table 0 (initial_words g t.seed) left.rows cycles) → AllCycles g table 0 left.rows cycles → outcome_is cycles ≡ outcome_for (graph_run g left.rows) →
+      report_read g (outcome_is cycles) (words_in n cycles) ≡ report_told (told_graph g left.rows) (words_meant g (code_of t) n left.rows)
+  read-meant cycles right all is =
+      ap (λ o. report_read g o (words_in n cycles)) is
+      ∙ ap (λ e. record { rows = (graph_run g left.rows).rows; end = e; words = words_in n cycles }) (read-end g (graph_run g left.rows).end)
+      ∙ ap (report_told (told_graph g left.rows)) (words-meant cycles right all)
+
+  -- all was written of a run that came to its end
+  reached : (cycles : List (List Given)) (e : CycleEnd) (o0 o3 : Option (List ℕ)) (f0 f3 : ℕ) → Carried (calls_over g table 0 (initial_words g t.seed) left.rows cycles) l0 l1 w0 w1 → CameToEnd g table left.rows cycles e →
+      (w1 ≡ w0 → w0 < 2 ^ 64 - 1 → outcome_is cycles ≡ outcome_for (graph_run g left.rows)) →
+      Appends o0 o3 (words_then (lines_of cycles) names (length (outcome_is cycles).rows) (end_read g e) left.refusal) →
+      Reached (runs (words_job name n g t left)) (behind_text name (end_read g e) left.refusal) (run_status (end_read g e) left.refusal) (moment l0 w0 o0 f0) (moment l1 w1 o3 f3)
+  reached cycles e o0 o3 f0 f3 carried came follows w = record {
+    course = record { graph = g; cycles = cycles };
+    whole = (refl, came.all);
+    log = carried.told;
+    out = rw came.end_is w;
+    line_is = ap (λ x. behind_text name (end_read g x) left.refusal) came.end_is;
+    status_is = ap (λ x. run_status (end_read g x) left.refusal) came.end_is;
+    honest = λ same below. read-meant cycles (carried.honest same below) came.all (follows same below);
+  }
+
+  -- nothing was written of a run that was given up, or where a row is refused behind the others
+  none-written : (k : ℕ) (rows : List (List ℤ)) (o1 o2 : Option (List ℕ)) → Appends o1 o2 (texts_from no_text k rows) → Appends o1 o2 []
+  none-written k rows o1 o2 w = rw (texts-none k rows) at w
+
+  row-refused : (f : RowFault) (o1 o2 : Option (List ℕ)) (f1 f2 : ℕ) → RunsRows g table left no_text (moment l0 w0 o1 f1) (moment l1 w1 o2 f2) (Err (given_up.Rows f)) →
+      Reached (runs (words_job name n g t left)) (rows_text name f) 1 (moment l0 w0 o1 f1) (moment l1 w1 o2 f2)
+  row-refused f o1 o2 f1 f2 run =
+      let (came, is, lines) = run.ends in
+      let nothing : Appends o1 o2 [] = none-written 0 (outcome_is run.cycles).rows o1 o2 lines in
+      let text : words_then (lines_of run.cycles) names (length (outcome_is run.cycles).rows) complete left.refusal ≡ [] = ap (words_then (lines_of run.cycles) names (length (outcome_is run.cycles).rows) complete) is in
+      let all = reached run.cycles cycle.Released o1 o2 f1 f2 run.carried came run.follows (rw text nothing) in
+      let line : behind_text name complete left.refusal ≡ rows_text name f = ap (behind_text name complete) is in
+      let code_is : run_status complete left.refusal ≡ 1 = ap (run_status complete) is in
+      rw line at (rw code_is at all)
+
+  wants-row : (o1 o2 : Option (List ℕ)) (f1 f2 : ℕ) → RunsRows g table left no_text (moment l0 w0 o1 f1) (moment l1 w1 o2 f2) (Err given_up.Memory) → Front (runs (words_job name n g t left)) (moment l0 w0 o1 f1) (moment l1 w1 o2 f2)
+  wants-row o1 o2 f1 f2 run =
+      let nothing : Appends o1 o2 [] = none-written 0 (outcome_is run.cycles).rows o1 o2 run.ends in
+      record {
+        course = record { graph = g; cycles = run.cycles };
+        begun = (refl, run.some);
+        log = run.carried.told;
+        out = λ later comes. ([], _, refl, nothing);
+        honest = λ same below. ([], _, refl, nothing);
+      }
+
+  -- the run was given up
+  pub given-up-words : (why : RunFault) (o1 o2 : Option (List ℕ)) (f1 f2 : ℕ) → IfSome left.refusal IsOfRecord → RunsRows g table left no_text (moment l0 w0 o1 f1) (moment l1 w1 o2 f2) (Err why) →
+      RunsJob (words_job name n g t left) (moment l0 w0 o1 f1) (moment l1 w1 o2 f2) (Err (of_run why))
+  given-up-words (given_up.Rows f) o1 o2 f1 f2 of run = told-by (words_job name n g t left) f _ _ (record-of f left.refusal of run.ends.1) (row-refused f o1 o2 f1 f2 run)
+  given-up-words given_up.Write o1 o2 f1 f2 of run = absurd (no-part o1 o2 _ (texts-none 0 (outcome_is run.cycles).rows) run.ends.1)
+  given-up-words given_up.Memory o1 o2 f1 f2 of run = inr (wants-row o1 o2 f1 f2 run)
+
+  -- ---- the run came to its end
+
+  module _ (e : CycleEnd) (o1 o2 : Option (List ℕ)) (f1 f2 : ℕ) (run : RunsRows g table left no_text (moment l0 w0 o1 f1) (moment l1 w1 o2 f2) (Ok e)) (there : IsThere g e) (m : State) (after : MachineAfter g table run.cycles m) where
+    has : HasCycles n m.cycles (length run.cycles)
+    has =
+        let (came, none, lines) = run.ends in
+        let o = outcome_is run.cycles in
+        let counts : Counts (length o.rows) (length run.cycles) o.end = cycles-count g table 0 left.rows run.cycles came.all in
+        has-cycles n m.cycles (length run.cycles) (length left.rows) e (subst (λ x. Counts m.cycles (length run.cycles) x) came.end_is (subst (λ r. Counts r (length run.cycles) o.end) (sym after.cycles) counts)) (cycles-few g table 0 left.rows run.cycles came.all) few-rows
+        (λ released. (as-many g table 0 left.rows run.cycles came.all (came.end_is ∙ released), all-there (none released)))
+
+    -- where cycle n was begun, its answers are those of the machine, and they are whole
+    pub whole-there : n ≤ m.cycles → Whole m.graph.operations m.answers
+    whole-there below =
+        let (came, none, lines) = run.ends in
+        let many : length run.cycles ≡ suc n = has.begun below in
+        let last : Whole g.operations (last_answers run.cycles) = last-whole g table 0 left.rows run.cycles came.all (omega (arith, many)) in
+        rw (after.graph, after.answers) last
+
+    words-are : answered_words m n ≡ words_in n run.cycles
+    words-are =
+        ap (λ xs. cond (nat_le n m.cycles) (words_among xs) []) after.answers ∙ answered-by n m.cycles (nat_le n m.cycles) run.cycles refl has
+
+    -- what is printed of the machine is what is read off the answers
+    text-is : traced_text m names n e ≡ words_then (lines_of run.cycles) names (length (outcome_is run.cycles).rows) (end_read g e) left.refusal
+    text-is =
+        let (came, none, lines) = run.ends in
+        ap (λ ws. words_then (word_lines m.graph m.table n 0 m.graph.operations ws) names m.cycles (end_read m.graph e) None) words-are
+        ∙ ap (λ (h : Lists). words_then (word_lines h m.table n 0 h.operations (words_in n run.cycles)) names m.cycles (end_read h e) None) after.graph
+        ∙ ap (λ u. words_then (word_lines g u n 0 g.operations (words_in n run.cycles)) names m.cycles (end_read g e) None) after.table
+        ∙ ap (λ k. words_then (lines_of run.cycles) names k (end_read g e) None) after.cycles
+        ∙ words-same-by (lines_of run.cycles) names (length (outcome_is run.cycles).rows) (end_read g e) left.refusal (λ c. none (complete-is g e there c))
+
+    -- it was printed
+    pub ended-words : (end : Ends) (o3 : Option (List ℕ)) (f3 : ℕ) → Appends o2 o3 (traced_text m names n e) → end_status end ≡ run_status (end_read m.graph e) None → Reached (runs (words_job name n g t left)) [] (end_status end) (moment l0 w0 o1 f1) (moment l1 w1 o3 f3)
+    ended-words end o3 f3 w status =
+        let (came, none, lines) = run.ends in
+        let behind : end_read g e ≡ complete → left.refusal ≡ None = λ c. none (complete-is g e there c) in
+        let nothing : Appends o1 o2 [] = none-written 0 (outcome_is run.cycles).rows o1 o2 lines in
+        let all = reached run.cycles e o1 o3 f1 f3 run.carried came run.follows (rw text-is at (Appends-trans o1 o2 o3 [] (traced_text m names n e) nothing w)) in
+        let line : behind_text name (end_read g e) left.refusal ≡ [] = no-behind-by g names name (end_read g e) left.refusal behind in
+        let code_is : run_status (end_read g e) left.refusal ≡ end_status end =
+        sym (status ∙ ap (λ (h : Lists). run_status (end_read h e) None) after.graph ∙ status-by g names name (end_read g e) left.refusal behind) in
+        rw line at (rw code_is at all)
+
+    -- or a part of it
+    pub cut-words : (o3 : Option (List ℕ)) (f3 : ℕ) → AppendsPart o2 o3 (traced_text m names n e) → Cut (runs (words_job name n g t left)) (moment l0 w0 o1 f1) (moment l1 w1 o3 f3)
+    cut-words o3 f3 (front, rest, is, some, taken) =
+        let (came, none, lines) = run.ends in
+        let o = outcome_is run.cycles in
+        let nothing : Appends o1 o2 [] = none-written 0 o.rows o1 o2 lines in
+        let whole : AppendsPart o1 o3 (words_then (lines_of run.cycles) names (length o.rows) (end_read g e) left.refusal) = (front, rest, sym text-is ∙ is, some, Appends-trans o1 o2 o3 [] front nothing taken) in
+        let read : AppendsPart o1 o3 (shown_text (words_of g n) (code_of t) names (report_read g o (words_in n run.cycles)) left.refusal) = rw came.end_is whole in
+        record {
+          course = record { graph = g; cycles = run.cycles };
+          begun = (refl, run.some);
+          log = run.carried.told;
+          out = λ later comes.
+              let stays : goes_on o.rows (end_read g o.end) (words_in n run.cycles) later ≡ report_read g o (words_in n run.cycles) =
+              words-stay-by (end_read g o.end) o.rows (words_in n run.cycles) later (λ c. comes (as-many g table 0 left.rows run.cycles came.all (came.end_is ∙ complete-is g e there (ap (end_read g) (sym came.end_is) ∙ c)))) in
+              subst (λ r. AppendsPart o1 o3 (shown_text (words_of g n) (code_of t) names r left.refusal)) (sym stays) read;
+          honest = λ same below.
+              subst (λ r. AppendsPart o1 o3 (shown_text (words_of g n) (code_of t) names r left.refusal)) (read-meant run.cycles (run.carried.honest same below) came.all (run.follows same below)) read;
+          earlier = tt;
+        }

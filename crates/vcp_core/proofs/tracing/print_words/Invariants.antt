@@ -1,0 +1,10 @@
+use Rattle.std.proofs.Common.{take, Ok}
+use Rattle.vcp_outside.specs.declared.failed.Failed.{Failed}
+use Rattle.vcp_outside.specs.Written.{Writes}
+use Rattle.vcp_answer.specs.CycleWords.{word_lines, words_among}
+use Rattle.vcp_core.proofs.tracing.print_words.Given as goal
+
+abbrev pub invariant-words : goal.invariant-words
+invariant-words g l =
+    Writes {T = Unit {0}} {E = Failed} (g.O.Sink.written l.fn.out) (g.O.Sink.written l.out) (g.O.Sink.faults l.fn.out) (g.O.Sink.faults l.out)
+    (word_lines l.machine.graph l.machine.table l.cycle 0 l.machine.graph.operations (words_among (take l.i l.machine.answers))) (Ok tt)

@@ -1,0 +1,67 @@
+//! The command `compile`, up to the line of its fault.
+
+ghost use Rattle.std.specs.Prelude.{◌≡◌, IfSome, IfOk, OnOk, Err, List, Option, ℕ};
+ghost use Rattle.std.specs.Io.KnownBytes.{IsAtEnd};
+ghost use Rattle.coded_unit.specs.Log.{Entry};
+ghost use Rattle.vcp_outside.specs.Counts.{Rose};
+ghost use Rattle.vcp_words.specs.Forms.{compile, as_code, IsCode};
+ghost use Rattle.vcp_core.specs.Compile.{CompileTask, IsImageFor};
+ghost use Rattle.vcp_core.specs.Reach.{Reaches, Unread, Taken};
+ghost use Rattle.machine_run.specs.Moments.{moment};
+ghost use Rattle.vcp_core.specs.declared.ending.End.TheVariants as end;
+ghost use Rattle.vcp_core.specs.declared.fault.Fault.TheVariants as fault;
+
+use crate::ending::End;
+use crate::fault::Fault;
+use flat_stmt::flatten;
+use image_file::write_image;
+use signature_table::Table;
+use std::alloc::Global;
+use vcp_base::{Memory, Text};
+use vcp_inputs::load_typed;
+use vcp_outside::{Files, Sink, write_all};
+use vcp_typed::Typed;
+use vcp_words::Code;
+
+/// The image of a graph that may stand for a program, with the seed and the step of a code.
+fn image_for(alloc: Global, program: &Typed, code: Code) -> Result<Text, Memory>
+    requires code { IsCode (as_code code) }
+    ensures { IfOk result (IsImageFor program.now (as_code code)) }
+{
+    let graph = flatten(alloc, program)?;
+    let _rules = graph.len();
+    let table = Table::new(alloc, &graph, code.seed, code.step)?;
+    write_image(alloc, &graph, &table)
+}
+
+/// Does what the words `compile P CODE` say, and writes to `out` alone: P is read whole and taken
+/// through its refusals, and then the image of its operations is written, with the numbers of the
+/// code.
+pub fn compile_command<F: Files, O: Sink>(
+    alloc: Global,
+    source: &Text,
+    code: Code,
+    files: &mut F,
+    out: &mut O,
+) -> Result<End, Fault>
+    requires code { IsCode (as_code code) }
+    ensures held { F.held files.new ≡ F.held files.old }
+    ensures reaches { (log : Option (List Entry)) (wrong : ℕ) → IfSome (F.held files.old) (λ h.
+        Reaches (compile source.now (as_code code)) (CompileTask source.now (as_code code) h)
+        (moment log wrong (O.written out.old) (O.faults out.old)) (moment log wrong (O.written out.new) (O.faults out.new))
+        (F.broken files.old) (F.broken files.new) result) }
+    ensures done { IfOk result (λ e. e ≡ end.Done) }
+    ensures unread { Unread result → Rose (F.faults files.old) (F.faults files.new) }
+    ensures write { result ≡ Err fault.Write → Rose (O.faults out.old) (O.faults out.new) }
+    ensures ended { OnOk result (IsAtEnd (F.rest files.new)) }
+    ensures taken { IfSome (F.held files.old) (λ h. Taken (compile source.now (as_code code)) h (F.rest files.new) result) }
+{
+    match load_typed(alloc, files, source) {
+        Ok(program) => {
+            let image = image_for(alloc, &program, code)?;
+            write_all(out, image.bytes())?;
+            Ok(End::Done)
+        }
+        Err(input) => Err(Fault::Source(input)),
+    }
+}

@@ -1,0 +1,61 @@
+//! The command `list`, up to the line of its fault.
+
+ghost use Rattle.std.specs.Prelude.{◌≡◌, length, IfSome, IfOk, OnOk, Err, List, Option, ℕ};
+ghost use Rattle.std.specs.Io.KnownBytes.{IsAtEnd};
+ghost use Rattle.coded_unit.specs.Log.{Entry};
+ghost use Rattle.vcp_outside.specs.Counts.{Rose};
+ghost use Rattle.vcp_outside.specs.Written.{Writes};
+ghost use Rattle.vcp_words.specs.Forms.{list};
+ghost use Rattle.vcp_core.specs.Listing.{ListTask, listing};
+ghost use Rattle.vcp_core.specs.Reach.{Reaches, Unread, Taken};
+ghost use Rattle.machine_run.specs.Moments.{moment};
+ghost use Rattle.vcp_core.specs.declared.ending.End.TheVariants as end;
+ghost use Rattle.vcp_core.specs.declared.fault.Fault.TheVariants as fault;
+
+use crate::ending::End;
+use crate::fault::Fault;
+use op_graph::Graph;
+use run_report::list_line;
+use signature_table::Table;
+use std::alloc::Global;
+use vcp_base::Text;
+use vcp_inputs::load_image;
+use vcp_outside::{Failed, Files, Sink};
+
+/// Prints a line for each operation of a graph. It takes no memory.
+fn list_operations<O: Sink>(out: &mut O, graph: &Graph, table: &Table) -> Result<(), Failed>
+    requires { length table.now.corrections ≡ length graph.now.operations }
+    ensures { Writes (O.written out.old) (O.written out.new) (O.faults out.old) (O.faults out.new) (listing graph.now table.now) result }
+{
+    'operations: for i in 0..graph.len() {
+        list_line(out, graph, table, i)?;
+    }
+    Ok(())
+}
+
+/// Does what the words `list M` say, and writes to `out` alone: M is read whole and taken through its
+/// refusals, and then a line is written for each operation of its graph.
+pub fn list_command<F: Files, O: Sink>(
+    alloc: Global,
+    image: &Text,
+    files: &mut F,
+    out: &mut O,
+) -> Result<End, Fault>
+    ensures held { F.held files.new ≡ F.held files.old }
+    ensures reaches { (log : Option (List Entry)) (wrong : ℕ) → IfSome (F.held files.old) (λ h. Reaches (list image.now) (ListTask image.now h)
+        (moment log wrong (O.written out.old) (O.faults out.old)) (moment log wrong (O.written out.new) (O.faults out.new))
+        (F.broken files.old) (F.broken files.new) result) }
+    ensures done { IfOk result (λ e. e ≡ end.Done) }
+    ensures unread { Unread result → Rose (F.faults files.old) (F.faults files.new) }
+    ensures write { result ≡ Err fault.Write → Rose (O.faults out.old) (O.faults out.new) }
+    ensures ended { OnOk result (IsAtEnd (F.rest files.new)) }
+    ensures taken { IfSome (F.held files.old) (λ h. Taken (list image.now) h (F.rest files.new) result) }
+{
+    match load_image(alloc, files, image) {
+        Ok(image) => {
+            list_operations(out, &image.graph, &image.table)?;
+            Ok(End::Done)
+        }
+        Err(input) => Err(Fault::Source(input)),
+    }
+}

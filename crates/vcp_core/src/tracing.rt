@@ -1,0 +1,143 @@
+//! The words of one cycle of a graph's run on rows, on a unit.
+
+ghost use Rattle.std.specs.Prelude.{◌≡◌, ◌+◌, ◌<◌, ◌≤◌, ℕ, List, [], None, Ok, Err, IfSome, length, map};
+ghost use Rattle.vcp_base.specs.Limits.{most_cycles};
+ghost use Rattle.vcp_outside.specs.Counts.{Rose};
+ghost use Rattle.vcp_outside.specs.Written.{Writes};
+ghost use Rattle.input_rows.specs.RowsOf.{IsOfRecord};
+ghost use Rattle.signature_table.specs.Signatures.{IsTableOf, table_of};
+ghost use Rattle.coded_machine.specs.Calls.{Whole};
+ghost use Rattle.machine_run.specs.Moments.{moment};
+ghost use Rattle.machine_run.specs.Stops.{GrowsByStop};
+ghost use Rattle.vcp_answer.specs.CycleWords.{word_lines, words_among};
+ghost use Rattle.vcp_core.specs.MachineRun.{IsThere, RunsJob};
+ghost use Rattle.vcp_core.specs.Trace.{words_job};
+ghost use Rattle.vcp_core.specs.TraceRun.{PrintsWords, answered_words};
+ghost use Rattle.vcp_core.specs.declared.ending.End.TheVariants as end;
+ghost use Rattle.vcp_core.specs.declared.fault.Fault.TheVariants as fault;
+
+use crate::ending::End;
+use crate::fault::Fault;
+use crate::running::print_end;
+use coded_machine::{CycleEnd, Machine, right_answers_stand_for_values};
+use coded_unit::Unit;
+use input_rows::Rows;
+use machine_run::{ReleasedRows, run_rows};
+use op_graph::Graph;
+use run_report::trace_line;
+use signature_table::Table;
+use std::alloc::Global;
+use vcp_base::{Columns, Row};
+use vcp_outside::{Failed, Sink, write_all};
+
+/// Nothing is written for the outputs of a released cycle, and nothing is kept.
+#[derive(Drop)]
+struct NoRows;
+
+impl ReleasedRows for NoRows {
+    ghost text = { λ _ _. [] };
+
+    ghost Keeps = { λ _ _. Unit {0} };
+
+    fn take<O: Sink>(&mut self, _out: &mut O, _cycle: u32, _outputs: &Row) -> Result<(), Failed> {
+        Ok(())
+    }
+}
+
+/// Prints the words that a machine's operations answered in its last cycle, which was this one: a line
+/// for each, in order of operation. It takes no memory.
+fn print_words<O: Sink>(out: &mut O, machine: &Machine<'_>, cycle: u32) -> Result<(), Failed>
+    requires cycle { cycle < most_cycles }
+    requires table { length machine.now.table.corrections ≡ length machine.now.graph.operations }
+    requires whole { Whole machine.now.graph.operations machine.now.answers }
+    ensures { Writes (O.written out.old) (O.written out.new) (O.faults out.old) (O.faults out.new)
+        (word_lines machine.now.graph machine.now.table cycle 0 machine.now.graph.operations (words_among machine.now.answers)) result }
+{
+    let graph = machine.graph();
+    let table = machine.table();
+    'words: for i in 0..graph.len() {
+        match machine.word(i) {
+            Some(word) => trace_line(out, graph, table, i, cycle, word)?,
+            None => return Ok(()),
+        }
+    }
+    Ok(())
+}
+
+/// Prints those words where a machine began this cycle, and nothing where its run ended before.
+fn print_begun<O: Sink>(out: &mut O, machine: &Machine<'_>, cycle: u32) -> Result<(), Failed>
+    requires cycle { cycle < most_cycles }
+    requires table { length machine.now.table.corrections ≡ length machine.now.graph.operations }
+    requires whole { cycle ≤ machine.now.cycles → Whole machine.now.graph.operations machine.now.answers }
+    ensures { Writes (O.written out.old) (O.written out.new) (O.faults out.old) (O.faults out.new)
+        (word_lines machine.now.graph machine.now.table cycle 0 machine.now.graph.operations (answered_words machine.now cycle)) result }
+{
+    if cycle <= machine.cycles() {
+        return print_words(out, machine, cycle);
+    }
+    Ok(())
+}
+
+/// Prints what is shown of a run that came to its end: the words of this cycle, where it was begun, and
+/// that it was released, or the line of the run's end.
+fn print_traced<O: Sink>(
+    out: &mut O,
+    machine: &Machine<'_>,
+    outputs: &Columns,
+    cycle: u32,
+    end: &CycleEnd,
+) -> Result<End, Failed>
+    requires cycle { cycle < most_cycles }
+    requires table { length machine.now.table.corrections ≡ length machine.now.graph.operations }
+    requires whole { cycle ≤ machine.now.cycles → Whole machine.now.graph.operations machine.now.answers }
+    requires there { IsThere machine.now.graph end.now }
+    requires outputs { length outputs.now ≡ length machine.now.graph.outputs }
+    ensures { PrintsWords machine.now (map (λ c. c.name) outputs.now) cycle end.now
+        (O.written out.old) (O.written out.new) (O.faults out.old) (O.faults out.new) result }
+{
+    print_begun(out, machine, cycle)?;
+    match end {
+        CycleEnd::Released => {
+            write_all(out, b"released\n")?;
+            Ok(End::Done)
+        }
+        CycleEnd::Stopped { .. } | CycleEnd::Refused { .. } => {
+            print_end(out, machine.graph(), outputs, machine.cycles(), end)
+        }
+    }
+}
+
+/// Runs the operations of a graph, whose table this is, on the rows through a cycle, on the unit, and
+/// prints the words of that cycle and the run's last line; where the run ended before that cycle, that
+/// line alone. A row that is refused ends the run, and nothing is printed then.
+pub fn run_words<U: Unit, O: Sink>(
+    alloc: Global,
+    graph: &Graph,
+    table: &Table,
+    cycle: u32,
+    rows: &mut Rows<'_>,
+    unit: &mut U,
+    out: &mut O,
+) -> Result<End, Fault>
+    requires table { table.now ≡ table_of table.now.seed table.now.step graph.now }
+    requires cycle { cycle < most_cycles }
+    requires width { length rows.old.types ≡ length graph.now.inputs }
+    requires few { length rows.old.rows ≤ cycle + 1 }
+    requires through { rows.old.refusal ≡ None → length rows.old.rows ≡ cycle + 1 }
+    requires behind { IfSome rows.old.refusal IsOfRecord }
+    ensures runs { (name : List ℕ) → RunsJob (words_job name cycle graph.now table.now rows.old)
+        (moment (U.log unit.old) (U.wrong unit.old) (O.written out.old) (O.faults out.old))
+        (moment (U.log unit.new) (U.wrong unit.new) (O.written out.new) (O.faults out.new)) result }
+    ensures write { result ≡ Err fault.Write → Rose (O.faults out.old) (O.faults out.new) }
+    ensures refused { result ≡ Ok end.Refused → Rose (U.wrong unit.old) (U.wrong unit.new) }
+    ensures stopped { result ≡ Ok end.Stopped → GrowsByStop (U.log unit.old) (U.log unit.new) }
+{
+    // So the words of an honest unit are those that are meant.
+    right_answers_stand_for_values();
+    let _rules = graph.len();
+    let _ranges = table.step();
+    let mut machine = Machine::new(alloc, graph, table)?;
+    let outputs = graph.output_columns(alloc)?;
+    let end = run_rows(alloc, &mut machine, rows, unit, out, &mut NoRows)?;
+    Ok(print_traced(out, &machine, &outputs, cycle, &end)?)
+}

@@ -1,0 +1,62 @@
+//! The command `widen`, up to the line of its fault.
+
+ghost use Rattle.std.specs.Prelude.{◌≡◌, IfSome, IfOk, OnOk, Err, List, Option, ℕ};
+ghost use Rattle.std.specs.Io.KnownBytes.{IsAtEnd};
+ghost use Rattle.coded_unit.specs.Log.{Entry};
+ghost use Rattle.vcp_outside.specs.Counts.{Rose};
+ghost use Rattle.image_file.specs.Graphs.{HasImage};
+ghost use Rattle.image_file.specs.Image.{image_of};
+ghost use Rattle.vcp_words.specs.Forms.{widen};
+ghost use Rattle.vcp_core.specs.Widen.{WidenTask, widened};
+ghost use Rattle.vcp_core.specs.Reach.{Reaches, Unread, Taken};
+ghost use Rattle.machine_run.specs.Moments.{moment};
+ghost use Rattle.vcp_core.specs.declared.ending.End.TheVariants as end;
+ghost use Rattle.vcp_core.specs.declared.fault.Fault.TheVariants as fault;
+
+use crate::ending::End;
+use crate::fault::Fault;
+use image_file::write_image;
+use signature_table::Table;
+use std::alloc::Global;
+use vcp_base::{Memory, Text};
+use vcp_inputs::{Image, load_image};
+use vcp_outside::{Files, Sink, write_all};
+
+/// The image of a graph in the wide code, with the seed and the step that its own has.
+fn wide_image(alloc: Global, image: Image) -> Result<Text, Memory>
+    ensures { IfOk result (λ text. text ≡ image_of (widened image.graph) image.table.seed image.table.step) }
+{
+    let seed = image.table.seed();
+    let step = image.table.step();
+    let graph = image.graph.widened();
+    let table = Table::new(alloc, &graph, seed, step)?;
+    write_image(alloc, &graph, &table)
+}
+
+/// Does what the words `widen M` say, and writes to `out` alone: M is read whole and taken through its
+/// refusals, and then the image of its graph in the wide code is written.
+pub fn widen_command<F: Files, O: Sink>(
+    alloc: Global,
+    image: &Text,
+    files: &mut F,
+    out: &mut O,
+) -> Result<End, Fault>
+    ensures held { F.held files.new ≡ F.held files.old }
+    ensures reaches { (log : Option (List Entry)) (wrong : ℕ) → IfSome (F.held files.old) (λ h. Reaches (widen image.now) (WidenTask image.now h)
+        (moment log wrong (O.written out.old) (O.faults out.old)) (moment log wrong (O.written out.new) (O.faults out.new))
+        (F.broken files.old) (F.broken files.new) result) }
+    ensures done { IfOk result (λ e. e ≡ end.Done) }
+    ensures unread { Unread result → Rose (F.faults files.old) (F.faults files.new) }
+    ensures write { result ≡ Err fault.Write → Rose (O.faults out.old) (O.faults out.new) }
+    ensures ended { OnOk result (IsAtEnd (F.rest files.new)) }
+    ensures taken { IfSome (F.held files.old) (λ h. Taken (widen image.now) h (F.rest files.new) result) }
+{
+    match load_image(alloc, files, image) {
+        Ok(image) => {
+            let wide = wide_image(alloc, image)?;
+            write_all(out, wide.bytes())?;
+            Ok(End::Done)
+        }
+        Err(input) => Err(Fault::Source(input)),
+    }
+}
