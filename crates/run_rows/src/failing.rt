@@ -2,14 +2,14 @@
 
 ghost use Rattle.std.specs.Prelude.{None};
 
-use crate::calls::{Gives, both_give, give, is};
-use crate::programs::{ADD, COUNTER};
+use crate::calls::{both_give, give};
 use coded_unit::CpuUnit;
 use std::alloc::Global;
 use std::test::Fail;
 use vcp_base::{Memory, Words};
 use vcp_core::vcp;
 use vcp_outside::{Failed, Files, MemFiles, MemSink};
+use worked_programs::{ADD, COUNTER, Gives, is};
 
 /// The sum's program and rows, and the counter.
 fn files(alloc: Global, rows: &[u8]) -> Result<MemFiles, Memory> {

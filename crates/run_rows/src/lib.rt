@@ -11,8 +11,6 @@ mod lint;
 #[cfg(test)]
 mod options;
 #[cfg(test)]
-mod programs;
-#[cfg(test)]
 mod rows;
 #[cfg(test)]
 mod units;

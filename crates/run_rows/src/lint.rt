@@ -1,13 +1,13 @@
 //! Programs with LINT: what `plain` and `run` both give, and which of them `run` takes in the wide code.
 
-use crate::calls::{Gives, give, is};
-use crate::programs::ADD;
+use crate::calls::give;
 use crate::rows::first_wrong_program;
 use coded_unit::{Answer, LogUnit, Word};
 use std::alloc::Global;
 use std::test::Fail;
 use vcp_base::{Memory, Profile};
 use vcp_outside::MemFiles;
+use worked_programs::{ADD, Gives, is};
 
 /// Programs from their second line on, rows of inputs, and what the program gives on them.
 const PROGRAMS: [(&[u8], &[u8], Gives<'_>); 17] = [

@@ -1,15 +1,15 @@
 //! The words of `plain` and `run`, the seed and the step.
 
-use crate::calls::{Gives, give, is};
-use crate::programs::{ADD, COUNTER};
+use crate::calls::give;
 use coded_unit::{CpuUnit, LogUnit};
 use std::alloc::Global;
 use std::test::Fail;
 use vcp_base::Memory;
 use vcp_outside::MemFiles;
+use worked_programs::{ADD, COUNTER, Gives, is};
 
 const USAGE: &[u8] =
-    b"usage: vcp check P, format P, plain P ROWS, run P ROWS CODE, compile P CODE, list M, exec M ROWS, trace M ROWS CYCLE, inject M ROWS F, audit M HORIZON or demo N\n";
+    b"usage: vcp check P, format P, plain P ROWS, run P ROWS CODE, compile P CODE, list M, exec M ROWS, trace M ROWS CYCLE, inject M ROWS F, audit M HORIZON, widen M or demo N\n";
 
 /// A program with an input, one without, and rows.
 fn files(alloc: Global) -> Result<MemFiles, Memory> {

@@ -1,11 +1,11 @@
 //! Rows of recorded inputs, and what `plain` and `run` both give on them.
 
-use crate::calls::{Gives, both_give, joined, repeated, with_crlf};
-use crate::programs::{ADD, COUNTER, CROSSING};
+use crate::calls::both_give;
 use std::alloc::Global;
 use std::test::Fail;
 use vcp_base::Memory;
 use vcp_outside::MemFiles;
+use worked_programs::{ADD, COUNTER, CROSSING, Gives, joined, repeated, with_crlf};
 
 /// Whether both give this on the rows of `in.csv` where `p.st` and `in.csv` have these texts.
 fn gives(alloc: Global, source: &[u8], rows: &[u8], expected: Gives<'_>) -> Result<bool, Memory> {

@@ -1,12 +1,12 @@
 //! `run` on units that tell their calls, and on some that answer wrongly.
 
-use crate::calls::{give, is};
-use crate::programs::{ADD, COUNTER};
+use crate::calls::give;
 use coded_unit::{Answer, BadUnit, LogUnit, Word};
 use std::alloc::Global;
 use std::test::Fail;
 use vcp_base::Memory;
 use vcp_outside::MemFiles;
+use worked_programs::{ADD, COUNTER, is};
 
 #[test]
 fn six_for_five_in_four_coded_words(rt: HostRuntime) -> Result<(), Fail> {

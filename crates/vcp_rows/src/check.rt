@@ -1,10 +1,11 @@
 //! Worked texts of the command `check`.
 
-use crate::calls::{ADD, CROSSING, give, joined, repeated, with_crlf};
+use crate::calls::give;
 use std::alloc::Global;
 use std::test::Fail;
 use vcp_base::Memory;
 use vcp_outside::MemFiles;
+use worked_programs::{ADD, CROSSING, joined, repeated, with_crlf};
 
 /// Whether `check p.st` gives this line where `p.st` has this text: a Size on the output, with status
 /// 0, or a fault on the errors, with status 1; and nothing else.

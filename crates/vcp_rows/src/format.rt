@@ -1,10 +1,11 @@
 //! Worked texts of the command `format`.
 
-use crate::calls::{ADD, CROSSING, Given, give, joined, repeated, with_crlf};
+use crate::calls::give;
 use std::alloc::Global;
 use std::test::Fail;
 use vcp_base::Memory;
 use vcp_outside::MemFiles;
+use worked_programs::{ADD, CROSSING, Given, joined, repeated, with_crlf};
 
 /// What `format p.st` gives where `p.st` has this text.
 fn format(alloc: Global, text: &[u8]) -> Result<Given, Memory> {

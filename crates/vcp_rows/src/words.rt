@@ -1,13 +1,14 @@
 //! Words of the commands `check` and `format` that are none of the forms.
 
-use crate::calls::{ADD, give};
+use crate::calls::give;
 use std::alloc::Global;
 use std::test::Fail;
 use vcp_base::Memory;
 use vcp_outside::MemFiles;
+use worked_programs::ADD;
 
 const USAGE: &[u8] =
-    b"usage: vcp check P, format P, plain P ROWS, run P ROWS CODE, compile P CODE, list M, exec M ROWS, trace M ROWS CYCLE, inject M ROWS F, audit M HORIZON or demo N\n";
+    b"usage: vcp check P, format P, plain P ROWS, run P ROWS CODE, compile P CODE, list M, exec M ROWS, trace M ROWS CYCLE, inject M ROWS F, audit M HORIZON, widen M or demo N\n";
 
 const NO_FORMS: [&[&[u8]]; 11] = [
     &[],

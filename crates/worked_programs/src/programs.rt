@@ -1,10 +1,28 @@
-//! Programs that several tests run.
+//! Programs.
 
 /// A program of one sum.
 pub const ADD: &[u8] = b"\
 PROGRAM p
 VAR_INPUT x : DINT; END_VAR
 VAR_OUTPUT y : DINT; END_VAR
+y := x + 1;
+END_PROGRAM
+";
+
+/// The same sum of INT.
+pub const ADD_INT: &[u8] = b"\
+PROGRAM p
+VAR_INPUT x : INT; END_VAR
+VAR_OUTPUT y : INT; END_VAR
+y := x + 1;
+END_PROGRAM
+";
+
+/// The same sum of LINT, whose words are of the wide code.
+pub const ADD_LINT: &[u8] = b"\
+PROGRAM p
+VAR_INPUT x : LINT; END_VAR
+VAR_OUTPUT y : LINT; END_VAR
 y := x + 1;
 END_PROGRAM
 ";
@@ -16,6 +34,19 @@ VAR_OUTPUT y : DINT; END_VAR
 VAR n : DINT; END_VAR
 n := n + 1;
 y := n;
+END_PROGRAM
+";
+
+/// The fifth power, in five turns.
+pub const POWER: &[u8] = b"\
+PROGRAM p
+VAR_INPUT x : INT; END_VAR
+VAR_OUTPUT y : INT; END_VAR
+VAR i : INT; END_VAR
+y := 1;
+FOR i := 1 TO 5 DO
+  y := y * x;
+END_FOR;
 END_PROGRAM
 ";
 
