@@ -59,7 +59,14 @@ fn first_operands(builder: &mut GraphBuilder) -> Result<Operands, Build>
     requires empty { builder.old ≡ record (nothing builder.old.profile) { names = builder.old.names } }
     ensures readable { IfOk result (λ operands. Readable builder.new.operations operands) }
     ensures operations { OnOk result (length builder.new.operations ≡ 6) }
-    ensures rest { OnOk result (builder.new ≡ record (nothing builder.old.profile) { names = builder.old.names; inputs = (record { name = 0; ty = Ty.Dint }) ∷ []; loads = (record { name = 0; ty = Ty.Dint; init = pos 1; load = 1 }) ∷ []; operations = builder.new.operations }) }
+    ensures rest { OnOk result (builder.new
+        ≡ record (nothing builder.old.profile) {
+          names = builder.old.names;
+          inputs = (record { name = 0; ty = Ty.Dint }) ∷ [];
+          loads =
+              (record { name = 0; ty = Ty.Dint; init = pos 1; load = 1 }) ∷ [];
+          operations = builder.new.operations;
+        }) }
 {
     let input = builder.input(0, Ty::Dint, SPOT)?;
     let cell = builder.load(0, Ty::Dint, 1, SPOT)?;

@@ -32,7 +32,8 @@ begins m row going between = record {
   calls_are = ap (λ b. CallsOf (setting m row) (cond b m.answers [])) (sym between);
 }
 
-pub goes_on : (old m n : State) (row : List ℤ) (calls : List Entry) (call : Call) (a : Answer) → UnderWay old m row calls → Next (setting m row) (given m) call → n ≡ with_answer m a →
+pub goes_on : (old m n : State) (row : List ℤ) (calls : List Entry) (call : Call) (a : Answer) → UnderWay old m row calls → Next (setting m row) (given m) call
+    → n ≡ with_answer m a →
     UnderWay old n row (calls ++ (call, a) ∷ [])
 goes_on old m n row calls call a way next put =
     let s : Setting = setting old row in
@@ -44,15 +45,18 @@ goes_on old m n row calls call a way next put =
       calls_are = ap (λ es. es ++ (call, a) ∷ []) way.calls_are ∙ sym more ∙ ap (λ (k : State). CallsOf s (given k)) (sym put);
     }
 
-row_of_given : (old m : State) (e : CycleEnd) (out : List ℤ) → m ≡ record old { answers = m.answers; under_way = m.under_way } → row_after m e out ≡ row_after (with_answers old (given m)) e out
+row_of_given : (old m : State) (e : CycleEnd) (out : List ℤ) → m ≡ record old { answers = m.answers; under_way = m.under_way }
+    → row_after m e out ≡ row_after (with_answers old (given m)) e out
 row_of_given old m end.Released out same = ap (λ (k : State). outputs_of k.graph (given m)) same
 row_of_given old m (end.Stopped k why) out same = refl
 row_of_given old m (end.Refused k found wanted) out same = refl
 
-pub outputs_are : (old m : State) (row : List ℤ) (calls : List Entry) (e : CycleEnd) (out : List ℤ) → UnderWay old m row calls → row_after m e out ≡ row_after (with_answers old (given m)) e out
+pub outputs_are : (old m : State) (row : List ℤ) (calls : List Entry) (e : CycleEnd) (out : List ℤ) → UnderWay old m row calls
+    → row_after m e out ≡ row_after (with_answers old (given m)) e out
 outputs_are old m row calls e out way = row_of_given old m e out way.same
 
-pub ends : (old m n : State) (row : List ℤ) (calls : List Entry) (e : CycleEnd) → UnderWay old m row calls → Finished m → e ≡ end_or m.ended (end_of m.graph m.table m.cycles (given m)) → n ≡ after_end m e → n.answers ≡ given m →
+pub ends : (old m n : State) (row : List ℤ) (calls : List Entry) (e : CycleEnd) → UnderWay old m row calls → Finished m
+    → e ≡ end_or m.ended (end_of m.graph m.table m.cycles (given m)) → n ≡ after_end m e → n.answers ≡ given m →
     Ended old n row calls e
 ends old m n row calls e way finished is machine put =
     let kept : n.answers ≡ m.answers = ap (λ (k : State). k.answers) machine ∙ answers_kept m e in
@@ -68,10 +72,12 @@ ends old m n row calls e way finished is machine put =
       machine = machine ∙ after_same old m e way.same all ∙ ap (λ xs. after_end (with_answers old xs) e) (sym kept);
     }
 
-pub one_more_carried : (calls : List Entry) (call : Call) (a : Answer) (x y z : Option (List Entry)) (i j k : ℕ) → Carried calls x y i j → GrowsBy y z ((call, a) ∷ []) → Counts a (Right call) j k → Carried (calls ++ (call, a) ∷ []) x z i k
+pub one_more_carried : (calls : List Entry) (call : Call) (a : Answer) (x y z : Option (List Entry)) (i j k : ℕ) → Carried calls x y i j
+    → GrowsBy y z ((call, a) ∷ []) → Counts a (Right call) j k → Carried (calls ++ (call, a) ∷ []) x z i k
 one_more_carried calls call a x y z i j k h grows counts = carried_on calls ((call, a) ∷ []) x y z i j k h (one_carried call a y z j k grows counts)
 
-pub turn : (old new : State) (row : List ℤ) (calls : List Entry) (e : CycleEnd) (x y : Option (List Entry)) (i j : ℕ) → Ended old new row calls e → Carried calls x y i j → Turn old new row e x y i j
+pub turn : (old new : State) (row : List ℤ) (calls : List Entry) (e : CycleEnd) (x y : Option (List Entry)) (i j : ℕ) → Ended old new row calls e
+    → Carried calls x y i j → Turn old new row e x y i j
 turn old new row calls e x y i j ended carried = record {
   going = ended.going;
   whole = ended.whole;

@@ -25,7 +25,8 @@ stop_is_no_release k (answer.Range ∷ answers) e = cc
 stop_is_no_release k (answer.DivZero ∷ answers) e = cc
 stop_is_no_release k (answer.Operand ∷ answers) e = cc
 
-outside_case : (inside : Bool) (k : ℕ) (later : Option CycleEnd) → (later ≡ Some end.Released → ⊥) → cond inside later (Some (end.Stopped k stop.Operand)) ≡ Some end.Released → ⊥
+outside_case : (inside : Bool) (k : ℕ) (later : Option CycleEnd) → (later ≡ Some end.Released → ⊥)
+    → cond inside later (Some (end.Stopped k stop.Operand)) ≡ Some end.Released → ⊥
 outside_case true k later h e = h e
 outside_case false k later h e = cc
 
@@ -33,11 +34,13 @@ outside_is_no_release : (p : Profile) (answers : List Answer) (outputs : List Ou
 outside_is_no_release p answers [] e = none_some _ e
 outside_is_no_release p answers (o ∷ outputs) e = outside_case _ o.op _ (outside_is_no_release p answers outputs) e
 
-refused_case : (right : Bool) (number found wanted : ℕ) (later : Option CycleEnd) → (later ≡ Some end.Released → ⊥) → cond right later (Some (end.Refused number found wanted)) ≡ Some end.Released → ⊥
+refused_case : (right : Bool) (number found wanted : ℕ) (later : Option CycleEnd) → (later ≡ Some end.Released → ⊥)
+    → cond right later (Some (end.Refused number found wanted)) ≡ Some end.Released → ⊥
 refused_case true number found wanted later h e = h e
 refused_case false number found wanted later h e = cc
 
-refusal_is_no_release : (p : Profile) (t : Numbers) (n : ℕ) (answers : List Answer) (number : ℕ) (outputs : List Outlet) → first_refused p t n answers number outputs ≡ Some end.Released → ⊥
+refusal_is_no_release : (p : Profile) (t : Numbers) (n : ℕ) (answers : List Answer) (number : ℕ) (outputs : List Outlet)
+    → first_refused p t n answers number outputs ≡ Some end.Released → ⊥
 refusal_is_no_release p t n answers number [] e = none_some _ e
 refusal_is_no_release p t n answers number (o ∷ outputs) e = refused_case _ number _ _ _ (refusal_is_no_release p t n answers (suc number) outputs) e
 
@@ -93,17 +96,20 @@ none_outside : (p : Profile) (answers : List Answer) (outputs : List Outlet) →
 none_outside p answers [] h = refl
 none_outside p answers (o ∷ outputs) h = rw h.0 (none_outside p answers outputs h.1)
 
-all_expected : (p : Profile) (t : Numbers) (n : ℕ) (answers : List Answer) (number : ℕ) (outputs : List Outlet) → first_refused p t n answers number outputs ≡ None → AllExpected p t n answers outputs
+all_expected : (p : Profile) (t : Numbers) (n : ℕ) (answers : List Answer) (number : ℕ) (outputs : List Outlet)
+    → first_refused p t n answers number outputs ≡ None → AllExpected p t n answers outputs
 all_expected p t n answers number [] e = tt
 all_expected p t n answers number (o ∷ outputs) e =
     let h = cond_none _ _ _ e in (eqb-true _ _ h.0, all_expected p t n answers (suc number) outputs h.1)
 
-none_refused : (p : Profile) (t : Numbers) (n : ℕ) (answers : List Answer) (number : ℕ) (outputs : List Outlet) → AllExpected p t n answers outputs → first_refused p t n answers number outputs ≡ None
+none_refused : (p : Profile) (t : Numbers) (n : ℕ) (answers : List Answer) (number : ℕ) (outputs : List Outlet) → AllExpected p t n answers outputs
+    → first_refused p t n answers number outputs ≡ None
 none_refused p t n answers number [] h = refl
 none_refused p t n answers number (o ∷ outputs) h = rw (eq-eqb _ _ h.0) (none_refused p t n answers (suc number) outputs h.1)
 
 -- a whole cycle is released exactly where it is accepted
-pub released_is_accepted : (g : Lists) (t : Numbers) (n : ℕ) (answers : List Answer) → Whole g.operations answers → end_of g t n answers ≡ end.Released → Accepted g t n answers
+pub released_is_accepted : (g : Lists) (t : Numbers) (n : ℕ) (answers : List Answer) → Whole g.operations answers → end_of g t n answers ≡ end.Released
+    → Accepted g t n answers
 released_is_accepted g t n answers whole e =
     let none = scans_none g t n answers e in
     record {

@@ -23,7 +23,8 @@ no_refused k number found wanted None e = cc
 no_refused k number found wanted (Some why) e = cc
 
 pub follows : (old new : State) (values row : List ℤ) (e : CycleEnd) (out before : List ℤ) → StandsFor (setting old row) values new.answers →
-    e ≡ end_of old.graph old.table old.cycles new.answers → new ≡ after_end (with_answers old new.answers) e → out ≡ row_after (with_answers old new.answers) e before →
+    e ≡ end_of old.graph old.table old.cycles new.answers → new ≡ after_end (with_answers old new.answers) e → out ≡ row_after
+    (with_answers old new.answers) e before →
     FollowsGraph old new values row e out
 follows old new values row e out before stands is machine row_is =
     let c : Cycle = cycle old.graph values row in
@@ -31,7 +32,8 @@ follows old new values row e out before stands is machine row_is =
     record {
       answers_are = stands.answers_are;
       end_is = ends;
-      row_is = λ r. row_is ∙ ap (λ x. row_after (with_answers old new.answers) x before) r ∙ stands.row_is (released_stop (length c.values) c.stop (sym ends ∙ r));
+      row_is = λ r. row_is ∙ ap (λ x. row_after (with_answers old new.answers) x before) r
+          ∙ stands.row_is (released_stop (length c.values) c.stop (sym ends ∙ r));
       cells_are = λ r.
           let after : new ≡ after_end (with_answers old new.answers) end.Released = machine ∙ ap (after_end (with_answers old new.answers)) r in
           subst (λ (m : State). CellsHold m.graph m.table.seed (stamp_before m.table.step m.cycles) m.held (stored old.graph c.values)) (sym after)
@@ -48,14 +50,16 @@ answers_kept m (end.Stopped k why) = refl
 answers_kept m (end.Refused k found wanted) = refl
 
 -- the end is made of the answers that were carried
-pub after_same : (old mid : State) (e : CycleEnd) → mid ≡ record old { answers = mid.answers; under_way = mid.under_way } → given mid ≡ mid.answers → after_end mid e ≡ after_end (with_answers old mid.answers) e
+pub after_same : (old mid : State) (e : CycleEnd) → mid ≡ record old { answers = mid.answers; under_way = mid.under_way } → given mid ≡ mid.answers
+    → after_end mid e ≡ after_end (with_answers old mid.answers) e
 after_same old mid end.Released same all =
     ap (λ xs. record mid { held = stored_words mid.graph xs; under_way = false; cycles = mid.cycles + 1 }) all
     ∙ ap (λ (m : State). record m { held = stored_words m.graph mid.answers; under_way = false; cycles = m.cycles + 1 }) same
 after_same old mid (end.Stopped k why) same all = ap (λ (m : State). record m { under_way = false; ended = Some (end.Stopped k why) }) same
 after_same old mid (end.Refused k found wanted) same all = ap (λ (m : State). record m { under_way = false; ended = Some (end.Refused k found wanted) }) same
 
-row_same : (old mid : State) (e : CycleEnd) (row : List ℤ) → mid ≡ record old { answers = mid.answers; under_way = mid.under_way } → given mid ≡ mid.answers → row_after mid e row ≡ row_after (with_answers old mid.answers) e row
+row_same : (old mid : State) (e : CycleEnd) (row : List ℤ) → mid ≡ record old { answers = mid.answers; under_way = mid.under_way } → given mid ≡ mid.answers
+    → row_after mid e row ≡ row_after (with_answers old mid.answers) e row
 row_same old mid end.Released row same all = ap (outputs_of mid.graph) all ∙ ap (λ (m : State). outputs_of m.graph mid.answers) same
 row_same old mid (end.Stopped k why) row same all = refl
 row_same old mid (end.Refused k found wanted) row same all = refl
@@ -67,8 +71,10 @@ end_same old mid going same all =
     ∙ ap (λ (m : State). end_or m.ended (end_of m.graph m.table m.cycles mid.answers)) same
     ∙ ap (λ x. end_or x (end_of old.graph old.table old.cycles mid.answers)) going
 
-pub follows_carried : (old mid new : State) (values row : List ℤ) (e : CycleEnd) (out before : List ℤ) → old.ended ≡ None → mid ≡ record old { answers = mid.answers; under_way = mid.under_way } → given mid ≡ mid.answers →
-    StandsFor (setting old row) values mid.answers → e ≡ end_or mid.ended (end_of mid.graph mid.table mid.cycles (given mid)) → new ≡ after_end mid e → out ≡ row_after mid e before →
+pub follows_carried : (old mid new : State) (values row : List ℤ) (e : CycleEnd) (out before : List ℤ) → old.ended ≡ None
+    → mid ≡ record old { answers = mid.answers; under_way = mid.under_way } → given mid ≡ mid.answers →
+    StandsFor (setting old row) values mid.answers → e ≡ end_or mid.ended
+    (end_of mid.graph mid.table mid.cycles (given mid)) → new ≡ after_end mid e → out ≡ row_after mid e before →
     FollowsGraph old new values row e out
 follows_carried old mid new values row e out before going same all stands is machine row_is =
     let kept : new.answers ≡ mid.answers = ap (λ (m : State). m.answers) machine ∙ answers_kept mid e in

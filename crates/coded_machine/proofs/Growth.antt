@@ -1,5 +1,6 @@
 -- Growth: one more call.
-use Rattle.std.proofs.Common.{ℕ, suc, ◌-◌, ◌^◌, ◌<◌, ◌≤◌, ◌≡◌, refl, sym, ap, subst, ◌∙◌, List, [], ◌∷◌, ◌++◌, length, Option, Some, None, slice_get, append_assoc, append-nil, arith, true, false, cond, inl, inr}
+use Rattle.std.proofs.Common.{ℕ, suc, ◌-◌, ◌^◌, ◌<◌, ◌≤◌, ◌≡◌, refl, sym, ap, subst, ◌∙◌, List, [], ◌∷◌, ◌++◌, length, Option, Some, None, slice_get}
+use Rattle.std.proofs.Common.{append_assoc, append-nil, arith, true, false, cond, inl, inr}
 use Rattle.coded_unit.specs.declared.call.Call.{Call}
 use Rattle.coded_unit.specs.declared.call.Answer.{Answer}
 use Rattle.coded_unit.specs.Log.{Entry, GrowsBy, Counts}
@@ -55,7 +56,8 @@ whole_end [] (a ∷ answers) h k = absurd (omega arith)
 whole_end (op ∷ ops) [] h k = absurd (omega arith)
 whole_end (op ∷ ops) (a ∷ answers) h k = rw h.0 (whole_end ops answers h.1 (omega arith))
 
-pub whole_stop : (ops : List Op) (answers : List Answer) (a : Answer) → AllWords answers → is_word a ≡ false → length answers < length ops → Whole ops (answers ++ a ∷ [])
+pub whole_stop : (ops : List Op) (answers : List Answer) (a : Answer) → AllWords answers → is_word a ≡ false → length answers < length ops
+    → Whole ops (answers ++ a ∷ [])
 whole_stop [] answers a h k l = absurd (omega arith)
 whole_stop (op ∷ ops) [] a h k l = rw k refl
 whole_stop (op ∷ ops) (x ∷ answers) a h k l = rw h.0 (whole_stop ops answers a h.1 k (omega arith))
@@ -82,11 +84,13 @@ pub carried_on : (es fs : List Entry) (x y z : Option (List Entry)) (m n o : ℕ
 carried_on es fs x y z m n o h k = record {
   told = grows_on x y z es fs h.told k.told;
   never_falls = omega (arith, h.never_falls, k.never_falls);
-  honest = λ e b. all_right_more es fs (h.honest (omega (arith, h.never_falls, k.never_falls)) b) (k.honest (omega (arith, h.never_falls, k.never_falls)) (omega (arith, h.never_falls, k.never_falls)));
+  honest = λ e b. all_right_more es fs (h.honest (omega (arith, h.never_falls, k.never_falls)) b)
+      (k.honest (omega (arith, h.never_falls, k.never_falls)) (omega (arith, h.never_falls, k.never_falls)));
 }
 
 -- one call
-pub one_carried : (call : Call) (a : Answer) (y z : Option (List Entry)) (n o : ℕ) → GrowsBy y z ((call, a) ∷ []) → Counts a (Right call) n o → Carried ((call, a) ∷ []) y z n o
+pub one_carried : (call : Call) (a : Answer) (y z : Option (List Entry)) (n o : ℕ) → GrowsBy y z ((call, a) ∷ []) → Counts a (Right call) n o
+    → Carried ((call, a) ∷ []) y z n o
 one_carried call a y z n o g k = record { told = g; never_falls = counts_up a (Right call) n o k; honest = λ e b. (counts_right a (Right call) n o k e b, tt) }
 
 pub nothing_carried : (x : Option (List Entry)) (m : ℕ) → Carried [] x x m m

@@ -1,5 +1,6 @@
 -- Places: what stands at one place of a list, and what is read off the places after it.
-use Rattle.std.proofs.Common.{ℕ, zero, suc, ◌+◌, ◌<◌, ◌≡◌, ℤ, pos, negsuc, Bool, Option, refl, sym, ap, ◌∙◌, true, false, cond, List, [], ◌∷◌, ◌++◌, length, map, drop, take, set, slice_get, Some, None, arith, add-one, drop-cons, eq-eqb, append_assoc}
+use Rattle.std.proofs.Common.{ℕ, zero, suc, ◌+◌, ◌<◌, ◌≡◌, ℤ, pos, negsuc, Bool, Option, refl, sym, ap, ◌∙◌, true, false, cond, List, [], ◌∷◌, ◌++◌, length}
+use Rattle.std.proofs.Common.{map, drop, take, set, slice_get, Some, None, arith, add-one, drop-cons, eq-eqb, append_assoc}
 use Rattle.std.specs.Prelude.{FitsSigned, unsigned_abs}
 use Rattle.std.specs.Int.{w64}
 use Rattle.std.proofs.Math.Seq.{take-suc-set}
@@ -44,21 +45,25 @@ front_set xs i x rest h = rw (add-one, take-suc-set xs i x h, append_assoc) refl
 
 -- ---- scans of outputs
 
-pub outside_passed : (p : Profile) (answers : List Answer) (outputs : List Outlet) (i : ℕ) (o : Outlet) → slice_get outputs i ≡ Some o → fits o.ty (value_part p (word_at answers o.op)) ≡ true →
+pub outside_passed : (p : Profile) (answers : List Answer) (outputs : List Outlet) (i : ℕ) (o : Outlet) → slice_get outputs i ≡ Some o
+    → fits o.ty (value_part p (word_at answers o.op)) ≡ true →
     first_outside p answers (drop i outputs) ≡ first_outside p answers (drop (i + 1) outputs)
 outside_passed p answers outputs i o there e = ap (first_outside p answers) (drop_at outputs i o there) ∙ rw e refl
 
-pub outside_here : (p : Profile) (answers : List Answer) (outputs : List Outlet) (i : ℕ) (o : Outlet) → slice_get outputs i ≡ Some o → fits o.ty (value_part p (word_at answers o.op)) ≡ false →
+pub outside_here : (p : Profile) (answers : List Answer) (outputs : List Outlet) (i : ℕ) (o : Outlet) → slice_get outputs i ≡ Some o
+    → fits o.ty (value_part p (word_at answers o.op)) ≡ false →
     first_outside p answers (drop i outputs) ≡ Some (end.Stopped o.op stop.Operand)
 outside_here p answers outputs i o there e = ap (first_outside p answers) (drop_at outputs i o there) ∙ rw e refl
 
-pub refused_passed : (p : Profile) (t : Numbers) (n : ℕ) (answers : List Answer) (outputs : List Outlet) (i : ℕ) (o : Outlet) → slice_get outputs i ≡ Some o → modulo p (word_at answers o.op) ≡ expected p t.seed t.step o.op n →
+pub refused_passed : (p : Profile) (t : Numbers) (n : ℕ) (answers : List Answer) (outputs : List Outlet) (i : ℕ) (o : Outlet) → slice_get outputs i ≡ Some o
+    → modulo p (word_at answers o.op) ≡ expected p t.seed t.step o.op n →
     first_refused p t n answers i (drop i outputs) ≡ first_refused p t n answers (i + 1) (drop (i + 1) outputs)
 refused_passed p t n answers outputs i o there e =
     ap (first_refused p t n answers i) (drop_at outputs i o there) ∙ rw (eq-eqb _ _ e) refl
     ∙ ap (λ j. first_refused p t n answers j (drop (i + 1) outputs)) (sym (add-one i))
 
-pub refused_here : (p : Profile) (t : Numbers) (n : ℕ) (answers : List Answer) (outputs : List Outlet) (i : ℕ) (o : Outlet) → slice_get outputs i ≡ Some o → (modulo p (word_at answers o.op) ≡ expected p t.seed t.step o.op n → ⊥) →
+pub refused_here : (p : Profile) (t : Numbers) (n : ℕ) (answers : List Answer) (outputs : List Outlet) (i : ℕ) (o : Outlet) → slice_get outputs i ≡ Some o
+    → (modulo p (word_at answers o.op) ≡ expected p t.seed t.step o.op n → ⊥) →
     first_refused p t n answers i (drop i outputs) ≡ Some (end.Refused i (modulo p (word_at answers o.op)) (expected p t.seed t.step o.op n))
 refused_here p t n answers outputs i o there e =
     ap (first_refused p t n answers i) (drop_at outputs i o there) ∙ rw (ne_eqb (modulo p (word_at answers o.op)) (expected p t.seed t.step o.op n) e) refl
@@ -68,7 +73,8 @@ inside_case true x later e = (refl, e)
 inside_case false x later e = cc
 
 -- where no output is outside its type, this one isn't
-pub outside_none : (p : Profile) (answers : List Answer) (outputs : List Outlet) (i : ℕ) (o : Outlet) → slice_get outputs i ≡ Some o → first_outside p answers (drop i outputs) ≡ None →
+pub outside_none : (p : Profile) (answers : List Answer) (outputs : List Outlet) (i : ℕ) (o : Outlet) → slice_get outputs i ≡ Some o
+    → first_outside p answers (drop i outputs) ≡ None →
     (fits o.ty (value_part p (word_at answers o.op)) ≡ true) × (first_outside p answers (drop (i + 1) outputs) ≡ None)
 outside_none p answers outputs i o there e = inside_case _ _ _ (sym (ap (first_outside p answers) (drop_at outputs i o there)) ∙ e)
 
@@ -95,16 +101,19 @@ store_at (l ∷ loads) (n ∷ stores) zero c e =
     ap (λ (d : Cell). Some d.store) same
 store_at (l ∷ loads) (n ∷ stores) (suc i) c e = store_at loads stores i c e
 
-pub length-corrections : (p : Profile) (seed step : ℕ) (held : List Cell) (k : ℕ) (ops : List Op) → length (corrections_from p seed step held k ops) ≡ length ops
+pub length-corrections : (p : Profile) (seed step : ℕ) (held : List Cell) (k : ℕ) (ops : List Op)
+    → length (corrections_from p seed step held k ops) ≡ length ops
 length-corrections p seed step held k [] = refl
 length-corrections p seed step held k (op ∷ ops) = ap suc (length-corrections p seed step held (k + 1) ops)
 
-pub correction_at : (p : Profile) (seed step : ℕ) (held : List Cell) (k : ℕ) (ops : List Op) (i : ℕ) (op : Op) (r : ℕ) → slice_get ops i ≡ Some op → slice_get (corrections_from p seed step held k ops) i ≡ Some r →
+pub correction_at : (p : Profile) (seed step : ℕ) (held : List Cell) (k : ℕ) (ops : List Op) (i : ℕ) (op : Op) (r : ℕ) → slice_get ops i ≡ Some op
+    → slice_get (corrections_from p seed step held k ops) i ≡ Some r →
     r ≡ correction p seed step (k + i) op (store_of held (unsigned_abs op.imm))
 correction_at p seed step held k [] i op r there e = absurd cc
 correction_at p seed step held k (x ∷ ops) zero op r there e =
     let same : x ≡ op = cc in
     let is : correction p seed step k x (store_of held (unsigned_abs x.imm)) ≡ r = cc in
-    sym is ∙ ap (λ (o : Op). correction p seed step k o (store_of held (unsigned_abs o.imm))) same ∙ ap (λ j. correction p seed step j op (store_of held (unsigned_abs op.imm))) (omega arith)
+    sym is ∙ ap (λ (o : Op). correction p seed step k o (store_of held (unsigned_abs o.imm))) same
+    ∙ ap (λ j. correction p seed step j op (store_of held (unsigned_abs op.imm))) (omega arith)
 correction_at p seed step held k (x ∷ ops) (suc i) op r there e =
     correction_at p seed step held (k + 1) ops i op r there e ∙ ap (λ j. correction p seed step j op (store_of held (unsigned_abs op.imm))) (omega arith)

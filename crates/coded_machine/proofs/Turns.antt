@@ -1,5 +1,6 @@
 -- Turns: what a machine's state says of the call to come.
-use Rattle.std.proofs.Common.{ℕ, ℤ, ◌<◌, ◌≤◌, ◌≡◌, sym, ap, subst, ◌∙◌, List, [], ◌∷◌, ◌++◌, length, length-append, Option, None, Bool, true, false, not, cond, arith, inl, inr}
+use Rattle.std.proofs.Common.{ℕ, ℤ, ◌<◌, ◌≤◌, ◌≡◌, sym, ap, subst, ◌∙◌, List, [], ◌∷◌, ◌++◌, length, length-append, Option, None, Bool, true, false, not, cond}
+use Rattle.std.proofs.Common.{arith, inl, inr}
 use Rattle.coded_unit.specs.declared.call.Call.{Call}
 use Rattle.coded_unit.specs.declared.call.Answer.{Answer}
 use Rattle.coded_unit.specs.Log.{Entry, GrowsBy, Counts}
@@ -28,11 +29,13 @@ pub all_finished : (m : State) (capacity : ℕ) → Sound m false capacity → l
 all_finished m capacity s h = inr (whole_end m.graph.operations (given m) s.progress (omega (arith, few_given m false capacity s)))
 
 -- a machine that goes on after one more answer
-progress_case : (ops : List Op) (answers : List Answer) (a : Answer) (word : Bool) → is_word a ≡ word → AllWords answers → length answers < length ops → cond (not word) (Whole ops (answers ++ a ∷ [])) (AllWords (answers ++ a ∷ []))
+progress_case : (ops : List Op) (answers : List Answer) (a : Answer) (word : Bool) → is_word a ≡ word → AllWords answers → length answers < length ops
+    → cond (not word) (Whole ops (answers ++ a ∷ [])) (AllWords (answers ++ a ∷ []))
 progress_case ops answers a true e w h = words_more answers a w e
 progress_case ops answers a false e w h = whole_stop ops answers a w e h
 
-pub sound_with_answer : (m : State) (a : Answer) (halted word : Bool) (capacity more : ℕ) → Sound m halted capacity → Awaits m → is_word a ≡ word → capacity ≤ more → Sound (with_answer m a) (not word) more
+pub sound_with_answer : (m : State) (a : Answer) (halted word : Bool) (capacity more : ℕ) → Sound m halted capacity → Awaits m → is_word a ≡ word
+    → capacity ≤ more → Sound (with_answer m a) (not word) more
 sound_with_answer m a halted word capacity more s w e h = record {
   graph = s.graph;
   table = s.table;
@@ -55,10 +58,12 @@ finished_whole m e (inr h) = h
 pub only_answers : (first m n : State) (a : Answer) → m ≡ record first { answers = m.answers; under_way = m.under_way } → n ≡ with_answer m a →
     n ≡ record first { answers = n.answers; under_way = n.under_way }
 only_answers first m n a same e =
-    let there : with_answer m a ≡ record first { answers = given m ++ a ∷ []; under_way = true } = ap (λ (k : State). record k { answers = given m ++ a ∷ []; under_way = true }) same in
+    let there : with_answer m a ≡ record first { answers = given m ++ a ∷ []; under_way = true } =
+    ap (λ (k : State). record k { answers = given m ++ a ∷ []; under_way = true }) same in
     e ∙ there ∙ ap (λ (k : State). record first { answers = k.answers; under_way = k.under_way }) (sym e)
 
-pub carried_turn : (first m n : State) (row : List ℤ) (call : Call) (a : Answer) (x y z : Option (List Entry)) (i j k : ℕ) → m ≡ record first { answers = m.answers; under_way = m.under_way } → n ≡ with_answer m a →
+pub carried_turn : (first m n : State) (row : List ℤ) (call : Call) (a : Answer) (x y z : Option (List Entry)) (i j k : ℕ)
+    → m ≡ record first { answers = m.answers; under_way = m.under_way } → n ≡ with_answer m a →
     Next (setting m row) (given m) call → Carried (CallsOf (setting first row) (given m)) x y i j → GrowsBy y z ((call, a) ∷ []) → Counts a (Right call) j k →
     Carried (CallsOf (setting first row) (given n)) x z i k
 carried_turn first m n row call a x y z i j k same e next h g counts =

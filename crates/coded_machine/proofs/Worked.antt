@@ -32,7 +32,8 @@ counter = record {
   loads = (record { name = 1; ty = ty.Dint; init = pos 0; load = 0 }) ∷ [];
   stores = 4 ∷ [];
   turn_nodes = [];
-  operations = on_dint kind.Load 0 0 (pos 0) ∷ on_dint kind.Const 0 0 (pos 1) ∷ on_dint kind.Add 0 1 (pos 0) ∷ on_dint kind.Out 2 0 (pos 0) ∷ on_dint kind.Store 2 0 (pos 0) ∷ [];
+  operations = on_dint kind.Load 0 0 (pos 0) ∷ on_dint kind.Const 0 0 (pos 1) ∷ on_dint kind.Add 0 1 (pos 0) ∷ on_dint kind.Out 2 0
+      (pos 0) ∷ on_dint kind.Store 2 0 (pos 0) ∷ [];
 }
 
 numbers : Numbers
@@ -95,7 +96,8 @@ outcome-both = refl
 changed : List Answer
 changed = words (2147483649 ∷ 2362232014 ∷ 4294967299 ∷ 4509715664 ∷ 4724464029 ∷ [])
 
-right-changed : right_from (setting_at counter numbers 1 (pos 3006477108 ∷ []) []) (words (2147483649 ∷ 2362232014 ∷ 4294967299 ∷ [])) (on_dint kind.Out 2 0 (pos 0) ∷ []) ≡ words (4509715664 ∷ [])
+right-changed : right_from (setting_at counter numbers 1 (pos 3006477108 ∷ []) []) (words (2147483649 ∷ 2362232014 ∷ 4294967299 ∷ []))
+    (on_dint kind.Out 2 0 (pos 0) ∷ []) ≡ words (4509715664 ∷ [])
 unfolding counter on_dint numbers words right_from signature modulo value_part coded
 right-changed = refl
 

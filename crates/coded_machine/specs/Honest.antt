@@ -57,7 +57,8 @@ pub record StandsFor (s : Setting) (values : List ℤ) (answers : List Answer) :
   pub end_is : end_of s.graph s.table s.cycle answers ≡ end_for (cycle s.graph values s.row)
   pub row_is : (cycle s.graph values s.row).stop ≡ None → outputs_of s.graph answers ≡ outputs s.graph (cycle s.graph values s.row).values
   pub cells_are : (cycle s.graph values s.row).stop ≡ None →
-      CellsHold s.graph s.table.seed (stamp_before s.table.step (s.cycle + 1)) (stored_words s.graph answers) (stored s.graph (cycle s.graph values s.row).values)
+      CellsHold s.graph s.table.seed (stamp_before s.table.step (s.cycle + 1)) (stored_words s.graph answers)
+      (stored s.graph (cycle s.graph values s.row).values)
   pub no_operand : (cycle s.graph values s.row).stop ≢ Some stop.Operand
 
 -- where all answers to the calls of a cycle are right and the cells hold honest words, the answers stand for the graph's cycle

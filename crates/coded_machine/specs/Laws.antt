@@ -55,4 +55,5 @@ pub record HonestLaws : Type 0 where
       IsGraph g → IsTable t → length rows ≤ most_cycles → RunSoFar g t rows cycles m x y i j → j ≡ i → i < 2 ^ 64 - 1 → FollowsSoFar g rows cycles m
   -- its outcome stands for the graph's run on plain integers
   pub whole : (g : Lists) (t : Numbers) (rows : List (List ℤ)) (cycles : List (List Answer)) → IsGraph g → IsTable t → length rows ≤ most_cycles →
-      AllCycles g t 0 rows cycles → AllRight (calls_over g t 0 (initial_words g t.seed) rows cycles) → outcome_over g t 0 cycles ≡ outcome_for (graph_run g rows)
+      AllCycles g t 0 rows cycles → AllRight (calls_over g t 0 (initial_words g t.seed) rows cycles) → outcome_over g t 0 cycles ≡ outcome_for
+      (graph_run g rows)

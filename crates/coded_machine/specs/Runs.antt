@@ -66,7 +66,8 @@ held_after g held (answers ∷ cycles) = held_after g (stored_words g answers) c
 
 -- A run between two of its cycles: a fresh machine carried a cycle for each of these rows, and each was released; the
 -- log grew by the calls of these cycles and by nothing else.
-pub record RunSoFar (g : Lists) (t : Numbers) (rows : List (List ℤ)) (cycles : List (List Answer)) (m : State) (told_before told_now : Option (List Entry)) (wrong_before wrong_now : ℕ) : Type 0 where
+pub record RunSoFar (g : Lists) (t : Numbers) (rows : List (List ℤ)) (cycles : List (List Answer)) (m : State) (told_before told_now : Option (List Entry))
+    (wrong_before wrong_now : ℕ) : Type 0 where
   pub carried : Carried (calls_over g t 0 (initial_words g t.seed) rows cycles) told_before told_now wrong_before wrong_now
   pub released : AllReleased g t 0 cycles
   pub many_rows : length rows ≡ length cycles
@@ -113,7 +114,8 @@ row_if e row = []
 
 -- A run over rows, to its end or between two of its cycles: the log grew by the calls of its cycles with their answers and
 -- by nothing else, and the released rows and the end are those that are read off these answers.
-pub record RunOver (g : Lists) (t : Numbers) (rows : List (List ℤ)) (cycles : List (List Answer)) (outputs : List (List ℤ)) (e : CycleEnd) (told_before told_now : Option (List Entry)) (wrong_before wrong_now : ℕ) : Type 0 where
+pub record RunOver (g : Lists) (t : Numbers) (rows : List (List ℤ)) (cycles : List (List Answer)) (outputs : List (List ℤ)) (e : CycleEnd)
+    (told_before told_now : Option (List Entry)) (wrong_before wrong_now : ℕ) : Type 0 where
   pub carried : Carried (calls_over g t 0 (initial_words g t.seed) rows cycles) told_before told_now wrong_before wrong_now
   pub all : AllCycles g t 0 rows cycles
   pub outcome : outcome_over g t 0 cycles ≡ record { rows = outputs; end = e }

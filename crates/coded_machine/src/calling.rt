@@ -6,7 +6,8 @@ ghost use Rattle.vcp_base.specs.Values.{at};
 ghost use Rattle.coded_unit.specs.Asked.{Asked};
 ghost use Rattle.op_graph.specs.declared.op.Op.{Op as Operation};
 ghost use Rattle.signature_table.specs.Signatures.{IsTableOf};
-ghost use Rattle.coded_machine.specs.Calls.{is_word as is_word_of, word_of as word_of_answer, word_at as word_at_of, operand_word, own_number as own_number_of, operation_call as call_of_operation, call_of};
+ghost use Rattle.coded_machine.specs.Calls.{is_word as is_word_of, word_of as word_of_answer, word_at as word_at_of, operand_word, own_number as own_number_of};
+ghost use Rattle.coded_machine.specs.Calls.{operation_call as call_of_operation, call_of};
 ghost use Rattle.coded_machine.specs.Runs.{setting_at};
 
 use coded_unit::{Answer, Call, Word};
@@ -157,7 +158,8 @@ pub(crate) fn call_after(setting: &Setting<'_>, op: &Op, answers: &[Answer]) -> 
     requires few { length answers.now ≤ most_operations }
     requires table { IsTableOf setting.now.table.now setting.now.graph.now }
     requires cycle { setting.now.cycle < most_cycles }
-    ensures call { result ≡ call_of (setting_at setting.now.graph.now setting.now.table.now setting.now.cycle setting.now.held.now setting.now.row.now) op.now answers.now }
+    ensures call { result
+        ≡ call_of (setting_at setting.now.graph.now setting.now.table.now setting.now.cycle setting.now.held.now setting.now.row.now) op.now answers.now }
     ensures asked { Asked result }
 {
     let operands = Operands {

@@ -18,6 +18,3 @@ pub use laws::{
     runs_follow_their_answers,
 };
 pub use machine::Machine;
-
-#[cfg(test)]
-mod tests;

@@ -1,6 +1,7 @@
 //! The machine: its registers, its coded memory and its checker.
 
-ghost use Rattle.std.specs.Prelude.{◌≡◌, ◌≢◌, ◌<◌, ◌≤◌, ◌+◌, ◌↔◌, ◌++◌, ◌∷◌, ◌-◌, ◌^◌, [], false, cond, None, Some, IsNone, IsSome, IfSome, IfOk, length, slice_get, vec_capacity};
+ghost use Rattle.std.specs.Prelude.{◌≡◌, ◌≢◌, ◌<◌, ◌≤◌, ◌+◌, ◌↔◌, ◌++◌, ◌∷◌, ◌-◌, ◌^◌, [], false, cond, None, Some, IsNone, IsSome, IfSome, IfOk, length};
+ghost use Rattle.std.specs.Prelude.{slice_get, vec_capacity};
 ghost use Rattle.vcp_base.specs.Limits.{most_cycles};
 ghost use Rattle.coded_unit.specs.Asked.{Asked};
 ghost use Rattle.op_graph.specs.GraphRun.{initial};
@@ -49,9 +50,26 @@ impl<'a> Model for Machine<'a> {
 
     ghost Value = { State };
 
-    ghost view = { λ m. record { graph = m.graph.now; table = m.table.now; held = m.held.items; answers = m.answers.items; under_way = m.under_way; cycles = m.cycles; ended = m.ended } };
+    ghost view = { λ m. record {
+      graph = m.graph.now;
+      table = m.table.now;
+      held = m.held.items;
+      answers = m.answers.items;
+      under_way = m.under_way;
+      cycles = m.cycles;
+      ended = m.ended;
+    } };
 
-    ghost invariant = { λ m. Sound (record { graph = m.graph.now; table = m.table.now; held = m.held.items; answers = m.answers.items; under_way = m.under_way; cycles = m.cycles; ended = m.ended }) m.halted (vec_capacity m.answers) };
+    ghost invariant = { λ m. Sound (record {
+      graph = m.graph.now;
+      table = m.table.now;
+      held = m.held.items;
+      answers = m.answers.items;
+      under_way = m.under_way;
+      cycles =
+          m.cycles;
+      ended = m.ended;
+    }) m.halted (vec_capacity m.answers) };
 }
 
 impl<'a> Machine<'a> {
@@ -265,7 +283,8 @@ impl<'a> Machine<'a> {
         requires between { self.old.under_way ≡ false }
         requires out { length out.old ≡ length self.old.graph.outputs }
         ensures whole { self.old.ended ≡ None → Whole self.old.graph.operations self.new.answers }
-        ensures carried { self.old.ended ≡ None → CarriedCycle self.old self.new row.now (U.log unit.old) (U.log unit.new) (U.wrong unit.old) (U.wrong unit.new) }
+        ensures carried { self.old.ended ≡ None
+            → CarriedCycle self.old self.new row.now (U.log unit.old) (U.log unit.new) (U.wrong unit.old) (U.wrong unit.new) }
         ensures end { self.old.ended ≡ None → result ≡ end_of self.old.graph self.old.table self.old.cycles self.new.answers }
         ensures machine { self.old.ended ≡ None → self.new ≡ after_end (with_answers self.old self.new.answers) result }
         ensures out { self.old.ended ≡ None → out.new ≡ row_after (with_answers self.old self.new.answers) result out.old }
@@ -278,7 +297,8 @@ impl<'a> Machine<'a> {
         ensures cycles { self.new.cycles ≤ self.old.cycles + 1 }
         ensures width { length out.new ≡ length out.old }
         ensures turn { self.old.ended ≡ None → Turn self.old self.new row.now result (U.log unit.old) (U.log unit.new) (U.wrong unit.old) (U.wrong unit.new) }
-        ensures honest { self.old.ended ≡ None → U.wrong unit.new ≡ U.wrong unit.old → U.wrong unit.old < 2 ^ 64 - 1 → FollowsFromCells self.old self.new row.now result out.new }
+        ensures honest { self.old.ended ≡ None → U.wrong unit.new ≡ U.wrong unit.old → U.wrong unit.old < 2 ^ 64 - 1
+            → FollowsFromCells self.old self.new row.now result out.new }
     {
         if let Some(end) = self.ended {
             return end;

@@ -46,12 +46,14 @@ pub split_is : (p : Profile) (z v : ℤ) (r : ℕ) → r < modulus p → z ≡ c
 split_is p z v r h e = one_split p v (value_part p z) r (modulo p z) h (modulo_below p z) (sym e ∙ whole p z)
 
 -- the same in the wide code, by its numeral
-pub wide_split : (z v : ℤ) (r : ℕ) → r < 2305843009213693951 → z ≡ pos 2305843009213693951 *ℤ v +ℤ pos r → (v ≡ value_part profile.Wide z) × (r ≡ modulo profile.Wide z)
+pub wide_split : (z v : ℤ) (r : ℕ) → r < 2305843009213693951 → z ≡ pos 2305843009213693951 *ℤ v +ℤ pos r
+    → (v ≡ value_part profile.Wide z) × (r ≡ modulo profile.Wide z)
 unfolding coded
 wide_split z v r h e = split_is profile.Wide z v r h e
 
 -- one integer, cut at 2^61, cut at 2^61 again, and stepped to its parts
-pub cut_twice : (z h l m r v : ℤ) (s : ℕ) → z ≡ pos (2 ^ 61) *ℤ h +ℤ l → h +ℤ l ≡ pos (2 ^ 61) *ℤ m +ℤ r → pos 2305843009213693951 *ℤ (h +ℤ m) +ℤ (m +ℤ r) ≡ pos 2305843009213693951 *ℤ v +ℤ pos s → z ≡ pos 2305843009213693951 *ℤ v +ℤ pos s
+pub cut_twice : (z h l m r v : ℤ) (s : ℕ) → z ≡ pos (2 ^ 61) *ℤ h +ℤ l → h +ℤ l ≡ pos (2 ^ 61) *ℤ m +ℤ r
+    → pos 2305843009213693951 *ℤ (h +ℤ m) +ℤ (m +ℤ r) ≡ pos 2305843009213693951 *ℤ v +ℤ pos s → z ≡ pos 2305843009213693951 *ℤ v +ℤ pos s
 cut_twice z h l m r v s a b e = omega (arith, ints)
 
 -- the product of a sum
@@ -93,7 +95,8 @@ unfolding modulo value_part coded
 modulo_plus p z y k e =
     let here : z ≡ coded p (value_part p z) (modulo p z) = whole p z in
     let there : y ≡ coded p (value_part p y) (modulo p y) = whole p y in
-    let sum : pos (modulus p) *ℤ (value_part p y +ℤ k) ≡ pos (modulus p) *ℤ value_part p y +ℤ pos (modulus p) *ℤ k = times_plus (pos (modulus p)) (value_part p y) k in
+    let sum : pos (modulus p) *ℤ (value_part p y +ℤ k) ≡ pos (modulus p) *ℤ value_part p y +ℤ pos (modulus p) *ℤ k =
+    times_plus (pos (modulus p)) (value_part p y) k in
     (one_split p (value_part p z) (value_part p y +ℤ k) (modulo p z) (modulo p y) (modulo_below p z) (modulo_below p y) (omega (arith, ints))).1
 
 -- the residue of a word that is packed
@@ -126,7 +129,8 @@ pub one_product : (p : Profile) (a y : ℤ) → a *ℤ pos (modulo p y) ≡ a *�
 unfolding modulo value_part coded
 one_product p a y =
     let h : a *ℤ y ≡ a *ℤ (pos (modulus p) *ℤ value_part p y +ℤ pos (modulo p y)) = ap (λ z. a *ℤ z) (whole p y) in
-    let e : a *ℤ (pos (modulus p) *ℤ value_part p y +ℤ pos (modulo p y)) ≡ a *ℤ (pos (modulus p) *ℤ value_part p y) +ℤ a *ℤ pos (modulo p y) = times_plus a (pos (modulus p) *ℤ value_part p y) (pos (modulo p y)) in
+    let e : a *ℤ (pos (modulus p) *ℤ value_part p y +ℤ pos (modulo p y)) ≡ a *ℤ (pos (modulus p) *ℤ value_part p y) +ℤ a *ℤ pos (modulo p y) =
+    times_plus a (pos (modulus p) *ℤ value_part p y) (pos (modulo p y)) in
     let k : a *ℤ (pos (modulus p) *ℤ value_part p y) ≡ pos (modulus p) *ℤ (a *ℤ value_part p y) = times_scaled a (pos (modulus p)) (value_part p y) in
     omega (arith, ints)
 

@@ -47,11 +47,13 @@ wide-const : Right (called_in profile.Wide ty.Lint kind.Const (pos 0) (pos 0) (p
 unfolding called_in modulo value_part coded
 wide-const = refl
 
-wide-add : Right (called_in profile.Wide ty.Lint kind.Add (pos 11529215046068469756) (pos 3228180212899171533) (pos 0) 2075258708292324556) ≡ answer.Word (pos 14526810958046271893)
+wide-add : Right (called_in profile.Wide ty.Lint kind.Add (pos 11529215046068469756) (pos 3228180212899171533) (pos 0) 2075258708292324556)
+    ≡ answer.Word (pos 14526810958046271893)
 unfolding called_in modulo value_part coded
 wide-add = refl
 
-wide-out : Right (called_in profile.Wide ty.Lint kind.Out (pos 14526810958046271893) (pos 0) (pos 0) 2075258708292324556) ≡ answer.Word (pos 14296226657124902498)
+wide-out : Right (called_in profile.Wide ty.Lint kind.Out (pos 14526810958046271893) (pos 0) (pos 0) 2075258708292324556)
+    ≡ answer.Word (pos 14296226657124902498)
 unfolding called_in modulo value_part coded
 wide-out = refl
 

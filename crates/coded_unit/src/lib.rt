@@ -22,6 +22,3 @@ pub use laws::{right_answers_keep_the_step_law, words_split_in_one_way};
 pub use log_unit::LogUnit;
 pub use unit::Unit;
 pub use word::{Word, remainder};
-
-#[cfg(test)]
-mod tests;

@@ -1,8 +1,7 @@
 //! The right answer to a call.
 
-ghost use Rattle.std.specs.Prelude.{◌≡◌, ◌<◌, ◌^◌, ℤ, pos, negsuc, ◌*ℤ◌, ◌+ℤ◌, ◌≤ℤ◌, true, false, IfOk};
+ghost use Rattle.std.specs.Prelude.{◌≡◌, ◌<◌, ℤ, pos, negsuc, ◌*ℤ◌, ◌+ℤ◌, ◌≤ℤ◌};
 ghost use Rattle.vcp_base.specs.Code.{modulus as modulus_of};
-ghost use Rattle.vcp_base.specs.Kinds.{operand_type as operand_type_of, takes as takes_of, operands_fit as operands_fit_of, divides_by_zero as divides_by_zero_of, value as value_of, truth as truth_of, outcome as outcome_of};
 ghost use Rattle.coded_unit.specs.Asked.{Asked};
 ghost use Rattle.coded_unit.specs.Words.{Short, Small};
 ghost use Rattle.coded_unit.specs.Right.{residue as residue_of, stamp_share as stamp_share_of, Right};
@@ -10,7 +9,7 @@ ghost use Rattle.coded_unit.specs.Step.{StepLaw};
 
 use crate::call::{Answer, Call};
 use crate::word::{Word, narrow_remainder, remainder};
-use vcp_base::{Kind, Profile, Residue, StopKind, Ty, fits, multiplier, operands};
+use vcp_base::{Kind, Profile, Residue, StopKind, multiplier, outcome};
 
 /// The right answer to a call.
 ///
@@ -34,7 +33,7 @@ fn right(call: &Call) -> Answer
     let (a, r) = call.a.split(call.profile);
     let (b, s) = call.b.split(call.profile);
     let (c, t) = call.c.split(call.profile);
-    match outcome(call, a, b, c) {
+    match outcome(call.kind, call.from, call.ty, call.imm, a, b, c) {
         Ok(v) => Answer::Word(Word::packed(
             call.profile,
             v,
@@ -44,99 +43,6 @@ fn right(call: &Call) -> Answer
         Err(StopKind::DivZero) => Answer::DivZero,
         Err(StopKind::Operand) => Answer::Operand,
     }
-}
-
-/// The value of a call at these values of its operands, or why there is none.
-fn outcome(call: &Call, a: i128, b: i128, c: i128) -> Result<i128, StopKind>
-    ensures value { result ≡ outcome_of call.now.kind call.now.from call.now.ty call.now.imm a b c }
-    ensures low { IfOk result (λ v. negsuc (2 ^ 63) ≤ℤ v) }
-    ensures high { IfOk result (λ v. v ≤ℤ pos (2 ^ 63)) }
-{
-    if !operands_fit(call.kind, call.from, a, b, c) {
-        return Err(StopKind::Operand);
-    }
-    if divides_by_zero(call.kind, b) {
-        return Err(StopKind::DivZero);
-    }
-    let v = value(call.kind, call.from, call.imm, a, b, c);
-    if !fits(call.ty, v) {
-        return Err(StopKind::Range);
-    }
-    Ok(v)
-}
-
-/// Whether each operand has a value of its type.
-fn operands_fit(kind: Kind, from: Ty, a: i128, b: i128, c: i128) -> bool
-    ensures value { result ≡ operands_fit_of kind from a b c }
-    ensures first { result ≡ true → takes_of kind 0 from a ≡ true }
-    ensures second { result ≡ true → takes_of kind 1 from b ≡ true }
-{
-    takes(kind, 0, from, a) && takes(kind, 1, from, b) && takes(kind, 2, from, c)
-}
-
-/// Whether `v` may be the value of operand `j`; anything may where the kind has no operand `j`.
-fn takes(kind: Kind, j: u32, from: Ty, v: i128) -> bool
-    ensures { result ≡ takes_of kind j from v }
-{
-    if j < operands(kind) {
-        fits(operand_type(kind, j, from), v)
-    } else {
-        true
-    }
-}
-
-/// The type of operand `j` of an operation on values of type `from`.
-fn operand_type(kind: Kind, j: u32, from: Ty) -> Ty
-    ensures { result ≡ operand_type_of kind j from }
-{
-    match kind {
-        Kind::Not | Kind::And | Kind::Or | Kind::Xor => Ty::Bool,
-        Kind::Sel => if j == 0 { Ty::Bool } else { from },
-        _ => from,
-    }
-}
-
-/// Whether the kind divides, and the divisor `b` is 0.
-fn divides_by_zero(kind: Kind, b: i128) -> bool
-    ensures { result ≡ divides_by_zero_of kind b }
-{
-    match kind {
-        Kind::Div | Kind::Mod => b == 0,
-        _ => false,
-    }
-}
-
-/// The value of a kind, from the call's own number and the values of the operands.
-fn value(kind: Kind, from: Ty, imm: i64, a: i128, b: i128, c: i128) -> i128
-    requires a_fits { takes_of kind 0 from a ≡ true }
-    requires b_fits { takes_of kind 1 from b ≡ true }
-    requires divisor { divides_by_zero_of kind b ≡ false }
-    ensures { result ≡ value_of kind imm a b c }
-{
-    match kind {
-        Kind::Input | Kind::Const => imm as i128,
-        Kind::Load | Kind::Store | Kind::Out | Kind::Conv => a,
-        Kind::Neg => -a,
-        Kind::Not => 1 - a,
-        Kind::Add => a + b,
-        Kind::Sub => a - b,
-        Kind::Mul => a * b,
-        Kind::Div => a / b,
-        Kind::Mod => a % b,
-        Kind::Eq => truth(a == b),
-        Kind::Lt => truth(a < b),
-        Kind::And => truth(a == 1 && b == 1),
-        Kind::Or => truth(a == 1 || b == 1),
-        Kind::Xor => truth(a != b),
-        Kind::Sel => if a == 0 { b } else { c },
-    }
-}
-
-/// 1 for true, 0 for false.
-fn truth(b: bool) -> i128
-    ensures { result ≡ truth_of b }
-{
-    if b { 1 } else { 0 }
 }
 
 /// The residue of an answer, from those of the operands, the correction and the stamp. In the narrow

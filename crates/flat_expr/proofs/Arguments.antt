@@ -101,7 +101,8 @@ some_argument fun.BoolToInt = (omega arith, omega arith)
 
 -- ---- a function takes no more than its arguments
 
-one_of_three : (f : Fun) (t : Ty) (spot : Spot) (turns : List Turn) (x y z : ℤ) → 1 ≡ arity f → apply f t spot turns (x ∷ y ∷ z ∷ []) ≡ apply f t spot turns (x ∷ [])
+one_of_three : (f : Fun) (t : Ty) (spot : Spot) (turns : List Turn) (x y z : ℤ) → 1 ≡ arity f
+    → apply f t spot turns (x ∷ y ∷ z ∷ []) ≡ apply f t spot turns (x ∷ [])
 unfolding arity
 one_of_three fun.Abs t spot turns x y z h = refl
 one_of_three fun.Min t spot turns x y z h = absurd (omega (arith, h))
@@ -116,7 +117,8 @@ one_of_three fun.LintToInt t spot turns x y z h = refl
 one_of_three fun.LintToDint t spot turns x y z h = refl
 one_of_three fun.BoolToInt t spot turns x y z h = refl
 
-two_of_three : (f : Fun) (t : Ty) (spot : Spot) (turns : List Turn) (x y z : ℤ) → 2 ≡ arity f → apply f t spot turns (x ∷ y ∷ z ∷ []) ≡ apply f t spot turns (x ∷ y ∷ [])
+two_of_three : (f : Fun) (t : Ty) (spot : Spot) (turns : List Turn) (x y z : ℤ) → 2 ≡ arity f
+    → apply f t spot turns (x ∷ y ∷ z ∷ []) ≡ apply f t spot turns (x ∷ y ∷ [])
 unfolding arity
 two_of_three fun.Abs t spot turns x y z h = absurd (omega (arith, h))
 two_of_three fun.Min t spot turns x y z h = refl
@@ -135,9 +137,11 @@ two_of_three fun.BoolToInt t spot turns x y z h = absurd (omega (arith, h))
 
 other_arguments : (s new : State) (f : Fun) (t : Ty) (a b c k n : ℕ) (spot : Spot) (before : List ℤ → List ℤ) →
     ((turns : List Turn) (vs : List ℤ) → apply f t spot turns (at vs a ∷ at vs b ∷ at vs c ∷ []) ≡ apply f t spot turns (before vs)) →
-    Makes s new t n (applies s f t a b c spot) k → Makes s new t n (λ now vs. guarded (active s.path vs) (apply f t spot (turns_of s.graph s.turn) (before vs))) k
+    Makes s new t n (applies s f t a b c spot) k → Makes s new t n
+    (λ now vs. guarded (active s.path vs) (apply f t spot (turns_of s.graph s.turn) (before vs))) k
 other_arguments s new f t a b c k n spot before same h =
-    weaker s new t n n (applies s f t a b c spot) _ k (omega arith) (λ now vs types. as_good-is _ _ (ap (guarded (active s.path vs)) (same (turns_of s.graph s.turn) vs))) h
+    weaker s new t n n (applies s f t a b c spot) _ k (omega arith)
+    (λ now vs types. as_good-is _ _ (ap (guarded (active s.path vs)) (same (turns_of s.graph s.turn) vs))) h
 
 one_made : (s0 s1 s4 : State) (f : Fun) (t : Ty) (e1 : TExprTree) (spot : Spot) (a b c k : ℕ) → 1 ≡ arity f →
     Flattens s0 s1 e1 a → Makes s1 s4 t (function_size f) (applies s1 f t a b c spot) k → Flattens s0 s4 (call f t (and_texpr e1 no_texprs) spot) k
@@ -145,29 +149,35 @@ one_made s0 s1 s4 f t e1 spot a b c k one f1 m =
     called s0 s4 f t (and_texpr e1 no_texprs) spot (expr_size e1 + function_size f) k (omega arith)
     (argued s0 s1 s4 f t t spot e1 no_texprs (λ vs. []) a (function_size f) k (λ vs ws h. refl) f1
     (applied s1 s4 f t t spot (λ vs. at vs a ∷ []) (function_size f) k
-    (other_arguments s1 s4 f t a b c k (function_size f) spot (λ vs. at vs a ∷ []) (λ turns vs. one_of_three f t spot turns (at vs a) (at vs b) (at vs c) one) m)))
+    (other_arguments s1 s4 f t a b c k (function_size f) spot (λ vs. at vs a ∷ [])
+    (λ turns vs. one_of_three f t spot turns (at vs a) (at vs b) (at vs c) one) m)))
 
 two_made : (s0 s1 s2 s4 : State) (f : Fun) (t : Ty) (e1 e2 : TExprTree) (spot : Spot) (a b c k : ℕ) → 2 ≡ arity f →
-    Flattens s0 s1 e1 a → Flattens s1 s2 e2 b → Makes s2 s4 t (function_size f) (applies s2 f t a b c spot) k → Flattens s0 s4 (call f t (and_texpr e1 (and_texpr e2 no_texprs)) spot) k
+    Flattens s0 s1 e1 a → Flattens s1 s2 e2 b → Makes s2 s4 t (function_size f) (applies s2 f t a b c spot) k → Flattens s0 s4
+    (call f t (and_texpr e1 (and_texpr e2 no_texprs)) spot) k
 two_made s0 s1 s2 s4 f t e1 e2 spot a b c k two f1 f2 m =
     called s0 s4 f t (and_texpr e1 (and_texpr e2 no_texprs)) spot (expr_size e1 + (expr_size e2 + function_size f)) k (omega arith)
     (argued s0 s1 s4 f t t spot e1 (and_texpr e2 no_texprs) (λ vs. []) a (expr_size e2 + function_size f) k (λ vs ws h. refl) f1
     (argued s1 s2 s4 f t t spot e2 no_texprs (λ vs. at vs a ∷ []) b (function_size f) k (λ vs ws h. ap (λ x. x ∷ []) (h (ty_of e1) a f1.place)) f2
     (applied s2 s4 f t t spot (λ vs. at vs a ∷ at vs b ∷ []) (function_size f) k
-    (other_arguments s2 s4 f t a b c k (function_size f) spot (λ vs. at vs a ∷ at vs b ∷ []) (λ turns vs. two_of_three f t spot turns (at vs a) (at vs b) (at vs c) two) m))))
+    (other_arguments s2 s4 f t a b c k (function_size f) spot (λ vs. at vs a ∷ at vs b ∷ [])
+    (λ turns vs. two_of_three f t spot turns (at vs a) (at vs b) (at vs c) two) m))))
 
 three_made : (s0 s1 s2 s3 s4 : State) (f : Fun) (t : Ty) (e1 e2 e3 : TExprTree) (spot : Spot) (a b c k : ℕ) →
     Flattens s0 s1 e1 a → Flattens s1 s2 e2 b → Flattens s2 s3 e3 c → Makes s3 s4 t (function_size f) (applies s3 f t a b c spot) k →
     Flattens s0 s4 (call f t (and_texpr e1 (and_texpr e2 (and_texpr e3 no_texprs))) spot) k
 three_made s0 s1 s2 s3 s4 f t e1 e2 e3 spot a b c k f1 f2 f3 m =
-    called s0 s4 f t (and_texpr e1 (and_texpr e2 (and_texpr e3 no_texprs))) spot (expr_size e1 + (expr_size e2 + (expr_size e3 + function_size f))) k (omega arith)
+    called s0 s4 f t (and_texpr e1 (and_texpr e2 (and_texpr e3 no_texprs))) spot (expr_size e1 + (expr_size e2 + (expr_size e3 + function_size f))) k
+    (omega arith)
     (argued s0 s1 s4 f t t spot e1 (and_texpr e2 (and_texpr e3 no_texprs)) (λ vs. []) a (expr_size e2 + (expr_size e3 + function_size f)) k (λ vs ws h. refl) f1
-    (argued s1 s2 s4 f t t spot e2 (and_texpr e3 no_texprs) (λ vs. at vs a ∷ []) b (expr_size e3 + function_size f) k (λ vs ws h. ap (λ x. x ∷ []) (h (ty_of e1) a f1.place)) f2
+    (argued s1 s2 s4 f t t spot e2 (and_texpr e3 no_texprs) (λ vs. at vs a ∷ []) b (expr_size e3 + function_size f) k
+    (λ vs ws h. ap (λ x. x ∷ []) (h (ty_of e1) a f1.place)) f2
     (argued s2 s3 s4 f t t spot e3 no_texprs (λ vs. at vs a ∷ at vs b ∷ []) c (function_size f) k
     (λ vs ws h. ap (λ x. x ∷ at ws b ∷ []) (h (ty_of e1) a (f2.follows.typed (ty_of e1) a f1.place)) ∙ ap (λ y. at vs a ∷ y ∷ []) (h (ty_of e2) b f2.place)) f3
     (applied s3 s4 f t t spot (λ vs. at vs a ∷ at vs b ∷ at vs c ∷ []) (function_size f) k m))))
 
-same_state : (s0 s1 new : State) (t : Ty) (n k : ℕ) (f : Fun) (a b c : ℕ) (spot : Spot) → s1 ≡ s0 → Makes s1 new t n (applies s1 f t a b c spot) k → Makes s0 new t n (applies s0 f t a b c spot) k
+same_state : (s0 s1 new : State) (t : Ty) (n k : ℕ) (f : Fun) (a b c : ℕ) (spot : Spot) → s1 ≡ s0 → Makes s1 new t n (applies s1 f t a b c spot) k
+    → Makes s0 new t n (applies s0 f t a b c spot) k
 same_state s0 s1 new t n k f a b c spot e m = subst (λ s. Makes s new t n (applies s f t a b c spot) k) e m
 
 pub call_made : (s0 s1 s2 s3 s4 : State) (f : Fun) (t : Ty) (es : TExprTrees) (spot : Spot) (a b c k : ℕ) → arguments f t ≡ Some (tys_of es) →
@@ -175,7 +185,8 @@ pub call_made : (s0 s1 s2 s3 s4 : State) (f : Fun) (t : Ty) (es : TExprTrees) (s
     Makes s3 s4 t (function_size f) (applies s3 f t a b c spot) k → Flattens s0 s4 (call f t es spot) k
 call_made s0 s1 s2 s3 s4 f t no_texprs spot a b c k h f1 f2 f3 m = absurd (omega (arith, arity_is f t [] h, some_argument f))
 call_made s0 s1 s2 s3 s4 f t (and_texpr e1 no_texprs) spot a b c k h f1 f2 f3 m =
-    one_made s0 s1 s4 f t e1 spot a b c k (arity_is f t (ty_of e1 ∷ []) h) f1 (same_state s1 s2 s4 t (function_size f) k f a b c spot f2 (same_state s2 s3 s4 t (function_size f) k f a b c spot f3 m))
+    one_made s0 s1 s4 f t e1 spot a b c k (arity_is f t (ty_of e1 ∷ []) h) f1
+    (same_state s1 s2 s4 t (function_size f) k f a b c spot f2 (same_state s2 s3 s4 t (function_size f) k f a b c spot f3 m))
 call_made s0 s1 s2 s3 s4 f t (and_texpr e1 (and_texpr e2 no_texprs)) spot a b c k h f1 f2 f3 m =
     two_made s0 s1 s2 s4 f t e1 e2 spot a b c k (arity_is f t (ty_of e1 ∷ ty_of e2 ∷ []) h) f1 f2 (same_state s2 s3 s4 t (function_size f) k f a b c spot f3 m)
 call_made s0 s1 s2 s3 s4 f t (and_texpr e1 (and_texpr e2 (and_texpr e3 no_texprs))) spot a b c k h f1 f2 f3 m =
@@ -195,7 +206,8 @@ unfolding Placed
 fits_of fun.Abs t ts ops a b c h p = let e = from_numbers _ ts t h in let q = subst (λ l. Placed l ops (a ∷ b ∷ c ∷ [])) (sym e.1) p in (e.0, q.0)
 fits_of fun.Min t ts ops a b c h p = let e = from_numbers _ ts t h in let q = subst (λ l. Placed l ops (a ∷ b ∷ c ∷ [])) (sym e.1) p in (e.0, q.0, q.1.0)
 fits_of fun.Max t ts ops a b c h p = let e = from_numbers _ ts t h in let q = subst (λ l. Placed l ops (a ∷ b ∷ c ∷ [])) (sym e.1) p in (e.0, q.0, q.1.0)
-fits_of fun.Limit t ts ops a b c h p = let e = from_numbers _ ts t h in let q = subst (λ l. Placed l ops (a ∷ b ∷ c ∷ [])) (sym e.1) p in (e.0, q.0, q.1.0, q.1.1.0)
+fits_of fun.Limit t ts ops a b c h p = let e = from_numbers _ ts t h in let q = subst (λ l. Placed l ops (a ∷ b ∷ c ∷ [])) (sym e.1) p in
+    (e.0, q.0, q.1.0, q.1.1.0)
 fits_of fun.Sel t ts ops a b c h p = let e : ts ≡ ty.Bool ∷ t ∷ t ∷ [] = cc in let q = subst (λ l. Placed l ops (a ∷ b ∷ c ∷ [])) e p in (q.0, q.1.0, q.1.1.0)
 fits_of fun.IntToDint ty.Bool ts ops a b c h p = absurd cc
 fits_of fun.IntToDint ty.Int ts ops a b c h p = absurd cc
@@ -233,8 +245,11 @@ call_fits s0 s1 s2 s3 f t no_texprs a b c h f1 f2 f3 = absurd (omega (arith, ari
 call_fits s0 s1 s2 s3 f t (and_texpr e1 no_texprs) a b c h f1 f2 f3 =
     fits_of f t (ty_of e1 ∷ []) s3.graph.operations a b c h (subst (λ (s : State). IsA (ty_of e1) s.graph.operations a) (sym (f3 ∙ f2)) f1.place, tt)
 call_fits s0 s1 s2 s3 f t (and_texpr e1 (and_texpr e2 no_texprs)) a b c h f1 f2 f3 =
-    fits_of f t (ty_of e1 ∷ ty_of e2 ∷ []) s3.graph.operations a b c h
-    (subst (λ (s : State). IsA (ty_of e1) s.graph.operations a) (sym f3) (f2.follows.typed (ty_of e1) a f1.place), (subst (λ (s : State). IsA (ty_of e2) s.graph.operations b) (sym f3) f2.place, tt))
+    fits_of f t (ty_of e1 ∷ ty_of e2 ∷ []) s3.graph.operations a b c h (
+      subst (λ (s : State). IsA (ty_of e1) s.graph.operations a) (sym f3)
+          (f2.follows.typed (ty_of e1) a f1.place),
+      (subst (λ (s : State). IsA (ty_of e2) s.graph.operations b) (sym f3) f2.place, tt),
+    )
 call_fits s0 s1 s2 s3 f t (and_texpr e1 (and_texpr e2 (and_texpr e3 no_texprs))) a b c h f1 f2 f3 =
     fits_of f t (ty_of e1 ∷ ty_of e2 ∷ ty_of e3 ∷ []) s3.graph.operations a b c h
     (f3.follows.typed (ty_of e1) a (f2.follows.typed (ty_of e1) a f1.place), (f3.follows.typed (ty_of e2) b f2.place, (f3.place, tt)))
@@ -252,7 +267,8 @@ one_count s0 s1 None k e = let same = ap reserved e in omega (arith, same)
 one_count s0 s1 (Some e) k f = f.count
 
 -- the first argument is there
-pub first_follows : (s0 s1 : State) (f : Fun) (t : Ty) (es : TExprTrees) (k : ℕ) → arguments f t ≡ Some (tys_of es) → FlattensOne s0 s1 (argument es 0) k → Follows s0 s1
+pub first_follows : (s0 s1 : State) (f : Fun) (t : Ty) (es : TExprTrees) (k : ℕ) → arguments f t ≡ Some (tys_of es) → FlattensOne s0 s1 (argument es 0) k
+    → Follows s0 s1
 first_follows s0 s1 f t no_texprs k h f1 = absurd (omega (arith, arity_is f t [] h, some_argument f))
 first_follows s0 s1 f t (and_texpr e es) k h f1 = f1.follows
 
@@ -274,14 +290,16 @@ argument_none [] i le = refl
 argument_none (x ∷ es) zero le = absurd (omega arith)
 argument_none (x ∷ es) (suc i) le = argument_none es i (omega arith)
 
-pub argument_expr : (slots : List Slot) (es : List TExpr) (i : ℕ) (e : TExpr) → slice_get es i ≡ Some e → AreExprs slots (texpr_trees es) → IsExpr slots (texpr_tree e)
+pub argument_expr : (slots : List Slot) (es : List TExpr) (i : ℕ) (e : TExpr) → slice_get es i ≡ Some e → AreExprs slots (texpr_trees es)
+    → IsExpr slots (texpr_tree e)
 argument_expr slots [] i e h p = absurd cc
 argument_expr slots (x ∷ es) zero e h p = let same : x ≡ e = cc in subst (λ y. IsExpr slots (texpr_tree y)) same p.0
 argument_expr slots (x ∷ es) (suc i) e h p = argument_expr slots es i e h p.1
 
 pub argument_lighter : (es : List TExpr) (i : ℕ) (e : TExpr) → slice_get es i ≡ Some e → expr_weight (texpr_tree e) < exprs_weight (texpr_trees es)
 argument_lighter [] i e h = absurd cc
-argument_lighter (x ∷ es) zero e h = let same : x ≡ e = cc in subst (λ y. expr_weight (texpr_tree y) < suc (expr_weight (texpr_tree x) + exprs_weight (texpr_trees es))) same (omega arith)
+argument_lighter (x ∷ es) zero e h = let same : x ≡ e = cc in
+    subst (λ y. expr_weight (texpr_tree y) < suc (expr_weight (texpr_tree x) + exprs_weight (texpr_trees es))) same (omega arith)
 argument_lighter (x ∷ es) (suc i) e h = let less = argument_lighter es i e h in omega (arith, less)
 
 pub tree_of_call : (e : TExpr) (f : Fun) (t : Ty) (es : TExprs) (s : Spot) (items : List TExpr) → e ≡ Call f t es s

@@ -1,5 +1,7 @@
 -- Closing: an OUT, a LOAD before it, and a STORE more, at the end of a cycle.
-use Rattle.std.proofs.Common.{◌≡◌, ◌≢◌, ℕ, zero, suc, ◌+◌, ◌<◌, ◌≤◌, ℤ, Bool, true, false, ◌&&◌, cond, List, [], ◌∷◌, ◌++◌, length, map, reverse, take, get_or, set, slice_get, slice_index_or, All, Option, Some, None, Result, Ok, Err, refl, sym, ap, ap₂, ◌∙◌, subst, arith, length-append, length-set, get_or-set_same, get_or-set_other, ⊎_elim}
+use Rattle.std.proofs.Common.{◌≡◌, ◌≢◌, ℕ, zero, suc, ◌+◌, ◌<◌, ◌≤◌, ℤ, Bool, true, false, ◌&&◌, cond, List, [], ◌∷◌, ◌++◌, length, map, reverse, take, get_or}
+use Rattle.std.proofs.Common.{set, slice_get, slice_index_or, All, Option, Some, None, Result, Ok, Err, refl, sym, ap, ap₂, ◌∙◌, subst, arith, length-append}
+use Rattle.std.proofs.Common.{length-set, get_or-set_same, get_or-set_other, ⊎_elim}
 use Rattle.std.proofs.lemmas.Bool.{cases_eq}
 use Rattle.std.proofs.lemmas.List.{length_push, length-map, map-append, take_all, take-append-le}
 use Rattle.std.proofs.lemmas.List.Elements.{All-push}
@@ -30,7 +32,8 @@ use Rattle.vcp_typed.specs.Meaning.{and_then}
 use Rattle.vcp_typed.specs.SourceRun.{is_input, is_output, outputs}
 use Rattle.flat_expr.specs.Closing.{Closes}
 use Rattle.flat_expr.specs.Told.{names_of}
-use Rattle.flat_expr.specs.State.{State, IsState, IsA, IsPlace, IsHeld, IsCell, KnowsOne, AreLoaded, Kept, Finishes, unknown, others, last_of, last_size, reserved, run, stopped}
+use Rattle.flat_expr.specs.State.{State, IsState, IsA, IsPlace, IsHeld, IsCell, KnowsOne, AreLoaded, Kept, Finishes, unknown, others, last_of, last_size}
+use Rattle.flat_expr.specs.State.{reserved, run, stopped}
 use Rattle.flat_expr.proofs.Ops.{get_push, get_last, isa_last, place_push}
 use Rattle.flat_expr.proofs.Runs.{step, run-push, run-push_stops, run-length, typed, at-front, at-last}
 use Rattle.flat_expr.proofs.Steps.{knows_one-kept, slot_there}
@@ -70,13 +73,15 @@ closes_begin s i = record {
 
 -- ---- values of OUTs and STOREs that are there stay
 
-outs_kept : (names n : ℕ) (before xs : List Outlet) (vs ws : List ℤ) → n ≤ length vs → Kept vs ws → Each (OutputFits names n) before xs → map (λ (o : Outlet). at ws o.op) xs ≡ map (λ (o : Outlet). at vs o.op) xs
+outs_kept : (names n : ℕ) (before xs : List Outlet) (vs ws : List ℤ) → n ≤ length vs → Kept vs ws → Each (OutputFits names n) before xs
+    → map (λ (o : Outlet). at ws o.op) xs ≡ map (λ (o : Outlet). at vs o.op) xs
 outs_kept names n before [] vs ws le kept h = refl
 outs_kept names n before (x ∷ xs) vs ws le kept h =
     let lt = h.0.operation in
     ap₂ (λ v l. v ∷ l) (kept x.op (omega (arith, lt, le))) (outs_kept names n (before ++ x ∷ []) xs vs ws le kept h.1)
 
-stores_kept : (loads : List Loaded) (n : ℕ) (before xs : List ℕ) (vs ws : List ℤ) → n ≤ length vs → Kept vs ws → Each (StoreFits loads n) before xs → map (λ k. at ws k) xs ≡ map (λ k. at vs k) xs
+stores_kept : (loads : List Loaded) (n : ℕ) (before xs : List ℕ) (vs ws : List ℤ) → n ≤ length vs → Kept vs ws → Each (StoreFits loads n) before xs
+    → map (λ k. at ws k) xs ≡ map (λ k. at vs k) xs
 stores_kept loads n before [] vs ws le kept h = refl
 stores_kept loads n before (x ∷ xs) vs ws le kept h =
     let lt = h.0.store in
@@ -85,7 +90,8 @@ stores_kept loads n before (x ∷ xs) vs ws le kept h =
 -- ---- a slot's column and value
 
 columns_more : (slots : List Slot) (n : ℕ) (x : Slot) → slice_get slots n ≡ Some x →
-    output_columns (take (suc n) slots) ≡ cond (is_output x.class) (output_columns (take n slots) ++ (record { name = x.name; ty = x.ty }) ∷ []) (output_columns (take n slots))
+    output_columns (take (suc n) slots) ≡ cond (is_output x.class) (output_columns (take n slots) ++ (record { name = x.name; ty = x.ty }) ∷ [])
+    (output_columns (take n slots))
 columns_more [] n x e = absurd cc
 columns_more (s ∷ slots) zero x e = let same : s ≡ x = cc in ap (λ (y : Slot). cond (is_output y.class) ((record { name = y.name; ty = y.ty }) ∷ []) []) same
 columns_more (s ∷ slots) (suc n) x e = go (is_output s.class) (is_output x.class) (columns_more slots n x e)
@@ -97,7 +103,9 @@ columns_more (s ∷ slots) (suc n) x e = go (is_output s.class) (is_output x.cla
     last = record { name = x.name; ty = x.ty }
 
     go : (a b : Bool) → output_columns (take (suc n) slots) ≡ cond b (output_columns (take n slots) ++ last ∷ []) (output_columns (take n slots)) →
-        cond a (col ∷ output_columns (take (suc n) slots)) (output_columns (take (suc n) slots)) ≡ cond b (cond a (col ∷ output_columns (take n slots)) (output_columns (take n slots)) ++ last ∷ []) (cond a (col ∷ output_columns (take n slots)) (output_columns (take n slots)))
+        cond a (col ∷ output_columns (take (suc n) slots)) (output_columns (take (suc n) slots)) ≡ cond b
+        (cond a (col ∷ output_columns (take n slots)) (output_columns (take n slots)) ++ last ∷ [])
+        (cond a (col ∷ output_columns (take n slots)) (output_columns (take n slots)))
     go true true h = ap (λ l. col ∷ l) h
     go true false h = ap (λ l. col ∷ l) h
     go false true h = h
@@ -111,7 +119,9 @@ outputs_more (s ∷ slots) (v ∷ now) zero x e len = let same : s ≡ x = cc in
 outputs_more (s ∷ slots) (v ∷ now) (suc n) x e len = go (is_output s.class) (is_output x.class) (outputs_more slots now n x e (omega arith))
   where
     go : (a b : Bool) → outputs (take (suc n) slots) now ≡ cond b (outputs (take n slots) now ++ at now n ∷ []) (outputs (take n slots) now) →
-        cond a (v ∷ outputs (take (suc n) slots) now) (outputs (take (suc n) slots) now) ≡ cond b (cond a (v ∷ outputs (take n slots) now) (outputs (take n slots) now) ++ at now n ∷ []) (cond a (v ∷ outputs (take n slots) now) (outputs (take n slots) now))
+        cond a (v ∷ outputs (take (suc n) slots) now) (outputs (take (suc n) slots) now) ≡ cond b
+        (cond a (v ∷ outputs (take n slots) now) (outputs (take n slots) now) ++ at now n ∷ [])
+        (cond a (v ∷ outputs (take n slots) now) (outputs (take n slots) now))
     go true true h = ap (λ l. v ∷ l) h
     go true false h = ap (λ l. v ∷ l) h
     go false true h = h
@@ -125,7 +135,8 @@ all_more n xs h = λ k d lt. let below = h k d lt in omega (arith, below)
 
 -- ---- a slot that is no output
 
-pub closes_skip : (s : State) (n m : ℕ) (g : Lists) (known : List (Option ℕ)) (x : Slot) → slice_get s.slots n ≡ Some x → is_output x.class ≡ false → Closes s n m g known → Closes s (suc n) m g known
+pub closes_skip : (s : State) (n m : ℕ) (g : Lists) (known : List (Option ℕ)) (x : Slot) → slice_get s.slots n ≡ Some x → is_output x.class ≡ false
+    → Closes s n m g known → Closes s (suc n) m g known
 closes_skip s n m g known x e isnt h = record {
   from = h.from;
   part = h.part;
@@ -155,7 +166,8 @@ closes_skip s n m g known x e isnt h = record {
 load_entry_at : Lists → ℕ → Slot → Loaded
 load_entry_at g slot x = record { name = slot; ty = x.ty; init = x.init; load = length g.operations }
 
-pub closes_load : (s : State) (n m : ℕ) (g : Lists) (known : List (Option ℕ)) (slot : ℕ) (x : Slot) → slice_get s.slots slot ≡ Some x → get_or known slot None ≡ None → IsPart (with_load g slot x.ty x.init x.spot) → Closes s n m g known →
+pub closes_load : (s : State) (n m : ℕ) (g : Lists) (known : List (Option ℕ)) (slot : ℕ) (x : Slot) → slice_get s.slots slot ≡ Some x
+    → get_or known slot None ≡ None → IsPart (with_load g slot x.ty x.init x.spot) → Closes s n m g known →
     Closes s n m (with_load g slot x.ty x.init x.spot) (set known slot (Some (length g.operations)))
 closes_load s n m g known slot x e none part h = record {
   from = h.from;
@@ -185,7 +197,15 @@ closes_load s n m g known slot x e none part h = record {
       (cases_eq j slot);
   cells = λ j l q. ⊎_elim
       (λ (last : j ≡ length g.loads).
-      subst (IsCell s.slots) (last_is j l last q) (record { of = x; there = e; variable = not_held (is_input x.class) (subst (IsHeld (is_input x.class)) none (h.ins slot x e)); ty = refl; init = refl }))
+      subst (IsCell s.slots) (last_is j l last q)
+      (record {
+        of = x;
+        there = e;
+        variable = not_held (is_input x.class) (subst (IsHeld (is_input x.class)) none (h.ins slot x e));
+        ty = refl;
+        init =
+            refl;
+      }))
       (λ (other : j ≢ length g.loads). h.cells j l (earlier j l other q))
       (cases_eq j (length g.loads));
   held = λ j l q. ⊎_elim
@@ -208,7 +228,8 @@ closes_load s n m g known slot x e none part h = record {
       let v = at cells (length g.loads) in
       let here = loaded (length g.loads) cell (get_last g.loads cell) in
       let us = ws ++ v ∷ [] in
-      let ran : run (with_load g slot x.ty x.init x.spot) cells row ≡ Ok us = run-push g op cells row ws f.1 ∙ ap (λ q. and_then q (λ y. Ok (ws ++ y ∷ []))) (load_of (record s { graph = g }) x cells row ws here.1) in
+      let ran : run (with_load g slot x.ty x.init x.spot) cells row ≡ Ok us = run-push g op cells row ws f.1
+      ∙ ap (λ q. and_then q (λ y. Ok (ws ++ y ∷ []))) (load_of (record s { graph = g }) x cells row ws here.1) in
       let last : at us (length g.operations) ≡ v = ap (at us) (sym len) ∙ at-last ws v in
       let before : at now slot ≡ at start slot = subst (λ o. KnowsOne o ws (at now slot) (at start slot)) none (f.2 slot (slice_get_within s.slots slot x e)) in (
         us,
@@ -219,7 +240,8 @@ closes_load s n m g known slot x e none part h = record {
             (sym (ap (λ m. get_or (set known slot (Some (length g.operations))) m None) same ∙ get_or-set_same known slot (Some (length g.operations)) None lt))
             (last ∙ here.0 ∙ sym before ∙ ap (at now) (sym same)))
             (λ (other : j ≢ slot).
-            subst (λ o. KnowsOne o us (at now j) (at start j)) (sym (get_or-set_other known slot j (Some (length g.operations)) None other)) (told_kept j below ws us start now len (at-front ws v) (f.2 j below)))
+            subst (λ o. KnowsOne o us (at now j) (at start j)) (sym (get_or-set_other known slot j (Some (length g.operations)) None other))
+            (told_kept j below ws us start now len (at-front ws v) (f.2 j below)))
             (cases_eq j slot)),
         outs_kept (length g.names) (length g.operations) [] g.outputs ws us (omega (arith, len)) (at-front ws v) h.part.outputs ∙ f.3,
         stores_kept g.loads (length g.operations) [] g.stores ws us (omega (arith, len)) (at-front ws v) h.part.stores ∙ f.4
@@ -251,24 +273,31 @@ closes_load s n m g known slot x e none part h = record {
         let count = length_push g.loads cell in
         sym (get_push g.loads cell j (omega (arith, other, below, count))) ∙ q
 
-    told_kept : (j : ℕ) → j < length s.slots → (ws us start now : List ℤ) → length ws ≡ length g.operations → Kept ws us → KnowsOne (get_or known j None) ws (at now j) (at start j) → KnowsOne (get_or known j None) us (at now j) (at start j)
+    told_kept : (j : ℕ) → j < length s.slots → (ws us start now : List ℤ) → length ws ≡ length g.operations → Kept ws us
+        → KnowsOne (get_or known j None) ws (at now j) (at start j) → KnowsOne (get_or known j None) us (at now j) (at start j)
     told_kept j below ws us start now len kept one =
         let y = slot_there s.slots j below in
         knows_one-kept y.0.ty (record s { graph = g }) (get_or known j None) ws us (at now j) (at start j) (h.places j y.0 y.1) len kept one
 
 -- ---- an OUT
 
-out_of : (nodes : List TurnNode) (t : Ty) (k j : ℕ) (spot : Spot) (cells row vs : List ℤ) → fits t (at vs k) ≡ true → step nodes cells row vs (entry_op kind.Out t k j spot) ≡ Ok (at vs k)
+out_of : (nodes : List TurnNode) (t : Ty) (k j : ℕ) (spot : Spot) (cells row vs : List ℤ) → fits t (at vs k) ≡ true
+    → step nodes cells row vs (entry_op kind.Out t k j spot) ≡ Ok (at vs k)
 out_of nodes t k j spot cells row vs e = go (fits t (at vs k)) e
   where
-    go : (b : Bool) → b ≡ true → stopped (turns_back (reverse nodes) 0) (entry_op kind.Out t k j spot) (cond (b && true && true) (cond false (Err why.DivZero) (cond b (Ok (at vs k)) (Err why.Range))) (Err why.Operand)) ≡ Ok (at vs k)
+    go : (b : Bool) → b ≡ true
+        → stopped (turns_back (reverse nodes) 0) (entry_op kind.Out t k j spot)
+        (cond (b && true && true) (cond false (Err why.DivZero) (cond b (Ok (at vs k)) (Err why.Range))) (Err why.Operand)) ≡ Ok (at vs k)
     go true h = refl
     go false h = absurd cc
 
-store_of : (nodes : List TurnNode) (t : Ty) (k j : ℕ) (spot : Spot) (cells row vs : List ℤ) → fits t (at vs k) ≡ true → step nodes cells row vs (entry_op kind.Store t k j spot) ≡ Ok (at vs k)
+store_of : (nodes : List TurnNode) (t : Ty) (k j : ℕ) (spot : Spot) (cells row vs : List ℤ) → fits t (at vs k) ≡ true
+    → step nodes cells row vs (entry_op kind.Store t k j spot) ≡ Ok (at vs k)
 store_of nodes t k j spot cells row vs e = go (fits t (at vs k)) e
   where
-    go : (b : Bool) → b ≡ true → stopped (turns_back (reverse nodes) 0) (entry_op kind.Store t k j spot) (cond (b && true && true) (cond false (Err why.DivZero) (cond b (Ok (at vs k)) (Err why.Range))) (Err why.Operand)) ≡ Ok (at vs k)
+    go : (b : Bool) → b ≡ true
+        → stopped (turns_back (reverse nodes) 0) (entry_op kind.Store t k j spot)
+        (cond (b && true && true) (cond false (Err why.DivZero) (cond b (Ok (at vs k)) (Err why.Range))) (Err why.Operand)) ≡ Ok (at vs k)
     go true h = refl
     go false h = absurd cc
 
@@ -277,7 +306,8 @@ name_of_slot [] n x e = absurd cc
 name_of_slot (s ∷ slots) zero x e = let same : s ≡ x = cc in ap (λ (y : Slot). y.name) same
 name_of_slot (s ∷ slots) (suc n) x e = name_of_slot slots n x e
 
-pub closes_out : (s : State) (n m k : ℕ) (g : Lists) (known : List (Option ℕ)) (x : Slot) → slice_get s.slots n ≡ Some x → is_output x.class ≡ true → get_or known n None ≡ Some k → IsPart (with_output g n x.ty k x.spot) → Closes s n m g known →
+pub closes_out : (s : State) (n m k : ℕ) (g : Lists) (known : List (Option ℕ)) (x : Slot) → slice_get s.slots n ≡ Some x → is_output x.class ≡ true
+    → get_or known n None ≡ Some k → IsPart (with_output g n x.ty k x.spot) → Closes s n m g known →
     Closes s (suc n) m (with_output g n x.ty k x.spot) known
 closes_out s n m k g known x e is_one place part h = record {
   from = h.from;
@@ -293,7 +323,8 @@ closes_out s n m k g known x e is_one place part h = record {
   held = h.held;
   room = h.room;
   columns = map-append (output_column g.names) g.outputs (out ∷ [])
-      ∙ ap₂ (λ l (c : List ℕ). l ++ (let one : Column = record { name = c; ty = x.ty } in one) ∷ []) h.columns (ap (λ l. slice_index_or l n []) (h.names ∙ h.from.names) ∙ name_of_slot s.slots n x e)
+      ∙ ap₂ (λ l (c : List ℕ). l ++ (let one : Column = record { name = c; ty = x.ty } in one) ∷ []) h.columns
+      (ap (λ l. slice_index_or l n []) (h.names ∙ h.from.names) ∙ name_of_slot s.slots n x e)
       ∙ sym (columns_more s.slots n x e ∙ by_test (is_output x.class) true _ _ is_one);
   below = All-push (λ (o : Outlet). o.name < suc n) g.outputs out (all_more n g.outputs h.below) (omega arith);
   so_far = h.so_far;
@@ -307,15 +338,18 @@ closes_out s n m k g known x e is_one place part h = record {
       let v = at ws k in
       let us = ws ++ v ∷ [] in
       let fit : fits x.ty v ≡ true = typed h.from.laws g cells row start ws h.part loaded f.1 x.ty k there in
-      let ran : run (with_output g n x.ty k x.spot) cells row ≡ Ok us = run-push g op cells row ws f.1 ∙ ap (λ q. and_then q (λ y. Ok (ws ++ y ∷ []))) (out_of g.turn_nodes x.ty k (length g.outputs) x.spot cells row ws fit) in
+      let ran : run (with_output g n x.ty k x.spot) cells row ≡ Ok us = run-push g op cells row ws f.1
+      ∙ ap (λ q. and_then q (λ y. Ok (ws ++ y ∷ []))) (out_of g.turn_nodes x.ty k (length g.outputs) x.spot cells row ws fit) in
       let last : at us (length g.operations) ≡ v = ap (at us) (sym len) ∙ at-last ws v in
       let is : v ≡ at now n = subst (λ o. KnowsOne o ws (at now n) (at start n)) place (f.2 n (slice_get_within s.slots n x e)) in (
         us,
         ran,
         (λ j below. let y = slot_there s.slots j below in
-            knows_one-kept y.0.ty (record s { graph = g }) (get_or known j None) ws us (at now j) (at start j) (h.places j y.0 y.1) len (at-front ws v) (f.2 j below)),
+            knows_one-kept y.0.ty (record s { graph = g }) (get_or known j None) ws us (at now j) (at start j) (h.places j y.0 y.1) len (at-front ws v)
+            (f.2 j below)),
         map-append (λ (o : Outlet). at us o.op) g.outputs (out ∷ [])
-            ∙ ap₂ (λ l z. l ++ z ∷ []) (outs_kept (length g.names) (length g.operations) [] g.outputs ws us (omega (arith, len)) (at-front ws v) h.part.outputs ∙ f.3) (last ∙ is)
+            ∙ ap₂ (λ l z. l ++ z ∷ [])
+            (outs_kept (length g.names) (length g.operations) [] g.outputs ws us (omega (arith, len)) (at-front ws v) h.part.outputs ∙ f.3) (last ∙ is)
             ∙ sym (outputs_more s.slots now n x e knows.long ∙ by_test (is_output x.class) true _ _ is_one),
         stores_kept g.loads (length g.operations) [] g.stores ws us (omega (arith, len)) (at-front ws v) h.part.stores ∙ f.4,
       );
@@ -337,12 +371,14 @@ take_one_more [] j x e = absurd cc
 take_one_more (y ∷ xs) zero x e = let same : y ≡ x = cc in ap (λ z. z ∷ []) same
 take_one_more (y ∷ xs) (suc j) x e = ap (λ l. y ∷ l) (take_one_more xs j x e)
 
-pub cell_place : (s : State) (n m k : ℕ) (g : Lists) (known : List (Option ℕ)) (l : Loaded) → slice_get g.loads m ≡ Some l → get_or known l.name None ≡ Some k → Closes s n m g known → IsA l.ty g.operations k
+pub cell_place : (s : State) (n m k : ℕ) (g : Lists) (known : List (Option ℕ)) (l : Loaded) → slice_get g.loads m ≡ Some l → get_or known l.name None ≡ Some k
+    → Closes s n m g known → IsA l.ty g.operations k
 cell_place s n m k g known l e place h =
     let cell = h.cells m l e in
     subst (λ t. IsA t g.operations k) (sym cell.ty) (subst (IsPlace cell.of.ty g.operations) place (h.places l.name cell.of cell.there))
 
-pub closes_store : (s : State) (n m k : ℕ) (g : Lists) (known : List (Option ℕ)) (l : Loaded) (spot : Spot) → slice_get g.loads m ≡ Some l → get_or known l.name None ≡ Some k → IsPart (with_store g l.ty k spot) → Closes s n m g known →
+pub closes_store : (s : State) (n m k : ℕ) (g : Lists) (known : List (Option ℕ)) (l : Loaded) (spot : Spot) → slice_get g.loads m ≡ Some l
+    → get_or known l.name None ≡ Some k → IsPart (with_store g l.ty k spot) → Closes s n m g known →
     Closes s n (suc m) (with_store g l.ty k spot) known
 closes_store s n m k g known l spot e place part h = record {
   from = h.from;
@@ -370,17 +406,22 @@ closes_store s n m k g known l spot e place part h = record {
       let v = at ws k in
       let us = ws ++ v ∷ [] in
       let fit : fits l.ty v ≡ true = typed h.from.laws g cells row start ws h.part loaded f.1 l.ty k there in
-      let ran : run (with_store g l.ty k spot) cells row ≡ Ok us = run-push g op cells row ws f.1 ∙ ap (λ q. and_then q (λ y. Ok (ws ++ y ∷ []))) (store_of g.turn_nodes l.ty k (length g.stores) spot cells row ws fit) in
+      let ran : run (with_store g l.ty k spot) cells row ≡ Ok us = run-push g op cells row ws f.1
+      ∙ ap (λ q. and_then q (λ y. Ok (ws ++ y ∷ []))) (store_of g.turn_nodes l.ty k (length g.stores) spot cells row ws fit) in
       let last : at us (length g.operations) ≡ v = ap (at us) (sym len) ∙ at-last ws v in
-      let is : v ≡ at now l.name = subst (λ o. KnowsOne o ws (at now l.name) (at start l.name)) place (f.2 l.name (slice_get_within s.slots l.name cell.of cell.there)) in
-      let more : suc (length g.stores) ≡ length (g.stores ++ length g.operations ∷ []) = let one = length_push g.stores (length g.operations) in omega (arith, one) in (
+      let is : v ≡ at now l.name =
+      subst (λ o. KnowsOne o ws (at now l.name) (at start l.name)) place (f.2 l.name (slice_get_within s.slots l.name cell.of cell.there)) in
+      let more : suc (length g.stores) ≡ length (g.stores ++ length g.operations ∷ []) = let one = length_push g.stores (length g.operations) in
+      omega (arith, one) in (
         us,
         ran,
         (λ j below. let y = slot_there s.slots j below in
-            knows_one-kept y.0.ty (record s { graph = g }) (get_or known j None) ws us (at now j) (at start j) (h.places j y.0 y.1) len (at-front ws v) (f.2 j below)),
+            knows_one-kept y.0.ty (record s { graph = g }) (get_or known j None) ws us (at now j) (at start j) (h.places j y.0 y.1) len (at-front ws v)
+            (f.2 j below)),
         outs_kept (length g.names) (length g.operations) [] g.outputs ws us (omega (arith, len)) (at-front ws v) h.part.outputs ∙ f.3,
         map-append (λ m. at us m) g.stores (length g.operations ∷ [])
-            ∙ ap₂ (λ q z. q ++ z ∷ []) (stores_kept g.loads (length g.operations) [] g.stores ws us (omega (arith, len)) (at-front ws v) h.part.stores ∙ f.4) (last ∙ is)
+            ∙ ap₂ (λ q z. q ++ z ∷ []) (stores_kept g.loads (length g.operations) [] g.stores ws us (omega (arith, len)) (at-front ws v) h.part.stores ∙ f.4)
+            (last ∙ is)
             ∙ sym (map-append (λ (m : Loaded). at now m.name) (take (length g.stores) g.loads) (l ∷ []))
             ∙ ap (map (λ (m : Loaded). at now m.name)) (sym (take_one_more g.loads (length g.stores) l (ap (slice_get g.loads) h.so_far ∙ e)))
             ∙ ap (λ j. map (λ (m : Loaded). at now m.name) (take j g.loads)) more,
@@ -405,7 +446,8 @@ class_last class.Local v = omega arith
 class_last class.Retain v = omega arith
 class_last class.Constant v = absurd (v refl)
 
-pub last_room : (slots : List Slot) → ((i : ℕ) (x : Slot) → slice_get slots i ≡ Some x → x.class ≡ class.Constant → ⊥) → length (output_columns slots) + others slots ≤ last_size slots
+pub last_room : (slots : List Slot) → ((i : ℕ) (x : Slot) → slice_get slots i ≡ Some x → x.class ≡ class.Constant → ⊥)
+    → length (output_columns slots) + others slots ≤ last_size slots
 last_room [] v = omega arith
 last_room (s ∷ slots) v =
     let rest = last_room slots (λ i x e. v (suc i) x e) in
@@ -427,22 +469,26 @@ columns_grow (s ∷ slots) zero = omega arith
 columns_grow (s ∷ slots) (suc n) = go (is_output s.class) (columns_grow slots n)
   where
     go : (a : Bool) → length (output_columns (take n slots)) ≤ length (output_columns slots) →
-        length (cond a ((record { name = s.name; ty = s.ty }) ∷ output_columns (take n slots)) (output_columns (take n slots))) ≤ length (cond a ((record { name = s.name; ty = s.ty }) ∷ output_columns slots) (output_columns slots))
+        length (cond a ((record { name = s.name; ty = s.ty }) ∷ output_columns (take n slots)) (output_columns (take n slots))) ≤ length
+        (cond a ((record { name = s.name; ty = s.ty }) ∷ output_columns slots) (output_columns slots))
     go true h = omega arith
     go false h = h
 
-outputs_so_far : (s : State) (n m : ℕ) (g : Lists) (known : List (Option ℕ)) → Closes s n m g known → length g.outputs ≡ length (output_columns (take n s.slots))
+outputs_so_far : (s : State) (n m : ℕ) (g : Lists) (known : List (Option ℕ)) → Closes s n m g known
+    → length g.outputs ≡ length (output_columns (take n s.slots))
 outputs_so_far s n m g known h = sym (length-map g.outputs (output_column g.names)) ∙ ap length h.columns
 
 -- a LOAD is refused only where the slots and the ends of all slots have no room
-pub load_room : (s : State) (n m : ℕ) (g : Lists) (known : List (Option ℕ)) (most : ℕ) → Closes s n m g known → 1 ≤ unknown known → length g.operations ≡ most → most < reserved s + last_size s.slots
+pub load_room : (s : State) (n m : ℕ) (g : Lists) (known : List (Option ℕ)) (most : ℕ) → Closes s n m g known → 1 ≤ unknown known → length g.operations ≡ most
+    → most < reserved s + last_size s.slots
 load_room s n m g known most h some all =
     let room = last_room s.slots h.from.variables in
     let grow = columns_grow s.slots n in
     omega (arith, h.count, h.room, h.part.stored, room, grow, outputs_so_far s n m g known h, some, all)
 
 -- an OUT
-pub out_room : (s : State) (n m : ℕ) (g : Lists) (known : List (Option ℕ)) (x : Slot) (most : ℕ) → Closes s n m g known → slice_get s.slots n ≡ Some x → is_output x.class ≡ true → length g.operations ≡ most → most < reserved s + last_size s.slots
+pub out_room : (s : State) (n m : ℕ) (g : Lists) (known : List (Option ℕ)) (x : Slot) (most : ℕ) → Closes s n m g known → slice_get s.slots n ≡ Some x
+    → is_output x.class ≡ true → length g.operations ≡ most → most < reserved s + last_size s.slots
 out_room s n m g known x most h e is_one all =
     let room = last_room s.slots h.from.variables in
     let grow = columns_grow s.slots (suc n) in
@@ -451,7 +497,8 @@ out_room s n m g known x most h e is_one all =
     omega (arith, h.count, h.room, h.part.stored, room, grow, next, one, outputs_so_far s n m g known h, all)
 
 -- a STORE
-pub store_room : (s : State) (n m : ℕ) (g : Lists) (known : List (Option ℕ)) (most : ℕ) → Closes s n m g known → m < length g.loads → length g.operations ≡ most → most < reserved s + last_size s.slots
+pub store_room : (s : State) (n m : ℕ) (g : Lists) (known : List (Option ℕ)) (most : ℕ) → Closes s n m g known → m < length g.loads → length g.operations ≡ most
+    → most < reserved s + last_size s.slots
 store_room s n m g known most h less all =
     let room = last_room s.slots h.from.variables in
     let grow = columns_grow s.slots n in
@@ -474,13 +521,19 @@ finishes s m g known full h = record {
   loads = h.loads;
   stops = h.stops;
   gives = λ cells row start now vs r loaded knows.
-      let f = h.gives cells row start now vs r loaded knows in
-      (f.0, f.1, f.3 ∙ ap (λ l. outputs l now) (take_all (length s.slots) s.slots (omega arith)), f.4 ∙ ap (map (λ (m : Loaded). at now m.name)) (take_all (length g.stores) g.loads (omega (arith, h.so_far, full))));
+      let f = h.gives cells row start now vs r loaded knows in (
+        f.0,
+        f.1,
+        f.3 ∙ ap (λ l. outputs l now) (take_all (length s.slots) s.slots (omega arith)),
+        f.4
+            ∙ ap (map (λ (m : Loaded). at now m.name)) (take_all (length g.stores) g.loads (omega (arith, h.so_far, full))),
+      );
 }
 
 -- ---- refusals of a builder
 
-pub refused_by : (r : Result ℕ Build) (n : ℕ) (P : Type 0) → ((r ≡ Err build.Full) ↔ (n ≡ most_operations)) → (n ≡ most_operations → P) → IfErr r (λ why. why ≡ build.Full → P)
+pub refused_by : (r : Result ℕ Build) (n : ℕ) (P : Type 0) → ((r ≡ Err build.Full) ↔ (n ≡ most_operations)) → (n ≡ most_operations → P)
+    → IfErr r (λ why. why ≡ build.Full → P)
 refused_by (Ok k) n P full p = tt
 refused_by (Err e) n P full p = λ is. p (full.0 (ap (λ x. Err x) is))
 

@@ -49,7 +49,8 @@ three_false false true c h = absurd cc
 three_false false false c h = (refl, refl, h)
 
 pub allows_three : (p : Profile) (a b c : Bool) → Allows p (a || b || c) → Allows p a × Allows p b × Allows p c
-allows_three p a b c h = ((λ narrow. (three_false a b c (h narrow)).0), (λ narrow. (three_false a b c (h narrow)).1), (λ narrow. (three_false a b c (h narrow)).2))
+allows_three p a b c h =
+    ((λ narrow. (three_false a b c (h narrow)).0), (λ narrow. (three_false a b c (h narrow)).1), (λ narrow. (three_false a b c (h narrow)).2))
 
 -- ---- types
 
@@ -91,9 +92,11 @@ value_admitted p (call f t es spot) h = admitted p t (allows_first p (is_lint t)
 
 -- ---- slots
 
-slots_narrow : (slots : List Slot) → list_any (λ (s : Slot). is_lint s.ty) slots ≡ false → (i : ℕ) (x : Slot) → slice_get slots i ≡ Some x → is_lint x.ty ≡ false
+slots_narrow : (slots : List Slot) → list_any (λ (s : Slot). is_lint s.ty) slots ≡ false → (i : ℕ) (x : Slot) → slice_get slots i ≡ Some x
+    → is_lint x.ty ≡ false
 slots_narrow [] h i x e = absurd cc
-slots_narrow (s ∷ slots) h zero x e = let same : s ≡ x = cc in subst (λ (y : Slot). is_lint y.ty ≡ false) same (first_false (is_lint s.ty) (list_any (λ (y : Slot). is_lint y.ty) slots) h)
+slots_narrow (s ∷ slots) h zero x e = let same : s ≡ x = cc in
+    subst (λ (y : Slot). is_lint y.ty ≡ false) same (first_false (is_lint s.ty) (list_any (λ (y : Slot). is_lint y.ty) slots) h)
 slots_narrow (s ∷ slots) h (suc i) x e = slots_narrow slots (second_false (is_lint s.ty) (list_any (λ (y : Slot). is_lint y.ty) slots) h) i x e
 
 pub slots_allowed : (p : Profile) (program : Program) → is_wide p ≡ wide program → SlotsAllowed p program.slots
@@ -117,7 +120,8 @@ arguments_admitted p (and_texpr e es) h = (
 same_types : (p : Profile) (ts us : List Ty) → Some ts ≡ Some us → AllAdmitted p us → AllAdmitted p ts
 same_types p ts us e h = let same : us ≡ ts = cc in subst (AllAdmitted p) same h
 
-last_admitted : (p : Profile) (f : Fun) (t : Ty) (ts : List Ty) → admits p t ≡ true → arguments f t ≡ Some ts → AllAdmitted p ts → admits p (last_type f t) ≡ true
+last_admitted : (p : Profile) (f : Fun) (t : Ty) (ts : List Ty) → admits p t ≡ true → arguments f t ≡ Some ts → AllAdmitted p ts
+    → admits p (last_type f t) ≡ true
 last_admitted p fun.Abs t ts h e all = h
 last_admitted p fun.Min t ts h e all = h
 last_admitted p fun.Max t ts h e all = h
@@ -138,13 +142,16 @@ last_admitted p fun.LintToDint ty.Lint ts h e all = absurd cc
 last_admitted p fun.BoolToInt t ts h e all = refl
 
 -- the types of a call
-pub call_admitted : (p : Profile) (f : Fun) (t : Ty) (es : TExprTrees) → arguments f t ≡ Some (tys_of es) → Allows p (is_lint t || exprs_are_wide es) → (admits p t ≡ true) × (admits p (last_type f t) ≡ true)
+pub call_admitted : (p : Profile) (f : Fun) (t : Ty) (es : TExprTrees) → arguments f t ≡ Some (tys_of es) → Allows p (is_lint t || exprs_are_wide es)
+    → (admits p t ≡ true) × (admits p (last_type f t) ≡ true)
 call_admitted p f t es e h =
     let own = admitted p t (allows_first p (is_lint t) (exprs_are_wide es) h) in
     (own, last_admitted p f t (tys_of es) own e (arguments_admitted p es (allows_second p (is_lint t) (exprs_are_wide es) h)))
 
 -- an argument, by its number
-pub argument_code : (p : Profile) (es : List TExpr) (i : ℕ) (e : TExpr) → slice_get es i ≡ Some e → Allows p (exprs_are_wide (texpr_trees es)) → Allows p (expr_is_wide (texpr_tree e))
+pub argument_code : (p : Profile) (es : List TExpr) (i : ℕ) (e : TExpr) → slice_get es i ≡ Some e → Allows p (exprs_are_wide (texpr_trees es))
+    → Allows p (expr_is_wide (texpr_tree e))
 argument_code p [] i e h all = absurd cc
-argument_code p (x ∷ es) zero e h all = let same : x ≡ e = cc in subst (λ y. Allows p (expr_is_wide (texpr_tree y))) same (allows_first p (expr_is_wide (texpr_tree x)) (exprs_are_wide (texpr_trees es)) all)
+argument_code p (x ∷ es) zero e h all = let same : x ≡ e = cc in
+    subst (λ y. Allows p (expr_is_wide (texpr_tree y))) same (allows_first p (expr_is_wide (texpr_tree x)) (exprs_are_wide (texpr_trees es)) all)
 argument_code p (x ∷ es) (suc i) e h all = argument_code p es i e h (allows_second p (expr_is_wide (texpr_tree x)) (exprs_are_wide (texpr_trees es)) all)

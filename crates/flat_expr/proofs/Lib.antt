@@ -6,7 +6,6 @@ pub mod Calls
 pub mod Codes
 pub mod Closing
 pub mod Exprs
-pub mod Guarded
 pub mod Loads
 pub mod Operators
 pub mod Ops

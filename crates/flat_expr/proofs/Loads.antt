@@ -1,5 +1,7 @@
 -- Loads: the first read of a slot.
-use Rattle.std.proofs.Common.{◌≡◌, ◌≢◌, ℕ, zero, suc, ◌<◌, ◌≤◌, ℤ, Bool, true, false, ◌&&◌, cond, List, [], ◌∷◌, ◌++◌, length, reverse, slice_get, get_or, set, Option, Some, None, Ok, Err, refl, sym, ap, ◌∙◌, subst, arith, length-append, length-set, get_or-set_same, get_or-set_other, ⊎_elim}
+use Rattle.std.proofs.Common.{◌≡◌, ◌≢◌, ℕ, zero, suc, ◌<◌, ◌≤◌, ℤ, Bool, true, false, ◌&&◌, cond, List, [], ◌∷◌, ◌++◌, length, reverse, slice_get, get_or, set}
+use Rattle.std.proofs.Common.{Option, Some, None, Ok, Err, refl, sym, ap, ◌∙◌, subst, arith, length-append, length-set, get_or-set_same, get_or-set_other}
+use Rattle.std.proofs.Common.{⊎_elim}
 use Rattle.std.proofs.lemmas.Bool.{cases_eq}
 use Rattle.std.proofs.lemmas.Option.{slice_get_within}
 use Rattle.vcp_base.specs.declared.ty.Ty.TheVariants as ty
@@ -21,7 +23,8 @@ use Rattle.flat_expr.proofs.Runs.{step, run-push, run-push_stops, run-length, at
 use Rattle.flat_expr.proofs.Steps.{follows-self, knows-kept}
 
 -- the slot is one known more
-pub unknown_set : (known : List (Option ℕ)) (slot k : ℕ) → slot < length known → get_or known slot None ≡ None → suc (unknown (set known slot (Some k))) ≡ unknown known
+pub unknown_set : (known : List (Option ℕ)) (slot k : ℕ) → slot < length known → get_or known slot None ≡ None
+    → suc (unknown (set known slot (Some k))) ≡ unknown known
 unknown_set [] slot k lt e = absurd (omega arith)
 unknown_set (None ∷ known) zero k lt e = refl
 unknown_set (Some j ∷ known) zero k lt e = absurd cc
@@ -37,7 +40,8 @@ others_fewer (s ∷ slots) = let h = others_fewer slots in by_class (is_input s.
     by_class false n m le = omega arith
 
 -- a slot that an operation holds
-pub held : (s : State) (slot k : ℕ) (x : Slot) → IsState s → slice_get s.slots slot ≡ Some x → get_or s.known slot None ≡ Some k → Makes s s x.ty 0 (reading slot) k
+pub held : (s : State) (slot k : ℕ) (x : Slot) → IsState s → slice_get s.slots slot ≡ Some x → get_or s.known slot None ≡ Some k
+    → Makes s s x.ty 0 (reading slot) k
 held s slot k x i e there = record {
   follows = follows-self s i;
   place = subst (IsPlace x.ty s.graph.operations) there (i.known slot x e);
@@ -71,7 +75,8 @@ load_entry s slot x = record { name = slot; ty = x.ty; init = x.init; load = len
 abbrev load_op : State → Slot → Op
 load_op s x = entry_op kind.Load x.ty 0 (length s.graph.loads) x.spot
 
-pub load_state : (s : State) (slot : ℕ) (x : Slot) → IsState s → slice_get s.slots slot ≡ Some x → get_or s.known slot None ≡ None → IsPart (with_load s.graph slot x.ty x.init x.spot) → IsState (loading s slot x)
+pub load_state : (s : State) (slot : ℕ) (x : Slot) → IsState s → slice_get s.slots slot ≡ Some x → get_or s.known slot None ≡ None
+    → IsPart (with_load s.graph slot x.ty x.init x.spot) → IsState (loading s slot x)
 load_state s slot x i e none part = record {
   part = part;
   code = i.code;
@@ -83,7 +88,8 @@ load_state s slot x i e none part = record {
       (λ (same : j ≡ slot).
       let xy : x ≡ y = let both : Some x ≡ Some y = sym e ∙ ap (slice_get s.slots) (sym same) ∙ ej in cc in
       subst (IsPlace y.ty (s.graph.operations ++ load_op s x ∷ []))
-      (sym (ap (λ n. get_or (set s.known slot (Some (length s.graph.operations))) n None) same ∙ get_or-set_same s.known slot (Some (length s.graph.operations)) None lt))
+      (sym (ap (λ n. get_or (set s.known slot (Some (length s.graph.operations))) n None) same
+      ∙ get_or-set_same s.known slot (Some (length s.graph.operations)) None lt))
       (isa_last y.ty s.graph.operations (load_op s x) (length s.graph.operations) refl (ap (λ (z : Slot). z.ty) xy)))
       (λ (other : j ≢ slot).
       subst (IsPlace y.ty (s.graph.operations ++ load_op s x ∷ []))
@@ -94,32 +100,53 @@ load_state s slot x i e none part = record {
   inputs = λ j y ej. ⊎_elim
       (λ (same : j ≡ slot).
       subst (IsHeld (is_input y.class))
-      (sym (ap (λ n. get_or (set s.known slot (Some (length s.graph.operations))) n None) same ∙ get_or-set_same s.known slot (Some (length s.graph.operations)) None lt))
+      (sym (ap (λ n. get_or (set s.known slot (Some (length s.graph.operations))) n None) same
+      ∙ get_or-set_same s.known slot (Some (length s.graph.operations)) None lt))
       (some_held (is_input y.class) (length s.graph.operations)))
-      (λ (other : j ≢ slot). subst (IsHeld (is_input y.class)) (sym (get_or-set_other s.known slot j (Some (length s.graph.operations)) None other)) (i.inputs j y ej))
+      (λ (other : j ≢ slot). subst (IsHeld (is_input y.class)) (sym (get_or-set_other s.known slot j (Some (length s.graph.operations)) None other))
+      (i.inputs j y ej))
       (cases_eq j slot);
   columns = i.columns;
   loads = λ n l q. ⊎_elim
       (λ (last : n ≡ length s.graph.loads).
-      let same : load_entry s slot x ≡ l = let both : Some (load_entry s slot x) ≡ Some l = sym (get_last s.graph.loads (load_entry s slot x)) ∙ ap (slice_get (s.graph.loads ++ load_entry s slot x ∷ [])) (sym last) ∙ q in cc in
-      subst (IsCell s.slots) same (record { of = x; there = e; variable = not_held (is_input x.class) (subst (IsHeld (is_input x.class)) none (i.inputs slot x e)); ty = refl; init = refl }))
+      let same : load_entry s slot x ≡ l = let both : Some (load_entry s slot x) ≡ Some l = sym (get_last s.graph.loads (load_entry s slot x))
+      ∙ ap (slice_get (s.graph.loads ++ load_entry s slot x ∷ [])) (sym last) ∙ q in cc in
+      subst (IsCell s.slots) same
+      (record {
+        of = x;
+        there = e;
+        variable = not_held (is_input x.class) (subst (IsHeld (is_input x.class)) none (i.inputs slot x e));
+        ty = refl;
+        init =
+            refl;
+      }))
       (λ (other : n ≢ length s.graph.loads).
       let below : n < length (s.graph.loads ++ load_entry s slot x ∷ []) = slice_get_within (s.graph.loads ++ load_entry s slot x ∷ []) n l q in
-      i.loads n l (sym (get_push s.graph.loads (load_entry s slot x) n (let count = length-append s.graph.loads (load_entry s slot x ∷ []) in omega (arith, other, below, count))) ∙ q))
+      i.loads n l (sym (get_push s.graph.loads (load_entry s slot x) n
+      (let count = length-append s.graph.loads (load_entry s slot x ∷ []) in omega (arith, other, below, count))) ∙ q))
       (cases_eq n (length s.graph.loads));
   held = λ n l q. ⊎_elim
       (λ (last : n ≡ length s.graph.loads).
-      let same : load_entry s slot x ≡ l = let both : Some (load_entry s slot x) ≡ Some l = sym (get_last s.graph.loads (load_entry s slot x)) ∙ ap (slice_get (s.graph.loads ++ load_entry s slot x ∷ [])) (sym last) ∙ q in cc in
+      let same : load_entry s slot x ≡ l = let both : Some (load_entry s slot x) ≡ Some l = sym (get_last s.graph.loads (load_entry s slot x))
+      ∙ ap (slice_get (s.graph.loads ++ load_entry s slot x ∷ [])) (sym last) ∙ q in cc in
       subst (λ (m : Loaded). IsHeld true (get_or (set s.known slot (Some (length s.graph.operations))) m.name None)) same
       (subst (IsHeld true) (sym (get_or-set_same s.known slot (Some (length s.graph.operations)) None lt)) tt))
       (λ (other : n ≢ length s.graph.loads).
       let below : n < length (s.graph.loads ++ load_entry s slot x ∷ []) = slice_get_within (s.graph.loads ++ load_entry s slot x ∷ []) n l q in
-      still_held s.known slot (length s.graph.operations) l.name (i.held n l (sym (get_push s.graph.loads (load_entry s slot x) n (let count = length-append s.graph.loads (load_entry s slot x ∷ []) in omega (arith, other, below, count))) ∙ q)))
+      still_held s.known slot (length s.graph.operations) l.name
+      (i.held n l (sym (get_push s.graph.loads (load_entry s slot x) n
+      (let count = length-append s.graph.loads (load_entry s slot x ∷ []) in omega (arith, other, below, count))) ∙ q)))
       (cases_eq n (length s.graph.loads));
   no_outputs = i.no_outputs;
   no_stores = i.no_stores;
   laws = i.laws;
-  cells = omega (arith, i.cells, unknown_set s.known slot (length s.graph.operations) lt none, length-append s.graph.loads ((record { name = slot; ty = x.ty; init = x.init; load = length s.graph.operations }) ∷ []));
+  cells = omega (
+    arith,
+    i.cells,
+    unknown_set s.known slot (length s.graph.operations) lt none,
+    length-append s.graph.loads
+        ((record { name = slot; ty = x.ty; init = x.init; load = length s.graph.operations }) ∷ []),
+  );
   path = place_push ty.Bool s.graph.operations (load_op s x) s.path i.path;
   turn = i.turn;
   nought = place_push ty.Int s.graph.operations (load_op s x) s.nought i.nought;
@@ -129,17 +156,22 @@ load_state s slot x i e none part = record {
     lt : slot < length s.known
     lt = omega (arith, slice_get_within s.slots slot x e, i.long)
 
-pub load_of : (s : State) (x : Slot) (cells row vs : List ℤ) → fits x.ty (at cells (length s.graph.loads)) ≡ true → step s.graph.turn_nodes cells row vs (load_op s x) ≡ Ok (at cells (length s.graph.loads))
+pub load_of : (s : State) (x : Slot) (cells row vs : List ℤ) → fits x.ty (at cells (length s.graph.loads)) ≡ true
+    → step s.graph.turn_nodes cells row vs (load_op s x) ≡ Ok (at cells (length s.graph.loads))
 load_of s x cells row vs e = go (fits x.ty v) e
   where
     v : ℤ
     v = at cells (length s.graph.loads)
 
-    go : (b : Bool) → b ≡ true → stopped (turns_back (reverse s.graph.turn_nodes) 0) (load_op s x) (cond (b && true && true) (cond false (Err why.DivZero) (cond b (Ok (at cells (length s.graph.loads))) (Err why.Range))) (Err why.Operand)) ≡ Ok (at cells (length s.graph.loads))
+    go : (b : Bool) → b ≡ true
+        → stopped (turns_back (reverse s.graph.turn_nodes) 0) (load_op s x)
+        (cond (b && true && true) (cond false (Err why.DivZero) (cond b (Ok (at cells (length s.graph.loads))) (Err why.Range))) (Err why.Operand)) ≡ Ok
+        (at cells (length s.graph.loads))
     go true h = refl
     go false h = absurd cc
 
-pub loaded : (s : State) (slot : ℕ) (x : Slot) → IsState s → IsState (loading s slot x) → slice_get s.slots slot ≡ Some x → get_or s.known slot None ≡ None → Makes s (loading s slot x) x.ty 0 (reading slot) (length s.graph.operations)
+pub loaded : (s : State) (slot : ℕ) (x : Slot) → IsState s → IsState (loading s slot x) → slice_get s.slots slot ≡ Some x → get_or s.known slot None ≡ None
+    → Makes s (loading s slot x) x.ty 0 (reading slot) (length s.graph.operations)
 loaded s slot x i j e none = record {
   follows = record {
     before = i;
@@ -162,15 +194,18 @@ loaded s slot x i j e none = record {
     stops = λ cells row r h. run-push_stops s.graph (load_op s x) cells row r h;
   };
   place = isa_last x.ty s.graph.operations (load_op s x) (length s.graph.operations) refl refl;
-  count = let fewer = unknown_set s.known slot (length s.graph.operations) (omega (arith, slice_get_within s.slots slot x e, i.long)) none in omega (arith, length-append s.graph.operations (load_op s x ∷ []), fewer);
+  count = let fewer = unknown_set s.known slot (length s.graph.operations) (omega (arith, slice_get_within s.slots slot x e, i.long)) none in
+      omega (arith, length-append s.graph.operations (load_op s x ∷ []), fewer);
   gives = λ cells row start now vs r loaded knows.
       let len = run-length s.graph cells row vs r in
       let here = loaded (length s.graph.loads) cell (get_last s.graph.loads cell) in
       let v = at cells (length s.graph.loads) in
       let ws = vs ++ v ∷ [] in
-      let ran : run (with_load s.graph slot x.ty x.init x.spot) cells row ≡ Ok ws = run-push s.graph (load_op s x) cells row vs r ∙ ap (λ q. and_then q (λ y. Ok (vs ++ y ∷ []))) (load_of s x cells row vs here.1) in
+      let ran : run (with_load s.graph slot x.ty x.init x.spot) cells row ≡ Ok ws = run-push s.graph (load_op s x) cells row vs r
+      ∙ ap (λ q. and_then q (λ y. Ok (vs ++ y ∷ []))) (load_of s x cells row vs here.1) in
       let last : at ws (length s.graph.operations) ≡ v = ap (at ws) (sym len) ∙ at-last vs v in
-      let before : at now slot ≡ at start slot = subst (λ o. KnowsOne o vs (at now slot) (at start slot)) none (knows.each slot (slice_get_within s.slots slot x e)) in
+      let before : at now slot ≡ at start slot =
+      subst (λ o. KnowsOne o vs (at now slot) (at start slot)) none (knows.each slot (slice_get_within s.slots slot x e)) in
       let is : at ws (length s.graph.operations) ≡ at now slot = last ∙ here.0 ∙ sym before in
       let kept = knows-kept s start now vs ws i len (at-front vs v) knows in (
         ws,
@@ -182,10 +217,12 @@ loaded s slot x i j e none = record {
             each = λ n lt. ⊎_elim
                 (λ (same : n ≡ slot).
                 subst (λ o. KnowsOne o ws (at now n) (at start n))
-                (sym (ap (λ m. get_or (set s.known slot (Some (length s.graph.operations))) m None) same ∙ get_or-set_same s.known slot (Some (length s.graph.operations)) None (omega (arith, slice_get_within s.slots slot x e, i.long))))
+                (sym (ap (λ m. get_or (set s.known slot (Some (length s.graph.operations))) m None) same
+                ∙ get_or-set_same s.known slot (Some (length s.graph.operations)) None (omega (arith, slice_get_within s.slots slot x e, i.long))))
                 (is ∙ ap (at now) (sym same)))
                 (λ (other : n ≢ slot).
-                subst (λ o. KnowsOne o ws (at now n) (at start n)) (sym (get_or-set_other s.known slot n (Some (length s.graph.operations)) None other)) (kept.each n lt))
+                subst (λ o. KnowsOne o ws (at now n) (at start n)) (sym (get_or-set_other s.known slot n (Some (length s.graph.operations)) None other))
+                (kept.each n lt))
                 (cases_eq n slot);
             nought = kept.nought;
             unit = kept.unit;
@@ -207,7 +244,8 @@ unknown_fewer (Some j ∷ known) zero k = omega arith
 unknown_fewer (None ∷ known) (suc slot) k = omega (arith, unknown_fewer known slot k)
 unknown_fewer (Some j ∷ known) (suc slot) k = unknown_fewer known slot k
 
-pub set_state : (s : State) (slot k : ℕ) → IsState s → slot < length s.slots → ((x : Slot) → slice_get s.slots slot ≡ Some x → IsA x.ty s.graph.operations k) → IsState (record s { known = set s.known slot (Some k) })
+pub set_state : (s : State) (slot k : ℕ) → IsState s → slot < length s.slots → ((x : Slot) → slice_get s.slots slot ≡ Some x → IsA x.ty s.graph.operations k)
+    → IsState (record s { known = set s.known slot (Some k) })
 set_state s slot k i lt fit = record {
   part = i.part;
   code = i.code;

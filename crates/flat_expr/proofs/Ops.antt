@@ -1,5 +1,6 @@
 -- Ops: operations that the rules allow, and the places of operands.
-use Rattle.std.proofs.Common.{◌≡◌, ℕ, zero, suc, ◌<◌, ◌≤◌, ℤ, pos, Bool, true, false, ◌&&◌, List, [], ◌∷◌, ◌++◌, length, slice_get, Option, Some, None, refl, ap, ◌∙◌, arith, nat_le}
+use Rattle.std.proofs.Common.{◌≡◌, ℕ, zero, suc, ◌<◌, ◌≤◌, ℤ, pos, Bool, true, false, ◌&&◌, List, [], ◌∷◌, ◌++◌, length, slice_get, Option, Some, None, refl}
+use Rattle.std.proofs.Common.{ap, ◌∙◌, arith, nat_le}
 use Rattle.std.proofs.lemmas.Bool.Decides.{nat_tests}
 use Rattle.std.proofs.lemmas.Option.{slice_get_within}
 use Rattle.vcp_base.specs.declared.spot.Spot.{Spot}
@@ -82,7 +83,8 @@ plain_fits k from to a b c spot turn nodes ops is types fa fb fc le =
 -- a constant
 pub const_fits : (to : Ty) (v : ℤ) (spot : Spot) (turn nodes : ℕ) (ops : List Op) → fits to v ≡ true → turn ≤ nodes →
     OpFits nowhere nodes ops (record { kind = kind.Const; from = to; ty = to; a = 0; b = 0; c = 0; imm = v; spot = spot; turn = turn })
-const_fits to v spot turn nodes ops h le = record { kind = refl; from = refl; ty = same_self to; a = refl; b = refl; c = refl; imm = h; turn = turn_is turn nodes le }
+const_fits to v spot turn nodes ops h le =
+    record { kind = refl; from = refl; ty = same_self to; a = refl; b = refl; c = refl; imm = h; turn = turn_is turn nodes le }
   where
     same_self : (t : Ty) → same_type t t ≡ true
     same_self ty.Bool = refl

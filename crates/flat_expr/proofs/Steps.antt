@@ -1,5 +1,6 @@
 -- Steps: what a step gives, and what one gives after another.
-use Rattle.std.proofs.Common.{◌≡◌, ◌≢◌, ℕ, zero, suc, ◌+◌, ◌<◌, ◌≤◌, ℤ, pos, true, cond, List, [], ◌∷◌, ◌++◌, length, slice_get, get_or, Option, Some, None, Result, Ok, Err, refl, sym, ap, ◌∙◌, subst, arith, length-append, nat_lt}
+use Rattle.std.proofs.Common.{◌≡◌, ◌≢◌, ℕ, zero, suc, ◌+◌, ◌<◌, ◌≤◌, ℤ, pos, true, cond, List, [], ◌∷◌, ◌++◌, length, slice_get, get_or, Option, Some, None}
+use Rattle.std.proofs.Common.{Result, Ok, Err, refl, sym, ap, ◌∙◌, subst, arith, length-append, nat_lt}
 use Rattle.vcp_base.specs.declared.spot.Spot.{Spot}
 use Rattle.vcp_base.specs.declared.ty.Ty.{Ty}
 use Rattle.vcp_base.specs.declared.ty.Ty.TheVariants as ty
@@ -14,7 +15,8 @@ use Rattle.vcp_base.specs.Values.{at}
 use Rattle.op_graph.specs.GraphRun.{own, operand, read, outcome_of}
 use Rattle.vcp_typed.specs.declared.slot.Slot.{Slot}
 use Rattle.vcp_typed.specs.Meaning.{Stop, and_then}
-use Rattle.flat_expr.specs.State.{State, IsState, IsA, IsPlace, active, KnowsOne, IsNumber, Knows, AreLoaded, exactly, IsValue, Kept, Ends, Follows, Meant, Makes, pushed, Pushes, act, acts, is_plain, given, run, op_at}
+use Rattle.flat_expr.specs.State.{State, IsState, IsA, IsPlace, active, KnowsOne, IsNumber, Knows, AreLoaded, exactly, IsValue, Kept, Ends, Follows, Meant}
+use Rattle.flat_expr.specs.State.{Makes, pushed, Pushes, act, acts, is_plain, given, run, op_at}
 use Rattle.flat_expr.proofs.Ops.{plain, isa_below, isa_push, isa_last, place_push}
 use Rattle.flat_expr.proofs.Runs.{step, run-push, run-push_stops, run-length, no_operand, act_is, Typed, typed, at-front, at-last, kept-trans, active-kept}
 
@@ -103,11 +105,13 @@ follows-pushed s op i j = record {
 
 -- ---- what is known stays
 
-pub knows_one-kept : (t : Ty) (s : State) (o : Option ℕ) (vs ws : List ℤ) (x y : ℤ) → IsPlace t s.graph.operations o → length vs ≡ length s.graph.operations → Kept vs ws → KnowsOne o vs x y → KnowsOne o ws x y
+pub knows_one-kept : (t : Ty) (s : State) (o : Option ℕ) (vs ws : List ℤ) (x y : ℤ) → IsPlace t s.graph.operations o → length vs ≡ length s.graph.operations
+    → Kept vs ws → KnowsOne o vs x y → KnowsOne o ws x y
 knows_one-kept t s None vs ws x y p e h g = g
 knows_one-kept t s (Some k) vs ws x y p e h g = h k (omega (arith, isa_below t s.graph.operations k p)) ∙ g
 
-number-kept : (t : Ty) (s : State) (o : Option ℕ) (n : ℤ) (vs ws : List ℤ) → IsPlace t s.graph.operations o → length vs ≡ length s.graph.operations → Kept vs ws → IsNumber o n vs → IsNumber o n ws
+number-kept : (t : Ty) (s : State) (o : Option ℕ) (n : ℤ) (vs ws : List ℤ) → IsPlace t s.graph.operations o → length vs ≡ length s.graph.operations → Kept vs ws
+    → IsNumber o n vs → IsNumber o n ws
 number-kept t s None n vs ws p e h g = g
 number-kept t s (Some k) n vs ws p e h g = h k (omega (arith, isa_below t s.graph.operations k p)) ∙ g
 
@@ -117,7 +121,8 @@ slot_there (x ∷ slots) zero lt = (x, refl)
 slot_there (x ∷ slots) (suc i) lt = slot_there slots i (omega arith)
 
 -- the same things are known of values that have more operations, where the state knows the same
-pub knows-kept : (s : State) (start now vs ws : List ℤ) → IsState s → length vs ≡ length s.graph.operations → Kept vs ws → Knows s start now vs → Knows s start now ws
+pub knows-kept : (s : State) (start now vs ws : List ℤ) → IsState s → length vs ≡ length s.graph.operations → Kept vs ws → Knows s start now vs
+    → Knows s start now ws
 knows-kept s start now vs ws i e h g = record {
   long = g.long;
   each = λ slot lt.
@@ -144,7 +149,8 @@ pub tells-exactly : (r : Result ℤ Stop) → Tells (exactly r) r
 tells-exactly (Ok v) = refl
 tells-exactly (Err s) = refl
 
-ends_of : (P : Option ℤ → List ℤ → Type 0) (m : Result (Option ℤ) Stop) (r : Result ℤ Stop) (vs : List ℤ) (all : Result (List ℤ) Stop) → Tells m r → all ≡ and_then r (λ v. Ok (vs ++ v ∷ [])) → ((o : Option ℤ) (v : ℤ) → IsValue o v → P o (vs ++ v ∷ [])) → Ends P m all
+ends_of : (P : Option ℤ → List ℤ → Type 0) (m : Result (Option ℤ) Stop) (r : Result ℤ Stop) (vs : List ℤ) (all : Result (List ℤ) Stop) → Tells m r
+    → all ≡ and_then r (λ v. Ok (vs ++ v ∷ [])) → ((o : Option ℤ) (v : ℤ) → IsValue o v → P o (vs ++ v ∷ [])) → Ends P m all
 ends_of P (Ok None) (Ok v) vs all h e f = (vs ++ v ∷ [], e, f None v tt)
 ends_of P (Ok (Some x)) (Ok v) vs all h e f = (vs ++ v ∷ [], e, f (Some x) v h)
 ends_of P (Ok None) (Err s) vs all h e f = absurd h
@@ -158,7 +164,8 @@ value_at (Some v) x y e h = e ∙ h
 
 -- an operation whose outcome is what is meant
 pub made_of : (s : State) (op : Op) (k : ℕ) (m : Meant) → IsState s → IsState (pushed s op) → k ≡ length s.graph.operations →
-    ((cells row start now vs : List ℤ) → outcome_of cells row vs op ≢ Err why.Operand → AreLoaded s.graph.loads cells start → Typed s.graph.operations vs → Tells (m now vs) (step s.graph.turn_nodes cells row vs op)) →
+    ((cells row start now vs : List ℤ) → outcome_of cells row vs op ≢ Err why.Operand → AreLoaded s.graph.loads cells start → Typed s.graph.operations vs
+    → Tells (m now vs) (step s.graph.turn_nodes cells row vs op)) →
     Makes s (pushed s op) op.ty 1 m k
 made_of s op k m i j place tells = record {
   follows = follows-pushed s op i j;
@@ -167,7 +174,8 @@ made_of s op k m i j place tells = record {
   gives = λ cells row start now vs r loaded knows.
       let len = run-length s.graph cells row vs r in
       ends_of _ (m now vs) (step s.graph.turn_nodes cells row vs op) vs (run (with_op s.graph op) cells row)
-      (tells cells row start now vs (no_operand i.laws s.graph op cells row start vs j.part loaded r) loaded (typed i.laws s.graph cells row start vs i.part loaded r))
+      (tells cells row start now vs (no_operand i.laws s.graph op cells row start vs j.part loaded r) loaded
+      (typed i.laws s.graph cells row start vs i.part loaded r))
       (run-push s.graph op cells row vs r)
       (λ o v h. (
         at-front vs v,
@@ -178,16 +186,19 @@ made_of s op k m i j place tells = record {
 
 -- the same of a call
 pub made : (old new : State) (op : Op) (k : ℕ) (m : Meant) → Pushes old new op k →
-    ((cells row start now vs : List ℤ) → outcome_of cells row vs op ≢ Err why.Operand → AreLoaded old.graph.loads cells start → Typed old.graph.operations vs → Tells (m now vs) (step old.graph.turn_nodes cells row vs op)) →
+    ((cells row start now vs : List ℤ) → outcome_of cells row vs op ≢ Err why.Operand → AreLoaded old.graph.loads cells start → Typed old.graph.operations vs
+    → Tells (m now vs) (step old.graph.turn_nodes cells row vs op)) →
     Makes old new op.ty 1 m k
 made old new op k m p tells =
     subst (λ x. Makes old x op.ty 1 m k) (sym p.is) (made_of old op k m p.before (subst IsState p.is p.after) p.place tells)
 
-operand_is : (cells vs : List ℤ) (op : Op) (j n : ℕ) → ((cs ws : List ℤ) (imm : ℤ) (m : ℕ) → read cs ws op.kind imm m ≡ at ws m) → operand cells vs op j n ≡ given op.kind vs j n
+operand_is : (cells vs : List ℤ) (op : Op) (j n : ℕ) → ((cs ws : List ℤ) (imm : ℤ) (m : ℕ) → read cs ws op.kind imm m ≡ at ws m)
+    → operand cells vs op j n ≡ given op.kind vs j n
 operand_is cells vs op j n h = ap (λ x. cond (nat_lt j (operands op.kind)) x (pos 0)) (h cells vs op.imm n)
 
 -- a plain operation
-pub made_plain : (old new : State) (k : Kind) (from to : Ty) (a b c : ℕ) (spot : Spot) (n : ℕ) → is_plain k ≡ true → Pushes old new (op_at old k from to a b c (pos 0) spot) n → Makes old new to 1 (acts old k to a b c spot) n
+pub made_plain : (old new : State) (k : Kind) (from to : Ty) (a b c : ℕ) (spot : Spot) (n : ℕ) → is_plain k ≡ true
+    → Pushes old new (op_at old k from to a b c (pos 0) spot) n → Makes old new to 1 (acts old k to a b c spot) n
 made_plain old new k from to a b c spot n is p =
     let op = op_at old k from to a b c (pos 0) spot in
     let q = plain k is in
@@ -202,7 +213,8 @@ made_plain old new k from to a b c spot n is p =
     ∙ ap (λ x. act turns k to spot (pos 0) x (operand cells vs op 1 b) (operand cells vs op 2 c)) e1
     ∙ ap (λ x. act turns k to spot (pos 0) (given k vs 0 a) x (operand cells vs op 2 c)) e2
     ∙ ap (λ x. act turns k to spot (pos 0) (given k vs 0 a) (given k vs 1 b) x) e3 in
-    subst (λ r. Tells (acts old k to a b c spot now vs) r) (sym e) (tells-exactly (act turns k to spot (pos 0) (given k vs 0 a) (given k vs 1 b) (given k vs 2 c))))
+    subst (λ r. Tells (acts old k to a b c spot now vs) r) (sym e)
+    (tells-exactly (act turns k to spot (pos 0) (given k vs 0 a) (given k vs 1 b) (given k vs 2 c))))
 
 -- ---- one step after another
 
@@ -228,19 +240,22 @@ pub record Leads (old mid : State) (a : ℕ) (m1 m2 m : Meant) : Type 0 where
   pub goes : (now vs ws : List ℤ) (o : Option ℤ) → m1 now vs ≡ Ok o → ((t : Ty) (k : ℕ) → IsA t old.graph.operations k → at ws k ≡ at vs k) →
       active mid.path ws ≡ active old.path vs → Typed mid.graph.operations ws → IsValue o (at ws a) → AsGood (m2 now ws) (m now vs)
 
-ends-good : (P : Option ℤ → List ℤ → Type 0) (q r : Result (Option ℤ) Stop) (all : Result (List ℤ) Stop) → ((ws : List ℤ) (o : Option ℤ) → P o ws → P None ws) → AsGood q r → Ends P q all → Ends P r all
+ends-good : (P : Option ℤ → List ℤ → Type 0) (q r : Result (Option ℤ) Stop) (all : Result (List ℤ) Stop) → ((ws : List ℤ) (o : Option ℤ) → P o ws → P None ws)
+    → AsGood q r → Ends P q all → Ends P r all
 ends-good P (Ok o) (Ok None) all f g h = (h.0, h.1, f h.0 o h.2)
 ends-good P (Ok o) (Ok (Some v)) all f g h = (h.0, h.1, subst (λ x. P x h.0) g h.2)
 ends-good P (Ok o) (Err s) all f g h = absurd g
 ends-good P (Err s) (Ok o) all f g h = absurd g
 ends-good P (Err s) (Err r) all f g h = h ∙ ap (λ x. Err x) g
 
-ends-then : (P Q : Option ℤ → List ℤ → Type 0) (m1 m : Result (Option ℤ) Stop) (r1 r2 : Result (List ℤ) Stop) → Ends P m1 r1 → ((s : Stop) → r1 ≡ Err s → r2 ≡ Err s) → ((s : Stop) → m1 ≡ Err s → m ≡ Err s) →
+ends-then : (P Q : Option ℤ → List ℤ → Type 0) (m1 m : Result (Option ℤ) Stop) (r1 r2 : Result (List ℤ) Stop) → Ends P m1 r1
+    → ((s : Stop) → r1 ≡ Err s → r2 ≡ Err s) → ((s : Stop) → m1 ≡ Err s → m ≡ Err s) →
     ((o : Option ℤ) (ws : List ℤ) → m1 ≡ Ok o → r1 ≡ Ok ws → P o ws → Ends Q m r2) → Ends Q m r2
 ends-then P Q (Ok o) m r1 r2 h f g next = next o h.0 refl h.1 h.2
 ends-then P Q (Err s) m r1 r2 h f g next = subst (λ x. Ends Q x r2) (sym (g s refl)) (f s h)
 
-pub then : (s0 s1 s2 : State) (t1 t2 : Ty) (n1 n2 : ℕ) (m1 m2 m : Meant) (a b : ℕ) → Makes s0 s1 t1 n1 m1 a → Makes s1 s2 t2 n2 m2 b → Leads s0 s1 a m1 m2 m → Makes s0 s2 t2 (n1 + n2) m b
+pub then : (s0 s1 s2 : State) (t1 t2 : Ty) (n1 n2 : ℕ) (m1 m2 m : Meant) (a b : ℕ) → Makes s0 s1 t1 n1 m1 a → Makes s1 s2 t2 n2 m2 b → Leads s0 s1 a m1 m2 m
+    → Makes s0 s2 t2 (n1 + n2) m b
 then s0 s1 s2 t1 t2 n1 n2 m1 m2 m a b f g lead = record {
   follows = follows-trans s0 s1 s2 f.follows g.follows;
   place = g.place;
@@ -257,7 +272,8 @@ then s0 s1 s2 t1 t2 n1 n2 m1 m2 m a b f g lead = record {
       (λ o ws e r1 p.
       let len1 = run-length s1.graph cells row ws r1 in
       let kept : (t : Ty) (k : ℕ) → IsA t s0.graph.operations k → at ws k ≡ at vs k = λ t k h. p.0 k (omega (arith, isa_below t s0.graph.operations k h)) in
-      let act1 : active s1.path ws ≡ active s0.path vs = ap (λ x. active x ws) f.follows.path ∙ active-kept ty.Bool s0.graph.operations s0.path vs ws f.follows.before.path len0 p.0 in
+      let act1 : active s1.path ws ≡ active s0.path vs = ap (λ x. active x ws) f.follows.path
+      ∙ active-kept ty.Bool s0.graph.operations s0.path vs ws f.follows.before.path len0 p.0 in
       let types = typed f.follows.after.laws s1.graph cells row start ws f.follows.after.part loaded1 r1 in
       let good = lead.goes now vs ws o e kept act1 types p.2 in
       let longer : length vs ≤ length ws = omega (arith, f.follows.longer) in
@@ -266,18 +282,22 @@ then s0 s1 s2 t1 t2 n1 n2 m1 m2 m a b f g lead = record {
       ends-weaker Q1 Q (m now vs) (run s2.graph cells row) (λ x us q. (kept-trans vs ws us longer p.0 q.0, q.1, q.2)) h1);
 }
   where
-    ends-weaker : (P Q : Option ℤ → List ℤ → Type 0) (x : Result (Option ℤ) Stop) (all : Result (List ℤ) Stop) → ((o : Option ℤ) (ws : List ℤ) → P o ws → Q o ws) → Ends P x all → Ends Q x all
+    ends-weaker : (P Q : Option ℤ → List ℤ → Type 0) (x : Result (Option ℤ) Stop) (all : Result (List ℤ) Stop)
+        → ((o : Option ℤ) (ws : List ℤ) → P o ws → Q o ws) → Ends P x all → Ends Q x all
     ends-weaker P Q (Ok o) all h e = (e.0, e.1, h o e.0 e.2)
     ends-weaker P Q (Err s) all h e = e
 
 -- a step that means less, and may take more
-pub weaker : (s0 s1 : State) (t : Ty) (n1 n2 : ℕ) (m1 m2 : Meant) (k : ℕ) → n1 ≤ n2 → ((now vs : List ℤ) → Typed s0.graph.operations vs → AsGood (m1 now vs) (m2 now vs)) → Makes s0 s1 t n1 m1 k → Makes s0 s1 t n2 m2 k
+pub weaker : (s0 s1 : State) (t : Ty) (n1 n2 : ℕ) (m1 m2 : Meant) (k : ℕ) → n1 ≤ n2
+    → ((now vs : List ℤ) → Typed s0.graph.operations vs → AsGood (m1 now vs) (m2 now vs)) → Makes s0 s1 t n1 m1 k → Makes s0 s1 t n2 m2 k
 weaker s0 s1 t n1 n2 m1 m2 k le good f = record {
   follows = f.follows;
   place = f.place;
   count = omega (arith, f.count);
   gives = λ cells row start now vs r loaded knows.
-      ends-good _ (m1 now vs) (m2 now vs) (run s1.graph cells row) (λ us x q. (q.0, q.1, tt)) (good now vs (typed f.follows.before.laws s0.graph cells row start vs f.follows.before.part (f.follows.loads cells start loaded) r)) (f.gives cells row start now vs r loaded knows);
+      ends-good _ (m1 now vs) (m2 now vs) (run s1.graph cells row) (λ us x q. (q.0, q.1, tt))
+      (good now vs (typed f.follows.before.laws s0.graph cells row start vs f.follows.before.part (f.follows.loads cells start loaded) r))
+      (f.gives cells row start now vs r loaded knows);
 }
 
 -- no step at all: the value that a place has

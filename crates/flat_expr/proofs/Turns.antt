@@ -1,5 +1,6 @@
 -- Turns: one turn node more changes no turn that is there, and so no stop.
-use Rattle.std.proofs.Common.{◌≡◌, ℕ, zero, suc, ◌+◌, ◌≤◌, ◌==◌, ℤ, true, false, cond, List, [], ◌∷◌, ◌++◌, length, length-append, reverse, take, slice_get, Option, Some, None, Result, Ok, Err, refl, ap, ◌∙◌, arith}
+use Rattle.std.proofs.Common.{◌≡◌, ℕ, zero, suc, ◌+◌, ◌≤◌, ◌==◌, ℤ, true, false, cond, List, [], ◌∷◌, ◌++◌, length, length-append, reverse, take, slice_get}
+use Rattle.std.proofs.Common.{Option, Some, None, Result, Ok, Err, refl, ap, ◌∙◌, arith}
 use Rattle.std.proofs.lemmas.List.{reverse-append, length-reverse}
 use Rattle.std.proofs.lemmas.Bool.Decides.{nat_tests}
 use Rattle.op_graph.specs.declared.op.Op.{Op}
@@ -29,10 +30,12 @@ and_then-both : {A B : Type 0} (r q : Result A Stop) (f g : A → Result B Stop)
 and_then-both (Ok x) q f g e h = h x ∙ ap (λ r. and_then r g) e
 and_then-both (Err s) q f g e h = ap (λ r. and_then r g) e
 
-pub run_more : (nodes : List TurnNode) (t : TurnNode) (cells row vs : List ℤ) (ops : List Op) → TurnsThere (length nodes) ops → run_from (nodes ++ t ∷ []) cells row vs ops ≡ run_from nodes cells row vs ops
+pub run_more : (nodes : List TurnNode) (t : TurnNode) (cells row vs : List ℤ) (ops : List Op) → TurnsThere (length nodes) ops
+    → run_from (nodes ++ t ∷ []) cells row vs ops ≡ run_from nodes cells row vs ops
 run_more nodes t cells row vs [] h = refl
 run_more nodes t cells row vs (op ∷ ops) h =
-    and_then-both _ _ _ _ (ap (λ u. stopped u op (outcome_of cells row vs op)) (turns_more nodes t op.turn h.0)) (λ v. run_more nodes t cells row (vs ++ v ∷ []) ops h.1)
+    and_then-both _ _ _ _ (ap (λ u. stopped u op (outcome_of cells row vs op)) (turns_more nodes t op.turn h.0))
+    (λ v. run_more nodes t cells row (vs ++ v ∷ []) ops h.1)
 
 turn_there : (o : Option Entry) (turns n : ℕ) → turn_fits o turns n ≡ true → n ≤ turns
 turn_there None turns n h = grind (arith, nat_tests)
@@ -44,14 +47,17 @@ all_there n (op ∷ ops) h = (h zero op refl, all_there n ops (λ i o e. h (suc 
 
 -- the rules of the operations of unfinished graphs
 abbrev pub OperationLaw : Type 0
-OperationLaw = (g : Lists) (k : ℕ) (op : Op) → IsPart g → slice_get g.operations k ≡ Some op → OpFits (place_of (scope g) k) (length g.turn_nodes) (take k g.operations) op
+OperationLaw =
+    (g : Lists) (k : ℕ) (op : Op) → IsPart g → slice_get g.operations k ≡ Some op → OpFits (place_of (scope g) k) (length g.turn_nodes) (take k g.operations) op
 
-last_turn : (nodes : List TurnNode) (t : TurnNode) → turns_back (reverse (nodes ++ t ∷ [])) (length nodes + 1) ≡ turns_back (reverse nodes) t.parent ++ turn_of t ∷ []
+last_turn : (nodes : List TurnNode) (t : TurnNode)
+    → turns_back (reverse (nodes ++ t ∷ [])) (length nodes + 1) ≡ turns_back (reverse nodes) t.parent ++ turn_of t ∷ []
 last_turn nodes t =
     let here : (suc (length (reverse nodes)) == length nodes + 1) ≡ true = let e = length-reverse nodes in grind (arith, nat_tests) in
     ap (λ l. turns_back l (length nodes + 1)) (reverse-append nodes (t ∷ [])) ∙ rw here refl
 
-pub nested : (s : State) (node : TurnNode) → IsState s → IsPart (with_turn_node s.graph node) → OperationLaw → Nests s (record s { graph = with_turn_node s.graph node }) node (length s.graph.turn_nodes + 1)
+pub nested : (s : State) (node : TurnNode) → IsState s → IsPart (with_turn_node s.graph node) → OperationLaw
+    → Nests s (record s { graph = with_turn_node s.graph node }) node (length s.graph.turn_nodes + 1)
 nested s node i part law = record {
   before = i;
   after = record {
@@ -80,7 +86,8 @@ nested s node i part law = record {
   is = refl;
   runs = λ cells row.
       run_more s.graph.turn_nodes node cells row [] s.graph.operations
-      (all_there (length s.graph.turn_nodes) s.graph.operations (λ k op e. turn_there (entry_of (place_of (scope s.graph) k) op.kind) (length s.graph.turn_nodes) op.turn (law s.graph k op i.part e).turn));
+      (all_there (length s.graph.turn_nodes) s.graph.operations
+      (λ k op e. turn_there (entry_of (place_of (scope s.graph) k) op.kind) (length s.graph.turn_nodes) op.turn (law s.graph k op i.part e).turn));
   turns = λ k le. turns_more s.graph.turn_nodes node k le;
   here = last_turn s.graph.turn_nodes node;
 }

@@ -28,7 +28,8 @@ slot name c = record { name = name; spot = record { line = 0; col = 0 }; class =
 program : Program
 program = record {
   slots = slot (120 ∷ []) class.Input ∷ slot (121 ∷ []) class.Output ∷ slot (105 ∷ []) class.Local ∷ [];
-  body = and_tstmt (for_ 2 (pos 3) (pos 1) 1 (and_tstmt (assign 1 (binary bin.Div ty.Int (get 0 ty.Int) (get 0 ty.Int) place) place) no_tstmts) place) no_tstmts;
+  body = and_tstmt
+      (for_ 2 (pos 3) (pos 1) 1 (and_tstmt (assign 1 (binary bin.Div ty.Int (get 0 ty.Int) (get 0 ty.Int) place) place) no_tstmts) place) no_tstmts;
 }
 
 graph : Lists
@@ -49,7 +50,8 @@ rows : List (List ℤ)
 rows = (pos 6 ∷ []) ∷ (pos 0 ∷ []) ∷ (pos 2 ∷ []) ∷ []
 
 -- the second cycle stops at the division, in the turn i = 3
-source-stops : told_source program rows ≡ record { rows = (pos 1 ∷ []) ∷ []; end = Some (record { kind = why.DivZero; spot = place; turns = (record { name = 105 ∷ []; value = pos 3 }) ∷ [] }) }
+source-stops : told_source program rows
+    ≡ record { rows = (pos 1 ∷ []) ∷ []; end = Some (record { kind = why.DivZero; spot = place; turns = (record { name = 105 ∷ []; value = pos 3 }) ∷ [] }) }
 unfolding program slot place rows
 source-stops = refl
 
@@ -100,7 +102,8 @@ codes-are-theirs : (wide program ≡ false) × (wide lint_program ≡ true)
 unfolding program lint_program slot lint_slot place
 codes-are-theirs = (refl, refl)
 
-lint-stops : told_source lint_program lint_rows ≡ record { rows = (pos 9223372036854775807 ∷ []) ∷ []; end = Some (record { kind = why.Range; spot = place; turns = [] }) }
+lint-stops : told_source lint_program lint_rows
+    ≡ record { rows = (pos 9223372036854775807 ∷ []) ∷ []; end = Some (record { kind = why.Range; spot = place; turns = [] }) }
 unfolding lint_program lint_slot place lint_rows
 lint-stops = refl
 

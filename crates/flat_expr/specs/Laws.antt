@@ -16,9 +16,11 @@ pub record Laws : Type 0 where
   -- a run without a stop has a value for each operation
   pub long : (g : Lists) (cells row vs : List ℤ) → run g cells row ≡ Ok vs → length vs ≡ length g.operations
   -- an operation's value may be read where the operation may
-  pub typed : (s : State) (cells row start vs : List ℤ) (t : Ty) (k : ℕ) → IsState s → run s.graph cells row ≡ Ok vs → AreLoaded s.graph.loads cells start → IsA t s.graph.operations k → fits t (at vs k) ≡ true
+  pub typed : (s : State) (cells row start vs : List ℤ) (t : Ty) (k : ℕ) → IsState s → run s.graph cells row ≡ Ok vs → AreLoaded s.graph.loads cells start
+      → IsA t s.graph.operations k → fits t (at vs k) ≡ true
   -- what is known stays where the earlier values stay
-  pub knows : (s : State) (start now vs ws : List ℤ) → IsState s → length vs ≡ length s.graph.operations → Kept vs ws → Knows s start now vs → Knows s start now ws
+  pub knows : (s : State) (start now vs ws : List ℤ) → IsState s → length vs ≡ length s.graph.operations → Kept vs ws → Knows s start now vs
+      → Knows s start now ws
   pub follows : (a b c : State) → Follows a b → Follows b c → Follows a c
   -- an expression's value has a type of the code that the expression stands in
   pub value : (p : Profile) (e : TExprTree) → Allows p (expr_is_wide e) → admits p (ty_of e) ≡ true

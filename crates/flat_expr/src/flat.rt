@@ -1,6 +1,7 @@
 //! The state of a flattening.
 
-ghost use Rattle.std.specs.Prelude.{◌≡◌, ◌<◌, ◌≤◌, ◌↔◌, ◌+◌, ℤ, true, length, get_or, slice_get, set, Some, None, Ok, Err, IfOk, IfErr, OnOk, OnErr, [], All, cond};
+ghost use Rattle.std.specs.Prelude.{◌≡◌, ◌<◌, ◌≤◌, ◌↔◌, ◌+◌, ℤ, true, length, get_or, slice_get, set, Some, None, Ok, Err, IfOk, IfErr, OnOk, OnErr, [], All};
+ghost use Rattle.std.specs.Prelude.{cond};
 ghost use Rattle.op_graph.specs.Rules.{OpFits, Admitted, TurnNodeFits, operand_fits, types_fit, is_number};
 ghost use Rattle.op_graph.specs.Building.{nowhere, with_input};
 ghost use Rattle.op_graph.specs.Lists.{nothing};
@@ -8,7 +9,10 @@ ghost use Rattle.op_graph.specs.declared.build.Build.TheVariants as build;
 ghost use Rattle.vcp_base.specs.declared.ty.Ty.TheVariants as type_of;
 ghost use Rattle.flat_expr.specs.Begin.{entered, held_from};
 ghost use Rattle.flat_expr.specs.Laws.{Laws};
-ghost use Rattle.flat_expr.specs.State.{IsState, IsPlace, IsA, Pushes, Makes, is_plain, reads, acts, giving, neutral as neutral_of, neutral_place, with_neutral, masks, guards, is_arithmetic, divides, is_comparison, denies, operates, signs, reading, Flattens, FlattensOne, FunFits, last_type, Allows, SlotsAllowed, applies, argument as argument_of, one_size, picks, limits, selects, narrows, copies, sizes_up, placed, Refuses, Assigns, Nests, Begins, Finishes, reserved, last_size};
+ghost use Rattle.flat_expr.specs.State.{IsState, IsPlace, IsA, Pushes, Makes, is_plain, reads, acts, giving, neutral as neutral_of, neutral_place};
+ghost use Rattle.flat_expr.specs.State.{with_neutral, masks, guards, is_arithmetic, divides, is_comparison, denies, operates, signs, reading, Flattens};
+ghost use Rattle.flat_expr.specs.State.{FlattensOne, FunFits, last_type, Allows, SlotsAllowed, applies, argument as argument_of, one_size, picks, limits};
+ghost use Rattle.flat_expr.specs.State.{selects, narrows, copies, sizes_up, placed, Refuses, Assigns, Nests, Begins, Finishes, reserved, last_size};
 ghost use Rattle.flat_expr.specs.Told.{names_of};
 ghost use Rattle.vcp_base.specs.declared.kind.Kind.TheVariants as kind_of;
 ghost use Rattle.vcp_typed.specs.declared.slot.Slot.{Slot as SlotOf};
@@ -50,9 +54,18 @@ impl<'a> Model for Flat<'a> {
 
     ghost Value = { State };
 
-    ghost view = { λ f. record { slots = f.slots.now.items.items; graph = f.graph; known = f.known.items; path = f.path; turn = f.turn; nought = f.nought; unit = f.unit } };
+    ghost view = { λ f. record {
+      slots = f.slots.now.items.items;
+      graph = f.graph;
+      known = f.known.items;
+      path = f.path;
+      turn = f.turn;
+      nought = f.nought;
+      unit = f.unit;
+    } };
 
-    ghost invariant = { λ f. IsState (record { slots = f.slots.now.items.items; graph = f.graph; known = f.known.items; path = f.path; turn = f.turn; nought = f.nought; unit = f.unit }) };
+    ghost invariant = { λ f. IsState
+        (record { slots = f.slots.now.items.items; graph = f.graph; known = f.known.items; path = f.path; turn = f.turn; nought = f.nought; unit = f.unit }) };
 }
 
 /// The code of a program: the wide one where it has values of LINT.

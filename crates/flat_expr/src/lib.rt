@@ -10,6 +10,3 @@ mod ending;
 mod flat;
 
 pub use flat::{Flat, laws_of_states};
-
-#[cfg(test)]
-mod tests;

@@ -18,7 +18,8 @@ pub ends_then : {A B : Type 0} (P : A → List ℤ → Type 0) (Q : B → List �
 ends_then P Q (Ok a) g r1 r2 h stops next = next a h.0 h.1 h.2
 ends_then P Q (Err s) g r1 r2 h stops next = stops s h
 
-pub ends_weaker : {A : Type 0} (P Q : A → List ℤ → Type 0) (x : Result A Stop) (r : Result (List ℤ) Stop) → ((a : A) (ws : List ℤ) → r ≡ Ok ws → P a ws → Q a ws) → EndsIn P x r → EndsIn Q x r
+pub ends_weaker : {A : Type 0} (P Q : A → List ℤ → Type 0) (x : Result A Stop) (r : Result (List ℤ) Stop)
+    → ((a : A) (ws : List ℤ) → r ≡ Ok ws → P a ws → Q a ws) → EndsIn P x r → EndsIn Q x r
 ends_weaker P Q (Ok a) r f h = (h.0, h.1, f a h.0 h.1 h.2)
 ends_weaker P Q (Err s) r f h = h
 
@@ -28,9 +29,33 @@ pub kept_trans : (us vs ws : List ℤ) → length us ≤ length vs → Kept us v
 kept_trans us vs ws le f g k lt = g k (omega (arith, le, lt)) ∙ f k lt
 
 pub repathed : (s : State) (p : Option ℕ) → IsState s → IsPlace ty.Bool s.graph.operations p → IsState (record s { path = p })
-repathed s p i h = record { part = i.part; code = i.code; names = i.names; few = i.few; inits = i.inits; variables = i.variables; long = i.long; known = i.known; inputs = i.inputs; columns = i.columns; loads = i.loads; held = i.held; cells = i.cells; no_outputs = i.no_outputs; no_stores = i.no_stores; path = h; turn = i.turn; nought = i.nought; unit = i.unit; laws = i.laws }
+repathed s p i h =
+    record {
+      part = i.part;
+      code = i.code;
+      names = i.names;
+      few = i.few;
+      inits = i.inits;
+      variables = i.variables;
+      long = i.long;
+      known = i.known;
+      inputs = i.inputs;
+      columns = i.columns;
+      loads = i.loads;
+      held = i.held;
+      cells = i.cells;
+      no_outputs = i.no_outputs;
+      no_stores = i.no_stores;
+      path =
+          h;
+      turn = i.turn;
+      nought = i.nought;
+      unit = i.unit;
+      laws = i.laws;
+    }
 
-pub place_typed : (a b : State) (t : Ty) (o : Option ℕ) → ((u : Ty) (k : ℕ) → IsA u a.graph.operations k → IsA u b.graph.operations k) → IsPlace t a.graph.operations o → IsPlace t b.graph.operations o
+pub place_typed : (a b : State) (t : Ty) (o : Option ℕ) → ((u : Ty) (k : ℕ) → IsA u a.graph.operations k → IsA u b.graph.operations k)
+    → IsPlace t a.graph.operations o → IsPlace t b.graph.operations o
 place_typed a b t None f h = tt
 place_typed a b t (Some k) f h = f t k h
 
@@ -76,7 +101,8 @@ continues-self s i = record {
 }
 
 -- both under another path condition
-pub continues-at : (a b : State) (p : Option ℕ) → IsPlace ty.Bool a.graph.operations p → Continues a b → Continues (record a { path = p }) (record b { path = p })
+pub continues-at : (a b : State) (p : Option ℕ) → IsPlace ty.Bool a.graph.operations p → Continues a b
+    → Continues (record a { path = p }) (record b { path = p })
 continues-at a b p h f = record {
   before = repathed a p f.before h;
   after = repathed b p f.after (place_typed a b ty.Bool p f.typed h);
@@ -141,7 +167,8 @@ Lasts s Such = (vs ws : List ℤ) → length vs ≡ length s.graph.operations �
 abbrev pub then_do : Doing → Doing → Doing
 then_do f g b m = and_then (f b m) (λ h. g h.reached h.slots)
 
-pub moves_then : Laws → (a b c : State) (Such : List ℤ → Type 0) (n k : ℕ) (f g : Doing) → Lasts a Such → Moves a b Such n f → Moves b c Such k g → Moves a c Such (n + k) (then_do f g)
+pub moves_then : Laws → (a b c : State) (Such : List ℤ → Type 0) (n k : ℕ) (f g : Doing) → Lasts a Such → Moves a b Such n f → Moves b c Such k g
+    → Moves a c Such (n + k) (then_do f g)
 moves_then laws a b c Such n k f g lasts p q = record {
   continues = continues-trans a (record b { path = a.path }) (record c { path = a.path }) p.continues
       (continues-at b (record c { path = b.path }) a.path (place_typed a b ty.Bool a.path p.continues.typed p.continues.before.path) q.continues);
@@ -155,13 +182,19 @@ moves_then laws a b c Such n k f g lasts p q = record {
       (λ s e. q.continues.stops cells row s e)
       (λ h ws r1 e.
       ends_weaker (Tells c start ws) (Tells c start vs) (g h.reached h.slots) (run c.graph cells row)
-      (λ i us r2 x. record { kept = kept_trans vs ws us (omega (arith, len, laws.long b.graph cells row ws r1, p.continues.longer)) e.kept x.kept; knows = x.knows; reached = x.reached })
+      (λ i us r2 x. record {
+        kept = kept_trans vs ws us (omega (arith, len, laws.long b.graph cells row ws r1, p.continues.longer)) e.kept x.kept;
+        knows =
+            x.knows;
+        reached = x.reached;
+      })
       (subst (λ y. EndsIn (Tells c start ws) (g y h.slots) (run c.graph cells row)) e.reached
       (q.gives cells row start h.slots ws r1 loaded e.knows (lasts vs ws len e.kept such))));
 }
 
 -- the same thing done, said in another way
-pub moves_same : (a b : State) (P Q : List ℤ → Type 0) (n k : ℕ) (f g : Doing) → n ≤ k → ((vs : List ℤ) → Q vs → P vs) → ((vs now : List ℤ) → Q vs → f (active a.path vs) now ≡ g (active a.path vs) now) → Moves a b P n f → Moves a b Q k g
+pub moves_same : (a b : State) (P Q : List ℤ → Type 0) (n k : ℕ) (f g : Doing) → n ≤ k → ((vs : List ℤ) → Q vs → P vs)
+    → ((vs now : List ℤ) → Q vs → f (active a.path vs) now ≡ g (active a.path vs) now) → Moves a b P n f → Moves a b Q k g
 moves_same a b P Q n k f g le weaker same p = record {
   continues = p.continues;
   path = p.path;
@@ -182,7 +215,8 @@ moves_nothing a Such i = record {
 }
 
 -- another path condition at first, of which the values tell whether it is 1
-pub moves_from : (a b : State) (p : Option ℕ) (Such : List ℤ → Type 0) (o : Bool) (n : ℕ) (f : Doing) → IsState a → ((vs : List ℤ) → Such vs → active p vs ≡ o) →
+pub moves_from : (a b : State) (p : Option ℕ) (Such : List ℤ → Type 0) (o : Bool) (n : ℕ) (f : Doing) → IsState a → ((vs : List ℤ) → Such vs → active p vs ≡ o)
+    →
     Moves (record a { path = p }) b Such n f → Moves a b Such n (λ b m. f o m)
 moves_from a b p Such o n f i tells q = record {
   continues = continues-at (record a { path = p }) (record b { path = p }) a.path i.path q.continues;
@@ -190,11 +224,13 @@ moves_from a b p Such o n f i tells q = record {
   count = q.count;
   few = q.few;
   gives = λ cells row start now vs r loaded knows such.
-      subst (λ x. EndsIn (Tells b start vs) (f x now) (run b.graph cells row)) (tells vs such) (q.gives cells row start now vs r loaded (knows_at a p start now vs knows) such);
+      subst (λ x. EndsIn (Tells b start vs) (f x now) (run b.graph cells row)) (tells vs such)
+      (q.gives cells row start now vs r loaded (knows_at a p start now vs knows) such);
 }
 
 -- another path condition at last
-pub moves_to : Laws → (a b : State) (p : Option ℕ) (Such : List ℤ → Type 0) (o : Bool) (n : ℕ) (f : Doing) → Lasts a Such → IsPlace ty.Bool b.graph.operations p → ((vs : List ℤ) → Such vs → active p vs ≡ o) →
+pub moves_to : Laws → (a b : State) (p : Option ℕ) (Such : List ℤ → Type 0) (o : Bool) (n : ℕ) (f : Doing) → Lasts a Such → IsPlace ty.Bool b.graph.operations p
+    → ((vs : List ℤ) → Such vs → active p vs ≡ o) →
     Moves a b Such n f → Moves a (record b { path = p }) Such n (then_do f (λ c m. Ok (here o m)))
 moves_to laws a b p Such o n f lasts place tells q = record {
   continues = q.continues;
@@ -203,7 +239,8 @@ moves_to laws a b p Such o n f lasts place tells q = record {
   few = q.few;
   gives = λ cells row start now vs r loaded knows such.
       let len = laws.long a.graph cells row vs r in
-      ends_then (Tells b start vs) (Tells (record b { path = p }) start vs) (f (active a.path vs) now) (λ h. Ok (here o h.slots)) (run b.graph cells row) (run b.graph cells row)
+      ends_then (Tells b start vs) (Tells (record b { path = p }) start vs) (f (active a.path vs) now) (λ h. Ok (here o h.slots)) (run b.graph cells row)
+      (run b.graph cells row)
       (q.gives cells row start now vs r loaded knows such)
       (λ s e. e)
       (λ h ws r1 e. (ws, r1, record { kept = e.kept; knows = knows_at b p start h.slots ws e.knows; reached = tells ws (lasts vs ws len e.kept such) }));
@@ -222,7 +259,8 @@ With Such k v vs = Such vs × (at vs k ≡ v)
 abbrev pub Typed : State → List ℤ → Type 0
 Typed s vs = (t : Ty) (k : ℕ) → IsA t s.graph.operations k → fits t (at vs k) ≡ true
 
-bind_ends : (P : Option ℤ → List ℤ → Type 0) (Q : Here → List ℤ → Type 0) (m : Result (Option ℤ) Stop) (all : Result Here Stop) (next : ℤ → Result Here Stop) (r1 r2 : Result (List ℤ) Stop) (place : ℕ) →
+bind_ends : (P : Option ℤ → List ℤ → Type 0) (Q : Here → List ℤ → Type 0) (m : Result (Option ℤ) Stop) (all : Result Here Stop) (next : ℤ
+    → Result Here Stop) (r1 r2 : Result (List ℤ) Stop) (place : ℕ) →
     Binds m all next → Ends P m r1 → ((s : Stop) → r1 ≡ Err s → r2 ≡ Err s) →
     ((o : Option ℤ) (ws : List ℤ) → r1 ≡ Ok ws → P o ws → IsValue o (at ws place)) →
     ((o : Option ℤ) (ws : List ℤ) → r1 ≡ Ok ws → P o ws → EndsIn Q (next (at ws place)) r2) → EndsIn Q all r2
@@ -231,11 +269,13 @@ bind_ends P Q (Ok (Some v)) all next r1 r2 place b h stops val go =
 bind_ends P Q (Ok None) all next r1 r2 place b h stops val go = subst (λ x. EndsIn Q x r2) (sym (b (at h.0 place))) (go None h.0 h.1 h.2)
 bind_ends P Q (Err s) all next r1 r2 place b h stops val go = subst (λ x. EndsIn Q x r2) (sym b) (stops s h)
 
-pub moves_with : Laws → (a b c : State) (t : Ty) (Such : List ℤ → Type 0) (k n1 n2 : ℕ) (m : Meant) (f : Doing) (g : ℤ → Doing) → Lasts a Such → Makes a b t n1 m k → ((v : ℤ) → Moves b c (With Such k v) n2 (g v)) →
+pub moves_with : Laws → (a b c : State) (t : Ty) (Such : List ℤ → Type 0) (k n1 n2 : ℕ) (m : Meant) (f : Doing) (g : ℤ → Doing) → Lasts a Such
+    → Makes a b t n1 m k → ((v : ℤ) → Moves b c (With Such k v) n2 (g v)) →
     ((now vs : List ℤ) → Typed a vs → Such vs → Binds (m now vs) (f (active a.path vs) now) (λ v. g v (active a.path vs) now)) →
     Moves a c Such (n1 + n2) f
 moves_with laws a b c t Such k n1 n2 m f g lasts p q binds = record {
-  continues = continues-trans a (record b { path = a.path }) (record c { path = a.path }) pc (continues-at b (record c { path = b.path }) a.path (place_typed a b ty.Bool a.path p.follows.typed p.follows.before.path) q0.continues);
+  continues = continues-trans a (record b { path = a.path }) (record c { path = a.path }) pc
+      (continues-at b (record c { path = b.path }) a.path (place_typed a b ty.Bool a.path p.follows.typed p.follows.before.path) q0.continues);
   path = q0.path;
   count = omega (arith, p.count, q0.count);
   few = omega (arith, ap length p.follows.turn_nodes, q0.few);
@@ -249,9 +289,15 @@ moves_with laws a b c t Such k n1 n2 m f g lasts p q binds = record {
       (λ s e. q0.continues.stops cells row s e)
       (λ o ws r1 e. e.2)
       (λ o ws r1 e.
-      let same_path : active b.path ws ≡ active a.path vs = ap (λ x. active x ws) p.follows.path ∙ active_kept ty.Bool a a.path vs ws p.follows.before.path len e.0 in
+      let same_path : active b.path ws ≡ active a.path vs = ap (λ x. active x ws) p.follows.path
+      ∙ active_kept ty.Bool a a.path vs ws p.follows.before.path len e.0 in
       ends_weaker (Tells c start ws) (Tells c start vs) (g (at ws k) (active a.path vs) now) (run c.graph cells row)
-      (λ i us r2 x. record { kept = kept_trans vs ws us (omega (arith, len, laws.long b.graph cells row ws r1, p.follows.longer)) e.0 x.kept; knows = x.knows; reached = x.reached })
+      (λ i us r2 x. record {
+        kept = kept_trans vs ws us (omega (arith, len, laws.long b.graph cells row ws r1, p.follows.longer)) e.0 x.kept;
+        knows =
+            x.knows;
+        reached = x.reached;
+      })
       (subst (λ y. EndsIn (Tells c start ws) (g (at ws k) y now) (run c.graph cells row)) same_path
       ((q (at ws k)).gives cells row start now ws r1 loaded e.1 (lasts vs ws len e.0 such, refl))));
 }
@@ -262,6 +308,7 @@ moves_with laws a b c t Such k n1 n2 m f g lasts p q binds = record {
     pc : Continues a (record b { path = a.path })
     pc = subst (λ o. Continues a (record b { path = o })) p.follows.path (follows_continues a b p.follows)
 
-    active_kept : (u : Ty) (s : State) (o : Option ℕ) (vs ws : List ℤ) → IsPlace u s.graph.operations o → length vs ≡ length s.graph.operations → Kept vs ws → active o ws ≡ active o vs
+    active_kept : (u : Ty) (s : State) (o : Option ℕ) (vs ws : List ℤ) → IsPlace u s.graph.operations o → length vs ≡ length s.graph.operations → Kept vs ws
+        → active o ws ≡ active o vs
     active_kept u s None vs ws h e kept = refl
     active_kept u s (Some j) vs ws h e kept = ap (λ x. not (same x (pos 0))) (kept j (omega (arith, laws.below u s.graph.operations j h, e)))

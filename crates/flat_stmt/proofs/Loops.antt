@@ -16,7 +16,8 @@ use Rattle.flat_stmt.proofs.Algebra.{Lasts, then_do, moves_then, moves_same, mov
 use Rattle.flat_stmt.proofs.Branches.{restored}
 use Rattle.flat_stmt.proofs.Turns.{does_nothing, does_same, does_then}
 
-and_then-assoc : {A B C : Type 0} (r : Result A Stop) (f : A → Result B Stop) (g : B → Result C Stop) → and_then (and_then r f) g ≡ and_then r (λ x. and_then (f x) g)
+and_then-assoc : {A B C : Type 0} (r : Result A Stop) (f : A → Result B Stop) (g : B → Result C Stop)
+    → and_then (and_then r f) g ≡ and_then r (λ x. and_then (f x) g)
 and_then-assoc (Ok x) f g = refl
 and_then-assoc (Err s) f g = refl
 
@@ -47,7 +48,8 @@ done_start s most whole i = record {
   same = λ m. refl;
 }
 
-pub done_step : Laws → (a b c : State) (size left left2 most : ℕ) (f rest rest2 whole : List ℤ → Result (List ℤ) Stop) → Done a b left most rest whole → Does b c size f → size + left2 ≤ left → ((m : List ℤ) → and_then (f m) rest2 ≡ rest m) → Done a c left2 most rest2 whole
+pub done_step : Laws → (a b c : State) (size left left2 most : ℕ) (f rest rest2 whole : List ℤ → Result (List ℤ) Stop) → Done a b left most rest whole
+    → Does b c size f → size + left2 ≤ left → ((m : List ℤ) → and_then (f m) rest2 ≡ rest m) → Done a c left2 most rest2 whole
 done_step laws a b c size left left2 most f rest rest2 whole d step le is = record {
   size = d.size + size;
   doing = λ m. and_then (d.doing m) f;
@@ -56,9 +58,11 @@ done_step laws a b c size left left2 most f rest rest2 whole d step le is = reco
   same = λ m. and_then-assoc (d.doing m) f rest2 ∙ and_then-all (d.doing m) (λ x. and_then (f x) rest2) rest is ∙ d.same m;
 }
 
-pub done_end : (a b : State) (left most : ℕ) (rest whole : List ℤ → Result (List ℤ) Stop) → Done a b left most rest whole → ((m : List ℤ) → rest m ≡ Ok m) → Does a b most whole
+pub done_end : (a b : State) (left most : ℕ) (rest whole : List ℤ → Result (List ℤ) Stop) → Done a b left most rest whole → ((m : List ℤ) → rest m ≡ Ok m)
+    → Does a b most whole
 done_end a b left most rest whole d is =
-    does_same a b d.size most d.doing whole (omega (arith, d.fits)) (λ m. sym (and_then-ok (d.doing m)) ∙ and_then-all (d.doing m) (λ x. Ok x) rest (λ x. sym (is x)) ∙ d.same m) d.does
+    does_same a b d.size most d.doing whole (omega (arith, d.fits))
+    (λ m. sym (and_then-ok (d.doing m)) ∙ and_then-all (d.doing m) (λ x. Ok x) rest (λ x. sym (is x)) ∙ d.same m) d.does
 
 -- ---- branches
 
@@ -70,7 +74,8 @@ pub record Branched (old now : State) (Such : List ℤ → Type 0) (left most : 
   pub fits : size + left ≤ most
   pub same : (b : Bool) (m : List ℤ) → and_then (doing b m) (rest_of rest) ≡ rest_of whole (here b m)
 
-pub branched_start : (s : State) (Such : List ℤ → Type 0) (most : ℕ) (whole : List ℤ → Result (List ℤ) Stop) → IsState s → Branched s s Such most most whole whole
+pub branched_start : (s : State) (Such : List ℤ → Type 0) (most : ℕ) (whole : List ℤ → Result (List ℤ) Stop) → IsState s
+    → Branched s s Such most most whole whole
 branched_start s Such most whole i = record {
   size = 0;
   doing = λ b m. Ok (here b m);
@@ -79,24 +84,31 @@ branched_start s Such most whole i = record {
   same = λ b m. refl;
 }
 
-pub branched_step : Laws → (a b c : State) (Such : List ℤ → Type 0) (size left left2 most : ℕ) (f : Doing) (rest rest2 whole : List ℤ → Result (List ℤ) Stop) → Lasts a Such → Branched a b Such left most rest whole → Moves b c Such size f → size + left2 ≤ left →
+pub branched_step : Laws → (a b c : State) (Such : List ℤ → Type 0) (size left left2 most : ℕ) (f : Doing) (rest rest2 whole : List ℤ → Result (List ℤ) Stop)
+    → Lasts a Such → Branched a b Such left most rest whole → Moves b c Such size f → size + left2 ≤ left →
     ((d : Bool) (m : List ℤ) → and_then (f d m) (rest_of rest2) ≡ rest_of rest (here d m)) → Branched a c Such left2 most rest2 whole
 branched_step laws a b c Such size left left2 most f rest rest2 whole lasts d step le is = record {
   size = d.size + size;
   doing = then_do d.doing f;
   moves = moves_then laws a b c Such d.size size d.doing f lasts d.moves step;
   fits = omega (arith, d.fits, le);
-  same = λ x m. and_then-assoc (d.doing x m) (λ h. f h.reached h.slots) (rest_of rest2) ∙ and_then-all (d.doing x m) (λ h. and_then (f h.reached h.slots) (rest_of rest2)) (rest_of rest) (λ h. is h.reached h.slots) ∙ d.same x m;
+  same = λ x m. and_then-assoc (d.doing x m) (λ h. f h.reached h.slots) (rest_of rest2)
+      ∙ and_then-all (d.doing x m) (λ h. and_then (f h.reached h.slots) (rest_of rest2)) (rest_of rest) (λ h. is h.reached h.slots) ∙ d.same x m;
 }
 
 -- ELSE, and the path condition of before
-pub branched_end : Laws → (a b c : State) (p : Option ℕ) (Such : List ℤ → Type 0) (left most size : ℕ) (rest whole : List ℤ → Result (List ℤ) Stop) → Lasts a Such → p ≡ a.path → Branched a b Such left most rest whole → Does b c size rest → size ≤ left →
+pub branched_end : Laws → (a b c : State) (p : Option ℕ) (Such : List ℤ → Type 0) (left most size : ℕ) (rest whole : List ℤ → Result (List ℤ) Stop)
+    → Lasts a Such → p ≡ a.path → Branched a b Such left most rest whole → Does b c size rest → size ≤ left →
     Moves a (record c { path = p }) Such most (where_reached whole)
 branched_end laws a b c p Such left most size rest whole lasts is_path d step le =
-    moves_same a (record c { path = p }) Such Such (d.size + size) most (where_reached whole) (where_reached whole) (omega (arith, d.fits, le)) (λ vs h. h) (λ vs now h. refl)
+    moves_same a (record c { path = p }) Such Such (d.size + size) most (where_reached whole) (where_reached whole) (omega (arith, d.fits, le)) (λ vs h. h)
+    (λ vs now h. refl)
     (restored laws a c p Such (d.size + size) (then_do d.doing (where_reached rest)) whole lasts is_path
-    (moves_then laws a b c Such d.size size d.doing (where_reached rest) lasts d.moves (moves_same b c Any Such size size (where_reached rest) (where_reached rest) (omega arith) (λ vs h. tt) (λ vs now h. refl) step.moves))
-    (λ x m. and_then-assoc (d.doing x m) (λ h. where_reached rest h.reached h.slots) (λ h. Ok h.slots) ∙ and_then-all (d.doing x m) (λ h. and_then (where_reached rest h.reached h.slots) (λ i. Ok i.slots)) (rest_of rest) (λ h. slots_of h.reached h.slots) ∙ d.same x m))
+    (moves_then laws a b c Such d.size size d.doing (where_reached rest) lasts d.moves
+    (moves_same b c Any Such size size (where_reached rest) (where_reached rest) (omega arith) (λ vs h. tt) (λ vs now h. refl) step.moves))
+    (λ x m. and_then-assoc (d.doing x m) (λ h. where_reached rest h.reached h.slots) (λ h. Ok h.slots)
+    ∙ and_then-all (d.doing x m) (λ h. and_then (where_reached rest h.reached h.slots) (λ i. Ok i.slots)) (rest_of rest) (λ h. slots_of h.reached h.slots)
+    ∙ d.same x m))
   where
     only_slots : (b : Bool) (r : Result (List ℤ) Stop) → and_then (and_then r (λ n. Ok (here b n))) (λ i. Ok i.slots) ≡ r
     only_slots b (Ok m) = refl
@@ -107,24 +119,31 @@ branched_end laws a b c p Such left most size rest whole lasts is_path d step le
     slots_of false m = refl
 
 -- a branch whose condition is x, and what comes after it
-branch_rest : (more b : Bool) (x : ℤ) (body rest : List ℤ → Result (List ℤ) Stop) (m : List ℤ) → (more ≡ false → (n : List ℤ) → rest n ≡ Ok n) → and_then (branch_of more x body b m) (rest_of rest) ≡ cond b (cond (same x (pos 0)) (rest m) (body m)) (Ok m)
+branch_rest : (more b : Bool) (x : ℤ) (body rest : List ℤ → Result (List ℤ) Stop) (m : List ℤ) → (more ≡ false → (n : List ℤ) → rest n ≡ Ok n)
+    → and_then (branch_of more x body b m) (rest_of rest) ≡ cond b (cond (same x (pos 0)) (rest m) (body m)) (Ok m)
 branch_rest more true x body rest m last = go more (same x (pos 0)) last
   where
-    taken : (b : Bool) (r : Result (List ℤ) Stop) → (b ≡ false → (n : List ℤ) → rest n ≡ Ok n) → and_then (and_then r (λ n. Ok (here (not b) n))) (rest_of rest) ≡ r
+    taken : (b : Bool) (r : Result (List ℤ) Stop) → (b ≡ false → (n : List ℤ) → rest n ≡ Ok n)
+        → and_then (and_then r (λ n. Ok (here (not b) n))) (rest_of rest) ≡ r
     taken true (Ok n) h = refl
     taken false (Ok n) h = h refl n
     taken b (Err s) h = refl
 
-    go : (d z : Bool) → (d ≡ false → (n : List ℤ) → rest n ≡ Ok n) → and_then (cond z (Ok (here true m)) (and_then (body m) (λ n. Ok (here (not d) n)))) (rest_of rest) ≡ cond z (rest m) (body m)
+    go : (d z : Bool) → (d ≡ false → (n : List ℤ) → rest n ≡ Ok n)
+        → and_then (cond z (Ok (here true m)) (and_then (body m) (λ n. Ok (here (not d) n)))) (rest_of rest) ≡ cond z (rest m) (body m)
     go d true h = refl
     go d false h = taken d (body m) h
 branch_rest more false x body rest m last = refl
 
-pub arm_rest : (more b : Bool) (turns : List Turn) (e : TExprTree) (body : TStmtTrees) (spot : Spot) (arms : TArmTrees) (other : List ℤ → Result (List ℤ) Stop) (m : List ℤ) → (more ≡ false → (n : List ℤ) → do_arms turns arms other n ≡ Ok n) →
-    and_then (arm_of more turns e (do_stmts turns body) b m) (rest_of (do_arms turns arms other)) ≡ rest_of (do_arms turns (and_tarm e body spot arms) other) (here b m)
+pub arm_rest : (more b : Bool) (turns : List Turn) (e : TExprTree) (body : TStmtTrees) (spot : Spot) (arms : TArmTrees) (other : List ℤ
+    → Result (List ℤ) Stop) (m : List ℤ) → (more ≡ false → (n : List ℤ) → do_arms turns arms other n ≡ Ok n) →
+    and_then (arm_of more turns e (do_stmts turns body) b m) (rest_of (do_arms turns arms other)) ≡ rest_of (do_arms turns (and_tarm e body spot arms) other)
+    (here b m)
 arm_rest more true turns e body spot arms other m last = go (value turns e m)
   where
-    go : (r : Result ℤ Stop) → and_then (and_then r (λ x. branch_of more x (do_stmts turns body) true m)) (rest_of (do_arms turns arms other)) ≡ and_then r (λ v. cond (same v (pos 0)) (do_arms turns arms other m) (do_stmts turns body m))
+    go : (r : Result ℤ Stop)
+        → and_then (and_then r (λ x. branch_of more x (do_stmts turns body) true m)) (rest_of (do_arms turns arms other))
+        ≡ and_then r (λ v. cond (same v (pos 0)) (do_arms turns arms other m) (do_stmts turns body m))
     go (Ok x) = branch_rest more true x (do_stmts turns body) (do_arms turns arms other) m last
     go (Err s) = refl
 arm_rest more false turns e body spot arms other m last = refl
@@ -133,17 +152,21 @@ truth_zero : (c : Bool) (x y : Result (List ℤ) Stop) → cond (same (truth c) 
 truth_zero true x y = refl
 truth_zero false x y = refl
 
-pub case_rest : (more b : Bool) (turns : List Turn) (v : ℤ) (ls : List TLabel) (body : TStmtTrees) (branches : TBranchTrees) (other : List ℤ → Result (List ℤ) Stop) (m : List ℤ) → (more ≡ false → (n : List ℤ) → do_branches turns v branches other n ≡ Ok n) →
-    and_then (branch_of more (truth (list_any (is_labelled v) ls)) (do_stmts turns body) b m) (rest_of (do_branches turns v branches other)) ≡ rest_of (do_branches turns v (and_tbranch ls body branches) other) (here b m)
+pub case_rest : (more b : Bool) (turns : List Turn) (v : ℤ) (ls : List TLabel) (body : TStmtTrees) (branches : TBranchTrees) (other : List ℤ
+    → Result (List ℤ) Stop) (m : List ℤ) → (more ≡ false → (n : List ℤ) → do_branches turns v branches other n ≡ Ok n) →
+    and_then (branch_of more (truth (list_any (is_labelled v) ls)) (do_stmts turns body) b m) (rest_of (do_branches turns v branches other)) ≡ rest_of
+    (do_branches turns v (and_tbranch ls body branches) other) (here b m)
 case_rest more b turns v ls body branches other m last =
     branch_rest more b (truth (list_any (is_labelled v) ls)) (do_stmts turns body) (do_branches turns v branches other) m last
     ∙ ap (λ r. cond b r (Ok m)) (truth_zero (list_any (is_labelled v) ls) (do_branches turns v branches other m) (do_stmts turns body m))
 
 -- a branch without labels
-pub case_none : (more : Bool) (a : State) (Such : List ℤ → Type 0) (n : ℕ) (v : ℤ) (ls : List TLabel) (body : List ℤ → Result (List ℤ) Stop) → ls ≡ [] → IsState a → Moves a a Such n (branch_of more (truth (list_any (is_labelled v) ls)) body)
+pub case_none : (more : Bool) (a : State) (Such : List ℤ → Type 0) (n : ℕ) (v : ℤ) (ls : List TLabel) (body : List ℤ → Result (List ℤ) Stop) → ls ≡ []
+    → IsState a → Moves a a Such n (branch_of more (truth (list_any (is_labelled v) ls)) body)
 case_none more a Such n v ls body none i =
     moves_same a a Such Such 0 n (λ b m. Ok (here b m)) (branch_of more (truth (list_any (is_labelled v) ls)) body) (omega arith) (λ vs h. h)
-    (λ vs now h. all (active a.path vs) now ∙ ap (λ l. branch_of more (truth (list_any (is_labelled v) l)) body (active a.path vs) now) (sym none)) (moves_nothing a Such i)
+    (λ vs now h. all (active a.path vs) now ∙ ap (λ l. branch_of more (truth (list_any (is_labelled v) l)) body (active a.path vs) now) (sym none))
+    (moves_nothing a Such i)
   where
     all : (b : Bool) (m : List ℤ) → Ok (here b m) ≡ branch_of more (truth (list_any (is_labelled v) [])) body b m
     all true m = refl

@@ -6,11 +6,13 @@ use Rattle.op_graph.specs.declared.build.Build.TheVariants as build
 use Rattle.flat_expr.specs.State.{State, Refuses, reserved}
 use Rattle.flat_stmt.specs.Parts.{Fills}
 
-pub refused_fills : {A : Type 0} → (old mid new : State) (n1 n2 n : ℕ) (r : Result A Build) → reserved mid ≤ reserved old + n1 → n1 + n2 ≤ n → IfErr r (λ e. Refuses mid new n2 e) → IfErr r (λ e. Fills old n e)
+pub refused_fills : {A : Type 0} → (old mid new : State) (n1 n2 n : ℕ) (r : Result A Build) → reserved mid ≤ reserved old + n1 → n1 + n2 ≤ n
+    → IfErr r (λ e. Refuses mid new n2 e) → IfErr r (λ e. Fills old n e)
 refused_fills old mid new n1 n2 n (Ok k) le fits h = tt
 refused_fills old mid new n1 n2 n (Err e) le fits h = λ is. omega (arith, h.room is, le, fits)
 
-pub fills_later : {A : Type 0} → (old mid : State) (n1 n2 n : ℕ) (r : Result A Build) → reserved mid ≤ reserved old + n1 → n1 + n2 ≤ n → IfErr r (λ e. Fills mid n2 e) → IfErr r (λ e. Fills old n e)
+pub fills_later : {A : Type 0} → (old mid : State) (n1 n2 n : ℕ) (r : Result A Build) → reserved mid ≤ reserved old + n1 → n1 + n2 ≤ n
+    → IfErr r (λ e. Fills mid n2 e) → IfErr r (λ e. Fills old n e)
 fills_later old mid n1 n2 n (Ok k) le fits h = tt
 fills_later old mid n1 n2 n (Err e) le fits h = λ is. omega (arith, h is, le, fits)
 

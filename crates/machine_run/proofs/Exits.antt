@@ -1,5 +1,6 @@
 -- Exits: what a run leaves at each of its ends.
-use Rattle.std.proofs.Common.{ℕ, ◌-◌, ◌^◌, ◌+◌, ◌≡◌, ◌≢◌, false, refl, ap, subst, sym, ◌∙◌, ℤ, List, [], ◌∷◌, ◌++◌, length, length-append, map, arith, inl, inr, Option, Some, None, Result, Ok, Err}
+use Rattle.std.proofs.Common.{ℕ, ◌-◌, ◌^◌, ◌+◌, ◌≡◌, ◌≢◌, false, refl, ap, subst, sym, ◌∙◌, ℤ, List, [], ◌∷◌, ◌++◌, length, length-append, map, arith, inl, inr}
+use Rattle.std.proofs.Common.{Option, Some, None, Result, Ok, Err}
 use Rattle.std.proofs.lemmas.Bool.{cases_lt}
 use Rattle.std.specs.Io.KnownBytes.{Appends}
 use Rattle.vcp_outside.specs.Counts.{Rose}
@@ -32,17 +33,22 @@ use Rattle.coded_machine.specs.Laws.{RunLaws, HonestLaws}
 all_rows : (left rest : RowsLeft) (taken : List (List ℤ)) → left ≡ record rest { rows = taken ++ rest.rows } → left.rows ≡ taken ++ rest.rows
 all_rows left rest taken is = ap (λ (r : RowsLeft). r.rows) is
 
-stands : RunLaws → (g : Lists) (t : Numbers) (left rest : RowsLeft) (text : ℕ → List ℤ → List ℕ) (b n : Moment) (kept_before kept_now : List (List ℤ) → Type 0) (m : State) → (u : UpTo g t left rest text b n kept_before kept_now m) →
+stands : RunLaws
+    → (g : Lists) (t : Numbers) (left rest : RowsLeft) (text : ℕ → List ℤ → List ℕ) (b n : Moment) (kept_before kept_now : List (List ℤ) → Type 0) (m : State)
+    → (u : UpTo g t left rest text b n kept_before kept_now m) →
     RunOver g t u.taken u.cycles (map (outputs_of g) u.cycles) end.Released b.log n.log b.wrong n.wrong
 stands laws g t left rest text b n kept_before kept_now m u = laws.stands g t u.taken u.cycles m b.log n.log b.wrong n.wrong u.run
 
 -- want of memory
-pub memory_exit : RunLaws → HonestLaws → (g : Lists) (t : Numbers) (left rest : RowsLeft) (text : ℕ → List ℤ → List ℕ) (b n : Moment) (kept_before kept_now : List (List ℤ) → Type 0) (m : State) → Fair g t left.rows → UpTo g t left rest text b n kept_before kept_now m →
+pub memory_exit : RunLaws → HonestLaws
+    → (g : Lists) (t : Numbers) (left rest : RowsLeft) (text : ℕ → List ℤ → List ℕ) (b n : Moment) (kept_before kept_now : List (List ℤ) → Type 0) (m : State)
+    → Fair g t left.rows → UpTo g t left rest text b n kept_before kept_now m →
     Leaves g t left text b n kept_before kept_now m (Err fault.Memory)
 memory_exit laws honest g t left rest text b n kept_before kept_now m fair u =
     let is = all_rows left rest u.taken u.rows in
     let run = stands laws g t left rest text b n kept_before kept_now m u in
-    let over : Over g t left.rows u.cycles (map (outputs_of g) u.cycles) end.Released b n = over_all g t left.rows u.taken rest.rows u.cycles (map (outputs_of g) u.cycles) end.Released b n is run in
+    let over : Over g t left.rows u.cycles (map (outputs_of g) u.cycles) end.Released b n =
+    over_all g t left.rows u.taken rest.rows u.cycles (map (outputs_of g) u.cycles) end.Released b n is run in
     let outs = ap (λ (o : Outcome). o.rows) over.outcome in
     record {
       run = record {
@@ -58,20 +64,29 @@ memory_exit laws honest g t left rest text b n kept_before kept_now m fair u =
     }
 
 -- the last row
-pub last_exit : RunLaws → HonestLaws → (g : Lists) (t : Numbers) (left rest : RowsLeft) (text : ℕ → List ℤ → List ℕ) (b n : Moment) (kept_before kept_now : List (List ℤ) → Type 0) (m : State) → Fair g t left.rows → UpTo g t left rest text b n kept_before kept_now m →
+pub last_exit : RunLaws → HonestLaws
+    → (g : Lists) (t : Numbers) (left rest : RowsLeft) (text : ℕ → List ℤ → List ℕ) (b n : Moment) (kept_before kept_now : List (List ℤ) → Type 0) (m : State)
+    → Fair g t left.rows → UpTo g t left rest text b n kept_before kept_now m →
     rest.rows ≡ [] → rest.refusal ≡ None → Leaves g t left text b n kept_before kept_now m (Ok end.Released)
 last_exit laws honest g t left rest text b n kept_before kept_now m fair u none behind =
     let is = all_rows left rest u.taken u.rows in
     let run = stands laws g t left rest text b n kept_before kept_now m u in
-    let over : Over g t left.rows u.cycles (map (outputs_of g) u.cycles) end.Released b n = over_all g t left.rows u.taken rest.rows u.cycles (map (outputs_of g) u.cycles) end.Released b n is run in
-    let came : CameToEnd g t left.rows u.cycles end.Released = came_to_end g t left.rows u.taken rest.rows u.cycles (map (outputs_of g) u.cycles) end.Released b n is (inr none) run in
+    let over : Over g t left.rows u.cycles (map (outputs_of g) u.cycles) end.Released b n =
+    over_all g t left.rows u.taken rest.rows u.cycles (map (outputs_of g) u.cycles) end.Released b n is run in
+    let came : CameToEnd g t left.rows u.cycles end.Released =
+    came_to_end g t left.rows u.taken rest.rows u.cycles (map (outputs_of g) u.cycles) end.Released b n is (inr none) run in
     let outs = ap (λ (o : Outcome). o.rows) over.outcome in
     record {
       run = record {
         cycles = u.cycles;
         carried = over.carried;
         some = over.some;
-        ends = (came, (λ _. ap (λ (r : RowsLeft). r.refusal) u.rows ∙ behind), subst (λ rows. Appends b.out n.out (texts_from text 0 rows)) (sym outs) u.written);
+        ends = (
+          came,
+          (λ _. ap (λ (r : RowsLeft). r.refusal) u.rows ∙ behind),
+          subst (λ rows. Appends b.out n.out (texts_from text 0 rows))
+              (sym outs) u.written,
+        );
         given_up = tt;
         follows = whole_follows honest g t left.rows u.cycles (map (outputs_of g) u.cycles) end.Released b n fair over came;
       };
@@ -80,13 +95,17 @@ last_exit laws honest g t left rest text b n kept_before kept_now m fair u none 
     }
 
 -- a row that is refused
-refused_exit : RunLaws → HonestLaws → (g : Lists) (t : Numbers) (left rest : RowsLeft) (text : ℕ → List ℤ → List ℕ) (b n : Moment) (kept_before kept_now : List (List ℤ) → Type 0) (m : State) (why : RowFault) → Fair g t left.rows → UpTo g t left rest text b n kept_before kept_now m →
+refused_exit : RunLaws → HonestLaws
+    → (g : Lists) (t : Numbers) (left rest : RowsLeft) (text : ℕ → List ℤ → List ℕ) (b n : Moment) (kept_before kept_now : List (List ℤ)
+    → Type 0) (m : State) (why : RowFault) → Fair g t left.rows → UpTo g t left rest text b n kept_before kept_now m →
     rest.rows ≡ [] → rest.refusal ≡ Some why → Leaves g t left text b n kept_before kept_now m (Err (fault.Rows why))
 refused_exit laws honest g t left rest text b n kept_before kept_now m why fair u none behind =
     let is = all_rows left rest u.taken u.rows in
     let run = stands laws g t left rest text b n kept_before kept_now m u in
-    let over : Over g t left.rows u.cycles (map (outputs_of g) u.cycles) end.Released b n = over_all g t left.rows u.taken rest.rows u.cycles (map (outputs_of g) u.cycles) end.Released b n is run in
-    let came : CameToEnd g t left.rows u.cycles end.Released = came_to_end g t left.rows u.taken rest.rows u.cycles (map (outputs_of g) u.cycles) end.Released b n is (inr none) run in
+    let over : Over g t left.rows u.cycles (map (outputs_of g) u.cycles) end.Released b n =
+    over_all g t left.rows u.taken rest.rows u.cycles (map (outputs_of g) u.cycles) end.Released b n is run in
+    let came : CameToEnd g t left.rows u.cycles end.Released =
+    came_to_end g t left.rows u.taken rest.rows u.cycles (map (outputs_of g) u.cycles) end.Released b n is (inr none) run in
     let outs = ap (λ (o : Outcome). o.rows) over.outcome in
     record {
       run = record {
@@ -102,27 +121,42 @@ refused_exit laws honest g t left rest text b n kept_before kept_now m why fair 
     }
 
 -- a row that is refused, or want of memory for it
-pub row_exit : RunLaws → HonestLaws → (g : Lists) (t : Numbers) (left rest : RowsLeft) (text : ℕ → List ℤ → List ℕ) (b n : Moment) (kept_before kept_now : List (List ℤ) → Type 0) (m : State) (why : RowFault) → Fair g t left.rows → UpTo g t left rest text b n kept_before kept_now m →
+pub row_exit : RunLaws → HonestLaws
+    → (g : Lists) (t : Numbers) (left rest : RowsLeft) (text : ℕ → List ℤ → List ℕ) (b n : Moment) (kept_before kept_now : List (List ℤ)
+    → Type 0) (m : State) (why : RowFault) → Fair g t left.rows → UpTo g t left rest text b n kept_before kept_now m →
     (why ≢ row.Memory → (rest.rows ≡ []) × (rest.refusal ≡ Some why)) → Leaves g t left text b n kept_before kept_now m (Err (given_up_by why))
-row_exit laws honest g t left rest text b n kept_before kept_now m row.Memory fair u h = memory_exit laws honest g t left rest text b n kept_before kept_now m fair u
-row_exit laws honest g t left rest text b n kept_before kept_now m row.Header fair u h = let x = h (λ e. cc) in refused_exit laws honest g t left rest text b n kept_before kept_now m row.Header fair u x.0 x.1
-row_exit laws honest g t left rest text b n kept_before kept_now m (row.Width number) fair u h = let x = h (λ e. cc) in refused_exit laws honest g t left rest text b n kept_before kept_now m (row.Width number) fair u x.0 x.1
-row_exit laws honest g t left rest text b n kept_before kept_now m (row.Cell number column) fair u h = let x = h (λ e. cc) in refused_exit laws honest g t left rest text b n kept_before kept_now m (row.Cell number column) fair u x.0 x.1
-row_exit laws honest g t left rest text b n kept_before kept_now m row.Form fair u h = let x = h (λ e. cc) in refused_exit laws honest g t left rest text b n kept_before kept_now m row.Form fair u x.0 x.1
-row_exit laws honest g t left rest text b n kept_before kept_now m row.Cycles fair u h = let x = h (λ e. cc) in refused_exit laws honest g t left rest text b n kept_before kept_now m row.Cycles fair u x.0 x.1
-row_exit laws honest g t left rest text b n kept_before kept_now m row.Cycle fair u h = let x = h (λ e. cc) in refused_exit laws honest g t left rest text b n kept_before kept_now m row.Cycle fair u x.0 x.1
+row_exit laws honest g t left rest text b n kept_before kept_now m row.Memory fair u h =
+    memory_exit laws honest g t left rest text b n kept_before kept_now m fair u
+row_exit laws honest g t left rest text b n kept_before kept_now m row.Header fair u h = let x = h (λ e. cc) in
+    refused_exit laws honest g t left rest text b n kept_before kept_now m row.Header fair u x.0 x.1
+row_exit laws honest g t left rest text b n kept_before kept_now m (row.Width number) fair u h = let x = h (λ e. cc) in
+    refused_exit laws honest g t left rest text b n kept_before kept_now m (row.Width number) fair u x.0 x.1
+row_exit laws honest g t left rest text b n kept_before kept_now m (row.Cell number column) fair u h = let x = h (λ e. cc) in
+    refused_exit laws honest g t left rest text b n kept_before kept_now m (row.Cell number column) fair u x.0 x.1
+row_exit laws honest g t left rest text b n kept_before kept_now m row.Form fair u h = let x = h (λ e. cc) in
+    refused_exit laws honest g t left rest text b n kept_before kept_now m row.Form fair u x.0 x.1
+row_exit laws honest g t left rest text b n kept_before kept_now m row.Cycles fair u h = let x = h (λ e. cc) in
+    refused_exit laws honest g t left rest text b n kept_before kept_now m row.Cycles fair u x.0 x.1
+row_exit laws honest g t left rest text b n kept_before kept_now m row.Cycle fair u h = let x = h (λ e. cc) in
+    refused_exit laws honest g t left rest text b n kept_before kept_now m row.Cycle fair u x.0 x.1
 
 -- ---- a cycle that isn't released
 
-pub cycle_exit : RunLaws → HonestLaws → (g : Lists) (t : Numbers) (left rest now : RowsLeft) (text : ℕ → List ℤ → List ℕ) (b n a : Moment) (kept_before kept_now kept_after : List (List ℤ) → Type 0) (m o : State) (row : List ℤ) (e : CycleEnd) → Fair g t left.rows →
-    UpTo g t left rest text b n kept_before kept_now m → e ≢ end.Released → rest ≡ record now { rows = row ∷ now.rows } → Turn m o row e n.log a.log n.wrong a.wrong → o.under_way ≡ false →
-    Appends n.out a.out (texts_from text m.cycles (row_if e (outputs_of m.graph o.answers))) → ((rows : List (List ℤ)) → kept_now rows → kept_after (rows ++ row_if e (outputs_of m.graph o.answers))) →
+pub cycle_exit : RunLaws → HonestLaws
+    → (g : Lists) (t : Numbers) (left rest now : RowsLeft) (text : ℕ → List ℤ → List ℕ) (b n a : Moment) (kept_before kept_now kept_after : List (List ℤ)
+    → Type 0) (m o : State) (row : List ℤ) (e : CycleEnd) → Fair g t left.rows →
+    UpTo g t left rest text b n kept_before kept_now m → e ≢ end.Released → rest ≡ record now { rows = row ∷ now.rows }
+    → Turn m o row e n.log a.log n.wrong a.wrong → o.under_way ≡ false →
+    Appends n.out a.out
+    (texts_from text m.cycles (row_if e (outputs_of m.graph o.answers)))
+    → ((rows : List (List ℤ)) → kept_now rows → kept_after (rows ++ row_if e (outputs_of m.graph o.answers))) →
     Leaves g t left text b a kept_before kept_after o (Ok e)
 cycle_exit laws honest g t left rest now text b n a kept_before kept_now kept_after m o row e fair u not one turn between written kept =
     let cycles = u.cycles ++ o.answers ∷ [] in
     let released = map (outputs_of g) u.cycles ++ row_if e (outputs_of g o.answers) in
     let is = all_rows left now (u.taken ++ row ∷ []) (rows_on left rest now u.taken row u.rows one) in
-    let run : RunOver g t (u.taken ++ row ∷ []) cycles released e b.log a.log b.wrong a.wrong = laws.ends g t u.taken u.cycles m o row e b.log n.log a.log b.wrong n.wrong a.wrong u.run turn in
+    let run : RunOver g t (u.taken ++ row ∷ []) cycles released e b.log a.log b.wrong a.wrong =
+    laws.ends g t u.taken u.cycles m o row e b.log n.log a.log b.wrong n.wrong a.wrong u.run turn in
     let over : Over g t left.rows cycles released e b a = over_all g t left.rows (u.taken ++ row ∷ []) now.rows cycles released e b a is run in
     let came : CameToEnd g t left.rows cycles e = came_to_end g t left.rows (u.taken ++ row ∷ []) now.rows cycles released e b a is (inl not) run in
     let outs = ap (λ (x : Outcome). x.rows) over.outcome in
@@ -131,12 +165,18 @@ cycle_exit laws honest g t left rest now text b n a kept_before kept_now kept_af
         cycles = cycles;
         carried = over.carried;
         some = over.some;
-        ends = (came, (λ is_released. absurd (not is_released)), subst (λ rows. Appends b.out a.out (texts_from text 0 rows)) (sym outs) (written_on g t text u.cycles u.taken m o.answers e b n a u.run u.written written));
+        ends = (
+          came,
+          (λ is_released. absurd (not is_released)),
+          subst (λ rows. Appends b.out a.out (texts_from text 0 rows)) (sym outs)
+              (written_on g t text u.cycles u.taken m o.answers e b n a u.run u.written written),
+        );
         given_up = tt;
         follows = whole_follows honest g t left.rows cycles released e b a fair over came;
       };
       machine = machine_on g t left rest text b n a kept_before kept_now m o row e u turn between over.outcome;
-      kept = λ rows h. subst (λ xs. kept_after (rows ++ xs)) (sym outs) (kept_on g u.cycles m o.answers e kept_before kept_now kept_after u.run.graph u.kept kept rows h);
+      kept = λ rows h. subst (λ xs. kept_after (rows ++ xs)) (sym outs)
+          (kept_on g u.cycles m o.answers e kept_before kept_now kept_after u.run.graph u.kept kept rows h);
     }
 
 -- ---- a write that failed
@@ -151,12 +191,16 @@ snoc_front (a ∷ xs) (b ∷ ys) x y e =
     ap (λ z. z ∷ xs) same ∙ ap (λ zs. b ∷ zs) (snoc_front xs ys x y rest)
 
 -- all is written for the rows before the last one
-earlier_written : (g : Lists) (text : ℕ → List ℤ → List ℕ) (cycles : List (List Answer)) (answers : List Answer) (b n a : Moment) (more : List ℕ) → Appends b.out a.out (texts_from text 0 (map (outputs_of g) cycles) ++ more) → EarlierWritten g text (cycles ++ answers ∷ []) b a
+earlier_written : (g : Lists) (text : ℕ → List ℤ → List ℕ) (cycles : List (List Answer)) (answers : List Answer) (b n a : Moment) (more : List ℕ)
+    → Appends b.out a.out (texts_from text 0 (map (outputs_of g) cycles) ++ more) → EarlierWritten g text (cycles ++ answers ∷ []) b a
 earlier_written g text cycles answers b n a more h earlier last is =
     (more, subst (λ xs. Appends b.out a.out (texts_from text 0 (map (outputs_of g) xs) ++ more)) (snoc_front cycles earlier answers last is) h)
 
-pub write_exit : RunLaws → HonestLaws → (g : Lists) (t : Numbers) (left rest now : RowsLeft) (text : ℕ → List ℤ → List ℕ) (b n a : Moment) (kept_before kept_now kept_after : List (List ℤ) → Type 0) (m o : State) (row : List ℤ) → Fair g t left.rows →
-    UpTo g t left rest text b n kept_before kept_now m → rest ≡ record now { rows = row ∷ now.rows } → Turn m o row end.Released n.log a.log n.wrong a.wrong → o.under_way ≡ false →
+pub write_exit : RunLaws → HonestLaws
+    → (g : Lists) (t : Numbers) (left rest now : RowsLeft) (text : ℕ → List ℤ → List ℕ) (b n a : Moment) (kept_before kept_now kept_after : List (List ℤ)
+    → Type 0) (m o : State) (row : List ℤ) → Fair g t left.rows →
+    UpTo g t left rest text b n kept_before kept_now m → rest ≡ record now { rows = row ∷ now.rows } → Turn m o row end.Released n.log a.log n.wrong a.wrong
+    → o.under_way ≡ false →
     AppendsPart n.out a.out (texts_from text m.cycles (row_if end.Released (outputs_of m.graph o.answers))) → Rose n.out_faults a.out_faults →
     Leaves g t left text b a kept_before kept_after o (Err fault.Write)
 write_exit laws honest g t left rest now text b n a kept_before kept_now kept_after m o row fair u one turn between part rose =
@@ -165,23 +209,34 @@ write_exit laws honest g t left rest now text b n a kept_before kept_now kept_af
     let released = map (outputs_of g) u.cycles in
     let last = outputs_of g o.answers ∷ [] in
     let is = all_rows left now taken (rows_on left rest now u.taken row u.rows one) in
-    let so_far : RunSoFar g t taken cycles o b.log a.log b.wrong a.wrong = laws.goes_on g t u.taken u.cycles m o row b.log n.log a.log b.wrong n.wrong a.wrong u.run turn in
-    let run : RunOver g t taken cycles (map (outputs_of g) cycles) end.Released b.log a.log b.wrong a.wrong = laws.stands g t taken cycles o b.log a.log b.wrong a.wrong so_far in
-    let over : Over g t left.rows cycles (map (outputs_of g) cycles) end.Released b a = over_all g t left.rows taken now.rows cycles (map (outputs_of g) cycles) end.Released b a is run in
+    let so_far : RunSoFar g t taken cycles o b.log a.log b.wrong a.wrong =
+    laws.goes_on g t u.taken u.cycles m o row b.log n.log a.log b.wrong n.wrong a.wrong u.run turn in
+    let run : RunOver g t taken cycles (map (outputs_of g) cycles) end.Released b.log a.log b.wrong a.wrong =
+    laws.stands g t taken cycles o b.log a.log b.wrong a.wrong so_far in
+    let over : Over g t left.rows cycles (map (outputs_of g) cycles) end.Released b a =
+    over_all g t left.rows taken now.rows cycles (map (outputs_of g) cycles) end.Released b a is run in
     let outs : (outcome_over g t 0 cycles).rows ≡ released ++ last = ap (λ (x : Outcome). x.rows) over.outcome ∙ map_more (outputs_of g) u.cycles o.answers in
-    let part_here : AppendsPart n.out a.out (texts_from text (0 + length released) last) = subst (AppendsPart n.out a.out) (text_here g t text u.cycles u.taken m o.answers end.Released b n u.run) part in
+    let part_here : AppendsPart n.out a.out (texts_from text (0 + length released) last) =
+    subst (AppendsPart n.out a.out) (text_here g t text u.cycles u.taken m o.answers end.Released b n u.run) part in
     let all_part : AppendsPart b.out a.out (texts_from text 0 (released ++ last)) = part_written text b.out n.out a.out released last u.written part_here in
-    let earlier : Appends b.out a.out (texts_from text 0 released ++ part_here.0) = appends_on b.out n.out a.out (texts_from text 0 released) part_here.0 u.written part_here.4 in
+    let earlier : Appends b.out a.out (texts_from text 0 released ++ part_here.0) =
+    appends_on b.out n.out a.out (texts_from text 0 released) part_here.0 u.written part_here.4 in
     record {
       run = record {
         cycles = cycles;
         carried = over.carried;
         some = over.some;
-        ends = (omega (arith, u.faults, rose), subst (λ rows. AppendsPart b.out a.out (texts_from text 0 rows)) (sym outs) all_part, earlier_written g text u.cycles o.answers b n a part_here.0 earlier);
+        ends = (
+          omega (arith, u.faults, rose),
+          subst (λ rows. AppendsPart b.out a.out (texts_from text 0 rows))
+              (sym outs) all_part,
+          earlier_written g text u.cycles o.answers b n a part_here.0 earlier,
+        );
         given_up = ap (λ (x : Outcome). x.end) over.outcome;
         follows = front_follows honest g t left.rows taken now.rows cycles o b a fair is so_far over.outcome;
       };
-      machine = machine_on g t left rest text b n a kept_before kept_now m o row end.Released u turn between (over.outcome ∙ ap (λ rows. record { rows = rows; end = end.Released }) (map_more (outputs_of g) u.cycles o.answers));
+      machine = machine_on g t left rest text b n a kept_before kept_now m o row end.Released u turn between
+          (over.outcome ∙ ap (λ rows. record { rows = rows; end = end.Released }) (map_more (outputs_of g) u.cycles o.answers));
       kept = tt;
     }
 

@@ -8,8 +8,10 @@ use Rattle.coded_machine.specs.Runs.{row_if}
 use Rattle.machine_run.specs.Cycles.{cycle_end}
 use Rattle.machine_run.specs.RowRuns.{texts_from}
 
-pub failed_row : (text : ℕ → List ℤ → List ℕ) (n : ℕ) (row : List ℤ) (old new : Option (List ℕ)) (before now : ℕ) (bytes : List ℕ) (e : Failed) (q : Result CycleEnd Failed) →
-    IsErr q → bytes ≡ text n row → Writes {T = Unit {0}} old new before now bytes (Err e) → Writes old new before now (texts_from text n (row_if (cycle_end q) row)) q
+pub failed_row : (text : ℕ → List ℤ
+    → List ℕ) (n : ℕ) (row : List ℤ) (old new : Option (List ℕ)) (before now : ℕ) (bytes : List ℕ) (e : Failed) (q : Result CycleEnd Failed) →
+    IsErr q → bytes ≡ text n row → Writes {T = Unit {0}} old new before now bytes (Err e) → Writes old new before now
+    (texts_from text n (row_if (cycle_end q) row)) q
 failed_row text n row old new before now bytes e (Ok x) failed is h = absurd cc
 failed_row text n row old new before now bytes e (Err f) failed is h =
     let k : Writes {T = Unit {0}} {E = Failed} old new before now (texts_from text n (row ∷ [])) (Err e) =

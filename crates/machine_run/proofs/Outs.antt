@@ -1,5 +1,6 @@
 -- Outs: the operation of an output is an OUT of the output's type.
-use Rattle.std.proofs.Common.{ℕ, zero, suc, ◌+◌, ◌<◌, ◌≡◌, ◌≢◌, true, false, refl, ap, subst, sym, ◌∙◌, ◌&&◌, Bool, List, [], ◌∷◌, length, take, slice_get, arith, eq-eqb, Some}
+use Rattle.std.proofs.Common.{ℕ, zero, suc, ◌+◌, ◌<◌, ◌≡◌, ◌≢◌, true, false, refl, ap, subst, sym, ◌∙◌, ◌&&◌, Bool, List, [], ◌∷◌, length, take, slice_get}
+use Rattle.std.proofs.Common.{arith, eq-eqb, Some}
 use Rattle.std.specs.Option.{is_some}
 use Rattle.std.specs.Prelude.{All, ◌==◌}
 use Rattle.std.proofs.lemmas.Bool.{ne_eqb}
@@ -10,11 +11,13 @@ use Rattle.vcp_base.specs.declared.ty.Ty.TheVariants as ty
 use Rattle.op_graph.specs.declared.op.Op.{Op}
 use Rattle.op_graph.specs.declared.op.Outlet.{Outlet}
 use Rattle.op_graph.specs.Lists.{Lists}
-use Rattle.op_graph.specs.Rules.{IsGraph, Entry, entry, found, agree, is_out, kind_fits, Place, same_type, from_fits, ty_fits, entry_of, OpFits, scope, place_of}
+use Rattle.op_graph.specs.Rules.{IsGraph, Entry, entry, found, agree, is_out, kind_fits, Place, same_type, from_fits, ty_fits, entry_of, OpFits, scope}
+use Rattle.op_graph.specs.Rules.{place_of}
 use Rattle.op_graph.specs.Laws.{EntryLaws}
 
 -- the output of an operation is the first of that operation, whose number is above those of the outputs before it
-found_at : (outputs : List Outlet) (i : ℕ) (o : Outlet) (j : ℕ) → slice_get outputs i ≡ Some o → All (λ (p : Outlet). p.op < o.op) (take i outputs) → found (λ (p : Outlet). p.op == o.op) (λ p. p.ty) j outputs ≡ Some (entry (j + i) o.ty)
+found_at : (outputs : List Outlet) (i : ℕ) (o : Outlet) (j : ℕ) → slice_get outputs i ≡ Some o → All (λ (p : Outlet). p.op < o.op) (take i outputs)
+    → found (λ (p : Outlet). p.op == o.op) (λ p. p.ty) j outputs ≡ Some (entry (j + i) o.ty)
 found_at [] i o j there rises = absurd cc
 found_at (p ∷ outputs) zero o j there rises = let same : p ≡ o = cc in rw (same, eq-eqb o.op o.op refl) (ap (λ k. Some (entry k o.ty)) (omega arith))
 found_at (p ∷ outputs) (suc i) o j there rises =
@@ -63,7 +66,8 @@ same_type_is ty.Lint ty.Dint h = absurd cc
 same_type_is ty.Lint ty.Lint h = refl
 
 -- and of the output's type
-out_type : (p : Place) (from to : Ty) (e : Entry) → p.out ≡ Some e → from_fits (entry_of p kind.Out) kind.Out from ≡ true → ty_fits kind.Out from to ≡ true → e.ty ≡ to
+out_type : (p : Place) (from to : Ty) (e : Entry) → p.out ≡ Some e → from_fits (entry_of p kind.Out) kind.Out from ≡ true → ty_fits kind.Out from to ≡ true
+    → e.ty ≡ to
 out_type p from to e is first second = same_type_is e.ty from (subst (λ o. from_fits o kind.Out from ≡ true) is first) ∙ same_type_is from to second
 
 -- an operation is an OUT of this type
@@ -71,7 +75,8 @@ pub record IsOut (op : Op) (t : Ty) : Type 0 where
   pub kind : op.kind ≡ kind.Out
   pub ty : op.ty ≡ t
 
-pub output_is_out : EntryLaws → (g : Lists) (i : ℕ) (o : Outlet) (op : Op) → IsGraph g → slice_get g.outputs i ≡ Some o → slice_get g.operations o.op ≡ Some op → IsOut op o.ty
+pub output_is_out : EntryLaws → (g : Lists) (i : ℕ) (o : Outlet) (op : Op) → IsGraph g → slice_get g.outputs i ≡ Some o → slice_get g.operations o.op ≡ Some op
+    → IsOut op o.ty
 output_is_out laws g i o op graph there here =
     let place = place_of (scope g) o.op in
     let rises = (laws.output g i o graph.part there).operation_rises in
@@ -80,5 +85,6 @@ output_is_out laws g i o op graph there here =
     let is : op.kind ≡ kind.Out = out_kind place op.kind (entry (0 + i) o.ty) out rules.kind in
     record {
       kind = is;
-      ty = sym (out_type place op.from op.ty (entry (0 + i) o.ty) out (subst (λ k. from_fits (entry_of place k) k op.from ≡ true) is rules.from) (subst (λ k. ty_fits k op.from op.ty ≡ true) is rules.ty));
+      ty = sym (out_type place op.from op.ty (entry (0 + i) o.ty) out (subst (λ k. from_fits (entry_of place k) k op.from ≡ true) is rules.from)
+          (subst (λ k. ty_fits k op.from op.ty ≡ true) is rules.ty));
     }

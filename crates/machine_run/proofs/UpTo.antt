@@ -1,5 +1,6 @@
 -- UpTo: a run between two of its cycles.
-use Rattle.std.proofs.Common.{ℕ, ◌+◌, ◌<◌, ◌≤◌, ◌≡◌, false, refl, ap, subst, sym, ◌∙◌, ℤ, List, [], ◌∷◌, ◌++◌, append-nil, append_assoc, length, length-append, map, arith}
+use Rattle.std.proofs.Common.{ℕ, ◌+◌, ◌<◌, ◌≤◌, ◌≡◌, false, refl, ap, subst, sym, ◌∙◌, ℤ, List, [], ◌∷◌, ◌++◌, append-nil, append_assoc, length, length-append}
+use Rattle.std.proofs.Common.{map, arith}
 use Rattle.std.proofs.lemmas.List.{length-map}
 use Rattle.std.specs.Io.KnownBytes.{Appends}
 use Rattle.vcp_base.specs.Limits.{most_cycles}
@@ -20,7 +21,8 @@ use Rattle.coded_machine.specs.Laws.{RunLaws}
 
 -- What stands between two cycles of a run over the rows `left`, of which `rest` are left: a cycle was carried and released for each
 -- of the rows taken, all is written and kept for them, and the machine is the one after them.
-pub record UpTo (g : Lists) (t : Numbers) (left rest : RowsLeft) (text : ℕ → List ℤ → List ℕ) (before now : Moment) (kept_before kept_now : List (List ℤ) → Type 0) (m : State) : Type 0 where
+pub record UpTo (g : Lists) (t : Numbers) (left rest : RowsLeft) (text : ℕ → List ℤ → List ℕ) (before now : Moment)
+    (kept_before kept_now : List (List ℤ) → Type 0) (m : State) : Type 0 where
   pub taken : List (List ℤ)
   pub cycles : List (List Answer)
   pub rows : left ≡ record rest { rows = taken ++ rest.rows }
@@ -32,7 +34,8 @@ pub record UpTo (g : Lists) (t : Numbers) (left rest : RowsLeft) (text : ℕ →
   pub kept : (rows : List (List ℤ)) → kept_before rows → kept_now (rows ++ map (outputs_of g) cycles)
 
 -- before the first cycle
-pub up_to_first : RunLaws → (left : RowsLeft) (text : ℕ → List ℤ → List ℕ) (b : Moment) (kept : List (List ℤ) → Type 0) (m : State) → m ≡ fresh m.graph m.table → UpTo m.graph m.table left left text b b kept kept m
+pub up_to_first : RunLaws → (left : RowsLeft) (text : ℕ → List ℤ → List ℕ) (b : Moment) (kept : List (List ℤ) → Type 0) (m : State) → m ≡ fresh m.graph m.table
+    → UpTo m.graph m.table left left text b b kept kept m
 up_to_first laws left text b kept m is = record {
   taken = [];
   cycles = [];
@@ -57,7 +60,8 @@ map_more f [] x = refl
 map_more f (y ∷ xs) x = ap (λ ys. f y ∷ ys) (map_more f xs x)
 
 -- the machine between two cycles
-pub machine_stands : (g : Lists) (t : Numbers) (left rest : RowsLeft) (text : ℕ → List ℤ → List ℕ) (b n : Moment) (kept_before kept_now : List (List ℤ) → Type 0) (m : State) → (u : UpTo g t left rest text b n kept_before kept_now m) →
+pub machine_stands : (g : Lists) (t : Numbers) (left rest : RowsLeft) (text : ℕ → List ℤ → List ℕ) (b n : Moment) (kept_before kept_now : List (List ℤ)
+    → Type 0) (m : State) → (u : UpTo g t left rest text b n kept_before kept_now m) →
     outcome_over g t 0 u.cycles ≡ record { rows = map (outputs_of g) u.cycles; end = end.Released } → MachineAfter g t u.cycles m
 machine_stands g t left rest text b n kept_before kept_now m u outcome = record {
   graph = u.run.graph;
@@ -78,17 +82,21 @@ turn_table m n row end.Released b a h = ap (λ (s : State). s.table) h.machine
 turn_table m n row (end.Stopped op why) b a h = ap (λ (s : State). s.table) h.machine
 turn_table m n row (end.Refused i found wanted) b a h = ap (λ (s : State). s.table) h.machine
 
-turn_cycles : (m n : State) (row outs : List ℤ) (e : CycleEnd) (b a : Moment) → Turn m n row e b.log a.log b.wrong a.wrong → n.cycles ≡ m.cycles + length (row_if e outs)
+turn_cycles : (m n : State) (row outs : List ℤ) (e : CycleEnd) (b a : Moment) → Turn m n row e b.log a.log b.wrong a.wrong
+    → n.cycles ≡ m.cycles + length (row_if e outs)
 turn_cycles m n row outs end.Released b a h = ap (λ (s : State). s.cycles) h.machine
 turn_cycles m n row outs (end.Stopped op why) b a h = omega (arith, ap (λ (s : State). s.cycles) h.machine)
 turn_cycles m n row outs (end.Refused i found wanted) b a h = omega (arith, ap (λ (s : State). s.cycles) h.machine)
 
 -- the machine after one more cycle, whatever its end
 pub machine_on : (g : Lists) (t : Numbers) (left rest : RowsLeft) (text : ℕ → List ℤ → List ℕ) (b n a : Moment) (kept_before kept_now : List (List ℤ) → Type 0) (m o : State) (row : List ℤ) (e : CycleEnd) → (u : UpTo g t left rest text b n kept_before kept_now m) → Turn m o row e n.log a.log n.wrong a.wrong → o.under_way ≡ false →
-    outcome_over g t 0 (u.cycles ++ o.answers ∷ []) ≡ record { rows = map (outputs_of g) u.cycles ++ row_if e (outputs_of g o.answers); end = e } → MachineAfter g t (u.cycles ++ o.answers ∷ []) o
+    outcome_over g t 0
+    (u.cycles ++ o.answers ∷ []) ≡ record { rows = map (outputs_of g) u.cycles ++ row_if e (outputs_of g o.answers); end = e } → MachineAfter g t
+    (u.cycles ++ o.answers ∷ []) o
 machine_on g t left rest text b n a kept_before kept_now m o row e u turn between outcome =
     let last = row_if e (outputs_of g o.answers) in
-    let count : length (outcome_over g t 0 (u.cycles ++ o.answers ∷ [])).rows ≡ length (map (outputs_of g) u.cycles) + length last = ap (λ (x : Outcome). length x.rows) outcome ∙ length-append (map (outputs_of g) u.cycles) last in
+    let count : length (outcome_over g t 0 (u.cycles ++ o.answers ∷ [])).rows ≡ length (map (outputs_of g) u.cycles) + length last =
+    ap (λ (x : Outcome). length x.rows) outcome ∙ length-append (map (outputs_of g) u.cycles) last in
     record {
       graph = turn_graph m o row e n a turn ∙ u.run.graph;
       table = turn_table m o row e n a turn ∙ u.run.table;
@@ -98,34 +106,53 @@ machine_on g t left rest text b n a kept_before kept_now m o row e u turn betwee
     }
 
 -- the rows taken, with one more
-pub rows_on : (left rest now : RowsLeft) (taken : List (List ℤ)) (row : List ℤ) → left ≡ record rest { rows = taken ++ rest.rows } → rest ≡ record now { rows = row ∷ now.rows } → left ≡ record now { rows = (taken ++ row ∷ []) ++ now.rows }
+pub rows_on : (left rest now : RowsLeft) (taken : List (List ℤ)) (row : List ℤ) → left ≡ record rest { rows = taken ++ rest.rows }
+    → rest ≡ record now { rows = row ∷ now.rows } → left ≡ record now { rows = (taken ++ row ∷ []) ++ now.rows }
 rows_on left rest now taken row all one =
-    all ∙ ap (λ (r : RowsLeft). record r { rows = taken ++ r.rows }) one ∙ ap (λ rows. record now { rows = rows }) (sym (append_assoc taken (row ∷ []) now.rows))
+    all ∙ ap (λ (r : RowsLeft). record r { rows = taken ++ r.rows }) one
+    ∙ ap (λ rows. record now { rows = rows }) (sym (append_assoc taken (row ∷ []) now.rows))
 
 -- the text of a cycle's row, by the rows before it
-pub text_here : (g : Lists) (t : Numbers) (text : ℕ → List ℤ → List ℕ) (cycles : List (List Answer)) (taken : List (List ℤ)) (m : State) (answers : List Answer) (e : CycleEnd) (b n : Moment) → RunSoFar g t taken cycles m b.log n.log b.wrong n.wrong →
-    texts_from text m.cycles (row_if e (outputs_of m.graph answers)) ≡ texts_from text (0 + length (map (outputs_of g) cycles)) (row_if e (outputs_of g answers))
+pub text_here : (g : Lists) (t : Numbers) (text : ℕ → List ℤ
+    → List ℕ) (cycles : List (List Answer)) (taken : List
+    (List ℤ)) (m : State) (answers : List Answer) (e : CycleEnd) (b n : Moment) → RunSoFar g t taken cycles m b.log n.log b.wrong n.wrong →
+    texts_from text m.cycles (row_if e (outputs_of m.graph answers)) ≡ texts_from text (0 + length (map (outputs_of g) cycles))
+    (row_if e (outputs_of g answers))
 text_here g t text cycles taken m answers e b n run =
     let count : m.cycles ≡ 0 + length (map (outputs_of g) cycles) = omega (arith, run.many_cycles, length-map cycles (outputs_of g)) in
-    ap (λ (x : Lists). texts_from text m.cycles (row_if e (outputs_of x answers))) run.graph ∙ ap (λ i. texts_from text i (row_if e (outputs_of g answers))) count
+    ap (λ (x : Lists). texts_from text m.cycles (row_if e (outputs_of x answers))) run.graph
+    ∙ ap (λ i. texts_from text i (row_if e (outputs_of g answers))) count
 
 -- what is written after a cycle
-pub written_on : (g : Lists) (t : Numbers) (text : ℕ → List ℤ → List ℕ) (cycles : List (List Answer)) (taken : List (List ℤ)) (m : State) (answers : List Answer) (e : CycleEnd) (b n a : Moment) → RunSoFar g t taken cycles m b.log n.log b.wrong n.wrong →
-    Appends b.out n.out (texts_from text 0 (map (outputs_of g) cycles)) → Appends n.out a.out (texts_from text m.cycles (row_if e (outputs_of m.graph answers))) → Appends b.out a.out (texts_from text 0 (map (outputs_of g) cycles ++ row_if e (outputs_of g answers)))
+pub written_on : (g : Lists) (t : Numbers) (text : ℕ → List ℤ
+    → List ℕ) (cycles : List (List Answer)) (taken : List
+    (List ℤ)) (m : State) (answers : List Answer) (e : CycleEnd) (b n a : Moment) → RunSoFar g t taken cycles m b.log n.log b.wrong n.wrong →
+    Appends b.out n.out (texts_from text 0 (map (outputs_of g) cycles)) → Appends n.out a.out
+    (texts_from text m.cycles (row_if e (outputs_of m.graph answers))) → Appends b.out a.out
+    (texts_from text 0 (map (outputs_of g) cycles ++ row_if e (outputs_of g answers)))
 written_on g t text cycles taken m answers e b n a run h k =
-    rows_written text b.out n.out a.out (map (outputs_of g) cycles) (row_if e (outputs_of g answers)) h (subst (Appends n.out a.out) (text_here g t text cycles taken m answers e b n run) k)
+    rows_written text b.out n.out a.out (map (outputs_of g) cycles) (row_if e (outputs_of g answers)) h
+    (subst (Appends n.out a.out) (text_here g t text cycles taken m answers e b n run) k)
 
 -- what is kept after it
-pub kept_on : (g : Lists) (cycles : List (List Answer)) (m : State) (answers : List Answer) (e : CycleEnd) (kept_before kept_now kept_after : List (List ℤ) → Type 0) → m.graph ≡ g →
-    ((rows : List (List ℤ)) → kept_before rows → kept_now (rows ++ map (outputs_of g) cycles)) → ((rows : List (List ℤ)) → kept_now rows → kept_after (rows ++ row_if e (outputs_of m.graph answers))) →
+pub kept_on : (g : Lists) (cycles : List (List Answer)) (m : State) (answers : List Answer) (e : CycleEnd) (kept_before kept_now kept_after : List (List ℤ)
+    → Type 0) → m.graph ≡ g →
+    ((rows : List (List ℤ)) → kept_before rows → kept_now (rows ++ map (outputs_of g) cycles))
+    → ((rows : List (List ℤ)) → kept_now rows → kept_after (rows ++ row_if e (outputs_of m.graph answers))) →
     (rows : List (List ℤ)) → kept_before rows → kept_after (rows ++ (map (outputs_of g) cycles ++ row_if e (outputs_of g answers)))
 kept_on g cycles m answers e kept_before kept_now kept_after graph h k rows b =
-    subst kept_after (append_assoc rows (map (outputs_of g) cycles) (row_if e (outputs_of g answers))) (subst (λ (x : Lists). kept_after ((rows ++ map (outputs_of g) cycles) ++ row_if e (outputs_of x answers))) graph (k (rows ++ map (outputs_of g) cycles) (h rows b)))
+    subst kept_after (append_assoc rows (map (outputs_of g) cycles) (row_if e (outputs_of g answers)))
+    (subst (λ (x : Lists). kept_after ((rows ++ map (outputs_of g) cycles) ++ row_if e (outputs_of x answers))) graph
+    (k (rows ++ map (outputs_of g) cycles) (h rows b)))
 
 -- after a cycle that was released
-pub up_to_next : RunLaws → (g : Lists) (t : Numbers) (left rest now : RowsLeft) (text : ℕ → List ℤ → List ℕ) (b n a : Moment) (kept_before kept_now kept_after : List (List ℤ) → Type 0) (m o : State) (row : List ℤ) (e : CycleEnd) → UpTo g t left rest text b n kept_before kept_now m → e ≡ end.Released →
-    rest ≡ record now { rows = row ∷ now.rows } → Turn m o row e n.log a.log n.wrong a.wrong → o.under_way ≡ false → Appends n.out a.out (texts_from text m.cycles (row_if e (outputs_of m.graph o.answers))) → n.out_faults ≤ a.out_faults →
-    ((rows : List (List ℤ)) → kept_now rows → kept_after (rows ++ row_if e (outputs_of m.graph o.answers))) → UpTo g t left now text b a kept_before kept_after o
+pub up_to_next : RunLaws
+    → (g : Lists) (t : Numbers) (left rest now : RowsLeft) (text : ℕ → List ℤ → List ℕ) (b n a : Moment) (kept_before kept_now kept_after : List (List ℤ)
+    → Type 0) (m o : State) (row : List ℤ) (e : CycleEnd) → UpTo g t left rest text b n kept_before kept_now m → e ≡ end.Released →
+    rest ≡ record now { rows = row ∷ now.rows } → Turn m o row e n.log a.log n.wrong a.wrong → o.under_way ≡ false → Appends n.out a.out
+    (texts_from text m.cycles (row_if e (outputs_of m.graph o.answers))) → n.out_faults ≤ a.out_faults →
+    ((rows : List (List ℤ)) → kept_now rows → kept_after (rows ++ row_if e (outputs_of m.graph o.answers)))
+    → UpTo g t left now text b a kept_before kept_after o
 up_to_next laws g t left rest now text b n a kept_before kept_now kept_after m o row end.Released u is one turn between written faults kept = record {
   taken = u.taken ++ row ∷ [];
   cycles = u.cycles ++ o.answers ∷ [];
@@ -142,10 +169,15 @@ up_to_next laws g t left rest now text b n a kept_before kept_now kept_after m o
       (kept_on g u.cycles m o.answers end.Released kept_before kept_now kept_after u.run.graph u.kept kept rows h);
 }
 up_to_next laws g t left rest now text b n a kept_before kept_now kept_after m o row (end.Stopped op why) u is one turn between written faults kept = absurd cc
-up_to_next laws g t left rest now text b n a kept_before kept_now kept_after m o row (end.Refused i found wanted) u is one turn between written faults kept = absurd cc
+up_to_next laws g t left rest now text b n a kept_before kept_now kept_after m o row (end.Refused i found wanted) u is one turn between written faults kept =
+    absurd cc
 
 -- before a row the cycles are fewer than a run may have
-pub cycles_left : (g : Lists) (t : Numbers) (left rest now : RowsLeft) (text : ℕ → List ℤ → List ℕ) (b n : Moment) (kept_before kept_now : List (List ℤ) → Type 0) (m : State) (row : List ℤ) → UpTo g t left rest text b n kept_before kept_now m → length left.rows ≤ most_cycles → rest ≡ record now { rows = row ∷ now.rows } → m.cycles < most_cycles
+pub cycles_left : (g : Lists) (t : Numbers) (left rest now : RowsLeft) (text : ℕ → List ℤ → List ℕ) (b n : Moment) (kept_before kept_now : List (List ℤ)
+    → Type 0) (m : State) (row : List ℤ) → UpTo g t left rest text b n kept_before kept_now m → length left.rows ≤ most_cycles → rest ≡ record now {
+      rows =
+          row ∷ now.rows;
+    } → m.cycles < most_cycles
 cycles_left g t left rest now text b n kept_before kept_now m row u few one =
     let all = ap (λ (r : RowsLeft). length r.rows) u.rows in
     let one_more = ap (λ (r : RowsLeft). length r.rows) one in

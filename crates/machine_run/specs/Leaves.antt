@@ -33,7 +33,8 @@ KeptAfter kept_before kept_after released (Err fault.Write) = Unit {0}
 KeptAfter kept_before kept_after released result = (rows : List (List ℤ)) → kept_before rows → kept_after (rows ++ released)
 
 -- What running a graph leaves of the log and the output, of the machine, and of what is kept of the released rows.
-pub record Leaves (g : Lists) (t : Numbers) (left : RowsLeft) (text : ℕ → List ℤ → List ℕ) (before after : Moment) (kept_before kept_after : List (List ℤ) → Type 0) (m : State) (result : Result CycleEnd RunFault) : Type 0 where
+pub record Leaves (g : Lists) (t : Numbers) (left : RowsLeft) (text : ℕ → List ℤ → List ℕ) (before after : Moment)
+    (kept_before kept_after : List (List ℤ) → Type 0) (m : State) (result : Result CycleEnd RunFault) : Type 0 where
   pub run : RunsRows g t left text before after result
   pub machine : MachineAfter g t run.cycles m
   pub kept : KeptAfter kept_before kept_after (outcome_over g t 0 run.cycles).rows result

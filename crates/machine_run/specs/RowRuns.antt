@@ -45,11 +45,13 @@ pub record CameToEnd (g : Lists) (t : Numbers) (rows : List (List ℤ)) (cycles 
 -- for its rows was written; where a row is refused that is behind the others, too. Where writing failed, a part of it was.
 abbrev pub EndsSo : Lists → Numbers → RowsLeft → (ℕ → List ℤ → List ℕ) → List (List Answer) → Moment → Moment → Result CycleEnd RunFault → Type 0
 EndsSo g t left text cycles before after (Ok e) =
-    CameToEnd g t left.rows cycles e × (e ≡ end.Released → left.refusal ≡ None) × Appends before.out after.out (texts_from text 0 (outcome_over g t 0 cycles).rows)
+    CameToEnd g t left.rows cycles e × (e ≡ end.Released → left.refusal ≡ None) × Appends before.out after.out
+    (texts_from text 0 (outcome_over g t 0 cycles).rows)
 EndsSo g t left text cycles before after (Err (fault.Rows f)) =
     CameToEnd g t left.rows cycles end.Released × (left.refusal ≡ Some f) × Appends before.out after.out (texts_from text 0 (outcome_over g t 0 cycles).rows)
 EndsSo g t left text cycles before after (Err fault.Write) =
-    Rose before.out_faults after.out_faults × AppendsPart before.out after.out (texts_from text 0 (outcome_over g t 0 cycles).rows) × EarlierWritten g text cycles before after
+    Rose before.out_faults after.out_faults × AppendsPart before.out after.out
+    (texts_from text 0 (outcome_over g t 0 cycles).rows) × EarlierWritten g text cycles before after
 EndsSo g t left text cycles before after (Err fault.Memory) =
     Appends before.out after.out (texts_from text 0 (outcome_over g t 0 cycles).rows)
 
@@ -69,7 +71,8 @@ Follows g rows o (Err fault.Memory) = IsFront g rows o
 -- What running a graph over the rows that are left leaves, where so much is written for the outputs of each released cycle: the
 -- log grew by the calls of the cycles with the unit's answers and by nothing else, and the run ended as is read off these answers.
 -- Before a run was given up, each cycle was released. Where no answer was wrong, it is the graph's run on plain integers.
-pub record RunsRows (g : Lists) (t : Numbers) (left : RowsLeft) (text : ℕ → List ℤ → List ℕ) (before after : Moment) (result : Result CycleEnd RunFault) : Type 0 where
+pub record RunsRows (g : Lists) (t : Numbers) (left : RowsLeft) (text : ℕ → List ℤ → List ℕ) (before after : Moment)
+    (result : Result CycleEnd RunFault) : Type 0 where
   pub cycles : List (List Answer)
   pub carried : Carried (calls_over g t 0 (initial_words g t.seed) left.rows cycles) before.log after.log before.wrong after.wrong
   pub some : SomeCycles g t 0 left.rows cycles

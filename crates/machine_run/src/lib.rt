@@ -9,6 +9,3 @@ mod run;
 pub use fault::RunFault;
 pub use released::ReleasedRows;
 pub use run::run_rows;
-
-#[cfg(test)]
-mod tests;

@@ -44,7 +44,8 @@ fn run_cycle<U: Unit, O: Sink, R: ReleasedRows>(
     ensures between { machine.new.under_way ≡ false }
     ensures written { Writes (O.written out.old) (O.written out.new) (O.faults out.old) (O.faults out.new)
         (texts_from R.text machine.old.cycles (row_if (cycle_end result) (outputs_of machine.old.graph machine.new.answers))) result }
-    ensures kept { (rows : List (List ℤ)) → R.Keeps released.old rows → OnOk result (R.Keeps released.new (rows ++ row_if (cycle_end result) (outputs_of machine.old.graph machine.new.answers))) }
+    ensures kept { (rows : List (List ℤ)) → R.Keeps released.old rows
+        → OnOk result (R.Keeps released.new (rows ++ row_if (cycle_end result) (outputs_of machine.old.graph machine.new.answers))) }
     ensures width { length outputs.new ≡ length outputs.old }
 {
     let cycle = machine.cycles();

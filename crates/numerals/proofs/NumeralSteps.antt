@@ -1,5 +1,6 @@
 -- One digit more.
-use Rattle.std.proofs.Common.{◌≡◌, ℕ, suc, ◌+◌, ◌-◌, ◌*◌, ◌^◌, ◌<◌, ◌&&◌, true, false, Bool, List, [], ◌∷◌, ◌++◌, length, take, drop, get_or, refl, ap, ◌∙◌, arith, add-one, None, nat_le}
+use Rattle.std.proofs.Common.{◌≡◌, ℕ, suc, ◌+◌, ◌-◌, ◌*◌, ◌^◌, ◌<◌, ◌&&◌, true, false, Bool, List, [], ◌∷◌, ◌++◌, length, take, drop, get_or, refl, ap, ◌∙◌}
+use Rattle.std.proofs.Common.{arith, add-one, None, nat_le}
 use Rattle.std.proofs.Math.Nat.{pow-suc}
 use Rattle.std.proofs.Math.Seq.{take-suc, split_at}
 use Rattle.std.proofs.lemmas.Bool.{false≢true}

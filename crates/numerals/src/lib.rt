@@ -11,6 +11,3 @@ mod integers;
 pub use blanks::without_first_blanks;
 pub use digits::numeral;
 pub use integers::number_in;
-
-#[cfg(test)]
-mod tests;

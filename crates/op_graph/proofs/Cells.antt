@@ -13,7 +13,8 @@ length-joined [] stores e = refl
 length-joined (l ∷ loads) [] e = absurd (omega arith)
 length-joined (l ∷ loads) (n ∷ stores) e = let h = length-joined loads stores (omega arith) in omega arith
 
-pub joined_at : (loads : List Loaded) (stores : List ℕ) (i : ℕ) (l : Loaded) (n : ℕ) → slice_get loads i ≡ Some l → slice_get stores i ≡ Some n → slice_get (joined loads stores) i ≡ Some (record { name = l.name; ty = l.ty; init = l.init; load = l.load; store = n })
+pub joined_at : (loads : List Loaded) (stores : List ℕ) (i : ℕ) (l : Loaded) (n : ℕ) → slice_get loads i ≡ Some l → slice_get stores i ≡ Some n
+    → slice_get (joined loads stores) i ≡ Some (record { name = l.name; ty = l.ty; init = l.init; load = l.load; store = n })
 joined_at [] stores i l n e f = absurd cc
 joined_at (x ∷ loads) [] i l n e f = absurd cc
 joined_at (x ∷ loads) (y ∷ stores) zero l n e f = let same : x ≡ l = cc in let equal : y ≡ n = cc in rw (same, equal) refl

@@ -1,5 +1,6 @@
 -- Chains: the turns round a node are its chain of parents, read outwards.
-use Rattle.std.proofs.Common.{◌≡◌, ℕ, zero, suc, ◌+◌, ◌*◌, ◌<◌, ◌≤◌, ◌==◌, true, false, List, [], ◌∷◌, ◌++◌, length, take, reverse, ◌-◌, inl, inr, slice_get, slice_set, slice_index_or, Option, Some, None, refl, sym, ap, subst, ◌∙◌, append_assoc, length-append, arith}
+use Rattle.std.proofs.Common.{◌≡◌, ℕ, zero, suc, ◌+◌, ◌*◌, ◌<◌, ◌≤◌, ◌==◌, true, false, List, [], ◌∷◌, ◌++◌, length, take, reverse, ◌-◌, inl, inr, slice_get}
+use Rattle.std.proofs.Common.{slice_set, slice_index_or, Option, Some, None, refl, sym, ap, subst, ◌∙◌, append_assoc, length-append, arith}
 use Rattle.std.proofs.lemmas.Bool.{ne_eqb, cases_lt}
 use Rattle.std.proofs.lemmas.List.{append-nil, length-take-le, reverse-append, length-reverse}
 use Rattle.std.proofs.lemmas.Option.{slice_get_within}
@@ -74,26 +75,31 @@ record Split (nodes : List TurnNode) (i : ℕ) (t : TurnNode) : Type 0 where
 split : (nodes : List TurnNode) (i : ℕ) (t : TurnNode) → slice_get nodes i ≡ Some t → Split nodes i t
 split [] i t there = absurd cc
 split (x ∷ nodes) zero t there = let same : x ≡ t = cc in record { front = []; back = nodes; whole = ap (λ y. y ∷ nodes) same; place = refl }
-split (x ∷ nodes) (suc i) t there = let rest = split nodes i t there in record { front = x ∷ rest.front; back = rest.back; whole = ap (λ l. x ∷ l) rest.whole; place = omega (arith, rest.place) }
+split (x ∷ nodes) (suc i) t there = let rest = split nodes i t there in
+    record { front = x ∷ rest.front; back = rest.back; whole = ap (λ l. x ∷ l) rest.whole; place = omega (arith, rest.place) }
 
 back_none : (earlier : List TurnNode) → turns_back earlier 0 ≡ []
 back_none [] = refl
 back_none (t ∷ earlier) = back_below t earlier 0 (omega arith) ∙ back_none earlier
 
 -- the turns round a node: those round its parent, then its own
-back_step : (nodes : List TurnNode) (i : ℕ) (t : TurnNode) → AreNodes nodes → slice_get nodes i ≡ Some t → turns_back (reverse nodes) (suc i) ≡ turns_back (reverse nodes) t.parent ++ turn_of t ∷ []
+back_step : (nodes : List TurnNode) (i : ℕ) (t : TurnNode) → AreNodes nodes → slice_get nodes i ≡ Some t
+    → turns_back (reverse nodes) (suc i) ≡ turns_back (reverse nodes) t.parent ++ turn_of t ∷ []
 back_step nodes i t are there =
     let s = split nodes i t there in
     let lower : t.parent ≤ i = parent_lower nodes i (Some t) are there in
     let e = length-reverse s.front in
-    let here : (suc (length (reverse s.front)) == suc i) ≡ true = subst (λ j. (suc j == suc i) ≡ true) (let back : i ≡ length (reverse s.front) = omega (arith, e, s.place) in back) (eqb_self (suc i)) in
+    let here : (suc (length (reverse s.front)) == suc i) ≡ true =
+    subst (λ j. (suc j == suc i) ≡ true) (let back : i ≡ length (reverse s.front) = omega (arith, e, s.place) in back) (eqb_self (suc i)) in
     let whole : turns_back (reverse nodes) (suc i) ≡ turns_back (reverse (s.front ++ t ∷ [])) (suc i) =
     ap (λ l. turns_back (reverse l) (suc i)) s.whole ∙ back_front (s.front ++ t ∷ []) s.back (suc i) (simp length-append (omega (arith, s.place))) in
     let parents : turns_back (reverse nodes) t.parent ≡ turns_back (reverse s.front) t.parent =
-    ap (λ l. turns_back (reverse l) t.parent) (s.whole ∙ append_assoc s.front (t ∷ []) s.back) ∙ back_front s.front (t ∷ s.back) t.parent (omega (arith, s.place, lower)) in
+    ap (λ l. turns_back (reverse l) t.parent) (s.whole ∙ append_assoc s.front (t ∷ []) s.back)
+    ∙ back_front s.front (t ∷ s.back) t.parent (omega (arith, s.place, lower)) in
     whole ∙ ap (λ l. turns_back l (suc i)) (reverse_push s.front t) ∙ rw here (ap (λ l. l ++ turn_of t ∷ []) (sym parents))
 
-step_by : (nodes : List TurnNode) (i : ℕ) (o : Option TurnNode) → AreNodes nodes → slice_get nodes i ≡ o → i < length nodes → turns_back (reverse nodes) (suc i) ≡ turns_back (reverse nodes) (parent_in o) ++ turn_in o
+step_by : (nodes : List TurnNode) (i : ℕ) (o : Option TurnNode) → AreNodes nodes → slice_get nodes i ≡ o → i < length nodes
+    → turns_back (reverse nodes) (suc i) ≡ turns_back (reverse nodes) (parent_in o) ++ turn_in o
 step_by nodes i None are there lt = absurd (none_past nodes i there lt)
   where
     none_past : (xs : List TurnNode) (j : ℕ) → slice_get xs j ≡ None → j < length xs → ⊥
@@ -102,14 +108,16 @@ step_by nodes i None are there lt = absurd (none_past nodes i there lt)
     none_past (x ∷ xs) (suc j) e lt = none_past xs j e (omega arith)
 step_by nodes i (Some t) are there lt = back_step nodes i t are there
 
-step_out : (nodes : List TurnNode) (m : ℕ) → AreNodes nodes → 1 ≤ m → m ≤ length nodes → turns_back (reverse nodes) m ≡ turns_back (reverse nodes) (parent nodes m) ++ turn_at nodes m
+step_out : (nodes : List TurnNode) (m : ℕ) → AreNodes nodes → 1 ≤ m → m ≤ length nodes
+    → turns_back (reverse nodes) m ≡ turns_back (reverse nodes) (parent nodes m) ++ turn_at nodes m
 step_out nodes zero are some le = absurd (omega arith)
 step_out nodes (suc i) are some le = step_by nodes i (slice_get nodes i) are refl (omega arith)
 
 There : List TurnNode → ℕ → ℕ → Type 0
 There nodes n total = (k : ℕ) → k < total → (1 ≤ up nodes n k) × (up nodes n k ≤ length nodes)
 
-from_outside : (nodes : List TurnNode) (n k : ℕ) → AreNodes nodes → There nodes n k → turns_back (reverse nodes) n ≡ turns_back (reverse nodes) (up nodes n k) ++ innermost nodes n k
+from_outside : (nodes : List TurnNode) (n k : ℕ) → AreNodes nodes → There nodes n k
+    → turns_back (reverse nodes) n ≡ turns_back (reverse nodes) (up nodes n k) ++ innermost nodes n k
 unfolding There
 from_outside nodes n zero are there = sym (append-nil (turns_back (reverse nodes) n))
 from_outside nodes n (suc k) are there =
@@ -118,14 +126,17 @@ from_outside nodes n (suc k) are there =
     ∙ ap (λ l. l ++ innermost nodes n k) (step_out nodes (up nodes n k) are here.0 here.1)
     ∙ append_assoc (turns_back (reverse nodes) (parent nodes (up nodes n k))) (turn_at nodes (up nodes n k)) (innermost nodes n k)
 
-pub whole_chain : (nodes : List TurnNode) (n total : ℕ) → AreNodes nodes → ((k : ℕ) → k < total → (1 ≤ up nodes n k) × (up nodes n k ≤ length nodes)) → up nodes n total ≡ 0 → innermost nodes n total ≡ turns_back (reverse nodes) n
+pub whole_chain : (nodes : List TurnNode) (n total : ℕ) → AreNodes nodes → ((k : ℕ) → k < total → (1 ≤ up nodes n k) × (up nodes n k ≤ length nodes))
+    → up nodes n total ≡ 0 → innermost nodes n total ≡ turns_back (reverse nodes) n
 unfolding There
 whole_chain nodes n total are there past =
-    sym (from_outside nodes n total are there ∙ ap (λ m. turns_back (reverse nodes) m ++ innermost nodes n total) past ∙ ap (λ l. l ++ innermost nodes n total) (back_none (reverse nodes)))
+    sym (from_outside nodes n total are there ∙ ap (λ m. turns_back (reverse nodes) m ++ innermost nodes n total) past
+    ∙ ap (λ l. l ++ innermost nodes n total) (back_none (reverse nodes)))
 
 -- ---- what is kept of it
 
-pub all_there : (nodes : List TurnNode) (n stretches left : ℕ) → AreNodes nodes → n ≤ length nodes → (1 ≤ stretches → 1 ≤ up nodes n (256 * stretches)) → ((i : ℕ) → i < left → 1 ≤ up nodes n (256 * stretches + i)) →
+pub all_there : (nodes : List TurnNode) (n stretches left : ℕ) → AreNodes nodes → n ≤ length nodes → (1 ≤ stretches → 1 ≤ up nodes n (256 * stretches))
+    → ((i : ℕ) → i < left → 1 ≤ up nodes n (256 * stretches + i)) →
     (k : ℕ) → k < 256 * stretches + left → (1 ≤ up nodes n k) × (up nodes n k ≤ length nodes)
 all_there nodes n stretches left are le first rest k lt = elim (cases_lt k (256 * stretches)) [
   | inl earlier ↦
@@ -144,20 +155,24 @@ index_of (y ∷ xs) zero x d e = cc
 index_of (y ∷ xs) (suc i) x d e = index_of xs i x d e
 
 -- the first node of the stretch that is read again
-pub mark_is : (nodes : List TurnNode) (n s left : ℕ) (marks stretch : List ℕ) → Kept nodes n s left marks stretch → 1 ≤ s → slice_index_or marks (s - 1) 0 ≡ up nodes n (256 * (s - 1))
+pub mark_is : (nodes : List TurnNode) (n s left : ℕ) (marks stretch : List ℕ) → Kept nodes n s left marks stretch → 1 ≤ s
+    → slice_index_or marks (s - 1) 0 ≡ up nodes n (256 * (s - 1))
 mark_is nodes n s left marks stretch kept some = index_of marks (s - 1) (up nodes n (256 * (s - 1))) 0 (kept.marks (s - 1) (omega arith))
 
 -- it is read whole
-pub refill_whole : (nodes : List TurnNode) (n s mark left next : ℕ) (marks stretch : List ℕ) → Kept nodes n s 0 marks stretch → 1 ≤ s → mark ≡ up nodes n (256 * (s - 1)) → left ≤ 256 → next ≡ up nodes mark left → (left < 256 → next ≡ 0) → left ≡ 256
+pub refill_whole : (nodes : List TurnNode) (n s mark left next : ℕ) (marks stretch : List ℕ) → Kept nodes n s 0 marks stretch → 1 ≤ s
+    → mark ≡ up nodes n (256 * (s - 1)) → left ≤ 256 → next ≡ up nodes mark left → (left < 256 → next ≡ 0) → left ≡ 256
 refill_whole nodes n s mark left next marks stretch kept some is few end whole = elim (cases_lt left 256) [
   | inl less ↦
-      let zero_there : up nodes n (256 * (s - 1) + left) ≡ 0 = sym (up_add nodes n (256 * (s - 1)) left) ∙ ap (λ m. up nodes m left) (sym is) ∙ sym end ∙ whole less in
+      let zero_there : up nodes n (256 * (s - 1) + left) ≡ 0 = sym (up_add nodes n (256 * (s - 1)) left) ∙ ap (λ m. up nodes m left) (sym is) ∙ sym end
+      ∙ whole less in
       let one_there = (kept.there (256 * (s - 1) + left) (omega arith)).0 in
       absurd (omega (arith, zero_there, one_there))
   | inr all ↦ omega arith
 ]
 
-pub refill_kept : (nodes : List TurnNode) (n s mark left : ℕ) (marks stretch new : List ℕ) → Kept nodes n s 0 marks stretch → 1 ≤ s → mark ≡ up nodes n (256 * (s - 1)) → left ≡ 256 → ((i : ℕ) → i < left → slice_get new i ≡ Some (up nodes mark i)) → Kept nodes n (s - 1) left marks new
+pub refill_kept : (nodes : List TurnNode) (n s mark left : ℕ) (marks stretch new : List ℕ) → Kept nodes n s 0 marks stretch → 1 ≤ s
+    → mark ≡ up nodes n (256 * (s - 1)) → left ≡ 256 → ((i : ℕ) → i < left → slice_get new i ≡ Some (up nodes mark i)) → Kept nodes n (s - 1) left marks new
 refill_kept nodes n s mark left marks stretch new kept some is whole filled = record {
   marks = λ i lt. kept.marks i (omega arith);
   stretch = λ i lt. filled i lt ∙ ap Some (ap (λ m. up nodes m i) is ∙ up_add nodes n (256 * (s - 1)) i);
@@ -168,10 +183,12 @@ refill_kept nodes n s mark left marks stretch new kept some is whole filled = re
 
 -- ---- the next turn
 
-pub node_is : (nodes : List TurnNode) (n s left : ℕ) (marks stretch : List ℕ) → Kept nodes n s left marks stretch → 1 ≤ left → slice_index_or stretch (left - 1) 0 ≡ up nodes n (256 * s + (left - 1))
+pub node_is : (nodes : List TurnNode) (n s left : ℕ) (marks stretch : List ℕ) → Kept nodes n s left marks stretch → 1 ≤ left
+    → slice_index_or stretch (left - 1) 0 ≡ up nodes n (256 * s + (left - 1))
 node_is nodes n s left marks stretch kept some = index_of stretch (left - 1) (up nodes n (256 * s + (left - 1))) 0 (kept.stretch (left - 1) (omega arith))
 
-pub node_there : (nodes : List TurnNode) (n s left m : ℕ) (marks stretch : List ℕ) → Kept nodes n s left marks stretch → 1 ≤ left → m ≡ up nodes n (256 * s + (left - 1)) → (1 ≤ m) × (m ≤ length nodes)
+pub node_there : (nodes : List TurnNode) (n s left m : ℕ) (marks stretch : List ℕ) → Kept nodes n s left marks stretch → 1 ≤ left
+    → m ≡ up nodes n (256 * s + (left - 1)) → (1 ≤ m) × (m ≤ length nodes)
 node_there nodes n s left m marks stretch kept some is =
     let there = kept.there (256 * s + (left - 1)) (omega arith) in
     (omega (arith, is, there.0), omega (arith, is, there.1))
@@ -189,11 +206,13 @@ turn_at_there : (nodes : List TurnNode) (m : ℕ) (t : TurnNode) → 1 ≤ m →
 turn_at_there nodes zero t some there = absurd (omega arith)
 turn_at_there nodes (suc i) t some there = let e : suc i - 1 ≡ i = omega arith in ap turn_in (ap (slice_get nodes) (sym e) ∙ there)
 
-pub next_told : (nodes : List TurnNode) (n total m : ℕ) (t : TurnNode) → 1 ≤ total → m ≡ up nodes n (total - 1) → 1 ≤ m → slice_get nodes (m - 1) ≡ Some t → innermost nodes n total ≡ turn_of t ∷ innermost nodes n (total - 1)
+pub next_told : (nodes : List TurnNode) (n total m : ℕ) (t : TurnNode) → 1 ≤ total → m ≡ up nodes n (total - 1) → 1 ≤ m → slice_get nodes (m - 1) ≡ Some t
+    → innermost nodes n total ≡ turn_of t ∷ innermost nodes n (total - 1)
 next_told nodes n zero m t some is there get = absurd (omega arith)
 next_told nodes n (suc k) m t some is there get =
     let e : suc k - 1 ≡ k = omega arith in
-    let here : turn_at nodes (up nodes n k) ≡ turn_of t ∷ [] = ap (λ j. turn_at nodes (up nodes n j)) (sym e) ∙ ap (turn_at nodes) (sym is) ∙ turn_at_there nodes m t there get in
+    let here : turn_at nodes (up nodes n k) ≡ turn_of t ∷ [] = ap (λ j. turn_at nodes (up nodes n j)) (sym e) ∙ ap (turn_at nodes) (sym is)
+    ∙ turn_at_there nodes m t there get in
     ap (λ l. l ++ innermost nodes n k) here ∙ ap (λ j. turn_of t ∷ innermost nodes n j) (sym e)
 
 get_index : {X : Type 0} (xs : List X) (i : ℕ) (d : X) → i < length xs → slice_get xs i ≡ Some (slice_index_or xs i d)
@@ -201,7 +220,8 @@ get_index [] i d lt = absurd (omega arith)
 get_index (x ∷ xs) zero d lt = refl
 get_index (x ∷ xs) (suc i) d lt = get_index xs i d (omega arith)
 
-pub tells : (nodes : List TurnNode) (n s0 l0 s l : ℕ) (marks stretch : List ℕ) (d : TurnNode) → Kept nodes n s l marks stretch → 1 ≤ l → 256 * s + l ≡ 256 * s0 + l0 →
+pub tells : (nodes : List TurnNode) (n s0 l0 s l : ℕ) (marks stretch : List ℕ) (d : TurnNode) → Kept nodes n s l marks stretch → 1 ≤ l
+    → 256 * s + l ≡ 256 * s0 + l0 →
     innermost nodes n (256 * s0 + l0) ≡ turn_of (slice_index_or nodes (slice_index_or stretch (l - 1) 0 - 1) d) ∷ innermost nodes n (256 * s + (l - 1))
 tells nodes n s0 l0 s l marks stretch d kept some same =
     let total = 256 * s0 + l0 in
@@ -226,7 +246,8 @@ set_before (x ∷ xs) i zero v lt = absurd (omega arith)
 set_before (x ∷ xs) zero (suc k) v lt = refl
 set_before (x ∷ xs) (suc i) (suc k) v lt = set_before xs i k v (omega arith)
 
-pub one_more_mark : (nodes : List TurnNode) (n s node : ℕ) (marks : List ℕ) → ((i : ℕ) → i < s → slice_get marks i ≡ Some (up nodes n (256 * i))) → node ≡ up nodes n (256 * s) → s < length marks →
+pub one_more_mark : (nodes : List TurnNode) (n s node : ℕ) (marks : List ℕ) → ((i : ℕ) → i < s → slice_get marks i ≡ Some (up nodes n (256 * i)))
+    → node ≡ up nodes n (256 * s) → s < length marks →
     (i : ℕ) → i < s + 1 → slice_get (slice_set marks s node) i ≡ Some (up nodes n (256 * i))
 one_more_mark nodes n s node marks before here room i lt = elim (cases_lt i s) [
   | inl less ↦ set_before marks i s node less ∙ before i less
@@ -235,7 +256,8 @@ one_more_mark nodes n s node marks before here room i lt = elim (cases_lt i s) [
       subst (λ j. slice_get (slice_set marks s node) j ≡ Some (up nodes n (256 * j))) same (set_here marks s node room ∙ ap Some here)
 ]
 
-pub next_stretch : (nodes : List TurnNode) (n s node left next : ℕ) → node ≡ up nodes n (256 * s) → next ≡ up nodes node left → left ≡ 256 → next ≡ up nodes n (256 * (s + 1))
+pub next_stretch : (nodes : List TurnNode) (n s node left next : ℕ) → node ≡ up nodes n (256 * s) → next ≡ up nodes node left → left ≡ 256
+    → next ≡ up nodes n (256 * (s + 1))
 next_stretch nodes n s node left next here is whole =
     let e : 256 * s + left ≡ 256 * (s + 1) = omega arith in
     is ∙ ap (λ m. up nodes m left) here ∙ up_add nodes n (256 * s) left ∙ ap (up nodes n) e

@@ -1,5 +1,6 @@
 -- Entries: lists whose entries each fit after those before them, and the first entry that passes a test.
-use Rattle.std.proofs.Common.{◌≡◌, ℕ, zero, suc, ◌+◌, ◌<◌, ◌≤◌, ◌==◌, Bool, true, false, cond, List, [], ◌∷◌, ◌++◌, length, slice_get, slice_index_or, All, Option, Some, None, refl, sym, ap, subst, ◌∙◌, append_assoc, length-append, arith, nat_le}
+use Rattle.std.proofs.Common.{◌≡◌, ℕ, zero, suc, ◌+◌, ◌<◌, ◌≤◌, ◌==◌, Bool, true, false, cond, List, [], ◌∷◌, ◌++◌, length, slice_get, slice_index_or, All}
+use Rattle.std.proofs.Common.{Option, Some, None, refl, sym, ap, subst, ◌∙◌, append_assoc, length-append, arith, nat_le}
 use Rattle.std.proofs.lemmas.Bool.{ne_eqb}
 use Rattle.std.proofs.lemmas.Bool.Decides.{nat_tests}
 use Rattle.std.proofs.lemmas.List.{append-nil}
@@ -13,7 +14,8 @@ each_push P before [] x h p = (subst (λ b. P b x) (append-nil before) p, tt)
 each_push P before (y ∷ xs) x h p = (h.0, each_push P (before ++ y ∷ []) xs x h.1 (subst (λ b. P b x) (sym (append_assoc before (y ∷ []) xs)) p))
 
 -- what follows from P at each place below n holds too
-pub each_more : {X : Type 0} (P Q : List X → X → Type 0) (n : ℕ) (before xs : List X) → length before + length xs ≤ n → ((b : List X) (x : X) → length b < n → P b x → Q b x) → Each P before xs → Each Q before xs
+pub each_more : {X : Type 0} (P Q : List X → X → Type 0) (n : ℕ) (before xs : List X) → length before + length xs ≤ n
+    → ((b : List X) (x : X) → length b < n → P b x → Q b x) → Each P before xs → Each Q before xs
 each_more P Q n before [] le f h = tt
 each_more P Q n before (x ∷ xs) le f h = (f before x (omega arith) h.0, each_more P Q n (before ++ x ∷ []) xs (simp length-append (omega arith)) f h.1)
 
@@ -22,7 +24,8 @@ abbrev pub Under : {X : Type 0} → (X → ℕ) → ℕ → List X → Type 0
 Under f n [] = Unit {0}
 Under f n (x ∷ xs) = (f x < n) × Under f n xs
 
-pub each_under : {X : Type 0} (P : List X → X → Type 0) (f : X → ℕ) (n : ℕ) (before xs : List X) → ((b : List X) (x : X) → P b x → f x < n) → Each P before xs → Under f n xs
+pub each_under : {X : Type 0} (P : List X → X → Type 0) (f : X → ℕ) (n : ℕ) (before xs : List X) → ((b : List X) (x : X) → P b x → f x < n) → Each P before xs
+    → Under f n xs
 each_under P f n before [] g h = tt
 each_under P f n before (x ∷ xs) g h = (g before x h.0, each_under P f n (before ++ x ∷ []) xs g h.1)
 
@@ -47,12 +50,15 @@ all_last : {X : Type 0} (f : X → ℕ) (z : ℕ) (xs : List X) (x : X) → All 
 all_last f z xs x all = subst (λ w. f w < z) (last_of_push xs x x) (all (length xs) x (simp length-append (omega arith)))
 
 -- numbers that rise and are below n are at most n, where any number above those of `before` is at least k
-pub rising_count : {X : Type 0} (P : List X → X → Type 0) (f : X → ℕ) (n k : ℕ) (before xs : List X) → ((b : List X) (x : X) → P b x → f x < n) → ((b : List X) (x : X) → P b x → All (λ w. f w < f x) b) → ((z : ℕ) → All (λ w. f w < z) before → k ≤ z) → k ≤ n → Each P before xs → k + length xs ≤ n
+pub rising_count : {X : Type 0} (P : List X → X → Type 0) (f : X → ℕ) (n k : ℕ) (before xs : List X) → ((b : List X) (x : X) → P b x → f x < n)
+    → ((b : List X) (x : X) → P b x → All (λ w. f w < f x) b) → ((z : ℕ) → All (λ w. f w < z) before → k ≤ z) → k ≤ n → Each P before xs → k + length xs ≤ n
 rising_count P f n k before [] below rises over le h = omega arith
 rising_count P f n k before (x ∷ xs) below rises over le h =
     let from : k ≤ f x = over (f x) (rises before x h.0) in
     let lt : f x < n = below before x h.0 in
-    let rest : (k + 1) + length xs ≤ n = rising_count P f n (k + 1) (before ++ x ∷ []) xs below rises (λ z all. let last : f x < z = all_last f z before x all in omega arith) (omega arith) h.1 in
+    let rest : (k + 1) + length xs ≤ n =
+    rising_count P f n (k + 1) (before ++ x ∷ []) xs below rises (λ z all. let last : f x < z = all_last f z before x all in omega arith)
+    (omega arith) h.1 in
     omega arith
 
 pub other : (a n : ℕ) → a < n → (a == n) ≡ false
@@ -72,11 +78,13 @@ pub found_push : {X : Type 0} (p : X → Bool) (t : X → Ty) (k : ℕ) (xs : Li
 found_push p t k [] y e = rw e refl
 found_push p t k (x ∷ xs) y e = ap (cond (p x) (Some (entry k (t x)))) (found_push p t (k + 1) xs y e)
 
-found_last_by : {X : Type 0} (t : X → Ty) (k : ℕ) (x : X) (b : Bool) (rest next : Option Entry) (to : Option Entry) → cond b (Some (entry k (t x))) rest ≡ None → (rest ≡ None → next ≡ to) → cond b (Some (entry k (t x))) next ≡ to
+found_last_by : {X : Type 0} (t : X → Ty) (k : ℕ) (x : X) (b : Bool) (rest next : Option Entry) (to : Option Entry) → cond b (Some (entry k (t x))) rest ≡ None
+    → (rest ≡ None → next ≡ to) → cond b (Some (entry k (t x))) next ≡ to
 found_last_by t k x true rest next to h f = absurd cc
 found_last_by t k x false rest next to h f = f h
 
-pub found_last : {X : Type 0} (p : X → Bool) (t : X → Ty) (k : ℕ) (xs : List X) (y : X) → found p t k xs ≡ None → p y ≡ true → found p t k (xs ++ y ∷ []) ≡ Some (entry (k + length xs) (t y))
+pub found_last : {X : Type 0} (p : X → Bool) (t : X → Ty) (k : ℕ) (xs : List X) (y : X) → found p t k xs ≡ None → p y ≡ true
+    → found p t k (xs ++ y ∷ []) ≡ Some (entry (k + length xs) (t y))
 found_last p t k [] y h e = rw e (ap (λ n. Some (entry n (t y))) (omega arith))
 found_last p t k (x ∷ xs) y h e = found_last_by t k x (p x) _ _ _ h (λ g. found_last p t (k + 1) xs y g e ∙ ap (λ n. Some (entry n (t y))) (omega arith))
 
@@ -102,10 +110,12 @@ pub stored_push : (loads : List Loaded) (i k : ℕ) (xs : List ℕ) (y : ℕ) �
 stored_push loads i k [] y e = rw e refl
 stored_push loads i k (x ∷ xs) y e = ap (cond (x == i) (cell_entry k (slice_get loads k))) (stored_push loads i (k + 1) xs y e)
 
-pub stored_more : (loads : List Loaded) (c : Loaded) (i k : ℕ) (xs : List ℕ) → k + length xs ≤ length loads → stored_by (loads ++ c ∷ []) i k xs ≡ stored_by loads i k xs
+pub stored_more : (loads : List Loaded) (c : Loaded) (i k : ℕ) (xs : List ℕ) → k + length xs ≤ length loads
+    → stored_by (loads ++ c ∷ []) i k xs ≡ stored_by loads i k xs
 stored_more loads c i k [] le = refl
 stored_more loads c i k (x ∷ xs) le = rw (get_push loads c k (omega arith), stored_more loads c i (k + 1) xs (omega arith)) refl
 
-pub stored_last : (loads : List Loaded) (n k : ℕ) (xs : List ℕ) → Under (λ x. x) n xs → stored_by loads n k (xs ++ n ∷ []) ≡ cell_entry (k + length xs) (slice_get loads (k + length xs))
+pub stored_last : (loads : List Loaded) (n k : ℕ) (xs : List ℕ) → Under (λ x. x) n xs
+    → stored_by loads n k (xs ++ n ∷ []) ≡ cell_entry (k + length xs) (slice_get loads (k + length xs))
 stored_last loads n k [] h = rw (eqb_self n) (ap (λ m. cell_entry m (slice_get loads m)) (omega arith))
 stored_last loads n k (x ∷ xs) h = rw (other x n h.0) (stored_last loads n (k + 1) xs h.1 ∙ ap (λ m. cell_entry m (slice_get loads m)) (omega arith))

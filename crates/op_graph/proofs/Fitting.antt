@@ -1,5 +1,6 @@
 -- Fitting: what follows from the rules of single operations and cells.
-use Rattle.std.proofs.Common.{◌≡◌, ℕ, ◌+◌, ◌^◌, ◌<◌, ◌≤◌, ◌==◌, suc, cond, ℤ, pos, negsuc, Bool, true, false, ◌&&◌, List, [], ◌∷◌, length, take, slice_get, Option, Some, None, refl, subst, sym, arith}
+use Rattle.std.proofs.Common.{◌≡◌, ℕ, ◌+◌, ◌^◌, ◌<◌, ◌≤◌, ◌==◌, suc, cond, ℤ, pos, negsuc, Bool, true, false, ◌&&◌, List, [], ◌∷◌, length, take, slice_get}
+use Rattle.std.proofs.Common.{Option, Some, None, refl, subst, sym, arith}
 use Rattle.std.specs.Int.{w64}
 use Rattle.std.specs.Prelude.{FitsSigned}
 use Rattle.std.specs.Option.{is_some}
@@ -16,7 +17,8 @@ use Rattle.op_graph.specs.declared.op.Op.{Op}
 use Rattle.op_graph.specs.declared.op.Loaded.{Loaded}
 use Rattle.op_graph.specs.declared.op.Var.{Var}
 use Rattle.op_graph.specs.Lists.{Lists}
-use Rattle.op_graph.specs.Rules.{Place, place_of, scope, IsPart, LoadFits, OpFits, Operates, Entry, entry, entry_of, numbered, stored_by, cell_entry, one, lists_of, agree, kind_fits, is_input, is_load, is_store, is_out, ty_fits, same_type, imm_fits, turn_fits}
+use Rattle.op_graph.specs.Rules.{Place, place_of, scope, IsPart, LoadFits, OpFits, Operates, Entry, entry, entry_of, numbered, stored_by, cell_entry, one}
+use Rattle.op_graph.specs.Rules.{lists_of, agree, kind_fits, is_input, is_load, is_store, is_out, ty_fits, same_type, imm_fits, turn_fits}
 use Rattle.op_graph.proofs.Links.{found_below}
 use Rattle.op_graph.proofs.OperandLaw.{each_at}
 
@@ -70,9 +72,12 @@ false_unless : (b : Bool) → (b ≡ true → ⊥) → b ≡ false
 false_unless true h = absurd (h refl)
 false_unless false h = refl
 
-agreed : (k : Kind) (a b c d : Option Entry) → (agree (is_input k) (is_some a) && agree (is_load k) (is_some b) && agree (is_store k) (is_some c) && agree (is_out k) (is_some d)) ≡ true → one a + one b + one c + one d ≤ 1
+agreed : (k : Kind) (a b c d : Option Entry)
+    → (agree (is_input k) (is_some a) && agree (is_load k) (is_some b) && agree (is_store k) (is_some c) && agree (is_out k) (is_some d)) ≡ true
+    → one a + one b + one c + one d ≤ 1
 agreed k a b c d h =
-    let last = both_parts (agree (is_input k) (is_some a) && agree (is_load k) (is_some b) && agree (is_store k) (is_some c)) (agree (is_out k) (is_some d)) h in
+    let last = both_parts (agree (is_input k) (is_some a) && agree (is_load k) (is_some b) && agree (is_store k) (is_some c))
+    (agree (is_out k) (is_some d)) h in
     let third = both_parts (agree (is_input k) (is_some a) && agree (is_load k) (is_some b)) (agree (is_store k) (is_some c)) last.0 in
     let second = both_parts (agree (is_input k) (is_some a)) (agree (is_load k) (is_some b)) third.0 in
     let e = agreeing (is_input k) (is_some a) second.0 in
@@ -127,7 +132,8 @@ cell_number : (k n : ℕ) (o : Option Loaded) (e : Entry) → cell_entry k o ≡
 cell_number k n None e h = absurd cc
 cell_number k n (Some l) e h = let same : entry k l.ty ≡ e = cc in subst (λ (x : Entry). x.number < k + suc n) same (omega arith)
 
-stored_case : (k n : ℕ) (o : Option Loaded) (e : Entry) (b : Bool) (rest : Option Entry) → (rest ≡ Some e → e.number < (k + 1) + n) → cond b (cell_entry k o) rest ≡ Some e → e.number < k + suc n
+stored_case : (k n : ℕ) (o : Option Loaded) (e : Entry) (b : Bool) (rest : Option Entry) → (rest ≡ Some e → e.number < (k + 1) + n)
+    → cond b (cell_entry k o) rest ≡ Some e → e.number < k + suc n
 stored_case k n o e true rest next h = cell_number k n o e h
 stored_case k n o e false rest next h = let lt = next h in omega (arith, lt)
 
@@ -140,7 +146,8 @@ input_below inputs i None e is h = absurd cc
 input_below inputs i (Some v) e is h = let same : entry i v.ty ≡ e = cc in subst (λ (x : Entry). x.number < length inputs) same (slice_get_within inputs i v is)
 
 -- the numbers of entries are below the lengths of their lists
-entry_below : (g : Lists) (n i : ℕ) (k : Kind) (e : Entry) → length g.inputs ≤ n → length g.loads ≤ n → length g.stores ≤ n → length g.outputs ≤ n → entry_of (place_of (scope g) i) k ≡ Some e → e.number < n
+entry_below : (g : Lists) (n i : ℕ) (k : Kind) (e : Entry) → length g.inputs ≤ n → length g.loads ≤ n → length g.stores ≤ n → length g.outputs ≤ n
+    → entry_of (place_of (scope g) i) k ≡ Some e → e.number < n
 entry_below g n i kind.Input e a b c d h = let lt = input_below g.inputs i (slice_get g.inputs i) e refl h in omega (arith, lt)
 entry_below g n i kind.Load e a b c d h = let lt = found_below g.loads (λ l. l.load == i) (λ l. l.ty) 0 e h in omega (arith, lt)
 entry_below g n i kind.Store e a b c d h = let lt = stored_below g.loads i 0 g.stores e h in omega (arith, lt)
@@ -149,18 +156,22 @@ entry_below g n i k e a b c d h = absurd cc
 
 -- ---- the entries of a graph
 
-pub operation_fits : (g : Lists) (i : ℕ) (op : Op) → IsPart g → slice_get g.operations i ≡ Some op → OpFits (place_of (scope g) i) (length g.turn_nodes) (take i g.operations) op
+pub operation_fits : (g : Lists) (i : ℕ) (op : Op) → IsPart g → slice_get g.operations i ≡ Some op
+    → OpFits (place_of (scope g) i) (length g.turn_nodes) (take i g.operations) op
 operation_fits g i op part there =
     let below : i < length g.operations = slice_get_within g.operations i op there in
     let front : length (take i g.operations) ≡ i = length-take-le i g.operations (omega (arith, below)) in
-    let operates : Operates (scope g) (length g.turn_nodes) (take i g.operations) op = each_at (Operates (scope g) (length g.turn_nodes)) [] g.operations i op part.operations there in
+    let operates : Operates (scope g) (length g.turn_nodes) (take i g.operations) op =
+    each_at (Operates (scope g) (length g.turn_nodes)) [] g.operations i op part.operations there in
     subst (λ j. OpFits (place_of (scope g) j) (length g.turn_nodes) (take i g.operations) op) front operates
 
 pub imm_width : (g : Lists) (i : ℕ) (op : Op) → IsPart g → slice_get g.operations i ≡ Some op → FitsSigned w64 op.imm
 imm_width g i op part there =
     let fit = operation_fits g i op part there in
     own_width (entry_of (place_of (scope g) i) op.kind) op.kind op.ty op.imm
-    (λ e is. let lt = entry_below g most_operations i op.kind e (omega (arith, part.few_inputs)) (omega (arith, part.few_cells)) (omega (arith, part.few_cells, part.stored)) (omega (arith, part.few_outputs)) is in omega (arith, lt)) fit.imm
+    (λ e is. let lt =
+    entry_below g most_operations i op.kind e (omega (arith, part.few_inputs)) (omega (arith, part.few_cells)) (omega (arith, part.few_cells, part.stored))
+    (omega (arith, part.few_outputs)) is in omega (arith, lt)) fit.imm
 
 pub init_width : (g : Lists) (k : ℕ) (l : Loaded) → IsPart g → slice_get g.loads k ≡ Some l → FitsSigned w64 l.init
 init_width g k l part there = value_width l.ty l.init (each_at (LoadFits (length g.names) (length g.operations)) [] g.loads k l part.loads there).init

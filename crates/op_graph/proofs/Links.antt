@@ -1,5 +1,6 @@
 -- Links: what an operation of a graph reads is there.
-use Rattle.std.proofs.Common.{ℕ, zero, suc, ◌+◌, ◌<◌, ◌≤◌, ◌≡◌, ◌==◌, refl, ap, subst, Bool, true, false, cond, nat_lt, List, [], ◌∷◌, ◌++◌, length, take, slice_get, Option, Some, None, ℤ, pos, arith}
+use Rattle.std.proofs.Common.{ℕ, zero, suc, ◌+◌, ◌<◌, ◌≤◌, ◌≡◌, ◌==◌, refl, ap, subst, Bool, true, false, cond, nat_lt, List, [], ◌∷◌, ◌++◌, length, take}
+use Rattle.std.proofs.Common.{slice_get, Option, Some, None, ℤ, pos, arith}
 use Rattle.std.specs.Prelude.{unsigned_abs}
 use Rattle.std.specs.Option.{is_some}
 use Rattle.std.proofs.lemmas.Bool.Decides.{nat_tests, Decides-int_eq}
@@ -13,7 +14,8 @@ use Rattle.vcp_base.specs.Types.{within}
 use Rattle.op_graph.specs.declared.op.Op.{Op}
 use Rattle.op_graph.specs.Lists.{Lists}
 use Rattle.op_graph.specs.Reads.{named, Reads, OperandThere, Linked}
-use Rattle.op_graph.specs.Rules.{Place, IsPart, IsGraph, OpFits, Operates, scope, place_of, Entry, entry, entry_of, found, kind_fits, reads_as, operand_fits, imm_fits}
+use Rattle.op_graph.specs.Rules.{Place, IsPart, IsGraph, OpFits, Operates, scope, place_of, Entry, entry, entry_of, found, kind_fits, reads_as, operand_fits}
+use Rattle.op_graph.specs.Rules.{imm_fits}
 use Rattle.op_graph.proofs.OperandLaw.{each_at, get_there, second_of_four}
 
 -- a LOAD has a cell with a STORE
@@ -21,7 +23,8 @@ LoadThere : List ℕ → Kind → ℤ → Type 0
 LoadThere stores kind.Load imm = (m : ℕ) × (slice_get stores (unsigned_abs imm) ≡ Some m)
 LoadThere stores _ imm = Unit {0}
 
-found_case : (k n : ℕ) (t : Ty) (e : Entry) (b : Bool) (rest : Option Entry) → (rest ≡ Some e → e.number < (k + 1) + n) → cond b (Some (entry k t)) rest ≡ Some e → e.number < k + suc n
+found_case : (k n : ℕ) (t : Ty) (e : Entry) (b : Bool) (rest : Option Entry) → (rest ≡ Some e → e.number < (k + 1) + n)
+    → cond b (Some (entry k t)) rest ≡ Some e → e.number < k + suc n
 found_case k n t e true rest next h = let same : entry k t ≡ e = cc in subst (λ (x : Entry). x.number < k + suc n) same (omega arith)
 found_case k n t e false rest next h = let lt = next h in omega (arith, lt)
 
@@ -29,7 +32,8 @@ pub found_below : {X : Type 0} (xs : List X) (p : X → Bool) (t : X → Ty) (k 
 found_below [] p t k e h = absurd cc
 found_below (x ∷ xs) p t k e h = found_case k (length xs) (t x) e (p x) _ (λ g. found_below xs p t (k + 1) e g) h
 
-cell_there : (g : Lists) (o : Option Entry) (to : Ty) (imm : ℤ) → IsGraph g → ((e : Entry) → o ≡ Some e → e.number < 0 + length g.loads) → is_some o ≡ true → imm_fits o kind.Load to imm ≡ true → LoadThere g.stores kind.Load imm
+cell_there : (g : Lists) (o : Option Entry) (to : Ty) (imm : ℤ) → IsGraph g → ((e : Entry) → o ≡ Some e → e.number < 0 + length g.loads) → is_some o ≡ true
+    → imm_fits o kind.Load to imm ≡ true → LoadThere g.stores kind.Load imm
 unfolding LoadThere
 cell_there g None to imm graph below some number = absurd cc
 cell_there g (Some e) to imm graph below some number =
@@ -37,13 +41,16 @@ cell_there g (Some e) to imm graph below some number =
     let at_number : unsigned_abs imm ≡ e.number = ap unsigned_abs is in
     get_there g.stores (unsigned_abs imm) (omega (arith, below e refl, graph.all_stored, at_number))
 
-load_there : (g : Lists) (i : ℕ) (k : Kind) (to : Ty) (imm : ℤ) → IsGraph g → kind_fits (place_of (scope g) i) k ≡ true → imm_fits (entry_of (place_of (scope g) i) k) k to imm ≡ true → LoadThere g.stores k imm
+load_there : (g : Lists) (i : ℕ) (k : Kind) (to : Ty) (imm : ℤ) → IsGraph g → kind_fits (place_of (scope g) i) k ≡ true
+    → imm_fits (entry_of (place_of (scope g) i) k) k to imm ≡ true → LoadThere g.stores k imm
 unfolding LoadThere
 load_there g i kind.Load to imm graph h number =
-    cell_there g (place_of (scope g) i).load to imm graph (λ e is. found_below g.loads (λ l. l.load == i) (λ l. l.ty) 0 e is) (second_of_four _ (is_some (place_of (scope g) i).load) _ _ h) number
+    cell_there g (place_of (scope g) i).load to imm graph (λ e is. found_below g.loads (λ l. l.load == i) (λ l. l.ty) 0 e is)
+    (second_of_four _ (is_some (place_of (scope g) i).load) _ _ h) number
 load_there g i _ to imm graph h number = tt
 
-there_case : (before : List Op) (t : Ty) (n : ℕ) (o : Option Op) → slice_get before n ≡ o → (elim o [ None ↦ false | Some op ↦ within op.ty t ]) ≡ true → n < length before
+there_case : (before : List Op) (t : Ty) (n : ℕ) (o : Option Op) → slice_get before n ≡ o → (elim o [ None ↦ false | Some op ↦ within op.ty t ]) ≡ true
+    → n < length before
 there_case before t n None e h = absurd cc
 there_case before t n (Some op) e h = slice_get_within before n op e
 
@@ -51,7 +58,8 @@ fits_there : (before : List Op) (b : Bool) (t : Ty) (n : ℕ) → operand_fits b
 fits_there before true t n h e = there_case before t n (slice_get before n) refl h
 fits_there before false t n h e = absurd cc
 
-operand_there : (stores : List ℕ) (before : List Op) (k : Kind) (from : Ty) (imm : ℤ) (j n : ℕ) → operand_fits before (reads_as k from j) n ≡ true → LoadThere stores k imm → nat_lt j (operands k) ≡ true → OperandThere before stores k imm n
+operand_there : (stores : List ℕ) (before : List Op) (k : Kind) (from : Ty) (imm : ℤ) (j n : ℕ) → operand_fits before (reads_as k from j) n ≡ true
+    → LoadThere stores k imm → nat_lt j (operands k) ≡ true → OperandThere before stores k imm n
 unfolding LoadThere
 operand_there stores before kind.Load from imm j n h load e = load
 operand_there stores before k from imm j n h load e = fits_there before _ _ n h e
@@ -110,7 +118,8 @@ no_fourth_operand : (k : Kind) (from : Ty) (j : ℕ) → is_some (reads_as k fro
 no_fourth_operand kind.Load from j h = absurd cc
 no_fourth_operand k from j h = no_fourth _ _ (three_at_most k j (few_operands k)) h
 
-named_there : (p : Place) (turns : ℕ) (before : List Op) (op : Op) (j : ℕ) → OpFits p turns before op → is_some (reads_as op.kind op.from j) ≡ true → named op j < length before
+named_there : (p : Place) (turns : ℕ) (before : List Op) (op : Op) (j : ℕ) → OpFits p turns before op → is_some (reads_as op.kind op.from j) ≡ true
+    → named op j < length before
 named_there p turns before op zero fit h = read_there before _ op.a fit.a h
 named_there p turns before op (suc zero) fit h = read_there before _ op.b fit.b h
 named_there p turns before op (suc (suc zero)) fit h = read_there before _ op.c fit.c h
@@ -121,6 +130,7 @@ pub reads_earlier : (g : Lists) (q k j : ℕ) → IsPart g → Reads g.operation
 reads_earlier g q k j part r =
     let below : q < length g.operations = slice_get_within g.operations q r.op r.there in
     let front : length (take q g.operations) ≡ q = length-take-le q g.operations (omega (arith, below)) in
-    let operates : Operates (scope g) (length g.turn_nodes) (take q g.operations) r.op = each_at (Operates (scope g) (length g.turn_nodes)) [] g.operations q r.op part.operations r.there in
+    let operates : Operates (scope g) (length g.turn_nodes) (take q g.operations) r.op =
+    each_at (Operates (scope g) (length g.turn_nodes)) [] g.operations q r.op part.operations r.there in
     let lt = named_there (place_of (scope g) (length (take q g.operations))) (length g.turn_nodes) (take q g.operations) r.op j operates r.operand in
     omega (arith, lt, front, r.names)

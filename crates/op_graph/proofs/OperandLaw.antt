@@ -1,5 +1,7 @@
 -- OperandLaw: the operations of a graph read values of the types in which they read them.
-use Rattle.std.proofs.Common.{◌≡◌, ◌≢◌, ℕ, zero, suc, ◌+◌, ◌<◌, ◌≤◌, ◌==◌, ℤ, pos, negsuc, Bool, true, false, not, ◌&&◌, cond, List, [], ◌∷◌, ◌++◌, length, map, take, slice_get, slice_index_or, All, Option, Some, None, Ok, Err, refl, sym, ap, subst, ◌∙◌, append_assoc, length-append, arith, nat_lt, IfSome, below_more}
+use Rattle.std.proofs.Common.{◌≡◌, ◌≢◌, ℕ, zero, suc, ◌+◌, ◌<◌, ◌≤◌, ◌==◌, ℤ, pos, negsuc, Bool, true, false, not, ◌&&◌, cond, List, [], ◌∷◌, ◌++◌, length, map}
+use Rattle.std.proofs.Common.{take, slice_get, slice_index_or, All, Option, Some, None, Ok, Err, refl, sym, ap, subst, ◌∙◌, append_assoc, length-append, arith}
+use Rattle.std.proofs.Common.{nat_lt, IfSome, below_more}
 use Rattle.std.specs.Prelude.{unsigned_abs}
 use Rattle.std.specs.Option.{is_some}
 use Rattle.std.specs.Ordering.{int_eq}
@@ -19,8 +21,11 @@ use Rattle.op_graph.specs.declared.op.Op.{Op}
 use Rattle.op_graph.specs.declared.op.Loaded.{Loaded}
 use Rattle.op_graph.specs.declared.op.Outlet.{Outlet}
 use Rattle.op_graph.specs.Lists.{Lists}
-use Rattle.op_graph.specs.Rules.{scope, Place, place_of, Each, IsGraph, IsPart, LoadFits, StoreFits, OutputFits, OpFits, Operates, Entry, entry, entry_of, found, stored_by, cell_entry, kind_fits, agree, is_input, is_load, is_store, is_out, same_type, from_fits, ty_fits, reads_as, operand_fits, imm_fits}
-use Rattle.op_graph.specs.GraphRun.{read, operand, outcome_of, Cycle, after, cycle_from, cycle, initial, stored, Run, after_cycle, run_from, graph_run, CellsFit, OutputsFit, ValuesFit}
+use Rattle.op_graph.specs.Rules.{scope, Place, place_of, Each, IsGraph, IsPart, LoadFits, StoreFits, OutputFits, OpFits, Operates, Entry, entry, entry_of}
+use Rattle.op_graph.specs.Rules.{found, stored_by, cell_entry, kind_fits, agree, is_input, is_load, is_store, is_out, same_type, from_fits, ty_fits, reads_as}
+use Rattle.op_graph.specs.Rules.{operand_fits, imm_fits}
+use Rattle.op_graph.specs.GraphRun.{read, operand, outcome_of, Cycle, after, cycle_from, cycle, initial, stored, Run, after_cycle, run_from, graph_run}
+use Rattle.op_graph.specs.GraphRun.{CellsFit, OutputsFit, ValuesFit}
 use Rattle.op_graph.proofs.Entries.{eqb_self, last_of_push, other, get_last}
 
 -- ---- types
@@ -66,7 +71,8 @@ same_type_is ty.Lint ty.Lint h = refl
 
 -- ---- lists
 
-pub each_at : {X : Type 0} (P : List X → X → Type 0) (before xs : List X) (i : ℕ) (x : X) → Each P before xs → slice_get xs i ≡ Some x → P (before ++ take i xs) x
+pub each_at : {X : Type 0} (P : List X → X → Type 0) (before xs : List X) (i : ℕ) (x : X) → Each P before xs → slice_get xs i ≡ Some x
+    → P (before ++ take i xs) x
 each_at P before [] i x h e = absurd cc
 each_at P before (y ∷ xs) zero x h e = let same : y ≡ x = cc in subst (λ b. P b x) (sym (append-nil before)) (subst (λ z. P before z) same h.0)
 each_at P before (y ∷ xs) (suc i) x h e = subst (λ b. P b x) (append_assoc before (y ∷ []) (take i xs)) (each_at P (before ++ y ∷ []) xs i x h.1 e)
@@ -98,11 +104,13 @@ fits_where : (b : Bool) (t : Ty) (v : ℤ) → (b ≡ true → fits t v ≡ true
 fits_where true t v h = h refl
 fits_where false t v h = refl
 
-reads_typed : (before : List Op) (values : List ℤ) (t : Ty) (n : ℕ) (o : Option Op) → slice_get before n ≡ o → ((op : Op) → o ≡ Some op → fits op.ty (at values n) ≡ true) → (elim o [ None ↦ false | Some op ↦ within op.ty t ]) ≡ true → fits t (at values n) ≡ true
+reads_typed : (before : List Op) (values : List ℤ) (t : Ty) (n : ℕ) (o : Option Op) → slice_get before n ≡ o
+    → ((op : Op) → o ≡ Some op → fits op.ty (at values n) ≡ true) → (elim o [ None ↦ false | Some op ↦ within op.ty t ]) ≡ true → fits t (at values n) ≡ true
 reads_typed before values t n None e typed h = absurd cc
 reads_typed before values t n (Some op) e typed h = within_fits op.ty t (at values n) h (typed op refl)
 
-operand_typed : (before : List Op) (values : List ℤ) (b : Bool) (t : Ty) (n : ℕ) → operand_fits before (cond b (Some t) None) n ≡ true → Typed before values → length values ≡ length before → b ≡ true → fits t (at values n) ≡ true
+operand_typed : (before : List Op) (values : List ℤ) (b : Bool) (t : Ty) (n : ℕ) → operand_fits before (cond b (Some t) None) n ≡ true → Typed before values
+    → length values ≡ length before → b ≡ true → fits t (at values n) ≡ true
 unfolding Typed
 operand_typed before values true t n h typed len e =
     reads_typed before values t n (slice_get before n) refl (λ op there. typed n op (let lt = slice_get_within before n op there in omega arith) there) h
@@ -113,10 +121,14 @@ LoadReads : List ℤ → Kind → Ty → ℤ → Type 0
 LoadReads cells kind.Load from imm = fits from (at cells (unsigned_abs imm)) ≡ true
 LoadReads cells _ from imm = Unit {0}
 
-takes_operand : (cells values : List ℤ) (before : List Op) (k : Kind) (from : Ty) (imm : ℤ) (j n : ℕ) → operand_fits before (reads_as k from j) n ≡ true → LoadReads cells k from imm → Typed before values → length values ≡ length before → takes k j from (cond (nat_lt j (operands k)) (read cells values k imm n) (pos 0)) ≡ true
+takes_operand : (cells values : List ℤ) (before : List Op) (k : Kind) (from : Ty) (imm : ℤ) (j n : ℕ) → operand_fits before (reads_as k from j) n ≡ true
+    → LoadReads cells k from imm → Typed before values → length values ≡ length before
+    → takes k j from (cond (nat_lt j (operands k)) (read cells values k imm n) (pos 0)) ≡ true
 unfolding LoadReads
 takes_operand cells values before kind.Load from imm j n h load typed len = fits_where (nat_lt j 1) from (at cells (unsigned_abs imm)) (λ e. load)
-takes_operand cells values before k from imm j n h load typed len = fits_where (nat_lt j (operands k)) (operand_type k j from) (at values n) (λ e. operand_typed before values (nat_lt j (operands k)) (operand_type k j from) n h typed len e)
+takes_operand cells values before k from imm j n h load typed len =
+    fits_where (nat_lt j (operands k)) (operand_type k j from) (at values n)
+    (λ e. operand_typed before values (nat_lt j (operands k)) (operand_type k j from) n h typed len e)
 
 -- ---- what a LOAD reads
 
@@ -128,9 +140,11 @@ later_cell : (l : Loaded) (loads : List Loaded) (k : ℕ) (e : Entry) → HasCel
 unfolding HasCell
 later_cell l loads k e h = (suc h.0, h.1, omega (arith, h.2), h.3, h.4)
 
-found_by : (l : Loaded) (loads : List Loaded) (k : ℕ) (e : Entry) (b : Bool) (rest : Option Entry) → (rest ≡ Some e → HasCell loads (k + 1) e) → cond b (Some (entry k l.ty)) rest ≡ Some e → HasCell (l ∷ loads) k e
+found_by : (l : Loaded) (loads : List Loaded) (k : ℕ) (e : Entry) (b : Bool) (rest : Option Entry) → (rest ≡ Some e → HasCell loads (k + 1) e)
+    → cond b (Some (entry k l.ty)) rest ≡ Some e → HasCell (l ∷ loads) k e
 unfolding HasCell
-found_by l loads k e true rest next h = let same : entry k l.ty ≡ e = cc in (zero, l, subst (λ (x : Entry). x.number ≡ k + 0) same (omega arith), refl, ap (λ (x : Entry). x.ty) same)
+found_by l loads k e true rest next h = let same : entry k l.ty ≡ e = cc in
+    (zero, l, subst (λ (x : Entry). x.number ≡ k + 0) same (omega arith), refl, ap (λ (x : Entry). x.ty) same)
 found_by l loads k e false rest next h = later_cell l loads k e (next h)
 
 found_cell : (loads : List Loaded) (p : Loaded → Bool) (k : ℕ) (e : Entry) → found p (λ l. l.ty) k loads ≡ Some e → HasCell loads k e
@@ -140,7 +154,8 @@ found_cell (l ∷ loads) p k e h = found_by l loads k e (p l) _ (λ g. found_cel
 number_is : (v : ℤ) (n : ℕ) → int_eq v (pos n) ≡ true → v ≡ pos n
 number_is v n h = (Decides-int_eq v (pos n)).0 h
 
-load_reads_by : (g : Lists) (cells : List ℤ) (o : Option Entry) (from to : Ty) (imm : ℤ) → CellsFit g cells → ((e : Entry) → o ≡ Some e → HasCell g.loads 0 e) → is_some o ≡ true → from_fits o kind.Load from ≡ true → imm_fits o kind.Load to imm ≡ true → fits from (at cells (unsigned_abs imm)) ≡ true
+load_reads_by : (g : Lists) (cells : List ℤ) (o : Option Entry) (from to : Ty) (imm : ℤ) → CellsFit g cells → ((e : Entry) → o ≡ Some e → HasCell g.loads 0 e)
+    → is_some o ≡ true → from_fits o kind.Load from ≡ true → imm_fits o kind.Load to imm ≡ true → fits from (at cells (unsigned_abs imm)) ≡ true
 unfolding HasCell
 load_reads_by g cells None from to imm held there is_load same number = absurd cc
 load_reads_by g cells (Some e) from to imm held there is_load same number =
@@ -165,15 +180,19 @@ third_of_four false true false d h = absurd cc
 third_of_four false false true d h = absurd cc
 third_of_four false false false d h = absurd cc
 
-load_reads : (g : Lists) (cells : List ℤ) (i : ℕ) (k : Kind) (from to : Ty) (imm : ℤ) → CellsFit g cells → kind_fits (place_of (scope g) i) k ≡ true → from_fits (entry_of (place_of (scope g) i) k) k from ≡ true → imm_fits (entry_of (place_of (scope g) i) k) k to imm ≡ true → LoadReads cells k from imm
+load_reads : (g : Lists) (cells : List ℤ) (i : ℕ) (k : Kind) (from to : Ty) (imm : ℤ) → CellsFit g cells → kind_fits (place_of (scope g) i) k ≡ true
+    → from_fits (entry_of (place_of (scope g) i) k) k from ≡ true → imm_fits (entry_of (place_of (scope g) i) k) k to imm ≡ true → LoadReads cells k from imm
 unfolding LoadReads
 load_reads g cells i kind.Load from to imm held h types number =
-    load_reads_by g cells (place_of (scope g) i).load from to imm held (λ e is. found_cell g.loads (λ l. l.load == i) 0 e is) (second_of_four _ (is_some (place_of (scope g) i).load) _ _ h) types number
+    load_reads_by g cells (place_of (scope g) i).load from to imm held (λ e is. found_cell g.loads (λ l. l.load == i) 0 e is)
+    (second_of_four _ (is_some (place_of (scope g) i).load) _ _ h) types number
 load_reads g cells i _ from to imm held h types number = tt
 
 -- ---- one operation
 
-operands_typed : (g : Lists) (turns : ℕ) (cells values : List ℤ) (before : List Op) (op : Op) → CellsFit g cells → Operates (scope g) turns before op → Typed before values → length values ≡ length before → operands_fit op.kind op.from (operand cells values op 0 op.a) (operand cells values op 1 op.b) (operand cells values op 2 op.c) ≡ true
+operands_typed : (g : Lists) (turns : ℕ) (cells values : List ℤ) (before : List Op) (op : Op) → CellsFit g cells → Operates (scope g) turns before op
+    → Typed before values → length values ≡ length before
+    → operands_fit op.kind op.from (operand cells values op 0 op.a) (operand cells values op 1 op.b) (operand cells values op 2 op.c) ≡ true
 operands_typed g turns cells values before op held o typed len =
     let load = load_reads g cells (length before) op.kind op.from op.ty op.imm held o.kind o.from o.imm in
     let first = takes_operand cells values before op.kind op.from op.imm 0 op.a o.a load typed len in
@@ -186,13 +205,15 @@ record Fair (to : Ty) (o : Outcome) : Type 0 where
   no_operand : o ≢ Err stop.Operand
   typed : (v : ℤ) → o ≡ Ok v → fits to v ≡ true
 
-fair_by : (to : Ty) (a b c : Bool) (v : ℤ) → a ≡ true → c ≡ fits to v → Fair to (cond a (cond b (Err stop.DivZero) (cond c (Ok v) (Err stop.Range))) (Err stop.Operand))
+fair_by : (to : Ty) (a b c : Bool) (v : ℤ) → a ≡ true → c ≡ fits to v
+    → Fair to (cond a (cond b (Err stop.DivZero) (cond c (Ok v) (Err stop.Range))) (Err stop.Operand))
 fair_by to false b c v h e = absurd cc
 fair_by to true true c v h e = record { no_operand = λ f. absurd cc; typed = λ w f. absurd cc }
 fair_by to true false true v h e = record { no_operand = λ f. absurd cc; typed = λ w f. let same : v ≡ w = cc in subst (λ z. fits to z ≡ true) same (sym e) }
 fair_by to true false false v h e = record { no_operand = λ f. absurd cc; typed = λ w f. absurd cc }
 
-outcome_fair : (g : Lists) (turns : ℕ) (cells row values : List ℤ) (before : List Op) (op : Op) → CellsFit g cells → Operates (scope g) turns before op → Typed before values → length values ≡ length before → Fair op.ty (outcome_of cells row values op)
+outcome_fair : (g : Lists) (turns : ℕ) (cells row values : List ℤ) (before : List Op) (op : Op) → CellsFit g cells → Operates (scope g) turns before op
+    → Typed before values → length values ≡ length before → Fair op.ty (outcome_of cells row values op)
 outcome_fair g turns cells row values before op held o typed len =
     fair_by op.ty _ _ _ _ (operands_typed g turns cells values before op held o typed len) refl
 
@@ -213,11 +234,14 @@ typed_front : (before rest : List Op) (values : List ℤ) → Typed before value
 unfolding Typed
 typed_front before rest values typed le = λ i x lt there. typed i x lt (sym (get_front before rest i (omega arith)) ∙ there)
 
-typed_push : (before : List Op) (op : Op) (values : List ℤ) (v : ℤ) → Typed before values → length values ≡ length before → fits op.ty v ≡ true → Typed (before ++ op ∷ []) (values ++ v ∷ [])
+typed_push : (before : List Op) (op : Op) (values : List ℤ) (v : ℤ) → Typed before values → length values ≡ length before → fits op.ty v ≡ true
+    → Typed (before ++ op ∷ []) (values ++ v ∷ [])
 unfolding Typed
 typed_push before op values v typed len fit =
     let P : ℕ → Type 0 = λ i. (x : Op) → slice_get (before ++ op ∷ []) i ≡ Some x → fits x.ty (at (values ++ v ∷ []) i) ≡ true in
-    let below : (i : ℕ) → i < length values → P i = λ i lt x there. subst (λ z. fits x.ty z ≡ true) (sym (at_push values v i lt)) (typed i x lt (sym (get_front before (op ∷ []) i (omega arith)) ∙ there)) in
+    let below : (i : ℕ) → i < length values → P i =
+    λ i lt x there. subst (λ z. fits x.ty z ≡ true) (sym (at_push values v i lt))
+    (typed i x lt (sym (get_front before (op ∷ []) i (omega arith)) ∙ there)) in
     let here : P (length values) = λ x there.
     let last : slice_get (before ++ op ∷ []) (length values) ≡ Some op = ap (slice_get (before ++ op ∷ [])) len ∙ get_last before op in
     let same : op ≡ x = cc in
@@ -225,17 +249,22 @@ typed_push before op values v typed len fit =
     let all : (i : ℕ) → i < length values + 1 → P i = below_more P (length values) below here in
     λ i x lt there. all i (omega (arith, length_push values v)) x there
 
-sound_after : (all : List Op) (values : List ℤ) (next : ℤ → Cycle) (to : Ty) (o : Outcome) → Fair to o → Typed all values → ((v : ℤ) → o ≡ Ok v → Sound all (next v)) → Sound all (after values next o)
+sound_after : (all : List Op) (values : List ℤ) (next : ℤ → Cycle) (to : Ty) (o : Outcome) → Fair to o → Typed all values
+    → ((v : ℤ) → o ≡ Ok v → Sound all (next v)) → Sound all (after values next o)
 sound_after all values next to (Ok v) fair typed rest = rest v refl
 sound_after all values next to (Err why) fair typed rest = record { no_operand = λ e. fair.no_operand cc; typed = typed; whole = λ e. absurd cc }
 
-cycle_sound : (g : Lists) (turns : ℕ) (cells row values : List ℤ) (before ops : List Op) → CellsFit g cells → Each (Operates (scope g) turns) before ops → Typed before values → length values ≡ length before → Sound (before ++ ops) (cycle_from cells row values ops)
-cycle_sound g turns cells row values before [] held h typed len = subst (λ all. Sound all (record { values = values; stop = None })) (sym (append-nil before)) (record { no_operand = λ e. absurd cc; typed = typed; whole = λ e. len })
+cycle_sound : (g : Lists) (turns : ℕ) (cells row values : List ℤ) (before ops : List Op) → CellsFit g cells → Each (Operates (scope g) turns) before ops
+    → Typed before values → length values ≡ length before → Sound (before ++ ops) (cycle_from cells row values ops)
+cycle_sound g turns cells row values before [] held h typed len =
+    subst (λ all. Sound all (record { values = values; stop = None })) (sym (append-nil before))
+    (record { no_operand = λ e. absurd cc; typed = typed; whole = λ e. len })
 cycle_sound g turns cells row values before (op ∷ ops) held h typed len =
     let fair = outcome_fair g turns cells row values before op held h.0 typed len in
     sound_after (before ++ op ∷ ops) values _ op.ty (outcome_of cells row values op) fair (typed_front before (op ∷ ops) values typed (omega arith))
     (λ v is. subst (λ all. Sound all (cycle_from cells row (values ++ v ∷ []) ops)) (append_assoc before (op ∷ []) ops)
-    (cycle_sound g turns cells row (values ++ v ∷ []) (before ++ op ∷ []) ops held h.1 (typed_push before op values v typed len (fair.typed v is)) (simp length-append (omega arith))))
+    (cycle_sound g turns cells row (values ++ v ∷ []) (before ++ op ∷ []) ops held h.1 (typed_push before op values v typed len (fair.typed v is))
+    (simp length-append (omega arith))))
 
 -- ---- cells
 
@@ -243,40 +272,51 @@ middle_of : {X : Type 0} (xs ys : List X) (x d : X) → slice_index_or (xs ++ x 
 middle_of [] ys x d = refl
 middle_of (z ∷ xs) ys x d = middle_of xs ys x d
 
-earlier_store : (loads : List Loaded) (m : ℕ) (before xs : List ℕ) (x i n : ℕ) → Each (StoreFits loads m) (before ++ x ∷ []) xs → slice_get xs i ≡ Some n → x < n
+earlier_store : (loads : List Loaded) (m : ℕ) (before xs : List ℕ) (x i n : ℕ) → Each (StoreFits loads m) (before ++ x ∷ []) xs → slice_get xs i ≡ Some n
+    → x < n
 earlier_store loads m before xs x i n h e =
     let fit : StoreFits loads m ((before ++ x ∷ []) ++ take i xs) n = each_at (StoreFits loads m) (before ++ x ∷ []) xs i n h e in
     let all : All (λ y. y < n) (before ++ x ∷ take i xs) = subst (λ ys. All (λ y. y < n) ys) (append_assoc before (x ∷ []) (take i xs)) fit.store_rises in
     subst (λ y. y < n) (middle_of before (take i xs) x x) (all (length before) x (simp length-append (omega arith)))
 
-stored_first : (loads : List Loaded) (m k : ℕ) (before xs : List ℕ) (i n : ℕ) → Each (StoreFits loads m) before xs → slice_get xs i ≡ Some n → stored_by loads n k xs ≡ cell_entry (k + i) (slice_get loads (k + i))
+stored_first : (loads : List Loaded) (m k : ℕ) (before xs : List ℕ) (i n : ℕ) → Each (StoreFits loads m) before xs → slice_get xs i ≡ Some n
+    → stored_by loads n k xs ≡ cell_entry (k + i) (slice_get loads (k + i))
 stored_first loads m k before [] i n h e = absurd cc
 stored_first loads m k before (x ∷ xs) zero n h e =
     let same : x ≡ n = cc in
     let test : (x == n) ≡ true = subst (λ y. (x == y) ≡ true) same (eqb_self x) in
     rw test (ap (λ j. cell_entry j (slice_get loads j)) (omega arith))
 stored_first loads m k before (x ∷ xs) (suc i) n h e =
-    rw (other x n (earlier_store loads m before xs x i n h.1 e)) (stored_first loads m (k + 1) (before ++ x ∷ []) xs i n h.1 e ∙ ap (λ j. cell_entry j (slice_get loads j)) (omega arith))
+    rw (other x n (earlier_store loads m before xs x i n h.1 e))
+    (stored_first loads m (k + 1) (before ++ x ∷ []) xs i n h.1 e ∙ ap (λ j. cell_entry j (slice_get loads j)) (omega arith))
 
 not_none : (o : Option Entry) (e : Entry) → o ≡ Some e → not (is_some o) ≡ true → ⊥
 not_none None e is h = absurd cc
 not_none (Some x) e is h = absurd cc
 
-store_type : (p : Place) (k : Kind) (from to : Ty) (e : Entry) → p.store ≡ Some e → kind_fits p k ≡ true → from_fits (entry_of p k) k from ≡ true → ty_fits k from to ≡ true → e.ty ≡ to
-store_type p kind.Store from to e is h reads types = same_type_is e.ty from (subst (λ o. from_fits o kind.Store from ≡ true) is reads) ∙ same_type_is from to types
-store_type p k from to e is h reads types = absurd (not_none p.store e is (third_of_four (agree (is_input k) (is_some p.input)) (agree (is_load k) (is_some p.load)) (not (is_some p.store)) (agree (is_out k) (is_some p.out)) h))
+store_type : (p : Place) (k : Kind) (from to : Ty) (e : Entry) → p.store ≡ Some e → kind_fits p k ≡ true → from_fits (entry_of p k) k from ≡ true
+    → ty_fits k from to ≡ true → e.ty ≡ to
+store_type p kind.Store from to e is h reads types = same_type_is e.ty from (subst (λ o. from_fits o kind.Store from ≡ true) is reads)
+    ∙ same_type_is from to types
+store_type p k from to e is h reads types =
+    absurd (not_none p.store e is
+    (third_of_four (agree (is_input k) (is_some p.input)) (agree (is_load k) (is_some p.load)) (not (is_some p.store)) (agree (is_out k) (is_some p.out)) h))
 
 stored_fits : (g : Lists) (values : List ℤ) → IsGraph g → Typed g.operations values → length values ≡ length g.operations → CellsFit g (stored g values)
 unfolding Typed
 stored_fits g values graph typed len = λ k l there.
     let below : k < length g.loads = slice_get_within g.loads k l there in
     let n = get_there g.stores k (omega (arith, graph.all_stored)) in
-    let store : StoreFits g.loads (length g.operations) (take k g.stores) n.0 = each_at (StoreFits g.loads (length g.operations)) [] g.stores k n.0 graph.part.stores n.1 in
+    let store : StoreFits g.loads (length g.operations) (take k g.stores) n.0 =
+    each_at (StoreFits g.loads (length g.operations)) [] g.stores k n.0 graph.part.stores n.1 in
     let op = get_there g.operations n.0 store.store in
     let front : length (take n.0 g.operations) ≡ n.0 = length-take-le n.0 g.operations (omega (arith, store.store)) in
-    let operates : Operates (scope g) (length g.turn_nodes) (take n.0 g.operations) op.0 = each_at (Operates (scope g) (length g.turn_nodes)) [] g.operations n.0 op.0 graph.part.operations op.1 in
-    let fit : OpFits (place_of (scope g) n.0) (length g.turn_nodes) (take n.0 g.operations) op.0 = subst (λ i. OpFits (place_of (scope g) i) (length g.turn_nodes) (take n.0 g.operations) op.0) front operates in
-    let cell : stored_by g.loads n.0 0 g.stores ≡ Some (entry k l.ty) = stored_first g.loads (length g.operations) 0 [] g.stores k n.0 graph.part.stores n.1 ∙ ap (λ i. cell_entry i (slice_get g.loads i)) (omega arith) ∙ ap (cell_entry k) there in
+    let operates : Operates (scope g) (length g.turn_nodes) (take n.0 g.operations) op.0 =
+    each_at (Operates (scope g) (length g.turn_nodes)) [] g.operations n.0 op.0 graph.part.operations op.1 in
+    let fit : OpFits (place_of (scope g) n.0) (length g.turn_nodes) (take n.0 g.operations) op.0 =
+    subst (λ i. OpFits (place_of (scope g) i) (length g.turn_nodes) (take n.0 g.operations) op.0) front operates in
+    let cell : stored_by g.loads n.0 0 g.stores ≡ Some (entry k l.ty) = stored_first g.loads (length g.operations) 0 [] g.stores k n.0 graph.part.stores n.1
+    ∙ ap (λ i. cell_entry i (slice_get g.loads i)) (omega arith) ∙ ap (cell_entry k) there in
     let type : l.ty ≡ op.0.ty = store_type (place_of (scope g) n.0) op.0.kind op.0.from op.0.ty (entry k l.ty) cell fit.kind fit.from fit.ty in
     let value : at (stored g values) k ≡ at values n.0 = map_at (λ i. at values i) g.stores k n.0 n.1 in
     let fits_op : fits op.0.ty (at values n.0) ≡ true = typed n.0 op.0 (omega (arith, store.store)) op.1 in
@@ -284,20 +324,24 @@ stored_fits g values graph typed len = λ k l there.
 
 -- ---- outputs
 
-earlier_out : (names m : ℕ) (before xs : List Outlet) (x : Outlet) (i : ℕ) (o : Outlet) → Each (OutputFits names m) (before ++ x ∷ []) xs → slice_get xs i ≡ Some o → x.op < o.op
+earlier_out : (names m : ℕ) (before xs : List Outlet) (x : Outlet) (i : ℕ) (o : Outlet) → Each (OutputFits names m) (before ++ x ∷ []) xs
+    → slice_get xs i ≡ Some o → x.op < o.op
 earlier_out names m before xs x i o h e =
     let fit : OutputFits names m ((before ++ x ∷ []) ++ take i xs) o = each_at (OutputFits names m) (before ++ x ∷ []) xs i o h e in
-    let all : All (λ (p : Outlet). p.op < o.op) (before ++ x ∷ take i xs) = subst (λ ps. All (λ (p : Outlet). p.op < o.op) ps) (append_assoc before (x ∷ []) (take i xs)) fit.operation_rises in
+    let all : All (λ (p : Outlet). p.op < o.op) (before ++ x ∷ take i xs) =
+    subst (λ ps. All (λ (p : Outlet). p.op < o.op) ps) (append_assoc before (x ∷ []) (take i xs)) fit.operation_rises in
     subst (λ (p : Outlet). p.op < o.op) (middle_of before (take i xs) x x) (all (length before) x (simp length-append (omega arith)))
 
-out_first : (names m k : ℕ) (before xs : List Outlet) (i : ℕ) (o : Outlet) → Each (OutputFits names m) before xs → slice_get xs i ≡ Some o → found (λ p. p.op == o.op) (λ p. p.ty) k xs ≡ Some (entry (k + i) o.ty)
+out_first : (names m k : ℕ) (before xs : List Outlet) (i : ℕ) (o : Outlet) → Each (OutputFits names m) before xs → slice_get xs i ≡ Some o
+    → found (λ p. p.op == o.op) (λ p. p.ty) k xs ≡ Some (entry (k + i) o.ty)
 out_first names m k before [] i o h e = absurd cc
 out_first names m k before (x ∷ xs) zero o h e =
     let same : x ≡ o = cc in
     let test : (x.op == o.op) ≡ true = subst (λ (y : Outlet). (x.op == y.op) ≡ true) same (eqb_self x.op) in
     rw test (ap (λ (y : Outlet). Some (entry k y.ty)) same ∙ ap (λ j. Some (entry j o.ty)) (omega arith))
 out_first names m k before (x ∷ xs) (suc i) o h e =
-    rw (other x.op o.op (earlier_out names m before xs x i o h.1 e)) (out_first names m (k + 1) (before ++ x ∷ []) xs i o h.1 e ∙ ap (λ j. Some (entry j o.ty)) (omega arith))
+    rw (other x.op o.op (earlier_out names m before xs x i o h.1 e))
+    (out_first names m (k + 1) (before ++ x ∷ []) xs i o h.1 e ∙ ap (λ j. Some (entry j o.ty)) (omega arith))
 
 fourth_of_four : (a b c d : Bool) → (a && b && c && d) ≡ true → d ≡ true
 fourth_of_four true true true d h = h
@@ -309,19 +353,26 @@ fourth_of_four false true false d h = absurd cc
 fourth_of_four false false true d h = absurd cc
 fourth_of_four false false false d h = absurd cc
 
-out_type : (p : Place) (k : Kind) (from to : Ty) (e : Entry) → p.out ≡ Some e → kind_fits p k ≡ true → from_fits (entry_of p k) k from ≡ true → ty_fits k from to ≡ true → e.ty ≡ to
+out_type : (p : Place) (k : Kind) (from to : Ty) (e : Entry) → p.out ≡ Some e → kind_fits p k ≡ true → from_fits (entry_of p k) k from ≡ true
+    → ty_fits k from to ≡ true → e.ty ≡ to
 out_type p kind.Out from to e is h reads types = same_type_is e.ty from (subst (λ o. from_fits o kind.Out from ≡ true) is reads) ∙ same_type_is from to types
-out_type p k from to e is h reads types = absurd (not_none p.out e is (fourth_of_four (agree (is_input k) (is_some p.input)) (agree (is_load k) (is_some p.load)) (agree (is_store k) (is_some p.store)) (not (is_some p.out)) h))
+out_type p k from to e is h reads types =
+    absurd (not_none p.out e is
+    (fourth_of_four (agree (is_input k) (is_some p.input)) (agree (is_load k) (is_some p.load)) (agree (is_store k) (is_some p.store)) (not (is_some p.out)) h))
 
 outputs_fit : (g : Lists) (values : List ℤ) → IsGraph g → Typed g.operations values → length values ≡ length g.operations → OutputsFit g values
 unfolding Typed
 outputs_fit g values graph typed len = λ k o there.
-    let fits_list : OutputFits (length g.names) (length g.operations) (take k g.outputs) o = each_at (OutputFits (length g.names) (length g.operations)) [] g.outputs k o graph.part.outputs there in
+    let fits_list : OutputFits (length g.names) (length g.operations) (take k g.outputs) o =
+    each_at (OutputFits (length g.names) (length g.operations)) [] g.outputs k o graph.part.outputs there in
     let op = get_there g.operations o.op fits_list.operation in
     let front : length (take o.op g.operations) ≡ o.op = length-take-le o.op g.operations (omega (arith, fits_list.operation)) in
-    let operates : Operates (scope g) (length g.turn_nodes) (take o.op g.operations) op.0 = each_at (Operates (scope g) (length g.turn_nodes)) [] g.operations o.op op.0 graph.part.operations op.1 in
-    let fit : OpFits (place_of (scope g) o.op) (length g.turn_nodes) (take o.op g.operations) op.0 = subst (λ i. OpFits (place_of (scope g) i) (length g.turn_nodes) (take o.op g.operations) op.0) front operates in
-    let out : found (λ p. p.op == o.op) (λ p. p.ty) 0 g.outputs ≡ Some (entry (0 + k) o.ty) = out_first (length g.names) (length g.operations) 0 [] g.outputs k o graph.part.outputs there in
+    let operates : Operates (scope g) (length g.turn_nodes) (take o.op g.operations) op.0 =
+    each_at (Operates (scope g) (length g.turn_nodes)) [] g.operations o.op op.0 graph.part.operations op.1 in
+    let fit : OpFits (place_of (scope g) o.op) (length g.turn_nodes) (take o.op g.operations) op.0 =
+    subst (λ i. OpFits (place_of (scope g) i) (length g.turn_nodes) (take o.op g.operations) op.0) front operates in
+    let out : found (λ p. p.op == o.op) (λ p. p.ty) 0 g.outputs ≡ Some (entry (0 + k) o.ty) =
+    out_first (length g.names) (length g.operations) 0 [] g.outputs k o graph.part.outputs there in
     let type : o.ty ≡ op.0.ty = out_type (place_of (scope g) o.op) op.0.kind op.0.from op.0.ty (entry (0 + k) o.ty) out fit.kind fit.from fit.ty in
     let fits_op : fits op.0.ty (at values o.op) ≡ true = typed o.op op.0 (omega (arith, fits_list.operation)) op.1 in
     subst (λ t. fits t (at values o.op) ≡ true) (sym type) fits_op
@@ -343,13 +394,16 @@ sound g cells row graph held = cycle_sound g (length g.turn_nodes) cells row [] 
 pub cycle_without_operand_stop : (g : Lists) (cells row : List ℤ) → IsGraph g → CellsFit g cells → (cycle g cells row).stop ≢ Some stop.Operand
 cycle_without_operand_stop g cells row graph held = (sound g cells row graph held).no_operand
 
-pub cycle_keeps_types : (g : Lists) (cells row : List ℤ) → IsGraph g → CellsFit g cells → (cycle g cells row).stop ≡ None → CellsFit g (stored g (cycle g cells row).values)
+pub cycle_keeps_types : (g : Lists) (cells row : List ℤ) → IsGraph g → CellsFit g cells → (cycle g cells row).stop ≡ None
+    → CellsFit g (stored g (cycle g cells row).values)
 cycle_keeps_types g cells row graph held whole = let c = sound g cells row graph held in stored_fits g (cycle g cells row).values graph c.typed (c.whole whole)
 
-pub cycle_outputs_fit : (g : Lists) (cells row : List ℤ) → IsGraph g → CellsFit g cells → (cycle g cells row).stop ≡ None → OutputsFit g (cycle g cells row).values
+pub cycle_outputs_fit : (g : Lists) (cells row : List ℤ) → IsGraph g → CellsFit g cells → (cycle g cells row).stop ≡ None
+    → OutputsFit g (cycle g cells row).values
 cycle_outputs_fit g cells row graph held whole = let c = sound g cells row graph held in outputs_fit g (cycle g cells row).values graph c.typed (c.whole whole)
 
-after_cycle_fair : (g : Lists) (values : List ℤ) (next : List ℤ → Run) (s : Option StopKind) → s ≢ Some stop.Operand → (s ≡ None → IfSome (next (stored g values)).end (λ e. e.kind ≢ stop.Operand)) → IfSome (after_cycle g values next s).end (λ e. e.kind ≢ stop.Operand)
+after_cycle_fair : (g : Lists) (values : List ℤ) (next : List ℤ → Run) (s : Option StopKind) → s ≢ Some stop.Operand
+    → (s ≡ None → IfSome (next (stored g values)).end (λ e. e.kind ≢ stop.Operand)) → IfSome (after_cycle g values next s).end (λ e. e.kind ≢ stop.Operand)
 after_cycle_fair g values next None fair rest = rest refl
 after_cycle_fair g values next (Some why) fair rest = λ e. fair (ap Some e)
 

@@ -29,7 +29,8 @@ back_named names (t ∷ earlier) n named =
 pub turns_named : (g : Lists) (n : ℕ) → IsPart g → All (λ (t : Turn). t.name < length g.names) (turns_of g n)
 unfolding Named
 turns_named g n part =
-    let under = each_under (TurnNodeFits (length g.names)) (λ (t : TurnNode). t.name) (length g.names) [] g.turn_nodes (λ before t fit. fit.name) part.turn_nodes in
+    let under = each_under (TurnNodeFits (length g.names)) (λ (t : TurnNode). t.name) (length g.names) [] g.turn_nodes
+    (λ before t fit. fit.name) part.turn_nodes in
     let named = under_all (λ (t : TurnNode). t.name) (length g.names) g.turn_nodes under in
     back_named (length g.names) (reverse g.turn_nodes) n
     (All-permutation (λ (t : TurnNode). t.name < length g.names) g.turn_nodes (reverse g.turn_nodes) (IsPermutation-reverse g.turn_nodes) named)

@@ -1,5 +1,6 @@
 -- Walks: a walk over entries whose operations rise finds what a search from the front finds.
-use Rattle.std.proofs.Common.{◌≡◌, ℕ, zero, suc, ◌+◌, ◌<◌, ◌≤◌, ◌==◌, Bool, true, false, cond, List, [], ◌∷◌, ◌++◌, length, slice_get, slice_index_or, All, Some, None, refl, ap, subst, ◌∙◌, arith, nat_lt, length-append}
+use Rattle.std.proofs.Common.{◌≡◌, ℕ, zero, suc, ◌+◌, ◌<◌, ◌≤◌, ◌==◌, Bool, true, false, cond, List, [], ◌∷◌, ◌++◌, length, slice_get, slice_index_or, All}
+use Rattle.std.proofs.Common.{Some, None, refl, ap, subst, ◌∙◌, arith, nat_lt, length-append}
 use Rattle.std.proofs.lemmas.Bool.Decides.{nat_tests}
 use Rattle.vcp_base.specs.declared.ty.Ty.{Ty}
 use Rattle.op_graph.specs.declared.op.Loaded.{Loaded}
@@ -31,7 +32,8 @@ index_last (x ∷ xs) y d = index_last xs y d
 abbrev Rises : {X : Type 0} → (X → ℕ) → List X → X → Type 0
 Rises f before x = All (λ w. f w < f x) before
 
-over_of : {X : Type 0} (f : X → ℕ) (before xs : List X) (k : ℕ) (y : X) → k < length before → slice_index_or before k y ≡ y → Each (Rises f) before xs → Over f (f y) xs
+over_of : {X : Type 0} (f : X → ℕ) (before xs : List X) (k : ℕ) (y : X) → k < length before → slice_index_or before k y ≡ y → Each (Rises f) before xs
+    → Over f (f y) xs
 over_of f before [] k y lt is h = tt
 over_of f before (x ∷ xs) k y lt is h = (
   subst (λ w. f w < f x) is (h.0 k y lt),
@@ -64,7 +66,8 @@ next_get x xs n = let one_more : n + 1 ≡ suc n = omega arith in ap (slice_get 
 -- ---- what is found
 
 -- at the first entry that is not passed
-here_by : {X : Type 0} (f : X → ℕ) (t : X → Ty) (i k : ℕ) (x : X) (xs : List X) (b : Bool) → (f x == i) ≡ b → i ≤ f x → Over f (f x) xs → cond b (Some (entry k (t x))) (found (λ y. f y == i) t (k + 1) xs) ≡ cond b (Some (entry k (t x))) None
+here_by : {X : Type 0} (f : X → ℕ) (t : X → Ty) (i k : ℕ) (x : X) (xs : List X) (b : Bool) → (f x == i) ≡ b → i ≤ f x → Over f (f x) xs
+    → cond b (Some (entry k (t x))) (found (λ y. f y == i) t (k + 1) xs) ≡ cond b (Some (entry k (t x))) None
 here_by f t i k x xs true is le over = refl
 here_by f t i k x xs false is le over = found_none f t i (k + 1) xs (over_less f i (f x) xs le over)
 
@@ -80,7 +83,8 @@ found_by f t i k x xs false is over next =
     let le : i ≤ f x = grind (arith, nat_tests) in
     here_by f t i k x xs (f x == i) refl le over ∙ ap (λ n. cond (f x == i) (Some (entry n (t x))) None) (omega arith)
 
-found_walk : {X : Type 0} (f : X → ℕ) (t : X → Ty) (i k : ℕ) (xs : List X) → Sorted f xs → found (λ x. f x == i) t k xs ≡ entry_at f t i (k + passed f i xs) (slice_get xs (passed f i xs))
+found_walk : {X : Type 0} (f : X → ℕ) (t : X → Ty) (i k : ℕ) (xs : List X) → Sorted f xs
+    → found (λ x. f x == i) t k xs ≡ entry_at f t i (k + passed f i xs) (slice_get xs (passed f i xs))
 found_walk f t i k [] h = refl
 found_walk f t i k (x ∷ xs) h = found_by f t i k x xs (nat_lt (f x) i) refl h.0 (found_walk f t i (k + 1) xs h.1)
 
@@ -93,7 +97,8 @@ stored_none : (loads : List Loaded) (i k : ℕ) (ns : List ℕ) → Over (λ n. 
 stored_none loads i k [] h = refl
 stored_none loads i k (n ∷ ns) h = rw (apart n i h.0) (stored_none loads i (k + 1) ns h.1)
 
-store_here : (loads : List Loaded) (i k n : ℕ) (ns : List ℕ) (b : Bool) → i ≤ n → Over (λ m. m) n ns → cond b (cell_entry k (slice_get loads k)) (stored_by loads i (k + 1) ns) ≡ cond b (cell_entry k (slice_get loads k)) None
+store_here : (loads : List Loaded) (i k n : ℕ) (ns : List ℕ) (b : Bool) → i ≤ n → Over (λ m. m) n ns
+    → cond b (cell_entry k (slice_get loads k)) (stored_by loads i (k + 1) ns) ≡ cond b (cell_entry k (slice_get loads k)) None
 store_here loads i k n ns true le over = refl
 store_here loads i k n ns false le over = stored_none loads i (k + 1) ns (over_less (λ m. m) i n ns le over)
 
@@ -109,12 +114,14 @@ store_found loads i k n ns false is over next =
     let le : i ≤ n = grind (arith, nat_tests) in
     store_here loads i k n ns (n == i) le over ∙ ap (λ j. cond (n == i) (cell_entry j (slice_get loads j)) None) (omega arith)
 
-store_walk : (loads : List Loaded) (i k : ℕ) (ns : List ℕ) → Sorted (λ n. n) ns → stored_by loads i k ns ≡ store_at loads i (k + passed (λ n. n) i ns) (slice_get ns (passed (λ n. n) i ns))
+store_walk : (loads : List Loaded) (i k : ℕ) (ns : List ℕ) → Sorted (λ n. n) ns
+    → stored_by loads i k ns ≡ store_at loads i (k + passed (λ n. n) i ns) (slice_get ns (passed (λ n. n) i ns))
 store_walk loads i k [] h = refl
 store_walk loads i k (n ∷ ns) h = store_found loads i k n ns (nat_lt n i) refl h.0 (store_walk loads i (k + 1) ns h.1)
 
 pub walk_finds_store : (loads : List Loaded) (i : ℕ) (ns : List ℕ) → Each (Rises (λ n. n)) [] ns → stored_by loads i 0 ns ≡ stored_to loads i ns
-walk_finds_store loads i ns h = store_walk loads i 0 ns (sorted_of (λ n. n) [] ns h) ∙ ap (λ j. store_at loads i j (slice_get ns (passed (λ n. n) i ns))) (omega arith)
+walk_finds_store loads i ns h = store_walk loads i 0 ns (sorted_of (λ n. n) [] ns h)
+    ∙ ap (λ j. store_at loads i j (slice_get ns (passed (λ n. n) i ns))) (omega arith)
 
 -- ---- where the walk goes
 
@@ -122,7 +129,8 @@ pub walk_begins : {X : Type 0} (f : X → ℕ) (xs : List X) → passed f 0 xs �
 walk_begins f [] = refl
 walk_begins f (x ∷ xs) = let no : nat_lt (f x) 0 ≡ false = grind (arith, nat_tests) in rw no refl
 
-next_here : {X : Type 0} (f : X → ℕ) (i : ℕ) (x : X) (xs : List X) (b : Bool) → (f x == i) ≡ b → i ≤ f x → Over f (f x) xs → passed f (i + 1) (x ∷ xs) ≡ cond b 1 0
+next_here : {X : Type 0} (f : X → ℕ) (i : ℕ) (x : X) (xs : List X) (b : Bool) → (f x == i) ≡ b → i ≤ f x → Over f (f x) xs
+    → passed f (i + 1) (x ∷ xs) ≡ cond b 1 0
 next_here f i x xs true is le over =
     let lt : nat_lt (f x) (i + 1) ≡ true = grind (arith, nat_tests) in
     rw lt (ap (λ n. n + 1) (none_passed f i xs (over_less f i (f x) xs le over)))
@@ -130,7 +138,8 @@ next_here f i x xs false is le over = let no : nat_lt (f x) (i + 1) ≡ false = 
 
 next_by : {X : Type 0} (f : X → ℕ) (i : ℕ) (x : X) (xs : List X) (b : Bool) → nat_lt (f x) i ≡ b → Over f (f x) xs →
     passed f (i + 1) xs ≡ cond (is_of f i (slice_get xs (passed f i xs))) (passed f i xs + 1) (passed f i xs) →
-    passed f (i + 1) (x ∷ xs) ≡ cond (is_of f i (slice_get (x ∷ xs) (cond b (passed f i xs + 1) 0))) (cond b (passed f i xs + 1) 0 + 1) (cond b (passed f i xs + 1) 0)
+    passed f (i + 1) (x ∷ xs) ≡ cond (is_of f i (slice_get (x ∷ xs) (cond b (passed f i xs + 1) 0))) (cond b (passed f i xs + 1) 0 + 1)
+    (cond b (passed f i xs + 1) 0)
 next_by f i x xs true is over next =
     let lt : nat_lt (f x) (i + 1) ≡ true = grind (arith, nat_tests) in
     let there : slice_get (x ∷ xs) (passed f i xs + 1) ≡ slice_get xs (passed f i xs) = next_get x xs (passed f i xs) in

@@ -41,7 +41,10 @@ passes : graph_run (counter ty.Int (pos 32766)) ([] ∷ [] ∷ [] ∷ []) ≡ re
 unfolding counter op_on
 passes = refl
 
-turns-are : turns_of (with_turn_node (with_turn_node (with_turn_node (nothing profile.Narrow) (record { parent = 0; name = 5; value = pos 1 })) (record { parent = 1; name = 6; value = pos 2 })) (record { parent = 1; name = 6; value = pos 3 })) 3 ≡ (record { name = 5; value = pos 1 }) ∷ (record { name = 6; value = pos 3 }) ∷ []
+turns-are : turns_of
+    (with_turn_node (with_turn_node (with_turn_node (nothing profile.Narrow) (record { parent = 0; name = 5; value = pos 1 }))
+    (record { parent = 1; name = 6; value = pos 2 })) (record { parent = 1; name = 6; value = pos 3 })) 3 ≡ (record { name = 5; value = pos 1 })
+    ∷ (record { name = 6; value = pos 3 }) ∷ []
 turns-are = refl
 
 cells-after : cells_after (counter ty.Dint (pos 0)) (pos 0 ∷ []) ([] ∷ [] ∷ []) ≡ pos 2 ∷ []

@@ -33,19 +33,29 @@ with_op g op = record g { operations = g.operations ++ op ∷ [] }
 
 -- one more input and its INPUT
 abbrev pub with_input : Lists → ℕ → Ty → Spot → Lists
-with_input g name t spot = record g { inputs = g.inputs ++ (record { name = name; ty = t }) ∷ []; operations = g.operations ++ entry_op kind.Input t 0 (length g.inputs) spot ∷ [] }
+with_input g name t spot =
+    record g { inputs = g.inputs ++ (record { name = name; ty = t }) ∷ []; operations = g.operations ++ entry_op kind.Input t 0 (length g.inputs) spot ∷ [] }
 
 -- one more cell and its LOAD
 abbrev pub with_load : Lists → ℕ → Ty → ℤ → Spot → Lists
-with_load g name t init spot = record g { loads = g.loads ++ (record { name = name; ty = t; init = init; load = length g.operations }) ∷ []; operations = g.operations ++ entry_op kind.Load t 0 (length g.loads) spot ∷ [] }
+with_load g name t init spot =
+    record g {
+      loads = g.loads ++ (record { name = name; ty = t; init = init; load = length g.operations }) ∷ [];
+      operations = g.operations ++ entry_op kind.Load t 0 (length g.loads) spot ∷ [];
+    }
 
 -- one more output and its OUT, which reads operation `value`
 abbrev pub with_output : Lists → ℕ → Ty → ℕ → Spot → Lists
-with_output g name t value spot = record g { outputs = g.outputs ++ (record { name = name; ty = t; op = length g.operations }) ∷ []; operations = g.operations ++ entry_op kind.Out t value (length g.outputs) spot ∷ [] }
+with_output g name t value spot =
+    record g {
+      outputs = g.outputs ++ (record { name = name; ty = t; op = length g.operations }) ∷ [];
+      operations = g.operations ++ entry_op kind.Out t value (length g.outputs) spot ∷ [];
+    }
 
 -- the STORE of the first cell that has none, of this type, which reads operation `value`
 abbrev pub with_store : Lists → Ty → ℕ → Spot → Lists
-with_store g t value spot = record g { stores = g.stores ++ length g.operations ∷ []; operations = g.operations ++ entry_op kind.Store t value (length g.stores) spot ∷ [] }
+with_store g t value spot =
+    record g { stores = g.stores ++ length g.operations ∷ []; operations = g.operations ++ entry_op kind.Store t value (length g.stores) spot ∷ [] }
 
 -- the type of a cell, where it is there
 abbrev pub type_of : Option Loaded → Ty

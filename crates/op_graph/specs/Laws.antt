@@ -24,7 +24,8 @@ pub record OperandLaws : Type 0 where
   pub part : (g : Lists) (held row : List ℤ) → IsPart g → CellsFit g held → (cycle_of g held row).stop ≢ Some stop.Operand
   -- the cells, before the first cycle and after each
   pub cells_at_first : (g : Lists) → IsGraph g → CellsFit g (initial g)
-  pub cells_kept : (g : Lists) (held row : List ℤ) → IsGraph g → CellsFit g held → (cycle_of g held row).stop ≡ None → CellsFit g (stored g (cycle_of g held row).values)
+  pub cells_kept : (g : Lists) (held row : List ℤ) → IsGraph g → CellsFit g held → (cycle_of g held row).stop ≡ None
+      → CellsFit g (stored g (cycle_of g held row).values)
   -- the outputs, and the operations of a cycle, finished or not
   pub outputs : (g : Lists) (held row : List ℤ) → IsGraph g → CellsFit g held → (cycle_of g held row).stop ≡ None → OutputsFit g (cycle_of g held row).values
   pub values : (g : Lists) (held row : List ℤ) → IsPart g → CellsFit g held → ValuesFit g (cycle_of g held row).values

@@ -3,7 +3,8 @@ use Rattle.std.specs.Option.{is_some}
 use Rattle.std.specs.Ordering.{int_eq}
 use Rattle.std.specs.Int.{w64}
 use Rattle.vcp_base.specs.declared.spot.Spot.{Spot}
-use Rattle.std.specs.Prelude.{FitsSigned, ◌≡◌, ℕ, ◌+◌, ◌^◌, ◌<◌, ◌≤◌, ◌==◌, ℤ, pos, Bool, true, false, not, ◌&&◌, cond, nat_lt, nat_le, List, [], ◌∷◌, ◌++◌, length, slice_get, All, Option, Some, None}
+use Rattle.std.specs.Prelude.{FitsSigned, ◌≡◌, ℕ, ◌+◌, ◌^◌, ◌<◌, ◌≤◌, ◌==◌, ℤ, pos, Bool, true, false, not, ◌&&◌, cond, nat_lt, nat_le, List, [], ◌∷◌, ◌++◌}
+use Rattle.std.specs.Prelude.{length, slice_get, All, Option, Some, None}
 use Rattle.vcp_base.specs.declared.code.Profile.{Profile}
 use Rattle.vcp_base.specs.declared.ty.Ty.{Ty}
 use Rattle.vcp_base.specs.declared.ty.Ty.TheVariants as ty
@@ -158,7 +159,8 @@ agree false b = not b
 
 -- the kind is INPUT exactly at an input's operation, LOAD and STORE exactly at a cell's, OUT exactly at an output's
 abbrev pub kind_fits : Place → Kind → Bool
-kind_fits p k = agree (is_input k) (is_some p.input) && agree (is_load k) (is_some p.load) && agree (is_store k) (is_some p.store) && agree (is_out k) (is_some p.out)
+kind_fits p k =
+    agree (is_input k) (is_some p.input) && agree (is_load k) (is_some p.load) && agree (is_store k) (is_some p.store) && agree (is_out k) (is_some p.out)
 
 abbrev pub same_type : Ty → Ty → Bool
 same_type ty.Bool ty.Bool = true

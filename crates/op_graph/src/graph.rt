@@ -34,9 +34,29 @@ impl Model for Graph {
 
     ghost Value = { Lists };
 
-    ghost view = { λ g. record { profile = g.profile; names = g.names.items; inputs = g.inputs.items; outputs = g.outputs.items; loads = g.loads.items; stores = g.stores.items; turn_nodes = g.turn_nodes.items; operations = g.operations.items } };
+    ghost view = { λ g. record {
+      profile = g.profile;
+      names = g.names.items;
+      inputs = g.inputs.items;
+      outputs = g.outputs.items;
+      loads = g.loads.items;
+      stores = g.stores.items;
+      turn_nodes = g.turn_nodes.items;
+      operations = g.operations.items;
+    } };
 
-    ghost invariant = { λ g. IsGraph (record { profile = g.profile; names = g.names.items; inputs = g.inputs.items; outputs = g.outputs.items; loads = g.loads.items; stores = g.stores.items; turn_nodes = g.turn_nodes.items; operations = g.operations.items }) };
+    ghost invariant = { λ g. IsGraph
+        (record {
+          profile = g.profile;
+          names = g.names.items;
+          inputs = g.inputs.items;
+          outputs = g.outputs.items;
+          loads = g.loads.items;
+          stores =
+              g.stores.items;
+          turn_nodes = g.turn_nodes.items;
+          operations = g.operations.items;
+        }) };
 }
 
 impl Graph {
@@ -51,8 +71,28 @@ impl Graph {
         turn_nodes: Vec<TurnNode>,
         operations: Vec<Op>,
     ) -> Graph
-        requires { IsGraph (record { profile = profile; names = names.items; inputs = inputs.items; outputs = outputs.items; loads = loads.items; stores = stores.items; turn_nodes = turn_nodes.items; operations = operations.items }) }
-        ensures { result ≡ record { profile = profile; names = names.items; inputs = inputs.items; outputs = outputs.items; loads = loads.items; stores = stores.items; turn_nodes = turn_nodes.items; operations = operations.items } }
+        requires { IsGraph (record {
+          profile = profile;
+          names = names.items;
+          inputs = inputs.items;
+          outputs = outputs.items;
+          loads = loads.items;
+          stores = stores.items;
+          turn_nodes = turn_nodes.items;
+          operations = operations.items;
+        }) }
+        ensures { result
+            ≡ record {
+              profile = profile;
+              names = names.items;
+              inputs = inputs.items;
+              outputs = outputs.items;
+              loads = loads.items;
+              stores =
+                  stores.items;
+              turn_nodes = turn_nodes.items;
+              operations = operations.items;
+            } }
     {
         Graph {
             profile,

@@ -7,7 +7,8 @@ ghost use Rattle.vcp_base.specs.Limits.{most_names, most_cells, most_turn_nodes,
 ghost use Rattle.vcp_base.specs.Names.{NameFits};
 ghost use Rattle.op_graph.specs.Lists.{nothing};
 ghost use Rattle.op_graph.specs.Rules.{TurnNodeFits, OpFits, Admitted, operand_fits, IsGraph, IsPart};
-ghost use Rattle.op_graph.specs.Building.{nowhere, entry_op as entry_op_of, with_name, with_turn_node, with_op, with_input, with_load, with_output, with_store, type_of, cell_type};
+ghost use Rattle.op_graph.specs.Building.{nowhere, entry_op as entry_op_of, with_name, with_turn_node, with_op, with_input, with_load, with_output, with_store};
+ghost use Rattle.op_graph.specs.Building.{type_of, cell_type};
 
 use crate::build::Build;
 use crate::graph::Graph;
@@ -37,9 +38,29 @@ impl Model for GraphBuilder {
 
     ghost Value = { Lists };
 
-    ghost view = { λ g. record { profile = g.profile; names = g.names.items; inputs = g.inputs.items; outputs = g.outputs.items; loads = g.loads.items; stores = g.stores.items; turn_nodes = g.turn_nodes.items; operations = g.operations.items } };
+    ghost view = { λ g. record {
+      profile = g.profile;
+      names = g.names.items;
+      inputs = g.inputs.items;
+      outputs = g.outputs.items;
+      loads = g.loads.items;
+      stores = g.stores.items;
+      turn_nodes = g.turn_nodes.items;
+      operations = g.operations.items;
+    } };
 
-    ghost invariant = { λ g. IsPart (record { profile = g.profile; names = g.names.items; inputs = g.inputs.items; outputs = g.outputs.items; loads = g.loads.items; stores = g.stores.items; turn_nodes = g.turn_nodes.items; operations = g.operations.items }) };
+    ghost invariant = { λ g. IsPart
+        (record {
+          profile = g.profile;
+          names = g.names.items;
+          inputs = g.inputs.items;
+          outputs = g.outputs.items;
+          loads = g.loads.items;
+          stores =
+              g.stores.items;
+          turn_nodes = g.turn_nodes.items;
+          operations = g.operations.items;
+        }) };
 }
 
 /// Appends an operation and an entry of another list, or neither.

@@ -21,6 +21,3 @@ pub use laws::{
 };
 pub use op::{Cell, Loaded, Op, Outlet, TurnNode, Var};
 pub use turns_round::TurnsRound;
-
-#[cfg(test)]
-mod tests;

@@ -11,6 +11,3 @@ mod source;
 mod writer;
 
 pub use made::{Made, make};
-
-#[cfg(test)]
-mod tests;

@@ -17,16 +17,19 @@ modulus_below profile.Wide = omega arith
 
 -- 5 times the growth of signatures is 2 ^ 30 + 1, so a multiple of 2 ^ 30 that is the difference of two signatures' numbers is
 -- a multiple of that for the operations too; likewise in the wide code, where it is 2 ^ 62 + 1
-apart : (p : Profile) (seed i j m n r : ℕ) → i < most_operations → j < most_operations → seed + growth p * i ≡ signatures p * m + r → seed + growth p * j ≡ signatures p * n + r → j ≡ i
+apart : (p : Profile) (seed i j m n r : ℕ) → i < most_operations → j < most_operations → seed + growth p * i ≡ signatures p * m + r
+    → seed + growth p * j ≡ signatures p * n + r → j ≡ i
 apart profile.Narrow seed i j m n r i_few j_few at_i at_j = omega arith
 apart profile.Wide seed i j m n r i_few j_few at_i at_j = omega arith
 
 pub signature_distinct : (p : Profile) (seed i j : ℕ) → i < most_operations → j < most_operations → signature p seed j ≡ signature p seed i → j ≡ i
 unfolding signature
 signature_distinct profile.Narrow seed i j i_few j_few same =
-    apart profile.Narrow seed i j ((seed + 214748365 * i) / 2 ^ 30) ((seed + 214748365 * j) / 2 ^ 30) ((seed + 214748365 * i) % 2 ^ 30) i_few j_few (omega arith) (omega arith)
+    apart profile.Narrow seed i j ((seed + 214748365 * i) / 2 ^ 30) ((seed + 214748365 * j) / 2 ^ 30) ((seed + 214748365 * i) % 2 ^ 30) i_few j_few
+    (omega arith) (omega arith)
 signature_distinct profile.Wide seed i j i_few j_few same =
-    apart profile.Wide seed i j ((seed + 922337203685477581 * i) / 2 ^ 60) ((seed + 922337203685477581 * j) / 2 ^ 60) ((seed + 922337203685477581 * i) % 2 ^ 60) i_few j_few (omega arith) (omega arith)
+    apart profile.Wide seed i j ((seed + 922337203685477581 * i) / 2 ^ 60) ((seed + 922337203685477581 * j) / 2 ^ 60)
+    ((seed + 922337203685477581 * i) % 2 ^ 60) i_few j_few (omega arith) (omega arith)
 
 pub signature_below : (p : Profile) (seed i : ℕ) → signature p seed i < signatures p
 unfolding signature

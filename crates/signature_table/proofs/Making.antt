@@ -1,5 +1,6 @@
 -- Making: the corrections of a graph, one operation after another.
-use Rattle.std.proofs.Common.{◌≡◌, ◌∙◌, ℕ, zero, suc, ◌+◌, ◌<◌, ◌++◌, ◌∷◌, [], All, List, length, drop, slice_get, get_or, Some, arith, add-one, drop-cons, append_assoc, length-append, sym, ap}
+use Rattle.std.proofs.Common.{◌≡◌, ◌∙◌, ℕ, zero, suc, ◌+◌, ◌<◌, ◌++◌, ◌∷◌, [], All, List, length, drop, slice_get, get_or, Some, arith, add-one, drop-cons}
+use Rattle.std.proofs.Common.{append_assoc, length-append, sym, ap}
 use Rattle.std.specs.Prelude.{unsigned_abs}
 use Rattle.std.proofs.lemmas.Option.{get_or_from_slice_get, slice_get_within}
 use Rattle.std.proofs.lemmas.List.Elements.{All-append}
@@ -19,7 +20,9 @@ one_at : (n c i d : ℕ) → c < n → i < 1 → get_or (c ∷ []) i d < n
 one_at n c zero d lt below = lt
 one_at n c (suc i) d lt below = absurd (omega arith)
 
-pub one_more : (p : Profile) (seed step : ℕ) (held : List Cell) (operations : List Op) (made : List ℕ) (k : ℕ) (op : Op) (c : ℕ) → MadeUpTo p seed step held operations made k → slice_get operations k ≡ Some op → c ≡ correction p seed step k op (store_of held (unsigned_abs op.imm)) → c < modulus p → MadeUpTo p seed step held operations (made ++ c ∷ []) (k + 1)
+pub one_more : (p : Profile) (seed step : ℕ) (held : List Cell) (operations : List Op) (made : List ℕ) (k : ℕ) (op : Op) (c : ℕ)
+    → MadeUpTo p seed step held operations made k → slice_get operations k ≡ Some op → c ≡ correction p seed step k op (store_of held (unsigned_abs op.imm))
+    → c < modulus p → MadeUpTo p seed step held operations (made ++ c ∷ []) (k + 1)
 one_more p seed step held operations made k op c m there is below =
     let within : k < length operations = slice_get_within operations k op there in
     let here : get_or operations k op ≡ op = get_or_from_slice_get operations k op op there in

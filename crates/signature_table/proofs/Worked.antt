@@ -30,7 +30,8 @@ on_dint : Kind → ℕ → ℕ → ℤ → Op
 on_dint k a b imm = record { kind = k; from = ty.Dint; ty = ty.Dint; a = a; b = b; c = 0; imm = imm; spot = record { line = 0; col = 0 }; turn = 0 }
 
 counter : List Op
-counter = on_dint kind.Load 0 0 (pos 0) ∷ on_dint kind.Const 0 0 (pos 1) ∷ on_dint kind.Add 0 1 (pos 0) ∷ on_dint kind.Out 2 0 (pos 0) ∷ on_dint kind.Store 2 0 (pos 0) ∷ []
+counter = on_dint kind.Load 0 0 (pos 0) ∷ on_dint kind.Const 0 0 (pos 1) ∷ on_dint kind.Add 0 1 (pos 0) ∷ on_dint kind.Out 2 0 (pos 0) ∷ on_dint kind.Store 2 0
+    (pos 0) ∷ []
 
 counter_cells : List Cell
 counter_cells = (record { name = 1; ty = ty.Dint; init = pos 0; load = 0; store = 4 }) ∷ []
@@ -39,6 +40,7 @@ corrections_from-counter : corrections_from profile.Narrow 0 1 counter_cells 0 c
 unfolding counter counter_cells on_dint signature modulo
 corrections_from-counter = refl
 
-signatures-counter : signature profile.Narrow 0 0 ∷ signature profile.Narrow 0 1 ∷ signature profile.Narrow 0 2 ∷ signature profile.Narrow 0 3 ∷ signature profile.Narrow 0 4 ∷ [] ≡ 0 ∷ 214748365 ∷ 429496730 ∷ 644245095 ∷ 858993460 ∷ []
+signatures-counter : signature profile.Narrow 0 0 ∷ signature profile.Narrow 0 1 ∷ signature profile.Narrow 0 2 ∷ signature profile.Narrow 0 3
+    ∷ signature profile.Narrow 0 4 ∷ [] ≡ 0 ∷ 214748365 ∷ 429496730 ∷ 644245095 ∷ 858993460 ∷ []
 unfolding signature
 signatures-counter = refl

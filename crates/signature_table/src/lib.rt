@@ -13,6 +13,3 @@ pub use corrections::correction;
 pub use laws::{constants_are_in_range, expected_residues_are_residues, signatures_are_distinct};
 pub use signatures::signature_of;
 pub use table::Table;
-
-#[cfg(test)]
-mod tests;

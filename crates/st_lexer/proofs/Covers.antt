@@ -1,5 +1,6 @@
 -- Pieces one after the other, and that there is one way to cut a text into them.
-use Rattle.std.proofs.Common.{◌≡◌, ℕ, ◌+◌, ◌<◌, ◌≤◌, List, [], ◌∷◌, ◌++◌, length, drop, take, Option, Some, None, sym, refl, ap, ◌∙◌, subst, arith, All, append_assoc, length-drop, inl, inr}
+use Rattle.std.proofs.Common.{◌≡◌, ℕ, ◌+◌, ◌<◌, ◌≤◌, List, [], ◌∷◌, ◌++◌, length, drop, take, Option, Some, None, sym, refl, ap, ◌∙◌, subst, arith, All}
+use Rattle.std.proofs.Common.{append_assoc, length-drop, inl, inr}
 use Rattle.std.proofs.lemmas.List.{append-nil}
 use Rattle.std.proofs.lemmas.List.Elements.{All-append, All-cons}
 use Rattle.std.proofs.str.Laws.{order}
@@ -37,7 +38,8 @@ pub upto-start : (text : List ℕ) → Upto text [] 0
 upto-start text = record { pieces = []; cover = refl; tokens = refl }
 
 -- one piece more
-pub upto-more : (text : List ℕ) (ts : List Token) (at n : ℕ) (t : Option Tok) → Upto text ts at → 0 < n → n ≤ length (drop at text) → at < length text → StandsAt at (drop at text) n t → Upto text (ts ++ token_of text (record { from = at; to = at + n; is = t }) t) (at + n)
+pub upto-more : (text : List ℕ) (ts : List Token) (at n : ℕ) (t : Option Tok) → Upto text ts at → 0 < n → n ≤ length (drop at text) → at < length text
+    → StandsAt at (drop at text) n t → Upto text (ts ++ token_of text (record { from = at; to = at + n; is = t }) t) (at + n)
 upto-more text ts at n t u pos le lt st =
     let p : Piece = record { from = at; to = at + n; is = t } in
     record {
@@ -136,7 +138,8 @@ cover-one text (p ∷ ps) (q ∷ qs) a c d =
     λ i. e i ∷ rest i
 
 -- a whole cover stops at no place that is refused
-cover-refused : (text : List ℕ) (ps qs : List Piece) (a p : ℕ) (r : Reason) → Cover text ps a (length text) → Cover text qs a p → p < length text → RefusedAt p (drop p text) r → ⊥
+cover-refused : (text : List ℕ) (ps qs : List Piece) (a p : ℕ) (r : Reason) → Cover text ps a (length text) → Cover text qs a p → p < length text
+    → RefusedAt p (drop p text) r → ⊥
 cover-refused text [] [] a p r c d lt ref = omega (arith, c, d)
 cover-refused text [] (q ∷ qs) a p r c d lt ref = omega (arith, c, cover-past text q qs a p d)
 cover-refused text (x ∷ ps) [] a p r c d lt ref =
@@ -145,7 +148,8 @@ cover-refused text (x ∷ ps) (q ∷ qs) a p r c d lt ref =
     let e = piece-one text x q (c.0 ∙ sym d.0) c.1 d.1 in
     cover-refused text ps qs q.to p r (subst (λ (y : Piece). Cover text ps y.to (length text)) e c.2) d.2 lt ref
 
-refused-one : (text : List ℕ) (ps qs : List Piece) (a p q : ℕ) (r s : Reason) → Cover text ps a p → RefusedAt p (drop p text) r → Cover text qs a q → RefusedAt q (drop q text) s → p ≡ q
+refused-one : (text : List ℕ) (ps qs : List Piece) (a p q : ℕ) (r s : Reason) → Cover text ps a p → RefusedAt p (drop p text) r → Cover text qs a q
+    → RefusedAt q (drop q text) s → p ≡ q
 refused-one text [] [] a p q r s c ref d ref' = sym c ∙ d
 refused-one text [] (y ∷ qs) a p q r s c ref d ref' =
     absurd (stands-not-at p (drop p text) d.1.0 y.is r (moved text y.from p d.1.0 y.is (d.0 ∙ c) d.1.4) ref)

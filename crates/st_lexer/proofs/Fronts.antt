@@ -1,5 +1,6 @@
 -- What begins at the front has at least one byte, and no more than there are.
-use Rattle.std.proofs.Common.{◌≡◌, ℕ, ℤ, pos, ◌+◌, ◌<◌, ◌≤◌, Bool, true, false, cond, ◌||◌, List, [], ◌∷◌, ◌++◌, length, take, drop, Option, Some, None, refl, sym, ap, ◌∙◌, arith, length-drop}
+use Rattle.std.proofs.Common.{◌≡◌, ℕ, ℤ, pos, ◌+◌, ◌<◌, ◌≤◌, Bool, true, false, cond, ◌||◌, List, [], ◌∷◌, ◌++◌, length, take, drop, Option, Some, None, refl}
+use Rattle.std.proofs.Common.{sym, ap, ◌∙◌, arith, length-drop}
 use Rattle.std.specs.Prelude.{slice_index, IfSome, codes}
 use Rattle.std.specs.List.{prefix_len}
 use Rattle.std.specs.Cmp.Lexicographic.{same_text}
@@ -158,7 +159,8 @@ finds-within p s (found.Refused r) h st = tt
 same-symbol : (y z : Sym) (o : Option Sym) → o ≡ Some y → o ≡ Some z → y ≡ z
 same-symbol y z o e f = cc
 
-found-first : (z y : Sym) (s : List ℕ) → ((r : List ℕ) → symbol_among all_symbols (spelling z ++ r) ≡ Some z) → symbol_among all_symbols s ≡ Some y → begins (spelling z) s ≡ true → length (spelling z) ≤ length (spelling y)
+found-first : (z y : Sym) (s : List ℕ) → ((r : List ℕ) → symbol_among all_symbols (spelling z ++ r) ≡ Some z) → symbol_among all_symbols s ≡ Some y
+    → begins (spelling z) s ≡ true → length (spelling z) ≤ length (spelling y)
 found-first z y s f e b =
     let g = ap (λ (l : List ℕ). symbol_among all_symbols l) (sym (begins-with (spelling z) s b)) ∙ f (drop (length (spelling z)) s) in
     let h = same-symbol y z _ e g in omega (arith, ap (λ (x : Sym). length (spelling x)) h)

@@ -45,7 +45,8 @@ at-symbol s symbol.Gt h = h.1.1.1.1.1.1.1.1.1.1.1.1.1.1.1.1.0
 pub every-symbol : (s : List ℕ) (z : Sym) → symbol_among all_symbols s ≡ None → begins (spelling z) s ≡ false
 every-symbol s z e = at-symbol s z (none-begins all_symbols s e)
 
-found-case : (s : List ℕ) (y z : Sym) (t : Bool) → begins (spelling y) s ≡ t → (later : Option Sym) → (later ≡ Some z → begins (spelling z) s ≡ true) → cond t (Some y) later ≡ Some z → begins (spelling z) s ≡ true
+found-case : (s : List ℕ) (y z : Sym) (t : Bool) → begins (spelling y) s ≡ t → (later : Option Sym) → (later ≡ Some z → begins (spelling z) s ≡ true)
+    → cond t (Some y) later ≡ Some z → begins (spelling z) s ≡ true
 found-case s y z true b later f e = let same : y ≡ z = cc in rw same at b
 found-case s y z false b later f e = f e
 

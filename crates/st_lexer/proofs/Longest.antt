@@ -1,5 +1,6 @@
 -- A token has the bytes of the longest spelling of a token at its place, and stands only where no gap begins.
-use Rattle.std.proofs.Common.{◌≡◌, ℕ, ℤ, pos, zero, suc, ◌+◌, ◌<◌, ◌≤◌, Bool, true, false, cond, ◌&&◌, ◌||◌, List, [], ◌∷◌, ◌++◌, length, take, drop, Option, Some, None, refl, sym, ap, ◌∙◌, subst, arith, inl, inr}
+use Rattle.std.proofs.Common.{◌≡◌, ℕ, ℤ, pos, zero, suc, ◌+◌, ◌<◌, ◌≤◌, Bool, true, false, cond, ◌&&◌, ◌||◌, List, [], ◌∷◌, ◌++◌, length, take, drop, Option}
+use Rattle.std.proofs.Common.{Some, None, refl, sym, ap, ◌∙◌, subst, arith, inl, inr}
 use Rattle.std.specs.Prelude.{slice_index, ◌==◌, codes, nat_eq}
 use Rattle.std.specs.List.{prefix_len, list_all}
 use Rattle.std.specs.Char.{is_ascii_digit, to_ascii_lowercase}
@@ -18,7 +19,8 @@ use Rattle.st_lexer.specs.declared.token.Tok.TheVariants as tok
 use Rattle.st_lexer.specs.declared.literal.Literal.{Literal}
 use Rattle.st_lexer.specs.declared.piece.Opening.{Opening}
 use Rattle.st_lexer.specs.declared.piece.Opening.TheVariants as opens
-use Rattle.st_lexer.specs.Literals.{begins_word, is_word, is_run, run, takes_sign, signed, plain, digits, with_sign, literal_at, literal_of, prefix, begins_typed, BeginsLiteral}
+use Rattle.st_lexer.specs.Literals.{begins_word, is_word, is_run, run, takes_sign, signed, plain, digits, with_sign, literal_at, literal_of, prefix}
+use Rattle.st_lexer.specs.Literals.{begins_typed, BeginsLiteral}
 use Rattle.st_lexer.specs.Symbols.{begins, spelling, symbol_among, all_symbols}
 use Rattle.st_lexer.specs.Words.{key_or_name, key_among, all_keys}
 use Rattle.st_lexer.specs.Reading.{begins_gap, begins_token, Begins, Stands, StandsAt}

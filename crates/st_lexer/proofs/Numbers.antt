@@ -1,5 +1,6 @@
 -- Digits of a base, from place i of a run on.
-use Rattle.std.proofs.Common.{◌≡◌, ℕ, ◌+◌, ◌*◌, ◌^◌, ◌<◌, ◌≤◌, Bool, true, false, cond, ◌&&◌, List, [], ◌∷◌, length, get_or, drop, Option, Some, None, refl, ap, ◌∙◌, arith}
+use Rattle.std.proofs.Common.{◌≡◌, ℕ, ◌+◌, ◌*◌, ◌^◌, ◌<◌, ◌≤◌, Bool, true, false, cond, ◌&&◌, List, [], ◌∷◌, length, get_or, drop, Option, Some, None, refl, ap}
+use Rattle.std.proofs.Common.{◌∙◌, arith}
 use Rattle.std.specs.Prelude.{nat_lt, ◌==◌}
 use Rattle.std.proofs.lemmas.List.{at_drop_more, at_drop_all}
 use Rattle.std.proofs.lemmas.Bool.Decides.{nat_tests}
@@ -58,17 +59,23 @@ by-cases false true false x y m n h = refl
 by-cases false false true x y m n h = refl
 by-cases false false false x y m n h = refl
 
-step : (base : ℕ) (behind : Bool) (front b : ℕ) (s : List ℕ) → base ≤ 36 → read base behind front (b ∷ s) ≡ cond (nat_lt (digit b) base) (read base true (front * base + digit b) s) (cond (behind && b == 95) (read base false front s) None)
+step : (base : ℕ) (behind : Bool) (front b : ℕ) (s : List ℕ) → base ≤ 36
+    → read base behind front (b ∷ s)
+    ≡ cond (nat_lt (digit b) base) (read base true (front * base + digit b) s) (cond (behind && b == 95) (read base false front s) None)
 unfolding read are_digits number
 step base behind front b s h =
     by-cases (nat_lt (digit b) base) (b == 95) behind (are_digits base true s) (are_digits base false s)
     (number base front s) (number base (front * base + digit b) s) (no-digit base b h)
 
 -- one byte more
-pub read-drop : (base : ℕ) (behind : Bool) (front i : ℕ) (s : List ℕ) → base ≤ 36 → i < length s → read base behind front (drop i s) ≡ cond (nat_lt (digit (get_or s i 0)) base) (read base true (front * base + digit (get_or s i 0)) (drop (i + 1) s)) (cond (behind && get_or s i 0 == 95) (read base false front (drop (i + 1) s)) None)
+pub read-drop : (base : ℕ) (behind : Bool) (front i : ℕ) (s : List ℕ) → base ≤ 36 → i < length s
+    → read base behind front (drop i s)
+    ≡ cond (nat_lt (digit (get_or s i 0)) base) (read base true (front * base + digit (get_or s i 0)) (drop (i + 1) s))
+    (cond (behind && get_or s i 0 == 95) (read base false front (drop (i + 1) s)) None)
 read-drop base behind front i s h k = at_drop_more (read base behind front) s i 0 k ∙ step base behind front (get_or s i 0) (drop (i + 1) s) h
 
-pub read-end : (base : ℕ) (behind : Bool) (front i : ℕ) (s : List ℕ) → length s ≤ i → read base behind front (drop i s) ≡ cond (behind && nat_lt front (2 ^ 63)) (Some front) None
+pub read-end : (base : ℕ) (behind : Bool) (front i : ℕ) (s : List ℕ) → length s ≤ i
+    → read base behind front (drop i s) ≡ cond (behind && nat_lt front (2 ^ 63)) (Some front) None
 unfolding read are_digits number
 read-end base behind front i s h = at_drop_all (read base behind front) s i h
 

@@ -1,5 +1,6 @@
 -- At each place one thing begins, and it is what is found to begin there.
-use Rattle.std.proofs.Common.{◌≡◌, ℕ, Bool, true, false, cond, ◌&&◌, ◌||◌, List, [], ◌∷◌, ◌++◌, length, take, drop, Option, Some, None, refl, sym, ap, ◌∙◌, subst, arith, inl, inr}
+use Rattle.std.proofs.Common.{◌≡◌, ℕ, Bool, true, false, cond, ◌&&◌, ◌||◌, List, [], ◌∷◌, ◌++◌, length, take, drop, Option, Some, None, refl, sym, ap, ◌∙◌}
+use Rattle.std.proofs.Common.{subst, arith, inl, inr}
 use Rattle.std.specs.Prelude.{slice_index, ◌==◌, codes, nat_eq}
 use Rattle.std.specs.Char.{is_ascii_digit, to_ascii_lowercase}
 use Rattle.std.specs.Cmp.Lexicographic.{same_text}
@@ -53,10 +54,12 @@ pub record NoGap (b : ℕ) : Type 0 where
   pub mark : nat_eq 239 b ≡ false
 
 word-no-gap : (b : ℕ) → begins_word b ≡ true → NoGap b
-word-no-gap b e = record { blank = grind (arith, nat_tests); bracket = grind (arith, nat_tests); slash = grind (arith, nat_tests); mark = grind (arith, nat_tests) }
+word-no-gap b e =
+    record { blank = grind (arith, nat_tests); bracket = grind (arith, nat_tests); slash = grind (arith, nat_tests); mark = grind (arith, nat_tests) }
 
 digit-no-gap : (b : ℕ) → is_ascii_digit b ≡ true → NoGap b
-digit-no-gap b e = record { blank = grind (arith, nat_tests); bracket = grind (arith, nat_tests); slash = grind (arith, nat_tests); mark = grind (arith, nat_tests) }
+digit-no-gap b e =
+    record { blank = grind (arith, nat_tests); bracket = grind (arith, nat_tests); slash = grind (arith, nat_tests); mark = grind (arith, nat_tests) }
 
 pub digit-no-word : (b : ℕ) → is_ascii_digit b ≡ true → begins_word b ≡ false
 digit-no-word b e = grind (arith, nat_tests)
@@ -233,14 +236,17 @@ no-gap p [] g = refl
 no-gap p (b ∷ s) g = rw (g.blank, g.bracket, g.slash, g.mark) refl
 
 ampersand-no-gap : (b : ℕ) → (b == 38) ≡ true → NoGap b
-ampersand-no-gap b e = record { blank = grind (arith, nat_tests); bracket = grind (arith, nat_tests); slash = grind (arith, nat_tests); mark = grind (arith, nat_tests) }
+ampersand-no-gap b e =
+    record { blank = grind (arith, nat_tests); bracket = grind (arith, nat_tests); slash = grind (arith, nat_tests); mark = grind (arith, nat_tests) }
 
 pub ampersand-no-word : (b : ℕ) → (b == 38) ≡ true → (begins_word b ≡ false) × (is_ascii_digit b ≡ false)
 ampersand-no-word b e = (grind (arith, nat_tests), grind (arith, nat_tests))
 
 -- where a token or a literal begins that is no symbol, no gap does
 pub no-gap-at : (p : ℕ) (s : List ℕ) → begins_token (slice_index s 0) ≡ true → begins_gap p s ≡ false
-no-gap-at p s e = no-gap p s (token-no-gap (begins_word (slice_index s 0)) (is_ascii_digit (slice_index s 0)) (slice_index s 0 == 38) (slice_index s 0) (word-no-gap (slice_index s 0)) (digit-no-gap (slice_index s 0)) (ampersand-no-gap (slice_index s 0)) e)
+no-gap-at p s e =
+    no-gap p s (token-no-gap (begins_word (slice_index s 0)) (is_ascii_digit (slice_index s 0)) (slice_index s 0 == 38) (slice_index s 0)
+    (word-no-gap (slice_index s 0)) (digit-no-gap (slice_index s 0)) (ampersand-no-gap (slice_index s 0)) e)
   where
     token-no-gap : (t u v : Bool) (b : ℕ) → (t ≡ true → NoGap b) → (u ≡ true → NoGap b) → (v ≡ true → NoGap b) → t || (u || v) ≡ true → NoGap b
     token-no-gap true u v b f g h e = f refl
@@ -322,7 +328,8 @@ word-begins p s e =
     (λ d. chosen P (begins_typed ty.Lint s) _ _ (λ h. h)
     (λ l. (e, no-types s b i d l)))))
 
-symbol-or-nothing : (p : ℕ) (s : List ℕ) → begins_gap p s ≡ false → begins_token (slice_index s 0) ≡ false → (o : Option Sym) → symbol_among all_symbols s ≡ o → Begins p s (symbol_opening o)
+symbol-or-nothing : (p : ℕ) (s : List ℕ) → begins_gap p s ≡ false → begins_token (slice_index s 0) ≡ false → (o : Option Sym) → symbol_among all_symbols s ≡ o
+    → Begins p s (symbol_opening o)
 symbol-or-nothing p s g n None e = (g, n, e)
 symbol-or-nothing p s g n (Some y) e = (g, e)
 

@@ -14,20 +14,34 @@ count-snoc p s b = sum_by-append (λ x. cond (p x) 1 0) s (b ∷ [])
 last-len : (p : ℕ → Bool) (s : List ℕ) (b : ℕ) → prefix_len p (reverse (s ++ b ∷ [])) ≡ cond (p b) (1 + prefix_len p (reverse s)) 0
 last-len p s b = ap (λ (l : List ℕ). prefix_len p l) (reverse-append s (b ∷ []))
 
-pub behind-lf : (spot : Spot) (before : List ℕ) (b : ℕ) → spot ≡ spot_after before → b ≡ 10 → record { line = spot.line + 1; col = 1 } ≡ spot_after (before ++ b ∷ [])
+pub behind-lf : (spot : Spot) (before : List ℕ) (b : ℕ) → spot ≡ spot_after before → b ≡ 10
+    → record { line = spot.line + 1; col = 1 } ≡ spot_after (before ++ b ∷ [])
 unfolding spot_after
 behind-lf spot before b e h =
-    let n : 1 + count_by is_lf (before ++ b ∷ []) ≡ spot.line + 1 = omega (arith, count-snoc is_lf before b, ap {B = ℕ} (λ k. cond (is_lf k) 1 0) h, ap (λ (x : Spot). x.line) e) in
-    let m : 1 + prefix_len is_not_lf (reverse (before ++ b ∷ [])) ≡ 1 = omega (arith, last-len is_not_lf before b, ap {B = ℕ} (λ k. cond (is_not_lf k) (1 + prefix_len is_not_lf (reverse before)) 0) h) in
+    let n : 1 + count_by is_lf (before ++ b ∷ []) ≡ spot.line + 1 =
+    omega (arith, count-snoc is_lf before b, ap {B = ℕ} (λ k. cond (is_lf k) 1 0) h, ap (λ (x : Spot). x.line) e) in
+    let m : 1 + prefix_len is_not_lf (reverse (before ++ b ∷ [])) ≡ 1 =
+    omega (arith, last-len is_not_lf before b, ap {B = ℕ} (λ k. cond (is_not_lf k) (1 + prefix_len is_not_lf (reverse before)) 0) h) in
     λ i. record { line = sym n i; col = sym m i }
 
-pub behind-other : (spot : Spot) (before : List ℕ) (b : ℕ) → spot ≡ spot_after before → (b ≡ 10 → ⊥) → record { line = spot.line; col = spot.col + 1 } ≡ spot_after (before ++ b ∷ [])
+pub behind-other : (spot : Spot) (before : List ℕ) (b : ℕ) → spot ≡ spot_after before → (b ≡ 10 → ⊥)
+    → record { line = spot.line; col = spot.col + 1 } ≡ spot_after (before ++ b ∷ [])
 unfolding spot_after
 behind-other spot before b e h =
     let f : (b == 10) ≡ false = grind (arith, nat_tests) in
-    let n : 1 + count_by is_lf (before ++ b ∷ []) ≡ spot.line = omega (arith, count-snoc is_lf before b, ap {B = ℕ} (λ t. cond t 1 0) f, ap (λ (x : Spot). x.line) e) in
-    let m : 1 + prefix_len is_not_lf (reverse (before ++ b ∷ [])) ≡ spot.col + 1 = omega (arith, last-len is_not_lf before b, ap {B = ℕ} (λ t. cond (not t) (1 + prefix_len is_not_lf (reverse before)) 0) f, ap (λ (x : Spot). x.col) e) in
+    let n : 1 + count_by is_lf (before ++ b ∷ []) ≡ spot.line =
+    omega (arith, count-snoc is_lf before b, ap {B = ℕ} (λ t. cond t 1 0) f, ap (λ (x : Spot). x.line) e) in
+    let m : 1 + prefix_len is_not_lf (reverse (before ++ b ∷ [])) ≡ spot.col + 1 =
+    omega (
+      arith,
+      last-len is_not_lf before b,
+      ap {B = ℕ} (λ t. cond (not t) (1 + prefix_len is_not_lf (reverse before)) 0) f,
+      ap
+          (λ (x : Spot). x.col) e,
+    ) in
     λ i. record { line = sym n i; col = sym m i }
 
-pub behind-more : (spot now : Spot) (before bytes : List ℕ) (i : ℕ) → i < length bytes → now ≡ spot_after ((before ++ take i bytes) ++ get_or bytes i 0 ∷ []) → now ≡ spot_after (before ++ take (i + 1) bytes)
-behind-more spot now before bytes i h e = e ∙ ap spot_after (append_assoc before (take i bytes) (get_or bytes i 0 ∷ []) ∙ ap (λ (l : List ℕ). before ++ l) (sym (take_more bytes i 0 h)))
+pub behind-more : (spot now : Spot) (before bytes : List ℕ) (i : ℕ) → i < length bytes → now ≡ spot_after ((before ++ take i bytes) ++ get_or bytes i 0 ∷ [])
+    → now ≡ spot_after (before ++ take (i + 1) bytes)
+behind-more spot now before bytes i h e = e
+    ∙ ap spot_after (append_assoc before (take i bytes) (get_or bytes i 0 ∷ []) ∙ ap (λ (l : List ℕ). before ++ l) (sym (take_more bytes i 0 h)))

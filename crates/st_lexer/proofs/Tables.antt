@@ -9,11 +9,14 @@ use Rattle.st_lexer.specs.declared.token.Sym.TheVariants as sym
 use Rattle.st_lexer.specs.Words as words
 use Rattle.st_lexer.specs.Symbols as symbols
 
-key-step : (k : Key) (ks : List Key) (w : List ℕ) → words.key_among (k ∷ ks) w ≡ cond (str_eq_ignore_ascii_case w (words.spelling k)) (Some k) (words.key_among ks w)
+key-step : (k : Key) (ks : List Key) (w : List ℕ)
+    → words.key_among (k ∷ ks) w ≡ cond (str_eq_ignore_ascii_case w (words.spelling k)) (Some k) (words.key_among ks w)
 unfolding words.key_among
 key-step k ks w = refl
 
-pub key-drop : (ks : List Key) (w : List ℕ) (i : ℕ) → i < length ks → words.key_among (drop i ks) w ≡ cond (str_eq_ignore_ascii_case w (words.spelling (get_or ks i key.Program))) (Some (get_or ks i key.Program)) (words.key_among (drop (i + 1) ks) w)
+pub key-drop : (ks : List Key) (w : List ℕ) (i : ℕ) → i < length ks
+    → words.key_among (drop i ks) w
+    ≡ cond (str_eq_ignore_ascii_case w (words.spelling (get_or ks i key.Program))) (Some (get_or ks i key.Program)) (words.key_among (drop (i + 1) ks) w)
 key-drop ks w i h = at_drop_more (λ (l : List Key). words.key_among l w) ks i key.Program h ∙ key-step (get_or ks i key.Program) (drop (i + 1) ks) w
 
 pub key-all : (ks : List Key) (w : List ℕ) (i : ℕ) → length ks ≤ i → words.key_among (drop i ks) w ≡ None
@@ -22,11 +25,14 @@ key-all ks w i h = at_drop_all (λ (l : List Key). words.key_among l w) ks i h
 
 pub ruleset key_rules = (key-drop, key-all)
 
-symbol-step : (y : Sym) (ys : List Sym) (s : List ℕ) → symbols.symbol_among (y ∷ ys) s ≡ cond (symbols.begins (symbols.spelling y) s) (Some y) (symbols.symbol_among ys s)
+symbol-step : (y : Sym) (ys : List Sym) (s : List ℕ)
+    → symbols.symbol_among (y ∷ ys) s ≡ cond (symbols.begins (symbols.spelling y) s) (Some y) (symbols.symbol_among ys s)
 unfolding symbols.symbol_among
 symbol-step y ys s = refl
 
-pub symbol-drop : (ys : List Sym) (s : List ℕ) (i : ℕ) → i < length ys → symbols.symbol_among (drop i ys) s ≡ cond (symbols.begins (symbols.spelling (get_or ys i sym.Assign)) s) (Some (get_or ys i sym.Assign)) (symbols.symbol_among (drop (i + 1) ys) s)
+pub symbol-drop : (ys : List Sym) (s : List ℕ) (i : ℕ) → i < length ys
+    → symbols.symbol_among (drop i ys) s
+    ≡ cond (symbols.begins (symbols.spelling (get_or ys i sym.Assign)) s) (Some (get_or ys i sym.Assign)) (symbols.symbol_among (drop (i + 1) ys) s)
 symbol-drop ys s i h = at_drop_more (λ (l : List Sym). symbols.symbol_among l s) ys i sym.Assign h ∙ symbol-step (get_or ys i sym.Assign) (drop (i + 1) ys) s
 
 pub symbol-all : (ys : List Sym) (s : List ℕ) (i : ℕ) → length ys ≤ i → symbols.symbol_among (drop i ys) s ≡ None
@@ -39,5 +45,6 @@ only-else : (t : Bool) (x y z : Option Key) → t ≡ false → x ≡ cond t y z
 only-else true x y z e f = absurd cc
 only-else false x y z e f = sym f
 
-pub key-next : (ks : List Key) (w : List ℕ) (i : ℕ) → i < length ks → str_eq_ignore_ascii_case w (words.spelling (get_or ks i key.Program)) ≡ false → words.key_among (drop (i + 1) ks) w ≡ words.key_among (drop i ks) w
+pub key-next : (ks : List Key) (w : List ℕ) (i : ℕ) → i < length ks → str_eq_ignore_ascii_case w (words.spelling (get_or ks i key.Program)) ≡ false
+    → words.key_among (drop (i + 1) ks) w ≡ words.key_among (drop i ks) w
 key-next ks w i h e = only-else _ _ _ _ e (key-drop ks w i h)

@@ -1,5 +1,6 @@
 -- Every text has a reading, or a place at which none goes on.
-use Rattle.std.proofs.Common.{◌≡◌, ℕ, zero, suc, ◌+◌, ◌<◌, ◌≤◌, Bool, true, false, List, [], length, take, drop, Option, Some, None, refl, subst, arith, length-drop, inl, inr}
+use Rattle.std.proofs.Common.{◌≡◌, ℕ, zero, suc, ◌+◌, ◌<◌, ◌≤◌, Bool, true, false, List, [], length, take, drop, Option, Some, None, refl, subst, arith}
+use Rattle.std.proofs.Common.{length-drop, inl, inr}
 use Rattle.std.specs.Prelude.{slice_index, ◌==◌, ◌⊎◌}
 use Rattle.std.specs.List.{prefix_len}
 use Rattle.std.proofs.str.Laws.{order}

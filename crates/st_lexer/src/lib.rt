@@ -18,6 +18,3 @@ pub use symbols::spelling as symbol_spelling;
 pub use token::{Key, Sym, Tok, Token};
 pub use tokens::Tokens;
 pub use words::spelling as key_spelling;
-
-#[cfg(test)]
-mod tests;

@@ -31,7 +31,8 @@ pub arms-none : (arms : ArmTrees) → append_arms arms no_arms ≡ arms
 arms-none no_arms = refl
 arms-none (and_arm e body s arms) = ap (λ (x : ArmTrees). and_arm e body s x) (arms-none arms)
 
-pub arms-next : (arms : ArmTrees) (e : ExprTree) (body : StmtTrees) (s : Spot) (more : ArmTrees) → append_arms (arms_and arms e body s) more ≡ append_arms arms (and_arm e body s more)
+pub arms-next : (arms : ArmTrees) (e : ExprTree) (body : StmtTrees) (s : Spot) (more : ArmTrees)
+    → append_arms (arms_and arms e body s) more ≡ append_arms arms (and_arm e body s more)
 arms-next no_arms e body s more = refl
 arms-next (and_arm d other_body r arms) e body s more = ap (λ (x : ArmTrees). and_arm d other_body r x) (arms-next arms e body s more)
 
@@ -43,7 +44,8 @@ pub branches-none : (branches : BranchTrees) → append_branches branches no_bra
 branches-none no_branches = refl
 branches-none (and_branch ls body branches) = ap (λ (x : BranchTrees). and_branch ls body x) (branches-none branches)
 
-pub branches-next : (branches : BranchTrees) (ls : List LabelTree) (body : StmtTrees) (more : BranchTrees) → append_branches (branches_and branches ls body) more ≡ append_branches branches (and_branch ls body more)
+pub branches-next : (branches : BranchTrees) (ls : List LabelTree) (body : StmtTrees) (more : BranchTrees)
+    → append_branches (branches_and branches ls body) more ≡ append_branches branches (and_branch ls body more)
 branches-next no_branches ls body more = refl
 branches-next (and_branch ms other_body branches) ls body more = ap (λ (x : BranchTrees). and_branch ms other_body x) (branches-next branches ls body more)
 

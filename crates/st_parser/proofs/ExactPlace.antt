@@ -1,5 +1,6 @@
 -- ExactPlace: from one law of the machine, the exact place of a fault of depth.
-use Rattle.std.proofs.Common.{◌≡◌, ◌⊎◌, ℕ, ◌<◌, Bool, true, false, leb, List, [], ◌∷◌, ◌++◌, Result, Ok, Err, inl, inr, refl, sym, ap, ◌∙◌, subst, append_assoc, append-nil}
+use Rattle.std.proofs.Common.{◌≡◌, ◌⊎◌, ℕ, ◌<◌, Bool, true, false, leb, List, [], ◌∷◌, ◌++◌, Result, Ok, Err, inl, inr, refl, sym, ap, ◌∙◌, subst, append_assoc}
+use Rattle.std.proofs.Common.{append-nil}
 use Rattle.std.proofs.lemmas.Bool.{leb-true, leb-false}
 use Rattle.std.proofs.lemmas.List.{map-append}
 use Rattle.vcp_base.specs.declared.spot.Spot.{Spot}
@@ -95,7 +96,8 @@ module _ (c : Context) (end : Spot) where
   abbrev pub Reached : List Token → State → Type 0
   Reached us r = (rest : List Token) → run c end (us ++ rest) at_program ≡ run c end rest r
 
-  stuck : (p : ProgramTree) (ps us : List Placed) (x : Placed) (rest : List Token) → SpellsProgram c.bytes p ps → First c.most ps us x → run c end (tokens_of us ++ x.token ∷ rest) at_program ≡ Err (fault.Depth x.token.spot)
+  stuck : (p : ProgramTree) (ps us : List Placed) (x : Placed) (rest : List Token) → SpellsProgram c.bytes p ps → First c.most ps us x
+      → run c end (tokens_of us ++ x.token ∷ rest) at_program ≡ Err (fault.Depth x.token.spot)
   stuck p ps us x rest sp h =
       let r = law c end p ps us x sp h in
       r.1 (x.token ∷ rest) ∙ ap (λ (s : Result State SyntaxFault). onward s (run c end rest)) r.2
@@ -104,7 +106,8 @@ module _ (c : Context) (end : Spot) where
   not-reached us r y reach e = no-depth end y r (sym (reach []) ∙ ap (λ (l : List Token). run c end l at_program) (append-nil us) ∙ e)
 
   -- none of the tokens is too deep that are not refused for their depth
-  pub not-deep : (us : List Token) → ((y : Spot) → run c end us at_program ≡ Err (fault.Depth y) → ⊥) → (before behind : List Token) (t : Token) → us ≡ before ++ t ∷ behind → IsDeep before t → ⊥
+  pub not-deep : (us : List Token) → ((y : Spot) → run c end us at_program ≡ Err (fault.Depth y) → ⊥) → (before behind : List Token) (t : Token)
+      → us ≡ before ++ t ∷ behind → IsDeep before t → ⊥
   not-deep us not before behind t split deep =
       let q = first-of c.most deep.front deep.more deep.deep deep.depth in
       let same : tokens_of q.0 ++ q.1.token ∷ tokens_of q.2 ≡ before ++ t ∷ [] =
@@ -114,14 +117,16 @@ module _ (c : Context) (end : Spot) where
       split ∙ sym (append_assoc before (t ∷ []) behind) ∙ ap (λ (l : List Token). l ++ behind) (sym same)
       ∙ append_assoc (tokens_of q.0) (q.1.token ∷ tokens_of q.2) behind in
       not q.1.token.spot
-      (ap (λ (l : List Token). run c end l at_program) all ∙ stuck deep.program (deep.front ++ deep.deep ∷ deep.more) q.0 q.1 (tokens_of q.2 ++ behind) deep.spelled q.3)
+      (ap (λ (l : List Token). run c end l at_program) all
+      ∙ stuck deep.program (deep.front ++ deep.deep ∷ deep.more) q.0 q.1 (tokens_of q.2 ++ behind) deep.spelled q.3)
 
   -- none of the tokens that are taken is too deep
   pub none-deep : (us : List Token) (r : State) → Reached us r → (before behind : List Token) (t : Token) → us ≡ before ++ t ∷ behind → IsDeep before t → ⊥
   none-deep us r reach = not-deep us (λ y e. not-reached us r y reach e)
 
   -- a token that is refused for its depth, where a program goes on with it, is too deep
-  pub is-deep : (us : List Token) (t : Token) (y : Spot) (r : State) (more : List Token) (p : ProgramTree) (ps : List Placed) → Reached us r → ((rest : List Token) → run c end (us ++ t ∷ rest) at_program ≡ Err (fault.Depth y))
+  pub is-deep : (us : List Token) (t : Token) (y : Spot) (r : State) (more : List Token) (p : ProgramTree) (ps : List Placed) → Reached us r
+      → ((rest : List Token) → run c end (us ++ t ∷ rest) at_program ≡ Err (fault.Depth y))
       → SpellsProgram c.bytes p ps → tokens_of ps ≡ us ++ t ∷ more → IsDeep us t
   is-deep us t y r more p ps reach refused sp same =
       elim (within-or-first c.most ps) [
@@ -146,7 +151,8 @@ module _ (c : Context) (end : Spot) where
                 | inl v ↦ absurd (not-reached us r q.1.token.spot reach (ap (λ (l : List Token). run c end l at_program) v.1 ∙ stuck p ps q.0 q.1 v.0 sp q.2))
                 | inr v ↦
                     let g = law c end p ps q.0 q.1 sp q.2 in
-                    absurd (no-depth end y g.0 (sym (g.1 []) ∙ ap (λ (l : List Token). run c end l at_program) (append-nil (tokens_of q.0) ∙ v.1) ∙ refused v.0))
+                    absurd (no-depth end y g.0
+                    (sym (g.1 []) ∙ ap (λ (l : List Token). run c end l at_program) (append-nil (tokens_of q.0) ∙ v.1) ∙ refused v.0))
               ]
             ]
       ]

@@ -1,5 +1,6 @@
 -- ExprEarliest: what was read of an expression begins one.
-use Rattle.std.proofs.Common.{◌≡◌, ℕ, ◌+◌, ◌<◌, ◌≤◌, Bool, true, false, cond, leb, List, [], ◌∷◌, ◌++◌, None, Result, Ok, Err, pos, sym, refl, subst, arith, append_assoc}
+use Rattle.std.proofs.Common.{◌≡◌, ℕ, ◌+◌, ◌<◌, ◌≤◌, Bool, true, false, cond, leb, List, [], ◌∷◌, ◌++◌, None, Result, Ok, Err, pos, sym, refl, subst, arith}
+use Rattle.std.proofs.Common.{append_assoc}
 use Rattle.std.proofs.lemmas.Bool.{leb-false}
 use Rattle.std.proofs.lemmas.List.{append-nil}
 use Rattle.vcp_base.specs.declared.spot.Spot.{Spot}
@@ -18,10 +19,12 @@ use Rattle.st_parser.specs.declared.marks.Begins.TheVariants as begins
 use Rattle.st_parser.specs.declared.marks.Goes.{Goes}
 use Rattle.st_parser.specs.declared.marks.Goes.TheVariants as goes
 use Rattle.st_parser.specs.Marks.{begins_by, goes_by}
-use Rattle.st_parser.specs.ExprMachine.{Context, Form, sign_of, left_of, bracket, arguments, Mode, want, after_name, have, Reading, depth_in, close, no_deeper, operand, close_at, part_at, go_on, go_on_name, step}
+use Rattle.st_parser.specs.ExprMachine.{Context, Form, sign_of, left_of, bracket, arguments, Mode, want, after_name, have, Reading, depth_in, close, no_deeper}
+use Rattle.st_parser.specs.ExprMachine.{operand, close_at, part_at, go_on, go_on_name, step}
 use Rattle.st_parser.proofs.ExprTables.{Began, begun}
 use Rattle.st_parser.proofs.ExprComplete.{within-split}
-use Rattle.st_parser.proofs.ExprSound.{Opened, Has, Holds, HasRead, close-bracket, close-arguments, close-sign, close-left, settle, has-name, wants-top, alone-spelled}
+use Rattle.st_parser.proofs.ExprSound.{Opened, Has, Holds, HasRead, close-bracket, close-arguments, close-sign, close-left, settle, has-name, wants-top}
+use Rattle.st_parser.proofs.ExprSound.{alone-spelled}
 
 -- ---- what completes an expression
 
@@ -53,7 +56,11 @@ Spelled c d ps = (e : ExprTree) × SpellsExpr c.bytes d any_level e ps
 -- ---- what was read begins an expression
 
 closes : (c : Context) (d : ℕ) (fs : List Form) (k : ℕ) (e : ExprTree) (ps : List Placed) → Has c d fs k e ps → Spelled c d (ps ++ closers d fs)
-closes c d [] k e ps h = (e, subst (λ (x : List Placed). SpellsExpr c.bytes d any_level e x) (sym (append-nil ps)) (alone-spelled c d e ps (settle c d [] k any_level e ps h h.wanted (omega arith))))
+closes c d [] k e ps h = (
+  e,
+  subst (λ (x : List Placed). SpellsExpr c.bytes d any_level e x) (sym (append-nil ps))
+      (alone-spelled c d e ps (settle c d [] k any_level e ps h h.wanted (omega arith))),
+)
 closes c d (sign_of op s ∷ fs) k e ps h = closes c d fs unary_level (unary op e s) ps (close-sign c d op s fs k e ps h)
 closes c d (left_of op a s ∷ fs) k e ps h = closes c d fs (level op) (binary op a e s) ps (close-left c d op a s fs k e ps h)
 closes c d (bracket ∷ fs) k e ps h =
@@ -102,7 +109,8 @@ closers-within c d most (arguments f s es ∷ fs) ps o within =
     (parts.1.0, closers-within c d most fs o.0 o.4 parts.0)
 
 -- the completion is within the limit of what was read, where a wanted operand has room
-pub completion-within : (c : Context) (d : ℕ) (fs : List Form) (m : Mode) (ps : List Placed) → HasRead c d fs m ps → d + depth_in fs ≤ c.most → Within c.most (completion d fs m)
+pub completion-within : (c : Context) (d : ℕ) (fs : List Form) (m : Mode) (ps : List Placed) → HasRead c d fs m ps → d + depth_in fs ≤ c.most
+    → Within c.most (completion d fs m)
 completion-within c d fs want ps h le = (le, closers-within c d c.most fs ps h.0 h.1)
 completion-within c d fs (after_name f s) ps h le =
     let w = within-split c.most h.0.0 (at (d + depth_in fs) h.0.1 ∷ []) (subst (Within c.most) h.0.6 h.1) in
@@ -122,7 +130,8 @@ abbrev pub TooDeep : Context → ℕ → List Form → List Placed → Token →
 TooDeep c d fs ps t (Err (fault.Depth s)) = (s ≡ t.spot) × (c.most < d + depth_in fs) × GoesOn c d ps (d + depth_in fs) t
 TooDeep c d fs ps t _ = Unit {0}
 
-deep-if : (c : Context) (d : ℕ) (fs : List Form) (ps : List Placed) (t : Token) (b : Bool) (r : Reading) → (b ≡ false → c.most < d + depth_in fs) → Holds c d r.forms r.mode (ps ++ at (d + depth_in fs) t ∷ [])
+deep-if : (c : Context) (d : ℕ) (fs : List Form) (ps : List Placed) (t : Token) (b : Bool) (r : Reading) → (b ≡ false → c.most < d + depth_in fs)
+    → Holds c d r.forms r.mode (ps ++ at (d + depth_in fs) t ∷ [])
     → TooDeep c d fs ps t (cond b (Ok r) (Err (fault.Depth t.spot)))
 deep-if c d fs ps t true r lt h = tt
 deep-if c d fs ps t false r lt h = (refl, lt refl, (r, h))
@@ -136,7 +145,15 @@ deep-operand : (c : Context) (d : ℕ) (fs : List Form) (ps : List Placed) (t : 
     → TooDeep c d fs ps t (no_deeper c.most (d + depth_in fs) t (operand c fs b t))
 deep-operand c d fs ps t (begins.Literal ty v) i o =
     deep-begun c d fs ps t (record { forms = fs; mode = have (literal ty v t.spot) })
-    (record { before = ps; ts = at (d + depth_in fs) t ∷ []; opened = o; spelled = spells_literal (record { ty = ty; value = v }) t i; wanted = wants-top fs; placed = refl })
+    (record {
+      before = ps;
+      ts = at (d + depth_in fs) t ∷ [];
+      opened = o;
+      spelled = spells_literal (record { ty = ty; value = v }) t i;
+      wanted =
+          wants-top fs;
+      placed = refl;
+    })
 deep-operand c d fs ps t begins.Named i o = deep-begun c d fs ps t (record { forms = fs; mode = after_name (c.bytes t) t.spot }) (ps, t, o, i, refl, refl, refl)
 deep-operand c d fs ps t (begins.Sign op) i o = deep-begun c d fs ps t (record { forms = sign_of op t.spot ∷ fs; mode = want }) (ps, t, o, i, refl, refl)
 deep-operand c d fs ps t begins.Opens i o = deep-begun c d fs ps t (record { forms = bracket ∷ fs; mode = want }) (ps, t, o, i, refl)
@@ -162,7 +179,8 @@ go-shallow c d ps goes.Closes fs e t = close-shallow c d fs ps (close any_level 
 go-shallow c d ps goes.Parts fs e t = part-shallow c d fs ps (close any_level fs e).forms (close any_level fs e).expr t
 go-shallow c d ps goes.Ends fs e t = tt
 
-name-shallow : (c : Context) (d : ℕ) (ps : List Placed) (b : Begins) (fs : List Form) (f : List ℕ) (s : Spot) (t : Token) → TooDeep c d fs ps t (go_on_name b fs f s t)
+name-shallow : (c : Context) (d : ℕ) (ps : List Placed) (b : Begins) (fs : List Form) (f : List ℕ) (s : Spot) (t : Token)
+    → TooDeep c d fs ps t (go_on_name b fs f s t)
 name-shallow c d ps (begins.Literal ty v) fs f s t = go-shallow c d ps (goes_by t.tok) fs (name f s) t
 name-shallow c d ps begins.Named fs f s t = go-shallow c d ps (goes_by t.tok) fs (name f s) t
 name-shallow c d ps (begins.Sign op) fs f s t = go-shallow c d ps (goes_by t.tok) fs (name f s) t

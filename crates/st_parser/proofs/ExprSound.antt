@@ -1,5 +1,6 @@
 -- ExprSound: an expression that is read is spelled.
-use Rattle.std.proofs.Common.{◌≡◌, ℕ, suc, ◌+◌, ◌≤◌, ◌==◌, Bool, true, false, cond, leb, List, [], ◌∷◌, ◌++◌, Option, Some, None, Result, Ok, Err, sym, refl, ap, ◌∙◌, subst, arith, append_assoc}
+use Rattle.std.proofs.Common.{◌≡◌, ℕ, suc, ◌+◌, ◌≤◌, ◌==◌, Bool, true, false, cond, leb, List, [], ◌∷◌, ◌++◌, Option, Some, None, Result, Ok, Err, sym, refl}
+use Rattle.std.proofs.Common.{ap, ◌∙◌, subst, arith, append_assoc}
 use Rattle.std.proofs.lemmas.Bool.{leb-true, leb-false, eqb-true}
 use Rattle.vcp_base.specs.declared.spot.Spot.{Spot}
 use Rattle.st_lexer.specs.declared.token.Sym.TheVariants as symbol
@@ -11,7 +12,8 @@ use Rattle.st_tree.specs.ExprTree.{ExprTree, ExprTrees, name, unary, binary, cal
 use Rattle.st_tree.specs.Appended.{exprs_and}
 use Rattle.st_spelling.specs.Operators.{sign, operator, level, any_level, unary_level, chain}
 use Rattle.st_spelling.specs.Placed.{Placed, at, Within}
-use Rattle.st_spelling.specs.Expressions.{SpellsExpr, SpellsArgs, spells_literal, spells_name, spells_unary, spells_binary, spells_call, spells_brackets, spells_last, spells_next}
+use Rattle.st_spelling.specs.Expressions.{SpellsExpr, SpellsArgs, spells_literal, spells_name, spells_unary, spells_binary, spells_call, spells_brackets}
+use Rattle.st_spelling.specs.Expressions.{spells_last, spells_next}
 use Rattle.st_parser.specs.declared.fault.SyntaxFault.{SyntaxFault}
 use Rattle.st_parser.specs.declared.fault.SyntaxFault.TheVariants as fault
 use Rattle.st_parser.specs.declared.marks.Begins.{Begins}
@@ -19,7 +21,8 @@ use Rattle.st_parser.specs.declared.marks.Begins.TheVariants as begins
 use Rattle.st_parser.specs.declared.marks.Goes.{Goes}
 use Rattle.st_parser.specs.declared.marks.Goes.TheVariants as goes
 use Rattle.st_parser.specs.Marks.{begins_by, goes_by}
-use Rattle.st_parser.specs.ExprMachine.{Context, Form, sign_of, left_of, bracket, arguments, Mode, want, after_name, have, Reading, depth_in, Closed, close, no_deeper, operand, close_at, part_at, go_on, go_on_name, step, alone, whole_before, name_before, ends_before}
+use Rattle.st_parser.specs.ExprMachine.{Context, Form, sign_of, left_of, bracket, arguments, Mode, want, after_name, have, Reading, depth_in, Closed, close}
+use Rattle.st_parser.specs.ExprMachine.{no_deeper, operand, close_at, part_at, go_on, go_on_name, step, alone, whole_before, name_before, ends_before}
 use Rattle.st_parser.proofs.ExprTables.{Began, begun, Went, went}
 use Rattle.st_parser.proofs.ExprComplete.{wants, level-within, within-split}
 
@@ -43,13 +46,15 @@ chain-deepest most d k inner true le is = omega (arith, le, is refl)
 chain-deepest most d k inner false le is = omega (arith, le)
 
 -- a spelled expression within the limit has room for its chain
-pub deepest : {bytes : Token → List ℕ} {d l : ℕ} {e : ExprTree} {ps : List Placed} (most : ℕ) → SpellsExpr bytes d l e ps → Within most ps → (n : ℕ) → d + chain n e ≤ most
+pub deepest : {bytes : Token → List ℕ} {d l : ℕ} {e : ExprTree} {ps : List Placed} (most : ℕ) → SpellsExpr bytes d l e ps → Within most ps → (n : ℕ)
+    → d + chain n e ≤ most
 deepest most (spells_literal v t i) within n = omega (arith, within.0)
 deepest most (spells_name t i) within n = omega (arith, within.0)
 deepest most (spells_unary op a t ts i sa) within n = omega (arith, within.0)
 deepest {d = d} most (spells_binary op a b t ts us le i sa sb) within n =
     let parts = within-split most ts (at (d + chain (level op) a) t ∷ us) within in
-    chain-deepest most d (chain n a) (chain (level op) a) (level op == n) (omega (arith, deepest most sb parts.1.1 0)) (λ same. ap (λ (x : ℕ). chain x a) (sym (eqb-true (level op) n same)))
+    chain-deepest most d (chain n a) (chain (level op) a) (level op == n) (omega (arith, deepest most sb parts.1.1 0))
+    (λ same. ap (λ (x : ℕ). chain x a) (sym (eqb-true (level op) n same)))
 deepest most (spells_call f o es ts i j sa) within n = omega (arith, within.0)
 deepest {d = d} most (spells_brackets e o z ts i j sa) within n = omega (arith, deepest most sa (within-split most ts (at d z ∷ []) within.1).0 n)
 
@@ -66,7 +71,8 @@ Opened c d [] ps = ps ≡ []
 Opened c d (sign_of op s ∷ fs) ps =
     (before : List Placed) × (t : Token) × Opened c d fs before × (t.tok ≡ sign op) × (s ≡ t.spot) × (ps ≡ before ++ at (d + depth_in fs) t ∷ [])
 Opened c d (left_of op a s ∷ fs) ps =
-    (before : List Placed) × (ts : List Placed) × (t : Token) × Opened c d fs before × (wants fs ≤ level op) × SpellsExpr c.bytes (d + depth_in fs) (level op) a ts
+    (before : List Placed) × (ts : List Placed) × (t : Token) × Opened c d fs before × (wants fs ≤ level op) × SpellsExpr c.bytes (d + depth_in fs)
+    (level op) a ts
     × (t.tok ≡ operator op) × (s ≡ t.spot) × (ps ≡ (before ++ ts) ++ at ((d + depth_in fs) + chain (level op) a) t ∷ [])
 Opened c d (bracket ∷ fs) ps =
     (before : List Placed) × (t : Token) × Opened c d fs before × (t.tok ≡ tok.Sym symbol.LParen) × (ps ≡ before ++ at (d + depth_in fs) t ∷ [])
@@ -88,7 +94,8 @@ pub record Has (c : Context) (d : ℕ) (fs : List Form) (l : ℕ) (e : ExprTree)
 abbrev pub Holds : Context → ℕ → List Form → Mode → List Placed → Type 0
 Holds c d fs want ps = Opened c d fs ps
 Holds c d fs (after_name f s) ps =
-    (before : List Placed) × (t : Token) × Opened c d fs before × (t.tok ≡ tok.Name) × (f ≡ c.bytes t) × (s ≡ t.spot) × (ps ≡ before ++ at (d + depth_in fs) t ∷ [])
+    (before : List Placed) × (t : Token) × Opened c d fs before × (t.tok ≡ tok.Name) × (f ≡ c.bytes t) × (s ≡ t.spot)
+    × (ps ≡ before ++ at (d + depth_in fs) t ∷ [])
 Holds c d fs (have e) ps = Has c d fs unary_level e ps
 
 -- the tokens that forms and mode have read at base depth d, none deeper than the limit
@@ -107,7 +114,8 @@ settle c d fs k l e ps h le w = record { before = h.before; ts = h.ts; opened = 
 
 -- ---- what closes
 
-pub close-sign : (c : Context) (d : ℕ) (op : UnOp) (s : Spot) (fs : List Form) (k : ℕ) (e : ExprTree) (ps : List Placed) → Has c d (sign_of op s ∷ fs) k e ps → Has c d fs unary_level (unary op e s) ps
+pub close-sign : (c : Context) (d : ℕ) (op : UnOp) (s : Spot) (fs : List Form) (k : ℕ) (e : ExprTree) (ps : List Placed) → Has c d (sign_of op s ∷ fs) k e ps
+    → Has c d fs unary_level (unary op e s) ps
 close-sign c d op s fs k e ps h =
     let o = h.opened in
     let here : ℕ = d + depth_in fs in
@@ -121,7 +129,8 @@ close-sign c d op s fs k e ps h =
       placed = h.placed ∙ ap (λ (b : List Placed). b ++ h.ts) o.5 ∙ append_assoc o.0 (at here o.1 ∷ []) h.ts;
     }
 
-pub close-left : (c : Context) (d : ℕ) (op : BinOp) (a : ExprTree) (s : Spot) (fs : List Form) (k : ℕ) (e : ExprTree) (ps : List Placed) → Has c d (left_of op a s ∷ fs) k e ps → Has c d fs (level op) (binary op a e s) ps
+pub close-left : (c : Context) (d : ℕ) (op : BinOp) (a : ExprTree) (s : Spot) (fs : List Form) (k : ℕ) (e : ExprTree) (ps : List Placed)
+    → Has c d (left_of op a s ∷ fs) k e ps → Has c d fs (level op) (binary op a e s) ps
 close-left c d op a s fs k e ps h =
     let o = h.opened in
     let here : ℕ = d + depth_in fs in
@@ -131,7 +140,9 @@ close-left c d op a s fs k e ps h =
       ts = o.1 ++ p ∷ h.ts;
       opened = o.3;
       spelled = subst (λ (x : Spot). SpellsExpr c.bytes here (level op) (binary op a e x) (o.1 ++ p ∷ h.ts)) (sym o.7)
-          (spells_binary op a e o.2 o.1 h.ts (omega arith) o.6 o.5 (at-depth (d + (depth_in fs + suc (chain (level op) a))) (here + suc (chain (level op) a)) (omega arith) (weaken h.spelled (suc (level op)) h.wanted)));
+          (spells_binary op a e o.2 o.1 h.ts (omega arith) o.6 o.5
+          (at-depth (d + (depth_in fs + suc (chain (level op) a))) (here + suc (chain (level op) a)) (omega arith)
+          (weaken h.spelled (suc (level op)) h.wanted)));
       wanted = o.4;
       placed = h.placed ∙ ap (λ (b : List Placed). b ++ h.ts) o.8 ∙ append_assoc (o.0 ++ o.1) (p ∷ []) h.ts ∙ append_assoc o.0 o.1 (p ∷ h.ts);
     }
@@ -140,7 +151,8 @@ chosen : (P : Closed → Type 0) (b : Bool) (x y : Closed) → (b ≡ true → P
 chosen P true x y f g = f refl
 chosen P false x y f g = g refl
 
-pub closed : (c : Context) (d l : ℕ) (fs : List Form) (k : ℕ) (e : ExprTree) (ps : List Placed) → Has c d fs k e ps → 1 ≤ l → l ≤ k → l ≤ 7 → Has c d (close l fs e).forms l (close l fs e).expr ps
+pub closed : (c : Context) (d l : ℕ) (fs : List Form) (k : ℕ) (e : ExprTree) (ps : List Placed) → Has c d fs k e ps → 1 ≤ l → l ≤ k → l ≤ 7
+    → Has c d (close l fs e).forms l (close l fs e).expr ps
 closed c d l [] k e ps h pos le top = settle c d [] k l e ps h le pos
 closed c d l (sign_of op s ∷ fs) k e ps h pos le top =
     closed c d l fs unary_level (unary op e s) ps (close-sign c d op s fs k e ps h) pos (omega (arith, top)) top
@@ -158,27 +170,42 @@ abbrev Fine : Context → ℕ → List Placed → Token → Result Reading Synta
 Fine c d ps t (Ok r) = (k : ℕ) × Holds c d r.forms r.mode (ps ++ at k t ∷ []) × (k ≤ c.most)
 Fine c d ps t (Err f) = Unit {0}
 
-operand-fine : (c : Context) (d : ℕ) (b : Begins) (fs : List Form) (t : Token) (ps : List Placed) → Began b t.tok → Opened c d fs ps → d + depth_in fs ≤ c.most → Fine c d ps t (operand c fs b t)
-operand-fine c d (begins.Literal ty v) fs t ps i o le =
-    (d + depth_in fs, record { before = ps; ts = at (d + depth_in fs) t ∷ []; opened = o; spelled = spells_literal (record { ty = ty; value = v }) t i; wanted = wants-top fs; placed = refl }, le)
+operand-fine : (c : Context) (d : ℕ) (b : Begins) (fs : List Form) (t : Token) (ps : List Placed) → Began b t.tok → Opened c d fs ps → d + depth_in fs ≤ c.most
+    → Fine c d ps t (operand c fs b t)
+operand-fine c d (begins.Literal ty v) fs t ps i o le = (
+  d + depth_in fs,
+  record {
+    before = ps;
+    ts = at (d + depth_in fs) t ∷ [];
+    opened = o;
+    spelled = spells_literal (record { ty = ty; value = v }) t i;
+    wanted = wants-top fs;
+    placed = refl;
+  },
+  le,
+)
 operand-fine c d begins.Named fs t ps i o le = (d + depth_in fs, (ps, t, o, i, refl, refl, refl), le)
 operand-fine c d (begins.Sign op) fs t ps i o le = (d + depth_in fs, (ps, t, o, i, refl, refl), le)
 operand-fine c d begins.Opens fs t ps i o le = (d + depth_in fs, (ps, t, o, i, refl), le)
 operand-fine c d begins.Nothing fs t ps i o le = tt
 
-fine-if : (c : Context) (d : ℕ) (ps : List Placed) (t : Token) (b : Bool) (r : Reading) (f : SyntaxFault) → (b ≡ true → Fine c d ps t (Ok r)) → Fine c d ps t (cond b (Ok r) (Err f))
+fine-if : (c : Context) (d : ℕ) (ps : List Placed) (t : Token) (b : Bool) (r : Reading) (f : SyntaxFault) → (b ≡ true → Fine c d ps t (Ok r))
+    → Fine c d ps t (cond b (Ok r) (Err f))
 fine-if c d ps t true r f h = h refl
 fine-if c d ps t false r f h = tt
 
-no_deeper-fine : (c : Context) (d depth : ℕ) (t : Token) (ps : List Placed) (r : Result Reading SyntaxFault) → (depth ≤ c.most → Fine c d ps t r) → Fine c d ps t (no_deeper c.most depth t r)
+no_deeper-fine : (c : Context) (d depth : ℕ) (t : Token) (ps : List Placed) (r : Result Reading SyntaxFault) → (depth ≤ c.most → Fine c d ps t r)
+    → Fine c d ps t (no_deeper c.most depth t r)
 no_deeper-fine c d depth t ps (Ok r) h = fine-if c d ps t (leb depth c.most) r (fault.Depth t.spot) (λ e. h (leb-true depth c.most e))
 no_deeper-fine c d depth t ps (Err f) h = tt
 
 -- an operand has room for its chain, where all that was read is within the limit
-has-room : (c : Context) (d : ℕ) (fs : List Form) (l : ℕ) (e : ExprTree) (ps : List Placed) → Has c d fs l e ps → Within c.most ps → (n : ℕ) → d + depth_in fs + chain n e ≤ c.most
+has-room : (c : Context) (d : ℕ) (fs : List Form) (l : ℕ) (e : ExprTree) (ps : List Placed) → Has c d fs l e ps → Within c.most ps → (n : ℕ)
+    → d + depth_in fs + chain n e ≤ c.most
 has-room c d fs l e ps h within n = deepest c.most h.spelled (within-split c.most h.before h.ts (subst (Within c.most) h.placed within)).1 n
 
-join-fine : (c : Context) (d : ℕ) (op : BinOp) (fs : List Form) (e : ExprTree) (t : Token) (ps : List Placed) → t.tok ≡ operator op → Has c d fs (level op) e ps → Within c.most ps
+join-fine : (c : Context) (d : ℕ) (op : BinOp) (fs : List Form) (e : ExprTree) (t : Token) (ps : List Placed) → t.tok ≡ operator op → Has c d fs (level op) e ps
+    → Within c.most ps
     → Fine c d ps t (Ok (record { forms = left_of op e t.spot ∷ fs; mode = want }))
 join-fine c d op fs e t ps i h within = (
   (d + depth_in fs) + chain (level op) e,
@@ -187,7 +214,8 @@ join-fine c d op fs e t ps i h within = (
 )
 
 -- one argument more
-front-next : (c : Context) (d : ℕ) (es : ExprTrees) (us : List Placed) (e : ExprTree) (ts : List Placed) (t : Token) → Front c d es us → SpellsExpr c.bytes (suc d) any_level e ts → t.tok ≡ tok.Sym symbol.Comma
+front-next : (c : Context) (d : ℕ) (es : ExprTrees) (us : List Placed) (e : ExprTree) (ts : List Placed) (t : Token) → Front c d es us
+    → SpellsExpr c.bytes (suc d) any_level e ts → t.tok ≡ tok.Sym symbol.Comma
     → Front c d (exprs_and es e) (us ++ (ts ++ at (suc d) t ∷ []))
 front-next c d no_exprs us e ts t f sp i = (ts, t, [], sp, i, refl, ap (λ (x : List Placed). x ++ (ts ++ at (suc d) t ∷ [])) f)
 front-next c d (and_expr x xs) us e ts t f sp i = (
@@ -201,16 +229,19 @@ front-next c d (and_expr x xs) us e ts t f sp i = (
 )
 
 -- the last argument, and the bracket
-front-last : (c : Context) (d : ℕ) (es : ExprTrees) (us : List Placed) (e : ExprTree) (ts : List Placed) (t : Token) → Front c d es us → SpellsExpr c.bytes (suc d) any_level e ts → t.tok ≡ tok.Sym symbol.RParen
+front-last : (c : Context) (d : ℕ) (es : ExprTrees) (us : List Placed) (e : ExprTree) (ts : List Placed) (t : Token) → Front c d es us
+    → SpellsExpr c.bytes (suc d) any_level e ts → t.tok ≡ tok.Sym symbol.RParen
     → SpellsArgs c.bytes d (exprs_and es e) (us ++ (ts ++ at d t ∷ []))
-front-last c d no_exprs us e ts t f sp i = subst (λ (x : List Placed). SpellsArgs c.bytes d (and_expr e no_exprs) (x ++ (ts ++ at d t ∷ []))) (sym f) (spells_last e t ts i sp)
+front-last c d no_exprs us e ts t f sp i =
+    subst (λ (x : List Placed). SpellsArgs c.bytes d (and_expr e no_exprs) (x ++ (ts ++ at d t ∷ []))) (sym f) (spells_last e t ts i sp)
 front-last c d (and_expr x xs) us e ts t f sp i =
     subst (λ (y : List Placed). SpellsArgs c.bytes d (and_expr x (exprs_and xs e)) y)
     (sym (ap (λ (y : List Placed). y ++ (ts ++ at d t ∷ [])) f.6 ∙ append_assoc f.0 (at (suc d) f.1 ∷ f.2) (ts ++ at d t ∷ [])))
     (spells_next x (exprs_and xs e) f.1 f.0 (f.2 ++ (ts ++ at d t ∷ [])) f.4 f.3 (front-last c d xs f.2 e ts t f.5 sp i))
 
 -- an expression in brackets, and one that is the last argument, with the closing bracket
-pub close-bracket : (c : Context) (d : ℕ) (fs : List Form) (e : ExprTree) (t : Token) (ps : List Placed) → t.tok ≡ tok.Sym symbol.RParen → Has c d (bracket ∷ fs) any_level e ps
+pub close-bracket : (c : Context) (d : ℕ) (fs : List Form) (e : ExprTree) (t : Token) (ps : List Placed) → t.tok ≡ tok.Sym symbol.RParen
+    → Has c d (bracket ∷ fs) any_level e ps
     → Has c d fs unary_level e (ps ++ at (d + depth_in fs) t ∷ [])
 close-bracket c d fs e t ps i h =
     let o = h.opened in
@@ -222,10 +253,12 @@ close-bracket c d fs e t ps i h =
       opened = o.2;
       spelled = spells_brackets e o.1 t h.ts o.3 i (at-depth (d + suc (depth_in fs)) (suc here) (omega arith) h.spelled);
       wanted = wants-top fs;
-      placed = ap (λ (x : List Placed). x ++ p ∷ []) (h.placed ∙ ap (λ (b : List Placed). b ++ h.ts) o.4 ∙ append_assoc o.0 (at here o.1 ∷ []) h.ts) ∙ append_assoc o.0 (at here o.1 ∷ h.ts) (p ∷ []);
+      placed = ap (λ (x : List Placed). x ++ p ∷ []) (h.placed ∙ ap (λ (b : List Placed). b ++ h.ts) o.4 ∙ append_assoc o.0 (at here o.1 ∷ []) h.ts)
+          ∙ append_assoc o.0 (at here o.1 ∷ h.ts) (p ∷ []);
     }
 
-pub close-arguments : (c : Context) (d : ℕ) (f : List ℕ) (s : Spot) (es : ExprTrees) (fs : List Form) (e : ExprTree) (t : Token) (ps : List Placed) → t.tok ≡ tok.Sym symbol.RParen
+pub close-arguments : (c : Context) (d : ℕ) (f : List ℕ) (s : Spot) (es : ExprTrees) (fs : List Form) (e : ExprTree) (t : Token) (ps : List Placed)
+    → t.tok ≡ tok.Sym symbol.RParen
     → Has c d (arguments f s es ∷ fs) any_level e ps → Has c d fs unary_level (call f (exprs_and es e) s) (ps ++ at (d + depth_in fs) t ∷ [])
 close-arguments c d f s es fs e t ps i h =
     let o = h.opened in
@@ -239,20 +272,24 @@ close-arguments c d f s es fs e t ps i h =
       ts = at here o.1 ∷ at here o.2 ∷ inside;
       opened = o.4;
       spelled = subst (λ (x : Spot). SpellsExpr c.bytes here unary_level (call f (exprs_and es e) x) (at here o.1 ∷ at here o.2 ∷ inside)) (sym o.8)
-          (subst (λ (x : List ℕ). SpellsExpr c.bytes here unary_level (call x (exprs_and es e) o.1.spot) (at here o.1 ∷ at here o.2 ∷ inside)) (sym o.7) is_call);
+          (subst (λ (x : List ℕ). SpellsExpr c.bytes here unary_level (call x (exprs_and es e) o.1.spot) (at here o.1 ∷ at here o.2 ∷ inside))
+          (sym o.7) is_call);
       wanted = wants-top fs;
       placed = ap (λ (x : List Placed). x ++ p ∷ []) (h.placed ∙ ap (λ (b : List Placed). b ++ h.ts) o.10) ∙ simp append_assoc;
     }
 
-close-fine : (c : Context) (d : ℕ) (fs : List Form) (e : ExprTree) (t : Token) (ps : List Placed) → t.tok ≡ tok.Sym symbol.RParen → Has c d fs any_level e ps → Within c.most ps → Fine c d ps t (close_at fs e t)
+close-fine : (c : Context) (d : ℕ) (fs : List Form) (e : ExprTree) (t : Token) (ps : List Placed) → t.tok ≡ tok.Sym symbol.RParen → Has c d fs any_level e ps
+    → Within c.most ps → Fine c d ps t (close_at fs e t)
 close-fine c d [] e t ps i h within = tt
 close-fine c d (sign_of op s ∷ fs) e t ps i h within = tt
 close-fine c d (left_of op a s ∷ fs) e t ps i h within = tt
-close-fine c d (bracket ∷ fs) e t ps i h within = (d + depth_in fs, close-bracket c d fs e t ps i h, omega (arith, has-room c d (bracket ∷ fs) any_level e ps h within 0))
+close-fine c d (bracket ∷ fs) e t ps i h within =
+    (d + depth_in fs, close-bracket c d fs e t ps i h, omega (arith, has-room c d (bracket ∷ fs) any_level e ps h within 0))
 close-fine c d (arguments f s es ∷ fs) e t ps i h within =
     (d + depth_in fs, close-arguments c d f s es fs e t ps i h, omega (arith, has-room c d (arguments f s es ∷ fs) any_level e ps h within 0))
 
-part-fine : (c : Context) (d : ℕ) (fs : List Form) (e : ExprTree) (t : Token) (ps : List Placed) → t.tok ≡ tok.Sym symbol.Comma → Has c d fs any_level e ps → Within c.most ps → Fine c d ps t (part_at fs e t)
+part-fine : (c : Context) (d : ℕ) (fs : List Form) (e : ExprTree) (t : Token) (ps : List Placed) → t.tok ≡ tok.Sym symbol.Comma → Has c d fs any_level e ps
+    → Within c.most ps → Fine c d ps t (part_at fs e t)
 part-fine c d [] e t ps i h within = tt
 part-fine c d (sign_of op s ∷ fs) e t ps i h within = tt
 part-fine c d (left_of op a s ∷ fs) e t ps i h within = tt
@@ -278,17 +315,22 @@ part-fine c d (arguments f s es ∷ fs) e t ps i h within =
       omega (arith, has-room c d (arguments f s es ∷ fs) any_level e ps h within 0),
     )
 
-go-fine : (c : Context) (d : ℕ) (g : Goes) (fs : List Form) (e : ExprTree) (t : Token) (ps : List Placed) → Went g t.tok → Has c d fs unary_level e ps → Within c.most ps → Fine c d ps t (go_on g fs e t)
+go-fine : (c : Context) (d : ℕ) (g : Goes) (fs : List Form) (e : ExprTree) (t : Token) (ps : List Placed) → Went g t.tok → Has c d fs unary_level e ps
+    → Within c.most ps → Fine c d ps t (go_on g fs e t)
 go-fine c d (goes.Joins op) fs e t ps i h within =
     let lv = level-within op in
-    join-fine c d op (close (level op) fs e).forms (close (level op) fs e).expr t ps i (closed c d (level op) fs unary_level e ps h lv.0 (omega (arith, lv.1)) lv.1) within
+    join-fine c d op (close (level op) fs e).forms (close (level op) fs e).expr t ps i
+    (closed c d (level op) fs unary_level e ps h lv.0 (omega (arith, lv.1)) lv.1) within
 go-fine c d goes.Closes fs e t ps i h within =
-    close-fine c d (close any_level fs e).forms (close any_level fs e).expr t ps i (closed c d any_level fs unary_level e ps h (omega arith) (omega arith) (omega arith)) within
+    close-fine c d (close any_level fs e).forms (close any_level fs e).expr t ps i
+    (closed c d any_level fs unary_level e ps h (omega arith) (omega arith) (omega arith)) within
 go-fine c d goes.Parts fs e t ps i h within =
-    part-fine c d (close any_level fs e).forms (close any_level fs e).expr t ps i (closed c d any_level fs unary_level e ps h (omega arith) (omega arith) (omega arith)) within
+    part-fine c d (close any_level fs e).forms (close any_level fs e).expr t ps i
+    (closed c d any_level fs unary_level e ps h (omega arith) (omega arith) (omega arith)) within
 go-fine c d goes.Ends fs e t ps i h within = tt
 
-pub has-name : (c : Context) (d : ℕ) (fs : List Form) (f : List ℕ) (s : Spot) (ps : List Placed) → Holds c d fs (after_name f s) ps → Has c d fs unary_level (name f s) ps
+pub has-name : (c : Context) (d : ℕ) (fs : List Form) (f : List ℕ) (s : Spot) (ps : List Placed) → Holds c d fs (after_name f s) ps
+    → Has c d fs unary_level (name f s) ps
 has-name c d fs f s ps h =
     let here : ℕ = d + depth_in fs in
     record {
@@ -301,7 +343,8 @@ has-name c d fs f s ps h =
       placed = h.6;
     }
 
-name-fine : (c : Context) (d : ℕ) (b : Begins) (fs : List Form) (f : List ℕ) (s : Spot) (t : Token) (ps : List Placed) → Began b t.tok → Holds c d fs (after_name f s) ps → Within c.most ps → Fine c d ps t (go_on_name b fs f s t)
+name-fine : (c : Context) (d : ℕ) (b : Begins) (fs : List Form) (f : List ℕ) (s : Spot) (t : Token) (ps : List Placed) → Began b t.tok
+    → Holds c d fs (after_name f s) ps → Within c.most ps → Fine c d ps t (go_on_name b fs f s t)
 name-fine c d (begins.Literal ty v) fs f s t ps i h within = go-fine c d (goes_by t.tok) fs (name f s) t ps (went t.tok) (has-name c d fs f s ps h) within
 name-fine c d begins.Named fs f s t ps i h within = go-fine c d (goes_by t.tok) fs (name f s) t ps (went t.tok) (has-name c d fs f s ps h) within
 name-fine c d (begins.Sign op) fs f s t ps i h within = go-fine c d (goes_by t.tok) fs (name f s) t ps (went t.tok) (has-name c d fs f s ps h) within
@@ -314,7 +357,8 @@ name-fine c d begins.Opens fs f s t ps i h within =
 name-fine c d begins.Nothing fs f s t ps i h within = go-fine c d (goes_by t.tok) fs (name f s) t ps (went t.tok) (has-name c d fs f s ps h) within
 
 step-fine : (c : Context) (d : ℕ) (fs : List Form) (m : Mode) (t : Token) (ps : List Placed) → HasRead c d fs m ps → Fine c d ps t (step c d fs m t)
-step-fine c d fs want t ps h = no_deeper-fine c d (d + depth_in fs) t ps (operand c fs (begins_by t.tok) t) (λ le. operand-fine c d (begins_by t.tok) fs t ps (begun t.tok) h.0 le)
+step-fine c d fs want t ps h =
+    no_deeper-fine c d (d + depth_in fs) t ps (operand c fs (begins_by t.tok) t) (λ le. operand-fine c d (begins_by t.tok) fs t ps (begun t.tok) h.0 le)
 step-fine c d fs (after_name f s) t ps h = name-fine c d (begins_by t.tok) fs f s t ps (begun t.tok) h.0 h.1
 step-fine c d fs (have e) t ps h = go-fine c d (goes_by t.tok) fs e t ps (went t.tok) h.0 h.1
 
@@ -348,14 +392,17 @@ alone-good : (c : Context) (d : ℕ) (fs : List Form) (e : ExprTree) (ps : List 
 alone-good c d [] e ps h = alone-spelled c d e ps h
 alone-good c d (f ∷ fs) e ps h = tt
 
-whole-good : (c : Context) (d : ℕ) (g : Goes) (fs : List Form) (e : ExprTree) (ps : List Placed) → Has c d fs unary_level e ps → Good c d ps (whole_before g fs e)
+whole-good : (c : Context) (d : ℕ) (g : Goes) (fs : List Form) (e : ExprTree) (ps : List Placed) → Has c d fs unary_level e ps
+    → Good c d ps (whole_before g fs e)
 whole-good c d (goes.Joins op) fs e ps h = tt
 whole-good c d goes.Closes fs e ps h = tt
 whole-good c d goes.Parts fs e ps h = tt
 whole-good c d goes.Ends fs e ps h =
-    alone-good c d (close any_level fs e).forms (close any_level fs e).expr ps (closed c d any_level fs unary_level e ps h (omega arith) (omega arith) (omega arith))
+    alone-good c d (close any_level fs e).forms (close any_level fs e).expr ps
+    (closed c d any_level fs unary_level e ps h (omega arith) (omega arith) (omega arith))
 
-name-good : (c : Context) (d : ℕ) (b : Begins) (g : Goes) (fs : List Form) (e : ExprTree) (ps : List Placed) → Has c d fs unary_level e ps → Good c d ps (name_before b g fs e)
+name-good : (c : Context) (d : ℕ) (b : Begins) (g : Goes) (fs : List Form) (e : ExprTree) (ps : List Placed) → Has c d fs unary_level e ps
+    → Good c d ps (name_before b g fs e)
 name-good c d (begins.Literal ty v) g fs e ps h = whole-good c d g fs e ps h
 name-good c d begins.Named g fs e ps h = whole-good c d g fs e ps h
 name-good c d (begins.Sign op) g fs e ps h = whole-good c d g fs e ps h
@@ -367,6 +414,7 @@ ends-good c d fs want ps t h = tt
 ends-good c d fs (after_name f s) ps t h = name-good c d (begins_by t.tok) (goes_by t.tok) fs (name f s) ps (has-name c d fs f s ps h)
 ends-good c d fs (have e) ps t h = whole-good c d (goes_by t.tok) fs e ps h
 
-pub ends-read : (c : Context) (d : ℕ) (fs : List Form) (m : Mode) (ps : List Placed) (t : Token) (e : ExprTree) → HasRead c d fs m ps → ends_before fs m t ≡ Some e
+pub ends-read : (c : Context) (d : ℕ) (fs : List Form) (m : Mode) (ps : List Placed) (t : Token) (e : ExprTree) → HasRead c d fs m ps
+    → ends_before fs m t ≡ Some e
     → SpellsExpr c.bytes d any_level e ps × Within c.most ps
 ends-read c d fs m ps t e h ends = (subst (Good c d ps) ends (ends-good c d fs m ps t h.0), h.1)

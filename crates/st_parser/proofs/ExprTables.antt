@@ -196,7 +196,8 @@ one-literal : (x : Option Value) (v w : Value) → x ≡ Some v → x ≡ Some w
 one-literal x v w e f = cc
 
 literal-begins-so : (b : Begins) (k : Tok) (v : Value) → Began b k → literal_of k ≡ Some v → b ≡ begins.Literal v.ty v.value
-literal-begins-so (begins.Literal ty x) k v h e = ap (λ (w : Value). begins.Literal w.ty w.value) (one-literal (literal_of k) (record { ty = ty; value = x }) v h e)
+literal-begins-so (begins.Literal ty x) k v h e =
+    ap (λ (w : Value). begins.Literal w.ty w.value) (one-literal (literal_of k) (record { ty = ty; value = x }) v h e)
 literal-begins-so begins.Named k v h e = absurd (none-is-not-some v (ap literal_of (sym h) ∙ e))
 literal-begins-so (begins.Sign op) k v h e = absurd (sign-no-literal op v (ap literal_of (sym h) ∙ e))
 literal-begins-so begins.Opens k v h e = absurd (bracket-no-literal v (ap literal_of (sym h) ∙ e))

@@ -1,5 +1,6 @@
 -- Frames: the forms of the program with one more, and what closing does to them.
-use Rattle.std.proofs.Common.{◌≡◌, ℕ, ◌+◌, List, [], ◌∷◌, ◌++◌, ◌≤◌, ◌<◌, length, take, drop, get_or, refl, ap, subst, ◌∙◌, arith, sym, Bool, cond, Option, Some, None}
+use Rattle.std.proofs.Common.{◌≡◌, ℕ, ◌+◌, List, [], ◌∷◌, ◌++◌, ◌≤◌, ◌<◌, length, take, drop, get_or, refl, ap, subst, ◌∙◌, arith, sym, Bool, cond, Option}
+use Rattle.std.proofs.Common.{Some, None}
 use Rattle.std.proofs.lemmas.List.{take-append-drop, take_more}
 use Rattle.std.proofs.lemmas.Bool.{le-leb, lt-leb}
 use Rattle.std.specs.Option.{option_to_list}
@@ -57,7 +58,8 @@ pub depth-take : (fs : List Form) (n : ℕ) → machine.depth_in (forms (take n 
 depth-take fs n =
     subst (λ (l : List Form). machine.depth_in (forms (take n fs)) ≤ machine.depth_in (forms l)) (take-append-drop n fs) (depth-append (take n fs) (drop n fs))
 
-pub depth-next : (fs : List Form) (i : ℕ) (d : Form) → i < length fs → machine.depth_in (forms (take (i + 1) fs)) ≡ machine.depth_in (forms (take i fs)) + weight (get_or fs i d)
+pub depth-next : (fs : List Form) (i : ℕ) (d : Form) → i < length fs
+    → machine.depth_in (forms (take (i + 1) fs)) ≡ machine.depth_in (forms (take i fs)) + weight (get_or fs i d)
 depth-next fs i d lt =
     ap (λ (l : List Form). machine.depth_in (forms l)) (take_more fs i d lt) ∙ depth-push (take i fs) (get_or fs i d)
 
@@ -75,7 +77,8 @@ pub close-left : (l : ℕ) (old new : List Form) (op : BinOp) (a : Expr) (s : Sp
     → machine.close l (forms old) e ≡ machine.close l (forms new) (binary op (expr_tree a) e s)
 close-left l old new op a s e is le =
     ap (λ (x : List Form). machine.close l (forms x) e) is ∙ ap (λ (fs : List machine.Form). machine.close l fs e) (forms-push new (program.Left op a s))
-    ∙ ap (λ (b : Bool). cond b (machine.close l (forms new) (binary op (expr_tree a) e s)) (at (machine.left_of op (expr_tree a) s ∷ forms new) e)) (le-leb l (level op) le)
+    ∙ ap (λ (b : Bool). cond b (machine.close l (forms new) (binary op (expr_tree a) e s)) (at (machine.left_of op (expr_tree a) s ∷ forms new) e))
+    (le-leb l (level op) le)
 
 -- the innermost form is not closed
 abbrev pub Stays : ℕ → Form → Type 0
@@ -94,7 +97,8 @@ stays l (program.Arguments f s es) fs e h = refl
 pub close-stays : (l : ℕ) (old new back : List Form) (f : Form) (e : ExprTree) → old ≡ new ++ f ∷ [] → back ≡ new ++ f ∷ [] → Stays l f
     → machine.close l (forms old) e ≡ record { forms = forms back; expr = e }
 close-stays l old new back f e is back-is h =
-    ap (λ (x : List Form). machine.close l (forms x) e) is ∙ ap (λ (fs : List machine.Form). machine.close l fs e) (forms-push new f) ∙ stays l f (forms new) e h
+    ap (λ (x : List Form). machine.close l (forms x) e) is ∙ ap (λ (fs : List machine.Form). machine.close l fs e) (forms-push new f)
+    ∙ stays l f (forms new) e h
     ∙ ap (λ (fs : List machine.Form). at fs e) (sym (forms-push new f)) ∙ ap (λ (x : List Form). at (forms x) e) (sym back-is)
 
 pub close-none : (l : ℕ) (old new : List Form) (e : ExprTree) → old ≡ new ++ [] → length new ≡ 0

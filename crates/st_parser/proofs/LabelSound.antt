@@ -1,5 +1,6 @@
 -- LabelSound: labels that are read are spelled.
-use Rattle.std.proofs.Common.{◌≡◌, ℕ, suc, ◌≤◌, Bool, true, false, cond, leb, List, [], ◌∷◌, ◌++◌, length, Some, None, Result, Ok, Err, sym, refl, ◌∙◌, subst, append_assoc, append-nil, leb-true}
+use Rattle.std.proofs.Common.{◌≡◌, ℕ, suc, ◌≤◌, Bool, true, false, cond, leb, List, [], ◌∷◌, ◌++◌, length, Some, None, Result, Ok, Err, sym, refl, ◌∙◌, subst}
+use Rattle.std.proofs.Common.{append_assoc, append-nil, leb-true}
 use Rattle.vcp_base.specs.declared.spot.Spot.{Spot}
 use Rattle.st_lexer.specs.declared.token.Sym.TheVariants as symbol
 use Rattle.st_lexer.specs.declared.token.Tok.{Tok}
@@ -19,7 +20,8 @@ use Rattle.st_parser.specs.declared.marks.Mark.{Mark}
 use Rattle.st_parser.specs.declared.marks.Mark.TheVariants as mark
 use Rattle.st_parser.specs.Marks.{begins_by, mark_of, is}
 use Rattle.st_parser.specs.ExprMachine.{Context, no_deeper}
-use Rattle.st_parser.specs.StmtMachine.{Selection, Body, of_branch, Level, LabelPhase, first_wanted, first_negated, first_read, last_wanted, last_negated, last_read, labelling, At, refused, to, opened, const_at, number_at, with_phase, label_ends, label_step}
+use Rattle.st_parser.specs.StmtMachine.{Selection, Body, of_branch, Level, LabelPhase, first_wanted, first_negated, first_read, last_wanted, last_negated}
+use Rattle.st_parser.specs.StmtMachine.{last_read, labelling, At, refused, to, opened, const_at, number_at, with_phase, label_ends, label_step}
 use Rattle.st_parser.proofs.ExprTables.{Began, begun}
 use Rattle.st_parser.proofs.MarkTable.{IsMark, mark_is}
 use Rattle.st_parser.proofs.SoFar.{Opens, Lists, Labels, Whole, Stands}
@@ -30,7 +32,8 @@ pub chosen : {A : Type 0} (P : A → Type 0) (b : Bool) (x y : A) → (b ≡ tru
 chosen P true x y f g = f refl
 chosen P false x y f g = g
 
-pub not_deeper : {A : Type 0} (P : Result A SyntaxFault → Type 0) (most depth : ℕ) (t : Token) (r : Result A SyntaxFault) → ((f : SyntaxFault) → P (Err f)) → (depth ≤ most → P r) → P (no_deeper most depth t r)
+pub not_deeper : {A : Type 0} (P : Result A SyntaxFault → Type 0) (most depth : ℕ) (t : Token) (r : Result A SyntaxFault) → ((f : SyntaxFault) → P (Err f))
+    → (depth ≤ most → P r) → P (no_deeper most depth t r)
 not_deeper P most depth t (Ok a) e f = chosen P (leb depth most) (Ok a) (Err (fault.Depth t.spot)) (λ le. f (leb-true depth most le)) (e (fault.Depth t.spot))
 not_deeper P most depth t (Err x) e f = e x
 
@@ -45,7 +48,8 @@ pub sound_err : (c : Context) (t : Token) (cs : List Placed) (f : SyntaxFault) �
 sound_err c t cs f = tt
 
 -- a body begins
-pub opened-sound : (c : Context) (t : Token) (k : ℕ) (cs hs : List Placed) (body : Body) (outer : List Level) (ss : StmtTrees) → k ≤ c.most → length outer ≤ c.most
+pub opened-sound : (c : Context) (t : Token) (k : ℕ) (cs hs : List Placed) (body : Body) (outer : List Level) (ss : StmtTrees) → k ≤ c.most
+    → length outer ≤ c.most
     → Opens c (length outer) (Whole c outer ss) body hs → cs ++ at k t ∷ [] ≡ hs → Sound c t cs (opened body outer ss)
 opened-sound c t k cs hs body outer ss kl le o e = (k, kl, (hs, [], le, o, spells_no_stmt, e ∙ sym (append-nil hs)))
 
@@ -74,7 +78,8 @@ last-sound c d (begins.Sign un.Neg) t e ts k le l = (
   (
     le,
     λ ty v u ku.
-        subst (λ (x : List Placed). SpellsLabel c.bytes d (record { first = e; last = Some (unary un.Neg (literal ty v u.spot) t.spot) }) x) (sym (append_assoc ts (at d t ∷ []) (at (suc d) u ∷ [])))
+        subst (λ (x : List Placed). SpellsLabel c.bytes d (record { first = e; last = Some (unary un.Neg (literal ty v u.spot) t.spot) }) x)
+        (sym (append_assoc ts (at d t ∷ []) (at (suc d) u ∷ [])))
         (l.1 (unary un.Neg (literal ty v u.spot) t.spot) (at d t ∷ at (suc d) u ∷ []) (spells_negative ty v t u k ku)),
   ),
 )
@@ -82,13 +87,15 @@ last-sound c d (begins.Sign un.Not) t e ts k le l = tt
 last-sound c d begins.Opens t e ts k le l = tt
 last-sound c d begins.Nothing t e ts k le l = tt
 
-first-number-sound : (c : Context) (d : ℕ) (s : Spot) (k : Tok) (t : Token) (ts : List Placed) → t.tok ≡ k → suc d ≤ c.most → Labels c d (first_negated s) ts → LabelSound c d t ts (number_at first_read s k t)
+first-number-sound : (c : Context) (d : ℕ) (s : Spot) (k : Tok) (t : Token) (ts : List Placed) → t.tok ≡ k → suc d ≤ c.most → Labels c d (first_negated s) ts
+    → LabelSound c d t ts (number_at first_read s k t)
 first-number-sound c d s (tok.Number ty v) t ts k le l = (suc d, le, (l.0, l.1 ty v t k))
 first-number-sound c d s tok.Name t ts k le l = tt
 first-number-sound c d s (tok.Key x) t ts k le l = tt
 first-number-sound c d s (tok.Sym x) t ts k le l = tt
 
-last-number-sound : (c : Context) (d : ℕ) (e : ExprTree) (s : Spot) (k : Tok) (t : Token) (ts : List Placed) → t.tok ≡ k → suc d ≤ c.most → Labels c d (last_negated e s) ts → LabelSound c d t ts (number_at (last_read e) s k t)
+last-number-sound : (c : Context) (d : ℕ) (e : ExprTree) (s : Spot) (k : Tok) (t : Token) (ts : List Placed) → t.tok ≡ k → suc d ≤ c.most
+    → Labels c d (last_negated e s) ts → LabelSound c d t ts (number_at (last_read e) s k t)
 last-number-sound c d e s (tok.Number ty v) t ts k le l = (suc d, le, (l.0, l.1 ty v t k))
 last-number-sound c d e s tok.Name t ts k le l = tt
 last-number-sound c d e s (tok.Key x) t ts k le l = tt
@@ -96,8 +103,10 @@ last-number-sound c d e s (tok.Sym x) t ts k le l = tt
 
 -- ---- a label
 
-phase-sound : (c : Context) (outer : List Level) (ss : StmtTrees) (k : Selection) (ls : List LabelTree) (t : Token) (hs ts : List Placed) (r : Result LabelPhase SyntaxFault)
-    → length outer ≤ c.most → Lists c (length outer) (Whole c outer ss) k ls hs → LabelSound c (suc (length outer)) t ts r → Sound c t (hs ++ ts) (with_phase outer ss k ls r)
+phase-sound : (c : Context) (outer : List Level) (ss : StmtTrees) (k : Selection) (ls : List LabelTree) (t : Token) (hs ts : List Placed)
+    (r : Result LabelPhase SyntaxFault)
+    → length outer ≤ c.most → Lists c (length outer) (Whole c outer ss) k ls hs → LabelSound c (suc (length outer)) t ts r
+    → Sound c t (hs ++ ts) (with_phase outer ss k ls r)
 phase-sound c outer ss k ls t hs ts (Ok p) le h l = (l.0, l.1, (hs, ts ++ at l.0 t ∷ [], le, h, l.2, append_assoc hs ts (at l.0 t ∷ [])))
 phase-sound c outer ss k ls t hs ts (Err f) le h l = tt
 
@@ -110,8 +119,10 @@ next-label c d P k ls l t hs ts h sp kt more us sps =
     (subst (λ (x : List LabelTree). Opens c d P (of_branch k x) (hs ++ (ts ++ at (suc d) t ∷ us))) (sym (append_assoc ls (l ∷ []) more))
     (h (l ∷ more) (ts ++ at (suc d) t ∷ us) (spells_next_label l more t ts us sp kt sps)))
 
-label_ends-sound : (c : Context) (outer : List Level) (ss : StmtTrees) (k : Selection) (ls : List LabelTree) (l : LabelTree) (m : Mark) (t : Token) (hs ts : List Placed)
-    → length outer ≤ c.most → suc (length outer) ≤ c.most → Lists c (length outer) (Whole c outer ss) k ls hs → SpellsLabel c.bytes (suc (length outer)) l ts → IsMark m t.tok
+label_ends-sound : (c : Context) (outer : List Level) (ss : StmtTrees) (k : Selection) (ls : List LabelTree) (l : LabelTree) (m : Mark) (t : Token)
+    (hs ts : List Placed)
+    → length outer ≤ c.most → suc (length outer) ≤ c.most → Lists c (length outer) (Whole c outer ss) k ls hs → SpellsLabel c.bytes (suc (length outer)) l ts
+    → IsMark m t.tok
     → Sound c t (hs ++ ts) (label_ends outer ss k (ls ++ l ∷ []) m t)
 label_ends-sound c outer ss k ls l m t hs ts le deep h sp mk =
     let d : ℕ = suc (length outer) in
@@ -120,7 +131,15 @@ label_ends-sound c outer ss k ls l m t hs ts le deep h sp mk =
     (λ e. (
       d,
       deep,
-      (behind, [], le, next-label c (length outer) (Whole c outer ss) k ls l t hs ts h sp (mk mark.Comma e), refl, append_assoc hs ts (at d t ∷ []) ∙ sym (append-nil behind)),
+      (
+        behind,
+        [],
+        le,
+        next-label c (length outer) (Whole c outer ss) k ls l t hs ts h sp (mk mark.Comma e),
+        refl,
+        append_assoc hs ts (at d t ∷ [])
+            ∙ sym (append-nil behind),
+      ),
     ))
     (chosen (Sound c t (hs ++ ts)) (is m mark.Colon) (opened (of_branch k (ls ++ l ∷ [])) outer ss) (refused t)
     (λ e. opened-sound c t d (hs ++ ts) behind (of_branch k (ls ++ l ∷ [])) outer ss deep le
@@ -130,12 +149,14 @@ label_ends-sound c outer ss k ls l m t hs ts le deep h sp mk =
 
 -- a token of a label
 pub label-sound : (c : Context) (outer : List Level) (ss : StmtTrees) (k : Selection) (ls : List LabelTree) (p : LabelPhase) (t : Token) (hs ts : List Placed)
-    → length outer ≤ c.most → Lists c (length outer) (Whole c outer ss) k ls hs → Labels c (suc (length outer)) p ts → Sound c t (hs ++ ts) (label_step c outer ss k ls p t)
+    → length outer ≤ c.most → Lists c (length outer) (Whole c outer ss) k ls hs → Labels c (suc (length outer)) p ts
+    → Sound c t (hs ++ ts) (label_step c outer ss k ls p t)
 label-sound c outer ss k ls first_wanted t hs ts le h l =
     let d : ℕ = suc (length outer) in
     phase-sound c outer ss k ls t hs ts (no_deeper c.most d t (const_at c first_read first_negated (begins_by t.tok) t)) le h
     (subst (λ (x : List Placed). LabelSound c d t x (no_deeper c.most d t (const_at c first_read first_negated (begins_by t.tok) t))) (sym l)
-    (not_deeper (LabelSound c d t []) c.most d t (const_at c first_read first_negated (begins_by t.tok) t) (λ f. tt) (first-sound c d (begins_by t.tok) t (begun t.tok))))
+    (not_deeper (LabelSound c d t []) c.most d t (const_at c first_read first_negated (begins_by t.tok) t) (λ f. tt)
+    (first-sound c d (begins_by t.tok) t (begun t.tok))))
 label-sound c outer ss k ls (first_negated s) t hs ts le h l =
     let d : ℕ = suc (length outer) in
     phase-sound c outer ss k ls t hs ts (no_deeper c.most (suc d) t (number_at first_read s t.tok t)) le h

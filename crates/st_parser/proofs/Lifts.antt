@@ -1,5 +1,6 @@
 -- Lifts: a token that is refused for its depth is taken where the limit is high enough.
-use Rattle.std.proofs.Common.{◌≡◌, ℕ, suc, ◌+◌, ◌≤◌, arith, Bool, true, false, cond, List, [], ◌∷◌, ◌++◌, length, Option, Some, None, Result, Ok, Err, refl, sym, ap, ◌∙◌, subst}
+use Rattle.std.proofs.Common.{◌≡◌, ℕ, suc, ◌+◌, ◌≤◌, arith, Bool, true, false, cond, List, [], ◌∷◌, ◌++◌, length, Option, Some, None, Result, Ok, Err, refl}
+use Rattle.std.proofs.Common.{sym, ap, ◌∙◌, subst}
 use Rattle.std.specs.Prelude.{nat_le}
 use Rattle.std.proofs.lemmas.Bool.{le-leb, leb-false}
 use Rattle.vcp_base.specs.declared.spot.Spot.{Spot}
@@ -22,9 +23,15 @@ use Rattle.st_parser.specs.declared.marks.Goes.TheVariants as goes
 use Rattle.st_parser.specs.declared.marks.Mark.{Mark}
 use Rattle.st_parser.specs.declared.marks.Mark.TheVariants as mark
 use Rattle.st_parser.specs.Marks.{begins_by, goes_by, mark_of, is}
-use Rattle.st_parser.specs.ExprMachine.{Context, depth_in, Form, sign_of, left_of, bracket, arguments, Mode, want, after_name, have, close, no_deeper, operand, close_at, part_at, go_on, go_on_name, step, ends_before}
-use Rattle.st_parser.specs.StmtMachine.{Level, Body, of_arm, of_if_else, of_branch, of_case_else, of_loop, Purpose, to_assign, to_test, to_select, to_begin, to_end, to_step, LabelPhase, first_wanted, first_negated, first_read, last_wanted, last_negated, last_read, Phase, start, named, reading, closed, loop_begun, loop_named, labelling, finished, At, Selection, refused, to, const_at, number_at, with_phase, label_ends, label_step, with_branch, next_label_in, next_label, elsif_at, else_at, end_if_at, end_case_at, end_for_at, body_ends, start_at, take as taken, read_on, read_at, stmt_step}
-use Rattle.st_parser.specs.ProgramMachine.{Front, Opening, State, at_program, at_name, at_block, at_var, at_decl, at_comma, at_next_name, at_type, at_init, in_init, in_body, body_step, decl_at, block_at, var_at, type_at, init_read_on, init_at, program_step, begun}
+use Rattle.st_parser.specs.ExprMachine.{Context, depth_in, Form, sign_of, left_of, bracket, arguments, Mode, want, after_name, have, close, no_deeper, operand}
+use Rattle.st_parser.specs.ExprMachine.{close_at, part_at, go_on, go_on_name, step, ends_before}
+use Rattle.st_parser.specs.StmtMachine.{Level, Body, of_arm, of_if_else, of_branch, of_case_else, of_loop, Purpose, to_assign, to_test, to_select, to_begin}
+use Rattle.st_parser.specs.StmtMachine.{to_end, to_step, LabelPhase, first_wanted, first_negated, first_read, last_wanted, last_negated, last_read, Phase}
+use Rattle.st_parser.specs.StmtMachine.{start, named, reading, closed, loop_begun, loop_named, labelling, finished, At, Selection, refused, to, const_at}
+use Rattle.st_parser.specs.StmtMachine.{number_at, with_phase, label_ends, label_step, with_branch, next_label_in, next_label, elsif_at, else_at, end_if_at}
+use Rattle.st_parser.specs.StmtMachine.{end_case_at, end_for_at, body_ends, start_at, take as taken, read_on, read_at, stmt_step}
+use Rattle.st_parser.specs.ProgramMachine.{Front, Opening, State, at_program, at_name, at_block, at_var, at_decl, at_comma, at_next_name, at_type, at_init}
+use Rattle.st_parser.specs.ProgramMachine.{in_init, in_body, body_step, decl_at, block_at, var_at, type_at, init_read_on, init_at, program_step, begun}
 
 -- a result that is no fault of depth
 abbrev Flat : {X : Type 0} → Result X SyntaxFault → Type 0
@@ -58,15 +65,18 @@ flat-cond true x y h k = h
 flat-cond false x y h k = k
 
 -- what hands results on as they are, but for what is taken
-lifts-by : {X Y : Type 0} (k : Result X SyntaxFault → Result Y SyntaxFault) (f : X → Y) → ((x : X) → k (Ok x) ≡ Ok (f x)) → ((e : SyntaxFault) → k (Err e) ≡ Err e) → (r : ℕ → Result X SyntaxFault) (m : ℕ) (x : Result X SyntaxFault)
+lifts-by : {X Y : Type 0} (k : Result X SyntaxFault → Result Y SyntaxFault) (f : X → Y) → ((x : X) → k (Ok x) ≡ Ok (f x))
+    → ((e : SyntaxFault) → k (Err e) ≡ Err e) → (r : ℕ → Result X SyntaxFault) (m : ℕ) (x : Result X SyntaxFault)
     → Raised r m x → Raised (λ n. k (r n)) m (k x)
 lifts-by {Y = Y} k f o e r m (Ok x) h = subst (λ (z : Result Y SyntaxFault). Raised (λ n. k (r n)) m z) (sym (o x)) tt
 lifts-by {Y = Y} k f o e r m (Err (fault.Syntax s)) h = subst (λ (z : Result Y SyntaxFault). Raised (λ n. k (r n)) m z) (sym (e (fault.Syntax s))) tt
-lifts-by {Y = Y} k f o e r m (Err (fault.Depth s)) h = subst (λ (z : Result Y SyntaxFault). Raised (λ n. k (r n)) m z) (sym (e (fault.Depth s))) (h.0, h.1, (f h.2.0, ap k h.2.1 ∙ o h.2.0))
+lifts-by {Y = Y} k f o e r m (Err (fault.Depth s)) h =
+    subst (λ (z : Result Y SyntaxFault). Raised (λ n. k (r n)) m z) (sym (e (fault.Depth s))) (h.0, h.1, (f h.2.0, ap k h.2.1 ∙ o h.2.0))
 lifts-by {Y = Y} k f o e r m (Err fault.Memory) h = subst (λ (z : Result Y SyntaxFault). Raised (λ n. k (r n)) m z) (sym (e fault.Memory)) tt
 
 -- a token that is not too deep where the limit is its depth
-lifts-ok : {X : Type 0} (d m : ℕ) (t : Token) (x : X) (b : Bool) → nat_le d m ≡ b → Raised (λ n. no_deeper n d t (Ok x)) m (cond b (Ok x) (Err (fault.Depth t.spot)))
+lifts-ok : {X : Type 0} (d m : ℕ) (t : Token) (x : X) (b : Bool) → nat_le d m ≡ b
+    → Raised (λ n. no_deeper n d t (Ok x)) m (cond b (Ok x) (Err (fault.Depth t.spot)))
 lifts-ok d m t x true e = tt
 lifts-ok {X = X} d m t x false e = (
   d,
@@ -174,12 +184,14 @@ module _ (bytes : Token → List ℕ) (m : ℕ) where
 
   lifts-step : (d : ℕ) (fs : List Form) (o : Mode) (t : Token) → Lifts (λ n. step (at_limit n) d fs o t) m
   lifts-step d fs want t = lifts-operand (d + depth_in fs) fs (begins_by t.tok) t
-  lifts-step d fs (after_name f s) t = lifts-flat (λ n. go_on_name (begins_by t.tok) fs f s t) m (go_on_name (begins_by t.tok) fs f s t) (flat-name (begins_by t.tok) fs f s t)
+  lifts-step d fs (after_name f s) t =
+      lifts-flat (λ n. go_on_name (begins_by t.tok) fs f s t) m (go_on_name (begins_by t.tok) fs f s t) (flat-name (begins_by t.tok) fs f s t)
   lifts-step d fs (have e) t = lifts-flat (λ n. go_on (goes_by t.tok) fs e t) m (go_on (goes_by t.tok) fs e t) (flat-go (goes_by t.tok) fs e t)
 
   -- ---- labels
 
-  lifts-const : (d : ℕ) (read : ExprTree → LabelPhase) (negated : Spot → LabelPhase) (b : Begins) (t : Token) → Lifts (λ n. no_deeper n d t (const_at (at_limit n) read negated b t)) m
+  lifts-const : (d : ℕ) (read : ExprTree → LabelPhase) (negated : Spot → LabelPhase) (b : Begins) (t : Token)
+      → Lifts (λ n. no_deeper n d t (const_at (at_limit n) read negated b t)) m
   lifts-const d read negated (begins.Literal ty v) t = lifts-depth d m t (const_at (at_limit m) read negated (begins.Literal ty v) t) tt
   lifts-const d read negated begins.Named t = lifts-depth d m t (const_at (at_limit m) read negated begins.Named t) tt
   lifts-const d read negated (begins.Sign un.Neg) t = lifts-depth d m t (const_at (at_limit m) read negated (begins.Sign un.Neg) t) tt
@@ -187,22 +199,34 @@ module _ (bytes : Token → List ℕ) (m : ℕ) where
   lifts-const d read negated begins.Opens t = tt
   lifts-const d read negated begins.Nothing t = tt
 
-  lifts-phase : (outer : List Level) (ss : StmtTrees) (k : Selection) (ls : List LabelTree) (r : ℕ → Result LabelPhase SyntaxFault) → Lifts r m → Lifts (λ n. with_phase outer ss k ls (r n)) m
-  lifts-phase outer ss k ls r h = lifts-by (with_phase outer ss k ls) (λ p. record { outer = outer; stmts = ss; phase = labelling k ls p }) (λ p. refl) (λ e. refl) r m (r m) h
+  lifts-phase : (outer : List Level) (ss : StmtTrees) (k : Selection) (ls : List LabelTree) (r : ℕ → Result LabelPhase SyntaxFault) → Lifts r m
+      → Lifts (λ n. with_phase outer ss k ls (r n)) m
+  lifts-phase outer ss k ls r h =
+      lifts-by (with_phase outer ss k ls) (λ p. record { outer = outer; stmts = ss; phase = labelling k ls p }) (λ p. refl) (λ e. refl) r m (r m) h
 
-  lifts-label : (outer : List Level) (ss : StmtTrees) (k : Selection) (ls : List LabelTree) (p : LabelPhase) (t : Token) → Lifts (λ n. label_step (at_limit n) outer ss k ls p t) m
-  lifts-label outer ss k ls first_wanted t = lifts-phase outer ss k ls (λ n. no_deeper n (suc (length outer)) t (const_at (at_limit n) first_read first_negated (begins_by t.tok) t)) (lifts-const _ first_read first_negated (begins_by t.tok) t)
-  lifts-label outer ss k ls (first_negated s) t = lifts-phase outer ss k ls (λ n. no_deeper n (suc (suc (length outer))) t (number_at first_read s t.tok t)) (lifts-depth _ m t (number_at first_read s t.tok t) (flat-number first_read s t.tok t))
+  lifts-label : (outer : List Level) (ss : StmtTrees) (k : Selection) (ls : List LabelTree) (p : LabelPhase) (t : Token)
+      → Lifts (λ n. label_step (at_limit n) outer ss k ls p t) m
+  lifts-label outer ss k ls first_wanted t =
+      lifts-phase outer ss k ls (λ n. no_deeper n (suc (length outer)) t (const_at (at_limit n) first_read first_negated (begins_by t.tok) t))
+      (lifts-const _ first_read first_negated (begins_by t.tok) t)
+  lifts-label outer ss k ls (first_negated s) t =
+      lifts-phase outer ss k ls (λ n. no_deeper n (suc (suc (length outer))) t (number_at first_read s t.tok t))
+      (lifts-depth _ m t (number_at first_read s t.tok t) (flat-number first_read s t.tok t))
   lifts-label outer ss k ls (first_read e) t =
       lifts-flat (λ n. label_step (at_limit n) outer ss k ls (first_read e) t) m (label_step (at_limit m) outer ss k ls (first_read e) t)
       (flat-cond (is (mark_of t.tok) mark.DotDot) _ _ tt (flat-ends outer ss k (ls ++ record { first = e; last = None } ∷ []) (mark_of t.tok) t))
-  lifts-label outer ss k ls (last_wanted e) t = lifts-phase outer ss k ls (λ n. no_deeper n (suc (length outer)) t (const_at (at_limit n) (last_read e) (last_negated e) (begins_by t.tok) t)) (lifts-const _ (last_read e) (last_negated e) (begins_by t.tok) t)
-  lifts-label outer ss k ls (last_negated e s) t = lifts-phase outer ss k ls (λ n. no_deeper n (suc (suc (length outer))) t (number_at (last_read e) s t.tok t)) (lifts-depth _ m t (number_at (last_read e) s t.tok t) (flat-number (last_read e) s t.tok t))
+  lifts-label outer ss k ls (last_wanted e) t =
+      lifts-phase outer ss k ls (λ n. no_deeper n (suc (length outer)) t (const_at (at_limit n) (last_read e) (last_negated e) (begins_by t.tok) t))
+      (lifts-const _ (last_read e) (last_negated e) (begins_by t.tok) t)
+  lifts-label outer ss k ls (last_negated e s) t =
+      lifts-phase outer ss k ls (λ n. no_deeper n (suc (suc (length outer))) t (number_at (last_read e) s t.tok t))
+      (lifts-depth _ m t (number_at (last_read e) s t.tok t) (flat-number (last_read e) s t.tok t))
   lifts-label outer ss k ls (last_read e f) t =
       lifts-flat (λ n. label_step (at_limit n) outer ss k ls (last_read e f) t) m (label_step (at_limit m) outer ss k ls (last_read e f) t)
       (flat-ends outer ss k (ls ++ record { first = e; last = Some f } ∷ []) (mark_of t.tok) t)
 
-  lifts-next-in : (b : Body) (outer : List Level) (before ss : StmtTrees) (p : LabelPhase) (t : Token) → Lifts (λ n. next_label_in (at_limit n) b outer before ss p t) m
+  lifts-next-in : (b : Body) (outer : List Level) (before ss : StmtTrees) (p : LabelPhase) (t : Token)
+      → Lifts (λ n. next_label_in (at_limit n) b outer before ss p t) m
   lifts-next-in (of_arm arms e s) outer before ss p t = tt
   lifts-next-in (of_if_else arms) outer before ss p t = tt
   lifts-next-in (of_branch k ls) outer before ss p t = lifts-label outer before (with_branch k ls ss) [] p t
@@ -220,7 +244,8 @@ module _ (bytes : Token → List ℕ) (m : ℕ) where
 
   -- what a token comes to that is none of those which end a body, by the words before
   abbrev unless_end_for : Level → List Level → StmtTrees → Mark → Token → ℕ → Result At SyntaxFault
-  unless_end_for level outer ss k t n = cond (is k mark.EndFor) (end_for_at level.body outer level.before ss t) (next_label_in (at_limit n) level.body outer level.before ss first_wanted t)
+  unless_end_for level outer ss k t n =
+      cond (is k mark.EndFor) (end_for_at level.body outer level.before ss t) (next_label_in (at_limit n) level.body outer level.before ss first_wanted t)
 
   abbrev unless_end_case : Level → List Level → StmtTrees → Mark → Token → ℕ → Result At SyntaxFault
   unless_end_case level outer ss k t n = cond (is k mark.EndCase) (end_case_at level.body outer level.before ss t) (unless_end_for level outer ss k t n)
@@ -233,8 +258,10 @@ module _ (bytes : Token → List ℕ) (m : ℕ) where
 
   lifts-end-for : (level : Level) (outer : List Level) (ss : StmtTrees) (k : Mark) (t : Token) → Lifts (unless_end_for level outer ss k t) m
   lifts-end-for level outer ss k t =
-      lifts-cond (is k mark.EndFor) (λ n. end_for_at level.body outer level.before ss t) (λ n. next_label_in (at_limit n) level.body outer level.before ss first_wanted t) m
-      (lifts-once (end_for_at level.body outer level.before ss t) (flat-end-for level.body outer level.before ss t)) (lifts-next-in level.body outer level.before ss first_wanted t)
+      lifts-cond (is k mark.EndFor) (λ n. end_for_at level.body outer level.before ss t)
+      (λ n. next_label_in (at_limit n) level.body outer level.before ss first_wanted t) m
+      (lifts-once (end_for_at level.body outer level.before ss t) (flat-end-for level.body outer level.before ss t))
+      (lifts-next-in level.body outer level.before ss first_wanted t)
 
   lifts-end-case : (level : Level) (outer : List Level) (ss : StmtTrees) (k : Mark) (t : Token) → Lifts (unless_end_case level outer ss k t) m
   lifts-end-case level outer ss k t =
@@ -264,10 +291,12 @@ module _ (bytes : Token → List ℕ) (m : ℕ) where
   unless_for outer ss k t n = cond (is k mark.For) (no_deeper n (length outer) t (to outer ss (loop_begun t.spot))) (body_ends (at_limit n) outer ss k t)
 
   abbrev unless_case : List Level → StmtTrees → Mark → Token → ℕ → Result At SyntaxFault
-  unless_case outer ss k t n = cond (is k mark.Case) (no_deeper n (length outer) t (to outer ss (reading (to_select t.spot) [] want))) (unless_for outer ss k t n)
+  unless_case outer ss k t n =
+      cond (is k mark.Case) (no_deeper n (length outer) t (to outer ss (reading (to_select t.spot) [] want))) (unless_for outer ss k t n)
 
   abbrev unless_if : List Level → StmtTrees → Mark → Token → ℕ → Result At SyntaxFault
-  unless_if outer ss k t n = cond (is k mark.If) (no_deeper n (length outer) t (to outer ss (reading (to_test no_arms t.spot) [] want))) (unless_case outer ss k t n)
+  unless_if outer ss k t n =
+      cond (is k mark.If) (no_deeper n (length outer) t (to outer ss (reading (to_test no_arms t.spot) [] want))) (unless_case outer ss k t n)
 
   abbrev unless_name : List Level → StmtTrees → Mark → Token → ℕ → Result At SyntaxFault
   unless_name outer ss k t n = cond (is k mark.Name) (no_deeper n (length outer) t (to outer ss (named (bytes t) t.spot))) (unless_if outer ss k t n)
@@ -294,9 +323,11 @@ module _ (bytes : Token → List ℕ) (m : ℕ) where
 
   lifts-start : (outer : List Level) (ss : StmtTrees) (k : Mark) (t : Token) → Lifts (λ n. start_at (at_limit n) outer ss k t) m
   lifts-start outer ss k t =
-      lifts-cond (is k mark.Semi) (λ n. no_deeper n (length outer) t (to outer ss start)) (unless_name outer ss k t) m (lifts-to outer ss start t) (lifts-named outer ss k t)
+      lifts-cond (is k mark.Semi) (λ n. no_deeper n (length outer) t (to outer ss start)) (unless_name outer ss k t) m (lifts-to outer ss start t)
+      (lifts-named outer ss k t)
 
-  lifts-read : (outer : List Level) (ss : StmtTrees) (p : Purpose) (fs : List Form) (o : Mode) (t : Token) (e : Option ExprTree) → Lifts (λ n. read_at (at_limit n) outer ss p fs o t e) m
+  lifts-read : (outer : List Level) (ss : StmtTrees) (p : Purpose) (fs : List Form) (o : Mode) (t : Token) (e : Option ExprTree)
+      → Lifts (λ n. read_at (at_limit n) outer ss p fs o t e) m
   lifts-read outer ss p fs o t (Some e) = lifts-once (taken outer ss p e (mark_of t.tok) t) (flat-take outer ss p e (mark_of t.tok) t)
   lifts-read outer ss p fs o t None =
       lifts-by (read_on outer ss p) (λ r. record { outer = outer; stmts = ss; phase = reading p r.forms r.mode }) (λ r. refl) (λ e. refl)
@@ -305,10 +336,13 @@ module _ (bytes : Token → List ℕ) (m : ℕ) where
   lifts-stmt : (outer : List Level) (ss : StmtTrees) (p : Phase) (t : Token) → Lifts (λ n. stmt_step (at_limit n) outer ss p t) m
   lifts-stmt outer ss start t = lifts-start outer ss (mark_of t.tok) t
   lifts-stmt outer ss (named f s) t =
-      lifts-cond (is (mark_of t.tok) mark.Assign) (λ n. to outer ss (reading (to_assign f s) [] want)) (λ n. next_label (at_limit n) outer ss (first_read (name f s)) t) m tt (lifts-next outer ss (first_read (name f s)) t)
+      lifts-cond (is (mark_of t.tok) mark.Assign) (λ n. to outer ss (reading (to_assign f s) [] want))
+      (λ n. next_label (at_limit n) outer ss (first_read (name f s)) t) m tt (lifts-next outer ss (first_read (name f s)) t)
   lifts-stmt outer ss (reading p fs o) t = lifts-read outer ss p fs o t (ends_before fs o t)
   lifts-stmt outer ss closed t = lifts-once (stmt_step (at_limit m) outer ss closed t) (flat-cond (is (mark_of t.tok) mark.Semi) _ _ tt tt)
-  lifts-stmt outer ss (loop_begun s) t = lifts-flat (λ n. stmt_step (at_limit n) outer ss (loop_begun s) t) m (stmt_step (at_limit m) outer ss (loop_begun s) t) (flat-cond (is (mark_of t.tok) mark.Name) _ _ tt tt)
+  lifts-stmt outer ss (loop_begun s) t =
+      lifts-flat (λ n. stmt_step (at_limit n) outer ss (loop_begun s) t) m (stmt_step (at_limit m) outer ss (loop_begun s) t)
+      (flat-cond (is (mark_of t.tok) mark.Name) _ _ tt tt)
   lifts-stmt outer ss (loop_named l) t = lifts-once (stmt_step (at_limit m) outer ss (loop_named l) t) (flat-cond (is (mark_of t.tok) mark.Assign) _ _ tt tt)
   lifts-stmt outer ss (labelling k ls p) t = lifts-label outer ss k ls p t
   lifts-stmt outer ss finished t = tt
@@ -345,7 +379,9 @@ module _ (bytes : Token → List ℕ) (m : ℕ) where
   unless_retain f k t n = cond (is k mark.Retain) (Ok (at_decl (begun f class.Retain))) (decl_at (at_limit n) (begun f class.Local) k t)
 
   lifts-retain : (f : Front) (k : Mark) (t : Token) → Lifts (unless_retain f k t) m
-  lifts-retain f k t = lifts-cond (is k mark.Retain) (λ n. Ok (at_decl (begun f class.Retain))) (λ n. decl_at (at_limit n) (begun f class.Local) k t) m tt (lifts-decl (begun f class.Local) k t)
+  lifts-retain f k t =
+      lifts-cond (is k mark.Retain) (λ n. Ok (at_decl (begun f class.Retain))) (λ n. decl_at (at_limit n) (begun f class.Local) k t) m tt
+      (lifts-decl (begun f class.Local) k t)
 
   lifts-var : (f : Front) (k : Mark) (t : Token) → Lifts (λ n. var_at (at_limit n) f k t) m
   lifts-var f k t = lifts-cond (is k mark.Constant) (λ n. Ok (at_decl (begun f class.Constant))) (unless_retain f k t) m tt (lifts-retain f k t)
@@ -357,22 +393,30 @@ module _ (bytes : Token → List ℕ) (m : ℕ) where
       (flat-cond (is k (mark.Type ty.Dint)) (Ok (at_init o ds ty.Dint)) _ tt
       (flat-cond (is k (mark.Type ty.Lint)) (Ok (at_init o ds ty.Lint)) (refused t) tt tt)))
 
-  lifts-init : (o : Opening) (ds : List DeclaredTree) (ty : Ty) (fs : List Form) (md : Mode) (t : Token) (e : Option ExprTree) → Lifts (λ n. init_at (at_limit n) o ds ty fs md t e) m
-  lifts-init o ds ty fs md t (Some e) = lifts-flat (λ n. init_at (at_limit n) o ds ty fs md t (Some e)) m (init_at (at_limit m) o ds ty fs md t (Some e)) (flat-cond (is (mark_of t.tok) mark.Semi) _ _ tt tt)
+  lifts-init : (o : Opening) (ds : List DeclaredTree) (ty : Ty) (fs : List Form) (md : Mode) (t : Token) (e : Option ExprTree)
+      → Lifts (λ n. init_at (at_limit n) o ds ty fs md t e) m
+  lifts-init o ds ty fs md t (Some e) =
+      lifts-flat (λ n. init_at (at_limit n) o ds ty fs md t (Some e)) m (init_at (at_limit m) o ds ty fs md t (Some e))
+      (flat-cond (is (mark_of t.tok) mark.Semi) _ _ tt tt)
   lifts-init o ds ty fs md t None =
       lifts-by (init_read_on o ds ty) (λ r. in_init o ds ty r.forms r.mode) (λ r. refl) (λ e. refl)
       (λ n. step (at_limit n) 0 fs md t) m (step (at_limit m) 0 fs md t) (lifts-step 0 fs md t)
 
   pub lifts-program : (s : State) (t : Token) → Lifts (λ n. program_step (at_limit n) s t) m
-  lifts-program at_program t = lifts-flat (λ n. program_step (at_limit n) at_program t) m (program_step (at_limit m) at_program t) (flat-cond (is (mark_of t.tok) mark.Program) _ _ tt tt)
-  lifts-program at_name t = lifts-flat (λ n. program_step (at_limit n) at_name t) m (program_step (at_limit m) at_name t) (flat-cond (is (mark_of t.tok) mark.Name) _ _ tt tt)
+  lifts-program at_program t =
+      lifts-flat (λ n. program_step (at_limit n) at_program t) m (program_step (at_limit m) at_program t)
+      (flat-cond (is (mark_of t.tok) mark.Program) _ _ tt tt)
+  lifts-program at_name t =
+      lifts-flat (λ n. program_step (at_limit n) at_name t) m (program_step (at_limit m) at_name t) (flat-cond (is (mark_of t.tok) mark.Name) _ _ tt tt)
   lifts-program (at_block f) t = lifts-block f (mark_of t.tok) t
   lifts-program (at_var f) t = lifts-var f (mark_of t.tok) t
   lifts-program (at_decl o) t = lifts-decl o (mark_of t.tok) t
   lifts-program (at_comma o ds) t =
       lifts-flat (λ n. program_step (at_limit n) (at_comma o ds) t) m (program_step (at_limit m) (at_comma o ds) t)
       (flat-cond (is (mark_of t.tok) mark.Comma) _ _ tt (flat-cond (is (mark_of t.tok) mark.Colon) _ _ tt tt))
-  lifts-program (at_next_name o ds) t = lifts-flat (λ n. program_step (at_limit n) (at_next_name o ds) t) m (program_step (at_limit m) (at_next_name o ds) t) (flat-cond (is (mark_of t.tok) mark.Name) _ _ tt tt)
+  lifts-program (at_next_name o ds) t =
+      lifts-flat (λ n. program_step (at_limit n) (at_next_name o ds) t) m (program_step (at_limit m) (at_next_name o ds) t)
+      (flat-cond (is (mark_of t.tok) mark.Name) _ _ tt tt)
   lifts-program (at_type o ds) t = lifts-flat (λ n. type_at o ds (mark_of t.tok) t) m (type_at o ds (mark_of t.tok) t) (flat-type o ds (mark_of t.tok) t)
   lifts-program (at_init o ds ty) t =
       lifts-flat (λ n. program_step (at_limit n) (at_init o ds ty) t) m (program_step (at_limit m) (at_init o ds ty) t)

@@ -70,7 +70,8 @@ deep-none : (ts : List Token) (x : Spot) → FirstTooDeep ts x → NoneTooDeep t
 deep-none ts x f none = none f.0 f.2 f.1 f.3 f.5
 
 module _ (front : (ts us : List Token) → Begins (ts ++ us) → Begins ts) where
-  two-syntax : (text : List ℕ) (ts : List Token) (end x y : Spot) → FirstWrong ts x ⊎ EndsEarly text ts end x → FirstWrong ts y ⊎ EndsEarly text ts end y → x ≡ y
+  two-syntax : (text : List ℕ) (ts : List Token) (end x y : Spot) → FirstWrong ts x ⊎ EndsEarly text ts end x → FirstWrong ts y ⊎ EndsEarly text ts end y
+      → x ≡ y
   two-syntax text ts end x y (inl f) (inl g) = two-wrong front ts x y f g
   two-syntax text ts end x y (inl f) (inr g) = absurd (wrong-begins front ts x f g.1)
   two-syntax text ts end x y (inr f) (inl g) = absurd (wrong-begins front ts y g f.1)
@@ -80,7 +81,8 @@ module _ (front : (ts us : List Token) → Begins (ts ++ us) → Begins ts) wher
   deep-syntax text ts end x y f (inl g) = deep-wrong front ts x y f g
   deep-syntax text ts end x y f (inr g) = deep-none ts x f g.3
 
-  pub one-fault : (text : List ℕ) (ts : List Token) (end : Spot) (f g : SyntaxFault) → Refuses text ts end f → Refuses text ts end g → f ≢ fault.Memory → g ≢ fault.Memory → f ≡ g
+  pub one-fault : (text : List ℕ) (ts : List Token) (end : Spot) (f g : SyntaxFault) → Refuses text ts end f → Refuses text ts end g → f ≢ fault.Memory
+      → g ≢ fault.Memory → f ≡ g
   one-fault text ts end (fault.Syntax x) (fault.Syntax y) f g m n = ap (λ (s : Spot). fault.Syntax s) (two-syntax text ts end x y f g)
   one-fault text ts end (fault.Syntax x) (fault.Depth y) f g m n = absurd (deep-syntax text ts end y x g f)
   one-fault text ts end (fault.Depth x) (fault.Syntax y) f g m n = absurd (deep-syntax text ts end x y f g)
@@ -94,13 +96,15 @@ module _ (front : (ts us : List Token) → Begins (ts ++ us) → Begins ts) wher
     syntax-spelled text ts end x p s (inl f) = wrong-begins front ts x f (begins p text ts s)
     syntax-spelled text ts end x p s (inr f) = f.2 p s
 
-    pub no-fault : (text : List ℕ) (ts : List Token) (end : Spot) (p : ProgramTree) (f : SyntaxFault) → Spells p text ts → NoneTooDeep ts → Refuses text ts end f → f ≡ fault.Memory
+    pub no-fault : (text : List ℕ) (ts : List Token) (end : Spot) (p : ProgramTree) (f : SyntaxFault) → Spells p text ts → NoneTooDeep ts
+        → Refuses text ts end f → f ≡ fault.Memory
     no-fault text ts end p (fault.Syntax x) s none f = absurd (syntax-spelled text ts end x p s f)
     no-fault text ts end p (fault.Depth x) s none f = absurd (deep-none ts x f none)
     no-fault text ts end p fault.Memory s none f = refl
 
 module _ (renamed : (b c : Token → List ℕ) (p : ProgramTree) (ps : List Placed) → SpellsProgram b p ps → (q : ProgramTree) × SpellsProgram c q ps) where
-  deep-in : (text : List ℕ) (ts : List Token) (p : ProgramTree) (ps us : List Placed) (x : Placed) → SpellsProgram (bytes_in text) p ps → tokens_of ps ≡ ts → First most_depth ps us x → NoneTooDeep ts → ⊥
+  deep-in : (text : List ℕ) (ts : List Token) (p : ProgramTree) (ps us : List Placed) (x : Placed) → SpellsProgram (bytes_in text) p ps → tokens_of ps ≡ ts
+      → First most_depth ps us x → NoneTooDeep ts → ⊥
   deep-in text ts p ps us x sp is first none =
       let f = first-is most_depth ps us x first in
       let r = renamed (bytes_in text) left_aside p ps sp in

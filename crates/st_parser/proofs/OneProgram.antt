@@ -23,14 +23,16 @@ within-some [] = (0, tt)
 within-some (p ∷ ps) = let r = within-some ps in (p.depth + r.0, (omega arith, within-higher r.0 (p.depth + r.0) ps (omega arith) r.1))
 
 -- with a limit that is high enough, a program that is spelled is read
-spelled-high : (bytes : Token → List ℕ) (most : ℕ) (end : Spot) (p : ProgramTree) (ps : List Placed) → SpellsProgram bytes p ps → (limit : ℕ) × (most ≤ limit) × (read_program (record { bytes = bytes; most = limit }) end (tokens_of ps) ≡ Ok p)
+spelled-high : (bytes : Token → List ℕ) (most : ℕ) (end : Spot) (p : ProgramTree) (ps : List Placed) → SpellsProgram bytes p ps
+    → (limit : ℕ) × (most ≤ limit) × (read_program (record { bytes = bytes; most = limit }) end (tokens_of ps) ≡ Ok p)
 spelled-high bytes most end p ps sp =
     let r = within-some ps in
     (most + r.0, omega arith, complete (record { bytes = bytes; most = most + r.0 }) end p ps sp (within-higher r.0 (most + r.0) ps (omega arith) r.1))
 
 -- ---- one program at most
 
-pub only-one : (bytes : Token → List ℕ) (p q : ProgramTree) (ps qs : List Placed) → SpellsProgram bytes p ps → SpellsProgram bytes q qs → tokens_of ps ≡ tokens_of qs → p ≡ q
+pub only-one : (bytes : Token → List ℕ) (p q : ProgramTree) (ps qs : List Placed) → SpellsProgram bytes p ps → SpellsProgram bytes q qs
+    → tokens_of ps ≡ tokens_of qs → p ≡ q
 only-one bytes p q ps qs sp sq same =
     let r = within-some ps in
     let s = within-some qs in
@@ -44,10 +46,13 @@ only-one bytes p q ps qs sp sq same =
 -- ---- a fault of syntax
 
 -- what is spelled at any depth is not refused for its syntax
-pub no-syntax : (bytes : Token → List ℕ) (most : ℕ) (end : Spot) (p : ProgramTree) (ps : List Placed) (s : Spot) → SpellsProgram bytes p ps → read_program (record { bytes = bytes; most = most }) end (tokens_of ps) ≡ Err (fault.Syntax s) → ⊥
+pub no-syntax : (bytes : Token → List ℕ) (most : ℕ) (end : Spot) (p : ProgramTree) (ps : List Placed) (s : Spot) → SpellsProgram bytes p ps
+    → read_program (record { bytes = bytes; most = most }) end (tokens_of ps) ≡ Err (fault.Syntax s) → ⊥
 no-syntax bytes most end p ps s sp h =
     let r = spelled-high bytes most end p ps sp in
-    let a : Agrees (read_program (record { bytes = bytes; most = most }) end (tokens_of ps)) (read_program (record { bytes = bytes; most = r.0 }) end (tokens_of ps)) = run-agrees bytes most r.0 r.1 end (tokens_of ps) at_program in
-    let b : read_program (record { bytes = bytes; most = r.0 }) end (tokens_of ps) ≡ Err (fault.Syntax s) = subst (λ (x : Result ProgramTree SyntaxFault). Agrees x (read_program (record { bytes = bytes; most = r.0 }) end (tokens_of ps))) h a in
+    let a : Agrees (read_program (record { bytes = bytes; most = most }) end (tokens_of ps))
+    (read_program (record { bytes = bytes; most = r.0 }) end (tokens_of ps)) = run-agrees bytes most r.0 r.1 end (tokens_of ps) at_program in
+    let b : read_program (record { bytes = bytes; most = r.0 }) end (tokens_of ps) ≡ Err (fault.Syntax s) =
+    subst (λ (x : Result ProgramTree SyntaxFault). Agrees x (read_program (record { bytes = bytes; most = r.0 }) end (tokens_of ps))) h a in
     let both : Ok p ≡ Err (fault.Syntax s) = sym r.2 ∙ b in
     absurd cc

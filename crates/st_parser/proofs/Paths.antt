@@ -48,13 +48,15 @@ finish-outcome c end s (Err (fault.Depth x)) e = absurd (no-depth s e)
     no-depth _ e = absurd cc
 finish-outcome c end s (Err fault.Memory) e = tt
 
-later : (c : Context) (t : Token) (ts : List Token) (s next : State) (x : Result ProgramTree SyntaxFault) → program_step c s t ≡ Ok next → Outcome c ts next x → Outcome c (t ∷ ts) s x
+later : (c : Context) (t : Token) (ts : List Token) (s next : State) (x : Result ProgramTree SyntaxFault) → program_step c s t ≡ Ok next → Outcome c ts next x
+    → Outcome c (t ∷ ts) s x
 later c t ts s next (Ok p) e h = tt
 later c t ts s next (Err (fault.Syntax x)) e h = tt
 later c t ts s next (Err (fault.Depth x)) e h = (t ∷ h.0, h.1, h.2, h.3, ap (λ (us : List Token). t ∷ us) h.4, (next, e, h.5), h.6)
 later c t ts s next (Err fault.Memory) e h = tt
 
-outcome-by : (c : Context) (end : Spot) (t : Token) (ts : List Token) (s : State) (r : Result State SyntaxFault) → ((next : State) → Outcome c ts next (run c end ts next)) → program_step c s t ≡ r → Outcome c (t ∷ ts) s (onward r (run c end ts))
+outcome-by : (c : Context) (end : Spot) (t : Token) (ts : List Token) (s : State) (r : Result State SyntaxFault)
+    → ((next : State) → Outcome c ts next (run c end ts next)) → program_step c s t ≡ r → Outcome c (t ∷ ts) s (onward r (run c end ts))
 outcome-by c end t ts s (Ok next) rest e = later c t ts s next (run c end ts next) e (rest next)
 outcome-by c end t ts s (Err (fault.Syntax x)) rest e = tt
 outcome-by c end t ts s (Err (fault.Depth x)) rest e = ([], t, ts, s, refl, refl, e)
@@ -86,7 +88,8 @@ kept c t cs s next h e = let r = subst (Kept c t cs) e (step-kept c t s cs h) in
 pushed : (cs : List Placed) (k : ℕ) (t : Token) (ts : List Token) → tokens_of (cs ++ at k t ∷ []) ++ ts ≡ tokens_of cs ++ t ∷ ts
 pushed cs k t ts = ap (λ (x : List Token). x ++ ts) (map_push (λ (p : Placed). p.token) cs (at k t)) ∙ append_assoc (tokens_of cs) (t ∷ []) ts
 
-path-holds : (c : Context) (s r : State) (us : List Token) (cs : List Placed) → Holds c s cs → Path c s us r → (ds : List Placed) × Holds c r ds × (tokens_of ds ≡ tokens_of cs ++ us)
+path-holds : (c : Context) (s r : State) (us : List Token) (cs : List Placed) → Holds c s cs → Path c s us r
+    → (ds : List Placed) × Holds c r ds × (tokens_of ds ≡ tokens_of cs ++ us)
 path-holds c s r [] cs h p = (cs, subst (λ x. Holds c x cs) p h, sym (append-nil (tokens_of cs)))
 path-holds c s r (u ∷ us) cs h p =
     let k = kept c u cs s p.0 h p.1 in
@@ -117,9 +120,11 @@ pub record DeepAt (bytes : Token → List ℕ) (m : ℕ) (end : Spot) (ts : List
   pub goes_on : BeginsProgram (record { bytes = bytes; most = limit }) (before ++ token ∷ [])
   pub whatever : (more : List Token) → read_program (record { bytes = bytes; most = m }) end (before ++ token ∷ more) ≡ Err (fault.Depth x)
   pub state : State
-  pub reach : (more : List Token) → run (record { bytes = bytes; most = m }) end (before ++ more) at_program ≡ run (record { bytes = bytes; most = m }) end more state
+  pub reach : (more : List Token)
+      → run (record { bytes = bytes; most = m }) end (before ++ more) at_program ≡ run (record { bytes = bytes; most = m }) end more state
 
-pub deep-at : (bytes : Token → List ℕ) (m : ℕ) (end : Spot) (ts : List Token) (x : Spot) → read_program (record { bytes = bytes; most = m }) end ts ≡ Err (fault.Depth x) → DeepAt bytes m end ts x
+pub deep-at : (bytes : Token → List ℕ) (m : ℕ) (end : Spot) (ts : List Token) (x : Spot)
+    → read_program (record { bytes = bytes; most = m }) end ts ≡ Err (fault.Depth x) → DeepAt bytes m end ts x
 deep-at bytes m end ts x e =
     let c : Context = record { bytes = bytes; most = m } in
     let h = subst (Outcome c ts at_program) e (outcome c end ts at_program) in
@@ -134,7 +139,8 @@ deep-at bytes m end ts x e =
       limit = raised.0;
       goes_on =
           path-begins (record { bytes = bytes; most = raised.0 }) raised.2.0 (h.0 ++ h.1 ∷ [])
-          (path-push (record { bytes = bytes; most = raised.0 }) at_program h.3 raised.2.0 h.0 h.1 (path-higher bytes m raised.0 raised.1 at_program h.3 h.0 h.5) raised.2.1);
+          (path-push (record { bytes = bytes; most = raised.0 }) at_program h.3 raised.2.0 h.0 h.1
+          (path-higher bytes m raised.0 raised.1 at_program h.3 h.0 h.5) raised.2.1);
       whatever = λ more. path-run c end at_program h.3 h.0 (h.1 ∷ more) h.5 ∙ ap (λ (r : Result State SyntaxFault). onward r (run c end more)) h.6;
       state = h.3;
       reach = λ more. path-run c end at_program h.3 h.0 more h.5;

@@ -19,8 +19,11 @@ use Rattle.st_spelling.specs.Labels.{SpellsLabel, SpellsLabels, spells_value, sp
 use Rattle.st_spelling.specs.Statements.{SpellsStmts, spells_no_stmt, spells_no_step, spells_end_if, spells_end_case, spells_branch}
 use Rattle.st_spelling.specs.Programs.{spells_last_name, spells_no_init, spells_end_var, spells_local, SpellsProgram}
 use Rattle.st_parser.specs.ExprMachine.{Context}
-use Rattle.st_parser.specs.StmtMachine.{Selection, Loop, Body, of_arm, of_if_else, of_branch, of_case_else, of_loop, Level, Purpose, to_assign, to_test, to_select, to_begin, to_end, to_step, LabelPhase, first_wanted, first_negated, first_read, last_wanted, last_negated, last_read, Phase, start, named, reading, closed, loop_begun, loop_named, labelling, finished}
-use Rattle.st_parser.specs.ProgramMachine.{Front, Opening, State, at_program, at_name, at_block, at_var, at_decl, at_comma, at_next_name, at_type, at_init, in_init, in_body, with_decl, begun}
+use Rattle.st_parser.specs.StmtMachine.{Selection, Loop, Body, of_arm, of_if_else, of_branch, of_case_else, of_loop, Level, Purpose, to_assign, to_test}
+use Rattle.st_parser.specs.StmtMachine.{to_select, to_begin, to_end, to_step, LabelPhase, first_wanted, first_negated, first_read, last_wanted, last_negated}
+use Rattle.st_parser.specs.StmtMachine.{last_read, Phase, start, named, reading, closed, loop_begun, loop_named, labelling, finished}
+use Rattle.st_parser.specs.ProgramMachine.{Front, Opening, State, at_program, at_name, at_block, at_var, at_decl, at_comma, at_next_name, at_type, at_init}
+use Rattle.st_parser.specs.ProgramMachine.{in_init, in_body, with_decl, begun}
 use Rattle.st_parser.proofs.ExprEarliest.{one, completion, completes}
 use Rattle.st_parser.proofs.SoFar.{Opens, Selects, Lists, Ends, Asks, Counts, Labels, Reads, Whole, Stands}
 use Rattle.st_parser.proofs.ProgramSound.{BodyNext, BlocksNext, DeclsNext, InitNext, TypeNext, NamesNext, Holds, body-next, begun-next, name-kept}
@@ -49,7 +52,8 @@ extends-front : (P : StmtTree → List Placed → Type 0) (cs xs : List Placed) 
 extends-front P cs xs h = (h.0, xs ++ h.1, subst (P h.0) (append_assoc cs xs h.1) h.2)
 
 -- an open body is closed
-body-extends : (c : Context) (d : ℕ) (P : StmtTree → List Placed → Type 0) (body : Body) (ss : StmtTrees) (hs us : List Placed) → Opens c d P body hs → SpellsStmts c.bytes (suc d) ss us → Extends P (hs ++ us)
+body-extends : (c : Context) (d : ℕ) (P : StmtTree → List Placed → Type 0) (body : Body) (ss : StmtTrees) (hs us : List Placed) → Opens c d P body hs
+    → SpellsStmts c.bytes (suc d) ss us → Extends P (hs ++ us)
 body-extends c d P (of_arm arms e s) ss hs us h sp =
     let x = made (tok.Key key.EndIf) in
     (_, at d x ∷ [], subst (P _) (sym (append_assoc hs us (at d x ∷ []))) (h ss no_arms no_other us (at d x ∷ []) sp (spells_end_if x refl)))
@@ -85,10 +89,15 @@ selects-extends c d P q hs h =
     let e = made (tok.Key key.EndCase) in
     let l : LabelTree = record { first = unit; last = None } in
     let labels : SpellsLabels c.bytes (suc d) (l ∷ []) (at (suc d) one ∷ at (suc d) x ∷ []) =
-    spells_last_label l x (at (suc d) one ∷ []) (spells_one unit (at (suc d) one ∷ []) (spells_value (record { ty = None; value = pos 1 }) one refl)) refl in
-    (_, _, h (and_branch (l ∷ []) no_stmts no_branches) no_other _ (spells_branch (l ∷ []) no_stmts no_branches no_other _ [] (at d e ∷ []) labels spells_no_stmt (spells_end_case e refl)))
+    spells_last_label l x (at (suc d) one ∷ []) (spells_one unit (at (suc d) one ∷ []) (spells_value (record { ty = None; value = pos 1 }) one refl)) refl in (
+      _,
+      _,
+      h (and_branch (l ∷ []) no_stmts no_branches) no_other _
+          (spells_branch (l ∷ []) no_stmts no_branches no_other _ [] (at d e ∷ []) labels spells_no_stmt (spells_end_case e refl)),
+    )
 
-ends-extends : (c : Context) (d : ℕ) (P : StmtTree → List Placed → Type 0) (l : Loop) (first e : ExprTree) (hs ts : List Placed) → Ends c d P l first hs → SpellsExpr c.bytes d any_level e ts → Extends P (hs ++ ts)
+ends-extends : (c : Context) (d : ℕ) (P : StmtTree → List Placed → Type 0) (l : Loop) (first e : ExprTree) (hs ts : List Placed) → Ends c d P l first hs
+    → SpellsExpr c.bytes d any_level e ts → Extends P (hs ++ ts)
 ends-extends c d P l first e hs ts h sp =
     let x = at d (made (tok.Key key.Do)) in
     extends-front P (hs ++ ts) (x ∷ [])
@@ -96,7 +105,8 @@ ends-extends c d P l first e hs ts h sp =
     (opens-extends c d P (of_loop l first e None) (hs ++ (ts ++ x ∷ [])) (h e None ts [] x.token sp spells_no_step refl)))
 
 -- a whole expression, and what must come behind it
-asks-extends : (c : Context) (d : ℕ) (P : StmtTree → List Placed → Type 0) (p : Purpose) (e : ExprTree) (hs ts : List Placed) → Asks c d P p hs → SpellsExpr c.bytes d any_level e ts → Extends P (hs ++ ts)
+asks-extends : (c : Context) (d : ℕ) (P : StmtTree → List Placed → Type 0) (p : Purpose) (e : ExprTree) (hs ts : List Placed) → Asks c d P p hs
+    → SpellsExpr c.bytes d any_level e ts → Extends P (hs ++ ts)
 asks-extends c d P (to_assign f s) e hs ts h sp = extends-here P _ (hs ++ ts) (h e ts sp)
 asks-extends c d P (to_test arms s) e hs ts h sp =
     let x = at d (made (tok.Key key.Then)) in
@@ -117,7 +127,8 @@ asks-extends c d P (to_end l first) e hs ts h sp = ends-extends c d P l first e 
 asks-extends c d P (to_step l first last) e hs ts h sp =
     let x = at d (made (tok.Key key.Do)) in
     extends-front P (hs ++ ts) (x ∷ [])
-    (subst (Extends P) (sym (append_assoc hs ts (x ∷ []))) (opens-extends c d P (of_loop l first last (Some e)) (hs ++ (ts ++ x ∷ [])) (h e ts x.token sp refl)))
+    (subst (Extends P) (sym (append_assoc hs ts (x ∷ [])))
+    (opens-extends c d P (of_loop l first last (Some e)) (hs ++ (ts ++ x ∷ [])) (h e ts x.token sp refl)))
 
 -- where an expression must come
 ask-extends : (c : Context) (d : ℕ) (P : StmtTree → List Placed → Type 0) (p : Purpose) (hs : List Placed) → Asks c d P p hs → Extends P hs
@@ -135,16 +146,19 @@ labels-extend c d P q ls first_wanted hs ts h l =
     subst (λ (x : List Placed). Extends P (hs ++ x)) (sym l)
     (subst (Extends P) (sym (append-nil hs))
     (extends-front P hs (at (suc d) one ∷ [])
-    (label-extends c d P q ls _ hs (at (suc d) one ∷ []) h (spells_one unit (at (suc d) one ∷ []) (spells_value (record { ty = None; value = pos 1 }) one refl)))))
+    (label-extends c d P q ls _ hs (at (suc d) one ∷ []) h
+    (spells_one unit (at (suc d) one ∷ []) (spells_value (record { ty = None; value = pos 1 }) one refl)))))
 labels-extend c d P q ls (first_negated s) hs ts h l =
     let x = at (suc (suc d)) one in
     extends-front P (hs ++ ts) (x ∷ [])
-    (subst (Extends P) (sym (append_assoc hs ts (x ∷ []))) (label-extends c d P q ls _ hs (ts ++ x ∷ []) h (spells_one _ (ts ++ x ∷ []) (l.1 None (pos 1) one refl))))
+    (subst (Extends P) (sym (append_assoc hs ts (x ∷ [])))
+    (label-extends c d P q ls _ hs (ts ++ x ∷ []) h (spells_one _ (ts ++ x ∷ []) (l.1 None (pos 1) one refl))))
 labels-extend c d P q ls (first_read e) hs ts h l = label-extends c d P q ls _ hs ts h (spells_one e ts l.1)
 labels-extend c d P q ls (last_wanted e) hs ts h l =
     let x = at (suc d) one in
     extends-front P (hs ++ ts) (x ∷ [])
-    (subst (Extends P) (sym (append_assoc hs ts (x ∷ []))) (label-extends c d P q ls _ hs (ts ++ x ∷ []) h (l.1 unit (x ∷ []) (spells_value (record { ty = None; value = pos 1 }) one refl))))
+    (subst (Extends P) (sym (append_assoc hs ts (x ∷ [])))
+    (label-extends c d P q ls _ hs (ts ++ x ∷ []) h (l.1 unit (x ∷ []) (spells_value (record { ty = None; value = pos 1 }) one refl))))
 labels-extend c d P q ls (last_negated e s) hs ts h l =
     let x = at (suc (suc d)) one in
     extends-front P (hs ++ ts) (x ∷ [])
@@ -172,7 +186,9 @@ reads-completed c (level ∷ outer) ss cs r =
 whole-completed : (c : Context) (outer : List Level) (ss : StmtTrees) (cs : List Placed) → Extends (Whole c outer ss) cs → Completed c cs
 whole-completed c outer ss cs x =
     let z = made (tok.Sym symbol.Semi) in
-    completed-front c cs x.1 (completed-front c (cs ++ x.1) (at (length outer) z ∷ []) (reads-completed c outer (stmts_and ss x.0) ((cs ++ x.1) ++ at (length outer) z ∷ []) (x.2 z refl)))
+    completed-front c cs x.1
+    (completed-front c (cs ++ x.1) (at (length outer) z ∷ [])
+    (reads-completed c outer (stmts_and ss x.0) ((cs ++ x.1) ++ at (length outer) z ∷ []) (x.2 z refl)))
 
 -- ---- programs
 
@@ -192,12 +208,14 @@ body-begun c f body hs us h sp =
 completed-begun : (c : Context) (f : Front) (hs us : List Placed) → BodyNext c f hs → Completed c us → Begun c (hs ++ us)
 completed-begun c f hs us h x = begun-front c (hs ++ us) x.1 (subst (Begun c) (sym (append_assoc hs us x.1)) (body-begun c f x.0 hs (us ++ x.1) h x.2))
 
-stands-begun : (c : Context) (f : Front) (hs : List Placed) (outer : List Level) (ss : StmtTrees) (p : Phase) (us : List Placed) → BodyNext c f hs → Stands c outer ss p us → Begun c (hs ++ us)
+stands-begun : (c : Context) (f : Front) (hs : List Placed) (outer : List Level) (ss : StmtTrees) (p : Phase) (us : List Placed) → BodyNext c f hs
+    → Stands c outer ss p us → Begun c (hs ++ us)
 stands-begun c f hs outer ss start us b h = completed-begun c f hs us b (reads-completed c outer ss us h)
 stands-begun c f hs outer ss (named n s) us b h =
     let x = at (length outer) (made (tok.Sym symbol.Assign)) in
     completed-begun c f hs us b
-    (whole-completed c outer ss us (extends-front (Whole c outer ss) us (x ∷ []) (ask-extends c (length outer) (Whole c outer ss) (to_assign n s) (us ++ x ∷ []) (h.5 x.token refl))))
+    (whole-completed c outer ss us
+    (extends-front (Whole c outer ss) us (x ∷ []) (ask-extends c (length outer) (Whole c outer ss) (to_assign n s) (us ++ x ∷ []) (h.5 x.token refl))))
 stands-begun c f hs outer ss (reading p fs m) us b h =
     let d : ℕ = length outer in
     let e = completes c d fs m h.1 h.4.0 in
@@ -213,8 +231,10 @@ stands-begun c f hs outer ss closed us b h =
 stands-begun c f hs outer ss (loop_begun s) us b h =
     let n = at (length outer) (made tok.Name) in
     completed-begun c f hs us b
-    (whole-completed c outer ss us (extends-front (Whole c outer ss) us (n ∷ []) (counts-extends c (length outer) (Whole c outer ss) _ (us ++ n ∷ []) (h.1 n.token refl))))
-stands-begun c f hs outer ss (loop_named l) us b h = completed-begun c f hs us b (whole-completed c outer ss us (counts-extends c (length outer) (Whole c outer ss) l us h.1))
+    (whole-completed c outer ss us
+    (extends-front (Whole c outer ss) us (n ∷ []) (counts-extends c (length outer) (Whole c outer ss) _ (us ++ n ∷ []) (h.1 n.token refl))))
+stands-begun c f hs outer ss (loop_named l) us b h =
+    completed-begun c f hs us b (whole-completed c outer ss us (counts-extends c (length outer) (Whole c outer ss) l us h.1))
 stands-begun c f hs outer ss (labelling q ls p) us b h =
     completed-begun c f hs us b
     (subst (Completed c) (sym h.5) (whole-completed c outer ss (h.0 ++ h.1) (labels-extend c (length outer) (Whole c outer ss) q ls p h.0 h.1 h.3 h.4)))
@@ -250,12 +270,17 @@ pub begins : (c : Context) (s : State) (cs : List Placed) → Holds c s cs → B
 begins c at_program cs h =
     let p = made (tok.Key key.Program) in
     let n = made tok.Name in
-    subst (Begun c) (sym h) (begun-front c [] (at 0 p ∷ at 0 n ∷ []) (blocks-begun c (record { name = c.bytes n; blocks = [] }) (at 0 p ∷ at 0 n ∷ []) (name-kept c p n refl refl)))
+    subst (Begun c) (sym h)
+    (begun-front c [] (at 0 p ∷ at 0 n ∷ []) (blocks-begun c (record { name = c.bytes n; blocks = [] }) (at 0 p ∷ at 0 n ∷ []) (name-kept c p n refl refl)))
 begins c at_name cs h =
     let n = made tok.Name in
-    subst (Begun c) (sym h.2) (begun-front c (at 0 h.0 ∷ []) (at 0 n ∷ []) (blocks-begun c (record { name = c.bytes n; blocks = [] }) (at 0 h.0 ∷ at 0 n ∷ []) (name-kept c h.0 n h.1 refl)))
+    subst (Begun c) (sym h.2)
+    (begun-front c (at 0 h.0 ∷ []) (at 0 n ∷ [])
+    (blocks-begun c (record { name = c.bytes n; blocks = [] }) (at 0 h.0 ∷ at 0 n ∷ []) (name-kept c h.0 n h.1 refl)))
 begins c (at_block f) cs h = blocks-begun c f cs h
-begins c (at_var f) cs h = subst (Begun c) (sym h.4) (decls-begun c (begun f class.Local) (h.0 ++ at 0 h.1 ∷ []) (begun-next c f class.Local h.0 (at 0 h.1 ∷ []) h.2 (spells_local h.1 h.3)))
+begins c (at_var f) cs h =
+    subst (Begun c) (sym h.4)
+    (decls-begun c (begun f class.Local) (h.0 ++ at 0 h.1 ∷ []) (begun-next c f class.Local h.0 (at 0 h.1 ∷ []) h.2 (spells_local h.1 h.3)))
 begins c (at_decl o) cs h = decls-begun c o cs h
 begins c (at_comma o ds) cs h =
     let x = made (tok.Sym symbol.Colon) in

@@ -17,14 +17,18 @@ use Rattle.st_spelling.specs.Operators.{any_level}
 use Rattle.st_spelling.specs.Placed.{Placed, at, tokens_of, Within}
 use Rattle.st_spelling.specs.Expressions.{SpellsExpr}
 use Rattle.st_spelling.specs.Statements.{SpellsStmts, spells_no_stmt}
-use Rattle.st_spelling.specs.Programs.{type_key, SpellsNames, spells_last_name, spells_next_name, SpellsInit, spells_no_init, spells_init, spells_decl, SpellsDecls, spells_end_var, spells_next_decl, SpellsHead, spells_input, spells_output, spells_local, spells_constant, spells_retain, SpellsBlocks, spells_no_block, spells_block, SpellsProgram, spells_program}
+use Rattle.st_spelling.specs.Programs.{type_key, SpellsNames, spells_last_name, spells_next_name, SpellsInit, spells_no_init, spells_init, spells_decl}
+use Rattle.st_spelling.specs.Programs.{SpellsDecls, spells_end_var, spells_next_decl, SpellsHead, spells_input, spells_output, spells_local, spells_constant}
+use Rattle.st_spelling.specs.Programs.{spells_retain, SpellsBlocks, spells_no_block, spells_block, SpellsProgram, spells_program}
 use Rattle.st_parser.specs.declared.fault.SyntaxFault.{SyntaxFault}
 use Rattle.st_parser.specs.declared.marks.Mark.{Mark}
 use Rattle.st_parser.specs.declared.marks.Mark.TheVariants as mark
 use Rattle.st_parser.specs.Marks.{mark_of, is}
 use Rattle.st_parser.specs.ExprMachine.{Context, Form, Mode, want, Reading, step, ends_before}
 use Rattle.st_parser.specs.StmtMachine.{At, start, named, reading, closed, loop_begun, loop_named, labelling, finished, refused, stmt_step}
-use Rattle.st_parser.specs.ProgramMachine.{Front, Opening, State, at_program, at_name, at_block, at_var, at_decl, at_comma, at_next_name, at_type, at_init, in_init, in_body, declared, with_decl, with_block, begun, body_step, decl_at, block_at, var_at, type_at, init_read_on, init_at, program_step, finish, onward, run, read_program}
+use Rattle.st_parser.specs.ProgramMachine.{Front, Opening, State, at_program, at_name, at_block, at_var, at_decl, at_comma, at_next_name, at_type, at_init}
+use Rattle.st_parser.specs.ProgramMachine.{in_init, in_body, declared, with_decl, with_block, begun, body_step, decl_at, block_at, var_at, type_at}
+use Rattle.st_parser.specs.ProgramMachine.{init_read_on, init_at, program_step, finish, onward, run, read_program}
 use Rattle.st_parser.proofs.ExprSound.{HasRead, none-read, step-read, ends-read}
 use Rattle.st_parser.proofs.MarkTable.{IsMark, mark_is}
 use Rattle.st_parser.proofs.SoFar.{Stands}
@@ -101,7 +105,8 @@ body-next c f cs h =
     subst (λ (x : List Placed). BodyNext c f x) (append-nil cs)
     (subst (λ (x : List BlockTree). BodyNext c (record { name = f.name; blocks = x }) (cs ++ [])) (append-nil f.blocks) (h [] [] spells_no_block))
 
-body-kept : (c : Context) (t : Token) (f : Front) (hs us : List Placed) (r : Result At SyntaxFault) → BodyNext c f hs → Sound c t us r → Kept c t (hs ++ us) (body_step f r)
+body-kept : (c : Context) (t : Token) (f : Front) (hs us : List Placed) (r : Result At SyntaxFault) → BodyNext c f hs → Sound c t us r
+    → Kept c t (hs ++ us) (body_step f r)
 body-kept c t f hs us (Ok a) h s = (s.0, s.1, (hs, us ++ at s.0 t ∷ [], h, s.2, append_assoc hs us (at s.0 t ∷ [])))
 body-kept c t f hs us (Err x) h s = tt
 
@@ -117,20 +122,25 @@ begun-next c f k hs ts h head ds us sp bs vs sb =
     (h (record { class = k; decls = ds } ∷ bs) (ts ++ (us ++ vs)) (spells_block k ds bs ts us vs head sp sb)))
 
 -- a block ends
-ended-next : (c : Context) (o : Opening) (cs : List Placed) (t : Token) → DeclsNext c o cs → t.tok ≡ tok.Key key.EndVar → BlocksNext c (with_block o) (cs ++ at 0 t ∷ [])
+ended-next : (c : Context) (o : Opening) (cs : List Placed) (t : Token) → DeclsNext c o cs → t.tok ≡ tok.Key key.EndVar
+    → BlocksNext c (with_block o) (cs ++ at 0 t ∷ [])
 ended-next c o cs t h k =
-    subst (λ (x : List DeclTree). BlocksNext c (with_blocks o.front (record { class = o.class; decls = x } ∷ [])) (cs ++ at 0 t ∷ [])) (append-nil o.decls) (h [] (at 0 t ∷ []) (spells_end_var t k))
+    subst (λ (x : List DeclTree). BlocksNext c (with_blocks o.front (record { class = o.class; decls = x } ∷ [])) (cs ++ at 0 t ∷ [])) (append-nil o.decls)
+    (h [] (at 0 t ∷ []) (spells_end_var t k))
 
 -- ---- the declarations
 
 -- a declaration that is whole
 decl-next : (c : Context) (o : Opening) (hs ts us : List Placed) (ds : List DeclaredTree) (ty : Ty) (init : Option ExprTree) (t : Token)
-    → DeclsNext c o hs → SpellsNames c.bytes ds ts → t.tok ≡ tok.Key (type_key ty) → SpellsInit c.bytes init us → DeclsNext c (with_decl o ds ty init) (hs ++ (ts ++ at 0 t ∷ us))
+    → DeclsNext c o hs → SpellsNames c.bytes ds ts → t.tok ≡ tok.Key (type_key ty) → SpellsInit c.bytes init us
+    → DeclsNext c (with_decl o ds ty init) (hs ++ (ts ++ at 0 t ∷ us))
 decl-next c o hs ts us ds ty init t h sn k si more vs sp =
     let decl : DeclTree = record { names = ds; ty = ty; init = init } in
     let all : List Placed = ts ++ at 0 t ∷ us in
-    subst (λ (x : List Placed). BlocksNext c (with_blocks o.front (record { class = o.class; decls = (o.decls ++ decl ∷ []) ++ more } ∷ [])) x) (sym (append_assoc hs all vs))
-    (subst (λ (x : List DeclTree). BlocksNext c (with_blocks o.front (record { class = o.class; decls = x } ∷ [])) (hs ++ (all ++ vs))) (sym (append_assoc o.decls (decl ∷ []) more))
+    subst (λ (x : List Placed). BlocksNext c (with_blocks o.front (record { class = o.class; decls = (o.decls ++ decl ∷ []) ++ more } ∷ [])) x)
+    (sym (append_assoc hs all vs))
+    (subst (λ (x : List DeclTree). BlocksNext c (with_blocks o.front (record { class = o.class; decls = x } ∷ [])) (hs ++ (all ++ vs)))
+    (sym (append_assoc o.decls (decl ∷ []) more))
     (h (decl ∷ more) (all ++ vs) (spells_next_decl decl more all vs (spells_decl ds ty init t ts us sn k si) sp)))
 
 -- where a declaration may begin, names may come
@@ -140,7 +150,8 @@ names-next c o hs h ds ts sn ty t k init us si =
     subst (λ (x : List Placed). DeclsNext c (with_decl o ds ty init) x) tokens (decl-next c o hs ts us ds ty init t h sn k si)
 
 -- a name more
-name-next : (c : Context) (o : Opening) (ds : List DeclaredTree) (cs : List Placed) (n : Token) → NamesNext c o ds cs → n.tok ≡ tok.Name → Holds c (at_comma o (ds ++ declared c n ∷ [])) (cs ++ at 0 n ∷ [])
+name-next : (c : Context) (o : Opening) (ds : List DeclaredTree) (cs : List Placed) (n : Token) → NamesNext c o ds cs → n.tok ≡ tok.Name
+    → Holds c (at_comma o (ds ++ declared c n ∷ [])) (cs ++ at 0 n ∷ [])
 name-next c o ds cs n h k = (
   λ t kt more ts sn.
       let tokens : cs ++ (at 0 n ∷ at 0 t ∷ ts) ≡ ((cs ++ at 0 n ∷ []) ++ at 0 t ∷ []) ++ ts = simp append_assoc in
@@ -186,7 +197,8 @@ var-kept c t f m cs h mk =
     (begun-next c f class.Retain h.0 (at 0 h.1 ∷ at 0 t ∷ []) h.2 (spells_retain h.1 t h.3 (mk mark.Retain e)))))
     (decl-kept c t (begun f class.Local) m (h.0 ++ at 0 h.1 ∷ []) (begun-next c f class.Local h.0 (at 0 h.1 ∷ []) h.2 (spells_local h.1 h.3)) mk)))
 
-type-kept : (c : Context) (t : Token) (o : Opening) (ds : List DeclaredTree) (m : Mark) (cs : List Placed) → TypeNext c o ds cs → IsMark m t.tok → Kept c t cs (type_at o ds m t)
+type-kept : (c : Context) (t : Token) (o : Opening) (ds : List DeclaredTree) (m : Mark) (cs : List Placed) → TypeNext c o ds cs → IsMark m t.tok
+    → Kept c t cs (type_at o ds m t)
 type-kept c t o ds m cs h mk =
     let P : Result State SyntaxFault → Type 0 = Kept c t cs in
     chosen P (is m (mark.Type ty.Bool)) (Ok (at_init o ds ty.Bool)) _
@@ -200,14 +212,16 @@ type-kept c t o ds m cs h mk =
 
 -- ---- the initial value
 
-init_on-kept : (c : Context) (t : Token) (o : Opening) (ds : List DeclaredTree) (ty : Ty) (fs : List Form) (m : Mode) (cs : List Placed) (h : Holds c (in_init o ds ty fs m) cs) (r : Result Reading SyntaxFault)
+init_on-kept : (c : Context) (t : Token) (o : Opening) (ds : List DeclaredTree) (ty : Ty) (fs : List Form) (m : Mode) (cs : List Placed)
+    (h : Holds c (in_init o ds ty fs m) cs) (r : Result Reading SyntaxFault)
     → step c 0 fs m t ≡ r → Kept c t (h.0 ++ h.1) (init_read_on o ds ty r)
 init_on-kept c t o ds ty fs m cs h (Ok r) e =
     let n = step-read c 0 fs m h.1 t r h.3 e in
     (n.0, n.2, (h.0, h.1 ++ at n.0 t ∷ [], h.2, n.1, append_assoc h.0 h.1 (at n.0 t ∷ [])))
 init_on-kept c t o ds ty fs m cs h (Err f) e = tt
 
-init-kept : (c : Context) (t : Token) (o : Opening) (ds : List DeclaredTree) (ty : Ty) (fs : List Form) (m : Mode) (cs : List Placed) (h : Holds c (in_init o ds ty fs m) cs) (x : Option ExprTree)
+init-kept : (c : Context) (t : Token) (o : Opening) (ds : List DeclaredTree) (ty : Ty) (fs : List Form) (m : Mode) (cs : List Placed)
+    (h : Holds c (in_init o ds ty fs m) cs) (x : Option ExprTree)
     → ends_before fs m t ≡ x → Kept c t (h.0 ++ h.1) (init_at c o ds ty fs m t x)
 init-kept c t o ds ty fs m cs h (Some e) is_whole =
     chosen (Kept c t (h.0 ++ h.1)) (is (mark_of t.tok) mark.Semi) (Ok (at_decl (with_decl o ds ty (Some e)))) (refused t)
@@ -219,7 +233,8 @@ init-kept c t o ds ty fs m cs h None is_whole = init_on-kept c t o ds ty fs m cs
 
 -- ---- a token
 
-pub name-kept : (c : Context) (p n : Token) → p.tok ≡ tok.Key key.Program → n.tok ≡ tok.Name → BlocksNext c (record { name = c.bytes n; blocks = [] }) (at 0 p ∷ at 0 n ∷ [])
+pub name-kept : (c : Context) (p n : Token) → p.tok ≡ tok.Key key.Program → n.tok ≡ tok.Name
+    → BlocksNext c (record { name = c.bytes n; blocks = [] }) (at 0 p ∷ at 0 n ∷ [])
 name-kept c p n kp kn bs ts sb body us e sp ke = spells_program bs body p n e ts us kp kn sb sp ke
 
 pub step-kept : (c : Context) (t : Token) (s : State) (cs : List Placed) → Holds c s cs → Kept c t cs (program_step c s t)
@@ -229,14 +244,16 @@ step-kept c t at_program cs h =
 step-kept c t at_name cs h =
     chosen (Kept c t cs) (is (mark_of t.tok) mark.Name) (Ok (at_block (record { name = c.bytes t; blocks = [] }))) (refused t)
     (λ e. outside c t cs (at_block (record { name = c.bytes t; blocks = [] }))
-    (subst (λ (x : List Placed). BlocksNext c (record { name = c.bytes t; blocks = [] }) (x ++ at 0 t ∷ [])) (sym h.2) (name-kept c h.0 t h.1 (mark_is t.tok mark.Name e)))) tt
+    (subst (λ (x : List Placed). BlocksNext c (record { name = c.bytes t; blocks = [] }) (x ++ at 0 t ∷ [])) (sym h.2)
+    (name-kept c h.0 t h.1 (mark_is t.tok mark.Name e)))) tt
 step-kept c t (at_block f) cs h = block-kept c t f (mark_of t.tok) cs h (mark_is t.tok)
 step-kept c t (at_var f) cs h = var-kept c t f (mark_of t.tok) cs h (mark_is t.tok)
 step-kept c t (at_decl o) cs h = decl-kept c t o (mark_of t.tok) cs h (mark_is t.tok)
 step-kept c t (at_comma o ds) cs h =
     chosen (Kept c t cs) (is (mark_of t.tok) mark.Comma) (Ok (at_next_name o ds)) _
     (λ e. outside c t cs (at_next_name o ds) (h.0 t (mark_is t.tok mark.Comma e)))
-    (chosen (Kept c t cs) (is (mark_of t.tok) mark.Colon) (Ok (at_type o ds)) (refused t) (λ e. outside c t cs (at_type o ds) (h.1 t (mark_is t.tok mark.Colon e))) tt)
+    (chosen (Kept c t cs) (is (mark_of t.tok) mark.Colon) (Ok (at_type o ds)) (refused t)
+    (λ e. outside c t cs (at_type o ds) (h.1 t (mark_is t.tok mark.Colon e))) tt)
 step-kept c t (at_next_name o ds) cs h =
     chosen (Kept c t cs) (is (mark_of t.tok) mark.Name) (Ok (at_comma o (ds ++ declared c t ∷ []))) (refused t)
     (λ e. outside c t cs (at_comma o (ds ++ declared c t ∷ [])) (name-next c o ds cs t h (mark_is t.tok mark.Name e))) tt
@@ -256,7 +273,8 @@ step-kept c t (at_init o ds ty) cs h =
     ))
     tt)
 step-kept c t (in_init o ds ty fs m) cs h =
-    subst (λ (x : List Placed). Kept c t x (init_at c o ds ty fs m t (ends_before fs m t))) (sym h.4) (init-kept c t o ds ty fs m cs h (ends_before fs m t) refl)
+    subst (λ (x : List Placed). Kept c t x (init_at c o ds ty fs m t (ends_before fs m t))) (sym h.4)
+    (init-kept c t o ds ty fs m cs h (ends_before fs m t) refl)
 step-kept c t (in_body f outer ss p) cs h =
     subst (λ (x : List Placed). Kept c t x (body_step f (stmt_step c outer ss p t))) (sym h.4)
     (body-kept c t f h.0 h.1 (stmt_step c outer ss p t) h.2 (stmt-sound c t outer ss p h.1 h.3))
@@ -290,7 +308,8 @@ finish-good c end (in_body f (level ∷ outer) ss p) cs h w = tt
 finish-good c end (in_body f [] ss finished) cs h w =
     let us = h.3 in (
       cs,
-      subst (λ (x : List Placed). SpellsProgram c.bytes (record { name = f.name; blocks = f.blocks; body = ss }) x) (sym (h.4 ∙ ap (λ (x : List Placed). h.0 ++ x) us.4)) (h.2 ss us.0 us.1 us.2 us.3),
+      subst (λ (x : List Placed). SpellsProgram c.bytes (record { name = f.name; blocks = f.blocks; body = ss }) x)
+          (sym (h.4 ∙ ap (λ (x : List Placed). h.0 ++ x) us.4)) (h.2 ss us.0 us.1 us.2 us.3),
       refl,
       w,
     )
@@ -306,11 +325,13 @@ onward-good : (c : Context) (t : Token) (ts all : List Token) (cs : List Placed)
     → ((s : State) (ds : List Placed) → Holds c s ds → Within c.most ds → tokens_of ds ++ ts ≡ all → Good c all (next s))
     → Kept c t cs r → Within c.most cs → tokens_of cs ++ t ∷ ts ≡ all → Good c all (onward r next)
 onward-good c t ts all cs (Ok s) next go h w e =
-    let tokens : tokens_of (cs ++ at h.0 t ∷ []) ++ ts ≡ tokens_of cs ++ t ∷ ts = ap (λ (x : List Token). x ++ ts) (map_push (λ (p : Placed). p.token) cs (at h.0 t)) ∙ append_assoc (tokens_of cs) (t ∷ []) ts in
+    let tokens : tokens_of (cs ++ at h.0 t ∷ []) ++ ts ≡ tokens_of cs ++ t ∷ ts =
+    ap (λ (x : List Token). x ++ ts) (map_push (λ (p : Placed). p.token) cs (at h.0 t)) ∙ append_assoc (tokens_of cs) (t ∷ []) ts in
     go s (cs ++ at h.0 t ∷ []) h.2 (within-push c.most cs h.0 t w h.1) (tokens ∙ e)
 onward-good c t ts all cs (Err f) next go h w e = tt
 
-run-good : (c : Context) (end : Spot) (ts all : List Token) (s : State) (cs : List Placed) → Holds c s cs → Within c.most cs → tokens_of cs ++ ts ≡ all → Good c all (run c end ts s)
+run-good : (c : Context) (end : Spot) (ts all : List Token) (s : State) (cs : List Placed) → Holds c s cs → Within c.most cs → tokens_of cs ++ ts ≡ all
+    → Good c all (run c end ts s)
 run-good c end [] all s cs h w e = subst (λ (x : List Token). Good c x (finish end s)) (sym (append-nil (tokens_of cs)) ∙ e) (finish-good c end s cs h w)
 run-good c end (t ∷ ts) all s cs h w e = onward-good c t ts all cs (program_step c s t) (run c end ts) (run-good c end ts all) (step-kept c t s cs h) w e
 

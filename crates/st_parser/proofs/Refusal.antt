@@ -10,7 +10,8 @@ use Rattle.st_parser.specs.declared.fault.SyntaxFault.{SyntaxFault}
 use Rattle.st_parser.specs.declared.fault.SyntaxFault.TheVariants as fault
 use Rattle.st_parser.specs.ExprMachine.{Context}
 use Rattle.st_parser.specs.StmtMachine.{start, named, reading, closed, loop_begun, loop_named, labelling, finished}
-use Rattle.st_parser.specs.ProgramMachine.{State, at_program, at_name, at_block, at_var, at_decl, at_comma, at_next_name, at_type, at_init, in_init, in_body, program_step, finish, onward, run, read_program}
+use Rattle.st_parser.specs.ProgramMachine.{State, at_program, at_name, at_block, at_var, at_decl, at_comma, at_next_name, at_type, at_init, in_init, in_body}
+use Rattle.st_parser.specs.ProgramMachine.{program_step, finish, onward, run, read_program}
 use Rattle.st_parser.proofs.ProgramSound.{Holds, Kept, step-kept}
 use Rattle.st_parser.proofs.ProgramEarliest.{begins}
 use Rattle.st_parser.proofs.TokenFaults.{AtToken, at-program-step}
@@ -54,15 +55,21 @@ finish-refused c end (at_next_name o ds) cs h reach = inr (refl, begins-program 
 finish-refused c end (at_type o ds) cs h reach = inr (refl, begins-program c (at_type o ds) cs h, ((at_type o ds), reach))
 finish-refused c end (at_init o ds ty) cs h reach = inr (refl, begins-program c (at_init o ds ty) cs h, ((at_init o ds ty), reach))
 finish-refused c end (in_init o ds ty fs m) cs h reach = inr (refl, begins-program c (in_init o ds ty fs m) cs h, ((in_init o ds ty fs m), reach))
-finish-refused c end (in_body f (level ∷ outer) ss p) cs h reach = inr (refl, begins-program c (in_body f (level ∷ outer) ss p) cs h, ((in_body f (level ∷ outer) ss p), reach))
+finish-refused c end (in_body f (level ∷ outer) ss p) cs h reach =
+    inr (refl, begins-program c (in_body f (level ∷ outer) ss p) cs h, ((in_body f (level ∷ outer) ss p), reach))
 finish-refused c end (in_body f [] ss finished) cs h reach = tt
 finish-refused c end (in_body f [] ss start) cs h reach = inr (refl, begins-program c (in_body f [] ss start) cs h, ((in_body f [] ss start), reach))
-finish-refused c end (in_body f [] ss (named n s)) cs h reach = inr (refl, begins-program c (in_body f [] ss (named n s)) cs h, ((in_body f [] ss (named n s)), reach))
-finish-refused c end (in_body f [] ss (reading p fs m)) cs h reach = inr (refl, begins-program c (in_body f [] ss (reading p fs m)) cs h, ((in_body f [] ss (reading p fs m)), reach))
+finish-refused c end (in_body f [] ss (named n s)) cs h reach =
+    inr (refl, begins-program c (in_body f [] ss (named n s)) cs h, ((in_body f [] ss (named n s)), reach))
+finish-refused c end (in_body f [] ss (reading p fs m)) cs h reach =
+    inr (refl, begins-program c (in_body f [] ss (reading p fs m)) cs h, ((in_body f [] ss (reading p fs m)), reach))
 finish-refused c end (in_body f [] ss closed) cs h reach = inr (refl, begins-program c (in_body f [] ss closed) cs h, ((in_body f [] ss closed), reach))
-finish-refused c end (in_body f [] ss (loop_begun s)) cs h reach = inr (refl, begins-program c (in_body f [] ss (loop_begun s)) cs h, ((in_body f [] ss (loop_begun s)), reach))
-finish-refused c end (in_body f [] ss (loop_named l)) cs h reach = inr (refl, begins-program c (in_body f [] ss (loop_named l)) cs h, ((in_body f [] ss (loop_named l)), reach))
-finish-refused c end (in_body f [] ss (labelling k ls p)) cs h reach = inr (refl, begins-program c (in_body f [] ss (labelling k ls p)) cs h, ((in_body f [] ss (labelling k ls p)), reach))
+finish-refused c end (in_body f [] ss (loop_begun s)) cs h reach =
+    inr (refl, begins-program c (in_body f [] ss (loop_begun s)) cs h, ((in_body f [] ss (loop_begun s)), reach))
+finish-refused c end (in_body f [] ss (loop_named l)) cs h reach =
+    inr (refl, begins-program c (in_body f [] ss (loop_named l)) cs h, ((in_body f [] ss (loop_named l)), reach))
+finish-refused c end (in_body f [] ss (labelling k ls p)) cs h reach =
+    inr (refl, begins-program c (in_body f [] ss (labelling k ls p)) cs h, ((in_body f [] ss (labelling k ls p)), reach))
 
 -- what is read behind one token more
 pushed : (cs : List Placed) (k : ℕ) (t : Token) (ts : List Token) → tokens_of (cs ++ at k t ∷ []) ++ ts ≡ tokens_of cs ++ t ∷ ts
@@ -70,16 +77,29 @@ pushed cs k t ts = ap (λ (x : List Token). x ++ ts) (map_push (λ (p : Placed).
 
 onward-refused : (c : Context) (end : Spot) (t : Token) (ts all : List Token) (s : State) (cs : List Placed) (r : Result State SyntaxFault)
     → ((next : State) (ds : List Placed) → Holds c next ds → Reaches c end ds next → tokens_of ds ++ ts ≡ all → Refused c end all (run c end ts next))
-    → Holds c s cs → Kept c t cs r → AtToken t r → program_step c s t ≡ r → Reaches c end cs s → tokens_of cs ++ t ∷ ts ≡ all → Refused c end all (onward r (run c end ts))
+    → Holds c s cs → Kept c t cs r → AtToken t r → program_step c s t ≡ r → Reaches c end cs s → tokens_of cs ++ t ∷ ts ≡ all
+    → Refused c end all (onward r (run c end ts))
 onward-refused c end t ts all s cs (Ok next) go h k place is reach e =
     go next (cs ++ at k.0 t ∷ []) k.2
     (λ more. ap (read_program c end) (pushed cs k.0 t more) ∙ reach (t ∷ more) ∙ ap (λ (x : Result State SyntaxFault). onward x (run c end more)) is)
     (pushed cs k.0 t ts ∙ e)
 onward-refused c end t ts all s cs (Err f) go h k place is reach e =
-    inl (tokens_of cs, t, ts, sym e, place, begins-program c s cs h, λ more. reach (t ∷ more) ∙ ap (λ (x : Result State SyntaxFault). onward x (run c end more)) is, (s, reach))
+    inl (
+      tokens_of cs,
+      t,
+      ts,
+      sym e,
+      place,
+      begins-program c s cs h,
+      λ more. reach (t ∷ more)
+          ∙ ap (λ (x : Result State SyntaxFault). onward x (run c end more)) is,
+      (s, reach),
+    )
 
-run-refused : (c : Context) (end : Spot) (ts all : List Token) (s : State) (cs : List Placed) → Holds c s cs → Reaches c end cs s → tokens_of cs ++ ts ≡ all → Refused c end all (run c end ts s)
-run-refused c end [] all s cs h reach e = subst (λ (x : List Token). Refused c end x (finish end s)) (sym (append-nil (tokens_of cs)) ∙ e) (finish-refused c end s cs h reach)
+run-refused : (c : Context) (end : Spot) (ts all : List Token) (s : State) (cs : List Placed) → Holds c s cs → Reaches c end cs s → tokens_of cs ++ ts ≡ all
+    → Refused c end all (run c end ts s)
+run-refused c end [] all s cs h reach e =
+    subst (λ (x : List Token). Refused c end x (finish end s)) (sym (append-nil (tokens_of cs)) ∙ e) (finish-refused c end s cs h reach)
 run-refused c end (t ∷ ts) all s cs h reach e =
     onward-refused c end t ts all s cs (program_step c s t) (run-refused c end ts all) h (step-kept c t s cs h) (at-program-step c s t) refl reach e
 

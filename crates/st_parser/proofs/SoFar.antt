@@ -8,15 +8,19 @@ use Rattle.st_lexer.specs.declared.token.Tok.TheVariants as tok
 use Rattle.st_lexer.specs.declared.token.Token.{Token}
 use Rattle.st_tree.specs.declared.expr.UnOp.TheVariants as un
 use Rattle.st_tree.specs.ExprTree.{ExprTree, literal, name, unary}
-use Rattle.st_tree.specs.StmtTree.{LabelTree, StmtTree, StmtTrees, ArmTrees, BranchTrees, OtherTree, assign, if_, case, for_, no_stmts, and_stmt, no_arms, and_arm, no_branches, and_branch, other}
+use Rattle.st_tree.specs.StmtTree.{LabelTree, StmtTree, StmtTrees, ArmTrees, BranchTrees, OtherTree, assign, if_, case, for_, no_stmts, and_stmt, no_arms}
+use Rattle.st_tree.specs.StmtTree.{and_arm, no_branches, and_branch, other}
 use Rattle.st_tree.specs.Appended.{stmts_and, arms_and, branches_and}
 use Rattle.st_spelling.specs.Operators.{any_level}
 use Rattle.st_spelling.specs.Placed.{Placed, at}
 use Rattle.st_spelling.specs.Expressions.{SpellsExpr}
 use Rattle.st_spelling.specs.Labels.{SpellsConst, SpellsLabel, SpellsLabels}
-use Rattle.st_spelling.specs.Statements.{SpellsStep, SpellsStmt, SpellsStmts, SpellsMoreArms, SpellsBranches, SpellsMoreBranches, spells_no_stmt, spells_empty, spells_stmt}
+use Rattle.st_spelling.specs.Statements.{SpellsStep, SpellsStmt, SpellsStmts, SpellsMoreArms, SpellsBranches, SpellsMoreBranches, spells_no_stmt, spells_empty}
+use Rattle.st_spelling.specs.Statements.{spells_stmt}
 use Rattle.st_parser.specs.ExprMachine.{Context}
-use Rattle.st_parser.specs.StmtMachine.{Selection, Loop, Body, of_arm, of_if_else, of_branch, of_case_else, of_loop, Level, Purpose, to_assign, to_test, to_select, to_begin, to_end, to_step, LabelPhase, first_wanted, first_negated, first_read, last_wanted, last_negated, last_read, Phase, start, named, reading, closed, loop_begun, loop_named, labelling, finished}
+use Rattle.st_parser.specs.StmtMachine.{Selection, Loop, Body, of_arm, of_if_else, of_branch, of_case_else, of_loop, Level, Purpose, to_assign, to_test}
+use Rattle.st_parser.specs.StmtMachine.{to_select, to_begin, to_end, to_step, LabelPhase, first_wanted, first_negated, first_read, last_wanted, last_negated}
+use Rattle.st_parser.specs.StmtMachine.{last_read, Phase, start, named, reading, closed, loop_begun, loop_named, labelling, finished}
 use Rattle.st_parser.proofs.ExprSound.{HasRead}
 
 -- ---- lists of arms and branches, one behind the other
@@ -29,7 +33,8 @@ pub arms_last : (arms : ArmTrees) (c : ExprTree) (body : StmtTrees) (s : Spot) �
 arms_last no_arms c body s = refl
 arms_last (and_arm d other_body r rest) c body s = ap (and_arm d other_body r) (arms_last rest c body s)
 
-pub arms_then : (arms : ArmTrees) (c : ExprTree) (body : StmtTrees) (s : Spot) (more : ArmTrees) → arms_append arms (and_arm c body s more) ≡ arms_append (arms_and arms c body s) more
+pub arms_then : (arms : ArmTrees) (c : ExprTree) (body : StmtTrees) (s : Spot) (more : ArmTrees)
+    → arms_append arms (and_arm c body s more) ≡ arms_append (arms_and arms c body s) more
 arms_then no_arms c body s more = refl
 arms_then (and_arm d other_body r rest) c body s more = ap (and_arm d other_body r) (arms_then rest c body s more)
 
@@ -37,17 +42,20 @@ abbrev pub branches_append : BranchTrees → BranchTrees → BranchTrees
 branches_append no_branches more = more
 branches_append (and_branch ls body rest) more = and_branch ls body (branches_append rest more)
 
-pub branches_last : (branches : BranchTrees) (ls : List LabelTree) (body : StmtTrees) → branches_append branches (and_branch ls body no_branches) ≡ branches_and branches ls body
+pub branches_last : (branches : BranchTrees) (ls : List LabelTree) (body : StmtTrees)
+    → branches_append branches (and_branch ls body no_branches) ≡ branches_and branches ls body
 branches_last no_branches ls body = refl
 branches_last (and_branch ms other_body rest) ls body = ap (and_branch ms other_body) (branches_last rest ls body)
 
-pub branches_then : (branches : BranchTrees) (ls : List LabelTree) (body : StmtTrees) (more : BranchTrees) → branches_append branches (and_branch ls body more) ≡ branches_append (branches_and branches ls body) more
+pub branches_then : (branches : BranchTrees) (ls : List LabelTree) (body : StmtTrees) (more : BranchTrees)
+    → branches_append branches (and_branch ls body more) ≡ branches_append (branches_and branches ls body) more
 branches_then no_branches ls body more = refl
 branches_then (and_branch ms other_body rest) ls body more = ap (and_branch ms other_body) (branches_then rest ls body more)
 
 -- ---- statements, and one more
 
-pub one_more : {bytes : Token → List ℕ} {d : ℕ} {ss : StmtTrees} {us : List Placed} → SpellsStmts bytes d ss us → (s : StmtTree) (ts : List Placed) (c : Token) → c.tok ≡ tok.Sym symbol.Semi → SpellsStmt bytes d s ts
+pub one_more : {bytes : Token → List ℕ} {d : ℕ} {ss : StmtTrees} {us : List Placed} → SpellsStmts bytes d ss us → (s : StmtTree) (ts : List Placed) (c : Token)
+    → c.tok ≡ tok.Sym symbol.Semi → SpellsStmt bytes d s ts
     → SpellsStmts bytes d (stmts_and ss s) (us ++ (ts ++ at d c ∷ []))
 one_more spells_no_stmt s ts c k sp = spells_stmt s no_stmts c ts [] sp k spells_no_stmt
 one_more {d = d} (spells_empty ss x vs kx sps) s ts c k sp = spells_empty (stmts_and ss s) x (vs ++ (ts ++ at d c ∷ [])) kx (one_more sps s ts c k sp)
@@ -55,7 +63,8 @@ one_more {bytes = bytes} {d = d} (spells_stmt r ss x vs us sr kx sps) s ts c k s
     subst (λ (l : List Placed). SpellsStmts bytes d (and_stmt r (stmts_and ss s)) l) (sym (append_assoc vs (at d x ∷ us) (ts ++ at d c ∷ [])))
     (spells_stmt r (stmts_and ss s) x vs (us ++ (ts ++ at d c ∷ [])) sr kx (one_more sps s ts c k sp))
 
-pub one_empty : {bytes : Token → List ℕ} {d : ℕ} {ss : StmtTrees} {us : List Placed} → SpellsStmts bytes d ss us → (c : Token) → c.tok ≡ tok.Sym symbol.Semi → SpellsStmts bytes d ss (us ++ at d c ∷ [])
+pub one_empty : {bytes : Token → List ℕ} {d : ℕ} {ss : StmtTrees} {us : List Placed} → SpellsStmts bytes d ss us → (c : Token) → c.tok ≡ tok.Sym symbol.Semi
+    → SpellsStmts bytes d ss (us ++ at d c ∷ [])
 one_empty spells_no_stmt c k = spells_empty no_stmts c [] k spells_no_stmt
 one_empty {d = d} (spells_empty ss x vs kx sps) c k = spells_empty ss x (vs ++ at d c ∷ []) kx (one_empty sps c k)
 one_empty {bytes = bytes} {d = d} (spells_stmt r ss x vs us sr kx sps) c k =
@@ -95,7 +104,8 @@ Lists c d P k ls hs = (more : List LabelTree) (us : List Placed) → SpellsLabel
 -- up to the last value of a FOR
 abbrev pub Ends : Context → ℕ → (StmtTree → List Placed → Type 0) → Loop → ExprTree → List Placed → Type 0
 Ends c d P l first hs =
-    (e : ExprTree) (by : Option ExprTree) (ts us : List Placed) (o : Token) → SpellsExpr c.bytes d any_level e ts → SpellsStep c.bytes d by us → o.tok ≡ tok.Key key.Do
+    (e : ExprTree) (by : Option ExprTree) (ts us : List Placed)
+    (o : Token) → SpellsExpr c.bytes d any_level e ts → SpellsStep c.bytes d by us → o.tok ≡ tok.Key key.Do
     → Opens c d P (of_loop l first e by) (hs ++ (ts ++ (us ++ at d o ∷ [])))
 
 -- up to an expression
@@ -143,7 +153,8 @@ abbrev pub Reads : Context → List Level → StmtTrees → List Placed → Type
 Reads c [] ss cs = SpellsStmts c.bytes 0 ss cs
 Reads c (level ∷ outer) ss cs =
     (hs : List Placed) × (us : List Placed) × (length outer ≤ c.most)
-    × Opens c (length outer) (λ s ts. (t : Token) → t.tok ≡ tok.Sym symbol.Semi → Reads c outer (stmts_and level.before s) (ts ++ at (length outer) t ∷ [])) level.body hs
+    × Opens c (length outer)
+    (λ s ts. (t : Token) → t.tok ≡ tok.Sym symbol.Semi → Reads c outer (stmts_and level.before s) (ts ++ at (length outer) t ∷ [])) level.body hs
     × SpellsStmts c.bytes (suc (length outer)) ss us × (cs ≡ hs ++ us)
 
 -- the tokens end in the whole statement s, behind the statements `before`
@@ -158,12 +169,15 @@ Stands c outer ss (named f s) cs =
     × ((a : Token) → a.tok ≡ tok.Sym symbol.Assign → Asks c (length outer) (Whole c outer ss) (to_assign f s) (cs ++ at (length outer) a ∷ []))
     × (cs ≡ before ++ hs)
 Stands c outer ss (reading p fs m) cs =
-    (hs : List Placed) × (es : List Placed) × (length outer ≤ c.most) × Asks c (length outer) (Whole c outer ss) p hs × HasRead c (length outer) fs m es × (cs ≡ hs ++ es)
+    (hs : List Placed) × (es : List Placed) × (length outer ≤ c.most) × Asks c (length outer) (Whole c outer ss) p hs × HasRead c
+    (length outer) fs m es × (cs ≡ hs ++ es)
 Stands c outer ss closed cs = (length outer ≤ c.most) × ((t : Token) → t.tok ≡ tok.Sym symbol.Semi → Reads c outer ss (cs ++ at (length outer) t ∷ []))
 Stands c outer ss (loop_begun s) cs =
     (length outer ≤ c.most)
-    × ((n : Token) → n.tok ≡ tok.Name → Counts c (length outer) (Whole c outer ss) (record { name = c.bytes n; name_spot = n.spot; spot = s }) (cs ++ at (length outer) n ∷ []))
+    × ((n : Token) → n.tok ≡ tok.Name → Counts c (length outer) (Whole c outer ss) (record { name = c.bytes n; name_spot = n.spot; spot = s })
+    (cs ++ at (length outer) n ∷ []))
 Stands c outer ss (loop_named l) cs = (length outer ≤ c.most) × Counts c (length outer) (Whole c outer ss) l cs
 Stands c outer ss (labelling k ls p) cs =
-    (hs : List Placed) × (ts : List Placed) × (length outer ≤ c.most) × Lists c (length outer) (Whole c outer ss) k ls hs × Labels c (suc (length outer)) p ts × (cs ≡ hs ++ ts)
+    (hs : List Placed) × (ts : List Placed) × (length outer ≤ c.most) × Lists c (length outer) (Whole c outer ss) k ls hs × Labels c
+    (suc (length outer)) p ts × (cs ≡ hs ++ ts)
 Stands c outer ss finished cs = (us : List Placed) × (e : Token) × SpellsStmts c.bytes 0 ss us × (e.tok ≡ tok.Key key.EndProgram) × (cs ≡ us ++ at 0 e ∷ [])

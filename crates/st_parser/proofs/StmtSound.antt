@@ -1,34 +1,43 @@
 -- StmtSound: statements that are read are spelled.
-use Rattle.std.proofs.Common.{◌≡◌, ℕ, suc, ◌≤◌, List, [], ◌∷◌, ◌++◌, length, Option, Some, None, Result, Ok, Err, sym, refl, ap, ◌∙◌, subst, arith, append_assoc, append-nil}
+use Rattle.std.proofs.Common.{◌≡◌, ℕ, suc, ◌≤◌, List, [], ◌∷◌, ◌++◌, length, Option, Some, None, Result, Ok, Err, sym, refl, ap, ◌∙◌, subst, arith}
+use Rattle.std.proofs.Common.{append_assoc, append-nil}
 use Rattle.vcp_base.specs.declared.spot.Spot.{Spot}
 use Rattle.st_lexer.specs.declared.token.Key.TheVariants as key
 use Rattle.st_lexer.specs.declared.token.Sym.TheVariants as symbol
 use Rattle.st_lexer.specs.declared.token.Tok.TheVariants as tok
 use Rattle.st_lexer.specs.declared.token.Token.{Token}
 use Rattle.st_tree.specs.ExprTree.{ExprTree, name}
-use Rattle.st_tree.specs.StmtTree.{LabelTree, StmtTree, StmtTrees, ArmTrees, BranchTrees, assign, if_, case, for_, no_arms, and_arm, no_branches, and_branch, no_other, other}
+use Rattle.st_tree.specs.StmtTree.{LabelTree, StmtTree, StmtTrees, ArmTrees, BranchTrees, assign, if_, case, for_, no_arms, and_arm, no_branches, and_branch}
+use Rattle.st_tree.specs.StmtTree.{no_other, other}
 use Rattle.st_tree.specs.Appended.{stmts_and, arms_and, branches_and}
 use Rattle.st_spelling.specs.Operators.{any_level}
 use Rattle.st_spelling.specs.Placed.{Placed, at}
 use Rattle.st_spelling.specs.Expressions.{SpellsExpr}
 use Rattle.st_spelling.specs.Labels.{spells_named}
-use Rattle.st_spelling.specs.Statements.{SpellsStmt, SpellsStmts, spells_no_step, spells_step, spells_assign, spells_if, spells_case, spells_for, spells_arm, spells_elsif, spells_if_else, spells_end_if, spells_branch, spells_next_branch, spells_case_else, spells_end_case}
+use Rattle.st_spelling.specs.Statements.{SpellsStmt, SpellsStmts, spells_no_step, spells_step, spells_assign, spells_if, spells_case, spells_for, spells_arm}
+use Rattle.st_spelling.specs.Statements.{spells_elsif, spells_if_else, spells_end_if, spells_branch, spells_next_branch, spells_case_else, spells_end_case}
 use Rattle.st_parser.specs.declared.fault.SyntaxFault.{SyntaxFault}
 use Rattle.st_parser.specs.declared.marks.Mark.{Mark}
 use Rattle.st_parser.specs.declared.marks.Mark.TheVariants as mark
 use Rattle.st_parser.specs.Marks.{mark_of, is}
 use Rattle.st_parser.specs.ExprMachine.{Context, Form, Mode, want, Reading, no_deeper, step, ends_before}
-use Rattle.st_parser.specs.StmtMachine.{Selection, Body, of_arm, of_if_else, of_branch, of_case_else, of_loop, Level, Purpose, to_assign, to_test, to_select, to_begin, to_end, to_step, LabelPhase, first_wanted, first_read, Phase, start, named, reading, closed, loop_begun, loop_named, labelling, finished, At, refused, to, opened, whole, with_branch, label_step, next_label_in, next_label, elsif_at, else_at, end_if_at, end_case_at, end_for_at, body_ends, start_at, named_at, take, read_on, read_at, stmt_step}
+use Rattle.st_parser.specs.StmtMachine.{Selection, Body, of_arm, of_if_else, of_branch, of_case_else, of_loop, Level, Purpose, to_assign, to_test, to_select}
+use Rattle.st_parser.specs.StmtMachine.{to_begin, to_end, to_step, LabelPhase, first_wanted, first_read, Phase, start, named, reading, closed, loop_begun}
+use Rattle.st_parser.specs.StmtMachine.{loop_named, labelling, finished, At, refused, to, opened, whole, with_branch, label_step, next_label_in, next_label}
+use Rattle.st_parser.specs.StmtMachine.{elsif_at, else_at, end_if_at, end_case_at, end_for_at, body_ends, start_at, named_at, take, read_on, read_at, stmt_step}
 use Rattle.st_parser.proofs.ExprSound.{HasRead, none-read, step-read, ends-read}
 use Rattle.st_parser.proofs.MarkTable.{IsMark, mark_is}
-use Rattle.st_parser.proofs.SoFar.{arms_append, arms_last, arms_then, branches_append, branches_last, branches_then, one_more, one_empty, Opens, Selects, Lists, Asks, Labels, Reads, Whole, Stands}
+use Rattle.st_parser.proofs.SoFar.{arms_append, arms_last, arms_then, branches_append, branches_last, branches_then, one_more, one_empty, Opens, Selects, Lists}
+use Rattle.st_parser.proofs.SoFar.{Asks, Labels, Reads, Whole, Stands}
 use Rattle.st_parser.proofs.LabelSound.{chosen, not_deeper, Sound, sound_err, opened-sound, label-sound}
 
 -- ---- a statement that is whole
 
 -- is one more of the statements
-pub whole-one : (c : Context) (outer : List Level) (ss : StmtTrees) (cs : List Placed) → Reads c outer ss cs → (s : StmtTree) (ts : List Placed) → SpellsStmt c.bytes (length outer) s ts → Whole c outer ss s (cs ++ ts)
-whole-one c [] ss cs r s ts sp t k = subst (λ (x : List Placed). SpellsStmts c.bytes 0 (stmts_and ss s) x) (sym (append_assoc cs ts (at 0 t ∷ []))) (one_more r s ts t k sp)
+pub whole-one : (c : Context) (outer : List Level) (ss : StmtTrees) (cs : List Placed) → Reads c outer ss cs → (s : StmtTree) (ts : List Placed)
+    → SpellsStmt c.bytes (length outer) s ts → Whole c outer ss s (cs ++ ts)
+whole-one c [] ss cs r s ts sp t k =
+    subst (λ (x : List Placed). SpellsStmts c.bytes 0 (stmts_and ss s) x) (sym (append_assoc cs ts (at 0 t ∷ []))) (one_more r s ts t k sp)
 whole-one c (level ∷ outer) ss cs r s ts sp t k =
     let d : ℕ = suc (length outer) in (
       r.0,
@@ -40,7 +49,8 @@ whole-one c (level ∷ outer) ss cs r s ts sp t k =
     )
 
 -- a semicolon alone
-reads-empty : (c : Context) (outer : List Level) (ss : StmtTrees) (cs : List Placed) (t : Token) → Reads c outer ss cs → t.tok ≡ tok.Sym symbol.Semi → Reads c outer ss (cs ++ at (length outer) t ∷ [])
+reads-empty : (c : Context) (outer : List Level) (ss : StmtTrees) (cs : List Placed) (t : Token) → Reads c outer ss cs → t.tok ≡ tok.Sym symbol.Semi
+    → Reads c outer ss (cs ++ at (length outer) t ∷ [])
 reads-empty c [] ss cs t r k = one_empty r t k
 reads-empty c (level ∷ outer) ss cs t r k =
     let d : ℕ = suc (length outer) in (
@@ -52,7 +62,8 @@ reads-empty c (level ∷ outer) ss cs t r k =
       ap (λ (x : List Placed). x ++ at d t ∷ []) r.5 ∙ append_assoc r.0 r.1 (at d t ∷ []),
     )
 
-whole-sound : (c : Context) (t : Token) (outer : List Level) (before : StmtTrees) (s : StmtTree) (cs : List Placed) → length outer ≤ c.most → Whole c outer before s (cs ++ at (length outer) t ∷ [])
+whole-sound : (c : Context) (t : Token) (outer : List Level) (before : StmtTrees) (s : StmtTree) (cs : List Placed) → length outer ≤ c.most
+    → Whole c outer before s (cs ++ at (length outer) t ∷ [])
     → Sound c t cs (whole outer before s)
 whole-sound c t outer before s cs le w = (length outer, le, (le, w))
 
@@ -158,7 +169,8 @@ end_for-sound : (c : Context) (t : Token) (body : Body) (outer : List Level) (be
 end_for-sound c t (of_loop l first last by) outer before ss hs us le h sp k =
     let d : ℕ = length outer in
     whole-sound c t outer before (for_ l.name l.name_spot first last by ss l.spot) (hs ++ us) le
-    (subst (λ (x : List Placed). Whole c outer before (for_ l.name l.name_spot first last by ss l.spot) x) (sym (append_assoc hs us (at d t ∷ []))) (h ss us t sp k))
+    (subst (λ (x : List Placed). Whole c outer before (for_ l.name l.name_spot first last by ss l.spot) x) (sym (append_assoc hs us (at d t ∷ [])))
+    (h ss us t sp k))
 end_for-sound c t (of_arm arms e s) outer before ss hs us le h sp k = tt
 end_for-sound c t (of_if_else arms) outer before ss hs us le h sp k = tt
 end_for-sound c t (of_branch q ls) outer before ss hs us le h sp k = tt
@@ -182,7 +194,8 @@ lists-none c d P q hs h more us sp body rest o vs ws sb sm =
     (h (and_branch more body rest) o (us ++ (vs ++ ws)) (spells_branch more body rest o us vs ws sp sb sm))
 
 -- the label has come so far
-next_label_in-sound : (c : Context) (t : Token) (body : Body) (outer : List Level) (before ss : StmtTrees) (p : LabelPhase) (hs us ts : List Placed) → length outer ≤ c.most
+next_label_in-sound : (c : Context) (t : Token) (body : Body) (outer : List Level) (before ss : StmtTrees) (p : LabelPhase) (hs us ts : List Placed)
+    → length outer ≤ c.most
     → Opens c (length outer) (Whole c outer before) body hs → SpellsStmts c.bytes (suc (length outer)) ss us → Labels c (suc (length outer)) p ts
     → Sound c t ((hs ++ us) ++ ts) (next_label_in c body outer before ss p t)
 next_label_in-sound c t (of_branch q ls) outer before ss p hs us ts le h sp l =
@@ -194,7 +207,8 @@ next_label_in-sound c t (of_if_else arms) outer before ss p hs us ts le h sp l =
 next_label_in-sound c t (of_case_else q) outer before ss p hs us ts le h sp l = tt
 next_label_in-sound c t (of_loop x first last by) outer before ss p hs us ts le h sp l = tt
 
-next_label-sound : (c : Context) (t : Token) (outer : List Level) (ss : StmtTrees) (p : LabelPhase) (cs ts : List Placed) → Reads c outer ss cs → Labels c (length outer) p ts
+next_label-sound : (c : Context) (t : Token) (outer : List Level) (ss : StmtTrees) (p : LabelPhase) (cs ts : List Placed) → Reads c outer ss cs
+    → Labels c (length outer) p ts
     → Sound c t (cs ++ ts) (next_label c outer ss p t)
 next_label-sound c t [] ss p cs ts r l = tt
 next_label-sound c t (level ∷ outer) ss p cs ts r l =
@@ -203,7 +217,8 @@ next_label-sound c t (level ∷ outer) ss p cs ts r l =
 
 -- ---- a token that ends the innermost body
 
-body_ends-sound : (c : Context) (t : Token) (outer : List Level) (ss : StmtTrees) (m : Mark) (cs : List Placed) → Reads c outer ss cs → IsMark m t.tok → Sound c t cs (body_ends c outer ss m t)
+body_ends-sound : (c : Context) (t : Token) (outer : List Level) (ss : StmtTrees) (m : Mark) (cs : List Placed) → Reads c outer ss cs → IsMark m t.tok
+    → Sound c t cs (body_ends c outer ss m t)
 body_ends-sound c t [] ss m cs r mk =
     chosen (Sound c t cs) (is m mark.EndProgram) (to [] ss finished) (refused t) (λ e. (0, omega arith, (cs, t, r, mk mark.EndProgram e, refl))) tt
 body_ends-sound c t (level ∷ outer) ss m cs r mk =
@@ -225,12 +240,14 @@ body_ends-sound c t (level ∷ outer) ss m cs r mk =
 -- ---- where a statement may begin
 
 -- a token that is at the depth of the statements
-stood : (c : Context) (t : Token) (outer : List Level) (ss : StmtTrees) (cs : List Placed) (p : Phase) → (length outer ≤ c.most → Stands c outer ss p (cs ++ at (length outer) t ∷ []))
+stood : (c : Context) (t : Token) (outer : List Level) (ss : StmtTrees) (cs : List Placed) (p : Phase)
+    → (length outer ≤ c.most → Stands c outer ss p (cs ++ at (length outer) t ∷ []))
     → Sound c t cs (no_deeper c.most (length outer) t (to outer ss p))
 stood c t outer ss cs p h = not_deeper (Sound c t cs) c.most (length outer) t (to outer ss p) (sound_err c t cs) (λ le. (length outer, le, h le))
 
 -- a name, which begins an assignment or a label
-begins-named : (c : Context) (t : Token) (outer : List Level) (ss : StmtTrees) (cs : List Placed) → Reads c outer ss cs → t.tok ≡ tok.Name → length outer ≤ c.most
+begins-named : (c : Context) (t : Token) (outer : List Level) (ss : StmtTrees) (cs : List Placed) → Reads c outer ss cs → t.tok ≡ tok.Name
+    → length outer ≤ c.most
     → Stands c outer ss (named (c.bytes t) t.spot) (cs ++ at (length outer) t ∷ [])
 begins-named c t outer ss cs r k le =
     let d : ℕ = length outer in (
@@ -246,7 +263,8 @@ begins-named c t outer ss cs r k le =
       refl,
     )
 
-begins-if : (c : Context) (t : Token) (outer : List Level) (ss : StmtTrees) (cs : List Placed) → Reads c outer ss cs → t.tok ≡ tok.Key key.If → length outer ≤ c.most
+begins-if : (c : Context) (t : Token) (outer : List Level) (ss : StmtTrees) (cs : List Placed) → Reads c outer ss cs → t.tok ≡ tok.Key key.If
+    → length outer ≤ c.most
     → Stands c outer ss (reading (to_test no_arms t.spot) [] want) (cs ++ at (length outer) t ∷ [])
 begins-if c t outer ss cs r k le =
     let d : ℕ = length outer in
@@ -264,7 +282,8 @@ begins-if c t outer ss cs r k le =
       sym (append-nil front),
     )
 
-begins-case : (c : Context) (t : Token) (outer : List Level) (ss : StmtTrees) (cs : List Placed) → Reads c outer ss cs → t.tok ≡ tok.Key key.Case → length outer ≤ c.most
+begins-case : (c : Context) (t : Token) (outer : List Level) (ss : StmtTrees) (cs : List Placed) → Reads c outer ss cs → t.tok ≡ tok.Key key.Case
+    → length outer ≤ c.most
     → Stands c outer ss (reading (to_select t.spot) [] want) (cs ++ at (length outer) t ∷ [])
 begins-case c t outer ss cs r k le =
     let d : ℕ = length outer in
@@ -282,7 +301,8 @@ begins-case c t outer ss cs r k le =
       sym (append-nil front),
     )
 
-begins-for : (c : Context) (t : Token) (outer : List Level) (ss : StmtTrees) (cs : List Placed) → Reads c outer ss cs → t.tok ≡ tok.Key key.For → length outer ≤ c.most
+begins-for : (c : Context) (t : Token) (outer : List Level) (ss : StmtTrees) (cs : List Placed) → Reads c outer ss cs → t.tok ≡ tok.Key key.For
+    → length outer ≤ c.most
     → Stands c outer ss (loop_begun t.spot) (cs ++ at (length outer) t ∷ [])
 begins-for c t outer ss cs r k le =
     let d : ℕ = length outer in
@@ -290,13 +310,15 @@ begins-for c t outer ss cs r k le =
       le,
       λ n kn a ka e ts u se ku f by us vs o sf sb ko body ws x sw kx.
           let rest : List Placed = at d t ∷ at d n ∷ at d a ∷ (ts ++ at d u ∷ (us ++ (vs ++ at d o ∷ (ws ++ at d x ∷ [])))) in
-          let tokens : cs ++ rest ≡ ((((front ++ at d n ∷ []) ++ at d a ∷ []) ++ (ts ++ at d u ∷ [])) ++ (us ++ (vs ++ at d o ∷ []))) ++ (ws ++ at d x ∷ []) = simp append_assoc in
+          let tokens : cs ++ rest ≡ ((((front ++ at d n ∷ []) ++ at d a ∷ []) ++ (ts ++ at d u ∷ [])) ++ (us ++ (vs ++ at d o ∷ []))) ++ (ws ++ at d x ∷ []) =
+          simp append_assoc in
           let tree : StmtTree = for_ (c.bytes n) n.spot e f by body t.spot in
           subst (λ (x : List Placed). Whole c outer ss tree x) tokens
           (whole-one c outer ss cs r tree rest (spells_for e f by body t n a u o x ts us vs ws k kn ka se ku sf sb ko sw kx)),
     )
 
-start-sound : (c : Context) (t : Token) (outer : List Level) (ss : StmtTrees) (m : Mark) (cs : List Placed) → Reads c outer ss cs → IsMark m t.tok → Sound c t cs (start_at c outer ss m t)
+start-sound : (c : Context) (t : Token) (outer : List Level) (ss : StmtTrees) (m : Mark) (cs : List Placed) → Reads c outer ss cs → IsMark m t.tok
+    → Sound c t cs (start_at c outer ss m t)
 start-sound c t outer ss m cs r mk =
     let P : Result At SyntaxFault → Type 0 = Sound c t cs in
     chosen P (is m mark.Semi) (no_deeper c.most (length outer) t (to outer ss start)) _
@@ -313,7 +335,8 @@ start-sound c t outer ss m cs r mk =
 
 -- ---- behind a name that begins a statement
 
-named-sound : (c : Context) (t : Token) (outer : List Level) (ss : StmtTrees) (f : List ℕ) (s : Spot) (m : Mark) (cs : List Placed) → Stands c outer ss (named f s) cs → IsMark m t.tok
+named-sound : (c : Context) (t : Token) (outer : List Level) (ss : StmtTrees) (f : List ℕ) (s : Spot) (m : Mark) (cs : List Placed)
+    → Stands c outer ss (named f s) cs → IsMark m t.tok
     → Sound c t cs (named_at c outer ss f s m t)
 named-sound c t outer ss f s m cs h mk =
     let d : ℕ = length outer in
@@ -324,15 +347,18 @@ named-sound c t outer ss f s m cs h mk =
 
 -- ---- the token behind a whole expression
 
-take-sound : (c : Context) (t : Token) (outer : List Level) (ss : StmtTrees) (p : Purpose) (e : ExprTree) (m : Mark) (hs es : List Placed) → length outer ≤ c.most
-    → Asks c (length outer) (Whole c outer ss) p hs → SpellsExpr c.bytes (length outer) any_level e es → IsMark m t.tok → Sound c t (hs ++ es) (take outer ss p e m t)
+take-sound : (c : Context) (t : Token) (outer : List Level) (ss : StmtTrees) (p : Purpose) (e : ExprTree) (m : Mark) (hs es : List Placed)
+    → length outer ≤ c.most
+    → Asks c (length outer) (Whole c outer ss) p hs → SpellsExpr c.bytes (length outer) any_level e es → IsMark m t.tok
+    → Sound c t (hs ++ es) (take outer ss p e m t)
 take-sound c t outer ss (to_assign f s) e m hs es le h sp mk =
     chosen (Sound c t (hs ++ es)) (is m mark.Semi) (to outer (stmts_and ss (assign f e s)) start) (refused t)
     (λ k. (length outer, le, h e es sp t (mk mark.Semi k))) tt
 take-sound c t outer ss (to_test arms s) e m hs es le h sp mk =
     let d : ℕ = length outer in
     chosen (Sound c t (hs ++ es)) (is m mark.Then) (opened (of_arm arms e s) outer ss) (refused t)
-    (λ k. opened-sound c t d (hs ++ es) (hs ++ (es ++ at d t ∷ [])) (of_arm arms e s) outer ss le le (h e es t sp (mk mark.Then k)) (append_assoc hs es (at d t ∷ []))) tt
+    (λ k. opened-sound c t d (hs ++ es) (hs ++ (es ++ at d t ∷ [])) (of_arm arms e s) outer ss le le (h e es t sp (mk mark.Then k))
+    (append_assoc hs es (at d t ∷ []))) tt
 take-sound c t outer ss (to_select s) e m hs es le h sp mk =
     let d : ℕ = length outer in
     let front : List Placed = hs ++ (es ++ at d t ∷ []) in
@@ -369,7 +395,8 @@ take-sound c t outer ss (to_end l first) e m hs es le h sp mk =
       ),
     ))
     (chosen (Sound c t (hs ++ es)) (is m mark.Do) (opened (of_loop l first e None) outer ss) (refused t)
-    (λ k. opened-sound c t d (hs ++ es) front (of_loop l first e None) outer ss le le (h e None es [] t sp spells_no_step (mk mark.Do k)) (append_assoc hs es (at d t ∷ []))) tt)
+    (λ k. opened-sound c t d (hs ++ es) front (of_loop l first e None) outer ss le le (h e None es [] t sp spells_no_step (mk mark.Do k))
+    (append_assoc hs es (at d t ∷ []))) tt)
 take-sound c t outer ss (to_step l first last) e m hs es le h sp mk =
     let d : ℕ = length outer in
     let front : List Placed = hs ++ (es ++ at d t ∷ []) in
@@ -378,26 +405,32 @@ take-sound c t outer ss (to_step l first last) e m hs es le h sp mk =
 
 -- ---- a token of an expression, or the one behind it
 
-read_on-sound : (c : Context) (t : Token) (outer : List Level) (ss : StmtTrees) (p : Purpose) (fs : List Form) (m : Mode) (hs es : List Placed) (r : Result Reading SyntaxFault) → length outer ≤ c.most
-    → Asks c (length outer) (Whole c outer ss) p hs → HasRead c (length outer) fs m es → step c (length outer) fs m t ≡ r → Sound c t (hs ++ es) (read_on outer ss p r)
+read_on-sound : (c : Context) (t : Token) (outer : List Level) (ss : StmtTrees) (p : Purpose) (fs : List Form) (m : Mode) (hs es : List Placed)
+    (r : Result Reading SyntaxFault) → length outer ≤ c.most
+    → Asks c (length outer) (Whole c outer ss) p hs → HasRead c (length outer) fs m es → step c (length outer) fs m t ≡ r
+    → Sound c t (hs ++ es) (read_on outer ss p r)
 read_on-sound c t outer ss p fs m hs es (Ok r) le h x e =
     let n = step-read c (length outer) fs m es t r x e in
     (n.0, n.2, (hs, es ++ at n.0 t ∷ [], le, h, n.1, append_assoc hs es (at n.0 t ∷ [])))
 read_on-sound c t outer ss p fs m hs es (Err f) le h x e = tt
 
-read-sound : (c : Context) (t : Token) (outer : List Level) (ss : StmtTrees) (p : Purpose) (fs : List Form) (m : Mode) (hs es : List Placed) (o : Option ExprTree) → length outer ≤ c.most
-    → Asks c (length outer) (Whole c outer ss) p hs → HasRead c (length outer) fs m es → ends_before fs m t ≡ o → Sound c t (hs ++ es) (read_at c outer ss p fs m t o)
+read-sound : (c : Context) (t : Token) (outer : List Level) (ss : StmtTrees) (p : Purpose) (fs : List Form) (m : Mode) (hs es : List Placed)
+    (o : Option ExprTree) → length outer ≤ c.most
+    → Asks c (length outer) (Whole c outer ss) p hs → HasRead c (length outer) fs m es → ends_before fs m t ≡ o
+    → Sound c t (hs ++ es) (read_at c outer ss p fs m t o)
 read-sound c t outer ss p fs m hs es (Some e) le h x is_whole =
     take-sound c t outer ss p e (mark_of t.tok) hs es le h (ends-read c (length outer) fs m es t e x is_whole).0 (mark_is t.tok)
 read-sound c t outer ss p fs m hs es None le h x is_whole = read_on-sound c t outer ss p fs m hs es (step c (length outer) fs m t) le h x refl
 
 -- ---- a token
 
-pub stmt-sound : (c : Context) (t : Token) (outer : List Level) (ss : StmtTrees) (p : Phase) (cs : List Placed) → Stands c outer ss p cs → Sound c t cs (stmt_step c outer ss p t)
+pub stmt-sound : (c : Context) (t : Token) (outer : List Level) (ss : StmtTrees) (p : Phase) (cs : List Placed) → Stands c outer ss p cs
+    → Sound c t cs (stmt_step c outer ss p t)
 stmt-sound c t outer ss start cs h = start-sound c t outer ss (mark_of t.tok) cs h (mark_is t.tok)
 stmt-sound c t outer ss (named f s) cs h = named-sound c t outer ss f s (mark_of t.tok) cs h (mark_is t.tok)
 stmt-sound c t outer ss (reading p fs m) cs h =
-    subst (λ (x : List Placed). Sound c t x (read_at c outer ss p fs m t (ends_before fs m t))) (sym h.5) (read-sound c t outer ss p fs m h.0 h.1 (ends_before fs m t) h.2 h.3 h.4 refl)
+    subst (λ (x : List Placed). Sound c t x (read_at c outer ss p fs m t (ends_before fs m t))) (sym h.5)
+    (read-sound c t outer ss p fs m h.0 h.1 (ends_before fs m t) h.2 h.3 h.4 refl)
 stmt-sound c t outer ss closed cs h =
     chosen (Sound c t cs) (is (mark_of t.tok) mark.Semi) (to outer ss start) (refused t) (λ e. (length outer, h.0, h.1 t (mark_is t.tok mark.Semi e))) tt
 stmt-sound c t outer ss (loop_begun s) cs h =

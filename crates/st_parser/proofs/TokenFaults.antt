@@ -1,5 +1,6 @@
 -- TokenFaults: a token that is refused is so at its own spot, and never for want of memory.
-use Rattle.std.proofs.Common.{◌≡◌, ℕ, suc, ◌+◌, Bool, true, false, cond, leb, List, [], ◌∷◌, ◌++◌, length, Option, Some, None, Result, Ok, Err, sym, refl, subst}
+use Rattle.std.proofs.Common.{◌≡◌, ℕ, suc, ◌+◌, Bool, true, false, cond, leb, List, [], ◌∷◌, ◌++◌, length, Option, Some, None, Result, Ok, Err, sym, refl}
+use Rattle.std.proofs.Common.{subst}
 use Rattle.vcp_base.specs.declared.spot.Spot.{Spot}
 use Rattle.vcp_base.specs.declared.ty.Ty.{Ty}
 use Rattle.vcp_base.specs.declared.ty.Ty.TheVariants as ty
@@ -20,9 +21,15 @@ use Rattle.st_parser.specs.declared.marks.Goes.TheVariants as goes
 use Rattle.st_parser.specs.declared.marks.Mark.{Mark}
 use Rattle.st_parser.specs.declared.marks.Mark.TheVariants as mark
 use Rattle.st_parser.specs.Marks.{begins_by, goes_by, mark_of, is}
-use Rattle.st_parser.specs.ExprMachine.{Context, Form, sign_of, left_of, bracket, arguments, Mode, want, after_name, have, depth_in, close, no_deeper, operand, close_at, part_at, go_on, go_on_name, step, ends_before}
-use Rattle.st_parser.specs.StmtMachine.{Selection, Body, of_arm, of_if_else, of_branch, of_case_else, of_loop, Level, Purpose, to_assign, to_test, to_select, to_begin, to_end, to_step, LabelPhase, first_wanted, first_negated, first_read, last_wanted, last_negated, last_read, Phase, start, named, reading, closed, loop_begun, loop_named, labelling, finished, to, with_branch, const_at, number_at, with_phase, label_ends, label_step, next_label_in, next_label, elsif_at, else_at, end_if_at, end_case_at, end_for_at, body_ends, start_at, take, read_on, read_at, stmt_step}
-use Rattle.st_parser.specs.ProgramMachine.{Front, Opening, State, at_program, at_name, at_block, at_var, at_decl, at_comma, at_next_name, at_type, at_init, in_init, in_body, body_step, decl_at, init_read_on, init_at, program_step}
+use Rattle.st_parser.specs.ExprMachine.{Context, Form, sign_of, left_of, bracket, arguments, Mode, want, after_name, have, depth_in, close, no_deeper, operand}
+use Rattle.st_parser.specs.ExprMachine.{close_at, part_at, go_on, go_on_name, step, ends_before}
+use Rattle.st_parser.specs.StmtMachine.{Selection, Body, of_arm, of_if_else, of_branch, of_case_else, of_loop, Level, Purpose, to_assign, to_test, to_select}
+use Rattle.st_parser.specs.StmtMachine.{to_begin, to_end, to_step, LabelPhase, first_wanted, first_negated, first_read, last_wanted, last_negated, last_read}
+use Rattle.st_parser.specs.StmtMachine.{Phase, start, named, reading, closed, loop_begun, loop_named, labelling, finished, to, with_branch, const_at, number_at}
+use Rattle.st_parser.specs.StmtMachine.{with_phase, label_ends, label_step, next_label_in, next_label, elsif_at, else_at, end_if_at, end_case_at, end_for_at}
+use Rattle.st_parser.specs.StmtMachine.{body_ends, start_at, take, read_on, read_at, stmt_step}
+use Rattle.st_parser.specs.ProgramMachine.{Front, Opening, State, at_program, at_name, at_block, at_var, at_decl, at_comma, at_next_name, at_type, at_init}
+use Rattle.st_parser.specs.ProgramMachine.{in_init, in_body, body_step, decl_at, init_read_on, init_at, program_step}
 
 -- a fault is one at this token
 abbrev pub AtToken : {X : Type 0} → Token → Result X SyntaxFault → Type 0
@@ -36,7 +43,8 @@ at-cond t true x y h k = h
 at-cond t false x y h k = k
 
 -- what hands faults on
-at-by : {X Y : Type 0} (t : Token) (k : Result X SyntaxFault → Result Y SyntaxFault) → ((f : SyntaxFault) → k (Err f) ≡ Err f) → ((x : X) → AtToken t (k (Ok x))) → (r : Result X SyntaxFault) → AtToken t r → AtToken t (k r)
+at-by : {X Y : Type 0} (t : Token) (k : Result X SyntaxFault → Result Y SyntaxFault) → ((f : SyntaxFault) → k (Err f) ≡ Err f)
+    → ((x : X) → AtToken t (k (Ok x))) → (r : Result X SyntaxFault) → AtToken t r → AtToken t (k r)
 at-by t k h o (Ok x) a = o x
 at-by {Y = Y} t k h o (Err (fault.Syntax s)) a = subst (λ (z : Result Y SyntaxFault). AtToken t z) (sym (h (fault.Syntax s))) a
 at-by {Y = Y} t k h o (Err (fault.Depth s)) a = subst (λ (z : Result Y SyntaxFault). AtToken t z) (sym (h (fault.Depth s))) a
@@ -103,21 +111,26 @@ at-number read sign (tok.Key k) t = refl
 at-number read sign (tok.Number ty v) t = tt
 at-number read sign (tok.Sym s) t = refl
 
-at-phase : (outer : List Level) (ss : StmtTrees) (k : Selection) (ls : List LabelTree) (most d : ℕ) (t : Token) (r : Result LabelPhase SyntaxFault) → AtToken t r → AtToken t (with_phase outer ss k ls (no_deeper most d t r))
+at-phase : (outer : List Level) (ss : StmtTrees) (k : Selection) (ls : List LabelTree) (most d : ℕ) (t : Token) (r : Result LabelPhase SyntaxFault)
+    → AtToken t r → AtToken t (with_phase outer ss k ls (no_deeper most d t r))
 at-phase outer ss k ls most d t r a = at-by t (with_phase outer ss k ls) (λ f. refl) (λ x. tt) (no_deeper most d t r) (at-no-deeper most d t r a)
 
 at-label-ends : (outer : List Level) (ss : StmtTrees) (k : Selection) (ls : List LabelTree) (m : Mark) (t : Token) → AtToken t (label_ends outer ss k ls m t)
 at-label-ends outer ss k ls m t = at-cond t (is m mark.Comma) _ _ tt (at-cond t (is m mark.Colon) _ _ tt refl)
 
-at-label : (c : Context) (outer : List Level) (ss : StmtTrees) (k : Selection) (ls : List LabelTree) (p : LabelPhase) (t : Token) → AtToken t (label_step c outer ss k ls p t)
+at-label : (c : Context) (outer : List Level) (ss : StmtTrees) (k : Selection) (ls : List LabelTree) (p : LabelPhase) (t : Token)
+    → AtToken t (label_step c outer ss k ls p t)
 at-label c outer ss k ls first_wanted t = at-phase outer ss k ls c.most (suc (length outer)) t _ (at-const c first_read first_negated (begins_by t.tok) t)
 at-label c outer ss k ls (first_negated s) t = at-phase outer ss k ls c.most (suc (suc (length outer))) t _ (at-number first_read s t.tok t)
-at-label c outer ss k ls (first_read e) t = at-cond t (is (mark_of t.tok) mark.DotDot) _ _ tt (at-label-ends outer ss k (ls ++ record { first = e; last = None } ∷ []) (mark_of t.tok) t)
-at-label c outer ss k ls (last_wanted e) t = at-phase outer ss k ls c.most (suc (length outer)) t _ (at-const c (last_read e) (last_negated e) (begins_by t.tok) t)
+at-label c outer ss k ls (first_read e) t =
+    at-cond t (is (mark_of t.tok) mark.DotDot) _ _ tt (at-label-ends outer ss k (ls ++ record { first = e; last = None } ∷ []) (mark_of t.tok) t)
+at-label c outer ss k ls (last_wanted e) t =
+    at-phase outer ss k ls c.most (suc (length outer)) t _ (at-const c (last_read e) (last_negated e) (begins_by t.tok) t)
 at-label c outer ss k ls (last_negated e s) t = at-phase outer ss k ls c.most (suc (suc (length outer))) t _ (at-number (last_read e) s t.tok t)
 at-label c outer ss k ls (last_read e l) t = at-label-ends outer ss k (ls ++ record { first = e; last = Some l } ∷ []) (mark_of t.tok) t
 
-at-next-label : (c : Context) (body : Body) (outer : List Level) (before ss : StmtTrees) (p : LabelPhase) (t : Token) → AtToken t (next_label_in c body outer before ss p t)
+at-next-label : (c : Context) (body : Body) (outer : List Level) (before ss : StmtTrees) (p : LabelPhase) (t : Token)
+    → AtToken t (next_label_in c body outer before ss p t)
 at-next-label c (of_arm arms e s) outer before ss p t = refl
 at-next-label c (of_if_else arms) outer before ss p t = refl
 at-next-label c (of_branch k ls) outer before ss p t = at-label c outer before (with_branch k ls ss) [] p t
@@ -192,7 +205,8 @@ at-take outer ss (to_begin l) e m t = at-cond t (is m mark.To) _ _ tt refl
 at-take outer ss (to_end l first) e m t = at-cond t (is m mark.By) _ _ tt (at-cond t (is m mark.Do) _ _ tt refl)
 at-take outer ss (to_step l first last) e m t = at-cond t (is m mark.Do) _ _ tt refl
 
-at-read : (c : Context) (outer : List Level) (ss : StmtTrees) (p : Purpose) (fs : List Form) (o : Mode) (t : Token) (e : Option ExprTree) → AtToken t (read_at c outer ss p fs o t e)
+at-read : (c : Context) (outer : List Level) (ss : StmtTrees) (p : Purpose) (fs : List Form) (o : Mode) (t : Token) (e : Option ExprTree)
+    → AtToken t (read_at c outer ss p fs o t e)
 at-read c outer ss p fs o t (Some e) = at-take outer ss p e (mark_of t.tok) t
 at-read c outer ss p fs o t None = at-by t (read_on outer ss p) (λ f. refl) (λ x. tt) (step c (length outer) fs o t) (at-step c (length outer) fs o t)
 
@@ -214,7 +228,8 @@ at-body c f outer ss phase t = at-by t (body_step f) (λ e. refl) (λ x. tt) (st
 at-decl-at : (c : Context) (o : Opening) (m : Mark) (t : Token) → AtToken t (decl_at c o m t)
 at-decl-at c o m t = at-cond t (is m mark.Name) _ _ tt (at-cond t (is m mark.EndVar) _ _ tt refl)
 
-at-init-at : (c : Context) (o : Opening) (ds : List DeclaredTree) (ty : Ty) (fs : List Form) (p : Mode) (t : Token) (e : Option ExprTree) → AtToken t (init_at c o ds ty fs p t e)
+at-init-at : (c : Context) (o : Opening) (ds : List DeclaredTree) (ty : Ty) (fs : List Form) (p : Mode) (t : Token) (e : Option ExprTree)
+    → AtToken t (init_at c o ds ty fs p t e)
 at-init-at c o ds ty fs p t (Some e) = at-cond t (is (mark_of t.tok) mark.Semi) _ _ tt refl
 at-init-at c o ds ty fs p t None = at-by t (init_read_on o ds ty) (λ f. refl) (λ x. tt) (step c 0 fs p t) (at-step c 0 fs p t)
 

@@ -13,7 +13,8 @@ use Rattle.st_parser.specs.ProgramMachine.{Front, State, in_body, body_step, pro
 pub taken : (c : Context) (end : Spot) (t : Token) (rest : List Token) (s r : State) → program_step c s t ≡ Ok r → run c end (t ∷ rest) s ≡ run c end rest r
 taken c end t rest s r h = ap (λ (x : Result State SyntaxFault). onward x (run c end rest)) h
 
-pub body-taken : (c : Context) (end : Spot) (f : Front) (outer : List Level) (ss : StmtTrees) (phase : Phase) (t : Token) (rest : List Token) (a : At) → stmt_step c outer ss phase t ≡ Ok a
+pub body-taken : (c : Context) (end : Spot) (f : Front) (outer : List Level) (ss : StmtTrees) (phase : Phase) (t : Token) (rest : List Token) (a : At)
+    → stmt_step c outer ss phase t ≡ Ok a
     → run c end (t ∷ rest) (in_body f outer ss phase) ≡ run c end rest (in_body f a.outer a.stmts a.phase)
 body-taken c end f outer ss phase t rest a h = ap (λ (x : Result At SyntaxFault). onward (body_step f x) (run c end rest)) h
 

@@ -26,7 +26,13 @@ c = record { bytes = λ x. x.from ∷ []; most = 64 }
 subtraction : read_program c (spot 99)
     (t 1 (tok.Key key.Program) ∷ t 2 tok.Name ∷ t 3 tok.Name ∷ t 4 (tok.Sym sym.Assign) ∷ t 5 tok.Name ∷ t 6 (tok.Sym sym.Minus) ∷ t 7 tok.Name
     ∷ t 8 (tok.Sym sym.Minus) ∷ t 9 tok.Name ∷ t 10 (tok.Sym sym.Semi) ∷ t 11 (tok.Key key.EndProgram) ∷ [])
-    ≡ Ok (record { name = 2 ∷ []; blocks = []; body = and_stmt (assign (3 ∷ []) (binary bin.Sub (binary bin.Sub (name (5 ∷ []) (spot 5)) (name (7 ∷ []) (spot 7)) (spot 6)) (name (9 ∷ []) (spot 9)) (spot 8)) (spot 3)) no_stmts })
+    ≡ Ok (record {
+      name = 2 ∷ [];
+      blocks = [];
+      body =
+          and_stmt (assign (3 ∷ []) (binary bin.Sub (binary bin.Sub (name (5 ∷ []) (spot 5)) (name (7 ∷ []) (spot 7)) (spot 6)) (name (9 ∷ []) (spot 9)) (spot 8))
+          (spot 3)) no_stmts;
+    })
 subtraction = refl
 
 -- PROGRAM p y := ; END_PROGRAM

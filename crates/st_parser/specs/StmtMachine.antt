@@ -7,7 +7,8 @@ use Rattle.st_lexer.specs.declared.token.Tok.TheVariants as tok
 use Rattle.st_lexer.specs.declared.token.Token.{Token}
 use Rattle.st_tree.specs.declared.expr.UnOp.TheVariants as un
 use Rattle.st_tree.specs.ExprTree.{ExprTree, literal, name, unary}
-use Rattle.st_tree.specs.StmtTree.{LabelTree, StmtTree, StmtTrees, ArmTrees, BranchTrees, assign, if_, case, for_, no_stmts, no_arms, no_branches, no_other, other}
+use Rattle.st_tree.specs.StmtTree.{LabelTree, StmtTree, StmtTrees, ArmTrees, BranchTrees, assign, if_, case, for_, no_stmts, no_arms, no_branches, no_other}
+use Rattle.st_tree.specs.StmtTree.{other}
 use Rattle.st_tree.specs.Appended.{stmts_and, arms_and, branches_and}
 use Rattle.st_parser.specs.declared.fault.SyntaxFault.{SyntaxFault}
 use Rattle.st_parser.specs.declared.fault.SyntaxFault.TheVariants as fault
@@ -203,7 +204,8 @@ named_at c outer ss f s m t =
 abbrev pub take : List Level → StmtTrees → Purpose → ExprTree → Mark → Token → Result At SyntaxFault
 take outer ss (to_assign f s) e m t = cond (is m mark.Semi) (to outer (stmts_and ss (assign f e s)) start) (refused t)
 take outer ss (to_test arms s) e m t = cond (is m mark.Then) (opened (of_arm arms e s) outer ss) (refused t)
-take outer ss (to_select s) e m t = cond (is m mark.Of) (to outer ss (labelling (record { on = e; spot = s; branches = no_branches }) [] first_wanted)) (refused t)
+take outer ss (to_select s) e m t =
+    cond (is m mark.Of) (to outer ss (labelling (record { on = e; spot = s; branches = no_branches }) [] first_wanted)) (refused t)
 take outer ss (to_begin l) e m t = cond (is m mark.To) (to outer ss (reading (to_end l e) [] want)) (refused t)
 take outer ss (to_end l first) e m t =
     cond (is m mark.By) (to outer ss (reading (to_step l first e) [] want))

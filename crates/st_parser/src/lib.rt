@@ -18,10 +18,3 @@ mod statements;
 pub use fault::SyntaxFault;
 pub use laws::one_answer;
 pub use parsing::parse;
-
-#[cfg(test)]
-mod expression_tests;
-#[cfg(test)]
-mod place_tests;
-#[cfg(test)]
-mod tests;

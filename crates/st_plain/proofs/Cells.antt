@@ -1,6 +1,7 @@
 -- The values of inputs and outputs, slot by slot.
 use Rattle.vcp_base.specs.Limits.{most_size}
-use Rattle.std.proofs.Common.{◌≡◌, ℕ, zero, suc, ◌+◌, ◌-◌, ◌≤◌, ◌<◌, add-one, drop-cons, length-drop, ℤ, Bool, true, false, cond, List, [], ◌∷◌, ◌++◌, length, take, drop, get_or, slice_get, slice_set, Option, Some, None, ◌⊎◌, inl, inr, length-set, refl, sym, ap, ◌∙◌, subst, arith}
+use Rattle.std.proofs.Common.{◌≡◌, ℕ, zero, suc, ◌+◌, ◌-◌, ◌≤◌, ◌<◌, add-one, drop-cons, length-drop, ℤ, Bool, true, false, cond, List, [], ◌∷◌, ◌++◌, length}
+use Rattle.std.proofs.Common.{take, drop, get_or, slice_get, slice_set, Option, Some, None, ◌⊎◌, inl, inr, length-set, refl, sym, ap, ◌∙◌, subst, arith}
 use Rattle.vcp_base.specs.declared.turns.Turn.{Turn}
 use Rattle.vcp_base.specs.declared.ty.Ty.{Ty}
 use Rattle.vcp_base.specs.Types.{AreIn}
@@ -44,10 +45,12 @@ no-inputs-left [] (v ∷ m) e = absurd (omega (arith, e))
 no-inputs-left (s ∷ slots) [] e = absurd (omega (arith, e))
 no-inputs-left (s ∷ slots) (v ∷ m) e = refl
 
-input-first : (s : Slot) (slots : List Slot) (x v : ℤ) (row m : List ℤ) → is_input s.class ≡ true → with_inputs (s ∷ slots) (x ∷ row) (v ∷ m) ≡ x ∷ with_inputs slots row m
+input-first : (s : Slot) (slots : List Slot) (x v : ℤ) (row m : List ℤ) → is_input s.class ≡ true
+    → with_inputs (s ∷ slots) (x ∷ row) (v ∷ m) ≡ x ∷ with_inputs slots row m
 input-first s slots x v row m e = ap (λ b. cond b (x ∷ with_inputs slots row m) (v ∷ with_inputs slots (x ∷ row) m)) e
 
-kept-first : (s : Slot) (slots : List Slot) (v : ℤ) (row m : List ℤ) → is_input s.class ≡ false → length slots ≡ length m → with_inputs (s ∷ slots) row (v ∷ m) ≡ v ∷ with_inputs slots row m
+kept-first : (s : Slot) (slots : List Slot) (v : ℤ) (row m : List ℤ) → is_input s.class ≡ false → length slots ≡ length m
+    → with_inputs (s ∷ slots) row (v ∷ m) ≡ v ∷ with_inputs slots row m
 kept-first s slots v [] m e same = ap (λ t. v ∷ t) (sym (no-inputs-left slots m same))
 kept-first s slots v (x ∷ row) m e same = ap (λ b. cond b (x ∷ with_inputs slots row m) (v ∷ with_inputs slots (x ∷ row) m)) e
 
@@ -55,14 +58,16 @@ some-in : (t : Ty) (ts : List Ty) (row : List ℤ) → AreIn (t ∷ ts) row → 
 some-in t ts [] h = absurd h
 some-in t ts (v ∷ row) h = omega arith
 
-pub input-there : (all : List Slot) (s : Slot) (slots : List Slot) (row : List ℤ) (n : ℕ) → all ≡ s ∷ slots → is_input s.class ≡ true → AreIn (input_types all) (drop n row) → n < length row
+pub input-there : (all : List Slot) (s : Slot) (slots : List Slot) (row : List ℤ) (n : ℕ) → all ≡ s ∷ slots → is_input s.class ≡ true
+    → AreIn (input_types all) (drop n row) → n < length row
 input-there all s slots row n is e h =
     let first : AreIn (input_types (s ∷ slots)) (drop n row) = subst (λ x. AreIn (input_types x) (drop n row)) is h in
     let one : AreIn (s.ty ∷ input_types slots) (drop n row) = subst (λ b. AreIn (cond b (s.ty ∷ input_types slots) (input_types slots)) (drop n row)) e first in
     let some : 0 < length (drop n row) = some-in s.ty (input_types slots) (drop n row) one in
     omega (arith, some, length-drop n row)
 
-pub inputs-taken : (all : List Slot) (s : Slot) (slots : List Slot) (row : List ℤ) (n next : ℕ) (x : ℤ) → all ≡ s ∷ slots → is_input s.class ≡ true → slice_get row n ≡ Some x → next ≡ n + 1
+pub inputs-taken : (all : List Slot) (s : Slot) (slots : List Slot) (row : List ℤ) (n next : ℕ) (x : ℤ) → all ≡ s ∷ slots → is_input s.class ≡ true
+    → slice_get row n ≡ Some x → next ≡ n + 1
     → AreIn (input_types all) (drop n row) → AreIn (input_types slots) (drop next row)
 inputs-taken all s slots row n next x is e there more h =
     let first : AreIn (input_types (s ∷ slots)) (drop n row) = subst (λ y. AreIn (input_types y) (drop n row)) is h in
@@ -77,7 +82,8 @@ inputs-kept all s slots row n next is e same h =
     let one : AreIn (input_types slots) (drop n row) = subst (λ b. AreIn (cond b (s.ty ∷ input_types slots) (input_types slots)) (drop n row)) e first in
     subst (λ k. AreIn (input_types slots) (drop k row)) (sym same) one
 
-pub values-taken : (slots : List Slot) (i : ℕ) (s : Slot) (row before values : List ℤ) (n next : ℕ) (x b : ℤ) (w : List ℤ) → i < length slots → s ≡ get_or slots i s → is_input s.class ≡ true
+pub values-taken : (slots : List Slot) (i : ℕ) (s : Slot) (row before values : List ℤ) (n next : ℕ) (x b : ℤ) (w : List ℤ) → i < length slots
+    → s ≡ get_or slots i s → is_input s.class ≡ true
     → slice_get row n ≡ Some x → next ≡ n + 1 → slice_get before i ≡ Some b → i < length values
     → take i values ++ with_inputs (drop i slots) (drop n row) (drop i before) ≡ w
     → take (i + 1) (slice_set values i x) ++ with_inputs (drop (i + 1) slots) (drop next row) (drop (i + 1) before) ≡ w
@@ -89,12 +95,14 @@ values-taken slots i s row before values n next x b w lt is e there more kept in
     all ∙ ap (λ k. x ∷ with_inputs (drop (i + 1) slots) (drop k row) (drop (i + 1) before)) (sym more) in
     set-one values i x _ w inside (ap (λ t. take i values ++ t) (sym first) ∙ h)
 
-pub values-kept : (slots : List Slot) (i : ℕ) (s : Slot) (row before values : List ℤ) (n next : ℕ) (x b : ℤ) (w : List ℤ) → i < length slots → s ≡ get_or slots i s → is_input s.class ≡ false
+pub values-kept : (slots : List Slot) (i : ℕ) (s : Slot) (row before values : List ℤ) (n next : ℕ) (x b : ℤ) (w : List ℤ) → i < length slots
+    → s ≡ get_or slots i s → is_input s.class ≡ false
     → x ≡ b → next ≡ n → slice_get before i ≡ Some b → length before ≡ length slots → i < length values
     → take i values ++ with_inputs (drop i slots) (drop n row) (drop i before) ≡ w
     → take (i + 1) (slice_set values i x) ++ with_inputs (drop (i + 1) slots) (drop next row) (drop (i + 1) before) ≡ w
 values-kept slots i s row before values n next x b w lt is e stays same kept lengths inside h =
-    let long : length (drop (i + 1) slots) ≡ length (drop (i + 1) before) = length-drop (i + 1) slots ∙ ap (λ k. k - (i + 1)) (sym lengths) ∙ sym (length-drop (i + 1) before) in
+    let long : length (drop (i + 1) slots) ≡ length (drop (i + 1) before) = length-drop (i + 1) slots ∙ ap (λ k. k - (i + 1)) (sym lengths)
+    ∙ sym (length-drop (i + 1) before) in
     let all : with_inputs (drop i slots) (drop n row) (drop i before) ≡ b ∷ with_inputs (drop (i + 1) slots) (drop n row) (drop (i + 1) before) =
     (λ j. with_inputs (drop-at slots i s lt is j) (drop n row) (drop-item before i b kept j))
     ∙ kept-first s (drop (i + 1) slots) b (drop n row) (drop (i + 1) before) e long in
@@ -113,13 +121,16 @@ output-first s slots v m e = ap (λ b. cond b (v ∷ outputs slots m) (outputs s
 other-first : (s : Slot) (slots : List Slot) (v : ℤ) (m : List ℤ) → is_output s.class ≡ false → outputs (s ∷ slots) (v ∷ m) ≡ outputs slots m
 other-first s slots v m e = ap (λ b. cond b (v ∷ outputs slots m) (outputs slots m)) e
 
-pub cells-of-output : (all : List Slot) (s : Slot) (slots : List Slot) → all ≡ s ∷ slots → is_output s.class ≡ true → length (output_types all) ≡ suc (length (output_types slots))
+pub cells-of-output : (all : List Slot) (s : Slot) (slots : List Slot) → all ≡ s ∷ slots → is_output s.class ≡ true
+    → length (output_types all) ≡ suc (length (output_types slots))
 cells-of-output all s slots is e = ap (λ x. length (output_types x)) is ∙ ap (λ b. length (cond b (s.ty ∷ output_types slots) (output_types slots))) e
 
-pub cells-of-other : (all : List Slot) (s : Slot) (slots : List Slot) → all ≡ s ∷ slots → is_output s.class ≡ false → length (output_types all) ≡ length (output_types slots)
+pub cells-of-other : (all : List Slot) (s : Slot) (slots : List Slot) → all ≡ s ∷ slots → is_output s.class ≡ false
+    → length (output_types all) ≡ length (output_types slots)
 cells-of-other all s slots is e = ap (λ x. length (output_types x)) is ∙ ap (λ b. length (cond b (s.ty ∷ output_types slots) (output_types slots))) e
 
-pub outputs-put : (slots : List Slot) (i : ℕ) (s : Slot) (values out next_out : List ℤ) (n next : ℕ) (v : ℤ) (w : List ℤ) → i < length slots → s ≡ get_or slots i s → is_output s.class ≡ true
+pub outputs-put : (slots : List Slot) (i : ℕ) (s : Slot) (values out next_out : List ℤ) (n next : ℕ) (v : ℤ) (w : List ℤ) → i < length slots
+    → s ≡ get_or slots i s → is_output s.class ≡ true
     → slice_get values i ≡ Some v → n < length out → next_out ≡ slice_set out n v → next ≡ n + 1
     → take n out ++ outputs (drop i slots) (drop i values) ≡ w → take next next_out ++ outputs (drop (i + 1) slots) (drop (i + 1) values) ≡ w
 outputs-put slots i s values out next_out n next v w lt is e there inside put more h =
@@ -128,7 +139,8 @@ outputs-put slots i s values out next_out n next v w lt is e there inside put mo
     (λ j. take (more j) (put j) ++ outputs (drop (i + 1) slots) (drop (i + 1) values))
     ∙ set-one out n v _ w inside (ap (λ t. take n out ++ t) (sym first) ∙ h)
 
-pub outputs-left : (slots : List Slot) (i : ℕ) (s : Slot) (values out next_out : List ℤ) (n next : ℕ) (v : ℤ) (w : List ℤ) → i < length slots → s ≡ get_or slots i s → is_output s.class ≡ false
+pub outputs-left : (slots : List Slot) (i : ℕ) (s : Slot) (values out next_out : List ℤ) (n next : ℕ) (v : ℤ) (w : List ℤ) → i < length slots
+    → s ≡ get_or slots i s → is_output s.class ≡ false
     → slice_get values i ≡ Some v → next_out ≡ out → next ≡ n
     → take n out ++ outputs (drop i slots) (drop i values) ≡ w → take next next_out ++ outputs (drop (i + 1) slots) (drop (i + 1) values) ≡ w
 outputs-left slots i s values out next_out n next v w lt is e there put more h =
@@ -138,7 +150,8 @@ outputs-left slots i s values out next_out n next v w lt is e there put more h =
 
 -- ---- between two cycles
 
-pub stands : (p : Program) (values after next : List ℤ) (stop : Option Cause) (turns rest left : List Turn) (room capacity : ℕ) → ((s : Cause) → stop ≡ Some s → ⊥)
+pub stands : (p : Program) (values after next : List ℤ) (stop : Option Cause) (turns rest left : List Turn) (room capacity : ℕ)
+    → ((s : Cause) → stop ≡ Some s → ⊥)
     → Standing p values next stop turns rest room → AreFit p.slots after → left ≡ [] → capacity ≡ room → Standing p after values stop turns left capacity
 stands p values after next None turns rest left room capacity none h fit empty same = record {
   fit = fit;
@@ -154,8 +167,10 @@ which : (b : Bool) → (b ≡ true) ⊎ (b ≡ false)
 which true = inl refl
 which false = inr refl
 
-pub values-next : (slots : List Slot) (i : ℕ) (s : Slot) (row before values : List ℤ) (n next : ℕ) (x b : ℤ) (w : List ℤ) → i < length slots → s ≡ get_or slots i s
-    → (is_input s.class ≡ true → slice_get row n ≡ Some x) → (is_input s.class ≡ true → next ≡ n + 1) → (is_input s.class ≡ false → x ≡ b) → (is_input s.class ≡ false → next ≡ n)
+pub values-next : (slots : List Slot) (i : ℕ) (s : Slot) (row before values : List ℤ) (n next : ℕ) (x b : ℤ) (w : List ℤ) → i < length slots
+    → s ≡ get_or slots i s
+    → (is_input s.class ≡ true → slice_get row n ≡ Some x) → (is_input s.class ≡ true → next ≡ n + 1) → (is_input s.class ≡ false → x ≡ b)
+    → (is_input s.class ≡ false → next ≡ n)
     → slice_get before i ≡ Some b → length before ≡ length slots → i < length values
     → take i values ++ with_inputs (drop i slots) (drop n row) (drop i before) ≡ w
     → take (i + 1) (slice_set values i x) ++ with_inputs (drop (i + 1) slots) (drop next row) (drop (i + 1) before) ≡ w
@@ -178,35 +193,42 @@ at-most-one b n next i more same le = elim (which b) [
   | inr e ↦ (let h : next ≡ n = same e in omega (arith, h, le))
 ]
 
-pub outputs-next : (slots : List Slot) (i : ℕ) (s : Slot) (values out next_out : List ℤ) (n next : ℕ) (v : ℤ) (w : List ℤ) → i < length slots → s ≡ get_or slots i s
-    → (is_output s.class ≡ true → next_out ≡ slice_set out n v) → (is_output s.class ≡ true → next ≡ n + 1) → (is_output s.class ≡ false → next_out ≡ out) → (is_output s.class ≡ false → next ≡ n)
+pub outputs-next : (slots : List Slot) (i : ℕ) (s : Slot) (values out next_out : List ℤ) (n next : ℕ) (v : ℤ) (w : List ℤ) → i < length slots
+    → s ≡ get_or slots i s
+    → (is_output s.class ≡ true → next_out ≡ slice_set out n v) → (is_output s.class ≡ true → next ≡ n + 1) → (is_output s.class ≡ false → next_out ≡ out)
+    → (is_output s.class ≡ false → next ≡ n)
     → slice_get values i ≡ Some v → n + length (output_types (drop i slots)) ≡ length out
     → take n out ++ outputs (drop i slots) (drop i values) ≡ w → take next next_out ++ outputs (drop (i + 1) slots) (drop (i + 1) values) ≡ w
 outputs-next slots i s values out next_out n next v w lt is put more left same there cells h = elim (which (is_output s.class)) [
   | inl e ↦
-      (let more_cells : length (output_types (drop i slots)) ≡ suc (length (output_types (drop (i + 1) slots))) = cells-of-output (drop i slots) s (drop (i + 1) slots) (drop-at slots i s lt is) e in
+      (let more_cells : length (output_types (drop i slots)) ≡ suc (length (output_types (drop (i + 1) slots))) =
+      cells-of-output (drop i slots) s (drop (i + 1) slots) (drop-at slots i s lt is) e in
       let inside : n < length out = omega (arith, more_cells, cells) in
       outputs-put slots i s values out next_out n next v w lt is e there inside (put e) (more e) h)
   | inr e ↦ outputs-left slots i s values out next_out n next v w lt is e there (left e) (same e) h
 ]
 
 pub cells-next : (slots : List Slot) (i : ℕ) (s : Slot) (out next_out : List ℤ) (n next : ℕ) (v : ℤ) → i < length slots → s ≡ get_or slots i s
-    → (is_output s.class ≡ true → next_out ≡ slice_set out n v) → (is_output s.class ≡ true → next ≡ n + 1) → (is_output s.class ≡ false → next_out ≡ out) → (is_output s.class ≡ false → next ≡ n)
+    → (is_output s.class ≡ true → next_out ≡ slice_set out n v) → (is_output s.class ≡ true → next ≡ n + 1) → (is_output s.class ≡ false → next_out ≡ out)
+    → (is_output s.class ≡ false → next ≡ n)
     → n + length (output_types (drop i slots)) ≡ length out → next + length (output_types (drop (i + 1) slots)) ≡ length next_out
 cells-next slots i s out next_out n next v lt is put more left same cells = elim (which (is_output s.class)) [
   | inl e ↦
-      (let more_cells : length (output_types (drop i slots)) ≡ suc (length (output_types (drop (i + 1) slots))) = cells-of-output (drop i slots) s (drop (i + 1) slots) (drop-at slots i s lt is) e in
+      (let more_cells : length (output_types (drop i slots)) ≡ suc (length (output_types (drop (i + 1) slots))) =
+      cells-of-output (drop i slots) s (drop (i + 1) slots) (drop-at slots i s lt is) e in
       let long : length next_out ≡ length out = ap length (put e) ∙ length-set out n v in
       let h : next ≡ n + 1 = more e in
       omega (arith, more_cells, long, h, cells))
   | inr e ↦
-      (let cells_left : length (output_types (drop i slots)) ≡ length (output_types (drop (i + 1) slots)) = cells-of-other (drop i slots) s (drop (i + 1) slots) (drop-at slots i s lt is) e in
+      (let cells_left : length (output_types (drop i slots)) ≡ length (output_types (drop (i + 1) slots)) =
+      cells-of-other (drop i slots) s (drop (i + 1) slots) (drop-at slots i s lt is) e in
       let long : length next_out ≡ length out = ap length (left e) in
       let h : next ≡ n = same e in
       omega (arith, cells_left, long, h, cells))
 ]
 
-pub starts : (p : Program) (values zeros : List ℤ) (turns rest : List Turn) (d cap : ℕ) → AreFit p.slots values → length zeros ≡ length p.slots → turns ≡ [] → rest ≡ [] → d ≡ cut (stmts_depth p.body)
+pub starts : (p : Program) (values zeros : List ℤ) (turns rest : List Turn) (d cap : ℕ) → AreFit p.slots values → length zeros ≡ length p.slots → turns ≡ []
+    → rest ≡ [] → d ≡ cut (stmts_depth p.body)
     → stmts_size p.body ≤ most_size → d ≤ cap → Standing p values zeros None turns rest cap
 starts p values zeros turns rest d cap fit long none empty depth few room =
     let low : stmts_depth p.body ≤ stmts_size p.body = depth-of-stmts p.body in

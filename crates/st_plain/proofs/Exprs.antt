@@ -1,5 +1,6 @@
 -- The values of expressions, part by part.
-use Rattle.std.proofs.Common.{◌≡◌, ℕ, zero, suc, ◌≤◌, ◌<◌, ℤ, pos, true, List, [], ◌∷◌, length, get_or, slice_get, Option, Some, None, Result, Ok, Err, refl, sym, ap, ◌∙◌, subst, arith}
+use Rattle.std.proofs.Common.{◌≡◌, ℕ, zero, suc, ◌≤◌, ◌<◌, ℤ, pos, true, List, [], ◌∷◌, length, get_or, slice_get, Option, Some, None, Result, Ok, Err, refl}
+use Rattle.std.proofs.Common.{sym, ap, ◌∙◌, subst, arith}
 use Rattle.std.specs.Prelude.{IfOk}
 use Rattle.std.proofs.lemmas.Option.{get_or_from_slice_get}
 use Rattle.vcp_base.specs.declared.spot.Spot.{Spot}
@@ -27,7 +28,8 @@ use Rattle.st_plain.specs.Weight.{expr_weight, exprs_weight}
 
 -- the law that values are in their types
 abbrev pub ValuesFit : Type 0
-ValuesFit = (slots : List Slot) (e : TExprTree) (turns : List Turn) (m : List ℤ) → IsExpr slots e → AreFit slots m → IfOk (value turns e m) (λ v. fits (ty_of e) v ≡ true)
+ValuesFit = (slots : List Slot) (e : TExprTree) (turns : List Turn) (m : List ℤ) → IsExpr slots e → AreFit slots m → IfOk (value turns e m)
+    (λ v. fits (ty_of e) v ≡ true)
 
 -- ---- slots
 
@@ -66,22 +68,26 @@ not-operand law e op t a s m v is h r not =
 
 -- ---- arguments
 
-pub argument-sound : (es : List TExpr) (i : ℕ) (e : TExpr) (m : List ℤ) → i < length es → e ≡ get_or es i e → SoundExprs (texpr_trees es) m → SoundExpr (texpr_tree e) m
+pub argument-sound : (es : List TExpr) (i : ℕ) (e : TExpr) (m : List ℤ) → i < length es → e ≡ get_or es i e → SoundExprs (texpr_trees es) m
+    → SoundExpr (texpr_tree e) m
 argument-sound es i e m lt is h = record { slots = h.slots; typed = typed-at h.slots es i e lt is h.typed; fit = h.fit }
   where
-    typed-at : (slots : List Slot) (es : List TExpr) (i : ℕ) (e : TExpr) → i < length es → e ≡ get_or es i e → AreExprs slots (texpr_trees es) → IsExpr slots (texpr_tree e)
+    typed-at : (slots : List Slot) (es : List TExpr) (i : ℕ) (e : TExpr) → i < length es → e ≡ get_or es i e → AreExprs slots (texpr_trees es)
+        → IsExpr slots (texpr_tree e)
     typed-at slots [] i e lt is h = absurd (omega (arith, lt))
     typed-at slots (x ∷ xs) zero e lt is h = subst (λ y. IsExpr slots (texpr_tree y)) (sym is) h.0
     typed-at slots (x ∷ xs) (suc i) e lt is h = let k : i < length xs = omega (arith, lt) in typed-at slots xs i e k is h.1
 
-pub argument-is : (es : List TExpr) (i : ℕ) (e : TExpr) (m : List ℤ) → i < length es → e ≡ get_or es i e → argument_at (texpr_trees es) i m ≡ value [] (texpr_tree e) m
+pub argument-is : (es : List TExpr) (i : ℕ) (e : TExpr) (m : List ℤ) → i < length es → e ≡ get_or es i e
+    → argument_at (texpr_trees es) i m ≡ value [] (texpr_tree e) m
 argument-is [] i e m lt is = absurd (omega (arith, lt))
 argument-is (x ∷ xs) zero e m lt is = ap (λ y. value [] (texpr_tree y) m) (sym is)
 argument-is (x ∷ xs) (suc i) e m lt is = let k : i < length xs = omega (arith, lt) in argument-is xs i e m k is
 
 pub argument-lighter : (es : List TExpr) (i : ℕ) (e : TExpr) → i < length es → e ≡ get_or es i e → expr_weight (texpr_tree e) < exprs_weight (texpr_trees es)
 argument-lighter [] i e lt is = absurd (omega (arith, lt))
-argument-lighter (x ∷ xs) zero e lt is = let same : expr_weight (texpr_tree e) ≡ expr_weight (texpr_tree x) = ap (λ y. expr_weight (texpr_tree y)) is in omega (arith, same)
+argument-lighter (x ∷ xs) zero e lt is = let same : expr_weight (texpr_tree e) ≡ expr_weight (texpr_tree x) = ap (λ y. expr_weight (texpr_tree y)) is in
+    omega (arith, same)
 argument-lighter (x ∷ xs) (suc i) e lt is =
     let k : i < length xs = omega (arith, lt) in
     let h : expr_weight (texpr_tree e) < exprs_weight (texpr_trees xs) = argument-lighter xs i e k is in
@@ -210,7 +216,8 @@ with-two (Ok a) (Err s) k next h = refl
 with-two (Err s) y k next h = refl
 
 with-three : (x y z : Result ℤ Stop) (k : List ℤ → Result ℤ Stop) (next : ℤ → ℤ → ℤ → Result ℤ Stop) → ((a b c : ℤ) → k (a ∷ b ∷ c ∷ []) ≡ next a b c)
-    → and_then (and_then x (λ v. and_then (and_then y (λ w. and_then (and_then z (λ u. Ok (u ∷ []))) (λ vs. Ok (w ∷ vs)))) (λ vs. Ok (v ∷ vs)))) k ≡ in-turn x y z next
+    → and_then (and_then x (λ v. and_then (and_then y (λ w. and_then (and_then z (λ u. Ok (u ∷ []))) (λ vs. Ok (w ∷ vs)))) (λ vs. Ok (v ∷ vs)))) k
+    ≡ in-turn x y z next
 with-three (Ok a) (Ok b) (Ok c) k next h = h a b c
 with-three (Ok a) (Ok b) (Err s) k next h = refl
 with-three (Ok a) (Err s) z k next h = refl
@@ -218,11 +225,13 @@ with-three (Err s) y z k next h = refl
 
 -- the value of a function, from those of three arguments
 applied : (f : Fun) (t : Ty) (s : Spot) (es : TExprTrees) (m : List ℤ) → length (tys_of es) ≤ 3
-    → and_then (values [] es m) (λ vs. apply f t s [] vs) ≡ in-turn (argument_at es 0 m) (argument_at es 1 m) (argument_at es 2 m) (λ a b c. apply f t s [] (a ∷ b ∷ c ∷ []))
+    → and_then (values [] es m) (λ vs. apply f t s [] vs)
+    ≡ in-turn (argument_at es 0 m) (argument_at es 1 m) (argument_at es 2 m) (λ a b c. apply f t s [] (a ∷ b ∷ c ∷ []))
 applied f t s no_texprs m le = apply-none f t s
 applied f t s (and_texpr d no_texprs) m le = with-one (value [] d m) _ (λ a b c. apply f t s [] (a ∷ b ∷ c ∷ [])) (apply-one f t s)
 applied f t s (and_texpr d (and_texpr e no_texprs)) m le = with-two (value [] d m) (value [] e m) _ (λ a b c. apply f t s [] (a ∷ b ∷ c ∷ [])) (apply-two f t s)
-applied f t s (and_texpr d (and_texpr e (and_texpr g no_texprs))) m le = with-three (value [] d m) (value [] e m) (value [] g m) _ (λ a b c. apply f t s [] (a ∷ b ∷ c ∷ [])) (λ a b c. refl)
+applied f t s (and_texpr d (and_texpr e (and_texpr g no_texprs))) m le =
+    with-three (value [] d m) (value [] e m) (value [] g m) _ (λ a b c. apply f t s [] (a ∷ b ∷ c ∷ [])) (λ a b c. refl)
 applied f t s (and_texpr d (and_texpr e (and_texpr g (and_texpr x es)))) m le = absurd (omega (arith, le))
 
 value-of-call : (e : TExprTree) (f : Fun) (t : Ty) (es : TExprTrees) (s : Spot) (m : List ℤ) → e ≡ call f t es s → SoundExpr e m

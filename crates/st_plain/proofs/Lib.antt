@@ -5,4 +5,3 @@ pub mod Stmts
 pub mod Runs
 pub mod Cells
 pub mod Worked
-pub mod FifthPower

@@ -1,5 +1,6 @@
 -- What statements do, part by part.
-use Rattle.std.proofs.Common.{◌≡◌, ℕ, zero, suc, ◌+◌, ◌<◌, add-one, drop-cons, w64, SFits, of_z, ℤ, pos, negsuc, ◌+ℤ◌, true, false, cond, List, [], ◌∷◌, ◌++◌, length, drop, get_or, slice_get, slice_set, Some, Result, Ok, Err, refl, sym, ap, ◌∙◌, subst, arith}
+use Rattle.std.proofs.Common.{◌≡◌, ℕ, zero, suc, ◌+◌, ◌<◌, add-one, drop-cons, w64, SFits, of_z, ℤ, pos, negsuc, ◌+ℤ◌, true, false, cond, List, [], ◌∷◌, ◌++◌}
+use Rattle.std.proofs.Common.{length, drop, get_or, slice_get, slice_set, Some, Result, Ok, Err, refl, sym, ap, ◌∙◌, subst, arith}
 use Rattle.std.specs.Prelude.{IfOk}
 use Rattle.vcp_base.specs.declared.spot.Spot.{Spot}
 use Rattle.vcp_base.specs.declared.turns.Turn.{Turn}
@@ -15,11 +16,13 @@ use Rattle.vcp_typed.specs.declared.stmt.TBranch.{TBranch}
 use Rattle.vcp_typed.specs.declared.stmt.TStmt.{TStmt}
 use Rattle.vcp_typed.specs.TExprTree.{TExprTree, TExprTrees, literal, get, widen, unary, binary, call, no_texprs, and_texpr}
 use Rattle.vcp_typed.specs.TExprViews.{texpr_tree}
-use Rattle.vcp_typed.specs.TStmtTree.{TStmtTree, TStmtTrees, TArmTrees, TBranchTrees, TOtherTree, assign, if_, case, for_, no_tstmts, and_tstmt, no_tarms, and_tarm, no_tbranches, and_tbranch}
+use Rattle.vcp_typed.specs.TStmtTree.{TStmtTree, TStmtTrees, TArmTrees, TBranchTrees, TOtherTree, assign, if_, case, for_, no_tstmts, and_tstmt, no_tarms}
+use Rattle.vcp_typed.specs.TStmtTree.{and_tarm, no_tbranches, and_tbranch}
 use Rattle.vcp_typed.specs.TStmtViews.{tstmt_tree, tstmt_trees, tarm_trees, tbranch_trees}
 use Rattle.vcp_typed.specs.Checked.{ty_of, AreTurns, IsStmt, AreStmts, AreArms, AreBranches}
 use Rattle.vcp_typed.specs.Fitting.{AreFit}
-use Rattle.vcp_typed.specs.Meaning.{Stop, and_then, stop, in_range, unless_zero, operate, sign, apply, value, values, turns_from, all_turns, do_stmt, do_stmts, do_arms, do_branches, do_other}
+use Rattle.vcp_typed.specs.Meaning.{Stop, and_then, stop, in_range, unless_zero, operate, sign, apply, value, values, turns_from, all_turns, do_stmt, do_stmts}
+use Rattle.vcp_typed.specs.Meaning.{do_arms, do_branches, do_other}
 use Rattle.vcp_base.specs.Values.{at}
 use Rattle.st_tree.specs.declared.expr.UnOp.{UnOp}
 use Rattle.st_tree.specs.declared.expr.UnOp.TheVariants as un
@@ -37,7 +40,8 @@ use Rattle.st_plain.proofs.Wide.{not-zero}
 
 -- the law that statements keep values in the types of their slots
 abbrev pub BodyFits : Type 0
-BodyFits = (slots : List Slot) (held : List ℕ) (ss : TStmtTrees) (turns : List Turn) (m : List ℤ) → AreStmts slots held ss → AreFit slots m → IfOk (do_stmts turns ss m) (AreFit slots)
+BodyFits = (slots : List Slot) (held : List ℕ) (ss : TStmtTrees) (turns : List Turn) (m : List ℤ) → AreStmts slots held ss → AreFit slots m → IfOk
+    (do_stmts turns ss m) (AreFit slots)
 
 -- ---- the turns of a stop
 
@@ -46,15 +50,18 @@ abbrev inside : {A : Type 0} → List Turn → Result A Stop → Result A Stop
 inside turns (Ok v) = Ok v
 inside turns (Err s) = Err (record { kind = s.kind; spot = s.spot; turns = turns })
 
-inside-then : {A B : Type 0} (turns : List Turn) (r u : Result A Stop) (next after : A → Result B Stop) → u ≡ inside turns r → ((x : A) → after x ≡ inside turns (next x))
+inside-then : {A B : Type 0} (turns : List Turn) (r u : Result A Stop) (next after : A → Result B Stop) → u ≡ inside turns r
+    → ((x : A) → after x ≡ inside turns (next x))
     → and_then u after ≡ inside turns (and_then r next)
 inside-then turns (Ok x) u next after e h = ap (λ y. and_then y after) e ∙ h x
 inside-then turns (Err s) u next after e h = ap (λ y. and_then y after) e
 
 inside-range : (turns : List Turn) (t : Ty) (s : Spot) (v : ℤ) → in_range t s turns v ≡ inside turns (in_range t s [] v)
-inside-range turns t s v = elim (fits t v) as (λ b. cond b (Ok v) (stop why.Range s turns) ≡ inside turns (cond b (Ok v) (stop why.Range s []))) [ true ↦ refl | false ↦ refl ]
+inside-range turns t s v =
+    elim (fits t v) as (λ b. cond b (Ok v) (stop why.Range s turns) ≡ inside turns (cond b (Ok v) (stop why.Range s []))) [ true ↦ refl | false ↦ refl ]
 
-inside-zero : (turns : List Turn) (t : Ty) (s : Spot) (b v : ℤ) → unless_zero b s turns (in_range t s turns v) ≡ inside turns (unless_zero b s [] (in_range t s [] v))
+inside-zero : (turns : List Turn) (t : Ty) (s : Spot) (b v : ℤ)
+    → unless_zero b s turns (in_range t s turns v) ≡ inside turns (unless_zero b s [] (in_range t s [] v))
 inside-zero turns t s b v =
     elim (same b (pos 0)) as (λ z. cond z (stop why.DivZero s turns) (in_range t s turns v) ≡ inside turns (cond z (stop why.DivZero s []) (in_range t s [] v)))
     [ true ↦ refl | false ↦ inside-range turns t s v ]
@@ -102,7 +109,8 @@ mutual
   inside-value turns (binary op t a b s) m =
       inside-then turns (value [] a m) (value turns a m) _ _ (inside-value turns a m)
       (λ x. inside-then turns (value [] b m) (value turns b m) _ _ (inside-value turns b m) (λ y. inside-operator turns op t s x y))
-  inside-value turns (call f t es s) m = inside-then turns (values [] es m) (values turns es m) _ _ (inside-values turns es m) (λ vs. inside-function turns f t s vs)
+  inside-value turns (call f t es s) m =
+      inside-then turns (values [] es m) (values turns es m) _ _ (inside-values turns es m) (λ vs. inside-function turns f t s vs)
 
   inside-values : (turns : List Turn) (es : TExprTrees) (m : List ℤ) → values turns es m ≡ inside turns (values [] es m)
   inside-values turns no_texprs m = refl
@@ -114,7 +122,8 @@ mutual
 pub value-ok : (turns : List Turn) (e : TExprTree) (m : List ℤ) (v : ℤ) → Ok v ≡ value [] e m → value turns e m ≡ Ok v
 value-ok turns e m v h = inside-value turns e m ∙ ap (λ r. inside turns r) (sym h)
 
-pub value-err : (turns : List Turn) (e : TExprTree) (m : List ℤ) (s : Cause) → Err (within_turns [] s) ≡ value [] e m → value turns e m ≡ Err (within_turns turns s)
+pub value-err : (turns : List Turn) (e : TExprTree) (m : List ℤ) (s : Cause) → Err (within_turns [] s) ≡ value [] e m
+    → value turns e m ≡ Err (within_turns turns s)
 value-err turns e m s h = inside-value turns e m ∙ ap (λ r. inside turns r) (sym h)
 
 -- ---- assignments
@@ -160,17 +169,20 @@ case-on s e b o sp m is h =
     let typed : IsStmt h.slots h.held (case e b o sp) = subst (λ x. IsStmt h.slots h.held x) is h.typed in
     record { slots = h.slots; typed = typed.0; fit = h.fit }
 
-pub case-branches : (s : TStmtTree) (e : TExprTree) (b : TBranchTrees) (o : TOtherTree) (sp : Spot) (m : List ℤ) → s ≡ case e b o sp → SoundStmt s m → SoundBranches b m
+pub case-branches : (s : TStmtTree) (e : TExprTree) (b : TBranchTrees) (o : TOtherTree) (sp : Spot) (m : List ℤ) → s ≡ case e b o sp → SoundStmt s m
+    → SoundBranches b m
 case-branches s e b o sp m is h =
     let typed : IsStmt h.slots h.held (case e b o sp) = subst (λ x. IsStmt h.slots h.held x) is h.typed in
     record { slots = h.slots; held = h.held; of = ty_of e; typed = typed.2; fit = h.fit }
 
-pub case-other : (s : TStmtTree) (e : TExprTree) (b : TBranchTrees) (o : TOtherTree) (sp : Spot) (m next : List ℤ) → s ≡ case e b o sp → SoundStmt s m → next ≡ m → SoundOther o next
+pub case-other : (s : TStmtTree) (e : TExprTree) (b : TBranchTrees) (o : TOtherTree) (sp : Spot) (m next : List ℤ) → s ≡ case e b o sp → SoundStmt s m
+    → next ≡ m → SoundOther o next
 case-other s e b o sp m next is h same =
     let typed : IsStmt h.slots h.held (case e b o sp) = subst (λ x. IsStmt h.slots h.held x) is h.typed in
     record { slots = h.slots; held = h.held; typed = typed.3; fit = subst (λ x. AreFit h.slots x) (sym same) h.fit }
 
-pub case-is : (turns : List Turn) (s : TStmtTree) (e : TExprTree) (b : TBranchTrees) (o : TOtherTree) (sp : Spot) (m : List ℤ) (v : ℤ) (r : Result (List ℤ) Stop) → s ≡ case e b o sp
+pub case-is : (turns : List Turn) (s : TStmtTree) (e : TExprTree) (b : TBranchTrees) (o : TOtherTree) (sp : Spot) (m : List ℤ) (v : ℤ)
+    (r : Result (List ℤ) Stop) → s ≡ case e b o sp
     → Ok v ≡ value [] e m → r ≡ do_branches turns v b (do_other turns o) m → r ≡ do_stmt turns s m
 case-is turns s e b o sp m v r is on h =
     h ∙ sym (ap (λ x. do_stmt turns x m) is ∙ ap (λ x. and_then x (λ w. do_branches turns w b (do_other turns o) m)) (value-ok turns e m v on))
@@ -182,22 +194,26 @@ case-err turns s e b o sp m d is on =
 
 -- ---- FOR
 
-pub for-inside : (s : TStmtTree) (slot : ℕ) (first by : ℤ) (n : ℕ) (body : TStmtTrees) (sp : Spot) (m : List ℤ) → s ≡ for_ slot first by n body sp → SoundStmt s m → slot < length m
+pub for-inside : (s : TStmtTree) (slot : ℕ) (first by : ℤ) (n : ℕ) (body : TStmtTrees) (sp : Spot) (m : List ℤ) → s ≡ for_ slot first by n body sp
+    → SoundStmt s m → slot < length m
 for-inside s slot first by n body sp m is h =
     let typed : IsStmt h.slots h.held (for_ slot first by n body sp) = subst (λ x. IsStmt h.slots h.held x) is h.typed in
     fit-inside h.slots m slot typed.1.of typed.1.there h.fit
 
-pub for-sound : (s : TStmtTree) (slot : ℕ) (first by : ℤ) (n : ℕ) (body : TStmtTrees) (sp : Spot) (m : List ℤ) → s ≡ for_ slot first by n body sp → SoundStmt s m
+pub for-sound : (s : TStmtTree) (slot : ℕ) (first by : ℤ) (n : ℕ) (body : TStmtTrees) (sp : Spot) (m : List ℤ) → s ≡ for_ slot first by n body sp
+    → SoundStmt s m
     → SoundTurns slot first by n body m
 for-sound s slot first by n body sp m is h =
     let typed : IsStmt h.slots h.held (for_ slot first by n body sp) = subst (λ x. IsStmt h.slots h.held x) is h.typed in
     record { slots = h.slots; held = h.held; of = typed.0; set = typed.1; values = typed.4; typed = typed.5; fit = h.fit }
 
-pub for-none : (turns : List Turn) (s : TStmtTree) (slot : ℕ) (first by : ℤ) (n : ℕ) (body : TStmtTrees) (sp : Spot) (m : List ℤ) → s ≡ for_ slot first by n body sp → n ≡ 0
+pub for-none : (turns : List Turn) (s : TStmtTree) (slot : ℕ) (first by : ℤ) (n : ℕ) (body : TStmtTrees) (sp : Spot) (m : List ℤ)
+    → s ≡ for_ slot first by n body sp → n ≡ 0
     → Ok (slice_set m slot first) ≡ do_stmt turns s m
 for-none turns s slot first by n body sp m is none = sym (ap (λ x. do_stmt turns x m) is ∙ ap (λ k. do_stmt turns (for_ slot first by k body sp) m) none)
 
-pub for-some : (turns : List Turn) (s : TStmtTree) (slot : ℕ) (first by : ℤ) (n : ℕ) (body : TStmtTrees) (sp : Spot) (m : List ℤ) (r : Result (List ℤ) Stop) → s ≡ for_ slot first by n body sp
+pub for-some : (turns : List Turn) (s : TStmtTree) (slot : ℕ) (first by : ℤ) (n : ℕ) (body : TStmtTrees) (sp : Spot) (m : List ℤ) (r : Result (List ℤ) Stop)
+    → s ≡ for_ slot first by n body sp
     → r ≡ all_turns slot first by n (λ v. do_stmts (turns ++ record { name = slot; value = v } ∷ []) body) m → r ≡ do_stmt turns s m
 for-some turns s slot first by n body sp m r is h = h ∙ sym (ap (λ x. do_stmt turns x m) is)
 
@@ -206,12 +222,14 @@ for-some turns s slot first by n body sp m r is h = h ∙ sym (ap (λ x. do_stmt
 drop-at : {X : Type 0} (xs : List X) (i : ℕ) (x : X) → i < length xs → x ≡ get_or xs i x → drop i xs ≡ x ∷ drop (i + 1) xs
 drop-at xs i x lt is = rw (add-one, drop-cons xs i x) (ap (λ y. y ∷ drop (suc i) xs) (sym is))
 
-pub stmts-at : (ss : List TStmt) (i : ℕ) (s : TStmt) → i < length ss → s ≡ get_or ss i s → tstmt_trees (drop i ss) ≡ and_tstmt (tstmt_tree s) (tstmt_trees (drop (i + 1) ss))
+pub stmts-at : (ss : List TStmt) (i : ℕ) (s : TStmt) → i < length ss → s ≡ get_or ss i s
+    → tstmt_trees (drop i ss) ≡ and_tstmt (tstmt_tree s) (tstmt_trees (drop (i + 1) ss))
 stmts-at ss i s lt is = ap tstmt_trees (drop-at ss i s lt is)
 
 pub stmt-lighter : (ss : List TStmt) (i : ℕ) (s : TStmt) → i < length ss → s ≡ get_or ss i s → stmt_weight (tstmt_tree s) < stmts_weight (tstmt_trees ss)
 stmt-lighter [] i s lt is = absurd (omega (arith, lt))
-stmt-lighter (x ∷ xs) zero s lt is = let same : stmt_weight (tstmt_tree s) ≡ stmt_weight (tstmt_tree x) = ap (λ y. stmt_weight (tstmt_tree y)) is in omega (arith, same)
+stmt-lighter (x ∷ xs) zero s lt is = let same : stmt_weight (tstmt_tree s) ≡ stmt_weight (tstmt_tree x) = ap (λ y. stmt_weight (tstmt_tree y)) is in
+    omega (arith, same)
 stmt-lighter (x ∷ xs) (suc i) s lt is =
     let k : i < length xs = omega (arith, lt) in
     let h : stmt_weight (tstmt_tree s) < stmts_weight (tstmt_trees xs) = stmt-lighter xs i s k is in
@@ -234,7 +252,8 @@ pub stmts-next : (turns : List Turn) (all : TStmtTrees) (s : TStmtTree) (ss : TS
     → do_stmts turns all m ≡ w → Ok next ≡ do_stmt turns s m → do_stmts turns ss next ≡ w
 stmts-next turns all s ss m next w is h e = ap (λ r. and_then r (λ x. do_stmts turns ss x)) e ∙ sym (ap (λ x. do_stmts turns x m) is) ∙ h
 
-pub stmts-err : (turns : List Turn) (all : TStmtTrees) (s : TStmtTree) (ss : TStmtTrees) (m : List ℤ) (d : Stop) (w : Result (List ℤ) Stop) → all ≡ and_tstmt s ss
+pub stmts-err : (turns : List Turn) (all : TStmtTrees) (s : TStmtTree) (ss : TStmtTrees) (m : List ℤ) (d : Stop) (w : Result (List ℤ) Stop)
+    → all ≡ and_tstmt s ss
     → do_stmts turns all m ≡ w → Err d ≡ do_stmt turns s m → Err d ≡ w
 stmts-err turns all s ss m d w is h e = ap (λ r. and_then r (λ x. do_stmts turns ss x)) e ∙ sym (ap (λ x. do_stmts turns x m) is) ∙ h
 
@@ -248,7 +267,8 @@ pub arm-lighter : (arms : List TArm) (i : ℕ) (a : TArm) → i < length arms �
     → 1 + stmts_weight (tstmt_trees a.body.items.items) < arms_weight (tarm_trees arms)
 arm-lighter [] i a lt is = absurd (omega (arith, lt))
 arm-lighter (x ∷ xs) zero a lt is =
-    let same : stmts_weight (tstmt_trees a.body.items.items) ≡ stmts_weight (tstmt_trees x.body.items.items) = ap (λ (y : TArm). stmts_weight (tstmt_trees y.body.items.items)) is in
+    let same : stmts_weight (tstmt_trees a.body.items.items) ≡ stmts_weight (tstmt_trees x.body.items.items) =
+    ap (λ (y : TArm). stmts_weight (tstmt_trees y.body.items.items)) is in
     omega (arith, same)
 arm-lighter (x ∷ xs) (suc i) a lt is =
     let k : i < length xs = omega (arith, lt) in
@@ -261,19 +281,23 @@ arms-first all e b sp rest m is h =
     let typed : AreArms h.slots h.held (and_tarm e b sp rest) = subst (λ x. AreArms h.slots h.held x) is h.typed in
     record { slots = h.slots; held = h.held; typed = (typed.0, typed.1, typed.2, tt); fit = h.fit }
 
-pub arms-rest : (all : TArmTrees) (e : TExprTree) (b : TStmtTrees) (sp : Spot) (rest : TArmTrees) (m next : List ℤ) → all ≡ and_tarm e b sp rest → SoundArms all m → next ≡ m
+pub arms-rest : (all : TArmTrees) (e : TExprTree) (b : TStmtTrees) (sp : Spot) (rest : TArmTrees) (m next : List ℤ) → all ≡ and_tarm e b sp rest
+    → SoundArms all m → next ≡ m
     → SoundArms rest next
 arms-rest all e b sp rest m next is h same =
     let typed : AreArms h.slots h.held (and_tarm e b sp rest) = subst (λ x. AreArms h.slots h.held x) is h.typed in
     record { slots = h.slots; held = h.held; typed = typed.3; fit = subst (λ x. AreFit h.slots x) (sym same) h.fit }
 
-pub arms-step : (t u : List Turn) (all : TArmTrees) (e : TExprTree) (b : TStmtTrees) (sp : Spot) (rest : TArmTrees) (m n : List ℤ) (o : Doing) (r w : Result (List ℤ) Stop)
+pub arms-step : (t u : List Turn) (all : TArmTrees) (e : TExprTree) (b : TStmtTrees) (sp : Spot) (rest : TArmTrees) (m n : List ℤ) (o : Doing)
+    (r w : Result (List ℤ) Stop)
     → all ≡ and_tarm e b sp rest → t ≡ u → m ≡ n → r ≡ do_arms t (and_tarm e b sp no_tarms) (do_arms u rest o) m → do_arms u all o n ≡ w → r ≡ w
 arms-step t u all e b sp rest m n o r w is et em h whole =
     h ∙ (λ i. do_arms (et i) (and_tarm e b sp no_tarms) (do_arms u rest o) (em i)) ∙ sym (ap (λ x. do_arms u x o n) is) ∙ whole
 
-pub arms-over : (t u : List Turn) (all : TArmTrees) (e : TExprTree) (b : TStmtTrees) (sp : Spot) (rest : TArmTrees) (m n next : List ℤ) (o : Doing) (w : Result (List ℤ) Stop)
-    → all ≡ and_tarm e b sp rest → t ≡ u → m ≡ n → next ≡ m → do_arms u rest o next ≡ do_arms t (and_tarm e b sp no_tarms) (do_arms u rest o) m → do_arms u all o n ≡ w
+pub arms-over : (t u : List Turn) (all : TArmTrees) (e : TExprTree) (b : TStmtTrees) (sp : Spot) (rest : TArmTrees) (m n next : List ℤ) (o : Doing)
+    (w : Result (List ℤ) Stop)
+    → all ≡ and_tarm e b sp rest → t ≡ u → m ≡ n → next ≡ m → do_arms u rest o next ≡ do_arms t (and_tarm e b sp no_tarms) (do_arms u rest o) m
+    → do_arms u all o n ≡ w
     → do_arms u rest o n ≡ w
 arms-over t u all e b sp rest m n next o w is et em same h whole =
     sym (ap (λ x. do_arms u rest o x) (same ∙ em)) ∙ arms-step t u all e b sp rest m n o _ w is et em h whole
@@ -289,12 +313,15 @@ arm-err t e b sp m d o h = sym (ap (λ r. and_then r (λ v. cond (same v (pos 0)
 pub arm-not : (t : List Turn) (e : TExprTree) (b : TStmtTrees) (sp : Spot) (m : List ℤ) (v : ℤ) (o : Doing) → Ok v ≡ value [] e m → SFits w64 v → of_z w64 v ≡ 0
     → o m ≡ do_arms t (and_tarm e b sp no_tarms) o m
 arm-not t e b sp m v o h f z =
-    sym (ap (λ r. and_then r (λ x. cond (same x (pos 0)) (o m) (do_stmts t b m))) (value-ok t e m v h) ∙ ap (λ x. cond x (o m) (do_stmts t b m)) (is-zero v f z))
+    sym (ap (λ r. and_then r (λ x. cond (same x (pos 0)) (o m) (do_stmts t b m))) (value-ok t e m v h)
+    ∙ ap (λ x. cond x (o m) (do_stmts t b m)) (is-zero v f z))
 
-pub arm-is : (t : List Turn) (e : TExprTree) (b : TStmtTrees) (sp : Spot) (m : List ℤ) (v : ℤ) (o : Doing) (r : Result (List ℤ) Stop) → Ok v ≡ value [] e m → (of_z w64 v ≡ 0 → ⊥)
+pub arm-is : (t : List Turn) (e : TExprTree) (b : TStmtTrees) (sp : Spot) (m : List ℤ) (v : ℤ) (o : Doing) (r : Result (List ℤ) Stop) → Ok v ≡ value [] e m
+    → (of_z w64 v ≡ 0 → ⊥)
     → r ≡ do_stmts t b m → r ≡ do_arms t (and_tarm e b sp no_tarms) o m
 arm-is t e b sp m v o r h z done =
-    done ∙ sym (ap (λ q. and_then q (λ x. cond (same x (pos 0)) (o m) (do_stmts t b m))) (value-ok t e m v h) ∙ ap (λ x. cond x (o m) (do_stmts t b m)) (not-zero v z))
+    done ∙ sym (ap (λ q. and_then q (λ x. cond (same x (pos 0)) (o m) (do_stmts t b m))) (value-ok t e m v h)
+    ∙ ap (λ x. cond x (o m) (do_stmts t b m)) (not-zero v z))
 
 -- ---- the branches of a CASE
 
@@ -306,39 +333,47 @@ pub branch-lighter : (branches : List TBranch) (i : ℕ) (b : TBranch) → i < l
     → 1 + stmts_weight (tstmt_trees b.body.items.items) < branches_weight (tbranch_trees branches)
 branch-lighter [] i b lt is = absurd (omega (arith, lt))
 branch-lighter (x ∷ xs) zero b lt is =
-    let same : stmts_weight (tstmt_trees b.body.items.items) ≡ stmts_weight (tstmt_trees x.body.items.items) = ap (λ (y : TBranch). stmts_weight (tstmt_trees y.body.items.items)) is in
+    let same : stmts_weight (tstmt_trees b.body.items.items) ≡ stmts_weight (tstmt_trees x.body.items.items) =
+    ap (λ (y : TBranch). stmts_weight (tstmt_trees y.body.items.items)) is in
     omega (arith, same)
 branch-lighter (x ∷ xs) (suc i) b lt is =
     let k : i < length xs = omega (arith, lt) in
     let h : 1 + stmts_weight (tstmt_trees b.body.items.items) < branches_weight (tbranch_trees xs) = branch-lighter xs i b k is in
     omega (arith, h)
 
-pub branches-first : (all : TBranchTrees) (ls : List TLabel) (b : TStmtTrees) (rest : TBranchTrees) (m : List ℤ) → all ≡ and_tbranch ls b rest → SoundBranches all m
+pub branches-first : (all : TBranchTrees) (ls : List TLabel) (b : TStmtTrees) (rest : TBranchTrees) (m : List ℤ) → all ≡ and_tbranch ls b rest
+    → SoundBranches all m
     → SoundBranches (and_tbranch ls b no_tbranches) m
 branches-first all ls b rest m is h =
     let typed : AreBranches h.slots h.held h.of (and_tbranch ls b rest) = subst (λ x. AreBranches h.slots h.held h.of x) is h.typed in
     record { slots = h.slots; held = h.held; of = h.of; typed = (typed.0, typed.1, tt); fit = h.fit }
 
-pub branches-rest : (all : TBranchTrees) (ls : List TLabel) (b : TStmtTrees) (rest : TBranchTrees) (m next : List ℤ) → all ≡ and_tbranch ls b rest → SoundBranches all m → next ≡ m
+pub branches-rest : (all : TBranchTrees) (ls : List TLabel) (b : TStmtTrees) (rest : TBranchTrees) (m next : List ℤ) → all ≡ and_tbranch ls b rest
+    → SoundBranches all m → next ≡ m
     → SoundBranches rest next
 branches-rest all ls b rest m next is h same =
     let typed : AreBranches h.slots h.held h.of (and_tbranch ls b rest) = subst (λ x. AreBranches h.slots h.held h.of x) is h.typed in
     record { slots = h.slots; held = h.held; of = h.of; typed = typed.2; fit = subst (λ x. AreFit h.slots x) (sym same) h.fit }
 
-pub branches-step : (t u : List Turn) (v : ℤ) (all : TBranchTrees) (ls : List TLabel) (b : TStmtTrees) (rest : TBranchTrees) (m n : List ℤ) (o : Doing) (r w : Result (List ℤ) Stop)
-    → all ≡ and_tbranch ls b rest → t ≡ u → m ≡ n → r ≡ do_branches t v (and_tbranch ls b no_tbranches) (do_branches u v rest o) m → do_branches u v all o n ≡ w → r ≡ w
+pub branches-step : (t u : List Turn) (v : ℤ) (all : TBranchTrees) (ls : List TLabel) (b : TStmtTrees) (rest : TBranchTrees) (m n : List ℤ) (o : Doing)
+    (r w : Result (List ℤ) Stop)
+    → all ≡ and_tbranch ls b rest → t ≡ u → m ≡ n → r ≡ do_branches t v (and_tbranch ls b no_tbranches) (do_branches u v rest o) m → do_branches u v all o n ≡ w
+    → r ≡ w
 branches-step t u v all ls b rest m n o r w is et em h whole =
     h ∙ (λ i. do_branches (et i) v (and_tbranch ls b no_tbranches) (do_branches u v rest o) (em i)) ∙ sym (ap (λ x. do_branches u v x o n) is) ∙ whole
 
-pub branches-over : (t u : List Turn) (v : ℤ) (all : TBranchTrees) (ls : List TLabel) (b : TStmtTrees) (rest : TBranchTrees) (m n next : List ℤ) (o : Doing) (w : Result (List ℤ) Stop)
-    → all ≡ and_tbranch ls b rest → t ≡ u → m ≡ n → next ≡ m → do_branches u v rest o next ≡ do_branches t v (and_tbranch ls b no_tbranches) (do_branches u v rest o) m
+pub branches-over : (t u : List Turn) (v : ℤ) (all : TBranchTrees) (ls : List TLabel) (b : TStmtTrees) (rest : TBranchTrees) (m n next : List ℤ) (o : Doing)
+    (w : Result (List ℤ) Stop)
+    → all ≡ and_tbranch ls b rest → t ≡ u → m ≡ n → next ≡ m
+    → do_branches u v rest o next ≡ do_branches t v (and_tbranch ls b no_tbranches) (do_branches u v rest o) m
     → do_branches u v all o n ≡ w → do_branches u v rest o n ≡ w
 branches-over t u v all ls b rest m n next o w is et em same h whole =
     sym (ap (λ x. do_branches u v rest o x) (same ∙ em)) ∙ branches-step t u v all ls b rest m n o _ w is et em h whole
 
 -- ---- the turns of a FOR
 
-set-fits : (slots : List Slot) (m : List ℤ) (n : ℕ) (s : Slot) (v : ℤ) → slice_get slots n ≡ Some s → AreFit slots m → fits s.ty v ≡ true → AreFit slots (slice_set m n v)
+set-fits : (slots : List Slot) (m : List ℤ) (n : ℕ) (s : Slot) (v : ℤ) → slice_get slots n ≡ Some s → AreFit slots m → fits s.ty v ≡ true
+    → AreFit slots (slice_set m n v)
 set-fits [] m n s v e h f = absurd cc
 set-fits (x ∷ slots) [] n s v e h f = absurd h
 set-fits (x ∷ slots) (w ∷ m) zero s v e h f = let is : x ≡ s = cc in (subst (λ (y : Slot). fits y.ty v ≡ true) (sym is) f, h.1)
@@ -347,14 +382,16 @@ set-fits (x ∷ slots) (w ∷ m) (suc n) s v e h f = (h.0, set-fits slots m n s 
 pub turns-inside : (slot : ℕ) (v by : ℤ) (n : ℕ) (body : TStmtTrees) (m : List ℤ) → SoundTurns slot v by n body m → slot < length m
 turns-inside slot v by n body m h = fit-inside h.slots m slot h.set.of h.set.there h.fit
 
-entered-fits : (slot : ℕ) (v by : ℤ) (n k : ℕ) (body : TStmtTrees) (m next : List ℤ) → n ≡ suc k → (h : SoundTurns slot v by n body m) → next ≡ slice_set m slot v → AreFit h.slots next
+entered-fits : (slot : ℕ) (v by : ℤ) (n k : ℕ) (body : TStmtTrees) (m next : List ℤ) → n ≡ suc k → (h : SoundTurns slot v by n body m)
+    → next ≡ slice_set m slot v → AreFit h.slots next
 entered-fits slot v by n k body m next is h set =
     let values : AreTurns h.of (suc k) v by = subst (λ x. AreTurns h.of x v by) is h.values in
     let one : fits h.set.of.ty v ≡ true = subst (λ (u : Ty). fits u v ≡ true) (sym h.set.ty) values.0 in
     let fit : AreFit h.slots (slice_set m slot v) = set-fits h.slots m slot h.set.of v h.set.there h.fit one in
     subst (λ x. AreFit h.slots x) (sym set) fit
 
-pub turns-enter : (slot : ℕ) (v by : ℤ) (n k : ℕ) (body : TStmtTrees) (m next : List ℤ) → n ≡ suc k → SoundTurns slot v by n body m → next ≡ slice_set m slot v → SoundStmts body next
+pub turns-enter : (slot : ℕ) (v by : ℤ) (n k : ℕ) (body : TStmtTrees) (m next : List ℤ) → n ≡ suc k → SoundTurns slot v by n body m → next ≡ slice_set m slot v
+    → SoundStmts body next
 turns-enter slot v by n k body m next is h set =
     record { slots = h.slots; held = h.held ++ slot ∷ []; typed = h.typed; fit = entered-fits slot v by n k body m next is h set }
 
@@ -362,10 +399,12 @@ next-values : (t : Ty) (k : ℕ) (v by w : ℤ) → AreTurns t k (v +ℤ by) by 
 next-values t zero v by w h e = tt
 next-values t (suc j) v by w h e = let some : 0 < suc j = omega arith in subst (λ x. AreTurns t (suc j) x by) (sym (e some)) h
 
-pub turns-rest : BodyFits → (t : List Turn) (slot : ℕ) (v by w : ℤ) (n k : ℕ) (body : TStmtTrees) (m entered next : List ℤ) → n ≡ suc k → SoundTurns slot v by n body m
+pub turns-rest : BodyFits → (t : List Turn) (slot : ℕ) (v by w : ℤ) (n k : ℕ) (body : TStmtTrees) (m entered next : List ℤ) → n ≡ suc k
+    → SoundTurns slot v by n body m
     → entered ≡ slice_set m slot v → Ok next ≡ do_stmts t body entered → (0 < k → w ≡ v +ℤ by) → SoundTurns slot w by k body next
 turns-rest law t slot v by w n k body m entered next is h set done e =
-    let fit : IfOk (do_stmts t body entered) (AreFit h.slots) = law h.slots (h.held ++ slot ∷ []) body t entered h.typed (entered-fits slot v by n k body m entered is h set) in
+    let fit : IfOk (do_stmts t body entered) (AreFit h.slots) =
+    law h.slots (h.held ++ slot ∷ []) body t entered h.typed (entered-fits slot v by n k body m entered is h set) in
     let values : AreTurns h.of (suc k) v by = subst (λ x. AreTurns h.of x v by) is h.values in
     record {
       slots = h.slots;
@@ -384,7 +423,8 @@ fits-width ty.Int v h = grind (arith, h)
 fits-width ty.Dint v h = grind (arith, h)
 fits-width ty.Lint v h = grind (arith, h)
 
-next-fits : (slot : ℕ) (v by : ℤ) (n k : ℕ) (body : TStmtTrees) (m : List ℤ) → n ≡ suc (suc k) → (h : SoundTurns slot v by n body m) → fits h.of (v +ℤ by) ≡ true
+next-fits : (slot : ℕ) (v by : ℤ) (n k : ℕ) (body : TStmtTrees) (m : List ℤ) → n ≡ suc (suc k) → (h : SoundTurns slot v by n body m)
+    → fits h.of (v +ℤ by) ≡ true
 next-fits slot v by n k body m is h =
     let values : AreTurns h.of (suc (suc k)) v by = subst (λ x. AreTurns h.of x v by) is h.values in
     values.1.0
@@ -392,11 +432,13 @@ next-fits slot v by n k body m is h =
 pub next-width : (slot : ℕ) (v by : ℤ) (n k : ℕ) (body : TStmtTrees) (m : List ℤ) → n ≡ suc (suc k) → SoundTurns slot v by n body m → SFits w64 (v +ℤ by)
 next-width slot v by n k body m is h = fits-width h.of (v +ℤ by) (next-fits slot v by n k body m is h)
 
-over-next : (slot : ℕ) (by : ℤ) (f : ℤ → Doing) (k : ℕ) (v w : ℤ) (next : List ℤ) → (0 < k → w ≡ v +ℤ by) → turns_from slot by f k w next ≡ turns_from slot by f k (v +ℤ by) next
+over-next : (slot : ℕ) (by : ℤ) (f : ℤ → Doing) (k : ℕ) (v w : ℤ) (next : List ℤ) → (0 < k → w ≡ v +ℤ by)
+    → turns_from slot by f k w next ≡ turns_from slot by f k (v +ℤ by) next
 over-next slot by f zero v w next e = refl
 over-next slot by f (suc j) v w next e = let some : 0 < suc j = omega arith in ap (λ x. turns_from slot by f (suc j) x next) (e some)
 
-pub turns-next : (slot : ℕ) (by : ℤ) (f : ℤ → Doing) (n k : ℕ) (v w : ℤ) (m next : List ℤ) (all : Result (List ℤ) Stop) → n ≡ suc k → turns_from slot by f n v m ≡ all
+pub turns-next : (slot : ℕ) (by : ℤ) (f : ℤ → Doing) (n k : ℕ) (v w : ℤ) (m next : List ℤ) (all : Result (List ℤ) Stop) → n ≡ suc k
+    → turns_from slot by f n v m ≡ all
     → Ok next ≡ f v (slice_set m slot v) → (0 < k → w ≡ v +ℤ by) → turns_from slot by f k w next ≡ all
 turns-next slot by f n k v w m next all is h done e =
     over-next slot by f k v w next e
@@ -413,10 +455,12 @@ body-at t u slot v entered body m set r et ee es h =
 pub sound-at : (slot : ℕ) (v w by to : ℤ) (n : ℕ) (b : TStmtTrees) (m : List ℤ) → SoundTurns slot v by n b m → w ≡ v → to ≡ by → SoundTurns slot w to n b m
 sound-at slot v w by to n b m h e f = subst (λ x. SoundTurns slot x to n b m) (sym e) (subst (λ x. SoundTurns slot v x n b m) (sym f) h)
 
-pub turns-at : (slot : ℕ) (v w by to : ℤ) (n : ℕ) (f : ℤ → Doing) (m : List ℤ) (r : Result (List ℤ) Stop) → w ≡ v → to ≡ by → r ≡ all_turns slot w to n f m → r ≡ all_turns slot v by n f m
+pub turns-at : (slot : ℕ) (v w by to : ℤ) (n : ℕ) (f : ℤ → Doing) (m : List ℤ) (r : Result (List ℤ) Stop) → w ≡ v → to ≡ by → r ≡ all_turns slot w to n f m
+    → r ≡ all_turns slot v by n f m
 turns-at slot v w by to n f m r e g h = h ∙ λ i. all_turns slot (e i) (g i) n f m
 
-pub branches-value : (t : List Turn) (v w : ℤ) (b : TBranchTrees) (o : Doing) (m : List ℤ) (r : Result (List ℤ) Stop) → w ≡ v → r ≡ do_branches t w b o m → r ≡ do_branches t v b o m
+pub branches-value : (t : List Turn) (v w : ℤ) (b : TBranchTrees) (o : Doing) (m : List ℤ) (r : Result (List ℤ) Stop) → w ≡ v → r ≡ do_branches t w b o m
+    → r ≡ do_branches t v b o m
 branches-value t v w b o m r e h = h ∙ ap (λ x. do_branches t x b o m) e
 
 -- what comes otherwise, done inside the same turns on the same values

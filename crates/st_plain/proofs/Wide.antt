@@ -1,5 +1,6 @@
 -- Values of 64 bits, and what the operators make of them in 128 bits.
-use Rattle.std.proofs.Common.{◌≡◌, ℕ, zero, suc, ◌≤◌, ◌<◌, ◌^◌, ◌/◌, ℤ, pos, negsuc, ◌*ℤ◌, div-le_self, w64, SFits, to_z, of_z, refl, sym, ap, ◌∙◌, arith, [], Result}
+use Rattle.std.proofs.Common.{◌≡◌, ℕ, zero, suc, ◌≤◌, ◌<◌, ◌^◌, ◌/◌, ℤ, pos, negsuc, ◌*ℤ◌, div-le_self, w64, SFits, to_z, of_z, refl, sym, ap, ◌∙◌, arith, []}
+use Rattle.std.proofs.Common.{Result}
 use Rattle.std.specs.Prelude.{int_div, int_rem, unsigned_abs, neg_ℤ, false, cond}
 use Rattle.std.proofs.Math.Facts.{sfits_widen}
 use Rattle.std.proofs.lemmas.Int.{to_z-of_z, fits_signed_mul, fits_signed_from_abs}

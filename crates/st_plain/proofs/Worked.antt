@@ -29,7 +29,11 @@ plus a b p = binary bin.Add ty.Int a b p
 -- ---- VAR_INPUT x : INT; VAR_OUTPUT y : INT; y := x + 1;
 
 abbrev next : Program
-next = record { slots = slot (120 ∷ []) class.Input (pos 0) ∷ slot (121 ∷ []) class.Output (pos 0) ∷ []; body = and_tstmt (assign 1 (plus (get 0 ty.Int) (int (pos 1)) (at 4 8)) (at 4 1)) no_tstmts }
+next = record {
+  slots = slot (120 ∷ []) class.Input (pos 0) ∷ slot (121 ∷ []) class.Output (pos 0) ∷ [];
+  body =
+      and_tstmt (assign 1 (plus (get 0 ty.Int) (int (pos 1)) (at 4 8)) (at 4 1)) no_tstmts;
+}
 
 abbrev too_great : Stop
 too_great = record { kind = why.Range; spot = at 4 8; turns = [] }
@@ -71,7 +75,8 @@ abbrev product : Program
 product = record {
   slots = slot (120 ∷ []) class.Input (pos 0) ∷ slot (105 ∷ []) class.Local (pos 0) ∷ slot (121 ∷ []) class.Output (pos 0) ∷ [];
   body = and_tstmt (assign 2 (int (pos 1)) (at 5 1))
-      (and_tstmt (for_ 1 (pos 1) (pos 1) 5 (and_tstmt (assign 2 (binary bin.Mul ty.Int (get 2 ty.Int) (get 0 ty.Int) (at 7 10)) (at 7 3)) no_tstmts) (at 6 5)) no_tstmts);
+      (and_tstmt (for_ 1 (pos 1) (pos 1) 5 (and_tstmt (assign 2 (binary bin.Mul ty.Int (get 2 ty.Int) (get 0 ty.Int) (at 7 10)) (at 7 3)) no_tstmts)
+      (at 6 5)) no_tstmts);
 }
 
 -- 7 * 7 * 7 * 7 * 7
@@ -79,7 +84,8 @@ seven : answers (started product) ((pos 7 ∷ []) ∷ []) ≡ record { rows = (p
 seven = refl
 
 -- 20 * 20 * 20 * 20 is no INT
-twenty : answers (started product) ((pos 20 ∷ []) ∷ []) ≡ record { rows = []; end = Some (record { kind = why.Range; spot = at 7 10; turns = record { name = 1; value = pos 4 } ∷ [] }) }
+twenty : answers (started product) ((pos 20 ∷ []) ∷ [])
+    ≡ record { rows = []; end = Some (record { kind = why.Range; spot = at 7 10; turns = record { name = 1; value = pos 4 } ∷ [] }) }
 twenty = refl
 
 -- ---- how many turns can be round a place

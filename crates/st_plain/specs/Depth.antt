@@ -1,6 +1,7 @@
 -- Depth: how deep statements nest FORs that make a turn, which is how many turns can be round a place at most.
 use Rattle.std.specs.Prelude.{ℕ, zero, suc, ◌+◌, min, max}
-use Rattle.vcp_typed.specs.TStmtTree.{TStmtTree, TStmtTrees, TArmTrees, TBranchTrees, TOtherTree, assign, if_, case, for_, no_tstmts, and_tstmt, no_tarms, and_tarm, no_tbranches, and_tbranch, no_tother, tother}
+use Rattle.vcp_typed.specs.TStmtTree.{TStmtTree, TStmtTrees, TArmTrees, TBranchTrees, TOtherTree, assign, if_, case, for_, no_tstmts, and_tstmt, no_tarms}
+use Rattle.vcp_typed.specs.TStmtTree.{and_tarm, no_tbranches, and_tbranch, no_tother, tother}
 
 abbrev mutual
   pub stmt_depth : TStmtTree → ℕ

@@ -1,7 +1,8 @@
 //! How deep statements nest loops.
 
 ghost use Rattle.std.specs.Prelude.{◌≡◌, ◌≤◌, ◌+◌, max};
-ghost use Rattle.st_plain.specs.Depth.{cut, stmt_depth as stmt_depth_of, stmts_depth as stmts_depth_of, arms_depth as arms_depth_of, branches_depth as branches_depth_of, other_depth as other_depth_of};
+ghost use Rattle.st_plain.specs.Depth.{cut, stmt_depth as stmt_depth_of, stmts_depth as stmts_depth_of, arms_depth as arms_depth_of};
+ghost use Rattle.st_plain.specs.Depth.{branches_depth as branches_depth_of, other_depth as other_depth_of};
 ghost use Rattle.vcp_typed.specs.TStmtViews.{tstmt_tree, tstmt_trees, tarm_trees, tbranch_trees, tother_tree};
 
 use vcp_typed::{TArm, TBranch, TStmt, TStmts, trees_of_nodes};

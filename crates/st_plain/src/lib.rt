@@ -13,6 +13,3 @@ mod stop;
 pub use laws::cycles_give_the_run;
 pub use plain::Plain;
 pub use stop::Stop;
-
-#[cfg(test)]
-mod tests;

@@ -4,7 +4,8 @@ ghost use Rattle.std.specs.Prelude.{◌≡◌, ◌<◌, ◌≤◌, ◌+◌, ◌+
 ghost use Rattle.std.specs.Int.{w64};
 ghost use Rattle.std.specs.List.{list_any};
 ghost use Rattle.vcp_base.specs.declared.turns.Turn.{Turn};
-ghost use Rattle.vcp_typed.specs.Meaning.{is_labelled, all_turns, do_stmt as do_stmt_of, do_stmts as do_stmts_of, do_arms as do_arms_of, do_branches as do_branches_of, do_other as do_other_of};
+ghost use Rattle.vcp_typed.specs.Meaning.{is_labelled, all_turns, do_stmt as do_stmt_of, do_stmts as do_stmts_of, do_arms as do_arms_of};
+ghost use Rattle.vcp_typed.specs.Meaning.{do_branches as do_branches_of, do_other as do_other_of};
 ghost use Rattle.vcp_typed.specs.TExprViews.{texpr_tree};
 ghost use Rattle.vcp_typed.specs.TStmtTree.{no_tarms, and_tarm, no_tbranches, and_tbranch};
 ghost use Rattle.vcp_typed.specs.TStmtViews.{tstmt_tree, tstmt_trees, tarm_trees, tbranch_trees, tother_tree};
@@ -125,7 +126,8 @@ pub fn do_stmts(ss: &[TStmt], state: &mut Working) -> Result<(), Stop>
 fn do_arms(arms: &[TArm], state: &mut Working) -> Result<bool, Stop>
     requires sound { SoundArms (tarm_trees arms.now) state.old.values }
     requires room { length state.old.turns.items + arms_depth (tarm_trees arms.now) ≤ vec_capacity state.old.turns }
-    ensures done { (otherwise : Doing) → left_or otherwise state.new.values state.new.turns.items result ≡ do_arms_of state.old.turns.items (tarm_trees arms.now) otherwise state.old.values }
+    ensures done { (otherwise : Doing)
+        → left_or otherwise state.new.values state.new.turns.items result ≡ do_arms_of state.old.turns.items (tarm_trees arms.now) otherwise state.old.values }
     ensures unchanged { result ≡ Ok false → state.new.values ≡ state.old.values }
     ensures turns { OnOk result (state.new.turns.items ≡ state.old.turns.items) }
     ensures capacity { vec_capacity state.new.turns ≡ vec_capacity state.old.turns }
@@ -143,7 +145,10 @@ fn do_arms(arms: &[TArm], state: &mut Working) -> Result<bool, Stop>
 fn do_arm(arm: &TArm, state: &mut Working) -> Result<bool, Stop>
     requires sound { SoundArms (and_tarm (texpr_tree arm.now.cond) (tstmt_trees arm.now.body.items.items) arm.now.spot no_tarms) state.old.values }
     requires room { length state.old.turns.items + stmts_depth (tstmt_trees arm.now.body.items.items) ≤ vec_capacity state.old.turns }
-    ensures done { (otherwise : Doing) → left_or otherwise state.new.values state.new.turns.items result ≡ do_arms_of state.old.turns.items (and_tarm (texpr_tree arm.now.cond) (tstmt_trees arm.now.body.items.items) arm.now.spot no_tarms) otherwise state.old.values }
+    ensures done { (otherwise : Doing)
+        → left_or otherwise state.new.values state.new.turns.items result
+        ≡ do_arms_of state.old.turns.items
+        (and_tarm (texpr_tree arm.now.cond) (tstmt_trees arm.now.body.items.items) arm.now.spot no_tarms) otherwise state.old.values }
     ensures unchanged { result ≡ Ok false → state.new.values ≡ state.old.values }
     ensures turns { OnOk result (state.new.turns.items ≡ state.old.turns.items) }
     ensures capacity { vec_capacity state.new.turns ≡ vec_capacity state.old.turns }
@@ -160,7 +165,9 @@ fn do_arm(arm: &TArm, state: &mut Working) -> Result<bool, Stop>
 fn do_branches(branches: &[TBranch], v: i64, state: &mut Working) -> Result<bool, Stop>
     requires sound { SoundBranches (tbranch_trees branches.now) state.old.values }
     requires room { length state.old.turns.items + branches_depth (tbranch_trees branches.now) ≤ vec_capacity state.old.turns }
-    ensures done { (otherwise : Doing) → left_or otherwise state.new.values state.new.turns.items result ≡ do_branches_of state.old.turns.items v (tbranch_trees branches.now) otherwise state.old.values }
+    ensures done { (otherwise : Doing)
+        → left_or otherwise state.new.values state.new.turns.items result
+        ≡ do_branches_of state.old.turns.items v (tbranch_trees branches.now) otherwise state.old.values }
     ensures unchanged { result ≡ Ok false → state.new.values ≡ state.old.values }
     ensures turns { OnOk result (state.new.turns.items ≡ state.old.turns.items) }
     ensures capacity { vec_capacity state.new.turns ≡ vec_capacity state.old.turns }
@@ -178,7 +185,10 @@ fn do_branches(branches: &[TBranch], v: i64, state: &mut Working) -> Result<bool
 fn do_branch(branch: &TBranch, v: i64, state: &mut Working) -> Result<bool, Stop>
     requires sound { SoundBranches (and_tbranch branch.now.labels.items.items (tstmt_trees branch.now.body.items.items) no_tbranches) state.old.values }
     requires room { length state.old.turns.items + stmts_depth (tstmt_trees branch.now.body.items.items) ≤ vec_capacity state.old.turns }
-    ensures done { (otherwise : Doing) → left_or otherwise state.new.values state.new.turns.items result ≡ do_branches_of state.old.turns.items v (and_tbranch branch.now.labels.items.items (tstmt_trees branch.now.body.items.items) no_tbranches) otherwise state.old.values }
+    ensures done { (otherwise : Doing)
+        → left_or otherwise state.new.values state.new.turns.items result
+        ≡ do_branches_of state.old.turns.items v
+        (and_tbranch branch.now.labels.items.items (tstmt_trees branch.now.body.items.items) no_tbranches) otherwise state.old.values }
     ensures unchanged { result ≡ Ok false → state.new.values ≡ state.old.values }
     ensures turns { OnOk result (state.new.turns.items ≡ state.old.turns.items) }
     ensures capacity { vec_capacity state.new.turns ≡ vec_capacity state.old.turns }
@@ -227,7 +237,9 @@ fn do_turns(
     requires some { 0 < turns }
     requires sound { SoundTurns slot first by turns (tstmt_trees body.now) state.old.values }
     requires room { length state.old.turns.items + (1 + stmts_depth (tstmt_trees body.now)) ≤ vec_capacity state.old.turns }
-    ensures done { left state.new.values state.new.turns.items result ≡ all_turns slot first by turns (λ v. do_stmts_of (state.old.turns.items ++ record { name = slot; value = v } ∷ []) (tstmt_trees body.now)) state.old.values }
+    ensures done { left state.new.values state.new.turns.items result
+        ≡ all_turns slot first by turns
+        (λ v. do_stmts_of (state.old.turns.items ++ record { name = slot; value = v } ∷ []) (tstmt_trees body.now)) state.old.values }
     ensures turns { OnOk result (state.new.turns.items ≡ state.old.turns.items) }
     ensures capacity { vec_capacity state.new.turns ≡ vec_capacity state.old.turns }
 {

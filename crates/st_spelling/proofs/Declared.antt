@@ -1,5 +1,6 @@
 -- The names that are declared where the tokens of a text spell a program: each is a word of the text.
-use Rattle.std.proofs.Common.{◌≡◌, ℕ, suc, ◌+◌, ◌-◌, ◌≤◌, Bool, true, false, cond, ◌&&◌, ◌||◌, List, [], ◌∷◌, ◌++◌, length, take, drop, flat_map, Option, Some, None, sym, refl, ap, ◌∙◌, subst, arith, length-take, length-drop}
+use Rattle.std.proofs.Common.{◌≡◌, ℕ, suc, ◌+◌, ◌-◌, ◌≤◌, Bool, true, false, cond, ◌&&◌, ◌||◌, List, [], ◌∷◌, ◌++◌, length, take, drop, flat_map, Option, Some}
+use Rattle.std.proofs.Common.{None, sym, refl, ap, ◌∙◌, subst, arith, length-take, length-drop}
 use Rattle.std.specs.Prelude.{slice_index}
 use Rattle.std.specs.List.{list_all, prefix_len}
 use Rattle.std.specs.Char.{is_ascii_digit}
@@ -18,7 +19,8 @@ use Rattle.st_lexer.specs.Reading.{Begins, Stands, StandsAt, Piece, Cover, token
 use Rattle.st_tree.specs.Declarable.{IsDeclarable, AreDeclarable, HasNames}
 use Rattle.st_tree.specs.ProgramTree.{DeclaredTree, DeclTree, BlockTree, ProgramTree}
 use Rattle.st_spelling.specs.Placed.{Placed, tokens_of}
-use Rattle.st_spelling.specs.Programs.{SpellsNames, SpellsDecl, SpellsDecls, SpellsBlocks, SpellsProgram, spells_last_name, spells_next_name, spells_decl, spells_end_var, spells_next_decl, spells_no_block, spells_block, spells_program}
+use Rattle.st_spelling.specs.Programs.{SpellsNames, SpellsDecl, SpellsDecls, SpellsBlocks, SpellsProgram, spells_last_name, spells_next_name, spells_decl}
+use Rattle.st_spelling.specs.Programs.{spells_end_var, spells_next_decl, spells_no_block, spells_block, spells_program}
 use Rattle.st_spelling.specs.Spelling.{Spells, bytes_in}
 
 -- bytes that are read as a name are those of one
@@ -129,7 +131,8 @@ module _ (bytes : Token → List ℕ) (short : (t : Token) → length (bytes t) 
   name-of n e h = (short n, subst (Says (bytes n)) e h)
 
   of-names : {ds : List DeclaredTree} {ts : List Placed} → SpellsNames bytes ds ts → Each bytes ts → AreDeclarable ds
-  of-names (spells_last_name n c kn kc) h = All-cons (λ (d : DeclaredTree). IsDeclarable d.name) _ [] (name-of n kn h.0) (All-nil (λ (d : DeclaredTree). IsDeclarable d.name))
+  of-names (spells_last_name n c kn kc) h =
+      All-cons (λ (d : DeclaredTree). IsDeclarable d.name) _ [] (name-of n kn h.0) (All-nil (λ (d : DeclaredTree). IsDeclarable d.name))
   of-names (spells_next_name ds n c ts kn kc sa) h = All-cons (λ (d : DeclaredTree). IsDeclarable d.name) _ ds (name-of n kn h.0) (of-names sa h.1.1)
 
   of-decl : {d : DeclTree} {ts : List Placed} → SpellsDecl bytes d ts → Each bytes ts → AreDeclarable d.names
@@ -140,7 +143,8 @@ module _ (bytes : Token → List ℕ) (short : (t : Token) → length (bytes t) 
   of-decls (spells_next_decl d ds ts us sa sb) h =
       let p = parted bytes ts us h in All-append (λ (d : DeclaredTree). IsDeclarable d.name) d.names _ (of-decl sa p.0) (of-decls sb p.1)
 
-  of-blocks : {bs : List BlockTree} {ts : List Placed} → SpellsBlocks bytes bs ts → Each bytes ts → AreDeclarable (flat_map (λ b. flat_map (λ d. d.names) b.decls) bs)
+  of-blocks : {bs : List BlockTree} {ts : List Placed} → SpellsBlocks bytes bs ts → Each bytes ts
+      → AreDeclarable (flat_map (λ b. flat_map (λ d. d.names) b.decls) bs)
   of-blocks spells_no_block h = All-nil (λ (d : DeclaredTree). IsDeclarable d.name)
   of-blocks (spells_block class ds bs ts us vs sh sa sb) h =
       let p = parted bytes ts (us ++ vs) h in

@@ -3,14 +3,21 @@ use Rattle.std.proofs.Common.{◌≡◌, ℕ, suc, ◌+◌, ◌==◌, cond, List
 use Rattle.st_lexer.specs.declared.token.Key.{Key}
 use Rattle.st_lexer.specs.declared.token.Token.{Token}
 use Rattle.st_tree.specs.ExprTree.{ExprTree, ExprTrees, literal, name, unary, binary, call, no_exprs, and_expr}
-use Rattle.st_tree.specs.StmtTree.{LabelTree, StmtTree, StmtTrees, ArmTrees, BranchTrees, OtherTree, assign, if_, case, for_, no_stmts, and_stmt, no_arms, and_arm, no_branches, and_branch, no_other, other}
+use Rattle.st_tree.specs.StmtTree.{LabelTree, StmtTree, StmtTrees, ArmTrees, BranchTrees, OtherTree, assign, if_, case, for_, no_stmts, and_stmt, no_arms}
+use Rattle.st_tree.specs.StmtTree.{and_arm, no_branches, and_branch, no_other, other}
 use Rattle.st_tree.specs.ProgramTree.{DeclaredTree, DeclTree, BlockTree, ProgramTree}
 use Rattle.st_spelling.specs.Operators.{level, chain}
 use Rattle.st_spelling.specs.Placed.{Placed, at}
-use Rattle.st_spelling.specs.Expressions.{SpellsExpr, SpellsArgs, spells_literal, spells_name, spells_unary, spells_binary, spells_call, spells_brackets, spells_last, spells_next}
-use Rattle.st_spelling.specs.Labels.{SpellsConst, SpellsLabel, SpellsLabels, spells_value, spells_named, spells_negative, spells_one, spells_range, spells_last_label, spells_next_label}
-use Rattle.st_spelling.specs.Statements.{SpellsStep, SpellsStmt, SpellsStmts, SpellsArms, SpellsMoreArms, SpellsBranches, SpellsMoreBranches, spells_no_step, spells_step, spells_assign, spells_if, spells_case, spells_for, spells_no_stmt, spells_empty, spells_stmt, spells_arm, spells_elsif, spells_if_else, spells_end_if, spells_branch, spells_next_branch, spells_case_else, spells_end_case}
-use Rattle.st_spelling.specs.Programs.{SpellsNames, SpellsInit, SpellsDecl, SpellsDecls, SpellsBlocks, SpellsProgram, spells_last_name, spells_next_name, spells_no_init, spells_init, spells_decl, spells_end_var, spells_next_decl, spells_no_block, spells_block, spells_program}
+use Rattle.st_spelling.specs.Expressions.{SpellsExpr, SpellsArgs, spells_literal, spells_name, spells_unary, spells_binary, spells_call, spells_brackets}
+use Rattle.st_spelling.specs.Expressions.{spells_last, spells_next}
+use Rattle.st_spelling.specs.Labels.{SpellsConst, SpellsLabel, SpellsLabels, spells_value, spells_named, spells_negative, spells_one, spells_range}
+use Rattle.st_spelling.specs.Labels.{spells_last_label, spells_next_label}
+use Rattle.st_spelling.specs.Statements.{SpellsStep, SpellsStmt, SpellsStmts, SpellsArms, SpellsMoreArms, SpellsBranches, SpellsMoreBranches, spells_no_step}
+use Rattle.st_spelling.specs.Statements.{spells_step, spells_assign, spells_if, spells_case, spells_for, spells_no_stmt, spells_empty, spells_stmt, spells_arm}
+use Rattle.st_spelling.specs.Statements.{spells_elsif, spells_if_else, spells_end_if, spells_branch, spells_next_branch, spells_case_else, spells_end_case}
+use Rattle.st_spelling.specs.Programs.{SpellsNames, SpellsInit, SpellsDecl, SpellsDecls, SpellsBlocks, SpellsProgram, spells_last_name, spells_next_name}
+use Rattle.st_spelling.specs.Programs.{spells_no_init, spells_init, spells_decl, spells_end_var, spells_next_decl, spells_no_block, spells_block}
+use Rattle.st_spelling.specs.Programs.{spells_program}
 
 module _ (b c : Token → List ℕ) where
   mutual
@@ -103,14 +110,16 @@ module _ (b c : Token → List ℕ) where
         let y = stmts q in
         (and_stmt r.0 y.0, spells_stmt r.0 y.0 x ts us r.1 k y.1)
 
-    arms_of : {d : ℕ} {k : Key} {arms : ArmTrees} {o : OtherTree} {ps : List Placed} → SpellsArms b d k arms o ps → (cs : ArmTrees) × (p : OtherTree) × SpellsArms c d k cs p ps
+    arms_of : {d : ℕ} {k : Key} {arms : ArmTrees} {o : OtherTree} {ps : List Placed} → SpellsArms b d k arms o ps
+        → (cs : ArmTrees) × (p : OtherTree) × SpellsArms c d k cs p ps
     arms_of (spells_arm k e body arms o i t ts us vs ki s kt u v) =
         let r = expr s in
         let q = stmts u in
         let y = more_arms v in
         (and_arm r.0 q.0 i.spot y.0, y.1, spells_arm k r.0 q.0 y.0 y.1 i t ts us vs ki r.1 kt q.1 y.2)
 
-    more_arms : {d : ℕ} {arms : ArmTrees} {o : OtherTree} {ps : List Placed} → SpellsMoreArms b d arms o ps → (cs : ArmTrees) × (p : OtherTree) × SpellsMoreArms c d cs p ps
+    more_arms : {d : ℕ} {arms : ArmTrees} {o : OtherTree} {ps : List Placed} → SpellsMoreArms b d arms o ps
+        → (cs : ArmTrees) × (p : OtherTree) × SpellsMoreArms c d cs p ps
     more_arms (spells_elsif arms o ts s) =
         let r = arms_of s in
         (r.0, r.1, spells_elsif r.0 r.1 ts r.2)
@@ -119,14 +128,16 @@ module _ (b c : Token → List ℕ) where
         (no_arms, other r.0, spells_if_else r.0 l e ts kl r.1 ke)
     more_arms (spells_end_if e k) = (no_arms, no_other, spells_end_if e k)
 
-    branches_of : {d : ℕ} {cases : BranchTrees} {o : OtherTree} {ps : List Placed} → SpellsBranches b d cases o ps → (bs : BranchTrees) × (p : OtherTree) × SpellsBranches c d bs p ps
+    branches_of : {d : ℕ} {cases : BranchTrees} {o : OtherTree} {ps : List Placed} → SpellsBranches b d cases o ps
+        → (bs : BranchTrees) × (p : OtherTree) × SpellsBranches c d bs p ps
     branches_of (spells_branch ls body cases o ts us vs s u v) =
         let r = labels s in
         let q = stmts u in
         let y = more_branches v in
         (and_branch r.0 q.0 y.0, y.1, spells_branch r.0 q.0 y.0 y.1 ts us vs r.1 q.1 y.2)
 
-    more_branches : {d : ℕ} {cases : BranchTrees} {o : OtherTree} {ps : List Placed} → SpellsMoreBranches b d cases o ps → (bs : BranchTrees) × (p : OtherTree) × SpellsMoreBranches c d bs p ps
+    more_branches : {d : ℕ} {cases : BranchTrees} {o : OtherTree} {ps : List Placed} → SpellsMoreBranches b d cases o ps
+        → (bs : BranchTrees) × (p : OtherTree) × SpellsMoreBranches c d bs p ps
     more_branches (spells_next_branch cases o ts s) =
         let r = branches_of s in
         (r.0, r.1, spells_next_branch r.0 r.1 ts r.2)

@@ -32,22 +32,29 @@ chained =
 
 chained_is : SpellsExpr bytes 0 1 (binary bin.Add (binary bin.Add (v 2) (v 4) (spot 3)) (v 7) (spot 6)) chained
 chained_is =
-    spells_binary bin.Add (binary bin.Add (v 2) (v 4) (spot 3)) (v 7) (t 6 (tok.Sym sym.Plus)) (at 0 (t 1 (tok.Sym sym.LParen)) ∷ at 1 (t 2 tok.Name) ∷ at 1 (t 3 (tok.Sym sym.Plus)) ∷ at 2 (t 4 tok.Name) ∷ at 0 (t 5 (tok.Sym sym.RParen)) ∷ []) (at 2 (t 7 tok.Name) ∷ [])
+    spells_binary bin.Add (binary bin.Add (v 2) (v 4) (spot 3)) (v 7) (t 6 (tok.Sym sym.Plus))
+    (at 0 (t 1 (tok.Sym sym.LParen)) ∷ at 1 (t 2 tok.Name) ∷ at 1 (t 3 (tok.Sym sym.Plus)) ∷ at 2 (t 4 tok.Name) ∷ at 0 (t 5 (tok.Sym sym.RParen)) ∷ [])
+    (at 2 (t 7 tok.Name) ∷ [])
     (omega arith) refl
-    (spells_brackets (binary bin.Add (v 2) (v 4) (spot 3)) (t 1 (tok.Sym sym.LParen)) (t 5 (tok.Sym sym.RParen)) (at 1 (t 2 tok.Name) ∷ at 1 (t 3 (tok.Sym sym.Plus)) ∷ at 2 (t 4 tok.Name) ∷ []) refl refl
-    (spells_binary bin.Add (v 2) (v 4) (t 3 (tok.Sym sym.Plus)) (at 1 (t 2 tok.Name) ∷ []) (at 2 (t 4 tok.Name) ∷ []) (omega arith) refl (spells_name (t 2 tok.Name) refl) (spells_name (t 4 tok.Name) refl)))
+    (spells_brackets (binary bin.Add (v 2) (v 4) (spot 3)) (t 1 (tok.Sym sym.LParen)) (t 5 (tok.Sym sym.RParen))
+    (at 1 (t 2 tok.Name) ∷ at 1 (t 3 (tok.Sym sym.Plus)) ∷ at 2 (t 4 tok.Name) ∷ []) refl refl
+    (spells_binary bin.Add (v 2) (v 4) (t 3 (tok.Sym sym.Plus)) (at 1 (t 2 tok.Name) ∷ []) (at 2 (t 4 tok.Name) ∷ []) (omega arith) refl
+    (spells_name (t 2 tok.Name) refl) (spells_name (t 4 tok.Name) refl)))
     (spells_name (t 7 tok.Name) refl)
 
 -- a - -b * c: the operand of the sign is b alone, and c stands behind one operator of each level
 abbrev signed : List Placed
 signed =
-    at 0 (t 1 tok.Name) ∷ at 0 (t 2 (tok.Sym sym.Minus)) ∷ at 1 (t 3 (tok.Sym sym.Minus)) ∷ at 2 (t 4 tok.Name) ∷ at 1 (t 5 (tok.Sym sym.Star)) ∷ at 2 (t 6 tok.Name) ∷ []
+    at 0 (t 1 tok.Name) ∷ at 0 (t 2 (tok.Sym sym.Minus)) ∷ at 1 (t 3 (tok.Sym sym.Minus)) ∷ at 2 (t 4 tok.Name) ∷ at 1 (t 5 (tok.Sym sym.Star)) ∷ at 2
+    (t 6 tok.Name) ∷ []
 
 signed_is : SpellsExpr bytes 0 1 (binary bin.Sub (v 1) (binary bin.Mul (unary un.Neg (v 4) (spot 3)) (v 6) (spot 5)) (spot 2)) signed
 signed_is =
-    spells_binary bin.Sub (v 1) (binary bin.Mul (unary un.Neg (v 4) (spot 3)) (v 6) (spot 5)) (t 2 (tok.Sym sym.Minus)) (at 0 (t 1 tok.Name) ∷ []) (at 1 (t 3 (tok.Sym sym.Minus)) ∷ at 2 (t 4 tok.Name) ∷ at 1 (t 5 (tok.Sym sym.Star)) ∷ at 2 (t 6 tok.Name) ∷ [])
+    spells_binary bin.Sub (v 1) (binary bin.Mul (unary un.Neg (v 4) (spot 3)) (v 6) (spot 5)) (t 2 (tok.Sym sym.Minus)) (at 0 (t 1 tok.Name) ∷ [])
+    (at 1 (t 3 (tok.Sym sym.Minus)) ∷ at 2 (t 4 tok.Name) ∷ at 1 (t 5 (tok.Sym sym.Star)) ∷ at 2 (t 6 tok.Name) ∷ [])
     (omega arith) refl
     (spells_name (t 1 tok.Name) refl)
-    (spells_binary bin.Mul (unary un.Neg (v 4) (spot 3)) (v 6) (t 5 (tok.Sym sym.Star)) (at 1 (t 3 (tok.Sym sym.Minus)) ∷ at 2 (t 4 tok.Name) ∷ []) (at 2 (t 6 tok.Name) ∷ []) (omega arith) refl
+    (spells_binary bin.Mul (unary un.Neg (v 4) (spot 3)) (v 6) (t 5 (tok.Sym sym.Star)) (at 1 (t 3 (tok.Sym sym.Minus)) ∷ at 2 (t 4 tok.Name) ∷ [])
+    (at 2 (t 6 tok.Name) ∷ []) (omega arith) refl
     (spells_unary un.Neg (v 4) (t 3 (tok.Sym sym.Minus)) (at 2 (t 4 tok.Name) ∷ []) refl (spells_name (t 4 tok.Name) refl))
     (spells_name (t 6 tok.Name) refl))

@@ -8,12 +8,16 @@ use Rattle.st_tree.specs.declared.expr.Expr.TheBlock.{hidden-the_row-Expr-0}
 use Rattle.st_tree.specs.declared.stmt.Arms.{Arms, out-Arms}
 use Rattle.st_tree.specs.declared.stmt.Branches.{Branches, out-Branches}
 use Rattle.st_tree.specs.declared.stmt.Stmts.{Stmts}
-use Rattle.st_tree.specs.declared.stmt.Stmt.{Stmt, Row_of-Stmt, end_of-Stmt, more_of-Stmt, items-the_row-Stmt, items_hidden-the_row-Stmt-0, items_shown-the_row-Stmt-0, back-Stmt-If-1, If, Case, For}
-use Rattle.st_tree.specs.declared.stmt.Stmt.TheBlock.{Row_of-Arm, end_of-Arm, more_of-Arm, items-the_row-Arm, Row_of-Branch, end_of-Branch, more_of-Branch, items-the_row-Branch, hidden-the_row-Stmt-0, struct-Arms, struct-Branches, items_shown-the_row-Arm-1, items_shown-the_row-Branch-2}
+use Rattle.st_tree.specs.declared.stmt.Stmt.{Stmt, Row_of-Stmt, end_of-Stmt, more_of-Stmt, items-the_row-Stmt, items_hidden-the_row-Stmt-0}
+use Rattle.st_tree.specs.declared.stmt.Stmt.{items_shown-the_row-Stmt-0, back-Stmt-If-1, If, Case, For}
+use Rattle.st_tree.specs.declared.stmt.Stmt.TheBlock.{Row_of-Arm, end_of-Arm, more_of-Arm, items-the_row-Arm, Row_of-Branch, end_of-Branch, more_of-Branch}
+use Rattle.st_tree.specs.declared.stmt.Stmt.TheBlock.{items-the_row-Branch, hidden-the_row-Stmt-0, struct-Arms, struct-Branches, items_shown-the_row-Arm-1}
+use Rattle.st_tree.specs.declared.stmt.Stmt.TheBlock.{items_shown-the_row-Branch-2}
 use Rattle.st_tree.specs.ExprTree.{ExprTrees, call, and_expr}
 use Rattle.st_tree.specs.StmtTree.{StmtTrees, if_, case, for_, and_stmt, and_arm, and_branch, other}
 use Rattle.st_tree.specs.ExprViews.{expr_tree, expr_trees, expr_tree_or_none, row_of_exprs}
-use Rattle.st_tree.specs.StmtViews.{label_trees, stmt_tree, stmt_trees, arm_trees, branch_trees, other_tree, row_of_stmts, row_of_arms, row_of_branches, arms_of, branches_of, other_of}
+use Rattle.st_tree.specs.StmtViews.{label_trees, stmt_tree, stmt_trees, arm_trees, branch_trees, other_tree, row_of_stmts, row_of_arms, row_of_branches}
+use Rattle.st_tree.specs.StmtViews.{arms_of, branches_of, other_of}
 use Rattle.st_tree.specs.Items.{arm_items, branch_items}
 
 row-exprs : (n : _) (k : Row_of-Expr n) → row_of_exprs k ≡ expr_trees (items-the_row-Expr n k)
@@ -58,7 +62,8 @@ other-is (Some ss) = ap (λ (t : StmtTrees). other t) (stmts-are ss.items)
 pub tree-if : (arms : Arms) (o : Option Stmts) → stmt_tree (If arms o) ≡ if_ (arm_trees (arm_items arms)) (other_tree o)
 tree-if arms o = λ i. if_ (arms-are arms i) (other-is o i)
 
-pub tree-case : (e : Expr) (branches : Branches) (o : Option Stmts) (s : Spot) → stmt_tree (Case e branches o s) ≡ case (expr_tree e) (branch_trees (branch_items branches)) (other_tree o) s
+pub tree-case : (e : Expr) (branches : Branches) (o : Option Stmts) (s : Spot)
+    → stmt_tree (Case e branches o s) ≡ case (expr_tree e) (branch_trees (branch_items branches)) (other_tree o) s
 tree-case e branches o s = λ i. case (expr_tree e) (branches-are branches i) (other-is o i) s
 
 pub tree-for : (n : Text) (ns : Spot) (f l : Expr) (by : Option Expr) (body : Stmts) (s : Spot)

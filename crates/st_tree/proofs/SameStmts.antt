@@ -12,7 +12,8 @@ use Rattle.st_tree.specs.declared.stmt.Branches.{Branches}
 use Rattle.st_tree.specs.declared.stmt.Stmts.{Stmts}
 use Rattle.st_tree.specs.declared.stmt.Stmt.{Stmt, If, Case, For}
 use Rattle.st_tree.specs.ExprTree.{ExprTree}
-use Rattle.st_tree.specs.StmtTree.{LabelTree, StmtTree, StmtTrees, ArmTrees, BranchTrees, OtherTree, if_, case, for_, no_stmts, and_stmt, no_arms, and_arm, no_branches, and_branch}
+use Rattle.st_tree.specs.StmtTree.{LabelTree, StmtTree, StmtTrees, ArmTrees, BranchTrees, OtherTree, if_, case, for_, no_stmts, and_stmt, no_arms, and_arm}
+use Rattle.st_tree.specs.StmtTree.{no_branches, and_branch}
 use Rattle.st_tree.specs.ExprViews.{expr_tree, expr_tree_or_none}
 use Rattle.st_tree.specs.StmtViews.{label_tree, label_trees, stmt_tree, stmt_trees, arm_trees, branch_trees, other_tree}
 use Rattle.st_tree.specs.Items.{arm_items, branch_items}
@@ -156,10 +157,13 @@ bare-case a on branches o s xs e f =
 
 pub bare-for : (a : Stmt) (n : Text) (ns : Spot) (first last : Expr) (by : Option Expr) (body : Stmts) (s : Spot) (xs : List Stmt)
     → a ≡ For n ns first last by body s → xs ≡ body.items.items
-    → bare_stmt_of a ≡ for_ n nowhere (bare_expr (expr_tree first)) (bare_expr (expr_tree last)) (bare_expr_or_none (expr_tree_or_none by)) (bare_stmts (stmt_trees xs)) nowhere
+    → bare_stmt_of a
+    ≡ for_ n nowhere (bare_expr (expr_tree first)) (bare_expr (expr_tree last)) (bare_expr_or_none (expr_tree_or_none by))
+    (bare_stmts (stmt_trees xs)) nowhere
 bare-for a n ns first last by body s xs e f =
     ap bare_stmt_of e ∙ ap bare_stmt (tree-for n ns first last by body s)
-    ∙ sym (ap (λ (x : List Stmt). for_ n nowhere (bare_expr (expr_tree first)) (bare_expr (expr_tree last)) (bare_expr_or_none (expr_tree_or_none by)) (bare_stmts (stmt_trees x)) nowhere) f)
+    ∙ sym (ap (λ (x : List Stmt). for_ n nowhere (bare_expr (expr_tree first)) (bare_expr (expr_tree last)) (bare_expr_or_none (expr_tree_or_none by))
+    (bare_stmts (stmt_trees x)) nowhere) f)
 
 -- statements are equal where their parts are
 

@@ -7,7 +7,8 @@ use Rattle.st_tree.specs.declared.expr.UnOp.TheVariants as sign
 use Rattle.st_tree.specs.declared.expr.BinOp.TheVariants as op
 use Rattle.st_tree.specs.declared.program.Class.TheVariants as class
 use Rattle.st_tree.specs.ExprTree.{ExprTree, literal, name, unary, binary, call, no_exprs, and_expr}
-use Rattle.st_tree.specs.StmtTree.{StmtTree, StmtTrees, ArmTrees, LabelTree, assign, if_, case, for_, no_stmts, and_stmt, no_arms, and_arm, no_branches, and_branch, no_other, other}
+use Rattle.st_tree.specs.StmtTree.{StmtTree, StmtTrees, ArmTrees, LabelTree, assign, if_, case, for_, no_stmts, and_stmt, no_arms, and_arm, no_branches}
+use Rattle.st_tree.specs.StmtTree.{and_branch, no_other, other}
 use Rattle.st_tree.specs.Appended.{exprs_and, stmts_and, arms_and, branches_and}
 use Rattle.st_tree.specs.Bare.{nowhere, bare_expr, bare_stmt, bare}
 
@@ -44,8 +45,11 @@ no-else : (arms : ArmTrees) → bare_stmt (if_ arms no_other) ≡ bare_stmt (if_
 no-else arms e = cc
 
 -- a range is kept
-selection : bare_stmt (case (name a (at 6)) (and_branch (record { first = literal None (pos 3) (at 11); last = Some (literal None (pos 5) (at 14)) } ∷ []) no_stmts no_branches) no_other (at 1))
-    ≡ case (name a nowhere) (and_branch (record { first = literal None (pos 3) nowhere; last = Some (literal None (pos 5) nowhere) } ∷ []) no_stmts no_branches) no_other nowhere
+selection : bare_stmt
+    (case (name a (at 6))
+    (and_branch (record { first = literal None (pos 3) (at 11); last = Some (literal None (pos 5) (at 14)) } ∷ []) no_stmts no_branches) no_other (at 1))
+    ≡ case (name a nowhere)
+    (and_branch (record { first = literal None (pos 3) nowhere; last = Some (literal None (pos 5) nowhere) } ∷ []) no_stmts no_branches) no_other nowhere
 selection = refl
 
 -- both spots of a FOR are set aside, its step is kept
@@ -54,8 +58,18 @@ repetition : bare_stmt (for_ y (at 5) (literal None (pos 1) (at 10)) (literal No
 repetition = refl
 
 -- PROGRAM f VAR_INPUT a : INT; END_VAR END_PROGRAM
-program : bare (record { name = f; blocks = record { class = class.Input; decls = record { names = record { name = a; spot = at 21 } ∷ []; ty = ty.Int; init = None } ∷ [] } ∷ []; body = no_stmts })
-    ≡ record { name = f; blocks = record { class = class.Input; decls = record { names = record { name = a; spot = nowhere } ∷ []; ty = ty.Int; init = None } ∷ [] } ∷ []; body = no_stmts }
+program : bare (record {
+  name = f;
+  blocks = record { class = class.Input; decls = record { names = record { name = a; spot = at 21 } ∷ []; ty = ty.Int; init = None } ∷ [] } ∷ [];
+  body =
+      no_stmts;
+})
+    ≡ record {
+      name = f;
+      blocks =
+          record { class = class.Input; decls = record { names = record { name = a; spot = nowhere } ∷ []; ty = ty.Int; init = None } ∷ [] } ∷ [];
+      body = no_stmts;
+    }
 program = refl
 
 -- one more stands at the end

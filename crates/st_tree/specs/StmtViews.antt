@@ -7,10 +7,12 @@ use Rattle.st_tree.specs.declared.stmt.Branch.{Branch}
 use Rattle.st_tree.specs.declared.stmt.Branches.{Branches}
 use Rattle.st_tree.specs.declared.stmt.Stmts.{Stmts}
 use Rattle.st_tree.specs.declared.stmt.Stmt.{Stmt, Row_of-Stmt, end_of-Stmt, more_of-Stmt, Held-Stmt-If-1, None', Some'}
-use Rattle.st_tree.specs.declared.stmt.Stmt.TheBlock.{struct-Arms, struct-Branches, Row_of-Arm, end_of-Arm, more_of-Arm, Row_of-Branch, end_of-Branch, more_of-Branch}
+use Rattle.st_tree.specs.declared.stmt.Stmt.TheBlock.{struct-Arms, struct-Branches, Row_of-Arm, end_of-Arm, more_of-Arm, Row_of-Branch, end_of-Branch}
+use Rattle.st_tree.specs.declared.stmt.Stmt.TheBlock.{more_of-Branch}
 use Rattle.st_tree.specs.declared.stmt.Stmt.TheVariants.{Assign, If', Case', For'}
 use Rattle.st_tree.specs.ExprViews.{expr_tree, expr_tree_or_none}
-use Rattle.st_tree.specs.StmtTree.{LabelTree, StmtTree, StmtTrees, ArmTrees, BranchTrees, OtherTree, assign, if_, case, for_, no_stmts, and_stmt, no_arms, and_arm, no_branches, and_branch, no_other, other}
+use Rattle.st_tree.specs.StmtTree.{LabelTree, StmtTree, StmtTrees, ArmTrees, BranchTrees, OtherTree, assign, if_, case, for_, no_stmts, and_stmt, no_arms}
+use Rattle.st_tree.specs.StmtTree.{and_arm, no_branches, and_branch, no_other, other}
 
 -- labels
 abbrev pub label_tree : Label → LabelTree

@@ -19,6 +19,3 @@ pub use laws::{trees_of_appended, trees_of_nodes};
 pub use program::{Block, Blocks, Class, Decl, Declared, DeclaredNames, Decls, Program};
 pub use same_program::same_tree;
 pub use stmt::{Arm, Arms, Branch, Branches, Label, Labels, Stmt, Stmts};
-
-#[cfg(test)]
-mod tests;

@@ -1,7 +1,8 @@
 //! Statements.
 
 ghost use Rattle.std.specs.Prelude.{◌≡◌, ◌<◌, ◌+◌, [], ◌∷◌, ◌++◌, Some, OnOk, OnErr, drop, length, slice_get};
-ghost use Rattle.st_tree.specs.StmtTree.{assign as assign_tree, if_ as if_tree, case as case_tree, for_ as for_tree, no_stmts, and_stmt, no_arms, and_arm, no_branches, and_branch};
+ghost use Rattle.st_tree.specs.StmtTree.{assign as assign_tree, if_ as if_tree, case as case_tree, for_ as for_tree, no_stmts, and_stmt, no_arms, and_arm};
+ghost use Rattle.st_tree.specs.StmtTree.{no_branches, and_branch};
 ghost use Rattle.st_tree.specs.Appended.{stmts_and, arms_and, branches_and};
 ghost use Rattle.st_tree.specs.ExprViews.{expr_tree, expr_tree_or_none};
 ghost use Rattle.st_tree.specs.StmtViews.{label_tree, label_trees, stmt_tree, stmt_trees, arm_trees, branch_trees, other_tree};
@@ -255,7 +256,8 @@ impl Branches {
         requires { i < length (branch_items self.now) }
         ensures item { slice_get (branch_items self.now) i ≡ Some result.now }
         ensures tree { branch_trees (drop i (branch_items self.now))
-            ≡ and_branch (label_trees result.now.labels.items.items) (stmt_trees result.now.body.items.items) (branch_trees (drop (i + 1) (branch_items self.now))) }
+            ≡ and_branch (label_trees result.now.labels.items.items) (stmt_trees result.now.body.items.items)
+            (branch_trees (drop (i + 1) (branch_items self.now))) }
     {
         &self.items[i]
     }

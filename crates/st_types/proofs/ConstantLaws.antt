@@ -17,12 +17,15 @@ use Rattle.st_types.specs.declared.fault.Fault.{Fault}
 use Rattle.st_types.specs.declared.fault.Rule.TheVariants as rule
 use Rattle.st_types.specs.Faults.{fault}
 use Rattle.st_types.specs.Scope.{Entry, find}
-use Rattle.st_types.specs.ExprTyping.{both, sized, literal_type, Untyped, negated, count, called, function_type, got, widened, widened_all, type_of, SignFault, ExprFault, sign_of, operation_of, call_of, expr_of, exprs_of}
+use Rattle.st_types.specs.ExprTyping.{both, sized, literal_type, Untyped, negated, count, called, function_type, got, widened, widened_all, type_of, SignFault}
+use Rattle.st_types.specs.ExprTyping.{ExprFault, sign_of, operation_of, call_of, expr_of, exprs_of}
 use Rattle.st_types.specs.StmtSteps.{literal_known}
-use Rattle.st_types.specs.StmtTyping.{is_bool, Known, known_entry, known_negated, constant, form_of_known, form_of_negated, form, is_form_bool, form_number, number_in, last_end, last_form, LastFault}
+use Rattle.st_types.specs.StmtTyping.{is_bool, Known, known_entry, known_negated, constant, form_of_known, form_of_negated, form, is_form_bool, form_number}
+use Rattle.st_types.specs.StmtTyping.{number_in, last_end, last_form, LastFault}
 use Rattle.st_types.proofs.ExprLaws.{none-some, some-none, same-value}
 
-literal-is : (v : ℤ) (spot : Spot) (o : Option Ty) → option_and_then literal_known (option_map (λ u. typed.literal u v spot) o) ≡ option_map (λ u. record { ty = u; value = v }) o
+literal-is : (v : ℤ) (spot : Spot) (o : Option Ty)
+    → option_and_then literal_known (option_map (λ u. typed.literal u v spot) o) ≡ option_map (λ u. record { ty = u; value = v }) o
 literal-is v spot None = refl
 literal-is v spot (Some u) = refl
 
@@ -33,7 +36,8 @@ got-is spot e class.Output = refl
 got-is spot e class.Local = refl
 got-is spot e class.Retain = refl
 
-name-is : (spot : Spot) (o : Option Entry) → option_and_then literal_known (option_map (λ e. got spot e e.class) o) ≡ option_and_then (λ e. known_entry e e.class) o
+name-is : (spot : Spot) (o : Option Entry)
+    → option_and_then literal_known (option_map (λ e. got spot e e.class) o) ≡ option_and_then (λ e. known_entry e e.class) o
 name-is spot None = refl
 name-is spot (Some e) = got-is spot e e.class
 
@@ -46,7 +50,8 @@ sign-is op (Some l) spot a = literal-is (neg_ℤ l.value) l.spot (sized (neg_ℤ
 sign-is op None spot None = refl
 sign-is op None spot (Some x) = no-sign op spot x (signed op (ty_of x))
 
-no-operation : (op : BinOp) (spot : Spot) (f g : Ty → typed.TExprTree) (o : Option Ty) → option_and_then literal_known (option_map (λ t. typed.binary op t (f t) (g t) spot) o) ≡ None
+no-operation : (op : BinOp) (spot : Spot) (f g : Ty → typed.TExprTree) (o : Option Ty)
+    → option_and_then literal_known (option_map (λ t. typed.binary op t (f t) (g t) spot) o) ≡ None
 no-operation op spot f g None = refl
 no-operation op spot f g (Some t) = refl
 
@@ -55,15 +60,18 @@ both-is op spot None b = refl
 both-is op spot (Some a) None = refl
 both-is op spot (Some a) (Some b) = no-operation op spot (λ t. widened t (ty_of a) a) (λ t. widened t (ty_of b) b) (common op (ty_of a) (ty_of b))
 
-no-arguments : (f : Fun) (t : Ty) (spot : Spot) (es : List typed.TExprTree) (o : Option (List Ty)) → option_and_then literal_known (option_map (λ ts. typed.call f t (widened_all ts es) spot) o) ≡ None
+no-arguments : (f : Fun) (t : Ty) (spot : Spot) (es : List typed.TExprTree) (o : Option (List Ty))
+    → option_and_then literal_known (option_map (λ ts. typed.call f t (widened_all ts es) spot) o) ≡ None
 no-arguments f t spot es None = refl
 no-arguments f t spot es (Some ts) = refl
 
-no-value : (f : Fun) (spot : Spot) (es : List typed.TExprTree) (o : Option Ty) → option_and_then literal_known (option_and_then (λ t. option_map (λ ts. typed.call f t (widened_all ts es) spot) (arguments f t)) o) ≡ None
+no-value : (f : Fun) (spot : Spot) (es : List typed.TExprTree) (o : Option Ty)
+    → option_and_then literal_known (option_and_then (λ t. option_map (λ ts. typed.call f t (widened_all ts es) spot) (arguments f t)) o) ≡ None
 no-value f spot es None = refl
 no-value f spot es (Some t) = no-arguments f t spot es (arguments f t)
 
-call-is : (o : Option Fun) (spot : Spot) (es : Option (List typed.TExprTree)) → option_and_then literal_known (option_and_then (λ f. option_and_then (call_of f spot) es) o) ≡ None
+call-is : (o : Option Fun) (spot : Spot) (es : Option (List typed.TExprTree))
+    → option_and_then literal_known (option_and_then (λ f. option_and_then (call_of f spot) es) o) ≡ None
 call-is None spot es = refl
 call-is (Some f) spot None = refl
 call-is (Some f) spot (Some es) = no-value f spot es (function_type f (map ty_of es))
@@ -95,7 +103,8 @@ literal-bool : (u : Option Ty) (v : ℤ) (x : Ty) → literal_type u v ≡ Some 
 literal-bool None v x e = sized-number v x e
 literal-bool (Some y) v x e = written-if (fits y v) y x e
 
-known-number : (t : Option Ty) (x : Ty) (u : Option Ty) (v : ℤ) → is_bool x ≡ is_form_bool u → number_in t (Some (record { ty = x; value = v })) ≡ form_number t (Some (record { ty = u; value = v }))
+known-number : (t : Option Ty) (x : Ty) (u : Option Ty) (v : ℤ) → is_bool x ≡ is_form_bool u
+    → number_in t (Some (record { ty = x; value = v })) ≡ form_number t (Some (record { ty = u; value = v }))
 known-number None x u v e = ap (λ b. cond b None (Some v)) e
 known-number (Some t) x u v e = ap (λ b. cond b None (cond (fits t v) (Some v) None)) e
 
@@ -104,7 +113,8 @@ abbrev pub NumberOr : Option ℤ → Option ℤ → (Fault → Type 0) → Type 
 NumberOr a b F = (a ≡ b) ⊎ ((a ≡ None) × ((f : Fault) × F f))
 
 literal-or : (t u : Option Ty) (v : ℤ) (spot : Spot) (o : Option Ty) → literal_type u v ≡ o
-    → NumberOr (number_in t (option_map (λ x. record { ty = x; value = v }) o)) (form_number t (Some (record { ty = u; value = v }))) (λ f. (f ≡ fault rule.Literal spot) × (o ≡ None))
+    → NumberOr (number_in t (option_map (λ x. record { ty = x; value = v }) o)) (form_number t (Some (record { ty = u; value = v })))
+    (λ f. (f ≡ fault rule.Literal spot) × (o ≡ None))
 literal-or t u v spot None e = inr (refl, (fault rule.Literal spot, (refl, refl)))
 literal-or t u v spot (Some x) e = inl (known-number t x u v (literal-bool u v x e))
 
@@ -114,7 +124,8 @@ name-or None (Some k) = refl
 name-or (Some t) (Some k) = refl
 
 minus-or : (t : Option Ty) (l : Untyped) (o : Option Ty) → sized (neg_ℤ l.value) ≡ o
-    → NumberOr (number_in t (option_map (λ x. record { ty = x; value = neg_ℤ l.value }) o)) (form_number t (Some (record { ty = None; value = neg_ℤ l.value }))) (λ f. (f ≡ fault rule.Literal l.spot) × (o ≡ None))
+    → NumberOr (number_in t (option_map (λ x. record { ty = x; value = neg_ℤ l.value }) o)) (form_number t (Some (record { ty = None; value = neg_ℤ l.value })))
+    (λ f. (f ≡ fault rule.Literal l.spot) × (o ≡ None))
 minus-or t l None e = inr (refl, (fault rule.Literal l.spot, (refl, refl)))
 minus-or t l (Some x) e = inl (known-number t x None (neg_ℤ l.value) (sized-number (neg_ℤ l.value) x e))
 
@@ -131,7 +142,8 @@ number-or s t (binary op a b spot) = inl refl
 number-or s t (call n es spot) = inl refl
 
 -- the last end of a range
-pub last-or : (s : List Entry) (t : Option Ty) (last : Option ExprTree) → (last_end s t last ≡ last_form s t last) ⊎ ((last_end s t last ≡ Some None) × ((f : Fault) × LastFault s last f))
+pub last-or : (s : List Entry) (t : Option Ty) (last : Option ExprTree)
+    → (last_end s t last ≡ last_form s t last) ⊎ ((last_end s t last ≡ Some None) × ((f : Fault) × LastFault s last f))
 last-or s t None = inl refl
 last-or s t (Some e) = elim (number-or s t e) [ inl same ↦ inl (ap Some same) | inr g ↦ inr (ap Some g.0, g.1) ]
 

@@ -1,5 +1,6 @@
 -- DeclLaws: what declarations without a fault make keeps the rules of checked programs.
-use Rattle.std.proofs.Common.{◌≡◌, ◌⊎◌, inl, inr, ℕ, zero, suc, ◌+◌, ◌≤◌, ℤ, pos, Bool, true, false, cond, is_none, map, List, [], ◌∷◌, ◌++◌, length, flat_map, All, slice_get, Option, Some, None, refl, sym, ap, subst, arith, append_assoc, append-nil, length-append}
+use Rattle.std.proofs.Common.{◌≡◌, ◌⊎◌, inl, inr, ℕ, zero, suc, ◌+◌, ◌≤◌, ℤ, pos, Bool, true, false, cond, is_none, map, List, [], ◌∷◌, ◌++◌, length, flat_map}
+use Rattle.std.proofs.Common.{All, slice_get, Option, Some, None, refl, sym, ap, subst, arith, append_assoc, append-nil, length-append}
 use Rattle.std.proofs.lemmas.List.Elements.{All-nil, All-cons, All-head, All-tail, All-push}
 use Rattle.std.proofs.lemmas.Slice.Eq.{bytes_eq-Decides}
 use Rattle.std.specs.Char.{to_ascii_lowercase}
@@ -20,7 +21,8 @@ use Rattle.st_types.specs.Scope.{Entry, find}
 use Rattle.st_types.specs.StmtTyping.{Known}
 use Rattle.st_tree.specs.Declarable.{IsDeclarable, AreDeclarable}
 use Rattle.st_types.specs.StmtTyping.{is_constant}
-use Rattle.st_types.specs.DeclTyping.{Made, nothing_made, is_new, added, after_name, after_names, value_or_zero, known_init, init_value, Misfit, NamesFault, after_decl, DeclFault, after_decls, DeclsFault, after_blocks, BlocksFault}
+use Rattle.st_types.specs.DeclTyping.{Made, nothing_made, is_new, added, after_name, after_names, value_or_zero, known_init, init_value, Misfit, NamesFault}
+use Rattle.st_types.specs.DeclTyping.{after_decl, DeclFault, after_decls, DeclsFault, after_blocks, BlocksFault}
 use Rattle.st_types.proofs.ExprLaws.{some-none, none-some, same-value}
 use Rattle.st_types.proofs.MadeChecked.{HasSlot, IsEntry, IsScope, KnownFits, within-fits, constant-fits}
 
@@ -49,7 +51,8 @@ other-name : (a b : List ℕ) → is_same_name a b ≡ false → SameName a b �
 other-name a b e h = let k : is_same_name a b ≡ true = (bytes_eq-Decides (map to_ascii_lowercase a) (map to_ascii_lowercase b)).1 h in absurd cc
 
 -- what a name stands for after one entry more: what it stood for, or else the entry
-find-cond : (b : Bool) (y x e : Entry) (o p : Option Entry) → (p ≡ Some e → (o ≡ Some e) ⊎ (x ≡ e)) → cond b (Some y) p ≡ Some e → (cond b (Some y) o ≡ Some e) ⊎ (x ≡ e)
+find-cond : (b : Bool) (y x e : Entry) (o p : Option Entry) → (p ≡ Some e → (o ≡ Some e) ⊎ (x ≡ e)) → cond b (Some y) p ≡ Some e
+    → (cond b (Some y) o ≡ Some e) ⊎ (x ≡ e)
 find-cond true y x e o p h k = inl k
 find-cond false y x e o p h k = h k
 
@@ -151,7 +154,8 @@ added_if b m k t v d = record {
   slots = cond b m.slots (m.slots ++ new_slot k t v d ∷ []);
 }
 
-added-sound : (m : Made) (k : Class) (t : Ty) (v : ℤ) (d : DeclaredTree) (b : Bool) → is_constant k ≡ b → IsSound m → find m.entries d.name ≡ None → IsDeclarable d.name → fits t v ≡ true → IsSound (added_if b m k t v d)
+added-sound : (m : Made) (k : Class) (t : Ty) (v : ℤ) (d : DeclaredTree) (b : Bool) → is_constant k ≡ b → IsSound m → find m.entries d.name ≡ None
+    → IsDeclarable d.name → fits t v ≡ true → IsSound (added_if b m k t v d)
 added-sound m k t v d true c h n w f = record {
   slots = h.slots;
   scope = scope-push m.slots m.entries (new_entry m k t v d) h.scope (entry-constant m.slots (new_entry m k t v d) k c f);
@@ -169,7 +173,8 @@ added-sound m k t v d false c h n w f =
           All-push (λ r. SameName r.name o → ⊥) m.slots s (h.named o r.0) (other-name d.name o r.1);
     }
 
-name-sound : (m : Made) (k : Class) (t : Ty) (v : ℤ) (d : DeclaredTree) (b : Bool) → is_new m d.name ≡ b → IsSound m → IsDeclarable d.name → fits t v ≡ true → IsSound (cond b (added m k t v d) m)
+name-sound : (m : Made) (k : Class) (t : Ty) (v : ℤ) (d : DeclaredTree) (b : Bool) → is_new m d.name ≡ b → IsSound m → IsDeclarable d.name → fits t v ≡ true
+    → IsSound (cond b (added m k t v d) m)
 name-sound m k t v d false e h w f = h
 name-sound m k t v d true e h w f = added-sound m k t v d (is_constant k) refl h (new-none (find m.entries d.name) e) w f
 
@@ -195,19 +200,22 @@ init-known m (Some e) h = constant-fits m.slots m.entries e h
 
 -- ---- declarations
 
-names-sound : (m : Made) (k : Class) (t : Ty) (v : ℤ) (x : Option Known) (ds : List DeclaredTree) → IsSound m → AreDeclarable ds → ((Misfit x t → ⊥) → fits t v ≡ true) → ((f : Fault) → NamesFault m k t v x ds f → ⊥) → IsSound (after_names m k t v ds)
+names-sound : (m : Made) (k : Class) (t : Ty) (v : ℤ) (x : Option Known) (ds : List DeclaredTree) → IsSound m → AreDeclarable ds
+    → ((Misfit x t → ⊥) → fits t v ≡ true) → ((f : Fault) → NamesFault m k t v x ds f → ⊥) → IsSound (after_names m k t v ds)
 names-sound m k t v x [] h w f never = h
 names-sound m k t v x (d ∷ ds) h w f never =
     let fit = f (λ e. never (fault rule.Mismatch d.spot) (inr (inl (refl, e)))) in
     let one = name-sound m k t v d (is_new m d.name) refl h (All-head (λ y. IsDeclarable y.name) d ds w) fit in
     names-sound (after_name m k t v d) k t v x ds one (All-tail (λ y. IsDeclarable y.name) d ds w) f (λ g e. never g (inr (inr e)))
 
-decl-sound : (all : List Entry) (k : Class) (m : Made) (d : DeclTree) → IsSound m → AreDeclarable d.names → ((f : Fault) → DeclFault all k m d f → ⊥) → IsSound (after_decl k m d)
+decl-sound : (all : List Entry) (k : Class) (m : Made) (d : DeclTree) → IsSound m → AreDeclarable d.names → ((f : Fault) → DeclFault all k m d f → ⊥)
+    → IsSound (after_decl k m d)
 decl-sound all k m d h w never =
     names-sound m k d.ty (init_value m d.init) (known_init m d.init) d.names h w
     (λ e. value-fits (known_init m d.init) d.ty (init-known m d.init h.scope) e) (λ f e. never f (inr e))
 
-decls-sound : (all : List Entry) (k : Class) (m : Made) (ds : List DeclTree) → IsSound m → AreDeclarable (flat_map (λ d. d.names) ds) → ((f : Fault) → DeclsFault all k m ds f → ⊥) → IsSound (after_decls k m ds)
+decls-sound : (all : List Entry) (k : Class) (m : Made) (ds : List DeclTree) → IsSound m → AreDeclarable (flat_map (λ d. d.names) ds)
+    → ((f : Fault) → DeclsFault all k m ds f → ⊥) → IsSound (after_decls k m ds)
 decls-sound all k m [] h w never = h
 decls-sound all k m (d ∷ ds) h w never =
     let one = decl-sound all k m d h (all-front (λ y. IsDeclarable y.name) d.names (flat_map (λ y. y.names) ds) w) (λ f e. never f (inl e)) in
@@ -217,11 +225,13 @@ abbrev pub block_names : BlockTree → List DeclaredTree
 block_names b = flat_map (λ d. d.names) b.decls
 
 -- blocks of declarations without a fault keep what has been made sound
-pub blocks-sound : (all : List Entry) (m : Made) (bs : List BlockTree) → IsSound m → AreDeclarable (flat_map block_names bs) → ((f : Fault) → BlocksFault all m bs f → ⊥) → IsSound (after_blocks m bs)
+pub blocks-sound : (all : List Entry) (m : Made) (bs : List BlockTree) → IsSound m → AreDeclarable (flat_map block_names bs)
+    → ((f : Fault) → BlocksFault all m bs f → ⊥) → IsSound (after_blocks m bs)
 blocks-sound all m [] h w never = h
 blocks-sound all m (b ∷ bs) h w never =
     let one = decls-sound all b.class m b.decls h (all-front (λ y. IsDeclarable y.name) (block_names b) (flat_map block_names bs) w) (λ f e. never f (inl e)) in
-    blocks-sound all (after_decls b.class m b.decls) bs one (all-back (λ y. IsDeclarable y.name) (block_names b) (flat_map block_names bs) w) (λ f e. never f (inr e))
+    blocks-sound all (after_decls b.class m b.decls) bs one (all-back (λ y. IsDeclarable y.name) (block_names b) (flat_map block_names bs) w)
+    (λ f e. never f (inr e))
 
 -- ---- how many slots there are
 

@@ -13,8 +13,10 @@ use Rattle.st_types.specs.Notes.{Notes}
 use Rattle.st_types.specs.Scope.{Entry}
 use Rattle.st_types.specs.StmtTyping.{Known, spot_of, known_negated, constant, form_of_known, form_of_negated, form}
 use Rattle.st_types.specs.ExprTyping.{Untyped, negated}
-use Rattle.st_types.specs.DeclTyping.{Made, is_new, after_name, after_names, known_init, init_value, Misfit, NamesFault, InitFault, after_decl, DeclFault, after_decls, DeclsFault, after_blocks, BlocksFault}
-use Rattle.st_types.specs.DeclSteps.{FormFault, Judges, InitForm, DeclForm, DeclsForm, BlocksForm, InitInside, DeclsInside, BlocksInside, JudgesInit, Makes, MakesNames}
+use Rattle.st_types.specs.DeclTyping.{Made, is_new, after_name, after_names, known_init, init_value, Misfit, NamesFault, InitFault, after_decl, DeclFault}
+use Rattle.st_types.specs.DeclTyping.{after_decls, DeclsFault, after_blocks, BlocksFault}
+use Rattle.st_types.specs.DeclSteps.{FormFault, Judges, InitForm, DeclForm, DeclsForm, BlocksForm, InitInside, DeclsInside, BlocksInside, JudgesInit, Makes}
+use Rattle.st_types.specs.DeclSteps.{MakesNames}
 use Rattle.st_types.proofs.NoteLaws.{quiet, pair, notes-as, note-where, note-always}
 use Rattle.st_types.proofs.ConstantLaws.{name-form, sign-form}
 
@@ -72,7 +74,8 @@ blocks-inside all m (b ∷ bs) f (inl h) = inl (decls-inside all b.class m b.dec
 blocks-inside all m (b ∷ bs) f (inr h) = inr (blocks-inside all (after_decls b.class m b.decls) bs f h)
 
 -- both walks together meet all faults of declarations
-pub two-walks : (a b c : Option Fault) (all : List Entry) (m n end : Made) (bs : List BlockTree) → Makes a b n end (BlocksForm m bs) → Notes b c (BlocksInside all bs) → Makes a c n end (BlocksFault all m bs)
+pub two-walks : (a b c : Option Fault) (all : List Entry) (m n end : Made) (bs : List BlockTree) → Makes a b n end (BlocksForm m bs)
+    → Notes b c (BlocksInside all bs) → Makes a c n end (BlocksFault all m bs)
 two-walks a b c all m n end bs h k = record {
   notes = notes-as a c (λ f. BlocksForm m bs f ⊎ BlocksInside all bs f) (BlocksFault all m bs) (pair a b c (BlocksForm m bs) (BlocksInside all bs) h.notes k)
       (λ f. blocks-split all m bs f)
@@ -82,24 +85,29 @@ two-walks a b c all m n end bs h k = record {
 
 -- ---- initial values
 
-pub literal-judges : (s : List Entry) (t : Option Ty) (v : ℤ) (p : Spot) (a : Option Fault) (k : Option Known) → k ≡ constant s (literal t v p) → Judges s (literal t v p) a a k
+pub literal-judges : (s : List Entry) (t : Option Ty) (v : ℤ) (p : Spot) (a : Option Fault) (k : Option Known) → k ≡ constant s (literal t v p)
+    → Judges s (literal t v p) a a k
 literal-judges s t v p a k is = record { notes = quiet a (FormFault s (literal t v p)) (λ f h. absurd cc); gives = is }
 
-pub name-judges : (s : List Entry) (n : List ℕ) (p : Spot) (a b : Option Fault) (k : Option Known) → k ≡ constant s (name n p) → Notes a b (λ f. (f ≡ fault rule.Bound p) × (k ≡ None)) → Judges s (name n p) a b k
+pub name-judges : (s : List Entry) (n : List ℕ) (p : Spot) (a b : Option Fault) (k : Option Known) → k ≡ constant s (name n p)
+    → Notes a b (λ f. (f ≡ fault rule.Bound p) × (k ≡ None)) → Judges s (name n p) a b k
 name-judges s n p a b k is h = record {
-  notes = note-where a b (fault rule.Bound p) (k ≡ None) (form s (name n p) ≡ None) h (λ e. is ∙ name-form (constant s (name n p)) e) (λ e. ap (option_map form_of_known) (sym is ∙ e));
+  notes = note-where a b (fault rule.Bound p) (k ≡ None) (form s (name n p) ≡ None) h (λ e. is ∙ name-form (constant s (name n p)) e)
+      (λ e. ap (option_map form_of_known) (sym is ∙ e));
   gives = is;
 }
 
 pub sign-judges : (s : List Entry) (op : UnOp) (x : ExprTree) (p : Spot) (a b : Option Fault) (l : Option Untyped) (k : Option Known) → l ≡ negated op x
     → Notes a b (λ f. (f ≡ fault rule.Bound p) × (l ≡ None)) → k ≡ known_negated l → Judges s (unary op x p) a b k
 sign-judges s op x p a b l k is h gives = record {
-  notes = note-where a b (fault rule.Bound p) (l ≡ None) (form s (unary op x p) ≡ None) h (λ e. is ∙ sign-form (negated op x) e) (λ e. ap (option_map form_of_negated) (sym is ∙ e));
+  notes = note-where a b (fault rule.Bound p) (l ≡ None) (form s (unary op x p) ≡ None) h (λ e. is ∙ sign-form (negated op x) e)
+      (λ e. ap (option_map form_of_negated) (sym is ∙ e));
   gives = gives ∙ ap known_negated is;
 }
 
 -- what else is no constant form
-pub other-judges : (s : List Entry) (e : ExprTree) (p : Spot) (a b : Option Fault) → p ≡ spot_of e → form s e ≡ None → constant s e ≡ None → Notes a b (λ f. f ≡ fault rule.Bound p) → Judges s e a b None
+pub other-judges : (s : List Entry) (e : ExprTree) (p : Spot) (a b : Option Fault) → p ≡ spot_of e → form s e ≡ None → constant s e ≡ None
+    → Notes a b (λ f. f ≡ fault rule.Bound p) → Judges s e a b None
 other-judges s e p a b at never none h = record {
   notes = note-always a b (fault rule.Bound (spot_of e)) (form s e ≡ None) (subst (λ q. Notes a b (λ f. f ≡ fault rule.Bound q)) at h) never;
   gives = sym none;
@@ -118,7 +126,8 @@ pub one-name : (k : Class) (t : Ty) (v : ℤ) (x : Option Known) (d : DeclaredTr
 one-name k t v x d ds m n end a b c e n1 is n2 rest =
     let r = subst (λ y. Makes c e end (after_names y k t v ds) (NamesFault y k t v x ds)) is rest in
     record {
-      notes = pair a b e (λ f. (f ≡ fault rule.Duplicate d.spot) × (is_new m d.name ≡ false)) (λ f. ((f ≡ fault rule.Mismatch d.spot) × Misfit x t) ⊎ NamesFault (after_name m k t v d) k t v x ds f) n1
+      notes = pair a b e (λ f. (f ≡ fault rule.Duplicate d.spot) × (is_new m d.name ≡ false))
+          (λ f. ((f ≡ fault rule.Mismatch d.spot) × Misfit x t) ⊎ NamesFault (after_name m k t v d) k t v x ds f) n1
           (pair b c e (λ f. (f ≡ fault rule.Mismatch d.spot) × Misfit x t) (NamesFault (after_name m k t v d) k t v x ds) n2 r.notes);
       gives = r.gives;
     }
@@ -129,7 +138,10 @@ pub one-init : (k : Class) (d : DeclTree) (m n : Made) (a b c : Option Fault) (x
     → JudgesInit m d.init a b x → MakesNames k d.ty x d.names m n b c → Makes a c n (after_decl k m d) (DeclForm k m d)
 one-init k d m n a b c x init names =
     let r = subst (λ y. MakesNames k d.ty y d.names m n b c) init.gives names in
-    record { notes = pair a b c (InitForm m.entries d.init) (NamesFault m k d.ty (init_value m d.init) (known_init m d.init) d.names) init.notes r.notes; gives = r.gives }
+    record {
+      notes = pair a b c (InitForm m.entries d.init) (NamesFault m k d.ty (init_value m d.init) (known_init m d.init) d.names) init.notes r.notes;
+      gives = r.gives;
+    }
 
 pub no-decls : (k : Class) (m : Made) (a : Option Fault) → Makes a a m m (DeclsForm k m [])
 no-decls k m a = record { notes = quiet a (DeclsForm k m []) (λ f h. h); gives = refl }

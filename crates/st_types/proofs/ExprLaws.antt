@@ -1,5 +1,6 @@
 -- ExprLaws: an expression has a type, and a checked expression of that type, exactly where it has no fault.
-use Rattle.std.proofs.Common.{◌≡◌, neg_ℤ, ◌⊎◌, inl, inr, List, [], ◌∷◌, map, Option, Some, None, option_map, option_and_then, IfSome, refl, sym, ap, ap₂, ◌∙◌, Bool, true, false, cond}
+use Rattle.std.proofs.Common.{◌≡◌, neg_ℤ, ◌⊎◌, inl, inr, List, [], ◌∷◌, map, Option, Some, None, option_map, option_and_then, IfSome, refl, sym, ap, ap₂, ◌∙◌}
+use Rattle.std.proofs.Common.{Bool, true, false, cond}
 use Rattle.vcp_base.specs.declared.spot.Spot.{Spot}
 use Rattle.vcp_base.specs.declared.ty.Ty.{Ty}
 use Rattle.vcp_base.specs.declared.ty.Ty.TheVariants as ty
@@ -18,7 +19,9 @@ use Rattle.st_types.specs.declared.fault.Fault.{Fault}
 use Rattle.st_types.specs.declared.fault.Rule.TheVariants as rule
 use Rattle.st_types.specs.Faults.{fault}
 use Rattle.st_types.specs.Scope.{Entry, find}
-use Rattle.st_types.specs.ExprTyping.{both, sized, literal_type, Untyped, negated, count, called, of_sel, of_one, of_two, of_three, function_type, sign_type, type_of, types_of, Clashes, SignFault, CallFault, ExprFault, ExprsFault, got, widened, widened_all, sign_of, operation_of, call_of, expr_of, exprs_of}
+use Rattle.st_types.specs.ExprTyping.{both, sized, literal_type, Untyped, negated, count, called, of_sel, of_one, of_two, of_three, function_type, sign_type}
+use Rattle.st_types.specs.ExprTyping.{type_of, types_of, Clashes, SignFault, CallFault, ExprFault, ExprsFault, got, widened, widened_all, sign_of, operation_of}
+use Rattle.st_types.specs.ExprTyping.{call_of, expr_of, exprs_of}
 
 -- ---- options
 
@@ -111,7 +114,8 @@ abs-takes a None h = tt
 abs-takes a (Some t) h = (t ∷ [], h.2 (t ∷ []), (h.0, tt))
 
 -- a conversion to t takes its source type, and one that widens to it
-conversion-takes : (f : Fun) (source t a : Ty) (b : Bool) → within a source ≡ b → arguments f t ≡ Some (source ∷ []) → IfSome (cond b (Some t) None) (Takes f (a ∷ []))
+conversion-takes : (f : Fun) (source t a : Ty) (b : Bool) → within a source ≡ b → arguments f t ≡ Some (source ∷ [])
+    → IfSome (cond b (Some t) None) (Takes f (a ∷ []))
 conversion-takes f source t a false w h = tt
 conversion-takes f source t a true w h = (source ∷ [], h, (w, tt))
 
@@ -206,26 +210,33 @@ got-type spot e class.Output = refl
 got-type spot e class.Local = refl
 got-type spot e class.Retain = refl
 
-sign-is : (op : UnOp) (l : Option Untyped) (spot : Spot) (a : Option typed.TExprTree) → option_map ty_of (sign_of op l spot a) ≡ sign_type op l (option_map ty_of a)
+sign-is : (op : UnOp) (l : Option Untyped) (spot : Spot) (a : Option typed.TExprTree)
+    → option_map ty_of (sign_of op l spot a) ≡ sign_type op l (option_map ty_of a)
 sign-is op (Some l) spot a = map-back ty_of (λ t. typed.literal t (neg_ℤ l.value) l.spot) (λ x. refl) (sized (neg_ℤ l.value))
 sign-is op None spot None = refl
 sign-is op None spot (Some x) = map-back ty_of (λ t. typed.unary op t x spot) (λ t. refl) (signed op (ty_of x))
 
-operation-is : (op : BinOp) (spot : Spot) (a b : Option typed.TExprTree) → option_map ty_of (both (operation_of op spot) a b) ≡ both (λ t u. option_map (result op) (common op t u)) (option_map ty_of a) (option_map ty_of b)
+operation-is : (op : BinOp) (spot : Spot) (a b : Option typed.TExprTree)
+    → option_map ty_of (both (operation_of op spot) a b) ≡ both (λ t u. option_map (result op) (common op t u)) (option_map ty_of a) (option_map ty_of b)
 operation-is op spot None b = refl
 operation-is op spot (Some a) None = refl
-operation-is op spot (Some a) (Some b) = map-same ty_of (λ t. typed.binary op t (widened t (ty_of a) a) (widened t (ty_of b) b) spot) (result op) (λ t. refl) (common op (ty_of a) (ty_of b))
+operation-is op spot (Some a) (Some b) =
+    map-same ty_of (λ t. typed.binary op t (widened t (ty_of a) a) (widened t (ty_of b) b) spot) (result op) (λ t. refl) (common op (ty_of a) (ty_of b))
 
-call-gives : (f : Fun) (spot : Spot) (es : List typed.TExprTree) (us : List Ty) (o : Option Ty) → IfSome o (Takes f us) → option_map ty_of (option_and_then (λ t. option_map (λ ts. typed.call f t (widened_all ts es) spot) (arguments f t)) o) ≡ o
+call-gives : (f : Fun) (spot : Spot) (es : List typed.TExprTree) (us : List Ty) (o : Option Ty) → IfSome o (Takes f us)
+    → option_map ty_of (option_and_then (λ t. option_map (λ ts. typed.call f t (widened_all ts es) spot) (arguments f t)) o) ≡ o
 call-gives f spot es us None h = refl
 call-gives f spot es us (Some t) h = ap (λ a. option_map ty_of (option_map (λ ts. typed.call f t (widened_all ts es) spot) a)) h.1
 
-call-is : (o : Option Fun) (spot : Spot) (es : Option (List typed.TExprTree)) → option_map ty_of (option_and_then (λ f. option_and_then (call_of f spot) es) o) ≡ option_and_then (λ f. option_and_then (function_type f) (option_map (map ty_of) es)) o
+call-is : (o : Option Fun) (spot : Spot) (es : Option (List typed.TExprTree))
+    → option_map ty_of (option_and_then (λ f. option_and_then (call_of f spot) es) o)
+    ≡ option_and_then (λ f. option_and_then (function_type f) (option_map (map ty_of) es)) o
 call-is None spot es = refl
 call-is (Some f) spot None = refl
 call-is (Some f) spot (Some es) = call-gives f spot es (map ty_of es) (function_type f (map ty_of es)) (takes f (map ty_of es))
 
-more-is : (a : Option typed.TExprTree) (es : Option (List typed.TExprTree)) → option_map (map ty_of) (both (λ x xs. Some (x ∷ xs)) a es) ≡ both (λ t ts. Some (t ∷ ts)) (option_map ty_of a) (option_map (map ty_of) es)
+more-is : (a : Option typed.TExprTree) (es : Option (List typed.TExprTree))
+    → option_map (map ty_of) (both (λ x xs. Some (x ∷ xs)) a es) ≡ both (λ t ts. Some (t ∷ ts)) (option_map ty_of a) (option_map (map ty_of) es)
 more-is None es = refl
 more-is (Some a) None = refl
 more-is (Some a) (Some es) = refl
@@ -235,8 +246,10 @@ mutual
   typed-is s (literal t v spot) = map-back ty_of (λ u. typed.literal u v spot) (λ u. refl) (literal_type t v)
   typed-is s (name n spot) = map-same ty_of (λ e. got spot e e.class) (λ e. e.ty) (λ e. got-type spot e e.class) (find s n)
   typed-is s (unary op a spot) = sign-is op (negated op a) spot (expr_of s a) ∙ ap (sign_type op (negated op a)) (typed-is s a)
-  typed-is s (binary op a b spot) = operation-is op spot (expr_of s a) (expr_of s b) ∙ ap₂ (both (λ t u. option_map (result op) (common op t u))) (typed-is s a) (typed-is s b)
-  typed-is s (call n es spot) = call-is (called n (count es)) spot (exprs_of s es) ∙ ap (λ ts. option_and_then (λ f. option_and_then (function_type f) ts) (called n (count es))) (typed-all s es)
+  typed-is s (binary op a b spot) = operation-is op spot (expr_of s a) (expr_of s b)
+      ∙ ap₂ (both (λ t u. option_map (result op) (common op t u))) (typed-is s a) (typed-is s b)
+  typed-is s (call n es spot) = call-is (called n (count es)) spot (exprs_of s es)
+      ∙ ap (λ ts. option_and_then (λ f. option_and_then (function_type f) ts) (called n (count es))) (typed-all s es)
 
   pub typed-all : (s : List Entry) (es : ExprTrees) → option_map (map ty_of) (exprs_of s es) ≡ types_of s es
   typed-all s no_exprs = refl
@@ -250,23 +263,27 @@ types-are s es = sym (typed-all s es)
 
 -- ---- where there is no type, there is a fault
 
-call-none : (o : Option Fun) (ts : Option (List Ty)) (spot : Spot) (F : Fault → Type 0) → (ts ≡ None → (f : Fault) × F f) → option_and_then (λ f. option_and_then (function_type f) ts) o ≡ None → (f : Fault) × (F f ⊎ CallFault o ts spot f)
+call-none : (o : Option Fun) (ts : Option (List Ty)) (spot : Spot) (F : Fault → Type 0) → (ts ≡ None → (f : Fault) × F f)
+    → option_and_then (λ f. option_and_then (function_type f) ts) o ≡ None → (f : Fault) × (F f ⊎ CallFault o ts spot f)
 call-none None ts spot F h e = (fault rule.Call spot, inr refl)
 call-none (Some g) None spot F h e = let k = h refl in (k.0, inl k.1)
 call-none (Some g) (Some us) spot F h e = (fault rule.Mismatch spot, inr (refl, (us, refl, e)))
 
-sign-none : (op : UnOp) (l : Option Untyped) (t : Option Ty) (spot : Spot) (F : Fault → Type 0) → (t ≡ None → (f : Fault) × F f) → sign_type op l t ≡ None → (f : Fault) × SignFault op l t spot F f
+sign-none : (op : UnOp) (l : Option Untyped) (t : Option Ty) (spot : Spot) (F : Fault → Type 0) → (t ≡ None → (f : Fault) × F f) → sign_type op l t ≡ None
+    → (f : Fault) × SignFault op l t spot F f
 sign-none op (Some l) t spot F h e = (fault rule.Literal l.spot, (refl, e))
 sign-none op None None spot F h e = let k = h refl in (k.0, inl k.1)
 sign-none op None (Some x) spot F h e = (fault rule.Mismatch spot, inr (refl, (x, refl, e)))
 
-operation-none : (op : BinOp) (t u : Option Ty) (spot : Spot) (F G : Fault → Type 0) → (t ≡ None → (f : Fault) × F f) → (u ≡ None → (f : Fault) × G f) → both (λ x y. option_map (result op) (common op x y)) t u ≡ None → (f : Fault) × (F f ⊎ (G f ⊎ ((f ≡ fault rule.Mismatch spot) × Clashes op t u)))
+operation-none : (op : BinOp) (t u : Option Ty) (spot : Spot) (F G : Fault → Type 0) → (t ≡ None → (f : Fault) × F f) → (u ≡ None → (f : Fault) × G f)
+    → both (λ x y. option_map (result op) (common op x y)) t u ≡ None → (f : Fault) × (F f ⊎ (G f ⊎ ((f ≡ fault rule.Mismatch spot) × Clashes op t u)))
 operation-none op None u spot F G h k e = let g = h refl in (g.0, inl g.1)
 operation-none op (Some x) None spot F G h k e = let g = k refl in (g.0, inr (inl g.1))
 operation-none op (Some x) (Some y) spot F G h k e = (fault rule.Mismatch spot, inr (inr (refl, (x, y, refl, refl, map-none (result op) (common op x y) e))))
 
 -- where a pair of parts has no value, one of them has a fault
-pub pair-none : {A B C : Type 0} (c : A → B → C) (a : Option A) (b : Option B) (F G : Fault → Type 0) → (a ≡ None → (f : Fault) × F f) → (b ≡ None → (f : Fault) × G f) → both (λ x y. Some (c x y)) a b ≡ None → (f : Fault) × (F f ⊎ G f)
+pub pair-none : {A B C : Type 0} (c : A → B → C) (a : Option A) (b : Option B) (F G : Fault → Type 0) → (a ≡ None → (f : Fault) × F f)
+    → (b ≡ None → (f : Fault) × G f) → both (λ x y. Some (c x y)) a b ≡ None → (f : Fault) × (F f ⊎ G f)
 pair-none c None b F G h k e = let g = h refl in (g.0, inl g.1)
 pair-none c (Some x) None F G h k e = let g = k refl in (g.0, inr g.1)
 pair-none c (Some x) (Some y) F G h k e = absurd (some-none (c x y) e)
@@ -285,19 +302,22 @@ mutual
 
 -- ---- where there is a fault, there is no type
 
-call-fault : (o : Option Fun) (ts : Option (List Ty)) (spot : Spot) (F : Fault → Type 0) (f : Fault) → (F f → ts ≡ None) → F f ⊎ CallFault o ts spot f → option_and_then (λ g. option_and_then (function_type g) ts) o ≡ None
+call-fault : (o : Option Fun) (ts : Option (List Ty)) (spot : Spot) (F : Fault → Type 0) (f : Fault) → (F f → ts ≡ None) → F f ⊎ CallFault o ts spot f
+    → option_and_then (λ g. option_and_then (function_type g) ts) o ≡ None
 call-fault None ts spot F f h e = refl
 call-fault (Some g) None spot F f h e = refl
 call-fault (Some g) (Some us) spot F f h (inl k) = absurd (some-none us (h k))
 call-fault (Some g) (Some us) spot F f h (inr m) = ap (function_type g) (same-value us m.1.0 m.1.1) ∙ m.1.2
 
-sign-fault : (op : UnOp) (l : Option Untyped) (t : Option Ty) (spot : Spot) (F : Fault → Type 0) (f : Fault) → (F f → t ≡ None) → SignFault op l t spot F f → sign_type op l t ≡ None
+sign-fault : (op : UnOp) (l : Option Untyped) (t : Option Ty) (spot : Spot) (F : Fault → Type 0) (f : Fault) → (F f → t ≡ None) → SignFault op l t spot F f
+    → sign_type op l t ≡ None
 sign-fault op (Some l) t spot F f h e = e.1
 sign-fault op None None spot F f h e = refl
 sign-fault op None (Some x) spot F f h (inl k) = absurd (some-none x (h k))
 sign-fault op None (Some x) spot F f h (inr m) = ap (signed op) (same-value x m.1.0 m.1.1) ∙ m.1.2
 
-operation-fault : (op : BinOp) (t u : Option Ty) (spot : Spot) (F G : Fault → Type 0) (f : Fault) → (F f → t ≡ None) → (G f → u ≡ None) → F f ⊎ (G f ⊎ ((f ≡ fault rule.Mismatch spot) × Clashes op t u)) → both (λ x y. option_map (result op) (common op x y)) t u ≡ None
+operation-fault : (op : BinOp) (t u : Option Ty) (spot : Spot) (F G : Fault → Type 0) (f : Fault) → (F f → t ≡ None) → (G f → u ≡ None)
+    → F f ⊎ (G f ⊎ ((f ≡ fault rule.Mismatch spot) × Clashes op t u)) → both (λ x y. option_map (result op) (common op x y)) t u ≡ None
 operation-fault op None u spot F G f h k e = refl
 operation-fault op (Some x) None spot F G f h k e = refl
 operation-fault op (Some x) (Some y) spot F G f h k (inl g) = absurd (some-none x (h g))
@@ -306,7 +326,8 @@ operation-fault op (Some x) (Some y) spot F G f h k (inr (inr m)) =
     ap (option_map (result op)) (ap₂ (common op) (same-value x m.1.0 m.1.2) (same-value y m.1.1 m.1.3) ∙ m.1.4)
 
 -- where one of a pair of parts has no value, the pair has none
-pub pair-fault : {A B C : Type 0} (c : A → B → C) (a : Option A) (b : Option B) (F G : Fault → Type 0) (f : Fault) → (F f → a ≡ None) → (G f → b ≡ None) → F f ⊎ G f → both (λ x y. Some (c x y)) a b ≡ None
+pub pair-fault : {A B C : Type 0} (c : A → B → C) (a : Option A) (b : Option B) (F G : Fault → Type 0) (f : Fault) → (F f → a ≡ None) → (G f → b ≡ None)
+    → F f ⊎ G f → both (λ x y. Some (c x y)) a b ≡ None
 pair-fault c None b F G f h k e = refl
 pair-fault c (Some x) None F G f h k e = refl
 pair-fault c (Some x) (Some y) F G f h k (inl g) = absurd (some-none x (h g))
@@ -317,12 +338,14 @@ mutual
   fault-no-type s (literal t v spot) f h = h.1
   fault-no-type s (name n spot) f h = ap (option_map (λ e. e.ty)) h.1
   fault-no-type s (unary op a spot) f h = sign-fault op (negated op a) (type_of s a) spot (ExprFault s a) f (fault-no-type s a f) h
-  fault-no-type s (binary op a b spot) f h = operation-fault op (type_of s a) (type_of s b) spot (ExprFault s a) (ExprFault s b) f (fault-no-type s a f) (fault-no-type s b f) h
+  fault-no-type s (binary op a b spot) f h =
+      operation-fault op (type_of s a) (type_of s b) spot (ExprFault s a) (ExprFault s b) f (fault-no-type s a f) (fault-no-type s b f) h
   fault-no-type s (call n es spot) f h = call-fault (called n (count es)) (types_of s es) spot (ExprsFault s es) f (fault-no-types s es f) h
 
   pub fault-no-types : (s : List Entry) (es : ExprTrees) (f : Fault) → ExprsFault s es f → types_of s es ≡ None
   fault-no-types s no_exprs f h = absurd h
-  fault-no-types s (and_expr x xs) f h = pair-fault (λ t ts. t ∷ ts) (type_of s x) (types_of s xs) (ExprFault s x) (ExprsFault s xs) f (fault-no-type s x f) (fault-no-types s xs f) h
+  fault-no-types s (and_expr x xs) f h =
+      pair-fault (λ t ts. t ∷ ts) (type_of s x) (types_of s xs) (ExprFault s x) (ExprsFault s xs) f (fault-no-type s x f) (fault-no-types s xs f) h
 
 -- ---- the same of the checked expression
 

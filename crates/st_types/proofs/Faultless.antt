@@ -86,7 +86,8 @@ typed-checked p t w h =
     few-enough : (n m : ℕ) → n ≤ m → m ≤ most_names → n ≤ most_names
     few-enough n m h k = omega arith
 
-body-there : (p : ProgramTree) (o : Option TStmtTrees) (t : Program) → option_map (λ body. record { slots = (made p).slots; body = body }) o ≡ Some t → o ≡ None → ⊥
+body-there : (p : ProgramTree) (o : Option TStmtTrees) (t : Program) → option_map (λ body. record { slots = (made p).slots; body = body }) o ≡ Some t → o ≡ None
+    → ⊥
 body-there p None t e f = cc
 body-there p (Some b) t e f = some-none b f
 
@@ -95,7 +96,8 @@ pub typed-no-body-fault : (p : ProgramTree) (t : Program) → typed_of p ≡ Som
 typed-no-body-fault p t is f h = body-there p (stmts_of (made p).entries [] p.body) t is (fault-no-stmts (made p).entries [] p.body f h)
 
 -- a program whose declarations have no fault, and that has a checked program, has none
-pub typed-faultless : (p : ProgramTree) (t : Program) → ((f : Fault) → BlocksFault (made p).entries nothing_made p.blocks f → ⊥) → typed_of p ≡ Some t → IsFaultless p
+pub typed-faultless : (p : ProgramTree) (t : Program) → ((f : Fault) → BlocksFault (made p).entries nothing_made p.blocks f → ⊥) → typed_of p ≡ Some t
+    → IsFaultless p
 typed-faultless p t never is f (inl h) = never f h
 typed-faultless p t never is f (inr h) = typed-no-body-fault p t is f h
 

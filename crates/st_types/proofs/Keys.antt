@@ -1,5 +1,6 @@
 -- Keys: the table of names, which is kept by names in lower case, as the list of what was declared.
-use Rattle.std.proofs.Common.{◌≡◌, ℕ, Bool, true, false, cond, if◌then◌else◌, List, [], ◌∷◌, ◌++◌, map, Option, Some, None, is_some, is_none, bytes_eq, refl, sym, ap, ap₂, ◌∙◌}
+use Rattle.std.proofs.Common.{◌≡◌, ℕ, Bool, true, false, cond, if◌then◌else◌, List, [], ◌∷◌, ◌++◌, map, Option, Some, None, is_some, is_none, bytes_eq, refl}
+use Rattle.std.proofs.Common.{sym, ap, ap₂, ◌∙◌}
 use Rattle.std.specs.Char.{to_ascii_lowercase}
 use Rattle.std.specs.Map.{lookup}
 use Rattle.std.proofs.lemmas.Slice.Eq.{bytes_eq-Decides}
@@ -22,21 +23,24 @@ same-test false true h k = k refl
 same-test false false h k = refl
 
 turned : (a b : List ℕ) → bytes_eq a b ≡ bytes_eq b a
-turned a b = same-test (bytes_eq a b) (bytes_eq b a) (λ h. (bytes_eq-Decides b a).1 (sym ((bytes_eq-Decides a b).0 h))) (λ h. (bytes_eq-Decides a b).1 (sym ((bytes_eq-Decides b a).0 h)))
+turned a b = same-test (bytes_eq a b) (bytes_eq b a) (λ h. (bytes_eq-Decides b a).1 (sym ((bytes_eq-Decides a b).0 h)))
+    (λ h. (bytes_eq-Decides a b).1 (sym ((bytes_eq-Decides b a).0 h)))
 
 -- each is kept by its name in lower case
 abbrev pub AreKeyed : {K : Type 0} → (K → List ℕ) → List (K × Entry) → Type 0
 AreKeyed items es = map (λ p. items p.0) es ≡ map (λ p. map to_ascii_lowercase p.1.name) es
 
 -- to look up a name in lower case is to find the name
-pub lookup-find : {K : Type 0} (items : K → List ℕ) (es : List (K × Entry)) (n : List ℕ) → AreKeyed items es → lookup (λ k. bytes_eq (map to_ascii_lowercase n) (items k)) es ≡ find (map (λ p. p.1) es) n
+pub lookup-find : {K : Type 0} (items : K → List ℕ) (es : List (K × Entry)) (n : List ℕ) → AreKeyed items es
+    → lookup (λ k. bytes_eq (map to_ascii_lowercase n) (items k)) es ≡ find (map (λ p. p.1) es) n
 lookup-find items [] n h = refl
 lookup-find items (e ∷ es) n h =
     let key : items e.0 ≡ lower e.1.name = heads (items e.0) (lower e.1.name) (map (λ p. items p.0) es) (map (λ p. lower p.1.name) es) h in
     let rest : AreKeyed items es = tails (items e.0) (lower e.1.name) (map (λ p. items p.0) es) (map (λ p. lower p.1.name) es) h in
     ap₂ (λ b r. cond b (Some e.1) r) (ap (bytes_eq (lower n)) key ∙ turned (lower n) (lower e.1.name)) (lookup-find items es n rest)
 
-insert-step : {K V : Type 0} (b : Bool) (e : K × V) (v : V) (l : Option V) (es r s : List (K × V)) → cond b (Some e.1) l ≡ None → (l ≡ None → r ≡ s) → (if b then (e.0, v) ∷ es else e ∷ r) ≡ e ∷ s
+insert-step : {K V : Type 0} (b : Bool) (e : K × V) (v : V) (l : Option V) (es r s : List (K × V)) → cond b (Some e.1) l ≡ None → (l ≡ None → r ≡ s)
+    → (if b then (e.0, v) ∷ es else e ∷ r) ≡ e ∷ s
 insert-step true e v l es r s h k = absurd (some-none e.1 h)
 insert-step false e v l es r s h k = ap (λ xs. e ∷ xs) (k h)
 
@@ -57,7 +61,8 @@ pub view-push : {K : Type 0} (es : List (K × Entry)) (k : K) (e : Entry) → ma
 view-push [] k e = refl
 view-push (x ∷ es) k e = ap (λ xs. x.1 ∷ xs) (view-push es k e)
 
-pub keyed-push : {K : Type 0} (items : K → List ℕ) (es : List (K × Entry)) (k : K) (e : Entry) → AreKeyed items es → items k ≡ map to_ascii_lowercase e.name → AreKeyed items (es ++ (k, e) ∷ [])
+pub keyed-push : {K : Type 0} (items : K → List ℕ) (es : List (K × Entry)) (k : K) (e : Entry) → AreKeyed items es → items k ≡ map to_ascii_lowercase e.name
+    → AreKeyed items (es ++ (k, e) ∷ [])
 keyed-push items [] k e h key = ap (λ n. n ∷ []) key
 keyed-push items (x ∷ es) k e h key =
     ap₂ (λ n ns. n ∷ ns) (heads (items x.0) (lower x.1.name) (map (λ p. items p.0) es) (map (λ p. lower p.1.name) es) h)

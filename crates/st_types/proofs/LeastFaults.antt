@@ -1,5 +1,6 @@
 -- LeastFaults: whatever is typed has a least fault, or none.
-use Rattle.std.proofs.Common.{option_and_then, ◌≡◌, ◌⊎◌, inl, inr, ℕ, ◌<◌, ◌≤◌, ℤ, neg_ℤ, Bool, true, false, List, [], ◌∷◌, Option, Some, None, refl, sym, ap₂, ◌∙◌, subst, arith, true≢false}
+use Rattle.std.proofs.Common.{option_and_then, ◌≡◌, ◌⊎◌, inl, inr, ℕ, ◌<◌, ◌≤◌, ℤ, neg_ℤ, Bool, true, false, List, [], ◌∷◌, Option, Some, None, refl, sym, ap₂}
+use Rattle.std.proofs.Common.{◌∙◌, subst, arith, true≢false}
 use Rattle.std.specs.Prelude.{nat_lt}
 use Rattle.std.proofs.lemmas.Bool.Decides.{nat_tests}
 use Rattle.vcp_base.specs.declared.spot.Spot.{Spot}
@@ -9,7 +10,8 @@ use Rattle.st_tree.specs.declared.expr.UnOp.{UnOp}
 use Rattle.st_tree.specs.declared.expr.BinOp.{BinOp}
 use Rattle.st_tree.specs.declared.program.Class.{Class}
 use Rattle.st_tree.specs.ExprTree.{ExprTree, ExprTrees, literal, name, unary, binary, call, no_exprs, and_expr}
-use Rattle.st_tree.specs.StmtTree.{LabelTree, StmtTree, StmtTrees, ArmTrees, BranchTrees, OtherTree, assign, if_, case, for_, no_stmts, and_stmt, no_arms, and_arm, no_branches, and_branch, no_other, other}
+use Rattle.st_tree.specs.StmtTree.{LabelTree, StmtTree, StmtTrees, ArmTrees, BranchTrees, OtherTree, assign, if_, case, for_, no_stmts, and_stmt, no_arms}
+use Rattle.st_tree.specs.StmtTree.{and_arm, no_branches, and_branch, no_other, other}
 use Rattle.st_tree.specs.ProgramTree.{DeclaredTree, DeclTree, BlockTree, ProgramTree}
 use Rattle.vcp_typed.specs.declared.expr.Fun.{Fun}
 use Rattle.vcp_typed.specs.Rules.{common, signed}
@@ -17,10 +19,14 @@ use Rattle.st_types.specs.declared.fault.Fault.{Fault}
 use Rattle.st_types.specs.declared.fault.Rule.TheVariants as rule
 use Rattle.st_types.specs.Faults.{fault, number, AtMost, IsLeast}
 use Rattle.st_types.specs.Scope.{Entry, find}
-use Rattle.st_types.specs.ExprTyping.{sized, literal_type, Untyped, negated, called, function_type, type_of, types_of, Clash, Clashes, Misfits, SignFault, CallFault, ExprFault, ExprsFault}
+use Rattle.st_types.specs.ExprTyping.{sized, literal_type, Untyped, negated, called, function_type, type_of, types_of, Clash, Clashes, Misfits, SignFault}
+use Rattle.st_types.specs.ExprTyping.{CallFault, ExprFault, ExprsFault}
 use Rattle.st_types.specs.ExprTyping as typing
-use Rattle.st_types.specs.StmtTyping.{is_bool, spot_of, Known, form, form_number, not_zero, last_form, in_order, is_free, NameFault, entry_type, Narrows, NoTest, IsBool, BoundFault, StepFault, LastFault, LabelFault, LabelsFault, held_in, StmtFault, StmtsFault, ArmsFault, BranchesFault, OtherFault}
-use Rattle.st_types.specs.DeclTyping.{Made, nothing_made, is_new, after_name, init_value, known_init, Misfit, NamesFault, ValueFault, InitFault, after_decl, DeclFault, after_decls, DeclsFault, BlocksFault}
+use Rattle.st_types.specs.StmtTyping.{is_bool, spot_of, Known, form, form_number, not_zero, last_form, in_order, is_free, NameFault, entry_type, Narrows}
+use Rattle.st_types.specs.StmtTyping.{NoTest, IsBool, BoundFault, StepFault, LastFault, LabelFault, LabelsFault, held_in, StmtFault, StmtsFault, ArmsFault}
+use Rattle.st_types.specs.StmtTyping.{BranchesFault, OtherFault}
+use Rattle.st_types.specs.DeclTyping.{Made, nothing_made, is_new, after_name, init_value, known_init, Misfit, NamesFault, ValueFault, InitFault, after_decl}
+use Rattle.st_types.specs.DeclTyping.{DeclFault, after_decls, DeclsFault, BlocksFault}
 use Rattle.st_types.specs.Typing.{made, FaultAt, IsFaultless}
 use Rattle.st_types.proofs.ExprLaws.{none-some, some-none, same-value}
 
@@ -29,7 +35,8 @@ use Rattle.st_types.proofs.ExprLaws.{none-some, some-none, same-value}
 pub most-self : (f : Fault) → AtMost f f
 most-self f = inr (refl, inr (refl, omega arith))
 
-trans-places : (a b c x y z l m n : ℕ) → (a < b) ⊎ ((a ≡ b) × ((x < y) ⊎ ((x ≡ y) × (l ≤ m)))) → (b < c) ⊎ ((b ≡ c) × ((y < z) ⊎ ((y ≡ z) × (m ≤ n)))) → (a < c) ⊎ ((a ≡ c) × ((x < z) ⊎ ((x ≡ z) × (l ≤ n))))
+trans-places : (a b c x y z l m n : ℕ) → (a < b) ⊎ ((a ≡ b) × ((x < y) ⊎ ((x ≡ y) × (l ≤ m)))) → (b < c) ⊎ ((b ≡ c) × ((y < z) ⊎ ((y ≡ z) × (m ≤ n))))
+    → (a < c) ⊎ ((a ≡ c) × ((x < z) ⊎ ((x ≡ z) × (l ≤ n))))
 trans-places a b c x y z l m n h k = grind arith
 
 pub most-trans : (f g h : Fault) → AtMost f g → AtMost g h → AtMost f h
@@ -112,7 +119,8 @@ true-or true = inl refl
 true-or false = inr (λ e. true≢false (sym e))
 
 -- a property of what an option holds
-abbrev some-or : {A : Type 0} (P : A → Type 0) (o : Option A) → ((x : A) → P x ⊎ (P x → ⊥)) → ((x : A) × (o ≡ Some x) × P x) ⊎ ((x : A) × (o ≡ Some x) × P x → ⊥)
+abbrev some-or : {A : Type 0} (P : A → Type 0) (o : Option A) → ((x : A) → P x ⊎ (P x → ⊥))
+    → ((x : A) × (o ≡ Some x) × P x) ⊎ ((x : A) × (o ≡ Some x) × P x → ⊥)
 some-or P None h = inr (λ k. none-some k.0 k.1)
 some-or P (Some x) h = elim (h x) [
   | inl p ↦ inl (x, refl, p)
@@ -139,11 +147,14 @@ narrows-or (Some x) (Some y) = elim (false-or (within y x)) [
 
 abbrev sign-least : (op : UnOp) (l : Option Untyped) (t : Option Ty) (spot : Spot) (F : Fault → Type 0) → Least F → Least (SignFault op l t spot F)
 sign-least op (Some l) t spot F h = where-least (fault rule.Literal l.spot) (sized (neg_ℤ l.value) ≡ None) (none-or (sized (neg_ℤ l.value)))
-sign-least op None t spot F h = or-least F (λ f. (f ≡ fault rule.Mismatch spot) × Clash op t) h (where-least (fault rule.Mismatch spot) (Clash op t) (some-or (λ x. signed op x ≡ None) t (λ x. none-or (signed op x))))
+sign-least op None t spot F h =
+    or-least F (λ f. (f ≡ fault rule.Mismatch spot) × Clash op t) h
+    (where-least (fault rule.Mismatch spot) (Clash op t) (some-or (λ x. signed op x ≡ None) t (λ x. none-or (signed op x))))
 
 abbrev call-least : (o : Option Fun) (ts : Option (List Ty)) (spot : Spot) → Least (CallFault o ts spot)
 call-least None ts spot = just-least (fault rule.Call spot)
-call-least (Some g) ts spot = where-least (fault rule.Mismatch spot) (Misfits g ts) (some-or (λ us. function_type g us ≡ None) ts (λ us. none-or (function_type g us)))
+call-least (Some g) ts spot =
+    where-least (fault rule.Mismatch spot) (Misfits g ts) (some-or (λ us. function_type g us ≡ None) ts (λ us. none-or (function_type g us)))
 
 abbrev mutual
   pub expr-least : (s : List Entry) (e : ExprTree) → Least (ExprFault s e)
@@ -154,7 +165,9 @@ abbrev mutual
       or-least (ExprFault s a) (λ f. ExprFault s b f ⊎ ((f ≡ fault rule.Mismatch spot) × Clashes op (type_of s a) (type_of s b))) (expr-least s a)
       (or-least (ExprFault s b) (λ f. (f ≡ fault rule.Mismatch spot) × Clashes op (type_of s a) (type_of s b)) (expr-least s b)
       (where-least (fault rule.Mismatch spot) (Clashes op (type_of s a) (type_of s b)) (clashes-or op (type_of s a) (type_of s b))))
-  expr-least s (call n es spot) = or-least (ExprsFault s es) (CallFault (called n (typing.count es)) (types_of s es) spot) (exprs-least s es) (call-least (called n (typing.count es)) (types_of s es) spot)
+  expr-least s (call n es spot) =
+      or-least (ExprsFault s es) (CallFault (called n (typing.count es)) (types_of s es) spot) (exprs-least s es)
+      (call-least (called n (typing.count es)) (types_of s es) spot)
 
   pub exprs-least : (s : List Entry) (es : ExprTrees) → Least (ExprsFault s es)
   exprs-least s no_exprs = none-least
@@ -173,11 +186,16 @@ abbrev test-least : (spot : Spot) (t : Option Ty) → Least (λ f. (f ≡ fault 
 test-least spot t = where-least (fault rule.Mismatch spot) (NoTest t) (some-or (λ x. is_bool x ≡ false) t (λ x. false-or (is_bool x)))
 
 abbrev bound-least : (s : List Entry) (t : Option Ty) (e : ExprTree) → Least (BoundFault s t e)
-bound-least s t e = or-least (ExprFault s e) (λ f. (f ≡ fault rule.Bound (spot_of e)) × (form_number t (form s e) ≡ None)) (expr-least s e) (where-least (fault rule.Bound (spot_of e)) (form_number t (form s e) ≡ None) (none-or (form_number t (form s e))))
+bound-least s t e =
+    or-least (ExprFault s e) (λ f. (f ≡ fault rule.Bound (spot_of e)) × (form_number t (form s e) ≡ None)) (expr-least s e)
+    (where-least (fault rule.Bound (spot_of e)) (form_number t (form s e) ≡ None) (none-or (form_number t (form s e))))
 
 abbrev step-least : (s : List Entry) (t : Option Ty) (by : Option ExprTree) → Least (StepFault s t by)
 step-least s t None = none-least
-step-least s t (Some e) = or-least (ExprFault s e) (λ f. (f ≡ fault rule.Bound (spot_of e)) × (option_and_then not_zero (form_number t (form s e)) ≡ None)) (expr-least s e) (where-least (fault rule.Bound (spot_of e)) (option_and_then not_zero (form_number t (form s e)) ≡ None) (none-or (option_and_then not_zero (form_number t (form s e)))))
+step-least s t (Some e) =
+    or-least (ExprFault s e) (λ f. (f ≡ fault rule.Bound (spot_of e)) × (option_and_then not_zero (form_number t (form s e)) ≡ None)) (expr-least s e)
+    (where-least (fault rule.Bound (spot_of e)) (option_and_then not_zero (form_number t (form s e)) ≡ None)
+    (none-or (option_and_then not_zero (form_number t (form s e)))))
 
 abbrev last-least : (s : List Entry) (last : Option ExprTree) → Least (LastFault s last)
 last-least s None = none-least
@@ -185,9 +203,13 @@ last-least s (Some e) = expr-least s e
 
 abbrev label-least : (s : List Entry) (t : Option Ty) (l : LabelTree) → Least (LabelFault s t l)
 label-least s t l =
-    or-least (ExprFault s l.first) (λ f. LastFault s l.last f ⊎ ((f ≡ fault rule.Label (spot_of l.first)) × (in_order (form_number t (form s l.first)) (last_form s t l.last) ≡ false))) (expr-least s l.first)
-    (or-least (LastFault s l.last) (λ f. (f ≡ fault rule.Label (spot_of l.first)) × (in_order (form_number t (form s l.first)) (last_form s t l.last) ≡ false)) (last-least s l.last)
-    (where-least (fault rule.Label (spot_of l.first)) (in_order (form_number t (form s l.first)) (last_form s t l.last) ≡ false) (false-or (in_order (form_number t (form s l.first)) (last_form s t l.last)))))
+    or-least (ExprFault s l.first)
+    (λ f. LastFault s l.last f ⊎ ((f ≡ fault rule.Label (spot_of l.first)) × (in_order (form_number t (form s l.first)) (last_form s t l.last) ≡ false)))
+    (expr-least s l.first)
+    (or-least (LastFault s l.last) (λ f. (f ≡ fault rule.Label (spot_of l.first)) × (in_order (form_number t (form s l.first)) (last_form s t l.last) ≡ false))
+    (last-least s l.last)
+    (where-least (fault rule.Label (spot_of l.first)) (in_order (form_number t (form s l.first)) (last_form s t l.last) ≡ false)
+    (false-or (in_order (form_number t (form s l.first)) (last_form s t l.last)))))
 
 abbrev labels-least : (s : List Entry) (t : Option Ty) (ls : List LabelTree) → Least (LabelsFault s t ls)
 labels-least s t [] = none-least
@@ -196,19 +218,26 @@ labels-least s t (l ∷ ls) = or-least (LabelFault s t l) (LabelsFault s t ls) (
 abbrev mutual
   stmt-least : (s : List Entry) (held : List ℕ) (x : StmtTree) → Least (StmtFault s held x)
   stmt-least s held (assign n e spot) =
-      or-least (NameFault held (find s n) spot) (λ f. ExprFault s e f ⊎ ((f ≡ fault rule.Mismatch spot) × Narrows (entry_type (find s n)) (type_of s e))) (name-least held (find s n) spot)
+      or-least (NameFault held (find s n) spot) (λ f. ExprFault s e f ⊎ ((f ≡ fault rule.Mismatch spot) × Narrows (entry_type (find s n)) (type_of s e)))
+      (name-least held (find s n) spot)
       (or-least (ExprFault s e) (λ f. (f ≡ fault rule.Mismatch spot) × Narrows (entry_type (find s n)) (type_of s e)) (expr-least s e)
       (where-least (fault rule.Mismatch spot) (Narrows (entry_type (find s n)) (type_of s e)) (narrows-or (entry_type (find s n)) (type_of s e))))
   stmt-least s held (if_ arms o) = or-least (ArmsFault s held arms) (OtherFault s held o) (arms-least s held arms) (other-least s held o)
   stmt-least s held (case e branches o spot) =
-      or-least (ExprFault s e) (λ f. ((f ≡ fault rule.Mismatch spot) × IsBool (type_of s e)) ⊎ (BranchesFault s held (type_of s e) branches f ⊎ OtherFault s held o f)) (expr-least s e)
-      (or-least (λ f. (f ≡ fault rule.Mismatch spot) × IsBool (type_of s e)) (λ f. BranchesFault s held (type_of s e) branches f ⊎ OtherFault s held o f) (bool-least spot (type_of s e))
+      or-least (ExprFault s e)
+      (λ f. ((f ≡ fault rule.Mismatch spot) × IsBool (type_of s e)) ⊎ (BranchesFault s held (type_of s e) branches f ⊎ OtherFault s held o f))
+      (expr-least s e)
+      (or-least (λ f. (f ≡ fault rule.Mismatch spot) × IsBool (type_of s e)) (λ f. BranchesFault s held (type_of s e) branches f ⊎ OtherFault s held o f)
+      (bool-least spot (type_of s e))
       (or-least (BranchesFault s held (type_of s e) branches) (OtherFault s held o) (branches-least s held (type_of s e) branches) (other-least s held o)))
   stmt-least s held (for_ n name_spot first last by body spot) =
       let t = entry_type (find s n) in
       let inner = held_in held (find s n) in
-      or-least (NameFault held (find s n) name_spot) (λ f. ((f ≡ fault rule.Mismatch name_spot) × IsBool t) ⊎ (BoundFault s t first f ⊎ (BoundFault s t last f ⊎ (StepFault s t by f ⊎ StmtsFault s inner body f)))) (name-least held (find s n) name_spot)
-      (or-least (λ f. (f ≡ fault rule.Mismatch name_spot) × IsBool t) (λ f. BoundFault s t first f ⊎ (BoundFault s t last f ⊎ (StepFault s t by f ⊎ StmtsFault s inner body f))) (bool-least name_spot t)
+      or-least (NameFault held (find s n) name_spot)
+      (λ f. ((f ≡ fault rule.Mismatch name_spot) × IsBool t)
+      ⊎ (BoundFault s t first f ⊎ (BoundFault s t last f ⊎ (StepFault s t by f ⊎ StmtsFault s inner body f)))) (name-least held (find s n) name_spot)
+      (or-least (λ f. (f ≡ fault rule.Mismatch name_spot) × IsBool t)
+      (λ f. BoundFault s t first f ⊎ (BoundFault s t last f ⊎ (StepFault s t by f ⊎ StmtsFault s inner body f))) (bool-least name_spot t)
       (or-least (BoundFault s t first) (λ f. BoundFault s t last f ⊎ (StepFault s t by f ⊎ StmtsFault s inner body f)) (bound-least s t first)
       (or-least (BoundFault s t last) (λ f. StepFault s t by f ⊎ StmtsFault s inner body f) (bound-least s t last)
       (or-least (StepFault s t by) (StmtsFault s inner body) (step-least s t by) (stmts-least s inner body)))))
@@ -220,8 +249,10 @@ abbrev mutual
   arms-least : (s : List Entry) (held : List ℕ) (arms : ArmTrees) → Least (ArmsFault s held arms)
   arms-least s held no_arms = none-least
   arms-least s held (and_arm e body spot arms) =
-      or-least (ExprFault s e) (λ f. ((f ≡ fault rule.Mismatch spot) × NoTest (type_of s e)) ⊎ (StmtsFault s held body f ⊎ ArmsFault s held arms f)) (expr-least s e)
-      (or-least (λ f. (f ≡ fault rule.Mismatch spot) × NoTest (type_of s e)) (λ f. StmtsFault s held body f ⊎ ArmsFault s held arms f) (test-least spot (type_of s e))
+      or-least (ExprFault s e) (λ f. ((f ≡ fault rule.Mismatch spot) × NoTest (type_of s e)) ⊎ (StmtsFault s held body f ⊎ ArmsFault s held arms f))
+      (expr-least s e)
+      (or-least (λ f. (f ≡ fault rule.Mismatch spot) × NoTest (type_of s e)) (λ f. StmtsFault s held body f ⊎ ArmsFault s held arms f)
+      (test-least spot (type_of s e))
       (or-least (StmtsFault s held body) (ArmsFault s held arms) (stmts-least s held body) (arms-least s held arms)))
 
   branches-least : (s : List Entry) (held : List ℕ) (t : Option Ty) (branches : BranchTrees) → Least (BranchesFault s held t branches)
@@ -242,7 +273,8 @@ misfit-or x t = some-or (λ (k : Known). within k.ty t ≡ false) x (λ k. false
 abbrev names-least : (m : Made) (k : Class) (t : Ty) (v : ℤ) (x : Option Known) (ds : List DeclaredTree) → Least (NamesFault m k t v x ds)
 names-least m k t v x [] = none-least
 names-least m k t v x (d ∷ ds) =
-    or-least (λ f. (f ≡ fault rule.Duplicate d.spot) × (is_new m d.name ≡ false)) (λ f. ((f ≡ fault rule.Mismatch d.spot) × Misfit x t) ⊎ NamesFault (after_name m k t v d) k t v x ds f)
+    or-least (λ f. (f ≡ fault rule.Duplicate d.spot) × (is_new m d.name ≡ false))
+    (λ f. ((f ≡ fault rule.Mismatch d.spot) × Misfit x t) ⊎ NamesFault (after_name m k t v d) k t v x ds f)
     (where-least (fault rule.Duplicate d.spot) (is_new m d.name ≡ false) (false-or (is_new m d.name)))
     (or-least (λ f. (f ≡ fault rule.Mismatch d.spot) × Misfit x t) (NamesFault (after_name m k t v d) k t v x ds)
     (where-least (fault rule.Mismatch d.spot) (Misfit x t) (misfit-or x t)) (names-least (after_name m k t v d) k t v x ds))
@@ -263,7 +295,8 @@ decl-least all k m d =
 
 abbrev decls-least : (all : List Entry) (k : Class) (m : Made) (ds : List DeclTree) → Least (DeclsFault all k m ds)
 decls-least all k m [] = none-least
-decls-least all k m (d ∷ ds) = or-least (DeclFault all k m d) (DeclsFault all k (after_decl k m d) ds) (decl-least all k m d) (decls-least all k (after_decl k m d) ds)
+decls-least all k m (d ∷ ds) =
+    or-least (DeclFault all k m d) (DeclsFault all k (after_decl k m d) ds) (decl-least all k m d) (decls-least all k (after_decl k m d) ds)
 
 abbrev blocks-least : (all : List Entry) (m : Made) (bs : List BlockTree) → Least (BlocksFault all m bs)
 blocks-least all m [] = none-least

@@ -8,7 +8,8 @@ use Rattle.st_types.specs.Weight.{stmt_weight, stmts_weight, arms_weight, branch
 
 pub stmt-lighter : (ss : List Stmt) (i : ℕ) (s : Stmt) → i < length ss → s ≡ get_or ss i s → stmt_weight (stmt_tree s) < stmts_weight (stmt_trees ss)
 stmt-lighter [] i s lt is = absurd (omega (arith, lt))
-stmt-lighter (x ∷ xs) zero s lt is = let same : stmt_weight (stmt_tree s) ≡ stmt_weight (stmt_tree x) = ap (λ y. stmt_weight (stmt_tree y)) is in omega (arith, same)
+stmt-lighter (x ∷ xs) zero s lt is = let same : stmt_weight (stmt_tree s) ≡ stmt_weight (stmt_tree x) = ap (λ y. stmt_weight (stmt_tree y)) is in
+    omega (arith, same)
 stmt-lighter (x ∷ xs) (suc i) s lt is =
     let k : i < length xs = omega (arith, lt) in
     let h : stmt_weight (stmt_tree s) < stmts_weight (stmt_trees xs) = stmt-lighter xs i s k is in
@@ -18,7 +19,8 @@ pub arm-lighter : (arms : List Arm) (i : ℕ) (a : Arm) → i < length arms → 
     → stmts_weight (stmt_trees a.body.items.items) < arms_weight (arm_trees arms)
 arm-lighter [] i a lt is = absurd (omega (arith, lt))
 arm-lighter (x ∷ xs) zero a lt is =
-    let same : stmts_weight (stmt_trees a.body.items.items) ≡ stmts_weight (stmt_trees x.body.items.items) = ap (λ (y : Arm). stmts_weight (stmt_trees y.body.items.items)) is in
+    let same : stmts_weight (stmt_trees a.body.items.items) ≡ stmts_weight (stmt_trees x.body.items.items) =
+    ap (λ (y : Arm). stmts_weight (stmt_trees y.body.items.items)) is in
     omega (arith, same)
 arm-lighter (x ∷ xs) (suc i) a lt is =
     let k : i < length xs = omega (arith, lt) in
@@ -29,7 +31,8 @@ pub branch-lighter : (branches : List Branch) (i : ℕ) (b : Branch) → i < len
     → stmts_weight (stmt_trees b.body.items.items) < branches_weight (branch_trees branches)
 branch-lighter [] i b lt is = absurd (omega (arith, lt))
 branch-lighter (x ∷ xs) zero b lt is =
-    let same : stmts_weight (stmt_trees b.body.items.items) ≡ stmts_weight (stmt_trees x.body.items.items) = ap (λ (y : Branch). stmts_weight (stmt_trees y.body.items.items)) is in
+    let same : stmts_weight (stmt_trees b.body.items.items) ≡ stmts_weight (stmt_trees x.body.items.items) =
+    ap (λ (y : Branch). stmts_weight (stmt_trees y.body.items.items)) is in
     omega (arith, same)
 branch-lighter (x ∷ xs) (suc i) b lt is =
     let k : i < length xs = omega (arith, lt) in

@@ -24,8 +24,15 @@ use Rattle.st_types.proofs.TypingRows.{at, decl, vars, checks, label, range}
 -- Lines 2 to 5 of each source, whose body is line 6.
 abbrev header : List BlockTree
 header =
-    record { class = class.Input; decls = decl (codes "i") (at 2 11) ty.Int None ∷ decl (codes "d") (at 2 20) ty.Dint None ∷ decl (codes "l") (at 2 30) ty.Lint None ∷ [] }
-    ∷ record { class = class.Output; decls = decl (codes "q") (at 3 12) ty.Lint None ∷ decl (codes "r") (at 3 22) ty.Dint None ∷ decl (codes "c") (at 3 31) ty.Bool None ∷ [] }
+    record {
+      class = class.Input;
+      decls = decl (codes "i") (at 2 11) ty.Int None ∷ decl (codes "d") (at 2 20) ty.Dint None ∷ decl (codes "l") (at 2 30) ty.Lint None ∷ [];
+    }
+    ∷ record {
+      class = class.Output;
+      decls =
+          decl (codes "q") (at 3 12) ty.Lint None ∷ decl (codes "r") (at 3 22) ty.Dint None ∷ decl (codes "c") (at 3 31) ty.Bool None ∷ [];
+    }
     ∷ record { class = class.Local; decls = decl (codes "m") (at 4 5) ty.Lint None ∷ [] }
     ∷ record { class = class.Constant; decls = decl (codes "T") (at 5 14) ty.Int (Some (literal None (pos 3) (at 5 23))) ∷ [] }
     ∷ []
@@ -105,7 +112,9 @@ widened_int = refl
 
 -- (i + d) + l: the sum in DINT is widened, its operands aren't
 widened_twice : expr_of names (binary bin.Add (binary bin.Add (var (codes "i") 7) (var (codes "d") 11) (at 6 9)) (var (codes "l") 16) (at 6 14))
-    ≡ Some (typed.binary bin.Add ty.Lint (typed.widen ty.Lint (typed.binary bin.Add ty.Dint (typed.widen ty.Dint (typed.get 0 ty.Int)) (typed.get 1 ty.Dint) (at 6 9))) (typed.get 2 ty.Lint) (at 6 14))
+    ≡ Some (typed.binary bin.Add ty.Lint
+    (typed.widen ty.Lint (typed.binary bin.Add ty.Dint (typed.widen ty.Dint (typed.get 0 ty.Int)) (typed.get 1 ty.Dint) (at 6 9))) (typed.get 2 ty.Lint)
+    (at 6 14))
 widened_twice = refl
 
 -- l < T: a constant becomes a literal of LINT
@@ -157,7 +166,8 @@ narrows_typed : first_fault (set (codes "r") (literal (Some ty.Lint) (pos 1) (at
 narrows_typed = refl
 
 -- VAR a : DINT := 2147483648; END_VAR
-initial_beyond : first_fault (vars (decl (codes "a") (at 2 5) ty.Dint (Some (literal None (pos 2147483648) (at 2 17))) ∷ [])) ≡ Some (fault rule.Mismatch (at 2 5))
+initial_beyond : first_fault (vars (decl (codes "a") (at 2 5) ty.Dint (Some (literal None (pos 2147483648) (at 2 17))) ∷ []))
+    ≡ Some (fault rule.Mismatch (at 2 5))
 initial_beyond = refl
 
 -- q := INT_TO_LINT(d); q := DINT_TO_LINT(l); q := INT_TO_LINT(c);
@@ -188,7 +198,8 @@ label_beyond = refl
 abbrev of_type : Ty → ExprTree → ProgramTree
 of_type t e = record {
   name = codes "p";
-  blocks = record { class = class.Input; decls = decl (codes "x") (at 2 11) t None ∷ [] } ∷ record { class = class.Output; decls = decl (codes "y") (at 3 12) t None ∷ [] } ∷ [];
+  blocks = record { class = class.Input; decls = decl (codes "x") (at 2 11) t None ∷ [] }
+      ∷ record { class = class.Output; decls = decl (codes "y") (at 3 12) t None ∷ [] } ∷ [];
   body = and_stmt (assign (codes "y") e (at 4 1)) no_stmts;
 }
 

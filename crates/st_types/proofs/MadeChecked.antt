@@ -1,5 +1,6 @@
 -- MadeChecked: what typing makes keeps the rules of checked programs.
-use Rattle.std.proofs.Common.{◌≡◌, ℕ, ℤ, pos, negsuc, neg_ℤ, int_le, Bool, true, false, cond, not, ◌&&◌, ◌==◌, map, List, [], ◌∷◌, ◌++◌, All, slice_get, Option, Some, None, option_map, option_and_then, IfSome, refl, sym, ap, ap₂, ◌∙◌, subst, arith}
+use Rattle.std.proofs.Common.{◌≡◌, ℕ, ℤ, pos, negsuc, neg_ℤ, int_le, Bool, true, false, cond, not, ◌&&◌, ◌==◌, map, List, [], ◌∷◌, ◌++◌, All, slice_get, Option}
+use Rattle.std.proofs.Common.{Some, None, option_map, option_and_then, IfSome, refl, sym, ap, ap₂, ◌∙◌, subst, arith}
 use Rattle.std.specs.List.{list_any}
 use Rattle.std.proofs.lemmas.Bool.Decides.{nat_tests}
 use Rattle.std.proofs.lemmas.Int.{ints}
@@ -16,7 +17,8 @@ use Rattle.st_tree.specs.declared.expr.BinOp.TheVariants as bin
 use Rattle.st_tree.specs.declared.program.Class.{Class}
 use Rattle.st_tree.specs.declared.program.Class.TheVariants as class
 use Rattle.st_tree.specs.ExprTree.{ExprTree, ExprTrees, literal, name, unary, binary, call, no_exprs, and_expr}
-use Rattle.st_tree.specs.StmtTree.{LabelTree, StmtTree, StmtTrees, ArmTrees, BranchTrees, OtherTree, assign, if_, case, for_, no_stmts, and_stmt, no_arms, and_arm, no_branches, and_branch, no_other, other}
+use Rattle.st_tree.specs.StmtTree.{LabelTree, StmtTree, StmtTrees, ArmTrees, BranchTrees, OtherTree, assign, if_, case, for_, no_stmts, and_stmt, no_arms}
+use Rattle.st_tree.specs.StmtTree.{and_arm, no_branches, and_branch, no_other, other}
 use Rattle.vcp_typed.specs.declared.expr.Fun.{Fun}
 use Rattle.vcp_typed.specs.declared.slot.Slot.{Slot}
 use Rattle.vcp_typed.specs.declared.stmt.TLabel.{TLabel}
@@ -25,9 +27,12 @@ use Rattle.vcp_typed.specs.TStmtTree as checked
 use Rattle.vcp_typed.specs.Rules.{widens, joined, both_bool, joined_or_bool, common, signed, arguments}
 use Rattle.vcp_typed.specs.Checked.{ty_of, tys_of, is_set, IsExpr, AreExprs, MaySet, IsLabel, IsStmt, AreStmts, AreArms, AreBranches, IsOther}
 use Rattle.st_types.specs.Scope.{Entry, find}
-use Rattle.st_types.specs.ExprTyping.{both, sized, literal_type, Untyped, negated, called, function_type, type_of, got, as_type, widened, widened_all, sign_of, operation_of, call_of, expr_of, exprs_of}
+use Rattle.st_types.specs.ExprTyping.{both, sized, literal_type, Untyped, negated, called, function_type, type_of, got, as_type, widened, widened_all, sign_of}
+use Rattle.st_types.specs.ExprTyping.{operation_of, call_of, expr_of, exprs_of}
 use Rattle.st_types.specs.ExprTyping as typing
-use Rattle.st_types.specs.StmtTyping.{is_bool, is_constant, Known, known_entry, known_negated, constant, number_in, is_free, entry_type, not_zero, label_ends, last_end, label_of, held_in, assign_of, test_of, selector_of, turns_of, step_of, for_of, arm_of, branch_of, case_of, labels_of, stmt_of, stmts_of, arms_of, branches_of, other_of, spot_of}
+use Rattle.st_types.specs.StmtTyping.{is_bool, is_constant, Known, known_entry, known_negated, constant, number_in, is_free, entry_type, not_zero, label_ends}
+use Rattle.st_types.specs.StmtTyping.{last_end, label_of, held_in, assign_of, test_of, selector_of, turns_of, step_of, for_of, arm_of, branch_of, case_of}
+use Rattle.st_types.specs.StmtTyping.{labels_of, stmt_of, stmts_of, arms_of, branches_of, other_of, spot_of}
 use Rattle.st_types.proofs.ExprLaws.{none-some, same-value, AllTaken, Takes, takes, type-is}
 use Rattle.st_types.proofs.TurnsFit.{turns-fit}
 
@@ -106,7 +111,8 @@ got-made slots spot e class.Output h = (h.0, h.1, h.2)
 got-made slots spot e class.Local h = (h.0, h.1, h.2)
 got-made slots spot e class.Retain h = (h.0, h.1, h.2)
 
-name-made : (slots : List Slot) (spot : Spot) (o : Option Entry) → ((e : Entry) → o ≡ Some e → IsEntry slots e e.class) → IsMade slots (option_map (λ e. got spot e e.class) o)
+name-made : (slots : List Slot) (spot : Spot) (o : Option Entry) → ((e : Entry) → o ≡ Some e → IsEntry slots e e.class)
+    → IsMade slots (option_map (λ e. got spot e e.class) o)
 name-made slots spot None h = tt
 name-made slots spot (Some e) h = got-made slots spot e e.class (h e refl)
 
@@ -146,7 +152,8 @@ same-type ty.Lint ty.Int w h = absurd cc
 same-type ty.Lint ty.Dint w h = absurd cc
 same-type ty.Lint ty.Lint w h = refl
 
-as-made : (slots : List Slot) (t u : Ty) (a : typed.TExprTree) → ty_of a ≡ u → widens u t ≡ true → IsExpr slots a → IsExpr slots (as_type t a) × (ty_of (as_type t a) ≡ t)
+as-made : (slots : List Slot) (t u : Ty) (a : typed.TExprTree) → ty_of a ≡ u → widens u t ≡ true → IsExpr slots a
+    → IsExpr slots (as_type t a) × (ty_of (as_type t a) ≡ t)
 as-made slots t u (typed.literal x v spot) e w h = (within-fits x t v (ap (λ y. within y t) e ∙ widens-within u t w) h, refl)
 as-made slots t u (typed.get slot x) e w h = ((h, ap (λ y. widens y t) e ∙ w), refl)
 as-made slots t u (typed.widen x a) e w h = ((h, ap (λ y. widens y t) e ∙ w), refl)
@@ -154,11 +161,13 @@ as-made slots t u (typed.unary op x a spot) e w h = ((h, ap (λ y. widens y t) e
 as-made slots t u (typed.binary op x a b spot) e w h = ((h, ap (λ y. widens y t) e ∙ w), refl)
 as-made slots t u (typed.call f x es spot) e w h = ((h, ap (λ y. widens y t) e ∙ w), refl)
 
-widened-if : (slots : List Slot) (t u : Ty) (a : typed.TExprTree) (b : Bool) → widens u t ≡ b → ty_of a ≡ u → within u t ≡ true → IsExpr slots a → IsExpr slots (cond b (as_type t a) a) × (ty_of (cond b (as_type t a) a) ≡ t)
+widened-if : (slots : List Slot) (t u : Ty) (a : typed.TExprTree) (b : Bool) → widens u t ≡ b → ty_of a ≡ u → within u t ≡ true → IsExpr slots a
+    → IsExpr slots (cond b (as_type t a) a) × (ty_of (cond b (as_type t a) a) ≡ t)
 widened-if slots t u a true c e w h = as-made slots t u a e c h
 widened-if slots t u a false c e w h = (h, e ∙ same-type u t c w)
 
-pub widened-made : (slots : List Slot) (t u : Ty) (a : typed.TExprTree) → ty_of a ≡ u → within u t ≡ true → IsExpr slots a → IsExpr slots (widened t u a) × (ty_of (widened t u a) ≡ t)
+pub widened-made : (slots : List Slot) (t u : Ty) (a : typed.TExprTree) → ty_of a ≡ u → within u t ≡ true → IsExpr slots a
+    → IsExpr slots (widened t u a) × (ty_of (widened t u a) ≡ t)
 widened-made slots t u a e w h = widened-if slots t u a (widens u t) refl e w h
 
 -- values of both types are taken where the third is wanted, which is the common type of two of its own
@@ -223,14 +232,16 @@ common-meets bin.And x y = bool-meets x y
 common-meets bin.Xor x y = bool-meets x y
 common-meets bin.Or x y = bool-meets x y
 
-operation-made : (slots : List Slot) (op : BinOp) (spot : Spot) (a b : typed.TExprTree) (o : Option Ty) → IfSome o (Meets (common op) (ty_of a) (ty_of b)) → IsExpr slots a → IsExpr slots b → IsMade slots (option_map (λ t. typed.binary op t (widened t (ty_of a) a) (widened t (ty_of b) b) spot) o)
+operation-made : (slots : List Slot) (op : BinOp) (spot : Spot) (a b : typed.TExprTree) (o : Option Ty) → IfSome o (Meets (common op) (ty_of a) (ty_of b))
+    → IsExpr slots a → IsExpr slots b → IsMade slots (option_map (λ t. typed.binary op t (widened t (ty_of a) a) (widened t (ty_of b) b) spot) o)
 operation-made slots op spot a b None c h k = tt
 operation-made slots op spot a b (Some t) c h k =
     let x = widened-made slots t (ty_of a) a refl c.0 h in
     let y = widened-made slots t (ty_of b) b refl c.1 k in
     (x.0, y.0, x.1, y.1, c.2)
 
-both-made : (slots : List Slot) (op : BinOp) (spot : Spot) (a b : Option typed.TExprTree) → IsMade slots a → IsMade slots b → IsMade slots (both (operation_of op spot) a b)
+both-made : (slots : List Slot) (op : BinOp) (spot : Spot) (a b : Option typed.TExprTree) → IsMade slots a → IsMade slots b
+    → IsMade slots (both (operation_of op spot) a b)
 both-made slots op spot None b h k = tt
 both-made slots op spot (Some a) None h k = tt
 both-made slots op spot (Some a) (Some b) h k = operation-made slots op spot a b (common op (ty_of a) (ty_of b)) (common-meets op (ty_of a) (ty_of b)) h k
@@ -248,11 +259,13 @@ signs un.Not ty.Int = tt
 signs un.Not ty.Dint = tt
 signs un.Not ty.Lint = tt
 
-signed-made : (slots : List Slot) (op : UnOp) (spot : Spot) (x : typed.TExprTree) (o : Option Ty) → IfSome o (Signs op (ty_of x)) → IsExpr slots x → IsMade slots (option_map (λ t. typed.unary op t x spot) o)
+signed-made : (slots : List Slot) (op : UnOp) (spot : Spot) (x : typed.TExprTree) (o : Option Ty) → IfSome o (Signs op (ty_of x)) → IsExpr slots x
+    → IsMade slots (option_map (λ t. typed.unary op t x spot) o)
 signed-made slots op spot x None c h = tt
 signed-made slots op spot x (Some t) c h = (h, c.0, c.1)
 
-sign-made : (slots : List Slot) (op : UnOp) (l : Option Untyped) (spot : Spot) (a : Option typed.TExprTree) → IsMade slots a → IsMade slots (sign_of op l spot a)
+sign-made : (slots : List Slot) (op : UnOp) (l : Option Untyped) (spot : Spot) (a : Option typed.TExprTree) → IsMade slots a
+    → IsMade slots (sign_of op l spot a)
 sign-made slots op (Some l) spot a h = literal-made slots (neg_ℤ l.value) l.spot (sized (neg_ℤ l.value)) (sized-fits (neg_ℤ l.value))
 sign-made slots op None spot None h = tt
 sign-made slots op None spot (Some x) h = signed-made slots op spot x (signed op (ty_of x)) (signs op (ty_of x)) h
@@ -265,12 +278,14 @@ AreAll slots (e ∷ es) = IsExpr slots e × AreAll slots es
 abbrev AllMade : List Slot → Option (List typed.TExprTree) → Type 0
 AllMade slots o = IfSome o (AreAll slots)
 
-more-made : (slots : List Slot) (a : Option typed.TExprTree) (es : Option (List typed.TExprTree)) → IsMade slots a → AllMade slots es → AllMade slots (both (λ x xs. Some (x ∷ xs)) a es)
+more-made : (slots : List Slot) (a : Option typed.TExprTree) (es : Option (List typed.TExprTree)) → IsMade slots a → AllMade slots es
+    → AllMade slots (both (λ x xs. Some (x ∷ xs)) a es)
 more-made slots None es h k = tt
 more-made slots (Some a) None h k = tt
 more-made slots (Some a) (Some es) h k = (h, k)
 
-all-widened : (slots : List Slot) (ts : List Ty) (es : List typed.TExprTree) → AreAll slots es → AllTaken (map ty_of es) ts → AreExprs slots (widened_all ts es) × (tys_of (widened_all ts es) ≡ ts)
+all-widened : (slots : List Slot) (ts : List Ty) (es : List typed.TExprTree) → AreAll slots es → AllTaken (map ty_of es) ts
+    → AreExprs slots (widened_all ts es) × (tys_of (widened_all ts es) ≡ ts)
 all-widened slots [] [] h k = (tt, refl)
 all-widened slots [] (e ∷ es) h k = absurd k
 all-widened slots (t ∷ ts) [] h k = absurd k
@@ -279,17 +294,20 @@ all-widened slots (t ∷ ts) (e ∷ es) h k =
     let b = all-widened slots ts es h.1 k.1 in
     ((a.0, b.0), ap₂ (λ u us. u ∷ us) a.1 b.1)
 
-called-made : (slots : List Slot) (f : Fun) (t : Ty) (spot : Spot) (es : List typed.TExprTree) (ts : List Ty) (o : Option (List Ty)) → arguments f t ≡ o → o ≡ Some ts → AllTaken (map ty_of es) ts → AreAll slots es → IsMade slots (option_map (λ us. typed.call f t (widened_all us es) spot) o)
+called-made : (slots : List Slot) (f : Fun) (t : Ty) (spot : Spot) (es : List typed.TExprTree) (ts : List Ty) (o : Option (List Ty)) → arguments f t ≡ o
+    → o ≡ Some ts → AllTaken (map ty_of es) ts → AreAll slots es → IsMade slots (option_map (λ us. typed.call f t (widened_all us es) spot) o)
 called-made slots f t spot es ts None e g k h = absurd (none-some ts g)
 called-made slots f t spot es ts (Some us) e g k h =
     let w = all-widened slots us es h (subst (λ x. AllTaken (map ty_of es) x) (sym (same-value us ts g)) k) in
     (w.0, e ∙ ap (λ x. Some x) (sym w.1))
 
-call-made : (slots : List Slot) (f : Fun) (spot : Spot) (es : List typed.TExprTree) (o : Option Ty) → IfSome o (Takes f (map ty_of es)) → AreAll slots es → IsMade slots (option_and_then (λ t. option_map (λ ts. typed.call f t (widened_all ts es) spot) (arguments f t)) o)
+call-made : (slots : List Slot) (f : Fun) (spot : Spot) (es : List typed.TExprTree) (o : Option Ty) → IfSome o (Takes f (map ty_of es)) → AreAll slots es
+    → IsMade slots (option_and_then (λ t. option_map (λ ts. typed.call f t (widened_all ts es) spot) (arguments f t)) o)
 call-made slots f spot es None k h = tt
 call-made slots f spot es (Some t) k h = called-made slots f t spot es k.0 (arguments f t) refl k.1 k.2 h
 
-calls-made : (slots : List Slot) (o : Option Fun) (spot : Spot) (es : Option (List typed.TExprTree)) → AllMade slots es → IsMade slots (option_and_then (λ f. option_and_then (call_of f spot) es) o)
+calls-made : (slots : List Slot) (o : Option Fun) (spot : Spot) (es : Option (List typed.TExprTree)) → AllMade slots es
+    → IsMade slots (option_and_then (λ f. option_and_then (call_of f spot) es) o)
 calls-made slots None spot es h = tt
 calls-made slots (Some f) spot None h = tt
 calls-made slots (Some f) spot (Some es) h = call-made slots f spot es (function_type f (map ty_of es)) (takes f (map ty_of es)) h
@@ -329,7 +347,8 @@ entry-known slots e class.Output h = tt
 entry-known slots e class.Local h = tt
 entry-known slots e class.Retain h = tt
 
-name-known : (slots : List Slot) (o : Option Entry) → ((e : Entry) → o ≡ Some e → IsEntry slots e e.class) → KnownFits (option_and_then (λ e. known_entry e e.class) o)
+name-known : (slots : List Slot) (o : Option Entry) → ((e : Entry) → o ≡ Some e → IsEntry slots e e.class)
+    → KnownFits (option_and_then (λ e. known_entry e e.class) o)
 name-known slots None h = tt
 name-known slots (Some e) h = entry-known slots e e.class (h e refl)
 
@@ -397,19 +416,22 @@ may-set slots held e t is h k =
     let s = has-slot slots e e.class h f.0 in
     record { of = s.0; there = s.1; ty = s.2 ∙ is; set = ap is_set s.3 ∙ f.0; free = f.1 }
 
-assign-if : (slots : List Slot) (held : List ℕ) (spot : Spot) (e : Entry) (x : typed.TExprTree) (b : Bool) → is_free held e && within (ty_of x) e.ty ≡ b → IsEntry slots e e.class → IsExpr slots x → StmtMade slots held (cond b (Some (checked.assign e.slot (widened e.ty (ty_of x) x) spot)) None)
+assign-if : (slots : List Slot) (held : List ℕ) (spot : Spot) (e : Entry) (x : typed.TExprTree) (b : Bool) → is_free held e && within (ty_of x) e.ty ≡ b
+    → IsEntry slots e e.class → IsExpr slots x → StmtMade slots held (cond b (Some (checked.assign e.slot (widened e.ty (ty_of x) x) spot)) None)
 assign-if slots held spot e x false k h i = tt
 assign-if slots held spot e x true k h i =
     let p = two-parts (is_free held e) (within (ty_of x) e.ty) k in
     let w = widened-made slots e.ty (ty_of x) x refl p.1 i in
     (may-set slots held e (ty_of (widened e.ty (ty_of x) x)) (sym w.1) h p.0, w.0)
 
-assign-made : (slots : List Slot) (held : List ℕ) (spot : Spot) (o : Option Entry) (x : Option typed.TExprTree) → ((e : Entry) → o ≡ Some e → IsEntry slots e e.class) → IsMade slots x → StmtMade slots held (both (assign_of held spot) o x)
+assign-made : (slots : List Slot) (held : List ℕ) (spot : Spot) (o : Option Entry) (x : Option typed.TExprTree)
+    → ((e : Entry) → o ≡ Some e → IsEntry slots e e.class) → IsMade slots x → StmtMade slots held (both (assign_of held spot) o x)
 assign-made slots held spot None x h i = tt
 assign-made slots held spot (Some e) None h i = tt
 assign-made slots held spot (Some e) (Some x) h i = assign-if slots held spot e x (is_free held e && within (ty_of x) e.ty) refl (h e refl) i
 
-if-made : (slots : List Slot) (held : List ℕ) (a : Option checked.TArmTrees) (o : Option checked.TOtherTree) → ArmsMade slots held a → OtherMade slots held o → StmtMade slots held (both (λ x y. Some (checked.if_ x y)) a o)
+if-made : (slots : List Slot) (held : List ℕ) (a : Option checked.TArmTrees) (o : Option checked.TOtherTree) → ArmsMade slots held a → OtherMade slots held o
+    → StmtMade slots held (both (λ x y. Some (checked.if_ x y)) a o)
 if-made slots held None o h k = tt
 if-made slots held (Some a) None h k = tt
 if-made slots held (Some a) (Some o) h k = (h, k)
@@ -426,13 +448,17 @@ bool-is ty.Int e = absurd cc
 bool-is ty.Dint e = absurd cc
 bool-is ty.Lint e = absurd cc
 
-case-if : (slots : List Slot) (held : List ℕ) (spot : Spot) (x : typed.TExprTree) (c : Bool) (b : Option checked.TBranchTrees) (o : Option checked.TOtherTree) → is_bool (ty_of x) ≡ c → IsExpr slots x → BranchesMade slots held (ty_of x) b → OtherMade slots held o → StmtMade slots held (case_of spot (cond c None (Some x)) b o)
+case-if : (slots : List Slot) (held : List ℕ) (spot : Spot) (x : typed.TExprTree) (c : Bool) (b : Option checked.TBranchTrees) (o : Option checked.TOtherTree)
+    → is_bool (ty_of x) ≡ c → IsExpr slots x → BranchesMade slots held (ty_of x) b → OtherMade slots held o
+    → StmtMade slots held (case_of spot (cond c None (Some x)) b o)
 case-if slots held spot x true b o e h i j = tt
 case-if slots held spot x false None o e h i j = tt
 case-if slots held spot x false (Some b) None e h i j = tt
 case-if slots held spot x false (Some b) (Some o) e h i j = (h, number-joins (ty_of x) e, i, j)
 
-case-made : (slots : List Slot) (held : List ℕ) (spot : Spot) (x : Option typed.TExprTree) (t : Option Ty) (b : Option checked.TBranchTrees) (o : Option checked.TOtherTree) → t ≡ option_map ty_of x → IsMade slots x → ((u : Ty) → t ≡ Some u → BranchesMade slots held u b) → OtherMade slots held o → StmtMade slots held (case_of spot (option_and_then selector_of x) b o)
+case-made : (slots : List Slot) (held : List ℕ) (spot : Spot) (x : Option typed.TExprTree) (t : Option Ty) (b : Option checked.TBranchTrees)
+    (o : Option checked.TOtherTree) → t ≡ option_map ty_of x → IsMade slots x → ((u : Ty) → t ≡ Some u → BranchesMade slots held u b) → OtherMade slots held o
+    → StmtMade slots held (case_of spot (option_and_then selector_of x) b o)
 case-made slots held spot None t b o e h i j = tt
 case-made slots held spot (Some x) t b o e h i j = case-if slots held spot x (is_bool (ty_of x)) b o refl h (i (ty_of x) e) j
 
@@ -445,18 +471,23 @@ set-variable class.Retain e = refl
 set-variable class.Constant e = absurd cc
 
 -- the FORs round the body of one over a variable that may be set
-held-free : (slots : List Slot) (held : List ℕ) (e : Entry) (body : checked.TStmtTrees) → is_free held e ≡ true → AreStmts slots (held_in held (Some e)) body → AreStmts slots (held ++ e.slot ∷ []) body
+held-free : (slots : List Slot) (held : List ℕ) (e : Entry) (body : checked.TStmtTrees) → is_free held e ≡ true → AreStmts slots (held_in held (Some e)) body
+    → AreStmts slots (held ++ e.slot ∷ []) body
 held-free slots held e body f h =
     let set = (two-parts (is_set e.class) (not (list_any (λ n. n == e.slot) held)) f).0 in
     subst (λ (b : Bool). AreStmts slots (cond b held (held ++ e.slot ∷ [])) body) (set-variable e.class set) h
 
-held-made : (slots : List Slot) (held : List ℕ) (spot : Spot) (e : Entry) (v w q : ℤ) (body : checked.TStmtTrees) (b : Bool) → is_free held e && not (is_bool e.ty) ≡ b → IsEntry slots e e.class → fits e.ty v ≡ true → fits e.ty w ≡ true → (q ≡ pos 0 → ⊥) → AreStmts slots (held_in held (Some e)) body → StmtMade slots held (cond b (Some (checked.for_ e.slot v q (turns_of v w q) body spot)) None)
+held-made : (slots : List Slot) (held : List ℕ) (spot : Spot) (e : Entry) (v w q : ℤ) (body : checked.TStmtTrees) (b : Bool)
+    → is_free held e && not (is_bool e.ty) ≡ b → IsEntry slots e e.class → fits e.ty v ≡ true → fits e.ty w ≡ true → (q ≡ pos 0 → ⊥)
+    → AreStmts slots (held_in held (Some e)) body → StmtMade slots held (cond b (Some (checked.for_ e.slot v q (turns_of v w q) body spot)) None)
 held-made slots held spot e v w q body false k h f g i j = tt
 held-made slots held spot e v w q body true k h f g i j =
     let p = free-parts (is_free held e) (is_bool e.ty) k in
     (e.ty, may-set slots held e e.ty refl h p.0, number-joins e.ty p.1, f, turns-fit e.ty v w q i f g, held-free slots held e body p.0 j)
 
-for-made : (slots : List Slot) (held : List ℕ) (spot : Spot) (o : Option Entry) (k l : Option Known) (v w q : Option ℤ) (body : Option checked.TStmtTrees) → ((e : Entry) → o ≡ Some e → IsEntry slots e e.class) → number_in (entry_type o) k ≡ v → number_in (entry_type o) l ≡ w → IfSome q (λ x. x ≡ pos 0 → ⊥) → StmtsMade slots (held_in held o) body → StmtMade slots held (for_of held spot o v w q body)
+for-made : (slots : List Slot) (held : List ℕ) (spot : Spot) (o : Option Entry) (k l : Option Known) (v w q : Option ℤ) (body : Option checked.TStmtTrees)
+    → ((e : Entry) → o ≡ Some e → IsEntry slots e e.class) → number_in (entry_type o) k ≡ v → number_in (entry_type o) l ≡ w → IfSome q (λ x. x ≡ pos 0 → ⊥)
+    → StmtsMade slots (held_in held o) body → StmtMade slots held (for_of held spot o v w q body)
 for-made slots held spot None k l v w q body h f g i j = tt
 for-made slots held spot (Some e) k l None w q body h f g i j = tt
 for-made slots held spot (Some e) k l (Some v) None q body h f g i j = tt
@@ -485,11 +516,13 @@ step-made s t (Some e) = not-zero-made (number_in t (constant s e))
 order-self : (v : ℤ) → int_le v v ≡ true
 order-self v = grind (arith, ints)
 
-range-if : (t : Ty) (spot : Spot) (a b : ℤ) (c : Bool) → int_le a b ≡ c → fits t a ≡ true → fits t b ≡ true → IfSome (cond c (Some (record { first = a; last = b; range = true; spot = spot })) None) (IsLabel t)
+range-if : (t : Ty) (spot : Spot) (a b : ℤ) (c : Bool) → int_le a b ≡ c → fits t a ≡ true → fits t b ≡ true
+    → IfSome (cond c (Some (record { first = a; last = b; range = true; spot = spot })) None) (IsLabel t)
 range-if t spot a b false e f g = tt
 range-if t spot a b true e f g = record { first = f; last = g; order = e; one = λ z. absurd cc }
 
-ends-made : (t : Ty) (spot : Spot) (a : Option ℤ) (b : Option (Option ℤ)) → IfSome a (λ v. fits t v ≡ true) → IfSome b (λ o. IfSome o (λ v. fits t v ≡ true)) → IfSome (label_ends spot a b) (IsLabel t)
+ends-made : (t : Ty) (spot : Spot) (a : Option ℤ) (b : Option (Option ℤ)) → IfSome a (λ v. fits t v ≡ true) → IfSome b (λ o. IfSome o (λ v. fits t v ≡ true))
+    → IfSome (label_ends spot a b) (IsLabel t)
 ends-made t spot None b h k = tt
 ends-made t spot (Some a) None h k = record { first = h; last = h; order = order-self a; one = λ z. refl }
 ends-made t spot (Some a) (Some None) h k = tt
@@ -500,9 +533,12 @@ last-made s t None = tt
 last-made s t (Some e) = number-made t (constant s e)
 
 label-made : (s : List Entry) (t : Ty) (l : LabelTree) → IfSome (label_of s (Some t) l) (IsLabel t)
-label-made s t l = ends-made t (spot_of l.first) (number_in (Some t) (constant s l.first)) (last_end s (Some t) l.last) (number-made t (constant s l.first)) (last-made s t l.last)
+label-made s t l =
+    ends-made t (spot_of l.first) (number_in (Some t) (constant s l.first)) (last_end s (Some t) l.last) (number-made t (constant s l.first))
+    (last-made s t l.last)
 
-label-more : (t : Ty) (x : Option TLabel) (xs : Option (List TLabel)) → IfSome x (IsLabel t) → IfSome xs (All (IsLabel t)) → IfSome (both (λ y ys. Some (y ∷ ys)) x xs) (All (IsLabel t))
+label-more : (t : Ty) (x : Option TLabel) (xs : Option (List TLabel)) → IfSome x (IsLabel t) → IfSome xs (All (IsLabel t))
+    → IfSome (both (λ y ys. Some (y ∷ ys)) x xs) (All (IsLabel t))
 label-more t None xs h k = tt
 label-more t (Some x) None h k = tt
 label-more t (Some x) (Some xs) h k = All-cons (IsLabel t) x xs h k
@@ -516,59 +552,75 @@ labels-for s t u ls e = subst (λ x. IfSome (labels_of s x ls) (All (IsLabel u))
 
 -- ---- lists of statements, arms and branches
 
-stmt-more : (slots : List Slot) (held : List ℕ) (x : Option checked.TStmtTree) (xs : Option checked.TStmtTrees) → StmtMade slots held x → StmtsMade slots held xs → StmtsMade slots held (both (λ y ys. Some (checked.and_tstmt y ys)) x xs)
+stmt-more : (slots : List Slot) (held : List ℕ) (x : Option checked.TStmtTree) (xs : Option checked.TStmtTrees) → StmtMade slots held x
+    → StmtsMade slots held xs → StmtsMade slots held (both (λ y ys. Some (checked.and_tstmt y ys)) x xs)
 stmt-more slots held None xs h k = tt
 stmt-more slots held (Some x) None h k = tt
 stmt-more slots held (Some x) (Some xs) h k = (h, k)
 
-arm-if : (slots : List Slot) (held : List ℕ) (spot : Spot) (x : typed.TExprTree) (c : Bool) (body : Option checked.TStmtTrees) (arms : Option checked.TArmTrees) → is_bool (ty_of x) ≡ c → IsExpr slots x → StmtsMade slots held body → ArmsMade slots held arms → ArmsMade slots held (arm_of spot (cond c (Some x) None) body arms)
+arm-if : (slots : List Slot) (held : List ℕ) (spot : Spot) (x : typed.TExprTree) (c : Bool) (body : Option checked.TStmtTrees) (arms : Option checked.TArmTrees)
+    → is_bool (ty_of x) ≡ c → IsExpr slots x → StmtsMade slots held body → ArmsMade slots held arms
+    → ArmsMade slots held (arm_of spot (cond c (Some x) None) body arms)
 arm-if slots held spot x false body arms e h i j = tt
 arm-if slots held spot x true None arms e h i j = tt
 arm-if slots held spot x true (Some body) None e h i j = tt
 arm-if slots held spot x true (Some body) (Some arms) e h i j = (h, bool-is (ty_of x) e, i, j)
 
-arm-made : (slots : List Slot) (held : List ℕ) (spot : Spot) (x : Option typed.TExprTree) (body : Option checked.TStmtTrees) (arms : Option checked.TArmTrees) → IsMade slots x → StmtsMade slots held body → ArmsMade slots held arms → ArmsMade slots held (arm_of spot (option_and_then test_of x) body arms)
+arm-made : (slots : List Slot) (held : List ℕ) (spot : Spot) (x : Option typed.TExprTree) (body : Option checked.TStmtTrees) (arms : Option checked.TArmTrees)
+    → IsMade slots x → StmtsMade slots held body → ArmsMade slots held arms → ArmsMade slots held (arm_of spot (option_and_then test_of x) body arms)
 arm-made slots held spot None body arms h i j = tt
 arm-made slots held spot (Some x) body arms h i j = arm-if slots held spot x (is_bool (ty_of x)) body arms refl h i j
 
-branch-made : (slots : List Slot) (held : List ℕ) (t : Ty) (ls : Option (List TLabel)) (body : Option checked.TStmtTrees) (branches : Option checked.TBranchTrees) → IfSome ls (All (IsLabel t)) → StmtsMade slots held body → BranchesMade slots held t branches → BranchesMade slots held t (branch_of ls body branches)
+branch-made : (slots : List Slot) (held : List ℕ) (t : Ty) (ls : Option (List TLabel)) (body : Option checked.TStmtTrees)
+    (branches : Option checked.TBranchTrees) → IfSome ls
+    (All (IsLabel t)) → StmtsMade slots held body → BranchesMade slots held t branches → BranchesMade slots held t (branch_of ls body branches)
 branch-made slots held t None body branches h i j = tt
 branch-made slots held t (Some ls) None branches h i j = tt
 branch-made slots held t (Some ls) (Some body) None h i j = tt
 branch-made slots held t (Some ls) (Some body) (Some branches) h i j = (h, i, j)
 
-other-made : (slots : List Slot) (held : List ℕ) (body : Option checked.TStmtTrees) → StmtsMade slots held body → OtherMade slots held (option_map (λ x. checked.tother x) body)
+other-made : (slots : List Slot) (held : List ℕ) (body : Option checked.TStmtTrees) → StmtsMade slots held body
+    → OtherMade slots held (option_map (λ x. checked.tother x) body)
 other-made slots held None h = tt
 other-made slots held (Some body) h = h
 
 mutual
   pub stmt-made : (slots : List Slot) (s : List Entry) (held : List ℕ) (x : StmtTree) → IsScope slots s → StmtMade slots held (stmt_of s held x)
   stmt-made slots s held (assign n e spot) h = assign-made slots held spot (find s n) (expr_of s e) (h n) (expr-made slots s e h)
-  stmt-made slots s held (if_ arms o) h = if-made slots held (arms_of s held arms) (other_of s held o) (arms-made slots s held arms h) (others-made slots s held o h)
+  stmt-made slots s held (if_ arms o) h =
+      if-made slots held (arms_of s held arms) (other_of s held o) (arms-made slots s held arms h) (others-made slots s held o h)
   stmt-made slots s held (case e branches o spot) h =
       case-made slots held spot (expr_of s e) (type_of s e) (branches_of s held (type_of s e) branches) (other_of s held o) (type-is s e)
       (expr-made slots s e h) (λ u is. branches-made slots s held (type_of s e) u branches is h) (others-made slots s held o h)
   stmt-made slots s held (for_ n name_spot first last by body spot) h =
-      for-made slots held name_spot (find s n) (constant s first) (constant s last) (number_in (entry_type (find s n)) (constant s first)) (number_in (entry_type (find s n)) (constant s last))
-      (step_of s (entry_type (find s n)) by) (stmts_of s (held_in held (find s n)) body) (h n) refl refl (step-made s (entry_type (find s n)) by) (stmts-made slots s (held_in held (find s n)) body h)
+      for-made slots held name_spot (find s n) (constant s first) (constant s last) (number_in (entry_type (find s n)) (constant s first))
+      (number_in (entry_type (find s n)) (constant s last))
+      (step_of s (entry_type (find s n)) by) (stmts_of s (held_in held (find s n)) body) (h n) refl refl (step-made s (entry_type (find s n)) by)
+      (stmts-made slots s (held_in held (find s n)) body h)
 
   pub stmts-made : (slots : List Slot) (s : List Entry) (held : List ℕ) (xs : StmtTrees) → IsScope slots s → StmtsMade slots held (stmts_of s held xs)
   stmts-made slots s held no_stmts h = tt
-  stmts-made slots s held (and_stmt x xs) h = stmt-more slots held (stmt_of s held x) (stmts_of s held xs) (stmt-made slots s held x h) (stmts-made slots s held xs h)
+  stmts-made slots s held (and_stmt x xs) h =
+      stmt-more slots held (stmt_of s held x) (stmts_of s held xs) (stmt-made slots s held x h) (stmts-made slots s held xs h)
 
   pub arms-made : (slots : List Slot) (s : List Entry) (held : List ℕ) (arms : ArmTrees) → IsScope slots s → ArmsMade slots held (arms_of s held arms)
   arms-made slots s held no_arms h = tt
-  arms-made slots s held (and_arm e body spot arms) h = arm-made slots held spot (expr_of s e) (stmts_of s held body) (arms_of s held arms) (expr-made slots s e h) (stmts-made slots s held body h) (arms-made slots s held arms h)
+  arms-made slots s held (and_arm e body spot arms) h =
+      arm-made slots held spot (expr_of s e) (stmts_of s held body) (arms_of s held arms) (expr-made slots s e h) (stmts-made slots s held body h)
+      (arms-made slots s held arms h)
 
-  pub branches-made : (slots : List Slot) (s : List Entry) (held : List ℕ) (t : Option Ty) (u : Ty) (branches : BranchTrees) → t ≡ Some u → IsScope slots s → BranchesMade slots held u (branches_of s held t branches)
+  pub branches-made : (slots : List Slot) (s : List Entry) (held : List ℕ) (t : Option Ty) (u : Ty) (branches : BranchTrees) → t ≡ Some u → IsScope slots s
+      → BranchesMade slots held u (branches_of s held t branches)
   branches-made slots s held t u no_branches is h = tt
   branches-made slots s held t u (and_branch ls body branches) is h =
-      branch-made slots held u (labels_of s t ls) (stmts_of s held body) (branches_of s held t branches) (labels-for s t u ls is) (stmts-made slots s held body h) (branches-made slots s held t u branches is h)
+      branch-made slots held u (labels_of s t ls) (stmts_of s held body) (branches_of s held t branches) (labels-for s t u ls is)
+      (stmts-made slots s held body h) (branches-made slots s held t u branches is h)
 
   pub others-made : (slots : List Slot) (s : List Entry) (held : List ℕ) (o : OtherTree) → IsScope slots s → OtherMade slots held (other_of s held o)
   others-made slots s held no_other h = tt
   others-made slots s held (other body) h = other-made slots held (stmts_of s held body) (stmts-made slots s held body h)
 
 -- checked statements over a scope over slots keep the rules of statements
-pub stmts-checked : (slots : List Slot) (s : List Entry) (held : List ℕ) (xs : StmtTrees) (ts : checked.TStmtTrees) → IsScope slots s → stmts_of s held xs ≡ Some ts → AreStmts slots held ts
+pub stmts-checked : (slots : List Slot) (s : List Entry) (held : List ℕ) (xs : StmtTrees) (ts : checked.TStmtTrees) → IsScope slots s
+    → stmts_of s held xs ≡ Some ts → AreStmts slots held ts
 stmts-checked slots s held xs ts h is = if-some (AreStmts slots held) (stmts_of s held xs) ts (stmts-made slots s held xs h) is

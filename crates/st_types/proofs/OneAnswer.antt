@@ -20,7 +20,9 @@ use Rattle.st_types.proofs.LeastFaults.{Least, program-least}
 -- ---- the least fault is one
 
 abbrev rule_of : ℕ → Rule
-rule_of n = cond (n == 1) rule.Duplicate (cond (n == 2) rule.Unknown (cond (n == 3) rule.Mismatch (cond (n == 4) rule.Assign (cond (n == 5) rule.Bound (cond (n == 6) rule.Label (cond (n == 7) rule.Call rule.Literal))))))
+rule_of n = cond (n == 1) rule.Duplicate
+    (cond (n == 2) rule.Unknown
+    (cond (n == 3) rule.Mismatch (cond (n == 4) rule.Assign (cond (n == 5) rule.Bound (cond (n == 6) rule.Label (cond (n == 7) rule.Call rule.Literal))))))
 
 rule-back : (r : Rule) → rule_of (number r) ≡ r
 rule-back rule.Duplicate = refl
@@ -35,7 +37,8 @@ rule-back rule.Literal = refl
 same-rule : (r q : Rule) → number r ≡ number q → r ≡ q
 same-rule r q e = sym (rule-back r) ∙ ap rule_of e ∙ rule-back q
 
-same-places : (a b c d m n : ℕ) → (a < b) ⊎ ((a ≡ b) × ((c < d) ⊎ ((c ≡ d) × (m ≤ n)))) → (b < a) ⊎ ((b ≡ a) × ((d < c) ⊎ ((d ≡ c) × (n ≤ m)))) → (a ≡ b) × (c ≡ d) × (m ≡ n)
+same-places : (a b c d m n : ℕ) → (a < b) ⊎ ((a ≡ b) × ((c < d) ⊎ ((c ≡ d) × (m ≤ n)))) → (b < a) ⊎ ((b ≡ a) × ((d < c) ⊎ ((d ≡ c) × (n ≤ m))))
+    → (a ≡ b) × (c ≡ d) × (m ≡ n)
 same-places a b c d m n (inl h) (inl k) = absurd (omega arith)
 same-places a b c d m n (inl h) (inr k) = let e = k.0 in absurd (omega arith)
 same-places a b c d m n (inr h) (inl k) = let e = h.0 in absurd (omega arith)
@@ -122,11 +125,13 @@ get-there (x ∷ xs) (suc i) h = get-there xs i (omega arith)
 abbrev Answered : ProgramTree → Type 0
 Answered p = ((t : Program) × IsTyped p t) ⊎ (((spot : Spot) × Refuses p (told.Names spot)) ⊎ Refuses p told.Size)
 
-sized-or : (p : ProgramTree) (t : Program) → IsFaultless p → length (names_of p) ≤ most_names → typed_of p ≡ Some t → (size t ≤ most_size) ⊎ (most_size < size t) → Answered p
+sized-or : (p : ProgramTree) (t : Program) → IsFaultless p → length (names_of p) ≤ most_names → typed_of p ≡ Some t
+    → (size t ≤ most_size) ⊎ (most_size < size t) → Answered p
 sized-or p t never few is (inl h) = inl (t, record { faultless = never; few = few; is = is; room = h })
 sized-or p t never few is (inr h) = inr (inr (record { faultless = never; few = few; typed = t; is = is; large = h }))
 
-named-or : (p : ProgramTree) (t : Program) → IsFaultless p → typed_of p ≡ Some t → (length (names_of p) ≤ most_names) ⊎ (most_names < length (names_of p)) → Answered p
+named-or : (p : ProgramTree) (t : Program) → IsFaultless p → typed_of p ≡ Some t → (length (names_of p) ≤ most_names) ⊎ (most_names < length (names_of p))
+    → Answered p
 named-or p t never is (inl h) = sized-or p t never h is (within-or (size t) most_size)
 named-or p t never is (inr h) = let d = get-there (names_of p) most_names h in inr (inl (d.0.spot, (never, (d.0, d.1, refl))))
 

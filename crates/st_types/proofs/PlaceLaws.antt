@@ -1,5 +1,6 @@
 -- PlaceLaws: where a name stands among others.
-use Rattle.std.proofs.Common.{◌≡◌, ℕ, zero, suc, ◌-◌, ◌≤◌, ◌++◌, List, [], ◌∷◌, length, slice_get, map, option_map, Option, Some, None, refl, sym, ap, ◌∙◌, subst, arith, append_assoc, append-nil}
+use Rattle.std.proofs.Common.{◌≡◌, ℕ, zero, suc, ◌-◌, ◌≤◌, ◌++◌, List, [], ◌∷◌, length, slice_get, map, option_map, Option, Some, None, refl, sym, ap, ◌∙◌}
+use Rattle.std.proofs.Common.{subst, arith, append_assoc, append-nil}
 use Rattle.vcp_base.specs.declared.spot.Spot.{Spot}
 use Rattle.st_tree.specs.ProgramTree.{DeclaredTree}
 use Rattle.st_types.specs.Places.{IsAt, IsAmong, IsAfter}

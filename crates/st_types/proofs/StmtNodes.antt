@@ -1,9 +1,11 @@
 -- StmtNodes: one lemma for each node of a statement: the faults of its parts, in order, and what they give.
-use Rattle.std.proofs.Common.{◌≡◌, ◌≢◌, ℕ, ℤ, pos, ◌⊎◌, List, [], ◌∷◌, ◌++◌, Bool, false, Option, Some, None, IfSome, option_map, option_and_then, refl, sym, ap, ap₂, ◌∙◌, subst}
+use Rattle.std.proofs.Common.{◌≡◌, ◌≢◌, ℕ, ℤ, pos, ◌⊎◌, List, [], ◌∷◌, ◌++◌, Bool, false, Option, Some, None, IfSome, option_map, option_and_then, refl, sym}
+use Rattle.std.proofs.Common.{ap, ap₂, ◌∙◌, subst}
 use Rattle.vcp_base.specs.declared.spot.Spot.{Spot}
 use Rattle.vcp_base.specs.declared.ty.Ty.{Ty}
 use Rattle.st_tree.specs.ExprTree.{ExprTree}
-use Rattle.st_tree.specs.StmtTree.{LabelTree, StmtTree, StmtTrees, ArmTrees, BranchTrees, OtherTree, assign, if_, case, for_, no_stmts, and_stmt, no_arms, and_arm, no_branches, and_branch, no_other, other}
+use Rattle.st_tree.specs.StmtTree.{LabelTree, StmtTree, StmtTrees, ArmTrees, BranchTrees, OtherTree, assign, if_, case, for_, no_stmts, and_stmt, no_arms}
+use Rattle.st_tree.specs.StmtTree.{and_arm, no_branches, and_branch, no_other, other}
 use Rattle.vcp_typed.specs.declared.stmt.TLabel.{TLabel}
 use Rattle.vcp_typed.specs.TExprTree as typed
 use Rattle.vcp_typed.specs.TStmtTree as checked
@@ -17,8 +19,12 @@ use Rattle.st_types.specs.Notes.{Notes}
 use Rattle.st_types.specs.Scope.{Entry, find}
 use Rattle.st_types.specs.ExprTyping.{both, type_of, expr_of}
 use Rattle.st_types.specs.ExprSteps.{Types}
-use Rattle.st_types.specs.StmtTyping.{Known, Form, spot_of, constant, form, form_number, number_in, not_zero, step_of, NameFault, entry_type, Narrows, NoTest, IsBool, BoundFault, StepFault, LastFault, last_end, last_form, in_order, label_ends, label_of, LabelsFault, held_in, StmtsFault, stmts_of, ArmsFault, BranchesFault, OtherFault, assign_of, test_of, selector_of, for_of, arm_of, branch_of, case_of}
-use Rattle.st_types.specs.StmtSteps.{Gives, literal_known, Numbers, Bounds, Steps, TypesLast, TypesLabel, TypesLabels, TypesStmt, TypesStmts, TypesArms, TypesBranches, TypesOther, stmt_after, label_after, arm_after, branch_after, if_of}
+use Rattle.st_types.specs.StmtTyping.{Known, Form, spot_of, constant, form, form_number, number_in, not_zero, step_of, NameFault, entry_type, Narrows, NoTest}
+use Rattle.st_types.specs.StmtTyping.{IsBool, BoundFault, StepFault, LastFault, last_end, last_form, in_order, label_ends, label_of, LabelsFault, held_in}
+use Rattle.st_types.specs.StmtTyping.{StmtsFault, stmts_of, ArmsFault, BranchesFault, OtherFault, assign_of, test_of, selector_of, for_of, arm_of, branch_of}
+use Rattle.st_types.specs.StmtTyping.{case_of}
+use Rattle.st_types.specs.StmtSteps.{Gives, literal_known, Numbers, Bounds, Steps, TypesLast, TypesLabel, TypesLabels, TypesStmt, TypesStmts, TypesArms}
+use Rattle.st_types.specs.StmtSteps.{TypesBranches, TypesOther, stmt_after, label_after, arm_after, branch_after, if_of}
 use Rattle.st_types.proofs.ConstantLaws.{constant-is}
 use Rattle.st_types.proofs.ExprLaws.{typed-is}
 use Rattle.st_types.proofs.MadeChecked.{not-zero-made}
@@ -29,21 +35,25 @@ own-type s e x is = ap (option_map ty_of) is ∙ typed-is s e
 
 -- ---- constants
 
-pub numbers : (s : List Entry) (t : Option Ty) (e : ExprTree) (a b : Option Fault) (x : Option typed.TExprTree) (k : Option Known) (o : Option Form) (w v : Option ℤ)
+pub numbers : (s : List Entry) (t : Option Ty) (e : ExprTree) (a b : Option Fault) (x : Option typed.TExprTree) (k : Option Known) (o : Option Form)
+    (w v : Option ℤ)
     → Types s e a b x → k ≡ option_and_then literal_known x → (k ≡ constant s e → o ≡ form s e) → w ≡ form_number t o → v ≡ number_in t k
     → Numbers s t e a b (record { form = w; value = v })
 numbers s t e a b x k o w v h known formed fw fv =
     let is : k ≡ constant s e = known ∙ ap (option_and_then literal_known) h.gives ∙ constant-is s e in
     record { notes = h.notes; value = fv ∙ ap (number_in t) is; form = fw ∙ ap (form_number t) (formed is) }
 
-pub bounds : (s : List Entry) (t : Option Ty) (e : ExprTree) (p : Spot) (a b c : Option Fault) (r : Number) → Numbers s t e a b r → p ≡ spot_of e → Notes b c (λ f. (f ≡ fault rule.Bound p) × (r.form ≡ None)) → Bounds s t e a c r.value
+pub bounds : (s : List Entry) (t : Option Ty) (e : ExprTree) (p : Spot) (a b c : Option Fault) (r : Number) → Numbers s t e a b r → p ≡ spot_of e
+    → Notes b c (λ f. (f ≡ fault rule.Bound p) × (r.form ≡ None)) → Bounds s t e a c r.value
 bounds s t e p a b c r h at n =
     let m = subst (λ q. Notes b c (λ f. (f ≡ fault rule.Bound q) × (r.form ≡ None))) at n in
     let o = subst (λ y. Notes b c (λ f. (f ≡ fault rule.Bound (spot_of e)) × (y ≡ None))) h.form m in
     record { notes = pair a b c _ _ h.notes o; gives = h.value }
 
-pub steps : (s : List Entry) (t : Option Ty) (e : ExprTree) (p : Spot) (a b c : Option Fault) (r : Number) (w v : Option ℤ) → Numbers s t e a b r → p ≡ spot_of e
-    → w ≡ option_and_then not_zero r.form → Notes b c (λ f. (f ≡ fault rule.Bound p) × (w ≡ None)) → v ≡ option_and_then not_zero r.value → Steps s t (Some e) a c v
+pub steps : (s : List Entry) (t : Option Ty) (e : ExprTree) (p : Spot) (a b c : Option Fault) (r : Number) (w v : Option ℤ) → Numbers s t e a b r
+    → p ≡ spot_of e
+    → w ≡ option_and_then not_zero r.form → Notes b c (λ f. (f ≡ fault rule.Bound p) × (w ≡ None)) → v ≡ option_and_then not_zero r.value
+    → Steps s t (Some e) a c v
 steps s t e p a b c r w v h at fw n fv =
     let m = subst (λ q. Notes b c (λ f. (f ≡ fault rule.Bound q) × (w ≡ None))) at n in
     let o = subst (λ y. Notes b c (λ f. (f ≡ fault rule.Bound (spot_of e)) × (y ≡ None))) (fw ∙ ap (option_and_then not_zero) h.form) m in
@@ -60,7 +70,8 @@ no-last s t a = record { notes = quiet a (LastFault s None) (λ f h. h); value =
 pub some-last : (s : List Entry) (t : Option Ty) (e : ExprTree) (a b : Option Fault) (r : Number) → Numbers s t e a b r → TypesLast s t (Some e) a b (Some r)
 some-last s t e a b r h = record { notes = h.notes; value = ap Some h.value; form = ap Some h.form }
 
-pub label-types : (s : List Entry) (t : Option Ty) (l : LabelTree) (p : Spot) (a b c d : Option Fault) (v : Number) (w : Option Number) (x y : Option (Option ℤ)) (o : Bool) (r : Option TLabel)
+pub label-types : (s : List Entry) (t : Option Ty) (l : LabelTree) (p : Spot) (a b c d : Option Fault) (v : Number) (w : Option Number)
+    (x y : Option (Option ℤ)) (o : Bool) (r : Option TLabel)
     → Numbers s t l.first a b v → TypesLast s t l.last b c w → p ≡ spot_of l.first
     → x ≡ option_map (λ n. n.form) w → o ≡ in_order v.form x → Notes c d (λ f. (f ≡ fault rule.Label p) × (o ≡ false))
     → y ≡ option_map (λ n. n.value) w → r ≡ label_ends p v.value y → TypesLabel s t l a d r
@@ -79,7 +90,8 @@ label_cons x xs = Some (x ∷ xs)
 abbrev pub labels_glue : List TLabel → List TLabel → Option (List TLabel)
 labels_glue xs ys = Some (xs ++ ys)
 
-pub more-labels : (s : List Entry) (t : Option Ty) (l : LabelTree) (ls : List LabelTree) (a b c : Option Fault) (x : Option TLabel) (xs : Option (List TLabel)) → TypesLabel s t l a b x → TypesLabels s t ls b c xs → TypesLabels s t (l ∷ ls) a c (both label_cons x xs)
+pub more-labels : (s : List Entry) (t : Option Ty) (l : LabelTree) (ls : List LabelTree) (a b c : Option Fault) (x : Option TLabel) (xs : Option (List TLabel))
+    → TypesLabel s t l a b x → TypesLabels s t ls b c xs → TypesLabels s t (l ∷ ls) a c (both label_cons x xs)
 more-labels s t l ls a b c x xs h k = record { notes = pair a b c _ _ h.notes k.notes; gives = ap₂ (both label_cons) h.gives k.gives }
 
 pub no-labels : (s : List Entry) (t : Option Ty) (a : Option Fault) → TypesLabels s t [] a a (Some [])
@@ -93,7 +105,8 @@ labels-none : (a : List TLabel) → a ++ [] ≡ a
 labels-none [] = refl
 labels-none (x ∷ a) = ap (λ (t : List TLabel). x ∷ t) (labels-none a)
 
-pub labels-on : (a b : Option (List TLabel)) (x : Option TLabel) (r : Option (List TLabel)) → b ≡ both label_after a x → both labels_glue a (both label_cons x r) ≡ both labels_glue b r
+pub labels-on : (a b : Option (List TLabel)) (x : Option TLabel) (r : Option (List TLabel)) → b ≡ both label_after a x
+    → both labels_glue a (both label_cons x r) ≡ both labels_glue b r
 labels-on None b x r e = sym (ap (λ y. both labels_glue y r) e)
 labels-on (Some xs) b None r e = sym (ap (λ y. both labels_glue y r) e)
 labels-on (Some xs) b (Some x) None e = sym (ap (λ y. both labels_glue y None) e)
@@ -105,26 +118,30 @@ labels-end (Some xs) = ap Some (labels-none xs)
 
 -- ---- statements
 
-pub assign-types : (s : List Entry) (held : List ℕ) (n : List ℕ) (e : ExprTree) (p : Spot) (a b c d : Option Fault) (o : Option Entry) (x : Option typed.TExprTree) (r : Option checked.TStmtTree)
+pub assign-types : (s : List Entry) (held : List ℕ) (n : List ℕ) (e : ExprTree) (p : Spot) (a b c d : Option Fault) (o : Option Entry)
+    (x : Option typed.TExprTree) (r : Option checked.TStmtTree)
     → o ≡ find s n → Notes a b (NameFault held o p) → Types s e b c x
     → Gives (λ f. (f ≡ fault rule.Mismatch p) × Narrows (entry_type o) (option_map ty_of x)) (both (assign_of held p) o x) c d r
     → TypesStmt s held (assign n e p) a d r
 assign-types s held n e p a b c d o x r is n1 t v =
-    let own = subst (λ y. Notes c d (λ f. (f ≡ fault rule.Mismatch p) × Narrows (entry_type y) (type_of s e))) is (subst (λ y. Notes c d (λ f. (f ≡ fault rule.Mismatch p) × Narrows (entry_type o) y)) (own-type s e x t.gives) v.notes) in
+    let own = subst (λ y. Notes c d (λ f. (f ≡ fault rule.Mismatch p) × Narrows (entry_type y) (type_of s e))) is
+    (subst (λ y. Notes c d (λ f. (f ≡ fault rule.Mismatch p) × Narrows (entry_type o) y)) (own-type s e x t.gives) v.notes) in
     let name = subst (λ y. Notes a b (NameFault held y p)) is n1 in
     record {
       notes = pair a b d _ _ name (pair b c d _ _ t.notes own);
       gives = v.gives ∙ ap₂ (both (assign_of held p)) is t.gives;
     }
 
-pub if-types : (s : List Entry) (held : List ℕ) (arms : ArmTrees) (o : OtherTree) (a b c : Option Fault) (x : Option checked.TArmTrees) (y : Option checked.TOtherTree) (r : Option checked.TStmtTree)
+pub if-types : (s : List Entry) (held : List ℕ) (arms : ArmTrees) (o : OtherTree) (a b c : Option Fault) (x : Option checked.TArmTrees)
+    (y : Option checked.TOtherTree) (r : Option checked.TStmtTree)
     → TypesArms s held arms a b x → TypesOther s held o b c y → r ≡ both if_of x y → TypesStmt s held (if_ arms o) a c r
 if-types s held arms o a b c x y r h k is = record {
   notes = pair a b c _ _ h.notes k.notes;
   gives = is ∙ ap₂ (both if_of) h.gives k.gives;
 }
 
-pub case-types : (s : List Entry) (held : List ℕ) (e : ExprTree) (branches : BranchTrees) (o : OtherTree) (p : Spot) (a b c d g : Option Fault) (x q : Option typed.TExprTree) (t : Option Ty) (y : Option checked.TBranchTrees) (z : Option checked.TOtherTree) (r : Option checked.TStmtTree)
+pub case-types : (s : List Entry) (held : List ℕ) (e : ExprTree) (branches : BranchTrees) (o : OtherTree) (p : Spot) (a b c d g : Option Fault)
+    (x q : Option typed.TExprTree) (t : Option Ty) (y : Option checked.TBranchTrees) (z : Option checked.TOtherTree) (r : Option checked.TStmtTree)
     → Types s e a b x → t ≡ option_map ty_of x
     → Notes b c (λ f. (f ≡ fault rule.Mismatch p) × IsBool (option_map ty_of x)) → q ≡ option_and_then selector_of x
     → TypesBranches s held t branches c d y → TypesOther s held o d g z → r ≡ case_of p q y z
@@ -139,7 +156,9 @@ case-types s held e branches o p a b c d g x q t y z r h is n sel k l gives =
       gives = gives ∙ (λ i. case_of p (q1 i) (k1.gives i) (l.gives i));
     }
 
-pub for-types : (s : List Entry) (held : List ℕ) (n : List ℕ) (p q : Spot) (e f : ExprTree) (by : Option ExprTree) (body : StmtTrees) (a b c d g h k : Option Fault) (o : Option Entry) (t : Option Ty) (inner : List ℕ) (v w u : Option ℤ) (y : Option checked.TStmtTrees) (r : Option checked.TStmtTree)
+pub for-types : (s : List Entry) (held : List ℕ) (n : List ℕ) (p q : Spot) (e f : ExprTree) (by : Option ExprTree) (body : StmtTrees)
+    (a b c d g h k : Option Fault) (o : Option Entry) (t : Option Ty) (inner : List ℕ) (v w u : Option ℤ) (y : Option checked.TStmtTrees)
+    (r : Option checked.TStmtTree)
     → o ≡ find s n → t ≡ entry_type o → inner ≡ held_in held o
     → Notes a b (NameFault held o p) → Notes b c (λ m. (m ≡ fault rule.Mismatch p) × IsBool t)
     → Bounds s t e c d v → Bounds s t f d g w → Steps s t by g h u
@@ -150,9 +169,21 @@ for-types s held n p q e f by body a b c d g h k o t inner v w u y r is ty1 in1 
     let ty2 : t ≡ entry_type (find s n) = ty1 ∙ ap entry_type is in
     let in2 : inner ≡ held_in held (find s n) = in1 ∙ ap (held_in held) is in
     record {
-      notes = subst (λ z. Notes a k (λ m. NameFault held z p m ⊎ (((m ≡ fault rule.Mismatch p) × IsBool (entry_type (find s n))) ⊎ (BoundFault s (entry_type (find s n)) e m ⊎ (BoundFault s (entry_type (find s n)) f m ⊎ (StepFault s (entry_type (find s n)) by m ⊎ StmtsFault s (held_in held (find s n)) body m)))))) is
-          (subst (λ z. Notes a k (λ m. NameFault held o p m ⊎ (((m ≡ fault rule.Mismatch p) × IsBool z) ⊎ (BoundFault s z e m ⊎ (BoundFault s z f m ⊎ (StepFault s z by m ⊎ StmtsFault s (held_in held (find s n)) body m)))))) ty2
-          (subst (λ z. Notes a k (λ m. NameFault held o p m ⊎ (((m ≡ fault rule.Mismatch p) × IsBool t) ⊎ (BoundFault s t e m ⊎ (BoundFault s t f m ⊎ (StepFault s t by m ⊎ StmtsFault s z body m)))))) in2 all));
+      notes = subst
+          (λ z. Notes a k
+          (λ m. NameFault held z p m
+          ⊎ (((m ≡ fault rule.Mismatch p) × IsBool (entry_type (find s n)))
+          ⊎ (BoundFault s
+          (entry_type (find s n)) e m
+          ⊎ (BoundFault s (entry_type (find s n)) f m ⊎ (StepFault s (entry_type (find s n)) by m ⊎ StmtsFault s (held_in held (find s n)) body m)))))) is
+          (subst (λ z. Notes a k
+          (λ m. NameFault held o p m
+          ⊎ (((m ≡ fault rule.Mismatch p) × IsBool z)
+          ⊎ (BoundFault s z e m ⊎ (BoundFault s z f m ⊎ (StepFault s z by m ⊎ StmtsFault s (held_in held (find s n)) body m)))))) ty2
+          (subst (λ z. Notes a k
+          (λ m. NameFault held o p m
+          ⊎ (((m ≡ fault rule.Mismatch p) × IsBool t)
+          ⊎ (BoundFault s t e m ⊎ (BoundFault s t f m ⊎ (StepFault s t by m ⊎ StmtsFault s z body m)))))) in2 all));
       gives = gives ∙ (λ i. for_of held p o (x1.gives i) (x2.gives i) (x3.gives i) (x4.gives i))
           ∙ (λ i. for_of held p (is i) (number_in (ty2 i) (constant s e)) (number_in (ty2 i) (constant s f)) (step_of s (ty2 i) by) (stmts_of s (in2 i) body));
     }
@@ -169,13 +200,15 @@ stmts_all (checked.and_tstmt x xs) ys = checked.and_tstmt x (stmts_all xs ys)
 abbrev pub stmts_glue : checked.TStmtTrees → checked.TStmtTrees → Option checked.TStmtTrees
 stmts_glue xs ys = Some (stmts_all xs ys)
 
-pub more-stmts : (s : List Entry) (held : List ℕ) (l : StmtTree) (ls : StmtTrees) (a b c : Option Fault) (x : Option checked.TStmtTree) (xs : Option checked.TStmtTrees) → TypesStmt s held l a b x → TypesStmts s held ls b c xs → TypesStmts s held (and_stmt l ls) a c (both stmt_cons x xs)
+pub more-stmts : (s : List Entry) (held : List ℕ) (l : StmtTree) (ls : StmtTrees) (a b c : Option Fault) (x : Option checked.TStmtTree)
+    (xs : Option checked.TStmtTrees) → TypesStmt s held l a b x → TypesStmts s held ls b c xs → TypesStmts s held (and_stmt l ls) a c (both stmt_cons x xs)
 more-stmts s held l ls a b c x xs h k = record { notes = pair a b c _ _ h.notes k.notes; gives = ap₂ (both stmt_cons) h.gives k.gives }
 
 pub no-more-stmts : (s : List Entry) (held : List ℕ) (a : Option Fault) → TypesStmts s held no_stmts a a (Some checked.no_tstmts)
 no-more-stmts s held a = record { notes = quiet a (StmtsFault s held no_stmts) (λ f h. h); gives = refl }
 
-stmts-assoc : (xs : checked.TStmtTrees) (x : checked.TStmtTree) (ys : checked.TStmtTrees) → stmts_all (tstmts_and xs x) ys ≡ stmts_all xs (checked.and_tstmt x ys)
+stmts-assoc : (xs : checked.TStmtTrees) (x : checked.TStmtTree) (ys : checked.TStmtTrees)
+    → stmts_all (tstmts_and xs x) ys ≡ stmts_all xs (checked.and_tstmt x ys)
 stmts-assoc checked.no_tstmts x ys = refl
 stmts-assoc (checked.and_tstmt z xs) x ys = ap (λ (t : checked.TStmtTrees). checked.and_tstmt z t) (stmts-assoc xs x ys)
 
@@ -183,7 +216,8 @@ stmts-all-none : (xs : checked.TStmtTrees) → stmts_all xs checked.no_tstmts �
 stmts-all-none checked.no_tstmts = refl
 stmts-all-none (checked.and_tstmt z xs) = ap (λ (t : checked.TStmtTrees). checked.and_tstmt z t) (stmts-all-none xs)
 
-pub stmts-on : (a b : Option checked.TStmtTrees) (x : Option checked.TStmtTree) (r : Option checked.TStmtTrees) → b ≡ both stmt_after a x → both stmts_glue a (both stmt_cons x r) ≡ both stmts_glue b r
+pub stmts-on : (a b : Option checked.TStmtTrees) (x : Option checked.TStmtTree) (r : Option checked.TStmtTrees) → b ≡ both stmt_after a x
+    → both stmts_glue a (both stmt_cons x r) ≡ both stmts_glue b r
 stmts-on None b x r e = sym (ap (λ y. both stmts_glue y r) e)
 stmts-on (Some xs) b None r e = sym (ap (λ y. both stmts_glue y r) e)
 stmts-on (Some xs) b (Some x) None e = sym (ap (λ y. both stmts_glue y None) e)
@@ -200,7 +234,8 @@ arms_all (checked.and_tarm e body p xs) ys = checked.and_tarm e body p (arms_all
 abbrev pub arms_glue : checked.TArmTrees → checked.TArmTrees → Option checked.TArmTrees
 arms_glue xs ys = Some (arms_all xs ys)
 
-pub more-arms : (s : List Entry) (held : List ℕ) (e : ExprTree) (body : StmtTrees) (p : Spot) (ls : ArmTrees) (a b c d g : Option Fault) (x q : Option typed.TExprTree) (y : Option checked.TStmtTrees) (z : Option checked.TArmTrees)
+pub more-arms : (s : List Entry) (held : List ℕ) (e : ExprTree) (body : StmtTrees) (p : Spot) (ls : ArmTrees) (a b c d g : Option Fault)
+    (x q : Option typed.TExprTree) (y : Option checked.TStmtTrees) (z : Option checked.TArmTrees)
     → Types s e a b x → Notes b c (λ f. (f ≡ fault rule.Mismatch p) × NoTest (option_map ty_of x)) → q ≡ option_and_then test_of x
     → TypesStmts s held body c d y → TypesArms s held ls d g z
     → TypesArms s held (and_arm e body p ls) a g (arm_of p q y z)
@@ -215,7 +250,8 @@ more-arms s held e body p ls a b c d g x q y z h n is k l =
 pub no-more-arms : (s : List Entry) (held : List ℕ) (a : Option Fault) → TypesArms s held no_arms a a (Some checked.no_tarms)
 no-more-arms s held a = record { notes = quiet a (ArmsFault s held no_arms) (λ f h. h); gives = refl }
 
-arms-assoc : (xs : checked.TArmTrees) (e : typed.TExprTree) (body : checked.TStmtTrees) (p : Spot) (ys : checked.TArmTrees) → arms_all (tarms_and xs e body p) ys ≡ arms_all xs (checked.and_tarm e body p ys)
+arms-assoc : (xs : checked.TArmTrees) (e : typed.TExprTree) (body : checked.TStmtTrees) (p : Spot) (ys : checked.TArmTrees)
+    → arms_all (tarms_and xs e body p) ys ≡ arms_all xs (checked.and_tarm e body p ys)
 arms-assoc checked.no_tarms e body p ys = refl
 arms-assoc (checked.and_tarm c b q xs) e body p ys = ap (λ (t : checked.TArmTrees). checked.and_tarm c b q t) (arms-assoc xs e body p ys)
 
@@ -223,7 +259,8 @@ arms-all-none : (xs : checked.TArmTrees) → arms_all xs checked.no_tarms ≡ xs
 arms-all-none checked.no_tarms = refl
 arms-all-none (checked.and_tarm c b q xs) = ap (λ (t : checked.TArmTrees). checked.and_tarm c b q t) (arms-all-none xs)
 
-pub arms-on : (p : Spot) (a b : Option checked.TArmTrees) (x : Option typed.TExprTree) (y : Option checked.TStmtTrees) (r : Option checked.TArmTrees) → b ≡ arm_after p a x y → both arms_glue a (arm_of p x y r) ≡ both arms_glue b r
+pub arms-on : (p : Spot) (a b : Option checked.TArmTrees) (x : Option typed.TExprTree) (y : Option checked.TStmtTrees) (r : Option checked.TArmTrees)
+    → b ≡ arm_after p a x y → both arms_glue a (arm_of p x y r) ≡ both arms_glue b r
 arms-on p None b x y r e = sym (ap (λ z. both arms_glue z r) e)
 arms-on p (Some xs) b None y r e = sym (ap (λ z. both arms_glue z r) e)
 arms-on p (Some xs) b (Some x) None r e = sym (ap (λ z. both arms_glue z r) e)
@@ -241,7 +278,8 @@ branches_all (checked.and_tbranch ls body xs) ys = checked.and_tbranch ls body (
 abbrev pub branches_glue : checked.TBranchTrees → checked.TBranchTrees → Option checked.TBranchTrees
 branches_glue xs ys = Some (branches_all xs ys)
 
-pub more-branches : (s : List Entry) (held : List ℕ) (t : Option Ty) (ls : List LabelTree) (body : StmtTrees) (rest : BranchTrees) (a b c d : Option Fault) (x : Option (List TLabel)) (y : Option checked.TStmtTrees) (z : Option checked.TBranchTrees)
+pub more-branches : (s : List Entry) (held : List ℕ) (t : Option Ty) (ls : List LabelTree) (body : StmtTrees) (rest : BranchTrees) (a b c d : Option Fault)
+    (x : Option (List TLabel)) (y : Option checked.TStmtTrees) (z : Option checked.TBranchTrees)
     → TypesLabels s t ls a b x → TypesStmts s held body b c y → TypesBranches s held t rest c d z
     → TypesBranches s held t (and_branch ls body rest) a d (branch_of x y z)
 more-branches s held t ls body rest a b c d x y z h k l = record {
@@ -252,7 +290,8 @@ more-branches s held t ls body rest a b c d x y z h k l = record {
 pub no-more-branches : (s : List Entry) (held : List ℕ) (t : Option Ty) (a : Option Fault) → TypesBranches s held t no_branches a a (Some checked.no_tbranches)
 no-more-branches s held t a = record { notes = quiet a (BranchesFault s held t no_branches) (λ f h. h); gives = refl }
 
-branches-assoc : (xs : checked.TBranchTrees) (ls : List TLabel) (body : checked.TStmtTrees) (ys : checked.TBranchTrees) → branches_all (tbranches_and xs ls body) ys ≡ branches_all xs (checked.and_tbranch ls body ys)
+branches-assoc : (xs : checked.TBranchTrees) (ls : List TLabel) (body : checked.TStmtTrees) (ys : checked.TBranchTrees)
+    → branches_all (tbranches_and xs ls body) ys ≡ branches_all xs (checked.and_tbranch ls body ys)
 branches-assoc checked.no_tbranches ls body ys = refl
 branches-assoc (checked.and_tbranch c b xs) ls body ys = ap (λ (t : checked.TBranchTrees). checked.and_tbranch c b t) (branches-assoc xs ls body ys)
 
@@ -260,7 +299,8 @@ branches-all-none : (xs : checked.TBranchTrees) → branches_all xs checked.no_t
 branches-all-none checked.no_tbranches = refl
 branches-all-none (checked.and_tbranch c b xs) = ap (λ (t : checked.TBranchTrees). checked.and_tbranch c b t) (branches-all-none xs)
 
-pub branches-on : (a b : Option checked.TBranchTrees) (x : Option (List TLabel)) (y : Option checked.TStmtTrees) (r : Option checked.TBranchTrees) → b ≡ branch_after a x y → both branches_glue a (branch_of x y r) ≡ both branches_glue b r
+pub branches-on : (a b : Option checked.TBranchTrees) (x : Option (List TLabel)) (y : Option checked.TStmtTrees) (r : Option checked.TBranchTrees)
+    → b ≡ branch_after a x y → both branches_glue a (branch_of x y r) ≡ both branches_glue b r
 branches-on None b x y r e = sym (ap (λ z. both branches_glue z r) e)
 branches-on (Some xs) b None y r e = sym (ap (λ z. both branches_glue z r) e)
 branches-on (Some xs) b (Some x) None r e = sym (ap (λ z. both branches_glue z r) e)
@@ -276,7 +316,8 @@ branches-end (Some xs) = ap Some (branches-all-none xs)
 pub no-else : (s : List Entry) (held : List ℕ) (a : Option Fault) → TypesOther s held no_other a a (Some checked.no_tother)
 no-else s held a = record { notes = quiet a (OtherFault s held no_other) (λ f h. h); gives = refl }
 
-pub some-else : (s : List Entry) (held : List ℕ) (body : StmtTrees) (a b : Option Fault) (y : Option checked.TStmtTrees) (r : Option checked.TOtherTree) → TypesStmts s held body a b y → r ≡ option_map (λ x. checked.tother x) y → TypesOther s held (other body) a b r
+pub some-else : (s : List Entry) (held : List ℕ) (body : StmtTrees) (a b : Option Fault) (y : Option checked.TStmtTrees) (r : Option checked.TOtherTree)
+    → TypesStmts s held body a b y → r ≡ option_map (λ x. checked.tother x) y → TypesOther s held (other body) a b r
 some-else s held body a b y r h is = record { notes = h.notes; gives = is ∙ ap (option_map (λ x. checked.tother x)) h.gives }
 
 -- ---- values

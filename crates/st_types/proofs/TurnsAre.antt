@@ -1,5 +1,6 @@
 -- TurnsAre: a FOR takes exactly the values first, first + by and so on that aren't past its last bound.
-use Rattle.std.proofs.Common.{◌≡◌, ℕ, zero, suc, ◌+◌, ◌*◌, ◌/◌, ◌<◌, ◌≤◌, ◌↔◌, ℤ, pos, negsuc, ◌+ℤ◌, ◌-ℤ◌, ◌≤ℤ◌, Bool, true, false, cond, int_le, unsigned_abs, refl, sym, ◌∙◌, subst, arith, true≢false}
+use Rattle.std.proofs.Common.{◌≡◌, ℕ, zero, suc, ◌+◌, ◌*◌, ◌/◌, ◌<◌, ◌≤◌, ◌↔◌, ℤ, pos, negsuc, ◌+ℤ◌, ◌-ℤ◌, ◌≤ℤ◌, Bool, true, false, cond, int_le, unsigned_abs}
+use Rattle.std.proofs.Common.{refl, sym, ◌∙◌, subst, arith, true≢false}
 use Rattle.std.proofs.Math.Nat.{le-div_iff_mul-le}
 use Rattle.std.proofs.lemmas.Int.{ints}
 use Rattle.st_types.specs.StmtTyping.{begins, turns_of}
@@ -39,15 +40,18 @@ to-up v w d m e h = omega (arith, ints)
 not-less : (v w : ℤ) (m : ℕ) → (v +ℤ pos m) ≤ℤ w → v ≤ℤ w
 not-less v w m h = omega (arith, ints)
 
-takes-up : (a b : ℤ) (s n : ℕ) (c : Bool) → int_le a b ≡ c → (n < cond c (unsigned_abs (b -ℤ a) / suc s + 1) 0) ↔ (int_le (turn_value a (pos (suc s)) n) b ≡ true)
+takes-up : (a b : ℤ) (s n : ℕ) (c : Bool) → int_le a b ≡ c
+    → (n < cond c (unsigned_abs (b -ℤ a) / suc s + 1) 0) ↔ (int_le (turn_value a (pos (suc s)) n) b ≡ true)
 takes-up a b s n false e = (
   λ h. absurd (none-below n h),
   λ h. absurd (true≢false (sym (true-le a b (not-less a b (n * suc s) (subst (λ v. v ≤ℤ b) (value-up n (suc s) a) (le-true _ b h)))) ∙ e)),
 )
 takes-up a b s n true e =
     let d = distance-up a b (le-true a b e) in (
-      λ h. true-le _ b (subst (λ v. v ≤ℤ b) (sym (value-up n (suc s) a)) (up-to a b (unsigned_abs (b -ℤ a)) (n * suc s) d ((within-way n (unsigned_abs (b -ℤ a)) s).0 h))),
-      λ h. (within-way n (unsigned_abs (b -ℤ a)) s).1 (to-up a b (unsigned_abs (b -ℤ a)) (n * suc s) d (subst (λ v. v ≤ℤ b) (value-up n (suc s) a) (le-true _ b h))),
+      λ h. true-le _ b
+          (subst (λ v. v ≤ℤ b) (sym (value-up n (suc s) a)) (up-to a b (unsigned_abs (b -ℤ a)) (n * suc s) d ((within-way n (unsigned_abs (b -ℤ a)) s).0 h))),
+      λ h. (within-way n (unsigned_abs (b -ℤ a)) s).1
+          (to-up a b (unsigned_abs (b -ℤ a)) (n * suc s) d (subst (λ v. v ≤ℤ b) (value-up n (suc s) a) (le-true _ b h))),
     )
 
 -- ---- counting down
@@ -67,15 +71,18 @@ to-down u v w d m e f h = omega (arith, ints)
 not-more : (u v w : ℤ) (m : ℕ) → u +ℤ pos m ≡ v → w ≤ℤ u → w ≤ℤ v
 not-more u v w m e h = omega (arith, ints)
 
-takes-down : (a b : ℤ) (k n : ℕ) (c : Bool) → int_le b a ≡ c → (n < cond c (unsigned_abs (b -ℤ a) / suc k + 1) 0) ↔ (int_le b (turn_value a (negsuc k) n) ≡ true)
+takes-down : (a b : ℤ) (k n : ℕ) (c : Bool) → int_le b a ≡ c
+    → (n < cond c (unsigned_abs (b -ℤ a) / suc k + 1) 0) ↔ (int_le b (turn_value a (negsuc k) n) ≡ true)
 takes-down a b k n false e = (
   λ h. absurd (none-below n h),
   λ h. absurd (true≢false (sym (true-le b a (not-more (turn_value a (negsuc k) n) a b (n * suc k) (value-down n k a) (le-true b _ h))) ∙ e)),
 )
 takes-down a b k n true e =
     let d = distance-down a b (le-true b a e) in (
-      λ h. true-le b _ (down-to (turn_value a (negsuc k) n) a b (unsigned_abs (b -ℤ a)) (n * suc k) d (value-down n k a) ((within-way n (unsigned_abs (b -ℤ a)) k).0 h)),
-      λ h. (within-way n (unsigned_abs (b -ℤ a)) k).1 (to-down (turn_value a (negsuc k) n) a b (unsigned_abs (b -ℤ a)) (n * suc k) d (value-down n k a) (le-true b _ h)),
+      λ h. true-le b _
+          (down-to (turn_value a (negsuc k) n) a b (unsigned_abs (b -ℤ a)) (n * suc k) d (value-down n k a) ((within-way n (unsigned_abs (b -ℤ a)) k).0 h)),
+      λ h. (within-way n (unsigned_abs (b -ℤ a)) k).1
+          (to-down (turn_value a (negsuc k) n) a b (unsigned_abs (b -ℤ a)) (n * suc k) d (value-down n k a) (le-true b _ h)),
     )
 
 -- ---- the turns of a FOR
@@ -83,5 +90,7 @@ takes-down a b k n true e =
 pub turns-are : (a b by : ℤ) (n : ℕ) → (by ≡ pos 0 → ⊥) → (n < turns_of a b by) ↔ (begins (turn_value a by n) b by ≡ true)
 turns-are a b (pos zero) n h = absurd (h refl)
 turns-are a b (pos (suc s)) n h =
-    subst (λ c. (n < cond (cond c (int_le a b) (int_le b a)) (unsigned_abs (b -ℤ a) / suc s + 1) 0) ↔ (cond c (int_le (turn_value a (pos (suc s)) n) b) (int_le b (turn_value a (pos (suc s)) n)) ≡ true)) (sym (positive s)) (takes-up a b s n (int_le a b) refl)
+    subst (λ c. (n < cond (cond c (int_le a b) (int_le b a)) (unsigned_abs (b -ℤ a) / suc s + 1) 0)
+    ↔ (cond c (int_le (turn_value a (pos (suc s)) n) b) (int_le b (turn_value a (pos (suc s)) n)) ≡ true)) (sym (positive s))
+    (takes-up a b s n (int_le a b) refl)
 turns-are a b (negsuc k) n h = takes-down a b k n (int_le b a) refl

@@ -1,5 +1,6 @@
 -- TurnsFit: the values that a FOR takes are of the type of its bounds.
-use Rattle.std.proofs.Common.{◌≡◌, ℕ, zero, suc, ◌+◌, ◌-◌, ◌*◌, ◌/◌, ◌≤◌, ℤ, pos, negsuc, ◌+ℤ◌, ◌-ℤ◌, ◌≤ℤ◌, Bool, true, false, cond, ◌&&◌, int_le, int_lt, unsigned_abs, refl, sym, subst, arith}
+use Rattle.std.proofs.Common.{◌≡◌, ℕ, zero, suc, ◌+◌, ◌-◌, ◌*◌, ◌/◌, ◌≤◌, ℤ, pos, negsuc, ◌+ℤ◌, ◌-ℤ◌, ◌≤ℤ◌, Bool, true, false, cond, ◌&&◌, int_le, int_lt}
+use Rattle.std.proofs.Common.{unsigned_abs, refl, sym, subst, arith}
 use Rattle.std.proofs.lemmas.Int.{ints}
 use Rattle.vcp_base.specs.declared.ty.Ty.{Ty}
 use Rattle.vcp_base.specs.Types.{least, greatest, fits}
@@ -90,15 +91,19 @@ distance-up a b h = grind (arith, ints)
 pub distance-down : (a b : ℤ) → b ≤ℤ a → b +ℤ pos (unsigned_abs (b -ℤ a)) ≡ a
 distance-down a b h = grind (arith, ints)
 
-up-if : (t : Ty) (a b : ℤ) (s : ℕ) (c : Bool) → int_le a b ≡ c → fits t a ≡ true → fits t b ≡ true → AreTurns t (cond c (unsigned_abs (b -ℤ a) / s + 1) 0) a (pos s)
+up-if : (t : Ty) (a b : ℤ) (s : ℕ) (c : Bool) → int_le a b ≡ c → fits t a ≡ true → fits t b ≡ true
+    → AreTurns t (cond c (unsigned_abs (b -ℤ a) / s + 1) 0) a (pos s)
 up-if t a b s false e f g = tt
 up-if t a b s true e f g =
-    turns-up t (unsigned_abs (b -ℤ a) / s + 1) s (unsigned_abs (b -ℤ a)) a a b f g (le-self a) (distance-up a b (le-true a b e)) (room-for (unsigned_abs (b -ℤ a)) s)
+    turns-up t (unsigned_abs (b -ℤ a) / s + 1) s (unsigned_abs (b -ℤ a)) a a b f g (le-self a) (distance-up a b (le-true a b e))
+    (room-for (unsigned_abs (b -ℤ a)) s)
 
-down-if : (t : Ty) (a b : ℤ) (k : ℕ) (c : Bool) → int_le b a ≡ c → fits t a ≡ true → fits t b ≡ true → AreTurns t (cond c (unsigned_abs (b -ℤ a) / suc k + 1) 0) a (negsuc k)
+down-if : (t : Ty) (a b : ℤ) (k : ℕ) (c : Bool) → int_le b a ≡ c → fits t a ≡ true → fits t b ≡ true
+    → AreTurns t (cond c (unsigned_abs (b -ℤ a) / suc k + 1) 0) a (negsuc k)
 down-if t a b k false e f g = tt
 down-if t a b k true e f g =
-    turns-down t (unsigned_abs (b -ℤ a) / suc k + 1) k (unsigned_abs (b -ℤ a)) a a b f g (le-self a) (distance-down a b (le-true b a e)) (room-for (unsigned_abs (b -ℤ a)) (suc k))
+    turns-down t (unsigned_abs (b -ℤ a) / suc k + 1) k (unsigned_abs (b -ℤ a)) a a b f g (le-self a) (distance-down a b (le-true b a e))
+    (room-for (unsigned_abs (b -ℤ a)) (suc k))
 
 pub positive : (n : ℕ) → int_lt (pos 0) (pos (suc n)) ≡ true
 positive n = grind (arith, ints)
@@ -107,5 +112,6 @@ positive n = grind (arith, ints)
 pub turns-fit : (t : Ty) (a b by : ℤ) → (by ≡ pos 0 → ⊥) → fits t a ≡ true → fits t b ≡ true → AreTurns t (turns_of a b by) a by
 turns-fit t a b (pos zero) h f g = absurd (h refl)
 turns-fit t a b (pos (suc n)) h f g =
-    subst (λ c. AreTurns t (cond (cond c (int_le a b) (int_le b a)) (unsigned_abs (b -ℤ a) / suc n + 1) 0) a (pos (suc n))) (sym (positive n)) (up-if t a b (suc n) (int_le a b) refl f g)
+    subst (λ c. AreTurns t (cond (cond c (int_le a b) (int_le b a)) (unsigned_abs (b -ℤ a) / suc n + 1) 0) a (pos (suc n))) (sym (positive n))
+    (up-if t a b (suc n) (int_le a b) refl f g)
 turns-fit t a b (negsuc k) h f g = down-if t a b k (int_le b a) refl f g

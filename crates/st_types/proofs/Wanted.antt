@@ -23,7 +23,8 @@ behind-and no_texprs ys x = refl
 behind-and (and_texpr z xs) ys x = ap (and_texpr z) (behind-and xs ys x)
 
 -- one argument more is widened
-pub widened-more : (left more : List Ty) (t : Ty) (out next : TExprTrees) (x w : TExprTree) (xs : List TExprTree) → left ≡ t ∷ more → w ≡ widened t (ty_of x) x → next ≡ texprs_and out w → behind next (widened_all more xs) ≡ behind out (widened_all left (x ∷ xs))
+pub widened-more : (left more : List Ty) (t : Ty) (out next : TExprTrees) (x w : TExprTree) (xs : List TExprTree) → left ≡ t ∷ more → w ≡ widened t (ty_of x) x
+    → next ≡ texprs_and out w → behind next (widened_all more xs) ≡ behind out (widened_all left (x ∷ xs))
 widened-more left more t out next x w xs is made pushed =
     ap (λ z. behind z (widened_all more xs)) pushed
     ∙ behind-and out (widened_all more xs) w
@@ -39,7 +40,8 @@ widened-end (t ∷ ts) out = behind-none out
 pub none-wanted : (ts : List Ty) (out : TExprTrees) (xs : List TExprTree) → ts ≡ [] → behind out (widened_all ts xs) ≡ out
 none-wanted ts out xs e = ap (λ l. behind out (widened_all l xs)) e ∙ behind-none out
 
-pub glue-cons : {A : Type 0} (a b : Option (List A)) (x : Option A) (r : Option (List A)) → b ≡ both (λ xs y. Some (xs ++ y ∷ [])) a x → both glue a (both cons x r) ≡ both glue b r
+pub glue-cons : {A : Type 0} (a b : Option (List A)) (x : Option A) (r : Option (List A)) → b ≡ both (λ xs y. Some (xs ++ y ∷ [])) a x
+    → both glue a (both cons x r) ≡ both glue b r
 glue-cons None b x r e = sym (ap (λ y. both glue y r) e)
 glue-cons (Some xs) b None r e = sym (ap (λ y. both glue y r) e)
 glue-cons (Some xs) b (Some x) None e = sym (ap (λ y. both glue y None) e)

@@ -17,7 +17,8 @@ use Rattle.st_types.proofs.Faultless.{faultless-typed}
 use Rattle.st_types.proofs.NoteLaws.{pair}
 
 -- the faults that are noted are those of the program
-pub program-notes : (p : ProgramTree) (n : Made) (b c : Option Fault) → Makes None b n (made p) (BlocksFault n.entries nothing_made p.blocks) → Notes b c (StmtsFault n.entries [] p.body) → Notes None c (FaultAt p)
+pub program-notes : (p : ProgramTree) (n : Made) (b c : Option Fault) → Makes None b n (made p) (BlocksFault n.entries nothing_made p.blocks)
+    → Notes b c (StmtsFault n.entries [] p.body) → Notes None c (FaultAt p)
 program-notes p n b c h k =
     subst (λ m. Notes None c (λ f. BlocksFault m.entries nothing_made p.blocks f ⊎ StmtsFault m.entries [] p.body f)) h.gives
     (pair None b c (BlocksFault n.entries nothing_made p.blocks) (StmtsFault n.entries [] p.body) h.notes k)
@@ -26,7 +27,8 @@ abbrev program_of : Made → TStmtTrees → Program
 program_of m b = record { slots = m.slots; body = b }
 
 -- the checked program is what the declarations made, with the checked body
-pub program-gives : (p : ProgramTree) (n : Made) (o : Option TStmtTrees) → n ≡ made p → o ≡ stmts_of n.entries [] p.body → typed_of p ≡ option_map (program_of n) o
+pub program-gives : (p : ProgramTree) (n : Made) (o : Option TStmtTrees) → n ≡ made p → o ≡ stmts_of n.entries [] p.body
+    → typed_of p ≡ option_map (program_of n) o
 program-gives p n o e g =
     subst (λ m. option_map (program_of m) (stmts_of m.entries [] p.body) ≡ option_map (program_of n) o) e
     (ap (option_map (program_of n)) (sym g))

@@ -14,7 +14,9 @@ use Rattle.st_types.specs.declared.fault.Fault.{Fault}
 use Rattle.st_types.specs.Notes.{Notes}
 use Rattle.st_types.specs.Scope.{Entry}
 use Rattle.st_types.specs.ExprTyping.{ExprFault}
-use Rattle.st_types.specs.StmtTyping.{constant, form, form_number, number_in, step_of, BoundFault, StepFault, last_end, last_form, LastFault, label_of, LabelFault, labels_of, LabelsFault, StmtFault, stmt_of, StmtsFault, stmts_of, ArmsFault, arms_of, BranchesFault, branches_of, OtherFault, other_of}
+use Rattle.st_types.specs.StmtTyping.{constant, form, form_number, number_in, step_of, BoundFault, StepFault, last_end, last_form, LastFault, label_of}
+use Rattle.st_types.specs.StmtTyping.{LabelFault, labels_of, LabelsFault, StmtFault, stmt_of, StmtsFault, stmts_of, ArmsFault, arms_of, BranchesFault}
+use Rattle.st_types.specs.StmtTyping.{branches_of, OtherFault, other_of}
 
 -- the faults F are met, and r is w
 pub record Gives {A : Type 0} (F : Fault → Type 0) (w : A) (old new : Option Fault) (r : A) : Type 0 where

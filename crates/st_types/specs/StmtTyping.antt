@@ -1,5 +1,6 @@
 -- StmtTyping: the faults of statements, and the checked statements of those without one.
-use Rattle.std.specs.Prelude.{◌≡◌, ◌⊎◌, ℕ, ◌+◌, ◌/◌, ◌==◌, ℤ, pos, neg_ℤ, ◌-ℤ◌, int_le, int_lt, unsigned_abs, Bool, true, false, cond, not, ◌&&◌, List, [], ◌∷◌, ◌++◌, Option, Some, None, option_map, option_and_then}
+use Rattle.std.specs.Prelude.{◌≡◌, ◌⊎◌, ℕ, ◌+◌, ◌/◌, ◌==◌, ℤ, pos, neg_ℤ, ◌-ℤ◌, int_le, int_lt, unsigned_abs, Bool, true, false, cond, not, ◌&&◌, List, [], ◌∷◌}
+use Rattle.std.specs.Prelude.{◌++◌, Option, Some, None, option_map, option_and_then}
 use Rattle.std.specs.List.{list_any}
 use Rattle.vcp_base.specs.declared.spot.Spot.{Spot}
 use Rattle.vcp_base.specs.declared.ty.Ty.{Ty}
@@ -9,7 +10,8 @@ use Rattle.vcp_base.specs.Kinds.{same}
 use Rattle.st_tree.specs.declared.program.Class.{Class}
 use Rattle.st_tree.specs.declared.program.Class.TheVariants as class
 use Rattle.st_tree.specs.ExprTree.{ExprTree, literal, name, unary, binary, call}
-use Rattle.st_tree.specs.StmtTree.{LabelTree, StmtTree, StmtTrees, ArmTrees, BranchTrees, OtherTree, assign, if_, case, for_, no_stmts, and_stmt, no_arms, and_arm, no_branches, and_branch, no_other, other}
+use Rattle.st_tree.specs.StmtTree.{LabelTree, StmtTree, StmtTrees, ArmTrees, BranchTrees, OtherTree, assign, if_, case, for_, no_stmts, and_stmt, no_arms}
+use Rattle.st_tree.specs.StmtTree.{and_arm, no_branches, and_branch, no_other, other}
 use Rattle.vcp_typed.specs.declared.stmt.TLabel.{TLabel}
 use Rattle.vcp_typed.specs.TExprTree as typed
 use Rattle.vcp_typed.specs.TStmtTree as checked

@@ -1,6 +1,7 @@
 -- Weight: a number that falls from a statement to its parts, by which the typing ends.
 use Rattle.std.specs.Prelude.{ℕ, ◌+◌}
-use Rattle.st_tree.specs.StmtTree.{StmtTree, StmtTrees, ArmTrees, BranchTrees, OtherTree, assign, if_, case, for_, no_stmts, and_stmt, no_arms, and_arm, no_branches, and_branch, no_other, other}
+use Rattle.st_tree.specs.StmtTree.{StmtTree, StmtTrees, ArmTrees, BranchTrees, OtherTree, assign, if_, case, for_, no_stmts, and_stmt, no_arms, and_arm}
+use Rattle.st_tree.specs.StmtTree.{no_branches, and_branch, no_other, other}
 
 abbrev mutual
   pub stmt_weight : StmtTree → ℕ

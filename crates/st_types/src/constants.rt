@@ -7,7 +7,9 @@ ghost use Rattle.st_types.specs.declared.fault.Rule.TheVariants as rule_;
 ghost use Rattle.st_types.specs.Faults.{fault};
 ghost use Rattle.st_types.specs.Scope.{Entry as Entry_};
 ghost use Rattle.st_types.specs.Notes.{Notes};
-ghost use Rattle.st_types.specs.StmtTyping.{is_bool as is_bool_of, spot_of as spot_of_tree, constant, form as form_of_tree, form_of_known as form_of_constant, form_of_negated as negated_form, is_form_bool as is_form_bool_of, form_number as form_number_of, number_in as number_in_of, not_zero as not_zero_of};
+ghost use Rattle.st_types.specs.StmtTyping.{is_bool as is_bool_of, spot_of as spot_of_tree, constant, form as form_of_tree, form_of_known as form_of_constant};
+ghost use Rattle.st_types.specs.StmtTyping.{form_of_negated as negated_form, is_form_bool as is_form_bool_of, form_number as form_number_of};
+ghost use Rattle.st_types.specs.StmtTyping.{number_in as number_in_of, not_zero as not_zero_of};
 ghost use Rattle.st_types.specs.StmtSteps.{literal_known as literal_known_of, Numbers, Bounds, Steps};
 
 use crate::environment::Environment;

@@ -5,7 +5,8 @@ ghost use Rattle.st_tree.specs.ExprViews.{expr_tree_or_none};
 ghost use Rattle.st_tree.specs.ProgramViews.{block_tree, decl_tree, declared_tree};
 ghost use Rattle.st_types.specs.declared.fault.Rule.TheVariants as rule_;
 ghost use Rattle.st_types.specs.DeclSteps.{made_by, DeclForm, JudgesInit, Makes, MakesBlocks, MakesDecls, MakesNames};
-ghost use Rattle.st_types.specs.DeclTyping.{nothing_made, is_new, slots_with, after_name, after_decl, after_blocks, value_or_zero as zero_or, Misfit, BlocksFault};
+ghost use Rattle.st_types.specs.DeclTyping.{nothing_made, is_new, slots_with, after_name, after_decl, after_blocks, value_or_zero as zero_or, Misfit};
+ghost use Rattle.st_types.specs.DeclTyping.{BlocksFault};
 ghost use Rattle.st_types.specs.Faults.{fault};
 ghost use Rattle.st_types.specs.Notes.{Notes};
 

@@ -5,7 +5,8 @@ ghost use Rattle.vcp_typed.specs.declared.expr.Fun.TheVariants as fun_;
 ghost use Rattle.vcp_typed.specs.Rules.{of_numbers as of_numbers_of, arguments as arguments_of};
 ghost use Rattle.vcp_typed.specs.TExprViews.{texpr_tree};
 ghost use Rattle.vcp_typed.specs.Checked.{ty_of as type_of_value};
-ghost use Rattle.st_types.specs.ExprTyping.{function as function_of, arity as arity_of, called as called_of, converted as converted_of, of_sel as of_sel_of, of_one as of_one_of, of_two as of_two_of, of_three as of_three_of, function_type as function_type_of};
+ghost use Rattle.st_types.specs.ExprTyping.{function as function_of, arity as arity_of, called as called_of, converted as converted_of, of_sel as of_sel_of};
+ghost use Rattle.st_types.specs.ExprTyping.{of_one as of_one_of, of_two as of_two_of, of_three as of_three_of, function_type as function_type_of};
 
 use crate::operator::{joined, joined_or_bool, ty_of};
 use std::alloc::Global;

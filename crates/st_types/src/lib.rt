@@ -26,12 +26,3 @@ pub use laws::{
     turns_go_up_to_the_last_bound,
 };
 pub use typing::typed;
-
-#[cfg(test)]
-mod constant_tests;
-#[cfg(test)]
-mod declaration_tests;
-#[cfg(test)]
-mod expression_tests;
-#[cfg(test)]
-mod typing_tests;

@@ -1,7 +1,8 @@
 //! The types of operators.
 
 ghost use Rattle.std.specs.Prelude.{◌≡◌, IfOk};
-ghost use Rattle.vcp_typed.specs.Rules.{widens as widens_of, joined as joined_of, both_bool as both_bool_of, joined_or_bool as joined_or_bool_of, common as common_of, result as result_of, signed as signed_of};
+ghost use Rattle.vcp_typed.specs.Rules.{widens as widens_of, joined as joined_of, both_bool as both_bool_of, joined_or_bool as joined_or_bool_of};
+ghost use Rattle.vcp_typed.specs.Rules.{common as common_of, result as result_of, signed as signed_of};
 ghost use Rattle.vcp_typed.specs.TExprViews.{texpr_tree};
 ghost use Rattle.vcp_typed.specs.Checked.{ty_of as type_of_value};
 ghost use Rattle.st_types.specs.ExprTyping.{widened as widened_of, as_type as as_type_of};

@@ -13,7 +13,8 @@ ghost use Rattle.st_types.specs.declared.fault.Rule.TheVariants as rule_;
 ghost use Rattle.st_types.specs.Faults.{fault};
 ghost use Rattle.st_types.specs.Notes.{Notes};
 ghost use Rattle.st_types.specs.ExprTyping.{both};
-ghost use Rattle.st_types.specs.StmtTyping.{entry_type as entry_type_of, Narrows, NoTest, IsBool, assign_of, test_of, selector_of, begins as begins_of, turns_of as turns_of_bounds, for_of, case_of};
+ghost use Rattle.st_types.specs.StmtTyping.{entry_type as entry_type_of, Narrows, NoTest, IsBool, assign_of, test_of, selector_of, begins as begins_of};
+ghost use Rattle.st_types.specs.StmtTyping.{turns_of as turns_of_bounds, for_of, case_of};
 ghost use Rattle.st_types.specs.StmtSteps.{Gives, TypesStmt, TypesStmts, TypesArms, TypesBranches, TypesOther, stmt_after, arm_after, branch_after, if_of};
 
 use crate::constants::is_bool;

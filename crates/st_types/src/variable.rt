@@ -5,7 +5,8 @@ ghost use Rattle.vcp_typed.specs.Checked.{is_set as is_set_of};
 ghost use Rattle.st_types.specs.declared.fault.Rule.TheVariants as rule_;
 ghost use Rattle.st_types.specs.Faults.{fault};
 ghost use Rattle.st_types.specs.Notes.{Notes};
-ghost use Rattle.st_types.specs.StmtTyping.{is_free as is_free_of, is_constant as is_constant_of, entry_type as entry_type_of, held_in as held_in_of, NameFault, IsBool};
+ghost use Rattle.st_types.specs.StmtTyping.{is_free as is_free_of, is_constant as is_constant_of, entry_type as entry_type_of, held_in as held_in_of};
+ghost use Rattle.st_types.specs.StmtTyping.{NameFault, IsBool};
 
 use crate::constants::is_bool;
 use crate::fault::{Fault, Rule};

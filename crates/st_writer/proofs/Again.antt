@@ -9,7 +9,9 @@ use Rattle.st_tree.specs.ProgramTree.{DeclaredTree, DeclTree, BlockTree, Program
 use Rattle.st_tree.specs.Bare.{bare_expr_or_none, bare_declared, bare_decl, bare_block, bare, nowhere}
 use Rattle.st_spelling.specs.Operators.{any_level}
 use Rattle.st_spelling.specs.Placed.{Placed, at, tokens_of, Within}
-use Rattle.st_spelling.specs.Programs.{type_key, SpellsNames, SpellsInit, SpellsDecl, SpellsDecls, SpellsHead, SpellsBlocks, SpellsProgram, spells_last_name, spells_next_name, spells_no_init, spells_init, spells_decl, spells_end_var, spells_next_decl, spells_input, spells_output, spells_local, spells_constant, spells_retain, spells_no_block, spells_block, spells_program}
+use Rattle.st_spelling.specs.Programs.{type_key, SpellsNames, SpellsInit, SpellsDecl, SpellsDecls, SpellsHead, SpellsBlocks, SpellsProgram, spells_last_name}
+use Rattle.st_spelling.specs.Programs.{spells_next_name, spells_no_init, spells_init, spells_decl, spells_end_var, spells_next_decl, spells_input}
+use Rattle.st_spelling.specs.Programs.{spells_output, spells_local, spells_constant, spells_retain, spells_no_block, spells_block, spells_program}
 use Rattle.st_writer.specs.Lexemes as lexeme
 use Rattle.st_writer.specs.Lexemes.{Lexeme}
 use Rattle.st_writer.specs.CanonicalExpr.{expr}
@@ -64,7 +66,8 @@ module _ (b c : Token → List ℕ) (limit : ℕ) where
   abbrev colon : List Lexeme
   colon = lexeme.blank ∷ lexeme.symbol symbol.Colon ∷ []
 
-  names_again : {ds : List DeclaredTree} {ps : List Placed} → SpellsNames b ds ps → Within limit ps → (us : List Token) → Written c (canon.names ds ++ colon) us → NamesAgain c limit ds us
+  names_again : {ds : List DeclaredTree} {ps : List Placed} → SpellsNames b ds ps → Within limit ps → (us : List Token) → Written c (canon.names ds ++ colon) us
+      → NamesAgain c limit ds us
   names_again (spells_last_name n x kn kx) within us w =
       let v = w.5 in
       record {
@@ -84,7 +87,8 @@ module _ (b c : Token → List ℕ) (limit : ℕ) where
       }
 
   -- the initial value and the semicolon behind it
-  init_again : {i : Option ExprTree} {ps : List Placed} → SpellsInit b i ps → Within limit ps → (us : List Token) → Written c (canon.init i ++ lexeme.symbol symbol.Semi ∷ []) us → InitAgain c limit i us
+  init_again : {i : Option ExprTree} {ps : List Placed} → SpellsInit b i ps → Within limit ps → (us : List Token)
+      → Written c (canon.init i ++ lexeme.symbol symbol.Semi ∷ []) us → InitAgain c limit i us
   init_again (spells_no_init x k) within us w =
       record { tree = None; placing = last_token limit 0 w.0 w.1 us within.0 w.2 w.5; spells = spells_no_init w.0 w.3; same = refl }
   init_again (spells_init e a x ts ka s kx) within us w =
@@ -101,7 +105,8 @@ module _ (b c : Token → List ℕ) (limit : ℕ) where
         same = ap (λ (y : ExprTree). Some y) q.same;
       }
 
-  decl_again : {d : DeclTree} {ps : List Placed} → SpellsDecl b d ps → Within limit ps → (us : List Token) → Written c (canon.decl d) us → DeclAgain c limit d us
+  decl_again : {d : DeclTree} {ps : List Placed} → SpellsDecl b d ps → Within limit ps → (us : List Token) → Written c (canon.decl d) us
+      → DeclAgain c limit d us
   decl_again (spells_decl ds ty i t ts vs s k u) within us w =
       let typed : List Lexeme = lexeme.blank ∷ lexeme.word (type_key ty) ∷ (canon.init i ++ lexeme.symbol symbol.Semi ∷ []) in
       let v = line_alone c 1 (canon.names ds ++ lexeme.blank ∷ lexeme.symbol symbol.Colon ∷ typed) us w in
@@ -156,7 +161,8 @@ module _ (b c : Token → List ℕ) (limit : ℕ) where
         spells = spells_retain w.0 v.0 w.3 v.3;
       }
 
-  blocks_again : {bs : List BlockTree} {ps : List Placed} → SpellsBlocks b bs ps → Within limit ps → (us : List Token) → Written c (flat_map canon.block bs) us → BlocksAgain c limit bs us
+  blocks_again : {bs : List BlockTree} {ps : List Placed} → SpellsBlocks b bs ps → Within limit ps → (us : List Token) → Written c (flat_map canon.block bs) us
+      → BlocksAgain c limit bs us
   blocks_again spells_no_block within us w = record { trees = []; placing = no_token limit us w; spells = spells_no_block; same = refl }
   blocks_again (spells_block k ds bs ts vs ws h s u) within us w =
       let blocks = flat_map canon.block bs in
@@ -193,7 +199,9 @@ module _ (b c : Token → List ℕ) (limit : ℕ) where
       let m = stmts_again b c limit u inner.0 0 (omega arith) 1 r2.front r2.front_is in
       let last : Placing limit r2.back = last_token limit 0 z.0 z.1 r2.back within.0 z.2 z.5 in
       let behind : Placing limit r.back = both limit r2.front r2.back r.back r2.parts m.placing last in
-      let whole : Placing limit us = token_before limit 0 v.0 v.1 us within.0 v.2 (token_before limit 0 x.0 x.1 v.1 within.0 x.2 (both limit r.front r.back x.1 r.parts q.placing behind)) in (
+      let whole : Placing limit us =
+      token_before limit 0 v.0 v.1 us within.0 v.2
+      (token_before limit 0 x.0 x.1 v.1 within.0 x.2 (both limit r.front r.back x.1 r.parts q.placing behind)) in (
         record { name = c x.0; blocks = q.trees; body = m.trees },
         whole.placed,
         spells_program q.trees m.trees v.0 x.0 z.0 q.placing.placed m.placing.placed v.3 x.3 q.spells m.spells z.3,

@@ -1,5 +1,6 @@
 -- Expressions: tokens that the canonical text of a spelled one spells, spell it again, no deeper than before.
-use Rattle.std.proofs.Common.{◌≡◌, ℕ, suc, ◌+◌, ◌==◌, ◌<◌, ◌≤◌, nat_lt, Bool, true, cond, le-ltb, lt-ltb, List, [], ◌∷◌, ◌++◌, refl, ap, sym, ◌∙◌, subst, inl, inr, arith}
+use Rattle.std.proofs.Common.{◌≡◌, ℕ, suc, ◌+◌, ◌==◌, ◌<◌, ◌≤◌, nat_lt, Bool, true, cond, le-ltb, lt-ltb, List, [], ◌∷◌, ◌++◌, refl, ap, sym, ◌∙◌, subst, inl}
+use Rattle.std.proofs.Common.{inr, arith}
 use Rattle.std.proofs.str.Laws.{order}
 use Rattle.st_lexer.specs.declared.token.Sym.TheVariants as symbol
 use Rattle.st_lexer.specs.declared.token.Token.{Token}
@@ -11,7 +12,8 @@ use Rattle.st_tree.specs.ExprTree.{ExprTree, ExprTrees, literal, name, unary, bi
 use Rattle.st_tree.specs.Bare.{bare_expr, bare_exprs, nowhere}
 use Rattle.st_spelling.specs.Operators.{sign, operator, level, any_level, unary_level, chain}
 use Rattle.st_spelling.specs.Placed.{Placed, at, Within}
-use Rattle.st_spelling.specs.Expressions.{SpellsExpr, SpellsArgs, spells_literal, spells_name, spells_unary, spells_binary, spells_call, spells_brackets, spells_last, spells_next}
+use Rattle.st_spelling.specs.Expressions.{SpellsExpr, SpellsArgs, spells_literal, spells_name, spells_unary, spells_binary, spells_call, spells_brackets}
+use Rattle.st_spelling.specs.Expressions.{spells_last, spells_next}
 use Rattle.st_writer.specs.Lexemes as lexeme
 use Rattle.st_writer.specs.Lexemes.{Lexeme}
 use Rattle.st_writer.specs.CanonicalExpr as canon
@@ -153,7 +155,8 @@ module _ (b c : Token → List ℕ) (limit : ℕ) where
             record { tree = q.tree; placing = q.placing; spells = raise q.spells l (omega (arith, ge, same-top q.tree e q.same)); same = q.same }
       ]
 
-  signed : (op : UnOp) (xs : List Lexeme) (us : List Token) → Written c (canon.sign op ++ xs) us → (t : Token) × (ts : List Token) × (us ≡ t ∷ ts) × (t.tok ≡ sign op) × Written c xs ts
+  signed : (op : UnOp) (xs : List Lexeme) (us : List Token) → Written c (canon.sign op ++ xs) us
+      → (t : Token) × (ts : List Token) × (us ≡ t ∷ ts) × (t.tok ≡ sign op) × Written c xs ts
   signed un.Neg xs us w = (w.0, w.1, w.2, w.3, w.5)
   signed un.Not xs us w = (w.0, w.1, w.2, w.3, w.5)
 
@@ -179,11 +182,17 @@ module _ (b c : Token → List ℕ) (limit : ℕ) where
   commas (spells_next e es t ts us k s u) = refl
 
   mutual
-    pub expr_again : {d l : ℕ} {e : ExprTree} {ps : List Placed} → SpellsExpr b d l e ps → Within limit ps → (n : ℕ) → n ≤ d → l ≤ unary_level → (us : List Token) → Written c (canon.expr l e) us
+    pub expr_again : {d l : ℕ} {e : ExprTree} {ps : List Placed} → SpellsExpr b d l e ps → Within limit ps → (n : ℕ) → n ≤ d → l ≤ unary_level
+        → (us : List Token) → Written c (canon.expr l e) us
         → ExprAgain c limit n l e us
     expr_again (spells_literal v t k) within n le most us w =
         let r = literal_again c v us w in
-        record { tree = literal v.ty v.value r.token.spot; placing = last_token limit n r.token [] us (omega (arith, le, within.0)) r.parts refl; spells = spells_literal v r.token r.is; same = refl }
+        record {
+          tree = literal v.ty v.value r.token.spot;
+          placing = last_token limit n r.token [] us (omega (arith, le, within.0)) r.parts refl;
+          spells = spells_literal v r.token r.is;
+          same = refl;
+        }
     expr_again (spells_name t k) within n le most us w =
         record {
           tree = name (c w.0) w.0.spot;
@@ -208,7 +217,8 @@ module _ (b c : Token → List ℕ) (limit : ℕ) where
         let x = expr_again s parts.0 n le (omega (arith, level-most op)) r.front r.front_is in
         let chains : chain (level op) x.tree ≡ chain (level op) a = same-chain (level op) x.tree a x.same in
         let y = expr_again u parts.1.1 (n + suc (chain (level op) x.tree)) (omega (arith, le, chains)) (level-most op) o.1 o.4 in
-        let behind : Placing limit r.back = token_before limit (n + chain (level op) x.tree) o.0 o.1 r.back (omega (arith, le, chains, parts.1.0)) o.2 y.placing in
+        let behind : Placing limit r.back =
+        token_before limit (n + chain (level op) x.tree) o.0 o.1 r.back (omega (arith, le, chains, parts.1.0)) o.2 y.placing in
         record {
           tree = binary op x.tree y.tree o.0.spot;
           placing = both limit r.front r.back us r.parts x.placing behind;
@@ -220,7 +230,8 @@ module _ (b c : Token → List ℕ) (limit : ℕ) where
         let q = args_again s within.1.1 n le p.1 p.5 in
         record {
           tree = call (c w.0) q.trees w.0.spot;
-          placing = token_before limit n w.0 w.1 us (omega (arith, le, within.0)) w.2 (token_before limit n p.0 p.1 w.1 (omega (arith, le, within.0)) p.2 q.placing);
+          placing = token_before limit n w.0 w.1 us (omega (arith, le, within.0)) w.2
+              (token_before limit n p.0 p.1 w.1 (omega (arith, le, within.0)) p.2 q.placing);
           spells = spells_call w.0 p.0 q.trees q.placing.placed w.3 p.3 q.spells;
           same = λ i. call (w.4 i) (q.same i) nowhere;
         }
@@ -232,7 +243,8 @@ module _ (b c : Token → List ℕ) (limit : ℕ) where
     args_again : {d : ℕ} {es : ExprTrees} {ps : List Placed} → SpellsArgs b d es ps → Within limit ps → (n : ℕ) → n ≤ d → (us : List Token)
         → Written c (canon.args es ++ lexeme.symbol symbol.RParen ∷ []) us → ArgsAgain c limit n es us
     args_again {d = d} (spells_last e t ts k s) within n le us w =
-        let r = cut c (canon.expr any_level e) (lexeme.symbol symbol.RParen ∷ []) us (regrouped c (canon.expr any_level e) [] (lexeme.symbol symbol.RParen ∷ []) us w) in
+        let r = cut c (canon.expr any_level e) (lexeme.symbol symbol.RParen ∷ []) us
+        (regrouped c (canon.expr any_level e) [] (lexeme.symbol symbol.RParen ∷ []) us w) in
         let x = r.back_is in
         let parts = within-split limit ts (at d t ∷ []) within in
         let q = expr_again s parts.0 (suc n) (omega (arith, le)) (omega arith) r.front r.front_is in

@@ -7,7 +7,8 @@ use Rattle.st_tree.specs.ExprTree.{ExprTree, literal, name, unary}
 use Rattle.st_tree.specs.StmtTree.{LabelTree}
 use Rattle.st_tree.specs.Bare.{bare_expr, bare_label, nowhere}
 use Rattle.st_spelling.specs.Placed.{Placed, at, Within}
-use Rattle.st_spelling.specs.Labels.{SpellsConst, SpellsLabel, SpellsLabels, spells_value, spells_named, spells_negative, spells_one, spells_range, spells_last_label, spells_next_label}
+use Rattle.st_spelling.specs.Labels.{SpellsConst, SpellsLabel, SpellsLabels, spells_value, spells_named, spells_negative, spells_one, spells_range}
+use Rattle.st_spelling.specs.Labels.{spells_last_label, spells_next_label}
 use Rattle.st_writer.specs.Lexemes as lexeme
 use Rattle.st_writer.specs.Lexemes.{Lexeme}
 use Rattle.st_writer.specs.CanonicalStmt as canon
@@ -34,10 +35,16 @@ pub record LabelsAgain (bytes : Token → List ℕ) (limit d : ℕ) (ls : List L
   pub same : map bare_label trees ≡ map bare_label ls
 
 module _ (b c : Token → List ℕ) (limit : ℕ) where
-  const_again : {d : ℕ} {e : ExprTree} {ps : List Placed} → SpellsConst b d e ps → Within limit ps → (n : ℕ) → n ≤ d → (us : List Token) → Written c (canon.constant e) us → ConstAgain c limit n e us
+  const_again : {d : ℕ} {e : ExprTree} {ps : List Placed} → SpellsConst b d e ps → Within limit ps → (n : ℕ) → n ≤ d → (us : List Token)
+      → Written c (canon.constant e) us → ConstAgain c limit n e us
   const_again (spells_value v t k) within n le us w =
       let r = literal_again c v us w in
-      record { tree = literal v.ty v.value r.token.spot; placing = last_token limit n r.token [] us (omega (arith, le, within.0)) r.parts refl; spells = spells_value v r.token r.is; same = refl }
+      record {
+        tree = literal v.ty v.value r.token.spot;
+        placing = last_token limit n r.token [] us (omega (arith, le, within.0)) r.parts refl;
+        spells = spells_value v r.token r.is;
+        same = refl;
+      }
   const_again (spells_named t k) within n le us w =
       record {
         tree = name (c w.0) w.0.spot;
@@ -55,7 +62,8 @@ module _ (b c : Token → List ℕ) (limit : ℕ) where
         same = refl;
       }
 
-  label_again : {d : ℕ} {l : LabelTree} {ps : List Placed} → SpellsLabel b d l ps → Within limit ps → (n : ℕ) → n ≤ d → (us : List Token) → Written c (canon.label l) us → LabelAgain c limit n l us
+  label_again : {d : ℕ} {l : LabelTree} {ps : List Placed} → SpellsLabel b d l ps → Within limit ps → (n : ℕ) → n ≤ d → (us : List Token)
+      → Written c (canon.label l) us → LabelAgain c limit n l us
   label_again (spells_one e ts s) within n le us w =
       let q = const_again s within n le us (nothing_behind c (canon.constant e) us w) in
       record {
@@ -78,7 +86,8 @@ module _ (b c : Token → List ℕ) (limit : ℕ) where
         same = λ i. record { first = p.same i; last = Some (q.same i) };
       }
 
-  commas : {d : ℕ} {ls : List LabelTree} {ps : List Placed} → SpellsLabels b d ls ps → canon.more_labels ls ≡ lexeme.symbol symbol.Comma ∷ lexeme.blank ∷ canon.labels ls
+  commas : {d : ℕ} {ls : List LabelTree} {ps : List Placed} → SpellsLabels b d ls ps
+      → canon.more_labels ls ≡ lexeme.symbol symbol.Comma ∷ lexeme.blank ∷ canon.labels ls
   commas (spells_last_label l t ts s k) = refl
   commas (spells_next_label l ls t ts us s k u) = refl
 

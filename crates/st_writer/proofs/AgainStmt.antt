@@ -6,17 +6,21 @@ use Rattle.st_lexer.specs.declared.token.Sym.TheVariants as symbol
 use Rattle.st_lexer.specs.declared.token.Tok.TheVariants as tok
 use Rattle.st_lexer.specs.declared.token.Token.{Token}
 use Rattle.st_tree.specs.ExprTree.{ExprTree}
-use Rattle.st_tree.specs.StmtTree.{StmtTree, StmtTrees, ArmTrees, BranchTrees, OtherTree, assign, if_, case, for_, no_stmts, and_stmt, no_arms, and_arm, no_branches, and_branch, no_other, other}
+use Rattle.st_tree.specs.StmtTree.{StmtTree, StmtTrees, ArmTrees, BranchTrees, OtherTree, assign, if_, case, for_, no_stmts, and_stmt, no_arms, and_arm}
+use Rattle.st_tree.specs.StmtTree.{no_branches, and_branch, no_other, other}
 use Rattle.st_tree.specs.Bare.{bare_expr_or_none, bare_stmt, bare_stmts, bare_arms, bare_branches, bare_other, nowhere}
 use Rattle.st_spelling.specs.Operators.{any_level}
 use Rattle.st_spelling.specs.Placed.{Placed, at, Within}
-use Rattle.st_spelling.specs.Statements.{SpellsStep, SpellsStmt, SpellsStmts, SpellsArms, SpellsMoreArms, SpellsBranches, SpellsMoreBranches, spells_no_step, spells_step, spells_assign, spells_if, spells_case, spells_for, spells_no_stmt, spells_empty, spells_stmt, spells_arm, spells_elsif, spells_if_else, spells_end_if, spells_branch, spells_next_branch, spells_case_else, spells_end_case}
+use Rattle.st_spelling.specs.Statements.{SpellsStep, SpellsStmt, SpellsStmts, SpellsArms, SpellsMoreArms, SpellsBranches, SpellsMoreBranches, spells_no_step}
+use Rattle.st_spelling.specs.Statements.{spells_step, spells_assign, spells_if, spells_case, spells_for, spells_no_stmt, spells_empty, spells_stmt, spells_arm}
+use Rattle.st_spelling.specs.Statements.{spells_elsif, spells_if_else, spells_end_if, spells_branch, spells_next_branch, spells_case_else, spells_end_case}
 use Rattle.st_writer.specs.Lexemes as lexeme
 use Rattle.st_writer.specs.Lexemes.{Lexeme}
 use Rattle.st_writer.specs.CanonicalExpr.{expr}
 use Rattle.st_writer.specs.CanonicalStmt as canon
 use Rattle.st_writer.proofs.Written.{Written}
-use Rattle.st_writer.proofs.WrittenParts.{cut, regrouped, regrouped_twice, line_before, line_alone, space_behind, Placing, no_token, token_before, last_token, both, Ended, ended, ended_token, ended_both, within-split}
+use Rattle.st_writer.proofs.WrittenParts.{cut, regrouped, regrouped_twice, line_before, line_alone, space_behind, Placing, no_token, token_before, last_token}
+use Rattle.st_writer.proofs.WrittenParts.{both, Ended, ended, ended_token, ended_both, within-split}
 use Rattle.st_writer.proofs.AgainExpr.{expr_again}
 use Rattle.st_writer.proofs.AgainLabels.{labels_again}
 
@@ -95,7 +99,13 @@ module _ (b c : Token → List ℕ) (limit : ℕ) where
   closing i k us w =
       let v = line_alone c i (lexeme.word k ∷ lexeme.symbol symbol.Semi ∷ []) us w in
       let x = v.5 in
-      record { token = v.0; semi = x.0; parts = v.2 ∙ ap (λ (ts : List Token). v.0 ∷ ts) (x.2 ∙ ap (λ (ts : List Token). x.0 ∷ ts) x.5); is = v.3; semi_is = x.3 }
+      record {
+        token = v.0;
+        semi = x.0;
+        parts = v.2 ∙ ap (λ (ts : List Token). v.0 ∷ ts) (x.2 ∙ ap (λ (ts : List Token). x.0 ∷ ts) x.5);
+        is = v.3;
+        semi_is = x.3;
+      }
 
   abbrev closed : {k : Key} (n : ℕ) (us : List Token) → n ≤ limit → Closing k us → Ended limit us
   closed n us le z =
@@ -131,12 +141,14 @@ module _ (b c : Token → List ℕ) (limit : ℕ) where
         back_is = x.5;
       }
 
-  abbrev headed : {k j : Key} {e : ExprTree} {rest : List Lexeme} (n : ℕ) (us : List Token) → n ≤ limit → (h : Headed k j e rest us) → Placing limit h.middle → Ended limit h.back → Ended limit us
+  abbrev headed : {k j : Key} {e : ExprTree} {rest : List Lexeme} (n : ℕ) (us : List Token) → n ≤ limit → (h : Headed k j e rest us) → Placing limit h.middle
+      → Ended limit h.back → Ended limit us
   headed n us le h p r =
       ended_token limit n h.first (h.middle ++ h.last ∷ h.back) us le h.parts
       (ended_both limit h.middle (h.last ∷ h.back) (h.middle ++ h.last ∷ h.back) refl p (ended_token limit n h.last h.back (h.last ∷ h.back) le refl r))
 
-  step_again : {d : ℕ} {by : Option ExprTree} {ps : List Placed} → SpellsStep b d by ps → Within limit ps → (n : ℕ) → n ≤ d → (us : List Token) → Written c (canon.step by) us → StepAgain c limit n by us
+  step_again : {d : ℕ} {by : Option ExprTree} {ps : List Placed} → SpellsStep b d by ps → Within limit ps → (n : ℕ) → n ≤ d → (us : List Token)
+      → Written c (canon.step by) us → StepAgain c limit n by us
   step_again spells_no_step within n le us w = record { tree = None; placing = no_token limit us w; spells = spells_no_step; same = refl }
   step_again (spells_step e t ts k s) within n le us w =
       let q = expr_again b c limit s within.1 n le (omega arith) w.1 (space_behind c (expr any_level e) w.1 w.5) in
@@ -149,7 +161,8 @@ module _ (b c : Token → List ℕ) (limit : ℕ) where
 
   -- At depth n, which is at most that of before. The number i is the level of the line.
   mutual
-    stmt_again : {d : ℕ} {s : StmtTree} {ps : List Placed} → SpellsStmt b d s ps → Within limit ps → (n : ℕ) → n ≤ d → (i : ℕ) (us : List Token) → Written c (canon.stmt i s) us → StmtAgain c limit n s us
+    stmt_again : {d : ℕ} {s : StmtTree} {ps : List Placed} → SpellsStmt b d s ps → Within limit ps → (n : ℕ) → n ≤ d → (i : ℕ) (us : List Token)
+        → Written c (canon.stmt i s) us → StmtAgain c limit n s us
     stmt_again (spells_assign x a e ts kx ka s) within n le i us w =
         let end : List Lexeme = lexeme.symbol symbol.Semi ∷ [] in
         let v = line_alone c i (lexeme.name (b x) ∷ lexeme.blank ∷ lexeme.symbol symbol.Assign ∷ lexeme.blank ∷ (expr any_level e ++ end)) us w in
@@ -158,7 +171,8 @@ module _ (b c : Token → List ℕ) (limit : ℕ) where
         let z = r.back_is in
         let most : n ≤ limit = omega (arith, le, within.0) in
         let q = expr_again b c limit s within.1.1 n le (omega arith) r.front r.front_is in
-        let value : Ended limit y.1 = ended limit r.front z.0 y.1 z.3 (r.parts ∙ ap (λ (vs : List Token). r.front ++ vs) (z.2 ∙ ap (λ (vs : List Token). z.0 ∷ vs) z.5)) q.placing in
+        let value : Ended limit y.1 =
+        ended limit r.front z.0 y.1 z.3 (r.parts ∙ ap (λ (vs : List Token). r.front ++ vs) (z.2 ∙ ap (λ (vs : List Token). z.0 ∷ vs) z.5)) q.placing in
         record {
           tree = assign (c v.0) q.tree v.0.spot;
           ended = ended_token limit n v.0 v.1 us most v.2 (ended_token limit n y.0 y.1 v.1 most y.2 value);
@@ -167,7 +181,12 @@ module _ (b c : Token → List ℕ) (limit : ℕ) where
         }
     stmt_again (spells_if arms o ts s) within n le i us w =
         let q = arms_again s within n le i us w in
-        record { tree = if_ q.trees q.otherwise; ended = q.ended; spells = spells_if q.trees q.otherwise q.ended.placing.placed q.spells; same = λ j. if_ (q.same j) (q.same_other j) }
+        record {
+          tree = if_ q.trees q.otherwise;
+          ended = q.ended;
+          spells = spells_if q.trees q.otherwise q.ended.placing.placed q.spells;
+          same = λ j. if_ (q.same j) (q.same_other j);
+        }
     stmt_again {d = d} (spells_case e cases o t f ts vs kt s kf u) within n le i us w =
         let rest = canon.branches_of i cases ++ (canon.else_of i o ++ end_line i key.EndCase) in
         let h = heading i key.Case key.Of e rest us w in
@@ -195,7 +214,10 @@ module _ (b c : Token → List ℕ) (limit : ℕ) where
         let behind_last : List Lexeme = lexeme.blank ∷ (step ++ do_) in
         let behind_first : List Lexeme = lexeme.blank ∷ lexeme.word key.To ∷ lexeme.blank ∷ (expr any_level last ++ behind_last) in
         -- the tokens: FOR, the name, `:=`, the first value, TO, the last one, the step, DO, the body and the end
-        let opening = line_before c i (lexeme.word key.For ∷ lexeme.blank ∷ lexeme.name (b x) ∷ lexeme.blank ∷ lexeme.symbol symbol.Assign ∷ lexeme.blank ∷ (expr any_level first ++ behind_first)) below us w in
+        let opening =
+        line_before c i
+        (lexeme.word key.For ∷ lexeme.blank ∷ lexeme.name
+        (b x) ∷ lexeme.blank ∷ lexeme.symbol symbol.Assign ∷ lexeme.blank ∷ (expr any_level first ++ behind_first)) below us w in
         let named = opening.5 in
         let assigned = named.5 in
         let r = cut c (expr any_level first) (behind_first ++ below) assigned.1 (regrouped c (expr any_level first) behind_first below assigned.1 assigned.5) in
@@ -211,18 +233,23 @@ module _ (b c : Token → List ℕ) (limit : ℕ) where
         let y = step_again st in_step.0 n le r_step.front r_step.front_is in
         let m = stmts_again v in_body.0 (suc n) (omega (arith, le)) (suc i) r_body.front r_body.front_is in
         let from_body : Ended limit does.1 = ended_both limit r_body.front r_body.back does.1 r_body.parts m.placing (closed n r_body.back most z) in
-        let from_step : Ended limit r_last.back = ended_both limit r_step.front r_step.back r_last.back r_step.parts y.placing (ended_token limit n does.0 does.1 r_step.back most does.2 from_body) in
+        let from_step : Ended limit r_last.back =
+        ended_both limit r_step.front r_step.back r_last.back r_step.parts y.placing
+        (ended_token limit n does.0 does.1 r_step.back most does.2 from_body) in
         let from_last : Ended limit to.1 = ended_both limit r_last.front r_last.back to.1 r_last.parts q.placing from_step in
-        let from_first : Ended limit assigned.1 = ended_both limit r.front r.back assigned.1 r.parts p.placing (ended_token limit n to.0 to.1 r.back most to.2 from_last) in
+        let from_first : Ended limit assigned.1 =
+        ended_both limit r.front r.back assigned.1 r.parts p.placing (ended_token limit n to.0 to.1 r.back most to.2 from_last) in
         record {
           tree = for_ (c named.0) named.0.spot p.tree q.tree y.tree m.trees opening.0.spot;
-          ended = ended_token limit n opening.0 opening.1 us most opening.2 (ended_token limit n named.0 named.1 opening.1 most named.2 (ended_token limit n assigned.0 assigned.1 named.1 most assigned.2 from_first));
+          ended = ended_token limit n opening.0 opening.1 us most opening.2
+              (ended_token limit n named.0 named.1 opening.1 most named.2 (ended_token limit n assigned.0 assigned.1 named.1 most assigned.2 from_first));
           spells = spells_for p.tree q.tree y.tree m.trees opening.0 named.0 assigned.0 to.0 does.0 z.token p.placing.placed q.placing.placed y.placing.placed m.placing.placed
               opening.3 named.3 assigned.3 p.spells to.3 q.spells y.spells does.3 m.spells z.is;
           same = λ j. for_ (named.4 j) nowhere (p.same j) (q.same j) (y.same j) (m.same j) nowhere;
         }
 
-    pub stmts_again : {d : ℕ} {ss : StmtTrees} {ps : List Placed} → SpellsStmts b d ss ps → Within limit ps → (n : ℕ) → n ≤ d → (i : ℕ) (us : List Token) → Written c (canon.stmts i ss) us → StmtsAgain c limit n ss us
+    pub stmts_again : {d : ℕ} {ss : StmtTrees} {ps : List Placed} → SpellsStmts b d ss ps → Within limit ps → (n : ℕ) → n ≤ d → (i : ℕ) (us : List Token)
+        → Written c (canon.stmts i ss) us → StmtsAgain c limit n ss us
     stmts_again spells_no_stmt within n le i us w = record { trees = no_stmts; placing = no_token limit us w; spells = spells_no_stmt; same = refl }
     stmts_again (spells_empty ss t ts k s) within n le i us w = stmts_again s within.1 n le i us w
     stmts_again {d = d} (spells_stmt s ss t ts vs p k q) within n le i us w =
@@ -232,7 +259,8 @@ module _ (b c : Token → List ℕ) (limit : ℕ) where
         let y = stmts_again q parts.1.1 n le i r.back r.back_is in
         let semi = x.ended.semi in
         let behind : Placing limit (semi ∷ r.back) = token_before limit n semi r.back (semi ∷ r.back) (omega (arith, le, parts.1.0)) refl y.placing in
-        let together : us ≡ x.ended.front ++ (semi ∷ r.back) = r.parts ∙ ap (λ (z : List Token). z ++ r.back) x.ended.parts ∙ append_assoc x.ended.front (semi ∷ []) r.back in
+        let together : us ≡ x.ended.front ++ (semi ∷ r.back) = r.parts ∙ ap (λ (z : List Token). z ++ r.back) x.ended.parts
+        ∙ append_assoc x.ended.front (semi ∷ []) r.back in
         record {
           trees = and_stmt x.tree y.trees;
           placing = both limit x.ended.front (semi ∷ r.back) us together x.ended.placing behind;
@@ -240,7 +268,8 @@ module _ (b c : Token → List ℕ) (limit : ℕ) where
           same = λ j. and_stmt (x.same j) (y.same j);
         }
 
-    arms_again : {d : ℕ} {k : Key} {arms : ArmTrees} {o : OtherTree} {ps : List Placed} → SpellsArms b d k arms o ps → Within limit ps → (n : ℕ) → n ≤ d → (i : ℕ) (us : List Token)
+    arms_again : {d : ℕ} {k : Key} {arms : ArmTrees} {o : OtherTree} {ps : List Placed} → SpellsArms b d k arms o ps → Within limit ps → (n : ℕ) → n ≤ d
+        → (i : ℕ) (us : List Token)
         → Written c (canon.arms_from i k arms ++ (canon.else_of i o ++ end_line i key.EndIf)) us → ArmsAgain c limit n k arms o us
     arms_again {d = d} (spells_arm k e body arms o x t ts vs ws kx s kt u v) within n le i us w =
         let tail : List Lexeme = canon.else_of i o ++ end_line i key.EndIf in
@@ -264,14 +293,23 @@ module _ (b c : Token → List ℕ) (limit : ℕ) where
           same_other = m.same_other;
         }
 
-    more_arms_again : {d : ℕ} {arms : ArmTrees} {o : OtherTree} {ps : List Placed} → SpellsMoreArms b d arms o ps → Within limit ps → (n : ℕ) → n ≤ d → (i : ℕ) (us : List Token)
+    more_arms_again : {d : ℕ} {arms : ArmTrees} {o : OtherTree} {ps : List Placed} → SpellsMoreArms b d arms o ps → Within limit ps → (n : ℕ) → n ≤ d
+        → (i : ℕ) (us : List Token)
         → Written c (canon.arms_from i key.Elsif arms ++ (canon.else_of i o ++ end_line i key.EndIf)) us → MoreArmsAgain c limit n arms o us
     more_arms_again (spells_elsif arms o ts s) within n le i us w =
         let q = arms_again s within n le i us w in
-        record { trees = q.trees; otherwise = q.otherwise; ended = q.ended; spells = spells_elsif q.trees q.otherwise q.ended.placing.placed q.spells; same = q.same; same_other = q.same_other }
+        record {
+          trees = q.trees;
+          otherwise = q.otherwise;
+          ended = q.ended;
+          spells = spells_elsif q.trees q.otherwise q.ended.placing.placed q.spells;
+          same = q.same;
+          same_other = q.same_other;
+        }
     more_arms_again {d = d} (spells_if_else body l e ts kl s ke) within n le i us w =
         let bodies = canon.stmts (suc i) body in
-        let v = line_before c i (lexeme.word key.Else ∷ []) (bodies ++ end_line i key.EndIf) us (regrouped c (lexeme.line i (lexeme.word key.Else ∷ [])) bodies (end_line i key.EndIf) us w) in
+        let v = line_before c i (lexeme.word key.Else ∷ []) (bodies ++ end_line i key.EndIf) us
+        (regrouped c (lexeme.line i (lexeme.word key.Else ∷ [])) bodies (end_line i key.EndIf) us w) in
         let r = cut c bodies (end_line i key.EndIf) v.1 v.5 in
         let z = closing i key.EndIf r.back r.back_is in
         let most : n ≤ limit = omega (arith, le, within.0) in
@@ -287,9 +325,17 @@ module _ (b c : Token → List ℕ) (limit : ℕ) where
         }
     more_arms_again (spells_end_if e k) within n le i us w =
         let z = closing i key.EndIf us w in
-        record { trees = no_arms; otherwise = no_other; ended = closed n us (omega (arith, le, within.0)) z; spells = spells_end_if z.token z.is; same = refl; same_other = refl }
+        record {
+          trees = no_arms;
+          otherwise = no_other;
+          ended = closed n us (omega (arith, le, within.0)) z;
+          spells = spells_end_if z.token z.is;
+          same = refl;
+          same_other = refl;
+        }
 
-    branches_again : {d : ℕ} {branches : BranchTrees} {o : OtherTree} {ps : List Placed} → SpellsBranches b d branches o ps → Within limit ps → (n : ℕ) → n ≤ d → (i : ℕ) (us : List Token)
+    branches_again : {d : ℕ} {branches : BranchTrees} {o : OtherTree} {ps : List Placed} → SpellsBranches b d branches o ps → Within limit ps → (n : ℕ) → n ≤ d
+        → (i : ℕ) (us : List Token)
         → Written c (canon.branches_of i branches ++ (canon.else_of i o ++ end_line i key.EndCase)) us → BranchesAgain c limit n branches o us
     branches_again (spells_branch ls body cases o ts vs ws s u v) within n le i us w =
         let tail : List Lexeme = canon.else_of i o ++ end_line i key.EndCase in
@@ -314,14 +360,23 @@ module _ (b c : Token → List ℕ) (limit : ℕ) where
           same_other = m.same_other;
         }
 
-    more_branches_again : {d : ℕ} {branches : BranchTrees} {o : OtherTree} {ps : List Placed} → SpellsMoreBranches b d branches o ps → Within limit ps → (n : ℕ) → n ≤ d → (i : ℕ) (us : List Token)
+    more_branches_again : {d : ℕ} {branches : BranchTrees} {o : OtherTree} {ps : List Placed} → SpellsMoreBranches b d branches o ps → Within limit ps → (n : ℕ)
+        → n ≤ d → (i : ℕ) (us : List Token)
         → Written c (canon.branches_of i branches ++ (canon.else_of i o ++ end_line i key.EndCase)) us → MoreBranchesAgain c limit n branches o us
     more_branches_again (spells_next_branch cases o ts s) within n le i us w =
         let q = branches_again s within n le i us w in
-        record { trees = q.trees; otherwise = q.otherwise; ended = q.ended; spells = spells_next_branch q.trees q.otherwise q.ended.placing.placed q.spells; same = q.same; same_other = q.same_other }
+        record {
+          trees = q.trees;
+          otherwise = q.otherwise;
+          ended = q.ended;
+          spells = spells_next_branch q.trees q.otherwise q.ended.placing.placed q.spells;
+          same = q.same;
+          same_other = q.same_other;
+        }
     more_branches_again {d = d} (spells_case_else body l e ts kl s ke) within n le i us w =
         let bodies = canon.stmts (suc i) body in
-        let v = line_before c i (lexeme.word key.Else ∷ []) (bodies ++ end_line i key.EndCase) us (regrouped c (lexeme.line i (lexeme.word key.Else ∷ [])) bodies (end_line i key.EndCase) us w) in
+        let v = line_before c i (lexeme.word key.Else ∷ []) (bodies ++ end_line i key.EndCase) us
+        (regrouped c (lexeme.line i (lexeme.word key.Else ∷ [])) bodies (end_line i key.EndCase) us w) in
         let r = cut c bodies (end_line i key.EndCase) v.1 v.5 in
         let z = closing i key.EndCase r.back r.back_is in
         let most : n ≤ limit = omega (arith, le, within.0) in
@@ -337,4 +392,11 @@ module _ (b c : Token → List ℕ) (limit : ℕ) where
         }
     more_branches_again (spells_end_case e k) within n le i us w =
         let z = closing i key.EndCase us w in
-        record { trees = no_branches; otherwise = no_other; ended = closed n us (omega (arith, le, within.0)) z; spells = spells_end_case z.token z.is; same = refl; same_other = refl }
+        record {
+          trees = no_branches;
+          otherwise = no_other;
+          ended = closed n us (omega (arith, le, within.0)) z;
+          spells = spells_end_case z.token z.is;
+          same = refl;
+          same_other = refl;
+        }

@@ -1,5 +1,6 @@
 -- Lexemes that fit are the reading of their text.
-use Rattle.std.proofs.Common.{◌≡◌, ℕ, ◌+◌, ◌-◌, ◌≤◌, List, [], ◌∷◌, ◌++◌, length, take, drop, Option, Some, None, sym, refl, ap, ◌∙◌, subst, arith, length-append, length-drop}
+use Rattle.std.proofs.Common.{◌≡◌, ℕ, ◌+◌, ◌-◌, ◌≤◌, List, [], ◌∷◌, ◌++◌, length, take, drop, Option, Some, None, sym, refl, ap, ◌∙◌, subst, arith}
+use Rattle.std.proofs.Common.{length-append, length-drop}
 use Rattle.std.proofs.lemmas.List.{drop-drop, drop_at, take_at}
 use Rattle.st_lexer.specs.declared.token.Tok.{Tok}
 use Rattle.st_lexer.specs.declared.token.Token.{Token}
@@ -21,7 +22,8 @@ record Covered (text : List ℕ) (a : ℕ) (xs : List Lexeme) : Type 0 where
   cover : Cover text pieces a (length text)
   written : Written (bytes_in text) xs (tokens_of text pieces)
 
-written-on : (text : List ℕ) (p : Piece) (o : Option Tok) (bs : List ℕ) (rest : List Token → Type 0) (ts : List Token) → take (p.to - p.from) (drop p.from text) ≡ bs → rest ts → written_one (bytes_in text) bs o rest (token_of text p o ++ ts)
+written-on : (text : List ℕ) (p : Piece) (o : Option Tok) (bs : List ℕ) (rest : List Token → Type 0) (ts : List Token)
+    → take (p.to - p.from) (drop p.from text) ≡ bs → rest ts → written_one (bytes_in text) bs o rest (token_of text p o ++ ts)
 written-on text p None bs rest ts e h = h
 written-on text p (Some k) bs rest ts e h = (record { tok = k; from = p.from; to = p.to; spot = spot_at text p.from }, ts, refl, refl, e, h)
 

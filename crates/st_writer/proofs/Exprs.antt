@@ -27,15 +27,18 @@ args-are [] = refl
 args-are (e ∷ es) = ap (λ (t : List Lexeme). expr any_level (expr_tree e) ++ t) (more-args-are es)
 
 -- what a turn of the loop over the arguments writes
-pub written-arg : (i : ℕ) (e : Expr) (old now new : List ℕ) → now ≡ extended old (separator i) → new ≡ extended now (expr any_level (expr_tree e)) → new ≡ extended old (arg i e)
+pub written-arg : (i : ℕ) (e : Expr) (old now new : List ℕ) → now ≡ extended old (separator i) → new ≡ extended now (expr any_level (expr_tree e))
+    → new ≡ extended old (arg i e)
 written-arg i e old now new m n = n ∙ ap (λ (t : List ℕ). extended t (expr any_level (expr_tree e))) m ∙ sym (extended-append old (separator i) _)
 
 -- what a loop over the arguments has written at its end
-pub written-args : (es : List Expr) (i : ℕ) (old now : List ℕ) → length es ≤ i → now ≡ extended old (all arg (take i es)) → now ≡ extended old (args (expr_trees es))
+pub written-args : (es : List Expr) (i : ℕ) (old now : List ℕ) → length es ≤ i → now ≡ extended old (all arg (take i es))
+    → now ≡ extended old (args (expr_trees es))
 written-args es i old now h e = ends arg es i old now h e ∙ ap (λ (t : List Lexeme). extended old t) (args-are es)
 
 -- brackets where they are needed
-pub written-brackets : (needed : Bool) (old : List ℕ) (xs : List Lexeme) → extended (extended (extended old (where_needed needed symbols.LParen)) xs) (where_needed needed symbols.RParen) ≡ extended old (bracketed needed xs)
+pub written-brackets : (needed : Bool) (old : List ℕ) (xs : List Lexeme)
+    → extended (extended (extended old (where_needed needed symbols.LParen)) xs) (where_needed needed symbols.RParen) ≡ extended old (bracketed needed xs)
 written-brackets true old xs = sym (extended-append _ xs _)
 written-brackets false old xs = refl
 

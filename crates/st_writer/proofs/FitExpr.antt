@@ -11,7 +11,8 @@ use Rattle.st_spelling.specs.Operators.{level, any_level, unary_level}
 use Rattle.st_writer.specs.Lexemes as lexeme
 use Rattle.st_writer.specs.CanonicalExpr.{operator, bracketed, expr, args, more_args}
 use Rattle.st_writer.proofs.IsReadable.{ReadableExpr, ReadableExprs}
-use Rattle.st_writer.proofs.Fits.{Fits, Free, Safe, fit-blank, fit-comma, fit-close, fit-minus, fit-open, fit-symbol, fit-word, fit-key, fit-literal, name-safe, literal-safe}
+use Rattle.st_writer.proofs.Fits.{Fits, Free, Safe, fit-blank, fit-comma, fit-close, fit-minus, fit-open, fit-symbol, fit-word, fit-key, fit-literal, name-safe}
+use Rattle.st_writer.proofs.Fits.{literal-safe}
 use Rattle.st_writer.proofs.Covered.{AllFit}
 
 -- how the text of lexemes begins
@@ -69,7 +70,8 @@ safe-args no_exprs ys r safe = safe
 safe-args (and_expr e es) ys r safe = safe-joined (expr any_level e) (more_args es) ys (safe-expr any_level e (more_args es ++ ys) r.0)
 
 fit-bracketed : (needed : Bool) (xs ys : List lexeme.Lexeme) → Ends ys → AllFit ys
-    → ((zs : List lexeme.Lexeme) → Ends zs → AllFit zs → AllFit (xs ++ zs)) → ((zs : List lexeme.Lexeme) → IsSafe (xs ++ zs)) → AllFit (bracketed needed xs ++ ys)
+    → ((zs : List lexeme.Lexeme) → Ends zs → AllFit zs → AllFit (xs ++ zs)) → ((zs : List lexeme.Lexeme) → IsSafe (xs ++ zs))
+    → AllFit (bracketed needed xs ++ ys)
 fit-bracketed true xs ys ends fit f safe =
     let close = lexeme.symbol symbol.RParen ∷ [] in
     (fit-open _ (safe-joined xs close ys (safe (close ++ ys))), joined xs close ys (f (close ++ ys) refl (fit-close _, fit)))
@@ -88,11 +90,18 @@ mutual
   fit-expr l (binary op a b s) ys r ends fit =
       fit-bracketed (nat_lt (level op) l) (expr (level op) a ++ from_operator op b) ys ends fit
       (λ zs ends_so fit_so. joined (expr (level op) a) (from_operator op b) zs
-      (fit-expr (level op) a (from_operator op b ++ zs) r.0 refl (fit-blank _, (fit-operator op _, (fit-blank _, fit-expr (suc (level op)) b zs r.1 ends_so fit_so)))))
+      (fit-expr (level op) a (from_operator op b ++ zs) r.0 refl
+      (fit-blank _, (fit-operator op _, (fit-blank _, fit-expr (suc (level op)) b zs r.1 ends_so fit_so)))))
       (λ zs. safe-joined (expr (level op) a) (from_operator op b) zs (safe-expr (level op) a (from_operator op b ++ zs) r.0))
   fit-expr l (call n es s) ys r ends fit =
-      let close = lexeme.symbol symbol.RParen ∷ [] in
-      (fit-word n _ _ r.0 refl, (fit-open _ (safe-joined (args es) close ys (safe-args es (close ++ ys) r.1 refl)), joined (args es) close ys (fit-args es (close ++ ys) r.1 refl (fit-close _, fit))))
+      let close = lexeme.symbol symbol.RParen ∷ [] in (
+        fit-word n _ _ r.0 refl,
+        (
+          fit-open _ (safe-joined (args es) close ys (safe-args es (close ++ ys) r.1 refl)),
+          joined (args es) close ys
+              (fit-args es (close ++ ys) r.1 refl (fit-close _, fit)),
+        ),
+      )
 
   fit-args : (es : ExprTrees) (ys : List lexeme.Lexeme) → ReadableExprs es → Ends ys → AllFit ys → AllFit (args es ++ ys)
   fit-args no_exprs ys r ends fit = fit
@@ -101,8 +110,14 @@ mutual
 
   fit-more : (es : ExprTrees) (ys : List lexeme.Lexeme) → ReadableExprs es → Ends ys → AllFit ys → AllFit (more_args es ++ ys)
   fit-more no_exprs ys r ends fit = fit
-  fit-more (and_expr e es) ys r ends fit =
-      (fit-comma _, (fit-blank _, joined (expr any_level e) (more_args es) ys (fit-expr any_level e (more_args es ++ ys) r.0 (ends-more es ys ends) (fit-more es ys r.1 ends fit))))
+  fit-more (and_expr e es) ys r ends fit = (
+    fit-comma _,
+    (
+      fit-blank _,
+      joined (expr any_level e) (more_args es) ys
+          (fit-expr any_level e (more_args es ++ ys) r.0 (ends-more es ys ends) (fit-more es ys r.1 ends fit)),
+    ),
+  )
 
 -- an expression with what stands behind it on its line
 pub fit-expr-and : (e : ExprTree) (xs ys : List lexeme.Lexeme) → ReadableExpr e → Ends (xs ++ ys) → AllFit (xs ++ ys) → AllFit ((expr any_level e ++ xs) ++ ys)

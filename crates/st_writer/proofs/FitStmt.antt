@@ -5,13 +5,16 @@ use Rattle.st_lexer.specs.declared.token.Key.TheVariants as key
 use Rattle.st_lexer.specs.declared.token.Sym.TheVariants as symbol
 use Rattle.st_tree.specs.declared.expr.UnOp.TheVariants as un
 use Rattle.st_tree.specs.ExprTree.{ExprTree, literal, name, unary, binary, call}
-use Rattle.st_tree.specs.StmtTree.{LabelTree, StmtTree, StmtTrees, ArmTrees, BranchTrees, OtherTree, assign, if_, case, for_, no_stmts, and_stmt, no_arms, and_arm, no_branches, and_branch, no_other, other}
+use Rattle.st_tree.specs.StmtTree.{LabelTree, StmtTree, StmtTrees, ArmTrees, BranchTrees, OtherTree, assign, if_, case, for_, no_stmts, and_stmt, no_arms}
+use Rattle.st_tree.specs.StmtTree.{and_arm, no_branches, and_branch, no_other, other}
 use Rattle.st_spelling.specs.Operators.{any_level}
 use Rattle.st_writer.specs.Lexemes as lexeme
 use Rattle.st_writer.specs.CanonicalExpr.{expr}
 use Rattle.st_writer.specs.CanonicalStmt.{negated, constant, last_of_range, label, more_labels, labels, step, stmt, stmts, arms_from, branches_of, else_of}
-use Rattle.st_writer.proofs.IsReadable.{IsName, ReadableExpr, ReadableOrNone, ReadableLabels, ReadableStmt, ReadableStmts, ReadableArms, ReadableBranches, ReadableOther}
-use Rattle.st_writer.proofs.Fits.{fit-blank, fit-line-end, fit-semi, fit-comma, fit-minus, fit-assign, fit-dots, fit-colon-at-end, fit-word, fit-key, fit-number}
+use Rattle.st_writer.proofs.IsReadable.{IsName, ReadableExpr, ReadableOrNone, ReadableLabels, ReadableStmt, ReadableStmts, ReadableArms, ReadableBranches}
+use Rattle.st_writer.proofs.IsReadable.{ReadableOther}
+use Rattle.st_writer.proofs.Fits.{fit-blank, fit-line-end, fit-semi, fit-comma, fit-minus, fit-assign, fit-dots, fit-colon-at-end, fit-word, fit-key}
+use Rattle.st_writer.proofs.Fits.{fit-number}
 use Rattle.st_writer.proofs.Covered.{AllFit}
 use Rattle.st_writer.proofs.FitExpr.{Ends, joined, fit-expr, fit-expr-and}
 
@@ -62,8 +65,10 @@ ends-more (l ∷ ls) ys ends = refl
 
 fit-more : (ls : List LabelTree) (ys : List lexeme.Lexeme) → ReadableLabels ls → Ends ys → AllFit ys → AllFit (more_labels ls ++ ys)
 fit-more [] ys r ends fit = fit
-fit-more (l ∷ ls) ys r ends fit =
-    (fit-comma _, (fit-blank _, joined (label l) (more_labels ls) ys (fit-label l (more_labels ls ++ ys) r.0 r.1 (ends-more ls ys ends) (fit-more ls ys r.2 ends fit))))
+fit-more (l ∷ ls) ys r ends fit = (
+  fit-comma _,
+  (fit-blank _, joined (label l) (more_labels ls) ys (fit-label l (more_labels ls ++ ys) r.0 r.1 (ends-more ls ys ends) (fit-more ls ys r.2 ends fit))),
+)
 
 fit-labels : (ls : List LabelTree) (ys : List lexeme.Lexeme) → ReadableLabels ls → Ends ys → AllFit ys → AllFit (labels ls ++ ys)
 fit-labels [] ys r ends fit = fit
@@ -78,7 +83,8 @@ fit-step (Some e) ys r fit =
     (fit-key key.By _ refl, (fit-blank _, fit-expr-and e (lexeme.blank ∷ []) ys r refl (fit-blank _, fit)))
 
 -- a name, `:=` and what stands behind them
-fit-target : (f : List ℕ) (ys : List lexeme.Lexeme) → IsName f → AllFit ys → AllFit (lexeme.name f ∷ lexeme.blank ∷ lexeme.symbol symbol.Assign ∷ lexeme.blank ∷ ys)
+fit-target : (f : List ℕ) (ys : List lexeme.Lexeme) → IsName f → AllFit ys
+    → AllFit (lexeme.name f ∷ lexeme.blank ∷ lexeme.symbol symbol.Assign ∷ lexeme.blank ∷ ys)
 fit-target f ys r fit = (fit-word f _ _ r refl, (fit-blank _, (fit-assign _, (fit-blank _, fit))))
 
 -- a keyword with a space behind it
@@ -107,12 +113,14 @@ fit-tested n k l e ys r fit =
 abbrev from_to : ExprTree → Option ExprTree → List lexeme.Lexeme
 from_to last by = lexeme.word key.To ∷ lexeme.blank ∷ (expr any_level last ++ lexeme.blank ∷ (step by ++ lexeme.word key.Do ∷ []))
 
-fit-to : (last : ExprTree) (by : Option ExprTree) (ys : List lexeme.Lexeme) → ReadableExpr last → ReadableOrNone by → AllFit ys → AllFit (from_to last by ++ lexeme.line_end ∷ ys)
+fit-to : (last : ExprTree) (by : Option ExprTree) (ys : List lexeme.Lexeme) → ReadableExpr last → ReadableOrNone by → AllFit ys
+    → AllFit (from_to last by ++ lexeme.line_end ∷ ys)
 fit-to last by ys r q fit =
     let after = lexeme.line_end ∷ ys in
     let last_word = lexeme.word key.Do ∷ [] in
     let rest = step by ++ last_word in
-    let fit_rest : AllFit (rest ++ after) = joined (step by) last_word after (fit-step by (last_word ++ after) q (fit-key key.Do _ refl, (fit-line-end _, fit))) in
+    let fit_rest : AllFit (rest ++ after) =
+    joined (step by) last_word after (fit-step by (last_word ++ after) q (fit-key key.Do _ refl, (fit-line-end _, fit))) in
     fit-first key.To ((expr any_level last ++ lexeme.blank ∷ rest) ++ after) (fit-expr-and last (lexeme.blank ∷ rest) after r refl (fit-blank _, fit_rest))
 
 -- the line of FOR
@@ -157,7 +165,9 @@ mutual
       let rest = stmts (suc n) body ++ end in
       let fit_rest : AllFit (rest ++ ys) = joined (stmts (suc n) body) end ys (fit-stmts (suc n) body (end ++ ys) r.4 (fit-end n key.EndFor ys fit)) in
       joined
-      (lexeme.line n (lexeme.word key.For ∷ lexeme.blank ∷ lexeme.name f ∷ lexeme.blank ∷ lexeme.symbol symbol.Assign ∷ lexeme.blank ∷ (expr any_level first ++ lexeme.blank ∷ from_to last by)))
+      (lexeme.line n
+      (lexeme.word key.For ∷ lexeme.blank ∷ lexeme.name f ∷ lexeme.blank ∷ lexeme.symbol symbol.Assign ∷ lexeme.blank
+      ∷ (expr any_level first ++ lexeme.blank ∷ from_to last by)))
       rest ys (fit-for n f first last by (rest ++ ys) r.0 r.1 r.2 r.3 fit_rest)
 
   pub fit-stmts : (n : ℕ) (ss : StmtTrees) (ys : List lexeme.Lexeme) → ReadableStmts ss → AllFit ys → AllFit (stmts n ss ++ ys)
@@ -169,7 +179,8 @@ mutual
   fit-arms n k (and_arm e body s arms) ys r fit =
       let more = arms_from n key.Elsif arms in
       let rest = stmts (suc n) body ++ more in
-      let fit_rest : AllFit (rest ++ ys) = joined (stmts (suc n) body) more ys (fit-stmts (suc n) body (more ++ ys) r.1 (fit-arms n key.Elsif arms ys r.2 fit)) in
+      let fit_rest : AllFit (rest ++ ys) =
+      joined (stmts (suc n) body) more ys (fit-stmts (suc n) body (more ++ ys) r.1 (fit-arms n key.Elsif arms ys r.2 fit)) in
       joined (lexeme.line n (lexeme.word k ∷ lexeme.blank ∷ (expr any_level e ++ lexeme.blank ∷ lexeme.word key.Then ∷ []))) rest ys
       (fit-tested n k key.Then e (rest ++ ys) r.0 fit_rest)
 
@@ -180,7 +191,8 @@ mutual
       let more = branches_of n branches in
       let rest = stmts (suc (suc n)) body ++ more in
       let after = lexeme.line_end ∷ (rest ++ ys) in
-      let fit_rest : AllFit (rest ++ ys) = joined (stmts (suc (suc n)) body) more ys (fit-stmts (suc (suc n)) body (more ++ ys) r.1 (fit-branches n branches ys r.2 fit)) in
+      let fit_rest : AllFit (rest ++ ys) =
+      joined (stmts (suc (suc n)) body) more ys (fit-stmts (suc (suc n)) body (more ++ ys) r.1 (fit-branches n branches ys r.2 fit)) in
       joined (lexeme.line (suc n) (labels ls ++ colon)) rest ys
       (fit-line (suc n) (labels ls ++ colon) (rest ++ ys)
       (joined (labels ls) colon after (fit-labels ls (colon ++ after) r.0 refl (fit-colon-at-end _, (fit-line-end _, fit_rest)))))

@@ -1,5 +1,6 @@
 -- Lexemes that stand where they are put.
-use Rattle.std.proofs.Common.{◌≡◌, ℕ, ℤ, pos, negsuc, suc, ◌+◌, ◌<◌, Bool, true, false, cond, List, [], ◌∷◌, ◌++◌, length, take, Option, Some, None, sym, refl, ap, ◌∙◌, arith}
+use Rattle.std.proofs.Common.{◌≡◌, ℕ, ℤ, pos, negsuc, suc, ◌+◌, ◌<◌, Bool, true, false, cond, List, [], ◌∷◌, ◌++◌, length, take, Option, Some, None, sym, refl}
+use Rattle.std.proofs.Common.{ap, ◌∙◌, arith}
 use Rattle.std.specs.Prelude.{nat_eq, ◌==◌, slice_index}
 use Rattle.std.specs.List.{list_all, prefix_len}
 use Rattle.std.specs.Char.{is_ascii_digit, to_ascii_lowercase}
@@ -242,7 +243,8 @@ unsigned t (c ∷ ds) rest n d =
     let h = no-sign c (both (is_ascii_digit c) _ d.each).0 in
     and-false (takes_sign t) _ (rw (h.0, h.1) refl)
 
-read-plain : (t : Option Ty) (ds rest : List ℕ) (n : ℕ) → AreDecimal ds n → Free rest → literal_at t (ds ++ rest) ≡ Some (record { value = pos n; len = length ds })
+read-plain : (t : Option Ty) (ds rest : List ℕ) (n : ℕ) → AreDecimal ds n → Free rest
+    → literal_at t (ds ++ rest) ≡ Some (record { value = pos n; len = length ds })
 unfolding literal_at
 read-plain t ds rest n d f = rw (unsigned t ds rest n d, run-of ds rest d.each f, plain-is t ds n d) refl
 

@@ -11,7 +11,8 @@ all f [] = []
 all f (x ∷ xs) = f 0 x ++ all (λ i. f (suc i)) xs
 
 -- the first i items, and one more
-all-more : {X : Type 0} (f : ℕ → X → List Lexeme) (xs : List X) (i : ℕ) (d : X) → i < length xs → all f (take (suc i) xs) ≡ all f (take i xs) ++ f i (get_or xs i d)
+all-more : {X : Type 0} (f : ℕ → X → List Lexeme) (xs : List X) (i : ℕ) (d : X) → i < length xs
+    → all f (take (suc i) xs) ≡ all f (take i xs) ++ f i (get_or xs i d)
 all-more f [] i d h = absurd (omega arith)
 all-more f (x ∷ xs) zero d h = append-nil (f 0 x)
 all-more f (x ∷ xs) (suc i) d h =

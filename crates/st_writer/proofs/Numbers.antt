@@ -73,7 +73,8 @@ decimal-is n lt =
     record {
       some_of = d.0.0;
       each = all-digits (decimal n) d.0.1;
-      read = digits-of (are_digits 10 false (decimal n)) (number 10 0 (decimal n)) n (are-some-digits (decimal n) d.0.0 d.0.1) (number-is 0 (decimal n) d.0.1 ∙ d.1) lt;
+      read = digits-of (are_digits 10 false (decimal n)) (number 10 0 (decimal n)) n (are-some-digits (decimal n) d.0.0 d.0.1)
+          (number-is 0 (decimal n) d.0.1 ∙ d.1) lt;
     }
 
 -- ---- no base stands before the digits, and they are no word

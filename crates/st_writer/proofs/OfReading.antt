@@ -1,5 +1,6 @@
 -- What the tokens of a reading say: a name is a word that is no reserved one, and a literal has a value that can be read.
-use Rattle.std.proofs.Common.{◌≡◌, ℕ, ℤ, pos, zero, suc, ◌+◌, ◌-◌, ◌^◌, ◌<◌, Bool, true, false, cond, ◌&&◌, ◌||◌, List, [], ◌∷◌, ◌++◌, length, take, drop, Option, Some, None, sym, refl, ap, ◌∙◌, subst, arith}
+use Rattle.std.proofs.Common.{◌≡◌, ℕ, ℤ, pos, zero, suc, ◌+◌, ◌-◌, ◌^◌, ◌<◌, Bool, true, false, cond, ◌&&◌, ◌||◌, List, [], ◌∷◌, ◌++◌, length, take, drop}
+use Rattle.std.proofs.Common.{Option, Some, None, sym, refl, ap, ◌∙◌, subst, arith}
 use Rattle.std.specs.Prelude.{nat_lt, ◌==◌, codes, slice_index, neg_ℤ}
 use Rattle.std.specs.List.{list_all, prefix_len}
 use Rattle.std.specs.Char.{is_ascii_digit}
@@ -71,7 +72,8 @@ plain-below (Some ty.Int) s n e = based-below s n e
 plain-below (Some ty.Dint) s n e = based-below s n e
 plain-below (Some ty.Lint) s n e = based-below s n e
 
-of-number : (t : Option Ty) (m : ℕ) (f : ℕ → ℤ) (o : Option ℕ) (l : Literal) → literal_of m f o ≡ Some l → ((n : ℕ) → o ≡ Some n → IsValue t (f n)) → IsValue t l.value
+of-number : (t : Option Ty) (m : ℕ) (f : ℕ → ℤ) (o : Option ℕ) (l : Literal) → literal_of m f o ≡ Some l → ((n : ℕ) → o ≡ Some n → IsValue t (f n))
+    → IsValue t l.value
 of-number t m f None l e g = absurd cc
 of-number t m f (Some n) l e g = let same : f n ≡ l.value = cc in subst (λ (v : ℤ). IsValue t v) same (g n refl)
 

@@ -26,11 +26,13 @@ names-are [] = refl
 names-are (d ∷ ds) = ap (λ (t : List Lexeme). lexeme.name d.name ∷ t) (more-names-are ds)
 
 -- what a turn of the loop over the names writes
-pub written-name : (i : ℕ) (d : Declared) (old now new : List ℕ) → now ≡ extended old (separator i) → new ≡ extended now (lexeme.name d.name ∷ []) → new ≡ extended old (name_at i d)
+pub written-name : (i : ℕ) (d : Declared) (old now new : List ℕ) → now ≡ extended old (separator i) → new ≡ extended now (lexeme.name d.name ∷ [])
+    → new ≡ extended old (name_at i d)
 written-name i d old now new m n = n ∙ ap (λ (t : List ℕ). extended t (lexeme.name d.name ∷ [])) m ∙ sym (extended-append old (separator i) _)
 
 -- what the loop over the names has written at its end
-pub written-names : (ds : List Declared) (i : ℕ) (old now : List ℕ) → length ds ≤ i → now ≡ extended old (all name_at (take i ds)) → now ≡ extended old (names (map declared_tree ds))
+pub written-names : (ds : List Declared) (i : ℕ) (old now : List ℕ) → length ds ≤ i → now ≡ extended old (all name_at (take i ds))
+    → now ≡ extended old (names (map declared_tree ds))
 written-names ds i old now h e = ends name_at ds i old now h e ∙ ap (λ (t : List Lexeme). extended old t) (names-are ds)
 
 -- an item of a list whose tree is written by f

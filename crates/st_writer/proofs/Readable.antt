@@ -12,12 +12,19 @@ use Rattle.st_tree.specs.ExprTree.{ExprTree, ExprTrees}
 use Rattle.st_tree.specs.StmtTree.{LabelTree, StmtTree, StmtTrees, ArmTrees, BranchTrees, OtherTree}
 use Rattle.st_tree.specs.ProgramTree.{DeclaredTree, DeclTree, BlockTree, ProgramTree}
 use Rattle.st_spelling.specs.Placed.{Placed, tokens_of}
-use Rattle.st_spelling.specs.Expressions.{Value, literal_of, SpellsExpr, SpellsArgs, spells_literal, spells_name, spells_unary, spells_binary, spells_call, spells_brackets, spells_last, spells_next}
-use Rattle.st_spelling.specs.Labels.{SpellsConst, SpellsLabel, SpellsLabels, spells_value, spells_named, spells_negative, spells_one, spells_range, spells_last_label, spells_next_label}
-use Rattle.st_spelling.specs.Statements.{SpellsStep, SpellsStmt, SpellsStmts, SpellsArms, SpellsMoreArms, SpellsBranches, SpellsMoreBranches, spells_no_step, spells_step, spells_assign, spells_if, spells_case, spells_for, spells_no_stmt, spells_empty, spells_stmt, spells_arm, spells_elsif, spells_if_else, spells_end_if, spells_branch, spells_next_branch, spells_case_else, spells_end_case}
-use Rattle.st_spelling.specs.Programs.{SpellsNames, SpellsInit, SpellsDecl, SpellsDecls, SpellsBlocks, SpellsProgram, spells_last_name, spells_next_name, spells_no_init, spells_init, spells_decl, spells_end_var, spells_next_decl, spells_no_block, spells_block, spells_program}
+use Rattle.st_spelling.specs.Expressions.{Value, literal_of, SpellsExpr, SpellsArgs, spells_literal, spells_name, spells_unary, spells_binary, spells_call}
+use Rattle.st_spelling.specs.Expressions.{spells_brackets, spells_last, spells_next}
+use Rattle.st_spelling.specs.Labels.{SpellsConst, SpellsLabel, SpellsLabels, spells_value, spells_named, spells_negative, spells_one, spells_range}
+use Rattle.st_spelling.specs.Labels.{spells_last_label, spells_next_label}
+use Rattle.st_spelling.specs.Statements.{SpellsStep, SpellsStmt, SpellsStmts, SpellsArms, SpellsMoreArms, SpellsBranches, SpellsMoreBranches, spells_no_step}
+use Rattle.st_spelling.specs.Statements.{spells_step, spells_assign, spells_if, spells_case, spells_for, spells_no_stmt, spells_empty, spells_stmt, spells_arm}
+use Rattle.st_spelling.specs.Statements.{spells_elsif, spells_if_else, spells_end_if, spells_branch, spells_next_branch, spells_case_else, spells_end_case}
+use Rattle.st_spelling.specs.Programs.{SpellsNames, SpellsInit, SpellsDecl, SpellsDecls, SpellsBlocks, SpellsProgram, spells_last_name, spells_next_name}
+use Rattle.st_spelling.specs.Programs.{spells_no_init, spells_init, spells_decl, spells_end_var, spells_next_decl, spells_no_block, spells_block}
+use Rattle.st_spelling.specs.Programs.{spells_program}
 use Rattle.st_spelling.specs.Spelling.{bytes_in}
-use Rattle.st_writer.proofs.IsReadable.{IsName, IsValue, ReadableExpr, ReadableExprs, ReadableOrNone, ReadableLabels, ReadableStmt, ReadableStmts, ReadableArms, ReadableBranches, ReadableOther, ReadableNames, ReadableDecls, ReadableBlocks, Readable}
+use Rattle.st_writer.proofs.IsReadable.{IsName, IsValue, ReadableExpr, ReadableExprs, ReadableOrNone, ReadableLabels, ReadableStmt, ReadableStmts, ReadableArms}
+use Rattle.st_writer.proofs.IsReadable.{ReadableBranches, ReadableOther, ReadableNames, ReadableDecls, ReadableBlocks, Readable}
 use Rattle.st_writer.proofs.OfReading.{Says, EachSays, reading-says}
 
 -- each token is what its bytes are read as
@@ -106,26 +113,30 @@ module _ (bytes : Token → List ℕ) where
     of-stmts (spells_empty ss c ts k sa) h = of-stmts sa h.1
     of-stmts (spells_stmt s ss c ts us sa k sb) h = let p = parted bytes ts _ h in (of-stmt sa p.0, of-stmts sb p.1.1)
 
-    of-arms : {d : ℕ} {k : Key} {arms : ArmTrees} {o : OtherTree} {ts : List Placed} → SpellsArms bytes d k arms o ts → Each bytes ts → ReadableArms arms × ReadableOther o
+    of-arms : {d : ℕ} {k : Key} {arms : ArmTrees} {o : OtherTree} {ts : List Placed} → SpellsArms bytes d k arms o ts → Each bytes ts
+        → ReadableArms arms × ReadableOther o
     of-arms (spells_arm k e body arms o i t ts us vs ki sa kt sb sc) h =
         let p = parted bytes ts _ h.1 in
         let q = parted bytes us _ p.1.1 in
         let r = of-more-arms sc q.1 in
         ((of-expr sa p.0, of-stmts sb q.0, r.0), r.1)
 
-    of-more-arms : {d : ℕ} {arms : ArmTrees} {o : OtherTree} {ts : List Placed} → SpellsMoreArms bytes d arms o ts → Each bytes ts → ReadableArms arms × ReadableOther o
+    of-more-arms : {d : ℕ} {arms : ArmTrees} {o : OtherTree} {ts : List Placed} → SpellsMoreArms bytes d arms o ts → Each bytes ts
+        → ReadableArms arms × ReadableOther o
     of-more-arms (spells_elsif arms o ts sa) h = of-arms sa h
     of-more-arms (spells_if_else body l e ts kl sa ke) h = (tt, of-stmts sa (parted bytes ts _ h.1).0)
     of-more-arms (spells_end_if e k) h = (tt, tt)
 
-    of-branches : {d : ℕ} {branches : BranchTrees} {o : OtherTree} {ts : List Placed} → SpellsBranches bytes d branches o ts → Each bytes ts → ReadableBranches branches × ReadableOther o
+    of-branches : {d : ℕ} {branches : BranchTrees} {o : OtherTree} {ts : List Placed} → SpellsBranches bytes d branches o ts → Each bytes ts
+        → ReadableBranches branches × ReadableOther o
     of-branches (spells_branch ls body rest o ts us vs sa sb sc) h =
         let p = parted bytes ts _ h in
         let q = parted bytes us _ p.1 in
         let r = of-more-branches sc q.1 in
         ((of-labels sa p.0, of-stmts sb q.0, r.0), r.1)
 
-    of-more-branches : {d : ℕ} {branches : BranchTrees} {o : OtherTree} {ts : List Placed} → SpellsMoreBranches bytes d branches o ts → Each bytes ts → ReadableBranches branches × ReadableOther o
+    of-more-branches : {d : ℕ} {branches : BranchTrees} {o : OtherTree} {ts : List Placed} → SpellsMoreBranches bytes d branches o ts → Each bytes ts
+        → ReadableBranches branches × ReadableOther o
     of-more-branches (spells_next_branch rest o ts sa) h = of-branches sa h
     of-more-branches (spells_case_else body l e ts kl sa ke) h = (tt, of-stmts sa (parted bytes ts _ h.1).0)
     of-more-branches (spells_end_case e k) h = (tt, tt)

@@ -5,9 +5,11 @@ use Rattle.st_lexer.specs.declared.token.Key.TheVariants as key
 use Rattle.st_lexer.specs.declared.token.Sym.TheVariants as symbol
 use Rattle.st_tree.specs.declared.expr.UnOp.TheVariants as un
 use Rattle.st_tree.specs.ExprTree.{ExprTree, ExprTrees, literal, name, unary, binary, call, no_exprs, and_expr}
-use Rattle.st_tree.specs.StmtTree.{LabelTree, StmtTree, StmtTrees, ArmTrees, BranchTrees, OtherTree, assign, if_, case, for_, no_stmts, and_stmt, no_arms, and_arm, no_branches, and_branch, no_other, other}
+use Rattle.st_tree.specs.StmtTree.{LabelTree, StmtTree, StmtTrees, ArmTrees, BranchTrees, OtherTree, assign, if_, case, for_, no_stmts, and_stmt, no_arms}
+use Rattle.st_tree.specs.StmtTree.{and_arm, no_branches, and_branch, no_other, other}
 use Rattle.st_tree.specs.ProgramTree.{DeclaredTree, DeclTree, BlockTree, ProgramTree}
-use Rattle.st_tree.specs.Bare.{bare_expr, bare_exprs, bare_expr_or_none, bare_label, bare_stmt, bare_stmts, bare_arms, bare_branches, bare_other, bare_declared, bare_decl, bare_block, bare}
+use Rattle.st_tree.specs.Bare.{bare_expr, bare_exprs, bare_expr_or_none, bare_label, bare_stmt, bare_stmts, bare_arms, bare_branches, bare_other, bare_declared}
+use Rattle.st_tree.specs.Bare.{bare_decl, bare_block, bare}
 use Rattle.st_spelling.specs.Operators.{level, any_level, unary_level}
 use Rattle.st_spelling.specs.Programs.{type_key}
 use Rattle.st_writer.specs.Lexemes as lexeme
@@ -79,7 +81,8 @@ step-bare (Some e) = ap (λ (xs : List Lexeme). lexeme.word key.By ∷ lexeme.bl
 mutual
   stmt-bare : (n : ℕ) (s : StmtTree) → stmt n (bare_stmt s) ≡ stmt n s
   stmt-bare n (assign f e s) =
-      ap (λ (xs : List Lexeme). lexeme.line n (lexeme.name f ∷ lexeme.blank ∷ lexeme.symbol symbol.Assign ∷ lexeme.blank ∷ (xs ++ lexeme.symbol symbol.Semi ∷ []))) (expr-bare any_level e)
+      ap (λ (xs : List Lexeme). lexeme.line n
+      (lexeme.name f ∷ lexeme.blank ∷ lexeme.symbol symbol.Assign ∷ lexeme.blank ∷ (xs ++ lexeme.symbol symbol.Semi ∷ []))) (expr-bare any_level e)
   stmt-bare n (if_ arms o) =
       let first = arms-bare n key.If arms in
       let rest = else-bare n o in
@@ -158,7 +161,8 @@ program-bare : (p : ProgramTree) → program (bare p) ≡ program p
 program-bare p =
     let first = blocks-bare p.blocks in
     let rest = stmts-bare 1 p.body in
-    λ i. lexeme.line 0 (lexeme.word key.Program ∷ lexeme.blank ∷ lexeme.name p.name ∷ []) ++ (first i ++ (rest i ++ lexeme.line 0 (lexeme.word key.EndProgram ∷ [])))
+    λ i. lexeme.line 0
+    (lexeme.word key.Program ∷ lexeme.blank ∷ lexeme.name p.name ∷ []) ++ (first i ++ (rest i ++ lexeme.line 0 (lexeme.word key.EndProgram ∷ [])))
 
 -- so the canonical text of what the canonical text spells is that text
 pub same_text : (p q : ProgramTree) → bare q ≡ bare p → canonical q ≡ canonical p

@@ -42,11 +42,13 @@ labels-are [] = refl
 labels-are (l ∷ ls) = ap (λ (t : List Lexeme). label (label_tree l) ++ t) (more-labels-are ls)
 
 -- what a turn of the loop over the labels writes
-pub written-label : (i : ℕ) (l : Label) (old now new : List ℕ) → now ≡ extended old (separator i) → new ≡ extended now (label (label_tree l)) → new ≡ extended old (label_at i l)
+pub written-label : (i : ℕ) (l : Label) (old now new : List ℕ) → now ≡ extended old (separator i) → new ≡ extended now (label (label_tree l))
+    → new ≡ extended old (label_at i l)
 written-label i l old now new m n = n ∙ ap (λ (t : List ℕ). extended t (label (label_tree l))) m ∙ sym (extended-append old (separator i) _)
 
 -- what the loop over the labels has written at its end
-pub written-labels : (ls : List Label) (i : ℕ) (old now : List ℕ) → length ls ≤ i → now ≡ extended old (all label_at (take i ls)) → now ≡ extended old (labels (label_trees ls))
+pub written-labels : (ls : List Label) (i : ℕ) (old now : List ℕ) → length ls ≤ i → now ≡ extended old (all label_at (take i ls))
+    → now ≡ extended old (labels (label_trees ls))
 written-labels ls i old now h e = ends label_at ls i old now h e ∙ ap (λ (t : List Lexeme). extended old t) (labels-are ls)
 
 -- a statement of a list at level n
@@ -57,7 +59,8 @@ stmts-are : (n : ℕ) (ss : List Stmt) → all (stmt_at n) ss ≡ stmts n (stmt_
 stmts-are n [] = refl
 stmts-are n (s ∷ ss) = ap (λ (t : List Lexeme). stmt n (stmt_tree s) ++ t) (stmts-are n ss)
 
-pub written-stmts : (n : ℕ) (ss : List Stmt) (i : ℕ) (old now : List ℕ) → length ss ≤ i → now ≡ extended old (all (stmt_at n) (take i ss)) → now ≡ extended old (stmts n (stmt_trees ss))
+pub written-stmts : (n : ℕ) (ss : List Stmt) (i : ℕ) (old now : List ℕ) → length ss ≤ i → now ≡ extended old (all (stmt_at n) (take i ss))
+    → now ≡ extended old (stmts n (stmt_trees ss))
 written-stmts n ss i old now h e = ends (stmt_at n) ss i old now h e ∙ ap (λ (t : List Lexeme). extended old t) (stmts-are n ss)
 
 -- a condition of an IF at level n behind a keyword, with its body
@@ -71,13 +74,16 @@ arm_at n i a = arm_of n (arm_key i) a
 
 more-arms-are : (n : ℕ) (arms : List Arm) → all (λ i. arm_at n (suc i)) arms ≡ arms_from n keys.Elsif (arm_trees arms)
 more-arms-are n [] = refl
-more-arms-are n (a ∷ arms) = ap (λ (t : List Lexeme). arm_of n keys.Elsif a ++ t) (more-arms-are n arms) ∙ append_assoc _ (stmts (suc n) (stmt_trees a.body.items.items)) _
+more-arms-are n (a ∷ arms) = ap (λ (t : List Lexeme). arm_of n keys.Elsif a ++ t) (more-arms-are n arms)
+    ∙ append_assoc _ (stmts (suc n) (stmt_trees a.body.items.items)) _
 
 arms-are : (n : ℕ) (arms : List Arm) → all (arm_at n) arms ≡ arms_from n keys.If (arm_trees arms)
 arms-are n [] = refl
-arms-are n (a ∷ arms) = ap (λ (t : List Lexeme). arm_of n keys.If a ++ t) (more-arms-are n arms) ∙ append_assoc _ (stmts (suc n) (stmt_trees a.body.items.items)) _
+arms-are n (a ∷ arms) = ap (λ (t : List Lexeme). arm_of n keys.If a ++ t) (more-arms-are n arms)
+    ∙ append_assoc _ (stmts (suc n) (stmt_trees a.body.items.items)) _
 
-pub written-arms : (n : ℕ) (arms : List Arm) (i : ℕ) (old now : List ℕ) → length arms ≤ i → now ≡ extended old (all (arm_at n) (take i arms)) → now ≡ extended old (arms_from n keys.If (arm_trees arms))
+pub written-arms : (n : ℕ) (arms : List Arm) (i : ℕ) (old now : List ℕ) → length arms ≤ i → now ≡ extended old (all (arm_at n) (take i arms))
+    → now ≡ extended old (arms_from n keys.If (arm_trees arms))
 written-arms n arms i old now h e = ends (arm_at n) arms i old now h e ∙ ap (λ (t : List Lexeme). extended old t) (arms-are n arms)
 
 -- a branch of a CASE at level n
@@ -89,9 +95,11 @@ branch_at n i b =
 branches-are : (n : ℕ) (branches : List Branch) → all (branch_at n) branches ≡ branches_of n (branch_trees branches)
 branches-are n [] = refl
 branches-are n (b ∷ branches) = ap (λ (t : List Lexeme). branch_at n 0 b ++ t) (branches-are n branches)
-    ∙ append_assoc (lexeme.line (suc n) (labels (label_trees b.labels.items.items) ++ lexeme.symbol symbols.Colon ∷ [])) (stmts (suc (suc n)) (stmt_trees b.body.items.items)) (branches_of n (branch_trees branches))
+    ∙ append_assoc (lexeme.line (suc n) (labels (label_trees b.labels.items.items) ++ lexeme.symbol symbols.Colon ∷ []))
+    (stmts (suc (suc n)) (stmt_trees b.body.items.items)) (branches_of n (branch_trees branches))
 
-pub written-branches : (n : ℕ) (branches : List Branch) (i : ℕ) (old now : List ℕ) → length branches ≤ i → now ≡ extended old (all (branch_at n) (take i branches)) → now ≡ extended old (branches_of n (branch_trees branches))
+pub written-branches : (n : ℕ) (branches : List Branch) (i : ℕ) (old now : List ℕ) → length branches ≤ i
+    → now ≡ extended old (all (branch_at n) (take i branches)) → now ≡ extended old (branches_of n (branch_trees branches))
 written-branches n branches i old now h e = ends (branch_at n) branches i old now h e ∙ ap (λ (t : List Lexeme). extended old t) (branches-are n branches)
 
 -- what statements with lists hold, by the law of their nodes
@@ -118,7 +126,8 @@ three old a b new xs ys zs e f g =
     g ∙ ap (λ t. extended t zs) f ∙ ap (λ t. extended (extended t ys) zs) e
     ∙ sym (extended-append old xs (ys ++ zs) ∙ extended-append (extended old xs) ys zs)
 
-four : (old a b c new : List ℕ) (xs ys zs us : List Lexeme) → a ≡ extended old xs → b ≡ extended a ys → c ≡ extended b zs → new ≡ extended c us → new ≡ extended old (xs ++ (ys ++ (zs ++ us)))
+four : (old a b c new : List ℕ) (xs ys zs us : List Lexeme) → a ≡ extended old xs → b ≡ extended a ys → c ≡ extended b zs → new ≡ extended c us
+    → new ≡ extended old (xs ++ (ys ++ (zs ++ us)))
 four old a b c new xs ys zs us e f g h =
     three a b c new ys zs us f g h ∙ ap (λ t. extended t (ys ++ (zs ++ us))) e ∙ sym (extended-append old xs (ys ++ (zs ++ us)))
 
@@ -141,7 +150,8 @@ written-case n s on bs o spot old a b c new d e f g h =
     (branches_of n bs) (else_of n o) (lexeme.line n (lexeme.word keys.EndCase ∷ lexeme.symbol symbols.Semi ∷ [])) e f g h
     ∙ ap (λ t. extended old (stmt n t)) (sym d)
 
-pub written-for : (n m : ℕ) (s : StmtTree) (name : List ℕ) (ns : Spot) (first last : ExprTree) (by : Option ExprTree) (body : StmtTrees) (spot : Spot) (old a b new : List ℕ)
+pub written-for : (n m : ℕ) (s : StmtTree) (name : List ℕ) (ns : Spot) (first last : ExprTree) (by : Option ExprTree) (body : StmtTrees) (spot : Spot)
+    (old a b new : List ℕ)
     → s ≡ for_ name ns first last by body spot → m ≡ suc n
     → a ≡ extended old (lexeme.line n (
     lexeme.word keys.For ∷ lexeme.blank ∷ lexeme.name name ∷ lexeme.blank ∷ lexeme.symbol symbols.Assign ∷ lexeme.blank

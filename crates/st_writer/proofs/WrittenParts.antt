@@ -1,5 +1,6 @@
 -- The tokens that lexemes spell, cut where the lexemes are, and their depths.
-use Rattle.std.proofs.Common.{◌≡◌, ℕ, zero, suc, ◌≤◌, ℤ, pos, negsuc, Bool, true, false, cond, ◌==◌, eqb-true, List, [], ◌∷◌, ◌++◌, Option, Some, None, refl, ap, sym, ◌∙◌, subst, append_assoc, append-nil}
+use Rattle.std.proofs.Common.{◌≡◌, ℕ, zero, suc, ◌≤◌, ℤ, pos, negsuc, Bool, true, false, cond, ◌==◌, eqb-true, List, [], ◌∷◌, ◌++◌, Option, Some, None, refl}
+use Rattle.std.proofs.Common.{ap, sym, ◌∙◌, subst, append_assoc, append-nil}
 use Rattle.std.proofs.lemmas.List.{map-append}
 use Rattle.vcp_base.specs.declared.ty.Ty.{Ty}
 use Rattle.vcp_base.specs.declared.ty.Ty.TheVariants as ty
@@ -44,7 +45,8 @@ module _ (bytes : Token → List ℕ) where
   cut [] ys ts w = record { front = []; back = ts; parts = refl; front_is = refl; back_is = w }
   cut (x ∷ xs) ys ts w = cut_one x.bytes x.tok xs ys ts (λ us v. cut xs ys us v) w
 
-  join_one : (bs : List ℕ) (k : Option Tok) (xs ys : List Lexeme) (ts us : List Token) → ((vs : List Token) → Written bytes xs vs → Written bytes (xs ++ ys) (vs ++ us))
+  join_one : (bs : List ℕ) (k : Option Tok) (xs ys : List Lexeme) (ts us : List Token)
+      → ((vs : List Token) → Written bytes xs vs → Written bytes (xs ++ ys) (vs ++ us))
       → written_one bytes bs k (Written bytes xs) ts → written_one bytes bs k (Written bytes (xs ++ ys)) (ts ++ us)
   join_one bs None xs ys ts us more w = more ts w
   join_one bs (Some k) xs ys ts us more w = (w.0, w.1 ++ us, ap (λ (vs : List Token). vs ++ us) w.2, w.3, w.4, more w.1 w.5)
@@ -60,7 +62,8 @@ module _ (bytes : Token → List ℕ) where
   grouped xs ys zs ts w = subst (λ (ls : List Lexeme). Written bytes ls ts) (sym (append_assoc xs ys zs)) w
 
   -- a body before a list, and what stands behind both
-  pub regrouped_twice : (xs ys zs more : List Lexeme) (ts : List Token) → Written bytes ((xs ++ (ys ++ zs)) ++ more) ts → Written bytes (xs ++ (ys ++ (zs ++ more))) ts
+  pub regrouped_twice : (xs ys zs more : List Lexeme) (ts : List Token) → Written bytes ((xs ++ (ys ++ zs)) ++ more) ts
+      → Written bytes (xs ++ (ys ++ (zs ++ more))) ts
   regrouped_twice xs ys zs more ts w = subst (λ (ls : List Lexeme). Written bytes (xs ++ ls) ts) (append_assoc ys zs more) (regrouped xs (ys ++ zs) more ts w)
 
   pub nothing_behind : (xs : List Lexeme) (ts : List Token) → Written bytes (xs ++ []) ts → Written bytes xs ts
@@ -96,11 +99,13 @@ pub record Literal (v : Value) (ts : List Token) : Type 0 where
   pub is : literal_of token.tok ≡ Some v
 
 module _ (bytes : Token → List ℕ) where
-  literal_by : (k : Tok) (bs : List ℕ) (v : Value) (ts : List Token) → literal_of k ≡ Some v → Written bytes (record { bytes = bs; tok = Some k } ∷ []) ts → Literal v ts
+  literal_by : (k : Tok) (bs : List ℕ) (v : Value) (ts : List Token) → literal_of k ≡ Some v → Written bytes (record { bytes = bs; tok = Some k } ∷ []) ts
+      → Literal v ts
   literal_by k bs v ts e w =
       record { token = w.0; parts = w.2 ∙ ap (λ (us : List Token). w.0 ∷ us) w.5; is = ap literal_of w.3 ∙ e }
 
-  is-number : (n m : ℕ) → (n == m) ≡ true → (k : Tok) → literal_of k ≡ Some (record { ty = Some ty.Bool; value = pos m }) → literal_of k ≡ Some (record { ty = Some ty.Bool; value = pos n })
+  is-number : (n m : ℕ) → (n == m) ≡ true → (k : Tok) → literal_of k ≡ Some (record { ty = Some ty.Bool; value = pos m })
+      → literal_of k ≡ Some (record { ty = Some ty.Bool; value = pos n })
   is-number n m e k h = h ∙ ap (λ (x : ℕ). Some (record { ty = Some ty.Bool; value = pos x })) (sym (eqb-true n m e))
 
   truth_by : (n : ℕ) (zeroth first : Bool) → (n == 0) ≡ zeroth → (n == 1) ≡ first → (ts : List Token)

@@ -11,6 +11,3 @@ mod stmt;
 mod writer;
 
 pub use program::write_program;
-
-#[cfg(test)]
-mod tests;

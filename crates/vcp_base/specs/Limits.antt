@@ -45,6 +45,10 @@ most_turn_nodes = 65536
 abbrev pub most_cycles : ℕ
 most_cycles = 1000000
 
+-- the cycle borders of an audit
+abbrev pub most_horizon : ℕ
+most_horizon = 1000
+
 -- how many seeds there are: they are the numbers below this one
 abbrev pub seeds : ℕ
 seeds = 1073741824

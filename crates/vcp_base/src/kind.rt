@@ -1,7 +1,9 @@
 //! The kinds of elementary operations, and why one stops.
 
 ghost use Rattle.std.specs.Prelude.{◌≡◌, pos, negsuc, ◌≤ℤ◌};
-ghost use Rattle.vcp_base.specs.Kinds.{operands as operands_of, multiplier as multiplier_of};
+ghost use Rattle.vcp_base.specs.Kinds.{operands as operands_of, operand_type as operand_type_of, multiplier as multiplier_of};
+
+use crate::ty::Ty;
 
 /// What an elementary operation does. The variants stand in the order of their codes, from 0.
 #[derive(Clone, Copy, Debug, PartialEq, Eq)]
@@ -66,6 +68,17 @@ pub fn operands(kind: Kind) -> u32
         Kind::Load | Kind::Store | Kind::Out | Kind::Conv | Kind::Neg | Kind::Not => 1,
         Kind::Sel => 3,
         _ => 2,
+    }
+}
+
+/// The type of operand `j`, counted from 0, of an operation on values of type `from`.
+pub fn operand_type(kind: Kind, j: u32, from: Ty) -> Ty
+    ensures { result ≡ operand_type_of kind j from }
+{
+    match kind {
+        Kind::Not | Kind::And | Kind::Or | Kind::Xor => Ty::Bool,
+        Kind::Sel => if j == 0 { Ty::Bool } else { from },
+        _ => from,
     }
 }
 

@@ -9,6 +9,7 @@ mod columns;
 mod kind;
 mod limits;
 mod memory;
+mod outcomes;
 mod row;
 mod spellings;
 mod spot;
@@ -20,12 +21,14 @@ mod words;
 
 pub use code::{Profile, Residue, modulus};
 pub use columns::{Column, Columns};
-pub use kind::{Kind, StopKind, multiplier, operands};
+pub use kind::{Kind, StopKind, multiplier, operand_type, operands};
 pub use limits::{
-    MOST_CELLS, MOST_CYCLES, MOST_DEPTH, MOST_IMAGE_BYTES, MOST_NAMES, MOST_OPERATIONS,
-    MOST_ROWS_BYTES, MOST_SIZE, MOST_SOURCE_BYTES, MOST_STAMP, MOST_STEP, MOST_TURN_NODES, SEEDS,
+    MOST_CELLS, MOST_CYCLES, MOST_DEPTH, MOST_HORIZON, MOST_IMAGE_BYTES, MOST_NAMES,
+    MOST_OPERATIONS, MOST_ROWS_BYTES, MOST_SIZE, MOST_SOURCE_BYTES, MOST_STAMP, MOST_STEP,
+    MOST_TURN_NODES, SEEDS,
 };
 pub use memory::Memory;
+pub use outcomes::outcome;
 pub use row::Row;
 pub use spellings::{kind_code, kind_name, kind_of_code, stop_name, ty_code, ty_name, ty_of_code};
 pub use spot::Spot;
@@ -34,6 +37,3 @@ pub use text::{Text, is_same_name, same_name};
 pub use turns::{Turn, Turns};
 pub use ty::{Ty, fits, greatest, least, within};
 pub use words::Words;
-
-#[cfg(test)]
-mod tests;

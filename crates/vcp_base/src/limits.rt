@@ -30,6 +30,9 @@ pub const MOST_TURN_NODES: u32 = 65536;
 /// The most cycles of a run, which are counted from 0.
 pub const MOST_CYCLES: u32 = 1000000;
 
+/// The most cycle borders of an audit.
+pub const MOST_HORIZON: u32 = 1000;
+
 /// How many seeds there are: they are the numbers below this one.
 pub const SEEDS: u32 = 1073741824;
 

@@ -1,7 +1,8 @@
 //! The codes and the names of kinds, types and stops.
 
 ghost use Rattle.std.specs.Prelude.{◌≡◌, ◌<◌, slice_get, Some, IfSome, IfNone};
-ghost use Rattle.vcp_base.specs.Spellings.{kinds, kind_code as kind_code_of, kind_name as kind_name_of, types, ty_code as ty_code_of, ty_name as ty_name_of, stop_name as stop_name_of};
+ghost use Rattle.vcp_base.specs.Spellings.{kinds, kind_code as kind_code_of, kind_name as kind_name_of, types, ty_code as ty_code_of, ty_name as ty_name_of};
+ghost use Rattle.vcp_base.specs.Spellings.{stop_name as stop_name_of};
 
 use crate::kind::{Kind, StopKind};
 use crate::ty::Ty;

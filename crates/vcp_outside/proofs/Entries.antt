@@ -18,6 +18,7 @@ hit entries i entry name h is named =
     rw (find-reverse-take (λ e. bytes_eq e.name name) entries i entry h is, named) (slice_get_read entries (length entries) i entry refl h is)
 
 -- an entry with another name leaves the last one as it was
-pub miss : (entries : List Entry) (i : ℕ) (entry : Entry) (name : List ℕ) → i < length entries → entry ≡ get_or entries i entry → bytes_eq entry.name name ≡ false
+pub miss : (entries : List Entry) (i : ℕ) (entry : Entry) (name : List ℕ) → i < length entries → entry ≡ get_or entries i entry
+    → bytes_eq entry.name name ≡ false
     → last_named (take (i + 1) entries) name ≡ last_named (take i entries) name
 miss entries i entry name h is named = rw (find-reverse-take (λ e. bytes_eq e.name name) entries i entry h is, named) refl

@@ -15,7 +15,8 @@ takes_front least most held name (Some bytes) (Some left) front is some reads lo
 
 -- the same after one more piece, where it is told what is held
 pub takes_more : (least most : ℕ) (held : Option Held) (name : List ℕ) (mid rest : Option (List ℕ)) (front piece : List ℕ)
-    → IfSome held (λ h. IsSome (h name) × Consumes (h name) mid front) → Consumes mid rest piece → least ≤ length (front ++ piece) → length (front ++ piece) ≤ most
+    → IfSome held (λ h. IsSome (h name) × Consumes (h name) mid front) → Consumes mid rest piece → least ≤ length (front ++ piece)
+    → length (front ++ piece) ≤ most
     → IfSome held (λ h. TakesBetween least most h name rest)
 takes_more least most None name mid rest front piece reads more low high = tt
 takes_more least most (Some held) name mid rest front piece reads more low high =

@@ -24,6 +24,3 @@ pub use mem_sink::MemSink;
 pub use reading::{ReadAll, read_all, read_all_counting};
 pub use sink::Sink;
 pub use writing::write_all;
-
-#[cfg(test)]
-mod tests;

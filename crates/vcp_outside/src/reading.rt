@@ -85,7 +85,8 @@ pub fn read_all_counting<F: Files, L: Ledger>(
     ensures ended { OnOk result (IsAtEnd (F.rest files.new)) }
     ensures taken { IfSome (F.held files.old) (λ h. Takes h name.now limit (F.rest files.new) result) }
     ensures counted { reads.new ≤ reads.old + limit + 1 }
-    ensures failed_taken { IsErrOf result ReadAll.Failed → IfSome (F.held files.old) (λ h. TakesBetween 0 limit h name.now (F.rest files.new) ⊎ (IsAtEnd (F.rest files.new) × (reads.new ≡ reads.old))) }
+    ensures failed_taken { IsErrOf result ReadAll.Failed
+        → IfSome (F.held files.old) (λ h. TakesBetween 0 limit h name.now (F.rest files.new) ⊎ (IsAtEnd (F.rest files.new) × (reads.new ≡ reads.old))) }
 
     // What stays.
     ensures held { F.held files.new ≡ F.held files.old }

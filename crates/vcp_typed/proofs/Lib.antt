@@ -5,5 +5,4 @@ pub mod Wides
 pub mod Keeps
 pub mod Stops
 pub mod Worked
-pub mod Addition
 pub mod NamedTurns

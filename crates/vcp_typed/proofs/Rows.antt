@@ -9,13 +9,17 @@ use Rattle.vcp_typed.specs.declared.expr.TExpr.TheBlock.{hidden-the_row-TExpr-0}
 use Rattle.vcp_typed.specs.declared.stmt.TArms.{TArms, out-TArms}
 use Rattle.vcp_typed.specs.declared.stmt.TBranches.{TBranches, out-TBranches}
 use Rattle.vcp_typed.specs.declared.stmt.TStmts.{TStmts}
-use Rattle.vcp_typed.specs.declared.stmt.TStmt.{TStmt, Row_of-TStmt, end_of-TStmt, more_of-TStmt, items-the_row-TStmt, items_hidden-the_row-TStmt-0, items_shown-the_row-TStmt-0, back-TStmt-If-1, If, Case, For}
-use Rattle.vcp_typed.specs.declared.stmt.TStmt.TheBlock.{Row_of-TArm, end_of-TArm, more_of-TArm, items-the_row-TArm, Row_of-TBranch, end_of-TBranch, more_of-TBranch, items-the_row-TBranch, hidden-the_row-TStmt-0, struct-TArms, struct-TBranches, items_shown-the_row-TArm-1, items_shown-the_row-TBranch-2}
+use Rattle.vcp_typed.specs.declared.stmt.TStmt.{TStmt, Row_of-TStmt, end_of-TStmt, more_of-TStmt, items-the_row-TStmt, items_hidden-the_row-TStmt-0}
+use Rattle.vcp_typed.specs.declared.stmt.TStmt.{items_shown-the_row-TStmt-0, back-TStmt-If-1, If, Case, For}
+use Rattle.vcp_typed.specs.declared.stmt.TStmt.TheBlock.{Row_of-TArm, end_of-TArm, more_of-TArm, items-the_row-TArm, Row_of-TBranch, end_of-TBranch}
+use Rattle.vcp_typed.specs.declared.stmt.TStmt.TheBlock.{more_of-TBranch, items-the_row-TBranch, hidden-the_row-TStmt-0, struct-TArms, struct-TBranches}
+use Rattle.vcp_typed.specs.declared.stmt.TStmt.TheBlock.{items_shown-the_row-TArm-1, items_shown-the_row-TBranch-2}
 use Rattle.vcp_typed.specs.TExprTree.{TExprTrees, call, and_texpr}
 use Rattle.vcp_typed.specs.TExprViews.{texpr_tree, texpr_trees, row_of_texprs}
 use Rattle.vcp_typed.specs.Items.{tarm_items, tbranch_items}
 use Rattle.vcp_typed.specs.TStmtTree.{TStmtTrees, if_, case, for_, and_tstmt, and_tarm, and_tbranch, tother}
-use Rattle.vcp_typed.specs.TStmtViews.{tstmt_tree, tstmt_trees, tarm_trees, tbranch_trees, tother_tree, row_of_tstmts, row_of_tarms, row_of_tbranches, tarms_of, tbranches_of, tother_of}
+use Rattle.vcp_typed.specs.TStmtViews.{tstmt_tree, tstmt_trees, tarm_trees, tbranch_trees, tother_tree, row_of_tstmts, row_of_tarms, row_of_tbranches, tarms_of}
+use Rattle.vcp_typed.specs.TStmtViews.{tbranches_of, tother_of}
 
 row-exprs : (n : _) (k : Row_of-TExpr n) → row_of_texprs k ≡ texpr_trees (items-the_row-TExpr n k)
 row-exprs _ end_of-TExpr = refl

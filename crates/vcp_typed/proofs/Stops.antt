@@ -18,8 +18,10 @@ use Rattle.vcp_typed.specs.declared.expr.Fun.{Fun}
 use Rattle.vcp_typed.specs.declared.expr.Fun.TheVariants as fun
 use Rattle.vcp_typed.specs.declared.slot.Slot.{Slot}
 use Rattle.vcp_typed.specs.TExprTree.{TExprTree, TExprTrees, literal, get, widen, unary, binary, call, no_texprs, and_texpr}
-use Rattle.vcp_typed.specs.TStmtTree.{TStmtTree, TStmtTrees, TArmTrees, TBranchTrees, TOtherTree, assign, if_, case, for_, no_tstmts, and_tstmt, no_tarms, and_tarm, no_tbranches, and_tbranch, no_tother, tother}
-use Rattle.vcp_typed.specs.Meaning.{Stop, and_then, in_range, unless_zero, operate, sign, apply, value, values, is_labelled, turns_from, all_turns, do_stmt, do_stmts, do_arms, do_branches, do_other}
+use Rattle.vcp_typed.specs.TStmtTree.{TStmtTree, TStmtTrees, TArmTrees, TBranchTrees, TOtherTree, assign, if_, case, for_, no_tstmts, and_tstmt, no_tarms}
+use Rattle.vcp_typed.specs.TStmtTree.{and_tarm, no_tbranches, and_tbranch, no_tother, tother}
+use Rattle.vcp_typed.specs.Meaning.{Stop, and_then, in_range, unless_zero, operate, sign, apply, value, values, is_labelled, turns_from, all_turns, do_stmt}
+use Rattle.vcp_typed.specs.Meaning.{do_stmts, do_arms, do_branches, do_other}
 use Rattle.vcp_typed.specs.SourceRun.{Program, Run, after_cycle, cycle, run_from}
 
 -- the stop has one of the two causes
@@ -122,7 +124,8 @@ mutual
       then-stops (value turns e m) _ (value-stops e turns m)
       (λ v. either-stops (same v (pos 0)) _ _ (arms-stop arms turns otherwise h m) (stmts-stop body turns m))
 
-  branches-stop : (v : ℤ) (branches : TBranchTrees) (turns : List Turn) (otherwise : List ℤ → Result (List ℤ) Stop) → ((x : List ℤ) → Stops (otherwise x)) → (m : List ℤ)
+  branches-stop : (v : ℤ) (branches : TBranchTrees) (turns : List Turn) (otherwise : List ℤ → Result (List ℤ) Stop) → ((x : List ℤ) → Stops (otherwise x))
+      → (m : List ℤ)
       → Stops (do_branches turns v branches otherwise m)
   branches-stop v no_tbranches turns otherwise h m = h m
   branches-stop v (and_tbranch ls body branches) turns otherwise h m =

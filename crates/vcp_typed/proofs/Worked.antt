@@ -1,5 +1,6 @@
 -- Worked rows: meaning, runs and Size of small programs.
-use Rattle.std.proofs.Common.{◌≡◌, ℕ, suc, ◌+◌, ◌*◌, ℤ, pos, negsuc, List, [], ◌∷◌, map, Result, Ok, Err, Option, Some, None, true, false, refl, sym, subst, arith}
+use Rattle.std.proofs.Common.{◌≡◌, ℕ, suc, ◌+◌, ◌*◌, ℤ, pos, negsuc, List, [], ◌∷◌, map, Result, Ok, Err, Option, Some, None, true, false, refl, sym, subst}
+use Rattle.std.proofs.Common.{arith}
 use Rattle.vcp_base.specs.declared.spot.Spot.{Spot}
 use Rattle.vcp_base.specs.declared.ty.Ty.{Ty}
 use Rattle.vcp_base.specs.declared.ty.Ty.TheVariants as ty
@@ -14,7 +15,8 @@ use Rattle.vcp_typed.specs.declared.expr.Fun.TheVariants as fun
 use Rattle.vcp_typed.specs.declared.slot.Slot.{Slot}
 use Rattle.vcp_typed.specs.declared.stmt.TLabel.{TLabel}
 use Rattle.vcp_typed.specs.TExprTree.{TExprTree, literal, get, widen, unary, binary, call, no_texprs, and_texpr}
-use Rattle.vcp_typed.specs.TStmtTree.{TStmtTree, TStmtTrees, assign, if_, case, for_, no_tstmts, and_tstmt, no_tarms, and_tarm, no_tbranches, and_tbranch, no_tother, tother}
+use Rattle.vcp_typed.specs.TStmtTree.{TStmtTree, TStmtTrees, assign, if_, case, for_, no_tstmts, and_tstmt, no_tarms, and_tarm, no_tbranches, and_tbranch}
+use Rattle.vcp_typed.specs.TStmtTree.{no_tother, tother}
 use Rattle.vcp_typed.specs.Meaning.{Stop, value, do_stmt}
 use Rattle.vcp_typed.specs.Rules.{common, result, signed, arguments}
 use Rattle.vcp_typed.specs.SourceRun.{Program, source_run}
@@ -59,7 +61,8 @@ abbrev logic : List BinOp
 logic = bin.And ∷ bin.Xor ∷ bin.Or ∷ []
 
 abbrev functions : List Fun
-functions = fun.Abs ∷ fun.Min ∷ fun.Max ∷ fun.Limit ∷ fun.Sel ∷ fun.IntToDint ∷ fun.IntToLint ∷ fun.DintToInt ∷ fun.DintToLint ∷ fun.LintToInt ∷ fun.LintToDint ∷ fun.BoolToInt ∷ []
+functions = fun.Abs ∷ fun.Min ∷ fun.Max ∷ fun.Limit ∷ fun.Sel ∷ fun.IntToDint ∷ fun.IntToLint ∷ fun.DintToInt ∷ fun.DintToLint ∷ fun.LintToInt ∷ fun.LintToDint
+    ∷ fun.BoolToInt ∷ []
 
 abbrev classes : List Class
 classes = class.Input ∷ class.Output ∷ class.Local ∷ class.Retain ∷ class.Constant ∷ []
@@ -114,7 +117,8 @@ equality-results = refl
 logic-results : map (λ op. result op ty.Bool) logic ≡ map (λ op. ty.Bool) logic
 logic-results = refl
 
-sign-types : map (λ op. map (signed op) types) (un.Neg ∷ un.Not ∷ []) ≡ (None ∷ Some ty.Int ∷ Some ty.Dint ∷ Some ty.Lint ∷ []) ∷ (Some ty.Bool ∷ None ∷ None ∷ None ∷ []) ∷ []
+sign-types : map (λ op. map (signed op) types) (un.Neg ∷ un.Not ∷ [])
+    ≡ (None ∷ Some ty.Int ∷ Some ty.Dint ∷ Some ty.Lint ∷ []) ∷ (Some ty.Bool ∷ None ∷ None ∷ None ∷ []) ∷ []
 sign-types = refl
 
 -- the arguments of each function whose value is an INT
@@ -134,13 +138,16 @@ int-arguments : map (λ f. arguments f ty.Int) functions
 int-arguments = refl
 
 -- of those that can have a BOOL, a DINT or a LINT
-bool-arguments : map (λ f. arguments f ty.Bool) functions ≡ None ∷ None ∷ None ∷ None ∷ Some (ty.Bool ∷ ty.Bool ∷ ty.Bool ∷ []) ∷ None ∷ None ∷ None ∷ None ∷ None ∷ None ∷ None ∷ []
+bool-arguments : map (λ f. arguments f ty.Bool) functions
+    ≡ None ∷ None ∷ None ∷ None ∷ Some (ty.Bool ∷ ty.Bool ∷ ty.Bool ∷ []) ∷ None ∷ None ∷ None ∷ None ∷ None ∷ None ∷ None ∷ []
 bool-arguments = refl
 
-dint-arguments : map (λ f. arguments f ty.Dint) (fun.IntToDint ∷ fun.DintToInt ∷ fun.BoolToInt ∷ fun.Sel ∷ []) ≡ Some (ty.Int ∷ []) ∷ None ∷ None ∷ Some (ty.Bool ∷ ty.Dint ∷ ty.Dint ∷ []) ∷ []
+dint-arguments : map (λ f. arguments f ty.Dint) (fun.IntToDint ∷ fun.DintToInt ∷ fun.BoolToInt ∷ fun.Sel ∷ [])
+    ≡ Some (ty.Int ∷ []) ∷ None ∷ None ∷ Some (ty.Bool ∷ ty.Dint ∷ ty.Dint ∷ []) ∷ []
 dint-arguments = refl
 
-lint-arguments : map (λ f. arguments f ty.Lint) (fun.IntToLint ∷ fun.DintToLint ∷ fun.LintToDint ∷ fun.Sel ∷ []) ≡ Some (ty.Int ∷ []) ∷ Some (ty.Dint ∷ []) ∷ None ∷ Some (ty.Bool ∷ ty.Lint ∷ ty.Lint ∷ []) ∷ []
+lint-arguments : map (λ f. arguments f ty.Lint) (fun.IntToLint ∷ fun.DintToLint ∷ fun.LintToDint ∷ fun.Sel ∷ [])
+    ≡ Some (ty.Int ∷ []) ∷ Some (ty.Dint ∷ []) ∷ None ∷ Some (ty.Bool ∷ ty.Lint ∷ ty.Lint ∷ []) ∷ []
 lint-arguments = refl
 
 may-be-set : map is_set classes ≡ false ∷ true ∷ true ∷ true ∷ false ∷ []
@@ -238,12 +245,14 @@ not-less : of_two bin.Ge (negsuc 6) (pos 2) ≡ Ok (pos 0)
 not-less = refl
 
 -- both operands are evaluated, from the left: (1 / 0) + (32767 + 1) stops at the division
-from-left : value [] (binary bin.Add ty.Int (binary bin.Div ty.Int (int (pos 1)) (int (pos 0)) (at 3)) (binary bin.Add ty.Int (int (pos 32767)) (int (pos 1)) (at 7)) (at 5)) []
+from-left : value []
+    (binary bin.Add ty.Int (binary bin.Div ty.Int (int (pos 1)) (int (pos 0)) (at 3)) (binary bin.Add ty.Int (int (pos 32767)) (int (pos 1)) (at 7)) (at 5)) []
     ≡ Err (record { kind = why.DivZero; spot = at 3; turns = [] })
 from-left = refl
 
 -- FALSE AND (1 / 0 = 1) stops
-all-operands : value [] (binary bin.And ty.Bool (bool (pos 0)) (binary bin.Eq ty.Int (binary bin.Div ty.Int (int (pos 1)) (int (pos 0)) (at 9)) (int (pos 1)) (at 13)) (at 5)) []
+all-operands : value []
+    (binary bin.And ty.Bool (bool (pos 0)) (binary bin.Eq ty.Int (binary bin.Div ty.Int (int (pos 1)) (int (pos 0)) (at 9)) (int (pos 1)) (at 13)) (at 5)) []
     ≡ Err (record { kind = why.DivZero; spot = at 9; turns = [] })
 all-operands = refl
 
@@ -273,7 +282,8 @@ limited-crossed = refl
 abbrev of_both : Fun → ℤ → ℤ → Result ℤ Stop
 of_both f a b = value [] (call f ty.Int (and_texpr (int a) (and_texpr (int b) no_texprs)) (at 5)) []
 
-extremes : of_both fun.Min (pos 7) (pos 2) ∷ of_both fun.Min (pos 2) (pos 7) ∷ of_both fun.Max (pos 7) (pos 2) ∷ of_both fun.Max (pos 2) (pos 7) ∷ [] ≡ four 2 2 7 7
+extremes : of_both fun.Min (pos 7) (pos 2) ∷ of_both fun.Min (pos 2) (pos 7) ∷ of_both fun.Max (pos 7) (pos 2) ∷ of_both fun.Max (pos 2) (pos 7) ∷ []
+    ≡ four 2 2 7 7
 extremes = refl
 
 -- ABS(-7), INT_TO_DINT(-7), DINT_TO_INT(-32768), BOOL_TO_INT(TRUE)
@@ -289,16 +299,19 @@ conversions = refl
 absolute : value [] (call fun.Abs ty.Int (and_texpr (int (negsuc 32767)) no_texprs) (at 5)) [] ≡ Err (record { kind = why.Range; spot = at 5; turns = [] })
 absolute = refl
 
-narrowed : value [] (call fun.DintToInt ty.Int (and_texpr (literal ty.Dint (pos 32768) (at 1)) no_texprs) (at 5)) [] ≡ Err (record { kind = why.Range; spot = at 5; turns = [] })
+narrowed : value [] (call fun.DintToInt ty.Int (and_texpr (literal ty.Dint (pos 32768) (at 1)) no_texprs) (at 5)) []
+    ≡ Err (record { kind = why.Range; spot = at 5; turns = [] })
 narrowed = refl
 
-narrowed_lint : value [] (call fun.LintToDint ty.Dint (and_texpr (literal ty.Lint (pos 2147483648) (at 1)) no_texprs) (at 5)) [] ≡ Err (record { kind = why.Range; spot = at 5; turns = [] })
+narrowed_lint : value [] (call fun.LintToDint ty.Dint (and_texpr (literal ty.Lint (pos 2147483648) (at 1)) no_texprs) (at 5)) []
+    ≡ Err (record { kind = why.Range; spot = at 5; turns = [] })
 narrowed_lint = refl
 
 -- ---- statements; slot 0 is i, and slot 1 is y
 
 -- FOR i := 1 TO 6 BY 2 DO y := y + i; END_FOR: 1, 3 and 5, which i has at the end
-loop : do_stmt [] (for_ 0 (pos 1) (pos 2) 3 (and_tstmt (assign 1 (binary bin.Add ty.Int (get 1 ty.Int) (get 0 ty.Int) (at 9)) (at 8)) no_tstmts) (at 2)) (pos 4 ∷ pos 0 ∷ [])
+loop : do_stmt [] (for_ 0 (pos 1) (pos 2) 3 (and_tstmt (assign 1 (binary bin.Add ty.Int (get 1 ty.Int) (get 0 ty.Int) (at 9)) (at 8)) no_tstmts) (at 2)) (pos 4
+    ∷ pos 0 ∷ [])
     ≡ Ok (pos 5 ∷ pos 9 ∷ [])
 loop = refl
 
@@ -428,7 +441,8 @@ exchange = record {
   body = and_tstmt (assign 1 (get 2 ty.Dint) (at 4)) (and_tstmt (assign 3 (get 0 ty.Dint) (at 9)) no_tstmts);
 }
 
-exchange-run : source_run exchange ((pos 1 ∷ pos 2 ∷ []) ∷ (pos 3 ∷ pos 4 ∷ []) ∷ []) ≡ record { rows = (pos 2 ∷ pos 1 ∷ []) ∷ (pos 4 ∷ pos 3 ∷ []) ∷ []; end = None }
+exchange-run : source_run exchange ((pos 1 ∷ pos 2 ∷ []) ∷ (pos 3 ∷ pos 4 ∷ []) ∷ [])
+    ≡ record { rows = (pos 2 ∷ pos 1 ∷ []) ∷ (pos 4 ∷ pos 3 ∷ []) ∷ []; end = None }
 exchange-run = refl
 
 -- VAR_OUTPUT q : DINT := 9; VAR n : DINT := 2; q := q + n; the first cycle begins with the initial values

@@ -9,7 +9,8 @@ use Rattle.vcp_typed.specs.declared.expr.Fun.{Fun}
 use Rattle.vcp_typed.specs.declared.expr.Fun.TheVariants as fun
 use Rattle.vcp_typed.specs.declared.stmt.TLabel.{TLabel}
 use Rattle.vcp_typed.specs.TExprTree.{TExprTree, TExprTrees, literal, get, widen, unary, binary, call, no_texprs, and_texpr}
-use Rattle.vcp_typed.specs.TStmtTree.{TStmtTree, TStmtTrees, TArmTrees, TBranchTrees, TOtherTree, assign, if_, case, for_, no_tstmts, and_tstmt, no_tarms, and_tarm, no_tbranches, and_tbranch, no_tother, tother}
+use Rattle.vcp_typed.specs.TStmtTree.{TStmtTree, TStmtTrees, TArmTrees, TBranchTrees, TOtherTree, assign, if_, case, for_, no_tstmts, and_tstmt, no_tarms}
+use Rattle.vcp_typed.specs.TStmtTree.{and_tarm, no_tbranches, and_tbranch, no_tother, tother}
 use Rattle.vcp_typed.specs.SourceRun.{Program}
 
 abbrev pub operator_size : BinOp → ℕ

@@ -8,11 +8,13 @@ use Rattle.vcp_typed.specs.declared.stmt.TBranch.{TBranch}
 use Rattle.vcp_typed.specs.declared.stmt.TBranches.{TBranches}
 use Rattle.vcp_typed.specs.declared.stmt.TStmts.{TStmts}
 use Rattle.vcp_typed.specs.declared.stmt.TStmt.{TStmt, Row_of-TStmt, end_of-TStmt, more_of-TStmt, Held-TStmt-If-1, None', Some'}
-use Rattle.vcp_typed.specs.declared.stmt.TStmt.TheBlock.{struct-TArms, struct-TBranches, Row_of-TArm, end_of-TArm, more_of-TArm, Row_of-TBranch, end_of-TBranch, more_of-TBranch}
+use Rattle.vcp_typed.specs.declared.stmt.TStmt.TheBlock.{struct-TArms, struct-TBranches, Row_of-TArm, end_of-TArm, more_of-TArm, Row_of-TBranch, end_of-TBranch}
+use Rattle.vcp_typed.specs.declared.stmt.TStmt.TheBlock.{more_of-TBranch}
 use Rattle.vcp_typed.specs.declared.stmt.TStmt.TheVariants.{Assign, If', Case', For'}
 use Rattle.vcp_typed.specs.TExprTree.{TExprTree}
 use Rattle.vcp_typed.specs.TExprViews.{texpr_tree}
-use Rattle.vcp_typed.specs.TStmtTree.{TStmtTree, TStmtTrees, TArmTrees, TBranchTrees, TOtherTree, assign, if_, case, for_, no_tstmts, and_tstmt, no_tarms, and_tarm, no_tbranches, and_tbranch, no_tother, tother}
+use Rattle.vcp_typed.specs.TStmtTree.{TStmtTree, TStmtTrees, TArmTrees, TBranchTrees, TOtherTree, assign, if_, case, for_, no_tstmts, and_tstmt, no_tarms}
+use Rattle.vcp_typed.specs.TStmtTree.{and_tarm, no_tbranches, and_tbranch, no_tother, tother}
 
 -- what a statement of the program holds
 abbrev mutual

@@ -1,7 +1,8 @@
 //! Checked expressions.
 
 ghost use Rattle.std.specs.Prelude.{◌≡◌, ◌<◌, ◌+◌, [], ◌∷◌, ◌++◌, Some, IfOk, OnOk, OnErr, drop, length, slice_get};
-ghost use Rattle.vcp_typed.specs.TExprTree.{literal as literal_tree, get as get_tree, widen as widen_tree, unary as unary_tree, binary as binary_tree, call as call_tree, no_texprs, and_texpr};
+ghost use Rattle.vcp_typed.specs.TExprTree.{literal as literal_tree, get as get_tree, widen as widen_tree, unary as unary_tree, binary as binary_tree};
+ghost use Rattle.vcp_typed.specs.TExprTree.{call as call_tree, no_texprs, and_texpr};
 ghost use Rattle.vcp_typed.specs.TExprViews.{texpr_tree, texpr_trees, texprs_and};
 
 use st_tree::{BinOp, UnOp};

@@ -31,27 +31,34 @@ ghost use Rattle.vcp_typed.specs.TStmtViews.{tstmt_tree, tstmt_trees, tarm_trees
 pub fn trees_of_nodes()
     ensures call { (fun : Fun) (t : Ty) (args : TExprs) (spot : Spot) → texpr_tree (Call fun t args spot) ≡ call fun t (texpr_trees args.items.items) spot }
     ensures if_ { (arms : TArms) (other : Option TStmts) → tstmt_tree (If arms other) ≡ if_ (tarm_trees (tarm_items arms)) (tother_tree other) }
-    ensures case { (on : TExpr) (branches : TBranches) (other : Option TStmts) (spot : Spot) → tstmt_tree (Case on branches other spot) ≡ case (texpr_tree on) (tbranch_trees (tbranch_items branches)) (tother_tree other) spot }
-    ensures for_ { (slot : ℕ) (first by : ℤ) (turns : ℕ) (body : TStmts) (spot : Spot) → tstmt_tree (For slot first by turns body spot) ≡ for_ slot first by turns (tstmt_trees body.items.items) spot }
+    ensures case { (on : TExpr) (branches : TBranches) (other : Option TStmts) (spot : Spot)
+        → tstmt_tree (Case on branches other spot) ≡ case (texpr_tree on) (tbranch_trees (tbranch_items branches)) (tother_tree other) spot }
+    ensures for_ { (slot : ℕ) (first by : ℤ) (turns : ℕ) (body : TStmts) (spot : Spot)
+        → tstmt_tree (For slot first by turns body spot) ≡ for_ slot first by turns (tstmt_trees body.items.items) spot }
 {}
 
 /// The trees of a list with one item more are the trees of the list with one tree more.
 pub fn trees_of_appended()
     ensures exprs { (es : List TExpr) (e : TExpr) → texpr_trees (es ++ e ∷ []) ≡ texprs_and (texpr_trees es) (texpr_tree e) }
     ensures stmts { (ss : List TStmt) (s : TStmt) → tstmt_trees (ss ++ s ∷ []) ≡ tstmts_and (tstmt_trees ss) (tstmt_tree s) }
-    ensures arms { (arms : List TArm) (a : TArm) → tarm_trees (arms ++ a ∷ []) ≡ tarms_and (tarm_trees arms) (texpr_tree a.cond) (tstmt_trees a.body.items.items) a.spot }
-    ensures branches { (branches : List TBranch) (b : TBranch) → tbranch_trees (branches ++ b ∷ []) ≡ tbranches_and (tbranch_trees branches) b.labels.items.items (tstmt_trees b.body.items.items) }
+    ensures arms { (arms : List TArm) (a : TArm)
+        → tarm_trees (arms ++ a ∷ []) ≡ tarms_and (tarm_trees arms) (texpr_tree a.cond) (tstmt_trees a.body.items.items) a.spot }
+    ensures branches { (branches : List TBranch) (b : TBranch)
+        → tbranch_trees (branches ++ b ∷ []) ≡ tbranches_and (tbranch_trees branches) b.labels.items.items (tstmt_trees b.body.items.items) }
 {}
 
 /// In a checked program every value is in its type: of expressions, of slots after statements, and of the rows of outputs.
 pub fn values_fit()
-    ensures value { (slots : List Slot) (e : TExprTree) (turns : List Turn) (m : List ℤ) → IsExpr slots e → AreFit slots m → IfOk (value turns e m) (λ v. fits (ty_of e) v ≡ true) }
-    ensures body { (slots : List Slot) (held : List ℕ) (ss : TStmtTrees) (turns : List Turn) (m : List ℤ) → AreStmts slots held ss → AreFit slots m → IfOk (do_stmts turns ss m) (AreFit slots) }
+    ensures value { (slots : List Slot) (e : TExprTree) (turns : List Turn) (m : List ℤ) → IsExpr slots e → AreFit slots m
+        → IfOk (value turns e m) (λ v. fits (ty_of e) v ≡ true) }
+    ensures body { (slots : List Slot) (held : List ℕ) (ss : TStmtTrees) (turns : List Turn) (m : List ℤ) → AreStmts slots held ss → AreFit slots m
+        → IfOk (do_stmts turns ss m) (AreFit slots) }
     ensures initial { (p : Program) → IsChecked p → AreFit p.slots (initial p.slots) }
     ensures inputs { (slots : List Slot) (row m : List ℤ) → AreIn (input_types slots) row → AreFit slots m → AreFit slots (with_inputs slots row m) }
     ensures cycle { (p : Program) (row m : List ℤ) → IsChecked p → AreIn (input_types p.slots) row → AreFit p.slots m → IfOk (cycle p m row) (AreFit p.slots) }
     ensures outputs { (slots : List Slot) (m : List ℤ) → AreFit slots m → AreIn (output_types slots) (outputs slots m) }
-    ensures run { (p : Program) (rows : List (List ℤ)) → IsChecked p → AreRows (input_types p.slots) rows → AreRows (output_types p.slots) (source_run p rows).rows }
+    ensures run { (p : Program) (rows : List (List ℤ)) → IsChecked p → AreRows (input_types p.slots) rows
+        → AreRows (output_types p.slots) (source_run p rows).rows }
 {}
 
 /// A source stops for a division by zero or for a value outside its type, never for an operand.
@@ -63,7 +70,8 @@ pub fn causes_of_stops()
 
 /// Every turn of a stop of a checked program names one of its slots.
 pub fn turns_name_slots()
-    ensures body { (slots : List Slot) (held : List ℕ) (ss : TStmtTrees) (turns : List Turn) (m : List ℤ) → AreStmts slots held ss → NameSlots slots turns → IfErr (do_stmts turns ss m) (λ s. NameSlots slots s.turns) }
+    ensures body { (slots : List Slot) (held : List ℕ) (ss : TStmtTrees) (turns : List Turn) (m : List ℤ) → AreStmts slots held ss → NameSlots slots turns
+        → IfErr (do_stmts turns ss m) (λ s. NameSlots slots s.turns) }
     ensures cycle { (p : Program) (m row : List ℤ) → IsChecked p → IfErr (cycle p m row) (λ s. NameSlots p.slots s.turns) }
     ensures run { (p : Program) (rows : List (List ℤ)) → IsChecked p → IfSome (source_run p rows).end (λ s. NameSlots p.slots s.turns) }
 {}

@@ -18,6 +18,3 @@ pub use size::size_of;
 pub use slot::{Slot, Slots};
 pub use stmt::{TArm, TArms, TBranch, TBranches, TLabel, TLabels, TStmt, TStmts};
 pub use typed::Typed;
-
-#[cfg(test)]
-mod tests;

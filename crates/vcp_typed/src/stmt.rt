@@ -3,7 +3,8 @@
 ghost use Rattle.std.specs.Prelude.{◌≡◌, ◌<◌, ◌+◌, [], ◌∷◌, ◌++◌, Some, OnOk, OnErr, drop, length, slice_get};
 ghost use Rattle.vcp_typed.specs.TExprViews.{texpr_tree};
 ghost use Rattle.vcp_typed.specs.Items.{tarm_items, tbranch_items};
-ghost use Rattle.vcp_typed.specs.TStmtTree.{assign as assign_tree, if_ as if_tree, case as case_tree, for_ as for_tree, no_tstmts, and_tstmt, no_tarms, and_tarm, no_tbranches, and_tbranch};
+ghost use Rattle.vcp_typed.specs.TStmtTree.{assign as assign_tree, if_ as if_tree, case as case_tree, for_ as for_tree, no_tstmts, and_tstmt, no_tarms};
+ghost use Rattle.vcp_typed.specs.TStmtTree.{and_tarm, no_tbranches, and_tbranch};
 ghost use Rattle.vcp_typed.specs.TStmtViews.{tstmt_tree, tstmt_trees, tarm_trees, tbranch_trees, tother_tree, tstmts_and, tarms_and, tbranches_and};
 
 use crate::expr::TExpr;
@@ -208,7 +209,8 @@ impl TArms {
         requires { i < length (tarm_items self.now) }
         ensures item { slice_get (tarm_items self.now) i ≡ Some result.now }
         ensures tree { tarm_trees (drop i (tarm_items self.now))
-            ≡ and_tarm (texpr_tree result.now.cond) (tstmt_trees result.now.body.items.items) result.now.spot (tarm_trees (drop (i + 1) (tarm_items self.now))) }
+            ≡ and_tarm (texpr_tree result.now.cond) (tstmt_trees result.now.body.items.items) result.now.spot
+            (tarm_trees (drop (i + 1) (tarm_items self.now))) }
     {
         &self.items[i]
     }

@@ -2,7 +2,8 @@
 
 ghost use Rattle.std.specs.Prelude.{◌≡◌, ◌||◌};
 ghost use Rattle.std.specs.List.{list_any};
-ghost use Rattle.vcp_typed.specs.Wide.{is_lint, expr_is_wide, exprs_are_wide, stmt_is_wide, stmts_are_wide, arms_are_wide, branches_are_wide, other_is_wide, wide};
+ghost use Rattle.vcp_typed.specs.Wide.{is_lint, expr_is_wide, exprs_are_wide, stmt_is_wide, stmts_are_wide, arms_are_wide, branches_are_wide, other_is_wide};
+ghost use Rattle.vcp_typed.specs.Wide.{wide};
 ghost use Rattle.vcp_typed.specs.TExprViews.{texpr_tree, texpr_trees};
 ghost use Rattle.vcp_typed.specs.TStmtViews.{tstmt_tree, tstmt_trees, tarm_trees, tbranch_trees, tother_tree};
 

@@ -26,7 +26,8 @@ returns-clause-call c = λ op there.
     let same : c.operation-op.result ≡ op = cc in
     let store = store_of (cells g) (unsigned_abs op.imm) in
     let corr : c.correction.result ≡ correction g.profile t.seed t.step i op store =
-    correction_at g.profile t.seed t.step (cells g) 0 g.operations i op c.correction.result there (subst (λ xs. slice_get xs i ≡ Some c.correction.result) c.requires.table.1 c.correction.ensures.value)
+    correction_at g.profile t.seed t.step (cells g) 0 g.operations i op c.correction.result there
+    (subst (λ xs. slice_get xs i ≡ Some c.correction.result) c.requires.table.1 c.correction.ensures.value)
     ∙ ap (λ j. correction g.profile t.seed t.step j op store) (zero-add i) in
     let imm : to_z w64 (of_z w64 c.own_number.result) ≡ own_number op.kind op.imm c.args.operands.now.input = grind (arith, to_z-of_z) in
     rw (c.profile.ensures.value, same, corr, c.step.ensures.value, imm) refl
@@ -36,7 +37,8 @@ returns-clause-asked c =
     let g = c.args.graph.now in
     let op = c.operation-op.result in
     let here : Admitted g.profile op =
-    subst (Admitted g.profile) (get_or_from_slice_get g.operations c.args.i op op c.operation-op.ensures) (c.profile.ensures.types.operations c.args.i op c.requires.operation) in
+    subst (Admitted g.profile) (get_or_from_slice_get g.operations c.args.i op op c.operation-op.ensures)
+    (c.profile.ensures.types.operations c.args.i op c.requires.operation) in
     let types : Admitted c.profile.result op = subst (λ q. Admitted q op) (sym c.profile.ensures.value) here in
     let grown : c.args.cycle + 1 ≤ most_cycles = omega (arith, c.requires.cycle) in
     let short : c.step.result ≤ most_step = omega (arith, c.step.ensures.value, c.step.ensures.ranges.step_to) in

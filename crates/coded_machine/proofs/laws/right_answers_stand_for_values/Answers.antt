@@ -17,6 +17,7 @@ returns c =
       reads = c.operands_are_there.ensures;
     } in
     record {
-      cycle = λ s values answers graph table few hold right whole. stands_for laws s values answers (all_below laws s.graph.profile s.table s.cycle table few) graph hold right whole;
+      cycle = λ s values answers graph table few hold right whole. stands_for laws s values answers
+          (all_below laws s.graph.profile s.table s.cycle table few) graph hold right whole;
       cells_at_first = λ g seed step graph. cells_at_first laws g seed step graph;
     }

@@ -11,7 +11,12 @@ first_word-requires-clause-operation c =
     let g = c.args.graph.now in
     let t = c.args.table.now in
     let there = store_at g.loads g.stores c.cells.i c.cell.result c.cell.ensures in
-    omega (arith, (c.entries_keep_their_rules.ensures.store g c.cells.i _ c.requires.graph.part there).store, ap length c.requires.table.1, length-corrections g.profile t.seed t.step (cells g) 0 g.operations)
+    omega (
+      arith,
+      (c.entries_keep_their_rules.ensures.store g c.cells.i _ c.requires.graph.part there).store,
+      ap length c.requires.table.1,
+      length-corrections g.profile t.seed t.step (cells g) 0 g.operations,
+    )
 
 pub cells-preserved : goal.cells-preserved
 cells-preserved c =

@@ -9,5 +9,6 @@ use Rattle.coded_machine.proofs.releasing.first_words.Given as goal
 abbrev pub invariant-cells : goal.invariant-cells
 invariant-cells l = record {
   count : length l.held.items ≡ l.i;
-  words : initial_words l.graph l.table.seed ≡ l.held.items ++ map (λ (c : Cell). coded l.graph.profile c.init (signature l.graph.profile l.table.seed c.store)) (drop l.i (cells l.graph));
+  words : initial_words l.graph l.table.seed
+      ≡ l.held.items ++ map (λ (c : Cell). coded l.graph.profile c.init (signature l.graph.profile l.table.seed c.store)) (drop l.i (cells l.graph));
 }

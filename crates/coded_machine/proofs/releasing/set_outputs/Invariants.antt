@@ -9,5 +9,6 @@ abbrev pub invariant-outputs : goal.invariant-outputs
 invariant-outputs l = record {
   cells : length l.out ≡ length l.graph.outputs;
   inside : first_outside l.graph.profile l.answers (drop l.i l.graph.outputs) ≡ None;
-  values : outputs_of l.graph l.answers ≡ take l.i l.out ++ map (λ (o : Outlet). value_part l.graph.profile (word_at l.answers o.op)) (drop l.i l.graph.outputs);
+  values : outputs_of l.graph l.answers
+      ≡ take l.i l.out ++ map (λ (o : Outlet). value_part l.graph.profile (word_at l.answers o.op)) (drop l.i l.graph.outputs);
 }

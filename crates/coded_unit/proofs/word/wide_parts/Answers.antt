@@ -11,7 +11,8 @@ returns-clause-value c =
     let r = c.halves-more.result.1 in
     let first : c.args.code ≡ pos (2 ^ 61) *ℤ h +ℤ l = grind (arith, to_z-of_z) in
     let more : h +ℤ l ≡ pos (2 ^ 61) *ℤ m +ℤ r = grind (arith, to_z-of_z) in
-    let stepped : pos 2305843009213693951 *ℤ (h +ℤ m) +ℤ (m +ℤ r) ≡ pos 2305843009213693951 *ℤ c.step_to.result.0 +ℤ pos c.step_to.result.1 = grind (arith, to_z-of_z) in
+    let stepped : pos 2305843009213693951 *ℤ (h +ℤ m) +ℤ (m +ℤ r) ≡ pos 2305843009213693951 *ℤ c.step_to.result.0 +ℤ pos c.step_to.result.1 =
+    grind (arith, to_z-of_z) in
     (wide_split c.args.code c.step_to.result.0 c.step_to.result.1 c.step_to.ensures.below
     (cut_twice c.args.code h l m r c.step_to.result.0 c.step_to.result.1 first more stepped)).0
 
@@ -23,6 +24,7 @@ returns-clause-residue c =
     let r = c.halves-more.result.1 in
     let first : c.args.code ≡ pos (2 ^ 61) *ℤ h +ℤ l = grind (arith, to_z-of_z) in
     let more : h +ℤ l ≡ pos (2 ^ 61) *ℤ m +ℤ r = grind (arith, to_z-of_z) in
-    let stepped : pos 2305843009213693951 *ℤ (h +ℤ m) +ℤ (m +ℤ r) ≡ pos 2305843009213693951 *ℤ c.step_to.result.0 +ℤ pos c.step_to.result.1 = grind (arith, to_z-of_z) in
+    let stepped : pos 2305843009213693951 *ℤ (h +ℤ m) +ℤ (m +ℤ r) ≡ pos 2305843009213693951 *ℤ c.step_to.result.0 +ℤ pos c.step_to.result.1 =
+    grind (arith, to_z-of_z) in
     (wide_split c.args.code c.step_to.result.0 c.step_to.result.1 c.step_to.ensures.below
     (cut_twice c.args.code h l m r c.step_to.result.0 c.step_to.result.1 first more stepped)).1

@@ -26,14 +26,17 @@ pub returns-in_err-store-clause-refuses : goal.returns-in_err-store-clause-refus
 returns-in_err-store-clause-refuses c = λ s n h same.
     let q = err_from_is_err_and c.from_residual.result c.from_residual.ensures.1 in
     rw (q.1, q.2) (subst (λ r. IfErr r (λ e. e ≡ build.Full → most_operations < reserved s + last_size s.slots)) c.in_err-store.was
-    (refused_by c.store.result (length c.args.graph.now.operations) (most_operations < reserved s + last_size s.slots) c.store.ensures.full (store_room s n c.args.cell c.args.graph.now c.args.known.now most_operations h c.requires.4)))
+    (refused_by c.store.result (length c.args.graph.now.operations) (most_operations < reserved s + last_size s.slots) c.store.ensures.full
+    (store_room s n c.args.cell c.args.graph.now c.args.known.now most_operations h c.requires.4)))
 
 pub returns-clause-made : goal.returns-clause-made
 returns-clause-made c = λ s n h same.
     let l = c.cell-loaded.result in
     let v = c.at-variable.result.now in
-    let e : c.store.new.self ≡ with_store c.args.graph.now l.ty c.in-Some.k v.spot = subst (λ o. c.store.new.self ≡ with_store c.args.graph.now (type_of o) c.in-Some.k v.spot) c.cell-loaded.ensures c.in_ok-store.ensures.added in
+    let e : c.store.new.self ≡ with_store c.args.graph.now l.ty c.in-Some.k v.spot =
+    subst (λ o. c.store.new.self ≡ with_store c.args.graph.now (type_of o) c.in-Some.k v.spot) c.cell-loaded.ensures c.in_ok-store.ensures.added in
     let next : suc c.args.cell ≡ c.args.cell + 1 = omega arith in
     subst (λ m. Closes s n m c.store.new.self c.args.known.now) next
     (subst (λ g. Closes s n (suc c.args.cell) g c.args.known.now) (sym e)
-    (closes_store s n c.args.cell c.in-Some.k c.args.graph.now c.args.known.now l v.spot c.cell-loaded.ensures c.in-Some.is (subst IsPart e c.len-rules.ensures.rules) h))
+    (closes_store s n c.args.cell c.in-Some.k c.args.graph.now c.args.known.now l v.spot c.cell-loaded.ensures c.in-Some.is
+    (subst IsPart e c.len-rules.ensures.rules) h))

@@ -26,7 +26,8 @@ returns-in_err-output-clause-refuses c = λ s h same.
     let held = c.in_ok-k.ensures.made s c.args.slot h there in
     let q = err_from_is_err_and c.from_residual-in_err-output.result c.from_residual-in_err-output.ensures.1 in
     rw (q.1, q.2) (subst (λ r. IfErr r (λ e. e ≡ build.Full → most_operations < reserved s + last_size s.slots)) c.in_err-output.was
-    (refused_by c.output.result (length c.held.new.graph.operations) (most_operations < reserved s + last_size s.slots) c.output.ensures.full (out_room s c.args.slot 0 c.held.new.graph c.held.new.known.items x most_operations held.0 there is_one)))
+    (refused_by c.output.result (length c.held.new.graph.operations) (most_operations < reserved s + last_size s.slots) c.output.ensures.full
+    (out_room s c.args.slot 0 c.held.new.graph c.held.new.known.items x most_operations held.0 there is_one)))
 
 pub returns-clause-made : goal.returns-clause-made
 returns-clause-made c = λ s h same.

@@ -19,7 +19,8 @@ load-requires-clause-few c =
     let s = c.requires.0 in
     let h = c.requires.2 in
     let none : get_or c.args.known.now.items c.args.slot None ≡ None = cc in
-    let lt : c.args.slot < length c.args.known.now.items = let inside = slice_get_within s.slots c.args.slot c.args.variable.now c.requires.3 in omega (arith, inside, h.long) in
+    let lt : c.args.slot < length c.args.known.now.items = let inside = slice_get_within s.slots c.args.slot c.args.variable.now c.requires.3 in
+    omega (arith, inside, h.long) in
     let fewer = unknown_set c.args.known.now.items c.args.slot 0 lt none in
     let some = others_fewer s.slots in
     omega (arith, h.room, h.from.few, some, fewer)
@@ -42,11 +43,13 @@ index_mut-requires c =
 pub returns-in_err-k-clause-refuses : goal.returns-in_err-k-clause-refuses
 returns-in_err-k-clause-refuses c = λ s n h there.
     let none : get_or c.args.known.now.items c.args.slot None ≡ None = cc in
-    let lt : c.args.slot < length c.args.known.now.items = let inside = slice_get_within s.slots c.args.slot c.args.variable.now there in omega (arith, inside, h.long) in
+    let lt : c.args.slot < length c.args.known.now.items = let inside = slice_get_within s.slots c.args.slot c.args.variable.now there in
+    omega (arith, inside, h.long) in
     let some : 1 ≤ unknown c.args.known.now.items = let fewer = unknown_set c.args.known.now.items c.args.slot 0 lt none in omega (arith, fewer) in
     let q = err_from_is_err_and c.from_residual.result c.from_residual.ensures.1 in
     rw (q.1, q.2) (subst (λ r. IfErr r (λ e. e ≡ build.Full → most_operations < reserved s + last_size s.slots)) c.in_err-k.was
-    (refused_by c.load.result (length c.args.graph.now.operations) (most_operations < reserved s + last_size s.slots) c.load.ensures.full (load_room s n 0 c.args.graph.now c.args.known.now.items most_operations h some)))
+    (refused_by c.load.result (length c.args.graph.now.operations) (most_operations < reserved s + last_size s.slots) c.load.ensures.full
+    (load_room s n 0 c.args.graph.now c.args.known.now.items most_operations h some)))
 
 pub returns-clause-made : goal.returns-clause-made
 returns-clause-made c = λ s n h there.
@@ -54,7 +57,8 @@ returns-clause-made c = λ s n h there.
     let none : get_or c.args.known.now.items c.args.slot None ≡ None = cc in
     let lt : c.args.slot < length c.args.known.now.items = let inside = slice_get_within s.slots c.args.slot v there in omega (arith, inside, h.long) in
     let fits : SFits w64 v.init = search rules in
-    let e : c.load.new.self ≡ with_load c.args.graph.now c.args.slot v.ty v.init v.spot = subst (λ z. c.load.new.self ≡ with_load c.args.graph.now c.args.slot v.ty z v.spot) (to_z-of_z w64 v.init fits) c.in_ok-k.ensures.added in
+    let e : c.load.new.self ≡ with_load c.args.graph.now c.args.slot v.ty v.init v.spot =
+    subst (λ z. c.load.new.self ≡ with_load c.args.graph.now c.args.slot v.ty z v.spot) (to_z-of_z w64 v.init fits) c.in_ok-k.ensures.added in
     let m = closes_load s n 0 c.args.graph.now c.args.known.now.items c.args.slot v there none (subst IsPart e c.len-rules.ensures.rules) h in (
       subst (λ q. Closes s n 0 c.load.new.self (set c.args.known.now.items c.args.slot (Some q))) (sym c.in_ok-k.ensures.number)
           (subst (λ g. Closes s n 0 g (set c.args.known.now.items c.args.slot (Some (length c.args.graph.now.operations)))) (sym e) m),

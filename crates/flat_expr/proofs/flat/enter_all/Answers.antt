@@ -17,15 +17,18 @@ enter-requires-clause-rises c =
     let e = c.slots.invariant.graph in
     let le : c.slots.i ≤ length c.args.slots.now = omega (arith, c.slots-test.true) in
     subst (λ l. All (λ (v : Var). v.name < c.slots.i) l) (sym (ap (λ (g : Lists). g.inputs) e))
-    (subst (λ n. All (λ (v : Var). v.name < n) (inputs_from 0 (take c.slots.i c.args.slots.now))) (length-take-le c.slots.i c.args.slots.now le) (names_rise (take c.slots.i c.args.slots.now)))
+    (subst (λ n. All (λ (v : Var). v.name < n) (inputs_from 0 (take c.slots.i c.args.slots.now))) (length-take-le c.slots.i c.args.slots.now le)
+    (names_rise (take c.slots.i c.args.slots.now)))
 
 pub slots-preserved : goal.slots-preserved
 slots-preserved c =
     let s = c.index-slots-i.result in
     let slots = c.args.slots.now in
     let le : c.slots.i ≤ length slots = omega (arith, c.slots-test.true) in
-    let more : take (c.slots.i + 1) slots ≡ take c.slots.i slots ++ s ∷ [] = take_more slots c.slots.i s c.slots-test.true ∙ ap (λ x. take c.slots.i slots ++ x ∷ []) (sym c.index-slots-i.is) in
+    let more : take (c.slots.i + 1) slots ≡ take c.slots.i slots ++ s ∷ [] = take_more slots c.slots.i s c.slots-test.true
+    ∙ ap (λ x. take c.slots.i slots ++ x ∷ []) (sym c.index-slots-i.is) in
     record {
-      graph = enter_next c.args.graph.now.profile (names_of slots) slots c.slots.i s c.slots.graph c.enter.new.graph le more c.slots.invariant.graph c.in_ok-k.ensures.graph;
+      graph = enter_next c.args.graph.now.profile
+          (names_of slots) slots c.slots.i s c.slots.graph c.enter.new.graph le more c.slots.invariant.graph c.in_ok-k.ensures.graph;
       known = known_next c.args.graph.now.profile slots c.slots.i s c.slots.graph (names_of slots) c.slots.known.items c.push.new.self.items c.in_ok-k.k more c.slots.invariant.graph c.slots.invariant.known c.in_ok-k.ensures.place c.in_ok-push.ensures.items;
     }

@@ -3,7 +3,8 @@ use Rattle.flat_stmt.proofs.Conditions.{joined_alone, joined}
 use Rattle.flat_stmt.proofs.condition.join.Goals as goal
 
 pub returns-in-None-clause-made : goal.returns-in-None-clause-made
-returns-in-None-clause-made c = joined_alone c.laws_of_states.ensures c.args.flat.now c.args.outer c.args.k c.in-None.is c.condition-state.ensures.state c.requires.k
+returns-in-None-clause-made c =
+    joined_alone c.laws_of_states.ensures c.args.flat.now c.args.outer c.args.k c.in-None.is c.condition-state.ensures.state c.requires.k
 
 pub returns-in-Some-clause-made : goal.returns-in-Some-clause-made
 returns-in-Some-clause-made c =

@@ -16,7 +16,9 @@ rest-init c = record {
 pub returns-in_err-so_far-2-clause-fills : goal.returns-in_err-so_far-2-clause-fills
 returns-in_err-so_far-2-clause-fills c =
     let q = err_from_is_err_and c.from_residual-in_err-so_far-2.result c.from_residual-in_err-so_far-2.ensures.1 in
-    let h = fills_later c.args.flat.now c.rest.flat (sum_by label_size (take c.rest.i c.args.labels.now)) _ (sum_by label_size c.args.labels.now) c.label_too.result c.rest.invariant.made.count (label_sum_fits c.args.labels.now c.rest.i _ (omega (arith, c.rest-test.true))) c.label_too.ensures.fills in
+    let h = fills_later c.args.flat.now c.rest.flat (sum_by label_size (take c.rest.i c.args.labels.now)) _
+    (sum_by label_size c.args.labels.now) c.label_too.result c.rest.invariant.made.count
+    (label_sum_fits c.args.labels.now c.rest.i _ (omega (arith, c.rest-test.true))) c.label_too.ensures.fills in
     rw (q.1, q.2) (subst (λ r. IfErr r (λ e. Fills c.args.flat.now (sum_by label_size c.args.labels.now) e)) c.in_err-so_far-2.was h)
 
 pub rest-preserved : goal.rest-preserved

@@ -23,27 +23,38 @@ pub returns-in_err-above-clause-fills : goal.returns-in_err-above-clause-fills
 returns-in_err-above-clause-fills c =
     let q = err_from_is_err_and c.from_residual-in_err-above.result c.from_residual-in_err-above.ensures.1 in
     let h = refused_fills c.args.flat.now c.add.new.self c.add-2.new.self 3 1 (alone_size c.args.label) c.add-2.result
-    (omega (arith, c.in_ok-first.ensures.made.count, c.in_ok-last.ensures.made.count, c.in_ok-below.ensures.made.count)) (omega (arith, range_size c.args.label c.requires.range)) c.add-2.ensures.refuses in
+    (omega (arith, c.in_ok-first.ensures.made.count, c.in_ok-last.ensures.made.count, c.in_ok-below.ensures.made.count))
+    (omega (arith, range_size c.args.label c.requires.range)) c.add-2.ensures.refuses in
     rw (q.1, q.2) (subst (λ r. IfErr r (λ e. Fills c.args.flat.now (alone_size c.args.label) e)) c.in_err-above.was h)
 
 pub returns-in_err-out-clause-fills : goal.returns-in_err-out-clause-fills
 returns-in_err-out-clause-fills c =
     let q = err_from_is_err_and c.from_residual-in_err-out.result c.from_residual-in_err-out.ensures.1 in
     let h = refused_fills c.args.flat.now c.add-2.new.self c.add-3.new.self 4 1 (alone_size c.args.label) c.add-3.result
-    (omega (arith, c.in_ok-first.ensures.made.count, c.in_ok-last.ensures.made.count, c.in_ok-below.ensures.made.count, c.in_ok-above.ensures.made.count)) (omega (arith, range_size c.args.label c.requires.range)) c.add-3.ensures.refuses in
+    (omega (arith, c.in_ok-first.ensures.made.count, c.in_ok-last.ensures.made.count, c.in_ok-below.ensures.made.count, c.in_ok-above.ensures.made.count))
+    (omega (arith, range_size c.args.label c.requires.range)) c.add-3.ensures.refuses in
     rw (q.1, q.2) (subst (λ r. IfErr r (λ e. Fills c.args.flat.now (alone_size c.args.label) e)) c.in_err-out.was h)
 
 pub returns-clause-fills : goal.returns-clause-fills
 returns-clause-fills c =
     refused_fills c.args.flat.now c.add-3.new.self c.add-4.new.self 5 1 (alone_size c.args.label) c.add-4.result
-    (omega (arith, c.in_ok-first.ensures.made.count, c.in_ok-last.ensures.made.count, c.in_ok-below.ensures.made.count, c.in_ok-above.ensures.made.count, c.in_ok-out.ensures.made.count)) (omega (arith, range_size c.args.label c.requires.range)) c.add-4.ensures.refuses
+    (omega (
+      arith,
+      c.in_ok-first.ensures.made.count,
+      c.in_ok-last.ensures.made.count,
+      c.in_ok-below.ensures.made.count,
+      c.in_ok-above.ensures.made.count,
+      c.in_ok-out.ensures.made.count,
+    )) (omega (arith, range_size c.args.label c.requires.range)) c.add-4.ensures.refuses
 
 pub returns-clause-made : goal.returns-clause-made
 returns-clause-made c =
     let f : SFits w64 c.args.label.first = search rules in
     let g : SFits w64 c.args.label.last = search rules in
-    let first = subst (λ v. Makes c.args.flat.now c.constant.new.self c.args.ty 1 (giving v) c.in_ok-first.first) (to_z-of_z w64 c.args.label.first f) c.in_ok-first.ensures.made in
-    let last = subst (λ v. Makes c.constant.new.self c.constant-2.new.self c.args.ty 1 (giving v) c.in_ok-last.last) (to_z-of_z w64 c.args.label.last g) c.in_ok-last.ensures.made in
+    let first = subst (λ v. Makes c.args.flat.now c.constant.new.self c.args.ty 1 (giving v) c.in_ok-first.first)
+    (to_z-of_z w64 c.args.label.first f) c.in_ok-first.ensures.made in
+    let last = subst (λ v. Makes c.constant.new.self c.constant-2.new.self c.args.ty 1 (giving v) c.in_ok-last.last)
+    (to_z-of_z w64 c.args.label.last g) c.in_ok-last.ensures.made in
     IfOk-weaker c.add-4.result _ _ (λ r p.
     labelled_range c.laws_of_states.ensures c.args.flat.now c.constant.new.self c.constant-2.new.self c.add.new.self c.add-2.new.self c.add-3.new.self c.add-4.new.self c.args.ty c.args.k c.in_ok-first.first c.in_ok-last.last c.in_ok-below.below c.in_ok-above.above c.in_ok-out.out r c.args.label c.requires.range c.requires.k
     first last c.in_ok-below.ensures.made c.in_ok-above.ensures.made c.in_ok-out.ensures.made p) c.add-4.ensures.made
@@ -55,7 +66,9 @@ pub add-requires-2-clause-a : goal.add-requires-2-clause-a
 add-requires-2-clause-a c = c.in_ok-below.ensures.made.follows.typed c.args.ty c.in_ok-last.last c.in_ok-last.ensures.made.place
 
 pub add-requires-2-clause-b : goal.add-requires-2-clause-b
-add-requires-2-clause-b c = c.in_ok-below.ensures.made.follows.typed c.args.ty c.args.k (c.in_ok-last.ensures.made.follows.typed c.args.ty c.args.k (c.in_ok-first.ensures.made.follows.typed c.args.ty c.args.k c.requires.k))
+add-requires-2-clause-b c =
+    c.in_ok-below.ensures.made.follows.typed c.args.ty c.args.k
+    (c.in_ok-last.ensures.made.follows.typed c.args.ty c.args.k (c.in_ok-first.ensures.made.follows.typed c.args.ty c.args.k c.requires.k))
 
 pub returns-in_err-last-clause-fills : goal.returns-in_err-last-clause-fills
 returns-in_err-last-clause-fills c =

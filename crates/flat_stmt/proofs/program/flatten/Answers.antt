@@ -10,7 +10,13 @@ pub returns-in-Ok-clause-means : goal.returns-in-Ok-clause-means
 returns-in-Ok-clause-means c =
     let p = c.args.program.now in
     let body = ap tstmt_trees c.deref.ensures.value ∙ c.body.ensures.body in
-    let law : ValuesFit p = record { initial = c.values_fit.ensures.initial p c.body.ensures.checked; cycle = λ row m h k. c.values_fit.ensures.cycle p row m c.body.ensures.checked h k } in
+    let law : ValuesFit p =
+    record {
+      initial = c.values_fit.ensures.initial p c.body.ensures.checked;
+      cycle = λ row m h k. c.values_fit.ensures.cycle p row m c.body.ensures.checked h k;
+    } in
     let does = subst (λ ss. Does c.in_ok-flat.flat c.add_stmts.new.flat (stmts_size (tstmt_trees c.deref.result.now)) (do_stmts [] ss)) body
-    (subst (λ ts. Does c.in_ok-flat.flat c.add_stmts.new.flat (stmts_size (tstmt_trees c.deref.result.now)) (do_stmts ts (tstmt_trees c.deref.result.now))) (no_turns c.in_ok-flat.flat p c.in_ok-flat.ensures) c.in_default.ensures.made) in
-    means p c.in-Ok.graph c.in_ok-flat.flat c.add_stmts.new.flat (stmts_size (tstmt_trees c.deref.result.now)) law c.in_ok-flat.ensures does c.in-Ok.ensures.made
+    (subst (λ ts. Does c.in_ok-flat.flat c.add_stmts.new.flat (stmts_size (tstmt_trees c.deref.result.now)) (do_stmts ts (tstmt_trees c.deref.result.now)))
+    (no_turns c.in_ok-flat.flat p c.in_ok-flat.ensures) c.in_default.ensures.made) in
+    means p c.in-Ok.graph c.in_ok-flat.flat c.add_stmts.new.flat
+    (stmts_size (tstmt_trees c.deref.result.now)) law c.in_ok-flat.ensures does c.in-Ok.ensures.made

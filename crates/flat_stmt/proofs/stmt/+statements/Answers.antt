@@ -1,4 +1,5 @@
-use Rattle.std.proofs.Common.{◌≡◌, ◌<◌, ◌≤◌, ◌+◌, ◌-◌, ◌*◌, ◌+ℤ◌, ◌++◌, ◌∷◌, [], pos, suc, Some, length, slice_get, refl, sym, ap, ap₂, ◌∙◌, subst, rules, w64, SFits, to_z, of_z, arith}
+use Rattle.std.proofs.Common.{◌≡◌, ◌<◌, ◌≤◌, ◌+◌, ◌-◌, ◌*◌, ◌+ℤ◌, ◌++◌, ◌∷◌, [], pos, suc, Some, length, slice_get, refl, sym, ap, ap₂, ◌∙◌, subst, rules, w64}
+use Rattle.std.proofs.Common.{SFits, to_z, of_z, arith}
 use Rattle.std.specs.Prelude.{IfOk, IfErr, sum_by}
 use Rattle.std.proofs.lemmas.Bool.{lt-ltb}
 use Rattle.std.proofs.lemmas.Int.{to_z-of_z}
@@ -20,14 +21,20 @@ use Rattle.flat_stmt.specs.Weight.{stmt_weight}
 use Rattle.flat_stmt.proofs.Algebra.{place_typed}
 use Rattle.flat_stmt.proofs.Loops.{done_start, branched_start}
 use Rattle.flat_stmt.proofs.Rooms.{fills_later}
-use Rattle.flat_stmt.proofs.Statements.{stmts_at, stmt_lighter, arms_at, arm_lighter, branches_at, branch_lighter, branch_then, branch_else, stmts_step, arms_step, case_step, arm_done, case_done, stmts_first, stmts_rest, arms_first, arms_rest, branches_first, branches_rest, stmts_end, arms_end, branches_end, case_branch_done, turn_done, for_size, for_values, for_slot, for_body, turns_start, turns_step, turns_end, next_width, next_values, first_fits, turn_room, slot_there, stmt_does, other_part, turns_at, both_ok, same_context, in_loop, admitted_later, allows_first, allows_second, allows_three}
+use Rattle.flat_stmt.proofs.Statements.{stmts_at, stmt_lighter, arms_at, arm_lighter, branches_at, branch_lighter, branch_then, branch_else, stmts_step}
+use Rattle.flat_stmt.proofs.Statements.{arms_step, case_step, arm_done, case_done, stmts_first, stmts_rest, arms_first, arms_rest, branches_first}
+use Rattle.flat_stmt.proofs.Statements.{branches_rest, stmts_end, arms_end, branches_end, case_branch_done, turn_done, for_size, for_values, for_slot, for_body}
+use Rattle.flat_stmt.proofs.Statements.{turns_start, turns_step, turns_end, next_width, next_values, first_fits, turn_room, slot_there, stmt_does, other_part}
+use Rattle.flat_stmt.proofs.Statements.{turns_at, both_ok, same_context, in_loop, admitted_later, allows_first, allows_second, allows_three}
 use Rattle.flat_stmt.proofs.Turns.{does_continues}
 use Rattle.flat_stmt.proofs.stmt.+statements.Goals as goal
 
 pub add_arm-returns-clause-made : goal.add_arm-returns-clause-made
 add_arm-returns-clause-made t c =
     IfOk-weaker c.add_branch.result _ _ (λ u q.
-    arm_done c.laws_of_states.ensures c.args.flat.now c.expr.new.self c.add_branch.new.flat (texpr_tree c.args.arm.now.cond) c.in_ok-r.r c.args.more (tstmt_trees c.deref.result.now) (tstmt_trees c.args.arm.now.body.items.items) (ap tstmt_trees c.deref.ensures.value) c.in_ok-r.ensures.made q) c.add_branch.ensures.made
+    arm_done c.laws_of_states.ensures c.args.flat.now c.expr.new.self c.add_branch.new.flat (texpr_tree c.args.arm.now.cond) c.in_ok-r.r c.args.more
+    (tstmt_trees c.deref.result.now) (tstmt_trees c.args.arm.now.body.items.items)
+    (ap tstmt_trees c.deref.ensures.value) c.in_ok-r.ensures.made q) c.add_branch.ensures.made
 
 pub add_branch-returns-else-more-clause-made : goal.add_branch-returns-else-more-clause-made
 add_branch-returns-else-more-clause-made t c =
@@ -54,7 +61,18 @@ add_branches-add_case_branch-requires t c =
       omega (arith, lighter),
       (
         d.moves.continues.typed c.args.ty c.args.k c.requires.k,
-        (c.requires.number, (admitted_later c.args.flat.now c.each.flat c.args.ty d.moves.continues.profile c.requires.code, (branches_first (context c.args.flat.now) (context c.each.flat) c.args.ty _ _ _ _ tree (in_loop c.args.flat.now c.each.flat _ d.moves.continues) c.each.invariant.checked, omega (arith, ap branches_size tree, d.moves.few, d.fits, c.requires.room)))),
+        (
+          c.requires.number,
+          (
+            admitted_later c.args.flat.now c.each.flat c.args.ty d.moves.continues.profile c.requires.code,
+            (
+              branches_first (context c.args.flat.now) (context c.each.flat) c.args.ty _ _ _ _ tree
+                  (in_loop c.args.flat.now c.each.flat _ d.moves.continues) c.each.invariant.checked,
+              omega
+                  (arith, ap branches_size tree, d.moves.few, d.fits, c.requires.room),
+            ),
+          ),
+        ),
       ),
     )
 
@@ -65,7 +83,10 @@ add_branches-returns-in_err-add_case_branch-clause-fills t c =
     let d = c.each.invariant.done (pos 0) in
     let most = branches_size (tbranch_trees c.args.branches.now) + other_size (tother_tree c.args.other.now) in
     let q = err_from_is_err_and c.from_residual.result c.from_residual.ensures.1 in
-    let h = fills_later c.args.flat.now c.each.flat d.size (3 + sum_by label_size c.index-branches-i.result.labels.items.items + stmts_size (tstmt_trees c.index-branches-i.result.body.items.items)) most c.add_case_branch.result d.moves.count (omega (arith, ap branches_size tree, d.fits)) c.add_case_branch.ensures.fills in
+    let h = fills_later c.args.flat.now c.each.flat d.size
+    (3 + sum_by label_size c.index-branches-i.result.labels.items.items + stmts_size
+    (tstmt_trees c.index-branches-i.result.body.items.items)) most c.add_case_branch.result d.moves.count
+    (omega (arith, ap branches_size tree, d.fits)) c.add_case_branch.ensures.fills in
     rw (q.1, q.2) (subst (λ r. IfErr r (λ e. Fills c.args.flat.now most e)) c.in_err-add_case_branch.was h)
 
 pub add_branches-each-preserved : goal.add_branches-each-preserved
@@ -79,15 +100,22 @@ add_branches-each-preserved t c =
 
 pub add_branches-add_other-requires : goal.add_branches-add_other-requires
 add_branches-add_other-requires t c =
-    let d = c.each.invariant.done (pos 0) in
-    (omega arith, (other_part (context c.args.flat.now) (context c.each.flat) _ (in_loop c.args.flat.now c.each.flat _ d.moves.continues) c.requires.other, omega (arith, d.moves.few, d.fits, c.requires.room)))
+    let d = c.each.invariant.done (pos 0) in (
+      omega arith,
+      (
+        other_part (context c.args.flat.now) (context c.each.flat) _ (in_loop c.args.flat.now c.each.flat _ d.moves.continues) c.requires.other,
+        omega
+            (arith, d.moves.few, d.fits, c.requires.room),
+      ),
+    )
 
 pub add_branches-returns-in_err-add_other-clause-fills : goal.add_branches-returns-in_err-add_other-clause-fills
 add_branches-returns-in_err-add_other-clause-fills t c =
     let d = c.each.invariant.done (pos 0) in
     let most = branches_size (tbranch_trees c.args.branches.now) + other_size (tother_tree c.args.other.now) in
     let q = err_from_is_err_and c.from_residual-in_err-add_other.result c.from_residual-in_err-add_other.ensures.1 in
-    let h = fills_later c.args.flat.now c.each.flat d.size (other_size (tother_tree c.args.other.now)) most c.add_other.result d.moves.count (omega (arith, d.fits)) c.add_other.ensures.fills in
+    let h = fills_later c.args.flat.now c.each.flat d.size (other_size (tother_tree c.args.other.now)) most c.add_other.result d.moves.count
+    (omega (arith, d.fits)) c.add_other.ensures.fills in
     rw (q.1, q.2) (subst (λ r. IfErr r (λ e. Fills c.args.flat.now most e)) c.in_err-add_other.was h)
 
 pub add_branches-set_condition-requires : goal.add_branches-set_condition-requires
@@ -103,7 +131,8 @@ add_branches-returns-clause-made t c = λ v.
 pub add_case-returns-clause-made : goal.add_case-returns-clause-made
 add_case-returns-clause-made t c =
     both_ok c.add_branches.result _ _ _ c.add_branches.ensures.made c.add_branches.ensures.path
-    (λ u q path. case_done c.laws_of_states.ensures c.args.flat.now c.expr.new.self c.add_branches.new.flat (texpr_tree c.args.on.now) c.in_ok-k.k (tbranch_trees c.args.branches.now) (tother_tree c.args.other.now) c.in_ok-k.ensures.made path q)
+    (λ u q path. case_done c.laws_of_states.ensures c.args.flat.now c.expr.new.self c.add_branches.new.flat (texpr_tree c.args.on.now) c.in_ok-k.k
+    (tbranch_trees c.args.branches.now) (tother_tree c.args.other.now) c.in_ok-k.ensures.made path q)
 
 pub add_case_branch-returns-clause-made : goal.add_case_branch-returns-clause-made
 add_case_branch-returns-clause-made t c =
@@ -119,8 +148,12 @@ add_for-turns-init t c =
     let e : c.args.turns - 0 ≡ c.args.turns = omega arith in
     let ts = turns_of c.args.flat.now.graph c.args.flat.now.turn in
     record {
-      done = turns_start c.args.flat.now c.args.slot (to_z w64 (of_z w64 c.args.by)) (to_z w64 (of_z w64 c.args.first)) (λ v. do_stmts (ts ++ record { name = c.args.slot; value = v } ∷ []) (tstmt_trees c.args.body.now)) c.args.turns (c.args.turns - 0) (2 + stmts_size (tstmt_trees c.args.body.now)) e c.condition-state.ensures.state;
-      each = λ x h. turns_at x.ty _ _ _ _ _ _ e (to_z-of_z w64 c.args.first f) (to_z-of_z w64 c.args.by g) (for_values (context c.args.flat.now) c.args.slot c.args.first c.args.by c.args.turns (tstmt_trees c.args.body.now) c.args.spot c.requires.checked x h);
+      done = turns_start c.args.flat.now c.args.slot (to_z w64 (of_z w64 c.args.by)) (to_z w64 (of_z w64 c.args.first))
+          (λ v. do_stmts (ts ++ record { name = c.args.slot; value = v } ∷ []) (tstmt_trees c.args.body.now)) c.args.turns (c.args.turns - 0)
+          (2 + stmts_size (tstmt_trees c.args.body.now)) e c.condition-state.ensures.state;
+      each = λ x h. turns_at x.ty _ _ _ _ _ _ e (to_z-of_z w64 c.args.first f) (to_z-of_z w64 c.args.by g)
+          (for_values (context c.args.flat.now) c.args.slot c.args.first c.args.by c.args.turns
+          (tstmt_trees c.args.body.now) c.args.spot c.requires.checked x h);
     }
 
 pub add_for-add_turn-requires : goal.add_for-add_turn-requires
@@ -130,13 +163,21 @@ add_for-add_turn-requires t c =
     let is : (c.args.turns - c.turns.turn) ≡ suc (c.args.turns - (c.turns.turn + 1)) = omega (arith, c.turns-test.true) in (
       omega arith,
       (
-        subst (λ xs. c.args.slot < length xs) (sym same_slots) (for_slot (context c.args.flat.now) c.args.slot c.args.first c.args.by c.args.turns (tstmt_trees c.args.body.now) c.args.spot c.requires.checked),
+        subst (λ xs. c.args.slot < length xs) (sym same_slots)
+            (for_slot (context c.args.flat.now) c.args.slot c.args.first c.args.by c.args.turns (tstmt_trees c.args.body.now) c.args.spot c.requires.checked),
         (
           (λ x h. first_fits x.ty _ _ _ _ is (c.turns.invariant.each x (subst (λ xs. slice_get xs c.args.slot ≡ Some x) same_slots h))),
           (
-            for_body (context c.args.flat.now) (context c.turns.flat) c.args.slot c.args.first c.args.by c.args.turns (tstmt_trees c.args.body.now) c.args.spot (same_context c.args.flat.now c.turns.flat (does_continues c.args.flat.now c.turns.flat d.size d.doing d.does)) c.requires.checked,
-            turn_room (2 + stmts_size (tstmt_trees c.args.body.now)) (c.args.turns - c.turns.turn) (c.args.turns - (c.turns.turn + 1)) (length c.args.flat.now.graph.turn_nodes) d.size (c.args.turns * (2 + stmts_size (tstmt_trees c.args.body.now))) is d.fits
-                (omega (arith, for_size c.args.slot c.args.first c.args.by c.args.turns (tstmt_trees c.args.body.now) c.args.spot c.if-turns-eq0.false, c.requires.room)) (length c.turns.flat.graph.turn_nodes) d.does.moves.few,
+            for_body (context c.args.flat.now) (context c.turns.flat) c.args.slot c.args.first c.args.by c.args.turns (tstmt_trees c.args.body.now) c.args.spot
+                (same_context c.args.flat.now c.turns.flat (does_continues c.args.flat.now c.turns.flat d.size d.doing d.does)) c.requires.checked,
+            turn_room (2 + stmts_size (tstmt_trees c.args.body.now)) (c.args.turns - c.turns.turn) (c.args.turns - (c.turns.turn + 1))
+                (length c.args.flat.now.graph.turn_nodes) d.size (c.args.turns * (2 + stmts_size (tstmt_trees c.args.body.now))) is d.fits
+                (omega (
+                  arith,
+                  for_size c.args.slot c.args.first c.args.by c.args.turns
+                      (tstmt_trees c.args.body.now) c.args.spot c.if-turns-eq0.false,
+                  c.requires.room,
+                )) (length c.turns.flat.graph.turn_nodes) d.does.moves.few,
           ),
         ),
       ),
@@ -146,17 +187,20 @@ pub add_for-next_value-value-requires : goal.add_for-next_value-value-requires
 add_for-next_value-value-requires t c = λ e.
     let lt : c.turns.turn + 1 < c.args.turns = omega (arith, ltb-true, e) in
     let is : (c.args.turns - c.turns.turn) ≡ suc (suc (c.args.turns - (c.turns.turn + 2))) = omega (arith, lt) in
-    let x = slot_there c.args.flat.now.slots c.args.slot (for_slot (context c.args.flat.now) c.args.slot c.args.first c.args.by c.args.turns (tstmt_trees c.args.body.now) c.args.spot c.requires.checked) in
+    let x = slot_there c.args.flat.now.slots c.args.slot
+    (for_slot (context c.args.flat.now) c.args.slot c.args.first c.args.by c.args.turns (tstmt_trees c.args.body.now) c.args.spot c.requires.checked) in
     next_width x.0.ty _ _ _ _ is (c.turns.invariant.each x.0 x.1)
 
 pub add_for-turns-preserved : goal.add_for-turns-preserved
 add_for-turns-preserved t c =
     let is : (c.args.turns - c.turns.turn) ≡ suc (c.args.turns - (c.turns.turn + 1)) = omega (arith, c.turns-test.true) in
     let f : SFits w64 c.next_value-value.result = search rules in
-    let next : 0 < (c.args.turns - (c.turns.turn + 1)) → (to_z w64 (of_z w64 c.next_value-value.result)) ≡ (to_z w64 c.turns.value-bits) +ℤ (to_z w64 (of_z w64 c.args.by)) = λ some.
+    let next : 0 < (c.args.turns - (c.turns.turn + 1)) → (to_z w64 (of_z w64 c.next_value-value.result)) ≡ (to_z w64 c.turns.value-bits) +ℤ
+    (to_z w64 (of_z w64 c.args.by)) = λ some.
     to_z-of_z w64 c.next_value-value.result f ∙ c.next_value-value.ensures.next (lt-ltb (c.turns.turn + 1) c.args.turns (omega (arith, some))) in
     record {
-      done = turns_step c.laws_of_states.ensures c.args.flat.now c.turns.flat c.add_turn.new.flat c.args.slot _ _ _ (tstmt_trees c.args.body.now) _ _ _ _ is next c.turns.invariant.done c.in_ok-add_turn.ensures.made;
+      done = turns_step c.laws_of_states.ensures c.args.flat.now c.turns.flat c.add_turn.new.flat c.args.slot _ _ _
+          (tstmt_trees c.args.body.now) _ _ _ _ is next c.turns.invariant.done c.in_ok-add_turn.ensures.made;
       each = λ x h. next_values x.ty _ _ _ _ _ is next (c.turns.invariant.each x h);
     }
 
@@ -164,7 +208,9 @@ pub add_for-returns-clause-made : goal.add_for-returns-clause-made
 add_for-returns-clause-made t c =
     let f : SFits w64 c.args.first = search rules in
     let g : SFits w64 c.args.by = search rules in
-    turns_end c.args.flat.now c.turns.flat c.args.slot c.args.first c.args.by _ _ _ c.args.turns (c.args.turns - c.turns.turn) (tstmt_trees c.args.body.now) c.args.spot c.if-turns-eq0.false (omega (arith, c.turns-test.false)) (to_z-of_z w64 c.args.first f) (to_z-of_z w64 c.args.by g) c.turns.invariant.done
+    turns_end c.args.flat.now c.turns.flat c.args.slot c.args.first c.args.by _ _ _ c.args.turns (c.args.turns - c.turns.turn)
+    (tstmt_trees c.args.body.now) c.args.spot c.if-turns-eq0.false (omega (arith, c.turns-test.false)) (to_z-of_z w64 c.args.first f)
+    (to_z-of_z w64 c.args.by g) c.turns.invariant.done
 
 pub add_turn-returns-clause-made : goal.add_turn-returns-clause-made
 add_turn-returns-clause-made t c =
@@ -185,7 +231,8 @@ add_if-add_arm-requires t c =
     let d = c.each.invariant.done in (
       omega (arith, lighter),
       (
-        arms_first (context c.args.flat.now) (context c.each.flat) _ _ _ _ _ tree (in_loop c.args.flat.now c.each.flat _ d.moves.continues) c.each.invariant.checked,
+        arms_first (context c.args.flat.now) (context c.each.flat) _ _ _ _ _ tree
+            (in_loop c.args.flat.now c.each.flat _ d.moves.continues) c.each.invariant.checked,
         omega (arith, ap arms_size tree, d.moves.few, d.fits, c.requires.room),
       ),
     )
@@ -195,7 +242,8 @@ add_if-each-preserved t c =
     let lt : c.each.i < length c.args.arms.now = omega (arith, c.each-test.true) in
     let tree = arms_at c.args.arms.now c.each.i c.index-arms-i.result lt c.index-arms-i.is in
     record {
-      done = arms_step c.laws_of_states.ensures c.args.flat.now c.each.flat c.add_arm.new.flat c.args.arms.now c.each.i c.index-arms-i.result c.has_next.result (tother_tree c.args.other.now) lt c.index-arms-i.is c.has_next.ensures c.each.invariant.done c.in_ok-add_arm.ensures.made;
+      done = arms_step c.laws_of_states.ensures c.args.flat.now c.each.flat c.add_arm.new.flat c.args.arms.now c.each.i c.index-arms-i.result c.has_next.result
+          (tother_tree c.args.other.now) lt c.index-arms-i.is c.has_next.ensures c.each.invariant.done c.in_ok-add_arm.ensures.made;
       checked = arms_rest (context c.args.flat.now) _ _ _ _ _ tree c.each.invariant.checked;
     }
 
@@ -207,62 +255,90 @@ add_if-returns-clause-made t c =
 
 pub add_stmt-add_if-requires : goal.add_stmt-add_if-requires
 add_stmt-add_if-requires t c =
-    let is = ap tstmt_tree c.in-If.is ∙ c.trees_of_nodes.ensures.if_ c.in-If.arms c.in-If.other ∙ ap (λ xs. if_ (tarm_trees xs) (tother_tree c.in-If.other)) (sym c.deref.ensures.value) in
+    let is = ap tstmt_tree c.in-If.is ∙ c.trees_of_nodes.ensures.if_ c.in-If.arms c.in-If.other
+    ∙ ap (λ xs. if_ (tarm_trees xs) (tother_tree c.in-If.other)) (sym c.deref.ensures.value) in
     let parts = subst (λ s. StmtPart (context c.args.flat.now) s) is c.requires.checked in
     let p = c.args.flat.now.graph.profile in
     let arms = arms_are_wide (tarm_trees c.deref.result.now) in
-    let other = other_is_wide (tother_tree c.in-If.other) in
-    (omega (arith, ap stmt_weight is), ((parts.0, parts.1.0, allows_first p arms other parts.2), ((parts.0, parts.1.1, allows_second p arms other parts.2), omega (arith, ap stmt_size is, c.requires.room))))
+    let other = other_is_wide (tother_tree c.in-If.other) in (
+      omega (arith, ap stmt_weight is),
+      (
+        (parts.0, parts.1.0, allows_first p arms other parts.2),
+        ((parts.0, parts.1.1, allows_second p arms other parts.2), omega (arith, ap stmt_size is, c.requires.room)),
+      ),
+    )
 
 pub add_stmt-returns-in-If-clause-made : goal.add_stmt-returns-in-If-clause-made
 add_stmt-returns-in-If-clause-made t c =
-    let is = ap tstmt_tree c.in-If.is ∙ c.trees_of_nodes.ensures.if_ c.in-If.arms c.in-If.other ∙ ap (λ xs. if_ (tarm_trees xs) (tother_tree c.in-If.other)) (sym c.deref.ensures.value) in
+    let is = ap tstmt_tree c.in-If.is ∙ c.trees_of_nodes.ensures.if_ c.in-If.arms c.in-If.other
+    ∙ ap (λ xs. if_ (tarm_trees xs) (tother_tree c.in-If.other)) (sym c.deref.ensures.value) in
     IfOk-weaker c.add_if.result _ _ (λ u d. stmt_does c.args.flat.now c.add_if.new.flat _ _ _ _ is (λ m. refl) d) c.add_if.ensures.made
 
 pub add_stmt-returns-in-If-clause-fills : goal.add_stmt-returns-in-If-clause-fills
 add_stmt-returns-in-If-clause-fills t c =
-    let is = ap tstmt_tree c.in-If.is ∙ c.trees_of_nodes.ensures.if_ c.in-If.arms c.in-If.other ∙ ap (λ xs. if_ (tarm_trees xs) (tother_tree c.in-If.other)) (sym c.deref.ensures.value) in
+    let is = ap tstmt_tree c.in-If.is ∙ c.trees_of_nodes.ensures.if_ c.in-If.arms c.in-If.other
+    ∙ ap (λ xs. if_ (tarm_trees xs) (tother_tree c.in-If.other)) (sym c.deref.ensures.value) in
     subst (λ s. IfErr c.add_if.result (λ e. Fills c.args.flat.now (stmt_size s) e)) (sym is) c.add_if.ensures.fills
 
 pub add_stmt-add_case-requires : goal.add_stmt-add_case-requires
 add_stmt-add_case-requires t c =
-    let is = ap tstmt_tree c.in-Case.is ∙ c.trees_of_nodes.ensures.case c.in-Case.on c.in-Case.branches c.in-Case.other c.in-Case.spot ∙ ap (λ xs. case (texpr_tree c.in-Case.on) (tbranch_trees xs) (tother_tree c.in-Case.other) c.in-Case.spot) (sym c.deref-in-Case.ensures.value) in
+    let is = ap tstmt_tree c.in-Case.is ∙ c.trees_of_nodes.ensures.case c.in-Case.on c.in-Case.branches c.in-Case.other c.in-Case.spot
+    ∙ ap (λ xs. case (texpr_tree c.in-Case.on) (tbranch_trees xs) (tother_tree c.in-Case.other) c.in-Case.spot) (sym c.deref-in-Case.ensures.value) in
     let parts = subst (λ s. StmtPart (context c.args.flat.now) s) is c.requires.checked in
-    let w = allows_three c.args.flat.now.graph.profile (expr_is_wide (texpr_tree c.in-Case.on)) (branches_are_wide (tbranch_trees c.deref-in-Case.result.now)) (other_is_wide (tother_tree c.in-Case.other)) parts.2 in
-    (omega (arith, ap stmt_weight is), (parts.1.0, (w.0, (parts.1.1, ((parts.0, parts.1.2, w.1), ((parts.0, parts.1.3, w.2), omega (arith, ap stmt_size is, c.requires.room)))))))
+    let w = allows_three c.args.flat.now.graph.profile (expr_is_wide (texpr_tree c.in-Case.on)) (branches_are_wide (tbranch_trees c.deref-in-Case.result.now))
+    (other_is_wide (tother_tree c.in-Case.other)) parts.2 in (
+      omega (arith, ap stmt_weight is),
+      (parts.1.0, (w.0, (parts.1.1, ((parts.0, parts.1.2, w.1), ((parts.0, parts.1.3, w.2), omega (arith, ap stmt_size is, c.requires.room)))))),
+    )
 
 pub add_stmt-returns-in-Case-clause-made : goal.add_stmt-returns-in-Case-clause-made
 add_stmt-returns-in-Case-clause-made t c =
-    let is = ap tstmt_tree c.in-Case.is ∙ c.trees_of_nodes.ensures.case c.in-Case.on c.in-Case.branches c.in-Case.other c.in-Case.spot ∙ ap (λ xs. case (texpr_tree c.in-Case.on) (tbranch_trees xs) (tother_tree c.in-Case.other) c.in-Case.spot) (sym c.deref-in-Case.ensures.value) in
+    let is = ap tstmt_tree c.in-Case.is ∙ c.trees_of_nodes.ensures.case c.in-Case.on c.in-Case.branches c.in-Case.other c.in-Case.spot
+    ∙ ap (λ xs. case (texpr_tree c.in-Case.on) (tbranch_trees xs) (tother_tree c.in-Case.other) c.in-Case.spot) (sym c.deref-in-Case.ensures.value) in
     IfOk-weaker c.add_case.result _ _ (λ u d. stmt_does c.args.flat.now c.add_case.new.flat _ _ _ _ is (λ m. refl) d) c.add_case.ensures.made
 
 pub add_stmt-returns-in-Case-clause-fills : goal.add_stmt-returns-in-Case-clause-fills
 add_stmt-returns-in-Case-clause-fills t c =
-    let is = ap tstmt_tree c.in-Case.is ∙ c.trees_of_nodes.ensures.case c.in-Case.on c.in-Case.branches c.in-Case.other c.in-Case.spot ∙ ap (λ xs. case (texpr_tree c.in-Case.on) (tbranch_trees xs) (tother_tree c.in-Case.other) c.in-Case.spot) (sym c.deref-in-Case.ensures.value) in
+    let is = ap tstmt_tree c.in-Case.is ∙ c.trees_of_nodes.ensures.case c.in-Case.on c.in-Case.branches c.in-Case.other c.in-Case.spot
+    ∙ ap (λ xs. case (texpr_tree c.in-Case.on) (tbranch_trees xs) (tother_tree c.in-Case.other) c.in-Case.spot) (sym c.deref-in-Case.ensures.value) in
     subst (λ s. IfErr c.add_case.result (λ e. Fills c.args.flat.now (stmt_size s) e)) (sym is) c.add_case.ensures.fills
 
 pub add_stmt-add_for-requires : goal.add_stmt-add_for-requires
 add_stmt-add_for-requires t c =
     let f : SFits w64 c.in-For.first = search rules in
     let g : SFits w64 c.in-For.by = search rules in
-    let is = ap tstmt_tree c.in-For.is ∙ c.trees_of_nodes.ensures.for_ c.in-For.slot c.in-For.first c.in-For.by c.in-For.turns c.in-For.body c.in-For.spot ∙ ap (λ xs. for_ c.in-For.slot c.in-For.first c.in-For.by c.in-For.turns (tstmt_trees xs) c.in-For.spot) (sym c.deref-in-For.ensures.value)
-    ∙ ap₂ (λ x y. for_ c.in-For.slot x y c.in-For.turns (tstmt_trees c.deref-in-For.result.now) c.in-For.spot) (sym (to_z-of_z w64 c.in-For.first f)) (sym (to_z-of_z w64 c.in-For.by g)) in
-    (omega (arith, ap stmt_weight is), (subst (λ s. StmtPart (context c.args.flat.now) s) is c.requires.checked, subst (λ s. length c.args.flat.now.graph.turn_nodes + stmt_size s ≤ most_turn_nodes) is c.requires.room))
+    let is = ap tstmt_tree c.in-For.is ∙ c.trees_of_nodes.ensures.for_ c.in-For.slot c.in-For.first c.in-For.by c.in-For.turns c.in-For.body c.in-For.spot
+    ∙ ap (λ xs. for_ c.in-For.slot c.in-For.first c.in-For.by c.in-For.turns (tstmt_trees xs) c.in-For.spot) (sym c.deref-in-For.ensures.value)
+    ∙ ap₂ (λ x y. for_ c.in-For.slot x y c.in-For.turns (tstmt_trees c.deref-in-For.result.now) c.in-For.spot) (sym (to_z-of_z w64 c.in-For.first f))
+    (sym (to_z-of_z w64 c.in-For.by g)) in (
+      omega (arith, ap stmt_weight is),
+      (
+        subst (λ s. StmtPart (context c.args.flat.now) s) is c.requires.checked,
+        subst
+            (λ s. length c.args.flat.now.graph.turn_nodes + stmt_size s ≤ most_turn_nodes) is c.requires.room,
+      ),
+    )
 
 pub add_stmt-returns-in-For-clause-made : goal.add_stmt-returns-in-For-clause-made
 add_stmt-returns-in-For-clause-made t c =
     let f : SFits w64 c.in-For.first = search rules in
     let g : SFits w64 c.in-For.by = search rules in
-    let is = ap tstmt_tree c.in-For.is ∙ c.trees_of_nodes.ensures.for_ c.in-For.slot c.in-For.first c.in-For.by c.in-For.turns c.in-For.body c.in-For.spot ∙ ap (λ xs. for_ c.in-For.slot c.in-For.first c.in-For.by c.in-For.turns (tstmt_trees xs) c.in-For.spot) (sym c.deref-in-For.ensures.value)
-    ∙ ap₂ (λ x y. for_ c.in-For.slot x y c.in-For.turns (tstmt_trees c.deref-in-For.result.now) c.in-For.spot) (sym (to_z-of_z w64 c.in-For.first f)) (sym (to_z-of_z w64 c.in-For.by g)) in
-    subst (λ s. IfOk c.add_for.result (λ u. Does c.args.flat.now c.add_for.new.flat (stmt_size s) (do_stmt (turns_of c.args.flat.now.graph c.args.flat.now.turn) s))) (sym is) c.add_for.ensures.made
+    let is = ap tstmt_tree c.in-For.is ∙ c.trees_of_nodes.ensures.for_ c.in-For.slot c.in-For.first c.in-For.by c.in-For.turns c.in-For.body c.in-For.spot
+    ∙ ap (λ xs. for_ c.in-For.slot c.in-For.first c.in-For.by c.in-For.turns (tstmt_trees xs) c.in-For.spot) (sym c.deref-in-For.ensures.value)
+    ∙ ap₂ (λ x y. for_ c.in-For.slot x y c.in-For.turns (tstmt_trees c.deref-in-For.result.now) c.in-For.spot) (sym (to_z-of_z w64 c.in-For.first f))
+    (sym (to_z-of_z w64 c.in-For.by g)) in
+    subst (λ s. IfOk c.add_for.result
+    (λ u. Does c.args.flat.now c.add_for.new.flat (stmt_size s) (do_stmt (turns_of c.args.flat.now.graph c.args.flat.now.turn) s)))
+    (sym is) c.add_for.ensures.made
 
 pub add_stmt-returns-in-For-clause-fills : goal.add_stmt-returns-in-For-clause-fills
 add_stmt-returns-in-For-clause-fills t c =
     let f : SFits w64 c.in-For.first = search rules in
     let g : SFits w64 c.in-For.by = search rules in
-    let is = ap tstmt_tree c.in-For.is ∙ c.trees_of_nodes.ensures.for_ c.in-For.slot c.in-For.first c.in-For.by c.in-For.turns c.in-For.body c.in-For.spot ∙ ap (λ xs. for_ c.in-For.slot c.in-For.first c.in-For.by c.in-For.turns (tstmt_trees xs) c.in-For.spot) (sym c.deref-in-For.ensures.value)
-    ∙ ap₂ (λ x y. for_ c.in-For.slot x y c.in-For.turns (tstmt_trees c.deref-in-For.result.now) c.in-For.spot) (sym (to_z-of_z w64 c.in-For.first f)) (sym (to_z-of_z w64 c.in-For.by g)) in
+    let is = ap tstmt_tree c.in-For.is ∙ c.trees_of_nodes.ensures.for_ c.in-For.slot c.in-For.first c.in-For.by c.in-For.turns c.in-For.body c.in-For.spot
+    ∙ ap (λ xs. for_ c.in-For.slot c.in-For.first c.in-For.by c.in-For.turns (tstmt_trees xs) c.in-For.spot) (sym c.deref-in-For.ensures.value)
+    ∙ ap₂ (λ x y. for_ c.in-For.slot x y c.in-For.turns (tstmt_trees c.deref-in-For.result.now) c.in-For.spot) (sym (to_z-of_z w64 c.in-For.first f))
+    (sym (to_z-of_z w64 c.in-For.by g)) in
     subst (λ s. IfErr c.add_for.result (λ e. Fills c.args.flat.now (stmt_size s) e)) (sym is) c.add_for.ensures.fills
 
 -- ---- statements
@@ -278,7 +354,8 @@ add_stmts-add_stmt-requires t c =
     let d = c.each.invariant.done in (
       omega (arith, lighter),
       (
-        stmts_first (context c.args.flat.now) (context c.each.flat) _ _ _ tree (same_context c.args.flat.now c.each.flat (does_continues c.args.flat.now c.each.flat d.size d.doing d.does)) c.each.invariant.checked,
+        stmts_first (context c.args.flat.now) (context c.each.flat) _ _ _ tree
+            (same_context c.args.flat.now c.each.flat (does_continues c.args.flat.now c.each.flat d.size d.doing d.does)) c.each.invariant.checked,
         omega (arith, ap stmts_size tree, d.does.moves.few, d.fits, c.requires.room),
       ),
     )

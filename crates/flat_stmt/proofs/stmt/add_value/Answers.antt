@@ -17,5 +17,6 @@ constant-requires-clause-fits c =
 pub returns-clause-made : goal.returns-clause-made
 returns-clause-made c =
     let f : SFits w64 c.args.value = search rules in
-    let value = subst (λ v. Makes c.args.flat.now c.constant.new.self c.type_of-ty.result 1 (giving v) c.in_ok-k.k) (to_z-of_z w64 c.args.value f) c.in_ok-k.ensures.made in
+    let value = subst (λ v. Makes c.args.flat.now c.constant.new.self c.type_of-ty.result 1 (giving v) c.in_ok-k.k)
+    (to_z-of_z w64 c.args.value f) c.in_ok-k.ensures.made in
     IfOk-weaker c.assign.result _ _ (λ u g. assigned_constant c.laws_of_states.ensures c.args.flat.now c.constant.new.self c.assign.new.self c.type_of-ty.result c.args.value c.args.slot c.in_ok-k.k value g) c.assign.ensures.made

@@ -17,8 +17,16 @@ returns-in_err-inputs-clause-leaves g c =
     let runs = c.runs_follow_their_answers.ensures in
     let honest = c.honest_runs_follow_the_graph.ensures in
     let m = c.args.machine.now in
-    let fair : Fair m.graph m.table c.args.rows.now.rows = record { graph = subst IsGraph c.graph-graph.ensures c.len-operations.ensures.rules; table = subst IsTable c.table.ensures c.step-step.ensures.ranges; few = c.requires.few } in
-    rw (p.1, p.2) (memory_exit runs honest m.graph m.table c.args.rows.now c.args.rows.now g.R.ReleasedRows.text _ _ (g.R.ReleasedRows.Keeps c.args.released.now) (g.R.ReleasedRows.Keeps c.args.released.now) m fair (up_to_first runs c.args.rows.now g.R.ReleasedRows.text _ (g.R.ReleasedRows.Keeps c.args.released.now) m c.requires.fresh))
+    let fair : Fair m.graph m.table c.args.rows.now.rows =
+    record {
+      graph = subst IsGraph c.graph-graph.ensures c.len-operations.ensures.rules;
+      table = subst IsTable c.table.ensures c.step-step.ensures.ranges;
+      few = c.requires.few;
+    } in
+    rw (p.1, p.2)
+    (memory_exit runs honest m.graph m.table c.args.rows.now c.args.rows.now g.R.ReleasedRows.text _ _ (g.R.ReleasedRows.Keeps c.args.released.now)
+    (g.R.ReleasedRows.Keeps c.args.released.now) m fair
+    (up_to_first runs c.args.rows.now g.R.ReleasedRows.text _ (g.R.ReleasedRows.Keeps c.args.released.now) m c.requires.fresh))
 
 pub cycles-init : goal.cycles-init
 cycles-init g c =
@@ -27,8 +35,14 @@ cycles-init g c =
     record {
       runs = runs;
       honest = c.honest_runs_follow_the_graph.ensures;
-      fair = record { graph = subst IsGraph c.graph-graph.ensures c.len-operations.ensures.rules; table = subst IsTable c.table.ensures c.step-step.ensures.ranges; few = c.requires.few };
-      inputs = ap length c.in_ok-inputs.ensures ∙ length-replicate _ _ ∙ c.inputs.ensures ∙ ap (λ (x : Lists). length x.inputs) c.graph-graph.ensures ∙ sym c.requires.width;
+      fair = record {
+        graph = subst IsGraph c.graph-graph.ensures c.len-operations.ensures.rules;
+        table =
+            subst IsTable c.table.ensures c.step-step.ensures.ranges;
+        few = c.requires.few;
+      };
+      inputs = ap length c.in_ok-inputs.ensures ∙ length-replicate _ _ ∙ c.inputs.ensures ∙ ap (λ (x : Lists). length x.inputs) c.graph-graph.ensures
+          ∙ sym c.requires.width;
       outputs = ap length c.in_ok-outputs.ensures ∙ length-replicate _ _ ∙ c.outputs.ensures ∙ ap (λ (x : Lists). length x.outputs) c.graph-graph.ensures;
       so_far = up_to_first runs c.args.rows.now g.R.ReleasedRows.text _ (g.R.ReleasedRows.Keeps c.args.released.now) m c.requires.fresh;
     }
@@ -42,7 +56,8 @@ returns-in_err-next-clause-leaves g c =
     let m = c.args.machine.now in
     let so_far = c.cycles.invariant in
     rw (p.1, p.2)
-    (row_exit so_far.runs so_far.honest m.graph m.table c.args.rows.now c.cycles.rows g.R.ReleasedRows.text _ _ (g.R.ReleasedRows.Keeps c.args.released.now) (g.R.ReleasedRows.Keeps c.cycles.released) c.cycles.machine c.in_err-next.field-0.0 so_far.fair so_far.so_far c.in_err-next.ensures.refusal)
+    (row_exit so_far.runs so_far.honest m.graph m.table c.args.rows.now c.cycles.rows g.R.ReleasedRows.text _ _ (g.R.ReleasedRows.Keeps c.args.released.now)
+    (g.R.ReleasedRows.Keeps c.cycles.released) c.cycles.machine c.in_err-next.field-0.0 so_far.fair so_far.so_far c.in_err-next.ensures.refusal)
 
 pub run_cycle-requires-clause-going : goal.run_cycle-requires-clause-going
 run_cycle-requires-clause-going g c = c.cycles.invariant.so_far.run.going
@@ -55,7 +70,8 @@ run_cycle-requires-clause-few g c =
     let m = c.args.machine.now in
     let so_far = c.cycles.invariant in
     let one = c.in_ok-next.ensures.row c.if-branch.true in
-    cycles_left m.graph m.table c.args.rows.now c.cycles.rows c.next.new.self g.R.ReleasedRows.text _ _ (g.R.ReleasedRows.Keeps c.args.released.now) (g.R.ReleasedRows.Keeps c.cycles.released) c.cycles.machine c.next.new.out so_far.so_far c.requires.few one
+    cycles_left m.graph m.table c.args.rows.now c.cycles.rows c.next.new.self g.R.ReleasedRows.text _ _ (g.R.ReleasedRows.Keeps c.args.released.now)
+    (g.R.ReleasedRows.Keeps c.cycles.released) c.cycles.machine c.next.new.out so_far.so_far c.requires.few one
 
 pub run_cycle-requires-clause-width : goal.run_cycle-requires-clause-width
 run_cycle-requires-clause-width g c = c.cycles.invariant.outputs ∙ ap (λ (x : Lists). length x.outputs) (sym c.cycles.invariant.so_far.run.graph)
@@ -102,7 +118,8 @@ returns-clause-leaves g c =
     let m = c.args.machine.now in
     let so_far = c.cycles.invariant in
     let none = c.in_ok-next.ensures.end c.if-branch.false in
-    last_exit so_far.runs so_far.honest m.graph m.table c.args.rows.now c.cycles.rows g.R.ReleasedRows.text _ _ (g.R.ReleasedRows.Keeps c.args.released.now) (g.R.ReleasedRows.Keeps c.cycles.released) c.cycles.machine so_far.fair so_far.so_far none.0 none.1
+    last_exit so_far.runs so_far.honest m.graph m.table c.args.rows.now c.cycles.rows g.R.ReleasedRows.text _ _ (g.R.ReleasedRows.Keeps c.args.released.now)
+    (g.R.ReleasedRows.Keeps c.cycles.released) c.cycles.machine so_far.fair so_far.so_far none.0 none.1
 
 pub returns-in_default-clause-stopped : goal.returns-in_default-clause-stopped
 returns-in_default-clause-stopped g c = λ k why is.
@@ -110,7 +127,8 @@ returns-in_default-clause-stopped g c = λ k why is.
     let cycle = c.in_ok-end.ensures in
     let graph = subst IsGraph (sym so_far.so_far.run.graph) so_far.fair.graph in
     let entries = c.entries_keep_their_rules.ensures in
-    stopped_log entries c.cycles.machine c.run_cycle.new.machine c.next.new.out c.in_ok-end.end k why _ _ _ _ _ _ graph cycle.turn cycle.cause (cc) so_far.so_far.run.carried.told
+    stopped_log entries c.cycles.machine c.run_cycle.new.machine c.next.new.out c.in_ok-end.end k why _ _ _ _ _ _ graph cycle.turn cycle.cause
+    (cc) so_far.so_far.run.carried.told
 
 pub returns-in_default-clause-refused : goal.returns-in_default-clause-refused
 returns-in_default-clause-refused g c = λ i found wanted is.
@@ -124,13 +142,15 @@ returns-in_default-clause-placed g c = λ k why is.
     let graph = subst IsGraph (sym so_far.so_far.run.graph) so_far.fair.graph in
     let entries = c.entries_keep_their_rules.ensures in
     let m = c.cycles.machine in
-    subst (λ (x : Lists). k < length x.operations) so_far.so_far.run.graph (stop_placed entries m.graph m.table m.cycles c.run_cycle.new.machine.answers c.in_ok-end.end k why graph cycle.turn.whole cycle.cause (cc))
+    subst (λ (x : Lists). k < length x.operations) so_far.so_far.run.graph
+    (stop_placed entries m.graph m.table m.cycles c.run_cycle.new.machine.answers c.in_ok-end.end k why graph cycle.turn.whole cycle.cause (cc))
 
 pub returns-in_default-clause-numbered : goal.returns-in_default-clause-numbered
 returns-in_default-clause-numbered g c = λ i found wanted is.
     let cycle = c.in_ok-end.ensures in
     let m = c.cycles.machine in
-    subst (λ (x : Lists). i < length x.outputs) c.cycles.invariant.so_far.run.graph (refusal_numbered m.graph m.table m.cycles c.run_cycle.new.machine.answers c.in_ok-end.end i found wanted cycle.cause (cc))
+    subst (λ (x : Lists). i < length x.outputs) c.cycles.invariant.so_far.run.graph
+    (refusal_numbered m.graph m.table m.cycles c.run_cycle.new.machine.answers c.in_ok-end.end i found wanted cycle.cause (cc))
 
 pub returns-in_err-outputs-clause-leaves : goal.returns-in_err-outputs-clause-leaves
 returns-in_err-outputs-clause-leaves g c =
@@ -138,8 +158,16 @@ returns-in_err-outputs-clause-leaves g c =
     let runs = c.runs_follow_their_answers.ensures in
     let honest = c.honest_runs_follow_the_graph.ensures in
     let m = c.args.machine.now in
-    let fair : Fair m.graph m.table c.args.rows.now.rows = record { graph = subst IsGraph c.graph-graph.ensures c.len-operations.ensures.rules; table = subst IsTable c.table.ensures c.step-step.ensures.ranges; few = c.requires.few } in
-    rw (p.1, p.2) (memory_exit runs honest m.graph m.table c.args.rows.now c.args.rows.now g.R.ReleasedRows.text _ _ (g.R.ReleasedRows.Keeps c.args.released.now) (g.R.ReleasedRows.Keeps c.args.released.now) m fair (up_to_first runs c.args.rows.now g.R.ReleasedRows.text _ (g.R.ReleasedRows.Keeps c.args.released.now) m c.requires.fresh))
+    let fair : Fair m.graph m.table c.args.rows.now.rows =
+    record {
+      graph = subst IsGraph c.graph-graph.ensures c.len-operations.ensures.rules;
+      table = subst IsTable c.table.ensures c.step-step.ensures.ranges;
+      few = c.requires.few;
+    } in
+    rw (p.1, p.2)
+    (memory_exit runs honest m.graph m.table c.args.rows.now c.args.rows.now g.R.ReleasedRows.text _ _ (g.R.ReleasedRows.Keeps c.args.released.now)
+    (g.R.ReleasedRows.Keeps c.args.released.now) m fair
+    (up_to_first runs c.args.rows.now g.R.ReleasedRows.text _ (g.R.ReleasedRows.Keeps c.args.released.now) m c.requires.fresh))
 
 -- ---- the sink's count of faults
 

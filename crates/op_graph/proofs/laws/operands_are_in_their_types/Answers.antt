@@ -1,4 +1,5 @@
-use Rattle.op_graph.proofs.OperandLaw.{cycle_without_operand_stop, initial_fits, cycle_keeps_types, cycle_outputs_fit, part_without_operand_stop, part_values_fit, run_without_operand_stop, within_fits}
+use Rattle.op_graph.proofs.OperandLaw.{cycle_without_operand_stop, initial_fits, cycle_keeps_types, cycle_outputs_fit, part_without_operand_stop}
+use Rattle.op_graph.proofs.OperandLaw.{part_values_fit, run_without_operand_stop, within_fits}
 use Rattle.op_graph.proofs.laws.operands_are_in_their_types.Goals as goal
 
 pub returns : goal.returns

@@ -19,7 +19,8 @@ stretches-preserved c =
     let here = next_stretch c.args.nodes.now c.args.n c.stretches.stretches c.stretches.node c.stretches.left c.stretches.next i.here i.next whole in
     let e = c.fill.ensures in
     record {
-      marks = one_more_mark c.args.nodes.now c.args.n c.stretches.stretches c.stretches.node c.stretches.marks i.marks i.here (omega (arith, i.room, i.low, i.next, falls, whole, c.requires, c.stretches-test.true));
+      marks = one_more_mark c.args.nodes.now c.args.n c.stretches.stretches c.stretches.node c.stretches.marks i.marks i.here
+          (omega (arith, i.room, i.low, i.next, falls, whole, c.requires, c.stretches-test.true));
       here = here;
       some_here = λ some. omega (arith, c.stretches-test.true);
       filled = e.filled;
@@ -39,7 +40,8 @@ invariant_of-result c =
       stretch = λ k lt. i.filled k lt ∙ ap Some (ap (λ m. up c.args.nodes.now m k) i.here ∙ up_add c.args.nodes.now c.args.n (256 * c.stretches.stretches) k);
       there = all_there c.args.nodes.now c.args.n c.stretches.stretches c.stretches.left c.requires.nodes c.requires.there
           (λ some. subst (λ m. 1 ≤ m) i.here (i.some_here some))
-          (λ k lt. subst (λ m. 1 ≤ m) (ap (λ m. up c.args.nodes.now m k) i.here ∙ up_add c.args.nodes.now c.args.n (256 * c.stretches.stretches) k) (i.some k lt));
+          (λ k lt. subst (λ m. 1 ≤ m) (ap (λ m. up c.args.nodes.now m k) i.here ∙ up_add c.args.nodes.now c.args.n (256 * c.stretches.stretches) k)
+          (i.some k lt));
       few_stretches = omega (arith, i.low, c.requires);
       few_left = i.few;
     }
@@ -48,7 +50,8 @@ pub returns : goal.returns
 returns c =
     let i = c.stretches.invariant in
     let past : up c.args.nodes.now c.args.n (256 * c.stretches.stretches + c.stretches.left) ≡ 0 =
-    sym (up_add c.args.nodes.now c.args.n (256 * c.stretches.stretches) c.stretches.left) ∙ ap (λ m. up c.args.nodes.now m c.stretches.left) (sym i.here) ∙ sym i.next ∙ omega (arith, c.stretches-test.false) in
+    sym (up_add c.args.nodes.now c.args.n (256 * c.stretches.stretches) c.stretches.left) ∙ ap (λ m. up c.args.nodes.now m c.stretches.left) (sym i.here)
+    ∙ sym i.next ∙ omega (arith, c.stretches-test.false) in
     whole_chain c.args.nodes.now c.args.n (256 * c.stretches.stretches + c.stretches.left) c.requires.nodes
     (all_there c.args.nodes.now c.args.n c.stretches.stretches c.stretches.left c.requires.nodes c.requires.there
     (λ some. subst (λ m. 1 ≤ m) i.here (i.some_here some))

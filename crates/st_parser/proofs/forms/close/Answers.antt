@@ -38,4 +38,6 @@ returns-in-Some-Arguments c =
 
 pub returns-in-None : goal.returns-in-None
 returns-in-None c =
-    sym c.closing.invariant ∙ close-none c.args.level c.closing.forms.items c.pop.new.self.items _ c.in-None.ensures.items (omega (arith, c.in-None.ensures.cases.1, c.pop.new.self.ok.0))
+    sym c.closing.invariant
+    ∙ close-none c.args.level c.closing.forms.items c.pop.new.self.items _ c.in-None.ensures.items
+    (omega (arith, c.in-None.ensures.cases.1, c.pop.new.self.ok.0))

@@ -11,5 +11,15 @@ loop-form-preserved c =
     omega (arith, c.in-Some.ensures, ap weight c.form-item.is, depth-next c.args.forms.now c.loop-form.form-index c.form-item.result c.loop-form-test.true)
 
 pub returns-in-None : goal.returns-in-None
-returns-in-None c =
-    (λ e. absurd cc, λ le. absurd (omega (arith, le, c.in-None.ensures, ap weight c.form-item.is, depth-next c.args.forms.now c.loop-form.form-index c.form-item.result c.loop-form-test.true, depth-take c.args.forms.now (c.loop-form.form-index + 1))))
+returns-in-None c = (
+  λ e. absurd cc,
+  λ le. absurd
+      (omega (
+        arith,
+        le,
+        c.in-None.ensures,
+        ap weight c.form-item.is,
+        depth-next c.args.forms.now c.loop-form.form-index c.form-item.result c.loop-form-test.true,
+        depth-take c.args.forms.now (c.loop-form.form-index + 1),
+      )),
+)

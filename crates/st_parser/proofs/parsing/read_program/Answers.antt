@@ -12,10 +12,12 @@ returns-in_err-state c =
     let p = err_from_is_err_and c.from_residual.result c.from_residual.ensures.1 in
     rw (p.1, p.2)
     (fault-kept _ _ _ c.in_err-state.ensures
-    (λ f is. sym c.loop-i.invariant ∙ run-from k c.args.tokens.now.end c.args.tokens.now.tokens c.loop-i.i c.at.result (program c.loop-i.state) (Err f) c.at.ensures is))
+    (λ f is. sym c.loop-i.invariant
+    ∙ run-from k c.args.tokens.now.end c.args.tokens.now.tokens c.loop-i.i c.at.result (program c.loop-i.state) (Err f) c.at.ensures is))
 
 pub loop-i-preserved : goal.loop-i-preserved
 loop-i-preserved c =
     let k : Context = record { bytes = bytes_in c.args.text.now; most = c.args.most } in
-    sym (run-from k c.args.tokens.now.end c.args.tokens.now.tokens c.loop-i.i c.at.result (program c.loop-i.state) (Ok (program c.in_ok-state.state)) c.at.ensures c.in_ok-state.ensures)
+    sym (run-from k c.args.tokens.now.end c.args.tokens.now.tokens c.loop-i.i c.at.result (program c.loop-i.state)
+    (Ok (program c.in_ok-state.state)) c.at.ensures c.in_ok-state.ensures)
     ∙ c.loop-i.invariant

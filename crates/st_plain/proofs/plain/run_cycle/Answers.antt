@@ -8,4 +8,5 @@ set_inputs-requires-clause-before c =
 
 pub set_inputs-requires-clause-places : goal.set_inputs-requires-clause-places
 set_inputs-requires-clause-places c =
-    c.requires.places ∙ fit-length c.args.program.now.slots c.args.before.now c.requires.fit ∙ ap length (sym (c.deref.ensures.value ∙ c.slots-slots.ensures.slots))
+    c.requires.places ∙ fit-length c.args.program.now.slots c.args.before.now c.requires.fit
+    ∙ ap length (sym (c.deref.ensures.value ∙ c.slots-slots.ensures.slots))

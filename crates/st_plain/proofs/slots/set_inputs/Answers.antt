@@ -15,12 +15,15 @@ each-preserved c =
     let f : SFits w64 c.input_or_kept-value.result = search rules in
     let g : SFits w64 c.at.result = search rules in
     let set = c.set.ensures ∙ ap (λ x. slice_set c.each.values c.each.i x) (to_z-of_z w64 c.input_or_kept-value.result f) in
-    let kept : is_input c.index-slots-i.result.class ≡ false → c.input_or_kept-value.result ≡ c.at.result = λ e. c.input_or_kept-value.ensures.kept e ∙ to_z-of_z w64 c.at.result g in
+    let kept : is_input c.index-slots-i.result.class ≡ false → c.input_or_kept-value.result ≡ c.at.result = λ e. c.input_or_kept-value.ensures.kept e
+    ∙ to_z-of_z w64 c.at.result g in
     let given = c.input_or_kept-value.ensures in
     record {
-      same = ap (λ v. take (c.each.i + 1) v ++ with_inputs (drop (c.each.i + 1) c.args.slots.now) (drop c.input_or_kept-value.new.next c.args.row.now) (drop (c.each.i + 1) c.args.before.now)) set
+      same = ap (λ v. take (c.each.i + 1) v ++ with_inputs (drop (c.each.i + 1) c.args.slots.now) (drop c.input_or_kept-value.new.next c.args.row.now)
+          (drop (c.each.i + 1) c.args.before.now)) set
           ∙ values-next c.args.slots.now c.each.i c.index-slots-i.result c.args.row.now c.args.before.now c.each.values c.each.next c.input_or_kept-value.new.next c.input_or_kept-value.result c.at.result _
-          c.each-test.true c.index-slots-i.is given.input given.taken kept given.same c.at.ensures c.requires.before (omega (arith, c.each.invariant.places, c.each-test.true)) c.each.invariant.same;
+          c.each-test.true c.index-slots-i.is given.input given.taken kept given.same c.at.ensures c.requires.before
+          (omega (arith, c.each.invariant.places, c.each-test.true)) c.each.invariant.same;
       inputs = inputs-next c.args.slots.now c.each.i c.index-slots-i.result c.args.row.now c.each.next c.input_or_kept-value.new.next c.input_or_kept-value.result
           c.each-test.true c.index-slots-i.is given.input given.taken given.same c.each.invariant.inputs;
       places = ap length set ∙ length-set c.each.values c.each.i c.input_or_kept-value.result ∙ c.each.invariant.places;

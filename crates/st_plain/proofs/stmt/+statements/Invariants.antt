@@ -35,7 +35,8 @@ abbrev pub invariant-do_stmts-each : goal.invariant-do_stmts-each
 invariant-do_stmts-each l = record {
   sound : SoundStmts (tstmt_trees (drop l.s-index l.ss)) l.state.values;
   room : length l.fn.state.turns.items + stmts_depth (tstmt_trees (drop l.s-index l.ss)) ≤ vec_capacity l.fn.state.turns;
-  same : do_stmts l.fn.state.turns.items (tstmt_trees (drop l.s-index l.ss)) l.state.values ≡ do_stmts l.fn.state.turns.items (tstmt_trees l.ss) l.fn.state.values;
+  same : do_stmts l.fn.state.turns.items (tstmt_trees (drop l.s-index l.ss)) l.state.values
+      ≡ do_stmts l.fn.state.turns.items (tstmt_trees l.ss) l.fn.state.values;
   turns : l.state.turns.items ≡ l.fn.state.turns.items;
   capacity : vec_capacity l.state.turns ≡ vec_capacity l.fn.state.turns;
 }
@@ -44,7 +45,9 @@ abbrev pub invariant-do_arms-each : goal.invariant-do_arms-each
 invariant-do_arms-each l = record {
   sound : SoundArms (tarm_trees (drop l.arm-index l.arms)) l.state.values;
   room : length l.fn.state.turns.items + arms_depth (tarm_trees (drop l.arm-index l.arms)) ≤ vec_capacity l.fn.state.turns;
-  same : (otherwise : Doing) → do_arms l.fn.state.turns.items (tarm_trees (drop l.arm-index l.arms)) otherwise l.fn.state.values ≡ do_arms l.fn.state.turns.items (tarm_trees l.arms) otherwise l.fn.state.values;
+  same : (otherwise : Doing)
+      → do_arms l.fn.state.turns.items (tarm_trees (drop l.arm-index l.arms)) otherwise l.fn.state.values
+      ≡ do_arms l.fn.state.turns.items (tarm_trees l.arms) otherwise l.fn.state.values;
   values : l.state.values ≡ l.fn.state.values;
   turns : l.state.turns.items ≡ l.fn.state.turns.items;
   capacity : vec_capacity l.state.turns ≡ vec_capacity l.fn.state.turns;
@@ -54,7 +57,9 @@ abbrev pub invariant-do_branches-each : goal.invariant-do_branches-each
 invariant-do_branches-each l = record {
   sound : SoundBranches (tbranch_trees (drop l.branch-index l.branches)) l.state.values;
   room : length l.fn.state.turns.items + branches_depth (tbranch_trees (drop l.branch-index l.branches)) ≤ vec_capacity l.fn.state.turns;
-  same : (otherwise : Doing) → do_branches l.fn.state.turns.items l.v (tbranch_trees (drop l.branch-index l.branches)) otherwise l.fn.state.values ≡ do_branches l.fn.state.turns.items l.v (tbranch_trees l.branches) otherwise l.fn.state.values;
+  same : (otherwise : Doing)
+      → do_branches l.fn.state.turns.items l.v (tbranch_trees (drop l.branch-index l.branches)) otherwise l.fn.state.values
+      ≡ do_branches l.fn.state.turns.items l.v (tbranch_trees l.branches) otherwise l.fn.state.values;
   values : l.state.values ≡ l.fn.state.values;
   turns : l.state.turns.items ≡ l.fn.state.turns.items;
   capacity : vec_capacity l.state.turns ≡ vec_capacity l.fn.state.turns;
@@ -63,8 +68,10 @@ invariant-do_branches-each l = record {
 abbrev pub invariant-do_turns-turns : goal.invariant-do_turns-turns
 invariant-do_turns-turns l = record {
   sound : SoundTurns l.slot l.value l.by (l.turns - l.turn) (tstmt_trees l.body) l.state.values;
-  same : turns_from l.slot l.by (λ v. do_stmts (l.fn.state.turns.items ++ record { name = l.slot; value = v } ∷ []) (tstmt_trees l.body)) (l.turns - l.turn) l.value l.state.values
-      ≡ all_turns l.slot l.first l.by l.turns (λ v. do_stmts (l.fn.state.turns.items ++ record { name = l.slot; value = v } ∷ []) (tstmt_trees l.body)) l.fn.state.values;
+  same : turns_from l.slot l.by (λ v. do_stmts (l.fn.state.turns.items ++ record { name = l.slot; value = v } ∷ []) (tstmt_trees l.body))
+      (l.turns - l.turn) l.value l.state.values
+      ≡ all_turns l.slot l.first l.by l.turns
+      (λ v. do_stmts (l.fn.state.turns.items ++ record { name = l.slot; value = v } ∷ []) (tstmt_trees l.body)) l.fn.state.values;
   turns : l.state.turns.items ≡ l.fn.state.turns.items;
   capacity : vec_capacity l.state.turns ≡ vec_capacity l.fn.state.turns;
 }

@@ -12,13 +12,15 @@ pub returns-then-not-same_declared : goal.returns-then-not-same_declared
 returns-then-not-same_declared c = (
   λ e. absurd cc,
   λ e. c.if-not-same_declared.ensures.1
-      (at-place (λ (x : Declared). bare_declared (declared_tree x)) c.args.a.now c.args.b.now c.loop-i.i _ _ c.loop-i-test.true (omega arith) c.index-a-i.is c.index-b-i.is
+      (at-place (λ (x : Declared). bare_declared (declared_tree x)) c.args.a.now c.args.b.now c.loop-i.i _ _ c.loop-i-test.true
+      (omega arith) c.index-a-i.is c.index-b-i.is
       (both-each bare_declared declared_tree _ _ e c.loop-i.i c.index-a-i.result c.loop-i-test.true)),
 )
 
 pub loop-i-preserved : goal.loop-i-preserved
 loop-i-preserved c =
-    at-one-more (λ (x : Declared). bare_declared (declared_tree x)) c.args.a.now c.args.b.now c.loop-i.i _ _ c.loop-i-test.true (omega arith) c.index-a-i.is c.index-b-i.is
+    at-one-more (λ (x : Declared). bare_declared (declared_tree x)) c.args.a.now c.args.b.now c.loop-i.i _ _ c.loop-i-test.true
+    (omega arith) c.index-a-i.is c.index-b-i.is
     (c.if-not-same_declared.ensures.0 refl) c.loop-i.invariant
 
 pub returns : goal.returns

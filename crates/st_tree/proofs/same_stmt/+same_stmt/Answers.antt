@@ -1,6 +1,8 @@
 use Rattle.std.proofs.Common.{◌≡◌, sym, ap, arith, refl}
 use Rattle.st_tree.proofs.Pointwise.{at-one-more, at-place, moved}
-use Rattle.st_tree.proofs.SameStmts.{bare_stmt_of, bare_arm_of, bare_branch_of, stmts-by-each, stmts-length, stmts-each, arms-by-each, arms-length, arms-each, branches-by-each, branches-length, branches-each, bare-if, bare-case, bare-for, same-if, other-if, same-case, other-case, same-for}
+use Rattle.st_tree.proofs.SameStmts.{bare_stmt_of, bare_arm_of, bare_branch_of, stmts-by-each, stmts-length, stmts-each, arms-by-each, arms-length, arms-each}
+use Rattle.st_tree.proofs.SameStmts.{branches-by-each, branches-length, branches-each, bare-if, bare-case, bare-for, same-if, other-if, same-case, other-case}
+use Rattle.st_tree.proofs.SameStmts.{same-for}
 use Rattle.st_tree.proofs.same_stmt.+same_stmt.Goals as goal
 
 pub same_stmt-returns-in-If : goal.same_stmt-returns-in-If

@@ -10,7 +10,8 @@ each-preserved c =
     let e : drop c.each.d-index c.args.decls.now ≡ c.d-item.result ∷ drop (c.each.d-index + 1) c.args.decls.now = grind (arith, common_steps) in
     λ n end h. c.each.invariant n end
     (subst (λ ds. MakesDecls c.args.class (map decl_tree ds) (made_by c.each.made) n c.each.first end) (sym e)
-    (one-decl c.args.class (decl_tree c.d-item.result) (map decl_tree (drop (c.each.d-index + 1) c.args.decls.now)) (made_by c.each.made) (made_by c.add_declaration.new.made) n c.each.first c.add_declaration.new.first end
+    (one-decl c.args.class (decl_tree c.d-item.result) (map decl_tree (drop (c.each.d-index + 1) c.args.decls.now)) (made_by c.each.made)
+    (made_by c.add_declaration.new.made) n c.each.first c.add_declaration.new.first end
     c.in_ok-add_declaration.ensures h))
 
 pub returns : goal.returns

@@ -8,5 +8,7 @@ use Rattle.st_types.proofs.declaration.declared.Goals as goal
 pub returns : goal.returns
 returns c =
     let bs = map block_tree c.args.blocks.now in
-    let m = subst (λ x. MakesBlocks bs x (made_by c.add_blocks.new.made) c.args.first.now c.add_blocks.new.first) c.nothing-made.ensures c.in_ok-add_blocks.ensures in
-    two-walks c.args.first.now c.add_blocks.new.first c.inside_blocks.new.first c.add_blocks.new.made.names nothing_made (made_by c.add_blocks.new.made) (after_blocks nothing_made bs) bs m c.in_ok-inside_blocks.ensures
+    let m = subst
+    (λ x. MakesBlocks bs x (made_by c.add_blocks.new.made) c.args.first.now c.add_blocks.new.first) c.nothing-made.ensures c.in_ok-add_blocks.ensures in
+    two-walks c.args.first.now c.add_blocks.new.first c.inside_blocks.new.first c.add_blocks.new.made.names nothing_made (made_by c.add_blocks.new.made)
+    (after_blocks nothing_made bs) bs m c.in_ok-inside_blocks.ensures

@@ -6,4 +6,6 @@ use Rattle.st_types.proofs.expression.widened_all.Given as goal
 
 -- what is widened, with the rest widened behind it, is all widened
 abbrev pub invariant-each : goal.invariant-each
-invariant-each l = behind (texpr_trees l.out.items.items) (widened_all (drop l.i l.wanted) (map texpr_tree l.e-iterator.rest.items)) ≡ widened_all l.wanted (map texpr_tree l.fn.list.items)
+invariant-each l =
+    behind (texpr_trees l.out.items.items) (widened_all (drop l.i l.wanted) (map texpr_tree l.e-iterator.rest.items)) ≡ widened_all l.wanted
+    (map texpr_tree l.fn.list.items)

@@ -16,7 +16,8 @@ returns-in-Lit c =
 
 pub returns-in-Unary : goal.returns-in-Unary
 returns-in-Unary c =
-    subst (λ e. Judges c.args.names.now e c.args.first.now c.negative.new.first c.negative.result) (ap (λ x. unary c.in-Unary.op (expr_tree x) c.in-Unary.spot) c.deref.ensures ∙ sym (ap expr_tree c.in-Unary.is))
+    subst (λ e. Judges c.args.names.now e c.args.first.now c.negative.new.first c.negative.result)
+    (ap (λ x. unary c.in-Unary.op (expr_tree x) c.in-Unary.spot) c.deref.ensures ∙ sym (ap expr_tree c.in-Unary.is))
     (sign-judges c.args.names.now c.in-Unary.op _ c.in-Unary.spot _ _ _ _ c.negated.ensures c.negative.ensures.notes c.negative.ensures.gives)
 
 pub returns-in-Binary : goal.returns-in-Binary

@@ -11,7 +11,8 @@ each-preserved c = λ rest.
     let later = block_names (map block_tree (drop (c.each.b-index + 1) c.args.blocks.now)) in
     let e : drop c.each.b-index c.args.blocks.now ≡ c.b-item.result ∷ drop (c.each.b-index + 1) c.args.blocks.now = grind (arith, common_steps) in
     after-here all (decl_names (block_tree c.b-item.result).decls) later rest c.args.n c.each.left c.in-Err.rest
-    (subst (λ xs. slice_get (block_names (map block_tree xs) ++ rest) c.each.left ≡ slice_get (all ++ rest) c.args.n) e (c.each.invariant rest)) (subst (λ xs. IsAfter (decl_names (map decl_tree xs)) c.each.left c.in-Err.rest) c.deref.ensures.value c.in-Err.ensures.err)
+    (subst (λ xs. slice_get (block_names (map block_tree xs) ++ rest) c.each.left ≡ slice_get (all ++ rest) c.args.n) e (c.each.invariant rest))
+    (subst (λ xs. IsAfter (decl_names (map decl_tree xs)) c.each.left c.in-Err.rest) c.deref.ensures.value c.in-Err.ensures.err)
 
 pub returns-in-Ok-clause-ok : goal.returns-in-Ok-clause-ok
 returns-in-Ok-clause-ok c = λ rest.
@@ -19,9 +20,11 @@ returns-in-Ok-clause-ok c = λ rest.
     let later = block_names (map block_tree (drop (c.each.b-index + 1) c.args.blocks.now)) in
     let e : drop c.each.b-index c.args.blocks.now ≡ c.b-item.result ∷ drop (c.each.b-index + 1) c.args.blocks.now = grind (arith, common_steps) in
     among-here all (decl_names (block_tree c.b-item.result).decls) later rest c.args.n c.each.left c.in-Ok.spot
-    (subst (λ xs. slice_get (block_names (map block_tree xs) ++ rest) c.each.left ≡ slice_get (all ++ rest) c.args.n) e (c.each.invariant rest)) (subst (λ xs. IsAmong (decl_names (map decl_tree xs)) c.each.left c.in-Ok.spot) c.deref.ensures.value c.in-Ok.ensures.ok)
+    (subst (λ xs. slice_get (block_names (map block_tree xs) ++ rest) c.each.left ≡ slice_get (all ++ rest) c.args.n) e (c.each.invariant rest))
+    (subst (λ xs. IsAmong (decl_names (map decl_tree xs)) c.each.left c.in-Ok.spot) c.deref.ensures.value c.in-Ok.ensures.ok)
 
 pub returns-clause-err : goal.returns-clause-err
 returns-clause-err c = λ rest.
     let e : drop c.each.b-index c.args.blocks.now ≡ [] = grind (arith, common_steps) in
-    sym (subst (λ xs. slice_get (block_names (map block_tree xs) ++ rest) c.each.left ≡ slice_get (block_names (map block_tree c.args.blocks.now) ++ rest) c.args.n) e (c.each.invariant rest))
+    sym (subst (λ xs. slice_get (block_names (map block_tree xs) ++ rest) c.each.left ≡ slice_get
+    (block_names (map block_tree c.args.blocks.now) ++ rest) c.args.n) e (c.each.invariant rest))

@@ -5,4 +5,6 @@ use Rattle.st_types.specs.Places.{block_names}
 use Rattle.st_types.proofs.place.in_blocks.Given as goal
 
 abbrev pub invariant-each : goal.invariant-each
-invariant-each l = (rest : List DeclaredTree) → slice_get (block_names (map block_tree (drop l.b-index l.blocks)) ++ rest) l.left ≡ slice_get (block_names (map block_tree l.blocks) ++ rest) l.n
+invariant-each l =
+    (rest : List DeclaredTree) → slice_get (block_names (map block_tree (drop l.b-index l.blocks)) ++ rest) l.left ≡ slice_get
+    (block_names (map block_tree l.blocks) ++ rest) l.n

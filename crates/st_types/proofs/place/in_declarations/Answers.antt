@@ -11,7 +11,8 @@ each-preserved c = λ rest.
     let later = decl_names (map decl_tree (drop (c.each.d-index + 1) c.args.decls.now)) in
     let e : drop c.each.d-index c.args.decls.now ≡ c.d-item.result ∷ drop (c.each.d-index + 1) c.args.decls.now = grind (arith, common_steps) in
     after-here all (decl_tree c.d-item.result).names later rest c.args.n c.each.left c.in-Err.rest
-    (subst (λ xs. slice_get (decl_names (map decl_tree xs) ++ rest) c.each.left ≡ slice_get (all ++ rest) c.args.n) e (c.each.invariant rest)) c.in-Err.ensures.err
+    (subst (λ xs. slice_get (decl_names (map decl_tree xs) ++ rest) c.each.left ≡ slice_get (all ++ rest) c.args.n) e
+    (c.each.invariant rest)) c.in-Err.ensures.err
 
 pub returns-in-Ok-clause-ok : goal.returns-in-Ok-clause-ok
 returns-in-Ok-clause-ok c = λ rest.
@@ -19,9 +20,11 @@ returns-in-Ok-clause-ok c = λ rest.
     let later = decl_names (map decl_tree (drop (c.each.d-index + 1) c.args.decls.now)) in
     let e : drop c.each.d-index c.args.decls.now ≡ c.d-item.result ∷ drop (c.each.d-index + 1) c.args.decls.now = grind (arith, common_steps) in
     among-here all (decl_tree c.d-item.result).names later rest c.args.n c.each.left c.in-Ok.spot
-    (subst (λ xs. slice_get (decl_names (map decl_tree xs) ++ rest) c.each.left ≡ slice_get (all ++ rest) c.args.n) e (c.each.invariant rest)) c.in-Ok.ensures.ok
+    (subst (λ xs. slice_get (decl_names (map decl_tree xs) ++ rest) c.each.left ≡ slice_get (all ++ rest) c.args.n) e
+    (c.each.invariant rest)) c.in-Ok.ensures.ok
 
 pub returns-clause-err : goal.returns-clause-err
 returns-clause-err c = λ rest.
     let e : drop c.each.d-index c.args.decls.now ≡ [] = grind (arith, common_steps) in
-    sym (subst (λ xs. slice_get (decl_names (map decl_tree xs) ++ rest) c.each.left ≡ slice_get (decl_names (map decl_tree c.args.decls.now) ++ rest) c.args.n) e (c.each.invariant rest))
+    sym (subst (λ xs. slice_get (decl_names (map decl_tree xs) ++ rest) c.each.left ≡ slice_get
+    (decl_names (map decl_tree c.args.decls.now) ++ rest) c.args.n) e (c.each.invariant rest))

@@ -6,8 +6,12 @@ use Rattle.st_types.proofs.place.in_names.Goals as goal
 
 pub returns-then-n-count-clause-ok : goal.returns-then-n-count-clause-ok
 returns-then-n-count-clause-ok c = λ rest.
-    let xs = c.args.names.now.items.items in
-    (declared_tree c.at.result.now, front-place (map declared_tree xs) rest c.args.n (declared_tree c.at.result.now) (get-map declared_tree xs c.args.n (Some c.at.result.now) c.at.ensures.item), refl)
+    let xs = c.args.names.now.items.items in (
+      declared_tree c.at.result.now,
+      front-place (map declared_tree xs) rest c.args.n (declared_tree c.at.result.now)
+          (get-map declared_tree xs c.args.n (Some c.at.result.now) c.at.ensures.item),
+      refl,
+    )
 
 pub returns-clause-err : goal.returns-clause-err
 returns-clause-err c = λ rest.

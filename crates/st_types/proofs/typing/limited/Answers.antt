@@ -15,4 +15,5 @@ new-requires c =
     let p = program_tree c.args.program.now in
     let t : Program = record { slots = c.args.slots.items.items; body = tstmt_trees c.args.body.items.items } in
     let low : c.size_of-size.result ≤ most_size = grind arith in
-    typed-checked p t c.requires.names (checked p t c.requires.faultless c.in_default.ensures.none c.requires.is (small-size t c.size_of-size.result c.size_of-size.ensures low))
+    typed-checked p t c.requires.names
+    (checked p t c.requires.faultless c.in_default.ensures.none c.requires.is (small-size t c.size_of-size.result c.size_of-size.ensures low))

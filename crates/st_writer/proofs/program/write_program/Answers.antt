@@ -18,7 +18,8 @@ one : (r : Result Text Memory) (p q : ProgramTree) → IfOk r (λ t. t ≡ canon
 one (Ok t) p q e same = e ∙ sym (same_text p q same)
 one (Err f) p q e same = tt
 
-reads : (r : Result Text Memory) (p : ProgramTree) → IfOk r (λ t. t ≡ canonical p) → (limit : ℕ) (text : List ℕ) (ts : List Token) → Reads text ts → SpellsWithin limit p text ts → IfOk r (ReadsAs limit p)
+reads : (r : Result Text Memory) (p : ProgramTree) → IfOk r (λ t. t ≡ canonical p) → (limit : ℕ) (text : List ℕ) (ts : List Token) → Reads text ts
+    → SpellsWithin limit p text ts → IfOk r (ReadsAs limit p)
 reads (Ok t) p e limit text ts r s = subst (ReadsAs limit p) (sym e) (reads_back limit p text ts r s)
 reads (Err f) p e limit text ts r s = tt
 

@@ -13,5 +13,8 @@ entries-preserved c = elim c.if-eq.branch [
       })
   | else-eq w ↦
       let named : bytes_eq c.index-entries-i.result.name c.args.name.now ≡ false = (cc) in
-      rw (w.found-is, miss c.args.entries.now c.entries.i c.index-entries-i.result c.args.name.now c.entries-test.true c.index-entries-i.is named) c.entries.invariant
+      rw (
+        w.found-is,
+        miss c.args.entries.now c.entries.i c.index-entries-i.result c.args.name.now c.entries-test.true c.index-entries-i.is named,
+      ) c.entries.invariant
 ]

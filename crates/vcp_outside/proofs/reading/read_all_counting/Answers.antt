@@ -9,4 +9,7 @@ pub returns-in_err-extend_from_slice-clause-taken :
 returns-in_err-extend_from_slice-clause-taken g c =
     let fault = c.from_residual-in_err-extend_from_slice in
     let p = err_from_is_err_and fault.result fault.ensures.1 in
-    rw (p.1, p.2) (takes_more 1 (c.args.limit + 1) _ _ _ _ c.reading.content.items (take c.in_ok-count.count c.read_counted.new.buf) c.reading.invariant.bytes c.in_ok-count.ensures.bytes.0 (grind (arith, common_steps, c.in_ok-count.ensures.bound)) (grind (arith, common_steps, c.in_ok-count.ensures.bound)))
+    rw (p.1, p.2)
+    (takes_more 1 (c.args.limit + 1) _ _ _ _ c.reading.content.items
+    (take c.in_ok-count.count c.read_counted.new.buf) c.reading.invariant.bytes c.in_ok-count.ensures.bytes.0
+    (grind (arith, common_steps, c.in_ok-count.ensures.bound)) (grind (arith, common_steps, c.in_ok-count.ensures.bound)))

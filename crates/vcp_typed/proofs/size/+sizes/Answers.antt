@@ -21,4 +21,5 @@ stmt_size-returns-else-turns-eq0 t c =
     let v = ap (λ xs. stmts_size (tstmt_trees xs)) c.deref-else-turns-eq0.ensures.value in
     let a = cut-two _ _ _ c.stmts_size.ensures c.plus-else-turns-eq0.ensures in
     let b = ap (λ x. cut (c.in-For.turns * x)) a in
-    c.times.ensures ∙ b ∙ cut-times c.in-For.turns (2 + stmts_size (tstmt_trees c.deref-else-turns-eq0.result.now)) some ∙ ap (λ x. cut (c.in-For.turns * (2 + x))) v ∙ sym (ap cut e)
+    c.times.ensures ∙ b ∙ cut-times c.in-For.turns (2 + stmts_size (tstmt_trees c.deref-else-turns-eq0.result.now)) some
+    ∙ ap (λ x. cut (c.in-For.turns * (2 + x))) v ∙ sym (ap cut e)

@@ -12,7 +12,15 @@ stmt_is_wide-returns-in-If t c =
 pub stmt_is_wide-returns-in-Case : goal.stmt_is_wide-returns-in-Case
 stmt_is_wide-returns-in-Case t c =
     let e = wide-case _ _ _ _ _ _ c.in-Case.is c.deref-in-Case.ensures.value in
-    grind (arith, e, c.either-in-Case.ensures, c.either-in-Case-2.ensures, c.expr_is_wide-in-Case.ensures, c.branches_are_wide.ensures, c.other_is_wide-in-Case.ensures)
+    grind (
+      arith,
+      e,
+      c.either-in-Case.ensures,
+      c.either-in-Case-2.ensures,
+      c.expr_is_wide-in-Case.ensures,
+      c.branches_are_wide.ensures,
+      c.other_is_wide-in-Case.ensures,
+    )
 
 pub stmt_is_wide-returns-in-For : goal.stmt_is_wide-returns-in-For
 stmt_is_wide-returns-in-For t c =

@@ -10,4 +10,5 @@ abbrev pub invariant-arms_are_wide-each : goal.invariant-arms_are_wide-each
 invariant-arms_are_wide-each l = (l.found || arms_are_wide (tarm_trees (drop l.arm-index l.arms))) ≡ arms_are_wide (tarm_trees l.arms)
 
 abbrev pub invariant-branches_are_wide-each : goal.invariant-branches_are_wide-each
-invariant-branches_are_wide-each l = (l.found || branches_are_wide (tbranch_trees (drop l.branch-index l.branches))) ≡ branches_are_wide (tbranch_trees l.branches)
+invariant-branches_are_wide-each l =
+    (l.found || branches_are_wide (tbranch_trees (drop l.branch-index l.branches))) ≡ branches_are_wide (tbranch_trees l.branches)

@@ -21,10 +21,13 @@ returns-in-None-clause-accepted c =
 pub returns-in-None-clause-cause : goal.returns-in-None-clause-cause
 returns-in-None-clause-cause c = λ going.
     let m : State = c.args.self.now in
-    subst (Cause m.graph m.table m.cycles (given m)) (sym c.conclude.ensures.end) (end_has_cause m.graph m.table m.cycles (given m) (finished_whole m going c.requires.finished))
+    subst (Cause m.graph m.table m.cycles (given m)) (sym c.conclude.ensures.end)
+    (end_has_cause m.graph m.table m.cycles (given m) (finished_whole m going c.requires.finished))
 
 pub returns-in-None-clause-answers : goal.returns-in-None-clause-answers
 returns-in-None-clause-answers c = λ going.
     let m : State = c.args.self.now in
-    let sound : Sound m c.self.inside.halted (vec_capacity c.self.inside.answers) = subst (λ n. Sound n c.self.inside.halted (vec_capacity c.self.inside.answers)) c.self.view_is c.self.invariant in
-    ap (λ (n : State). n.answers) c.conclude.ensures.machine ∙ answers_kept m c.conclude.result ∙ all_kept m sound.few (finished_whole m going c.requires.finished)
+    let sound : Sound m c.self.inside.halted (vec_capacity c.self.inside.answers) =
+    subst (λ n. Sound n c.self.inside.halted (vec_capacity c.self.inside.answers)) c.self.view_is c.self.invariant in
+    ap (λ (n : State). n.answers) c.conclude.ensures.machine ∙ answers_kept m c.conclude.result
+    ∙ all_kept m sound.few (finished_whole m going c.requires.finished)

@@ -24,4 +24,5 @@ pub returns-clause-cells : goal.returns-clause-cells
 returns-clause-cells c =
     let g = c.args.graph.now in
     let t = c.args.table.now in
-    subst (λ held. CellsHold g t.seed (stamp_before t.step 0) held (initial g)) (sym c.in_ok-held.ensures.words) (c.right_answers_stand_for_values.ensures.cells_at_first g t.seed t.step c.len-operations.ensures.rules)
+    subst (λ held. CellsHold g t.seed (stamp_before t.step 0) held (initial g)) (sym c.in_ok-held.ensures.words)
+    (c.right_answers_stand_for_values.ensures.cells_at_first g t.seed t.step c.len-operations.ensures.rules)

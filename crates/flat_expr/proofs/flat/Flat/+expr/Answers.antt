@@ -23,14 +23,16 @@ use Rattle.vcp_typed.specs.Wide.{is_lint, expr_is_wide, exprs_are_wide}
 use Rattle.std.specs.Prelude.{◌||◌}
 use Rattle.flat_expr.proofs.Codes.{still, allows_at, allows_second, call_admitted, argument_code}
 use Rattle.flat_expr.specs.Weight.{expr_weight}
-use Rattle.flat_expr.proofs.Arguments.{call_made, call_fits, one_follows, one_count, first_follows, sizes, argument_is, argument_none, argument_expr, argument_lighter, tree_of_call}
+use Rattle.flat_expr.proofs.Arguments.{call_made, call_fits, one_follows, one_count, first_follows, sizes, argument_is, argument_none, argument_expr}
+use Rattle.flat_expr.proofs.Arguments.{argument_lighter, tree_of_call}
 use Rattle.flat_expr.proofs.flat.Flat.+expr.Goals as goal
 
 pub expr-returns-in-Lit-clause-made : goal.expr-returns-in-Lit-clause-made
 expr-returns-in-Lit-clause-made t c =
     let fits : SFits w64 c.in-Lit.value = search rules in
     IfOk-weaker c.constant.result _ _ (λ k p.
-    subst (λ e. Flattens c.args.self.now c.constant.new.self e k) (ap (λ v. literal c.in-Lit.ty v c.in-Lit.spot) (to_z-of_z w64 c.in-Lit.value fits) ∙ sym (ap texpr_tree c.in-Lit.is))
+    subst (λ e. Flattens c.args.self.now c.constant.new.self e k)
+    (ap (λ v. literal c.in-Lit.ty v c.in-Lit.spot) (to_z-of_z w64 c.in-Lit.value fits) ∙ sym (ap texpr_tree c.in-Lit.is))
     (literal_made c.args.self.now c.constant.new.self c.in-Lit.ty _ c.in-Lit.spot k p)) c.constant.ensures.made
 
 pub expr-returns-in-Get-clause-made : goal.expr-returns-in-Get-clause-made
@@ -39,35 +41,49 @@ expr-returns-in-Get-clause-made t c =
     let has : HasType c.args.self.now.slots c.in-Get.slot c.in-Get.ty = subst (IsExpr c.args.self.now.slots) is c.requires.checked in
     IfOk-weaker c.read.result _ _ (λ k p.
     subst (λ e. Flattens c.args.self.now c.read.new.self e k) (sym is)
-    (get_made c.args.self.now c.read.new.self c.in-Get.ty c.in-Get.slot k (subst (λ u. Makes c.args.self.now c.read.new.self u 0 (reading c.in-Get.slot) k) has.2 (p has.0 has.1)))) c.read.ensures.made
+    (get_made c.args.self.now c.read.new.self c.in-Get.ty c.in-Get.slot k
+    (subst (λ u. Makes c.args.self.now c.read.new.self u 0 (reading c.in-Get.slot) k) has.2 (p has.0 has.1)))) c.read.ensures.made
 
 pub expr-returns-in_ok-a-in-Unary-clause-made : goal.expr-returns-in_ok-a-in-Unary-clause-made
 expr-returns-in_ok-a-in-Unary-clause-made t c =
     let is : texpr_tree c.args.e.now ≡ unary c.in-Unary.op c.in-Unary.ty (texpr_tree c.in-Unary.arg.value) c.in-Unary.spot = ap texpr_tree c.in-Unary.is in
-    let inner = subst (λ x. Flattens c.args.self.now c.expr-in-Unary.new.self (texpr_tree x) c.in_ok-a-in-Unary.a) c.deref-in-Unary.ensures c.in_ok-a-in-Unary.ensures.made in
+    let inner = subst
+    (λ x. Flattens c.args.self.now c.expr-in-Unary.new.self (texpr_tree x) c.in_ok-a-in-Unary.a) c.deref-in-Unary.ensures c.in_ok-a-in-Unary.ensures.made in
     IfOk-weaker c.sign.result _ _ (λ k p.
     subst (λ e. Flattens c.args.self.now c.sign.new.self e k) (sym is)
-    (unary_made c.args.self.now c.expr-in-Unary.new.self c.sign.new.self c.in-Unary.op c.in-Unary.ty (texpr_tree c.in-Unary.arg.value) c.in-Unary.spot c.in_ok-a-in-Unary.a k inner p)) c.sign.ensures.made
+    (unary_made c.args.self.now c.expr-in-Unary.new.self c.sign.new.self c.in-Unary.op c.in-Unary.ty
+    (texpr_tree c.in-Unary.arg.value) c.in-Unary.spot c.in_ok-a-in-Unary.a k inner p)) c.sign.ensures.made
 
 pub expr-returns-in_ok-b-in-Binary-clause-made : goal.expr-returns-in_ok-b-in-Binary-clause-made
 expr-returns-in_ok-b-in-Binary-clause-made t c =
-    let is : texpr_tree c.args.e.now ≡ binary c.in-Binary.op c.in-Binary.ty (texpr_tree c.in-Binary.left.value) (texpr_tree c.in-Binary.right.value) c.in-Binary.spot = ap texpr_tree c.in-Binary.is in
-    let left = subst (λ x. Flattens c.args.self.now c.expr-in-Binary.new.self (texpr_tree x) c.in_ok-a-in-Binary.a) c.deref-in-Binary.ensures c.in_ok-a-in-Binary.ensures.made in
-    let right = subst (λ x. Flattens c.expr-in-Binary.new.self c.expr-in-Binary-2.new.self (texpr_tree x) c.in_ok-b-in-Binary.b) c.deref-in-Binary-2.ensures c.in_ok-b-in-Binary.ensures.made in
+    let is : texpr_tree c.args.e.now ≡ binary c.in-Binary.op c.in-Binary.ty (texpr_tree c.in-Binary.left.value)
+    (texpr_tree c.in-Binary.right.value) c.in-Binary.spot = ap texpr_tree c.in-Binary.is in
+    let left = subst
+    (λ x. Flattens c.args.self.now c.expr-in-Binary.new.self
+    (texpr_tree x) c.in_ok-a-in-Binary.a) c.deref-in-Binary.ensures c.in_ok-a-in-Binary.ensures.made in
+    let right = subst
+    (λ x. Flattens c.expr-in-Binary.new.self c.expr-in-Binary-2.new.self
+    (texpr_tree x) c.in_ok-b-in-Binary.b) c.deref-in-Binary-2.ensures c.in_ok-b-in-Binary.ensures.made in
     IfOk-weaker c.operate.result _ _ (λ k p.
     subst (λ e. Flattens c.args.self.now c.operate.new.self e k) (sym is)
-    (binary_made c.args.self.now c.expr-in-Binary.new.self c.expr-in-Binary-2.new.self c.operate.new.self c.in-Binary.op c.in-Binary.ty (texpr_tree c.in-Binary.left.value) (texpr_tree c.in-Binary.right.value) c.in-Binary.spot c.in_ok-a-in-Binary.a c.in_ok-b-in-Binary.b k left right p)) c.operate.ensures.made
+    (binary_made c.args.self.now c.expr-in-Binary.new.self c.expr-in-Binary-2.new.self c.operate.new.self c.in-Binary.op c.in-Binary.ty
+    (texpr_tree c.in-Binary.left.value)
+    (texpr_tree c.in-Binary.right.value) c.in-Binary.spot c.in_ok-a-in-Binary.a c.in_ok-b-in-Binary.b k left right p)) c.operate.ensures.made
 
 pub expr-returns-in_err-b-in-Binary-clause-refuses : goal.expr-returns-in_err-b-in-Binary-clause-refuses
 expr-returns-in_err-b-in-Binary-clause-refuses t c =
-    let is : texpr_tree c.args.e.now ≡ binary c.in-Binary.op c.in-Binary.ty (texpr_tree c.in-Binary.left.value) (texpr_tree c.in-Binary.right.value) c.in-Binary.spot = ap texpr_tree c.in-Binary.is in
+    let is : texpr_tree c.args.e.now ≡ binary c.in-Binary.op c.in-Binary.ty (texpr_tree c.in-Binary.left.value)
+    (texpr_tree c.in-Binary.right.value) c.in-Binary.spot = ap texpr_tree c.in-Binary.is in
     let left = ap (λ x. expr_size (texpr_tree x)) c.deref-in-Binary.ensures in
     let right = ap (λ x. expr_size (texpr_tree x)) c.deref-in-Binary-2.ensures in
     let q = err_from_is_err_and c.from_residual-in_err-b-in-Binary.result c.from_residual-in_err-b-in-Binary.ensures.1 in
-    let h = more_refuses c.args.self.now c.expr-in-Binary-2.new.self (expr_size (texpr_tree c.deref-in-Binary.result.now) + expr_size (texpr_tree c.deref-in-Binary-2.result.now)) (expr_size (texpr_tree c.args.e.now)) c.expr-in-Binary-2.result
+    let h = more_refuses c.args.self.now c.expr-in-Binary-2.new.self
+    (expr_size (texpr_tree c.deref-in-Binary.result.now) + expr_size (texpr_tree c.deref-in-Binary-2.result.now))
+    (expr_size (texpr_tree c.args.e.now)) c.expr-in-Binary-2.result
     (omega (arith, ap expr_size is, left, right))
     (later_refuses c.args.self.now c.expr-in-Binary.new.self c.expr-in-Binary-2.new.self (expr_size (texpr_tree c.deref-in-Binary.result.now)) (expr_size (texpr_tree c.deref-in-Binary-2.result.now)) c.expr-in-Binary-2.result c.in_ok-a-in-Binary.ensures.made.follows c.in_ok-a-in-Binary.ensures.made.count c.expr-in-Binary-2.ensures.refuses) in
-    rw (q.1, q.2) (subst (λ r. IfErr r (λ e. Refuses c.args.self.now c.expr-in-Binary-2.new.self (expr_size (texpr_tree c.args.e.now)) e)) c.in_err-b-in-Binary.was h)
+    rw (q.1, q.2)
+    (subst (λ r. IfErr r (λ e. Refuses c.args.self.now c.expr-in-Binary-2.new.self (expr_size (texpr_tree c.args.e.now)) e)) c.in_err-b-in-Binary.was h)
 
 pub expr-returns-in_ok-a-in-Unary-clause-refuses : goal.expr-returns-in_ok-a-in-Unary-clause-refuses
 expr-returns-in_ok-a-in-Unary-clause-refuses t c =
@@ -79,10 +95,13 @@ expr-returns-in_ok-a-in-Unary-clause-refuses t c =
 
 pub expr-returns-in_ok-b-in-Binary-clause-refuses : goal.expr-returns-in_ok-b-in-Binary-clause-refuses
 expr-returns-in_ok-b-in-Binary-clause-refuses t c =
-    let is : texpr_tree c.args.e.now ≡ binary c.in-Binary.op c.in-Binary.ty (texpr_tree c.in-Binary.left.value) (texpr_tree c.in-Binary.right.value) c.in-Binary.spot = ap texpr_tree c.in-Binary.is in
+    let is : texpr_tree c.args.e.now ≡ binary c.in-Binary.op c.in-Binary.ty (texpr_tree c.in-Binary.left.value)
+    (texpr_tree c.in-Binary.right.value) c.in-Binary.spot = ap texpr_tree c.in-Binary.is in
     let left = ap (λ x. expr_size (texpr_tree x)) c.deref-in-Binary.ensures in
     let right = ap (λ x. expr_size (texpr_tree x)) c.deref-in-Binary-2.ensures in
-    more_refuses c.args.self.now c.operate.new.self (expr_size (texpr_tree c.deref-in-Binary.result.now) + (expr_size (texpr_tree c.deref-in-Binary-2.result.now) + operator_size c.in-Binary.op)) (expr_size (texpr_tree c.args.e.now)) c.operate.result
+    more_refuses c.args.self.now c.operate.new.self
+    (expr_size (texpr_tree c.deref-in-Binary.result.now) + (expr_size (texpr_tree c.deref-in-Binary-2.result.now) + operator_size c.in-Binary.op))
+    (expr_size (texpr_tree c.args.e.now)) c.operate.result
     (omega (arith, ap expr_size is, left, right))
     (later_refuses c.args.self.now c.expr-in-Binary.new.self c.operate.new.self (expr_size (texpr_tree c.deref-in-Binary.result.now)) (expr_size (texpr_tree c.deref-in-Binary-2.result.now) + operator_size c.in-Binary.op) c.operate.result c.in_ok-a-in-Binary.ensures.made.follows c.in_ok-a-in-Binary.ensures.made.count
     (later_refuses c.expr-in-Binary.new.self c.expr-in-Binary-2.new.self c.operate.new.self (expr_size (texpr_tree c.deref-in-Binary-2.result.now)) (operator_size c.in-Binary.op) c.operate.result c.in_ok-b-in-Binary.ensures.made.follows c.in_ok-b-in-Binary.ensures.made.count c.operate.ensures.refuses))
@@ -91,8 +110,13 @@ expr-returns-in_ok-b-in-Binary-clause-refuses t c =
 
 pub argument-expr-requires : goal.argument-expr-requires
 argument-expr-requires t c =
-    let there = slice_get_read c.args.args.now (length c.args.args.now) c.args.i c.index-args-i.result refl c.if-i-args.true c.index-args-i.is in
-    (omega (arith, argument_lighter c.args.args.now c.args.i c.index-args-i.result there), (argument_expr c.args.self.now.slots c.args.args.now c.args.i c.index-args-i.result there c.requires.checked, argument_code c.args.self.now.graph.profile c.args.args.now c.args.i c.index-args-i.result there c.requires.code))
+    let there = slice_get_read c.args.args.now (length c.args.args.now) c.args.i c.index-args-i.result refl c.if-i-args.true c.index-args-i.is in (
+      omega (arith, argument_lighter c.args.args.now c.args.i c.index-args-i.result there),
+      (
+        argument_expr c.args.self.now.slots c.args.args.now c.args.i c.index-args-i.result there c.requires.checked,
+        argument_code c.args.self.now.graph.profile c.args.args.now c.args.i c.index-args-i.result there c.requires.code,
+      ),
+    )
 
 pub argument-returns-then-i-args-clause-made : goal.argument-returns-then-i-args-clause-made
 argument-returns-then-i-args-clause-made t c =
@@ -103,7 +127,8 @@ argument-returns-then-i-args-clause-made t c =
 pub argument-returns-then-i-args-clause-refuses : goal.argument-returns-then-i-args-clause-refuses
 argument-returns-then-i-args-clause-refuses t c =
     let there = slice_get_read c.args.args.now (length c.args.args.now) c.args.i c.index-args-i.result refl c.if-i-args.true c.index-args-i.is in
-    subst (λ o. IfErr c.expr.result (λ why. Refuses c.args.self.now c.expr.new.self (one_size o) why)) (sym (argument_is c.args.args.now c.args.i c.index-args-i.result there)) c.expr.ensures.refuses
+    subst (λ o. IfErr c.expr.result (λ why. Refuses c.args.self.now c.expr.new.self (one_size o) why))
+    (sym (argument_is c.args.args.now c.args.i c.index-args-i.result there)) c.expr.ensures.refuses
 
 pub argument-returns-else-i-args-clause-made : goal.argument-returns-else-i-args-clause-made
 argument-returns-else-i-args-clause-made t c =
@@ -112,69 +137,117 @@ argument-returns-else-i-args-clause-made t c =
 pub expr-argument-requires : goal.expr-argument-requires
 expr-argument-requires t c =
     let es = texpr_trees c.deref-args.result.now in
-    let e : texpr_tree c.args.e.now ≡ call c.in-Call.fun c.in-Call.ty es c.in-Call.spot = tree_of_call c.args.e.now c.in-Call.fun c.in-Call.ty c.in-Call.args c.in-Call.spot c.deref-args.result.now c.in-Call.is (c.trees_of_nodes.ensures.call _ _ _ _) c.deref-args.ensures.value in
-    let ok : AreExprs c.args.self.now.slots es × (arguments c.in-Call.fun c.in-Call.ty ≡ Some (tys_of es)) = subst (IsExpr c.args.self.now.slots) e c.requires.checked in
-    let code : Allows c.args.self.now.graph.profile (is_lint c.in-Call.ty || exprs_are_wide es) = subst (λ x. Allows c.args.self.now.graph.profile (expr_is_wide x)) e c.requires.code in
+    let e : texpr_tree c.args.e.now ≡ call c.in-Call.fun c.in-Call.ty es c.in-Call.spot =
+    tree_of_call c.args.e.now c.in-Call.fun c.in-Call.ty c.in-Call.args c.in-Call.spot c.deref-args.result.now c.in-Call.is
+    (c.trees_of_nodes.ensures.call _ _ _ _) c.deref-args.ensures.value in
+    let ok : AreExprs c.args.self.now.slots es × (arguments c.in-Call.fun c.in-Call.ty ≡ Some (tys_of es)) =
+    subst (IsExpr c.args.self.now.slots) e c.requires.checked in
+    let code : Allows c.args.self.now.graph.profile (is_lint c.in-Call.ty || exprs_are_wide es) =
+    subst (λ x. Allows c.args.self.now.graph.profile (expr_is_wide x)) e c.requires.code in
     let args = allows_second c.args.self.now.graph.profile (is_lint c.in-Call.ty) (exprs_are_wide es) code in
     (omega (arith, ap expr_weight e), (ok.0, args))
 
 pub expr-argument-requires-in-Call : goal.expr-argument-requires-in-Call
 expr-argument-requires-in-Call t c =
     let es = texpr_trees c.deref-args.result.now in
-    let e : texpr_tree c.args.e.now ≡ call c.in-Call.fun c.in-Call.ty es c.in-Call.spot = tree_of_call c.args.e.now c.in-Call.fun c.in-Call.ty c.in-Call.args c.in-Call.spot c.deref-args.result.now c.in-Call.is (c.trees_of_nodes.ensures.call _ _ _ _) c.deref-args.ensures.value in
-    let ok : AreExprs c.args.self.now.slots es × (arguments c.in-Call.fun c.in-Call.ty ≡ Some (tys_of es)) = subst (IsExpr c.args.self.now.slots) e c.requires.checked in
-    let first : Follows c.args.self.now c.argument.new.self = first_follows c.args.self.now c.argument.new.self c.in-Call.fun c.in-Call.ty es c.in_ok-a-in-Call.a ok.1 c.in_ok-a-in-Call.ensures.made in
-    let code : Allows c.args.self.now.graph.profile (is_lint c.in-Call.ty || exprs_are_wide es) = subst (λ x. Allows c.args.self.now.graph.profile (expr_is_wide x)) e c.requires.code in
-    let args = allows_second c.args.self.now.graph.profile (is_lint c.in-Call.ty) (exprs_are_wide es) code in
-    (omega (arith, ap expr_weight e), (subst (λ sl. AreExprs sl es) (sym first.slots) ok.0, allows_at c.args.self.now.graph.profile c.argument.new.self.graph.profile (exprs_are_wide es) first.profile args))
+    let e : texpr_tree c.args.e.now ≡ call c.in-Call.fun c.in-Call.ty es c.in-Call.spot =
+    tree_of_call c.args.e.now c.in-Call.fun c.in-Call.ty c.in-Call.args c.in-Call.spot c.deref-args.result.now c.in-Call.is
+    (c.trees_of_nodes.ensures.call _ _ _ _) c.deref-args.ensures.value in
+    let ok : AreExprs c.args.self.now.slots es × (arguments c.in-Call.fun c.in-Call.ty ≡ Some (tys_of es)) =
+    subst (IsExpr c.args.self.now.slots) e c.requires.checked in
+    let first : Follows c.args.self.now c.argument.new.self =
+    first_follows c.args.self.now c.argument.new.self c.in-Call.fun c.in-Call.ty es c.in_ok-a-in-Call.a ok.1 c.in_ok-a-in-Call.ensures.made in
+    let code : Allows c.args.self.now.graph.profile (is_lint c.in-Call.ty || exprs_are_wide es) =
+    subst (λ x. Allows c.args.self.now.graph.profile (expr_is_wide x)) e c.requires.code in
+    let args = allows_second c.args.self.now.graph.profile (is_lint c.in-Call.ty) (exprs_are_wide es) code in (
+      omega (arith, ap expr_weight e),
+      (
+        subst (λ sl. AreExprs sl es) (sym first.slots) ok.0,
+        allows_at c.args.self.now.graph.profile c.argument.new.self.graph.profile
+            (exprs_are_wide es) first.profile args,
+      ),
+    )
 
 pub expr-argument-requires-in-Call-2 : goal.expr-argument-requires-in-Call-2
 expr-argument-requires-in-Call-2 t c =
     let es = texpr_trees c.deref-args.result.now in
-    let e : texpr_tree c.args.e.now ≡ call c.in-Call.fun c.in-Call.ty es c.in-Call.spot = tree_of_call c.args.e.now c.in-Call.fun c.in-Call.ty c.in-Call.args c.in-Call.spot c.deref-args.result.now c.in-Call.is (c.trees_of_nodes.ensures.call _ _ _ _) c.deref-args.ensures.value in
-    let ok : AreExprs c.args.self.now.slots es × (arguments c.in-Call.fun c.in-Call.ty ≡ Some (tys_of es)) = subst (IsExpr c.args.self.now.slots) e c.requires.checked in
-    let first : Follows c.args.self.now c.argument.new.self = first_follows c.args.self.now c.argument.new.self c.in-Call.fun c.in-Call.ty es c.in_ok-a-in-Call.a ok.1 c.in_ok-a-in-Call.ensures.made in
-    let second : Follows c.argument.new.self c.argument-in-Call.new.self = one_follows c.argument.new.self c.argument-in-Call.new.self (argument es 1) c.in_ok-b-in-Call.b first.after c.in_ok-b-in-Call.ensures.made in
-    let code : Allows c.args.self.now.graph.profile (is_lint c.in-Call.ty || exprs_are_wide es) = subst (λ x. Allows c.args.self.now.graph.profile (expr_is_wide x)) e c.requires.code in
-    let args = allows_second c.args.self.now.graph.profile (is_lint c.in-Call.ty) (exprs_are_wide es) code in
-    (omega (arith, ap expr_weight e), (subst (λ sl. AreExprs sl es) (sym (second.slots ∙ first.slots)) ok.0, allows_at c.args.self.now.graph.profile c.argument-in-Call.new.self.graph.profile (exprs_are_wide es) (second.profile ∙ first.profile) args))
+    let e : texpr_tree c.args.e.now ≡ call c.in-Call.fun c.in-Call.ty es c.in-Call.spot =
+    tree_of_call c.args.e.now c.in-Call.fun c.in-Call.ty c.in-Call.args c.in-Call.spot c.deref-args.result.now c.in-Call.is
+    (c.trees_of_nodes.ensures.call _ _ _ _) c.deref-args.ensures.value in
+    let ok : AreExprs c.args.self.now.slots es × (arguments c.in-Call.fun c.in-Call.ty ≡ Some (tys_of es)) =
+    subst (IsExpr c.args.self.now.slots) e c.requires.checked in
+    let first : Follows c.args.self.now c.argument.new.self =
+    first_follows c.args.self.now c.argument.new.self c.in-Call.fun c.in-Call.ty es c.in_ok-a-in-Call.a ok.1 c.in_ok-a-in-Call.ensures.made in
+    let second : Follows c.argument.new.self c.argument-in-Call.new.self =
+    one_follows c.argument.new.self c.argument-in-Call.new.self (argument es 1) c.in_ok-b-in-Call.b first.after c.in_ok-b-in-Call.ensures.made in
+    let code : Allows c.args.self.now.graph.profile (is_lint c.in-Call.ty || exprs_are_wide es) =
+    subst (λ x. Allows c.args.self.now.graph.profile (expr_is_wide x)) e c.requires.code in
+    let args = allows_second c.args.self.now.graph.profile (is_lint c.in-Call.ty) (exprs_are_wide es) code in (
+      omega (arith, ap expr_weight e),
+      (
+        subst (λ sl. AreExprs sl es) (sym (second.slots ∙ first.slots)) ok.0,
+        allows_at c.args.self.now.graph.profile c.argument-in-Call.new.self.graph.profile
+            (exprs_are_wide es) (second.profile ∙ first.profile) args,
+      ),
+    )
 
 pub expr-apply-requires-clause-arguments : goal.expr-apply-requires-clause-arguments
 expr-apply-requires-clause-arguments t c =
     let es = texpr_trees c.deref-args.result.now in
-    let e : texpr_tree c.args.e.now ≡ call c.in-Call.fun c.in-Call.ty es c.in-Call.spot = tree_of_call c.args.e.now c.in-Call.fun c.in-Call.ty c.in-Call.args c.in-Call.spot c.deref-args.result.now c.in-Call.is (c.trees_of_nodes.ensures.call _ _ _ _) c.deref-args.ensures.value in
-    let ok : AreExprs c.args.self.now.slots es × (arguments c.in-Call.fun c.in-Call.ty ≡ Some (tys_of es)) = subst (IsExpr c.args.self.now.slots) e c.requires.checked in
+    let e : texpr_tree c.args.e.now ≡ call c.in-Call.fun c.in-Call.ty es c.in-Call.spot =
+    tree_of_call c.args.e.now c.in-Call.fun c.in-Call.ty c.in-Call.args c.in-Call.spot c.deref-args.result.now c.in-Call.is
+    (c.trees_of_nodes.ensures.call _ _ _ _) c.deref-args.ensures.value in
+    let ok : AreExprs c.args.self.now.slots es × (arguments c.in-Call.fun c.in-Call.ty ≡ Some (tys_of es)) =
+    subst (IsExpr c.args.self.now.slots) e c.requires.checked in
     call_fits c.args.self.now c.argument.new.self c.argument-in-Call.new.self c.argument-in-Call-2.new.self c.in-Call.fun c.in-Call.ty es c.in_ok-a-in-Call.a c.in_ok-b-in-Call.b c.in_ok-c-in-Call.c ok.1 c.in_ok-a-in-Call.ensures.made c.in_ok-b-in-Call.ensures.made c.in_ok-c-in-Call.ensures.made
 
 pub expr-apply-requires-clause-ty : goal.expr-apply-requires-clause-ty
 expr-apply-requires-clause-ty t c =
     let es = texpr_trees c.deref-args.result.now in
-    let e : texpr_tree c.args.e.now ≡ call c.in-Call.fun c.in-Call.ty es c.in-Call.spot = tree_of_call c.args.e.now c.in-Call.fun c.in-Call.ty c.in-Call.args c.in-Call.spot c.deref-args.result.now c.in-Call.is (c.trees_of_nodes.ensures.call _ _ _ _) c.deref-args.ensures.value in
-    let ok : AreExprs c.args.self.now.slots es × (arguments c.in-Call.fun c.in-Call.ty ≡ Some (tys_of es)) = subst (IsExpr c.args.self.now.slots) e c.requires.checked in
-    let code : Allows c.args.self.now.graph.profile (is_lint c.in-Call.ty || exprs_are_wide es) = subst (λ x. Allows c.args.self.now.graph.profile (expr_is_wide x)) e c.requires.code in
-    let first : Follows c.args.self.now c.argument.new.self = first_follows c.args.self.now c.argument.new.self c.in-Call.fun c.in-Call.ty es c.in_ok-a-in-Call.a ok.1 c.in_ok-a-in-Call.ensures.made in
-    let second : Follows c.argument.new.self c.argument-in-Call.new.self = one_follows c.argument.new.self c.argument-in-Call.new.self (argument es 1) c.in_ok-b-in-Call.b first.after c.in_ok-b-in-Call.ensures.made in
-    let third : Follows c.argument-in-Call.new.self c.argument-in-Call-2.new.self = one_follows c.argument-in-Call.new.self c.argument-in-Call-2.new.self (argument es 2) c.in_ok-c-in-Call.c second.after c.in_ok-c-in-Call.ensures.made in
+    let e : texpr_tree c.args.e.now ≡ call c.in-Call.fun c.in-Call.ty es c.in-Call.spot =
+    tree_of_call c.args.e.now c.in-Call.fun c.in-Call.ty c.in-Call.args c.in-Call.spot c.deref-args.result.now c.in-Call.is
+    (c.trees_of_nodes.ensures.call _ _ _ _) c.deref-args.ensures.value in
+    let ok : AreExprs c.args.self.now.slots es × (arguments c.in-Call.fun c.in-Call.ty ≡ Some (tys_of es)) =
+    subst (IsExpr c.args.self.now.slots) e c.requires.checked in
+    let code : Allows c.args.self.now.graph.profile (is_lint c.in-Call.ty || exprs_are_wide es) =
+    subst (λ x. Allows c.args.self.now.graph.profile (expr_is_wide x)) e c.requires.code in
+    let first : Follows c.args.self.now c.argument.new.self =
+    first_follows c.args.self.now c.argument.new.self c.in-Call.fun c.in-Call.ty es c.in_ok-a-in-Call.a ok.1 c.in_ok-a-in-Call.ensures.made in
+    let second : Follows c.argument.new.self c.argument-in-Call.new.self =
+    one_follows c.argument.new.self c.argument-in-Call.new.self (argument es 1) c.in_ok-b-in-Call.b first.after c.in_ok-b-in-Call.ensures.made in
+    let third : Follows c.argument-in-Call.new.self c.argument-in-Call-2.new.self =
+    one_follows c.argument-in-Call.new.self c.argument-in-Call-2.new.self (argument es 2) c.in_ok-c-in-Call.c second.after c.in_ok-c-in-Call.ensures.made in
     let own = call_admitted c.args.self.now.graph.profile c.in-Call.fun c.in-Call.ty es ok.1 code in
     still c.args.self.now.graph.profile c.argument-in-Call-2.new.self.graph.profile c.in-Call.ty (third.profile ∙ second.profile ∙ first.profile) own.0
 
 pub expr-apply-requires-clause-last : goal.expr-apply-requires-clause-last
 expr-apply-requires-clause-last t c =
     let es = texpr_trees c.deref-args.result.now in
-    let e : texpr_tree c.args.e.now ≡ call c.in-Call.fun c.in-Call.ty es c.in-Call.spot = tree_of_call c.args.e.now c.in-Call.fun c.in-Call.ty c.in-Call.args c.in-Call.spot c.deref-args.result.now c.in-Call.is (c.trees_of_nodes.ensures.call _ _ _ _) c.deref-args.ensures.value in
-    let ok : AreExprs c.args.self.now.slots es × (arguments c.in-Call.fun c.in-Call.ty ≡ Some (tys_of es)) = subst (IsExpr c.args.self.now.slots) e c.requires.checked in
-    let code : Allows c.args.self.now.graph.profile (is_lint c.in-Call.ty || exprs_are_wide es) = subst (λ x. Allows c.args.self.now.graph.profile (expr_is_wide x)) e c.requires.code in
-    let first : Follows c.args.self.now c.argument.new.self = first_follows c.args.self.now c.argument.new.self c.in-Call.fun c.in-Call.ty es c.in_ok-a-in-Call.a ok.1 c.in_ok-a-in-Call.ensures.made in
-    let second : Follows c.argument.new.self c.argument-in-Call.new.self = one_follows c.argument.new.self c.argument-in-Call.new.self (argument es 1) c.in_ok-b-in-Call.b first.after c.in_ok-b-in-Call.ensures.made in
-    let third : Follows c.argument-in-Call.new.self c.argument-in-Call-2.new.self = one_follows c.argument-in-Call.new.self c.argument-in-Call-2.new.self (argument es 2) c.in_ok-c-in-Call.c second.after c.in_ok-c-in-Call.ensures.made in
+    let e : texpr_tree c.args.e.now ≡ call c.in-Call.fun c.in-Call.ty es c.in-Call.spot =
+    tree_of_call c.args.e.now c.in-Call.fun c.in-Call.ty c.in-Call.args c.in-Call.spot c.deref-args.result.now c.in-Call.is
+    (c.trees_of_nodes.ensures.call _ _ _ _) c.deref-args.ensures.value in
+    let ok : AreExprs c.args.self.now.slots es × (arguments c.in-Call.fun c.in-Call.ty ≡ Some (tys_of es)) =
+    subst (IsExpr c.args.self.now.slots) e c.requires.checked in
+    let code : Allows c.args.self.now.graph.profile (is_lint c.in-Call.ty || exprs_are_wide es) =
+    subst (λ x. Allows c.args.self.now.graph.profile (expr_is_wide x)) e c.requires.code in
+    let first : Follows c.args.self.now c.argument.new.self =
+    first_follows c.args.self.now c.argument.new.self c.in-Call.fun c.in-Call.ty es c.in_ok-a-in-Call.a ok.1 c.in_ok-a-in-Call.ensures.made in
+    let second : Follows c.argument.new.self c.argument-in-Call.new.self =
+    one_follows c.argument.new.self c.argument-in-Call.new.self (argument es 1) c.in_ok-b-in-Call.b first.after c.in_ok-b-in-Call.ensures.made in
+    let third : Follows c.argument-in-Call.new.self c.argument-in-Call-2.new.self =
+    one_follows c.argument-in-Call.new.self c.argument-in-Call-2.new.self (argument es 2) c.in_ok-c-in-Call.c second.after c.in_ok-c-in-Call.ensures.made in
     let own = call_admitted c.args.self.now.graph.profile c.in-Call.fun c.in-Call.ty es ok.1 code in
-    still c.args.self.now.graph.profile c.argument-in-Call-2.new.self.graph.profile (last_type c.in-Call.fun c.in-Call.ty) (third.profile ∙ second.profile ∙ first.profile) own.1
+    still c.args.self.now.graph.profile c.argument-in-Call-2.new.self.graph.profile (last_type c.in-Call.fun c.in-Call.ty)
+    (third.profile ∙ second.profile ∙ first.profile) own.1
 
 pub expr-returns-in_ok-c-in-Call-clause-made : goal.expr-returns-in_ok-c-in-Call-clause-made
 expr-returns-in_ok-c-in-Call-clause-made t c =
     let es = texpr_trees c.deref-args.result.now in
-    let e : texpr_tree c.args.e.now ≡ call c.in-Call.fun c.in-Call.ty es c.in-Call.spot = tree_of_call c.args.e.now c.in-Call.fun c.in-Call.ty c.in-Call.args c.in-Call.spot c.deref-args.result.now c.in-Call.is (c.trees_of_nodes.ensures.call _ _ _ _) c.deref-args.ensures.value in
-    let ok : AreExprs c.args.self.now.slots es × (arguments c.in-Call.fun c.in-Call.ty ≡ Some (tys_of es)) = subst (IsExpr c.args.self.now.slots) e c.requires.checked in
+    let e : texpr_tree c.args.e.now ≡ call c.in-Call.fun c.in-Call.ty es c.in-Call.spot =
+    tree_of_call c.args.e.now c.in-Call.fun c.in-Call.ty c.in-Call.args c.in-Call.spot c.deref-args.result.now c.in-Call.is
+    (c.trees_of_nodes.ensures.call _ _ _ _) c.deref-args.ensures.value in
+    let ok : AreExprs c.args.self.now.slots es × (arguments c.in-Call.fun c.in-Call.ty ≡ Some (tys_of es)) =
+    subst (IsExpr c.args.self.now.slots) e c.requires.checked in
     IfOk-weaker c.apply.result _ _ (λ k p.
     subst (λ x. Flattens c.args.self.now c.apply.new.self x k) (sym e)
     (call_made c.args.self.now c.argument.new.self c.argument-in-Call.new.self c.argument-in-Call-2.new.self c.apply.new.self c.in-Call.fun c.in-Call.ty es c.in-Call.spot c.in_ok-a-in-Call.a c.in_ok-b-in-Call.b c.in_ok-c-in-Call.c k ok.1 c.in_ok-a-in-Call.ensures.made c.in_ok-b-in-Call.ensures.made c.in_ok-c-in-Call.ensures.made p)) c.apply.ensures.made
@@ -182,51 +255,82 @@ expr-returns-in_ok-c-in-Call-clause-made t c =
 pub expr-returns-in_err-a-in-Call-clause-refuses : goal.expr-returns-in_err-a-in-Call-clause-refuses
 expr-returns-in_err-a-in-Call-clause-refuses t c =
     let es = texpr_trees c.deref-args.result.now in
-    let e : texpr_tree c.args.e.now ≡ call c.in-Call.fun c.in-Call.ty es c.in-Call.spot = tree_of_call c.args.e.now c.in-Call.fun c.in-Call.ty c.in-Call.args c.in-Call.spot c.deref-args.result.now c.in-Call.is (c.trees_of_nodes.ensures.call _ _ _ _) c.deref-args.ensures.value in
-    let ok : AreExprs c.args.self.now.slots es × (arguments c.in-Call.fun c.in-Call.ty ≡ Some (tys_of es)) = subst (IsExpr c.args.self.now.slots) e c.requires.checked in
+    let e : texpr_tree c.args.e.now ≡ call c.in-Call.fun c.in-Call.ty es c.in-Call.spot =
+    tree_of_call c.args.e.now c.in-Call.fun c.in-Call.ty c.in-Call.args c.in-Call.spot c.deref-args.result.now c.in-Call.is
+    (c.trees_of_nodes.ensures.call _ _ _ _) c.deref-args.ensures.value in
+    let ok : AreExprs c.args.self.now.slots es × (arguments c.in-Call.fun c.in-Call.ty ≡ Some (tys_of es)) =
+    subst (IsExpr c.args.self.now.slots) e c.requires.checked in
     let q = err_from_is_err_and c.from_residual-in_err-a-in-Call.result c.from_residual-in_err-a-in-Call.ensures.1 in
-    let h = more_refuses c.args.self.now c.argument.new.self (one_size (argument es 0)) (expr_size (texpr_tree c.args.e.now)) c.argument.result (omega (arith, ap expr_size e, sizes es)) c.argument.ensures.refuses in
+    let h = more_refuses c.args.self.now c.argument.new.self (one_size (argument es 0)) (expr_size (texpr_tree c.args.e.now)) c.argument.result
+    (omega (arith, ap expr_size e, sizes es)) c.argument.ensures.refuses in
     rw (q.1, q.2) (subst (λ r. IfErr r (λ e. Refuses c.args.self.now c.argument.new.self (expr_size (texpr_tree c.args.e.now)) e)) c.in_err-a-in-Call.was h)
 
 pub expr-returns-in_err-b-in-Call-clause-refuses : goal.expr-returns-in_err-b-in-Call-clause-refuses
 expr-returns-in_err-b-in-Call-clause-refuses t c =
     let es = texpr_trees c.deref-args.result.now in
-    let e : texpr_tree c.args.e.now ≡ call c.in-Call.fun c.in-Call.ty es c.in-Call.spot = tree_of_call c.args.e.now c.in-Call.fun c.in-Call.ty c.in-Call.args c.in-Call.spot c.deref-args.result.now c.in-Call.is (c.trees_of_nodes.ensures.call _ _ _ _) c.deref-args.ensures.value in
-    let ok : AreExprs c.args.self.now.slots es × (arguments c.in-Call.fun c.in-Call.ty ≡ Some (tys_of es)) = subst (IsExpr c.args.self.now.slots) e c.requires.checked in
-    let first : Follows c.args.self.now c.argument.new.self = first_follows c.args.self.now c.argument.new.self c.in-Call.fun c.in-Call.ty es c.in_ok-a-in-Call.a ok.1 c.in_ok-a-in-Call.ensures.made in
+    let e : texpr_tree c.args.e.now ≡ call c.in-Call.fun c.in-Call.ty es c.in-Call.spot =
+    tree_of_call c.args.e.now c.in-Call.fun c.in-Call.ty c.in-Call.args c.in-Call.spot c.deref-args.result.now c.in-Call.is
+    (c.trees_of_nodes.ensures.call _ _ _ _) c.deref-args.ensures.value in
+    let ok : AreExprs c.args.self.now.slots es × (arguments c.in-Call.fun c.in-Call.ty ≡ Some (tys_of es)) =
+    subst (IsExpr c.args.self.now.slots) e c.requires.checked in
+    let first : Follows c.args.self.now c.argument.new.self =
+    first_follows c.args.self.now c.argument.new.self c.in-Call.fun c.in-Call.ty es c.in_ok-a-in-Call.a ok.1 c.in_ok-a-in-Call.ensures.made in
     let count = one_count c.args.self.now c.argument.new.self (argument es 0) c.in_ok-a-in-Call.a c.in_ok-a-in-Call.ensures.made in
     let q = err_from_is_err_and c.from_residual-in_err-b-in-Call.result c.from_residual-in_err-b-in-Call.ensures.1 in
-    let h = more_refuses c.args.self.now c.argument-in-Call.new.self (one_size (argument es 0) + one_size (argument es 1)) (expr_size (texpr_tree c.args.e.now)) c.argument-in-Call.result (omega (arith, ap expr_size e, sizes es))
-    (later_refuses c.args.self.now c.argument.new.self c.argument-in-Call.new.self (one_size (argument es 0)) (one_size (argument es 1)) c.argument-in-Call.result first count c.argument-in-Call.ensures.refuses) in
-    rw (q.1, q.2) (subst (λ r. IfErr r (λ e. Refuses c.args.self.now c.argument-in-Call.new.self (expr_size (texpr_tree c.args.e.now)) e)) c.in_err-b-in-Call.was h)
+    let h = more_refuses c.args.self.now c.argument-in-Call.new.self (one_size (argument es 0) + one_size (argument es 1))
+    (expr_size (texpr_tree c.args.e.now)) c.argument-in-Call.result (omega (arith, ap expr_size e, sizes es))
+    (later_refuses c.args.self.now c.argument.new.self c.argument-in-Call.new.self (one_size (argument es 0))
+    (one_size (argument es 1)) c.argument-in-Call.result first count c.argument-in-Call.ensures.refuses) in
+    rw (q.1, q.2)
+    (subst (λ r. IfErr r (λ e. Refuses c.args.self.now c.argument-in-Call.new.self (expr_size (texpr_tree c.args.e.now)) e)) c.in_err-b-in-Call.was h)
 
 pub expr-returns-in_err-c-in-Call-clause-refuses : goal.expr-returns-in_err-c-in-Call-clause-refuses
 expr-returns-in_err-c-in-Call-clause-refuses t c =
     let es = texpr_trees c.deref-args.result.now in
-    let e : texpr_tree c.args.e.now ≡ call c.in-Call.fun c.in-Call.ty es c.in-Call.spot = tree_of_call c.args.e.now c.in-Call.fun c.in-Call.ty c.in-Call.args c.in-Call.spot c.deref-args.result.now c.in-Call.is (c.trees_of_nodes.ensures.call _ _ _ _) c.deref-args.ensures.value in
-    let ok : AreExprs c.args.self.now.slots es × (arguments c.in-Call.fun c.in-Call.ty ≡ Some (tys_of es)) = subst (IsExpr c.args.self.now.slots) e c.requires.checked in
-    let first : Follows c.args.self.now c.argument.new.self = first_follows c.args.self.now c.argument.new.self c.in-Call.fun c.in-Call.ty es c.in_ok-a-in-Call.a ok.1 c.in_ok-a-in-Call.ensures.made in
-    let second : Follows c.argument.new.self c.argument-in-Call.new.self = one_follows c.argument.new.self c.argument-in-Call.new.self (argument es 1) c.in_ok-b-in-Call.b first.after c.in_ok-b-in-Call.ensures.made in
+    let e : texpr_tree c.args.e.now ≡ call c.in-Call.fun c.in-Call.ty es c.in-Call.spot =
+    tree_of_call c.args.e.now c.in-Call.fun c.in-Call.ty c.in-Call.args c.in-Call.spot c.deref-args.result.now c.in-Call.is
+    (c.trees_of_nodes.ensures.call _ _ _ _) c.deref-args.ensures.value in
+    let ok : AreExprs c.args.self.now.slots es × (arguments c.in-Call.fun c.in-Call.ty ≡ Some (tys_of es)) =
+    subst (IsExpr c.args.self.now.slots) e c.requires.checked in
+    let first : Follows c.args.self.now c.argument.new.self =
+    first_follows c.args.self.now c.argument.new.self c.in-Call.fun c.in-Call.ty es c.in_ok-a-in-Call.a ok.1 c.in_ok-a-in-Call.ensures.made in
+    let second : Follows c.argument.new.self c.argument-in-Call.new.self =
+    one_follows c.argument.new.self c.argument-in-Call.new.self (argument es 1) c.in_ok-b-in-Call.b first.after c.in_ok-b-in-Call.ensures.made in
     let count = one_count c.args.self.now c.argument.new.self (argument es 0) c.in_ok-a-in-Call.a c.in_ok-a-in-Call.ensures.made in
     let count2 = one_count c.argument.new.self c.argument-in-Call.new.self (argument es 1) c.in_ok-b-in-Call.b c.in_ok-b-in-Call.ensures.made in
     let q = err_from_is_err_and c.from_residual-in_err-c-in-Call.result c.from_residual-in_err-c-in-Call.ensures.1 in
-    let h = more_refuses c.args.self.now c.argument-in-Call-2.new.self (one_size (argument es 0) + (one_size (argument es 1) + one_size (argument es 2))) (expr_size (texpr_tree c.args.e.now)) c.argument-in-Call-2.result (omega (arith, ap expr_size e, sizes es))
-    (later_refuses c.args.self.now c.argument.new.self c.argument-in-Call-2.new.self (one_size (argument es 0)) (one_size (argument es 1) + one_size (argument es 2)) c.argument-in-Call-2.result first count
-    (later_refuses c.argument.new.self c.argument-in-Call.new.self c.argument-in-Call-2.new.self (one_size (argument es 1)) (one_size (argument es 2)) c.argument-in-Call-2.result second count2 c.argument-in-Call-2.ensures.refuses)) in
-    rw (q.1, q.2) (subst (λ r. IfErr r (λ e. Refuses c.args.self.now c.argument-in-Call-2.new.self (expr_size (texpr_tree c.args.e.now)) e)) c.in_err-c-in-Call.was h)
+    let h = more_refuses c.args.self.now c.argument-in-Call-2.new.self (one_size (argument es 0) + (one_size (argument es 1) + one_size (argument es 2)))
+    (expr_size (texpr_tree c.args.e.now)) c.argument-in-Call-2.result (omega (arith, ap expr_size e, sizes es))
+    (later_refuses c.args.self.now c.argument.new.self c.argument-in-Call-2.new.self (one_size (argument es 0))
+    (one_size (argument es 1) + one_size (argument es 2)) c.argument-in-Call-2.result first count
+    (later_refuses c.argument.new.self c.argument-in-Call.new.self c.argument-in-Call-2.new.self (one_size (argument es 1))
+    (one_size (argument es 2)) c.argument-in-Call-2.result second count2 c.argument-in-Call-2.ensures.refuses)) in
+    rw (q.1, q.2)
+    (subst (λ r. IfErr r (λ e. Refuses c.args.self.now c.argument-in-Call-2.new.self (expr_size (texpr_tree c.args.e.now)) e)) c.in_err-c-in-Call.was h)
 
 pub expr-returns-in_ok-c-in-Call-clause-refuses : goal.expr-returns-in_ok-c-in-Call-clause-refuses
 expr-returns-in_ok-c-in-Call-clause-refuses t c =
     let es = texpr_trees c.deref-args.result.now in
-    let e : texpr_tree c.args.e.now ≡ call c.in-Call.fun c.in-Call.ty es c.in-Call.spot = tree_of_call c.args.e.now c.in-Call.fun c.in-Call.ty c.in-Call.args c.in-Call.spot c.deref-args.result.now c.in-Call.is (c.trees_of_nodes.ensures.call _ _ _ _) c.deref-args.ensures.value in
-    let ok : AreExprs c.args.self.now.slots es × (arguments c.in-Call.fun c.in-Call.ty ≡ Some (tys_of es)) = subst (IsExpr c.args.self.now.slots) e c.requires.checked in
-    let first : Follows c.args.self.now c.argument.new.self = first_follows c.args.self.now c.argument.new.self c.in-Call.fun c.in-Call.ty es c.in_ok-a-in-Call.a ok.1 c.in_ok-a-in-Call.ensures.made in
-    let second : Follows c.argument.new.self c.argument-in-Call.new.self = one_follows c.argument.new.self c.argument-in-Call.new.self (argument es 1) c.in_ok-b-in-Call.b first.after c.in_ok-b-in-Call.ensures.made in
-    let third : Follows c.argument-in-Call.new.self c.argument-in-Call-2.new.self = one_follows c.argument-in-Call.new.self c.argument-in-Call-2.new.self (argument es 2) c.in_ok-c-in-Call.c second.after c.in_ok-c-in-Call.ensures.made in
+    let e : texpr_tree c.args.e.now ≡ call c.in-Call.fun c.in-Call.ty es c.in-Call.spot =
+    tree_of_call c.args.e.now c.in-Call.fun c.in-Call.ty c.in-Call.args c.in-Call.spot c.deref-args.result.now c.in-Call.is
+    (c.trees_of_nodes.ensures.call _ _ _ _) c.deref-args.ensures.value in
+    let ok : AreExprs c.args.self.now.slots es × (arguments c.in-Call.fun c.in-Call.ty ≡ Some (tys_of es)) =
+    subst (IsExpr c.args.self.now.slots) e c.requires.checked in
+    let first : Follows c.args.self.now c.argument.new.self =
+    first_follows c.args.self.now c.argument.new.self c.in-Call.fun c.in-Call.ty es c.in_ok-a-in-Call.a ok.1 c.in_ok-a-in-Call.ensures.made in
+    let second : Follows c.argument.new.self c.argument-in-Call.new.self =
+    one_follows c.argument.new.self c.argument-in-Call.new.self (argument es 1) c.in_ok-b-in-Call.b first.after c.in_ok-b-in-Call.ensures.made in
+    let third : Follows c.argument-in-Call.new.self c.argument-in-Call-2.new.self =
+    one_follows c.argument-in-Call.new.self c.argument-in-Call-2.new.self (argument es 2) c.in_ok-c-in-Call.c second.after c.in_ok-c-in-Call.ensures.made in
     let count = one_count c.args.self.now c.argument.new.self (argument es 0) c.in_ok-a-in-Call.a c.in_ok-a-in-Call.ensures.made in
     let count2 = one_count c.argument.new.self c.argument-in-Call.new.self (argument es 1) c.in_ok-b-in-Call.b c.in_ok-b-in-Call.ensures.made in
     let count3 = one_count c.argument-in-Call.new.self c.argument-in-Call-2.new.self (argument es 2) c.in_ok-c-in-Call.c c.in_ok-c-in-Call.ensures.made in
-    more_refuses c.args.self.now c.apply.new.self (one_size (argument es 0) + (one_size (argument es 1) + (one_size (argument es 2) + function_size c.in-Call.fun))) (expr_size (texpr_tree c.args.e.now)) c.apply.result (omega (arith, ap expr_size e, sizes es))
-    (later_refuses c.args.self.now c.argument.new.self c.apply.new.self (one_size (argument es 0)) (one_size (argument es 1) + (one_size (argument es 2) + function_size c.in-Call.fun)) c.apply.result first count
-    (later_refuses c.argument.new.self c.argument-in-Call.new.self c.apply.new.self (one_size (argument es 1)) (one_size (argument es 2) + function_size c.in-Call.fun) c.apply.result second count2
-    (later_refuses c.argument-in-Call.new.self c.argument-in-Call-2.new.self c.apply.new.self (one_size (argument es 2)) (function_size c.in-Call.fun) c.apply.result third count3 c.apply.ensures.refuses)))
+    more_refuses c.args.self.now c.apply.new.self
+    (one_size (argument es 0) + (one_size (argument es 1) + (one_size (argument es 2) + function_size c.in-Call.fun)))
+    (expr_size (texpr_tree c.args.e.now)) c.apply.result (omega (arith, ap expr_size e, sizes es))
+    (later_refuses c.args.self.now c.argument.new.self c.apply.new.self (one_size (argument es 0))
+    (one_size (argument es 1) + (one_size (argument es 2) + function_size c.in-Call.fun)) c.apply.result first count
+    (later_refuses c.argument.new.self c.argument-in-Call.new.self c.apply.new.self (one_size (argument es 1))
+    (one_size (argument es 2) + function_size c.in-Call.fun) c.apply.result second count2
+    (later_refuses c.argument-in-Call.new.self c.argument-in-Call-2.new.self c.apply.new.self (one_size (argument es 2))
+    (function_size c.in-Call.fun) c.apply.result third count3 c.apply.ensures.refuses)))

@@ -15,7 +15,9 @@ returns-clause-made c =
     let x = slot_there c.args.self.now.slots c.args.slot c.requires.slot in
     let t : c.type_of-ty.result ≡ x.0.ty = c.type_of-ty.ensures.value x.0 x.1 in
     let old = c.in_ok-old.ensures.made x.0 x.1 in
-    let sel = subst (λ u. Makes c.read.new.self c.add.new.self u 1 (acts c.read.new.self kind.Sel u c.args.path c.in_ok-old.old c.args.op c.args.spot) c.in_ok-value.value) t c.in_ok-value.ensures.made in
+    let sel = subst
+    (λ u. Makes c.read.new.self c.add.new.self u 1
+    (acts c.read.new.self kind.Sel u c.args.path c.in_ok-old.old c.args.op c.args.spot) c.in_ok-value.value) t c.in_ok-value.ensures.made in
     subst (λ s. Assigns c.args.self.now s c.args.slot c.args.op) (sym c.set.ensures.known)
     (chosen c.args.self.now c.read.new.self c.add.new.self x.0.ty c.args.slot c.args.path c.args.op c.in_ok-old.old c.in_ok-value.value c.args.spot c.requires.slot c.requires.path (subst IsState c.set.ensures.known c.set.ensures.state) (c.requires.fits x.0 x.1) old sel)
 
@@ -43,7 +45,8 @@ pub add-requires-clause-c : goal.add-requires-clause-c
 add-requires-clause-c c =
     let x = slot_there c.args.self.now.slots c.args.slot c.requires.slot in
     let old = c.in_ok-old.ensures.made x.0 x.1 in
-    subst (λ u. IsA u c.read.new.self.graph.operations c.args.op) (sym (c.type_of-ty.ensures.value x.0 x.1)) (old.follows.typed x.0.ty c.args.op (c.requires.fits x.0 x.1))
+    subst (λ u. IsA u c.read.new.self.graph.operations c.args.op) (sym (c.type_of-ty.ensures.value x.0 x.1))
+    (old.follows.typed x.0.ty c.args.op (c.requires.fits x.0 x.1))
 
 pub set-requires-clause-slot : goal.set-requires-clause-slot
 set-requires-clause-slot c =
@@ -56,7 +59,8 @@ pub set-requires-clause-fits : goal.set-requires-clause-fits
 set-requires-clause-fits c = λ y h.
     let x = slot_there c.args.self.now.slots c.args.slot c.requires.slot in
     let old = c.in_ok-old.ensures.made x.0 x.1 in
-    let there : slice_get c.args.self.now.slots c.args.slot ≡ Some y = sym (ap (λ l. slice_get l c.args.slot) (c.in_ok-value.ensures.made.follows.slots ∙ old.follows.slots)) ∙ h in
+    let there : slice_get c.args.self.now.slots c.args.slot ≡ Some y =
+    sym (ap (λ l. slice_get l c.args.slot) (c.in_ok-value.ensures.made.follows.slots ∙ old.follows.slots)) ∙ h in
     subst (λ u. IsA u c.add.new.self.graph.operations c.in_ok-value.value) (c.type_of-ty.ensures.value y there) c.in_ok-value.ensures.made.place
 
 pub add-requires-clause-from : goal.add-requires-clause-from

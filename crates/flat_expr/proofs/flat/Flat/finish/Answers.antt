@@ -10,7 +10,16 @@ use Rattle.flat_expr.proofs.flat.Flat.finish.Goals as goal
 
 pub returns-in_err-close_outputs-clause-refuses : goal.returns-in_err-close_outputs-clause-refuses
 returns-in_err-close_outputs-clause-refuses c =
-    let a : State = record { slots = c.self.inside.slots.now.items.items; graph = c.self.inside.graph; known = c.self.inside.known.items; path = c.self.inside.path; turn = c.self.inside.turn; nought = c.self.inside.nought; unit = c.self.inside.unit } in
+    let a : State =
+    record {
+      slots = c.self.inside.slots.now.items.items;
+      graph = c.self.inside.graph;
+      known = c.self.inside.known.items;
+      path = c.self.inside.path;
+      turn = c.self.inside.turn;
+      nought = c.self.inside.nought;
+      unit = c.self.inside.unit;
+    } in
     let begin = closes_begin a c.self.invariant in
     let q = err_from_is_err_and c.from_residual.result c.from_residual.ensures.1 in
     let refuses = c.close_outputs.ensures.refuses a begin refl in
@@ -20,16 +29,36 @@ returns-in_err-close_outputs-clause-refuses c =
 
 pub close_cells-requires : goal.close_cells-requires
 close_cells-requires c =
-    let a : State = record { slots = c.self.inside.slots.now.items.items; graph = c.self.inside.graph; known = c.self.inside.known.items; path = c.self.inside.path; turn = c.self.inside.turn; nought = c.self.inside.nought; unit = c.self.inside.unit } in
+    let a : State =
+    record {
+      slots = c.self.inside.slots.now.items.items;
+      graph = c.self.inside.graph;
+      known = c.self.inside.known.items;
+      path = c.self.inside.path;
+      turn = c.self.inside.turn;
+      nought = c.self.inside.nought;
+      unit = c.self.inside.unit;
+    } in
     let begin = closes_begin a c.self.invariant in
-    let outs = subst (λ l. Closes a (length a.slots) 0 c.close_outputs.new.graph l) (sym c.deref.ensures.value) (c.in_ok-close_outputs.ensures.made a begin refl) in
+    let outs = subst (λ l. Closes a (length a.slots) 0 c.close_outputs.new.graph l) (sym c.deref.ensures.value)
+    (c.in_ok-close_outputs.ensures.made a begin refl) in
     (a, length a.slots, outs, refl)
 
 pub returns-in_err-close_cells-clause-refuses : goal.returns-in_err-close_cells-clause-refuses
 returns-in_err-close_cells-clause-refuses c =
-    let a : State = record { slots = c.self.inside.slots.now.items.items; graph = c.self.inside.graph; known = c.self.inside.known.items; path = c.self.inside.path; turn = c.self.inside.turn; nought = c.self.inside.nought; unit = c.self.inside.unit } in
+    let a : State =
+    record {
+      slots = c.self.inside.slots.now.items.items;
+      graph = c.self.inside.graph;
+      known = c.self.inside.known.items;
+      path = c.self.inside.path;
+      turn = c.self.inside.turn;
+      nought = c.self.inside.nought;
+      unit = c.self.inside.unit;
+    } in
     let begin = closes_begin a c.self.invariant in
-    let outs = subst (λ l. Closes a (length a.slots) 0 c.close_outputs.new.graph l) (sym c.deref.ensures.value) (c.in_ok-close_outputs.ensures.made a begin refl) in
+    let outs = subst (λ l. Closes a (length a.slots) 0 c.close_outputs.new.graph l) (sym c.deref.ensures.value)
+    (c.in_ok-close_outputs.ensures.made a begin refl) in
     let q = err_from_is_err_and c.from_residual-in_err-close_cells.result c.from_residual-in_err-close_cells.ensures.1 in
     let refuses = c.close_cells.ensures.refuses a (length a.slots) outs refl in
     subst (λ (s : State). c.from_residual-in_err-close_cells.result ≡ Err build.Full → most_operations < reserved s + last_size s.slots) c.self.view_is
@@ -38,16 +67,36 @@ returns-in_err-close_cells-clause-refuses c =
 
 pub finish-requires : goal.finish-requires
 finish-requires c =
-    let a : State = record { slots = c.self.inside.slots.now.items.items; graph = c.self.inside.graph; known = c.self.inside.known.items; path = c.self.inside.path; turn = c.self.inside.turn; nought = c.self.inside.nought; unit = c.self.inside.unit } in
+    let a : State =
+    record {
+      slots = c.self.inside.slots.now.items.items;
+      graph = c.self.inside.graph;
+      known = c.self.inside.known.items;
+      path = c.self.inside.path;
+      turn = c.self.inside.turn;
+      nought = c.self.inside.nought;
+      unit = c.self.inside.unit;
+    } in
     let begin = closes_begin a c.self.invariant in
-    let outs = subst (λ l. Closes a (length a.slots) 0 c.close_outputs.new.graph l) (sym c.deref.ensures.value) (c.in_ok-close_outputs.ensures.made a begin refl) in
+    let outs = subst (λ l. Closes a (length a.slots) 0 c.close_outputs.new.graph l) (sym c.deref.ensures.value)
+    (c.in_ok-close_outputs.ensures.made a begin refl) in
     (c.in_ok-close_cells.ensures.made a (length a.slots) outs refl).so_far
 
 pub returns-clause-made : goal.returns-clause-made
 returns-clause-made c =
-    let a : State = record { slots = c.self.inside.slots.now.items.items; graph = c.self.inside.graph; known = c.self.inside.known.items; path = c.self.inside.path; turn = c.self.inside.turn; nought = c.self.inside.nought; unit = c.self.inside.unit } in
+    let a : State =
+    record {
+      slots = c.self.inside.slots.now.items.items;
+      graph = c.self.inside.graph;
+      known = c.self.inside.known.items;
+      path = c.self.inside.path;
+      turn = c.self.inside.turn;
+      nought = c.self.inside.nought;
+      unit = c.self.inside.unit;
+    } in
     let begin = closes_begin a c.self.invariant in
-    let outs = subst (λ l. Closes a (length a.slots) 0 c.close_outputs.new.graph l) (sym c.deref.ensures.value) (c.in_ok-close_outputs.ensures.made a begin refl) in
+    let outs = subst (λ l. Closes a (length a.slots) 0 c.close_outputs.new.graph l) (sym c.deref.ensures.value)
+    (c.in_ok-close_outputs.ensures.made a begin refl) in
     let all = c.in_ok-close_cells.ensures.made a (length a.slots) outs refl in
     subst (λ (s : State). Finishes s c.finish.result) c.self.view_is
     (subst (λ g. Finishes a g) (sym c.finish.ensures) (finishes a (length c.close_cells.new.graph.loads) c.close_cells.new.graph c.deref.result.now refl all))

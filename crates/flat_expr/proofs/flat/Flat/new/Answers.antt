@@ -33,7 +33,8 @@ invariant_of-result c =
     let slots : c.deref-2.result.now ≡ p.slots = c.deref-2.ensures.value ∙ c.slots-slots.ensures.slots in
     let profile = c.in_ok-graph.graph.profile in
     let code : is_wide profile ≡ wide p = ap (λ (g : Lists). is_wide g.profile) c.in_ok-graph.ensures ∙ c.profile_of-profile.ensures ∙ c.wide.ensures in
-    let graph : c.enter_all.new.graph ≡ entered profile (names_of p.slots) p.slots = c.in_ok-known.ensures.graph ∙ ap (λ l. entered profile (names_of l) l) slots in
+    let graph : c.enter_all.new.graph ≡ entered profile (names_of p.slots) p.slots = c.in_ok-known.ensures.graph
+    ∙ ap (λ l. entered profile (names_of l) l) slots in
     let known : c.in_ok-known.known.items ≡ held_from 0 p.slots = c.in_ok-known.ensures.known ∙ ap (held_from 0) slots in
     let all = begins profile p code c.slots-slots.ensures.checked (subst IsPart graph c.len-rules.ensures.rules) c.operands_are_in_their_types.ensures in
     subst IsState (sym (same_state c.slots-slots.result.now.items.items p.slots c.enter_all.new.graph _ c.in_ok-known.known.items _ c.slots-slots.ensures.slots graph known)) all.state
@@ -45,7 +46,8 @@ returns c =
     let slots : c.deref-2.result.now ≡ p.slots = c.deref-2.ensures.value ∙ c.slots-slots.ensures.slots in
     let profile = c.in_ok-graph.graph.profile in
     let code : is_wide profile ≡ wide p = ap (λ (g : Lists). is_wide g.profile) c.in_ok-graph.ensures ∙ c.profile_of-profile.ensures ∙ c.wide.ensures in
-    let graph : c.enter_all.new.graph ≡ entered profile (names_of p.slots) p.slots = c.in_ok-known.ensures.graph ∙ ap (λ l. entered profile (names_of l) l) slots in
+    let graph : c.enter_all.new.graph ≡ entered profile (names_of p.slots) p.slots = c.in_ok-known.ensures.graph
+    ∙ ap (λ l. entered profile (names_of l) l) slots in
     let known : c.in_ok-known.known.items ≡ held_from 0 p.slots = c.in_ok-known.ensures.known ∙ ap (held_from 0) slots in
     let all = begins profile p code c.slots-slots.ensures.checked (subst IsPart graph c.len-rules.ensures.rules) c.operands_are_in_their_types.ensures in
     subst (λ s. Begins s p) (sym (same_state c.slots-slots.result.now.items.items p.slots c.enter_all.new.graph _ c.in_ok-known.known.items _ c.slots-slots.ensures.slots graph known)) all

@@ -14,43 +14,84 @@ use Rattle.flat_expr.proofs.flat.Flat.read.Goals as goal
 pub load-requires-clause-few : goal.load-requires-clause-few
 load-requires-clause-few c =
     let none : get_or c.self.inside.known.items c.args.slot None ≡ None = cc in
-    let lt : c.args.slot < length c.self.inside.known.items = let h = subst (λ (s : State). c.args.slot < length s.slots) (sym c.self.view_is) c.requires in omega (arith, h, c.self.invariant.long) in
-    omega (arith, c.self.invariant.cells, c.self.invariant.few, others_fewer c.self.inside.slots.now.items.items, unknown_set c.self.inside.known.items c.args.slot 0 lt none)
+    let lt : c.args.slot < length c.self.inside.known.items = let h = subst (λ (s : State). c.args.slot < length s.slots) (sym c.self.view_is) c.requires in
+    omega (arith, h, c.self.invariant.long) in
+    omega (
+      arith,
+      c.self.invariant.cells,
+      c.self.invariant.few,
+      others_fewer c.self.inside.slots.now.items.items,
+      unknown_set c.self.inside.known.items c.args.slot 0 lt none,
+    )
 
 pub invariant_of-self-2 : goal.invariant_of-self-2
 invariant_of-self-2 c =
-    let a : State = record { slots = c.self.inside.slots.now.items.items; graph = c.self.inside.graph; known = c.self.inside.known.items; path = c.self.inside.path; turn = c.self.inside.turn; nought = c.self.inside.nought; unit = c.self.inside.unit } in
+    let a : State =
+    record {
+      slots = c.self.inside.slots.now.items.items;
+      graph = c.self.inside.graph;
+      known = c.self.inside.known.items;
+      path = c.self.inside.path;
+      turn = c.self.inside.turn;
+      nought = c.self.inside.nought;
+      unit = c.self.inside.unit;
+    } in
     let v = c.at-variable.result.now in
     let none : get_or c.self.inside.known.items c.args.slot None ≡ None = cc in
     let fits : SFits w64 v.init = search rules in
-    let e : c.load.new.self ≡ with_load a.graph c.args.slot v.ty v.init v.spot = subst (λ n. c.load.new.self ≡ with_load a.graph c.args.slot v.ty n v.spot) (to_z-of_z w64 v.init fits) c.in_ok-k.ensures.added in
-    let is : record a { graph = c.load.new.self; known = set a.known c.args.slot (Some c.in_ok-k.k) } ≡ loading a c.args.slot v = ap₂ (λ g n. record a { graph = g; known = set a.known c.args.slot (Some n) }) e c.in_ok-k.ensures.number in
+    let e : c.load.new.self ≡ with_load a.graph c.args.slot v.ty v.init v.spot =
+    subst (λ n. c.load.new.self ≡ with_load a.graph c.args.slot v.ty n v.spot) (to_z-of_z w64 v.init fits) c.in_ok-k.ensures.added in
+    let is : record a { graph = c.load.new.self; known = set a.known c.args.slot (Some c.in_ok-k.k) } ≡ loading a c.args.slot v =
+    ap₂ (λ g n. record a { graph = g; known = set a.known c.args.slot (Some n) }) e c.in_ok-k.ensures.number in
     subst IsState (sym is) (load_state a c.args.slot v c.self.invariant c.at-variable.ensures none (subst IsPart e c.len-rules.ensures.rules))
 
 pub returns-clause-made : goal.returns-clause-made
 returns-clause-made c = λ x h.
-    let a : State = record { slots = c.self.inside.slots.now.items.items; graph = c.self.inside.graph; known = c.self.inside.known.items; path = c.self.inside.path; turn = c.self.inside.turn; nought = c.self.inside.nought; unit = c.self.inside.unit } in
+    let a : State =
+    record {
+      slots = c.self.inside.slots.now.items.items;
+      graph = c.self.inside.graph;
+      known = c.self.inside.known.items;
+      path = c.self.inside.path;
+      turn = c.self.inside.turn;
+      nought = c.self.inside.nought;
+      unit = c.self.inside.unit;
+    } in
     let v = c.at-variable.result.now in
     let none : get_or c.self.inside.known.items c.args.slot None ≡ None = cc in
     let fits : SFits w64 v.init = search rules in
-    let e : c.load.new.self ≡ with_load a.graph c.args.slot v.ty v.init v.spot = subst (λ n. c.load.new.self ≡ with_load a.graph c.args.slot v.ty n v.spot) (to_z-of_z w64 v.init fits) c.in_ok-k.ensures.added in
-    let is : record a { graph = c.load.new.self; known = set a.known c.args.slot (Some c.in_ok-k.k) } ≡ loading a c.args.slot v = ap₂ (λ g n. record a { graph = g; known = set a.known c.args.slot (Some n) }) e c.in_ok-k.ensures.number in
+    let e : c.load.new.self ≡ with_load a.graph c.args.slot v.ty v.init v.spot =
+    subst (λ n. c.load.new.self ≡ with_load a.graph c.args.slot v.ty n v.spot) (to_z-of_z w64 v.init fits) c.in_ok-k.ensures.added in
+    let is : record a { graph = c.load.new.self; known = set a.known c.args.slot (Some c.in_ok-k.k) } ≡ loading a c.args.slot v =
+    ap₂ (λ g n. record a { graph = g; known = set a.known c.args.slot (Some n) }) e c.in_ok-k.ensures.number in
     let new = load_state a c.args.slot v c.self.invariant c.at-variable.ensures none (subst IsPart e c.len-rules.ensures.rules) in
     let m = loaded a c.args.slot v c.self.invariant new c.at-variable.ensures none in
     let there : slice_get a.slots c.args.slot ≡ Some x = ap (λ (s : State). slice_get s.slots c.args.slot) c.self.view_is ∙ h in
     let same : Some v ≡ Some x = sym c.at-variable.ensures ∙ there in
     let vx : v ≡ x = cc in
-    subst (λ (s : State). Makes s (record a { graph = c.load.new.self; known = set a.known c.args.slot (Some c.in_ok-k.k) }) x.ty 0 (reading c.args.slot) c.in_ok-k.k) c.self.view_is
-    (subst (λ (y : Slot). Makes a (record a { graph = c.load.new.self; known = set a.known c.args.slot (Some c.in_ok-k.k) }) y.ty 0 (reading c.args.slot) c.in_ok-k.k) vx
+    subst (λ (s : State). Makes s (record a { graph = c.load.new.self; known = set a.known c.args.slot (Some c.in_ok-k.k) }) x.ty 0
+    (reading c.args.slot) c.in_ok-k.k) c.self.view_is
+    (subst (λ (y : Slot). Makes a (record a { graph = c.load.new.self; known = set a.known c.args.slot (Some c.in_ok-k.k) }) y.ty 0
+    (reading c.args.slot) c.in_ok-k.k) vx
     (subst (λ s. Makes a s v.ty 0 (reading c.args.slot) c.in_ok-k.k) (sym is)
     (subst (λ n. Makes a (loading a c.args.slot v) v.ty 0 (reading c.args.slot) n) (sym c.in_ok-k.ensures.number) m)))
 
 pub returns-in_err-k-clause-refuses : goal.returns-in_err-k-clause-refuses
 returns-in_err-k-clause-refuses c =
-    let a : State = record { slots = c.self.inside.slots.now.items.items; graph = c.self.inside.graph; known = c.self.inside.known.items; path = c.self.inside.path; turn = c.self.inside.turn; nought = c.self.inside.nought; unit = c.self.inside.unit } in
+    let a : State =
+    record {
+      slots = c.self.inside.slots.now.items.items;
+      graph = c.self.inside.graph;
+      known = c.self.inside.known.items;
+      path = c.self.inside.path;
+      turn = c.self.inside.turn;
+      nought = c.self.inside.nought;
+      unit = c.self.inside.unit;
+    } in
     let q = err_from_is_err_and c.from_residual.result c.from_residual.ensures.1 in
     let none : get_or c.self.inside.known.items c.args.slot None ≡ None = cc in
-    let lt : c.args.slot < length c.self.inside.known.items = let h = subst (λ (s : State). c.args.slot < length s.slots) (sym c.self.view_is) c.requires in omega (arith, h, c.self.invariant.long) in
+    let lt : c.args.slot < length c.self.inside.known.items = let h = subst (λ (s : State). c.args.slot < length s.slots) (sym c.self.view_is) c.requires in
+    omega (arith, h, c.self.invariant.long) in
     let some : 1 ≤ unknown c.self.inside.known.items = omega (arith, unknown_set c.self.inside.known.items c.args.slot 0 lt none) in
     let h = load_refuses a c.load.new.self c.load.result c.self.invariant some c.load.ensures.err c.load.ensures.full in
     rw (q.1, q.2) (subst (λ r. IfErr r (λ e. Refuses c.args.self.now (record a { graph = c.load.new.self }) 0 e)) c.in_err-k.was

@@ -29,7 +29,8 @@ returns-in-Not-clause-made c =
     IfOk-weaker c.add-in-Not.result _ _ (λ k p.
     subst (λ (op : UnOp). Makes c.args.self.now c.add-in-Not.new.self c.args.ty 2 (signs c.args.self.now op c.args.ty c.args.a c.args.spot) k) (sym c.in-Not.is)
     (subst (λ u. Makes c.args.self.now c.add-in-Not.new.self u 2 (signs c.args.self.now un.Not u c.args.a c.args.spot) k) (sym t)
-    (not_made c.args.self.now c.add-in-Not.new.self c.args.a k c.args.spot (subst (λ u. IsA u c.args.self.now.graph.operations c.args.a) t c.requires.a) p))) c.add-in-Not.ensures.made
+    (not_made c.args.self.now c.add-in-Not.new.self c.args.a k c.args.spot
+    (subst (λ u. IsA u c.args.self.now.graph.operations c.args.a) t c.requires.a) p))) c.add-in-Not.ensures.made
 
 pub returns-in_ok-m-in-Neg-clause-refuses : goal.returns-in_ok-m-in-Neg-clause-refuses
 returns-in_ok-m-in-Neg-clause-refuses c = later_refuses c.args.self.now c.mask.new.self c.add.new.self 1 1 c.add.result c.in_ok-m-in-Neg.ensures.made.follows c.in_ok-m-in-Neg.ensures.made.count c.add.ensures.refuses

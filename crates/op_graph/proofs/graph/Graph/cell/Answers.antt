@@ -28,5 +28,6 @@ returns c =
     let load = slice_get_read loads (length loads) c.args.i l refl (omega (arith, few.0)) c.index-loaded.ensures in
     let store = slice_get_read stores (length stores) c.args.i n refl (omega (arith, few.1)) c.index.ensures in
     let cell : Cell = record { name = l.name; ty = l.ty; init = l.init; load = l.load; store = n } in
-    let found : slice_get (cells c.args.self.now) c.args.i ≡ Some cell = subst (λ (g : Lists). slice_get (cells g) c.args.i ≡ Some cell) c.self.view_is (joined_at loads stores c.args.i l n load store) in
+    let found : slice_get (cells c.args.self.now) c.args.i ≡ Some cell =
+    subst (λ (g : Lists). slice_get (cells g) c.args.i ≡ Some cell) c.self.view_is (joined_at loads stores c.args.i l n load store) in
     grind (arith, common_steps, to_z-of_z)

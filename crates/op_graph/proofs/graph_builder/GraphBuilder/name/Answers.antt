@@ -10,6 +10,17 @@ use Rattle.op_graph.proofs.graph_builder.GraphBuilder.name.Goals as goal
 pub invariant_of-self-2 : goal.invariant_of-self-2
 invariant_of-self-2 c =
     let v : Lists = c.args.self.now in
-    let new : Lists = record { profile = c.self.inside.profile; names = c.push.new.self.items; inputs = c.self.inside.inputs.items; outputs = c.self.inside.outputs.items; loads = c.self.inside.loads.items; stores = c.self.inside.stores.items; turn_nodes = c.self.inside.turn_nodes.items; operations = c.self.inside.operations.items } in
+    let new : Lists =
+    record {
+      profile = c.self.inside.profile;
+      names = c.push.new.self.items;
+      inputs = c.self.inside.inputs.items;
+      outputs = c.self.inside.outputs.items;
+      loads = c.self.inside.loads.items;
+      stores = c.self.inside.stores.items;
+      turn_nodes = c.self.inside.turn_nodes.items;
+      operations =
+          c.self.inside.operations.items;
+    } in
     let e : new ≡ with_name v c.args.name.now = first_of (search rules, grind (arith, common_steps, to_z-of_z)) in
     subst IsPart (sym e) (with_name_fits v c.args.name.now (subst IsPart c.self.view_is c.self.invariant) c.requires.few c.requires.fits)

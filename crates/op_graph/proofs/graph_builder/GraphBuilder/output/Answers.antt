@@ -11,7 +11,20 @@ use Rattle.op_graph.proofs.graph_builder.GraphBuilder.output.Goals as goal
 pub invariant_of-self-2 : goal.invariant_of-self-2
 invariant_of-self-2 c =
     let v : Lists = c.args.self.now in
-    let new : Lists = record { profile = c.self.inside.profile; names = c.self.inside.names.items; inputs = c.self.inside.inputs.items; outputs = c.append_both.new.entries.items; loads = c.self.inside.loads.items; stores = c.self.inside.stores.items; turn_nodes = c.self.inside.turn_nodes.items; operations = c.append_both.new.operations.items } in
+    let new : Lists =
+    record {
+      profile = c.self.inside.profile;
+      names = c.self.inside.names.items;
+      inputs = c.self.inside.inputs.items;
+      outputs = c.append_both.new.entries.items;
+      loads = c.self.inside.loads.items;
+      stores = c.self.inside.stores.items;
+      turn_nodes =
+          c.self.inside.turn_nodes.items;
+      operations = c.append_both.new.operations.items;
+    } in
     let e : new ≡ with_output v c.args.name c.args.ty c.args.value c.args.spot = first_of (search rules, grind (arith, common_steps, to_z-of_z)) in
     let few : length v.operations < most_operations = subst (λ (x : Lists). length x.operations < most_operations) c.self.view_is (omega arith) in
-    subst IsPart (sym e) (with_output_fits v c.args.name c.args.ty c.args.value c.args.spot (subst IsPart c.self.view_is c.self.invariant) few c.requires.name c.requires.name_rises c.requires.value (omega arith, omega arith) c.requires.ty)
+    subst IsPart (sym e)
+    (with_output_fits v c.args.name c.args.ty c.args.value c.args.spot
+    (subst IsPart c.self.view_is c.self.invariant) few c.requires.name c.requires.name_rises c.requires.value (omega arith, omega arith) c.requires.ty)

@@ -11,7 +11,20 @@ use Rattle.op_graph.proofs.graph_builder.GraphBuilder.store.Goals as goal
 pub invariant_of-self-2 : goal.invariant_of-self-2
 invariant_of-self-2 c =
     let v : Lists = c.args.self.now in
-    let new : Lists = record { profile = c.self.inside.profile; names = c.self.inside.names.items; inputs = c.self.inside.inputs.items; outputs = c.self.inside.outputs.items; loads = c.self.inside.loads.items; stores = c.append_both.new.entries.items; turn_nodes = c.self.inside.turn_nodes.items; operations = c.append_both.new.operations.items } in
+    let new : Lists =
+    record {
+      profile = c.self.inside.profile;
+      names = c.self.inside.names.items;
+      inputs = c.self.inside.inputs.items;
+      outputs = c.self.inside.outputs.items;
+      loads = c.self.inside.loads.items;
+      stores = c.append_both.new.entries.items;
+      turn_nodes = c.self.inside.turn_nodes.items;
+      operations =
+          c.append_both.new.operations.items;
+    } in
     let e : new ≡ with_store v (cell_type v c.args.cell) c.args.value c.args.spot = first_of (search rules, grind (arith, common_steps, to_z-of_z)) in
     let few : length v.operations < most_operations = subst (λ (x : Lists). length x.operations < most_operations) c.self.view_is (omega arith) in
-    subst IsPart (sym e) (with_cell_fits v c.args.cell c.args.value c.args.spot (subst IsPart c.self.view_is c.self.invariant) few c.requires.next c.requires.there c.requires.value (omega arith, omega arith))
+    subst IsPart (sym e)
+    (with_cell_fits v c.args.cell c.args.value c.args.spot
+    (subst IsPart c.self.view_is c.self.invariant) few c.requires.next c.requires.there c.requires.value (omega arith, omega arith))

@@ -31,12 +31,14 @@ pub returns-clause-turn : goal.returns-clause-turn
 unfolding blank
 returns-clause-turn c =
     let kept = c.in_ok-stretches.ensures.kept c.self.inside.innermost c.self.invariant in
-    let told = tells _ _ c.self.inside.stretches c.self.inside.left _ _ _ _ blank kept c.in_ok-stretches.ensures.some (c.in_ok-stretches.ensures.count c.self.inside.innermost c.self.invariant) in
+    let told = tells _ _ c.self.inside.stretches c.self.inside.left _ _ _ _ blank kept c.in_ok-stretches.ensures.some
+    (c.in_ok-stretches.ensures.count c.self.inside.innermost c.self.invariant) in
     ap Some c.turn.ensures ∙ sym (ap (λ v. slice_get v 0) (sym c.self.view_is ∙ told))
 
 pub returns-clause-rest : goal.returns-clause-rest
 unfolding blank
 returns-clause-rest c =
     let kept = c.in_ok-stretches.ensures.kept c.self.inside.innermost c.self.invariant in
-    let told = tells _ _ c.self.inside.stretches c.self.inside.left _ _ _ _ blank kept c.in_ok-stretches.ensures.some (c.in_ok-stretches.ensures.count c.self.inside.innermost c.self.invariant) in
+    let told = tells _ _ c.self.inside.stretches c.self.inside.left _ _ _ _ blank kept c.in_ok-stretches.ensures.some
+    (c.in_ok-stretches.ensures.count c.self.inside.innermost c.self.invariant) in
     sym (ap (drop 1) (sym c.self.view_is ∙ told))

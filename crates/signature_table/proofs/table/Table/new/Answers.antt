@@ -7,7 +7,8 @@ use Rattle.signature_table.proofs.table.Table.new.Goals as goal
 
 pub operations-preserved : goal.operations-preserved
 operations-preserved c =
-    let is = c.correction.ensures.value ∙ ap (λ q. correction q c.args.seed c.args.step c.operations.k c.operation-op.result c.store_of-store.result) c.profile.ensures.value
+    let is = c.correction.ensures.value
+    ∙ ap (λ q. correction q c.args.seed c.args.step c.operations.k c.operation-op.result c.store_of-store.result) c.profile.ensures.value
     ∙ ap (correction c.args.graph.now.profile c.args.seed c.args.step c.operations.k c.operation-op.result) c.store_of-store.ensures in
     let below = subst (λ q. c.correction.result < modulus q) c.profile.ensures.value c.correction.ensures.below in
     rw c.in_ok-push.ensures.items

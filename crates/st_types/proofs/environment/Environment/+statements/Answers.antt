@@ -12,36 +12,47 @@ use Rattle.st_types.specs.StmtTyping.{arm_of, branch_of}
 use Rattle.st_types.specs.StmtSteps.{TypesLabels, TypesStmt, TypesStmts, TypesArms, TypesBranches, TypesOther}
 use Rattle.st_types.specs.Weight.{stmt_weight, stmts_weight, other_weight}
 use Rattle.st_types.proofs.Lighter.{stmt-lighter, arm-lighter, branch-lighter}
-use Rattle.st_types.proofs.StmtNodes.{if-types, case-types, for-types, stmt_cons, more-stmts, no-more-stmts, stmts-on, stmts-end, more-arms, no-more-arms, arms-on, arms-end, more-branches, no-more-branches, branches-on, branches-end, no-else, some-else}
+use Rattle.st_types.proofs.StmtNodes.{if-types, case-types, for-types, stmt_cons, more-stmts, no-more-stmts, stmts-on, stmts-end, more-arms, no-more-arms}
+use Rattle.st_types.proofs.StmtNodes.{arms-on, arms-end, more-branches, no-more-branches, branches-on, branches-end, no-else, some-else}
 use Rattle.st_types.proofs.environment.Environment.+statements.Goals as goal
 
 pub type_stmt-returns-in-Assign : goal.type_stmt-returns-in-Assign
 type_stmt-returns-in-Assign t c =
-    let inner = subst (λ n. IfOk c.assign.result (λ r. TypesStmt c.args.self.now.names.now c.args.self.now.held.now (assign n (expr_tree c.in-Assign.value) c.in-Assign.spot) c.args.first.now c.assign.new.first (option_map tstmt_tree r))) c.bytes-name.ensures c.assign.ensures in
+    let inner = subst
+    (λ n. IfOk c.assign.result
+    (λ r. TypesStmt c.args.self.now.names.now c.args.self.now.held.now
+    (assign n (expr_tree c.in-Assign.value) c.in-Assign.spot) c.args.first.now c.assign.new.first
+    (option_map tstmt_tree r))) c.bytes-name.ensures c.assign.ensures in
     IfOk-weaker c.assign.result _ _ (λ r p.
-    subst (λ d. TypesStmt c.args.self.now.names.now c.args.self.now.held.now d c.args.first.now c.assign.new.first (option_map tstmt_tree r)) (sym (ap stmt_tree c.in-Assign.is)) p) inner
+    subst (λ d. TypesStmt c.args.self.now.names.now c.args.self.now.held.now d c.args.first.now c.assign.new.first (option_map tstmt_tree r))
+    (sym (ap stmt_tree c.in-Assign.is)) p) inner
 
 pub type_stmt-type_if-requires : goal.type_stmt-type_if-requires
 type_stmt-type_if-requires t c =
-    let is = ap stmt_tree c.in-If.is ∙ c.trees_of_nodes.ensures.if_ c.in-If.arms c.in-If.other ∙ ap (λ xs. if_ (arm_trees xs) (other_tree c.in-If.other)) (sym c.deref.ensures.value) in
+    let is = ap stmt_tree c.in-If.is ∙ c.trees_of_nodes.ensures.if_ c.in-If.arms c.in-If.other
+    ∙ ap (λ xs. if_ (arm_trees xs) (other_tree c.in-If.other)) (sym c.deref.ensures.value) in
     omega (arith, ap stmt_weight is)
 
 pub type_stmt-returns-in-If : goal.type_stmt-returns-in-If
 type_stmt-returns-in-If t c =
     IfOk-weaker c.type_if.result _ _ (λ r p.
     subst (λ d. TypesStmt c.args.self.now.names.now c.args.self.now.held.now d c.args.first.now c.type_if.new.first (option_map tstmt_tree r))
-    (ap (λ xs. if_ (arm_trees xs) (other_tree c.in-If.other)) c.deref.ensures.value ∙ sym (ap stmt_tree c.in-If.is ∙ c.trees_of_nodes.ensures.if_ c.in-If.arms c.in-If.other)) p) c.type_if.ensures
+    (ap (λ xs. if_ (arm_trees xs) (other_tree c.in-If.other)) c.deref.ensures.value
+    ∙ sym (ap stmt_tree c.in-If.is ∙ c.trees_of_nodes.ensures.if_ c.in-If.arms c.in-If.other)) p) c.type_if.ensures
 
 pub type_stmt-type_case-requires : goal.type_stmt-type_case-requires
 type_stmt-type_case-requires t c =
-    let is = ap stmt_tree c.in-Case.is ∙ c.trees_of_nodes-in-Case.ensures.case c.in-Case.on c.in-Case.branches c.in-Case.other c.in-Case.spot ∙ ap (λ xs. case (expr_tree c.in-Case.on) (branch_trees xs) (other_tree c.in-Case.other) c.in-Case.spot) (sym c.deref-in-Case.ensures.value) in
+    let is = ap stmt_tree c.in-Case.is ∙ c.trees_of_nodes-in-Case.ensures.case c.in-Case.on c.in-Case.branches c.in-Case.other c.in-Case.spot
+    ∙ ap (λ xs. case (expr_tree c.in-Case.on) (branch_trees xs) (other_tree c.in-Case.other) c.in-Case.spot) (sym c.deref-in-Case.ensures.value) in
     omega (arith, ap stmt_weight is)
 
 pub type_stmt-returns-in-Case : goal.type_stmt-returns-in-Case
 type_stmt-returns-in-Case t c =
     IfOk-weaker c.type_case.result _ _ (λ r p.
     subst (λ d. TypesStmt c.args.self.now.names.now c.args.self.now.held.now d c.args.first.now c.type_case.new.first (option_map tstmt_tree r))
-    (ap (λ xs. case (expr_tree c.in-Case.on) (branch_trees xs) (other_tree c.in-Case.other) c.in-Case.spot) c.deref-in-Case.ensures.value ∙ sym (ap stmt_tree c.in-Case.is ∙ c.trees_of_nodes-in-Case.ensures.case c.in-Case.on c.in-Case.branches c.in-Case.other c.in-Case.spot)) p) c.type_case.ensures
+    (ap (λ xs. case (expr_tree c.in-Case.on) (branch_trees xs) (other_tree c.in-Case.other) c.in-Case.spot) c.deref-in-Case.ensures.value
+    ∙ sym (ap stmt_tree c.in-Case.is
+    ∙ c.trees_of_nodes-in-Case.ensures.case c.in-Case.on c.in-Case.branches c.in-Case.other c.in-Case.spot)) p) c.type_case.ensures
 
 pub type_if-type_arms-requires : goal.type_if-type_arms-requires
 type_if-type_arms-requires t c = omega arith
@@ -64,23 +75,35 @@ type_case-returns t c =
 
 pub type_stmt-type_for-requires : goal.type_stmt-type_for-requires
 type_stmt-type_for-requires t c =
-    let is = ap stmt_tree c.in-For.is ∙ c.trees_of_nodes-in-For.ensures.for_ c.in-For.name c.in-For.name_spot c.in-For.from c.in-For.last c.in-For.by c.in-For.body c.in-For.spot
-    ∙ ap (λ xs. for_ c.in-For.name c.in-For.name_spot (expr_tree c.in-For.from) (expr_tree c.in-For.last) (expr_tree_or_none c.in-For.by) (stmt_trees xs) c.in-For.spot) (sym c.deref-in-For.ensures.value) in
+    let is = ap stmt_tree c.in-For.is
+    ∙ c.trees_of_nodes-in-For.ensures.for_ c.in-For.name c.in-For.name_spot c.in-For.from c.in-For.last c.in-For.by c.in-For.body c.in-For.spot
+    ∙ ap (λ xs. for_ c.in-For.name c.in-For.name_spot (expr_tree c.in-For.from) (expr_tree c.in-For.last) (expr_tree_or_none c.in-For.by)
+    (stmt_trees xs) c.in-For.spot) (sym c.deref-in-For.ensures.value) in
     omega (arith, ap stmt_weight is)
 
 pub type_stmt-returns-in-For : goal.type_stmt-returns-in-For
 type_stmt-returns-in-For t c =
-    let inner = subst (λ n. IfOk c.type_for.result (λ r. TypesStmt c.args.self.now.names.now c.args.self.now.held.now (for_ n c.in-For.name_spot (expr_tree c.in-For.from) (expr_tree c.in-For.last) (expr_tree_or_none c.in-For.by) (stmt_trees c.deref-in-For.result.now) c.in-For.spot) c.args.first.now c.type_for.new.first (option_map tstmt_tree r))) c.bytes.ensures (c.type_for.ensures c.in-For.spot) in
+    let inner = subst
+    (λ n. IfOk c.type_for.result
+    (λ r. TypesStmt c.args.self.now.names.now c.args.self.now.held.now
+    (for_ n c.in-For.name_spot (expr_tree c.in-For.from) (expr_tree c.in-For.last) (expr_tree_or_none c.in-For.by)
+    (stmt_trees c.deref-in-For.result.now) c.in-For.spot) c.args.first.now c.type_for.new.first (option_map tstmt_tree r))) c.bytes.ensures
+    (c.type_for.ensures c.in-For.spot) in
     IfOk-weaker c.type_for.result _ _ (λ r p.
     subst (λ d. TypesStmt c.args.self.now.names.now c.args.self.now.held.now d c.args.first.now c.type_for.new.first (option_map tstmt_tree r))
-    (ap (λ xs. for_ c.in-For.name c.in-For.name_spot (expr_tree c.in-For.from) (expr_tree c.in-For.last) (expr_tree_or_none c.in-For.by) (stmt_trees xs) c.in-For.spot) c.deref-in-For.ensures.value ∙ sym (ap stmt_tree c.in-For.is ∙ c.trees_of_nodes-in-For.ensures.for_ c.in-For.name c.in-For.name_spot c.in-For.from c.in-For.last c.in-For.by c.in-For.body c.in-For.spot)) p) inner
+    (ap (λ xs. for_ c.in-For.name c.in-For.name_spot (expr_tree c.in-For.from) (expr_tree c.in-For.last) (expr_tree_or_none c.in-For.by)
+    (stmt_trees xs) c.in-For.spot) c.deref-in-For.ensures.value
+    ∙ sym (ap stmt_tree c.in-For.is
+    ∙ c.trees_of_nodes-in-For.ensures.for_ c.in-For.name c.in-For.name_spot c.in-For.from c.in-For.last c.in-For.by c.in-For.body c.in-For.spot)) p) inner
 
 pub type_for-type_stmts-requires : goal.type_for-type_stmts-requires
 type_for-type_stmts-requires t c = omega arith
 
 pub type_for-returns : goal.type_for-returns
 type_for-returns t c = λ spot.
-    let body = subst (λ h. TypesStmts c.args.self.now.names.now h (stmt_trees c.args.body.now) c.step.new.first c.type_stmts.new.first (option_map (λ b. tstmt_trees b.items.items) c.in_ok-made.made)) c.deref.ensures.value c.in_ok-made.ensures in
+    let body = subst
+    (λ h. TypesStmts c.args.self.now.names.now h (stmt_trees c.args.body.now) c.step.new.first c.type_stmts.new.first
+    (option_map (λ b. tstmt_trees b.items.items) c.in_ok-made.made)) c.deref.ensures.value c.in_ok-made.ensures in
     for-types _ _ _ _ spot _ _ _ _ _ _ _ _ _ _ _ _ _ _ _ _ _ _ _ c.in_ok-x.ensures c.entry_type-ty.ensures c.in_ok-held.ensures c.name_fault.ensures c.bool_fault.ensures c.in_ok-low.ensures c.in_ok-high.ensures c.in_ok-step_by.ensures.is body c.for_of.ensures
 
 pub type_stmts-type_stmt-requires : goal.type_stmts-type_stmt-requires
@@ -90,15 +113,22 @@ type_stmts-type_stmt-requires t c =
 pub type_stmts-each-preserved : goal.type_stmts-each-preserved
 type_stmts-each-preserved t c = λ end r h.
     let d : drop c.each.s-index c.args.stmts.now ≡ c.s-item.result ∷ drop (c.each.s-index + 1) c.args.stmts.now = grind (arith, common_steps) in
-    let m = more-stmts c.args.self.now.names.now c.args.self.now.held.now (stmt_tree c.s-item.result) (stmt_trees (drop (c.each.s-index + 1) c.args.stmts.now)) c.each.first c.type_stmt.new.first end (option_map tstmt_tree c.in_ok-made.made) r c.in_ok-made.ensures h in
-    let n = subst (λ xs. TypesStmts c.args.self.now.names.now c.args.self.now.held.now (stmt_trees xs) c.each.first end (both stmt_cons (option_map tstmt_tree c.in_ok-made.made) r)) (sym d) m in
-    subst (λ q. TypesStmts c.args.self.now.names.now c.args.self.now.held.now (stmt_trees c.args.stmts.now) c.args.first.now end q) (stmts-on _ _ _ r c.in_ok-list.ensures) (c.each.invariant end _ n)
+    let m = more-stmts c.args.self.now.names.now c.args.self.now.held.now (stmt_tree c.s-item.result)
+    (stmt_trees (drop (c.each.s-index + 1) c.args.stmts.now)) c.each.first c.type_stmt.new.first end
+    (option_map tstmt_tree c.in_ok-made.made) r c.in_ok-made.ensures h in
+    let n = subst
+    (λ xs. TypesStmts c.args.self.now.names.now c.args.self.now.held.now (stmt_trees xs) c.each.first end
+    (both stmt_cons (option_map tstmt_tree c.in_ok-made.made) r)) (sym d) m in
+    subst (λ q. TypesStmts c.args.self.now.names.now c.args.self.now.held.now (stmt_trees c.args.stmts.now) c.args.first.now end q)
+    (stmts-on _ _ _ r c.in_ok-list.ensures) (c.each.invariant end _ n)
 
 pub type_stmts-returns : goal.type_stmts-returns
 type_stmts-returns t c =
     let d : drop c.each.s-index c.args.stmts.now ≡ [] = grind (arith, common_steps) in
-    let n = subst (λ xs. TypesStmts c.args.self.now.names.now c.args.self.now.held.now (stmt_trees xs) c.each.first c.each.first (Some no_tstmts)) (sym d) (no-more-stmts c.args.self.now.names.now c.args.self.now.held.now c.each.first) in
-    subst (λ q. TypesStmts c.args.self.now.names.now c.args.self.now.held.now (stmt_trees c.args.stmts.now) c.args.first.now c.each.first q) (stmts-end _) (c.each.invariant c.each.first (Some no_tstmts) n)
+    let n = subst (λ xs. TypesStmts c.args.self.now.names.now c.args.self.now.held.now (stmt_trees xs) c.each.first c.each.first (Some no_tstmts)) (sym d)
+    (no-more-stmts c.args.self.now.names.now c.args.self.now.held.now c.each.first) in
+    subst (λ q. TypesStmts c.args.self.now.names.now c.args.self.now.held.now (stmt_trees c.args.stmts.now) c.args.first.now c.each.first q) (stmts-end _)
+    (c.each.invariant c.each.first (Some no_tstmts) n)
 
 pub type_arms-type_stmts-requires : goal.type_arms-type_stmts-requires
 type_arms-type_stmts-requires t c =
@@ -108,16 +138,24 @@ type_arms-type_stmts-requires t c =
 pub type_arms-each-preserved : goal.type_arms-each-preserved
 type_arms-each-preserved t c = λ end r h.
     let d : drop c.each.arm-index c.args.arms.now ≡ c.arm-item.result ∷ drop (c.each.arm-index + 1) c.args.arms.now = grind (arith, common_steps) in
-    let body = subst (λ xs. TypesStmts c.args.self.now.names.now c.args.self.now.held.now (stmt_trees xs) c.tested-cond.new.first c.type_stmts.new.first (option_map (λ b. tstmt_trees b.items.items) c.in_ok-body.body)) c.deref.ensures.value c.in_ok-body.ensures in
+    let body = subst
+    (λ xs. TypesStmts c.args.self.now.names.now c.args.self.now.held.now (stmt_trees xs) c.tested-cond.new.first c.type_stmts.new.first
+    (option_map (λ b. tstmt_trees b.items.items) c.in_ok-body.body)) c.deref.ensures.value c.in_ok-body.ensures in
     let m = more-arms c.args.self.now.names.now c.args.self.now.held.now (expr_tree c.arm-item.result.cond) (stmt_trees c.arm-item.result.body.items.items) c.arm-item.result.spot (arm_trees (drop (c.each.arm-index + 1) c.args.arms.now)) _ _ _ _ end _ _ _ r c.in_ok-e.ensures c.tested-cond.ensures.notes c.tested-cond.ensures.gives body h in
-    let n = subst (λ xs. TypesArms c.args.self.now.names.now c.args.self.now.held.now (arm_trees xs) c.each.first end (arm_of c.arm-item.result.spot (option_map texpr_tree c.tested-cond.result) (option_map (λ b. tstmt_trees b.items.items) c.in_ok-body.body) r)) (sym d) m in
-    subst (λ q. TypesArms c.args.self.now.names.now c.args.self.now.held.now (arm_trees c.args.arms.now) c.args.first.now end q) (arms-on _ _ _ _ _ r c.in_ok-list.ensures) (c.each.invariant end _ n)
+    let n = subst
+    (λ xs. TypesArms c.args.self.now.names.now c.args.self.now.held.now (arm_trees xs) c.each.first end
+    (arm_of c.arm-item.result.spot (option_map texpr_tree c.tested-cond.result) (option_map (λ b. tstmt_trees b.items.items) c.in_ok-body.body) r))
+    (sym d) m in
+    subst (λ q. TypesArms c.args.self.now.names.now c.args.self.now.held.now (arm_trees c.args.arms.now) c.args.first.now end q)
+    (arms-on _ _ _ _ _ r c.in_ok-list.ensures) (c.each.invariant end _ n)
 
 pub type_arms-returns : goal.type_arms-returns
 type_arms-returns t c =
     let d : drop c.each.arm-index c.args.arms.now ≡ [] = grind (arith, common_steps) in
-    let n = subst (λ xs. TypesArms c.args.self.now.names.now c.args.self.now.held.now (arm_trees xs) c.each.first c.each.first (Some no_tarms)) (sym d) (no-more-arms c.args.self.now.names.now c.args.self.now.held.now c.each.first) in
-    subst (λ q. TypesArms c.args.self.now.names.now c.args.self.now.held.now (arm_trees c.args.arms.now) c.args.first.now c.each.first q) (arms-end _) (c.each.invariant c.each.first (Some no_tarms) n)
+    let n = subst (λ xs. TypesArms c.args.self.now.names.now c.args.self.now.held.now (arm_trees xs) c.each.first c.each.first (Some no_tarms)) (sym d)
+    (no-more-arms c.args.self.now.names.now c.args.self.now.held.now c.each.first) in
+    subst (λ q. TypesArms c.args.self.now.names.now c.args.self.now.held.now (arm_trees c.args.arms.now) c.args.first.now c.each.first q) (arms-end _)
+    (c.each.invariant c.each.first (Some no_tarms) n)
 
 pub type_branches-type_stmts-requires : goal.type_branches-type_stmts-requires
 type_branches-type_stmts-requires t c =
@@ -126,22 +164,35 @@ type_branches-type_stmts-requires t c =
 
 pub type_branches-each-preserved : goal.type_branches-each-preserved
 type_branches-each-preserved t c = λ end r h.
-    let d : drop c.each.branch-index c.args.branches.now ≡ c.branch-item.result ∷ drop (c.each.branch-index + 1) c.args.branches.now = grind (arith, common_steps) in
-    let labels = subst (λ xs. TypesLabels c.args.self.now.names.now c.args.ty (label_trees xs) c.each.first c.type_labels.new.first (option_map (λ v. v.items.items) c.in_ok-labels.labels)) c.deref.ensures.value c.in_ok-labels.ensures in
-    let body = subst (λ xs. TypesStmts c.args.self.now.names.now c.args.self.now.held.now (stmt_trees xs) c.type_labels.new.first c.type_stmts.new.first (option_map (λ b. tstmt_trees b.items.items) c.in_ok-body.body)) c.deref-in-each.ensures.value c.in_ok-body.ensures in
-    let m = more-branches c.args.self.now.names.now c.args.self.now.held.now c.args.ty (label_trees c.branch-item.result.labels.items.items) (stmt_trees c.branch-item.result.body.items.items) (branch_trees (drop (c.each.branch-index + 1) c.args.branches.now)) _ _ _ end _ _ r labels body h in
-    let n = subst (λ xs. TypesBranches c.args.self.now.names.now c.args.self.now.held.now c.args.ty (branch_trees xs) c.each.first end (branch_of (option_map (λ v. v.items.items) c.in_ok-labels.labels) (option_map (λ b. tstmt_trees b.items.items) c.in_ok-body.body) r)) (sym d) m in
-    subst (λ q. TypesBranches c.args.self.now.names.now c.args.self.now.held.now c.args.ty (branch_trees c.args.branches.now) c.args.first.now end q) (branches-on _ _ _ _ r c.in_ok-list.ensures) (c.each.invariant end _ n)
+    let d : drop c.each.branch-index c.args.branches.now ≡ c.branch-item.result ∷ drop (c.each.branch-index + 1) c.args.branches.now =
+    grind (arith, common_steps) in
+    let labels = subst
+    (λ xs. TypesLabels c.args.self.now.names.now c.args.ty (label_trees xs) c.each.first c.type_labels.new.first
+    (option_map (λ v. v.items.items) c.in_ok-labels.labels)) c.deref.ensures.value c.in_ok-labels.ensures in
+    let body = subst
+    (λ xs. TypesStmts c.args.self.now.names.now c.args.self.now.held.now (stmt_trees xs) c.type_labels.new.first c.type_stmts.new.first
+    (option_map (λ b. tstmt_trees b.items.items) c.in_ok-body.body)) c.deref-in-each.ensures.value c.in_ok-body.ensures in
+    let m = more-branches c.args.self.now.names.now c.args.self.now.held.now c.args.ty (label_trees c.branch-item.result.labels.items.items)
+    (stmt_trees c.branch-item.result.body.items.items) (branch_trees (drop (c.each.branch-index + 1) c.args.branches.now)) _ _ _ end _ _ r labels body h in
+    let n = subst
+    (λ xs. TypesBranches c.args.self.now.names.now c.args.self.now.held.now c.args.ty (branch_trees xs) c.each.first end
+    (branch_of (option_map (λ v. v.items.items) c.in_ok-labels.labels) (option_map (λ b. tstmt_trees b.items.items) c.in_ok-body.body) r)) (sym d) m in
+    subst (λ q. TypesBranches c.args.self.now.names.now c.args.self.now.held.now c.args.ty (branch_trees c.args.branches.now) c.args.first.now end q)
+    (branches-on _ _ _ _ r c.in_ok-list.ensures) (c.each.invariant end _ n)
 
 pub type_branches-returns : goal.type_branches-returns
 type_branches-returns t c =
     let d : drop c.each.branch-index c.args.branches.now ≡ [] = grind (arith, common_steps) in
-    let n = subst (λ xs. TypesBranches c.args.self.now.names.now c.args.self.now.held.now c.args.ty (branch_trees xs) c.each.first c.each.first (Some no_tbranches)) (sym d) (no-more-branches c.args.self.now.names.now c.args.self.now.held.now c.args.ty c.each.first) in
-    subst (λ q. TypesBranches c.args.self.now.names.now c.args.self.now.held.now c.args.ty (branch_trees c.args.branches.now) c.args.first.now c.each.first q) (branches-end _) (c.each.invariant c.each.first (Some no_tbranches) n)
+    let n = subst
+    (λ xs. TypesBranches c.args.self.now.names.now c.args.self.now.held.now c.args.ty (branch_trees xs) c.each.first c.each.first (Some no_tbranches))
+    (sym d) (no-more-branches c.args.self.now.names.now c.args.self.now.held.now c.args.ty c.each.first) in
+    subst (λ q. TypesBranches c.args.self.now.names.now c.args.self.now.held.now c.args.ty (branch_trees c.args.branches.now) c.args.first.now c.each.first q)
+    (branches-end _) (c.each.invariant c.each.first (Some no_tbranches) n)
 
 pub type_other-returns-in-None : goal.type_other-returns-in-None
 type_other-returns-in-None t c =
-    subst (λ o. TypesOther c.args.self.now.names.now c.args.self.now.held.now o c.args.first.now c.args.first.now (Some no_tother)) (sym (ap other_tree c.in-None.is)) (no-else c.args.self.now.names.now c.args.self.now.held.now c.args.first.now)
+    subst (λ o. TypesOther c.args.self.now.names.now c.args.self.now.held.now o c.args.first.now c.args.first.now (Some no_tother))
+    (sym (ap other_tree c.in-None.is)) (no-else c.args.self.now.names.now c.args.self.now.held.now c.args.first.now)
 
 pub type_other-type_stmts-requires : goal.type_other-type_stmts-requires
 type_other-type_stmts-requires t c =
@@ -149,6 +200,9 @@ type_other-type_stmts-requires t c =
 
 pub type_other-returns-in_ok-made-in-Some : goal.type_other-returns-in_ok-made-in-Some
 type_other-returns-in_ok-made-in-Some t c =
-    let body = subst (λ xs. TypesStmts c.args.self.now.names.now c.args.self.now.held.now (stmt_trees xs) c.args.first.now c.type_stmts.new.first (option_map (λ b. tstmt_trees b.items.items) c.in_ok-made-in-Some.made)) c.deref.ensures.value c.in_ok-made-in-Some.ensures in
-    subst (λ o. TypesOther c.args.self.now.names.now c.args.self.now.held.now o c.args.first.now c.type_stmts.new.first (option_map tother_tree c.with_else.result)) (sym (ap other_tree c.in-Some.is))
+    let body = subst
+    (λ xs. TypesStmts c.args.self.now.names.now c.args.self.now.held.now (stmt_trees xs) c.args.first.now c.type_stmts.new.first
+    (option_map (λ b. tstmt_trees b.items.items) c.in_ok-made-in-Some.made)) c.deref.ensures.value c.in_ok-made-in-Some.ensures in
+    subst (λ o. TypesOther c.args.self.now.names.now c.args.self.now.held.now o c.args.first.now c.type_stmts.new.first
+    (option_map tother_tree c.with_else.result)) (sym (ap other_tree c.in-Some.is))
     (some-else _ _ _ _ _ _ _ body c.with_else.ensures)

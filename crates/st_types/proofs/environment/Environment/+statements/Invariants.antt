@@ -35,13 +35,19 @@ abbrev pub decreases-type_other : goal.decreases-type_other
 decreases-type_other l = other_weight (other_tree l.other.now)
 
 abbrev pub invariant-type_stmts-each : goal.invariant-type_stmts-each
-invariant-type_stmts-each l = (end : Option Fault) (r : Option TStmtTrees) → TypesStmts l.self.names.now l.self.held.now (stmt_trees (drop l.s-index l.stmts)) l.first end r
-    → TypesStmts l.self.names.now l.self.held.now (stmt_trees l.stmts) l.initial.first end (both stmts_glue (option_map (λ b. tstmt_trees b.items.items) l.list) r)
+invariant-type_stmts-each l =
+    (end : Option Fault) (r : Option TStmtTrees) → TypesStmts l.self.names.now l.self.held.now (stmt_trees (drop l.s-index l.stmts)) l.first end r
+    → TypesStmts l.self.names.now l.self.held.now (stmt_trees l.stmts) l.initial.first end
+    (both stmts_glue (option_map (λ b. tstmt_trees b.items.items) l.list) r)
 
 abbrev pub invariant-type_arms-each : goal.invariant-type_arms-each
-invariant-type_arms-each l = (end : Option Fault) (r : Option TArmTrees) → TypesArms l.self.names.now l.self.held.now (arm_trees (drop l.arm-index l.arms)) l.first end r
+invariant-type_arms-each l =
+    (end : Option Fault) (r : Option TArmTrees) → TypesArms l.self.names.now l.self.held.now (arm_trees (drop l.arm-index l.arms)) l.first end r
     → TypesArms l.self.names.now l.self.held.now (arm_trees l.arms) l.initial.first end (both arms_glue (option_map (λ a. tarm_trees (tarm_items a)) l.list) r)
 
 abbrev pub invariant-type_branches-each : goal.invariant-type_branches-each
-invariant-type_branches-each l = (end : Option Fault) (r : Option TBranchTrees) → TypesBranches l.self.names.now l.self.held.now l.ty (branch_trees (drop l.branch-index l.branches)) l.first end r
-    → TypesBranches l.self.names.now l.self.held.now l.ty (branch_trees l.branches) l.initial.first end (both branches_glue (option_map (λ b. tbranch_trees (tbranch_items b)) l.list) r)
+invariant-type_branches-each l =
+    (end : Option Fault) (r : Option TBranchTrees) → TypesBranches l.self.names.now l.self.held.now l.ty
+    (branch_trees (drop l.branch-index l.branches)) l.first end r
+    → TypesBranches l.self.names.now l.self.held.now l.ty (branch_trees l.branches) l.initial.first end
+    (both branches_glue (option_map (λ b. tbranch_trees (tbranch_items b)) l.list) r)

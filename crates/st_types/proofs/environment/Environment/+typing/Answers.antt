@@ -15,48 +15,68 @@ use Rattle.st_types.proofs.environment.Environment.+typing.Goals as goal
 pub type_expression-returns-in-Lit : goal.type_expression-returns-in-Lit
 type_expression-returns-in-Lit t c =
     let fits : SFits w64 c.in-Lit.value = search rules in
-    subst (λ e. Types c.args.self.now.names.now e c.args.first.now c.literal.new.first (option_map texpr_tree c.literal.result)) (ap (λ v. literal c.in-Lit.ty v c.in-Lit.spot) (to_z-of_z w64 c.in-Lit.value fits) ∙ sym (ap expr_tree c.in-Lit.is)) (c.literal.ensures c.args.self.now.names.now)
+    subst (λ e. Types c.args.self.now.names.now e c.args.first.now c.literal.new.first (option_map texpr_tree c.literal.result))
+    (ap (λ v. literal c.in-Lit.ty v c.in-Lit.spot) (to_z-of_z w64 c.in-Lit.value fits) ∙ sym (ap expr_tree c.in-Lit.is))
+    (c.literal.ensures c.args.self.now.names.now)
 
 pub type_expression-returns-in_ok-x-in-None : goal.type_expression-returns-in_ok-x-in-None
 type_expression-returns-in_ok-x-in-None t c =
-    let inner = subst (λ x. Types c.args.self.now.names.now (expr_tree x) c.args.first.now c.type_expression.new.first (option_map texpr_tree c.in_ok-x-in-None.x)) c.deref-in-None.ensures c.in_ok-x-in-None.ensures in
+    let inner = subst
+    (λ x. Types c.args.self.now.names.now (expr_tree x) c.args.first.now c.type_expression.new.first
+    (option_map texpr_tree c.in_ok-x-in-None.x)) c.deref-in-None.ensures c.in_ok-x-in-None.ensures in
     IfOk-weaker c.sign.result _ _ (λ r p.
     subst (λ e. Types c.args.self.now.names.now e c.args.first.now c.sign.new.first (option_map texpr_tree r)) (sym (ap expr_tree c.in-Unary.is))
     (unary-types _ _ _ _ _ _ _ _ _ (let e = c.in-None.ensures in sym (rw c.deref.ensures at e)) inner p)) c.sign.ensures
 
 pub type_expression-returns-in_ok-y-in-Binary : goal.type_expression-returns-in_ok-y-in-Binary
 type_expression-returns-in_ok-y-in-Binary t c =
-    let left = subst (λ x. Types c.args.self.now.names.now (expr_tree x) c.args.first.now c.type_expression-in-Binary.new.first (option_map texpr_tree c.in_ok-x-in-Binary.x)) c.deref-in-Binary.ensures c.in_ok-x-in-Binary.ensures in
-    let right = subst (λ x. Types c.args.self.now.names.now (expr_tree x) c.type_expression-in-Binary.new.first c.type_expression-in-Binary-2.new.first (option_map texpr_tree c.in_ok-y-in-Binary.y)) c.deref-in-Binary-2.ensures c.in_ok-y-in-Binary.ensures in
+    let left = subst
+    (λ x. Types c.args.self.now.names.now (expr_tree x) c.args.first.now c.type_expression-in-Binary.new.first
+    (option_map texpr_tree c.in_ok-x-in-Binary.x)) c.deref-in-Binary.ensures c.in_ok-x-in-Binary.ensures in
+    let right = subst
+    (λ x. Types c.args.self.now.names.now (expr_tree x) c.type_expression-in-Binary.new.first c.type_expression-in-Binary-2.new.first
+    (option_map texpr_tree c.in_ok-y-in-Binary.y)) c.deref-in-Binary-2.ensures c.in_ok-y-in-Binary.ensures in
     IfOk-weaker c.operate.result _ _ (λ r p.
     subst (λ e. Types c.args.self.now.names.now e c.args.first.now c.operate.new.first (option_map texpr_tree r)) (sym (ap expr_tree c.in-Binary.is))
     (binary-types _ _ _ _ _ _ _ _ _ _ _ _ left right p)) c.operate.ensures
 
 pub type_expression-returns-in-Call : goal.type_expression-returns-in-Call
 type_expression-returns-in-Call t c =
-    let inner = subst (λ n. IfOk c.call.result (λ r. Types c.args.self.now.names.now (call n (expr_trees c.deref-in-Call.result.now) c.in-Call.spot) c.args.first.now c.call.new.first (option_map texpr_tree r))) c.bytes-in-Call.ensures c.call.ensures in
+    let inner = subst
+    (λ n. IfOk c.call.result
+    (λ r. Types c.args.self.now.names.now (call n (expr_trees c.deref-in-Call.result.now) c.in-Call.spot) c.args.first.now c.call.new.first
+    (option_map texpr_tree r))) c.bytes-in-Call.ensures c.call.ensures in
     IfOk-weaker c.call.result _ _ (λ r p.
-    subst (λ e. Types c.args.self.now.names.now e c.args.first.now c.call.new.first (option_map texpr_tree r)) (ap (λ xs. call c.in-Call.name (expr_trees xs) c.in-Call.spot) c.deref-in-Call.ensures.value ∙ sym (ap expr_tree c.in-Call.is ∙ c.trees_of_nodes.ensures.call c.in-Call.name c.in-Call.args c.in-Call.spot)) p) inner
+    subst (λ e. Types c.args.self.now.names.now e c.args.first.now c.call.new.first (option_map texpr_tree r))
+    (ap (λ xs. call c.in-Call.name (expr_trees xs) c.in-Call.spot) c.deref-in-Call.ensures.value
+    ∙ sym (ap expr_tree c.in-Call.is ∙ c.trees_of_nodes.ensures.call c.in-Call.name c.in-Call.args c.in-Call.spot)) p) inner
 
 pub call-returns-in-None : goal.call-returns-in-None
 call-returns-in-None t c =
-    let is : called c.args.name.now (count (expr_trees c.args.args.now)) ≡ None = ap (called c.args.name.now) (count-trees c.args.args.now) ∙ sym c.in-None.ensures in
+    let is : called c.args.name.now (count (expr_trees c.args.args.now)) ≡ None = ap (called c.args.name.now) (count-trees c.args.args.now)
+    ∙ sym c.in-None.ensures in
     unknown-call _ _ _ _ _ _ _ _ is c.in_ok-list.ensures c.note.ensures
 
 pub call-returns-in-Some : goal.call-returns-in-Some
 call-returns-in-Some t c =
-    let is : called c.args.name.now (count (expr_trees c.args.args.now)) ≡ Some c.in-Some.fun = ap (called c.args.name.now) (count-trees c.args.args.now) ∙ sym c.in-Some.ensures in
+    let is : called c.args.name.now (count (expr_trees c.args.args.now)) ≡ Some c.in-Some.fun = ap (called c.args.name.now) (count-trees c.args.args.now)
+    ∙ sym c.in-Some.ensures in
     IfOk-weaker c.apply.result _ _ (λ r p. call-types _ _ _ _ _ _ _ _ _ _ is c.in_ok-list.ensures p) c.apply.ensures
 
 pub type_all-each-preserved : goal.type_all-each-preserved
 type_all-each-preserved t c = λ end r h.
     let d : drop c.each.e-index c.args.args.now ≡ c.e-item.result ∷ drop (c.each.e-index + 1) c.args.args.now = grind (arith, common_steps) in
-    let m = more-types c.args.self.now.names.now (expr_tree c.e-item.result) (expr_trees (drop (c.each.e-index + 1) c.args.args.now)) c.each.first c.type_expression.new.first end (option_map texpr_tree c.in_ok-x.x) r c.in_ok-x.ensures h in
+    let m = more-types c.args.self.now.names.now (expr_tree c.e-item.result)
+    (expr_trees (drop (c.each.e-index + 1) c.args.args.now)) c.each.first c.type_expression.new.first end
+    (option_map texpr_tree c.in_ok-x.x) r c.in_ok-x.ensures h in
     let n = subst (λ xs. TypesAll c.args.self.now.names.now (expr_trees xs) c.each.first end (both cons (option_map texpr_tree c.in_ok-x.x) r)) (sym d) m in
-    subst (λ q. TypesAll c.args.self.now.names.now (expr_trees c.args.args.now) c.args.first.now end q) (glue-cons _ _ _ r c.in_ok-list.ensures) (c.each.invariant end _ n)
+    subst (λ q. TypesAll c.args.self.now.names.now (expr_trees c.args.args.now) c.args.first.now end q) (glue-cons _ _ _ r c.in_ok-list.ensures)
+    (c.each.invariant end _ n)
 
 pub type_all-returns : goal.type_all-returns
 type_all-returns t c =
     let d : drop c.each.e-index c.args.args.now ≡ [] = grind (arith, common_steps) in
-    let n = subst (λ xs. TypesAll c.args.self.now.names.now (expr_trees xs) c.each.first c.each.first (Some [])) (sym d) (none-left c.args.self.now.names.now c.each.first) in
-    subst (λ q. TypesAll c.args.self.now.names.now (expr_trees c.args.args.now) c.args.first.now c.each.first q) (glue-none _) (c.each.invariant c.each.first (Some []) n)
+    let n = subst (λ xs. TypesAll c.args.self.now.names.now (expr_trees xs) c.each.first c.each.first (Some [])) (sym d)
+    (none-left c.args.self.now.names.now c.each.first) in
+    subst (λ q. TypesAll c.args.self.now.names.now (expr_trees c.args.args.now) c.args.first.now c.each.first q) (glue-none _)
+    (c.each.invariant c.each.first (Some []) n)

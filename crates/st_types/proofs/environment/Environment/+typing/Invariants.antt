@@ -10,4 +10,7 @@ use Rattle.st_types.proofs.environment.Environment.+typing.Given as goal
 
 -- whatever the arguments that are left come to, all come to it behind those that were typed
 abbrev pub invariant-type_all-each : goal.invariant-type_all-each
-invariant-type_all-each l = (end : Option Fault) (r : Option (List TExprTree)) → TypesAll l.self.names.now (expr_trees (drop l.e-index l.args)) l.first end r → TypesAll l.self.names.now (expr_trees l.args) l.initial.first end (both glue (option_map (λ v. map texpr_tree v.items) l.list) r)
+invariant-type_all-each l =
+    (end : Option Fault) (r : Option (List TExprTree)) → TypesAll l.self.names.now
+    (expr_trees (drop l.e-index l.args)) l.first end r → TypesAll l.self.names.now (expr_trees l.args) l.initial.first end
+    (both glue (option_map (λ v. map texpr_tree v.items) l.list) r)

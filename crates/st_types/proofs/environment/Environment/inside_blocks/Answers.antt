@@ -12,7 +12,9 @@ each-preserved c =
     let b = block_tree c.b-item.result in
     let bs = map block_tree (drop (c.each.b-index + 1) c.args.blocks.now) in
     let e : drop c.each.b-index c.args.blocks.now ≡ c.b-item.result ∷ drop (c.each.b-index + 1) c.args.blocks.now = grind (arith, common_steps) in
-    let here = subst (λ xs. Notes c.each.first c.inside_declarations.new.first (DeclsInside all (map decl_tree xs))) c.deref.ensures.value c.in_ok-inside_declarations.ensures in
+    let here = subst
+    (λ xs. Notes c.each.first c.inside_declarations.new.first
+    (DeclsInside all (map decl_tree xs))) c.deref.ensures.value c.in_ok-inside_declarations.ensures in
     λ end h. c.each.invariant end
     (subst (λ xs. Notes c.each.first end (BlocksInside all (map block_tree xs))) (sym e)
     (pair c.each.first c.inside_declarations.new.first end (DeclsInside all b.decls) (BlocksInside all bs) here h))

@@ -11,5 +11,6 @@ returns-in-None c =
 
 pub returns-in_ok-read_number-in-Some : goal.returns-in_ok-read_number-in-Some
 returns-in_ok-read_number-in-Some c =
-    subst (λ e. TypesLast c.args.self.now.names.now c.args.ty e c.args.first.now c.read_number.new.first (Some c.in_ok-read_number-in-Some.field-0)) (sym (ap expr_tree_or_none c.in-Some.is))
+    subst (λ e. TypesLast c.args.self.now.names.now c.args.ty e c.args.first.now c.read_number.new.first (Some c.in_ok-read_number-in-Some.field-0))
+    (sym (ap expr_tree_or_none c.in-Some.is))
     (some-last _ _ _ _ _ _ c.in_ok-read_number-in-Some.ensures)

@@ -11,7 +11,8 @@ returns-in-None-clause-is c =
 
 pub returns-in_ok-found-in-Some-clause-is : goal.returns-in_ok-found-in-Some-clause-is
 returns-in_ok-found-in-Some-clause-is c =
-    subst (λ e. Steps c.args.self.now.names.now c.args.ty e c.args.first.now c.bound_fault.new.first c.not_zero.result) (sym (ap expr_tree_or_none c.in-Some.is))
+    subst (λ e. Steps c.args.self.now.names.now c.args.ty e c.args.first.now c.bound_fault.new.first c.not_zero.result)
+    (sym (ap expr_tree_or_none c.in-Some.is))
     (steps _ _ _ _ _ _ _ _ _ _ c.in_ok-found-in-Some.ensures c.spot_of.ensures c.form_not_zero.ensures c.bound_fault.ensures c.not_zero.ensures)
 
 pub returns-in_ok-found-in-Some-clause-some : goal.returns-in_ok-found-in-Some-clause-some

@@ -7,9 +7,11 @@ use Rattle.st_types.proofs.names.Names.declare.Goals as goal
 
 pub returns-then-contains_key-clause-said : goal.returns-then-contains_key-clause-said
 returns-then-contains_key-clause-said c =
-    let key : c.as_slice.result.now ≡ map to_ascii_lowercase c.args.entry.name = c.as_slice.ensures.value ∙ c.in_ok-key.ensures.ok ∙ ap (map to_ascii_lowercase) c.bytes.ensures in
+    let key : c.as_slice.result.now ≡ map to_ascii_lowercase c.args.entry.name = c.as_slice.ensures.value ∙ c.in_ok-key.ensures.ok
+    ∙ ap (map to_ascii_lowercase) c.bytes.ensures in
     let same : lookup (λ k. bytes_eq c.as_slice.result.now k.items) c.self.inside.entries.entries ≡ find c.args.self.now c.args.entry.name =
-    ap (λ n. lookup (λ k. bytes_eq n k.items) c.self.inside.entries.entries) key ∙ lookup-find (λ k. k.items) c.self.inside.entries.entries c.args.entry.name c.self.invariant ∙ ap (λ s. find s c.args.entry.name) c.self.view_is in
+    ap (λ n. lookup (λ k. bytes_eq n k.items) c.self.inside.entries.entries) key
+    ∙ lookup-find (λ k. k.items) c.self.inside.entries.entries c.args.entry.name c.self.invariant ∙ ap (λ s. find s c.args.entry.name) c.self.view_is in
     sym (some-there _ _ same c.if-contains_key.ensures)
 
 pub returns-then-contains_key-clause-declared : goal.returns-then-contains_key-clause-declared
@@ -22,13 +24,17 @@ invariant_of-self-2 c =
     ap (λ n. lookup (λ k. bytes_eq n k.items) c.self.inside.entries.entries) (sym c.as_slice.ensures.value) ∙ none-of _ c.if-contains_key.ensures in
     let added : c.insert.new.self.entries ≡ c.self.inside.entries.entries ++ (c.in_ok-key.key, c.args.entry) ∷ [] =
     c.in_ok-insert.ensures.entries ∙ insert-new (λ a b. bytes_eq a.items b.items) c.self.inside.entries.entries c.in_ok-key.key c.args.entry absent in
-    subst (AreKeyed (λ k. k.items)) (sym added) (keyed-push (λ k. k.items) c.self.inside.entries.entries c.in_ok-key.key c.args.entry c.self.invariant (c.in_ok-key.ensures.ok ∙ ap (map to_ascii_lowercase) c.bytes.ensures))
+    subst (AreKeyed (λ k. k.items)) (sym added)
+    (keyed-push (λ k. k.items) c.self.inside.entries.entries c.in_ok-key.key c.args.entry c.self.invariant
+    (c.in_ok-key.ensures.ok ∙ ap (map to_ascii_lowercase) c.bytes.ensures))
 
 pub returns-clause-said : goal.returns-clause-said
 returns-clause-said c =
-    let key : c.as_slice.result.now ≡ map to_ascii_lowercase c.args.entry.name = c.as_slice.ensures.value ∙ c.in_ok-key.ensures.ok ∙ ap (map to_ascii_lowercase) c.bytes.ensures in
+    let key : c.as_slice.result.now ≡ map to_ascii_lowercase c.args.entry.name = c.as_slice.ensures.value ∙ c.in_ok-key.ensures.ok
+    ∙ ap (map to_ascii_lowercase) c.bytes.ensures in
     let same : lookup (λ k. bytes_eq c.as_slice.result.now k.items) c.self.inside.entries.entries ≡ find c.args.self.now c.args.entry.name =
-    ap (λ n. lookup (λ k. bytes_eq n k.items) c.self.inside.entries.entries) key ∙ lookup-find (λ k. k.items) c.self.inside.entries.entries c.args.entry.name c.self.invariant ∙ ap (λ s. find s c.args.entry.name) c.self.view_is in
+    ap (λ n. lookup (λ k. bytes_eq n k.items) c.self.inside.entries.entries) key
+    ∙ lookup-find (λ k. k.items) c.self.inside.entries.entries c.args.entry.name c.self.invariant ∙ ap (λ s. find s c.args.entry.name) c.self.view_is in
     sym (ap is_none (sym same ∙ none-of _ c.if-contains_key.ensures))
 
 pub returns-clause-declared : goal.returns-clause-declared

@@ -2,7 +2,7 @@ use Rattle.std.proofs.Common.{ap, sym, ◌∙◌}
 use mir.Syntax.{w128}
 use Rattle.std.proofs.lemmas.Int.{rem_is}
 use Rattle.vcp_base.specs.Kinds.{value as value_of}
-use Rattle.coded_unit.proofs.table.value.Goals as goal
+use Rattle.vcp_base.proofs.outcomes.value.Goals as goal
 
 pub returns-in-Mod : goal.returns-in-Mod
 returns-in-Mod c =

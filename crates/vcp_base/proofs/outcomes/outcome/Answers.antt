@@ -1,6 +1,6 @@
 use Rattle.std.proofs.Common.{arith}
 use Rattle.std.proofs.lemmas.Int.{to_z-of_z}
-use Rattle.coded_unit.proofs.table.outcome.Goals as goal
+use Rattle.vcp_base.proofs.outcomes.outcome.Goals as goal
 
 pub returns-then-not-operands_fit-clause-value : goal.returns-then-not-operands_fit-clause-value
 returns-then-not-operands_fit-clause-value c = grind (arith, to_z-of_z)

@@ -1,6 +1,6 @@
 use Rattle.std.proofs.Common.{arith}
 use Rattle.std.proofs.lemmas.Int.{to_z-of_z}
-use Rattle.coded_unit.proofs.table.operands_fit.Goals as goal
+use Rattle.vcp_base.proofs.outcomes.operands_fit.Goals as goal
 
 pub returns-then-takes-2-clause-value : goal.returns-then-takes-2-clause-value
 returns-then-takes-2-clause-value c = grind (arith, to_z-of_z)
