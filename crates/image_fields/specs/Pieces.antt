@@ -1,5 +1,6 @@
 -- Pieces of a format: what may stand there, how it is spelled, and which fault stands in bytes that begin with no such piece.
-use Rattle.std.specs.Prelude.{◌≡◌, ℕ, zero, suc, ◌*◌, ◌^◌, ◌<◌, ◌==◌, ◌≢◌, nat_lt, Bool, true, false, cond, List, [], ◌∷◌, ◌++◌, length, take, drop, Option, Some, None, Result, Ok, Err, ◌⊎◌}
+use Rattle.std.specs.Prelude.{◌≡◌, ℕ, zero, suc, ◌*◌, ◌^◌, ◌<◌, ◌==◌, ◌≢◌, nat_lt, Bool, true, false, cond, List, [], ◌∷◌, ◌++◌, length, take, drop, Option}
+use Rattle.std.specs.Prelude.{Some, None, Result, Ok, Err, ◌⊎◌}
 use Rattle.std.specs.Int.{Width, byte_len, from_be_bytes, to_be_bytes}
 use Rattle.op_graph.specs.Rules.{Each}
 use Rattle.image_fields.specs.declared.fault.Fault.{Fault}
@@ -147,7 +148,12 @@ read_all piece bytes = do
 
 -- ---- what code returned
 
--- what a function returned, seen by view, is what reading gives, unless memory ran out
+-- what a function returned, seen by view, is what reading gives, the piece and the bytes after it or the fault
+abbrev pub GivesExactly : {X Y : Type 0} → (X → Y) → Result X Fault → Result Y Fault → Type 0
+GivesExactly view (Ok x) read = read ≡ Ok (view x)
+GivesExactly view (Err f) read = read ≡ Err f
+
+-- the same, unless memory ran out
 abbrev pub Fails : {Y : Type 0} → ReadError → Result Y Fault → Type 0
 Fails errors.Memory read = Unit {0}
 Fails (errors.Fault f) read = read ≡ Err f

@@ -1,11 +1,11 @@
 //! The inputs, outputs, cells and turn nodes of an image, one at a time.
 
 ghost use Rattle.std.specs.Prelude.{◌≡◌, ◌<◌, ◌&&◌, ◌-◌, ◌^◌, nat_lt, length, true, slice_get};
-ghost use Rattle.image_fields.specs.Pieces.{Gives};
+ghost use Rattle.image_fields.specs.Pieces.{GivesExactly};
 ghost use Rattle.image_fields.specs.Fields.{number};
 ghost use Rattle.image_fields.specs.Entries.{above as above_of, number_of, rises, input_piece, output_piece, cell_piece, turn_piece};
 
-use crate::fault::{Fault, ReadError};
+use crate::fault::Fault;
 use crate::reading::{any_ty_here, any_value_here, at_most_here, below_here, u32_at, value_here};
 use op_graph::{Cell, Outlet, TurnNode, Var};
 use vcp_base::Profile;
@@ -110,14 +110,14 @@ fn input_name_here<'a>(
     names: u32,
     before: &[Var],
     bytes: &'a [u8],
-) -> Result<(u32, &'a [u8]), ReadError>
-    ensures { Gives (λ x. (x.0, x.1.now)) result ((number (λ n. nat_lt n names && rises (λ w. w.name) before.now n)).read bytes.now) }
+) -> Result<(u32, &'a [u8]), Fault>
+    ensures { GivesExactly (λ x. (x.0, x.1.now)) result ((number (λ n. nat_lt n names && rises (λ w. w.name) before.now n)).read bytes.now) }
 {
     let (n, rest) = u32_at(bytes)?;
     if input_name_fits(names, before, n) {
         Ok((n, rest))
     } else {
-        Err(ReadError::Fault(Fault::Field { left: bytes.len() }))
+        Err(Fault::Field { left: bytes.len() })
     }
 }
 
@@ -126,14 +126,14 @@ fn output_name_here<'a>(
     names: u32,
     before: &[Outlet],
     bytes: &'a [u8],
-) -> Result<(u32, &'a [u8]), ReadError>
-    ensures { Gives (λ x. (x.0, x.1.now)) result ((number (λ n. nat_lt n names && rises (λ w. w.name) before.now n)).read bytes.now) }
+) -> Result<(u32, &'a [u8]), Fault>
+    ensures { GivesExactly (λ x. (x.0, x.1.now)) result ((number (λ n. nat_lt n names && rises (λ w. w.name) before.now n)).read bytes.now) }
 {
     let (n, rest) = u32_at(bytes)?;
     if output_name_fits(names, before, n) {
         Ok((n, rest))
     } else {
-        Err(ReadError::Fault(Fault::Field { left: bytes.len() }))
+        Err(Fault::Field { left: bytes.len() })
     }
 }
 
@@ -142,14 +142,14 @@ fn output_op_here<'a>(
     operations: u32,
     before: &[Outlet],
     bytes: &'a [u8],
-) -> Result<(u32, &'a [u8]), ReadError>
-    ensures { Gives (λ x. (x.0, x.1.now)) result ((number (λ n. nat_lt n operations && rises (λ w. w.op) before.now n)).read bytes.now) }
+) -> Result<(u32, &'a [u8]), Fault>
+    ensures { GivesExactly (λ x. (x.0, x.1.now)) result ((number (λ n. nat_lt n operations && rises (λ w. w.op) before.now n)).read bytes.now) }
 {
     let (n, rest) = u32_at(bytes)?;
     if output_op_fits(operations, before, n) {
         Ok((n, rest))
     } else {
-        Err(ReadError::Fault(Fault::Field { left: bytes.len() }))
+        Err(Fault::Field { left: bytes.len() })
     }
 }
 
@@ -158,14 +158,14 @@ fn load_here<'a>(
     operations: u32,
     before: &[Cell],
     bytes: &'a [u8],
-) -> Result<(u32, &'a [u8]), ReadError>
-    ensures { Gives (λ x. (x.0, x.1.now)) result ((number (λ n. nat_lt n operations && rises (λ w. w.load) before.now n)).read bytes.now) }
+) -> Result<(u32, &'a [u8]), Fault>
+    ensures { GivesExactly (λ x. (x.0, x.1.now)) result ((number (λ n. nat_lt n operations && rises (λ w. w.load) before.now n)).read bytes.now) }
 {
     let (n, rest) = u32_at(bytes)?;
     if load_fits(operations, before, n) {
         Ok((n, rest))
     } else {
-        Err(ReadError::Fault(Fault::Field { left: bytes.len() }))
+        Err(Fault::Field { left: bytes.len() })
     }
 }
 
@@ -175,14 +175,15 @@ fn store_here<'a>(
     operations: u32,
     before: &[Cell],
     bytes: &'a [u8],
-) -> Result<(u32, &'a [u8]), ReadError>
-    ensures { Gives (λ x. (x.0, x.1.now)) result ((number (λ n. nat_lt load n && nat_lt n operations && rises (λ w. w.store) before.now n)).read bytes.now) }
+) -> Result<(u32, &'a [u8]), Fault>
+    ensures { GivesExactly (λ x. (x.0, x.1.now)) result
+        ((number (λ n. nat_lt load n && nat_lt n operations && rises (λ w. w.store) before.now n)).read bytes.now) }
 {
     let (n, rest) = u32_at(bytes)?;
     if store_fits(load, operations, before, n) {
         Ok((n, rest))
     } else {
-        Err(ReadError::Fault(Fault::Field { left: bytes.len() }))
+        Err(Fault::Field { left: bytes.len() })
     }
 }
 
@@ -193,8 +194,8 @@ pub fn input_of<'a>(
     names: u32,
     before: &[Var],
     bytes: &'a [u8],
-) -> Result<(Var, &'a [u8]), ReadError>
-    ensures { Gives (λ x. (x.0, x.1.now)) result ((input_piece profile names before.now).read bytes.now) }
+) -> Result<(Var, &'a [u8]), Fault>
+    ensures { GivesExactly (λ x. (x.0, x.1.now)) result ((input_piece profile names before.now).read bytes.now) }
 {
     let (name, rest) = input_name_here(names, before, bytes)?;
     let (ty, rest) = any_ty_here(profile, rest)?;
@@ -210,8 +211,8 @@ pub fn output_of<'a>(
     operations: u32,
     before: &[Outlet],
     bytes: &'a [u8],
-) -> Result<(Outlet, &'a [u8]), ReadError>
-    ensures { Gives (λ x. (x.0, x.1.now)) result ((output_piece profile names operations before.now).read bytes.now) }
+) -> Result<(Outlet, &'a [u8]), Fault>
+    ensures { GivesExactly (λ x. (x.0, x.1.now)) result ((output_piece profile names operations before.now).read bytes.now) }
 {
     let (name, rest) = output_name_here(names, before, bytes)?;
     let (ty, rest) = any_ty_here(profile, rest)?;
@@ -228,8 +229,8 @@ pub fn cell_of<'a>(
     operations: u32,
     before: &[Cell],
     bytes: &'a [u8],
-) -> Result<(Cell, &'a [u8]), ReadError>
-    ensures { Gives (λ x. (x.0, x.1.now)) result ((cell_piece profile names operations before.now).read bytes.now) }
+) -> Result<(Cell, &'a [u8]), Fault>
+    ensures { GivesExactly (λ x. (x.0, x.1.now)) result ((cell_piece profile names operations before.now).read bytes.now) }
 {
     let (name, rest) = below_here(names, bytes)?;
     let (ty, rest) = any_ty_here(profile, rest)?;
@@ -254,9 +255,9 @@ pub fn turn_of<'a>(
     names: u32,
     before: &[TurnNode],
     bytes: &'a [u8],
-) -> Result<(TurnNode, &'a [u8]), ReadError>
+) -> Result<(TurnNode, &'a [u8]), Fault>
     requires { length before.now < 2 ^ 32 }
-    ensures { Gives (λ x. (x.0, x.1.now)) result ((turn_piece names before.now).read bytes.now) }
+    ensures { GivesExactly (λ x. (x.0, x.1.now)) result ((turn_piece names before.now).read bytes.now) }
 {
     let (parent, rest) = at_most_here(before.len() as u32, bytes)?;
     let (name, rest) = below_here(names, rest)?;

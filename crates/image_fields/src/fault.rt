@@ -1,7 +1,7 @@
 //! Why bytes are no image, or could not be read.
 
 ghost use Rattle.std.specs.Prelude.{◌≡◌};
-ghost use Rattle.image_fields.specs.declared.fault.ReadError.TheVariants.{Memory};
+ghost use Rattle.image_fields.specs.declared.fault.ReadError.TheVariants as errors;
 
 use std::alloc::{AllocError, AllocFailed};
 use vcp_base::{Memory as NoMemory, Residue};
@@ -49,7 +49,7 @@ pub enum ReadError {
 }
 
 impl From<AllocError> for ReadError {
-    ghost from_gives = { λ _ e. e ≡ Memory };
+    ghost from_gives = { λ _ e. e ≡ errors.Memory };
 
     fn from(_: AllocError) -> ReadError {
         ReadError::Memory
@@ -57,7 +57,7 @@ impl From<AllocError> for ReadError {
 }
 
 impl From<NoMemory> for ReadError {
-    ghost from_gives = { λ _ e. e ≡ Memory };
+    ghost from_gives = { λ _ e. e ≡ errors.Memory };
 
     fn from(_: NoMemory) -> ReadError {
         ReadError::Memory
@@ -65,9 +65,17 @@ impl From<NoMemory> for ReadError {
 }
 
 impl<T: Drop> From<AllocFailed<T>> for ReadError {
-    ghost from_gives = { λ _ e. e ≡ Memory };
+    ghost from_gives = { λ _ e. e ≡ errors.Memory };
 
     fn from(_: AllocFailed<T>) -> ReadError {
         ReadError::Memory
+    }
+}
+
+impl From<Fault> for ReadError {
+    ghost from_gives = { λ f e. e ≡ errors.Fault f };
+
+    fn from(fault: Fault) -> ReadError {
+        ReadError::Fault(fault)
     }
 }

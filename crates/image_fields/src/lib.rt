@@ -15,6 +15,3 @@ pub use reading::{
     any_number_here, at_most_here, below_here, residue_at, ty_named, u8_at, u16_at, u32_at, u64_at,
 };
 pub use writing::{put_i64, put_kind, put_residue, put_ty, put_u16, put_u32};
-
-#[cfg(test)]
-mod tests;

@@ -1,5 +1,6 @@
 -- The types of inputs and outputs are those of their operations, so the code has words of them.
-use Rattle.std.proofs.Common.{◌≡◌, ℕ, zero, suc, ◌+◌, ◌<◌, ◌==◌, ◌&&◌, Bool, true, false, cond, List, [], ◌∷◌, length, take, slice_get, All, Option, Some, None, refl, ap, subst, ◌∙◌, arith}
+use Rattle.std.proofs.Common.{◌≡◌, ℕ, zero, suc, ◌+◌, ◌<◌, ◌==◌, ◌&&◌, Bool, true, false, cond, List, [], ◌∷◌, length, take, slice_get, All, Option, Some, None}
+use Rattle.std.proofs.Common.{refl, ap, subst, ◌∙◌, arith}
 use Rattle.std.specs.Option.{is_some}
 use Rattle.std.specs.Prelude.{FitsSigned}
 use Rattle.std.specs.Int.{w64}
@@ -16,13 +17,16 @@ use Rattle.op_graph.specs.declared.op.Op.{Op}
 use Rattle.op_graph.specs.declared.op.Outlet.{Outlet}
 use Rattle.op_graph.specs.declared.op.Loaded.{Loaded}
 use Rattle.op_graph.specs.Lists.{Lists}
-use Rattle.op_graph.specs.Rules.{Place, Entry, entry, numbered, found, place_of, entry_of, agree, is_input, is_load, is_store, is_out, kind_fits, from_fits, same_type, OpFits, OutputFits, Admitted, IsPart, IsGraph, scope}
+use Rattle.op_graph.specs.Rules.{Place, Entry, entry, numbered, found, place_of, entry_of, agree, is_input, is_load, is_store, is_out, kind_fits, from_fits}
+use Rattle.op_graph.specs.Rules.{same_type, OpFits, OutputFits, Admitted, IsPart, IsGraph, scope}
 use Rattle.image_file.proofs.Entries.{eqb_self}
 
 -- what op_graph promises of the entries of graphs
 pub record GraphLaws : Type 0 where
-  pub output : (g : Lists) (k : ℕ) (o : Outlet) → IsPart g → slice_get g.outputs k ≡ Some o → OutputFits (length g.names) (length g.operations) (take k g.outputs) o
-  pub operation : (g : Lists) (k : ℕ) (op : Op) → IsPart g → slice_get g.operations k ≡ Some op → OpFits (place_of (scope g) k) (length g.turn_nodes) (take k g.operations) op
+  pub output : (g : Lists) (k : ℕ) (o : Outlet) → IsPart g → slice_get g.outputs k ≡ Some o
+      → OutputFits (length g.names) (length g.operations) (take k g.outputs) o
+  pub operation : (g : Lists) (k : ℕ) (op : Op) → IsPart g → slice_get g.operations k ≡ Some op
+      → OpFits (place_of (scope g) k) (length g.turn_nodes) (take k g.operations) op
   pub imm : (g : Lists) (k : ℕ) (op : Op) → IsPart g → slice_get g.operations k ≡ Some op → FitsSigned w64 op.imm
   pub init : (g : Lists) (k : ℕ) (l : Loaded) → IsPart g → slice_get g.loads k ≡ Some l → FitsSigned w64 l.init
 
@@ -95,14 +99,24 @@ some_type : (e : Entry) (k : Kind) (from : Ty) (o : Option Entry) → o ≡ Some
 some_type e k from None same h = absurd cc
 some_type e k from (Some d) same h = let is : d ≡ e = cc in subst (λ (x : Entry). same_type x.ty from ≡ true) is h
 
-input_type : (p : Place) (op : Op) (e : Entry) → p.input ≡ Some e → kind_fits p op.kind ≡ true → from_fits (entry_of p op.kind) op.kind op.from ≡ true → same_type e.ty op.from ≡ true
+input_type : (p : Place) (op : Op) (e : Entry) → p.input ≡ Some e → kind_fits p op.kind ≡ true → from_fits (entry_of p op.kind) op.kind op.from ≡ true
+    → same_type e.ty op.from ≡ true
 input_type p op e there fits from =
-    let is : op.kind ≡ kind.Input = input_kind op.kind (agree (is_load op.kind) (is_some p.load)) (agree (is_store op.kind) (is_some p.store)) (agree (is_out op.kind) (is_some p.out)) (subst (λ (o : Option Entry). (agree (is_input op.kind) (is_some o) && agree (is_load op.kind) (is_some p.load) && agree (is_store op.kind) (is_some p.store) && agree (is_out op.kind) (is_some p.out)) ≡ true) there fits) in
+    let is : op.kind ≡ kind.Input =
+    input_kind op.kind (agree (is_load op.kind) (is_some p.load)) (agree (is_store op.kind) (is_some p.store)) (agree (is_out op.kind) (is_some p.out))
+    (subst (λ (o : Option Entry).
+    (agree (is_input op.kind) (is_some o) && agree (is_load op.kind) (is_some p.load) && agree (is_store op.kind) (is_some p.store) && agree
+    (is_out op.kind) (is_some p.out)) ≡ true) there fits) in
     some_type e op.kind op.from (entry_of p op.kind) (ap (entry_of p) is ∙ there) from
 
-out_type : (p : Place) (op : Op) (e : Entry) → p.out ≡ Some e → kind_fits p op.kind ≡ true → from_fits (entry_of p op.kind) op.kind op.from ≡ true → same_type e.ty op.from ≡ true
+out_type : (p : Place) (op : Op) (e : Entry) → p.out ≡ Some e → kind_fits p op.kind ≡ true → from_fits (entry_of p op.kind) op.kind op.from ≡ true
+    → same_type e.ty op.from ≡ true
 out_type p op e there fits from =
-    let is : op.kind ≡ kind.Out = out_kind op.kind (agree (is_input op.kind) (is_some p.input)) (agree (is_load op.kind) (is_some p.load)) (agree (is_store op.kind) (is_some p.store)) (subst (λ (o : Option Entry). (agree (is_input op.kind) (is_some p.input) && agree (is_load op.kind) (is_some p.load) && agree (is_store op.kind) (is_some p.store) && agree (is_out op.kind) (is_some o)) ≡ true) there fits) in
+    let is : op.kind ≡ kind.Out =
+    out_kind op.kind (agree (is_input op.kind) (is_some p.input)) (agree (is_load op.kind) (is_some p.load)) (agree (is_store op.kind) (is_some p.store))
+    (subst (λ (o : Option Entry).
+    (agree (is_input op.kind) (is_some p.input) && agree (is_load op.kind) (is_some p.load) && agree (is_store op.kind) (is_some p.store) && agree
+    (is_out op.kind) (is_some o)) ≡ true) there fits) in
     some_type e op.kind op.from (entry_of p op.kind) (ap (entry_of p) is ∙ there) from
 
 same_admits : (p : Profile) (a b : Ty) → same_type a b ≡ true → admits p b ≡ true → admits p a ≡ true
@@ -123,19 +137,23 @@ inputs_admitted laws g h =
     let lt : k < length g.inputs = slice_get_within g.inputs k v e in
     let there = get_there g.operations k (omega (arith, part.enough_operations)) in
     let f = laws.operation g k there.0 part there.1 in
-    same_admits g.profile v.ty there.0.from (input_type (place_of (scope g) k) there.0 (entry k v.ty) (ap (numbered k) e) f.kind f.from) (all_get (Admitted g.profile) g.operations k there.0 part.types.operations there.1).0)
+    same_admits g.profile v.ty there.0.from (input_type (place_of (scope g) k) there.0 (entry k v.ty) (ap (numbered k) e) f.kind f.from)
+    (all_get (Admitted g.profile) g.operations k there.0 part.types.operations there.1).0)
 
-found_at : (xs : List Outlet) (k j : ℕ) (o : Outlet) → slice_get xs k ≡ Some o → All (λ w. w.op < o.op) (take k xs) → found (λ w. w.op == o.op) (λ w. w.ty) j xs ≡ Some (entry (j + k) o.ty)
+found_at : (xs : List Outlet) (k j : ℕ) (o : Outlet) → slice_get xs k ≡ Some o → All (λ w. w.op < o.op) (take k xs)
+    → found (λ w. w.op == o.op) (λ w. w.ty) j xs ≡ Some (entry (j + k) o.ty)
 found_at [] k j o e all = absurd cc
 found_at (x ∷ xs) zero j o e all =
     let same : x ≡ o = cc in
     let place : j ≡ j + 0 = omega arith in
-    ap (λ w. found (λ v. v.op == o.op) (λ v. v.ty) j (w ∷ xs)) same ∙ ap (λ b. cond b (Some (entry j o.ty)) (found (λ v. v.op == o.op) (λ v. v.ty) (j + 1) xs)) (eqb_self o.op) ∙ ap (λ n. Some (entry n o.ty)) place
+    ap (λ w. found (λ v. v.op == o.op) (λ v. v.ty) j (w ∷ xs)) same
+    ∙ ap (λ b. cond b (Some (entry j o.ty)) (found (λ v. v.op == o.op) (λ v. v.ty) (j + 1) xs)) (eqb_self o.op) ∙ ap (λ n. Some (entry n o.ty)) place
 found_at (x ∷ xs) (suc k) j o e all =
     let lt : x.op < o.op = all 0 x (omega arith) in
     let no : (x.op == o.op) ≡ false = ne_eqb x.op o.op (λ z. omega arith) in
     let place : (j + 1) + k ≡ j + suc k = omega arith in
-    ap (λ b. cond b (Some (entry j x.ty)) (found (λ v. v.op == o.op) (λ v. v.ty) (j + 1) xs)) no ∙ found_at xs k (j + 1) o e (λ i d lt. all (suc i) d (omega arith)) ∙ ap (λ n. Some (entry n o.ty)) place
+    ap (λ b. cond b (Some (entry j x.ty)) (found (λ v. v.op == o.op) (λ v. v.ty) (j + 1) xs)) no
+    ∙ found_at xs k (j + 1) o e (λ i d lt. all (suc i) d (omega arith)) ∙ ap (λ n. Some (entry n o.ty)) place
 
 pub outputs_admitted : GraphLaws → (g : Lists) → IsGraph g → All (λ o. admits g.profile o.ty ≡ true) g.outputs
 outputs_admitted laws g h =
@@ -144,4 +162,6 @@ outputs_admitted laws g h =
     let r = laws.output g k o part e in
     let there = get_there g.operations o.op r.operation in
     let f = laws.operation g o.op there.0 part there.1 in
-    same_admits g.profile o.ty there.0.from (out_type (place_of (scope g) o.op) there.0 (entry (0 + k) o.ty) (found_at g.outputs k 0 o e r.operation_rises) f.kind f.from) (all_get (Admitted g.profile) g.operations o.op there.0 part.types.operations there.1).0)
+    same_admits g.profile o.ty there.0.from
+    (out_type (place_of (scope g) o.op) there.0 (entry (0 + k) o.ty) (found_at g.outputs k 0 o e r.operation_rises) f.kind f.from)
+    (all_get (Admitted g.profile) g.operations o.op there.0 part.types.operations there.1).0)

@@ -1,10 +1,12 @@
 -- Entries: lists whose entries each fit after those before them.
-use Rattle.std.proofs.Common.{◌≡◌, ℕ, zero, suc, ◌+◌, ◌<◌, ◌≤◌, ◌==◌, true, List, [], ◌∷◌, ◌++◌, length, slice_get, slice_index_or, All, Some, refl, length-append, arith}
+use Rattle.std.proofs.Common.{◌≡◌, ℕ, zero, suc, ◌+◌, ◌<◌, ◌≤◌, ◌==◌, true, List, [], ◌∷◌, ◌++◌, length, slice_get, slice_index_or, All, Some, refl}
+use Rattle.std.proofs.Common.{length-append, arith}
 use Rattle.std.proofs.lemmas.Bool.Decides.{nat_tests}
 use Rattle.op_graph.specs.Rules.{Each}
 
 -- what follows from P at each place below n holds too
-pub each_more : {X : Type 0} (P Q : List X → X → Type 0) (n : ℕ) (before xs : List X) → length before + length xs ≤ n → ((b : List X) (x : X) → length b < n → P b x → Q b x) → Each P before xs → Each Q before xs
+pub each_more : {X : Type 0} (P Q : List X → X → Type 0) (n : ℕ) (before xs : List X) → length before + length xs ≤ n
+    → ((b : List X) (x : X) → length b < n → P b x → Q b x) → Each P before xs → Each Q before xs
 each_more P Q n before [] le f h = tt
 each_more P Q n before (x ∷ xs) le f h = (f before x (omega arith) h.0, each_more P Q n (before ++ x ∷ []) xs (simp length-append (omega arith)) f h.1)
 

@@ -1,5 +1,6 @@
 -- What keeps the rules of a graph has an image: operations, where their numbers have the format's widths.
-use Rattle.std.proofs.Common.{◌≡◌, ℕ, ◌*◌, ◌<◌, ◌≤◌, ◌^◌, ℤ, pos, negsuc, true, false, List, [], length, All, Option, Some, None, refl, sym, ap, ◌∙◌, arith, inl, inr}
+use Rattle.std.proofs.Common.{◌≡◌, ℕ, ◌*◌, ◌<◌, ◌≤◌, ◌^◌, ℤ, pos, negsuc, true, false, List, [], length, All, Option, Some, None, refl, sym, ap, ◌∙◌, arith}
+use Rattle.std.proofs.Common.{inl, inr}
 use Rattle.std.proofs.lemmas.Bool.{eqb-true, leb-true, cases_lt}
 use Rattle.std.proofs.lemmas.Option.{slice_get_past}
 use Rattle.std.specs.Int.{w64, byte_len}
@@ -49,7 +50,8 @@ residue_small profile.Wide n lt = omega arith
 abbrev pub Sized : Profile → Op → Type 0
 Sized p op = PlaceFits op.spot × FitsSigned w64 op.imm × Admitted p op
 
-pub operations_fit : (s : Said) (ops : List Op) → length ops ≤ most_operations → s.turn_nodes ≤ most_turn_nodes → All (Sized s.profile) ops → Each (Operates s.scope s.turn_nodes) [] ops → Each (λ b. (op_piece s b).fits) [] ops
+pub operations_fit : (s : Said) (ops : List Op) → length ops ≤ most_operations → s.turn_nodes ≤ most_turn_nodes → All (Sized s.profile) ops
+    → Each (Operates s.scope s.turn_nodes) [] ops → Each (λ b. (op_piece s b).fits) [] ops
 unfolding op_by corrected
 operations_fit s ops few turns sized h =
     each_more (λ b o. Operates s.scope s.turn_nodes b o × Sized s.profile o) (λ b. (op_piece s b).fits) (length ops) [] ops (omega arith) (λ b o lt r.

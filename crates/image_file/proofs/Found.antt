@@ -20,12 +20,15 @@ use Rattle.image_file.specs.Image.{Parts, image_of}
 use Rattle.image_file.specs.Graphs.{lists_of, placed, Reads, OrMemory, HasImage, IsImage, FaultAt, OneGraph, NoFault, ImageOrFault}
 use Rattle.image_file.proofs.Kept.{fits_graph, parts_back}
 
-pub is_found : (bytes : List ℕ) (r : Result Whole ReadError) → IsBytes bytes → Gives parts r (read_all image_piece bytes) → IfOk r (λ w. image_piece.fits (parts w) × (bytes ≡ image_piece.spell (parts w)))
+pub is_found : (bytes : List ℕ) (r : Result Whole ReadError) → IsBytes bytes → Gives parts r (read_all image_piece bytes)
+    → IfOk r (λ w. image_piece.fits (parts w) × (bytes ≡ image_piece.spell (parts w)))
 is_found bytes (Ok w) fits given = all_takes image_piece image_law bytes (parts w) fits given
 is_found bytes (Err e) fits given = tt
 
-pub is_fault : (bytes : List ℕ) (r : Result Whole ReadError) → IsBytes bytes → Gives parts r (read_all image_piece bytes) → (f : Fault) → r ≡ Err (errors.Fault f) → FaultOf image_piece bytes f
-is_fault bytes r fits given f e = all_fails image_piece image_law bytes f fits (subst (λ (x : Result Whole ReadError). Gives parts x (read_all image_piece bytes)) e given)
+pub is_fault : (bytes : List ℕ) (r : Result Whole ReadError) → IsBytes bytes → Gives parts r (read_all image_piece bytes) → (f : Fault)
+    → r ≡ Err (errors.Fault f) → FaultOf image_piece bytes f
+is_fault bytes r fits given f e =
+    all_fails image_piece image_law bytes f fits (subst (λ (x : Result Whole ReadError). Gives parts x (read_all image_piece bytes)) e given)
 
 placed_reads : (bytes : List ℕ) (f : Fault) → FaultOf image_piece bytes f → Reads bytes (Err (placed (length bytes) f))
 placed_reads bytes (left.Magic n) h = (left.Magic n, h, refl)
@@ -36,16 +39,21 @@ placed_reads bytes (left.Operand n) h = (left.Operand n, h, refl)
 placed_reads bytes (left.Table n s e) h = (left.Table n s e, h, refl)
 placed_reads bytes (left.Rest n) h = (left.Rest n, h, refl)
 
-pub reads_err : (bytes : List ℕ) (e : ReadError) (r : ImageFault) → ((f : Fault) → e ≡ errors.Fault f → FaultOf image_piece bytes f) → (e ≡ errors.Memory → r ≡ at.Memory) → ((f : Fault) → e ≡ errors.Fault f → r ≡ placed (length bytes) f) → Reads bytes (Err r)
+pub reads_err : (bytes : List ℕ) (e : ReadError) (r : ImageFault) → ((f : Fault) → e ≡ errors.Fault f → FaultOf image_piece bytes f)
+    → (e ≡ errors.Memory → r ≡ at.Memory) → ((f : Fault) → e ≡ errors.Fault f → r ≡ placed (length bytes) f) → Reads bytes (Err r)
 reads_err bytes errors.Memory r fault memory told = subst (λ (x : ImageFault). Reads bytes (Err x)) (sym (memory refl)) tt
 reads_err bytes (errors.Fault f) r fault memory told = subst (λ (x : ImageFault). Reads bytes (Err x)) (sym (told f refl)) (placed_reads bytes f (fault f refl))
 
-pub reads_ok : (bytes : List ℕ) (p : Parts) (g : Lists) (t : Numbers) → image_piece.fits p → bytes ≡ image_piece.spell p → g ≡ lists_of p → t ≡ table_of p.seed p.step (lists_of p) → Reads bytes (Ok (g, t))
+pub reads_ok : (bytes : List ℕ) (p : Parts) (g : Lists) (t : Numbers) → image_piece.fits p → bytes ≡ image_piece.spell p → g ≡ lists_of p
+    → t ≡ table_of p.seed p.step (lists_of p) → Reads bytes (Ok (g, t))
 reads_ok bytes p g t h e eg et =
-    subst (λ (x : Numbers). Reads bytes (Ok (g, x))) (sym et) (subst (λ (y : Lists). Reads bytes (Ok (y, table_of p.seed p.step (lists_of p)))) (sym eg) (fits_graph p h, e ∙ ap image_piece.spell (sym (parts_back p)), refl))
+    subst (λ (x : Numbers). Reads bytes (Ok (g, x))) (sym et)
+    (subst (λ (y : Lists). Reads bytes (Ok (y, table_of p.seed p.step (lists_of p)))) (sym eg)
+    (fits_graph p h, e ∙ ap image_piece.spell (sym (parts_back p)), refl))
 
 -- an image has no fault, so the answer is its graph, or memory ran out
-pub only_image : OneGraph → NoFault → (bytes : List ℕ) (r : Result (Lists × Numbers) ImageFault) → Reads bytes r → (g : Lists) (seed step : ℕ) → HasImage g seed step → bytes ≡ image_of g seed step → OrMemory r (g, table_of seed step g)
+pub only_image : OneGraph → NoFault → (bytes : List ℕ) (r : Result (Lists × Numbers) ImageFault) → Reads bytes r → (g : Lists) (seed step : ℕ)
+    → HasImage g seed step → bytes ≡ image_of g seed step → OrMemory r (g, table_of seed step g)
 only_image one none bytes (Ok (h, t)) reads g seed step has e =
     let same = one h g t.seed seed t.step step reads.0 has (sym reads.1 ∙ e) in
     ap (λ (x : Numbers). (h, x)) reads.2
@@ -54,11 +62,14 @@ only_image one none bytes (Ok (h, t)) reads g seed step has e =
     ∙ ap (λ (x : Lists). (x, table_of seed step x)) same.0
 only_image one none bytes (Err at.Memory) reads g seed step has e = refl
 only_image one none bytes (Err (at.Magic n)) reads g seed step has e = absurd (none g seed step (at.Magic n) has (subst (λ b. FaultAt b (at.Magic n)) e reads))
-only_image one none bytes (Err (at.Version n)) reads g seed step has e = absurd (none g seed step (at.Version n) has (subst (λ b. FaultAt b (at.Version n)) e reads))
+only_image one none bytes (Err (at.Version n)) reads g seed step has e =
+    absurd (none g seed step (at.Version n) has (subst (λ b. FaultAt b (at.Version n)) e reads))
 only_image one none bytes (Err (at.Short n)) reads g seed step has e = absurd (none g seed step (at.Short n) has (subst (λ b. FaultAt b (at.Short n)) e reads))
 only_image one none bytes (Err (at.Field n)) reads g seed step has e = absurd (none g seed step (at.Field n) has (subst (λ b. FaultAt b (at.Field n)) e reads))
-only_image one none bytes (Err (at.Operand n)) reads g seed step has e = absurd (none g seed step (at.Operand n) has (subst (λ b. FaultAt b (at.Operand n)) e reads))
-only_image one none bytes (Err (at.Table n s x)) reads g seed step has e = absurd (none g seed step (at.Table n s x) has (subst (λ b. FaultAt b (at.Table n s x)) e reads))
+only_image one none bytes (Err (at.Operand n)) reads g seed step has e =
+    absurd (none g seed step (at.Operand n) has (subst (λ b. FaultAt b (at.Operand n)) e reads))
+only_image one none bytes (Err (at.Table n s x)) reads g seed step has e =
+    absurd (none g seed step (at.Table n s x) has (subst (λ b. FaultAt b (at.Table n s x)) e reads))
 only_image one none bytes (Err (at.Rest n)) reads g seed step has e = absurd (none g seed step (at.Rest n) has (subst (λ b. FaultAt b (at.Rest n)) e reads))
 
 -- bytes are an image or have a fault

@@ -1,5 +1,6 @@
 -- What was read keeps the rules of a graph, and what keeps them is read.
-use Rattle.std.proofs.Common.{◌≡◌, ℕ, zero, suc, ◌-◌, ◌<◌, ◌≤◌, ◌&&◌, ◌||◌, not, nat_lt, Bool, true, false, List, [], ◌∷◌, ◌++◌, length, map, slice_get, All, Option, Some, None, bytes_eq, refl, sym, ap, subst, ◌∙◌, append_assoc, arith}
+use Rattle.std.proofs.Common.{◌≡◌, ℕ, zero, suc, ◌-◌, ◌<◌, ◌≤◌, ◌&&◌, ◌||◌, not, nat_lt, Bool, true, false, List, [], ◌∷◌, ◌++◌, length, map, slice_get, All}
+use Rattle.std.proofs.Common.{Option, Some, None, bytes_eq, refl, sym, ap, subst, ◌∙◌, append_assoc, arith}
 use Rattle.std.specs.List.{list_any}
 use Rattle.std.specs.Prelude.{FitsSigned}
 use Rattle.std.specs.Int.{w64}
@@ -71,7 +72,8 @@ over_push f earlier x over r z e =
     let lt : f x < z = ltb-true _ _ (sym (rises_last f earlier x z) ∙ e) in
     under_push f z earlier x (under_more f (f x) z earlier (omega arith) (over (f x) r)) lt
 
-each_rising : {X : Type 0} (f : X → ℕ) (P : List X → X → Type 0) (earlier xs : List X) → Over f earlier → ((b : List X) (x : X) → P b x → rises f b (f x) ≡ true) → Each P earlier xs → Each (λ b x. P b x × Under f (f x) b) earlier xs
+each_rising : {X : Type 0} (f : X → ℕ) (P : List X → X → Type 0) (earlier xs : List X) → Over f earlier
+    → ((b : List X) (x : X) → P b x → rises f b (f x) ≡ true) → Each P earlier xs → Each (λ b x. P b x × Under f (f x) b) earlier xs
 each_rising f P earlier [] over r h = tt
 each_rising f P earlier (x ∷ xs) over r h =
     let here = r earlier x h.0 in
@@ -90,7 +92,8 @@ each_all : {X : Type 0} (P : List X → X → Type 0) (Q : X → Type 0) (earlie
 each_all P Q earlier [] f h = All-nil Q
 each_all P Q earlier (x ∷ xs) f h = All-cons Q x xs (f earlier x h.0) (each_all P Q (earlier ++ x ∷ []) xs f h.1)
 
-pub each_with_all : {X : Type 0} (P : List X → X → Type 0) (Q : X → Type 0) (earlier xs : List X) → All Q xs → Each P earlier xs → Each (λ b x. P b x × Q x) earlier xs
+pub each_with_all : {X : Type 0} (P : List X → X → Type 0) (Q : X → Type 0) (earlier xs : List X) → All Q xs → Each P earlier xs
+    → Each (λ b x. P b x × Q x) earlier xs
 each_with_all P Q earlier [] all h = tt
 each_with_all P Q earlier (x ∷ xs) all h = ((h.0, all 0 x (omega arith)), each_with_all P Q (earlier ++ x ∷ []) xs (λ i d lt. all (suc i) d (omega arith)) h.1)
 
@@ -110,7 +113,9 @@ new_all : (n : List ℕ) (ms : List (List ℕ)) → list_any (bytes_eq (lower n)
 new_all n [] e = All-nil (λ m. SameName m n → ⊥)
 new_all n (m ∷ ms) e =
     let parts = neither (bytes_eq (lower n) (lower m)) (list_any (bytes_eq (lower n)) (map lower ms)) e in
-    All-cons (λ m. SameName m n → ⊥) m ms (λ same. let yes : bytes_eq (lower n) (lower m) ≡ true = (bytes_eq-Decides (lower n) (lower m)).1 (sym same) in absurd (clash (sym yes ∙ parts.0))) (new_all n ms parts.1)
+    All-cons (λ m. SameName m n → ⊥) m ms
+    (λ same. let yes : bytes_eq (lower n) (lower m) ≡ true = (bytes_eq-Decides (lower n) (lower m)).1 (sym same) in absurd (clash (sym yes ∙ parts.0)))
+    (new_all n ms parts.1)
 
 pub none_any : (n : List ℕ) (ms : List (List ℕ)) → All (λ m. SameName m n → ⊥) ms → list_any (bytes_eq (lower n)) (map lower ms) ≡ false
 none_any n [] all = refl
@@ -123,30 +128,45 @@ none_any n (m ∷ ms) all =
 abbrev CellFits : Profile → ℕ → ℕ → List Cell → Cell → Type 0
 CellFits p names operations b c = ((cell_piece p names operations b).fits c × Under (λ d. d.load) c.load b) × Under (λ d. d.store) c.store b
 
-loads_fit : (p : Profile) (names operations : ℕ) (earlier cs : List Cell) → Each (CellFits p names operations) earlier cs → Each (LoadFits names operations) (map load_of earlier) (map load_of cs)
+loads_fit : (p : Profile) (names operations : ℕ) (earlier cs : List Cell) → Each (CellFits p names operations) earlier cs
+    → Each (LoadFits names operations) (map load_of earlier) (map load_of cs)
 unfolding cell_piece
 loads_fit p names operations earlier [] h = tt
 loads_fit p names operations earlier (c ∷ cs) h =
     let r = h.0.0.0 in
     let load = both _ _ r.1.1.1.0.1 in (
-      record { name = ltb-true _ _ r.0.1; init = r.1.1.0.1; load = ltb-true _ _ load.0; load_rises = under_all (λ m. m.load) c.load (map load_of earlier) (under_map load_of (λ m. m.load) c.load earlier h.0.0.1) },
-      subst (λ b. Each (LoadFits names operations) b (map load_of cs)) (map-append load_of earlier (c ∷ [])) (loads_fit p names operations (earlier ++ c ∷ []) cs h.1),
+      record {
+        name = ltb-true _ _ r.0.1;
+        init = r.1.1.0.1;
+        load = ltb-true _ _ load.0;
+        load_rises = under_all (λ m. m.load) c.load (map load_of earlier) (under_map load_of (λ m. m.load) c.load earlier h.0.0.1);
+      },
+      subst (λ b. Each (LoadFits names operations) b (map load_of cs)) (map-append load_of earlier (c ∷ []))
+          (loads_fit p names operations (earlier ++ c ∷ []) cs h.1),
     )
 
 get_at : (earlier : List Cell) (c : Cell) (cs : List Cell) → slice_get (map load_of (earlier ++ c ∷ cs)) (length earlier) ≡ Some (load_of c)
 get_at [] c cs = refl
 get_at (b ∷ earlier) c cs = get_at earlier c cs
 
-stores_fit : (p : Profile) (names operations : ℕ) (loads : List Loaded) (earlier cs : List Cell) → loads ≡ map load_of (earlier ++ cs) → Each (CellFits p names operations) earlier cs → Each (StoreFits loads operations) (map store_of earlier) (map store_of cs)
+stores_fit : (p : Profile) (names operations : ℕ) (loads : List Loaded) (earlier cs : List Cell) → loads ≡ map load_of (earlier ++ cs)
+    → Each (CellFits p names operations) earlier cs → Each (StoreFits loads operations) (map store_of earlier) (map store_of cs)
 unfolding cell_piece
 stores_fit p names operations loads earlier [] e h = tt
 stores_fit p names operations loads earlier (c ∷ cs) e h =
     let r = h.0.0.0 in
     let store = both _ _ r.1.1.1.1.0.1 in
     let first = both _ _ store.0 in
-    let here : slice_get loads (length (map store_of earlier)) ≡ Some (load_of c) = ap (λ k. slice_get loads k) (length-map earlier store_of) ∙ ap (λ l. slice_get l (length earlier)) e ∙ get_at earlier c cs in (
-      record { store = ltb-true _ _ first.1; store_rises = under_all (λ m. m) c.store (map store_of earlier) (under_map store_of (λ m. m) c.store earlier h.0.1); after_load = subst (λ o. LoadedBefore o c.store) (sym here) (ltb-true _ _ first.0) },
-      subst (λ b. Each (StoreFits loads operations) b (map store_of cs)) (map-append store_of earlier (c ∷ [])) (stores_fit p names operations loads (earlier ++ c ∷ []) cs (e ∙ ap (map load_of) (sym (append_assoc earlier (c ∷ []) cs))) h.1),
+    let here : slice_get loads (length (map store_of earlier)) ≡ Some (load_of c) = ap (λ k. slice_get loads k) (length-map earlier store_of)
+    ∙ ap (λ l. slice_get l (length earlier)) e ∙ get_at earlier c cs in (
+      record {
+        store = ltb-true _ _ first.1;
+        store_rises = under_all (λ m. m) c.store (map store_of earlier) (under_map store_of (λ m. m) c.store earlier h.0.1);
+        after_load =
+            subst (λ o. LoadedBefore o c.store) (sym here) (ltb-true _ _ first.0);
+      },
+      subst (λ b. Each (StoreFits loads operations) b (map store_of cs)) (map-append store_of earlier (c ∷ []))
+          (stores_fit p names operations loads (earlier ++ c ∷ []) cs (e ∙ ap (map load_of) (sym (append_assoc earlier (c ∷ []) cs))) h.1),
     )
 
 -- ---- what each list of an image says
@@ -157,34 +177,54 @@ all_map Q f (x ∷ xs) all = All-cons Q (f x) (map f xs) (all 0 x (omega arith))
 
 pub names_keep : (xs : List (List ℕ)) → Each (λ b. (name_piece b).fits) [] xs → Each (NameFits (λ n. n)) [] xs
 unfolding name_by
-names_keep xs h = each_more _ _ (length xs) [] xs (omega arith) (λ b x lt r. let size = both _ _ r.0.1 in let name = both _ _ r.1.0.1 in record { short = leb-true _ _ size.1; letters = name.0; new = new_all x b (not_true _ name.1) }) h
+names_keep xs h =
+    each_more _ _ (length xs) [] xs (omega arith)
+    (λ b x lt r. let size = both _ _ r.0.1 in let name = both _ _ r.1.0.1 in
+    record { short = leb-true _ _ size.1; letters = name.0; new = new_all x b (not_true _ name.1) }) h
 
 pub inputs_keep : (p : Profile) (names : ℕ) (xs : List Var) → Each (λ b. (input_piece p names b).fits) [] xs → Each (InputFits names) [] xs
 unfolding input_piece
 inputs_keep p names xs h =
-    each_more _ _ (length xs) [] xs (omega arith) (λ b x lt r. record { name = ltb-true _ _ (both _ _ r.0.0.1).0; name_rises = under_all (λ w. w.name) x.name b r.1 })
+    each_more _ _ (length xs) [] xs (omega arith)
+    (λ b x lt r. record { name = ltb-true _ _ (both _ _ r.0.0.1).0; name_rises = under_all (λ w. w.name) x.name b r.1 })
     (each_rising (λ w. w.name) (λ b v. (input_piece p names b).fits v) [] xs (over_nothing (λ (w : Var). w.name)) (λ b v r. (both _ _ r.0.1).1) h)
 
-pub outputs_keep : (p : Profile) (names operations : ℕ) (xs : List Outlet) → Each (λ b. (output_piece p names operations b).fits) [] xs → Each (OutputFits names operations) [] xs
+pub outputs_keep : (p : Profile) (names operations : ℕ) (xs : List Outlet) → Each (λ b. (output_piece p names operations b).fits) [] xs
+    → Each (OutputFits names operations) [] xs
 unfolding output_piece
 outputs_keep p names operations xs h =
-    each_more _ _ (length xs) [] xs (omega arith) (λ b x lt r. record { name = ltb-true _ _ (both _ _ r.0.0.0.1).0; name_rises = under_all (λ w. w.name) x.name b r.0.1; operation = ltb-true _ _ (both _ _ r.0.0.1.1.0.1).0; operation_rises = under_all (λ w. w.op) x.op b r.1 })
-    (each_rising (λ w. w.op) (λ b v. (output_piece p names operations b).fits v × Under (λ w. w.name) v.name b) [] xs (over_nothing (λ (w : Outlet). w.op)) (λ b v r. (both _ _ r.0.1.1.0.1).1)
-    (each_rising (λ w. w.name) (λ b v. (output_piece p names operations b).fits v) [] xs (over_nothing (λ (w : Outlet). w.name)) (λ b v r. (both _ _ r.0.1).1) h))
+    each_more _ _ (length xs) [] xs (omega arith)
+    (λ b x lt r. record {
+      name = ltb-true _ _ (both _ _ r.0.0.0.1).0;
+      name_rises = under_all (λ w. w.name) x.name b r.0.1;
+      operation =
+          ltb-true _ _ (both _ _ r.0.0.1.1.0.1).0;
+      operation_rises = under_all (λ w. w.op) x.op b r.1;
+    })
+    (each_rising (λ w. w.op) (λ b v. (output_piece p names operations b).fits v × Under (λ w. w.name) v.name b) [] xs (over_nothing (λ (w : Outlet). w.op))
+    (λ b v r. (both _ _ r.0.1.1.0.1).1)
+    (each_rising (λ w. w.name) (λ b v. (output_piece p names operations b).fits v) [] xs (over_nothing (λ (w : Outlet). w.name))
+    (λ b v r. (both _ _ r.0.1).1) h))
 
-cells_rise : (p : Profile) (names operations : ℕ) (cs : List Cell) → Each (λ b. (cell_piece p names operations b).fits) [] cs → Each (CellFits p names operations) [] cs
+cells_rise : (p : Profile) (names operations : ℕ) (cs : List Cell) → Each (λ b. (cell_piece p names operations b).fits) [] cs
+    → Each (CellFits p names operations) [] cs
 unfolding cell_piece
 cells_rise p names operations cs h =
-    each_rising (λ c. c.store) (λ b c. (cell_piece p names operations b).fits c × Under (λ d. d.load) c.load b) [] cs (over_nothing (λ (c : Cell). c.store)) (λ b c r. (both _ _ r.0.1.1.1.1.0.1).1)
-    (each_rising (λ c. c.load) (λ b c. (cell_piece p names operations b).fits c) [] cs (over_nothing (λ (c : Cell). c.load)) (λ b c r. (both _ _ r.1.1.1.0.1).1) h)
+    each_rising (λ c. c.store) (λ b c. (cell_piece p names operations b).fits c × Under (λ d. d.load) c.load b) [] cs (over_nothing (λ (c : Cell). c.store))
+    (λ b c r. (both _ _ r.0.1.1.1.1.0.1).1)
+    (each_rising (λ c. c.load) (λ b c. (cell_piece p names operations b).fits c) [] cs (over_nothing (λ (c : Cell). c.load))
+    (λ b c r. (both _ _ r.1.1.1.0.1).1) h)
 
-pub loads_keep : (p : Profile) (names operations : ℕ) (cs : List Cell) → Each (λ b. (cell_piece p names operations b).fits) [] cs → Each (LoadFits names operations) [] (map load_of cs)
+pub loads_keep : (p : Profile) (names operations : ℕ) (cs : List Cell) → Each (λ b. (cell_piece p names operations b).fits) [] cs
+    → Each (LoadFits names operations) [] (map load_of cs)
 loads_keep p names operations cs h = loads_fit p names operations [] cs (cells_rise p names operations cs h)
 
-pub stores_keep : (p : Profile) (names operations : ℕ) (cs : List Cell) → Each (λ b. (cell_piece p names operations b).fits) [] cs → Each (StoreFits (map load_of cs) operations) [] (map store_of cs)
+pub stores_keep : (p : Profile) (names operations : ℕ) (cs : List Cell) → Each (λ b. (cell_piece p names operations b).fits) [] cs
+    → Each (StoreFits (map load_of cs) operations) [] (map store_of cs)
 stores_keep p names operations cs h = stores_fit p names operations (map load_of cs) [] cs refl (cells_rise p names operations cs h)
 
-types_keep : (p : Profile) (names operations : ℕ) (cs : List Cell) → Each (λ b. (cell_piece p names operations b).fits) [] cs → All (λ l. admits p l.ty ≡ true) (map load_of cs)
+types_keep : (p : Profile) (names operations : ℕ) (cs : List Cell) → Each (λ b. (cell_piece p names operations b).fits) [] cs
+    → All (λ l. admits p l.ty ≡ true) (map load_of cs)
 unfolding cell_piece
 types_keep p names operations cs h = all_map (λ l. admits p l.ty ≡ true) load_of cs (each_all _ (λ (c : Cell). admits p c.ty ≡ true) [] cs (λ b c r. r.1.0.0) h)
 
@@ -198,7 +238,19 @@ values_keep names xs h = each_all _ _ [] xs (λ b x r. r.1.1.0.0) h
 
 operations_keep : (s : Said) (xs : List Op) → Each (λ b. (op_piece s b).fits) [] xs → Each (Operates s.scope s.turn_nodes) [] xs
 unfolding op_by
-operations_keep s xs h = each_more _ _ (length xs) [] xs (omega arith) (λ b x lt r. record { kind = r.0.1; from = r.1.0.1; ty = r.1.1.0.1; a = r.1.1.1.0.1; b = r.1.1.1.1.0.1; c = r.1.1.1.1.1.0.1; imm = r.1.1.1.1.1.1.0.1; turn = r.1.1.1.1.1.1.1.1.1.0.1 }) h
+operations_keep s xs h =
+    each_more _ _ (length xs) [] xs (omega arith)
+    (λ b x lt r. record {
+      kind = r.0.1;
+      from = r.1.0.1;
+      ty = r.1.1.0.1;
+      a = r.1.1.1.0.1;
+      b = r.1.1.1.1.0.1;
+      c = r.1.1.1.1.1.0.1;
+      imm = r.1.1.1.1.1.1.0.1;
+      turn =
+          r.1.1.1.1.1.1.1.1.1.0.1;
+    }) h
 
 places_keep : (s : Said) (xs : List Op) → Each (λ b. (op_piece s b).fits) [] xs → All (λ op. PlaceFits op.spot) xs
 unfolding op_by
@@ -255,4 +307,16 @@ loads_joined [] = refl
 loads_joined (c ∷ cs) = ap (λ r. c ∷ r) (loads_joined cs)
 
 pub parts_back : (p : Parts) → parts_of (lists_of p) p.seed p.step ≡ p
-parts_back p = ap (λ cs. record { profile = p.profile; step = p.step; seed = p.seed; names = p.names; inputs = p.inputs; outputs = p.outputs; cells = cs; turn_nodes = p.turn_nodes; operations = p.operations }) (loads_joined p.cells)
+parts_back p =
+    ap (λ cs. record {
+      profile = p.profile;
+      step = p.step;
+      seed = p.seed;
+      names = p.names;
+      inputs = p.inputs;
+      outputs = p.outputs;
+      cells = cs;
+      turn_nodes =
+          p.turn_nodes;
+      operations = p.operations;
+    }) (loads_joined p.cells)

@@ -1,5 +1,6 @@
 -- Sections: the laws of each piece of the image, a line for each field.
-use Rattle.std.proofs.Common.{◌≡◌, ℕ, zero, suc, ◌+◌, ◌*◌, ◌^◌, ◌<◌, ◌==◌, ◌&&◌, nat_lt, nat_le, ℤ, Bool, true, cond, List, length, map, Some, None, refl, sym, ap, subst, ◌∙◌, arith}
+use Rattle.std.proofs.Common.{◌≡◌, ℕ, zero, suc, ◌+◌, ◌*◌, ◌^◌, ◌<◌, ◌==◌, ◌&&◌, nat_lt, nat_le, ℤ, Bool, true, cond, List, length, map, Some, None, refl, sym}
+use Rattle.std.proofs.Common.{ap, subst, ◌∙◌, arith}
 use Rattle.std.specs.Int.{byte_len, w16, w32, w64, cast_signed, cast_unsigned}
 use mir.Val.{SFits}
 use Rattle.std.proofs.lemmas.Bool.{eqb-true}
@@ -26,8 +27,10 @@ use Rattle.image_fields.specs.declared.fault.Fault.TheVariants.{Version, Field, 
 use Rattle.image_fields.specs.Codes.{version_code, version_of, correction_width, type_of, kind_of}
 use Rattle.image_fields.specs.Fields.{Anything, Is16, Is32, number16, number32, number, signed, type_field, kind_field, operand, residue, version_field}
 use Rattle.image_fields.specs.Entries.{rises, name_fits, name_by, lower, name_piece, input_piece, output_piece, cell_piece, turn_piece}
-use Rattle.image_file.specs.Image.{Head, counts_piece, head_piece, Said, op_of, correction_of, corrected, op_by, op_piece, said, head_with, head_of, parts_with, image_piece}
-use Rattle.image_file.proofs.PieceLaws.{Lawful, before_law, whole_law, fixed_law, byte_law, field_law, text_law, listed_law, Codes, IsWide, wide16, wide32, wide64}
+use Rattle.image_file.specs.Image.{Head, counts_piece, head_piece, Said, op_of, correction_of, corrected, op_by, op_piece, said, head_with, head_of, parts_with}
+use Rattle.image_file.specs.Image.{image_piece}
+use Rattle.image_file.proofs.PieceLaws.{Lawful, before_law, whole_law, fixed_law, byte_law, field_law, text_law, listed_law, Codes, IsWide, wide16, wide32}
+use Rattle.image_file.proofs.PieceLaws.{wide64}
 
 kind_stands : (n : ℕ) (a : Kind) → kind_of n ≡ Some a → kind_code a ≡ n
 kind_stands zero a e = let same : kind.Input ≡ a = cc in ap kind_code (sym same)
@@ -44,11 +47,16 @@ kind_stands (suc (suc (suc (suc (suc (suc (suc (suc (suc (suc zero)))))))))) a e
 kind_stands (suc (suc (suc (suc (suc (suc (suc (suc (suc (suc (suc zero))))))))))) a e = let same : kind.Div ≡ a = cc in ap kind_code (sym same)
 kind_stands (suc (suc (suc (suc (suc (suc (suc (suc (suc (suc (suc (suc zero)))))))))))) a e = let same : kind.Mod ≡ a = cc in ap kind_code (sym same)
 kind_stands (suc (suc (suc (suc (suc (suc (suc (suc (suc (suc (suc (suc (suc zero))))))))))))) a e = let same : kind.Eq ≡ a = cc in ap kind_code (sym same)
-kind_stands (suc (suc (suc (suc (suc (suc (suc (suc (suc (suc (suc (suc (suc (suc zero)))))))))))))) a e = let same : kind.Lt ≡ a = cc in ap kind_code (sym same)
-kind_stands (suc (suc (suc (suc (suc (suc (suc (suc (suc (suc (suc (suc (suc (suc (suc zero))))))))))))))) a e = let same : kind.And ≡ a = cc in ap kind_code (sym same)
-kind_stands (suc (suc (suc (suc (suc (suc (suc (suc (suc (suc (suc (suc (suc (suc (suc (suc zero)))))))))))))))) a e = let same : kind.Or ≡ a = cc in ap kind_code (sym same)
-kind_stands (suc (suc (suc (suc (suc (suc (suc (suc (suc (suc (suc (suc (suc (suc (suc (suc (suc zero))))))))))))))))) a e = let same : kind.Xor ≡ a = cc in ap kind_code (sym same)
-kind_stands (suc (suc (suc (suc (suc (suc (suc (suc (suc (suc (suc (suc (suc (suc (suc (suc (suc (suc zero)))))))))))))))))) a e = let same : kind.Sel ≡ a = cc in ap kind_code (sym same)
+kind_stands (suc (suc (suc (suc (suc (suc (suc (suc (suc (suc (suc (suc (suc (suc zero)))))))))))))) a e = let same : kind.Lt ≡ a = cc in
+    ap kind_code (sym same)
+kind_stands (suc (suc (suc (suc (suc (suc (suc (suc (suc (suc (suc (suc (suc (suc (suc zero))))))))))))))) a e = let same : kind.And ≡ a = cc in
+    ap kind_code (sym same)
+kind_stands (suc (suc (suc (suc (suc (suc (suc (suc (suc (suc (suc (suc (suc (suc (suc (suc zero)))))))))))))))) a e = let same : kind.Or ≡ a = cc in
+    ap kind_code (sym same)
+kind_stands (suc (suc (suc (suc (suc (suc (suc (suc (suc (suc (suc (suc (suc (suc (suc (suc (suc zero))))))))))))))))) a e = let same : kind.Xor ≡ a = cc in
+    ap kind_code (sym same)
+kind_stands (suc (suc (suc (suc (suc (suc (suc (suc (suc (suc (suc (suc (suc (suc (suc (suc (suc (suc zero)))))))))))))))))) a e = let same : kind.Sel ≡ a =
+    cc in ap kind_code (sym same)
 kind_stands (suc (suc (suc (suc (suc (suc (suc (suc (suc (suc (suc (suc (suc (suc (suc (suc (suc (suc (suc n))))))))))))))))))) a e = absurd cc
 
 kind_again : (a : Kind) → kind_of (kind_code a) ≡ Some a
@@ -101,7 +109,8 @@ ty_stands p zero a e = let same : ty.Bool ≡ a = cc in subst (λ (t : Ty). (ty_
 ty_stands p (suc zero) a e = let same : ty.Int ≡ a = cc in subst (λ (t : Ty). (ty_code t ≡ 1) × (admits p t ≡ true)) same (refl, refl)
 ty_stands p (suc (suc zero)) a e = let same : ty.Dint ≡ a = cc in subst (λ (t : Ty). (ty_code t ≡ 2) × (admits p t ≡ true)) same (refl, refl)
 ty_stands profile.Narrow (suc (suc (suc zero))) a e = absurd (no_type a e)
-ty_stands profile.Wide (suc (suc (suc zero))) a e = let same : ty.Lint ≡ a = cc in subst (λ (t : Ty). (ty_code t ≡ 3) × (admits profile.Wide t ≡ true)) same (refl, refl)
+ty_stands profile.Wide (suc (suc (suc zero))) a e = let same : ty.Lint ≡ a = cc in
+    subst (λ (t : Ty). (ty_code t ≡ 3) × (admits profile.Wide t ≡ true)) same (refl, refl)
 ty_stands p (suc (suc (suc (suc n)))) a e = absurd (no_type a e)
 
 ty_again : (p : Profile) (a : Ty) → admits p a ≡ true → type_of p (ty_code a) ≡ Some a
@@ -153,7 +162,8 @@ codes32 = record { stands = λ n a lt e. let same : n ≡ a = some_is n a e in (
 
 signed_codes : Codes (λ n. Some (cast_signed w64 n)) (cast_unsigned w64) (SFits w64) (2 ^ 64)
 signed_codes = record {
-  stands = λ n a lt e. let same : cast_signed w64 n ≡ a = some_int _ _ e in (ap (cast_unsigned w64) (sym same) ∙ of_z-to_z w64 n lt, subst (SFits w64) same (sfits_to_z {w = w64} {n = n} (record { fits = lt })));
+  stands = λ n a lt e. let same : cast_signed w64 n ≡ a = some_int _ _ e in
+      (ap (cast_unsigned w64) (sym same) ∙ of_z-to_z w64 n lt, subst (SFits w64) same (sfits_to_z {w = w64} {n = n} (record { fits = lt })));
   again = λ a h. ap (λ z. Some z) (to_z-of_z w64 a h);
   below = λ a h. (Fits-of_z {w = w64} {z = a} h).fits;
 }
@@ -190,10 +200,13 @@ residue_wide profile.Narrow = wide32
 residue_wide profile.Wide = wide64
 
 residue_codes : (p : Profile) → Codes (λ n. Some n) (λ n. n) (IsResidue p) (2 ^ (8 * byte_len (correction_width p)))
-residue_codes p = record { stands = λ n a lt e. let same : n ≡ a = some_is n a e in (sym same, subst (IsResidue p) same lt); again = λ a h. refl; below = λ a h. h }
+residue_codes p =
+    record { stands = λ n a lt e. let same : n ≡ a = some_is n a e in (sym same, subst (IsResidue p) same lt); again = λ a h. refl; below = λ a h. h }
 
 residue_law : (p : Profile) (expected : ℕ) → Lawful Anything (residue p expected)
-residue_law p expected = field_law (correction_width p) (residue_wide p) (λ n. Some n) (λ n. n) (IsResidue p) (residue_codes p) (λ n. n == expected) (λ left n. Table left n expected)
+residue_law p expected =
+    field_law (correction_width p) (residue_wide p) (λ n. Some n) (λ n. n) (IsResidue p) (residue_codes p) (λ n. n == expected)
+    (λ left n. Table left n expected)
 
 kind_law : (ok : Kind → Bool) → Lawful Anything (kind_field ok)
 kind_law ok = byte_law kind_of kind_code Anything kind_codes ok (λ left. Field left)
@@ -228,8 +241,11 @@ output_law p names operations earlier =
 abbrev cell_with : ℕ → Ty → ℤ → ℕ → ℕ → Cell
 cell_with name t init load store = record { name = name; ty = t; init = init; load = load; store = store }
 
-cell_is : (name name' : ℕ) (t t' : Ty) (init init' : ℤ) (load load' : ℕ) (store store' : ℕ) → name ≡ name' → t ≡ t' → init ≡ init' → load ≡ load' → store ≡ store' → cell_with name t init load store ≡ cell_with name' t' init' load' store'
-cell_is name name' t t' init init' load load' store store' e0 e1 e2 e3 e4 = ap (λ x. cell_with x t init load store) e0 ∙ ap (λ x. cell_with name' x init load store) e1 ∙ ap (λ x. cell_with name' t' x load store) e2 ∙ ap (λ x. cell_with name' t' init' x store) e3 ∙ ap (λ x. cell_with name' t' init' load' x) e4
+cell_is : (name name' : ℕ) (t t' : Ty) (init init' : ℤ) (load load' : ℕ) (store store' : ℕ) → name ≡ name' → t ≡ t' → init ≡ init' → load ≡ load'
+    → store ≡ store' → cell_with name t init load store ≡ cell_with name' t' init' load' store'
+cell_is name name' t t' init init' load load' store store' e0 e1 e2 e3 e4 = ap (λ x. cell_with x t init load store) e0
+    ∙ ap (λ x. cell_with name' x init load store) e1 ∙ ap (λ x. cell_with name' t' x load store) e2 ∙ ap (λ x. cell_with name' t' init' x store) e3
+    ∙ ap (λ x. cell_with name' t' init' load' x) e4
 
 pub cell_law : (p : Profile) (names operations : ℕ) (earlier : List Cell) → Lawful Anything (cell_piece p names operations earlier)
 unfolding cell_piece
@@ -239,13 +255,16 @@ cell_law p names operations earlier =
     before_law _ _ _ _ (signed_law (fits t)) (λ init hinit.
     before_law _ _ _ _ (number_law (λ n. nat_lt n operations && rises (λ c. c.load) earlier n)) (λ load hload.
     before_law _ _ _ _ (number_law (λ n. nat_lt load n && nat_lt n operations && rises (λ c. c.store) earlier n)) (λ store hstore.
-    whole_law _ (cell_with name t init load store) (((((tt, refl), refl), refl), refl), refl) (λ z meant. cell_is _ _ _ _ _ _ _ _ _ _ meant.0.0.0.0.1 meant.0.0.0.1 meant.0.0.1 meant.0.1 meant.1))))))
+    whole_law _ (cell_with name t init load store) (((((tt, refl), refl), refl), refl), refl)
+    (λ z meant. cell_is _ _ _ _ _ _ _ _ _ _ meant.0.0.0.0.1 meant.0.0.0.1 meant.0.0.1 meant.0.1 meant.1))))))
 
 abbrev turn_with : ℕ → ℕ → ℤ → TurnNode
 turn_with parent name value = record { parent = parent; name = name; value = value }
 
-turn_is : (parent parent' : ℕ) (name name' : ℕ) (value value' : ℤ) → parent ≡ parent' → name ≡ name' → value ≡ value' → turn_with parent name value ≡ turn_with parent' name' value'
-turn_is parent parent' name name' value value' e0 e1 e2 = ap (λ x. turn_with x name value) e0 ∙ ap (λ x. turn_with parent' x value) e1 ∙ ap (λ x. turn_with parent' name' x) e2
+turn_is : (parent parent' : ℕ) (name name' : ℕ) (value value' : ℤ) → parent ≡ parent' → name ≡ name' → value ≡ value'
+    → turn_with parent name value ≡ turn_with parent' name' value'
+turn_is parent parent' name name' value value' e0 e1 e2 = ap (λ x. turn_with x name value) e0 ∙ ap (λ x. turn_with parent' x value) e1
+    ∙ ap (λ x. turn_with parent' name' x) e2
 
 pub turn_law : (names : ℕ) (earlier : List TurnNode) → Lawful Anything (turn_piece names earlier)
 unfolding turn_piece
@@ -265,8 +284,13 @@ name_by_law keys =
 pub name_law : (earlier : List (List ℕ)) → Lawful Anything (name_piece earlier)
 name_law earlier = name_by_law (map lower earlier)
 
-head_is : (p p' : Profile) (step step' : ℕ) (seed seed' : ℕ) (names names' : ℕ) (inputs inputs' : ℕ) (outputs outputs' : ℕ) (cells cells' : ℕ) (turn_nodes turn_nodes' : ℕ) (operations operations' : ℕ) → p ≡ p' → step ≡ step' → seed ≡ seed' → names ≡ names' → inputs ≡ inputs' → outputs ≡ outputs' → cells ≡ cells' → turn_nodes ≡ turn_nodes' → operations ≡ operations' → head_with p step seed names inputs outputs cells turn_nodes operations ≡ head_with p' step' seed' names' inputs' outputs' cells' turn_nodes' operations'
-head_is p p' step step' seed seed' names names' inputs inputs' outputs outputs' cells cells' turn_nodes turn_nodes' operations operations' e0 e1 e2 e3 e4 e5 e6 e7 e8 =
+head_is : (p p' : Profile) (step step' : ℕ) (seed seed' : ℕ) (names names' : ℕ) (inputs inputs' : ℕ) (outputs outputs' : ℕ) (cells cells' : ℕ)
+    (turn_nodes turn_nodes' : ℕ)
+    (operations operations' : ℕ) → p ≡ p' → step ≡ step' → seed ≡ seed' → names ≡ names' → inputs ≡ inputs' → outputs ≡ outputs' → cells ≡ cells' → turn_nodes
+    ≡ turn_nodes' → operations ≡ operations' → head_with p step seed names inputs outputs cells turn_nodes operations
+    ≡ head_with p' step' seed' names' inputs' outputs' cells' turn_nodes' operations'
+head_is p p' step step' seed seed' names names' inputs inputs' outputs outputs' cells cells' turn_nodes turn_nodes' operations operations' e0 e1 e2 e3 e4
+    e5 e6 e7 e8 =
     ap (λ x. head_with x step seed names inputs outputs cells turn_nodes operations) e0
     ∙ ap (λ x. head_with p' x seed names inputs outputs cells turn_nodes operations) e1
     ∙ ap (λ x. head_with p' step' x names inputs outputs cells turn_nodes operations) e2
@@ -289,17 +313,32 @@ counts_law =
     before_law _ _ _ _ (number_law (λ n. nat_le n most_cells)) (λ cells hcells.
     before_law _ _ _ _ (number_law (λ n. nat_le n most_turn_nodes)) (λ turn_nodes hturn_nodes.
     before_law _ _ _ _ (number_law (λ n. nat_le (inputs + outputs + 2 * cells) n && nat_le n most_operations)) (λ operations hoperations.
-    whole_law _ (head_with p step seed names inputs outputs cells turn_nodes operations) (((((((((tt, refl), refl), refl), refl), refl), refl), refl), refl), refl) (λ z meant. head_is _ _ _ _ _ _ _ _ _ _ _ _ _ _ _ _ _ _ meant.0.0.0.0.0.0.0.0.1 meant.0.0.0.0.0.0.0.1 meant.0.0.0.0.0.0.1 meant.0.0.0.0.0.1 meant.0.0.0.0.1 meant.0.0.0.1 meant.0.0.1 meant.0.1 meant.1))))))))))
+    whole_law _ (head_with p step seed names inputs outputs cells turn_nodes operations) (
+      (
+        (((((((tt, refl), refl), refl), refl), refl), refl), refl),
+        refl,
+      ),
+      refl,
+    ) (λ z meant. head_is _ _ _ _ _ _ _ _ _ _ _ _ _ _ _ _ _ _ meant.0.0.0.0.0.0.0.0.1 meant.0.0.0.0.0.0.0.1 meant.0.0.0.0.0.0.1
+    meant.0.0.0.0.0.1 meant.0.0.0.0.1 meant.0.0.0.1 meant.0.0.1 meant.0.1 meant.1))))))))))
 
 pub head_law : Lawful Anything head_piece
 unfolding head_piece
-head_law = fixed_law _ _ _ (fixed_law _ _ _ (fixed_law _ _ _ (fixed_law _ _ _ (fixed_law _ _ _ (fixed_law _ _ _ (fixed_law _ _ _ (fixed_law _ _ _ counts_law)))))))
+head_law = fixed_law _ _ _
+    (fixed_law _ _ _ (fixed_law _ _ _ (fixed_law _ _ _ (fixed_law _ _ _ (fixed_law _ _ _ (fixed_law _ _ _ (fixed_law _ _ _ counts_law)))))))
 
 abbrev op_with : Kind → Ty → Ty → ℕ → ℕ → ℕ → ℤ → ℕ → ℕ → ℕ → Op
 op_with k from to a b c imm line col turn = op_of k from to a b c imm line col turn
 
-op_is : (k k' : Kind) (from from' : Ty) (to to' : Ty) (a a' : ℕ) (b b' : ℕ) (c c' : ℕ) (imm imm' : ℤ) (line line' : ℕ) (col col' : ℕ) (turn turn' : ℕ) → k ≡ k' → from ≡ from' → to ≡ to' → a ≡ a' → b ≡ b' → c ≡ c' → imm ≡ imm' → line ≡ line' → col ≡ col' → turn ≡ turn' → op_with k from to a b c imm line col turn ≡ op_with k' from' to' a' b' c' imm' line' col' turn'
-op_is k k' from from' to to' a a' b b' c c' imm imm' line line' col col' turn turn' e0 e1 e2 e3 e4 e5 e6 e7 e8 e9 = ap (λ x. op_with x from to a b c imm line col turn) e0 ∙ ap (λ x. op_with k' x to a b c imm line col turn) e1 ∙ ap (λ x. op_with k' from' x a b c imm line col turn) e2 ∙ ap (λ x. op_with k' from' to' x b c imm line col turn) e3 ∙ ap (λ x. op_with k' from' to' a' x c imm line col turn) e4 ∙ ap (λ x. op_with k' from' to' a' b' x imm line col turn) e5 ∙ ap (λ x. op_with k' from' to' a' b' c' x line col turn) e6 ∙ ap (λ x. op_with k' from' to' a' b' c' imm' x col turn) e7 ∙ ap (λ x. op_with k' from' to' a' b' c' imm' line' x turn) e8 ∙ ap (λ x. op_with k' from' to' a' b' c' imm' line' col' x) e9
+op_is : (k k' : Kind) (from from' : Ty) (to to' : Ty) (a a' : ℕ) (b b' : ℕ) (c c' : ℕ) (imm imm' : ℤ) (line line' : ℕ) (col col' : ℕ) (turn turn' : ℕ) → k ≡ k'
+    → from ≡ from' → to ≡ to' → a ≡ a' → b ≡ b' → c ≡ c' → imm ≡ imm' → line ≡ line' → col ≡ col' → turn ≡ turn'
+    → op_with k from to a b c imm line col turn ≡ op_with k' from' to' a' b' c' imm' line' col' turn'
+op_is k k' from from' to to' a a' b b' c c' imm imm' line line' col col' turn turn' e0 e1 e2 e3 e4 e5 e6 e7 e8 e9 =
+    ap (λ x. op_with x from to a b c imm line col turn) e0 ∙ ap (λ x. op_with k' x to a b c imm line col turn) e1
+    ∙ ap (λ x. op_with k' from' x a b c imm line col turn) e2 ∙ ap (λ x. op_with k' from' to' x b c imm line col turn) e3
+    ∙ ap (λ x. op_with k' from' to' a' x c imm line col turn) e4 ∙ ap (λ x. op_with k' from' to' a' b' x imm line col turn) e5
+    ∙ ap (λ x. op_with k' from' to' a' b' c' x line col turn) e6 ∙ ap (λ x. op_with k' from' to' a' b' c' imm' x col turn) e7
+    ∙ ap (λ x. op_with k' from' to' a' b' c' imm' line' x turn) e8 ∙ ap (λ x. op_with k' from' to' a' b' c' imm' line' col' x) e9
 
 op_by_law : (p : Place) (s : Said) (earlier : List Op) → Lawful Anything (op_by p s earlier)
 unfolding op_by corrected
@@ -315,13 +354,23 @@ op_by_law p s earlier =
     before_law _ _ _ _ (number_law (λ n. true)) (λ col hcol.
     before_law _ _ _ _ (number_law (turn_fits (entry_of p k) s.turn_nodes)) (λ turn hturn.
     before_law _ _ (λ o. correction_of s earlier o) _ (residue_law s.profile (correction_of s earlier (op_of k from to a b c imm line col turn))) (λ n hn.
-    whole_law _ (op_with k from to a b c imm line col turn) (((((((((((tt, refl), refl), refl), refl), refl), refl), refl), refl), refl), refl), sym (eqb-true n _ hn.1)) (λ z meant. op_is _ _ _ _ _ _ _ _ _ _ _ _ _ _ _ _ _ _ _ _ meant.0.0.0.0.0.0.0.0.0.0.1 meant.0.0.0.0.0.0.0.0.0.1 meant.0.0.0.0.0.0.0.0.1 meant.0.0.0.0.0.0.0.1 meant.0.0.0.0.0.0.1 meant.0.0.0.0.0.1 meant.0.0.0.0.1 meant.0.0.0.1 meant.0.0.1 meant.0.1))))))))))))
+    whole_law _ (op_with k from to a b c imm line col turn) (
+      ((((((((((tt, refl), refl), refl), refl), refl), refl), refl), refl), refl), refl),
+      sym
+          (eqb-true n _ hn.1),
+    ) (λ z meant. op_is _ _ _ _ _ _ _ _ _ _ _ _ _ _ _ _ _ _ _ _ meant.0.0.0.0.0.0.0.0.0.0.1 meant.0.0.0.0.0.0.0.0.0.1
+    meant.0.0.0.0.0.0.0.0.1 meant.0.0.0.0.0.0.0.1 meant.0.0.0.0.0.0.1 meant.0.0.0.0.0.1 meant.0.0.0.0.1 meant.0.0.0.1 meant.0.0.1 meant.0.1))))))))))))
 
 pub op_law : (s : Said) (earlier : List Op) → Lawful Anything (op_piece s earlier)
 op_law s earlier = op_by_law (place_of s.scope (length earlier)) s earlier
 
-parts_is : (p p' : Profile) (step step' : ℕ) (seed seed' : ℕ) (names names' : List (List ℕ)) (inputs inputs' : List Var) (outputs outputs' : List Outlet) (cs cs' : List Cell) (turn_nodes turn_nodes' : List TurnNode) (operations operations' : List Op) → p ≡ p' → step ≡ step' → seed ≡ seed' → names ≡ names' → inputs ≡ inputs' → outputs ≡ outputs' → cs ≡ cs' → turn_nodes ≡ turn_nodes' → operations ≡ operations' → parts_with p step seed names inputs outputs cs turn_nodes operations ≡ parts_with p' step' seed' names' inputs' outputs' cs' turn_nodes' operations'
-parts_is p p' step step' seed seed' names names' inputs inputs' outputs outputs' cs cs' turn_nodes turn_nodes' operations operations' e0 e1 e2 e3 e4 e5 e6 e7 e8 =
+parts_is : (p p' : Profile) (step step' : ℕ) (seed seed' : ℕ) (names names' : List (List ℕ)) (inputs inputs' : List Var) (outputs outputs' : List Outlet)
+    (cs cs' : List Cell) (turn_nodes turn_nodes' : List TurnNode)
+    (operations operations' : List Op) → p ≡ p' → step ≡ step' → seed ≡ seed' → names ≡ names' → inputs ≡ inputs' → outputs ≡ outputs' → cs ≡ cs' → turn_nodes
+    ≡ turn_nodes' → operations ≡ operations' → parts_with p step seed names inputs outputs cs turn_nodes operations
+    ≡ parts_with p' step' seed' names' inputs' outputs' cs' turn_nodes' operations'
+parts_is p p' step step' seed seed' names names' inputs inputs' outputs outputs' cs cs' turn_nodes turn_nodes' operations operations' e0 e1 e2 e3 e4 e5 e6
+    e7 e8 =
     ap (λ x. parts_with x step seed names inputs outputs cs turn_nodes operations) e0
     ∙ ap (λ x. parts_with p' x seed names inputs outputs cs turn_nodes operations) e1
     ∙ ap (λ x. parts_with p' step' x names inputs outputs cs turn_nodes operations) e2
@@ -341,6 +390,10 @@ image_law =
     before_law _ _ _ _ (listed_law h.outputs (output_piece h.profile h.names h.operations) (output_law h.profile h.names h.operations)) (λ os hos.
     before_law _ _ _ _ (listed_law h.cells (cell_piece h.profile h.names h.operations) (cell_law h.profile h.names h.operations)) (λ cs hcs.
     before_law _ _ _ _ (listed_law h.turn_nodes (turn_piece h.names) (turn_law h.names)) (λ ts hts.
-    before_law _ _ _ _ (listed_law h.operations (op_piece (said h.profile h.seed h.step is os cs h.turn_nodes)) (op_law (said h.profile h.seed h.step is os cs h.turn_nodes))) (λ ks hks.
-    whole_law _ (parts_with h.profile h.step h.seed ns is os cs ts ks) (((((((tt, head_is _ _ _ _ _ _ _ _ _ _ _ _ _ _ _ _ _ _ refl refl refl hns.0 his.0 hos.0 hcs.0 hts.0 hks.0), refl), refl), refl), refl), refl), refl)
-    (λ z meant. parts_is _ _ _ _ _ _ _ _ _ _ _ _ _ _ _ _ _ _ (ap (λ (x : Head). x.profile) meant.0.0.0.0.0.0.1) (ap (λ (x : Head). x.step) meant.0.0.0.0.0.0.1) (ap (λ (x : Head). x.seed) meant.0.0.0.0.0.0.1) meant.0.0.0.0.0.1 meant.0.0.0.0.1 meant.0.0.0.1 meant.0.0.1 meant.0.1 meant.1))))))))
+    before_law _ _ _ _
+    (listed_law h.operations (op_piece (said h.profile h.seed h.step is os cs h.turn_nodes)) (op_law (said h.profile h.seed h.step is os cs h.turn_nodes)))
+    (λ ks hks.
+    whole_law _ (parts_with h.profile h.step h.seed ns is os cs ts ks)
+    (((((((tt, head_is _ _ _ _ _ _ _ _ _ _ _ _ _ _ _ _ _ _ refl refl refl hns.0 his.0 hos.0 hcs.0 hts.0 hks.0), refl), refl), refl), refl), refl), refl)
+    (λ z meant. parts_is _ _ _ _ _ _ _ _ _ _ _ _ _ _ _ _ _ _ (ap (λ (x : Head). x.profile) meant.0.0.0.0.0.0.1) (ap (λ (x : Head). x.step) meant.0.0.0.0.0.0.1)
+    (ap (λ (x : Head). x.seed) meant.0.0.0.0.0.0.1) meant.0.0.0.0.0.1 meant.0.0.0.0.1 meant.0.0.0.1 meant.0.0.1 meant.0.1 meant.1))))))))

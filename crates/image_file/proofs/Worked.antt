@@ -26,7 +26,8 @@ plus_one = record {
   loads = [];
   stores = [];
   turn_nodes = [];
-  operations = op_of kind.Input ty.Dint ty.Dint 0 0 0 (pos 0) 2 11 0 ∷ op_of kind.Const ty.Dint ty.Dint 0 0 0 (pos 1) 4 10 0 ∷ op_of kind.Add ty.Dint ty.Dint 0 1 0 (pos 0) 4 8 0 ∷ op_of kind.Out ty.Dint ty.Dint 2 0 0 (pos 0) 3 12 0 ∷ [];
+  operations = op_of kind.Input ty.Dint ty.Dint 0 0 0 (pos 0) 2 11 0 ∷ op_of kind.Const ty.Dint ty.Dint 0 0 0
+      (pos 1) 4 10 0 ∷ op_of kind.Add ty.Dint ty.Dint 0 1 0 (pos 0) 4 8 0 ∷ op_of kind.Out ty.Dint ty.Dint 2 0 0 (pos 0) 3 12 0 ∷ [];
 }
 
 image_bytes : List ℕ
@@ -102,4 +103,9 @@ its_fault = (left.Table 43 214748366 214748365, all_fails image_piece image_law 
 
 too_short : FaultAt (86 ∷ 67 ∷ 80 ∷ 65 ∷ 78 ∷ 66 ∷ 68 ∷ 10 ∷ 0 ∷ []) (at.Short 9)
 unfolding image_piece head_piece counts_piece
-too_short = (left.Short, all_fails image_piece image_law (86 ∷ 67 ∷ 80 ∷ 65 ∷ 78 ∷ 66 ∷ 68 ∷ 10 ∷ 0 ∷ []) left.Short (small (86 ∷ 67 ∷ 80 ∷ 65 ∷ 78 ∷ 66 ∷ 68 ∷ 10 ∷ 0 ∷ []) refl) refl, refl)
+too_short = (
+  left.Short,
+  all_fails image_piece image_law (86 ∷ 67 ∷ 80 ∷ 65 ∷ 78 ∷ 66 ∷ 68 ∷ 10 ∷ 0 ∷ []) left.Short
+      (small (86 ∷ 67 ∷ 80 ∷ 65 ∷ 78 ∷ 66 ∷ 68 ∷ 10 ∷ 0 ∷ []) refl) refl,
+  refl,
+)

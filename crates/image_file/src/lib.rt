@@ -16,6 +16,3 @@ pub use fault::ImageFault;
 pub use image::read_image;
 pub use laws::images_are_told_apart;
 pub use writing::write_image;
-
-#[cfg(test)]
-mod tests;

@@ -3,12 +3,13 @@
 ghost use Rattle.std.specs.Prelude.{◌≡◌, ◌<◌, ◌==◌, pos};
 ghost use Rattle.std.specs.Ordering.{int_eq};
 ghost use Rattle.std.specs.Option.{is_some};
-ghost use Rattle.op_graph.specs.Rules.{entry_of, agree as agree_of, kind_fits as kind_fits_of, same_type as same_type_of, is_number as is_number_of, converts as converts_of, takes_type as takes_type_of, from_fits as from_fits_of, ty_fits as ty_fits_of, reads_as as reads_as_of, operand_fits as operand_fits_of, imm_fits as imm_fits_of, turn_fits as turn_fits_of};
-ghost use Rattle.vcp_base.specs.Kinds.{operand_type as operand_type_of};
+ghost use Rattle.op_graph.specs.Rules.{entry_of, agree as agree_of, kind_fits as kind_fits_of, same_type as same_type_of, is_number as is_number_of};
+ghost use Rattle.op_graph.specs.Rules.{converts as converts_of, takes_type as takes_type_of, from_fits as from_fits_of, ty_fits as ty_fits_of};
+ghost use Rattle.op_graph.specs.Rules.{reads_as as reads_as_of, operand_fits as operand_fits_of, imm_fits as imm_fits_of, turn_fits as turn_fits_of};
 ghost use Rattle.image_file.specs.Views.{place, entry, option_entry};
 
 use op_graph::{Cell, Loaded, Op, Outlet, Var};
-use vcp_base::{Kind, Profile, Ty, fits, operands, within};
+use vcp_base::{Kind, Profile, Ty, fits, operand_type, operands, within};
 
 /// What the fields before the operations say.
 #[derive(Clone, Copy)]
@@ -148,17 +149,6 @@ pub(crate) fn ty_fits(kind: Kind, from: Ty, to: Ty) -> bool
         Kind::Conv => converts(from, to),
         Kind::Eq | Kind::Lt => same_type(to, Ty::Bool),
         _ => same_type(from, to),
-    }
-}
-
-/// The type of operand `j`, counted from 0, of an operation on values of type `from`.
-fn operand_type(kind: Kind, j: u32, from: Ty) -> Ty
-    ensures { result ≡ operand_type_of kind j from }
-{
-    match kind {
-        Kind::Not | Kind::And | Kind::Or | Kind::Xor => Ty::Bool,
-        Kind::Sel => { if j == 0 { Ty::Bool } else { from } }
-        _ => from,
     }
 }
 

@@ -7,8 +7,10 @@ use Rattle.image_file.proofs.image.graph_of.Goals as goal
 
 pub from_lists-graph-requires : goal.from_lists-graph-requires
 from_lists-graph-requires c =
-    let loads : c.in_ok-loads.loads.items ≡ map load_of c.args.whole.cells.items = sym (ok_is _ _ c.in_ok-loads.ensures) ∙ ap (map load_of) c.deref.ensures.value in
-    let stores : c.in_ok-stores.stores.items ≡ map store_of c.args.whole.cells.items = sym (ok_is _ _ c.in_ok-stores.ensures) ∙ ap (map store_of) c.deref-2.ensures.value in
+    let loads : c.in_ok-loads.loads.items ≡ map load_of c.args.whole.cells.items = sym (ok_is _ _ c.in_ok-loads.ensures)
+    ∙ ap (map load_of) c.deref.ensures.value in
+    let stores : c.in_ok-stores.stores.items ≡ map store_of c.args.whole.cells.items = sym (ok_is _ _ c.in_ok-stores.ensures)
+    ∙ ap (map store_of) c.deref-2.ensures.value in
     rw (loads, stores) (fits_graph (parts c.args.whole) c.requires).graph
 
 pub new-requires-clause-seed : goal.new-requires-clause-seed

@@ -1,10 +1,8 @@
-use Rattle.std.proofs.Common.{Ok, ◌≡◌, [], subst, arith, List}
+use Rattle.std.proofs.Common.{[], arith}
 use Rattle.std.proofs.lemmas.Result.{err_from_is_err_and}
-use Rattle.std.proofs.lemmas.List.{length_push}
-use Rattle.op_graph.specs.declared.op.Outlet.{Outlet}
-use Rattle.image_fields.specs.Pieces.{many, Fails}
+use Rattle.image_fields.specs.Pieces.{many}
 use Rattle.image_fields.specs.Entries.{output_piece}
-use Rattle.image_file.proofs.Loop.{goes_on, ends, is_done}
+use Rattle.image_file.proofs.Loop.{goes_on, ends_with, is_done}
 use Rattle.image_file.proofs.PieceLaws.{listed_law}
 use Rattle.image_file.proofs.Sections.{output_law}
 use Rattle.image_file.proofs.Kept.{outputs_keep}
@@ -13,14 +11,24 @@ use Rattle.image_file.proofs.lists.outputs_of.Goals as goal
 pub returns-in_err-entry-clause-is : goal.returns-in_err-entry-clause-is
 returns-in_err-entry-clause-is c =
     let p = err_from_is_err_and c.from_residual.result c.from_residual.ensures.1 in
-    let fails : Fails c.in_err-entry.field-0.0 (((output_piece c.args.profile c.args.names c.args.operations) c.entries.found.items).read c.entries.rest.now) = subst (λ (b : List (Outlet)). Fails c.in_err-entry.field-0.0 (((output_piece c.args.profile c.args.names c.args.operations) b).read c.entries.rest.now)) c.deref.ensures.value c.in_err-entry.ensures in
-    rw (p.1, p.2) (ends (λ b. ((output_piece c.args.profile c.args.names c.args.operations) b).read) c.in_err-entry.field-0.0 c.entries.found.items c.args.count c.entries.counter c.entries.rest.now (many c.args.count (λ b. ((output_piece c.args.profile c.args.names c.args.operations) b).read) [] c.args.bytes.now) c.entries-test.true fails c.entries.invariant)
+    rw (p.1, p.2)
+    (ends_with (λ b. (output_piece c.args.profile c.args.names c.args.operations b).read) c.in_err-entry.field-0.0 _ c.entries.found.items c.args.count
+    c.entries.counter c.entries.rest.now _
+    c.deref.ensures.value c.entries-test.true c.in_err-entry.ensures c.entries.invariant)
 
 pub entries-preserved : goal.entries-preserved
 entries-preserved c =
-    let reads : ((output_piece c.args.profile c.args.names c.args.operations) c.entries.found.items).read c.entries.rest.now ≡ Ok (c.in_ok-entry.entry, c.in_ok-entry.after.now) = subst (λ (b : List (Outlet)). ((output_piece c.args.profile c.args.names c.args.operations) b).read c.entries.rest.now ≡ Ok (c.in_ok-entry.entry, c.in_ok-entry.after.now)) c.deref.ensures.value c.in_ok-entry.ensures in
-    let len = length_push c.entries.found.items c.in_ok-entry.entry in
-    rw c.in_ok-push.ensures.items (goes_on (λ b. ((output_piece c.args.profile c.args.names c.args.operations) b).read) c.entries.found.items c.args.count c.entries.counter c.entries.rest.now c.in_ok-entry.entry c.in_ok-entry.after.now (many c.args.count (λ b. ((output_piece c.args.profile c.args.names c.args.operations) b).read) [] c.args.bytes.now) c.entries-test.true reads c.entries.invariant)
+    rw c.in_ok-push.ensures.items
+    (goes_on (λ b. (output_piece c.args.profile c.args.names c.args.operations b).read) _ c.entries.found.items c.args.count c.entries.counter
+    c.entries.rest.now
+    c.in_ok-entry.entry c.in_ok-entry.after.now _ c.deref.ensures.value c.entries-test.true c.in_ok-entry.ensures c.entries.invariant)
 
 pub returns-clause-rising : goal.returns-clause-rising
-returns-clause-rising c = outputs_keep c.args.profile c.args.names c.args.operations c.entries.found.items (((listed_law c.args.count (output_piece c.args.profile c.args.names c.args.operations) (output_law c.args.profile c.args.names c.args.operations)).takes c.args.bytes.now c.entries.found.items c.entries.rest.now (λ i. omega (arith, c.type_inv.bytes i)) (is_done (λ b. (output_piece c.args.profile c.args.names c.args.operations b).read) c.entries.found.items c.args.count c.entries.counter c.entries.rest.now (many c.args.count (λ b. (output_piece c.args.profile c.args.names c.args.operations b).read) [] c.args.bytes.now) (omega (arith, c.entries-test)) c.entries.invariant)).1.1)
+returns-clause-rising c =
+    outputs_keep c.args.profile c.args.names c.args.operations c.entries.found.items
+    (((listed_law c.args.count (output_piece c.args.profile c.args.names c.args.operations)
+    (output_law c.args.profile c.args.names c.args.operations)).takes c.args.bytes.now c.entries.found.items c.entries.rest.now
+    (λ i. omega (arith, c.type_inv.bytes i))
+    (is_done (λ b. (output_piece c.args.profile c.args.names c.args.operations b).read) c.entries.found.items c.args.count c.entries.counter c.entries.rest.now
+    (many c.args.count (λ b. (output_piece c.args.profile c.args.names c.args.operations b).read) [] c.args.bytes.now)
+    (omega (arith, c.entries-test)) c.entries.invariant)).1.1)

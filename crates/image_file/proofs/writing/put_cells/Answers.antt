@@ -6,4 +6,6 @@ use Rattle.image_file.proofs.writing.put_cells.Goals as goal
 
 pub entries-preserved : goal.entries-preserved
 entries-preserved c = λ p names operations.
-    next_entry (λ b. (cell_piece p names operations b).spell) c.args.out.now.items c.entries.out.items c.put_cell.new.out.items (cells c.args.graph.now) c.entries.i c.cell.result c.cell.ensures (c.entries.invariant p names operations) (c.in_ok-put_cell.ensures p names operations (take c.entries.i (cells c.args.graph.now)))
+    next_entry (λ b. (cell_piece p names operations b).spell) c.args.out.now.items c.entries.out.items c.put_cell.new.out.items
+    (cells c.args.graph.now) c.entries.i c.cell.result c.cell.ensures (c.entries.invariant p names operations)
+    (c.in_ok-put_cell.ensures p names operations (take c.entries.i (cells c.args.graph.now)))

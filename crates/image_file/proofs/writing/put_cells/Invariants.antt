@@ -6,4 +6,6 @@ use Rattle.image_fields.specs.Entries.{cell_piece}
 use Rattle.image_file.proofs.writing.put_cells.Given as goal
 
 abbrev pub invariant-entries : goal.invariant-entries
-invariant-entries l = (p : Profile) (names operations : ℕ) → l.out.items ≡ l.initial.out.items ++ entries (λ b. (cell_piece p names operations b).spell) [] (take l.i (cells l.graph))
+invariant-entries l =
+    (p : Profile) (names operations : ℕ) → l.out.items ≡ l.initial.out.items ++ entries (λ b. (cell_piece p names operations b).spell) []
+    (take l.i (cells l.graph))

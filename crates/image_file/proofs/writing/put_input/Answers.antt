@@ -8,5 +8,6 @@ use Rattle.image_file.proofs.writing.put_input.Goals as goal
 pub returns : goal.returns
 unfolding input_piece
 returns c = λ p names earlier.
-    joined c.args.out.now.items c.put_u32.new.out.items c.put_ty.new.out.items (to_be_bytes w32 c.args.v.name) ((ty_code c.args.v.ty ∷ []) ++ ([])) c.in_ok-put_u32.ensures (
+    joined c.args.out.now.items c.put_u32.new.out.items c.put_ty.new.out.items (to_be_bytes w32 c.args.v.name)
+    ((ty_code c.args.v.ty ∷ []) ++ ([])) c.in_ok-put_u32.ensures (
     ended c.put_u32.new.out.items c.put_ty.new.out.items (ty_code c.args.v.ty ∷ []) c.in_ok-put_ty.ensures)

@@ -5,4 +5,5 @@ use Rattle.image_file.proofs.writing.put_inputs.Goals as goal
 
 pub entries-preserved : goal.entries-preserved
 entries-preserved c = λ p names.
-    next_entry (λ b. (input_piece p names b).spell) c.args.out.now.items c.entries.out.items c.put_input.new.out.items c.args.graph.now.inputs c.entries.i c.input.result c.input.ensures (c.entries.invariant p names) (c.in_ok-put_input.ensures p names (take c.entries.i c.args.graph.now.inputs))
+    next_entry (λ b. (input_piece p names b).spell) c.args.out.now.items c.entries.out.items c.put_input.new.out.items c.args.graph.now.inputs c.entries.i
+    c.input.result c.input.ensures (c.entries.invariant p names) (c.in_ok-put_input.ensures p names (take c.entries.i c.args.graph.now.inputs))

@@ -11,7 +11,8 @@ use Rattle.image_file.proofs.writing.put_operations.Goals as goal
 
 pub correction-requires : goal.correction-requires
 correction-requires c =
-    let len : length c.args.table.now.corrections ≡ length c.args.graph.now.operations = ap length c.requires.1 ∙ length-corrections c.args.graph.now.profile c.args.table.now.seed c.args.table.now.step (cells c.args.graph.now) 0 c.args.graph.now.operations in
+    let len : length c.args.table.now.corrections ≡ length c.args.graph.now.operations = ap length c.requires.1
+    ∙ length-corrections c.args.graph.now.profile c.args.table.now.seed c.args.table.now.step (cells c.args.graph.now) 0 c.args.graph.now.operations in
     omega (arith, c.entries-test.true)
 
 pub entries-preserved : goal.entries-preserved
@@ -19,12 +20,21 @@ entries-preserved c = λ ins outs n.
     let s : Said = said c.args.graph.now.profile c.args.table.now.seed c.args.table.now.step ins outs (cells c.args.graph.now) n in
     let ops : List Op = c.args.graph.now.operations in
     let len : length (take c.entries.i ops) ≡ 0 + c.entries.i = omega (arith, length-take c.entries.i ops, c.entries-test.true) in
-    let there = correction_at c.args.graph.now.profile c.args.table.now.seed c.args.table.now.step (cells c.args.graph.now) 0 ops c.entries.i c.operation.result c.operation.ensures in
-    let told : c.correction.result ≡ correction c.args.graph.now.profile c.args.table.now.seed c.args.table.now.step (0 + c.entries.i) c.operation.result (store_of (cells c.args.graph.now) (unsigned_abs c.operation.result.imm)) = some_nat _ _ (sym c.correction.ensures.value ∙ ap (λ l. slice_get l c.entries.i) c.requires.1 ∙ there) in
-    next_entry (λ b. (op_piece s b).spell) c.args.out.now.items c.entries.out.items c.put_op.new.out.items ops c.entries.i c.operation.result c.operation.ensures (c.entries.invariant ins outs n) (c.in_ok-put_op.ensures s (take c.entries.i ops) (c.profile.ensures ∙ c.requires.0) (told ∙ ap (λ k. correction c.args.graph.now.profile c.args.table.now.seed c.args.table.now.step k c.operation.result (store_of (cells c.args.graph.now) (unsigned_abs c.operation.result.imm))) (sym len)))
+    let there = correction_at c.args.graph.now.profile c.args.table.now.seed c.args.table.now.step
+    (cells c.args.graph.now) 0 ops c.entries.i c.operation.result c.operation.ensures in
+    let told : c.correction.result ≡ correction c.args.graph.now.profile c.args.table.now.seed c.args.table.now.step (0 + c.entries.i) c.operation.result
+    (store_of (cells c.args.graph.now) (unsigned_abs c.operation.result.imm)) =
+    some_nat _ _ (sym c.correction.ensures.value ∙ ap (λ l. slice_get l c.entries.i) c.requires.1 ∙ there) in
+    next_entry (λ b.
+    (op_piece s b).spell) c.args.out.now.items c.entries.out.items c.put_op.new.out.items ops c.entries.i c.operation.result c.operation.ensures
+    (c.entries.invariant ins outs n)
+    (c.in_ok-put_op.ensures s (take c.entries.i ops) (c.profile.ensures ∙ c.requires.0)
+    (told ∙ ap (λ k. correction c.args.graph.now.profile c.args.table.now.seed c.args.table.now.step k c.operation.result
+    (store_of (cells c.args.graph.now) (unsigned_abs c.operation.result.imm))) (sym len)))
 
 pub returns : goal.returns
 returns c = λ ins outs n.
     let s : Said = said c.args.graph.now.profile c.args.table.now.seed c.args.table.now.step ins outs (cells c.args.graph.now) n in
     let ops : List Op = c.args.graph.now.operations in
-    c.entries.invariant ins outs n ∙ ap (λ l. c.args.out.now.items ++ entries (λ b. (op_piece s b).spell) [] l) (take_all c.entries.i ops (omega (arith, c.len-i-end.ensures.count)))
+    c.entries.invariant ins outs n
+    ∙ ap (λ l. c.args.out.now.items ++ entries (λ b. (op_piece s b).spell) [] l) (take_all c.entries.i ops (omega (arith, c.len-i-end.ensures.count)))

@@ -7,4 +7,6 @@ use Rattle.image_file.specs.Image.{op_piece, said}
 use Rattle.image_file.proofs.writing.put_operations.Given as goal
 
 abbrev pub invariant-entries : goal.invariant-entries
-invariant-entries l = (ins : List Var) (outs : List Outlet) (n : ℕ) → l.out.items ≡ l.initial.out.items ++ entries (λ b. (op_piece (said l.graph.profile l.table.seed l.table.step ins outs (cells l.graph) n) b).spell) [] (take l.i l.graph.operations)
+invariant-entries l =
+    (ins : List Var) (outs : List Outlet) (n : ℕ) → l.out.items ≡ l.initial.out.items ++ entries
+    (λ b. (op_piece (said l.graph.profile l.table.seed l.table.step ins outs (cells l.graph) n) b).spell) [] (take l.i l.graph.operations)

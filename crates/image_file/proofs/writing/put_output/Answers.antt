@@ -8,6 +8,8 @@ use Rattle.image_file.proofs.writing.put_output.Goals as goal
 pub returns : goal.returns
 unfolding output_piece
 returns c = λ p names operations earlier.
-    joined c.args.out.now.items c.put_u32.new.out.items c.put_u32-2.new.out.items (to_be_bytes w32 c.args.v.name) ((ty_code c.args.v.ty ∷ []) ++ ((to_be_bytes w32 c.args.v.op) ++ ([]))) c.in_ok-put_u32.ensures (
-    joined c.put_u32.new.out.items c.put_ty.new.out.items c.put_u32-2.new.out.items (ty_code c.args.v.ty ∷ []) ((to_be_bytes w32 c.args.v.op) ++ ([])) c.in_ok-put_ty.ensures (
+    joined c.args.out.now.items c.put_u32.new.out.items c.put_u32-2.new.out.items (to_be_bytes w32 c.args.v.name)
+    ((ty_code c.args.v.ty ∷ []) ++ ((to_be_bytes w32 c.args.v.op) ++ ([]))) c.in_ok-put_u32.ensures (
+    joined c.put_u32.new.out.items c.put_ty.new.out.items c.put_u32-2.new.out.items (ty_code c.args.v.ty ∷ [])
+    ((to_be_bytes w32 c.args.v.op) ++ ([])) c.in_ok-put_ty.ensures (
     ended c.put_ty.new.out.items c.put_u32-2.new.out.items (to_be_bytes w32 c.args.v.op) c.in_ok-put_u32-2.ensures))

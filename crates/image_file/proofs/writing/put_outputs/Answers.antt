@@ -5,4 +5,6 @@ use Rattle.image_file.proofs.writing.put_outputs.Goals as goal
 
 pub entries-preserved : goal.entries-preserved
 entries-preserved c = λ p names operations.
-    next_entry (λ b. (output_piece p names operations b).spell) c.args.out.now.items c.entries.out.items c.put_output.new.out.items c.args.graph.now.outputs c.entries.i c.output.result c.output.ensures (c.entries.invariant p names operations) (c.in_ok-put_output.ensures p names operations (take c.entries.i c.args.graph.now.outputs))
+    next_entry (λ b. (output_piece p names operations b).spell) c.args.out.now.items c.entries.out.items c.put_output.new.out.items
+    c.args.graph.now.outputs c.entries.i c.output.result c.output.ensures (c.entries.invariant p names operations) (c.in_ok-put_output.ensures p names
+    operations (take c.entries.i c.args.graph.now.outputs))

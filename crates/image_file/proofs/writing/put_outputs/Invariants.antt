@@ -5,4 +5,6 @@ use Rattle.image_fields.specs.Entries.{output_piece}
 use Rattle.image_file.proofs.writing.put_outputs.Given as goal
 
 abbrev pub invariant-entries : goal.invariant-entries
-invariant-entries l = (p : Profile) (names operations : ℕ) → l.out.items ≡ l.initial.out.items ++ entries (λ b. (output_piece p names operations b).spell) [] (take l.i l.graph.outputs)
+invariant-entries l =
+    (p : Profile) (names operations : ℕ) → l.out.items ≡ l.initial.out.items ++ entries (λ b. (output_piece p names operations b).spell) []
+    (take l.i l.graph.outputs)
