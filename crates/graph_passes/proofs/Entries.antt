@@ -1,5 +1,6 @@
 -- Entries: the operation of an input, an output or a cell has the kind of its list.
-use Rattle.std.proofs.Common.{◌≡◌, ℕ, zero, suc, ◌+◌, ◌<◌, ◌≤◌, ◌==◌, Bool, true, false, ◌&&◌, cond, List, [], ◌∷◌, length, slice_get, Option, Some, refl, ap, subst, arith}
+use Rattle.std.proofs.Common.{◌≡◌, ℕ, zero, suc, ◌+◌, ◌<◌, ◌≤◌, ◌==◌, Bool, true, false, ◌&&◌, cond, List, [], ◌∷◌, length, slice_get, Option, Some, refl, ap}
+use Rattle.std.proofs.Common.{subst, arith}
 use Rattle.std.specs.Option.{is_some}
 use Rattle.std.proofs.lemmas.Bool.Decides.{nat_tests}
 use Rattle.vcp_base.specs.declared.ty.Ty.{Ty}
@@ -7,7 +8,8 @@ use Rattle.vcp_base.specs.declared.kind.Kind.{Kind}
 use Rattle.op_graph.specs.declared.op.Outlet.{Outlet}
 use Rattle.op_graph.specs.declared.op.Loaded.{Loaded}
 use Rattle.op_graph.specs.Lists.{Lists}
-use Rattle.op_graph.specs.Rules.{scope, Place, place_of, Entry, entry, numbered, found, stored_by, cell_entry, agree, is_input, is_load, is_store, is_out, kind_fits}
+use Rattle.op_graph.specs.Rules.{scope, Place, place_of, Entry, entry, numbered, found, stored_by, cell_entry, agree, is_input, is_load, is_store, is_out}
+use Rattle.op_graph.specs.Rules.{kind_fits}
 use Rattle.graph_passes.proofs.Chosen.{get_there}
 
 two : (a b : Bool) → (a && b) ≡ true → (a ≡ true) × (b ≡ true)

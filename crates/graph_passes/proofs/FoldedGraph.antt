@@ -1,5 +1,6 @@
 -- FoldedGraph: a folded graph keeps the rules of graphs.
-use Rattle.std.proofs.Common.{◌≡◌, ℕ, zero, suc, ◌+◌, ◌≤◌, ◌==◌, ℤ, Bool, true, false, List, [], ◌∷◌, ◌++◌, length, map, slice_get, All, Option, Some, None, refl, sym, ap, subst, ◌∙◌, arith, nat_le}
+use Rattle.std.proofs.Common.{◌≡◌, ℕ, zero, suc, ◌+◌, ◌≤◌, ◌==◌, ℤ, Bool, true, false, List, [], ◌∷◌, ◌++◌, length, map, slice_get, All, Option, Some, None}
+use Rattle.std.proofs.Common.{refl, sym, ap, subst, ◌∙◌, arith, nat_le}
 use Rattle.std.proofs.lemmas.List.{length_push, map-append}
 use Rattle.std.proofs.lemmas.List.Elements.{All-nil, All-cons, All-head, All-tail}
 use Rattle.vcp_base.specs.declared.ty.Ty.{Ty}
@@ -11,7 +12,8 @@ use Rattle.vcp_base.specs.Types.{within}
 use Rattle.vcp_base.specs.Limits.{most_operations}
 use Rattle.op_graph.specs.declared.op.Op.{Op}
 use Rattle.op_graph.specs.Lists.{Lists}
-use Rattle.op_graph.specs.Rules.{IsGraph, Each, Scope, scope, Place, place_of, entry_of, same_type, operand_fits, turn_fits, kind_fits, OpFits, Operates, OutputFits, LoadFits, StoreFits, PlaceFits, Admitted}
+use Rattle.op_graph.specs.Rules.{IsGraph, Each, Scope, scope, Place, place_of, entry_of, same_type, operand_fits, turn_fits, kind_fits, OpFits, Operates}
+use Rattle.op_graph.specs.Rules.{OutputFits, LoadFits, StoreFits, PlaceFits, Admitted}
 use Rattle.graph_passes.specs.Folding.{computes, fixed_value, replaced, folded_op, folded_after, folded}
 use Rattle.graph_passes.proofs.Folds.{has_value, fixed_fits, length-folded}
 

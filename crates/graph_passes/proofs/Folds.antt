@@ -1,5 +1,6 @@
 -- Folds: a folded graph has the same run.
-use Rattle.std.proofs.Common.{◌≡◌, ℕ, zero, suc, ◌+◌, ◌<◌, ℤ, pos, Bool, true, false, cond, List, [], ◌∷◌, ◌++◌, length, take, slice_get, Option, Some, None, Ok, Err, inl, inr, refl, sym, ap, subst, ◌∙◌, arith, nat_lt, append_assoc}
+use Rattle.std.proofs.Common.{◌≡◌, ℕ, zero, suc, ◌+◌, ◌<◌, ℤ, pos, Bool, true, false, cond, List, [], ◌∷◌, ◌++◌, length, take, slice_get, Option, Some, None}
+use Rattle.std.proofs.Common.{Ok, Err, inl, inr, refl, sym, ap, subst, ◌∙◌, arith, nat_lt, append_assoc}
 use Rattle.std.proofs.lemmas.Bool.{cases_lt}
 use Rattle.std.proofs.lemmas.List.{length_push, append-nil}
 use Rattle.std.proofs.lemmas.Option.{slice_get_within}
@@ -14,7 +15,8 @@ use Rattle.vcp_base.specs.Kinds.{operands, operands_fit, divides_by_zero, value,
 use Rattle.op_graph.specs.declared.op.Op.{Op}
 use Rattle.op_graph.specs.Lists.{Lists}
 use Rattle.op_graph.specs.GraphRun.{own, read, operand, outcome_of, Cycle, after, cycle_from, cycle, run_from, initial, stored, after_cycle}
-use Rattle.graph_passes.specs.Folding.{computes, number_of, constant, fixed_operand, value_unless_stop, applied, fixed_value, const_for, replaced, folded_op, folded_after, folded}
+use Rattle.graph_passes.specs.Folding.{computes, number_of, constant, fixed_operand, value_unless_stop, applied, fixed_value, const_for, replaced, folded_op}
+use Rattle.graph_passes.specs.Folding.{folded_after, folded}
 use Rattle.graph_passes.specs.SameRun.{SamePlace, MeansAs}
 use Rattle.graph_passes.proofs.Chosen.{at_push, at_last}
 use Rattle.graph_passes.proofs.Renumbering.{SameFrom, after_same}
@@ -173,7 +175,8 @@ fixed_push cells row done values f op w gives = record {
       let there = constant_there (slice_get (done ++ op ∷ []) k) v h in
       let within = slice_get_within (done ++ op ∷ []) k there.0 there.1 in
       elim (cases_lt k (length done)) [
-        | inl less ↦ at_push values w k (let e = f.whole in omega (arith, less, e)) ∙ f.consts k v (subst (λ o. constant o ≡ Some v) (get_push done op k less) h)
+        | inl less ↦ at_push values w k (let e = f.whole in omega (arith, less, e))
+            ∙ f.consts k v (subst (λ o. constant o ≡ Some v) (get_push done op k less) h)
         | inr past ↦
             let b = length_push done op in
             let is : k ≡ length done = omega (arith, past, within, b) in

@@ -1,5 +1,6 @@
 -- Keeping: a set that may be kept is a closed part.
-use Rattle.std.proofs.Common.{◌≡◌, ℕ, ◌==◌, ℤ, pos, Bool, true, false, ◌||◌, cond, nat_lt, List, length, take, slice_get, Option, Some, None, refl, sym, ap, subst, ◌∙◌, arith}
+use Rattle.std.proofs.Common.{◌≡◌, ℕ, ◌==◌, ℤ, pos, Bool, true, false, ◌||◌, cond, nat_lt, List, length, take, slice_get, Option, Some, None, refl, sym, ap}
+use Rattle.std.proofs.Common.{subst, ◌∙◌, arith}
 use Rattle.std.specs.Prelude.{unsigned_abs}
 use Rattle.std.specs.Option.{is_some}
 use Rattle.std.proofs.lemmas.Bool.Decides.{nat_tests, Decides-int_eq}
@@ -20,17 +21,17 @@ use Rattle.graph_passes.specs.Pruning.{MayBeKept, load_kept, numbering}
 use Rattle.graph_passes.proofs.Chosen.{get_there}
 use Rattle.graph_passes.proofs.Entries.{tests, is_its_out}
 
-agreed_back : (a b : Bool) → agree a b ≡ true → a ≡ true → b ≡ true
+pub agreed_back : (a b : Bool) → agree a b ≡ true → a ≡ true → b ≡ true
 agreed_back true true h e = refl
 agreed_back true false h e = absurd cc
 agreed_back false b h e = absurd cc
 
 -- ---- the cell of a LOAD
 
-record HasCell (g : Lists) (i : ℕ) (imm : ℤ) : Type 0 where
-  cell : Loaded
-  there : slice_get g.loads (unsigned_abs imm) ≡ Some cell
-  load : cell.load ≡ i
+pub record HasCell (g : Lists) (i : ℕ) (imm : ℤ) : Type 0 where
+  pub cell : Loaded
+  pub there : slice_get g.loads (unsigned_abs imm) ≡ Some cell
+  pub load : cell.load ≡ i
 
 record Found (loads : List Loaded) (i : ℕ) (k : ℕ) (o : Option Loaded) (e : Entry) : Type 0 where
   cell : Loaded
@@ -59,7 +60,7 @@ cell_by g i to imm (Some e) f some number =
     let place : unsigned_abs imm ≡ passed (λ (l : Loaded). l.load) i g.loads = ap unsigned_abs is ∙ c.number in
     record { cell = c.cell; there = ap (slice_get g.loads) place ∙ c.is; load = c.load }
 
-has_cell : (walks : WalkLaws) (g : Lists) → IsGraph g → (i : ℕ) (turns : ℕ) (before : List Op) (k : Kind) (to : Ty) (imm : ℤ) → k ≡ kind.Load →
+pub has_cell : (walks : WalkLaws) (g : Lists) → IsGraph g → (i : ℕ) (turns : ℕ) (before : List Op) (k : Kind) (to : Ty) (imm : ℤ) → k ≡ kind.Load →
     kind_fits (place_of (scope g) i) k ≡ true → imm_fits (entry_of (place_of (scope g) i) k) k to imm ≡ true → HasCell g i imm
 has_cell walks g graph i turns before kind.Load to imm is fits number =
     let p = place_of (scope g) i in

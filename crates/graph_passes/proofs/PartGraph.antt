@@ -1,5 +1,6 @@
 -- PartGraph: a closed part of a graph, with the operations of its inputs, outputs and cells, is a graph.
-use Rattle.std.proofs.Common.{◌≡◌, ℕ, zero, suc, ◌+◌, ◌<◌, ◌≤◌, ◌==◌, ℤ, pos, Bool, true, false, ◌&&◌, cond, nat_lt, List, [], ◌∷◌, length, map, take, slice_get, All, Option, Some, None, refl, sym, ap, subst, ◌∙◌, arith}
+use Rattle.std.proofs.Common.{◌≡◌, ℕ, zero, suc, ◌+◌, ◌<◌, ◌≤◌, ◌==◌, ℤ, pos, Bool, true, false, ◌&&◌, cond, nat_lt, List, [], ◌∷◌, length, map, take}
+use Rattle.std.proofs.Common.{slice_get, All, Option, Some, None, refl, sym, ap, subst, ◌∙◌, arith}
 use Rattle.std.specs.Prelude.{unsigned_abs}
 use Rattle.std.specs.Option.{is_some}
 use Rattle.std.specs.Ordering.{int_eq}
@@ -17,11 +18,14 @@ use Rattle.op_graph.specs.declared.op.Op.{Op}
 use Rattle.op_graph.specs.declared.op.Outlet.{Outlet}
 use Rattle.op_graph.specs.declared.op.Loaded.{Loaded}
 use Rattle.op_graph.specs.Lists.{Lists}
-use Rattle.op_graph.specs.Rules.{IsGraph, Each, scope, Place, place_of, Entry, entry_of, agree, is_input, is_load, is_store, is_out, kind_fits, from_fits, imm_fits, turn_fits, operand_fits, reads_as, OpFits, Operates, OutputFits, LoadFits, StoreFits, LoadedBefore, PlaceFits, Admitted}
+use Rattle.op_graph.specs.Rules.{IsGraph, Each, scope, Place, place_of, Entry, entry_of, agree, is_input, is_load, is_store, is_out, kind_fits, from_fits}
+use Rattle.op_graph.specs.Rules.{imm_fits, turn_fits, operand_fits, reads_as, OpFits, Operates, OutputFits, LoadFits, StoreFits, LoadedBefore, PlaceFits}
+use Rattle.op_graph.specs.Rules.{Admitted}
 use Rattle.op_graph.specs.Laws.{EntryLaws}
 use Rattle.graph_passes.specs.Part.{Numbering, below, chosen, own_number, moved, moved_output, moved_load, part_of, OperandStands, IsClosed, KeepsEntries}
 use Rattle.graph_passes.proofs.Chosen.{get_there, chosen_at, chosen_no_more}
-use Rattle.graph_passes.proofs.Rising.{below_le, below_lt, below_next, below_all, length_chosen, origin, Ascending, ascending_of, chosen_ascends, rises_at, each_of, counted}
+use Rattle.graph_passes.proofs.Rising.{below_le, below_lt, below_next, below_all, length_chosen, origin, Ascending, ascending_of, chosen_ascends, rises_at}
+use Rattle.graph_passes.proofs.Rising.{each_of, counted}
 use Rattle.graph_passes.proofs.Entries.{is_its_input, is_its_out, is_its_load, is_its_store}
 use Rattle.graph_passes.proofs.PartPlaces.{renumbered, Moves, place_moves}
 

@@ -1,5 +1,6 @@
 -- Pruned: the part of what is needed.
-use Rattle.std.proofs.Common.{◌≡◌, ℕ, zero, suc, ◌<◌, ◌≤◌, ℤ, pos, Bool, true, false, ◌&&◌, ◌||◌, cond, nat_lt, length, take, slice_get, Option, Some, None, refl, sym, ap, subst, ◌∙◌, arith}
+use Rattle.std.proofs.Common.{◌≡◌, ℕ, zero, suc, ◌<◌, ◌≤◌, ℤ, pos, Bool, true, false, ◌&&◌, ◌||◌, cond, nat_lt, length, take, slice_get, Option, Some, None}
+use Rattle.std.proofs.Common.{refl, sym, ap, subst, ◌∙◌, arith}
 use Rattle.std.specs.Option.{is_some}
 use Rattle.std.proofs.lemmas.Option.{slice_get_within}
 use Rattle.vcp_base.specs.declared.ty.Ty.{Ty}
@@ -102,7 +103,13 @@ may_within g kept s may part =
           let kept_q = first_of_two (kept q) (s (below kept q)) in_set in
           let kept_k : kept k ≡ true = may.reads q k j r kept_q in
           both (kept k) (s (below kept k)) kept_k (part.reads (below kept q) (below kept k) j
-          (record { op = moved m r.op; there = chosen_at kept (moved m) q r.op g.operations r.there kept_q; operand = r.operand; names = named_moved m r.op j ∙ ap (below kept) r.names })
+          (record {
+            op = moved m r.op;
+            there = chosen_at kept (moved m) q r.op g.operations r.there kept_q;
+            operand = r.operand;
+            names = named_moved m r.op j
+                ∙ ap (below kept) r.names;
+          })
           (second_of_two (kept q) (s (below kept q)) in_set));
       cells = λ k n l load store.
           let same = may.cells k n l load store in

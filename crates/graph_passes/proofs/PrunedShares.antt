@@ -39,7 +39,8 @@ none_by before true t n e h = absurd cc
 none_by before false t n e h = zero_is n h
 
 -- an operand that an operation does not have is 0
-no_operand : (before : List Op) (k : Kind) (from : Ty) (j n : ℕ) → joins k ≡ true → nat_lt j (operands k) ≡ false → operand_fits before (reads_as k from j) n ≡ true → n ≡ 0
+no_operand : (before : List Op) (k : Kind) (from : Ty) (j n : ℕ) → joins k ≡ true → nat_lt j (operands k) ≡ false
+    → operand_fits before (reads_as k from j) n ≡ true → n ≡ 0
 no_operand before kind.Load from j n c e h = absurd cc
 no_operand before k from j n c e h = none_by before (nat_lt j (operands k)) (operand_type k j from) n e h
 
@@ -53,9 +54,11 @@ one_number : (kept : ℕ → Bool) (a b : ℕ) → kept a ≡ true → kept b �
 one_number kept a b x y e = equal_is a b (sym (same_number kept a b x y) ∙ subst (λ n. (below kept a == n) ≡ true) e (self (below kept a)))
 
 -- two operations of one kind whose operands have one new number read one operation
-operand_by : (g : Lists) (kept : ℕ → Bool) → MayBeKept g kept → (x y : ℕ) (p q : Op) → slice_get g.operations x ≡ Some p → slice_get g.operations y ≡ Some q → kept x ≡ true → kept y ≡ true →
+operand_by : (g : Lists) (kept : ℕ → Bool) → MayBeKept g kept → (x y : ℕ) (p q : Op) → slice_get g.operations x ≡ Some p → slice_get g.operations y ≡ Some q
+    → kept x ≡ true → kept y ≡ true →
     p.kind ≡ q.kind → joins p.kind ≡ true → (j : ℕ) → below kept (named p j) ≡ below kept (named q j) →
-    (before more : List Op) → operand_fits before (reads_as p.kind p.from j) (named p j) ≡ true → operand_fits more (reads_as q.kind q.from j) (named q j) ≡ true →
+    (before more : List Op) → operand_fits before (reads_as p.kind p.from j) (named p j) ≡ true → operand_fits more (reads_as q.kind q.from j)
+    (named q j) ≡ true →
     (b : Bool) → nat_lt j (operands p.kind) ≡ b → named p j ≡ named q j
 operand_by g kept may x y p q px qy kept_x kept_y kinds joined j number before more fit fit' true has =
     let joined' : joins q.kind ≡ true = subst (λ k. joins k ≡ true) kinds joined in
@@ -69,7 +72,8 @@ operand_by g kept may x y p q px qy kept_x kept_y kinds joined j number before m
     no_operand before p.kind p.from j (named p j) joined has fit ∙ sym (no_operand more q.kind q.from j (named q j) joined' has' fit')
 
 -- what does the same in the part does the same in the graph
-same_work : (laws : PartLaws) (g : Lists) (kept : ℕ → Bool) → IsGraph g → MayBeKept g kept → (x y : ℕ) (p q : Op) → slice_get g.operations x ≡ Some p → slice_get g.operations y ≡ Some q → kept x ≡ true → kept y ≡ true →
+same_work : (laws : PartLaws) (g : Lists) (kept : ℕ → Bool) → IsGraph g → MayBeKept g kept → (x y : ℕ) (p q : Op) → slice_get g.operations x ≡ Some p
+    → slice_get g.operations y ≡ Some q → kept x ≡ true → kept y ≡ true →
     joins p.kind ≡ true → work (moved (numbering g kept) p) ≡ work (moved (numbering g kept) q) → work p ≡ work q
 same_work laws g kept graph may x y p q px qy kept_x kept_y joined same =
     let m = numbering g kept in
@@ -82,9 +86,20 @@ same_work laws g kept graph may x y p q px qy kept_x kept_y joined same =
     let fit' : OpFits (place_of (scope g) y) _ (take y g.operations) q = laws.entries.operation g y q graph.part qy in
     let operand = operand_by g kept may x y p q px qy kept_x kept_y kinds joined in
     let firsts : p.a ≡ q.a = operand 0 (ap (λ (o : Op). o.a) same) (take x g.operations) (take y g.operations) fit.a fit'.a (nat_lt 0 (operands p.kind)) refl in
-    let seconds : p.b ≡ q.b = operand 1 (ap (λ (o : Op). o.b) same) (take x g.operations) (take y g.operations) fit.b fit'.b (nat_lt 1 (operands p.kind)) refl in
+    let seconds : p.b ≡ q.b =
+    operand 1 (ap (λ (o : Op). o.b) same) (take x g.operations) (take y g.operations) fit.b fit'.b (nat_lt 1 (operands p.kind)) refl in
     let thirds : p.c ≡ q.c = operand 2 (ap (λ (o : Op). o.c) same) (take x g.operations) (take y g.operations) fit.c fit'.c (nat_lt 2 (operands p.kind)) refl in
-    λ i. record { kind = kinds i; from = froms i; ty = tys i; a = firsts i; b = seconds i; c = thirds i; imm = imms i; spot = record { line = 0; col = 0 }; turn = 0 }
+    λ i. record {
+      kind = kinds i;
+      from = froms i;
+      ty = tys i;
+      a = firsts i;
+      b = seconds i;
+      c = thirds i;
+      imm = imms i;
+      spot = record { line = 0; col = 0 };
+      turn = 0;
+    }
 
 part_shares_none : (laws : PartLaws) (g : Lists) (kept : ℕ → Bool) → IsGraph g → MayBeKept g kept → NoneShares g → NoneShares (part_of (numbering g kept) g)
 part_shares_none laws g kept graph may none = λ i j p q lt first second joined same.

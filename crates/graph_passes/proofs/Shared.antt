@@ -163,8 +163,10 @@ constant_same g h s i n kept_i lt le =
     let old : slice_get (take i g.operations) n ≡ Some x.0 = get_front g.operations i n lt ∙ x.1 in
     ap constant new ∙ image.constant_is ∙ sym (ap constant old)
 
-value_same : (g h : Lists) (s : IsShared g h) (i : ℕ) (op : Op) → ((q k j : ℕ) → Reads g.operations q k j → k < q) → slice_get g.operations i ≡ Some op → s.numbers.kept i ≡ true →
-    fixed_value (take (below s.numbers.kept i) (chosen s.numbers.kept (moved s.numbers) 0 g.operations)) (moved s.numbers op) ≡ fixed_value (take i g.operations) op
+value_same : (g h : Lists) (s : IsShared g h) (i : ℕ) (op : Op) → ((q k j : ℕ) → Reads g.operations q k j → k < q) → slice_get g.operations i ≡ Some op
+    → s.numbers.kept i ≡ true →
+    fixed_value (take (below s.numbers.kept i) (chosen s.numbers.kept (moved s.numbers) 0 g.operations)) (moved s.numbers op) ≡ fixed_value
+    (take i g.operations) op
 value_same g h s i op earlier there kept_i =
     let m = s.numbers in
     let front = take i g.operations in

@@ -22,8 +22,7 @@ graph_of ops out = record {
   profile = profile.Narrow;
   names = (121 ∷ []) ∷ [];
   inputs = [];
-  outputs =
-      (record { name = 0; ty = ty.Int; op = out }) ∷ [];
+  outputs = (record { name = 0; ty = ty.Int; op = out }) ∷ [];
   loads = [];
   stores = [];
   turn_nodes = [];
@@ -91,11 +90,13 @@ add-stays : must_stay (op_on ty.Int kind.Add 0 1 (pos 0) 1) ≡ true
 unfolding op_on
 add-stays = refl
 
-equal-goes : must_stay (record { kind = kind.Eq; from = ty.Int; ty = ty.Bool; a = 0; b = 0; c = 0; imm = pos 0; spot = record { line = 3; col = 2 }; turn = 0 }) ≡ false
+equal-goes : must_stay (record { kind = kind.Eq; from = ty.Int; ty = ty.Bool; a = 0; b = 0; c = 0; imm = pos 0; spot = record { line = 3; col = 2 }; turn = 0 })
+    ≡ false
 equal-goes = refl
 
 -- CONV stops from DINT to INT, from LINT to INT and from LINT to DINT alone
-conversions-stop : (can_stop kind.Conv ty.Dint ty.Int ∷ can_stop kind.Conv ty.Lint ty.Int ∷ can_stop kind.Conv ty.Lint ty.Dint ∷ can_stop kind.Conv ty.Bool ty.Int ∷ can_stop kind.Conv ty.Int ty.Dint ∷ can_stop kind.Conv ty.Int ty.Lint ∷ can_stop kind.Conv ty.Dint ty.Lint ∷ []) ≡
+conversions-stop : (can_stop kind.Conv ty.Dint ty.Int ∷ can_stop kind.Conv ty.Lint ty.Int ∷ can_stop kind.Conv ty.Lint ty.Dint
+    ∷ can_stop kind.Conv ty.Bool ty.Int ∷ can_stop kind.Conv ty.Int ty.Dint ∷ can_stop kind.Conv ty.Int ty.Lint ∷ can_stop kind.Conv ty.Dint ty.Lint ∷ []) ≡
     (true ∷ true ∷ true ∷ false ∷ false ∷ false ∷ false ∷ [])
 conversions-stop = refl
 

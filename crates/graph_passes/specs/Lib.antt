@@ -1,6 +1,9 @@
 pub mod Folding
+pub mod Joining
+pub mod Marking
 pub mod Part
 pub mod Pruning
 pub mod Reduced
 pub mod SameRun
 pub mod Sharing
+pub mod Tables

@@ -1,7 +1,8 @@
 //! Operations that read constants alone become constants.
 
 ghost use Rattle.std.specs.Prelude.{◌≡◌, IfOk, Some, slice_get, []};
-ghost use Rattle.graph_passes.specs.Folding.{computes as computes_of, constant as constant_of, fixed_operand as fixed_operand_of, fixed_value as fixed_value_of, folded_op as folded_op_of, folded_after, folded, NoneFolds};
+ghost use Rattle.graph_passes.specs.Folding.{computes as computes_of, constant as constant_of, fixed_operand as fixed_operand_of};
+ghost use Rattle.graph_passes.specs.Folding.{fixed_value as fixed_value_of, folded_op as folded_op_of, folded_after, folded, NoneFolds};
 ghost use Rattle.graph_passes.specs.SameRun.{MeansAs};
 
 use crate::lists::with_operations;

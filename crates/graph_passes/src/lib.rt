@@ -4,13 +4,18 @@
 mod folding;
 mod laws;
 mod lists;
+mod needed;
 mod outcomes;
+mod part;
+mod pruning;
+mod reducing;
+mod sharing;
 
 pub use folding::fold;
 pub use laws::{
     closed_parts_are_graphs, closed_parts_mean_the_same, what_is_needed_means_the_same,
     what_is_shared_means_the_same,
 };
-
-#[cfg(test)]
-mod tests;
+pub use pruning::prune;
+pub use reducing::reduce;
+pub use sharing::share;

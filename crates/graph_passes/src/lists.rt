@@ -35,7 +35,7 @@ pub(crate) fn with_operations(
 }
 
 /// The names.
-fn names(alloc: Global, graph: &Graph) -> Result<Vec<Text>, Memory>
+pub(crate) fn names(alloc: Global, graph: &Graph) -> Result<Vec<Text>, Memory>
     ensures { IfOk result (λ names. names.items ≡ graph.now.names) }
 {
     let mut names = Vec::new(alloc);
@@ -46,7 +46,7 @@ fn names(alloc: Global, graph: &Graph) -> Result<Vec<Text>, Memory>
 }
 
 /// The inputs.
-fn inputs(alloc: Global, graph: &Graph) -> Result<Vec<Var>, Memory>
+pub(crate) fn inputs(alloc: Global, graph: &Graph) -> Result<Vec<Var>, Memory>
     ensures { IfOk result (λ inputs. inputs.items ≡ graph.now.inputs) }
 {
     let mut inputs = Vec::new(alloc);
@@ -96,7 +96,7 @@ fn stores(alloc: Global, graph: &Graph) -> Result<Vec<u32>, Memory>
 }
 
 /// The turn nodes.
-fn turn_nodes(alloc: Global, graph: &Graph) -> Result<Vec<TurnNode>, Memory>
+pub(crate) fn turn_nodes(alloc: Global, graph: &Graph) -> Result<Vec<TurnNode>, Memory>
     ensures { IfOk result (λ turn_nodes. turn_nodes.items ≡ graph.now.turn_nodes) }
 {
     let mut turn_nodes = Vec::new(alloc);

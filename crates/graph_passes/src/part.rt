@@ -1,0 +1,194 @@
+//! The part of a graph that is kept by tables, with its operations and cells numbered anew.
+
+ghost use Rattle.std.specs.Prelude.{◌≡◌, ◌≤◌, ◌<◌, ◌++◌, ◌∷◌, ℕ, [], cond, length, map, replicate, suc, true, IfOk, OnOk};
+ghost use Rattle.vcp_base.specs.Limits.{most_operations};
+ghost use Rattle.op_graph.specs.Rules.{IsGraph};
+ghost use Rattle.graph_passes.specs.Part.{below, chosen, moved as moved_of, moved_load, moved_output, own_number as own_number_of, part_of};
+ghost use Rattle.graph_passes.specs.Tables.{by_tables, marked as marked_of, number_at as number_at_of};
+
+use crate::lists::{inputs, names, turn_nodes};
+use op_graph::{Graph, Loaded, Op, Outlet};
+use std::alloc::Global;
+use vcp_base::{Kind, Memory};
+
+/// The part of a graph by four tables, where that is a graph: which operations are kept, the new
+/// number of each operation or of what stands for it, which cells are kept, and their new numbers.
+pub(crate) fn part(
+    alloc: Global,
+    graph: &Graph,
+    kept: &[bool],
+    numbers: &[u32],
+    cells: &[bool],
+    cell_numbers: &[u32],
+) -> Result<Graph, Memory>
+    requires { IsGraph (part_of (by_tables kept.now numbers.now cells.now cell_numbers.now) graph.now) }
+    ensures { IfOk result (λ g. g ≡ part_of (by_tables kept.now numbers.now cells.now cell_numbers.now) graph.now) }
+{
+    let names = names(alloc, graph)?;
+    let inputs = inputs(alloc, graph)?;
+    let outputs = moved_outputs(alloc, graph, numbers)?;
+    let loads = kept_loads(alloc, graph, numbers, cells)?;
+    let stores = kept_stores(alloc, graph, numbers, cells)?;
+    let turn_nodes = turn_nodes(alloc, graph)?;
+    let operations = kept_operations(alloc, graph, kept, numbers, cell_numbers)?;
+    Ok(Graph::from_lists(
+        graph.profile(),
+        names,
+        inputs,
+        outputs,
+        loads,
+        stores,
+        turn_nodes,
+        operations,
+    ))
+}
+
+/// The mark at place `i`; none where there is no such place.
+pub(crate) fn marked(marks: &[bool], i: usize) -> bool
+    ensures { result ≡ marked_of marks.now i }
+{
+    if i < marks.len() { marks[i] } else { false }
+}
+
+/// The number at place `i`; 0 where there is none.
+pub(crate) fn number_at(numbers: &[u32], i: usize) -> u32
+    ensures { result ≡ number_at_of numbers.now i }
+{
+    if i < numbers.len() { numbers[i] } else { 0 }
+}
+
+/// So many marks.
+pub(crate) fn all_marked(alloc: Global, count: u32) -> Result<Vec<bool>, Memory>
+    ensures { IfOk result (λ marks. marks.items ≡ replicate count true) }
+{
+    Ok(vec![in alloc; true; count as usize]?)
+}
+
+/// For each place, how many places before it are marked.
+pub(crate) fn numbers_below(alloc: Global, marks: &[bool]) -> Result<Vec<u32>, Memory>
+    requires few { length marks.now ≤ most_operations }
+    ensures { IfOk result (λ numbers. (i : ℕ) → i < length marks.now → number_at_of numbers.items i ≡ below (marked_of marks.now) i) }
+{
+    let mut numbers = Vec::new(alloc);
+    let mut count = 0u32;
+    'marks: for i in 0..marks.len() {
+        numbers.push(count)?;
+        count = one_more(marks[i], count);
+    }
+    Ok(numbers)
+}
+
+/// One more than `count` where there is one more.
+pub(crate) fn one_more(more: bool, count: u32) -> u32
+    requires { count < most_operations }
+    ensures { result ≡ cond more (suc count) count }
+{
+    if more { count + 1 } else { count }
+}
+
+/// Appends an entry that is kept.
+fn push_kept<T: Drop>(entries: &mut Vec<T>, kept: bool, entry: T) -> Result<(), Memory>
+    ensures { OnOk result (entries.new.items ≡ cond kept (entries.old.items ++ entry ∷ []) entries.old.items) }
+{
+    if kept {
+        entries.push(entry)?;
+    }
+    Ok(())
+}
+
+/// The operation's own number: the cell's new number for LOAD and STORE, and else what it was.
+fn own_number(kind: Kind, imm: i64, cell_numbers: &[u32]) -> i64
+    ensures { result ≡ own_number_of (by_tables [] [] [] cell_numbers.now) kind imm }
+{
+    match kind {
+        Kind::Load | Kind::Store => number_at(cell_numbers, imm.unsigned_abs() as usize) as i64,
+        _ => imm,
+    }
+}
+
+/// The operation with what it reads numbered anew.
+pub(crate) fn moved(op: Op, numbers: &[u32], cell_numbers: &[u32]) -> Op
+    ensures { result ≡ moved_of (by_tables [] numbers.now [] cell_numbers.now) op }
+{
+    Op {
+        a: number_at(numbers, op.a as usize),
+        b: number_at(numbers, op.b as usize),
+        c: number_at(numbers, op.c as usize),
+        imm: own_number(op.kind, op.imm, cell_numbers),
+        ..op
+    }
+}
+
+/// The operations that are kept.
+fn kept_operations(
+    alloc: Global,
+    graph: &Graph,
+    kept: &[bool],
+    numbers: &[u32],
+    cell_numbers: &[u32],
+) -> Result<Vec<Op>, Memory>
+    ensures { IfOk result (λ operations. operations.items
+        ≡ chosen (marked_of kept.now) (moved_of (by_tables [] numbers.now [] cell_numbers.now)) 0 graph.now.operations) }
+{
+    let mut operations = Vec::new(alloc);
+    'operations: for i in 0..graph.len() {
+        let op = moved(graph.operation(i), numbers, cell_numbers);
+        push_kept(&mut operations, marked(kept, i as usize), op)?;
+    }
+    Ok(operations)
+}
+
+/// The outputs, with the new numbers of their OUTs.
+fn moved_outputs(alloc: Global, graph: &Graph, numbers: &[u32]) -> Result<Vec<Outlet>, Memory>
+    ensures { IfOk result (λ outputs. outputs.items ≡ map (moved_output (by_tables [] numbers.now [] [])) graph.now.outputs) }
+{
+    let mut outputs = Vec::new(alloc);
+    'outputs: for i in 0..graph.outputs() {
+        let output = graph.output(i);
+        outputs.push(Outlet {
+            op: number_at(numbers, output.op as usize),
+            ..output
+        })?;
+    }
+    Ok(outputs)
+}
+
+/// What the LOADs of the kept cells make, with the new numbers of the LOADs.
+fn kept_loads(
+    alloc: Global,
+    graph: &Graph,
+    numbers: &[u32],
+    cells: &[bool],
+) -> Result<Vec<Loaded>, Memory>
+    ensures { IfOk result (λ loads. loads.items ≡ chosen (marked_of cells.now) (moved_load (by_tables [] numbers.now [] [])) 0 graph.now.loads) }
+{
+    let mut loads = Vec::new(alloc);
+    'loads: for i in 0..graph.cells() {
+        let cell = graph.cell(i);
+        let loaded = Loaded {
+            name: cell.name,
+            ty: cell.ty,
+            init: cell.init,
+            load: number_at(numbers, cell.load as usize),
+        };
+        push_kept(&mut loads, marked(cells, i as usize), loaded)?;
+    }
+    Ok(loads)
+}
+
+/// The new numbers of the STOREs of the kept cells.
+fn kept_stores(
+    alloc: Global,
+    graph: &Graph,
+    numbers: &[u32],
+    cells: &[bool],
+) -> Result<Vec<u32>, Memory>
+    ensures { IfOk result (λ stores. stores.items ≡ chosen (marked_of cells.now) (number_at_of numbers.now) 0 graph.now.stores) }
+{
+    let mut stores = Vec::new(alloc);
+    'stores: for i in 0..graph.cells() {
+        let number = number_at(numbers, graph.cell(i).store as usize);
+        push_kept(&mut stores, marked(cells, i as usize), number)?;
+    }
+    Ok(stores)
+}

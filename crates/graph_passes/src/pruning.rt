@@ -1,0 +1,50 @@
+//! What nothing needs is left out.
+
+ghost use Rattle.std.specs.Prelude.{◌≡◌, map, IfOk};
+ghost use Rattle.op_graph.specs.Rules.{IsGraph};
+ghost use Rattle.graph_passes.specs.Folding.{NoneFolds};
+ghost use Rattle.graph_passes.specs.Pruning.{IsPruned, NonePrunes};
+ghost use Rattle.graph_passes.specs.SameRun.{MeansAs};
+ghost use Rattle.graph_passes.specs.Sharing.{NoneShares};
+ghost use Rattle.graph_passes.specs.Tables.{marked as marked_of};
+
+use crate::laws::what_is_needed_means_the_same;
+use crate::needed::needed;
+use crate::part::{marked, numbers_below, part};
+use op_graph::{Graph, entries_are_found_by_one_walk, entries_keep_their_rules};
+use std::alloc::Global;
+use vcp_base::Memory;
+
+/// Keeps each INPUT and OUT, each operation that can stop, what these read, and both operations of each
+/// cell of which one is kept, with what they read. What is kept is numbered anew in the old order; all
+/// names and turn nodes stay, and cells that are not kept go.
+///
+/// No operation is left that would not be kept. Where memory is wanting the graph is given up.
+pub fn prune(alloc: Global, graph: Graph) -> Result<Graph, Memory>
+    ensures pruned { IfOk result (λ g. IsPruned graph g) }
+    ensures means { IfOk result (λ g. MeansAs graph g) }
+    ensures none_left { IfOk result (λ g. NonePrunes g) }
+    ensures folds_none { NoneFolds graph → IfOk result (λ g. NoneFolds g) }
+    ensures shares_none { NoneShares graph → IfOk result (λ g. NoneShares g) }
+{
+    what_is_needed_means_the_same();
+    // What an operation reads, and each cell's LOAD and STORE, are in the tables.
+    entries_are_found_by_one_walk();
+    entries_keep_their_rules();
+    let kept = needed(alloc, &graph)?;
+    let numbers = numbers_below(alloc, &kept)?;
+    let cells = kept_cells(alloc, &graph, &kept)?;
+    let cell_numbers = numbers_below(alloc, &cells)?;
+    part(alloc, &graph, &kept, &numbers, &cells, &cell_numbers)
+}
+
+/// For each cell, whether its LOAD is kept.
+fn kept_cells(alloc: Global, graph: &Graph, kept: &[bool]) -> Result<Vec<bool>, Memory>
+    ensures { IfOk result (λ cells. cells.items ≡ map (λ l. marked_of kept.now l.load) graph.now.loads) }
+{
+    let mut cells = Vec::new(alloc);
+    'cells: for i in 0..graph.cells() {
+        cells.push(marked(kept, graph.cell(i).load as usize))?;
+    }
+    Ok(cells)
+}
