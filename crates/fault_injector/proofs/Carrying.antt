@@ -1,5 +1,6 @@
 -- Carrying: one call through a fault.
-use Rattle.std.proofs.Common.{◌≡◌, ◌≢◌, ℕ, ◌+◌, ◌-◌, ◌^◌, ◌<◌, Bool, true, false, cond, not, ◌&&◌, ◌||◌, nat_lt, List, [], ◌∷◌, ◌++◌, Option, Some, None, ℤ, pos, zero, suc, refl, sym, ap, subst, ◌∙◌, arith, inl, inr}
+use Rattle.std.proofs.Common.{◌≡◌, ℕ, ◌-◌, ◌^◌, ◌<◌, Bool, true, false, cond, not, ◌&&◌, ◌||◌, List, [], ◌∷◌, ◌++◌, Option, Some, None, ℤ, zero, suc, refl, sym}
+use Rattle.std.proofs.Common.{ap, subst, ◌∙◌, arith, inl, inr}
 use Rattle.std.specs.Option.{is_some}
 use Rattle.std.proofs.lemmas.Bool.Decides.{nat_tests}
 use Rattle.coded_unit.specs.declared.call.Call.{Call}
@@ -8,7 +9,6 @@ use Rattle.coded_unit.specs.declared.call.Answer.TheVariants as answer
 use Rattle.coded_unit.specs.Asked.{Asked}
 use Rattle.coded_unit.specs.Log.{Entry, GrowsBy, Counts, one_more}
 use Rattle.coded_unit.specs.Right.{Right}
-use Rattle.coded_unit.specs.Words.{nearest_word}
 use Rattle.fault_script.specs.declared.act.Act.{Act}
 use Rattle.fault_script.specs.declared.act.Act.TheVariants as act
 use Rattle.fault_script.specs.declared.act.Fault.{Fault}
@@ -128,3 +128,6 @@ pub right_of : (f : Fault) (kept : Option ℤ) (call : Call) (result : Answer) (
     StaysHonest i j →
     result ≡ right_under f kept call
 right_of f kept call result x y i j h honest = right_from (act_at_call f kept call) (word kept) call result h.inner i j h.gives h.counted honest
+
+-- what the one call needs
+pub ruleset one_call = (changed_asked, unchanged, skipped, made, right_of)

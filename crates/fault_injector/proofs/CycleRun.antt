@@ -1,5 +1,6 @@
 -- CycleRun: the run law of one cycle.
-use Rattle.std.proofs.Common.{◌≡◌, ℕ, zero, suc, ◌+◌, ◌<◌, ◌≤◌, ◌&&◌, Bool, true, false, cond, nat_lt, List, [], ◌∷◌, ◌++◌, length, length-append, append_assoc, slice_get, Option, Some, None, Ok, Err, IfOk, ℤ, pos, ◌+ℤ◌, ◌-ℤ◌, unsigned_abs, refl, sym, ap, subst, ◌∙◌, arith}
+use Rattle.std.proofs.Common.{◌≡◌, ℕ, zero, suc, ◌+◌, ◌<◌, ◌≤◌, ◌&&◌, Bool, true, false, cond, nat_lt, List, [], ◌∷◌, ◌++◌, length, length-append, append_assoc}
+use Rattle.std.proofs.Common.{slice_get, Option, Some, None, Ok, Err, IfOk, ℤ, pos, ◌+ℤ◌, ◌-ℤ◌, unsigned_abs, refl, sym, ap, subst, ◌∙◌, arith}
 use Rattle.std.proofs.lemmas.Bool.Decides.{nat_tests}
 use Rattle.std.proofs.lemmas.Int.{ints}
 use Rattle.std.proofs.lemmas.List.{append-nil}
@@ -28,7 +29,8 @@ use Rattle.fault_injector.specs.Scripts.{right_by}
 use Rattle.fault_injector.specs.Stepping.{Near, MayStand, OperandStands, ReadsStand, TakenStands, StepUnder, OutcomesAreNear, word_of, stamp_past}
 use Rattle.fault_injector.specs.FaultRun.{Begun, course, given_by, cycle_under_from}
 use Rattle.fault_injector.proofs.Shifts.{zero_near}
-use Rattle.fault_injector.specs.RunLaw.{Words, integer, CellsStand, AnswersStand, Stands, taken, setting_of, RightsUnder, words_under, answers_under, AllStand, Solved, CycleRuns}
+use Rattle.fault_injector.specs.RunLaw.{Words, integer, CellsStand, AnswersStand, Stands, taken, setting_of, RightsUnder, words_under, answers_under, AllStand}
+use Rattle.fault_injector.specs.RunLaw.{Solved, CycleRuns}
 
 -- what the laws below promise
 pub record Laws : Type 0 where

@@ -1,5 +1,6 @@
 -- EndsRead: the end of a cycle under acts, read off answers that keep the run law.
-use Rattle.std.proofs.Common.{◌≡◌, ℕ, suc, ◌+◌, ◌<◌, ◌==◌, Bool, true, false, cond, List, [], ◌∷◌, ◌++◌, length, slice_get, Option, Some, None, option_map, ℤ, pos, ◌+ℤ◌, ◌*ℤ◌, refl, sym, ap, ◌∙◌, arith, eqb-true}
+use Rattle.std.proofs.Common.{◌≡◌, ℕ, suc, ◌+◌, ◌<◌, ◌==◌, Bool, true, false, cond, List, [], ◌∷◌, ◌++◌, length, map, slice_get, Option, Some, None, option_map}
+use Rattle.std.proofs.Common.{ℤ, pos, ◌+ℤ◌, ◌*ℤ◌, refl, sym, ap, ◌∙◌, arith, eqb-true}
 use Rattle.std.proofs.lemmas.Bool.{eq-eqb, false≢true}
 use Rattle.std.proofs.lemmas.Int.{ints}
 use Rattle.vcp_base.specs.declared.code.Profile.{Profile}
@@ -26,7 +27,7 @@ use Rattle.fault_script.specs.Differences.{difference_at, frame}
 use Rattle.fault_injector.specs.Accepted.{RefusedAt, first_unaccepted, residue_under}
 use Rattle.fault_injector.specs.FaultRun.{Begun, begun, cycle_under, outside, stop_or, operation_stop}
 use Rattle.fault_injector.specs.RunLaw.{AnswersStand, integer, words_under}
-use Rattle.fault_injector.specs.Verdicts.{ending, EndsAreRead}
+use Rattle.fault_injector.specs.Verdicts.{ending, EndsAreRead, OutputsAreRead}
 use Rattle.fault_injector.proofs.WholeRun.{Laws, answers_stand}
 
 -- ---- the first stop
@@ -206,3 +207,28 @@ ends_are_read laws t g acts n past held row answers graph table profile below is
     (first_refused g.profile t n answers 0 g.outputs)
     (λ none. outside_is laws t g acts n g.profile answers c.values count g.outputs (holds none) inside)
     (λ none. refused_is laws t g acts n g.profile answers c.values count 0 g.outputs table below (holds none) inside)
+
+-- ---- the row of outputs
+
+no_stop_first : (s o : Option Stop) → stop_or s o ≡ None → s ≡ None
+no_stop_first (Some s) o e = absurd cc
+no_stop_first None o e = refl
+
+values_are : (laws : Laws) (t : Numbers) (g : Lists) (acts : Acts) (n : ℕ) (p : Profile) (answers : List Answer) (values : List ℤ) (count : ℕ)
+    (outputs : List Outlet) → Holds laws t g acts n p answers values count → Inside count outputs
+    → map (λ (o : Outlet). value_part p (word_at answers o.op)) outputs ≡ map (λ (o : Outlet). at values o.op) outputs
+values_are laws t g acts n p answers values count [] holds inside = refl
+values_are laws t g acts n p answers values count (o ∷ outputs) holds inside =
+    ap (λ (v : ℤ). v ∷ map (λ (o : Outlet). value_part p (word_at answers o.op)) outputs)
+    (value_at laws t g acts n p answers values count o.op holds inside.0)
+    ∙ ap (λ (vs : List ℤ). at values o.op ∷ vs) (values_are laws t g acts n p answers values count outputs holds inside.1)
+
+pub outputs_are_read : Laws → OutputsAreRead
+outputs_are_read laws t g acts n past held row answers graph table profile below is none =
+    let b = begun t g acts n past held row in
+    let c = cycle_under b in
+    let count = length g.operations in
+    let inside : Inside count g.outputs = inside_all count g.outputs (λ k o there. (laws.entries.output g k o graph.part there).operation) in
+    let stop = no_stop (length c.values) c.stop (no_stop_first (operation_stop c) (outside c.values g.outputs) none) in
+    let holds : Holds laws t g acts n g.profile answers c.values count = record { profile = sym profile; stand = answers_stand b answers is stop } in
+    values_are laws t g acts n g.profile answers c.values count g.outputs holds inside

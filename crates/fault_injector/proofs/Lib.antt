@@ -10,3 +10,9 @@ pub mod WholeRun
 pub mod EndsRead
 pub mod Scripting
 pub mod WorkedVerdicts
+pub mod CarriedByHand
+pub mod RowsBeside
+pub mod UndisturbedRun
+pub mod RunsBeside
+pub mod CycleJudged
+pub mod EndsWithin

@@ -1,5 +1,6 @@
 -- Scripting: a scripted unit keeps the word that its act takes, and so its answers are those that the run law speaks of.
-use Rattle.std.proofs.Common.{◌≡◌, ℕ, zero, suc, ◌+◌, ◌<◌, ◌≤◌, ◌==◌, ◌&&◌, ◌||◌, not, Bool, true, false, cond, nat_lt, List, [], ◌∷◌, ◌++◌, length, slice_get, Option, Some, None, ℤ, pos, refl, sym, ap, subst, ◌∙◌, arith, eqb-true}
+use Rattle.std.proofs.Common.{◌≡◌, ℕ, zero, suc, ◌+◌, ◌<◌, ◌≤◌, ◌==◌, ◌&&◌, ◌||◌, not, Bool, true, false, cond, nat_lt, List, [], ◌∷◌, ◌++◌, length, slice_get}
+use Rattle.std.proofs.Common.{Option, Some, None, ℤ, pos, refl, sym, ap, subst, ◌∙◌, arith, eqb-true}
 use Rattle.std.specs.Option.{is_some}
 use Rattle.std.proofs.lemmas.Bool.{eq-eqb, false≢true}
 use Rattle.std.proofs.lemmas.Bool.Decides.{nat_tests}
@@ -323,7 +324,8 @@ run_right reads t g f fits n past kept held (row ∷ rows) (answers ∷ cycles) 
       scripted.0,
       cycle.rights,
       λ words.
-          let inside : f.op < length answers = omega (arith, whole_length g.operations answers scripted.0 words, slice_get_within g.operations f.op fits.op fits.there) in
+          let inside : f.op < length answers =
+          omega (arith, whole_length g.operations answers scripted.0 words, slice_get_within g.operations f.op fits.op fits.there) in
           run_right reads t g f fits (suc n) (record { held = held; answers = answers })
           (kept_through f (setting_at g t n held row) kept [] g.operations answers) (stored_words g answers) rows cycles graph
           (next_cycle f fits.op n past held (stored_words g answers) answers

@@ -1,6 +1,6 @@
 -- Shifts: a word with e added to it. No word of a run comes to the edge of words.
-use Rattle.std.proofs.Common.{◌≡◌, ℕ, ◌<◌, ◌^◌, ◌-◌, true, ℤ, pos, negsuc, neg_ℤ, ◌+ℤ◌, ◌-ℤ◌, ◌*ℤ◌, ◌≤ℤ◌, refl, ap, sym, ◌∙◌, arith}
-use Rattle.std.specs.Int.{int_min, int_max}
+use Rattle.std.proofs.Common.{◌≡◌, ℕ, ◌<◌, ◌^◌, ◌-◌, true, ℤ, pos, neg_ℤ, ◌+ℤ◌, ◌*ℤ◌, ◌≤ℤ◌, ap, sym, ◌∙◌, arith}
+use Rattle.std.specs.Int.{int_min}
 use Rattle.std.proofs.lemmas.Int.{ints, int_max_is, int_min_is}
 use Rattle.vcp_base.specs.declared.code.Profile.{Profile}
 use Rattle.vcp_base.specs.declared.code.Profile.TheVariants as profile

@@ -1,5 +1,6 @@
 -- Steps: the right answer to a call under an act.
-use Rattle.std.proofs.Common.{◌≡◌, ℕ, zero, suc, ◌+◌, ◌<◌, ◌≤◌, ◌==◌, Bool, true, false, cond, ◌&&◌, nat_lt, nat_le, List, length, Option, Some, None, Ok, Err, IfOk, ℤ, pos, neg_ℤ, ◌+ℤ◌, ◌-ℤ◌, ◌*ℤ◌, ◌^◌, ◌≤ℤ◌, refl, sym, ap, subst, ◌∙◌, arith, eqb-true}
+use Rattle.std.proofs.Common.{◌≡◌, ℕ, zero, suc, ◌<◌, ◌==◌, Bool, true, false, cond, ◌&&◌, nat_lt, nat_le, List, Option, Some, None, Ok, Err, IfOk, ℤ, pos}
+use Rattle.std.proofs.Common.{neg_ℤ, ◌+ℤ◌, ◌-ℤ◌, ◌*ℤ◌, ◌^◌, refl, sym, ap, subst, ◌∙◌, arith, eqb-true}
 use Rattle.std.specs.Prelude.{unsigned_abs}
 use Rattle.std.proofs.lemmas.Bool.{false≢true}
 use Rattle.std.proofs.lemmas.Bool.Decides.{nat_tests}
@@ -9,7 +10,6 @@ use Rattle.std.proofs.Math.IntN.{zero-*ℤ}
 use Rattle.vcp_base.specs.declared.code.Profile.{Profile}
 use Rattle.vcp_base.specs.declared.kind.Kind.{Kind}
 use Rattle.vcp_base.specs.declared.kind.Kind.TheVariants as kind
-use Rattle.vcp_base.specs.declared.kind.StopKind.{StopKind}
 use Rattle.vcp_base.specs.declared.kind.StopKind.TheVariants as stop
 use Rattle.vcp_base.specs.declared.ty.Ty.{Ty}
 use Rattle.vcp_base.specs.Code.{modulus}
@@ -32,12 +32,13 @@ use Rattle.coded_machine.specs.Calls.{operation_call, own_number}
 use Rattle.fault_script.specs.declared.act.Act.{Act}
 use Rattle.fault_script.specs.declared.act.Act.TheVariants as act
 use Rattle.fault_script.specs.Changes.{operand_word, with_operand, shifted}
-use Rattle.fault_script.specs.Differences.{Frame, origin, read, brought, exchanged, difference}
+use Rattle.fault_script.specs.Differences.{origin, read, brought, exchanged, difference}
 use Rattle.fault_script.specs.Forms.{is_addend}
 use Rattle.fault_injector.specs.Scripts.{right_by}
-use Rattle.fault_injector.specs.Stepping.{Course, Near, carry, plain_operand, operand_residue, operand_under, kind_under, done_under, raised, outcome_under, word_of, stamp_past, OperandStands, ReadsStand, TakenStands, MayStand, StepUnder, OutcomesAreNear}
-use Rattle.fault_injector.proofs.Products.{times_plus, times_minus, minus_times}
-use Rattle.fault_injector.proofs.Shifts.{Between, fits_between, near_of, zero_near, shifted_word, carry_near}
+use Rattle.fault_injector.specs.Stepping.{Course, Near, carry, plain_operand, operand_residue, operand_under, kind_under, done_under, raised, outcome_under}
+use Rattle.fault_injector.specs.Stepping.{stamp_past, OperandStands, ReadsStand, TakenStands, MayStand, StepUnder, OutcomesAreNear}
+use Rattle.fault_injector.proofs.Products.{times_minus, minus_times}
+use Rattle.fault_injector.proofs.Shifts.{Between, fits_between, near_of, shifted_word, carry_near}
 
 -- what the crates below promise
 pub record Laws : Type 0 where

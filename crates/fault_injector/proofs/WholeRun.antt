@@ -1,5 +1,6 @@
 -- WholeRun: the run law of all cycles.
-use Rattle.std.proofs.Common.{◌≡◌, ℕ, zero, suc, ◌+◌, ◌*◌, ◌<◌, ◌≤◌, ◌&&◌, ◌==◌, Bool, true, false, cond, List, [], ◌∷◌, ◌++◌, length, map, slice_get, Option, Some, None, Ok, Err, ℤ, pos, ◌+ℤ◌, ◌-ℤ◌, refl, sym, ap, subst, ◌∙◌, arith, eqb-true}
+use Rattle.std.proofs.Common.{◌≡◌, ℕ, zero, suc, ◌+◌, ◌*◌, ◌<◌, ◌≤◌, ◌&&◌, ◌==◌, Bool, true, false, cond, List, [], ◌∷◌, ◌++◌, length, map, slice_get, Option}
+use Rattle.std.proofs.Common.{Some, None, Ok, Err, ℤ, pos, ◌+ℤ◌, ◌-ℤ◌, refl, sym, ap, subst, ◌∙◌, arith, eqb-true}
 use Rattle.std.proofs.lemmas.Int.{ints}
 use Rattle.std.proofs.lemmas.List.{append-nil}
 use Rattle.vcp_base.specs.declared.code.Profile.{Profile}
@@ -28,7 +29,8 @@ use Rattle.fault_script.specs.Differences.{Frame, no_frame, frame}
 use Rattle.fault_script.specs.Fits.{ActFits}
 use Rattle.fault_injector.specs.Stepping.{Near, MayStand, word_of, stamp_past}
 use Rattle.fault_injector.specs.FaultRun.{Begun, begun, course, given_by, cycle_under_from, cycle_under}
-use Rattle.fault_injector.specs.RunLaw.{Words, integer, CellsStand, AnswersStand, Stands, words_under, answers_under, AllStand, RightRun, RunKept, no_words, RunsKept, OneFaultStands}
+use Rattle.fault_injector.specs.RunLaw.{Words, integer, CellsStand, AnswersStand, Stands, words_under, answers_under, AllStand, RightRun, RunKept, no_words}
+use Rattle.fault_injector.specs.RunLaw.{RunsKept, OneFaultStands}
 use Rattle.fault_injector.proofs.Shifts.{fits_between, near_of, zero_near}
 use Rattle.fault_injector.proofs.CycleRun as one
 use Rattle.fault_injector.proofs.CycleRun.{near_more, near_if, one_longer, word_before}

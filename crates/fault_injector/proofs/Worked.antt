@@ -6,13 +6,13 @@ use Rattle.vcp_base.specs.declared.kind.Kind.TheVariants as kind
 use Rattle.vcp_base.specs.declared.kind.StopKind.TheVariants as stop
 use Rattle.vcp_base.specs.declared.ty.Ty.TheVariants as ty
 use Rattle.vcp_base.specs.Kinds.{Outcome}
-use Rattle.coded_unit.specs.Words.{modulo, value_part, coded}
+use Rattle.coded_unit.specs.Words.{modulo, value_part}
 use Rattle.op_graph.specs.declared.op.Op.{Op}
 use Rattle.op_graph.specs.Lists.{Lists}
 use Rattle.signature_table.specs.Signatures.{Numbers, signature}
 use Rattle.fault_script.specs.declared.act.Act.{Act}
 use Rattle.fault_script.specs.declared.act.Act.TheVariants as act
-use Rattle.fault_script.specs.Differences.{Frame, difference}
+use Rattle.fault_script.specs.Differences.{Frame}
 use Rattle.fault_injector.specs.Stepping.{Course, operand_under, outcome_under}
 
 abbrev on_dint : Kind → ℕ → ℕ → ℤ → Op

@@ -5,3 +5,4 @@ pub mod Accepted
 pub mod Verdicts
 pub mod RunLaw
 pub mod ScriptedRun
+pub mod Judging

@@ -50,7 +50,8 @@ abbrev pub right_under : Fault → Option ℤ → Call → Answer
 right_under f kept call = right_by (act_at_call f kept call) (word kept) call
 
 -- What a fault makes of a call: the unit inside is asked the call that is passed on, and counts its answer; at a skip it isn't asked at all.
-pub record Performed (f : Fault) (kept : Option ℤ) (call : Call) (result : Answer) (told_before told_now : Option (List Entry)) (wrong_before wrong_now : ℕ) : Type 0 where
+pub record Performed (f : Fault) (kept : Option ℤ) (call : Call) (result : Answer) (told_before told_now : Option (List Entry))
+    (wrong_before wrong_now : ℕ) : Type 0 where
   pub inner : Answer
   pub gives : result ≡ handed f kept call inner
   pub told : GrowsBy told_before told_now (cond (skips f kept call) [] ((passed f kept call, inner) ∷ []))

@@ -1,5 +1,5 @@
 -- Stepping: what an operation gives under an act, on plain integers, and the words of which its call is made.
-use Rattle.std.specs.Prelude.{◌≡◌, ℕ, ◌<◌, ◌^◌, ◌==◌, Bool, cond, nat_lt, List, [], ◌∷◌, Option, Some, None, Ok, Err, IfOk, ℤ, pos, ◌+ℤ◌, ◌-ℤ◌, ◌≤ℤ◌, neg_ℤ, unsigned_abs}
+use Rattle.std.specs.Prelude.{◌≡◌, ℕ, ◌^◌, ◌==◌, cond, nat_lt, List, Option, Some, None, Ok, Err, IfOk, ℤ, pos, ◌+ℤ◌, ◌-ℤ◌, ◌≤ℤ◌, neg_ℤ, unsigned_abs}
 use Rattle.vcp_base.specs.declared.code.Profile.{Profile}
 use Rattle.vcp_base.specs.declared.kind.Kind.{Kind}
 use Rattle.vcp_base.specs.Kinds.{operands, Outcome, outcome}

@@ -7,13 +7,13 @@ use Rattle.vcp_base.specs.declared.kind.StopKind.TheVariants as stop
 use Rattle.vcp_base.specs.Limits.{most_cycles}
 use Rattle.coded_unit.specs.declared.call.Answer.{Answer}
 use Rattle.op_graph.specs.declared.op.Outlet.{Outlet}
-use Rattle.op_graph.specs.GraphRun.{Cycle, Stop, cycle, initial, stored}
+use Rattle.op_graph.specs.GraphRun.{Cycle, Stop, cycle, initial, outputs, stored}
 use Rattle.op_graph.specs.Lists.{Lists}
 use Rattle.op_graph.specs.Rules.{IsGraph}
 use Rattle.signature_table.specs.Signatures.{Numbers, IsTable}
 use Rattle.coded_machine.specs.declared.cycle_end.CycleEnd.{CycleEnd}
 use Rattle.coded_machine.specs.declared.cycle_end.CycleEnd.TheVariants as end
-use Rattle.coded_machine.specs.CycleEnds.{end_of}
+use Rattle.coded_machine.specs.CycleEnds.{end_of, outputs_of}
 use Rattle.fault_script.specs.declared.act.Fault.{Fault}
 use Rattle.fault_script.specs.Changes.{Acts, acts_of}
 use Rattle.fault_script.specs.Differences.{Frame}
@@ -105,3 +105,12 @@ EndsAreRead =
     answers ≡ answers_under (begun t g acts n past held row) (cycle_under (begun t g acts n past held row)) →
     end_of g t n answers
     ≡ ending (stop_under g (cycle_under (begun t g acts n past held row))) (first_unaccepted t g acts n 0 g.outputs)
+
+-- Where such a cycle doesn't stop, the row of outputs that is read off its answers has the values of the run under the acts.
+abbrev pub OutputsAreRead : Type 0
+OutputsAreRead =
+    (t : Numbers) (g : Lists) (acts : Acts) (n : ℕ) (past : Frame) (held row : List ℤ) (answers : List Answer) → IsGraph g → IsTable t →
+    t.profile ≡ g.profile → n < most_cycles →
+    answers ≡ answers_under (begun t g acts n past held row) (cycle_under (begun t g acts n past held row)) →
+    stop_under g (cycle_under (begun t g acts n past held row)) ≡ None →
+    outputs_of g answers ≡ outputs g (cycle_under (begun t g acts n past held row)).values

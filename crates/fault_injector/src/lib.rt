@@ -1,9 +1,11 @@
-//! Scripted faults, carried out.
+//! Scripted faults, carried out and judged.
 //!
-//! `Scripted` is a unit around a unit: it does each call by the unit inside, but for the one that its
-//! fault is about, which it changes as the script says.
+//! `Scripted` is a unit around a unit: it does each call by the unit inside, except the one that its
+//! fault is about, which it changes as the script says. `judge::verdict` compares the run with a fault
+//! with the run without it.
 #![tactic(auto)]
 
+pub mod judge;
 mod laws;
 mod run_laws;
 mod scripted;
@@ -15,6 +17,3 @@ pub use run_laws::{
     runs_under_acts_keep_the_run_law, scripted_runs_are_right_runs,
 };
 pub use scripted::Scripted;
-
-#[cfg(test)]
-mod tests;

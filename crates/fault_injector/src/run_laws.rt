@@ -3,7 +3,7 @@
 ghost use Rattle.fault_injector.specs.FaultRun.{OneFaultRuns};
 ghost use Rattle.fault_injector.specs.RunLaw.{RunsKept, OneFaultStands};
 ghost use Rattle.fault_injector.specs.ScriptedRun.{ScriptedRunsAreRight};
-ghost use Rattle.fault_injector.specs.Verdicts.{EndsAreRead};
+ghost use Rattle.fault_injector.specs.Verdicts.{EndsAreRead, OutputsAreRead};
 
 use crate::laws::acts_keep_the_step_law;
 use coded_machine::right_answers_stand_for_values;
@@ -49,9 +49,10 @@ pub fn runs_under_acts_keep_the_run_law()
 /// Where the answers of a cycle keep the run law, its end as a machine reads it off them is the stop of the
 /// run under the acts; or else a refusal of the first output that isn't accepted, which is one whose
 /// difference isn't 0 modulo the constant of the code, with the residue that it has and the expected one;
-/// or else a release. It does nothing: it states a law.
+/// or else a release, whose row of outputs has the values of that run. It does nothing: it states a law.
 pub fn ends_under_acts_are_read_off_the_answers()
-    ensures { EndsAreRead }
+    ensures ends { EndsAreRead }
+    ensures outputs { OutputsAreRead }
 {
     operands_are_there();
     operands_are_in_their_types();

@@ -5,7 +5,9 @@ ghost use Rattle.std.specs.Prelude.{◌≡◌, ◌+◌, ◌==◌, ◌∷◌, [],
 ghost use Rattle.coded_unit.specs.Asked.{Asked};
 ghost use Rattle.coded_unit.specs.Log.{GrowsBy, Counts};
 ghost use Rattle.coded_unit.specs.Right.{Right};
-ghost use Rattle.fault_script.specs.Changes.{operand_word as operand_word_of, with_operand as with_operand_of, changed as changed_of, answered as answered_of, takes_word as takes_word_of, is_skip as is_skip_of, word_of, is_call_of as is_call_of_of, is_call_before as is_call_before_of, kept_after as kept_after_of, act_at_call, shifted as shifted_of};
+ghost use Rattle.fault_script.specs.Changes.{operand_word as operand_word_of, with_operand as with_operand_of, changed as changed_of, answered as answered_of};
+ghost use Rattle.fault_script.specs.Changes.{takes_word as takes_word_of, is_skip as is_skip_of, word_of, is_call_of as is_call_of_of};
+ghost use Rattle.fault_script.specs.Changes.{is_call_before as is_call_before_of, kept_after as kept_after_of, act_at_call, shifted as shifted_of};
 ghost use Rattle.fault_injector.specs.Scripts.{word, passed, handed, skips, right_under, Performed, StaysHonest};
 
 use coded_unit::{Answer, Call, Unit, Word, table};
@@ -67,7 +69,8 @@ impl<'u, U: Unit> Unit for Scripted<'u, U> {
         ensures same { self.new.unit.ghost_name ≡ self.old.unit.ghost_name }
         ensures fault { self.new.fault ≡ self.old.fault }
         ensures kept { self.new.kept ≡ kept_after_of self.old.fault self.old.kept call.now result }
-        ensures performed { Performed self.old.fault self.old.kept call.now result (U.log self.old.unit.now) (U.log self.new.unit.now) (U.wrong self.old.unit.now) (U.wrong self.new.unit.now) }
+        ensures performed { Performed self.old.fault self.old.kept call.now result (U.log self.old.unit.now) (U.log self.new.unit.now)
+            (U.wrong self.old.unit.now) (U.wrong self.new.unit.now) }
         ensures right { StaysHonest (U.wrong self.old.unit.now) (U.wrong self.new.unit.now) → result ≡ right_under self.old.fault self.old.kept call.now }
     {
         let given = carried_out(self.unit, &self.fault, &self.kept, call);
@@ -78,7 +81,7 @@ impl<'u, U: Unit> Unit for Scripted<'u, U> {
 }
 
 /// One call through the fault.
-#[tactic(auto, using(crate::proofs::Carrying::changed_asked, crate::proofs::Carrying::unchanged, crate::proofs::Carrying::skipped, crate::proofs::Carrying::made, crate::proofs::Carrying::right_of))]
+#[tactic(auto, using(crate::proofs::Carrying::one_call))]
 fn carried_out<U: Unit>(unit: &mut U, fault: &Fault, kept: &Option<Word>, call: &Call) -> Answer
     requires { Asked call.now }
     ensures performed { Performed fault.now kept.now call.now result (U.log unit.old) (U.log unit.new) (U.wrong unit.old) (U.wrong unit.new) }

@@ -1,5 +1,6 @@
 -- Alone: one fault alone makes the difference of its act, and none stands before it.
-use Rattle.std.proofs.Common.{◌≡◌, ℕ, zero, suc, ◌+◌, ◌<◌, ◌==◌, ◌&&◌, Bool, true, false, cond, List, [], ◌∷◌, ◌++◌, length, map, Option, Some, None, slice_get, get_or, ℤ, pos, neg_ℤ, ◌+ℤ◌, ◌-ℤ◌, ◌*ℤ◌, unsigned_abs, refl, sym, ap, subst, ◌∙◌, arith}
+use Rattle.std.proofs.Common.{◌≡◌, ℕ, zero, suc, ◌+◌, ◌<◌, ◌==◌, ◌&&◌, Bool, true, false, cond, List, [], ◌∷◌, ◌++◌, length, map, Option, Some, None, slice_get}
+use Rattle.std.proofs.Common.{get_or, ℤ, pos, neg_ℤ, ◌+ℤ◌, ◌-ℤ◌, ◌*ℤ◌, unsigned_abs, refl, sym, ap, subst, ◌∙◌, arith}
 use Rattle.std.proofs.Math.IntN.{*ℤ-zero}
 use Rattle.std.proofs.lemmas.Bool.{false≢true, eq-eqb, eqb-true}
 use Rattle.std.proofs.lemmas.Bool.Decides.{nat_tests}
@@ -18,7 +19,8 @@ use Rattle.fault_script.specs.declared.act.Act.{Act}
 use Rattle.fault_script.specs.declared.act.Act.TheVariants as act
 use Rattle.fault_script.specs.declared.act.Fault.{Fault}
 use Rattle.fault_script.specs.Changes.{Acts, acts_of}
-use Rattle.fault_script.specs.Differences.{Frame, origin, read, read_as, brought, exchanged, difference, given_from, held_after, cycle_after, no_frame, frame, difference_at, made, OneFault}
+use Rattle.fault_script.specs.Differences.{Frame, origin, read, read_as, brought, exchanged, difference, given_from, held_after, cycle_after, no_frame, frame}
+use Rattle.fault_script.specs.Differences.{difference_at, made, OneFault}
 
 -- ---- no differences
 
@@ -51,7 +53,8 @@ weighed_zeros k a b c e f g =
     omega (arith, ints, first, second, third)
 
 brought_zero : (f : Frame) (op : Op) (k : Kind) → Quiet f → brought f op k ≡ pos 0
-brought_zero f op k h = weighed_zeros k (read f op 0) (read f op 1) (read f op 2) (read_zero f op 0 h op.kind) (read_zero f op 1 h op.kind) (read_zero f op 2 h op.kind)
+brought_zero f op k h =
+    weighed_zeros k (read f op 0) (read f op 1) (read f op 2) (read_zero f op 0 h op.kind) (read_zero f op 1 h op.kind) (read_zero f op 2 h op.kind)
 
 -- ---- the simple table
 
@@ -67,15 +70,18 @@ from_alone d b e x h k = omega (arith, ints, h, k)
 stale_alone : (d s x : ℤ) → d ≡ pos 0 → x ≡ pos 0 → d -ℤ s -ℤ x ≡ neg_ℤ s
 stale_alone d s x h k = omega (arith, ints, h, k)
 
-made_alone : (t : Numbers) (g : Lists) (past now : Frame) (k : ℕ) (op : Op) (a : Act) → Quiet past → Quiet now → difference t g past now k op (Some a) ≡ made t g op a
+made_alone : (t : Numbers) (g : Lists) (past now : Frame) (k : ℕ) (op : Op) (a : Act) → Quiet past → Quiet now
+    → difference t g past now k op (Some a) ≡ made t g op a
 made_alone t g past now k op (act.OperandAdd j e) h q = zero_and (brought now op op.kind) (multiplier op.kind j *ℤ e) (brought_zero now op op.kind q)
 made_alone t g past now k op (act.OperandFrom j r) h q =
     zero_and (brought now op op.kind) _ (brought_zero now op op.kind q)
     ∙ ap (λ (z : ℤ). multiplier op.kind j *ℤ z)
-    (from_alone (at now.given r) (pos (signature t.profile t.seed r)) (origin t g op j) (read now op j) (at_zeros now.given r q.given) (read_zero now op j q op.kind))
+    (from_alone (at now.given r) (pos (signature t.profile t.seed r)) (origin t g op j) (read now op j) (at_zeros now.given r q.given)
+    (read_zero now op j q op.kind))
 made_alone t g past now k op (act.OperandStale j) h q =
     zero_and (brought now op op.kind) _ (brought_zero now op op.kind q)
-    ∙ ap (λ (z : ℤ). multiplier op.kind j *ℤ z) (stale_alone (read past op j) (pos t.step) (read now op j) (read_zero past op j h op.kind) (read_zero now op j q op.kind))
+    ∙ ap (λ (z : ℤ). multiplier op.kind j *ℤ z)
+    (stale_alone (read past op j) (pos t.step) (read now op j) (read_zero past op j h op.kind) (read_zero now op j q op.kind))
 made_alone t g past now k op (act.ResultAdd e) h q = zero_and (brought now op op.kind) e (brought_zero now op op.kind q)
 made_alone t g past now k op (act.Operator other) h q = zero_and (brought now op other) _ (brought_zero now op other q)
 made_alone t g past now k op act.Skip h q = zero_less (at past.given k) (pos t.step) (at_zeros past.given k h.given)
@@ -85,7 +91,8 @@ made_alone t g past now k op act.Skip h q = zero_less (at past.given k) (pos t.s
 none_zero : (t : Numbers) (g : Lists) (past now : Frame) (k : ℕ) (op : Op) (a : Option Act) → a ≡ None → Quiet now → difference t g past now k op a ≡ pos 0
 none_zero t g past now k op a e q = ap (difference t g past now k op) e ∙ brought_zero now op op.kind q
 
-quiet_from : (t : Numbers) (g : Lists) (acts : ℕ → Option Act) (past : Frame) (held before : List ℤ) (k : ℕ) (ops : List Op) → ((i : ℕ) → acts i ≡ None) → Zeros held → Zeros before
+quiet_from : (t : Numbers) (g : Lists) (acts : ℕ → Option Act) (past : Frame) (held before : List ℤ) (k : ℕ) (ops : List Op) → ((i : ℕ) → acts i ≡ None)
+    → Zeros held → Zeros before
     → Zeros (given_from t g acts past held before k ops)
 quiet_from t g acts past held before k [] none h b = b
 quiet_from t g acts past held before k (op ∷ ops) none h b =
@@ -111,7 +118,8 @@ other_cycle f n k below =
 quiet_before : (t : Numbers) (g : Lists) (f : Fault) (n : ℕ) → n < f.cycle → Quiet (frame t g (acts_of (f ∷ [])) n)
 quiet_before t g f zero below = quiet_after t g (acts_of (f ∷ []) 0) no_frame (λ i. other_cycle f 0 i below) (record { held = tt; given = tt })
 quiet_before t g f (suc n) below =
-    quiet_after t g (acts_of (f ∷ []) (suc n)) (frame t g (acts_of (f ∷ [])) n) (λ i. other_cycle f (suc n) i below) (quiet_before t g f n (omega (arith, below)))
+    quiet_after t g (acts_of (f ∷ []) (suc n)) (frame t g (acts_of (f ∷ [])) n) (λ i. other_cycle f (suc n) i below)
+    (quiet_before t g f n (omega (arith, below)))
 
 -- ---- the fault's cycle
 
@@ -121,7 +129,8 @@ stay_from : (t : Numbers) (g : Lists) (acts : ℕ → Option Act) (past : Frame)
 stay_from t g acts past held before k [] i below = refl
 stay_from t g acts past held before k (op ∷ ops) i below =
     let d = difference t g past (record { held = held; given = before }) k op (acts k) in
-    stay_from t g acts past held (before ++ d ∷ []) (k + 1) ops i (omega (arith, below, length-append before (d ∷ []))) ∙ get_or_append_left before (d ∷ []) (pos 0) i below
+    stay_from t g acts past held (before ++ d ∷ []) (k + 1) ops i (omega (arith, below, length-append before (d ∷ [])))
+    ∙ get_or_append_left before (d ∷ []) (pos 0) i below
 
 last_of : (before : List ℤ) (d : ℤ) → at (before ++ d ∷ []) (length before) ≡ d
 last_of [] d = refl
@@ -144,15 +153,18 @@ record Stands (ds : List ℤ) (k : ℕ) (d : ℤ) : Type 0 where
   there : at ds k ≡ d
 
 -- the operations from k on, of which the one after `more` others has the act
-fault_from : (t : Numbers) (g : Lists) (acts : ℕ → Option Act) (past : Frame) (held before : List ℤ) (k : ℕ) (ops : List Op) (more : ℕ) (op : Op) (a : Act) → Quiet past → Zeros held → Zeros before
-    → length before ≡ k → ((i : ℕ) → i < k + more → acts i ≡ None) → acts (k + more) ≡ Some a → slice_get ops more ≡ Some op → Stands (given_from t g acts past held before k ops) (k + more) (made t g op a)
+fault_from : (t : Numbers) (g : Lists) (acts : ℕ → Option Act) (past : Frame) (held before : List ℤ) (k : ℕ) (ops : List Op) (more : ℕ) (op : Op) (a : Act)
+    → Quiet past → Zeros held → Zeros before
+    → length before ≡ k → ((i : ℕ) → i < k + more → acts i ≡ None) → acts (k + more) ≡ Some a → slice_get ops more ≡ Some op
+    → Stands (given_from t g acts past held before k ops) (k + more) (made t g op a)
 fault_from t g acts past held before k [] more op a q h b many none some there = absurd (nothing_there more op there)
 fault_from t g acts past held before k (o ∷ ops) zero op a q h b many none some there =
     let now : Frame = record { held = held; given = before } in
     let d = difference t g past now k o (acts k) in
     let same : o ≡ op = some_same o op ops there in
     let is : acts k ≡ Some a = ap acts (sym (plus_zero k)) ∙ some in
-    let value : d ≡ made t g op a = ap (difference t g past now k o) is ∙ (made_alone t g past now k o a q (record { held = h; given = b }) ∙ ap (λ (x : Op). made t g x a) same) in
+    let value : d ≡ made t g op a = ap (difference t g past now k o) is
+    ∙ (made_alone t g past now k o a q (record { held = h; given = b }) ∙ ap (λ (x : Op). made t g x a) same) in
     let whole = given_from t g acts past held (before ++ d ∷ []) (k + 1) ops in
     let room : length (before ++ d ∷ []) ≡ k + 1 = length-append before (d ∷ []) ∙ ap (λ (n : ℕ). n + 1) many in
     record {
@@ -196,9 +208,11 @@ in_cycle t g f op past q there =
     (fault_from t g (acts_of (f ∷ []) f.cycle) past (held_after g past.given) [] 0 g.operations f.op op f.act q (held_zeros past.given g.stores q.given) tt refl
     (λ i below. earlier_op f i (omega (arith, below))) (ap (acts_of (f ∷ []) f.cycle) (zero_plus f.op) ∙ this_op f) there)
 
-in_frame : (t : Numbers) (g : Lists) (f : Fault) (op : Op) (n : ℕ) → f.cycle ≡ n → slice_get g.operations f.op ≡ Some op → Stands (frame t g (acts_of (f ∷ [])) n).given f.op (made t g op f.act)
+in_frame : (t : Numbers) (g : Lists) (f : Fault) (op : Op) (n : ℕ) → f.cycle ≡ n → slice_get g.operations f.op ≡ Some op
+    → Stands (frame t g (acts_of (f ∷ [])) n).given f.op (made t g op f.act)
 in_frame t g f op zero e there =
-    subst (λ (n : ℕ). Stands (cycle_after t g (acts_of (f ∷ []) n) no_frame).given f.op (made t g op f.act)) e (in_cycle t g f op no_frame (record { held = tt; given = tt }) there)
+    subst (λ (n : ℕ). Stands (cycle_after t g (acts_of (f ∷ []) n) no_frame).given f.op (made t g op f.act)) e
+    (in_cycle t g f op no_frame (record { held = tt; given = tt }) there)
 in_frame t g f op (suc n) e there =
     subst (λ (m : ℕ). Stands (cycle_after t g (acts_of (f ∷ []) m) (frame t g (acts_of (f ∷ [])) n)).given f.op (made t g op f.act)) e
     (in_cycle t g f op (frame t g (acts_of (f ∷ [])) n) (quiet_before t g f n (omega (arith, e))) there)

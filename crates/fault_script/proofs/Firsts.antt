@@ -1,5 +1,6 @@
 -- Firsts: the first line of a text, and the first word of a line.
-use Rattle.std.proofs.Common.{◌≡◌, ℕ, zero, suc, ◌+◌, ◌-◌, ◌==◌, ◌<◌, ◌≤◌, Bool, true, false, not, cond, List, [], ◌∷◌, length, take, drop, Option, Some, None, get_or, unwrap_or, refl, sym, subst, ap, ◌∙◌, arith, slice_index, inl, inr}
+use Rattle.std.proofs.Common.{◌≡◌, ℕ, zero, suc, ◌+◌, ◌-◌, ◌==◌, ◌<◌, ◌≤◌, Bool, true, false, not, cond, List, [], ◌∷◌, length, take, drop, Option, Some, None}
+use Rattle.std.proofs.Common.{get_or, unwrap_or, refl, sym, subst, ap, ◌∙◌, arith, slice_index, inl, inr}
 use Rattle.std.specs.List.{filter, slice_split, position_or_len, before_first, after_first, count_by, prefix_len}
 use Rattle.std.specs.Str.Lines.{lines, lines_of_parts, strip_carriage_return}
 use Rattle.std.proofs.lemmas.Bool.{false≢true, cases_lt}
@@ -19,9 +20,11 @@ not_true false h = refl
 -- the place that a search gives, or the length
 pub first_place : (test : ℕ → Bool) (text : List ℕ) (r : Option ℕ) → IsFirstByte test text r → unwrap_or r (length text) ≡ position_or_len test text
 first_place test text None h =
-    sym (position_or_len_is test text (length text) 0 (omega arith) (λ k below. not_true (test (slice_index text k)) (h k (omega arith) below)) (λ l. absurd (omega arith)))
+    sym (position_or_len_is test text (length text) 0 (omega arith) (λ k below. not_true (test (slice_index text k)) (h k (omega arith) below))
+    (λ l. absurd (omega arith)))
 first_place test text (Some i) h =
-    sym (position_or_len_is test text i 0 (omega (arith, h.0.high)) (λ k below. not_true (test (slice_index text k)) (h.0.before k (omega arith) below)) (λ l. h.1))
+    sym (position_or_len_is test text i 0 (omega (arith, h.0.high)) (λ k below. not_true (test (slice_index text k)) (h.0.before k (omega arith) below))
+    (λ l. h.1))
 
 -- where no element passes, the list is the one part
 one_part : (p : ℕ → Bool) (text : List ℕ) → position_or_len p text ≡ length text → slice_split p text ≡ text ∷ []
@@ -53,7 +56,8 @@ before_parts line [] some = absurd (omega arith)
 before_parts line (part ∷ parts) some = refl
 
 -- the first line, where it has its LF
-pub ended_line : (text : List ℕ) (end : ℕ) → end ≡ position_or_len is_feed text → end < length text → lines text ≡ strip_carriage_return (take end text) ∷ lines (drop (end + 1) text)
+pub ended_line : (text : List ℕ) (end : ℕ) → end ≡ position_or_len is_feed text → end < length text
+    → lines text ≡ strip_carriage_return (take end text) ∷ lines (drop (end + 1) text)
 ended_line text end is within =
     let inside : position_or_len is_feed text < length text = omega (arith, is, within) in
     let behind = after_first is_feed text in
@@ -66,7 +70,8 @@ blank_before : (c : ℕ) (text : List ℕ) → is_blank c ≡ true → words (c 
 blank_before c text e = ap (filter is_word) (slice_split-cons_yes is_blank c text e)
 
 -- blanks at the start don't count
-unindent : (c : ℕ) (text : List ℕ) (b : Bool) → is_blank c ≡ b → words text ≡ words (unindented text) → words (c ∷ text) ≡ words (cond b (unindented text) (c ∷ text))
+unindent : (c : ℕ) (text : List ℕ) (b : Bool) → is_blank c ≡ b → words text ≡ words (unindented text)
+    → words (c ∷ text) ≡ words (cond b (unindented text) (c ∷ text))
 unindent c text true is more = blank_before c text is ∙ more
 unindent c text false is more = refl
 
@@ -122,16 +127,19 @@ unindented_end [] e = refl
 unindented_end (c ∷ text) e = end_step c text (is_blank c) refl (unindented_end text) e
 
 -- the word at the front, and those behind it
-pub word_next : (text : List ℕ) (end : ℕ) → end ≡ position_or_len is_blank (unindented text) → (end ≡ 0 → ⊥) → words text ≡ take end (unindented text) ∷ words (drop end (unindented text))
+pub word_next : (text : List ℕ) (end : ℕ) → end ≡ position_or_len is_blank (unindented text) → (end ≡ 0 → ⊥)
+    → words text ≡ take end (unindented text) ∷ words (drop end (unindented text))
 word_next text end is some = words_unindented text ∙ front_word (unindented text) end is (omega (arith, some))
 
-pub no_word : (text : List ℕ) (end : ℕ) → end ≡ position_or_len is_blank (unindented text) → end ≡ 0 → (words text ≡ []) × (words (drop end (unindented text)) ≡ [])
+pub no_word : (text : List ℕ) (end : ℕ) → end ≡ position_or_len is_blank (unindented text) → end ≡ 0
+    → (words text ≡ []) × (words (drop end (unindented text)) ≡ [])
 no_word text end is none =
     let empty : unindented text ≡ [] = unindented_end text (sym is ∙ none) in
     (words_unindented text ∙ ap words empty, rw (none, empty) refl)
 
 -- no word is left exactly where only blanks are
-end_of : (front : List ℕ) (end : ℕ) → end ≡ position_or_len is_blank front → (position_or_len is_blank front ≡ 0 → front ≡ []) → (length front == 0) ≡ is_end (words front)
+end_of : (front : List ℕ) (end : ℕ) → end ≡ position_or_len is_blank front → (position_or_len is_blank front ≡ 0 → front ≡ [])
+    → (length front == 0) ≡ is_end (words front)
 end_of [] end is none = refl
 end_of (c ∷ front) zero is none = let lengths : suc (length front) ≡ 0 = ap length (none (sym is)) in absurd (omega (arith, lengths))
 end_of (c ∷ front) (suc n) is none = nonzero (length (c ∷ front)) (omega arith) ∙ sym (ap is_end (front_word (c ∷ front) (suc n) is (omega arith)))

@@ -42,7 +42,8 @@ at_first : (g : Lists) (faults : List Fault) (number : ℕ) (text line more : Li
     ≡ from_lines g faults (cond b (fault_lines (number + 1) (lines more)) (record { number = number; text = line } ∷ fault_lines (number + 1) (lines more)))
 at_first g faults number text line more b is skips =
     ap (λ (ls : List (List ℕ)). from_lines g faults (fault_lines number ls)) is
-    ∙ ap (λ (b : Bool). from_lines g faults (cond b (fault_lines (number + 1) (lines more)) (record { number = number; text = line } ∷ fault_lines (number + 1) (lines more)))) skips
+    ∙ ap (λ (b : Bool). from_lines g faults
+    (cond b (fault_lines (number + 1) (lines more)) (record { number = number; text = line } ∷ fault_lines (number + 1) (lines more)))) skips
 
 pub skipped : (g : Lists) (faults : List Fault) (number : ℕ) (text line more : List ℕ) → lines text ≡ line ∷ lines more → is_skipped line ≡ true →
     script_from g faults number text ≡ script_from g faults (number + 1) more
@@ -56,12 +57,14 @@ takes g faults f told ls is =
     ∙ (behind_onto faults f (all_or_first (said g (length faults + 1) ls)) ∙ ap (λ (n : ℕ). behind (faults ++ f ∷ []) (all_or_first (said g n ls))) many)
 
 pub taken : (g : Lists) (faults : List Fault) (number : ℕ) (text line more : List ℕ) (f : Fault) → lines text ≡ line ∷ lines more → is_skipped line ≡ false →
-    said_after g (length faults) (record { number = number; text = line }) ≡ Ok f → script_from g faults number text ≡ script_from g (faults ++ f ∷ []) (number + 1) more
+    said_after g (length faults) (record { number = number; text = line }) ≡ Ok f → script_from g faults number text ≡ script_from g (faults ++ f ∷ [])
+    (number + 1) more
 taken g faults number text line more f is skips told =
     at_first g faults number text line more false is skips
     ∙ takes g faults f (said_after g (length faults) (record { number = number; text = line })) (fault_lines (number + 1) (lines more)) told
 
-pub refused : (g : Lists) (faults : List Fault) (number : ℕ) (text line more : List ℕ) (why : ScriptFault) → lines text ≡ line ∷ lines more → is_skipped line ≡ false →
+pub refused : (g : Lists) (faults : List Fault) (number : ℕ) (text line more : List ℕ) (why : ScriptFault) → lines text ≡ line ∷ lines more
+    → is_skipped line ≡ false →
     said_after g (length faults) (record { number = number; text = line }) ≡ Err why → script_from g faults number text ≡ Err why
 refused g faults number text line more why is skips told =
     at_first g faults number text line more false is skips

@@ -1,5 +1,6 @@
 -- Written: what words write.
-use Rattle.std.proofs.Common.{◌≡◌, ℕ, ◌+◌, Bool, true, false, cond, ◌&&◌, List, [], ◌∷◌, drop, get_or, length, bytes_eq, Option, Some, None, option_and_then, ℤ, pos, neg_ℤ, int_le, slice_get, refl, sym, ap, ◌∙◌, arith, inl, inr}
+use Rattle.std.proofs.Common.{◌≡◌, ℕ, ◌+◌, Bool, true, false, cond, ◌&&◌, List, [], ◌∷◌, drop, get_or, length, bytes_eq, Option, Some, None, option_and_then, ℤ}
+use Rattle.std.proofs.Common.{pos, neg_ℤ, int_le, slice_get, refl, sym, ap, ◌∙◌, arith, inl, inr}
 use Rattle.std.proofs.lemmas.Bool.{false≢true, cases_lt}
 use Rattle.std.proofs.lemmas.Int.{ints}
 use Rattle.std.proofs.lemmas.List.{drop_all, drop_more}
@@ -32,7 +33,8 @@ cut_addend (Some e) = addend_of_fitting e (fits ty.Lint e) (is_addend e) refl re
 pub kind_at : (word : List ℕ) (code : ℕ) (k : Kind) (b : Bool) → slice_get kinds code ≡ Some k → bytes_eq word (kind_name k) ≡ b →
     first_named word (drop code kinds) ≡ cond b (Some k) (first_named word (drop (code + 1) kinds))
 kind_at word code k b at is =
-    let here : drop code kinds ≡ k ∷ drop (code + 1) kinds = drop_more kinds code k (slice_get_within kinds code k at) ∙ ap (λ (x : Kind). x ∷ drop (code + 1) kinds) (get_or_from_slice_get kinds code k k at) in
+    let here : drop code kinds ≡ k ∷ drop (code + 1) kinds = drop_more kinds code k (slice_get_within kinds code k at)
+    ∙ ap (λ (x : Kind). x ∷ drop (code + 1) kinds) (get_or_from_slice_get kinds code k k at) in
     ap (first_named word) here ∙ ap (λ (b : Bool). cond b (Some k) (first_named word (drop (code + 1) kinds))) is
 
 -- past the last of them

@@ -2,7 +2,8 @@
 
 ghost use Rattle.std.specs.Prelude.{◌≡◌, ◌<◌, true, IfSome};
 ghost use Rattle.vcp_base.specs.Limits.{most_cycles};
-ghost use Rattle.fault_script.specs.Forms.{operand_change as operand_change_of, operand_act as operand_act_of, result_act as result_act_of, operator_act as operator_act_of, skip_act as skip_act_of, act_of, change_of, words as words_of};
+ghost use Rattle.fault_script.specs.Forms.{operand_change as operand_change_of, operand_act as operand_act_of, result_act as result_act_of};
+ghost use Rattle.fault_script.specs.Forms.{operator_act as operator_act_of, skip_act as skip_act_of, act_of, change_of, words as words_of};
 ghost use Rattle.fault_script.specs.Fits.{is_moderate};
 
 use crate::act::Act;

@@ -20,6 +20,3 @@ pub use laws::one_fault_makes_its_difference;
 pub use reader::{MOST_FAULTS, read_script};
 pub use script::Script;
 pub use script_fault::ScriptFault;
-
-#[cfg(test)]
-mod tests;

@@ -30,7 +30,8 @@ fn take(script: &mut Script, graph: &Graph, line: u32, text: &[u8]) -> Result<()
     ensures ok { OnOk result (Appends (said_after graph.now (length script.old) (record { number = line; text = text.now })) script.old script.new) }
     ensures fits { All (Fits graph.now) script.old → All (Fits graph.now) script.new }
     ensures few { length script.old ≤ most_faults → length script.new ≤ most_faults }
-    ensures refusal { IfErr result (λ f. f ≢ ScriptFault.Memory → said_after graph.now (length script.old) (record { number = line; text = text.now }) ≡ Err f) }
+    ensures refusal { IfErr result (λ f. f ≢ ScriptFault.Memory
+        → said_after graph.now (length script.old) (record { number = line; text = text.now }) ≡ Err f) }
 {
     if script.len() >= MOST_FAULTS {
         return Err(ScriptFault::Faults { line });

@@ -10,8 +10,11 @@ use Rattle.run_report.specs.AuditLines.{reached_text, blind_text}
 use Rattle.run_report.specs.FaultLines.{verdict_text, totals_of, totals_text}
 use Rattle.run_report.proofs.OperationRows.{adding, on}
 
-verdicts : verdict_text (adding profile.Narrow ty.Dint) 1 (verdict.Wrong 0 0 (pos 7) (pos 6)) ++ (verdict_text (adding profile.Narrow ty.Dint) 2 (verdict.Refused 0 0 429496731 644245096)
-    ++ (verdict_text (adding profile.Narrow ty.Dint) 3 (verdict.Stopped 0 2 stop.Operand) ++ (verdict_text (adding profile.Narrow ty.Int) 4 (verdict.RanOn 0) ++ verdict_text (adding profile.Narrow ty.Int) 5 verdict.Same)))
+verdicts : verdict_text (adding profile.Narrow ty.Dint) 1 (verdict.Wrong 0 0 (pos 7) (pos 6))
+    ++ (verdict_text (adding profile.Narrow ty.Dint) 2 (verdict.Refused 0 0 429496731 644245096)
+    ++ (verdict_text (adding profile.Narrow ty.Dint) 3
+    (verdict.Stopped 0 2 stop.Operand)
+    ++ (verdict_text (adding profile.Narrow ty.Int) 4 (verdict.RanOn 0) ++ verdict_text (adding profile.Narrow ty.Int) 5 verdict.Same)))
     ≡ codes "1 wrong 0 y got 7 want 6\n2 refused 0 y found 429496731 expected 644245096\n3 stopped 0 2 OPERAND 4:8\n4 ran-on 0\n5 same\n"
 unfolding digits
 verdicts = refl
@@ -20,12 +23,14 @@ wrong_below_zero : verdict_text (adding profile.Narrow ty.Dint) 1 (verdict.Wrong
 unfolding digits
 wrong_below_zero = refl
 
-totals_of_three : totals_text (totals_of (verdict.Wrong 0 0 (pos 7) (pos 6) ∷ verdict.Refused 0 0 429496731 644245096 ∷ verdict.Refused 0 0 214748366 644245096 ∷ []))
+totals_of_three : totals_text
+    (totals_of (verdict.Wrong 0 0 (pos 7) (pos 6) ∷ verdict.Refused 0 0 429496731 644245096 ∷ verdict.Refused 0 0 214748366 644245096 ∷ []))
     ≡ codes "faults 3 same 0 wrong 1 ran-on 0 refused 2 stopped 0\n"
 unfolding digits
 totals_of_three = refl
 
-totals_of_each : totals_text (totals_of (verdict.Same ∷ verdict.Wrong 1 0 (pos 1) (pos 0) ∷ verdict.RanOn 0 ∷ verdict.Refused 3 0 1 2 ∷ verdict.Stopped 5 32 stop.Operand ∷ []))
+totals_of_each : totals_text
+    (totals_of (verdict.Same ∷ verdict.Wrong 1 0 (pos 1) (pos 0) ∷ verdict.RanOn 0 ∷ verdict.Refused 3 0 1 2 ∷ verdict.Stopped 5 32 stop.Operand ∷ []))
     ≡ codes "faults 5 same 1 wrong 1 ran-on 1 refused 1 stopped 1\n"
 unfolding digits
 totals_of_each = refl
@@ -34,6 +39,7 @@ totals_of_none : totals_text (totals_of []) ≡ codes "faults 0 same 0 wrong 0 r
 unfolding digits
 totals_of_none = refl
 
-audited : reached_text (codes "y") 0 3 1 ++ (blind_text 0 kind.Input ++ reached_text (codes "lights") 8 51 0) ≡ codes "y 0 reached 3 blind 1\nblind 0 INPUT\nlights 8 reached 51 blind 0\n"
+audited : reached_text (codes "y") 0 3 1 ++ (blind_text 0 kind.Input ++ reached_text (codes "lights") 8 51 0)
+    ≡ codes "y 0 reached 3 blind 1\nblind 0 INPUT\nlights 8 reached 51 blind 0\n"
 unfolding digits
 audited = refl

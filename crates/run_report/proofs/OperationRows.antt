@@ -48,15 +48,18 @@ turning = record (nothing profile.Narrow) { names = codes "x" ∷ codes "i" ∷ 
 numbers : List ℕ → Numbers
 numbers corrections = record { profile = profile.Narrow; seed = 0; step = 1; corrections = corrections }
 
-in_a_turn : list_text turning (numbers (0 ∷ 0 ∷ 0 ∷ 0 ∷ 0 ∷ 0 ∷ 0 ∷ 0 ∷ 0 ∷ 2147483646 ∷ [])) 9 (record (on kind.Mul ty.Int 7 0 (pos 0) 7 10) { turn = 1 }) ≡ codes "9 MUL INT INT 7 0 sig 858993461 cor 2147483646 at 7:10 i=4\n"
+in_a_turn : list_text turning (numbers (0 ∷ 0 ∷ 0 ∷ 0 ∷ 0 ∷ 0 ∷ 0 ∷ 0 ∷ 0 ∷ 2147483646 ∷ [])) 9 (record (on kind.Mul ty.Int 7 0 (pos 0) 7 10) { turn = 1 })
+    ≡ codes "9 MUL INT INT 7 0 sig 858993461 cor 2147483646 at 7:10 i=4\n"
 unfolding digits turning numbers signature
 in_a_turn = refl
 
-of_a_load : list_text turning (numbers (1288490188 ∷ [])) 0 (on kind.Load ty.Dint 0 0 (pos 0) 3 5) ≡ codes "0 LOAD DINT DINT cell 0 sig 0 cor 1288490188 at 3:5\n"
+of_a_load : list_text turning (numbers (1288490188 ∷ [])) 0 (on kind.Load ty.Dint 0 0 (pos 0) 3 5)
+    ≡ codes "0 LOAD DINT DINT cell 0 sig 0 cor 1288490188 at 3:5\n"
 unfolding digits turning numbers signature
 of_a_load = refl
 
-of_a_negative_constant : list_text turning (numbers (429496730 ∷ [])) 0 (on kind.Const ty.Int 0 0 (negsuc 4) 6 3) ≡ codes "0 CONST INT INT val -5 sig 0 cor 429496730 at 6:3\n"
+of_a_negative_constant : list_text turning (numbers (429496730 ∷ [])) 0 (on kind.Const ty.Int 0 0 (negsuc 4) 6 3)
+    ≡ codes "0 CONST INT INT val -5 sig 0 cor 429496730 at 6:3\n"
 unfolding digits turning numbers signature
 of_a_negative_constant = refl
 
@@ -64,19 +67,24 @@ of_a_negative_constant = refl
 code : Profile → Numbers
 code p = record { profile = p; seed = 0; step = 1; corrections = [] }
 
-sum_traced : trace_text profile.Narrow (code profile.Narrow) 0 0 kind.Input (pos 10737418236) ++ (trace_text profile.Narrow (code profile.Narrow) 1 0 kind.Const (pos 2362232013)
-    ++ (trace_text profile.Narrow (code profile.Narrow) 2 0 kind.Add (pos 13314398613) ++ trace_text profile.Narrow (code profile.Narrow) 3 0 kind.Out (pos 13529146978)))
+sum_traced : trace_text profile.Narrow (code profile.Narrow) 0 0 kind.Input (pos 10737418236)
+    ++ (trace_text profile.Narrow (code profile.Narrow) 1 0 kind.Const (pos 2362232013)
+    ++ (trace_text profile.Narrow (code profile.Narrow) 2 0 kind.Add (pos 13314398613) ++ trace_text profile.Narrow (code profile.Narrow) 3 0 kind.Out
+    (pos 13529146978)))
     ≡ codes "0 INPUT 10737418236 5 1 1\n1 CONST 2362232013 1 214748366 214748366\n2 ADD 13314398613 6 429496731 429496731\n3 OUT 13529146978 6 644245096 644245096\n"
 unfolding digits code signature value_part modulo
 sum_traced = refl
 
-wide_sum_traced : trace_text profile.Wide (code profile.Wide) 0 0 kind.Input (pos 11529215046068469756) ++ (trace_text profile.Wide (code profile.Wide) 1 0 kind.Const (pos 3228180212899171533)
-    ++ (trace_text profile.Wide (code profile.Wide) 2 0 kind.Add (pos 14526810958046271893) ++ trace_text profile.Wide (code profile.Wide) 3 0 kind.Out (pos 14296226657124902498)))
+wide_sum_traced : trace_text profile.Wide (code profile.Wide) 0 0 kind.Input (pos 11529215046068469756)
+    ++ (trace_text profile.Wide (code profile.Wide) 1 0 kind.Const (pos 3228180212899171533)
+    ++ (trace_text profile.Wide (code profile.Wide) 2 0 kind.Add (pos 14526810958046271893) ++ trace_text profile.Wide (code profile.Wide) 3 0 kind.Out
+    (pos 14296226657124902498)))
     ≡ codes "0 INPUT 11529215046068469756 5 1 1\n1 CONST 3228180212899171533 1 922337203685477582 922337203685477582\n2 ADD 14526810958046271893 6 691752902764108187 691752902764108187\n3 OUT 14296226657124902498 6 461168601842738792 461168601842738792\n"
 unfolding digits code signature value_part modulo
 wide_sum_traced = refl
 
-later_cycle_traced : trace_text profile.Narrow (code profile.Narrow) 0 1 kind.Load (pos 2147483649) ++ trace_text profile.Narrow (code profile.Narrow) 4 1 kind.Store (pos 5153960756)
+later_cycle_traced : trace_text profile.Narrow (code profile.Narrow) 0 1 kind.Load (pos 2147483649)
+    ++ trace_text profile.Narrow (code profile.Narrow) 4 1 kind.Store (pos 5153960756)
     ≡ codes "0 LOAD 2147483649 1 2 2\n4 STORE 5153960756 2 858993462 858993462\n"
 unfolding digits code signature value_part modulo
 later_cycle_traced = refl

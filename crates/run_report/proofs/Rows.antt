@@ -33,11 +33,15 @@ stop_outside_a_loop : stop_text 1 (record { kind = stop.DivZero; spot = record {
 unfolding digits
 stop_outside_a_loop = refl
 
-stop_in_a_loop : stop_text 0 (told_stop (codes "x" ∷ codes "y" ∷ codes "i" ∷ []) stop.Range (record { line = 7; col = 10 }) (record { name = 2; value = pos 4 } ∷ [])) ≡ codes "stop 0 RANGE 7:10 i=4\n"
+stop_in_a_loop : stop_text 0
+    (told_stop (codes "x" ∷ codes "y" ∷ codes "i" ∷ []) stop.Range (record { line = 7; col = 10 }) (record { name = 2; value = pos 4 } ∷ []))
+    ≡ codes "stop 0 RANGE 7:10 i=4\n"
 unfolding digits
 stop_in_a_loop = refl
 
-stop_in_two_loops : stop_text 12 (told_stop (codes "inner" ∷ codes "Outer" ∷ []) stop.Operand (record { line = 30; col = 1 }) (record { name = 1; value = negsuc 0 } ∷ record { name = 0; value = pos 20 } ∷ [])) ≡ codes "stop 12 OPERAND 30:1 Outer=-1 inner=20\n"
+stop_in_two_loops : stop_text 12
+    (told_stop (codes "inner" ∷ codes "Outer" ∷ []) stop.Operand (record { line = 30; col = 1 })
+    (record { name = 1; value = negsuc 0 } ∷ record { name = 0; value = pos 20 } ∷ [])) ≡ codes "stop 12 OPERAND 30:1 Outer=-1 inner=20\n"
 unfolding digits
 stop_in_two_loops = refl
 

@@ -35,13 +35,15 @@ told_next names all left turn P Q told is goes = record {
   text = rw (flat_map_more (λ t. turn_text (told_turn names t)) [] told.front turn) at (goes (turns_text names told.front) told.text);
 }
 
-pub told_all : (names : List (List ℕ)) (all left : List Turn) (P : List ℕ → Type 0) → Told names all left P → left ≡ [] → P (flat_map turn_text (map (told_turn names) all))
+pub told_all : (names : List (List ℕ)) (all left : List Turn) (P : List ℕ → Type 0) → Told names all left P → left ≡ []
+    → P (flat_map turn_text (map (told_turn names) all))
 told_all names all left P told none =
     let whole : told.front ≡ all = sym (append-nil told.front) ∙ ap (λ l. told.front ++ l) (sym none) ∙ told.joined in
     rw (flat_map-map turn_text (told_turn names) all, ← whole) told.text
 
 -- what is left keeps its names
-pub named_left : (names : List (List ℕ)) (left : List Turn) (turn : Turn) → AreNamed left names → left ≡ turn ∷ drop 1 left → turn.name < length names × AreNamed (drop 1 left) names
+pub named_left : (names : List (List ℕ)) (left : List Turn) (turn : Turn) → AreNamed left names → left ≡ turn ∷ drop 1 left
+    → turn.name < length names × AreNamed (drop 1 left) names
 named_left names left turn named is =
     let all : AreNamed (turn ∷ drop 1 left) names = subst (λ l. AreNamed l names) is named in
     (All-head (λ (t : Turn). t.name < length names) turn (drop 1 left) all, All-tail (λ (t : Turn). t.name < length names) turn (drop 1 left) all)

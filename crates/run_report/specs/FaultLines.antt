@@ -1,5 +1,5 @@
 -- The lines of a script of faults. Each ends with LF.
-use Rattle.std.specs.Prelude.{ℕ, ℤ, ◌+◌, ◌<◌, List, [], ◌∷◌, ◌++◌, length, Option, Some, None, slice_get, decimal, codes, map, flat_map}
+use Rattle.std.specs.Prelude.{ℕ, ℤ, ◌+◌, List, [], ◌∷◌, ◌++◌, Option, Some, None, slice_get, decimal, codes, map, flat_map}
 use Rattle.std.specs.Fmt.{signed_decimal}
 use Rattle.vcp_base.specs.declared.kind.StopKind.{StopKind}
 use Rattle.vcp_base.specs.Stops.{told_turn}
@@ -10,14 +10,6 @@ use Rattle.fault_verdict.specs.declared.verdict.Verdict.TheVariants as verdict
 use Rattle.run_report.specs.declared.faults.Totals.{Totals}
 use Rattle.run_report.specs.OutputNames.{output_name}
 use Rattle.run_report.specs.Lines.{cause_text, turn_text, refused_front}
-
--- the output or the operation that a verdict names is one of the graph's
-abbrev pub NamesOf : Lists → Verdict → Type 0
-NamesOf g verdict.Same = Unit {0}
-NamesOf g (verdict.Wrong cycle output got want) = output < length g.outputs
-NamesOf g (verdict.RanOn cycle) = Unit {0}
-NamesOf g (verdict.Refused cycle output found wanted) = output < length g.outputs
-NamesOf g (verdict.Stopped cycle op kind) = op < length g.operations
 
 -- why an operation stopped, its place in the source, and the turns round it, outermost first
 abbrev pub stopped_at : Lists → StopKind → Option Op → List ℕ
@@ -79,5 +71,6 @@ totals_of vs = totals_after no_verdicts vs
 -- how many faults a script has, and how many of each verdict
 abbrev pub totals_text : Totals → List ℕ
 totals_text t =
-    codes "faults " ++ (decimal (faults t) ++ (codes " same " ++ (decimal t.same ++ (codes " wrong " ++ (decimal t.wrong ++ (codes " ran-on " ++ (decimal t.ran_on
+    codes "faults "
+    ++ (decimal (faults t) ++ (codes " same " ++ (decimal t.same ++ (codes " wrong " ++ (decimal t.wrong ++ (codes " ran-on " ++ (decimal t.ran_on
     ++ (codes " refused " ++ (decimal t.refused ++ (codes " stopped " ++ (decimal t.stopped ++ codes "\n")))))))))))

@@ -4,8 +4,10 @@
 
 ghost use Rattle.std.specs.Prelude.{◌≡◌, ◌<◌, ◌++◌, length, slice_get, decimal};
 ghost use Rattle.vcp_outside.specs.Written.{Writes};
+ghost use Rattle.fault_verdict.specs.Names.{Names};
 ghost use Rattle.run_report.specs.Gathering.{Gathers};
-ghost use Rattle.run_report.specs.FaultLines.{NamesOf, wrong_text, ran_on_text, stopped_at, stopped_text, what_shows, verdict_text, faults as faults_of, counted, no_verdicts, totals_text};
+ghost use Rattle.run_report.specs.FaultLines.{wrong_text, ran_on_text, stopped_at, stopped_text, what_shows, verdict_text, faults as faults_of};
+ghost use Rattle.run_report.specs.FaultLines.{counted, no_verdicts, totals_text};
 
 use crate::graph_stop::then_turns_round;
 use crate::line::Line;
@@ -96,7 +98,8 @@ fn then_ran_on<O: Sink>(line: &mut Line, out: &mut O, cycle: u32)
 // Goes on with why operation `op` stopped, its place in the source, and the turns round it.
 fn then_stopped_at<O: Sink>(line: &mut Line, out: &mut O, kind: StopKind, graph: &Graph, op: u32)
     requires { op < length graph.now.operations }
-    ensures { Gathers (O.written out.old) (O.written out.new) (O.faults out.old) (O.faults out.new) line.old line.new (stopped_at graph.now kind (slice_get graph.now.operations op)) }
+    ensures { Gathers (O.written out.old) (O.written out.new) (O.faults out.old) (O.faults out.new) line.old line.new
+        (stopped_at graph.now kind (slice_get graph.now.operations op)) }
 {
     then_cause(line, out, kind, graph.operation(op).spot);
     then_turns_round(line, out, graph, op);
@@ -124,7 +127,7 @@ fn then_stopped<O: Sink>(
 
 // Goes on with a verdict.
 fn then_verdict<O: Sink>(line: &mut Line, out: &mut O, graph: &Graph, verdict: &Verdict)
-    requires { NamesOf graph.now verdict.now }
+    requires { Names (length graph.now.outputs) (length graph.now.operations) verdict.now }
     ensures { Gathers (O.written out.old) (O.written out.new) (O.faults out.old) (O.faults out.new) line.old line.new (what_shows graph.now verdict.now) }
 {
     match *verdict {
@@ -161,7 +164,7 @@ pub fn verdict_line<O: Sink>(
     line: u32,
     verdict: &Verdict,
 ) -> Result<(), Failed>
-    requires { NamesOf graph.now verdict.now }
+    requires { Names (length graph.now.outputs) (length graph.now.operations) verdict.now }
     ensures { Writes (O.written out.old) (O.written out.new) (O.faults out.old) (O.faults out.new) (verdict_text graph.now line verdict.now) result }
 {
     let mut text = begin(out, b"", line);

@@ -16,7 +16,9 @@ use vcp_outside::{Failed, Sink};
 // Goes on with the turns round operation `op`, outermost first.
 pub(crate) fn then_turns_round<O: Sink>(line: &mut Line, out: &mut O, graph: &Graph, op: u32)
     requires { op < length graph.now.operations }
-    ensures { IfSome (slice_get graph.now.operations op) (λ o. Gathers (O.written out.old) (O.written out.new) (O.faults out.old) (O.faults out.new) line.old line.new (flat_map turn_text (map (told_turn graph.now.names) (turns_of graph.now o.turn)))) }
+    ensures { IfSome (slice_get graph.now.operations op)
+        (λ o. Gathers (O.written out.old) (O.written out.new) (O.faults out.old) (O.faults out.new) line.old line.new
+        (flat_map turn_text (map (told_turn graph.now.names) (turns_of graph.now o.turn)))) }
 {
     let mut turns = graph.turns(op);
     'turns: while let Some(turn) = turns.next() {
@@ -35,7 +37,9 @@ pub fn graph_stop_line<O: Sink>(
     op: u32,
 ) -> Result<(), Failed>
     requires { op < length graph.now.operations }
-    ensures { IfSome (slice_get graph.now.operations op) (λ o. Writes (O.written out.old) (O.written out.new) (O.faults out.old) (O.faults out.new) (stop_text cycle (told_stop graph.now.names kind o.spot (turns_of graph.now o.turn))) result) }
+    ensures { IfSome (slice_get graph.now.operations op)
+        (λ o. Writes (O.written out.old) (O.written out.new) (O.faults out.old) (O.faults out.new)
+        (stop_text cycle (told_stop graph.now.names kind o.spot (turns_of graph.now o.turn))) result) }
 {
     let mut line = begin_stop(out, cycle, kind, graph.operation(op).spot);
     then_turns_round(&mut line, out, graph, op);

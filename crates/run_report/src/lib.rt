@@ -21,6 +21,3 @@ pub use line::{Line, ROOM};
 pub use lines::{end_line, header_line, refused_line, row_line, stop_line};
 pub use operations::{list_line, trace_line};
 pub use output_names::output_name;
-
-#[cfg(test)]
-mod tests;

@@ -99,7 +99,8 @@ impl Line {
     pub fn value<O: Sink>(&mut self, out: &mut O, v: i64)
         ensures gathers { Gathers (O.written out.old) (O.written out.new) (O.faults out.old) (O.faults out.new) self.old self.new (signed_decimal v) }
         ensures unwritten { length self.old.pending + length (signed_decimal v) ≤ ROOM → out.new ≡ out.old }
-        ensures kept { length self.old.pending + length (signed_decimal v) ≤ ROOM → self.new ≡ record self.old { pending = self.old.pending ++ signed_decimal v } }
+        ensures kept { length self.old.pending + length (signed_decimal v) ≤ ROOM
+            → self.new ≡ record self.old { pending = self.old.pending ++ signed_decimal v } }
         ensures after_failure { OnErr self.old.so_far (out.new ≡ out.old) }
         ensures stays_failed { IsErr self.old.so_far → IsErr self.new.so_far }
     {
@@ -110,7 +111,8 @@ impl Line {
     pub fn long_value<O: Sink>(&mut self, out: &mut O, number: i128)
         ensures gathers { Gathers (O.written out.old) (O.written out.new) (O.faults out.old) (O.faults out.new) self.old self.new (signed_decimal number) }
         ensures unwritten { length self.old.pending + length (signed_decimal number) ≤ ROOM → out.new ≡ out.old }
-        ensures kept { length self.old.pending + length (signed_decimal number) ≤ ROOM → self.new ≡ record self.old { pending = self.old.pending ++ signed_decimal number } }
+        ensures kept { length self.old.pending + length (signed_decimal number) ≤ ROOM
+            → self.new ≡ record self.old { pending = self.old.pending ++ signed_decimal number } }
         ensures after_failure { OnErr self.old.so_far (out.new ≡ out.old) }
         ensures stays_failed { IsErr self.old.so_far → IsErr self.new.so_far }
     {

@@ -5,7 +5,8 @@ ghost use Rattle.std.specs.Prelude.{◌≡◌, ◌++◌, decimal, map, flat_map}
 ghost use Rattle.vcp_base.specs.Stops.{told_stop, told_turn};
 ghost use Rattle.vcp_outside.specs.Written.{Writes};
 ghost use Rattle.run_report.specs.Gathering.{IsGathered, Gathers};
-ghost use Rattle.run_report.specs.Lines.{header_text, row_text, end_text, cause_text, stop_front, stop_text, refused_front, refused_text, place_text, turn_text, AreNamed};
+ghost use Rattle.run_report.specs.Lines.{header_text, row_text, end_text, cause_text, stop_front, stop_text, refused_front, refused_text, place_text};
+ghost use Rattle.run_report.specs.Lines.{turn_text, AreNamed};
 
 use crate::line::Line;
 use vcp_base::{Columns, Residue, Row, Spot, StopKind, Text, Turns, Words, stop_name};
@@ -86,7 +87,8 @@ pub(crate) fn begin_stop<O: Sink>(out: &mut O, cycle: u32, kind: StopKind, spot:
 
 // Goes on with a turn: the name of its control variable, and that variable's value.
 pub(crate) fn then_turn<O: Sink>(line: &mut Line, out: &mut O, name: &Text, value: i64)
-    ensures { Gathers (O.written out.old) (O.written out.new) (O.faults out.old) (O.faults out.new) line.old line.new (turn_text (record { name = name.now; value = value })) }
+    ensures { Gathers (O.written out.old) (O.written out.new) (O.faults out.old) (O.faults out.new) line.old line.new
+        (turn_text (record { name = name.now; value = value })) }
 {
     line.text(out, b" ");
     line.text(out, name.bytes());
@@ -97,7 +99,8 @@ pub(crate) fn then_turn<O: Sink>(line: &mut Line, out: &mut O, name: &Text, valu
 // Goes on with the turns round a place, outermost first.
 fn then_turns<O: Sink>(line: &mut Line, out: &mut O, turns: &Turns, names: &Words)
     requires { AreNamed turns.now names.now }
-    ensures { Gathers (O.written out.old) (O.written out.new) (O.faults out.old) (O.faults out.new) line.old line.new (flat_map turn_text (map (told_turn names.now) turns.now)) }
+    ensures { Gathers (O.written out.old) (O.written out.new) (O.faults out.old) (O.faults out.new) line.old line.new
+        (flat_map turn_text (map (told_turn names.now) turns.now)) }
 {
     'turns: for i in 0..turns.len() {
         let turn = turns.at(i);
@@ -117,7 +120,8 @@ pub fn stop_line<O: Sink>(
     names: &Words,
 ) -> Result<(), Failed>
     requires { AreNamed turns.now names.now }
-    ensures { Writes (O.written out.old) (O.written out.new) (O.faults out.old) (O.faults out.new) (stop_text cycle (told_stop names.now kind spot turns.now)) result }
+    ensures { Writes (O.written out.old) (O.written out.new) (O.faults out.old) (O.faults out.new)
+        (stop_text cycle (told_stop names.now kind spot turns.now)) result }
 {
     let mut line = begin_stop(out, cycle, kind, spot);
     then_turns(&mut line, out, turns, names);
@@ -133,7 +137,8 @@ pub(crate) fn then_refused<O: Sink>(
     found: Residue,
     expected: Residue,
 )
-    ensures { Gathers (O.written out.old) (O.written out.new) (O.faults out.old) (O.faults out.new) line.old line.new (refused_front cycle name.now found expected) }
+    ensures { Gathers (O.written out.old) (O.written out.new) (O.faults out.old) (O.faults out.new) line.old line.new
+        (refused_front cycle name.now found expected) }
 {
     line.text(out, b"refused ");
     line.count(out, cycle as u64);

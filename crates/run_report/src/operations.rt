@@ -6,7 +6,8 @@ ghost use Rattle.std.specs.Fmt.{signed_decimal};
 ghost use Rattle.vcp_base.specs.Limits.{most_cycles};
 ghost use Rattle.vcp_outside.specs.Written.{Writes};
 ghost use Rattle.run_report.specs.Gathering.{IsGathered, Gathers};
-ghost use Rattle.run_report.specs.OperationLines.{shown_operands as shown_operands_of, number_cell, operands_text, own_text, operation_front, code_text, source_text, list_text, parts_text, trace_text};
+ghost use Rattle.run_report.specs.OperationLines.{shown_operands as shown_operands_of, number_cell, operands_text, own_text, operation_front, code_text};
+ghost use Rattle.run_report.specs.OperationLines.{source_text, list_text, parts_text, trace_text};
 
 use crate::graph_stop::then_turns_round;
 use crate::line::Line;
@@ -95,7 +96,8 @@ fn then_code<O: Sink>(line: &mut Line, out: &mut O, table: &Table, i: u32)
 // Goes on with the place of operation `i` in the source, and the turns round it.
 fn then_source<O: Sink>(line: &mut Line, out: &mut O, graph: &Graph, i: u32)
     requires { i < length graph.now.operations }
-    ensures { IfSome (slice_get graph.now.operations i) (λ op. Gathers (O.written out.old) (O.written out.new) (O.faults out.old) (O.faults out.new) line.old line.new (source_text graph.now op)) }
+    ensures { IfSome (slice_get graph.now.operations i)
+        (λ op. Gathers (O.written out.old) (O.written out.new) (O.faults out.old) (O.faults out.new) line.old line.new (source_text graph.now op)) }
 {
     line.text(out, b" at ");
     then_place(line, out, graph.operation(i).spot);
@@ -108,7 +110,8 @@ fn then_source<O: Sink>(line: &mut Line, out: &mut O, graph: &Graph, i: u32)
 pub fn list_line<O: Sink>(out: &mut O, graph: &Graph, table: &Table, i: u32) -> Result<(), Failed>
     requires operation { i < length graph.now.operations }
     requires correction { i < length table.now.corrections }
-    ensures { IfSome (slice_get graph.now.operations i) (λ op. Writes (O.written out.old) (O.written out.new) (O.faults out.old) (O.faults out.new) (list_text graph.now table.now i op) result) }
+    ensures { IfSome (slice_get graph.now.operations i)
+        (λ op. Writes (O.written out.old) (O.written out.new) (O.faults out.old) (O.faults out.new) (list_text graph.now table.now i op) result) }
 {
     let op = graph.operation(i);
     let mut line = begin_operation(out, i, &op);
@@ -143,7 +146,9 @@ pub fn trace_line<O: Sink>(
     requires operation { i < length graph.now.operations }
     requires expected { i < length table.now.corrections }
     requires cycle { cycle < most_cycles }
-    ensures { IfSome (slice_get graph.now.operations i) (λ op. Writes (O.written out.old) (O.written out.new) (O.faults out.old) (O.faults out.new) (trace_text graph.now.profile table.now i cycle op.kind word) result) }
+    ensures { IfSome (slice_get graph.now.operations i)
+        (λ op. Writes (O.written out.old) (O.written out.new) (O.faults out.old) (O.faults out.new)
+        (trace_text graph.now.profile table.now i cycle op.kind word) result) }
 {
     let mut line = begin(out, b"", i);
     line.text(out, b" ");

@@ -1,5 +1,6 @@
 -- Along: the numbers of a list, each times what a function says of its place, added up.
-use Rattle.std.proofs.Common.{◌≡◌, ◌≢◌, ⊎_elim, ℕ, zero, suc, ◌+◌, ◌<◌, ◌≤◌, ◌==◌, cond, true, false, ℤ, pos, ◌+ℤ◌, ◌*ℤ◌, List, [], ◌∷◌, length, ap, ap₂, sym, ◌∙◌, refl, arith}
+use Rattle.std.proofs.Common.{◌≡◌, ◌≢◌, ⊎_elim, ℕ, zero, suc, ◌+◌, ◌<◌, ◌≤◌, ◌==◌, cond, true, false, ℤ, pos, ◌+ℤ◌, ◌*ℤ◌, List, [], ◌∷◌, length, ap, ap₂, sym}
+use Rattle.std.proofs.Common.{◌∙◌, refl, arith}
 use Rattle.std.proofs.Math.IntN.{*ℤ_comm, *ℤ-zero, zero-*ℤ}
 use Rattle.std.proofs.lemmas.Int.{ints}
 use Rattle.std.proofs.lemmas.Bool.{eq-eqb}
@@ -17,7 +18,9 @@ add_up a b c d e f h i = omega (arith, ints)
 
 pub along_plus : (f g : ℕ → ℤ) (k : ℕ) (xs : List ℤ) → along (λ i. f i +ℤ g i) k xs ≡ along f k xs +ℤ along g k xs
 along_plus f g k [] = refl
-along_plus f g k (x ∷ xs) = add_up (x *ℤ (f k +ℤ g k)) (x *ℤ f k) (x *ℤ g k) (along (λ i. f i +ℤ g i) (suc k) xs) (along f (suc k) xs) (along g (suc k) xs) (times_plus x (f k) (g k)) (along_plus f g (suc k) xs)
+along_plus f g k (x ∷ xs) =
+    add_up (x *ℤ (f k +ℤ g k)) (x *ℤ f k) (x *ℤ g k) (along (λ i. f i +ℤ g i) (suc k) xs) (along f (suc k) xs) (along g (suc k) xs) (times_plus x (f k) (g k))
+    (along_plus f g (suc k) xs)
 
 pub times_assoc : (a b c : ℤ) → a *ℤ (b *ℤ c) ≡ (a *ℤ b) *ℤ c
 times_assoc a b c = ap (λ z. a *ℤ z) (*ℤ_comm b c) ∙ times_scaled a c b ∙ *ℤ_comm c (a *ℤ b)
@@ -28,11 +31,13 @@ along_times f c k (x ∷ xs) = ap₂ (λ a b. a +ℤ b) (times_assoc x (f k) c) 
 
 pub along_same : (f g : ℕ → ℤ) (k : ℕ) (xs : List ℤ) → ((j : ℕ) → k ≤ j → j < k + length xs → f j ≡ g j) → along f k xs ≡ along g k xs
 along_same f g k [] same = refl
-along_same f g k (x ∷ xs) same = ap₂ (λ a b. x *ℤ a +ℤ b) (same k (omega arith) (omega arith)) (along_same f g (suc k) xs (λ j le lt. same j (omega (arith, le)) (omega (arith, lt))))
+along_same f g k (x ∷ xs) same =
+    ap₂ (λ a b. x *ℤ a +ℤ b) (same k (omega arith) (omega arith)) (along_same f g (suc k) xs (λ j le lt. same j (omega (arith, le)) (omega (arith, lt))))
 
 pub along_zero : (f : ℕ → ℤ) (k : ℕ) (xs : List ℤ) → ((j : ℕ) → k ≤ j → f j ≡ pos 0) → along f k xs ≡ pos 0
 along_zero f k [] none = refl
-along_zero f k (x ∷ xs) none = ap₂ (λ a b. a +ℤ b) (ap (λ z. x *ℤ z) (none k (omega arith)) ∙ *ℤ-zero x) (along_zero f (suc k) xs (λ j le. none j (omega (arith, le))))
+along_zero f k (x ∷ xs) none =
+    ap₂ (λ a b. a +ℤ b) (ap (λ z. x *ℤ z) (none k (omega arith)) ∙ *ℤ-zero x) (along_zero f (suc k) xs (λ j le. none j (omega (arith, le))))
 
 pub cond_no : (i n : ℕ) (c : ℤ) → i ≢ n → cond (i == n) c (pos 0) ≡ pos 0
 cond_no i n c ne = ⊎_elim
@@ -77,7 +82,8 @@ dot_comm (x ∷ xs) (y ∷ ys) = ap₂ (λ a b. a +ℤ b) (*ℤ_comm x y) (dot_c
 along_dot : (f : ℕ → ℤ) (k : ℕ) (xs ys : List ℤ) → ((i j : ℕ) → j ≡ k + i → f j ≡ at ys i) → length xs ≡ length ys → along f k xs ≡ dot xs ys
 along_dot f k [] ys is many = refl
 along_dot f k (x ∷ xs) [] is many = absurd (omega (arith, many))
-along_dot f k (x ∷ xs) (y ∷ ys) is many = ap₂ (λ a b. x *ℤ a +ℤ b) (is 0 k (omega arith)) (along_dot f (suc k) xs ys (λ i j e. is (suc i) j (omega (arith, e))) (omega (arith, many)))
+along_dot f k (x ∷ xs) (y ∷ ys) is many =
+    ap₂ (λ a b. x *ℤ a +ℤ b) (is 0 k (omega arith)) (along_dot f (suc k) xs ys (λ i j e. is (suc i) j (omega (arith, e))) (omega (arith, many)))
 
 pub along_exchange : (xs ys : List ℤ) → length xs ≡ length ys → along (at ys) 0 xs ≡ along (at xs) 0 ys
 along_exchange xs ys many =

@@ -1,5 +1,6 @@
 -- Auditing: what is kept of a graph, from what is kept of each output and distance.
-use Rattle.std.proofs.Common.{◌≡◌, ◌⊎◌, ⊎_elim, inl, inr, ℕ, zero, suc, ◌<◌, ◌≤◌, List, [], ◌∷◌, ◌++◌, length, slice_get, slice_index_or, Some, ap, sym, ◌∙◌, subst, refl, arith}
+use Rattle.std.proofs.Common.{◌≡◌, ◌⊎◌, ⊎_elim, inl, inr, ℕ, zero, suc, ◌<◌, ◌≤◌, List, [], ◌∷◌, ◌++◌, length, slice_get, slice_index_or, Some, ap, sym, ◌∙◌}
+use Rattle.std.proofs.Common.{subst, refl, arith}
 use Rattle.std.proofs.lemmas.Option.{get_or_from_slice_get, slice_get_within}
 use Rattle.op_graph.specs.declared.op.Outlet.{Outlet}
 use Rattle.op_graph.specs.Lists.{Lists}
@@ -21,7 +22,8 @@ last_or (z ∷ xs) y (suc k) x e = ⊎_elim (λ (h : slice_get xs k ≡ Some x).
 
 -- the distances of each output are right
 abbrev pub AreAll : Lists → ℕ → List (List Distance) → Type 0
-AreAll g horizon outputs = (output : ℕ) (ds : List Distance) (o : Outlet) → slice_get outputs output ≡ Some ds → slice_get g.outputs output ≡ Some o → AreDistances g o.op horizon ds
+AreAll g horizon outputs =
+    (output : ℕ) (ds : List Distance) (o : Outlet) → slice_get outputs output ≡ Some ds → slice_get g.outputs output ≡ Some o → AreDistances g o.op horizon ds
 
 -- what is kept of so many operations
 abbrev pub audit_of : ℕ → ℕ → List (List Distance) → Audit
@@ -32,12 +34,14 @@ abbrev pub kept : Lists → ℕ → List (List Distance) → Audit
 kept g horizon outputs = audit_of (length g.operations) horizon outputs
 
 -- the distances of an output that is there
-of_output : (g : Lists) (horizon : ℕ) (outputs : List (List Distance)) → length outputs ≡ length g.outputs → AreAll g horizon outputs → (output : ℕ) (ds : List Distance) → slice_get outputs output ≡ Some ds → (o : Outlet) × AreDistances g o.op horizon ds
+of_output : (g : Lists) (horizon : ℕ) (outputs : List (List Distance)) → length outputs ≡ length g.outputs → AreAll g horizon outputs
+    → (output : ℕ) (ds : List Distance) → slice_get outputs output ≡ Some ds → (o : Outlet) × AreDistances g o.op horizon ds
 of_output g horizon outputs many all output ds there =
     let o = there_is g.outputs output (let lt = slice_get_within outputs output ds there in omega (arith, lt, many)) in
     (o.0, all output ds o.0 there o.1)
 
-pub is_whole : (g : Lists) (horizon : ℕ) (outputs : List (List Distance)) → length outputs ≡ length g.outputs → AreAll g horizon outputs → IsWhole (kept g horizon outputs)
+pub is_whole : (g : Lists) (horizon : ℕ) (outputs : List (List Distance)) → length outputs ≡ length g.outputs → AreAll g horizon outputs
+    → IsWhole (kept g horizon outputs)
 is_whole g horizon outputs many all = record {
   borders = λ output ds there. (of_output g horizon outputs many all output ds there).1.many;
   weights = λ output after ds d there at. ((of_output g horizon outputs many all output ds there).1.each after d at).weights.many;
@@ -45,16 +49,20 @@ is_whole g horizon outputs many all = record {
 }
 
 -- the distance that is kept for an output
-kept_distance : (g : Lists) (horizon : ℕ) (outputs : List (List Distance)) → length outputs ≡ length g.outputs → AreAll g horizon outputs → (output after : ℕ) (o : Outlet) → slice_get g.outputs output ≡ Some o → after ≤ horizon → IsDistance g o.op after (distance (kept g horizon outputs) output after)
+kept_distance : (g : Lists) (horizon : ℕ) (outputs : List (List Distance)) → length outputs ≡ length g.outputs → AreAll g horizon outputs
+    → (output after : ℕ) (o : Outlet) → slice_get g.outputs output ≡ Some o → after ≤ horizon
+    → IsDistance g o.op after (distance (kept g horizon outputs) output after)
 kept_distance g horizon outputs many all output after o there le =
     let ds = there_is outputs output (let lt = slice_get_within g.outputs output o there in omega (arith, lt, many)) in
     let are = all output ds.0 o ds.1 there in
     let d = there_is ds.0 after (let count = are.many in omega (arith, le, count)) in
     let of_one : slice_index_or outputs output [] ≡ ds.0 = get_or_from_slice_get outputs output ds.0 [] ds.1 in
-    let of_both : slice_index_or (slice_index_or outputs output []) after nothing ≡ d.0 = ap (λ xs. slice_index_or xs after nothing) of_one ∙ get_or_from_slice_get ds.0 after d.0 nothing d.1 in
+    let of_both : slice_index_or (slice_index_or outputs output []) after nothing ≡ d.0 = ap (λ xs. slice_index_or xs after nothing) of_one
+    ∙ get_or_from_slice_get ds.0 after d.0 nothing d.1 in
     subst (λ x. IsDistance g o.op after x) (sym of_both) (are.each after d.0 d.1)
 
-pub is_audit : (g : Lists) (horizon : ℕ) (outputs : List (List Distance)) → length outputs ≡ length g.outputs → AreAll g horizon outputs → IsAudit g horizon (kept g horizon outputs)
+pub is_audit : (g : Lists) (horizon : ℕ) (outputs : List (List Distance)) → length outputs ≡ length g.outputs → AreAll g horizon outputs
+    → IsAudit g horizon (kept g horizon outputs)
 is_audit g horizon outputs many all = record {
   operations = refl;
   outputs = many;
@@ -66,18 +74,21 @@ is_audit g horizon outputs many all = record {
 
 -- ---- one more
 
-pub none_more : (g : Lists) (out : ℕ) (first : Distance) → IsDistance g out 0 first → (borders : ℕ) (d : Distance) → slice_get (first ∷ []) borders ≡ Some d → IsDistance g out borders d
+pub none_more : (g : Lists) (out : ℕ) (first : Distance) → IsDistance g out 0 first → (borders : ℕ) (d : Distance) → slice_get (first ∷ []) borders ≡ Some d
+    → IsDistance g out borders d
 none_more g out first is zero d e = subst (λ x. IsDistance g out 0 x) (let same : first ≡ d = cc in same) is
 none_more g out first is (suc borders) d e = absurd cc
 
-pub one_more : (g : Lists) (out after : ℕ) (ds : List Distance) (next : Distance) → length ds ≡ suc after → ((borders : ℕ) (d : Distance) → slice_get ds borders ≡ Some d → IsDistance g out borders d) → IsDistance g out (suc after) next
+pub one_more : (g : Lists) (out after : ℕ) (ds : List Distance) (next : Distance) → length ds ≡ suc after
+    → ((borders : ℕ) (d : Distance) → slice_get ds borders ≡ Some d → IsDistance g out borders d) → IsDistance g out (suc after) next
     → (borders : ℕ) (d : Distance) → slice_get (ds ++ next ∷ []) borders ≡ Some d → IsDistance g out borders d
 one_more g out after ds next many each is borders d e = ⊎_elim
     (λ (h : slice_get ds borders ≡ Some d). each borders d h)
     (λ (h : (borders ≡ length ds) × (next ≡ d)). subst (λ n. IsDistance g out n d) (sym (h.0 ∙ many)) (subst (λ x. IsDistance g out (suc after) x) h.1 is))
     (last_or ds next borders d e)
 
-pub output_more : (g : Lists) (horizon i : ℕ) (outputs : List (List Distance)) (next : List Distance) (o : Outlet) → length outputs ≡ i → slice_get g.outputs i ≡ Some o → AreAll g horizon outputs → AreDistances g o.op horizon next → AreAll g horizon (outputs ++ next ∷ [])
+pub output_more : (g : Lists) (horizon i : ℕ) (outputs : List (List Distance)) (next : List Distance) (o : Outlet) → length outputs ≡ i
+    → slice_get g.outputs i ≡ Some o → AreAll g horizon outputs → AreDistances g o.op horizon next → AreAll g horizon (outputs ++ next ∷ [])
 output_more g horizon i outputs next o many there all are output ds p e here = ⊎_elim
     (λ (h : slice_get outputs output ≡ Some ds). all output ds p h here)
     (λ (h : (output ≡ length outputs) × (next ≡ ds)).

@@ -1,5 +1,6 @@
 -- Closing: the closed form, by exchange of the sums over operations and over their readers.
-use Rattle.std.proofs.Common.{◌≡◌, ◌≢◌, ◌↔◌, ⊎_elim, ℕ, zero, suc, ◌+◌, ◌<◌, ◌≤◌, ◌==◌, ◌&&◌, cond, Bool, true, false, ℤ, pos, neg_ℤ, unsigned_abs, ◌+ℤ◌, ◌-ℤ◌, ◌*ℤ◌, List, [], ◌∷◌, length, map, take, slice_get, Option, Some, None, ap, ap₂, sym, ◌∙◌, refl, arith}
+use Rattle.std.proofs.Common.{◌≡◌, ◌≢◌, ◌↔◌, ⊎_elim, ℕ, zero, suc, ◌+◌, ◌<◌, ◌≤◌, ◌==◌, ◌&&◌, cond, Bool, true, false, ℤ, pos, neg_ℤ, unsigned_abs, ◌+ℤ◌, ◌-ℤ◌}
+use Rattle.std.proofs.Common.{◌*ℤ◌, List, [], ◌∷◌, length, map, take, slice_get, Option, Some, None, ap, ap₂, sym, ◌∙◌, refl, arith}
 use Rattle.std.specs.Option.{is_some}
 use Rattle.std.proofs.Math.IntN.{*ℤ_comm}
 use Rattle.std.proofs.lemmas.Int.{ints}
@@ -39,17 +40,21 @@ part op d j = cond (is_some (reads_as op.kind op.from j)) (at d (named op j) *�
 along_share : (op : Op) (j : ℕ) (d : List ℤ) → along (λ i. share op i j) 0 d ≡ part op d j
 along_share op j d = by_test (is_some (reads_as op.kind op.from j))
   where
-    by_test : (b : Bool) → along (λ i. cond (b && (i == named op j)) (multiplier op.kind j) (pos 0)) 0 d ≡ cond b (at d (named op j) *ℤ multiplier op.kind j) (pos 0)
+    by_test : (b : Bool)
+        → along (λ i. cond (b && (i == named op j)) (multiplier op.kind j) (pos 0)) 0 d ≡ cond b (at d (named op j) *ℤ multiplier op.kind j) (pos 0)
     by_test true = along_pick (named op j) (multiplier op.kind j) 0 (named op j) d (omega arith)
     by_test false = along_zero (λ i. pos 0) 0 d (λ j le. refl)
 
 taken_is : (op : Op) (d : List ℤ) → along (factor op) 0 d ≡ part op d 0 +ℤ part op d 1 +ℤ part op d 2
 taken_is op d =
     along_plus (λ i. share op i 0 +ℤ share op i 1) (λ i. share op i 2) 0 d
-    ∙ ap₂ (λ a b. a +ℤ b) (along_plus (λ i. share op i 0) (λ i. share op i 1) 0 d ∙ ap₂ (λ a b. a +ℤ b) (along_share op 0 d) (along_share op 1 d)) (along_share op 2 d)
+    ∙ ap₂ (λ a b. a +ℤ b) (along_plus (λ i. share op i 0) (λ i. share op i 1) 0 d ∙ ap₂ (λ a b. a +ℤ b) (along_share op 0 d) (along_share op 1 d))
+    (along_share op 2 d)
 
 pub by_kind : (k : Kind) (from : Ty) (h x y z : ℤ) → weighed k (read_as k h x) (read_as k h y) (read_as k h z)
-    ≡ loaded_as k h +ℤ (cond (is_some (reads_as k from 0)) (x *ℤ multiplier k 0) (pos 0) +ℤ cond (is_some (reads_as k from 1)) (y *ℤ multiplier k 1) (pos 0) +ℤ cond (is_some (reads_as k from 2)) (z *ℤ multiplier k 2) (pos 0))
+    ≡ loaded_as k h +ℤ
+    (cond (is_some (reads_as k from 0)) (x *ℤ multiplier k 0) (pos 0) +ℤ cond (is_some (reads_as k from 1)) (y *ℤ multiplier k 1) (pos 0) +ℤ cond
+    (is_some (reads_as k from 2)) (z *ℤ multiplier k 2) (pos 0))
 by_kind kind.Input from h x y z = omega (arith, ints)
 by_kind kind.Const from h x y z = omega (arith, ints)
 by_kind kind.Load from h x y z = omega (arith, ints)
@@ -81,13 +86,15 @@ entering g held own i = loaded held (slice_get g.operations i) +ℤ own i
 rest_is : (d w o l t : ℤ) → d ≡ w +ℤ o → w ≡ l +ℤ t → t ≡ d -ℤ (l +ℤ o)
 rest_is d w o l t e h = omega (arith, ints)
 
-taken_rest : (g : Lists) (held : List ℤ) (own : ℕ → ℤ) (d : List ℤ) (k : ℕ) (op : Op) → AreOfCycle g held own d → slice_get g.operations k ≡ Some op → along (factor op) 0 d ≡ at d k -ℤ entering g held own k
+taken_rest : (g : Lists) (held : List ℤ) (own : ℕ → ℤ) (d : List ℤ) (k : ℕ) (op : Op) → AreOfCycle g held own d → slice_get g.operations k ≡ Some op
+    → along (factor op) 0 d ≡ at d k -ℤ entering g held own k
 taken_rest g held own d k op are there =
     let h = at held (unsigned_abs op.imm) in
     let w = weighed op.kind (read_as op.kind h (at d (named op 0))) (read_as op.kind h (at d (named op 1))) (read_as op.kind h (at d (named op 2))) in
     let t = part op d 0 +ℤ part op d 1 +ℤ part op d 2 in
     taken_is op d
-    ∙ rest_is (at d k) w (own k) (loaded_as op.kind h) t (are.each k op there) (by_kind op.kind op.from h (at d (named op 0)) (at d (named op 1)) (at d (named op 2)))
+    ∙ rest_is (at d k) w (own k) (loaded_as op.kind h) t (are.each k op there)
+    (by_kind op.kind op.from h (at d (named op 0)) (at d (named op 1)) (at d (named op 2)))
     ∙ ap (λ x. at d k -ℤ (loaded held x +ℤ own k)) (sym there)
 
 -- ---- the two sums
@@ -101,14 +108,17 @@ paid (op ∷ ops) (w ∷ ws) d = along (factor op) 0 d *ℤ w +ℤ paid ops ws d
 exchanged : (ops : List Op) (ws d : List ℤ) → along (λ i. by_readers i ops ws) 0 d ≡ paid ops ws d
 exchanged [] ws d = along_zero (λ i. pos 0) 0 d (λ j le. refl)
 exchanged (op ∷ ops) [] d = along_zero (λ i. pos 0) 0 d (λ j le. refl)
-exchanged (op ∷ ops) (w ∷ ws) d = along_plus (λ i. factor op i *ℤ w) (λ i. by_readers i ops ws) 0 d ∙ ap₂ (λ a b. a +ℤ b) (along_times (factor op) w 0 d) (exchanged ops ws d)
+exchanged (op ∷ ops) (w ∷ ws) d = along_plus (λ i. factor op i *ℤ w) (λ i. by_readers i ops ws) 0 d
+    ∙ ap₂ (λ a b. a +ℤ b) (along_times (factor op) w 0 d) (exchanged ops ws d)
 
-paid_is : (f : ℕ → ℤ) (k : ℕ) (ops : List Op) (ws d : List ℤ) → ((q j : ℕ) (op : Op) → slice_get ops q ≡ Some op → j ≡ k + q → along (factor op) 0 d ≡ f j) → length ws ≡ length ops → paid ops ws d ≡ along f k ws
+paid_is : (f : ℕ → ℤ) (k : ℕ) (ops : List Op) (ws d : List ℤ) → ((q j : ℕ) (op : Op) → slice_get ops q ≡ Some op → j ≡ k + q → along (factor op) 0 d ≡ f j)
+    → length ws ≡ length ops → paid ops ws d ≡ along f k ws
 paid_is f k [] [] d is many = refl
 paid_is f k [] (w ∷ ws) d is many = absurd (omega (arith, many))
 paid_is f k (op ∷ ops) [] d is many = absurd (omega (arith, many))
 paid_is f k (op ∷ ops) (w ∷ ws) d is many =
-    ap₂ (λ a b. a +ℤ b) (ap (λ z. z *ℤ w) (is 0 k op refl (omega arith)) ∙ *ℤ_comm (f k) w) (paid_is f (suc k) ops ws d (λ q j o there e. is (suc q) j o there (omega (arith, e))) (omega (arith, many)))
+    ap₂ (λ a b. a +ℤ b) (ap (λ z. z *ℤ w) (is 0 k op refl (omega arith)) ∙ *ℤ_comm (f k) w)
+    (paid_is f (suc k) ops ws d (λ q j o there e. is (suc q) j o there (omega (arith, e))) (omega (arith, many)))
 
 conclusion : (a b c d e f : ℤ) → a ≡ b +ℤ c → c ≡ d → e ≡ d +ℤ f → a ≡ e → b ≡ f
 conclusion a b c d e f h i j k = omega (arith, ints)
@@ -117,31 +127,38 @@ split : (x e : ℤ) → x ≡ (x -ℤ e) +ℤ e
 split x e = omega (arith, ints)
 
 -- what leaves a cycle, times the differences, is what enters it, times the weights
-duality : (g : Lists) (leaving : ℕ → ℤ) (held : List ℤ) (own : ℕ → ℤ) (d : List ℤ) → ReadsBefore 0 g.operations → AreOfCycle g held own d → along leaving 0 d ≡ along (entering g held own) 0 (weights_from leaving 0 g.operations)
+duality : (g : Lists) (leaving : ℕ → ℤ) (held : List ℤ) (own : ℕ → ℤ) (d : List ℤ) → ReadsBefore 0 g.operations → AreOfCycle g held own d
+    → along leaving 0 d ≡ along (entering g held own) 0 (weights_from leaving 0 g.operations)
 duality g leaving held own d before are =
     let ws = weights_from leaving 0 g.operations in
     let count : length ws ≡ length g.operations = length-weights_from leaving 0 g.operations in
     let f : ℕ → ℤ = λ j. at d j -ℤ entering g held own j in
     let first : along (at ws) 0 d ≡ along leaving 0 d +ℤ along (λ i. by_readers i g.operations ws) 0 d =
-    along_same (at ws) (λ i. leaving i +ℤ by_readers i g.operations ws) 0 d (λ j le lt. first_steps leaving 0 g.operations j j before (let many = are.many in omega (arith, lt, many)) (omega arith)) ∙ along_plus leaving (λ i. by_readers i g.operations ws) 0 d in
+    along_same (at ws) (λ i. leaving i +ℤ by_readers i g.operations ws) 0 d
+    (λ j le lt. first_steps leaving 0 g.operations j j before (let many = are.many in omega (arith, lt, many)) (omega arith))
+    ∙ along_plus leaving (λ i. by_readers i g.operations ws) 0 d in
     let second : along (λ i. by_readers i g.operations ws) 0 d ≡ along f 0 ws =
-    exchanged g.operations ws d ∙ paid_is f 0 g.operations ws d (λ q j op there e. taken_rest g held own d q op are there ∙ ap f (let h : q ≡ j = omega (arith, e) in h)) count in
+    exchanged g.operations ws d
+    ∙ paid_is f 0 g.operations ws d (λ q j op there e. taken_rest g held own d q op are there ∙ ap f (let h : q ≡ j = omega (arith, e) in h)) count in
     let third : along (at d) 0 ws ≡ along f 0 ws +ℤ along (entering g held own) 0 ws =
     along_same (at d) (λ j. f j +ℤ entering g held own j) 0 ws (λ j le lt. split (at d j) (entering g held own j)) ∙ along_plus f (entering g held own) 0 ws in
-    conclusion (along (at ws) 0 d) (along leaving 0 d) (along (λ i. by_readers i g.operations ws) 0 d) (along f 0 ws) (along (at d) 0 ws) (along (entering g held own) 0 ws) first second third (along_exchange d ws (are.many ∙ sym count))
+    conclusion (along (at ws) 0 d) (along leaving 0 d) (along (λ i. by_readers i g.operations ws) 0 d) (along f 0 ws) (along (at d) 0 ws)
+    (along (entering g held own) 0 ws) first second third (along_exchange d ws (are.many ∙ sym count))
 
 -- ---- cycle after cycle
 
 abbrev pub OpsFit : Lists → Type 0
 OpsFit g = (i : ℕ) (op : Op) → slice_get g.operations i ≡ Some op → OpFits (place_of (scope g) i) (length g.turn_nodes) (take i g.operations) op
 
-loaded_back : (g : Lists) (d : List ℤ) (i : ℕ) (op : Op) → Rising g.loads → IsGraph g → OpFits (place_of (scope g) i) (length g.turn_nodes) (take i g.operations) op → loaded (held_after g d) (Some op) ≡ back (cells g) d i
+loaded_back : (g : Lists) (d : List ℤ) (i : ℕ) (op : Op) → Rising g.loads → IsGraph g
+    → OpFits (place_of (scope g) i) (length g.turn_nodes) (take i g.operations) op → loaded (held_after g d) (Some op) ≡ back (cells g) d i
 loaded_back g d i op rising is fits =
     loads_by op.kind (place_of (scope g) i) op.ty op.imm (back (cells g) d i) (held_after g d) fits.kind fits.imm
     (λ none. comes_none g.loads g.stores d i none) (λ e some. comes_back g.loads g.stores d i e rising is.all_stored some)
 
 -- what the cells bring into the next cycle, times its weights, is what leaves this one
-border : (g : Lists) (d ws : List ℤ) → Rising g.loads → IsGraph g → OpsFit g → length ws ≡ length g.operations → along (λ i. loaded (held_after g d) (slice_get g.operations i)) 0 ws ≡ along (across (cells g) ws) 0 d
+border : (g : Lists) (d ws : List ℤ) → Rising g.loads → IsGraph g → OpsFit g → length ws ≡ length g.operations
+    → along (λ i. loaded (held_after g d) (slice_get g.operations i)) 0 ws ≡ along (across (cells g) ws) 0 d
 border g d ws rising is fit many =
     along_same (λ i. loaded (held_after g d) (slice_get g.operations i)) (back (cells g) d) 0 ws (λ j le lt.
     let op = there_is g.operations j (omega (arith, lt, many)) in
@@ -168,7 +185,8 @@ length-sums g out zero = length-weights_from (at_out out) 0 g.operations
 length-sums g out (suc borders) = length-weights_from (across (cells g) (sums g out borders)) 0 g.operations
 
 -- where nothing has a difference of its own after cycle m, what comes to an OUT is what enters that cycle, times the weights
-general : (g : Lists) (own : ℕ → ℕ → ℤ) (given : ℕ → List ℤ) (out : ℕ) → ReadsBefore 0 g.operations → Rising g.loads → IsGraph g → OpsFit g → AreDifferences g own given → (h m : ℕ) → ((q i : ℕ) → m < q → own q i ≡ pos 0)
+general : (g : Lists) (own : ℕ → ℕ → ℤ) (given : ℕ → List ℤ) (out : ℕ) → ReadsBefore 0 g.operations → Rising g.loads → IsGraph g → OpsFit g
+    → AreDifferences g own given → (h m : ℕ) → ((q i : ℕ) → m < q → own q i ≡ pos 0)
     → at (given (m + h)) out ≡ along (entering g (held_at g given m) (own m)) 0 (sums g out h)
 general g own given out before rising is fit are zero m quiet =
     ap (λ n. at (given n) out) (let e : m + 0 ≡ m = omega arith in e) ∙ once (at (given m) out) ∙ sym (along_pick out (pos 1) 0 out (given m) (omega arith))
@@ -178,7 +196,8 @@ general g own given out before rising is fit are (suc h) m quiet =
     let held = held_after g (given m) in
     ap (λ n. at (given n) out) (let e : m + suc h ≡ suc m + h = omega arith in e)
     ∙ general g own given out before rising is fit are h (suc m) (λ q i lt. quiet q i (omega (arith, lt)))
-    ∙ along_same (entering g held (own (suc m))) (λ i. loaded held (slice_get g.operations i)) 0 ws (λ j le lt. ap (λ z. loaded held (slice_get g.operations j) +ℤ z) (quiet (suc m) j (omega arith)) ∙ sym (ends (loaded held (slice_get g.operations j))))
+    ∙ along_same (entering g held (own (suc m))) (λ i. loaded held (slice_get g.operations i)) 0 ws
+    (λ j le lt. ap (λ z. loaded held (slice_get g.operations j) +ℤ z) (quiet (suc m) j (omega arith)) ∙ sym (ends (loaded held (slice_get g.operations j))))
     ∙ border g (given m) ws rising is fit (length-sums g out h)
     ∙ duality g (across (cells g) ws) (held_at g given m) (own m) (given m) before (cycle_at g own given are m)
 
@@ -217,7 +236,8 @@ residue_is p laws d s delta e =
     ap (modulo p) (e ∙ *ℤ_comm s delta ∙ added (delta *ℤ s)) ∙ sym (residue_times p laws (pos 0) delta s)
     ∙ ap (modulo p) (sym (added (delta *ℤ pos (modulo p s))) ∙ *ℤ_comm delta (pos (modulo p s)))
 
-module _ (g : Lists) (n k : ℕ) (delta : ℤ) (given : ℕ → List ℤ) (before : ReadsBefore 0 g.operations) (rising : Rising g.loads) (is : IsGraph g) (fit : OpsFit g) (laws : WordLaws g.profile) (are : AreDifferences g (alone n k delta) given) where
+module _ (g : Lists) (n k : ℕ) (delta : ℤ) (given : ℕ → List ℤ) (before : ReadsBefore 0 g.operations) (rising : Rising g.loads) (is : IsGraph g)
+    (fit : OpsFit g) (laws : WordLaws g.profile) (are : AreDifferences g (alone n k delta) given) where
   given_by : (m : ℕ) → m < n → ((j : ℕ) → at (held_at g given m) j ≡ pos 0) → (x : ℕ) → at (given m) x ≡ pos 0
   given_by m lt held x =
       once (at (given m) x) ∙ sym (along_pick x (pos 1) 0 x (given m) (omega arith))
@@ -237,7 +257,8 @@ module _ (g : Lists) (n k : ℕ) (delta : ℤ) (given : ℕ → List ℤ) (befor
   after_is out h =
       general g (alone n k delta) given out before rising is fit are h n (λ q i lt. alone_other n k delta q i (λ e. omega (arith, e, lt)))
       ∙ along_same (entering g (held_at g given n) (alone n k delta n)) (λ i. cond (i == k) delta (pos 0)) 0 (sums g out h) (λ j le lt.
-      no_more (loaded (held_at g given n) (slice_get g.operations j)) (alone n k delta n j) (loaded_none (held_at g given n) (slice_get g.operations j) (held_none n (omega arith)))
+      no_more (loaded (held_at g given n) (slice_get g.operations j)) (alone n k delta n j)
+      (loaded_none (held_at g given n) (slice_get g.operations j) (held_none n (omega arith)))
       ∙ alone_here n k delta j)
       ∙ along_pick k delta 0 k (sums g out h) (omega arith)
 
@@ -248,7 +269,9 @@ module _ (g : Lists) (n k : ℕ) (delta : ℤ) (given : ℕ → List ℤ) (befor
     residue = λ h. residue_is g.profile laws (at (given (n + h)) out) (at (sums g out h) k) delta (after_is out h);
   }
 
-pub closed_form : (g : Lists) → WordLaws g.profile → Earlier g → ((b : ℕ) (m : Loaded) → slice_get g.loads b ≡ Some m → LoadFits (length g.names) (length g.operations) (take b g.loads) m) → OpsFit g → IsGraph g → (n k : ℕ) (delta : ℤ) (given : ℕ → List ℤ) → AreDifferences g (alone n k delta) given → (out : ℕ) → Closes g n k delta given out
+pub closed_form : (g : Lists) → WordLaws g.profile → Earlier g
+    → ((b : ℕ) (m : Loaded) → slice_get g.loads b ≡ Some m → LoadFits (length g.names) (length g.operations) (take b g.loads) m) → OpsFit g → IsGraph g
+    → (n k : ℕ) (delta : ℤ) (given : ℕ → List ℤ) → AreDifferences g (alone n k delta) given → (out : ℕ) → Closes g n k delta given out
 closed_form g laws earlier loads fit is n k delta given are out = comes g n k delta given (reads_before g earlier) (rising_by g loads) is fit laws are out
 
 -- ---- a stale operand
@@ -269,12 +292,14 @@ negated_none p laws z none =
 
 stale_negated : (w step : ℕ) (m : ℤ) → pos w *ℤ (m *ℤ neg_ℤ (pos step)) ≡ neg_ℤ (pos step *ℤ m *ℤ pos w)
 stale_negated w step m =
-    ap (λ z. pos w *ℤ z) (times_negated m (pos step)) ∙ times_negated (pos w) (m *ℤ pos step) ∙ ap neg_ℤ (*ℤ_comm (pos w) (m *ℤ pos step) ∙ ap (λ z. z *ℤ pos w) (*ℤ_comm m (pos step)))
+    ap (λ z. pos w *ℤ z) (times_negated m (pos step)) ∙ times_negated (pos w) (m *ℤ pos step)
+    ∙ ap neg_ℤ (*ℤ_comm (pos w) (m *ℤ pos step) ∙ ap (λ z. z *ℤ pos w) (*ℤ_comm m (pos step)))
 
 twice : (z : ℤ) → neg_ℤ (neg_ℤ z) ≡ z
 twice z = omega (arith, ints)
 
-pub stale_is : (p : Profile) → WordLaws p → (d : ℤ) (w step : ℕ) (m : ℤ) → modulo p d ≡ modulo p (pos w *ℤ (m *ℤ neg_ℤ (pos step))) → (modulo p d ≡ 0) ↔ (modulo p (pos step *ℤ m *ℤ pos w) ≡ 0)
+pub stale_is : (p : Profile) → WordLaws p → (d : ℤ) (w step : ℕ) (m : ℤ) → modulo p d ≡ modulo p (pos w *ℤ (m *ℤ neg_ℤ (pos step)))
+    → (modulo p d ≡ 0) ↔ (modulo p (pos step *ℤ m *ℤ pos w) ≡ 0)
 stale_is p laws d w step m is =
     let z = pos step *ℤ m *ℤ pos w in
     let as_negated : modulo p d ≡ modulo p (neg_ℤ z) = is ∙ ap (modulo p) (stale_negated w step m) in

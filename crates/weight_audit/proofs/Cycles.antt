@@ -23,7 +23,8 @@ read held given op j = read_as op.kind (at held (unsigned_abs op.imm)) (at given
 -- that of an operation is the sum of its operands' differences, each times its multiplier, and what it has of its own
 pub record AreOfCycle (g : Lists) (held : List ℤ) (own : ℕ → ℤ) (given : List ℤ) : Type 0 where
   pub many : length given ≡ length g.operations
-  pub each : (k : ℕ) (op : Op) → slice_get g.operations k ≡ Some op → at given k ≡ weighed op.kind (read held given op 0) (read held given op 1) (read held given op 2) +ℤ own k
+  pub each : (k : ℕ) (op : Op) → slice_get g.operations k ≡ Some op
+      → at given k ≡ weighed op.kind (read held given op 0) (read held given op 1) (read held given op 2) +ℤ own k
 
 -- all cycles, where each operation has in each cycle this of its own
 pub record AreDifferences (g : Lists) (own : ℕ → ℕ → ℤ) (given : ℕ → List ℤ) : Type 0 where

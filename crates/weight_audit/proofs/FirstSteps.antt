@@ -1,5 +1,6 @@
 -- FirstSteps: the weights of operations by the paths' first steps.
-use Rattle.std.proofs.Common.{◌≡◌, ◌≢◌, ◌⊎◌, ⊎_elim, ℕ, zero, suc, ◌+◌, ◌<◌, ◌≤◌, Bool, true, false, cond, ◌==◌, ◌&&◌, ℤ, pos, ◌+ℤ◌, ◌*ℤ◌, List, [], ◌∷◌, length, slice_get, Some, ap, ap₂, sym, ◌∙◌, refl, arith}
+use Rattle.std.proofs.Common.{◌≡◌, ◌≢◌, ◌⊎◌, ⊎_elim, ℕ, zero, suc, ◌+◌, ◌<◌, ◌≤◌, Bool, true, false, cond, ◌==◌, ◌&&◌, ℤ, pos, ◌+ℤ◌, ◌*ℤ◌, List, [], ◌∷◌}
+use Rattle.std.proofs.Common.{length, slice_get, Some, ap, ap₂, sym, ◌∙◌, refl, arith}
 use Rattle.std.specs.Option.{is_some}
 use Rattle.std.proofs.Math.IntN.{zero-*ℤ}
 use Rattle.std.proofs.lemmas.Int.{ints}
@@ -16,7 +17,8 @@ use Rattle.weight_audit.proofs.Residues.{plus_times}
 share-none : (op : Op) (k j : ℕ) → (is_some (reads_as op.kind op.from j) ≡ true → named op j ≡ k → ⊥) → share op k j ≡ pos 0
 share-none op k j isnt = by_test (is_some (reads_as op.kind op.from j)) refl (eqb_tells k (named op j))
   where
-    by_test : (b : Bool) → is_some (reads_as op.kind op.from j) ≡ b → ((k == named op j) ≡ true) × (k ≡ named op j) ⊎ ((k == named op j) ≡ false) × (k ≢ named op j) → share op k j ≡ pos 0
+    by_test : (b : Bool) → is_some (reads_as op.kind op.from j) ≡ b
+        → ((k == named op j) ≡ true) × (k ≡ named op j) ⊎ ((k == named op j) ≡ false) × (k ≢ named op j) → share op k j ≡ pos 0
     by_test false e h = ap (λ b. cond (b && (k == named op j)) (multiplier op.kind j) (pos 0)) e
     by_test true e h = ⊎_elim
         (λ (w : ((k == named op j) ≡ true) × (k ≡ named op j)). absurd (isnt e (sym w.1)))
@@ -39,7 +41,8 @@ none_times f w b e =
     omega (arith, ints)
 
 -- the weight of each operation is what the paths bring that end at it or leave it, and the weights of its readers
-pub first_steps : (leaving : ℕ → ℤ) (i : ℕ) (ops : List Op) (m k : ℕ) → ReadsBefore i ops → m < length ops → k ≡ i + m → at (weights_from leaving i ops) m ≡ leaving k +ℤ by_readers k ops (weights_from leaving i ops)
+pub first_steps : (leaving : ℕ → ℤ) (i : ℕ) (ops : List Op) (m k : ℕ) → ReadsBefore i ops → m < length ops → k ≡ i + m
+    → at (weights_from leaving i ops) m ≡ leaving k +ℤ by_readers k ops (weights_from leaving i ops)
 first_steps leaving i [] m k before lt is = absurd (omega (arith, lt))
 first_steps leaving i (op ∷ ops) zero k before lt is =
     let same : i ≡ k = omega (arith, is) in
@@ -66,9 +69,11 @@ pub by_operands : (f : ℤ) (op : Op) (k : ℕ) (w : ℤ) → f +ℤ share op k 
 by_operands f op k w = three f (share op k 0) (share op k 1) (share op k 2) w
 
 -- what an operand takes, where it reads an operation, and where it reads none
-pub share-read : (op : Op) (j n k : ℕ) (m w : ℤ) → is_some (reads_as op.kind op.from j) ≡ true → named op j ≡ n → m ≡ multiplier op.kind j → cond (k == n) (m *ℤ w) (pos 0) ≡ share op k j *ℤ w
+pub share-read : (op : Op) (j n k : ℕ) (m w : ℤ) → is_some (reads_as op.kind op.from j) ≡ true → named op j ≡ n → m ≡ multiplier op.kind j
+    → cond (k == n) (m *ℤ w) (pos 0) ≡ share op k j *ℤ w
 share-read op j n k m w reads names is =
-    by_test (k == n) ∙ ap (λ b. cond (b && (k == n)) (multiplier op.kind j) (pos 0) *ℤ w) (sym reads) ∙ ap (λ i. cond (is_some (reads_as op.kind op.from j) && (k == i)) (multiplier op.kind j) (pos 0) *ℤ w) (sym names)
+    by_test (k == n) ∙ ap (λ b. cond (b && (k == n)) (multiplier op.kind j) (pos 0) *ℤ w) (sym reads)
+    ∙ ap (λ i. cond (is_some (reads_as op.kind op.from j) && (k == i)) (multiplier op.kind j) (pos 0) *ℤ w) (sym names)
   where
     by_test : (b : Bool) → cond b (m *ℤ w) (pos 0) ≡ cond (true && b) (multiplier op.kind j) (pos 0) *ℤ w
     by_test true = ap (λ f. f *ℤ w) is

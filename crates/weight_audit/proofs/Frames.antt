@@ -1,5 +1,6 @@
 -- Frames: the differences of a run with one fault alone solve the equations in which the fault's operation has its own difference.
-use Rattle.std.proofs.Common.{◌≡◌, ◌≢◌, ◌↔◌, ⊎_elim, ℕ, zero, suc, ◌+◌, ◌<◌, ◌≤◌, ◌==◌, ◌&&◌, cond, Bool, true, false, ℤ, pos, unsigned_abs, ◌+ℤ◌, ◌*ℤ◌, List, [], ◌∷◌, ◌++◌, length, take, slice_get, Option, Some, None, ap, ap₂, sym, subst, ◌∙◌, refl, arith}
+use Rattle.std.proofs.Common.{◌≡◌, ◌≢◌, ◌↔◌, ⊎_elim, ℕ, zero, suc, ◌+◌, ◌<◌, ◌≤◌, ◌==◌, ◌&&◌, cond, Bool, true, false, ℤ, pos, unsigned_abs, ◌+ℤ◌, ◌*ℤ◌, List}
+use Rattle.std.proofs.Common.{[], ◌∷◌, ◌++◌, length, take, slice_get, Option, Some, None, ap, ap₂, sym, subst, ◌∙◌, refl, arith}
 use Rattle.std.specs.Option.{is_some}
 use Rattle.std.proofs.Math.IntN.{zero-*ℤ}
 use Rattle.std.proofs.lemmas.Int.{ints}
@@ -39,7 +40,8 @@ use Rattle.weight_audit.proofs.Places.{Earlier}
 abbrev frame_of : List ℤ → List ℤ → Frame
 frame_of held given = record { held = held; given = given }
 
-read_is : (held given : List ℤ) (op : Op) (j : ℕ) (k : Kind) → read_by (frame_of held given) op j k ≡ read_as k (at held (unsigned_abs op.imm)) (at given (named op j))
+read_is : (held given : List ℤ) (op : Op) (j : ℕ) (k : Kind)
+    → read_by (frame_of held given) op j k ≡ read_as k (at held (unsigned_abs op.imm)) (at given (named op j))
 read_is held given op j kind.Load = refl
 read_is held given op j _ = refl
 
@@ -47,10 +49,13 @@ read_is held given op j _ = refl
 abbrev brings : Kind → ℤ → ℤ → ℤ → ℤ → ℤ
 brings k h x y z = weighed k (read_as k h x) (read_as k h y) (read_as k h z)
 
-brought_is : (held given : List ℤ) (op : Op) → brought (frame_of held given) op op.kind ≡ brings op.kind (at held (unsigned_abs op.imm)) (at given (named op 0)) (at given (named op 1)) (at given (named op 2))
+brought_is : (held given : List ℤ) (op : Op)
+    → brought (frame_of held given) op op.kind
+    ≡ brings op.kind (at held (unsigned_abs op.imm)) (at given (named op 0)) (at given (named op 1)) (at given (named op 2))
 brought_is held given op =
     ap (λ x. weighed op.kind x (read_by f op 1 op.kind) (read_by f op 2 op.kind)) (read_is held given op 0 op.kind)
-    ∙ ap₂ (λ y z. weighed op.kind (read_as op.kind (at held (unsigned_abs op.imm)) (at given (named op 0))) y z) (read_is held given op 1 op.kind) (read_is held given op 2 op.kind)
+    ∙ ap₂ (λ y z. weighed op.kind (read_as op.kind (at held (unsigned_abs op.imm)) (at given (named op 0))) y z) (read_is held given op 1 op.kind)
+    (read_is held given op 2 op.kind)
   where
     f : Frame
     f = frame_of held given
@@ -60,12 +65,14 @@ part_same true m x y same = ap (λ z. z *ℤ m) (same refl)
 part_same false m x y same = refl
 
 -- operands alone that the kind has are brought
-same_brought : (k : Kind) (from : Ty) (h x y z d e f : ℤ) → (is_some (reads_as k from 0) ≡ true → x ≡ d) → (is_some (reads_as k from 1) ≡ true → y ≡ e) → (is_some (reads_as k from 2) ≡ true → z ≡ f)
+same_brought : (k : Kind) (from : Ty) (h x y z d e f : ℤ) → (is_some (reads_as k from 0) ≡ true → x ≡ d) → (is_some (reads_as k from 1) ≡ true → y ≡ e)
+    → (is_some (reads_as k from 2) ≡ true → z ≡ f)
     → brings k h x y z ≡ brings k h d e f
 same_brought k from h x y z d e f first second third =
     by_kind k from h x y z
     ∙ ap₂ (λ a b. loaded_as k h +ℤ (a +ℤ b))
-    (ap₂ (λ a b. a +ℤ b) (part_same (is_some (reads_as k from 0)) (multiplier k 0) x d first) (part_same (is_some (reads_as k from 1)) (multiplier k 1) y e second))
+    (ap₂ (λ a b. a +ℤ b) (part_same (is_some (reads_as k from 0)) (multiplier k 0) x d first)
+    (part_same (is_some (reads_as k from 1)) (multiplier k 1) y e second))
     (part_same (is_some (reads_as k from 2)) (multiplier k 2) z f third)
     ∙ sym (by_kind k from h d e f)
 
@@ -76,27 +83,32 @@ part_none false m x none = refl
 all_none : (l a b c : ℤ) → l ≡ pos 0 → a ≡ pos 0 → b ≡ pos 0 → c ≡ pos 0 → l +ℤ (a +ℤ b +ℤ c) ≡ pos 0
 all_none l a b c p q r s = omega (arith, ints)
 
-none_brought : (k : Kind) (from : Ty) (h x y z : ℤ) → h ≡ pos 0 → (is_some (reads_as k from 0) ≡ true → x ≡ pos 0) → (is_some (reads_as k from 1) ≡ true → y ≡ pos 0) → (is_some (reads_as k from 2) ≡ true → z ≡ pos 0)
+none_brought : (k : Kind) (from : Ty) (h x y z : ℤ) → h ≡ pos 0 → (is_some (reads_as k from 0) ≡ true → x ≡ pos 0)
+    → (is_some (reads_as k from 1) ≡ true → y ≡ pos 0) → (is_some (reads_as k from 2) ≡ true → z ≡ pos 0)
     → brings k h x y z ≡ pos 0
 none_brought k from h x y z held first second third =
     by_kind k from h x y z
     ∙ all_none (loaded_as k h) _ _ _ (ap (loaded_as k) held ∙ loaded_zero k)
-    (part_none (is_some (reads_as k from 0)) (multiplier k 0) x first) (part_none (is_some (reads_as k from 1)) (multiplier k 1) y second) (part_none (is_some (reads_as k from 2)) (multiplier k 2) z third)
+    (part_none (is_some (reads_as k from 0)) (multiplier k 0) x first) (part_none (is_some (reads_as k from 1)) (multiplier k 1) y second)
+    (part_none (is_some (reads_as k from 2)) (multiplier k 2) z third)
 
 -- ---- the differences of a cycle
 
 -- the differences that are there stay
-stays : (t : Numbers) (g : Lists) (acts : ℕ → Option Act) (past : Frame) (held before : List ℤ) (k : ℕ) (ops : List Op) (i : ℕ) → i < length before → at (given_from t g acts past held before k ops) i ≡ at before i
+stays : (t : Numbers) (g : Lists) (acts : ℕ → Option Act) (past : Frame) (held before : List ℤ) (k : ℕ) (ops : List Op) (i : ℕ) → i < length before
+    → at (given_from t g acts past held before k ops) i ≡ at before i
 stays t g acts past held before k [] i below = refl
 stays t g acts past held before k (op ∷ ops) i below =
     let d = difference t g past (frame_of held before) k op (acts k) in
-    stays t g acts past held (before ++ d ∷ []) (k + 1) ops i (omega (arith, below, length-append before (d ∷ []))) ∙ get_or_append_left before (d ∷ []) (pos 0) i below
+    stays t g acts past held (before ++ d ∷ []) (k + 1) ops i (omega (arith, below, length-append before (d ∷ [])))
+    ∙ get_or_append_left before (d ∷ []) (pos 0) i below
 
 last_of : (before : List ℤ) (d : ℤ) → at (before ++ d ∷ []) (length before) ≡ d
 last_of [] d = refl
 last_of (c ∷ before) d = last_of before d
 
-many_from : (t : Numbers) (g : Lists) (acts : ℕ → Option Act) (past : Frame) (held before : List ℤ) (k : ℕ) (ops : List Op) → length (given_from t g acts past held before k ops) ≡ length before + length ops
+many_from : (t : Numbers) (g : Lists) (acts : ℕ → Option Act) (past : Frame) (held before : List ℤ) (k : ℕ) (ops : List Op)
+    → length (given_from t g acts past held before k ops) ≡ length before + length ops
 many_from t g acts past held before k [] = omega arith
 many_from t g acts past held before k (op ∷ ops) =
     let d = difference t g past (frame_of held before) k op (acts k) in
@@ -109,7 +121,8 @@ record Made (t : Numbers) (g : Lists) (acts : ℕ → Option Act) (past : Frame)
   agrees : (i : ℕ) → i < k → at front i ≡ at whole i
   value : at whole k ≡ difference t g past (frame_of held front) k op (acts k)
 
-made_from : (t : Numbers) (g : Lists) (acts : ℕ → Option Act) (past : Frame) (held before : List ℤ) (k : ℕ) (ops : List Op) (more n : ℕ) (op : Op) → length before ≡ k → n ≡ k + more → slice_get ops more ≡ Some op
+made_from : (t : Numbers) (g : Lists) (acts : ℕ → Option Act) (past : Frame) (held before : List ℤ) (k : ℕ) (ops : List Op) (more n : ℕ) (op : Op)
+    → length before ≡ k → n ≡ k + more → slice_get ops more ≡ Some op
     → Made t g acts past held (given_from t g acts past held before k ops) n op
 made_from t g acts past held before k [] more n op many is there = absurd cc
 made_from t g acts past held before k (o ∷ ops) zero n op many is there =
@@ -119,7 +132,9 @@ made_from t g acts past held before k (o ∷ ops) zero n op many is there =
     let here : k ≡ n = omega (arith, is) in
     subst (λ (m : ℕ). Made t g acts past held (given_from t g acts past held (before ++ d ∷ []) (k + 1) ops) m op) here (record {
       front = before;
-      agrees = λ i below. sym (stays t g acts past held (before ++ d ∷ []) (k + 1) ops i (omega (arith, below, room)) ∙ get_or_append_left before (d ∷ []) (pos 0) i (omega (arith, below, many)));
+      agrees = λ i below. sym
+          (stays t g acts past held (before ++ d ∷ []) (k + 1) ops i (omega (arith, below, room))
+          ∙ get_or_append_left before (d ∷ []) (pos 0) i (omega (arith, below, many)));
       value =
           stays t g acts past held (before ++ d ∷ []) (k + 1) ops k (omega (arith, room)) ∙ ap (at (before ++ d ∷ [])) (sym many) ∙ last_of before d
           ∙ ap (λ (x : Op). difference t g past (frame_of held before) k x (acts k)) same;
@@ -162,7 +177,9 @@ module _ (t : Numbers) (g : Lists) (f : Fault) (o : Op) (earlier : Earlier g) (t
   abbrev own_at : ℕ → ℕ → ℤ
   own_at n k = alone f.cycle f.op (made t g o f.act) n k
 
-  module _ (n : ℕ) (past : Frame) (none_before : n ≤ f.cycle → (x : ℕ) → at past.given x ≡ pos 0) (none_yet : n ≡ f.cycle → (k : ℕ) → k < f.op → at (whole_after n past) k ≡ pos 0) (here : n ≡ f.cycle → at (whole_after n past) f.op ≡ made t g o f.act) where
+  module _ (n : ℕ) (past : Frame) (none_before : n ≤ f.cycle → (x : ℕ) → at past.given x ≡ pos 0)
+      (none_yet : n ≡ f.cycle → (k : ℕ) → k < f.op → at (whole_after n past) k ≡ pos 0)
+      (here : n ≡ f.cycle → at (whole_after n past) f.op ≡ made t g o f.act) where
     module _ (k : ℕ) (op : Op) (there_k : slice_get g.operations k ≡ Some op) where
       abbrev brings_here : List ℤ → ℤ
       brings_here ds = brings op.kind (at (held_after g past.given) (unsigned_abs op.imm)) (at ds (named op 0)) (at ds (named op 1)) (at ds (named op 2))
@@ -175,9 +192,11 @@ module _ (t : Numbers) (g : Lists) (f : Fault) (o : Op) (earlier : Earlier g) (t
           let m = made_from t g (acts_of (f ∷ []) n) past (held_after g past.given) [] 0 g.operations k k op refl (omega arith) there_k in
           without_own (at (whole_after n past) k) (brings_here (whole_after n past)) (own_at n k)
           (m.value ∙ ap (difference t g past (frame_of (held_after g past.given) m.front) k op) none ∙ brought_is (held_after g past.given) m.front op
-          ∙ same_brought op.kind op.from (at (held_after g past.given) (unsigned_abs op.imm)) (at m.front (named op 0)) (at m.front (named op 1)) (at m.front (named op 2))
+          ∙ same_brought op.kind op.from (at (held_after g past.given) (unsigned_abs op.imm)) (at m.front (named op 0)) (at m.front (named op 1))
+          (at m.front (named op 2))
           (at (whole_after n past) (named op 0)) (at (whole_after n past) (named op 1)) (at (whole_after n past) (named op 2))
-          (λ reads. m.agrees (named op 0) (before_k 0 reads)) (λ reads. m.agrees (named op 1) (before_k 1 reads)) (λ reads. m.agrees (named op 2) (before_k 2 reads)))
+          (λ reads. m.agrees (named op 0) (before_k 0 reads)) (λ reads. m.agrees (named op 1) (before_k 1 reads))
+          (λ reads. m.agrees (named op 2) (before_k 2 reads)))
           no_own
 
       at_fault : f.cycle ≡ n → f.op ≡ k → at (whole_after n past) k ≡ brings_here (whole_after n past) +ℤ own_at n k
@@ -186,7 +205,8 @@ module _ (t : Numbers) (g : Lists) (f : Fault) (o : Op) (earlier : Earlier g) (t
           λ j reads. none_yet (sym cycle) (named op j) (let below = before_k j reads in omega (arith, below, place)) in
           own_alone (at (whole_after n past) k) (brings_here (whole_after n past)) (own_at n k) (made t g o f.act)
           (ap (at (whole_after n past)) (sym place) ∙ here (sym cycle))
-          (none_brought op.kind op.from (at (held_after g past.given) (unsigned_abs op.imm)) (at (whole_after n past) (named op 0)) (at (whole_after n past) (named op 1)) (at (whole_after n past) (named op 2))
+          (none_brought op.kind op.from (at (held_after g past.given) (unsigned_abs op.imm)) (at (whole_after n past) (named op 0))
+          (at (whole_after n past) (named op 1)) (at (whole_after n past) (named op 2))
           (at_zeros g.stores past.given (unsigned_abs op.imm) (none_before (omega (arith, cycle)))) (read_none 0) (read_none 1) (read_none 2))
           (ap₂ (λ b c. cond (b && c) (made t g o f.act) (pos 0)) (eq-eqb n f.cycle (sym cycle)) (eq-eqb k f.op (sym place)))
 
@@ -234,9 +254,11 @@ pub record Rests (g : Lists) : Type 0 where
   pub operations : OpsFit g
   pub graph : IsGraph g
 
-module _ (t : Numbers) (g : Lists) (f : Fault) (op : Op) (rests : Rests g) (there : slice_get g.operations f.op ≡ Some op) (one : OneFault t g f op) (out : ℕ) where
+module _ (t : Numbers) (g : Lists) (f : Fault) (op : Op) (rests : Rests g) (there : slice_get g.operations f.op ≡ Some op) (one : OneFault t g f op)
+    (out : ℕ) where
   closes : Closes g f.cycle f.op (made t g op f.act) (given t g f op rests.earlier there one) out
-  closes = closed_form g rests.words rests.earlier rests.loads rests.operations rests.graph f.cycle f.op (made t g op f.act) (given t g f op rests.earlier there one) (frames_are t g f op rests.earlier there one) out
+  closes = closed_form g rests.words rests.earlier rests.loads rests.operations rests.graph f.cycle f.op (made t g op f.act)
+      (given t g f op rests.earlier there one) (frames_are t g f op rests.earlier there one) out
 
   pub fault_comes : Comes t g f out
   fault_comes = record {
@@ -245,6 +267,8 @@ module _ (t : Numbers) (g : Lists) (f : Fault) (op : Op) (rests : Rests g) (ther
     residue = λ borders. closes.residue borders ∙ ap (λ d. modulo g.profile (pos (weight g out borders f.op) *ℤ d)) (sym one.there);
   }
 
-  pub stale_comes : (j : ℕ) → f.act ≡ act.OperandStale j → (borders : ℕ) → (modulo g.profile (differs t g f (f.cycle + borders) out) ≡ 0) ↔ (modulo g.profile (pos t.step *ℤ multiplier op.kind j *ℤ pos (weight g out borders f.op)) ≡ 0)
+  pub stale_comes : (j : ℕ) → f.act ≡ act.OperandStale j → (borders : ℕ)
+      → (modulo g.profile (differs t g f (f.cycle + borders) out) ≡ 0)
+      ↔ (modulo g.profile (pos t.step *ℤ multiplier op.kind j *ℤ pos (weight g out borders f.op)) ≡ 0)
   stale_comes j is borders = stale_is g.profile rests.words (differs t g f (f.cycle + borders) out) (weight g out borders f.op) t.step (multiplier op.kind j)
       (closes.residue borders ∙ ap (λ a. modulo g.profile (pos (weight g out borders f.op) *ℤ made t g op a)) is)

@@ -1,5 +1,6 @@
 -- Loads: what a LOAD brings into a cycle is what its cell's STORE had in the cycle before.
-use Rattle.std.proofs.Common.{◌≡◌, ◌≢◌, ◌⊎◌, ⊎_elim, ℕ, suc, ◌+◌, ◌<◌, ◌==◌, ◌&&◌, not, cond, Bool, true, false, ℤ, pos, unsigned_abs, ◌+ℤ◌, ◌*ℤ◌, List, [], ◌∷◌, length, map, take, slice_get, get_or, Option, Some, None, ap, ap₂, sym, ◌∙◌, subst, refl, arith}
+use Rattle.std.proofs.Common.{◌≡◌, ◌≢◌, ◌⊎◌, ⊎_elim, ℕ, suc, ◌+◌, ◌<◌, ◌==◌, ◌&&◌, not, cond, Bool, true, false, ℤ, pos, unsigned_abs, ◌+ℤ◌, ◌*ℤ◌, List, []}
+use Rattle.std.proofs.Common.{◌∷◌, length, map, take, slice_get, get_or, Option, Some, None, ap, ap₂, sym, ◌∙◌, subst, refl, arith}
 use Rattle.std.specs.Option.{is_some}
 use Rattle.std.specs.Ordering.{int_eq}
 use Rattle.std.proofs.Math.IntN.{*ℤ_comm}
@@ -46,7 +47,8 @@ entering_is (c ∷ cs) ws d =
 abbrev pub Rising : List Loaded → Type 0
 Rising loads = (a b : ℕ) (l m : Loaded) → slice_get loads a ≡ Some l → slice_get loads b ≡ Some m → a < b → l.load < m.load
 
-pub rising_by : (g : Lists) → ((b : ℕ) (m : Loaded) → slice_get g.loads b ≡ Some m → LoadFits (length g.names) (length g.operations) (take b g.loads) m) → Rising g.loads
+pub rising_by : (g : Lists) → ((b : ℕ) (m : Loaded) → slice_get g.loads b ≡ Some m → LoadFits (length g.names) (length g.operations) (take b g.loads) m)
+    → Rising g.loads
 rising_by g law a b l m p q lt =
     let within : b < length g.loads = slice_get_within g.loads b m q in
     let many : length (take b g.loads) ≡ b = length-take-le b g.loads (omega (arith, within)) in
@@ -56,21 +58,26 @@ rising_by g law a b l m p q lt =
 zero_first : (a b : ℤ) → a ≡ pos 0 → b ≡ pos 0 → a +ℤ b ≡ pos 0
 zero_first a b e h = omega (arith, ints)
 
-back_none : (loads : List Loaded) (stores : List ℕ) (d : List ℤ) (i : ℕ) → ((q : ℕ) (m : Loaded) → slice_get loads q ≡ Some m → i ≢ m.load) → back (joined loads stores) d i ≡ pos 0
+back_none : (loads : List Loaded) (stores : List ℕ) (d : List ℤ) (i : ℕ) → ((q : ℕ) (m : Loaded) → slice_get loads q ≡ Some m → i ≢ m.load)
+    → back (joined loads stores) d i ≡ pos 0
 back_none [] stores d i differs = refl
 back_none (l ∷ loads) [] d i differs = refl
 back_none (l ∷ loads) (n ∷ stores) d i differs =
-    zero_first (cond (i == l.load) (at d n) (pos 0)) (back (joined loads stores) d i) (cond_no i l.load (at d n) (differs 0 l refl)) (back_none loads stores d i (λ q m there. differs (suc q) m there))
+    zero_first (cond (i == l.load) (at d n) (pos 0)) (back (joined loads stores) d i) (cond_no i l.load (at d n) (differs 0 l refl))
+    (back_none loads stores d i (λ q m there. differs (suc q) m there))
 
-found_none : (loads : List Loaded) (stores : List ℕ) (d : List ℤ) (i k : ℕ) → is_some (found (λ (l : Loaded). l.load == i) (λ l. l.ty) k loads) ≡ false → back (joined loads stores) d i ≡ pos 0
+found_none : (loads : List Loaded) (stores : List ℕ) (d : List ℤ) (i k : ℕ) → is_some (found (λ (l : Loaded). l.load == i) (λ l. l.ty) k loads) ≡ false
+    → back (joined loads stores) d i ≡ pos 0
 found_none [] stores d i k none = refl
 found_none (l ∷ loads) [] d i k none = refl
 found_none (l ∷ loads) (n ∷ stores) d i k none = ⊎_elim
     (λ (h : ((l.load == i) ≡ true) × (l.load ≡ i)).
-    absurd (let e : true ≡ false = sym (ap (λ b. is_some (cond b (Some (entry k l.ty)) (found (λ (x : Loaded). x.load == i) (λ x. x.ty) (k + 1) loads))) h.0) ∙ none in cc))
+    absurd (let e : true ≡ false = sym (ap (λ b. is_some (cond b (Some (entry k l.ty)) (found (λ (x : Loaded). x.load == i) (λ x. x.ty) (k + 1) loads))) h.0)
+    ∙ none in cc))
     (λ (h : ((l.load == i) ≡ false) × (l.load ≢ i)).
     zero_first (cond (i == l.load) (at d n) (pos 0)) (back (joined loads stores) d i) (cond_no i l.load (at d n) (λ e. h.1 (sym e)))
-    (found_none loads stores d i (k + 1) (sym (ap (λ b. is_some (cond b (Some (entry k l.ty)) (found (λ (x : Loaded). x.load == i) (λ x. x.ty) (k + 1) loads))) h.0) ∙ none)))
+    (found_none loads stores d i (k + 1)
+    (sym (ap (λ b. is_some (cond b (Some (entry k l.ty)) (found (λ (x : Loaded). x.load == i) (λ x. x.ty) (k + 1) loads))) h.0) ∙ none)))
     (eqb_tells l.load i)
 
 first_alone : (a b c : ℤ) → a ≡ c → b ≡ pos 0 → a +ℤ b ≡ c
@@ -85,7 +92,8 @@ record FromCell (loads : List Loaded) (stores : List ℕ) (d : List ℤ) (i k : 
   number : e.number ≡ k + place
   comes : back (joined loads stores) d i ≡ at (map (λ n. at d n) stores) place
 
-found_step : (l : Loaded) (loads : List Loaded) (n : ℕ) (stores : List ℕ) (d : List ℤ) (i k : ℕ) (e : Entry) → Rising (l ∷ loads) → found (λ (x : Loaded). x.load == i) (λ x. x.ty) k (l ∷ loads) ≡ Some e
+found_step : (l : Loaded) (loads : List Loaded) (n : ℕ) (stores : List ℕ) (d : List ℤ) (i k : ℕ) (e : Entry) → Rising (l ∷ loads)
+    → found (λ (x : Loaded). x.load == i) (λ x. x.ty) k (l ∷ loads) ≡ Some e
     → (found (λ (x : Loaded). x.load == i) (λ x. x.ty) (k + 1) loads ≡ Some e → FromCell loads stores d i (k + 1) e)
     → ((l.load == i) ≡ true) × (l.load ≡ i) ⊎ ((l.load == i) ≡ false) × (l.load ≢ i) → FromCell (l ∷ loads) (n ∷ stores) d i k e
 found_step l loads n stores d i k e rising is rest_is = ⊎_elim here later
@@ -102,7 +110,9 @@ found_step l loads n stores d i k e rising is rest_is = ⊎_elim here later
           place = 0;
           number = omega (arith, number);
           comes = first_alone (cond (i == l.load) (at d n) (pos 0)) (back (joined loads stores) d i) (at d n) (cond_yes i l.load (at d n) (sym h.1))
-              (back_none loads stores d i (λ q m there same_load. let up : l.load < m.load = rising 0 (suc q) l m refl there (omega arith) in let at_i = h.1 in omega (arith, up, same_load, at_i)));
+              (back_none loads stores d i
+              (λ q m there same_load. let up : l.load < m.load = rising 0 (suc q) l m refl there (omega arith) in let at_i = h.1 in
+              omega (arith, up, same_load, at_i)));
         }
 
     later : ((l.load == i) ≡ false) × (l.load ≢ i) → FromCell (l ∷ loads) (n ∷ stores) d i k e
@@ -112,10 +122,12 @@ found_step l loads n stores d i k e rising is rest_is = ⊎_elim here later
         record {
           place = suc r.place;
           number = omega (arith, number);
-          comes = others_alone (cond (i == l.load) (at d n) (pos 0)) (back (joined loads stores) d i) (at (map (λ m. at d m) stores) r.place) (cond_no i l.load (at d n) (λ e. h.1 (sym e))) r.comes;
+          comes = others_alone (cond (i == l.load) (at d n) (pos 0)) (back (joined loads stores) d i) (at (map (λ m. at d m) stores) r.place)
+              (cond_no i l.load (at d n) (λ e. h.1 (sym e))) r.comes;
         }
 
-found_some : (loads : List Loaded) (stores : List ℕ) (d : List ℤ) (i k : ℕ) (e : Entry) → Rising loads → length stores ≡ length loads → found (λ (l : Loaded). l.load == i) (λ l. l.ty) k loads ≡ Some e → FromCell loads stores d i k e
+found_some : (loads : List Loaded) (stores : List ℕ) (d : List ℤ) (i k : ℕ) (e : Entry) → Rising loads → length stores ≡ length loads
+    → found (λ (l : Loaded). l.load == i) (λ l. l.ty) k loads ≡ Some e → FromCell loads stores d i k e
 found_some [] stores d i k e rising many is = absurd cc
 found_some (l ∷ loads) [] d i k e rising many is = absurd (omega (arith, many))
 found_some (l ∷ loads) (n ∷ stores) d i k e rising many is =
@@ -141,7 +153,9 @@ not_true true h = sym h
 not_true false h = refl
 
 fits_load : (p : Place) (k : Kind) → kind_fits p k ≡ true → agree (is_load k) (is_some p.load) ≡ true
-fits_load p k h = second_of (agree (is_input k) (is_some p.input)) (agree (is_load k) (is_some p.load)) (agree (is_store k) (is_some p.store)) (agree (is_out k) (is_some p.out)) h
+fits_load p k h =
+    second_of (agree (is_input k) (is_some p.input)) (agree (is_load k) (is_some p.load)) (agree (is_store k) (is_some p.store))
+    (agree (is_out k) (is_some p.out)) h
 
 some_of : (x : Option Entry) → is_some x ≡ true → (e : Entry) × (x ≡ Some e)
 some_of None h = absurd cc
@@ -150,7 +164,8 @@ some_of (Some e) h = (e, refl)
 by_load : (p : Place) (b : Bool) → b ≡ is_some p.load → (x : ℤ) → (is_some p.load ≡ false → x ≡ pos 0) → not b ≡ true → pos 0 ≡ x
 by_load p b is x none h = sym (none (sym is ∙ not_true b h))
 
-pub loads_by : (k : Kind) (p : Place) (t : Ty) (imm x : ℤ) (held : List ℤ) → kind_fits p k ≡ true → imm_fits (entry_of p k) k t imm ≡ true → (is_some p.load ≡ false → x ≡ pos 0) → ((e : Entry) → p.load ≡ Some e → x ≡ at held e.number) → loaded_as k (at held (unsigned_abs imm)) ≡ x
+pub loads_by : (k : Kind) (p : Place) (t : Ty) (imm x : ℤ) (held : List ℤ) → kind_fits p k ≡ true → imm_fits (entry_of p k) k t imm ≡ true
+    → (is_some p.load ≡ false → x ≡ pos 0) → ((e : Entry) → p.load ≡ Some e → x ≡ at held e.number) → loaded_as k (at held (unsigned_abs imm)) ≡ x
 loads_by kind.Load p t imm x held fits number none some =
     let e = some_of p.load (fits_load p kind.Load fits) in
     let told : int_eq imm (pos e.0.number) ≡ true = subst (λ y. imm_fits y kind.Load t imm ≡ true) e.1 number in
@@ -197,12 +212,14 @@ loaded_zero kind.Xor = refl
 loaded_zero kind.Sel = refl
 
 -- what comes to operation i from the cells is what its cell, if it has one, had
-pub comes_back : (loads : List Loaded) (stores : List ℕ) (d : List ℤ) (i : ℕ) (e : Entry) → Rising loads → length stores ≡ length loads → found (λ (l : Loaded). l.load == i) (λ l. l.ty) 0 loads ≡ Some e → back (joined loads stores) d i ≡ at (map (λ n. at d n) stores) e.number
+pub comes_back : (loads : List Loaded) (stores : List ℕ) (d : List ℤ) (i : ℕ) (e : Entry) → Rising loads → length stores ≡ length loads
+    → found (λ (l : Loaded). l.load == i) (λ l. l.ty) 0 loads ≡ Some e → back (joined loads stores) d i ≡ at (map (λ n. at d n) stores) e.number
 comes_back loads stores d i e rising many is =
     let r = found_some loads stores d i 0 e rising many is in
     let number : e.number ≡ 0 + r.place = r.number in
     let same : r.place ≡ e.number = omega (arith, number) in
     r.comes ∙ ap (at (map (λ n. at d n) stores)) same
 
-pub comes_none : (loads : List Loaded) (stores : List ℕ) (d : List ℤ) (i : ℕ) → is_some (found (λ (l : Loaded). l.load == i) (λ l. l.ty) 0 loads) ≡ false → back (joined loads stores) d i ≡ pos 0
+pub comes_none : (loads : List Loaded) (stores : List ℕ) (d : List ℤ) (i : ℕ) → is_some (found (λ (l : Loaded). l.load == i) (λ l. l.ty) 0 loads) ≡ false
+    → back (joined loads stores) d i ≡ pos 0
 comes_none loads stores d i none = found_none loads stores d i 0 none

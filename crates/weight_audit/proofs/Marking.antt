@@ -29,10 +29,12 @@ none_marked (suc n) zero e = absurd cc
 none_marked (suc n) (suc k) e = none_marked n k e
 
 -- operation m hands its mark on
-pub closed_more : (ops : List Op) (m n : ℕ) (old new : List Bool) → ((q k j : ℕ) → Reads ops q k j → k < q) → n ≡ suc m → Keeps old new → ((k j : ℕ) → Reads ops m k j → mark old m ≡ true → mark new k ≡ true) → ((k : ℕ) → mark new k ≡ true → (mark old k ≡ true) ⊎ MarksRead ops old m k)
+pub closed_more : (ops : List Op) (m n : ℕ) (old new : List Bool) → ((q k j : ℕ) → Reads ops q k j → k < q) → n ≡ suc m → Keeps old new
+    → ((k j : ℕ) → Reads ops m k j → mark old m ≡ true → mark new k ≡ true) → ((k : ℕ) → mark new k ≡ true → (mark old k ≡ true) ⊎ MarksRead ops old m k)
     → ClosedFrom ops n old → ClosedFrom ops m new
 closed_more ops m n old new earlier is kept marked sound closed q k j le reads now =
-    by_place (⊎_elim (λ (h : mark old q ≡ true). h) (λ (r : MarksRead ops old m q). absurd (let before : q < m = earlier m q r.place r.reads in omega (arith, before, le))) (sound q now))
+    by_place (⊎_elim (λ (h : mark old q ≡ true). h)
+    (λ (r : MarksRead ops old m q). absurd (let before : q < m = earlier m q r.place r.reads in omega (arith, before, le))) (sound q now))
   where
     by_place : mark old q ≡ true → mark new k ≡ true
     by_place was = ⊎_elim
@@ -40,7 +42,8 @@ closed_more ops m n old new earlier is kept marked sound closed q k j le reads n
         (λ (h : ((q == m) ≡ false) × (q ≢ m)). kept k (closed q k j (let ne = h.1 in omega (arith, le, is, ne)) reads was))
         (eqb_tells q m)
 
-pub sound_more : (g : Lists) (out borders m : ℕ) (old new : List Bool) → ((k : ℕ) → mark new k ≡ true → (mark old k ≡ true) ⊎ MarksRead g.operations old m k) → AreSound g out borders old → AreSound g out borders new
+pub sound_more : (g : Lists) (out borders m : ℕ) (old new : List Bool) → ((k : ℕ) → mark new k ≡ true → (mark old k ≡ true) ⊎ MarksRead g.operations old m k)
+    → AreSound g out borders old → AreSound g out borders new
 sound_more g out borders m old new sound are k now = ⊎_elim
     (λ (h : mark old k ≡ true). are k h)
     (λ (r : MarksRead g.operations old m k). let path = are m r.marked in (Step.Read m r.place ∷ path.0, (r.reads, path.1)))
@@ -48,15 +51,18 @@ sound_more g out borders m old new sound are k now = ⊎_elim
 
 -- ---- the first distance
 
-pub out_sound : (g : Lists) (out n : ℕ) (marks : List Bool) → ((k : ℕ) → mark marks k ≡ true → (mark (replicate n false) k ≡ true) ⊎ (k ≡ out)) → AreSound g out 0 marks
+pub out_sound : (g : Lists) (out n : ℕ) (marks : List Bool) → ((k : ℕ) → mark marks k ≡ true → (mark (replicate n false) k ≡ true) ⊎ (k ≡ out))
+    → AreSound g out 0 marks
 out_sound g out n marks sound k now = ⊎_elim
     (λ (h : mark (replicate n false) k ≡ true). absurd (none_marked n k h))
     (λ (e : k ≡ out). ([], (e, refl)))
     (sound k now)
 
-complete_at : (g : Lists) (out : ℕ) (marks : List Bool) → ClosedFrom g.operations 0 marks → mark marks out ≡ true → (steps : List Step) (k : ℕ) → Leads g out 0 k steps → mark marks k ≡ true
+complete_at : (g : Lists) (out : ℕ) (marks : List Bool) → ClosedFrom g.operations 0 marks → mark marks out ≡ true → (steps : List Step) (k : ℕ)
+    → Leads g out 0 k steps → mark marks k ≡ true
 complete_at g out marks closed at_out [] k leads = subst (λ n. mark marks n ≡ true) (sym leads.0) at_out
-complete_at g out marks closed at_out (Step.Read q j ∷ steps) k leads = closed q k j (omega arith) leads.0 (complete_at g out marks closed at_out steps q leads.1)
+complete_at g out marks closed at_out (Step.Read q j ∷ steps) k leads =
+    closed q k j (omega arith) leads.0 (complete_at g out marks closed at_out steps q leads.1)
 complete_at g out marks closed at_out (Step.Cross l ∷ steps) k leads = absurd leads
 
 pub out_complete : (g : Lists) (out : ℕ) (marks : List Bool) → ClosedFrom g.operations 0 marks → mark marks out ≡ true → AreComplete g out 0 marks
@@ -64,17 +70,21 @@ out_complete g out marks closed at_out k path = complete_at g out marks closed a
 
 -- ---- one border more
 
-pub crossed_sound : (g : Lists) (out borders : ℕ) (later marks : List Bool) → AreSound g out borders later → ((k : ℕ) → mark marks k ≡ true → CrossesMarked (cells g) later k) → AreSound g out (suc borders) marks
+pub crossed_sound : (g : Lists) (out borders : ℕ) (later marks : List Bool) → AreSound g out borders later
+    → ((k : ℕ) → mark marks k ≡ true → CrossesMarked (cells g) later k) → AreSound g out (suc borders) marks
 crossed_sound g out borders later marks are sound k now =
     let crosses = sound k now in
     let path = are crosses.load crosses.marked in
     (Step.Cross crosses.load ∷ path.0, (crosses.crosses, path.1))
 
-complete_before : (g : Lists) (out borders : ℕ) (later marks : List Bool) → AreComplete g out borders later → ClosedFrom g.operations 0 marks → ((k l : ℕ) → Crosses (cells g) k l → mark later l ≡ true → mark marks k ≡ true)
+complete_before : (g : Lists) (out borders : ℕ) (later marks : List Bool) → AreComplete g out borders later → ClosedFrom g.operations 0 marks
+    → ((k l : ℕ) → Crosses (cells g) k l → mark later l ≡ true → mark marks k ≡ true)
     → (steps : List Step) (k : ℕ) → Leads g out (suc borders) k steps → mark marks k ≡ true
 complete_before g out borders later marks are closed crossed [] k leads = absurd (let e = leads.1 in omega (arith, e))
-complete_before g out borders later marks are closed crossed (Step.Read q j ∷ steps) k leads = closed q k j (omega arith) leads.0 (complete_before g out borders later marks are closed crossed steps q leads.1)
+complete_before g out borders later marks are closed crossed (Step.Read q j ∷ steps) k leads =
+    closed q k j (omega arith) leads.0 (complete_before g out borders later marks are closed crossed steps q leads.1)
 complete_before g out borders later marks are closed crossed (Step.Cross l ∷ steps) k leads = crossed k l leads.0 (are l (steps, leads.1))
 
-pub crossed_complete : (g : Lists) (out borders : ℕ) (later marks : List Bool) → AreComplete g out borders later → ClosedFrom g.operations 0 marks → ((k l : ℕ) → Crosses (cells g) k l → mark later l ≡ true → mark marks k ≡ true) → AreComplete g out (suc borders) marks
+pub crossed_complete : (g : Lists) (out borders : ℕ) (later marks : List Bool) → AreComplete g out borders later → ClosedFrom g.operations 0 marks
+    → ((k l : ℕ) → Crosses (cells g) k l → mark later l ≡ true → mark marks k ≡ true) → AreComplete g out (suc borders) marks
 crossed_complete g out borders later marks are closed crossed k path = complete_before g out borders later marks are closed crossed path.0 k path.1

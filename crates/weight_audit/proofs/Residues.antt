@@ -1,5 +1,6 @@
 -- Residues: sums and products of residues, and lists of them.
-use Rattle.std.proofs.Common.{◌≡◌, ◌≢◌, ◌⊎◌, ⊎_elim, ℕ, ◌+◌, ◌*◌, ◌<◌, true, false, cond, ◌==◌, ℤ, pos, ◌+ℤ◌, ◌*ℤ◌, List, length, set, replicate, ap, sym, ◌∙◌, arith}
+use Rattle.std.proofs.Common.{◌≡◌, ◌≢◌, ◌⊎◌, ⊎_elim, ℕ, ◌+◌, ◌*◌, ◌<◌, true, false, cond, ◌==◌, ℤ, pos, ◌+ℤ◌, ◌*ℤ◌, List, length, set, replicate, ap, sym, ◌∙◌}
+use Rattle.std.proofs.Common.{arith}
 use borrow.Author.Differences.{up, down}
 use Rattle.std.proofs.Math.IntN.{*ℤ_comm}
 use Rattle.std.proofs.lemmas.Int.{ints}
@@ -54,7 +55,8 @@ unfolding coded
 residue_times p laws x a y =
     let w : y ≡ pos (modulus p) *ℤ value_part p y +ℤ pos (modulo p y) = laws.whole y in
     let h : a *ℤ y ≡ a *ℤ (pos (modulus p) *ℤ value_part p y +ℤ pos (modulo p y)) = ap (λ z. a *ℤ z) w in
-    let s : a *ℤ (pos (modulus p) *ℤ value_part p y +ℤ pos (modulo p y)) ≡ a *ℤ (pos (modulus p) *ℤ value_part p y) +ℤ a *ℤ pos (modulo p y) = times_plus a (pos (modulus p) *ℤ value_part p y) (pos (modulo p y)) in
+    let s : a *ℤ (pos (modulus p) *ℤ value_part p y +ℤ pos (modulo p y)) ≡ a *ℤ (pos (modulus p) *ℤ value_part p y) +ℤ a *ℤ pos (modulo p y) =
+    times_plus a (pos (modulus p) *ℤ value_part p y) (pos (modulo p y)) in
     let k : a *ℤ (pos (modulus p) *ℤ value_part p y) ≡ pos (modulus p) *ℤ (a *ℤ value_part p y) = times_scaled a (pos (modulus p)) (value_part p y) in
     let e : x +ℤ a *ℤ y ≡ (x +ℤ a *ℤ pos (modulo p y)) +ℤ pos (modulus p) *ℤ (a *ℤ value_part p y) = omega (arith, ints) in
     sym (laws.multiple (x +ℤ a *ℤ y) (x +ℤ a *ℤ pos (modulo p y)) (a *ℤ value_part p y) e)
@@ -67,17 +69,20 @@ residue_zero p laws =
 -- ---- lists of residues
 
 -- the residues of integers are those of others that have the same residues
-pub are_same : (p : Profile) (count : ℕ) (f g : ℕ → ℤ) (numbers : List ℕ) → AreResidues p count f numbers → ((k : ℕ) → k < count → modulo p (f k) ≡ modulo p (g k)) → AreResidues p count g numbers
+pub are_same : (p : Profile) (count : ℕ) (f g : ℕ → ℤ) (numbers : List ℕ) → AreResidues p count f numbers
+    → ((k : ℕ) → k < count → modulo p (f k) ≡ modulo p (g k)) → AreResidues p count g numbers
 are_same p count f g numbers r same = record { many = r.many; each = λ k lt. r.each k lt ∙ same k lt }
 
-pub are_equal : (p : Profile) (count : ℕ) (f g : ℕ → ℤ) (numbers : List ℕ) → AreResidues p count f numbers → ((k : ℕ) → f k ≡ g k) → AreResidues p count g numbers
+pub are_equal : (p : Profile) (count : ℕ) (f g : ℕ → ℤ) (numbers : List ℕ) → AreResidues p count f numbers → ((k : ℕ) → f k ≡ g k)
+    → AreResidues p count g numbers
 are_equal p count f g numbers r same = are_same p count f g numbers r (λ k lt. ap (modulo p) (same k))
 
 pub are_zeros : (p : Profile) (count : ℕ) → WordLaws p → AreResidues p count (λ k. pos 0) (replicate count 0)
 are_zeros p count laws = record { many = length-replicate count 0; each = λ k lt. get_or-replicate count k 0 0 lt ∙ sym (residue_zero p laws) }
 
 -- one of them is set
-are_set_at : (p : Profile) (count : ℕ) (f : ℕ → ℤ) (numbers : List ℕ) (n : ℕ) (z : ℤ) (r k : ℕ) → WordLaws p → n < length numbers → AreResidues p count f numbers → r ≡ modulo p (pos (number numbers n) +ℤ z) → k < count
+are_set_at : (p : Profile) (count : ℕ) (f : ℕ → ℤ) (numbers : List ℕ) (n : ℕ) (z : ℤ) (r k : ℕ) → WordLaws p → n < length numbers
+    → AreResidues p count f numbers → r ≡ modulo p (pos (number numbers n) +ℤ z) → k < count
     → ((k == n) ≡ true) × (k ≡ n) ⊎ ((k == n) ≡ false) × (k ≢ n) → number (set numbers n r) k ≡ modulo p (f k +ℤ cond (k == n) z (pos 0))
 are_set_at p count f numbers n z r k laws inside are is lt h = ⊎_elim here there h
   where
@@ -93,7 +98,8 @@ are_set_at p count f numbers n z r k laws inside are is lt h = ⊎_elim here the
         let same : f k ≡ f k +ℤ pos 0 = omega (arith, ints) in
         get_or-set_other numbers n k r 0 e.1 ∙ are.each k lt ∙ ap (modulo p) same ∙ ap (λ b. modulo p (f k +ℤ cond b z (pos 0))) (sym e.0)
 
-pub are_set : (p : Profile) (count : ℕ) (f : ℕ → ℤ) (numbers : List ℕ) (n : ℕ) (z : ℤ) (r : ℕ) → WordLaws p → n < length numbers → AreResidues p count f numbers → r ≡ modulo p (pos (number numbers n) +ℤ z) → AreResidues p count (greater f n z) (set numbers n r)
+pub are_set : (p : Profile) (count : ℕ) (f : ℕ → ℤ) (numbers : List ℕ) (n : ℕ) (z : ℤ) (r : ℕ) → WordLaws p → n < length numbers → AreResidues p count f numbers
+    → r ≡ modulo p (pos (number numbers n) +ℤ z) → AreResidues p count (greater f n z) (set numbers n r)
 are_set p count f numbers n z r laws inside are is = record {
   many = length-set numbers n r ∙ are.many;
   each = λ k lt. are_set_at p count f numbers n z r k laws inside are is lt (eqb_tells k n);

@@ -32,7 +32,8 @@ sums-difference = refl
 
 -- `y := (x + x) - (x + x)`: the INPUT is blind, and the two sums aren't
 two_sums : Lists
-two_sums = with_output (with_op (with_op (with_op with_x (on_dint kind.Add 0 0 (pos 0))) (on_dint kind.Add 0 0 (pos 0))) (on_dint kind.Sub 1 2 (pos 0))) 0 ty.Dint 3 here
+two_sums = with_output
+    (with_op (with_op (with_op with_x (on_dint kind.Add 0 0 (pos 0))) (on_dint kind.Add 0 0 (pos 0))) (on_dint kind.Sub 1 2 (pos 0))) 0 ty.Dint 3 here
 
 sums-two_sums : sums two_sums 4 0 ≡ pos 0 ∷ pos 1 ∷ negsuc 0 ∷ pos 1 ∷ pos 1 ∷ []
 unfolding two_sums on_dint

@@ -9,10 +9,6 @@ use Rattle.weight_audit.specs.Paths.{Reached}
 abbrev pub most_weights : ℕ
 most_weights = 16777216
 
--- the most cycle borders
-abbrev pub most_horizon : ℕ
-most_horizon = 1000
-
 -- how many weights a graph has up to a number of cycle borders: one for each operation, each output and each number of borders
 abbrev pub weights_up_to : Lists → ℕ → ℕ
 weights_up_to g horizon = length g.operations * length g.outputs * (horizon + 1)
@@ -47,12 +43,17 @@ pub record IsAudit (g : Lists) (horizon : ℕ) (a : Audit) : Type 0 where
   pub operations : a.operations ≡ length g.operations
   pub outputs : length a.outputs ≡ length g.outputs
   pub horizon_is : a.horizon ≡ horizon
-  pub weight : (op output after : ℕ) (o : Outlet) → op < length g.operations → slice_get g.outputs output ≡ Some o → after ≤ horizon → weight_kept a op output after ≡ weight g o.op after op
-  pub sound : (op output after : ℕ) (o : Outlet) → slice_get g.outputs output ≡ Some o → after ≤ horizon → reached_kept a op output after ≡ true → Reached g o.op after op
-  pub complete : (op output after : ℕ) (o : Outlet) → slice_get g.outputs output ≡ Some o → after ≤ horizon → Reached g o.op after op → reached_kept a op output after ≡ true
+  pub weight : (op output after : ℕ) (o : Outlet) → op < length g.operations → slice_get g.outputs output ≡ Some o → after ≤ horizon
+      → weight_kept a op output after ≡ weight g o.op after op
+  pub sound : (op output after : ℕ) (o : Outlet) → slice_get g.outputs output ≡ Some o → after ≤ horizon → reached_kept a op output after ≡ true
+      → Reached g o.op after op
+  pub complete : (op output after : ℕ) (o : Outlet) → slice_get g.outputs output ≡ Some o → after ≤ horizon → Reached g o.op after op
+      → reached_kept a op output after ≡ true
 
 -- each output has a distance for each number of borders up to the horizon, with a weight and a mark for each operation
 pub record IsWhole (a : Audit) : Type 0 where
   pub borders : (output : ℕ) (ds : List Distance) → slice_get a.outputs output ≡ Some ds → length ds ≡ a.horizon + 1
-  pub weights : (output after : ℕ) (ds : List Distance) (d : Distance) → slice_get a.outputs output ≡ Some ds → slice_get ds after ≡ Some d → length d.weights ≡ a.operations
-  pub reached : (output after : ℕ) (ds : List Distance) (d : Distance) → slice_get a.outputs output ≡ Some ds → slice_get ds after ≡ Some d → length d.reached ≡ a.operations
+  pub weights : (output after : ℕ) (ds : List Distance) (d : Distance) → slice_get a.outputs output ≡ Some ds → slice_get ds after ≡ Some d
+      → length d.weights ≡ a.operations
+  pub reached : (output after : ℕ) (ds : List Distance) (d : Distance) → slice_get a.outputs output ≡ Some ds → slice_get ds after ≡ Some d
+      → length d.reached ≡ a.operations

@@ -35,4 +35,5 @@ ClosedForm t g = (f : Fault) → f.op < length g.operations → (out : ℕ) → 
 -- modulo the constant of the graph's code.
 abbrev pub StaleForm : Numbers → Lists → Type 0
 StaleForm t g = (f : Fault) (op : Op) (j : ℕ) → slice_get g.operations f.op ≡ Some op → f.act ≡ act.OperandStale j → (out borders : ℕ) →
-    (modulo g.profile (differs t g f (f.cycle + borders) out) ≡ 0) ↔ (modulo g.profile (pos t.step *ℤ multiplier op.kind j *ℤ pos (weight g out borders f.op)) ≡ 0)
+    (modulo g.profile (differs t g f (f.cycle + borders) out) ≡ 0)
+    ↔ (modulo g.profile (pos t.step *ℤ multiplier op.kind j *ℤ pos (weight g out borders f.op)) ≡ 0)

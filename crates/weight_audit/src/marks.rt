@@ -75,7 +75,8 @@ fn sweep(graph: &Graph, marks: &mut [bool])
     ensures many { length marks.new ≡ length marks.old }
     ensures kept { (k : ℕ) → mark_at marks.old k ≡ true → mark_at marks.new k ≡ true }
     ensures closed { (q k j : ℕ) → Reads graph.now.operations q k j → mark_at marks.new q ≡ true → mark_at marks.new k ≡ true }
-    ensures sound { (out borders : ℕ) → ((k : ℕ) → mark_at marks.old k ≡ true → Reached graph.now out borders k) → (k : ℕ) → mark_at marks.new k ≡ true → Reached graph.now out borders k }
+    ensures sound { (out borders : ℕ) → ((k : ℕ) → mark_at marks.old k ≡ true → Reached graph.now out borders k) → (k : ℕ) → mark_at marks.new k ≡ true
+        → Reached graph.now out borders k }
 {
     // What an operation reads is an earlier one.
     operands_are_there();

@@ -39,7 +39,8 @@ fn add(profile: Profile, numbers: &mut [Residue], n: u32, factor: i32, by: Resid
     requires place { n < length numbers.old }
     requires low { negsuc 1 ≤ℤ factor }
     requires high { factor ≤ℤ pos 20 }
-    ensures residues { (count : ℕ) (integers : ℕ → ℤ) → AreResidues profile count integers numbers.old → AreResidues profile count (greater integers n (factor *ℤ pos by)) numbers.new }
+    ensures residues { (count : ℕ) (integers : ℕ → ℤ) → AreResidues profile count integers numbers.old
+        → AreResidues profile count (greater integers n (factor *ℤ pos by)) numbers.new }
     ensures many { length numbers.new ≡ length numbers.old }
 {
     // Residues of sums are those of the sums of residues.
@@ -51,7 +52,8 @@ fn add(profile: Profile, numbers: &mut [Residue], n: u32, factor: i32, by: Resid
 fn hand_on(profile: Profile, op: &Op, j: u32, n: u32, weight: Residue, numbers: &mut [Residue])
     requires names { named op.now j ≡ n }
     requires there { is_some (reads_as op.now.kind op.now.from j) ≡ true → n < length numbers.old }
-    ensures residues { (count : ℕ) (integers : ℕ → ℤ) → AreResidues profile count integers numbers.old → AreResidues profile count (λ k. integers k +ℤ share op.now k j *ℤ pos weight) numbers.new }
+    ensures residues { (count : ℕ) (integers : ℕ → ℤ) → AreResidues profile count integers numbers.old
+        → AreResidues profile count (λ k. integers k +ℤ share op.now k j *ℤ pos weight) numbers.new }
     ensures many { length numbers.new ≡ length numbers.old }
 {
     if reads_operation(op.kind, j) {
@@ -62,7 +64,8 @@ fn hand_on(profile: Profile, op: &Op, j: u32, n: u32, weight: Residue, numbers: 
 /// Hands the weight of an operation on to what it reads.
 fn hand_on_all(profile: Profile, op: &Op, weight: Residue, numbers: &mut [Residue])
     requires there { (j : ℕ) → is_some (reads_as op.now.kind op.now.from j) ≡ true → named op.now j < length numbers.old }
-    ensures residues { (count : ℕ) (integers : ℕ → ℤ) → AreResidues profile count integers numbers.old → AreResidues profile count (λ k. integers k +ℤ factor_of op.now k *ℤ pos weight) numbers.new }
+    ensures residues { (count : ℕ) (integers : ℕ → ℤ) → AreResidues profile count integers numbers.old
+        → AreResidues profile count (λ k. integers k +ℤ factor_of op.now k *ℤ pos weight) numbers.new }
     ensures many { length numbers.new ≡ length numbers.old }
 {
     hand_on(profile, op, 0, op.a, weight, numbers);
@@ -76,7 +79,8 @@ fn hand_on_all(profile: Profile, op: &Op, weight: Residue, numbers: &mut [Residu
 fn sweep(graph: &Graph, profile: Profile, numbers: &mut [Residue])
     requires profile { profile ≡ graph.now.profile }
     requires many { length numbers.old ≡ length graph.now.operations }
-    ensures { (leaving : ℕ → ℤ) → AreResidues profile (length graph.now.operations) leaving numbers.old → AreResidues profile (length graph.now.operations) (at (weights_from leaving 0 graph.now.operations)) numbers.new }
+    ensures { (leaving : ℕ → ℤ) → AreResidues profile (length graph.now.operations) leaving numbers.old
+        → AreResidues profile (length graph.now.operations) (at (weights_from leaving 0 graph.now.operations)) numbers.new }
 {
     // What an operation reads is an earlier one.
     operands_are_there();
@@ -121,7 +125,8 @@ pub(crate) fn weights_at(
 fn cross(profile: Profile, cell: &Cell, later: &[Residue], numbers: &mut [Residue])
     requires store { cell.now.store < length numbers.old }
     requires load { cell.now.load < length later.now }
-    ensures residues { (count : ℕ) (integers : ℕ → ℤ) → AreResidues profile count integers numbers.old → AreResidues profile count (greater integers cell.now.store (pos (number later.now cell.now.load))) numbers.new }
+    ensures residues { (count : ℕ) (integers : ℕ → ℤ) → AreResidues profile count integers numbers.old
+        → AreResidues profile count (greater integers cell.now.store (pos (number later.now cell.now.load))) numbers.new }
     ensures many { length numbers.new ≡ length numbers.old }
 {
     add(profile, numbers, cell.store, 1, later[cell.load as usize]);
@@ -134,7 +139,8 @@ fn weigh_stores(graph: &Graph, profile: Profile, later: &[Residue], numbers: &mu
     requires graph { IsGraph graph.now }
     requires zeros { numbers.old ≡ replicate (length graph.now.operations) 0 }
     ensures many { length numbers.new ≡ length graph.now.operations }
-    ensures residues { (weights : List ℤ) → AreResidues profile (length graph.now.operations) (at weights) later.now → AreResidues profile (length graph.now.operations) (across (cells graph.now) weights) numbers.new }
+    ensures residues { (weights : List ℤ) → AreResidues profile (length graph.now.operations) (at weights) later.now
+        → AreResidues profile (length graph.now.operations) (across (cells graph.now) weights) numbers.new }
 {
     // The LOAD and the STORE of each cell are operations.
     entries_keep_their_rules();

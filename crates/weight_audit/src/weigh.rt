@@ -4,7 +4,8 @@ ghost use Rattle.std.specs.Prelude.{◌≡◌, ◌<◌, ◌≤◌, ℕ, suc, Err
 ghost use Rattle.signature_table.specs.Signatures.{IsTableOf};
 ghost use Rattle.op_graph.specs.Rules.{IsGraph};
 ghost use Rattle.weight_audit.specs.ClosedForm.{ClosedForm, StaleForm};
-ghost use Rattle.weight_audit.specs.Audit.{most_weights, most_horizon, weights_up_to as weights_of, IsAudit};
+ghost use Rattle.vcp_base.specs.Limits.{most_horizon};
+ghost use Rattle.weight_audit.specs.Audit.{most_weights, weights_up_to as weights_of, IsAudit};
 ghost use Rattle.weight_audit.specs.Sweeping.{IsDistance, AreDistances};
 ghost use Rattle.weight_audit.specs.declared.kept.AuditFault.TheVariants as fault;
 

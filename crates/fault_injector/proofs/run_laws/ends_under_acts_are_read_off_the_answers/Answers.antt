@@ -1,10 +1,10 @@
-use Rattle.fault_injector.proofs.EndsRead.{ends_are_read}
+use Rattle.fault_injector.proofs.EndsRead.{ends_are_read, outputs_are_read}
+use Rattle.fault_injector.proofs.WholeRun.{Laws}
 use Rattle.fault_injector.proofs.run_laws.ends_under_acts_are_read_off_the_answers.Goals as goal
 
 pub returns : goal.returns
 returns c =
-    ends_are_read
-    (record {
+    let laws : Laws = record {
       cycle = record {
         reads = c.operands_are_there.ensures;
         cells = c.cells_have_two_parts.ensures;
@@ -16,4 +16,5 @@ returns c =
       entries = c.entries_keep_their_rules.ensures;
       operands = c.operands_are_in_their_types.ensures;
       initial = c.right_answers_stand_for_values.ensures.cells_at_first;
-    })
+    } in
+    record { ends = ends_are_read laws; outputs = outputs_are_read laws }

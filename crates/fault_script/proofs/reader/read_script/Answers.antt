@@ -11,7 +11,8 @@ lines-preserved-in-Continue-1 c =
     let g = c.args.graph.now in
     let more = c.first_line.result.1.now in
     let step = c.in_ok-take.ensures.ok in
-    let left = taken g c.lines.script (c.lines.number + 1) c.lines.rest.now c.first_line.result.0.now more step.0 c.first_line.ensures.lines (sym c.is_skipped.ensures ∙ c.if-not-is_skipped.true) step.1 in
+    let left = taken g c.lines.script (c.lines.number + 1) c.lines.rest.now c.first_line.result.0.now more step.0 c.first_line.ensures.lines
+    (sym c.is_skipped.ensures ∙ c.if-not-is_skipped.true) step.1 in
     record {
       left = c.lines.invariant.left ∙ (left ∙ ap (λ (fs : List Fault). script_from g fs (c.lines.number + 1 + 1) more) (sym step.2));
       number = omega (arith, c.lines.invariant.number, c.first_line.ensures.shorter);
@@ -32,7 +33,8 @@ lines-preserved c =
     record {
       left =
           c.lines.invariant.left
-          ∙ skipped c.args.graph.now c.lines.script (c.lines.number + 1) c.lines.rest.now c.first_line.result.0.now c.first_line.result.1.now c.first_line.ensures.lines
+          ∙ skipped c.args.graph.now c.lines.script
+          (c.lines.number + 1) c.lines.rest.now c.first_line.result.0.now c.first_line.result.1.now c.first_line.ensures.lines
           (sym c.is_skipped.ensures ∙ c.if-not-is_skipped.false);
       number = omega (arith, c.lines.invariant.number, c.first_line.ensures.shorter);
       fits = c.lines.invariant.fits;
@@ -43,4 +45,5 @@ pub returns-clause-script : goal.returns-clause-script
 returns-clause-script c =
     let none : c.lines.rest.now ≡ [] = nil_from_length c.lines.rest.now (eqb-true (length c.lines.rest.now) 0 (sym c.is_empty.ensures ∙ c.lines-test.false)) in
     c.lines.invariant.left
-    ∙ (ap (λ (text : List ℕ). script_from c.args.graph.now c.lines.script (c.lines.number + 1) text) none ∙ finished c.args.graph.now c.lines.script (c.lines.number + 1))
+    ∙ (ap (λ (text : List ℕ). script_from c.args.graph.now c.lines.script (c.lines.number + 1) text) none
+    ∙ finished c.args.graph.now c.lines.script (c.lines.number + 1))

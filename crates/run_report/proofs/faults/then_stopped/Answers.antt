@@ -2,7 +2,9 @@ use Rattle.std.proofs.Common.{◌≡◌, ℕ, List, ◌++◌, codes, decimal, ap
 use Rattle.run_report.proofs.Gathering.{gathered_same}
 use Rattle.run_report.proofs.faults.then_stopped.Goals as goal
 
-pieces : (text cycle op place : List ℕ) → text ++ (codes "stopped " ++ (cycle ++ (codes " " ++ (op ++ (codes " " ++ place))))) ≡ text ++ codes "stopped " ++ cycle ++ codes " " ++ op ++ codes " " ++ place
+pieces : (text cycle op place : List ℕ)
+    → text ++ (codes "stopped " ++ (cycle ++ (codes " " ++ (op ++ (codes " " ++ place)))))
+    ≡ text ++ codes "stopped " ++ cycle ++ codes " " ++ op ++ codes " " ++ place
 pieces text cycle op place = simp append_assoc
 
 pub returns : goal.returns

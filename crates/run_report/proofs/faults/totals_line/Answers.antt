@@ -15,4 +15,5 @@ returns g c =
     let wrong = c.then_count-3.ensures _ _ _ (c.then_count-2.ensures _ _ _ all) in
     let refused = c.then_count-5.ensures _ _ _ (c.then_count-4.ensures _ _ _ wrong) in
     written_same (c.end.ensures.writes _ _ _ (c.then_count-6.ensures _ _ _ refused))
-    (pieces (codes "faults ") _ (codes " same ") (decimal t.same) (codes " wrong ") (decimal t.wrong) (codes " ran-on ") (decimal t.ran_on) (codes " refused ") (decimal t.refused) (codes " stopped ") (decimal t.stopped) (codes "\n"))
+    (pieces (codes "faults ") _ (codes " same ") (decimal t.same) (codes " wrong ") (decimal t.wrong) (codes " ran-on ") (decimal t.ran_on) (codes " refused ")
+    (decimal t.refused) (codes " stopped ") (decimal t.stopped) (codes "\n"))

@@ -15,9 +15,11 @@ turns-preserved g c =
     let left : c.turns.turns ≡ turn ∷ drop 1 c.turns.turns = first_left c.turns.turns turn (sym c.in-Some.is ∙ c.next.ensures.turn) in
     let fits : SFits w64 turn.value = search rules in
     let told = told_next names c.turns-turns.result c.turns.turns turn _
-    (λ text. Gathers (g.O.Sink.written c.args.out.now) (g.O.Sink.written c.then_turn.new.out) (g.O.Sink.faults c.args.out.now) (g.O.Sink.faults c.then_turn.new.out) c.args.line.now c.then_turn.new.line text)
+    (λ text. Gathers (g.O.Sink.written c.args.out.now) (g.O.Sink.written c.then_turn.new.out) (g.O.Sink.faults c.args.out.now)
+    (g.O.Sink.faults c.then_turn.new.out) c.args.line.now c.then_turn.new.line text)
     c.turns.invariant.told left
-    (λ text gathers start before front is. gathered_same (c.then_turn.ensures start before (front ++ text) (gathers start before front is)) (rw (to_z-of_z {w = w64} {z = turn.value} fits) (next_text names turn c.name.result.now front text c.name.ensures))) in
+    (λ text gathers start before front is. gathered_same (c.then_turn.ensures start before (front ++ text) (gathers start before front is))
+    (rw (to_z-of_z {w = w64} {z = turn.value} fits) (next_text names turn c.name.result.now front text c.name.ensures))) in
     record {
       told = rw c.next.ensures.rest told;
       named = rw c.next.ensures.rest (named_left names c.turns.turns turn c.turns.invariant.named left).1;

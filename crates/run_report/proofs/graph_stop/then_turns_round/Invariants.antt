@@ -6,7 +6,8 @@ use Rattle.run_report.proofs.graph_stop.then_turns_round.Given as goal
 
 abbrev pub invariant-turns : goal.invariant-turns
 invariant-turns g l = record {
-  told : Told l.graph.names l.initial.turns l.turns (λ text. Gathers (g.O.Sink.written l.fn.out) (g.O.Sink.written l.out) (g.O.Sink.faults l.fn.out) (g.O.Sink.faults l.out) l.fn.line l.line text);
+  told : Told l.graph.names l.initial.turns l.turns
+      (λ text. Gathers (g.O.Sink.written l.fn.out) (g.O.Sink.written l.out) (g.O.Sink.faults l.fn.out) (g.O.Sink.faults l.out) l.fn.line l.line text);
   named : AreNamed l.turns l.graph.names;
 }
 

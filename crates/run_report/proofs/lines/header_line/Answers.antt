@@ -14,7 +14,9 @@ pub names-preserved : goal.names-preserved
 names-preserved g c =
     let is = c.text-in-names-2.ensures.gathers _ _ _ (c.text-in-names.ensures.gathers _ _ _ c.names.invariant) in
     let named = rw c.bytes.ensures at is in
-    gathered_same named (flat_map-next_two (λ (column : Column). name_cell column.name) (codes "cycle") c.args.names.now c.names.i c.at.result.now (codes ",") c.at.result.now.name c.at.ensures refl)
+    gathered_same named
+    (flat_map-next_two (λ (column : Column). name_cell column.name) (codes "cycle") c.args.names.now c.names.i c.at.result.now
+    (codes ",") c.at.result.now.name c.at.ensures refl)
 
 pub returns : goal.returns
 returns g c =

@@ -14,7 +14,9 @@ pub cells-preserved : goal.cells-preserved
 cells-preserved g c =
     let fits : SFits w64 c.at.result = search rules in
     let is = c.value.ensures.gathers _ _ _ (c.text.ensures.gathers _ _ _ c.cells.invariant) in
-    gathered_same is (rw (flat_map-next value_cell (decimal c.args.cycle) c.args.row.now c.cells.i c.at.result c.at.ensures, to_z-of_z {w = w64} {z = c.at.result} fits) (simp append_assoc))
+    gathered_same is
+    (rw (flat_map-next value_cell (decimal c.args.cycle) c.args.row.now c.cells.i c.at.result c.at.ensures, to_z-of_z {w = w64} {z = c.at.result} fits)
+    (simp append_assoc))
 
 pub returns : goal.returns
 returns g c =

@@ -16,11 +16,18 @@ turns-init g c start before text is = gathered_same is (append-nil _)
 pub turns-preserved : goal.turns-preserved
 turns-preserved g c start before text is =
     let fits : SFits w64 c.at-turn.result.value = search rules in
-    let named : slice_index_or c.args.names.now c.at-turn.result.name [] ≡ c.at.result.now = get_or_from_slice_get c.args.names.now c.at-turn.result.name c.at.result.now [] c.at.ensures in
+    let named : slice_index_or c.args.names.now c.at-turn.result.name [] ≡ c.at.result.now =
+    get_or_from_slice_get c.args.names.now c.at-turn.result.name c.at.result.now [] c.at.ensures in
     let is = c.then_turn.ensures start before _ (c.turns.invariant start before text is) in
-    gathered_same is (rw (flat_map-next (λ t. turn_text (told_turn c.args.names.now t)) text c.args.turns.now c.turns.i c.at-turn.result c.at-turn.ensures, to_z-of_z {w = w64} {z = c.at-turn.result.value} fits, named) refl)
+    gathered_same is
+    (rw (
+      flat_map-next (λ t. turn_text (told_turn c.args.names.now t)) text c.args.turns.now c.turns.i c.at-turn.result c.at-turn.ensures,
+      to_z-of_z {w = w64} {z = c.at-turn.result.value} fits,
+      named,
+    ) refl)
 
 pub returns : goal.returns
 returns g c start before text is =
     let whole : take c.turns.i c.args.turns.now ≡ c.args.turns.now = take_all c.turns.i c.args.turns.now (omega arith) in
-    gathered_same (rw whole at (c.turns.invariant start before text is)) (ap (λ x. text ++ x) (flat_map-map turn_text (told_turn c.args.names.now) c.args.turns.now))
+    gathered_same (rw whole at (c.turns.invariant start before text is))
+    (ap (λ x. text ++ x) (flat_map-map turn_text (told_turn c.args.names.now) c.args.turns.now))

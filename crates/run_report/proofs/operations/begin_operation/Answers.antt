@@ -2,7 +2,8 @@ use Rattle.std.proofs.Common.{◌≡◌, ℕ, List, ◌++◌, codes, decimal, ap
 use Rattle.run_report.proofs.Gathering.{gathered_same}
 use Rattle.run_report.proofs.operations.begin_operation.Goals as goal
 
-pieces : (number kind from to : List ℕ) → number ++ (codes " " ++ (kind ++ (codes " " ++ (from ++ (codes " " ++ to))))) ≡ number ++ codes " " ++ kind ++ codes " " ++ from ++ codes " " ++ to
+pieces : (number kind from to : List ℕ)
+    → number ++ (codes " " ++ (kind ++ (codes " " ++ (from ++ (codes " " ++ to))))) ≡ number ++ codes " " ++ kind ++ codes " " ++ from ++ codes " " ++ to
 pieces number kind from to = simp append_assoc
 
 pub returns : goal.returns

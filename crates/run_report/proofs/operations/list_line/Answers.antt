@@ -6,7 +6,8 @@ use Rattle.run_report.specs.OperationLines.{operation_front, operands_text, own_
 use Rattle.run_report.proofs.Gathering.{written_same}
 use Rattle.run_report.proofs.operations.list_line.Goals as goal
 
-pieces : (front read own code source : List ℕ) → front ++ (read ++ (own ++ (code ++ (source ++ codes "\n")))) ≡ front ++ read ++ own ++ code ++ source ++ codes "\n"
+pieces : (front read own code source : List ℕ)
+    → front ++ (read ++ (own ++ (code ++ (source ++ codes "\n")))) ≡ front ++ read ++ own ++ code ++ source ++ codes "\n"
 pieces front read own code source = simp append_assoc
 
 pub returns : goal.returns

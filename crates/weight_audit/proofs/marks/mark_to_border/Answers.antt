@@ -11,6 +11,7 @@ returns c = record {
       record {
         many = e.many ∙ s.many;
         sound = e.sound out (suc borders) (crossed_sound g out borders c.args.later.now c.mark_stores.new.marks are.sound s.sound);
-        complete = crossed_complete g out borders c.args.later.now c.sweep.new.marks are.complete (λ q k j le. e.closed q k j) (λ k l crosses later. e.kept k (s.marked k l crosses later));
+        complete = crossed_complete g out borders c.args.later.now c.sweep.new.marks are.complete (λ q k j le. e.closed q k j)
+            (λ k l crosses later. e.kept k (s.marked k l crosses later));
       };
 }

@@ -10,6 +10,8 @@ returns c =
     let count = length g.operations in
     record {
       many = c.sweep.ensures.many ∙ c.mark.ensures.many ∙ ap length c.requires.none ∙ length-replicate count false;
-      sound = c.sweep.ensures.sound c.args.out 0 (out_sound g c.args.out count c.mark.new.marks (λ k now. subst (λ xs. (mark xs k ≡ true) ⊎ (k ≡ c.args.out)) c.requires.none (c.mark.ensures.sound k now)));
+      sound = c.sweep.ensures.sound c.args.out 0
+          (out_sound g c.args.out count c.mark.new.marks
+          (λ k now. subst (λ xs. (mark xs k ≡ true) ⊎ (k ≡ c.args.out)) c.requires.none (c.mark.ensures.sound k now)));
       complete = out_complete g c.args.out c.sweep.new.marks (λ q k j le. c.sweep.ensures.closed q k j) (c.sweep.ensures.kept c.args.out c.mark.ensures.marked);
     }

@@ -15,7 +15,8 @@ operations-preserved c =
       closed = λ n is.
           let same : q ≡ n = omega (arith, is, c.len-count.ensures.count, c.operations-test.true) in
           subst (λ m. ClosedFrom g.operations m c.mark_from.new.marks) same
-          (closed_more g.operations q (suc q) c.operations.marks c.mark_from.new.marks earlier refl e.kept e.marked e.sound (i.closed (suc q) (omega (arith, c.len-count.ensures.count, c.operations-test.true))));
+          (closed_more g.operations q (suc q) c.operations.marks c.mark_from.new.marks earlier refl e.kept e.marked e.sound
+          (i.closed (suc q) (omega (arith, c.len-count.ensures.count, c.operations-test.true))));
       sound = λ out borders a. sound_more g out borders q c.operations.marks c.mark_from.new.marks e.sound (i.sound out borders a);
     }
 

@@ -8,7 +8,8 @@ pub hand_on_all-requires : goal.hand_on_all-requires
 hand_on_all-requires c = record {
   there = λ j reads.
       let g = c.args.graph.now in
-      let inside = operand_inside g _ c.operation.result j (λ q k i r. c.operands_are_there.ensures.earlier g q k i c.len-count.ensures.rules.part r) c.operation.ensures reads in
+      let inside = operand_inside g _ c.operation.result j
+      (λ q k i r. c.operands_are_there.ensures.earlier g q k i c.len-count.ensures.rules.part r) c.operation.ensures reads in
       omega (arith, inside, c.operations.invariant.many);
 }
 
@@ -24,12 +25,14 @@ operations-preserved c =
           let same : q ≡ n = omega (arith, e, c.len-count.ensures.count, c.operations-test.true) in
           let before = i.are leaving (suc q) (omega (arith, c.len-count.ensures.count, c.operations-test.true)) a in
           subst (λ m. AreResidues c.args.profile count (handed_on leaving g.operations m) c.hand_on_all.new.numbers) same
-          (one_more c.args.profile leaving g.operations q c.operation.result c.operations.numbers c.hand_on_all.new.numbers (c.words_split_in_one_way.ensures c.args.profile) c.operation.ensures before
+          (one_more c.args.profile leaving g.operations q c.operation.result c.operations.numbers c.hand_on_all.new.numbers
+          (c.words_split_in_one_way.ensures c.args.profile) c.operation.ensures before
           (c.hand_on_all.ensures.residues count (handed_on leaving g.operations (suc q)) before));
     }
 
 pub returns : goal.returns
 returns c = λ leaving a.
     let g = c.args.graph.now in
-    all_have c.args.profile leaving g.operations c.operations.numbers (reads_before g (λ q k i r. c.operands_are_there.ensures.earlier g q k i c.len-count.ensures.rules.part r))
+    all_have c.args.profile leaving g.operations c.operations.numbers
+    (reads_before g (λ q k i r. c.operands_are_there.ensures.earlier g q k i c.len-count.ensures.rules.part r))
     (c.operations.invariant.are leaving 0 (omega (arith, c.operations-test.false, c.operations.auto.done-end, c.len-count.ensures.count)) a)

@@ -11,17 +11,20 @@ cells-init c =
     let g = c.args.graph.now in
     let p = c.args.profile in
     let count = length g.operations in
-    let zeros : AreResidues p count (λ k. pos 0) c.args.numbers.now = subst (λ xs. AreResidues p count (λ k. pos 0) xs) (sym c.requires.zeros) (are_zeros p count (c.words_split_in_one_way.ensures p)) in
+    let zeros : AreResidues p count (λ k. pos 0) c.args.numbers.now =
+    subst (λ xs. AreResidues p count (λ k. pos 0) xs) (sym c.requires.zeros) (are_zeros p count (c.words_split_in_one_way.ensures p)) in
     record { many = zeros.many; are = λ weights a. none_crossed p count (cells g) weights c.args.numbers.now zeros }
 
 pub cross-requires-clause-store : goal.cross-requires-clause-store
 cross-requires-clause-store c =
-    let inside = store_inside c.args.graph.now c.cells.i c.cell.result c.requires.graph.part (λ k n part there. c.entries_keep_their_rules.ensures.store c.args.graph.now k n part there) c.cell.ensures in
+    let inside = store_inside c.args.graph.now c.cells.i c.cell.result c.requires.graph.part
+    (λ k n part there. c.entries_keep_their_rules.ensures.store c.args.graph.now k n part there) c.cell.ensures in
     omega (arith, inside, c.cells.invariant.many)
 
 pub cross-requires-clause-load : goal.cross-requires-clause-load
 cross-requires-clause-load c =
-    let inside = load_inside c.args.graph.now c.cells.i c.cell.result c.requires.graph.part (λ k n part there. c.entries_keep_their_rules.ensures.load c.args.graph.now k n part there) c.cell.ensures in
+    let inside = load_inside c.args.graph.now c.cells.i c.cell.result c.requires.graph.part
+    (λ k n part there. c.entries_keep_their_rules.ensures.load c.args.graph.now k n part there) c.cell.ensures in
     omega (arith, inside, c.requires.many)
 
 pub cells-preserved : goal.cells-preserved
@@ -29,14 +32,17 @@ cells-preserved c =
     let g = c.args.graph.now in
     let p = c.args.profile in
     let count = length g.operations in
-    let inside = load_inside g c.cells.i c.cell.result c.requires.graph.part (λ k n part there. c.entries_keep_their_rules.ensures.load g k n part there) c.cell.ensures in
+    let inside = load_inside g c.cells.i c.cell.result c.requires.graph.part
+    (λ k n part there. c.entries_keep_their_rules.ensures.load g k n part there) c.cell.ensures in
     record {
       many = c.cross.ensures.many ∙ c.cells.invariant.many;
       are = λ weights a. subst (λ n. CrossedUpTo p count (cells g) weights n c.cross.new.numbers) (let e : suc c.cells.i ≡ c.cells.i + 1 = omega arith in e)
-          (one_crossed p count (cells g) weights c.cells.i c.cell.result c.args.later.now c.cells.numbers c.cross.new.numbers (c.words_split_in_one_way.ensures p) c.cell.ensures inside a (c.cells.invariant.are weights a) (λ f r. c.cross.ensures.residues count f r));
+          (one_crossed p count (cells g) weights c.cells.i c.cell.result c.args.later.now c.cells.numbers c.cross.new.numbers
+          (c.words_split_in_one_way.ensures p) c.cell.ensures inside a (c.cells.invariant.are weights a) (λ f r. c.cross.ensures.residues count f r));
     }
 
 pub returns-clause-residues : goal.returns-clause-residues
 returns-clause-residues c = λ weights a.
     let g = c.args.graph.now in
-    all_crossed c.args.profile (length g.operations) (cells g) weights c.cells.i c.cells.numbers (omega (arith, c.cells-test.false, c.cells-i-end.ensures.count)) (c.cells.invariant.are weights a)
+    all_crossed c.args.profile (length g.operations) (cells g) weights c.cells.i c.cells.numbers
+    (omega (arith, c.cells-test.false, c.cells-i-end.ensures.count)) (c.cells.invariant.are weights a)

@@ -8,5 +8,6 @@ use Rattle.weight_audit.proofs.numbers.weigh_stores.Given as goal
 abbrev pub invariant-cells : goal.invariant-cells
 invariant-cells l = record {
   many : length l.numbers ≡ length l.graph.operations;
-  are : (weights : List ℤ) → AreResidues l.profile (length l.graph.operations) (at weights) l.later → CrossedUpTo l.profile (length l.graph.operations) (cells l.graph) weights l.i l.numbers;
+  are : (weights : List ℤ) → AreResidues l.profile (length l.graph.operations) (at weights) l.later
+      → CrossedUpTo l.profile (length l.graph.operations) (cells l.graph) weights l.i l.numbers;
 }

@@ -11,6 +11,8 @@ returns c =
     let g = c.args.graph.now in
     let p = c.args.profile in
     let count = length g.operations in
-    let zeros : AreResidues p count (λ k. pos 0) c.args.numbers.now = subst (λ xs. AreResidues p count (λ k. pos 0) xs) (sym c.requires.zeros) (are_zeros p count (c.words_split_in_one_way.ensures p)) in
+    let zeros : AreResidues p count (λ k. pos 0) c.args.numbers.now =
+    subst (λ xs. AreResidues p count (λ k. pos 0) xs) (sym c.requires.zeros) (are_zeros p count (c.words_split_in_one_way.ensures p)) in
     let out = are_at_out p count c.args.out c.add.new.numbers (c.add.ensures.residues count (λ k. pos 0) zeros) in
-    subst (λ q. AreResidues q count (at (weights_from (at_out c.args.out) 0 g.operations)) c.sweep.new.numbers) c.requires.profile (c.sweep.ensures (at_out c.args.out) out)
+    subst (λ q. AreResidues q count (at (weights_from (at_out c.args.out) 0 g.operations)) c.sweep.new.numbers) c.requires.profile
+    (c.sweep.ensures (at_out c.args.out) out)

@@ -21,12 +21,16 @@ outputs-preserved c =
 pub new-requires : goal.new-requires
 new-requires c =
     let g = c.args.graph.now in
-    let many : length c.outputs.outputs.items ≡ length g.outputs = omega (arith, c.outputs.invariant.many, c.outputs-test.false, c.outputs.auto.i-end, c.outputs-i-end.ensures) in
-    subst (λ n. IsWhole (audit_of n c.args.horizon c.outputs.outputs.items)) (sym c.len-count.ensures.count) (is_whole g c.args.horizon c.outputs.outputs.items many c.outputs.invariant.all)
+    let many : length c.outputs.outputs.items ≡ length g.outputs =
+    omega (arith, c.outputs.invariant.many, c.outputs-test.false, c.outputs.auto.i-end, c.outputs-i-end.ensures) in
+    subst (λ n. IsWhole (audit_of n c.args.horizon c.outputs.outputs.items)) (sym c.len-count.ensures.count)
+    (is_whole g c.args.horizon c.outputs.outputs.items many c.outputs.invariant.all)
 
 pub returns : goal.returns
 returns c =
     let g = c.args.graph.now in
-    let many : length c.outputs.outputs.items ≡ length g.outputs = omega (arith, c.outputs.invariant.many, c.outputs-test.false, c.outputs.auto.i-end, c.outputs-i-end.ensures) in
-    let is = subst (λ n. IsAudit g c.args.horizon (audit_of n c.args.horizon c.outputs.outputs.items)) (sym c.len-count.ensures.count) (is_audit g c.args.horizon c.outputs.outputs.items many c.outputs.invariant.all) in
+    let many : length c.outputs.outputs.items ≡ length g.outputs =
+    omega (arith, c.outputs.invariant.many, c.outputs-test.false, c.outputs.auto.i-end, c.outputs-i-end.ensures) in
+    let is = subst (λ n. IsAudit g c.args.horizon (audit_of n c.args.horizon c.outputs.outputs.items)) (sym c.len-count.ensures.count)
+    (is_audit g c.args.horizon c.outputs.outputs.items many c.outputs.invariant.all) in
     rw c.new.ensures is

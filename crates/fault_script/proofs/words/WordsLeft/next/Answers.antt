@@ -20,4 +20,5 @@ returns-clause-some c =
     let some = word_next c.self.inside.rest.now c.word_length-end.result place c.if-end-eq0.false in
     sym c.self.view_is ∙ (some
     ∙ ap (λ (text : List ℕ). take c.word_length-end.result text ∷ words (drop c.word_length-end.result text)) (sym c.without_first_blanks-text.ensures)
-    ∙ ap (λ (rest : List ℕ). take c.word_length-end.result c.without_first_blanks-text.result.now ∷ words rest) (sym (part_to_end c.without_first_blanks-text.result.now c.word_length-end.result)))
+    ∙ ap (λ (rest : List ℕ). take c.word_length-end.result c.without_first_blanks-text.result.now ∷ words rest)
+    (sym (part_to_end c.without_first_blanks-text.result.now c.word_length-end.result)))

@@ -9,4 +9,5 @@ returns-clause-writes g c start before text is =
     written_all opened none
 
 pub returns-clause-after_failure : goal.returns-clause-after_failure
-returns-clause-after_failure g c = unchanged_on _ _ _ c.args.self.so_far _ c.text.ensures.after_failure c.text.ensures.stays_failed c.flush.ensures.after_failure
+returns-clause-after_failure g c =
+    unchanged_on _ _ _ c.args.self.so_far _ c.text.ensures.after_failure c.text.ensures.stays_failed c.flush.ensures.after_failure

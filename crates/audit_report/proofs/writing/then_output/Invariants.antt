@@ -1,0 +1,8 @@
+use Rattle.audit_report.specs.Continues.{Continues}
+use Rattle.audit_report.specs.AuditText.{distances_below}
+use Rattle.audit_report.proofs.writing.then_output.Given as goal
+
+abbrev pub invariant-distances : goal.invariant-distances
+invariant-distances g l =
+    Continues (g.O.Sink.written l.fn.out) (g.O.Sink.written l.out) (g.O.Sink.faults l.fn.out) (g.O.Sink.faults l.out)
+    l.fn.so_far l.so_far (distances_below l.graph l.weights l.output l.after)

@@ -1,0 +1,13 @@
+//! Laws of audits. The function does nothing: it states laws.
+
+ghost use Rattle.std.specs.Prelude.{◌≡◌, ℕ, List};
+ghost use Rattle.op_graph.specs.Lists.{Lists};
+ghost use Rattle.weight_audit.specs.Audit.{Audit, IsAudit};
+ghost use Rattle.audit_report.specs.AuditText.{AuditOf, TellsBlind};
+
+/// A graph has one text of an audit up to a horizon, and what is told to be blind is: paths lead from
+/// it to the output, and its weight is 0.
+pub fn an_audit_has_one_text()
+    ensures one { (g : Lists) (horizon : ℕ) (s t : List ℕ) → AuditOf g horizon s → AuditOf g horizon t → s ≡ t }
+    ensures blind { (g : Lists) (horizon : ℕ) (a : Audit) → IsAudit g horizon a → TellsBlind g horizon a }
+{}

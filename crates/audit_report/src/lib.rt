@@ -1,0 +1,10 @@
+//! The lines of an audit: for each output and each number of cycle borders how many operations are
+//! reached, how many of them are blind, and which.
+#![tactic(auto)]
+
+mod counts;
+mod laws;
+mod writing;
+
+pub use laws::an_audit_has_one_text;
+pub use writing::write_audit;

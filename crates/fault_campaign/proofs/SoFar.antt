@@ -1,0 +1,135 @@
+-- SoFar: what a campaign has found and told, fault by fault.
+use Rattle.std.proofs.Common.{◌≡◌, ◌≤◌, ◌+◌, ℕ, zero, suc, ℤ, List, [], ◌∷◌, ◌++◌, length, take, All, slice_get, option_map, Option, Some, Err}
+use Rattle.std.proofs.Common.{refl, ap, sym, subst, ◌∙◌, length-append, arith}
+use Rattle.std.proofs.lemmas.List.Elements.{All-nil, All-push}
+use Rattle.std.proofs.lemmas.Option.{slice_get-map, slice_get_within}
+use Rattle.std.specs.Io.KnownBytes.{Appends}
+use Rattle.std.proofs.KnownBytes.{Appends-trans, Appends-nil}
+use Rattle.vcp_outside.specs.Written.{AppendsPart}
+use Rattle.op_graph.specs.Lists.{Lists}
+use Rattle.signature_table.specs.Signatures.{Numbers}
+use Rattle.fault_script.specs.declared.act.Fault.{Fault}
+use Rattle.fault_verdict.specs.declared.verdict.Verdict.{Verdict}
+use Rattle.fault_verdict.specs.Names.{Names}
+use Rattle.fault_injector.specs.Scripts.{StaysHonest}
+use Rattle.fault_injector.specs.Verdicts.{verdict_of}
+use Rattle.run_report.specs.declared.faults.Totals.{Totals}
+use Rattle.run_report.specs.FaultLines.{verdict_text, counted, no_verdicts, totals_of, totals_text}
+use Rattle.fault_campaign.specs.declared.fault.CampaignFault.TheVariants as fault
+use Rattle.fault_campaign.specs.Campaign.{verdict_lines, verdicts_of, Told}
+use Rattle.fault_campaign.proofs.Telling.{no_lines, lines_next, totals_next, line_failed, totals_failed}
+
+-- where no answer was wrong from the first moment to the last, none was up to a moment between them
+honest_first : (a b c : ℕ) → a ≤ b → b ≤ c → StaysHonest a c → StaysHonest a b
+honest_first a b c first second h = (omega (arith, first, second, h.0), h.1)
+
+honest_second : (a b c : ℕ) → a ≤ b → b ≤ c → StaysHonest a c → StaysHonest b c
+honest_second a b c first second h = (omega (arith, first, second, h.0), omega (arith, first, second, h.0, h.1))
+
+take_one_more : {X : Type 0} (xs : List X) (i : ℕ) (x : X) → slice_get xs i ≡ Some x → take (suc i) xs ≡ take i xs ++ x ∷ []
+take_one_more [] i x e = absurd cc
+take_one_more (y ∷ xs) zero x e = let same : y ≡ x = cc in ap (λ z. z ∷ []) same
+take_one_more (y ∷ xs) (suc i) x e = ap (λ l. y ∷ l) (take_one_more xs i x e)
+
+-- the verdicts of the first faults, found between two moments of a unit's count
+pub record Found (t : Numbers) (g : Lists) (fs : List Fault) (rows : List (List ℤ)) (before now : ℕ) (vs : List Verdict) : Type 0 where
+  pub names : All (Names (length g.outputs) (length g.operations)) vs
+  pub few : length vs ≤ length fs
+  pub right : StaysHonest before now → vs ≡ take (length vs) (verdicts_of t g fs rows)
+
+-- so many verdicts are found, counted and told
+pub record SoFar (t : Numbers) (g : Lists) (fs : List Fault) (rows : List (List ℤ)) (before now : ℕ) (old new : Option (List ℕ)) (i : ℕ) (totals : Totals)
+    : Type 0 where
+  pub verdicts : List Verdict
+  pub count : length verdicts ≡ i
+  pub later : before ≤ now
+  pub found : Found t g fs rows before now verdicts
+  pub totals_are : totals ≡ totals_of verdicts
+  pub told : Appends old new (verdict_lines g fs verdicts)
+
+-- the verdict of the next fault is found
+pub record Next (t : Numbers) (g : Lists) (fs : List Fault) (rows : List (List ℤ)) (before now i : ℕ) (f : Fault) (v : Verdict) : Type 0 where
+  pub there : slice_get fs i ≡ Some f
+  pub later : before ≤ now
+  pub names : Names (length g.outputs) (length g.operations) v
+  pub right : StaysHonest before now → v ≡ verdict_of t g f rows
+
+pub so_far_none : (t : Numbers) (g : Lists) (fs : List Fault) (rows : List (List ℤ)) (wrong : ℕ) (old : Option (List ℕ)) →
+    SoFar t g fs rows wrong wrong old old 0 no_verdicts
+so_far_none t g fs rows wrong old = record {
+  verdicts = [];
+  count = refl;
+  later = omega arith;
+  found = record { names = All-nil (Names (length g.outputs) (length g.operations)); few = omega arith; right = λ h. refl };
+  totals_are = refl;
+  told = subst (Appends old old) (sym (no_lines g fs)) (Appends-nil old);
+}
+
+module _ (t : Numbers) (g : Lists) (fs : List Fault) (rows : List (List ℤ)) where
+  -- the defined verdicts, with one more
+  right_next : (vs : List Verdict) (f : Fault) (v : Verdict) → slice_get fs (length vs) ≡ Some f → vs ≡ take (length vs) (verdicts_of t g fs rows) →
+      v ≡ verdict_of t g f rows → vs ++ v ∷ [] ≡ take (length (vs ++ v ∷ [])) (verdicts_of t g fs rows)
+  right_next vs f v there before is =
+      let many : length (vs ++ v ∷ []) ≡ suc (length vs) = omega (arith, length-append vs (v ∷ [])) in
+      let all = verdicts_of t g fs rows in
+      let here : slice_get all (length vs) ≡ Some (verdict_of t g f rows) =
+      slice_get-map (λ (e : Fault). verdict_of t g e rows) fs (length vs) ∙ ap (option_map (λ (e : Fault). verdict_of t g e rows)) there in
+      ap (λ l. l ++ v ∷ []) before ∙ ap (λ w. take (length vs) all ++ w ∷ []) is
+      ∙ sym (take_one_more all (length vs) (verdict_of t g f rows) here) ∙ ap (λ n. take n all) (sym many)
+
+  -- one verdict more
+  found_next : (a b c : ℕ) (vs : List Verdict) (f : Fault) (v : Verdict) → a ≤ b → Found t g fs rows a b vs → Next t g fs rows b c (length vs) f v →
+      Found t g fs rows a c (vs ++ v ∷ [])
+  found_next a b c vs f v first found next =
+      let many : length (vs ++ v ∷ []) ≡ suc (length vs) = omega (arith, length-append vs (v ∷ [])) in
+      record {
+        names = All-push (Names (length g.outputs) (length g.operations)) vs v found.names next.names;
+        few = omega (arith, many, slice_get_within fs (length vs) f next.there);
+        right = λ h. right_next vs f v next.there (found.right (honest_first a b c first next.later h))
+            (next.right (honest_second a b c first next.later h));
+      }
+
+  module _ (a b c : ℕ) (old mid new : Option (List ℕ)) (i : ℕ) (totals : Totals) (so_far : SoFar t g fs rows a b old mid i totals) where
+    -- the next one, by how many there are
+    here : {f : Fault} {v : Verdict} → Next t g fs rows b c i f v → Next t g fs rows b c (length so_far.verdicts) f v
+    here next = record { there = ap (slice_get fs) so_far.count ∙ next.there; later = next.later; names = next.names; right = next.right }
+
+    pub so_far_next : (f : Fault) (v : Verdict) → Next t g fs rows b c i f v → Appends mid new (verdict_text g f.line v) →
+        SoFar t g fs rows a c old new (i + 1) (counted totals v)
+    so_far_next f v next line =
+        let vs = so_far.verdicts in
+        let there = (here next).there in
+        record {
+          verdicts = vs ++ v ∷ [];
+          count = omega (arith, length-append vs (v ∷ []), so_far.count);
+          later = omega (arith, so_far.later, next.later);
+          found = found_next a b c vs f v so_far.later so_far.found (here next);
+          totals_are = ap (λ (x : Totals). counted x v) so_far.totals_are ∙ sym (totals_next no_verdicts vs v);
+          told = subst (Appends old new) (sym (lines_next g fs vs f v there))
+              (Appends-trans old mid new (verdict_lines g fs vs) (verdict_text g f.line v) so_far.told line);
+        }
+
+    -- the line of the next verdict couldn't be written
+    pub line_exit : (f : Fault) (v : Verdict) → Next t g fs rows b c i f v → AppendsPart mid new (verdict_text g f.line v) →
+        Told t g fs rows a c old new (Err fault.Write)
+    line_exit f v next part =
+        let found = found_next a b c so_far.verdicts f v so_far.later so_far.found (here next) in
+        record {
+          verdicts = so_far.verdicts ++ v ∷ [];
+          names = found.names;
+          few = found.few;
+          right = found.right;
+          written = line_failed g fs so_far.verdicts f v old mid new (here next).there so_far.told part;
+        }
+
+  module _ (a b : ℕ) (old mid new : Option (List ℕ)) (totals : Totals) (so_far : SoFar t g fs rows a b old mid (length fs) totals) where
+    -- the totals couldn't be written
+    pub totals_exit : AppendsPart mid new (totals_text totals) → Told t g fs rows a b old new (Err fault.Write)
+    totals_exit part = record {
+      verdicts = so_far.verdicts;
+      names = so_far.found.names;
+      few = so_far.found.few;
+      right = so_far.found.right;
+      written = totals_failed g fs so_far.verdicts old mid new so_far.count so_far.told
+          (subst (λ (x : Totals). AppendsPart mid new (totals_text x)) so_far.totals_are part);
+    }

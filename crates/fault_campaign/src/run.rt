@@ -1,0 +1,56 @@
+//! The loop over the faults of a script.
+
+ghost use Rattle.std.specs.Prelude.{◌≡◌, ◌≤◌, All, Err, length};
+ghost use Rattle.vcp_base.specs.Limits.{most_cycles};
+ghost use Rattle.vcp_outside.specs.Counts.{Rose};
+ghost use Rattle.signature_table.specs.Signatures.{IsTableOf};
+ghost use Rattle.fault_script.specs.Fits.{Fits};
+ghost use Rattle.fault_script.specs.ScriptOf.{most_faults};
+ghost use Rattle.fault_campaign.specs.Campaign.{Told};
+ghost use Rattle.fault_campaign.specs.declared.fault.CampaignFault.TheVariants as fault;
+
+use crate::fault::CampaignFault;
+use coded_unit::Unit;
+use fault_injector::judge::verdict;
+use fault_script::Script;
+use input_rows::RowList;
+use op_graph::Graph;
+use run_report::{Totals, totals_line, verdict_line};
+use signature_table::Table;
+use std::alloc::Global;
+use vcp_outside::Sink;
+
+/// Finds the verdict of each fault of a script over rows of inputs, in order, and writes its line before
+/// the next fault is looked at; then it writes the totals.
+///
+/// After `Write` a part of the text is written, in which the lines before the one that failed are whole.
+/// After `Memory` the lines of the faults before the one whose verdict wanted it are written.
+pub fn run_campaign<U: Unit, O: Sink>(
+    alloc: Global,
+    out: &mut O,
+    graph: &Graph,
+    table: &Table,
+    rows: &RowList,
+    script: &Script,
+    unit: &mut U,
+) -> Result<(), CampaignFault>
+    requires table { IsTableOf table.now graph.now }
+    requires width { All (λ row. length row ≡ length graph.now.inputs) rows.now }
+    requires few { length rows.now ≤ most_cycles }
+    requires faults { All (Fits graph.now) script.now }
+    requires short { length script.now ≤ most_faults }
+    ensures told { Told table.now graph.now script.now rows.now (U.wrong unit.old) (U.wrong unit.new) (O.written out.old) (O.written out.new) result }
+    ensures never_falls { U.wrong unit.old ≤ U.wrong unit.new }
+    ensures write { result ≡ Err fault.Write → Rose (O.faults out.old) (O.faults out.new) }
+    ensures later { O.faults out.old ≤ O.faults out.new }
+{
+    let mut totals = Totals::new();
+    'faults: for i in 0..script.len() {
+        let fault = script.at(i);
+        let verdict = verdict(alloc, graph, table, rows, &fault, unit)?;
+        verdict_line(out, graph, fault.line, &verdict)?;
+        totals.count(&verdict);
+    }
+    totals_line(out, &totals)?;
+    Ok(())
+}
