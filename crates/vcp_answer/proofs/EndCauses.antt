@@ -7,8 +7,9 @@ use Rattle.vcp_words.specs.Forms.{Form}
 use Rattle.op_graph.specs.Lists.{Lists}
 use Rattle.vcp_typed.specs.SourceRun.{Program}
 use Rattle.vcp_words.specs.Forms.{Code}
-use Rattle.vcp_answer.specs.Answer.{Task, Answer, Job, lacks, gives, runs, compiles}
-use Rattle.vcp_answer.specs.Causes.{WasHonest, NothingFailed, Gave, GaveImage, GivesStatus, RunsToEnd, RunsToRefusal, WritesImage, Causes, HasOwnStatus, meant_answer}
+use Rattle.vcp_answer.specs.Answer.{Task, Answer, Campaign, Job, lacks, gives, runs, compiles, judges}
+use Rattle.vcp_answer.specs.Causes.{WasHonest, NothingFailed, Gave, GaveImage, GivesStatus, RunsToEnd, RunsToRefusal, WritesImage, JudgesFaults, Causes}
+use Rattle.vcp_answer.specs.Causes.{HasOwnStatus, meant_answer, verdicts_answer}
 use Rattle.vcp_answer.specs.Courses.{Course, IsWhole, answer_of, answer_read, answer_meant, image_answer, report_of, meant}
 use Rattle.vcp_answer.specs.Endings.{AnswerGiven, TellsLine, Ends, answers, files_failed, output_failed, errors_failed, line_failed, no_memory, memory_ended}
 use Rattle.vcp_answer.specs.Moments.{Ended, Errors}
@@ -50,24 +51,30 @@ one_cause (lacks name) g r h = absurd (omega (arith, h))
 one_cause (gives a) g r h = inl (a, refl, h)
 one_cause (runs job) g r h = inr (job, refl, refused_some r.end job.rows.refusal h)
 one_cause (compiles p code) g r h = absurd (omega (arith, h))
+one_cause (judges f) g r h = absurd (omega (arith, h))
 
-zero_cause : (task : Task) (g : Lists) (r : Report) → (answer_of task g r).status ≡ 0 → GivesStatus task 0 ⊎ (RunsToEnd task ⊎ WritesImage task)
+zero_cause : (task : Task) (g : Lists) (r : Report) → (answer_of task g r).status ≡ 0
+    → GivesStatus task 0 ⊎ (RunsToEnd task ⊎ (WritesImage task ⊎ JudgesFaults task))
 zero_cause (lacks name) g r h = absurd (omega (arith, h))
 zero_cause (gives a) g r h = inl (a, refl, h)
 zero_cause (runs job) g r h = inr (inl (job, refl, done_none r.end job.rows.refusal h))
-zero_cause (compiles p code) g r h = inr (inr (p, code, refl))
+zero_cause (compiles p code) g r h = inr (inr (inl (p, code, refl)))
+zero_cause (judges f) g r h = inr (inr (inr (f, refl)))
 
 five_cause : (task : Task) (g : Lists) (r : Report) → HasOwnStatus task → (answer_of task g r).status ≡ 5 → (name : List ℕ) × (task ≡ lacks name)
 five_cause (lacks name) g r few h = (name, refl)
 five_cause (gives a) g r few h = absurd (omega (arith, few, h))
 five_cause (runs job) g r few h = absurd (omega (arith, h, status_small r.end job.rows.refusal))
 five_cause (compiles p code) g r few h = absurd (omega (arith, h))
+five_cause (judges f) g r few h = absurd (omega (arith, h))
 
-two_cause : (task : Task) (g : Lists) (read : Report) → (answer_of task g read).status ≡ 2 → GivesStatus task 2 ⊎ ((meant : Report) → read ≡ meant → (s : ToldStop) × (meant.end ≡ stopped s))
+two_cause : (task : Task) (g : Lists) (read : Report) → (answer_of task g read).status ≡ 2
+    → GivesStatus task 2 ⊎ ((meant : Report) → read ≡ meant → (s : ToldStop) × (meant.end ≡ stopped s))
 two_cause (lacks name) g read h = absurd (omega (arith, h))
 two_cause (gives a) g read h = inl (a, refl, h)
 two_cause (runs job) g read h = inr (λ meant is. stop_of meant.end job.rows.refusal (ap (λ (r : Report). run_status r.end job.rows.refusal) (sym is) ∙ h))
 two_cause (compiles p code) g read h = absurd (omega (arith, h))
+two_cause (judges f) g read h = absurd (omega (arith, h))
 
 -- where the meaning stops, the defined answer's status is 2
 meant_stop : (task : Task) (g : Lists) (s : ToldStop) → (meant task).end ≡ stopped s → (answer_of task g (meant task)).status ≡ 2
@@ -75,6 +82,7 @@ meant_stop (lacks name) g s is = cc
 meant_stop (gives a) g s is = cc
 meant_stop (runs job) g s is = stopped_two (meant (runs job)).end job.rows.refusal s is
 meant_stop (compiles p code) g s is = cc
+meant_stop (judges f) g s is = cc
 
 -- ---- the defined answer was given
 
@@ -110,6 +118,17 @@ job_as_meant task job e is g honest =
     let same : answer_meant task c ≡ meant_answer job = ap (λ t. answer_of t c.graph (meant t)) is in
     rw same at (as_meant task e g honest)
 
+-- and of faults
+judged_as_meant : (task : Task) (f : Campaign) (e : Ended) → task ≡ judges f → AnswerGiven task e → WasHonest e → Gave (verdicts_answer f) e
+judged_as_meant task f e is g honest =
+    let c : Course = g.reached.course in
+    let same : answer_meant task c ≡ verdicts_answer f = ap (λ t. answer_of t c.graph (meant t)) is in
+    rw same at (as_meant task e g honest)
+
+-- the status of judged faults
+judged_zero : (task : Task) (f : Campaign) (g : Lists) (r : Report) → task ≡ judges f → (answer_of task g r).status ≡ 0
+judged_zero task f g r is = ap (λ t. (answer_of t g r).status) is
+
 given_causes : (task : Task) (e : Ended) → HasOwnStatus task → AnswerGiven task e → Causes task e
 given_causes task e few g =
     let c : Course = g.reached.course in
@@ -122,6 +141,9 @@ given_causes task e few g =
       completes = λ job is nothing honest. inr (job_as_meant task job e is g honest);
       compiled = λ p code is given. gave_image task p code e is g;
       compiled_completes = λ p code is nothing. inr (gave_image task p code e is g);
+      as_judged = λ f is honest given. judged_as_meant task f e is g honest;
+      judged_completes = λ f is nothing honest. inr (judged_as_meant task f e is g honest);
+      judged = λ f is given. sym status ∙ judged_zero task f c.graph read is;
       zero_only = λ h. zero_cause task c.graph read (status ∙ h);
       one_only = λ h. one_cause task c.graph read (status ∙ h);
       two_only = λ h.
@@ -130,7 +152,8 @@ given_causes task e few g =
             | inr f ↦ inr (λ honest. f (meant task) (g.reached.honest honest.same honest.below))
           ];
       two = λ s stops honest given. (as_meant task e g honest).status ∙ meant_stop task c.graph s stops;
-      five_only = λ h. let l = five_cause task c.graph read few (status ∙ h) in inr (l.0, l.1, rw (ap (λ t. answer_of t c.graph read) l.1) at ((came task e g).err));
+      five_only = λ h. let l = five_cause task c.graph read few (status ∙ h) in
+          inr (l.0, l.1, rw (ap (λ t. answer_of t c.graph read) l.1) at ((came task e g).err));
       five = λ name is sinks memory. sym status ∙ ap (λ t. (answer_of t c.graph read).status) is;
     }
 
@@ -149,6 +172,9 @@ kept_causes task e (by_files s rose) = record {
   compiled_completes = λ p code is nothing. absurd (nothing.unbroken rose);
   as_meant = λ job is honest given. absurd (given.files s);
   completes = λ job is nothing honest. absurd (nothing.unbroken rose);
+  as_judged = λ f is honest given. absurd (given.files s);
+  judged_completes = λ f is nothing honest. absurd (nothing.unbroken rose);
+  judged = λ f is given. absurd (given.files s);
   zero_only = λ h. absurd (omega (arith, h, s));
   one_only = λ h. absurd (omega (arith, h, s));
   two_only = λ h. absurd (omega (arith, h, s));
@@ -163,6 +189,9 @@ kept_causes task e (by_sink s failed) = record {
   compiled_completes = λ p code is nothing. absurd (failed nothing);
   as_meant = λ job is honest given. absurd (given.sinks s);
   completes = λ job is nothing honest. absurd (failed nothing);
+  as_judged = λ f is honest given. absurd (given.sinks s);
+  judged_completes = λ f is nothing honest. absurd (failed nothing);
+  judged = λ f is given. absurd (given.sinks s);
   zero_only = λ h. absurd (omega (arith, h, s));
   one_only = λ h. absurd (omega (arith, h, s));
   two_only = λ h. absurd (omega (arith, h, s));
@@ -177,6 +206,9 @@ kept_causes task e (by_memory s) = record {
   compiled_completes = λ p code is nothing. inl s;
   as_meant = λ job is honest given. absurd (given.memory s);
   completes = λ job is nothing honest. inl s;
+  as_judged = λ f is honest given. absurd (given.memory s);
+  judged_completes = λ f is nothing honest. inl s;
+  judged = λ f is given. absurd (given.memory s);
   zero_only = λ h. absurd (omega (arith, h, s));
   one_only = λ h. absurd (omega (arith, h, s));
   two_only = λ h. absurd (omega (arith, h, s));

@@ -14,12 +14,14 @@ abbrev first_code : Code
 first_code = record { seed = 0; step = 1 }
 
 -- cycle 0 of the first, on 5: INPUT, CONST, ADD, OUT
-increment : words_for profile.Narrow first_code 0 0 (pos 5 ∷ pos 1 ∷ pos 6 ∷ pos 6 ∷ []) ≡ pos 10737418236 ∷ pos 2362232013 ∷ pos 13314398613 ∷ pos 13529146978 ∷ []
+increment : words_for profile.Narrow first_code 0 0 (pos 5 ∷ pos 1 ∷ pos 6 ∷ pos 6 ∷ [])
+    ≡ pos 10737418236 ∷ pos 2362232013 ∷ pos 13314398613 ∷ pos 13529146978 ∷ []
 unfolding coded signature
 increment = refl
 
 -- cycle 1 of the second: LOAD, CONST, ADD, OUT, STORE
-counter : words_for profile.Narrow first_code 1 0 (pos 1 ∷ pos 1 ∷ pos 2 ∷ pos 2 ∷ pos 2 ∷ []) ≡ pos 2147483649 ∷ pos 2362232014 ∷ pos 4724464026 ∷ pos 4939212391 ∷ pos 5153960756 ∷ []
+counter : words_for profile.Narrow first_code 1 0 (pos 1 ∷ pos 1 ∷ pos 2 ∷ pos 2 ∷ pos 2 ∷ [])
+    ≡ pos 2147483649 ∷ pos 2362232014 ∷ pos 4724464026 ∷ pos 4939212391 ∷ pos 5153960756 ∷ []
 unfolding coded signature
 counter = refl
 

@@ -1,7 +1,9 @@
 -- Answer: what is written and the status; and the task that words and files come to.
-use Rattle.std.specs.Prelude.{ℕ, ◌≡◌, cond, nat_lt, List, [], ◌++◌, length, Option, Some, None, codes}
+use Rattle.std.specs.Prelude.{ℕ, ℤ, ◌≡◌, cond, nat_lt, List, [], ◌++◌, length, Option, Some, None, codes}
 use Rattle.input_rows.specs.RowsOf.{RowsLeft}
 use Rattle.op_graph.specs.Lists.{Lists}
+use Rattle.signature_table.specs.Signatures.{Numbers}
+use Rattle.fault_script.specs.declared.act.Fault.{Fault}
 use Rattle.vcp_typed.specs.SourceRun.{Program}
 use Rattle.vcp_words.specs.Forms.{Code}
 use Rattle.vcp_inputs.specs.declared.refusal.Refusal.{Refusal}
@@ -33,13 +35,21 @@ pub record Job : Type 0 where
   pub code : Code
   pub shown : Shown
 
--- What a command and files come to: a name that is lacking; an answer for which no unit is called; a run; or a program of which the
--- image of some graph that means it is written, with the numbers of a code.
+-- Faults to be judged: over which graph, with which table, on which rows of inputs, and which faults, in order.
+pub record Campaign : Type 0 where
+  pub graph : Lists
+  pub table : Numbers
+  pub rows : List (List ℤ)
+  pub faults : List Fault
+
+-- What a command and files come to: a name that is lacking; an answer for which no unit is called; a run; a program of which the
+-- image of some graph that means it is written, with the numbers of a code; or faults of which each is judged by runs of its own.
 pub data Task : Type 0 where
   lacks : List ℕ → Task
   gives : Answer → Task
   runs : Job → Task
   compiles : Program → Code → Task
+  judges : Campaign → Task
 
 -- the line of a file that couldn't be read
 abbrev pub read_fault_text : List ℕ → List ℕ

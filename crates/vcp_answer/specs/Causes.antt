@@ -7,8 +7,8 @@ use Rattle.vcp_outside.specs.Counts.{Rose}
 use Rattle.op_graph.specs.Lists.{Lists}
 use Rattle.vcp_typed.specs.SourceRun.{Program}
 use Rattle.vcp_words.specs.Forms.{Code}
-use Rattle.vcp_answer.specs.Answer.{Answer, Job, Task, lacks, gives, runs, compiles, read_fault_text}
-use Rattle.vcp_answer.specs.Courses.{MayCompile, meant, image_answer}
+use Rattle.vcp_answer.specs.Answer.{Answer, Campaign, Job, Task, lacks, gives, runs, compiles, judges, read_fault_text}
+use Rattle.vcp_answer.specs.Courses.{MayCompile, meant, image_answer, judged_answer}
 use Rattle.vcp_answer.specs.Moments.{Ended}
 use Rattle.vcp_answer.specs.Reports.{stopped, job_answer}
 
@@ -39,6 +39,10 @@ pub record Gave (a : Answer) (e : Ended) : Type 0 where
 abbrev pub meant_answer : Job → Answer
 meant_answer job = job_answer job (meant (runs job))
 
+-- the answer with the verdicts that are meant: those of the definitions, fault by fault
+abbrev pub verdicts_answer : Campaign → Answer
+verdicts_answer f = judged_answer f (meant (judges f)).verdicts
+
 -- the image of some graph that may stand for the program was written, with the numbers of the code
 pub record GaveImage (p : Program) (code : Code) (e : Ended) : Type 0 where
   pub graph : Lists
@@ -60,6 +64,10 @@ RunsToRefusal task = (job : Job) × (task ≡ runs job) × (job.rows.refusal ≢
 abbrev pub WritesImage : Task → Type 0
 WritesImage task = (p : Program) × (code : Code) × (task ≡ compiles p code)
 
+-- faults are judged
+abbrev pub JudgesFaults : Task → Type 0
+JudgesFaults task = (f : Campaign) × (task ≡ judges f)
+
 -- The causes of the statuses, for the task that words and files come to.
 pub record Causes (task : Task) (e : Ended) : Type 0 where
   -- where the task is an answer, it comes, but for 5, 6 and 7
@@ -74,8 +82,15 @@ pub record Causes (task : Task) (e : Ended) : Type 0 where
   pub compiled : (p : Program) (code : Code) → task ≡ compiles p code → IsNoFault e.status → GaveImage p code e
   -- and where nothing failed, it is written, unless memory was wanted
   pub compiled_completes : (p : Program) (code : Code) → task ≡ compiles p code → NothingFailed e → (e.status ≡ 7) ⊎ GaveImage p code e
-  -- 0 comes only where the task is an answer with this status, a run with no refusal behind its rows, or an image is written
-  pub zero_only : e.status ≡ 0 → GivesStatus task 0 ⊎ (RunsToEnd task ⊎ WritesImage task)
+  -- with an honest unit the verdicts on faults are those that are meant, but for 5, 6 and 7
+  pub as_judged : (f : Campaign) → task ≡ judges f → WasHonest e → IsNoFault e.status → Gave (verdicts_answer f) e
+  -- and where nothing failed, these are written, unless memory was wanted
+  pub judged_completes : (f : Campaign) → task ≡ judges f → NothingFailed e → WasHonest e → (e.status ≡ 7) ⊎ Gave (verdicts_answer f) e
+  -- whatever the unit answers and the verdicts are, the status of judged faults is 0, but for 5, 6 and 7
+  pub judged : (f : Campaign) → task ≡ judges f → IsNoFault e.status → e.status ≡ 0
+  -- 0 comes only where the task is an answer with this status, a run with no refusal behind its rows, an image is written, or faults
+  -- are judged
+  pub zero_only : e.status ≡ 0 → GivesStatus task 0 ⊎ (RunsToEnd task ⊎ (WritesImage task ⊎ JudgesFaults task))
   -- 1 comes only where the task is an answer with this status, or a run with a refusal behind its rows
   pub one_only : e.status ≡ 1 → GivesStatus task 1 ⊎ RunsToRefusal task
   -- 2 comes only where the task is an answer with this status, or, with an honest unit, where the run stops that is meant
@@ -83,7 +98,8 @@ pub record Causes (task : Task) (e : Ended) : Type 0 where
   -- and where the run that is meant stops it comes, but for 5, 6 and 7
   pub two : (s : ToldStop) → (meant task).end ≡ stopped s → WasHonest e → IsNoFault e.status → e.status ≡ 2
   -- 5 comes only where the files broke, or where a name is lacking that was come to, which the line then names
-  pub five_only : e.status ≡ 5 → Rose e.broken_before e.broken_after ⊎ ((name : List ℕ) × (task ≡ lacks name) × Appends e.err_before.written e.err_after.written (read_fault_text name))
+  pub five_only : e.status ≡ 5
+      → Rose e.broken_before e.broken_after ⊎ ((name : List ℕ) × (task ≡ lacks name) × Appends e.err_before.written e.err_after.written (read_fault_text name))
   -- and where a name is lacking it comes, but for 6 and 7
   pub five : (name : List ℕ) → task ≡ lacks name → e.status ≢ 6 → e.status ≢ 7 → e.status ≡ 5
 
@@ -93,3 +109,4 @@ HasOwnStatus (lacks name) = Unit {0}
 HasOwnStatus (gives a) = a.status ≤ 2
 HasOwnStatus (runs job) = Unit {0}
 HasOwnStatus (compiles p code) = Unit {0}
+HasOwnStatus (judges f) = Unit {0}

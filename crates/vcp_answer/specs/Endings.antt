@@ -1,28 +1,27 @@
 -- Endings: how a command ends, for a task that it comes to, by what the objects that were handed in tell before and after.
 use Rattle.std.specs.Prelude.{ℕ, ◌≡◌, ◌⊎◌, ◌<◌, ◌-◌, ◌^◌, true, List, [], ◌∷◌}
 use Rattle.std.specs.Io.KnownBytes.{Appends}
-use Rattle.coded_unit.specs.Log.{GrowsBy}
 use Rattle.vcp_outside.specs.Counts.{Rose}
 use Rattle.vcp_outside.specs.Written.{AppendsFront, AppendsPart}
 use Rattle.vcp_words.specs.Forms.{Form}
-use Rattle.vcp_words.specs.Tables.{file_words, takes_rows_late}
+use Rattle.vcp_words.specs.Tables.{file_words, takes_late}
 use Rattle.vcp_words.specs.Usage.{usage_text}
 use Rattle.vcp_inputs.specs.Lines.{memory_text}
 use Rattle.vcp_answer.specs.Answer.{Task, read_fault_text, write_fault_text}
 use Rattle.machine_run.specs.Moments.{Moment}
-use Rattle.vcp_answer.specs.Courses.{Course, IsWhole, IsBegun, calls_of, report_of, meant, answer_read, answer_meant, answer_then, MayCome, EarlierPrinted}
+use Rattle.vcp_answer.specs.Courses.{Course, IsWhole, IsBegun, LogGrows, report_of, meant, answer_read, answer_meant, answer_then, MayCome, EarlierPrinted}
 use Rattle.vcp_answer.specs.Moments.{Errors, Ended, Untouched}
 use Rattle.vcp_answer.specs.Reports.{Report}
 
 -- The defined answer was given, but for its line of errors; of a program of which an image is written, that of some graph that may
--- stand for it. Where the log is told, it grew by the calls of a whole course, cycle
--- after cycle to the end of the run, with the answers that the unit gave, and by nothing else; where it isn't, these are some
--- answers of that form. The output, the line and the status are those of the run that is read off these answers; and where
--- no answer was wrong, that run is the one that the task means.
+-- stand for it. Where the log is told, it grew in a run by the calls of a whole course, cycle after cycle to the end of the run, with
+-- the answers that the unit gave, and by nothing else; where it isn't, these are some answers of that form. The output, the line and
+-- the status are those of the run that is read off these answers, or of some verdict on each fault; and where no answer was wrong,
+-- that run is the one that the task means, and so are the verdicts.
 pub record Reached (task : Task) (line : List ℕ) (status : ℕ) (before after : Moment) : Type 0 where
   pub course : Course
   pub whole : IsWhole task course
-  pub log : GrowsBy before.log after.log (calls_of task course)
+  pub log : LogGrows task course before.log after.log
   pub out : Appends before.out after.out (answer_read task course).out
   pub line_is : (answer_read task course).err ≡ line
   pub status_is : (answer_read task course).status ≡ status
@@ -54,7 +53,7 @@ pub record FilesFailed (f : Form) (e : Ended) : Type 0 where
 pub record Cut (task : Task) (before after : Moment) : Type 0 where
   pub course : Course
   pub begun : IsBegun task course
-  pub log : GrowsBy before.log after.log (calls_of task course)
+  pub log : LogGrows task course before.log after.log
   pub out : (later : Report) → MayCome task course later → AppendsPart before.out after.out (answer_then task course later).out
   pub honest : after.wrong ≡ before.wrong → before.wrong < 2 ^ 64 - 1 → AppendsPart before.out after.out (answer_meant task course).out
   pub earlier : EarlierPrinted task course before.out after.out
@@ -62,7 +61,8 @@ pub record Cut (task : Task) (before after : Moment) : Type 0 where
 -- the line was printed with this status, or the sink of the errors failed in it, with status 6
 abbrev pub TellsLine : List ℕ → ℕ → Errors → Errors → ℕ → Type 0
 TellsLine line code before after status =
-    ((status ≡ code) × Appends before.written after.written line) ⊎ ((status ≡ 6) × Rose before.faults after.faults × AppendsPart before.written after.written line)
+    ((status ≡ code) × Appends before.written after.written line)
+    ⊎ ((status ≡ 6) × Rose before.faults after.faults × AppendsPart before.written after.written line)
 
 -- the sink of the output failed, and its line was printed, or the sink of the errors failed in it too
 pub record OutputFailed (task : Task) (e : Ended) : Type 0 where
@@ -99,7 +99,7 @@ pub record NoMemory (e : Ended) : Type 0 where
 pub record Front (task : Task) (before after : Moment) : Type 0 where
   pub course : Course
   pub begun : IsBegun task course
-  pub log : GrowsBy before.log after.log (calls_of task course)
+  pub log : LogGrows task course before.log after.log
   pub out : (later : Report) → MayCome task course later → AppendsFront before.out after.out (answer_then task course later).out
   pub honest : after.wrong ≡ before.wrong → before.wrong < 2 ^ 64 - 1 → AppendsFront before.out after.out (answer_meant task course).out
 
@@ -108,7 +108,7 @@ pub record MemoryEnded (task : Task) (e : Ended) : Type 0 where
   pub front : Front task e.before e.after
   pub told : TellsLine memory_text 7 e.err_before e.err_after e.status
 
--- How a command ends. Only one that takes its rows when it has begun to write gives up for want of memory then.
+-- How a command ends. Only one that takes memory or its rows when it has begun to write gives up for want of memory then.
 pub data Ends (f : Form) (task : Task) (e : Ended) : Type 0 where
   answers : AnswerGiven task e → Ends f task e
   files_failed : FilesFailed f e → Ends f task e
@@ -116,7 +116,7 @@ pub data Ends (f : Form) (task : Task) (e : Ended) : Type 0 where
   errors_failed : ErrorsFailed task e → Ends f task e
   line_failed : LineFailed f e → Ends f task e
   no_memory : NoMemory e → Ends f task e
-  memory_ended : takes_rows_late f ≡ true → MemoryEnded task e → Ends f task e
+  memory_ended : takes_late f ≡ true → MemoryEnded task e → Ends f task e
 
 -- The command was given up before it was known what it comes to: the files broke or memory was wanted, and its line was
 -- printed, or the sink of the errors failed in it.

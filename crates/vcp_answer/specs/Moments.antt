@@ -24,7 +24,15 @@ pub record Ended : Type 0 where
 
 abbrev pub ended : Moment → Moment → Errors → Errors → ℕ → ℕ → ℕ → Ended
 ended before after err_before err_after broken_before broken_after status =
-    record { before = before; after = after; err_before = err_before; err_after = err_after; broken_before = broken_before; broken_after = broken_after; status = status }
+    record {
+      before = before;
+      after = after;
+      err_before = err_before;
+      err_after = err_after;
+      broken_before = broken_before;
+      broken_after = broken_after;
+      status = status;
+    }
 
 -- neither the unit nor the sink of the output was called
 pub record Untouched (before after : Moment) : Type 0 where

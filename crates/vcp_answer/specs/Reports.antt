@@ -1,6 +1,7 @@
 -- Reports: a run as it is told, and the lines that print it.
 use Rattle.std.specs.Prelude.{ℕ, ◌++◌, List, [], length, map, slice_get, slice_index_or, Option, Some, None, ℤ, codes}
 use Rattle.vcp_base.specs.Stops.{ToldStop}
+use Rattle.fault_verdict.specs.declared.verdict.Verdict.{Verdict}
 use Rattle.input_rows.specs.declared.fault.RowFault.{RowFault}
 use Rattle.input_rows.specs.RowsOf.{RowsLeft}
 use Rattle.coded_unit.specs.declared.call.Answer.{Answer as Given}
@@ -25,11 +26,13 @@ pub data End : Type 0 where
   stopped : ToldStop → End
   refused : ℕ → ℕ → ℕ → End
 
--- the rows of outputs that were released, the end, and the words of the cycle whose words are printed, if one's are
+-- the rows of outputs that were released, the end, the words of the cycle whose words are printed, if one's are, and the verdicts on
+-- faults, if these are judged
 pub record Report : Type 0 where
   pub rows : List (List ℤ)
   pub end : End
   pub words : List ℤ
+  pub verdicts : List Verdict
 
 -- the end of a run with this stop or none
 abbrev pub end_told : Option ToldStop → End
@@ -40,7 +43,7 @@ end_told (Some s) = stopped s
 
 -- a run without a unit, as it is told, with these words
 abbrev pub report_told : Told → List ℤ → Report
-report_told t words = record { rows = t.rows; end = end_told t.end; words = words }
+report_told t words = record { rows = t.rows; end = end_told t.end; words = words; verdicts = [] }
 
 -- the program's own run on these rows
 abbrev pub report_meant : Program → List (List ℤ) → Report
@@ -68,21 +71,27 @@ shown_meant (words_of g n) code rows = words_meant g code n rows
 
 -- the run of a graph with this outcome and these words
 abbrev pub report_read : Lists → Outcome → List ℤ → Report
-report_read g o words = record { rows = o.rows; end = end_read g o.end; words = words }
+report_read g o words = record { rows = o.rows; end = end_read g o.end; words = words; verdicts = [] }
 
--- no row yet, no end and no word
+-- these verdicts and no run that is printed
+abbrev pub report_judged : List Verdict → Report
+report_judged verdicts = record { rows = []; end = complete; words = []; verdicts = verdicts }
+
+-- no row yet, no end, no word and no verdict
 abbrev pub no_report : Report
-no_report = record { rows = []; end = complete; words = [] }
+no_report = report_judged []
 
--- rows that were released and words, and then a later run, where they came to no other end
-abbrev pub goes_on : List (List ℤ) → End → List ℤ → Report → Report
-goes_on rows complete words later = record { rows = rows ++ later.rows; end = later.end; words = words ++ later.words }
-goes_on rows (stopped s) words later = record { rows = rows; end = stopped s; words = words }
-goes_on rows (refused output found wanted) words later = record { rows = rows; end = refused output found wanted; words = words }
+-- rows that were released, words and verdicts, and then a later run, where they came to no other end
+abbrev pub goes_on : List (List ℤ) → End → List ℤ → List Verdict → Report → Report
+goes_on rows complete words verdicts later =
+    record { rows = rows ++ later.rows; end = later.end; words = words ++ later.words; verdicts = verdicts ++ later.verdicts }
+goes_on rows (stopped s) words verdicts later = record { rows = rows; end = stopped s; words = words; verdicts = verdicts }
+goes_on rows (refused output found wanted) words verdicts later =
+    record { rows = rows; end = refused output found wanted; words = words; verdicts = verdicts }
 
 -- a run, and then a later one, unless it was ended
 abbrev pub followed_by : Report → Report → Report
-followed_by r later = goes_on r.rows r.end r.words later
+followed_by r later = goes_on r.rows r.end r.words r.verdicts later
 
 -- ---- how they are printed
 

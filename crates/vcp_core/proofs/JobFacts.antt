@@ -1,18 +1,17 @@
 -- What the calls of a job's run give, as its lemmas take it.
-use Rattle.std.proofs.Common.{ℕ, suc, [], ◌∷◌, ◌≡◌, ◌<◌, ◌≤◌, refl, sym, ap, subst, ◌∙◌, List, length, map, slice_get, Option, None, Some, Result, Ok, All, arith, ℤ}
+use Rattle.std.proofs.Common.{ℕ, suc, [], ◌∷◌, ◌≡◌, ◌<◌, refl, sym, ap, subst, ◌∙◌, List, length, map, slice_get, Option, None, Some, Result, Ok, All}
+use Rattle.std.proofs.Common.{arith, ℤ}
 use Rattle.std.proofs.lemmas.List.{length-map}
 use Rattle.vcp_base.specs.Types.{AreIn}
 use Rattle.vcp_base.specs.declared.columns.Column.{Column}
 use Rattle.vcp_base.specs.declared.kind.StopKind.{StopKind}
 use Rattle.vcp_base.specs.declared.ty.Ty.{Ty}
 use Rattle.vcp_typed.specs.Fitting.{AreRows, input_types}
-use Rattle.vcp_typed.specs.Size.{size}
 use Rattle.vcp_typed.specs.SourceRun.{Program}
 use Rattle.input_rows.specs.RowsOf.{RowsLeft}
 use Rattle.coded_unit.specs.Log.{Entry}
 use Rattle.op_graph.specs.declared.op.Op.{Op}
 use Rattle.op_graph.specs.Lists.{Lists, column, output_column}
-use Rattle.op_graph.specs.Rules.{IsGraph}
 use Rattle.signature_table.specs.Signatures.{Numbers, table_of}
 use Rattle.coded_machine.specs.declared.cycle_end.CycleEnd.{CycleEnd}
 use Rattle.coded_machine.specs.declared.cycle_end.CycleEnd.TheVariants as cycle
@@ -23,6 +22,7 @@ use Rattle.machine_run.specs.Leaves.{Leaves}
 use Rattle.machine_run.specs.Moments.{Moment, moment}
 use Rattle.vcp_words.specs.Forms.{Code}
 use Rattle.vcp_answer.specs.Answer.{Subject, source}
+use Rattle.vcp_answer.specs.Courses.{StandsFor}
 use Rattle.vcp_answer.specs.Moments.{Untouched}
 use Rattle.vcp_answer.specs.Reports.{end_read, end_told, names_of, run_status}
 use Rattle.vcp_core.specs.MachineRun.{CarriesOut, IsThere}
@@ -39,18 +39,19 @@ all-rows : (types : List Ty) (rows : List (List ℤ)) → All (AreIn types) rows
 all-rows types [] h = tt
 all-rows types (row ∷ rows) h = (h 0 row (omega arith), all-rows types rows (λ k d below. h (suc k) d (omega (arith, below))))
 
--- a graph that means a program is run in its place on rows that fit its inputs
-pub source-carried : (p : Program) (code : Code) (left : RowsLeft) (g : Lists) (t : Numbers) → IsGraph g → Means g p → length g.operations ≤ size p → t ≡ table_of code.seed code.step g →
+-- a graph that stands for a program is run in its place on rows that fit its inputs
+pub source-carried : (p : Program) (code : Code) (left : RowsLeft) (g : Lists) (t : Numbers) → StandsFor p g → t ≡ table_of code.seed code.step g →
     left.types ≡ input_types p.slots → All (AreIn left.types) left.rows → CarriesOut g t left (source p) code
-source-carried p code left g t graph means few table types typed = record {
-  may = record { graph = graph; means = means; few = few };
+source-carried p code left g t stands table types typed = record {
+  may = stands;
   numbers = table;
-  names = ap (map (λ (c : Column). c.name)) means.outputs;
-  told = means.runs left.rows (subst (λ types. AreRows types left.rows) types (all-rows left.types left.rows typed));
+  names = ap (map (λ (c : Column). c.name)) stands.means.outputs;
+  told = stands.means.runs left.rows (subst (λ types. AreRows types left.rows) types (all-rows left.types left.rows typed));
 }
 
 -- the names of the outputs
-pub names-are : (g : Lists) (t : Numbers) (left : RowsLeft) (s : Subject) (code : Code) (outputs : List Column) → CarriesOut g t left s code → outputs ≡ map (output_column g.names) g.outputs → map (λ (c : Column). c.name) outputs ≡ names_of s
+pub names-are : (g : Lists) (t : Numbers) (left : RowsLeft) (s : Subject) (code : Code) (outputs : List Column) → CarriesOut g t left s code
+    → outputs ≡ map (output_column g.names) g.outputs → map (λ (c : Column). c.name) outputs ≡ names_of s
 names-are g t left s code outputs carries is = ap (map (λ (c : Column). c.name)) is ∙ carries.names
 
 -- and have a value for each input of the graph
@@ -58,14 +59,17 @@ pub width-is : (g : Lists) (p : Program) (types : List Ty) → Means g p → typ
 width-is g p types means is = ap length is ∙ sym (inputs-count p.slots) ∙ ap length (sym means.inputs) ∙ length-map g.inputs (column g.names)
 
 -- what a fresh machine's run leaves, for its graph and table
-pub leaves-here : (m n : State) (g : Lists) (u t : Numbers) (left : RowsLeft) (text : ℕ → List ℤ → List ℕ) (before after : Moment) (kept_before kept_after : List (List ℤ) → Type 0) (r : Result CycleEnd RunFault) →
-    m ≡ fresh g u → u ≡ t → Leaves m.graph m.table left text before after kept_before kept_after n r → Leaves g t left text before after kept_before kept_after n r
+pub leaves-here : (m n : State) (g : Lists) (u t : Numbers) (left : RowsLeft) (text : ℕ → List ℤ
+    → List ℕ) (before after : Moment) (kept_before kept_after : List (List ℤ) → Type 0) (r : Result CycleEnd RunFault) →
+    m ≡ fresh g u → u ≡ t → Leaves m.graph m.table left text before after kept_before kept_after n r
+    → Leaves g t left text before after kept_before kept_after n r
 leaves-here m n g u t left text before after kept_before kept_after r is same h =
     subst (λ x. Leaves g x left text before after kept_before kept_after n r) same
     (subst (λ (x : State). Leaves x.graph x.table left text before after kept_before kept_after n r) is h)
 
 -- the operation that stopped is there, and so is the output that is refused
-pub there-is : {E : Type 0} (m : State) (g : Lists) (e : CycleEnd) (ok : Result CycleEnd E) → ok ≡ Ok e → m.graph ≡ g → ((k : ℕ) (why : StopKind) → ok ≡ Ok (cycle.Stopped k why) → k < length m.graph.operations) →
+pub there-is : {E : Type 0} (m : State) (g : Lists) (e : CycleEnd) (ok : Result CycleEnd E) → ok ≡ Ok e → m.graph ≡ g
+    → ((k : ℕ) (why : StopKind) → ok ≡ Ok (cycle.Stopped k why) → k < length m.graph.operations) →
     ((i found wanted : ℕ) → ok ≡ Ok (cycle.Refused i found wanted) → i < length m.graph.outputs) → IsThere g e
 there-is m g cycle.Released ok is same placed numbered = tt
 there-is m g (cycle.Stopped k why) ok is same placed numbered = subst (λ (x : Lists). k < length x.operations) same (placed k why is)

@@ -1,5 +1,7 @@
+pub mod Audits
 pub mod Facts
 pub mod ImageLoaded
+pub mod Injected
 pub mod JobFacts
 pub mod JobRun
 pub mod Listed
@@ -11,8 +13,10 @@ pub mod PlainRows
 pub mod PlainTurns
 pub mod PlainWorked
 pub mod Reaching
+pub mod Reduced
 pub mod RunReaching
 pub mod Serving
+pub mod StaleShown
 pub mod TaskKinds
 pub mod Traced
 pub mod WideImages

@@ -9,7 +9,8 @@ use Rattle.vcp_typed.specs.Fitting.{input_types, output_types, input_columns, ou
 use Rattle.vcp_typed.specs.SourceRun.{is_input, is_output}
 use Rattle.input_rows.specs.RowsOf.{types_of}
 
-either-map : {X Y : Type 0} (f : X → Y) (b : Bool) (x : X) (xs : List X) (y : Y) (ys : List Y) → f x ≡ y → map f xs ≡ ys → map f (cond b (x ∷ xs) xs) ≡ cond b (y ∷ ys) ys
+either-map : {X Y : Type 0} (f : X → Y) (b : Bool) (x : X) (xs : List X) (y : Y) (ys : List Y) → f x ≡ y → map f xs ≡ ys
+    → map f (cond b (x ∷ xs) xs) ≡ cond b (y ∷ ys) ys
 either-map f true x xs y ys e more = cc
 either-map f false x xs y ys e more = more
 
@@ -25,7 +26,8 @@ types-of-inputs (s ∷ slots) = either-map (λ (c : Column). c.ty) (is_input s.c
 -- and those of the outputs
 pub types-of-outputs : (slots : List Slot) → types_of (output_columns slots) ≡ output_types slots
 types-of-outputs [] = refl
-types-of-outputs (s ∷ slots) = either-map (λ (c : Column). c.ty) (is_output s.class) _ (output_columns slots) s.ty (output_types slots) refl (types-of-outputs slots)
+types-of-outputs (s ∷ slots) =
+    either-map (λ (c : Column). c.ty) (is_output s.class) _ (output_columns slots) s.ty (output_types slots) refl (types-of-outputs slots)
 
 -- there are as many values as types
 pub in-length : (types : List Ty) (values : List ℤ) → AreIn types values → length values ≡ length types

@@ -33,16 +33,23 @@ row_line name row.Cycles r is = let e : r ≡ refusal.Rows row.Cycles = cc in rw
 row_line name row.Cycle r is = let e : r ≡ refusal.Rows row.Cycle = cc in rw e refl
 row_line name row.Memory r is = cc
 
-module _ (p : List ℕ) (rows : Rows) (Takes : Task → Type 0) (log : Option (List Entry)) (wrong : ℕ) (old new : Option (List ℕ)) (f g b n : ℕ) (t : Program) (left : RowsLeft) (takes : Takes (gives (plain_answer (rows_name rows) t left))) where
+module _ (p : List ℕ) (rows : Rows) (Takes : Task → Type 0) (log : Option (List Entry)) (wrong : ℕ) (old new : Option (List ℕ)) (f g b n : ℕ) (t : Program)
+    (left : RowsLeft) (takes : Takes (gives (plain_answer (rows_name rows) t left))) where
   -- the run was printed, or the printing of it was ended
   pub run_printed : (r : Result End Fault) → Prints t left old new r → Reaches (plain p rows) Takes (moment log wrong old f) (moment log wrong new g) b n r
-  run_printed (Ok end.Done) (stop, none, w) = given Takes (plain_answer (rows_name rows) t left) _ _ log wrong old new f g takes w (rw (stop, none) refl) (rw (stop, none) refl)
+  run_printed (Ok end.Done) (stop, none, w) =
+      given Takes (plain_answer (rows_name rows) t left) _ _ log wrong old new f g takes w (rw (stop, none) refl) (rw (stop, none) refl)
   run_printed (Ok end.Stopped) (s, stop, w) = given Takes (plain_answer (rows_name rows) t left) _ _ log wrong old new f g takes w (rw stop refl) (rw stop refl)
   run_printed (Ok end.Refused) h = absurd h
   run_printed (Err (fault.Rows (input.Refused r))) (w, stop, some, refused_is, out) =
-      given Takes (plain_answer (rows_name rows) t left) _ _ log wrong old new f g takes out (rw (stop, some) (row_line (rows_name rows) w r refused_is)) (rw (stop, some) refl)
+      given Takes (plain_answer (rows_name rows) t left) _ _ log wrong old new f g takes out (rw (stop, some) (row_line (rows_name rows) w r refused_is))
+      (rw (stop, some) refl)
   run_printed (Err (fault.Rows input.Unread)) h = absurd h
-  run_printed (Err (fault.Rows input.Memory)) some = inr (refl, (gives (plain_answer (rows_name rows) t left), takes, front (plain_answer (rows_name rows) t left) log wrong old new f g some))
-  run_printed (Err fault.Write) part = (gives (plain_answer (rows_name rows) t left), takes, cut (plain_answer (rows_name rows) t left) log wrong old new f g part)
-  run_printed (Err fault.Memory) some = inr (refl, (gives (plain_answer (rows_name rows) t left), takes, front (plain_answer (rows_name rows) t left) log wrong old new f g some))
+  run_printed (Err (fault.Rows input.Memory)) some =
+      inr (refl, (gives (plain_answer (rows_name rows) t left), takes, front (plain_answer (rows_name rows) t left) log wrong old new f g some))
+  run_printed (Err fault.Write) part =
+      (gives (plain_answer (rows_name rows) t left), takes, cut (plain_answer (rows_name rows) t left) log wrong old new f g part)
+  run_printed (Err fault.Memory) some =
+      inr (refl, (gives (plain_answer (rows_name rows) t left), takes, front (plain_answer (rows_name rows) t left) log wrong old new f g some))
   run_printed (Err (fault.Source i)) h = absurd h
+  run_printed (Err (fault.Script i)) h = absurd h

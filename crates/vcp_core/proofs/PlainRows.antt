@@ -44,12 +44,14 @@ six_for_five : plain_answer (codes "in.csv") plus_one (left ((pos 5 ∷ []) ∷ 
 unfolding digits
 six_for_five = refl
 
-refused_after_six : plain_answer (codes "in.csv") plus_one (left ((pos 5 ∷ []) ∷ []) (Some (row.Cell 3 1))) ≡ record { out = codes "cycle,y\n0,6\n"; err = codes "in.csv:3:1 R3 Cell\n"; status = 1 }
+refused_after_six : plain_answer (codes "in.csv") plus_one (left ((pos 5 ∷ []) ∷ []) (Some (row.Cell 3 1)))
+    ≡ record { out = codes "cycle,y\n0,6\n"; err = codes "in.csv:3:1 R3 Cell\n"; status = 1 }
 unfolding digits
 refused_after_six = refl
 
 -- a stop comes before the refusal of a later row
-greatest_stops : plain_answer (codes "in.csv") plus_one (left ((pos 2147483647 ∷ []) ∷ []) (Some row.Cycles)) ≡ record { out = codes "cycle,y\nstop 0 RANGE 4:8\n"; err = []; status = 2 }
+greatest_stops : plain_answer (codes "in.csv") plus_one (left ((pos 2147483647 ∷ []) ∷ []) (Some row.Cycles))
+    ≡ record { out = codes "cycle,y\nstop 0 RANGE 4:8\n"; err = []; status = 2 }
 unfolding digits
 greatest_stops = refl
 

@@ -1,5 +1,6 @@
 -- The lines of a program's run, cycle by cycle.
-use Rattle.std.proofs.Common.{◌≡◌, ℕ, suc, ◌+◌, ◌≤◌, add-one, ℤ, List, [], ◌∷◌, ◌++◌, append-nil, append_assoc, length, refl, sym, ap, subst, ◌∙◌, arith, Option, Some, None, Result, Ok, Err}
+use Rattle.std.proofs.Common.{◌≡◌, ℕ, suc, ◌+◌, ◌≤◌, add-one, ℤ, List, [], ◌∷◌, ◌++◌, append-nil, append_assoc, length, refl, sym, ap, subst, ◌∙◌, arith}
+use Rattle.std.proofs.Common.{Option, Some, None, Result, Ok, Err}
 use Rattle.std.specs.Io.KnownBytes.{Appends}
 use Rattle.std.proofs.KnownBytes.{Appends-trans}
 use Rattle.vcp_base.specs.Limits.{most_cycles}
@@ -27,11 +28,13 @@ appends-nothing (Some bytes) = sym (append-nil bytes)
 
 -- ---- what is printed of a text whose front was printed before
 
-part-of : (old mid new : Option (List ℕ)) (front rest text : List ℕ) → text ≡ front ++ rest → Appends old mid front → AppendsPart mid new rest → AppendsPart old new text
+part-of : (old mid new : Option (List ℕ)) (front rest text : List ℕ) → text ≡ front ++ rest → Appends old mid front → AppendsPart mid new rest
+    → AppendsPart old new text
 part-of old mid new front rest text is before (some, more, cut, left, taken) =
     (front ++ some, more, is ∙ ap (λ t. front ++ t) cut ∙ sym (append_assoc front some more), left, Appends-trans old mid new front some before taken)
 
-front-of : (old mid new : Option (List ℕ)) (front rest text : List ℕ) → text ≡ front ++ rest → Appends old mid front → AppendsFront mid new rest → AppendsFront old new text
+front-of : (old mid new : Option (List ℕ)) (front rest text : List ℕ) → text ≡ front ++ rest → Appends old mid front → AppendsFront mid new rest
+    → AppendsFront old new text
 front-of old mid new front rest text is before (some, more, cut, taken) =
     (front ++ some, more, is ∙ ap (λ t. front ++ t) cut ∙ sym (append_assoc front some more), Appends-trans old mid new front some before taken)
 
@@ -41,12 +44,14 @@ pub prints-after : (stop : Option Stop) (refusal : Option RowFault) (old mid new
 prints-after stop refusal old mid new front rest text (Ok end.Done) is before (e, f, w) = (e, f, appends-appends old mid new front rest text before w is)
 prints-after stop refusal old mid new front rest text (Ok end.Stopped) is before (s, e, w) = (s, e, appends-appends old mid new front rest text before w is)
 prints-after stop refusal old mid new front rest text (Ok end.Refused) is before h = absurd h
-prints-after stop refusal old mid new front rest text (Err (fault.Rows (input.Refused r))) is before (f, e, g, h, w) = (f, e, g, h, appends-appends old mid new front rest text before w is)
+prints-after stop refusal old mid new front rest text (Err (fault.Rows (input.Refused r))) is before (f, e, g, h, w) =
+    (f, e, g, h, appends-appends old mid new front rest text before w is)
 prints-after stop refusal old mid new front rest text (Err (fault.Rows input.Unread)) is before h = absurd h
 prints-after stop refusal old mid new front rest text (Err (fault.Rows input.Memory)) is before w = front-of old mid new front rest text is before w
 prints-after stop refusal old mid new front rest text (Err fault.Write) is before w = part-of old mid new front rest text is before w
 prints-after stop refusal old mid new front rest text (Err fault.Memory) is before w = front-of old mid new front rest text is before w
 prints-after stop refusal old mid new front rest text (Err (fault.Source i)) is before h = absurd h
+prints-after stop refusal old mid new front rest text (Err (fault.Script i)) is before h = absurd h
 
 -- ---- one cycle
 
@@ -84,24 +89,29 @@ going-starts p m left old few = record { front = []; wrote = appends-nothing old
 pub going-ends : (p : Program) (m0 : List ℤ) (first : RowsLeft) (old now new : Option (List ℕ)) (n : ℕ) (m : List ℤ) (left : RowsLeft) (r : Result End Fault) →
     Going p m0 first old now n m left → PrintsFrom p n m left now new r → PrintsFrom p 0 m0 first old new r
 going-ends p m0 first old now new n m left r going prints =
-    let from = prints-after (run_from p m left.rows).end left.refusal old now new going.front (rest_text p n m left) (rest_text p 0 m0 first) r going.text going.wrote prints in
+    let from = prints-after (run_from p m left.rows).end left.refusal old now new going.front (rest_text p n m left)
+    (rest_text p 0 m0 first) r going.text going.wrote prints in
     let S : Option Stop → Type 0 = λ s. PrintsText (rest_text p 0 m0 first) s left.refusal old new r in
     let F : Option RowFault → Type 0 = λ f. PrintsText (rest_text p 0 m0 first) (run_from p m0 first.rows).end f old new r in
     subst F (sym going.refusal) (subst S (sym going.stop) from)
 
-stop-after : (p : Program) (r : Result (List ℤ) Stop) (m : List ℤ) (rows : List (List ℤ)) → r ≡ Ok m → (after_cycle p.slots (λ next. run_from p next rows) r).end ≡ (run_from p m rows).end
+stop-after : (p : Program) (r : Result (List ℤ) Stop) (m : List ℤ) (rows : List (List ℤ)) → r ≡ Ok m
+    → (after_cycle p.slots (λ next. run_from p next rows) r).end ≡ (run_from p m rows).end
 stop-after p r m rows is = ap (λ x. (after_cycle p.slots (λ next. run_from p next rows) x).end) is
 
-stopped-after : (p : Program) (r : Result (List ℤ) Stop) (s : Stop) (rows : List (List ℤ)) → r ≡ Err s → (after_cycle p.slots (λ next. run_from p next rows) r).end ≡ Some s
+stopped-after : (p : Program) (r : Result (List ℤ) Stop) (s : Stop) (rows : List (List ℤ)) → r ≡ Err s
+    → (after_cycle p.slots (λ next. run_from p next rows) r).end ≡ Some s
 stopped-after p r s rows is = ap (λ x. (after_cycle p.slots (λ next. run_from p next rows) x).end) is
 
 -- a cycle, and its line
 pub going-on : (p : Program) (m0 : List ℤ) (first : RowsLeft) (old now new : Option (List ℕ)) (n : ℕ) (m next row : List ℤ) (before left : RowsLeft) →
-    Going p m0 first old now n m before → before ≡ record left { rows = row ∷ left.rows } → cycle p m row ≡ Ok next → Appends now new (cycle_line p.slots n (cycle p m row)) →
+    Going p m0 first old now n m before → before ≡ record left { rows = row ∷ left.rows } → cycle p m row ≡ Ok next → Appends now new
+    (cycle_line p.slots n (cycle p m row)) →
     Going p m0 first old new (n + 1) next left
 going-on p m0 first old now new n m next row before left going taken is w =
     let here : rest_text p n m before ≡ cycle_line p.slots n (cycle p m row) ++ rest_text p (n + 1) next left =
-    ap (rest_text p n m) taken ∙ rest-split p n m row left ∙ ap (λ t. cycle_line p.slots n (cycle p m row) ++ t) (ap (λ r. after_line p n r left) is ∙ ap (λ k. rest_text p k next left) (sym (add-one n))) in
+    ap (rest_text p n m) taken ∙ rest-split p n m row left
+    ∙ ap (λ t. cycle_line p.slots n (cycle p m row) ++ t) (ap (λ r. after_line p n r left) is ∙ ap (λ k. rest_text p k next left) (sym (add-one n))) in
     let many : length before.rows ≡ suc (length left.rows) = ap (λ (l : RowsLeft). length l.rows) taken in
     record {
       front = going.front ++ cycle_line p.slots n (cycle p m row);
@@ -114,15 +124,18 @@ going-on p m0 first old now new n m next row before left going taken is w =
 
 -- a cycle that stops
 pub stops-here : (p : Program) (n : ℕ) (m row : List ℤ) (s : Stop) (before left : RowsLeft) (now new : Option (List ℕ)) →
-    before ≡ record left { rows = row ∷ left.rows } → cycle p m row ≡ Err s → Appends now new (cycle_line p.slots n (cycle p m row)) → PrintsFrom p n m before now new (Ok end.Stopped)
+    before ≡ record left { rows = row ∷ left.rows } → cycle p m row ≡ Err s → Appends now new
+    (cycle_line p.slots n (cycle p m row)) → PrintsFrom p n m before now new (Ok end.Stopped)
 stops-here p n m row s before left now new taken is w =
     let text : rest_text p n m before ≡ cycle_line p.slots n (cycle p m row) =
-    ap (rest_text p n m) taken ∙ rest-split p n m row left ∙ ap (λ t. cycle_line p.slots n (cycle p m row) ++ t) (ap (λ r. after_line p n r left) is) ∙ append-nil _ in
+    ap (rest_text p n m) taken ∙ rest-split p n m row left ∙ ap (λ t. cycle_line p.slots n (cycle p m row) ++ t) (ap (λ r. after_line p n r left) is)
+    ∙ append-nil _ in
     (s, ap (λ (l : RowsLeft). (run_from p m l.rows).end) taken ∙ stopped-after p (cycle p m row) s left.rows is, rw text w)
 
 -- the line of a cycle could not be printed
 pub fails-here : (p : Program) (n : ℕ) (m row : List ℤ) (before left : RowsLeft) (now new : Option (List ℕ)) →
-    before ≡ record left { rows = row ∷ left.rows } → AppendsPart now new (cycle_line p.slots n (cycle p m row)) → PrintsFrom p n m before now new (Err fault.Write)
+    before ≡ record left { rows = row ∷ left.rows } → AppendsPart now new (cycle_line p.slots n (cycle p m row)) → PrintsFrom p n m before now new
+    (Err fault.Write)
 fails-here p n m row before left now new taken w =
     part-after now now new [] _ (after_line p n (cycle p m row) left) _ (appends-nothing now) w (ap (rest_text p n m) taken ∙ rest-split p n m row left)
 
@@ -133,37 +146,49 @@ pub record NoRows (left : RowsLeft) (refusal : Option RowFault) : Type 0 where
   pub rows : left.rows ≡ []
   pub refusal_is : left.refusal ≡ refusal
 
-pub text-without-rows : (p : Program) (n : ℕ) (m : List ℤ) (left : RowsLeft) (refusal : Option RowFault) → NoRows left refusal → rest_text p n m left ≡ last_line p n None refusal
+pub text-without-rows : (p : Program) (n : ℕ) (m : List ℤ) (left : RowsLeft) (refusal : Option RowFault) → NoRows left refusal
+    → rest_text p n m left ≡ last_line p n None refusal
 text-without-rows p n m left refusal none =
     ap (λ rows. lines_from p n (run_from p m rows).rows (run_from p m rows).end left.refusal) none.rows ∙ ap (last_line p n None) none.refusal_is
 
 pub stop-without-rows : (p : Program) (m : List ℤ) (left : RowsLeft) (refusal : Option RowFault) → NoRows left refusal → (run_from p m left.rows).end ≡ None
 stop-without-rows p m left refusal none = ap (λ rows. (run_from p m rows).end) none.rows
 
-pub completes : (p : Program) (n : ℕ) (m : List ℤ) (left : RowsLeft) (now new : Option (List ℕ)) → NoRows left None → Appends now new (end_text n) → PrintsFrom p n m left now new (Ok end.Done)
+pub completes : (p : Program) (n : ℕ) (m : List ℤ) (left : RowsLeft) (now new : Option (List ℕ)) → NoRows left None → Appends now new (end_text n)
+    → PrintsFrom p n m left now new (Ok end.Done)
 completes p n m left now new none w = (stop-without-rows p m left None none, none.refusal_is, rw (text-without-rows p n m left None none) w)
 
-pub end-fails : (p : Program) (n : ℕ) (m : List ℤ) (left : RowsLeft) (now new : Option (List ℕ)) → NoRows left None → AppendsPart now new (end_text n) → PrintsFrom p n m left now new (Err fault.Write)
+pub end-fails : (p : Program) (n : ℕ) (m : List ℤ) (left : RowsLeft) (now new : Option (List ℕ)) → NoRows left None → AppendsPart now new (end_text n)
+    → PrintsFrom p n m left now new (Err fault.Write)
 end-fails p n m left now new none w = rw (text-without-rows p n m left None none) w
 
 -- memory was wanted before the next line
-pub wants-memory : (text : List ℕ) (stop : Option Stop) (refusal : Option RowFault) (now : Option (List ℕ)) → PrintsText text stop refusal now now (Err fault.Memory)
+pub wants-memory : (text : List ℕ) (stop : Option Stop) (refusal : Option RowFault) (now : Option (List ℕ))
+    → PrintsText text stop refusal now now (Err fault.Memory)
 wants-memory text stop refusal now = ([], text, refl, appends-nothing now)
 
 -- the next row is refused
-pub refuses-here : (p : Program) (n : ℕ) (m : List ℤ) (left : RowsLeft) (now : Option (List ℕ)) (f : RowFault) → ((f ≡ rows.Memory → ⊥) → NoRows left (Some f)) → PrintsFrom p n m left now now (Err (fault.Rows (no_rows f)))
+pub refuses-here : (p : Program) (n : ℕ) (m : List ℤ) (left : RowsLeft) (now : Option (List ℕ)) (f : RowFault) → ((f ≡ rows.Memory → ⊥) → NoRows left (Some f))
+    → PrintsFrom p n m left now now (Err (fault.Rows (no_rows f)))
 refuses-here p n m left now rows.Memory h = wants-memory (rest_text p n m left) (run_from p m left.rows).end left.refusal now
-refuses-here p n m left now rows.Header h = let none = h (λ e. absurd cc) in (rows.Header, stop-without-rows p m left _ none, none.refusal_is, refl, rw (text-without-rows p n m left _ none) (appends-nothing now))
-refuses-here p n m left now (rows.Width row) h = let none = h (λ e. absurd cc) in (rows.Width row, stop-without-rows p m left _ none, none.refusal_is, refl, rw (text-without-rows p n m left _ none) (appends-nothing now))
-refuses-here p n m left now (rows.Cell row column) h = let none = h (λ e. absurd cc) in (rows.Cell row column, stop-without-rows p m left _ none, none.refusal_is, refl, rw (text-without-rows p n m left _ none) (appends-nothing now))
-refuses-here p n m left now rows.Form h = let none = h (λ e. absurd cc) in (rows.Form, stop-without-rows p m left _ none, none.refusal_is, refl, rw (text-without-rows p n m left _ none) (appends-nothing now))
-refuses-here p n m left now rows.Cycles h = let none = h (λ e. absurd cc) in (rows.Cycles, stop-without-rows p m left _ none, none.refusal_is, refl, rw (text-without-rows p n m left _ none) (appends-nothing now))
-refuses-here p n m left now rows.Cycle h = let none = h (λ e. absurd cc) in (rows.Cycle, stop-without-rows p m left _ none, none.refusal_is, refl, rw (text-without-rows p n m left _ none) (appends-nothing now))
+refuses-here p n m left now rows.Header h = let none = h (λ e. absurd cc) in
+    (rows.Header, stop-without-rows p m left _ none, none.refusal_is, refl, rw (text-without-rows p n m left _ none) (appends-nothing now))
+refuses-here p n m left now (rows.Width row) h = let none = h (λ e. absurd cc) in
+    (rows.Width row, stop-without-rows p m left _ none, none.refusal_is, refl, rw (text-without-rows p n m left _ none) (appends-nothing now))
+refuses-here p n m left now (rows.Cell row column) h = let none = h (λ e. absurd cc) in
+    (rows.Cell row column, stop-without-rows p m left _ none, none.refusal_is, refl, rw (text-without-rows p n m left _ none) (appends-nothing now))
+refuses-here p n m left now rows.Form h = let none = h (λ e. absurd cc) in
+    (rows.Form, stop-without-rows p m left _ none, none.refusal_is, refl, rw (text-without-rows p n m left _ none) (appends-nothing now))
+refuses-here p n m left now rows.Cycles h = let none = h (λ e. absurd cc) in
+    (rows.Cycles, stop-without-rows p m left _ none, none.refusal_is, refl, rw (text-without-rows p n m left _ none) (appends-nothing now))
+refuses-here p n m left now rows.Cycle h = let none = h (λ e. absurd cc) in
+    (rows.Cycle, stop-without-rows p m left _ none, none.refusal_is, refl, rw (text-without-rows p n m left _ none) (appends-nothing now))
 
 -- ---- the whole
 
 -- the lines from a cycle on are the lines of the rows, and then the last one
-pub lines-are : (p : Program) (n : ℕ) (rows : List (List ℤ)) (stop : Option Stop) (refusal : Option RowFault) → lines_from p n rows stop refusal ≡ texts_from row_text n rows ++ last_line p (n + length rows) stop refusal
+pub lines-are : (p : Program) (n : ℕ) (rows : List (List ℤ)) (stop : Option Stop) (refusal : Option RowFault)
+    → lines_from p n rows stop refusal ≡ texts_from row_text n rows ++ last_line p (n + length rows) stop refusal
 lines-are p n [] stop refusal = ap (λ k. last_line p k stop refusal) (omega arith)
 lines-are p n (row ∷ rows) stop refusal =
     let shift : suc n + length rows ≡ n + length (row ∷ rows) = omega arith in
@@ -174,7 +199,8 @@ lines-are p n (row ∷ rows) stop refusal =
 pub whole-is : (p : Program) (left : RowsLeft) → plain_text p left ≡ header_text (output_names p) ++ rest_text p 0 (initial p.slots) left
 whole-is p left =
     let run = source_run p left.rows in
-    ap (λ t. header_text (output_names p) ++ t) (ap (λ k. texts_from row_text 0 run.rows ++ last_line p k run.end left.refusal) (omega arith) ∙ sym (lines-are p 0 run.rows run.end left.refusal))
+    ap (λ t. header_text (output_names p) ++ t)
+    (ap (λ k. texts_from row_text 0 run.rows ++ last_line p k run.end left.refusal) (omega arith) ∙ sym (lines-are p 0 run.rows run.end left.refusal))
 
 -- the header was printed, and then the cycles from the first on
 pub header-first : (p : Program) (left : RowsLeft) (old mid new : Option (List ℕ)) (r : Result End Fault) →
@@ -182,5 +208,6 @@ pub header-first : (p : Program) (left : RowsLeft) (old mid new : Option (List �
 header-first p left old mid new r w prints = prints-after _ _ old mid new _ _ _ r (whole-is p left) w prints
 
 -- the header could not be printed
-pub header-fails : (p : Program) (left : RowsLeft) (old new : Option (List ℕ)) → AppendsPart old new (header_text (output_names p)) → Prints p left old new (Err fault.Write)
+pub header-fails : (p : Program) (left : RowsLeft) (old new : Option (List ℕ)) → AppendsPart old new (header_text (output_names p))
+    → Prints p left old new (Err fault.Write)
 header-fails p left old new w = part-after old old new [] _ (rest_text p 0 (initial p.slots) left) _ (appends-nothing old) w (whole-is p left)

@@ -48,7 +48,8 @@ unfolding digits
 on-no-row = refl
 
 -- a stop is the last line, whatever rows or refusals are behind its row
-on-the-greatest : plain_text addition (left ((pos 5 ∷ []) ∷ (pos 2147483647 ∷ []) ∷ (pos 7 ∷ []) ∷ []) (Some (rows.Width 5))) ≡ codes "cycle,y\n0,6\nstop 1 RANGE 1:8\n"
+on-the-greatest : plain_text addition (left ((pos 5 ∷ []) ∷ (pos 2147483647 ∷ []) ∷ (pos 7 ∷ []) ∷ []) (Some (rows.Width 5)))
+    ≡ codes "cycle,y\n0,6\nstop 1 RANGE 1:8\n"
 unfolding digits
 on-the-greatest = refl
 
@@ -65,7 +66,9 @@ before-a-first-refusal = refl
 abbrev division : Program
 division = record {
   slots = variable (codes "y") class.Output ∷ variable (codes "i") class.Local ∷ variable (codes "z") class.Output ∷ [];
-  body = and_tstmt (for_ 1 (pos 1) (negsuc 0) 3 (and_tstmt (assign 0 (binary bin.Div ty.Dint (literal ty.Dint (pos 6) (at 6)) (get 1 ty.Dint) (at 8)) (at 4)) no_tstmts) (at 2)) no_tstmts;
+  body = and_tstmt
+      (for_ 1 (pos 1) (negsuc 0) 3 (and_tstmt (assign 0 (binary bin.Div ty.Dint (literal ty.Dint (pos 6) (at 6)) (get 1 ty.Dint) (at 8)) (at 4)) no_tstmts)
+      (at 2)) no_tstmts;
 }
 
 -- a stop inside a FOR is told with its turn

@@ -28,34 +28,44 @@ grows_by_none (Some es) = sym (append-nil es)
 grows_by_none None = tt
 
 -- neither the unit nor the sink was called
-pub untouched : (log : Option (List Entry)) (wrong : ℕ) (old new : Option (List ℕ)) (f g : ℕ) → Appends old new [] → Untouched (moment log wrong old f) (moment log wrong new g)
+pub untouched : (log : Option (List Entry)) (wrong : ℕ) (old new : Option (List ℕ)) (f g : ℕ) → Appends old new []
+    → Untouched (moment log wrong old f) (moment log wrong new g)
 untouched log wrong old new f g u = record { log = grows_by_none log; wrong = refl; out = u }
 
 -- an answer for which no unit is called was given, but for its line
 pub given : (Takes : Task → Type 0) (a : Answer) (line : List ℕ) (status : ℕ) (log : Option (List Entry)) (wrong : ℕ) (old new : Option (List ℕ)) (f g : ℕ) →
     Takes (gives a) → Appends old new a.out → a.err ≡ line → a.status ≡ status → Gives Takes line status (moment log wrong old f) (moment log wrong new g)
-given Takes a line status log wrong old new f g takes out line_is status_is =
-    (gives a, takes, record { course = no_course; whole = refl; log = grows_by_none log; out = out; line_is = line_is; status_is = status_is; honest = λ _ _. refl })
+given Takes a line status log wrong old new f g takes out line_is status_is = (
+  gives a,
+  takes,
+  record { course = no_course; whole = refl; log = grows_by_none log; out = out; line_is = line_is; status_is = status_is; honest = λ _ _. refl },
+)
 
 -- and a part of one was written, or a front
-pub cut : (a : Answer) (log : Option (List Entry)) (wrong : ℕ) (old new : Option (List ℕ)) (f g : ℕ) → AppendsPart old new a.out → Cut (gives a) (moment log wrong old f) (moment log wrong new g)
+pub cut : (a : Answer) (log : Option (List Entry)) (wrong : ℕ) (old new : Option (List ℕ)) (f g : ℕ) → AppendsPart old new a.out
+    → Cut (gives a) (moment log wrong old f) (moment log wrong new g)
 cut a log wrong old new f g part =
     record { course = no_course; begun = refl; log = grows_by_none log; out = λ later follows. part; honest = λ _ _. part; earlier = tt }
 
-pub front : (a : Answer) (log : Option (List Entry)) (wrong : ℕ) (old new : Option (List ℕ)) (f g : ℕ) → AppendsFront old new a.out → Front (gives a) (moment log wrong old f) (moment log wrong new g)
+pub front : (a : Answer) (log : Option (List Entry)) (wrong : ℕ) (old new : Option (List ℕ)) (f g : ℕ) → AppendsFront old new a.out
+    → Front (gives a) (moment log wrong old f) (moment log wrong new g)
 front a log wrong old new f g some =
     record { course = no_course; begun = refl; log = grows_by_none log; out = λ later follows. some; honest = λ _ _. some }
 
 -- a file of a command isn't taken, and nothing was done
 module _ (f : Form) (name : List ℕ) (before after : Moment) (u : Untouched before after) where
   pub refused : (Takes : Task → Type 0) (r : Refusal) → Takes (refuses name r) → Gives Takes (refusal_text name r) 1 before after
-  refused Takes r takes = (refuses name r, takes, record { course = no_course; whole = refl; log = u.log; out = u.out; line_is = refl; status_is = refl; honest = λ _ _. refl })
+  refused Takes r takes =
+      (refuses name r, takes, record { course = no_course; whole = refl; log = u.log; out = u.out; line_is = refl; status_is = refl; honest = λ _ _. refl })
 
   pub lacking : (Takes : Task → Type 0) → Takes (lacks name) → Gives Takes (read_fault_text name) 5 before after
-  lacking Takes takes = (lacks name, takes, record { course = no_course; whole = refl; log = u.log; out = u.out; line_is = refl; status_is = refl; honest = λ _ _. refl })
+  lacking Takes takes =
+      (lacks name, takes, record { course = no_course; whole = refl; log = u.log; out = u.out; line_is = refl; status_is = refl; honest = λ _ _. refl })
 
-  pub lost : (named : Among name (file_words f)) (held : Held) (limit : ℕ) (Text : List ℕ → Task → Type 0) (Why : List ℕ → Refusal → Type 0) (b n : ℕ) (i : NoInput) →
-      ((text : List ℕ) (r : Refusal) → Why text r → Text text (refuses name r)) → NotLoaded Why held name limit b n i → Lost f (λ task. WithFile name limit Text (held name) task) name before after b n i
+  pub lost : (named : Among name (file_words f)) (held : Held) (limit : ℕ) (Text : List ℕ → Task → Type 0) (Why : List ℕ → Refusal
+      → Type 0) (b n : ℕ) (i : NoInput) →
+      ((text : List ℕ) (r : Refusal) → Why text r → Text text (refuses name r)) → NotLoaded Why held name limit b n i → Lost f
+      (λ task. WithFile name limit Text (held name) task) name before after b n i
   lost named held limit Text Why b n input.Unread law (inl none) = inl (lacking (λ task. WithFile name limit Text (held name) task) (rw none refl))
   lost named held limit Text Why b n input.Unread law (inr rose) = inr (record { named = named; rose = rose; untouched = u })
   lost named held limit Text Why b n (input.Refused r) law (text, found, long l) =
@@ -67,14 +77,19 @@ module _ (f : Form) (name : List ℕ) (before after : Moment) (u : Untouched bef
   lost named held limit Text Why b n input.Memory law h = inl u
 
 -- what the text of a file that is held comes to
-pub holds : (name : List ℕ) (held : Held) (limit : ℕ) (Text : List ℕ → Task → Type 0) (text : List ℕ) (task : Task) → held name ≡ Some text → length text ≤ limit → Text text task → WithFile name limit Text (held name) task
+pub holds : (name : List ℕ) (held : Held) (limit : ℕ) (Text : List ℕ → Task → Type 0) (text : List ℕ) (task : Task) → held name ≡ Some text
+    → length text ≤ limit → Text text task → WithFile name limit Text (held name) task
 holds name held limit Text text task found l comes =
     let no : nat_lt limit (length text) ≡ false = grind (arith, nat_tests) in rw (found, no) comes
 
 -- where a file is refused, it was read to its end, or it is too long
-pub taken_of : (f : Form) (name : List ℕ) → Among name (file_words f) → (held : Held) (limit : ℕ) (Why : List ℕ → Refusal → Type 0) (b n : ℕ) (i : NoInput) (rest : Option (List ℕ)) → most_source_bytes ≤ limit → ((text : List ℕ) (r : Refusal) → Why text r → r ≢ refusal.Bytes) →
-    ((r : Refusal) → i ≡ input.Refused r → r ≢ refusal.Bytes → IsAtEnd rest) → NotLoaded Why held name limit b n i → input_status i ≡ 1 → IsAtEnd rest ⊎ HasLong f held
+pub taken_of : (f : Form) (name : List ℕ) → Among name (file_words f)
+    → (held : Held) (limit : ℕ) (Why : List ℕ → Refusal → Type 0) (b n : ℕ) (i : NoInput) (rest : Option (List ℕ)) → most_source_bytes ≤ limit
+    → ((text : List ℕ) (r : Refusal) → Why text r → r ≢ refusal.Bytes) →
+    ((r : Refusal) → i ≡ input.Refused r → r ≢ refusal.Bytes → IsAtEnd rest) → NotLoaded Why held name limit b n i → input_status i ≡ 1 → IsAtEnd rest
+    ⊎ HasLong f held
 taken_of f name named held limit Why b n input.Unread rest over other ends h is = absurd (omega (arith, is))
-taken_of f name named held limit Why b n (input.Refused r) rest over other ends (text, found, long l) is = inr (record { name = name; named = named; bytes = text; found = found; long = omega (arith, over, l) })
+taken_of f name named held limit Why b n (input.Refused r) rest over other ends (text, found, long l) is =
+    inr (record { name = name; named = named; bytes = text; found = found; long = omega (arith, over, l) })
 taken_of f name named held limit Why b n (input.Refused r) rest over other ends (text, found, short _ l why) is = inl (ends r refl (other text r why))
 taken_of f name named held limit Why b n input.Memory rest over other ends h is = absurd (omega (arith, is))

@@ -30,7 +30,9 @@ then-last lines names k (stopped s) not = refl
 then-last lines names k (refused i f w) not = refl
 
 -- a stop or a refused output is no release
-pub not-released : (e : CycleEnd) → ((k : ℕ) × (why : StopKind) × (e ≡ cycle.Stopped k why)) ⊎ ((i : ℕ) × (found : ℕ) × (wanted : ℕ) × (e ≡ cycle.Refused i found wanted)) → e ≢ cycle.Released
+pub not-released : (e : CycleEnd)
+    → ((k : ℕ) × (why : StopKind) × (e ≡ cycle.Stopped k why)) ⊎ ((i : ℕ) × (found : ℕ) × (wanted : ℕ) × (e ≡ cycle.Refused i found wanted))
+    → e ≢ cycle.Released
 not-released e (inl (k, why, is)) released = let no : cycle.Stopped k why ≡ cycle.Released = sym is ∙ released in cc
 not-released e (inr (i, found, wanted, is)) released = let no : cycle.Refused i found wanted ≡ cycle.Released = sym is ∙ released in cc
 
@@ -48,21 +50,26 @@ module _ (m : State) (names : List (List ℕ)) (n : ℕ) (a b c : Option (List �
       (failure.cause.failed, (front, rest ++ more, whole, rw (length-append rest more) (omega (arith, some)), taken))
 
   -- the cycle was released, and this was written or not
-  pub released-on : Writes {T = Unit {0}} {E = Failed} a b f g lines (Ok tt) → Appends b c (codes "released\n") → PrintsWords m names n cycle.Released a c f h (Ok ending.Done)
+  pub released-on : Writes {T = Unit {0}} {E = Failed} a b f g lines (Ok tt) → Appends b c (codes "released\n")
+      → PrintsWords m names n cycle.Released a c f h (Ok ending.Done)
   released-on before w = (Appends-trans a b c lines (codes "released\n") before.whole w, refl)
 
-  pub released-cut : (why : Failed) → Writes {T = Unit {0}} {E = Failed} a b f g lines (Ok tt) → Writes {T = Unit {0}} {E = Failed} b c g h (codes "released\n") (Err why) → PrintsWords m names n cycle.Released a c f h (Err why)
+  pub released-cut : (why : Failed) → Writes {T = Unit {0}} {E = Failed} a b f g lines (Ok tt)
+      → Writes {T = Unit {0}} {E = Failed} b c g h (codes "released\n") (Err why) → PrintsWords m names n cycle.Released a c f h (Err why)
   released-cut why before failure =
       let (front, rest, is, some, taken) = failure.part in
       let whole : traced_text m names n cycle.Released ≡ (lines ++ front) ++ rest = ap (λ l. lines ++ l) is ∙ sym (append_assoc lines front rest) in
       (omega (arith, before.cause.later, failure.cause.failed), (lines ++ front, rest, whole, some, Appends-trans a b c lines front before.whole taken))
 
   -- the run's last line was written, or a part of it
-  pub ended-on : (e : CycleEnd) (r : Result Ends Failed) → e ≢ cycle.Released → IsThere m.graph e → Writes {T = Unit {0}} {E = Failed} a b f g lines (Ok tt) → PrintsEnd m.graph names m.cycles e b c g h r → PrintsWords m names n e a c f h r
+  pub ended-on : (e : CycleEnd) (r : Result Ends Failed) → e ≢ cycle.Released → IsThere m.graph e → Writes {T = Unit {0}} {E = Failed} a b f g lines (Ok tt)
+      → PrintsEnd m.graph names m.cycles e b c g h r → PrintsWords m names n e a c f h r
   ended-on e (Ok end) not there before (w, status) =
-      let text : traced_text m names n e ≡ lines ++ last_text names m.cycles (end_read m.graph e) None = then-last lines names m.cycles (end_read m.graph e) (λ is. not (complete-is m.graph e there is)) in
+      let text : traced_text m names n e ≡ lines ++ last_text names m.cycles (end_read m.graph e) None =
+      then-last lines names m.cycles (end_read m.graph e) (λ is. not (complete-is m.graph e there is)) in
       (rw text (Appends-trans a b c lines (last_text names m.cycles (end_read m.graph e) None) before.whole w), status)
   ended-on e (Err why) not there before (rose, (front, rest, is, some, taken)) =
-      let text : traced_text m names n e ≡ lines ++ last_text names m.cycles (end_read m.graph e) None = then-last lines names m.cycles (end_read m.graph e) (λ is. not (complete-is m.graph e there is)) in
+      let text : traced_text m names n e ≡ lines ++ last_text names m.cycles (end_read m.graph e) None =
+      then-last lines names m.cycles (end_read m.graph e) (λ is. not (complete-is m.graph e there is)) in
       let whole : traced_text m names n e ≡ (lines ++ front) ++ rest = text ∙ ap (λ l. lines ++ l) is ∙ sym (append_assoc lines front rest) in
       (omega (arith, before.cause.later, rose), (lines ++ front, rest, whole, some, Appends-trans a b c lines front before.whole taken))

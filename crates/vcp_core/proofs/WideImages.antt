@@ -21,12 +21,14 @@ use Rattle.vcp_core.proofs.OneTask.{ImageLaws, image_task_once}
 use Rattle.vcp_core.proofs.Reaching.{holds}
 
 -- a file that is an image comes to what is said of its graph and its table
-pub image_comes : (laws : ImageLaws) (g : Lists) (seed step : ℕ) (Then : Lists → Numbers → Task) (name : List ℕ) (held : Held) (task : Task) → HasImage g seed step → length (image_of g seed step) ≤ most_image_bytes →
+pub image_comes : (laws : ImageLaws) (g : Lists) (seed step : ℕ) (Then : Lists → Numbers → Task) (name : List ℕ) (held : Held) (task : Task)
+    → HasImage g seed step → length (image_of g seed step) ≤ most_image_bytes →
     held name ≡ Some (image_of g seed step) → ImageTask Then name held task → task ≡ Then g (table_of seed step g)
 image_comes laws g seed step Then name held task has short found comes =
     let i : Image = record { graph = g; table = table_of seed step g } in
     let is : ImageOf (image_of g seed step) i = record { has = has; bytes = refl; table = refl } in
-    image_task_once laws Then name held task (Then g (table_of seed step g)) comes (holds name held most_image_bytes (ImageText Then name) (image_of g seed step) (Then g (table_of seed step g)) found short (is_image i is))
+    image_task_once laws Then name held task (Then g (table_of seed step g)) comes
+    (holds name held most_image_bytes (ImageText Then name) (image_of g seed step) (Then g (table_of seed step g)) found short (is_image i is))
 
 -- the wide code has words of each type
 wide_admits : (t : Ty) → admits profile.Wide t ≡ true

@@ -1,5 +1,6 @@
 -- WordsRun: how far the run of an image came of which the words of one cycle are printed, from what running its graph leaves.
-use Rattle.std.proofs.Common.{ℕ, zero, suc, ◌+◌, ◌≡◌, ◌≤◌, ◌<◌, ◌-◌, ◌^◌, Bool, true, false, cond, nat_le, inr, refl, sym, ap, subst, ◌∙◌, List, [], ◌∷◌, ◌++◌, length, append-nil, slice_index_or, Option, Some, None, Ok, Err, IfSome, arith, ℤ}
+use Rattle.std.proofs.Common.{ℕ, zero, suc, ◌+◌, ◌≡◌, ◌≤◌, ◌<◌, ◌-◌, ◌^◌, Bool, true, false, cond, nat_le, inr, refl, sym, ap, subst, ◌∙◌, List, [], ◌∷◌, ◌++◌}
+use Rattle.std.proofs.Common.{length, append-nil, slice_index_or, Option, Some, None, Ok, Err, IfSome, arith, ℤ}
 use Rattle.std.proofs.lemmas.Bool.Decides.{nat_tests}
 use Rattle.std.proofs.lemmas.List.{length-append, length-take}
 use Rattle.std.proofs.KnownBytes.{Appends-trans}
@@ -28,7 +29,8 @@ use Rattle.vcp_inputs.specs.Lines.{rows_text}
 use Rattle.vcp_answer.specs.Answer.{image, runs, words_of}
 use Rattle.vcp_answer.specs.CycleWords.{word_lines, words_among, words_in, words_meant}
 use Rattle.vcp_answer.specs.Endings.{Cut, Front, Reached}
-use Rattle.vcp_answer.specs.Reports.{End, Report, behind_text, complete, end_read, goes_on, names_of, no_report, refused, report_read, report_told, run_status, shown_text, stopped, words_then}
+use Rattle.vcp_answer.specs.Reports.{End, Report, behind_text, complete, end_read, goes_on, names_of, no_report, refused, report_read, report_told, run_status}
+use Rattle.vcp_answer.specs.Reports.{shown_text, stopped, words_then}
 use Rattle.vcp_core.specs.declared.ending.End.{End as Ends}
 use Rattle.vcp_core.specs.Faults.{of_run}
 use Rattle.vcp_core.specs.Jobs.{code_of}
@@ -67,20 +69,24 @@ count-next cycle.Released i j is = ap suc is
 count-next (cycle.Stopped k why) i j is = ap suc is
 count-next (cycle.Refused output f w) i j is = ap suc is
 
-count-step : (e : CycleEnd) (row : List ℤ) (o : Outcome) (More : Type 0) (cycles : List (List Given)) → unless_ended e More (cycles ≡ []) → (More → Counts (length o.rows) (length cycles) o.end) →
+count-step : (e : CycleEnd) (row : List ℤ) (o : Outcome) (More : Type 0) (cycles : List (List Given)) → unless_ended e More (cycles ≡ [])
+    → (More → Counts (length o.rows) (length cycles) o.end) →
     Counts (length (followed_by e row o).rows) (suc (length cycles)) (followed_by e row o).end
 count-step cycle.Released row o More cycles h go = count-next o.end (length o.rows) (length cycles) (go h)
 count-step (cycle.Stopped k why) row o More cycles h go = ap (λ (l : List (List Given)). suc (length l)) (sym h)
 count-step (cycle.Refused i f w) row o More cycles h go = ap (λ (l : List (List Given)). suc (length l)) (sym h)
 
-cycles-count : (g : Lists) (t : Numbers) (k : ℕ) (rows : List (List ℤ)) (cycles : List (List Given)) → AllCycles g t k rows cycles → Counts (length (outcome_over g t k cycles).rows) (length cycles) (outcome_over g t k cycles).end
+cycles-count : (g : Lists) (t : Numbers) (k : ℕ) (rows : List (List ℤ)) (cycles : List (List Given)) → AllCycles g t k rows cycles
+    → Counts (length (outcome_over g t k cycles).rows) (length cycles) (outcome_over g t k cycles).end
 cycles-count g t k [] [] all = refl
 cycles-count g t k [] (a ∷ cycles) all = absurd all
 cycles-count g t k (row ∷ rows) [] all = absurd all
 cycles-count g t k (row ∷ rows) (a ∷ cycles) all =
-    count-step (end_of g t k a) (outputs_of g a) (outcome_over g t (suc k) cycles) (AllCycles g t (suc k) rows cycles) cycles all.1 (λ more. cycles-count g t (suc k) rows cycles more)
+    count-step (end_of g t k a) (outputs_of g a) (outcome_over g t (suc k) cycles) (AllCycles g t (suc k) rows cycles) cycles all.1
+    (λ more. cycles-count g t (suc k) rows cycles more)
 
-few-step : (e : CycleEnd) (More : Type 0) (cycles : List (List Given)) (r : ℕ) → unless_ended e More (cycles ≡ []) → (More → length cycles ≤ r) → suc (length cycles) ≤ suc r
+few-step : (e : CycleEnd) (More : Type 0) (cycles : List (List Given)) (r : ℕ) → unless_ended e More (cycles ≡ []) → (More → length cycles ≤ r)
+    → suc (length cycles) ≤ suc r
 few-step cycle.Released More cycles r h go = omega (arith, go h)
 few-step (cycle.Stopped k why) More cycles r h go = rw h (omega arith)
 few-step (cycle.Refused i f w) More cycles r h go = rw h (omega arith)
@@ -90,7 +96,8 @@ cycles-few : (g : Lists) (t : Numbers) (k : ℕ) (rows : List (List ℤ)) (cycle
 cycles-few g t k [] [] all = omega arith
 cycles-few g t k [] (a ∷ cycles) all = absurd all
 cycles-few g t k (row ∷ rows) [] all = absurd all
-cycles-few g t k (row ∷ rows) (a ∷ cycles) all = few-step (end_of g t k a) (AllCycles g t (suc k) rows cycles) cycles (length rows) all.1 (λ more. cycles-few g t (suc k) rows cycles more)
+cycles-few g t k (row ∷ rows) (a ∷ cycles) all =
+    few-step (end_of g t k a) (AllCycles g t (suc k) rows cycles) cycles (length rows) all.1 (λ more. cycles-few g t (suc k) rows cycles more)
 
 -- the answers of the last cycle
 last-is : (cycles : List (List Given)) (n : ℕ) → length cycles ≡ suc n → last_answers cycles ≡ slice_index_or cycles n []
@@ -112,12 +119,14 @@ unless-some (cycle.Stopped k why) More P a cycles h go = absurd cc
 unless-some (cycle.Refused i f w) More P a cycles h go = absurd cc
 
 -- the last cycle is whole
-last-whole : (g : Lists) (t : Numbers) (k : ℕ) (rows : List (List ℤ)) (cycles : List (List Given)) → AllCycles g t k rows cycles → 0 < length cycles → Whole g.operations (last_answers cycles)
+last-whole : (g : Lists) (t : Numbers) (k : ℕ) (rows : List (List ℤ)) (cycles : List (List Given)) → AllCycles g t k rows cycles → 0 < length cycles
+    → Whole g.operations (last_answers cycles)
 last-whole g t k rows [] all some = absurd (omega (arith, some))
 last-whole g t k [] (a ∷ cycles) all some = absurd all
 last-whole g t k (row ∷ rows) (a ∷ []) all some = all.0
 last-whole g t k (row ∷ rows) (a ∷ b ∷ cycles) all some =
-    unless-some (end_of g t k a) (AllCycles g t (suc k) rows (b ∷ cycles)) (Whole g.operations (last_answers (b ∷ cycles))) b cycles all.1 (λ more. last-whole g t (suc k) rows (b ∷ cycles) more (omega arith))
+    unless-some (end_of g t k a) (AllCycles g t (suc k) rows (b ∷ cycles)) (Whole g.operations (last_answers (b ∷ cycles))) b cycles all.1
+    (λ more. last-whole g t (suc k) rows (b ∷ cycles) more (omega arith))
 
 -- how many cycles there are of a run over the rows through cycle n, where so many were released
 pub record HasCycles (n released cycles : ℕ) : Type 0 where
@@ -131,16 +140,20 @@ not-begun-by false n released cycles test is not = grind (arith, nat_tests)
 not-begun : (n released cycles : ℕ) → suc released ≡ cycles → (n ≤ released → ⊥) → cycles ≤ n
 not-begun n released cycles is not = not-begun-by (nat_le n released) n released cycles refl is not
 
-has-cycles : (n released cycles rows : ℕ) (e : CycleEnd) → Counts released cycles e → cycles ≤ rows → rows ≤ n + 1 → (e ≡ cycle.Released → (cycles ≡ rows) × (rows ≡ n + 1)) → HasCycles n released cycles
+has-cycles : (n released cycles rows : ℕ) (e : CycleEnd) → Counts released cycles e → cycles ≤ rows → rows ≤ n + 1
+    → (e ≡ cycle.Released → (cycles ≡ rows) × (rows ≡ n + 1)) → HasCycles n released cycles
 has-cycles n released cycles rows cycle.Released is few within all =
     let (whole, many) = all refl in
     record { begun = λ below. omega (arith, whole, many); before = λ not. absurd (not (omega (arith, is, whole, many))) }
-has-cycles n released cycles rows (cycle.Stopped k why) is few within all = record { begun = λ below. omega (arith, is, few, within, below); before = λ not. not-begun n released cycles is not }
-has-cycles n released cycles rows (cycle.Refused i f w) is few within all = record { begun = λ below. omega (arith, is, few, within, below); before = λ not. not-begun n released cycles is not }
+has-cycles n released cycles rows (cycle.Stopped k why) is few within all =
+    record { begun = λ below. omega (arith, is, few, within, below); before = λ not. not-begun n released cycles is not }
+has-cycles n released cycles rows (cycle.Refused i f w) is few within all =
+    record { begun = λ below. omega (arith, is, few, within, below); before = λ not. not-begun n released cycles is not }
 
 -- ---- the words
 
-answered-by : (n released : ℕ) (b : Bool) (cycles : List (List Given)) → nat_le n released ≡ b → HasCycles n released (length cycles) → cond b (words_among (last_answers cycles)) [] ≡ words_in n cycles
+answered-by : (n released : ℕ) (b : Bool) (cycles : List (List Given)) → nat_le n released ≡ b → HasCycles n released (length cycles)
+    → cond b (words_among (last_answers cycles)) [] ≡ words_in n cycles
 answered-by n released true cycles is has =
     let below : n ≤ released = grind (arith, nat_tests) in
     ap words_among (last-is cycles n (has.begun below))
@@ -151,14 +164,18 @@ answered-by n released false cycles is has =
 -- ---- what is printed
 
 -- a cycle's end that is told as one that ends the run is told so whatever is behind the rows
-words-same-by : (lines : List ℕ) (names : List (List ℕ)) (k : ℕ) (e : End) (behind : Option RowFault) → (e ≡ complete → behind ≡ None) → words_then lines names k e None ≡ words_then lines names k e behind
+words-same-by : (lines : List ℕ) (names : List (List ℕ)) (k : ℕ) (e : End) (behind : Option RowFault) → (e ≡ complete → behind ≡ None)
+    → words_then lines names k e None ≡ words_then lines names k e behind
 words-same-by lines names k complete behind h = ap (words_then lines names k complete) (sym (h refl))
 words-same-by lines names k (stopped s) behind h = refl
 words-same-by lines names k (refused i f w) behind h = refl
 
 -- only the end of a run that was released is followed by a later one
-words-stay-by : (e : End) (rows : List (List ℤ)) (words : List ℤ) (later : Report) → (e ≡ complete → later ≡ no_report) → goes_on rows e words later ≡ record { rows = rows; end = e; words = words }
-words-stay-by complete rows words later h = ap (goes_on rows complete words) (h refl) ∙ ap (λ r. record { rows = r; end = complete; words = words ++ [] }) (append-nil rows) ∙ ap (λ ws. record { rows = rows; end = complete; words = ws }) (append-nil words)
+words-stay-by : (e : End) (rows : List (List ℤ)) (words : List ℤ) (later : Report) → (e ≡ complete → later ≡ no_report)
+    → goes_on rows e words [] later ≡ record { rows = rows; end = e; words = words; verdicts = [] }
+words-stay-by complete rows words later h = ap (goes_on rows complete words []) (h refl)
+    ∙ ap (λ r. record { rows = r; end = complete; words = words ++ []; verdicts = [] }) (append-nil rows)
+    ∙ ap (λ ws. record { rows = rows; end = complete; words = ws; verdicts = [] }) (append-nil words)
 words-stay-by (stopped s) rows words later h = refl
 words-stay-by (refused i f w) rows words later h = refl
 
@@ -179,8 +196,10 @@ no-part old new bytes none (front, rest, is, some, w) =
 
 -- ---- the job
 
-module _ (g : Lists) (n : ℕ) (name : List ℕ) (t : Numbers) (left : RowsLeft) (few-rows : length left.rows ≤ n + 1) (all-there : left.refusal ≡ None → length left.rows ≡ n + 1) (l0 l1 : Option (List Entry)) (w0 w1 : ℕ)
-    (words-meant : (cycles : List (List Given)) → AllRight (calls_over g (table_of t.seed t.step g) 0 (initial_words g t.seed) left.rows cycles) → AllCycles g (table_of t.seed t.step g) 0 left.rows cycles → words_in n cycles ≡ words_meant g (code_of t) n left.rows) where
+module _ (g : Lists) (n : ℕ) (name : List ℕ) (t : Numbers) (left : RowsLeft) (few-rows : length left.rows ≤ n + 1)
+    (all-there : left.refusal ≡ None → length left.rows ≡ n + 1) (l0 l1 : Option (List Entry)) (w0 w1 : ℕ)
+    (words-meant : (cycles : List (List Given)) → AllRight (calls_over g (table_of t.seed t.step g) 0 (initial_words g t.seed) left.rows cycles) → AllCycles g
+    (table_of t.seed t.step g) 0 left.rows cycles → words_in n cycles ≡ words_meant g (code_of t) n left.rows) where
   abbrev names : List (List ℕ)
   names = names_of (image g)
 
@@ -195,20 +214,23 @@ module _ (g : Lists) (n : ℕ) (name : List ℕ) (t : Numbers) (left : RowsLeft)
   lines_of cycles = word_lines g table n 0 g.operations (words_in n cycles)
 
   -- what is read off answers that stand for the graph's run is what is meant
-  read-meant : (cycles : List (List Given)) → AllRight (calls_over g table 0 (initial_words g t.seed) left.rows cycles) → AllCycles g table 0 left.rows cycles → outcome_is cycles ≡ outcome_for (graph_run g left.rows) →
+  read-meant : (cycles : List (List Given)) → AllRight (calls_over g table 0 (initial_words g t.seed) left.rows cycles) → AllCycles g table 0 left.rows cycles
+      → outcome_is cycles ≡ outcome_for (graph_run g left.rows) →
       report_read g (outcome_is cycles) (words_in n cycles) ≡ report_told (told_graph g left.rows) (words_meant g (code_of t) n left.rows)
   read-meant cycles right all is =
       ap (λ o. report_read g o (words_in n cycles)) is
-      ∙ ap (λ e. record { rows = (graph_run g left.rows).rows; end = e; words = words_in n cycles }) (read-end g (graph_run g left.rows).end)
+      ∙ ap (λ e. record { rows = (graph_run g left.rows).rows; end = e; words = words_in n cycles; verdicts = [] }) (read-end g (graph_run g left.rows).end)
       ∙ ap (report_told (told_graph g left.rows)) (words-meant cycles right all)
 
   -- all was written of a run that came to its end
-  reached : (cycles : List (List Given)) (e : CycleEnd) (o0 o3 : Option (List ℕ)) (f0 f3 : ℕ) → Carried (calls_over g table 0 (initial_words g t.seed) left.rows cycles) l0 l1 w0 w1 → CameToEnd g table left.rows cycles e →
+  reached : (cycles : List (List Given)) (e : CycleEnd) (o0 o3 : Option (List ℕ)) (f0 f3 : ℕ)
+      → Carried (calls_over g table 0 (initial_words g t.seed) left.rows cycles) l0 l1 w0 w1 → CameToEnd g table left.rows cycles e →
       (w1 ≡ w0 → w0 < 2 ^ 64 - 1 → outcome_is cycles ≡ outcome_for (graph_run g left.rows)) →
       Appends o0 o3 (words_then (lines_of cycles) names (length (outcome_is cycles).rows) (end_read g e) left.refusal) →
-      Reached (runs (words_job name n g t left)) (behind_text name (end_read g e) left.refusal) (run_status (end_read g e) left.refusal) (moment l0 w0 o0 f0) (moment l1 w1 o3 f3)
+      Reached (runs (words_job name n g t left)) (behind_text name (end_read g e) left.refusal) (run_status (end_read g e) left.refusal) (moment l0 w0 o0 f0)
+      (moment l1 w1 o3 f3)
   reached cycles e o0 o3 f0 f3 carried came follows w = record {
-    course = record { graph = g; cycles = cycles };
+    course = record { graph = g; cycles = cycles; verdicts = [] };
     whole = (refl, came.all);
     log = carried.told;
     out = rw came.end_is w;
@@ -221,22 +243,25 @@ module _ (g : Lists) (n : ℕ) (name : List ℕ) (t : Numbers) (left : RowsLeft)
   none-written : (k : ℕ) (rows : List (List ℤ)) (o1 o2 : Option (List ℕ)) → Appends o1 o2 (texts_from no_text k rows) → Appends o1 o2 []
   none-written k rows o1 o2 w = rw (texts-none k rows) at w
 
-  row-refused : (f : RowFault) (o1 o2 : Option (List ℕ)) (f1 f2 : ℕ) → RunsRows g table left no_text (moment l0 w0 o1 f1) (moment l1 w1 o2 f2) (Err (given_up.Rows f)) →
+  row-refused : (f : RowFault) (o1 o2 : Option (List ℕ)) (f1 f2 : ℕ)
+      → RunsRows g table left no_text (moment l0 w0 o1 f1) (moment l1 w1 o2 f2) (Err (given_up.Rows f)) →
       Reached (runs (words_job name n g t left)) (rows_text name f) 1 (moment l0 w0 o1 f1) (moment l1 w1 o2 f2)
   row-refused f o1 o2 f1 f2 run =
       let (came, is, lines) = run.ends in
       let nothing : Appends o1 o2 [] = none-written 0 (outcome_is run.cycles).rows o1 o2 lines in
-      let text : words_then (lines_of run.cycles) names (length (outcome_is run.cycles).rows) complete left.refusal ≡ [] = ap (words_then (lines_of run.cycles) names (length (outcome_is run.cycles).rows) complete) is in
+      let text : words_then (lines_of run.cycles) names (length (outcome_is run.cycles).rows) complete left.refusal ≡ [] =
+      ap (words_then (lines_of run.cycles) names (length (outcome_is run.cycles).rows) complete) is in
       let all = reached run.cycles cycle.Released o1 o2 f1 f2 run.carried came run.follows (rw text nothing) in
       let line : behind_text name complete left.refusal ≡ rows_text name f = ap (behind_text name complete) is in
       let code_is : run_status complete left.refusal ≡ 1 = ap (run_status complete) is in
       rw line at (rw code_is at all)
 
-  wants-row : (o1 o2 : Option (List ℕ)) (f1 f2 : ℕ) → RunsRows g table left no_text (moment l0 w0 o1 f1) (moment l1 w1 o2 f2) (Err given_up.Memory) → Front (runs (words_job name n g t left)) (moment l0 w0 o1 f1) (moment l1 w1 o2 f2)
+  wants-row : (o1 o2 : Option (List ℕ)) (f1 f2 : ℕ) → RunsRows g table left no_text (moment l0 w0 o1 f1) (moment l1 w1 o2 f2) (Err given_up.Memory)
+      → Front (runs (words_job name n g t left)) (moment l0 w0 o1 f1) (moment l1 w1 o2 f2)
   wants-row o1 o2 f1 f2 run =
       let nothing : Appends o1 o2 [] = none-written 0 (outcome_is run.cycles).rows o1 o2 run.ends in
       record {
-        course = record { graph = g; cycles = run.cycles };
+        course = record { graph = g; cycles = run.cycles; verdicts = [] };
         begun = (refl, run.some);
         log = run.carried.told;
         out = λ later comes. ([], _, refl, nothing);
@@ -244,21 +269,26 @@ module _ (g : Lists) (n : ℕ) (name : List ℕ) (t : Numbers) (left : RowsLeft)
       }
 
   -- the run was given up
-  pub given-up-words : (why : RunFault) (o1 o2 : Option (List ℕ)) (f1 f2 : ℕ) → IfSome left.refusal IsOfRecord → RunsRows g table left no_text (moment l0 w0 o1 f1) (moment l1 w1 o2 f2) (Err why) →
+  pub given-up-words : (why : RunFault) (o1 o2 : Option (List ℕ)) (f1 f2 : ℕ) → IfSome left.refusal IsOfRecord
+      → RunsRows g table left no_text (moment l0 w0 o1 f1) (moment l1 w1 o2 f2) (Err why) →
       RunsJob (words_job name n g t left) (moment l0 w0 o1 f1) (moment l1 w1 o2 f2) (Err (of_run why))
-  given-up-words (given_up.Rows f) o1 o2 f1 f2 of run = told-by (words_job name n g t left) f _ _ (record-of f left.refusal of run.ends.1) (row-refused f o1 o2 f1 f2 run)
+  given-up-words (given_up.Rows f) o1 o2 f1 f2 of run =
+      told-by (words_job name n g t left) f _ _ (record-of f left.refusal of run.ends.1) (row-refused f o1 o2 f1 f2 run)
   given-up-words given_up.Write o1 o2 f1 f2 of run = absurd (no-part o1 o2 _ (texts-none 0 (outcome_is run.cycles).rows) run.ends.1)
   given-up-words given_up.Memory o1 o2 f1 f2 of run = inr (wants-row o1 o2 f1 f2 run)
 
   -- ---- the run came to its end
 
-  module _ (e : CycleEnd) (o1 o2 : Option (List ℕ)) (f1 f2 : ℕ) (run : RunsRows g table left no_text (moment l0 w0 o1 f1) (moment l1 w1 o2 f2) (Ok e)) (there : IsThere g e) (m : State) (after : MachineAfter g table run.cycles m) where
+  module _ (e : CycleEnd) (o1 o2 : Option (List ℕ)) (f1 f2 : ℕ) (run : RunsRows g table left no_text (moment l0 w0 o1 f1) (moment l1 w1 o2 f2) (Ok e))
+      (there : IsThere g e) (m : State) (after : MachineAfter g table run.cycles m) where
     has : HasCycles n m.cycles (length run.cycles)
     has =
         let (came, none, lines) = run.ends in
         let o = outcome_is run.cycles in
         let counts : Counts (length o.rows) (length run.cycles) o.end = cycles-count g table 0 left.rows run.cycles came.all in
-        has-cycles n m.cycles (length run.cycles) (length left.rows) e (subst (λ x. Counts m.cycles (length run.cycles) x) came.end_is (subst (λ r. Counts r (length run.cycles) o.end) (sym after.cycles) counts)) (cycles-few g table 0 left.rows run.cycles came.all) few-rows
+        has-cycles n m.cycles (length run.cycles) (length left.rows) e
+        (subst (λ x. Counts m.cycles (length run.cycles) x) came.end_is (subst (λ r. Counts r (length run.cycles) o.end) (sym after.cycles) counts))
+        (cycles-few g table 0 left.rows run.cycles came.all) few-rows
         (λ released. (as-many g table 0 left.rows run.cycles came.all (came.end_is ∙ released), all-there (none released)))
 
     -- where cycle n was begun, its answers are those of the machine, and they are whole
@@ -284,34 +314,43 @@ module _ (g : Lists) (n : ℕ) (name : List ℕ) (t : Numbers) (left : RowsLeft)
         ∙ words-same-by (lines_of run.cycles) names (length (outcome_is run.cycles).rows) (end_read g e) left.refusal (λ c. none (complete-is g e there c))
 
     -- it was printed
-    pub ended-words : (end : Ends) (o3 : Option (List ℕ)) (f3 : ℕ) → Appends o2 o3 (traced_text m names n e) → end_status end ≡ run_status (end_read m.graph e) None → Reached (runs (words_job name n g t left)) [] (end_status end) (moment l0 w0 o1 f1) (moment l1 w1 o3 f3)
+    pub ended-words : (end : Ends) (o3 : Option (List ℕ)) (f3 : ℕ) → Appends o2 o3 (traced_text m names n e)
+        → end_status end ≡ run_status (end_read m.graph e) None
+        → Reached (runs (words_job name n g t left)) [] (end_status end) (moment l0 w0 o1 f1) (moment l1 w1 o3 f3)
     ended-words end o3 f3 w status =
         let (came, none, lines) = run.ends in
         let behind : end_read g e ≡ complete → left.refusal ≡ None = λ c. none (complete-is g e there c) in
         let nothing : Appends o1 o2 [] = none-written 0 (outcome_is run.cycles).rows o1 o2 lines in
-        let all = reached run.cycles e o1 o3 f1 f3 run.carried came run.follows (rw text-is at (Appends-trans o1 o2 o3 [] (traced_text m names n e) nothing w)) in
+        let all = reached run.cycles e o1 o3 f1 f3 run.carried came run.follows
+        (rw text-is at (Appends-trans o1 o2 o3 [] (traced_text m names n e) nothing w)) in
         let line : behind_text name (end_read g e) left.refusal ≡ [] = no-behind-by g names name (end_read g e) left.refusal behind in
         let code_is : run_status (end_read g e) left.refusal ≡ end_status end =
         sym (status ∙ ap (λ (h : Lists). run_status (end_read h e) None) after.graph ∙ status-by g names name (end_read g e) left.refusal behind) in
         rw line at (rw code_is at all)
 
     -- or a part of it
-    pub cut-words : (o3 : Option (List ℕ)) (f3 : ℕ) → AppendsPart o2 o3 (traced_text m names n e) → Cut (runs (words_job name n g t left)) (moment l0 w0 o1 f1) (moment l1 w1 o3 f3)
+    pub cut-words : (o3 : Option (List ℕ)) (f3 : ℕ) → AppendsPart o2 o3 (traced_text m names n e)
+        → Cut (runs (words_job name n g t left)) (moment l0 w0 o1 f1) (moment l1 w1 o3 f3)
     cut-words o3 f3 (front, rest, is, some, taken) =
         let (came, none, lines) = run.ends in
         let o = outcome_is run.cycles in
         let nothing : Appends o1 o2 [] = none-written 0 o.rows o1 o2 lines in
-        let whole : AppendsPart o1 o3 (words_then (lines_of run.cycles) names (length o.rows) (end_read g e) left.refusal) = (front, rest, sym text-is ∙ is, some, Appends-trans o1 o2 o3 [] front nothing taken) in
-        let read : AppendsPart o1 o3 (shown_text (words_of g n) (code_of t) names (report_read g o (words_in n run.cycles)) left.refusal) = rw came.end_is whole in
+        let whole : AppendsPart o1 o3 (words_then (lines_of run.cycles) names (length o.rows) (end_read g e) left.refusal) =
+        (front, rest, sym text-is ∙ is, some, Appends-trans o1 o2 o3 [] front nothing taken) in
+        let read : AppendsPart o1 o3 (shown_text (words_of g n) (code_of t) names (report_read g o (words_in n run.cycles)) left.refusal) =
+        rw came.end_is whole in
         record {
-          course = record { graph = g; cycles = run.cycles };
+          course = record { graph = g; cycles = run.cycles; verdicts = [] };
           begun = (refl, run.some);
           log = run.carried.told;
           out = λ later comes.
-              let stays : goes_on o.rows (end_read g o.end) (words_in n run.cycles) later ≡ report_read g o (words_in n run.cycles) =
-              words-stay-by (end_read g o.end) o.rows (words_in n run.cycles) later (λ c. comes (as-many g table 0 left.rows run.cycles came.all (came.end_is ∙ complete-is g e there (ap (end_read g) (sym came.end_is) ∙ c)))) in
+              let stays : goes_on o.rows (end_read g o.end) (words_in n run.cycles) [] later ≡ report_read g o (words_in n run.cycles) =
+              words-stay-by (end_read g o.end) o.rows (words_in n run.cycles) later
+              (λ c. comes (as-many g table 0 left.rows run.cycles came.all
+              (came.end_is ∙ complete-is g e there (ap (end_read g) (sym came.end_is) ∙ c)))) in
               subst (λ r. AppendsPart o1 o3 (shown_text (words_of g n) (code_of t) names r left.refusal)) (sym stays) read;
           honest = λ same below.
-              subst (λ r. AppendsPart o1 o3 (shown_text (words_of g n) (code_of t) names r left.refusal)) (read-meant run.cycles (run.carried.honest same below) came.all (run.follows same below)) read;
+              subst (λ r. AppendsPart o1 o3 (shown_text (words_of g n) (code_of t) names r left.refusal))
+              (read-meant run.cycles (run.carried.honest same below) came.all (run.follows same below)) read;
           earlier = tt;
         }

@@ -48,7 +48,8 @@ pub writes_same : {T E : Type 0} {a b : Option (List ℕ)} {f g : ℕ} {p q : Li
 writes_same written is = rw is written
 
 -- all of some bytes was written and then all of others
-pub writes-on : {T E : Type 0} (x y z : T) (a b c : Option (List ℕ)) (f g h : ℕ) (p q all : List ℕ) → Writes {T = T} {E = E} a b f g p (Ok x) → Writes {T = T} {E = E} b c g h q (Ok y) → all ≡ p ++ q → Writes {T = T} {E = E} a c f h all (Ok z)
+pub writes-on : {T E : Type 0} (x y z : T) (a b c : Option (List ℕ)) (f g h : ℕ) (p q all : List ℕ) → Writes {T = T} {E = E} a b f g p (Ok x)
+    → Writes {T = T} {E = E} b c g h q (Ok y) → all ≡ p ++ q → Writes {T = T} {E = E} a c f h all (Ok z)
 writes-on x y z a b c f g h p q all before next is = record {
   whole = rw is (Appends-trans a b c p q before.whole next.whole);
   part = tt;
@@ -60,7 +61,8 @@ writes-on x y z a b c f g h p q all before next is = record {
 }
 
 -- and then a call failed in the midst of others
-pub writes-fail : {T E : Type 0} (x : T) (e d : E) (a b c : Option (List ℕ)) (f g h : ℕ) (p q more all : List ℕ) → Writes {T = T} {E = E} a b f g p (Ok x) → Writes {T = T} b c g h q (Err e) → all ≡ p ++ q ++ more → Writes {T = T} a c f h all (Err d)
+pub writes-fail : {T E : Type 0} (x : T) (e d : E) (a b c : Option (List ℕ)) (f g h : ℕ) (p q more all : List ℕ) → Writes {T = T} {E = E} a b f g p (Ok x)
+    → Writes {T = T} b c g h q (Err e) → all ≡ p ++ q ++ more → Writes {T = T} a c f h all (Err d)
 writes-fail x e d a b c f g h p q more all before failure is =
     let w = failed_after e a b c f g h p q more all before.whole before.cause.later before.cause.capped failure is in
     record { whole = tt; part = w.part; cause = record { later = w.cause.later; capped = w.cause.capped; failed = w.cause.failed } }

@@ -1,8 +1,10 @@
+pub mod Audit
 pub mod Check
 pub mod Compile
 pub mod Exec
 pub mod Faults
 pub mod Format
+pub mod Inject
 pub mod Jobs
 pub mod Listing
 pub mod Loading
@@ -11,6 +13,7 @@ pub mod Plain
 pub mod PlainRun
 pub mod Reach
 pub mod Run
+pub mod StaleOperands
 pub mod Tasks
 pub mod Trace
 pub mod TraceRun

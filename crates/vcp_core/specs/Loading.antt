@@ -10,6 +10,7 @@ use Rattle.vcp_words.specs.Forms.{Form, Rows}
 use Rattle.vcp_words.specs.Tables.{file_words, rows_files, rows_name}
 use Rattle.vcp_inputs.specs.RowsOutcome.{source_outcome}
 use Rattle.vcp_answer.specs.Answer.{Task}
+use Rattle.vcp_answer.specs.Endings.{Among}
 use Rattle.vcp_answer.specs.Moments.{Untouched}
 use Rattle.vcp_answer.specs.Sources.{ProgramTask, GraphTask, on_rows}
 use Rattle.vcp_core.specs.declared.fault.Fault.{Fault}
@@ -18,11 +19,11 @@ use Rattle.vcp_core.specs.declared.loading.Loaded.{Loaded}
 use Rattle.vcp_core.specs.Reach.{Reaches, rows_told}
 use Rattle.vcp_core.specs.Tasks.{source_name}
 
--- a command reads P or M, and ROWS, and nothing else
+-- a command reads P or M, then ROWS, and maybe more
 pub record ReadsRows (f : Form) (p : List ℕ) (rows : Rows) : Type 0 where
   pub source : source_name f ≡ p
   pub told : rows_told f ≡ rows_name rows
-  pub files : file_words f ≡ p ∷ rows_files rows
+  pub files : (name : List ℕ) → Among name (p ∷ rows_files rows) → Among name (file_words f)
 
 -- P and ROWS were loaded: whatever is said of a program and its rows, they come to what the rows come to that are still to be opened
 abbrev pub ComesTo : List ℕ → Rows → Held → Loaded → Type 0

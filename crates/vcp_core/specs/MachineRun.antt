@@ -41,6 +41,7 @@ RunsJob job before after (Err (fault.Rows input.Memory)) = Front (runs job) befo
 RunsJob job before after (Err fault.Write) = Cut (runs job) before after
 RunsJob job before after (Err fault.Memory) = Untouched before after ⊎ Front (runs job) before after
 RunsJob job before after (Err (fault.Source i)) = ⊥
+RunsJob job before after (Err (fault.Script i)) = ⊥
 
 -- the operation that stopped is there, and so is the output that is refused
 abbrev pub IsThere : Lists → CycleEnd → Type 0

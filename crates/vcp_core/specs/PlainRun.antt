@@ -42,6 +42,7 @@ PrintsText text stop refusal old new (Err (fault.Rows input.Memory)) = AppendsFr
 PrintsText text stop refusal old new (Err fault.Write) = AppendsPart old new text
 PrintsText text stop refusal old new (Err fault.Memory) = AppendsFront old new text
 PrintsText text stop refusal old new (Err (fault.Source i)) = ⊥
+PrintsText text stop refusal old new (Err (fault.Script i)) = ⊥
 
 -- how the printing of a program's run on the rows that are left ends
 abbrev pub Prints : Program → RowsLeft → Option (List ℕ) → Option (List ℕ) → Result End Fault → Type 0

@@ -3,8 +3,8 @@ use Rattle.std.specs.Prelude.{ℕ, ◌≡◌, ◌⊎◌, true, List, [], Option,
 use Rattle.vcp_outside.specs.Counts.{Rose}
 use Rattle.vcp_outside.specs.Held.{Held}
 use Rattle.machine_run.specs.Moments.{Moment}
-use Rattle.vcp_words.specs.Forms.{Form, check, format, plain, run, compile, list, exec, trace, widen}
-use Rattle.vcp_words.specs.Tables.{file_words, own_statuses, rows_name, takes_rows_late}
+use Rattle.vcp_words.specs.Forms.{Form, check, format, plain, run, compile, list, exec, trace, widen, audit, inject}
+use Rattle.vcp_words.specs.Tables.{file_words, own_statuses, rows_name, takes_late}
 use Rattle.vcp_inputs.specs.declared.refusal.NoInput.{NoInput}
 use Rattle.vcp_inputs.specs.declared.refusal.NoInput.TheVariants as input
 use Rattle.vcp_inputs.specs.Lines.{refusal_text, memory_text}
@@ -35,6 +35,13 @@ rows_told (list m) = []
 rows_told (exec m rows) = rows_name rows
 rows_told (trace m rows n) = rows_name rows
 rows_told (widen m) = []
+rows_told (audit m horizon) = []
+rows_told (inject m rows f) = rows_name rows
+
+-- the name of the script of faults
+abbrev pub script_name : Form → List ℕ
+script_name (inject m rows f) = f
+script_name _ = []
 
 -- the line where there is nothing of the file under a name, and the status
 abbrev pub input_text : List ℕ → NoInput → List ℕ
@@ -51,12 +58,14 @@ input_status input.Memory = 7
 abbrev pub fault_text : Form → Fault → List ℕ
 fault_text f (fault.Source i) = input_text (source_name f) i
 fault_text f (fault.Rows i) = input_text (rows_told f) i
+fault_text f (fault.Script i) = input_text (script_name f) i
 fault_text f fault.Write = write_fault_text
 fault_text f fault.Memory = memory_text
 
 abbrev pub fault_status : Fault → ℕ
 fault_status (fault.Source i) = input_status i
 fault_status (fault.Rows i) = input_status i
+fault_status (fault.Script i) = input_status i
 fault_status fault.Write = 6
 fault_status fault.Memory = 7
 
@@ -64,10 +73,10 @@ fault_status fault.Memory = 7
 abbrev pub Gives : (Task → Type 0) → List ℕ → ℕ → Moment → Moment → Type 0
 Gives Takes line status before after = (task : Task) × Takes task × Reached task line status before after
 
--- memory was wanted: nothing was written and no unit called, or of a command that takes its rows late a front was written
+-- memory was wanted: nothing was written and no unit called, or of a command that takes memory or rows late a front was written
 abbrev pub WantsMemory : Form → (Task → Type 0) → Moment → Moment → Type 0
 WantsMemory f Takes before after =
-    Untouched before after ⊎ ((takes_rows_late f ≡ true) × ((task : Task) × Takes task × Front task before after))
+    Untouched before after ⊎ ((takes_late f ≡ true) × ((task : Task) × Takes task × Front task before after))
 
 -- the files broke in one of the command's files, and nothing was done
 pub record Broke (f : Form) (name : List ℕ) (before after : Moment) (broken_before broken_after : ℕ) : Type 0 where
@@ -86,6 +95,7 @@ abbrev pub Reaches : Form → (Task → Type 0) → Moment → Moment → ℕ �
 Reaches f Takes before after b n (Ok e) = Gives Takes [] (end_status e) before after
 Reaches f Takes before after b n (Err (fault.Source i)) = Lost f Takes (source_name f) before after b n i
 Reaches f Takes before after b n (Err (fault.Rows i)) = Lost f Takes (rows_told f) before after b n i
+Reaches f Takes before after b n (Err (fault.Script i)) = Lost f Takes (script_name f) before after b n i
 Reaches f Takes before after b n (Err fault.Write) = (task : Task) × Takes task × Cut task before after
 Reaches f Takes before after b n (Err fault.Memory) = WantsMemory f Takes before after
 
@@ -97,6 +107,7 @@ OwnEnd f e = Among (end_status e) (own_statuses f)
 abbrev pub IsUnread : Fault → Type 0
 IsUnread (fault.Source i) = i ≡ input.Unread
 IsUnread (fault.Rows i) = i ≡ input.Unread
+IsUnread (fault.Script i) = i ≡ input.Unread
 IsUnread fault.Write = ⊥
 IsUnread fault.Memory = ⊥
 

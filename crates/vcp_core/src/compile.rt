@@ -13,7 +13,7 @@ ghost use Rattle.vcp_core.specs.declared.fault.Fault.TheVariants as fault;
 
 use crate::ending::End;
 use crate::fault::Fault;
-use flat_stmt::flatten;
+use crate::graphs::graph_of;
 use image_file::write_image;
 use signature_table::Table;
 use std::alloc::Global;
@@ -28,8 +28,7 @@ fn image_for(alloc: Global, program: &Typed, code: Code) -> Result<Text, Memory>
     requires code { IsCode (as_code code) }
     ensures { IfOk result (IsImageFor program.now (as_code code)) }
 {
-    let graph = flatten(alloc, program)?;
-    let _rules = graph.len();
+    let graph = graph_of(alloc, program)?;
     let table = Table::new(alloc, &graph, code.seed, code.step)?;
     write_image(alloc, &graph, &table)
 }

@@ -2,9 +2,10 @@
 
 ghost use Rattle.std.specs.Prelude.{◌≡◌};
 ghost use Rattle.vcp_inputs.specs.Refusals.{no_rows};
-ghost use Rattle.vcp_core.specs.Faults.{of_run};
+ghost use Rattle.vcp_core.specs.Faults.{of_run, of_campaign};
 ghost use Rattle.vcp_core.specs.declared.fault.Fault.TheVariants as fault;
 
+use fault_campaign::CampaignFault;
 use input_rows::RowFault;
 use machine_run::RunFault;
 use thiserror::Error;
@@ -22,6 +23,9 @@ pub enum Fault {
     /// written.
     #[error("the rows: {0:?}")]
     Rows(NoInput),
+    /// There is nothing of the script of faults, F.
+    #[error("the script: {0:?}")]
+    Script(NoInput),
     /// The sink of the output failed.
     #[error("a sink failed")]
     Write,
@@ -62,6 +66,17 @@ impl From<RunFault> for Fault {
             RunFault::Rows(fault) => Fault::from(fault),
             RunFault::Write => Fault::Write,
             RunFault::Memory => Fault::Memory,
+        }
+    }
+}
+
+impl From<CampaignFault> for Fault {
+    ghost from_gives = { λ c e. e ≡ of_campaign c };
+
+    fn from(fault: CampaignFault) -> Fault {
+        match fault {
+            CampaignFault::Write => Fault::Write,
+            CampaignFault::Memory => Fault::Memory,
         }
     }
 }

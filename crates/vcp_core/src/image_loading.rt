@@ -48,6 +48,8 @@ pub fn load_image_and_rows<F: Files>(
     ensures narrow { IfOk result (λ l. length l.columns ≤ most_names) }
     ensures few { IfOk result (λ l. HasFewCycles l.rows) }
     ensures unread { IfErr result (λ e. IsUnread e → Rose (F.faults files.old) (F.faults files.new)) }
+    ensures later { F.faults files.old ≤ F.faults files.new }
+    ensures broken_later { F.broken files.old ≤ F.broken files.new }
     ensures no_write { result ≢ Err fault.Write }
     // What was taken of the files: all, unless one has too many bytes.
     ensures ended { OnOk result (IsAtEnd (F.rest files.new)) }

@@ -9,18 +9,24 @@ ghost use Rattle.op_graph.specs.Lists.{Lists};
 ghost use Rattle.signature_table.specs.Signatures.{Numbers, table_of};
 ghost use Rattle.image_file.specs.Graphs.{HasImage};
 ghost use Rattle.image_file.specs.Image.{image_of};
+ghost use Rattle.weight_audit.specs.Audit.{most_weights, weights_up_to};
+ghost use Rattle.audit_report.specs.AuditText.{AuditOf};
 ghost use Rattle.vcp_words.specs.Forms.{Form, Rows, Code};
-ghost use Rattle.vcp_answer.specs.Answer.{Task};
+ghost use Rattle.vcp_answer.specs.Answer.{Task, prints};
 ghost use Rattle.vcp_answer.specs.Sources.{ImageTask};
+ghost use Rattle.vcp_core.specs.Audit.{AuditTask};
 ghost use Rattle.vcp_core.specs.Plain.{PlainTask};
 ghost use Rattle.vcp_core.specs.Run.{RunTask};
+ghost use Rattle.vcp_core.specs.StaleOperands.{StaleOperandsShow};
 ghost use Rattle.vcp_core.specs.Tasks.{TaskOf, as_meant};
 ghost use Rattle.vcp_core.specs.Widen.{widened};
 
+use audit_report::an_audit_has_one_text;
 use image_file::images_are_told_apart;
 use st_lexer::one_reading;
 use st_parser::one_answer;
 use st_types::answers_are_one;
+use weight_audit::differences_come_as_weights;
 
 /// What a command comes to, where this is held, is one task; and `plain` comes to the answer that `run` gives with an honest unit.
 pub fn one_task()
@@ -32,6 +38,7 @@ pub fn one_task()
     one_answer();
     answers_are_one();
     images_are_told_apart();
+    an_audit_has_one_text();
 }
 
 /// The image of any graph, seed and step is taken by each command that reads one, unless it has too
@@ -41,9 +48,22 @@ pub fn written_images_are_taken()
     ensures taken { (g : Lists) (seed step : ℕ) (Then : Lists → Numbers → Task) (name : List ℕ) (held : Held) (task : Task) →
         HasImage g seed step → length (image_of g seed step) ≤ most_image_bytes →
         held name ≡ Some (image_of g seed step) → ImageTask Then name held task → task ≡ Then g (table_of seed step g) }
+    ensures audited { (g : Lists) (seed step horizon : ℕ) (name : List ℕ) (held : Held) (task : Task) →
+        HasImage g seed step → length (image_of g seed step) ≤ most_image_bytes →
+        held name ≡ Some (image_of g seed step) → weights_up_to g horizon ≤ most_weights → AuditTask name horizon held task →
+        (told : List ℕ) × AuditOf g horizon told × (task ≡ prints told) }
     ensures widened { (g : Lists) (seed step : ℕ) → HasImage g seed step → HasImage (widened g) seed step }
     ensures run { (g : Lists) (rows : List (List ℤ)) → graph_run (widened g) rows ≡ graph_run g rows }
     ensures wide { (g : Lists) → g.profile ≡ profile.Wide → widened g ≡ g }
 {
     images_are_told_apart();
+    an_audit_has_one_text();
+}
+
+/// A stale operand shows at each output to which it comes with a weight that isn't 0, as many cycle
+/// borders later as the weight says: a run that comes to that check is refused there, or was before.
+pub fn stale_operands_are_refused()
+    ensures { StaleOperandsShow }
+{
+    differences_come_as_weights();
 }

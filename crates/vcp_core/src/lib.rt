@@ -1,13 +1,16 @@
 //! The whole program: the commands, and the top call over files, a unit and sinks that are handed in.
 #![tactic(auto)]
 
+mod audit;
 mod check;
 mod compile;
 mod ending;
 mod exec;
 mod fault;
 mod format;
+mod graphs;
 mod image_loading;
+mod inject;
 mod laws;
 mod listing;
 mod loading;
@@ -21,5 +24,5 @@ mod trace;
 mod tracing;
 mod widen;
 
-pub use laws::{one_task, written_images_are_taken};
+pub use laws::{one_task, stale_operands_are_refused, written_images_are_taken};
 pub use top::vcp;

@@ -58,7 +58,8 @@ pub fn load<F: Files>(
     ensures no_write { result ≢ Err fault.Write }
     // What was taken of the files: all, unless one has too many bytes.
     ensures ended { OnOk result (IsAtEnd (F.rest files.new)) }
-    ensures taken { (f : Form) → ReadsRows f source.now (rows_of rows.entry) → IfSome (F.held files.old) (λ h. IfErr result (λ e. fault_status e ≡ 1 → Refused f h (F.rest files.new))) }
+    ensures taken { (f : Form) → ReadsRows f source.now (rows_of rows.entry)
+        → IfSome (F.held files.old) (λ h. IfErr result (λ e. fault_status e ≡ 1 → Refused f h (F.rest files.new))) }
     // What stays.
     ensures held { F.held files.new ≡ F.held files.old }
 {

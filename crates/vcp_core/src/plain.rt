@@ -31,7 +31,8 @@ pub fn plain_command<F: Files, O: Sink>(
 ) -> Result<End, Fault>
     requires few { AreFew (rows_of rows) }
     ensures held { F.held files.new ≡ F.held files.old }
-    ensures reaches { (log : Option (List Entry)) (wrong : ℕ) → IfSome (F.held files.old) (λ h. Reaches (plain source.now (rows_of rows.entry)) (PlainTask source.now (rows_of rows.entry) h)
+    ensures reaches { (log : Option (List Entry)) (wrong : ℕ)
+        → IfSome (F.held files.old) (λ h. Reaches (plain source.now (rows_of rows.entry)) (PlainTask source.now (rows_of rows.entry) h)
         (moment log wrong (O.written out.old) (O.faults out.old)) (moment log wrong (O.written out.new) (O.faults out.new))
         (F.broken files.old) (F.broken files.new) result) }
     ensures own { IfOk result (λ e. e ≢ end.Refused) }

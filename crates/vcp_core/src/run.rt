@@ -35,7 +35,8 @@ pub fn run_command<F: Files, U: Unit, O: Sink>(
     requires few { AreFew (rows_of rows) }
     requires code { IsCode (as_code code) }
     ensures held { F.held files.new ≡ F.held files.old }
-    ensures reaches { IfSome (F.held files.old) (λ h. Reaches (run source.now (rows_of rows.entry) (as_code code)) (RunTask source.now (rows_of rows.entry) (as_code code) h)
+    ensures reaches { IfSome (F.held files.old)
+        (λ h. Reaches (run source.now (rows_of rows.entry) (as_code code)) (RunTask source.now (rows_of rows.entry) (as_code code) h)
         (moment (U.log unit.old) (U.wrong unit.old) (O.written out.old) (O.faults out.old))
         (moment (U.log unit.new) (U.wrong unit.new) (O.written out.new) (O.faults out.new))
         (F.broken files.old) (F.broken files.new) result) }

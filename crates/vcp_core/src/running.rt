@@ -20,9 +20,9 @@ ghost use Rattle.vcp_core.specs.declared.fault.Fault.TheVariants as fault;
 
 use crate::ending::End;
 use crate::fault::Fault;
+use crate::graphs::graph_of;
 use coded_machine::{CycleEnd, Machine};
 use coded_unit::Unit;
-use flat_stmt::flatten;
 use input_rows::Rows;
 use machine_run::{ReleasedRows, run_rows};
 use op_graph::Graph;
@@ -59,7 +59,8 @@ pub fn print_end<O: Sink>(
 ) -> Result<End, Failed>
     requires there { IsThere graph.now end.now }
     requires outputs { length outputs.now ≡ length graph.now.outputs }
-    ensures { PrintsEnd graph.now (map (λ c. c.name) outputs.now) cycles end.now (O.written out.old) (O.written out.new) (O.faults out.old) (O.faults out.new) result }
+    ensures { PrintsEnd graph.now (map (λ c. c.name) outputs.now) cycles end.now (O.written out.old) (O.written out.new) (O.faults out.old)
+        (O.faults out.new) result }
 {
     match end {
         CycleEnd::Released => {
@@ -134,8 +135,7 @@ pub fn run_program<U: Unit, O: Sink>(
     ensures refused { result ≡ Ok end.Refused → Rose (U.wrong unit.old) (U.wrong unit.new) }
     ensures stopped { result ≡ Ok end.Stopped → GrowsByStop (U.log unit.old) (U.log unit.new) }
 {
-    let graph = flatten(alloc, program)?;
-    let _rules = graph.len();
+    let graph = graph_of(alloc, program)?;
     let table = Table::new(alloc, &graph, code.seed, code.step)?;
     run_graph(alloc, &graph, &table, rows, unit, out)
 }

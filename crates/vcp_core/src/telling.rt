@@ -5,7 +5,8 @@ ghost use Rattle.vcp_outside.specs.Written.{Writes};
 ghost use Rattle.vcp_words.specs.Forms.{form, rows_of};
 ghost use Rattle.vcp_words.specs.Tables.{rows_name as rows_name_of};
 ghost use Rattle.vcp_words.specs.Usage.{usage_text};
-ghost use Rattle.vcp_core.specs.Reach.{rows_told, input_text, input_status as status_of_input, fault_text, fault_status as status_of_fault};
+ghost use Rattle.vcp_core.specs.Reach.{rows_told, script_name as script_name_of, input_text, input_status as status_of_input, fault_text};
+ghost use Rattle.vcp_core.specs.Reach.{fault_status as status_of_fault};
 ghost use Rattle.vcp_core.specs.Tasks.{source_name as source_name_of};
 
 use crate::fault::Fault;
@@ -37,6 +38,8 @@ fn source_name<'a>(command: &Command<'a>) -> &'a [u8]
         Command::Exec { image, .. } => image.bytes(),
         Command::Trace { image, .. } => image.bytes(),
         Command::Widen { image } => image.bytes(),
+        Command::Audit { image, .. } => image.bytes(),
+        Command::Inject { image, .. } => image.bytes(),
     }
 }
 
@@ -46,9 +49,20 @@ fn rows_name<'a>(command: &Command<'a>) -> &'a [u8]
 {
     match command {
         Command::Check { .. } | Command::Format { .. } | Command::Compile { .. } => b"",
-        Command::List { .. } | Command::Widen { .. } => b"",
+        Command::List { .. } | Command::Widen { .. } | Command::Audit { .. } => b"",
         Command::Plain { rows, .. } | Command::Run { rows, .. } => name_of(*rows),
         Command::Exec { rows, .. } | Command::Trace { rows, .. } => name_of(*rows),
+        Command::Inject { rows, .. } => name_of(*rows),
+    }
+}
+
+/// The name of the script of faults.
+fn script_name<'a>(command: &Command<'a>) -> &'a [u8]
+    ensures { result.now ≡ script_name_of (form command.now) }
+{
+    match command {
+        Command::Inject { script, .. } => script.bytes(),
+        _ => b"",
     }
 }
 
@@ -69,6 +83,7 @@ pub fn tell<E: Sink>(err: &mut E, command: &Command<'_>, fault: &Fault) -> Resul
     match fault {
         Fault::Source(input) => tell_input(err, source_name(command), input),
         Fault::Rows(input) => tell_input(err, rows_name(command), input),
+        Fault::Script(input) => tell_input(err, script_name(command), input),
         Fault::Write => write_all(err, b"write fault\n"),
         Fault::Memory => write_all(err, NO_MEMORY),
     }
@@ -90,7 +105,7 @@ pub fn fault_status(fault: &Fault) -> u8
     ensures { result ≡ status_of_fault fault.now }
 {
     match fault {
-        Fault::Source(input) | Fault::Rows(input) => input_status(input),
+        Fault::Source(input) | Fault::Rows(input) | Fault::Script(input) => input_status(input),
         Fault::Write => 6,
         Fault::Memory => 7,
     }

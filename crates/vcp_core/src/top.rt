@@ -11,18 +11,22 @@ ghost use Rattle.vcp_answer.specs.Answered.{Answered};
 ghost use Rattle.vcp_answer.specs.Endings.{TellsUsage};
 ghost use Rattle.vcp_answer.specs.Moments.{errors, ended};
 ghost use Rattle.vcp_answer.specs.Statuses.{IsEnd, MayEnd, FilesHeld, Refused};
+ghost use Rattle.fault_injector.specs.Verdicts.{EndsAreRead};
 ghost use Rattle.vcp_core.specs.Reach.{Reaches, OwnEnd, Unread, Taken};
+ghost use Rattle.vcp_core.specs.StaleOperands.{StaleOperandsShow};
 ghost use Rattle.vcp_core.specs.Tasks.{TaskOf, AsPlain};
 ghost use Rattle.vcp_core.specs.declared.ending.End.TheVariants as end;
 ghost use Rattle.vcp_core.specs.declared.fault.Fault.TheVariants as fault;
 
+use crate::audit::audit_command;
 use crate::check::check_command;
 use crate::compile::compile_command;
 use crate::ending::{End, status_of};
 use crate::exec::exec_command;
 use crate::fault::Fault;
 use crate::format::format_command;
-use crate::laws::one_task;
+use crate::inject::inject_command;
+use crate::laws::{one_task, stale_operands_are_refused};
 use crate::listing::list_command;
 use crate::plain::plain_command;
 use crate::run::run_command;
@@ -30,6 +34,7 @@ use crate::telling::{fault_status, tell, tell_usage};
 use crate::trace::trace_command;
 use crate::widen::widen_command;
 use coded_unit::Unit;
+use fault_injector::ends_under_acts_are_read_off_the_answers;
 use std::alloc::Global;
 use vcp_answer::endings_have_causes;
 use vcp_base::Words;
@@ -41,7 +46,7 @@ use vcp_words::{Command, command_of};
 ///
 /// | status | comes |
 /// |---|---|
-/// | 0 | the Size, the text, the image or the lines were printed, or the run came to the end of its rows |
+/// | 0 | the Size, the text, the image, the lines or the verdicts were printed, or the run came to the end of its rows |
 /// | 1 | a file is refused, or a row of one |
 /// | 2 | the run stopped |
 /// | 3 | an output was refused |
@@ -73,7 +78,8 @@ pub fn vcp<F: Files, U: Unit, O: Sink, E: Sink>(
         (F.broken files.old) (F.broken files.new) result))) }
 
     // Words that are none of the forms get the usage line, and nothing else is done; no other words do.
-    ensures usage { form_of words.now ≡ None → TellsUsage (errors (E.written err.old) (E.faults err.old)) (errors (E.written err.new) (E.faults err.new)) result }
+    ensures usage { form_of words.now ≡ None
+        → TellsUsage (errors (E.written err.old) (E.faults err.old)) (errors (E.written err.new) (E.faults err.new)) result }
     ensures usage_alone { form_of words.now ≡ None → (U.log unit.new ≡ U.log unit.old) × (U.wrong unit.new ≡ U.wrong unit.old) ×
         (O.written out.new ≡ O.written out.old) × (O.faults out.new ≡ O.faults out.old) }
     ensures usage_reads_nothing { form_of words.now ≡ None → (F.rest files.new ≡ F.rest files.old) ×
@@ -97,9 +103,16 @@ pub fn vcp<F: Files, U: Unit, O: Sink, E: Sink>(
     ensures refused { result ≡ 3 → Rose (U.wrong unit.old) (U.wrong unit.new) }
     ensures read { result ≡ 5 → Rose (F.faults files.old) (F.faults files.new) }
     ensures write { result ≡ 6 → Rose (O.faults out.old) (O.faults out.new) ⊎ Rose (E.faults err.old) (E.faults err.new) }
+
+    // Of the faults that `inject` judges: an output of a cycle that the run with a fault reaches and ends without a stop is accepted
+    // exactly where its equation over signatures and stamps holds; and where a stale operand shows, the run is refused, there or before.
+    ensures accepted { EndsAreRead }
+    ensures stale { StaleOperandsShow }
 {
     // So with an honest unit the answer is that of the command without one.
     one_task();
+    ends_under_acts_are_read_off_the_answers();
+    stale_operands_are_refused();
     match command_of(words) {
         Some(command) => serve(alloc, &command, files, unit, out, err),
         None => match tell_usage(err) {
@@ -184,5 +197,11 @@ fn perform<F: Files, U: Unit, O: Sink>(
             alloc, image, *rows, *cycle, files, unit, out,
         ),
         Command::Widen { image } => widen_command(alloc, image, files, out),
+        Command::Audit { image, horizon } => audit_command(alloc, image, *horizon, files, out),
+        Command::Inject {
+            image,
+            rows,
+            script,
+        } => inject_command(alloc, image, *rows, script, files, unit, out),
     }
 }

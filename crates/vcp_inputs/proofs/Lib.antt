@@ -2,3 +2,4 @@ pub mod Lines
 pub mod RowsWorked
 pub mod Taken
 pub mod TakenImages
+pub mod TakenScripts

@@ -36,17 +36,21 @@ lexer_refuses text (lexer.Number spot) stops = unlexed (lexer.Number spot) (λ e
 lexer_refuses text lexer.Memory stops = tt
 
 -- the parser's fault is told
-pub parser_refuses : (text : List ℕ) (ts : List Token) (f : SyntaxFault) → Reads text ts → RefusesTokens text ts (spot_at text (length text)) f → Untaken (NoProgram text) (none.unparsed f)
+pub parser_refuses : (text : List ℕ) (ts : List Token) (f : SyntaxFault) → Reads text ts → RefusesTokens text ts (spot_at text (length text)) f
+    → Untaken (NoProgram text) (none.unparsed f)
 parser_refuses text ts (syntax.Syntax spot) reads refused = unparsed ts (syntax.Syntax spot) (λ e. cc) reads refused
 parser_refuses text ts (syntax.Depth spot) reads refused = unparsed ts (syntax.Depth spot) (λ e. cc) reads refused
 parser_refuses text ts syntax.Memory reads refused = tt
 
 -- the parser's program is the text's
-pub is_program : (text : List ℕ) (ts : List Token) (p : ProgramTree) → Reads text ts → SpellsWithin most_depth p text ts → ((q : ProgramTree) → Spells q text ts → p ≡ q) → IsProgram text p
+pub is_program : (text : List ℕ) (ts : List Token) (p : ProgramTree) → Reads text ts → SpellsWithin most_depth p text ts
+    → ((q : ProgramTree) → Spells q text ts → p ≡ q) → IsProgram text p
 is_program text ts p reads spells only = record { tokens = ts; reads = reads; spells = spells; only = λ q s. sym (only q s) }
 
 -- each name that the text's program declares may be declared
-pub has_names : (text : List ℕ) (p : ProgramTree) → ((q : ProgramTree) (t : List ℕ) (ts : List Token) → Reads t ts → length t ≤ most_source_bytes → Spells q t ts → HasNames q) → length text ≤ most_source_bytes → IsProgram text p → HasNames p
+pub has_names : (text : List ℕ) (p : ProgramTree)
+    → ((q : ProgramTree) (t : List ℕ) (ts : List Token) → Reads t ts → length t ≤ most_source_bytes → Spells q t ts → HasNames q)
+    → length text ≤ most_source_bytes → IsProgram text p → HasNames p
 has_names text p law few is = law p text is.tokens is.reads few (is.spells.0, is.spells.1, is.spells.2)
 
 -- a text without a program has no typed one
@@ -76,13 +80,15 @@ if_some_weaker None P Q f h = tt
 if_some_weaker (Some x) P Q f h = f x h
 
 -- reading a whole file, and its refusals
-pub file_unread : (held : Held) (name : List ℕ) (limit b n : ℕ) (r : ReadAll) → ReadsAll held name limit b n (Err r) → FileRead held name limit b n (Err (none.unread r))
+pub file_unread : (held : Held) (name : List ℕ) (limit b n : ℕ) (r : ReadAll) → ReadsAll held name limit b n (Err r)
+    → FileRead held name limit b n (Err (none.unread r))
 file_unread held name limit b n reading.Failed h = h
 file_unread held name limit b n reading.TooLong (bytes, is, l) = (bytes, is, long l)
 file_unread held name limit b n reading.Memory h = tt
 
 -- a file that isn't read isn't loaded
-pub not_read : (Why : List ℕ → Refusal → Type 0) (held : Held) (name : List ℕ) (limit b n : ℕ) (i : NoInput) → FileRead held name limit b n (Err i) → NotLoaded Why held name limit b n i
+pub not_read : (Why : List ℕ → Refusal → Type 0) (held : Held) (name : List ℕ) (limit b n : ℕ) (i : NoInput) → FileRead held name limit b n (Err i)
+    → NotLoaded Why held name limit b n i
 not_read Why held name limit b n input.Unread h = h
 not_read Why held name limit b n (input.Refused r) (text, is, long l) = (text, is, long l)
 not_read Why held name limit b n (input.Refused r) (text, is, short _ l never) = absurd never
@@ -98,7 +104,8 @@ module _ {V : Type 0} (Is : List ℕ → V → Type 0) (Why : List ℕ → Refus
   not_taken (input.Refused r) (text, found, l, same) why = (bytes, rw same found, short r (rw same l) why)
   not_taken input.Memory read h = tt
 
-  pub by_result : (r : Result V NoInput) → FileRead held name limit b n (Ok bytes) → IfOk r (Is bytes) → IfErr r (Untaken (Why bytes)) → Loads Is Why held name limit b n r
+  pub by_result : (r : Result V NoInput) → FileRead held name limit b n (Ok bytes) → IfOk r (Is bytes) → IfErr r (Untaken (Why bytes))
+      → Loads Is Why held name limit b n r
   by_result (Ok v) read is none = taken v read is
   by_result (Err i) read is none = not_taken i read none
 

@@ -4,3 +4,4 @@ pub mod Lines
 pub mod Programs
 pub mod Refusals
 pub mod RowsOutcome
+pub mod Scripts

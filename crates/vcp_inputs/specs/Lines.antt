@@ -11,6 +11,8 @@ use Rattle.input_rows.specs.declared.fault.RowFault.{RowFault}
 use Rattle.input_rows.specs.declared.fault.RowFault.TheVariants as rows
 use Rattle.image_file.specs.declared.fault.ImageFault.{ImageFault}
 use Rattle.image_file.specs.declared.fault.ImageFault.TheVariants as image
+use Rattle.fault_script.specs.declared.script_fault.ScriptFault.{ScriptFault}
+use Rattle.fault_script.specs.declared.script_fault.ScriptFault.TheVariants as script
 use Rattle.vcp_inputs.specs.declared.refusal.Refusal.{Refusal}
 use Rattle.vcp_inputs.specs.declared.refusal.Refusal.TheVariants as refusal
 
@@ -50,19 +52,19 @@ typing_text name (typing.Names spot) = spot_text name spot (codes "L3 Names")
 typing_text name typing.Size = name ++ codes " L2 Size\n"
 typing_text name typing.Memory = memory_text
 
+-- a fault at a number's place, as a record, an offset or a line of a script: the file's name, the number, and the fault's code and name
+abbrev pub place_text : List ℕ → ℕ → List ℕ → List ℕ
+place_text name place what = name ++ (codes ":" ++ (decimal place ++ (codes " " ++ (what ++ codes "\n"))))
+
 -- a fault of rows: the record and the column, where it has them, and its code and name
 abbrev pub rows_text : List ℕ → RowFault → List ℕ
 rows_text name rows.Header = name ++ codes ":1 R1 Header\n"
-rows_text name (rows.Width row) = name ++ (codes ":" ++ (decimal row ++ codes " R2 Width\n"))
+rows_text name (rows.Width row) = place_text name row (codes "R2 Width")
 rows_text name (rows.Cell row column) = name ++ (codes ":" ++ (decimal row ++ (codes ":" ++ (decimal column ++ codes " R3 Cell\n"))))
 rows_text name rows.Form = name ++ codes " R4 Form\n"
 rows_text name rows.Cycles = name ++ codes " L4 Cycles\n"
 rows_text name rows.Cycle = name ++ codes " R5 Cycle\n"
 rows_text name rows.Memory = memory_text
-
--- a fault at an offset of an image: the file's name, the offset, and the fault's code and name
-abbrev pub offset_text : List ℕ → ℕ → List ℕ → List ℕ
-offset_text name offset what = name ++ (codes ":" ++ (decimal offset ++ (codes " " ++ (what ++ codes "\n"))))
 
 -- a correction that isn't the expected one
 abbrev pub correction_text : List ℕ → ℕ → ℕ → ℕ → List ℕ
@@ -71,14 +73,23 @@ correction_text name offset stored expected =
 
 -- a fault of an image
 abbrev pub image_text : List ℕ → ImageFault → List ℕ
-image_text name (image.Magic at) = offset_text name at (codes "I1 Magic")
-image_text name (image.Version at) = offset_text name at (codes "I2 Version")
-image_text name (image.Short at) = offset_text name at (codes "I3 Short")
-image_text name (image.Field at) = offset_text name at (codes "I4 Field")
-image_text name (image.Operand at) = offset_text name at (codes "I5 Operand")
+image_text name (image.Magic at) = place_text name at (codes "I1 Magic")
+image_text name (image.Version at) = place_text name at (codes "I2 Version")
+image_text name (image.Short at) = place_text name at (codes "I3 Short")
+image_text name (image.Field at) = place_text name at (codes "I4 Field")
+image_text name (image.Operand at) = place_text name at (codes "I5 Operand")
 image_text name (image.Table at stored expected) = correction_text name at stored expected
-image_text name (image.Rest at) = offset_text name at (codes "I7 Rest")
+image_text name (image.Rest at) = place_text name at (codes "I7 Rest")
 image_text name image.Memory = memory_text
+
+-- a fault of a script, at its line
+abbrev pub script_text : List ℕ → ScriptFault → List ℕ
+script_text name (script.Form line) = place_text name line (codes "F1 Form")
+script_text name (script.Site line) = place_text name line (codes "F2 Site")
+script_text name (script.Early line) = place_text name line (codes "F3 Early")
+script_text name (script.Kind line) = place_text name line (codes "F4 Kind")
+script_text name (script.Faults line) = place_text name line (codes "L5 Faults")
+script_text name script.Memory = memory_text
 
 -- a refusal of the file under a name
 abbrev pub refusal_text : List ℕ → Refusal → List ℕ
@@ -88,3 +99,6 @@ refusal_text name (refusal.Parsing f) = parsing_text name f
 refusal_text name (refusal.Typing f) = typing_text name f
 refusal_text name (refusal.Rows f) = rows_text name f
 refusal_text name (refusal.Image f) = image_text name f
+refusal_text name refusal.Audit = name ++ codes " L6 Audit\n"
+refusal_text name refusal.Trace = name ++ codes " L7 Trace\n"
+refusal_text name (refusal.Script f) = script_text name f

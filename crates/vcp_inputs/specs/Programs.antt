@@ -35,7 +35,8 @@ IsTreeOf text p = IsProgram text (program_tree p)
 -- the limit.
 pub data NoProgram (text : List ℕ) : Refusal → Type 0 where
   unlexed : (f : LexFault) → f ≢ lexer.Memory → Faults text f → NoProgram text (refusal.Lexing f)
-  unparsed : (ts : List Token) (f : SyntaxFault) → f ≢ syntax.Memory → Reads text ts → RefusesTokens text ts (spot_at text (length text)) f → NoProgram text (refusal.Parsing f)
+  unparsed : (ts : List Token) (f : SyntaxFault) → f ≢ syntax.Memory → Reads text ts → RefusesTokens text ts (spot_at text (length text)) f
+      → NoProgram text (refusal.Parsing f)
 
 -- the text is a program, and this is its typed one
 pub record TypedOf (text : List ℕ) (t : Program) : Type 0 where

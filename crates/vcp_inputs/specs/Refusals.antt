@@ -11,6 +11,8 @@ use Rattle.input_rows.specs.declared.fault.RowFault.{RowFault}
 use Rattle.input_rows.specs.declared.fault.RowFault.TheVariants as rows
 use Rattle.image_file.specs.declared.fault.ImageFault.{ImageFault}
 use Rattle.image_file.specs.declared.fault.ImageFault.TheVariants as image
+use Rattle.fault_script.specs.declared.script_fault.ScriptFault.{ScriptFault}
+use Rattle.fault_script.specs.declared.script_fault.ScriptFault.TheVariants as script
 use Rattle.vcp_inputs.specs.declared.refusal.Refusal.TheVariants as refusal
 use Rattle.vcp_inputs.specs.declared.refusal.NoInput.{NoInput}
 use Rattle.vcp_inputs.specs.declared.refusal.NoInput.TheVariants as input
@@ -68,3 +70,12 @@ unimaged (image.Operand at) = input.Refused (refusal.Image (image.Operand at))
 unimaged (image.Table at stored expected) = input.Refused (refusal.Image (image.Table at stored expected))
 unimaged (image.Rest at) = input.Refused (refusal.Image (image.Rest at))
 unimaged image.Memory = input.Memory
+
+-- of a script
+abbrev pub unscripted : ScriptFault → NoInput
+unscripted (script.Form line) = input.Refused (refusal.Script (script.Form line))
+unscripted (script.Site line) = input.Refused (refusal.Script (script.Site line))
+unscripted (script.Early line) = input.Refused (refusal.Script (script.Early line))
+unscripted (script.Kind line) = input.Refused (refusal.Script (script.Kind line))
+unscripted (script.Faults line) = input.Refused (refusal.Script (script.Faults line))
+unscripted script.Memory = input.Memory

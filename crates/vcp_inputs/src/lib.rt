@@ -5,6 +5,7 @@ mod images;
 mod reading;
 mod refusal;
 mod rows;
+mod scripts;
 mod sources;
 mod telling;
 
@@ -12,8 +13,6 @@ pub use images::{Image, load_image};
 pub use reading::read_file;
 pub use refusal::{NoInput, Refusal};
 pub use rows::{RowsSource, load_rows};
+pub use scripts::load_script;
 pub use sources::{load_program, load_typed};
 pub use telling::{tell_of, tell_refusal};
-
-#[cfg(test)]
-mod tests;

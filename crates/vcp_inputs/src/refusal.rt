@@ -1,9 +1,10 @@
 //! Why a file isn't taken.
 
 ghost use Rattle.std.specs.Prelude.{◌≡◌};
-ghost use Rattle.vcp_inputs.specs.Refusals.{unread, unlexed, unparsed, untyped, no_rows, unimaged};
+ghost use Rattle.vcp_inputs.specs.Refusals.{unread, unlexed, unparsed, untyped, no_rows, unimaged, unscripted};
 ghost use Rattle.vcp_inputs.specs.declared.refusal.NoInput.TheVariants as input;
 
+use fault_script::ScriptFault;
 use image_file::ImageFault;
 use input_rows::RowFault;
 use st_lexer::LexFault;
@@ -28,6 +29,12 @@ pub enum Refusal {
     Rows(RowFault),
     /// The file is no image.
     Image(ImageFault),
+    /// The graph of the image has too many weights for an audit.
+    Audit,
+    /// The rows have too many cycles for faults to be judged over the graph of the image.
+    Trace,
+    /// The file is no script of faults for the graph of the image.
+    Script(ScriptFault),
 }
 
 /// Why there is nothing of a file.
@@ -136,6 +143,21 @@ impl From<ImageFault> for NoInput {
             | ImageFault::Operand { .. }
             | ImageFault::Table { .. }
             | ImageFault::Rest { .. } => NoInput::Refused(Refusal::Image(fault)),
+        }
+    }
+}
+
+impl From<ScriptFault> for NoInput {
+    ghost from_gives = { λ s e. e ≡ unscripted s };
+
+    fn from(fault: ScriptFault) -> NoInput {
+        match fault {
+            ScriptFault::Memory => NoInput::Memory,
+            ScriptFault::Form { .. }
+            | ScriptFault::Site { .. }
+            | ScriptFault::Early { .. }
+            | ScriptFault::Kind { .. }
+            | ScriptFault::Faults { .. } => NoInput::Refused(Refusal::Script(fault)),
         }
     }
 }

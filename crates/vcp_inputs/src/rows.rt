@@ -37,7 +37,8 @@ fn load_file<F: Files>(
     name: &Text,
     columns: &Columns,
 ) -> Result<RowsSource, NoInput>
-    ensures loads { IfSome (F.held files.old) (λ h. LoadsRows (rows_outcome (file name.now) h columns.now) columns.now (F.broken files.old) (F.broken files.new) result) }
+    ensures loads { IfSome (F.held files.old)
+        (λ h. LoadsRows (rows_outcome (file name.now) h columns.now) columns.now (F.broken files.old) (F.broken files.new) result) }
     ensures without_file { begins (file name.now) columns.now ≡ false →
         (h : Held) → LoadsRows (rows_outcome (file name.now) h columns.now) columns.now (F.broken files.old) (F.broken files.new) result }
     ensures few { IfOk result HasFewCycles }
@@ -73,7 +74,8 @@ pub fn load_rows<F: Files>(
     requires few { AreFew (rows_of rows) }
     // What is answered: what comes to the same as ROWS, or why there is nothing. Where no file is begun,
     // that is so whatever files hold, and else the one refusal is that of too many bytes.
-    ensures loads { IfSome (F.held files.old) (λ h. LoadsRows (rows_outcome (rows_of rows.entry) h columns.now) columns.now (F.broken files.old) (F.broken files.new) result) }
+    ensures loads { IfSome (F.held files.old)
+        (λ h. LoadsRows (rows_outcome (rows_of rows.entry) h columns.now) columns.now (F.broken files.old) (F.broken files.new) result) }
     ensures without_file { begins (rows_of rows.entry) columns.now ≡ false →
         (h : Held) → LoadsRows (rows_outcome (rows_of rows.entry) h columns.now) columns.now (F.broken files.old) (F.broken files.new) result }
     ensures few { IfOk result HasFewCycles }

@@ -3,9 +3,11 @@
 ghost use Rattle.std.specs.Prelude.{◌++◌, codes};
 ghost use Rattle.vcp_outside.specs.Written.{Writes};
 ghost use Rattle.input_rows.specs.declared.fault.RowFault.TheVariants as rows;
-ghost use Rattle.vcp_inputs.specs.Lines.{spot_text, lexing_text, parsing_text, typing_text, rows_text, offset_text, correction_text, image_text, refusal_text};
+ghost use Rattle.vcp_inputs.specs.Lines.{spot_text, lexing_text, parsing_text, typing_text, rows_text, place_text, correction_text, image_text, script_text};
+ghost use Rattle.vcp_inputs.specs.Lines.{refusal_text};
 
 use crate::refusal::Refusal;
+use fault_script::ScriptFault;
 use image_file::ImageFault;
 use input_rows::RowFault;
 use run_report::Line;
@@ -29,6 +31,9 @@ pub fn tell_refusal<E: Sink>(err: &mut E, name: &[u8], refusal: &Refusal) -> Res
         Refusal::Typing(fault) => tell_typing(err, name, *fault),
         Refusal::Rows(fault) => tell_rows(err, name, *fault),
         Refusal::Image(fault) => tell_image(err, name, *fault),
+        Refusal::Audit => tell_of(err, name, b" L6 Audit"),
+        Refusal::Trace => tell_of(err, name, b" L7 Trace"),
+        Refusal::Script(fault) => tell_script(err, name, *fault),
     }
 }
 
@@ -52,6 +57,19 @@ fn tell_at<E: Sink>(err: &mut E, name: &[u8], spot: Spot, what: &[u8]) -> Result
     line.count(err, spot.line as u64);
     line.text(err, b":");
     line.count(err, spot.col as u64);
+    line.text(err, b" ");
+    line.text(err, what);
+    line.end(err)
+}
+
+/// Prints a line of a number's place, as a record, an offset or a line of a script, and what is said of it.
+fn tell_place<E: Sink>(err: &mut E, name: &[u8], place: u32, what: &[u8]) -> Result<(), Failed>
+    ensures { Writes (E.written err.old) (E.written err.new) (E.faults err.old) (E.faults err.new) (place_text name.now place what.now) result }
+{
+    let mut line = Line::new();
+    line.text(err, name);
+    line.text(err, b":");
+    line.count(err, place as u64);
     line.text(err, b" ");
     line.text(err, what);
     line.end(err)
@@ -105,25 +123,13 @@ fn tell_rows<E: Sink>(err: &mut E, name: &[u8], fault: RowFault) -> Result<(), F
 {
     match fault {
         RowFault::Header => tell_of(err, name, b":1 R1 Header"),
-        RowFault::Width { row } => tell_record(err, name, row),
+        RowFault::Width { row } => tell_place(err, name, row, b"R2 Width"),
         RowFault::Cell { row, column } => tell_cell(err, name, row, column),
         RowFault::Form => tell_of(err, name, b" R4 Form"),
         RowFault::Cycles => tell_of(err, name, b" L4 Cycles"),
         RowFault::Cycle => tell_of(err, name, b" R5 Cycle"),
         RowFault::Memory => write_all(err, NO_MEMORY),
     }
-}
-
-/// Prints the line of a record with another number of fields than there are columns.
-fn tell_record<E: Sink>(err: &mut E, name: &[u8], row: u32) -> Result<(), Failed>
-    ensures { Writes (E.written err.old) (E.written err.new) (E.faults err.old) (E.faults err.new) (rows_text name.now (rows.Width row)) result }
-{
-    let mut line = Line::new();
-    line.text(err, name);
-    line.text(err, b":");
-    line.count(err, row as u64);
-    line.text(err, b" R2 Width");
-    line.end(err)
 }
 
 /// Prints the line of a cell that spells no value.
@@ -145,32 +151,19 @@ fn tell_image<E: Sink>(err: &mut E, name: &[u8], fault: ImageFault) -> Result<()
     ensures { Writes (E.written err.old) (E.written err.new) (E.faults err.old) (E.faults err.new) (image_text name.now fault) result }
 {
     match fault {
-        ImageFault::Magic { at } => tell_offset(err, name, at, b"I1 Magic"),
-        ImageFault::Version { at } => tell_offset(err, name, at, b"I2 Version"),
-        ImageFault::Short { at } => tell_offset(err, name, at, b"I3 Short"),
-        ImageFault::Field { at } => tell_offset(err, name, at, b"I4 Field"),
-        ImageFault::Operand { at } => tell_offset(err, name, at, b"I5 Operand"),
+        ImageFault::Magic { at } => tell_place(err, name, at, b"I1 Magic"),
+        ImageFault::Version { at } => tell_place(err, name, at, b"I2 Version"),
+        ImageFault::Short { at } => tell_place(err, name, at, b"I3 Short"),
+        ImageFault::Field { at } => tell_place(err, name, at, b"I4 Field"),
+        ImageFault::Operand { at } => tell_place(err, name, at, b"I5 Operand"),
         ImageFault::Table {
             at,
             stored,
             expected,
         } => tell_correction(err, name, at, stored, expected),
-        ImageFault::Rest { at } => tell_offset(err, name, at, b"I7 Rest"),
+        ImageFault::Rest { at } => tell_place(err, name, at, b"I7 Rest"),
         ImageFault::Memory => write_all(err, NO_MEMORY),
     }
-}
-
-/// Prints a line of an offset in an image and what is said of it.
-fn tell_offset<E: Sink>(err: &mut E, name: &[u8], offset: u32, what: &[u8]) -> Result<(), Failed>
-    ensures { Writes (E.written err.old) (E.written err.new) (E.faults err.old) (E.faults err.new) (offset_text name.now offset what.now) result }
-{
-    let mut line = Line::new();
-    line.text(err, name);
-    line.text(err, b":");
-    line.count(err, offset as u64);
-    line.text(err, b" ");
-    line.text(err, what);
-    line.end(err)
 }
 
 /// Prints the line of a correction that isn't the expected one.
@@ -192,4 +185,18 @@ fn tell_correction<E: Sink>(
     line.text(err, b" expected ");
     line.count(err, expected);
     line.end(err)
+}
+
+/// Prints the line of a fault of a script.
+fn tell_script<E: Sink>(err: &mut E, name: &[u8], fault: ScriptFault) -> Result<(), Failed>
+    ensures { Writes (E.written err.old) (E.written err.new) (E.faults err.old) (E.faults err.new) (script_text name.now fault) result }
+{
+    match fault {
+        ScriptFault::Form { line } => tell_place(err, name, line, b"F1 Form"),
+        ScriptFault::Site { line } => tell_place(err, name, line, b"F2 Site"),
+        ScriptFault::Early { line } => tell_place(err, name, line, b"F3 Early"),
+        ScriptFault::Kind { line } => tell_place(err, name, line, b"F4 Kind"),
+        ScriptFault::Faults { line } => tell_place(err, name, line, b"L5 Faults"),
+        ScriptFault::Memory => write_all(err, NO_MEMORY),
+    }
 }

@@ -1,5 +1,6 @@
 -- CODE, read option by option.
-use Rattle.std.proofs.Common.{◌≡◌, ℕ, ◌-◌, Bool, true, false, ◌&&◌, cond, List, [], ◌∷◌, Option, Some, None, is_none, unwrap_or, codes, bytes_eq, refl, sym, ◌∙◌}
+use Rattle.std.proofs.Common.{◌≡◌, ℕ, ◌-◌, Bool, true, false, ◌&&◌, cond, List, [], ◌∷◌, Option, Some, None, is_none, unwrap_or, codes, bytes_eq, refl, sym}
+use Rattle.std.proofs.Common.{◌∙◌}
 use Rattle.std.proofs.lemmas.Slice.Eq.{bytes_eq-Decides}
 use Rattle.std.specs.Option.{option_and_then, option_or}
 use Rattle.vcp_base.specs.Limits.{seeds, most_step}
@@ -37,7 +38,8 @@ nothing (Some n) = refl
 -- one option: a and b say which it is, and x and y are its numbers
 one : (a b : Bool) (x y : Option ℕ) → (a ≡ true → b ≡ false)
     → option_or (code_with (cond a x None) (Some default_step)) (code_with (Some default_seed) (cond b y None))
-    ≡ cond a (option_and_then (λ s. Some (record { seed = s; step = default_step })) x) (cond b (option_and_then (λ t. Some (record { seed = default_seed; step = t })) y) None)
+    ≡ cond a (option_and_then (λ s. Some (record { seed = s; step = default_step })) x)
+    (cond b (option_and_then (λ t. Some (record { seed = default_seed; step = t })) y) None)
 one true true x y other = let e = other refl in cc
 one true false None y other = refl
 one true false (Some s) y other = refl
@@ -77,7 +79,9 @@ two false false true b' x y (Some s) y' other = refl
 two false false false b' x y x' y' other = refl
 
 -- where neither option can be given, nothing is
-neither : {X : Type 0} (a b : Bool) (x y : Option ℕ) → cond a (option_and_then (λ (n : ℕ). let none : Option X = None in none) x) (cond b (option_and_then (λ (n : ℕ). let none : Option X = None in none) y) None) ≡ None
+neither : {X : Type 0} (a b : Bool) (x y : Option ℕ)
+    → cond a (option_and_then (λ (n : ℕ). let none : Option X = None in
+    none) x) (cond b (option_and_then (λ (n : ℕ). let none : Option X = None in none) y) None) ≡ None
 neither true b x y = nothing x
 neither false true x y = nothing y
 neither false false x y = refl

@@ -1,6 +1,6 @@
 -- Worked rows, computed by the definitions alone.
 use Rattle.std.proofs.Common.{◌≡◌, ℕ, refl, List, [], ◌∷◌, Option, Some, None, codes}
-use Rattle.vcp_words.specs.Forms.{Form, form_of, check, format, plain, run, compile, list, exec, trace, widen, file, cycles}
+use Rattle.vcp_words.specs.Forms.{Form, form_of, check, format, plain, run, compile, list, exec, trace, widen, audit, inject, file, cycles}
 
 format_words : form_of (codes "format" ∷ codes "p" ∷ []) ≡ Some (format (codes "p"))
 format_words = refl
@@ -49,7 +49,8 @@ run_words = refl
 run_without_rows : form_of (codes "run" ∷ codes "p" ∷ []) ≡ None
 run_without_rows = refl
 
-run_for_cycles : form_of (codes "run" ∷ codes "p" ∷ codes "--cycles" ∷ codes "3" ∷ codes "--seed" ∷ codes "7" ∷ []) ≡ Some (run (codes "p") (cycles 3) (record { seed = 7; step = 1 }))
+run_for_cycles : form_of (codes "run" ∷ codes "p" ∷ codes "--cycles" ∷ codes "3" ∷ codes "--seed" ∷ codes "7" ∷ [])
+    ≡ Some (run (codes "p") (cycles 3) (record { seed = 7; step = 1 }))
 run_for_cycles = refl
 
 a_seed : run_with (codes "--seed" ∷ codes "1073741823" ∷ []) ≡ run_of 1073741823 1
@@ -124,3 +125,18 @@ trace_without_cycle = refl
 
 widen_words : form_of (codes "widen" ∷ codes "m" ∷ []) ≡ Some (widen (codes "m"))
 widen_words = refl
+
+audit_words : form_of (codes "audit" ∷ codes "m" ∷ codes "1000" ∷ []) ≡ Some (audit (codes "m") 1000)
+audit_words = refl
+
+no_such_horizon : form_of (codes "audit" ∷ codes "m" ∷ codes "1001" ∷ []) ≡ None
+no_such_horizon = refl
+
+audit_without_horizon : form_of (codes "audit" ∷ codes "m" ∷ []) ≡ None
+audit_without_horizon = refl
+
+inject_words : form_of (codes "inject" ∷ codes "m" ∷ codes "--cycles" ∷ codes "5" ∷ codes "f" ∷ []) ≡ Some (inject (codes "m") (cycles 5) (codes "f"))
+inject_words = refl
+
+inject_without_script : form_of (codes "inject" ∷ codes "m" ∷ codes "r" ∷ []) ≡ None
+inject_without_script = refl

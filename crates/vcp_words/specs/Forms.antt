@@ -1,7 +1,7 @@
 -- Forms: which words are a command. The first word names it, and its own words follow, in their order.
 use Rattle.std.specs.Prelude.{ℕ, ◌==◌, ◌-◌, ◌<◌, ◌≤◌, Bool, true, false, cond, not, ◌&&◌, nat_le, List, [], ◌∷◌, Option, Some, None, codes, bytes_eq}
 use Rattle.std.specs.Option.{option_and_then, option_map, option_or}
-use Rattle.vcp_base.specs.Limits.{most_cycles, seeds, most_step}
+use Rattle.vcp_base.specs.Limits.{most_cycles, most_horizon, seeds, most_step}
 use Rattle.vcp_words.specs.declared.command.Code.{Code as CodeWords}
 use Rattle.vcp_words.specs.declared.command.Command.{Command}
 use Rattle.vcp_words.specs.declared.command.Command.TheVariants as command
@@ -29,7 +29,7 @@ default_step = 1
 abbrev pub default_code : Code
 default_code = record { seed = default_seed; step = default_step }
 
--- a command with its words: P is a source's name, M an image's; then ROWS, CODE and CYCLE
+-- a command with its words: P is a source's name, M an image's, F a script's; then ROWS, CODE, CYCLE and HORIZON
 pub data Form : Type 0 where
   check : List ℕ → Form
   format : List ℕ → Form
@@ -40,6 +40,8 @@ pub data Form : Type 0 where
   exec : List ℕ → Rows → Form
   trace : List ℕ → Rows → ℕ → Form
   widen : List ℕ → Form
+  audit : List ℕ → ℕ → Form
+  inject : List ℕ → Rows → List ℕ → Form
 
 -- ---- single words
 
@@ -78,6 +80,11 @@ rows_and_rest (w ∷ rest) =
 abbrev pub cycle_and_rest : List (List ℕ) → Option (ℕ × List (List ℕ))
 cycle_and_rest [] = None
 cycle_and_rest (w ∷ rest) = option_map (λ n. (n, rest)) (number_within 0 (most_cycles - 1) w)
+
+-- HORIZON: the most cycle borders of an audit, counted from 0
+abbrev pub horizon_and_rest : List (List ℕ) → Option (ℕ × List (List ℕ))
+horizon_and_rest [] = None
+horizon_and_rest (w ∷ rest) = option_map (λ n. (n, rest)) (number_within 0 most_horizon w)
 
 -- ---- CODE: neither of the options `--seed N` and `--step N`, one, or both in either order
 
@@ -123,6 +130,10 @@ rows_then more words = followed (rows_and_rest words) more
 abbrev pub cycle_then : (ℕ → List (List ℕ) → Option Form) → List (List ℕ) → Option Form
 cycle_then more words = followed (cycle_and_rest words) more
 
+-- HORIZON, and then more words
+abbrev pub horizon_then : (ℕ → List (List ℕ) → Option Form) → List (List ℕ) → Option Form
+horizon_then more words = followed (horizon_and_rest words) more
+
 -- CODE to the last word
 abbrev pub code_then : (Code → Form) → List (List ℕ) → Option Form
 code_then f words = option_map f (code_of words)
@@ -142,7 +153,9 @@ image_form w words =
     (cond (bytes_eq w (codes "exec")) (name_then (λ m. rows_then (λ rows. end_then (exec m rows))) words)
     (cond (bytes_eq w (codes "trace")) (name_then (λ m. rows_then (λ rows. cycle_then (λ c. end_then (trace m rows c)))) words)
     (cond (bytes_eq w (codes "widen")) (name_then (λ m. end_then (widen m)) words)
-    None)))
+    (cond (bytes_eq w (codes "audit")) (name_then (λ m. horizon_then (λ h. end_then (audit m h))) words)
+    (cond (bytes_eq w (codes "inject")) (name_then (λ m. rows_then (λ rows. name_then (λ f. end_then (inject m rows f)))) words)
+    None)))))
 
 -- the command that words say, a line a form
 abbrev pub form_of : List (List ℕ) → Option Form
@@ -177,6 +190,8 @@ form (command.List image) = list image.now
 form (command.Exec image rows) = exec image.now (rows_of rows)
 form (command.Trace image rows cycle) = trace image.now (rows_of rows) cycle
 form (command.Widen image) = widen image.now
+form (command.Audit image horizon) = audit image.now horizon
+form (command.Inject image rows script) = inject image.now (rows_of rows) script.now
 
 -- ---- what holds of each command
 
@@ -191,7 +206,7 @@ pub record IsCode (code : Code) : Type 0 where
   pub step_from : 1 ≤ code.step
   pub step_to : code.step ≤ most_step
 
--- the rows are few, the code in its ranges and the cycle one that a run may have, where the command has them
+-- the rows are few, the code in its ranges, the cycle one that a run may have, and the horizon one that an audit may have, where the command has them
 abbrev pub IsSound : Form → Type 0
 IsSound (check p) = Unit {0}
 IsSound (format p) = Unit {0}
@@ -202,3 +217,5 @@ IsSound (list m) = Unit {0}
 IsSound (exec m rows) = AreFew rows
 IsSound (trace m rows cycle) = AreFew rows × (cycle < most_cycles)
 IsSound (widen m) = Unit {0}
+IsSound (audit m horizon) = horizon ≤ most_horizon
+IsSound (inject m rows f) = AreFew rows

@@ -1,6 +1,6 @@
 -- Tables: what each command is about, a line a command.
-use Rattle.std.specs.Prelude.{ℕ, Bool, true, false, List, [], ◌∷◌, codes}
-use Rattle.vcp_words.specs.Forms.{Form, Rows, check, format, plain, run, compile, list, exec, trace, widen, file, cycles}
+use Rattle.std.specs.Prelude.{ℕ, Bool, true, false, List, [], ◌∷◌, ◌++◌, codes}
+use Rattle.vcp_words.specs.Forms.{Form, Rows, check, format, plain, run, compile, list, exec, trace, widen, audit, inject, file, cycles}
 
 -- ROWS, as lines name it
 abbrev pub rows_name : Rows → List ℕ
@@ -23,6 +23,8 @@ file_words (list m) = m ∷ []
 file_words (exec m rows) = m ∷ rows_files rows
 file_words (trace m rows cycle) = m ∷ rows_files rows
 file_words (widen m) = m ∷ []
+file_words (audit m horizon) = m ∷ []
+file_words (inject m rows f) = m ∷ (rows_files rows ++ f ∷ [])
 
 -- whether a command calls the unit
 abbrev pub calls_unit : Form → Bool
@@ -35,18 +37,22 @@ calls_unit (list m) = false
 calls_unit (exec m rows) = true
 calls_unit (trace m rows cycle) = true
 calls_unit (widen m) = false
+calls_unit (audit m horizon) = false
+calls_unit (inject m rows f) = true
 
 -- whether a command takes memory, or its rows through their refusals, when it has begun to write
-abbrev pub takes_rows_late : Form → Bool
-takes_rows_late (check p) = false
-takes_rows_late (format p) = false
-takes_rows_late (plain p rows) = true
-takes_rows_late (run p rows code) = true
-takes_rows_late (compile p code) = false
-takes_rows_late (list m) = false
-takes_rows_late (exec m rows) = true
-takes_rows_late (trace m rows cycle) = true
-takes_rows_late (widen m) = false
+abbrev pub takes_late : Form → Bool
+takes_late (check p) = false
+takes_late (format p) = false
+takes_late (plain p rows) = true
+takes_late (run p rows code) = true
+takes_late (compile p code) = false
+takes_late (list m) = false
+takes_late (exec m rows) = true
+takes_late (trace m rows cycle) = true
+takes_late (widen m) = false
+takes_late (audit m horizon) = false
+takes_late (inject m rows f) = true
 
 -- the statuses that a command may end with beside 5, 6 and 7, for a file or a sink that failed and for want of memory
 abbrev pub own_statuses : Form → List ℕ
@@ -59,3 +65,5 @@ own_statuses (list m) = 0 ∷ 1 ∷ []
 own_statuses (exec m rows) = 0 ∷ 1 ∷ 2 ∷ 3 ∷ []
 own_statuses (trace m rows cycle) = 0 ∷ 1 ∷ 2 ∷ 3 ∷ []
 own_statuses (widen m) = 0 ∷ 1 ∷ []
+own_statuses (audit m horizon) = 0 ∷ 1 ∷ []
+own_statuses (inject m rows f) = 0 ∷ 1 ∷ []

@@ -88,4 +88,20 @@ pub enum Command<'a> {
         /// The name of the image, M.
         image: &'a Text,
     },
+    /// `audit M HORIZON`: which operations of an image are reached and blind.
+    Audit {
+        /// The name of the image, M.
+        image: &'a Text,
+        /// The greatest number of cycle borders, at most 1000.
+        horizon: u32,
+    },
+    /// `inject M ROWS F`: the verdict of each fault of a script.
+    Inject {
+        /// The name of the image, M.
+        image: &'a Text,
+        /// The recorded inputs, ROWS.
+        rows: RowsWord<'a>,
+        /// The name of the script of faults, F.
+        script: &'a Text,
+    },
 }

@@ -9,6 +9,3 @@ mod words_left;
 pub use command::{Code, Command, DEFAULT_CODE, RowsWord};
 pub use usage_line::usage;
 pub use words::command_of;
-
-#[cfg(test)]
-mod tests;

@@ -2,7 +2,8 @@
 
 ghost use Rattle.std.specs.Prelude.{◌≡◌, IfSome};
 ghost use Rattle.std.specs.Option.{option_map};
-ghost use Rattle.vcp_words.specs.Forms.{check, format, plain, run, compile, list, exec, trace, widen, name_then, rows_then, cycle_then, code_then, end_then, form, form_of, image_form, IsSound};
+ghost use Rattle.vcp_words.specs.Forms.{check, format, plain, run, compile, list, exec, trace, widen, audit, inject, name_then, rows_then, cycle_then};
+ghost use Rattle.vcp_words.specs.Forms.{horizon_then, code_then, end_then, form, form_of, image_form, IsSound};
 
 use crate::command::Command;
 use crate::words_left::WordsLeft;
@@ -49,6 +50,12 @@ fn image_command<'a>(command: &[u8], words: &mut WordsLeft<'a>) -> Option<Comman
     }
     if command == b"widen".as_slice() {
         return widen_words(words);
+    }
+    if command == b"audit".as_slice() {
+        return audit_words(words);
+    }
+    if command == b"inject".as_slice() {
+        return inject_words(words);
     }
     None
 }
@@ -164,6 +171,39 @@ fn widen_words<'a>(words: &mut WordsLeft<'a>) -> Option<Command<'a>>
     let image = words.name()?;
     if words.is_end() {
         Some(Command::Widen { image })
+    } else {
+        None
+    }
+}
+
+/// The words of `audit`: M and HORIZON.
+fn audit_words<'a>(words: &mut WordsLeft<'a>) -> Option<Command<'a>>
+    ensures form { option_map form result ≡ name_then (λ m. horizon_then (λ h. end_then (audit m h))) words.old }
+    ensures sound { IfSome result (λ command. IsSound (form command)) }
+{
+    let image = words.name()?;
+    let horizon = words.horizon()?;
+    if words.is_end() {
+        Some(Command::Audit { image, horizon })
+    } else {
+        None
+    }
+}
+
+/// The words of `inject`: M, ROWS and F.
+fn inject_words<'a>(words: &mut WordsLeft<'a>) -> Option<Command<'a>>
+    ensures form { option_map form result ≡ name_then (λ m. rows_then (λ rows. name_then (λ f. end_then (inject m rows f)))) words.old }
+    ensures sound { IfSome result (λ command. IsSound (form command)) }
+{
+    let image = words.name()?;
+    let rows = words.rows()?;
+    let script = words.name()?;
+    if words.is_end() {
+        Some(Command::Inject {
+            image,
+            rows,
+            script,
+        })
     } else {
         None
     }

@@ -2,13 +2,14 @@
 
 ghost use Rattle.std.specs.Prelude.{◌≡◌, ◌≤◌, ◌<◌, ◌∷◌, [], IfSome, IfNone};
 ghost use Rattle.std.specs.Option.{option_map};
-ghost use Rattle.vcp_base.specs.Limits.{most_cycles, seeds, most_step};
-ghost use Rattle.vcp_words.specs.Forms.{is_file_name as is_file_name_of, is_end as is_end_of, number_within, name_and_rest, rows_and_rest, cycle_and_rest, code_of, rows_of, as_code, AreFew, IsCode};
+ghost use Rattle.vcp_base.specs.Limits.{most_cycles, most_horizon, seeds, most_step};
+ghost use Rattle.vcp_words.specs.Forms.{is_file_name as is_file_name_of, is_end as is_end_of, number_within, name_and_rest, rows_and_rest, cycle_and_rest};
+ghost use Rattle.vcp_words.specs.Forms.{horizon_and_rest, code_of, rows_of, as_code, AreFew, IsCode};
 
 use crate::command::{Code, DEFAULT_CODE, RowsWord};
 use numerals::numeral;
 use std::marker::Model;
-use vcp_base::{MOST_CYCLES, MOST_STEP, SEEDS, Text, Words};
+use vcp_base::{MOST_CYCLES, MOST_HORIZON, MOST_STEP, SEEDS, Text, Words};
 
 /// The words that are left, from the front, seen as a list.
 #[derive(Drop)]
@@ -109,6 +110,15 @@ impl<'a> WordsLeft<'a> {
     {
         let cycle = number(self.next()?, 0, MOST_CYCLES as u64 - 1)?;
         Some(cycle as u32)
+    }
+
+    /// Takes HORIZON.
+    pub fn horizon(&mut self) -> Option<u32>
+        ensures horizon { option_map (λ n. (n, self.new)) result ≡ horizon_and_rest self.old }
+        ensures most { IfSome result (λ n. n ≤ most_horizon) }
+    {
+        let horizon = number(self.next()?, 0, MOST_HORIZON as u64)?;
+        Some(horizon as u32)
     }
 
     /// Takes CODE, to the last word: `--seed N` and `--step N`, each at most once.

@@ -18,13 +18,17 @@ returns-in-Err-clause-reaches g c log wrong =
     let p = c.args.source.now in
     let code = as_code c.args.code in
     if_some_weaker (g.F.Files.held c.args.files.now) _ _
-    (λ h loads. lost (compile p code) p _ _ (untouched log wrong _ _ _ _ (appends-nothing _)) (inl refl) h most_source_bytes (TypedText (λ t. compiles t code) p) NotTyped (g.F.Files.broken c.args.files.now) (g.F.Files.broken c.load_typed.new.files) c.in-Err.input (λ text r why. untyped r why) loads) c.in-Err.ensures.loads
+    (λ h loads. lost (compile p code) p _ _ (untouched log wrong _ _ _ _ (appends-nothing _)) (inl refl) h most_source_bytes
+    (TypedText (λ t. compiles t code) p) NotTyped (g.F.Files.broken c.args.files.now) (g.F.Files.broken c.load_typed.new.files) c.in-Err.input
+    (λ text r why. untyped r why) loads) c.in-Err.ensures.loads
 
 pub returns-in-Err-clause-taken : goal.returns-in-Err-clause-taken
 returns-in-Err-clause-taken g c =
     let p = c.args.source.now in
     if_some_weaker (g.F.Files.held c.args.files.now) _ _
-    (λ h loads. taken_of (compile p (as_code c.args.code)) p (inl refl) h most_source_bytes NotTyped (g.F.Files.broken c.args.files.now) (g.F.Files.broken c.load_typed.new.files) c.in-Err.input _ (lit≤ tt) typed_not_bytes (λ r is. c.in-Err.ensures.whole r (ap Err is)) loads) c.in-Err.ensures.loads
+    (λ h loads. taken_of (compile p (as_code c.args.code)) p (inl refl) h most_source_bytes NotTyped (g.F.Files.broken c.args.files.now)
+    (g.F.Files.broken c.load_typed.new.files) c.in-Err.input _ (lit≤ tt) typed_not_bytes
+    (λ r is. c.in-Err.ensures.whole r (ap Err is)) loads) c.in-Err.ensures.loads
 
 pub returns-in_err-write_all-in-Ok-clause-reaches : goal.returns-in_err-write_all-in-Ok-clause-reaches
 returns-in_err-write_all-in-Ok-clause-reaches g c log wrong =
@@ -33,7 +37,9 @@ returns-in_err-write_all-in-Ok-clause-reaches g c log wrong =
     let q = err_from_is_err_and c.from_residual-in_err-write_all-in-Ok.result c.from_residual-in_err-write_all-in-Ok.ensures.1 in
     let (graph, may, is) = c.in_ok-image-in-Ok.ensures in
     if_some_weaker (g.F.Files.held c.args.files.now) _ _
-    (λ h loads. rw (q.1, q.2) (image_cut (CompileTask p code h) c.in-Ok.program code graph log wrong _ _ _ _ may (compiled p code h c.in-Ok.program loads) (rw (c.bytes.ensures, is) at c.in_err-write_all-in-Ok.ensures.part))) c.in-Ok.ensures.loads
+    (λ h loads. rw (q.1, q.2)
+    (image_cut (CompileTask p code h) c.in-Ok.program code graph log wrong _ _ _ _ may (compiled p code h c.in-Ok.program loads)
+    (rw (c.bytes.ensures, is) at c.in_err-write_all-in-Ok.ensures.part))) c.in-Ok.ensures.loads
 
 pub returns-in_ok-write_all-in-Ok-clause-reaches : goal.returns-in_ok-write_all-in-Ok-clause-reaches
 returns-in_ok-write_all-in-Ok-clause-reaches g c log wrong =
@@ -41,4 +47,5 @@ returns-in_ok-write_all-in-Ok-clause-reaches g c log wrong =
     let code = as_code c.args.code in
     let (graph, may, is) = c.in_ok-image-in-Ok.ensures in
     if_some_weaker (g.F.Files.held c.args.files.now) _ _
-    (λ h loads. image_written (CompileTask p code h) c.in-Ok.program code graph log wrong _ _ _ _ may (compiled p code h c.in-Ok.program loads) (rw (c.bytes.ensures, is) at c.in_ok-write_all-in-Ok.ensures.whole)) c.in-Ok.ensures.loads
+    (λ h loads. image_written (CompileTask p code h) c.in-Ok.program code graph log wrong _ _ _ _ may (compiled p code h c.in-Ok.program loads)
+    (rw (c.bytes.ensures, is) at c.in_ok-write_all-in-Ok.ensures.whole)) c.in-Ok.ensures.loads

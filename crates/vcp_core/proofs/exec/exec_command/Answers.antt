@@ -25,19 +25,24 @@ returns-in_err-loaded-clause-reaches g c =
     let rows = rows_of c.args.rows in
     let q = err_from_is_err_and c.from_residual.result c.from_residual.ensures.1 in
     if_some_weaker (g.F.Files.held c.args.files.now) _ _
-    (λ h lost. rw (q.1, q.2) (lost (exec c.args.image.now rows) (λ g t left. runs (image_job (rows_name rows) g t left)) _ _ (record { source = refl; told = refl; files = refl }) (untouched (g.U.Unit.log c.args.unit.now) (g.U.Unit.wrong c.args.unit.now) _ _ _ _ (appends-nothing _)))) c.in_err-loaded.ensures.not_loaded
+    (λ h lost. rw (q.1, q.2)
+    (lost (exec c.args.image.now rows) (λ g t left. runs (image_job (rows_name rows) g t left)) _ _
+    (record { source = refl; told = refl; files = λ name among. among })
+    (untouched (g.U.Unit.log c.args.unit.now) (g.U.Unit.wrong c.args.unit.now) _ _ _ _ (appends-nothing _)))) c.in_err-loaded.ensures.not_loaded
 
 pub returns-in_err-loaded-clause-taken : goal.returns-in_err-loaded-clause-taken
 returns-in_err-loaded-clause-taken g c =
     let q = err_from_is_err_and c.from_residual.result c.from_residual.ensures.1 in
     if_some_weaker (g.F.Files.held c.args.files.now) _ _
-    (λ h taken. rw (q.1, q.2) taken) (c.in_err-loaded.ensures.taken (exec c.args.image.now (rows_of c.args.rows)) (record { source = refl; told = refl; files = refl }))
+    (λ h taken. rw (q.1, q.2) taken)
+    (c.in_err-loaded.ensures.taken (exec c.args.image.now (rows_of c.args.rows)) (record { source = refl; told = refl; files = λ name among. among }))
 
 pub run_graph-requires-clause-table : goal.run_graph-requires-clause-table
 run_graph-requires-clause-table g c = table-is-of c.in_ok-loaded.loaded.image.table c.in_ok-loaded.loaded.image.graph c.in_ok-loaded.ensures.table
 
 pub run_graph-requires-clause-width : goal.run_graph-requires-clause-width
-run_graph-requires-clause-width g c = types-width c.in_ok-loaded.loaded.image.graph c.in_ok-loaded.loaded.columns c.in-Ok.rows.types c.in-Ok.ensures.types c.in_ok-loaded.ensures.columns
+run_graph-requires-clause-width g c =
+    types-width c.in_ok-loaded.loaded.image.graph c.in_ok-loaded.loaded.columns c.in-Ok.rows.types c.in-Ok.ensures.types c.in_ok-loaded.ensures.columns
 
 pub returns-in-Ok-clause-reaches : goal.returns-in-Ok-clause-reaches
 returns-in-Ok-clause-reaches g c =
@@ -50,8 +55,11 @@ returns-in-Ok-clause-reaches g c =
     let P : RowsOutcome → Type 0 = λ o. GraphTask then m rows h (on_rows (rows_name rows) (then loaded.image.graph loaded.image.table) o) in
     job_ran (exec m rows) (image_job (rows_name rows) loaded.image.graph loaded.image.table c.in-Ok.rows) refl refl (ExecTask m rows h)
     (moment (g.U.Unit.log c.args.unit.now) (g.U.Unit.wrong c.args.unit.now) (g.O.Sink.written c.args.out.now) (g.O.Sink.faults c.args.out.now))
-    (moment (g.U.Unit.log c.run_graph.new.unit) (g.U.Unit.wrong c.run_graph.new.unit) (g.O.Sink.written c.run_graph.new.out) (g.O.Sink.faults c.run_graph.new.out))
-    (g.F.Files.broken c.args.files.now) (g.F.Files.broken c.load_image_and_rows.new.files) (subst P (c.in-Ok.ensures.opens 0 0) (comes then)) c.run_graph.result (c.run_graph.ensures.runs (rows_name rows) (image loaded.image.graph) (code_of loaded.image.table) (image-carried loaded.image.graph loaded.image.table c.in-Ok.rows c.in_ok-loaded.ensures.table))) c.in_ok-loaded.ensures.comes
+    (moment (g.U.Unit.log c.run_graph.new.unit) (g.U.Unit.wrong c.run_graph.new.unit) (g.O.Sink.written c.run_graph.new.out)
+    (g.O.Sink.faults c.run_graph.new.out))
+    (g.F.Files.broken c.args.files.now) (g.F.Files.broken c.load_image_and_rows.new.files) (subst P (c.in-Ok.ensures.opens 0 0) (comes then)) c.run_graph.result
+    (c.run_graph.ensures.runs (rows_name rows) (image loaded.image.graph) (code_of loaded.image.table)
+    (image-carried loaded.image.graph loaded.image.table c.in-Ok.rows c.in_ok-loaded.ensures.table))) c.in_ok-loaded.ensures.comes
 
 pub returns-in-Ok-clause-unread : goal.returns-in-Ok-clause-unread
 returns-in-Ok-clause-unread g c = λ is. absurd (run_reads (image_job (rows_name (rows_of c.args.rows)) c.in_ok-loaded.loaded.image.graph c.in_ok-loaded.loaded.image.table c.in-Ok.rows) _ _ c.run_graph.result (c.run_graph.ensures.runs (rows_name (rows_of c.args.rows)) (image c.in_ok-loaded.loaded.image.graph) (code_of c.in_ok-loaded.loaded.image.table) (image-carried c.in_ok-loaded.loaded.image.graph c.in_ok-loaded.loaded.image.table c.in-Ok.rows c.in_ok-loaded.ensures.table)) is)
@@ -64,5 +72,7 @@ returns-clause-reaches g c =
     let then : Lists → Numbers → RowsLeft → Task = λ g t left. runs (image_job (rows_name rows) g t left) in
     let b = g.F.Files.broken c.args.files.now in
     if_some_weaker (g.F.Files.held c.args.files.now) _ _
-    (λ h comes. unopened (exec m rows) (rows_name rows) (ExecTask m rows h) (then loaded.image.graph loaded.image.table) (source_outcome loaded.rows loaded.columns) _ _ b b (g.F.Files.broken c.load_image_and_rows.new.files) c.in-Err.input
-    (untouched (g.U.Unit.log c.args.unit.now) (g.U.Unit.wrong c.args.unit.now) _ _ _ _ (appends-nothing _)) (λ e. absurd (c.in-Err.ensures.read (ap Err e))) (omega arith) (comes then) (c.in-Err.ensures.opens b (g.F.Files.broken c.load_image_and_rows.new.files))) c.in_ok-loaded.ensures.comes
+    (λ h comes. unopened (exec m rows) (rows_name rows) (ExecTask m rows h) (then loaded.image.graph loaded.image.table)
+    (source_outcome loaded.rows loaded.columns) _ _ b b (g.F.Files.broken c.load_image_and_rows.new.files) c.in-Err.input
+    (untouched (g.U.Unit.log c.args.unit.now) (g.U.Unit.wrong c.args.unit.now) _ _ _ _ (appends-nothing _)) (λ e. absurd (c.in-Err.ensures.read (ap Err e)))
+    (omega arith) (comes then) (c.in-Err.ensures.opens b (g.F.Files.broken c.load_image_and_rows.new.files))) c.in_ok-loaded.ensures.comes

@@ -19,6 +19,7 @@ returns-clause-one c =
       apart = c.answers_are_one.ensures.either;
       refused = c.answers_are_one.ensures.refused;
       images = images;
+      audits = c.an_audit_has_one_text.ensures.one;
     } in
     task_once laws
 

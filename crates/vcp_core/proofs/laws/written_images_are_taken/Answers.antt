@@ -1,3 +1,4 @@
+use Rattle.vcp_core.proofs.Audits.{audit_comes}
 use Rattle.vcp_core.proofs.OneTask.{ImageLaws}
 use Rattle.vcp_core.proofs.WideImages.{image_comes, has_wide, wide_run, wide_same}
 use Rattle.vcp_core.proofs.laws.written_images_are_taken.Goals as goal
@@ -10,6 +11,15 @@ returns-clause-taken c =
       none = c.images_are_told_apart.ensures.no_fault;
     } in
     image_comes images
+
+pub returns-clause-audited : goal.returns-clause-audited
+returns-clause-audited c =
+    let images : ImageLaws = record {
+      graph = c.images_are_told_apart.ensures.one_graph;
+      fault = c.images_are_told_apart.ensures.one_fault;
+      none = c.images_are_told_apart.ensures.no_fault;
+    } in
+    audit_comes images c.an_audit_has_one_text.ensures.one
 
 pub returns-clause-widened : goal.returns-clause-widened
 returns-clause-widened c = has_wide

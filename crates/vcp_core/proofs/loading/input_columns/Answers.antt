@@ -8,7 +8,8 @@ use Rattle.vcp_core.proofs.PlainNames.{inputs-few}
 use Rattle.vcp_core.proofs.loading.input_columns.Goals as goal
 
 -- the columns of few slots are few
-few : {E : Type 0} (slots : List Slot) (r : Result (List Column) E) → length slots ≤ most_names → IfOk r (λ columns. columns ≡ input_columns slots) → IfOk r (λ columns. length columns ≤ most_names)
+few : {E : Type 0} (slots : List Slot) (r : Result (List Column) E) → length slots ≤ most_names → IfOk r (λ columns. columns ≡ input_columns slots)
+    → IfOk r (λ columns. length columns ≤ most_names)
 few slots (Ok columns) h is = rw is (omega (arith, h, inputs-few slots))
 few slots (Err e) h is = tt
 

@@ -25,12 +25,15 @@ named slots r s h is =
 pub stop_line-requires : goal.stop_line-requires
 stop_line-requires g c =
     let e = c.args.plain.now in
-    rw (c.turns.ensures, c.requires.names) (named e.program.slots _ _ (c.turns_name_slots.ensures.cycle e.program e.values c.args.inputs.now c.requires.checked) (goes e c.args.inputs.now _ c.requires.going c.in-Err.ensures.stop))
+    rw (c.turns.ensures, c.requires.names)
+    (named e.program.slots _ _ (c.turns_name_slots.ensures.cycle e.program e.values c.args.inputs.now c.requires.checked)
+    (goes e c.args.inputs.now _ c.requires.going c.in-Err.ensures.stop))
 
 pub returns-in_ok-row_line-in-Ok-clause-cells : goal.returns-in_ok-row_line-in-Ok-clause-cells
 returns-in_ok-row_line-in-Ok-clause-cells g c = λ _.
     let e = c.args.plain.now in
     let is = goes e c.args.inputs.now _ c.requires.going c.in-Ok.ensures.values in
     let Fits : Result (List ℤ) Stop → Type 0 = λ r. IfOk r (AreFit e.program.slots) in
-    let fit : AreFit e.program.slots c.cycle.new.self.values = subst Fits is (c.values_fit.ensures.cycle e.program c.args.inputs.now e.values c.requires.checked c.requires.row c.requires.fit) in
+    let fit : AreFit e.program.slots c.cycle.new.self.values =
+    subst Fits is (c.values_fit.ensures.cycle e.program c.args.inputs.now e.values c.requires.checked c.requires.row c.requires.fit) in
     ap length c.in-Ok.ensures.outputs ∙ in-length _ _ (c.values_fit.ensures.outputs e.program.slots c.cycle.new.self.values fit) ∙ sym c.requires.cells

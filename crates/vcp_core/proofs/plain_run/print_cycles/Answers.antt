@@ -13,7 +13,8 @@ use Rattle.vcp_core.proofs.plain_run.print_cycles.Goals as goal
 types-behind : (before left : RowsLeft) (row : List ℤ) → before ≡ record left { rows = row ∷ left.rows } → left.types ≡ before.types
 types-behind before left row taken = sym (ap (λ (l : RowsLeft). l.types) taken)
 
-rows-behind : (P : List ℤ → Type 0) (before left : RowsLeft) (row : List ℤ) → before ≡ record left { rows = row ∷ left.rows } → All P before.rows → All P left.rows
+rows-behind : (P : List ℤ → Type 0) (before left : RowsLeft) (row : List ℤ) → before ≡ record left { rows = row ∷ left.rows } → All P before.rows
+    → All P left.rows
 rows-behind P before left row taken h = λ k d below.
     let Q : RowsLeft → Type 0 = λ l. All P l.rows in
     let all : All P (row ∷ left.rows) = subst Q taken h in
@@ -26,7 +27,11 @@ pub returns-in_err-print_cycle-clause-prints : goal.returns-in_err-print_cycle-c
 returns-in_err-print_cycle-clause-prints g c =
     let p = err_from_is_err_and c.from_residual-in_err-print_cycle.result c.from_residual-in_err-print_cycle.ensures.1 in
     let part = rw c.cycles.invariant.program at c.in_err-print_cycle.ensures.line.part in
-    rw (p.1, p.2) (going-ends c.args.plain.now.program c.args.plain.now.values c.args.rows.now (g.O.Sink.written c.args.out.now) (g.O.Sink.written c.cycles.out) (g.O.Sink.written c.print_cycle.new.out) c.cycles.count c.cycles.plain.values c.cycles.rows (Err fault.Write) c.cycles.invariant.going (fails-here c.args.plain.now.program c.cycles.count c.cycles.plain.values c.next.new.out c.cycles.rows c.next.new.self (g.O.Sink.written c.cycles.out) (g.O.Sink.written c.print_cycle.new.out) (c.in_ok-next.ensures.row c.if-branch.true) part))
+    rw (p.1, p.2)
+    (going-ends c.args.plain.now.program c.args.plain.now.values c.args.rows.now (g.O.Sink.written c.args.out.now) (g.O.Sink.written c.cycles.out)
+    (g.O.Sink.written c.print_cycle.new.out) c.cycles.count c.cycles.plain.values c.cycles.rows (Err fault.Write) c.cycles.invariant.going
+    (fails-here c.args.plain.now.program c.cycles.count c.cycles.plain.values c.next.new.out c.cycles.rows c.next.new.self (g.O.Sink.written c.cycles.out)
+    (g.O.Sink.written c.print_cycle.new.out) (c.in_ok-next.ensures.row c.if-branch.true) part))
 
 pub returns-in_err-print_cycle-clause-write : goal.returns-in_err-print_cycle-clause-write
 returns-in_err-print_cycle-clause-write g c = λ _. rose-later _ _ _ c.cycles.invariant.later c.in_err-print_cycle.ensures.line.cause.failed
@@ -35,7 +40,11 @@ pub returns-in_err-end_line-clause-prints : goal.returns-in_err-end_line-clause-
 returns-in_err-end_line-clause-prints g c =
     let p = err_from_is_err_and c.from_residual-in_err-end_line.result c.from_residual-in_err-end_line.ensures.1 in
     let none = c.in_ok-next.ensures.end c.if-branch.false in
-    rw (p.1, p.2) (going-ends c.args.plain.now.program c.args.plain.now.values c.args.rows.now (g.O.Sink.written c.args.out.now) (g.O.Sink.written c.cycles.out) (g.O.Sink.written c.end_line.new.out) c.cycles.count c.cycles.plain.values c.cycles.rows (Err fault.Write) c.cycles.invariant.going (end-fails c.args.plain.now.program c.cycles.count c.cycles.plain.values c.cycles.rows (g.O.Sink.written c.cycles.out) (g.O.Sink.written c.end_line.new.out) (record { rows = none.0; refusal_is = none.1 }) c.in_err-end_line.ensures.part))
+    rw (p.1, p.2)
+    (going-ends c.args.plain.now.program c.args.plain.now.values c.args.rows.now (g.O.Sink.written c.args.out.now) (g.O.Sink.written c.cycles.out)
+    (g.O.Sink.written c.end_line.new.out) c.cycles.count c.cycles.plain.values c.cycles.rows (Err fault.Write) c.cycles.invariant.going
+    (end-fails c.args.plain.now.program c.cycles.count c.cycles.plain.values c.cycles.rows (g.O.Sink.written c.cycles.out)
+    (g.O.Sink.written c.end_line.new.out) (record { rows = none.0; refusal_is = none.1 }) c.in_err-end_line.ensures.part))
 
 pub returns-in_err-end_line-clause-write : goal.returns-in_err-end_line-clause-write
 returns-in_err-end_line-clause-write g c = λ _. rose-later _ _ _ c.cycles.invariant.later c.in_err-end_line.ensures.cause.failed
@@ -63,5 +72,8 @@ returns-then-not-branch-clause-prints g c =
     let p = c.args.plain.now.program in
     let here = c.in_ok-print_cycle.ensures in
     let stopped = here.stopped c.if-not-branch.true in
-    going-ends p c.args.plain.now.values c.args.rows.now (g.O.Sink.written c.args.out.now) (g.O.Sink.written c.cycles.out) (g.O.Sink.written c.print_cycle.new.out) c.cycles.count c.cycles.plain.values c.cycles.rows (Ok end.Stopped) c.cycles.invariant.going
-    (stops-here p c.cycles.count c.cycles.plain.values c.next.new.out stopped.0 c.cycles.rows c.next.new.self (g.O.Sink.written c.cycles.out) (g.O.Sink.written c.print_cycle.new.out) (c.in_ok-next.ensures.row c.if-branch.true) (rw c.cycles.invariant.program at stopped.1) (rw c.cycles.invariant.program at here.line.whole))
+    going-ends p c.args.plain.now.values c.args.rows.now (g.O.Sink.written c.args.out.now) (g.O.Sink.written c.cycles.out)
+    (g.O.Sink.written c.print_cycle.new.out) c.cycles.count c.cycles.plain.values c.cycles.rows (Ok end.Stopped) c.cycles.invariant.going
+    (stops-here p c.cycles.count c.cycles.plain.values c.next.new.out stopped.0 c.cycles.rows c.next.new.self (g.O.Sink.written c.cycles.out)
+    (g.O.Sink.written c.print_cycle.new.out) (c.in_ok-next.ensures.row c.if-branch.true) (rw c.cycles.invariant.program at stopped.1)
+    (rw c.cycles.invariant.program at here.line.whole))

@@ -30,10 +30,14 @@ returns-in_err-end-clause-runs g c name s code carries =
     let left = c.args.rows.now in
     let names = names-are graph c.args.table.now left s code c.in_ok-outputs.outputs carries c.in_ok-outputs.ensures in
     let leaves = leaves-here c.in_ok-machine.machine _ graph c.args.table.now _ left _ _ _ _ _ _ c.in_ok-machine.ensures.fresh carries.numbers c.in_err-end.ensures.leaves in
-    rw (q.1, q.2) (given-up-job graph s name code left carries.may carries.told _ _ _ _ _ _ _ _ _ _ _ c.requires.behind (rw names at c.in_ok-header_line.ensures.whole) leaves.run)
+    rw (q.1, q.2)
+    (given-up-job graph s name code left carries.may carries.told _ _ _ _ _ _ _ _ _ _ _ c.requires.behind
+    (rw names at c.in_ok-header_line.ensures.whole) leaves.run)
 
 pub print_end-requires-clause-there : goal.print_end-requires-clause-there
-print_end-requires-clause-there g c = there-is c.in_ok-machine.machine c.args.graph.now c.in_ok-end.end (Ok c.in_ok-end.end) refl (ap (λ (m : State). m.graph) c.in_ok-machine.ensures.fresh) c.in_ok-end.ensures.placed c.in_ok-end.ensures.numbered
+print_end-requires-clause-there g c =
+    there-is c.in_ok-machine.machine c.args.graph.now c.in_ok-end.end (Ok c.in_ok-end.end) refl
+    (ap (λ (m : State). m.graph) c.in_ok-machine.ensures.fresh) c.in_ok-end.ensures.placed c.in_ok-end.ensures.numbered
 
 pub returns-in_err-print_end-clause-runs : goal.returns-in_err-print_end-clause-runs
 returns-in_err-print_end-clause-runs g c name s code carries =
@@ -42,8 +46,12 @@ returns-in_err-print_end-clause-runs g c name s code carries =
     let left = c.args.rows.now in
     let names = names-are graph c.args.table.now left s code c.in_ok-outputs.outputs carries c.in_ok-outputs.ensures in
     let leaves = leaves-here c.in_ok-machine.machine _ graph c.args.table.now _ left _ _ _ _ _ _ c.in_ok-machine.ensures.fresh carries.numbers c.in_ok-end.ensures.leaves in
-    let there = there-is c.in_ok-machine.machine graph c.in_ok-end.end (Ok c.in_ok-end.end) refl (ap (λ (m : State). m.graph) c.in_ok-machine.ensures.fresh) c.in_ok-end.ensures.placed c.in_ok-end.ensures.numbered in
-    rw (q.1, q.2) (last-cut graph s name code left carries.may carries.told _ _ _ _ c.in_ok-end.end _ _ _ _ _ _ _ _ c.cycles.result (rw names at c.in_ok-header_line.ensures.whole) leaves.run there (c.cycles.ensures.value ∙ leaves.machine.cycles) (rw names at c.in_err-print_end.ensures.1))
+    let there = there-is c.in_ok-machine.machine graph c.in_ok-end.end (Ok c.in_ok-end.end) refl
+    (ap (λ (m : State). m.graph) c.in_ok-machine.ensures.fresh) c.in_ok-end.ensures.placed c.in_ok-end.ensures.numbered in
+    rw (q.1, q.2)
+    (last-cut graph s name code left carries.may carries.told _ _ _ _ c.in_ok-end.end _ _ _ _ _ _ _ _ c.cycles.result
+    (rw names at c.in_ok-header_line.ensures.whole) leaves.run there (c.cycles.ensures.value ∙ leaves.machine.cycles)
+    (rw names at c.in_err-print_end.ensures.1))
 
 pub returns-in_err-print_end-clause-write : goal.returns-in_err-print_end-clause-write
 returns-in_err-print_end-clause-write g c = λ is. omega (arith, c.in_ok-header_line.ensures.cause.later, c.run_rows.ensures.later, c.in_err-print_end.ensures.0)
@@ -54,8 +62,11 @@ returns-clause-runs g c name s code carries =
     let left = c.args.rows.now in
     let names = names-are graph c.args.table.now left s code c.in_ok-outputs.outputs carries c.in_ok-outputs.ensures in
     let leaves = leaves-here c.in_ok-machine.machine _ graph c.args.table.now _ left _ _ _ _ _ _ c.in_ok-machine.ensures.fresh carries.numbers c.in_ok-end.ensures.leaves in
-    let there = there-is c.in_ok-machine.machine graph c.in_ok-end.end (Ok c.in_ok-end.end) refl (ap (λ (m : State). m.graph) c.in_ok-machine.ensures.fresh) c.in_ok-end.ensures.placed c.in_ok-end.ensures.numbered in
-    ended-job graph s name code left carries.may carries.told _ _ _ _ c.in_ok-end.end c.in_ok-print_end.field-0 _ _ _ _ _ _ _ _ c.cycles.result (rw names at c.in_ok-header_line.ensures.whole) leaves.run there (c.cycles.ensures.value ∙ leaves.machine.cycles) (rw names at c.in_ok-print_end.ensures.0) c.in_ok-print_end.ensures.1
+    let there = there-is c.in_ok-machine.machine graph c.in_ok-end.end (Ok c.in_ok-end.end) refl
+    (ap (λ (m : State). m.graph) c.in_ok-machine.ensures.fresh) c.in_ok-end.ensures.placed c.in_ok-end.ensures.numbered in
+    ended-job graph s name code left carries.may carries.told _ _ _ _ c.in_ok-end.end c.in_ok-print_end.field-0 _ _ _ _ _ _ _ _ c.cycles.result
+    (rw names at c.in_ok-header_line.ensures.whole) leaves.run there (c.cycles.ensures.value ∙ leaves.machine.cycles)
+    (rw names at c.in_ok-print_end.ensures.0) c.in_ok-print_end.ensures.1
 
 pub returns-clause-refused : goal.returns-clause-refused
 returns-clause-refused g c is =

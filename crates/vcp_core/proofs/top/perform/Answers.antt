@@ -26,3 +26,9 @@ returns-in-Exec-clause-reaches g c = rw c.in-Exec.is c.exec_command.ensures.reac
 
 pub returns-in-Trace-clause-reaches : goal.returns-in-Trace-clause-reaches
 returns-in-Trace-clause-reaches g c = rw c.in-Trace.is c.trace_command.ensures.reaches
+
+pub returns-in-Audit-clause-reaches : goal.returns-in-Audit-clause-reaches
+returns-in-Audit-clause-reaches g c = rw c.in-Audit.is (c.audit_command.ensures.reaches (g.U.Unit.log c.args.unit.now) (g.U.Unit.wrong c.args.unit.now))
+
+pub returns-in-Inject-clause-reaches : goal.returns-in-Inject-clause-reaches
+returns-in-Inject-clause-reaches g c = rw c.in-Inject.is c.inject_command.ensures.reaches

@@ -26,23 +26,31 @@ returns-in_err-loaded-clause-reaches g c =
     let n = c.args.cycle in
     let q = err_from_is_err_and c.from_residual.result c.from_residual.ensures.1 in
     if_some_weaker (g.F.Files.held c.args.files.now) _ _
-    (λ h lost. rw (q.1, q.2) (lost (trace c.args.image.now rows c.args.cycle) (λ g t left. runs (words_job (rows_name rows) n g t (through n left))) _ _ (record { source = refl; told = refl; files = refl }) (untouched (g.U.Unit.log c.args.unit.now) (g.U.Unit.wrong c.args.unit.now) _ _ _ _ (appends-nothing _)))) c.in_err-loaded.ensures.not_loaded
+    (λ h lost. rw (q.1, q.2)
+    (lost (trace c.args.image.now rows c.args.cycle) (λ g t left. runs (words_job (rows_name rows) n g t (through n left))) _ _
+    (record { source = refl; told = refl; files = λ name among. among })
+    (untouched (g.U.Unit.log c.args.unit.now) (g.U.Unit.wrong c.args.unit.now) _ _ _ _ (appends-nothing _)))) c.in_err-loaded.ensures.not_loaded
 
 pub returns-in_err-loaded-clause-taken : goal.returns-in_err-loaded-clause-taken
 returns-in_err-loaded-clause-taken g c =
     let q = err_from_is_err_and c.from_residual.result c.from_residual.ensures.1 in
     if_some_weaker (g.F.Files.held c.args.files.now) _ _
-    (λ h taken. rw (q.1, q.2) taken) (c.in_err-loaded.ensures.taken (trace c.args.image.now (rows_of c.args.rows) c.args.cycle) (record { source = refl; told = refl; files = refl }))
+    (λ h taken. rw (q.1, q.2) taken)
+    (c.in_err-loaded.ensures.taken (trace c.args.image.now (rows_of c.args.rows) c.args.cycle)
+    (record { source = refl; told = refl; files = λ name among. among }))
 
 pub run_words-requires-clause-width : goal.run_words-requires-clause-width
 run_words-requires-clause-width g c =
-    ap (λ (l : RowsLeft). length l.types) c.through.ensures.rows ∙ types-width c.in_ok-loaded.loaded.image.graph c.in_ok-loaded.loaded.columns c.in-Ok.rows.types c.in-Ok.ensures.types c.in_ok-loaded.ensures.columns
+    ap (λ (l : RowsLeft). length l.types) c.through.ensures.rows
+    ∙ types-width c.in_ok-loaded.loaded.image.graph c.in_ok-loaded.loaded.columns c.in-Ok.rows.types c.in-Ok.ensures.types c.in_ok-loaded.ensures.columns
 
 pub run_words-requires-clause-few : goal.run_words-requires-clause-few
-run_words-requires-clause-few g c = subst (λ (l : RowsLeft). length l.rows ≤ c.args.cycle + 1) (sym c.through.ensures.rows) (through-few c.args.cycle c.in-Ok.rows)
+run_words-requires-clause-few g c =
+    subst (λ (l : RowsLeft). length l.rows ≤ c.args.cycle + 1) (sym c.through.ensures.rows) (through-few c.args.cycle c.in-Ok.rows)
 
 pub run_words-requires-clause-through : goal.run_words-requires-clause-through
-run_words-requires-clause-through g c = subst (λ (l : RowsLeft). l.refusal ≡ None → length l.rows ≡ c.args.cycle + 1) (sym c.through.ensures.rows) (through-all c.args.cycle c.in-Ok.rows)
+run_words-requires-clause-through g c =
+    subst (λ (l : RowsLeft). l.refusal ≡ None → length l.rows ≡ c.args.cycle + 1) (sym c.through.ensures.rows) (through-all c.args.cycle c.in-Ok.rows)
 
 pub returns-in-Ok-clause-reaches : goal.returns-in-Ok-clause-reaches
 returns-in-Ok-clause-reaches g c =
@@ -56,10 +64,14 @@ returns-in-Ok-clause-reaches g c =
     let P : RowsOutcome → Type 0 = λ o. GraphTask then m rows h (on_rows (rows_name rows) (then loaded.image.graph loaded.image.table) o) in
     job_ran (trace m rows n) (words_job (rows_name rows) n loaded.image.graph loaded.image.table (through n c.in-Ok.rows)) refl refl (TraceTask m rows n h)
     (moment (g.U.Unit.log c.args.unit.now) (g.U.Unit.wrong c.args.unit.now) (g.O.Sink.written c.args.out.now) (g.O.Sink.faults c.args.out.now))
-    (moment (g.U.Unit.log c.run_words.new.unit) (g.U.Unit.wrong c.run_words.new.unit) (g.O.Sink.written c.run_words.new.out) (g.O.Sink.faults c.run_words.new.out))
-    (g.F.Files.broken c.args.files.now) (g.F.Files.broken c.load_image_and_rows.new.files) (subst P (c.in-Ok.ensures.opens 0 0) (comes then)) c.run_words.result (subst (λ left. RunsJob (words_job (rows_name rows) n loaded.image.graph loaded.image.table left)
+    (moment (g.U.Unit.log c.run_words.new.unit) (g.U.Unit.wrong c.run_words.new.unit) (g.O.Sink.written c.run_words.new.out)
+    (g.O.Sink.faults c.run_words.new.out))
+    (g.F.Files.broken c.args.files.now) (g.F.Files.broken c.load_image_and_rows.new.files) (subst P (c.in-Ok.ensures.opens 0 0) (comes then)) c.run_words.result
+    (subst (λ left. RunsJob (words_job (rows_name rows) n loaded.image.graph loaded.image.table left)
     (moment (g.U.Unit.log c.args.unit.now) (g.U.Unit.wrong c.args.unit.now) (g.O.Sink.written c.args.out.now) (g.O.Sink.faults c.args.out.now))
-    (moment (g.U.Unit.log c.run_words.new.unit) (g.U.Unit.wrong c.run_words.new.unit) (g.O.Sink.written c.run_words.new.out) (g.O.Sink.faults c.run_words.new.out)) c.run_words.result) c.through.ensures.rows (c.run_words.ensures.runs (rows_name rows)))) c.in_ok-loaded.ensures.comes
+    (moment (g.U.Unit.log c.run_words.new.unit) (g.U.Unit.wrong c.run_words.new.unit) (g.O.Sink.written c.run_words.new.out)
+    (g.O.Sink.faults c.run_words.new.out)) c.run_words.result) c.through.ensures.rows
+    (c.run_words.ensures.runs (rows_name rows)))) c.in_ok-loaded.ensures.comes
 
 pub returns-in-Ok-clause-unread : goal.returns-in-Ok-clause-unread
 returns-in-Ok-clause-unread g c = λ is. absurd (run_reads (words_job (rows_name (rows_of c.args.rows)) c.args.cycle c.in_ok-loaded.loaded.image.graph c.in_ok-loaded.loaded.image.table c.through.result) _ _ c.run_words.result (c.run_words.ensures.runs (rows_name (rows_of c.args.rows))) is)
@@ -73,5 +85,7 @@ returns-clause-reaches g c =
     let then : Lists → Numbers → RowsLeft → Task = λ g t left. runs (words_job (rows_name rows) n g t (through n left)) in
     let b = g.F.Files.broken c.args.files.now in
     if_some_weaker (g.F.Files.held c.args.files.now) _ _
-    (λ h comes. unopened (trace m rows n) (rows_name rows) (TraceTask m rows n h) (then loaded.image.graph loaded.image.table) (source_outcome loaded.rows loaded.columns) _ _ b b (g.F.Files.broken c.load_image_and_rows.new.files) c.in-Err.input
-    (untouched (g.U.Unit.log c.args.unit.now) (g.U.Unit.wrong c.args.unit.now) _ _ _ _ (appends-nothing _)) (λ e. absurd (c.in-Err.ensures.read (ap Err e))) (omega arith) (comes then) (c.in-Err.ensures.opens b (g.F.Files.broken c.load_image_and_rows.new.files))) c.in_ok-loaded.ensures.comes
+    (λ h comes. unopened (trace m rows n) (rows_name rows) (TraceTask m rows n h) (then loaded.image.graph loaded.image.table)
+    (source_outcome loaded.rows loaded.columns) _ _ b b (g.F.Files.broken c.load_image_and_rows.new.files) c.in-Err.input
+    (untouched (g.U.Unit.log c.args.unit.now) (g.U.Unit.wrong c.args.unit.now) _ _ _ _ (appends-nothing _)) (λ e. absurd (c.in-Err.ensures.read (ap Err e)))
+    (omega arith) (comes then) (c.in-Err.ensures.opens b (g.F.Files.broken c.load_image_and_rows.new.files))) c.in_ok-loaded.ensures.comes

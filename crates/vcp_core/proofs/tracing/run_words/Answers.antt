@@ -37,18 +37,21 @@ pub print_traced-requires-clause-table : goal.print_traced-requires-clause-table
 print_traced-requires-clause-table g c =
     let after = c.in_ok-end.ensures.leaves.machine in
     let fresh = c.in_ok-machine.ensures.fresh in
-    ap (λ (t : Numbers). length t.corrections) (after.table ∙ ap (λ (m : State). m.table) fresh) ∙ table-long c.args.table.now c.args.graph.now c.requires.table ∙ ap (λ (h : Lists). length h.operations) (sym (after.graph ∙ ap (λ (m : State). m.graph) fresh))
+    ap (λ (t : Numbers). length t.corrections) (after.table ∙ ap (λ (m : State). m.table) fresh) ∙ table-long c.args.table.now c.args.graph.now c.requires.table
+    ∙ ap (λ (h : Lists). length h.operations) (sym (after.graph ∙ ap (λ (m : State). m.graph) fresh))
 
 pub print_traced-requires-clause-there : goal.print_traced-requires-clause-there
 print_traced-requires-clause-there g c =
     let after = c.in_ok-end.ensures.leaves.machine in
-    let there = there-is c.in_ok-machine.machine c.args.graph.now c.in_ok-end.end (Ok c.in_ok-end.end) refl (ap (λ (m : State). m.graph) c.in_ok-machine.ensures.fresh) c.in_ok-end.ensures.placed c.in_ok-end.ensures.numbered in
+    let there = there-is c.in_ok-machine.machine c.args.graph.now c.in_ok-end.end (Ok c.in_ok-end.end) refl
+    (ap (λ (m : State). m.graph) c.in_ok-machine.ensures.fresh) c.in_ok-end.ensures.placed c.in_ok-end.ensures.numbered in
     subst (λ h. IsThere h c.in_ok-end.end) (sym (after.graph ∙ ap (λ (m : State). m.graph) c.in_ok-machine.ensures.fresh)) there
 
 pub print_traced-requires-clause-outputs : goal.print_traced-requires-clause-outputs
 print_traced-requires-clause-outputs g c =
     let after = c.in_ok-end.ensures.leaves.machine in
-    ap length c.in_ok-outputs.ensures ∙ length-map c.args.graph.now.outputs _ ∙ ap (λ (h : Lists). length h.outputs) (sym (after.graph ∙ ap (λ (m : State). m.graph) c.in_ok-machine.ensures.fresh))
+    ap length c.in_ok-outputs.ensures ∙ length-map c.args.graph.now.outputs _
+    ∙ ap (λ (h : Lists). length h.outputs) (sym (after.graph ∙ ap (λ (m : State). m.graph) c.in_ok-machine.ensures.fresh))
 
 pub print_traced-requires-clause-whole : goal.print_traced-requires-clause-whole
 print_traced-requires-clause-whole g c =
@@ -58,7 +61,8 @@ print_traced-requires-clause-whole g c =
     let n = c.args.cycle in
     let laws = c.right_answers_stand_for_values.ensures in
     let leaves = leaves-here c.in_ok-machine.machine _ graph table _ left _ _ _ _ _ _ c.in_ok-machine.ensures.fresh c.requires.table c.in_ok-end.ensures.leaves in
-    let there = there-is c.in_ok-machine.machine graph c.in_ok-end.end (Ok c.in_ok-end.end) refl (ap (λ (m : State). m.graph) c.in_ok-machine.ensures.fresh) c.in_ok-end.ensures.placed c.in_ok-end.ensures.numbered in
+    let there = there-is c.in_ok-machine.machine graph c.in_ok-end.end (Ok c.in_ok-end.end) refl
+    (ap (λ (m : State). m.graph) c.in_ok-machine.ensures.fresh) c.in_ok-end.ensures.placed c.in_ok-end.ensures.numbered in
     whole-there graph n [] table left c.requires.few c.requires.through _ _ _ _ (meant-words laws.cycle laws.cells_at_first graph table left.rows n c.len-rules.ensures.rules c.step-ranges.ensures.ranges c.requires.table c.requires.few c.requires.cycle) c.in_ok-end.end _ _ _ _ leaves.run there _ leaves.machine
 
 pub returns-in_err-print_traced-clause-runs : goal.returns-in_err-print_traced-clause-runs
@@ -70,7 +74,8 @@ returns-in_err-print_traced-clause-runs g c name =
     let n = c.args.cycle in
     let laws = c.right_answers_stand_for_values.ensures in
     let leaves = leaves-here c.in_ok-machine.machine _ graph table _ left _ _ _ _ _ _ c.in_ok-machine.ensures.fresh c.requires.table c.in_ok-end.ensures.leaves in
-    let there = there-is c.in_ok-machine.machine graph c.in_ok-end.end (Ok c.in_ok-end.end) refl (ap (λ (m : State). m.graph) c.in_ok-machine.ensures.fresh) c.in_ok-end.ensures.placed c.in_ok-end.ensures.numbered in
+    let there = there-is c.in_ok-machine.machine graph c.in_ok-end.end (Ok c.in_ok-end.end) refl
+    (ap (λ (m : State). m.graph) c.in_ok-machine.ensures.fresh) c.in_ok-end.ensures.placed c.in_ok-end.ensures.numbered in
     let names = ap (map (λ (x : Column). x.name)) c.in_ok-outputs.ensures in
     rw (q.1, q.2) (cut-words graph n name table left c.requires.few c.requires.through _ _ _ _ (meant-words laws.cycle laws.cells_at_first graph table left.rows n c.len-rules.ensures.rules c.step-ranges.ensures.ranges c.requires.table c.requires.few c.requires.cycle) c.in_ok-end.end _ _ _ _ leaves.run there _ leaves.machine _ _ (rw names at c.in_err-print_traced.ensures.1))
 
@@ -85,7 +90,8 @@ returns-clause-runs g c name =
     let n = c.args.cycle in
     let laws = c.right_answers_stand_for_values.ensures in
     let leaves = leaves-here c.in_ok-machine.machine _ graph table _ left _ _ _ _ _ _ c.in_ok-machine.ensures.fresh c.requires.table c.in_ok-end.ensures.leaves in
-    let there = there-is c.in_ok-machine.machine graph c.in_ok-end.end (Ok c.in_ok-end.end) refl (ap (λ (m : State). m.graph) c.in_ok-machine.ensures.fresh) c.in_ok-end.ensures.placed c.in_ok-end.ensures.numbered in
+    let there = there-is c.in_ok-machine.machine graph c.in_ok-end.end (Ok c.in_ok-end.end) refl
+    (ap (λ (m : State). m.graph) c.in_ok-machine.ensures.fresh) c.in_ok-end.ensures.placed c.in_ok-end.ensures.numbered in
     let names = ap (map (λ (x : Column). x.name)) c.in_ok-outputs.ensures in
     ended-words graph n name table left c.requires.few c.requires.through _ _ _ _ (meant-words laws.cycle laws.cells_at_first graph table left.rows n c.len-rules.ensures.rules c.step-ranges.ensures.ranges c.requires.table c.requires.few c.requires.cycle) c.in_ok-end.end _ _ _ _ leaves.run there _ leaves.machine c.in_ok-print_traced.field-0 _ _ (rw names at c.in_ok-print_traced.ensures.0) c.in_ok-print_traced.ensures.1
 

@@ -10,7 +10,10 @@ returns-in_err-tokens-clause-err c =
 pub returns-in_err-program-clause-err : goal.returns-in_err-program-clause-err
 returns-in_err-program-clause-err c =
     let p = err_from_is_err_and c.from_residual-in_err-program.result c.from_residual-in_err-program.ensures.1 in
-    rw (p.1, p.2) (parser_refuses c.args.source.now c.in_ok-tokens.tokens.tokens _ c.in_ok-tokens.ensures.ok (rw c.in_ok-tokens.ensures.end at c.in_err-program.ensures.err))
+    rw (p.1, p.2)
+    (parser_refuses c.args.source.now c.in_ok-tokens.tokens.tokens _ c.in_ok-tokens.ensures.ok
+    (rw c.in_ok-tokens.ensures.end at c.in_err-program.ensures.err))
 
 pub returns-clause-ok : goal.returns-clause-ok
-returns-clause-ok c = is_program c.args.source.now c.in_ok-tokens.tokens.tokens _ c.in_ok-tokens.ensures.ok c.in_ok-program.ensures.spelled c.in_ok-program.ensures.one
+returns-clause-ok c =
+    is_program c.args.source.now c.in_ok-tokens.tokens.tokens _ c.in_ok-tokens.ensures.ok c.in_ok-program.ensures.spelled c.in_ok-program.ensures.one

@@ -2,7 +2,9 @@ use Rattle.std.proofs.Common.{◌≡◌, ℕ, List, ◌++◌, codes, decimal, ap
 use Rattle.vcp_inputs.proofs.Lines.{writes_same}
 use Rattle.vcp_inputs.proofs.telling.tell_cell.Goals as goal
 
-pieces : (name row column : List ℕ) → name ++ (codes ":" ++ (row ++ (codes ":" ++ (column ++ codes " R3 Cell\n")))) ≡ name ++ codes ":" ++ row ++ codes ":" ++ column ++ codes " R3 Cell" ++ codes "\n"
+pieces : (name row column : List ℕ)
+    → name ++ (codes ":" ++ (row ++ (codes ":" ++ (column ++ codes " R3 Cell\n"))))
+    ≡ name ++ codes ":" ++ row ++ codes ":" ++ column ++ codes " R3 Cell" ++ codes "\n"
 pieces name row column = simp append_assoc
 
 pub returns : goal.returns

@@ -20,8 +20,10 @@ options-preserved-then-eq c =
 pub options-preserved : goal.options-preserved
 options-preserved c =
     let other : (is_none c.options.seed && bytes_eq c.in-Some.option.now (codes "--seed")) ≡ false = elim c.else-is_none.branch [
-      | else-is_none-via-then-is_none+else-eq w ↦ let here : bytes_eq c.in-Some.option.now (codes "--seed") ≡ false = cc in not_both (is_none c.options.seed) (bytes_eq c.in-Some.option.now (codes "--seed")) here
-      | else-is_none-via-else-is_none w ↦ not_free (is_none c.options.seed) (bytes_eq c.in-Some.option.now (codes "--seed")) (rw (c.is_none.ensures, w.if-is_none.false) refl)
+      | else-is_none-via-then-is_none+else-eq w ↦ let here : bytes_eq c.in-Some.option.now (codes "--seed") ≡ false = cc in
+          not_both (is_none c.options.seed) (bytes_eq c.in-Some.option.now (codes "--seed")) here
+      | else-is_none-via-else-is_none w ↦ not_free (is_none c.options.seed) (bytes_eq c.in-Some.option.now (codes "--seed"))
+          (rw (c.is_none.ensures, w.if-is_none.false) refl)
     ] in
     let free : is_none c.options.step ≡ true = rw (c.is_none-else-is_none.ensures, c.if-is_none-2.true) refl in
     let is : bytes_eq c.in-Some.option.now (codes "--step") ≡ true = cc in

@@ -1,0 +1,74 @@
+//! The command `audit`, up to the line of its fault.
+
+ghost use Rattle.std.specs.Prelude.{◌≡◌, ◌⊎◌, ◌<◌, ◌≤◌, IfSome, IfOk, IfErr, OnOk, Err, List, Option, ℕ};
+ghost use Rattle.std.specs.Io.KnownBytes.{IsAtEnd};
+ghost use Rattle.coded_unit.specs.Log.{Entry};
+ghost use Rattle.vcp_outside.specs.Counts.{Rose};
+ghost use Rattle.signature_table.specs.Signatures.{table_of};
+ghost use Rattle.vcp_base.specs.Limits.{most_horizon};
+ghost use Rattle.weight_audit.specs.Audit.{most_weights, weights_up_to, IsAudit};
+ghost use Rattle.vcp_words.specs.Forms.{audit};
+ghost use Rattle.vcp_inputs.specs.declared.refusal.NoInput.TheVariants as input;
+ghost use Rattle.vcp_inputs.specs.declared.refusal.Refusal.TheVariants as refusal;
+ghost use Rattle.vcp_core.specs.Audit.{AuditTask};
+ghost use Rattle.vcp_core.specs.Reach.{Reaches, Unread, Taken};
+ghost use Rattle.machine_run.specs.Moments.{moment};
+ghost use Rattle.vcp_core.specs.declared.ending.End.TheVariants as end;
+ghost use Rattle.vcp_core.specs.declared.fault.Fault.TheVariants as fault;
+
+use crate::ending::End;
+use crate::fault::Fault;
+use audit_report::write_audit;
+use std::alloc::Global;
+use vcp_base::Text;
+use vcp_inputs::{Image, NoInput, Refusal, load_image};
+use vcp_outside::{Files, Sink};
+use weight_audit::weigh::weights;
+use weight_audit::{AuditFault, Weights};
+
+/// The weights of an image's graph up to a horizon, unless there are too many.
+fn weights_of(alloc: Global, image: &Image, horizon: u32) -> Result<Weights, Fault>
+    requires table { image.now.table ≡ table_of image.now.table.seed image.now.table.step image.now.graph }
+    requires horizon { horizon ≤ most_horizon }
+    ensures weights { IfOk result (λ w. IsAudit image.now.graph horizon w) }
+    ensures few { OnOk result (weights_up_to image.now.graph horizon ≤ most_weights) }
+    ensures fault { IfErr result (λ e. (e ≡ fault.Memory)
+        ⊎ ((e ≡ fault.Source (input.Refused refusal.Audit)) × (most_weights < weights_up_to image.now.graph horizon))) }
+{
+    match weights(alloc, &image.graph, &image.table, horizon) {
+        Ok(weights) => Ok(weights),
+        Err(AuditFault::TooLarge { .. }) => Err(Fault::Source(NoInput::Refused(Refusal::Audit))),
+        Err(AuditFault::Memory) => Err(Fault::Memory),
+    }
+}
+
+/// Does what the words `audit M HORIZON` say, and writes to `out` alone: M is read whole and taken
+/// through its refusals, and then the audit of its graph is written.
+pub fn audit_command<F: Files, O: Sink>(
+    alloc: Global,
+    image: &Text,
+    horizon: u32,
+    files: &mut F,
+    out: &mut O,
+) -> Result<End, Fault>
+    requires horizon { horizon ≤ most_horizon }
+    ensures held { F.held files.new ≡ F.held files.old }
+    ensures reaches { (log : Option (List Entry)) (wrong : ℕ) → IfSome (F.held files.old) (λ h.
+        Reaches (audit image.now horizon) (AuditTask image.now horizon h)
+        (moment log wrong (O.written out.old) (O.faults out.old)) (moment log wrong (O.written out.new) (O.faults out.new))
+        (F.broken files.old) (F.broken files.new) result) }
+    ensures done { IfOk result (λ e. e ≡ end.Done) }
+    ensures unread { Unread result → Rose (F.faults files.old) (F.faults files.new) }
+    ensures write { result ≡ Err fault.Write → Rose (O.faults out.old) (O.faults out.new) }
+    ensures ended { OnOk result (IsAtEnd (F.rest files.new)) }
+    ensures taken { IfSome (F.held files.old) (λ h. Taken (audit image.now horizon) h (F.rest files.new) result) }
+{
+    match load_image(alloc, files, image) {
+        Ok(image) => {
+            let weights = weights_of(alloc, &image, horizon)?;
+            write_audit(out, &image.graph, &weights, horizon)?;
+            Ok(End::Done)
+        }
+        Err(input) => Err(Fault::Source(input)),
+    }
+}

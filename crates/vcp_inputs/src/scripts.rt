@@ -1,0 +1,58 @@
+//! Scripts of faults.
+
+ghost use Rattle.std.specs.Prelude.{◌≡◌, ◌≢◌, ◌≤◌, All, IfErr, IfOk, IfSome, OnOk, Err, length};
+ghost use Rattle.std.specs.Io.KnownBytes.{IsAtEnd};
+ghost use Rattle.vcp_base.specs.Limits.{most_source_bytes};
+ghost use Rattle.vcp_outside.specs.Counts.{Rose};
+ghost use Rattle.fault_script.specs.Fits.{Fits};
+ghost use Rattle.fault_script.specs.ScriptOf.{most_faults};
+ghost use Rattle.vcp_inputs.specs.Files.{Untaken, Loads};
+ghost use Rattle.vcp_inputs.specs.Scripts.{ScriptOf, NotScript};
+ghost use Rattle.vcp_inputs.specs.declared.refusal.NoInput.TheVariants as input;
+ghost use Rattle.vcp_inputs.specs.declared.refusal.Refusal.{Refusal as RefusalOf};
+ghost use Rattle.vcp_inputs.specs.declared.refusal.Refusal.TheVariants as refusal;
+
+use crate::reading::read_file;
+use crate::refusal::NoInput;
+use fault_script::{Script, read_script};
+use op_graph::Graph;
+use std::alloc::Global;
+use vcp_base::{MOST_SOURCE_BYTES, Text};
+use vcp_outside::Files;
+
+/// The script that a text is for a graph.
+fn script_of(alloc: Global, text: &[u8], graph: &Graph) -> Result<Script, NoInput>
+    requires short { length text.now ≤ most_source_bytes }
+    ensures ok { IfOk result (ScriptOf graph.now text.now) }
+    ensures err { IfErr result (Untaken (NotScript graph.now text.now)) }
+    ensures fits { IfOk result (λ s. All (Fits graph.now) s) }
+    ensures few { IfOk result (λ s. length s ≤ most_faults) }
+{
+    Ok(read_script(alloc, text, graph)?)
+}
+
+/// The script under a name, for a graph: the file is read whole, and has at most 1,048,576 bytes.
+pub fn load_script<F: Files>(
+    alloc: Global,
+    files: &mut F,
+    name: &Text,
+    graph: &Graph,
+) -> Result<Script, NoInput>
+    // What is answered: the script that the file is, or why there is none.
+    ensures loads { IfSome (F.held files.old) (λ h. Loads (ScriptOf graph.now) (NotScript graph.now) h name.now most_source_bytes
+        (F.broken files.old) (F.broken files.new) result) }
+    // Its faults fit the graph and are few, whatever the files tell.
+    ensures fits { IfOk result (λ s. All (Fits graph.now) s) }
+    ensures few { IfOk result (λ s. length s ≤ most_faults) }
+    ensures unread { result ≡ Err input.Unread → Rose (F.faults files.old) (F.faults files.new) }
+    // What was taken of the file: all, unless it has too many bytes.
+    ensures ended { OnOk result (IsAtEnd (F.rest files.new)) }
+    ensures whole { (r : RefusalOf) → result ≡ Err (input.Refused r) → r ≢ refusal.Bytes → IsAtEnd (F.rest files.new) }
+    // What stays.
+    ensures held { F.held files.new ≡ F.held files.old }
+    ensures later { F.faults files.old ≤ F.faults files.new }
+    ensures broken_later { F.broken files.old ≤ F.broken files.new }
+{
+    let text = read_file(alloc, files, name, MOST_SOURCE_BYTES)?;
+    script_of(alloc, text.bytes(), graph)
+}
