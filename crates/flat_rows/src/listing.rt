@@ -1,9 +1,9 @@
 //! The listing of a graph without signatures and corrections, for tests.
 
-use crate::sources::put_number;
 use op_graph::{Graph, Op};
 use std::alloc::Global;
 use vcp_base::{Kind, Memory, kind_name, operands, ty_name};
+use worked_texts::put_number;
 
 /// The operands of an operation, but for a LOAD, which reads its cell.
 fn put_operands(alloc: Global, text: &mut Vec<u8>, op: &Op) -> Result<(), Memory> {

@@ -1,12 +1,12 @@
 //! What the machine gives on a program's graph, with an honest unit, for tests.
 
-use crate::sources::put_number;
 use coded_machine::{CycleEnd, Machine};
 use coded_unit::CpuUnit;
 use op_graph::Graph;
 use signature_table::Table;
 use std::alloc::Global;
 use vcp_base::{MOST_CYCLES, Memory, Row, StopKind, stop_name};
+use worked_texts::put_number;
 
 /// The values of a row, a space before each, on a line.
 fn put_row(alloc: Global, text: &mut Vec<u8>, row: &Row) -> Result<(), Memory> {

@@ -1,10 +1,11 @@
 //! Graphs of large programs: how many operations and cells they have, beside the program's Size.
 
-use crate::sources::{checked, put_number, put_repeated};
+use crate::sources::checked;
 use flat_stmt::flatten;
 use std::alloc::Global;
 use std::test::Fail;
 use vcp_base::Memory;
+use worked_texts::{put_number, put_repeated};
 
 /// The Size of a program, and how many operations and cells its graph has.
 fn counts(alloc: Global, source: &[u8]) -> Result<(u32, u32, u32), Fail> {

@@ -7,7 +7,7 @@ use st_parser::parse;
 use st_spelling::spelled_names_are_declarable;
 use st_types::typed;
 use std::alloc::Global;
-use vcp_base::{MOST_SOURCE_BYTES, Memory};
+use vcp_base::MOST_SOURCE_BYTES;
 use vcp_typed::Typed;
 
 /// The checked program of a source; `None` where the source is refused.
@@ -35,19 +35,4 @@ pub fn graph_of(alloc: Global, source: &[u8]) -> Option<Graph> {
         return None;
     };
     Some(graph)
-}
-
-/// One more number at the end of a text.
-pub fn put_number(alloc: Global, text: &mut Vec<u8>, n: i64) -> Result<(), Memory> {
-    let digits = format!(in alloc; "{n}")?;
-    text.extend_from_slice(digits.as_bytes())?;
-    Ok(())
-}
-
-/// So many times these bytes, at the end of a text.
-pub fn put_repeated(text: &mut Vec<u8>, bytes: &[u8], times: u32) -> Result<(), Memory> {
-    for _i in 0..times {
-        text.extend_from_slice(bytes)?;
-    }
-    Ok(())
 }

@@ -1,6 +1,8 @@
-//! Worked rows of images: what `compile`, `list`, `exec`, `trace` and `widen` give on files in memory.
+//! Worked rows of images: what `compile`, `list`, `exec`, `trace`, `widen`, `audit` and `inject` give on files in memory.
 #![tactic(auto)]
 
+#[cfg(test)]
+mod audits;
 #[cfg(test)]
 mod calls;
 #[cfg(test)]
@@ -11,3 +13,5 @@ mod listings;
 mod runs;
 #[cfg(test)]
 mod traces;
+#[cfg(test)]
+mod verdicts;

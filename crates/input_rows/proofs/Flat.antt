@@ -1,10 +1,12 @@
 -- Flat: rows one behind another.
-use Rattle.std.proofs.Common.{◌≡◌, ℕ, zero, suc, ◌+◌, ◌*◌, ◌<◌, ◌≤◌, All, List, [], ◌∷◌, ◌++◌, length, take, drop, ℤ, Some, slice_get, get_or, pos, refl, sym, ap, ◌∙◌, arith}
+use Rattle.std.proofs.Common.{◌≡◌, ℕ, zero, suc, ◌+◌, ◌*◌, ◌<◌, ◌≤◌, All, List, [], ◌∷◌, ◌++◌, length, take, drop, ℤ, Some, slice_get, get_or, pos, refl, sym}
+use Rattle.std.proofs.Common.{ap, ◌∙◌, arith}
 use Rattle.std.proofs.Math.Nat.{mul-le-mul_right, suc-mul}
 use Rattle.std.proofs.Math.Seq.{take-suc}
 use Rattle.std.proofs.lemmas.List.Elements.{All-cons}
 use Rattle.std.proofs.lemmas.Option.{get_or_from_slice_get, slice_get_within}
-use Rattle.std.proofs.lemmas.List.{append-nil, append_assoc, drop-append-le, drop-drop, ext_get_or, get_or-drop, get_or-take, length-append, length-drop, length-take-le, take-append-le, take_all}
+use Rattle.std.proofs.lemmas.List.{append-nil, append_assoc, drop-append-le, drop-drop, ext_get_or, get_or-drop, get_or-take, length-append, length-drop}
+use Rattle.std.proofs.lemmas.List.{length-take-le, take-append-le, take_all}
 use Rattle.input_rows.specs.RowLists.{rows_in}
 use Rattle.input_rows.specs.RowsOf.{RowsLeft}
 
@@ -24,7 +26,8 @@ one_more (suc count) width values row many same =
     let enough : width ≤ length values = omega (arith, many, product) in
     let rest : length (drop width values) ≡ count * width = omega (arith, length-drop width values, many, product) in
     ap (λ (r : List ℤ). r ∷ rows_in (suc count) width (drop width (values ++ row))) (take-append-le width values row enough)
-    ∙ ap (λ (rs : List (List ℤ)). take width values ∷ rs) (ap (rows_in (suc count) width) (drop-append-le width values row enough) ∙ one_more count width (drop width values) row rest same)
+    ∙ ap (λ (rs : List (List ℤ)). take width values ∷ rs)
+    (ap (rows_in (suc count) width) (drop-append-le width values row enough) ∙ one_more count width (drop width values) row rest same)
 
 plus_one : (n : ℕ) → n + 1 ≡ suc n
 plus_one n = omega arith
@@ -75,7 +78,8 @@ pub record Gathered (start left : RowsLeft) (count width : ℕ) (values : List �
 pub begun : (start : RowsLeft) (width : ℕ) → Gathered start start 0 width []
 begun start width = record { rows = refl; refusal = refl; types = refl; many = none_before width; number = omega arith }
 
-pub gathered_more : (start old new : RowsLeft) (count width : ℕ) (values row : List ℤ) → Gathered start old count width values → old ≡ record new { rows = row ∷ new.rows } → length row ≡ width
+pub gathered_more : (start old new : RowsLeft) (count width : ℕ) (values row : List ℤ) → Gathered start old count width values
+    → old ≡ record new { rows = row ∷ new.rows } → length row ≡ width
     → Gathered start new (count + 1) width (values ++ row)
 gathered_more start old new count width values row h is same =
     let rows : old.rows ≡ row ∷ new.rows = ap (λ (l : RowsLeft). l.rows) is in

@@ -1,5 +1,6 @@
 -- Steps of reading a header.
-use Rattle.std.proofs.Common.{◌≡◌, ◌<◌, ◌≤◌, ℕ, ◌+◌, zero, suc, Bool, true, false, ◌&&◌, List, [], ◌∷◌, ◌++◌, length, drop, slice_get, get_or, slice_set, replicate, append-nil, Option, Some, None, option_map, refl, ap, sym, ◌∙◌, arith, add-one, append_assoc}
+use Rattle.std.proofs.Common.{◌≡◌, ◌<◌, ◌≤◌, ℕ, ◌+◌, zero, suc, Bool, true, false, ◌&&◌, List, [], ◌∷◌, ◌++◌, length, drop, slice_get, get_or, slice_set}
+use Rattle.std.proofs.Common.{replicate, append-nil, Option, Some, None, option_map, refl, ap, sym, ◌∙◌, arith, add-one, append_assoc}
 use Rattle.std.proofs.lemmas.List.{drop_all}
 use Rattle.std.proofs.lemmas.Bool.{eq-eqb}
 use Rattle.vcp_base.specs.declared.columns.Column.{Column}
@@ -32,7 +33,8 @@ before-none None = refl
 before-none (Some qs) = refl
 
 -- the column at i isn't the one
-place-next : (columns : List Column) (free : List Bool) (name : List ℕ) (i : ℕ) (c : Column) → slice_get columns i ≡ Some c → i < length free → (get_or free i false && is_same_name c.name name) ≡ false
+place-next : (columns : List Column) (free : List Bool) (name : List ℕ) (i : ℕ) (c : Column) → slice_get columns i ≡ Some c → i < length free
+    → (get_or free i false && is_same_name c.name name) ≡ false
     → place_of (drop i columns) (drop i free) name ≡ option_map (λ p. p + 1) (place_of (drop (suc i) columns) (drop (suc i) free) name)
 place-next [] free name i c e l f = absurd cc
 place-next (d ∷ columns) [] name i c e l f = absurd (omega arith)
@@ -43,7 +45,8 @@ place-next (d ∷ columns) (b ∷ free) name zero c e l f =
 place-next (d ∷ columns) (b ∷ free) name (suc i) c e l f = place-next columns free name i c e (omega arith) f
 
 -- the column at i is the one
-place-here : (columns : List Column) (free : List Bool) (name : List ℕ) (i : ℕ) (c : Column) → slice_get columns i ≡ Some c → i < length free → (get_or free i false && is_same_name c.name name) ≡ true
+place-here : (columns : List Column) (free : List Bool) (name : List ℕ) (i : ℕ) (c : Column) → slice_get columns i ≡ Some c → i < length free
+    → (get_or free i false && is_same_name c.name name) ≡ true
     → place_of (drop i columns) (drop i free) name ≡ Some 0
 place-here [] free name i c e l f = absurd cc
 place-here (d ∷ columns) [] name i c e l f = absurd (omega arith)
@@ -54,7 +57,8 @@ place-here (d ∷ columns) (b ∷ free) name zero c e l f =
 place-here (d ∷ columns) (b ∷ free) name (suc i) c e l f = place-here columns free name i c e (omega arith) f
 
 -- no column is left
-pub place-end : (columns : List Column) (free : List Bool) (name : List ℕ) (i : ℕ) → length free ≡ length columns → length free ≤ i → place_of (drop i columns) (drop i free) name ≡ None
+pub place-end : (columns : List Column) (free : List Bool) (name : List ℕ) (i : ℕ) → length free ≡ length columns → length free ≤ i
+    → place_of (drop i columns) (drop i free) name ≡ None
 place-end [] [] name zero e l = refl
 place-end [] [] name (suc i) e l = refl
 place-end [] (b ∷ free) name i e l = absurd (omega arith)
@@ -62,19 +66,24 @@ place-end (d ∷ columns) [] name i e l = absurd (omega arith)
 place-end (d ∷ columns) (b ∷ free) name zero e l = absurd (omega arith)
 place-end (d ∷ columns) (b ∷ free) name (suc i) e l = place-end columns free name i (omega arith) (omega arith)
 
-pub goes_on : (columns : List Column) (free : List Bool) (name : List ℕ) (i : ℕ) (c : Column) (o : Option ℕ) → o ≡ from_place i (place_of (drop i columns) (drop i free) name) → slice_get columns i ≡ Some c → i < length free → (get_or free i false && is_same_name c.name name) ≡ false
+pub goes_on : (columns : List Column) (free : List Bool) (name : List ℕ) (i : ℕ) (c : Column) (o : Option ℕ)
+    → o ≡ from_place i (place_of (drop i columns) (drop i free) name) → slice_get columns i ≡ Some c → i < length free
+    → (get_or free i false && is_same_name c.name name) ≡ false
     → o ≡ from_place (i + 1) (place_of (drop (i + 1) columns) (drop (i + 1) free) name)
 goes_on columns free name i c o h e l f =
     let k : o ≡ from_place (i + 1) (place_of (drop (suc i) columns) (drop (suc i) free) name) =
     h ∙ ap (from_place i) (place-next columns free name i c e l f) ∙ from-next i (place_of (drop (suc i) columns) (drop (suc i) free) name) in
     simp add-one (simp add-one at k)
 
-pub found_here : (columns : List Column) (free : List Bool) (name : List ℕ) (i : ℕ) (c : Column) (o : Option ℕ) → o ≡ from_place i (place_of (drop i columns) (drop i free) name) → slice_get columns i ≡ Some c → i < length free → (get_or free i false && is_same_name c.name name) ≡ true
+pub found_here : (columns : List Column) (free : List Bool) (name : List ℕ) (i : ℕ) (c : Column) (o : Option ℕ)
+    → o ≡ from_place i (place_of (drop i columns) (drop i free) name) → slice_get columns i ≡ Some c → i < length free
+    → (get_or free i false && is_same_name c.name name) ≡ true
     → o ≡ Some i
 found_here columns free name i c o h e l f = h ∙ ap (from_place i) (place-here columns free name i c e l f) ∙ ap Some (omega arith)
 
 places-next : (columns : List Column) (free : List Bool) (fields : List (List ℕ)) (j : ℕ) (f : List ℕ) → slice_get fields j ≡ Some f
-    → places_of columns free (drop j fields) ≡ places_after (place_of columns free (trimmed f)) (λ i. places_of columns (slice_set free i false) (drop (suc j) fields))
+    → places_of columns free (drop j fields)
+    ≡ places_after (place_of columns free (trimmed f)) (λ i. places_of columns (slice_set free i false) (drop (suc j) fields))
 places-next columns free [] j f e = absurd cc
 places-next columns free (g ∷ fields) zero f e =
     let same : g ≡ f = cc in
@@ -82,23 +91,31 @@ places-next columns free (g ∷ fields) zero f e =
 places-next columns free (g ∷ fields) (suc j) f e = places-next columns free fields j f e
 
 -- a field whose column isn't there
-pub no_place : (columns : List Column) (free : List Bool) (fields : List (List ℕ)) (ps : List ℕ) (j : ℕ) (f : List ℕ) (o : Option (List ℕ)) → o ≡ before_places ps (places_of columns free (drop j fields))
+pub no_place : (columns : List Column) (free : List Bool) (fields : List (List ℕ)) (ps : List ℕ) (j : ℕ) (f : List ℕ) (o : Option (List ℕ))
+    → o ≡ before_places ps (places_of columns free (drop j fields))
     → slice_get fields j ≡ Some f → place_of columns free (trimmed f) ≡ None → o ≡ None
-no_place columns free fields ps j f o h e n = h ∙ ap (before_places ps) (places-next columns free fields j f e ∙ ap (λ p. places_after p (λ i. places_of columns (slice_set free i false) (drop (suc j) fields))) n)
+no_place columns free fields ps j f o h e n = h
+    ∙ ap (before_places ps)
+    (places-next columns free fields j f e ∙ ap (λ p. places_after p (λ i. places_of columns (slice_set free i false) (drop (suc j) fields))) n)
 
 -- a field whose column is at p
-pub one_place : (columns : List Column) (free : List Bool) (fields : List (List ℕ)) (ps : List ℕ) (j p : ℕ) (f : List ℕ) (o : Option (List ℕ)) → o ≡ before_places ps (places_of columns free (drop j fields))
-    → slice_get fields j ≡ Some f → place_of columns free (trimmed f) ≡ Some p → o ≡ before_places (ps ++ p ∷ []) (places_of columns (slice_set free p false) (drop (j + 1) fields))
+pub one_place : (columns : List Column) (free : List Bool) (fields : List (List ℕ)) (ps : List ℕ) (j p : ℕ) (f : List ℕ) (o : Option (List ℕ))
+    → o ≡ before_places ps (places_of columns free (drop j fields))
+    → slice_get fields j ≡ Some f → place_of columns free (trimmed f) ≡ Some p
+    → o ≡ before_places (ps ++ p ∷ []) (places_of columns (slice_set free p false) (drop (j + 1) fields))
 one_place columns free fields ps j p f o h e n =
     let k : o ≡ before_places (ps ++ p ∷ []) (places_of columns (slice_set free p false) (drop (suc j) fields)) =
-    h ∙ ap (before_places ps) (places-next columns free fields j f e ∙ ap (λ p. places_after p (λ i. places_of columns (slice_set free i false) (drop (suc j) fields))) n)
+    h ∙ ap (before_places ps)
+    (places-next columns free fields j f e ∙ ap (λ p. places_after p (λ i. places_of columns (slice_set free i false) (drop (suc j) fields))) n)
     ∙ before-next ps p (places_of columns (slice_set free p false) (drop (suc j) fields)) in
     simp add-one k
 
 -- no field is left
-pub all_places : (columns : List Column) (free : List Bool) (fields : List (List ℕ)) (ps : List ℕ) (j : ℕ) (o : Option (List ℕ)) → o ≡ before_places ps (places_of columns free (drop j fields)) → length fields ≤ j → o ≡ Some ps
+pub all_places : (columns : List Column) (free : List Bool) (fields : List (List ℕ)) (ps : List ℕ) (j : ℕ) (o : Option (List ℕ))
+    → o ≡ before_places ps (places_of columns free (drop j fields)) → length fields ≤ j → o ≡ Some ps
 all_places columns free fields ps j o h l = h ∙ ap (λ fs. before_places ps (places_of columns free fs)) (drop_all j fields l) ∙ ap Some (append-nil ps)
 
 -- the order of a header of the right length
-pub order-here : (columns : List Column) (header : List (List ℕ)) → length header ≡ length columns → order_of columns header ≡ places_of columns (replicate (length columns) true) header
+pub order-here : (columns : List Column) (header : List (List ℕ)) → length header ≡ length columns
+    → order_of columns header ≡ places_of columns (replicate (length columns) true) header
 order-here columns header e = rw (eq-eqb (length header) (length columns) e) refl

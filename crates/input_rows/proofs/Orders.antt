@@ -1,5 +1,6 @@
 -- The order that a header gives has each place once.
-use Rattle.std.proofs.Common.{◌≡◌, ◌≢◌, ◌⊎◌, inl, inr, ◌<◌, ◌≤◌, ℕ, ◌+◌, zero, suc, Bool, true, false, ◌&&◌, eqb, cond, List, [], ◌∷◌, length, get_or, slice_set, replicate, All, Contains, Option, Some, None, option_map, refl, ap, sym, ◌∙◌, arith}
+use Rattle.std.proofs.Common.{◌≡◌, ◌≢◌, ◌⊎◌, inl, inr, ◌<◌, ◌≤◌, ℕ, ◌+◌, zero, suc, Bool, true, false, ◌&&◌, eqb, cond, List, [], ◌∷◌, length, get_or}
+use Rattle.std.proofs.Common.{slice_set, replicate, All, Contains, Option, Some, None, option_map, refl, ap, sym, ◌∙◌, arith}
 use Rattle.std.proofs.lemmas.Bool.Decides.{eqb_tells}
 use Rattle.std.proofs.lemmas.List.{get_or-set_other, get_or-replicate}
 use Rattle.vcp_base.specs.declared.columns.Column.{Column}
@@ -30,7 +31,8 @@ trues-set (false ∷ free) zero e = absurd cc
 trues-set (true ∷ free) (suc k) e = ap suc (trues-set free k e)
 trues-set (false ∷ free) (suc k) e = trues-set free k e
 
-by_test : (t : Bool) (o : Option ℕ) (p : ℕ) → cond t (Some 0) (option_map (λ i. i + 1) o) ≡ Some p → ((t ≡ true) × (p ≡ 0)) ⊎ ((q : ℕ) × (o ≡ Some q) × (p ≡ suc q))
+by_test : (t : Bool) (o : Option ℕ) (p : ℕ) → cond t (Some 0) (option_map (λ i. i + 1) o) ≡ Some p
+    → ((t ≡ true) × (p ≡ 0)) ⊎ ((q : ℕ) × (o ≡ Some q) × (p ≡ suc q))
 by_test true o p e = let k : 0 ≡ p = cc in inl (refl, sym k)
 by_test false None p e = absurd cc
 by_test false (Some q) p e = let k : q + 1 ≡ p = cc in inr (q, refl, omega arith)
@@ -40,25 +42,31 @@ first true b e = refl
 first false b e = absurd cc
 
 -- the place that is found is a free column's
-place-free : (columns : List Column) (free : List Bool) (name : List ℕ) (p : ℕ) → place_of columns free name ≡ Some p → (get_or free p false ≡ true) × (p < length columns)
+place-free : (columns : List Column) (free : List Bool) (name : List ℕ) (p : ℕ) → place_of columns free name ≡ Some p
+    → (get_or free p false ≡ true) × (p < length columns)
 place-free [] free name p e = absurd cc
 place-free (c ∷ columns) [] name p e = absurd cc
 place-free (c ∷ columns) (f ∷ free) name p e = by_case (place-free columns free name) (by_test (f && is_same_name c.name name) (place_of columns free name) p e)
   where
-    by_case : ((q : ℕ) → place_of columns free name ≡ Some q → (get_or free q false ≡ true) × (q < length columns)) → (((f && is_same_name c.name name) ≡ true) × (p ≡ 0)) ⊎ ((q : ℕ) × (place_of columns free name ≡ Some q) × (p ≡ suc q)) → (get_or (f ∷ free) p false ≡ true) × (p < length (c ∷ columns))
+    by_case : ((q : ℕ) → place_of columns free name ≡ Some q → (get_or free q false ≡ true) × (q < length columns))
+        → (((f && is_same_name c.name name) ≡ true) × (p ≡ 0)) ⊎ ((q : ℕ) × (place_of columns free name ≡ Some q) × (p ≡ suc q))
+        → (get_or (f ∷ free) p false ≡ true) × (p < length (c ∷ columns))
     by_case ih (inl h) = rw h.1 (first f (is_same_name c.name name) h.0, omega arith)
     by_case ih (inr h) = let k = ih h.0 h.1 in rw h.2 (k.0, omega arith)
 
 -- what a list of places begins with
-split : (o : Option ℕ) (more : ℕ → Option (List ℕ)) (ps : List ℕ) → places_after o more ≡ Some ps → (p : ℕ) × (qs : List ℕ) × (o ≡ Some p) × (more p ≡ Some qs) × (ps ≡ p ∷ qs)
+split : (o : Option ℕ) (more : ℕ → Option (List ℕ)) (ps : List ℕ) → places_after o more ≡ Some ps
+    → (p : ℕ) × (qs : List ℕ) × (o ≡ Some p) × (more p ≡ Some qs) × (ps ≡ p ∷ qs)
 split None more ps e = absurd cc
 split (Some p) more ps e = by_more (more p) refl e
   where
-    by_more : (m : Option (List ℕ)) → more p ≡ m → option_map (λ places. p ∷ places) m ≡ Some ps → (q : ℕ) × (qs : List ℕ) × (Some p ≡ Some q) × (more q ≡ Some qs) × (ps ≡ q ∷ qs)
+    by_more : (m : Option (List ℕ)) → more p ≡ m → option_map (λ places. p ∷ places) m ≡ Some ps
+        → (q : ℕ) × (qs : List ℕ) × (Some p ≡ Some q) × (more q ≡ Some qs) × (ps ≡ q ∷ qs)
     by_more None h e = absurd cc
     by_more (Some qs) h e = let k : p ∷ qs ≡ ps = cc in (p, qs, refl, h, sym k)
 
-length-places : (columns : List Column) (free : List Bool) (fields : List (List ℕ)) (ps : List ℕ) → places_of columns free fields ≡ Some ps → length ps ≡ length fields
+length-places : (columns : List Column) (free : List Bool) (fields : List (List ℕ)) (ps : List ℕ) → places_of columns free fields ≡ Some ps
+    → length ps ≡ length fields
 length-places columns free [] ps e = let k : [] ≡ ps = cc in ap length (sym k)
 length-places columns free (f ∷ fields) ps e =
     let s = split (place_of columns free (trimmed f)) (λ i. places_of columns (slice_set free i false) fields) ps e in
@@ -68,7 +76,8 @@ within-cons : (n p : ℕ) (ps : List ℕ) → p < n → All (λ i. i < n) ps →
 within-cons n p ps h all zero d l = h
 within-cons n p ps h all (suc k) d l = all k d (omega arith)
 
-within-places : (columns : List Column) (free : List Bool) (fields : List (List ℕ)) (ps : List ℕ) → places_of columns free fields ≡ Some ps → All (λ i. i < length columns) ps
+within-places : (columns : List Column) (free : List Bool) (fields : List (List ℕ)) (ps : List ℕ) → places_of columns free fields ≡ Some ps
+    → All (λ i. i < length columns) ps
 within-places columns free [] ps e = let k : [] ≡ ps = cc in rw (← k) (λ j d l. absurd (omega arith))
 within-places columns free (f ∷ fields) ps e =
     let s = split (place_of columns free (trimmed f)) (λ i. places_of columns (slice_set free i false) fields) ps e in
@@ -82,7 +91,8 @@ contains-tail : (k p : ℕ) (ps : List ℕ) → Contains ps k → Contains (p �
 contains-tail k p ps h = (suc h.0, omega (arith, h.1), h.2)
 
 -- where there are no more free columns than fields, each free column is taken
-taken : (columns : List Column) (free : List Bool) (fields : List (List ℕ)) (ps : List ℕ) → places_of columns free fields ≡ Some ps → trues free ≤ length fields → (k : ℕ) → get_or free k false ≡ true → Contains ps k
+taken : (columns : List Column) (free : List Bool) (fields : List (List ℕ)) (ps : List ℕ) → places_of columns free fields ≡ Some ps → trues free ≤ length fields
+    → (k : ℕ) → get_or free k false ≡ true → Contains ps k
 taken columns free [] ps e few k t = let h = some-true free k t in absurd (omega arith)
 taken columns free (f ∷ fields) ps e few k t =
     let s = split (place_of columns free (trimmed f)) (λ i. places_of columns (slice_set free i false) fields) ps e in
@@ -94,14 +104,17 @@ taken columns free (f ∷ fields) ps e few k t =
     by_case ih p qs less more (inr h) =
         contains-tail k p qs (ih (slice_set free p false) qs more (omega arith) (get_or-set_other free p k false false h.1 ∙ t))
 
-by_length : (columns : List Column) (header : List (List ℕ)) (ps : List ℕ) → order_of columns header ≡ Some ps → ((eqb (length header) (length columns) ≡ true) × (length header ≡ length columns)) ⊎ ((eqb (length header) (length columns) ≡ false) × (length header ≢ length columns)) → IsOrder (length columns) ps
+by_length : (columns : List Column) (header : List (List ℕ)) (ps : List ℕ) → order_of columns header ≡ Some ps
+    → ((eqb (length header) (length columns) ≡ true) × (length header ≡ length columns))
+    ⊎ ((eqb (length header) (length columns) ≡ false) × (length header ≢ length columns)) → IsOrder (length columns) ps
 by_length columns header ps e (inr h) = let none : order_of columns header ≡ None = rw h.0 refl in absurd cc
 by_length columns header ps e (inl h) =
     let places : places_of columns (replicate (length columns) true) header ≡ Some ps = rw h.0 at e in
     record {
       as_many = length-places columns (replicate (length columns) true) header ps places ∙ h.1;
       within = within-places columns (replicate (length columns) true) header ps places;
-      each = λ i l. taken columns (replicate (length columns) true) header ps places (omega (arith, trues-replicate (length columns))) i (get_or-replicate (length columns) i true false l);
+      each = λ i l. taken columns (replicate (length columns) true) header ps places (omega (arith, trues-replicate (length columns))) i
+          (get_or-replicate (length columns) i true false l);
     }
 
 pub order-each : (columns : List Column) (header : List (List ℕ)) (ps : List ℕ) → order_of columns header ≡ Some ps → IsOrder (length columns) ps

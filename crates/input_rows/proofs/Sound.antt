@@ -24,7 +24,8 @@ sound-from columns order rs = record {
   fresh = fresh-from (types_of columns) order 0 rs;
 }
 
-in_order : (columns : List Column) (o : Option (List ℕ)) (rs : List (List (List ℕ))) (left : RowsLeft) → rows_in_order columns o rs ≡ Ok left → Sound columns left
+in_order : (columns : List Column) (o : Option (List ℕ)) (rs : List (List (List ℕ))) (left : RowsLeft) → rows_in_order columns o rs ≡ Ok left
+    → Sound columns left
 in_order columns None rs left e = absurd cc
 in_order columns (Some order) rs left e = let k : rows_from (types_of columns) order 0 rs ≡ left = cc in rw (← k) (sound-from columns order rs)
 

@@ -1,5 +1,6 @@
 -- Each value of a row is one of its type.
-use Rattle.std.proofs.Common.{◌≡◌, ℕ, ◌+◌, zero, suc, Bool, true, false, ◌==◌, nat_lt, cond, List, [], ◌∷◌, length, map, slice_set, replicate, All, Option, Some, None, option_and_then, Result, Ok, Err, IfOk, ℤ, pos, refl, codes, ◌||◌}
+use Rattle.std.proofs.Common.{◌≡◌, ℕ, ◌+◌, zero, suc, Bool, true, false, ◌==◌, nat_lt, cond, List, [], ◌∷◌, length, map, slice_set, replicate, All, Option}
+use Rattle.std.proofs.Common.{Some, None, option_and_then, Result, Ok, Err, IfOk, ℤ, pos, refl, codes, ◌||◌}
 use Rattle.std.proofs.lemmas.List.Elements.{All-nil, All-cons}
 use Rattle.vcp_base.specs.Limits.{most_cycles}
 use Rattle.vcp_base.specs.declared.ty.Ty.{Ty}
@@ -26,7 +27,8 @@ truth-fits false true v e = let k : pos 0 ≡ v = cc in rw (← k) refl
 truth-fits false false v e = absurd cc
 
 spelled-fits : (t : Ty) (text : List ℕ) (v : ℤ) → spelled t text ≡ Some v → fits t v ≡ true
-spelled-fits ty.Bool text v e = truth-fits (is_same_name text (codes "1") || is_same_name text (codes "true")) (is_same_name text (codes "0") || is_same_name text (codes "false")) v e
+spelled-fits ty.Bool text v e =
+    truth-fits (is_same_name text (codes "1") || is_same_name text (codes "true")) (is_same_name text (codes "0") || is_same_name text (codes "false")) v e
 spelled-fits ty.Int text v e = in-type ty.Int (integer_of text) v e
 spelled-fits ty.Dint text v e = in-type ty.Dint (integer_of text) v e
 spelled-fits ty.Lint text v e = in-type ty.Lint (integer_of text) v e
@@ -48,32 +50,39 @@ set-in (t ∷ types) [] p v h f = absurd h
 set-in (t ∷ types) (x ∷ row) zero v h f = (f, h.1)
 set-in (t ∷ types) (x ∷ row) (suc p) v h f = (h.0, set-in types row p v h.1 f)
 
-placed-in : (types : List Ty) (ps : List ℕ) (column : ℕ) (cells : List (List ℕ)) (vs row : List ℤ) → values_of column (map (type_at types) ps) cells ≡ Ok vs → AreIn types row → AreIn types (placed ps vs row)
+placed-in : (types : List Ty) (ps : List ℕ) (column : ℕ) (cells : List (List ℕ)) (vs row : List ℤ) → values_of column (map (type_at types) ps) cells ≡ Ok vs
+    → AreIn types row → AreIn types (placed ps vs row)
 placed-in types [] column cells vs row e h = h
 placed-in types (p ∷ ps) column [] vs row e h = let k : [] ≡ vs = cc in rw (← k) h
 placed-in types (p ∷ ps) column (cell ∷ cells) vs row e h =
-    by_case (λ ws r f i. placed-in types ps (column + 1) cells ws r f i) (value_of (type_at types p) cell) (values_of (column + 1) (map (type_at types) ps) cells) refl refl e
+    by_case (λ ws r f i. placed-in types ps (column + 1) cells ws r f i) (value_of (type_at types p) cell)
+    (values_of (column + 1) (map (type_at types) ps) cells) refl refl e
   where
     by_case : ((ws r : List ℤ) → values_of (column + 1) (map (type_at types) ps) cells ≡ Ok ws → AreIn types r → AreIn types (placed ps ws r))
-        → (o : Option ℤ) (r : Result (List ℤ) ℕ) → value_of (type_at types p) cell ≡ o → values_of (column + 1) (map (type_at types) ps) cells ≡ r → values_after column o r ≡ Ok vs → AreIn types (placed (p ∷ ps) vs row)
+        → (o : Option ℤ) (r : Result (List ℤ) ℕ) → value_of (type_at types p) cell ≡ o → values_of (column + 1) (map (type_at types) ps) cells ≡ r
+        → values_after column o r ≡ Ok vs → AreIn types (placed (p ∷ ps) vs row)
     by_case ih None r eo er e2 = absurd cc
     by_case ih (Some v) (Err k) eo er e2 = absurd cc
     by_case ih (Some v) (Ok ws) eo er e2 =
         let k : v ∷ ws ≡ vs = cc in
         rw (← k) (ih ws (slice_set row p v) er (set-in types row p v h (spelled-fits (type_at types p) (trimmed cell) v eo)))
 
-values-in : (types : List Ty) (order : List ℕ) (number : ℕ) (cells : List (List ℕ)) (r : Result (List ℤ) ℕ) → values_of 1 (map (type_at types) order) cells ≡ r → IfOk (row_onto (replicate (length types) (pos 0)) order number r) (AreIn types)
+values-in : (types : List Ty) (order : List ℕ) (number : ℕ) (cells : List (List ℕ)) (r : Result (List ℤ) ℕ) → values_of 1 (map (type_at types) order) cells ≡ r
+    → IfOk (row_onto (replicate (length types) (pos 0)) order number r) (AreIn types)
 values-in types order number cells (Ok vs) e = placed-in types order 1 cells vs (replicate (length types) (pos 0)) e (zeros-in types)
 values-in types order number cells (Err k) e = tt
 
 row-in : (types : List Ty) (order : List ℕ) (number : ℕ) (cells : List (List ℕ)) → IfOk (row_of types order number cells) (AreIn types)
 row-in types order number cells = by_test (length cells == length types)
   where
-    by_test : (b : Bool) → IfOk (cond b (row_onto (replicate (length types) (pos 0)) order number (values_of 1 (map (type_at types) order) cells)) (Err (fault.Width number))) (AreIn types)
+    by_test : (b : Bool)
+        → IfOk (cond b (row_onto (replicate (length types) (pos 0)) order number (values_of 1 (map (type_at types) order) cells)) (Err (fault.Width number)))
+        (AreIn types)
     by_test true = values-in types order number cells (values_of 1 (map (type_at types) order) cells) refl
     by_test false = tt
 
-before-in : (types : List Ty) (r : Result (List ℤ) RowFault) (more : RowsLeft) → IfOk r (AreIn types) → All (AreIn types) more.rows → All (AreIn types) (row_before types r more).rows
+before-in : (types : List Ty) (r : Result (List ℤ) RowFault) (more : RowsLeft) → IfOk r (AreIn types) → All (AreIn types) more.rows
+    → All (AreIn types) (row_before types r more).rows
 before-in types (Ok row) more h all = All-cons (AreIn types) row more.rows h all
 before-in types (Err why) more h all = All-nil (AreIn types)
 
@@ -82,6 +91,9 @@ rows-in types order cycle [] = All-nil (AreIn types)
 rows-in types order cycle (cells ∷ records) = by_test (nat_lt cycle most_cycles) (rows-in types order (cycle + 1) records)
   where
     by_test : (b : Bool) → All (AreIn types) (rows_from types order (cycle + 1) records).rows
-        → All (AreIn types) (cond b (row_before types (row_of types order (cycle + 2) cells) (rows_from types order (cycle + 1) records)) (no_rows types (Some fault.Cycles))).rows
-    by_test true all = before-in types (row_of types order (cycle + 2) cells) (rows_from types order (cycle + 1) records) (row-in types order (cycle + 2) cells) all
+        → All (AreIn types)
+        (cond b (row_before types (row_of types order (cycle + 2) cells) (rows_from types order (cycle + 1) records))
+        (no_rows types (Some fault.Cycles))).rows
+    by_test true all =
+        before-in types (row_of types order (cycle + 2) cells) (rows_from types order (cycle + 1) records) (row-in types order (cycle + 2) cells) all
     by_test false all = All-nil (AreIn types)

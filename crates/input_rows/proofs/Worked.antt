@@ -72,7 +72,8 @@ in_order : rows_of_records (x ∷ go ∷ []) ((codes "go" ∷ codes "x" ∷ []) 
 in_order = refl
 
 -- the rows before a refused record stand, and none behind it; the cell is told by its place in the record
-cell_refused : rows_of_records (x ∷ go ∷ []) ((codes "go" ∷ codes "x" ∷ []) ∷ (codes "1" ∷ codes "7" ∷ []) ∷ (codes "0" ∷ codes "7x" ∷ []) ∷ (codes "1" ∷ codes "8" ∷ []) ∷ []) ≡ left ((pos 7 ∷ pos 1 ∷ []) ∷ []) (Some (fault.Cell 3 2))
+cell_refused : rows_of_records (x ∷ go ∷ []) ((codes "go" ∷ codes "x" ∷ []) ∷ (codes "1" ∷ codes "7" ∷ []) ∷ (codes "0" ∷ codes "7x" ∷ [])
+    ∷ (codes "1" ∷ codes "8" ∷ []) ∷ []) ≡ left ((pos 7 ∷ pos 1 ∷ []) ∷ []) (Some (fault.Cell 3 2))
 cell_refused = refl
 
 -- the number of fields comes before the cells
@@ -83,7 +84,8 @@ no_record : rows_of_records (x ∷ []) [] ≡ Err fault.Header
 no_record = refl
 
 -- x, 5
-file : rows_of (120 ∷ 10 ∷ 53 ∷ []) (record { name = codes "x"; ty = ty.Dint } ∷ []) ≡ Ok (record { types = ty.Dint ∷ []; rows = (pos 5 ∷ []) ∷ []; refusal = None; refused = false })
+file : rows_of (120 ∷ 10 ∷ 53 ∷ []) (record { name = codes "x"; ty = ty.Dint } ∷ [])
+    ≡ Ok (record { types = ty.Dint ∷ []; rows = (pos 5 ∷ []) ∷ []; refusal = None; refused = false })
 unfolding next_record records_from strip_bom
 file = refl
 

@@ -1,5 +1,6 @@
 -- The header: each column's name once, in any order, without regard to the case of ASCII letters.
-use Rattle.std.specs.Prelude.{◌≡◌, ℕ, ◌+◌, ◌<◌, ◌==◌, Bool, true, false, ◌&&◌, cond, List, [], ◌∷◌, length, replicate, slice_set, All, Contains, Option, Some, None, option_map}
+use Rattle.std.specs.Prelude.{◌≡◌, ℕ, ◌+◌, ◌<◌, ◌==◌, Bool, true, false, ◌&&◌, cond, List, [], ◌∷◌, length, replicate, slice_set, All, Contains, Option, Some}
+use Rattle.std.specs.Prelude.{None, option_map}
 use Rattle.vcp_base.specs.declared.columns.Column.{Column}
 use Rattle.vcp_base.specs.Names.{is_same_name}
 use Rattle.input_rows.specs.Cells.{trimmed}

@@ -64,7 +64,8 @@ impl<'a> Layout<'a> {
     fn set_values(&self, number: u32, cells: &ByteRecord, row: &mut Row) -> Result<(), RowFault>
         requires as_many { length (fields_of cells.now) ≡ length self.now.places }
         requires width { length row.old ≡ length self.now.types }
-        ensures row { SetsRow (row_onto row.old self.now.places number (values_of 1 (map (type_at self.now.types) self.now.places) (fields_of cells.now))) result row.new }
+        ensures row { SetsRow
+            (row_onto row.old self.now.places number (values_of 1 (map (type_at self.now.types) self.now.places) (fields_of cells.now))) result row.new }
         ensures width { length row.new ≡ length row.old }
     {
         'cells: for j in 0..cells.len() {

@@ -21,6 +21,3 @@ pub use fault::RowFault;
 pub use laws::order_has_each_place;
 pub use row_list::{RowList, collect_rows};
 pub use rows::Rows;
-
-#[cfg(test)]
-mod tests;

@@ -50,9 +50,12 @@ fn read_row(
 ) -> Result<bool, RowFault>
     requires width { length row.old ≡ length layout.now.types }
     requires cycle { cycle ≤ most_cycles }
-    ensures row { IfOk result (λ found. found ≡ true → left_from layout.now cycle records.old ≡ record (left_from layout.now (cycle + 1) records.new) { rows = row.new ∷ (left_from layout.now (cycle + 1) records.new).rows }) }
+    ensures row { IfOk result (λ found. found ≡ true
+        → left_from layout.now cycle records.old
+        ≡ record (left_from layout.now (cycle + 1) records.new) { rows = row.new ∷ (left_from layout.now (cycle + 1) records.new).rows }) }
     ensures more { IfOk result (λ found. found ≡ true → cycle < most_cycles) }
-    ensures end { IfOk result (λ found. found ≡ false → (left_from layout.now cycle records.old ≡ no_rows layout.now.types None) × (records.new ≡ records.old)) }
+    ensures end { IfOk result (λ found. found ≡ false
+        → (left_from layout.now cycle records.old ≡ no_rows layout.now.types None) × (records.new ≡ records.old)) }
     ensures refusal { IfErr result (λ f. f ≢ RowFault.Memory → left_from layout.now cycle records.old ≡ no_rows layout.now.types (Some f)) }
     ensures width { length row.new ≡ length row.old }
 {

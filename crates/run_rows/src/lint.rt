@@ -127,12 +127,14 @@ const PROGRAMS: [(&[u8], &[u8], Gives<'_>); 17] = [
         (b"cycle,n,y\n0,2,9223372036854775807\nend 1\n", b"", 0),
     ),
     (
-        b"VAR_OUTPUT n : INT; y : LINT; END_VAR\nVAR i : LINT; END_VAR\nFOR i := -9223372036854775807 TO 9223372036854775807 BY 9223372036854775807 DO n := n + 1; END_FOR; y := i;\n",
+        b"VAR_OUTPUT n : INT; y : LINT; END_VAR\nVAR i : LINT; END_VAR\n\
+          FOR i := -9223372036854775807 TO 9223372036854775807 BY 9223372036854775807 DO n := n + 1; END_FOR; y := i;\n",
         b"",
         (b"cycle,n,y\n0,3,9223372036854775807\nend 1\n", b"", 0),
     ),
     (
-        b"VAR_INPUT x : LINT; END_VAR\nVAR_OUTPUT y : INT; END_VAR\nCASE x OF -9223372036854775807..0: y := 1; 9223372036854775807: y := 2; ELSE y := 0; END_CASE;\n",
+        b"VAR_INPUT x : LINT; END_VAR\nVAR_OUTPUT y : INT; END_VAR\n\
+          CASE x OF -9223372036854775807..0: y := 1; 9223372036854775807: y := 2; ELSE y := 0; END_CASE;\n",
         b"x\n9223372036854775807\n9223372036854775806\n-9223372036854775807\n-9223372036854775808\n",
         (b"cycle,y\n0,2\n1,0\n2,1\n3,0\nend 4\n", b"", 0),
     ),

@@ -9,7 +9,8 @@ use vcp_outside::MemFiles;
 use worked_programs::{ADD, COUNTER, Gives, is};
 
 const USAGE: &[u8] =
-    b"usage: vcp check P, format P, plain P ROWS, run P ROWS CODE, compile P CODE, list M, exec M ROWS, trace M ROWS CYCLE, inject M ROWS F, audit M HORIZON, widen M or demo N\n";
+    b"usage: vcp check P, format P, plain P ROWS, run P ROWS CODE, compile P CODE, list M, exec M ROWS, trace M ROWS CYCLE, inject M ROWS F, audit M HORIZON, \
+      widen M or demo N\n";
 
 /// A program with an input, one without, and rows.
 fn files(alloc: Global) -> Result<MemFiles, Memory> {

@@ -129,7 +129,8 @@ const PROGRAMS: [(&[u8], &[u8], Gives<'_>); 18] = [
     ),
     // The turns of loops, the outer one first.
     (
-        b"VAR_INPUT x : DINT; END_VAR\nVAR_OUTPUT y : DINT; END_VAR\nVAR i : INT; j : INT; END_VAR\nFOR i := 1 TO 3 DO FOR j := -1 TO 1 DO y := x / (i + j - 2); END_FOR; END_FOR;\n",
+        b"VAR_INPUT x : DINT; END_VAR\nVAR_OUTPUT y : DINT; END_VAR\nVAR i : INT; j : INT; END_VAR\n\
+          FOR i := 1 TO 3 DO FOR j := -1 TO 1 DO y := x / (i + j - 2); END_FOR; END_FOR;\n",
         b"x\n5\n",
         (b"cycle,y\nstop 0 DIVZERO 5:47 i=1 j=1\n", b"", 2),
     ),

@@ -164,7 +164,8 @@ const TEXTS: [(&[u8], &[u8]); 12] = [
         b"p.st L2 Size\n",
     ),
     (
-        b"PROGRAM p VAR i, j, k : DINT; END_VAR FOR i := -2147483648 TO 2147483647 DO FOR j := -2147483648 TO 2147483647 DO FOR k := -2147483648 TO 2147483647 DO ; END_FOR; END_FOR; END_FOR; END_PROGRAM",
+        b"PROGRAM p VAR i, j, k : DINT; END_VAR FOR i := -2147483648 TO 2147483647 DO FOR j := -2147483648 TO 2147483647 DO FOR k := -2147483648 TO 2147483647 \
+          DO ; END_FOR; END_FOR; END_FOR; END_PROGRAM",
         b"p.st L2 Size\n",
     ),
     (

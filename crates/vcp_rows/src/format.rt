@@ -103,7 +103,8 @@ const PROGRAMS: [(&[u8], &[u8]); 5] = [
         b"PROGRAM Q\nEND_PROGRAM\n",
     ),
     (
-        b"PROGRAM q VAR CONSTANT a,B:INT:=5;c:bool:=true;END_VAR VAR RETAIN r:DINT;END_VAR VAR END_VAR VAR_INPUT END_VAR var n : Int:=-(1); end_var END_PROGRAM",
+        b"PROGRAM q VAR CONSTANT a,B:INT:=5;c:bool:=true;END_VAR VAR RETAIN r:DINT;END_VAR VAR END_VAR VAR_INPUT END_VAR var n : Int:=-(1); end_var \
+          END_PROGRAM",
         b"\
 PROGRAM q
 VAR CONSTANT
@@ -124,7 +125,8 @@ END_PROGRAM
 ",
     ),
     (
-        b"PROGRAM q if a then if b then y:=1;else y:=2;end_if;elsif c then;;y:=3;else;end_if;FOR i:=1 TO n+1 BY -2 DO y:=i;END_FOR;for I:=x to 3 do end_for;END_PROGRAM",
+        b"PROGRAM q if a then if b then y:=1;else y:=2;end_if;elsif c then;;y:=3;else;end_if;FOR i:=1 TO n+1 BY -2 DO y:=i;END_FOR;for I:=x to 3 do \
+          end_for;END_PROGRAM",
         b"\
 PROGRAM q
   IF a THEN
@@ -146,7 +148,8 @@ END_PROGRAM
 ",
     ),
     (
-        b"PROGRAM q CASE s+(1) OF 1,2..5,-3..-1:y:=1;;n,-BOOL#TRUE,-BOOL#2:BOOL#TRUE,BOOL#FALSE,BOOL#0..BOOL#1,BOOL#2:case t of 0:end_case;ELSE y:=3;END_CASE;END_PROGRAM",
+        b"PROGRAM q CASE s+(1) OF 1,2..5,-3..-1:y:=1;;n,-BOOL#TRUE,-BOOL#2:BOOL#TRUE,BOOL#FALSE,BOOL#0..BOOL#1,BOOL#2:case t of 0:end_case;ELSE \
+          y:=3;END_CASE;END_PROGRAM",
         b"\
 PROGRAM q
   CASE s + 1 OF

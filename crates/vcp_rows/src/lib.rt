@@ -1,4 +1,5 @@
-//! Worked texts of the commands that run nothing, `check` and `format`: texts, and what each command tells of them.
+//! Worked texts of the commands that run nothing, `check` and `format`: texts, and what each command tells of them; and the files of
+//! commands, taken or refused.
 #![tactic(auto)]
 
 #[cfg(test)]
@@ -7,5 +8,7 @@ mod calls;
 mod check;
 #[cfg(test)]
 mod format;
+#[cfg(test)]
+mod inputs;
 #[cfg(test)]
 mod words;

@@ -8,7 +8,8 @@ use vcp_outside::MemFiles;
 use worked_programs::ADD;
 
 const USAGE: &[u8] =
-    b"usage: vcp check P, format P, plain P ROWS, run P ROWS CODE, compile P CODE, list M, exec M ROWS, trace M ROWS CYCLE, inject M ROWS F, audit M HORIZON, widen M or demo N\n";
+    b"usage: vcp check P, format P, plain P ROWS, run P ROWS CODE, compile P CODE, list M, exec M ROWS, trace M ROWS CYCLE, inject M ROWS F, audit M HORIZON, \
+      widen M or demo N\n";
 
 const NO_FORMS: [&[&[u8]]; 11] = [
     &[],

@@ -1,10 +1,9 @@
-//! Worked programs, and calls of the whole program on texts in memory: what the crates of worked rows share.
+//! Calls of the whole program on texts in memory, and the worked programs that they are given: what the crates of worked rows share.
 #![tactic(auto)]
 
 mod calls;
-mod programs;
-mod texts;
 
 pub use calls::{Given, Gives, give, is};
-pub use programs::{ADD, ADD_INT, ADD_LINT, COUNTER, CROSSING, POWER};
-pub use texts::{joined, repeated, with_crlf};
+pub use worked_texts::{
+    ADD, ADD_INT, ADD_LINT, COUNTER, CROSSING, POWER, joined, repeated, with_crlf,
+};

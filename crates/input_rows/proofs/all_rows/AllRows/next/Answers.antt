@@ -14,7 +14,8 @@ one_less : (n : ℕ) (out : List ℤ) → ¬ (n ≡ 0) → out ≡ [] → replic
 one_less zero out h e = absurd (h refl)
 one_less (suc n) out h e = rw (e, sub-one) refl
 
-cycles-row : (source : Source) (left : RowsLeft) (n : ℕ) (out : List ℤ) → rows_left source ≡ left → source ≡ Cycles n → ¬ (n ≡ 0) → length out ≡ length left.types
+cycles-row : (source : Source) (left : RowsLeft) (n : ℕ) (out : List ℤ) → rows_left source ≡ left → source ≡ Cycles n → ¬ (n ≡ 0)
+    → length out ≡ length left.types
     → left ≡ record { types = []; rows = out ∷ replicate (n - 1) []; refusal = None; refused = false }
 cycles-row source left n out e is h l =
     let seen : left ≡ rows_left (Cycles n) = sym e ∙ ap rows_left is in

@@ -11,4 +11,5 @@ returns-clause-row c =
     let order : IsOrder (length o.types) o.places = order-seen own.columns.now own.places.items o c.self.view_is c.self.invariant.0 in
     let seen : length own.places.items ≡ length o.places = ap (λ v. length v.places) c.self.view_is in
     let width : length (fields_of c.args.cells.now) ≡ length o.places = omega (arith, own.places.ok.0) in
-    rw (row-over (length o.types) o.types o.places c.args.number (fields_of c.args.cells.now) c.args.row.now order refl width c.requires) c.set_values.ensures.row
+    rw (row-over (length o.types) o.types o.places c.args.number
+    (fields_of c.args.cells.now) c.args.row.now order refl width c.requires) c.set_values.ensures.row

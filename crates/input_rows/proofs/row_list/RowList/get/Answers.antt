@@ -7,7 +7,8 @@ copy_row-requires c =
     let s = c.self.inside in
     let row = row_of_list c.args.self.now s.count s.width s.values.items c.args.i c.self.view_is c.self.invariant c.requires.there in
     record {
-      width = sym (width_is c.args.self.now s.count s.width s.values.items c.args.i (length c.args.out.now) c.self.view_is c.self.invariant c.requires.there c.requires.width);
+      width = sym (width_is c.args.self.now s.count s.width s.values.items c.args.i
+          (length c.args.out.now) c.self.view_is c.self.invariant c.requires.there c.requires.width);
       there = subst (λ (vs : List ℤ). c.args.i * s.width + s.width ≤ length vs) (sym c.deref.ensures.value) row.within;
     }
 

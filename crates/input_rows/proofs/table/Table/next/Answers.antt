@@ -6,11 +6,13 @@ use Rattle.input_rows.proofs.Lefts.{left-types, left-fresh}
 use Rattle.input_rows.proofs.table.Table.next.Goals as goal
 
 -- before a refusal the types are the columns'
-seen-types : (o : Ordered) (cycle : ℕ) (records : Option (List (List (List ℕ)))) (refusal : Option RowFault) (left : RowsLeft) → left_of_table o cycle records refusal ≡ left → refusal ≡ None → o.types ≡ left.types
+seen-types : (o : Ordered) (cycle : ℕ) (records : Option (List (List (List ℕ)))) (refusal : Option RowFault) (left : RowsLeft)
+    → left_of_table o cycle records refusal ≡ left → refusal ≡ None → o.types ≡ left.types
 seen-types o cycle records refusal left e none = sym (left-types o cycle records) ∙ ap (λ l. l.types) (ap (left_of_table o cycle records) (sym none) ∙ e)
 
 -- before a refusal none was given
-seen-fresh : (o : Ordered) (cycle : ℕ) (records : Option (List (List (List ℕ)))) (refusal : Option RowFault) (left : RowsLeft) → left_of_table o cycle records refusal ≡ left → refusal ≡ None → left.refused ≡ true → ⊥
+seen-fresh : (o : Ordered) (cycle : ℕ) (records : Option (List (List (List ℕ)))) (refusal : Option RowFault) (left : RowsLeft)
+    → left_of_table o cycle records refusal ≡ left → refusal ≡ None → left.refused ≡ true → ⊥
 seen-fresh o cycle records refusal left e none given =
     let fresh : false ≡ left.refused = sym (left-fresh o cycle records) ∙ ap (λ l. l.refused) (ap (left_of_table o cycle records) (sym none) ∙ e) in
     absurd cc

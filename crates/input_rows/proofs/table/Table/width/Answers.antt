@@ -5,7 +5,8 @@ use Rattle.input_rows.specs.TableLeft.{Ordered, left_of_table}
 use Rattle.input_rows.proofs.Lefts.{left-types}
 use Rattle.input_rows.proofs.table.Table.width.Goals as goal
 
-types : (o : Ordered) (cycle : ℕ) (records : Option (List (List (List ℕ)))) (refusal : Option RowFault) → (left_of_table o cycle records refusal).types ≡ o.types
+types : (o : Ordered) (cycle : ℕ) (records : Option (List (List (List ℕ)))) (refusal : Option RowFault)
+    → (left_of_table o cycle records refusal).types ≡ o.types
 types o cycle records None = left-types o cycle records
 types o cycle records (Some why) = refl
 

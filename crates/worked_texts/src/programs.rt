@@ -1,4 +1,4 @@
-//! Programs.
+//! Programs that several tests run.
 
 /// A program of one sum.
 pub const ADD: &[u8] = b"\

@@ -2,7 +2,7 @@
 
 ghost use Rattle.std.specs.Prelude.{◌≡◌, length, IfOk};
 
-use crate::{RowFault, RowList, Rows, collect_rows, order_has_each_place};
+use input_rows::{RowFault, RowList, Rows, collect_rows, order_has_each_place};
 use std::alloc::Global;
 use std::test::Fail;
 use vcp_base::{Column, Columns, Row, Text, Ty};

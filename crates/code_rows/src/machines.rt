@@ -1,0 +1,331 @@
+//! Worked cycles, with expected values worked out by hand: seed 0 and step 1, so operation i has the
+//! signature 214748365*i modulo 2^30, and cycle n the stamp n + 1.
+
+ghost use Rattle.std.specs.Prelude.{◌≡◌, ◌≤◌, ◌<◌, ◌+◌, false, None, IfOk, length};
+ghost use Rattle.coded_machine.specs.Runs.{Turn};
+
+use coded_machine::{
+    CycleEnd, Machine, Operands, cycles_by_hand_are_whole, honest_runs_follow_the_graph,
+    operation_call, right_answers_stand_for_values, runs_follow_their_answers,
+};
+use coded_unit::table::answer;
+use coded_unit::{Answer, BadUnit, CpuUnit, LogUnit, Unit, Word};
+use op_graph::{Build, Graph, GraphBuilder, Op};
+use signature_table::Table;
+use std::alloc::Global;
+use std::test::Fail;
+use vcp_base::{Kind, Memory, Profile, Row, Spot, StopKind, Text, Ty};
+use worked_graphs::{counter, increment, on_dint};
+
+/// An operation on LINT values, which reads `a` and `b`.
+fn on_lint(kind: Kind, a: u32, b: u32, imm: i64) -> Op
+    ensures { result ≡ record { kind = kind; from = Ty.Lint; ty = Ty.Lint; a = a; b = b; c = 0; imm = imm; spot = record { line = 4; col = 8 }; turn = 0 } }
+{
+    Op {
+        from: Ty::Lint,
+        ty: Ty::Lint,
+        ..on_dint(kind, a, b, imm)
+    }
+}
+
+/// The graph of `y := x + 1;` on LINT in the wide code: INPUT, CONST, ADD, OUT.
+fn increment_of_lint(alloc: Global) -> Result<Graph, Build>
+    ensures { IfOk result (λ graph. length graph.outputs ≡ 1) }
+{
+    let spot = Spot { line: 2, col: 11 };
+    let mut builder = GraphBuilder::new(alloc, Profile::Wide);
+    builder.name(&Text::copy_of(alloc, b"x")?)?;
+    builder.name(&Text::copy_of(alloc, b"y")?)?;
+    let x = builder.input(0, Ty::Lint, spot)?;
+    let one = builder.push(on_lint(Kind::Const, 0, 0, 1))?;
+    let sum = builder.push(on_lint(Kind::Add, x, one, 0))?;
+    builder.output(1, Ty::Lint, sum, spot)?;
+    Ok(builder.finish())
+}
+
+/// The word that operation `i` answered; 0 where it answered none.
+fn word(machine: &Machine<'_>, i: u32) -> i128 {
+    match machine.word(i) {
+        Some(word) => word.get(),
+        None => 0,
+    }
+}
+
+/// What is seen of a cycle: its end, the value of the output, and the first words.
+#[derive(Clone, Copy)]
+struct Seen {
+    end: CycleEnd,
+    y: i64,
+    words: [i128; 5],
+}
+
+/// The first words of the last cycle.
+fn words(machine: &Machine<'_>) -> [i128; 5] {
+    [
+        word(machine, 0),
+        word(machine, 1),
+        word(machine, 2),
+        word(machine, 3),
+        word(machine, 4),
+    ]
+}
+
+/// One cycle on a row: its end, the value of the output, and the words.
+fn cycle<U: Unit>(machine: &mut Machine<'_>, unit: &mut U, row: &Row, out: &mut Row) -> Seen
+    requires cycle { machine.old.cycles < 1000000 }
+    requires between { machine.old.under_way ≡ false }
+    requires outputs { length machine.old.graph.outputs ≡ 1 }
+    requires out { length out.old ≡ 1 }
+    ensures cycles { machine.new.cycles ≤ machine.old.cycles + 1 }
+    ensures between { machine.new.under_way ≡ false }
+    ensures outputs { length machine.new.graph.outputs ≡ 1 }
+    ensures out { length out.new ≡ 1 }
+{
+    let end = machine.cycle(unit, row, out);
+    Seen {
+        end,
+        y: out.at(0),
+        words: words(machine),
+    }
+}
+
+/// The same by the three calls of which a cycle is made.
+fn cycle_by_hand<U: Unit>(machine: &mut Machine<'_>, unit: &mut U, row: &Row, out: &mut Row) -> Seen
+    requires cycle { machine.old.cycles < 1000000 }
+    requires between { machine.old.under_way ≡ false }
+    requires outputs { length machine.old.graph.outputs ≡ 1 }
+    requires out { length out.old ≡ 1 }
+    ensures turn { machine.old.ended ≡ None
+        → Turn machine.old machine.new row.now result.end (U.log unit.old) (U.log unit.new) (U.wrong unit.old) (U.wrong unit.new) }
+    ensures cycles { machine.new.cycles ≤ machine.old.cycles + 1 }
+    ensures between { machine.new.under_way ≡ false }
+    ensures outputs { length machine.new.graph.outputs ≡ 1 }
+    ensures out { length out.new ≡ 1 }
+{
+    cycles_by_hand_are_whole();
+    'calls: while let Some(call) = machine.next_call(row) {
+        machine.put(unit.perform(&call));
+    }
+    let end = machine.end(out);
+    Seen {
+        end,
+        y: out.at(0),
+        words: words(machine),
+    }
+}
+
+/// A row of one value.
+fn row_of(alloc: Global, value: i64) -> Result<Row, Memory> {
+    let mut row = Row::zeros(alloc, 1)?;
+    row.set(0, value);
+    Ok(row)
+}
+
+/// Three cycles of a new machine, the first on one row and the others on another, with seed 0 and
+/// step 1.
+fn three_cycles<U: Unit>(
+    alloc: Global,
+    graph: &Graph,
+    unit: &mut U,
+    first: &Row,
+    later: &Row,
+) -> Result<[Seen; 3], Memory>
+    requires { length graph.now.outputs ≡ 1 }
+{
+    let table = Table::new(alloc, graph, 0, 1)?;
+    let mut machine = Machine::new(alloc, graph, &table)?;
+    let mut out = Row::zeros(alloc, 1)?;
+    Ok([
+        cycle(&mut machine, unit, first, &mut out),
+        cycle(&mut machine, unit, later, &mut out),
+        cycle(&mut machine, unit, later, &mut out),
+    ])
+}
+
+/// The same by the three calls of which a cycle is made.
+fn three_cycles_by_hand<U: Unit>(
+    alloc: Global,
+    graph: &Graph,
+    unit: &mut U,
+    row: &Row,
+) -> Result<[Seen; 3], Memory>
+    requires { length graph.now.outputs ≡ 1 }
+{
+    let table = Table::new(alloc, graph, 0, 1)?;
+    let mut machine = Machine::new(alloc, graph, &table)?;
+    let mut out = Row::zeros(alloc, 1)?;
+    Ok([
+        cycle_by_hand(&mut machine, unit, row, &mut out),
+        cycle_by_hand(&mut machine, unit, row, &mut out),
+        cycle_by_hand(&mut machine, unit, row, &mut out),
+    ])
+}
+
+/// The word of an answer; 0 where it has none.
+fn word_of(given: &Answer) -> i128 {
+    match given {
+        Answer::Word(word) => word.get(),
+        _ => 0,
+    }
+}
+
+/// The number, the first operand and the answer's word of the call that was done as number `i`.
+fn logged(unit: &LogUnit, i: u32) -> (u32, i128, i128) {
+    match unit.entry(i) {
+        Some((call, given)) => (call.op, call.a.get(), word_of(&given)),
+        None => (0, 0, 0),
+    }
+}
+
+/// The words of three cycles of the counter.
+const COUNTED: [[i128; 5]; 3] = [
+    [1, 2362232013, 2576980378, 2791728743, 3006477108],
+    [2147483649, 2362232014, 4724464026, 4939212391, 5153960756],
+    [4294967297, 2362232015, 6871947674, 7086696039, 7301444404],
+];
+
+#[test]
+fn a_counter_keeps_its_words(rt: HostRuntime) -> Result<(), Fail> {
+    let graph = counter(rt.alloc())?;
+    let row = Row::new(rt.alloc());
+    let mut unit = LogUnit::new(rt.alloc(), 15)?;
+    let seen = three_cycles(rt.alloc(), &graph, &mut unit, &row, &row)?;
+    for k in 0..3usize {
+        assert_eq!(rt; seen[k].end, CycleEnd::Released);
+        assert_eq!(rt; (seen[k].y, seen[k].words), (k as i64 + 1, COUNTED[k]));
+    }
+    assert!(rt; unit.entry(14).is_some() && unit.entry(15).is_none());
+    assert_eq!(rt; logged(&unit, 4), (4, 2576980378, 3006477108));
+    assert_eq!(rt; logged(&unit, 5), (0, 3006477108, 2147483649));
+    Ok(())
+}
+
+#[test]
+fn a_cycle_is_made_of_three_calls(rt: HostRuntime) -> Result<(), Fail> {
+    let graph = counter(rt.alloc())?;
+    let row = Row::new(rt.alloc());
+    let seen = three_cycles_by_hand(rt.alloc(), &graph, &mut CpuUnit::new(), &row)?;
+    for k in 0..3usize {
+        assert_eq!(rt; seen[k].end, CycleEnd::Released);
+        assert_eq!(rt; (seen[k].y, seen[k].words), (k as i64 + 1, COUNTED[k]));
+    }
+    right_answers_stand_for_values();
+    runs_follow_their_answers();
+    honest_runs_follow_the_graph();
+    Ok(())
+}
+
+#[test]
+fn a_call_is_made_outside_a_machine(rt: HostRuntime) -> Result<(), Fail> {
+    let graph = counter(rt.alloc())?;
+    let table = Table::new(rt.alloc(), &graph, 0, 1)?;
+    // The ADD of the second cycle reads the words 2147483649 and 2362232014.
+    let operands = Operands {
+        a: Word::packed(Profile::Narrow, 1, 2),
+        b: Word::packed(Profile::Narrow, 1, 214748367),
+        c: Word::ZERO,
+        input: 0,
+    };
+    let call = operation_call(&graph, &table, 2, 1, &operands);
+    assert_eq!(rt; (call.op, call.cycle, call.stamp), (2, 1, 2));
+    assert_eq!(rt;
+        answer(&call),
+        Answer::Word(Word::packed(Profile::Narrow, 2, 429496732))
+    );
+    Ok(())
+}
+
+#[test]
+fn values_have_their_words(rt: HostRuntime) -> Result<(), Fail> {
+    let graph = increment(rt.alloc())?;
+    let rows = [
+        (5, 6, [10737418236, 2362232013, 13314398613, 13529146978, 0]),
+        (-1, 0, [-2147483646, 2362232013, 429496731, 644245096, 0]),
+        (
+            -2147483648,
+            -2147483647,
+            [
+                -4611686016279904255,
+                2362232013,
+                -4611686013702923878,
+                -4611686013488175513,
+                0,
+            ],
+        ),
+    ];
+    for (x, y, words) in rows {
+        let row = row_of(rt.alloc(), x)?;
+        let seen = three_cycles(rt.alloc(), &graph, &mut CpuUnit::new(), &row, &row)?;
+        assert_eq!(rt; (seen[0].y, seen[0].words), (y, words), "at {x}");
+    }
+    Ok(())
+}
+
+#[test]
+fn wide_values_have_their_words(rt: HostRuntime) -> Result<(), Fail> {
+    let graph = increment_of_lint(rt.alloc())?;
+    let first = row_of(rt.alloc(), 5)?;
+    let later = row_of(rt.alloc(), 9223372036854775807)?;
+    let seen = three_cycles(rt.alloc(), &graph, &mut CpuUnit::new(), &first, &later)?;
+    let words = [
+        11529215046068469756,
+        3228180212899171533,
+        14526810958046271893,
+        14296226657124902498,
+        0,
+    ];
+    assert_eq!(rt; (seen[0].y, seen[0].words), (6, words));
+    let stopped = CycleEnd::Stopped {
+        op: 2,
+        kind: StopKind::Range,
+    };
+    assert_eq!(rt; [seen[0].end, seen[1].end], [CycleEnd::Released, stopped]);
+    let last = row_of(rt.alloc(), 9223372036854775806)?;
+    let seen = three_cycles(rt.alloc(), &graph, &mut CpuUnit::new(), &last, &last)?;
+    assert_eq!(rt;
+        (seen[0].end, seen[0].y),
+        (CycleEnd::Released, 9223372036854775807)
+    );
+    Ok(())
+}
+
+#[test]
+fn a_stop_is_repeated(rt: HostRuntime) -> Result<(), Fail> {
+    let graph = increment(rt.alloc())?;
+    let first = row_of(rt.alloc(), 7)?;
+    let later = row_of(rt.alloc(), 2147483647)?;
+    let seen = three_cycles(rt.alloc(), &graph, &mut CpuUnit::new(), &first, &later)?;
+    let stopped = CycleEnd::Stopped {
+        op: 2,
+        kind: StopKind::Range,
+    };
+    assert_eq!(rt;
+        [seen[0].end, seen[1].end, seen[2].end],
+        [CycleEnd::Released, stopped, stopped]
+    );
+    assert_eq!(rt; [seen[0].y, seen[1].y, seen[2].y], [8, 8, 8]);
+    Ok(())
+}
+
+#[test]
+fn a_wrong_residue_is_refused(rt: HostRuntime) -> Result<(), Fail> {
+    let graph = counter(rt.alloc())?;
+    let mut unit = BadUnit::new(rt.alloc(), 15)?;
+    unit.replace(7, Answer::Word(Word::packed(Profile::Narrow, 2, 5)))?;
+    let refused = CycleEnd::Refused {
+        output: 0,
+        found: 214748370,
+        expected: 644245097,
+    };
+    let row = Row::new(rt.alloc());
+    let seen = three_cycles(rt.alloc(), &graph, &mut unit, &row, &row)?;
+    assert_eq!(rt;
+        [seen[0].end, seen[1].end, seen[2].end],
+        [CycleEnd::Released, refused, refused]
+    );
+    assert_eq!(rt; [seen[0].y, seen[1].y, seen[2].y], [1, 1, 1]);
+    assert_eq!(rt; seen[2].words[2], 4294967299);
+    assert_eq!(rt; unit.wrong(), 1);
+    assert_eq!(rt; (unit.entry(9).is_some(), unit.entry(10)), (true, None));
+    Ok(())
+}

@@ -1,0 +1,378 @@
+//! Worked images.
+
+ghost use Rattle.std.specs.Prelude.{◌≡◌};
+
+use image_file::{ImageFault, read_image, write_image};
+use op_graph::{Build, Graph, GraphBuilder, Op};
+use signature_table::{Table, signature_of};
+use std::alloc::Global;
+use std::test::Fail;
+use vcp_base::{Kind, Memory, Profile, Spot, Text, Ty};
+use worked_graphs::on_dint;
+use worked_texts::repeated;
+
+/// A change of an image: from which byte on, to which bytes in hexadecimal digits, and the fault of it;
+/// None where it is an image again.
+pub type Row = (usize, &'static [u8], Option<ImageFault>);
+
+/// The image of `y := x + 1` with seed 0 and step 1.
+const PLUS_ONE: &[u8] = b"\
+    564350414e42440a0001000100000000000000020000000100000001000000000000000000000004 \
+    00000001780000000179 \
+    0000000002 \
+    000000010200000003 \
+    0002020000000000000000000000000000000000000000000000020000000b0000000000000000 \
+    0102020000000000000000000000000000000000000001000000040000000a000000000ccccccd \
+    08020200000000000000010000000000000000000000000000000400000008000000000ccccccd \
+    0402020000000200000000000000000000000000000000000000030000000c000000000ccccccd";
+
+/// The same in the wide code.
+const PLUS_ONE_WIDE: &[u8] = b"\
+    564350414e42440a0002000100000000000000020000000100000001000000000000000000000004 \
+    00000001780000000179 \
+    0000000002 \
+    000000010200000003 \
+    0002020000000000000000000000000000000000000000000000020000000b000000000000000000000000 \
+    0102020000000000000000000000000000000000000001000000040000000a000000000ccccccccccccccd \
+    08020200000000000000010000000000000000000000000000000400000008000000001ccccccccccccccc \
+    0402020000000200000000000000000000000000000000000000030000000c000000001ccccccccccccccc";
+
+/// The image of `y := x + 1` with LINT values.
+const PLUS_ONE_LINT: &[u8] = b"\
+    564350414e42440a0002000100000000000000020000000100000001000000000000000000000004 \
+    00000001780000000179 \
+    0000000003 \
+    000000010300000003 \
+    0003030000000000000000000000000000000000000000000000020000000b000000000000000000000000 \
+    0103030000000000000000000000000000000000000001000000040000000a000000000ccccccccccccccd \
+    08030300000000000000010000000000000000000000000000000400000008000000001ccccccccccccccc \
+    0403030000000200000000000000000000000000000000000000030000000c000000001ccccccccccccccc";
+
+fn digit(c: u8) -> Option<u8> {
+    match c {
+        b'0'..=b'9' => Some(c - 48),
+        b'a'..=b'f' => Some(c - 87),
+        _ => None,
+    }
+}
+
+/// The bytes that hexadecimal digits spell; what is no digit is passed over.
+fn bytes_of(alloc: Global, text: &[u8]) -> Result<Vec<u8>, Memory> {
+    let mut bytes = Vec::new(alloc);
+    let mut high = None;
+    for c in text {
+        match (digit(*c), high) {
+            (None, _) => {}
+            (Some(d), None) => high = Some(d),
+            (Some(d), Some(h)) => {
+                bytes.push(h.wrapping_mul(16).wrapping_add(d))?;
+                high = None;
+            }
+        }
+    }
+    Ok(bytes)
+}
+
+/// A copy with other bytes from a place on.
+fn patched(alloc: Global, bytes: &[u8], at: usize, patch: &[u8]) -> Result<Vec<u8>, Memory> {
+    let mut copy = Vec::new(alloc);
+    for (i, b) in bytes.iter().enumerate() {
+        match patch.get(i.wrapping_sub(at)) {
+            Some(p) => copy.push(*p)?,
+            None => copy.push(*b)?,
+        }
+    }
+    Ok(copy)
+}
+
+/// The first bytes, so many where they are there.
+fn front(bytes: &[u8], n: usize) -> &[u8] {
+    if n <= bytes.len() {
+        bytes.split_at(n).0
+    } else {
+        bytes
+    }
+}
+
+/// The fault of the bytes; None where they are an image.
+fn fault_of(alloc: Global, bytes: &[u8]) -> Option<ImageFault> {
+    if bytes.len() > 16777216 {
+        return Some(ImageFault::Memory);
+    }
+    match read_image(alloc, bytes) {
+        Ok(_) => None,
+        Err(fault) => Some(fault),
+    }
+}
+
+/// The place of the first change that has not its fault; None where the image is one, and each has it.
+pub fn first_told_otherwise(
+    alloc: Global,
+    image: &[u8],
+    rows: &[Row],
+) -> Result<Option<usize>, Memory> {
+    let image = bytes_of(alloc, image)?;
+    if fault_of(alloc, &image) != None {
+        return Ok(Some(0));
+    }
+    for (at, patch, fault) in rows {
+        let patch = bytes_of(alloc, patch)?;
+        let bytes = patched(alloc, &image, *at, &patch)?;
+        if fault_of(alloc, &bytes) != *fault {
+            return Ok(Some(*at));
+        }
+    }
+    Ok(None)
+}
+
+/// Whether the bytes are refused, or are the image of the graph and the table that they read to.
+fn is_refused_or_written(alloc: Global, bytes: &[u8]) -> Result<bool, Memory> {
+    if bytes.len() > 16777216 {
+        return Ok(false);
+    }
+    match read_image(alloc, bytes) {
+        Ok((graph, table)) => {
+            let image = write_image(alloc, &graph, &table)?;
+            Ok(image.bytes() == bytes)
+        }
+        Err(fault) => Ok(fault != ImageFault::Memory),
+    }
+}
+
+/// The same for each value of the byte at a place.
+fn changes_are_refused_or_written(alloc: Global, bytes: &[u8], at: usize) -> Result<bool, Memory> {
+    for v in 0..256u32 {
+        let changed = patched(alloc, bytes, at, &[v as u8])?;
+        if !is_refused_or_written(alloc, &changed)? {
+            return Ok(false);
+        }
+    }
+    Ok(true)
+}
+
+/// An operation on DINT values in line 4.
+fn on_dint_at(kind: Kind, a: u32, b: u32, imm: i64, col: u32) -> Op
+    ensures { result ≡ record { kind = kind; from = Ty.Dint; ty = Ty.Dint; a = a; b = b; c = 0; imm = imm; spot = record { line = 4; col = col }; turn = 0 } }
+{
+    Op {
+        spot: Spot { line: 4, col },
+        ..on_dint(kind, a, b, imm)
+    }
+}
+
+/// The graph of `y := x + 1`.
+fn plus_one(alloc: Global) -> Result<Graph, Build> {
+    let mut builder = GraphBuilder::new(alloc, Profile::Narrow);
+    builder.name(&Text::copy_of(alloc, b"x")?)?;
+    builder.name(&Text::copy_of(alloc, b"y")?)?;
+    let x = builder.input(0, Ty::Dint, Spot { line: 2, col: 11 })?;
+    let one = builder.push(on_dint_at(Kind::Const, 0, 0, 1, 10))?;
+    let sum = builder.push(on_dint_at(Kind::Add, x, one, 0, 8))?;
+    builder.output(1, Ty::Dint, sum, Spot { line: 3, col: 12 })?;
+    Ok(builder.finish())
+}
+
+#[test]
+fn a_graph_has_its_image_in_both_codes(rt: HostRuntime) -> Result<(), Fail> {
+    let graph = plus_one(rt.alloc())?;
+    let table = Table::new(rt.alloc(), &graph, 0, 1)?;
+    let image = write_image(rt.alloc(), &graph, &table)?;
+    let wanted = bytes_of(rt.alloc(), PLUS_ONE)?;
+    assert_eq!(rt; wanted.len(), 220);
+    assert_eq!(rt; image.bytes(), &wanted[..]);
+    let wide = graph.widened();
+    let table = Table::new(rt.alloc(), &wide, 0, 1)?;
+    let image = write_image(rt.alloc(), &wide, &table)?;
+    let wanted = bytes_of(rt.alloc(), PLUS_ONE_WIDE)?;
+    assert_eq!(rt; wanted.len(), 236);
+    assert_eq!(rt; image.bytes(), &wanted[..]);
+    assert!(rt; is_refused_or_written(rt.alloc(), &wanted)?);
+    let lint = bytes_of(rt.alloc(), PLUS_ONE_LINT)?;
+    assert_eq!(rt; (lint.len(), fault_of(rt.alloc(), &lint)), (236, None));
+    assert!(rt; is_refused_or_written(rt.alloc(), &lint)?);
+    let empty = GraphBuilder::new(rt.alloc(), Profile::Narrow).finish();
+    let table = Table::new(rt.alloc(), &empty, 0, 1)?;
+    assert_eq!(rt; write_image(rt.alloc(), &empty, &table)?.len(), 40);
+    Ok(())
+}
+
+#[test]
+fn each_front_is_short(rt: HostRuntime) -> Result<(), Fail> {
+    let image = bytes_of(rt.alloc(), PLUS_ONE)?;
+    for n in 0..220u32 {
+        let fault = fault_of(rt.alloc(), front(&image, n as usize));
+        assert_eq!(rt; fault, Some(ImageFault::Short { at: n }));
+    }
+    Ok(())
+}
+
+/// Whether the same holds at each place from one to before another.
+fn changes_between(alloc: Global, from: usize, to: usize) -> Result<bool, Memory> {
+    let image = bytes_of(alloc, PLUS_ONE)?;
+    for at in from..to {
+        if !changes_are_refused_or_written(alloc, &image, at)? {
+            return Ok(false);
+        }
+    }
+    Ok(true)
+}
+
+#[test]
+fn each_changed_byte_of_the_lists_is_refused_or_written(rt: HostRuntime) -> Result<(), Fail> {
+    assert!(rt; changes_between(rt.alloc(), 0, 64)?);
+    Ok(())
+}
+
+#[test]
+fn each_changed_byte_of_the_first_operations_is_refused_or_written(
+    rt: HostRuntime,
+) -> Result<(), Fail> {
+    assert!(rt; changes_between(rt.alloc(), 64, 142)?);
+    Ok(())
+}
+
+#[test]
+fn each_changed_byte_of_the_last_operations_is_refused_or_written(
+    rt: HostRuntime,
+) -> Result<(), Fail> {
+    assert!(rt; changes_between(rt.alloc(), 142, 220)?);
+    Ok(())
+}
+
+#[test]
+fn faults_stand_at_their_places(rt: HostRuntime) -> Result<(), Fail> {
+    let rows: [Row; 3] = [
+        (
+            180,
+            b"ce",
+            Some(ImageFault::Table {
+                at: 177,
+                stored: 214748366,
+                expected: 214748365,
+            }),
+        ),
+        (9, b"03", Some(ImageFault::Version { at: 8 })),
+        (9, b"01", None),
+    ];
+    assert_eq!(rt; first_told_otherwise(rt.alloc(), PLUS_ONE, &rows)?, None);
+    let mut image = bytes_of(rt.alloc(), PLUS_ONE)?;
+    image.push(0)?;
+    assert_eq!(rt;
+        fault_of(rt.alloc(), &image),
+        Some(ImageFault::Rest { at: 220 })
+    );
+    Ok(())
+}
+
+/// The head with these counts, and more bytes.
+fn with_counts(alloc: Global, counts: &[u8], more: &[u8]) -> Result<Vec<u8>, Memory> {
+    let mut bytes = bytes_of(alloc, b"564350414e42440a 0001 0001 00000000")?;
+    bytes.extend_from_slice(&bytes_of(alloc, counts)?)?;
+    bytes.extend_from_slice(&bytes_of(alloc, more)?)?;
+    Ok(bytes)
+}
+
+/// The counts of a head, the bytes behind it, and the place of the field that can't be.
+const COUNTS: [(&[u8], &[u8], u32); 3] = [
+    // one name, and a second input, whose name would have to rise
+    (
+        b"00000001 00000002 00000000 00000000 00000000 00000002",
+        b"0000000178 0000000002 0000000002",
+        50,
+    ),
+    // a turn node without names
+    (
+        b"00000000 00000000 00000000 00000000 00000001 00000000",
+        b"00000000 00000000 0000000000000000",
+        44,
+    ),
+    // an output at the operation of an input
+    (
+        b"00000002 00000001 00000001 00000000 00000000 00000002",
+        b"0000000178 0000000179 0000000002 000000010200000000 00",
+        64,
+    ),
+];
+
+/// The first of these images with another fault.
+fn first_counted_otherwise(
+    alloc: Global,
+    rows: &[(&[u8], &[u8], u32)],
+) -> Result<Option<usize>, Memory> {
+    for (i, (counts, more, at)) in rows.iter().enumerate() {
+        let bytes = with_counts(alloc, *counts, *more)?;
+        if fault_of(alloc, &bytes) != Some(ImageFault::Field { at: *at }) {
+            return Ok(Some(i));
+        }
+    }
+    Ok(None)
+}
+
+#[test]
+fn counts_that_no_graph_has_are_told_where_they_show(rt: HostRuntime) -> Result<(), Fail> {
+    assert_eq!(rt; first_counted_otherwise(rt.alloc(), &COUNTS)?, None);
+    Ok(())
+}
+
+/// The letter or digit of a number below 36.
+fn letter_or_digit(n: u32) -> u8 {
+    match n {
+        0..=25 => 97 + n as u8,
+        26..=35 => 22 + n as u8,
+        _ => b'_',
+    }
+}
+
+/// So many names of 2,000 bytes, which differ in their last two alone.
+fn long_names(alloc: Global, bytes: &mut Vec<u8>, count: u32) -> Result<(), Memory> {
+    let front = repeated(alloc, b"a", 1998)?;
+    for n in 0..count {
+        bytes.extend_from_slice(&2000u32.to_be_bytes())?;
+        bytes.extend_from_slice(&front)?;
+        bytes.extend_from_slice(&[letter_or_digit(n % 32), letter_or_digit(n / 32 % 32)])?;
+    }
+    Ok(())
+}
+
+/// So many turn nodes, each in the one before, and so many operations CONST 0, with their corrections.
+fn nodes_and_constants(bytes: &mut Vec<u8>, count: u32) -> Result<(), Memory> {
+    for i in 0..count {
+        bytes.extend_from_slice(&i.to_be_bytes())?;
+        bytes.extend_from_slice(&[0; 12])?;
+    }
+    for i in 0..count {
+        let correction = (signature_of(Profile::Narrow, 0, i) & 4294967295) as u32;
+        bytes.extend_from_slice(&[1, 2, 2])?;
+        bytes.extend_from_slice(&[0; 32])?;
+        bytes.extend_from_slice(&correction.to_be_bytes())?;
+    }
+    Ok(())
+}
+
+/// A time that grows with the square of the bytes would be past a test's minute.
+#[test]
+fn many_long_names_are_read_in_time(rt: HostRuntime) -> Result<(), Fail> {
+    let mut names = with_counts(
+        rt.alloc(),
+        b"00000400 00000000 00000000 00000000 00000000 00000000",
+        b"",
+    )?;
+    long_names(rt.alloc(), &mut names, 1024)?;
+    assert_eq!(rt; names.len(), 2052136);
+    assert_eq!(rt; fault_of(rt.alloc(), &names), None);
+    Ok(())
+}
+
+/// Here too, with the time to write it.
+#[test]
+fn the_largest_graph_is_read_and_written_in_time(rt: HostRuntime) -> Result<(), Fail> {
+    let mut graph = with_counts(
+        rt.alloc(),
+        b"00000001 00000000 00000000 00000000 00010000 00010000",
+        b"0000000178",
+    )?;
+    nodes_and_constants(&mut graph, 65536)?;
+    assert_eq!(rt; fault_of(rt.alloc(), &graph), None);
+    assert!(rt; is_refused_or_written(rt.alloc(), &graph)?);
+    Ok(())
+}

@@ -1,0 +1,8 @@
+//! Worked programs as texts, and texts that are put together from parts: what several crates of tests use.
+#![tactic(auto)]
+
+mod parts;
+mod programs;
+
+pub use parts::{joined, put_number, put_repeated, repeated, with_crlf};
+pub use programs::{ADD, ADD_INT, ADD_LINT, COUNTER, CROSSING, POWER};
