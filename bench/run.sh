@@ -9,8 +9,15 @@ trap 'rm -rf "$work"' EXIT
 rustc --edition 2024 -O -o "$work/loads" "$here/loads.rs" || exit 1
 rustc --edition 2024 -O -o "$work/coded" "$here/coded.rs" || exit 1
 "$work/loads" "$work" || exit 1
-cp "$here/../examples/add.st" "$here/../examples/crossing.st" "$here/add.list" "$here/crossing.list" "$work" || exit 1
+cp "$here/../examples/add.st" "$here/../examples/crossing.st" "$work" || exit 1
 "$vcp" run "$work/add.st" "$here/../examples/in.csv" >/dev/null || exit 1
+
+# The operations that `run` carries, without signatures and corrections, after the line that the run begins with.
+list() {
+    "$vcp" compile "$1.st" >"$1.img" || exit 1
+    head -n 1 "$1.run.out" >"$1.list"
+    "$vcp" list "$1.img" | sed 's/ sig [0-9]* cor [0-9]*//' >>"$1.list"
+}
 
 # Runs a command RUNS times, and keeps seconds and memory of each.
 measure() {
@@ -37,6 +44,7 @@ tell() {
 
 for load in add crossing straight; do
     measure run "$vcp" run "$work/$load.st" "$work/$load.csv"
+    list "$work/$load"
     measure plain "$vcp" plain "$work/$load.st" "$work/$load.csv"
     for mode in long short uncoded; do
         measure "$mode" "$work/coded" "$work/$load.list" "$work/$load.csv" "$mode"
