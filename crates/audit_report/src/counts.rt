@@ -13,7 +13,7 @@ fn one_if(holds: bool) -> u32
 }
 
 /// Whether an operation is blind for an output, after so many cycle borders.
-pub(crate) fn is_blind(weights: &Weights, op: u32, output: u32, after: u32) -> bool
+pub fn is_blind(weights: &Weights, op: u32, output: u32, after: u32) -> bool
     requires operation { op < weights.now.operations }
     requires output { output < length weights.now.outputs }
     requires after { after ≤ weights.now.horizon }

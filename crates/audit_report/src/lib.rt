@@ -6,5 +6,6 @@ mod counts;
 mod laws;
 mod writing;
 
+pub use counts::is_blind;
 pub use laws::an_audit_has_one_text;
 pub use writing::write_audit;

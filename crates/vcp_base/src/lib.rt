@@ -23,9 +23,9 @@ pub use code::{Profile, Residue, modulus};
 pub use columns::{Column, Columns};
 pub use kind::{Kind, StopKind, multiplier, operand_type, operands};
 pub use limits::{
-    MOST_CELLS, MOST_CYCLES, MOST_DEPTH, MOST_HORIZON, MOST_IMAGE_BYTES, MOST_NAMES,
-    MOST_OPERATIONS, MOST_ROWS_BYTES, MOST_SIZE, MOST_SOURCE_BYTES, MOST_STAMP, MOST_STEP,
-    MOST_TURN_NODES, SEEDS,
+    MOST_CELLS, MOST_CYCLES, MOST_DEPTH, MOST_HORIZON, MOST_IMAGE_BYTES, MOST_NAME_BYTES,
+    MOST_NAMES, MOST_OPERATIONS, MOST_ROWS_BYTES, MOST_SIZE, MOST_SOURCE_BYTES, MOST_STAMP,
+    MOST_STEP, MOST_TURN_NODES, SEEDS,
 };
 pub use memory::Memory;
 pub use outcomes::outcome;

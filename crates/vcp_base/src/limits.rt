@@ -6,6 +6,9 @@ pub const MOST_SOURCE_BYTES: u64 = 1048576;
 /// The most bytes of an image.
 pub const MOST_IMAGE_BYTES: u64 = 16777216;
 
+/// The most bytes of a name.
+pub const MOST_NAME_BYTES: u32 = 1048576;
+
 /// The most bytes of a rows file.
 pub const MOST_ROWS_BYTES: u64 = 67108864;
 

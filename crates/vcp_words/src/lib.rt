@@ -9,3 +9,4 @@ mod words_left;
 pub use command::{Code, Command, DEFAULT_CODE, RowsWord};
 pub use usage_line::usage;
 pub use words::command_of;
+pub use words_left::WordsLeft;

@@ -16,7 +16,7 @@ use std::alloc::Global;
 use vcp_base::{Kind, Memory, Profile, Residue, multiplier, operands};
 
 /// Whether operand `j` of an operation of this kind is an operation: a LOAD reads its cell.
-pub(crate) fn reads_operation(kind: Kind, j: u32) -> bool
+pub fn reads_operation(kind: Kind, j: u32) -> bool
     ensures { (from : Type_) → result ≡ is_some (reads_as kind from j) }
 {
     match kind {
