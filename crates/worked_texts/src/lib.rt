@@ -3,6 +3,8 @@
 
 mod parts;
 mod programs;
+mod tables;
 
 pub use parts::{joined, put_number, put_repeated, repeated, with_crlf};
 pub use programs::{ADD, ADD_INT, ADD_LINT, COUNTER, CROSSING, POWER};
+pub use tables::{cells, same, spelled};
