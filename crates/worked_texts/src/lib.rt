@@ -7,4 +7,4 @@ mod tables;
 
 pub use parts::{joined, put_number, put_repeated, repeated, with_crlf};
 pub use programs::{ADD, ADD_INT, ADD_LINT, COUNTER, CROSSING, POWER};
-pub use tables::{cells, same, spelled};
+pub use tables::{cells, kind_named, same, spelled, ty_named, word_off};

@@ -2,7 +2,7 @@
 
 use std::alloc::Global;
 use std::test::Fail;
-use vcp_base::Memory;
+use vcp_base::{Kind, Memory, Ty, kind_name, kind_of_code, ty_name, ty_of_code};
 
 /// Fails with what is found, where it is something else than what is wanted.
 pub fn same(found: &str, wanted: &str) -> Result<(), Fail> {
@@ -63,4 +63,36 @@ fn after(bytes: &mut Vec<u8>, escape: Escape, byte: u8) -> Result<Escape, Memory
     };
     bytes.push(spelled)?;
     Ok(Escape::Outside)
+}
+
+/// A text's first word, and what stands behind the blank after it.
+pub fn word_off(text: &str) -> (&str, &str) {
+    match text.split_once(' ') {
+        Some((word, rest)) => (word, rest),
+        None => (text, ""),
+    }
+}
+
+/// The kind of this name.
+pub fn kind_named(name: &str) -> Option<Kind> {
+    for code in 0..19u8 {
+        if let Some(kind) = kind_of_code(code)
+            && kind_name(kind) == name.as_bytes()
+        {
+            return Some(kind);
+        }
+    }
+    None
+}
+
+/// The type of this name.
+pub fn ty_named(name: &str) -> Option<Ty> {
+    for code in 0..4u8 {
+        if let Some(ty) = ty_of_code(code)
+            && ty_name(ty) == name.as_bytes()
+        {
+            return Some(ty);
+        }
+    }
+    None
 }
