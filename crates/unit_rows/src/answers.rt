@@ -167,10 +167,10 @@ fn replaced_answer_is_carried_on(rt: HostRuntime) -> Result<(), Fail> {
     Ok(())
 }
 
-/// What a unit answers that is asked for the word of CONST in the worked cycle, and how many answers were wrong so far.
-fn turn(unit: &mut BadUnit) -> (Answer, u64) {
-    let given = unit.perform(&worked(1, Kind::Const, &Word::ZERO, &Word::ZERO, 1, 520168261));
-    (given, unit.wrong())
+/// Whether a unit that is asked for the word of CONST in the worked cycle gives this answer, after so many wrong ones with it.
+fn is_next(unit: &mut BadUnit, wanted: &Answer, wrong: u64) -> bool {
+    let call = worked(1, Kind::Const, &Word::ZERO, &Word::ZERO, 1, 520168261);
+    unit.perform(&call) == *wanted && unit.wrong() == wrong
 }
 
 #[test]
@@ -181,10 +181,10 @@ fn replaced_answers_are_given_once(rt: HostRuntime) -> Result<(), Fail> {
     unit.replace(0, Answer::Range)?;
     unit.replace(0, Answer::DivZero)?;
     unit.replace(1, right)?;
-    assert!(rt; turn(&mut unit) == (Answer::DivZero, 1));
-    assert!(rt; turn(&mut unit) == (right, 1));
-    assert!(rt; turn(&mut unit) == (Answer::Operand, 2));
-    assert!(rt; turn(&mut unit) == (right, 2));
+    assert!(rt; is_next(&mut unit, &Answer::DivZero, 1));
+    assert!(rt; is_next(&mut unit, &right, 1));
+    assert!(rt; is_next(&mut unit, &Answer::Operand, 2));
+    assert!(rt; is_next(&mut unit, &right, 2));
     assert!(rt; unit.entry(0).is_none());
     Ok(())
 }
