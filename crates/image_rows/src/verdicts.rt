@@ -90,6 +90,13 @@ $ inject m.img in.csv f.txt
 1 wrong 0 y got 5 want -5
 faults 1 same 0 wrong 1 ran-on 0 refused 0 stopped 0
 = 0
+# With the default seed they haven't.
+$ compile p.st
+> m.img
+$ inject m.img in.csv f.txt
+1 refused 0 y found 1345756419 expected 734916627
+faults 1 same 0 wrong 0 ran-on 0 refused 1 stopped 0
+= 0
 # A multiple of the wide A.
 $ compile lint.st --seed 0
 > m.img
