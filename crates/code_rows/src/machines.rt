@@ -16,7 +16,7 @@ use std::alloc::Global;
 use std::test::Fail;
 use vcp_base::{Kind, Memory, Profile, Row, Spot, Text, Ty};
 use worked_graphs::{counter, increment, on_dint};
-use worked_texts::{cells, same};
+use worked_texts::{cells, i64_of, same};
 
 /// An operation on LINT values, which reads `a` and `b`.
 fn on_lint(kind: Kind, a: u32, b: u32, imm: i64) -> Op
@@ -256,7 +256,7 @@ fn all_worded(alloc: Global, rows: &str) -> Result<(), Fail> {
     let graph = increment(alloc)?;
     for row in rows.lines() {
         let (x, wanted) = cells(row);
-        let values = row_of(alloc, x.parse()?)?;
+        let values = row_of(alloc, i64_of(x)?)?;
         let seen = three_cycles(alloc, &graph, &mut CpuUnit::new(), &values, &values)?;
         if shown(alloc, &seen)?.lines().next() != Some(wanted) {
             return Err(Fail::new(row));

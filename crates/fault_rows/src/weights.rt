@@ -1,11 +1,12 @@
-//! Weights of the counter, worked by hand.
+//! Weights of small graphs, worked by hand.
 
-use op_graph::Graph;
+use op_graph::{Build, Graph, GraphBuilder};
 use signature_table::Table;
 use std::alloc::Global;
 use std::test::Fail;
+use vcp_base::{Kind, Profile, Spot, Text, Ty};
 use weight_audit::weigh::weights;
-use worked_graphs::counter;
+use worked_graphs::{counter, on_dint};
 use worked_texts::same;
 
 /// Of each operation: its weight at the output and whether it is reached, in its own cycle and one cycle later.
@@ -36,4 +37,25 @@ fn shown(alloc: Global, graph: &Graph) -> Result<String, Fail> {
 #[test]
 fn a_counter_shows_each_difference_again_one_cycle_later(rt: HostRuntime) -> Result<(), Fail> {
     same(&shown(rt.alloc(), &counter(rt.alloc())?)?, WEIGHTS)
+}
+
+/// The graph of `y := x - (x + x)`: INPUT, ADD, SUB, OUT.
+fn difference(alloc: Global) -> Result<Graph, Build> {
+    let spot = Spot { line: 4, col: 8 };
+    let mut builder = GraphBuilder::new(alloc, Profile::Narrow);
+    builder.name(&Text::copy_of(alloc, b"y")?)?;
+    builder.name(&Text::copy_of(alloc, b"x")?)?;
+    let x = builder.input(1, Ty::Dint, spot)?;
+    let sum = builder.push(on_dint(Kind::Add, x, x, 0))?;
+    let rest = builder.push(on_dint(Kind::Sub, x, sum, 0))?;
+    builder.output(0, Ty::Dint, rest, spot)?;
+    Ok(builder.finish())
+}
+
+#[test]
+fn a_weight_below_zero_is_a_residue(rt: HostRuntime) -> Result<(), Fail> {
+    same(
+        &shown(rt.alloc(), &difference(rt.alloc())?)?,
+        "2147483646 true 0 false\n2147483646 true 0 false\n1 true 0 false\n1 true 0 false\n",
+    )
 }

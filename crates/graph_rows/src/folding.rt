@@ -13,7 +13,7 @@ use std::str::from_utf8;
 use std::test::Fail;
 use vcp_base::{Kind, Profile, Spot, Text, Ty, fits};
 use worked_graphs::listing;
-use worked_texts::{cells, same, word_off};
+use worked_texts::{cells, i64_of, same, word_off};
 
 /// An operation on INT values, which reads `a` and `b`.
 fn on_int(kind: Kind, a: u32, b: u32, imm: i64, col: u32) -> Op
@@ -73,7 +73,7 @@ fn all_folded(alloc: Global, rows: &str) -> Result<(), Fail> {
         let (sum, wanted) = cells(row);
         let (left, rest) = word_off(sum);
         let (sign, right) = word_off(rest);
-        let found = folded(alloc, sign == "/", left.parse()?, right.parse()?)?;
+        let found = folded(alloc, sign == "/", i64_of(left)?, i64_of(right)?)?;
         if from_utf8(&found)?.lines().nth(2) != Some(wanted) {
             return Err(Fail::new(row));
         }

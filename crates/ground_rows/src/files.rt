@@ -13,7 +13,7 @@ use vcp_outside::{
     Failed, Files, HostFiles, HostSink, MemFiles, MemSink, ReadAll, Sink, read_all,
     read_all_counting, write_all,
 };
-use worked_texts::{cells, repeated, word_off};
+use worked_texts::{cells, repeated, u32_of, word_off};
 
 /// Two files, one of which was put twice.
 fn put_twice(alloc: Global) -> Result<MemFiles, Fail> {
@@ -77,7 +77,7 @@ fn all_read(alloc: Global, rows: &str) -> Result<(), Fail> {
     for row in rows.lines() {
         let (read, wanted) = cells(row);
         let (name, limit) = word_off(read);
-        if shown(alloc, name, limit.parse()?)?.as_str() != wanted {
+        if shown(alloc, name, u32_of(limit)?)?.as_str() != wanted {
             return Err(Fail::new(row));
         }
     }

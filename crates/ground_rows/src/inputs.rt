@@ -16,7 +16,7 @@ fn columns_of(alloc: Global, list: &str) -> Result<Columns, Fail> {
         let (ty, name) = word_off(line);
         columns.push(Column {
             name: Text::copy_of(alloc, name.as_bytes())?,
-            ty: ty_named(ty).ok_or("no type")?,
+            ty: ty_named(ty)?,
         })?;
     }
     Ok(columns)

@@ -3,7 +3,7 @@
 use program_maker::make;
 use std::alloc::Global;
 use std::test::Fail;
-use worked_texts::cells;
+use worked_texts::{cells, u32_of};
 
 // The FNV-1a sum of bytes, of 64 bits.
 fn sum_of(bytes: &[u8]) -> u64 {
@@ -38,7 +38,7 @@ const MADE: &str = "\
 fn all_made(alloc: Global, rows: &str) -> Result<(), Fail> {
     for row in rows.lines() {
         let (number, wanted) = cells(row);
-        if shown(alloc, number.parse()?)?.as_str() != wanted {
+        if shown(alloc, u32_of(number)?)?.as_str() != wanted {
             return Err(Fail::new(row));
         }
     }

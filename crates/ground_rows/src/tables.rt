@@ -7,7 +7,7 @@ use vcp_base::{
     kind_code, kind_of_code, least, multiplier, operand_type, operands, same_name, stop_name,
     ty_code, ty_name, ty_of_code, within,
 };
-use worked_texts::{cells, kind_named, ty_named, word_off};
+use worked_texts::{cells, i128_of, kind_named, ty_named, word_off};
 
 /// Types, the least and the greatest value of each, and the values beside these, which are outside it.
 const RANGES: &str = "\
@@ -20,7 +20,7 @@ LINT -9223372036854775808 9223372036854775807 => -9223372036854775809 9223372036
 /// Two numbers with a blank between them.
 fn pair(text: &str) -> Result<(i128, i128), Fail> {
     let (a, b) = word_off(text);
-    Ok((a.parse()?, b.parse()?))
+    Ok((i128_of(a)?, i128_of(b)?))
 }
 
 /// Whether a type has this range.
@@ -35,7 +35,7 @@ fn all_ranges(rows: &str) -> Result<(), Fail> {
     for row in rows.lines() {
         let (range, outside) = cells(row);
         let (ty, inside) = word_off(range);
-        let ty = ty_named(ty).ok_or("no type")?;
+        let ty = ty_named(ty)?;
         if !is_range(ty, pair(inside)?, pair(outside)?) {
             return Err(Fail::new(row));
         }
@@ -88,7 +88,7 @@ fn shown(alloc: Global, kind: Kind) -> Result<String, Memory> {
 fn all_kinds(alloc: Global, rows: &str) -> Result<(), Fail> {
     for row in rows.lines() {
         let (name, wanted) = cells(row);
-        let kind = kind_named(name).ok_or("no kind")?;
+        let kind = kind_named(name)?;
         if shown(alloc, kind)?.as_str() != wanted {
             return Err(Fail::new(row));
         }

@@ -9,7 +9,7 @@ use std::alloc::Global;
 use std::test::Fail;
 use vcp_base::{Kind, Memory, Profile, Spot, Text, Ty};
 use worked_graphs::on_dint;
-use worked_texts::{cells, repeated, same, word_off};
+use worked_texts::{cells, repeated, same, usize_of, word_off};
 
 /// The image of `y := x + 1` with seed 0 and step 1.
 const PLUS_ONE: &[u8] = b"\
@@ -122,7 +122,7 @@ pub fn all_told(alloc: Global, image: &[u8], rows: &str) -> Result<(), Fail> {
         let (at, patch) = word_off(change);
         if !wanted.is_empty() {
             let patch = bytes_of(alloc, patch.as_bytes())?;
-            let bytes = patched(alloc, &image, at.parse()?, &patch)?;
+            let bytes = patched(alloc, &image, usize_of(at)?, &patch)?;
             is_told(alloc, row, &bytes, wanted)?;
         }
     }
@@ -220,7 +220,7 @@ fn wide_images_are_read(rt: HostRuntime) -> Result<(), Fail> {
 
 /// Fails with the first front of the bytes that isn't told to end where it ends.
 fn all_fronts_short(alloc: Global, image: &[u8]) -> Result<(), Fail> {
-    for n in 0..image.len() as u32 {
+    for n in 0..u32::try_from(image.len())? {
         let fault = fault_of(alloc, front(image, n as usize));
         if fault != Some(ImageFault::Short { at: n }) {
             return Err(Fail::new(n));

@@ -6,7 +6,7 @@ use std::alloc::Global;
 use std::test::Fail;
 use vcp_base::Memory;
 use vcp_outside::MemFiles;
-use worked_programs::{call, call_in, cells, is, play, word_off};
+use worked_programs::{call, call_in, cells, is, play, usize_of, word_off};
 
 /// The image of the sum with seed 0: the head, two names, an input, an output and four operations.
 const IMAGE: &[u8] = b"\
@@ -149,7 +149,8 @@ fn is_told(alloc: Global, files: &mut MemFiles, status_and_line: &str) -> Result
 fn changed_so(alloc: Global, change: &str) -> Result<Vec<u8>, Fail> {
     let (at, rest) = word_off(change);
     let (byte, length) = word_off(rest);
-    Ok(changed(alloc, at.parse()?, byte.parse()?, length.parse()?)?)
+    let byte = u8::try_from(usize_of(byte)?)?;
+    Ok(changed(alloc, usize_of(at)?, byte, usize_of(length)?)?)
 }
 
 /// Fails with the first of these changes that isn't told so by each command.

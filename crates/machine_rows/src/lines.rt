@@ -15,7 +15,7 @@ use std::str::from_utf8;
 use std::test::Fail;
 use vcp_base::{Column, Columns, Kind, Profile, Row, Spot, StopKind, Text, Turn, Turns, Ty, Words};
 use vcp_outside::{Failed, MemSink, Sink};
-use worked_texts::{cells, joined, repeated, same, word_off};
+use worked_texts::{cells, joined, repeated, same, u32_of, u64_of, word_off};
 
 fn columns(alloc: Global, names: &[&[u8]]) -> Result<Columns, Fail> {
     let mut columns = Columns::new(alloc);
@@ -314,7 +314,7 @@ fn all_answered(alloc: Global, rows: &str) -> Result<(), Fail> {
     for row in rows.lines() {
         let (asked, wanted) = cells(row);
         let (length, failing) = word_off(asked);
-        if answered(alloc, length.parse()?, failing.parse()?)?.as_str() != wanted {
+        if answered(alloc, u32_of(length)?, u64_of(failing)?)?.as_str() != wanted {
             return Err(Fail::new(row));
         }
     }

@@ -3,7 +3,7 @@
 use crate::shown::told;
 use std::alloc::Global;
 use std::test::Fail;
-use worked_texts::{cells, joined, put_repeated, repeated};
+use worked_texts::{cells, joined, put_repeated, repeated, u32_of};
 
 /// A text in which `{64 x}` stands for 64 times `x`.
 fn unrolled(alloc: Global, text: &str) -> Result<Vec<u8>, Fail> {
@@ -12,7 +12,7 @@ fn unrolled(alloc: Global, text: &str) -> Result<Vec<u8>, Fail> {
         match part.split_once('}') {
             Some((repeat, rest)) => {
                 let (times, repeated) = repeat.split_once(' ').ok_or("no number")?;
-                put_repeated(&mut out, repeated.as_bytes(), times.parse()?)?;
+                put_repeated(&mut out, repeated.as_bytes(), u32_of(times)?)?;
                 out.extend_from_slice(rest.as_bytes())?;
             }
             None => out.extend_from_slice(part.as_bytes())?,

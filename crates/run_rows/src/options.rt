@@ -5,7 +5,7 @@ use std::alloc::Global;
 use std::test::Fail;
 use vcp_base::Memory;
 use vcp_outside::MemFiles;
-use worked_programs::{ADD, COUNTER, call, cells, is, play, word_off};
+use worked_programs::{ADD, COUNTER, call, cells, is, play, u32_of, u64_of, word_off};
 
 /// A program with an input, one without, and rows.
 fn files(alloc: Global) -> Result<MemFiles, Memory> {
@@ -129,23 +129,23 @@ fn other_commands_are_none(rt: HostRuntime) -> Result<(), Fail> {
 
 /// Words behind `run p.st in.csv`, and the seed and step that they give.
 const CODES: &str = "\
+--seed 0 => 0 1
+--seed 1073741823 => 1073741823 1
+--seed 0000000007 => 7 1
+--step 1 => 305419896 1
+--step 1000 => 305419896 1000
+--step 0000000007 => 305419896 7
+--step 5 --seed 7 => 7 5
+--seed 7 --step 5 => 7 5
+--seed 1 --step 1 => 1 1
  => 305419896 1
- --seed 0 => 0 1
- --seed 1073741823 => 1073741823 1
- --seed 0000000007 => 7 1
- --step 1 => 305419896 1
- --step 1000 => 305419896 1000
- --step 0000000007 => 305419896 7
- --step 5 --seed 7 => 7 5
- --seed 7 --step 5 => 7 5
- --seed 1 --step 1 => 1 1
 ";
 
 /// The seed and the step by which `run p.st in.csv` with these words behind it gives its two rows. Operation 0 is an INPUT: its
 /// signature is the seed, and so is its correction.
 fn code_of(alloc: Global, code: &str) -> Result<(u64, u32), Fail> {
     let mut unit = LogUnit::new(alloc, 8)?;
-    let behind = format!(in alloc; "p.st in.csv{code}")?;
+    let behind = format!(in alloc; "p.st in.csv {code}")?;
     let given = call(alloc, &mut files(alloc)?, &mut unit, "run", &behind)?;
     let (first, _) = unit.entry(0).ok_or("no call")?;
     let (later, _) = unit.entry(4).ok_or("no call")?;
@@ -162,7 +162,7 @@ fn all_coded(alloc: Global, rows: &str) -> Result<(), Fail> {
     for row in rows.lines() {
         let (code, wanted) = cells(row);
         let (seed, step) = word_off(wanted);
-        if code_of(alloc, code)? != (seed.parse()?, step.parse()?) {
+        if code_of(alloc, code)? != (u64_of(seed)?, u32_of(step)?) {
             return Err(Fail::new(row));
         }
     }

@@ -5,7 +5,7 @@ use std::alloc::Global;
 use std::str::from_utf8;
 use std::test::Fail;
 use vcp_base::Memory;
-use worked_texts::{cells, joined, put_number, same, spelled};
+use worked_texts::{cells, joined, put_number, same, spelled, usize_of};
 
 /// Two declarations, in lines 2 and 3, and what is told of them.
 const ROWS: &str = r"VAR a : INT; END_VAR\nVAR b : INT; END_VAR => typed
@@ -61,7 +61,7 @@ fn slots(alloc: Global, declarations: &[u8]) -> Result<usize, Fail> {
 fn all_counted(alloc: Global, rows: &str) -> Result<(), Fail> {
     for row in rows.lines() {
         let (declarations, wanted) = cells(row);
-        if slots(alloc, &spelled(alloc, declarations)?)? != wanted.parse()? {
+        if slots(alloc, &spelled(alloc, declarations)?)? != usize_of(wanted)? {
             return Err(Fail::new(row));
         }
     }

@@ -26,8 +26,7 @@ fn all_sized(alloc: Global, front: &[u8], rows: &str) -> Result<(), Fail> {
 }
 
 /// Declarations, and the Size of a program of these alone: 2, and what the table of Size says of each variable.
-const DECLARATIONS: &str = "\
- => 2
+const DECLARATIONS: &str = " => 2
 VAR_INPUT x : INT; END_VAR => 3
 VAR_OUTPUT x : INT; END_VAR => 5
 VAR x : INT; END_VAR => 4

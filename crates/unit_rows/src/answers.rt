@@ -4,7 +4,7 @@ ghost use Rattle.std.specs.Prelude.{◌≡◌, ◌<◌, true};
 ghost use Rattle.vcp_base.specs.Code.{admits};
 ghost use Rattle.coded_unit.specs.Asked.{Asked};
 
-use crate::cases::{Case, case_of, word_answer, word_or_zero};
+use crate::cases::{Case, case_of, short, word_answer, word_or_zero};
 use coded_unit::table::answer;
 use coded_unit::{
     Answer, BadUnit, Call, CpuUnit, LogUnit, Unit, Word, right_answers_keep_the_step_law,
@@ -13,7 +13,7 @@ use coded_unit::{
 use std::alloc::Global;
 use std::test::Fail;
 use vcp_base::{Kind, Profile, Residue, Ty};
-use worked_texts::{cells, word_off};
+use worked_texts::{cells, i64_of, i128_of, word_off};
 
 /// The word of an answer; 0 where it has none.
 fn word_of(given: &Answer) -> Word {
@@ -211,9 +211,9 @@ fn of_values(case: &Case) -> Call
         kind: case.kind,
         from: narrow(case.from),
         ty: narrow(case.ty),
-        a: Word::packed(Profile::Narrow, a as i64 as i128, 10),
-        b: Word::packed(Profile::Narrow, b as i64 as i128, 20),
-        c: Word::packed(Profile::Narrow, c as i64 as i128, 30),
+        a: Word::packed(Profile::Narrow, short(a) as i128, 10),
+        b: Word::packed(Profile::Narrow, short(b) as i128, 20),
+        c: Word::packed(Profile::Narrow, short(c) as i128, 30),
         imm: -4,
         corr: 1000,
         stamp: 1,
@@ -325,8 +325,8 @@ fn all_shifted(rows: &str) -> Result<(), Fail> {
     for row in rows.lines() {
         let (asked, wanted) = cells(row);
         let (word, change) = word_off(asked);
-        let word = Word::new(word.parse()?).ok_or("no word")?;
-        if word.shift(change.parse()?).get() != wanted.parse()? {
+        let word = Word::new(i128_of(word)?).ok_or("no word")?;
+        if word.shift(i64_of(change)?).get() != i128_of(wanted)? {
             return Err(Fail::new(row));
         }
     }

@@ -3,7 +3,7 @@
 use coded_unit::{Answer, Word};
 use std::test::Fail;
 use vcp_base::{Kind, Ty};
-use worked_texts::{kind_named, ty_named, word_off};
+use worked_texts::{i128_of, kind_named, ty_named, word_off};
 
 /// A call of a row: its kind, the types of its operands and of its value, and the values of its operands.
 #[derive(Clone, Copy)]
@@ -14,11 +14,19 @@ pub struct Case {
     pub values: [i128; 3],
 }
 
+/// A value of 64 bits; 0 in the place of another one.
+pub fn short(value: i128) -> i64 {
+    match i64::try_from(value) {
+        Ok(short) => short,
+        Err(_) => 0,
+    }
+}
+
 /// Three numbers with a blank between them.
 fn numbers(text: &str) -> Result<[i128; 3], Fail> {
     let (a, rest) = word_off(text);
     let (b, c) = word_off(rest);
-    Ok([a.parse()?, b.parse()?, c.parse()?])
+    Ok([i128_of(a)?, i128_of(b)?, i128_of(c)?])
 }
 
 /// The call that is written so: `ADD INT DINT 1 2 0`.
@@ -27,9 +35,9 @@ pub fn case_of(text: &str) -> Result<Case, Fail> {
     let (from, rest) = word_off(rest);
     let (ty, rest) = word_off(rest);
     Ok(Case {
-        kind: kind_named(kind).ok_or("no kind")?,
-        from: ty_named(from).ok_or("no type")?,
-        ty: ty_named(ty).ok_or("no type")?,
+        kind: kind_named(kind)?,
+        from: ty_named(from)?,
+        ty: ty_named(ty)?,
         values: numbers(rest)?,
     })
 }
@@ -67,6 +75,5 @@ pub fn answer_of(text: &str, residue: u64) -> Result<Answer, Fail> {
     if let Some(stop) = stop_named(name) {
         return Ok(stop);
     }
-    let word: i128 = name.parse()?;
-    Ok(word_answer(word.wrapping_add(residue as i128)))
+    Ok(word_answer(i128_of(name)?.wrapping_add(residue as i128)))
 }

@@ -7,12 +7,12 @@ ghost use Rattle.vcp_base.specs.Code.{modulus};
 ghost use Rattle.vcp_base.specs.Limits.{most_stamp};
 
 use crate::answers::narrow;
-use crate::cases::{Case, answer_of, case_of, word_answer, word_or_zero};
+use crate::cases::{Case, answer_of, case_of, short, word_answer, word_or_zero};
 use coded_unit::table::answer;
 use coded_unit::{Answer, Call, Word};
 use std::test::Fail;
 use vcp_base::{Kind, Profile, Residue, Ty};
-use worked_texts::{cells, kind_named, word_off};
+use worked_texts::{cells, kind_named, usize_of, word_off};
 
 /// What a call carries beside its values: the residue of each operand, the correction and the stamp.
 #[derive(Clone, Copy)]
@@ -62,7 +62,7 @@ fn answer_at(case: &Case, carried: Carried) -> Answer
         a: word_at(a, carried.residue),
         b: word_at(b, carried.residue),
         c: word_at(c, carried.residue),
-        imm: a as i64,
+        imm: short(a),
         corr: carried.corr,
         stamp: carried.stamp,
     })
@@ -327,9 +327,9 @@ fn all_judged(rows: &str) -> Result<(), Fail> {
     for row in rows.lines() {
         let (name, rest) = word_off(row);
         let (operands, booleans) = word_off(rest);
-        let kind = kind_named(name).ok_or("no kind")?;
-        let operands = operands.parse()?;
-        let booleans = booleans.parse()?;
+        let kind = kind_named(name)?;
+        let operands = usize_of(operands)?;
+        let booleans = usize_of(booleans)?;
         if !is_judged_at_each(kind, operands, booleans) {
             return Err(Fail::new(row));
         }

@@ -11,7 +11,7 @@ use coded_unit::table::answer;
 use coded_unit::{Answer, Call, Word};
 use std::test::Fail;
 use vcp_base::{Kind, Profile, Residue, Ty};
-use worked_texts::{cells, kind_named, word_off};
+use worked_texts::{cells, i64_of, i128_of, kind_named, u64_of, word_off};
 
 /// The wide code has words of each type.
 fn is_admitted(ty: Ty) -> bool
@@ -116,10 +116,10 @@ fn worked_row(row: &str) -> Result<Answer, Fail> {
     let (a, rest) = word_off(rest);
     let (b, rest) = word_off(rest);
     let (imm, corr) = word_off(rest);
-    let kind = kind_named(kind).ok_or("no kind")?;
-    let words = [a.parse()?, b.parse()?];
-    let imm = imm.parse()?;
-    let corr: Residue = corr.parse()?;
+    let kind = kind_named(kind)?;
+    let words = [i128_of(a)?, i128_of(b)?];
+    let imm = i64_of(imm)?;
+    let corr = u64_of(corr)?;
     if corr >= 2305843009213693951 {
         return Err("no residue".into());
     }
@@ -130,7 +130,7 @@ fn worked_row(row: &str) -> Result<Answer, Fail> {
 fn all_worked(rows: &str) -> Result<(), Fail> {
     for row in rows.lines() {
         let (asked, wanted) = cells(row);
-        if worked_row(asked)? != word_answer(wanted.parse()?) {
+        if worked_row(asked)? != word_answer(i128_of(wanted)?) {
             return Err(Fail::new(row));
         }
     }
@@ -148,7 +148,7 @@ fn answer_of(text: &str) -> Result<Answer, Fail> {
         return Ok(stop);
     }
     let (value, residue) = word_off(text);
-    Ok(Answer::Word(word_at(value.parse()?, residue.parse()?)))
+    Ok(Answer::Word(word_at(i128_of(value)?, u64_of(residue)?)))
 }
 
 /// Fails with the first of these calls that has another answer.

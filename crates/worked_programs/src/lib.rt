@@ -8,5 +8,5 @@ pub use calls::{Given, Gives, is};
 pub use sessions::{USAGE, call, call_in, play, words_of};
 pub use worked_texts::{
     ADD, ADD_INT, ADD_LINT, COUNTER, CROSSING, POWER, cells, joined, repeated, same, spelled,
-    with_crlf, word_off,
+    u32_of, u64_of, usize_of, with_crlf, word_off,
 };

@@ -7,7 +7,7 @@ use std::test::Fail;
 use vcp_base::{Memory, Words};
 use vcp_core::vcp;
 use vcp_outside::{MemFiles, MemSink};
-use worked_texts::{spelled, word_off};
+use worked_texts::{spelled, u32_of, word_off};
 
 /// The line of errors where the words are none of the forms.
 pub const USAGE: &[u8] =
@@ -99,7 +99,8 @@ impl Call {
         if !line.is_empty() {
             line.push(b'\n')?;
         }
-        self.gives((&self.wanted, &line, status.parse()?))
+        let status = u8::try_from(u32_of(status)?)?;
+        self.gives((&self.wanted, &line, status))
     }
 
     /// Fails where it gave something else.

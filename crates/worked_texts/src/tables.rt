@@ -74,25 +74,50 @@ pub fn word_off(text: &str) -> (&str, &str) {
 }
 
 /// The kind of this name.
-pub fn kind_named(name: &str) -> Option<Kind> {
+pub fn kind_named(name: &str) -> Result<Kind, Fail> {
     for code in 0..19u8 {
         if let Some(kind) = kind_of_code(code)
             && kind_name(kind) == name.as_bytes()
         {
-            return Some(kind);
+            return Ok(kind);
         }
     }
-    None
+    Err(Fail::new(name))
 }
 
 /// The type of this name.
-pub fn ty_named(name: &str) -> Option<Ty> {
+pub fn ty_named(name: &str) -> Result<Ty, Fail> {
     for code in 0..4u8 {
         if let Some(ty) = ty_of_code(code)
             && ty_name(ty) == name.as_bytes()
         {
-            return Some(ty);
+            return Ok(ty);
         }
     }
-    None
+    Err(Fail::new(name))
+}
+
+/// The number of 32 bits that is written so.
+pub fn u32_of(text: &str) -> Result<u32, Fail> {
+    Ok(text.parse()?)
+}
+
+/// The number of 64 bits that is written so.
+pub fn u64_of(text: &str) -> Result<u64, Fail> {
+    Ok(text.parse()?)
+}
+
+/// The number of 64 bits with a sign that is written so.
+pub fn i64_of(text: &str) -> Result<i64, Fail> {
+    Ok(text.parse()?)
+}
+
+/// The number of 128 bits with a sign that is written so.
+pub fn i128_of(text: &str) -> Result<i128, Fail> {
+    Ok(text.parse()?)
+}
+
+/// The place or the length that is written so.
+pub fn usize_of(text: &str) -> Result<usize, Fail> {
+    Ok(text.parse()?)
 }
