@@ -3,8 +3,6 @@
 #![tactic(auto)]
 
 #[cfg(test)]
-mod listing;
-#[cfg(test)]
 mod listings;
 #[cfg(test)]
 mod running;
