@@ -34,7 +34,7 @@ fn typed_as(alloc: Global, variables: &str, expression: &[u8]) -> Result<Vec<u8>
     for row in variables.lines() {
         let (variable, ty) = word_off(row);
         last = assigned(alloc, variable.as_bytes(), expression)?;
-        if last.as_slice() == b"typed" {
+        if last.as_slice() == b"typed".as_slice() {
             return Ok(Vec::from_slice(alloc, ty.as_bytes())?);
         }
     }

@@ -76,16 +76,16 @@ fn call_each(alloc: Global, files: &mut MemFiles, line: &str) -> Result<Given, F
 
 /// A call that a session is at: its line, what it gave, and the lines that are wanted of its output so far.
 #[derive(Drop)]
-struct Call {
+struct Open {
     line: String,
     given: Given,
     wanted: Vec<u8>,
 }
 
-impl Call {
+impl Open {
     /// The call of a line.
-    fn new(alloc: Global, files: &mut MemFiles, line: &str) -> Result<Call, Fail> {
-        Ok(Call {
+    fn new(alloc: Global, files: &mut MemFiles, line: &str) -> Result<Open, Fail> {
+        Ok(Open {
             line: String::from_str(alloc, line)?,
             given: call_each(alloc, files, line)?,
             wanted: Vec::new(alloc),
@@ -131,9 +131,9 @@ pub fn play(alloc: Global, files: &mut MemFiles, session: &str) -> Result<(), Fa
 fn step(
     alloc: Global,
     files: &mut MemFiles,
-    call: Option<Call>,
+    call: Option<Open>,
     line: &str,
-) -> Result<Option<Call>, Fail> {
+) -> Result<Option<Open>, Fail> {
     if line.starts_with("# ") {
         return Ok(call);
     }
@@ -143,7 +143,7 @@ fn step(
         return Ok(None);
     }
     if let Some(words) = line.strip_prefix("$ ") {
-        return Ok(Some(Call::new(alloc, files, words)?));
+        return Ok(Some(Open::new(alloc, files, words)?));
     }
     let mut call = call.ok_or("no call")?;
     if line == "= usage" {
