@@ -5,6 +5,8 @@
 #[cfg(test)]
 mod calls;
 #[cfg(test)]
+mod demo;
+#[cfg(test)]
 mod failing;
 #[cfg(test)]
 mod lint;
