@@ -5,8 +5,6 @@
 #[cfg(test)]
 mod faults;
 #[cfg(test)]
-mod listing;
-#[cfg(test)]
 mod listings;
 #[cfg(test)]
 mod running;
