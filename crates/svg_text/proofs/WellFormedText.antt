@@ -64,6 +64,8 @@ attribute_is_name name.Operation = refl
 attribute_is_name name.Operand = refl
 attribute_is_name name.Reader = refl
 attribute_is_name name.Place = refl
+attribute_is_name name.Column = refl
+attribute_is_name name.Cycle = refl
 
 attribute_then : (n value more : List ℕ)
     → (codes " " ++ (n ++ (codes "=\"" ++ (value ++ codes "\"")))) ++ more ≡ codes " " ++ (n ++ (codes "=\"" ++ (value ++ (codes "\"" ++ more))))

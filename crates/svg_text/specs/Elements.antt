@@ -30,6 +30,8 @@ attribute_name name.Operation = codes "data-operation"
 attribute_name name.Operand = codes "data-operand"
 attribute_name name.Reader = codes "data-reader"
 attribute_name name.Place = codes "data-place"
+attribute_name name.Column = codes "data-column"
+attribute_name name.Cycle = codes "data-cycle"
 
 -- an attribute: its name, and its value in pieces
 pub record Attribute : Type 0 where

@@ -51,6 +51,10 @@ pub enum Name {
     Reader,
     /// Which operand of the reader it is, counted from 0.
     Place,
+    /// The number of the column that a value stands in, counted from 0.
+    Column,
+    /// The cycle that a value is of.
+    Cycle,
 }
 
 /// The name of an element.
@@ -86,5 +90,7 @@ pub(crate) fn attribute_name(name: Name) -> &'static [u8]
         Name::Operand => b"data-operand",
         Name::Reader => b"data-reader",
         Name::Place => b"data-place",
+        Name::Column => b"data-column",
+        Name::Cycle => b"data-cycle",
     }
 }
