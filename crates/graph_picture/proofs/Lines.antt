@@ -1,6 +1,6 @@
 -- Lines: each pair of an operand and its reader has one line.
-use Rattle.std.proofs.Common.{◌≡◌, ◌≢◌, ◌⊎◌, inl, inr, ℕ, zero, suc, ◌+◌, ◌<◌, ◌≤◌, ◌==◌, ◌&&◌, Bool, true, false, cond, List, [], ◌∷◌, ◌++◌, length}
-use Rattle.std.proofs.Common.{Some, slice_get, refl, sym, ap, ap₂, ◌∙◌, arith}
+use Rattle.std.proofs.Common.{◌≡◌, ◌≢◌, inl, inr, ℕ, zero, suc, ◌+◌, ◌<◌, ◌≤◌, ◌==◌, ◌&&◌, Bool, true, false, cond, List, [], ◌∷◌, ◌++◌, length}
+use Rattle.std.proofs.Common.{Some, slice_get, refl, ap, ap₂, ◌∙◌, arith}
 use Rattle.std.proofs.lemmas.Bool.{cases_order, eq-eqb, eqb-true, false≢true}
 use Rattle.std.proofs.lemmas.Option.{slice_get_within}
 use Rattle.std.specs.Option.{is_some}
@@ -10,7 +10,7 @@ use Rattle.op_graph.specs.Reads.{named, Reads}
 use Rattle.op_graph.specs.Rules.{reads_as}
 use Rattle.graph_picture.specs.declared.layout.Place.{Place}
 use Rattle.graph_picture.specs.Arrangement.{place_at}
-use Rattle.graph_picture.specs.Drawn.{Wire, each_below, wire_of, wires_of, wires_at, wires_below}
+use Rattle.graph_picture.specs.Drawn.{Wire, wire_of, wires_of, wires_at, wires_below}
 use Rattle.graph_picture.specs.Whole.{is_line, times, DrawsReads}
 use Rattle.graph_picture.proofs.WholeDrawing.{there_is}
 

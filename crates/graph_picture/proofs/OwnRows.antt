@@ -1,11 +1,10 @@
 -- OwnRows: each box of a column has a row of its own.
-use Rattle.std.proofs.Common.{◌≡◌, ◌≢◌, ◌⊎◌, inl, inr, ℕ, zero, suc, ◌+◌, ◌*◌, ◌<◌, ◌≤◌, List, [], ◌∷◌, ◌++◌, length, replicate, Option, Some, None, slice_get}
+use Rattle.std.proofs.Common.{◌≡◌, ◌≢◌, ◌⊎◌, inl, inr, ℕ, zero, suc, ◌+◌, ◌<◌, ◌≤◌, List, [], ◌∷◌, ◌++◌, length, replicate, Some, slice_get}
 use Rattle.std.proofs.Common.{slice_index_or, slice_set, refl, sym, ap, ◌∙◌, arith, length-append}
 use Rattle.std.proofs.lemmas.Bool.{cases_order}
 use Rattle.std.proofs.lemmas.List.{get_or-set_same, get_or-set_other, get_or-replicate, get_or_past, length-replicate}
-use Rattle.op_graph.specs.Lists.{Lists}
 use Rattle.graph_picture.specs.declared.layout.Place.{Place}
-use Rattle.graph_picture.specs.Arrangement.{Arrangement, HaveOwnRows, DontOverlap, IsArranged, left_of, top_of}
+use Rattle.graph_picture.specs.Arrangement.{HaveOwnRows}
 
 -- what is known of the next row of each column while places are given: it is below those of the column
 pub record IsFilled (next : List ℕ) (places : List Place) : Type 0 where
@@ -110,18 +109,3 @@ module _ (next : List ℕ) (places : List Place) (p : Place) (filled : IsFilled 
 -- the row of a box is below the number of them
 pub below_count : (next : List ℕ) (places : List Place) → IsFilled next places → (k : ℕ) (p : Place) → slice_get places k ≡ Some p → p.row ≤ length places
 below_count next places filled k p there = omega (arith, filled.under k p there, filled.few p.column)
-
--- boxes in rows of their own don't overlap
-beside : (p q : Place) → p.row ≢ q.row → DontOverlap p q
-beside p q ne =
-    elim (cases_order p.row q.row) [
-      | inl e ↦ absurd (ne e)
-      | inr (inl l) ↦ inl (omega (arith, l))
-      | inr (inr l) ↦ inr (omega (arith, l))
-    ]
-
-pub arranged : (g : Lists) (a : Arrangement) → length a.places ≡ length g.operations → HaveOwnRows a.places → IsArranged g a
-arranged g a many own = record {
-  many = many;
-  apart = λ i j p q e f ne same. beside p q (own i j p q e f ne (omega (arith, same)));
-}

@@ -1,9 +1,8 @@
 -- WholeDrawing: each operation has one box, and each pair of an operand and its reader one line.
-use Rattle.std.proofs.Common.{◌≡◌, ◌≢◌, ◌⊎◌, inl, inr, ℕ, zero, suc, ◌+◌, ◌<◌, ◌≤◌, ◌==◌, ◌&&◌, Bool, true, false, cond, List, [], ◌∷◌, ◌++◌, length}
-use Rattle.std.proofs.Common.{Option, Some, None, slice_get, refl, sym, ap, ap₂, ◌∙◌, arith, length-append}
-use Rattle.std.proofs.lemmas.Bool.{cases_order, eq-eqb, eqb-true}
-use Rattle.std.proofs.lemmas.Option.{slice_get_within, none-some}
-use Rattle.std.specs.Option.{is_some}
+use Rattle.std.proofs.Common.{◌≡◌, inl, inr, ℕ, zero, suc, ◌+◌, ◌<◌, List, [], ◌∷◌, ◌++◌, length}
+use Rattle.std.proofs.Common.{Some, slice_get, refl, sym, ap, ◌∙◌, arith, length-append}
+use Rattle.std.proofs.lemmas.Bool.{cases_order}
+use Rattle.std.proofs.lemmas.Option.{slice_get_within}
 use Rattle.op_graph.specs.declared.op.Op.{Op}
 use Rattle.op_graph.specs.Lists.{Lists}
 use Rattle.weight_audit.specs.Audit.{Audit, IsAudit}
@@ -11,8 +10,8 @@ use Rattle.audit_report.specs.AuditText.{TellsBlind}
 use Rattle.graph_picture.specs.declared.layout.Place.{Place}
 use Rattle.graph_picture.specs.Arrangement.{place_at}
 use Rattle.graph_picture.specs.Colours.{colour_of}
-use Rattle.graph_picture.specs.Drawn.{Box, each_below, box_of, box_drawn, box_at, boxes_below}
-use Rattle.graph_picture.specs.Whole.{IsBoxOf, DrawsOperations}
+use Rattle.graph_picture.specs.Drawn.{each_below, box_of, box_drawn, box_at, boxes_below}
+use Rattle.graph_picture.specs.Whole.{DrawsOperations}
 use Rattle.graph_picture.proofs.Seen.{coloured_so}
 
 -- ---- boxes

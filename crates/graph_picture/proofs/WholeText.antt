@@ -1,5 +1,5 @@
 -- WholeText: no element of a picture has an attribute twice.
-use Rattle.std.proofs.Common.{◌≡◌, ℕ, List, [], ◌∷◌, ◌++◌, flat_map, codes, decimal, refl}
+use Rattle.std.proofs.Common.{ℕ, List, [], ◌∷◌, ◌++◌, flat_map, codes, refl}
 use Rattle.std.specs.List.{AllByRecursion}
 use Rattle.vcp_base.specs.declared.kind.Kind.{Kind}
 use Rattle.vcp_base.specs.declared.kind.Kind.TheVariants as kind
@@ -9,7 +9,7 @@ use Rattle.svg_text.specs.WellFormed.{HasEachOnce}
 use Rattle.graph_picture.specs.declared.colours.Colour.{Colour}
 use Rattle.graph_picture.specs.declared.colours.Colour.TheVariants as colour
 use Rattle.graph_picture.specs.declared.layout.Place.{Place}
-use Rattle.graph_picture.specs.Drawn.{Box, Wire, Drawing}
+use Rattle.graph_picture.specs.Drawn.{Box, Drawing}
 use Rattle.graph_picture.specs.Elements.{blindness, cell_bar, box_elements, wire_elements, sample, legend, drawing_elements}
 
 abbrev All : List Element → Type 0

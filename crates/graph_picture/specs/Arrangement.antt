@@ -38,7 +38,16 @@ HaveOwnRows places =
 abbrev pub DontOverlap : Place → Place → Type 0
 DontOverlap p q = (top_of p + box_height < top_of q) ⊎ (top_of q + box_height < top_of p)
 
--- each operation has a place, and no two boxes of a column overlap
+-- a place is in no later column and no later row than this one
+abbrev pub IsWithin : Place → Place → Type 0
+IsWithin corner p = (p.column ≤ corner.column) × (p.row ≤ corner.row)
+
+-- a box is inside the picture
+abbrev pub IsInside : Arrangement → Place → Type 0
+IsInside a p = (left_of p + box_width ≤ a.width) × (top_of p + box_height ≤ a.height)
+
+-- each operation has a place, its box is inside the picture, and no two boxes of a column overlap
 pub record IsArranged (g : Lists) (a : Arrangement) : Type 0 where
   pub many : length a.places ≡ length g.operations
+  pub inside : (i : ℕ) (p : Place) → slice_get a.places i ≡ Some p → IsInside a p
   pub apart : (i j : ℕ) (p q : Place) → slice_get a.places i ≡ Some p → slice_get a.places j ≡ Some q → i ≢ j → left_of p ≡ left_of q → DontOverlap p q

@@ -8,7 +8,7 @@ use Rattle.op_graph.specs.Lists.{Lists}
 use Rattle.weight_audit.specs.Audit.{Audit, IsAudit}
 use Rattle.svg_text.specs.declared.names.Tag.TheVariants as tag
 use Rattle.svg_text.specs.declared.names.Name.TheVariants as name
-use Rattle.svg_text.specs.Elements.{Attribute, Element, attribute, element, picture_text}
+use Rattle.svg_text.specs.Elements.{Element, attribute, element, picture_text}
 use Rattle.graph_picture.specs.declared.colours.Colour.{Colour}
 use Rattle.graph_picture.specs.declared.colours.Colour.TheVariants as colour
 use Rattle.graph_picture.specs.declared.layout.Place.{Place}

@@ -3,13 +3,10 @@ use Rattle.std.specs.Prelude.{◌≡◌, ◌<◌, ℕ, ◌+◌, ◌==◌, ◌&&�
 use Rattle.op_graph.specs.declared.op.Op.{Op}
 use Rattle.op_graph.specs.Lists.{Lists}
 use Rattle.op_graph.specs.Reads.{Reads}
-use Rattle.weight_audit.specs.Audit.{Audit, IsAudit}
-use Rattle.svg_text.specs.WellFormed.{IsDocument}
 use Rattle.graph_picture.specs.declared.layout.Place.{Place}
-use Rattle.graph_picture.specs.Arrangement.{Arrangement, place_at}
+use Rattle.graph_picture.specs.Arrangement.{place_at}
 use Rattle.graph_picture.specs.Colours.{IsColour}
-use Rattle.graph_picture.specs.Drawn.{Box, Wire, Drawing, drawing, own_of}
-use Rattle.graph_picture.specs.Elements.{graph_text}
+use Rattle.graph_picture.specs.Drawn.{Box, Wire, Drawing, own_of}
 
 -- the box of operation n: with its number, what it is, its own name or value, the colour that paths and weights say, and at its place
 pub record IsBoxOf (g : Lists) (horizon : ℕ) (places : List Place) (n : ℕ) (op : Op) (b : Box) : Type 0 where

@@ -17,7 +17,7 @@ pub(crate) fn greater(a: u32, b: u32) -> u32
 }
 
 /// The greatest of these numbers, and 0 where there are none.
-pub(crate) fn greatest_of(numbers: &[u32]) -> u32 {
+fn greatest_of(numbers: &[u32]) -> u32 {
     let mut greatest = 0;
     'numbers: for i in 0..numbers.len() {
         greatest = greater(greatest, numbers[i]);

@@ -1,10 +1,10 @@
 //! Where the boxes of operations stand.
 
-ghost use Rattle.std.specs.Prelude.{◌≡◌, ◌<◌, ◌^◌, IfOk};
+ghost use Rattle.std.specs.Prelude.{◌≡◌, ◌<◌, ◌≤◌, ◌^◌, IfOk};
 ghost use Rattle.graph_picture.specs.Arrangement.{left_of, top_of, place_at, IsArranged};
 
-use crate::columns::{columns_of, greatest_of};
-use crate::rows::{greatest_row, places_in};
+use crate::columns::columns_of;
+use crate::rows::{corner, places_in};
 use op_graph::Graph;
 use std::alloc::Global;
 use std::marker::Model;
@@ -78,23 +78,22 @@ impl Layout {
 }
 
 /// The least width in which the legend has room, and a greater one as it is.
-fn with_legend(width: u64) -> u64 {
+fn with_legend(width: u64) -> u64
+    ensures { width ≤ result }
+{
     if width < 980 { 980 } else { width }
 }
 
 /// The places of the boxes of a graph's operations: in columns by depth, a constant before those that
 /// read it, what leaves the cycle in the last column; in the row of the first operand, or below it
-/// where boxes of the column stand there. No two of a column overlap. The time is linear in the number
+/// where boxes of the column stand there. Each is inside the picture, and no two of a column overlap. The time is linear in the number
 /// of operations.
 pub fn layout_of(alloc: Global, graph: &Graph) -> Result<Layout, Memory>
     ensures { IfOk result (IsArranged graph.now) }
 {
     let columns = columns_of(alloc, graph)?;
     let places = places_in(alloc, graph, columns.as_slice())?;
-    let end = Place {
-        column: greatest_of(columns.as_slice()),
-        row: greatest_row(places.as_slice()),
-    };
+    let end = corner(places.as_slice());
     Ok(Layout {
         places,
         width: with_legend(left(end) + 62),

@@ -2,7 +2,7 @@
 
 ghost use Rattle.std.specs.Prelude.{◌≡◌, ◌<◌, ◌≤◌, ◌^◌, ◌+◌, ℕ, length, slice_get, slice_index_or, slice_set, replicate, Some, IfOk};
 ghost use Rattle.graph_picture.specs.declared.layout.Place.{Place as PlaceOf};
-ghost use Rattle.graph_picture.specs.Arrangement.{HaveOwnRows};
+ghost use Rattle.graph_picture.specs.Arrangement.{HaveOwnRows, IsWithin};
 
 use crate::columns::greater;
 use crate::layout::Place;
@@ -12,13 +12,17 @@ use std::marker::Model;
 use vcp_base::Memory;
 use weight_audit::reads_operation;
 
-/// The greatest row of these places, and 0 where there are none.
-pub(crate) fn greatest_row(places: &[Place]) -> u32 {
-    let mut greatest = 0;
+/// The greatest column and the greatest row of these places, and 0 where there are none.
+pub(crate) fn corner(places: &[Place]) -> Place
+    ensures { (i : ℕ) (p : PlaceOf) → slice_get places.now i ≡ Some p → IsWithin result p }
+{
+    let mut column = 0;
+    let mut row = 0;
     'places: for i in 0..places.len() {
-        greatest = greater(greatest, places[i].row);
+        column = greater(column, places[i].column);
+        row = greater(row, places[i].row);
     }
-    greatest
+    Place { column, row }
 }
 
 /// A column, and the last one in the place of a later one.

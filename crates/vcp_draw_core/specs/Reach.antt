@@ -1,5 +1,5 @@
 -- Reach: how far a command comes before its fault's line, if there is one, is printed.
-use Rattle.std.specs.Prelude.{ℕ, ◌≡◌, ◌⊎◌, ◌<◌, ◌≤◌, List, [], ◌++◌, length, Option, Some, None, Result, Ok, Err, codes}
+use Rattle.std.specs.Prelude.{ℕ, ◌≡◌, ◌⊎◌, ◌<◌, ◌≤◌, List, [], length, Option, Some, None, Result, Ok, Err}
 use Rattle.std.specs.Io.KnownBytes.{Appends}
 use Rattle.vcp_base.specs.Limits.{most_image_bytes}
 use Rattle.vcp_outside.specs.Counts.{Rose}
@@ -13,7 +13,7 @@ use Rattle.vcp_inputs.specs.declared.refusal.Refusal.{Refusal}
 use Rattle.vcp_inputs.specs.declared.refusal.Refusal.TheVariants as refusal
 use Rattle.vcp_inputs.specs.Files.{IsRefused}
 use Rattle.vcp_inputs.specs.Images.{ImageOf, NotImage}
-use Rattle.vcp_inputs.specs.Lines.{refusal_text, memory_text}
+use Rattle.vcp_inputs.specs.Lines.{memory_text, write_fault_text, input_text, input_status}
 use Rattle.graph_picture.specs.Elements.{IsPictureOf}
 use Rattle.vcp_draw_core.specs.declared.fault.Fault.{Fault}
 use Rattle.vcp_draw_core.specs.declared.fault.Fault.TheVariants as fault
@@ -56,21 +56,10 @@ IsUnread (fault.Source i) = i ≡ input.Unread
 IsUnread fault.Write = ⊥
 IsUnread fault.Memory = ⊥
 
--- the line where there is nothing of the file under a name, and the status
-abbrev pub input_text : List ℕ → NoInput → List ℕ
-input_text name input.Unread = name ++ codes " read fault\n"
-input_text name (input.Refused r) = refusal_text name r
-input_text name input.Memory = memory_text
-
-abbrev pub input_status : NoInput → ℕ
-input_status input.Unread = 5
-input_status (input.Refused r) = 1
-input_status input.Memory = 7
-
 -- the line of a fault, and the status
 abbrev pub fault_text : List ℕ → Fault → List ℕ
 fault_text name (fault.Source i) = input_text name i
-fault_text name fault.Write = codes "write fault\n"
+fault_text name fault.Write = write_fault_text
 fault_text name fault.Memory = memory_text
 
 abbrev pub fault_status : Fault → ℕ

@@ -3,14 +3,15 @@
 ghost use Rattle.std.specs.Prelude.{◌≡◌, ◌≢◌, ◌≤◌, ◌⊎◌, IfSome, None};
 ghost use Rattle.std.specs.Io.KnownBytes.{IsAtEnd};
 ghost use Rattle.vcp_outside.specs.Counts.{Rose};
-ghost use Rattle.vcp_draw_core.specs.Forms.{form, form_of, IsSound};
+ghost use Rattle.vcp_base.specs.Limits.{most_horizon};
+ghost use Rattle.vcp_draw_core.specs.Forms.{form, form_of, graph, IsSound};
 ghost use Rattle.vcp_draw_core.specs.Answered.{Answered, TellsUsage};
 
 use crate::command::{Command, command_of};
 use crate::graph::graph_command;
 use crate::telling::{fault_status, tell, tell_usage};
 use std::alloc::Global;
-use vcp_base::Words;
+use vcp_base::{Text, Words};
 use vcp_outside::{Failed, Files, Sink};
 
 /// Does all that the program does, and answers its status: what the words say, on the files, writing
@@ -73,8 +74,31 @@ fn serve<F: Files, O: Sink, E: Sink>(
     ensures read { result ≡ 5 → Rose (F.faults files.old) (F.faults files.new) }
     ensures write { result ≡ 6 → Rose (O.faults out.old) (O.faults out.new) ⊎ Rose (E.faults err.old) (E.faults err.new) }
 {
-    let Command::Graph { image, horizon } = command;
-    match graph_command(alloc, image, *horizon, files, out) {
+    match command {
+        Command::Graph { image, horizon } => serve_graph(alloc, image, *horizon, files, out, err),
+    }
+}
+
+/// Does what the words `graph M HORIZON` say and, where it ends by a fault, tells the fault's line.
+fn serve_graph<F: Files, O: Sink, E: Sink>(
+    alloc: Global,
+    image: &Text,
+    horizon: u32,
+    files: &mut F,
+    out: &mut O,
+    err: &mut E,
+) -> u8
+    requires horizon { horizon ≤ most_horizon }
+    ensures answered { IfSome (F.held files.old) (λ h. Answered (graph image.now horizon) h (O.written out.old) (O.written out.new)
+        (E.written err.old) (E.written err.new) (E.faults err.old) (E.faults err.new) (F.broken files.old) (F.broken files.new) result) }
+    ensures no_usage { result ≢ 4 }
+    ensures known { result ≤ 7 }
+    ensures held { F.held files.new ≡ F.held files.old }
+    ensures ended { result ≡ 0 → IsAtEnd (F.rest files.new) }
+    ensures read { result ≡ 5 → Rose (F.faults files.old) (F.faults files.new) }
+    ensures write { result ≡ 6 → Rose (O.faults out.old) (O.faults out.new) ⊎ Rose (E.faults err.old) (E.faults err.new) }
+{
+    match graph_command(alloc, image, horizon, files, out) {
         Ok(()) => 0,
         Err(fault) => match tell(err, image.bytes(), &fault) {
             Ok(()) => fault_status(&fault),

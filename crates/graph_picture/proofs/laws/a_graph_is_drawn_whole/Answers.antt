@@ -1,4 +1,4 @@
-use Rattle.std.proofs.Common.{length, ◌+◌}
+use Rattle.std.proofs.Common.{◌+◌}
 use Rattle.graph_picture.specs.Drawn.{drawing}
 use Rattle.graph_picture.specs.Elements.{drawing_elements}
 use Rattle.graph_picture.proofs.Lines.{draws_reads}

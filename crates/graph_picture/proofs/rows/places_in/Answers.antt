@@ -1,4 +1,4 @@
-use Rattle.std.proofs.Common.{◌≡◌, ◌+◌, ◌<◌, ◌≤◌, ◌∷◌, [], ◌++◌, length, replicate, slice_index_or, arith, refl, ◌∙◌, length-append}
+use Rattle.std.proofs.Common.{◌≡◌, ◌+◌, ◌<◌, ◌≤◌, ◌∷◌, [], ◌++◌, length, slice_index_or, arith, refl, length-append}
 use Rattle.std.proofs.lemmas.List.{length-set, length-replicate}
 use Rattle.graph_picture.proofs.OwnRows.{begun, below_count, filled_more}
 use Rattle.graph_picture.proofs.rows.places_in.Goals as goal
