@@ -3,6 +3,8 @@
 #![tactic(auto)]
 
 #[cfg(test)]
+mod demo;
+#[cfg(test)]
 mod failing;
 #[cfg(test)]
 mod lint;
