@@ -2,7 +2,8 @@
 //! inputs.
 //!
 //! A file's records are those that `csv` gives, the first of them the header. Rows are taken one by
-//! one, in the order of the columns, or all kept in a list.
+//! one, in the order of the columns, or all kept in a list. `Records` gives the records of any such
+//! text.
 #![tactic(auto)]
 
 mod all_rows;
@@ -19,5 +20,6 @@ mod wanted;
 
 pub use fault::RowFault;
 pub use laws::order_has_each_place;
+pub use records::{Records, field};
 pub use row_list::{RowList, collect_rows};
 pub use rows::Rows;
