@@ -19,5 +19,6 @@ mod wanted;
 
 pub use fault::RowFault;
 pub use laws::order_has_each_place;
+pub use records::{Records, field};
 pub use row_list::{RowList, collect_rows};
 pub use rows::Rows;

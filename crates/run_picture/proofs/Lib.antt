@@ -1,0 +1,4 @@
+mod Going
+mod Reading
+mod WholeDrawing
+mod WholeText

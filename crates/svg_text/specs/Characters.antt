@@ -1,0 +1,28 @@
+-- Characters: how the characters of a text are written in a picture.
+use Rattle.std.specs.Prelude.{ℕ, List, [], ◌∷◌, Bool, cond, not, ◌&&◌, ◌==◌, nat_le, codes, decimal, flat_map}
+use Rattle.std.specs.Fmt.{signed_decimal}
+use Rattle.svg_text.specs.declared.characters.Piece.{Piece}
+use Rattle.svg_text.specs.declared.characters.Piece.TheVariants as piece
+
+-- a byte that is written as it is: a character of ASCII from the space to `~`, but none of < > & " '
+abbrev pub is_plain : ℕ → Bool
+is_plain b = nat_le 32 b && nat_le b 126 && not (b == 60) && not (b == 62) && not (b == 38) && not (b == 34) && not (b == 39)
+
+-- what is written in the place of another byte: its reference, or that of the replacement character
+abbrev pub reference : ℕ → List ℕ
+reference b =
+    cond (b == 60) (codes "&lt;") (cond (b == 62) (codes "&gt;") (cond (b == 38) (codes "&amp;") (cond (b == 34) (codes "&quot;")
+    (cond (b == 39) (codes "&#39;") (codes "&#65533;")))))
+
+abbrev pub escape : ℕ → List ℕ
+escape b = cond (is_plain b) (b ∷ []) (reference b)
+
+-- bytes as they are written
+abbrev pub escaped : List ℕ → List ℕ
+escaped bytes = flat_map escape bytes
+
+-- the bytes of a piece
+abbrev pub piece_bytes : Piece → List ℕ
+piece_bytes (piece.Bytes bytes) = bytes.now
+piece_bytes (piece.Count n) = decimal n
+piece_bytes (piece.Value v) = signed_decimal v

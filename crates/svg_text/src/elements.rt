@@ -1,0 +1,95 @@
+//! Elements, written one after another inside one that is the picture.
+
+ghost use Rattle.std.specs.Prelude.{◌≡◌, map, flat_map, ◌++◌, codes, ℕ, List, Option};
+ghost use Rattle.vcp_outside.specs.Written.{Writes};
+ghost use Rattle.run_report.specs.Gathering.{IsGathered, Gathers};
+ghost use Rattle.svg_text.specs.Characters.{piece_bytes};
+ghost use Rattle.svg_text.specs.Elements.{attribute_text, attribute_of, given_text, element, element_text, beginning, ending};
+
+use crate::characters::{Piece, then_pieces};
+use crate::names::{Name, Tag, attribute_name, tag_name};
+use run_report::Line;
+use vcp_outside::{Failed, Sink};
+
+/// Goes on with an attribute, after a space.
+fn then_attribute<O: Sink>(line: &mut Line, out: &mut O, name: Name, value: &[Piece<'_>])
+    ensures { Gathers (O.written out.old) (O.written out.new) (O.faults out.old) (O.faults out.new) line.old line.new
+        (attribute_text (record { name = name; value = map piece_bytes value.now })) }
+{
+    line.text(out, b" ");
+    line.text(out, attribute_name(name));
+    line.text(out, b"=\"");
+    then_pieces(line, out, value);
+    line.text(out, b"\"");
+}
+
+/// Goes on with attributes, each after a space.
+fn then_attributes<O: Sink>(line: &mut Line, out: &mut O, attributes: &[(Name, Piece<'_>)])
+    ensures { Gathers (O.written out.old) (O.written out.new) (O.faults out.old) (O.faults out.new) line.old line.new
+        (flat_map given_text attributes.now) }
+{
+    'attributes: for i in 0..attributes.len() {
+        let (name, value) = attributes[i];
+        then_attribute(line, out, name, &[value]);
+    }
+}
+
+/// Goes on with an element: its tag, its attributes, none of them twice, and its characters.
+pub fn then_element<O: Sink>(
+    line: &mut Line,
+    out: &mut O,
+    tag: Tag,
+    attributes: &[(Name, Piece<'_>)],
+    content: &[Piece<'_>],
+)
+    ensures { Gathers (O.written out.old) (O.written out.new) (O.faults out.old) (O.faults out.new) line.old line.new
+        (element_text (element tag (map attribute_of attributes.now) (map piece_bytes content.now))) }
+{
+    line.text(out, b"<");
+    line.text(out, tag_name(tag));
+    then_attributes(line, out, attributes);
+    line.text(out, b">");
+    then_pieces(line, out, content);
+    line.text(out, b"</");
+    line.text(out, tag_name(tag));
+    line.text(out, b">\n");
+}
+
+/// Begins a picture of this width and height.
+pub fn begin_picture<O: Sink>(out: &mut O, width: u64, height: u64) -> Line
+    ensures { IsGathered (O.written out.old) (O.written out.new) (O.faults out.old) (O.faults out.new) (beginning width height) result }
+{
+    let mut line = Line::new();
+    line.text(out, b"<svg");
+    then_attribute(
+        &mut line,
+        out,
+        Name::Xmlns,
+        &[Piece::Bytes(b"http://www.w3.org/2000/svg")],
+    );
+    then_attribute(&mut line, out, Name::Width, &[Piece::Count(width)]);
+    then_attribute(&mut line, out, Name::Height, &[Piece::Count(height)]);
+    then_attribute(
+        &mut line,
+        out,
+        Name::ViewBox,
+        &[
+            Piece::Bytes(b"0 0 "),
+            Piece::Count(width),
+            Piece::Bytes(b" "),
+            Piece::Count(height),
+        ],
+    );
+    line.text(out, b">\n");
+    line
+}
+
+/// Ends a picture, and writes what is left of it. It fails where a write failed, and then a part of
+/// the picture is written.
+pub fn end_picture<O: Sink>(mut line: Line, out: &mut O) -> Result<(), Failed>
+    ensures { (start : Option (List ℕ)) (before : ℕ) (text : List ℕ) → IsGathered start (O.written out.old) before (O.faults out.old) text line
+        → Writes start (O.written out.new) before (O.faults out.new) (text ++ ending) result }
+{
+    line.text(out, b"</svg>");
+    line.end(out)
+}
