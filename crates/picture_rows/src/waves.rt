@@ -108,7 +108,14 @@ fn outputs_of_runs_are_taken(rt: HostRuntime) -> Result<(), Fail> {
     assert!(rt; is_run(alloc, b"cycle\n0\n1\nend 2\n", 0, 2));
     assert!(rt; is_run(alloc, b"cycle,y\nend 0\n", 1, 0));
     assert!(rt; is_run(alloc, b"cycle,y\r\n0,1\r\nend 1\r\n", 1, 1));
-    assert!(rt; is_run(alloc, b"cycle,y\n0,-9223372036854775808\n1,9223372036854775807\nend 2\n", 1, 2));
+    assert!(rt;
+        is_run(
+            alloc,
+            b"cycle,y\n0,-9223372036854775808\n1,9223372036854775807\nend 2\n",
+            1,
+            2
+        )
+    );
     assert!(rt; is_run(alloc, b"cycle,y\n0,1\nstop 1 DIVZERO 12:7 I=3 J=-4\n", 1, 1));
     assert!(rt; is_run(alloc, b"cycle,y\nrefused 0 y found 1 expected 2\n", 1, 0));
     Ok(())
@@ -123,14 +130,77 @@ fn other_texts_are_refused(rt: HostRuntime) -> Result<(), Fail> {
     assert!(rt; is_refused(alloc, b"cycle,y\n0,1\n1,2", RunFault::End));
     assert!(rt; is_refused(alloc, b"cycle,y\n0,1\nen", RunFault::Line { record: 3 }));
     assert!(rt; is_refused(alloc, b"cycle,y\n0,1\nend 1", RunFault::Cut));
-    assert!(rt; is_refused(alloc, b"cycle,y\n0,1\nend 2\n", RunFault::Line { record: 3 }));
-    assert!(rt; is_refused(alloc, b"cycle,y\n0,1\nstop 0 RANGE 1:1\n", RunFault::Line { record: 3 }));
-    assert!(rt; is_refused(alloc, b"cycle,y\n0,1\n2,1\nend 2\n", RunFault::Line { record: 3 }));
-    assert!(rt; is_refused(alloc, b"cycle,y\n0,1\n01,1\nend 2\n", RunFault::Line { record: 3 }));
-    assert!(rt; is_refused(alloc, b"cycle,y\n0,1,2\nend 1\n", RunFault::Width { record: 2 }));
-    assert!(rt; is_refused(alloc, b"cycle,y,z\n0,1,01\nend 1\n", RunFault::Cell { record: 2, column: 3 }));
-    assert!(rt; is_refused(alloc, b"cycle,y\n0,-0\nend 1\n", RunFault::Cell { record: 2, column: 2 }));
-    assert!(rt; is_refused(alloc, b"cycle,y\n0,9223372036854775808\nend 1\n", RunFault::Cell { record: 2, column: 2 }));
-    assert!(rt; is_refused(alloc, b"cycle,y\n0,1\nend 1\nend 1\n", RunFault::Rest { record: 4 }));
+    assert!(rt;
+        is_refused(
+            alloc,
+            b"cycle,y\n0,1\nend 2\n",
+            RunFault::Line { record: 3 }
+        )
+    );
+    assert!(rt;
+        is_refused(
+            alloc,
+            b"cycle,y\n0,1\nstop 0 RANGE 1:1\n",
+            RunFault::Line { record: 3 }
+        )
+    );
+    assert!(rt;
+        is_refused(
+            alloc,
+            b"cycle,y\n0,1\n2,1\nend 2\n",
+            RunFault::Line { record: 3 }
+        )
+    );
+    assert!(rt;
+        is_refused(
+            alloc,
+            b"cycle,y\n0,1\n01,1\nend 2\n",
+            RunFault::Line { record: 3 }
+        )
+    );
+    assert!(rt;
+        is_refused(
+            alloc,
+            b"cycle,y\n0,1,2\nend 1\n",
+            RunFault::Width { record: 2 }
+        )
+    );
+    assert!(rt;
+        is_refused(
+            alloc,
+            b"cycle,y,z\n0,1,01\nend 1\n",
+            RunFault::Cell {
+                record: 2,
+                column: 3
+            }
+        )
+    );
+    assert!(rt;
+        is_refused(
+            alloc,
+            b"cycle,y\n0,-0\nend 1\n",
+            RunFault::Cell {
+                record: 2,
+                column: 2
+            }
+        )
+    );
+    assert!(rt;
+        is_refused(
+            alloc,
+            b"cycle,y\n0,9223372036854775808\nend 1\n",
+            RunFault::Cell {
+                record: 2,
+                column: 2
+            }
+        )
+    );
+    assert!(rt;
+        is_refused(
+            alloc,
+            b"cycle,y\n0,1\nend 1\nend 1\n",
+            RunFault::Rest { record: 4 }
+        )
+    );
     Ok(())
 }

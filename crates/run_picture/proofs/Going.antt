@@ -25,13 +25,13 @@ same gathers e start before text is = rw e (gathers start before text is)
 -- ---- things in order
 
 each_from : {X : Type 0} (f : ℕ → List X) (a n : ℕ) → flat_map f (range_with_len a (suc n)) ≡ flat_map f (range_with_len a n) ++ f (a + n)
-each_from f a zero = append-nil (f a)
+each_from f a zero = let here : a + 0 ≡ a = omega arith in rw here (append-nil (f a))
 each_from f a (suc n) =
     let next : a + 1 + n ≡ a + suc n = omega arith in
     ap (λ t. f a ++ t) (each_from f (a + 1) n) ∙ rw (next, append_assoc (f a) (flat_map f (range_with_len (a + 1) n)) (f (a + suc n))) refl
 
 pub each_suc : {X : Type 0} (f : ℕ → List X) (n : ℕ) → each_below f (suc n) ≡ each_below f n ++ f n
-each_suc f n = each_from f 0 n
+each_suc f n = let here : 0 + n ≡ n = omega arith in rw here at (each_from f 0 n)
 
 pub each_more : {X : Type 0} (f : ℕ → List X) (n : ℕ) → each_below f (n + 1) ≡ each_below f n ++ f n
 each_more f n = rw (add-one n) (each_suc f n)
@@ -74,9 +74,21 @@ pub three_texts : (v : Element) (a b : List Element)
     → flat_map element_text (v ∷ (a ++ b)) ≡ element_text v ++ (flat_map element_text a ++ flat_map element_text b)
 three_texts v a b = ap (λ t. element_text v ++ t) (flat_map-append element_text a b)
 
+joined : (start s a b c d end : List ℕ) → start ++ ((s ++ (a ++ (b ++ (c ++ d)))) ++ end) ≡ start ++ s ++ a ++ b ++ c ++ d ++ end
+joined start s a b c d end = simp append_assoc
+
+four : (a b c d : List Element)
+    → flat_map element_text (a ++ (b ++ (c ++ d)))
+    ≡ flat_map element_text a ++ (flat_map element_text b ++ (flat_map element_text c ++ flat_map element_text d))
+four a b c d =
+    flat_map-append element_text a (b ++ (c ++ d))
+    ∙ ap (λ (t : List ℕ). flat_map element_text a ++ t)
+    (flat_map-append element_text b (c ++ d) ∙ ap (λ (t : List ℕ). flat_map element_text b ++ t) (flat_map-append element_text c d))
+
 -- a picture, part by part
 pub parts : (start end : List ℕ) (s : Element) (a b c d : List Element)
     → start ++ (flat_map element_text (s ∷ (a ++ (b ++ (c ++ d)))) ++ end)
     ≡ start ++ element_text s ++ flat_map element_text a ++ flat_map element_text b ++ flat_map element_text c ++ flat_map element_text d ++ end
 parts start end s a b c d =
-    rw (flat_map-append element_text a (b ++ (c ++ d)), flat_map-append element_text b (c ++ d), flat_map-append element_text c d) (simp append_assoc)
+    ap (λ (t : List ℕ). start ++ ((element_text s ++ t) ++ end)) (four a b c d)
+    ∙ joined start (element_text s) (flat_map element_text a) (flat_map element_text b) (flat_map element_text c) (flat_map element_text d) end

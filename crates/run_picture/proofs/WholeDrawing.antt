@@ -64,16 +64,16 @@ later_cycle run k c column (suc n) h =
 
 same_column : (run : Recorded) (k c n : ℕ) → c < n → drawn_in k c (lane run k n) ≡ shown run k c ∷ []
 same_column run k c zero h = absurd (omega arith)
-same_column run k c (suc n) h = by_case (last_or_before c n h)
+same_column run k c (suc n) h = by_case (last_or_before c n h) (λ l. same_column run k c n l)
   where
-    by_case : (c ≡ n) ⊎ (c < n) → drawn_in k c (lane run k (suc n)) ≡ shown run k c ∷ []
-    by_case (inl e) =
+    by_case : (c ≡ n) ⊎ (c < n) → (c < n → drawn_in k c (lane run k n) ≡ shown run k c ∷ []) → drawn_in k c (lane run k (suc n)) ≡ shown run k c ∷ []
+    by_case (inl e) before =
         let yes : is_in k c (shown run k n) ≡ true = rw (eq_self k, e) (eq_self n) in
         cycle_more run k c k n true yes ∙ (rw (later_cycle run k c k n (omega arith)) (ap (λ (i : ℕ). shown run k i ∷ []) (sym e)))
-    by_case (inr l) =
+    by_case (inr l) before =
         let apart : n ≢ c = λ e. absurd (omega arith) in
         let no : is_in k c (shown run k n) ≡ false = rw (eq_other n c apart) (and_false (k == k)) in
-        cycle_more run k c k n false no ∙ (append-nil (drawn_in k c (lane run k n)) ∙ same_column run k c n l)
+        cycle_more run k c k n false no ∙ (append-nil (drawn_in k c (lane run k n)) ∙ before l)
 
 -- ---- all columns
 
@@ -91,17 +91,18 @@ later_column run k c cycles (suc n) h =
 
 in_columns : (run : Recorded) (k c cycles n : ℕ) → k < n → drawn_in k c (each_below (λ column. lane run column cycles) n) ≡ drawn_in k c (lane run k cycles)
 in_columns run k c cycles zero h = absurd (omega arith)
-in_columns run k c cycles (suc n) h = by_case (last_or_before k n h)
+in_columns run k c cycles (suc n) h = by_case (last_or_before k n h) (λ l. in_columns run k c cycles n l)
   where
-    by_case : (k ≡ n) ⊎ (k < n) → drawn_in k c (each_below (λ column. lane run column cycles) (suc n)) ≡ drawn_in k c (lane run k cycles)
-    by_case (inl e) =
+    by_case : (k ≡ n) ⊎ (k < n) → (k < n → drawn_in k c (each_below (λ column. lane run column cycles) n) ≡ drawn_in k c (lane run k cycles))
+        → drawn_in k c (each_below (λ column. lane run column cycles) (suc n)) ≡ drawn_in k c (lane run k cycles)
+    by_case (inl e) before =
         column_more run k c cycles n
         ∙ rw (later_column run k c cycles n (omega arith)) (ap (λ (i : ℕ). drawn_in k c (lane run i cycles)) (sym e))
-    by_case (inr l) =
+    by_case (inr l) before =
         column_more run k c cycles n
         ∙ (ap (λ (t : List Shown). drawn_in k c (each_below (λ column. lane run column cycles) n) ++ t)
         (other_column run k c n cycles (λ e. absurd (omega arith)))
-        ∙ (append-nil (drawn_in k c (each_below (λ column. lane run column cycles) n)) ∙ in_columns run k c cycles n l))
+        ∙ (append-nil (drawn_in k c (each_below (λ column. lane run column cycles) n)) ∙ before l))
 
 no_cycle : (run : Recorded) (k c cycles n : ℕ) → cycles ≤ c → drawn_in k c (each_below (λ column. lane run column cycles) n) ≡ []
 no_cycle run k c cycles zero h = refl

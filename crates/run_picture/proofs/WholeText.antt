@@ -40,8 +40,8 @@ pub each_once : (l : Layout) (run : Recorded) → All (waves_elements l run)
 each_once l run =
     let columns = length run.names in
     let cycles = length run.rows in
-    let ends : All (ending_elements l columns cycles run.ending) = (refl, refl, tt) in
+    let ends : All (ending_elements l columns cycles run.ending) = (refl, (refl, tt)) in
     let values : All (flat_map (shown_elements l) (lanes run)) = all_flat (shown_elements l) (of_shown l) (lanes run) in
     let names : All (names_elements run columns) = all_flat (λ column. name_element run column ∷ []) (λ column. (refl, tt)) (range_with_len 0 columns) in
-    let drawn : All (cycles_elements l run cycles) = all_flat (cycle_elements l columns) (λ cycle. (refl, refl, tt)) (range_with_len 0 cycles) in
+    let drawn : All (cycles_elements l run cycles) = all_flat (cycle_elements l columns) (λ cycle. (refl, (refl, tt))) (range_with_len 0 cycles) in
     (refl, all_both _ _ drawn (all_both _ _ names (all_both _ _ values ends)))

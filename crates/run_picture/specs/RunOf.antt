@@ -41,19 +41,23 @@ row_line width cycle cells =
     (cond (length cells == width) (line_with (row_of_values (cycle + 2) (values_of 2 cells))) (Err (fault.Width (cycle + 2))))
     (Err fault.Cycles)
 
-abbrev pub last_with : ℕ → List ℕ → Option Mark → Result Line RunFault
+abbrev pub last_with : ℕ → List ℕ → Option Mark → Result Ending RunFault
 last_with cycle text None = Err (fault.Line (cycle + 2))
-last_with cycle text (Some m) = Ok (line.Last (record { mark = m; text = text }))
+last_with cycle text (Some m) = Ok (record { mark = m; text = text })
 
 -- the last line, which is one cell
-abbrev pub last_line : ℕ → List ℕ → List (List ℕ) → Result Line RunFault
+abbrev pub last_line : ℕ → List ℕ → List (List ℕ) → Result Ending RunFault
 last_line cycle text [] = last_with cycle text (mark_of cycle text)
 last_line cycle text (cell ∷ cells) = Err (fault.Line (cycle + 2))
+
+abbrev pub ended_with : Result Ending RunFault → Result Line RunFault
+ended_with (Ok ending) = Ok (line.Last ending)
+ended_with (Err why) = Err why
 
 -- the line that stands where the row of a cycle may stand: that row, which begins with the cycle's number, or the last line
 abbrev pub line_of : ℕ → ℕ → List (List ℕ) → Result Line RunFault
 line_of width cycle [] = Err (fault.Line (cycle + 2))
-line_of width cycle (first ∷ cells) = cond (bytes_eq first (decimal cycle)) (row_line width cycle cells) (last_line cycle first cells)
+line_of width cycle (first ∷ cells) = cond (bytes_eq first (decimal cycle)) (row_line width cycle cells) (ended_with (last_line cycle first cells))
 
 -- ---- all lines
 

@@ -190,13 +190,6 @@ pub(crate) fn then_ending<O: Sink>(line: &mut Line, out: &mut O, layout: Layout,
     ensures { Gathers (O.written out.old) (O.written out.new) (O.faults out.old) (O.faults out.new) line.old line.new
         (flat_map element_text (ending_elements layout (length run.now.names) (length run.now.rows) run.now.ending)) }
 {
-    then_mark(
-        line,
-        out,
-        layout,
-        run.columns(),
-        run.cycles(),
-        run.ending(),
-    );
+    then_mark(line, out, layout, run.columns(), run.cycles(), run.ending());
     then_last_line(line, out, layout, run.cycles(), run.ending());
 }

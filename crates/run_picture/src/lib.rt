@@ -20,7 +20,7 @@ mod values;
 
 pub use ending::{Ending, Mark};
 pub use fault::RunFault;
-pub use laws::a_run_is_drawn_whole;
+pub use laws::{a_printed_run_is_read_back, a_run_is_drawn_whole, last_lines_are_known};
 pub use layout::Layout;
 pub use picture::write_waves;
 pub use run::{Run, read_run};

@@ -27,12 +27,7 @@ pub(crate) enum Line {
 }
 
 // The row of a cycle. The record begins with the cycle's number.
-fn row_line_of(
-    alloc: Global,
-    cells: &ByteRecord,
-    width: u32,
-    cycle: u32,
-) -> Result<Line, RunFault>
+fn row_line_of(alloc: Global, cells: &ByteRecord, width: u32, cycle: u32) -> Result<Line, RunFault>
     requires cells { 0 < length (fields_of cells.now) }
     requires names { width ≤ most_names }
     requires cycle { cycle ≤ most_cycles }
@@ -50,14 +45,14 @@ fn row_line_of(
 }
 
 // The last line, which is one cell.
-fn last_line_of(alloc: Global, text: &[u8], cells: usize, cycle: u32) -> Result<Line, RunFault>
+fn last_line_of(alloc: Global, text: &[u8], cells: usize, cycle: u32) -> Result<Ending, RunFault>
     requires cycle { cycle ≤ most_cycles }
     ensures { (more : List (List ℕ)) → cells ≡ length more + 1 → Answers (last_line cycle text.now more) result }
 {
     if cells == 1 {
         if let Some(mark) = mark_of(cycle, text) {
             let text = Text::copy_of(alloc, text)?;
-            return Ok(Line::Last(Ending { mark, text }));
+            return Ok(Ending { mark, text });
         }
     }
     Err(RunFault::Line { record: cycle + 2 })
@@ -77,7 +72,7 @@ fn read_line(alloc: Global, cells: &ByteRecord, width: u32, cycle: u32) -> Resul
     if first == Buffer::new().format(cycle).as_bytes() {
         row_line_of(alloc, cells, width, cycle)
     } else {
-        last_line_of(alloc, first, cells.len(), cycle)
+        Ok(Line::Last(last_line_of(alloc, first, cells.len(), cycle)?))
     }
 }
 

@@ -5,7 +5,7 @@ ghost use Rattle.run_report.specs.Gathering.{Gathers};
 ghost use Rattle.svg_text.specs.Elements.{element_text};
 ghost use Rattle.vcp_base.specs.Limits.{most_cycles};
 ghost use Rattle.run_picture.specs.Drawn.{is_bit as is_bit_of, bits_below, is_level as is_level_of, changes as changes_of, shown as shown_of, lane, lanes};
-ghost use Rattle.run_picture.specs.Elements.{level_of, level_element, number_element, value_element, edge_element, edge_elements};
+ghost use Rattle.run_picture.specs.Elements.{top_of, level_of, level_element, number_element, value_element, edge_element, edge_elements};
 ghost use Rattle.run_picture.specs.Elements.{label_element, label_elements, shown_elements};
 
 use crate::layout::{Layout, start, top};
@@ -37,13 +37,20 @@ fn level(value: i64) -> u64
     if value == 0 { 30 } else { 8 }
 }
 
+// The distance of a level from above.
+fn height(shown: Shown) -> u64
+    ensures { result ≡ top_of shown.column + level_of shown.value }
+{
+    top(shown.column) + level(shown.value)
+}
+
 // Draws a level.
 fn then_level<O: Sink>(line: &mut Line, out: &mut O, layout: Layout, shown: Shown)
     requires { shown.cycle < most_cycles }
     ensures { Gathers (O.written out.old) (O.written out.new) (O.faults out.old) (O.faults out.new) line.old line.new
         (element_text (level_element layout shown)) }
 {
-    let height = top(shown.column) + level(shown.value);
+    let height = height(shown);
     then_element(
         line,
         out,

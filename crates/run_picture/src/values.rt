@@ -1,6 +1,6 @@
 //! The values in the cells of a row.
 
-ghost use Rattle.std.specs.Prelude.{◌≡◌, ◌<◌, ◌^◌, drop, length, Ok, Err};
+ghost use Rattle.std.specs.Prelude.{◌≡◌, ◌<◌, ◌^◌, ◌+◌, drop, length, IfOk};
 ghost use Rattle.csv.specs.Records.{fields_of};
 ghost use Rattle.run_picture.specs.Answers.{Answers};
 ghost use Rattle.run_picture.specs.RunOf.{row_of_values};
@@ -27,13 +27,11 @@ fn printed_value(cell: &[u8]) -> Option<i64>
 }
 
 /// The values of a record's cells behind the first, or a refusal of the first cell that is none.
-pub(crate) fn values(
-    alloc: Global,
-    number: u32,
-    cells: &ByteRecord,
-) -> Result<Row, RunFault>
-    requires { length (fields_of cells.now) < 2 ^ 32 }
-    ensures { Answers (row_of_values number (values_of 2 (drop 1 (fields_of cells.now)))) result }
+pub(crate) fn values(alloc: Global, number: u32, cells: &ByteRecord) -> Result<Row, RunFault>
+    requires some { 0 < length (fields_of cells.now) }
+    requires few { length (fields_of cells.now) < 2 ^ 32 }
+    ensures row { Answers (row_of_values number (values_of 2 (drop 1 (fields_of cells.now)))) result }
+    ensures many { IfOk result (λ row. length row + 1 ≡ length (fields_of cells.now)) }
 {
     let mut row = Row::new(alloc);
     'cells: for j in 1..cells.len() {

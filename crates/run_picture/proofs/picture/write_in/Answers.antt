@@ -11,7 +11,7 @@ returns g c =
     let l = c.args.layout in
     let columns = length run.names in
     let cycles = length run.rows in
-    let begun = rw (c.start.ensures.begin, c.cycles.ensures.count, c.top.ensures, c.columns.ensures.count) at c.begin_picture-line.ensures in
+    let begun = rw (c.start.ensures.begin, c.cycles.ensures.count, c.top-height.ensures, c.columns.ensures.count) at c.begin_picture-line.ensures in
     let named = c.then_names.ensures _ _ _ (c.then_cycles.ensures _ _ _ (c.then_style.ensures _ _ _ begun)) in
     let all = c.then_ending.ensures _ _ _ (c.then_lanes.ensures _ _ _ named) in
     rw (parts (beginning (width_of l run) (height_of run)) ending style (cycles_elements l run cycles) (names_elements run columns)
