@@ -14,8 +14,9 @@ use op_graph::{Build, Graph, GraphBuilder, Op};
 use signature_table::Table;
 use std::alloc::Global;
 use std::test::Fail;
-use vcp_base::{Kind, Memory, Profile, Row, Spot, StopKind, Text, Ty};
+use vcp_base::{Kind, Memory, Profile, Row, Spot, Text, Ty};
 use worked_graphs::{counter, increment, on_dint};
+use worked_texts::{cells, i64_of, same};
 
 /// An operation on LINT values, which reads `a` and `b`.
 fn on_lint(kind: Kind, a: u32, b: u32, imm: i64) -> Op
@@ -57,6 +58,16 @@ struct Seen {
     end: CycleEnd,
     y: i64,
     words: [i128; 5],
+}
+
+/// What is seen of three cycles, one on each line: the end, the value of the output, and the first words.
+fn shown(alloc: Global, seen: &[Seen; 3]) -> Result<String, Memory> {
+    let mut out = String::new(alloc);
+    for cycle in seen {
+        let Seen { end, y, words } = cycle;
+        out.push_str(&format!(in alloc; "{end:?} {y} {words:?}\n")?)?;
+    }
+    Ok(out)
 }
 
 /// The first words of the last cycle.
@@ -161,43 +172,44 @@ fn three_cycles_by_hand<U: Unit>(
     ])
 }
 
-/// The word of an answer; 0 where it has none.
-fn word_of(given: &Answer) -> i128 {
-    match given {
-        Answer::Word(word) => word.get(),
-        _ => 0,
-    }
-}
-
-/// The number, the first operand and the answer's word of the call that was done as number `i`.
-fn logged(unit: &LogUnit, i: u32) -> (u32, i128, i128) {
+/// The number, the first operand and the answer of the call that was done as number `i`.
+fn logged(alloc: Global, unit: &LogUnit, i: u32) -> Result<String, Memory> {
     match unit.entry(i) {
-        Some((call, given)) => (call.op, call.a.get(), word_of(&given)),
-        None => (0, 0, 0),
+        Some((call, given)) => Ok(format!(in alloc; "{} {} {given:?}", call.op, call.a.get())?),
+        None => Ok(String::from_str(alloc, "no call")?),
     }
 }
 
-/// The words of three cycles of the counter.
-const COUNTED: [[i128; 5]; 3] = [
-    [1, 2362232013, 2576980378, 2791728743, 3006477108],
-    [2147483649, 2362232014, 4724464026, 4939212391, 5153960756],
-    [4294967297, 2362232015, 6871947674, 7086696039, 7301444404],
-];
+/// Three cycles of the counter.
+const COUNTED: &str = "\
+Released 1 [1, 2362232013, 2576980378, 2791728743, 3006477108]
+Released 2 [2147483649, 2362232014, 4724464026, 4939212391, 5153960756]
+Released 3 [4294967297, 2362232015, 6871947674, 7086696039, 7301444404]
+";
 
 #[test]
 fn a_counter_keeps_its_words(rt: HostRuntime) -> Result<(), Fail> {
     let graph = counter(rt.alloc())?;
     let row = Row::new(rt.alloc());
+    let seen = three_cycles(rt.alloc(), &graph, &mut CpuUnit::new(), &row, &row)?;
+    same(&shown(rt.alloc(), &seen)?, COUNTED)
+}
+
+#[test]
+fn a_unit_keeps_the_calls_of_a_counter(rt: HostRuntime) -> Result<(), Fail> {
+    let graph = counter(rt.alloc())?;
+    let row = Row::new(rt.alloc());
     let mut unit = LogUnit::new(rt.alloc(), 15)?;
-    let seen = three_cycles(rt.alloc(), &graph, &mut unit, &row, &row)?;
-    for k in 0..3usize {
-        assert_eq!(rt; seen[k].end, CycleEnd::Released);
-        assert_eq!(rt; (seen[k].y, seen[k].words), (k as i64 + 1, COUNTED[k]));
-    }
-    assert!(rt; unit.entry(14).is_some() && unit.entry(15).is_none());
-    assert_eq!(rt; logged(&unit, 4), (4, 2576980378, 3006477108));
-    assert_eq!(rt; logged(&unit, 5), (0, 3006477108, 2147483649));
-    Ok(())
+    let _seen = three_cycles(rt.alloc(), &graph, &mut unit, &row, &row)?;
+    same(
+        &logged(rt.alloc(), &unit, 4)?,
+        "4 2576980378 Word(Word { code: 3006477108 })",
+    )?;
+    same(
+        &logged(rt.alloc(), &unit, 5)?,
+        "0 3006477108 Word(Word { code: 2147483649 })",
+    )?;
+    same(&logged(rt.alloc(), &unit, 15)?, "no call")
 }
 
 #[test]
@@ -205,14 +217,14 @@ fn a_cycle_is_made_of_three_calls(rt: HostRuntime) -> Result<(), Fail> {
     let graph = counter(rt.alloc())?;
     let row = Row::new(rt.alloc());
     let seen = three_cycles_by_hand(rt.alloc(), &graph, &mut CpuUnit::new(), &row)?;
-    for k in 0..3usize {
-        assert_eq!(rt; seen[k].end, CycleEnd::Released);
-        assert_eq!(rt; (seen[k].y, seen[k].words), (k as i64 + 1, COUNTED[k]));
-    }
+    same(&shown(rt.alloc(), &seen)?, COUNTED)
+}
+
+#[test]
+fn laws_are_called() {
     right_answers_stand_for_values();
     runs_follow_their_answers();
     honest_runs_follow_the_graph();
-    Ok(())
 }
 
 #[test]
@@ -227,39 +239,44 @@ fn a_call_is_made_outside_a_machine(rt: HostRuntime) -> Result<(), Fail> {
         input: 0,
     };
     let call = operation_call(&graph, &table, 2, 1, &operands);
-    assert_eq!(rt; (call.op, call.cycle, call.stamp), (2, 1, 2));
-    assert_eq!(rt;
-        answer(&call),
-        Answer::Word(Word::packed(Profile::Narrow, 2, 429496732))
-    );
+    let sum = Answer::Word(Word::packed(Profile::Narrow, 2, 429496732));
+    assert!(rt; (call.op, call.cycle, call.stamp) == (2, 1, 2) && answer(&call) == sum);
+    Ok(())
+}
+
+/// The words of `y := x + 1;` on three values of x.
+const VALUES: &str = "\
+5 => Released 6 [10737418236, 2362232013, 13314398613, 13529146978, 0]
+-1 => Released 0 [-2147483646, 2362232013, 429496731, 644245096, 0]
+-2147483648 => Released -2147483647 [-4611686016279904255, 2362232013, -4611686013702923878, -4611686013488175513, 0]
+";
+
+/// Fails with the first value that has other words in a first cycle.
+fn all_worded(alloc: Global, rows: &str) -> Result<(), Fail> {
+    let graph = increment(alloc)?;
+    for row in rows.lines() {
+        let (x, wanted) = cells(row);
+        let values = row_of(alloc, i64_of(x)?)?;
+        let seen = three_cycles(alloc, &graph, &mut CpuUnit::new(), &values, &values)?;
+        if shown(alloc, &seen)?.lines().next() != Some(wanted) {
+            return Err(Fail::new(row));
+        }
+    }
     Ok(())
 }
 
 #[test]
 fn values_have_their_words(rt: HostRuntime) -> Result<(), Fail> {
-    let graph = increment(rt.alloc())?;
-    let rows = [
-        (5, 6, [10737418236, 2362232013, 13314398613, 13529146978, 0]),
-        (-1, 0, [-2147483646, 2362232013, 429496731, 644245096, 0]),
-        (
-            -2147483648,
-            -2147483647,
-            [
-                -4611686016279904255,
-                2362232013,
-                -4611686013702923878,
-                -4611686013488175513,
-                0,
-            ],
-        ),
-    ];
-    for (x, y, words) in rows {
-        let row = row_of(rt.alloc(), x)?;
-        let seen = three_cycles(rt.alloc(), &graph, &mut CpuUnit::new(), &row, &row)?;
-        assert_eq!(rt; (seen[0].y, seen[0].words), (y, words), "at {x}");
-    }
-    Ok(())
+    all_worded(rt.alloc(), VALUES)
 }
+
+/// A first cycle on 5, and one that stops.
+const WIDE: &str = "\
+Released 6 [11529215046068469756, 3228180212899171533, 14526810958046271893, 14296226657124902498, 0]
+Stopped { op: 2, kind: Range } 6";
+
+/// A first cycle on 9223372036854775806.
+const LAST: &str = "Released 9223372036854775807 ";
 
 #[test]
 fn wide_values_have_their_words(rt: HostRuntime) -> Result<(), Fail> {
@@ -267,26 +284,34 @@ fn wide_values_have_their_words(rt: HostRuntime) -> Result<(), Fail> {
     let first = row_of(rt.alloc(), 5)?;
     let later = row_of(rt.alloc(), 9223372036854775807)?;
     let seen = three_cycles(rt.alloc(), &graph, &mut CpuUnit::new(), &first, &later)?;
-    let words = [
-        11529215046068469756,
-        3228180212899171533,
-        14526810958046271893,
-        14296226657124902498,
-        0,
-    ];
-    assert_eq!(rt; (seen[0].y, seen[0].words), (6, words));
-    let stopped = CycleEnd::Stopped {
-        op: 2,
-        kind: StopKind::Range,
-    };
-    assert_eq!(rt; [seen[0].end, seen[1].end], [CycleEnd::Released, stopped]);
+    assert!(rt; shown(rt.alloc(), &seen)?.starts_with(WIDE));
     let last = row_of(rt.alloc(), 9223372036854775806)?;
     let seen = three_cycles(rt.alloc(), &graph, &mut CpuUnit::new(), &last, &last)?;
-    assert_eq!(rt;
-        (seen[0].end, seen[0].y),
-        (CycleEnd::Released, 9223372036854775807)
-    );
+    assert!(rt; shown(rt.alloc(), &seen)?.starts_with(LAST));
     Ok(())
+}
+
+/// A cycle on 7, and the ends and outputs of two on 2147483647.
+const STOPPED: &str = "\
+Released 8
+Stopped { op: 2, kind: Range } 8
+Stopped { op: 2, kind: Range } 8
+";
+
+/// A cycle that is released, and two that are refused.
+const REFUSED: &str = "\
+Released 1
+Refused { output: 0, found: 214748370, expected: 644245097 } 1
+Refused { output: 0, found: 214748370, expected: 644245097 } 1
+";
+
+/// The ends and outputs of three cycles.
+fn ends(alloc: Global, seen: &[Seen; 3]) -> Result<String, Memory> {
+    let mut out = String::new(alloc);
+    for cycle in seen {
+        out.push_str(&format!(in alloc; "{:?} {}\n", cycle.end, cycle.y)?)?;
+    }
+    Ok(out)
 }
 
 #[test]
@@ -295,16 +320,7 @@ fn a_stop_is_repeated(rt: HostRuntime) -> Result<(), Fail> {
     let first = row_of(rt.alloc(), 7)?;
     let later = row_of(rt.alloc(), 2147483647)?;
     let seen = three_cycles(rt.alloc(), &graph, &mut CpuUnit::new(), &first, &later)?;
-    let stopped = CycleEnd::Stopped {
-        op: 2,
-        kind: StopKind::Range,
-    };
-    assert_eq!(rt;
-        [seen[0].end, seen[1].end, seen[2].end],
-        [CycleEnd::Released, stopped, stopped]
-    );
-    assert_eq!(rt; [seen[0].y, seen[1].y, seen[2].y], [8, 8, 8]);
-    Ok(())
+    same(&ends(rt.alloc(), &seen)?, STOPPED)
 }
 
 #[test]
@@ -312,20 +328,9 @@ fn a_wrong_residue_is_refused(rt: HostRuntime) -> Result<(), Fail> {
     let graph = counter(rt.alloc())?;
     let mut unit = BadUnit::new(rt.alloc(), 15)?;
     unit.replace(7, Answer::Word(Word::packed(Profile::Narrow, 2, 5)))?;
-    let refused = CycleEnd::Refused {
-        output: 0,
-        found: 214748370,
-        expected: 644245097,
-    };
     let row = Row::new(rt.alloc());
     let seen = three_cycles(rt.alloc(), &graph, &mut unit, &row, &row)?;
-    assert_eq!(rt;
-        [seen[0].end, seen[1].end, seen[2].end],
-        [CycleEnd::Released, refused, refused]
-    );
-    assert_eq!(rt; [seen[0].y, seen[1].y, seen[2].y], [1, 1, 1]);
-    assert_eq!(rt; seen[2].words[2], 4294967299);
-    assert_eq!(rt; unit.wrong(), 1);
-    assert_eq!(rt; (unit.entry(9).is_some(), unit.entry(10)), (true, None));
+    same(&ends(rt.alloc(), &seen)?, REFUSED)?;
+    assert!(rt; unit.wrong() == 1 && unit.entry(9).is_some() && unit.entry(10).is_none());
     Ok(())
 }

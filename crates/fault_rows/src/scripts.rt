@@ -4,8 +4,9 @@ use fault_script::{Fault, Script, ScriptFault, read_script};
 use op_graph::{Build, Graph, GraphBuilder};
 use std::alloc::Global;
 use std::test::Fail;
-use vcp_base::{Kind, MOST_SOURCE_BYTES, Profile, Spot, Text, Ty};
+use vcp_base::{Kind, MOST_SOURCE_BYTES, Memory, Profile, Spot, Text, Ty};
 use worked_graphs::on_dint;
+use worked_texts::{cells, repeated, spelled};
 
 /// The graph, with a cell behind it: INPUT, CONST, ADD and OUT are 0 to 3, LOAD and STORE 4 and 5.
 fn adds_one(alloc: Global) -> Result<Graph, Build> {
@@ -52,101 +53,88 @@ fn shown(alloc: Global, graph: &Graph, text: &[u8]) -> Result<Vec<u8>, Fail> {
     Ok(out)
 }
 
-/// The first text that doesn't say what it should.
-fn first_wrong(
-    alloc: Global,
-    graph: &Graph,
-    cases: &[(&[u8], &[u8])],
-) -> Result<Option<usize>, Fail> {
-    'cases: for (i, (text, expected)) in cases.iter().enumerate() {
-        if shown(alloc, graph, *text)?.as_slice() != *expected {
-            return Ok(Some(i));
+/// Fails with the first text that doesn't say what it should.
+fn all_say(alloc: Global, rows: &str) -> Result<(), Fail> {
+    let graph = adds_one(alloc)?;
+    for row in rows.lines() {
+        let (text, wanted) = cells(row);
+        let found = shown(alloc, &graph, &spelled(alloc, text)?)?;
+        if found.trim_ascii_end() != wanted.as_bytes() {
+            return Err(Fail::new(row));
         }
     }
-    Ok(None)
+    Ok(())
 }
 
-const FORMS: [(&[u8], &[u8]); 26] = [
-    (b"operand 0 2 0", b"Form { line: 1 } "),
-    (b"operand 0 9 0 add 1", b"Site { line: 1 } "),
-    (b"operand 0 2 0 stale", b"Early { line: 1 } "),
-    (b"operator 0 2 NOT", b"Kind { line: 1 } "),
-    (b"skip 0 0", b"Early { line: 1 } "),
-    (b"operand 0 4 0 add 1", b"1: 0 4 OperandAdd { j: 0, e: 1 } "),
-    (b"operand 0 4 1 add 1", b"Site { line: 1 } "),
-    (b"operand 0 2 1 from 2", b"Site { line: 1 } "),
-    (b"operand 0 2 1 from 3", b"Site { line: 1 } "),
-    (
-        b"operand 0 2 1 from 0",
-        b"1: 0 2 OperandFrom { j: 1, r: 0 } ",
-    ),
-    (b"operand 1 2 1 stale", b"1: 1 2 OperandStale { j: 1 } "),
-    (b"operator 0 2 ADD", b"1: 0 2 Operator { kind: Add } "),
-    (b"operator 0 1 INPUT", b"1: 0 1 Operator { kind: Input } "),
-    (b"operator 0 2 sub", b"Form { line: 1 } "),
-    (b"result 0 2 add +5", b"1: 0 2 ResultAdd { e: 5 } "),
-    (
-        b"result 0 2 add -4611686018427387904",
-        b"1: 0 2 ResultAdd { e: -4611686018427387904 } ",
-    ),
-    (b"result 0 2 add 4611686018427387905", b"Form { line: 1 } "),
-    (
-        b"result 0 2 add 00000000000000000000000000000000000000005",
-        b"1: 0 2 ResultAdd { e: 5 } ",
-    ),
-    (b"result 0 2 add +", b"Form { line: 1 } "),
-    (b"result 0 2 add --1", b"Form { line: 1 } "),
-    (b"skip 0000000001 2", b"1: 1 2 Skip "),
-    (b"skip 00000000001 2", b"Form { line: 1 } "),
-    (b"skip 1000000 2", b"Form { line: 1 } "),
-    (b"skip 1 4294967295", b"Site { line: 1 } "),
-    (b"skip 1 4294967296", b"Form { line: 1 } "),
-    (b"Operand 0 2 0 add 1", b"Form { line: 1 } "),
-];
+/// Scripts of one line, and what each says.
+const FORMS: &str = r"operand 0 2 0 => Form { line: 1 }
+operand 0 9 0 add 1 => Site { line: 1 }
+operand 0 2 0 stale => Early { line: 1 }
+operator 0 2 NOT => Kind { line: 1 }
+skip 0 0 => Early { line: 1 }
+operand 0 4 0 add 1 => 1: 0 4 OperandAdd { j: 0, e: 1 }
+operand 0 4 1 add 1 => Site { line: 1 }
+operand 0 2 1 from 2 => Site { line: 1 }
+operand 0 2 1 from 3 => Site { line: 1 }
+operand 0 2 1 from 0 => 1: 0 2 OperandFrom { j: 1, r: 0 }
+operand 1 2 1 stale => 1: 1 2 OperandStale { j: 1 }
+operator 0 2 ADD => 1: 0 2 Operator { kind: Add }
+operator 0 1 INPUT => 1: 0 1 Operator { kind: Input }
+operator 0 2 sub => Form { line: 1 }
+result 0 2 add +5 => 1: 0 2 ResultAdd { e: 5 }
+result 0 2 add -4611686018427387904 => 1: 0 2 ResultAdd { e: -4611686018427387904 }
+result 0 2 add 4611686018427387905 => Form { line: 1 }
+result 0 2 add 00000000000000000000000000000000000000005 => 1: 0 2 ResultAdd { e: 5 }
+result 0 2 add + => Form { line: 1 }
+result 0 2 add --1 => Form { line: 1 }
+skip 0000000001 2 => 1: 1 2 Skip
+skip 00000000001 2 => Form { line: 1 }
+skip 1000000 2 => Form { line: 1 }
+skip 1 4294967295 => Site { line: 1 }
+skip 1 4294967296 => Form { line: 1 }
+Operand 0 2 0 add 1 => Form { line: 1 }
+";
 
-const LINES: [(&[u8], &[u8]); 7] = [
-    (
-        b"# skip\n\nskip 1 2\r\n\r\n\tskip  2\t2 \nskip 3 2",
-        b"3: 1 2 Skip 5: 2 2 Skip 6: 3 2 Skip ",
-    ),
-    (b"skip 1 2\nskip 0 2\nskip\n", b"Early { line: 2 } "),
-    (b"\n \n", b"Form { line: 2 } "),
-    (b"skip 1 2\r", b"Form { line: 1 } "),
-    (b"skip 1 2\r\r\n", b"Form { line: 1 } "),
-    (b" # skip\n", b"Form { line: 1 } "),
-    (b"", b""),
-];
+/// Scripts of several lines, and what each says.
+const LINES: &str =
+    r"# skip\n\nskip 1 2\r\n\r\n\tskip  2\t2 \nskip 3 2 => 3: 1 2 Skip 5: 2 2 Skip 6: 3 2 Skip
+skip 1 2\nskip 0 2\nskip\n => Early { line: 2 }
+\n \n => Form { line: 2 }
+skip 1 2\r => Form { line: 1 }
+skip 1 2\r\r\n => Form { line: 1 }
+\x20# skip\n => Form { line: 1 }
+ =>
+";
 
 #[test]
 fn each_form_is_read_and_each_refusal_has_its_place(rt: HostRuntime) -> Result<(), Fail> {
-    let graph = adds_one(rt.alloc())?;
-    assert_eq!(rt; first_wrong(rt.alloc(), &graph, &FORMS)?, None);
-    Ok(())
+    all_say(rt.alloc(), FORMS)
 }
 
 #[test]
 fn lines_and_words_are_parted_by_the_rules(rt: HostRuntime) -> Result<(), Fail> {
-    let graph = adds_one(rt.alloc())?;
-    assert_eq!(rt; first_wrong(rt.alloc(), &graph, &LINES)?, None);
+    all_say(rt.alloc(), LINES)
+}
+
+/// Ten thousand lines of faults, and two of none.
+fn longest(alloc: Global) -> Result<Vec<u8>, Memory> {
+    let mut text = repeated(alloc, b"skip 1 2\n", 10000)?;
+    text.extend_from_slice(b"# none\n\n")?;
+    Ok(text)
+}
+
+#[test]
+fn ten_thousand_fault_lines_are_read(rt: HostRuntime) -> Result<(), Fail> {
+    let script = read(rt.alloc(), &adds_one(rt.alloc())?, &longest(rt.alloc())?)?;
+    assert!(rt; script.len() == 10000);
     Ok(())
 }
 
 #[test]
-fn ten_thousand_fault_lines_are_read_and_no_more(rt: HostRuntime) -> Result<(), Fail> {
-    let graph = adds_one(rt.alloc())?;
-    let mut text = Vec::new(rt.alloc());
-    'lines: for _ in 0..10000 {
-        text.extend_from_slice(b"skip 1 2\n")?;
-    }
-    text.extend_from_slice(b"# none\n\n")?;
-    match read(rt.alloc(), &graph, &text) {
-        Ok(script) => assert_eq!(rt; script.len(), 10000),
-        Err(fault) => return Err(Fail::from(fault)),
-    }
+fn no_more_fault_lines_are_read(rt: HostRuntime) -> Result<(), Fail> {
+    let mut text = longest(rt.alloc())?;
     text.extend_from_slice(b"skip\nskip 1 2")?;
-    assert_eq!(rt;
-        shown(rt.alloc(), &graph, &text)?.as_slice(),
-        b"Faults { line: 10003 } ".as_slice()
-    );
+    let fault = read(rt.alloc(), &adds_one(rt.alloc())?, &text).err();
+    assert!(rt; fault == Some(ScriptFault::Faults { line: 10003 }));
     Ok(())
 }

@@ -1,7 +1,5 @@
 //! Weights of small graphs, worked by hand.
 
-ghost use Rattle.std.specs.Prelude.{◌≡◌, length, IfOk};
-
 use op_graph::{Build, Graph, GraphBuilder};
 use signature_table::Table;
 use std::alloc::Global;
@@ -9,58 +7,55 @@ use std::test::Fail;
 use vcp_base::{Kind, Profile, Spot, Text, Ty};
 use weight_audit::weigh::weights;
 use worked_graphs::{counter, on_dint};
+use worked_texts::same;
 
-/// The place of every operation.
-const HERE: Spot = Spot { line: 4, col: 8 };
+/// Of each operation: its weight at the output and whether it is reached, in its own cycle and one cycle later.
+const WEIGHTS: &str = "\
+1 true 1 true
+1 true 1 true
+1 true 1 true
+1 true 0 false
+0 false 1 true
+";
 
-/// The graph of `y := x - (x + x)`: INPUT, ADD, SUB, OUT.
-fn difference(alloc: Global) -> Result<Graph, Build>
-    ensures operations { IfOk result (λ graph. length graph.operations ≡ 4) }
-    ensures outputs { IfOk result (λ graph. length graph.outputs ≡ 1) }
-{
-    let mut builder = GraphBuilder::new(alloc, Profile::Narrow);
-    builder.name(&Text::copy_of(alloc, b"y")?)?;
-    builder.name(&Text::copy_of(alloc, b"x")?)?;
-    let x = builder.input(1, Ty::Dint, HERE)?;
-    let sum = builder.push(on_dint(Kind::Add, x, x, 0))?;
-    let rest = builder.push(on_dint(Kind::Sub, x, sum, 0))?;
-    builder.output(0, Ty::Dint, rest, HERE)?;
-    Ok(builder.finish())
+/// The weights of a graph at its first output.
+fn shown(alloc: Global, graph: &Graph) -> Result<String, Fail> {
+    let mut out = String::new(alloc);
+    if graph.outputs() == 0 {
+        return Ok(out);
+    }
+    let table = Table::new(alloc, graph, 0, 1)?;
+    let audit = weights(alloc, graph, &table, 1)?;
+    for op in 0..graph.len() {
+        let now = (audit.weight(op, 0, 0), audit.reached(op, 0, 0));
+        let later = (audit.weight(op, 0, 1), audit.reached(op, 0, 1));
+        out.push_str(&format!(in alloc; "{} {} {} {}\n", now.0, now.1, later.0, later.1)?)?;
+    }
+    Ok(out)
 }
 
 #[test]
 fn a_counter_shows_each_difference_again_one_cycle_later(rt: HostRuntime) -> Result<(), Fail> {
-    let graph = counter(rt.alloc())?;
-    let table = Table::new(rt.alloc(), &graph, 0, 1)?;
-    let audit = weights(rt.alloc(), &graph, &table, 1)?;
-    let now = [1, 1, 1, 1, 0];
-    let later = [1, 1, 1, 0, 1];
-    for op in 0..5u32 {
-        assert_eq!(rt; audit.weight(op, 0, 0), now[op as usize], "operation {op}");
-        assert_eq!(rt; audit.reached(op, 0, 0), op != 4, "operation {op}");
-        assert_eq!(rt;
-            audit.weight(op, 0, 1),
-            later[op as usize],
-            "operation {op}, later"
-        );
-        assert_eq!(rt; audit.reached(op, 0, 1), op != 3, "operation {op}, later");
-    }
-    Ok(())
+    same(&shown(rt.alloc(), &counter(rt.alloc())?)?, WEIGHTS)
+}
+
+/// The graph of `y := x - (x + x)`: INPUT, ADD, SUB, OUT.
+fn difference(alloc: Global) -> Result<Graph, Build> {
+    let spot = Spot { line: 4, col: 8 };
+    let mut builder = GraphBuilder::new(alloc, Profile::Narrow);
+    builder.name(&Text::copy_of(alloc, b"y")?)?;
+    builder.name(&Text::copy_of(alloc, b"x")?)?;
+    let x = builder.input(1, Ty::Dint, spot)?;
+    let sum = builder.push(on_dint(Kind::Add, x, x, 0))?;
+    let rest = builder.push(on_dint(Kind::Sub, x, sum, 0))?;
+    builder.output(0, Ty::Dint, rest, spot)?;
+    Ok(builder.finish())
 }
 
 #[test]
 fn a_weight_below_zero_is_a_residue(rt: HostRuntime) -> Result<(), Fail> {
-    let graph = difference(rt.alloc())?;
-    let table = Table::new(rt.alloc(), &graph, 0, 1)?;
-    let audit = weights(rt.alloc(), &graph, &table, 0)?;
-    let expected = [2147483646, 2147483646, 1, 1];
-    for op in 0..4u32 {
-        assert_eq!(rt;
-            audit.weight(op, 0, 0),
-            expected[op as usize],
-            "operation {op}"
-        );
-        assert!(rt; audit.reached(op, 0, 0), "operation {op}");
-    }
-    Ok(())
+    same(
+        &shown(rt.alloc(), &difference(rt.alloc())?)?,
+        "2147483646 true 0 false\n2147483646 true 0 false\n1 true 0 false\n1 true 0 false\n",
+    )
 }

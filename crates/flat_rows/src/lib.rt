@@ -3,7 +3,7 @@
 #![tactic(auto)]
 
 #[cfg(test)]
-mod listing;
+mod faults;
 #[cfg(test)]
 mod listings;
 #[cfg(test)]

@@ -1,20 +1,22 @@
 //! The graphs of seven programs, operation by operation: kind, types, operands, own number, place and
 //! turns. The listings were made by another program, which shares no line with this one.
 
-use crate::listing::listing;
 use crate::sources::graph_of;
 use std::alloc::Global;
+use std::str::from_utf8;
 use std::test::Fail;
+use worked_graphs::listing;
+use worked_texts::same;
 
 /// A program, and the listing of its graph.
 struct Listed {
     source: &'static [u8],
-    listing: &'static [u8],
+    listing: &'static str,
 }
 
 const COUNTER: Listed = Listed {
     source: worked_texts::COUNTER,
-    listing: b"\
+    listing: "\
 0 LOAD DINT DINT cell 0 at 3:5
 1 CONST DINT DINT val 1 at 4:10
 2 ADD DINT DINT 0 1 at 4:8
@@ -31,7 +33,7 @@ VAR_OUTPUT q : DINT := 9; END_VAR
 IF d <> 0 THEN q := n / d; END_IF;
 END_PROGRAM
 ",
-    listing: b"\
+    listing: "\
 0 INPUT DINT DINT in 0 at 2:11
 1 INPUT DINT DINT in 1 at 2:21
 2 CONST DINT DINT val 0 at 4:9
@@ -67,7 +69,7 @@ ELSE
 END_IF;
 END_PROGRAM
 ",
-    listing: b"\
+    listing: "\
 0 INPUT INT INT in 0 at 2:11
 1 INPUT DINT DINT in 1 at 2:20
 2 INPUT BOOL BOOL in 2 at 2:30
@@ -129,7 +131,7 @@ ELSE
 END_CASE;
 END_PROGRAM
 ",
-    listing: b"\
+    listing: "\
 0 INPUT INT INT in 0 at 2:11
 1 INPUT BOOL BOOL in 1 at 2:20
 2 CONST INT INT val -5 at 6:3
@@ -191,7 +193,7 @@ END_IF;
 held := c & TRUE;
 END_PROGRAM
 ",
-    listing: b"\
+    listing: "\
 0 INPUT INT INT in 0 at 2:11
 1 INPUT DINT DINT in 1 at 2:20
 2 INPUT BOOL BOOL in 2 at 2:30
@@ -260,7 +262,7 @@ FOR j := 3 TO 1 DO y := 0; END_FOR;
 last := i + j;
 END_PROGRAM
 ",
-    listing: b"\
+    listing: "\
 0 INPUT INT INT in 0 at 2:11
 1 INPUT BOOL BOOL in 1 at 2:20
 2 CONST INT INT val 1 at 5:5 i=1
@@ -333,7 +335,7 @@ END_PROGRAM
 
 const CROSSING: Listed = Listed {
     source: worked_texts::CROSSING,
-    listing: b"\
+    listing: "\
 0 INPUT BOOL BOOL in 0 at 4:3
 1 INPUT BOOL BOOL in 1 at 5:3
 2 INPUT BOOL BOOL in 2 at 6:3
@@ -402,21 +404,19 @@ const CROSSING: Listed = Listed {
 ",
 };
 
-/// Whether a program's graph has its listing.
-fn is_listed(alloc: Global, program: &Listed) -> Result<bool, Fail> {
+/// Fails where a program's graph has another listing.
+fn is_listed(alloc: Global, program: &Listed) -> Result<(), Fail> {
     let graph = graph_of(alloc, program.source).ok_or("no graph")?;
-    Ok(listing(alloc, &graph)?.as_slice() == program.listing)
+    same(from_utf8(&listing(alloc, &graph)?)?, program.listing)
 }
 
 #[test]
 fn graphs_are_those_of_the_listings(rt: HostRuntime) -> Result<(), Fail> {
-    let alloc = rt.alloc();
-    assert!(rt; is_listed(alloc, &COUNTER)?);
-    assert!(rt; is_listed(alloc, &GUARDED)?);
-    assert!(rt; is_listed(alloc, &BRANCHES)?);
-    assert!(rt; is_listed(alloc, &LABELS)?);
-    assert!(rt; is_listed(alloc, &FUNCTIONS)?);
-    assert!(rt; is_listed(alloc, &LOOPS)?);
-    assert!(rt; is_listed(alloc, &CROSSING)?);
-    Ok(())
+    is_listed(rt.alloc(), &COUNTER)?;
+    is_listed(rt.alloc(), &GUARDED)?;
+    is_listed(rt.alloc(), &BRANCHES)?;
+    is_listed(rt.alloc(), &LABELS)?;
+    is_listed(rt.alloc(), &FUNCTIONS)?;
+    is_listed(rt.alloc(), &LOOPS)?;
+    is_listed(rt.alloc(), &CROSSING)
 }

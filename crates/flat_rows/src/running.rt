@@ -5,20 +5,21 @@ use coded_unit::CpuUnit;
 use op_graph::Graph;
 use signature_table::Table;
 use std::alloc::Global;
+use std::test::Fail;
 use vcp_base::{MOST_CYCLES, Memory, Row, StopKind, stop_name};
-use worked_texts::put_number;
+use worked_texts::{i64_of, put_number};
 
-/// The values of a row, a space before each, on a line.
+/// The values of a row, a blank behind each, and a stroke.
 fn put_row(alloc: Global, text: &mut Vec<u8>, row: &Row) -> Result<(), Memory> {
     for i in 0..row.len() {
-        text.extend_from_slice(b" ")?;
         put_number(alloc, text, row.at(i))?;
+        text.extend_from_slice(b" ")?;
     }
-    text.extend_from_slice(b"\n")?;
+    text.extend_from_slice(b"/ ")?;
     Ok(())
 }
 
-/// A stop at operation `i`: its kind, its place, and the turns round it, on a line.
+/// A stop at operation `i`: its kind, its place, and the turns round it.
 fn put_stop(
     alloc: Global,
     text: &mut Vec<u8>,
@@ -47,33 +48,41 @@ fn put_stop(
         text.extend_from_slice(b"=")?;
         put_number(alloc, text, turn.value)?;
     }
-    text.extend_from_slice(b"\n")?;
     Ok(())
 }
 
-/// A line for each cycle: the row of outputs, or the stop, which is the last.
-pub fn machine_lines(alloc: Global, graph: &Graph, rows: &[&[i64]]) -> Result<Vec<u8>, Memory> {
+/// The row of these values, with a blank between them; `-` stands for none.
+fn row_of(alloc: Global, values: &str) -> Result<Row, Fail> {
+    let mut row = Row::new(alloc);
+    for value in values.split(' ') {
+        if value != "-" {
+            row.push(i64_of(value)?)?;
+        }
+    }
+    Ok(row)
+}
+
+/// What each cycle gives on these rows, between strokes: the row of outputs, or the stop, which is the last.
+pub fn machine_lines(alloc: Global, graph: &Graph, rows: &str) -> Result<Vec<u8>, Fail> {
     let table = Table::new(alloc, graph, 305419896, 1)?;
     let mut machine = Machine::new(alloc, graph, &table)?;
     let mut out = Row::zeros(alloc, graph.outputs())?;
     let mut unit = CpuUnit::new();
     let mut text = Vec::new(alloc);
-    'cycles: for values in rows {
+    'cycles: for values in rows.split(" / ") {
         if machine.cycles() >= MOST_CYCLES {
             break;
         }
-        let row = Row::from_vec(values.to_vec(alloc)?);
+        let row = row_of(alloc, values)?;
         match machine.cycle(&mut unit, &row, &mut out) {
             CycleEnd::Released => put_row(alloc, &mut text, &out)?,
             CycleEnd::Stopped { op, kind } => {
                 put_stop(alloc, &mut text, graph, op, kind)?;
-                break;
+                return Ok(text);
             }
-            CycleEnd::Refused { .. } => {
-                text.extend_from_slice(b"refused\n")?;
-                break;
-            }
+            CycleEnd::Refused { .. } => return Err("refused".into()),
         }
     }
+    text.truncate(text.len().saturating_sub(2));
     Ok(text)
 }

@@ -3,11 +3,11 @@ use Rattle.std.proofs.Common.{◌≡◌, Option, Some, None, Ok, Err, Result, If
 use Rattle.op_graph.specs.declared.op.Op.{Op}
 use Rattle.op_graph.specs.Lists.{Lists}
 use Rattle.op_graph.specs.GraphRun.{Stop, graph_run}
-use Rattle.graph_passes.specs.Folding.{NoneFolds}
-use Rattle.graph_passes.specs.Pruning.{NonePrunes}
-use Rattle.graph_passes.specs.Reduced.{IsReduced}
+use Rattle.graph_passes.specs.Folding.{folded, NoneFolds}
+use Rattle.graph_passes.specs.Pruning.{IsPruned, NonePrunes}
+use Rattle.graph_passes.specs.Reduced.{IsReduced, IsReductionOf}
 use Rattle.graph_passes.specs.SameRun.{SamePlace, SameEnd, MeansAs}
-use Rattle.graph_passes.specs.Sharing.{NoneShares}
+use Rattle.graph_passes.specs.Sharing.{IsShared, NoneShares}
 
 -- what is proved of a graph holds where it is answered
 pub holds : {E : Type 0} (P : Lists → Type 0) (r : Result Lists E) (g : Lists) → IfOk r (λ h. h ≡ g) → P g → IfOk r P
@@ -55,3 +55,9 @@ pub reduced_by : {E : Type 0} (r : Result Lists E) → IfOk r (λ h. NoneFolds h
     → IfOk r (λ h. IsReduced h)
 reduced_by (Ok h) folds shares prunes = record { folds = folds; shares = shares; prunes = prunes }
 reduced_by (Err e) folds shares prunes = tt
+
+-- what is pruned of the graph that is shared of a folded graph
+pub reduction_by : {E : Type 0} (g f s : Lists) (r : Result Lists E) → f ≡ folded g → IsShared f s → IfOk r (λ h. IsPruned s h)
+    → IfOk r (λ h. IsReductionOf g h)
+reduction_by g f s (Ok h) is shared pruned = record { joined = s; shared = subst (λ x. IsShared x s) is shared; pruned = pruned }
+reduction_by g f s (Err e) is shared pruned = tt

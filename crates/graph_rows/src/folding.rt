@@ -1,7 +1,7 @@
 //! What the passes make of worked graphs: constants that are folded, operations that are joined, and what is left out.
 
 ghost use Rattle.std.specs.Prelude.{◌≡◌, pos, true};
-ghost use Rattle.vcp_base.specs.Types.{fits};
+ghost use Rattle.vcp_base.specs.Types.{fits as fits_of};
 
 use graph_passes::{
     closed_parts_are_graphs, closed_parts_mean_the_same, fold, prune, reduce, share,
@@ -9,8 +9,11 @@ use graph_passes::{
 };
 use op_graph::{Build, Graph, GraphBuilder, Op};
 use std::alloc::Global;
+use std::str::from_utf8;
 use std::test::Fail;
-use vcp_base::{Kind, Profile, Spot, Text, Ty};
+use vcp_base::{Kind, Profile, Spot, Text, Ty, fits};
+use worked_graphs::listing;
+use worked_texts::{cells, i64_of, same, word_off};
 
 /// An operation on INT values, which reads `a` and `b`.
 fn on_int(kind: Kind, a: u32, b: u32, imm: i64, col: u32) -> Op
@@ -31,8 +34,8 @@ fn on_int(kind: Kind, a: u32, b: u32, imm: i64, col: u32) -> Op
 
 /// The graph of `y := left + right;`, or of `y := left / right;`.
 fn of_two(alloc: Global, divides: bool, left: i64, right: i64) -> Result<Graph, Build>
-    requires left { fits Ty.Int left ≡ true }
-    requires right { fits Ty.Int right ≡ true }
+    requires left { fits_of Ty.Int left ≡ true }
+    requires right { fits_of Ty.Int right ≡ true }
 {
     let mut builder = GraphBuilder::new(alloc, Profile::Narrow);
     builder.name(&Text::copy_of(alloc, b"y")?)?;
@@ -47,28 +50,48 @@ fn of_two(alloc: Global, divides: bool, left: i64, right: i64) -> Result<Graph, 
     Ok(builder.finish())
 }
 
+/// Sums and quotients of two constants, and the operation that is made of each.
+const FOLDED: &str = "\
+2 + 3 => 2 CONST INT INT val 5 at 3:8
+32767 + 1 => 2 ADD INT INT 0 1 at 3:8
+-7 / 2 => 2 CONST INT INT val -3 at 3:8
+1 / 0 => 2 DIV INT INT 0 1 at 3:8
+";
+
+/// The listing of what is left of `y := left + right;`, or of `y := left / right;`.
+fn folded(alloc: Global, divides: bool, left: i64, right: i64) -> Result<Vec<u8>, Fail> {
+    if !fits(Ty::Int, left as i128) || !fits(Ty::Int, right as i128) {
+        return Err("no INT".into());
+    }
+    let graph = fold(alloc, of_two(alloc, divides, left, right)?)?;
+    Ok(listing(alloc, &graph)?)
+}
+
+/// Fails with the first of these that is folded otherwise.
+fn all_folded(alloc: Global, rows: &str) -> Result<(), Fail> {
+    for row in rows.lines() {
+        let (sum, wanted) = cells(row);
+        let (left, rest) = word_off(sum);
+        let (sign, right) = word_off(rest);
+        let found = folded(alloc, sign == "/", i64_of(left)?, i64_of(right)?)?;
+        if from_utf8(&found)?.lines().nth(2) != Some(wanted) {
+            return Err(Fail::new(row));
+        }
+    }
+    Ok(())
+}
+
 #[test]
 fn constants_are_folded_unless_they_stop(rt: HostRuntime) -> Result<(), Fail> {
+    all_folded(rt.alloc(), FOLDED)
+}
+
+#[test]
+fn laws_are_called() {
     closed_parts_are_graphs();
     closed_parts_mean_the_same();
     what_is_needed_means_the_same();
     what_is_shared_means_the_same();
-    let five = fold(rt.alloc(), of_two(rt.alloc(), false, 2, 3)?)?;
-    assert!(rt; five.len() == 4);
-    assert_eq!(rt; five.operation(2), on_int(Kind::Const, 0, 0, 5, 8));
-    assert_eq!(rt; five.operation(3).a, 2);
-    assert!(rt; five.names() == 1);
-    assert_eq!(rt; five.name(0).bytes(), b"y".as_slice());
-    let over = fold(rt.alloc(), of_two(rt.alloc(), false, 32767, 1)?)?;
-    assert!(rt; over.len() == 4);
-    assert_eq!(rt; over.operation(2), on_int(Kind::Add, 0, 1, 0, 8));
-    let divided = fold(rt.alloc(), of_two(rt.alloc(), true, -7, 2)?)?;
-    assert!(rt; divided.len() == 4);
-    assert_eq!(rt; divided.operation(2), on_int(Kind::Const, 0, 0, -3, 8));
-    let by_zero = fold(rt.alloc(), of_two(rt.alloc(), true, 1, 0)?)?;
-    assert!(rt; by_zero.len() == 4);
-    assert_eq!(rt; by_zero.operation(2), on_int(Kind::Div, 0, 1, 0, 8));
-    Ok(())
 }
 
 /// An operation on values of another type, which reads `a` and `b`.
@@ -101,50 +124,57 @@ fn with_leavings(alloc: Global) -> Result<Graph, Build> {
     Ok(builder.finish())
 }
 
+/// How many names and cells a graph has, and its listing.
+fn shown(alloc: Global, graph: &Graph) -> Result<String, Fail> {
+    let list = listing(alloc, graph)?;
+    let names = graph.names();
+    let cells = graph.cells();
+    Ok(format!(in alloc; "{names} names, {cells} cells\n{}", from_utf8(&list)?)?)
+}
+
+const PRUNED: &str = "\
+2 names, 0 cells
+0 CONST INT INT val 2 at 3:6
+1 CONST INT INT val 2 at 3:10
+2 ADD INT INT 0 1 at 3:8
+3 ADD INT INT 0 0 at 3:14
+4 ADD DINT DINT 0 1 at 3:18
+5 OUT INT INT 2 out 0 at 2:12
+";
+
 #[test]
 fn what_nothing_needs_is_left_out(rt: HostRuntime) -> Result<(), Fail> {
     let pruned = prune(rt.alloc(), with_leavings(rt.alloc())?)?;
-    assert_eq!(rt; [pruned.len(), pruned.cells(), pruned.names()], [6, 0, 2]);
-    assert_eq!(rt; pruned.operation(1), on_int(Kind::Const, 0, 0, 2, 10));
-    assert_eq!(rt; pruned.operation(2), on_int(Kind::Add, 0, 1, 0, 8));
-    assert_eq!(rt; pruned.operation(3), on_int(Kind::Add, 0, 0, 0, 14));
-    assert_eq!(rt; pruned.operation(5).a, 2);
-    assert!(rt; pruned.outputs() == 1);
-    assert_eq!(rt; pruned.output(0).op, 5);
-    Ok(())
+    same(&shown(rt.alloc(), &pruned)?, PRUNED)
 }
+
+const SHARED: &str = "\
+2 names, 1 cells
+0 LOAD BOOL BOOL cell 0 at 2:12
+1 CONST INT INT val 2 at 3:6
+2 CONST INT INT val 7 at 3:7
+3 ADD INT INT 1 1 at 3:8
+4 ADD DINT DINT 1 1 at 3:18
+5 OUT INT INT 3 out 0 at 2:12
+6 STORE BOOL BOOL 0 cell 0 at 2:12
+";
 
 #[test]
 fn equal_operations_are_joined(rt: HostRuntime) -> Result<(), Fail> {
     let shared = share(rt.alloc(), with_leavings(rt.alloc())?)?;
-    assert_eq!(rt; [shared.len(), shared.cells()], [7, 1]);
-    assert_eq!(rt; shared.operation(1), on_int(Kind::Const, 0, 0, 2, 6));
-    assert_eq!(rt; shared.operation(2), on_int(Kind::Const, 0, 0, 7, 7));
-    assert_eq!(rt; shared.operation(3), on_int(Kind::Add, 1, 1, 0, 8));
-    assert_eq!(rt; shared.operation(4), on_type(Kind::Add, Ty::Dint, 1, 1, 18));
-    Ok(())
+    same(&shown(rt.alloc(), &shared)?, SHARED)
 }
 
-#[test]
-fn readers_follow_what_is_joined(rt: HostRuntime) -> Result<(), Fail> {
-    let shared = share(rt.alloc(), with_leavings(rt.alloc())?)?;
-    assert_eq!(rt; shared.len(), 7);
-    assert_eq!(rt; shared.operation(5).a, 3);
-    assert_eq!(rt; shared.cells(), 1);
-    assert_eq!(rt; shared.cell(0).store, 6);
-    Ok(())
-}
+const REDUCED: &str = "\
+2 names, 0 cells
+0 CONST INT INT val 4 at 3:8
+1 OUT INT INT 0 out 0 at 2:12
+";
 
 #[test]
 fn three_passes_leave_a_constant(rt: HostRuntime) -> Result<(), Fail> {
     let reduced = reduce(rt.alloc(), with_leavings(rt.alloc())?)?;
-    assert_eq!(rt;
-        [reduced.len(), reduced.cells(), reduced.names()],
-        [2, 0, 2]
-    );
-    assert_eq!(rt; reduced.operation(0), on_int(Kind::Const, 0, 0, 4, 8));
-    assert_eq!(rt; reduced.operation(1).a, 0);
-    Ok(())
+    same(&shown(rt.alloc(), &reduced)?, REDUCED)
 }
 
 /// The graph of `y := 5;` with the cells of `s := NOT s;` and `n := n + 1;`, which feed themselves alone.
@@ -166,18 +196,18 @@ fn with_cells(alloc: Global) -> Result<Graph, Build> {
     Ok(builder.finish())
 }
 
+const STAYS: &str = "\
+3 names, 1 cells
+0 LOAD INT INT cell 0 at 2:12
+1 CONST INT INT val 1 at 3:10
+2 ADD INT INT 0 1 at 3:8
+3 CONST INT INT val 5 at 3:12
+4 OUT INT INT 3 out 0 at 2:12
+5 STORE INT INT 2 cell 0 at 2:12
+";
+
 #[test]
 fn a_cell_that_can_stop_stays(rt: HostRuntime) -> Result<(), Fail> {
     let pruned = prune(rt.alloc(), with_cells(rt.alloc())?)?;
-    assert_eq!(rt; [pruned.len(), pruned.cells(), pruned.names()], [6, 1, 3]);
-    let cell = pruned.cell(0);
-    assert_eq!(rt; [cell.name, cell.load, cell.store], [1, 0, 5]);
-    assert_eq!(rt; pruned.operation(0).imm, 0);
-    assert_eq!(rt; pruned.operation(2), on_int(Kind::Add, 0, 1, 0, 8));
-    assert_eq!(rt; pruned.operation(4).a, 3);
-    assert_eq!(rt;
-        [pruned.operation(5).a as i64, pruned.operation(5).imm],
-        [2, 0]
-    );
-    Ok(())
+    same(&shown(rt.alloc(), &pruned)?, STAYS)
 }

@@ -8,9 +8,11 @@ use op_graph::{
     numbers_have_64_bits, operands_are_in_their_types, operands_are_there,
 };
 use std::alloc::Global;
+use std::str::from_utf8;
 use std::test::Fail;
-use vcp_base::{Kind, Profile, Spot, Text, Turn, Ty};
-use worked_graphs::on_dint;
+use vcp_base::{Column, Columns, Kind, Profile, Spot, Text, Turn, Ty};
+use worked_graphs::{listing, on_dint};
+use worked_texts::same;
 
 /// The graph of `y := x + n; n := y;`, where `x` is an input and `n` a cell.
 fn sums(alloc: Global) -> Result<Graph, Build> {
@@ -32,7 +34,7 @@ fn sums(alloc: Global) -> Result<Graph, Build> {
 }
 
 #[test]
-fn graphs_are_built(rt: HostRuntime) -> Result<(), Fail> {
+fn laws_are_called() {
     cells_have_two_parts();
     entries_are_found_by_one_walk();
     entries_keep_their_rules();
@@ -40,52 +42,71 @@ fn graphs_are_built(rt: HostRuntime) -> Result<(), Fail> {
     numbers_have_64_bits();
     operands_are_in_their_types();
     operands_are_there();
-    let graph = sums(rt.alloc())?;
-    assert_eq!(rt; [graph.names(), graph.inputs(), graph.outputs()], [2, 1, 1]);
-    assert_eq!(rt; [graph.cells(), graph.turn_nodes(), graph.len()], [1, 1, 5]);
-    assert_eq!(rt; graph.name(0).bytes(), b"x".as_slice());
-    assert_eq!(rt;
+}
+
+/// The first entry of each list, where each has one.
+fn first_entries(graph: &Graph) -> Option<(Var, Outlet, Cell, TurnNode)> {
+    if graph.inputs() == 0
+        || graph.outputs() == 0
+        || graph.cells() == 0
+        || graph.turn_nodes() == 0
+    {
+        return None;
+    }
+    Some((
         graph.input(0),
-        Var {
-            name: 0,
-            ty: Ty::Dint
-        }
-    );
-    assert_eq!(rt;
         graph.output(0),
-        Outlet {
-            name: 1,
-            ty: Ty::Dint,
-            op: 3
-        }
-    );
-    assert_eq!(rt;
         graph.cell(0),
-        Cell {
-            name: 0,
-            ty: Ty::Dint,
-            init: 7,
-            load: 1,
-            store: 4
-        }
-    );
-    assert_eq!(rt;
         graph.turn_node(1),
-        TurnNode {
-            parent: 0,
-            name: 0,
-            value: 3
-        }
-    );
-    assert_eq!(rt; graph.operation(2), on_dint(Kind::Add, 0, 1, 0));
-    let columns = graph.columns(rt.alloc())?;
-    assert_eq!(rt; columns.len(), 1);
-    assert_eq!(rt; columns.at(0).name.bytes(), b"x".as_slice());
-    let columns = graph.output_columns(rt.alloc())?;
-    assert_eq!(rt; columns.len(), 1);
-    assert_eq!(rt; columns.at(0).name.bytes(), b"y".as_slice());
-    assert!(rt; columns.at(0).ty == Ty::Dint);
-    Ok(())
+    ))
+}
+
+const ENTRIES: &str = "\
+Some((Var { name: 0, ty: Dint }, Outlet { name: 1, ty: Dint, op: 3 }, \
+Cell { name: 0, ty: Dint, init: 7, load: 1, store: 4 }, TurnNode { parent: 0, name: 0, value: 3 }))";
+
+#[test]
+fn a_graph_has_its_entries(rt: HostRuntime) -> Result<(), Fail> {
+    let graph = sums(rt.alloc())?;
+    let entries = first_entries(&graph);
+    same(&format!(in rt.alloc(); "{entries:?}")?, ENTRIES)
+}
+
+/// The names and types of columns.
+fn shown(alloc: Global, columns: &Columns) -> Result<String, Fail> {
+    let mut out = String::new(alloc);
+    for i in 0..columns.len() {
+        let Column { name, ty } = columns.at(i);
+        out.push_str(from_utf8(name.bytes())?)?;
+        out.push_str(&format!(in alloc; " {ty:?} ")?)?;
+    }
+    Ok(out)
+}
+
+#[test]
+fn a_graph_has_its_columns(rt: HostRuntime) -> Result<(), Fail> {
+    let graph = sums(rt.alloc())?;
+    same(&shown(rt.alloc(), &graph.columns(rt.alloc())?)?, "x Dint ")?;
+    same(
+        &shown(rt.alloc(), &graph.output_columns(rt.alloc())?)?,
+        "y Dint ",
+    )
+}
+
+const LISTED: &str = "\
+0 INPUT DINT DINT in 0 at 2:1
+1 LOAD DINT DINT cell 0 at 2:1
+2 ADD DINT DINT 0 1 at 4:8
+3 OUT DINT DINT 2 out 0 at 2:1
+4 STORE DINT DINT 2 cell 0 at 2:1
+";
+
+#[test]
+fn a_graph_has_its_operations_in_both_codes(rt: HostRuntime) -> Result<(), Fail> {
+    let narrow = sums(rt.alloc())?;
+    same(from_utf8(&listing(rt.alloc(), &narrow)?)?, LISTED)?;
+    let wide = narrow.widened();
+    same(from_utf8(&listing(rt.alloc(), &wide)?)?, LISTED)
 }
 
 /// The graph of `y := x;` on LINT.
@@ -102,16 +123,10 @@ fn copies_lint(alloc: Global) -> Result<Graph, Build> {
 #[test]
 fn graphs_have_a_code(rt: HostRuntime) -> Result<(), Fail> {
     let narrow = sums(rt.alloc())?;
-    assert_eq!(rt; narrow.profile(), Profile::Narrow);
-    let widened = narrow.widened();
-    assert_eq!(rt; widened.profile(), Profile::Wide);
-    assert_eq!(rt; [widened.cells(), widened.turn_nodes()], [1, 1]);
-    assert!(rt; widened.len() == 5);
-    assert_eq!(rt; widened.operation(2), on_dint(Kind::Add, 0, 1, 0));
+    assert!(rt; narrow.profile() == Profile::Narrow);
+    assert!(rt; narrow.widened().profile() == Profile::Wide);
     let wide = copies_lint(rt.alloc())?;
-    assert_eq!(rt; wide.profile(), Profile::Wide);
-    assert!(rt; wide.len() == 2);
-    assert!(rt; wide.operation(1).ty == Ty::Lint);
+    assert!(rt; wide.profile() == Profile::Wide && wide.len() == 2);
     Ok(())
 }
 
@@ -129,14 +144,11 @@ fn filled(alloc: Global) -> Result<GraphBuilder, Build>
 #[test]
 fn no_operation_is_added_past_the_last(rt: HostRuntime) -> Result<(), Fail> {
     let mut builder = filled(rt.alloc())?;
-    assert!(rt; builder.len() == 65536);
-    assert_eq!(rt;
-        builder.push(on_dint(Kind::Const, 0, 0, 6)),
-        Err(Build::Full)
-    );
+    let full = builder.len() == 65536;
+    assert!(rt; full && builder.push(on_dint(Kind::Const, 0, 0, 6)) == Err(Build::Full));
     let graph = builder.finish();
     assert!(rt; graph.len() == 65536);
-    assert_eq!(rt; graph.operation(65535), on_dint(Kind::Const, 0, 0, 5));
+    assert!(rt; graph.operation(65535) == on_dint(Kind::Const, 0, 0, 5));
     Ok(())
 }
 
@@ -160,14 +172,22 @@ fn nested(alloc: Global) -> Result<Graph, Build>
     Ok(builder.finish())
 }
 
-#[test]
-fn turns_are_told_from_the_outermost_inwards(rt: HostRuntime) -> Result<(), Fail> {
-    let graph = nested(rt.alloc())?;
+/// Whether the turns of the one operation are those of values 0 to 599, and no more.
+fn has_all_turns(graph: &Graph) -> bool {
+    if graph.len() == 0 {
+        return false;
+    }
     let mut turns = graph.turns(0);
     for i in 0..600i64 {
-        assert_eq!(rt; turns.next(), Some(Turn { name: 0, value: i }));
+        if turns.next() != Some(Turn { name: 0, value: i }) {
+            return false;
+        }
     }
-    assert!(rt; turns.next().is_none());
-    assert!(rt; turns.next().is_none());
+    turns.next().is_none() && turns.next().is_none()
+}
+
+#[test]
+fn turns_are_told_from_the_outermost_inwards(rt: HostRuntime) -> Result<(), Fail> {
+    assert!(rt; has_all_turns(&nested(rt.alloc())?));
     Ok(())
 }

@@ -13,74 +13,87 @@ use vcp_outside::{
     Failed, Files, HostFiles, HostSink, MemFiles, MemSink, ReadAll, Sink, read_all,
     read_all_counting, write_all,
 };
+use worked_texts::{cells, repeated, u32_of, word_off};
+
+/// Two files, one of which was put twice.
+fn put_twice(alloc: Global) -> Result<MemFiles, Fail> {
+    let mut files = MemFiles::new(alloc);
+    files.put(b"a", b"one")?;
+    files.put(b"b", b"other")?;
+    files.put(b"a", b"twelve")?;
+    Ok(files)
+}
+
+/// What is read of a file, behind which the same name is put once more.
+fn read_late(files: &mut MemFiles, name: &[u8], wanted: &[u8]) -> Result<bool, Fail> {
+    let mut buf = [0u8; 8];
+    files.begin(name)?;
+    files.put(name, b"late")?;
+    let count = files.read(&mut buf)?;
+    Ok(buf.get(..count) == Some(wanted))
+}
 
 #[test]
 fn memory_holds_what_was_put_last(rt: HostRuntime) -> Result<(), Fail> {
-    let alloc = rt.alloc();
+    let mut files = put_twice(rt.alloc())?;
+    assert!(rt; read_late(&mut files, b"a", b"twelve")?);
+    assert!(rt; read_late(&mut files, b"b", b"other")?);
+    assert!(rt; files.begin(b"c").is_err());
+    assert!(rt; files.read(&mut [0u8; 8]) == Ok(0));
+    Ok(())
+}
+
+/// Three files, one of 5,000 bytes.
+fn three_files(alloc: Global) -> Result<MemFiles, Fail> {
     let mut files = MemFiles::new(alloc);
-    let puts: [(&[u8], &[u8]); 3] = [(b"a", b"one"), (b"b", b"other"), (b"a", b"twelve")];
-    for (name, bytes) in puts {
-        files.put(name, bytes)?;
+    files.put(b"long", &repeated(alloc, b"7", 5000)?)?;
+    files.put(b"short", b"abc")?;
+    files.put(b"empty", b"")?;
+    Ok(files)
+}
+
+/// How many bytes a file has that is read up to a limit, or why it isn't read.
+fn shown(alloc: Global, name: &str, limit: u32) -> Result<String, Fail> {
+    let mut files = three_files(alloc)?;
+    match read_all(alloc, &mut files, name.as_bytes(), limit as u64) {
+        Ok(text) => Ok(format!(in alloc; "{}", text.len())?),
+        Err(why) => Ok(format!(in alloc; "{why:?}")?),
     }
-    let mut buf = [0u8; 8];
-    assert_eq!(rt; files.read(&mut buf), Ok(0));
-    let rows: [(&[u8], Result<(), Failed>, &[u8]); 3] = [
-        (b"a", Ok(()), b"twelve"),
-        (b"b", Ok(()), b"other"),
-        (b"c", Err(Failed), b""),
-    ];
-    for (name, begun, wanted) in rows {
-        assert_eq!(rt; files.begin(name), begun);
-        // What is put now is not read by the file that is begun.
-        files.put(name, b"late")?;
-        let count = files.read(&mut buf).unwrap_or(0);
-        assert_eq!(rt; &buf[..count], wanted);
+}
+
+/// Names of files, limits, and how many bytes are read.
+const READS: &str = "\
+short 3 => 3
+short 2 => TooLong
+long 5000 => 5000
+long 4999 => TooLong
+empty 0 => 0
+short 0 => TooLong
+lacking 9 => Failed
+";
+
+/// Fails with the first of these that is read otherwise.
+fn all_read(alloc: Global, rows: &str) -> Result<(), Fail> {
+    for row in rows.lines() {
+        let (read, wanted) = cells(row);
+        let (name, limit) = word_off(read);
+        if shown(alloc, name, u32_of(limit)?)?.as_str() != wanted {
+            return Err(Fail::new(row));
+        }
     }
     Ok(())
 }
 
-/// A file's name, a limit, and its bytes or why it isn't read.
-type WholeRead<'a> = (&'a [u8], u32, Result<&'a [u8], ReadAll>);
-
-/// The first of these that is read otherwise.
-fn first_read_otherwise(
-    alloc: Global,
-    files: &mut MemFiles,
-    rows: &[WholeRead<'_>],
-) -> Option<usize> {
-    for (i, (name, limit, wanted)) in rows.iter().enumerate() {
-        let is_so = match (read_all(alloc, files, *name, *limit as u64), *wanted) {
-            (Ok(text), Ok(bytes)) => text.bytes() == bytes,
-            (Err(why), Err(wanted)) => why == wanted,
-            _ => false,
-        };
-        if !is_so {
-            return Some(i);
-        }
-    }
-    None
+#[test]
+fn whole_files_are_read_up_to_a_limit(rt: HostRuntime) -> Result<(), Fail> {
+    all_read(rt.alloc(), READS)
 }
 
 #[test]
-fn whole_files_are_read_up_to_a_limit(rt: HostRuntime) -> Result<(), Fail> {
-    let alloc = rt.alloc();
-    let long = vec![in alloc; 7u8; 5000]?;
-    let mut files = MemFiles::new(alloc);
-    files.put(b"long", &long)?;
-    files.put(b"short", b"abc")?;
-    files.put(b"empty", b"")?;
-    let rows: [WholeRead<'_>; 7] = [
-        (b"short", 3, Ok(b"abc")),
-        (b"short", 2, Err(ReadAll::TooLong)),
-        (b"long", 5000, Ok(&long)),
-        (b"long", 4999, Err(ReadAll::TooLong)),
-        (b"empty", 0, Ok(b"")),
-        (b"short", 0, Err(ReadAll::TooLong)),
-        (b"lacking", 9, Err(ReadAll::Failed)),
-    ];
-    assert_eq!(rt; first_read_otherwise(alloc, &mut files, &rows), None);
-    let text = read_with::<Brand>(alloc, &mut files, b"short", Blank::new(1))?;
-    assert_eq!(rt; text.bytes(), b"abc".as_slice());
+fn a_file_is_read_with_a_counter(rt: HostRuntime) -> Result<(), Fail> {
+    let mut files = three_files(rt.alloc())?;
+    let text = read_with::<Brand>(rt.alloc(), &mut files, b"short", Blank::new(1))?;
+    assert!(rt; text.bytes() == b"abc".as_slice());
     Ok(())
 }
 
@@ -137,23 +150,27 @@ fn a_read_that_breaks_is_a_failure(rt: HostRuntime) {
     };
     let text = read_all(rt.alloc(), &mut files, b"a", 9);
     assert!(rt; matches!(&text, Err(ReadAll::Failed)));
-    assert_eq!(rt; files.faults, 1);
+    assert!(rt; files.faults == 1);
+}
+
+/// Whether a piece of five bytes is answered so, and leaves these bytes, in a sink of this room.
+fn leaves(
+    alloc: Global,
+    room: u32,
+    wanted: Result<(), Failed>,
+    bytes: &[u8],
+) -> Result<bool, Fail> {
+    let mut sink = MemSink::new(alloc, room)?;
+    let nothing = sink.write(b"");
+    let answer = write_all(&mut sink, b"abcde");
+    Ok(nothing == Ok(0) && answer == wanted && sink.bytes() == bytes)
 }
 
 #[test]
 fn pieces_are_written_up_to_the_room(rt: HostRuntime) -> Result<(), Fail> {
-    let alloc = rt.alloc();
-    let rows: [(u32, Result<(), Failed>, &[u8]); 3] = [
-        (5, Ok(()), b"abcde"),
-        (4, Err(Failed), b"abcd"),
-        (0, Err(Failed), b""),
-    ];
-    for (room, wanted, bytes) in rows {
-        let mut sink = MemSink::new(alloc, room)?;
-        assert_eq!(rt; sink.write(b""), Ok(0));
-        assert_eq!(rt; write_all(&mut sink, b"abcde"), wanted);
-        assert_eq!(rt; sink.bytes(), bytes);
-    }
+    assert!(rt; leaves(rt.alloc(), 5, Ok(()), b"abcde")?);
+    assert!(rt; leaves(rt.alloc(), 4, Err(Failed), b"abcd")?);
+    assert!(rt; leaves(rt.alloc(), 0, Err(Failed), b"")?);
     Ok(())
 }
 
@@ -162,13 +179,19 @@ fn the_host_reads_its_files(rt: HostRuntime) -> Result<(), Fail> {
     fs::write(&rt, "in.txt", "abc")?;
     let mut files = HostFiles::new(&rt);
     let text = read_all(rt.alloc(), &mut files, b"in.txt", 3)?;
-    assert_eq!(rt; text.bytes(), b"abc".as_slice());
-    for name in [b"lacking".as_slice(), b"\xff".as_slice()] {
-        assert_eq!(rt; files.begin(b"in.txt"), Ok(()));
-        assert_eq!(rt; files.begin(name), Err(Failed));
-        assert_eq!(rt; files.read(&mut [0u8; 1]), Ok(0));
-    }
+    assert!(rt; text.bytes() == b"abc".as_slice());
     fs::remove_file(&rt, "in.txt")?;
+    Ok(())
+}
+
+#[test]
+fn a_lacking_file_of_the_host_ends_the_one_before(rt: HostRuntime) -> Result<(), Fail> {
+    fs::write(&rt, "held.txt", "abc")?;
+    let mut files = HostFiles::new(&rt);
+    assert!(rt; files.begin(b"held.txt").is_ok() && files.begin(b"lacking").is_err());
+    assert!(rt; files.read(&mut [0u8; 1]) == Ok(0));
+    assert!(rt; files.begin(b"\xff").is_err());
+    fs::remove_file(&rt, "held.txt")?;
     Ok(())
 }
 
@@ -177,11 +200,9 @@ fn the_host_is_written_to_and_flushed(rt: HostRuntime) -> Result<(), Fail> {
     // A writer with a buffer, which only a flush empties.
     let writer = BufWriter::new(rt.alloc(), fs::create(&rt, "out.txt")?)?;
     let mut out = HostSink::new(writer);
-    for piece in [b"some ".as_slice(), b"bytes".as_slice()] {
-        assert_eq!(rt; write_all(&mut out, piece), Ok(()));
-    }
+    assert!(rt; write_all(&mut out, b"some ").is_ok() && write_all(&mut out, b"bytes").is_ok());
     let written = fs::read(&rt, "out.txt")?;
-    assert_eq!(rt; written.as_slice(), b"some bytes".as_slice());
+    assert!(rt; written.as_slice() == b"some bytes".as_slice());
     fs::remove_file(&rt, "out.txt")?;
     Ok(())
 }
@@ -206,8 +227,8 @@ impl Write for NeverFlushed {
 #[test]
 fn a_flush_that_fails_is_a_fault(rt: HostRuntime) -> Result<(), Fail> {
     let mut out = HostSink::new(NeverFlushed { taken: 0 });
-    assert_eq!(rt; out.write(b""), Ok(0));
-    assert_eq!(rt; out.write(b"bytes"), Err(Failed));
-    assert_eq!(rt; write_all(&mut out, b"more"), Err(Failed));
+    assert!(rt; out.write(b"") == Ok(0));
+    assert!(rt; out.write(b"bytes") == Err(Failed));
+    assert!(rt; write_all(&mut out, b"more") == Err(Failed));
     Ok(())
 }

@@ -4,16 +4,19 @@ ghost use Rattle.std.specs.Prelude.{◌≡◌, length, IfOk};
 
 use input_rows::{RowFault, RowList, Rows, collect_rows, order_has_each_place};
 use std::alloc::Global;
+use std::str::from_utf8;
 use std::test::Fail;
 use vcp_base::{Column, Columns, Row, Text, Ty};
+use worked_texts::{cells, same, spelled, ty_named, word_off};
 
-/// Columns of these names and types.
-fn columns_of(alloc: Global, list: &[(&[u8], Ty)]) -> Result<Columns, Fail> {
+/// Columns of these types and names, one on each line.
+fn columns_of(alloc: Global, list: &str) -> Result<Columns, Fail> {
     let mut columns = Columns::new(alloc);
-    for (name, ty) in list {
+    for line in list.lines() {
+        let (ty, name) = word_off(line);
         columns.push(Column {
-            name: Text::copy_of(alloc, *name)?,
-            ty: *ty,
+            name: Text::copy_of(alloc, name.as_bytes())?,
+            ty: ty_named(ty)?,
         })?;
     }
     Ok(columns)
@@ -94,120 +97,103 @@ fn shown(alloc: Global, columns: &Columns, bytes: &[u8]) -> Result<Vec<u8>, Fail
     Ok(out)
 }
 
-/// The first file that isn't read as it says.
-fn first_wrong(
-    alloc: Global,
-    columns: &Columns,
-    files: &[(&[u8], &[u8])],
-) -> Result<Option<usize>, Fail> {
-    for (i, (bytes, want)) in files.iter().enumerate() {
-        let got = shown(alloc, columns, *bytes)?;
-        if got.as_slice() != *want {
-            return Ok(Some(i));
+/// Fails with the first file that isn't read as it says.
+fn all_read(alloc: Global, columns: &str, files: &str) -> Result<(), Fail> {
+    let columns = columns_of(alloc, columns)?;
+    for row in files.lines() {
+        let (file, want) = cells(row);
+        let got = shown(alloc, &columns, &spelled(alloc, file)?)?;
+        if got.as_slice() != want.as_bytes() {
+            return Err(Fail::new(row));
         }
     }
-    Ok(None)
+    Ok(())
 }
 
-const HEADERS: [(&[u8], &[u8]); 22] = [
-    (b"go,x,n\n1,2,3\n", b"1 2 3 / end"),
-    (b"N,GO,X\n3,1,2\n", b"1 2 3 / end"),
-    (b"\"go\",x,n\n\"1\",\" 2\",\"3\"\n", b"1 2 3 / end"),
-    (b" go\t,x , n\n 1 ,\t2,3 \n", b"1 2 3 / end"),
-    (b"go,x,n\r\n1,2,3\r\n", b"1 2 3 / end"),
-    (b"go,x,n\n1,2,3", b"1 2 3 / end"),
-    (b"go,x,n\n\n1,2,3\n\n\n0,4,5\n", b"1 2 3 / 0 4 5 / end"),
-    (b"\xEF\xBB\xBFgo,x,n\n1,2,3\n", b"1 2 3 / end"),
-    (b"\xEF\xBB\xBF\xEF\xBB\xBFgo,x,n\n1,2,3\n", b"Header"),
-    (b"\xEF\xBB\xBF", b"Header"),
-    (b"go,x,n\n", b"end"),
-    (b"\n\n go,x,n", b"end"),
-    (b"", b"Header"),
-    (b"\r\n\n", b"Header"),
-    (b"go,\"x\n\",n\n1,2,3\n", b"Header"),
-    (b"go,x,x\n", b"Header"),
-    (b"go,x,y\n", b"Header"),
-    (b"go,x,nn\n", b"Header"),
-    (b"go,x\n", b"Header"),
-    (b"go,x,n,n\n", b"Header"),
-    (b"go,x,n,\n", b"Header"),
-    (b"1,2,3\n", b"Header"),
-];
+/// The columns of the files.
+const COLUMNS: &str = "\
+BOOL go
+INT x
+DINT n
+";
 
-const CELLS: [(&[u8], &[u8]); 30] = [
-    (
-        b"go,x,n\nTRUE,2,3\nfAlSe,2,3\n0,2,3\n",
-        b"1 2 3 / 0 2 3 / 0 2 3 / end",
-    ),
-    (b"go,x,n\n1,+5,-0\n", b"1 5 0 / end"),
-    (
-        b"go,x,n\n1,0000000000000000000000000000000000032767,3\n",
-        b"1 32767 3 / end",
-    ),
-    (
-        b"go,x,n\n1,2,9999999999999999999999999999999999999999\n",
-        b"Cell { row: 2, column: 3 }",
-    ),
-    (
-        b"go,x,n\n1,2,-9999999999999999999999999999999999999999\n",
-        b"Cell { row: 2, column: 3 }",
-    ),
-    (
-        b"go,x,n\n1,-32768,-2147483648\n",
-        b"1 -32768 -2147483648 / end",
-    ),
-    (b"go,x,n\n1,32767,2147483647\n", b"1 32767 2147483647 / end"),
-    (b"go,x,n\n1,32768,3\n", b"Cell { row: 2, column: 2 }"),
-    (b"go,x,n\n1,-32769,3\n", b"Cell { row: 2, column: 2 }"),
-    (b"go,x,n\n1,2,2147483648\n", b"Cell { row: 2, column: 3 }"),
-    (b"go,x,n\n1,2,-2147483649\n", b"Cell { row: 2, column: 3 }"),
-    (b"go,x,n\n1,2,3\n0,4\n0,4,5\n", b"1 2 3 / Width { row: 3 }"),
-    (b"go,x,n\n1,2,3,4\n", b"Width { row: 2 }"),
-    (b"go,x,n\n1,2,3,\n", b"Width { row: 2 }"),
-    (b"go,x,n\n\n1,2,3\n\n1\n", b"1 2 3 / Width { row: 3 }"),
-    (b"go,x,n\nz,2\n", b"Width { row: 2 }"),
-    (b"n,x,go\na,b,c\n", b"Cell { row: 2, column: 1 }"),
-    (
-        b"n,go,x\n40000,1,1\n1,1,40000\n",
-        b"1 1 40000 / Cell { row: 3, column: 3 }",
-    ),
-    (b"go,x,n\n2,2,3\n", b"Cell { row: 2, column: 1 }"),
-    (b"go,x,n\n01,2,3\n", b"Cell { row: 2, column: 1 }"),
-    (b"go,x,n\nt,2,3\n", b"Cell { row: 2, column: 1 }"),
-    (b"go,x,n\n1,TRUE,3\n", b"Cell { row: 2, column: 2 }"),
-    (b"go,x,n\n1,,3\n", b"Cell { row: 2, column: 2 }"),
-    (b"go,x,n\n1,-,3\n", b"Cell { row: 2, column: 2 }"),
-    (b"go,x,n\n1,+-1,3\n", b"Cell { row: 2, column: 2 }"),
-    (b"go,x,n\n1,- 1,3\n", b"Cell { row: 2, column: 2 }"),
-    (b"go,x,n\n1,1_0,3\n", b"Cell { row: 2, column: 2 }"),
-    (b"go,x,n\n1,2.0,3\n", b"Cell { row: 2, column: 2 }"),
-    (b"go,x,n\n1,\"2\n\",3\n", b"Cell { row: 2, column: 2 }"),
-    (
-        b"go,x,n\n1,2,3\n1,2\xA0,3\n",
-        b"1 2 3 / Cell { row: 3, column: 2 }",
-    ),
-];
+/// Files, and the rows of each, or its fault.
+const HEADERS: &str = r"go,x,n\n1,2,3\n => 1 2 3 / end
+N,GO,X\n3,1,2\n => 1 2 3 / end
+\x22go\x22,x,n\n\x221\x22,\x22 2\x22,\x223\x22\n => 1 2 3 / end
+\x20go\t,x , n\n 1 ,\t2,3 \n => 1 2 3 / end
+go,x,n\r\n1,2,3\r\n => 1 2 3 / end
+go,x,n\n1,2,3 => 1 2 3 / end
+go,x,n\n\n1,2,3\n\n\n0,4,5\n => 1 2 3 / 0 4 5 / end
+\xef\xbb\xbfgo,x,n\n1,2,3\n => 1 2 3 / end
+\xef\xbb\xbf\xef\xbb\xbfgo,x,n\n1,2,3\n => Header
+\xef\xbb\xbf => Header
+go,x,n\n => end
+\n\n go,x,n => end
+ => Header
+\r\n\n => Header
+go,\x22x\n\x22,n\n1,2,3\n => Header
+go,x,x\n => Header
+go,x,y\n => Header
+go,x,nn\n => Header
+go,x\n => Header
+go,x,n,n\n => Header
+go,x,n,\n => Header
+1,2,3\n => Header
+";
 
-const LINT_CELLS: [(&[u8], &[u8]); 4] = [
-    (
-        b"l\n-9223372036854775808\n9223372036854775807\n",
-        b"-9223372036854775808 / 9223372036854775807 / end",
-    ),
-    (b"l\n9223372036854775808\n", b"Cell { row: 2, column: 1 }"),
-    (b"l\n-9223372036854775809\n", b"Cell { row: 2, column: 1 }"),
-    (b"l\nTRUE\n", b"Cell { row: 2, column: 1 }"),
-];
+const CELLS: &str = r"go,x,n\nTRUE,2,3\nfAlSe,2,3\n0,2,3\n => 1 2 3 / 0 2 3 / 0 2 3 / end
+go,x,n\n1,+5,-0\n => 1 5 0 / end
+go,x,n\n1,0000000000000000000000000000000000032767,3\n => 1 32767 3 / end
+go,x,n\n1,2,9999999999999999999999999999999999999999\n => Cell { row: 2, column: 3 }
+go,x,n\n1,2,-9999999999999999999999999999999999999999\n => Cell { row: 2, column: 3 }
+go,x,n\n1,-32768,-2147483648\n => 1 -32768 -2147483648 / end
+go,x,n\n1,32767,2147483647\n => 1 32767 2147483647 / end
+go,x,n\n1,32768,3\n => Cell { row: 2, column: 2 }
+go,x,n\n1,-32769,3\n => Cell { row: 2, column: 2 }
+go,x,n\n1,2,2147483648\n => Cell { row: 2, column: 3 }
+go,x,n\n1,2,-2147483649\n => Cell { row: 2, column: 3 }
+go,x,n\n1,2,3\n0,4\n0,4,5\n => 1 2 3 / Width { row: 3 }
+go,x,n\n1,2,3,4\n => Width { row: 2 }
+go,x,n\n1,2,3,\n => Width { row: 2 }
+go,x,n\n\n1,2,3\n\n1\n => 1 2 3 / Width { row: 3 }
+go,x,n\nz,2\n => Width { row: 2 }
+n,x,go\na,b,c\n => Cell { row: 2, column: 1 }
+n,go,x\n40000,1,1\n1,1,40000\n => 1 1 40000 / Cell { row: 3, column: 3 }
+go,x,n\n2,2,3\n => Cell { row: 2, column: 1 }
+go,x,n\n01,2,3\n => Cell { row: 2, column: 1 }
+go,x,n\nt,2,3\n => Cell { row: 2, column: 1 }
+go,x,n\n1,TRUE,3\n => Cell { row: 2, column: 2 }
+go,x,n\n1,,3\n => Cell { row: 2, column: 2 }
+go,x,n\n1,-,3\n => Cell { row: 2, column: 2 }
+go,x,n\n1,+-1,3\n => Cell { row: 2, column: 2 }
+go,x,n\n1,- 1,3\n => Cell { row: 2, column: 2 }
+go,x,n\n1,1_0,3\n => Cell { row: 2, column: 2 }
+go,x,n\n1,2.0,3\n => Cell { row: 2, column: 2 }
+go,x,n\n1,\x222\n\x22,3\n => Cell { row: 2, column: 2 }
+go,x,n\n1,2,3\n1,2\xa0,3\n => 1 2 3 / Cell { row: 3, column: 2 }
+";
+
+const LINT_CELLS: &str =
+    r"l\n-9223372036854775808\n9223372036854775807\n => -9223372036854775808 / 9223372036854775807 / end
+l\n9223372036854775808\n => Cell { row: 2, column: 1 }
+l\n-9223372036854775809\n => Cell { row: 2, column: 1 }
+l\nTRUE\n => Cell { row: 2, column: 1 }
+";
+
+#[test]
+fn files_with_a_header_give_rows(rt: HostRuntime) -> Result<(), Fail> {
+    all_read(rt.alloc(), COLUMNS, HEADERS)
+}
 
 #[test]
 fn files_give_rows_or_the_first_fault(rt: HostRuntime) -> Result<(), Fail> {
-    let alloc = rt.alloc();
-    let list: [(&[u8], Ty); 3] = [(b"go", Ty::Bool), (b"x", Ty::Int), (b"n", Ty::Dint)];
-    let columns = columns_of(alloc, &list)?;
-    assert_eq!(rt; first_wrong(alloc, &columns, &HEADERS)?, None);
-    assert_eq!(rt; first_wrong(alloc, &columns, &CELLS)?, None);
-    let wide = columns_of(alloc, &[(b"l", Ty::Lint)])?;
-    assert_eq!(rt; first_wrong(alloc, &wide, &LINT_CELLS)?, None);
-    Ok(())
+    all_read(rt.alloc(), COLUMNS, CELLS)
+}
+
+#[test]
+fn cells_of_lint_are_read(rt: HostRuntime) -> Result<(), Fail> {
+    all_read(rt.alloc(), "LINT l\n", LINT_CELLS)
 }
 
 /// How many rows are taken, and what the call after them says.
@@ -242,37 +228,39 @@ fn long_file(alloc: Global, records: u32) -> Result<Vec<u8>, Fail> {
     Ok(bytes)
 }
 
+/// How many rows a file has in one column up to a cycle, and what is said behind them.
+fn taken_of(alloc: Global, bytes: &[u8], last: u32) -> Result<(u32, Result<bool, RowFault>), Fail> {
+    let columns = one_column(alloc)?;
+    match Rows::new(alloc, bytes, &columns) {
+        Ok(rows) => taken(alloc, &mut rows.through(last), &columns),
+        Err(fault) => Ok((0, Err(fault))),
+    }
+}
+
 #[test]
 fn a_file_has_at_most_a_million_cycles(rt: HostRuntime) -> Result<(), Fail> {
-    let alloc = rt.alloc();
-    let columns = one_column(alloc)?;
-    let bytes = long_file(alloc, 1000001)?;
-    if let Ok(mut rows) = Rows::new(alloc, &bytes, &columns) {
-        let end = taken(alloc, &mut rows, &columns)?;
-        assert_eq!(rt; end, (1000000, Err(RowFault::Cycles)));
-        return Ok(());
-    }
-    assert!(rt; false);
+    let columns = one_column(rt.alloc())?;
+    let bytes = long_file(rt.alloc(), 1000001)?;
+    let mut rows = Rows::new(rt.alloc(), &bytes, &columns)?;
+    let end = taken(rt.alloc(), &mut rows, &columns)?;
+    assert!(rt; end == (1000000, Err(RowFault::Cycles)));
     Ok(())
 }
 
 #[test]
 fn cycles_have_no_inputs(rt: HostRuntime) -> Result<(), Fail> {
-    let alloc = rt.alloc();
-    let none = Columns::new(alloc);
-    let one = one_column(alloc)?;
-    assert_eq!(rt;
-        Rows::new(alloc, b"x\n1\n", &none).err(),
-        Some(RowFault::Form)
-    );
-    assert_eq!(rt; Rows::cycles(3, &one).err(), Some(RowFault::Form));
+    let none = Columns::new(rt.alloc());
+    assert!(rt; Rows::new(rt.alloc(), b"x\n1\n", &none).err() == Some(RowFault::Form));
+    let mut rows = Rows::cycles(3, &none)?;
+    assert!(rt; taken(rt.alloc(), &mut rows, &none)? == (3, Ok(false)));
+    Ok(())
+}
+
+#[test]
+fn inputs_have_no_cycles(rt: HostRuntime) -> Result<(), Fail> {
     order_has_each_place();
-    if let Ok(mut rows) = Rows::cycles(3, &none) {
-        let end = taken(alloc, &mut rows, &none)?;
-        assert_eq!(rt; end, (3, Ok(false)));
-        return Ok(());
-    }
-    assert!(rt; false);
+    let one = one_column(rt.alloc())?;
+    assert!(rt; Rows::cycles(3, &one).err() == Some(RowFault::Form));
     Ok(())
 }
 
@@ -289,22 +277,26 @@ fn show_list(alloc: Global, list: &RowList) -> Result<Vec<u8>, Fail> {
 }
 
 #[test]
-fn all_rows_are_kept_or_the_refusal_is_told(rt: HostRuntime) -> Result<(), Fail> {
-    let alloc = rt.alloc();
-    let columns = one_column(alloc)?;
-    let list = collect_rows(alloc, Rows::new(alloc, b"x\n5\n-7\n", &columns)?)?;
-    assert_eq!(rt;
-        show_list(alloc, &list)?.as_slice(),
-        b"5 / -7 / ".as_slice()
-    );
-    let Err(fault) = collect_rows(alloc, Rows::new(alloc, b"x\n5\ny\n", &columns)?) else {
-        assert!(rt; false, "rows of a file that is refused");
-        return Ok(());
-    };
-    assert_eq!(rt; fault, RowFault::Cell { row: 3, column: 1 });
-    let none = Columns::new(alloc);
-    let list = collect_rows(alloc, Rows::cycles(3, &none)?)?;
-    assert_eq!(rt; show_list(alloc, &list)?.as_slice(), b"/ / / ".as_slice());
+fn all_rows_are_kept(rt: HostRuntime) -> Result<(), Fail> {
+    let columns = one_column(rt.alloc())?;
+    let rows = Rows::new(rt.alloc(), b"x\n5\n-7\n", &columns)?;
+    let list = collect_rows(rt.alloc(), rows)?;
+    same(from_utf8(&show_list(rt.alloc(), &list)?)?, "5 / -7 / ")
+}
+
+#[test]
+fn rows_without_values_are_kept(rt: HostRuntime) -> Result<(), Fail> {
+    let none = Columns::new(rt.alloc());
+    let list = collect_rows(rt.alloc(), Rows::cycles(3, &none)?)?;
+    same(from_utf8(&show_list(rt.alloc(), &list)?)?, "/ / / ")
+}
+
+#[test]
+fn a_refusal_is_told_in_the_place_of_all_rows(rt: HostRuntime) -> Result<(), Fail> {
+    let columns = one_column(rt.alloc())?;
+    let rows = Rows::new(rt.alloc(), b"x\n5\ny\n", &columns)?;
+    let cell = RowFault::Cell { row: 3, column: 1 };
+    assert!(rt; collect_rows(rt.alloc(), rows).err() == Some(cell));
     Ok(())
 }
 
@@ -325,24 +317,20 @@ fn taken_through(
 }
 
 #[test]
-fn rows_end_behind_a_cycle_or_are_refused_before_it(rt: HostRuntime) -> Result<(), Fail> {
-    let alloc = rt.alloc();
+fn cycles_end_behind_a_cycle_or_are_refused_before_it(rt: HostRuntime) -> Result<(), Fail> {
     let lacks = Err(RowFault::Cycle);
-    assert_eq!(rt; taken_through(alloc, 2, 2)?, (3, Ok(false)));
-    assert_eq!(rt; taken_through(alloc, 3, 3)?, (3, lacks));
-    assert_eq!(rt; taken_through(alloc, 2, 0)?, (1, Ok(false)));
+    assert!(rt; taken_through(rt.alloc(), 2, 2)? == (3, Ok(false)));
+    assert!(rt; taken_through(rt.alloc(), 3, 3)? == (3, lacks));
+    assert!(rt; taken_through(rt.alloc(), 2, 0)? == (1, Ok(false)));
     // The second cycle is wanted of rows that end with the first.
-    assert_eq!(rt; taken_through(alloc, 0, 1)?, (1, lacks));
-    let columns = one_column(alloc)?;
-    if let Ok(rows) = Rows::new(alloc, b"x\n5\nq\n", &columns) {
-        let end = taken(alloc, &mut rows.through(0), &columns)?;
-        assert_eq!(rt; end, (1, Ok(false)));
-    }
-    if let Ok(rows) = Rows::new(alloc, b"x\n5\nq\n", &columns) {
-        let end = taken(alloc, &mut rows.through(7), &columns)?;
-        assert_eq!(rt; end, (1, Err(RowFault::Cell { row: 3, column: 1 })));
-        return Ok(());
-    }
-    assert!(rt; false);
+    assert!(rt; taken_through(rt.alloc(), 0, 1)? == (1, lacks));
+    Ok(())
+}
+
+#[test]
+fn rows_behind_the_last_cycle_are_not_read(rt: HostRuntime) -> Result<(), Fail> {
+    let cell = Err(RowFault::Cell { row: 3, column: 1 });
+    assert!(rt; taken_of(rt.alloc(), b"x\n5\nq\n", 0)? == (1, Ok(false)));
+    assert!(rt; taken_of(rt.alloc(), b"x\n5\nq\n", 7)? == (1, cell));
     Ok(())
 }

@@ -3,17 +3,7 @@
 use program_maker::make;
 use std::alloc::Global;
 use std::test::Fail;
-use vcp_base::Memory;
-
-// What is known of a made program: how long its texts are, and their FNV-1a sums of 64 bits.
-#[derive(Drop)]
-struct Known {
-    number: u32,
-    source_bytes: usize,
-    source_sum: u64,
-    rows_bytes: usize,
-    rows_sum: u64,
-}
+use worked_texts::{cells, u32_of};
 
 // The FNV-1a sum of bytes, of 64 bits.
 fn sum_of(bytes: &[u8]) -> u64 {
@@ -24,62 +14,38 @@ fn sum_of(bytes: &[u8]) -> u64 {
     sum
 }
 
-// How many of these programs are made as they are known.
-fn right_ones(alloc: Global, known: &[Known]) -> Result<usize, Memory> {
-    let mut right: usize = 0;
-    for k in known {
-        let made = make(alloc, k.number)?;
-        let source = made.source.bytes();
-        let rows = made.rows.bytes();
-        let lengths_agree = source.len() == k.source_bytes && rows.len() == k.rows_bytes;
-        let sums_agree = sum_of(source) == k.source_sum && sum_of(rows) == k.rows_sum;
-        if lengths_agree && sums_agree {
-            right = right.wrapping_add(1);
-        }
-    }
-    Ok(right)
+// A made program's bytes and their sum, and those of its rows.
+fn shown(alloc: Global, number: u32) -> Result<String, Fail> {
+    let made = make(alloc, number)?;
+    let source = made.source.bytes();
+    let rows = made.rows.bytes();
+    let source_sum = sum_of(source);
+    let rows_sum = sum_of(rows);
+    Ok(format!(in alloc; "{} {source_sum} {} {rows_sum}", source.len(), rows.len())?)
 }
 
-// The numbers 0 and 2^31 have one program, and so have the greatest numbers of each half.
+// Numbers, and how long the texts of the program are, each with its sum. The numbers 0 and 2^31 have one program, and so have the
+// greatest numbers of each half.
+const MADE: &str = "\
+0 => 34409 6335901161638444936 8839 17669717528290839112
+1 => 34823 1977082322937825151 8820 17834346235278238540
+7 => 34335 11662821966203415046 8788 14726094989067048768
+2147483648 => 34409 6335901161638444936 8839 17669717528290839112
+4294967295 => 34576 1581413093320062131 8844 17077916989088996262
+";
+
+// Fails with the first of these programs that is made otherwise.
+fn all_made(alloc: Global, rows: &str) -> Result<(), Fail> {
+    for row in rows.lines() {
+        let (number, wanted) = cells(row);
+        if shown(alloc, u32_of(number)?)?.as_str() != wanted {
+            return Err(Fail::new(row));
+        }
+    }
+    Ok(())
+}
+
 #[test]
 fn programs_are_those_of_the_format(rt: HostRuntime) -> Result<(), Fail> {
-    let known = [
-        Known {
-            number: 0,
-            source_bytes: 34409,
-            source_sum: 6335901161638444936,
-            rows_bytes: 8839,
-            rows_sum: 17669717528290839112,
-        },
-        Known {
-            number: 1,
-            source_bytes: 34823,
-            source_sum: 1977082322937825151,
-            rows_bytes: 8820,
-            rows_sum: 17834346235278238540,
-        },
-        Known {
-            number: 7,
-            source_bytes: 34335,
-            source_sum: 11662821966203415046,
-            rows_bytes: 8788,
-            rows_sum: 14726094989067048768,
-        },
-        Known {
-            number: 2147483648,
-            source_bytes: 34409,
-            source_sum: 6335901161638444936,
-            rows_bytes: 8839,
-            rows_sum: 17669717528290839112,
-        },
-        Known {
-            number: 4294967295,
-            source_bytes: 34576,
-            source_sum: 1581413093320062131,
-            rows_bytes: 8844,
-            rows_sum: 17077916989088996262,
-        },
-    ];
-    assert_eq!(rt; right_ones(rt.alloc(), &known)?, 5);
-    Ok(())
+    all_made(rt.alloc(), MADE)
 }

@@ -9,11 +9,7 @@ use std::alloc::Global;
 use std::test::Fail;
 use vcp_base::{Kind, Memory, Profile, Spot, Text, Ty};
 use worked_graphs::on_dint;
-use worked_texts::repeated;
-
-/// A change of an image: from which byte on, to which bytes in hexadecimal digits, and the fault of it;
-/// None where it is an image again.
-pub type Row = (usize, &'static [u8], Option<ImageFault>);
+use worked_texts::{cells, repeated, same, usize_of, word_off};
 
 /// The image of `y := x + 1` with seed 0 and step 1.
 const PLUS_ONE: &[u8] = b"\
@@ -47,6 +43,10 @@ const PLUS_ONE_LINT: &[u8] = b"\
     0103030000000000000000000000000000000000000001000000040000000a000000000ccccccccccccccd \
     08030300000000000000010000000000000000000000000000000400000008000000001ccccccccccccccc \
     0403030000000200000000000000000000000000000000000000030000000c000000001ccccccccccccccc";
+
+/// The image of no operations.
+const EMPTY: &[u8] =
+    b"564350414e42440a 0001 0001 00000000 00000000 00000000 00000000 00000000 00000000 00000000";
 
 fn digit(c: u8) -> Option<u8> {
     match c {
@@ -105,24 +105,37 @@ fn fault_of(alloc: Global, bytes: &[u8]) -> Option<ImageFault> {
     }
 }
 
-/// The place of the first change that has not its fault; None where the image is one, and each has it.
-pub fn first_told_otherwise(
-    alloc: Global,
-    image: &[u8],
-    rows: &[Row],
-) -> Result<Option<usize>, Memory> {
-    let image = bytes_of(alloc, image)?;
-    if fault_of(alloc, &image) != None {
-        return Ok(Some(0));
+/// The fault of the bytes, or `an image`.
+fn told(alloc: Global, bytes: &[u8]) -> Result<String, Fail> {
+    match fault_of(alloc, bytes) {
+        Some(fault) => Ok(format!(in alloc; "{fault:?}")?),
+        None => Ok(String::from_str(alloc, "an image")?),
     }
-    for (at, patch, fault) in rows {
-        let patch = bytes_of(alloc, patch)?;
-        let bytes = patched(alloc, &image, *at, &patch)?;
-        if fault_of(alloc, &bytes) != *fault {
-            return Ok(Some(*at));
+}
+
+/// Fails with the first row that tells otherwise of a change of this image. A row says from which byte on, to which bytes in
+/// hexadecimal digits, and what is told of the change; one that tells nothing is a heading.
+pub fn all_told(alloc: Global, image: &[u8], rows: &str) -> Result<(), Fail> {
+    let image = bytes_of(alloc, image)?;
+    for row in rows.lines() {
+        let (change, wanted) = cells(row);
+        let (at, patch) = word_off(change);
+        if !wanted.is_empty() {
+            let patch = bytes_of(alloc, patch.as_bytes())?;
+            let bytes = patched(alloc, &image, usize_of(at)?, &patch)?;
+            is_told(alloc, row, &bytes, wanted)?;
         }
     }
-    Ok(None)
+    Ok(())
+}
+
+/// Fails with the row where something else is told of the bytes.
+fn is_told(alloc: Global, row: &str, bytes: &[u8], wanted: &str) -> Result<(), Fail> {
+    if told(alloc, bytes)?.as_str() == wanted {
+        Ok(())
+    } else {
+        Err(Fail::new(row))
+    }
 }
 
 /// Whether the bytes are refused, or are the image of the graph and the table that they read to.
@@ -172,38 +185,53 @@ fn plus_one(alloc: Global) -> Result<Graph, Build> {
     Ok(builder.finish())
 }
 
+/// Whether the image of a graph, with the seed 0 and the step 1, is this one.
+fn is_image_of(alloc: Global, graph: &Graph, wanted: &[u8]) -> Result<bool, Fail> {
+    let table = Table::new(alloc, graph, 0, 1)?;
+    let image = write_image(alloc, graph, &table)?;
+    Ok(image.bytes() == bytes_of(alloc, wanted)?.as_slice())
+}
+
 #[test]
 fn a_graph_has_its_image_in_both_codes(rt: HostRuntime) -> Result<(), Fail> {
     let graph = plus_one(rt.alloc())?;
-    let table = Table::new(rt.alloc(), &graph, 0, 1)?;
-    let image = write_image(rt.alloc(), &graph, &table)?;
-    let wanted = bytes_of(rt.alloc(), PLUS_ONE)?;
-    assert_eq!(rt; wanted.len(), 220);
-    assert_eq!(rt; image.bytes(), &wanted[..]);
-    let wide = graph.widened();
-    let table = Table::new(rt.alloc(), &wide, 0, 1)?;
-    let image = write_image(rt.alloc(), &wide, &table)?;
-    let wanted = bytes_of(rt.alloc(), PLUS_ONE_WIDE)?;
-    assert_eq!(rt; wanted.len(), 236);
-    assert_eq!(rt; image.bytes(), &wanted[..]);
-    assert!(rt; is_refused_or_written(rt.alloc(), &wanted)?);
-    let lint = bytes_of(rt.alloc(), PLUS_ONE_LINT)?;
-    assert_eq!(rt; (lint.len(), fault_of(rt.alloc(), &lint)), (236, None));
-    assert!(rt; is_refused_or_written(rt.alloc(), &lint)?);
+    assert!(rt; is_image_of(rt.alloc(), &graph, PLUS_ONE)?);
+    assert!(rt; is_image_of(rt.alloc(), &graph.widened(), PLUS_ONE_WIDE)?);
+    Ok(())
+}
+
+#[test]
+fn an_empty_graph_has_an_image(rt: HostRuntime) -> Result<(), Fail> {
     let empty = GraphBuilder::new(rt.alloc(), Profile::Narrow).finish();
-    let table = Table::new(rt.alloc(), &empty, 0, 1)?;
-    assert_eq!(rt; write_image(rt.alloc(), &empty, &table)?.len(), 40);
+    assert!(rt; is_image_of(rt.alloc(), &empty, EMPTY)?);
+    Ok(())
+}
+
+#[test]
+fn wide_images_are_read(rt: HostRuntime) -> Result<(), Fail> {
+    let wide = bytes_of(rt.alloc(), PLUS_ONE_WIDE)?;
+    let lint = bytes_of(rt.alloc(), PLUS_ONE_LINT)?;
+    assert!(rt; fault_of(rt.alloc(), &wide).is_none() && fault_of(rt.alloc(), &lint).is_none());
+    assert!(rt;
+        is_refused_or_written(rt.alloc(), &wide)? && is_refused_or_written(rt.alloc(), &lint)?
+    );
+    Ok(())
+}
+
+/// Fails with the first front of the bytes that isn't told to end where it ends.
+fn all_fronts_short(alloc: Global, image: &[u8]) -> Result<(), Fail> {
+    for n in 0..u32::try_from(image.len())? {
+        let fault = fault_of(alloc, front(image, n as usize));
+        if fault != Some(ImageFault::Short { at: n }) {
+            return Err(Fail::new(n));
+        }
+    }
     Ok(())
 }
 
 #[test]
 fn each_front_is_short(rt: HostRuntime) -> Result<(), Fail> {
-    let image = bytes_of(rt.alloc(), PLUS_ONE)?;
-    for n in 0..220u32 {
-        let fault = fault_of(rt.alloc(), front(&image, n as usize));
-        assert_eq!(rt; fault, Some(ImageFault::Short { at: n }));
-    }
-    Ok(())
+    all_fronts_short(rt.alloc(), &bytes_of(rt.alloc(), PLUS_ONE)?)
 }
 
 /// Whether the same holds at each place from one to before another.
@@ -239,29 +267,23 @@ fn each_changed_byte_of_the_last_operations_is_refused_or_written(
     Ok(())
 }
 
+/// Changes of the image of `y := x + 1`.
+const PLACES: &str = "\
+180 ce => Table { at: 177, stored: 214748366, expected: 214748365 }
+9 03 => Version { at: 8 }
+9 01 => an image
+";
+
 #[test]
 fn faults_stand_at_their_places(rt: HostRuntime) -> Result<(), Fail> {
-    let rows: [Row; 3] = [
-        (
-            180,
-            b"ce",
-            Some(ImageFault::Table {
-                at: 177,
-                stored: 214748366,
-                expected: 214748365,
-            }),
-        ),
-        (9, b"03", Some(ImageFault::Version { at: 8 })),
-        (9, b"01", None),
-    ];
-    assert_eq!(rt; first_told_otherwise(rt.alloc(), PLUS_ONE, &rows)?, None);
+    all_told(rt.alloc(), PLUS_ONE, PLACES)
+}
+
+#[test]
+fn bytes_behind_an_image_are_told(rt: HostRuntime) -> Result<(), Fail> {
     let mut image = bytes_of(rt.alloc(), PLUS_ONE)?;
     image.push(0)?;
-    assert_eq!(rt;
-        fault_of(rt.alloc(), &image),
-        Some(ImageFault::Rest { at: 220 })
-    );
-    Ok(())
+    same(&told(rt.alloc(), &image)?, "Rest { at: 220 }")
 }
 
 /// The head with these counts, and more bytes.
@@ -272,46 +294,28 @@ fn with_counts(alloc: Global, counts: &[u8], more: &[u8]) -> Result<Vec<u8>, Mem
     Ok(bytes)
 }
 
-/// The counts of a head, the bytes behind it, and the place of the field that can't be.
-const COUNTS: [(&[u8], &[u8], u32); 3] = [
-    // one name, and a second input, whose name would have to rise
-    (
-        b"00000001 00000002 00000000 00000000 00000000 00000002",
-        b"0000000178 0000000002 0000000002",
-        50,
-    ),
-    // a turn node without names
-    (
-        b"00000000 00000000 00000000 00000000 00000001 00000000",
-        b"00000000 00000000 0000000000000000",
-        44,
-    ),
-    // an output at the operation of an input
-    (
-        b"00000002 00000001 00000001 00000000 00000000 00000002",
-        b"0000000178 0000000179 0000000002 000000010200000000 00",
-        64,
-    ),
-];
+/// The counts of a head, the bytes behind it, and what is told of both: of one name and a second input, whose name would have to
+/// rise; of a turn node without names; and of an output at the operation of an input.
+const COUNTS: &str = "\
+000000010000000200000000000000000000000000000002 000000017800000000020000000002 => Field { at: 50 }
+000000000000000000000000000000000000000100000000 00000000000000000000000000000000 => Field { at: 44 }
+000000020000000100000001000000000000000000000002 00000001780000000179000000000200000001020000000000 => Field { at: 64 }
+";
 
-/// The first of these images with another fault.
-fn first_counted_otherwise(
-    alloc: Global,
-    rows: &[(&[u8], &[u8], u32)],
-) -> Result<Option<usize>, Memory> {
-    for (i, (counts, more, at)) in rows.iter().enumerate() {
-        let bytes = with_counts(alloc, *counts, *more)?;
-        if fault_of(alloc, &bytes) != Some(ImageFault::Field { at: *at }) {
-            return Ok(Some(i));
-        }
+/// Fails with the first of these images of which something else is told.
+fn all_counts_told(alloc: Global, rows: &str) -> Result<(), Fail> {
+    for row in rows.lines() {
+        let (image, wanted) = cells(row);
+        let (counts, more) = word_off(image);
+        let bytes = with_counts(alloc, counts.as_bytes(), more.as_bytes())?;
+        is_told(alloc, row, &bytes, wanted)?;
     }
-    Ok(None)
+    Ok(())
 }
 
 #[test]
 fn counts_that_no_graph_has_are_told_where_they_show(rt: HostRuntime) -> Result<(), Fail> {
-    assert_eq!(rt; first_counted_otherwise(rt.alloc(), &COUNTS)?, None);
-    Ok(())
+    all_counts_told(rt.alloc(), COUNTS)
 }
 
 /// The letter or digit of a number below 36.
@@ -358,8 +362,7 @@ fn many_long_names_are_read_in_time(rt: HostRuntime) -> Result<(), Fail> {
         b"",
     )?;
     long_names(rt.alloc(), &mut names, 1024)?;
-    assert_eq!(rt; names.len(), 2052136);
-    assert_eq!(rt; fault_of(rt.alloc(), &names), None);
+    assert!(rt; names.len() == 2052136 && fault_of(rt.alloc(), &names).is_none());
     Ok(())
 }
 
@@ -372,7 +375,8 @@ fn the_largest_graph_is_read_and_written_in_time(rt: HostRuntime) -> Result<(), 
         b"0000000178",
     )?;
     nodes_and_constants(&mut graph, 65536)?;
-    assert_eq!(rt; fault_of(rt.alloc(), &graph), None);
-    assert!(rt; is_refused_or_written(rt.alloc(), &graph)?);
+    assert!(rt;
+        fault_of(rt.alloc(), &graph).is_none() && is_refused_or_written(rt.alloc(), &graph)?
+    );
     Ok(())
 }

@@ -1,92 +1,61 @@
 //! `audit` of the images of some programs. What is reached and blind was worked out by hand, and for the
 //! crossing by another program.
 
-use crate::calls::{gives, holding};
+use crate::calls::programs;
 use coded_unit::CpuUnit;
 use std::alloc::Global;
 use std::test::Fail;
 use vcp_base::Memory;
 use vcp_outside::MemFiles;
-use worked_programs::{ADD, COUNTER, CROSSING, give, joined, repeated};
+use worked_programs::{call, call_in, joined, play, repeated};
 
-/// A program, a horizon, and the audit of its image.
-type Audited<'a> = (&'a [u8], &'a [u8], &'a [u8]);
-
-/// What a program of one statement over DINT begins with.
-const HEAD: &[u8] = b"\
-PROGRAM p
-VAR_INPUT x : DINT; END_VAR
-VAR_OUTPUT y : DINT; z : DINT; END_VAR
-";
-
-const DIFFERENCE: Audited<'_> = (
-    b"\
-PROGRAM p
-VAR_INPUT x : DINT; END_VAR
-VAR_OUTPUT y : DINT; END_VAR
-y := x - x;
-END_PROGRAM
-",
-    b"0",
-    b"y 0 reached 3 blind 1\nblind 0 INPUT\n",
-);
-
-const TWO_SUMS: Audited<'_> = (
-    b"\
-PROGRAM p
-VAR_INPUT x : DINT; END_VAR
-VAR_OUTPUT y : DINT; END_VAR
-y := (x + x) - (x + x);
-END_PROGRAM
-",
-    b"0",
-    b"y 0 reached 4 blind 2\nblind 0 INPUT\nblind 1 ADD\n",
-);
-
-const COPY: Audited<'_> = (
-    b"\
-PROGRAM p
-VAR_INPUT x : DINT; END_VAR
-VAR_OUTPUT y : DINT; END_VAR
-y := x;
-END_PROGRAM
-",
-    b"0",
-    b"y 0 reached 2 blind 0\n",
-);
-
-const CHAIN: Audited<'_> = (
-    b"\
-PROGRAM p
-VAR_INPUT x : DINT; END_VAR
-VAR_OUTPUT y : DINT; END_VAR
-VAR a : DINT; b : DINT; END_VAR
-y := b;
-b := a;
-a := x;
-END_PROGRAM
-",
-    b"3",
-    b"\
+/// Programs, a horizon, and the audit of the image of each.
+const AUDITS: &str =
+    r"< p.st PROGRAM p\nVAR_INPUT x : DINT; END_VAR\nVAR_OUTPUT y : DINT; END_VAR\ny := x - x;\nEND_PROGRAM\n
+$ compile p.st --seed 0
+> m.img
+$ audit m.img 0
+y 0 reached 3 blind 1
+blind 0 INPUT
+= 0
+< p.st PROGRAM p\nVAR_INPUT x : DINT; END_VAR\nVAR_OUTPUT y : DINT; END_VAR\ny := (x + x) - (x + x);\nEND_PROGRAM\n
+$ compile p.st --seed 0
+> m.img
+$ audit m.img 0
+y 0 reached 4 blind 2
+blind 0 INPUT
+blind 1 ADD
+= 0
+< p.st PROGRAM p\nVAR_INPUT x : DINT; END_VAR\nVAR_OUTPUT y : DINT; END_VAR\ny := x;\nEND_PROGRAM\n
+$ compile p.st --seed 0
+> m.img
+$ audit m.img 0
+y 0 reached 2 blind 0
+= 0
+< p.st PROGRAM p\nVAR_INPUT x : DINT; END_VAR\nVAR_OUTPUT y : DINT; END_VAR\nVAR a : DINT; b : DINT; END_VAR\ny := b;\nb := a;\na := x;\nEND_PROGRAM\n
+$ compile p.st --seed 0
+> m.img
+$ audit m.img 3
 y 0 reached 2 blind 0
 y 1 reached 2 blind 0
 y 2 reached 2 blind 0
 y 3 reached 0 blind 0
-",
-);
-
-const ADD_AUDITED: Audited<'_> = (ADD, b"1", b"y 0 reached 4 blind 0\ny 1 reached 0 blind 0\n");
-
-const COUNTER_AUDITED: Audited<'_> = (
-    COUNTER,
-    b"1",
-    b"y 0 reached 4 blind 0\ny 1 reached 4 blind 0\n",
-);
-
-const CROSSING_AUDITED: Audited<'_> = (
-    CROSSING,
-    b"8",
-    b"\
+= 0
+$ compile add.st --seed 0
+> m.img
+$ audit m.img 1
+y 0 reached 4 blind 0
+y 1 reached 0 blind 0
+= 0
+$ compile counter.st --seed 0
+> m.img
+$ audit m.img 1
+y 0 reached 4 blind 0
+y 1 reached 4 blind 0
+= 0
+$ compile crossing.st --seed 0
+> m.img
+$ audit m.img 8
 lights 0 reached 43 blind 0
 lights 1 reached 42 blind 0
 lights 2 reached 42 blind 0
@@ -105,34 +74,20 @@ motor 5 reached 42 blind 0
 motor 6 reached 42 blind 0
 motor 7 reached 42 blind 0
 motor 8 reached 42 blind 0
-",
-);
-
-/// Whether each program has its audit.
-fn are_audited(alloc: Global, rows: &[Audited<'_>]) -> Result<bool, Memory> {
-    let mut all = true;
-    for (source, horizon, expected) in rows {
-        let mut files = holding(alloc, *source, b"")?;
-        let words: [&[u8]; 3] = [b"audit", b"m.img", *horizon];
-        all = gives(alloc, &words, &mut files, (*expected, b"", 0))? && all;
-    }
-    Ok(all)
-}
+= 0
+";
 
 #[test]
 fn audits_name_the_blind_operations(rt: HostRuntime) -> Result<(), Fail> {
-    let rows = [
-        DIFFERENCE,
-        TWO_SUMS,
-        COPY,
-        CHAIN,
-        ADD_AUDITED,
-        COUNTER_AUDITED,
-        CROSSING_AUDITED,
-    ];
-    assert!(rt; are_audited(rt.alloc(), &rows)?);
-    Ok(())
+    play(rt.alloc(), &mut programs(rt.alloc())?, AUDITS)
 }
+
+/// What a program of one statement over DINT begins with.
+const HEAD: &[u8] = b"\
+PROGRAM p
+VAR_INPUT x : DINT; END_VAR
+VAR_OUTPUT y : DINT; z : DINT; END_VAR
+";
 
 /// The files with the image of a program of 16,384 operations and two outputs.
 fn holding_the_largest(alloc: Global) -> Result<MemFiles, Memory> {
@@ -143,26 +98,33 @@ fn holding_the_largest(alloc: Global) -> Result<MemFiles, Memory> {
     )?;
     let mut files = MemFiles::new(alloc);
     files.put(b"p.st", &source)?;
-    let words: [&[u8]; 2] = [b"compile", b"p.st"];
-    let image = give(alloc, &words, &[], &mut files, &mut CpuUnit::new(), 700000)?;
+    let image = call_in(
+        alloc,
+        &mut files,
+        &mut CpuUnit::new(),
+        700000,
+        "compile",
+        "p.st",
+    )?;
     files.put(b"m.img", image.out.bytes())?;
     Ok(files)
 }
 
 #[test]
 fn the_largest_audit_passes_and_the_next_is_refused(rt: HostRuntime) -> Result<(), Fail> {
-    let alloc = rt.alloc();
-    let mut files = holding_the_largest(alloc)?;
-    let largest: [&[u8]; 3] = [b"audit", b"m.img", b"511"];
-    let given = give(alloc, &largest, &[], &mut files, &mut CpuUnit::new(), 40000)?;
-    assert_eq!(rt; given.status, 0);
-    assert!(rt;
-        given
-            .out
-            .bytes()
-            .starts_with(b"y 0 reached 16383 blind 0\ny 1 reached 0 blind 0\n")
-    );
-    let next: [&[u8]; 3] = [b"audit", b"m.img", b"512"];
-    assert!(rt; gives(alloc, &next, &mut files, (b"", b"m.img L6 Audit\n", 1))?);
-    Ok(())
+    let mut files = holding_the_largest(rt.alloc())?;
+    let given = call(
+        rt.alloc(),
+        &mut files,
+        &mut CpuUnit::new(),
+        "audit",
+        "m.img 511",
+    )?;
+    let front = b"y 0 reached 16383 blind 0\ny 1 reached 0 blind 0\n";
+    assert!(rt; given.status == 0 && given.out.bytes().starts_with(front));
+    play(
+        rt.alloc(),
+        &mut files,
+        "$ audit m.img 512\n= 1 m.img L6 Audit\n",
+    )
 }

@@ -1,59 +1,66 @@
 //! `list` of the images of programs, whose graphs are reduced. The listing of the folded sum was worked out
 //! by hand, and the others were made by another program, which shares no line with this one.
 
-use crate::calls::{gives, holding};
-use std::alloc::Global;
+use crate::calls::programs;
 use std::test::Fail;
-use vcp_base::Memory;
-use worked_programs::{ADD, COUNTER, CROSSING};
+use worked_programs::play;
 
-/// A program, and the listing of its image with seed 0.
-type Listed<'a> = (&'a [u8], &'a [u8]);
-
-const ADD_LISTED: Listed<'_> = (
-    ADD,
-    b"\
+/// A sum.
+const ADD: &str = "\
+$ compile add.st --seed 0
+> m.img
+$ list m.img
 0 INPUT DINT DINT in 0 sig 0 cor 0 at 2:11
 1 CONST DINT DINT val 1 sig 214748365 cor 214748365 at 4:10
 2 ADD DINT DINT 0 1 sig 429496730 cor 214748365 at 4:8
 3 OUT DINT DINT 2 out 0 sig 644245095 cor 214748365 at 3:12
-",
-);
+= 0
+";
+
+#[test]
+fn a_sum_is_listed(rt: HostRuntime) -> Result<(), Fail> {
+    play(rt.alloc(), &mut programs(rt.alloc())?, ADD)
+}
 
 /// The sum of two constants, which is folded to one.
-const FOLDED_LISTED: Listed<'_> = (
-    b"\
-PROGRAM p
-VAR_OUTPUT y : INT; END_VAR
-y := 2 + 3;
-END_PROGRAM
-",
-    b"\
+const FOLDED: &str = r"< p.st PROGRAM p\nVAR_OUTPUT y : INT; END_VAR\ny := 2 + 3;\nEND_PROGRAM\n
+$ compile p.st --seed 0
+> m.img
+$ list m.img
 0 CONST INT INT val 5 sig 0 cor 0 at 3:8
 1 OUT INT INT 0 out 0 sig 214748365 cor 214748365 at 2:12
-",
-);
+= 0
+";
 
-const COUNTER_LISTED: Listed<'_> = (
-    COUNTER,
-    b"\
+#[test]
+fn a_folded_sum_is_listed(rt: HostRuntime) -> Result<(), Fail> {
+    play(rt.alloc(), &mut programs(rt.alloc())?, FOLDED)
+}
+
+/// A cell.
+const COUNTER: &str = "\
+$ compile counter.st --seed 0
+> m.img
+$ list m.img
 0 LOAD DINT DINT cell 0 sig 0 cor 1288490188 at 3:5
 1 CONST DINT DINT val 1 sig 214748365 cor 214748365 at 4:10
 2 ADD DINT DINT 0 1 sig 429496730 cor 214748365 at 4:8
 3 OUT DINT DINT 2 out 0 sig 644245095 cor 214748365 at 2:12
 4 STORE DINT DINT 2 cell 0 sig 858993460 cor 429496730 at 3:5
-",
-);
+= 0
+";
 
-const GUARDED_LISTED: Listed<'_> = (
-    b"\
-PROGRAM p
-VAR_INPUT n : DINT; d : DINT; END_VAR
-VAR_OUTPUT q : DINT := 9; END_VAR
-IF d <> 0 THEN q := n / d; END_IF;
-END_PROGRAM
-",
-    b"\
+#[test]
+fn a_counter_is_listed(rt: HostRuntime) -> Result<(), Fail> {
+    play(rt.alloc(), &mut programs(rt.alloc())?, COUNTER)
+}
+
+/// A division that is guarded.
+const GUARDED: &str =
+    r"< p.st PROGRAM p\nVAR_INPUT n : DINT; d : DINT; END_VAR\nVAR_OUTPUT q : DINT := 9; END_VAR\nIF d <> 0 THEN q := n / d; END_IF;\nEND_PROGRAM\n
+$ compile p.st --seed 0
+> m.img
+$ list m.img
 0 INPUT DINT DINT in 0 sig 0 cor 0 at 2:11
 1 INPUT DINT DINT in 1 sig 214748365 cor 214748365 at 2:21
 2 CONST DINT DINT val 0 sig 429496730 cor 429496730 at 4:9
@@ -68,28 +75,20 @@ END_PROGRAM
 11 SEL DINT DINT 4 10 9 sig 214748367 cor 1932735181 at 4:16
 12 OUT DINT DINT 11 out 0 sig 429496732 cor 214748365 at 3:12
 13 STORE DINT DINT 11 cell 0 sig 644245097 cor 429496730 at 3:12
-",
-);
+= 0
+";
 
-const BRANCHES_LISTED: Listed<'_> = (
-    b"\
-PROGRAM branches
-VAR_INPUT a : INT; b : DINT; c : BOOL; END_VAR
-VAR_OUTPUT y : DINT; z : INT := 7; END_VAR
-VAR s : INT := -3; END_VAR
-IF c THEN
-  y := a / s;
-ELSIF a > 5 THEN
-  IF b <= 9 THEN
-    z := z + 1;
-  END_IF;
-  y := b MOD 3;
-ELSE
-  s := ABS(s);
-END_IF;
-END_PROGRAM
-",
-    b"\
+#[test]
+fn a_guarded_division_is_listed(rt: HostRuntime) -> Result<(), Fail> {
+    play(rt.alloc(), &mut programs(rt.alloc())?, GUARDED)
+}
+
+/// Branches within branches.
+const BRANCHES: &str =
+    r"< p.st PROGRAM branches\nVAR_INPUT a : INT; b : DINT; c : BOOL; END_VAR\nVAR_OUTPUT y : DINT; z : INT := 7; END_VAR\nVAR s : INT := -3; END_VAR\nIF c THEN\n  y := a / s;\nELSIF a > 5 THEN\n  IF b <= 9 THEN\n    z := z + 1;\n  END_IF;\n  y := b MOD 3;\nELSE\n  s := ABS(s);\nEND_IF;\nEND_PROGRAM\n
+$ compile p.st --seed 0
+> m.img
+$ list m.img
 0 INPUT INT INT in 0 sig 0 cor 0 at 2:11
 1 INPUT DINT DINT in 1 sig 214748365 cor 214748365 at 2:20
 2 INPUT BOOL BOOL in 2 sig 429496730 cor 429496730 at 2:30
@@ -131,26 +130,20 @@ END_PROGRAM
 38 STORE INT INT 35 cell 0 sig 644245102 cor 644245095 at 4:5
 39 STORE DINT DINT 28 cell 1 sig 858993467 cor 214748367 at 3:12
 40 STORE INT INT 23 cell 2 sig 8 cor 1503238556 at 3:22
-",
-);
+= 0
+";
 
-const LABELS_LISTED: Listed<'_> = (
-    b"\
-PROGRAM labels
-VAR_INPUT n : INT; on : BOOL; END_VAR
-VAR_OUTPUT r : INT; END_VAR
-VAR CONSTANT LOW : INT := 2; END_VAR
-CASE n OF
-  -5, LOW, 7..9: r := 1;
-  3..6: r := r - 1;
-ELSE
-  IF on THEN
-    CASE r OF 0: r := 100; END_CASE;
-  END_IF;
-END_CASE;
-END_PROGRAM
-",
-    b"\
+#[test]
+fn branches_are_listed(rt: HostRuntime) -> Result<(), Fail> {
+    play(rt.alloc(), &mut programs(rt.alloc())?, BRANCHES)
+}
+
+/// Branches of a CASE.
+const LABELS: &str =
+    r"< p.st PROGRAM labels\nVAR_INPUT n : INT; on : BOOL; END_VAR\nVAR_OUTPUT r : INT; END_VAR\nVAR CONSTANT LOW : INT := 2; END_VAR\nCASE n OF\n  -5, LOW, 7..9: r := 1;\n  3..6: r := r - 1;\nELSE\n  IF on THEN\n    CASE r OF 0: r := 100; END_CASE;\n  END_IF;\nEND_CASE;\nEND_PROGRAM\n
+$ compile p.st --seed 0
+> m.img
+$ list m.img
 0 INPUT INT INT in 0 sig 0 cor 0 at 2:11
 1 INPUT BOOL BOOL in 1 sig 214748365 cor 214748365 at 2:20
 2 CONST INT INT val -5 sig 429496730 cor 429496730 at 6:3
@@ -190,27 +183,20 @@ END_PROGRAM
 36 SEL INT INT 34 29 35 sig 214748372 cor 644244714 at 10:18
 37 OUT INT INT 36 out 0 sig 429496737 cor 214748365 at 3:12
 38 STORE INT INT 36 cell 0 sig 644245102 cor 429496730 at 3:12
-",
-);
+= 0
+";
 
-const LOOPS_LISTED: Listed<'_> = (
-    b"\
-PROGRAM loops
-VAR_INPUT x : INT; on : BOOL; END_VAR
-VAR_OUTPUT y : DINT; last : INT; END_VAR
-VAR i : INT; j : INT; END_VAR
-FOR i := 1 TO 2 DO
-  IF on THEN
-    FOR j := 5 TO 1 BY -2 DO
-      y := y + x * j;
-    END_FOR;
-  END_IF;
-END_FOR;
-FOR j := 3 TO 1 DO y := 0; END_FOR;
-last := i + j;
-END_PROGRAM
-",
-    b"\
+#[test]
+fn labels_are_listed(rt: HostRuntime) -> Result<(), Fail> {
+    play(rt.alloc(), &mut programs(rt.alloc())?, LABELS)
+}
+
+/// Turns of loops.
+const LOOPS: &str =
+    r"< p.st PROGRAM loops\nVAR_INPUT x : INT; on : BOOL; END_VAR\nVAR_OUTPUT y : DINT; last : INT; END_VAR\nVAR i : INT; j : INT; END_VAR\nFOR i := 1 TO 2 DO\n  IF on THEN\n    FOR j := 5 TO 1 BY -2 DO\n      y := y + x * j;\n    END_FOR;\n  END_IF;\nEND_FOR;\nFOR j := 3 TO 1 DO y := 0; END_FOR;\nlast := i + j;\nEND_PROGRAM\n
+$ compile p.st --seed 0
+> m.img
+$ list m.img
 0 INPUT INT INT in 0 sig 0 cor 0 at 2:11
 1 INPUT BOOL BOOL in 1 sig 214748365 cor 214748365 at 2:20
 2 CONST INT INT val 1 sig 429496730 cor 429496730 at 5:5 i=1
@@ -266,27 +252,20 @@ END_PROGRAM
 52 OUT INT INT 3 out 1 sig 429496740 cor 1932735292 at 3:22
 53 STORE INT INT 15 cell 0 sig 644245105 cor 644245102 at 4:14
 54 STORE DINT DINT 50 cell 1 sig 858993470 cor 858993460 at 3:12
-",
-);
+= 0
+";
 
-const FUNCTIONS_LISTED: Listed<'_> = (
-    b"\
-PROGRAM functions
-VAR_INPUT a : INT; b : DINT; c : BOOL; END_VAR
-VAR_OUTPUT k : INT; y : DINT; q : BOOL; END_VAR
-VAR unused : DINT; held : BOOL; END_VAR
-VAR RETAIN kept : DINT := 40000; END_VAR
-y := LIMIT(a, b, kept) + MIN(a, 3) - MAX(b, -40000);
-k := DINT_TO_INT(b) * BOOL_TO_INT(c <> held);
-q := NOT (a >= 5) XOR c OR held AND a < b;
-IF q THEN
-  kept := SEL(held, ABS(b), INT_TO_DINT(a));
-  k := -k;
-END_IF;
-held := c & TRUE;
-END_PROGRAM
-",
-    b"\
+#[test]
+fn loops_are_listed(rt: HostRuntime) -> Result<(), Fail> {
+    play(rt.alloc(), &mut programs(rt.alloc())?, LOOPS)
+}
+
+/// Functions and operators.
+const FUNCTIONS: &str =
+    r"< p.st PROGRAM functions\nVAR_INPUT a : INT; b : DINT; c : BOOL; END_VAR\nVAR_OUTPUT k : INT; y : DINT; q : BOOL; END_VAR\nVAR unused : DINT; held : BOOL; END_VAR\nVAR RETAIN kept : DINT := 40000; END_VAR\ny := LIMIT(a, b, kept) + MIN(a, 3) - MAX(b, -40000);\nk := DINT_TO_INT(b) * BOOL_TO_INT(c <> held);\nq := NOT (a >= 5) XOR c OR held AND a < b;\nIF q THEN\n  kept := SEL(held, ABS(b), INT_TO_DINT(a));\n  k := -k;\nEND_IF;\nheld := c & TRUE;\nEND_PROGRAM\n
+$ compile p.st --seed 0
+> m.img
+$ list m.img
 0 INPUT INT INT in 0 sig 0 cor 0 at 2:11
 1 INPUT DINT DINT in 1 sig 214748365 cor 214748365 at 2:20
 2 INPUT BOOL BOOL in 2 sig 429496730 cor 429496730 at 2:30
@@ -335,12 +314,19 @@ END_PROGRAM
 45 OUT BOOL BOOL 29 out 2 sig 9 cor 1288490191 at 3:31
 46 STORE DINT DINT 37 cell 0 sig 214748374 cor 1932735284 at 5:12
 47 STORE BOOL BOOL 42 cell 1 sig 429496739 cor 1 at 4:20
-",
-);
+= 0
+";
 
-const CROSSING_LISTED: Listed<'_> = (
-    CROSSING,
-    b"\
+#[test]
+fn functions_are_listed(rt: HostRuntime) -> Result<(), Fail> {
+    play(rt.alloc(), &mut programs(rt.alloc())?, FUNCTIONS)
+}
+
+/// The level crossing.
+const CROSSING: &str = "\
+$ compile crossing.st --seed 0
+> m.img
+$ list m.img
 0 INPUT BOOL BOOL in 0 sig 0 cor 0 at 4:3
 1 INPUT BOOL BOOL in 1 sig 214748365 cor 214748365 at 5:3
 2 INPUT BOOL BOOL in 2 sig 429496730 cor 429496730 at 6:3
@@ -391,36 +377,10 @@ const CROSSING_LISTED: Listed<'_> = (
 47 OUT INT INT 45 out 1 sig 429496739 cor 429496730 at 8:27
 48 STORE INT INT 14 cell 0 sig 644245104 cor 1932735289 at 10:18
 49 STORE INT INT 39 cell 1 sig 858993469 cor 2 at 10:5
-",
-);
-
-/// The first of these programs that is listed otherwise.
-fn first_other(alloc: Global, programs: &[Listed<'_>]) -> Result<Option<usize>, Memory> {
-    for (i, (source, listing)) in programs.iter().enumerate() {
-        let mut files = holding(alloc, *source, b"")?;
-        if !gives(alloc, &[b"list", b"m.img"], &mut files, (*listing, b"", 0))? {
-            return Ok(Some(i));
-        }
-    }
-    Ok(None)
-}
+= 0
+";
 
 #[test]
-fn images_are_listed(rt: HostRuntime) -> Result<(), Fail> {
-    let alloc = rt.alloc();
-    let programs = [
-        ADD_LISTED,
-        FOLDED_LISTED,
-        COUNTER_LISTED,
-        GUARDED_LISTED,
-        BRANCHES_LISTED,
-        LABELS_LISTED,
-        LOOPS_LISTED,
-        FUNCTIONS_LISTED,
-        CROSSING_LISTED,
-    ];
-    if let Some(i) = first_other(alloc, &programs)? {
-        assert!(rt; false, "program {i}");
-    }
-    Ok(())
+fn the_level_crossing_is_listed(rt: HostRuntime) -> Result<(), Fail> {
+    play(rt.alloc(), &mut programs(rt.alloc())?, CROSSING)
 }

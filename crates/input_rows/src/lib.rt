@@ -2,7 +2,8 @@
 //! inputs.
 //!
 //! A file's records are those that `csv` gives, the first of them the header. Rows are taken one by
-//! one, in the order of the columns, or all kept in a list.
+//! one, in the order of the columns, or all kept in a list. `Records` gives the records of any such
+//! text.
 #![tactic(auto)]
 
 mod all_rows;

@@ -11,10 +11,11 @@ use run_report::{
 };
 use signature_table::Table;
 use std::alloc::Global;
+use std::str::from_utf8;
 use std::test::Fail;
 use vcp_base::{Column, Columns, Kind, Profile, Row, Spot, StopKind, Text, Turn, Turns, Ty, Words};
 use vcp_outside::{Failed, MemSink, Sink};
-use worked_texts::repeated;
+use worked_texts::{cells, joined, repeated, same, u32_of, u64_of, word_off};
 
 fn columns(alloc: Global, names: &[&[u8]]) -> Result<Columns, Fail> {
     let mut columns = Columns::new(alloc);
@@ -52,34 +53,38 @@ fn loop_turns(alloc: Global) -> Result<Turns, Fail>
     Ok(turns)
 }
 
+/// What was written to a sink.
+fn written(out: &MemSink) -> Result<&str, Fail> {
+    Ok(from_utf8(out.bytes())?)
+}
+
 #[test]
-fn each_line_has_its_text(rt: HostRuntime) -> Result<(), Fail> {
-    let alloc = rt.alloc();
-    let mut out = MemSink::new(alloc, 1000)?;
-    let outputs = columns(alloc, &[b"lights", b"motor"])?;
-    let values = row(alloc, &[-32768, 1])?;
-    let name = Text::copy_of(alloc, b"y")?;
-    let names = loop_names(alloc)?;
-    let turns = loop_turns(alloc)?;
-    let none = Turns::new(alloc);
+fn the_lines_of_a_run_have_their_texts(rt: HostRuntime) -> Result<(), Fail> {
+    let mut out = MemSink::new(rt.alloc(), 1000)?;
+    header_line(&mut out, &columns(rt.alloc(), &[b"lights", b"motor"])?)?;
+    row_line(&mut out, 0, &row(rt.alloc(), &[-32768, 1])?)?;
+    end_line(&mut out, 8)?;
+    refused_line(&mut out, 2, &Text::copy_of(rt.alloc(), b"y")?, 5, 949664992)?;
+    same(
+        written(&out)?,
+        "cycle,lights,motor\n0,-32768,1\nend 8\nrefused 2 y found 5 expected 949664992\n",
+    )
+}
+
+#[test]
+fn stops_have_their_texts(rt: HostRuntime) -> Result<(), Fail> {
+    let mut out = MemSink::new(rt.alloc(), 1000)?;
+    let names = loop_names(rt.alloc())?;
     let outside = Spot { line: 4, col: 8 };
+    let none = Turns::new(rt.alloc());
+    stop_line(&mut out, 1, StopKind::DivZero, outside, &none, &names)?;
     let inside = Spot { line: 7, col: 10 };
-    assert_eq!(rt; header_line(&mut out, &outputs), Ok(()));
-    assert_eq!(rt; row_line(&mut out, 0, &values), Ok(()));
-    assert_eq!(rt; end_line(&mut out, 8), Ok(()));
-    assert_eq!(rt;
-        stop_line(&mut out, 1, StopKind::DivZero, outside, &none, &names),
-        Ok(())
-    );
-    assert_eq!(rt;
-        stop_line(&mut out, 0, StopKind::Range, inside, &turns, &names),
-        Ok(())
-    );
-    assert_eq!(rt; refused_line(&mut out, 2, &name, 5, 949664992), Ok(()));
-    let wanted =
-        b"cycle,lights,motor\n0,-32768,1\nend 8\nstop 1 DIVZERO 4:8\nstop 0 RANGE 7:10 Outer=-1 i=4\nrefused 2 y found 5 expected 949664992\n";
-    assert_eq!(rt; out.bytes(), wanted.as_slice());
-    Ok(())
+    let turns = loop_turns(rt.alloc())?;
+    stop_line(&mut out, 0, StopKind::Range, inside, &turns, &names)?;
+    same(
+        written(&out)?,
+        "stop 1 DIVZERO 4:8\nstop 0 RANGE 7:10 Outer=-1 i=4\n",
+    )
 }
 
 // A graph with one output, of a constant in the turn of an inner loop within that of an outer one.
@@ -118,74 +123,87 @@ fn looped(alloc: Global) -> Result<Graph, Build>
 
 #[test]
 fn a_stop_in_a_graph_has_its_text(rt: HostRuntime) -> Result<(), Fail> {
-    let alloc = rt.alloc();
-    let mut out = MemSink::new(alloc, 100)?;
-    let graph = looped(alloc)?;
-    assert_eq!(rt;
-        graph_stop_line(&mut out, 0, StopKind::Range, &graph, 0),
-        Ok(())
-    );
-    let wanted = b"stop 0 RANGE 7:10 Outer=-1 i=4\n";
-    assert_eq!(rt; out.bytes(), wanted.as_slice());
-    Ok(())
+    let mut out = MemSink::new(rt.alloc(), 100)?;
+    graph_stop_line(&mut out, 0, StopKind::Range, &looped(rt.alloc())?, 0)?;
+    same(written(&out)?, "stop 0 RANGE 7:10 Outer=-1 i=4\n")
 }
 
 #[test]
 fn an_operation_is_listed_and_traced(rt: HostRuntime) -> Result<(), Fail> {
-    let alloc = rt.alloc();
-    let mut out = MemSink::new(alloc, 200)?;
-    let graph = looped(alloc)?;
-    let table = Table::new(alloc, &graph, 7, 1)?;
-    assert_eq!(rt; list_line(&mut out, &graph, &table, 0), Ok(()));
+    let mut out = MemSink::new(rt.alloc(), 200)?;
+    let graph = looped(rt.alloc())?;
+    let table = Table::new(rt.alloc(), &graph, 7, 1)?;
+    list_line(&mut out, &graph, &table, 0)?;
     // The value 5 with the residue 8, and the value -1 with the residue 1.
     let right = Word::new(10737418243).ok_or("no word")?;
+    trace_line(&mut out, &graph, &table, 0, 0, right)?;
     let other = Word::new(-2147483646).ok_or("no word")?;
-    assert_eq!(rt; trace_line(&mut out, &graph, &table, 0, 0, right), Ok(()));
-    assert_eq!(rt; trace_line(&mut out, &graph, &table, 0, 4, other), Ok(()));
-    let wanted =
-        b"0 CONST INT INT val 5 sig 7 cor 7 at 7:10 Outer=-1 i=4\n0 CONST 10737418243 5 8 8\n0 CONST -2147483646 -1 1 12\n";
-    assert_eq!(rt; out.bytes(), wanted.as_slice());
+    trace_line(&mut out, &graph, &table, 0, 4, other)?;
+    same(
+        written(&out)?,
+        "0 CONST INT INT val 5 sig 7 cor 7 at 7:10 Outer=-1 i=4\n0 CONST 10737418243 5 8 8\n0 CONST -2147483646 -1 1 12\n",
+    )
+}
+
+/// A verdict of each kind.
+const VERDICTS: [Verdict; 5] = [
+    Verdict::Same,
+    Verdict::Wrong {
+        cycle: 0,
+        output: 0,
+        got: 5,
+        want: -5,
+    },
+    Verdict::RanOn { cycle: 0 },
+    Verdict::Refused {
+        cycle: 0,
+        output: 0,
+        found: 429496731,
+        expected: 644245096,
+    },
+    Verdict::Stopped {
+        cycle: 4,
+        op: 0,
+        kind: StopKind::Operand,
+    },
+];
+
+/// The line of each verdict.
+fn lines_of(alloc: Global, verdicts: &[Verdict]) -> Result<MemSink, Fail> {
+    let graph = looped(alloc)?;
+    let mut out = MemSink::new(alloc, 400)?;
+    for verdict in verdicts {
+        told(&mut out, &graph, verdict)?;
+    }
+    Ok(out)
+}
+
+/// Writes the line of a verdict of a fault in line 9 of its script, where the verdict names operations and outputs that there are.
+fn told(out: &mut MemSink, graph: &Graph, verdict: &Verdict) -> Result<(), Fail> {
+    let named = match verdict {
+        Verdict::Wrong { output, .. } | Verdict::Refused { output, .. } => {
+            *output < graph.outputs()
+        }
+        Verdict::Stopped { op, .. } => *op < graph.len(),
+        _ => true,
+    };
+    if named {
+        verdict_line(out, graph, 9, verdict)?;
+    }
     Ok(())
 }
 
 #[test]
 fn each_verdict_has_its_line(rt: HostRuntime) -> Result<(), Fail> {
-    let alloc = rt.alloc();
-    let mut out = MemSink::new(alloc, 400)?;
-    let graph = looped(alloc)?;
-    let wrong = Verdict::Wrong {
-        cycle: 0,
-        output: 0,
-        got: 5,
-        want: -5,
-    };
-    let refused = Verdict::Refused {
-        cycle: 0,
-        output: 0,
-        found: 429496731,
-        expected: 644245096,
-    };
-    let stopped = Verdict::Stopped {
-        cycle: 4,
-        op: 0,
-        kind: StopKind::Operand,
-    };
-    let ran_on = Verdict::RanOn { cycle: 0 };
-    assert_eq!(rt; verdict_line(&mut out, &graph, 1, &Verdict::Same), Ok(()));
-    assert_eq!(rt; verdict_line(&mut out, &graph, 2, &wrong), Ok(()));
-    assert_eq!(rt; verdict_line(&mut out, &graph, 3, &ran_on), Ok(()));
-    assert_eq!(rt; verdict_line(&mut out, &graph, 4, &refused), Ok(()));
-    assert_eq!(rt; verdict_line(&mut out, &graph, 10000, &stopped), Ok(()));
-    let wanted =
-        b"1 same\n2 wrong 0 y got 5 want -5\n3 ran-on 0\n4 refused 0 y found 429496731 expected 644245096\n10000 stopped 4 0 OPERAND 7:10 Outer=-1 i=4\n";
-    assert_eq!(rt; out.bytes(), wanted.as_slice());
-    Ok(())
+    same(
+        written(&lines_of(rt.alloc(), &VERDICTS)?)?,
+        "9 same\n9 wrong 0 y got 5 want -5\n9 ran-on 0\n9 refused 0 y found 429496731 expected 644245096\n9 stopped 4 0 OPERAND 7:10 Outer=-1 i=4\n",
+    )
 }
 
 #[test]
-fn totals_and_the_lines_of_an_audit_have_their_texts(rt: HostRuntime) -> Result<(), Fail> {
-    let alloc = rt.alloc();
-    let mut out = MemSink::new(alloc, 400)?;
+fn totals_have_their_texts(rt: HostRuntime) -> Result<(), Fail> {
+    let mut out = MemSink::new(rt.alloc(), 400)?;
     let mut totals = Totals {
         same: 1,
         wrong: 2,
@@ -193,55 +211,55 @@ fn totals_and_the_lines_of_an_audit_have_their_texts(rt: HostRuntime) -> Result<
         refused: 3,
         stopped: 1,
     };
-    totals.count(&Verdict::Stopped {
-        cycle: 7,
-        op: 34,
-        kind: StopKind::Range,
-    });
-    assert_eq!(rt; totals_line(&mut out, &Totals::new()), Ok(()));
-    assert_eq!(rt; totals_line(&mut out, &totals), Ok(()));
-    let name = Text::copy_of(alloc, b"y")?;
-    assert_eq!(rt; reached_line(&mut out, &name, 0, 3, 1), Ok(()));
-    assert_eq!(rt; blind_line(&mut out, 0, Kind::Input), Ok(()));
-    let wanted =
-        b"faults 0 same 0 wrong 0 ran-on 0 refused 0 stopped 0\nfaults 8 same 1 wrong 2 ran-on 0 refused 3 stopped 2\ny 0 reached 3 blind 1\nblind 0 INPUT\n";
-    assert_eq!(rt; out.bytes(), wanted.as_slice());
-    Ok(())
+    totals.count(&VERDICTS[4]);
+    totals_line(&mut out, &Totals::new())?;
+    totals_line(&mut out, &totals)?;
+    same(
+        written(&out)?,
+        "faults 0 same 0 wrong 0 ran-on 0 refused 0 stopped 0\nfaults 8 same 1 wrong 2 ran-on 0 refused 3 stopped 2\n",
+    )
+}
+
+#[test]
+fn the_lines_of_an_audit_have_their_texts(rt: HostRuntime) -> Result<(), Fail> {
+    let mut out = MemSink::new(rt.alloc(), 400)?;
+    reached_line(&mut out, &Text::copy_of(rt.alloc(), b"y")?, 0, 3, 1)?;
+    blind_line(&mut out, 0, Kind::Input)?;
+    same(written(&out)?, "y 0 reached 3 blind 1\nblind 0 INPUT\n")
 }
 
 #[test]
 fn long_lines_are_written_whole(rt: HostRuntime) -> Result<(), Fail> {
     let alloc = rt.alloc();
     let mut out = MemSink::new(alloc, 3000)?;
-    let name = vec![in alloc; b'n'; 2000]?;
+    let name = repeated(alloc, b"n", 2000)?;
+    header_line(&mut out, &columns(alloc, &[&name])?)?;
     let values = vec![in alloc; -32768; 100]?;
-    assert_eq!(rt; header_line(&mut out, &columns(alloc, &[&name])?), Ok(()));
-    assert_eq!(rt; row_line(&mut out, 7, &row(alloc, &values)?), Ok(()));
-    let mut wanted = Vec::from_slice(alloc, b"cycle,")?;
-    wanted.extend_from_slice(&name)?;
-    wanted.extend_from_slice(b"\n7")?;
-    for _ in 0..100 {
-        wanted.extend_from_slice(b",-32768")?;
-    }
-    wanted.extend_from_slice(b"\n")?;
-    assert_eq!(rt; out.bytes(), wanted.as_slice());
+    row_line(&mut out, 7, &row(alloc, &values)?)?;
+    let cells = repeated(alloc, b",-32768", 100)?;
+    let wanted = joined(alloc, &[b"cycle,", &name, b"\n7", &cells, b"\n"])?;
+    assert!(rt; out.bytes() == wanted.as_slice());
     Ok(())
+}
+
+/// Whether a row's line is answered so, and leaves these bytes, in a sink of this room.
+fn leaves(
+    alloc: Global,
+    room: u32,
+    wanted: Result<(), Failed>,
+    bytes: &[u8],
+) -> Result<bool, Fail> {
+    let mut out = MemSink::new(alloc, room)?;
+    let values = row(alloc, &[-32768, 1])?;
+    let answer = row_line(&mut out, 0, &values);
+    Ok(answer == wanted && out.bytes() == bytes)
 }
 
 #[test]
 fn a_front_is_written_up_to_the_room(rt: HostRuntime) -> Result<(), Fail> {
-    let alloc = rt.alloc();
-    let values = row(alloc, &[-32768, 1])?;
-    let rows: [(u32, Result<(), Failed>, &[u8]); 3] = [
-        (11, Ok(()), b"0,-32768,1\n"),
-        (10, Err(Failed), b"0,-32768,1"),
-        (8, Err(Failed), b"0,-32768"),
-    ];
-    for (room, wanted, bytes) in rows {
-        let mut out = MemSink::new(alloc, room)?;
-        assert_eq!(rt; row_line(&mut out, 0, &values), wanted);
-        assert_eq!(rt; out.bytes(), bytes);
-    }
+    assert!(rt; leaves(rt.alloc(), 11, Ok(()), b"0,-32768,1\n")?);
+    assert!(rt; leaves(rt.alloc(), 10, Err(Failed), b"0,-32768,1")?);
+    assert!(rt; leaves(rt.alloc(), 8, Err(Failed), b"0,-32768")?);
     Ok(())
 }
 
@@ -269,36 +287,41 @@ impl Sink for Counted {
     }
 }
 
-/// The bytes of a header's one name, the call that fails, the answer, and how many calls there are.
-type Written = (u32, u64, Result<(), Failed>, u64);
+/// The lengths of a header's one name, the call that fails, the answer, and how many calls there are.
+const WRITES: &str = "\
+249 9 => Ok(()) 1
+250 9 => Ok(()) 2
+2000 9 => Ok(()) 3
+2000 1 => Err(Failed) 2
+249 0 => Err(Failed) 1
+";
 
-const WRITES: [Written; 5] = [
-    (249, 9, Ok(()), 1),
-    (250, 9, Ok(()), 2),
-    (2000, 9, Ok(()), 3),
-    (2000, 1, Err(Failed), 2),
-    (249, 0, Err(Failed), 1),
-];
+/// The answer to a header of one name, and how many calls there are.
+fn answered(alloc: Global, length: u32, failing: u64) -> Result<String, Fail> {
+    let name = repeated(alloc, b"n", length)?;
+    let names = columns(alloc, &[&name])?;
+    let mut out = Counted {
+        calls: 0,
+        failing,
+        faults: 0,
+    };
+    let answer = header_line(&mut out, &names);
+    Ok(format!(in alloc; "{answer:?} {}", out.calls)?)
+}
 
-/// The first of these headers with another answer or another number of calls.
-fn first_written_otherwise(alloc: Global, rows: &[Written]) -> Result<Option<usize>, Fail> {
-    for (i, (length, failing, wanted, calls)) in rows.iter().enumerate() {
-        let name = repeated(alloc, b"n", *length)?;
-        let names = columns(alloc, &[&name])?;
-        let mut out = Counted {
-            calls: 0,
-            failing: *failing,
-            faults: 0,
-        };
-        if header_line(&mut out, &names) != *wanted || out.calls != *calls {
-            return Ok(Some(i));
+/// Fails with the first of these headers with another answer or another number of calls.
+fn all_answered(alloc: Global, rows: &str) -> Result<(), Fail> {
+    for row in rows.lines() {
+        let (asked, wanted) = cells(row);
+        let (length, failing) = word_off(asked);
+        if answered(alloc, u32_of(length)?, u64_of(failing)?)?.as_str() != wanted {
+            return Err(Fail::new(row));
         }
     }
-    Ok(None)
+    Ok(())
 }
 
 #[test]
 fn a_line_is_one_write_where_it_fits(rt: HostRuntime) -> Result<(), Fail> {
-    assert_eq!(rt; first_written_otherwise(rt.alloc(), &WRITES)?, None);
-    Ok(())
+    all_answered(rt.alloc(), WRITES)
 }

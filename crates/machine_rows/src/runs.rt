@@ -13,6 +13,7 @@ use std::test::Fail;
 use vcp_base::{Profile, Row};
 use vcp_outside::{Failed, MemSink, Sink, write_all};
 use worked_graphs::increment;
+use worked_texts::{cells, same, spelled};
 
 /// Counts the rows and adds up their first values, and writes the last digit of each cycle's number.
 #[derive(Drop)]
@@ -50,39 +51,35 @@ fn run_on<U: Unit>(alloc: Global, file: &[u8], room: u32, unit: &mut U) -> Resul
     Ok(format!(in alloc; "{end:?} {wrote:?} {} {}", tally.rows, tally.sum)?)
 }
 
-/// A file, the room of the sink, and what is seen of the run.
-const RUNS: [(&[u8], u32, &str); 6] = [
-    (b"x\n", 8, "Ok(Released) [] 0 0"),
-    (b"x\n5\n-1\n7\n", 8, "Ok(Released) [48, 49, 50] 3 14"),
-    (
-        b"x\n5\n-1\n2147483647\n7\n",
-        8,
-        "Ok(Stopped { op: 2, kind: Range }) [48, 49] 2 6",
-    ),
-    (
-        b"x\n5\nno\n7\n",
-        8,
-        "Err(Rows(Cell { row: 3, column: 1 })) [48] 1 6",
-    ),
-    (b"x\n5,6\n", 8, "Err(Rows(Width { row: 2 })) [] 0 0"),
-    (b"x\n5\n6\n7\n", 2, "Err(Write) [48, 49] 2 13"),
-];
+/// Files, and what is seen of the run of each into a sink of 8 bytes.
+const RUNS: &str = r"x\n => Ok(Released) [] 0 0
+x\n5\n-1\n7\n => Ok(Released) [48, 49, 50] 3 14
+x\n5\n-1\n2147483647\n7\n => Ok(Stopped { op: 2, kind: Range }) [48, 49] 2 6
+x\n5\nno\n7\n => Err(Rows(Cell { row: 3, column: 1 })) [48] 1 6
+x\n5,6\n => Err(Rows(Width { row: 2 })) [] 0 0
+";
 
-/// The first of these runs of which something else is seen.
-fn first_wrong(alloc: Global, runs: &[(&[u8], u32, &str)]) -> Result<Option<usize>, Fail> {
-    for (i, (file, room, expected)) in runs.iter().enumerate() {
-        let seen = run_on(alloc, *file, *room, &mut CpuUnit::new())?;
-        if seen.as_str() != *expected {
-            return Ok(Some(i));
+/// Fails with the first of these runs of which something else is seen.
+fn all_seen(alloc: Global, rows: &str) -> Result<(), Fail> {
+    for row in rows.lines() {
+        let (file, wanted) = cells(row);
+        let seen = run_on(alloc, &spelled(alloc, file)?, 8, &mut CpuUnit::new())?;
+        if seen.as_str() != wanted {
+            return Err(Fail::new(row));
         }
     }
-    Ok(None)
+    Ok(())
 }
 
 #[test]
 fn runs_end_as_their_rows_do(rt: HostRuntime) -> Result<(), Fail> {
-    assert_eq!(rt; first_wrong(rt.alloc(), &RUNS)?, None);
-    Ok(())
+    all_seen(rt.alloc(), RUNS)
+}
+
+#[test]
+fn a_full_sink_ends_a_run(rt: HostRuntime) -> Result<(), Fail> {
+    let seen = run_on(rt.alloc(), b"x\n5\n6\n7\n", 2, &mut CpuUnit::new())?;
+    same(&seen, "Err(Write) [48, 49] 2 13")
 }
 
 #[test]
@@ -92,7 +89,6 @@ fn a_wrong_answer_is_refused(rt: HostRuntime) -> Result<(), Fail> {
     unit.replace(6, Answer::Word(Word::packed(Profile::Narrow, 0, 5)))?;
     let seen = run_on(rt.alloc(), b"x\n5\n-1\n7\n", 8, &mut unit)?;
     let expected = "Ok(Refused { output: 0, found: 214748370, expected: 644245097 }) [48] 1 6";
-    assert_eq!(rt; seen.as_str(), expected);
-    assert_eq!(rt; (unit.wrong(), unit.entry(8)), (1, None));
-    Ok(())
+    assert!(rt; unit.wrong() == 1 && unit.entry(8).is_none());
+    same(&seen, expected)
 }

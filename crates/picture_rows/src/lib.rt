@@ -1,5 +1,13 @@
-//! Pictures, and the texts that they are drawn from.
+//! Pictures of small graphs and of runs, and the program's answers.
 #![tactic(auto)]
 
+#[cfg(test)]
+mod answers;
+#[cfg(test)]
+mod pictures;
+#[cfg(test)]
+mod programs;
+#[cfg(test)]
+mod texts;
 #[cfg(test)]
 mod waves;

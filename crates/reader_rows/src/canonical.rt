@@ -4,161 +4,138 @@ use crate::shown::parsed;
 use st_tree::{Blocks, Branch, Branches, Expr, Label, Labels, Program, Stmt, Stmts, UnOp};
 use st_writer::write_program;
 use std::alloc::Global;
+use std::str::from_utf8;
 use std::test::Fail;
-use vcp_base::{Spot, Text};
-use worked_texts::joined;
+use vcp_base::{Memory, Spot, Text};
+use worked_texts::{cells, joined, same};
 
-/// Whether the text's program is written as this text.
-fn is_written(alloc: Global, text: &[u8], canonical: &[u8]) -> Result<bool, Fail> {
+/// Fails with the row where the text's program is written otherwise than this canonical text.
+fn is_written(alloc: Global, row: &str, text: &[u8], canonical: &[u8]) -> Result<(), Fail> {
     let program = parsed(alloc, text)?.map_err(|_| "no program")?;
     let written = write_program(alloc, &program)?;
-    Ok(written.bytes() == canonical)
-}
-
-/// The first row of which the middle, between the first pair of texts, is not written as the other between the second pair.
-fn first_wrong(
-    alloc: Global,
-    rows: &[(&[u8], &[u8])],
-    source: (&[u8], &[u8]),
-    canonical: (&[u8], &[u8]),
-) -> Result<Option<usize>, Fail> {
-    for (i, (read, written)) in rows.iter().enumerate() {
-        let text = joined(alloc, &[source.0, *read, source.1])?;
-        let wanted = joined(alloc, &[canonical.0, *written, canonical.1])?;
-        if !is_written(alloc, &text, &wanted)? {
-            return Ok(Some(i));
-        }
+    if written.bytes() == canonical {
+        Ok(())
+    } else {
+        Err(Fail::new(row))
     }
-    Ok(None)
 }
 
 /// Expressions with all their brackets, and with those alone that they need.
-const EXPRESSIONS: [(&[u8], &[u8]); 26] = [
-    (b"a", b"a"),
-    (b"(-a)", b"-a"),
-    (b"(NOT a)", b"NOT a"),
-    (b"(-(-a))", b"--a"),
-    (b"(NOT (NOT a))", b"NOT NOT a"),
-    (b"(-(NOT a))", b"-NOT a"),
-    (b"(-(NOT (-a)))", b"-NOT -a"),
-    (b"(-(a + b))", b"-(a + b)"),
-    (b"(-(a * b))", b"-(a * b)"),
-    (b"(NOT (a = b))", b"NOT (a = b)"),
-    (b"((-a) * b)", b"-a * b"),
-    (b"(a * (-b))", b"a * -b"),
-    (b"(a - (-b))", b"a - -b"),
-    (b"(a - (-(-b)))", b"a - --b"),
-    (b"(a AND (NOT b))", b"a AND NOT b"),
-    (b"(((a - b) - c) - d)", b"a - b - c - d"),
-    (b"(a - (b - (c - d)))", b"a - (b - (c - d))"),
-    (b"((a - b) - (c - d))", b"a - b - (c - d)"),
-    (b"(((a / b) * c) MOD d)", b"a / b * c MOD d"),
-    (b"(a - ((b + c) * d))", b"a - (b + c) * d"),
-    (b"(a - ((b * c) + d))", b"a - (b * c + d)"),
-    (
-        b"(((((((a OR b) XOR c) AND d) = e) < f) + g) * h)",
-        b"((((((a OR b) XOR c) AND d) = e) < f) + g) * h",
-    ),
-    (
-        b"(((((((a * b) + c) < d) = e) AND f) XOR g) OR h)",
-        b"a * b + c < d = e AND f XOR g OR h",
-    ),
-    (
-        b"(a OR (b XOR (c AND (d = (e < (f + (g * h)))))))",
-        b"a OR b XOR c AND d = e < f + g * h",
-    ),
-    (
-        b"(MIN((max((a + b), (-c))), ((a OR b) AND c)) * d)",
-        b"MIN(max(a + b, -c), (a OR b) AND c) * d",
-    ),
-    (b"(-(Abs((a * b))))", b"-Abs(a * b)"),
-];
+const EXPRESSIONS: &str = "\
+a => a
+(-a) => -a
+(NOT a) => NOT a
+(-(-a)) => --a
+(NOT (NOT a)) => NOT NOT a
+(-(NOT a)) => -NOT a
+(-(NOT (-a))) => -NOT -a
+(-(a + b)) => -(a + b)
+(-(a * b)) => -(a * b)
+(NOT (a = b)) => NOT (a = b)
+((-a) * b) => -a * b
+(a * (-b)) => a * -b
+(a - (-b)) => a - -b
+(a - (-(-b))) => a - --b
+(a AND (NOT b)) => a AND NOT b
+(((a - b) - c) - d) => a - b - c - d
+(a - (b - (c - d))) => a - (b - (c - d))
+((a - b) - (c - d)) => a - b - (c - d)
+(((a / b) * c) MOD d) => a / b * c MOD d
+(a - ((b + c) * d)) => a - (b + c) * d
+(a - ((b * c) + d)) => a - (b * c + d)
+(((((((a OR b) XOR c) AND d) = e) < f) + g) * h) => ((((((a OR b) XOR c) AND d) = e) < f) + g) * h
+(((((((a * b) + c) < d) = e) AND f) XOR g) OR h) => a * b + c < d = e AND f XOR g OR h
+(a OR (b XOR (c AND (d = (e < (f + (g * h))))))) => a OR b XOR c AND d = e < f + g * h
+(MIN((max((a + b), (-c))), ((a OR b) AND c)) * d) => MIN(max(a + b, -c), (a OR b) AND c) * d
+(-(Abs((a * b)))) => -Abs(a * b)
+";
 
-#[test]
-fn expressions_have_the_brackets_that_they_need(rt: HostRuntime) -> Result<(), Fail> {
-    let source: (&[u8], &[u8]) = (b"PROGRAM p y := ", b"; END_PROGRAM");
-    let canonical: (&[u8], &[u8]) = (b"PROGRAM p\n  y := ", b";\nEND_PROGRAM\n");
-    assert_eq!(rt;
-        first_wrong(rt.alloc(), &EXPRESSIONS, source, canonical)?,
-        None
-    );
-    Ok(())
-}
-
-/// Literals as they are read, as they are written in an expression or a label, and as they are written behind the sign of a label.
-const LITERALS: [(&[u8], &[u8], &[u8]); 15] = [
-    (b"0", b"0", b"-0"),
-    (b"32768", b"32768", b"-32768"),
-    (
-        b"9223372036854775807",
-        b"9223372036854775807",
-        b"-9223372036854775807",
-    ),
-    (b"BOOL#0", b"FALSE", b"-BOOL#0"),
-    (b"BOOL#1", b"TRUE", b"-BOOL#1"),
-    (b"BOOL#2", b"BOOL#2", b"-BOOL#2"),
-    (b"BOOL#10", b"BOOL#10", b"-BOOL#10"),
-    (b"INT#1", b"INT#1", b"-INT#1"),
-    (b"INT#-5", b"INT#-5", b"-INT#-5"),
-    (b"DINT#0", b"DINT#0", b"-DINT#0"),
-    (b"DINT#70000", b"DINT#70000", b"-DINT#70000"),
-    (
-        b"DINT#-9223372036854775807",
-        b"DINT#-9223372036854775807",
-        b"-DINT#-9223372036854775807",
-    ),
-    (b"LINT#255", b"LINT#255", b"-LINT#255"),
-    (b"LINT#-5", b"LINT#-5", b"-LINT#-5"),
-    (
-        b"LINT#9223372036854775807",
-        b"LINT#9223372036854775807",
-        b"-LINT#9223372036854775807",
-    ),
-];
-
-/// The first of these literals that is written otherwise.
-fn first_wrong_literal(
-    alloc: Global,
-    rows: &[(&[u8], &[u8], &[u8])],
-) -> Result<Option<usize>, Fail> {
-    for (i, (read, plain, negated)) in rows.iter().enumerate() {
+/// Whether each expression is written with the brackets that it needs.
+fn all_bracketed(alloc: Global, rows: &str) -> Result<(), Fail> {
+    for row in rows.lines() {
+        let (read, written) = cells(row);
         let text = joined(
             alloc,
-            &[
-                b"PROGRAM p y := ",
-                *read,
-                b"; CASE s OF ",
-                *read,
-                b": -",
-                *read,
-                b": END_CASE; END_PROGRAM",
-            ],
+            &[b"PROGRAM p y := ", read.as_bytes(), b"; END_PROGRAM"],
         )?;
         let wanted = joined(
             alloc,
             &[
                 b"PROGRAM p\n  y := ",
-                *plain,
-                b";\n  CASE s OF\n    ",
-                *plain,
-                b":\n    ",
-                *negated,
-                b":\n  END_CASE;\nEND_PROGRAM\n",
+                written.as_bytes(),
+                b";\nEND_PROGRAM\n",
             ],
         )?;
-        if !is_written(alloc, &text, &wanted)? {
-            return Ok(Some(i));
-        }
+        is_written(alloc, row, &text, &wanted)?;
     }
-    Ok(None)
+    Ok(())
+}
+
+#[test]
+fn expressions_have_the_brackets_that_they_need(rt: HostRuntime) -> Result<(), Fail> {
+    all_bracketed(rt.alloc(), EXPRESSIONS)
+}
+
+/// Literals as they are read, as they are written in an expression or a label, and as they are written behind the sign of a label.
+const LITERALS: &str = "\
+0 => 0 => -0
+32768 => 32768 => -32768
+9223372036854775807 => 9223372036854775807 => -9223372036854775807
+BOOL#0 => FALSE => -BOOL#0
+BOOL#1 => TRUE => -BOOL#1
+BOOL#2 => BOOL#2 => -BOOL#2
+BOOL#10 => BOOL#10 => -BOOL#10
+INT#1 => INT#1 => -INT#1
+INT#-5 => INT#-5 => -INT#-5
+DINT#0 => DINT#0 => -DINT#0
+DINT#70000 => DINT#70000 => -DINT#70000
+DINT#-9223372036854775807 => DINT#-9223372036854775807 => -DINT#-9223372036854775807
+LINT#255 => LINT#255 => -LINT#255
+LINT#-5 => LINT#-5 => -LINT#-5
+LINT#9223372036854775807 => LINT#9223372036854775807 => -LINT#9223372036854775807
+";
+
+/// A program with the literal in an expression, in a label, and behind the sign of a label.
+fn with_literal(alloc: Global, literal: &str) -> Result<Vec<u8>, Memory> {
+    let bytes = literal.as_bytes();
+    let front = joined(alloc, &[b"PROGRAM p y := ", bytes, b"; CASE s OF "])?;
+    joined(
+        alloc,
+        &[&front, bytes, b": -", bytes, b": END_CASE; END_PROGRAM"],
+    )
+}
+
+/// The canonical text of such a program.
+fn written_literal(alloc: Global, plain: &str, negated: &str) -> Result<Vec<u8>, Memory> {
+    let bytes = plain.as_bytes();
+    let front = joined(
+        alloc,
+        &[b"PROGRAM p\n  y := ", bytes, b";\n  CASE s OF\n    "],
+    )?;
+    let behind = b":\n  END_CASE;\nEND_PROGRAM\n";
+    joined(
+        alloc,
+        &[&front, bytes, b":\n    ", negated.as_bytes(), behind],
+    )
+}
+
+/// Fails with the first of these literals that is written otherwise.
+fn all_literals_written(alloc: Global, rows: &str) -> Result<(), Fail> {
+    for row in rows.lines() {
+        let (read, rest) = cells(row);
+        let (plain, negated) = cells(rest);
+        let text = with_literal(alloc, read)?;
+        is_written(alloc, row, &text, &written_literal(alloc, plain, negated)?)?;
+    }
+    Ok(())
 }
 
 #[test]
 fn literals_and_labels(rt: HostRuntime) -> Result<(), Fail> {
-    assert_eq!(rt; first_wrong_literal(rt.alloc(), &LITERALS)?, None);
-    Ok(())
+    all_literals_written(rt.alloc(), LITERALS)
 }
 
+/// Programs, and the canonical text of each.
 const PROGRAMS: [(&[u8], &[u8]); 4] = [
     (b"PROGRAM p END_PROGRAM", b"PROGRAM p\nEND_PROGRAM\n"),
     (
@@ -219,13 +196,17 @@ END_PROGRAM
     ),
 ];
 
+/// Whether each program is written as its canonical text.
+fn all_canonical(alloc: Global, rows: &[(&[u8], &[u8])]) -> Result<(), Fail> {
+    for (text, canonical) in rows {
+        is_written(alloc, "programs", *text, *canonical)?;
+    }
+    Ok(())
+}
+
 #[test]
 fn programs_have_a_canonical_text(rt: HostRuntime) -> Result<(), Fail> {
-    assert_eq!(rt;
-        first_wrong(rt.alloc(), &PROGRAMS, (b"", b""), (b"", b""))?,
-        None
-    );
-    Ok(())
+    all_canonical(rt.alloc(), &PROGRAMS)
 }
 
 /// `PROGRAM p CASE s OF -n..High: END_CASE; END_PROGRAM`, which is no program, since a sign stands before numbers alone.
@@ -254,9 +235,9 @@ fn with_signed_name(alloc: Global) -> Result<Program, Fail> {
 
 #[test]
 fn a_tree_that_no_source_has_is_written(rt: HostRuntime) -> Result<(), Fail> {
-    let alloc = rt.alloc();
-    let written = write_program(alloc, &with_signed_name(alloc)?)?;
-    let wanted: &[u8] = b"PROGRAM p\n  CASE s OF\n    -n..High:\n  END_CASE;\nEND_PROGRAM\n";
-    assert_eq!(rt; written.bytes(), wanted);
-    Ok(())
+    let written = write_program(rt.alloc(), &with_signed_name(rt.alloc())?)?;
+    same(
+        from_utf8(written.bytes())?,
+        "PROGRAM p\n  CASE s OF\n    -n..High:\n  END_CASE;\nEND_PROGRAM\n",
+    )
 }

@@ -1,9 +1,10 @@
 //! Worked texts: tokens, faults, spots and lists, and texts of a mebibyte.
 
-use st_lexer::{LexFault, Sym, Tok, Token, Tokens, key_spelling, lex, symbol_spelling};
+use st_lexer::{LexFault, Tok, Token, Tokens, key_spelling, lex, symbol_spelling};
 use std::alloc::Global;
 use std::test::Fail;
 use vcp_base::{Spot, Ty};
+use worked_texts::{cells, same, spelled};
 
 fn type_bytes(ty: Option<Ty>) -> &'static [u8] {
     match ty {
@@ -54,239 +55,218 @@ fn shown(alloc: Global, text: &[u8]) -> Result<Vec<u8>, Fail> {
     Ok(out)
 }
 
-/// The first row whose text isn't read as it says.
-fn first_wrong(alloc: Global, rows: &[(&[u8], &[u8])]) -> Result<Option<usize>, Fail> {
-    for (i, (text, want)) in rows.iter().enumerate() {
-        let got = shown(alloc, *text)?;
-        if got.as_slice() != *want {
-            return Ok(Some(i));
+/// Fails with the first row whose text isn't read as it says.
+fn all_read(alloc: Global, rows: &str) -> Result<(), Fail> {
+    for row in rows.lines() {
+        let (text, want) = cells(row);
+        let got = shown(alloc, &spelled(alloc, text)?)?;
+        if got.trim_ascii_end() != want.as_bytes() {
+            return Err(Fail::new(row));
         }
     }
-    Ok(None)
+    Ok(())
 }
 
-const TOKENS: [(&[u8], &[u8]); 40] = [
-    (b"", b""),
-    (b" \t\r\n", b""),
-    (b"\r", b""),
-    (b"(**)", b""),
-    (b"(*/*)*)", b"* ) "),
-    (b"/*(**/", b""),
-    (b"/**/x", b"name "),
-    (b"(***)", b""),
-    (b"(* a (* b *) c *)", b"name * ) "),
-    (b"/* // */ 1", b"1 "),
-    (b"// (* /*", b""),
-    (b"//", b""),
-    (b"//\n//\r\nx", b"name "),
-    (b"(*\x00\xff\n*)1", b"1 "),
-    (b"\xef\xbb\xbfx", b"name "),
-    (b"\xef\xbb\xbf", b""),
-    (b"_1", b"name "),
-    (b"_", b"name "),
-    (b"END_IF1", b"name "),
-    (b"x1_", b"name "),
-    (b"eNd_If", b"END_IF "),
-    (
-        b"Program END_PROGRAM var VAR_INPUT var_output",
-        b"PROGRAM END_PROGRAM VAR VAR_INPUT VAR_OUTPUT ",
-    ),
-    (
-        b"CONSTANT retain END_VAR bool INT dint lInt",
-        b"CONSTANT RETAIN END_VAR BOOL INT DINT LINT ",
-    ),
-    (
-        b"if then elsif else end_if case of end_case",
-        b"IF THEN ELSIF ELSE END_IF CASE OF END_CASE ",
-    ),
-    (
-        b"for to by do end_for and or xor not mod true false",
-        b"FOR TO BY DO END_FOR AND OR XOR NOT MOD TRUE FALSE ",
-    ),
-    (
-        b"sint usint uint udint ulint real lreal string",
-        b"SINT USINT UINT UDINT ULINT REAL LREAL STRING ",
-    ),
-    (
-        b"time array struct while repeat until exit",
-        b"TIME ARRAY STRUCT WHILE REPEAT UNTIL EXIT ",
-    ),
-    (
-        b"continue return at function function_block",
-        b"CONTINUE RETURN AT FUNCTION FUNCTION_BLOCK ",
-    ),
-    (b"a&b&&", b"name AND name AND AND "),
-    (b":=:", b":= : "),
-    (b"<>=", b"<> = "),
-    (b"<=>=<>", b"<= >= <> "),
-    (b"<<>", b"< <> "),
-    (b"=>=", b"= >= "),
-    (b":==", b":= = "),
-    (b">>=<=>", b"> >= <= > "),
-    (b"..", b".. "),
-    (b"+-*/;,()", b"+ - * / ; , ( ) "),
-    (b"(x)(*y*)/z", b"( name ) / name "),
-    (b"a:=b+1;", b"name := name + 1 ; "),
-];
+/// Texts, and the tokens of each.
+const TOKENS: &str = r" =>
+\x20\t\r\n =>
+\r =>
+(**) =>
+(*/*)*) => * )
+/*(**/ =>
+/**/x => name
+(***) =>
+(* a (* b *) c *) => name * )
+/* // */ 1 => 1
+// (* /* =>
+// =>
+//\n//\r\nx => name
+(*\x00\xff\n*)1 => 1
+\xef\xbb\xbfx => name
+\xef\xbb\xbf =>
+_1 => name
+_ => name
+END_IF1 => name
+x1_ => name
+eNd_If => END_IF
+Program END_PROGRAM var VAR_INPUT var_output => PROGRAM END_PROGRAM VAR VAR_INPUT VAR_OUTPUT
+CONSTANT retain END_VAR bool INT dint lInt => CONSTANT RETAIN END_VAR BOOL INT DINT LINT
+if then elsif else end_if case of end_case => IF THEN ELSIF ELSE END_IF CASE OF END_CASE
+for to by do end_for and or xor not mod true false => FOR TO BY DO END_FOR AND OR XOR NOT MOD TRUE FALSE
+sint usint uint udint ulint real lreal string => SINT USINT UINT UDINT ULINT REAL LREAL STRING
+time array struct while repeat until exit => TIME ARRAY STRUCT WHILE REPEAT UNTIL EXIT
+continue return at function function_block => CONTINUE RETURN AT FUNCTION FUNCTION_BLOCK
+a&b&& => name AND name AND AND
+:=: => := :
+<>= => <> =
+<=>=<> => <= >= <>
+<<> => < <>
+=>= => = >=
+:== => := =
+>>=<=> => > >= <= >
+.. => ..
++-*/;,() => + - * / ; , ( )
+(x)(*y*)/z => ( name ) / name
+a:=b+1; => name := name + 1 ;
+";
 
 #[test]
 fn gaps_words_and_symbols(rt: HostRuntime) -> Result<(), Fail> {
-    let alloc = rt.alloc();
-    assert_eq!(rt; first_wrong(alloc, &TOKENS)?, None);
-    Ok(())
+    all_read(rt.alloc(), TOKENS)
 }
 
-const LITERALS: [(&[u8], &[u8]); 29] = [
-    (b"1..2", b"1 .. 2 "),
-    (b"0 007", b"0 7 "),
-    (b"1_000", b"1000 "),
-    (b"2#1_01", b"5 "),
-    (b"8#17", b"15 "),
-    (b"16#fF", b"255 "),
-    (b"16#7FFF_ffff_FFFF_FFFF", b"9223372036854775807 "),
-    (b"9223372036854775807", b"9223372036854775807 "),
-    (b"INT#5", b"INT 5 "),
-    (b"INT#-5", b"INT -5 "),
-    (b"Dint#+7", b"DINT 7 "),
-    (b"INT#16#7F", b"INT 127 "),
-    (b"int#99999", b"INT 99999 "),
-    (b"BOOL#TRUE bool#false BOOL#True", b"BOOL 1 BOOL 0 BOOL 1 "),
-    (b"bool#2", b"BOOL 2 "),
-    (b"BOOL#2#1", b"BOOL 1 "),
-    (b"INT#-0", b"INT 0 "),
-    (b"DINT#-9223372036854775807", b"DINT -9223372036854775807 "),
-    (b"-5", b"- 5 "),
-    (b"INT -5", b"INT - 5 "),
-    (b"BOOL#TRUE", b"BOOL 1 "),
-    (b"dint#16#ff", b"DINT 255 "),
-    (b"00009223372036854775807", b"9223372036854775807 "),
-    (b"INT#-1..2", b"INT -1 .. 2 "),
-    (b"INT#+0 BOOL#8#1", b"INT 0 BOOL 1 "),
-    (b"LINT#5", b"LINT 5 "),
-    (b"LINT#-5", b"LINT -5 "),
-    (b"lint#16#ff LINT#16#FF", b"LINT 255 LINT 255 "),
-    (
-        b"LINT#-9223372036854775807 Lint#9223372036854775807",
-        b"LINT -9223372036854775807 LINT 9223372036854775807 ",
-    ),
-];
+const LITERALS: &str = "\
+1..2 => 1 .. 2
+0 007 => 0 7
+1_000 => 1000
+2#1_01 => 5
+8#17 => 15
+16#fF => 255
+16#7FFF_ffff_FFFF_FFFF => 9223372036854775807
+9223372036854775807 => 9223372036854775807
+INT#5 => INT 5
+INT#-5 => INT -5
+Dint#+7 => DINT 7
+INT#16#7F => INT 127
+int#99999 => INT 99999
+BOOL#TRUE bool#false BOOL#True => BOOL 1 BOOL 0 BOOL 1
+bool#2 => BOOL 2
+BOOL#2#1 => BOOL 1
+INT#-0 => INT 0
+DINT#-9223372036854775807 => DINT -9223372036854775807
+-5 => - 5
+INT -5 => INT - 5
+BOOL#TRUE => BOOL 1
+dint#16#ff => DINT 255
+00009223372036854775807 => 9223372036854775807
+INT#-1..2 => INT -1 .. 2
+INT#+0 BOOL#8#1 => INT 0 BOOL 1
+LINT#5 => LINT 5
+LINT#-5 => LINT -5
+lint#16#ff LINT#16#FF => LINT 255 LINT 255
+LINT#-9223372036854775807 Lint#9223372036854775807 => LINT -9223372036854775807 LINT 9223372036854775807
+";
 
 #[test]
 fn literals(rt: HostRuntime) -> Result<(), Fail> {
-    let alloc = rt.alloc();
-    assert_eq!(rt; first_wrong(alloc, &LITERALS)?, None);
-    Ok(())
+    all_read(rt.alloc(), LITERALS)
 }
 
-const FAULTS: [(&[u8], &[u8]); 60] = [
-    (b"PROGRAM p (* x", b"comment 1:11"),
-    (b"PROGRAM p {", b"byte 1:11"),
-    (b"PROGRAM p y := 16#G; END_PROGRAM", b"number 1:16"),
-    (b"(*)", b"comment 1:1"),
-    (b"(* *", b"comment 1:1"),
-    (b"/*/", b"comment 1:1"),
-    (b"\n /* *)", b"comment 2:2"),
-    (b"x\n\n  y (* a *) (*", b"comment 3:13"),
-    (b"1.", b"byte 1:2"),
-    (b".", b"byte 1:1"),
-    (b"...", b"byte 1:3"),
-    (b"x#1", b"byte 1:2"),
-    (b"INTx#1", b"byte 1:5"),
-    (b"INT #5", b"byte 1:5"),
-    (b"#", b"byte 1:1"),
-    (b"\x00", b"byte 1:1"),
-    (b"a\xef\xbb\xbf", b"byte 1:2"),
-    (b"\xef\xbb\xbf\xef\xbb\xbf", b"byte 1:4"),
-    (b"\xef\xbb\xbf?", b"byte 1:4"),
-    (b"\xef\xbb", b"byte 1:1"),
-    (b"\xc3\xa4", b"byte 1:1"),
-    (b"x\r?", b"byte 1:3"),
-    (b"*)!", b"byte 1:3"),
-    (b"a | b", b"byte 1:3"),
-    (b"\"", b"byte 1:1"),
-    (b"1__0", b"number 1:1"),
-    (b"1_", b"number 1:1"),
-    (b"2#102", b"number 1:1"),
-    (b"8#8", b"number 1:1"),
-    (b"16#", b"number 1:1"),
-    (b"2#_1", b"number 1:1"),
-    (b"10#5", b"number 1:1"),
-    (b"12a", b"number 1:1"),
-    (b"1#2", b"number 1:1"),
-    (b"9223372036854775808", b"number 1:1"),
-    (b"16#8000000000000000", b"number 1:1"),
-    (b"INT# 5", b"number 1:1"),
-    (b"INT#-16#7F", b"number 1:1"),
-    (b"INT#+-5", b"number 1:1"),
-    (b"INT#TRUE", b"number 1:1"),
-    (b"INT#--5", b"number 1:1"),
-    (b"BOOL#-1", b"number 1:1"),
-    (b"BOOL#", b"number 1:1"),
-    (b"BOOL#TRUE_", b"number 1:1"),
-    (b"DINT#5#", b"number 1:1"),
-    (b"DINT#-9223372036854775808", b"number 1:1"),
-    (b"INT#", b"number 1:1"),
-    (b"INT#+", b"number 1:1"),
-    (b"BOOL#_1", b"number 1:1"),
-    (b"16#1_", b"number 1:1"),
-    (b"1_#2", b"number 1:1"),
-    (b"02#1", b"number 1:1"),
-    (b"ULINT#5", b"byte 1:6"),
-    (b"LINT#9223372036854775808", b"number 1:1"),
-    (b"LINT#-9223372036854775808", b"number 1:1"),
-    (b"LINT#-16#7F", b"number 1:1"),
-    (b"a\xef\xbb\xbfb", b"byte 1:2"),
-    (b"00009223372036854775808", b"number 1:1"),
-    (b"1 {  (*", b"byte 1:3"),
-    (b"1x {", b"number 1:1"),
-];
+/// Texts, and the fault of each with its line and column.
+const FAULTS: &str = r"PROGRAM p (* x => comment 1:11
+PROGRAM p { => byte 1:11
+PROGRAM p y := 16#G; END_PROGRAM => number 1:16
+(*) => comment 1:1
+(* * => comment 1:1
+/*/ => comment 1:1
+\n /* *) => comment 2:2
+x\n\n  y (* a *) (* => comment 3:13
+1. => byte 1:2
+. => byte 1:1
+... => byte 1:3
+x#1 => byte 1:2
+INTx#1 => byte 1:5
+INT #5 => byte 1:5
+# => byte 1:1
+\x00 => byte 1:1
+a\xef\xbb\xbf => byte 1:2
+\xef\xbb\xbf\xef\xbb\xbf => byte 1:4
+\xef\xbb\xbf? => byte 1:4
+\xef\xbb => byte 1:1
+\xc3\xa4 => byte 1:1
+x\r? => byte 1:3
+*)! => byte 1:3
+a | b => byte 1:3
+\x22 => byte 1:1
+1__0 => number 1:1
+1_ => number 1:1
+2#102 => number 1:1
+8#8 => number 1:1
+16# => number 1:1
+2#_1 => number 1:1
+10#5 => number 1:1
+12a => number 1:1
+1#2 => number 1:1
+9223372036854775808 => number 1:1
+16#8000000000000000 => number 1:1
+INT# 5 => number 1:1
+INT#-16#7F => number 1:1
+INT#+-5 => number 1:1
+INT#TRUE => number 1:1
+INT#--5 => number 1:1
+BOOL#-1 => number 1:1
+BOOL# => number 1:1
+BOOL#TRUE_ => number 1:1
+DINT#5# => number 1:1
+DINT#-9223372036854775808 => number 1:1
+INT# => number 1:1
+INT#+ => number 1:1
+BOOL#_1 => number 1:1
+16#1_ => number 1:1
+1_#2 => number 1:1
+02#1 => number 1:1
+ULINT#5 => byte 1:6
+LINT#9223372036854775808 => number 1:1
+LINT#-9223372036854775808 => number 1:1
+LINT#-16#7F => number 1:1
+a\xef\xbb\xbfb => byte 1:2
+00009223372036854775808 => number 1:1
+1 {  (* => byte 1:3
+1x { => number 1:1
+";
 
 #[test]
 fn faults_at_the_first_place(rt: HostRuntime) -> Result<(), Fail> {
-    let alloc = rt.alloc();
-    assert_eq!(rt; first_wrong(alloc, &FAULTS)?, None);
-    Ok(())
+    all_read(rt.alloc(), FAULTS)
 }
+
+/// Each token with its bytes and its spot, and the spot of the end.
+fn listed(alloc: Global, tokens: &Tokens) -> Result<String, Fail> {
+    let mut out = String::new(alloc);
+    for i in 0..tokens.len() {
+        let Token {
+            tok,
+            from,
+            to,
+            spot,
+        } = tokens.at(i);
+        out.push_str(&format!(in alloc; "{tok:?} {from}..{to} {spot:?}\n")?)?;
+    }
+    out.push_str(&format!(in alloc; "{:?}\n", tokens.end())?)?;
+    Ok(out)
+}
+
+const LISTED: &str = "\
+Name 3..4 Spot { line: 1, col: 4 }
+Sym(Assign) 12..14 Spot { line: 3, col: 4 }
+Number { ty: Some(Int), value: -5 } 15..21 Spot { line: 3, col: 7 }
+Sym(Semi) 21..22 Spot { line: 3, col: 13 }
+Spot { line: 4, col: 1 }
+";
 
 #[test]
 fn tokens_have_their_bytes_and_spots(rt: HostRuntime) -> Result<(), Fail> {
     let alloc = rt.alloc();
     let tokens = lex(alloc, b"\xef\xbb\xbfy\n (*\n*) :=\tINT#-5;\r\n").map_err(|_| "refused")?;
-    let name = Token {
+    same(&listed(alloc, &tokens)?, LISTED)
+}
+
+#[test]
+fn a_list_of_tokens_begins_empty(rt: HostRuntime) -> Result<(), Fail> {
+    let alloc = rt.alloc();
+    let mut list = Tokens::new(alloc);
+    same(&listed(alloc, &list)?, "Spot { line: 1, col: 1 }\n")?;
+    list.push(Token {
         tok: Tok::Name,
         from: 3,
         to: 4,
         spot: Spot { line: 1, col: 4 },
-    };
-    let sign = Token {
-        tok: Tok::Sym(Sym::Assign),
-        from: 12,
-        to: 14,
-        spot: Spot { line: 3, col: 4 },
-    };
-    let number = Token {
-        tok: Tok::Number {
-            ty: Some(Ty::Int),
-            value: -5,
-        },
-        from: 15,
-        to: 21,
-        spot: Spot { line: 3, col: 7 },
-    };
-    assert_eq!(rt; tokens.len(), 4);
-    assert_eq!(rt; tokens.at(0), name);
-    assert_eq!(rt; tokens.at(1), sign);
-    assert_eq!(rt; tokens.at(2), number);
-    assert_eq!(rt; tokens.at(3).spot, Spot { line: 3, col: 13 });
-    assert_eq!(rt; tokens.end(), Spot { line: 4, col: 1 });
-    let mut list = Tokens::new(alloc);
-    assert_eq!(rt; list.end(), Spot { line: 1, col: 1 });
-    list.push(name)?;
+    })?;
     list.set_end(Spot { line: 1, col: 5 });
-    assert_eq!(rt; list.len(), 1);
-    assert_eq!(rt; list.at(0), name);
-    assert_eq!(rt; list.end(), Spot { line: 1, col: 5 });
-    Ok(())
+    same(
+        &listed(alloc, &list)?,
+        "Name 3..4 Spot { line: 1, col: 4 }\nSpot { line: 1, col: 5 }\n",
+    )
 }
 
 #[test]

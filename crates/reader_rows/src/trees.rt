@@ -5,7 +5,7 @@ use st_tree::{Program, Stmt, same_tree};
 use std::alloc::Global;
 use std::test::Fail;
 use vcp_base::Memory;
-use worked_texts::joined;
+use worked_texts::{cells, joined};
 
 /// A program with each kind of node.
 const PROGRAM: &[u8] = b"\
@@ -29,45 +29,45 @@ program p var_input a, b:int:=(1);end_var var end_var
   for i := 1 to 9 by 2 do y := 3; end_for; end_program";
 
 /// A part of the program, and what stands in its place in another program.
-const CHANGES: [(&[u8], &[u8]); 37] = [
-    (b"PROGRAM p", b"PROGRAM P"),
-    (b"VAR_INPUT", b"VAR_OUTPUT"),
-    (b"VAR END_VAR", b""),
-    (b"a, b :", b"A, b :"),
-    (b"a, b :", b"a :"),
-    (b"a, b :", b"b, a :"),
-    (b": INT", b": DINT"),
-    (b" := 1; END_VAR", b"; END_VAR"),
-    (b" := 1; END_VAR", b" := 2; END_VAR"),
-    (b"y := -a", b"z := -a"),
-    (b"y := -a", b"Y := -a"),
-    (b"y := -a", b"y := NOT a"),
-    (b"a + f", b"a - f"),
-    (b"-a + f(a, INT#2)", b"f(a, INT#2) + -a"),
-    (b"INT#2", b"2"),
-    (b"f(a", b"g(a"),
-    (b"(a, INT#2)", b"(INT#2, a)"),
-    (b"(a, INT#2)", b"(a)"),
-    (b"IF a", b"IF c"),
-    (b"THEN y := 1", b"THEN y := 2"),
-    (b"ELSIF b THEN", b""),
-    (b"ELSE y := 2;", b"ELSE"),
-    (b"ELSE y := 2;", b""),
-    (b"CASE a OF 1, 3..5: y := 1; 9: END_CASE;", b"y := 1;"),
-    (b"CASE a", b"CASE b"),
-    (b"1, 3..5", b"3..5, 1"),
-    (b"3..5", b"3"),
-    (b"3..5", b"3..6"),
-    (b"9:", b""),
-    (b"9:", b"-9:"),
-    (b"9:", b"9: ELSE"),
-    (b"FOR i := 1 TO 9 BY 2 DO y := 3; END_FOR;", b""),
-    (b"FOR i := 1", b"FOR j := 1"),
-    (b"i := 1 TO 9", b"i := 2 TO 9"),
-    (b"i := 1 TO 9", b"i := 1 TO 8"),
-    (b"BY 2", b""),
-    (b"y := 3", b"y := 4"),
-];
+const CHANGES: &str = "\
+PROGRAM p => PROGRAM P
+VAR_INPUT => VAR_OUTPUT
+VAR END_VAR =>
+a, b : => A, b :
+a, b : => a :
+a, b : => b, a :
+: INT => : DINT
+INT := 1; => INT;
+INT := 1; => INT := 2;
+y := -a => z := -a
+y := -a => Y := -a
+y := -a => y := NOT a
+a + f => a - f
+-a + f(a, INT#2) => f(a, INT#2) + -a
+INT#2 => 2
+f(a => g(a
+(a, INT#2) => (INT#2, a)
+(a, INT#2) => (a)
+IF a => IF c
+THEN y := 1 => THEN y := 2
+ELSIF b THEN =>
+ELSE y := 2; => ELSE
+ELSE y := 2; =>
+CASE a OF 1, 3..5: y := 1; 9: END_CASE; => y := 1;
+CASE a => CASE b
+1, 3..5 => 3..5, 1
+3..5 => 3
+3..5 => 3..6
+9: =>
+9: => -9:
+9: => 9: ELSE
+FOR i := 1 TO 9 BY 2 DO y := 3; END_FOR; =>
+FOR i := 1 => FOR j := 1
+i := 1 TO 9 => i := 2 TO 9
+i := 1 TO 9 => i := 1 TO 8
+BY 2 =>
+y := 3 => y := 4
+";
 
 /// The text with another part in the place of the first such one; none where it has no such part.
 fn with_change(
@@ -91,27 +91,31 @@ fn program_of(alloc: Global, text: &[u8]) -> Result<Program, Fail> {
     Ok(program)
 }
 
-/// The first change whose program is not told from the program, either way round.
-fn first_untold(alloc: Global, rows: &[(&[u8], &[u8])]) -> Result<Option<usize>, Fail> {
-    let program = program_of(alloc, PROGRAM)?;
-    for (i, (old, new)) in rows.iter().enumerate() {
-        let text = with_change(alloc, PROGRAM, *old, *new)?.ok_or("no such part")?;
-        let other = program_of(alloc, &text)?;
-        if same_tree(&program, &other) || same_tree(&other, &program) {
-            return Ok(Some(i));
+/// Fails with the first change whose program is not told from the program, either way round.
+fn all_told_apart(alloc: Global, program: &Program, rows: &str) -> Result<(), Fail> {
+    for row in rows.lines() {
+        let (old, new) = cells(row);
+        let text = with_change(alloc, PROGRAM, old.as_bytes(), new.as_bytes())?;
+        let other = program_of(alloc, &text.ok_or("no such part")?)?;
+        if same_tree(program, &other) || same_tree(&other, program) {
+            return Err(Fail::new(row));
         }
     }
-    Ok(None)
+    Ok(())
 }
 
 #[test]
 fn trees_are_compared_without_spots(rt: HostRuntime) -> Result<(), Fail> {
-    let alloc = rt.alloc();
-    let program = program_of(alloc, PROGRAM)?;
-    let elsewhere = program_of(alloc, ELSEWHERE)?;
+    let program = program_of(rt.alloc(), PROGRAM)?;
+    let elsewhere = program_of(rt.alloc(), ELSEWHERE)?;
     assert!(rt; same_tree(&program, &elsewhere) && same_tree(&elsewhere, &program));
-    assert_eq!(rt; first_untold(alloc, &CHANGES)?, None);
     Ok(())
+}
+
+#[test]
+fn trees_are_told_apart(rt: HostRuntime) -> Result<(), Fail> {
+    let program = program_of(rt.alloc(), PROGRAM)?;
+    all_told_apart(rt.alloc(), &program, CHANGES)
 }
 
 #[test]

@@ -8,7 +8,7 @@ use Rattle.vcp_base.specs.declared.ty.Ty.TheVariants as ty
 use Rattle.fault_verdict.specs.declared.verdict.Verdict.TheVariants as verdict
 use Rattle.run_report.specs.AuditLines.{reached_text, blind_text}
 use Rattle.run_report.specs.FaultLines.{verdict_text, totals_of, totals_text}
-use Rattle.run_report.proofs.OperationRows.{adding, on}
+use Rattle.run_report.proofs.OperationRows.{adding}
 
 verdicts : verdict_text (adding profile.Narrow ty.Dint) 1 (verdict.Wrong 0 0 (pos 7) (pos 6))
     ++ (verdict_text (adding profile.Narrow ty.Dint) 2 (verdict.Refused 0 0 429496731 644245096)

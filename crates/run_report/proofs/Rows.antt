@@ -4,6 +4,7 @@ use Rattle.std.specs.Fmt.{digits}
 use Rattle.vcp_base.specs.declared.kind.StopKind.TheVariants as stop
 use Rattle.vcp_base.specs.Stops.{told_stop}
 use Rattle.run_report.specs.Lines.{header_text, row_text, end_text, stop_text, refused_text}
+use Rattle.run_report.specs.SummaryLine.{summary_text}
 
 header_of_two : header_text (codes "lights" ∷ codes "motor" ∷ []) ≡ codes "cycle,lights,motor\n"
 unfolding digits
@@ -48,3 +49,8 @@ stop_in_two_loops = refl
 refused_output : refused_text 2 (codes "y") 5 949664992 ≡ codes "refused 2 y found 5 expected 949664992\n"
 unfolding digits
 refused_output = refl
+
+-- the summary of a made program's run
+summary_of_seven : summary_text 7 1000 (negsuc 11) (pos 4294967296000) ≡ codes "demo 7 cycles 1000 last -12 sum 4294967296000\n"
+unfolding digits
+summary_of_seven = refl

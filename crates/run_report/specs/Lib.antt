@@ -4,3 +4,4 @@ pub mod Gathering
 pub mod Lines
 pub mod OperationLines
 pub mod OutputNames
+pub mod SummaryLine

@@ -1,5 +1,5 @@
-//! The printed lines of a run, of an audit and of a script of faults, and those that list and trace
-//! the operations of a graph.
+//! The printed lines of a run, of its summary, of an audit and of a script of faults, and those that
+//! list and trace the operations of a graph.
 //!
 //! Each call writes one line to a sink and takes no memory. After `Failed`, which comes only where
 //! the sink's count of faults rose, a part of the line is written. `Line` gathers the pieces of a
@@ -13,6 +13,7 @@ mod line;
 mod lines;
 mod operations;
 mod output_names;
+mod summary;
 
 pub use audit::{blind_line, reached_line};
 pub use faults::{Totals, totals_line, verdict_line};
@@ -21,3 +22,4 @@ pub use line::{Line, ROOM};
 pub use lines::{end_line, header_line, refused_line, row_line, stop_line};
 pub use operations::{list_line, trace_line};
 pub use output_names::output_name;
+pub use summary::summary_line;

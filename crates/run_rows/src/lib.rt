@@ -3,7 +3,7 @@
 #![tactic(auto)]
 
 #[cfg(test)]
-mod calls;
+mod demo;
 #[cfg(test)]
 mod failing;
 #[cfg(test)]

@@ -1,204 +1,197 @@
 //! The words of `plain` and `run`, the seed and the step.
 
-use crate::calls::give;
-use coded_unit::{CpuUnit, LogUnit};
+use coded_unit::LogUnit;
 use std::alloc::Global;
 use std::test::Fail;
 use vcp_base::Memory;
 use vcp_outside::MemFiles;
-use worked_programs::{ADD, COUNTER, Gives, is};
-
-const USAGE: &[u8] =
-    b"usage: vcp check P, format P, plain P ROWS, run P ROWS CODE, compile P CODE, list M, exec M ROWS, trace M ROWS CYCLE, inject M ROWS F, audit M HORIZON, \
-      widen M or demo N\n";
+use worked_programs::{ADD, COUNTER, call, cells, is, play, u32_of, u64_of, word_off};
 
 /// A program with an input, one without, and rows.
 fn files(alloc: Global) -> Result<MemFiles, Memory> {
     let mut files = MemFiles::new(alloc);
     files.put(b"p.st", ADD)?;
     files.put(b"n.st", COUNTER)?;
-    files.put(b"in.csv", b"x\n5\n")?;
+    files.put(b"in.csv", b"x\n5\n7\n")?;
     Ok(files)
 }
 
 /// Words that are none of the forms, behind either command.
-const NO_FORMS: [&[&[u8]]; 15] = [
-    &[],
-    &[b"p.st"],
-    &[b"p.st", b""],
-    &[b"p.st", b"-"],
-    &[b"", b"in.csv"],
-    &[b"-p", b"in.csv"],
-    &[b"p.st", b"in.csv", b"in.csv"],
-    &[b"n.st", b"--cycles"],
-    &[b"n.st", b"--cycles", b""],
-    &[b"n.st", b"--cycles", b"+3"],
-    &[b"n.st", b"--cycles", b"1000001"],
-    &[b"n.st", b"--cycles", b"00000000003"],
-    &[b"n.st", b"--cycles", b"3", b"3"],
-    &[b"n.st", b"--Cycles", b"3"],
-    &[b"p.st", b"in.csv", b"--cycles", b"3"],
-];
-
-/// Words behind `run P ROWS`, or behind ROWS in its place, that are none of the forms.
-const NO_CODES: [&[&[u8]]; 22] = [
-    &[b"p.st", b"--seed", b"7", b"in.csv"],
-    &[b"n.st", b"--seed", b"7", b"--cycles", b"3"],
-    &[b"n.st", b"--cycles", b"--seed", b"7"],
-    &[b"n.st", b"--cycles", b"3", b"--seed"],
-    &[b"p.st", b"in.csv", b"--seed"],
-    &[b"p.st", b"in.csv", b"--seed", b""],
-    &[b"p.st", b"in.csv", b"--seed", b"-1"],
-    &[b"p.st", b"in.csv", b"--seed", b"+1"],
-    &[b"p.st", b"in.csv", b"--seed", b"7x"],
-    &[b"p.st", b"in.csv", b"--seed", b"1073741824"],
-    &[b"p.st", b"in.csv", b"--seed", b"00000000007"],
-    &[b"p.st", b"in.csv", b"--seed", b"7", b"--seed", b"7"],
-    &[b"p.st", b"in.csv", b"--seed", b"7", b"7"],
-    &[b"p.st", b"in.csv", b"--SEED", b"7"],
-    &[b"p.st", b"in.csv", b"-seed", b"7"],
-    &[b"p.st", b"in.csv", b"--step"],
-    &[b"p.st", b"in.csv", b"--step", b"0"],
-    &[b"p.st", b"in.csv", b"--step", b"1001"],
-    &[b"p.st", b"in.csv", b"--step", b"00000000001"],
-    &[b"p.st", b"in.csv", b"--step", b"5", b"--step", b"5"],
-    &[b"p.st", b"in.csv", b"--step", b"5", b"--seed"],
-    &[
-        b"p.st", b"in.csv", b"--step", b"5", b"--seed", b"7", b"--step", b"5",
-    ],
-];
-
-/// Whether a command with these words behind it is told the usage.
-fn is_told_usage(alloc: Global, command: &[u8], behind: &[&[u8]]) -> Result<bool, Memory> {
-    let mut files = files(alloc)?;
-    let given = give(alloc, command, behind, &mut files, &mut CpuUnit::new())?;
-    Ok(is(&given, (b"", USAGE, 4)))
-}
-
-/// The first of these words with which a command isn't told the usage.
-fn first_form(alloc: Global, command: &[u8], table: &[&[&[u8]]]) -> Result<Option<usize>, Memory> {
-    for (i, behind) in table.iter().enumerate() {
-        if !is_told_usage(alloc, command, *behind)? {
-            return Ok(Some(i));
-        }
-    }
-    Ok(None)
-}
+const NO_FORMS: &str = "\
+$ plain,run
+= usage
+$ plain,run p.st
+= usage
+$ plain,run p.st ''
+= usage
+$ plain,run p.st -
+= usage
+$ plain,run '' in.csv
+= usage
+$ plain,run -p in.csv
+= usage
+$ plain,run p.st in.csv in.csv
+= usage
+$ plain,run n.st --cycles
+= usage
+$ plain,run n.st --cycles ''
+= usage
+$ plain,run n.st --cycles +3
+= usage
+$ plain,run n.st --cycles 1000001
+= usage
+$ plain,run n.st --cycles 00000000003
+= usage
+$ plain,run n.st --cycles 3 3
+= usage
+$ plain,run n.st --Cycles 3
+= usage
+$ plain,run p.st in.csv --cycles 3
+= usage
+";
 
 #[test]
 fn words_that_are_no_form_are_told_the_usage(rt: HostRuntime) -> Result<(), Fail> {
-    let alloc = rt.alloc();
-    if let Some(i) = first_form(alloc, b"plain", &NO_FORMS)? {
-        assert!(rt; false, "plain {i}");
-    }
-    if let Some(i) = first_form(alloc, b"run", &NO_FORMS)? {
-        assert!(rt; false, "run {i}");
-    }
-    if let Some(i) = first_form(alloc, b"run", &NO_CODES)? {
-        assert!(rt; false, "code {i}");
-    }
-    Ok(())
+    play(rt.alloc(), &mut files(rt.alloc())?, NO_FORMS)
 }
+
+/// Words behind `run P ROWS`, or behind ROWS in its place, that are none of the forms.
+const NO_CODES: &str = "\
+$ run p.st --seed 7 in.csv
+= usage
+$ run n.st --seed 7 --cycles 3
+= usage
+$ run n.st --cycles --seed 7
+= usage
+$ run n.st --cycles 3 --seed
+= usage
+$ run p.st in.csv --seed
+= usage
+$ run p.st in.csv --seed ''
+= usage
+$ run p.st in.csv --seed -1
+= usage
+$ run p.st in.csv --seed +1
+= usage
+$ run p.st in.csv --seed 7x
+= usage
+$ run p.st in.csv --seed 1073741824
+= usage
+$ run p.st in.csv --seed 00000000007
+= usage
+$ run p.st in.csv --seed 7 --seed 7
+= usage
+$ run p.st in.csv --seed 7 7
+= usage
+$ run p.st in.csv --SEED 7
+= usage
+$ run p.st in.csv -seed 7
+= usage
+$ run p.st in.csv --step
+= usage
+$ run p.st in.csv --step 0
+= usage
+$ run p.st in.csv --step 1001
+= usage
+$ run p.st in.csv --step 00000000001
+= usage
+$ run p.st in.csv --step 5 --step 5
+= usage
+$ run p.st in.csv --step 5 --seed
+= usage
+$ run p.st in.csv --step 5 --seed 7 --step 5
+= usage
+";
+
+#[test]
+fn words_that_are_no_code_are_told_the_usage(rt: HostRuntime) -> Result<(), Fail> {
+    play(rt.alloc(), &mut files(rt.alloc())?, NO_CODES)
+}
+
+/// Words that begin with no command, and a code behind `plain`.
+const NO_COMMANDS: &str = "\
+$ Run p.st in.csv
+= usage
+$ ran p.st in.csv
+= usage
+$ '' p.st in.csv
+= usage
+$ --help
+= usage
+$ plain p.st in.csv --seed 7
+= usage
+";
 
 #[test]
 fn other_commands_are_none(rt: HostRuntime) -> Result<(), Fail> {
-    let alloc = rt.alloc();
-    assert!(rt; is_told_usage(alloc, b"Run", &[b"p.st", b"in.csv"])?);
-    assert!(rt; is_told_usage(alloc, b"ran", &[b"p.st", b"in.csv"])?);
-    assert!(rt; is_told_usage(alloc, b"", &[b"p.st", b"in.csv"])?);
-    assert!(rt; is_told_usage(alloc, b"--help", &[])?);
-    assert!(rt; is_told_usage(alloc, b"plain", &[b"p.st", b"in.csv", b"--seed", b"7"])?);
-    Ok(())
+    play(rt.alloc(), &mut files(rt.alloc())?, NO_COMMANDS)
 }
 
 /// Words behind `run p.st in.csv`, and the seed and step that they give.
-const CODES: [(&[&[u8]], u32, u32); 10] = [
-    (&[], 305419896, 1),
-    (&[b"--seed", b"0"], 0, 1),
-    (&[b"--seed", b"1073741823"], 1073741823, 1),
-    (&[b"--seed", b"0000000007"], 7, 1),
-    (&[b"--step", b"1"], 305419896, 1),
-    (&[b"--step", b"1000"], 305419896, 1000),
-    (&[b"--step", b"0000000007"], 305419896, 7),
-    (&[b"--step", b"5", b"--seed", b"7"], 7, 5),
-    (&[b"--seed", b"7", b"--step", b"5"], 7, 5),
-    (&[b"--seed", b"1", b"--step", b"1"], 1, 1),
-];
+const CODES: &str = "\
+--seed 0 => 0 1
+--seed 1073741823 => 1073741823 1
+--seed 0000000007 => 7 1
+--step 1 => 305419896 1
+--step 1000 => 305419896 1000
+--step 0000000007 => 305419896 7
+--step 5 --seed 7 => 7 5
+--seed 7 --step 5 => 7 5
+--seed 1 --step 1 => 1 1
+ => 305419896 1
+";
 
-/// Whether `run p.st in.csv` with these words behind it gives its rows with this seed and step. Operation 0 is an INPUT: its
+/// The seed and the step by which `run p.st in.csv` with these words behind it gives its two rows. Operation 0 is an INPUT: its
 /// signature is the seed, and so is its correction.
-fn has_code(alloc: Global, code: &[&[u8]], seed: u32, step: u32) -> Result<bool, Memory> {
-    let mut files = MemFiles::new(alloc);
-    files.put(b"p.st", ADD)?;
-    files.put(b"in.csv", b"x\n5\n7\n")?;
+fn code_of(alloc: Global, code: &str) -> Result<(u64, u32), Fail> {
     let mut unit = LogUnit::new(alloc, 8)?;
-    let mut behind: Vec<&[u8]> = Vec::new(alloc);
-    behind.push(b"p.st")?;
-    behind.push(b"in.csv")?;
-    behind.extend_from_slice(code)?;
-    let given = give(alloc, b"run", &behind, &mut files, &mut unit)?;
-    if !is(&given, (b"cycle,y\n0,6\n1,8\nend 2\n", b"", 0)) {
-        return Ok(false);
-    }
-    match (unit.entry(0), unit.entry(4)) {
-        (Some((first, _)), Some((later, _))) => Ok(
-            first.corr == seed as u64
-                && later.corr == seed as u64
-                && first.stamp == step
-                && later.stamp as u64 == 2 * (step as u64),
-        ),
-        _ => Ok(false),
+    let behind = format!(in alloc; "p.st in.csv {code}")?;
+    let given = call(alloc, &mut files(alloc)?, &mut unit, "run", &behind)?;
+    let (first, _) = unit.entry(0).ok_or("no call")?;
+    let (later, _) = unit.entry(4).ok_or("no call")?;
+    let again = later.corr == first.corr && later.stamp as u64 == 2 * (first.stamp as u64);
+    if again && is(&given, (b"cycle,y\n0,6\n1,8\nend 2\n", b"", 0)) {
+        Ok((first.corr, first.stamp))
+    } else {
+        Err("other rows".into())
     }
 }
 
-/// The first of these words that give another seed or step.
-fn first_other_code(
-    alloc: Global,
-    table: &[(&[&[u8]], u32, u32)],
-) -> Result<Option<usize>, Memory> {
-    for (i, (code, seed, step)) in table.iter().enumerate() {
-        if !has_code(alloc, *code, *seed, *step)? {
-            return Ok(Some(i));
+/// Fails with the first of these words that give another seed or step.
+fn all_coded(alloc: Global, rows: &str) -> Result<(), Fail> {
+    for row in rows.lines() {
+        let (code, wanted) = cells(row);
+        let (seed, step) = word_off(wanted);
+        if code_of(alloc, code)? != (u64_of(seed)?, u32_of(step)?) {
+            return Err(Fail::new(row));
         }
     }
-    Ok(None)
+    Ok(())
 }
 
 #[test]
 fn the_seed_and_the_step_are_those_of_the_words(rt: HostRuntime) -> Result<(), Fail> {
-    if let Some(i) = first_other_code(rt.alloc(), &CODES)? {
-        assert!(rt; false, "code {i}");
-    }
-    Ok(())
+    all_coded(rt.alloc(), CODES)
 }
 
-/// Whether `run` with these words behind it gives this.
-fn runs(alloc: Global, behind: &[&[u8]], expected: Gives<'_>) -> Result<bool, Memory> {
-    let mut files = files(alloc)?;
-    let given = give(alloc, b"run", behind, &mut files, &mut CpuUnit::new())?;
-    Ok(is(&given, expected))
-}
+/// Forms with cycles and a code.
+const CYCLES: &str = "\
+$ run n.st --cycles 3 --seed 0
+cycle,y
+0,1
+1,2
+2,3
+end 3
+= 0
+$ run n.st --cycles 0 --step 5 --seed 7
+cycle,y
+end 0
+= 0
+$ run p.st --cycles 3 --seed 0
+= 1 --cycles R4 Form
+";
 
 #[test]
 fn forms_with_cycles_take_a_code_too(rt: HostRuntime) -> Result<(), Fail> {
-    let alloc = rt.alloc();
-    let three: Gives<'_> = (b"cycle,y\n0,1\n1,2\n2,3\nend 3\n", b"", 0);
-    assert!(rt; runs(alloc, &[b"n.st", b"--cycles", b"3", b"--seed", b"0"], three)?);
-    let none: Gives<'_> = (b"cycle,y\nend 0\n", b"", 0);
-    assert!(rt;
-        runs(
-            alloc,
-            &[b"n.st", b"--cycles", b"0", b"--step", b"5", b"--seed", b"7"],
-            none
-        )?
-    );
-    let refused: Gives<'_> = (b"", b"--cycles R4 Form\n", 1);
-    assert!(rt;
-        runs(
-            alloc,
-            &[b"p.st", b"--cycles", b"3", b"--seed", b"0"],
-            refused
-        )?
-    );
-    Ok(())
+    play(rt.alloc(), &mut files(rt.alloc())?, CYCLES)
 }

@@ -1,10 +1,8 @@
-//! Cycles of small programs.
+//! Cycles of a small program.
 
-ghost use Rattle.std.specs.Prelude.{◌≡◌, pos, true, [], ◌∷◌, Some, IfOk, length};
-ghost use Rattle.vcp_base.specs.declared.ty.Ty.{Ty as TyOf};
+ghost use Rattle.std.specs.Prelude.{◌≡◌, pos, true, [], ◌∷◌, IfOk, length};
 ghost use Rattle.vcp_base.specs.Types.{fits as fits_of};
 ghost use Rattle.vcp_typed.specs.Fitting.{input_types, output_types};
-ghost use Rattle.vcp_typed.specs.Rules.{joined, common, result as result_of};
 ghost use Rattle.vcp_base.specs.declared.ty.Ty.TheVariants as type_of;
 ghost use Rattle.st_tree.specs.declared.expr.BinOp.TheVariants as bin;
 ghost use Rattle.vcp_typed.specs.TExprTree.{get, binary};
@@ -15,36 +13,8 @@ use st_plain::{Plain, Stop};
 use st_tree::{BinOp, Class};
 use std::alloc::Global;
 use std::test::Fail;
-use vcp_base::{Memory, Row, Spot, StopKind, Text, Turn, Ty, fits};
+use vcp_base::{Memory, Row, Spot, StopKind, Text, Turn, Ty};
 use vcp_typed::{Slot, Slots, TExpr, TStmt, TStmts, Typed};
-
-/// A cycle of `y := a OP b` on two numbers of type DINT or INT.
-#[derive(Clone, Copy)]
-struct Case {
-    sign: u8,
-    dint: bool,
-    left: i64,
-    right: i64,
-}
-
-fn operator(sign: u8) -> BinOp
-    ensures operands { (t u : TyOf) → common result t u ≡ joined t u }
-    ensures value { (t : TyOf) → result_of result t ≡ t }
-{
-    match sign {
-        b'*' => BinOp::Mul,
-        b'/' => BinOp::Div,
-        b'%' => BinOp::Mod,
-        b'-' => BinOp::Sub,
-        _ => BinOp::Add,
-    }
-}
-
-fn number(dint: bool) -> Ty
-    ensures { joined result result ≡ Some result }
-{
-    if dint { Ty::Dint } else { Ty::Int }
-}
 
 /// The place of the operator.
 const PLACE: Spot = Spot { line: 4, col: 8 };
@@ -60,102 +30,6 @@ fn variable(alloc: Global, letter: u8, class: Class, ty: Ty) -> Result<Slot, Mem
         ty,
         init: 0,
     })
-}
-
-/// `VAR_INPUT a, b : T; END_VAR VAR_OUTPUT y : T; END_VAR y := a OP b;`
-fn operation(alloc: Global, op: BinOp, ty: Ty) -> Result<Typed, Memory>
-    requires operands { common op ty ty ≡ Some ty }
-    requires value { result_of op ty ≡ ty }
-    ensures inputs { IfOk result (λ p. input_types p.slots ≡ ty ∷ ty ∷ []) }
-    ensures outputs { IfOk result (λ p. output_types p.slots ≡ ty ∷ []) }
-{
-    let mut slots = Slots::new(alloc);
-    slots.push(variable(alloc, b'a', Class::Input, ty)?)?;
-    slots.push(variable(alloc, b'b', Class::Input, ty)?)?;
-    slots.push(variable(alloc, b'y', Class::Output, ty)?)?;
-    let value = TExpr::binary(alloc, op, ty, TExpr::get(0, ty), TExpr::get(1, ty), PLACE)?;
-    let mut body = TStmts::new(alloc);
-    body.push(TStmt::assign(2, value, PLACE))?;
-    Ok(Typed::new(slots, body))
-}
-
-/// The output of a first cycle of `y := a OP b`, or its stop.
-fn outcome(alloc: Global, case: &Case) -> Result<Option<Result<i64, Stop>>, Memory> {
-    let ty = number(case.dint);
-    if !fits(ty, case.left as i128) || !fits(ty, case.right as i128) {
-        return Ok(None);
-    }
-    let program = operation(alloc, operator(case.sign), ty)?;
-    let mut plain = Plain::new(alloc, &program)?;
-    let mut row = Row::new(alloc);
-    row.push(case.left)?;
-    row.push(case.right)?;
-    let mut out = Row::zeros(alloc, 1)?;
-    match plain.cycle(&row, &mut out) {
-        Ok(()) => Ok(Some(Ok(out.at(0)))),
-        Err(stop) => Ok(Some(Err(stop))),
-    }
-}
-
-/// The kind of a stop at the operator, outside every loop; or the value.
-fn at_place(found: Option<Result<i64, Stop>>) -> Option<Result<i64, StopKind>> {
-    match found {
-        Some(Ok(value)) => Some(Ok(value)),
-        Some(Err(stop)) => if stop.spot == PLACE {
-            Some(Err(stop.kind))
-        } else {
-            None
-        },
-        None => None,
-    }
-}
-
-/// A sign, whether the type is DINT and not INT, the operands, and the value or why it stops.
-type CaseRow = (u8, bool, i64, i64, Result<i64, StopKind>);
-
-const CASES: [CaseRow; 20] = [
-    (b'+', false, 32766, 1, Ok(32767)),
-    (b'+', false, 32767, 1, Err(StopKind::Range)),
-    (b'-', false, -32768, 1, Err(StopKind::Range)),
-    (b'+', true, 32767, 1, Ok(32768)),
-    (b'+', true, 2147483647, 1, Err(StopKind::Range)),
-    (b'*', false, 200, 163, Ok(32600)),
-    (b'*', false, 200, 164, Err(StopKind::Range)),
-    (b'*', true, 46341, 46341, Err(StopKind::Range)),
-    (b'*', true, -2147483648, -2147483648, Err(StopKind::Range)),
-    (b'/', false, 7, 2, Ok(3)),
-    (b'/', false, -7, 2, Ok(-3)),
-    (b'/', false, 7, -2, Ok(-3)),
-    (b'/', false, -7, -2, Ok(3)),
-    (b'/', false, 7, 0, Err(StopKind::DivZero)),
-    (b'/', true, -2147483648, -1, Err(StopKind::Range)),
-    (b'%', false, 7, 2, Ok(1)),
-    (b'%', false, -7, 2, Ok(-1)),
-    (b'%', false, 7, -2, Ok(1)),
-    (b'%', true, -2147483648, -1, Ok(0)),
-    (b'%', false, 7, 0, Err(StopKind::DivZero)),
-];
-
-/// The first case with another outcome than its own.
-fn first_wrong(alloc: Global, cases: &[CaseRow]) -> Result<Option<usize>, Memory> {
-    for (i, (sign, dint, left, right, value)) in cases.iter().enumerate() {
-        let case = Case {
-            sign: *sign,
-            dint: *dint,
-            left: *left,
-            right: *right,
-        };
-        if at_place(outcome(alloc, &case)?) != Some(*value) {
-            return Ok(Some(i));
-        }
-    }
-    Ok(None)
-}
-
-#[test]
-fn operators_have_their_values_or_stop(rt: HostRuntime) -> Result<(), Fail> {
-    assert_eq!(rt; first_wrong(rt.alloc(), &CASES)?, None);
-    Ok(())
 }
 
 /// `FOR i := 1 TO 5 DO y := y * x; END_FOR;` where slot 0 is i, slot 1 is x and slot 2 is y.
@@ -228,9 +102,8 @@ fn a_stop_is_kept_with_its_turns(rt: HostRuntime) -> Result<(), Fail> {
     let mut plain = Plain::new(alloc, &program)?;
     let mut row = Row::zeros(alloc, 1)?;
     let mut out = Row::zeros(alloc, 1)?;
-    assert_eq!(rt; cycle_on(&mut plain, &mut row, 7, &mut out), Ok(()));
-    assert_eq!(rt; out.at(0), 16807);
-    assert_eq!(rt; plain.turns().len(), 0);
+    let first = cycle_on(&mut plain, &mut row, 7, &mut out);
+    assert!(rt; first == Ok(()) && out.at(0) == 16807 && plain.turns().len() == 0);
     let stop = cycle_on(&mut plain, &mut row, 20, &mut out);
     assert!(rt; stopped_in_turn(stop, &plain, &out));
     let again = cycle_on(&mut plain, &mut row, 7, &mut out);

@@ -1,9 +1,10 @@
 //! A small program: what its checked program holds, its Size, and its refusal.
 
-use crate::sources::{checked, told};
+use crate::sources::{all_told, checked};
+use std::alloc::Global;
 use std::test::Fail;
-use vcp_base::{Columns, Ty};
-use vcp_typed::{TStmt, TStmts};
+use vcp_base::{Columns, Memory, Ty};
+use vcp_typed::{TStmt, TStmts, Typed};
 use worked_texts::ADD;
 
 /// Whether there is one column, of this name and type.
@@ -25,28 +26,31 @@ fn assigns(body: &TStmts, to: u32) -> bool {
     }
 }
 
-#[test]
-fn a_checked_program_tells_what_it_holds(rt: HostRuntime) -> Result<(), Fail> {
-    let alloc = rt.alloc();
-    let program = checked(alloc, ADD)?.map_err(|_| "refused")?;
-    // 2, an input 1, an output 3, an assignment 1, and a sum 4
-    assert_eq!(rt; program.size(), 11);
-    assert_eq!(rt; program.slots().len(), 2);
-    assert!(rt; assigns(program.body(), 1));
-    assert!(rt; is_column(&program.columns(alloc)?, b"x", Ty::Dint));
-    assert!(rt; !program.wide());
-    assert!(rt; is_column(&program.output_columns(alloc)?, b"y", Ty::Dint));
-    Ok(())
+/// Whether the program of one sum holds what its text says: its Size is 2, and 1 of an input, 3 of an output, 1 of an assignment and
+/// 4 of a sum.
+fn holds_a_sum(alloc: Global, program: &Typed) -> Result<bool, Memory> {
+    let inputs = program.columns(alloc)?;
+    let outputs = program.output_columns(alloc)?;
+    let has_columns = is_column(&inputs, b"x", Ty::Dint) && is_column(&outputs, b"y", Ty::Dint);
+    let has_parts = program.slots().len() == 2 && assigns(program.body(), 1);
+    Ok(has_columns && has_parts && program.size() == 11 && !program.wide())
 }
 
 #[test]
-fn a_program_is_typed_or_refused(rt: HostRuntime) -> Result<(), Fail> {
-    let alloc = rt.alloc();
-    let source = b"PROGRAM p\nVAR_OUTPUT y : DINT; END_VAR\ny := 2147483647;\nEND_PROGRAM\n";
-    let program = checked(alloc, source)?.map_err(|_| "refused")?;
-    // 2, an output 3, an assignment 1 and a literal 1
-    assert_eq!(rt; program.size(), 7);
-    let source = b"PROGRAM p\nVAR_OUTPUT y : DINT; END_VAR\ny := 2147483648;\nEND_PROGRAM\n";
-    assert_eq!(rt; told(alloc, source)?.as_slice(), b"mismatch 3:1".as_slice());
+fn a_checked_program_tells_what_it_holds(rt: HostRuntime) -> Result<(), Fail> {
+    let program = checked(rt.alloc(), ADD)?.map_err(|_| "refused")?;
+    assert!(rt; holds_a_sum(rt.alloc(), &program)?);
     Ok(())
+}
+
+/// Numbers that are assigned to a DINT, and what is told of the program.
+const ASSIGNED: &str = "\
+2147483647 => typed
+2147483648 => mismatch 3:1
+";
+
+#[test]
+fn a_program_is_typed_or_refused(rt: HostRuntime) -> Result<(), Fail> {
+    let front = b"PROGRAM p\nVAR_OUTPUT y : DINT; END_VAR\ny := ";
+    all_told(rt.alloc(), front, ASSIGNED, b";\nEND_PROGRAM\n")
 }

@@ -8,6 +8,7 @@ use std::alloc::Global;
 use std::test::Fail;
 use vcp_base::{MOST_SOURCE_BYTES, Spot};
 use vcp_typed::Typed;
+use worked_texts::{cells, joined, spelled};
 
 /// The checked program of a source, or its fault of typing; a failure where it spells no program.
 pub fn checked(alloc: Global, source: &[u8]) -> Result<Result<Typed, TypeFault>, Fail> {
@@ -41,10 +42,11 @@ fn name_and_place(fault: TypeFault) -> (&'static [u8], Option<Spot>) {
     }
 }
 
-/// What is told of a source: its fault with line and column, or nothing where it has a checked program.
+/// What is told of a source: its fault with line and column, or `typed` where it has a checked program.
 pub fn told(alloc: Global, source: &[u8]) -> Result<Vec<u8>, Fail> {
     let mut out = Vec::new(alloc);
     let Err(fault) = checked(alloc, source)? else {
+        out.extend_from_slice(b"typed")?;
         return Ok(out);
     };
     let (name, place) = name_and_place(fault);
@@ -57,19 +59,14 @@ pub fn told(alloc: Global, source: &[u8]) -> Result<Vec<u8>, Fail> {
     Ok(out)
 }
 
-/// The first source, a part of the table between `front` and `behind`, of which something else is told.
-pub fn first_wrong(
-    alloc: Global,
-    front: &[u8],
-    rows: &[(&[u8], &[u8])],
-    behind: &[u8],
-) -> Result<Option<usize>, Fail> {
-    for (i, (part, want)) in rows.iter().enumerate() {
-        let source = worked_texts::joined(alloc, &[front, *part, behind])?;
-        let got = told(alloc, &source)?;
-        if got.as_slice() != *want {
-            return Ok(Some(i));
+/// Fails with the first row of whose source, between `front` and `behind`, something else is told.
+pub fn all_told(alloc: Global, front: &[u8], rows: &str, behind: &[u8]) -> Result<(), Fail> {
+    for row in rows.lines() {
+        let (part, want) = cells(row);
+        let source = joined(alloc, &[front, &spelled(alloc, part)?, behind])?;
+        if told(alloc, &source)?.as_slice() != want.as_bytes() {
+            return Err(Fail::new(row));
         }
     }
-    Ok(None)
+    Ok(())
 }

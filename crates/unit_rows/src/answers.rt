@@ -4,13 +4,16 @@ ghost use Rattle.std.specs.Prelude.{◌≡◌, ◌<◌, true};
 ghost use Rattle.vcp_base.specs.Code.{admits};
 ghost use Rattle.coded_unit.specs.Asked.{Asked};
 
+use crate::cases::{Case, case_of, short, word_answer, word_or_zero};
 use coded_unit::table::answer;
 use coded_unit::{
     Answer, BadUnit, Call, CpuUnit, LogUnit, Unit, Word, right_answers_keep_the_step_law,
     words_split_in_one_way,
 };
+use std::alloc::Global;
 use std::test::Fail;
 use vcp_base::{Kind, Profile, Residue, Ty};
+use worked_texts::{cells, i64_of, i128_of, word_off};
 
 /// The word of an answer; 0 where it has none.
 fn word_of(given: &Answer) -> Word {
@@ -18,19 +21,6 @@ fn word_of(given: &Answer) -> Word {
         Answer::Word(word) => *word,
         _ => Word::ZERO,
     }
-}
-
-/// The word that is an integer; 0 where it is none.
-pub fn word_or_zero(w: i128) -> Word {
-    match Word::new(w) {
-        Some(word) => word,
-        None => Word::ZERO,
-    }
-}
-
-/// The answer of the word that is an integer.
-pub fn word_answer(w: i128) -> Answer {
-    Answer::Word(word_or_zero(w))
 }
 
 /// A call of the worked cycle, in which the stamp is 1.
@@ -76,23 +66,38 @@ fn increment<U: Unit>(unit: &mut U) -> [i128; 4] {
     ]
 }
 
-#[test]
-fn units_do_a_worked_cycle(rt: HostRuntime) -> Result<(), Fail> {
-    let words = [11042838132, 2667651909, 13619818509, 13834566874];
-    let mut roomy = LogUnit::new(rt.alloc(), 4)?;
-    let mut narrow = LogUnit::new(rt.alloc(), 2)?;
-    assert_eq!(rt; increment(&mut CpuUnit::new()), words);
-    assert_eq!(rt; increment(&mut roomy), words);
-    assert_eq!(rt; increment(&mut narrow), words);
-    for i in 0..4u32 {
-        let Some((call, kept)) = roomy.entry(i) else {
-            assert!(rt; false, "no entry {i}");
-            return Ok(());
-        };
-        assert_eq!(rt; (call.op, word_of(&kept).get()), (i, words[i as usize]));
+/// The operation and the word of a kept call.
+fn kept(entry: Option<(Call, Answer)>) -> Option<(u32, i128)> {
+    match entry {
+        Some((call, given)) => Some((call.op, word_of(&given).get())),
+        None => None,
     }
+}
+
+/// The words of the worked cycle.
+const WORDS: [i128; 4] = [11042838132, 2667651909, 13619818509, 13834566874];
+
+#[test]
+fn a_unit_does_a_worked_cycle(rt: HostRuntime) {
+    assert!(rt; increment(&mut CpuUnit::new()) == WORDS);
+}
+
+#[test]
+fn a_unit_with_a_log_keeps_its_calls(rt: HostRuntime) -> Result<(), Fail> {
+    let mut roomy = LogUnit::new(rt.alloc(), 4)?;
+    assert!(rt; increment(&mut roomy) == WORDS);
+    assert!(rt; kept(roomy.entry(0)) == Some((0, WORDS[0])));
+    assert!(rt; kept(roomy.entry(3)) == Some((3, WORDS[3])));
     assert!(rt; roomy.entry(4).is_none());
-    assert!(rt; narrow.entry(1).is_some() && narrow.entry(2).is_none());
+    Ok(())
+}
+
+#[test]
+fn a_unit_keeps_no_more_calls_than_it_has_room_for(rt: HostRuntime) -> Result<(), Fail> {
+    let mut narrow = LogUnit::new(rt.alloc(), 2)?;
+    assert!(rt; increment(&mut narrow) == WORDS);
+    assert!(rt; kept(narrow.entry(1)) == Some((1, WORDS[1])));
+    assert!(rt; narrow.entry(2).is_none());
     Ok(())
 }
 
@@ -153,52 +158,33 @@ fn replaced_answer_is_carried_on(rt: HostRuntime) -> Result<(), Fail> {
     unit.replace(7, word_answer(4294967299))?;
     // The cell begins with the value 0 and the signature of STORE.
     let first = [1, 2362232013, 2576980378, 2791728743, 3006477108];
-    assert_eq!(rt; count_on(&mut unit, 0, 858993460), first);
-    assert_eq!(rt; unit.wrong(), 0);
+    assert!(rt; count_on(&mut unit, 0, 858993460) == first && unit.wrong() == 0);
     // The replaced word has the value 2 and the residue 5; OUT adds 214748365 to the residue.
     let second = [2147483649, 2362232014, 4294967299, 4509715664, 4724464029];
-    assert_eq!(rt; count_on(&mut unit, 1, 3006477108), second);
-    assert_eq!(rt; unit.wrong(), 1);
-    let Some((call, kept)) = unit.entry(7) else {
-        assert!(rt; false, "no entry 7");
-        return Ok(());
-    };
-    assert_eq!(rt;
-        (call.op, call.cycle, word_of(&kept).get()),
-        (2, 1, 4294967299)
-    );
+    assert!(rt; count_on(&mut unit, 1, 3006477108) == second && unit.wrong() == 1);
+    assert!(rt; kept(unit.entry(7)) == Some((2, 4294967299)));
     assert!(rt; unit.entry(8).is_none());
     Ok(())
 }
 
-/// The first of these turns, in each of which the unit is asked for the word of CONST in the worked cycle, with another answer or another number of
-/// wrong answers.
-fn first_wrong_turn(unit: &mut BadUnit, turns: &[(Answer, u64)]) -> Option<usize> {
-    for (i, (wanted, wrong)) in turns.iter().enumerate() {
-        let call = worked(1, Kind::Const, &Word::ZERO, &Word::ZERO, 1, 520168261);
-        if unit.perform(&call) != *wanted || unit.wrong() != *wrong {
-            return Some(i);
-        }
-    }
-    None
+/// Whether a unit that is asked for the word of CONST in the worked cycle gives this answer, after so many wrong ones with it.
+fn is_next(unit: &mut BadUnit, wanted: &Answer, wrong: u64) -> bool {
+    let call = worked(1, Kind::Const, &Word::ZERO, &Word::ZERO, 1, 520168261);
+    unit.perform(&call) == *wanted && unit.wrong() == wrong
 }
 
 #[test]
 fn replaced_answers_are_given_once(rt: HostRuntime) -> Result<(), Fail> {
-    let right = 2667651909;
+    let right = word_answer(2667651909);
     let mut unit = BadUnit::new(rt.alloc(), 0)?;
-    unit.replace(3, Answer::Operand)?;
+    unit.replace(2, Answer::Operand)?;
     unit.replace(0, Answer::Range)?;
     unit.replace(0, Answer::DivZero)?;
-    unit.replace(1, word_answer(right))?;
-    let rows = [
-        (Answer::DivZero, 1),
-        (word_answer(right), 1),
-        (word_answer(right), 1),
-        (Answer::Operand, 2),
-        (word_answer(right), 2),
-    ];
-    assert_eq!(rt; first_wrong_turn(&mut unit, &rows), None);
+    unit.replace(1, right)?;
+    assert!(rt; is_next(&mut unit, &Answer::DivZero, 1));
+    assert!(rt; is_next(&mut unit, &right, 1));
+    assert!(rt; is_next(&mut unit, &Answer::Operand, 2));
+    assert!(rt; is_next(&mut unit, &right, 2));
     assert!(rt; unit.entry(0).is_none());
     Ok(())
 }
@@ -214,134 +200,142 @@ pub fn narrow(ty: Ty) -> Ty
 }
 
 /// A call whose operands have these values and the residues 10, 20 and 30.
-fn of_values(kind: Kind, from: Ty, ty: Ty, values: [i32; 3]) -> Call
-    requires from { admits Profile.Narrow from ≡ true }
-    requires ty { admits Profile.Narrow ty ≡ true }
+fn of_values(case: &Case) -> Call
     ensures { Asked result }
 {
+    let [a, b, c] = case.values;
     Call {
         profile: Profile::Narrow,
         op: 7,
         cycle: 2,
-        kind,
-        from,
-        ty,
-        a: Word::packed(Profile::Narrow, values[0] as i128, 10),
-        b: Word::packed(Profile::Narrow, values[1] as i128, 20),
-        c: Word::packed(Profile::Narrow, values[2] as i128, 30),
+        kind: case.kind,
+        from: narrow(case.from),
+        ty: narrow(case.ty),
+        a: Word::packed(Profile::Narrow, short(a) as i128, 10),
+        b: Word::packed(Profile::Narrow, short(b) as i128, 20),
+        c: Word::packed(Profile::Narrow, short(c) as i128, 30),
         imm: -4,
         corr: 1000,
         stamp: 1,
     }
 }
 
-/// Kinds, the values of the operands, and the value and the residue of the answer.
-const PARTS: [(Kind, [i32; 3], (i128, Residue)); 20] = [
-    (Kind::Input, [1, 2, 3], (-4, 1001)),
-    (Kind::Const, [1, 2, 3], (-4, 1001)),
-    (Kind::Load, [8, 2, 3], (8, 1010)),
-    (Kind::Store, [8, 2, 3], (8, 1010)),
-    (Kind::Out, [8, 2, 3], (8, 1010)),
-    (Kind::Conv, [8, 2, 3], (8, 1010)),
-    (Kind::Neg, [8, 2, 3], (-8, 992)),
-    (Kind::Not, [1, 2, 3], (0, 983)),
-    (Kind::Add, [7, 2, 0], (9, 1029)),
-    (Kind::Sub, [7, 2, 0], (5, 991)),
-    (Kind::Mul, [-7, 2, 0], (-14, 1076)),
-    (Kind::Div, [-7, 2, 0], (-3, 1132)),
-    (Kind::Mod, [-7, 2, 0], (-1, 1188)),
-    (Kind::Eq, [4, 4, 0], (1, 1244)),
-    (Kind::Lt, [4, 4, 0], (0, 1300)),
-    (Kind::And, [1, 0, 0], (0, 1356)),
-    (Kind::Or, [1, 0, 0], (1, 1412)),
-    (Kind::Xor, [1, 1, 0], (0, 1468)),
-    (Kind::Sel, [0, 8, 9], (8, 2104)),
-    (Kind::Sel, [1, 8, 9], (9, 2104)),
-];
-
-/// The first of these kinds whose answer has another value or residue.
-fn first_wrong_parts(rows: &[(Kind, [i32; 3], (i128, Residue))]) -> Option<usize> {
-    for (i, (kind, values, parts)) in rows.iter().enumerate() {
-        let given = answer(&of_values(*kind, Ty::Int, Ty::Int, *values));
-        if word_of(&given).split(Profile::Narrow) != *parts {
-            return Some(i);
-        }
-    }
-    None
-}
-
-#[test]
-fn kinds_have_values_and_residues(rt: HostRuntime) {
-    assert_eq!(rt; first_wrong_parts(&PARTS), None);
-}
-
-/// A kind, the types of its operands and of its value, the values of its operands, and why it stops.
-type Stopped = (Kind, Ty, Ty, [i32; 3], Answer);
-
-const STOPPED: [Stopped; 7] = [
-    (
-        Kind::Add,
-        Ty::Dint,
-        Ty::Dint,
-        [2147483647, 1, 0],
-        Answer::Range,
-    ),
-    (Kind::Div, Ty::Dint, Ty::Dint, [5, 0, 0], Answer::DivZero),
-    (Kind::Mod, Ty::Dint, Ty::Bool, [5, 0, 0], Answer::DivZero),
-    (Kind::Div, Ty::Int, Ty::Int, [32768, 0, 0], Answer::Operand),
-    (Kind::Add, Ty::Int, Ty::Int, [1, 32768, 0], Answer::Operand),
-    (Kind::And, Ty::Int, Ty::Bool, [1, 2, 0], Answer::Operand),
-    (Kind::Sel, Ty::Int, Ty::Int, [2, 8, 9], Answer::Operand),
-];
-
-/// The first of these calls with another answer.
-fn first_not_stopped(rows: &[Stopped]) -> Option<usize> {
-    for (i, (kind, from, ty, values, stop)) in rows.iter().enumerate() {
-        if answer(&of_values(*kind, narrow(*from), narrow(*ty), *values)) != *stop {
-            return Some(i);
-        }
-    }
-    None
-}
-
-#[test]
-fn calls_stop_in_order(rt: HostRuntime) {
-    assert_eq!(rt; first_not_stopped(&STOPPED), None);
-    let mut call = of_values(Kind::Add, Ty::Dint, Ty::Dint, [0, 1, 0]);
-    call.a = Word::packed(Profile::Narrow, 2147483648, 10);
-    assert_eq!(rt; answer(&call), Answer::Operand);
-}
-
-#[test]
-fn words_split_and_end(rt: HostRuntime) -> Result<(), Fail> {
-    let bound = 85070591730234615865843651857942052864;
-    assert!(rt; Word::new(bound).is_none() && Word::new(-bound).is_none());
-    let (Some(most), Some(least)) = (Word::new(bound - 1), Word::new(1 - bound)) else {
-        assert!(rt; false, "no word at the ends");
-        return Ok(());
+/// An answer's value and residue, or its stop.
+fn shown(alloc: Global, given: &Answer) -> Result<String, Fail> {
+    let Answer::Word(word) = given else {
+        return Ok(format!(in alloc; "{given:?}")?);
     };
-    assert_eq!(rt; Word::packed(Profile::Narrow, -1, 1).get(), -2147483646);
-    assert_eq!(rt;
-        Word::packed(Profile::Narrow, -1, 1).split(Profile::Narrow),
-        (-1, 1)
-    );
-    assert_eq!(rt;
-        Word::packed(Profile::Narrow, -2147483648, 1).get(),
-        -4611686016279904255
-    );
-    assert_eq!(rt; Word::ZERO.split(Profile::Narrow), (0, 0));
-    let rows = [
-        (Word::ZERO, -7, -7),
-        (most, -1, bound - 2),
-        (most, 1, bound - 1),
-        (most, i64::MAX, bound - 1),
-        (least, 1, 2 - bound),
-        (least, i64::MIN, 1 - bound),
-    ];
-    for (word, change, wanted) in rows {
-        assert_eq!(rt; word.shift(change).get(), wanted);
+    let (value, residue) = word.split(Profile::Narrow);
+    Ok(format!(in alloc; "{value} {residue}")?)
+}
+
+/// Fails with the first of these calls that has another answer.
+fn all_answered(alloc: Global, rows: &str) -> Result<(), Fail> {
+    for row in rows.lines() {
+        let (asked, wanted) = cells(row);
+        let given = answer(&of_values(&case_of(asked)?));
+        if shown(alloc, &given)?.as_str() != wanted {
+            return Err(Fail::new(row));
+        }
     }
     Ok(())
+}
+
+/// Kinds, types, the values of the operands, and the value and the residue of the answer.
+const PARTS: &str = "\
+INPUT INT INT 1 2 3 => -4 1001
+CONST INT INT 1 2 3 => -4 1001
+LOAD INT INT 8 2 3 => 8 1010
+STORE INT INT 8 2 3 => 8 1010
+OUT INT INT 8 2 3 => 8 1010
+CONV INT INT 8 2 3 => 8 1010
+NEG INT INT 8 2 3 => -8 992
+NOT INT INT 1 2 3 => 0 983
+ADD INT INT 7 2 0 => 9 1029
+SUB INT INT 7 2 0 => 5 991
+MUL INT INT -7 2 0 => -14 1076
+DIV INT INT -7 2 0 => -3 1132
+MOD INT INT -7 2 0 => -1 1188
+EQ INT INT 4 4 0 => 1 1244
+LT INT INT 4 4 0 => 0 1300
+AND INT INT 1 0 0 => 0 1356
+OR INT INT 1 0 0 => 1 1412
+XOR INT INT 1 1 0 => 0 1468
+SEL INT INT 0 8 9 => 8 2104
+SEL INT INT 1 8 9 => 9 2104
+";
+
+#[test]
+fn kinds_have_values_and_residues(rt: HostRuntime) -> Result<(), Fail> {
+    all_answered(rt.alloc(), PARTS)
+}
+
+/// Calls with more than one cause to stop, and that which is told.
+const STOPPED: &str = "\
+ADD DINT DINT 2147483647 1 0 => Range
+DIV DINT DINT 5 0 0 => DivZero
+MOD DINT BOOL 5 0 0 => DivZero
+DIV INT INT 32768 0 0 => Operand
+ADD INT INT 1 32768 0 => Operand
+AND INT BOOL 1 2 0 => Operand
+SEL INT INT 2 8 9 => Operand
+ADD DINT DINT 2147483648 1 0 => Operand
+";
+
+#[test]
+fn calls_stop_in_order(rt: HostRuntime) -> Result<(), Fail> {
+    all_answered(rt.alloc(), STOPPED)
+}
+
+/// The integer past the greatest word.
+const BOUND: i128 = 85070591730234615865843651857942052864;
+
+#[test]
+fn words_have_ends(rt: HostRuntime) {
+    assert!(rt; Word::new(BOUND).is_none() && Word::new(-BOUND).is_none());
+    assert!(rt; Word::new(BOUND - 1).is_some() && Word::new(1 - BOUND).is_some());
+}
+
+/// Whether a word is this value and this residue, and no other.
+fn is_split(word: Word, parts: (i128, Residue)) -> bool {
+    word.split(Profile::Narrow) == parts
+}
+
+#[test]
+fn words_split_into_a_value_and_a_residue(rt: HostRuntime) {
+    let word = Word::packed(Profile::Narrow, -1, 1);
+    assert!(rt; word.get() == -2147483646 && is_split(word, (-1, 1)));
+    let word = Word::packed(Profile::Narrow, -2147483648, 1);
+    assert!(rt; word.get() == -4611686016279904255);
+    assert!(rt; is_split(Word::ZERO, (0, 0)));
+}
+
+/// Words, a change, and the word that is shifted by it.
+const SHIFTS: &str = "\
+0 -7 => -7
+85070591730234615865843651857942052863 -1 => 85070591730234615865843651857942052862
+85070591730234615865843651857942052863 1 => 85070591730234615865843651857942052863
+85070591730234615865843651857942052863 9223372036854775807 => 85070591730234615865843651857942052863
+-85070591730234615865843651857942052863 1 => -85070591730234615865843651857942052862
+-85070591730234615865843651857942052863 -9223372036854775808 => -85070591730234615865843651857942052863
+";
+
+/// Fails with the first of these words that is shifted otherwise.
+fn all_shifted(rows: &str) -> Result<(), Fail> {
+    for row in rows.lines() {
+        let (asked, wanted) = cells(row);
+        let (word, change) = word_off(asked);
+        let word = Word::new(i128_of(word)?).ok_or("no word")?;
+        if word.shift(i64_of(change)?).get() != i128_of(wanted)? {
+            return Err(Fail::new(row));
+        }
+    }
+    Ok(())
+}
+
+#[test]
+fn words_are_shifted_up_to_their_ends() -> Result<(), Fail> {
+    all_shifted(SHIFTS)
 }
 
 #[test]

@@ -6,16 +6,12 @@ ghost use Rattle.std.specs.Prelude.{◌≡◌, ◌<◌, ◌≤◌, true};
 ghost use Rattle.vcp_base.specs.Code.{modulus, admits};
 ghost use Rattle.vcp_base.specs.Limits.{most_stamp};
 
-use crate::answers::{word_answer, word_or_zero};
+use crate::cases::{Case, case_of, stop_named, word_answer, word_or_zero};
 use coded_unit::table::answer;
 use coded_unit::{Answer, Call, Word};
+use std::test::Fail;
 use vcp_base::{Kind, Profile, Residue, Ty};
-
-/// The least LINT.
-const LEAST: i128 = -9223372036854775808;
-
-/// The greatest LINT.
-const MOST: i128 = 9223372036854775807;
+use worked_texts::{cells, i64_of, i128_of, kind_named, u64_of, word_off};
 
 /// The wide code has words of each type.
 fn is_admitted(ty: Ty) -> bool
@@ -38,72 +34,63 @@ fn word_at(value: i128, residue: Residue) -> Word {
     )
 }
 
-/// The answer of the word of a value and a residue.
-fn answer_of(value: i128, residue: Residue) -> Answer {
-    Answer::Word(word_at(value, residue))
+/// What a call carries beside its values: the residue of each operand, the correction and the stamp.
+#[derive(Clone, Copy)]
+struct Carried {
+    residue: Residue,
+    corr: Residue,
+    stamp: u32,
 }
 
-/// What a call carries beside its values: the residue of each operand, the correction and the stamp.
-type Carried = (Residue, Residue, u32);
+/// The least residues, correction and stamp.
+const LEAST: Carried = Carried {
+    residue: 0,
+    corr: 0,
+    stamp: 0,
+};
+
+/// The greatest residues, correction and stamp.
+const GREATEST: Carried = Carried {
+    residue: 2305843009213693950,
+    corr: 2305843009213693950,
+    stamp: 1000000000,
+};
 
 /// The answer at operands of these values. INPUT and CONST take 0 as their number.
-fn answer_at(kind: Kind, from: Ty, ty: Ty, values: [i128; 3], carried: Carried) -> Answer
-    requires corr { carried.1 < modulus Profile.Wide }
-    requires stamp { carried.2 ≤ most_stamp }
+fn answer_at(case: &Case, carried: Carried) -> Answer
+    requires corr { carried.corr < modulus Profile.Wide }
+    requires stamp { carried.stamp ≤ most_stamp }
 {
-    is_admitted(from);
-    is_admitted(ty);
-    let [a, b, c] = values;
+    is_admitted(case.from);
+    is_admitted(case.ty);
+    let [a, b, c] = case.values;
     answer(&Call {
         profile: Profile::Wide,
         op: 0,
         cycle: 0,
-        kind,
-        from,
-        ty,
-        a: word_at(a, carried.0),
-        b: word_at(b, carried.0),
-        c: word_at(c, carried.0),
+        kind: case.kind,
+        from: case.from,
+        ty: case.ty,
+        a: word_at(a, carried.residue),
+        b: word_at(b, carried.residue),
+        c: word_at(c, carried.residue),
         imm: 0,
-        corr: carried.1,
-        stamp: carried.2,
+        corr: carried.corr,
+        stamp: carried.stamp,
     })
 }
 
-/// A kind, the words of its operands, its number, its correction, and the word of its answer.
-type Worked = (Kind, i128, i128, i64, Residue, i128);
-
-/// One cycle of `y := x + 1` on LINT, with the seed 0, at x = 5.
-const CYCLE: [Worked; 4] = [
-    (Kind::Input, 0, 0, 5, 0, 11529215046068469756),
-    (
-        Kind::Const,
-        0,
-        0,
-        1,
-        922337203685477581,
-        3228180212899171533,
-    ),
-    (
-        Kind::Add,
-        11529215046068469756,
-        3228180212899171533,
-        0,
-        2075258708292324556,
-        14526810958046271893,
-    ),
-    (
-        Kind::Out,
-        14526810958046271893,
-        0,
-        0,
-        2075258708292324556,
-        14296226657124902498,
-    ),
-];
+/// Kinds, the words of their operands, their numbers and corrections, and the words of their answers: one cycle of `y := x + 1` on
+/// LINT, with the seed 0, at x = 5.
+const CYCLE: &str = "\
+INPUT 0 0 5 0 => 11529215046068469756
+CONST 0 0 1 922337203685477581 => 3228180212899171533
+ADD 11529215046068469756 3228180212899171533 0 2075258708292324556 => 14526810958046271893
+OUT 14526810958046271893 0 0 2075258708292324556 => 14296226657124902498
+";
 
 /// The answer to a call of the worked cycle, in which the stamp is 1.
-fn worked(kind: Kind, a: i128, b: i128, imm: i64, corr: Residue) -> Answer
+fn worked(kind: Kind, words: [i128; 2], imm: i64, corr: Residue) -> Answer
     requires { corr < modulus Profile.Wide }
 {
     is_admitted(Ty::Lint);
@@ -114,168 +101,131 @@ fn worked(kind: Kind, a: i128, b: i128, imm: i64, corr: Residue) -> Answer
         kind,
         from: Ty::Lint,
         ty: Ty::Lint,
-        a: word_or_zero(a),
-        b: word_or_zero(b),
-        c: word_or_zero(0),
+        a: word_or_zero(words[0]),
+        b: word_or_zero(words[1]),
+        c: Word::ZERO,
         imm,
         corr,
         stamp: 1,
     })
 }
 
-/// The first call of the cycle with another answer.
-fn first_wrong_word(rows: &[Worked]) -> Option<usize> {
-    for (i, (kind, a, b, imm, corr, wanted)) in rows.iter().enumerate() {
-        if *corr >= 2305843009213693951 {
-            return Some(i);
-        }
-        if worked(*kind, *a, *b, *imm, *corr) != word_answer(*wanted) {
-            return Some(i);
+/// The answer to the call of a row.
+fn worked_row(row: &str) -> Result<Answer, Fail> {
+    let (kind, rest) = word_off(row);
+    let (a, rest) = word_off(rest);
+    let (b, rest) = word_off(rest);
+    let (imm, corr) = word_off(rest);
+    let kind = kind_named(kind)?;
+    let words = [i128_of(a)?, i128_of(b)?];
+    let imm = i64_of(imm)?;
+    let corr = u64_of(corr)?;
+    if corr >= 2305843009213693951 {
+        return Err("no residue".into());
+    }
+    Ok(worked(kind, words, imm, corr))
+}
+
+/// Fails with the first call of the cycle that has another answer.
+fn all_worked(rows: &str) -> Result<(), Fail> {
+    for row in rows.lines() {
+        let (asked, wanted) = cells(row);
+        if worked_row(asked)? != word_answer(i128_of(wanted)?) {
+            return Err(Fail::new(row));
         }
     }
-    None
+    Ok(())
 }
 
 #[test]
-fn wide_cycle_has_its_words(rt: HostRuntime) {
-    assert_eq!(rt; first_wrong_word(&CYCLE), None);
+fn wide_cycle_has_its_words() -> Result<(), Fail> {
+    all_worked(CYCLE)
 }
 
-/// A kind, the values of its operands, and the value of its answer.
-const EXACT: [(Kind, i128, i128, i128); 14] = [
-    (Kind::Add, MOST, 0, MOST),
-    (Kind::Sub, LEAST, 0, LEAST),
-    (Kind::Neg, -MOST, 0, MOST),
-    (Kind::Mul, 3037000499, 3037000499, 9223372030926249001),
-    (Kind::Mul, LEAST, 1, LEAST),
-    (Kind::Div, LEAST, 2, -4611686018427387904),
-    (Kind::Div, MOST, -1, -MOST),
-    (Kind::Mod, LEAST, -1, 0),
-    (Kind::Mod, LEAST, 10, -8),
-    (Kind::Mod, MOST, 10, 7),
-    (Kind::Mod, MOST, LEAST, MOST),
-    (Kind::Eq, LEAST, LEAST, 1),
-    (Kind::Lt, LEAST, MOST, 1),
-    (Kind::Lt, MOST, LEAST, 0),
-];
+/// The answer that is written so, as a stop, or as a value and, behind a blank, a residue.
+fn answer_of(text: &str) -> Result<Answer, Fail> {
+    if let Some(stop) = stop_named(text) {
+        return Ok(stop);
+    }
+    let (value, residue) = word_off(text);
+    Ok(Answer::Word(word_at(i128_of(value)?, u64_of(residue)?)))
+}
 
-/// The first of these with another answer on LINT.
-fn first_inexact(rows: &[(Kind, i128, i128, i128)]) -> Option<usize> {
-    for (i, (kind, a, b, v)) in rows.iter().enumerate() {
-        if answer_at(*kind, Ty::Lint, Ty::Lint, [*a, *b, 0], (0, 0, 0)) != answer_of(*v, 0) {
-            return Some(i);
+/// Fails with the first of these calls that has another answer.
+fn all_answered(rows: &str, carried: Carried) -> Result<(), Fail>
+    requires corr { carried.corr < modulus Profile.Wide }
+    requires stamp { carried.stamp ≤ most_stamp }
+{
+    for row in rows.lines() {
+        let (asked, wanted) = cells(row);
+        if answer_at(&case_of(asked)?, carried) != answer_of(wanted)? {
+            return Err(Fail::new(row));
         }
     }
-    None
+    Ok(())
 }
 
-/// The types of a conversion, and a value that it keeps.
-const CONVERTED: [(Ty, Ty, i128); 4] = [
-    (Ty::Int, Ty::Lint, -32768),
-    (Ty::Dint, Ty::Lint, 2147483647),
-    (Ty::Lint, Ty::Int, 32767),
-    (Ty::Lint, Ty::Dint, -2147483648),
-];
-
-/// The first of these conversions that changes the value.
-fn first_changed(rows: &[(Ty, Ty, i128)]) -> Option<usize> {
-    for (i, (from, ty, v)) in rows.iter().enumerate() {
-        if answer_at(Kind::Conv, *from, *ty, [*v, 0, 0], (0, 0, 0)) != answer_of(*v, 0) {
-            return Some(i);
-        }
-    }
-    None
-}
+/// Kinds, types and values, and the value of the answer and its residue.
+const EXACT: &str = "\
+ADD LINT LINT 9223372036854775807 0 0 => 9223372036854775807 0
+SUB LINT LINT -9223372036854775808 0 0 => -9223372036854775808 0
+NEG LINT LINT -9223372036854775807 0 0 => 9223372036854775807 0
+MUL LINT LINT 3037000499 3037000499 0 => 9223372030926249001 0
+MUL LINT LINT -9223372036854775808 1 0 => -9223372036854775808 0
+DIV LINT LINT -9223372036854775808 2 0 => -4611686018427387904 0
+DIV LINT LINT 9223372036854775807 -1 0 => -9223372036854775807 0
+MOD LINT LINT -9223372036854775808 -1 0 => 0 0
+MOD LINT LINT -9223372036854775808 10 0 => -8 0
+MOD LINT LINT 9223372036854775807 10 0 => 7 0
+MOD LINT LINT 9223372036854775807 -9223372036854775808 0 => 9223372036854775807 0
+EQ LINT LINT -9223372036854775808 -9223372036854775808 0 => 1 0
+LT LINT LINT -9223372036854775808 9223372036854775807 0 => 1 0
+LT LINT LINT 9223372036854775807 -9223372036854775808 0 => 0 0
+CONV INT LINT -32768 0 0 => -32768 0
+CONV DINT LINT 2147483647 0 0 => 2147483647 0
+CONV LINT INT 32767 0 0 => 32767 0
+CONV LINT DINT -2147483648 0 0 => -2147483648 0
+";
 
 #[test]
-fn lint_is_exact_at_its_ends(rt: HostRuntime) {
-    assert_eq!(rt; first_inexact(&EXACT), None);
-    assert_eq!(rt; first_changed(&CONVERTED), None);
+fn lint_is_exact_at_its_ends() -> Result<(), Fail> {
+    all_answered(EXACT, LEAST)
 }
 
-/// A kind, the types of its operands and of its value, the values of two operands, and why it stops.
-type Stopped = (Kind, Ty, Ty, i128, i128, Answer);
-
-const STOPPED: [Stopped; 13] = [
-    (Kind::Add, Ty::Lint, Ty::Lint, MOST, 1, Answer::Range),
-    (Kind::Sub, Ty::Lint, Ty::Lint, LEAST, 1, Answer::Range),
-    (Kind::Neg, Ty::Lint, Ty::Lint, LEAST, 0, Answer::Range),
-    (
-        Kind::Mul,
-        Ty::Lint,
-        Ty::Lint,
-        3037000500,
-        3037000500,
-        Answer::Range,
-    ),
-    (Kind::Mul, Ty::Lint, Ty::Lint, LEAST, LEAST, Answer::Range),
-    (Kind::Div, Ty::Lint, Ty::Lint, LEAST, -1, Answer::Range),
-    (Kind::Div, Ty::Lint, Ty::Lint, LEAST, 0, Answer::DivZero),
-    (Kind::Mod, Ty::Lint, Ty::Lint, MOST, 0, Answer::DivZero),
-    (Kind::Conv, Ty::Lint, Ty::Int, 32768, 0, Answer::Range),
-    (
-        Kind::Conv,
-        Ty::Lint,
-        Ty::Dint,
-        -2147483649,
-        0,
-        Answer::Range,
-    ),
-    (
-        Kind::Conv,
-        Ty::Dint,
-        Ty::Lint,
-        2147483648,
-        0,
-        Answer::Operand,
-    ),
-    (Kind::Load, Ty::Lint, Ty::Lint, MOST + 1, 0, Answer::Operand),
-    (Kind::Lt, Ty::Lint, Ty::Bool, 0, LEAST - 1, Answer::Operand),
-];
-
-/// The first of these with another answer.
-fn first_not_stopped(rows: &[Stopped]) -> Option<usize> {
-    for (i, (kind, from, ty, a, b, stop)) in rows.iter().enumerate() {
-        if answer_at(*kind, *from, *ty, [*a, *b, 0], (0, 0, 0)) != *stop {
-            return Some(i);
-        }
-    }
-    None
-}
+/// Kinds, types and values, and why the call stops.
+const STOPPED: &str = "\
+ADD LINT LINT 9223372036854775807 1 0 => range
+SUB LINT LINT -9223372036854775808 1 0 => range
+NEG LINT LINT -9223372036854775808 0 0 => range
+MUL LINT LINT 3037000500 3037000500 0 => range
+MUL LINT LINT -9223372036854775808 -9223372036854775808 0 => range
+DIV LINT LINT -9223372036854775808 -1 0 => range
+DIV LINT LINT -9223372036854775808 0 0 => divzero
+MOD LINT LINT 9223372036854775807 0 0 => divzero
+CONV LINT INT 32768 0 0 => range
+CONV LINT DINT -2147483649 0 0 => range
+CONV DINT LINT 2147483648 0 0 => operand
+LOAD LINT LINT 9223372036854775808 0 0 => operand
+LT LINT BOOL 0 -9223372036854775809 0 => operand
+";
 
 #[test]
-fn values_outside_lint_stop(rt: HostRuntime) {
-    assert_eq!(rt; first_not_stopped(&STOPPED), None);
+fn values_outside_lint_stop() -> Result<(), Fail> {
+    all_answered(STOPPED, LEAST)
 }
 
-/// A kind, the values of its operands, and the value and the residue of its answer where each residue and the correction are A - 1,
-/// which is -1 modulo A, at the stamp 1000000000: with the sum m of the kind's multipliers the residue is -m - 1 + (1 - m)*1000000000
-/// modulo A.
-const RESIDUES: [(Kind, [i128; 3], i128, Residue); 5] = [
-    // m = 1: -2
-    (Kind::Out, [MOST, 0, 0], MOST, 2305843009213693949),
-    // m = -2: 1 + 3000000000
-    (Kind::Not, [1, 0, 0], 0, 3000000001),
-    // m = 2: -3 - 1000000000
-    (Kind::Add, [LEAST, MOST, 0], -1, 2305843008213693948),
-    // m = 5: -6 - 4000000000
-    (Kind::Mul, [LEAST, 1, 0], LEAST, 2305843005213693945),
-    // m = 57: -58 - 56000000000
-    (Kind::Sel, [1, 0, LEAST], LEAST, 2305842953213693893),
-];
-
-/// The first of these with another answer.
-fn first_other_residue(rows: &[(Kind, [i128; 3], i128, Residue)]) -> Option<usize> {
-    let carried = (2305843009213693950, 2305843009213693950, 1000000000);
-    for (i, (kind, values, v, residue)) in rows.iter().enumerate() {
-        if answer_at(*kind, Ty::Lint, Ty::Lint, *values, carried) != answer_of(*v, *residue) {
-            return Some(i);
-        }
-    }
-    None
-}
+/// Kinds, types and values, and the value and the residue of the answer where each residue and the correction are A - 1, which is -1
+/// modulo A, at the stamp 1000000000: with the sum m of the kind's multipliers the residue is -m - 1 + (1 - m)*1000000000 modulo A.
+/// Here m is 1, -2, 2, 5 and 57.
+const RESIDUES: &str = "\
+OUT LINT LINT 9223372036854775807 0 0 => 9223372036854775807 2305843009213693949
+NOT LINT LINT 1 0 0 => 0 3000000001
+ADD LINT LINT -9223372036854775808 9223372036854775807 0 => -1 2305843008213693948
+MUL LINT LINT -9223372036854775808 1 0 => -9223372036854775808 2305843005213693945
+SEL LINT LINT 1 0 -9223372036854775808 => -9223372036854775808 2305842953213693893
+";
 
 #[test]
-fn residues_are_exact_at_their_ends(rt: HostRuntime) {
-    assert_eq!(rt; first_other_residue(&RESIDUES), None);
+fn residues_are_exact_at_their_ends() -> Result<(), Fail> {
+    all_answered(RESIDUES, GREATEST)
 }

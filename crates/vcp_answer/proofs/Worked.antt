@@ -1,6 +1,6 @@
 -- Worked: the words of a cycle of `y := x + 1;` and of `n := n + 1; y := n;`, with seed 0 and step 1, as they are meant, read off answers and
 -- printed.
-use Rattle.std.proofs.Common.{◌≡◌, refl, List, [], ◌∷◌, Some, None, pos, codes}
+use Rattle.std.proofs.Common.{◌≡◌, refl, [], ◌∷◌, Some, None, pos, codes}
 use Rattle.vcp_base.specs.declared.code.Profile.TheVariants as profile
 use Rattle.input_rows.specs.declared.fault.RowFault.TheVariants as row
 use Rattle.coded_unit.specs.declared.call.Answer.TheVariants as answer

@@ -1,5 +1,5 @@
 -- Answer: what is written and the status; and the task that words and files come to.
-use Rattle.std.specs.Prelude.{ℕ, ℤ, ◌≡◌, cond, nat_lt, List, [], ◌++◌, length, Option, Some, None, codes}
+use Rattle.std.specs.Prelude.{ℕ, ℤ, ◌≡◌, cond, nat_lt, List, [], length, Option, Some, None}
 use Rattle.input_rows.specs.RowsOf.{RowsLeft}
 use Rattle.op_graph.specs.Lists.{Lists}
 use Rattle.signature_table.specs.Signatures.{Numbers}
@@ -21,10 +21,12 @@ pub data Subject : Type 0 where
   source : Program → Subject
   image : Lists → Subject
 
--- what is printed of a run: each of its rows of outputs, or the words that the operations of this graph gave in one cycle
+-- what is printed of a run: each of its rows of outputs; the words that the operations of this graph gave in one cycle; or the line
+-- that sums up the run of the made program of this number
 pub data Shown : Type 0 where
   every_row : Shown
   words_of : Lists → ℕ → Shown
+  summary : ℕ → Shown
 
 -- A run on a unit: of what, the rows of its inputs with the refusal behind them, the name by which lines tell ROWS, the numbers of
 -- its code, and what is printed of it.
@@ -50,14 +52,6 @@ pub data Task : Type 0 where
   runs : Job → Task
   compiles : Program → Code → Task
   judges : Campaign → Task
-
--- the line of a file that couldn't be read
-abbrev pub read_fault_text : List ℕ → List ℕ
-read_fault_text name = name ++ codes " read fault\n"
-
--- the line where the sink of the output failed
-abbrev pub write_fault_text : List ℕ
-write_fault_text = codes "write fault\n"
 
 -- the file under a name is refused
 abbrev pub refuses : List ℕ → Refusal → Task

@@ -7,7 +7,8 @@ use Rattle.vcp_outside.specs.Counts.{Rose}
 use Rattle.op_graph.specs.Lists.{Lists}
 use Rattle.vcp_typed.specs.SourceRun.{Program}
 use Rattle.vcp_words.specs.Forms.{Code}
-use Rattle.vcp_answer.specs.Answer.{Answer, Campaign, Job, Task, lacks, gives, runs, compiles, judges, read_fault_text}
+use Rattle.vcp_inputs.specs.Lines.{read_fault_text}
+use Rattle.vcp_answer.specs.Answer.{Answer, Campaign, Job, Task, lacks, gives, runs, compiles, judges}
 use Rattle.vcp_answer.specs.Courses.{MayCompile, meant, image_answer, judged_answer}
 use Rattle.vcp_answer.specs.Moments.{Ended}
 use Rattle.vcp_answer.specs.Reports.{stopped, job_answer}

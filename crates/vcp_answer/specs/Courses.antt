@@ -20,8 +20,9 @@ use Rattle.image_file.specs.Image.{image_of}
 use Rattle.machine_run.specs.RowRuns.{SomeCycles, texts_from}
 use Rattle.vcp_typed.specs.SourceRun.{Program}
 use Rattle.vcp_words.specs.Forms.{Code}
-use Rattle.vcp_answer.specs.Answer.{Answer, Subject, source, image, Shown, every_row, words_of, Job, Campaign, Task, lacks, gives, runs, compiles, judges}
-use Rattle.vcp_answer.specs.Answer.{printed, read_fault_text}
+use Rattle.vcp_inputs.specs.Lines.{read_fault_text}
+use Rattle.vcp_answer.specs.Answer.{Answer, Subject, source, image, Shown, every_row, words_of, summary, Job, Campaign, Task, lacks, gives, runs, compiles, judges}
+use Rattle.vcp_answer.specs.Answer.{printed}
 use Rattle.vcp_answer.specs.Reports.{Report, report_told, told_of, report_read, report_judged, shown_read, shown_meant, no_report, followed_by}
 use Rattle.vcp_answer.specs.Reports.{names_of, job_answer}
 
@@ -144,6 +145,7 @@ EarlierShown every_row names c old new =
     (earlier : List (List Given)) (last : List Given) → c.cycles ≡ earlier ++ last ∷ [] →
     (more : List ℕ) × Appends old new ((header_text names ++ texts_from row_text 0 (map (outputs_of c.graph) earlier)) ++ more)
 EarlierShown (words_of g n) names c old new = Unit {0}
+EarlierShown (summary number) names c old new = Unit {0}
 
 abbrev pub EarlierPrinted : Task → Course → Option (List ℕ) → Option (List ℕ) → Type 0
 EarlierPrinted (runs job) c old new = EarlierShown job.shown (names_of job.subject) c old new

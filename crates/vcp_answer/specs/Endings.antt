@@ -6,8 +6,8 @@ use Rattle.vcp_outside.specs.Written.{AppendsFront, AppendsPart}
 use Rattle.vcp_words.specs.Forms.{Form}
 use Rattle.vcp_words.specs.Tables.{file_words, takes_late}
 use Rattle.vcp_words.specs.Usage.{usage_text}
-use Rattle.vcp_inputs.specs.Lines.{memory_text}
-use Rattle.vcp_answer.specs.Answer.{Task, read_fault_text, write_fault_text}
+use Rattle.vcp_inputs.specs.Lines.{memory_text, read_fault_text, write_fault_text}
+use Rattle.vcp_answer.specs.Answer.{Task}
 use Rattle.machine_run.specs.Moments.{Moment}
 use Rattle.vcp_answer.specs.Courses.{Course, IsWhole, IsBegun, LogGrows, report_of, meant, answer_read, answer_meant, answer_then, MayCome, EarlierPrinted}
 use Rattle.vcp_answer.specs.Moments.{Errors, Ended, Untouched}

@@ -8,3 +8,4 @@ pub mod Moments
 pub mod Reports
 pub mod Sources
 pub mod Statuses
+pub mod Sums

@@ -34,6 +34,11 @@ ended before after err_before err_after broken_before broken_after status =
       status = status;
     }
 
+-- no file was begun or read: what is unread of the one that was begun last is the same, and so are the counts of faults and of the
+-- files that broke
+abbrev pub FilesStay : Option (List ℕ) → Option (List ℕ) → ℕ → ℕ → ℕ → ℕ → Type 0
+FilesStay rest_before rest faults_before faults broken_before broken = (rest ≡ rest_before) × (faults ≡ faults_before) × (broken ≡ broken_before)
+
 -- neither the unit nor the sink of the output was called
 pub record Untouched (before after : Moment) : Type 0 where
   pub log : GrowsBy before.log after.log []

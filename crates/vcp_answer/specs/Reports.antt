@@ -10,6 +10,7 @@ use Rattle.vcp_words.specs.Forms.{Code}
 use Rattle.vcp_typed.specs.Fitting.{output_columns}
 use Rattle.vcp_typed.specs.SourceRun.{Program}
 use Rattle.run_report.specs.Lines.{header_text, row_text, end_text, stop_text, refused_text}
+use Rattle.run_report.specs.SummaryLine.{summary_text}
 use Rattle.op_graph.specs.Lists.{Lists, output_column}
 use Rattle.coded_machine.specs.declared.cycle_end.CycleEnd.{CycleEnd}
 use Rattle.coded_machine.specs.declared.cycle_end.CycleEnd.TheVariants as cycle
@@ -17,8 +18,9 @@ use Rattle.coded_machine.specs.Runs.{Outcome}
 use Rattle.flat_expr.specs.Told.{Told, told_source, told_graph, halted_at}
 use Rattle.machine_run.specs.RowRuns.{texts_from}
 use Rattle.vcp_inputs.specs.Lines.{rows_text}
-use Rattle.vcp_answer.specs.Answer.{Answer, Subject, source, image, Shown, every_row, words_of, Job}
+use Rattle.vcp_answer.specs.Answer.{Answer, Subject, source, image, Shown, every_row, words_of, summary, Job}
 use Rattle.vcp_answer.specs.CycleWords.{words_in, words_meant, word_lines}
+use Rattle.vcp_answer.specs.Sums.{last_value, sum_of}
 
 -- How a run ended: with its rows; at a stop; or at an output, counted from 0, with the residue that was found and the expected one.
 pub data End : Type 0 where
@@ -64,10 +66,12 @@ end_read g (cycle.Refused output found wanted) = refused output found wanted
 abbrev pub shown_read : Shown → List (List Given) → List ℤ
 shown_read every_row cycles = []
 shown_read (words_of g n) cycles = words_in n cycles
+shown_read (summary number) cycles = []
 
 abbrev pub shown_meant : Shown → Code → List (List ℤ) → List ℤ
 shown_meant every_row code rows = []
 shown_meant (words_of g n) code rows = words_meant g code n rows
+shown_meant (summary number) code rows = []
 
 -- the run of a graph with this outcome and these words
 abbrev pub report_read : Lists → Outcome → List ℤ → Report
@@ -122,11 +126,20 @@ words_then lines names n complete (Some why) = []
 words_then lines names n (stopped s) behind = lines ++ stop_text n s
 words_then lines names n (refused output found wanted) behind = lines ++ refused_text n (slice_index_or names output []) found wanted
 
--- what is printed of a run with the numbers of a code: all, or the words of one cycle and the last line
+-- The summary of a made program's run of so many cycles, with the last value of its output and the sum of all; the run's last line
+-- where it ended early, and nothing where the next row is refused.
+abbrev pub summary_then : ℕ → List (List ℕ) → ℕ → ℤ → ℤ → End → Option RowFault → List ℕ
+summary_then number names n last sum complete None = summary_text number n last sum
+summary_then number names n last sum complete (Some why) = []
+summary_then number names n last sum (stopped s) behind = stop_text n s
+summary_then number names n last sum (refused output found wanted) behind = refused_text n (slice_index_or names output []) found wanted
+
+-- what is printed of a run with the numbers of a code: all; the words of one cycle and the last line; or the summary
 abbrev pub shown_text : Shown → Code → List (List ℕ) → Report → Option RowFault → List ℕ
 shown_text every_row code names r behind = report_text names r behind
 shown_text (words_of g n) code names r behind =
     words_then (word_lines g (table_of code.seed code.step g) n 0 g.operations r.words) names (length r.rows) r.end behind
+shown_text (summary number) code names r behind = summary_then number names (length r.rows) (last_value r.rows) (sum_of r.rows) r.end behind
 
 -- the line of the row that is refused behind the others, to which a run comes that ends with its rows; rows are told by ROWS' name
 abbrev pub behind_text : List ℕ → End → Option RowFault → List ℕ

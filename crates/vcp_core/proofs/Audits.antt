@@ -25,12 +25,12 @@ use Rattle.vcp_answer.specs.Endings.{Among}
 use Rattle.vcp_answer.specs.Moments.{Untouched}
 use Rattle.vcp_answer.specs.Statuses.{Refused}
 use Rattle.vcp_core.specs.Audit.{AuditedText, not_image, too_large, audited, AuditTask}
-use Rattle.vcp_core.specs.Reach.{Gives, IsUnread, Lost, Reaches, input_status}
+use Rattle.vcp_core.specs.Reach.{Gives, IsUnread, Lost, Reaches}
 use Rattle.vcp_core.specs.Tasks.{source_name}
 use Rattle.vcp_core.specs.declared.ending.End.{End}
 use Rattle.vcp_core.specs.declared.fault.Fault.{Fault}
 use Rattle.vcp_core.specs.declared.fault.Fault.TheVariants as fault
-use Rattle.vcp_inputs.specs.Lines.{refusal_text}
+use Rattle.vcp_inputs.specs.Lines.{refusal_text, input_status}
 use Rattle.vcp_core.proofs.ImageLoaded.{image_not_bytes}
 use Rattle.vcp_core.proofs.OneTask.{ImageLaws, OneAudit, image_is_audited}
 use Rattle.vcp_core.proofs.Reaching.{lost, refused, holds, taken_of}

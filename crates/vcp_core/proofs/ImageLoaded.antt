@@ -28,6 +28,7 @@ use Rattle.vcp_inputs.specs.Files.{NotLoaded as FileLost}
 use Rattle.vcp_inputs.specs.Images.{ImageOf, NotImage, no_image}
 use Rattle.vcp_inputs.specs.Programs.{TypedOf}
 use Rattle.vcp_inputs.specs.RowsOutcome.{RowsOutcome, rows_outcome, Opens, begins}
+use Rattle.vcp_inputs.specs.Lines.{input_status}
 use Rattle.vcp_answer.specs.Answer.{Task, image, compiles}
 use Rattle.vcp_answer.specs.Courses.{MayCompile}
 use Rattle.vcp_answer.specs.Endings.{Among, Cut}
@@ -39,7 +40,7 @@ use Rattle.vcp_core.specs.Compile.{CompileTask}
 use Rattle.vcp_core.specs.Jobs.{code_of}
 use Rattle.vcp_core.specs.MachineRun.{CarriesOut}
 use Rattle.vcp_core.specs.Loading.{GraphNotLoaded, ReadsRows}
-use Rattle.vcp_core.specs.Reach.{Gives, Lost, input_status}
+use Rattle.vcp_core.specs.Reach.{Gives, Lost}
 use Rattle.vcp_core.proofs.Loaded.{begun_among, unopened, reads_source, reads_more}
 use Rattle.vcp_core.proofs.Reaching.{grows_by_none, lost, holds, taken_of}
 

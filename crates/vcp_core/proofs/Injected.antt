@@ -32,6 +32,7 @@ use Rattle.vcp_inputs.specs.Files.{NotLoaded as FileLost, long, short}
 use Rattle.vcp_inputs.specs.Refusals.{no_rows}
 use Rattle.vcp_inputs.specs.RowsOutcome.{RowsOutcome, opened, Opens}
 use Rattle.vcp_inputs.specs.Scripts.{NotScript, no_script}
+use Rattle.vcp_inputs.specs.Lines.{input_status}
 use Rattle.vcp_answer.specs.Answer.{Campaign, Task, judges, refuses}
 use Rattle.vcp_answer.specs.Courses.{Course}
 use Rattle.vcp_answer.specs.Endings.{Cut, Front}
@@ -44,7 +45,7 @@ use Rattle.vcp_core.specs.declared.fault.Fault.TheVariants as fault
 use Rattle.vcp_core.specs.Faults.{of_campaign}
 use Rattle.vcp_core.specs.Inject.{most_trace, on_script, script_task, all_rows_task, inject_task, InjectTask, AllRows, RowsRefused, at_header, at_row, too_many}
 use Rattle.vcp_core.specs.Inject.{NoRows}
-use Rattle.vcp_core.specs.Reach.{Gives, IsUnread, Lost, Reaches, input_status}
+use Rattle.vcp_core.specs.Reach.{Gives, IsUnread, Lost, Reaches}
 use Rattle.vcp_core.proofs.Reaching.{lacking, refused, taken_of}
 use Rattle.vcp_core.proofs.TaskKinds.{script_among}
 

@@ -193,7 +193,7 @@ module _ (g : Lists) (names : List (List ℕ)) (name : List ℕ) where
   status-by (stopped s) behind h = refl
   status-by (refused i f w) behind h = refl
 
-  stays-by : (e : End) (rows : List (List ℤ)) (later : Report) → (e ≡ complete → later ≡ no_report)
+  pub stays-by : (e : End) (rows : List (List ℤ)) (later : Report) → (e ≡ complete → later ≡ no_report)
       → goes_on rows e [] [] later ≡ record { rows = rows; end = e; words = []; verdicts = [] }
   stays-by complete rows later h = ap (goes_on rows complete [] []) (h refl)
       ∙ ap (λ r. record { rows = r; end = complete; words = []; verdicts = [] }) (append-nil rows)

@@ -17,6 +17,9 @@ pub mod Reduced
 pub mod RunReaching
 pub mod Serving
 pub mod StaleShown
+pub mod SummaryPrinted
+pub mod SummaryRun
+pub mod SumsKept
 pub mod TaskKinds
 pub mod Traced
 pub mod WideImages

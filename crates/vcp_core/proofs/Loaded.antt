@@ -1,5 +1,5 @@
 -- What commands come to, from what loading their files gives.
-use Rattle.std.proofs.Common.{ℕ, ◌≤◌, ◌≡◌, ◌≢◌, ◌⊎◌, inl, inr, true, refl, sym, subst, lit≤, List, [], length, arith, Option, Some, Err}
+use Rattle.std.proofs.Common.{ℕ, ◌≤◌, ◌≡◌, ◌≢◌, ◌⊎◌, inl, inr, true, refl, sym, subst, lit≤, List, [], length, arith, Option, Some, Result, Err}
 use Rattle.std.specs.Io.KnownBytes.{Appends, IsAtEnd}
 use Rattle.vcp_base.specs.Limits.{most_source_bytes}
 use Rattle.vcp_base.specs.declared.columns.Column.{Column}
@@ -21,7 +21,9 @@ use Rattle.vcp_inputs.specs.declared.refusal.NoInput.{NoInput}
 use Rattle.vcp_inputs.specs.declared.refusal.NoInput.TheVariants as input
 use Rattle.vcp_inputs.specs.Files.{NotLoaded as FileLost}
 use Rattle.vcp_inputs.specs.Programs.{IsProgram, NoProgram, unlexed, unparsed, TypedOf, NotTyped, no_program, mistyped}
-use Rattle.vcp_inputs.specs.RowsOutcome.{RowsOutcome, rows_outcome, Opens, begins, HasLongFile}
+use Rattle.vcp_inputs.specs.RowsOutcome.{RowsOutcome, rows_outcome, source_outcome, Opens, begins, HasLongFile}
+use Rattle.vcp_inputs.specs.declared.rows.RowsSource.TheVariants as rows
+use Rattle.vcp_inputs.specs.Lines.{input_status}
 use Rattle.vcp_answer.specs.Answer.{Task, prints}
 use Rattle.vcp_answer.specs.Endings.{Among, Cut}
 use Rattle.vcp_answer.specs.Moments.{Untouched}
@@ -31,7 +33,7 @@ use Rattle.vcp_core.specs.declared.fault.Fault.TheVariants as fault
 use Rattle.vcp_core.specs.Check.{CheckTask, size_task, ok_text}
 use Rattle.vcp_core.specs.Format.{FormatTask, text_task}
 use Rattle.vcp_core.specs.Loading.{NotLoaded, ReadsRows}
-use Rattle.vcp_core.specs.Reach.{Gives, Lost, input_status}
+use Rattle.vcp_core.specs.Reach.{Gives, Lost}
 use Rattle.vcp_core.proofs.Reaching.{given, cut, refused, lacking, lost, holds, taken_of}
 
 -- ---- no text is refused for its bytes where it was looked at
@@ -81,6 +83,12 @@ comes then p rows held t columns o (text, found, l, is) columns_are outcome_is =
 pub begun_among : (rows : Rows) (columns : List Column) → begins rows columns ≡ true → Among (rows_name rows) (rows_files rows)
 begun_among (file name) columns h = inl refl
 begun_among (cycles n) columns h = cc
+
+-- the bytes of a rows file come to the same as equal bytes, for equal columns
+pub opens-as : (text made : List ℕ) (columns wanted : List Column) (b n : ℕ) (r : Result RowsLeft NoInput) → text ≡ made → columns ≡ wanted
+    → Opens (source_outcome (rows.File text) columns) b n r → Opens (source_outcome (rows.File made) wanted) b n r
+opens-as text made columns wanted b n r texts same h =
+    subst (λ t. Opens (source_outcome (rows.File t) wanted) b n r) texts (subst (λ k. Opens (source_outcome (rows.File text) k) b n r) same h)
 
 -- there are no rows, and nothing was done
 pub unopened : (f : Form) (name : List ℕ) (Takes : Task → Type 0) (then : RowsLeft → Task) (o : RowsOutcome) (before after : Moment) (b m n : ℕ) (i : NoInput)

@@ -20,7 +20,7 @@ use Rattle.st_types.specs.declared.fault.TypeFault.TheVariants as typing
 use Rattle.st_types.specs.Typing.{IsTyped, Refuses as RefusesTree}
 use Rattle.vcp_typed.specs.Fitting.{input_columns}
 use Rattle.vcp_typed.specs.SourceRun.{Program}
-use Rattle.vcp_words.specs.Forms.{Form, Rows, Code, check, format, plain, run, compile, list, exec, trace, widen, audit, inject}
+use Rattle.vcp_words.specs.Forms.{Form, Rows, Code, check, format, plain, run, compile, list, exec, trace, widen, audit, inject, demo}
 use Rattle.vcp_words.specs.Tables.{rows_name}
 use Rattle.vcp_inputs.specs.declared.refusal.Refusal.{Refusal}
 use Rattle.vcp_inputs.specs.declared.refusal.Refusal.TheVariants as refusal
@@ -43,6 +43,7 @@ use Rattle.audit_report.specs.AuditText.{AuditOf}
 use Rattle.vcp_core.specs.Audit.{AuditedText}
 use Rattle.vcp_core.specs.Audit as audits
 use Rattle.vcp_core.specs.Check.{size_task}
+use Rattle.vcp_core.specs.Demo.{made_held, made_name, on_made_rows}
 use Rattle.vcp_core.specs.Format.{text_task}
 use Rattle.vcp_core.specs.Exec.{image_job}
 use Rattle.vcp_core.specs.Inject.{inject_task}
@@ -257,6 +258,7 @@ task_once laws (audit m horizon) held a b h k =
     file_once m most_image_bytes (AuditedText horizon m) (audited_text_once laws.images laws.audits horizon m) (held m) a b h k
 task_once laws (inject m rows f) held a b h k =
     image_task_once laws.images (λ g t. rows_task rows held (map (column g.names) g.inputs) (inject_task (rows_name rows) f held g t)) m held a b h k
+task_once laws (demo number) held a b h k = typed_task_once laws (on_made_rows number) made_name (made_held number) a b h k
 
 -- ---- without a unit
 

@@ -14,13 +14,13 @@ use Rattle.vcp_inputs.specs.declared.refusal.Refusal.TheVariants as refusal
 use Rattle.vcp_inputs.specs.declared.refusal.NoInput.{NoInput}
 use Rattle.vcp_inputs.specs.declared.refusal.NoInput.TheVariants as input
 use Rattle.vcp_inputs.specs.Files.{NotLoaded, long, short}
-use Rattle.vcp_inputs.specs.Lines.{refusal_text}
-use Rattle.vcp_answer.specs.Answer.{Answer, Task, lacks, gives, refuses, WithFile, read_fault_text}
+use Rattle.vcp_inputs.specs.Lines.{refusal_text, read_fault_text, input_status}
+use Rattle.vcp_answer.specs.Answer.{Answer, Task, lacks, gives, refuses, WithFile}
 use Rattle.vcp_answer.specs.Courses.{no_course}
 use Rattle.vcp_answer.specs.Endings.{Among, Cut, Front}
 use Rattle.vcp_answer.specs.Moments.{Untouched}
 use Rattle.vcp_answer.specs.Statuses.{HasLong}
-use Rattle.vcp_core.specs.Reach.{Gives, Lost, input_status}
+use Rattle.vcp_core.specs.Reach.{Gives, Lost}
 
 -- nothing was logged
 pub grows_by_none : (x : Option (List Entry)) → GrowsBy x x []
@@ -62,19 +62,33 @@ module _ (f : Form) (name : List ℕ) (before after : Moment) (u : Untouched bef
   lacking Takes takes =
       (lacks name, takes, record { course = no_course; whole = refl; log = u.log; out = u.out; line_is = refl; status_is = refl; honest = λ _ _. refl })
 
+  module _ (held : Held) (limit : ℕ) (Text : List ℕ → Task → Type 0) (Why : List ℕ → Refusal → Type 0) (b n : ℕ)
+      (law : (text : List ℕ) (r : Refusal) → Why text r → Text text (refuses name r)) where
+    -- its text is refused or memory is wanted
+    pub untaken : (i : NoInput) → i ≢ input.Unread → NotLoaded Why held name limit b n i
+        → Lost f (λ task. WithFile name limit Text (held name) task) name before after b n i
+    untaken input.Unread read h = absurd (read refl)
+    untaken (input.Refused r) read (text, found, long l) =
+        let yes : nat_lt limit (length text) ≡ true = grind (arith, nat_tests) in
+        refused (λ task. WithFile name limit Text (held name) task) refusal.Bytes (rw (found, yes) refl)
+    untaken (input.Refused r) read (text, found, short _ l why) =
+        let no : nat_lt limit (length text) ≡ false = grind (arith, nat_tests) in
+        refused (λ task. WithFile name limit Text (held name) task) r (rw (found, no) (law text r why))
+    untaken input.Memory read h = inl u
+
+    -- or it can't be read
+    unread : Among name (file_words f) → NotLoaded Why held name limit b n input.Unread
+        → Lost f (λ task. WithFile name limit Text (held name) task) name before after b n input.Unread
+    unread named (inl none) = inl (lacking (λ task. WithFile name limit Text (held name) task) (rw none refl))
+    unread named (inr rose) = inr (record { named = named; rose = rose; untouched = u })
+
   pub lost : (named : Among name (file_words f)) (held : Held) (limit : ℕ) (Text : List ℕ → Task → Type 0) (Why : List ℕ → Refusal
       → Type 0) (b n : ℕ) (i : NoInput) →
       ((text : List ℕ) (r : Refusal) → Why text r → Text text (refuses name r)) → NotLoaded Why held name limit b n i → Lost f
       (λ task. WithFile name limit Text (held name) task) name before after b n i
-  lost named held limit Text Why b n input.Unread law (inl none) = inl (lacking (λ task. WithFile name limit Text (held name) task) (rw none refl))
-  lost named held limit Text Why b n input.Unread law (inr rose) = inr (record { named = named; rose = rose; untouched = u })
-  lost named held limit Text Why b n (input.Refused r) law (text, found, long l) =
-      let yes : nat_lt limit (length text) ≡ true = grind (arith, nat_tests) in
-      refused (λ task. WithFile name limit Text (held name) task) refusal.Bytes (rw (found, yes) refl)
-  lost named held limit Text Why b n (input.Refused r) law (text, found, short _ l why) =
-      let no : nat_lt limit (length text) ≡ false = grind (arith, nat_tests) in
-      refused (λ task. WithFile name limit Text (held name) task) r (rw (found, no) (law text r why))
-  lost named held limit Text Why b n input.Memory law h = inl u
+  lost named held limit Text Why b n input.Unread law h = unread held limit Text Why b n law named h
+  lost named held limit Text Why b n (input.Refused r) law h = untaken held limit Text Why b n law (input.Refused r) (λ e. cc) h
+  lost named held limit Text Why b n input.Memory law h = untaken held limit Text Why b n law input.Memory (λ e. cc) h
 
 -- what the text of a file that is held comes to
 pub holds : (name : List ℕ) (held : Held) (limit : ℕ) (Text : List ℕ → Task → Type 0) (text : List ℕ) (task : Task) → held name ≡ Some text

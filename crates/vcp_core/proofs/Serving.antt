@@ -4,12 +4,12 @@ use Rattle.std.specs.Io.KnownBytes.{Appends}
 use Rattle.vcp_outside.specs.Counts.{Rose}
 use Rattle.vcp_outside.specs.Held.{Held}
 use Rattle.machine_run.specs.Moments.{Moment}
-use Rattle.vcp_words.specs.Forms.{Form, Rows, Code, check, format, plain, run, compile, list, exec, trace, widen, audit, inject}
+use Rattle.vcp_words.specs.Forms.{Form, Rows, Code, check, format, plain, run, compile, list, exec, trace, widen, audit, inject, demo}
 use Rattle.vcp_words.specs.Tables.{own_statuses}
 use Rattle.vcp_inputs.specs.declared.refusal.NoInput.{NoInput}
 use Rattle.vcp_inputs.specs.declared.refusal.NoInput.TheVariants as input
-use Rattle.vcp_inputs.specs.Lines.{memory_text}
-use Rattle.vcp_answer.specs.Answer.{Answer, Task, lacks, gives, runs, compiles, judges, read_fault_text}
+use Rattle.vcp_inputs.specs.Lines.{memory_text, read_fault_text, input_text, input_status}
+use Rattle.vcp_answer.specs.Answer.{Answer, Task, lacks, gives, runs, compiles, judges}
 use Rattle.vcp_answer.specs.Answered.{Answered, known, given_up}
 use Rattle.vcp_answer.specs.Causes.{Causes, Gave, HasOwnStatus, IsNoFault, NothingFailed, WasHonest, meant_answer, verdicts_answer}
 use Rattle.vcp_answer.specs.Endings.{TellsLine, Among, Ends, answers, output_failed, errors_failed, memory_ended, unread, unmade, untold}
@@ -18,7 +18,7 @@ use Rattle.vcp_answer.specs.Statuses.{MayEnd, FilesHeld}
 use Rattle.vcp_core.specs.declared.ending.End.{End}
 use Rattle.vcp_core.specs.declared.fault.Fault.{Fault}
 use Rattle.vcp_core.specs.declared.fault.Fault.TheVariants as fault
-use Rattle.vcp_core.specs.Reach.{Gives, WantsMemory, Broke, Lost, Reaches, rows_told, script_name, input_text, input_status, fault_text, fault_status}
+use Rattle.vcp_core.specs.Reach.{Gives, WantsMemory, Broke, Lost, Reaches, rows_told, script_name, fault_text, fault_status}
 use Rattle.vcp_core.specs.Reach.{end_status, OwnEnd}
 use Rattle.vcp_core.specs.Plain.{PlainTask}
 use Rattle.vcp_core.specs.Run.{RunTask}
@@ -92,6 +92,7 @@ one_own (trace m rows n) = inr (inl refl)
 one_own (widen m) = inr (inl refl)
 one_own (audit m horizon) = inr (inl refl)
 one_own (inject m rows f) = inr (inl refl)
+one_own (demo number) = inr (inl refl)
 
 among_more : (x : ℕ) (xs ys : List ℕ) → Among x xs → Among x (xs ++ ys)
 among_more x [] ys h = absurd h
@@ -171,6 +172,7 @@ module _ (one : (f : Form) (held : Held) (a b : Task) → TaskOf f held a → Ta
   known_plain (widen m) held task a e comes takes causes honest no_fault = own_gave (widen m) held task a e comes takes causes no_fault
   known_plain (audit m horizon) held task a e comes takes causes honest no_fault = own_gave (audit m horizon) held task a e comes takes causes no_fault
   known_plain (inject m rows f) held task a e comes takes causes honest no_fault = own_gave (inject m rows f) held task a e comes takes causes no_fault
+  known_plain (demo number) held task a e comes takes causes honest no_fault = own_gave (demo number) held task a e comes takes causes no_fault
 
   pub as_plain : (f : Form) (held : Held) (e : Ended) → Answered f (TaskOf f held) e → AsPlain f held e
   as_plain f held e (known task comes ends causes) a takes honest no_fault = known_plain f held task a e comes takes causes honest no_fault

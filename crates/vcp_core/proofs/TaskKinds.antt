@@ -12,13 +12,15 @@ use Rattle.input_rows.specs.RowsOf.{through}
 use Rattle.fault_script.specs.declared.act.Fault.{Fault}
 use Rattle.fault_script.specs.declared.script_fault.ScriptFault.{ScriptFault}
 use Rattle.fault_script.specs.ScriptOf.{script_of}
+use Rattle.program_maker.specs.MadeRows.{made_rows}
+use Rattle.program_maker.specs.MadeSource.{made_source}
 use Rattle.op_graph.specs.Lists.{Lists, column}
 use Rattle.signature_table.specs.Signatures.{Numbers}
 use Rattle.st_tree.specs.ProgramTree.{ProgramTree}
 use Rattle.vcp_typed.specs.Fitting.{input_columns}
 use Rattle.vcp_typed.specs.SourceRun.{Program}
 use Rattle.flat_expr.specs.Told.{told_source}
-use Rattle.vcp_words.specs.Forms.{Form, Rows, Code, check, format, plain, run, compile, list, exec, trace, widen, audit, inject, file, cycles}
+use Rattle.vcp_words.specs.Forms.{Form, Rows, Code, check, format, plain, run, compile, list, exec, trace, widen, audit, inject, demo, file, cycles}
 use Rattle.vcp_words.specs.Tables.{file_words, rows_files, rows_name}
 use Rattle.vcp_inputs.specs.declared.refusal.Refusal.{Refusal}
 use Rattle.vcp_inputs.specs.declared.refusal.Refusal.TheVariants as refusal
@@ -34,6 +36,7 @@ use Rattle.vcp_answer.specs.Statuses.{AreHeld, FilesHeld}
 use Rattle.vcp_core.specs.Audit.{AuditedText}
 use Rattle.vcp_core.specs.Audit as audits
 use Rattle.vcp_core.specs.Check.{size_task}
+use Rattle.vcp_core.specs.Demo.{made_job, made_name, on_made_rows}
 use Rattle.vcp_core.specs.Format.{text_task}
 use Rattle.vcp_core.specs.Exec.{image_job}
 use Rattle.vcp_core.specs.Inject.{most_trace, on_script, script_task, all_rows_task, inject_task}
@@ -210,6 +213,11 @@ module _ (P : Task → Type 0) (given : (a : Answer) → a.status ≤ 2 → P (g
   task_has (inject m rows f) held task none running writing judging comes =
       graph_has (inject_task (rows_name rows) f held) m rows held task (λ name among. none name (rows_among m rows f name among))
       (λ g t left. inject_has (rows_name rows) f held g t left (none f (script_among m rows f)) judging) comes
+  task_has (demo number) held task none running writing judging comes =
+      file_has made_name most_source_bytes (TypedText (on_made_rows number) made_name) (Some (made_source number)) task (λ e. cc)
+      (typed_has (on_made_rows number) made_name
+      (λ t. rows_have made_name (λ left. runs (made_job number t left)) (rows_or_refusal (rows_of (made_rows number) (input_columns t.slots)))
+      (λ lack. absurd (result_lacks (rows_of (made_rows number) (input_columns t.slots)) lack)) (λ left. running (made_job number t left)))) comes
 
 -- each task has a status of its own
 pub own_status : (f : Form) (held : Held) (task : Task) → TaskOf f held task → HasOwnStatus task

@@ -60,7 +60,7 @@ module _ (n : ℕ) (left : RowsLeft) where
 -- ---- cycles and their answers
 
 -- how many cycles there are, by the rows that were released and the end
-abbrev Counts : ℕ → ℕ → CycleEnd → Type 0
+abbrev pub Counts : ℕ → ℕ → CycleEnd → Type 0
 Counts released cycles cycle.Released = released ≡ cycles
 Counts released cycles e = suc released ≡ cycles
 
@@ -76,7 +76,7 @@ count-step cycle.Released row o More cycles h go = count-next o.end (length o.ro
 count-step (cycle.Stopped k why) row o More cycles h go = ap (λ (l : List (List Given)). suc (length l)) (sym h)
 count-step (cycle.Refused i f w) row o More cycles h go = ap (λ (l : List (List Given)). suc (length l)) (sym h)
 
-cycles-count : (g : Lists) (t : Numbers) (k : ℕ) (rows : List (List ℤ)) (cycles : List (List Given)) → AllCycles g t k rows cycles
+pub cycles-count : (g : Lists) (t : Numbers) (k : ℕ) (rows : List (List ℤ)) (cycles : List (List Given)) → AllCycles g t k rows cycles
     → Counts (length (outcome_over g t k cycles).rows) (length cycles) (outcome_over g t k cycles).end
 cycles-count g t k [] [] all = refl
 cycles-count g t k [] (a ∷ cycles) all = absurd all
@@ -92,7 +92,7 @@ few-step (cycle.Stopped k why) More cycles r h go = rw h (omega arith)
 few-step (cycle.Refused i f w) More cycles r h go = rw h (omega arith)
 
 -- there are no more cycles than rows
-cycles-few : (g : Lists) (t : Numbers) (k : ℕ) (rows : List (List ℤ)) (cycles : List (List Given)) → AllCycles g t k rows cycles → length cycles ≤ length rows
+pub cycles-few : (g : Lists) (t : Numbers) (k : ℕ) (rows : List (List ℤ)) (cycles : List (List Given)) → AllCycles g t k rows cycles → length cycles ≤ length rows
 cycles-few g t k [] [] all = omega arith
 cycles-few g t k [] (a ∷ cycles) all = absurd all
 cycles-few g t k (row ∷ rows) [] all = absurd all
@@ -180,15 +180,15 @@ words-stay-by (stopped s) rows words later h = refl
 words-stay-by (refused i f w) rows words later h = refl
 
 -- nothing is written for rows
-abbrev no_text : ℕ → List ℤ → List ℕ
+abbrev pub no_text : ℕ → List ℤ → List ℕ
 no_text = λ n row. []
 
-texts-none : (k : ℕ) (rows : List (List ℤ)) → texts_from no_text k rows ≡ []
+pub texts-none : (k : ℕ) (rows : List (List ℤ)) → texts_from no_text k rows ≡ []
 texts-none k [] = refl
 texts-none k (row ∷ rows) = texts-none (suc k) rows
 
 -- and no part of nothing
-no-part : (old new : Option (List ℕ)) (bytes : List ℕ) → bytes ≡ [] → AppendsPart old new bytes → ⊥
+pub no-part : (old new : Option (List ℕ)) (bytes : List ℕ) → bytes ≡ [] → AppendsPart old new bytes → ⊥
 no-part old new bytes none (front, rest, is, some, w) =
     let all : length bytes ≡ length front + length rest = ap length is ∙ length-append front rest in
     let empty : length bytes ≡ 0 = ap length none in

@@ -1,6 +1,7 @@
 pub mod Audit
 pub mod Check
 pub mod Compile
+pub mod Demo
 pub mod Exec
 pub mod Faults
 pub mod Format
@@ -14,6 +15,7 @@ pub mod PlainRun
 pub mod Reach
 pub mod Run
 pub mod StaleOperands
+pub mod SummaryRun
 pub mod Tasks
 pub mod Trace
 pub mod TraceRun

@@ -3,19 +3,20 @@ use Rattle.std.specs.Prelude.{ℕ, ◌≡◌, ◌⊎◌, true, List, [], Option,
 use Rattle.vcp_outside.specs.Counts.{Rose}
 use Rattle.vcp_outside.specs.Held.{Held}
 use Rattle.machine_run.specs.Moments.{Moment}
-use Rattle.vcp_words.specs.Forms.{Form, check, format, plain, run, compile, list, exec, trace, widen, audit, inject}
+use Rattle.vcp_words.specs.Forms.{Form, check, format, plain, run, compile, list, exec, trace, widen, audit, inject, demo}
 use Rattle.vcp_words.specs.Tables.{file_words, own_statuses, rows_name, takes_late}
 use Rattle.vcp_inputs.specs.declared.refusal.NoInput.{NoInput}
 use Rattle.vcp_inputs.specs.declared.refusal.NoInput.TheVariants as input
-use Rattle.vcp_inputs.specs.Lines.{refusal_text, memory_text}
+use Rattle.vcp_inputs.specs.Lines.{refusal_text, memory_text, read_fault_text, write_fault_text, input_text, input_status}
 use Rattle.vcp_core.specs.declared.ending.End.{End}
 use Rattle.vcp_core.specs.declared.ending.End.TheVariants as end
 use Rattle.vcp_core.specs.declared.fault.Fault.{Fault}
 use Rattle.vcp_core.specs.declared.fault.Fault.TheVariants as fault
-use Rattle.vcp_answer.specs.Answer.{Task, read_fault_text, write_fault_text}
+use Rattle.vcp_answer.specs.Answer.{Task}
 use Rattle.vcp_answer.specs.Endings.{Reached, Cut, Front, Among}
 use Rattle.vcp_answer.specs.Moments.{Untouched}
 use Rattle.vcp_answer.specs.Statuses.{Refused}
+use Rattle.vcp_core.specs.Demo.{made_name}
 use Rattle.vcp_core.specs.Tasks.{source_name}
 
 -- the status of a command that came to its end so
@@ -37,22 +38,12 @@ rows_told (trace m rows n) = rows_name rows
 rows_told (widen m) = []
 rows_told (audit m horizon) = []
 rows_told (inject m rows f) = rows_name rows
+rows_told (demo number) = made_name
 
 -- the name of the script of faults
 abbrev pub script_name : Form → List ℕ
 script_name (inject m rows f) = f
 script_name _ = []
-
--- the line where there is nothing of the file under a name, and the status
-abbrev pub input_text : List ℕ → NoInput → List ℕ
-input_text name input.Unread = read_fault_text name
-input_text name (input.Refused r) = refusal_text name r
-input_text name input.Memory = memory_text
-
-abbrev pub input_status : NoInput → ℕ
-input_status input.Unread = 5
-input_status (input.Refused r) = 1
-input_status input.Memory = 7
 
 -- the line of a fault, and the status
 abbrev pub fault_text : Form → Fault → List ℕ

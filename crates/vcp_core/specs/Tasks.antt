@@ -1,13 +1,14 @@
 -- Tasks: what a command comes to, where the files hold this; a line a command.
 use Rattle.std.specs.Prelude.{ℕ, List}
 use Rattle.vcp_outside.specs.Held.{Held}
-use Rattle.vcp_words.specs.Forms.{Form, check, format, plain, run, compile, list, exec, trace, widen, audit, inject}
+use Rattle.vcp_words.specs.Forms.{Form, check, format, plain, run, compile, list, exec, trace, widen, audit, inject, demo}
 use Rattle.vcp_answer.specs.Answer.{Answer, Task, lacks, gives, runs, compiles, judges}
 use Rattle.vcp_answer.specs.Causes.{meant_answer, verdicts_answer, Gave, IsNoFault, WasHonest}
 use Rattle.vcp_answer.specs.Moments.{Ended}
 use Rattle.vcp_core.specs.Audit.{AuditTask}
 use Rattle.vcp_core.specs.Check.{CheckTask}
 use Rattle.vcp_core.specs.Compile.{CompileTask}
+use Rattle.vcp_core.specs.Demo.{DemoTask, made_name}
 use Rattle.vcp_core.specs.Exec.{ExecTask}
 use Rattle.vcp_core.specs.Format.{FormatTask}
 use Rattle.vcp_core.specs.Inject.{InjectTask}
@@ -30,8 +31,9 @@ TaskOf (trace m rows n) held task = TraceTask m rows n held task
 TaskOf (widen m) held task = WidenTask m held task
 TaskOf (audit m horizon) held task = AuditTask m horizon held task
 TaskOf (inject m rows f) held task = InjectTask m rows f held task
+TaskOf (demo number) held task = DemoTask number task
 
--- the name of P or M
+-- the name of P or M, or by which lines tell a made source
 abbrev pub source_name : Form → List ℕ
 source_name (check p) = p
 source_name (format p) = p
@@ -44,6 +46,7 @@ source_name (trace m rows n) = m
 source_name (widen m) = m
 source_name (audit m horizon) = m
 source_name (inject m rows f) = m
+source_name (demo number) = made_name
 
 -- the command that comes to the same without a unit, where there is one
 abbrev pub without_unit : Form → Form

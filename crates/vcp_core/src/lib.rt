@@ -4,6 +4,7 @@
 mod audit;
 mod check;
 mod compile;
+mod demo;
 mod ending;
 mod exec;
 mod fault;
@@ -18,6 +19,7 @@ mod plain;
 mod plain_run;
 mod run;
 mod running;
+mod summing;
 mod telling;
 mod top;
 mod trace;

@@ -32,7 +32,7 @@ pub struct Loaded {
 }
 
 /// The columns of a program's inputs, of which there are no more than names.
-fn input_columns(alloc: Global, program: &Typed) -> Result<Columns, Memory>
+pub fn input_columns(alloc: Global, program: &Typed) -> Result<Columns, Memory>
     ensures columns { IfOk result (λ columns. columns ≡ input_columns_of program.now.slots) }
     ensures few { IfOk result (λ columns. length columns ≤ most_names) }
 {

@@ -5,17 +5,20 @@ ghost use Rattle.vcp_outside.specs.Written.{Writes};
 ghost use Rattle.vcp_words.specs.Forms.{form, rows_of};
 ghost use Rattle.vcp_words.specs.Tables.{rows_name as rows_name_of};
 ghost use Rattle.vcp_words.specs.Usage.{usage_text};
-ghost use Rattle.vcp_core.specs.Reach.{rows_told, script_name as script_name_of, input_text, input_status as status_of_input, fault_text};
+ghost use Rattle.vcp_core.specs.Reach.{rows_told, script_name as script_name_of, fault_text};
 ghost use Rattle.vcp_core.specs.Reach.{fault_status as status_of_fault};
 ghost use Rattle.vcp_core.specs.Tasks.{source_name as source_name_of};
 
 use crate::fault::Fault;
-use vcp_inputs::{NoInput, tell_of, tell_refusal};
+use vcp_inputs::{input_status, tell_input};
 use vcp_outside::{Failed, Sink, write_all};
 use vcp_words::{Command, RowsWord, usage};
 
 /// The line where memory was wanted.
 const NO_MEMORY: &[u8] = b"no memory\n";
+
+/// The name by which a made program's source and rows are told.
+const MADE: &[u8] = b"demo";
 
 /// Prints the usage line.
 pub fn tell_usage<E: Sink>(err: &mut E) -> Result<(), Failed>
@@ -24,7 +27,7 @@ pub fn tell_usage<E: Sink>(err: &mut E) -> Result<(), Failed>
     write_all(err, usage())
 }
 
-/// The name of P or M.
+/// The name of P or M, or that of a made source.
 fn source_name<'a>(command: &Command<'a>) -> &'a [u8]
     ensures { result.now ≡ source_name_of (form command.now) }
 {
@@ -40,6 +43,7 @@ fn source_name<'a>(command: &Command<'a>) -> &'a [u8]
         Command::Widen { image } => image.bytes(),
         Command::Audit { image, .. } => image.bytes(),
         Command::Inject { image, .. } => image.bytes(),
+        Command::Demo { .. } => MADE,
     }
 }
 
@@ -53,6 +57,7 @@ fn rows_name<'a>(command: &Command<'a>) -> &'a [u8]
         Command::Plain { rows, .. } | Command::Run { rows, .. } => name_of(*rows),
         Command::Exec { rows, .. } | Command::Trace { rows, .. } => name_of(*rows),
         Command::Inject { rows, .. } => name_of(*rows),
+        Command::Demo { .. } => MADE,
     }
 }
 
@@ -89,17 +94,6 @@ pub fn tell<E: Sink>(err: &mut E, command: &Command<'_>, fault: &Fault) -> Resul
     }
 }
 
-/// Prints why there is nothing of the file under a name.
-fn tell_input<E: Sink>(err: &mut E, name: &[u8], input: &NoInput) -> Result<(), Failed>
-    ensures { Writes (E.written err.old) (E.written err.new) (E.faults err.old) (E.faults err.new) (input_text name.now input.now) result }
-{
-    match input {
-        NoInput::Unread => tell_of(err, name, b" read fault"),
-        NoInput::Refused(refusal) => tell_refusal(err, name, refusal),
-        NoInput::Memory => write_all(err, NO_MEMORY),
-    }
-}
-
 /// The status of a fault whose line was printed.
 pub fn fault_status(fault: &Fault) -> u8
     ensures { result ≡ status_of_fault fault.now }
@@ -108,16 +102,5 @@ pub fn fault_status(fault: &Fault) -> u8
         Fault::Source(input) | Fault::Rows(input) | Fault::Script(input) => input_status(input),
         Fault::Write => 6,
         Fault::Memory => 7,
-    }
-}
-
-/// The status where there is nothing of a file.
-fn input_status(input: &NoInput) -> u8
-    ensures { result ≡ status_of_input input.now }
-{
-    match input {
-        NoInput::Unread => 5,
-        NoInput::Refused(_) => 1,
-        NoInput::Memory => 7,
     }
 }

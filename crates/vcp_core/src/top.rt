@@ -4,12 +4,12 @@ ghost use Rattle.std.specs.Prelude.{◌≡◌, ◌≢◌, ◌≤◌, ◌⊎◌, 
 ghost use Rattle.std.specs.Io.KnownBytes.{IsAtEnd};
 ghost use Rattle.vcp_outside.specs.Counts.{Rose};
 ghost use Rattle.vcp_words.specs.Forms.{form, form_of, IsSound};
-ghost use Rattle.vcp_words.specs.Tables.{calls_unit};
+ghost use Rattle.vcp_words.specs.Tables.{calls_unit, reads_files};
 ghost use Rattle.machine_run.specs.Moments.{moment};
 ghost use Rattle.machine_run.specs.Stops.{GrowsByStop};
 ghost use Rattle.vcp_answer.specs.Answered.{Answered};
 ghost use Rattle.vcp_answer.specs.Endings.{TellsUsage};
-ghost use Rattle.vcp_answer.specs.Moments.{errors, ended};
+ghost use Rattle.vcp_answer.specs.Moments.{errors, ended, FilesStay};
 ghost use Rattle.vcp_answer.specs.Statuses.{IsEnd, MayEnd, FilesHeld, Refused};
 ghost use Rattle.fault_injector.specs.Verdicts.{EndsAreRead};
 ghost use Rattle.vcp_core.specs.Reach.{Reaches, OwnEnd, Unread, Taken};
@@ -21,6 +21,7 @@ ghost use Rattle.vcp_core.specs.declared.fault.Fault.TheVariants as fault;
 use crate::audit::audit_command;
 use crate::check::check_command;
 use crate::compile::compile_command;
+use crate::demo::demo_command;
 use crate::ending::{End, status_of};
 use crate::exec::exec_command;
 use crate::fault::Fault;
@@ -82,23 +83,27 @@ pub fn vcp<F: Files, U: Unit, O: Sink, E: Sink>(
         → TellsUsage (errors (E.written err.old) (E.faults err.old)) (errors (E.written err.new) (E.faults err.new)) result }
     ensures usage_alone { form_of words.now ≡ None → (U.log unit.new ≡ U.log unit.old) × (U.wrong unit.new ≡ U.wrong unit.old) ×
         (O.written out.new ≡ O.written out.old) × (O.faults out.new ≡ O.faults out.old) }
-    ensures usage_reads_nothing { form_of words.now ≡ None → (F.rest files.new ≡ F.rest files.old) ×
-        (F.faults files.new ≡ F.faults files.old) × (F.broken files.new ≡ F.broken files.old) }
+    ensures usage_reads_nothing { form_of words.now ≡ None → FilesStay (F.rest files.old) (F.rest files.new)
+        (F.faults files.old) (F.faults files.new) (F.broken files.old) (F.broken files.new) }
     ensures usage_only { result ≡ 4 → form_of words.now ≡ None }
 
-    // By the tables of commands: one that calls no unit leaves its log and count; a command ends only
-    // with its statuses; where its files are held and nothing failed, it completes, or memory was wanted.
+    // By the tables of commands: one that calls no unit leaves its log and count, and one without files
+    // leaves these; a command ends only with its statuses; where its files are held and nothing failed, it
+    // completes, or memory was wanted.
     ensures unit_alone { IfSome (form_of words.now) (λ f. calls_unit f ≡ false → (U.log unit.new ≡ U.log unit.old) × (U.wrong unit.new ≡ U.wrong unit.old)) }
+    ensures files_alone { IfSome (form_of words.now) (λ f. reads_files f ≡ false → FilesStay (F.rest files.old) (F.rest files.new)
+        (F.faults files.old) (F.faults files.new) (F.broken files.old) (F.broken files.new)) }
     ensures statuses { IfSome (form_of words.now) (λ f. MayEnd f result) }
     ensures completes { IfSome (F.held files.old) (λ h. IfSome (form_of words.now) (λ f. FilesHeld h f → ¬ Rose (F.broken files.old) (F.broken files.new) →
         ¬ Rose (O.faults out.old) (O.faults out.new) → ¬ Rose (E.faults err.old) (E.faults err.new) → (result ≢ 5) × (result ≢ 6))) }
 
     // What holds whatever the files tell. The clause `stopped` speaks where the log is told; `ended` and
-    // `taken` where it is told what is unread.
+    // `taken`, of a command that reads files, where it is told what is unread.
     ensures known { result ≤ 7 }
     ensures held { F.held files.new ≡ F.held files.old }
-    ensures ended { IsEnd result → IsAtEnd (F.rest files.new) }
-    ensures taken { IfSome (F.held files.old) (λ h. IfSome (form_of words.now) (λ f. result ≡ 1 → Refused f h (F.rest files.new))) }
+    ensures ended { IfSome (form_of words.now) (λ f. reads_files f ≡ true → IsEnd result → IsAtEnd (F.rest files.new)) }
+    ensures taken { IfSome (F.held files.old) (λ h. IfSome (form_of words.now)
+        (λ f. reads_files f ≡ true → result ≡ 1 → Refused f h (F.rest files.new))) }
     ensures stopped { IfSome (form_of words.now) (λ f. calls_unit f ≡ true → result ≡ 2 → GrowsByStop (U.log unit.old) (U.log unit.new)) }
     ensures refused { result ≡ 3 → Rose (U.wrong unit.old) (U.wrong unit.new) }
     ensures read { result ≡ 5 → Rose (F.faults files.old) (F.faults files.new) }
@@ -139,11 +144,13 @@ fn serve<F: Files, U: Unit, O: Sink, E: Sink>(
         (F.broken files.old) (F.broken files.new) result)) }
     ensures no_usage { result ≢ 4 }
     ensures unit_alone { calls_unit (form command.now) ≡ false → (U.log unit.new ≡ U.log unit.old) × (U.wrong unit.new ≡ U.wrong unit.old) }
+    ensures files_alone { reads_files (form command.now) ≡ false → FilesStay (F.rest files.old) (F.rest files.new)
+        (F.faults files.old) (F.faults files.new) (F.broken files.old) (F.broken files.new) }
     ensures statuses { MayEnd (form command.now) result }
     ensures known { result ≤ 7 }
     ensures held { F.held files.new ≡ F.held files.old }
-    ensures ended { IsEnd result → IsAtEnd (F.rest files.new) }
-    ensures taken { IfSome (F.held files.old) (λ h. result ≡ 1 → Refused (form command.now) h (F.rest files.new)) }
+    ensures ended { reads_files (form command.now) ≡ true → IsEnd result → IsAtEnd (F.rest files.new) }
+    ensures taken { reads_files (form command.now) ≡ true → IfSome (F.held files.old) (λ h. result ≡ 1 → Refused (form command.now) h (F.rest files.new)) }
     ensures stopped { calls_unit (form command.now) ≡ true → result ≡ 2 → GrowsByStop (U.log unit.old) (U.log unit.new) }
     ensures refused { result ≡ 3 → Rose (U.wrong unit.old) (U.wrong unit.new) }
     ensures read { result ≡ 5 → Rose (F.faults files.old) (F.faults files.new) }
@@ -175,11 +182,13 @@ fn perform<F: Files, U: Unit, O: Sink>(
         (moment (U.log unit.new) (U.wrong unit.new) (O.written out.new) (O.faults out.new))
         (F.broken files.old) (F.broken files.new) result) }
     ensures unit_alone { calls_unit (form command.now) ≡ false → (U.log unit.new ≡ U.log unit.old) × (U.wrong unit.new ≡ U.wrong unit.old) }
+    ensures files_alone { reads_files (form command.now) ≡ false → FilesStay (F.rest files.old) (F.rest files.new)
+        (F.faults files.old) (F.faults files.new) (F.broken files.old) (F.broken files.new) }
     ensures own { IfOk result (OwnEnd (form command.now)) }
     ensures unread { Unread result → Rose (F.faults files.old) (F.faults files.new) }
     ensures write { result ≡ Err fault.Write → Rose (O.faults out.old) (O.faults out.new) }
-    ensures ended { OnOk result (IsAtEnd (F.rest files.new)) }
-    ensures taken { IfSome (F.held files.old) (λ h. Taken (form command.now) h (F.rest files.new) result) }
+    ensures ended { reads_files (form command.now) ≡ true → OnOk result (IsAtEnd (F.rest files.new)) }
+    ensures taken { reads_files (form command.now) ≡ true → IfSome (F.held files.old) (λ h. Taken (form command.now) h (F.rest files.new) result) }
     ensures refused { result ≡ Ok end.Refused → Rose (U.wrong unit.old) (U.wrong unit.new) }
     ensures stopped { calls_unit (form command.now) ≡ true → result ≡ Ok end.Stopped → GrowsByStop (U.log unit.old) (U.log unit.new) }
 {
@@ -203,5 +212,6 @@ fn perform<F: Files, U: Unit, O: Sink>(
             rows,
             script,
         } => inject_command(alloc, image, *rows, script, files, unit, out),
+        Command::Demo { number } => demo_command(alloc, *number, unit, out),
     }
 }

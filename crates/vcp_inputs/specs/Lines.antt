@@ -1,4 +1,4 @@
--- Lines: the line of each refusal of a file. It begins with the file's name and ends with LF.
+-- Lines: the line of each refusal of a file, which begins with the file's name, and of each other fault. Each ends with LF.
 use Rattle.std.specs.Prelude.{ℕ, List, ◌++◌, decimal, codes}
 use Rattle.vcp_base.specs.declared.spot.Spot.{Spot}
 use Rattle.st_lexer.specs.declared.fault.LexFault.{LexFault}
@@ -15,10 +15,20 @@ use Rattle.fault_script.specs.declared.script_fault.ScriptFault.{ScriptFault}
 use Rattle.fault_script.specs.declared.script_fault.ScriptFault.TheVariants as script
 use Rattle.vcp_inputs.specs.declared.refusal.Refusal.{Refusal}
 use Rattle.vcp_inputs.specs.declared.refusal.Refusal.TheVariants as refusal
+use Rattle.vcp_inputs.specs.declared.refusal.NoInput.{NoInput}
+use Rattle.vcp_inputs.specs.declared.refusal.NoInput.TheVariants as input
 
 -- the line where memory was wanted; it names no file
 abbrev pub memory_text : List ℕ
 memory_text = codes "no memory\n"
+
+-- the line where the sink of the output failed; nor does this
+abbrev pub write_fault_text : List ℕ
+write_fault_text = codes "write fault\n"
+
+-- the line of a file that couldn't be read
+abbrev pub read_fault_text : List ℕ → List ℕ
+read_fault_text name = name ++ codes " read fault\n"
 
 -- a fault at a place of a source: the file's name, the place, and the fault's code and name
 abbrev pub spot_text : List ℕ → Spot → List ℕ → List ℕ
@@ -102,3 +112,14 @@ refusal_text name (refusal.Image f) = image_text name f
 refusal_text name refusal.Audit = name ++ codes " L6 Audit\n"
 refusal_text name refusal.Trace = name ++ codes " L7 Trace\n"
 refusal_text name (refusal.Script f) = script_text name f
+
+-- the line where there is nothing of the file under a name, and the status
+abbrev pub input_text : List ℕ → NoInput → List ℕ
+input_text name input.Unread = read_fault_text name
+input_text name (input.Refused r) = refusal_text name r
+input_text name input.Memory = memory_text
+
+abbrev pub input_status : NoInput → ℕ
+input_status input.Unread = 5
+input_status (input.Refused r) = 1
+input_status input.Memory = 7

@@ -14,5 +14,5 @@ pub use reading::read_file;
 pub use refusal::{NoInput, Refusal};
 pub use rows::{RowsSource, load_rows};
 pub use scripts::load_script;
-pub use sources::{load_program, load_typed};
-pub use telling::{tell_of, tell_refusal};
+pub use sources::{load_program, load_typed, typed_of};
+pub use telling::{input_status, tell_input, tell_of, tell_refusal};

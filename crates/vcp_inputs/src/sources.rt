@@ -1,6 +1,6 @@
 //! Sources: the program of a file, and its typed program.
 
-ghost use Rattle.std.specs.Prelude.{◌≡◌, ◌≢◌, ◌≤◌, IfErr, IfOk, IfSome, OnOk, Err, length};
+ghost use Rattle.std.specs.Prelude.{◌≡◌, ◌≢◌, ◌≤◌, ℕ, IfErr, IfOk, IfSome, List, OnOk, Some, Err, length};
 ghost use Rattle.std.specs.Io.KnownBytes.{IsAtEnd};
 ghost use Rattle.vcp_base.specs.Limits.{most_source_bytes};
 ghost use Rattle.vcp_outside.specs.Counts.{Rose};
@@ -12,7 +12,7 @@ ghost use Rattle.vcp_inputs.specs.declared.refusal.Refusal.{Refusal as RefusalOf
 ghost use Rattle.vcp_inputs.specs.declared.refusal.Refusal.TheVariants as refusal;
 
 use crate::reading::read_file;
-use crate::refusal::NoInput;
+use crate::refusal::{NoInput, Refusal};
 use st_lexer::lex;
 use st_parser::parse;
 use st_spelling::spelled_names_are_declarable;
@@ -44,6 +44,18 @@ fn typed_program(alloc: Global, source: &[u8]) -> Result<Typed, NoInput>
     // So each declared name is one that may be.
     spelled_names_are_declarable();
     Ok(typed(alloc, &program)?)
+}
+
+/// The typed program of a source that no file holds, taken through all refusals of a file's: first
+/// `Bytes`.
+pub fn typed_of(alloc: Global, source: &Text) -> Result<Typed, NoInput>
+    ensures loads { (name : List ℕ) (broken : ℕ) → Loads TypedOf NotTyped (λ _. Some source.now) name most_source_bytes broken broken result }
+    ensures read { result ≢ Err input.Unread }
+{
+    if source.len() as u64 > MOST_SOURCE_BYTES {
+        return Err(NoInput::Refused(Refusal::Bytes));
+    }
+    typed_program(alloc, source.bytes())
 }
 
 /// The program of the file under a name, which is read whole and taken through the refusals of the

@@ -1,12 +1,12 @@
 //! The lines of refusals.
 
-ghost use Rattle.std.specs.Prelude.{◌++◌, codes};
+ghost use Rattle.std.specs.Prelude.{◌≡◌, ◌++◌, codes};
 ghost use Rattle.vcp_outside.specs.Written.{Writes};
 ghost use Rattle.input_rows.specs.declared.fault.RowFault.TheVariants as rows;
 ghost use Rattle.vcp_inputs.specs.Lines.{spot_text, lexing_text, parsing_text, typing_text, rows_text, place_text, correction_text, image_text, script_text};
-ghost use Rattle.vcp_inputs.specs.Lines.{refusal_text};
+ghost use Rattle.vcp_inputs.specs.Lines.{refusal_text, input_text, input_status as status_of_input};
 
-use crate::refusal::Refusal;
+use crate::refusal::{NoInput, Refusal};
 use fault_script::ScriptFault;
 use image_file::ImageFault;
 use input_rows::RowFault;
@@ -34,6 +34,28 @@ pub fn tell_refusal<E: Sink>(err: &mut E, name: &[u8], refusal: &Refusal) -> Res
         Refusal::Audit => tell_of(err, name, b" L6 Audit"),
         Refusal::Trace => tell_of(err, name, b" L7 Trace"),
         Refusal::Script(fault) => tell_script(err, name, *fault),
+    }
+}
+
+/// Prints why there is nothing of the file under a name.
+pub fn tell_input<E: Sink>(err: &mut E, name: &[u8], input: &NoInput) -> Result<(), Failed>
+    ensures { Writes (E.written err.old) (E.written err.new) (E.faults err.old) (E.faults err.new) (input_text name.now input.now) result }
+{
+    match input {
+        NoInput::Unread => tell_of(err, name, b" read fault"),
+        NoInput::Refused(refusal) => tell_refusal(err, name, refusal),
+        NoInput::Memory => write_all(err, NO_MEMORY),
+    }
+}
+
+/// The status of a command where there is nothing of a file.
+pub fn input_status(input: &NoInput) -> u8
+    ensures { result ≡ status_of_input input.now }
+{
+    match input {
+        NoInput::Unread => 5,
+        NoInput::Refused(_) => 1,
+        NoInput::Memory => 7,
     }
 }
 

@@ -1,34 +1,31 @@
 //! Worked texts of the command `format`.
 
-use crate::calls::give;
+use coded_unit::CpuUnit;
 use std::alloc::Global;
 use std::test::Fail;
 use vcp_base::Memory;
 use vcp_outside::MemFiles;
-use worked_programs::{ADD, CROSSING, Given, joined, repeated, with_crlf};
+use worked_programs::{
+    ADD, CROSSING, Given, Gives, call, cells, is, joined, play, repeated, with_crlf, word_off,
+};
 
 /// What `format p.st` gives where `p.st` has this text.
 fn format(alloc: Global, text: &[u8]) -> Result<Given, Memory> {
     let mut files = MemFiles::new(alloc);
     files.put(b"p.st", text)?;
-    give(alloc, &[b"format", b"p.st"], &mut files, 4000)
+    call(alloc, &mut files, &mut CpuUnit::new(), "format", "p.st")
 }
 
-/// Whether the text is formatted to this one, and this one to itself.
-fn is_formatted(alloc: Global, text: &[u8], canonical: &[u8]) -> Result<bool, Memory> {
-    for source in [text, canonical] {
-        let given = format(alloc, source)?;
-        if given.status != 0 || given.out.bytes() != canonical || !given.err.bytes().is_empty() {
-            return Ok(false);
-        }
+/// Fails with the row where the text isn't formatted to this one, or this one not to itself.
+fn is_formatted(alloc: Global, row: &str, text: &[u8], canonical: &[u8]) -> Result<(), Fail> {
+    let expected: Gives<'_> = (canonical, b"", 0);
+    let once = format(alloc, text)?;
+    let again = format(alloc, canonical)?;
+    if is(&once, expected) && is(&again, expected) {
+        Ok(())
+    } else {
+        Err(Fail::new(row))
     }
-    Ok(true)
-}
-
-/// Whether the text is refused with this line and nothing else.
-fn is_refused(alloc: Global, text: &[u8], line: &[u8]) -> Result<bool, Memory> {
-    let given = format(alloc, text)?;
-    Ok(given.status == 1 && given.out.bytes().is_empty() && given.err.bytes() == line)
 }
 
 const ADD_FORMATTED: &[u8] = b"\
@@ -89,10 +86,8 @@ END_PROGRAM
 
 #[test]
 fn the_level_crossing_is_formatted(rt: HostRuntime) -> Result<(), Fail> {
-    let alloc = rt.alloc();
-    let source = with_crlf(alloc, CROSSING)?;
-    assert!(rt; is_formatted(alloc, &source, CROSSING_FORMATTED)?);
-    Ok(())
+    let source = with_crlf(rt.alloc(), CROSSING)?;
+    is_formatted(rt.alloc(), "crossing", &source, CROSSING_FORMATTED)
 }
 
 /// Programs on one line each, and their canonical texts.
@@ -168,190 +163,195 @@ END_PROGRAM
     ),
 ];
 
-/// The first of these texts that has another canonical text.
-fn first_wrong(alloc: Global, table: &[(&[u8], &[u8])]) -> Result<Option<usize>, Memory> {
-    for (i, (source, canonical)) in table.iter().enumerate() {
-        if !is_formatted(alloc, *source, *canonical)? {
-            return Ok(Some(i));
-        }
-    }
-    Ok(None)
-}
-
-#[test]
-fn programs_are_formatted(rt: HostRuntime) -> Result<(), Fail> {
-    if let Some(i) = first_wrong(rt.alloc(), &PROGRAMS)? {
-        assert!(rt; false, "at {i}");
+/// Whether each of these texts has its canonical text.
+fn all_formatted(alloc: Global, table: &[(&[u8], &[u8])]) -> Result<(), Fail> {
+    for (source, canonical) in table {
+        is_formatted(alloc, "programs", *source, *canonical)?;
     }
     Ok(())
 }
 
-/// Whether `y := E` is formatted with this text of E.
-fn is_written(alloc: Global, expression: &[u8], canonical: &[u8]) -> Result<bool, Memory> {
+#[test]
+fn programs_are_formatted(rt: HostRuntime) -> Result<(), Fail> {
+    all_formatted(rt.alloc(), &PROGRAMS)
+}
+
+/// Fails with the row where `y := E` isn't formatted with this text of E.
+fn is_written(alloc: Global, row: &str, expression: &[u8], canonical: &[u8]) -> Result<(), Fail> {
     let source = joined(alloc, &[b"PROGRAM p y:=", expression, b";END_PROGRAM"])?;
     let wanted = joined(
         alloc,
         &[b"PROGRAM p\n  y := ", canonical, b";\nEND_PROGRAM\n"],
     )?;
-    is_formatted(alloc, &source, &wanted)
+    is_formatted(alloc, row, &source, &wanted)
 }
 
 /// Expressions, and their canonical texts.
-const EXPRESSIONS: [(&[u8], &[u8]); 28] = [
-    (b"--a", b"--a"),
-    (b"- - ( -a)", b"---a"),
-    (b"not not b", b"NOT NOT b"),
-    (b"-(not -c)", b"-NOT -c"),
-    (b"a--b", b"a - -b"),
-    (b"-(a+b)", b"-(a + b)"),
-    (b"(-a)*b", b"-a * b"),
-    (b"not(a=b)", b"NOT (a = b)"),
-    (b"a&b or c xor d", b"a AND b OR c XOR d"),
-    (b"(a-b)-(c-d)", b"a - b - (c - d)"),
-    (
-        b"Max( min(a,b) ,-c,sel(G,(a),(b+c)*d))",
-        b"Max(min(a, b), -c, sel(G, a, (b + c) * d))",
-    ),
-    (b"f((x))mod-f(f(1))", b"f(x) MOD -f(f(1))"),
-    (b"BOOL#TRUE", b"TRUE"),
-    (b"bool#false", b"FALSE"),
-    (b"BOOL#0", b"FALSE"),
-    (b"BOOL#2#1", b"TRUE"),
-    (b"BOOL#2", b"BOOL#2"),
-    (b"BOOL#16#0a", b"BOOL#10"),
-    (b"true and FALSE", b"TRUE AND FALSE"),
-    (b"int#16#7F", b"INT#127"),
-    (b"DINT#2#1010_1010", b"DINT#170"),
-    (b"INT#8#17", b"INT#15"),
-    (b"lint#16#ff", b"LINT#255"),
-    (
-        b"LINT#-5+9223372036854775807",
-        b"LINT#-5 + 9223372036854775807",
-    ),
-    (b"INT#-5+DINT#+7", b"INT#-5 + DINT#7"),
-    (b"8#17-2#11", b"15 - 3"),
-    (b"16#fF", b"255"),
-    (b"1_000*007", b"1000 * 7"),
-];
+const EXPRESSIONS: &str = "\
+--a => --a
+- - ( -a) => ---a
+not not b => NOT NOT b
+-(not -c) => -NOT -c
+a--b => a - -b
+-(a+b) => -(a + b)
+(-a)*b => -a * b
+not(a=b) => NOT (a = b)
+a&b or c xor d => a AND b OR c XOR d
+(a-b)-(c-d) => a - b - (c - d)
+Max( min(a,b) ,-c,sel(G,(a),(b+c)*d)) => Max(min(a, b), -c, sel(G, a, (b + c) * d))
+f((x))mod-f(f(1)) => f(x) MOD -f(f(1))
+BOOL#TRUE => TRUE
+bool#false => FALSE
+BOOL#0 => FALSE
+BOOL#2#1 => TRUE
+BOOL#2 => BOOL#2
+BOOL#16#0a => BOOL#10
+true and FALSE => TRUE AND FALSE
+int#16#7F => INT#127
+DINT#2#1010_1010 => DINT#170
+INT#8#17 => INT#15
+lint#16#ff => LINT#255
+LINT#-5+9223372036854775807 => LINT#-5 + 9223372036854775807
+INT#-5+DINT#+7 => INT#-5 + DINT#7
+8#17-2#11 => 15 - 3
+16#fF => 255
+1_000*007 => 1000 * 7
+";
 
-/// The first of these expressions that is written otherwise.
-fn first_wrong_expression(
-    alloc: Global,
-    table: &[(&[u8], &[u8])],
-) -> Result<Option<usize>, Memory> {
-    for (i, (expression, canonical)) in table.iter().enumerate() {
-        if !is_written(alloc, *expression, *canonical)? {
-            return Ok(Some(i));
-        }
+/// Fails with the first of these expressions that is written otherwise.
+fn all_written(alloc: Global, rows: &str) -> Result<(), Fail> {
+    for row in rows.lines() {
+        let (expression, canonical) = cells(row);
+        is_written(alloc, row, expression.as_bytes(), canonical.as_bytes())?;
     }
-    Ok(None)
+    Ok(())
 }
 
 #[test]
 fn expressions_are_formatted(rt: HostRuntime) -> Result<(), Fail> {
-    if let Some(i) = first_wrong_expression(rt.alloc(), &EXPRESSIONS)? {
-        assert!(rt; false, "at {i}");
+    all_written(rt.alloc(), EXPRESSIONS)
+}
+
+/// The operators between operands, each with its strength.
+const OPERATORS: &str = "\
+1 OR
+2 XOR
+3 AND
+4 =
+4 <>
+5 <
+5 >
+5 <=
+5 >=
+6 +
+6 -
+7 *
+7 /
+7 MOD
+";
+
+/// The text `a INNER b OUTER c` or, where the brackets stand on the right, `a OUTER b INNER c`, with the brackets of INNER and without.
+fn around(
+    alloc: Global,
+    inner: &[u8],
+    outer: &[u8],
+    is_left: bool,
+) -> Result<[Vec<u8>; 2], Memory> {
+    if is_left {
+        return Ok([
+            joined(alloc, &[b"(a ", inner, b" b) ", outer, b" c"])?,
+            joined(alloc, &[b"a ", inner, b" b ", outer, b" c"])?,
+        ]);
+    }
+    Ok([
+        joined(alloc, &[b"a ", outer, b" (b ", inner, b" c)"])?,
+        joined(alloc, &[b"a ", outer, b" b ", inner, b" c"])?,
+    ])
+}
+
+/// Fails where brackets round the left or round the right operand don't stay exactly where they are needed.
+fn keeps_brackets(alloc: Global, inner: &str, outer: &str) -> Result<(), Fail> {
+    let (strength, sign) = word_off(inner);
+    let (other_strength, other_sign) = word_off(outer);
+    let [closed, open] = around(alloc, sign.as_bytes(), other_sign.as_bytes(), true)?;
+    let wanted = if strength < other_strength {
+        &closed
+    } else {
+        &open
+    };
+    is_written(alloc, inner, &closed, wanted)?;
+    let [closed, open] = around(alloc, sign.as_bytes(), other_sign.as_bytes(), false)?;
+    let wanted = if strength > other_strength {
+        &open
+    } else {
+        &closed
+    };
+    is_written(alloc, inner, &closed, wanted)
+}
+
+/// Whether this operator and each of these keep their brackets so.
+fn keeps_with(alloc: Global, inner: &str, rows: &str) -> Result<(), Fail> {
+    for outer in rows.lines() {
+        keeps_brackets(alloc, inner, outer)?;
     }
     Ok(())
 }
 
-/// The operators between operands, each with its strength.
-const OPERATORS: [(u8, &[u8]); 14] = [
-    (1, b" OR "),
-    (2, b" XOR "),
-    (3, b" AND "),
-    (4, b" = "),
-    (4, b" <> "),
-    (5, b" < "),
-    (5, b" > "),
-    (5, b" <= "),
-    (5, b" >= "),
-    (6, b" + "),
-    (6, b" - "),
-    (7, b" * "),
-    (7, b" / "),
-    (7, b" MOD "),
-];
-
-/// Whether brackets round the left and round the right operand stay exactly where they are needed.
-fn keeps_brackets(alloc: Global, inner: (u8, &[u8]), outer: (u8, &[u8])) -> Result<bool, Memory> {
-    let left = joined(alloc, &[b"(a", inner.1, b"b)", outer.1, b"c"])?;
-    let left_open = joined(alloc, &[b"a", inner.1, b"b", outer.1, b"c"])?;
-    let right = joined(alloc, &[b"a", outer.1, b"(b", inner.1, b"c)"])?;
-    let right_open = joined(alloc, &[b"a", outer.1, b"b", inner.1, b"c"])?;
-    let wanted_left = if inner.0 < outer.0 { &left } else { &left_open };
-    let wanted_right = if inner.0 > outer.0 {
-        &right_open
-    } else {
-        &right
-    };
-    Ok(is_written(alloc, &left, wanted_left)? && is_written(alloc, &right, wanted_right)?)
-}
-
-/// Whether this operator and each of these keep their brackets so.
-fn keeps_with(alloc: Global, inner: (u8, &[u8]), table: &[(u8, &[u8])]) -> Result<bool, Memory> {
-    for outer in table {
-        if !keeps_brackets(alloc, inner, *outer)? {
-            return Ok(false);
-        }
+/// Whether each of these operators and each of them keep their brackets so.
+fn all_keep(alloc: Global, rows: &str) -> Result<(), Fail> {
+    for inner in rows.lines() {
+        keeps_with(alloc, inner, rows)?;
     }
-    Ok(true)
-}
-
-/// The first of these operators that doesn't keep its brackets so with each of them.
-fn first_astray(alloc: Global, table: &[(u8, &[u8])]) -> Result<Option<usize>, Memory> {
-    for (i, inner) in table.iter().enumerate() {
-        if !keeps_with(alloc, *inner, table)? {
-            return Ok(Some(i));
-        }
-    }
-    Ok(None)
+    Ok(())
 }
 
 #[test]
 fn brackets_stay_where_they_are_needed(rt: HostRuntime) -> Result<(), Fail> {
-    if let Some(i) = first_astray(rt.alloc(), &OPERATORS)? {
-        assert!(rt; false, "operator {i}");
-    }
-    Ok(())
+    all_keep(rt.alloc(), OPERATORS)
 }
 
 /// Texts that are no programs, and the lines that refuse them.
-const REFUSED: [(&[u8], &[u8]); 7] = [
-    (b"", b"p.st:1:1 S4 Syntax\n"),
-    (b"PROGRAM p y := ; END_PROGRAM", b"p.st:1:16 S4 Syntax\n"),
-    (b"PROGRAM p (* x", b"p.st:1:11 S2 Comment\n"),
-    (b"PROGRAM p {", b"p.st:1:11 S1 Byte\n"),
-    (
-        b"PROGRAM p y := 16#G; END_PROGRAM",
-        b"p.st:1:16 S3 Number\n",
-    ),
-    (
-        b"PROGRAM p\r\ny := 1;\n\nz 2;\nEND_PROGRAM\n",
-        b"p.st:4:3 S4 Syntax\n",
-    ),
-    (b"PROGRAM p\n", b"p.st:2:1 S4 Syntax\n"),
-];
-
-/// The first of these texts that isn't refused so.
-fn first_taken(alloc: Global, table: &[(&[u8], &[u8])]) -> Result<Option<usize>, Memory> {
-    for (i, (text, line)) in table.iter().enumerate() {
-        if !is_refused(alloc, *text, *line)? {
-            return Ok(Some(i));
-        }
-    }
-    Ok(None)
-}
+const REFUSED: &str = r"< p.st 
+$ format p.st
+= 1 p.st:1:1 S4 Syntax
+< p.st PROGRAM p y := ; END_PROGRAM
+$ format p.st
+= 1 p.st:1:16 S4 Syntax
+< p.st PROGRAM p (* x
+$ format p.st
+= 1 p.st:1:11 S2 Comment
+< p.st PROGRAM p {
+$ format p.st
+= 1 p.st:1:11 S1 Byte
+< p.st PROGRAM p y := 16#G; END_PROGRAM
+$ format p.st
+= 1 p.st:1:16 S3 Number
+< p.st PROGRAM p\r\ny := 1;\n\nz 2;\nEND_PROGRAM\n
+$ format p.st
+= 1 p.st:4:3 S4 Syntax
+< p.st PROGRAM p\n
+$ format p.st
+= 1 p.st:2:1 S4 Syntax
+";
 
 #[test]
 fn faults_of_texts_are_told_with_their_places(rt: HostRuntime) -> Result<(), Fail> {
-    let alloc = rt.alloc();
-    if let Some(i) = first_taken(alloc, &REFUSED)? {
-        assert!(rt; false, "at {i}");
+    play(rt.alloc(), &mut MemFiles::new(rt.alloc()), REFUSED)
+}
+
+/// Fails where the text isn't refused with this line and nothing else.
+fn is_refused(alloc: Global, text: &[u8], line: &[u8]) -> Result<(), Fail> {
+    if is(&format(alloc, text)?, (b"", line, 1)) {
+        Ok(())
+    } else {
+        Err("taken".into())
     }
-    let long = vec![in alloc; b' '; 1048577]?;
-    assert!(rt; is_refused(alloc, &long, b"p.st L1 Bytes\n")?);
-    Ok(())
+}
+
+#[test]
+fn a_text_may_be_too_long(rt: HostRuntime) -> Result<(), Fail> {
+    let long = repeated(rt.alloc(), b" ", 1048577)?;
+    is_refused(rt.alloc(), &long, b"p.st L1 Bytes\n")
 }
 
 /// A statement whose number stands in so many brackets.
@@ -387,59 +387,32 @@ fn in_chain(alloc: Global, after: u32) -> Result<Vec<u8>, Memory> {
 }
 
 #[test]
-fn the_depth_is_limited(rt: HostRuntime) -> Result<(), Fail> {
-    let alloc = rt.alloc();
-    let deep = in_brackets(alloc, 64)?;
-    assert!(rt; is_formatted(alloc, &deep, b"PROGRAM p\n  y := 1;\nEND_PROGRAM\n")?);
-    let deeper = in_brackets(alloc, 65)?;
-    assert!(rt; is_refused(alloc, &deeper, b"p.st:1:81 S5 Depth\n")?);
-    let long = in_chain(alloc, 31)?;
-    let ones = repeated(alloc, b" + 1", 64)?;
-    let canonical = joined(alloc, &[b"PROGRAM p\n  y := 1", &ones, b";\nEND_PROGRAM\n"])?;
-    assert!(rt; is_formatted(alloc, &long, &canonical)?);
-    let longer = in_chain(alloc, 32)?;
-    assert!(rt; is_refused(alloc, &longer, b"p.st:1:278 S5 Depth\n")?);
-    Ok(())
-}
-
-#[test]
-fn a_lacking_text_is_told(rt: HostRuntime) -> Result<(), Fail> {
-    let alloc = rt.alloc();
-    let given = give(
-        alloc,
-        &[b"format", b"q.st"],
-        &mut MemFiles::new(alloc),
-        4000,
+fn brackets_are_limited(rt: HostRuntime) -> Result<(), Fail> {
+    let deep = in_brackets(rt.alloc(), 64)?;
+    is_formatted(
+        rt.alloc(),
+        "brackets",
+        &deep,
+        b"PROGRAM p\n  y := 1;\nEND_PROGRAM\n",
     )?;
-    assert!(rt; given.status == 5 && given.out.bytes().is_empty());
-    assert!(rt; given.err.bytes() == b"q.st read fault\n".as_slice());
-    Ok(())
-}
-
-/// Whether an output of so much room gets a front of the text that fills it, and the fault is told.
-fn fills(alloc: Global, room: u32, length: u32) -> Result<bool, Memory> {
-    let mut files = MemFiles::new(alloc);
-    files.put(b"p.st", ADD)?;
-    let given = give(alloc, &[b"format", b"p.st"], &mut files, room)?;
-    let told: &[u8] = if room == length {
-        b""
-    } else {
-        b"write fault\n"
-    };
-    Ok(
-        given.status == if room == length { 0 } else { 6 }
-            && given.out.bytes().len() == room as usize
-            && ADD_FORMATTED.starts_with(given.out.bytes())
-            && given.err.bytes() == told,
+    is_refused(
+        rt.alloc(),
+        &in_brackets(rt.alloc(), 65)?,
+        b"p.st:1:81 S5 Depth\n",
     )
 }
 
 #[test]
-fn a_full_sink_keeps_a_front_of_the_text(rt: HostRuntime) -> Result<(), Fail> {
-    let alloc = rt.alloc();
-    let length = ADD_FORMATTED.len() as u32;
-    for room in 0..length + 1 {
-        assert!(rt; fills(alloc, room, length)?, "room {room}");
-    }
-    Ok(())
+fn chains_are_limited(rt: HostRuntime) -> Result<(), Fail> {
+    let ones = repeated(rt.alloc(), b" + 1", 64)?;
+    let canonical = joined(
+        rt.alloc(),
+        &[b"PROGRAM p\n  y := 1", &ones, b";\nEND_PROGRAM\n"],
+    )?;
+    is_formatted(rt.alloc(), "chain", &in_chain(rt.alloc(), 31)?, &canonical)?;
+    is_refused(
+        rt.alloc(),
+        &in_chain(rt.alloc(), 32)?,
+        b"p.st:1:278 S5 Depth\n",
+    )
 }

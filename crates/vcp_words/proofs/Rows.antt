@@ -1,6 +1,6 @@
 -- Worked rows, computed by the definitions alone.
 use Rattle.std.proofs.Common.{◌≡◌, ℕ, refl, List, [], ◌∷◌, Option, Some, None, codes}
-use Rattle.vcp_words.specs.Forms.{Form, form_of, check, format, plain, run, compile, list, exec, trace, widen, audit, inject, file, cycles}
+use Rattle.vcp_words.specs.Forms.{Form, form_of, check, format, plain, run, compile, list, exec, trace, widen, audit, inject, demo, file, cycles}
 
 format_words : form_of (codes "format" ∷ codes "p" ∷ []) ≡ Some (format (codes "p"))
 format_words = refl
@@ -140,3 +140,10 @@ inject_words = refl
 
 inject_without_script : form_of (codes "inject" ∷ codes "m" ∷ codes "r" ∷ []) ≡ None
 inject_without_script = refl
+
+-- leading zeros are allowed
+demo_words : form_of (codes "demo" ∷ codes "007" ∷ []) ≡ Some (demo 7)
+demo_words = refl
+
+demo_too_great : form_of (codes "demo" ∷ codes "4294967296" ∷ []) ≡ None
+demo_too_great = refl

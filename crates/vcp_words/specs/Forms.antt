@@ -29,7 +29,12 @@ default_step = 1
 abbrev pub default_code : Code
 default_code = record { seed = default_seed; step = default_step }
 
--- a command with its words: P is a source's name, M an image's, F a script's; then ROWS, CODE, CYCLE and HORIZON
+-- the greatest number of a made program
+abbrev pub most_made : ℕ
+most_made = 4294967295
+
+-- a command with its words: P is a source's name, M an image's, F a script's; then ROWS, CODE, CYCLE, HORIZON and the number of a
+-- made program
 pub data Form : Type 0 where
   check : List ℕ → Form
   format : List ℕ → Form
@@ -42,6 +47,7 @@ pub data Form : Type 0 where
   widen : List ℕ → Form
   audit : List ℕ → ℕ → Form
   inject : List ℕ → Rows → List ℕ → Form
+  demo : ℕ → Form
 
 -- ---- single words
 
@@ -85,6 +91,11 @@ cycle_and_rest (w ∷ rest) = option_map (λ n. (n, rest)) (number_within 0 (mos
 abbrev pub horizon_and_rest : List (List ℕ) → Option (ℕ × List (List ℕ))
 horizon_and_rest [] = None
 horizon_and_rest (w ∷ rest) = option_map (λ n. (n, rest)) (number_within 0 most_horizon w)
+
+-- N: the number of a made program
+abbrev pub made_and_rest : List (List ℕ) → Option (ℕ × List (List ℕ))
+made_and_rest [] = None
+made_and_rest (w ∷ rest) = option_map (λ n. (n, rest)) (number_within 0 most_made w)
 
 -- ---- CODE: neither of the options `--seed N` and `--step N`, one, or both in either order
 
@@ -134,6 +145,10 @@ cycle_then more words = followed (cycle_and_rest words) more
 abbrev pub horizon_then : (ℕ → List (List ℕ) → Option Form) → List (List ℕ) → Option Form
 horizon_then more words = followed (horizon_and_rest words) more
 
+-- N, and then more words
+abbrev pub made_then : (ℕ → List (List ℕ) → Option Form) → List (List ℕ) → Option Form
+made_then more words = followed (made_and_rest words) more
+
 -- CODE to the last word
 abbrev pub code_then : (Code → Form) → List (List ℕ) → Option Form
 code_then f words = option_map f (code_of words)
@@ -166,7 +181,8 @@ form_of (w ∷ words) =
     (cond (bytes_eq w (codes "plain")) (name_then (λ p. rows_then (λ rows. end_then (plain p rows))) words)
     (cond (bytes_eq w (codes "run")) (name_then (λ p. rows_then (λ rows. code_then (run p rows))) words)
     (cond (bytes_eq w (codes "compile")) (name_then (λ p. code_then (compile p)) words)
-    (image_form w words)))))
+    (cond (bytes_eq w (codes "demo")) (made_then (λ n. end_then (demo n)) words)
+    (image_form w words))))))
 
 -- ---- commands as values
 
@@ -192,6 +208,7 @@ form (command.Trace image rows cycle) = trace image.now (rows_of rows) cycle
 form (command.Widen image) = widen image.now
 form (command.Audit image horizon) = audit image.now horizon
 form (command.Inject image rows script) = inject image.now (rows_of rows) script.now
+form (command.Demo number) = demo number
 
 -- ---- what holds of each command
 
@@ -219,3 +236,4 @@ IsSound (trace m rows cycle) = AreFew rows × (cycle < most_cycles)
 IsSound (widen m) = Unit {0}
 IsSound (audit m horizon) = horizon ≤ most_horizon
 IsSound (inject m rows f) = AreFew rows
+IsSound (demo n) = Unit {0}

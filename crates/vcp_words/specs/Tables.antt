@@ -1,6 +1,6 @@
 -- Tables: what each command is about, a line a command.
 use Rattle.std.specs.Prelude.{ℕ, Bool, true, false, List, [], ◌∷◌, ◌++◌, codes}
-use Rattle.vcp_words.specs.Forms.{Form, Rows, check, format, plain, run, compile, list, exec, trace, widen, audit, inject, file, cycles}
+use Rattle.vcp_words.specs.Forms.{Form, Rows, check, format, plain, run, compile, list, exec, trace, widen, audit, inject, demo, file, cycles}
 
 -- ROWS, as lines name it
 abbrev pub rows_name : Rows → List ℕ
@@ -25,6 +25,12 @@ file_words (trace m rows cycle) = m ∷ rows_files rows
 file_words (widen m) = m ∷ []
 file_words (audit m horizon) = m ∷ []
 file_words (inject m rows f) = m ∷ (rows_files rows ++ f ∷ [])
+file_words (demo n) = []
+
+-- whether a command reads files: `demo` alone makes what it runs
+abbrev pub reads_files : Form → Bool
+reads_files (demo n) = false
+reads_files _ = true
 
 -- whether a command calls the unit
 abbrev pub calls_unit : Form → Bool
@@ -39,6 +45,7 @@ calls_unit (trace m rows cycle) = true
 calls_unit (widen m) = false
 calls_unit (audit m horizon) = false
 calls_unit (inject m rows f) = true
+calls_unit (demo n) = true
 
 -- whether a command takes memory, or its rows through their refusals, when it has begun to write
 abbrev pub takes_late : Form → Bool
@@ -53,6 +60,7 @@ takes_late (trace m rows cycle) = true
 takes_late (widen m) = false
 takes_late (audit m horizon) = false
 takes_late (inject m rows f) = true
+takes_late (demo n) = true
 
 -- the statuses that a command may end with beside 5, 6 and 7, for a file or a sink that failed and for want of memory
 abbrev pub own_statuses : Form → List ℕ
@@ -67,3 +75,4 @@ own_statuses (trace m rows cycle) = 0 ∷ 1 ∷ 2 ∷ 3 ∷ []
 own_statuses (widen m) = 0 ∷ 1 ∷ []
 own_statuses (audit m horizon) = 0 ∷ 1 ∷ []
 own_statuses (inject m rows f) = 0 ∷ 1 ∷ []
+own_statuses (demo n) = 0 ∷ 1 ∷ 2 ∷ 3 ∷ []

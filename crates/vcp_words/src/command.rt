@@ -104,4 +104,9 @@ pub enum Command<'a> {
         /// The name of the script of faults, F.
         script: &'a Text,
     },
+    /// `demo N`: the run of the made program of a number, on a unit.
+    Demo {
+        /// The number, N.
+        number: u32,
+    },
 }

@@ -2,8 +2,8 @@
 
 ghost use Rattle.std.specs.Prelude.{◌≡◌, IfSome};
 ghost use Rattle.std.specs.Option.{option_map};
-ghost use Rattle.vcp_words.specs.Forms.{check, format, plain, run, compile, list, exec, trace, widen, audit, inject, name_then, rows_then, cycle_then};
-ghost use Rattle.vcp_words.specs.Forms.{horizon_then, code_then, end_then, form, form_of, image_form, IsSound};
+ghost use Rattle.vcp_words.specs.Forms.{check, format, plain, run, compile, list, exec, trace, widen, audit, inject, demo, name_then, rows_then};
+ghost use Rattle.vcp_words.specs.Forms.{cycle_then, horizon_then, made_then, code_then, end_then, form, form_of, image_form, IsSound};
 
 use crate::command::Command;
 use crate::words_left::WordsLeft;
@@ -30,6 +30,9 @@ pub fn command_of(words: &Words) -> Option<Command<'_>>
     }
     if command == b"compile".as_slice() {
         return compile_words(&mut left);
+    }
+    if command == b"demo".as_slice() {
+        return demo_words(&mut left);
     }
     image_command(command, &mut left)
 }
@@ -119,6 +122,19 @@ fn compile_words<'a>(words: &mut WordsLeft<'a>) -> Option<Command<'a>>
     let source = words.name()?;
     let code = words.code()?;
     Some(Command::Compile { source, code })
+}
+
+/// The words of `demo`: N.
+fn demo_words<'a>(words: &mut WordsLeft<'a>) -> Option<Command<'a>>
+    ensures form { option_map form result ≡ made_then (λ n. end_then (demo n)) words.old }
+    ensures sound { IfSome result (λ command. IsSound (form command)) }
+{
+    let number = words.made()?;
+    if words.is_end() {
+        Some(Command::Demo { number })
+    } else {
+        None
+    }
 }
 
 /// The words of `list`: M.

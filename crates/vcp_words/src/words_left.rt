@@ -4,7 +4,7 @@ ghost use Rattle.std.specs.Prelude.{◌≡◌, ◌≤◌, ◌<◌, ◌∷◌, []
 ghost use Rattle.std.specs.Option.{option_map};
 ghost use Rattle.vcp_base.specs.Limits.{most_cycles, most_horizon, seeds, most_step};
 ghost use Rattle.vcp_words.specs.Forms.{is_file_name as is_file_name_of, is_end as is_end_of, number_within, name_and_rest, rows_and_rest, cycle_and_rest};
-ghost use Rattle.vcp_words.specs.Forms.{horizon_and_rest, code_of, rows_of, as_code, AreFew, IsCode};
+ghost use Rattle.vcp_words.specs.Forms.{horizon_and_rest, made_and_rest, code_of, rows_of, as_code, AreFew, IsCode};
 
 use crate::command::{Code, DEFAULT_CODE, RowsWord};
 use numerals::numeral;
@@ -119,6 +119,14 @@ impl<'a> WordsLeft<'a> {
     {
         let horizon = number(self.next()?, 0, MOST_HORIZON as u64)?;
         Some(horizon as u32)
+    }
+
+    /// Takes N, the number of a made program.
+    pub fn made(&mut self) -> Option<u32>
+        ensures { option_map (λ n. (n, self.new)) result ≡ made_and_rest self.old }
+    {
+        let made = number(self.next()?, 0, u32::MAX as u64)?;
+        Some(made as u32)
     }
 
     /// Takes CODE, to the last word: `--seed N` and `--step N`, each at most once.

@@ -1,6 +1,8 @@
-//! Graphs of worked programs, built by hand: what several crates of tests use.
+//! Graphs of worked programs, built by hand, and the listing of a graph: what several crates of tests use.
 #![tactic(auto)]
 
 mod graphs;
+mod listing;
 
 pub use graphs::{counter, increment, on_dint};
+pub use listing::listing;

@@ -1,10 +1,6 @@
-//! Calls of the whole program on texts in memory.
+//! What a call of the whole program gives.
 
-use coded_unit::Unit;
-use std::alloc::Global;
-use vcp_base::{Memory, Words};
-use vcp_core::vcp;
-use vcp_outside::{Files, MemSink};
+use vcp_outside::MemSink;
 
 /// The status, and what was written to the output and to the errors.
 #[derive(Drop)]
@@ -24,27 +20,4 @@ pub type Gives<'a> = (&'a [u8], &'a [u8], u8);
 pub fn is(given: &Given, expected: Gives<'_>) -> bool {
     let (out, err, status) = expected;
     given.out.bytes() == out && given.err.bytes() == err && given.status == status
-}
-
-/// What a command with these words behind it gives on these files and this unit, where the output has
-/// so much room, and the errors 200 bytes.
-pub fn give<F: Files, U: Unit>(
-    alloc: Global,
-    command: &[&[u8]],
-    behind: &[&[u8]],
-    files: &mut F,
-    unit: &mut U,
-    room: u32,
-) -> Result<Given, Memory> {
-    let mut words = Words::new(alloc);
-    for word in command {
-        words.push(*word)?;
-    }
-    for word in behind {
-        words.push(*word)?;
-    }
-    let mut out = MemSink::new(alloc, room)?;
-    let mut err = MemSink::new(alloc, 200)?;
-    let status = vcp(alloc, &words, files, unit, &mut out, &mut err);
-    Ok(Given { status, out, err })
 }

@@ -2,8 +2,11 @@
 #![tactic(auto)]
 
 mod calls;
+mod sessions;
 
-pub use calls::{Given, Gives, give, is};
+pub use calls::{Given, Gives, is};
+pub use sessions::{USAGE, call, call_in, play, words_of};
 pub use worked_texts::{
-    ADD, ADD_INT, ADD_LINT, COUNTER, CROSSING, POWER, joined, repeated, with_crlf,
+    ADD, ADD_INT, ADD_LINT, COUNTER, CROSSING, POWER, cells, joined, repeated, same, spelled,
+    u32_of, u64_of, usize_of, with_crlf, word_off,
 };

@@ -1,3 +1,4 @@
+use Rattle.vcp_core.proofs.Facts.{if_some_always}
 use Rattle.vcp_core.proofs.top.perform.Goals as goal
 
 pub returns-in-Check-clause-reaches : goal.returns-in-Check-clause-reaches
@@ -32,3 +33,6 @@ returns-in-Audit-clause-reaches g c = rw c.in-Audit.is (c.audit_command.ensures.
 
 pub returns-in-Inject-clause-reaches : goal.returns-in-Inject-clause-reaches
 returns-in-Inject-clause-reaches g c = rw c.in-Inject.is c.inject_command.ensures.reaches
+
+pub returns-in-Demo-clause-reaches : goal.returns-in-Demo-clause-reaches
+returns-in-Demo-clause-reaches g c = if_some_always (g.F.Files.held c.args.files.now) _ (λ h. rw c.in-Demo.is (c.demo_command.ensures.reaches (g.F.Files.broken c.args.files.now)))

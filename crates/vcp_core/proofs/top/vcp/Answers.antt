@@ -1,6 +1,6 @@
-use Rattle.std.proofs.Common.{inl, inr}
+use Rattle.std.proofs.Common.{inl, inr, refl}
 use Rattle.vcp_words.specs.Forms.{form, form_of}
-use Rattle.vcp_core.proofs.Facts.{if_some_weaker, if_some_is}
+use Rattle.vcp_core.proofs.Facts.{if_some_weaker, if_some_is, if_some_when}
 use Rattle.vcp_core.proofs.Serving.{as_plain, reads_all}
 use Rattle.vcp_core.proofs.top.vcp.Goals as goal
 
@@ -18,7 +18,8 @@ returns-in-Some-clause-completes g c =
 pub returns-in-Some-clause-taken : goal.returns-in-Some-clause-taken
 returns-in-Some-clause-taken g c =
     if_some_weaker (g.F.Files.held c.args.files.now) _ _
-    (λ h taken. if_some_is (form_of c.args.words.now) (form c.in-Some.command) _ c.in-Some.ensures.form taken) c.serve.ensures.taken
+    (λ h taken. if_some_is (form_of c.args.words.now) (form c.in-Some.command) _ c.in-Some.ensures.form taken)
+    (if_some_when _ (g.F.Files.held c.args.files.now) (g.F.Files.held c.args.files.now) _ refl c.serve.ensures.taken)
 
 pub returns-in-Some-clause-stopped : goal.returns-in-Some-clause-stopped
 returns-in-Some-clause-stopped g c = if_some_is (form_of c.args.words.now) (form c.in-Some.command) _ c.in-Some.ensures.form c.serve.ensures.stopped

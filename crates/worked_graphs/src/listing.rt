@@ -1,4 +1,4 @@
-//! The listing of a graph without signatures and corrections, for tests.
+//! The listing of a graph, without signatures and corrections.
 
 use op_graph::{Graph, Op};
 use std::alloc::Global;

@@ -1,0 +1,63 @@
+-- Going: one piece of a text behind another.
+use Rattle.std.proofs.Common.{◌≡◌, ℕ, List, [], ◌∷◌, ◌++◌, Option, refl, append_assoc, flat_map, ◌∙◌, ap, add-one, ◌+◌}
+use Rattle.std.proofs.lemmas.Grind.{flat_map-append}
+use Rattle.std.proofs.lemmas.List.{append-nil}
+use Rattle.run_report.specs.Gathering.{Gathered, Gathers}
+use Rattle.svg_text.specs.Elements.{Element, element_text}
+use Rattle.graph_picture.specs.Drawn.{each_below}
+
+-- nothing
+pub unmoved : {a : Option (List ℕ)} {f : ℕ} {l : Gathered} → Gathers a a f f l l []
+unmoved start before text is = rw (append-nil text) is
+
+-- two pieces are one
+pub both : {a b c : Option (List ℕ)} {f g h : ℕ} {l m n : Gathered} (whole s t : List ℕ)
+    → Gathers a b f g l m s → Gathers b c g h m n t → whole ≡ s ++ t → Gathers a c f h l n whole
+both whole s t first second is start before text written = rw (is, ← (append_assoc text s t)) (second start before _ (first start before text written))
+
+-- the text of what is drawn for things
+abbrev pub drawn_text : {X : Type 0} → (X → List Element) → List X → List ℕ
+drawn_text h xs = flat_map element_text (flat_map h xs)
+
+-- the text of things, and of more behind them
+pub drawn_more : {X : Type 0} (h : X → List Element) (xs ys : List X) → drawn_text h (xs ++ ys) ≡ drawn_text h xs ++ drawn_text h ys
+drawn_more h xs ys = ap (flat_map element_text) (flat_map-append h xs ys) ∙ flat_map-append element_text (flat_map h xs) (flat_map h ys)
+
+-- one number more
+pub one_more : {X : Type 0} (h : X → List Element) (f : ℕ → List X) (n : ℕ)
+    → drawn_text h (each_below f (n + 1)) ≡ drawn_text h (each_below f n) ++ drawn_text h (f n)
+one_more h f n = rw (add-one n) (drawn_more h (each_below f n) (f n))
+
+-- the same piece, written otherwise
+pub same : {a b : Option (List ℕ)} {f g : ℕ} {l m : Gathered} {s t : List ℕ} → Gathers a b f g l m s → t ≡ s → Gathers a b f g l m t
+same gathers e start before text is = rw e (gathers start before text is)
+
+-- a piece and another
+pub and_then : {a b c : Option (List ℕ)} {f g h : ℕ} {l m n : Gathered} {s t : List ℕ} → Gathers a b f g l m s → Gathers b c g h m n t
+    → Gathers a c f h l n (s ++ t)
+and_then {s = s} {t = t} first second = both (s ++ t) s t first second refl
+
+-- the text of one element
+pub one_drawn : (e : Element) → flat_map element_text (e ∷ []) ≡ element_text e
+one_drawn e = append-nil (element_text e)
+
+-- the text of a box's elements
+pub box_drawn_text : (o h w s : Element) (more last : List Element)
+    → flat_map element_text ((o ∷ h ∷ w ∷ s ∷ (more ++ last)) ++ [])
+    ≡ element_text o ++ (element_text h ++ (element_text w ++ (element_text s ++ (flat_map element_text more ++ flat_map element_text last))))
+box_drawn_text o h w s more last =
+    ap (flat_map element_text) (append-nil (o ∷ h ∷ w ∷ s ∷ (more ++ last)))
+    ∙ ap (λ t. element_text o ++ (element_text h ++ (element_text w ++ (element_text s ++ t)))) (flat_map-append element_text more last)
+
+-- the text of the legend's elements
+pub legend_drawn_text : (s : Element) (a b c d : List Element)
+    → flat_map element_text (s ∷ (a ++ (b ++ (c ++ d))))
+    ≡ element_text s ++ (flat_map element_text a ++ (flat_map element_text b ++ (flat_map element_text c ++ flat_map element_text d)))
+legend_drawn_text s a b c d =
+    rw (flat_map-append element_text a (b ++ (c ++ d)), flat_map-append element_text b (c ++ d), flat_map-append element_text c d) refl
+
+-- a picture, part by part
+pub parts : (start end : List ℕ) (a b c : List Element)
+    → start ++ (flat_map element_text (a ++ (b ++ c)) ++ end)
+    ≡ start ++ flat_map element_text a ++ flat_map element_text b ++ flat_map element_text c ++ end
+parts start end a b c = rw (flat_map-append element_text a (b ++ c), flat_map-append element_text b c) (simp append_assoc)

@@ -1,0 +1,6 @@
+mod Going
+mod Lines
+mod OwnRows
+mod Seen
+mod WholeDrawing
+mod WholeText

@@ -1,0 +1,81 @@
+-- WholeText: no element of a picture has an attribute twice.
+use Rattle.std.proofs.Common.{ℕ, List, [], ◌∷◌, ◌++◌, flat_map, codes, refl}
+use Rattle.std.specs.List.{AllByRecursion}
+use Rattle.vcp_base.specs.declared.kind.Kind.{Kind}
+use Rattle.vcp_base.specs.declared.kind.Kind.TheVariants as kind
+use Rattle.op_graph.specs.Lists.{Lists}
+use Rattle.svg_text.specs.Elements.{Element}
+use Rattle.svg_text.specs.WellFormed.{HasEachOnce}
+use Rattle.graph_picture.specs.declared.colours.Colour.{Colour}
+use Rattle.graph_picture.specs.declared.colours.Colour.TheVariants as colour
+use Rattle.graph_picture.specs.declared.layout.Place.{Place}
+use Rattle.graph_picture.specs.Drawn.{Box, Drawing}
+use Rattle.graph_picture.specs.Elements.{blindness, cell_bar, box_elements, wire_elements, sample, legend, drawing_elements}
+
+abbrev All : List Element → Type 0
+All es = AllByRecursion HasEachOnce es
+
+all_both : (xs ys : List Element) → All xs → All ys → All (xs ++ ys)
+all_both [] ys h k = k
+all_both (x ∷ xs) ys h k = (h.0, all_both xs ys h.1 k)
+
+all_flat : {X : Type 0} (f : X → List Element) → ((x : X) → All (f x)) → (xs : List X) → All (flat_map f xs)
+all_flat f each [] = tt
+all_flat f each (x ∷ xs) = all_both (f x) (flat_map f xs) (each x) (all_flat f each xs)
+
+of_blindness : (g : Lists) (c : Colour) (p : Place) → All (blindness g c p)
+of_blindness g colour.Unreached p = tt
+of_blindness g colour.Plain p = tt
+of_blindness g (colour.Blind output after) p = (refl, tt)
+
+of_bar : (k : Kind) (p : Place) → All (cell_bar k p)
+of_bar kind.Input p = tt
+of_bar kind.Const p = tt
+of_bar kind.Load p = (refl, tt)
+of_bar kind.Store p = (refl, tt)
+of_bar kind.Out p = tt
+of_bar kind.Conv p = tt
+of_bar kind.Neg p = tt
+of_bar kind.Not p = tt
+of_bar kind.Add p = tt
+of_bar kind.Sub p = tt
+of_bar kind.Mul p = tt
+of_bar kind.Div p = tt
+of_bar kind.Mod p = tt
+of_bar kind.Eq p = tt
+of_bar kind.Lt p = tt
+of_bar kind.And p = tt
+of_bar kind.Or p = tt
+of_bar kind.Xor p = tt
+of_bar kind.Sel p = tt
+
+of_box : (g : Lists) (b : Box) → All (box_elements g b)
+of_box g b = (
+  refl,
+  (
+    refl,
+    (refl, (refl, all_both (blindness g b.colour b.place) (cell_bar b.op.kind b.place) (of_blindness g b.colour b.place) (of_bar b.op.kind b.place))),
+  ),
+)
+
+of_sample : (x : ℕ) (class told : List ℕ) → All (sample x class told)
+of_sample x class told = (refl, (refl, tt))
+
+of_legend : All legend
+of_legend =
+    let first : List Element = sample 12 (codes "plain") (codes "reaches an output") in
+    let second : List Element = sample 192 (codes "unreached") (codes "reaches none") in
+    let third : List Element = sample 332 (codes "blind") (codes "blind for the output that it names, so many cycles later") in
+    let fourth : List Element = sample 672 (codes "cell") (codes "a cell's LOAD (left) or STORE (right)") in (
+      refl,
+      all_both first (second ++ (third ++ fourth)) (of_sample 12 (codes "plain") (codes "reaches an output"))
+          (all_both second (third ++ fourth) (of_sample 192 (codes "unreached") (codes "reaches none"))
+          (all_both third fourth (of_sample 332 (codes "blind") (codes "blind for the output that it names, so many cycles later"))
+          (of_sample 672 (codes "cell") (codes "a cell's LOAD (left) or STORE (right)")))),
+    )
+
+pub each_once : (g : Lists) (d : Drawing) → All (drawing_elements g d)
+each_once g d =
+    all_both legend (flat_map wire_elements d.wires ++ flat_map (box_elements g) d.boxes) of_legend
+    (all_both (flat_map wire_elements d.wires) (flat_map (box_elements g) d.boxes) (all_flat wire_elements (λ w. (refl, tt)) d.wires)
+    (all_flat (box_elements g) (of_box g) d.boxes))

@@ -1,0 +1,22 @@
+use Rattle.std.proofs.Common.{◌≡◌, true, sym, ◌∙◌}
+use Rattle.std.specs.Option.{is_some}
+use Rattle.op_graph.specs.Rules.{reads_as}
+use Rattle.graph_picture.specs.Arrangement.{place_at}
+use Rattle.graph_picture.specs.Elements.{wire_element}
+use Rattle.graph_picture.proofs.Going.{same, one_drawn}
+use Rattle.graph_picture.proofs.wires.then_wire.Goals as goal
+
+pub returns-then-reads_operation : goal.returns-then-reads_operation
+returns-then-reads_operation g c =
+    let op = c.args.op.now in
+    let places = c.args.layout.now.places in
+    let reads : is_some (reads_as op.kind op.from c.args.j) ≡ true = sym (c.reads_operation.ensures op.from) ∙ c.if-reads_operation.true in
+    let drawn = rw (c.place.ensures, c.place-then-reads_operation.ensures) at c.then_line.ensures in
+    let wire = wire_element (record {
+      operand = c.args.k;
+      reader = c.args.n;
+      which = c.args.j;
+      from = place_at places c.args.k;
+      to = place_at places c.args.n;
+    }) in
+    rw (reads, c.requires.names) (same drawn (one_drawn wire))

@@ -1,0 +1,113 @@
+-- Drawn: what is drawn of a graph: a box for each operation, and a line for each pair of an operand and its reader.
+use Rattle.std.specs.Option.{is_some}
+use Rattle.std.specs.Prelude.{ℕ, zero, suc, cond, List, [], ◌∷◌, ◌++◌, length, Option, Some, None, slice_get, slice_index_or, ℤ, unsigned_abs}
+use Rattle.std.specs.Fmt.{signed_decimal}
+use Rattle.vcp_base.specs.declared.kind.Kind.{Kind}
+use Rattle.vcp_base.specs.declared.kind.Kind.TheVariants as kind
+use Rattle.op_graph.specs.declared.op.Op.{Op}
+use Rattle.op_graph.specs.declared.op.Var.{Var}
+use Rattle.op_graph.specs.declared.op.Cell.{Cell}
+use Rattle.op_graph.specs.Lists.{Lists, cells}
+use Rattle.op_graph.specs.Reads.{named}
+use Rattle.op_graph.specs.Rules.{reads_as}
+use Rattle.weight_audit.specs.Audit.{Audit}
+use Rattle.run_report.specs.OutputNames.{output_name}
+use Rattle.graph_picture.specs.declared.colours.Colour.{Colour}
+use Rattle.graph_picture.specs.declared.layout.Place.{Place}
+use Rattle.graph_picture.specs.Arrangement.{place_at}
+use Rattle.graph_picture.specs.Colours.{colour_of}
+
+-- the box of an operation: its number, the operation, its own name or value, its colour, and where it stands
+pub record Box : Type 0 where
+  pub number : ℕ
+  pub op : Op
+  pub own : List ℕ
+  pub colour : Colour
+  pub place : Place
+
+-- the line from an operation to one that reads it, as this operand of it; and where the boxes of both stand
+pub record Wire : Type 0 where
+  pub operand : ℕ
+  pub reader : ℕ
+  pub which : ℕ
+  pub from : Place
+  pub to : Place
+
+-- what f gives for each number below n, in order
+abbrev pub each_below : {X : Type 0} → (ℕ → List X) → ℕ → List X
+each_below f zero = []
+each_below f (suc n) = each_below f n ++ f n
+
+-- ---- names
+
+abbrev pub name_at : Lists → ℕ → List ℕ
+name_at g n = slice_index_or g.names n []
+
+abbrev pub name_of_input : Lists → Option Var → List ℕ
+name_of_input g None = []
+name_of_input g (Some v) = name_at g v.name
+
+abbrev pub name_of_cell : Lists → Option Cell → List ℕ
+name_of_cell g None = []
+name_of_cell g (Some c) = name_at g c.name
+
+-- the name of input or cell n
+abbrev pub input_name : Lists → ℕ → List ℕ
+input_name g n = name_of_input g (slice_get g.inputs n)
+
+abbrev pub cell_name : Lists → ℕ → List ℕ
+cell_name g n = name_of_cell g (slice_get (cells g) n)
+
+-- an operation's own name or value: the name of the input, cell or output, or the value of a constant
+abbrev pub own_of : Lists → Kind → ℤ → List ℕ
+own_of g kind.Input imm = input_name g (unsigned_abs imm)
+own_of g kind.Const imm = signed_decimal imm
+own_of g kind.Load imm = cell_name g (unsigned_abs imm)
+own_of g kind.Store imm = cell_name g (unsigned_abs imm)
+own_of g kind.Out imm = output_name g (unsigned_abs imm)
+own_of g _ imm = []
+
+-- ---- boxes and lines
+
+-- the box of operation n, in its colour at its place; none where there is no such operation
+abbrev pub box_of : Lists → ℕ → Colour → Place → Op → Box
+box_of g n colour place op = record { number = n; op = op; own = own_of g op.kind op.imm; colour = colour; place = place }
+
+abbrev pub box_drawn : Lists → ℕ → Colour → Place → Option Op → List Box
+box_drawn g n colour place None = []
+box_drawn g n colour place (Some op) = box_of g n colour place op ∷ []
+
+-- the boxes of the operations below operation n, in order
+abbrev pub box_at : Lists → Audit → ℕ → List Place → ℕ → List Box
+box_at g a distances places k = box_drawn g k (colour_of a k distances (length g.outputs)) (place_at places k) (slice_get g.operations k)
+
+abbrev pub boxes_below : Lists → Audit → ℕ → List Place → ℕ → List Box
+boxes_below g a distances places n = each_below (box_at g a distances places) n
+
+-- the line to operand j of operation n, where that operand is an operation
+abbrev pub wire_of : List Place → ℕ → Op → ℕ → List Wire
+wire_of places n op j =
+    cond (is_some (reads_as op.kind op.from j))
+    (record { operand = named op j; reader = n; which = j; from = place_at places (named op j); to = place_at places n } ∷ []) []
+
+abbrev pub wires_of : List Place → ℕ → Option Op → List Wire
+wires_of places n None = []
+wires_of places n (Some op) = wire_of places n op 0 ++ (wire_of places n op 1 ++ wire_of places n op 2)
+
+-- the lines to the operands of the operations below operation n, in order
+abbrev pub wires_at : Lists → List Place → ℕ → List Wire
+wires_at g places k = wires_of places k (slice_get g.operations k)
+
+abbrev pub wires_below : Lists → List Place → ℕ → List Wire
+wires_below g places n = each_below (wires_at g places) n
+
+-- what is drawn of a graph
+pub record Drawing : Type 0 where
+  pub wires : List Wire
+  pub boxes : List Box
+
+abbrev pub drawing : Lists → Audit → ℕ → List Place → Drawing
+drawing g a distances places = record {
+  wires = wires_below g places (length g.operations);
+  boxes = boxes_below g a distances places (length g.operations);
+}

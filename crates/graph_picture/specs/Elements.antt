@@ -1,0 +1,119 @@
+-- Elements: how boxes and lines are drawn, and the text of the picture of a graph.
+use Rattle.std.specs.Prelude.{◌≡◌, ℕ, ◌+◌, ◌*◌, List, [], ◌∷◌, ◌++◌, codes, decimal, flat_map}
+use Rattle.vcp_base.specs.declared.kind.Kind.{Kind}
+use Rattle.vcp_base.specs.declared.kind.Kind.TheVariants as kind
+use Rattle.vcp_base.specs.declared.spot.Spot.{Spot}
+use Rattle.vcp_base.specs.Spellings.{kind_name}
+use Rattle.op_graph.specs.Lists.{Lists}
+use Rattle.weight_audit.specs.Audit.{Audit, IsAudit}
+use Rattle.svg_text.specs.declared.names.Tag.TheVariants as tag
+use Rattle.svg_text.specs.declared.names.Name.TheVariants as name
+use Rattle.svg_text.specs.Elements.{Element, attribute, element, picture_text}
+use Rattle.graph_picture.specs.declared.colours.Colour.{Colour}
+use Rattle.graph_picture.specs.declared.colours.Colour.TheVariants as colour
+use Rattle.graph_picture.specs.declared.layout.Place.{Place}
+use Rattle.graph_picture.specs.Arrangement.{Arrangement, IsArranged, left_of, top_of, box_width, box_height}
+use Rattle.run_report.specs.OutputNames.{output_name}
+use Rattle.graph_picture.specs.Drawn.{Box, Wire, Drawing, drawing}
+
+-- ---- boxes
+
+abbrev pub class_of : Colour → List ℕ
+class_of colour.Unreached = codes "unreached"
+class_of colour.Plain = codes "plain"
+class_of (colour.Blind output after) = codes "blind"
+
+-- the rectangle of an operation in its colour
+abbrev pub outline : ℕ → Colour → Place → Element
+outline n c p = element tag.Rect
+    (attribute name.Operation (decimal n) ∷ attribute name.Class (class_of c) ∷ attribute name.X (decimal (left_of p))
+    ∷ attribute name.Y (decimal (top_of p)) ∷ attribute name.Width (decimal box_width) ∷ attribute name.Height (decimal box_height) ∷ []) []
+
+-- words inside a box, so far below its upper side
+abbrev pub words : Place → ℕ → List (List ℕ) → Element
+words p below pieces = element tag.Text (attribute name.X (decimal (left_of p + 5)) ∷ attribute name.Y (decimal (top_of p + below)) ∷ []) pieces
+
+-- the number and the kind
+abbrev pub head : ℕ → Kind → Place → Element
+head n k p = words p 12 (decimal n ∷ codes " " ∷ kind_name k ∷ [])
+
+-- the own name or value, and the place in the source
+abbrev pub own : List ℕ → Place → Element
+own text p = words p 23 (text ∷ [])
+
+abbrev pub source : Spot → Place → Element
+source spot p = words p 34 (codes "at " ∷ decimal spot.line ∷ codes ":" ∷ decimal spot.col ∷ [])
+
+-- below a blind operation, the output for which it is blind and the number of borders
+abbrev pub blindness : Lists → Colour → Place → List Element
+blindness g colour.Unreached p = []
+blindness g colour.Plain p = []
+blindness g (colour.Blind output after) p = words p 45 (output_name g output ∷ codes " " ∷ decimal after ∷ []) ∷ []
+
+-- a bar at a side of a box
+abbrev pub bar : ℕ → ℕ → Element
+bar x y = element tag.Rect
+    (attribute name.Class (codes "cell") ∷ attribute name.X (decimal x) ∷ attribute name.Y (decimal y)
+    ∷ attribute name.Width (decimal 4) ∷ attribute name.Height (decimal box_height) ∷ []) []
+
+-- the bar of a cell: left of its LOAD, and right of its STORE
+abbrev pub cell_bar : Kind → Place → List Element
+cell_bar kind.Load p = bar (left_of p) (top_of p) ∷ []
+cell_bar kind.Store p = bar (left_of p + 50) (top_of p) ∷ []
+cell_bar _ p = []
+
+abbrev pub box_elements : Lists → Box → List Element
+box_elements g b =
+    outline b.number b.colour b.place ∷ head b.number b.op.kind b.place ∷ own b.own b.place ∷ source b.op.spot b.place
+    ∷ (blindness g b.colour b.place ++ cell_bar b.op.kind b.place)
+
+-- ---- lines
+
+-- a line from the right side of the operand's box to the left side of the reader's
+abbrev pub wire_element : Wire → Element
+wire_element w = element tag.Line
+    (attribute name.Operand (decimal w.operand) ∷ attribute name.Reader (decimal w.reader) ∷ attribute name.Place (decimal w.which)
+    ∷ attribute name.X1 (decimal (left_of w.from + box_width)) ∷ attribute name.Y1 (decimal (top_of w.from + 25))
+    ∷ attribute name.X2 (decimal (left_of w.to)) ∷ attribute name.Y2 (decimal (top_of w.to + 10 + w.which * 15)) ∷ []) []
+
+abbrev pub wire_elements : Wire → List Element
+wire_elements w = wire_element w ∷ []
+
+-- ---- the legend
+
+abbrev pub style : Element
+style = element tag.Style [] (codes "text{font:9px monospace}rect{stroke:#333;fill:#fff}line{stroke:#888}.unreached{fill:#ddd}.blind{fill:#f99}.cell{fill:#36c}" ∷ [])
+
+-- a small rectangle of a class, and beside it what it says
+abbrev pub swatch : ℕ → List ℕ → Element
+swatch x class = element tag.Rect
+    (attribute name.X (decimal x) ∷ attribute name.Y (decimal 8) ∷ attribute name.Width (decimal 14) ∷ attribute name.Height (decimal 14)
+    ∷ attribute name.Class class ∷ []) []
+
+abbrev pub caption : ℕ → List ℕ → Element
+caption x told = element tag.Text (attribute name.X (decimal (x + 20)) ∷ attribute name.Y (decimal 20) ∷ []) (told ∷ [])
+
+abbrev pub sample : ℕ → List ℕ → List ℕ → List Element
+sample x class told = swatch x class ∷ caption x told ∷ []
+
+abbrev pub legend : List Element
+legend =
+    style ∷ (sample 12 (codes "plain") (codes "reaches an output") ++ (sample 192 (codes "unreached") (codes "reaches none")
+    ++ (sample 332 (codes "blind") (codes "blind for the output that it names, so many cycles later") ++ sample 672 (codes "cell") (codes "a cell's LOAD (left) or STORE (right)"))))
+
+-- ---- the picture
+
+abbrev pub drawing_elements : Lists → Drawing → List Element
+drawing_elements g d = legend ++ (flat_map wire_elements d.wires ++ flat_map (box_elements g) d.boxes)
+
+-- the picture of a graph, by what is kept of its weights up to a horizon, and by where the boxes stand
+abbrev pub graph_text : Lists → Audit → ℕ → Arrangement → List ℕ
+graph_text g a horizon l = picture_text l.width l.height (drawing_elements g (drawing g a (horizon + 1) l.places))
+
+-- a text is a picture of the graph up to a horizon
+pub record IsPictureOf (g : Lists) (horizon : ℕ) (text : List ℕ) : Type 0 where
+  pub audit : Audit
+  pub is : IsAudit g horizon audit
+  pub arrangement : Arrangement
+  pub arranged : IsArranged g arrangement
+  pub told : text ≡ graph_text g audit horizon arrangement

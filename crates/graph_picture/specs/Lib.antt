@@ -1,0 +1,5 @@
+pub mod Arrangement
+pub mod Colours
+pub mod Drawn
+pub mod Elements
+pub mod Whole

@@ -1,0 +1,102 @@
+//! Where the boxes of operations stand.
+
+ghost use Rattle.std.specs.Prelude.{◌≡◌, ◌<◌, ◌≤◌, ◌^◌, IfOk};
+ghost use Rattle.graph_picture.specs.Arrangement.{left_of, top_of, place_at, IsArranged};
+
+use crate::columns::columns_of;
+use crate::rows::{corner, places_in};
+use op_graph::Graph;
+use std::alloc::Global;
+use std::marker::Model;
+use vcp_base::Memory;
+
+/// The place of a box: its column from the left and its row from above, counted from 0.
+#[derive(Clone, Copy, Debug, PartialEq, Eq)]
+pub struct Place {
+    /// The column.
+    pub column: u32,
+    /// The row.
+    pub row: u32,
+}
+
+/// The distance of a box from the left, in pixels.
+pub(crate) fn left(place: Place) -> u64
+    ensures value { result ≡ left_of place }
+    ensures few { result < 2 ^ 41 }
+{
+    8 + place.column as u64 * 66
+}
+
+/// The distance of a box from above, in pixels.
+pub(crate) fn top(place: Place) -> u64
+    ensures value { result ≡ top_of place }
+    ensures few { result < 2 ^ 41 }
+{
+    40 + place.row as u64 * 58
+}
+
+/// The places of the boxes of a graph's operations, in order, and the size of the picture in pixels.
+#[derive(Debug, Drop)]
+pub struct Layout {
+    places: Vec<Place>,
+    width: u64,
+    height: u64,
+}
+
+impl Model for Layout {
+    ghost use Rattle.graph_picture.specs.Arrangement.{Arrangement};
+
+    ghost Value = { Arrangement };
+
+    ghost view = { λ l. record { places = l.places.items; width = l.width; height = l.height } };
+}
+
+impl Layout {
+    /// The place of the box of operation `n`; the first one where there is no such operation.
+    pub(crate) fn place(&self, n: u32) -> Place
+        ensures { result ≡ place_at self.now.places n }
+    {
+        match self.places.get(n as usize) {
+            Some(place) => *place,
+            None => Place { column: 0, row: 0 },
+        }
+    }
+
+    /// The width of the picture.
+    pub(crate) fn width(&self) -> u64
+        ensures { result ≡ self.now.width }
+    {
+        self.width
+    }
+
+    /// The height of the picture.
+    pub(crate) fn height(&self) -> u64
+        ensures { result ≡ self.now.height }
+    {
+        self.height
+    }
+}
+
+/// The least width in which the legend has room, and a greater one as it is.
+fn with_legend(width: u64) -> u64
+    ensures { width ≤ result }
+{
+    if width < 980 { 980 } else { width }
+}
+
+/// The places of the boxes of a graph's operations: in columns by depth, a constant before those that
+/// read it, what leaves the cycle in the last column; in the row of the first operand, or below it
+/// where boxes of the column stand there. Each is inside the picture, and no two of a column overlap. The time is linear in the number
+/// of operations.
+pub fn layout_of(alloc: Global, graph: &Graph) -> Result<Layout, Memory>
+    ensures { IfOk result (IsArranged graph.now) }
+{
+    let columns = columns_of(alloc, graph)?;
+    let places = places_in(alloc, graph, columns.as_slice())?;
+    let end = corner(places.as_slice());
+    Ok(Layout {
+        places,
+        width: with_legend(left(end) + 62),
+        height: top(end) + 58,
+    })
+}

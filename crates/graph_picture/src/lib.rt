@@ -1,0 +1,23 @@
+//! The picture of a graph: a box for each operation, in columns by depth, and a line from each operand
+//! to its reader.
+//!
+//! An operation from which no path leads to an output within the horizon is grey, and one whose
+//! differences cancel on their paths to an output is red, with that output and the number of cycle
+//! borders; so the graph's weights say. The picture is written piece by piece.
+#![tactic(auto)]
+
+mod boxes;
+mod colours;
+mod columns;
+mod laws;
+mod layout;
+mod legend;
+mod names;
+mod picture;
+mod rows;
+mod wires;
+
+pub use colours::Colour;
+pub use laws::a_graph_is_drawn_whole;
+pub use layout::{Layout, Place, layout_of};
+pub use picture::write_picture;

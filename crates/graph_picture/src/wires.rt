@@ -1,0 +1,89 @@
+//! The lines from operands to their readers.
+
+ghost use Rattle.std.specs.Prelude.{◌≡◌, ◌<◌, ◌≤◌, length, flat_map, slice_get};
+ghost use Rattle.run_report.specs.Gathering.{Gathers};
+ghost use Rattle.op_graph.specs.Reads.{named};
+ghost use Rattle.svg_text.specs.Elements.{element_text};
+ghost use Rattle.graph_picture.specs.Drawn.{wire_of, wires_of, wires_below};
+ghost use Rattle.graph_picture.specs.Elements.{wire_element, wire_elements};
+
+use crate::layout::{Layout, Place, left, top};
+use op_graph::{Graph, Op};
+use run_report::Line;
+use svg_text::{Name, Piece, Tag, then_element};
+use vcp_outside::Sink;
+use weight_audit::reads_operation;
+
+/// Draws the line from operation `operand` to operation `reader`, which reads it as its operand
+/// `which`.
+fn then_line<O: Sink>(
+    line: &mut Line,
+    out: &mut O,
+    operand: u32,
+    reader: u32,
+    which: u32,
+    from: Place,
+    to: Place,
+)
+    requires { which < 3 }
+    ensures { Gathers (O.written out.old) (O.written out.new) (O.faults out.old) (O.faults out.new) line.old line.new
+        (element_text (wire_element (record { operand = operand; reader = reader; which = which; from = from; to = to }))) }
+{
+    then_element(
+        line,
+        out,
+        Tag::Line,
+        &[
+            (Name::Operand, Piece::Count(operand as u64)),
+            (Name::Reader, Piece::Count(reader as u64)),
+            (Name::Place, Piece::Count(which as u64)),
+            (Name::X1, Piece::Count(left(from) + 54)),
+            (Name::Y1, Piece::Count(top(from) + 25)),
+            (Name::X2, Piece::Count(left(to))),
+            (Name::Y2, Piece::Count(top(to) + 10 + which as u64 * 15)),
+        ],
+        &[],
+    );
+}
+
+/// Draws the line to operand `j` of operation `n`, which is operation `k`, where it is one.
+fn then_wire<O: Sink>(
+    line: &mut Line,
+    out: &mut O,
+    layout: &Layout,
+    n: u32,
+    op: &Op,
+    j: u32,
+    k: u32,
+)
+    requires operand { j < 3 }
+    requires names { named op.now j ≡ k }
+    ensures { Gathers (O.written out.old) (O.written out.new) (O.faults out.old) (O.faults out.new) line.old line.new
+        (flat_map element_text (flat_map wire_elements (wire_of layout.now.places n op.now j))) }
+{
+    if reads_operation(op.kind, j) {
+        then_line(line, out, k, n, j, layout.place(k), layout.place(n));
+    }
+}
+
+/// Draws the lines to the operands of operation `n`.
+fn then_operands<O: Sink>(line: &mut Line, out: &mut O, graph: &Graph, layout: &Layout, n: u32)
+    requires { n < length graph.now.operations }
+    ensures { Gathers (O.written out.old) (O.written out.new) (O.faults out.old) (O.faults out.new) line.old line.new
+        (flat_map element_text (flat_map wire_elements (wires_of layout.now.places n (slice_get graph.now.operations n)))) }
+{
+    let op = graph.operation(n);
+    then_wire(line, out, layout, n, &op, 0, op.a);
+    then_wire(line, out, layout, n, &op, 1, op.b);
+    then_wire(line, out, layout, n, &op, 2, op.c);
+}
+
+/// Draws the lines to the operands of a graph's operations.
+pub(crate) fn then_wires<O: Sink>(line: &mut Line, out: &mut O, graph: &Graph, layout: &Layout)
+    ensures { Gathers (O.written out.old) (O.written out.new) (O.faults out.old) (O.faults out.new) line.old line.new
+        (flat_map element_text (flat_map wire_elements (wires_below graph.now layout.now.places (length graph.now.operations)))) }
+{
+    'operations: for n in 0..graph.len() {
+        then_operands(line, out, graph, layout, n);
+    }
+}

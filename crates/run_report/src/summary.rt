@@ -1,0 +1,28 @@
+//! The line that sums up the run of a made program.
+
+ghost use Rattle.vcp_outside.specs.Written.{Writes};
+ghost use Rattle.run_report.specs.SummaryLine.{summary_text};
+
+use crate::lines::begin;
+use vcp_outside::{Failed, Sink};
+
+/// Writes, for the made program of a number, the cycles of its run, the last value of its output, and
+/// the sum of all values of that. After `Failed` a part of the line is written.
+pub fn summary_line<O: Sink>(
+    out: &mut O,
+    number: u32,
+    cycles: u32,
+    last: i64,
+    sum: i128,
+) -> Result<(), Failed>
+    ensures { Writes (O.written out.old) (O.written out.new) (O.faults out.old) (O.faults out.new) (summary_text number cycles last sum) result }
+{
+    let mut line = begin(out, b"demo ", number);
+    line.text(out, b" cycles ");
+    line.count(out, cycles as u64);
+    line.text(out, b" last ");
+    line.value(out, last);
+    line.text(out, b" sum ");
+    line.long_value(out, sum);
+    line.end(out)
+}

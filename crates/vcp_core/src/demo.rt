@@ -1,0 +1,51 @@
+//! The command `demo`, up to the line of its fault.
+
+ghost use Rattle.std.specs.Prelude.{◌≡◌, ℕ, Ok, Err};
+ghost use Rattle.machine_run.specs.Moments.{moment};
+ghost use Rattle.machine_run.specs.Stops.{GrowsByStop};
+ghost use Rattle.vcp_outside.specs.Counts.{Rose};
+ghost use Rattle.vcp_words.specs.Forms.{demo};
+ghost use Rattle.vcp_core.specs.Demo.{DemoTask};
+ghost use Rattle.vcp_core.specs.Reach.{Reaches, Unread};
+ghost use Rattle.vcp_core.specs.declared.ending.End.TheVariants as end;
+ghost use Rattle.vcp_core.specs.declared.fault.Fault.TheVariants as fault;
+
+use crate::ending::End;
+use crate::fault::Fault;
+use crate::loading::input_columns;
+use crate::summing::run_summed;
+use coded_unit::Unit;
+use program_maker::make;
+use std::alloc::Global;
+use vcp_inputs::{RowsSource, typed_of};
+use vcp_outside::Sink;
+
+/// Does what the words `demo N` say, and writes to `out` alone: the source and the rows of the number
+/// are made and taken through their refusals, and then the program's operations are run on the rows, on
+/// the unit, and the run is summed up. No file is read.
+pub fn demo_command<U: Unit, O: Sink>(
+    alloc: Global,
+    number: u32,
+    unit: &mut U,
+    out: &mut O,
+) -> Result<End, Fault>
+    ensures reaches { (broken : ℕ) → Reaches (demo number) (DemoTask number)
+        (moment (U.log unit.old) (U.wrong unit.old) (O.written out.old) (O.faults out.old))
+        (moment (U.log unit.new) (U.wrong unit.new) (O.written out.new) (O.faults out.new)) broken broken result }
+    ensures read { ¬ Unread result }
+    ensures write { result ≡ Err fault.Write → Rose (O.faults out.old) (O.faults out.new) }
+    ensures refused { result ≡ Ok end.Refused → Rose (U.wrong unit.old) (U.wrong unit.new) }
+    ensures stopped { result ≡ Ok end.Stopped → GrowsByStop (U.log unit.old) (U.log unit.new) }
+{
+    let made = make(alloc, number)?;
+    let program = match typed_of(alloc, &made.source) {
+        Ok(program) => program,
+        Err(input) => return Err(Fault::Source(input)),
+    };
+    let columns = input_columns(alloc, &program)?;
+    let source = RowsSource::File(made.rows);
+    match source.open(alloc, &columns) {
+        Ok(mut rows) => run_summed(alloc, &program, number, &mut rows, unit, out),
+        Err(input) => Err(Fault::Rows(input)),
+    }
+}

@@ -1,0 +1,47 @@
+//! From words to a command.
+
+ghost use Rattle.std.specs.Prelude.{◌≡◌, IfSome};
+ghost use Rattle.std.specs.Option.{option_map};
+ghost use Rattle.vcp_draw_core.specs.Forms.{form, form_of, graph_form, IsSound};
+
+use vcp_base::{Text, Words};
+use vcp_words::WordsLeft;
+
+/// A command, with its own words. A name of a file isn't empty and doesn't begin with `-`.
+#[derive(Clone, Copy, Debug)]
+pub enum Command<'a> {
+    /// `graph M HORIZON`: the picture of an image's graph.
+    Graph {
+        /// The name of the image, M.
+        image: &'a Text,
+        /// The greatest number of cycle borders, at most 1000.
+        horizon: u32,
+    },
+}
+
+/// The command that the words say; None where they are none of the forms.
+pub fn command_of(words: &Words) -> Option<Command<'_>>
+    ensures form { option_map form result ≡ form_of words.now }
+    ensures sound { IfSome result (λ command. IsSound (form command)) }
+{
+    let mut left = WordsLeft::new(words);
+    let command = left.next()?.bytes();
+    if command == b"graph".as_slice() {
+        return graph_words(&mut left);
+    }
+    None
+}
+
+/// The words of `graph`: M, and HORIZON.
+fn graph_words<'a>(words: &mut WordsLeft<'a>) -> Option<Command<'a>>
+    ensures form { option_map form result ≡ graph_form words.old }
+    ensures sound { IfSome result (λ command. IsSound (form command)) }
+{
+    let image = words.name()?;
+    let horizon = words.horizon()?;
+    if words.is_end() {
+        Some(Command::Graph { image, horizon })
+    } else {
+        None
+    }
+}

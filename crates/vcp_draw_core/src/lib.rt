@@ -1,0 +1,11 @@
+//! The commands that draw pictures, and the top call.
+#![tactic(auto)]
+
+mod command;
+mod fault;
+mod graph;
+mod telling;
+mod top;
+
+pub use command::{Command, command_of};
+pub use top::vcp_draw;

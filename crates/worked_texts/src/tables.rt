@@ -1,0 +1,123 @@
+//! Tables as texts: a row in each line, and a row's cells before and behind ` =>`.
+
+use std::alloc::Global;
+use std::test::Fail;
+use vcp_base::{Kind, Memory, Ty, kind_name, kind_of_code, ty_name, ty_of_code};
+
+/// Fails with what is found, where it is something else than what is wanted.
+pub fn same(found: &str, wanted: &str) -> Result<(), Fail> {
+    if found == wanted {
+        Ok(())
+    } else {
+        Err(Fail::new(found))
+    }
+}
+
+/// A row's two cells, without the blanks around the ` =>` between them; the whole row and nothing where it has none.
+pub fn cells(row: &str) -> (&str, &str) {
+    match row.split_once(" =>") {
+        Some((left, right)) => (left.trim_ascii_end(), right.trim_ascii_start()),
+        None => (row, ""),
+    }
+}
+
+/// How far an escape has been read.
+#[derive(Clone, Copy)]
+enum Escape {
+    Outside,
+    Letter,
+    High,
+    Low(u8),
+}
+
+/// The value of a hexadecimal digit; 0 of another byte.
+fn digit(byte: u8) -> u8 {
+    match byte {
+        b'0'..=b'9' => byte - b'0',
+        b'a'..=b'f' => byte - b'a' + 10,
+        _ => 0,
+    }
+}
+
+/// The bytes that a cell spells: in it `\n`, `\r`, `\t` and `\xHH` stand for one byte each, and `\` before another byte for that byte.
+pub fn spelled(alloc: Global, cell: &str) -> Result<Vec<u8>, Memory> {
+    let mut bytes = Vec::new(alloc);
+    let mut escape = Escape::Outside;
+    for byte in cell.as_bytes() {
+        escape = after(&mut bytes, escape, *byte)?;
+    }
+    Ok(bytes)
+}
+
+/// Appends what is spelled with one byte more.
+fn after(bytes: &mut Vec<u8>, escape: Escape, byte: u8) -> Result<Escape, Memory> {
+    let spelled = match (escape, byte) {
+        (Escape::Outside, b'\\') => return Ok(Escape::Letter),
+        (Escape::Letter, b'x') => return Ok(Escape::High),
+        (Escape::High, _) => return Ok(Escape::Low(digit(byte))),
+        (Escape::Low(high), _) => high.wrapping_mul(16).wrapping_add(digit(byte)),
+        (Escape::Letter, b'n') => b'\n',
+        (Escape::Letter, b'r') => b'\r',
+        (Escape::Letter, b't') => b'\t',
+        _ => byte,
+    };
+    bytes.push(spelled)?;
+    Ok(Escape::Outside)
+}
+
+/// A text's first word, and what stands behind the blank after it.
+pub fn word_off(text: &str) -> (&str, &str) {
+    match text.split_once(' ') {
+        Some((word, rest)) => (word, rest),
+        None => (text, ""),
+    }
+}
+
+/// The kind of this name.
+pub fn kind_named(name: &str) -> Result<Kind, Fail> {
+    for code in 0..19u8 {
+        if let Some(kind) = kind_of_code(code)
+            && kind_name(kind) == name.as_bytes()
+        {
+            return Ok(kind);
+        }
+    }
+    Err(Fail::new(name))
+}
+
+/// The type of this name.
+pub fn ty_named(name: &str) -> Result<Ty, Fail> {
+    for code in 0..4u8 {
+        if let Some(ty) = ty_of_code(code)
+            && ty_name(ty) == name.as_bytes()
+        {
+            return Ok(ty);
+        }
+    }
+    Err(Fail::new(name))
+}
+
+/// The number of 32 bits that is written so.
+pub fn u32_of(text: &str) -> Result<u32, Fail> {
+    Ok(text.parse()?)
+}
+
+/// The number of 64 bits that is written so.
+pub fn u64_of(text: &str) -> Result<u64, Fail> {
+    Ok(text.parse()?)
+}
+
+/// The number of 64 bits with a sign that is written so.
+pub fn i64_of(text: &str) -> Result<i64, Fail> {
+    Ok(text.parse()?)
+}
+
+/// The number of 128 bits with a sign that is written so.
+pub fn i128_of(text: &str) -> Result<i128, Fail> {
+    Ok(text.parse()?)
+}
+
+/// The place or the length that is written so.
+pub fn usize_of(text: &str) -> Result<usize, Fail> {
+    Ok(text.parse()?)
+}
