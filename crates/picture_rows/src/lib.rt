@@ -1,4 +1,4 @@
-//! Pictures of small graphs, and the program's answers.
+//! Pictures of small graphs and of runs, and the program's answers.
 #![tactic(auto)]
 
 #[cfg(test)]
@@ -9,3 +9,5 @@ mod pictures;
 mod programs;
 #[cfg(test)]
 mod texts;
+#[cfg(test)]
+mod waves;

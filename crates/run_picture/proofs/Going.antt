@@ -1,0 +1,94 @@
+-- Going: one piece of a text behind another.
+use Rattle.std.proofs.Common.{◌≡◌, ℕ, zero, suc, ◌+◌, List, [], ◌∷◌, ◌++◌, Option, refl, append_assoc, flat_map, ◌∙◌, ap, add-one, arith, Bool, true, false, cond}
+use Rattle.std.proofs.lemmas.Grind.{flat_map-append}
+use Rattle.std.proofs.lemmas.List.{append-nil}
+use Rattle.std.specs.List.{range_with_len}
+use Rattle.run_report.specs.Gathering.{Gathered, Gathers}
+use Rattle.svg_text.specs.Elements.{Element, element_text}
+use Rattle.run_picture.specs.Drawn.{each_below}
+
+-- ---- pieces
+
+-- nothing
+pub unmoved : {a : Option (List ℕ)} {f : ℕ} {l : Gathered} → Gathers a a f f l l []
+unmoved start before text is = rw (append-nil text) is
+
+-- a piece and another
+pub and_then : {a b c : Option (List ℕ)} {f g h : ℕ} {l m n : Gathered} {s t : List ℕ} → Gathers a b f g l m s → Gathers b c g h m n t
+    → Gathers a c f h l n (s ++ t)
+and_then {s = s} {t = t} first second start before text is = rw (← (append_assoc text s t)) (second start before _ (first start before text is))
+
+-- the same piece, written otherwise
+pub same : {a b : Option (List ℕ)} {f g : ℕ} {l m : Gathered} {s t : List ℕ} → Gathers a b f g l m s → t ≡ s → Gathers a b f g l m t
+same gathers e start before text is = rw e (gathers start before text is)
+
+-- ---- things in order
+
+each_from : {X : Type 0} (f : ℕ → List X) (a n : ℕ) → flat_map f (range_with_len a (suc n)) ≡ flat_map f (range_with_len a n) ++ f (a + n)
+each_from f a zero = let here : a + 0 ≡ a = omega arith in rw here (append-nil (f a))
+each_from f a (suc n) =
+    let next : a + 1 + n ≡ a + suc n = omega arith in
+    ap (λ t. f a ++ t) (each_from f (a + 1) n) ∙ rw (next, append_assoc (f a) (flat_map f (range_with_len (a + 1) n)) (f (a + suc n))) refl
+
+pub each_suc : {X : Type 0} (f : ℕ → List X) (n : ℕ) → each_below f (suc n) ≡ each_below f n ++ f n
+each_suc f n = let here : 0 + n ≡ n = omega arith in rw here at (each_from f 0 n)
+
+pub each_more : {X : Type 0} (f : ℕ → List X) (n : ℕ) → each_below f (n + 1) ≡ each_below f n ++ f n
+each_more f n = rw (add-one n) (each_suc f n)
+
+-- ---- the texts of elements
+
+pub one_text : (e : Element) → flat_map element_text (e ∷ []) ≡ element_text e
+one_text e = append-nil (element_text e)
+
+pub two_texts : (d e : Element) → flat_map element_text (d ∷ e ∷ []) ≡ element_text d ++ element_text e
+two_texts d e = ap (λ t. element_text d ++ t) (append-nil (element_text e))
+
+pub text_more : (f : ℕ → List Element) (n : ℕ)
+    → flat_map element_text (each_below f (n + 1)) ≡ flat_map element_text (each_below f n) ++ flat_map element_text (f n)
+text_more f n = ap (flat_map element_text) (each_more f n) ∙ flat_map-append element_text (each_below f n) (f n)
+
+pub single_more : (f : ℕ → Element) (n : ℕ)
+    → flat_map element_text (each_below (λ i. f i ∷ []) (n + 1)) ≡ flat_map element_text (each_below (λ i. f i ∷ []) n) ++ element_text (f n)
+single_more f n = text_more (λ i. f i ∷ []) n ∙ ap (λ t. flat_map element_text (each_below (λ i. f i ∷ []) n) ++ t) (one_text (f n))
+
+-- the text of what is drawn for things
+abbrev pub drawn_text : {X : Type 0} → (X → List Element) → List X → List ℕ
+drawn_text h xs = flat_map element_text (flat_map h xs)
+
+pub drawn_append : {X : Type 0} (h : X → List Element) (xs ys : List X) → drawn_text h (xs ++ ys) ≡ drawn_text h xs ++ drawn_text h ys
+drawn_append h xs ys = ap (flat_map element_text) (flat_map-append h xs ys) ∙ flat_map-append element_text (flat_map h xs) (flat_map h ys)
+
+pub drawn_more : {X : Type 0} (h : X → List Element) (f : ℕ → List X) (n : ℕ)
+    → drawn_text h (each_below f (n + 1)) ≡ drawn_text h (each_below f n) ++ drawn_text h (f n)
+drawn_more h f n = ap (drawn_text h) (each_more f n) ∙ drawn_append h (each_below f n) (f n)
+
+pub drawn_one : {X : Type 0} (h : X → List Element) (x : X) → drawn_text h (x ∷ []) ≡ flat_map element_text (h x)
+drawn_one h x = ap (flat_map element_text) (append-nil (h x))
+
+pub drawn_single : {X : Type 0} (h : X → List Element) (f : ℕ → X) (n : ℕ)
+    → drawn_text h (each_below (λ i. f i ∷ []) (n + 1)) ≡ drawn_text h (each_below (λ i. f i ∷ []) n) ++ flat_map element_text (h (f n))
+drawn_single h f n = drawn_more h (λ i. f i ∷ []) n ∙ ap (λ t. drawn_text h (each_below (λ i. f i ∷ []) n) ++ t) (drawn_one h (f n))
+
+pub three_texts : (v : Element) (a b : List Element)
+    → flat_map element_text (v ∷ (a ++ b)) ≡ element_text v ++ (flat_map element_text a ++ flat_map element_text b)
+three_texts v a b = ap (λ t. element_text v ++ t) (flat_map-append element_text a b)
+
+joined : (start s a b c d end : List ℕ) → start ++ ((s ++ (a ++ (b ++ (c ++ d)))) ++ end) ≡ start ++ s ++ a ++ b ++ c ++ d ++ end
+joined start s a b c d end = simp append_assoc
+
+four : (a b c d : List Element)
+    → flat_map element_text (a ++ (b ++ (c ++ d)))
+    ≡ flat_map element_text a ++ (flat_map element_text b ++ (flat_map element_text c ++ flat_map element_text d))
+four a b c d =
+    flat_map-append element_text a (b ++ (c ++ d))
+    ∙ ap (λ (t : List ℕ). flat_map element_text a ++ t)
+    (flat_map-append element_text b (c ++ d) ∙ ap (λ (t : List ℕ). flat_map element_text b ++ t) (flat_map-append element_text c d))
+
+-- a picture, part by part
+pub parts : (start end : List ℕ) (s : Element) (a b c d : List Element)
+    → start ++ (flat_map element_text (s ∷ (a ++ (b ++ (c ++ d)))) ++ end)
+    ≡ start ++ element_text s ++ flat_map element_text a ++ flat_map element_text b ++ flat_map element_text c ++ flat_map element_text d ++ end
+parts start end s a b c d =
+    ap (λ (t : List ℕ). start ++ ((element_text s ++ t) ++ end)) (four a b c d)
+    ∙ joined start (element_text s) (flat_map element_text a) (flat_map element_text b) (flat_map element_text c) (flat_map element_text d) end

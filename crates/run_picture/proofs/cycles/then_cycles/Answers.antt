@@ -1,0 +1,17 @@
+use Rattle.std.proofs.Common.{◌≡◌, length, arith}
+use Rattle.run_picture.specs.Elements.{cycle_elements}
+use Rattle.run_picture.proofs.Going.{unmoved, and_then, same, text_more}
+use Rattle.run_picture.proofs.cycles.then_cycles.Goals as goal
+
+pub cycles-init : goal.cycles-init
+cycles-init g c = unmoved
+
+pub cycles-preserved : goal.cycles-preserved
+cycles-preserved g c =
+    let drawn = rw c.columns-columns.ensures.count at c.then_cycle.ensures in
+    same (and_then c.cycles.invariant drawn) (text_more (cycle_elements c.args.layout (length c.args.run.now.names)) c.cycles.cycle)
+
+pub returns : goal.returns
+returns g c =
+    let all : c.cycles.cycle ≡ length c.args.run.now.rows = omega arith in
+    rw all at c.cycles.invariant

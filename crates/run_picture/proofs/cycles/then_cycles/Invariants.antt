@@ -1,0 +1,9 @@
+use Rattle.std.proofs.Common.{flat_map}
+use Rattle.run_report.specs.Gathering.{Gathers}
+use Rattle.svg_text.specs.Elements.{element_text}
+use Rattle.run_picture.specs.Elements.{cycles_elements}
+use Rattle.run_picture.proofs.cycles.then_cycles.Given as goal
+
+abbrev pub invariant-cycles : goal.invariant-cycles
+invariant-cycles g l = Gathers (g.O.Sink.written l.fn.out) (g.O.Sink.written l.out) (g.O.Sink.faults l.fn.out) (g.O.Sink.faults l.out)
+    l.fn.line l.line (flat_map element_text (cycles_elements l.layout l.run l.cycle))

@@ -1,0 +1,9 @@
+use Rattle.run_report.specs.Gathering.{Gathers}
+use Rattle.run_picture.specs.Drawn.{lane}
+use Rattle.run_picture.specs.Elements.{shown_elements}
+use Rattle.run_picture.proofs.Going.{drawn_text}
+use Rattle.run_picture.proofs.shown.then_lane.Given as goal
+
+abbrev pub invariant-cycles : goal.invariant-cycles
+invariant-cycles g l = Gathers (g.O.Sink.written l.fn.out) (g.O.Sink.written l.out) (g.O.Sink.faults l.fn.out) (g.O.Sink.faults l.out)
+    l.fn.line l.line (drawn_text (shown_elements l.layout) (lane l.run l.column l.cycle))

@@ -1,0 +1,10 @@
+use Rattle.std.proofs.Common.{length}
+use Rattle.run_report.specs.Gathering.{Gathers}
+use Rattle.run_picture.specs.Drawn.{each_below, lane}
+use Rattle.run_picture.specs.Elements.{shown_elements}
+use Rattle.run_picture.proofs.Going.{drawn_text}
+use Rattle.run_picture.proofs.shown.then_lanes.Given as goal
+
+abbrev pub invariant-columns : goal.invariant-columns
+invariant-columns g l = Gathers (g.O.Sink.written l.fn.out) (g.O.Sink.written l.out) (g.O.Sink.faults l.fn.out) (g.O.Sink.faults l.out)
+    l.fn.line l.line (drawn_text (shown_elements l.layout) (each_below (λ column. lane l.run column (length l.run.rows)) l.column))

@@ -1,0 +1,9 @@
+pub mod Answers
+pub mod Drawn
+pub mod Elements
+pub mod Ending
+pub mod Printed
+pub mod RunOf
+pub mod Told
+pub mod Values
+pub mod Whole

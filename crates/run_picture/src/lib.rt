@@ -1,0 +1,26 @@
+//! A run as a timing diagram: what a run printed is read back, and drawn in SVG.
+//!
+//! A text is a run where its records, as `csv` gives them, are the lines that a run prints: the header,
+//! a row for each cycle, and the last line. A picture has a lane for each column, with each value once,
+//! in its cycle.
+#![tactic(auto)]
+
+mod cycles;
+mod ending;
+mod fault;
+mod header;
+mod laws;
+mod layout;
+mod lines;
+mod picture;
+mod row_table;
+mod run;
+mod shown;
+mod values;
+
+pub use ending::{Ending, Mark};
+pub use fault::RunFault;
+pub use laws::{a_printed_run_is_read_back, a_run_is_drawn_whole, last_lines_are_known};
+pub use layout::Layout;
+pub use picture::write_waves;
+pub use run::{Run, read_run};

@@ -1,0 +1,122 @@
+//! The lines of a run behind its header.
+
+ghost use Rattle.std.specs.Prelude.{◌≡◌, ◌<◌, ◌≤◌, ◌+◌, ◌^◌, List, ℕ, Some, drop, length, IfOk};
+ghost use Rattle.csv.specs.Records.{fields_of};
+ghost use Rattle.vcp_base.specs.Limits.{most_cycles, most_names};
+ghost use Rattle.run_picture.specs.Answers.{Answers};
+ghost use Rattle.run_picture.specs.RunOf.{line_of, row_line, last_line, last_of, told_from};
+ghost use Rattle.run_picture.specs.Told.{Tells, IfRow, HasWidth};
+
+use crate::ending::{Ending, mark_of};
+use crate::fault::RunFault;
+use crate::row_table::RowTable;
+use crate::values::values;
+use csv::ByteRecord;
+use input_rows::{Records, field};
+use itoa::Buffer;
+use std::alloc::Global;
+use vcp_base::{MOST_CYCLES, Row, Text};
+
+// A line behind the header.
+#[derive(Drop)]
+pub(crate) enum Line {
+    // The values of a cycle.
+    Row(Row),
+    // The last line.
+    Last(Ending),
+}
+
+// The row of a cycle. The record begins with the cycle's number.
+fn row_line_of(alloc: Global, cells: &ByteRecord, width: u32, cycle: u32) -> Result<Line, RunFault>
+    requires cells { 0 < length (fields_of cells.now) }
+    requires names { width ≤ most_names }
+    requires cycle { cycle ≤ most_cycles }
+    ensures line { Answers (row_line width cycle (drop 1 (fields_of cells.now))) result }
+    ensures width { IfOk result (λ line. IfRow line (λ row. length row ≡ width)) }
+    ensures cycle { IfOk result (λ line. cycle < most_cycles) }
+{
+    if cycle >= MOST_CYCLES {
+        return Err(RunFault::Cycles);
+    }
+    if cells.len() != width as usize + 1 {
+        return Err(RunFault::Width { record: cycle + 2 });
+    }
+    Ok(Line::Row(values(alloc, cycle + 2, cells)?))
+}
+
+// The last line, which is one cell.
+fn last_line_of(alloc: Global, text: &[u8], cells: usize, cycle: u32) -> Result<Ending, RunFault>
+    requires cycle { cycle ≤ most_cycles }
+    ensures { (more : List (List ℕ)) → cells ≡ length more + 1 → Answers (last_line cycle text.now more) result }
+{
+    if cells == 1 {
+        if let Some(mark) = mark_of(cycle, text) {
+            let text = Text::copy_of(alloc, text)?;
+            return Ok(Ending { mark, text });
+        }
+    }
+    Err(RunFault::Line { record: cycle + 2 })
+}
+
+// The line that stands where the row of a cycle may stand.
+fn read_line(alloc: Global, cells: &ByteRecord, width: u32, cycle: u32) -> Result<Line, RunFault>
+    requires names { width ≤ most_names }
+    requires cycle { cycle ≤ most_cycles }
+    ensures line { Answers (line_of width cycle (fields_of cells.now)) result }
+    ensures width { IfOk result (λ line. IfRow line (λ row. (length row ≡ width) × (cycle < most_cycles))) }
+{
+    if cells.len() == 0 {
+        return Err(RunFault::Line { record: cycle + 2 });
+    }
+    let first = field(cells, 0);
+    if first == Buffer::new().format(cycle).as_bytes() {
+        row_line_of(alloc, cells, width, cycle)
+    } else {
+        Ok(Line::Last(last_line_of(alloc, first, cells.len(), cycle)?))
+    }
+}
+
+// The last line, where nothing stands behind it.
+fn last(
+    records: &mut Records<'_>,
+    cells: &mut ByteRecord,
+    number: u32,
+    ending: Ending,
+) -> Result<Ending, RunFault>
+    requires { number < 2 ^ 31 }
+    ensures { (left : List (List (List ℕ))) → records.old ≡ Some left → Answers (last_of number ending left) result }
+{
+    if records.next(cells)? {
+        return Err(RunFault::Rest { record: number + 1 });
+    }
+    Ok(ending)
+}
+
+/// The rows and the last line that records tell, under a header of so many names.
+pub(crate) fn read_lines(
+    alloc: Global,
+    records: &mut Records<'_>,
+    cells: &mut ByteRecord,
+    width: u32,
+) -> Result<(RowTable, Ending), RunFault>
+    requires names { width ≤ most_names }
+    ensures told { (left : List (List (List ℕ))) → records.old ≡ Some left → Tells (told_from width 0 left) result }
+    ensures width { IfOk result (λ told. HasWidth width told.0) }
+    ensures few { IfOk result (λ told. length told.0 ≤ most_cycles) }
+{
+    let mut rows = RowTable::new(alloc);
+    let mut cycle = 0u32;
+    'lines: while records.next(cells)? {
+        match read_line(alloc, cells, width, cycle)? {
+            Line::Row(row) => {
+                rows.push(row)?;
+                cycle += 1;
+            }
+            Line::Last(ending) => {
+                let ending = last(records, cells, cycle + 2, ending)?;
+                return Ok((rows, ending));
+            }
+        }
+    }
+    Err(RunFault::End)
+}

@@ -1,0 +1,37 @@
+//! The timing diagram of a run.
+
+ghost use Rattle.std.specs.Prelude.{◌≡◌, ℕ, List};
+ghost use Rattle.vcp_outside.specs.Written.{Writes};
+ghost use Rattle.run_picture.specs.Elements.{waves_text, IsPictureOf};
+
+use crate::cycles::{then_cycles, then_ending, then_names, then_style};
+use crate::layout::{Layout, layout_for, start, top};
+use crate::run::Run;
+use crate::shown::then_lanes;
+use svg_text::{begin_picture, end_picture};
+use vcp_outside::{Failed, Sink};
+
+// Writes the timing diagram of a run in a layout.
+fn write_in<O: Sink>(out: &mut O, layout: Layout, run: &Run) -> Result<(), Failed>
+    ensures { Writes (O.written out.old) (O.written out.new) (O.faults out.old) (O.faults out.new) (waves_text layout run.now) result }
+{
+    let width = start(layout, run.cycles()) + layout.room as u64;
+    let height = top(run.columns()) + 24;
+    let mut line = begin_picture(out, width, height);
+    then_style(&mut line, out);
+    then_cycles(&mut line, out, layout, run);
+    then_names(&mut line, out, run);
+    then_lanes(&mut line, out, layout, run);
+    then_ending(&mut line, out, layout, run);
+    end_picture(line, out)
+}
+
+/// Writes the timing diagram of a run: each value once, in its column and its cycle, columns of 0 and 1
+/// as levels and others as numbers; the columns' names, the cycles, and the end. It takes no memory.
+/// After `Failed` a part of the picture is written.
+pub fn write_waves<O: Sink>(out: &mut O, run: &Run) -> Result<(), Failed>
+    ensures { (text : List ℕ) × IsPictureOf run.now text
+        × Writes (O.written out.old) (O.written out.new) (O.faults out.old) (O.faults out.new) text result }
+{
+    write_in(out, layout_for(run), run)
+}

@@ -1,0 +1,111 @@
+//! A run as it was printed.
+
+ghost use Rattle.std.specs.Prelude.{◌≡◌, ◌≢◌, ◌<◌, ◌≤◌, length, slice_get, Ok, Err, Some, IfOk, IfErr};
+ghost use Rattle.vcp_base.specs.Limits.{most_cycles, most_names};
+ghost use Rattle.run_picture.specs.Drawn.{value_at};
+ghost use Rattle.run_picture.specs.RunOf.{run_of, ends_a_line as ends_a_line_of};
+
+use crate::ending::Ending;
+use crate::fault::RunFault;
+use crate::header::names;
+use crate::lines::read_lines;
+use crate::row_table::RowTable;
+use csv::ByteRecord;
+use input_rows::Records;
+use std::alloc::Global;
+use std::marker::Model;
+use vcp_base::{Text, Words};
+
+/// A run: the names of its outputs, at most 1,024; the values of each cycle, at most 1,000,000, in the
+/// order of the names; and how it ended.
+#[derive(Debug, Drop)]
+pub struct Run {
+    names: Words,
+    rows: RowTable,
+    ending: Ending,
+}
+
+impl Model for Run {
+    ghost use Rattle.std.specs.Prelude.{◌≡◌, ◌≤◌, length};
+    ghost use Rattle.vcp_base.specs.Limits.{most_cycles, most_names};
+    ghost use Rattle.run_picture.specs.RunOf.{Recorded};
+    ghost use Rattle.run_picture.specs.Told.{HasWidth};
+
+    ghost Value = { Recorded };
+
+    ghost view = { λ r. record { names = r.names; rows = r.rows; ending = r.ending } };
+
+    ghost invariant = { λ r. (length r.names ≤ most_names) × (length r.rows ≤ most_cycles) × HasWidth (length r.names) r.rows };
+}
+
+// Whether the last byte is LF.
+fn ends_a_line(text: &[u8]) -> bool
+    ensures { result ≡ ends_a_line_of text.now }
+{
+    !text.is_empty() && text[text.len() - 1] == b'\n'
+}
+
+/// The run that a text tells. `Memory` where there is no room for it: a value takes 8 bytes, and a row
+/// some 40 more.
+pub fn read_run(alloc: Global, text: &[u8]) -> Result<Run, RunFault>
+    ensures run { IfOk result (λ run. run_of text.now ≡ Ok run) }
+    ensures fault { IfErr result (λ f. f ≢ RunFault.Memory → run_of text.now ≡ Err f) }
+{
+    let mut records = Records::new(alloc, text);
+    let mut cells = ByteRecord::new(alloc);
+    if !records.next(&mut cells)? {
+        return Err(RunFault::Header);
+    }
+    let names = names(alloc, &cells)?;
+    let (rows, ending) = read_lines(alloc, &mut records, &mut cells, names.len() as u32)?;
+    if !ends_a_line(text) {
+        return Err(RunFault::Cut);
+    }
+    Ok(Run {
+        names,
+        rows,
+        ending,
+    })
+}
+
+impl Run {
+    /// How many columns there are.
+    pub fn columns(&self) -> u32
+        ensures count { result ≡ length self.now.names }
+        ensures few { result ≤ most_names }
+    {
+        self.names.len() as u32
+    }
+
+    /// How many cycles there are.
+    pub fn cycles(&self) -> u32
+        ensures count { result ≡ length self.now.rows }
+        ensures few { result ≤ most_cycles }
+    {
+        self.rows.len() as u32
+    }
+
+    /// The name of a column, counted from 0.
+    pub fn name(&self, column: u32) -> &Text
+        requires { column < length self.now.names }
+        ensures { slice_get self.now.names column ≡ Some result.now }
+    {
+        self.names.at(column as usize)
+    }
+
+    /// The value in a column in a cycle, both counted from 0.
+    pub fn value(&self, column: u32, cycle: u32) -> i64
+        requires column { column < length self.now.names }
+        requires cycle { cycle < length self.now.rows }
+        ensures { result ≡ value_at self.now column cycle }
+    {
+        self.rows.at(cycle as usize).at(column as usize)
+    }
+
+    /// How it ended.
+    pub fn ending(&self) -> &Ending
+        ensures { result.now ≡ self.now.ending }
+    {
+        &self.ending
+    }
+}
