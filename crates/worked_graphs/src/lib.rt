@@ -2,7 +2,7 @@
 #![tactic(auto)]
 
 mod graphs;
-mod listing;
+mod lines;
 
 pub use graphs::{counter, increment, on_dint};
-pub use listing::listing;
+pub use lines::listing;
