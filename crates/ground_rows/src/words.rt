@@ -25,8 +25,8 @@ fn cycles(rows: &RowsWord<'_>) -> u32 {
     }
 }
 
-/// A command as the table tells it: its name, with the cycles, the seed or the cycle, and the step that it
-/// has, and 0 for those that it hasn't.
+/// A command as the table tells it: its name, with the cycles or the number of a made program, the seed or
+/// the cycle, and the step that it has, and 0 for those that it hasn't.
 fn told(command: &Command<'_>) -> (&'static str, u32, u32, u16) {
     match command {
         Command::Check { .. } => ("check", 0, 0, 0),
@@ -40,6 +40,7 @@ fn told(command: &Command<'_>) -> (&'static str, u32, u32, u16) {
         Command::Widen { .. } => ("widen", 0, 0, 0),
         Command::Audit { horizon, .. } => ("audit", *horizon, 0, 0),
         Command::Inject { rows, .. } => ("inject", cycles(rows), 0, 0),
+        Command::Demo { number } => ("demo", *number, 0, 0),
     }
 }
 
@@ -63,6 +64,10 @@ audit m 1001 => none
 inject m --cycles 5 f => inject 5 0 0
 inject m r => none
 inject m r f f => none
+demo 007 => demo 7 0 0
+demo 4294967295 => demo 4294967295 0 0
+demo 4294967296 => none
+demo 1 1 => none
 format p.st => format 0 0 0
 plain p.st in.csv => plain 0 0 0
 plain p.st --cycles 0000000003 => plain 3 0 0
