@@ -54,7 +54,7 @@ fn holding(alloc: Global, graph: &Graph) -> Result<MemFiles, Memory> {
 fn words_get_their_statuses(rt: HostRuntime) -> Result<(), Fail> {
     let alloc = rt.alloc();
     let mut files = holding(alloc, &increment(alloc)?)?;
-    let usage = b"usage: vcp_draw graph M HORIZON\n";
+    let usage = b"usage: vcp_draw graph M HORIZON or waves FILE\n";
     assert!(rt; refuses(alloc, &[], &mut files, 4, usage)?);
     assert!(rt; refuses(alloc, &[b"graph", b"m.img", b"1001"], &mut files, 4, usage)?);
     assert!(rt; refuses(alloc, &[b"graph", b"-m", b"1"], &mut files, 4, usage)?);
