@@ -11,16 +11,20 @@ use worked_programs::{cells, same, word_off, words_of};
 
 /// Words => the status, and the line of errors. An image stands under `m.img`, and a source under `p.st`.
 const ANSWERS: &str = "\
-graph => 4 usage: vcp_draw graph M HORIZON
-draw m.img 0 => 4 usage: vcp_draw graph M HORIZON
-graph m.img => 4 usage: vcp_draw graph M HORIZON
-graph m.img 1001 => 4 usage: vcp_draw graph M HORIZON
-graph m.img -1 => 4 usage: vcp_draw graph M HORIZON
-graph -m 1 => 4 usage: vcp_draw graph M HORIZON
-graph m.img 1 2 => 4 usage: vcp_draw graph M HORIZON
+graph => 4 usage: vcp_draw graph M HORIZON or waves FILE
+draw m.img 0 => 4 usage: vcp_draw graph M HORIZON or waves FILE
+graph m.img => 4 usage: vcp_draw graph M HORIZON or waves FILE
+graph m.img 1001 => 4 usage: vcp_draw graph M HORIZON or waves FILE
+graph m.img -1 => 4 usage: vcp_draw graph M HORIZON or waves FILE
+graph -m 1 => 4 usage: vcp_draw graph M HORIZON or waves FILE
+graph m.img 1 2 => 4 usage: vcp_draw graph M HORIZON or waves FILE
 graph no.img 0 => 5 no.img read fault
 graph p.st 0 => 1 p.st:0 I1 Magic
 graph m.img 1000 => 0
+waves => 4 usage: vcp_draw graph M HORIZON or waves FILE
+waves -m => 4 usage: vcp_draw graph M HORIZON or waves FILE
+waves no.csv => 5 no.csv read fault
+waves p.st => 1 p.st:1 R1 Header
 ";
 
 /// Whether a row's words get its status and its line, and a picture alone where there is no line.

@@ -4,8 +4,9 @@
 use run_picture::{RunFault, read_run, write_waves};
 use std::alloc::Global;
 use std::test::Fail;
-use vcp_base::Memory;
-use vcp_outside::MemSink;
+use vcp_base::{Memory, Words};
+use vcp_draw_core::vcp_draw;
+use vcp_outside::{MemFiles, MemSink};
 
 /// Whether a text is refused with this fault.
 fn is_refused(alloc: Global, text: &[u8], fault: RunFault) -> bool {
@@ -201,6 +202,50 @@ fn other_texts_are_refused(rt: HostRuntime) -> Result<(), Fail> {
             b"cycle,y\n0,1\nend 1\nend 1\n",
             RunFault::Rest { record: 4 }
         )
+    );
+    Ok(())
+}
+
+/// Whether `waves` with this name has this status, and this line.
+fn answers(
+    alloc: Global,
+    files: &mut MemFiles,
+    name: &[u8],
+    status: u8,
+    line: &[u8],
+) -> Result<bool, Memory> {
+    let mut words = Words::new(alloc);
+    words.push(b"waves")?;
+    words.push(name)?;
+    let mut out = MemSink::new(alloc, 8000)?;
+    let mut err = MemSink::new(alloc, 200)?;
+    let given = vcp_draw(alloc, &words, files, &mut out, &mut err);
+    Ok(given == status && err.bytes() == line && (status == 0) == out.bytes().starts_with(b"<svg "))
+}
+
+#[test]
+fn files_are_drawn_or_refused(rt: HostRuntime) -> Result<(), Fail> {
+    let alloc = rt.alloc();
+    let mut files = MemFiles::new(alloc);
+    files.put(b"run", STOPPED)?;
+    files.put(b"cut", b"cycle,y\n0,1\nend 1")?;
+    files.put(b"cell", b"cycle,y\n0,+1\nend 1\n")?;
+    files.put(b"line", b"cycle,y\n1,1\nend 1\n")?;
+    files.put(b"half", b"cycle,y\n0,1\n1,")?;
+    assert!(rt; answers(alloc, &mut files, b"run", 0, b"")?);
+    assert!(rt; answers(alloc, &mut files, b"cut", 1, b"cut W4 Cut\n")?);
+    assert!(rt; answers(alloc, &mut files, b"cell", 1, b"cell:2:2 R3 Cell\n")?);
+    assert!(rt; answers(alloc, &mut files, b"line", 1, b"line:2 W1 Line\n")?);
+    assert!(rt; answers(alloc, &mut files, b"half", 1, b"half:3:2 R3 Cell\n")?);
+    assert!(rt; answers(alloc, &mut files, b"none", 5, b"none read fault\n")?);
+    assert!(rt;
+        answers(
+            alloc,
+            &mut files,
+            b"-run",
+            4,
+            b"usage: vcp_draw graph M HORIZON or waves FILE\n"
+        )?
     );
     Ok(())
 }

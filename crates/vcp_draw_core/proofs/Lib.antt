@@ -1,1 +1,3 @@
+mod Lines
 mod Reaching
+pub mod RunReaching

@@ -5,8 +5,9 @@ use Rattle.vcp_outside.specs.Counts.{Rose}
 use Rattle.vcp_outside.specs.Held.{Held}
 use Rattle.vcp_outside.specs.Written.{AppendsPart}
 use Rattle.vcp_draw_core.specs.declared.fault.Fault.{Fault}
-use Rattle.vcp_draw_core.specs.Forms.{Form, graph, usage_text}
+use Rattle.vcp_draw_core.specs.Forms.{Form, graph, waves, usage_text}
 use Rattle.vcp_draw_core.specs.Reach.{Reaches, fault_text, fault_status}
+use Rattle.vcp_draw_core.specs.RunReach.{ReachesRun}
 
 -- the line was printed with this status, or the sink of the errors failed in it, with status 6
 abbrev pub TellsLine : List ℕ → ℕ → Option (List ℕ) → Option (List ℕ) → ℕ → ℕ → ℕ → Type 0
@@ -25,3 +26,5 @@ Ends name old new faults_old faults_new status (Err e) = TellsLine (fault_text n
 abbrev pub Answered : Form → Held → Option (List ℕ) → Option (List ℕ) → Option (List ℕ) → Option (List ℕ) → ℕ → ℕ → ℕ → ℕ → ℕ → Type 0
 Answered (graph m horizon) held out_old out_new err_old err_new faults_old faults_new b n status =
     (result : Result (Unit {0}) Fault) × Reaches m horizon held out_old out_new b n result × Ends m err_old err_new faults_old faults_new status result
+Answered (waves file) held out_old out_new err_old err_new faults_old faults_new b n status =
+    (result : Result (Unit {0}) Fault) × ReachesRun file held out_old out_new b n result × Ends file err_old err_new faults_old faults_new status result

@@ -6,9 +6,10 @@ use Rattle.vcp_words.specs.Forms.{name_and_rest, horizon_and_rest, is_end}
 use Rattle.vcp_draw_core.specs.declared.command.Command.{Command}
 use Rattle.vcp_draw_core.specs.declared.command.Command.TheVariants as command
 
--- a command with its words: M is an image's name; then HORIZON
+-- a command with its words: M is an image's name, FILE a file's; then HORIZON
 pub data Form : Type 0 where
   graph : List ℕ → ℕ → Form
+  waves : List ℕ → Form
 
 -- a command, where no words are left
 abbrev pub at_end : Form → List (List ℕ) → Option Form
@@ -18,21 +19,27 @@ at_end f words = cond (is_end words) (Some f) None
 abbrev pub graph_form : List (List ℕ) → Option Form
 graph_form words = option_and_then (λ m. option_and_then (λ h. at_end (graph m.0 h.0) h.1) (horizon_and_rest m.1)) (name_and_rest words)
 
+-- the word of `waves`: FILE
+abbrev pub waves_form : List (List ℕ) → Option Form
+waves_form words = option_and_then (λ f. at_end (waves f.0) f.1) (name_and_rest words)
+
 -- the command that words say, a line a form
 abbrev pub form_of : List (List ℕ) → Option Form
 form_of [] = None
 form_of (w ∷ words) =
     cond (bytes_eq w (codes "graph")) (graph_form words)
-    None
+    (cond (bytes_eq w (codes "waves")) (waves_form words) None)
 
 -- a command, as a form
 abbrev pub form : Command → Form
 form (command.Graph image horizon) = graph image.now horizon
+form (command.Waves file) = waves file.now
 
 -- a horizon is within its limit
 abbrev pub IsSound : Form → Type 0
 IsSound (graph m horizon) = horizon ≤ most_horizon
+IsSound (waves file) = Unit {0}
 
 -- the usage line
 abbrev pub usage_text : List ℕ
-usage_text = codes "usage: vcp_draw graph M HORIZON\n"
+usage_text = codes "usage: vcp_draw graph M HORIZON or waves FILE\n"

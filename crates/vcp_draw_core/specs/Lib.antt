@@ -1,3 +1,5 @@
 pub mod Answered
 pub mod Forms
 pub mod Reach
+pub mod RunLines
+pub mod RunReach

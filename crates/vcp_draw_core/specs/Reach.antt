@@ -15,6 +15,7 @@ use Rattle.vcp_inputs.specs.Files.{IsRefused}
 use Rattle.vcp_inputs.specs.Images.{ImageOf, NotImage}
 use Rattle.vcp_inputs.specs.Lines.{memory_text, write_fault_text, input_text, input_status}
 use Rattle.graph_picture.specs.Elements.{IsPictureOf}
+use Rattle.vcp_draw_core.specs.RunLines.{run_text}
 use Rattle.vcp_draw_core.specs.declared.fault.Fault.{Fault}
 use Rattle.vcp_draw_core.specs.declared.fault.Fault.TheVariants as fault
 
@@ -49,20 +50,24 @@ Reaches name horizon held old new b n (Ok _) = (text : List ℕ) × IsDrawn held
 Reaches name horizon held old new b n (Err (fault.Source i)) = Lost name horizon held b n i × Appends old new []
 Reaches name horizon held old new b n (Err fault.Write) = (text : List ℕ) × IsDrawn held name horizon text × AppendsPart old new text
 Reaches name horizon held old new b n (Err fault.Memory) = Appends old new []
+Reaches name horizon held old new b n (Err (fault.NoRun f)) = ⊥
 
 -- the file couldn't be begun or read
 abbrev pub IsUnread : Fault → Type 0
 IsUnread (fault.Source i) = i ≡ input.Unread
 IsUnread fault.Write = ⊥
 IsUnread fault.Memory = ⊥
+IsUnread (fault.NoRun f) = ⊥
 
 -- the line of a fault, and the status
 abbrev pub fault_text : List ℕ → Fault → List ℕ
 fault_text name (fault.Source i) = input_text name i
 fault_text name fault.Write = write_fault_text
 fault_text name fault.Memory = memory_text
+fault_text name (fault.NoRun f) = run_text name f
 
 abbrev pub fault_status : Fault → ℕ
 fault_status (fault.Source i) = input_status i
 fault_status fault.Write = 6
 fault_status fault.Memory = 7
+fault_status (fault.NoRun f) = 1

@@ -2,7 +2,7 @@
 
 ghost use Rattle.std.specs.Prelude.{◌≡◌, IfSome};
 ghost use Rattle.std.specs.Option.{option_map};
-ghost use Rattle.vcp_draw_core.specs.Forms.{form, form_of, graph_form, IsSound};
+ghost use Rattle.vcp_draw_core.specs.Forms.{form, form_of, graph_form, waves_form, IsSound};
 
 use vcp_base::{Text, Words};
 use vcp_words::WordsLeft;
@@ -17,6 +17,11 @@ pub enum Command<'a> {
         /// The greatest number of cycle borders, at most 1000.
         horizon: u32,
     },
+    /// `waves FILE`: the timing diagram of a run that was printed.
+    Waves {
+        /// The name of the file.
+        file: &'a Text,
+    },
 }
 
 /// The command that the words say; None where they are none of the forms.
@@ -28,6 +33,9 @@ pub fn command_of(words: &Words) -> Option<Command<'_>>
     let command = left.next()?.bytes();
     if command == b"graph".as_slice() {
         return graph_words(&mut left);
+    }
+    if command == b"waves".as_slice() {
+        return waves_words(&mut left);
     }
     None
 }
@@ -44,4 +52,16 @@ fn graph_words<'a>(words: &mut WordsLeft<'a>) -> Option<Command<'a>>
     } else {
         None
     }
+}
+
+/// The word of `waves`: FILE.
+fn waves_words<'a>(words: &mut WordsLeft<'a>) -> Option<Command<'a>>
+    ensures form { option_map form result ≡ waves_form words.old }
+    ensures sound { IfSome result (λ command. IsSound (form command)) }
+{
+    let file = words.name()?;
+    if !words.is_end() {
+        return None;
+    }
+    Some(Command::Waves { file })
 }

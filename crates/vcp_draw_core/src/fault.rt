@@ -3,6 +3,7 @@
 ghost use Rattle.std.specs.Prelude.{◌≡◌};
 ghost use Rattle.vcp_draw_core.specs.declared.fault.Fault.TheVariants as fault;
 
+use run_picture::RunFault;
 use vcp_base::Memory;
 use vcp_inputs::NoInput;
 use vcp_outside::Failed;
@@ -16,6 +17,8 @@ pub enum Fault {
     Write,
     /// An allocation failed.
     Memory,
+    /// The file is no run.
+    NoRun(RunFault),
 }
 
 impl From<Failed> for Fault {

@@ -6,6 +6,7 @@ mod fault;
 mod graph;
 mod telling;
 mod top;
+mod waves;
 
 pub use command::{Command, command_of};
 pub use top::vcp_draw;

@@ -3,17 +3,22 @@
 ghost use Rattle.std.specs.Prelude.{◌≡◌};
 ghost use Rattle.vcp_outside.specs.Written.{Writes};
 ghost use Rattle.vcp_draw_core.specs.Forms.{usage_text};
+ghost use Rattle.vcp_inputs.specs.Lines.{rows_text, place_text};
+ghost use Rattle.vcp_draw_core.specs.RunLines.{run_text};
 ghost use Rattle.vcp_draw_core.specs.Reach.{fault_text, fault_status as status_of_fault};
 
 use crate::fault::Fault;
-use vcp_inputs::{input_status, tell_input};
+use input_rows::RowFault;
+use run_picture::RunFault;
+use run_report::Line;
+use vcp_inputs::{Refusal, input_status, tell_input, tell_of, tell_refusal};
 use vcp_outside::{Failed, Sink, write_all};
 
 /// Prints the usage line.
 pub fn tell_usage<E: Sink>(err: &mut E) -> Result<(), Failed>
     ensures { Writes (E.written err.old) (E.written err.new) (E.faults err.old) (E.faults err.new) usage_text result }
 {
-    write_all(err, b"usage: vcp_draw graph M HORIZON\n")
+    write_all(err, b"usage: vcp_draw graph M HORIZON or waves FILE\n")
 }
 
 /// Prints the line of a fault of a command on the file under a name.
@@ -24,7 +29,53 @@ pub fn tell<E: Sink>(err: &mut E, name: &[u8], fault: &Fault) -> Result<(), Fail
         Fault::Source(input) => tell_input(err, name, input),
         Fault::Write => write_all(err, b"write fault\n"),
         Fault::Memory => write_all(err, b"no memory\n"),
+        Fault::NoRun(why) => tell_no_run(err, name, *why),
     }
+}
+
+/// Prints the line of a file that is no run.
+fn tell_no_run<E: Sink>(err: &mut E, name: &[u8], why: RunFault) -> Result<(), Failed>
+    ensures { Writes (E.written err.old) (E.written err.new) (E.faults err.old) (E.faults err.new) (run_text name.now why) result }
+{
+    match why {
+        RunFault::Header => tell_rows(err, name, RowFault::Header),
+        RunFault::Names => tell_of(err, name, b":1 L3 Names"),
+        RunFault::Line { record } => tell_record(err, name, record, b"W1 Line"),
+        RunFault::Width { record } => tell_rows(err, name, RowFault::Width { row: record }),
+        RunFault::Cell { record, column } => tell_rows(
+            err,
+            name,
+            RowFault::Cell {
+                row: record,
+                column,
+            },
+        ),
+        RunFault::Cycles => tell_rows(err, name, RowFault::Cycles),
+        RunFault::End => tell_of(err, name, b" W2 End"),
+        RunFault::Rest { record } => tell_record(err, name, record, b"W3 Rest"),
+        RunFault::Cut => tell_of(err, name, b" W4 Cut"),
+        RunFault::Memory => write_all(err, b"no memory\n"),
+    }
+}
+
+/// Prints the line of what rows are refused for too.
+fn tell_rows<E: Sink>(err: &mut E, name: &[u8], why: RowFault) -> Result<(), Failed>
+    ensures { Writes (E.written err.old) (E.written err.new) (E.faults err.old) (E.faults err.new) (rows_text name.now why) result }
+{
+    tell_refusal(err, name, &Refusal::Rows(why))
+}
+
+/// Prints a line of a record, and what is said of it.
+fn tell_record<E: Sink>(err: &mut E, name: &[u8], number: u32, what: &[u8]) -> Result<(), Failed>
+    ensures { Writes (E.written err.old) (E.written err.new) (E.faults err.old) (E.faults err.new) (place_text name.now number what.now) result }
+{
+    let mut line = Line::new();
+    line.text(err, name);
+    line.text(err, b":");
+    line.count(err, number as u64);
+    line.text(err, b" ");
+    line.text(err, what);
+    line.end(err)
 }
 
 /// The status of a fault whose line was printed.
@@ -35,5 +86,6 @@ pub fn fault_status(fault: &Fault) -> u8
         Fault::Source(input) => input_status(input),
         Fault::Write => 6,
         Fault::Memory => 7,
+        Fault::NoRun(_) => 1,
     }
 }

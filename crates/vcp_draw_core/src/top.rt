@@ -4,12 +4,13 @@ ghost use Rattle.std.specs.Prelude.{◌≡◌, ◌≢◌, ◌≤◌, ◌⊎◌, 
 ghost use Rattle.std.specs.Io.KnownBytes.{IsAtEnd};
 ghost use Rattle.vcp_outside.specs.Counts.{Rose};
 ghost use Rattle.vcp_base.specs.Limits.{most_horizon};
-ghost use Rattle.vcp_draw_core.specs.Forms.{form, form_of, graph, IsSound};
+ghost use Rattle.vcp_draw_core.specs.Forms.{form, form_of, graph, waves, IsSound};
 ghost use Rattle.vcp_draw_core.specs.Answered.{Answered, TellsUsage};
 
 use crate::command::{Command, command_of};
 use crate::graph::graph_command;
 use crate::telling::{fault_status, tell, tell_usage};
+use crate::waves::waves_command;
 use std::alloc::Global;
 use vcp_base::{Text, Words};
 use vcp_outside::{Failed, Files, Sink};
@@ -76,6 +77,7 @@ fn serve<F: Files, O: Sink, E: Sink>(
 {
     match command {
         Command::Graph { image, horizon } => serve_graph(alloc, image, *horizon, files, out, err),
+        Command::Waves { file } => serve_waves(alloc, file, files, out, err),
     }
 }
 
@@ -101,6 +103,32 @@ fn serve_graph<F: Files, O: Sink, E: Sink>(
     match graph_command(alloc, image, horizon, files, out) {
         Ok(()) => 0,
         Err(fault) => match tell(err, image.bytes(), &fault) {
+            Ok(()) => fault_status(&fault),
+            Err(Failed) => 6,
+        },
+    }
+}
+
+/// Does what the words `waves FILE` say and, where it ends by a fault, tells the fault's line.
+fn serve_waves<F: Files, O: Sink, E: Sink>(
+    alloc: Global,
+    file: &Text,
+    files: &mut F,
+    out: &mut O,
+    err: &mut E,
+) -> u8
+    ensures answered { IfSome (F.held files.old) (λ h. Answered (waves file.now) h (O.written out.old) (O.written out.new)
+        (E.written err.old) (E.written err.new) (E.faults err.old) (E.faults err.new) (F.broken files.old) (F.broken files.new) result) }
+    ensures no_usage { result ≢ 4 }
+    ensures known { result ≤ 7 }
+    ensures held { F.held files.new ≡ F.held files.old }
+    ensures ended { result ≡ 0 → IsAtEnd (F.rest files.new) }
+    ensures read { result ≡ 5 → Rose (F.faults files.old) (F.faults files.new) }
+    ensures write { result ≡ 6 → Rose (O.faults out.old) (O.faults out.new) ⊎ Rose (E.faults err.old) (E.faults err.new) }
+{
+    match waves_command(alloc, file, files, out) {
+        Ok(()) => 0,
+        Err(fault) => match tell(err, file.bytes(), &fault) {
             Ok(()) => fault_status(&fault),
             Err(Failed) => 6,
         },
