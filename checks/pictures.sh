@@ -1,11 +1,13 @@
 #!/bin/sh
-# Draws the level crossing anew: its graph, across at most two cycle borders, docs/crossing_graph.svg. With VCP=FILE and
-# VCP_DRAW=FILE before it other programs than the built ones are taken.
+# Draws the level crossing anew: its run on its rows, docs/crossing_waves.svg, and its graph across at most two cycle borders,
+# docs/crossing_graph.svg. With VCP=FILE and VCP_DRAW=FILE before it other programs than the built ones are taken.
 top=$(CDPATH='' cd -- "$(dirname -- "$0")/.." && pwd) || exit 1
 vcp=${VCP:-$top/vcp}
 draw=${VCP_DRAW:-$top/vcp_draw}
 work=$(mktemp -d) || exit 1
 trap 'rm -rf "$work"' EXIT
+"$vcp" run "$top/examples/crossing.st" "$top/examples/crossing.csv" >"$work/run.csv" || exit 1
+"$draw" waves "$work/run.csv" >"$work/waves.svg" || exit 1
 "$vcp" compile "$top/examples/crossing.st" >"$work/crossing.img" || exit 1
 "$draw" graph "$work/crossing.img" 2 >"$work/graph.svg" || exit 1
-cp "$work/graph.svg" "$top/docs/crossing_graph.svg"
+cp "$work/waves.svg" "$top/docs/crossing_waves.svg" && cp "$work/graph.svg" "$top/docs/crossing_graph.svg"

@@ -27,8 +27,8 @@ waves no.csv => 5 no.csv read fault
 waves p.st => 1 p.st:1 R1 Header
 ";
 
-/// Whether a row's words get its status and its line, and a picture alone where there is no line.
-fn is_answered(alloc: Global, files: &mut MemFiles, row: &str) -> Result<(), Fail> {
+/// Fails where a row's words don't get its status and its line, and a picture alone where there is no line.
+pub fn is_answered(alloc: Global, files: &mut MemFiles, row: &str) -> Result<(), Fail> {
     let (words, wanted) = cells(row);
     let (command, behind) = word_off(words);
     let (status, line) = word_off(wanted);
