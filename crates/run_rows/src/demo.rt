@@ -64,7 +64,7 @@ fn sums_up(alloc: Global, word: &str, number: u32) -> Result<(), Fail> {
 }
 
 #[test]
-fn demo_sums_up_what_plain_prints(rt: &mut Runtime) -> Result<(), Fail> {
+fn demo_sums_up_what_plain_prints(rt: HostRuntime) -> Result<(), Fail> {
     sums_up(rt.alloc(), "1", 1)?;
     sums_up(rt.alloc(), "007", 7)?;
     sums_up(rt.alloc(), "4294967295", 4294967295)
@@ -87,6 +87,6 @@ $ demo 1 1
 ";
 
 #[test]
-fn demo_takes_one_number_of_32_bits(rt: &mut Runtime) -> Result<(), Fail> {
+fn demo_takes_one_number_of_32_bits(rt: HostRuntime) -> Result<(), Fail> {
     play(rt.alloc(), &mut MemFiles::new(rt.alloc()), NO_NUMBERS)
 }
