@@ -3,12 +3,14 @@
 #
 # Names: all that docs/PROMISES.md and docs/ARCHITECTURE.md name is there, and each public call is listed (promised_names.py).
 # Commands: what documents show is what the program prints (transcripts.sh), and the runs of examples/ are those shown there (examples.sh).
+# Pictures: those in docs/ are what vcp_draw draws (pictures.sh).
 #
-# It uses the program that is built, or that of VCP=FILE, and builds none. What a missing tool would do is left out. Its status is 1 where
+# It uses the programs that are built, or those of VCP=FILE and VCP_DRAW=FILE, and builds none. What a missing tool would do is left out. Its status is 1 where
 # something differs, and else 0.
 here=$(CDPATH='' cd -- "$(dirname -- "$0")" && pwd) || exit 1
 VCP=${VCP:-$here/../crates/vcp/out/vcp}
-export VCP
+VCP_DRAW=${VCP_DRAW:-$here/../crates/vcp_draw/out/vcp_draw}
+export VCP VCP_DRAW
 status=0
 
 if command -v python3 >/dev/null 2>&1; then
@@ -19,6 +21,9 @@ fi
 if [ -x "$VCP" ]; then
     "$here/transcripts.sh" || status=1
     "$here/examples.sh" || status=1
+    if [ -x "$VCP_DRAW" ]; then
+        "$here/pictures.sh" --check || status=1
+    fi
 else
     echo "documents: no command is run, since no program is built"
 fi

@@ -1,13 +1,21 @@
 #!/bin/sh
 # Draws the level crossing anew: its run on its rows, docs/crossing_waves.svg, and its graph across at most two cycle borders,
-# docs/crossing_graph.svg. With VCP=FILE and VCP_DRAW=FILE before it other programs than the built ones are taken.
+# docs/crossing_graph.svg. With --check it compares them with what it draws, and its status is 1 where they differ. With VCP=FILE and
+# VCP_DRAW=FILE before it other programs than the built ones are taken.
 top=$(CDPATH='' cd -- "$(dirname -- "$0")/.." && pwd) || exit 1
 vcp=${VCP:-$top/vcp}
 draw=${VCP_DRAW:-$top/vcp_draw}
 work=$(mktemp -d) || exit 1
 trap 'rm -rf "$work"' EXIT
 "$vcp" run "$top/examples/crossing.st" "$top/examples/crossing.csv" >"$work/run.csv" || exit 1
-"$draw" waves "$work/run.csv" >"$work/waves.svg" || exit 1
+"$draw" waves "$work/run.csv" >"$work/crossing_waves.svg" || exit 1
 "$vcp" compile "$top/examples/crossing.st" >"$work/crossing.img" || exit 1
-"$draw" graph "$work/crossing.img" 2 >"$work/graph.svg" || exit 1
-cp "$work/waves.svg" "$top/docs/crossing_waves.svg" && cp "$work/graph.svg" "$top/docs/crossing_graph.svg"
+"$draw" graph "$work/crossing.img" 2 >"$work/crossing_graph.svg" || exit 1
+if [ "${1:-}" = --check ]; then
+    for picture in crossing_waves.svg crossing_graph.svg; do
+        cmp "$work/$picture" "$top/docs/$picture" || exit 1
+    done
+    echo "pictures: docs/ has what is drawn"
+else
+    cp "$work/crossing_waves.svg" "$work/crossing_graph.svg" "$top/docs/"
+fi
