@@ -84,8 +84,9 @@ fn a_full_output_is_told(rt: HostRuntime) -> Result<(), Fail> {
 
 /// The operation, the first two operands, the correction, the stamp and the answer of a call, where there is one.
 fn told(unit: &LogUnit, i: u32) -> Option<(u32, [i128; 2], u64, u32, i128)> {
-    match unit.entry(i) {
-        Some((call, Answer::Word(word))) => Some((
+    let (call, answer) = unit.entry(i)?;
+    match answer {
+        Answer::Word(word) => Some((
             call.op,
             [call.a.get(), call.b.get()],
             call.corr,

@@ -1,6 +1,7 @@
 //! Pictures of programs' graphs: how many boxes and lines there are, by the programs' listings, and how many boxes are grey and red, by
 //! their audits.
 
+use crate::counts::times_in;
 use coded_unit::CpuUnit;
 use std::alloc::Global;
 use std::test::Fail;
@@ -30,17 +31,6 @@ const DIFFERENCE: &[u8] =
 const CELL: &[u8] =
     b"PROGRAM p VAR_INPUT x : DINT; END_VAR VAR n : DINT; END_VAR n := n + x; END_PROGRAM";
 
-/// How often a piece stands in a text.
-fn count(text: &[u8], piece: &[u8]) -> usize {
-    let mut count = 0;
-    for i in 0..text.len() {
-        if text[i..].starts_with(piece) {
-            count += 1;
-        }
-    }
-    count
-}
-
 /// The picture of the graph of a program's image.
 fn picture(
     alloc: Global,
@@ -63,10 +53,10 @@ fn is_drawn(alloc: Global, files: &mut MemFiles, row: &str) -> Result<(), Fail> 
     let (program, wanted) = cells(row);
     let (source, horizon) = word_off(program);
     let out = picture(alloc, files, source, horizon)?;
-    let boxes = count(out.bytes(), b"<rect data-operation=");
-    let lines = count(out.bytes(), b"<line data-operand=");
-    let grey = count(out.bytes(), b"class=\"unreached\" x=");
-    let red = count(out.bytes(), b"class=\"blind\" x=");
+    let boxes = times_in(&out, "<rect data-operation=");
+    let lines = times_in(&out, "<line data-operand=");
+    let grey = times_in(&out, "class=\"unreached\" x=");
+    let red = times_in(&out, "class=\"blind\" x=");
     same(&format!(in alloc; "{boxes} {lines} {grey} {red}")?, wanted)
 }
 

@@ -2,6 +2,7 @@
 //! of the layout: a name's character takes 7 pixels, a column's lane 44.
 
 use crate::answers::is_answered;
+use crate::counts::times;
 use run_picture::{read_run, write_waves};
 use std::alloc::Global;
 use std::test::Fail;
@@ -60,11 +61,6 @@ fn a_stopped_run_is_drawn_as_this(rt: HostRuntime) -> Result<(), Fail> {
     let (told, picture) = drawn(rt.alloc(), STOPPED)?;
     same(&told, "2 2 Stopped true")?;
     same(&picture, STOPPED_PICTURE)
-}
-
-/// How often a part stands in a text.
-fn times(text: &str, part: &str) -> usize {
-    text.split(part).count().saturating_sub(1)
 }
 
 #[test]
