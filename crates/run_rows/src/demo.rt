@@ -53,14 +53,11 @@ fn sums_up(alloc: Global, word: &str, number: u32) -> Result<(), Fail> {
         word,
     )?;
     same(str::from_utf8(demo.out.bytes()).unwrap_or(""), &line)?;
-    same(
-        if printed.ends_with("end 1000\n") {
-            "ended"
-        } else {
-            printed
-        },
-        "ended",
-    )
+    if printed.ends_with("end 1000\n") {
+        Ok(())
+    } else {
+        Err(Fail::new(printed))
+    }
 }
 
 #[test]
