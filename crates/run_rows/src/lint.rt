@@ -180,11 +180,12 @@ fn the_code_is_wide_exactly_where_lint_is_met(rt: HostRuntime) -> Result<(), Fai
     all_coded(rt.alloc(), CODES)
 }
 
-/// The word that was answered to a call; 0 where there is none.
-fn word(unit: &LogUnit, i: u32) -> i128 {
-    match unit.entry(i) {
-        Some((_, Answer::Word(word))) => word.get(),
-        _ => 0,
+/// The operation and the answered word of a call, where there is one.
+fn told(unit: &LogUnit, i: u32) -> Option<(u32, i128)> {
+    let (call, answer) = unit.entry(i)?;
+    match answer {
+        Answer::Word(word) => Some((call.op, word.get())),
+        _ => None,
     }
 }
 
@@ -202,7 +203,9 @@ fn six_for_five_in_four_wide_words(rt: HostRuntime) -> Result<(), Fail> {
         "p.st in.csv --seed 0",
     )?;
     assert!(rt; is(&given, (b"cycle,y\n0,6\nend 1\n", b"", 0)));
-    assert!(rt; word(&unit, 0) == 11529215046068469756 && word(&unit, 1) == 3228180212899171533);
-    assert!(rt; word(&unit, 2) == 14526810958046271893 && word(&unit, 3) == 14296226657124902498);
+    assert!(rt; told(&unit, 0) == Some((0, 11529215046068469756)));
+    assert!(rt; told(&unit, 1) == Some((1, 3228180212899171533)));
+    assert!(rt; told(&unit, 2) == Some((2, 14526810958046271893)));
+    assert!(rt; told(&unit, 3) == Some((3, 14296226657124902498)));
     Ok(())
 }

@@ -9,8 +9,9 @@ use worked_programs::{ADD, COUNTER, Gives, call, is};
 
 /// The operation, the answered word, the correction and the stamp of a call, where there is one.
 fn told(unit: &LogUnit, i: u32) -> Option<(u32, i128, u64, u32)> {
-    match unit.entry(i) {
-        Some((call, Answer::Word(word))) => Some((call.op, word.get(), call.corr, call.stamp)),
+    let (call, answer) = unit.entry(i)?;
+    match answer {
+        Answer::Word(word) => Some((call.op, word.get(), call.corr, call.stamp)),
         _ => None,
     }
 }
