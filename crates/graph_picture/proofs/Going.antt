@@ -4,7 +4,7 @@ use Rattle.std.proofs.lemmas.Grind.{flat_map-append}
 use Rattle.std.proofs.lemmas.List.{append-nil}
 use Rattle.run_report.specs.Gathering.{Gathered, Gathers}
 use Rattle.svg_text.specs.Elements.{Element, element_text}
-use Rattle.graph_picture.specs.Drawn.{each_below}
+use Rattle.svg_text.specs.Drawing.{each_below}
 
 -- nothing
 pub unmoved : {a : Option (List ℕ)} {f : ℕ} {l : Gathered} → Gathers a a f f l l []

@@ -10,7 +10,8 @@ use Rattle.audit_report.specs.AuditText.{TellsBlind}
 use Rattle.graph_picture.specs.declared.layout.Place.{Place}
 use Rattle.graph_picture.specs.Arrangement.{place_at}
 use Rattle.graph_picture.specs.Colours.{colour_of}
-use Rattle.graph_picture.specs.Drawn.{each_below, box_of, box_drawn, box_at, boxes_below}
+use Rattle.svg_text.specs.Drawing.{each_below}
+use Rattle.graph_picture.specs.Drawn.{box_of, box_drawn, box_at, boxes_below}
 use Rattle.graph_picture.specs.Whole.{DrawsOperations}
 use Rattle.graph_picture.proofs.Seen.{coloured_so}
 

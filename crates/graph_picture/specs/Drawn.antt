@@ -12,6 +12,7 @@ use Rattle.op_graph.specs.Reads.{named}
 use Rattle.op_graph.specs.Rules.{reads_as}
 use Rattle.weight_audit.specs.Audit.{Audit}
 use Rattle.run_report.specs.OutputNames.{output_name}
+use Rattle.svg_text.specs.Drawing.{each_below}
 use Rattle.graph_picture.specs.declared.colours.Colour.{Colour}
 use Rattle.graph_picture.specs.declared.layout.Place.{Place}
 use Rattle.graph_picture.specs.Arrangement.{place_at}
@@ -32,11 +33,6 @@ pub record Wire : Type 0 where
   pub which : ℕ
   pub from : Place
   pub to : Place
-
--- what f gives for each number below n, in order
-abbrev pub each_below : {X : Type 0} → (ℕ → List X) → ℕ → List X
-each_below f zero = []
-each_below f (suc n) = each_below f n ++ f n
 
 -- ---- names
 

@@ -89,21 +89,21 @@ cycle,y\\n0,1\\nstop 1 DIVZERO 12:7 I=3 J=-4\\n => 0
 cycle,y\\nrefused 0 y found 1 expected 2\\n => 0
  => 1 f:1 R1 Header
 cycl,y\\nend 0\\n => 1 f:1 R1 Header
-cycle,y\\n => 1 f W2 End
-cycle,y\\n0,1\\n1,2 => 1 f W2 End
+cycle,y\\n => 1 f V2 End
+cycle,y\\n0,1\\n1,2 => 1 f V2 End
 cycle,y\\n0,1\\n1, => 1 f:3:2 R3 Cell
-cycle,y\\n0,1\\nen => 1 f:3 W1 Line
-cycle,y\\n0,1\\nend 1 => 1 f W4 Cut
-cycle,y\\n0,1\\nend 2\\n => 1 f:3 W1 Line
-cycle,y\\n0,1\\nstop 0 RANGE 1:1\\n => 1 f:3 W1 Line
-cycle,y\\n1,1\\nend 1\\n => 1 f:2 W1 Line
-cycle,y\\n0,1\\n01,1\\nend 2\\n => 1 f:3 W1 Line
+cycle,y\\n0,1\\nen => 1 f:3 V1 Line
+cycle,y\\n0,1\\nend 1 => 1 f V4 Cut
+cycle,y\\n0,1\\nend 2\\n => 1 f:3 V1 Line
+cycle,y\\n0,1\\nstop 0 RANGE 1:1\\n => 1 f:3 V1 Line
+cycle,y\\n1,1\\nend 1\\n => 1 f:2 V1 Line
+cycle,y\\n0,1\\n01,1\\nend 2\\n => 1 f:3 V1 Line
 cycle,y\\n0,1,2\\nend 1\\n => 1 f:2 R2 Width
 cycle,y,z\\n0,1,01\\nend 1\\n => 1 f:2:3 R3 Cell
 cycle,y\\n0,-0\\nend 1\\n => 1 f:2:2 R3 Cell
 cycle,y\\n0,+1\\nend 1\\n => 1 f:2:2 R3 Cell
 cycle,y\\n0,9223372036854775808\\nend 1\\n => 1 f:2:2 R3 Cell
-cycle,y\\n0,1\\nend 1\\nend 1\\n => 1 f:4 W3 Rest
+cycle,y\\n0,1\\nend 1\\nend 1\\n => 1 f:4 V3 Rest
 ";
 
 #[test]

@@ -1,11 +1,10 @@
 -- Going: one piece of a text behind another.
-use Rattle.std.proofs.Common.{◌≡◌, ℕ, zero, suc, ◌+◌, List, [], ◌∷◌, ◌++◌, Option, refl, append_assoc, flat_map, ◌∙◌, ap, add-one, arith, Bool, true, false, cond}
+use Rattle.std.proofs.Common.{◌≡◌, ℕ, zero, suc, ◌+◌, List, [], ◌∷◌, ◌++◌, Option, refl, append_assoc, flat_map, ◌∙◌, ap, add-one, Bool, true, false, cond}
 use Rattle.std.proofs.lemmas.Grind.{flat_map-append}
 use Rattle.std.proofs.lemmas.List.{append-nil}
-use Rattle.std.specs.List.{range_with_len}
 use Rattle.run_report.specs.Gathering.{Gathered, Gathers}
 use Rattle.svg_text.specs.Elements.{Element, element_text}
-use Rattle.run_picture.specs.Drawn.{each_below}
+use Rattle.svg_text.specs.Drawing.{each_below}
 
 -- ---- pieces
 
@@ -24,14 +23,8 @@ same gathers e start before text is = rw e (gathers start before text is)
 
 -- ---- things in order
 
-each_from : {X : Type 0} (f : ℕ → List X) (a n : ℕ) → flat_map f (range_with_len a (suc n)) ≡ flat_map f (range_with_len a n) ++ f (a + n)
-each_from f a zero = let here : a + 0 ≡ a = omega arith in rw here (append-nil (f a))
-each_from f a (suc n) =
-    let next : a + 1 + n ≡ a + suc n = omega arith in
-    ap (λ t. f a ++ t) (each_from f (a + 1) n) ∙ rw (next, append_assoc (f a) (flat_map f (range_with_len (a + 1) n)) (f (a + suc n))) refl
-
 pub each_suc : {X : Type 0} (f : ℕ → List X) (n : ℕ) → each_below f (suc n) ≡ each_below f n ++ f n
-each_suc f n = let here : 0 + n ≡ n = omega arith in rw here at (each_from f 0 n)
+each_suc f n = refl
 
 pub each_more : {X : Type 0} (f : ℕ → List X) (n : ℕ) → each_below f (n + 1) ≡ each_below f n ++ f n
 each_more f n = rw (add-one n) (each_suc f n)

@@ -4,7 +4,8 @@ use Rattle.std.proofs.lemmas.List.{append-nil}
 use Rattle.std.proofs.lemmas.Bool.Decides.{nat_tests}
 use Rattle.run_picture.specs.declared.shown.Shown.{Shown}
 use Rattle.run_picture.specs.RunOf.{Recorded}
-use Rattle.run_picture.specs.Drawn.{each_below, shown, lane, lanes}
+use Rattle.svg_text.specs.Drawing.{each_below}
+use Rattle.run_picture.specs.Drawn.{shown, lane, lanes}
 use Rattle.run_picture.specs.Whole.{is_in, drawn_in, IsWhole}
 use Rattle.run_picture.proofs.Going.{each_suc}
 

@@ -1,6 +1,7 @@
 -- WholeText: no element of a picture has an attribute twice.
 use Rattle.std.proofs.Common.{◌≡◌, ℕ, zero, suc, List, [], ◌∷◌, ◌++◌, flat_map, length, refl, Bool, true, false, cond, not, ◌&&◌, ◌||◌, ◌==◌}
-use Rattle.std.specs.List.{AllByRecursion, range_with_len}
+use Rattle.std.specs.List.{AllByRecursion}
+use Rattle.svg_text.specs.Drawing.{each_below}
 use Rattle.svg_text.specs.Elements.{Element}
 use Rattle.svg_text.specs.WellFormed.{HasEachOnce}
 use Rattle.run_picture.specs.declared.layout.Layout.{Layout}
@@ -20,6 +21,10 @@ all_both (x ∷ xs) ys h k = (h.0, all_both xs ys h.1 k)
 all_flat : {X : Type 0} (f : X → List Element) → ((x : X) → All (f x)) → (xs : List X) → All (flat_map f xs)
 all_flat f each [] = tt
 all_flat f each (x ∷ xs) = all_both (f x) (flat_map f xs) (each x) (all_flat f each xs)
+
+all_below : (f : ℕ → List Element) → ((n : ℕ) → All (f n)) → (n : ℕ) → All (each_below f n)
+all_below f each zero = tt
+all_below f each (suc n) = all_both (each_below f n) (f n) (all_below f each n) (each n)
 
 of_value : (l : Layout) (s : Shown) (b : Bool) → HasEachOnce (cond b (level_element l s) (number_element l s))
 of_value l s true = refl
@@ -42,6 +47,6 @@ each_once l run =
     let cycles = length run.rows in
     let ends : All (ending_elements l columns cycles run.ending) = (refl, (refl, tt)) in
     let values : All (flat_map (shown_elements l) (lanes run)) = all_flat (shown_elements l) (of_shown l) (lanes run) in
-    let names : All (names_elements run columns) = all_flat (λ column. name_element run column ∷ []) (λ column. (refl, tt)) (range_with_len 0 columns) in
-    let drawn : All (cycles_elements l run cycles) = all_flat (cycle_elements l columns) (λ cycle. (refl, (refl, tt))) (range_with_len 0 cycles) in
+    let names : All (names_elements run columns) = all_below (λ column. name_element run column ∷ []) (λ column. (refl, tt)) columns in
+    let drawn : All (cycles_elements l run cycles) = all_below (cycle_elements l columns) (λ cycle. (refl, (refl, tt))) cycles in
     (refl, all_both _ _ drawn (all_both _ _ names (all_both _ _ values ends)))

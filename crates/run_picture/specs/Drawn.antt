@@ -1,13 +1,9 @@
 -- Drawn: what is drawn of the values of a run: each value once, in its column and its cycle.
-use Rattle.std.specs.Prelude.{ℕ, zero, suc, ◌+◌, ◌-◌, ◌==◌, Bool, true, false, ◌&&◌, ◌||◌, not, nat_lt, List, [], ◌∷◌, length, flat_map, slice_index_or, ℤ, pos}
-use Rattle.std.specs.List.{range_with_len}
+use Rattle.std.specs.Prelude.{ℕ, zero, suc, ◌+◌, ◌-◌, ◌==◌, Bool, true, false, ◌&&◌, ◌||◌, not, nat_lt, List, [], ◌∷◌, length, slice_index_or, ℤ, pos}
 use Rattle.std.specs.Ordering.{int_eq}
+use Rattle.svg_text.specs.Drawing.{each_below}
 use Rattle.run_picture.specs.declared.shown.Shown.{Shown}
 use Rattle.run_picture.specs.RunOf.{Recorded}
-
--- what f gives for each number below n, in order
-abbrev pub each_below : {X : Type 0} → (ℕ → List X) → ℕ → List X
-each_below f n = flat_map f (range_with_len 0 n)
 
 -- the value in a column in a cycle
 abbrev pub value_at : Recorded → ℕ → ℕ → ℤ

@@ -12,7 +12,8 @@ use Rattle.run_picture.specs.declared.ending.Ending.{Ending}
 use Rattle.run_picture.specs.declared.layout.Layout.{Layout}
 use Rattle.run_picture.specs.declared.shown.Shown.{Shown}
 use Rattle.run_picture.specs.RunOf.{Recorded}
-use Rattle.run_picture.specs.Drawn.{each_below, lanes}
+use Rattle.run_picture.specs.Drawn.{lanes}
+use Rattle.svg_text.specs.Drawing.{each_below}
 
 -- the distance of a cycle's begin from the left, and of a column's upper side from above
 abbrev pub start_of : Layout → ℕ → ℕ

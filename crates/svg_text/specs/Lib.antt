@@ -1,3 +1,4 @@
 pub mod Characters
+pub mod Drawing
 pub mod Elements
 pub mod WellFormed

@@ -3,15 +3,14 @@
 ghost use Rattle.std.specs.Prelude.{◌≡◌};
 ghost use Rattle.vcp_outside.specs.Written.{Writes};
 ghost use Rattle.vcp_draw_core.specs.Forms.{usage_text};
-ghost use Rattle.vcp_inputs.specs.Lines.{rows_text, place_text};
+ghost use Rattle.vcp_inputs.specs.Lines.{rows_text};
 ghost use Rattle.vcp_draw_core.specs.RunLines.{run_text};
 ghost use Rattle.vcp_draw_core.specs.Reach.{fault_text, fault_status as status_of_fault};
 
 use crate::fault::Fault;
 use input_rows::RowFault;
 use run_picture::RunFault;
-use run_report::Line;
-use vcp_inputs::{Refusal, input_status, tell_input, tell_of, tell_refusal};
+use vcp_inputs::{Refusal, input_status, tell_input, tell_of, tell_place, tell_refusal};
 use vcp_outside::{Failed, Sink, write_all};
 
 /// Prints the usage line.
@@ -40,7 +39,7 @@ fn tell_no_run<E: Sink>(err: &mut E, name: &[u8], why: RunFault) -> Result<(), F
     match why {
         RunFault::Header => tell_rows(err, name, RowFault::Header),
         RunFault::Names => tell_of(err, name, b":1 L3 Names"),
-        RunFault::Line { record } => tell_record(err, name, record, b"W1 Line"),
+        RunFault::Line { record } => tell_place(err, name, record, b"V1 Line"),
         RunFault::Width { record } => tell_rows(err, name, RowFault::Width { row: record }),
         RunFault::Cell { record, column } => tell_rows(
             err,
@@ -51,9 +50,9 @@ fn tell_no_run<E: Sink>(err: &mut E, name: &[u8], why: RunFault) -> Result<(), F
             },
         ),
         RunFault::Cycles => tell_rows(err, name, RowFault::Cycles),
-        RunFault::End => tell_of(err, name, b" W2 End"),
-        RunFault::Rest { record } => tell_record(err, name, record, b"W3 Rest"),
-        RunFault::Cut => tell_of(err, name, b" W4 Cut"),
+        RunFault::End => tell_of(err, name, b" V2 End"),
+        RunFault::Rest { record } => tell_place(err, name, record, b"V3 Rest"),
+        RunFault::Cut => tell_of(err, name, b" V4 Cut"),
         RunFault::Memory => write_all(err, b"no memory\n"),
     }
 }
@@ -63,19 +62,6 @@ fn tell_rows<E: Sink>(err: &mut E, name: &[u8], why: RowFault) -> Result<(), Fai
     ensures { Writes (E.written err.old) (E.written err.new) (E.faults err.old) (E.faults err.new) (rows_text name.now why) result }
 {
     tell_refusal(err, name, &Refusal::Rows(why))
-}
-
-/// Prints a line of a record, and what is said of it.
-fn tell_record<E: Sink>(err: &mut E, name: &[u8], number: u32, what: &[u8]) -> Result<(), Failed>
-    ensures { Writes (E.written err.old) (E.written err.new) (E.faults err.old) (E.faults err.new) (place_text name.now number what.now) result }
-{
-    let mut line = Line::new();
-    line.text(err, name);
-    line.text(err, b":");
-    line.count(err, number as u64);
-    line.text(err, b" ");
-    line.text(err, what);
-    line.end(err)
 }
 
 /// The status of a fault whose line was printed.

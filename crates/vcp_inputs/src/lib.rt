@@ -15,4 +15,4 @@ pub use refusal::{NoInput, Refusal};
 pub use rows::{RowsSource, load_rows};
 pub use scripts::load_script;
 pub use sources::{load_program, load_typed, typed_of};
-pub use telling::{input_status, tell_input, tell_of, tell_refusal};
+pub use telling::{input_status, tell_input, tell_of, tell_place, tell_refusal};

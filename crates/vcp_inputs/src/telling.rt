@@ -85,7 +85,7 @@ fn tell_at<E: Sink>(err: &mut E, name: &[u8], spot: Spot, what: &[u8]) -> Result
 }
 
 /// Prints a line of a number's place, as a record, an offset or a line of a script, and what is said of it.
-fn tell_place<E: Sink>(err: &mut E, name: &[u8], place: u32, what: &[u8]) -> Result<(), Failed>
+pub fn tell_place<E: Sink>(err: &mut E, name: &[u8], place: u32, what: &[u8]) -> Result<(), Failed>
     ensures { Writes (E.written err.old) (E.written err.new) (E.faults err.old) (E.faults err.new) (place_text name.now place what.now) result }
 {
     let mut line = Line::new();

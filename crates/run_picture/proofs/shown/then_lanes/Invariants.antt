@@ -1,6 +1,7 @@
 use Rattle.std.proofs.Common.{length}
 use Rattle.run_report.specs.Gathering.{Gathers}
-use Rattle.run_picture.specs.Drawn.{each_below, lane}
+use Rattle.run_picture.specs.Drawn.{lane}
+use Rattle.svg_text.specs.Drawing.{each_below}
 use Rattle.run_picture.specs.Elements.{shown_elements}
 use Rattle.run_picture.proofs.Going.{drawn_text}
 use Rattle.run_picture.proofs.shown.then_lanes.Given as goal
