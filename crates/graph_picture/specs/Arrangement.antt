@@ -18,13 +18,13 @@ place_at places n = slice_index_or places n first_place
 
 -- the size of a box, and the distances of its left and upper side, in pixels
 abbrev pub box_width : ℕ
-box_width = 54
+box_width = 96
 
 abbrev pub box_height : ℕ
 box_height = 50
 
 abbrev pub left_of : Place → ℕ
-left_of p = 8 + p.column * 66
+left_of p = 8 + p.column * 108
 
 abbrev pub top_of : Place → ℕ
 top_of p = 40 + p.row * 58

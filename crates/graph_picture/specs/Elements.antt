@@ -59,7 +59,7 @@ bar x y = element tag.Rect
 -- the bar of a cell: left of its LOAD, and right of its STORE
 abbrev pub cell_bar : Kind → Place → List Element
 cell_bar kind.Load p = bar (left_of p) (top_of p) ∷ []
-cell_bar kind.Store p = bar (left_of p + 50) (top_of p) ∷ []
+cell_bar kind.Store p = bar (left_of p + 92) (top_of p) ∷ []
 cell_bar _ p = []
 
 abbrev pub box_elements : Lists → Box → List Element

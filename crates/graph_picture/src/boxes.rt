@@ -42,7 +42,7 @@ fn then_outline<O: Sink>(line: &mut Line, out: &mut O, n: u32, colour: Colour, p
             (Name::Class, Piece::Bytes(class(colour))),
             (Name::X, Piece::Count(left(place))),
             (Name::Y, Piece::Count(top(place))),
-            (Name::Width, Piece::Count(54)),
+            (Name::Width, Piece::Count(96)),
             (Name::Height, Piece::Count(50)),
         ],
         &[],
@@ -166,7 +166,7 @@ fn then_cell_bar<O: Sink>(line: &mut Line, out: &mut O, kind: Kind, place: Place
 {
     match kind {
         Kind::Load => then_bar(line, out, left(place), top(place)),
-        Kind::Store => then_bar(line, out, left(place) + 50, top(place)),
+        Kind::Store => then_bar(line, out, left(place) + 92, top(place)),
         _ => {}
     }
 }

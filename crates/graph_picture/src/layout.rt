@@ -24,7 +24,7 @@ pub(crate) fn left(place: Place) -> u64
     ensures value { result ≡ left_of place }
     ensures few { result < 2 ^ 41 }
 {
-    8 + place.column as u64 * 66
+    8 + place.column as u64 * 108
 }
 
 /// The distance of a box from above, in pixels.
@@ -96,7 +96,7 @@ pub fn layout_of(alloc: Global, graph: &Graph) -> Result<Layout, Memory>
     let end = corner(places.as_slice());
     Ok(Layout {
         places,
-        width: with_legend(left(end) + 62),
+        width: with_legend(left(end) + 104),
         height: top(end) + 58,
     })
 }

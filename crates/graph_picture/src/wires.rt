@@ -37,7 +37,7 @@ fn then_line<O: Sink>(
             (Name::Operand, Piece::Count(operand as u64)),
             (Name::Reader, Piece::Count(reader as u64)),
             (Name::Place, Piece::Count(which as u64)),
-            (Name::X1, Piece::Count(left(from) + 54)),
+            (Name::X1, Piece::Count(left(from) + 96)),
             (Name::Y1, Piece::Count(top(from) + 25)),
             (Name::X2, Piece::Count(left(to))),
             (Name::Y2, Piece::Count(top(to) + 10 + which as u64 * 15)),

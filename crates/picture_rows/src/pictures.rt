@@ -1,5 +1,5 @@
 //! Pictures of graphs, as they are written. What is wanted was worked out by hand from the rules of the
-//! layout: a column is 66 wide and a row 58 high.
+//! layout: a column is 108 wide and a row 58 high.
 
 use graph_picture::{layout_of, write_picture};
 use op_graph::{Build, Graph, GraphBuilder};
@@ -38,22 +38,22 @@ const DIFFERENCE: &[u8] = b"\
 <text x=\"352\" y=\"20\">blind for the output that it names, so many cycles later</text>
 <rect x=\"672\" y=\"8\" width=\"14\" height=\"14\" class=\"cell\"></rect>
 <text x=\"692\" y=\"20\">a cell&#39;s LOAD (left) or STORE (right)</text>
-<line data-operand=\"0\" data-reader=\"1\" data-place=\"0\" x1=\"62\" y1=\"65\" x2=\"74\" y2=\"50\"></line>
-<line data-operand=\"0\" data-reader=\"1\" data-place=\"1\" x1=\"62\" y1=\"65\" x2=\"74\" y2=\"65\"></line>
-<line data-operand=\"1\" data-reader=\"2\" data-place=\"0\" x1=\"128\" y1=\"65\" x2=\"140\" y2=\"50\"></line>
-<rect data-operation=\"0\" class=\"blind\" x=\"8\" y=\"40\" width=\"54\" height=\"50\"></rect>
+<line data-operand=\"0\" data-reader=\"1\" data-place=\"0\" x1=\"104\" y1=\"65\" x2=\"116\" y2=\"50\"></line>
+<line data-operand=\"0\" data-reader=\"1\" data-place=\"1\" x1=\"104\" y1=\"65\" x2=\"116\" y2=\"65\"></line>
+<line data-operand=\"1\" data-reader=\"2\" data-place=\"0\" x1=\"212\" y1=\"65\" x2=\"224\" y2=\"50\"></line>
+<rect data-operation=\"0\" class=\"blind\" x=\"8\" y=\"40\" width=\"96\" height=\"50\"></rect>
 <text x=\"13\" y=\"52\">0 INPUT</text>
 <text x=\"13\" y=\"63\">x</text>
 <text x=\"13\" y=\"74\">at 4:8</text>
 <text x=\"13\" y=\"85\">y 0</text>
-<rect data-operation=\"1\" class=\"plain\" x=\"74\" y=\"40\" width=\"54\" height=\"50\"></rect>
-<text x=\"79\" y=\"52\">1 SUB</text>
-<text x=\"79\" y=\"63\"></text>
-<text x=\"79\" y=\"74\">at 4:8</text>
-<rect data-operation=\"2\" class=\"plain\" x=\"140\" y=\"40\" width=\"54\" height=\"50\"></rect>
-<text x=\"145\" y=\"52\">2 OUT</text>
-<text x=\"145\" y=\"63\">y</text>
-<text x=\"145\" y=\"74\">at 4:8</text>
+<rect data-operation=\"1\" class=\"plain\" x=\"116\" y=\"40\" width=\"96\" height=\"50\"></rect>
+<text x=\"121\" y=\"52\">1 SUB</text>
+<text x=\"121\" y=\"63\"></text>
+<text x=\"121\" y=\"74\">at 4:8</text>
+<rect data-operation=\"2\" class=\"plain\" x=\"224\" y=\"40\" width=\"96\" height=\"50\"></rect>
+<text x=\"229\" y=\"52\">2 OUT</text>
+<text x=\"229\" y=\"63\">y</text>
+<text x=\"229\" y=\"74\">at 4:8</text>
 </svg>
 ";
 
@@ -69,32 +69,32 @@ const COUNTER: &[u8] = b"\
 <text x=\"352\" y=\"20\">blind for the output that it names, so many cycles later</text>
 <rect x=\"672\" y=\"8\" width=\"14\" height=\"14\" class=\"cell\"></rect>
 <text x=\"692\" y=\"20\">a cell&#39;s LOAD (left) or STORE (right)</text>
-<line data-operand=\"0\" data-reader=\"2\" data-place=\"0\" x1=\"62\" y1=\"65\" x2=\"74\" y2=\"50\"></line>
-<line data-operand=\"1\" data-reader=\"2\" data-place=\"1\" x1=\"62\" y1=\"123\" x2=\"74\" y2=\"65\"></line>
-<line data-operand=\"2\" data-reader=\"3\" data-place=\"0\" x1=\"128\" y1=\"65\" x2=\"140\" y2=\"50\"></line>
-<line data-operand=\"2\" data-reader=\"4\" data-place=\"0\" x1=\"128\" y1=\"65\" x2=\"140\" y2=\"108\"></line>
-<rect data-operation=\"0\" class=\"plain\" x=\"8\" y=\"40\" width=\"54\" height=\"50\"></rect>
+<line data-operand=\"0\" data-reader=\"2\" data-place=\"0\" x1=\"104\" y1=\"65\" x2=\"116\" y2=\"50\"></line>
+<line data-operand=\"1\" data-reader=\"2\" data-place=\"1\" x1=\"104\" y1=\"123\" x2=\"116\" y2=\"65\"></line>
+<line data-operand=\"2\" data-reader=\"3\" data-place=\"0\" x1=\"212\" y1=\"65\" x2=\"224\" y2=\"50\"></line>
+<line data-operand=\"2\" data-reader=\"4\" data-place=\"0\" x1=\"212\" y1=\"65\" x2=\"224\" y2=\"108\"></line>
+<rect data-operation=\"0\" class=\"plain\" x=\"8\" y=\"40\" width=\"96\" height=\"50\"></rect>
 <text x=\"13\" y=\"52\">0 LOAD</text>
 <text x=\"13\" y=\"63\">n</text>
 <text x=\"13\" y=\"74\">at 3:5</text>
 <rect class=\"cell\" x=\"8\" y=\"40\" width=\"4\" height=\"50\"></rect>
-<rect data-operation=\"1\" class=\"plain\" x=\"8\" y=\"98\" width=\"54\" height=\"50\"></rect>
+<rect data-operation=\"1\" class=\"plain\" x=\"8\" y=\"98\" width=\"96\" height=\"50\"></rect>
 <text x=\"13\" y=\"110\">1 CONST</text>
 <text x=\"13\" y=\"121\">1</text>
 <text x=\"13\" y=\"132\">at 4:8</text>
-<rect data-operation=\"2\" class=\"plain\" x=\"74\" y=\"40\" width=\"54\" height=\"50\"></rect>
-<text x=\"79\" y=\"52\">2 ADD</text>
-<text x=\"79\" y=\"63\"></text>
-<text x=\"79\" y=\"74\">at 4:8</text>
-<rect data-operation=\"3\" class=\"plain\" x=\"140\" y=\"40\" width=\"54\" height=\"50\"></rect>
-<text x=\"145\" y=\"52\">3 OUT</text>
-<text x=\"145\" y=\"63\">y</text>
-<text x=\"145\" y=\"74\">at 3:5</text>
-<rect data-operation=\"4\" class=\"unreached\" x=\"140\" y=\"98\" width=\"54\" height=\"50\"></rect>
-<text x=\"145\" y=\"110\">4 STORE</text>
-<text x=\"145\" y=\"121\">n</text>
-<text x=\"145\" y=\"132\">at 3:5</text>
-<rect class=\"cell\" x=\"190\" y=\"98\" width=\"4\" height=\"50\"></rect>
+<rect data-operation=\"2\" class=\"plain\" x=\"116\" y=\"40\" width=\"96\" height=\"50\"></rect>
+<text x=\"121\" y=\"52\">2 ADD</text>
+<text x=\"121\" y=\"63\"></text>
+<text x=\"121\" y=\"74\">at 4:8</text>
+<rect data-operation=\"3\" class=\"plain\" x=\"224\" y=\"40\" width=\"96\" height=\"50\"></rect>
+<text x=\"229\" y=\"52\">3 OUT</text>
+<text x=\"229\" y=\"63\">y</text>
+<text x=\"229\" y=\"74\">at 3:5</text>
+<rect data-operation=\"4\" class=\"unreached\" x=\"224\" y=\"98\" width=\"96\" height=\"50\"></rect>
+<text x=\"229\" y=\"110\">4 STORE</text>
+<text x=\"229\" y=\"121\">n</text>
+<text x=\"229\" y=\"132\">at 3:5</text>
+<rect class=\"cell\" x=\"316\" y=\"98\" width=\"4\" height=\"50\"></rect>
 </svg>
 ";
 
