@@ -1,3 +1,2 @@
-mod Lines
 mod Reaching
 pub mod RunReaching
