@@ -1,5 +1,5 @@
 -- RunReaching: how far `waves` comes, from what reading its file gives.
-use Rattle.std.proofs.Common.{◌≡◌, ◌≤◌, ℕ, List, [], length, Option, Some, IfErr, Result, Ok, Err}
+use Rattle.std.proofs.Common.{◌≡◌, ◌≤◌, ℕ, List, length, Option, Some, IfErr, Result, Ok, Err}
 use Rattle.vcp_base.specs.Limits.{most_rows_bytes}
 use Rattle.vcp_outside.specs.Held.{Held}
 use Rattle.vcp_inputs.specs.declared.refusal.NoInput.{NoInput}
@@ -8,7 +8,7 @@ use Rattle.run_picture.specs.RunOf.{Recorded, run_of}
 use Rattle.vcp_draw_core.specs.declared.fault.Fault.{Fault}
 use Rattle.vcp_draw_core.specs.declared.fault.Fault.TheVariants as fault
 use Rattle.vcp_draw_core.specs.Reach.{IsUnread}
-use Rattle.vcp_draw_core.specs.RunReach.{IsNoRun, WritesRun, DrawsRun, DrawsFile, ReachesRun}
+use Rattle.vcp_draw_core.specs.RunReach.{IsNoRun, WritesRun, DrawsRun, ReachesRun}
 use Rattle.vcp_draw_core.proofs.Reaching.{appends-nothing}
 
 -- the run of a text is written

@@ -1,6 +1,6 @@
-use Rattle.std.proofs.Common.{refl, Err}
+use Rattle.std.proofs.Common.{refl}
 use Rattle.std.proofs.lemmas.Result.{err_from_is_err_and}
-use Rattle.vcp_draw_core.proofs.Reaching.{if_some_weaker, if_some_always, appends-nothing, lost, not_weighed, drawn, not_unread, not_write}
+use Rattle.vcp_draw_core.proofs.Reaching.{if_some_weaker, lost, not_weighed, drawn, not_unread, not_write}
 use Rattle.vcp_draw_core.proofs.graph.graph_command.Goals as goal
 
 pub returns-in-Err-clause-reaches : goal.returns-in-Err-clause-reaches
