@@ -1,26 +1,24 @@
 -- CsvLines: the records that `csv` gives of what a run prints.
-use Rattle.std.proofs.Common.{◌≡◌, ℕ, zero, suc, ◌+◌, ◌-◌, ◌^◌, ◌<◌, ◌≤◌, ◌==◌, ◌&&◌, ◌||◌, not, Bool, true, false, cond, List, [], ◌∷◌, ◌++◌, length, map, flat_map, get_or, refl, sym}
-use Rattle.std.proofs.Common.{ap, ◌∙◌, arith, add-one, append_assoc, length-append, Option, Some, None, Result, Ok, Err, ℤ, pos, negsuc, codes, decimal, if◌then◌else◌}
+use Rattle.std.proofs.Common.{◌≡◌, ℕ, zero, suc, ◌+◌, ◌-◌, ◌^◌, ◌<◌, ◌≤◌, ◌==◌, ◌||◌, not, Bool, true, false, List, [], ◌∷◌, ◌++◌, length, map, flat_map, get_or, refl, sym}
+use Rattle.std.proofs.Common.{ap, ◌∙◌, arith, add-one, append_assoc, length-append, Some, None, Ok, ℤ, pos, negsuc, codes, decimal}
 use Rattle.std.specs.Fmt.{signed_decimal}
-use Rattle.std.specs.List.{list_all, list_any}
+use Rattle.std.specs.List.{list_all}
 use Rattle.std.specs.Char.{is_ascii_digit}
 use Rattle.std.proofs.lemmas.Bool.Decides.{nat_tests}
 use Rattle.std.proofs.lemmas.List.{append-nil}
 use Rattle.std.proofs.lemmas.List.Folds.{flat_map-map}
-use Rattle.csv.specs.Machine.{next_record, Read}
+use Rattle.csv.specs.Machine.{next_record}
 use Rattle.csv.specs.Quoting.{needs_byte}
-use Rattle.csv.specs.Reading.{records_from, records_next, records, default_config, strip_bom}
-use Rattle.csv.specs.Writing.{row_text as csv_row, row_body, fields_text, field_text, needs_quotes, default_writer, is_blank, read_back}
-use Rattle.csv.specs.declared.parser.State.{State}
+use Rattle.csv.specs.Reading.{records_from, records, default_config, strip_bom}
+use Rattle.csv.specs.Writing.{row_text as csv_row, fields_text, field_text, needs_quotes, default_writer, is_blank}
 use Rattle.csv.specs.declared.parser.State.TheVariants as st
 use Rattle.csv.proofs.RoundTrip.{read-write}
 use Rattle.vcp_base.specs.Types.{fits}
 use Rattle.vcp_base.specs.declared.ty.Ty.TheVariants as ty
 use Rattle.run_report.specs.Lines.{name_cell, value_cell, header_text, row_text}
-use Rattle.run_picture.specs.declared.fault.RunFault.{RunFault}
 use Rattle.run_picture.specs.Ending.{mark_of}
 use Rattle.run_picture.specs.Printed.{rows_text, printed, is_plain, is_row, IsPrintable}
-use Rattle.run_picture.specs.RunOf.{Recorded, run_of, run_of_records, uncut, ends_a_line}
+use Rattle.run_picture.specs.RunOf.{Recorded, run_of, run_of_records, ends_a_line}
 use Rattle.run_picture.proofs.Numbers.{IsDigits, decimal_is, low, low_negative}
 use Rattle.run_picture.proofs.ReadBack.{parts, row_cells, line_records, run_records, records_read}
 

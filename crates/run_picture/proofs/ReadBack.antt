@@ -1,6 +1,6 @@
 -- ReadBack: the records of a run tell the run.
-use Rattle.std.proofs.Common.{◌≡◌, ℕ, zero, suc, ◌+◌, ◌^◌, ◌<◌, ◌≤◌, ◌==◌, ◌&&◌, Bool, true, false, cond, List, [], ◌∷◌, ◌++◌, length, map, get_or, refl, sym, ap, ◌∙◌, arith, add-one}
-use Rattle.std.proofs.Common.{Option, Some, None, Result, Ok, Err, ℤ, bytes_eq, codes, decimal, nat_lt, nat_le}
+use Rattle.std.proofs.Common.{◌≡◌, ℕ, suc, ◌+◌, ◌^◌, ◌<◌, ◌≤◌, ◌==◌, ◌&&◌, Bool, true, false, cond, List, [], ◌∷◌, length, map, refl, ap, ◌∙◌, arith}
+use Rattle.std.proofs.Common.{Option, Some, None, Result, Ok, ℤ, bytes_eq, codes, decimal, nat_lt, nat_le}
 use Rattle.std.specs.Fmt.{signed_decimal}
 use Rattle.std.specs.List.{list_all}
 use Rattle.std.specs.Char.{is_ascii_digit}
@@ -12,14 +12,13 @@ use Rattle.vcp_base.specs.Types.{fits}
 use Rattle.vcp_base.specs.declared.ty.Ty.TheVariants as ty
 use Rattle.run_picture.specs.declared.fault.RunFault.{RunFault}
 use Rattle.run_picture.specs.declared.ending.Mark.{Mark}
-use Rattle.run_picture.specs.declared.ending.Mark.TheVariants as mark
 use Rattle.run_picture.specs.declared.ending.Ending.{Ending}
 use Rattle.run_picture.specs.declared.lines.Line.{Line}
 use Rattle.run_picture.specs.declared.lines.Line.TheVariants as line
-use Rattle.run_picture.specs.Ending.{rest_behind, is_end, is_stop, is_refusal, mark_of}
+use Rattle.run_picture.specs.Ending.{mark_of}
 use Rattle.run_picture.specs.Printed.{is_row, IsPrintable}
-use Rattle.run_picture.specs.RunOf.{Recorded, Told, row_of_values, line_with, row_line, line_of, last_with, last_line, ended_with, told_from, run_of_records, names_of, run_with}
-use Rattle.run_picture.specs.Values.{printed_value, values_of}
+use Rattle.run_picture.specs.RunOf.{Recorded, row_of_values, line_with, row_line, line_of, last_with, last_line, ended_with, told_from, run_of_records}
+use Rattle.run_picture.specs.Values.{values_of}
 use Rattle.run_picture.proofs.Numbers.{IsDigits, decimal_is, value_is_read}
 
 -- ---- rows

@@ -1,6 +1,6 @@
 -- Reading: what is read so far, and one more.
-use Rattle.std.proofs.Common.{◌≡◌, ◌≢◌, ℕ, zero, suc, ◌+◌, ◌≤◌, ◌<◌, List, [], ◌∷◌, ◌++◌, length, drop, slice_get, Option, Some, None, Result, Ok, Err, ℤ, refl, sym, ap, ◌∙◌}
-use Rattle.std.proofs.Common.{append_assoc, add-one, arith, Bool, true, false, cond, codes, bytes_eq, nat_le}
+use Rattle.std.proofs.Common.{◌≡◌, ℕ, zero, suc, ◌+◌, ◌≤◌, ◌<◌, List, [], ◌∷◌, ◌++◌, length, drop, slice_get, Option, Some, None, Result, Ok, Err, ℤ, refl, ap, ◌∙◌}
+use Rattle.std.proofs.Common.{append_assoc, add-one, arith, true, false, codes, bytes_eq, nat_le}
 use Rattle.std.proofs.lemmas.List.{append-nil}
 use Rattle.std.proofs.lemmas.Bool.Decides.{nat_tests}
 use Rattle.input_rows.specs.RowsOf.{values_after}
@@ -8,10 +8,9 @@ use Rattle.vcp_base.specs.Limits.{most_names}
 use Rattle.run_picture.specs.declared.fault.RunFault.{RunFault}
 use Rattle.run_picture.specs.declared.fault.RunFault.TheVariants as fault
 use Rattle.run_picture.specs.declared.ending.Ending.{Ending}
-use Rattle.run_picture.specs.declared.lines.Line.{Line}
 use Rattle.run_picture.specs.declared.lines.Line.TheVariants as line
 use Rattle.run_picture.specs.Values.{printed_value, values_of, behind}
-use Rattle.run_picture.specs.RunOf.{Told, line_of, last_of, told_from, names_of, row_of_values}
+use Rattle.run_picture.specs.RunOf.{Told, line_of, last_of, told_from, names_of}
 
 -- ---- cells
 

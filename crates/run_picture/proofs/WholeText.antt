@@ -1,5 +1,5 @@
 -- WholeText: no element of a picture has an attribute twice.
-use Rattle.std.proofs.Common.{◌≡◌, ℕ, zero, suc, List, [], ◌∷◌, ◌++◌, flat_map, length, refl, Bool, true, false, cond, not, ◌&&◌, ◌||◌, ◌==◌}
+use Rattle.std.proofs.Common.{ℕ, zero, suc, List, [], ◌∷◌, ◌++◌, flat_map, length, refl, Bool, true, false, cond}
 use Rattle.std.specs.List.{AllByRecursion}
 use Rattle.svg_text.specs.Drawing.{each_below}
 use Rattle.svg_text.specs.Elements.{Element}

@@ -1,5 +1,5 @@
 -- Drawn: what is drawn of the values of a run: each value once, in its column and its cycle.
-use Rattle.std.specs.Prelude.{ℕ, zero, suc, ◌+◌, ◌-◌, ◌==◌, Bool, true, false, ◌&&◌, ◌||◌, not, nat_lt, List, [], ◌∷◌, length, slice_index_or, ℤ, pos}
+use Rattle.std.specs.Prelude.{ℕ, zero, suc, ◌-◌, Bool, true, ◌&&◌, ◌||◌, not, nat_lt, List, [], ◌∷◌, length, slice_index_or, ℤ, pos}
 use Rattle.std.specs.Ordering.{int_eq}
 use Rattle.svg_text.specs.Drawing.{each_below}
 use Rattle.run_picture.specs.declared.shown.Shown.{Shown}

@@ -1,6 +1,5 @@
 -- Printed: what a run prints, by the definitions of its lines.
-use Rattle.std.specs.Prelude.{◌≡◌, ◌≤◌, ℕ, ◌+◌, ◌==◌, Bool, true, ◌&&◌, ◌||◌, not, List, [], ◌∷◌, ◌++◌, length, map, codes, decimal, Some, ℤ}
-use Rattle.std.specs.Fmt.{signed_decimal}
+use Rattle.std.specs.Prelude.{◌≡◌, ◌≤◌, ℕ, ◌+◌, ◌==◌, Bool, true, ◌&&◌, ◌||◌, not, List, [], ◌∷◌, ◌++◌, length, codes, Some, ℤ}
 use Rattle.std.specs.List.{list_all}
 use Rattle.vcp_base.specs.Limits.{most_cycles, most_names}
 use Rattle.vcp_base.specs.Types.{fits}

@@ -1,5 +1,5 @@
 -- WellFormedText: the text of a picture is a well-formed document.
-use Rattle.std.proofs.Common.{◌≡◌, ◌==◌, ℕ, Bool, true, false, cond, List, [], ◌∷◌, ◌++◌, codes, map, flat_map, refl, append_assoc, decimal}
+use Rattle.std.proofs.Common.{◌≡◌, ◌==◌, ℕ, Bool, true, false, cond, List, [], ◌∷◌, ◌++◌, codes, map, flat_map, refl, append_assoc}
 use Rattle.std.specs.List.{AllByRecursion, list_any}
 use Rattle.std.specs.Prelude.{bytes_eq}
 use Rattle.std.proofs.lemmas.List.{append-nil}
@@ -9,7 +9,7 @@ use Rattle.svg_text.specs.declared.names.Name.{Name}
 use Rattle.svg_text.specs.declared.names.Name.TheVariants as name
 use Rattle.svg_text.specs.Characters.{is_plain, reference, escape, escaped}
 use Rattle.svg_text.specs.Elements.{tag_name, attribute_name, Attribute, Element, written, attribute_text, element_text, picture_attributes, picture_text}
-use Rattle.svg_text.specs.WellFormed.{references, AreCharacters, no_character, plain, referred, is_name, each_once, AreAttributes, no_attribute, then_one}
+use Rattle.svg_text.specs.WellFormed.{references, AreCharacters, no_character, plain, referred, is_name, AreAttributes, no_attribute, then_one}
 use Rattle.svg_text.specs.WellFormed.{IsContent, nothing, line_end, characters, inner, IsDocument, one, HasEachOnce}
 
 -- ---- characters

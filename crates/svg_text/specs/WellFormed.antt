@@ -1,8 +1,8 @@
 -- WellFormed: what makes bytes a document, by the rules of XML 1.0 for elements, attributes and characters.
-use Rattle.std.specs.Prelude.{◌≡◌, ◌≢◌, ℕ, List, [], ◌∷◌, ◌++◌, codes, true, false, Bool, ◌&&◌, ◌||◌, nat_le, ◌==◌, bytes_eq, not, map, flat_map}
+use Rattle.std.specs.Prelude.{◌≡◌, ℕ, List, [], ◌∷◌, ◌++◌, codes, true, false, Bool, ◌&&◌, ◌||◌, nat_le, ◌==◌, bytes_eq, not, map}
 use Rattle.std.specs.List.{list_any}
 use Rattle.svg_text.specs.Characters.{is_plain}
-use Rattle.svg_text.specs.Elements.{Attribute, Element, attribute_name}
+use Rattle.svg_text.specs.Elements.{Element, attribute_name}
 
 -- references to a character that each document may have
 abbrev pub references : List (List ℕ)

@@ -1,4 +1,4 @@
-use Rattle.std.proofs.Common.{◌≡◌, List, ℕ, drop}
+use Rattle.std.proofs.Common.{drop}
 use Rattle.csv.specs.Records.{fields_of}
 use Rattle.run_picture.proofs.Reading.{one_name}
 use Rattle.run_picture.proofs.header.names.Goals as goal

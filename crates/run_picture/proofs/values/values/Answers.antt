@@ -1,4 +1,4 @@
-use Rattle.std.proofs.Common.{◌≡◌, ◌∙◌, sym, ap, ℕ, List, ℤ, Result, [], ◌∷◌, ◌++◌, Some, None, drop, rules, arith, length-append, w64, SFits}
+use Rattle.std.proofs.Common.{◌≡◌, ◌∙◌, sym, ap, ℤ, [], ◌∷◌, ◌++◌, Some, None, drop, rules, arith, length-append, w64, SFits}
 use Rattle.std.proofs.lemmas.Int.{to_z-of_z}
 use Rattle.csv.specs.Records.{fields_of}
 use Rattle.run_picture.specs.Values.{printed_value, values_of}

@@ -1,4 +1,4 @@
-use Rattle.std.proofs.Common.{◌≡◌, ℕ, ◌+◌, drop, length}
+use Rattle.std.proofs.Common.{◌≡◌, ◌+◌, drop, length}
 use Rattle.csv.specs.Records.{fields_of}
 use Rattle.run_picture.specs.Values.{values_of, behind}
 use Rattle.run_picture.proofs.values.values.Given as goal
