@@ -132,6 +132,7 @@ impl<'a> WordsLeft<'a> {
     /// Takes CODE, to the last word: `--seed N` and `--step N`, each at most once.
     pub fn code(&mut self) -> Option<Code>
         ensures code { option_map as_code result ≡ code_of self.old }
+        ensures rest { IfSome result (λ code. self.new ≡ []) }
         ensures sound { IfSome result (λ code. IsCode (as_code code)) }
     {
         let mut seed = None;
