@@ -10,7 +10,7 @@ use Rattle.std.proofs.lemmas.List.Folds.{length-prefix_len}
 use Rattle.std.proofs.lemmas.List.Sums.{position_or_len_is, fails_before_first, passes_at_first, prefix_len-le-length}
 use Rattle.std.proofs.lemmas.List.Splits.{slice_split-cons_yes, slice_split_none, slice_split_first, length-slice_split}
 use Rattle.memchr.specs.Find.{IsFirstByte}
-use Rattle.numerals.specs.Blanks.{is_blank, unindented}
+use Rattle.vcp_base.specs.Blanks.{is_blank, unindented}
 use Rattle.fault_script.specs.Forms.{is_word, words, is_end}
 
 not_true : (b : Bool) → (b ≡ true → ⊥) → b ≡ false

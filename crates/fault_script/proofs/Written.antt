@@ -10,7 +10,7 @@ use Rattle.vcp_base.specs.declared.kind.Kind.TheVariants as kind
 use Rattle.vcp_base.specs.declared.ty.Ty.TheVariants as ty
 use Rattle.vcp_base.specs.Spellings.{kinds, kind_name}
 use Rattle.vcp_base.specs.Types.{fits}
-use Rattle.numerals.specs.Numerals.{in_type}
+use Rattle.vcp_base.specs.Numerals.{in_type}
 use Rattle.fault_script.specs.Forms.{is_addend, first_named}
 
 -- what may be added is a number of 64 bits

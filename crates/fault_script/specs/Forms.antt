@@ -5,8 +5,8 @@ use Rattle.std.specs.List.{filter, slice_split}
 use Rattle.vcp_base.specs.Limits.{most_cycles}
 use Rattle.vcp_base.specs.declared.kind.Kind.{Kind}
 use Rattle.vcp_base.specs.Spellings.{kinds, kind_name}
-use Rattle.numerals.specs.Blanks.{is_blank}
-use Rattle.numerals.specs.Numerals.{numeral_of, integer_of}
+use Rattle.vcp_base.specs.Blanks.{is_blank}
+use Rattle.vcp_base.specs.Numerals.{numeral_of, integer_of}
 use Rattle.fault_script.specs.declared.act.Act.{Act}
 use Rattle.fault_script.specs.declared.act.Act.TheVariants as act
 use Rattle.fault_script.specs.declared.forms.Change.{Change}

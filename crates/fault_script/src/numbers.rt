@@ -4,8 +4,7 @@ ghost use Rattle.std.specs.Prelude.{◌≡◌, ◌<◌, ◌≤◌, ◌^◌, true
 ghost use Rattle.vcp_base.specs.Limits.{most_cycles};
 ghost use Rattle.fault_script.specs.Forms.{number_below as number_below_of, cycle_of, index_of, is_addend as is_addend_of, addend_of, kind_of};
 
-use numerals::{number_in, numeral};
-use vcp_base::{Kind, MOST_CYCLES, Ty, kind_name, kind_of_code};
+use vcp_base::{Kind, MOST_CYCLES, Ty, kind_name, kind_of_code, number_in, numeral};
 
 /// The most that an act adds, in size.
 const MOST_ADDEND: i64 = 1 << 62;

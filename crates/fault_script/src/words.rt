@@ -3,12 +3,12 @@
 ghost use Rattle.std.specs.Prelude.{◌≡◌, ◌≤◌, ◌∷◌, [], length, IfSome, IfNone};
 ghost use Rattle.std.specs.Option.{option_map};
 ghost use Rattle.std.specs.List.{position_or_len};
-ghost use Rattle.numerals.specs.Blanks.{is_blank};
+ghost use Rattle.vcp_base.specs.Blanks.{is_blank};
 ghost use Rattle.fault_script.specs.Forms.{words as words_of, is_end as is_end_of, only as only_of};
 
 use memchr::memchr2;
-use numerals::without_first_blanks;
 use std::marker::Model;
+use vcp_base::without_first_blanks;
 
 /// The words that are left of a line, from the front, seen as a list.
 #[derive(Drop)]

@@ -1,7 +1,6 @@
 //! Numbers as words and cells write them.
 
-use numerals::{number_in, numeral, without_first_blanks};
-use vcp_base::Ty;
+use vcp_base::{Ty, number_in, numeral, without_first_blanks};
 
 #[test]
 fn numerals_have_at_most_ten_digits(rt: HostRuntime) {

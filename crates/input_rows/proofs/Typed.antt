@@ -9,7 +9,7 @@ use Rattle.vcp_base.specs.Names.{is_same_name}
 use Rattle.vcp_base.specs.Types.{fits, AreIn}
 use Rattle.input_rows.specs.declared.fault.RowFault.{RowFault}
 use Rattle.input_rows.specs.declared.fault.RowFault.TheVariants as fault
-use Rattle.numerals.specs.Numerals.{integer_of, in_type}
+use Rattle.vcp_base.specs.Numerals.{integer_of, in_type}
 use Rattle.input_rows.specs.Cells.{trimmed, spelled, value_of}
 use Rattle.input_rows.specs.RowsOf.{RowsLeft, type_at, values_of, values_after, placed, row_onto, row_of, row_before, no_rows, rows_from}
 

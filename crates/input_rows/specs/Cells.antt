@@ -1,7 +1,7 @@
 -- Cells: which text spells which value of a type.
 use Rattle.std.specs.Prelude.{ℕ, ◌||◌, cond, List, reverse, Option, Some, None, option_and_then, ℤ, pos, codes}
-use Rattle.numerals.specs.Blanks.{unindented}
-use Rattle.numerals.specs.Numerals.{integer_of, in_type}
+use Rattle.vcp_base.specs.Blanks.{unindented}
+use Rattle.vcp_base.specs.Numerals.{integer_of, in_type}
 use Rattle.vcp_base.specs.declared.ty.Ty.{Ty}
 use Rattle.vcp_base.specs.declared.ty.Ty.TheVariants as ty
 use Rattle.vcp_base.specs.Names.{is_same_name}

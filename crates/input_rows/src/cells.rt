@@ -1,11 +1,10 @@
 //! The value that a cell spells.
 
 ghost use Rattle.std.specs.Prelude.{◌≡◌, Some, reverse};
-ghost use Rattle.numerals.specs.Blanks.{unindented};
+ghost use Rattle.vcp_base.specs.Blanks.{unindented};
 ghost use Rattle.input_rows.specs.Cells.{trimmed, truth_of, value_of};
 
-use numerals::{number_in, without_first_blanks};
-use vcp_base::{Ty, is_same_name};
+use vcp_base::{Ty, is_same_name, number_in, without_first_blanks};
 
 /// A text without the spaces and tabs at both ends.
 pub fn trim(text: &[u8]) -> &[u8]

@@ -10,7 +10,7 @@ use Rattle.std.proofs.lemmas.Fmt.{decimal_by_steps}
 use Rattle.std.proofs.lemmas.Slice.Eq.{bytes_eq-Decides}
 use Rattle.vcp_base.specs.Types.{fits}
 use Rattle.vcp_base.specs.declared.ty.Ty.TheVariants as ty
-use Rattle.numerals.specs.Numerals.{number_of, natural_of, integer_of, in_type}
+use Rattle.vcp_base.specs.Numerals.{number_of, natural_of, integer_of, in_type}
 use Rattle.run_picture.specs.Values.{printed_as, printed_value}
 
 -- the digits of a number

@@ -2,7 +2,7 @@
 use Rattle.std.specs.Prelude.{ℕ, ◌+◌, List, [], ◌∷◌, ◌++◌, cond, bytes_eq, Option, Some, None, option_and_then, Result, Ok, Err, ℤ}
 use Rattle.std.specs.Fmt.{signed_decimal}
 use Rattle.vcp_base.specs.declared.ty.Ty.TheVariants as ty
-use Rattle.numerals.specs.Numerals.{integer_of, in_type}
+use Rattle.vcp_base.specs.Numerals.{integer_of, in_type}
 use Rattle.input_rows.specs.RowsOf.{values_after}
 
 -- a value, where the cell is just as it is printed

@@ -10,9 +10,8 @@ use crate::fault::RunFault;
 use csv::ByteRecord;
 use input_rows::field;
 use itoa::Buffer;
-use numerals::number_in;
 use std::alloc::Global;
-use vcp_base::{Row, Ty};
+use vcp_base::{Row, Ty, number_in};
 
 // The value that prints as this cell.
 fn printed_value(cell: &[u8]) -> Option<i64>

@@ -3,9 +3,8 @@
 
 use coded_unit::CpuUnit;
 use std::process::ExitCode;
-use vcp_arguments::{given_words, status_without_words};
 use vcp_core::vcp;
-use vcp_outside::{HostFiles, HostSink};
+use vcp_outside::{HostFiles, HostSink, given_words, status_without_words};
 
 fn main(rt: HostRuntime) -> ExitCode {
     let words = match given_words(&rt) {

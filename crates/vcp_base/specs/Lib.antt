@@ -1,7 +1,9 @@
+pub mod Blanks
 pub mod Code
 pub mod Kinds
 pub mod Limits
 pub mod Names
+pub mod Numerals
 pub mod Spellings
 pub mod Stops
 pub mod Types

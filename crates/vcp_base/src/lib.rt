@@ -1,11 +1,14 @@
-//! The ground that every crate stands on: types, kinds of operations, texts and lists.
+//! The ground that every crate stands on: types, kinds of operations, texts, lists, and numbers in decimal digits.
 //!
 //! A list type is seen by contracts as a list. `len` and `at` read it, `push` appends one item, and
 //! after `Memory` the list is unchanged.
 #![tactic(auto)]
 
+mod blanks;
 mod code;
 mod columns;
+mod digits;
+mod integers;
 mod kind;
 mod limits;
 mod memory;
@@ -19,8 +22,11 @@ mod turns;
 mod ty;
 mod words;
 
+pub use blanks::without_first_blanks;
 pub use code::{Profile, Residue, modulus};
 pub use columns::{Column, Columns};
+pub use digits::numeral;
+pub use integers::number_in;
 pub use kind::{Kind, StopKind, multiplier, operand_type, operands};
 pub use limits::{
     MOST_CELLS, MOST_CYCLES, MOST_DEPTH, MOST_HORIZON, MOST_IMAGE_BYTES, MOST_NAME_BYTES,

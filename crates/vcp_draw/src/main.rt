@@ -2,9 +2,8 @@
 #![tactic(auto)]
 
 use std::process::ExitCode;
-use vcp_arguments::{given_words, status_without_words};
 use vcp_draw_core::vcp_draw;
-use vcp_outside::{HostFiles, HostSink};
+use vcp_outside::{HostFiles, HostSink, given_words, status_without_words};
 
 fn main(rt: HostRuntime) -> ExitCode {
     let words = match given_words(&rt) {

@@ -1,10 +1,11 @@
-//! What lies outside a program: files that it reads and sinks that it writes to.
+//! What lies outside a program: files that it reads, sinks that it writes to, and the words that it is given.
 //!
 //! `Files` and `Sink` say in ghost members what is held, read and written, where that is told, and
 //! count their faults. `MemFiles` and `MemSink` stand in memory and tell all. `HostFiles` and
 //! `HostSink` stand on the host and tell no bytes. A call answers `Failed` only where a count rose.
 #![tactic(auto)]
 
+mod arguments;
 mod failed;
 mod files;
 mod host_files;
@@ -15,6 +16,7 @@ mod reading;
 mod sink;
 mod writing;
 
+pub use arguments::{given_words, status_without_words, words_of};
 pub use failed::Failed;
 pub use files::Files;
 pub use host_files::HostFiles;

@@ -7,7 +7,7 @@ use Rattle.vcp_words.specs.declared.command.Command.{Command}
 use Rattle.vcp_words.specs.declared.command.Command.TheVariants as command
 use Rattle.vcp_words.specs.declared.command.RowsWord.{RowsWord}
 use Rattle.vcp_words.specs.declared.command.RowsWord.TheVariants as word
-use Rattle.numerals.specs.Numerals.{numeral_of}
+use Rattle.vcp_base.specs.Numerals.{numeral_of}
 
 -- where the rows of a run come from: the file under a name, or so many cycles without inputs
 pub data Rows : Type 0 where

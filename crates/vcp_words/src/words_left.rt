@@ -7,9 +7,8 @@ ghost use Rattle.vcp_words.specs.Forms.{is_file_name as is_file_name_of, is_end 
 ghost use Rattle.vcp_words.specs.Forms.{horizon_and_rest, made_and_rest, code_of, rows_of, as_code, AreFew, IsCode};
 
 use crate::command::{Code, DEFAULT_CODE, RowsWord};
-use numerals::numeral;
 use std::marker::Model;
-use vcp_base::{MOST_CYCLES, MOST_HORIZON, MOST_STEP, SEEDS, Text, Words};
+use vcp_base::{MOST_CYCLES, MOST_HORIZON, MOST_STEP, SEEDS, Text, Words, numeral};
 
 /// The words that are left, from the front, seen as a list.
 #[derive(Drop)]

@@ -1,5 +1,5 @@
 use Rattle.std.proofs.Common.{◌≡◌, length, reverse}
-use Rattle.numerals.specs.Blanks.{unindented}
+use Rattle.vcp_base.specs.Blanks.{unindented}
 use Rattle.input_rows.proofs.cells.without_last_blanks.Given as goal
 
 abbrev pub invariant-blanks : goal.invariant-blanks

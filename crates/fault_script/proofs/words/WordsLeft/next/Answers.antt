@@ -1,6 +1,6 @@
 use Rattle.std.proofs.Common.{ℕ, List, drop, take, ◌∷◌, sym, ap, ◌∙◌}
 use Rattle.std.specs.List.{position_or_len}
-use Rattle.numerals.specs.Blanks.{is_blank}
+use Rattle.vcp_base.specs.Blanks.{is_blank}
 use Rattle.fault_script.specs.Forms.{words}
 use Rattle.fault_script.proofs.Firsts.{word_next, no_word, part_to_end}
 use Rattle.fault_script.proofs.words.WordsLeft.next.Goals as goal

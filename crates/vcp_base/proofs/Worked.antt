@@ -1,7 +1,7 @@
 -- Worked numerals.
 use Rattle.std.specs.Prelude.{◌≡◌, refl, [], ◌∷◌, ◌++◌, Some, None, pos, negsuc, codes}
-use Rattle.numerals.specs.Blanks.{unindented}
-use Rattle.numerals.specs.Numerals.{numeral_of, integer_of}
+use Rattle.vcp_base.specs.Blanks.{unindented}
+use Rattle.vcp_base.specs.Numerals.{numeral_of, integer_of}
 
 zeros : numeral_of (codes "0000000001") ≡ Some 1
 zeros = refl

@@ -1,6 +1,6 @@
 use Rattle.std.proofs.Common.{◌≡◌, length}
-use Rattle.numerals.specs.Blanks.{unindented}
-use Rattle.numerals.proofs.blanks.without_first_blanks.Given as goal
+use Rattle.vcp_base.specs.Blanks.{unindented}
+use Rattle.vcp_base.proofs.blanks.without_first_blanks.Given as goal
 
 abbrev pub invariant-blanks : goal.invariant-blanks
 invariant-blanks l = unindented l.rest ≡ unindented l.fn.text

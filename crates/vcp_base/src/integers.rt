@@ -1,9 +1,9 @@
 //! Integers with an optional sign.
 
 ghost use Rattle.std.specs.Prelude.{◌≡◌, ◌≤◌, ◌^◌, min, IfSome, option_map, option_and_then};
-ghost use Rattle.numerals.specs.Numerals.{natural_of, integer_of, in_type};
+ghost use Rattle.vcp_base.specs.Numerals.{natural_of, integer_of, in_type};
 
-use vcp_base::{Ty, fits};
+use crate::{Ty, fits};
 
 /// More than any value of 64 bits, with or without a sign before it, so that the value of longer
 /// digits is cut to it.

@@ -1,7 +1,7 @@
 //! Numbers in decimal digits.
 
 ghost use Rattle.std.specs.Prelude.{◌≡◌, IfSome, ◌<◌, ◌^◌};
-ghost use Rattle.numerals.specs.Numerals.{numeral_of};
+ghost use Rattle.vcp_base.specs.Numerals.{numeral_of};
 
 /// The number that one to ten decimal digits write; leading zeros are allowed. It is below 10^10.
 pub fn numeral(digits: &[u8]) -> Option<u64>

@@ -1,7 +1,7 @@
 use Rattle.std.proofs.Common.{◌≡◌, true, false, sym, get_or, rules}
 use Rattle.std.specs.Char.{is_ascii_digit}
-use Rattle.numerals.proofs.NumeralSteps.{all_digits_more, digits_value_more, digits_below, no_numeral}
-use Rattle.numerals.proofs.digits.numeral.Goals as goal
+use Rattle.vcp_base.proofs.NumeralSteps.{all_digits_more, digits_value_more, digits_below, no_numeral}
+use Rattle.vcp_base.proofs.digits.numeral.Goals as goal
 
 pub returns-then-not-is_ascii_digit-clause-value : goal.returns-then-not-is_ascii_digit-clause-value
 returns-then-not-is_ascii_digit-clause-value c =

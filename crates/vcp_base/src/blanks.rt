@@ -1,7 +1,7 @@
 //! Spaces and tabs.
 
 ghost use Rattle.std.specs.Prelude.{◌≡◌};
-ghost use Rattle.numerals.specs.Blanks.{unindented};
+ghost use Rattle.vcp_base.specs.Blanks.{unindented};
 
 /// A text without the spaces and tabs at its start.
 pub fn without_first_blanks(text: &[u8]) -> &[u8]
