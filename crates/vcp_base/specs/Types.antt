@@ -47,3 +47,35 @@ within ty.Lint ty.Bool = false
 within ty.Lint ty.Int = false
 within ty.Lint ty.Dint = false
 within ty.Lint ty.Lint = true
+
+-- the two are one type
+abbrev pub same_type : Ty → Ty → Bool
+same_type ty.Bool ty.Bool = true
+same_type ty.Bool ty.Int = false
+same_type ty.Bool ty.Dint = false
+same_type ty.Bool ty.Lint = false
+same_type ty.Int ty.Bool = false
+same_type ty.Int ty.Int = true
+same_type ty.Int ty.Dint = false
+same_type ty.Int ty.Lint = false
+same_type ty.Dint ty.Bool = false
+same_type ty.Dint ty.Int = false
+same_type ty.Dint ty.Dint = true
+same_type ty.Dint ty.Lint = false
+same_type ty.Lint ty.Bool = false
+same_type ty.Lint ty.Int = false
+same_type ty.Lint ty.Dint = false
+same_type ty.Lint ty.Lint = true
+
+abbrev pub is_bool : Ty → Bool
+is_bool ty.Bool = true
+is_bool ty.Int = false
+is_bool ty.Dint = false
+is_bool ty.Lint = false
+
+-- INT, DINT or LINT
+abbrev pub is_number : Ty → Bool
+is_number ty.Bool = false
+is_number ty.Int = true
+is_number ty.Dint = true
+is_number ty.Lint = true

@@ -1,7 +1,9 @@
 //! The two codes, and what is counted modulo their constants.
 
 ghost use Rattle.std.specs.Prelude.{◌≡◌, ◌<◌, ◌^◌};
-ghost use Rattle.vcp_base.specs.Code.{modulus as modulus_of};
+ghost use Rattle.vcp_base.specs.Code.{modulus as modulus_of, admits as admits_of};
+
+use crate::ty::Ty;
 
 /// A residue modulo the constant of a code: of a word, or a signature, a correction or a weight. It
 /// is 0 to the constant less 1.
@@ -25,5 +27,15 @@ pub fn modulus(profile: Profile) -> Residue
     match profile {
         Profile::Narrow => 2147483647,
         Profile::Wide => 2305843009213693951,
+    }
+}
+
+/// Whether the code has words of the type: the narrow one has none of LINT.
+pub fn admits(profile: Profile, ty: Ty) -> bool
+    ensures { result ≡ admits_of profile ty }
+{
+    match ty {
+        Ty::Bool | Ty::Int | Ty::Dint => true,
+        Ty::Lint => matches!(profile, Profile::Wide),
     }
 }

@@ -12,6 +12,7 @@ mod integers;
 mod kind;
 mod limits;
 mod memory;
+mod names;
 mod outcomes;
 mod row;
 mod spellings;
@@ -23,7 +24,7 @@ mod ty;
 mod words;
 
 pub use blanks::without_first_blanks;
-pub use code::{Profile, Residue, modulus};
+pub use code::{Profile, Residue, admits, modulus};
 pub use columns::{Column, Columns};
 pub use digits::numeral;
 pub use integers::number_in;
@@ -34,6 +35,7 @@ pub use limits::{
     MOST_STEP, MOST_TURN_NODES, SEEDS,
 };
 pub use memory::Memory;
+pub use names::{is_letter, is_letter_or_digit, is_name};
 pub use outcomes::outcome;
 pub use row::Row;
 pub use spellings::{kind_code, kind_name, kind_of_code, stop_name, ty_code, ty_name, ty_of_code};
@@ -41,5 +43,5 @@ pub use spot::Spot;
 pub use steps::Steps;
 pub use text::{Text, is_same_name, same_name};
 pub use turns::{Turn, Turns};
-pub use ty::{Ty, fits, greatest, least, within};
+pub use ty::{Ty, fits, greatest, is_bool, is_number, least, same_type, within};
 pub use words::Words;

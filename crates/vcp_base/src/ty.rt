@@ -3,6 +3,7 @@
 ghost use Rattle.std.specs.Prelude.{◌≡◌, true, FitsSigned};
 ghost use Rattle.std.specs.Int.{w64};
 ghost use Rattle.vcp_base.specs.Types.{least as least_of, greatest as greatest_of, fits as fits_of, within as within_of};
+ghost use Rattle.vcp_base.specs.Types.{same_type as same_type_of, is_bool as is_bool_of, is_number as is_number_of};
 
 /// An elementary type of IEC 61131-3, which is a range of integers.
 #[derive(Clone, Copy, Debug, PartialEq, Eq)]
@@ -64,4 +65,31 @@ pub fn within(small: Ty, wide: Ty) -> bool
         (Ty::Lint, Ty::Lint) => true,
         (Ty::Lint, Ty::Bool | Ty::Int | Ty::Dint) => false,
     }
+}
+
+/// Whether two types are one.
+pub fn same_type(one: Ty, other: Ty) -> bool
+    ensures { result ≡ same_type_of one other }
+{
+    match (one, other) {
+        (Ty::Bool, Ty::Bool) => true,
+        (Ty::Int, Ty::Int) => true,
+        (Ty::Dint, Ty::Dint) => true,
+        (Ty::Lint, Ty::Lint) => true,
+        _ => false,
+    }
+}
+
+/// Whether the type is BOOL.
+pub fn is_bool(ty: Ty) -> bool
+    ensures { result ≡ is_bool_of ty }
+{
+    matches!(ty, Ty::Bool)
+}
+
+/// Whether the type is INT, DINT or LINT.
+pub fn is_number(ty: Ty) -> bool
+    ensures { result ≡ is_number_of ty }
+{
+    !is_bool(ty)
 }
