@@ -7,7 +7,7 @@ use Rattle.coded_unit.specs.declared.call.Answer.{Answer}
 use Rattle.coded_unit.specs.Log.{Entry}
 use Rattle.op_graph.specs.Lists.{Lists}
 use Rattle.op_graph.specs.Rules.{IsGraph}
-use Rattle.op_graph.specs.GraphRun.{Cycle, cycle, initial, outputs, stored, Run, after_cycle, run_from, graph_run, cells_after, cells_or}
+use Rattle.op_graph.specs.GraphRun.{Cycle, cycle, initial, outputs, stored, Run, after_cycle, run_from, graph_run, cells_after, unless_stopped}
 use Rattle.signature_table.specs.Signatures.{Numbers, IsTable, stamp_before}
 use Rattle.coded_machine.specs.declared.cycle_end.CycleEnd.{CycleEnd}
 use Rattle.coded_machine.specs.declared.cycle_end.CycleEnd.TheVariants as end
@@ -260,7 +260,7 @@ goes_on law g t n (row ∷ rows) (answers ∷ cycles) held values graph table ho
     goes_on law g t (suc n) rows cycles (stored_words g answers) (stored g c.values) graph table next (omega arith) (omega arith) all.2 parts.1 in
     record {
       later = rest.later;
-      later_is = rest.later_is ∙ ap (λ s. cells_after g (cells_or values (stored g c.values) s) rows) (sym stops);
+      later_is = rest.later_is ∙ ap (λ s. unless_stopped values (stored g c.values) (λ next. cells_after g next rows) s) (sym stops);
       hold = subst (λ j. CellsHold g t.seed (stamp_before t.step j) (held_after g (stored_words g answers) cycles) rest.later) (omega arith) rest.hold;
       run = λ more.
           ap (λ x. after_cycle g c.values (λ h. run_from g h (rows ++ more)) x) stops

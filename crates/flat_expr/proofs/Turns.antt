@@ -6,7 +6,8 @@ use Rattle.std.proofs.lemmas.Bool.Decides.{nat_tests}
 use Rattle.op_graph.specs.declared.op.Op.{Op}
 use Rattle.op_graph.specs.declared.op.TurnNode.{TurnNode}
 use Rattle.op_graph.specs.Lists.{Lists, turns_back, turn_of}
-use Rattle.op_graph.specs.Rules.{IsPart, OpFits, Entry, entry_of, place_of, scope, turn_fits}
+use Rattle.op_graph.specs.Rules.{IsPart, OpFits, entry_of, place_of, scope, turn_fits}
+use Rattle.op_graph.specs.declared.rules.Entry.{Entry}
 use Rattle.op_graph.specs.Building.{with_turn_node}
 use Rattle.op_graph.specs.GraphRun.{outcome_of}
 use Rattle.vcp_typed.specs.Meaning.{Stop, and_then}

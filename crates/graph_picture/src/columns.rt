@@ -2,10 +2,9 @@
 
 ghost use Rattle.std.specs.Prelude.{◌≡◌, ◌<◌, ◌≤◌, ℕ, length, IfOk};
 
-use op_graph::{Graph, Op};
+use op_graph::{Graph, Op, reads_operation};
 use std::alloc::Global;
 use vcp_base::{Kind, Memory};
-use weight_audit::reads_operation;
 
 /// The greater of two numbers.
 pub(crate) fn greater(a: u32, b: u32) -> u32

@@ -6,11 +6,10 @@ ghost use Rattle.graph_picture.specs.Arrangement.{HaveOwnRows, IsWithin};
 
 use crate::columns::greater;
 use crate::layout::Place;
-use op_graph::Graph;
+use op_graph::{Graph, reads_operation};
 use std::alloc::Global;
 use std::marker::Model;
 use vcp_base::Memory;
-use weight_audit::reads_operation;
 
 /// The greatest column and the greatest row of these places, and 0 where there are none.
 pub(crate) fn corner(places: &[Place]) -> Place

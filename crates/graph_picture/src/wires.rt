@@ -8,11 +8,10 @@ ghost use Rattle.graph_picture.specs.Drawn.{wire_of, wires_of, wires_below};
 ghost use Rattle.graph_picture.specs.Elements.{wire_element, wire_elements};
 
 use crate::layout::{Layout, Place, left, top};
-use op_graph::{Graph, Op};
+use op_graph::{Graph, Op, reads_operation};
 use run_report::Line;
 use svg_text::{Name, Piece, Tag, then_element};
 use vcp_outside::Sink;
-use weight_audit::reads_operation;
 
 /// Draws the line from operation `operand` to operation `reader`, which reads it as its operand
 /// `which`.

@@ -3,13 +3,12 @@
 ghost use Rattle.std.specs.Prelude.{◌≡◌, ◌≤◌, ◌<◌, ◌&&◌, nat_lt, nat_le, true, IfOk};
 ghost use Rattle.std.specs.Int.{w16, w32, w64};
 ghost use Rattle.vcp_base.specs.Types.{fits as fits_of};
-ghost use Rattle.vcp_base.specs.Code.{admits as admits_of};
 ghost use Rattle.image_fields.specs.Pieces.{GivesExactly, byte_at, number_at};
 ghost use Rattle.image_fields.specs.Codes.{type_of, correction_width};
 ghost use Rattle.image_fields.specs.Fields.{number, signed, type_field};
 
 use crate::fault::Fault;
-use vcp_base::{Profile, Residue, Ty, fits, ty_of_code};
+use vcp_base::{Profile, Residue, Ty, admits, fits, ty_of_code};
 
 /// The byte at the front, and the bytes after it; `Short` where there is none.
 pub fn u8_at(bytes: &[u8]) -> Result<(u8, &[u8]), Fault>
@@ -70,16 +69,6 @@ pub fn u64_at(bytes: &[u8]) -> Result<(u64, &[u8]), Fault>
         front[0], front[1], front[2], front[3], front[4], front[5], front[6], front[7],
     ]);
     Ok((number, rest))
-}
-
-/// Whether the code has words of the type.
-fn admits(profile: Profile, ty: Ty) -> bool
-    ensures { result ≡ admits_of profile ty }
-{
-    match ty {
-        Ty::Bool | Ty::Int | Ty::Dint => true,
-        Ty::Lint => matches!(profile, Profile::Wide),
-    }
 }
 
 /// The type with the code, where the profile has words of it: LINT in the wide code alone.

@@ -17,7 +17,9 @@ use Rattle.op_graph.specs.declared.op.Op.{Op}
 use Rattle.op_graph.specs.declared.op.Outlet.{Outlet}
 use Rattle.op_graph.specs.declared.op.Loaded.{Loaded}
 use Rattle.op_graph.specs.Lists.{Lists}
-use Rattle.op_graph.specs.Rules.{Place, Entry, entry, numbered, found, place_of, entry_of, agree, is_input, is_load, is_store, is_out, kind_fits, from_fits}
+use Rattle.op_graph.specs.Rules.{entry, numbered, found, place_of, entry_of, agree, is_input, is_load, is_store, is_out, kind_fits, from_fits}
+use Rattle.op_graph.specs.declared.rules.Place.{Place}
+use Rattle.op_graph.specs.declared.rules.Entry.{Entry}
 use Rattle.op_graph.specs.Rules.{same_type, OpFits, OutputFits, Admitted, IsPart, IsGraph, scope}
 use Rattle.image_file.proofs.Entries.{eqb_self}
 

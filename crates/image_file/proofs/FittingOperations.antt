@@ -14,7 +14,8 @@ use Rattle.vcp_base.specs.declared.ty.Ty.{Ty}
 use Rattle.vcp_base.specs.Types.{within}
 use Rattle.coded_unit.specs.Words.{modulo}
 use Rattle.op_graph.specs.declared.op.Op.{Op}
-use Rattle.op_graph.specs.Rules.{Each, Entry, Operates, PlaceFits, Admitted, operand_fits, turn_fits}
+use Rattle.op_graph.specs.Rules.{Each, Operates, PlaceFits, Admitted, operand_fits, turn_fits}
+use Rattle.op_graph.specs.declared.rules.Entry.{Entry}
 use Rattle.image_file.proofs.Entries.{each_more, eqb_self}
 use Rattle.image_file.specs.Image.{Said, op_by, op_piece, corrected}
 use Rattle.image_fields.specs.Codes.{correction_width}

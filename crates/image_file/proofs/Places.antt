@@ -1,6 +1,7 @@
 -- Places: two that agree in each part are one.
 use Rattle.std.proofs.Common.{◌≡◌, Option, ap, ◌∙◌}
-use Rattle.op_graph.specs.Rules.{Entry, Place}
+use Rattle.op_graph.specs.declared.rules.Entry.{Entry}
+use Rattle.op_graph.specs.declared.rules.Place.{Place}
 
 pub place_is : (a a' b b' c c' d d' : Option Entry) → a ≡ a' → b ≡ b' → c ≡ c' → d ≡ d'
     → (let p : Place = record { input = a; load = b; store = c; out = d } in p) ≡ (let p : Place = record { input = a'; load = b'; store = c'; out = d' } in p)

@@ -21,7 +21,8 @@ use Rattle.op_graph.specs.declared.op.Var.{Var}
 use Rattle.op_graph.specs.declared.op.Outlet.{Outlet}
 use Rattle.op_graph.specs.declared.op.Cell.{Cell}
 use Rattle.op_graph.specs.declared.op.TurnNode.{TurnNode}
-use Rattle.op_graph.specs.Rules.{Place, place_of, entry_of, kind_fits, from_fits, ty_fits, reads_as, operand_fits, imm_fits, turn_fits}
+use Rattle.op_graph.specs.Rules.{place_of, entry_of, kind_fits, from_fits, ty_fits, reads_as, operand_fits, imm_fits, turn_fits}
+use Rattle.op_graph.specs.declared.rules.Place.{Place}
 use Rattle.image_fields.specs.declared.fault.Fault.{Fault}
 use Rattle.image_fields.specs.declared.fault.Fault.TheVariants.{Version, Field, Operand, Table}
 use Rattle.image_fields.specs.Codes.{version_code, version_of, correction_width, type_of, kind_of}

@@ -12,7 +12,8 @@ use Rattle.op_graph.specs.declared.op.Loaded.{Loaded}
 use Rattle.op_graph.specs.declared.op.Cell.{Cell}
 use Rattle.op_graph.specs.declared.op.TurnNode.{TurnNode}
 use Rattle.op_graph.specs.Lists.{Lists, cells}
-use Rattle.op_graph.specs.Rules.{Scope, Place, place_of, entry_of, kind_fits, from_fits, ty_fits, reads_as, operand_fits, imm_fits, turn_fits}
+use Rattle.op_graph.specs.Rules.{Scope, place_of, entry_of, kind_fits, from_fits, ty_fits, reads_as, operand_fits, imm_fits, turn_fits}
+use Rattle.op_graph.specs.declared.rules.Place.{Place}
 use Rattle.signature_table.specs.Signatures.{correction, store_of as store_of_cell}
 use Rattle.image_fields.specs.declared.fault.Fault.TheVariants.{Field}
 use Rattle.image_fields.specs.Pieces.{Piece, before, whole, listed}

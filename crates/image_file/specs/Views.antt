@@ -1,10 +1,8 @@
 -- What the reader's values say.
-use Rattle.std.specs.Prelude.{◌≡◌, ℕ, List, [], Option, Some, None}
-use Rattle.op_graph.specs.Rules.{Entry as Belongs, Place as Standing, Scope as Lists, entry as belongs, Each, OutputFits, LoadFits, StoreFits}
+use Rattle.std.specs.Prelude.{◌≡◌, ℕ, List, []}
+use Rattle.op_graph.specs.Rules.{Scope as Lists, Each, OutputFits, LoadFits, StoreFits}
 use Rattle.image_file.specs.declared.head.Counts.{Counts}
-use Rattle.image_file.specs.declared.rules.Scope.{Scope}
-use Rattle.image_file.specs.declared.rules.Entry.{Entry}
-use Rattle.image_file.specs.declared.rules.Place.{Place}
+use Rattle.image_file.specs.declared.scope.Scope.{Scope}
 use Rattle.image_file.specs.declared.walk.Walk.{Walk}
 use Rattle.op_graph.specs.Walk.{passed}
 use Rattle.op_graph.specs.declared.op.Var.{Var}
@@ -34,13 +32,6 @@ scope_of s = record { inputs = s.inputs.now; outputs = s.outputs.now; loads = s.
 abbrev pub said_of : Scope → Said
 said_of s = record { profile = s.profile; seed = s.seed; step = s.step; scope = scope_of s; cells = s.cells.now; turn_nodes = s.turn_nodes }
 
-abbrev pub entry : Entry → Belongs
-entry e = belongs e.number e.ty
-
-abbrev pub option_entry : Option Entry → Option Belongs
-option_entry None = None
-option_entry (Some e) = Some (entry e)
-
 abbrev pub parts : Whole → Parts
 parts w = record {
   profile = w.profile;
@@ -53,9 +44,6 @@ parts w = record {
   turn_nodes = w.turn_nodes.items;
   operations = w.operations.items;
 }
-
-abbrev pub place : Place → Standing
-place p = record { input = option_entry p.input; load = option_entry p.load; store = option_entry p.store; out = option_entry p.out }
 
 -- the operations of outputs and cells rise, as their rules say
 pub record Rising (s : Lists) : Type 0 where

@@ -14,7 +14,7 @@ use crate::fault::ImageFault;
 use crate::laws::images_are_told_apart;
 use crate::whole::{Whole, loads_of, read, stores_of};
 use image_fields::{Fault, ReadError};
-use op_graph::Graph;
+use op_graph::{Graph, GraphLists};
 use signature_table::Table;
 use std::alloc::Global;
 
@@ -29,16 +29,16 @@ fn graph_of(alloc: Global, whole: Whole) -> Result<(Graph, Table), ReadError>
     let stores = stores_of(alloc, &whole.cells)?;
     let seed = whole.seed;
     let step = whole.step;
-    let graph = Graph::from_lists(
-        whole.profile,
-        whole.names,
-        whole.inputs,
-        whole.outputs,
+    let graph = Graph::from_lists(GraphLists {
+        profile: whole.profile,
+        names: whole.names,
+        inputs: whole.inputs,
+        outputs: whole.outputs,
         loads,
         stores,
-        whole.turn_nodes,
-        whole.operations,
-    );
+        turn_nodes: whole.turn_nodes,
+        operations: whole.operations,
+    });
     let table = Table::new(alloc, &graph, seed, step)?;
     Ok((graph, table))
 }

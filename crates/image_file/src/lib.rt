@@ -7,7 +7,7 @@ mod image;
 mod laws;
 mod lists;
 mod operation;
-mod rules;
+mod scope;
 mod walk;
 mod whole;
 mod writing;

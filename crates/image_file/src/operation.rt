@@ -2,30 +2,31 @@
 
 ghost use Rattle.std.specs.Prelude.{◌≡◌, ◌≤◌, ◌==◌, length, unsigned_abs};
 ghost use Rattle.vcp_base.specs.Limits.{most_step, most_operations};
-ghost use Rattle.op_graph.specs.Rules.{entry_of, kind_fits as kind_fits_of, from_fits as from_fits_of, ty_fits as ty_fits_of, operand_fits as operand_fits_of};
+ghost use Rattle.op_graph.specs.Rules.{entry_of as entry_of_place, kind_fits as kind_fits_of, from_fits as from_fits_of, ty_fits as ty_fits_of, operand_fits as operand_fits_of};
 ghost use Rattle.op_graph.specs.Rules.{reads_as as reads_as_of, imm_fits as imm_fits_of, turn_fits as turn_fits_of};
 ghost use Rattle.signature_table.specs.Signatures.{store_of as store_of_cell};
 ghost use Rattle.image_fields.specs.declared.fault.Fault.TheVariants as fault;
 ghost use Rattle.image_fields.specs.Pieces.{Gives, GivesExactly, listed};
 ghost use Rattle.image_fields.specs.Fields.{kind_field, type_field, signed, number, operand};
 ghost use Rattle.image_file.specs.Image.{corrected, op_by, op_piece, correction_of};
-ghost use Rattle.image_file.specs.Views.{scope_of, said_of, place as place_view, Rising};
+ghost use Rattle.image_file.specs.Views.{scope_of, said_of, Rising};
 
-use crate::rules::{
-    Place, Scope, from_fits, imm_fits, kind_fits, operand_fits, reads_as, turn_fits, ty_fits,
-};
+use crate::scope::Scope;
 use crate::walk::Walk;
 use image_fields::{
     Fault, ReadError, any_number_here, residue_at, ty_named, u8_at, u32_at, u64_at,
 };
-use op_graph::{Cell, Op};
+use op_graph::{
+    Cell, Op, Place, entry_of, from_fits, imm_fits, kind_fits, operand_fits, reads_as, turn_fits,
+    ty_fits,
+};
 use signature_table::correction;
 use std::alloc::Global;
 use vcp_base::{Kind, Profile, Residue, Spot, Ty, kind_of_code};
 
 /// The kind at the front, one that the place may have.
 fn kind_here<'a>(p: &Place, bytes: &'a [u8]) -> Result<(Kind, &'a [u8]), Fault>
-    ensures { GivesExactly (λ x. (x.0, x.1.now)) result ((kind_field (kind_fits_of (place_view p.now))).read bytes.now) }
+    ensures { GivesExactly (λ x. (x.0, x.1.now)) result ((kind_field (kind_fits_of p.now)).read bytes.now) }
 {
     let (n, rest) = u8_at(bytes)?;
     match kind_of_code(n) {
@@ -47,13 +48,13 @@ fn from_here<'a>(
     kind: Kind,
     bytes: &'a [u8],
 ) -> Result<(Ty, &'a [u8]), Fault>
-    ensures { GivesExactly (λ x. (x.0, x.1.now)) result ((type_field profile (from_fits_of (entry_of (place_view p.now) kind) kind)).read bytes.now) }
+    ensures { GivesExactly (λ x. (x.0, x.1.now)) result ((type_field profile (from_fits_of (entry_of_place p.now kind) kind)).read bytes.now) }
 {
     let (n, rest) = u8_at(bytes)?;
     match ty_named(profile, n) {
         None => Err(Fault::Field { left: bytes.len() }),
         Some(ty) => {
-            if from_fits(p, kind, ty) {
+            if from_fits(entry_of(p, kind), kind, ty) {
                 Ok((ty, rest))
             } else {
                 Err(Fault::Field { left: bytes.len() })
@@ -99,11 +100,11 @@ fn operand_here<'a>(
 
 /// The operation's own number at the front.
 fn imm_here<'a>(p: &Place, kind: Kind, to: Ty, bytes: &'a [u8]) -> Result<(i64, &'a [u8]), Fault>
-    ensures { GivesExactly (λ x. (x.0, x.1.now)) result ((signed (imm_fits_of (entry_of (place_view p.now) kind) kind to)).read bytes.now) }
+    ensures { GivesExactly (λ x. (x.0, x.1.now)) result ((signed (imm_fits_of (entry_of_place p.now kind) kind to)).read bytes.now) }
 {
     let (n, rest) = u64_at(bytes)?;
     let imm = n.cast_signed();
-    if imm_fits(p, kind, to, imm) {
+    if imm_fits(entry_of(p, kind), kind, to, imm) {
         Ok((imm, rest))
     } else {
         Err(Fault::Field { left: bytes.len() })
@@ -117,10 +118,10 @@ fn turn_here<'a>(
     turn_nodes: u32,
     bytes: &'a [u8],
 ) -> Result<(u32, &'a [u8]), Fault>
-    ensures { GivesExactly (λ x. (x.0, x.1.now)) result ((number (turn_fits_of (entry_of (place_view p.now) kind) turn_nodes)).read bytes.now) }
+    ensures { GivesExactly (λ x. (x.0, x.1.now)) result ((number (turn_fits_of (entry_of_place p.now kind) turn_nodes)).read bytes.now) }
 {
     let (n, rest) = u32_at(bytes)?;
-    if turn_fits(p, kind, turn_nodes, n) {
+    if turn_fits(entry_of(p, kind), turn_nodes, n) {
         Ok((n, rest))
     } else {
         Err(Fault::Field { left: bytes.len() })
@@ -189,7 +190,7 @@ fn op_of<'a>(
 ) -> Result<(Op, &'a [u8]), Fault>
     requires step { s.now.step ≤ most_step }
     requires few { length earlier.now ≤ most_operations }
-    ensures { GivesExactly (λ x. (x.0, x.1.now)) result ((op_by (place_view p.now) (said_of s.now) earlier.now).read bytes.now) }
+    ensures { GivesExactly (λ x. (x.0, x.1.now)) result ((op_by p.now (said_of s.now) earlier.now).read bytes.now) }
 {
     let (kind, rest) = kind_here(p, bytes)?;
     let (from, rest) = from_here(s.profile, p, kind, rest)?;

@@ -3,10 +3,10 @@
 ghost use Rattle.std.specs.Prelude.{◌≡◌, ◌==◌, ◌+◌, cond, slice_get};
 ghost use Rattle.op_graph.specs.Rules.{numbered, cell_entry, place_of};
 ghost use Rattle.op_graph.specs.Walk.{entry_at, store_at, is_of};
-ghost use Rattle.image_file.specs.Views.{scope_of, option_entry, place, Rising, IsAt};
+ghost use Rattle.image_file.specs.Views.{scope_of, Rising, IsAt};
 
-use crate::rules::{Entry, Place, Scope};
-use op_graph::{Loaded, Outlet, Var, entries_are_found_by_one_walk};
+use crate::scope::Scope;
+use op_graph::{Entry, Loaded, Outlet, Place, Var, entries_are_found_by_one_walk};
 
 /// Where the walk stands: how many outputs, LOADs and STOREs are of earlier operations.
 #[derive(Clone, Copy)]
@@ -18,7 +18,7 @@ pub(crate) struct Walk {
 
 /// Input `i`, of which operation `i` is.
 fn input_at(inputs: &[Var], i: u32) -> Option<Entry>
-    ensures { option_entry result ≡ numbered i (slice_get inputs.now i) }
+    ensures { result ≡ numbered i (slice_get inputs.now i) }
 {
     match inputs.get(i as usize) {
         None => None,
@@ -31,7 +31,7 @@ fn input_at(inputs: &[Var], i: u32) -> Option<Entry>
 
 /// Output `k`, where it is of operation `i`.
 fn output_at(outputs: &[Outlet], k: usize, i: u32) -> Option<Entry>
-    ensures { option_entry result ≡ entry_at (λ o. o.op) (λ o. o.ty) i k (slice_get outputs.now k) }
+    ensures { result ≡ entry_at (λ o. o.op) (λ o. o.ty) i k (slice_get outputs.now k) }
 {
     match outputs.get(k) {
         None => None,
@@ -50,7 +50,7 @@ fn output_at(outputs: &[Outlet], k: usize, i: u32) -> Option<Entry>
 
 /// Cell `k`, where operation `i` is its LOAD.
 fn loaded_at(loads: &[Loaded], k: usize, i: u32) -> Option<Entry>
-    ensures { option_entry result ≡ entry_at (λ l. l.load) (λ l. l.ty) i k (slice_get loads.now k) }
+    ensures { result ≡ entry_at (λ l. l.load) (λ l. l.ty) i k (slice_get loads.now k) }
 {
     match loads.get(k) {
         None => None,
@@ -69,7 +69,7 @@ fn loaded_at(loads: &[Loaded], k: usize, i: u32) -> Option<Entry>
 
 /// Cell `k`, where it is there.
 fn cell_at(loads: &[Loaded], k: usize) -> Option<Entry>
-    ensures { option_entry result ≡ cell_entry k (slice_get loads.now k) }
+    ensures { result ≡ cell_entry k (slice_get loads.now k) }
 {
     match loads.get(k) {
         None => None,
@@ -82,7 +82,7 @@ fn cell_at(loads: &[Loaded], k: usize) -> Option<Entry>
 
 /// Cell `k`, where operation `i` is its STORE.
 fn stored_at(loads: &[Loaded], stores: &[u32], k: usize, i: u32) -> Option<Entry>
-    ensures { option_entry result ≡ store_at loads.now i k (slice_get stores.now k) }
+    ensures { result ≡ store_at loads.now i k (slice_get stores.now k) }
 {
     match stores.get(k) {
         None => None,
@@ -138,7 +138,7 @@ impl Walk {
     pub(crate) fn place(&self, s: &Scope<'_>, i: u32) -> Place
         requires rising { Rising (scope_of s.now) }
         requires here { IsAt (scope_of s.now) i self.now }
-        ensures { place result ≡ place_of (scope_of s.now) i }
+        ensures { result ≡ place_of (scope_of s.now) i }
     {
         entries_are_found_by_one_walk();
         Place {

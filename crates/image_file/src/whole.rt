@@ -9,7 +9,7 @@ ghost use Rattle.image_file.specs.Views.{parts, operations_piece, Rising};
 use crate::head::{Counts, head_here};
 use crate::lists::{cells_of, inputs_of, names_of, outputs_of, turns_of};
 use crate::operation::operations_of;
-use crate::rules::Scope;
+use crate::scope::Scope;
 use image_fields::{Fault, ReadError};
 use op_graph::{Cell, Loaded, Op, Outlet, TurnNode, Var};
 use std::alloc::Global;

@@ -11,7 +11,9 @@ use Rattle.vcp_base.specs.declared.ty.Ty.TheVariants as ty
 use Rattle.op_graph.specs.declared.op.Op.{Op}
 use Rattle.op_graph.specs.declared.op.Outlet.{Outlet}
 use Rattle.op_graph.specs.Lists.{Lists}
-use Rattle.op_graph.specs.Rules.{IsGraph, Entry, entry, found, agree, is_out, kind_fits, Place, same_type, from_fits, ty_fits, entry_of, OpFits, scope}
+use Rattle.op_graph.specs.Rules.{IsGraph, entry, found, agree, is_out, kind_fits, same_type, from_fits, ty_fits, entry_of, OpFits, scope}
+use Rattle.op_graph.specs.declared.rules.Entry.{Entry}
+use Rattle.op_graph.specs.declared.rules.Place.{Place}
 use Rattle.op_graph.specs.Rules.{place_of}
 use Rattle.op_graph.specs.Laws.{EntryLaws}
 

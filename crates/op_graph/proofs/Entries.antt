@@ -6,7 +6,8 @@ use Rattle.std.proofs.lemmas.Bool.Decides.{nat_tests}
 use Rattle.std.proofs.lemmas.List.{append-nil}
 use Rattle.vcp_base.specs.declared.ty.Ty.{Ty}
 use Rattle.op_graph.specs.declared.op.Loaded.{Loaded}
-use Rattle.op_graph.specs.Rules.{Each, Entry, entry, found, stored_by, cell_entry}
+use Rattle.op_graph.specs.Rules.{Each, entry, found, stored_by, cell_entry}
+use Rattle.op_graph.specs.declared.rules.Entry.{Entry}
 
 -- one more entry at the end
 pub each_push : {X : Type 0} (P : List X → X → Type 0) (before xs : List X) (x : X) → Each P before xs → P (before ++ xs) x → Each P before (xs ++ x ∷ [])

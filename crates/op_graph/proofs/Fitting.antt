@@ -17,7 +17,9 @@ use Rattle.op_graph.specs.declared.op.Op.{Op}
 use Rattle.op_graph.specs.declared.op.Loaded.{Loaded}
 use Rattle.op_graph.specs.declared.op.Var.{Var}
 use Rattle.op_graph.specs.Lists.{Lists}
-use Rattle.op_graph.specs.Rules.{Place, place_of, scope, IsPart, LoadFits, OpFits, Operates, Entry, entry, entry_of, numbered, stored_by, cell_entry, one}
+use Rattle.op_graph.specs.Rules.{place_of, scope, IsPart, LoadFits, OpFits, Operates, entry, entry_of, numbered, stored_by, cell_entry, one}
+use Rattle.op_graph.specs.declared.rules.Place.{Place}
+use Rattle.op_graph.specs.declared.rules.Entry.{Entry}
 use Rattle.op_graph.specs.Rules.{lists_of, agree, kind_fits, is_input, is_load, is_store, is_out, ty_fits, same_type, imm_fits, turn_fits}
 use Rattle.op_graph.proofs.Links.{found_below}
 use Rattle.op_graph.proofs.OperandLaw.{each_at}

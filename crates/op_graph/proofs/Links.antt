@@ -14,7 +14,9 @@ use Rattle.vcp_base.specs.Types.{within}
 use Rattle.op_graph.specs.declared.op.Op.{Op}
 use Rattle.op_graph.specs.Lists.{Lists}
 use Rattle.op_graph.specs.Reads.{named, Reads, OperandThere, Linked}
-use Rattle.op_graph.specs.Rules.{Place, IsPart, IsGraph, OpFits, Operates, scope, place_of, Entry, entry, entry_of, found, kind_fits, reads_as, operand_fits}
+use Rattle.op_graph.specs.Rules.{IsPart, IsGraph, OpFits, Operates, scope, place_of, entry, entry_of, found, kind_fits, reads_as, operand_fits}
+use Rattle.op_graph.specs.declared.rules.Place.{Place}
+use Rattle.op_graph.specs.declared.rules.Entry.{Entry}
 use Rattle.op_graph.specs.Rules.{imm_fits}
 use Rattle.op_graph.proofs.OperandLaw.{each_at, get_there, second_of_four}
 

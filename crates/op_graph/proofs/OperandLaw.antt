@@ -21,7 +21,9 @@ use Rattle.op_graph.specs.declared.op.Op.{Op}
 use Rattle.op_graph.specs.declared.op.Loaded.{Loaded}
 use Rattle.op_graph.specs.declared.op.Outlet.{Outlet}
 use Rattle.op_graph.specs.Lists.{Lists}
-use Rattle.op_graph.specs.Rules.{scope, Place, place_of, Each, IsGraph, IsPart, LoadFits, StoreFits, OutputFits, OpFits, Operates, Entry, entry, entry_of}
+use Rattle.op_graph.specs.Rules.{scope, place_of, Each, IsGraph, IsPart, LoadFits, StoreFits, OutputFits, OpFits, Operates, entry, entry_of}
+use Rattle.op_graph.specs.declared.rules.Place.{Place}
+use Rattle.op_graph.specs.declared.rules.Entry.{Entry}
 use Rattle.op_graph.specs.Rules.{found, stored_by, cell_entry, kind_fits, agree, is_input, is_load, is_store, is_out, same_type, from_fits, ty_fits, reads_as}
 use Rattle.op_graph.specs.Rules.{operand_fits, imm_fits}
 use Rattle.op_graph.specs.GraphRun.{read, operand, outcome_of, Cycle, after, cycle_from, cycle, initial, stored, Run, after_cycle, run_from, graph_run}

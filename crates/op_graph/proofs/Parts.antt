@@ -25,8 +25,10 @@ use Rattle.vcp_base.specs.declared.code.Profile.TheVariants as profile
 use Rattle.vcp_base.specs.Code.{admits}
 use Rattle.vcp_base.specs.Limits.{most_names, most_cells, most_turn_nodes, most_operations}
 use Rattle.vcp_base.specs.Names.{NameFits}
-use Rattle.op_graph.specs.Rules.{Admitted, IsGraph, PlaceFits, Scope, scope, Place, place_of, Each, IsPart, InputFits, OutputFits, LoadFits, StoreFits}
-use Rattle.op_graph.specs.Rules.{TurnNodeFits, OpFits, Operates, turn_fits, LoadedBefore, operand_fits, numbered, same_type, Entry, entry, cell_entry}
+use Rattle.op_graph.specs.Rules.{Admitted, IsGraph, PlaceFits, Scope, scope, place_of, Each, IsPart, InputFits, OutputFits, LoadFits, StoreFits}
+use Rattle.op_graph.specs.declared.rules.Place.{Place}
+use Rattle.op_graph.specs.Rules.{TurnNodeFits, OpFits, Operates, turn_fits, LoadedBefore, operand_fits, numbered, same_type, entry, cell_entry}
+use Rattle.op_graph.specs.declared.rules.Entry.{Entry}
 use Rattle.op_graph.specs.Building.{nowhere, entry_op, with_name, with_turn_node, with_op, with_input, with_load, with_output, with_store, type_of}
 use Rattle.op_graph.proofs.Entries.{each_push, each_more, Under, each_under, under_all, rising_count, le_more, under_none, found_push, found_last, stored_none}
 use Rattle.op_graph.proofs.Entries.{stored_push, get_push, get_last, stored_more, stored_last, under_get, eqb_self, get_some}

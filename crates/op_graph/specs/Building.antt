@@ -9,7 +9,7 @@ use Rattle.op_graph.specs.declared.op.Op.{Op}
 use Rattle.op_graph.specs.declared.op.Loaded.{Loaded}
 use Rattle.op_graph.specs.declared.op.TurnNode.{TurnNode}
 use Rattle.op_graph.specs.Lists.{Lists}
-use Rattle.op_graph.specs.Rules.{Place}
+use Rattle.op_graph.specs.declared.rules.Place.{Place}
 
 -- an operation of no input, output or cell
 abbrev pub nowhere : Place

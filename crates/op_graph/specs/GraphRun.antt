@@ -100,11 +100,13 @@ OutputsFit g values = (k : ℕ) (o : Outlet) → slice_get g.outputs k ≡ Some 
 abbrev pub ValuesFit : Lists → List ℤ → Type 0
 ValuesFit g values = (i : ℕ) (op : Op) → i < length values → slice_get g.operations i ≡ Some op → fits op.ty (at values i) ≡ true
 
--- the values that the cells hold after cycles over these rows, up to the first that stops
-abbrev pub cells_or : List ℤ → List ℤ → Option StopKind → List ℤ
-cells_or held next None = next
-cells_or held next (Some why) = held
+-- The values that the cells hold after the cycles of these rows, up to the first that stops: a stop ends it, and the cells hold
+-- what they held before that cycle.
+abbrev pub unless_stopped : List ℤ → List ℤ → (List ℤ → List ℤ) → Option StopKind → List ℤ
+unless_stopped held next later None = later next
+unless_stopped held next later (Some why) = held
 
 abbrev pub cells_after : Lists → List ℤ → List (List ℤ) → List ℤ
 cells_after g held [] = held
-cells_after g held (row ∷ rows) = cells_after g (cells_or held (stored g (cycle g held row).values) (cycle g held row).stop) rows
+cells_after g held (row ∷ rows) =
+    unless_stopped held (stored g (cycle g held row).values) (λ next. cells_after g next rows) (cycle g held row).stop

@@ -9,6 +9,7 @@ use Rattle.op_graph.specs.declared.op.Outlet.{Outlet}
 use Rattle.op_graph.specs.declared.op.Loaded.{Loaded}
 use Rattle.op_graph.specs.declared.op.Cell.{Cell}
 use Rattle.op_graph.specs.declared.op.TurnNode.{TurnNode}
+use Rattle.op_graph.specs.declared.lists.GraphLists.{GraphLists}
 
 -- The code, and the lists. A cell stands in two of them at one place: what its LOAD makes in `loads`, and the number of its
 -- STORE in `stores`.
@@ -21,6 +22,19 @@ pub record Lists : Type 0 where
   pub stores : List ℕ
   pub turn_nodes : List TurnNode
   pub operations : List Op
+
+-- the same of the code's lists
+abbrev pub lists_of : GraphLists → Lists
+lists_of g = record {
+  profile = g.profile;
+  names = g.names.items;
+  inputs = g.inputs.items;
+  outputs = g.outputs.items;
+  loads = g.loads.items;
+  stores = g.stores.items;
+  turn_nodes = g.turn_nodes.items;
+  operations = g.operations.items;
+}
 
 -- before anything is added
 abbrev pub nothing : Profile → Lists

@@ -12,6 +12,7 @@ use Rattle.vcp_base.specs.declared.kind.Kind.{Kind}
 use Rattle.vcp_base.specs.declared.kind.Kind.TheVariants as kind
 use Rattle.vcp_base.specs.Code.{admits}
 use Rattle.vcp_base.specs.Types.{fits, within}
+pub use Rattle.vcp_base.specs.Types.{same_type, is_number}
 use Rattle.vcp_base.specs.Kinds.{operands, operand_type}
 use Rattle.vcp_base.specs.Limits.{most_names, most_cells, most_turn_nodes, most_operations}
 use Rattle.vcp_base.specs.Names.{NameFits}
@@ -20,6 +21,8 @@ use Rattle.op_graph.specs.declared.op.Var.{Var}
 use Rattle.op_graph.specs.declared.op.Outlet.{Outlet}
 use Rattle.op_graph.specs.declared.op.Loaded.{Loaded}
 use Rattle.op_graph.specs.declared.op.TurnNode.{TurnNode}
+use Rattle.op_graph.specs.declared.rules.Entry.{Entry}
+use Rattle.op_graph.specs.declared.rules.Place.{Place}
 use Rattle.op_graph.specs.Lists.{Lists}
 
 -- P holds of each entry and those before it in its list
@@ -67,10 +70,6 @@ pub record TurnNodeFits (names : ℕ) (before : List TurnNode) (t : TurnNode) : 
 -- ---- what other lists say of an operation
 
 -- an input, output or cell that an operation belongs to: its number in its list, and its type
-pub record Entry : Type 0 where
-  pub number : ℕ
-  pub ty : Ty
-
 abbrev pub entry : ℕ → Ty → Entry
 entry n t = record { number = n; ty = t }
 
@@ -80,13 +79,6 @@ pub record Scope : Type 0 where
   pub outputs : List Outlet
   pub loads : List Loaded
   pub stores : List ℕ
-
--- what operation i is: the INPUT of an input, the LOAD or STORE of a cell, the OUT of an output
-pub record Place : Type 0 where
-  pub input : Option Entry
-  pub load : Option Entry
-  pub store : Option Entry
-  pub out : Option Entry
 
 -- input i, for the inputs are the first operations, in order
 abbrev pub numbered : ℕ → Option Var → Option Entry
@@ -161,31 +153,6 @@ agree false b = not b
 abbrev pub kind_fits : Place → Kind → Bool
 kind_fits p k =
     agree (is_input k) (is_some p.input) && agree (is_load k) (is_some p.load) && agree (is_store k) (is_some p.store) && agree (is_out k) (is_some p.out)
-
-abbrev pub same_type : Ty → Ty → Bool
-same_type ty.Bool ty.Bool = true
-same_type ty.Bool ty.Int = false
-same_type ty.Bool ty.Dint = false
-same_type ty.Bool ty.Lint = false
-same_type ty.Int ty.Bool = false
-same_type ty.Int ty.Int = true
-same_type ty.Int ty.Dint = false
-same_type ty.Int ty.Lint = false
-same_type ty.Dint ty.Bool = false
-same_type ty.Dint ty.Int = false
-same_type ty.Dint ty.Dint = true
-same_type ty.Dint ty.Lint = false
-same_type ty.Lint ty.Bool = false
-same_type ty.Lint ty.Int = false
-same_type ty.Lint ty.Dint = false
-same_type ty.Lint ty.Lint = true
-
--- INT, DINT or LINT
-abbrev pub is_number : Ty → Bool
-is_number ty.Bool = false
-is_number ty.Int = true
-is_number ty.Dint = true
-is_number ty.Lint = true
 
 -- CONV goes from a number to another number, and from BOOL to INT
 abbrev pub converts : Ty → Ty → Bool

@@ -1,8 +1,10 @@
 -- Walk: the entry of each operation by one walk over a list of entries whose operations rise.
+-- How an entry is found, and no promise of its own: what is found is `place_of` in Rules.
 use Rattle.std.specs.Prelude.{ℕ, ◌+◌, ◌==◌, Bool, false, cond, nat_lt, List, [], ◌∷◌, slice_get, Option, Some, None}
 use Rattle.vcp_base.specs.declared.ty.Ty.{Ty}
 use Rattle.op_graph.specs.declared.op.Loaded.{Loaded}
-use Rattle.op_graph.specs.Rules.{Entry, entry, cell_entry}
+use Rattle.op_graph.specs.Rules.{entry, cell_entry}
+use Rattle.op_graph.specs.declared.rules.Entry.{Entry}
 
 -- where the walk stands when it comes to operation i: how many entries, from the front, are of operations before i
 abbrev pub passed : {X : Type 0} → (X → ℕ) → ℕ → List X → ℕ

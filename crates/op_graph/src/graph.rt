@@ -1,10 +1,11 @@
 //! Graphs.
 
 ghost use Rattle.std.specs.Prelude.{◌≡◌, ◌-◌, ◌<◌, ◌≤◌, ℤ, List, Some, IfOk, IfSome, [], length, map, slice_get, slice_index_or, All};
-ghost use Rattle.op_graph.specs.Lists.{cells, column as column_of, output_column, turns_of};
+ghost use Rattle.op_graph.specs.Lists.{cells, column as column_of, output_column, turns_of, lists_of};
 ghost use Rattle.op_graph.specs.Rules.{IsGraph, HasTypes};
 ghost use Rattle.op_graph.specs.GraphRun.{graph_run};
 
+use crate::lists::GraphLists;
 use crate::op::{Cell, Loaded, Op, Outlet, TurnNode, Var};
 use crate::turns_round::{TurnsRound, turns_round};
 use std::alloc::Global;
@@ -18,92 +19,45 @@ use vcp_base::{Column, Columns, Memory, Profile, Text, Ty};
 /// are read.
 #[derive(Drop)]
 pub struct Graph {
-    profile: Profile,
-    names: Vec<Text>,
-    inputs: Vec<Var>,
-    outputs: Vec<Outlet>,
-    loads: Vec<Loaded>,
-    stores: Vec<u32>,
-    turn_nodes: Vec<TurnNode>,
-    operations: Vec<Op>,
+    lists: GraphLists,
 }
 
 impl Model for Graph {
-    ghost use Rattle.op_graph.specs.Lists.{Lists};
+    ghost use Rattle.op_graph.specs.Lists.{Lists, lists_of};
     ghost use Rattle.op_graph.specs.Rules.{IsGraph};
 
     ghost Value = { Lists };
 
-    ghost view = { λ g. record {
-      profile = g.profile;
-      names = g.names.items;
-      inputs = g.inputs.items;
-      outputs = g.outputs.items;
-      loads = g.loads.items;
-      stores = g.stores.items;
-      turn_nodes = g.turn_nodes.items;
-      operations = g.operations.items;
-    } };
+    ghost view = { λ g. lists_of g.lists };
 
-    ghost invariant = { λ g. IsGraph
-        (record {
-          profile = g.profile;
-          names = g.names.items;
-          inputs = g.inputs.items;
-          outputs = g.outputs.items;
-          loads = g.loads.items;
-          stores =
-              g.stores.items;
-          turn_nodes = g.turn_nodes.items;
-          operations = g.operations.items;
-        }) };
+    ghost invariant = { λ g. IsGraph (lists_of g.lists) };
 }
 
 impl Graph {
     /// The graph of these lists, where they are one by the rules. It takes no memory.
-    pub fn from_lists(
-        profile: Profile,
-        names: Vec<Text>,
-        inputs: Vec<Var>,
-        outputs: Vec<Outlet>,
-        loads: Vec<Loaded>,
-        stores: Vec<u32>,
-        turn_nodes: Vec<TurnNode>,
-        operations: Vec<Op>,
-    ) -> Graph
-        requires { IsGraph (record {
-          profile = profile;
-          names = names.items;
-          inputs = inputs.items;
-          outputs = outputs.items;
-          loads = loads.items;
-          stores = stores.items;
-          turn_nodes = turn_nodes.items;
-          operations = operations.items;
-        }) }
-        ensures { result
-            ≡ record {
-              profile = profile;
-              names = names.items;
-              inputs = inputs.items;
-              outputs = outputs.items;
-              loads = loads.items;
-              stores =
-                  stores.items;
-              turn_nodes = turn_nodes.items;
-              operations = operations.items;
-            } }
+    pub fn from_lists(lists: GraphLists) -> Graph
+        requires { IsGraph (lists_of lists) }
+        ensures { result ≡ lists_of lists }
     {
-        Graph {
-            profile,
-            names,
-            inputs,
-            outputs,
-            loads,
-            stores,
-            turn_nodes,
-            operations,
-        }
+        Graph { lists }
+    }
+
+    /// The lists of the graph, given back. It takes no memory.
+    pub fn into_lists(self) -> GraphLists
+        ensures lists { lists_of result ≡ self }
+        ensures rules { IsGraph self }
+    {
+        self.lists
+    }
+
+    /// The same lists with other operations, where they are a graph by the rules. It takes no memory.
+    pub fn with_operations(self, operations: Vec<Op>) -> Graph
+        requires { IsGraph (record self { operations = operations.items }) }
+        ensures { result ≡ record self { operations = operations.items } }
+    {
+        let mut lists = self.lists;
+        lists.operations = operations;
+        Graph { lists }
     }
 
     /// The code of the graph, which has words of each type in it: a narrow graph has no LINT.
@@ -111,7 +65,7 @@ impl Graph {
         ensures value { result ≡ self.now.profile }
         ensures types { HasTypes self.now }
     {
-        self.profile
+        self.lists.profile
     }
 
     /// The same lists in the wide code, and so the same run. It takes no memory.
@@ -119,16 +73,9 @@ impl Graph {
         ensures lists { result ≡ record self { profile = Profile.Wide } }
         ensures run { (rows : List (List ℤ)) → graph_run result rows ≡ graph_run self rows }
     {
-        Graph::from_lists(
-            Profile::Wide,
-            self.names,
-            self.inputs,
-            self.outputs,
-            self.loads,
-            self.stores,
-            self.turn_nodes,
-            self.operations,
-        )
+        let mut lists = self.lists;
+        lists.profile = Profile::Wide;
+        Graph { lists }
     }
 
     /// How many operations there are, at most 65,536.
@@ -136,28 +83,28 @@ impl Graph {
         ensures count { result ≡ length self.now.operations }
         ensures rules { IsGraph self.now }
     {
-        self.operations.len() as u32
+        self.lists.operations.len() as u32
     }
 
     /// How many names there are, at most 1,024.
     pub fn names(&self) -> u32
         ensures { result ≡ length self.now.names }
     {
-        self.names.len() as u32
+        self.lists.names.len() as u32
     }
 
     /// How many inputs there are, at most 1,024.
     pub fn inputs(&self) -> u32
         ensures { result ≡ length self.now.inputs }
     {
-        self.inputs.len() as u32
+        self.lists.inputs.len() as u32
     }
 
     /// How many outputs there are, at most 1,024.
     pub fn outputs(&self) -> u32
         ensures { result ≡ length self.now.outputs }
     {
-        self.outputs.len() as u32
+        self.lists.outputs.len() as u32
     }
 
     /// How many cells there are, at most 1,024.
@@ -166,14 +113,64 @@ impl Graph {
         ensures loads { result ≡ length self.now.loads }
         ensures stores { result ≡ length self.now.stores }
     {
-        self.loads.len() as u32
+        self.lists.loads.len() as u32
     }
 
     /// How many turn nodes there are, at most 65,536.
     pub fn turn_nodes(&self) -> u32
         ensures { result ≡ length self.now.turn_nodes }
     {
-        self.turn_nodes.len() as u32
+        self.lists.turn_nodes.len() as u32
+    }
+
+    /// The operations, in their order.
+    pub fn operations(&self) -> &[Op]
+        ensures list { result.now ≡ self.now.operations }
+        ensures rules { IsGraph self.now }
+    {
+        &self.lists.operations
+    }
+
+    /// The names, in their order.
+    pub fn all_names(&self) -> &[Text]
+        ensures { result.now ≡ self.now.names }
+    {
+        &self.lists.names
+    }
+
+    /// The inputs, in their order.
+    pub fn all_inputs(&self) -> &[Var]
+        ensures { result.now ≡ self.now.inputs }
+    {
+        &self.lists.inputs
+    }
+
+    /// The outputs, in their order.
+    pub fn all_outputs(&self) -> &[Outlet]
+        ensures { result.now ≡ self.now.outputs }
+    {
+        &self.lists.outputs
+    }
+
+    /// What the LOAD of each cell makes, in the order of the cells.
+    pub fn loads(&self) -> &[Loaded]
+        ensures { result.now ≡ self.now.loads }
+    {
+        &self.lists.loads
+    }
+
+    /// The number of each cell's STORE, in the order of the cells.
+    pub fn stores(&self) -> &[u32]
+        ensures { result.now ≡ self.now.stores }
+    {
+        &self.lists.stores
+    }
+
+    /// The turn nodes, in their order, the first of which has number 1.
+    pub fn all_turn_nodes(&self) -> &[TurnNode]
+        ensures { result.now ≡ self.now.turn_nodes }
+    {
+        &self.lists.turn_nodes
     }
 
     /// Name `i`, where `i` is below the number of names.
@@ -181,7 +178,7 @@ impl Graph {
         requires { i < length self.now.names }
         ensures { slice_get self.now.names i ≡ Some result.now }
     {
-        &self.names[i as usize]
+        &self.lists.names[i as usize]
     }
 
     /// Input `i`, where `i` is below the number of inputs.
@@ -189,7 +186,7 @@ impl Graph {
         requires { i < length self.now.inputs }
         ensures { slice_get self.now.inputs i ≡ Some result }
     {
-        self.inputs[i as usize]
+        self.lists.inputs[i as usize]
     }
 
     /// Output `i`, where `i` is below the number of outputs.
@@ -197,7 +194,7 @@ impl Graph {
         requires { i < length self.now.outputs }
         ensures { slice_get self.now.outputs i ≡ Some result }
     {
-        self.outputs[i as usize]
+        self.lists.outputs[i as usize]
     }
 
     /// Cell `i`, where `i` is below the number of cells.
@@ -205,13 +202,13 @@ impl Graph {
         requires { i < length (cells self.now) }
         ensures { slice_get (cells self.now) i ≡ Some result }
     {
-        let loaded = self.loads[i as usize];
+        let loaded = self.lists.loads[i as usize];
         Cell {
             name: loaded.name,
             ty: loaded.ty,
             init: loaded.init,
             load: loaded.load,
-            store: self.stores[i as usize],
+            store: self.lists.stores[i as usize],
         }
     }
 
@@ -221,7 +218,7 @@ impl Graph {
         requires to { i ≤ length self.now.turn_nodes }
         ensures { slice_get self.now.turn_nodes (i - 1) ≡ Some result }
     {
-        self.turn_nodes[i as usize - 1]
+        self.lists.turn_nodes[i as usize - 1]
     }
 
     /// Operation `i`, where `i` is below the number of operations.
@@ -229,7 +226,7 @@ impl Graph {
         requires { i < length self.now.operations }
         ensures { slice_get self.now.operations i ≡ Some result }
     {
-        self.operations[i as usize]
+        self.lists.operations[i as usize]
     }
 
     /// The turns round operation `i`, outermost first, where `i` is below the number of operations.
@@ -239,8 +236,8 @@ impl Graph {
         ensures turns { IfSome (slice_get self.now.operations i) (λ op. result ≡ turns_of self.now op.turn) }
         ensures named { All (λ turn. turn.name < length self.now.names) result }
     {
-        let op = &self.operations[i as usize];
-        turns_round(&self.turn_nodes, op.turn)
+        let op = &self.lists.operations[i as usize];
+        turns_round(&self.lists.turn_nodes, op.turn)
     }
 
     /// The names and types of the inputs, in order.
@@ -248,7 +245,7 @@ impl Graph {
         ensures { IfOk result (λ columns. columns ≡ map (column_of self.now.names) self.now.inputs) }
     {
         let mut columns = Columns::new(alloc);
-        'inputs: for input in &self.inputs {
+        'inputs: for input in &self.lists.inputs {
             columns.push(self.column(alloc, input.name, input.ty)?)?;
         }
         Ok(columns)
@@ -259,7 +256,7 @@ impl Graph {
         ensures { IfOk result (λ columns. columns ≡ map (output_column self.now.names) self.now.outputs) }
     {
         let mut columns = Columns::new(alloc);
-        'outputs: for output in &self.outputs {
+        'outputs: for output in &self.lists.outputs {
             columns.push(self.column(alloc, output.name, output.ty)?)?;
         }
         Ok(columns)
@@ -271,7 +268,7 @@ impl Graph {
         ensures { IfOk result (λ column. column ≡ record { name = slice_index_or self.now.names name []; ty = ty }) }
     {
         Ok(Column {
-            name: Text::copy_of(alloc, self.names[name as usize].bytes())?,
+            name: Text::copy_of(alloc, self.lists.names[name as usize].bytes())?,
             ty,
         })
     }

@@ -12,6 +12,7 @@ ghost use Rattle.op_graph.specs.Building.{type_of, cell_type};
 
 use crate::build::Build;
 use crate::graph::Graph;
+use crate::lists::GraphLists;
 use crate::op::{Loaded, Op, Outlet, TurnNode, Var};
 use std::alloc::Global;
 use std::marker::Model;
@@ -294,15 +295,15 @@ impl GraphBuilder {
         requires { length self.stores ≡ length self.loads }
         ensures { result ≡ self }
     {
-        Graph::from_lists(
-            self.profile,
-            self.names,
-            self.inputs,
-            self.outputs,
-            self.loads,
-            self.stores,
-            self.turn_nodes,
-            self.operations,
-        )
+        Graph::from_lists(GraphLists {
+            profile: self.profile,
+            names: self.names,
+            inputs: self.inputs,
+            outputs: self.outputs,
+            loads: self.loads,
+            stores: self.stores,
+            turn_nodes: self.turn_nodes,
+            operations: self.operations,
+        })
     }
 }

@@ -4,7 +4,8 @@ ghost use Rattle.std.specs.Prelude.{◌≡◌, ◌≤◌, ℕ, Some, FitsSigned,
 ghost use Rattle.std.specs.Int.{w64};
 ghost use Rattle.op_graph.specs.Laws.{OperandLaws, ReadLaws, EntryLaws, CellLaws, WalkLaws};
 ghost use Rattle.op_graph.specs.Lists.{Lists};
-ghost use Rattle.op_graph.specs.Rules.{IsPart, Place, kind_fits, lists_of, ty_fits};
+ghost use Rattle.op_graph.specs.Rules.{IsPart, kind_fits, lists_of, ty_fits};
+ghost use Rattle.op_graph.specs.declared.rules.Place.{Place};
 ghost use Rattle.op_graph.specs.declared.op.Loaded.{Loaded as LoadedValue};
 ghost use Rattle.op_graph.specs.declared.op.Op.{Op as Operation};
 ghost use Rattle.vcp_base.specs.declared.kind.Kind.{Kind as KindOf};

@@ -8,7 +8,9 @@ mod build;
 mod graph;
 mod graph_builder;
 mod laws;
+mod lists;
 mod op;
+mod rules;
 mod turns_round;
 
 pub use build::Build;
@@ -19,5 +21,10 @@ pub use laws::{
     fields_are_wrong_in_order, numbers_have_64_bits, operands_are_in_their_types,
     operands_are_there,
 };
+pub use lists::GraphLists;
 pub use op::{Cell, Loaded, Op, Outlet, TurnNode, Var};
+pub use rules::{
+    Entry, Place, converts, entry_of, from_fits, imm_fits, kind_fits, operand_fits, reads_as,
+    reads_operation, takes_type, turn_fits, ty_fits,
+};
 pub use turns_round::TurnsRound;

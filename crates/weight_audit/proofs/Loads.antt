@@ -15,7 +15,9 @@ use Rattle.vcp_base.specs.Values.{at}
 use Rattle.op_graph.specs.declared.op.Cell.{Cell}
 use Rattle.op_graph.specs.declared.op.Loaded.{Loaded}
 use Rattle.op_graph.specs.Lists.{Lists, joined}
-use Rattle.op_graph.specs.Rules.{Place, Entry, entry, entry_of, found, LoadFits, kind_fits, imm_fits, agree, is_input, is_load, is_store, is_out}
+use Rattle.op_graph.specs.Rules.{entry, entry_of, found, LoadFits, kind_fits, imm_fits, agree, is_input, is_load, is_store, is_out}
+use Rattle.op_graph.specs.declared.rules.Place.{Place}
+use Rattle.op_graph.specs.declared.rules.Entry.{Entry}
 use Rattle.weight_audit.specs.Weights.{across}
 use Rattle.weight_audit.proofs.Along.{along, along_plus, along_zero, along_pick, cond_no, cond_yes}
 

@@ -13,4 +13,3 @@ pub mod weigh;
 
 pub use kept::{AuditFault, Weights};
 pub use laws::differences_come_as_weights;
-pub use numbers::reads_operation;

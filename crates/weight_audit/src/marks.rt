@@ -8,8 +8,7 @@ ghost use Rattle.op_graph.specs.Rules.{IsGraph, reads_as};
 ghost use Rattle.weight_audit.specs.Paths.{Crosses, Reached};
 ghost use Rattle.weight_audit.specs.Sweeping.{mark as mark_at, Takes, MarksRead, MarksStore, CrossesMarked, AreMarks, MarksBefore};
 
-use crate::numbers::reads_operation;
-use op_graph::{Cell, Graph, Op, entries_keep_their_rules, operands_are_there};
+use op_graph::{Cell, Graph, Op, entries_keep_their_rules, operands_are_there, reads_operation};
 use std::alloc::Global;
 use vcp_base::Memory;
 

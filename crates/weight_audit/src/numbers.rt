@@ -2,7 +2,6 @@
 
 ghost use Rattle.std.specs.Option.{is_some};
 ghost use Rattle.std.specs.Prelude.{◌≡◌, ◌<◌, ◌≤◌, ℕ, ℤ, List, true, pos, negsuc, ◌+ℤ◌, ◌*ℤ◌, ◌≤ℤ◌, length, replicate, IfOk};
-ghost use Rattle.vcp_base.specs.declared.ty.Ty.{Ty as Type_};
 ghost use Rattle.vcp_base.specs.Values.{at};
 ghost use Rattle.op_graph.specs.Lists.{cells};
 ghost use Rattle.op_graph.specs.Reads.{named};
@@ -11,19 +10,9 @@ ghost use Rattle.weight_audit.specs.Weights.{share, factor as factor_of, weights
 ghost use Rattle.weight_audit.specs.Sweeping.{number, greater, AreResidues, AreWeights, WeightsBefore};
 
 use coded_unit::{remainder, words_split_in_one_way};
-use op_graph::{Cell, Graph, Op, entries_keep_their_rules, operands_are_there};
+use op_graph::{Cell, Graph, Op, entries_keep_their_rules, operands_are_there, reads_operation};
 use std::alloc::Global;
-use vcp_base::{Kind, Memory, Profile, Residue, multiplier, operands};
-
-/// Whether operand `j` of an operation of this kind is an operation: a LOAD reads its cell.
-pub fn reads_operation(kind: Kind, j: u32) -> bool
-    ensures { (from : Type_) → result ≡ is_some (reads_as kind from j) }
-{
-    match kind {
-        Kind::Load => false,
-        _ => j < operands(kind),
-    }
-}
+use vcp_base::{Memory, Profile, Residue, multiplier};
 
 /// A number, and a factor times another.
 fn plus(number: Residue, factor: i32, by: Residue) -> i128

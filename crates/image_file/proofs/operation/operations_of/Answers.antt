@@ -2,10 +2,11 @@ use Rattle.std.proofs.Common.{Ok, Err, refl, ◌≡◌, [], subst, arith, length
 use Rattle.std.proofs.lemmas.Result.{err_from_is_err_and}
 use Rattle.std.proofs.lemmas.List.{length_push}
 use Rattle.op_graph.specs.declared.op.Op.{Op}
-use Rattle.op_graph.specs.Rules.{Place, place_of}
+use Rattle.op_graph.specs.Rules.{place_of}
+use Rattle.op_graph.specs.declared.rules.Place.{Place}
 use Rattle.image_fields.specs.Pieces.{many}
 use Rattle.image_file.specs.Image.{Said, op_by, op_piece}
-use Rattle.image_file.specs.Views.{said_of, place}
+use Rattle.image_file.specs.Views.{said_of}
 use Rattle.image_file.proofs.Loop.{goes_on, ends_with, is_done}
 use Rattle.image_file.proofs.operation.operations_of.Goals as goal
 
@@ -13,10 +14,10 @@ pub returns-in_err-entry : goal.returns-in_err-entry
 returns-in_err-entry c =
     let p = err_from_is_err_and c.from_residual.result c.from_residual.ensures.1 in
     let s : Said = said_of c.args.s.now in
-    let before : (op_by (place c.place-place.result) s c.entries.found.items).read c.entries.rest.now ≡ Err c.in_err-entry.field-0.0 =
-    subst (λ (b : List Op). (op_by (place c.place-place.result) s b).read c.entries.rest.now ≡ Err
+    let before : (op_by c.place-place.result s c.entries.found.items).read c.entries.rest.now ≡ Err c.in_err-entry.field-0.0 =
+    subst (λ (b : List Op). (op_by c.place-place.result s b).read c.entries.rest.now ≡ Err
     c.in_err-entry.field-0.0) c.deref.ensures.value c.in_err-entry.ensures in
-    let here : place c.place-place.result ≡ place_of s.scope (length c.entries.found.items) = c.place-place.ensures
+    let here : c.place-place.result ≡ place_of s.scope (length c.entries.found.items) = c.place-place.ensures
     ∙ ap (place_of s.scope) (sym c.entries.invariant.1) in
     let fails : (op_piece s c.entries.found.items).read c.entries.rest.now ≡ Err c.in_err-entry.field-0.0 =
     subst (λ (q : Place). (op_by q s c.entries.found.items).read c.entries.rest.now ≡ Err c.in_err-entry.field-0.0) here before in
@@ -27,10 +28,10 @@ returns-in_err-entry c =
 pub entries-preserved : goal.entries-preserved
 entries-preserved c =
     let s : Said = said_of c.args.s.now in
-    let before : (op_by (place c.place-place.result) s c.entries.found.items).read c.entries.rest.now ≡ Ok (c.in_ok-entry.entry, c.in_ok-entry.after.now) =
-    subst (λ (b : List Op). (op_by (place c.place-place.result) s b).read c.entries.rest.now ≡ Ok
+    let before : (op_by c.place-place.result s c.entries.found.items).read c.entries.rest.now ≡ Ok (c.in_ok-entry.entry, c.in_ok-entry.after.now) =
+    subst (λ (b : List Op). (op_by c.place-place.result s b).read c.entries.rest.now ≡ Ok
     (c.in_ok-entry.entry, c.in_ok-entry.after.now)) c.deref.ensures.value c.in_ok-entry.ensures in
-    let here : place c.place-place.result ≡ place_of s.scope (length c.entries.found.items) = c.place-place.ensures
+    let here : c.place-place.result ≡ place_of s.scope (length c.entries.found.items) = c.place-place.ensures
     ∙ ap (place_of s.scope) (sym c.entries.invariant.1) in
     let reads : (op_piece s c.entries.found.items).read c.entries.rest.now ≡ Ok (c.in_ok-entry.entry, c.in_ok-entry.after.now) =
     subst (λ (q : Place). (op_by q s c.entries.found.items).read c.entries.rest.now ≡ Ok (c.in_ok-entry.entry, c.in_ok-entry.after.now)) here before in

@@ -10,17 +10,17 @@ use Rattle.op_graph.proofs.graph.Graph.cell.Goals as goal
 pub index-loaded-requires : goal.index-loaded-requires
 index-loaded-requires c =
     let below = subst (λ (g : Lists). c.args.i < length (cells g)) (sym c.self.view_is) c.requires in
-    omega (arith, (joined_fewer c.self.inside.loads.items c.self.inside.stores.items).0)
+    omega (arith, (joined_fewer c.self.inside.lists.loads.items c.self.inside.lists.stores.items).0)
 
 pub index-requires : goal.index-requires
 index-requires c =
     let below = subst (λ (g : Lists). c.args.i < length (cells g)) (sym c.self.view_is) c.requires in
-    omega (arith, (joined_fewer c.self.inside.loads.items c.self.inside.stores.items).1)
+    omega (arith, (joined_fewer c.self.inside.lists.loads.items c.self.inside.lists.stores.items).1)
 
 pub returns : goal.returns
 returns c =
-    let loads = c.self.inside.loads.items in
-    let stores = c.self.inside.stores.items in
+    let loads = c.self.inside.lists.loads.items in
+    let stores = c.self.inside.lists.stores.items in
     let l = c.index-loaded.result.now in
     let n = c.index.result.now in
     let below = subst (λ (g : Lists). c.args.i < length (cells g)) (sym c.self.view_is) c.requires in

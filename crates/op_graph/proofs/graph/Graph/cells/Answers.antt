@@ -8,5 +8,5 @@ pub returns-clause-count : goal.returns-clause-count
 returns-clause-count c =
     let all : length (cells c.args.self.now) ≡ length c.args.self.now.loads =
     subst (λ (g : Lists). length (cells g) ≡ length g.loads) c.self.view_is
-    (length-joined c.self.inside.loads.items c.self.inside.stores.items c.self.invariant.all_stored) in
+    (length-joined c.self.inside.lists.loads.items c.self.inside.lists.stores.items c.self.invariant.all_stored) in
     grind (arith, common_steps)

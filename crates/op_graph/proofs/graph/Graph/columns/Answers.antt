@@ -7,8 +7,8 @@ use Rattle.op_graph.proofs.graph.Graph.columns.Goals as goal
 
 pub column-requires : goal.column-requires
 column-requires c =
-    let inputs = c.self.inside.inputs.items in
-    let names = c.self.inside.names.items in
+    let inputs = c.self.inside.lists.inputs.items in
+    let names = c.self.inside.lists.names.items in
     let under = each_under (InputFits (length names)) (λ v. v.name) (length names) _ inputs (λ b x h. h.name) c.self.invariant.part.inputs in
     let there : All (λ v. v.name < length c.args.self.now.names) inputs =
     subst (λ (g : Lists). All (λ v. v.name < length g.names) inputs) c.self.view_is (under_all (λ v. v.name) (length names) inputs under) in
