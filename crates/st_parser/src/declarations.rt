@@ -308,6 +308,7 @@ fn init_ends(
         let opening = with_decl(opening, names, ty, Some(init))?;
         return Ok(State::AtDecl { opening });
     }
+    drop(init);
     refused(t)
 }
 

@@ -60,7 +60,10 @@ pub fn elsif_at(
         Body::OfIfElse { .. }
         | Body::OfBranch { .. }
         | Body::OfCaseElse { .. }
-        | Body::OfLoop { .. } => refused(t),
+        | Body::OfLoop { .. } => {
+            drop(body);
+            refused(t)
+        }
     }
 }
 
@@ -85,7 +88,10 @@ pub fn else_at(
             let selection = with_branch(selection, labels, stmts)?;
             opened(alloc, Body::OfCaseElse { selection }, outer, before)
         }
-        Body::OfIfElse { .. } | Body::OfCaseElse { .. } | Body::OfLoop { .. } => refused(t),
+        Body::OfIfElse { .. } | Body::OfCaseElse { .. } | Body::OfLoop { .. } => {
+            drop(body);
+            refused(t)
+        }
     }
 }
 
@@ -106,7 +112,10 @@ pub fn end_if_at(
             whole(outer, before, Stmt::if_(arms, None))
         }
         Body::OfIfElse { arms } => whole(outer, before, Stmt::if_(arms, Some(stmts))),
-        Body::OfBranch { .. } | Body::OfCaseElse { .. } | Body::OfLoop { .. } => refused(t),
+        Body::OfBranch { .. } | Body::OfCaseElse { .. } | Body::OfLoop { .. } => {
+            drop(body);
+            refused(t)
+        }
     }
 }
 
@@ -136,7 +145,10 @@ pub fn end_case_at(
             );
             whole(outer, before, stmt)
         }
-        Body::OfArm { .. } | Body::OfIfElse { .. } | Body::OfLoop { .. } => refused(t),
+        Body::OfArm { .. } | Body::OfIfElse { .. } | Body::OfLoop { .. } => {
+            drop(body);
+            refused(t)
+        }
     }
 }
 
@@ -164,6 +176,9 @@ pub fn end_for_at(
         Body::OfArm { .. }
         | Body::OfIfElse { .. }
         | Body::OfBranch { .. }
-        | Body::OfCaseElse { .. } => refused(t),
+        | Body::OfCaseElse { .. } => {
+            drop(body);
+            refused(t)
+        }
     }
 }

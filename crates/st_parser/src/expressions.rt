@@ -149,15 +149,18 @@ fn close_at(forms: &mut Vec<Form>, e: Expr, t: Token) -> Result<Progress, Syntax
     ensures { view.GoesOn result forms.new.items
         (spec.close_at (view.forms forms.old.items) (expr_tree e) t) }
 {
-    match take(forms) {
+    let taken = take(forms);
+    match taken {
         Some(Form::Bracket) => Ok(Progress::On(Mode::Have(e))),
         Some(Form::Arguments(name, spot, args)) => {
             let args = extend(args, e)?;
             Ok(Progress::On(Mode::Have(Expr::call(name, args, spot))))
         }
-        Some(Form::Sign(_, _)) => Err(SyntaxFault::Syntax { spot: t.spot }),
-        Some(Form::Left(_, _, _)) => Err(SyntaxFault::Syntax { spot: t.spot }),
-        None => Err(SyntaxFault::Syntax { spot: t.spot }),
+        Some(Form::Sign(_, _)) | Some(Form::Left(_, _, _)) | None => {
+            drop(taken);
+            drop(e);
+            Err(SyntaxFault::Syntax { spot: t.spot })
+        }
     }
 }
 
@@ -166,16 +169,18 @@ fn part_at(forms: &mut Vec<Form>, e: Expr, t: Token) -> Result<Progress, SyntaxF
     ensures { view.GoesOn result forms.new.items
         (spec.part_at (view.forms forms.old.items) (expr_tree e) t) }
 {
-    match take(forms) {
+    let taken = take(forms);
+    match taken {
         Some(Form::Arguments(name, spot, args)) => {
             let args = extend(args, e)?;
             add(forms, Form::Arguments(name, spot, args))?;
             Ok(Progress::On(Mode::Want))
         }
-        Some(Form::Bracket) => Err(SyntaxFault::Syntax { spot: t.spot }),
-        Some(Form::Sign(_, _)) => Err(SyntaxFault::Syntax { spot: t.spot }),
-        Some(Form::Left(_, _, _)) => Err(SyntaxFault::Syntax { spot: t.spot }),
-        None => Err(SyntaxFault::Syntax { spot: t.spot }),
+        Some(Form::Bracket) | Some(Form::Sign(_, _)) | Some(Form::Left(_, _, _)) | None => {
+            drop(taken);
+            drop(e);
+            Err(SyntaxFault::Syntax { spot: t.spot })
+        }
     }
 }
 
@@ -186,6 +191,10 @@ fn end_at(forms: &mut Vec<Form>, e: Expr, t: Token) -> Result<Progress, SyntaxFa
 {
     match take(forms) {
         None => Ok(Progress::Ended(e)),
-        Some(_) => Err(SyntaxFault::Syntax { spot: t.spot }),
+        Some(form) => {
+            drop(form);
+            drop(e);
+            Err(SyntaxFault::Syntax { spot: t.spot })
+        }
     }
 }

@@ -78,6 +78,7 @@ fn const_within(source: Source, depth: usize, t: Token) -> Result<Constant, Synt
 {
     let constant = const_at(source, t)?;
     if depth > source.most {
+        drop(constant);
         return Err(SyntaxFault::Depth { spot: t.spot });
     }
     Ok(constant)
@@ -91,6 +92,7 @@ fn number_within(source: Source, depth: usize, sign: Spot, t: Token) -> Result<E
 {
     let number = number_at(source.alloc, sign, t)?;
     if depth >= source.most {
+        drop(number);
         return Err(SyntaxFault::Depth { spot: t.spot });
     }
     Ok(number)
@@ -175,9 +177,18 @@ fn with_phase(
                 phase,
             },
         }),
-        Err(SyntaxFault::Syntax { spot }) => Err(SyntaxFault::Syntax { spot }),
-        Err(SyntaxFault::Depth { spot }) => Err(SyntaxFault::Depth { spot }),
-        Err(SyntaxFault::Memory) => Err(SyntaxFault::Memory),
+        Err(SyntaxFault::Syntax { spot }) => {
+            drop(selection);
+            Err(SyntaxFault::Syntax { spot })
+        }
+        Err(SyntaxFault::Depth { spot }) => {
+            drop(selection);
+            Err(SyntaxFault::Depth { spot })
+        }
+        Err(SyntaxFault::Memory) => {
+            drop(selection);
+            Err(SyntaxFault::Memory)
+        }
     }
 }
 
@@ -244,6 +255,7 @@ fn label_ends(
     if is(mark, Mark::Colon) {
         return opened(alloc, Body::OfBranch { selection, labels }, outer, stmts);
     }
+    drop(selection);
     refused(t)
 }
 

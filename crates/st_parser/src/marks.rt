@@ -8,7 +8,7 @@ use st_tree::{BinOp, UnOp};
 use vcp_base::Ty;
 
 /// What a token begins where an operand is wanted.
-#[derive(Clone, Copy, Debug, PartialEq, Eq, Drop)]
+#[derive(Clone, Copy, PartialEq, Eq, Drop)]
 pub enum Begins {
     /// A literal.
     Literal { ty: Option<Ty>, value: i64 },
@@ -23,7 +23,7 @@ pub enum Begins {
 }
 
 /// What a token does behind an operand.
-#[derive(Clone, Copy, Debug, PartialEq, Eq, Drop)]
+#[derive(Clone, Copy, Drop)]
 pub enum Goes {
     /// It joins the operand to a next one.
     Joins(BinOp),
@@ -36,7 +36,7 @@ pub enum Goes {
 }
 
 /// What a token is outside expressions.
-#[derive(Clone, Copy, Debug, PartialEq, Eq, Drop)]
+#[derive(Clone, Copy, Drop)]
 pub enum Mark {
     Semi,
     Comma,

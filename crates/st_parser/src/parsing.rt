@@ -41,7 +41,10 @@ fn root_finish(
             blocks: front.blocks,
             body: stmts,
         }),
-        Some(_) => Err(SyntaxFault::Syntax { spot: end }),
+        Some(level) => {
+            drop(level);
+            Err(SyntaxFault::Syntax { spot: end })
+        }
     }
 }
 
@@ -58,12 +61,24 @@ fn body_finish(end: Spot, front: Front, at: At) -> Result<Program, SyntaxFault>
     match phase {
         Phase::Finished => root_finish(end, front, outer, stmts),
         Phase::Start => Err(SyntaxFault::Syntax { spot: end }),
-        Phase::Named { .. } => Err(SyntaxFault::Syntax { spot: end }),
-        Phase::Reading { .. } => Err(SyntaxFault::Syntax { spot: end }),
+        Phase::Named { .. } => {
+            drop(phase);
+            Err(SyntaxFault::Syntax { spot: end })
+        }
+        Phase::Reading { .. } => {
+            drop(phase);
+            Err(SyntaxFault::Syntax { spot: end })
+        }
         Phase::Closed => Err(SyntaxFault::Syntax { spot: end }),
         Phase::LoopBegun { .. } => Err(SyntaxFault::Syntax { spot: end }),
-        Phase::LoopNamed { .. } => Err(SyntaxFault::Syntax { spot: end }),
-        Phase::Labelling { .. } => Err(SyntaxFault::Syntax { spot: end }),
+        Phase::LoopNamed { .. } => {
+            drop(phase);
+            Err(SyntaxFault::Syntax { spot: end })
+        }
+        Phase::Labelling { .. } => {
+            drop(phase);
+            Err(SyntaxFault::Syntax { spot: end })
+        }
     }
 }
 
@@ -75,14 +90,38 @@ fn finish(end: Spot, state: State) -> Result<Program, SyntaxFault>
         State::InBody { front, at } => body_finish(end, front, at),
         State::AtProgram => Err(SyntaxFault::Syntax { spot: end }),
         State::AtName => Err(SyntaxFault::Syntax { spot: end }),
-        State::AtBlock { .. } => Err(SyntaxFault::Syntax { spot: end }),
-        State::AtVar { .. } => Err(SyntaxFault::Syntax { spot: end }),
-        State::AtDecl { .. } => Err(SyntaxFault::Syntax { spot: end }),
-        State::AtComma { .. } => Err(SyntaxFault::Syntax { spot: end }),
-        State::AtNextName { .. } => Err(SyntaxFault::Syntax { spot: end }),
-        State::AtType { .. } => Err(SyntaxFault::Syntax { spot: end }),
-        State::AtInit { .. } => Err(SyntaxFault::Syntax { spot: end }),
-        State::InInit { .. } => Err(SyntaxFault::Syntax { spot: end }),
+        State::AtBlock { .. } => {
+            drop(state);
+            Err(SyntaxFault::Syntax { spot: end })
+        }
+        State::AtVar { .. } => {
+            drop(state);
+            Err(SyntaxFault::Syntax { spot: end })
+        }
+        State::AtDecl { .. } => {
+            drop(state);
+            Err(SyntaxFault::Syntax { spot: end })
+        }
+        State::AtComma { .. } => {
+            drop(state);
+            Err(SyntaxFault::Syntax { spot: end })
+        }
+        State::AtNextName { .. } => {
+            drop(state);
+            Err(SyntaxFault::Syntax { spot: end })
+        }
+        State::AtType { .. } => {
+            drop(state);
+            Err(SyntaxFault::Syntax { spot: end })
+        }
+        State::AtInit { .. } => {
+            drop(state);
+            Err(SyntaxFault::Syntax { spot: end })
+        }
+        State::InInit { .. } => {
+            drop(state);
+            Err(SyntaxFault::Syntax { spot: end })
+        }
     }
 }
 

@@ -25,7 +25,7 @@ use crate::state::{At, Body, LabelPhase, Level, Loop, Phase, Purpose, Selection}
 use st_lexer::Token;
 use st_tree::{Arms, Branches, Expr, Labels, Stmt, Stmts};
 use std::alloc::Global;
-use vcp_base::{Spot, Text};
+use vcp_base::{Memory, Spot, Text};
 
 // A label of the next branch has come so far, behind the statements of a body.
 fn next_label_in(
@@ -43,15 +43,24 @@ fn next_label_in(
         (view.levels outer.items) (stmt_trees before.items.items) (stmt_trees stmts.items.items) (view.label_phase phase) t) }
 {
     match body {
-        Body::OfBranch { selection, labels } => {
-            let selection = with_branch(selection, labels, stmts)?;
-            let labels = Labels::new(source.alloc);
-            label_step(source, outer, before, selection, labels, phase, t)
-        }
+        Body::OfBranch { selection, labels } => match with_branch(selection, labels, stmts) {
+            Ok(selection) => {
+                let labels = Labels::new(source.alloc);
+                label_step(source, outer, before, selection, labels, phase, t)
+            }
+            Err(Memory) => {
+                drop(phase);
+                Err(SyntaxFault::Memory)
+            }
+        },
         Body::OfArm { .. }
         | Body::OfIfElse { .. }
         | Body::OfCaseElse { .. }
-        | Body::OfLoop { .. } => refused(t),
+        | Body::OfLoop { .. } => {
+            drop(body);
+            drop(phase);
+            refused(t)
+        }
     }
 }
 
@@ -70,7 +79,10 @@ fn next_label(
 {
     let mut outer = outer;
     match leave(&mut outer) {
-        None => refused(t),
+        None => {
+            drop(phase);
+            refused(t)
+        }
         Some(level) => next_label_in(source, level.body, outer, level.before, stmts, phase, t),
     }
 }
@@ -156,14 +168,16 @@ fn begun(
     ensures { view.Gives view.state result
         (no_deeper most (length (view.levels outer.items)) t (machine.to (view.levels outer.items) (stmt_trees stmts.items.items) (view.phase phase))) }
 {
-    if depth(&outer) > most {
-        return Err(SyntaxFault::Depth { spot: t.spot });
-    }
-    Ok(At {
+    let at = At {
         outer,
         stmts,
         phase,
-    })
+    };
+    if depth(&at.outer) > most {
+        drop(at);
+        return Err(SyntaxFault::Depth { spot: t.spot });
+    }
+    Ok(at)
 }
 
 // A token where a statement may begin.
@@ -246,6 +260,7 @@ fn assigned(
             phase: Phase::Start,
         });
     }
+    drop(e);
     refused(t)
 }
 
@@ -266,6 +281,7 @@ fn tested(
     if is(mark_of(t.tok), Mark::Then) {
         return opened(alloc, Body::OfArm { arms, cond, spot }, outer, stmts);
     }
+    drop(cond);
     refused(t)
 }
 
@@ -293,6 +309,7 @@ fn selected(
             },
         });
     }
+    drop(on);
     refused(t)
 }
 
@@ -312,6 +329,7 @@ fn loop_begins(
         let purpose = Purpose::ToEnd { head, first };
         return Ok(reading(alloc, outer, stmts, purpose));
     }
+    drop(first);
     refused(t)
 }
 
@@ -343,6 +361,8 @@ fn loop_ends(
         };
         return opened(alloc, body, outer, stmts);
     }
+    drop(first);
+    drop(last);
     refused(t)
 }
 
@@ -370,6 +390,9 @@ fn loop_steps(
         };
         return opened(alloc, body, outer, stmts);
     }
+    drop(first);
+    drop(last);
+    drop(by);
     refused(t)
 }
 
@@ -424,9 +447,18 @@ fn read_at(
             },
         }),
         Ok(Progress::Ended(e)) => take(source.alloc, outer, stmts, purpose, e, t),
-        Err(SyntaxFault::Syntax { spot }) => Err(SyntaxFault::Syntax { spot }),
-        Err(SyntaxFault::Depth { spot }) => Err(SyntaxFault::Depth { spot }),
-        Err(SyntaxFault::Memory) => Err(SyntaxFault::Memory),
+        Err(SyntaxFault::Syntax { spot }) => {
+            drop(purpose);
+            Err(SyntaxFault::Syntax { spot })
+        }
+        Err(SyntaxFault::Depth { spot }) => {
+            drop(purpose);
+            Err(SyntaxFault::Depth { spot })
+        }
+        Err(SyntaxFault::Memory) => {
+            drop(purpose);
+            Err(SyntaxFault::Memory)
+        }
     }
 }
 

@@ -7,6 +7,7 @@ pub mod DeclLaws
 pub mod Faultless
 pub mod ConstantLaws
 pub mod LeastFaults
+pub mod Weight
 pub mod Lighter
 pub mod OneAnswer
 pub mod TypingRows

@@ -4,7 +4,7 @@ use Rattle.st_tree.specs.declared.stmt.Stmt.{Stmt}
 use Rattle.st_tree.specs.declared.stmt.Arm.{Arm}
 use Rattle.st_tree.specs.declared.stmt.Branch.{Branch}
 use Rattle.st_tree.specs.StmtViews.{stmt_tree, stmt_trees, arm_trees, branch_trees}
-use Rattle.st_types.specs.Weight.{stmt_weight, stmts_weight, arms_weight, branches_weight}
+use Rattle.st_types.proofs.Weight.{stmt_weight, stmts_weight, arms_weight, branches_weight}
 
 pub stmt-lighter : (ss : List Stmt) (i : ℕ) (s : Stmt) → i < length ss → s ≡ get_or ss i s → stmt_weight (stmt_tree s) < stmts_weight (stmt_trees ss)
 stmt-lighter [] i s lt is = absurd (omega (arith, lt))

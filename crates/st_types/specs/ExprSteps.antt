@@ -1,4 +1,5 @@
 -- ExprSteps: what the steps of typing an expression give, and the faults that they note.
+-- How the typing works, and no promise: what it promises is in Typing.
 use Rattle.std.specs.Prelude.{◌≡◌, List, Option, None, option_map, option_and_then, map}
 use Rattle.vcp_base.specs.declared.spot.Spot.{Spot}
 use Rattle.st_tree.specs.declared.expr.UnOp.{UnOp}

@@ -10,4 +10,3 @@ pub mod Typing
 pub mod DeclSteps
 pub mod Places
 pub mod Turns
-pub mod Weight

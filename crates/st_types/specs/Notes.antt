@@ -1,4 +1,5 @@
 -- Notes: the least fault so far.
+-- How the typing works, and no promise: what it promises is in Typing.
 use Rattle.std.specs.Prelude.{◌≡◌, ◌⊎◌, Option, Some, None}
 use Rattle.st_types.specs.declared.fault.Fault.{Fault}
 use Rattle.st_types.specs.Faults.{AtMost}

@@ -1,4 +1,5 @@
 -- StmtSteps: what the steps of typing a statement give, and the faults that they note.
+-- How the typing works, and no promise: what it promises is in Typing.
 use Rattle.std.specs.Prelude.{◌≡◌, ℕ, ℤ, List, [], ◌∷◌, ◌++◌, Option, Some, None, option_map}
 use Rattle.vcp_base.specs.declared.spot.Spot.{Spot}
 use Rattle.vcp_base.specs.declared.ty.Ty.{Ty}

@@ -21,14 +21,14 @@ use vcp_base::{Memory, Spot, Ty, fits};
 use vcp_typed::TExpr;
 
 /// The value of a constant form, with its type.
-#[derive(Clone, Copy, Debug, PartialEq, Eq, Drop)]
+#[derive(Clone, Copy, Drop)]
 pub struct Known {
     pub ty: Ty,
     pub value: i64,
 }
 
 /// A constant form: its value, and its type where one is written or declared. A literal may be outside its type.
-#[derive(Clone, Copy, Debug, PartialEq, Eq, Drop)]
+#[derive(Clone, Copy, Drop)]
 pub struct Form {
     pub ty: Option<Ty>,
     pub value: i128,
@@ -36,7 +36,7 @@ pub struct Form {
 
 /// What stands where a number of a type is wanted: the number of the constant form, and the same where there is no
 /// fault inside it.
-#[derive(Clone, Copy, Debug, PartialEq, Eq, Drop)]
+#[derive(Clone, Copy, Drop)]
 pub struct Number {
     pub form: Option<i128>,
     pub value: Option<i64>,
@@ -71,13 +71,14 @@ pub(crate) fn spot_of(e: &Expr) -> Spot
 fn literal_known(e: Option<TExpr>) -> Option<Known>
     ensures { result ≡ option_and_then literal_known_of (option_map texpr_tree e) }
 {
-    match e? {
+    let e = e?;
+    match e {
         TExpr::Lit { ty, value, .. } => Some(Known { ty, value }),
         TExpr::Get { .. } => None,
-        TExpr::Widen { .. } => None,
-        TExpr::Unary { .. } => None,
-        TExpr::Binary { .. } => None,
-        TExpr::Call { .. } => None,
+        TExpr::Widen { .. } | TExpr::Unary { .. } | TExpr::Binary { .. } | TExpr::Call { .. } => {
+            drop(e);
+            None
+        }
     }
 }
 

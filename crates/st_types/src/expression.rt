@@ -79,6 +79,7 @@ fn sign(
     };
     match signed(op, ty_of(&arg)) {
         None => {
+            drop(arg);
             note(first, Rule::Mismatch, spot);
             Ok(None)
         }
@@ -98,13 +99,17 @@ fn operate(
     ensures { IfOk result (λ r. Operates op spot (option_map texpr_tree left) (option_map texpr_tree right) first.old first.new (option_map texpr_tree r)) }
 {
     let Some(left) = left else {
+        drop(right);
         return Ok(None);
     };
     let Some(right) = right else {
+        drop(left);
         return Ok(None);
     };
     match common(op, ty_of(&left), ty_of(&right)) {
         None => {
+            drop(left);
+            drop(right);
             note(first, Rule::Mismatch, spot);
             Ok(None)
         }
@@ -123,6 +128,7 @@ fn push(list: Option<Vec<TExpr>>, e: Option<TExpr>) -> Result<Option<Vec<TExpr>>
         ≡ both (λ xs x. Some (xs ++ x ∷ [])) (option_map (λ v. map texpr_tree v.items) list) (option_map texpr_tree e)) }
 {
     let Some(mut list) = list else {
+        drop(e);
         return Ok(None);
     };
     let Some(e) = e else {
@@ -140,7 +146,10 @@ fn widened_all(alloc: Global, wanted: &[Ty], list: Vec<TExpr>) -> Result<TExprs,
     let mut i: usize = 0;
     'each: for e in list {
         match wanted.get(i) {
-            None => return Ok(out),
+            None => {
+                drop(e);
+                return Ok(out);
+            }
             Some(ty) => out.push(widened(alloc, *ty, e)?)?,
         }
         i += 1;

@@ -5,7 +5,7 @@ ghost use Rattle.std.specs.Prelude.{◌≡◌};
 use vcp_base::{Memory, Spot};
 
 /// A rule that a program may break. At one spot the earlier rule is told.
-#[derive(Clone, Copy, Debug, PartialEq, Eq, Drop)]
+#[derive(Clone, Copy, Drop)]
 pub enum Rule {
     /// A name is declared before.
     Duplicate,
@@ -26,7 +26,7 @@ pub enum Rule {
 }
 
 /// A broken rule and its place.
-#[derive(Clone, Copy, Debug, PartialEq, Eq, Drop)]
+#[derive(Clone, Copy, Drop)]
 pub struct Fault {
     pub rule: Rule,
     pub spot: Spot,

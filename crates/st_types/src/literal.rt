@@ -11,7 +11,7 @@ use vcp_base::{Spot, Ty, fits};
 use vcp_typed::TExpr;
 
 /// A literal without a type, and its spot.
-#[derive(Clone, Copy, Debug, PartialEq, Eq, Drop)]
+#[derive(Clone, Copy, Drop)]
 pub struct Untyped {
     pub value: i64,
     pub spot: Spot,

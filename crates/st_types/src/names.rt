@@ -10,7 +10,7 @@ use std::marker::Model;
 use vcp_base::{Memory, Text, Ty};
 
 /// A declared name, as it is written: its class and type; a constant's value, and a variable's slot.
-#[derive(Debug, Drop)]
+#[derive(Drop)]
 pub struct Entry {
     pub name: Text,
     pub class: Class,

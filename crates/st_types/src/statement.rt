@@ -49,16 +49,19 @@ fn assign_of(
         (option_map tstmt_tree r)) }
 {
     let Some(x) = x else {
+        drop(e);
         return Ok(None);
     };
     let Some(e) = e else {
         return Ok(None);
     };
     if !within(ty_of(&e), x.ty) {
+        drop(e);
         note(first, Rule::Mismatch, spot);
         return Ok(None);
     }
     if !is_free(held, x) {
+        drop(e);
         return Ok(None);
     }
     let value = widened(alloc, x.ty, e)?;
@@ -72,6 +75,7 @@ fn tested(e: Option<TExpr>, spot: Spot, first: &mut Option<Fault>) -> Option<TEx
 {
     let e = e?;
     if !is_bool(ty_of(&e)) {
+        drop(e);
         note(first, Rule::Mismatch, spot);
         return None;
     }
@@ -85,6 +89,7 @@ fn selector(e: Option<TExpr>, spot: Spot, first: &mut Option<Fault>) -> Option<T
 {
     let e = e?;
     if is_bool(ty_of(&e)) {
+        drop(e);
         note(first, Rule::Mismatch, spot);
         return None;
     }
@@ -170,8 +175,14 @@ fn case_of(
         ≡ case_of spot (option_map texpr_tree on) (option_map (λ b. tbranch_trees (tbranch_items b)) branches) (option_map tother_tree other) }
 {
     let on = on?;
-    let branches = branches?;
-    let other = other?;
+    let Some(branches) = branches else {
+        drop(on);
+        return None;
+    };
+    let Some(other) = other else {
+        drop(on);
+        return None;
+    };
     Some(TStmt::case(on, branches, other, spot))
 }
 
@@ -184,6 +195,7 @@ fn with_stmt(list: Option<TStmts>, s: Option<TStmt>) -> Result<Option<TStmts>, M
         ≡ both stmt_after (option_map (λ b. tstmt_trees b.items.items) list) (option_map tstmt_tree s)) }
 {
     let Some(mut list) = list else {
+        drop(s);
         return Ok(None);
     };
     let Some(s) = s else {
@@ -205,12 +217,14 @@ fn with_arm(
         ≡ arm_after spot (option_map (λ a. tarm_trees (tarm_items a)) list) (option_map texpr_tree cond) (option_map (λ b. tstmt_trees b.items.items) body)) }
 {
     let Some(mut list) = list else {
+        drop(cond);
         return Ok(None);
     };
     let Some(cond) = cond else {
         return Ok(None);
     };
     let Some(body) = body else {
+        drop(cond);
         return Ok(None);
     };
     list.push(TArm { cond, body, spot })?;

@@ -10,7 +10,7 @@ use Rattle.vcp_typed.specs.TStmtViews.{tstmt_tree, tstmt_trees, tother_tree}
 use Rattle.st_types.specs.ExprTyping.{both}
 use Rattle.st_types.specs.StmtTyping.{arm_of, branch_of}
 use Rattle.st_types.specs.StmtSteps.{TypesLabels, TypesStmt, TypesStmts, TypesArms, TypesBranches, TypesOther}
-use Rattle.st_types.specs.Weight.{stmt_weight, stmts_weight, other_weight}
+use Rattle.st_types.proofs.Weight.{stmt_weight, stmts_weight, other_weight}
 use Rattle.st_types.proofs.Lighter.{stmt-lighter, arm-lighter, branch-lighter}
 use Rattle.st_types.proofs.StmtNodes.{if-types, case-types, for-types, stmt_cons, more-stmts, no-more-stmts, stmts-on, stmts-end, more-arms, no-more-arms}
 use Rattle.st_types.proofs.StmtNodes.{arms-on, arms-end, more-branches, no-more-branches, branches-on, branches-end, no-else, some-else}

@@ -6,7 +6,7 @@ use Rattle.vcp_typed.specs.TStmtViews.{tstmt_trees, tarm_trees, tbranch_trees}
 use Rattle.st_types.specs.declared.fault.Fault.{Fault}
 use Rattle.st_types.specs.ExprTyping.{both}
 use Rattle.st_types.specs.StmtSteps.{TypesStmts, TypesArms, TypesBranches}
-use Rattle.st_types.specs.Weight.{stmt_weight, stmts_weight, arms_weight, branches_weight, other_weight}
+use Rattle.st_types.proofs.Weight.{stmt_weight, stmts_weight, arms_weight, branches_weight, other_weight}
 use Rattle.st_types.proofs.StmtNodes.{stmts_glue, arms_glue, branches_glue}
 use Rattle.st_types.proofs.environment.Environment.+statements.Given as goal
 
