@@ -94,12 +94,11 @@ stays l (program.Left op a s) fs e h =
 stays l program.Bracket fs e h = refl
 stays l (program.Arguments f s es) fs e h = refl
 
-pub close-stays : (l : ℕ) (old new back : List Form) (f : Form) (e : ExprTree) → old ≡ new ++ f ∷ [] → back ≡ new ++ f ∷ [] → Stays l f
-    → machine.close l (forms old) e ≡ record { forms = forms back; expr = e }
-close-stays l old new back f e is back-is h =
+pub close-reopens : (l : ℕ) (old new : List Form) (f : Form) (e : ExprTree) → old ≡ new ++ f ∷ [] → Stays l f
+    → machine.close l (forms old) e ≡ record { forms = form f ∷ forms new; expr = e }
+close-reopens l old new f e is h =
     ap (λ (x : List Form). machine.close l (forms x) e) is ∙ ap (λ (fs : List machine.Form). machine.close l fs e) (forms-push new f)
     ∙ stays l f (forms new) e h
-    ∙ ap (λ (fs : List machine.Form). at fs e) (sym (forms-push new f)) ∙ ap (λ (x : List Form). at (forms x) e) (sym back-is)
 
 pub close-none : (l : ℕ) (old new : List Form) (e : ExprTree) → old ≡ new ++ [] → length new ≡ 0
     → machine.close l (forms old) e ≡ record { forms = forms new; expr = e }

@@ -104,6 +104,7 @@ fn decl_at(source: Source, opening: Opening, mark: Mark, t: Token) -> Result<Sta
         let front = with_block(opening)?;
         return Ok(State::AtBlock { front });
     }
+    drop(opening);
     refused(t)
 }
 
@@ -209,6 +210,7 @@ fn comma_at(opening: Opening, names: DeclaredNames, t: Token) -> Result<State, S
     if is(mark, Mark::Colon) {
         return Ok(State::AtType { opening, names });
     }
+    drop(opening);
     refused(t)
 }
 
@@ -228,6 +230,7 @@ fn next_name_at(
         let names = with_name(source, names, t)?;
         return Ok(State::AtComma { opening, names });
     }
+    drop(opening);
     refused(t)
 }
 
@@ -253,6 +256,7 @@ fn type_at(opening: Opening, names: DeclaredNames, t: Token) -> Result<State, Sy
         let ty = Ty::Lint;
         return Ok(State::AtInit { opening, names, ty });
     }
+    drop(opening);
     refused(t)
 }
 
@@ -288,6 +292,7 @@ fn init_begins(
     if is(mark, Mark::Assign) {
         return Ok(expects(alloc, opening, names, ty));
     }
+    drop(opening);
     refused(t)
 }
 
@@ -337,9 +342,18 @@ fn init_at(
             mode,
         }),
         Ok(Progress::Ended(e)) => init_ends(opening, names, ty, e, t),
-        Err(SyntaxFault::Syntax { spot }) => Err(SyntaxFault::Syntax { spot }),
-        Err(SyntaxFault::Depth { spot }) => Err(SyntaxFault::Depth { spot }),
-        Err(SyntaxFault::Memory) => Err(SyntaxFault::Memory),
+        Err(SyntaxFault::Syntax { spot }) => {
+            drop(opening);
+            Err(SyntaxFault::Syntax { spot })
+        }
+        Err(SyntaxFault::Depth { spot }) => {
+            drop(opening);
+            Err(SyntaxFault::Depth { spot })
+        }
+        Err(SyntaxFault::Memory) => {
+            drop(opening);
+            Err(SyntaxFault::Memory)
+        }
     }
 }
 

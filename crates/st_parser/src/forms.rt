@@ -76,6 +76,15 @@ pub fn extend(args: Exprs, e: Expr) -> Result<Exprs, Memory>
     Ok(args)
 }
 
+// Opens a form again, round an operand that does not close it.
+fn reopened(forms: &mut Vec<Form>, form: Form, have: Expr) -> Result<Expr, Memory>
+    ensures { IfOk result (λ e. view.closed forms.new.items e
+        ≡ record { forms = view.form form ∷ view.forms forms.old.items; expr = expr_tree have }) }
+{
+    add(forms, form)?;
+    Ok(have)
+}
+
 /// Closes the signs, and the operators of the level and above, round an operand.
 pub fn close(alloc: Global, forms: &mut Vec<Form>, level: u8, have: Expr) -> Result<Expr, Memory>
     ensures { IfOk result (λ e. spec.close level (view.forms forms.old.items) (expr_tree have)
@@ -87,18 +96,18 @@ pub fn close(alloc: Global, forms: &mut Vec<Form>, level: u8, have: Expr) -> Res
             Some(Form::Sign(op, spot)) => have = Expr::unary(alloc, op, have, spot)?,
             Some(Form::Left(op, left, spot)) => {
                 if level_of(op) < level {
-                    forms.push(Form::Left(op, left, spot))?;
-                    return Ok(have);
+                    let open = reopened(forms, Form::Left(op, left, spot), have)?;
+                    return Ok(open);
                 }
                 have = Expr::binary(alloc, op, left, have, spot)?;
             }
             Some(Form::Bracket) => {
-                forms.push(Form::Bracket)?;
-                return Ok(have);
+                let open = reopened(forms, Form::Bracket, have)?;
+                return Ok(open);
             }
             Some(Form::Arguments(name, spot, args)) => {
-                forms.push(Form::Arguments(name, spot, args))?;
-                return Ok(have);
+                let open = reopened(forms, Form::Arguments(name, spot, args), have)?;
+                return Ok(open);
             }
             None => return Ok(have),
         }

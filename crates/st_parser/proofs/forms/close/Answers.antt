@@ -1,9 +1,8 @@
-use Rattle.std.proofs.Common.{is_ok, sym, ap, ◌∙◌, arith}
-use Rattle.std.proofs.ResultArms.{chosen}
+use Rattle.std.proofs.Common.{sym, ap, ◌∙◌, arith}
 use Rattle.st_tree.specs.ExprTree.{ExprTree}
 use Rattle.st_parser.specs.ExprMachine as machine
 use Rattle.st_parser.specs.FormViews.{forms}
-use Rattle.st_parser.proofs.Frames.{close-sign, close-left, close-stays, close-none}
+use Rattle.st_parser.proofs.Frames.{close-sign, close-left, close-reopens, close-none}
 use Rattle.st_parser.proofs.forms.close.Goals as goal
 
 pub closing-preserved-in-Some-Sign : goal.closing-preserved-in-Some-Sign
@@ -21,20 +20,20 @@ closing-preserved c =
 pub returns-then-level_of-level : goal.returns-then-level_of-level
 returns-then-level_of-level c =
     let o = rw c.in-Some-Left.field-0-is at c.in-Some-Left.ensures.items in
-    let b = chosen _ _ _ _ c.push.ensures.items (ap is_ok c.in_ok-push-in-Some-Left.was) in
-    sym c.closing.invariant ∙ close-stays c.args.level c.closing.forms.items c.pop.new.self.items c.push.new.self.items _ _ o b (omega arith)
+    sym c.closing.invariant ∙ close-reopens c.args.level c.closing.forms.items c.pop.new.self.items _ _ o (omega arith)
+    ∙ sym c.in_ok-open-in-Some-Left.ensures
 
 pub returns-in-Some-Bracket : goal.returns-in-Some-Bracket
 returns-in-Some-Bracket c =
     let o = rw c.in-Some-Bracket.field-0-is at c.in-Some-Bracket.ensures.items in
-    let b = chosen _ _ _ _ c.push-in-Some-Bracket.ensures.items (ap is_ok c.in_ok-push-in-Some-Bracket.was) in
-    sym c.closing.invariant ∙ close-stays c.args.level c.closing.forms.items c.pop.new.self.items c.push-in-Some-Bracket.new.self.items _ _ o b tt
+    sym c.closing.invariant ∙ close-reopens c.args.level c.closing.forms.items c.pop.new.self.items _ _ o tt
+    ∙ sym c.in_ok-open-in-Some-Bracket.ensures
 
 pub returns-in-Some-Arguments : goal.returns-in-Some-Arguments
 returns-in-Some-Arguments c =
     let o = rw c.in-Some-Arguments.field-0-is at c.in-Some-Arguments.ensures.items in
-    let b = chosen _ _ _ _ c.push-in-Some-Arguments.ensures.items (ap is_ok c.in_ok-push-in-Some-Arguments.was) in
-    sym c.closing.invariant ∙ close-stays c.args.level c.closing.forms.items c.pop.new.self.items c.push-in-Some-Arguments.new.self.items _ _ o b tt
+    sym c.closing.invariant ∙ close-reopens c.args.level c.closing.forms.items c.pop.new.self.items _ _ o tt
+    ∙ sym c.in_ok-open-in-Some-Arguments.ensures
 
 pub returns-in-None : goal.returns-in-None
 returns-in-None c =
