@@ -17,6 +17,7 @@ use vcp_base::{Kind, Profile, Residue, StopKind, multiplier, outcome};
 /// `Range` where the value is outside the call's type, else the word of the value. Its residue comes
 /// from the operands' residues, the correction and the stamp alone, never from the value: what is
 /// wrong with an operand's residue is carried on, times the operand's multiplier.
+#[inline(always)]
 pub fn answer(call: &Call) -> Answer
     requires { Asked call.now }
     ensures right { result ≡ Right call.now }
@@ -26,6 +27,7 @@ pub fn answer(call: &Call) -> Answer
 }
 
 /// The right answer to a call whose correction is a residue of its code.
+#[inline(always)]
 fn right(call: &Call) -> Answer
     requires { call.now.corr < modulus_of call.now.profile }
     ensures { result ≡ Right call.now }
@@ -47,6 +49,7 @@ fn right(call: &Call) -> Answer
 
 /// The residue of an answer, from those of the operands, the correction and the stamp. In the narrow
 /// code it takes 64 bits, which multiply and divide faster than 128.
+#[inline(always)]
 fn residue(
     profile: Profile,
     kind: Kind,
@@ -70,6 +73,7 @@ fn residue(
 }
 
 /// The residue of an answer in the narrow code.
+#[inline(always)]
 fn narrow_residue(kind: Kind, r: u32, s: u32, t: u32, corr: u32, stamp: u32) -> Residue
     ensures value { result ≡ residue_of Profile.Narrow kind r s t corr stamp }
     ensures below { result < 2147483647 }
@@ -82,6 +86,7 @@ fn narrow_residue(kind: Kind, r: u32, s: u32, t: u32, corr: u32, stamp: u32) -> 
 }
 
 /// A factor times a residue or a stamp of the narrow code.
+#[inline(always)]
 fn short_scaled(factor: i32, by: u32) -> i64
     requires low { negsuc 60 ≤ℤ factor }
     requires high { factor ≤ℤ pos 61 }
@@ -92,6 +97,7 @@ fn short_scaled(factor: i32, by: u32) -> i64
 }
 
 /// A sum of four terms and a correction of the narrow code.
+#[inline(always)]
 fn short_total(first: i64, second: i64, third: i64, corr: u32, share: i64) -> i64
     requires first { Short first }
     requires second { Short second }
@@ -122,6 +128,7 @@ fn wide_residue(
 }
 
 /// How often the stamp is added, so that it stands in the answer's residue once.
+#[inline(always)]
 fn stamp_share(kind: Kind) -> i32
     ensures value { result ≡ stamp_share_of kind }
     ensures low { negsuc 60 ≤ℤ result }

@@ -59,6 +59,7 @@ impl Word {
 
     /// The value and the residue of the word in a code with the constant `A`: the one `(v, r)` with
     /// `w = A*v + r` and `r < A`. The value lies between -2^96 and 2^96.
+    #[inline(always)]
     #[tactic(auto, unfolding(crate::specs::Words::modulo, crate::specs::Words::value_part, crate::specs::Words::coded))]
     pub fn split(self, profile: Profile) -> (i128, Residue)
         ensures value { result.0 ≡ value_part profile self }
@@ -73,6 +74,7 @@ impl Word {
 
     /// The word `A*value + residue`, for a value from -2^63 to 2^63. The residue should be below `A`:
     /// only then does `split` give the two back, and a greater one adds to the value part.
+    #[inline(always)]
     #[tactic(auto, unfolding(crate::specs::Words::coded))]
     pub fn packed(profile: Profile, value: i128, residue: Residue) -> Word
         requires low { negsuc (2 ^ 63) ≤ℤ value }
@@ -97,6 +99,7 @@ impl Word {
 
 /// The value part and the residue of an integer in the narrow code, by 64 bits where they are
 /// enough, which divide faster than 128.
+#[inline(always)]
 #[tactic(auto, unfolding(crate::specs::Words::value_part, crate::specs::Words::modulo))]
 fn narrow_parts(code: i128) -> (i128, Residue)
     ensures value { result.0 ≡ value_part Profile.Narrow code }
@@ -115,6 +118,7 @@ fn narrow_parts(code: i128) -> (i128, Residue)
 }
 
 /// The residue of an integer of 64 bits in the narrow code.
+#[inline(always)]
 #[tactic(auto, unfolding(crate::specs::Words::modulo))]
 pub(crate) fn narrow_remainder(code: i64) -> Residue
     ensures value { result ≡ modulo Profile.Narrow code }
@@ -185,6 +189,7 @@ fn step_to(value: i128, rest: i128) -> (i128, Residue)
 /// The value part and the residue of an integer.
 ///
 /// Zero is what stands for an operand that a kind does not have, so it is split at once.
+#[inline(always)]
 #[tactic(auto, using(crate::proofs::Modular::value_part_zero, crate::proofs::Modular::modulo_zero))]
 fn parts(profile: Profile, code: i128) -> (i128, Residue)
     ensures value { result.0 ≡ value_part profile code }

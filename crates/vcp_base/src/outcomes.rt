@@ -13,6 +13,7 @@ use crate::ty::{Ty, fits};
 ///
 /// `Operand` where an operand is outside its type, else `DivZero` where the divisor is 0, else `Range`
 /// where the value is outside `ty`.
+#[inline(always)]
 pub fn outcome(
     kind: Kind,
     from: Ty,
@@ -41,6 +42,7 @@ pub fn outcome(
 }
 
 /// Whether each operand has a value of its type.
+#[inline(always)]
 fn operands_fit(kind: Kind, from: Ty, a: i128, b: i128, c: i128) -> bool
     ensures value { result ≡ operands_fit_of kind from a b c }
     ensures first { result ≡ true → takes_of kind 0 from a ≡ true }
@@ -50,6 +52,7 @@ fn operands_fit(kind: Kind, from: Ty, a: i128, b: i128, c: i128) -> bool
 }
 
 /// Whether `v` may be the value of operand `j`; anything may where the kind has no operand `j`.
+#[inline(always)]
 fn takes(kind: Kind, j: u32, from: Ty, v: i128) -> bool
     ensures { result ≡ takes_of kind j from v }
 {
@@ -61,6 +64,7 @@ fn takes(kind: Kind, j: u32, from: Ty, v: i128) -> bool
 }
 
 /// Whether the kind divides, and the divisor `b` is 0.
+#[inline(always)]
 fn divides_by_zero(kind: Kind, b: i128) -> bool
     ensures { result ≡ divides_by_zero_of kind b }
 {
@@ -71,6 +75,7 @@ fn divides_by_zero(kind: Kind, b: i128) -> bool
 }
 
 /// The value of a kind, from the operation's own number and the values of the operands.
+#[inline(always)]
 fn value(kind: Kind, from: Ty, imm: i64, a: i128, b: i128, c: i128) -> i128
     requires a_fits { takes_of kind 0 from a ≡ true }
     requires b_fits { takes_of kind 1 from b ≡ true }
@@ -97,6 +102,7 @@ fn value(kind: Kind, from: Ty, imm: i64, a: i128, b: i128, c: i128) -> i128
 }
 
 /// 1 for true, 0 for false.
+#[inline(always)]
 fn truth(b: bool) -> i128
     ensures { result ≡ truth_of b }
 {
