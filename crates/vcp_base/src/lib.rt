@@ -28,7 +28,7 @@ pub use limits::{
     MOST_STEP, MOST_TURN_NODES, SEEDS,
 };
 pub use memory::Memory;
-pub use outcomes::outcome;
+pub use outcomes::{outcome, short_outcome};
 pub use row::Row;
 pub use spellings::{kind_code, kind_name, kind_of_code, stop_name, ty_code, ty_name, ty_of_code};
 pub use spot::Spot;
