@@ -46,6 +46,7 @@ pub struct Operands {
 }
 
 /// Whether an answer is a word, and so tells no stop.
+#[inline(always)]
 pub(crate) fn is_word(answer: &Answer) -> bool
     ensures { result ≡ is_word_of answer.now }
 {
@@ -53,6 +54,7 @@ pub(crate) fn is_word(answer: &Answer) -> bool
 }
 
 /// The word of an answer, and 0 where it is none.
+#[inline(always)]
 fn word_of(answer: &Answer) -> Word
     ensures { result ≡ word_of_answer answer.now }
 {
@@ -63,6 +65,7 @@ fn word_of(answer: &Answer) -> Word
 }
 
 /// The word that operation `k` answered, and 0 where it answered none.
+#[inline(always)]
 pub(crate) fn word_at(answers: &[Answer], k: u32) -> Word
     ensures { result ≡ word_at_of answers.now k }
 {
@@ -73,6 +76,7 @@ pub(crate) fn word_at(answers: &[Answer], k: u32) -> Word
 }
 
 /// The word of cell `i`, and 0 where there is no such cell.
+#[inline(always)]
 fn cell_at(held: &[Word], i: u64) -> Word
     ensures { result ≡ at held.now i }
 {
@@ -83,6 +87,7 @@ fn cell_at(held: &[Word], i: u64) -> Word
 }
 
 /// The value of input `i`, and 0 past the row's end.
+#[inline(always)]
 fn input_at(row: &Row, i: u64) -> i64
     ensures { result ≡ at row.now i }
 {
@@ -94,6 +99,7 @@ fn input_at(row: &Row, i: u64) -> i64
 }
 
 /// The value of the input that an INPUT reads, and 0 for any other kind, which reads none.
+#[inline(always)]
 fn own_input(row: &Row, op: &Op) -> i64
     ensures { op.now.kind ≡ Kind.Input → result ≡ at row.now (unsigned_abs op.now.imm) }
 {
@@ -104,6 +110,7 @@ fn own_input(row: &Row, op: &Op) -> i64
 }
 
 /// The word of operand `j` of an operation, which reads operation `from`.
+#[inline(always)]
 fn operand(setting: &Setting<'_>, op: &Op, answers: &[Answer], j: u32, from: u32) -> Word
     ensures { result ≡ operand_word setting.now.held.now answers.now op.now j from }
 {
@@ -117,6 +124,7 @@ fn operand(setting: &Setting<'_>, op: &Op, answers: &[Answer], j: u32, from: u32
 }
 
 /// An operation's own number: the value of its input for INPUT, and else its `imm`.
+#[inline(always)]
 fn own_number(op: &Op, input: i64) -> i64
     ensures { result ≡ own_number_of op.now.kind op.now.imm input }
 {
@@ -128,6 +136,7 @@ fn own_number(op: &Op, input: i64) -> i64
 
 /// The call of operation `i` of a graph in a cycle, counted from 0 and below 1,000,000, with what the
 /// operation reads.
+#[inline(always)]
 pub fn operation_call(graph: &Graph, table: &Table, i: u32, cycle: u32, operands: &Operands) -> Call
     requires operation { i < length graph.now.operations }
     requires table { IsTableOf table.now graph.now }
@@ -153,6 +162,7 @@ pub fn operation_call(graph: &Graph, table: &Table, i: u32, cycle: u32, operands
 }
 
 /// The call of the operation that comes after these answers, which there is.
+#[inline(always)]
 pub(crate) fn call_after(setting: &Setting<'_>, op: &Op, answers: &[Answer]) -> Call
     requires here { slice_get setting.now.graph.now.operations (length answers.now) ≡ Some op.now }
     requires few { length answers.now ≤ most_operations }

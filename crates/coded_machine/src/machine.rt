@@ -136,6 +136,7 @@ impl<'a> Machine<'a> {
     /// exactly where every operation is answered in this cycle, or the last answer put is no word, or
     /// an earlier end is repeated. An input past the end of the row has the value 0, and one outside
     /// its type stops its operation.
+    #[inline(always)]
     pub fn next_call(&self, row: &Row) -> Option<Call>
         requires { self.now.cycles < most_cycles }
         ensures none { IsNone result ↔ Finished self.now }
@@ -151,6 +152,7 @@ impl<'a> Machine<'a> {
     }
 
     /// The operation that is to be called next, where there is one.
+    #[inline(always)]
     fn pending(&self) -> Option<Op>
         ensures none { result ≡ None → Finished self.now }
         ensures some { IfSome result (λ op. Awaits self.now × (slice_get self.now.graph.operations (length (given_of self.now)) ≡ Some op)) }
@@ -169,6 +171,7 @@ impl<'a> Machine<'a> {
     }
 
     /// The call of the operation that comes after the answers put in this cycle.
+    #[inline(always)]
     fn call(&self, row: &Row, op: &Op) -> Call
         requires here { slice_get self.now.graph.operations (length (given_of self.now)) ≡ Some op.now }
         requires cycle { self.now.cycles < most_cycles }
@@ -186,6 +189,7 @@ impl<'a> Machine<'a> {
     }
 
     /// Takes the answer to the next call, which there must be.
+    #[inline(always)]
     pub fn put(&mut self, answer: Answer)
         requires { Awaits self.old }
         ensures { self.new ≡ with_answer self.old answer }
@@ -328,6 +332,7 @@ impl<'a> Machine<'a> {
 }
 
 /// The answers put in this cycle, of those that are kept.
+#[inline(always)]
 fn given(under_way: bool, answers: &[Answer]) -> &[Answer]
     ensures { result.now ≡ cond under_way answers.now [] }
 {
@@ -335,6 +340,7 @@ fn given(under_way: bool, answers: &[Answer]) -> &[Answer]
 }
 
 /// Drops the answers of an earlier cycle.
+#[inline(always)]
 fn keep_given(under_way: bool, answers: &mut Vec<Answer>)
     ensures items { answers.new.items ≡ cond under_way answers.old.items [] }
     ensures capacity { vec_capacity answers.new ≡ vec_capacity answers.old }
@@ -345,6 +351,7 @@ fn keep_given(under_way: bool, answers: &mut Vec<Answer>)
 }
 
 /// Appends an answer where there is room.
+#[inline(always)]
 fn append(answers: &mut Vec<Answer>, given: &Answer)
     requires { length answers.old.items < vec_capacity answers.old }
     ensures items { answers.new.items ≡ answers.old.items ++ given.now ∷ [] }

@@ -51,10 +51,29 @@ pub wide_split : (z v : ℤ) (r : ℕ) → r < 2305843009213693951 → z ≡ pos
 unfolding coded
 wide_split z v r h e = split_is profile.Wide z v r h e
 
+-- the same in the narrow code
+pub narrow_split_is : (z v : ℤ) (r : ℕ) → r < 2147483647 → z ≡ pos 2147483647 *ℤ v +ℤ pos r
+    → (v ≡ value_part profile.Narrow z) × (r ≡ modulo profile.Narrow z)
+unfolding coded
+narrow_split_is z v r h e = split_is profile.Narrow z v r h e
+
+-- an integer, cut at 2^31 and stepped to its parts
+pub cut_once : (z h l x v : ℤ) (s : ℕ) → z ≡ pos (2 ^ 31) *ℤ h +ℤ l → x ≡ h +ℤ l
+    → pos 2147483647 *ℤ h +ℤ x ≡ pos 2147483647 *ℤ v +ℤ pos s → z ≡ pos 2147483647 *ℤ v +ℤ pos s
+cut_once z h l x v s a b e = omega (arith, ints)
+
 -- one integer, cut at 2^61, cut at 2^61 again, and stepped to its parts
 pub cut_twice : (z h l m r v : ℤ) (s : ℕ) → z ≡ pos (2 ^ 61) *ℤ h +ℤ l → h +ℤ l ≡ pos (2 ^ 61) *ℤ m +ℤ r
     → pos 2305843009213693951 *ℤ (h +ℤ m) +ℤ (m +ℤ r) ≡ pos 2305843009213693951 *ℤ v +ℤ pos s → z ≡ pos 2305843009213693951 *ℤ v +ℤ pos s
 cut_twice z h l m r v s a b e = omega (arith, ints)
+
+-- the same in two steps: what is left after the first cut, and after the second
+pub cut_near : (z h l x : ℤ) → z ≡ pos (2 ^ 61) *ℤ h +ℤ l → x ≡ h +ℤ l → z ≡ pos 2305843009213693951 *ℤ h +ℤ x
+cut_near z h l x a b = omega (arith, ints)
+
+pub cut_far : (z h l x m r v w : ℤ) → z ≡ pos (2 ^ 61) *ℤ h +ℤ l → x ≡ h +ℤ l → x ≡ pos (2 ^ 61) *ℤ m +ℤ r → v ≡ h +ℤ m → w ≡ m +ℤ r
+    → z ≡ pos 2305843009213693951 *ℤ v +ℤ w
+cut_far z h l x m r v w a b d e f = omega (arith, ints)
 
 -- the product of a sum
 pub times_plus : (a x y : ℤ) → a *ℤ (x +ℤ y) ≡ a *ℤ x +ℤ a *ℤ y

@@ -27,3 +27,7 @@ Short z = (negsuc (2 ^ 40) ≤ℤ z) × (z ≤ℤ pos (2 ^ 40))
 -- z is far from the ends of 128 bits, so that five such integers are added without overflow
 abbrev pub Small : ℤ → Type 0
 Small z = (negsuc (2 ^ 72) ≤ℤ z) × (z ≤ℤ pos (2 ^ 72))
+
+-- z is far from the ends of 64 bits by so much that it is added to one of 2^61
+abbrev pub Middle : ℤ → Type 0
+Middle z = (negsuc (2 ^ 62) ≤ℤ z) × (z ≤ℤ pos (2 ^ 62))

@@ -30,6 +30,7 @@ impl Unit for CpuUnit {
 
     ghost wrong = { λ _. 0 };
 
+    #[inline(always)]
     fn perform(&mut self, call: &Call) -> Answer
         requires { Asked call.now }
         ensures log { GrowsBy None None ((call.now, result) ∷ []) }

@@ -1,15 +1,15 @@
 //! The right answer to a call.
 
-ghost use Rattle.std.specs.Prelude.{◌≡◌, ◌<◌, ℤ, pos, negsuc, ◌*ℤ◌, ◌+ℤ◌, ◌≤ℤ◌};
+ghost use Rattle.std.specs.Prelude.{◌≡◌, ◌<◌, ◌^◌, ℤ, pos, negsuc, ◌*ℤ◌, ◌+ℤ◌, ◌≤ℤ◌, IfSome};
 ghost use Rattle.vcp_base.specs.Code.{modulus as modulus_of};
 ghost use Rattle.coded_unit.specs.Asked.{Asked};
-ghost use Rattle.coded_unit.specs.Words.{Short, Small};
-ghost use Rattle.coded_unit.specs.Right.{residue as residue_of, stamp_share as stamp_share_of, Right};
+ghost use Rattle.coded_unit.specs.Words.{modulo, value_part, Short, Small};
+ghost use Rattle.coded_unit.specs.Right.{residue as residue_of, stamp_share as stamp_share_of, answer_of, Right};
 ghost use Rattle.coded_unit.specs.Step.{StepLaw};
 
 use crate::call::{Answer, Call};
-use crate::word::{Word, narrow_remainder, remainder};
-use vcp_base::{Kind, Profile, Residue, StopKind, multiplier, outcome};
+use crate::word::{ShortParts, Word, narrow_remainder, wide_remainder};
+use vcp_base::{Kind, Profile, Residue, StopKind, multiplier, outcome, short_outcome};
 
 /// The right answer to a call.
 ///
@@ -17,6 +17,7 @@ use vcp_base::{Kind, Profile, Residue, StopKind, multiplier, outcome};
 /// `Range` where the value is outside the call's type, else the word of the value. Its residue comes
 /// from the operands' residues, the correction and the stamp alone, never from the value: what is
 /// wrong with an operand's residue is carried on, times the operand's multiplier.
+#[inline(always)]
 pub fn answer(call: &Call) -> Answer
     requires { Asked call.now }
     ensures right { result ≡ Right call.now }
@@ -26,7 +27,109 @@ pub fn answer(call: &Call) -> Answer
 }
 
 /// The right answer to a call whose correction is a residue of its code.
+#[inline(always)]
 fn right(call: &Call) -> Answer
+    requires { call.now.corr < modulus_of call.now.profile }
+    ensures { result ≡ Right call.now }
+{
+    match short_answer(call) {
+        Some(given) => given,
+        None => long_answer(call),
+    }
+}
+
+/// The right answer, where the operands' values are found in 64 bits. It branches once on the code.
+#[inline(always)]
+fn short_answer(call: &Call) -> Option<Answer>
+    requires { call.now.corr < modulus_of call.now.profile }
+    ensures { IfSome result (λ given. given ≡ Right call.now) }
+{
+    match call.profile {
+        Profile::Narrow => short_answer_in(Profile::Narrow, call),
+        Profile::Wide => short_answer_in(Profile::Wide, call),
+    }
+}
+
+/// The same for a call in this code.
+#[inline(always)]
+fn short_answer_in(profile: Profile, call: &Call) -> Option<Answer>
+    requires code { profile ≡ call.now.profile }
+    requires corr { call.now.corr < modulus_of profile }
+    ensures { IfSome result (λ given. given ≡ Right call.now) }
+{
+    let Some(first) = call.a.short_split(profile) else {
+        return None;
+    };
+    let Some(second) = call.b.short_split(profile) else {
+        return None;
+    };
+    let Some(third) = call.c.short_split(profile) else {
+        return None;
+    };
+    Some(answer_from(profile, call, first, second, third))
+}
+
+/// The right answer, from the parts of the operands.
+#[inline(always)]
+fn answer_from(
+    profile: Profile,
+    call: &Call,
+    first: ShortParts,
+    second: ShortParts,
+    third: ShortParts,
+) -> Answer
+    requires code { profile ≡ call.now.profile }
+    requires corr { call.now.corr < modulus_of profile }
+    requires first_value { first.value ≡ value_part profile call.now.a }
+    requires second_value { second.value ≡ value_part profile call.now.b }
+    requires third_value { third.value ≡ value_part profile call.now.c }
+    requires first_residue { first.residue ≡ modulo profile call.now.a }
+    requires second_residue { second.residue ≡ modulo profile call.now.b }
+    requires third_residue { third.residue ≡ modulo profile call.now.c }
+    requires first_below { first.residue < modulus_of profile }
+    requires second_below { second.residue < modulus_of profile }
+    requires third_below { third.residue < modulus_of profile }
+    ensures { result ≡ Right call.now }
+{
+    let carried = residue(
+        profile,
+        call.kind,
+        first.residue,
+        second.residue,
+        third.residue,
+        call.corr,
+        call.stamp,
+    );
+    told(
+        profile,
+        short_outcome(
+            call.kind,
+            call.from,
+            call.ty,
+            call.imm,
+            first.value,
+            second.value,
+            third.value,
+        ),
+        carried,
+    )
+}
+
+/// The answer that tells an outcome.
+#[inline(always)]
+fn told(profile: Profile, outcome: Result<i64, StopKind>, residue: Residue) -> Answer
+    ensures { result ≡ answer_of profile outcome residue }
+{
+    match outcome {
+        Ok(v) => Answer::Word(Word::packed(profile, v as i128, residue)),
+        Err(StopKind::Range) => Answer::Range,
+        Err(StopKind::DivZero) => Answer::DivZero,
+        Err(StopKind::Operand) => Answer::Operand,
+    }
+}
+
+/// The right answer for operands of any values.
+fn long_answer(call: &Call) -> Answer
     requires { call.now.corr < modulus_of call.now.profile }
     ensures { result ≡ Right call.now }
 {
@@ -47,6 +150,7 @@ fn right(call: &Call) -> Answer
 
 /// The residue of an answer, from those of the operands, the correction and the stamp. In the narrow
 /// code it takes 64 bits, which multiply and divide faster than 128.
+#[inline(always)]
 fn residue(
     profile: Profile,
     kind: Kind,
@@ -70,6 +174,7 @@ fn residue(
 }
 
 /// The residue of an answer in the narrow code.
+#[inline(always)]
 fn narrow_residue(kind: Kind, r: u32, s: u32, t: u32, corr: u32, stamp: u32) -> Residue
     ensures value { result ≡ residue_of Profile.Narrow kind r s t corr stamp }
     ensures below { result < 2147483647 }
@@ -82,6 +187,7 @@ fn narrow_residue(kind: Kind, r: u32, s: u32, t: u32, corr: u32, stamp: u32) -> 
 }
 
 /// A factor times a residue or a stamp of the narrow code.
+#[inline(always)]
 fn short_scaled(factor: i32, by: u32) -> i64
     requires low { negsuc 60 ≤ℤ factor }
     requires high { factor ≤ℤ pos 61 }
@@ -92,6 +198,7 @@ fn short_scaled(factor: i32, by: u32) -> i64
 }
 
 /// A sum of four terms and a correction of the narrow code.
+#[inline(always)]
 fn short_total(first: i64, second: i64, third: i64, corr: u32, share: i64) -> i64
     requires first { Short first }
     requires second { Short second }
@@ -103,6 +210,7 @@ fn short_total(first: i64, second: i64, third: i64, corr: u32, share: i64) -> i6
 }
 
 /// The residue of an answer in the wide code.
+#[inline(always)]
 fn wide_residue(
     kind: Kind,
     r: Residue,
@@ -118,10 +226,11 @@ fn wide_residue(
     let second = scaled(multiplier(kind, 1), s);
     let third = scaled(multiplier(kind, 2), t);
     let share = scaled(stamp_share(kind), stamp as u64);
-    remainder(Profile::Wide, total(first, second, third, corr, share))
+    wide_remainder(total(first, second, third, corr, share))
 }
 
 /// How often the stamp is added, so that it stands in the answer's residue once.
+#[inline(always)]
 fn stamp_share(kind: Kind) -> i32
     ensures value { result ≡ stamp_share_of kind }
     ensures low { negsuc 60 ≤ℤ result }
@@ -131,6 +240,7 @@ fn stamp_share(kind: Kind) -> i32
 }
 
 /// A factor times a residue or a stamp.
+#[inline(always)]
 fn scaled(factor: i32, by: u64) -> i128
     requires low { negsuc 60 ≤ℤ factor }
     requires high { factor ≤ℤ pos 61 }
@@ -141,12 +251,15 @@ fn scaled(factor: i32, by: u64) -> i128
 }
 
 /// A sum of four terms and a correction.
+#[inline(always)]
 fn total(first: i128, second: i128, third: i128, corr: Residue, share: i128) -> i128
     requires first { Small first }
     requires second { Small second }
     requires third { Small third }
     requires share { Small share }
-    ensures { result ≡ first +ℤ second +ℤ third +ℤ pos corr +ℤ share }
+    ensures sum { result ≡ first +ℤ second +ℤ third +ℤ pos corr +ℤ share }
+    ensures low { negsuc (2 ^ 75) ≤ℤ result }
+    ensures high { result ≤ℤ pos (2 ^ 75) }
 {
     first + second + third + corr as i128 + share
 }

@@ -1,2 +1,3 @@
 pub mod NumeralSteps
+pub mod OutcomeLaws
 pub mod Worked

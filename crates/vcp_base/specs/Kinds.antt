@@ -97,6 +97,10 @@ divides_by_zero _ b = false
 abbrev pub Outcome : Type 0
 Outcome = Result ℤ StopKind
 
+-- the outcome with a result of type `to` where the operands fit or not, and the value is v where they do and none is a zero divisor
+abbrev pub outcome_at : Ty → Bool → ℤ → Outcome
+outcome_at to fit v = cond fit (cond (fits to v) (Ok v) (Err stop.Range)) (Err stop.Operand)
+
 -- the outcome of an operation on values of type `from` with a result of type `to`
 abbrev pub outcome : Kind → Ty → Ty → ℤ → ℤ → ℤ → ℤ → Outcome
 outcome k from to imm a b c =

@@ -36,7 +36,7 @@ pub use limits::{
 };
 pub use memory::Memory;
 pub use names::{is_letter, is_letter_or_digit, is_name};
-pub use outcomes::outcome;
+pub use outcomes::{outcome, short_outcome};
 pub use row::Row;
 pub use spellings::{kind_code, kind_name, kind_of_code, stop_name, ty_code, ty_name, ty_of_code};
 pub use spot::Spot;

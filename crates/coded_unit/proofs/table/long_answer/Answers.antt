@@ -1,6 +1,6 @@
 use Rattle.std.proofs.Common.{arith}
 use Rattle.std.proofs.lemmas.Int.{to_z-of_z}
-use Rattle.coded_unit.proofs.table.right.Goals as goal
+use Rattle.coded_unit.proofs.table.long_answer.Goals as goal
 
 pub returns-in-Ok : goal.returns-in-Ok
 returns-in-Ok c = grind (arith, to_z-of_z)
