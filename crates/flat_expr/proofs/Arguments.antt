@@ -22,7 +22,7 @@ use Rattle.vcp_typed.specs.Checked.{ty_of, tys_of, IsExpr, AreExprs}
 use Rattle.vcp_typed.specs.Rules.{arguments, of_numbers}
 use Rattle.vcp_typed.specs.Size.{expr_size, exprs_size, function_size}
 use Rattle.flat_expr.specs.State.{State, IsState, IsA, active, guarded, Follows, Makes, Flattens, FlattensOne, FunFits, applies, argument, one_size, reserved}
-use Rattle.flat_expr.specs.Weight.{expr_weight, exprs_weight}
+use Rattle.flat_expr.proofs.Weight.{expr_weight, exprs_weight}
 use Rattle.flat_expr.proofs.Steps.{weaker, as_good-is, follows-self}
 use Rattle.flat_expr.proofs.Calls.{argued, applied, called}
 

@@ -1,7 +1,8 @@
 -- Assigning: a slot gets the value of an operation, without and with a path condition.
-use Rattle.std.proofs.Common.{◌≡◌, ◌≢◌, ℕ, ◌+◌, ◌<◌, ◌≤◌, ℤ, pos, Bool, true, false, not, cond, List, length, reverse, get_or, set, slice_set, Some, None}
+use Rattle.std.proofs.Common.{◌≡◌, ◌≢◌, ℕ, ◌+◌, ◌<◌, ◌≤◌, ℤ, pos, Bool, true, false, not, cond, List, length, reverse, get_or, set, slice_set, ◌==◌, Some, None}
 use Rattle.std.proofs.Common.{Result, Ok, refl, sym, ap, ap₂, ◌∙◌, subst, arith, length-set, get_or-set_same, get_or-set_other, ⊎_elim}
 use Rattle.std.proofs.lemmas.Bool.{cases_eq}
+use Rattle.std.proofs.lemmas.Bool.Decides.{nat_tests}
 use Rattle.vcp_base.specs.declared.spot.Spot.{Spot}
 use Rattle.vcp_base.specs.declared.ty.Ty.{Ty}
 use Rattle.vcp_base.specs.declared.ty.Ty.TheVariants as ty
@@ -10,10 +11,10 @@ use Rattle.vcp_base.specs.Kinds.{same}
 use Rattle.vcp_base.specs.Values.{at}
 use Rattle.op_graph.specs.Lists.{turns_of, turns_back}
 use Rattle.vcp_typed.specs.Meaning.{Stop}
-use Rattle.flat_expr.specs.State.{State, IsState, IsA, IsPlace, active, KnowsOne, Knows, exactly, IsValue, Kept, Ends, placed, Meant, Makes, reading, acts, run}
+use Rattle.flat_expr.specs.State.{State, IsState, IsA, IsPlace, active, KnowsOne, Knows, exactly, IsValue, Kept, Ends, placed, Meant, Steps, Makes, Reads, no_slot, reading, acts, run}
 use Rattle.flat_expr.specs.State.{Assigns}
 use Rattle.flat_expr.proofs.Loads.{unknown_fewer}
-use Rattle.flat_expr.proofs.Steps.{then, weaker, stays, as_good-is}
+use Rattle.flat_expr.proofs.Steps.{then_reading, weaker, stays, as_good-is}
 use Rattle.flat_expr.proofs.Operators.{some_is, in_range-fits, sel_fits, flip}
 
 -- one slot has a new place, and a new value that this place has
@@ -35,10 +36,13 @@ knows-set s slot k start now next ws lt long here others h = record {
 abbrev pub between : State → ℕ → ℕ → Meant
 between s slot k = λ now vs. Ok (Some (cond (active s.path vs) (at vs k) (at now slot)))
 
+not_equal : (a b : ℕ) → b ≢ a → (a == b) ≡ false
+not_equal a b h = grind (arith, nat_tests)
+
 -- the slot gets the place of what is between
-pub set_assigns : (s0 s1 : State) (t : Ty) (n slot k j : ℕ) → n ≤ 1 → slot < length s0.slots → IsState (placed s1 slot j)
-    → Makes s0 s1 t n (between s0 slot k) j → Assigns s0 (placed s1 slot j) slot k
-set_assigns s0 s1 t n slot k j le lt state f = record {
+pub set_assigns : {p : ℕ → Bool} (s0 s1 : State) (t : Ty) (n slot k j : ℕ) → n ≤ 1 → slot < length s0.slots → IsState (placed s1 slot j)
+    → ((i : ℕ) → i ≢ slot → p i ≡ false) → Steps s0 s1 p t n (between s0 slot k) j → Assigns s0 (placed s1 slot j) slot k
+set_assigns s0 s1 t n slot k j le lt state only f = record {
   continues = record {
     before = f.follows.before;
     after = state;
@@ -54,6 +58,9 @@ set_assigns s0 s1 t n slot k j le lt state f = record {
     loads = f.follows.loads;
     stops = f.follows.stops;
   };
+  operations = f.follows.operations;
+  cells = f.follows.cells;
+  others = λ i ne. get_or-set_other s1.known slot i (Some j) None ne ∙ f.unread i (only i ne);
   nodes = f.follows.turn_nodes;
   count = let fewer = unknown_fewer s1.known slot j in omega (arith, f.count, fewer);
   gives = λ cells row start now vs r loaded knows. go vs start now (run s1.graph cells row) knows.long (active s0.path vs)
@@ -79,17 +86,17 @@ set_assigns s0 s1 t n slot k j le lt state f = record {
 pub assigned : (s : State) (t : Ty) (slot k : ℕ) → slot < length s.slots → IsState s → IsState (placed s slot k) → s.path ≡ None → IsA t s.graph.operations k
     → Assigns s (placed s slot k) slot k
 assigned s t slot k lt i state none h =
-    set_assigns s s t 0 slot k k (omega arith) lt state
+    set_assigns s s t 0 slot k k (omega arith) lt state (λ i ne. refl)
     (weaker s s t 0 0 (λ now vs. Ok (Some (at vs k))) (between s slot k) k (omega arith)
     (λ now vs types. as_good-is _ _ (ap (λ p. Ok (Some (cond (active p vs) (at vs k) (at now slot)))) (sym none))) (stays s t k i h))
 
 -- under a path condition: the old value's LOAD where it isn't known, then SEL
 pub chosen : (s0 s1 s2 : State) (t : Ty) (slot path k old j : ℕ) (spot : Spot) → slot < length s0.slots → s0.path ≡ Some path → IsState (placed s2 slot j)
     → IsA t s0.graph.operations k →
-    Makes s0 s1 t 0 (reading slot) old → Makes s1 s2 t 1 (acts s1 kind.Sel t path old k spot) j → Assigns s0 (placed s2 slot j) slot k
+    Reads s0 s1 slot t old → Makes s1 s2 t 1 (acts s1 kind.Sel t path old k spot) j → Assigns s0 (placed s2 slot j) slot k
 chosen s0 s1 s2 t slot path k old j spot lt some state hk g h =
-    set_assigns s0 s2 t (0 + 1) slot k j (omega arith) lt state
-    (then s0 s1 s2 t t 0 1 (reading slot) (acts s1 kind.Sel t path old k spot) (between s0 slot k) old j g h (record {
+    set_assigns s0 s2 t (0 + 1) slot k j (omega arith) lt state (λ i ne. not_equal slot i ne)
+    (then_reading (λ i. slot == i) no_slot (λ i. slot == i) (λ i h. (h, refl)) s0 s1 s2 t t 0 1 (reading slot) (acts s1 kind.Sel t path old k spot) (between s0 slot k) old j g h (record {
       stops = λ now vs s x. absurd cc;
       goes = λ now vs ws o is kept same_path types val.
           let here : at ws old ≡ at now slot = some_is o (at now slot) (at ws old) is val in

@@ -17,7 +17,6 @@ use Rattle.vcp_base.specs.Values.{at}
 use Rattle.op_graph.specs.declared.op.Op.{Op}
 use Rattle.op_graph.specs.declared.op.Var.{Var}
 use Rattle.op_graph.specs.declared.op.TurnNode.{TurnNode}
-use Rattle.op_graph.specs.Laws.{OperandLaws}
 use Rattle.op_graph.specs.Lists.{Lists, column, nothing}
 use Rattle.op_graph.specs.Rules.{IsPart}
 use Rattle.op_graph.specs.Building.{entry_op, with_input}
@@ -28,9 +27,9 @@ use Rattle.vcp_typed.specs.Checked.{SlotsFit, IsChecked}
 use Rattle.vcp_typed.specs.Fitting.{input_types, input_columns}
 use Rattle.vcp_typed.specs.Size.{class_size}
 use Rattle.vcp_typed.specs.SourceRun.{Program, is_input, with_inputs}
-use Rattle.flat_expr.specs.Begin.{inputs_from, input_ops, held_from, entered, begun}
+use Rattle.flat_expr.specs.Begin.{Begins, inputs_from, input_ops, held_from, entered, begun}
 use Rattle.vcp_typed.specs.Wide.{wide}
-use Rattle.flat_expr.specs.State.{SlotsAllowed, IsState, IsPlace, IsHeld, KnowsOne, Begins, unknown, others, last_of, last_size, run_from, stopped}
+use Rattle.flat_expr.specs.State.{SlotsAllowed, IsState, IsPlace, IsHeld, KnowsOne, unknown, others, last_of, last_size, run_from, stopped}
 use Rattle.flat_expr.specs.Told.{names_of}
 use Rattle.flat_expr.proofs.Codes.{slots_allowed}
 use Rattle.flat_expr.proofs.Ops.{isa, within_self}
@@ -263,8 +262,8 @@ columns_from before (s ∷ slots) =
     go false rest = rest
 
 pub begun_state : (profile : Profile) (slots : List Slot) → SlotsAllowed profile slots → SlotsFit [] slots → length slots ≤ most_names
-    → IsPart (entered profile (names_of slots) slots) → OperandLaws → IsState (begun profile slots)
-begun_state profile slots code fit few part laws = record {
+    → IsPart (entered profile (names_of slots) slots) → IsState (begun profile slots)
+begun_state profile slots code fit few part = record {
   part = part;
   code = code;
   names = refl;
@@ -284,7 +283,6 @@ begun_state profile slots code fit few part laws = record {
   turn = omega arith;
   nought = tt;
   unit = tt;
-  laws = laws;
 }
 
 -- ---- the count
@@ -410,12 +408,13 @@ with_inputs-long (s ∷ slots) (x ∷ row) (v ∷ m) len =
     go true f g = ap suc f
     go false f g = ap suc g
 
-pub begins : (profile : Profile) (p : Program) → is_wide profile ≡ wide p → IsChecked p → IsPart (entered profile (names_of p.slots) p.slots) → OperandLaws
+pub begins : (profile : Profile) (p : Program) → is_wide profile ≡ wide p → IsChecked p → IsPart (entered profile (names_of p.slots) p.slots)
     → Begins (begun profile p.slots) p
-begins profile p code checked part laws = record {
-  state = begun_state profile p.slots (slots_allowed profile p code) checked.slots checked.few part laws;
-  slots = refl;
+begins profile p code checked part = record {
+  state = begun_state profile p.slots (slots_allowed profile p code) checked.slots checked.few part;
   code = code;
+  is = refl;
+  slots = refl;
   path = refl;
   turn = refl;
   nodes = refl;

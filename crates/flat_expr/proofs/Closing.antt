@@ -1,9 +1,9 @@
 -- Closing: an OUT, a LOAD before it, and a STORE more, at the end of a cycle.
 use Rattle.std.proofs.Common.{◌≡◌, ◌≢◌, ℕ, zero, suc, ◌+◌, ◌<◌, ◌≤◌, ℤ, Bool, true, false, ◌&&◌, cond, List, [], ◌∷◌, ◌++◌, length, map, reverse, take, get_or}
-use Rattle.std.proofs.Common.{set, slice_get, slice_index_or, All, Option, Some, None, Result, Ok, Err, refl, sym, ap, ap₂, ◌∙◌, subst, arith, length-append}
+use Rattle.std.proofs.Common.{set, slice_get, slice_index_or, All, Option, Some, None, Result, Ok, Err, refl, sym, ap, ap₂, ◌∙◌, subst, arith, append_assoc}
 use Rattle.std.proofs.Common.{length-set, get_or-set_same, get_or-set_other, ⊎_elim}
 use Rattle.std.proofs.lemmas.Bool.{cases_eq}
-use Rattle.std.proofs.lemmas.List.{length_push, length-map, map-append, take_all, take-append-le}
+use Rattle.std.proofs.lemmas.List.{append-nil, length_push, map-append, take_all, take-append-le}
 use Rattle.std.proofs.lemmas.List.Elements.{All-push}
 use Rattle.std.proofs.lemmas.Option.{slice_get_within}
 use Rattle.std.specs.Prelude.{IfErr, ◌↔◌}
@@ -32,13 +32,54 @@ use Rattle.vcp_typed.specs.Meaning.{and_then}
 use Rattle.vcp_typed.specs.SourceRun.{is_input, is_output, outputs}
 use Rattle.flat_expr.specs.Closing.{Closes}
 use Rattle.flat_expr.specs.Told.{names_of}
-use Rattle.flat_expr.specs.State.{State, IsState, IsA, IsPlace, IsHeld, IsCell, KnowsOne, AreLoaded, Kept, Finishes, unknown, others, last_of, last_size}
-use Rattle.flat_expr.specs.State.{reserved, run, stopped}
+use Rattle.flat_expr.specs.State.{State, IsState, IsA, IsPlace, IsHeld, IsCell, KnowsOne, AreLoaded, Kept, Finishes, IsNeeded, unknown, others, last_of, last_size}
+use Rattle.flat_expr.specs.State.{out_size, outs_from, whole_size, reserved, run, stopped}
 use Rattle.flat_expr.proofs.Ops.{get_push, get_last, isa_last, place_push}
 use Rattle.flat_expr.proofs.Runs.{step, run-push, run-push_stops, run-length, typed, at-front, at-last}
-use Rattle.flat_expr.proofs.Steps.{knows_one-kept, slot_there}
+use Rattle.flat_expr.proofs.Steps.{extends-self, extends-trans, knows_one-kept, slot_there}
 use Rattle.flat_expr.proofs.Loads.{unknown_set, load_of, still_held, some_held, not_held}
 use Rattle.flat_expr.proofs.Beginning.{sum_more}
+
+-- ---- how many operations the outputs add
+
+outs_split : (slots : List Slot) (known : List (Option ℕ)) (n : ℕ) (x : Slot) → slice_get slots n ≡ Some x → n < length known
+    → outs_from slots known n ≡ out_size (is_output x.class) (get_or known n None) + outs_from slots known (suc n)
+outs_split [] known n x e lt = absurd cc
+outs_split (s ∷ slots) [] n x e lt = absurd (omega arith)
+outs_split (s ∷ slots) (o ∷ known) zero x e lt = let same : s ≡ x = cc in ap (λ (y : Slot). out_size (is_output y.class) o + outs_from slots known zero) same
+outs_split (s ∷ slots) (o ∷ known) (suc n) x e lt = outs_split slots known n x e (omega arith)
+
+-- an output's LOAD was two of them, with the STORE
+outs_loaded : (slots : List Slot) (known : List (Option ℕ)) (n k : ℕ) (x : Slot) → slice_get slots n ≡ Some x → n < length known → is_output x.class ≡ true
+    → get_or known n None ≡ None → outs_from slots (set known n (Some k)) n + 2 ≡ outs_from slots known n
+outs_loaded [] known n k x e lt is_one none = absurd cc
+outs_loaded (s ∷ slots) [] n k x e lt is_one none = absurd (omega arith)
+outs_loaded (s ∷ slots) (o ∷ known) zero k x e lt is_one none =
+    let same : s ≡ x = cc in go (is_output s.class) o (outs_from slots known zero) (ap (λ (y : Slot). is_output y.class) same ∙ is_one) none
+  where
+    go : (b : Bool) (o : Option ℕ) (r : ℕ) → b ≡ true → o ≡ None → out_size b (Some k) + r + 2 ≡ out_size b o + r
+    go true None r h e = omega arith
+    go true (Some j) r h e = absurd cc
+    go false o r h e = absurd cc
+outs_loaded (s ∷ slots) (o ∷ known) (suc n) k x e lt is_one none = outs_loaded slots known n k x e (omega arith) is_one none
+
+outs_over : (slots : List Slot) (known : List (Option ℕ)) → outs_from slots known (length slots) ≡ 0
+outs_over [] known = refl
+outs_over (s ∷ slots) [] = refl
+outs_over (s ∷ slots) (o ∷ known) = outs_over slots known
+
+outs_within : (slots : List Slot) (known : List (Option ℕ)) → outs_from slots known 0 ≤ length (output_columns slots) + unknown known + unknown known
+outs_within [] known = omega arith
+outs_within (s ∷ slots) [] = omega arith
+outs_within (s ∷ slots) (o ∷ known) = go (is_output s.class) o (outs_within slots known)
+  where
+    go : (b : Bool) (o : Option ℕ) → outs_from slots known 0 ≤ length (output_columns slots) + unknown known + unknown known →
+        out_size b o + outs_from slots known 0 ≤ length (cond b ((record { name = s.name; ty = s.ty }) ∷ output_columns slots) (output_columns slots))
+        + unknown (o ∷ known) + unknown (o ∷ known)
+    go true None h = omega arith
+    go true (Some k) h = omega arith
+    go false None h = omega arith
+    go false (Some k) h = omega arith
 
 -- ---- the begin
 
@@ -50,6 +91,9 @@ closes_begin s i = record {
   names = refl;
   inputs = refl;
   turn_nodes = refl;
+  operations = extends-self s.graph.operations;
+  needed = ([], sym (append-nil s.graph.loads), λ k d lt. absurd (omega arith));
+  kept = λ slot k e. e;
   long = i.long;
   places = i.known;
   ins = i.inputs;
@@ -59,7 +103,7 @@ closes_begin s i = record {
   columns = ap (map (output_column s.graph.names)) i.no_outputs;
   below = subst (λ l. All (λ (o : Outlet). o.name < 0) l) (sym i.no_outputs) (λ k d lt. absurd (omega arith));
   so_far = ap length i.no_stores;
-  count = omega arith;
+  size = let none = ap length i.no_stores in omega (arith, none);
   loads = λ cells start h. h;
   stops = λ cells row e h. h;
   gives = λ cells row start now vs r loaded knows. (
@@ -144,6 +188,9 @@ closes_skip s n m g known x e isnt h = record {
   names = h.names;
   inputs = h.inputs;
   turn_nodes = h.turn_nodes;
+  operations = h.operations;
+  needed = h.needed;
+  kept = h.kept;
   long = h.long;
   places = h.places;
   ins = h.ins;
@@ -153,7 +200,10 @@ closes_skip s n m g known x e isnt h = record {
   columns = h.columns ∙ sym (columns_more s.slots n x e ∙ by_test (is_output x.class) false _ _ isnt);
   below = all_more n g.outputs h.below;
   so_far = h.so_far;
-  count = h.count;
+  size =
+      let lt : n < length known = let inside = slice_get_within s.slots n x e in omega (arith, inside, h.long) in
+      let none = ap (λ b. out_size b (get_or known n None)) isnt in
+      omega (arith, h.size, outs_split s.slots known n x e lt, none);
   loads = h.loads;
   stops = h.stops;
   gives = λ cells row start now vs r loaded knows.
@@ -166,42 +216,57 @@ closes_skip s n m g known x e isnt h = record {
 load_entry_at : Lists → ℕ → Slot → Loaded
 load_entry_at g slot x = record { name = slot; ty = x.ty; init = x.init; load = length g.operations }
 
-pub closes_load : (s : State) (n m : ℕ) (g : Lists) (known : List (Option ℕ)) (slot : ℕ) (x : Slot) → slice_get s.slots slot ≡ Some x
-    → get_or known slot None ≡ None → IsPart (with_load g slot x.ty x.init x.spot) → Closes s n m g known →
-    Closes s n m (with_load g slot x.ty x.init x.spot) (set known slot (Some (length g.operations)))
-closes_load s n m g known slot x e none part h = record {
+-- what isn't held now wasn't before
+not_then : (o : Option ℕ) → ((k : ℕ) → o ≡ Some k → None ≡ Some k) → o ≡ None
+not_then None h = refl
+not_then (Some k) h = let both : None ≡ Some k = h k refl in absurd cc
+
+pub closes_load : (s : State) (n m : ℕ) (g : Lists) (known : List (Option ℕ)) (x : Slot) → slice_get s.slots n ≡ Some x → is_output x.class ≡ true
+    → get_or known n None ≡ None → IsPart (with_load g n x.ty x.init x.spot) → Closes s n m g known →
+    Closes s n m (with_load g n x.ty x.init x.spot) (set known n (Some (length g.operations)))
+closes_load s n m g known x e is_one none part h = record {
   from = h.from;
   part = part;
   profile = h.profile;
   names = h.names;
   inputs = h.inputs;
   turn_nodes = h.turn_nodes;
-  long = length-set known slot (Some (length g.operations)) ∙ h.long;
+  operations = extends-trans s.graph.operations g.operations (g.operations ++ op ∷ []) h.operations (op ∷ [], refl);
+  needed = (
+    h.needed.0 ++ cell ∷ [],
+    ap (λ l. l ++ cell ∷ []) h.needed.1 ∙ append_assoc s.graph.loads h.needed.0 (cell ∷ []),
+    All-push (IsNeeded s) h.needed.0 cell h.needed.2 (x, e, is_one, not_then (get_or s.known n None) (λ k q. sym none ∙ h.kept n k q)),
+  );
+  kept = λ j k q. ⊎_elim
+      (λ (same : j ≡ n). let both : None ≡ Some k = sym none ∙ ap (λ i. get_or known i None) (sym same) ∙ h.kept j k q in absurd cc)
+      (λ (other : j ≢ n). get_or-set_other known n j (Some (length g.operations)) None other ∙ h.kept j k q)
+      (cases_eq j n);
+  long = length-set known n (Some (length g.operations)) ∙ h.long;
   places = λ j y ej. ⊎_elim
-      (λ (same : j ≡ slot).
+      (λ (same : j ≡ n).
       let xy : x ≡ y = let both : Some x ≡ Some y = sym e ∙ ap (slice_get s.slots) (sym same) ∙ ej in cc in
       subst (IsPlace y.ty (g.operations ++ op ∷ []))
-      (sym (ap (λ m. get_or (set known slot (Some (length g.operations))) m None) same ∙ get_or-set_same known slot (Some (length g.operations)) None lt))
+      (sym (ap (λ m. get_or (set known n (Some (length g.operations))) m None) same ∙ get_or-set_same known n (Some (length g.operations)) None lt))
       (isa_last y.ty g.operations op (length g.operations) refl (ap (λ (z : Slot). z.ty) xy)))
-      (λ (other : j ≢ slot).
+      (λ (other : j ≢ n).
       subst (IsPlace y.ty (g.operations ++ op ∷ []))
-      (sym (get_or-set_other known slot j (Some (length g.operations)) None other))
+      (sym (get_or-set_other known n j (Some (length g.operations)) None other))
       (place_push y.ty g.operations op (get_or known j None) (h.places j y ej)))
-      (cases_eq j slot);
+      (cases_eq j n);
   ins = λ j y ej. ⊎_elim
-      (λ (same : j ≡ slot).
+      (λ (same : j ≡ n).
       subst (IsHeld (is_input y.class))
-      (sym (ap (λ m. get_or (set known slot (Some (length g.operations))) m None) same ∙ get_or-set_same known slot (Some (length g.operations)) None lt))
+      (sym (ap (λ m. get_or (set known n (Some (length g.operations))) m None) same ∙ get_or-set_same known n (Some (length g.operations)) None lt))
       (some_held (is_input y.class) (length g.operations)))
-      (λ (other : j ≢ slot). subst (IsHeld (is_input y.class)) (sym (get_or-set_other known slot j (Some (length g.operations)) None other)) (h.ins j y ej))
-      (cases_eq j slot);
+      (λ (other : j ≢ n). subst (IsHeld (is_input y.class)) (sym (get_or-set_other known n j (Some (length g.operations)) None other)) (h.ins j y ej))
+      (cases_eq j n);
   cells = λ j l q. ⊎_elim
       (λ (last : j ≡ length g.loads).
       subst (IsCell s.slots) (last_is j l last q)
       (record {
         of = x;
         there = e;
-        variable = not_held (is_input x.class) (subst (IsHeld (is_input x.class)) none (h.ins slot x e));
+        variable = not_held (is_input x.class) (subst (IsHeld (is_input x.class)) none (h.ins n x e));
         ty = refl;
         init =
             refl;
@@ -210,15 +275,15 @@ closes_load s n m g known slot x e none part h = record {
       (cases_eq j (length g.loads));
   held = λ j l q. ⊎_elim
       (λ (last : j ≡ length g.loads).
-      subst (λ (m : Loaded). IsHeld true (get_or (set known slot (Some (length g.operations))) m.name None)) (last_is j l last q)
-      (subst (IsHeld true) (sym (get_or-set_same known slot (Some (length g.operations)) None lt)) tt))
-      (λ (other : j ≢ length g.loads). still_held known slot (length g.operations) l.name (h.held j l (earlier j l other q)))
+      subst (λ (m : Loaded). IsHeld true (get_or (set known n (Some (length g.operations))) m.name None)) (last_is j l last q)
+      (subst (IsHeld true) (sym (get_or-set_same known n (Some (length g.operations)) None lt)) tt))
+      (λ (other : j ≢ length g.loads). still_held known n (length g.operations) l.name (h.held j l (earlier j l other q)))
       (cases_eq j (length g.loads));
   room = omega (arith, h.room, fewer, length_push g.loads cell);
   columns = h.columns;
   below = h.below;
   so_far = h.so_far;
-  count = omega (arith, h.count, fewer, length_push g.operations op);
+  size = omega (arith, h.size, outs_loaded s.slots known n (length g.operations) x e lt is_one none, length_push g.operations op, length_push g.loads cell);
   loads = λ cells start all. h.loads cells start (front cells start all);
   stops = λ cells row r q. run-push_stops g op cells row r (h.stops cells row r q);
   gives = λ cells row start now vs r loaded knows.
@@ -228,21 +293,21 @@ closes_load s n m g known slot x e none part h = record {
       let v = at cells (length g.loads) in
       let here = loaded (length g.loads) cell (get_last g.loads cell) in
       let us = ws ++ v ∷ [] in
-      let ran : run (with_load g slot x.ty x.init x.spot) cells row ≡ Ok us = run-push g op cells row ws f.1
+      let ran : run (with_load g n x.ty x.init x.spot) cells row ≡ Ok us = run-push g op cells row ws f.1
       ∙ ap (λ q. and_then q (λ y. Ok (ws ++ y ∷ []))) (load_of (record s { graph = g }) x cells row ws here.1) in
       let last : at us (length g.operations) ≡ v = ap (at us) (sym len) ∙ at-last ws v in
-      let before : at now slot ≡ at start slot = subst (λ o. KnowsOne o ws (at now slot) (at start slot)) none (f.2 slot (slice_get_within s.slots slot x e)) in (
+      let before : at now n ≡ at start n = subst (λ o. KnowsOne o ws (at now n) (at start n)) none (f.2 n (slice_get_within s.slots n x e)) in (
         us,
         ran,
         (λ j below. ⊎_elim
-            (λ (same : j ≡ slot).
+            (λ (same : j ≡ n).
             subst (λ o. KnowsOne o us (at now j) (at start j))
-            (sym (ap (λ m. get_or (set known slot (Some (length g.operations))) m None) same ∙ get_or-set_same known slot (Some (length g.operations)) None lt))
+            (sym (ap (λ m. get_or (set known n (Some (length g.operations))) m None) same ∙ get_or-set_same known n (Some (length g.operations)) None lt))
             (last ∙ here.0 ∙ sym before ∙ ap (at now) (sym same)))
-            (λ (other : j ≢ slot).
-            subst (λ o. KnowsOne o us (at now j) (at start j)) (sym (get_or-set_other known slot j (Some (length g.operations)) None other))
+            (λ (other : j ≢ n).
+            subst (λ o. KnowsOne o us (at now j) (at start j)) (sym (get_or-set_other known n j (Some (length g.operations)) None other))
             (told_kept j below ws us start now len (at-front ws v) (f.2 j below)))
-            (cases_eq j slot)),
+            (cases_eq j n)),
         outs_kept (length g.names) (length g.operations) [] g.outputs ws us (omega (arith, len)) (at-front ws v) h.part.outputs ∙ f.3,
         stores_kept g.loads (length g.operations) [] g.stores ws us (omega (arith, len)) (at-front ws v) h.part.stores ∙ f.4
             ∙ ap (map (λ (m : Loaded). at now m.name)) (sym (take-append-le (length g.stores) g.loads (cell ∷ []) h.part.stored)),
@@ -250,16 +315,16 @@ closes_load s n m g known slot x e none part h = record {
 }
   where
     cell : Loaded
-    cell = record { name = slot; ty = x.ty; init = x.init; load = length g.operations }
+    cell = record { name = n; ty = x.ty; init = x.init; load = length g.operations }
 
     op : Op
     op = entry_op kind.Load x.ty 0 (length g.loads) x.spot
 
-    lt : slot < length known
-    lt = let inside = slice_get_within s.slots slot x e in omega (arith, inside, h.long)
+    lt : n < length known
+    lt = let inside = slice_get_within s.slots n x e in omega (arith, inside, h.long)
 
-    fewer : suc (unknown (set known slot (Some (length g.operations)))) ≡ unknown known
-    fewer = unknown_set known slot (length g.operations) lt none
+    fewer : suc (unknown (set known n (Some (length g.operations)))) ≡ unknown known
+    fewer = unknown_set known n (length g.operations) lt none
 
     front : (cells start : List ℤ) → AreLoaded (g.loads ++ cell ∷ []) cells start → AreLoaded g.loads cells start
     front cells start all j l q = all j l (get_push g.loads cell j (slice_get_within g.loads j l q) ∙ q)
@@ -316,6 +381,9 @@ closes_out s n m k g known x e is_one place part h = record {
   names = h.names;
   inputs = h.inputs;
   turn_nodes = h.turn_nodes;
+  operations = extends-trans s.graph.operations g.operations (g.operations ++ op ∷ []) h.operations (op ∷ [], refl);
+  needed = h.needed;
+  kept = h.kept;
   long = h.long;
   places = λ j y ej. place_push y.ty g.operations op (get_or known j None) (h.places j y ej);
   ins = h.ins;
@@ -328,7 +396,10 @@ closes_out s n m k g known x e is_one place part h = record {
       ∙ sym (columns_more s.slots n x e ∙ by_test (is_output x.class) true _ _ is_one);
   below = All-push (λ (o : Outlet). o.name < suc n) g.outputs out (all_more n g.outputs h.below) (omega arith);
   so_far = h.so_far;
-  count = omega (arith, h.count, length_push g.operations op, length_push g.outputs out);
+  size =
+      let lt : n < length known = let inside = slice_get_within s.slots n x e in omega (arith, inside, h.long) in
+      let one = ap₂ (λ b o. out_size b o) is_one place in
+      omega (arith, h.size, outs_split s.slots known n x e lt, one, length_push g.operations op);
   loads = h.loads;
   stops = λ cells row r q. run-push_stops g op cells row r (h.stops cells row r q);
   gives = λ cells row start now vs r loaded knows.
@@ -337,7 +408,7 @@ closes_out s n m k g known x e is_one place part h = record {
       let len = run-length g cells row ws f.1 in
       let v = at ws k in
       let us = ws ++ v ∷ [] in
-      let fit : fits x.ty v ≡ true = typed h.from.laws g cells row start ws h.part loaded f.1 x.ty k there in
+      let fit : fits x.ty v ≡ true = typed g cells row start ws h.part loaded f.1 x.ty k there in
       let ran : run (with_output g n x.ty k x.spot) cells row ≡ Ok us = run-push g op cells row ws f.1
       ∙ ap (λ q. and_then q (λ y. Ok (ws ++ y ∷ []))) (out_of g.turn_nodes x.ty k (length g.outputs) x.spot cells row ws fit) in
       let last : at us (length g.operations) ≡ v = ap (at us) (sym len) ∙ at-last ws v in
@@ -387,6 +458,9 @@ closes_store s n m k g known l spot e place part h = record {
   names = h.names;
   inputs = h.inputs;
   turn_nodes = h.turn_nodes;
+  operations = extends-trans s.graph.operations g.operations (g.operations ++ op ∷ []) h.operations (op ∷ [], refl);
+  needed = h.needed;
+  kept = h.kept;
   long = h.long;
   places = λ j y ej. place_push y.ty g.operations op (get_or known j None) (h.places j y ej);
   ins = h.ins;
@@ -396,7 +470,7 @@ closes_store s n m k g known l spot e place part h = record {
   columns = h.columns;
   below = h.below;
   so_far = let more = length_push g.stores (length g.operations) in omega (arith, more, h.so_far);
-  count = omega (arith, h.count, length_push g.operations op, length_push g.stores (length g.operations));
+  size = omega (arith, h.size, length_push g.operations op, length_push g.stores (length g.operations));
   loads = h.loads;
   stops = λ cells row r q. run-push_stops g op cells row r (h.stops cells row r q);
   gives = λ cells row start now vs r loaded knows.
@@ -405,7 +479,7 @@ closes_store s n m k g known l spot e place part h = record {
       let len = run-length g cells row ws f.1 in
       let v = at ws k in
       let us = ws ++ v ∷ [] in
-      let fit : fits l.ty v ≡ true = typed h.from.laws g cells row start ws h.part loaded f.1 l.ty k there in
+      let fit : fits l.ty v ≡ true = typed g cells row start ws h.part loaded f.1 l.ty k there in
       let ran : run (with_store g l.ty k spot) cells row ≡ Ok us = run-push g op cells row ws f.1
       ∙ ap (λ q. and_then q (λ y. Ok (ws ++ y ∷ []))) (store_of g.turn_nodes l.ty k (length g.stores) spot cells row ws fit) in
       let last : at us (length g.operations) ≡ v = ap (at us) (sym len) ∙ at-last ws v in
@@ -446,7 +520,7 @@ class_last class.Local v = omega arith
 class_last class.Retain v = omega arith
 class_last class.Constant v = absurd (v refl)
 
-pub last_room : (slots : List Slot) → ((i : ℕ) (x : Slot) → slice_get slots i ≡ Some x → x.class ≡ class.Constant → ⊥)
+last_room : (slots : List Slot) → ((i : ℕ) (x : Slot) → slice_get slots i ≡ Some x → x.class ≡ class.Constant → ⊥)
     → length (output_columns slots) + others slots ≤ last_size slots
 last_room [] v = omega arith
 last_room (s ∷ slots) v =
@@ -462,47 +536,29 @@ last_room (s ∷ slots) v =
     go false true t u w r o e = omega arith
     go false false t u w r o e = omega arith
 
-columns_grow : (slots : List Slot) (n : ℕ) → length (output_columns (take n slots)) ≤ length (output_columns slots)
-columns_grow [] zero = omega arith
-columns_grow [] (suc n) = omega arith
-columns_grow (s ∷ slots) zero = omega arith
-columns_grow (s ∷ slots) (suc n) = go (is_output s.class) (columns_grow slots n)
-  where
-    go : (a : Bool) → length (output_columns (take n slots)) ≤ length (output_columns slots) →
-        length (cond a ((record { name = s.name; ty = s.ty }) ∷ output_columns (take n slots)) (output_columns (take n slots))) ≤ length
-        (cond a ((record { name = s.name; ty = s.ty }) ∷ output_columns slots) (output_columns slots))
-    go true h = omega arith
-    go false h = h
+-- the whole graph has no more operations than are reserved and the end of a cycle may add
+pub whole_room : (s : State) → IsState s → whole_size s ≤ reserved s + last_size s.slots
+whole_room s i = let room = last_room s.slots i.variables in let outs = outs_within s.slots s.known in omega (arith, i.cells, room, outs)
 
-outputs_so_far : (s : State) (n m : ℕ) (g : Lists) (known : List (Option ℕ)) → Closes s n m g known
-    → length g.outputs ≡ length (output_columns (take n s.slots))
-outputs_so_far s n m g known h = sym (length-map g.outputs (output_column g.names)) ∙ ap length h.columns
-
--- a LOAD is refused only where the slots and the ends of all slots have no room
-pub load_room : (s : State) (n m : ℕ) (g : Lists) (known : List (Option ℕ)) (most : ℕ) → Closes s n m g known → 1 ≤ unknown known → length g.operations ≡ most
-    → most < reserved s + last_size s.slots
-load_room s n m g known most h some all =
-    let room = last_room s.slots h.from.variables in
-    let grow = columns_grow s.slots n in
-    omega (arith, h.count, h.room, h.part.stored, room, grow, outputs_so_far s n m g known h, some, all)
+-- a LOAD is refused only where the whole graph has no room
+pub load_room : (s : State) (n m : ℕ) (g : Lists) (known : List (Option ℕ)) (x : Slot) (most : ℕ) → Closes s n m g known → slice_get s.slots n ≡ Some x
+    → is_output x.class ≡ true → get_or known n None ≡ None → length g.operations ≡ most → most < whole_size s
+load_room s n m g known x most h e is_one none all =
+    let lt : n < length known = let inside = slice_get_within s.slots n x e in omega (arith, inside, h.long) in
+    omega (arith, h.size, h.part.stored, outs_loaded s.slots known n 0 x e lt is_one none, all)
 
 -- an OUT
-pub out_room : (s : State) (n m : ℕ) (g : Lists) (known : List (Option ℕ)) (x : Slot) (most : ℕ) → Closes s n m g known → slice_get s.slots n ≡ Some x
-    → is_output x.class ≡ true → length g.operations ≡ most → most < reserved s + last_size s.slots
-out_room s n m g known x most h e is_one all =
-    let room = last_room s.slots h.from.variables in
-    let grow = columns_grow s.slots (suc n) in
-    let next = ap length (columns_more s.slots n x e ∙ by_test (is_output x.class) true _ _ is_one) in
-    let one = length-append (output_columns (take n s.slots)) ((let c : Column = record { name = x.name; ty = x.ty } in c) ∷ []) in
-    omega (arith, h.count, h.room, h.part.stored, room, grow, next, one, outputs_so_far s n m g known h, all)
+pub out_room : (s : State) (n m : ℕ) (g : Lists) (known : List (Option ℕ)) (k : ℕ) (x : Slot) (most : ℕ) → Closes s n m g known → slice_get s.slots n ≡ Some x
+    → is_output x.class ≡ true → get_or known n None ≡ Some k → length g.operations ≡ most → most < whole_size s
+out_room s n m g known k x most h e is_one place all =
+    let lt : n < length known = let inside = slice_get_within s.slots n x e in omega (arith, inside, h.long) in
+    let one = ap₂ (λ b o. out_size b o) is_one place in
+    omega (arith, h.size, h.part.stored, outs_split s.slots known n x e lt, one, all)
 
 -- a STORE
 pub store_room : (s : State) (n m : ℕ) (g : Lists) (known : List (Option ℕ)) (most : ℕ) → Closes s n m g known → m < length g.loads → length g.operations ≡ most
-    → most < reserved s + last_size s.slots
-store_room s n m g known most h less all =
-    let room = last_room s.slots h.from.variables in
-    let grow = columns_grow s.slots n in
-    omega (arith, h.count, h.room, h.so_far, less, room, grow, outputs_so_far s n m g known h, all)
+    → most < whole_size s
+store_room s n m g known most h less all = omega (arith, h.size, h.so_far, less, all)
 
 -- ---- the whole
 
@@ -510,13 +566,14 @@ pub finishes : (s : State) (m : ℕ) (g : Lists) (known : List (Option ℕ)) →
 finishes s m g known full h = record {
   profile = h.profile;
   names = h.names ∙ h.from.names;
+  turn_nodes = h.turn_nodes;
+  inputs = h.inputs;
+  operations = h.operations;
+  needed = h.needed;
   ins = ap₂ (λ l q. map (column l) q) h.names h.inputs ∙ h.from.columns;
   outs = h.columns ∙ ap output_columns (take_all (length s.slots) s.slots (omega arith));
   whole = record { part = h.part; all_stored = h.so_far ∙ full };
-  few =
-      let room = last_room s.slots h.from.variables in
-      let grow = columns_grow s.slots (length s.slots) in
-      omega (arith, h.count, h.room, h.so_far, full, room, grow, outputs_so_far s (length s.slots) m g known h);
+  size = let over = outs_over s.slots known in omega (arith, h.size, h.so_far, full, over);
   cells = h.cells;
   loads = h.loads;
   stops = h.stops;

@@ -1,5 +1,5 @@
 -- Exprs: the operations of an expression after those of its parts.
-use Rattle.std.proofs.Common.{◌≡◌, ℕ, ◌+◌, ℤ, Bool, true, false, List, Option, Some, None, Result, Ok, Err, refl, sym, ap, ap₂, ◌∙◌, subst, arith}
+use Rattle.std.proofs.Common.{◌≡◌, ℕ, ◌+◌, ℤ, Bool, true, false, ◌||◌, List, Option, Some, None, Result, Ok, Err, refl, sym, ap, ap₂, ◌∙◌, subst, arith}
 use Rattle.vcp_base.specs.declared.spot.Spot.{Spot}
 use Rattle.vcp_base.specs.declared.turns.Turn.{Turn}
 use Rattle.vcp_base.specs.declared.ty.Ty.{Ty}
@@ -12,20 +12,22 @@ use Rattle.vcp_typed.specs.TExprTree.{TExprTree, literal, get, widen, unary, bin
 use Rattle.vcp_typed.specs.Checked.{ty_of}
 use Rattle.vcp_typed.specs.Rules.{result, widens}
 use Rattle.vcp_typed.specs.Size.{expr_size, operator_size}
-use Rattle.flat_expr.specs.State.{State, active, guarded, IsValue, Meant, Makes, Flattens, meaning_of, giving, reading, signs, operates}
-use Rattle.flat_expr.proofs.Steps.{then, weaker, AsGood, as_good-self, as_good-is}
+use Rattle.flat_expr.specs.State.{State, active, guarded, IsValue, Meant, Makes, Reads, Flattens, no_slot, meaning_of, giving, reading, signs, operates}
+use Rattle.flat_expr.specs.ReadSlots.{reads_slot}
+use Rattle.flat_expr.proofs.Steps.{then_reading, neither, weaker, AsGood, as_good-self, as_good-is}
 use Rattle.flat_expr.proofs.Operators.{turns-same, good_total, wider_as}
 
 pub literal_made : (s new : State) (t : Ty) (v : ℤ) (spot : Spot) (k : ℕ) → Makes s new t 1 (giving v) k → Flattens s new (literal t v spot) k
 literal_made s new t v spot k f = weaker s new t 1 1 (giving v) _ k (omega arith) (λ now vs types. good_total (active s.path vs) (Ok (Some v)) v refl) f
 
-pub get_made : (s new : State) (t : Ty) (slot k : ℕ) → Makes s new t 0 (reading slot) k → Flattens s new (get slot t) k
+pub get_made : (s new : State) (t : Ty) (slot k : ℕ) → Reads s new slot t k → Flattens s new (get slot t) k
 get_made s new t slot k f =
     weaker s new t 0 0 (reading slot) _ k (omega arith) (λ now vs types. good_total (active s.path vs) (Ok (Some (at now slot))) (at now slot) refl) f
 
 pub widen_made : (s new : State) (t : Ty) (a : TExprTree) (k : ℕ) → widens (ty_of a) t ≡ true → Flattens s new a k → Flattens s new (widen t a) k
 widen_made s new t a k w f = record {
   follows = f.follows;
+  unread = f.unread;
   place = wider_as (ty_of a) t new.graph.operations k w f.place;
   count = f.count;
   gives = f.gives;
@@ -48,7 +50,7 @@ pub unary_made : (s0 s1 s2 : State) (op : UnOp) (t : Ty) (a : TExprTree) (spot :
     → Flattens s0 s2 (unary op t a spot) k
 unary_made s0 s1 s2 op t a spot r k f g =
     weaker s0 s2 t (expr_size a + 2) (2 + expr_size a) m m k (omega arith) (λ now vs types. as_good-self (m now vs))
-    (then s0 s1 s2 (ty_of a) t (expr_size a) 2 (meaning_of s0 a) (signs s1 op t r spot) m r k f g (record {
+    (then_reading (reads_slot a) no_slot (reads_slot a) (λ slot h. (h, refl)) s0 s1 s2 (ty_of a) t (expr_size a) 2 (meaning_of s0 a) (signs s1 op t r spot) m r k f g (record {
       stops = λ now vs s e. guard_stops (active s0.path vs) (value turns a now) (sign op t spot turns) s e;
       goes = λ now vs ws o e kept same_path types is.
           subst (λ u. AsGood (guarded (active s1.path ws) (sign op t spot u (at ws r))) (m now vs)) (sym (turns-same s0 s1 f.follows))
@@ -71,8 +73,9 @@ pub binary_made : (s0 s1 s2 s3 : State) (op : BinOp) (t : Ty) (a b : TExprTree) 
 binary_made s0 s1 s2 s3 op t a b spot r q k f g h =
     weaker s0 s3 (result op t) (expr_size a + (expr_size b + operator_size op)) (operator_size op + expr_size a + expr_size b) m m k (omega arith)
     (λ now vs types. as_good-self (m now vs))
-    (then s0 s1 s3 (ty_of a) (result op t) (expr_size a) (expr_size b + operator_size op) (meaning_of s0 a) (second s1 op t b r spot) m r k f
-    (then s1 s2 s3 (ty_of b) (result op t) (expr_size b) (operator_size op) (meaning_of s1 b) (operates s2 op t r q spot) (second s1 op t b r spot) q k g h
+    (then_reading (reads_slot a) (reads_slot b) (λ slot. reads_slot a slot || reads_slot b slot)
+    (λ slot h. neither (reads_slot a slot) (reads_slot b slot) h) s0 s1 s3 (ty_of a) (result op t) (expr_size a) (expr_size b + operator_size op) (meaning_of s0 a) (second s1 op t b r spot) m r k f
+    (then_reading (reads_slot b) no_slot (reads_slot b) (λ slot h. (h, refl)) s1 s2 s3 (ty_of b) (result op t) (expr_size b) (operator_size op) (meaning_of s1 b) (operates s2 op t r q spot) (second s1 op t b r spot) q k g h
     (record {
       stops = λ now vs s e. guard_stops (active s1.path vs) (value (turns_of s1.graph s1.turn) b now)
           (λ y. operate op t spot (turns_of s1.graph s1.turn) (at vs r) y) s e;

@@ -3,8 +3,8 @@ pub mod Arguments
 pub mod Assigning
 pub mod Beginning
 pub mod Calls
-pub mod Codes
 pub mod Closing
+pub mod Codes
 pub mod Exprs
 pub mod Loads
 pub mod Operators
@@ -13,4 +13,5 @@ pub mod Refusals
 pub mod Runs
 pub mod Steps
 pub mod Turns
+pub mod Weight
 pub mod Worked

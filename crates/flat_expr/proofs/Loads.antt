@@ -1,8 +1,9 @@
 -- Loads: the first read of a slot.
-use Rattle.std.proofs.Common.{◌≡◌, ◌≢◌, ℕ, zero, suc, ◌<◌, ◌≤◌, ℤ, Bool, true, false, ◌&&◌, cond, List, [], ◌∷◌, ◌++◌, length, reverse, slice_get, get_or, set}
+use Rattle.std.proofs.Common.{◌≡◌, ◌≢◌, ℕ, zero, suc, ◌<◌, ◌≤◌, ℤ, Bool, true, false, ◌&&◌, cond, List, [], ◌∷◌, ◌++◌, length, reverse, slice_get, get_or, set, ◌==◌}
 use Rattle.std.proofs.Common.{Option, Some, None, Ok, Err, refl, sym, ap, ◌∙◌, subst, arith, length-append, length-set, get_or-set_same, get_or-set_other}
 use Rattle.std.proofs.Common.{⊎_elim}
 use Rattle.std.proofs.lemmas.Bool.{cases_eq}
+use Rattle.std.proofs.lemmas.Bool.Decides.{nat_tests}
 use Rattle.std.proofs.lemmas.Option.{slice_get_within}
 use Rattle.vcp_base.specs.declared.ty.Ty.TheVariants as ty
 use Rattle.vcp_base.specs.declared.kind.Kind.TheVariants as kind
@@ -17,7 +18,7 @@ use Rattle.vcp_base.specs.Values.{at}
 use Rattle.vcp_typed.specs.declared.slot.Slot.{Slot}
 use Rattle.vcp_typed.specs.Meaning.{and_then}
 use Rattle.vcp_typed.specs.SourceRun.{is_input}
-use Rattle.flat_expr.specs.State.{State, stopped, unknown, others, IsHeld, IsCell, IsState, IsA, IsPlace, KnowsOne, Makes, reading, run}
+use Rattle.flat_expr.specs.State.{State, stopped, unknown, others, IsHeld, IsCell, IsState, IsA, IsPlace, KnowsOne, Reads, run}
 use Rattle.flat_expr.proofs.Ops.{get_push, get_last, isa_push, isa_last, place_push}
 use Rattle.flat_expr.proofs.Runs.{step, run-push, run-push_stops, run-length, at-front, at-last}
 use Rattle.flat_expr.proofs.Steps.{follows-self, knows-kept}
@@ -39,11 +40,15 @@ others_fewer (s ∷ slots) = let h = others_fewer slots in by_class (is_input s.
     by_class true n m le = omega arith
     by_class false n m le = omega arith
 
+pub not_same : (a b : ℕ) → (a == b) ≡ false → b ≢ a
+not_same a b h = grind (arith, nat_tests)
+
 -- a slot that an operation holds
 pub held : (s : State) (slot k : ℕ) (x : Slot) → IsState s → slice_get s.slots slot ≡ Some x → get_or s.known slot None ≡ Some k
-    → Makes s s x.ty 0 (reading slot) k
+    → Reads s s slot x.ty k
 held s slot k x i e there = record {
   follows = follows-self s i;
+  unread = λ other h. refl;
   place = subst (IsPlace x.ty s.graph.operations) there (i.known slot x e);
   count = omega arith;
   gives = λ cells row start now vs r loaded knows.
@@ -139,7 +144,6 @@ load_state s slot x i e none part = record {
       (cases_eq n (length s.graph.loads));
   no_outputs = i.no_outputs;
   no_stores = i.no_stores;
-  laws = i.laws;
   cells = omega (
     arith,
     i.cells,
@@ -171,7 +175,7 @@ load_of s x cells row vs e = go (fits x.ty v) e
     go false h = absurd cc
 
 pub loaded : (s : State) (slot : ℕ) (x : Slot) → IsState s → IsState (loading s slot x) → slice_get s.slots slot ≡ Some x → get_or s.known slot None ≡ None
-    → Makes s (loading s slot x) x.ty 0 (reading slot) (length s.graph.operations)
+    → Reads s (loading s slot x) slot x.ty (length s.graph.operations)
 loaded s slot x i j e none = record {
   follows = record {
     before = i;
@@ -184,6 +188,8 @@ loaded s slot x i j e none = record {
     inputs = refl;
     outputs = refl;
     stores = refl;
+    operations = (load_op s x ∷ [], refl);
+    cells = (cell ∷ [], refl);
     places = λ n k h. ⊎_elim
         (λ (same : n ≡ slot). let q : None ≡ Some k = sym none ∙ ap (λ m. get_or s.known m None) (sym same) ∙ h in absurd cc)
         (λ (other : n ≢ slot). get_or-set_other s.known slot n (Some (length s.graph.operations)) None other ∙ h)
@@ -193,6 +199,7 @@ loaded s slot x i j e none = record {
     loads = λ cells start h n l q. h n l (get_push s.graph.loads cell n (slice_get_within s.graph.loads n l q) ∙ q);
     stops = λ cells row r h. run-push_stops s.graph (load_op s x) cells row r h;
   };
+  unread = λ other h. get_or-set_other s.known slot other (Some (length s.graph.operations)) None (not_same slot other h);
   place = isa_last x.ty s.graph.operations (load_op s x) (length s.graph.operations) refl refl;
   count = let fewer = unknown_set s.known slot (length s.graph.operations) (omega (arith, slice_get_within s.slots slot x e, i.long)) none in
       omega (arith, length-append s.graph.operations (load_op s x ∷ []), fewer);
@@ -273,7 +280,6 @@ set_state s slot k i lt fit = record {
   held = λ n l q. still_held s.known slot k l.name (i.held n l q);
   no_outputs = i.no_outputs;
   no_stores = i.no_stores;
-  laws = i.laws;
   cells = omega (arith, i.cells, unknown_fewer s.known slot k);
   path = i.path;
   turn = i.turn;

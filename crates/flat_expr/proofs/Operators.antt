@@ -46,6 +46,7 @@ made_const old new t v spot turn k h p =
 pub nought_there : (s : State) (k : ℕ) → IsState s → s.nought ≡ Some k → Makes s s ty.Int 0 (giving (pos 0)) k
 nought_there s k i e = record {
   follows = follows-self s i;
+  unread = λ slot h. refl;
   place = subst (IsPlace ty.Int s.graph.operations) e i.nought;
   count = omega arith;
   gives = λ cells row start now vs r loaded knows. (vs, r, ((λ j lt. refl), knows, subst (λ o. IsNumber o (pos 0) vs) e knows.nought));
@@ -54,6 +55,7 @@ nought_there s k i e = record {
 pub unit_there : (s : State) (k : ℕ) → IsState s → s.unit ≡ Some k → Makes s s ty.Int 0 (giving (pos 1)) k
 unit_there s k i e = record {
   follows = follows-self s i;
+  unread = λ slot h. refl;
   place = subst (IsPlace ty.Int s.graph.operations) e i.unit;
   count = omega arith;
   gives = λ cells row start now vs r loaded knows. (vs, r, ((λ j lt. refl), knows, subst (λ o. IsNumber o (pos 1) vs) e knows.unit));
@@ -81,8 +83,6 @@ nought_new s p k e e2 f = record {
       held = i.held;
       no_outputs = i.no_outputs;
       no_stores = i.no_stores;
-      laws =
-          i.laws;
       cells = i.cells;
       path = i.path;
       turn = i.turn;
@@ -97,12 +97,15 @@ nought_new s p k e e2 f = record {
     inputs = f.follows.inputs;
     outputs = f.follows.outputs;
     stores = f.follows.stores;
+    operations = f.follows.operations;
+    cells = f.follows.cells;
     places = f.follows.places;
     longer = f.follows.longer;
     typed = f.follows.typed;
     loads = f.follows.loads;
     stops = f.follows.stops;
   };
+  unread = f.unread;
   place = f.place;
   count = omega (arith, f.count, ap missing e, ap missing e2);
   gives = λ cells row start now vs r loaded knows.
@@ -134,8 +137,6 @@ unit_new s p k e e2 f = record {
       held = i.held;
       no_outputs = i.no_outputs;
       no_stores = i.no_stores;
-      laws =
-          i.laws;
       cells = i.cells;
       path = i.path;
       turn = i.turn;
@@ -150,12 +151,15 @@ unit_new s p k e e2 f = record {
     inputs = f.follows.inputs;
     outputs = f.follows.outputs;
     stores = f.follows.stores;
+    operations = f.follows.operations;
+    cells = f.follows.cells;
     places = f.follows.places;
     longer = f.follows.longer;
     typed = f.follows.typed;
     loads = f.follows.loads;
     stops = f.follows.stops;
   };
+  unread = f.unread;
   place = f.place;
   count = omega (arith, f.count, ap missing e, ap missing e2);
   gives = λ cells row start now vs r loaded knows.

@@ -1,6 +1,7 @@
 -- Steps: what a step gives, and what one gives after another.
-use Rattle.std.proofs.Common.{◌≡◌, ◌≢◌, ℕ, zero, suc, ◌+◌, ◌<◌, ◌≤◌, ℤ, pos, true, cond, List, [], ◌∷◌, ◌++◌, length, slice_get, get_or, Option, Some, None}
-use Rattle.std.proofs.Common.{Result, Ok, Err, refl, sym, ap, ◌∙◌, subst, arith, length-append, nat_lt}
+use Rattle.std.proofs.Common.{◌≡◌, ◌≢◌, ℕ, zero, suc, ◌+◌, ◌<◌, ◌≤◌, ℤ, pos, Bool, true, false, ◌||◌, cond, List, [], ◌∷◌, ◌++◌, length, slice_get, get_or, Option, Some, None}
+use Rattle.std.proofs.Common.{Result, Ok, Err, refl, sym, ap, ◌∙◌, subst, arith, length-append, append_assoc, nat_lt}
+use Rattle.std.proofs.lemmas.List.{append-nil}
 use Rattle.vcp_base.specs.declared.spot.Spot.{Spot}
 use Rattle.vcp_base.specs.declared.ty.Ty.{Ty}
 use Rattle.vcp_base.specs.declared.ty.Ty.TheVariants as ty
@@ -16,9 +17,17 @@ use Rattle.op_graph.specs.GraphRun.{own, operand, read, outcome_of}
 use Rattle.vcp_typed.specs.declared.slot.Slot.{Slot}
 use Rattle.vcp_typed.specs.Meaning.{Stop, and_then}
 use Rattle.flat_expr.specs.State.{State, IsState, IsA, IsPlace, active, KnowsOne, IsNumber, Knows, AreLoaded, exactly, IsValue, Kept, Ends, Follows, Meant}
-use Rattle.flat_expr.specs.State.{Makes, pushed, Pushes, act, acts, is_plain, given, run, op_at}
+use Rattle.flat_expr.specs.State.{Steps, Makes, Extends, no_slot, pushed, Pushes, act, acts, is_plain, given, run, op_at}
 use Rattle.flat_expr.proofs.Ops.{plain, isa_below, isa_push, isa_last, place_push}
 use Rattle.flat_expr.proofs.Runs.{step, run-push, run-push_stops, run-length, no_operand, act_is, Typed, typed, at-front, at-last, kept-trans, active-kept}
+
+-- ---- lists that begin with others
+
+pub extends-self : {X : Type 0} (xs : List X) → Extends xs xs
+extends-self xs = ([], sym (append-nil xs))
+
+pub extends-trans : {X : Type 0} (xs ys zs : List X) → Extends xs ys → Extends ys zs → Extends xs zs
+extends-trans xs ys zs f g = (f.0 ++ g.0, g.1 ∙ ap (λ l. l ++ g.0) f.1 ∙ append_assoc xs f.0 g.0)
 
 -- ---- a state with one more operation
 
@@ -38,7 +47,6 @@ push_state s op i part = record {
   held = i.held;
   no_outputs = i.no_outputs;
   no_stores = i.no_stores;
-  laws = i.laws;
   cells = i.cells;
   path = place_push ty.Bool s.graph.operations op s.path i.path;
   turn = i.turn;
@@ -58,6 +66,8 @@ follows-self s i = record {
   inputs = refl;
   outputs = refl;
   stores = refl;
+  operations = extends-self s.graph.operations;
+  cells = extends-self s.graph.loads;
   places = λ slot k e. e;
   longer = omega arith;
   typed = λ t k h. h;
@@ -77,6 +87,8 @@ follows-trans a b c f g = record {
   inputs = g.inputs ∙ f.inputs;
   outputs = g.outputs ∙ f.outputs;
   stores = g.stores ∙ f.stores;
+  operations = extends-trans a.graph.operations b.graph.operations c.graph.operations f.operations g.operations;
+  cells = extends-trans a.graph.loads b.graph.loads c.graph.loads f.cells g.cells;
   places = λ slot k e. g.places slot k (f.places slot k e);
   longer = omega (arith, f.longer, g.longer);
   typed = λ t k h. g.typed t k (f.typed t k h);
@@ -96,6 +108,8 @@ follows-pushed s op i j = record {
   inputs = refl;
   outputs = refl;
   stores = refl;
+  operations = (op ∷ [], refl);
+  cells = extends-self s.graph.loads;
   places = λ slot k e. e;
   longer = omega (arith, length-append s.graph.operations (op ∷ []));
   typed = λ t k h. isa_push t s.graph.operations op k h;
@@ -169,13 +183,14 @@ pub made_of : (s : State) (op : Op) (k : ℕ) (m : Meant) → IsState s → IsSt
     Makes s (pushed s op) op.ty 1 m k
 made_of s op k m i j place tells = record {
   follows = follows-pushed s op i j;
+  unread = λ slot h. refl;
   place = isa_last op.ty s.graph.operations op k place refl;
   count = omega (arith, length-append s.graph.operations (op ∷ []));
   gives = λ cells row start now vs r loaded knows.
       let len = run-length s.graph cells row vs r in
       ends_of _ (m now vs) (step s.graph.turn_nodes cells row vs op) vs (run (with_op s.graph op) cells row)
-      (tells cells row start now vs (no_operand i.laws s.graph op cells row start vs j.part loaded r) loaded
-      (typed i.laws s.graph cells row start vs i.part loaded r))
+      (tells cells row start now vs (no_operand s.graph op cells row start vs j.part loaded r) loaded
+      (typed s.graph cells row start vs i.part loaded r))
       (run-push s.graph op cells row vs r)
       (λ o v h. (
         at-front vs v,
@@ -254,10 +269,16 @@ ends-then : (P Q : Option ℤ → List ℤ → Type 0) (m1 m : Result (Option �
 ends-then P Q (Ok o) m r1 r2 h f g next = next o h.0 refl h.1 h.2
 ends-then P Q (Err s) m r1 r2 h f g next = subst (λ x. Ends Q x r2) (sym (g s refl)) (f s h)
 
-pub then : (s0 s1 s2 : State) (t1 t2 : Ty) (n1 n2 : ℕ) (m1 m2 m : Meant) (a b : ℕ) → Makes s0 s1 t1 n1 m1 a → Makes s1 s2 t2 n2 m2 b → Leads s0 s1 a m1 m2 m
-    → Makes s0 s2 t2 (n1 + n2) m b
-then s0 s1 s2 t1 t2 n1 n2 m1 m2 m a b f g lead = record {
+pub neither : (a b : Bool) → (a || b) ≡ false → (a ≡ false) × (b ≡ false)
+neither true b h = absurd cc
+neither false b h = (refl, h)
+
+-- what the two steps don't read is read by neither
+pub then_reading : (p q r : ℕ → Bool) → ((slot : ℕ) → r slot ≡ false → (p slot ≡ false) × (q slot ≡ false)) → (s0 s1 s2 : State) (t1 t2 : Ty) (n1 n2 : ℕ)
+    (m1 m2 m : Meant) (a b : ℕ) → Steps s0 s1 p t1 n1 m1 a → Steps s1 s2 q t2 n2 m2 b → Leads s0 s1 a m1 m2 m → Steps s0 s2 r t2 (n1 + n2) m b
+then_reading p q r neither s0 s1 s2 t1 t2 n1 n2 m1 m2 m a b f g lead = record {
   follows = follows-trans s0 s1 s2 f.follows g.follows;
+  unread = λ slot h. let none = neither slot h in g.unread slot none.1 ∙ f.unread slot none.0;
   place = g.place;
   count = omega (arith, f.count, g.count);
   gives = λ cells row start now vs r loaded knows.
@@ -274,7 +295,7 @@ then s0 s1 s2 t1 t2 n1 n2 m1 m2 m a b f g lead = record {
       let kept : (t : Ty) (k : ℕ) → IsA t s0.graph.operations k → at ws k ≡ at vs k = λ t k h. p.0 k (omega (arith, isa_below t s0.graph.operations k h)) in
       let act1 : active s1.path ws ≡ active s0.path vs = ap (λ x. active x ws) f.follows.path
       ∙ active-kept ty.Bool s0.graph.operations s0.path vs ws f.follows.before.path len0 p.0 in
-      let types = typed f.follows.after.laws s1.graph cells row start ws f.follows.after.part loaded1 r1 in
+      let types = typed s1.graph cells row start ws f.follows.after.part loaded1 r1 in
       let good = lead.goes now vs ws o e kept act1 types p.2 in
       let longer : length vs ≤ length ws = omega (arith, f.follows.longer) in
       let Q1 : Option ℤ → List ℤ → Type 0 = λ x us. Kept ws us × Knows s2 start now us × IsValue x (at us b) in
@@ -287,16 +308,22 @@ then s0 s1 s2 t1 t2 n1 n2 m1 m2 m a b f g lead = record {
     ends-weaker P Q (Ok o) all h e = (e.0, e.1, h o e.0 e.2)
     ends-weaker P Q (Err s) all h e = e
 
+pub then : (s0 s1 s2 : State) (t1 t2 : Ty) (n1 n2 : ℕ) (m1 m2 m : Meant) (a b : ℕ) → Makes s0 s1 t1 n1 m1 a → Makes s1 s2 t2 n2 m2 b → Leads s0 s1 a m1 m2 m
+    → Makes s0 s2 t2 (n1 + n2) m b
+then s0 s1 s2 t1 t2 n1 n2 m1 m2 m a b f g lead =
+    then_reading no_slot no_slot no_slot (λ slot h. (refl, refl)) s0 s1 s2 t1 t2 n1 n2 m1 m2 m a b f g lead
+
 -- a step that means less, and may take more
-pub weaker : (s0 s1 : State) (t : Ty) (n1 n2 : ℕ) (m1 m2 : Meant) (k : ℕ) → n1 ≤ n2
-    → ((now vs : List ℤ) → Typed s0.graph.operations vs → AsGood (m1 now vs) (m2 now vs)) → Makes s0 s1 t n1 m1 k → Makes s0 s1 t n2 m2 k
+pub weaker : {p : ℕ → Bool} (s0 s1 : State) (t : Ty) (n1 n2 : ℕ) (m1 m2 : Meant) (k : ℕ) → n1 ≤ n2
+    → ((now vs : List ℤ) → Typed s0.graph.operations vs → AsGood (m1 now vs) (m2 now vs)) → Steps s0 s1 p t n1 m1 k → Steps s0 s1 p t n2 m2 k
 weaker s0 s1 t n1 n2 m1 m2 k le good f = record {
   follows = f.follows;
+  unread = f.unread;
   place = f.place;
   count = omega (arith, f.count);
   gives = λ cells row start now vs r loaded knows.
       ends-good _ (m1 now vs) (m2 now vs) (run s1.graph cells row) (λ us x q. (q.0, q.1, tt))
-      (good now vs (typed f.follows.before.laws s0.graph cells row start vs f.follows.before.part (f.follows.loads cells start loaded) r))
+      (good now vs (typed s0.graph cells row start vs f.follows.before.part (f.follows.loads cells start loaded) r))
       (f.gives cells row start now vs r loaded knows);
 }
 
@@ -304,6 +331,7 @@ weaker s0 s1 t n1 n2 m1 m2 k le good f = record {
 pub stays : (s : State) (t : Ty) (k : ℕ) → IsState s → IsA t s.graph.operations k → Makes s s t 0 (λ now vs. Ok (Some (at vs k))) k
 stays s t k i h = record {
   follows = follows-self s i;
+  unread = λ slot e. refl;
   place = h;
   count = omega arith;
   gives = λ cells row start now vs r loaded knows. (vs, r, ((λ j lt. refl), knows, refl));

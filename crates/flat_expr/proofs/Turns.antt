@@ -81,7 +81,6 @@ nested s node i part law = record {
     turn = let more = length-append s.graph.turn_nodes (node ∷ []) in omega (arith, i.turn, more);
     nought = i.nought;
     unit = i.unit;
-    laws = i.laws;
   };
   number = refl;
   is = refl;

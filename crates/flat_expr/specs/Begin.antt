@@ -1,5 +1,5 @@
 -- Begin: the lists and the places of slots before the body, where the INPUTs are there.
-use Rattle.std.specs.Prelude.{ℕ, suc, cond, List, [], ◌∷◌, Option, Some, None}
+use Rattle.std.specs.Prelude.{◌≡◌, ℕ, suc, ◌+◌, ◌≤◌, ℤ, cond, List, [], ◌∷◌, length, sum_by, Option, Some, None, Ok}
 use Rattle.vcp_base.specs.declared.code.Profile.{Profile}
 use Rattle.vcp_base.specs.declared.kind.Kind.TheVariants as kind
 use Rattle.op_graph.specs.declared.op.Op.{Op}
@@ -7,9 +7,14 @@ use Rattle.op_graph.specs.declared.op.Var.{Var}
 use Rattle.op_graph.specs.Lists.{Lists, nothing}
 use Rattle.op_graph.specs.Building.{entry_op}
 use Rattle.vcp_typed.specs.declared.slot.Slot.{Slot}
-use Rattle.vcp_typed.specs.SourceRun.{is_input}
+use Rattle.vcp_base.specs.Code.{is_wide}
+use Rattle.vcp_base.specs.Types.{AreIn}
+use Rattle.vcp_typed.specs.SourceRun.{Program, is_input, with_inputs}
+use Rattle.vcp_typed.specs.Fitting.{input_types}
+use Rattle.vcp_typed.specs.Size.{class_size}
+use Rattle.vcp_typed.specs.Wide.{wide}
 use Rattle.flat_expr.specs.Told.{names_of}
-use Rattle.flat_expr.specs.State.{State}
+use Rattle.flat_expr.specs.State.{State, IsState, Knows, reserved, last_size, run}
 
 -- the inputs among slots that are numbered from n
 abbrev pub inputs_from : ℕ → List Slot → List Var
@@ -33,3 +38,17 @@ entered p names slots = record (nothing p) { names = names; inputs = inputs_from
 -- the state before the body
 abbrev pub begun : Profile → List Slot → State
 begun p slots = record { slots = slots; graph = entered p (names_of slots) slots; known = held_from 0 slots; path = None; turn = 0; nought = None; unit = None }
+
+-- the state before the body, in the program's code: the inputs are known
+pub record Begins (s : State) (p : Program) : Type 0 where
+  pub state : IsState s
+  pub code : is_wide s.graph.profile ≡ wide p
+  pub is : s ≡ begun s.graph.profile p.slots
+  pub slots : s.slots ≡ p.slots
+  pub path : s.path ≡ None
+  pub turn : s.turn ≡ 0
+  pub nodes : s.graph.turn_nodes ≡ []
+  pub loads : s.graph.loads ≡ []
+  pub count : reserved s + last_size p.slots ≤ 2 + sum_by (λ x. class_size x.class) p.slots
+  pub gives : (cells row m : List ℤ) → AreIn (input_types p.slots) row → length m ≡ length p.slots →
+      (ws : List ℤ) × (run s.graph cells row ≡ Ok ws) × Knows s (with_inputs p.slots row m) (with_inputs p.slots row m) ws

@@ -1,6 +1,6 @@
 pub mod Begin
 pub mod Closing
 pub mod Laws
+pub mod ReadSlots
 pub mod State
 pub mod Told
-pub mod Weight

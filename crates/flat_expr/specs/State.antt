@@ -1,6 +1,6 @@
 -- State: what is known while a program is flattened, and what a step does.
 use Rattle.std.specs.Prelude.{◌≡◌, ℕ, zero, suc, ◌<◌, ◌≤◌, ◌+◌, nat_lt, int_lt, unsigned_abs, ℤ, pos, Bool, true, false, not, cond, List, [], ◌∷◌, ◌++◌, length}
-use Rattle.std.specs.Prelude.{reverse, get_or, slice_get, slice_set, map, sum_by, set, Option, Some, None, Result, Ok, Err, ⊤}
+use Rattle.std.specs.Prelude.{reverse, get_or, slice_get, slice_set, map, sum_by, set, ◌==◌, ◌≢◌, All, Option, Some, None, Result, Ok, Err, ⊤}
 use Rattle.vcp_base.specs.declared.spot.Spot.{Spot}
 use Rattle.vcp_base.specs.declared.turns.Turn.{Turn}
 use Rattle.vcp_base.specs.declared.ty.Ty.{Ty}
@@ -19,7 +19,6 @@ use Rattle.op_graph.specs.declared.build.Build.{Build}
 use Rattle.op_graph.specs.declared.build.Build.TheVariants as build
 use Rattle.op_graph.specs.declared.op.TurnNode.{TurnNode}
 use Rattle.op_graph.specs.declared.op.Loaded.{Loaded}
-use Rattle.op_graph.specs.Laws.{OperandLaws}
 use Rattle.op_graph.specs.Lists.{Lists, turns_of, turns_back, column, output_column}
 use Rattle.op_graph.specs.Rules.{IsPart, IsGraph, operand_fits, is_number}
 use Rattle.op_graph.specs.Building.{with_op, with_turn_node}
@@ -35,14 +34,12 @@ use Rattle.vcp_typed.specs.declared.expr.Fun.{Fun}
 use Rattle.vcp_typed.specs.declared.expr.Fun.TheVariants as fun
 use Rattle.vcp_typed.specs.Checked.{ty_of}
 use Rattle.vcp_typed.specs.Size.{expr_size}
-use Rattle.vcp_typed.specs.Size.{class_size}
-use Rattle.vcp_typed.specs.SourceRun.{Program, is_input, with_inputs, outputs}
-use Rattle.vcp_typed.specs.Fitting.{input_types, input_columns, output_columns}
-use Rattle.vcp_typed.specs.Wide.{wide}
-use Rattle.vcp_base.specs.Types.{AreIn}
+use Rattle.vcp_typed.specs.SourceRun.{is_input, is_output, outputs}
+use Rattle.vcp_typed.specs.Fitting.{input_columns, output_columns}
 use Rattle.st_tree.specs.declared.program.Class.{Class}
 use Rattle.st_tree.specs.declared.program.Class.TheVariants as class
 use Rattle.flat_expr.specs.Told.{names_of}
+use Rattle.flat_expr.specs.ReadSlots.{reads_slot}
 
 -- ---- one cycle of unfinished lists, as a result
 
@@ -100,7 +97,7 @@ abbrev pub others : List Slot → ℕ
 others [] = 0
 others (s ∷ slots) = cond (is_input s.class) (others slots) (suc (others slots))
 
--- how many operations the end of a cycle adds at most: the OUT and the STORE of each variable
+-- how many operations the end of a cycle adds at most to a program's: the OUT and the STORE of each variable
 abbrev pub last_of : Class → ℕ
 last_of class.Input = 0
 last_of class.Output = 2
@@ -135,7 +132,7 @@ Allows p has_lint = is_wide p ≡ false → has_lint ≡ false
 abbrev pub SlotsAllowed : Profile → List Slot → Type 0
 SlotsAllowed p slots = (slot : ℕ) (x : Slot) → slice_get slots slot ≡ Some x → admits p x.ty ≡ true
 
--- A state that flattening may come to. The laws of runs are kept with it, for whatever is said of its runs rests on them.
+-- a state that flattening may come to
 pub record IsState (s : State) : Type 0 where
   pub part : IsPart s.graph
   pub code : SlotsAllowed s.graph.profile s.slots
@@ -156,7 +153,6 @@ pub record IsState (s : State) : Type 0 where
   pub turn : s.turn ≤ length s.graph.turn_nodes
   pub nought : IsPlace ty.Int s.graph.operations s.nought
   pub unit : IsPlace ty.Int s.graph.operations s.unit
-  pub laws : OperandLaws
 
 -- ---- what is known in a cycle
 
@@ -209,7 +205,11 @@ abbrev pub Ends : (Option ℤ → List ℤ → Type 0) → Result (Option ℤ) S
 Ends P (Ok a) r = (ws : List ℤ) × (r ≡ Ok ws) × P a ws
 Ends P (Err s) r = r ≡ Err s
 
--- what comes later keeps stops, the path, the turn, and what is known
+-- the list begins with the earlier one
+abbrev pub Extends : {X : Type 0} → List X → List X → Type 0
+Extends {X} old new = (more : List X) × (new ≡ old ++ more)
+
+-- What comes later keeps stops, the path, the turn, and what is known: operations and cells are added at the end, and nothing before them changes.
 pub record Follows (old new : State) : Type 0 where
   pub before : IsState old
   pub after : IsState new
@@ -221,6 +221,8 @@ pub record Follows (old new : State) : Type 0 where
   pub inputs : new.graph.inputs ≡ old.graph.inputs
   pub outputs : new.graph.outputs ≡ old.graph.outputs
   pub stores : new.graph.stores ≡ old.graph.stores
+  pub operations : Extends old.graph.operations new.graph.operations
+  pub cells : Extends old.graph.loads new.graph.loads
   pub places : (slot k : ℕ) → get_or old.known slot None ≡ Some k → get_or new.known slot None ≡ Some k
   pub longer : length old.graph.operations ≤ length new.graph.operations
   pub typed : (t : Ty) (k : ℕ) → IsA t old.graph.operations k → IsA t new.graph.operations k
@@ -232,20 +234,29 @@ abbrev pub Meant : Type 0
 Meant = List ℤ → List ℤ → Result (Option ℤ) Stop
 
 -- The operations that were added give what is meant, at the place k, which may be read where the type is wanted. They are at
--- most so many, beside one LOAD for each new cell and the constants of masks.
-pub record Makes (old new : State) (t : Ty) (most : ℕ) (meant : Meant) (k : ℕ) : Type 0 where
+-- most so many, beside one LOAD for each new cell and the constants of masks. A slot that isn't among those that are read is held as before.
+pub record Steps (old new : State) (is_read : ℕ → Bool) (t : Ty) (most : ℕ) (meant : Meant) (k : ℕ) : Type 0 where
   pub follows : Follows old new
+  pub unread : (slot : ℕ) → is_read slot ≡ false → get_or new.known slot None ≡ get_or old.known slot None
   pub place : IsA t new.graph.operations k
   pub count : reserved new ≤ reserved old + most
   pub gives : (cells row start now vs : List ℤ) → run old.graph cells row ≡ Ok vs → AreLoaded new.graph.loads cells start → Knows old start now vs →
       Ends (λ o ws. Kept vs ws × Knows new start now ws × IsValue o (at ws k)) (meant now vs) (run new.graph cells row)
 
+-- a step that reads no slot
+abbrev pub no_slot : ℕ → Bool
+no_slot slot = false
+
+abbrev pub Makes : State → State → Ty → ℕ → Meant → ℕ → Type 0
+Makes old new t most meant k = Steps old new no_slot t most meant k
+
 -- the expression's value, or its stop, where the place is reached; anything but a stop where it isn't
 abbrev pub meaning_of : State → TExprTree → Meant
 meaning_of s e = λ now vs. guarded (active s.path vs) (value (turns_of s.graph s.turn) e now)
 
+-- the expression's operations: only slots that it reads may be held anew
 abbrev pub Flattens : State → State → TExprTree → ℕ → Type 0
-Flattens old new e k = Makes old new (ty_of e) (expr_size e) (meaning_of old e) k
+Flattens old new e k = Steps old new (reads_slot e) (ty_of e) (expr_size e) (meaning_of old e) k
 
 -- one more operation
 abbrev pub pushed : State → Op → State
@@ -348,6 +359,10 @@ signs s op t a spot = λ now vs. guarded (active s.path vs) (sign op t spot (tur
 abbrev pub reading : ℕ → Meant
 reading slot = λ now vs. Ok (Some (at now slot))
 
+-- no other slot is held anew
+abbrev pub Reads : State → State → ℕ → Ty → ℕ → Type 0
+Reads old new slot t k = Steps old new (λ other. slot == other) t 0 (reading slot) k
+
 abbrev pub giving : ℤ → Meant
 giving v = λ now vs. Ok (Some v)
 
@@ -439,9 +454,12 @@ pub record Continues (old new : State) : Type 0 where
   pub loads : (cells start : List ℤ) → AreLoaded new.graph.loads cells start → AreLoaded old.graph.loads cells start
   pub stops : (cells row : List ℤ) (s : Stop) → run old.graph cells row ≡ Err s → run new.graph cells row ≡ Err s
 
--- the slot gets the value of operation k where the place is reached
+-- the slot gets the value of operation k where the place is reached; every other slot is held as before
 pub record Assigns (old new : State) (slot k : ℕ) : Type 0 where
   pub continues : Continues old new
+  pub operations : Extends old.graph.operations new.graph.operations
+  pub cells : Extends old.graph.loads new.graph.loads
+  pub others : (j : ℕ) → j ≢ slot → get_or new.known j None ≡ get_or old.known j None
   pub nodes : new.graph.turn_nodes ≡ old.graph.turn_nodes
   pub count : reserved new ≤ reserved old + 1
   pub gives : (cells row start now vs : List ℤ) → run old.graph cells row ≡ Ok vs → AreLoaded new.graph.loads cells start → Knows old start now vs →
@@ -457,29 +475,42 @@ pub record Nests (old new : State) (node : TurnNode) (n : ℕ) : Type 0 where
   pub turns : (k : ℕ) → k ≤ length old.graph.turn_nodes → turns_of new.graph k ≡ turns_of old.graph k
   pub here : turns_of new.graph n ≡ turns_of old.graph node.parent ++ (record { name = node.name; value = node.value }) ∷ []
 
--- ---- the begin and the end of a cycle
+-- ---- the end of a cycle
 
--- before the body: the inputs are known
-pub record Begins (s : State) (p : Program) : Type 0 where
-  pub state : IsState s
-  pub slots : s.slots ≡ p.slots
-  pub code : is_wide s.graph.profile ≡ wide p
-  pub path : s.path ≡ None
-  pub turn : s.turn ≡ 0
-  pub nodes : s.graph.turn_nodes ≡ []
-  pub loads : s.graph.loads ≡ []
-  pub count : reserved s + last_size p.slots ≤ 2 + sum_by (λ x. class_size x.class) p.slots
-  pub gives : (cells row m : List ℤ) → AreIn (input_types p.slots) row → length m ≡ length p.slots →
-      (ws : List ℤ) × (run s.graph cells row ≡ Ok ws) × Knows s (with_inputs p.slots row m) (with_inputs p.slots row m) ws
+-- how many operations an output adds: its OUT, and its LOAD and the STORE of that cell where no operation holds it
+abbrev pub out_size : Bool → Option ℕ → ℕ
+out_size false o = 0
+out_size true (Some k) = 1
+out_size true None = 3
 
--- the whole graph: the outputs and the next values of the cells
+-- how many operations the outputs from slot n on add, where the slots are held by these operations
+abbrev pub outs_from : List Slot → List (Option ℕ) → ℕ → ℕ
+outs_from [] known n = 0
+outs_from (s ∷ slots) [] n = 0
+outs_from (s ∷ slots) (o ∷ known) zero = out_size (is_output s.class) o + outs_from slots known zero
+outs_from (s ∷ slots) (o ∷ known) (suc n) = outs_from slots known n
+
+-- how many operations the whole graph has: those that are there, those of the outputs, and the STORE of each cell that is there
+abbrev pub whole_size : State → ℕ
+whole_size s = length s.graph.operations + outs_from s.slots s.known 0 + length s.graph.loads
+
+-- a cell of an output that no operation held
+abbrev pub IsNeeded : State → Loaded → Type 0
+IsNeeded s l = (x : Slot) × (slice_get s.slots l.name ≡ Some x) × (is_output x.class ≡ true) × (get_or s.known l.name None ≡ None)
+
+-- The whole graph: the outputs and the next values of the cells. Nothing that was there changes; the cells that are new are of outputs that no
+-- operation held.
 pub record Finishes (s : State) (g : Lists) : Type 0 where
   pub profile : g.profile ≡ s.graph.profile
   pub names : g.names ≡ names_of s.slots
+  pub turn_nodes : g.turn_nodes ≡ s.graph.turn_nodes
+  pub inputs : g.inputs ≡ s.graph.inputs
+  pub operations : Extends s.graph.operations g.operations
+  pub needed : (more : List Loaded) × (g.loads ≡ s.graph.loads ++ more) × All (IsNeeded s) more
   pub ins : map (column g.names) g.inputs ≡ input_columns s.slots
   pub outs : map (output_column g.names) g.outputs ≡ output_columns s.slots
   pub whole : IsGraph g
-  pub few : length g.operations ≤ reserved s + last_size s.slots
+  pub size : length g.operations ≡ whole_size s
   pub cells : (j : ℕ) (l : Loaded) → slice_get g.loads j ≡ Some l → IsCell s.slots l
   pub loads : (cells start : List ℤ) → AreLoaded g.loads cells start → AreLoaded s.graph.loads cells start
   pub stops : (cells row : List ℤ) (e : Stop) → run s.graph cells row ≡ Err e → run g cells row ≡ Err e

@@ -1,6 +1,6 @@
 //! The end of a cycle: the OUTs, and the STOREs of the slots' present values.
 
-ghost use Rattle.std.specs.Prelude.{◌≡◌, ◌<◌, ◌+◌, ℕ, length, IfOk, IfErr, OnOk};
+ghost use Rattle.std.specs.Prelude.{◌≡◌, ◌<◌, ◌+◌, ℕ, true, length, IfOk, IfErr, OnOk};
 ghost use Rattle.vcp_typed.specs.SourceRun.{is_output as is_output_of};
 ghost use Rattle.flat_expr.specs.Closing.{Closes, Holds, IsOver, IsSlot, NoRoom};
 ghost use Rattle.flat_expr.specs.State.{State};
@@ -59,17 +59,17 @@ fn is_output(class: Class) -> bool
     }
 }
 
-/// The operation that holds a slot's value: the slot's LOAD, which is added, where there is none.
+/// The operation that holds an output's value: the output's LOAD, which is added, where there is none.
 fn held(
     graph: &mut GraphBuilder,
     known: &mut Vec<Option<u32>>,
     slot: u32,
     variable: &Slot,
 ) -> Result<u32, Build>
-    requires { (s : State) × (n : ℕ) × Closes s n 0 graph.old known.old.items × IsSlot s slot variable.now }
-    ensures made { (s : State) (n : ℕ) → Closes s n 0 graph.old known.old.items → IsSlot s slot variable.now →
-        IfOk result (Holds s n graph.new known.new.items slot) }
-    ensures refuses { (s : State) (n : ℕ) → Closes s n 0 graph.old known.old.items → IsSlot s slot variable.now → IfErr result (NoRoom s) }
+    requires output { is_output_of variable.now.class ≡ true }
+    requires slot { (s : State) × Closes s slot 0 graph.old known.old.items × IsSlot s slot variable.now }
+    ensures made { (s : State) → Closes s slot 0 graph.old known.old.items → IsSlot s slot variable.now → IfOk result (Holds s graph.new known.new.items slot) }
+    ensures refuses { (s : State) → Closes s slot 0 graph.old known.old.items → IsSlot s slot variable.now → IfErr result (NoRoom s) }
 {
     if let Some(k) = known[slot as usize] {
         return Ok(k);

@@ -7,12 +7,12 @@ ghost use Rattle.op_graph.specs.Building.{nowhere, with_input};
 ghost use Rattle.op_graph.specs.Lists.{nothing};
 ghost use Rattle.op_graph.specs.declared.build.Build.TheVariants as build;
 ghost use Rattle.vcp_base.specs.declared.ty.Ty.TheVariants as type_of;
-ghost use Rattle.flat_expr.specs.Begin.{entered, held_from};
+ghost use Rattle.flat_expr.specs.Begin.{Begins, entered, held_from};
 ghost use Rattle.flat_expr.specs.Laws.{Laws};
 ghost use Rattle.flat_expr.specs.State.{IsState, IsPlace, IsA, Pushes, Makes, is_plain, reads, acts, giving, neutral as neutral_of, neutral_place};
-ghost use Rattle.flat_expr.specs.State.{with_neutral, masks, guards, is_arithmetic, divides, is_comparison, denies, operates, signs, reading, Flattens};
+ghost use Rattle.flat_expr.specs.State.{with_neutral, masks, guards, is_arithmetic, divides, is_comparison, denies, operates, signs, Reads, Flattens};
 ghost use Rattle.flat_expr.specs.State.{FlattensOne, FunFits, last_type, Allows, SlotsAllowed, applies, argument as argument_of, one_size, picks, limits};
-ghost use Rattle.flat_expr.specs.State.{selects, narrows, copies, sizes_up, placed, Refuses, Assigns, Nests, Begins, Finishes, reserved, last_size};
+ghost use Rattle.flat_expr.specs.State.{selects, narrows, copies, sizes_up, placed, Refuses, Assigns, Nests, Finishes, whole_size};
 ghost use Rattle.flat_expr.specs.Told.{names_of};
 ghost use Rattle.vcp_base.specs.declared.kind.Kind.TheVariants as kind_of;
 ghost use Rattle.vcp_typed.specs.declared.slot.Slot.{Slot as SlotOf};
@@ -27,9 +27,7 @@ ghost use Rattle.vcp_typed.specs.Rules.{common, signed, result as result_type};
 ghost use Rattle.vcp_typed.specs.Size.{operator_size, function_size, expr_size};
 
 use crate::ending::{close_cells, close_outputs};
-use op_graph::{
-    Build, Graph, GraphBuilder, Op, TurnNode, entries_keep_their_rules, operands_are_in_their_types,
-};
+use op_graph::{Build, Graph, GraphBuilder, Op, TurnNode, entries_keep_their_rules};
 use st_tree::{BinOp, Class, UnOp};
 use std::alloc::Global;
 use std::marker::Model;
@@ -141,7 +139,6 @@ impl<'a> Flat<'a> {
     pub fn new(alloc: Global, program: &'a Typed) -> Result<Flat<'a>, Memory>
         ensures { IfOk result (λ s. Begins s program.now) }
     {
-        operands_are_in_their_types();
         let slots = program.slots();
         let profile = profile_of(program.wide());
         let mut graph = named(alloc, profile, &slots.items)?;
@@ -425,7 +422,7 @@ impl<'a> Flat<'a> {
     // The operation that holds the slot's value, which is loaded where there is none.
     fn read(&mut self, slot: u32) -> Result<u32, Build>
         requires { slot < length self.old.slots }
-        ensures made { IfOk result (λ k. (x : SlotOf) → slice_get self.old.slots slot ≡ Some x → Makes self.old self.new x.ty 0 (reading slot) k) }
+        ensures made { IfOk result (λ k. (x : SlotOf) → slice_get self.old.slots slot ≡ Some x → Reads self.old self.new slot x.ty k) }
         ensures refuses { IfErr result (λ why. Refuses self.old self.new 0 why) }
     {
         if let Some(k) = self.known[slot as usize] {
@@ -440,9 +437,10 @@ impl<'a> Flat<'a> {
         Ok(k)
     }
 
-    /// Adds the operations of an expression of the program under the present path condition. Gives the
-    /// number of its value. A widening adds none. After a refusal the operations that it added stay, and
-    /// what was known stays known.
+    /// Adds the operations of an expression of the program under the present path condition, after those
+    /// that are there. Gives the number of its value. A widening adds none. A slot that the expression
+    /// reads, and that no operation holds, gets its LOAD; every other slot is held as before. After a
+    /// refusal the operations that it added stay, and what was known stays known.
     #[cycle(expr)]
     pub fn expr(&mut self, e: &TExpr) -> Result<u32, Build>
         requires checked { IsExpr self.old.slots (texpr_tree e.now) }
@@ -581,12 +579,13 @@ impl<'a> Flat<'a> {
     }
 
     /// The graph: what was added so far, then the OUTs in order of declaration, each with the LOAD of its
-    /// output where the output's value isn't known, then the STOREs of the slots' present values. After
-    /// a refusal the state is given up.
+    /// output where the output's value isn't known, then the STOREs of the slots' present values. It is
+    /// `Full` only where the whole graph has more than 65,536 operations. After a refusal the state is
+    /// given up.
     pub fn finish(self) -> Result<Graph, Build>
         requires { self.path ≡ None }
         ensures made { IfOk result (λ g. Finishes self.entry g) }
-        ensures refuses { result ≡ Err build.Full → most_operations < reserved self.entry + last_size self.entry.slots }
+        ensures refuses { result ≡ Err build.Full → most_operations < whole_size self.entry }
     {
         let Flat {
             slots,

@@ -1,5 +1,6 @@
 -- Algebra: steps of statements one after another, and under other path conditions.
-use Rattle.std.proofs.Common.{◌≡◌, ℕ, ◌+◌, ◌≤◌, ℤ, pos, Bool, true, not, List, length, Option, Some, None, Result, Ok, Err, refl, sym, ap, ◌∙◌, subst, arith}
+use Rattle.std.proofs.Common.{◌≡◌, ℕ, ◌+◌, ◌≤◌, ℤ, pos, Bool, true, not, List, [], length, Option, Some, None, Result, Ok, Err, refl, sym, ap, ◌∙◌, subst, arith}
+use Rattle.std.proofs.lemmas.List.{append-nil}
 use Rattle.vcp_base.specs.declared.ty.Ty.{Ty}
 use Rattle.vcp_base.specs.declared.ty.Ty.TheVariants as ty
 use Rattle.vcp_base.specs.Kinds.{same}
@@ -8,7 +9,7 @@ use Rattle.op_graph.specs.Lists.{turns_of}
 use Rattle.vcp_base.specs.Values.{at}
 use Rattle.vcp_typed.specs.Meaning.{Stop, and_then}
 use Rattle.flat_expr.specs.Laws.{Laws}
-use Rattle.flat_expr.specs.State.{State, IsState, IsA, IsPlace, active, Knows, Kept, Continues, Follows, Ends, IsValue, Meant, Makes, run}
+use Rattle.flat_expr.specs.State.{State, IsState, IsA, IsPlace, active, Knows, Kept, Continues, Follows, Ends, IsValue, Meant, Steps, run}
 use Rattle.flat_stmt.specs.Moves.{Here, here, Doing, EndsIn, Tells, Moves}
 
 -- ---- results
@@ -51,7 +52,6 @@ repathed s p i h =
       turn = i.turn;
       nought = i.nought;
       unit = i.unit;
-      laws = i.laws;
     }
 
 pub place_typed : (a b : State) (t : Ty) (o : Option ℕ) → ((u : Ty) (k : ℕ) → IsA u a.graph.operations k → IsA u b.graph.operations k)
@@ -151,6 +151,8 @@ follows-none s i = record {
   inputs = refl;
   outputs = refl;
   stores = refl;
+  operations = ([], sym (append-nil s.graph.operations));
+  cells = ([], sym (append-nil s.graph.loads));
   places = λ slot k e. e;
   longer = omega arith;
   typed = λ t k h. h;
@@ -269,8 +271,8 @@ bind_ends P Q (Ok (Some v)) all next r1 r2 place b h stops val go =
 bind_ends P Q (Ok None) all next r1 r2 place b h stops val go = subst (λ x. EndsIn Q x r2) (sym (b (at h.0 place))) (go None h.0 h.1 h.2)
 bind_ends P Q (Err s) all next r1 r2 place b h stops val go = subst (λ x. EndsIn Q x r2) (sym b) (stops s h)
 
-pub moves_with : Laws → (a b c : State) (t : Ty) (Such : List ℤ → Type 0) (k n1 n2 : ℕ) (m : Meant) (f : Doing) (g : ℤ → Doing) → Lasts a Such
-    → Makes a b t n1 m k → ((v : ℤ) → Moves b c (With Such k v) n2 (g v)) →
+pub moves_with : {is_read : ℕ → Bool} → Laws → (a b c : State) (t : Ty) (Such : List ℤ → Type 0) (k n1 n2 : ℕ) (m : Meant) (f : Doing) (g : ℤ → Doing) → Lasts a Such
+    → Steps a b is_read t n1 m k → ((v : ℤ) → Moves b c (With Such k v) n2 (g v)) →
     ((now vs : List ℤ) → Typed a vs → Such vs → Binds (m now vs) (f (active a.path vs) now) (λ v. g v (active a.path vs) now)) →
     Moves a c Such (n1 + n2) f
 moves_with laws a b c t Such k n1 n2 m f g lasts p q binds = record {

@@ -65,6 +65,7 @@ pub makes_same : Laws → (a b : State) (t : Ty) (n1 n2 k : ℕ) (m1 m2 : Meant)
     → Makes a b t n1 m1 k → Makes a b t n2 m2 k
 makes_same laws a b t n1 n2 k m1 m2 le same_value f = record {
   follows = f.follows;
+  unread = f.unread;
   place = f.place;
   count = omega (arith, f.count, le);
   gives = λ cells row start now vs r loaded knows.
@@ -82,6 +83,7 @@ pub total_then : Laws → (a b c : State) (t1 t2 : Ty) (n1 n2 : ℕ) (v1 v2 v : 
     ((vs ws : List ℤ) → Typed a vs → Typed b ws → Stays a vs ws → at ws j ≡ v1 vs → v2 ws ≡ v vs) → Makes a c t2 (n1 + n2) (total v) k
 total_then laws a b c t1 t2 n1 n2 v1 v2 v j k f g is = record {
   follows = laws.follows a b c f.follows g.follows;
+  unread = λ slot h. g.unread slot h ∙ f.unread slot h;
   place = g.place;
   count = omega (arith, f.count, g.count);
   gives = λ cells row start now vs r loaded knows.
@@ -110,6 +112,7 @@ pub total_stays : Laws → (a : State) (t : Ty) (n k : ℕ) (v : List ℤ → �
     → ((vs : List ℤ) → Typed a vs → at vs k ≡ v vs) → Makes a a t n (total v) k
 total_stays laws a t n k v i h is = record {
   follows = follows-none a i;
+  unread = λ slot e. refl;
   place = h;
   count = omega arith;
   gives = λ cells row start now vs r loaded knows. (vs, r, ((λ j lt. refl), knows, is vs (λ u j x. laws.typed a cells row start vs u j i r loaded x)));

@@ -6,3 +6,4 @@ pub mod Loops
 pub mod Top
 pub mod Rooms
 pub mod Statements
+pub mod Weight

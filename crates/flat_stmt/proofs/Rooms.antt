@@ -1,9 +1,13 @@
 -- Rooms: why there may be no room, after a step.
-use Rattle.std.proofs.Common.{◌≡◌, ℕ, ◌+◌, ◌≤◌, Result, Ok, Err, sym, ◌∙◌, arith}
+use Rattle.std.proofs.Common.{◌≡◌, ℕ, ◌+◌, ◌≤◌, Result, Ok, Err, sym, ap, ◌∙◌, arith}
 use Rattle.std.specs.Prelude.{IfErr}
 use Rattle.op_graph.specs.declared.build.Build.{Build}
 use Rattle.op_graph.specs.declared.build.Build.TheVariants as build
-use Rattle.flat_expr.specs.State.{State, Refuses, reserved}
+use Rattle.vcp_typed.specs.Size.{size, stmts_size}
+use Rattle.vcp_typed.specs.SourceRun.{Program}
+use Rattle.flat_expr.specs.Begin.{Begins}
+use Rattle.flat_expr.specs.Laws.{Laws}
+use Rattle.flat_expr.specs.State.{State, Refuses, Continues, reserved, last_size, whole_size}
 use Rattle.flat_stmt.specs.Parts.{Fills}
 
 pub refused_fills : {A : Type 0} → (old mid new : State) (n1 n2 n : ℕ) (r : Result A Build) → reserved mid ≤ reserved old + n1 → n1 + n2 ≤ n
@@ -25,3 +29,11 @@ refused_at old mid new n1 n2 n e le fits h = λ is. omega (arith, h.room is, le,
 
 pub from_memory : (old : State) (n : ℕ) (e : Build) → e ≡ build.Memory → Fills old n e
 from_memory old n e is = λ full. let no : build.Memory ≡ build.Full = sym is ∙ full in absurd cc
+
+-- the whole graph has at most as many operations as the program's Size
+pub within_size : Laws → (p : Program) (s0 s1 : State) (n : ℕ) → Begins s0 p → Continues s0 (record s1 { path = s0.path }) → reserved s1 ≤ reserved s0 + n
+    → n ≡ stmts_size p.body → whole_size s1 ≤ size p
+within_size laws p s0 s1 n b c count body =
+    let room = laws.room (record s1 { path = s0.path }) c.after in
+    let ends = ap last_size (c.slots ∙ b.slots) in
+    omega (arith, room, ends, count, b.count, body)

@@ -38,7 +38,7 @@ use Rattle.flat_stmt.specs.Moves.{here, Moves, Any, where_reached, Does, setting
 use Rattle.flat_stmt.specs.Conditions.{joins, any_labelled}
 use Rattle.flat_stmt.specs.Branches.{Conditions, branch_of, arm_of, next_of, choosing}
 use Rattle.flat_stmt.specs.Parts.{Context, context, StmtPart, StmtsPart, ArmsPart, BranchesPart, OtherPart}
-use Rattle.flat_stmt.specs.Weight.{stmt_weight, stmts_weight, arms_weight, branches_weight}
+use Rattle.flat_stmt.proofs.Weight.{stmt_weight, stmts_weight, arms_weight, branches_weight}
 use Rattle.flat_stmt.proofs.Algebra.{With, Binds, moves_same, moves_with, follows_continues}
 use Rattle.flat_stmt.proofs.Branches.{lasts_any, lasts_at, branch_more, branch_last, arm_moves, labels_moves}
 use Rattle.flat_stmt.proofs.Turns.{same_turns, does_continues, does_same, does_then, nested}

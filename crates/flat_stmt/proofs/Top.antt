@@ -18,7 +18,8 @@ use Rattle.vcp_base.specs.Code.{is_wide}
 use Rattle.vcp_typed.specs.Meaning.{Stop, and_then, do_stmts}
 use Rattle.vcp_typed.specs.SourceRun.{Program, Run, is_input, initial, with_inputs, outputs, cycle, run_from}
 use Rattle.vcp_typed.specs.SourceRun.{after_cycle as after_source}
-use Rattle.flat_expr.specs.State.{State, active, AreLoaded, Begins, IsCell, Finishes, stopped}
+use Rattle.flat_expr.specs.Begin.{Begins}
+use Rattle.flat_expr.specs.State.{State, active, AreLoaded, IsCell, Finishes, stopped}
 use Rattle.flat_expr.specs.State.{run_from as ops_from, run as graph_run}
 use Rattle.vcp_base.specs.Stops.{told_stop}
 use Rattle.flat_expr.specs.Told.{Told, names_of, source_end, halted_at, graph_end, Means}

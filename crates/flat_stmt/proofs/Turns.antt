@@ -192,7 +192,6 @@ nested a b c node n k f nest d few = record {
           turn = le;
           nought = i.nought;
           unit = i.unit;
-          laws = i.laws;
         }
 
 -- a turn: the control variable gets its value, and the body is done

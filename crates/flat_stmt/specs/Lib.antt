@@ -2,5 +2,4 @@ pub mod Moves
 pub mod Conditions
 pub mod Branches
 pub mod Adds
-pub mod Weight
 pub mod Parts

@@ -95,7 +95,8 @@ before first p others = record {
   read = λ bytes. first.read bytes >>= λ x. (others x.0).read x.1;
 }
 
--- no more fields: the value is whole
+-- No more fields: the value is whole. It fits whatever it is, so a field that is left out in a definition passes here without a word; what is read shows
+-- it, since a value is built there from its fields.
 abbrev pub whole : {Y : Type 0} → Y → Piece Y
 whole y = record {
   fits = λ z. Unit {0};

@@ -5,3 +5,4 @@ pub mod Stmts
 pub mod Runs
 pub mod Cells
 pub mod Worked
+pub mod Weight

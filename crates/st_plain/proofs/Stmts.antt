@@ -34,7 +34,7 @@ use Rattle.st_plain.specs.declared.stop.Stop.{Stop as Cause}
 use Rattle.st_plain.specs.Evaluator.{within_turns}
 use Rattle.st_plain.specs.Outcomes.{Doing}
 use Rattle.st_plain.specs.Sound.{SoundExpr, SoundStmt, SoundStmts, SoundArms, SoundBranches, SoundOther, SoundTurns}
-use Rattle.st_plain.specs.Weight.{stmt_weight, stmts_weight, arms_weight, branches_weight}
+use Rattle.st_plain.proofs.Weight.{stmt_weight, stmts_weight, arms_weight, branches_weight}
 use Rattle.st_plain.proofs.Exprs.{fit-inside}
 use Rattle.st_plain.proofs.Wide.{not-zero}
 

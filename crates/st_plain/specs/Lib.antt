@@ -4,5 +4,4 @@ pub mod Outcomes
 pub mod Arguments
 pub mod Depth
 pub mod Sound
-pub mod Weight
 pub mod Standing

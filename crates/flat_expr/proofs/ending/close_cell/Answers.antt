@@ -3,11 +3,10 @@ use Rattle.std.specs.Prelude.{IfErr}
 use Rattle.std.proofs.lemmas.Option.{slice_get_within}
 use Rattle.std.proofs.lemmas.Result.{err_from_is_err_and}
 use Rattle.vcp_base.specs.Limits.{most_operations}
-use Rattle.op_graph.specs.declared.build.Build.TheVariants as build
 use Rattle.op_graph.specs.Rules.{IsPart, operand_fits}
 use Rattle.op_graph.specs.Building.{with_store, type_of}
-use Rattle.flat_expr.specs.Closing.{Closes}
-use Rattle.flat_expr.specs.State.{reserved, last_size}
+use Rattle.flat_expr.specs.Closing.{Closes, NoRoom}
+use Rattle.flat_expr.specs.State.{whole_size}
 use Rattle.flat_expr.proofs.Closing.{cell_place, closes_store, store_room, refused_by}
 use Rattle.flat_expr.proofs.ending.close_cell.Goals as goal
 
@@ -25,8 +24,8 @@ store-requires-clause-value c =
 pub returns-in_err-store-clause-refuses : goal.returns-in_err-store-clause-refuses
 returns-in_err-store-clause-refuses c = λ s n h same.
     let q = err_from_is_err_and c.from_residual.result c.from_residual.ensures.1 in
-    rw (q.1, q.2) (subst (λ r. IfErr r (λ e. e ≡ build.Full → most_operations < reserved s + last_size s.slots)) c.in_err-store.was
-    (refused_by c.store.result (length c.args.graph.now.operations) (most_operations < reserved s + last_size s.slots) c.store.ensures.full
+    rw (q.1, q.2) (subst (λ r. IfErr r (NoRoom s)) c.in_err-store.was
+    (refused_by c.store.result (length c.args.graph.now.operations) (most_operations < whole_size s) c.store.ensures.full
     (store_room s n c.args.cell c.args.graph.now c.args.known.now most_operations h c.requires.4)))
 
 pub returns-clause-made : goal.returns-clause-made

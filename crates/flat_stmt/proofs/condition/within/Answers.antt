@@ -19,6 +19,14 @@ add-requires-2-clause-types c = orders c.args.ty c.requires.number
 pub add-requires-3-clause-a : goal.add-requires-3-clause-a
 add-requires-3-clause-a c = c.in_ok-above.ensures.made.follows.typed type_of.Bool c.in_ok-below.below c.in_ok-below.ensures.made.place
 
+pub returns-in_err-below-clause-fills : goal.returns-in_err-below-clause-fills
+returns-in_err-below-clause-fills c =
+    let q = err_from_is_err_and c.from_residual-in_err-below.result c.from_residual-in_err-below.ensures.1 in
+    let h = refused_fills c.args.flat.now c.constant-2.new.self c.add.new.self 2 1 (alone_size c.args.label) c.add.result
+    (omega (arith, c.in_ok-first.ensures.made.count, c.in_ok-last.ensures.made.count))
+    (omega (arith, range_size c.args.label c.requires.range)) c.add.ensures.refuses in
+    rw (q.1, q.2) (subst (λ r. IfErr r (λ e. Fills c.args.flat.now (alone_size c.args.label) e)) c.in_err-below.was h)
+
 pub returns-in_err-above-clause-fills : goal.returns-in_err-above-clause-fills
 returns-in_err-above-clause-fills c =
     let q = err_from_is_err_and c.from_residual-in_err-above.result c.from_residual-in_err-above.ensures.1 in

@@ -17,7 +17,7 @@ use Rattle.flat_expr.specs.State.{IsPlace}
 use Rattle.flat_stmt.specs.Moves.{Does}
 use Rattle.vcp_typed.specs.Wide.{expr_is_wide, arms_are_wide, branches_are_wide, other_is_wide}
 use Rattle.flat_stmt.specs.Parts.{context, StmtPart, Fills}
-use Rattle.flat_stmt.specs.Weight.{stmt_weight}
+use Rattle.flat_stmt.proofs.Weight.{stmt_weight}
 use Rattle.flat_stmt.proofs.Algebra.{place_typed}
 use Rattle.flat_stmt.proofs.Loops.{done_start, branched_start}
 use Rattle.flat_stmt.proofs.Rooms.{fills_later}

@@ -8,7 +8,7 @@ use Rattle.vcp_typed.specs.Size.{stmts_size, arms_size, branches_size, other_siz
 use Rattle.vcp_typed.specs.TStmtViews.{tstmt_tree, tstmt_trees, tarm_trees, tbranch_trees, tother_tree}
 use Rattle.flat_stmt.specs.Moves.{Any}
 use Rattle.flat_stmt.specs.Parts.{context, StmtsPart, ArmsPart, BranchesPart}
-use Rattle.flat_stmt.specs.Weight.{stmt_weight, stmts_weight, arms_weight, branches_weight, other_weight}
+use Rattle.flat_stmt.proofs.Weight.{stmt_weight, stmts_weight, arms_weight, branches_weight, other_weight}
 use Rattle.flat_stmt.proofs.Loops.{Done, Branched}
 use Rattle.flat_stmt.proofs.stmt.+statements.Given as goal
 

@@ -8,7 +8,7 @@ use Rattle.vcp_typed.specs.TExprViews.{texpr_tree}
 use Rattle.vcp_typed.specs.TStmtTree.{if_, case, for_}
 use Rattle.vcp_typed.specs.TStmtViews.{tstmt_tree, tstmt_trees, tarm_trees, tbranch_trees, tother_tree}
 use Rattle.st_plain.specs.Depth.{stmt_depth, stmts_depth, arms_depth, branches_depth}
-use Rattle.st_plain.specs.Weight.{stmt_weight}
+use Rattle.st_plain.proofs.Weight.{stmt_weight}
 use Rattle.st_plain.specs.Outcomes.{left_or}
 use Rattle.st_plain.proofs.Stmts.{assign-inside, assign-ok, assign-err, if-arms, if-other, if-is, case-branches, case-other, case-is, case-err, for-inside}
 use Rattle.st_plain.proofs.Stmts.{for-sound, for-some, stmts-at, stmt-lighter, stmts-first, stmts-rest, stmts-next, arms-at, arm-lighter, arms-first, arms-rest}

@@ -4,7 +4,7 @@ use Rattle.vcp_typed.specs.Meaning.{turns_from, all_turns, do_stmts, do_arms, do
 use Rattle.vcp_typed.specs.TStmtViews.{tstmt_tree, tstmt_trees, tarm_trees, tbranch_trees, tother_tree}
 use Rattle.st_plain.specs.Depth.{stmts_depth, arms_depth, branches_depth}
 use Rattle.st_plain.specs.Sound.{SoundStmts, SoundArms, SoundBranches, SoundTurns}
-use Rattle.st_plain.specs.Weight.{stmt_weight, stmts_weight, arms_weight, branches_weight, other_weight}
+use Rattle.st_plain.proofs.Weight.{stmt_weight, stmts_weight, arms_weight, branches_weight, other_weight}
 use Rattle.st_plain.proofs.stmt.+statements.Given as goal
 
 abbrev pub decreases-do_stmt : goal.decreases-do_stmt

@@ -4,7 +4,7 @@ use Rattle.std.proofs.lemmas.Int.{to_z-of_z}
 use Rattle.vcp_typed.specs.TExprTree.{literal, get, unary, binary}
 use Rattle.vcp_typed.specs.TExprViews.{texpr_tree}
 use Rattle.vcp_typed.specs.Checked.{IsExpr, HasType}
-use Rattle.flat_expr.specs.State.{Flattens, Makes, reading}
+use Rattle.flat_expr.specs.State.{Flattens, Reads}
 use Rattle.flat_expr.proofs.Exprs.{literal_made, get_made, unary_made, binary_made}
 use Rattle.std.specs.Prelude.{IfErr}
 use Rattle.std.proofs.lemmas.Result.{err_from_is_err_and}
@@ -22,7 +22,7 @@ use Rattle.flat_expr.specs.State.{Allows, last_type}
 use Rattle.vcp_typed.specs.Wide.{is_lint, expr_is_wide, exprs_are_wide}
 use Rattle.std.specs.Prelude.{◌||◌}
 use Rattle.flat_expr.proofs.Codes.{still, allows_at, allows_second, call_admitted, argument_code}
-use Rattle.flat_expr.specs.Weight.{expr_weight}
+use Rattle.flat_expr.proofs.Weight.{expr_weight}
 use Rattle.flat_expr.proofs.Arguments.{call_made, call_fits, one_follows, one_count, first_follows, sizes, argument_is, argument_none, argument_expr}
 use Rattle.flat_expr.proofs.Arguments.{argument_lighter, tree_of_call}
 use Rattle.flat_expr.proofs.flat.Flat.+expr.Goals as goal
@@ -42,7 +42,7 @@ expr-returns-in-Get-clause-made t c =
     IfOk-weaker c.read.result _ _ (λ k p.
     subst (λ e. Flattens c.args.self.now c.read.new.self e k) (sym is)
     (get_made c.args.self.now c.read.new.self c.in-Get.ty c.in-Get.slot k
-    (subst (λ u. Makes c.args.self.now c.read.new.self u 0 (reading c.in-Get.slot) k) has.2 (p has.0 has.1)))) c.read.ensures.made
+    (subst (λ u. Reads c.args.self.now c.read.new.self c.in-Get.slot u k) has.2 (p has.0 has.1)))) c.read.ensures.made
 
 pub expr-returns-in_ok-a-in-Unary-clause-made : goal.expr-returns-in_ok-a-in-Unary-clause-made
 expr-returns-in_ok-a-in-Unary-clause-made t c =

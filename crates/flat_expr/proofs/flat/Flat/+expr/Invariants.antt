@@ -1,5 +1,5 @@
 use Rattle.vcp_typed.specs.TExprViews.{texpr_tree, texpr_trees}
-use Rattle.flat_expr.specs.Weight.{expr_weight, exprs_weight}
+use Rattle.flat_expr.proofs.Weight.{expr_weight, exprs_weight}
 use Rattle.flat_expr.proofs.flat.Flat.+expr.Given as goal
 
 abbrev pub decreases-expr : goal.decreases-expr

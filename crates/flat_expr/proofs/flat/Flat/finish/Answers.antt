@@ -1,10 +1,10 @@
-use Rattle.std.proofs.Common.{◌≡◌, ◌+◌, ◌<◌, length, Err, refl, sym, subst}
+use Rattle.std.proofs.Common.{◌≡◌, ◌<◌, length, Err, refl, sym, subst}
 use Rattle.std.specs.Prelude.{IfErr}
 use Rattle.std.proofs.lemmas.Result.{err_from_is_err_and}
 use Rattle.vcp_base.specs.Limits.{most_operations}
 use Rattle.op_graph.specs.declared.build.Build.TheVariants as build
-use Rattle.flat_expr.specs.Closing.{Closes}
-use Rattle.flat_expr.specs.State.{State, Finishes, reserved, last_size}
+use Rattle.flat_expr.specs.Closing.{Closes, NoRoom}
+use Rattle.flat_expr.specs.State.{State, Finishes, whole_size}
 use Rattle.flat_expr.proofs.Closing.{closes_begin, finishes, full_of}
 use Rattle.flat_expr.proofs.flat.Flat.finish.Goals as goal
 
@@ -23,9 +23,9 @@ returns-in_err-close_outputs-clause-refuses c =
     let begin = closes_begin a c.self.invariant in
     let q = err_from_is_err_and c.from_residual.result c.from_residual.ensures.1 in
     let refuses = c.close_outputs.ensures.refuses a begin refl in
-    subst (λ (s : State). c.from_residual.result ≡ Err build.Full → most_operations < reserved s + last_size s.slots) c.self.view_is
-    (full_of c.from_residual.result (most_operations < reserved a + last_size a.slots)
-    (rw (q.1, q.2) (subst (λ r. IfErr r (λ e. e ≡ build.Full → most_operations < reserved a + last_size a.slots)) c.in_err-close_outputs.was refuses)))
+    subst (λ (s : State). c.from_residual.result ≡ Err build.Full → most_operations < whole_size s) c.self.view_is
+    (full_of c.from_residual.result (most_operations < whole_size a)
+    (rw (q.1, q.2) (subst (λ r. IfErr r (NoRoom a)) c.in_err-close_outputs.was refuses)))
 
 pub close_cells-requires : goal.close_cells-requires
 close_cells-requires c =
@@ -61,9 +61,9 @@ returns-in_err-close_cells-clause-refuses c =
     (c.in_ok-close_outputs.ensures.made a begin refl) in
     let q = err_from_is_err_and c.from_residual-in_err-close_cells.result c.from_residual-in_err-close_cells.ensures.1 in
     let refuses = c.close_cells.ensures.refuses a (length a.slots) outs refl in
-    subst (λ (s : State). c.from_residual-in_err-close_cells.result ≡ Err build.Full → most_operations < reserved s + last_size s.slots) c.self.view_is
-    (full_of c.from_residual-in_err-close_cells.result (most_operations < reserved a + last_size a.slots)
-    (rw (q.1, q.2) (subst (λ r. IfErr r (λ e. e ≡ build.Full → most_operations < reserved a + last_size a.slots)) c.in_err-close_cells.was refuses)))
+    subst (λ (s : State). c.from_residual-in_err-close_cells.result ≡ Err build.Full → most_operations < whole_size s) c.self.view_is
+    (full_of c.from_residual-in_err-close_cells.result (most_operations < whole_size a)
+    (rw (q.1, q.2) (subst (λ r. IfErr r (NoRoom a)) c.in_err-close_cells.was refuses)))
 
 pub finish-requires : goal.finish-requires
 finish-requires c =

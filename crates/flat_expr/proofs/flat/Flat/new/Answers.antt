@@ -4,8 +4,8 @@ use Rattle.op_graph.specs.Rules.{IsPart}
 use Rattle.vcp_base.specs.Code.{is_wide}
 use Rattle.vcp_typed.specs.Wide.{wide}
 use Rattle.vcp_typed.specs.declared.slot.Slot.{Slot}
-use Rattle.flat_expr.specs.Begin.{entered, held_from}
-use Rattle.flat_expr.specs.State.{State, IsState, SlotsAllowed, Begins}
+use Rattle.flat_expr.specs.Begin.{Begins, entered, held_from}
+use Rattle.flat_expr.specs.State.{State, IsState, SlotsAllowed}
 use Rattle.flat_expr.specs.Told.{names_of}
 use Rattle.flat_expr.proofs.Beginning.{begins}
 use Rattle.flat_expr.proofs.Codes.{slots_allowed}
@@ -36,7 +36,7 @@ invariant_of-result c =
     let graph : c.enter_all.new.graph ≡ entered profile (names_of p.slots) p.slots = c.in_ok-known.ensures.graph
     ∙ ap (λ l. entered profile (names_of l) l) slots in
     let known : c.in_ok-known.known.items ≡ held_from 0 p.slots = c.in_ok-known.ensures.known ∙ ap (held_from 0) slots in
-    let all = begins profile p code c.slots-slots.ensures.checked (subst IsPart graph c.len-rules.ensures.rules) c.operands_are_in_their_types.ensures in
+    let all = begins profile p code c.slots-slots.ensures.checked (subst IsPart graph c.len-rules.ensures.rules) in
     subst IsState (sym (same_state c.slots-slots.result.now.items.items p.slots c.enter_all.new.graph _ c.in_ok-known.known.items _ c.slots-slots.ensures.slots graph known)) all.state
 
 pub returns : goal.returns
@@ -49,5 +49,5 @@ returns c =
     let graph : c.enter_all.new.graph ≡ entered profile (names_of p.slots) p.slots = c.in_ok-known.ensures.graph
     ∙ ap (λ l. entered profile (names_of l) l) slots in
     let known : c.in_ok-known.known.items ≡ held_from 0 p.slots = c.in_ok-known.ensures.known ∙ ap (held_from 0) slots in
-    let all = begins profile p code c.slots-slots.ensures.checked (subst IsPart graph c.len-rules.ensures.rules) c.operands_are_in_their_types.ensures in
+    let all = begins profile p code c.slots-slots.ensures.checked (subst IsPart graph c.len-rules.ensures.rules) in
     subst (λ s. Begins s p) (sym (same_state c.slots-slots.result.now.items.items p.slots c.enter_all.new.graph _ c.in_ok-known.known.items _ c.slots-slots.ensures.slots graph known)) all

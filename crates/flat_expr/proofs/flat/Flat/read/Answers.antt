@@ -3,7 +3,7 @@ use Rattle.std.proofs.lemmas.Int.{to_z-of_z}
 use Rattle.op_graph.specs.Rules.{IsPart}
 use Rattle.op_graph.specs.Building.{with_load}
 use Rattle.vcp_typed.specs.declared.slot.Slot.{Slot}
-use Rattle.flat_expr.specs.State.{State, IsState, Makes, reading, unknown}
+use Rattle.flat_expr.specs.State.{State, IsState, Reads, unknown}
 use Rattle.flat_expr.proofs.Loads.{unknown_set, others_fewer, loading, load_state, loaded}
 use Rattle.std.specs.Prelude.{IfErr}
 use Rattle.std.proofs.lemmas.Result.{err_from_is_err_and}
@@ -69,12 +69,10 @@ returns-clause-made c = λ x h.
     let there : slice_get a.slots c.args.slot ≡ Some x = ap (λ (s : State). slice_get s.slots c.args.slot) c.self.view_is ∙ h in
     let same : Some v ≡ Some x = sym c.at-variable.ensures ∙ there in
     let vx : v ≡ x = cc in
-    subst (λ (s : State). Makes s (record a { graph = c.load.new.self; known = set a.known c.args.slot (Some c.in_ok-k.k) }) x.ty 0
-    (reading c.args.slot) c.in_ok-k.k) c.self.view_is
-    (subst (λ (y : Slot). Makes a (record a { graph = c.load.new.self; known = set a.known c.args.slot (Some c.in_ok-k.k) }) y.ty 0
-    (reading c.args.slot) c.in_ok-k.k) vx
-    (subst (λ s. Makes a s v.ty 0 (reading c.args.slot) c.in_ok-k.k) (sym is)
-    (subst (λ n. Makes a (loading a c.args.slot v) v.ty 0 (reading c.args.slot) n) (sym c.in_ok-k.ensures.number) m)))
+    subst (λ (s : State). Reads s (record a { graph = c.load.new.self; known = set a.known c.args.slot (Some c.in_ok-k.k) }) c.args.slot x.ty c.in_ok-k.k) c.self.view_is
+    (subst (λ (y : Slot). Reads a (record a { graph = c.load.new.self; known = set a.known c.args.slot (Some c.in_ok-k.k) }) c.args.slot y.ty c.in_ok-k.k) vx
+    (subst (λ s. Reads a s c.args.slot v.ty c.in_ok-k.k) (sym is)
+    (subst (λ n. Reads a (loading a c.args.slot v) c.args.slot v.ty n) (sym c.in_ok-k.ensures.number) m)))
 
 pub returns-in_err-k-clause-refuses : goal.returns-in_err-k-clause-refuses
 returns-in_err-k-clause-refuses c =
