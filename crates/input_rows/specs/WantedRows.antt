@@ -1,5 +1,5 @@
 -- What is left of the rows of a source that are wanted.
-use Rattle.std.specs.Prelude.{◌≡◌, true, [], Option, IsSome}
+use Rattle.std.specs.Prelude.{◌≡◌, true, [], IsSome}
 use Rattle.input_rows.specs.RowsOf.{RowsLeft, first_rows}
 use Rattle.input_rows.specs.TableLeft.{refused_with}
 use Rattle.input_rows.specs.declared.wanted.Wanted.{Wanted}

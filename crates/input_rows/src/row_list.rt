@@ -48,6 +48,17 @@ pub fn collect_rows(alloc: Global, mut rows: Rows<'_>) -> Result<RowList, RowFau
     ensures width { IfOk result (λ list. All (λ row. length row ≡ length rows.entry.types) list) }
     ensures refusal { IfErr result (λ f. f ≢ RowFault.Memory → rows.entry.refusal ≡ Some f) }
 {
+    gather(alloc, &mut rows)
+}
+
+// The same of rows that are lent: a function that owned them would drop them at each of its ends.
+fn gather(alloc: Global, rows: &mut Rows<'_>) -> Result<RowList, RowFault>
+    requires { length rows.old.rows ≤ most_cycles }
+    ensures rows { IfOk result (λ list. list ≡ rows.old.rows) }
+    ensures whole { IfOk result (λ list. rows.old.refusal ≡ None) }
+    ensures width { IfOk result (λ list. All (λ row. length row ≡ length rows.old.types) list) }
+    ensures refusal { IfErr result (λ f. f ≢ RowFault.Memory → rows.old.refusal ≡ Some f) }
+{
     let width = rows.width();
     let mut row = Row::zeros(alloc, width)?;
     let mut values = Vec::new(alloc);

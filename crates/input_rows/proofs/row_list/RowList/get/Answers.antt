@@ -1,4 +1,4 @@
-use Rattle.std.proofs.Common.{◌≡◌, ◌+◌, ◌*◌, ◌≤◌, List, ℤ, length, Some, take, drop, sym, ap, subst, ◌∙◌}
+use Rattle.std.proofs.Common.{◌+◌, ◌*◌, ◌≤◌, List, ℤ, length, Some, take, drop, sym, ap, subst, ◌∙◌}
 use Rattle.input_rows.proofs.Flat.{row_of_list, width_is}
 use Rattle.input_rows.proofs.row_list.RowList.get.Goals as goal
 

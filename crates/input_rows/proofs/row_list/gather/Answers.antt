@@ -1,7 +1,7 @@
 use Rattle.std.proofs.Common.{◌≡◌, ℕ, ◌+◌, All, List, ℤ, length, sym, subst, ◌∙◌}
 use Rattle.input_rows.specs.RowLists.{rows_in}
 use Rattle.input_rows.proofs.Flat.{Gathered, gathered_more, rows_width}
-use Rattle.input_rows.proofs.row_list.collect_rows.Goals as goal
+use Rattle.input_rows.proofs.row_list.gather.Goals as goal
 
 pub rows-preserved : goal.rows-preserved
 rows-preserved c =
@@ -11,8 +11,8 @@ rows-preserved c =
     let one = c.in_ok-next.ensures.row c.if-branch.true in
     record {
       gathered =
-          subst (λ (vs : List ℤ). Gathered c.args.rows c.next.new.self (c.rows.count + 1) width vs) (sym c.in_ok-append.ensures)
-          (gathered_more c.args.rows c.rows.rows c.next.new.self c.rows.count width c.rows.values.items row c.rows.invariant.gathered one same);
+          subst (λ (vs : List ℤ). Gathered c.args.rows.now c.next.new.self (c.rows.count + 1) width vs) (sym c.in_ok-append.ensures)
+          (gathered_more c.args.rows.now c.rows.rows c.next.new.self c.rows.count width c.rows.values.items row c.rows.invariant.gathered one same);
       row = same;
       width = c.rows.invariant.width;
     }

@@ -1,6 +1,6 @@
 use Rattle.std.proofs.Common.{◌≡◌, length}
 use Rattle.input_rows.proofs.Flat.{Gathered}
-use Rattle.input_rows.proofs.row_list.collect_rows.Given as goal
+use Rattle.input_rows.proofs.row_list.gather.Given as goal
 
 abbrev pub invariant-rows : goal.invariant-rows
 invariant-rows l = record {
