@@ -5,7 +5,11 @@ ghost use Rattle.machine_run.specs.Moments.{moment};
 ghost use Rattle.machine_run.specs.Stops.{GrowsByStop};
 ghost use Rattle.vcp_outside.specs.Counts.{Rose};
 ghost use Rattle.vcp_words.specs.Forms.{demo};
-ghost use Rattle.vcp_core.specs.Demo.{DemoTask};
+ghost use Rattle.vcp_base.specs.Limits.{most_source_bytes};
+ghost use Rattle.program_maker.specs.MadeRows.{made_rows};
+ghost use Rattle.vcp_inputs.specs.Files.{Loads};
+ghost use Rattle.vcp_inputs.specs.Programs.{TypedOf, NotTyped};
+ghost use Rattle.vcp_core.specs.Demo.{DemoTask, made_held, made_name};
 ghost use Rattle.vcp_core.specs.Reach.{Reaches, Unread};
 ghost use Rattle.vcp_core.specs.declared.ending.End.TheVariants as end;
 ghost use Rattle.vcp_core.specs.declared.fault.Fault.TheVariants as fault;
@@ -17,8 +21,10 @@ use crate::summing::run_summed;
 use coded_unit::Unit;
 use program_maker::make;
 use std::alloc::Global;
+use vcp_base::Text;
 use vcp_inputs::{RowsSource, typed_of};
 use vcp_outside::Sink;
+use vcp_typed::Typed;
 
 /// Does what the words `demo N` say, and writes to `out` alone: the source and the rows of the number
 /// are made and taken through their refusals, and then the program's operations are run on the rows, on
@@ -38,14 +44,35 @@ pub fn demo_command<U: Unit, O: Sink>(
     ensures stopped { result ≡ Ok end.Stopped → GrowsByStop (U.log unit.old) (U.log unit.new) }
 {
     let made = make(alloc, number)?;
-    let program = match typed_of(alloc, &made.source) {
-        Ok(program) => program,
-        Err(input) => return Err(Fault::Source(input)),
-    };
-    let columns = input_columns(alloc, &program)?;
-    let source = RowsSource::File(made.rows);
+    match typed_of(alloc, &made.source) {
+        Ok(program) => run_made(alloc, number, &program, made.rows, unit, out),
+        Err(input) => Err(Fault::Source(input)),
+    }
+}
+
+/// Runs the made program of a number, which was taken through its refusals, on the made rows.
+fn run_made<U: Unit, O: Sink>(
+    alloc: Global,
+    number: u32,
+    program: &Typed,
+    rows: Text,
+    unit: &mut U,
+    out: &mut O,
+) -> Result<End, Fault>
+    requires typed { (broken : ℕ) → Loads TypedOf NotTyped (made_held number) made_name most_source_bytes broken broken (Ok program.now) }
+    requires rows { rows ≡ made_rows number }
+    ensures reaches { (broken : ℕ) → Reaches (demo number) (DemoTask number)
+        (moment (U.log unit.old) (U.wrong unit.old) (O.written out.old) (O.faults out.old))
+        (moment (U.log unit.new) (U.wrong unit.new) (O.written out.new) (O.faults out.new)) broken broken result }
+    ensures read { ¬ Unread result }
+    ensures write { result ≡ Err fault.Write → Rose (O.faults out.old) (O.faults out.new) }
+    ensures refused { result ≡ Ok end.Refused → Rose (U.wrong unit.old) (U.wrong unit.new) }
+    ensures stopped { result ≡ Ok end.Stopped → GrowsByStop (U.log unit.old) (U.log unit.new) }
+{
+    let columns = input_columns(alloc, program)?;
+    let source = RowsSource::File(rows);
     match source.open(alloc, &columns) {
-        Ok(mut rows) => run_summed(alloc, &program, number, &mut rows, unit, out),
+        Ok(mut rows) => run_summed(alloc, program, number, &mut rows, unit, out),
         Err(input) => Err(Fault::Rows(input)),
     }
 }

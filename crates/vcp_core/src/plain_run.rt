@@ -7,7 +7,7 @@ ghost use Rattle.vcp_base.specs.Types.{AreIn};
 ghost use Rattle.vcp_outside.specs.Counts.{Rose};
 ghost use Rattle.vcp_outside.specs.Written.{Writes};
 ghost use Rattle.vcp_typed.specs.Checked.{IsChecked};
-ghost use Rattle.vcp_typed.specs.Fitting.{AreFit, input_types, output_types};
+ghost use Rattle.vcp_typed.specs.Fitting.{AreFit, input_types, output_columns, output_types};
 ghost use Rattle.vcp_typed.specs.Meaning.{Stop as StopOf};
 ghost use Rattle.vcp_typed.specs.SourceRun.{cycle as cycle_of};
 ghost use Rattle.flat_expr.specs.Told.{names_of};
@@ -130,18 +130,38 @@ pub fn print_run<O: Sink>(
     ensures prints { Prints program.now rows.old (O.written out.old) (O.written out.new) result }
     ensures write { result ≡ Err fault.Write → Rose (O.faults out.old) (O.faults out.new) }
 {
-    values_fit();
-    let slots = &program.slots().items;
     let columns = program.output_columns(alloc)?;
-    let names = slot_names(alloc, slots)?;
+    let names = slot_names(alloc, &program.slots().items)?;
+    print_named(alloc, program, &columns, &names, rows, out)
+}
+
+/// The same under the columns of the program's outputs and the names of its slots.
+fn print_named<O: Sink>(
+    alloc: Global,
+    program: &Typed,
+    columns: &Columns,
+    names: &Words,
+    rows: &mut Rows<'_>,
+    out: &mut O,
+) -> Result<End, Fault>
+    requires checked { IsChecked program.now }
+    requires columns { columns.now ≡ output_columns program.now.slots }
+    requires names { names.now ≡ names_of program.now.slots }
+    requires types { rows.old.types ≡ input_types program.now.slots }
+    requires typed { All (AreIn rows.old.types) rows.old.rows }
+    requires few { length rows.old.rows ≤ most_cycles }
+    ensures prints { Prints program.now rows.old (O.written out.old) (O.written out.new) result }
+    ensures write { result ≡ Err fault.Write → Rose (O.faults out.old) (O.faults out.new) }
+{
+    values_fit();
     let mut inputs = zeros(alloc, &program.columns(alloc)?)?;
-    let mut outputs = zeros(alloc, &columns)?;
+    let mut outputs = zeros(alloc, columns)?;
     let mut plain = Plain::new(alloc, program)?;
-    header_line(out, &columns)?;
+    header_line(out, columns)?;
     print_cycles(
         alloc,
         &mut plain,
-        &names,
+        names,
         rows,
         &mut inputs,
         &mut outputs,

@@ -1,21 +1,12 @@
-use Rattle.std.proofs.Common.{◌∙◌, ap, inl, refl, subst, arith, Ok, Err}
+use Rattle.std.proofs.Common.{ap, inl, Err}
 use Rattle.std.proofs.lemmas.Result.{err_from_is_err_and}
 use Rattle.vcp_base.specs.Limits.{most_source_bytes}
-use Rattle.input_rows.specs.RowsOf.{RowsLeft, types_of}
-use Rattle.program_maker.specs.MadeRows.{made_rows}
-use Rattle.vcp_typed.specs.Fitting.{input_columns}
-use Rattle.machine_run.specs.Moments.{moment}
 use Rattle.vcp_words.specs.Forms.{demo}
 use Rattle.vcp_inputs.specs.Programs.{NotTyped}
-use Rattle.vcp_inputs.specs.RowsOutcome.{RowsOutcome}
-use Rattle.vcp_answer.specs.Answer.{Task, runs}
-use Rattle.vcp_answer.specs.Sources.{TypedText, typed, untyped, on_rows}
-use Rattle.vcp_core.specs.Demo.{DemoTask, made_held, made_job, made_name, on_made_rows}
-use Rattle.vcp_core.proofs.Loaded.{opens-as, unopened}
-use Rattle.vcp_core.proofs.PlainNames.{types-of-inputs}
+use Rattle.vcp_answer.specs.Sources.{TypedText, untyped}
+use Rattle.vcp_core.specs.Demo.{made_held, made_name, on_made_rows}
 use Rattle.vcp_core.proofs.PlainTurns.{appends-nothing}
-use Rattle.vcp_core.proofs.Reaching.{holds, untaken, untouched}
-use Rattle.vcp_core.proofs.RunReaching.{job_ran, run_reads}
+use Rattle.vcp_core.proofs.Reaching.{untaken, untouched}
 use Rattle.vcp_core.proofs.demo.demo_command.Goals as goal
 
 pub returns-in_err-made-clause-reaches : goal.returns-in_err-made-clause-reaches
@@ -23,54 +14,15 @@ returns-in_err-made-clause-reaches g c b =
     let q = err_from_is_err_and c.from_residual.result c.from_residual.ensures.1 in
     rw (q.1, q.2) (inl (untouched (g.U.Unit.log c.args.unit.now) (g.U.Unit.wrong c.args.unit.now) _ _ _ _ (appends-nothing _)))
 
+pub run_made-requires-clause-typed : goal.run_made-requires-clause-typed
+run_made-requires-clause-typed g c b = rw c.in_ok-made.ensures.source at (c.in-Ok.ensures.loads made_name b)
+
 pub returns-in-Err-clause-reaches : goal.returns-in-Err-clause-reaches
 returns-in-Err-clause-reaches g c b =
     let number = c.args.number in
-    untaken (demo number) made_name _ _ (untouched (g.U.Unit.log c.args.unit.now) (g.U.Unit.wrong c.args.unit.now) _ _ _ _ (appends-nothing _)) (made_held number)
-    most_source_bytes (TypedText (on_made_rows number) made_name) NotTyped b b (λ text r why. untyped r why) c.in-Err.input
+    untaken (demo number) made_name _ _ (untouched (g.U.Unit.log c.args.unit.now) (g.U.Unit.wrong c.args.unit.now) _ _ _ _ (appends-nothing _))
+    (made_held number) most_source_bytes (TypedText (on_made_rows number) made_name) NotTyped b b (λ text r why. untyped r why) c.in-Err.input
     (λ e. c.in-Err.ensures.read (ap Err e)) (rw c.in_ok-made.ensures.source at (c.in-Err.ensures.loads made_name b))
 
 pub returns-in-Err-clause-read : goal.returns-in-Err-clause-read
 returns-in-Err-clause-read g c = λ is. c.in-Err.ensures.read (ap Err is)
-
-pub returns-in_err-columns-clause-reaches : goal.returns-in_err-columns-clause-reaches
-returns-in_err-columns-clause-reaches g c b =
-    let q = err_from_is_err_and c.from_residual-in_err-columns.result c.from_residual-in_err-columns.ensures.1 in
-    rw (q.1, q.2) (inl (untouched (g.U.Unit.log c.args.unit.now) (g.U.Unit.wrong c.args.unit.now) _ _ _ _ (appends-nothing _)))
-
-pub run_summed-requires-clause-types : goal.run_summed-requires-clause-types
-run_summed-requires-clause-types g c = c.in-Ok-open.ensures.types ∙ (ap types_of c.in_ok-columns.ensures.columns ∙ types-of-inputs c.in-Ok.program.slots)
-
-pub returns-in-Ok-open-clause-reaches : goal.returns-in-Ok-open-clause-reaches
-returns-in-Ok-open-clause-reaches g c b =
-    let number = c.args.number in
-    let program = c.in-Ok.program in
-    let then : RowsLeft → Task = λ left. runs (made_job number program left) in
-    let P : RowsOutcome → Type 0 = λ o. DemoTask number (on_rows made_name then o) in
-    let (text, found, short, is) = rw c.in_ok-made.ensures.source at (c.in-Ok.ensures.loads made_name b) in
-    let comes = holds made_name (made_held number) most_source_bytes (TypedText (on_made_rows number) made_name) text (on_made_rows number program) found short (typed program is) in
-    let opens = opens-as c.in_ok-made.made.rows (made_rows number) c.in_ok-columns.columns (input_columns program.slots) 0 0 (Ok c.in-Ok-open.rows) c.in_ok-made.ensures.rows
-    c.in_ok-columns.ensures.columns (c.in-Ok-open.ensures.opens 0 0) in
-    job_ran (demo number) (made_job number program c.in-Ok-open.rows) refl refl (DemoTask number)
-    (moment (g.U.Unit.log c.args.unit.now) (g.U.Unit.wrong c.args.unit.now) (g.O.Sink.written c.args.out.now) (g.O.Sink.faults c.args.out.now))
-    (moment (g.U.Unit.log c.run_summed.new.unit) (g.U.Unit.wrong c.run_summed.new.unit) (g.O.Sink.written c.run_summed.new.out)
-    (g.O.Sink.faults c.run_summed.new.out))
-    b b (subst P opens comes) c.run_summed.result c.run_summed.ensures.runs
-
-pub returns-in-Ok-open-clause-read : goal.returns-in-Ok-open-clause-read
-returns-in-Ok-open-clause-read g c = λ is. run_reads (made_job c.args.number c.in-Ok.program c.in-Ok-open.rows) _ _ c.run_summed.result c.run_summed.ensures.runs is
-
-pub returns-clause-reaches : goal.returns-clause-reaches
-returns-clause-reaches g c b =
-    let number = c.args.number in
-    let program = c.in-Ok.program in
-    let (text, found, short, is) = rw c.in_ok-made.ensures.source at (c.in-Ok.ensures.loads made_name b) in
-    let comes = holds made_name (made_held number) most_source_bytes (TypedText (on_made_rows number) made_name) text (on_made_rows number program) found short (typed program is) in
-    let opens = opens-as c.in_ok-made.made.rows (made_rows number) c.in_ok-columns.columns (input_columns program.slots) b b (Err c.in-Err-open.input) c.in_ok-made.ensures.rows
-    c.in_ok-columns.ensures.columns (c.in-Err-open.ensures.opens b b) in
-    unopened (demo number) made_name (DemoTask number) (λ left. runs (made_job number program left)) _ _ _ b b b c.in-Err-open.input
-    (untouched (g.U.Unit.log c.args.unit.now) (g.U.Unit.wrong c.args.unit.now) _ _ _ _ (appends-nothing _)) (λ e. absurd (c.in-Err-open.ensures.read (ap Err e)))
-    (omega arith) comes opens
-
-pub returns-clause-read : goal.returns-clause-read
-returns-clause-read g c = λ is. c.in-Err-open.ensures.read (ap Err is)

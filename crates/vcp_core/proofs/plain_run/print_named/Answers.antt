@@ -6,7 +6,7 @@ use Rattle.vcp_typed.specs.Fitting.{input_types, output_types, output_columns}
 use Rattle.st_plain.specs.Evaluator.{Evaluator}
 use Rattle.vcp_core.proofs.PlainNames.{inputs-count, outputs-count}
 use Rattle.vcp_core.proofs.PlainTurns.{header-first, header-fails}
-use Rattle.vcp_core.proofs.plain_run.print_run.Goals as goal
+use Rattle.vcp_core.proofs.plain_run.print_named.Goals as goal
 
 named : (slots : List Slot) (columns : List Column) → columns ≡ output_columns slots
     → map (λ (c : Column). c.name) columns ≡ map (λ (c : Column). c.name) (output_columns slots)
@@ -15,24 +15,24 @@ named slots columns is = ap (map (λ (c : Column). c.name)) is
 pub returns-in_err-header_line-clause-prints : goal.returns-in_err-header_line-clause-prints
 returns-in_err-header_line-clause-prints g c =
     let p = err_from_is_err_and c.from_residual-in_err-header_line.result c.from_residual-in_err-header_line.ensures.1 in
-    let names = named c.args.program.now.slots c.in_ok-columns.columns c.in_ok-columns.ensures in
+    let names = named c.args.program.now.slots c.args.columns.now c.requires.columns in
     rw (p.1, p.2)
     (header-fails c.args.program.now c.args.rows.now (g.O.Sink.written c.args.out.now) (g.O.Sink.written c.header_line.new.out)
     (rw names at c.in_err-header_line.ensures.part))
 
 pub print_cycles-requires-clause-inputs : goal.print_cycles-requires-clause-inputs
 print_cycles-requires-clause-inputs g c =
-    c.in_ok-inputs.ensures ∙ ap length c.in_ok-columns-2.ensures ∙ inputs-count c.args.program.now.slots
+    c.in_ok-inputs.ensures ∙ ap length c.in_ok-columns.ensures ∙ inputs-count c.args.program.now.slots
     ∙ ap (λ (e : Evaluator). length (input_types e.program.slots)) (sym c.in_ok-plain.ensures)
 
 pub print_cycles-requires-clause-outputs : goal.print_cycles-requires-clause-outputs
 print_cycles-requires-clause-outputs g c =
-    c.in_ok-outputs.ensures ∙ ap length c.in_ok-columns.ensures ∙ outputs-count c.args.program.now.slots
+    c.in_ok-outputs.ensures ∙ ap length c.requires.columns ∙ outputs-count c.args.program.now.slots
     ∙ ap (λ (e : Evaluator). length (output_types e.program.slots)) (sym c.in_ok-plain.ensures)
 
 pub returns-clause-prints : goal.returns-clause-prints
 returns-clause-prints g c =
-    let names = named c.args.program.now.slots c.in_ok-columns.columns c.in_ok-columns.ensures in
+    let names = named c.args.program.now.slots c.args.columns.now c.requires.columns in
     header-first c.args.program.now c.args.rows.now (g.O.Sink.written c.args.out.now) (g.O.Sink.written c.header_line.new.out)
     (g.O.Sink.written c.print_cycles.new.out) c.print_cycles.result (rw names at c.in_ok-header_line.ensures.whole)
     (rw c.in_ok-plain.ensures at c.print_cycles.ensures.prints)
