@@ -86,8 +86,7 @@ impl Word {
         parts(profile, self.code)
     }
 
-    /// What `split` gives, where that is found in 64 bits; `None` may come for a word that no right
-    /// answer is.
+    /// What `split` gives, where it is found in 64 bits. `None` says nothing of the word.
     #[inline(always)]
     pub(crate) fn short_split(self, profile: Profile) -> Option<ShortParts>
         ensures value { IfSome result (λ parts. parts.value ≡ value_part profile self) }
