@@ -65,6 +65,13 @@ output_moved m o n is = ap (λ k. record o { op = k }) is
 pub load_moved : (m : Numbering) (l : Loaded) (n : ℕ) → n ≡ m.number l.load → record l { load = n } ≡ moved_load m l
 load_moved m l n is = ap (λ k. record l { load = k }) is
 
+-- the part of a graph is the graph with these lists
+pub part_made : (m : Numbering) (g h : Lists) (outputs : List Outlet) (loads : List Loaded) (stores : List ℕ) (ops : List Op) → h ≡ g
+    → outputs ≡ map (moved_output m) g.outputs → loads ≡ chosen m.kept_cell (moved_load m) 0 g.loads → stores ≡ chosen m.kept_cell m.number 0 g.stores
+    → ops ≡ chosen m.kept (moved m) 0 g.operations
+    → record h { outputs = outputs; loads = loads; stores = stores; operations = ops } ≡ part_of m g
+part_made m g h outputs loads stores ops same a b c d = rw (same, a, b, c, d) refl
+
 -- ---- tables
 
 pub at_front : {X : Type 0} (d : X) (xs ys : List X) (i : ℕ) → i < length xs → slice_index_or (xs ++ ys) i d ≡ slice_index_or xs i d

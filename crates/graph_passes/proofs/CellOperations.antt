@@ -14,7 +14,8 @@ use Rattle.op_graph.specs.declared.op.Op.{Op}
 use Rattle.op_graph.specs.declared.op.Loaded.{Loaded}
 use Rattle.op_graph.specs.Lists.{Lists, joined}
 use Rattle.op_graph.specs.Walk.{passed, store_at}
-use Rattle.op_graph.specs.Rules.{IsGraph, scope, place_of, Entry, entry, cell_entry, entry_of, is_load, is_store, kind_fits, imm_fits, OpFits}
+use Rattle.op_graph.specs.Rules.{IsGraph, scope, place_of, entry, cell_entry, entry_of, is_load, is_store, kind_fits, imm_fits, OpFits}
+use Rattle.op_graph.specs.declared.rules.Entry.{Entry}
 use Rattle.op_graph.specs.Laws.{EntryLaws, WalkLaws}
 use Rattle.graph_passes.specs.Marking.{OfOneCell}
 use Rattle.graph_passes.proofs.Entries.{tests, is_its_load, is_its_store}

@@ -1,4 +1,4 @@
--- Copies: a list that is copied entry by entry.
+-- Copies: the front of a list, and operations that are folded one by one.
 use Rattle.std.proofs.Common.{◌≡◌, ℕ, zero, suc, ◌+◌, List, [], ◌∷◌, ◌++◌, take, slice_get, Some, sym, ap, ◌∙◌, append_assoc, arith}
 use Rattle.std.proofs.lemmas.List.{append-nil}
 use Rattle.op_graph.specs.declared.op.Op.{Op}
@@ -42,10 +42,6 @@ folded_push done (x ∷ ops) op =
 pub folded_next : (ops : List Op) (i : ℕ) (op : Op) → slice_get ops i ≡ Some op →
     folded_after [] (take (i + 1) ops) ≡ folded_after [] (take i ops) ++ folded_op (folded_after [] (take i ops)) op ∷ []
 folded_next ops i op e = ap (folded_after []) (take_next ops i op e) ∙ folded_push [] (take i ops) op
-
--- a list that holds the first entries of another, and one more of them
-pub take_pushed : {X : Type 0} (new old xs : List X) (i : ℕ) (x : X) → new ≡ old ++ x ∷ [] → old ≡ take i xs → slice_get xs i ≡ Some x → new ≡ take (i + 1) xs
-take_pushed new old xs i x pushed held there = pushed ∙ ap (λ l. l ++ x ∷ []) held ∙ sym (take_next xs i x there)
 
 pub folded_pushed : (new old before ops : List Op) (i : ℕ) (op o : Op) → new ≡ old ++ o ∷ [] → old ≡ folded_after [] (take i ops) → before ≡ old →
     slice_get ops i ≡ Some op → o ≡ folded_op before op → new ≡ folded_after [] (take (i + 1) ops)

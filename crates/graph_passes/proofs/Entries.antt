@@ -8,7 +8,9 @@ use Rattle.vcp_base.specs.declared.kind.Kind.{Kind}
 use Rattle.op_graph.specs.declared.op.Outlet.{Outlet}
 use Rattle.op_graph.specs.declared.op.Loaded.{Loaded}
 use Rattle.op_graph.specs.Lists.{Lists}
-use Rattle.op_graph.specs.Rules.{scope, Place, place_of, Entry, entry, numbered, found, stored_by, cell_entry, agree, is_input, is_load, is_store, is_out}
+use Rattle.op_graph.specs.Rules.{scope, place_of, entry, numbered, found, stored_by, cell_entry, agree, is_input, is_load, is_store, is_out}
+use Rattle.op_graph.specs.declared.rules.Place.{Place}
+use Rattle.op_graph.specs.declared.rules.Entry.{Entry}
 use Rattle.op_graph.specs.Rules.{kind_fits}
 use Rattle.graph_passes.proofs.Chosen.{get_there}
 

@@ -12,7 +12,8 @@ use Rattle.vcp_base.specs.Types.{within}
 use Rattle.vcp_base.specs.Limits.{most_operations}
 use Rattle.op_graph.specs.declared.op.Op.{Op}
 use Rattle.op_graph.specs.Lists.{Lists}
-use Rattle.op_graph.specs.Rules.{IsGraph, Each, Scope, scope, Place, place_of, entry_of, same_type, operand_fits, turn_fits, kind_fits, OpFits, Operates}
+use Rattle.op_graph.specs.Rules.{IsGraph, Each, Scope, scope, place_of, entry_of, same_type, operand_fits, turn_fits, kind_fits, OpFits, Operates}
+use Rattle.op_graph.specs.declared.rules.Place.{Place}
 use Rattle.op_graph.specs.Rules.{OutputFits, LoadFits, StoreFits, PlaceFits, Admitted}
 use Rattle.graph_passes.specs.Folding.{computes, fixed_value, replaced, folded_op, folded_after, folded}
 use Rattle.graph_passes.proofs.Folds.{has_value, fixed_fits, length-folded}

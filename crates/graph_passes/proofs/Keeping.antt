@@ -14,7 +14,8 @@ use Rattle.op_graph.specs.declared.op.Loaded.{Loaded}
 use Rattle.op_graph.specs.Lists.{Lists}
 use Rattle.op_graph.specs.Reads.{named}
 use Rattle.op_graph.specs.Walk.{passed, entry_at}
-use Rattle.op_graph.specs.Rules.{IsGraph, scope, place_of, Entry, entry, entry_of, agree, is_load, is_out, kind_fits, imm_fits, reads_as, OpFits}
+use Rattle.op_graph.specs.Rules.{IsGraph, scope, place_of, entry, entry_of, agree, is_load, is_out, kind_fits, imm_fits, reads_as, OpFits}
+use Rattle.op_graph.specs.declared.rules.Entry.{Entry}
 use Rattle.op_graph.specs.Laws.{EntryLaws, WalkLaws}
 use Rattle.graph_passes.specs.Part.{OperandStands, IsClosed, can_stop}
 use Rattle.graph_passes.specs.Pruning.{MayBeKept, load_kept, numbering}

@@ -18,7 +18,9 @@ use Rattle.op_graph.specs.declared.op.Op.{Op}
 use Rattle.op_graph.specs.declared.op.Outlet.{Outlet}
 use Rattle.op_graph.specs.declared.op.Loaded.{Loaded}
 use Rattle.op_graph.specs.Lists.{Lists}
-use Rattle.op_graph.specs.Rules.{IsGraph, Each, scope, Place, place_of, Entry, entry_of, agree, is_input, is_load, is_store, is_out, kind_fits, from_fits}
+use Rattle.op_graph.specs.Rules.{IsGraph, Each, scope, place_of, entry_of, agree, is_input, is_load, is_store, is_out, kind_fits, from_fits}
+use Rattle.op_graph.specs.declared.rules.Place.{Place}
+use Rattle.op_graph.specs.declared.rules.Entry.{Entry}
 use Rattle.op_graph.specs.Rules.{imm_fits, turn_fits, operand_fits, reads_as, OpFits, Operates, OutputFits, LoadFits, StoreFits, LoadedBefore, PlaceFits}
 use Rattle.op_graph.specs.Rules.{Admitted}
 use Rattle.op_graph.specs.Laws.{EntryLaws}

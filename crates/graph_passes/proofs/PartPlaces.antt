@@ -7,7 +7,9 @@ use Rattle.vcp_base.specs.declared.ty.Ty.{Ty}
 use Rattle.op_graph.specs.declared.op.Outlet.{Outlet}
 use Rattle.op_graph.specs.declared.op.Loaded.{Loaded}
 use Rattle.op_graph.specs.Lists.{Lists}
-use Rattle.op_graph.specs.Rules.{IsGraph, scope, Place, place_of, Entry, entry, numbered, found, stored_by, cell_entry}
+use Rattle.op_graph.specs.Rules.{IsGraph, scope, place_of, entry, numbered, found, stored_by, cell_entry}
+use Rattle.op_graph.specs.declared.rules.Place.{Place}
+use Rattle.op_graph.specs.declared.rules.Entry.{Entry}
 use Rattle.graph_passes.specs.Part.{Numbering, below, chosen, moved_output, moved_load, part_of, IsClosed, KeepsEntries}
 use Rattle.graph_passes.proofs.Chosen.{chosen_at}
 use Rattle.graph_passes.proofs.Rising.{below_le, below_all, length_chosen, same_number}

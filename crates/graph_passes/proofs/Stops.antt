@@ -9,7 +9,8 @@ use Rattle.vcp_base.specs.declared.kind.StopKind.TheVariants as stop
 use Rattle.vcp_base.specs.Types.{fits}
 use Rattle.vcp_base.specs.Kinds.{takes, operands_fit, divides_by_zero, value, truth, same, outcome}
 use Rattle.op_graph.specs.declared.op.Op.{Op}
-use Rattle.op_graph.specs.Rules.{Place, entry_of, same_type, from_fits, ty_fits, imm_fits, OpFits}
+use Rattle.op_graph.specs.Rules.{entry_of, same_type, from_fits, ty_fits, imm_fits, OpFits}
+use Rattle.op_graph.specs.declared.rules.Place.{Place}
 use Rattle.op_graph.specs.Laws.{OperandLaws}
 use Rattle.graph_passes.specs.Part.{can_stop, narrows}
 

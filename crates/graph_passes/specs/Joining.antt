@@ -1,4 +1,5 @@
 -- Joining: which operations are kept and which are joined, while `share` goes through them.
+-- How the code finds what is joined, and no promise: what is promised is in Sharing.
 use Rattle.std.specs.Prelude.{◌≡◌, ◌≢◌, ℕ, ◌<◌, Bool, true, false, List, [], ◌∷◌, ◌++◌, length, slice_get, Some}
 use Rattle.vcp_base.specs.Spellings.{kind_code, ty_code}
 use Rattle.op_graph.specs.declared.op.Op.{Op}

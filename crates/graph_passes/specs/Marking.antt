@@ -1,4 +1,5 @@
 -- Marking: which operations are marked while those that are needed are looked for, and the order in which they were found.
+-- How the code finds what is needed, and no promise: what is promised is in Pruning.
 use Rattle.std.specs.Option.{is_some}
 use Rattle.std.specs.Prelude.{◌≡◌, ◌⊎◌, ℕ, suc, Bool, true, cond, List, [], ◌∷◌, length, slice_get, Some}
 use Rattle.op_graph.specs.declared.op.Op.{Op}

@@ -1,4 +1,5 @@
 -- Tables: a numbering that is kept in tables.
+-- How the code keeps a numbering, and no promise: what is promised is in Part, Pruning and Sharing.
 use Rattle.std.specs.Prelude.{ℕ, Bool, true, false, List, slice_index_or}
 use Rattle.graph_passes.specs.Part.{Numbering}
 

@@ -5,7 +5,6 @@ ghost use Rattle.graph_passes.specs.Folding.{computes as computes_of, constant a
 ghost use Rattle.graph_passes.specs.Folding.{fixed_value as fixed_value_of, folded_op as folded_op_of, folded_after, folded, NoneFolds};
 ghost use Rattle.graph_passes.specs.SameRun.{MeansAs};
 
-use crate::lists::with_operations;
 use crate::outcomes::value_given;
 use op_graph::{Graph, Op};
 use std::alloc::Global;
@@ -20,20 +19,20 @@ pub fn fold(alloc: Global, graph: Graph) -> Result<Graph, Memory>
     ensures means { IfOk result (λ g. MeansAs graph g) }
     ensures none_left { IfOk result (λ g. NoneFolds g) }
 {
-    let operations = folded_operations(alloc, &graph)?;
-    with_operations(alloc, &graph, operations)
+    let operations = folded_operations(alloc, graph.operations())?;
+    Ok(graph.with_operations(operations))
 }
 
 /// The operations of a graph, each folded over those before it.
-fn folded_operations(alloc: Global, graph: &Graph) -> Result<Vec<Op>, Memory>
-    ensures { IfOk result (λ operations. operations.items ≡ folded_after [] graph.now.operations) }
+fn folded_operations(alloc: Global, operations: &[Op]) -> Result<Vec<Op>, Memory>
+    ensures { IfOk result (λ left. left.items ≡ folded_after [] operations.now) }
 {
-    let mut operations = Vec::new(alloc);
-    'operations: for i in 0..graph.len() {
-        let op = folded_op(&operations, graph.operation(i));
-        operations.push(op)?;
+    let mut left = Vec::new(alloc);
+    'operations: for op in operations {
+        let folded = folded_op(&left, *op);
+        left.push(folded)?;
     }
-    Ok(operations)
+    Ok(left)
 }
 
 /// An operation after those before it, or the CONST of its value.

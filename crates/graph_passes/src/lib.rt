@@ -3,7 +3,6 @@
 
 mod folding;
 mod laws;
-mod lists;
 mod needed;
 mod outcomes;
 mod part;

@@ -2,7 +2,6 @@
 
 ghost use Rattle.std.specs.Option.{is_some};
 ghost use Rattle.std.specs.Prelude.{◌≡◌, ◌⊎◌, ◌<◌, ℕ, [], Some, true, false, length, replicate, slice_get, IfOk, OnOk};
-ghost use Rattle.vcp_base.specs.declared.ty.Ty.{Ty as Type_};
 ghost use Rattle.op_graph.specs.declared.op.Op.{Op as Operation};
 ghost use Rattle.op_graph.specs.Reads.{named, Reads};
 ghost use Rattle.op_graph.specs.Rules.{IsGraph, reads_as};
@@ -13,9 +12,10 @@ ghost use Rattle.graph_passes.specs.Tables.{marked as marked_of};
 
 use op_graph::{
     Graph, Op, entries_are_found_by_one_walk, entries_keep_their_rules, operands_are_there,
+    reads_operation,
 };
 use std::alloc::Global;
-use vcp_base::{Kind, Memory, Ty, operands, within};
+use vcp_base::{Kind, Memory, Ty, within};
 
 /// Whether CONV to a type has not all values of the other.
 fn narrows(from: Ty, to: Ty) -> bool
@@ -47,16 +47,6 @@ fn must_stay(op: &Op) -> bool
     match op.kind {
         Kind::Out => true,
         _ => can_stop(op.kind, op.from, op.ty),
-    }
-}
-
-/// Whether operand `j` of an operation of this kind is an operation: a LOAD reads its cell.
-fn reads_operation(kind: Kind, j: u32) -> bool
-    ensures { (from : Type_) → result ≡ is_some (reads_as kind from j) }
-{
-    match kind {
-        Kind::Load => false,
-        _ => j < operands(kind),
     }
 }
 

@@ -6,41 +6,34 @@ ghost use Rattle.op_graph.specs.Rules.{IsGraph};
 ghost use Rattle.graph_passes.specs.Part.{below, chosen, moved as moved_of, moved_load, moved_output, own_number as own_number_of, part_of};
 ghost use Rattle.graph_passes.specs.Tables.{by_tables, marked as marked_of, number_at as number_at_of};
 
-use crate::lists::{inputs, names, turn_nodes};
 use op_graph::{Graph, Loaded, Op, Outlet};
 use std::alloc::Global;
 use vcp_base::{Kind, Memory};
 
 /// The part of a graph by four tables, where that is a graph: which operations are kept, the new
-/// number of each operation or of what stands for it, which cells are kept, and their new numbers.
+/// number of each operation or of what stands for it, which cells are kept, and their new numbers. What
+/// it changes is made anew, and all other lists are the graph's own.
 pub(crate) fn part(
     alloc: Global,
-    graph: &Graph,
+    graph: Graph,
     kept: &[bool],
     numbers: &[u32],
     cells: &[bool],
     cell_numbers: &[u32],
 ) -> Result<Graph, Memory>
-    requires { IsGraph (part_of (by_tables kept.now numbers.now cells.now cell_numbers.now) graph.now) }
-    ensures { IfOk result (λ g. g ≡ part_of (by_tables kept.now numbers.now cells.now cell_numbers.now) graph.now) }
+    requires { IsGraph (part_of (by_tables kept.now numbers.now cells.now cell_numbers.now) graph) }
+    ensures { IfOk result (λ g. g ≡ part_of (by_tables kept.now numbers.now cells.now cell_numbers.now) graph) }
 {
-    let names = names(alloc, graph)?;
-    let inputs = inputs(alloc, graph)?;
-    let outputs = moved_outputs(alloc, graph, numbers)?;
-    let loads = kept_loads(alloc, graph, numbers, cells)?;
-    let stores = kept_stores(alloc, graph, numbers, cells)?;
-    let turn_nodes = turn_nodes(alloc, graph)?;
-    let operations = kept_operations(alloc, graph, kept, numbers, cell_numbers)?;
-    Ok(Graph::from_lists(
-        graph.profile(),
-        names,
-        inputs,
-        outputs,
-        loads,
-        stores,
-        turn_nodes,
-        operations,
-    ))
+    let outputs = moved_outputs(alloc, graph.all_outputs(), numbers)?;
+    let loads = kept_loads(alloc, graph.loads(), numbers, cells)?;
+    let stores = kept_stores(alloc, graph.stores(), numbers, cells)?;
+    let operations = kept_operations(alloc, graph.operations(), kept, numbers, cell_numbers)?;
+    let mut lists = graph.into_lists();
+    lists.outputs = outputs;
+    lists.loads = loads;
+    lists.stores = stores;
+    lists.operations = operations;
+    Ok(Graph::from_lists(lists))
 }
 
 /// The mark at place `i`; none where there is no such place.
@@ -122,73 +115,80 @@ pub(crate) fn moved(op: Op, numbers: &[u32], cell_numbers: &[u32]) -> Op
 /// The operations that are kept.
 fn kept_operations(
     alloc: Global,
-    graph: &Graph,
+    operations: &[Op],
     kept: &[bool],
     numbers: &[u32],
     cell_numbers: &[u32],
 ) -> Result<Vec<Op>, Memory>
-    ensures { IfOk result (λ operations. operations.items
-        ≡ chosen (marked_of kept.now) (moved_of (by_tables [] numbers.now [] cell_numbers.now)) 0 graph.now.operations) }
+    ensures { IfOk result (λ left. left.items ≡ chosen (marked_of kept.now) (moved_of (by_tables [] numbers.now [] cell_numbers.now)) 0 operations.now) }
 {
-    let mut operations = Vec::new(alloc);
-    'operations: for i in 0..graph.len() {
-        let op = moved(graph.operation(i), numbers, cell_numbers);
-        push_kept(&mut operations, marked(kept, i as usize), op)?;
+    let mut left = Vec::new(alloc);
+    'operations: for (i, op) in operations.iter().enumerate() {
+        push_kept(
+            &mut left,
+            marked(kept, i),
+            moved(*op, numbers, cell_numbers),
+        )?;
     }
-    Ok(operations)
+    Ok(left)
 }
 
 /// The outputs, with the new numbers of their OUTs.
-fn moved_outputs(alloc: Global, graph: &Graph, numbers: &[u32]) -> Result<Vec<Outlet>, Memory>
-    ensures { IfOk result (λ outputs. outputs.items ≡ map (moved_output (by_tables [] numbers.now [] [])) graph.now.outputs) }
+fn moved_outputs(alloc: Global, outputs: &[Outlet], numbers: &[u32]) -> Result<Vec<Outlet>, Memory>
+    ensures { IfOk result (λ left. left.items ≡ map (moved_output (by_tables [] numbers.now [] [])) outputs.now) }
 {
-    let mut outputs = Vec::new(alloc);
-    'outputs: for i in 0..graph.outputs() {
-        let output = graph.output(i);
-        outputs.push(Outlet {
+    let mut left = Vec::new(alloc);
+    'outputs: for output in outputs {
+        left.push(Outlet {
             op: number_at(numbers, output.op as usize),
-            ..output
+            ..*output
         })?;
     }
-    Ok(outputs)
+    Ok(left)
+}
+
+/// What a LOAD makes, with the new number of the LOAD.
+fn renumbered(loaded: Loaded, numbers: &[u32]) -> Loaded
+    ensures { result ≡ moved_load (by_tables [] numbers.now [] []) loaded }
+{
+    Loaded {
+        load: number_at(numbers, loaded.load as usize),
+        ..loaded
+    }
 }
 
 /// What the LOADs of the kept cells make, with the new numbers of the LOADs.
 fn kept_loads(
     alloc: Global,
-    graph: &Graph,
+    loads: &[Loaded],
     numbers: &[u32],
     cells: &[bool],
 ) -> Result<Vec<Loaded>, Memory>
-    ensures { IfOk result (λ loads. loads.items ≡ chosen (marked_of cells.now) (moved_load (by_tables [] numbers.now [] [])) 0 graph.now.loads) }
+    ensures { IfOk result (λ left. left.items ≡ chosen (marked_of cells.now) (moved_load (by_tables [] numbers.now [] [])) 0 loads.now) }
 {
-    let mut loads = Vec::new(alloc);
-    'loads: for i in 0..graph.cells() {
-        let cell = graph.cell(i);
-        let loaded = Loaded {
-            name: cell.name,
-            ty: cell.ty,
-            init: cell.init,
-            load: number_at(numbers, cell.load as usize),
-        };
-        push_kept(&mut loads, marked(cells, i as usize), loaded)?;
+    let mut left = Vec::new(alloc);
+    'loads: for (i, loaded) in loads.iter().enumerate() {
+        push_kept(&mut left, marked(cells, i), renumbered(*loaded, numbers))?;
     }
-    Ok(loads)
+    Ok(left)
 }
 
 /// The new numbers of the STOREs of the kept cells.
 fn kept_stores(
     alloc: Global,
-    graph: &Graph,
+    stores: &[u32],
     numbers: &[u32],
     cells: &[bool],
 ) -> Result<Vec<u32>, Memory>
-    ensures { IfOk result (λ stores. stores.items ≡ chosen (marked_of cells.now) (number_at_of numbers.now) 0 graph.now.stores) }
+    ensures { IfOk result (λ left. left.items ≡ chosen (marked_of cells.now) (number_at_of numbers.now) 0 stores.now) }
 {
-    let mut stores = Vec::new(alloc);
-    'stores: for i in 0..graph.cells() {
-        let number = number_at(numbers, graph.cell(i).store as usize);
-        push_kept(&mut stores, marked(cells, i as usize), number)?;
+    let mut left = Vec::new(alloc);
+    'stores: for (i, store) in stores.iter().enumerate() {
+        push_kept(
+            &mut left,
+            marked(cells, i),
+            number_at(numbers, *store as usize),
+        )?;
     }
-    Ok(stores)
+    Ok(left)
 }

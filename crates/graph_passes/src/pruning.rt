@@ -11,7 +11,7 @@ ghost use Rattle.graph_passes.specs.Tables.{marked as marked_of};
 use crate::laws::what_is_needed_means_the_same;
 use crate::needed::needed;
 use crate::part::{marked, numbers_below, part};
-use op_graph::{Graph, entries_are_found_by_one_walk, entries_keep_their_rules};
+use op_graph::{Graph, Loaded, entries_are_found_by_one_walk, entries_keep_their_rules};
 use std::alloc::Global;
 use vcp_base::Memory;
 
@@ -33,18 +33,18 @@ pub fn prune(alloc: Global, graph: Graph) -> Result<Graph, Memory>
     entries_keep_their_rules();
     let kept = needed(alloc, &graph)?;
     let numbers = numbers_below(alloc, &kept)?;
-    let cells = kept_cells(alloc, &graph, &kept)?;
+    let cells = kept_cells(alloc, graph.loads(), &kept)?;
     let cell_numbers = numbers_below(alloc, &cells)?;
-    part(alloc, &graph, &kept, &numbers, &cells, &cell_numbers)
+    part(alloc, graph, &kept, &numbers, &cells, &cell_numbers)
 }
 
 /// For each cell, whether its LOAD is kept.
-fn kept_cells(alloc: Global, graph: &Graph, kept: &[bool]) -> Result<Vec<bool>, Memory>
-    ensures { IfOk result (λ cells. cells.items ≡ map (λ l. marked_of kept.now l.load) graph.now.loads) }
+fn kept_cells(alloc: Global, loads: &[Loaded], kept: &[bool]) -> Result<Vec<bool>, Memory>
+    ensures { IfOk result (λ cells. cells.items ≡ map (λ l. marked_of kept.now l.load) loads.now) }
 {
     let mut cells = Vec::new(alloc);
-    'cells: for i in 0..graph.cells() {
-        cells.push(marked(kept, graph.cell(i).load as usize))?;
+    'cells: for loaded in loads {
+        cells.push(marked(kept, loaded.load as usize))?;
     }
     Ok(cells)
 }

@@ -45,7 +45,7 @@ pub fn share(alloc: Global, graph: Graph) -> Result<Graph, Memory>
     let (kept, numbers) = joined(alloc, &graph)?;
     let cells = all_marked(alloc, graph.cells())?;
     let cell_numbers = numbers_below(alloc, &cells)?;
-    part(alloc, &graph, &kept, &numbers, &cells, &cell_numbers)
+    part(alloc, graph, &kept, &numbers, &cells, &cell_numbers)
 }
 
 /// Whether operations of the kind are joined: all but those of inputs, cells and outputs.

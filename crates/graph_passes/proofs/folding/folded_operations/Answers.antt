@@ -1,6 +1,8 @@
+use Rattle.std.proofs.lemmas.Option.{slice_get-get_or}
 use Rattle.graph_passes.proofs.Copies.{folded_pushed}
 use Rattle.graph_passes.proofs.folding.folded_operations.Goals as goal
 
 pub operations-preserved : goal.operations-preserved
 operations-preserved c =
-    folded_pushed _ _ _ _ c.operations.i _ _ c.in_ok-push.ensures.items c.operations.invariant c.deref.ensures.value c.operation.ensures c.folded_op-op.ensures
+    folded_pushed _ _ _ c.args.operations.now c.operations.op-index _ _ c.in_ok-push.ensures.items c.operations.invariant c.deref.ensures.value
+    (slice_get-get_or c.args.operations.now c.operations.op-index _ c.operations-test.true) c.folded_op-folded.ensures

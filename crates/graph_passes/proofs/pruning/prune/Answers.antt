@@ -1,4 +1,4 @@
-use Rattle.std.proofs.Common.{length, ap, subst, ◌∙◌, arith}
+use Rattle.std.proofs.Common.{length, map, ap, subst, ◌∙◌, arith}
 use Rattle.std.proofs.lemmas.List.{length-map}
 use Rattle.op_graph.specs.declared.op.Loaded.{Loaded}
 use Rattle.op_graph.specs.Rules.{IsGraph}
@@ -26,9 +26,10 @@ numbers_below-requires-2 c =
     let g = c.args.graph in
     let graph : IsGraph g = subst IsGraph c.graph.view_is c.graph.invariant in
     let same = ap length c.deref-3.ensures.value in
-    let many = ap length c.in_ok-cells.ensures ∙ length-map g.loads (λ (l : Loaded). marked c.deref-2.result.now l.load) in
+    let many = ap length c.in_ok-cells.ensures ∙ length-map c.loads.result.now (λ (l : Loaded). marked c.deref-2.result.now l.load) in
+    let loads = ap length c.loads.ensures in
     let few = graph.part.few_cells in
-    omega (arith, same, many, few)
+    omega (arith, same, many, loads, few)
 
 pub part-requires : goal.part-requires
 part-requires c =
@@ -37,8 +38,9 @@ part-requires c =
     let kept = c.in_ok-kept.kept.items in
     let numbers = c.in_ok-numbers.numbers.items in
     let cells = c.in_ok-cells.cells.items in
+    let loads = c.in_ok-cells.ensures ∙ ap (map (λ (l : Loaded). marked c.deref-2.result.now l.load)) c.loads.ensures in
     let tables = tables_needed g kept numbers cells c.in_ok-cell_numbers.cell_numbers.items _ _ _ c.in_ok-kept.ensures c.deref.ensures.value
-    c.in_ok-numbers.ensures c.deref-2.ensures.value c.in_ok-cells.ensures c.deref-3.ensures.value c.in_ok-cell_numbers.ensures in
+    c.in_ok-numbers.ensures c.deref-2.ensures.value loads c.deref-3.ensures.value c.in_ok-cell_numbers.ensures in
     let pruned = needed_part c.entries_keep_their_rules.ensures c.entries_are_found_by_one_walk.ensures g graph _ _ _ _ tables in
     by_slices (λ k n l m. IsGraph (part_of (by_tables k n l m) g)) _ _ _ _ _ _ _ _
     c.deref-4.ensures.value c.deref-5.ensures.value c.deref-6.ensures.value c.deref-7.ensures.value
@@ -51,8 +53,9 @@ returns c =
     let kept = c.in_ok-kept.kept.items in
     let numbers = c.in_ok-numbers.numbers.items in
     let cells = c.in_ok-cells.cells.items in
+    let loads = c.in_ok-cells.ensures ∙ ap (map (λ (l : Loaded). marked c.deref-2.result.now l.load)) c.loads.ensures in
     let tables = tables_needed g kept numbers cells c.in_ok-cell_numbers.cell_numbers.items _ _ _ c.in_ok-kept.ensures c.deref.ensures.value
-    c.in_ok-numbers.ensures c.deref-2.ensures.value c.in_ok-cells.ensures c.deref-3.ensures.value c.in_ok-cell_numbers.ensures in
+    c.in_ok-numbers.ensures c.deref-2.ensures.value loads c.deref-3.ensures.value c.in_ok-cell_numbers.ensures in
     let pruned = by_slices (λ k n l m. IsPruned g (part_of (by_tables k n l m) g)) _ _ _ _ _ _ _ _
     c.deref-4.ensures.value c.deref-5.ensures.value c.deref-6.ensures.value c.deref-7.ensures.value
     (needed_part c.entries_keep_their_rules.ensures c.entries_are_found_by_one_walk.ensures g graph _ _ _ _ tables) in
