@@ -1,11 +1,11 @@
 -- Alone: one fault alone makes the difference of its act, and none stands before it.
 use Rattle.std.proofs.Common.{◌≡◌, ℕ, zero, suc, ◌+◌, ◌<◌, ◌==◌, ◌&&◌, Bool, true, false, cond, List, [], ◌∷◌, ◌++◌, length, map, Option, Some, None, slice_get}
-use Rattle.std.proofs.Common.{get_or, ℤ, pos, neg_ℤ, ◌+ℤ◌, ◌-ℤ◌, ◌*ℤ◌, unsigned_abs, refl, sym, ap, subst, ◌∙◌, arith}
+use Rattle.std.proofs.Common.{ℤ, pos, neg_ℤ, ◌+ℤ◌, ◌-ℤ◌, ◌*ℤ◌, unsigned_abs, refl, sym, ap, subst, ◌∙◌, arith}
 use Rattle.std.proofs.Math.IntN.{*ℤ-zero}
-use Rattle.std.proofs.lemmas.Bool.{false≢true, eq-eqb, eqb-true}
+use Rattle.std.proofs.lemmas.Bool.{eq-eqb}
 use Rattle.std.proofs.lemmas.Bool.Decides.{nat_tests}
 use Rattle.std.proofs.lemmas.Int.{ints}
-use Rattle.std.proofs.lemmas.List.{get_or_append_left, get_or-append-add, length-append}
+use Rattle.std.proofs.lemmas.List.{get_or_append_left, length-append}
 use Rattle.vcp_base.specs.declared.kind.Kind.{Kind}
 use Rattle.vcp_base.specs.declared.kind.Kind.TheVariants as kind
 use Rattle.vcp_base.specs.Kinds.{multiplier}
@@ -18,9 +18,9 @@ use Rattle.signature_table.specs.Signatures.{Numbers, signature}
 use Rattle.fault_script.specs.declared.act.Act.{Act}
 use Rattle.fault_script.specs.declared.act.Act.TheVariants as act
 use Rattle.fault_script.specs.declared.act.Fault.{Fault}
-use Rattle.fault_script.specs.Changes.{Acts, acts_of}
-use Rattle.fault_script.specs.Differences.{Frame, origin, read, read_as, brought, exchanged, difference, given_from, held_after, cycle_after, no_frame, frame}
-use Rattle.fault_script.specs.Differences.{difference_at, made, OneFault}
+use Rattle.fault_script.specs.Changes.{acts_of}
+use Rattle.fault_script.specs.Differences.{Frame, origin, read, read_as, brought, difference, given_from, held_after, cycle_after, no_frame, frame}
+use Rattle.fault_script.specs.Differences.{made, OneFault}
 
 -- ---- no differences
 

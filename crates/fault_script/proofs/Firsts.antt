@@ -1,7 +1,7 @@
 -- Firsts: the first line of a text, and the first word of a line.
-use Rattle.std.proofs.Common.{◌≡◌, ℕ, zero, suc, ◌+◌, ◌-◌, ◌==◌, ◌<◌, ◌≤◌, Bool, true, false, not, cond, List, [], ◌∷◌, length, take, drop, Option, Some, None}
+use Rattle.std.proofs.Common.{◌≡◌, ℕ, zero, suc, ◌+◌, ◌-◌, ◌==◌, ◌<◌, Bool, true, false, not, cond, List, [], ◌∷◌, length, take, drop, Option, Some, None}
 use Rattle.std.proofs.Common.{get_or, unwrap_or, refl, sym, subst, ap, ◌∙◌, arith, slice_index, inl, inr}
-use Rattle.std.specs.List.{filter, slice_split, position_or_len, before_first, after_first, count_by, prefix_len}
+use Rattle.std.specs.List.{filter, slice_split, position_or_len, before_first, after_first, prefix_len}
 use Rattle.std.specs.Str.Lines.{lines, lines_of_parts, strip_carriage_return}
 use Rattle.std.proofs.lemmas.Bool.{false≢true, cases_lt}
 use Rattle.std.proofs.lemmas.Bool.Decides.{nat_tests}

@@ -1,19 +1,17 @@
 -- WorkedFaults: each act over the graph of `y := x + 1;` with the seed 0, worked by hand.
-use Rattle.std.specs.Prelude.{◌≡◌, refl, ℕ, ◌+◌, List, [], ◌∷◌, Some, None, ℤ, pos, negsuc}
+use Rattle.std.specs.Prelude.{◌≡◌, refl, ℕ, ◌+◌, [], ◌∷◌, Some, None, ℤ, pos, negsuc}
 use Rattle.vcp_base.specs.declared.code.Profile.TheVariants as profile
 use Rattle.vcp_base.specs.declared.ty.Ty.TheVariants as ty
 use Rattle.vcp_base.specs.declared.kind.Kind.TheVariants as kind
 use Rattle.coded_unit.specs.Words.{modulo, value_part, coded}
 use Rattle.coded_unit.specs.Right.{Right}
 use Rattle.coded_unit.specs.declared.call.Call.{Call}
-use Rattle.coded_unit.specs.declared.call.Answer.{Answer}
 use Rattle.coded_unit.specs.declared.call.Answer.TheVariants as answer
 use Rattle.signature_table.specs.Signatures.{Numbers, signature}
-use Rattle.fault_script.specs.declared.act.Act.{Act}
 use Rattle.fault_script.specs.declared.act.Act.TheVariants as act
 use Rattle.fault_script.specs.Changes.{operand_word, changed, answered, acts_of, kept_after}
-use Rattle.fault_script.specs.Differences.{difference_at, made}
-use Rattle.fault_script.proofs.Worked.{adds_one, fault, op_on}
+use Rattle.fault_script.specs.Differences.{difference_at}
+use Rattle.fault_script.proofs.Worked.{adds_one, fault}
 
 -- The addition in a cycle with this stamp: its operands are the word of x, and that of 1, whose signatures are 0 and 214748365; its own is
 -- 429496730.

@@ -1,5 +1,5 @@
 -- Forms: what the words of a line say.
-use Rattle.std.specs.Prelude.{ℕ, ◌-◌, ◌^◌, Bool, true, false, ◌&&◌, cond, nat_lt, List, [], ◌∷◌, Option, Some, None, option_map, option_and_then, ℤ, pos, neg_ℤ}
+use Rattle.std.specs.Prelude.{ℕ, ◌^◌, Bool, true, false, ◌&&◌, cond, nat_lt, List, [], ◌∷◌, Option, Some, None, option_map, option_and_then, ℤ, pos, neg_ℤ}
 use Rattle.std.specs.Prelude.{int_le, codes, bytes_eq}
 use Rattle.std.specs.List.{filter, slice_split}
 use Rattle.vcp_base.specs.Limits.{most_cycles}
