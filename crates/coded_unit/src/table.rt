@@ -45,28 +45,45 @@ fn short_answer(call: &Call) -> Option<Answer>
     ensures { IfSome result (λ given. given ≡ Right call.now) }
 {
     match call.profile {
-        Profile::Narrow => short_answer_in(Profile::Narrow, call),
-        Profile::Wide => short_answer_in(Profile::Wide, call),
+        Profile::Narrow => narrow_answer(call),
+        Profile::Wide => wide_answer(call),
     }
 }
 
-/// The same for a call in this code.
-#[inline(always)]
-fn short_answer_in(profile: Profile, call: &Call) -> Option<Answer>
-    requires code { profile ≡ call.now.profile }
-    requires corr { call.now.corr < modulus_of profile }
+/// The same for a call in the narrow code.
+fn narrow_answer(call: &Call) -> Option<Answer>
+    requires code { call.now.profile ≡ Profile.Narrow }
+    requires corr { call.now.corr < modulus_of Profile.Narrow }
     ensures { IfSome result (λ given. given ≡ Right call.now) }
 {
-    let Some(first) = call.a.short_split(profile) else {
+    let Some(first) = call.a.short_split(Profile::Narrow) else {
         return None;
     };
-    let Some(second) = call.b.short_split(profile) else {
+    let Some(second) = call.b.short_split(Profile::Narrow) else {
         return None;
     };
-    let Some(third) = call.c.short_split(profile) else {
+    let Some(third) = call.c.short_split(Profile::Narrow) else {
         return None;
     };
-    Some(answer_from(profile, call, first, second, third))
+    Some(answer_from(Profile::Narrow, call, first, second, third))
+}
+
+/// The same for a call in the wide code.
+fn wide_answer(call: &Call) -> Option<Answer>
+    requires code { call.now.profile ≡ Profile.Wide }
+    requires corr { call.now.corr < modulus_of Profile.Wide }
+    ensures { IfSome result (λ given. given ≡ Right call.now) }
+{
+    let Some(first) = call.a.short_split(Profile::Wide) else {
+        return None;
+    };
+    let Some(second) = call.b.short_split(Profile::Wide) else {
+        return None;
+    };
+    let Some(third) = call.c.short_split(Profile::Wide) else {
+        return None;
+    };
+    Some(answer_from(Profile::Wide, call, first, second, third))
 }
 
 /// The right answer, from the parts of the operands.
