@@ -8,9 +8,9 @@ Of docs/PROMISES.md, each row of a crate's section:
   specs/ of any crate; a name behind the dot of `call.clause` is a clause of that call, or a field of that definition;
 - 'definitions' names modules of specs/, of the crate itself where no other is named;
 - each edit is a file of the crate's must-fail/, and each such file is in one row at least;
-- a test is a #[test] function of its crate;
+- a test is a #[test] function of its crate, or a session of play_sessions;
 - each public function and method of the crate is named in the column 'clause', or its type is.
-Of docs/ARCHITECTURE.md: each crate has its row in the first table, and a row that lists what it stands on has what crates.txt has; each name of a crate, a file or a definition is there; and the table
+Of crates/play_sessions: each session of data/ is in args, and stdout has its line. Of docs/ARCHITECTURE.md: each crate has its row in the first table, and a row that lists what it stands on has what crates.txt has; each name of a crate, a file or a definition is there; and the table
 of modules is the one that checks/cited_modules.py prints. Of docs/GLOSSARY.md: the names in the last column are there. Of docs/UNITS.md:
 each line of code that it shows is a line of the crates coded_unit or worked_unit. Of docs/ASSESSOR.md: each step of the order of reading
 names modules that are there, and has as many lines as the top call rests on in its crates.
@@ -104,6 +104,11 @@ def tests_of(crate):
     return set(re.findall(r"#\[test\]\s*(?:#\[[^\]]*\]\s*)*fn (\w+)", text))
 
 
+def sessions():
+    """The names of the sessions that play_sessions has."""
+    return sorted(file.stem for file in (CRATES / "play_sessions" / "data").glob("*.session"))
+
+
 def quoted(text):
     return [name.lstrip(".") for name in re.findall(r"`([^`]+)`", text)]
 
@@ -146,7 +151,10 @@ def faults_of_section(crate, rows, names, fields):
             edits.discard(cited)
         for cited in quoted(row["test"]):
             owner, _, test = cited.partition("::")
-            if not (CRATES / owner).is_dir() or test not in tests_of(owner):
+            if cited.startswith("session "):
+                if cited.removeprefix("session ") not in sessions():
+                    yield f"the `{cited}` isn't there"
+            elif not (CRATES / owner).is_dir() or test not in tests_of(owner):
                 yield f"the test `{cited}` isn't there"
     for edit in sorted(edits):
         yield f"the edit `{edit}` is in no row"
@@ -179,6 +187,16 @@ def faults_of_architecture(crates, names):
     printed = subprocess.run([sys.executable, TOP / "checks" / "cited_modules.py"], capture_output=True, text=True, check=True).stdout
     if printed not in text:
         yield "the table of modules differs from what checks/cited_modules.py prints"
+
+
+def faults_of_sessions():
+    """Whether each session is given to its program, and has its line of what is wanted."""
+    crate = CRATES / "play_sessions"
+    wanted = [f"{name}.session" for name in sessions()]
+    if (crate / "args").read_text().split("\n")[:-1] != wanted:
+        yield "args differs from the names of data/, in their order"
+    if [line.partition(":")[0] for line in (crate / "stdout").read_text().split("\n")[:-1]] != wanted:
+        yield "stdout has not one line for each name of data/, in their order"
 
 
 def faults_of_glossary(crates, names):
@@ -224,6 +242,7 @@ def main():
     code_names = names | fields | set().union(*({*c.owners, *c.clauses, *c.clauses_of} for c in map(Code, crates)))
     faults += [f"ARCHITECTURE: {fault}" for fault in faults_of_architecture(crates, code_names)]
     faults += [f"GLOSSARY: {fault}" for fault in faults_of_glossary(crates, code_names)]
+    faults += [f"play_sessions: {fault}" for fault in faults_of_sessions()]
     faults += [f"UNITS: {fault}" for fault in faults_of_units()]
     faults += [f"ASSESSOR: {fault}" for fault in faults_of_assessor()]
     print("\n".join(faults) or "promised_names: all is there")

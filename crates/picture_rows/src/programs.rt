@@ -2,7 +2,6 @@
 //! their audits.
 
 use crate::counts::times_in;
-use coded_unit::CpuUnit;
 use std::alloc::Global;
 use std::test::Fail;
 use vcp_base::Memory;
@@ -38,8 +37,8 @@ fn picture(
     source: &str,
     horizon: &str,
 ) -> Result<MemSink, Memory> {
-    let image = call(alloc, files, &mut CpuUnit::new(), "compile", source)?;
-    files.put(b"m.img", image.out.bytes())?;
+    let image = call(alloc, files, "compile", source)?;
+    files.put(b"m.img", image.output())?;
     let mut words = words_of(alloc, "graph", "m.img")?;
     words.push(horizon.as_bytes())?;
     let mut out = MemSink::new(alloc, 40000)?;

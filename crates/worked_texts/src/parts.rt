@@ -27,18 +27,6 @@ pub fn repeated(alloc: Global, bytes: &[u8], times: u32) -> Result<Vec<u8>, Memo
     Ok(all)
 }
 
-/// The text with CR before each LF.
-pub fn with_crlf(alloc: Global, text: &[u8]) -> Result<Vec<u8>, Memory> {
-    let mut all = Vec::new(alloc);
-    for byte in text {
-        if *byte == b'\n' {
-            all.push(b'\r')?;
-        }
-        all.push(*byte)?;
-    }
-    Ok(all)
-}
-
 /// Appends the decimal digits of a number, with `-` before them where it is below 0.
 pub fn put_number(alloc: Global, text: &mut Vec<u8>, n: i64) -> Result<(), Memory> {
     let digits = format!(in alloc; "{n}")?;

@@ -9,24 +9,6 @@ y := x + 1;
 END_PROGRAM
 ";
 
-/// The same sum of INT.
-pub const ADD_INT: &[u8] = b"\
-PROGRAM p
-VAR_INPUT x : INT; END_VAR
-VAR_OUTPUT y : INT; END_VAR
-y := x + 1;
-END_PROGRAM
-";
-
-/// The same sum of LINT, whose words are of the wide code.
-pub const ADD_LINT: &[u8] = b"\
-PROGRAM p
-VAR_INPUT x : LINT; END_VAR
-VAR_OUTPUT y : LINT; END_VAR
-y := x + 1;
-END_PROGRAM
-";
-
 /// A counter of its cycles.
 pub const COUNTER: &[u8] = b"\
 PROGRAM c
@@ -34,19 +16,6 @@ VAR_OUTPUT y : DINT; END_VAR
 VAR n : DINT; END_VAR
 n := n + 1;
 y := n;
-END_PROGRAM
-";
-
-/// The fifth power, in five turns.
-pub const POWER: &[u8] = b"\
-PROGRAM p
-VAR_INPUT x : INT; END_VAR
-VAR_OUTPUT y : INT; END_VAR
-VAR i : INT; END_VAR
-y := 1;
-FOR i := 1 TO 5 DO
-  y := y * x;
-END_FOR;
 END_PROGRAM
 ";
 

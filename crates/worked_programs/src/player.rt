@@ -1,0 +1,214 @@
+//! Playing a session.
+
+use crate::lines::{Line, Wanted};
+use crate::program_call::{ProgramCall, Setting};
+use std::alloc::Global;
+use vcp_base::{Memory, Text};
+use vcp_outside::{MemFiles, ReadAll, read_all};
+use worked_texts::{put_repeated, spelled};
+
+/// How many bytes a file may have that a session reads.
+const LIMIT: u64 = 1 << 24;
+
+/// What came out of a session.
+#[derive(Debug, Drop)]
+pub struct Played {
+    /// How many calls of the program were made.
+    pub calls: u32,
+    /// How many of them gave something else than the session says.
+    pub otherwise: u32,
+    /// Of each of these the first line that came out otherwise, and what came in its place; and each line that says nothing.
+    pub faults: Vec<String>,
+}
+
+/// Plays a session, which begins without files, to its end.
+pub fn play(alloc: Global, session: &str) -> Result<Played, Memory> {
+    let mut player = Player::new(alloc);
+    for line in session.lines() {
+        player.line(line)?;
+    }
+    player.end()
+}
+
+/// A session that is played.
+#[derive(Drop)]
+struct Player {
+    alloc: Global,
+    files: MemFiles,
+    /// What the next call is made with.
+    setting: Setting,
+    /// The calls of the last line of a call, until its end.
+    open: Vec<ProgramCall>,
+    /// How many lines were begun, and so the number of the line.
+    number: u32,
+    played: Played,
+}
+
+impl Player {
+    /// A session before its first line.
+    fn new(alloc: Global) -> Player {
+        Player {
+            alloc,
+            files: MemFiles::new(alloc),
+            setting: Setting::new(alloc),
+            open: Vec::new(alloc),
+            number: 0,
+            played: Played {
+                calls: 0,
+                otherwise: 0,
+                faults: Vec::new(alloc),
+            },
+        }
+    }
+
+    /// Does what the next line says.
+    fn line(&mut self, line: &str) -> Result<(), Memory> {
+        self.number = self.number.saturating_add(1);
+        let Some(said) = Line::read(line) else {
+            return self.note("no form has", line);
+        };
+        match said {
+            Line::Remark => Ok(()),
+            Line::File(name, text) => {
+                self.begin(line)?;
+                let text = spelled(self.alloc, text)?;
+                self.files.put(name.as_bytes(), &text)
+            }
+            Line::More(name, times, text) => {
+                self.begin(line)?;
+                self.add(name, times, text)
+            }
+            Line::Answers(call, answer) => {
+                self.begin(line)?;
+                self.setting.answers.push((call, answer))?;
+                Ok(())
+            }
+            Line::Room(room, error_room) => {
+                self.begin(line)?;
+                self.setting.room = room;
+                self.setting.error_room = error_room;
+                Ok(())
+            }
+            Line::Call(commands, behind) => {
+                self.begin(line)?;
+                self.call(commands, behind)
+            }
+            Line::Keeps(name) => {
+                self.want(line, Wanted::Kept)?;
+                self.keep(name)
+            }
+            Line::Same(name) => self.want_file(line, name),
+            Line::Wants(wanted) => self.want(line, wanted),
+        }
+    }
+
+    /// Notes what is said of this line.
+    fn note(&mut self, said: &str, line: &str) -> Result<(), Memory> {
+        let number = self.number;
+        let fault = format!(in self.alloc; "line {number}: {said} `{line}`")?;
+        self.played.faults.push(fault)?;
+        Ok(())
+    }
+
+    /// Notes where a line that belongs to no call comes before the end of a call.
+    fn begin(&mut self, line: &str) -> Result<(), Memory> {
+        if self.open.is_empty() {
+            return Ok(());
+        }
+        self.open.clear();
+        self.note("no end of a call before", line)
+    }
+
+    /// What the file of a name has; `None` where there is none.
+    fn text(&mut self, name: &str) -> Result<Option<Text>, Memory> {
+        match read_all(self.alloc, &mut self.files, name.as_bytes(), LIMIT) {
+            Ok(text) => Ok(Some(text)),
+            Err(ReadAll::Memory) => Err(Memory),
+            Err(_) => Ok(None),
+        }
+    }
+
+    /// Adds a text, which is spelled, so many times to the file of a name, or to none.
+    fn add(&mut self, name: &str, times: u32, text: &str) -> Result<(), Memory> {
+        let mut whole = Vec::new(self.alloc);
+        if let Some(front) = self.text(name)? {
+            whole.extend_from_slice(front.bytes())?;
+        }
+        put_repeated(&mut whole, &spelled(self.alloc, text)?, times)?;
+        self.files.put(name.as_bytes(), &whole)
+    }
+
+    /// Makes the calls of a line.
+    fn call(&mut self, commands: &str, behind: &str) -> Result<(), Memory> {
+        for command in commands.split(',') {
+            let made = ProgramCall::new(
+                self.alloc,
+                &mut self.files,
+                &self.setting,
+                command,
+                behind,
+            )?;
+            self.open.push(made)?;
+            self.played.calls = self.played.calls.saturating_add(1);
+        }
+        self.setting = Setting::new(self.alloc);
+        Ok(())
+    }
+
+    /// Notes what came of the open calls where it is not what a line wants.
+    fn want(&mut self, line: &str, wanted: Wanted<'_>) -> Result<(), Memory> {
+        if self.open.is_empty() {
+            return self.note("no call before", line);
+        }
+        for made in self.open.iter_mut() {
+            if made.is_otherwise {
+                continue;
+            }
+            if let Some(came) = made.otherwise(self.alloc, wanted)? {
+                made.is_otherwise = true;
+                self.played.otherwise = self.played.otherwise.saturating_add(1);
+                let number = self.number;
+                let words = &made.words;
+                let fault = format!(in self.alloc;
+                    "line {number}: wanted `{line}`, came `{came}` of `{words}`"
+                )?;
+                self.played.faults.push(fault)?;
+            }
+        }
+        if matches!(wanted, Wanted::End(_, _) | Wanted::Usage) {
+            self.open.clear();
+        }
+        Ok(())
+    }
+
+    /// Notes what came of the open calls where it is not what stands in the file of a name.
+    fn want_file(&mut self, line: &str, name: &str) -> Result<(), Memory> {
+        match self.text(name)? {
+            Some(text) => self.want(line, Wanted::Bytes(text.bytes())),
+            None => self.note("no file for", line),
+        }
+    }
+
+    /// Makes the output of the open call a file, which is its end.
+    fn keep(&mut self, name: &str) -> Result<(), Memory> {
+        if let Some(made) = self.open.first() {
+            self.files.put(name.as_bytes(), made.output())?;
+        }
+        self.open.clear();
+        Ok(())
+    }
+
+    /// What came out, behind the last line.
+    fn end(mut self) -> Result<Played, Memory> {
+        self.begin("the end of the text")?;
+        let Player {
+            alloc: _,
+            files: _,
+            setting: _,
+            open: _,
+            number: _,
+            played,
+        } = self;
+        Ok(played)
+    }
+}
