@@ -13,6 +13,11 @@ pub fn same(found: &str, wanted: &str) -> Result<(), Fail> {
     }
 }
 
+/// Fails with what is said of it, where it doesn't hold.
+pub fn holds(is: bool, said: &str) -> Result<(), Fail> {
+    if is { Ok(()) } else { Err(Fail::new(said)) }
+}
+
 /// A row's two cells, without the blanks around the ` =>` between them; the whole row and nothing where it has none.
 pub fn cells(row: &str) -> (&str, &str) {
     match row.split_once(" =>") {
