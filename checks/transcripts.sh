@@ -24,8 +24,9 @@ command -v python3 >/dev/null 2>&1 && python=1 || python=0
 shown() {
     awk -v python="$python" '
         function flush() { if (block != "" && (python || block !~ /checks\//)) print block; block = "" }
-        /^    \$ / && !inside { inside = 1 }
-        inside && /^    / { block = block substr($0, 5) "\n"; next }
+        /^    \$ / && !indented { inside = 1 }
+        { indented = /^    / }
+        inside && indented { block = block substr($0, 5) "\n"; next }
         { inside = 0; flush() }
         END { flush() }' "$1"
 }
