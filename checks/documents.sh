@@ -3,6 +3,7 @@
 #
 # Names: all that docs/PROMISES.md and docs/ARCHITECTURE.md name is there, and each public call is listed (promised_names.py).
 # Commands: what documents show is what the program prints (transcripts.sh), and the runs of examples/ are those shown there (examples.sh).
+# Words: the manual page and the completion have the commands of the usage line (usage.sh).
 # Pictures: those in docs/ are what vcp_draw draws (pictures.sh).
 #
 # It uses the programs that are built, or those of VCP=FILE and VCP_DRAW=FILE, and builds none. What a missing tool would do is left out. Its status is 1 where
@@ -18,6 +19,7 @@ if command -v python3 >/dev/null 2>&1; then
 else
     echo "documents: names are not looked at, since python3 isn't there"
 fi
+"$here/usage.sh" || status=1
 if [ -x "$VCP" ]; then
     "$here/transcripts.sh" || status=1
     "$here/examples.sh" || status=1

@@ -1,0 +1,24 @@
+# Completion of the words of vcp for bash: `. docs/completion.bash`, or a copy in /etc/bash_completion.d.
+# The commands are those of the usage line (checks/usage.sh compares them).
+
+_vcp_commands='check format plain run compile list exec trace inject audit widen demo'
+
+_vcp() {
+    local word=${COMP_WORDS[COMP_CWORD]} before=${COMP_WORDS[COMP_CWORD - 1]} command=${COMP_WORDS[1]}
+    if [ "$COMP_CWORD" -eq 1 ]; then
+        mapfile -t COMPREPLY < <(compgen -W "$_vcp_commands" -- "$word")
+        return
+    fi
+    case $before in
+    --seed | --step | --cycles) return ;;
+    esac
+    case $command:$word in
+    run:-*) mapfile -t COMPREPLY < <(compgen -W '--cycles --seed --step' -- "$word") ;;
+    compile:-*) mapfile -t COMPREPLY < <(compgen -W '--seed --step' -- "$word") ;;
+    plain:-* | exec:-* | trace:-* | inject:-*) mapfile -t COMPREPLY < <(compgen -W '--cycles' -- "$word") ;;
+    demo:*) ;;
+    *) mapfile -t COMPREPLY < <(compgen -f -- "$word") ;;
+    esac
+}
+
+complete -o filenames -F _vcp vcp ./vcp
