@@ -10,6 +10,7 @@ from tools.refusal import UNUSABLE, Refusal
 
 TOOLS = {
     "explain": "what a refusal means: the line, a caret, and the mistake that people make there",
+    "rows": "stimuli to a rows file and back, and a check of what is read in silence",
 }
 """The tools, each in the module of its name, with what its help says."""
 USAGE = "statuses: 0 nothing was found, 1 a fault, a difference or a likely mistake was found, 2 the words or a file can't be used; explain gives vcp's own"
