@@ -11,8 +11,13 @@ from tools.refusal import UNUSABLE, Refusal
 TOOLS = {
     "explain": "what a refusal means: the line, a caret, and the mistake that people make there",
     "rows": "stimuli to a rows file and back, and a check of what is read in silence",
+    "table": "inputs, outputs and variables of a run side by side, cycle by cycle",
+    "vcd": "the same as a VCD file, for GTKWave",
+    "expect": "compares a run with wanted rows, and names the first difference",
 }
 """The tools, each in the module of its name, with what its help says."""
+VALUED = frozenset(("--cycles", "--cycle-time", "--faults", "--horizon", "--check", "-o"))
+"""The options that a word follows."""
 USAGE = "statuses: 0 nothing was found, 1 a fault, a difference or a likely mistake was found, 2 the words or a file can't be used; explain gives vcp's own"
 
 
@@ -31,9 +36,23 @@ def _are_words_of_vcp(words: list[str]) -> bool:
     return words[:1] == ["explain"] and len(words) > 1 and words[1].startswith("-") and words[1] not in ("-h", "--help", "--all")
 
 
+def _options_first(words: list[str]) -> list[str]:
+    """The words with the options of a tool behind its name, so that they may stand anywhere, as `--cycles N` in the place of ROWS does."""
+    if not words or words[0] == "explain":
+        return words
+    options: list[str] = []
+    rest: list[str] = []
+    at = 1
+    while at < len(words):
+        count = 2 if words[at] in VALUED else 1
+        (options if words[at].startswith("-") else rest).extend(words[at : at + count])
+        at += count
+    return [words[0], *options, *rest]
+
+
 def main(words: list[str]) -> int:
     """Runs the tool that the words name, and gives its status."""
-    given = parser().parse_args(words[:1] + ["--", *words[1:]] if _are_words_of_vcp(words) else words)
+    given = parser().parse_args(words[:1] + ["--", *words[1:]] if _are_words_of_vcp(words) else _options_first(words))
     try:
         status = importlib.import_module(f"tools.{given.tool}").run(given)
         sys.stdout.flush()
