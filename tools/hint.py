@@ -38,3 +38,8 @@ def listed(words: Iterable[str], most: int = 12) -> str:
     given = list(words)
     rest = f" and {len(given) - most} more" if len(given) > most else ""
     return ", ".join(given[:most]) + rest if given else "none"
+
+
+def article(type_name: str) -> str:
+    """A type's name with its article."""
+    return ("an " if type_name == "INT" else "a ") + type_name

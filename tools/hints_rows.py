@@ -4,7 +4,7 @@ from __future__ import annotations
 import re
 from dataclasses import dataclass
 
-from tools.hint import listed, nearest
+from tools.hint import article, listed, nearest
 from tools.rows_file import Record, RowsFile, cell_value, read_rows
 from tools.source import GREATEST, LEAST
 from tools.syntax import Declaration
@@ -111,7 +111,7 @@ def _cell_reason(cell: str, type_name: str | None) -> str:
     if type_name is None:
         return "cells are whole decimal numbers in the type of the input, and of a BOOL also TRUE and FALSE"
     values = "0, 1, TRUE or FALSE" if type_name == "BOOL" else f"whole numbers from {LEAST[type_name]} to {GREATEST[type_name]}"
-    wants = f"{'a BOOL' if type_name == 'BOOL' else 'an INT' if type_name == 'INT' else 'a ' + type_name} has {values}"
+    wants = f"{article(type_name)} has {values}"
     if cell == "":
         return f"the cell is blank, and each cycle needs a value: {wants}"
     if re.match(r"[+-]?[0-9]*[.,][0-9]*\Z", cell):

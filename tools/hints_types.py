@@ -1,7 +1,7 @@
 """What is said where a rule of types is broken (T1 to T8), or a program is too large (L2, L3). The text is one that the grammar takes."""
 from __future__ import annotations
 
-from tools.hint import Hint, Repair, listed, nearest
+from tools.hint import Hint, Repair, article, listed, nearest
 from tools.hints_bytes import NO_BLOCKS
 from tools.source import GREATEST, LEAST, TYPES, Source, literal_value
 from tools.syntax import (
@@ -49,11 +49,6 @@ class Typed:
         """An expression with its type, as `i + 1` is an INT."""
         name = self.types.of(expr)
         return f"`{self.text(expr)}`" + (f" is {article(name)}" if name else "")
-
-
-def article(type_name: str) -> str:
-    """A type's name with its article."""
-    return ("an " if type_name == "INT" else "a ") + type_name
 
 
 def type_hint(source: Source, tree: Tree, code: str, at: int) -> Hint:

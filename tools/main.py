@@ -14,6 +14,7 @@ TOOLS = {
     "table": "inputs, outputs and variables of a run side by side, cycle by cycle",
     "vcd": "the same as a VCD file, for GTKWave",
     "expect": "compares a run with wanted rows, and names the first difference",
+    "diff": "whether two programs or images have the same operations, and where they part",
 }
 """The tools, each in the module of its name, with what its help says."""
 VALUED = frozenset(("--cycles", "--cycle-time", "--faults", "--horizon", "--check", "-o"))
