@@ -4,11 +4,11 @@
 #     checks/transcripts.sh [DOCUMENT..]
 #
 # An indented block that begins with `$ ` is a transcript: each of its lines that begins so is a command, and what the command prints stands
-# below it. The transcripts of a document are run in order by one shell, in a new folder with `vcp`, `examples/` and `checks/`. What is
+# below it. The transcripts of a document are run in order by one shell, in a new folder with `vcp`, `vcp_tools`, `examples/` and `checks/`. What is
 # printed has to be the transcript; the first document that differs is shown as a diff, and the status is then 1.
 #
 # It uses the program that is built, or that of VCP=FILE, and builds none: where there is none, nothing is run and the status is 0. Without
-# Python 3 a transcript that runs a script of checks/ is left out.
+# Python 3 a transcript that runs a script of checks/ or a tool is left out.
 top=$(CDPATH='' cd -- "$(dirname -- "$0")/.." && pwd) || exit 1
 vcp=${VCP:-$top/crates/vcp/out/vcp}
 [ -x "$vcp" ] || {
@@ -23,7 +23,7 @@ command -v python3 >/dev/null 2>&1 && python=1 || python=0
 # The transcripts of a document, without their indentation, each ended by an empty line.
 shown() {
     awk -v python="$python" '
-        function flush() { if (block != "" && (python || block !~ /checks\//)) print block; block = "" }
+        function flush() { if (block != "" && (python || block !~ /checks\/|vcp_tools/)) print block; block = "" }
         /^    \$ / && !indented { inside = 1 }
         { indented = /^    / }
         inside && indented { block = block substr($0, 5) "\n"; next }
@@ -48,10 +48,10 @@ script() {
 agrees() {
     rm -rf "$work/here"
     mkdir "$work/here" && cp -R "$top/examples" "$work/here/examples" || return 1
-    ln -s "$vcp" "$work/here/vcp" && ln -s "$top/checks" "$work/here/checks" || return 1
+    ln -s "$vcp" "$work/here/vcp" && ln -s "$top/vcp_tools" "$work/here/vcp_tools" && ln -s "$top/checks" "$work/here/checks" || return 1
     shown "$1" >"$work/shown"
     script <"$work/shown" >"$work/script"
-    (cd "$work/here" && sh "$work/script" >"$work/printed" 2>&1 </dev/null)
+    (cd "$work/here" && VCP=$vcp sh "$work/script" >"$work/printed" 2>&1 </dev/null)
     diff "$work/shown" "$work/printed"
 }
 

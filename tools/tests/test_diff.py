@@ -1,0 +1,107 @@
+"""`diff`, and the reader of images."""
+from __future__ import annotations
+
+import unittest
+
+from tools.image import read_image
+from tools.refusal import Refusal
+from tools.tests.support import EXAMPLES, InFolder, needs_program
+
+IMAGE_OF_A_SUM = bytes.fromhex(
+    "564350414e42440a 0001 0001 00000000 00000002 00000001 00000001 00000000 00000000 00000004 00000001 78 00000001 79 00000000 02 00000001 02 00000003"
+    "00 02 02 00000000 00000000 00000000 0000000000000000 00000002 0000000b 00000000 00000000"
+    "01 02 02 00000000 00000000 00000000 0000000000000001 00000004 0000000a 00000000 0ccccccd"
+    "08 02 02 00000000 00000001 00000000 0000000000000000 00000004 00000008 00000000 0ccccccd"
+    "04 02 02 00000002 00000000 00000000 0000000000000000 00000003 0000000c 00000000 0ccccccd")
+"""The image of `y := x + 1` with the seed 0, as docs/FORMATS.md shows it."""
+PROGRAM = """PROGRAM p
+VAR_INPUT a, b : INT; END_VAR
+VAR_OUTPUT y : INT; z : BOOL; END_VAR
+VAR kept : INT; END_VAR
+y := a + b;
+z := kept > 3;
+kept := kept + 1;
+END_PROGRAM
+"""
+
+
+class Images(unittest.TestCase):
+    """The bytes that the document shows."""
+
+    def test_the_image_of_the_document(self) -> None:
+        image = read_image(IMAGE_OF_A_SUM, "sum")
+        self.assertEqual((image.version, image.step, image.seed), (1, 1, 0))
+        self.assertEqual([(slot.name, slot.type) for slot in image.inputs + image.outputs], [("x", "DINT"), ("y", "DINT")])
+        told = [(it.kind, it.operands, it.own, it.place, it.correction) for it in image.operations]
+        self.assertEqual(told, [("INPUT", (), 0, "2:11", 0), ("CONST", (), 1, "4:10", 214748365), ("ADD", (0, 1), 0, "4:8", 214748365),
+                                ("OUT", (2,), 0, "3:12", 214748365)])
+        self.assertEqual([image.name_of(it) for it in image.operations], ["x", "1", "", "y"])
+
+    def test_what_is_no_image(self) -> None:
+        for data in (b"PROGRAM p", IMAGE_OF_A_SUM[:100], b"VCPANBD\n"):
+            with self.assertRaises(Refusal):
+                read_image(data, "file")
+
+
+class Listings(InFolder):
+    """The reader of images says what the program lists."""
+
+    @needs_program
+    def test_the_listings_of_the_examples(self) -> None:
+        for file in sorted(EXAMPLES.glob("*.st")):
+            data = self.program("compile", str(file))
+            self.write("p.img", data)
+            listed = [line.split(" ") for line in self.program("list", "p.img").decode().split("\n")[:-1]]
+            image = read_image(data, "p.img")
+            for words, it in zip(listed, image.operations, strict=True):
+                self.assertEqual(words[:4], [str(it.number), it.kind, it.operand_type, it.type])
+                self.assertEqual(words[4 : 4 + len(it.operands)], [str(operand) for operand in it.operands])
+                self.assertEqual(words[words.index("cor") + 1 : words.index("cor") + 4], [str(it.correction), "at", it.place])
+
+
+class Differences(InFolder):
+    """`diff`."""
+
+    def compare(self, old: str, new: str, status: int) -> str:
+        """What is said of the program and of the same with some text in the place of another."""
+        self.assertIn(old, PROGRAM)
+        self.write("a.st", PROGRAM)
+        self.write("b.st", PROGRAM.replace(old, new))
+        return self.tool("diff", "a.st", "b.st", status=status)
+
+    @needs_program
+    def test_layout_and_names_of_variables_are_left_aside(self) -> None:
+        self.assertIn("in the same order", self.compare("y := a + b;", "// a remark\n  Y :=   (a + b) ;", 0))
+        printed = self.compare("kept", "count", 0)
+        self.assertIn("the cell kept of A is taken for count of B", printed)
+        self.assertIn("in the same order", printed)
+
+    @needs_program
+    def test_statements_in_another_order(self) -> None:
+        self.assertIn("operations in another order", self.compare("y := a + b;\nz := kept > 3;", "z := kept > 3;\ny := a + b;", 0))
+
+    @needs_program
+    def test_where_they_part(self) -> None:
+        for old, new, said in (("kept > 3", "kept > 4", "output z: in A operation 4, CONST 3 at 6:13; in B operation 4, CONST 4 at 6:13\n    A: z := kept > 3;\n    B: z := kept > 4;"),
+                               ("a + b", "a - b", "output y: in A operation 2, ADD at 5:8; in B operation 2, SUB at 5:8"),
+                               ("kept + 1", "kept + 2", "kept value kept: in A"), ("kept : INT;", "kept : INT := 5;", "kept begins with 0 as an INT in A, and with 5"),
+                               ("a, b : INT", "b, a : INT", "the inputs stand in another order"), ("z : BOOL", "zz, z : BOOL", "only B has the output zz : BOOL"),
+                               ("y := a + b", "IF a <> 0 THEN y := a + b; END_IF", "only B keeps y : INT")):
+            self.assertIn(said, self.compare(old, new, 1))
+
+    @needs_program
+    def test_an_operation_that_may_stop_and_gives_nothing(self) -> None:
+        self.assertIn("only B may stop at operation", self.compare("y := a + b;", "y := a + b; kept := kept; IF kept > 3 THEN y := a + b; END_IF;\ny := a * b; y := a + b;", 1))
+
+    @needs_program
+    def test_images_and_seeds(self) -> None:
+        self.write("a.st", PROGRAM)
+        self.write("a.img", self.program("compile", "a.st", "--seed", "7"))
+        printed = self.tool("diff", "a.st", "a.img")
+        self.assertIn("seed and step are 305419896 and 1 in A, 7 and 1 in B", printed)
+        self.write("bad.st", "PROGRAM p r = 1; END_PROGRAM")
+        self.assertIn("S4 Syntax", self.tool("diff", "a.st", "bad.st", status=2))
+
+
+if __name__ == "__main__":
+    unittest.main()

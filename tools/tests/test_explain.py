@@ -1,0 +1,178 @@
+"""`explain`: each mistake of data/mistakes.txt is understood from the first three lines that are printed."""
+from __future__ import annotations
+
+import os
+import re
+import shutil
+import unittest
+from dataclasses import dataclass, field
+
+from tools.fault_line import meanings, read_ending, read_fault
+from tools.hints_files import words_hint
+from tools.source import RESERVED, Source, literal_value
+from tools.syntax import SyntaxFault, parse
+from tools.tests.support import DATA, EXAMPLES, InFolder, needs_program
+
+FRAME = "PROGRAM p\nVAR_INPUT a : BOOL; i : INT; d : DINT; END_VAR\nVAR_OUTPUT q : BOOL; r : INT; END_VAR\nVAR t : INT; x : BOOL; END_VAR\n%sEND_PROGRAM\n"
+ROWS = "PROGRAM p\nVAR_INPUT approach, island : BOOL; END_VAR\nVAR_OUTPUT y : BOOL; END_VAR\ny := approach OR island;\nEND_PROGRAM\n"
+ONE = "PROGRAM p\nVAR_INPUT x : INT; END_VAR\nVAR_OUTPUT y : INT; END_VAR\ny := x;\nEND_PROGRAM\n"
+
+
+@dataclass
+class Mistake:
+    """A mistake: its files, the calls before the one that is explained with the files that they make, and what has to be said."""
+
+    title: str
+    files: dict[str, tuple[str, str]] = field(default_factory=dict)
+    calls: list[list[str]] = field(default_factory=list)
+    made: list[str] = field(default_factory=list)
+    said: list[str] = field(default_factory=list)
+    line: str = ""
+
+
+def mistakes() -> list[Mistake]:
+    """The table of data/mistakes.txt."""
+    found: list[Mistake] = []
+    name = ""
+    for line in (DATA / "mistakes.txt").read_text(encoding="utf-8").split("\n"):
+        mark, _, rest = line.partition(" ")
+        if mark == "==":
+            found.append(Mistake(rest))
+        elif mark == "---":
+            name, _, form = rest.partition(" ")
+            found[-1].files[name] = (form, "")
+        elif found and mark in ("$", ">", "?", "!"):
+            name = ""
+            if mark == "!":
+                found[-1].line = rest
+            else:
+                {"$": found[-1].calls, ">": found[-1].made, "?": found[-1].said}[mark].append(rest.split() if mark == "$" else rest)  # type: ignore[arg-type]
+        elif name:
+            form, text = found[-1].files[name]
+            found[-1].files[name] = (form, text + line + "\n")
+    return found
+
+
+class Table(InFolder):
+    """The table of mistakes."""
+
+    @needs_program
+    def test_each_mistake_is_told_in_three_lines(self) -> None:
+        table = mistakes()
+        self.assertGreater(len(table), 60)
+        for mistake in table:
+            with self.subTest(mistake.title):
+                self.lay_out(mistake)
+                for words, made in zip(mistake.calls, mistake.made):
+                    self.write(made, self.program(*words))
+                printed = self.tool("explain", *mistake.calls[-1], status=None)
+                first = "\n".join(printed.split("\n")[:3])
+                for text in mistake.said:
+                    self.assertIn(text, first)
+                if mistake.line:
+                    self.assertRegex(first, rf"\A[^:]+:{mistake.line}:\d+: ")
+
+    def lay_out(self, mistake: Mistake) -> None:
+        """Writes the files of a mistake into an empty folder."""
+        for file in self.folder.iterdir():
+            file.unlink()
+        for name, (form, text) in mistake.files.items():
+            whole = {"frame": FRAME % text, "rows": ROWS, "one": ONE}.get(form, text)
+            encoding = form if form in ("utf-16", "cp1252") else "utf-8"
+            self.write(name, whole, encoding)
+
+
+class Calls(InFolder):
+    """What `explain` does around a call."""
+
+    @needs_program
+    def test_an_accepted_call_prints_what_the_program_prints(self) -> None:
+        shutil.copy(EXAMPLES / "add.st", self.folder)
+        self.assertEqual(self.tool("explain", "check", "add.st"), "ok 11\n")
+
+    @needs_program
+    def test_the_status_is_the_programs(self) -> None:
+        self.write("p.st", ONE)
+        self.tool("explain", "check", "nowhere.st", status=5)
+        self.tool("explain", "check", status=4)
+        self.write("in.csv", "x\n5000000\n")
+        self.tool("explain", "run", "p.st", "in.csv", status=1)
+
+    @needs_program
+    def test_lines_on_standard_input_are_explained(self) -> None:
+        self.write("p.st", FRAME % "r = 1;\n")
+        printed = self.tool("explain", given="p.st:5:3 S4 Syntax\n", status=1)
+        self.assertIn("to set a variable write `:=`", printed.split("\n")[0])
+        self.assertEqual(self.tool("explain", given="ok 11\n"), "ok 11\n")
+
+    @needs_program
+    def test_all_faults_of_a_ported_text_are_told_at_once(self) -> None:
+        self.write("p.st", FRAME % "tm(IN := a);\nIF a THEN r = 1; END_IF\nq := tm.Q;\nr := i * 1.5;\n")
+        printed = self.tool("explain", "--all", "check", "p.st", status=1)
+        places = re.findall(r"^p\.st:(\d+):\d+: (.*)", printed, re.M)
+        self.assertEqual([line for line, _ in places], ["5", "6", "6", "7", "8"])
+        self.assertIn("p.st: 5 to mend", printed)
+
+    @unittest.skipIf(hasattr(os, "geteuid") and os.geteuid() == 0, "root may read every file")
+    @needs_program
+    def test_a_file_without_permission(self) -> None:
+        self.write("p.st", ONE).chmod(0)
+        self.assertIn("no permission", self.tool("explain", "check", "p.st", status=5).split("\n")[0])
+
+    def test_no_program_is_a_refusal_that_says_what_to_do(self) -> None:
+        before = os.environ.get("VCP")
+        os.environ["VCP"] = str(self.folder / "nowhere")
+        self.addCleanup(lambda: os.environ.update(VCP=before) if before else os.environ.pop("VCP"))
+        self.assertIn("run ./vcp once", self.tool("explain", "check", "p.st", status=2))
+
+
+class Readers(unittest.TestCase):
+    """The readers of tokens, trees, words and lines."""
+
+    def test_tokens_after_the_document(self) -> None:
+        text = b"\xef\xbb\xbfx_1 := 16#FF + int#-5; // remark\n(* two\nlines *) y<=2..3 &"
+        self.assertEqual([(token.kind, token.text) for token in Source(text).tokens], [
+            ("name", "x_1"), ("symbol", ":="), ("number", "16#FF"), ("symbol", "+"), ("number", "int#-5"), ("symbol", ";"), ("name", "y"),
+            ("symbol", "<="), ("number", "2"), ("symbol", ".."), ("number", "3"), ("symbol", "&"), ("end", "")])
+        self.assertEqual(Source(b"a\n  b").place(4), (2, 3))
+
+    def test_literals_after_the_document(self) -> None:
+        for text, value in (("5", (None, 5)), ("1_000", (None, 1000)), ("16#fF", (None, 255)), ("2#101", (None, 5)), ("INT#-5", ("INT", -5)),
+                            ("BOOL#TRUE", ("BOOL", 1)), ("LINT#16#ff", ("LINT", 255)), ("9223372036854775807", (None, 2**63 - 1)),
+                            ("9223372036854775808", None), ("1__0", None), ("16#", None), ("5s", None), ("BOOL#-1", None)):
+            self.assertEqual(literal_value(text), value, text)
+
+    def test_the_examples_are_programs(self) -> None:
+        for file in EXAMPLES.glob("*.st"):
+            parse(Source(file.read_bytes()))
+        with self.assertRaises(SyntaxFault) as raised:
+            parse(Source(b"PROGRAM p x := 1 END_PROGRAM"))
+        self.assertEqual(raised.exception.token.text, "END_PROGRAM")
+
+    def test_the_document_has_the_meaning_of_each_code(self) -> None:
+        wanted = "L1 S1 S2 S3 S4 S5 T1 T2 T3 T4 T5 T6 T7 T8 L2 L3 R1 R2 R3 R4 R5 L4 I1 I2 I3 I4 I5 I6 I7 L5 L6 L7 F1 F2 F3 F4".split()
+        self.assertLessEqual(set(wanted), set(meanings()))
+
+    def test_reserved_words_are_those_of_the_document(self) -> None:
+        text = (EXAMPLES.parent / "docs" / "LANGUAGE.md").read_text()
+        part = text[text.index("Reserved words of the grammar") : text.index("`&` is the word AND")]
+        self.assertEqual(set(re.findall(r"\b[A-Z][A-Z_]+\b", part)), set(RESERVED))
+
+    def test_lines_of_error(self) -> None:
+        fault = read_fault("a b:3.csv:2:7 R3 Cell")
+        self.assertEqual((fault.file, fault.first, fault.second, fault.code) if fault else None, ("a b:3.csv", 2, 7, "R3"))
+        fault = read_fault("m.img:2132 I6 Table stored 0 expected 2")
+        self.assertEqual((fault.file, fault.first, fault.code) if fault else None, ("m.img", 2132, "I6"))
+        self.assertIsNone(read_fault("ok 11"))
+        stop = read_ending("stop 3 DIVZERO 8:14 i=2 j=3")
+        self.assertEqual(getattr(stop, "turns", None), "i=2 j=3")
+
+    def test_which_word_is_not_in_its_place(self) -> None:
+        for words, said in (("check", "a word is missing"), ("run p in --seed 0 --seed 1", "stands twice"), ("trace m in x", "`x` stands in the place of CYCLE"),
+                            ("run p --cycles 1000001", "`1000001` stands behind `--cycles`"), ("check p q", "`q` is left over"),
+                            ("compile p --sed 0", "did you mean `--seed`?"), ("run p", "a rows file")):
+            self.assertIn(said, words_hint(words.split()), words)
+
+
+if __name__ == "__main__":
+    unittest.main()
