@@ -18,8 +18,8 @@ use Rattle.fault_script.specs.declared.act.Fault.{Fault}
 use Rattle.fault_script.specs.Changes.{acts_of}
 use Rattle.fault_script.specs.Differences.{Frame, no_frame}
 use Rattle.fault_script.specs.Fits.{Fits}
-use Rattle.fault_verdict.specs.declared.verdict.Verdict.{Verdict}
-use Rattle.fault_verdict.specs.declared.verdict.Verdict.TheVariants as verdict
+use Rattle.fault_injector.specs.declared.verdict.Verdict.{Verdict}
+use Rattle.fault_injector.specs.declared.verdict.Verdict.TheVariants as verdict
 use Rattle.fault_injector.specs.Accepted.{RefusedAt, first_unaccepted}
 use Rattle.fault_injector.specs.FaultRun.{begun, cycle_under, cycles_from, operation_stop, outside, stop_or, stop_under, unless_stopped}
 use Rattle.fault_injector.specs.Judging.{CycleTold, JudgesBeside}

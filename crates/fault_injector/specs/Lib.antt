@@ -6,3 +6,4 @@ pub mod Verdicts
 pub mod RunLaw
 pub mod ScriptedRun
 pub mod Judging
+pub mod Names

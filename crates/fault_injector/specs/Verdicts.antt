@@ -17,8 +17,8 @@ use Rattle.coded_machine.specs.CycleEnds.{end_of, outputs_of}
 use Rattle.fault_script.specs.declared.act.Fault.{Fault}
 use Rattle.fault_script.specs.Changes.{Acts, acts_of}
 use Rattle.fault_script.specs.Differences.{Frame}
-use Rattle.fault_verdict.specs.declared.verdict.Verdict.{Verdict}
-use Rattle.fault_verdict.specs.declared.verdict.Verdict.TheVariants as verdict
+use Rattle.fault_injector.specs.declared.verdict.Verdict.{Verdict}
+use Rattle.fault_injector.specs.declared.verdict.Verdict.TheVariants as verdict
 use Rattle.fault_injector.specs.FaultRun.{begun, cycle_under, operation_stop, stop_under, followed, fault_run}
 use Rattle.fault_injector.specs.RunLaw.{answers_under}
 use Rattle.fault_injector.specs.Accepted.{RefusedAt, first_unaccepted}

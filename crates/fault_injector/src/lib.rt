@@ -9,11 +9,12 @@ pub mod judge;
 mod laws;
 mod run_laws;
 mod scripted;
+mod verdict;
 
-pub use fault_verdict::Verdict;
 pub use laws::acts_keep_the_step_law;
 pub use run_laws::{
     ends_under_acts_are_read_off_the_answers, one_fault_runs_by_its_act,
     runs_under_acts_keep_the_run_law, scripted_runs_are_right_runs,
 };
 pub use scripted::Scripted;
+pub use verdict::Verdict;
