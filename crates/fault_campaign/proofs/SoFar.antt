@@ -11,7 +11,7 @@ use Rattle.signature_table.specs.Signatures.{Numbers}
 use Rattle.fault_script.specs.declared.act.Fault.{Fault}
 use Rattle.fault_injector.specs.declared.verdict.Verdict.{Verdict}
 use Rattle.fault_injector.specs.Names.{Names}
-use Rattle.fault_injector.specs.Scripts.{StaysHonest}
+use Rattle.fault_runs.specs.Scripts.{StaysHonest}
 use Rattle.fault_injector.specs.Verdicts.{verdict_of}
 use Rattle.fault_campaign.specs.declared.lines.Totals.{Totals}
 use Rattle.fault_campaign.specs.FaultLines.{verdict_text, counted, no_verdicts, totals_of, totals_text}
