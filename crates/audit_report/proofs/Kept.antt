@@ -5,7 +5,7 @@ use Rattle.std.proofs.lemmas.Bool.{eq-eqb, eqb-true}
 use Rattle.op_graph.specs.declared.op.Outlet.{Outlet}
 use Rattle.op_graph.specs.Lists.{Lists}
 use Rattle.weight_audit.specs.Audit.{Audit, weight_kept, reached_kept, IsAudit}
-use Rattle.run_report.specs.AuditLines.{reached_text}
+use Rattle.audit_report.specs.AuditLines.{reached_text}
 use Rattle.run_report.specs.OutputNames.{output_name}
 use Rattle.audit_report.specs.AuditText.{is_reached, is_blind, count_below, line_if, lines_below, distance_text, distances_below, outputs_below}
 use Rattle.audit_report.specs.AuditText.{AuditOf, TellsBlind}

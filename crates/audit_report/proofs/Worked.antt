@@ -1,5 +1,5 @@
--- Worked: audits of small graphs, by what is kept of them.
-use Rattle.std.proofs.Common.{refl, ◌≡◌, ℕ, ◌∷◌, [], ℤ, pos, true, false, codes}
+-- Worked: lines of audits, and audits of small graphs, by what is kept of them.
+use Rattle.std.proofs.Common.{refl, ◌≡◌, ℕ, ◌∷◌, [], ◌++◌, ℤ, pos, true, false, codes}
 use Rattle.std.specs.Fmt.{digits}
 use Rattle.vcp_base.specs.declared.spot.Spot.{Spot}
 use Rattle.vcp_base.specs.declared.code.Profile.TheVariants as profile
@@ -10,7 +10,14 @@ use Rattle.op_graph.specs.declared.op.Op.{Op}
 use Rattle.op_graph.specs.Lists.{Lists, nothing}
 use Rattle.op_graph.specs.Building.{with_name, with_input, with_load, with_op, with_output, with_store}
 use Rattle.weight_audit.specs.Audit.{Audit}
+use Rattle.audit_report.specs.AuditLines.{reached_text, blind_text}
 use Rattle.audit_report.specs.AuditText.{audit_text}
+
+-- the lines alone
+audited : reached_text (codes "y") 0 3 1 ++ (blind_text 0 kind.Input ++ reached_text (codes "lights") 8 51 0)
+    ≡ codes "y 0 reached 3 blind 1\nblind 0 INPUT\nlights 8 reached 51 blind 0\n"
+unfolding digits
+audited = refl
 
 abbrev here : Spot
 here = record { line = 0; col = 0 }

@@ -1,2 +1,3 @@
+pub mod AuditLines
 pub mod AuditText
 pub mod Continues

@@ -4,8 +4,10 @@
 
 mod counts;
 mod laws;
+mod lines;
 mod writing;
 
 pub use counts::is_blind;
 pub use laws::an_audit_has_one_text;
+pub use lines::{blind_line, reached_line};
 pub use writing::write_audit;

@@ -4,13 +4,14 @@ ghost use Rattle.std.specs.Prelude.{◌≡◌, ◌<◌, ◌≤◌, ◌+◌, leng
 ghost use Rattle.vcp_outside.specs.Written.{Writes};
 ghost use Rattle.vcp_base.specs.Limits.{most_horizon};
 ghost use Rattle.weight_audit.specs.Audit.{IsAudit};
-ghost use Rattle.run_report.specs.AuditLines.{reached_text};
+ghost use Rattle.audit_report.specs.AuditLines.{reached_text};
 ghost use Rattle.audit_report.specs.AuditText.{is_blind as is_blind_of, line_if, lines_below, distance_text, distances_below, audit_text};
 ghost use Rattle.audit_report.specs.Continues.{Continues};
 
 use crate::counts::{count_blind, count_reached, is_blind};
+use crate::lines::{blind_line, reached_line};
 use op_graph::Graph;
-use run_report::{blind_line, output_name, reached_line};
+use run_report::output_name;
 use vcp_base::Text;
 use vcp_outside::{Failed, Sink};
 use weight_audit::Weights;

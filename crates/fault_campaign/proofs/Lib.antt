@@ -1,2 +1,3 @@
+pub mod FaultRows
 pub mod Telling
 pub mod SoFar

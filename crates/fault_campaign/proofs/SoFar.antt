@@ -9,12 +9,12 @@ use Rattle.vcp_outside.specs.Written.{AppendsPart}
 use Rattle.op_graph.specs.Lists.{Lists}
 use Rattle.signature_table.specs.Signatures.{Numbers}
 use Rattle.fault_script.specs.declared.act.Fault.{Fault}
-use Rattle.fault_verdict.specs.declared.verdict.Verdict.{Verdict}
-use Rattle.fault_verdict.specs.Names.{Names}
-use Rattle.fault_injector.specs.Scripts.{StaysHonest}
+use Rattle.fault_injector.specs.declared.verdict.Verdict.{Verdict}
+use Rattle.fault_injector.specs.Names.{Names}
+use Rattle.fault_runs.specs.Scripts.{StaysHonest}
 use Rattle.fault_injector.specs.Verdicts.{verdict_of}
-use Rattle.run_report.specs.declared.faults.Totals.{Totals}
-use Rattle.run_report.specs.FaultLines.{verdict_text, counted, no_verdicts, totals_of, totals_text}
+use Rattle.fault_campaign.specs.declared.lines.Totals.{Totals}
+use Rattle.fault_campaign.specs.FaultLines.{verdict_text, counted, no_verdicts, totals_of, totals_text}
 use Rattle.fault_campaign.specs.declared.fault.CampaignFault.TheVariants as fault
 use Rattle.fault_campaign.specs.Campaign.{verdict_lines, verdicts_of, Told}
 use Rattle.fault_campaign.proofs.Telling.{no_lines, lines_next, totals_next, line_failed, totals_failed}

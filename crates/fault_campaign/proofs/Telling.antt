@@ -7,10 +7,10 @@ use Rattle.std.proofs.KnownBytes.{Appends-trans}
 use Rattle.vcp_outside.specs.Written.{AppendsPart}
 use Rattle.op_graph.specs.Lists.{Lists}
 use Rattle.fault_script.specs.declared.act.Fault.{Fault}
-use Rattle.fault_verdict.specs.declared.verdict.Verdict.{Verdict}
-use Rattle.fault_verdict.specs.declared.verdict.Verdict.TheVariants as verdict
-use Rattle.run_report.specs.declared.faults.Totals.{Totals}
-use Rattle.run_report.specs.FaultLines.{verdict_text, faults, counted, no_verdicts, totals_after, totals_of, totals_text}
+use Rattle.fault_injector.specs.declared.verdict.Verdict.{Verdict}
+use Rattle.fault_injector.specs.declared.verdict.Verdict.TheVariants as verdict
+use Rattle.fault_campaign.specs.declared.lines.Totals.{Totals}
+use Rattle.fault_campaign.specs.FaultLines.{verdict_text, faults, counted, no_verdicts, totals_after, totals_of, totals_text}
 use Rattle.fault_campaign.specs.Campaign.{verdict_lines, campaign_text, PartTold, EarlierTold}
 
 -- ---- lines

@@ -10,12 +10,12 @@ ghost use Rattle.fault_campaign.specs.Campaign.{Told};
 ghost use Rattle.fault_campaign.specs.declared.fault.CampaignFault.TheVariants as fault;
 
 use crate::fault::CampaignFault;
+use crate::lines::{Totals, totals_line, verdict_line};
 use coded_unit::Unit;
 use fault_injector::judge::verdict;
 use fault_script::Script;
 use input_rows::RowList;
 use op_graph::Graph;
-use run_report::{Totals, totals_line, verdict_line};
 use signature_table::Table;
 use std::alloc::Global;
 use vcp_outside::Sink;

@@ -9,8 +9,8 @@ use Rattle.op_graph.specs.GraphRun.{Cycle, Stop, outputs}
 use Rattle.op_graph.specs.Lists.{Lists}
 use Rattle.coded_machine.specs.declared.cycle_end.CycleEnd.{CycleEnd}
 use Rattle.coded_machine.specs.declared.cycle_end.CycleEnd.TheVariants as end
-use Rattle.fault_verdict.specs.declared.verdict.Verdict.TheVariants as verdict
-use Rattle.fault_injector.specs.FaultRun.{operation_stop}
+use Rattle.fault_injector.specs.declared.verdict.Verdict.TheVariants as verdict
+use Rattle.fault_runs.specs.FaultRun.{operation_stop}
 use Rattle.fault_injector.specs.Judging.{CycleTold, JudgesBeside, row_wrong, wrong_verdict}
 use Rattle.fault_injector.specs.Verdicts.{WrongAt, first_wrong, same_kind, stops_alike, judged}
 use Rattle.fault_injector.proofs.RowsBeside.{rows_as_outputs}

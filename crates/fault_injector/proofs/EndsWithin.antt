@@ -18,8 +18,8 @@ use Rattle.coded_machine.specs.Calls.{Whole, word_at}
 use Rattle.coded_machine.specs.CycleEnds.{end_of, end_or, first_stop, first_outside, first_refused}
 use Rattle.coded_machine.specs.declared.cycle_end.CycleEnd.{CycleEnd}
 use Rattle.coded_machine.specs.declared.cycle_end.CycleEnd.TheVariants as end
-use Rattle.fault_verdict.specs.Names.{Names}
-use Rattle.fault_verdict.specs.declared.verdict.Verdict.{Verdict}
+use Rattle.fault_injector.specs.Names.{Names}
+use Rattle.fault_injector.specs.declared.verdict.Verdict.{Verdict}
 use Rattle.fault_injector.specs.Judging.{EndNames, row_wrong, wrong_verdict}
 use Rattle.fault_injector.specs.Verdicts.{WrongAt}
 

@@ -18,15 +18,15 @@ use Rattle.fault_script.specs.declared.act.Fault.{Fault}
 use Rattle.fault_script.specs.Changes.{acts_of}
 use Rattle.fault_script.specs.Differences.{Frame, no_frame}
 use Rattle.fault_script.specs.Fits.{Fits}
-use Rattle.fault_verdict.specs.declared.verdict.Verdict.{Verdict}
-use Rattle.fault_verdict.specs.declared.verdict.Verdict.TheVariants as verdict
-use Rattle.fault_injector.specs.Accepted.{RefusedAt, first_unaccepted}
-use Rattle.fault_injector.specs.FaultRun.{begun, cycle_under, cycles_from, operation_stop, outside, stop_or, stop_under, unless_stopped}
+use Rattle.fault_injector.specs.declared.verdict.Verdict.{Verdict}
+use Rattle.fault_injector.specs.declared.verdict.Verdict.TheVariants as verdict
+use Rattle.fault_runs.specs.Accepted.{RefusedAt, first_unaccepted, ending, EndsAreRead, OutputsAreRead}
+use Rattle.fault_runs.specs.FaultRun.{begun, cycle_under, cycles_from, operation_stop, outside, stop_or, stop_under, unless_stopped}
 use Rattle.fault_injector.specs.Judging.{CycleTold, JudgesBeside}
-use Rattle.fault_injector.specs.RunLaw.{RunsKept, OneFaultStands, CycleKept, RunKept}
-use Rattle.fault_injector.specs.ScriptedRun.{ScriptedCycle, ScriptedRun, ScriptedRunsAreRight, kept_through}
+use Rattle.fault_runs.specs.RunLaw.{RunsKept, OneFaultStands, CycleKept, RunKept}
+use Rattle.fault_runs.specs.ScriptedRun.{ScriptedCycle, ScriptedRun, ScriptedRunsAreRight, kept_through}
 use Rattle.fault_injector.proofs.CarriedByHand as by_hand
-use Rattle.fault_injector.specs.Verdicts.{WrongAt, judged, judged_cycle, verdict_or, compared, verdict_of, plain_cycles, ending, EndsAreRead, OutputsAreRead}
+use Rattle.fault_injector.specs.Verdicts.{WrongAt, judged, judged_cycle, verdict_or, compared, verdict_of, plain_cycles}
 
 -- what is known of the graph, the numbers of its code and the fault
 pub record Known (t : Numbers) (g : Lists) (f : Fault) : Type 0 where

@@ -6,11 +6,11 @@ use Rattle.op_graph.specs.GraphRun.{Cycle, Stop, outputs}
 use Rattle.op_graph.specs.Lists.{Lists}
 use Rattle.coded_machine.specs.declared.cycle_end.CycleEnd.{CycleEnd}
 use Rattle.coded_machine.specs.declared.cycle_end.CycleEnd.TheVariants as end
-use Rattle.fault_verdict.specs.declared.verdict.Verdict.{Verdict}
-use Rattle.fault_verdict.specs.declared.verdict.Verdict.TheVariants as verdict
-use Rattle.fault_injector.specs.Accepted.{RefusedAt}
-use Rattle.fault_injector.specs.FaultRun.{operation_stop}
-use Rattle.fault_injector.specs.Verdicts.{WrongAt, first_wrong, judged, ending}
+use Rattle.fault_injector.specs.declared.verdict.Verdict.{Verdict}
+use Rattle.fault_injector.specs.declared.verdict.Verdict.TheVariants as verdict
+use Rattle.fault_runs.specs.Accepted.{RefusedAt, ending}
+use Rattle.fault_runs.specs.FaultRun.{operation_stop}
+use Rattle.fault_injector.specs.Verdicts.{WrongAt, first_wrong, judged}
 
 -- the first place, counted from `number`, where a row has another value than the wanted one
 abbrev pub row_wrong : List ℤ → List ℤ → ℕ → Option WrongAt

@@ -1,27 +1,19 @@
 -- Verdicts: how the run with a fault differs from the run without it.
-use Rattle.std.specs.Prelude.{◌≡◌, ◌<◌, ℕ, suc, ◌==◌, Bool, true, false, cond, ◌&&◌, List, [], ◌∷◌, Option, Some, None, ℤ}
+use Rattle.std.specs.Prelude.{ℕ, suc, ◌==◌, Bool, true, false, cond, ◌&&◌, List, [], ◌∷◌, Option, Some, None, ℤ}
 use Rattle.vcp_base.specs.Kinds.{same}
 use Rattle.vcp_base.specs.Values.{at}
 use Rattle.vcp_base.specs.declared.kind.StopKind.{StopKind}
 use Rattle.vcp_base.specs.declared.kind.StopKind.TheVariants as stop
-use Rattle.vcp_base.specs.Limits.{most_cycles}
-use Rattle.coded_unit.specs.declared.call.Answer.{Answer}
 use Rattle.op_graph.specs.declared.op.Outlet.{Outlet}
-use Rattle.op_graph.specs.GraphRun.{Cycle, Stop, cycle, initial, outputs, stored}
+use Rattle.op_graph.specs.GraphRun.{Cycle, Stop, cycle, initial, stored}
 use Rattle.op_graph.specs.Lists.{Lists}
-use Rattle.op_graph.specs.Rules.{IsGraph}
-use Rattle.signature_table.specs.Signatures.{Numbers, IsTable}
-use Rattle.coded_machine.specs.declared.cycle_end.CycleEnd.{CycleEnd}
-use Rattle.coded_machine.specs.declared.cycle_end.CycleEnd.TheVariants as end
-use Rattle.coded_machine.specs.CycleEnds.{end_of, outputs_of}
+use Rattle.signature_table.specs.Signatures.{Numbers}
 use Rattle.fault_script.specs.declared.act.Fault.{Fault}
 use Rattle.fault_script.specs.Changes.{Acts, acts_of}
-use Rattle.fault_script.specs.Differences.{Frame}
-use Rattle.fault_verdict.specs.declared.verdict.Verdict.{Verdict}
-use Rattle.fault_verdict.specs.declared.verdict.Verdict.TheVariants as verdict
-use Rattle.fault_injector.specs.FaultRun.{begun, cycle_under, operation_stop, stop_under, followed, fault_run}
-use Rattle.fault_injector.specs.RunLaw.{answers_under}
-use Rattle.fault_injector.specs.Accepted.{RefusedAt, first_unaccepted}
+use Rattle.fault_injector.specs.declared.verdict.Verdict.{Verdict}
+use Rattle.fault_injector.specs.declared.verdict.Verdict.TheVariants as verdict
+use Rattle.fault_runs.specs.FaultRun.{operation_stop, stop_under, followed, fault_run}
+use Rattle.fault_runs.specs.Accepted.{RefusedAt, first_unaccepted}
 
 -- ---- the run without the fault, cycle by cycle
 
@@ -86,31 +78,3 @@ compared t g acts n (c ∷ cycles) (other ∷ others) = verdict_or (judged_cycle
 -- the verdict of a fault over rows of inputs
 abbrev pub verdict_of : Numbers → Lists → Fault → List (List ℤ) → Verdict
 verdict_of t g f rows = compared t g (acts_of (f ∷ [])) 0 (fault_run t g f rows) (plain_cycles g (initial g) rows)
-
--- ---- how a machine ends a cycle
-
--- the end of a cycle that stops so, or else has this output that isn't accepted, or none
-abbrev pub ending : Option Stop → Option RefusedAt → CycleEnd
-ending (Some s) r = end.Stopped s.op s.kind
-ending None (Some r) = end.Refused r.output r.found r.expected
-ending None None = end.Released
-
--- Where the answers of a cycle keep the run law, its end as the machine reads it off them is its stop; or else a refusal of the first output whose
--- equation doesn't hold, with both residues; or else a release. So an output of a cycle that ends without a stop is accepted exactly where its
--- equation over signatures and stamps holds, as long as those before it are.
-abbrev pub EndsAreRead : Type 0
-EndsAreRead =
-    (t : Numbers) (g : Lists) (acts : Acts) (n : ℕ) (past : Frame) (held row : List ℤ) (answers : List Answer) → IsGraph g → IsTable t →
-    t.profile ≡ g.profile → n < most_cycles →
-    answers ≡ answers_under (begun t g acts n past held row) (cycle_under (begun t g acts n past held row)) →
-    end_of g t n answers
-    ≡ ending (stop_under g (cycle_under (begun t g acts n past held row))) (first_unaccepted t g acts n 0 g.outputs)
-
--- Where such a cycle doesn't stop, the row of outputs that is read off its answers has the values of the run under the acts.
-abbrev pub OutputsAreRead : Type 0
-OutputsAreRead =
-    (t : Numbers) (g : Lists) (acts : Acts) (n : ℕ) (past : Frame) (held row : List ℤ) (answers : List Answer) → IsGraph g → IsTable t →
-    t.profile ≡ g.profile → n < most_cycles →
-    answers ≡ answers_under (begun t g acts n past held row) (cycle_under (begun t g acts n past held row)) →
-    stop_under g (cycle_under (begun t g acts n past held row)) ≡ None →
-    outputs_of g answers ≡ outputs g (cycle_under (begun t g acts n past held row)).values

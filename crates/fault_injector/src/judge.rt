@@ -10,23 +10,23 @@ ghost use Rattle.coded_machine.specs.Runs.{outcome_for};
 ghost use Rattle.coded_machine.specs.State.{setting, with_answers, after_end, row_after};
 ghost use Rattle.coded_machine.specs.declared.cycle_end.CycleEnd.TheVariants.{Released};
 ghost use Rattle.fault_script.specs.Fits.{Fits};
-ghost use Rattle.fault_verdict.specs.Names.{Names};
-ghost use Rattle.fault_injector.specs.FaultRun.{OneFaultRuns};
+ghost use Rattle.fault_injector.specs.Names.{Names};
+ghost use Rattle.fault_runs.specs.FaultRun.{OneFaultRuns};
 ghost use Rattle.fault_injector.specs.Judging.{EndNames, JudgesBeside, row_wrong, wrong_verdict};
-ghost use Rattle.fault_injector.specs.RunLaw.{RunsKept, OneFaultStands};
-ghost use Rattle.fault_injector.specs.ScriptedRun.{ScriptedCycle, ScriptedRunsAreRight, kept_through};
-ghost use Rattle.fault_injector.specs.Scripts.{StaysHonest};
-ghost use Rattle.fault_injector.specs.Verdicts.{EndsAreRead, OutputsAreRead, verdict_of};
+ghost use Rattle.fault_runs.specs.RunLaw.{RunsKept, OneFaultStands};
+ghost use Rattle.fault_runs.specs.ScriptedRun.{ScriptedCycle, ScriptedRunsAreRight, kept_through};
+ghost use Rattle.fault_runs.specs.Scripts.{StaysHonest};
+ghost use Rattle.fault_injector.specs.Verdicts.{verdict_of};
+ghost use Rattle.fault_runs.specs.Accepted.{EndsAreRead, OutputsAreRead};
 
-use crate::run_laws::{
-    ends_under_acts_are_read_off_the_answers, one_fault_runs_by_its_act,
-    runs_under_acts_keep_the_run_law, scripted_runs_are_right_runs,
-};
-use crate::scripted::Scripted;
+use crate::verdict::Verdict;
 use coded_machine::{CycleEnd, Machine, cycles_by_hand_are_whole};
 use coded_unit::Unit;
+use fault_runs::{
+    Scripted, ends_under_acts_are_read_off_the_answers, one_fault_runs_by_its_act,
+    runs_under_acts_keep_the_run_law, scripted_runs_are_right_runs,
+};
 use fault_script::Fault;
-use fault_verdict::Verdict;
 use input_rows::RowList;
 use op_graph::{Graph, entries_keep_their_rules};
 use signature_table::Table;

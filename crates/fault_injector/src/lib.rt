@@ -1,19 +1,7 @@
-//! Scripted faults, carried out and judged.
-//!
-//! `Scripted` is a unit around a unit: it does each call by the unit inside, except the one that its
-//! fault is about, which it changes as the script says. `judge::verdict` compares the run with a fault
-//! with the run without it.
+//! The verdicts on faults: `judge::verdict` compares the run with a fault with the run without it.
 #![tactic(auto)]
 
 pub mod judge;
-mod laws;
-mod run_laws;
-mod scripted;
+mod verdict;
 
-pub use fault_verdict::Verdict;
-pub use laws::acts_keep_the_step_law;
-pub use run_laws::{
-    ends_under_acts_are_read_off_the_answers, one_fault_runs_by_its_act,
-    runs_under_acts_keep_the_run_law, scripted_runs_are_right_runs,
-};
-pub use scripted::Scripted;
+pub use verdict::Verdict;

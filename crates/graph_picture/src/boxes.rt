@@ -1,7 +1,7 @@
 //! The boxes of operations.
 
 ghost use Rattle.std.specs.Prelude.{◌≡◌, ◌<◌, ◌≤◌, ◌+◌, length, map, flat_map, slice_get};
-ghost use Rattle.run_report.specs.Gathering.{Gathers};
+ghost use Rattle.gathered_line.specs.Gathering.{Gathers};
 ghost use Rattle.svg_text.specs.Characters.{piece_bytes};
 ghost use Rattle.svg_text.specs.Elements.{element_text};
 ghost use Rattle.graph_picture.specs.Drawn.{box_drawn, boxes_below};
@@ -10,8 +10,8 @@ ghost use Rattle.graph_picture.specs.Elements.{class_of, outline, words, head, o
 use crate::colours::{Colour, colour_of};
 use crate::layout::{Layout, Place, left, top};
 use crate::names::{output_name, own_piece};
+use gathered_line::Line;
 use op_graph::Graph;
-use run_report::Line;
 use svg_text::{Name, Piece, Tag, then_element};
 use vcp_base::{Kind, Spot, kind_name};
 use vcp_outside::Sink;

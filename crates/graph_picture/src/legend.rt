@@ -1,12 +1,12 @@
 //! The legend of a picture, and its style.
 
 ghost use Rattle.std.specs.Prelude.{◌≤◌, ◌≡◌, flat_map};
-ghost use Rattle.run_report.specs.Gathering.{Gathers};
+ghost use Rattle.gathered_line.specs.Gathering.{Gathers};
 ghost use Rattle.svg_text.specs.Characters.{piece_bytes};
 ghost use Rattle.svg_text.specs.Elements.{element_text};
 ghost use Rattle.graph_picture.specs.Elements.{style, swatch, caption, sample, legend};
 
-use run_report::Line;
+use gathered_line::Line;
 use svg_text::{Name, Piece, Tag, then_element};
 use vcp_outside::Sink;
 

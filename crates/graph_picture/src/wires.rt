@@ -1,15 +1,15 @@
 //! The lines from operands to their readers.
 
 ghost use Rattle.std.specs.Prelude.{◌≡◌, ◌<◌, ◌≤◌, length, flat_map, slice_get};
-ghost use Rattle.run_report.specs.Gathering.{Gathers};
+ghost use Rattle.gathered_line.specs.Gathering.{Gathers};
 ghost use Rattle.op_graph.specs.Reads.{named};
 ghost use Rattle.svg_text.specs.Elements.{element_text};
 ghost use Rattle.graph_picture.specs.Drawn.{wire_of, wires_of, wires_below};
 ghost use Rattle.graph_picture.specs.Elements.{wire_element, wire_elements};
 
 use crate::layout::{Layout, Place, left, top};
+use gathered_line::Line;
 use op_graph::{Graph, Op, reads_operation};
-use run_report::Line;
 use svg_text::{Name, Piece, Tag, then_element};
 use vcp_outside::Sink;
 

@@ -4,7 +4,7 @@ ghost use Rattle.std.specs.Prelude.{◌<◌, ◌≤◌};
 ghost use Rattle.coded_unit.specs.Asked.{Asked};
 
 use coded_unit::{Answer, Call, LogUnit, Unit, Word};
-use fault_injector::{Scripted, acts_keep_the_step_law};
+use fault_runs::{Scripted, acts_keep_the_step_law};
 use fault_script::{Act, Fault, read_script};
 use op_graph::Graph;
 use std::alloc::Global;

@@ -1,7 +1,7 @@
 //! The values of a run, drawn in lanes.
 
 ghost use Rattle.std.specs.Prelude.{◌≡◌, ◌<◌, ◌≤◌, ◌+◌, length, flat_map, Bool};
-ghost use Rattle.run_report.specs.Gathering.{Gathers};
+ghost use Rattle.gathered_line.specs.Gathering.{Gathers};
 ghost use Rattle.svg_text.specs.Elements.{element_text};
 ghost use Rattle.vcp_base.specs.Limits.{most_cycles};
 ghost use Rattle.run_picture.specs.Drawn.{is_bit as is_bit_of, bits_below, is_level as is_level_of, changes as changes_of, shown as shown_of, lane, lanes};
@@ -10,7 +10,7 @@ ghost use Rattle.run_picture.specs.Elements.{label_element, label_elements, show
 
 use crate::layout::{Layout, start, top};
 use crate::run::Run;
-use run_report::Line;
+use gathered_line::Line;
 use svg_text::{Name, Piece, Tag, then_element};
 use vcp_outside::Sink;
 

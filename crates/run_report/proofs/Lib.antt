@@ -1,6 +1,4 @@
-mod FaultRows
-mod Gathering
-mod OperationRows
+pub mod OperationRows
 mod Rows
 mod Texts
 mod Turns

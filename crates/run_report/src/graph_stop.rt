@@ -4,17 +4,18 @@ ghost use Rattle.std.specs.Prelude.{◌<◌, IfSome, map, flat_map, length, slic
 ghost use Rattle.vcp_base.specs.Stops.{told_stop, told_turn};
 ghost use Rattle.vcp_outside.specs.Written.{Writes};
 ghost use Rattle.op_graph.specs.Lists.{turns_of};
-ghost use Rattle.run_report.specs.Gathering.{Gathers};
+ghost use Rattle.gathered_line.specs.Gathering.{Gathers};
 ghost use Rattle.run_report.specs.Lines.{stop_text, turn_text};
 
-use crate::line::Line;
 use crate::lines::{begin_stop, then_turn};
+use gathered_line::Line;
 use op_graph::Graph;
 use vcp_base::StopKind;
 use vcp_outside::{Failed, Sink};
 
-// Goes on with the turns round operation `op`, outermost first.
-pub(crate) fn then_turns_round<O: Sink>(line: &mut Line, out: &mut O, graph: &Graph, op: u32)
+/// Goes on with the turns round operation `op`, outermost first: the name of each control variable, and its
+/// value.
+pub fn then_turns_round<O: Sink>(line: &mut Line, out: &mut O, graph: &Graph, op: u32)
     requires { op < length graph.now.operations }
     ensures { IfSome (slice_get graph.now.operations op)
         (λ o. Gathers (O.written out.old) (O.written out.new) (O.faults out.old) (O.faults out.new) line.old line.new

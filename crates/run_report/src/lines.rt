@@ -4,23 +4,13 @@
 ghost use Rattle.std.specs.Prelude.{◌≡◌, ◌++◌, decimal, map, flat_map};
 ghost use Rattle.vcp_base.specs.Stops.{told_stop, told_turn};
 ghost use Rattle.vcp_outside.specs.Written.{Writes};
-ghost use Rattle.run_report.specs.Gathering.{IsGathered, Gathers};
+ghost use Rattle.gathered_line.specs.Gathering.{IsGathered, Gathers};
 ghost use Rattle.run_report.specs.Lines.{header_text, row_text, end_text, cause_text, stop_front, stop_text, refused_front, refused_text, place_text};
 ghost use Rattle.run_report.specs.Lines.{turn_text, AreNamed};
 
-use crate::line::Line;
+use gathered_line::{Line, begin};
 use vcp_base::{Columns, Residue, Row, Spot, StopKind, Text, Turns, Words, stop_name};
 use vcp_outside::{Failed, Sink};
-
-// A line that begins with a word and a number.
-pub(crate) fn begin<O: Sink>(out: &mut O, word: &[u8], number: u32) -> Line
-    ensures { IsGathered (O.written out.old) (O.written out.new) (O.faults out.old) (O.faults out.new) (word.now ++ decimal number) result }
-{
-    let mut line = Line::new();
-    line.text(out, word);
-    line.count(out, number as u64);
-    line
-}
 
 /// Writes the header of a run: `cycle`, and the outputs' names as declared. After `Failed` a part of
 /// the line is written.
@@ -66,8 +56,8 @@ pub(crate) fn then_place<O: Sink>(line: &mut Line, out: &mut O, spot: Spot)
     line.count(out, spot.col as u64);
 }
 
-// Goes on with why a run stopped, and the place in the source.
-pub(crate) fn then_cause<O: Sink>(line: &mut Line, out: &mut O, kind: StopKind, spot: Spot)
+/// Goes on with why a run stopped, and the place in the source.
+pub fn then_cause<O: Sink>(line: &mut Line, out: &mut O, kind: StopKind, spot: Spot)
     ensures { Gathers (O.written out.old) (O.written out.new) (O.faults out.old) (O.faults out.new) line.old line.new (cause_text kind spot) }
 {
     line.text(out, stop_name(kind));
@@ -128,8 +118,9 @@ pub fn stop_line<O: Sink>(
     line.end(out)
 }
 
-// Goes on with an output that is refused in a cycle, the residue that was found and the expected one.
-pub(crate) fn then_refused<O: Sink>(
+/// Goes on with an output that is refused in a cycle, which is counted from 0, the residue that was found
+/// and the expected one.
+pub fn then_refused<O: Sink>(
     line: &mut Line,
     out: &mut O,
     cycle: u32,

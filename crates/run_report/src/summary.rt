@@ -3,7 +3,7 @@
 ghost use Rattle.vcp_outside.specs.Written.{Writes};
 ghost use Rattle.run_report.specs.SummaryLine.{summary_text};
 
-use crate::lines::begin;
+use gathered_line::begin;
 use vcp_outside::{Failed, Sink};
 
 /// Writes, for the made program of a number, the cycles of its run, the last value of its output, and

@@ -1,11 +1,11 @@
 //! Characters, and references in their place.
 
 ghost use Rattle.std.specs.Prelude.{◌≡◌, flat_map};
-ghost use Rattle.run_report.specs.Gathering.{Gathers};
+ghost use Rattle.gathered_line.specs.Gathering.{Gathers};
 ghost use Rattle.svg_text.specs.Characters.{is_plain as is_plain_of, reference as reference_of, escape, escaped, piece_bytes};
 
+use gathered_line::Line;
 use itoa::Buffer;
-use run_report::Line;
 use vcp_outside::Sink;
 
 /// A piece of a text.

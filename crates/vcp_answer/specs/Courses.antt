@@ -11,7 +11,7 @@ use Rattle.signature_table.specs.Signatures.{Numbers, table_of}
 use Rattle.coded_machine.specs.CycleEnds.{initial_words, outputs_of}
 use Rattle.coded_machine.specs.Runs.{AllCycles, calls_over, outcome_over}
 use Rattle.fault_campaign.specs.Campaign.{campaign_text, verdicts_of, EarlierTold}
-use Rattle.fault_verdict.specs.declared.verdict.Verdict.{Verdict}
+use Rattle.fault_injector.specs.declared.verdict.Verdict.{Verdict}
 use Rattle.flat_expr.specs.Told.{Means}
 use Rattle.vcp_typed.specs.Size.{size}
 use Rattle.run_report.specs.Lines.{header_text, row_text}

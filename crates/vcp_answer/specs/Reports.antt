@@ -1,7 +1,7 @@
 -- Reports: a run as it is told, and the lines that print it.
 use Rattle.std.specs.Prelude.{ℕ, ◌++◌, List, [], length, map, slice_get, slice_index_or, Option, Some, None, ℤ, codes}
 use Rattle.vcp_base.specs.Stops.{ToldStop}
-use Rattle.fault_verdict.specs.declared.verdict.Verdict.{Verdict}
+use Rattle.fault_injector.specs.declared.verdict.Verdict.{Verdict}
 use Rattle.input_rows.specs.declared.fault.RowFault.{RowFault}
 use Rattle.input_rows.specs.RowsOf.{RowsLeft}
 use Rattle.coded_unit.specs.declared.call.Answer.{Answer as Given}

@@ -16,8 +16,8 @@ use Rattle.op_graph.specs.Lists.{Lists, nothing}
 use Rattle.signature_table.specs.Signatures.{Numbers}
 use Rattle.fault_script.specs.declared.act.Fault.{Fault as ScriptedFault}
 use Rattle.fault_script.specs.ScriptOf.{script_of}
-use Rattle.fault_verdict.specs.declared.verdict.Verdict.{Verdict}
-use Rattle.run_report.specs.FaultLines.{verdict_text, totals_of, totals_text}
+use Rattle.fault_injector.specs.declared.verdict.Verdict.{Verdict}
+use Rattle.fault_campaign.specs.FaultLines.{verdict_text, totals_of, totals_text}
 use Rattle.fault_campaign.specs.declared.fault.CampaignFault.{CampaignFault}
 use Rattle.fault_campaign.specs.declared.fault.CampaignFault.TheVariants as campaign
 use Rattle.fault_campaign.specs.Campaign.{campaign_text, verdict_lines, verdicts_of, Tells, Told}

@@ -8,7 +8,7 @@ use Rattle.op_graph.specs.Lists.{Lists}
 use Rattle.signature_table.specs.Signatures.{Numbers, IsTableOf, expected}
 use Rattle.fault_script.specs.Changes.{Acts, acts_of}
 use Rattle.fault_script.specs.Differences.{difference_at}
-use Rattle.fault_injector.specs.Accepted.{RefusedAt, first_unaccepted, residue_under}
+use Rattle.fault_runs.specs.Accepted.{RefusedAt, first_unaccepted, residue_under}
 use Rattle.weight_audit.specs.ClosedForm.{StaleForm}
 use Rattle.vcp_core.specs.StaleOperands.{StaleIsRefused}
 

@@ -10,7 +10,7 @@ use Rattle.signature_table.specs.Signatures.{Numbers, IsTableOf}
 use Rattle.fault_script.specs.declared.act.Act.TheVariants as act
 use Rattle.fault_script.specs.declared.act.Fault.{Fault}
 use Rattle.fault_script.specs.Changes.{acts_of}
-use Rattle.fault_injector.specs.Accepted.{RefusedAt, first_unaccepted}
+use Rattle.fault_runs.specs.Accepted.{RefusedAt, first_unaccepted}
 use Rattle.weight_audit.specs.Weights.{weight}
 
 -- A run with a stale operand that comes to the check of its outputs, so many cycle borders later, is refused there: some output isn't accepted,

@@ -14,7 +14,7 @@ ghost use Rattle.vcp_core.specs.declared.fault.Fault.TheVariants as fault;
 
 use crate::ending::End;
 use crate::fault::Fault;
-use run_report::Line;
+use gathered_line::Line;
 use std::alloc::Global;
 use vcp_base::Text;
 use vcp_inputs::load_typed;

@@ -8,9 +8,9 @@ ghost use Rattle.vcp_inputs.specs.Lines.{refusal_text, input_text, input_status 
 
 use crate::refusal::{NoInput, Refusal};
 use fault_script::ScriptFault;
+use gathered_line::Line;
 use image_file::ImageFault;
 use input_rows::RowFault;
-use run_report::Line;
 use st_lexer::LexFault;
 use st_parser::SyntaxFault;
 use st_types::TypeFault;

@@ -1,5 +1,5 @@
 use Rattle.std.proofs.Common.{◌≡◌, ◌++◌, length, refl}
-use Rattle.run_report.specs.AuditLines.{reached_text}
+use Rattle.audit_report.specs.AuditLines.{reached_text}
 use Rattle.audit_report.specs.AuditText.{is_blind, lines_below, distance_text}
 use Rattle.audit_report.proofs.Joined.{as-one}
 use Rattle.audit_report.proofs.writing.then_distance.Goals as goal

@@ -3,7 +3,7 @@ use Rattle.std.proofs.lemmas.List.Elements.{All-get_or}
 use Rattle.std.proofs.lemmas.Option.{get_or_from_slice_get, slice_get_within}
 use Rattle.std.proofs.lemmas.Result.{err_from_is_err_and}
 use Rattle.fault_script.specs.Fits.{Fits}
-use Rattle.run_report.specs.FaultLines.{faults}
+use Rattle.fault_campaign.specs.FaultLines.{faults}
 use Rattle.fault_campaign.proofs.SoFar.{Next, so_far_none, so_far_next, line_exit, totals_exit}
 use Rattle.fault_campaign.proofs.Telling.{many_counted}
 use Rattle.fault_campaign.proofs.run.run_campaign.Goals as goal

@@ -1,7 +1,7 @@
 use Rattle.std.proofs.Common.{refl, ap, sym, subst, ◌∙◌, List, []}
 use Rattle.coded_unit.specs.declared.call.Answer.{Answer}
 use Rattle.coded_machine.specs.State.{State, given, setting}
-use Rattle.fault_injector.specs.ScriptedRun.{ScriptedCycle, kept_through}
+use Rattle.fault_runs.specs.ScriptedRun.{ScriptedCycle, kept_through}
 use Rattle.fault_injector.proofs.CarriedByHand.{none_done, call_done, performed_rises, kept_whole, right_whole}
 use Rattle.fault_injector.proofs.judge.carry.Goals as goal
 

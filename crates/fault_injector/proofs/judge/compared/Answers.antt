@@ -3,7 +3,7 @@ use Rattle.std.proofs.lemmas.List.{length-replicate}
 use Rattle.op_graph.specs.Lists.{Lists}
 use Rattle.op_graph.specs.Rules.{IsGraph}
 use Rattle.coded_machine.specs.State.{State, fresh}
-use Rattle.fault_verdict.specs.Names.{Names}
+use Rattle.fault_injector.specs.Names.{Names}
 use Rattle.fault_injector.proofs.CarriedByHand.{honest_first, honest_second}
 use Rattle.fault_injector.proofs.EndsWithin.{verdict_within}
 use Rattle.fault_injector.proofs.RowsBeside.{drop_all}

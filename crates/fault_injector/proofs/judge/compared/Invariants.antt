@@ -2,7 +2,7 @@ use Rattle.std.proofs.Common.{◌≡◌, ◌≤◌, false, None, drop, length}
 use Rattle.coded_machine.specs.Runs.{outcome_for}
 use Rattle.coded_machine.specs.State.{State}
 use Rattle.op_graph.specs.GraphRun.{graph_run}
-use Rattle.fault_injector.specs.Scripts.{StaysHonest}
+use Rattle.fault_runs.specs.Scripts.{StaysHonest}
 use Rattle.fault_injector.proofs.RunsBeside.{Known, StandBeside}
 use Rattle.fault_injector.proofs.UndisturbedRun.{outcome}
 use Rattle.fault_injector.proofs.judge.compared.Given as goal

@@ -1,6 +1,6 @@
 use Rattle.std.proofs.Common.{◌≡◌, ◌≢◌, ℤ, Some, sym, ap, ◌∙◌, arith, rules, w64, SFits, to_z, of_z}
 use Rattle.std.proofs.lemmas.Int.{to_z-of_z}
-use Rattle.fault_verdict.specs.declared.verdict.Verdict.TheVariants as verdict
+use Rattle.fault_injector.specs.declared.verdict.Verdict.TheVariants as verdict
 use Rattle.fault_injector.specs.Judging.{wrong_verdict}
 use Rattle.fault_injector.proofs.RowsBeside.{row_passed, row_here, row_ended}
 use Rattle.fault_injector.proofs.judge.first_wrong.Goals as goal

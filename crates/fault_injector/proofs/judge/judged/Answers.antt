@@ -1,5 +1,5 @@
 use Rattle.std.proofs.Common.{◌∙◌, IfSome, length, sym, subst, arith}
-use Rattle.fault_verdict.specs.Names.{Names}
+use Rattle.fault_injector.specs.Names.{Names}
 use Rattle.fault_injector.proofs.CycleJudged.{judged_row, judged_ran_on, row_there, no_row_there}
 use Rattle.fault_injector.proofs.EndsWithin.{wrong_within}
 use Rattle.fault_injector.proofs.judge.judged.Goals as goal

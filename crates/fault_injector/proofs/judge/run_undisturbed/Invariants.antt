@@ -1,6 +1,6 @@
 use Rattle.std.proofs.Common.{◌≡◌, ◌≤◌, false, None, All, drop, length}
 use Rattle.coded_machine.specs.State.{State}
-use Rattle.fault_injector.specs.Scripts.{StaysHonest}
+use Rattle.fault_runs.specs.Scripts.{StaysHonest}
 use Rattle.fault_injector.proofs.UndisturbedRun.{FollowsTo}
 use Rattle.fault_injector.proofs.judge.run_undisturbed.Given as goal
 

@@ -1,5 +1,5 @@
 use Rattle.std.proofs.Common.{take, flat_map}
-use Rattle.run_report.specs.Gathering.{Gathers}
+use Rattle.gathered_line.specs.Gathering.{Gathers}
 use Rattle.svg_text.specs.Characters.{escaped, piece_bytes}
 use Rattle.svg_text.proofs.characters.then_pieces.Given as goal
 

@@ -1,5 +1,5 @@
 use Rattle.std.proofs.Common.{take, flat_map}
-use Rattle.run_report.specs.Gathering.{Gathers}
+use Rattle.gathered_line.specs.Gathering.{Gathers}
 use Rattle.svg_text.specs.Elements.{given_text}
 use Rattle.svg_text.proofs.elements.then_attributes.Given as goal
 

@@ -1,0 +1,11 @@
+pub mod AloneRun
+pub mod Carrying
+pub mod CycleRun
+pub mod EndsRead
+pub mod Frames
+pub mod Products
+pub mod Scripting
+pub mod Shifts
+pub mod Steps
+pub mod WholeRun
+pub mod Worked

@@ -1,0 +1,74 @@
+//! Laws of runs with a fault.
+
+ghost use Rattle.fault_runs.specs.FaultRun.{OneFaultRuns};
+ghost use Rattle.fault_runs.specs.RunLaw.{RunsKept, OneFaultStands};
+ghost use Rattle.fault_runs.specs.ScriptedRun.{ScriptedRunsAreRight};
+ghost use Rattle.fault_runs.specs.Accepted.{EndsAreRead, OutputsAreRead};
+
+use crate::laws::acts_keep_the_step_law;
+use coded_machine::right_answers_stand_for_values;
+use coded_unit::words_split_in_one_way;
+use fault_script::one_fault_makes_its_difference;
+use op_graph::{
+    cells_have_two_parts, entries_keep_their_rules, operands_are_in_their_types, operands_are_there,
+};
+use signature_table::expected_residues_are_residues;
+
+/// Under one fault every operation but the fault's, in every cycle, gives what the graph gives on the
+/// values that are there; and where its act adds a number to a word, the value of the fault's operation
+/// goes by the expected residues alone, since no difference stands before it. It does nothing: it states
+/// a law.
+pub fn one_fault_runs_by_its_act()
+    ensures { OneFaultRuns }
+{
+    // No difference stands before a fault, and so none is read by its operation, and its own residue is the expected one.
+    one_fault_makes_its_difference();
+    operands_are_there();
+    words_split_in_one_way();
+    expected_residues_are_residues();
+}
+
+/// The run law: over an honest unit the answers to the calls with the changes have, up to the first stop,
+/// the values of the run under the acts and, as residues, the signature, the stamp and the difference of
+/// each operation; and so have the words of the cells at each cycle's start, with the stamp of the cycle
+/// before. One fault that fits a graph stands where the law wants it. It does nothing: it states a law.
+pub fn runs_under_acts_keep_the_run_law()
+    ensures runs { RunsKept }
+    ensures one_fault { OneFaultStands }
+{
+    operands_are_there();
+    operands_are_in_their_types();
+    entries_keep_their_rules();
+    cells_have_two_parts();
+    acts_keep_the_step_law();
+    words_split_in_one_way();
+    expected_residues_are_residues();
+    right_answers_stand_for_values();
+}
+
+/// Where the answers of a cycle keep the run law, its end as a machine reads it off them is the stop of the
+/// run under the acts; or else a refusal of the first output that isn't accepted, which is one whose
+/// difference isn't 0 modulo the constant of the code, with the residue that it has and the expected one;
+/// or else a release, whose row of outputs has the values of that run. It does nothing: it states a law.
+pub fn ends_under_acts_are_read_off_the_answers()
+    ensures ends { EndsAreRead }
+    ensures outputs { OutputsAreRead }
+{
+    operands_are_there();
+    operands_are_in_their_types();
+    entries_keep_their_rules();
+    cells_have_two_parts();
+    acts_keep_the_step_law();
+    words_split_in_one_way();
+    expected_residues_are_residues();
+    right_answers_stand_for_values();
+}
+
+/// The answers of a scripted unit around an honest one, over the calls of a run, are those that the run law
+/// speaks of: the unit has kept the word that its act takes when it comes to the fault's operation. It does
+/// nothing: it states a law.
+pub fn scripted_runs_are_right_runs()
+    ensures { ScriptedRunsAreRight }
+{
+    operands_are_there();
+}

@@ -1,6 +1,0 @@
-//! What one fault does to a run, in one word.
-#![tactic(auto)]
-
-mod verdict;
-
-pub use verdict::Verdict;
