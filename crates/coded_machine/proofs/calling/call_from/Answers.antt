@@ -15,7 +15,8 @@ pub correction-requires : goal.correction-requires
 correction-requires c =
     let g = c.args.graph.now in
     let t = c.args.table.now in
-    omega (arith, slice_get_within g.operations c.args.i c.args.op.now c.requires.here, ap length c.requires.table.1, length-corrections g.profile t.seed t.step (cells g) 0 g.operations)
+    let within = slice_get_within g.operations c.args.i c.args.op.now c.requires.here in
+    omega (arith, within, ap length c.requires.table.1, length-corrections g.profile t.seed t.step (cells g) 0 g.operations)
 
 pub returns-clause-call : goal.returns-clause-call
 returns-clause-call c =
