@@ -13,13 +13,24 @@ pub trait Code {
     const DISTANCE: u128;
 
     /// The value part and the residue of a word.
-    fn split(w: i128) -> (i128, i128) {
-        (w.div_euclid(Self::A), w.rem_euclid(Self::A))
+    fn split(w: i128) -> (i128, i64) {
+        (w.div_euclid(Self::A), w.rem_euclid(Self::A) as i64)
+    }
+
+    /// The residue of an answer, from those of the operands.
+    fn residue(factors: &[i64], residues: [i64; 3], correction: i64, stamp: i64) -> i64 {
+        let mut sum = correction as i128;
+        let mut share = 1;
+        for (residue, factor) in residues.iter().zip(factors) {
+            sum += *factor as i128 * *residue as i128;
+            share -= factor;
+        }
+        Self::split(sum + share as i128 * stamp as i128).1
     }
 
     /// The signature of an operation.
-    fn signature(i: usize) -> i128 {
-        ((SEED + Self::DISTANCE * i as u128) % Self::N) as i128
+    fn signature(i: usize) -> i64 {
+        ((SEED + Self::DISTANCE * i as u128) % Self::N) as i64
     }
 }
 
@@ -40,14 +51,25 @@ impl Code for NarrowShort {
     const N: u128 = Narrow::N;
     const DISTANCE: u128 = Narrow::DISTANCE;
 
-    fn split(w: i128) -> (i128, i128) {
+    #[inline(always)]
+    fn split(w: i128) -> (i128, i64) {
         match i64::try_from(w) {
             Ok(w) => {
                 let a = Self::A as i64;
-                (w.div_euclid(a) as i128, w.rem_euclid(a) as i128)
+                (w.div_euclid(a) as i128, w.rem_euclid(a))
             }
             Err(_) => Narrow::split(w),
         }
+    }
+
+    fn residue(factors: &[i64], residues: [i64; 3], correction: i64, stamp: i64) -> i64 {
+        let mut sum = correction;
+        let mut share = 1;
+        for (residue, factor) in residues.iter().zip(factors) {
+            sum += factor * residue;
+            share -= factor;
+        }
+        (sum + share * stamp).rem_euclid(Self::A as i64)
     }
 }
 
@@ -89,13 +111,8 @@ pub struct Op {
     pub imm: i64,
 }
 
-/// The number of operands.
-pub fn operands(kind: Kind) -> usize {
-    multipliers(kind).len()
-}
-
 /// How the operands' residues enter the answer's.
-pub fn multipliers(kind: Kind) -> &'static [i128] {
+pub fn multipliers(kind: Kind) -> &'static [i64] {
     match kind {
         Kind::Input | Kind::Const => &[],
         Kind::Load | Kind::Store | Kind::Out | Kind::Conv => &[1],
@@ -132,6 +149,7 @@ pub fn fits(ty: Ty, v: i128) -> bool {
 }
 
 /// The value for operands in their types, where no divisor is 0.
+#[inline(always)]
 pub fn value(kind: Kind, imm: i64, v: [i128; 3]) -> i128 {
     match kind {
         Kind::Input | Kind::Const => imm as i128,
@@ -158,19 +176,20 @@ pub fn value(kind: Kind, imm: i64, v: [i128; 3]) -> i128 {
     }
 }
 
-/// The word of an operation, or none where it stops.
+/// The word of an operation, or none where it stops. `read` gives the word of an operand.
+#[inline(always)]
 pub fn word<C: Code>(
     op: &Op,
-    words: [i128; 3],
+    read: impl Fn(usize) -> i128,
     imm: i64,
-    correction: i128,
-    stamp: i128,
+    correction: i64,
+    stamp: i64,
 ) -> Option<i128> {
-    let parts = words.map(C::split);
-    let values = parts.map(|part| part.0);
     let factors = multipliers(op.kind);
-    for (j, v) in values.iter().enumerate().take(factors.len()) {
-        if !fits(operand_type(op.kind, j, op.from), *v) {
+    let (mut values, mut residues) = ([0; 3], [0; 3]);
+    for j in 0..factors.len() {
+        (values[j], residues[j]) = C::split(read(j));
+        if !fits(operand_type(op.kind, j, op.from), values[j]) {
             return None;
         }
     }
@@ -181,13 +200,7 @@ pub fn word<C: Code>(
     if !fits(op.ty, v) {
         return None;
     }
-    let mut residue = correction;
-    let mut share = 1;
-    for (part, factor) in parts.iter().zip(factors) {
-        residue += factor * part.1;
-        share -= factor;
-    }
-    Some(C::A * v + C::split(residue + share * stamp).1)
+    Some(C::A * v + C::residue(factors, residues, correction, stamp) as i128)
 }
 
 pub fn op(kind: Kind, from: Ty, ty: Ty, operands: [usize; 3], imm: i64) -> Op {
@@ -201,18 +214,18 @@ pub fn op(kind: Kind, from: Ty, ty: Ty, operands: [usize; 3], imm: i64) -> Op {
 }
 
 /// The corrections of operations, where the LOAD of cell `imm` reads the STORE `stores[imm]`.
-pub fn corrections<C: Code>(ops: &[Op], stores: &[usize]) -> Vec<i128> {
+pub fn corrections<C: Code>(ops: &[Op], stores: &[usize]) -> Vec<i64> {
     let mut all = Vec::new();
     for (k, op) in ops.iter().enumerate() {
-        let mut sum = C::signature(k);
+        let mut sum = C::signature(k) as i128;
         for (factor, n) in multipliers(op.kind).iter().zip(op.operands) {
-            sum -= factor
-                * match op.kind {
-                    Kind::Load => C::signature(stores[op.imm as usize]) - STEP as i128,
-                    _ => C::signature(n),
-                };
+            let signature = match op.kind {
+                Kind::Load => C::signature(stores[op.imm as usize]) - STEP as i64,
+                _ => C::signature(n),
+            };
+            sum -= *factor as i128 * signature as i128;
         }
-        all.push(sum.rem_euclid(C::A));
+        all.push(sum.rem_euclid(C::A) as i64);
     }
     all
 }

@@ -9,8 +9,8 @@
 mod code;
 
 use code::{
-    Code, Kind, Narrow, NarrowShort, Op, STEP, Ty, corrections, fits, op, operand_type, operands,
-    value, word,
+    Code, Kind, Narrow, NarrowShort, Op, STEP, Ty, corrections, fits, multipliers, op,
+    operand_type, value, word,
 };
 use std::io::{self, Write};
 use std::marker::PhantomData;
@@ -65,7 +65,7 @@ fn operation(line: &str) -> Option<Op> {
     let (from, to) = (ty(words.next()?)?, ty(words.next()?)?);
     let mut read = [0; 3];
     if kind != Kind::Load {
-        for operand in read.iter_mut().take(operands(kind)) {
+        for operand in read.iter_mut().take(multipliers(kind).len()) {
             *operand = words.next()?.parse().ok()?;
         }
     }
@@ -144,7 +144,7 @@ trait Carries {
 /// A machine on coded words.
 struct Coded<C: Code> {
     code: PhantomData<C>,
-    corrections: Vec<i128>,
+    corrections: Vec<i64>,
     cells: Vec<i128>,
     words: Vec<i128>,
 }
@@ -157,31 +157,27 @@ impl<C: Code> Coded<C> {
             cells: graph
                 .stores
                 .iter()
-                .map(|store| C::signature(*store))
+                .map(|store| C::signature(*store) as i128)
                 .collect(),
-            words: Vec::with_capacity(graph.ops.len()),
+            words: vec![0; graph.ops.len()],
         }
     }
 }
 
 impl<C: Code> Carries for Coded<C> {
     fn carry(&mut self, graph: &Graph, row: &[i64], cycle: usize) -> bool {
-        let stamp = (STEP as usize * (cycle + 1)) as i128;
-        self.words.clear();
-        for (op, correction) in graph.ops.iter().zip(&self.corrections) {
-            let mut read = [0; 3];
-            for (j, read) in read.iter_mut().enumerate().take(operands(op.kind)) {
-                *read = match op.kind {
-                    Kind::Load => self.cells[op.imm as usize],
-                    _ => self.words[op.operands[j]],
-                };
-            }
+        let stamp = (STEP as usize * (cycle + 1)) as i64;
+        for (k, (op, correction)) in graph.ops.iter().zip(&self.corrections).enumerate() {
+            let read = |j: usize| match op.kind {
+                Kind::Load => self.cells[op.imm as usize],
+                _ => self.words[op.operands[j]],
+            };
             let imm = match op.kind {
                 Kind::Input => row[op.imm as usize],
                 _ => op.imm,
             };
             match word::<C>(op, read, imm, *correction, stamp) {
-                Some(w) => self.words.push(w),
+                Some(w) => self.words[k] = w,
                 None => return false,
             }
         }
@@ -212,7 +208,7 @@ impl Carries for Uncoded {
         self.values.clear();
         for op in &graph.ops {
             let mut read = [0; 3];
-            for (j, read) in read.iter_mut().enumerate().take(operands(op.kind)) {
+            for (j, read) in read.iter_mut().enumerate().take(multipliers(op.kind).len()) {
                 *read = match op.kind {
                     Kind::Load => self.cells[op.imm as usize],
                     _ => self.values[op.operands[j]],

@@ -5,7 +5,7 @@
 
 mod code;
 
-use code::{Code, Kind, Narrow, NarrowShort, Op, STEP, Ty, corrections, op, operands, word};
+use code::{Code, Kind, Narrow, NarrowShort, Op, STEP, Ty, corrections, op, word};
 use std::env;
 
 /// The wide code, whose words are split by a division of 128 bits.
@@ -25,17 +25,17 @@ impl Code for WideShifted {
     const N: u128 = Wide::N;
     const DISTANCE: u128 = Wide::DISTANCE;
 
-    fn split(w: i128) -> (i128, i128) {
+    fn split(w: i128) -> (i128, i64) {
         let (high, low) = (w >> 61, w & Self::A);
         let sum = high + low;
         let (more, rest) = (sum >> 61, sum & Self::A);
         let (value, residue) = (high + more, more + rest);
         if residue < 0 {
-            (value - 1, residue + Self::A)
+            (value - 1, (residue + Self::A) as i64)
         } else if residue >= Self::A {
-            (value + 1, residue - Self::A)
+            (value + 1, (residue - Self::A) as i64)
         } else {
-            (value, residue)
+            (value, residue as i64)
         }
     }
 }
@@ -89,21 +89,18 @@ fn graph() -> Vec<Op> {
 /// The words of one cycle, up to the first operation that stops.
 fn carry<C: Code>(
     ops: &[Op],
-    corrections: &[i128],
+    corrections: &[i64],
     cell: i128,
     input: i64,
-    stamp: i128,
+    stamp: i64,
     words: &mut Vec<i128>,
 ) {
     words.clear();
     for (op, correction) in ops.iter().zip(corrections) {
-        let mut read = [0; 3];
-        for j in 0..operands(op.kind) {
-            read[j] = match op.kind {
-                Kind::Load => cell,
-                _ => words[op.operands[j]],
-            };
-        }
+        let read = |j: usize| match op.kind {
+            Kind::Load => cell,
+            _ => words[op.operands[j]],
+        };
         let imm = if op.kind == Kind::Input {
             input
         } else {
@@ -121,12 +118,12 @@ fn run<C: Code>(cycles: u32) -> (u32, i64) {
     let ops = graph();
     let (store, out) = (ops.len() - 2, ops.len() - 1);
     let corrections = corrections::<C>(&ops, &[store]);
-    let mut cell = C::A + C::signature(store);
+    let mut cell = C::A + C::signature(store) as i128;
     let mut words = Vec::with_capacity(ops.len());
     let (mut released, mut sum) = (0, 0i64);
     for cycle in 0..cycles {
         let input = cycle as i64 * 7919 % 2001 - 1000;
-        let stamp = (STEP * (cycle + 1)) as i128;
+        let stamp = (STEP * (cycle + 1)) as i64;
         carry::<C>(&ops, &corrections, cell, input, stamp, &mut words);
         if words.len() < ops.len() {
             break;

@@ -67,7 +67,7 @@ all_words k (answer.Range ∷ answers) e = absurd cc
 all_words k (answer.DivZero ∷ answers) e = absurd cc
 all_words k (answer.Operand ∷ answers) e = absurd cc
 
-no_stop : (k : ℕ) (answers : List Answer) → AllWords answers → first_stop k answers ≡ None
+pub no_stop : (k : ℕ) (answers : List Answer) → AllWords answers → first_stop k answers ≡ None
 no_stop k [] w = refl
 no_stop k (answer.Word v ∷ answers) w = no_stop (suc k) answers w.1
 no_stop k (answer.Range ∷ answers) w = let h = w.0 in cc

@@ -1,5 +1,5 @@
 -- Laws: what holds of cycles that a caller carries, and of runs over rows.
-use Rattle.std.specs.Prelude.{◌≡◌, ℕ, ◌+◌, ◌-◌, ◌^◌, ◌<◌, ◌≤◌, ℤ, List, Option, [], ◌∷◌, ◌++◌, length, map, None, false}
+use Rattle.std.specs.Prelude.{◌≡◌, ℕ, ◌-◌, ◌^◌, ◌<◌, ◌≤◌, ℤ, List, Option, [], ◌∷◌, ◌++◌, length, map, None, false}
 use Rattle.vcp_base.specs.Limits.{most_cycles}
 use Rattle.coded_unit.specs.declared.call.Call.{Call}
 use Rattle.coded_unit.specs.declared.call.Answer.{Answer}

@@ -145,6 +145,18 @@ pub fn operation_call(graph: &Graph, table: &Table, i: u32, cycle: u32, operands
     ensures asked { Asked result }
 {
     let op = graph.operation(i);
+    call_from(graph, table, &op, i, cycle, operands)
+}
+
+/// The same for operation `i` itself.
+#[inline(always)]
+fn call_from(graph: &Graph, table: &Table, op: &Op, i: u32, cycle: u32, operands: &Operands) -> Call
+    requires here { slice_get graph.now.operations i ≡ Some op.now }
+    requires table { IsTableOf table.now graph.now }
+    requires cycle { cycle < most_cycles }
+    ensures call { result ≡ call_of_operation graph.now table.now cycle i op.now operands.now }
+    ensures asked { Asked result }
+{
     Call {
         profile: graph.profile(),
         op: i,
@@ -155,7 +167,7 @@ pub fn operation_call(graph: &Graph, table: &Table, i: u32, cycle: u32, operands
         a: operands.a,
         b: operands.b,
         c: operands.c,
-        imm: own_number(&op, operands.input),
+        imm: own_number(op, operands.input),
         corr: table.correction(i),
         stamp: table.step() as u32 * (cycle + 1),
     }
@@ -178,9 +190,10 @@ pub(crate) fn call_after(setting: &Setting<'_>, op: &Op, answers: &[Answer]) -> 
         c: operand(setting, op, answers, 2, op.c),
         input: own_input(setting.row, op),
     };
-    operation_call(
+    call_from(
         setting.graph,
         setting.table,
+        op,
         answers.len() as u32,
         setting.cycle,
         &operands,

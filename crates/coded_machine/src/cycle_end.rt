@@ -4,7 +4,7 @@ ghost use Rattle.std.specs.Prelude.{◌≡◌, ◌≢◌, ◌<◌, ◌≤◌, tr
 ghost use Rattle.vcp_base.specs.Limits.{most_operations, most_cycles};
 ghost use Rattle.vcp_base.specs.Types.{fits as fits_of};
 ghost use Rattle.coded_unit.specs.Words.{modulo, value_part};
-ghost use Rattle.coded_machine.specs.Calls.{word_at as word_at_of};
+ghost use Rattle.coded_machine.specs.Calls.{word_at as word_at_of, AllWords};
 ghost use Rattle.coded_machine.specs.CycleEnds.{stop_of as stop_of_answer, first_stop as first_stop_of, first_outside as first_outside_of};
 ghost use Rattle.coded_machine.specs.CycleEnds.{first_refused as first_refused_of, end_of};
 ghost use Rattle.coded_machine.specs.declared.cycle_end.CycleEnd.TheVariants.{Released};
@@ -36,15 +36,22 @@ pub enum CycleEnd {
     },
 }
 
-/// How a cycle with these answers ends.
-pub(crate) fn cycle_end(graph: &Graph, table: &Table, cycle: u32, answers: &[Answer]) -> CycleEnd
+/// How a cycle with these answers ends. Where it isn't halted all are words.
+pub(crate) fn cycle_end(
+    graph: &Graph,
+    table: &Table,
+    cycle: u32,
+    answers: &[Answer],
+    halted: bool,
+) -> CycleEnd
     requires few { length answers.now ≤ most_operations }
+    requires words { halted ≡ false → AllWords answers.now }
     requires graph { IsGraph graph.now }
     requires table { IsTableOf table.now graph.now }
     requires cycle { cycle < most_cycles }
     ensures { result ≡ end_of graph.now table.now cycle answers.now }
 {
-    if let Some(end) = first_stop(answers) {
+    if let Some(end) = stop_in(answers, halted) {
         return end;
     }
     if let Some(end) = first_outside(graph, answers) {
@@ -74,6 +81,15 @@ fn stop_of(answer: &Answer) -> Option<StopKind>
         Answer::DivZero => Some(StopKind::DivZero),
         Answer::Operand => Some(StopKind::Operand),
     }
+}
+
+/// The first answer that is a stop, which is looked for only in a cycle that is halted.
+fn stop_in(answers: &[Answer], halted: bool) -> Option<CycleEnd>
+    requires few { length answers.now ≤ most_operations }
+    requires words { halted ≡ false → AllWords answers.now }
+    ensures { result ≡ first_stop_of 0 answers.now }
+{
+    if halted { first_stop(answers) } else { None }
 }
 
 /// The first answer that is a stop.

@@ -195,8 +195,8 @@ impl<'a> Machine<'a> {
         ensures { self.new ≡ with_answer self.old answer }
     {
         keep_given(self.under_way, &mut self.answers);
-        self.halted = !is_word(&answer);
         append(&mut self.answers, &answer);
+        self.halted = !is_word(&answer);
         self.under_way = true;
     }
 
@@ -241,7 +241,7 @@ impl<'a> Machine<'a> {
         ensures out { out.new ≡ row_after self.old result out.old }
     {
         let given = given(self.under_way, &self.answers);
-        let end = cycle_end(self.graph, self.table, self.cycles, given);
+        let end = cycle_end(self.graph, self.table, self.cycles, given, self.halted);
         if is_released(&end) {
             self.release(out);
         } else {

@@ -1,6 +1,6 @@
 //! The right answer to a call.
 
-ghost use Rattle.std.specs.Prelude.{◌≡◌, ◌<◌, ◌^◌, ℤ, pos, negsuc, ◌*ℤ◌, ◌+ℤ◌, ◌≤ℤ◌, IfSome};
+ghost use Rattle.std.specs.Prelude.{◌≡◌, ◌<◌, ◌^◌, ℤ, pos, negsuc, ◌*ℤ◌, ◌+ℤ◌, ◌≤ℤ◌};
 ghost use Rattle.vcp_base.specs.Code.{modulus as modulus_of};
 ghost use Rattle.coded_unit.specs.Asked.{Asked};
 ghost use Rattle.coded_unit.specs.Words.{modulo, value_part, Short, Small};
@@ -26,23 +26,11 @@ pub fn answer(call: &Call) -> Answer
     right(call)
 }
 
-/// The right answer to a call whose correction is a residue of its code.
+/// The right answer to a call whose correction is a residue of its code. It branches once on the code.
 #[inline(always)]
 fn right(call: &Call) -> Answer
     requires { call.now.corr < modulus_of call.now.profile }
     ensures { result ≡ Right call.now }
-{
-    match short_answer(call) {
-        Some(given) => given,
-        None => long_answer(call),
-    }
-}
-
-/// The right answer, where the operands' values are found in 64 bits. It branches once on the code.
-#[inline(always)]
-fn short_answer(call: &Call) -> Option<Answer>
-    requires { call.now.corr < modulus_of call.now.profile }
-    ensures { IfSome result (λ given. given ≡ Right call.now) }
 {
     match call.profile {
         Profile::Narrow => narrow_answer(call),
@@ -50,40 +38,42 @@ fn short_answer(call: &Call) -> Option<Answer>
     }
 }
 
-/// The same for a call in the narrow code.
-fn narrow_answer(call: &Call) -> Option<Answer>
+/// The right answer to a call in the narrow code: in 64 bits where the operands' values are found there.
+#[inline(always)]
+fn narrow_answer(call: &Call) -> Answer
     requires code { call.now.profile ≡ Profile.Narrow }
     requires corr { call.now.corr < modulus_of Profile.Narrow }
-    ensures { IfSome result (λ given. given ≡ Right call.now) }
+    ensures { result ≡ Right call.now }
 {
     let Some(first) = call.a.short_split(Profile::Narrow) else {
-        return None;
+        return answer_of_copy(call);
     };
     let Some(second) = call.b.short_split(Profile::Narrow) else {
-        return None;
+        return answer_of_copy(call);
     };
     let Some(third) = call.c.short_split(Profile::Narrow) else {
-        return None;
+        return answer_of_copy(call);
     };
-    Some(answer_from(Profile::Narrow, call, first, second, third))
+    answer_from(Profile::Narrow, call, first, second, third)
 }
 
 /// The same for a call in the wide code.
-fn wide_answer(call: &Call) -> Option<Answer>
+#[inline(always)]
+fn wide_answer(call: &Call) -> Answer
     requires code { call.now.profile ≡ Profile.Wide }
     requires corr { call.now.corr < modulus_of Profile.Wide }
-    ensures { IfSome result (λ given. given ≡ Right call.now) }
+    ensures { result ≡ Right call.now }
 {
     let Some(first) = call.a.short_split(Profile::Wide) else {
-        return None;
+        return answer_of_copy(call);
     };
     let Some(second) = call.b.short_split(Profile::Wide) else {
-        return None;
+        return answer_of_copy(call);
     };
     let Some(third) = call.c.short_split(Profile::Wide) else {
-        return None;
+        return answer_of_copy(call);
     };
-    Some(answer_from(Profile::Wide, call, first, second, third))
+    answer_from(Profile::Wide, call, first, second, third)
 }
 
 /// The right answer, from the parts of the operands.
@@ -145,7 +135,19 @@ fn told(profile: Profile, outcome: Result<i64, StopKind>, residue: Residue) -> A
     }
 }
 
+/// The right answer for operands of any values, found from a copy of the call, so that where the answer is found in 64 bits the
+/// call is never written to memory.
+#[inline(always)]
+fn answer_of_copy(call: &Call) -> Answer
+    requires { call.now.corr < modulus_of call.now.profile }
+    ensures { result ≡ Right call.now }
+{
+    let copy = *call;
+    long_answer(&copy)
+}
+
 /// The right answer for operands of any values.
+#[cold]
 fn long_answer(call: &Call) -> Answer
     requires { call.now.corr < modulus_of call.now.profile }
     ensures { result ≡ Right call.now }

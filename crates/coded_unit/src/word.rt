@@ -160,7 +160,10 @@ fn narrow_split(code: i64) -> ShortParts
 {
     let (high, low) = short_halves(code);
     let rest = short_plus(high, low);
-    if is_near(rest) {
+    // Mostly no step is needed, and of the parts below nothing is left to do here.
+    if is_rest(rest) {
+        near_split(code, high, low, rest)
+    } else if is_near(rest) {
         near_split(code, high, low, rest)
     } else {
         far_split(code)
@@ -195,6 +198,15 @@ fn short_plus(a: i64, b: i64) -> i64
     ensures { result ≡ a +ℤ b }
 {
     a + b
+}
+
+/// Whether an integer is a residue: from 0 and below A.
+#[inline(always)]
+fn is_rest(rest: i64) -> bool
+    ensures low { result ≡ true → negsuc 2147483646 ≤ℤ rest }
+    ensures high { result ≡ true → rest <ℤ pos 4294967294 }
+{
+    0 <= rest && rest < NARROW
 }
 
 /// Whether an integer is between -A and 2*A.
@@ -423,8 +435,20 @@ fn wide_split(code: i128, high: i64, low: i64) -> ShortParts
     ensures below { result.residue < 2305843009213693951 }
 {
     let sum = middle_plus(high, low);
+    if is_wide_rest(sum) {
+        return wide_near_split(code, high, sum);
+    }
     let (more, rest) = middle_halves(sum);
     wide_near_split(code, middle_plus(high, more), middle_plus(more, rest))
+}
+
+/// Whether an integer is a residue: from 0 and below A.
+#[inline(always)]
+fn is_wide_rest(rest: i64) -> bool
+    ensures low { result ≡ true → negsuc 2305843009213693950 ≤ℤ rest }
+    ensures high { result ≡ true → rest <ℤ pos 4611686018427387902 }
+{
+    0 <= rest && rest < SHORT_WIDE
 }
 
 /// The sum of two integers far from the ends of 64 bits.

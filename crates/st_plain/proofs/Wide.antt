@@ -4,7 +4,6 @@ use Rattle.std.proofs.Common.{Result}
 use Rattle.std.specs.Prelude.{int_div, int_rem, unsigned_abs, neg_ℤ, false, cond}
 use Rattle.std.proofs.Math.Facts.{sfits_widen}
 use Rattle.std.proofs.lemmas.Int.{to_z-of_z, fits_signed_mul, fits_signed_from_abs}
-use Rattle.std.specs.Int.Signed.{mag, mag_rem}
 use mir.Syntax.{w128}
 use Rattle.vcp_base.specs.Kinds.{same}
 use Rattle.vcp_base.specs.declared.ty.Ty.{Ty}
@@ -50,13 +49,11 @@ quotient-is a b f g =
     ap (λ x. to_z w128 (of_z w128 x)) (λ i. int_div (wide-is a f i) (wide-is b g i))
     ∙ to_z-of_z w128 (int_div a b) (fits_signed_from_abs w128 (int_div a b) (quotient-small a b f))
 
-remainder-small : (a b : ℤ) → SFits w64 a → mag (int_rem a b) < 2 ^ 127
-remainder-small a b f = omega (arith, mag_rem a b, f.sfits)
-
-pub remainder-is : (a b : ℤ) → SFits w64 a → SFits w64 b → to_z w128 (of_z w128 (int_rem (wide a) (wide b))) ≡ int_rem a b
-remainder-is a b f g =
-    ap (λ x. to_z w128 (of_z w128 x)) (λ i. int_rem (wide-is a f i) (wide-is b g i))
-    ∙ to_z-of_z w128 (int_rem a b) (record { sfits = remainder-small a b f })
+pub rest-is : (a b r : ℤ) → SFits w64 a → SFits w64 b
+    → (same (to_z w64 (of_z w64 b)) (pos 0) ≡ false → r ≡ int_rem (to_z w64 (of_z w64 a)) (to_z w64 (of_z w64 b)))
+    → same b (pos 0) ≡ false → r ≡ int_rem a b
+rest-is a b r f g h k =
+    h (ap (λ x. same x (pos 0)) (to_z-of_z w64 b g) ∙ k) ∙ (λ i. int_rem (to_z-of_z w64 a f i) (to_z-of_z w64 b g i))
 
 pub not-zero : (b : ℤ) → (of_z w64 b ≡ 0 → ⊥) → same b (pos 0) ≡ false
 not-zero (pos zero) h = absurd (h refl)

@@ -21,10 +21,10 @@ pub fn evaluate(e: &TExpr, values: &Row) -> Result<i64, Stop>
     match e {
         TExpr::Lit { value, .. } => Ok(*value),
         TExpr::Get { slot, .. } => Ok(values.at(*slot as usize)),
-        TExpr::Widen { arg, .. } => evaluate(arg, values),
+        TExpr::Widen { arg, .. } => operand(arg, values),
         TExpr::Unary { op, ty, arg, spot } => {
             values_fit();
-            let a = evaluate(arg, values)?;
+            let a = operand(arg, values)?;
             sign(*op, *ty, *spot, a)
         }
         TExpr::Binary {
@@ -34,8 +34,8 @@ pub fn evaluate(e: &TExpr, values: &Row) -> Result<i64, Stop>
             right,
             spot,
         } => {
-            let a = evaluate(left, values)?;
-            let b = evaluate(right, values)?;
+            let a = operand(left, values)?;
+            let b = operand(right, values)?;
             operate(*op, *ty, *spot, a, b)
         }
         TExpr::Call {
@@ -54,6 +54,20 @@ pub fn evaluate(e: &TExpr, values: &Row) -> Result<i64, Stop>
     }
 }
 
+/// The value of an operand, or its stop. That of a literal or a variable takes no call.
+#[cycle(expr)]
+#[inline(always)]
+fn operand(e: &TExpr, values: &Row) -> Result<i64, Stop>
+    requires { SoundExpr (texpr_tree e.now) values.now }
+    ensures { outside result ≡ value_of [] (texpr_tree e.now) values.now }
+{
+    match e {
+        TExpr::Lit { value, .. } => Ok(*value),
+        TExpr::Get { slot, .. } => Ok(values.at(*slot as usize)),
+        _ => evaluate(e, values),
+    }
+}
+
 /// The value of the argument at a place, and 0 where there is none.
 #[cycle(expr)]
 fn argument(args: &[TExpr], i: usize, values: &Row) -> Result<i64, Stop>
@@ -61,7 +75,7 @@ fn argument(args: &[TExpr], i: usize, values: &Row) -> Result<i64, Stop>
     ensures { outside result ≡ argument_at (texpr_trees args.now) i values.now }
 {
     if i < args.len() {
-        evaluate(&args[i], values)
+        operand(&args[i], values)
     } else {
         Ok(0)
     }

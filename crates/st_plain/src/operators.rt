@@ -1,7 +1,7 @@
 //! The values of operators and functions.
 
-ghost use Rattle.std.specs.Prelude.{◌≡◌, true, [], ◌∷◌};
-ghost use Rattle.vcp_base.specs.Kinds.{truth as truth_of};
+ghost use Rattle.std.specs.Prelude.{◌≡◌, true, false, [], ◌∷◌, pos, int_rem};
+ghost use Rattle.vcp_base.specs.Kinds.{same, truth as truth_of};
 ghost use Rattle.vcp_base.specs.Types.{fits as fits_of};
 ghost use Rattle.vcp_typed.specs.Meaning.{in_range as in_range_of, operate as operate_of, sign as sign_of, apply as apply_of};
 ghost use Rattle.st_tree.specs.declared.expr.UnOp.TheVariants as un;
@@ -64,7 +64,18 @@ fn remainder(ty: Ty, spot: Spot, a: i64, b: i64) -> Result<i64, Stop>
     if b == 0 {
         return Err(division_by_zero(spot));
     }
-    in_range(ty, spot, a as i128 % b as i128)
+    in_range(ty, spot, rest(a, b))
+}
+
+/// The remainder of that division, on 64 bits. By -1 nothing is left, and the quotient may have more bits.
+fn rest(a: i64, b: i64) -> i128
+    ensures { same b (pos 0) ≡ false → result ≡ int_rem a b }
+{
+    if b == 0 || b == -1 {
+        0
+    } else {
+        (a % b) as i128
+    }
 }
 
 /// The value of an operator between operands of the type. In `i128` no operator overflows.

@@ -1,51 +1,9 @@
-use Rattle.std.proofs.Common.{ap, subst, sym, ◌<◌, ◌≤◌, ◌*◌, ◌+◌, ◌∙◌, ◌≡◌, refl, Some, slice_get, arith, length, to_z, of_z, to_z-of_z, w64, zero-add}
-use Rattle.std.specs.Prelude.{unsigned_abs}
-use Rattle.std.proofs.Math.Nat.{mul-le-mul}
-use Rattle.std.proofs.lemmas.Option.{get_or_from_slice_get}
-use Rattle.vcp_base.specs.Code.{modulus}
-use Rattle.vcp_base.specs.Limits.{most_cycles, most_step}
-use Rattle.op_graph.specs.Rules.{Admitted}
-use Rattle.op_graph.specs.Lists.{cells}
-use Rattle.signature_table.specs.Signatures.{correction, store_of}
-use Rattle.coded_machine.specs.Calls.{own_number}
-use Rattle.coded_machine.proofs.Places.{length-corrections, correction_at}
+use Rattle.std.proofs.Common.{ap, sym, ◌∙◌, ◌≡◌, Some}
+use Rattle.coded_machine.specs.Calls.{operation_call}
 use Rattle.coded_machine.proofs.calling.operation_call.Goals as goal
-
-pub correction-requires : goal.correction-requires
-correction-requires c =
-    let g = c.args.graph.now in
-    let t = c.args.table.now in
-    omega (arith, c.requires.operation, ap length c.requires.table.1, length-corrections g.profile t.seed t.step (cells g) 0 g.operations)
 
 pub returns-clause-call : goal.returns-clause-call
 returns-clause-call c = λ op there.
-    let g = c.args.graph.now in
-    let t = c.args.table.now in
-    let i = c.args.i in
     let one : Some c.operation-op.result ≡ Some op = sym c.operation-op.ensures ∙ there in
     let same : c.operation-op.result ≡ op = cc in
-    let store = store_of (cells g) (unsigned_abs op.imm) in
-    let corr : c.correction.result ≡ correction g.profile t.seed t.step i op store =
-    correction_at g.profile t.seed t.step (cells g) 0 g.operations i op c.correction.result there
-    (subst (λ xs. slice_get xs i ≡ Some c.correction.result) c.requires.table.1 c.correction.ensures.value)
-    ∙ ap (λ j. correction g.profile t.seed t.step j op store) (zero-add i) in
-    let imm : to_z w64 (of_z w64 c.own_number.result) ≡ own_number op.kind op.imm c.args.operands.now.input = grind (arith, to_z-of_z) in
-    rw (c.profile.ensures.value, same, corr, c.step.ensures.value, imm) refl
-
-pub returns-clause-asked : goal.returns-clause-asked
-returns-clause-asked c =
-    let g = c.args.graph.now in
-    let op = c.operation-op.result in
-    let here : Admitted g.profile op =
-    subst (Admitted g.profile) (get_or_from_slice_get g.operations c.args.i op op c.operation-op.ensures)
-    (c.profile.ensures.types.operations c.args.i op c.requires.operation) in
-    let types : Admitted c.profile.result op = subst (λ q. Admitted q op) (sym c.profile.ensures.value) here in
-    let grown : c.args.cycle + 1 ≤ most_cycles = omega (arith, c.requires.cycle) in
-    let short : c.step.result ≤ most_step = omega (arith, c.step.ensures.value, c.step.ensures.ranges.step_to) in
-    let most : c.step.result * (c.args.cycle + 1) ≤ most_step * most_cycles = mul-le-mul short grown in
-    record {
-      corr = subst (λ q. c.correction.result < modulus q) (c.requires.table.0 ∙ sym c.profile.ensures.value) c.correction.ensures.below;
-      stamp = omega (arith, most);
-      from = types.0;
-      ty = types.1;
-    }
+    c.call_from.ensures.call ∙ ap (λ o. operation_call c.args.graph.now c.args.table.now c.args.cycle c.args.i o c.args.operands.now) same

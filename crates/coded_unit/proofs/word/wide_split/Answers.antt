@@ -4,3 +4,6 @@ use Rattle.coded_unit.proofs.word.wide_split.Goals as goal
 
 pub wide_near_split-requires-clause-whole : goal.wide_near_split-requires-clause-whole
 wide_near_split-requires-clause-whole c = omega (arith, ints)
+
+pub wide_near_split-requires-2-clause-whole : goal.wide_near_split-requires-2-clause-whole
+wide_near_split-requires-2-clause-whole c = omega (arith, ints)

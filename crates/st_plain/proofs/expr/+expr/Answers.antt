@@ -10,15 +10,15 @@ use Rattle.st_plain.proofs.Exprs.{argument-lighter, tree-of-call, apply-at, slot
 use Rattle.st_plain.proofs.Exprs.{call-sound, first-stops, second-stops, third-stops, none-stops}
 use Rattle.st_plain.proofs.expr.+expr.Goals as goal
 
-pub argument-evaluate-requires : goal.argument-evaluate-requires
-argument-evaluate-requires t c = (
+pub argument-operand-requires : goal.argument-operand-requires
+argument-operand-requires t c = (
   omega (arith, argument-lighter c.args.args.now c.args.i c.index-args-i.result c.if-i-args.true c.index-args-i.is),
   argument-sound c.args.args.now c.args.i c.index-args-i.result c.args.values.now c.if-i-args.true c.index-args-i.is c.requires,
 )
 
 pub argument-returns-then-i-args : goal.argument-returns-then-i-args
 argument-returns-then-i-args t c =
-    c.evaluate.ensures ∙ sym (argument-is c.args.args.now c.args.i c.index-args-i.result c.args.values.now c.if-i-args.true c.index-args-i.is)
+    c.operand.ensures ∙ sym (argument-is c.args.args.now c.args.i c.index-args-i.result c.args.values.now c.if-i-args.true c.index-args-i.is)
 
 pub argument-returns-else-i-args : goal.argument-returns-else-i-args
 argument-returns-else-i-args t c = sym (argument-none c.args.args.now c.args.i c.args.values.now c.if-i-args.false)
@@ -28,6 +28,15 @@ evaluate-at-requires t c = slot-inside (texpr_tree c.args.e.now) c.in-Get.slot c
 
 pub evaluate-returns-in-Get : goal.evaluate-returns-in-Get
 evaluate-returns-in-Get t c =
+    let f : SFits w64 c.at.result = search rules in
+    ap (λ x. Ok x) (to_z-of_z w64 c.at.result f)
+    ∙ value-of-slot (texpr_tree c.args.e.now) c.in-Get.slot c.in-Get.ty c.args.values.now _ (ap texpr_tree c.in-Get.is) c.at.ensures
+
+pub operand-at-requires : goal.operand-at-requires
+operand-at-requires t c = slot-inside (texpr_tree c.args.e.now) c.in-Get.slot c.in-Get.ty c.args.values.now (ap texpr_tree c.in-Get.is) c.requires
+
+pub operand-returns-in-Get : goal.operand-returns-in-Get
+operand-returns-in-Get t c =
     let f : SFits w64 c.at.result = search rules in
     ap (λ x. Ok x) (to_z-of_z w64 c.at.result f)
     ∙ value-of-slot (texpr_tree c.args.e.now) c.in-Get.slot c.in-Get.ty c.args.values.now _ (ap texpr_tree c.in-Get.is) c.at.ensures

@@ -1,8 +1,28 @@
-use Rattle.std.proofs.Common.{◌≡◌, sym, ap, subst, ◌∙◌, [], cond, None}
+use Rattle.std.proofs.Common.{◌≡◌, sym, ap, subst, ◌∙◌, [], cond, false, vec_capacity, None}
+use Rattle.coded_machine.specs.Calls.{AllWords}
+use Rattle.coded_machine.specs.Sound.{Sound}
 use Rattle.coded_machine.specs.CycleEnds.{first_outside}
 use Rattle.coded_machine.specs.State.{State, given}
 use Rattle.coded_machine.proofs.Ends.{scans_none}
 use Rattle.coded_machine.proofs.machine.Machine.conclude.Goals as goal
+
+pub cycle_end-end-requires-clause-words : goal.cycle_end-end-requires-clause-words
+cycle_end-end-requires-clause-words c = λ going.
+    let m : State =
+    record {
+      graph = c.self.inside.graph.now;
+      table = c.self.inside.table.now;
+      held = c.self.inside.held.items;
+      answers = c.self.inside.answers.items;
+      under_way = c.self.inside.under_way;
+      cycles = c.self.inside.cycles;
+      ended = c.self.inside.ended;
+    } in
+    let whole : Sound m false (vec_capacity c.self.inside.answers) =
+    subst (λ b. Sound m b (vec_capacity c.self.inside.answers)) going c.self.invariant in
+    let same : c.given-given.result.now ≡ cond c.self.inside.under_way c.self.inside.answers.items [] = c.given-given.ensures
+    ∙ ap (λ xs. cond c.self.inside.under_way xs []) c.deref.ensures.value in
+    subst AllWords (sym same) whole.progress
 
 pub release-requires-clause-inside : goal.release-requires-clause-inside
 release-requires-clause-inside c =
