@@ -1,5 +1,5 @@
 -- Arguments: a function of one, two or three arguments, each of which is flattened by a call.
-use Rattle.std.proofs.Common.{◌≡◌, ℕ, zero, suc, ◌+◌, ◌<◌, ◌≤◌, ℤ, true, List, [], ◌∷◌, length, slice_get, Option, Some, None, refl, sym, ap, ◌∙◌, subst, arith}
+use Rattle.std.proofs.Common.{◌≡◌, ℕ, zero, suc, ◌+◌, ◌<◌, ◌≤◌, ℤ, true, false, List, [], ◌∷◌, length, get_or, slice_get, Option, Some, None, refl, sym, ap, ◌∙◌, subst, arith}
 use Rattle.std.specs.Prelude.{⊤}
 use Rattle.vcp_base.specs.declared.spot.Spot.{Spot}
 use Rattle.vcp_base.specs.declared.turns.Turn.{Turn}
@@ -19,11 +19,12 @@ use Rattle.vcp_typed.specs.Meaning.{apply}
 use Rattle.vcp_typed.specs.TExprTree.{TExprTree, TExprTrees, call, no_texprs, and_texpr}
 use Rattle.vcp_typed.specs.TExprViews.{texpr_tree, texpr_trees}
 use Rattle.vcp_typed.specs.Checked.{ty_of, tys_of, IsExpr, AreExprs}
-use Rattle.vcp_typed.specs.Rules.{arguments, of_numbers}
+use Rattle.vcp_typed.specs.Rules.{arguments, of_numbers, converted_from}
 use Rattle.vcp_typed.specs.Size.{expr_size, exprs_size, function_size}
-use Rattle.flat_expr.specs.State.{State, IsState, IsA, active, guarded, Follows, Makes, Flattens, FlattensOne, FunFits, applies, argument, one_size, reserved}
+use Rattle.flat_expr.specs.State.{State, IsState, IsA, active, guarded, Follows, Makes, Flattens, FlattensOne, FunFits, applies, argument, one_reads, one_size, reserved}
+use Rattle.flat_expr.specs.ReadSlots.{reads_slot, read_slots}
 use Rattle.flat_expr.proofs.Weight.{expr_weight, exprs_weight}
-use Rattle.flat_expr.proofs.Steps.{weaker, as_good-is, follows-self}
+use Rattle.flat_expr.proofs.Steps.{neither, weaker, as_good-is, follows-self}
 use Rattle.flat_expr.proofs.Calls.{argued, applied, called}
 
 -- ---- how many arguments
@@ -48,6 +49,25 @@ from_numbers ts us ty.Int h = (refl, cc)
 from_numbers ts us ty.Dint h = (refl, cc)
 from_numbers ts us ty.Lint h = (refl, cc)
 
+-- the argument of a conversion to a type
+to_int : (from t : Ty) (ts : List Ty) → converted_from (from, ty.Int) t ≡ Some ts → (t ≡ ty.Int) × (from ∷ [] ≡ ts)
+to_int from ty.Bool ts h = absurd cc
+to_int from ty.Int ts h = (refl, cc)
+to_int from ty.Dint ts h = absurd cc
+to_int from ty.Lint ts h = absurd cc
+
+to_dint : (from t : Ty) (ts : List Ty) → converted_from (from, ty.Dint) t ≡ Some ts → (t ≡ ty.Dint) × (from ∷ [] ≡ ts)
+to_dint from ty.Bool ts h = absurd cc
+to_dint from ty.Int ts h = absurd cc
+to_dint from ty.Dint ts h = (refl, cc)
+to_dint from ty.Lint ts h = absurd cc
+
+to_lint : (from t : Ty) (ts : List Ty) → converted_from (from, ty.Lint) t ≡ Some ts → (t ≡ ty.Lint) × (from ∷ [] ≡ ts)
+to_lint from ty.Bool ts h = absurd cc
+to_lint from ty.Int ts h = absurd cc
+to_lint from ty.Dint ts h = absurd cc
+to_lint from ty.Lint ts h = (refl, cc)
+
 arity_is : (f : Fun) (t : Ty) (ts : List Ty) → arguments f t ≡ Some ts → length ts ≡ arity f
 unfolding arity
 arity_is fun.Abs t ts h = ap length (sym (from_numbers _ ts t h).1)
@@ -55,34 +75,13 @@ arity_is fun.Min t ts h = ap length (sym (from_numbers _ ts t h).1)
 arity_is fun.Max t ts h = ap length (sym (from_numbers _ ts t h).1)
 arity_is fun.Limit t ts h = ap length (sym (from_numbers _ ts t h).1)
 arity_is fun.Sel t ts h = let e : ty.Bool ∷ t ∷ t ∷ [] ≡ ts = cc in ap length (sym e)
-arity_is fun.IntToDint ty.Bool ts h = absurd cc
-arity_is fun.IntToDint ty.Int ts h = absurd cc
-arity_is fun.IntToDint ty.Dint ts h = let e : ty.Int ∷ [] ≡ ts = cc in ap length (sym e)
-arity_is fun.IntToDint ty.Lint ts h = absurd cc
-arity_is fun.IntToLint ty.Bool ts h = absurd cc
-arity_is fun.IntToLint ty.Int ts h = absurd cc
-arity_is fun.IntToLint ty.Dint ts h = absurd cc
-arity_is fun.IntToLint ty.Lint ts h = let e : ty.Int ∷ [] ≡ ts = cc in ap length (sym e)
-arity_is fun.DintToInt ty.Bool ts h = absurd cc
-arity_is fun.DintToInt ty.Int ts h = let e : ty.Dint ∷ [] ≡ ts = cc in ap length (sym e)
-arity_is fun.DintToInt ty.Dint ts h = absurd cc
-arity_is fun.DintToInt ty.Lint ts h = absurd cc
-arity_is fun.DintToLint ty.Bool ts h = absurd cc
-arity_is fun.DintToLint ty.Int ts h = absurd cc
-arity_is fun.DintToLint ty.Dint ts h = absurd cc
-arity_is fun.DintToLint ty.Lint ts h = let e : ty.Dint ∷ [] ≡ ts = cc in ap length (sym e)
-arity_is fun.LintToInt ty.Bool ts h = absurd cc
-arity_is fun.LintToInt ty.Int ts h = let e : ty.Lint ∷ [] ≡ ts = cc in ap length (sym e)
-arity_is fun.LintToInt ty.Dint ts h = absurd cc
-arity_is fun.LintToInt ty.Lint ts h = absurd cc
-arity_is fun.LintToDint ty.Bool ts h = absurd cc
-arity_is fun.LintToDint ty.Int ts h = absurd cc
-arity_is fun.LintToDint ty.Dint ts h = let e : ty.Lint ∷ [] ≡ ts = cc in ap length (sym e)
-arity_is fun.LintToDint ty.Lint ts h = absurd cc
-arity_is fun.BoolToInt ty.Bool ts h = absurd cc
-arity_is fun.BoolToInt ty.Int ts h = let e : ty.Bool ∷ [] ≡ ts = cc in ap length (sym e)
-arity_is fun.BoolToInt ty.Dint ts h = absurd cc
-arity_is fun.BoolToInt ty.Lint ts h = absurd cc
+arity_is fun.IntToDint t ts h = ap length (sym (to_dint ty.Int t ts h).1)
+arity_is fun.IntToLint t ts h = ap length (sym (to_lint ty.Int t ts h).1)
+arity_is fun.DintToInt t ts h = ap length (sym (to_int ty.Dint t ts h).1)
+arity_is fun.DintToLint t ts h = ap length (sym (to_lint ty.Dint t ts h).1)
+arity_is fun.LintToInt t ts h = ap length (sym (to_int ty.Lint t ts h).1)
+arity_is fun.LintToDint t ts h = ap length (sym (to_dint ty.Lint t ts h).1)
+arity_is fun.BoolToInt t ts h = ap length (sym (to_int ty.Bool t ts h).1)
 
 some_argument : (f : Fun) → (1 ≤ arity f) × (arity f ≤ 3)
 unfolding arity
@@ -209,34 +208,13 @@ fits_of fun.Max t ts ops a b c h p = let e = from_numbers _ ts t h in let q = su
 fits_of fun.Limit t ts ops a b c h p = let e = from_numbers _ ts t h in let q = subst (λ l. Placed l ops (a ∷ b ∷ c ∷ [])) (sym e.1) p in
     (e.0, q.0, q.1.0, q.1.1.0)
 fits_of fun.Sel t ts ops a b c h p = let e : ts ≡ ty.Bool ∷ t ∷ t ∷ [] = cc in let q = subst (λ l. Placed l ops (a ∷ b ∷ c ∷ [])) e p in (q.0, q.1.0, q.1.1.0)
-fits_of fun.IntToDint ty.Bool ts ops a b c h p = absurd cc
-fits_of fun.IntToDint ty.Int ts ops a b c h p = absurd cc
-fits_of fun.IntToDint ty.Dint ts ops a b c h p = let e : ts ≡ ty.Int ∷ [] = cc in let q = subst (λ l. Placed l ops (a ∷ b ∷ c ∷ [])) e p in (refl, q.0)
-fits_of fun.IntToDint ty.Lint ts ops a b c h p = absurd cc
-fits_of fun.IntToLint ty.Bool ts ops a b c h p = absurd cc
-fits_of fun.IntToLint ty.Int ts ops a b c h p = absurd cc
-fits_of fun.IntToLint ty.Dint ts ops a b c h p = absurd cc
-fits_of fun.IntToLint ty.Lint ts ops a b c h p = let e : ts ≡ ty.Int ∷ [] = cc in let q = subst (λ l. Placed l ops (a ∷ b ∷ c ∷ [])) e p in (refl, q.0)
-fits_of fun.DintToInt ty.Bool ts ops a b c h p = absurd cc
-fits_of fun.DintToInt ty.Int ts ops a b c h p = let e : ts ≡ ty.Dint ∷ [] = cc in let q = subst (λ l. Placed l ops (a ∷ b ∷ c ∷ [])) e p in (refl, q.0)
-fits_of fun.DintToInt ty.Dint ts ops a b c h p = absurd cc
-fits_of fun.DintToInt ty.Lint ts ops a b c h p = absurd cc
-fits_of fun.DintToLint ty.Bool ts ops a b c h p = absurd cc
-fits_of fun.DintToLint ty.Int ts ops a b c h p = absurd cc
-fits_of fun.DintToLint ty.Dint ts ops a b c h p = absurd cc
-fits_of fun.DintToLint ty.Lint ts ops a b c h p = let e : ts ≡ ty.Dint ∷ [] = cc in let q = subst (λ l. Placed l ops (a ∷ b ∷ c ∷ [])) e p in (refl, q.0)
-fits_of fun.LintToInt ty.Bool ts ops a b c h p = absurd cc
-fits_of fun.LintToInt ty.Int ts ops a b c h p = let e : ts ≡ ty.Lint ∷ [] = cc in let q = subst (λ l. Placed l ops (a ∷ b ∷ c ∷ [])) e p in (refl, q.0)
-fits_of fun.LintToInt ty.Dint ts ops a b c h p = absurd cc
-fits_of fun.LintToInt ty.Lint ts ops a b c h p = absurd cc
-fits_of fun.LintToDint ty.Bool ts ops a b c h p = absurd cc
-fits_of fun.LintToDint ty.Int ts ops a b c h p = absurd cc
-fits_of fun.LintToDint ty.Dint ts ops a b c h p = let e : ts ≡ ty.Lint ∷ [] = cc in let q = subst (λ l. Placed l ops (a ∷ b ∷ c ∷ [])) e p in (refl, q.0)
-fits_of fun.LintToDint ty.Lint ts ops a b c h p = absurd cc
-fits_of fun.BoolToInt ty.Bool ts ops a b c h p = absurd cc
-fits_of fun.BoolToInt ty.Int ts ops a b c h p = let e : ts ≡ ty.Bool ∷ [] = cc in let q = subst (λ l. Placed l ops (a ∷ b ∷ c ∷ [])) e p in (refl, q.0)
-fits_of fun.BoolToInt ty.Dint ts ops a b c h p = absurd cc
-fits_of fun.BoolToInt ty.Lint ts ops a b c h p = absurd cc
+fits_of fun.IntToDint t ts ops a b c h p = let e = to_dint ty.Int t ts h in (e.0, (subst (λ l. Placed l ops (a ∷ b ∷ c ∷ [])) (sym e.1) p).0)
+fits_of fun.IntToLint t ts ops a b c h p = let e = to_lint ty.Int t ts h in (e.0, (subst (λ l. Placed l ops (a ∷ b ∷ c ∷ [])) (sym e.1) p).0)
+fits_of fun.DintToInt t ts ops a b c h p = let e = to_int ty.Dint t ts h in (e.0, (subst (λ l. Placed l ops (a ∷ b ∷ c ∷ [])) (sym e.1) p).0)
+fits_of fun.DintToLint t ts ops a b c h p = let e = to_lint ty.Dint t ts h in (e.0, (subst (λ l. Placed l ops (a ∷ b ∷ c ∷ [])) (sym e.1) p).0)
+fits_of fun.LintToInt t ts ops a b c h p = let e = to_int ty.Lint t ts h in (e.0, (subst (λ l. Placed l ops (a ∷ b ∷ c ∷ [])) (sym e.1) p).0)
+fits_of fun.LintToDint t ts ops a b c h p = let e = to_dint ty.Lint t ts h in (e.0, (subst (λ l. Placed l ops (a ∷ b ∷ c ∷ [])) (sym e.1) p).0)
+fits_of fun.BoolToInt t ts ops a b c h p = let e = to_int ty.Bool t ts h in (e.0, (subst (λ l. Placed l ops (a ∷ b ∷ c ∷ [])) (sym e.1) p).0)
 
 pub call_fits : (s0 s1 s2 s3 : State) (f : Fun) (t : Ty) (es : TExprTrees) (a b c : ℕ) → arguments f t ≡ Some (tys_of es) →
     FlattensOne s0 s1 (argument es 0) a → FlattensOne s1 s2 (argument es 1) b → FlattensOne s2 s3 (argument es 2) c → FunFits f t s3.graph.operations a b c
@@ -265,6 +243,17 @@ one_follows s0 s1 (Some e) k i f = f.follows
 pub one_count : (s0 s1 : State) (o : Option TExprTree) (k : ℕ) → FlattensOne s0 s1 o k → reserved s1 ≤ reserved s0 + one_size o
 one_count s0 s1 None k e = let same = ap reserved e in omega (arith, same)
 one_count s0 s1 (Some e) k f = f.count
+
+pub one_unread : (s0 s1 : State) (o : Option TExprTree) (k : ℕ) → FlattensOne s0 s1 o k → (slot : ℕ) → one_reads o slot ≡ false
+    → get_or s1.known slot None ≡ get_or s0.known slot None
+one_unread s0 s1 None k e slot h = ap (λ (s : State). get_or s.known slot None) e
+one_unread s0 s1 (Some e) k f slot h = f.unread slot h
+
+-- no argument reads a slot that none reads
+pub unread_argument : (es : TExprTrees) (i slot : ℕ) → read_slots es slot ≡ false → one_reads (argument es i) slot ≡ false
+unread_argument no_texprs i slot h = refl
+unread_argument (and_texpr e es) zero slot h = (neither (reads_slot e slot) (read_slots es slot) h).0
+unread_argument (and_texpr e es) (suc i) slot h = unread_argument es i slot (neither (reads_slot e slot) (read_slots es slot) h).1
 
 -- the first argument is there
 pub first_follows : (s0 s1 : State) (f : Fun) (t : Ty) (es : TExprTrees) (k : ℕ) → arguments f t ≡ Some (tys_of es) → FlattensOne s0 s1 (argument es 0) k

@@ -11,10 +11,10 @@ use Rattle.vcp_base.specs.Kinds.{same}
 use Rattle.vcp_base.specs.Values.{at}
 use Rattle.op_graph.specs.Lists.{turns_of, turns_back}
 use Rattle.vcp_typed.specs.Meaning.{Stop}
-use Rattle.flat_expr.specs.State.{State, IsState, IsA, IsPlace, active, KnowsOne, Knows, exactly, IsValue, Kept, Ends, placed, Meant, Steps, Makes, Reads, no_slot, reading, acts, run}
+use Rattle.flat_expr.specs.State.{State, IsState, IsA, IsPlace, active, KnowsOne, Knows, exactly, IsValue, Kept, Ends, placed, Meant, Computes, Makes, Reads, one_slot, no_slot, reading, acts, run}
 use Rattle.flat_expr.specs.State.{Assigns}
 use Rattle.flat_expr.proofs.Loads.{unknown_fewer}
-use Rattle.flat_expr.proofs.Steps.{then_reading, weaker, stays, as_good-is}
+use Rattle.flat_expr.proofs.Steps.{extends-same, then_reading, weaker, stays, as_good-is}
 use Rattle.flat_expr.proofs.Operators.{some_is, in_range-fits, sel_fits, flip}
 
 -- one slot has a new place, and a new value that this place has
@@ -41,7 +41,7 @@ not_equal a b h = grind (arith, nat_tests)
 
 -- the slot gets the place of what is between
 pub set_assigns : {p : ℕ → Bool} (s0 s1 : State) (t : Ty) (n slot k j : ℕ) → n ≤ 1 → slot < length s0.slots → IsState (placed s1 slot j)
-    → ((i : ℕ) → i ≢ slot → p i ≡ false) → Steps s0 s1 p t n (between s0 slot k) j → Assigns s0 (placed s1 slot j) slot k
+    → ((i : ℕ) → i ≢ slot → p i ≡ false) → Computes s0 s1 p t n (between s0 slot k) j → Assigns s0 (placed s1 slot j) slot k
 set_assigns s0 s1 t n slot k j le lt state only f = record {
   continues = record {
     before = f.follows.before;
@@ -52,14 +52,15 @@ set_assigns s0 s1 t n slot k j le lt state only f = record {
     profile = f.follows.profile;
     nodes = let same_nodes = ap length f.follows.turn_nodes in omega (arith, same_nodes);
     turns = λ m below. ap (λ l. turns_back (reverse l) m) f.follows.turn_nodes;
+    operations = f.follows.operations;
+    cells = f.follows.cells;
+    turn_nodes = extends-same s0.graph.turn_nodes s1.graph.turn_nodes f.follows.turn_nodes;
     ends = (f.follows.inputs, f.follows.outputs, f.follows.stores);
     longer = f.follows.longer;
     typed = f.follows.typed;
     loads = f.follows.loads;
     stops = f.follows.stops;
   };
-  operations = f.follows.operations;
-  cells = f.follows.cells;
   others = λ i ne. get_or-set_other s1.known slot i (Some j) None ne ∙ f.unread i (only i ne);
   nodes = f.follows.turn_nodes;
   count = let fewer = unknown_fewer s1.known slot j in omega (arith, f.count, fewer);
@@ -96,7 +97,7 @@ pub chosen : (s0 s1 s2 : State) (t : Ty) (slot path k old j : ℕ) (spot : Spot)
     Reads s0 s1 slot t old → Makes s1 s2 t 1 (acts s1 kind.Sel t path old k spot) j → Assigns s0 (placed s2 slot j) slot k
 chosen s0 s1 s2 t slot path k old j spot lt some state hk g h =
     set_assigns s0 s2 t (0 + 1) slot k j (omega arith) lt state (λ i ne. not_equal slot i ne)
-    (then_reading (λ i. slot == i) no_slot (λ i. slot == i) (λ i h. (h, refl)) s0 s1 s2 t t 0 1 (reading slot) (acts s1 kind.Sel t path old k spot) (between s0 slot k) old j g h (record {
+    (then_reading (one_slot slot) no_slot (one_slot slot) (λ i h. (h, refl)) s0 s1 s2 t t 0 1 (reading slot) (acts s1 kind.Sel t path old k spot) (between s0 slot k) old j g h (record {
       stops = λ now vs s x. absurd cc;
       goes = λ now vs ws o is kept same_path types val.
           let here : at ws old ≡ at now slot = some_is o (at now slot) (at ws old) is val in

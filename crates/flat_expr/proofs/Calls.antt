@@ -12,7 +12,7 @@ use Rattle.vcp_typed.specs.TExprTree.{TExprTree, TExprTrees, call, no_texprs, an
 use Rattle.vcp_typed.specs.Checked.{ty_of}
 use Rattle.vcp_typed.specs.Size.{expr_size}
 use Rattle.flat_expr.specs.ReadSlots.{reads_slot, read_slots}
-use Rattle.flat_expr.specs.State.{State, IsA, active, guarded, Meant, Makes, Steps, Flattens, meaning_of}
+use Rattle.flat_expr.specs.State.{State, IsA, active, guarded, Meant, Makes, Computes, Flattens, meaning_of}
 use Rattle.flat_expr.proofs.Steps.{then_reading, neither, weaker, AsGood, as_good-self, as_good-is}
 use Rattle.flat_expr.proofs.Operators.{turns-same}
 use Rattle.flat_expr.proofs.Exprs.{guard_stops, guard_goes}
@@ -32,8 +32,8 @@ one_more (Ok v) (Ok vs) before f = ap f (append_assoc before (v ∷ []) vs)
 -- an argument, and then the others and the function; `before` has the places of the arguments so far
 pub argued : (s0 s1 s2 : State) (f : Fun) (t u : Ty) (spot : Spot) (e : TExprTree) (es : TExprTrees) (before : List ℤ → List ℤ) (r n k : ℕ) →
     ((vs ws : List ℤ) → ((t : Ty) (i : ℕ) → IsA t s0.graph.operations i → at ws i ≡ at vs i) → before ws ≡ before vs) →
-    Flattens s0 s1 e r → Steps s1 s2 (read_slots es) u n (onwards s1 f t spot es (λ vs. before vs ++ at vs r ∷ [])) k
-    → Steps s0 s2 (read_slots (and_texpr e es)) u (expr_size e + n) (onwards s0 f t spot (and_texpr e es) before) k
+    Flattens s0 s1 e r → Computes s1 s2 (read_slots es) u n (onwards s1 f t spot es (λ vs. before vs ++ at vs r ∷ [])) k
+    → Computes s0 s2 (read_slots (and_texpr e es)) u (expr_size e + n) (onwards s0 f t spot (and_texpr e es) before) k
 argued s0 s1 s2 f t u spot e es before r n k stay g h =
     then_reading (reads_slot e) (read_slots es) (read_slots (and_texpr e es)) (λ slot none. neither (reads_slot e slot) (read_slots es slot) none) s0 s1 s2 (ty_of e) u (expr_size e) n (meaning_of s0 e) (onwards s1 f t spot es (λ vs. before vs ++ at vs r ∷ []))
     (onwards s0 f t spot (and_texpr e es) before) r k g h (record {
@@ -59,13 +59,13 @@ argued s0 s1 s2 f t u spot e es before r n k stay g h =
 -- no argument is left
 pub applied : (s new : State) (f : Fun) (t u : Ty) (spot : Spot) (before : List ℤ → List ℤ) (n k : ℕ) →
     Makes s new u n (λ now vs. guarded (active s.path vs) (apply f t spot (turns_of s.graph s.turn) (before vs))) k
-    → Steps s new (read_slots no_texprs) u n (onwards s f t spot no_texprs before) k
+    → Computes s new (read_slots no_texprs) u n (onwards s f t spot no_texprs before) k
 applied s new f t u spot before n k h =
     weaker s new u n n _ (onwards s f t spot no_texprs before) k (omega arith)
     (λ now vs types. as_good-is _ _ (ap (λ l. guarded (active s.path vs) (apply f t spot (turns_of s.graph s.turn) l)) (sym (append-nil (before vs))))) h
 
 -- the whole call: nothing before the first argument
 pub called : (s new : State) (f : Fun) (t : Ty) (es : TExprTrees) (spot : Spot) (n k : ℕ) → n ≤ expr_size (call f t es spot)
-    → Steps s new (read_slots es) t n (onwards s f t spot es (λ vs. [])) k → Flattens s new (call f t es spot) k
+    → Computes s new (read_slots es) t n (onwards s f t spot es (λ vs. [])) k → Flattens s new (call f t es spot) k
 called s new f t es spot n k le h =
     weaker s new t n (expr_size (call f t es spot)) (onwards s f t spot es (λ vs. [])) (meaning_of s (call f t es spot)) k le (λ now vs types. as_good-self _) h

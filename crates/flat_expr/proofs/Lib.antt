@@ -5,6 +5,7 @@ pub mod Beginning
 pub mod Calls
 pub mod Closing
 pub mod Codes
+pub mod Conversions
 pub mod Exprs
 pub mod Loads
 pub mod Operators

@@ -16,7 +16,7 @@ use Rattle.op_graph.specs.Rules.{IsPart}
 use Rattle.op_graph.specs.Building.{with_op}
 use Rattle.vcp_base.specs.Values.{at}
 use Rattle.op_graph.specs.GraphRun.{outcome_of, Cycle, after, cycle_from, cycle, CellsFit}
-use Rattle.op_graph.proofs.OperandLaw.{part_without_operand_stop, part_values_fit, within_fits}
+use Rattle.op_graph.proofs.OperandLaw.{operand_laws}
 use Rattle.vcp_typed.specs.Meaning.{Stop, and_then, stop}
 use Rattle.flat_expr.specs.State.{stopped, run_from, run, act, IsA, IsPlace, active, AreLoaded, Kept}
 use Rattle.flat_expr.proofs.Ops.{there, isa_below}
@@ -101,7 +101,7 @@ cells_fit g cells start h = λ k l e. (h k l e).1
 pub no_operand : (g : Lists) (op : Op) (cells row start vs : List ℤ) → IsPart (with_op g op) → AreLoaded g.loads cells start
     → run g cells row ≡ Ok vs → outcome_of cells row vs op ≢ Err why.Operand
 no_operand g op cells row start vs part loaded e h =
-    part_without_operand_stop (with_op g op) cells row part (cells_fit g cells start loaded) (cycle_stops g.turn_nodes cells row [] vs g.operations op why.Operand e h)
+    operand_laws.part (with_op g op) cells row part (cells_fit g cells start loaded) (cycle_stops g.turn_nodes cells row [] vs g.operations op why.Operand e h)
 
 act_of : (turns : List Turn) (op : Op) (fit null right : Bool) (v : ℤ)
     → cond fit (cond null (Err why.DivZero) (cond right (Ok v) (Err why.Range))) (Err why.Operand) ≢ Err why.Operand
@@ -127,8 +127,8 @@ pub typed : (g : Lists) (cells row start vs : List ℤ) → IsPart g → AreLoad
 typed g cells row start vs part loaded e t k h =
     let p = there t g.operations k h in
     let all = subst (λ (c : Cycle). (i : ℕ) (op : Op) → i < length c.values → slice_get g.operations i ≡ Some op → fits op.ty (at c.values i) ≡ true)
-    (run_cycle g cells row vs e) (part_values_fit g cells row part (cells_fit g cells start loaded)) in
-    within_fits p.op.ty t (at vs k) p.type (all k p.op (omega (arith, isa_below t g.operations k h, run-length g cells row vs e)) p.is)
+    (run_cycle g cells row vs e) (operand_laws.values g cells row part (cells_fit g cells start loaded)) in
+    operand_laws.wider p.op.ty t (at vs k) p.type (all k p.op (omega (arith, isa_below t g.operations k h, run-length g cells row vs e)) p.is)
 
 pub at-front : (vs : List ℤ) (v : ℤ) → Kept vs (vs ++ v ∷ [])
 at-front [] v k lt = absurd (omega arith)

@@ -17,7 +17,7 @@ use Rattle.op_graph.specs.GraphRun.{own, operand, read, outcome_of}
 use Rattle.vcp_typed.specs.declared.slot.Slot.{Slot}
 use Rattle.vcp_typed.specs.Meaning.{Stop, and_then}
 use Rattle.flat_expr.specs.State.{State, IsState, IsA, IsPlace, active, KnowsOne, IsNumber, Knows, AreLoaded, exactly, IsValue, Kept, Ends, Follows, Meant}
-use Rattle.flat_expr.specs.State.{Steps, Makes, Extends, no_slot, pushed, Pushes, act, acts, is_plain, given, run, op_at}
+use Rattle.flat_expr.specs.State.{Computes, Makes, Extends, no_slot, pushed, Pushes, act, acts, is_plain, given, run, op_at}
 use Rattle.flat_expr.proofs.Ops.{plain, isa_below, isa_push, isa_last, place_push}
 use Rattle.flat_expr.proofs.Runs.{step, run-push, run-push_stops, run-length, no_operand, act_is, Typed, typed, at-front, at-last, kept-trans, active-kept}
 
@@ -25,6 +25,9 @@ use Rattle.flat_expr.proofs.Runs.{step, run-push, run-push_stops, run-length, no
 
 pub extends-self : {X : Type 0} (xs : List X) → Extends xs xs
 extends-self xs = ([], sym (append-nil xs))
+
+pub extends-same : {X : Type 0} (xs ys : List X) → ys ≡ xs → Extends xs ys
+extends-same xs ys e = ([], e ∙ sym (append-nil xs))
 
 pub extends-trans : {X : Type 0} (xs ys zs : List X) → Extends xs ys → Extends ys zs → Extends xs zs
 extends-trans xs ys zs f g = (f.0 ++ g.0, g.1 ∙ ap (λ l. l ++ g.0) f.1 ∙ append_assoc xs f.0 g.0)
@@ -275,7 +278,7 @@ neither false b h = (refl, h)
 
 -- what the two steps don't read is read by neither
 pub then_reading : (p q r : ℕ → Bool) → ((slot : ℕ) → r slot ≡ false → (p slot ≡ false) × (q slot ≡ false)) → (s0 s1 s2 : State) (t1 t2 : Ty) (n1 n2 : ℕ)
-    (m1 m2 m : Meant) (a b : ℕ) → Steps s0 s1 p t1 n1 m1 a → Steps s1 s2 q t2 n2 m2 b → Leads s0 s1 a m1 m2 m → Steps s0 s2 r t2 (n1 + n2) m b
+    (m1 m2 m : Meant) (a b : ℕ) → Computes s0 s1 p t1 n1 m1 a → Computes s1 s2 q t2 n2 m2 b → Leads s0 s1 a m1 m2 m → Computes s0 s2 r t2 (n1 + n2) m b
 then_reading p q r neither s0 s1 s2 t1 t2 n1 n2 m1 m2 m a b f g lead = record {
   follows = follows-trans s0 s1 s2 f.follows g.follows;
   unread = λ slot h. let none = neither slot h in g.unread slot none.1 ∙ f.unread slot none.0;
@@ -315,7 +318,7 @@ then s0 s1 s2 t1 t2 n1 n2 m1 m2 m a b f g lead =
 
 -- a step that means less, and may take more
 pub weaker : {p : ℕ → Bool} (s0 s1 : State) (t : Ty) (n1 n2 : ℕ) (m1 m2 : Meant) (k : ℕ) → n1 ≤ n2
-    → ((now vs : List ℤ) → Typed s0.graph.operations vs → AsGood (m1 now vs) (m2 now vs)) → Steps s0 s1 p t n1 m1 k → Steps s0 s1 p t n2 m2 k
+    → ((now vs : List ℤ) → Typed s0.graph.operations vs → AsGood (m1 now vs) (m2 now vs)) → Computes s0 s1 p t n1 m1 k → Computes s0 s1 p t n2 m2 k
 weaker s0 s1 t n1 n2 m1 m2 k le good f = record {
   follows = f.follows;
   unread = f.unread;

@@ -1,5 +1,5 @@
 -- State: what is known while a program is flattened, and what a step does.
-use Rattle.std.specs.Prelude.{◌≡◌, ℕ, zero, suc, ◌<◌, ◌≤◌, ◌+◌, nat_lt, int_lt, unsigned_abs, ℤ, pos, Bool, true, false, not, cond, List, [], ◌∷◌, ◌++◌, length}
+use Rattle.std.specs.Prelude.{◌≡◌, ℕ, zero, suc, ◌<◌, ◌≤◌, ◌+◌, nat_lt, int_lt, unsigned_abs, ℤ, pos, Bool, true, false, not, ◌||◌, cond, List, [], ◌∷◌, ◌++◌, length}
 use Rattle.std.specs.Prelude.{reverse, get_or, slice_get, slice_set, map, sum_by, set, ◌==◌, ◌≢◌, All, Option, Some, None, Result, Ok, Err, ⊤}
 use Rattle.vcp_base.specs.declared.spot.Spot.{Spot}
 use Rattle.vcp_base.specs.declared.turns.Turn.{Turn}
@@ -8,7 +8,7 @@ use Rattle.vcp_base.specs.declared.ty.Ty.TheVariants as ty
 use Rattle.vcp_base.specs.declared.kind.Kind.{Kind}
 use Rattle.vcp_base.specs.declared.kind.Kind.TheVariants as kind
 use Rattle.vcp_base.specs.declared.kind.StopKind.TheVariants as why
-use Rattle.vcp_base.specs.Types.{fits}
+use Rattle.vcp_base.specs.Types.{fits, is_bool, within}
 use Rattle.vcp_base.specs.declared.code.Profile.{Profile}
 use Rattle.vcp_base.specs.Code.{admits, is_wide}
 use Rattle.vcp_base.specs.Limits.{most_names, most_operations}
@@ -33,6 +33,7 @@ use Rattle.vcp_typed.specs.TExprTree.{TExprTree, TExprTrees, no_texprs, and_texp
 use Rattle.vcp_typed.specs.declared.expr.Fun.{Fun}
 use Rattle.vcp_typed.specs.declared.expr.Fun.TheVariants as fun
 use Rattle.vcp_typed.specs.Checked.{ty_of}
+use Rattle.vcp_typed.specs.Rules.{conversion}
 use Rattle.vcp_typed.specs.Size.{expr_size}
 use Rattle.vcp_typed.specs.SourceRun.{is_input, is_output, outputs}
 use Rattle.vcp_typed.specs.Fitting.{input_columns, output_columns}
@@ -235,7 +236,7 @@ Meant = List ℤ → List ℤ → Result (Option ℤ) Stop
 
 -- The operations that were added give what is meant, at the place k, which may be read where the type is wanted. They are at
 -- most so many, beside one LOAD for each new cell and the constants of masks. A slot that isn't among those that are read is held as before.
-pub record Steps (old new : State) (is_read : ℕ → Bool) (t : Ty) (most : ℕ) (meant : Meant) (k : ℕ) : Type 0 where
+pub record Computes (old new : State) (is_read : ℕ → Bool) (t : Ty) (most : ℕ) (meant : Meant) (k : ℕ) : Type 0 where
   pub follows : Follows old new
   pub unread : (slot : ℕ) → is_read slot ≡ false → get_or new.known slot None ≡ get_or old.known slot None
   pub place : IsA t new.graph.operations k
@@ -248,7 +249,7 @@ abbrev pub no_slot : ℕ → Bool
 no_slot slot = false
 
 abbrev pub Makes : State → State → Ty → ℕ → Meant → ℕ → Type 0
-Makes old new t most meant k = Steps old new no_slot t most meant k
+Makes old new t most meant k = Computes old new no_slot t most meant k
 
 -- the expression's value, or its stop, where the place is reached; anything but a stop where it isn't
 abbrev pub meaning_of : State → TExprTree → Meant
@@ -256,7 +257,7 @@ meaning_of s e = λ now vs. guarded (active s.path vs) (value (turns_of s.graph 
 
 -- the expression's operations: only slots that it reads may be held anew
 abbrev pub Flattens : State → State → TExprTree → ℕ → Type 0
-Flattens old new e k = Steps old new (reads_slot e) (ty_of e) (expr_size e) (meaning_of old e) k
+Flattens old new e k = Computes old new (reads_slot e) (ty_of e) (expr_size e) (meaning_of old e) k
 
 -- one more operation
 abbrev pub pushed : State → Op → State
@@ -359,9 +360,13 @@ signs s op t a spot = λ now vs. guarded (active s.path vs) (sign op t spot (tur
 abbrev pub reading : ℕ → Meant
 reading slot = λ now vs. Ok (Some (at now slot))
 
+-- the one slot that is read
+abbrev pub one_slot : ℕ → ℕ → Bool
+one_slot slot other = slot == other
+
 -- no other slot is held anew
 abbrev pub Reads : State → State → ℕ → Ty → ℕ → Type 0
-Reads old new slot t k = Steps old new (λ other. slot == other) t 0 (reading slot) k
+Reads old new slot t k = Computes old new (one_slot slot) t 0 (reading slot) k
 
 abbrev pub giving : ℤ → Meant
 giving v = λ now vs. Ok (Some v)
@@ -382,12 +387,21 @@ selects g a b = λ now vs. Ok (Some (cond (same (at vs g) (pos 0)) (at vs a) (at
 abbrev pub copies : ℕ → Meant
 copies a = λ now vs. Ok (Some (at vs a))
 
--- the value in another type, where the place is reached
+-- the value in another type, where the place is reached; it can't stop where the value is in the type
 abbrev pub narrows : State → Ty → ℕ → Spot → Meant
 narrows s to a spot = λ now vs. guarded (active s.path vs) (in_range to spot (turns_of s.graph s.turn) (at vs a))
 
 abbrev pub sizes_up : State → Ty → ℕ → Spot → Meant
 sizes_up s t a spot = λ now vs. guarded (active s.path vs) (in_range t spot (turns_of s.graph s.turn) (pos (unsigned_abs (at vs a))))
+
+-- every value of the first type is one of the second
+abbrev pub has_all : Ty → Ty → Bool
+has_all from to = is_bool from || within from to
+
+-- the argument of a conversion, whose value has the type, may be read at the place
+abbrev pub ConversionFits : Option (Ty × Ty) → Ty → List Op → ℕ → Type 0
+ConversionFits None t ops a = ⊥
+ConversionFits (Some types) t ops a = (t ≡ types.1) × IsA types.0 ops a
 
 -- the arguments of a function, whose value has the type, may be read at these places
 abbrev pub FunFits : Fun → Ty → List Op → ℕ → ℕ → ℕ → Type 0
@@ -396,28 +410,15 @@ FunFits fun.Min t ops a b c = (is_number t ≡ true) × IsA t ops a × IsA t ops
 FunFits fun.Max t ops a b c = (is_number t ≡ true) × IsA t ops a × IsA t ops b
 FunFits fun.Limit t ops a b c = (is_number t ≡ true) × IsA t ops a × IsA t ops b × IsA t ops c
 FunFits fun.Sel t ops a b c = IsA ty.Bool ops a × IsA t ops b × IsA t ops c
-FunFits fun.IntToDint t ops a b c = (t ≡ ty.Dint) × IsA ty.Int ops a
-FunFits fun.IntToLint t ops a b c = (t ≡ ty.Lint) × IsA ty.Int ops a
-FunFits fun.DintToInt t ops a b c = (t ≡ ty.Int) × IsA ty.Dint ops a
-FunFits fun.DintToLint t ops a b c = (t ≡ ty.Lint) × IsA ty.Dint ops a
-FunFits fun.LintToInt t ops a b c = (t ≡ ty.Int) × IsA ty.Lint ops a
-FunFits fun.LintToDint t ops a b c = (t ≡ ty.Dint) × IsA ty.Lint ops a
-FunFits fun.BoolToInt t ops a b c = (t ≡ ty.Int) × IsA ty.Bool ops a
+FunFits f t ops a b c = ConversionFits (conversion f) t ops a
+
+abbrev pub last_of_types : Option (Ty × Ty) → Ty → Ty
+last_of_types None t = t
+last_of_types (Some types) t = types.0
 
 -- the type of a function's last argument, where its value has the type
 abbrev pub last_type : Fun → Ty → Ty
-last_type fun.Abs t = t
-last_type fun.Min t = t
-last_type fun.Max t = t
-last_type fun.Limit t = t
-last_type fun.Sel t = t
-last_type fun.IntToDint t = ty.Int
-last_type fun.IntToLint t = ty.Int
-last_type fun.DintToInt t = ty.Dint
-last_type fun.DintToLint t = ty.Dint
-last_type fun.LintToInt t = ty.Lint
-last_type fun.LintToDint t = ty.Lint
-last_type fun.BoolToInt t = ty.Bool
+last_type f t = last_of_types (conversion f) t
 
 -- what a function gives where the place is reached; it takes no more of these arguments than it has
 abbrev pub applies : State → Fun → Ty → ℕ → ℕ → ℕ → Spot → Meant
@@ -434,11 +435,16 @@ abbrev pub FlattensOne : State → State → Option TExprTree → ℕ → Type 0
 FlattensOne old new None k = new ≡ old
 FlattensOne old new (Some e) k = Flattens old new e k
 
+abbrev pub one_reads : Option TExprTree → ℕ → Bool
+one_reads None slot = false
+one_reads (Some e) slot = reads_slot e slot
+
 abbrev pub one_size : Option TExprTree → ℕ
 one_size None = 0
 one_size (Some e) = expr_size e
 
--- what later states keep of earlier ones, where slots may be set and turns may be added: the places of slots may change
+-- What later states keep of earlier ones, where slots may be set and turns may be added: the places of slots may change. Operations, cells and
+-- turn nodes are added at the end, and nothing before them changes.
 pub record Continues (old new : State) : Type 0 where
   pub before : IsState old
   pub after : IsState new
@@ -448,6 +454,9 @@ pub record Continues (old new : State) : Type 0 where
   pub profile : new.graph.profile ≡ old.graph.profile
   pub nodes : length old.graph.turn_nodes ≤ length new.graph.turn_nodes
   pub turns : (n : ℕ) → n ≤ length old.graph.turn_nodes → turns_of new.graph n ≡ turns_of old.graph n
+  pub operations : Extends old.graph.operations new.graph.operations
+  pub cells : Extends old.graph.loads new.graph.loads
+  pub turn_nodes : Extends old.graph.turn_nodes new.graph.turn_nodes
   pub ends : (new.graph.inputs ≡ old.graph.inputs) × (new.graph.outputs ≡ old.graph.outputs) × (new.graph.stores ≡ old.graph.stores)
   pub longer : length old.graph.operations ≤ length new.graph.operations
   pub typed : (t : Ty) (k : ℕ) → IsA t old.graph.operations k → IsA t new.graph.operations k
@@ -457,8 +466,6 @@ pub record Continues (old new : State) : Type 0 where
 -- the slot gets the value of operation k where the place is reached; every other slot is held as before
 pub record Assigns (old new : State) (slot k : ℕ) : Type 0 where
   pub continues : Continues old new
-  pub operations : Extends old.graph.operations new.graph.operations
-  pub cells : Extends old.graph.loads new.graph.loads
   pub others : (j : ℕ) → j ≢ slot → get_or new.known j None ≡ get_or old.known j None
   pub nodes : new.graph.turn_nodes ≡ old.graph.turn_nodes
   pub count : reserved new ≤ reserved old + 1
@@ -523,8 +530,14 @@ placed s slot k = record s { known = set s.known slot (Some k) }
 
 -- ---- refusals
 
--- what a call leaves that gives no number: all that it added stays; it was for want of room only where 65,536 operations are there
-pub record Refuses (old new : State) (most : ℕ) (e : Build) : Type 0 where
+-- What a call leaves that gives no number: all that it added stays, and a slot that isn't among those that are read is held as before. It was for
+-- want of room only where 65,536 operations are there.
+pub record Leaves (old new : State) (is_read : ℕ → Bool) (most : ℕ) (e : Build) : Type 0 where
   pub follows : Follows old new
+  pub unread : (slot : ℕ) → is_read slot ≡ false → get_or new.known slot None ≡ get_or old.known slot None
   pub full : e ≡ build.Full → length new.graph.operations ≡ most_operations
   pub room : e ≡ build.Full → most_operations < reserved old + most
+
+-- the same of a call that reads no slot
+abbrev pub Refuses : State → State → ℕ → Build → Type 0
+Refuses old new most e = Leaves old new no_slot most e

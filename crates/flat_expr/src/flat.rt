@@ -9,10 +9,11 @@ ghost use Rattle.op_graph.specs.declared.build.Build.TheVariants as build;
 ghost use Rattle.vcp_base.specs.declared.ty.Ty.TheVariants as type_of;
 ghost use Rattle.flat_expr.specs.Begin.{Begins, entered, held_from};
 ghost use Rattle.flat_expr.specs.Laws.{Laws};
+ghost use Rattle.flat_expr.specs.ReadSlots.{reads_slot};
 ghost use Rattle.flat_expr.specs.State.{IsState, IsPlace, IsA, Pushes, Makes, is_plain, reads, acts, giving, neutral as neutral_of, neutral_place};
 ghost use Rattle.flat_expr.specs.State.{with_neutral, masks, guards, is_arithmetic, divides, is_comparison, denies, operates, signs, Reads, Flattens};
-ghost use Rattle.flat_expr.specs.State.{FlattensOne, FunFits, last_type, Allows, SlotsAllowed, applies, argument as argument_of, one_size, picks, limits};
-ghost use Rattle.flat_expr.specs.State.{selects, narrows, copies, sizes_up, placed, Refuses, Assigns, Nests, Finishes, whole_size};
+ghost use Rattle.flat_expr.specs.State.{FlattensOne, FunFits, last_type, Allows, SlotsAllowed, applies, argument as argument_of, one_reads, one_size, picks, limits};
+ghost use Rattle.flat_expr.specs.State.{has_all as has_all_of, selects, narrows, copies, sizes_up, placed, one_slot, Leaves, Refuses, Assigns, Nests, Finishes, whole_size};
 ghost use Rattle.flat_expr.specs.Told.{names_of};
 ghost use Rattle.vcp_base.specs.declared.kind.Kind.TheVariants as kind_of;
 ghost use Rattle.vcp_typed.specs.declared.slot.Slot.{Slot as SlotOf};
@@ -31,8 +32,8 @@ use op_graph::{Build, Graph, GraphBuilder, Op, TurnNode, entries_keep_their_rule
 use st_tree::{BinOp, Class, UnOp};
 use std::alloc::Global;
 use std::marker::Model;
-use vcp_base::{Kind, Memory, Profile, Spot, Ty};
-use vcp_typed::{Fun, Slot, Slots, TExpr, Typed, trees_of_nodes};
+use vcp_base::{Kind, Memory, Profile, Spot, Ty, is_bool, within};
+use vcp_typed::{Fun, Slot, Slots, TExpr, Typed, conversion, trees_of_nodes};
 
 /// The state of a flattening: the graph so far, the operation that has each slot's value, the path
 /// condition and the present turn.
@@ -131,6 +132,13 @@ fn neutral_number(one: bool) -> i64
     ensures fits { fits type_of.Int result ≡ true }
 {
     if one { 1 } else { 0 }
+}
+
+/// Whether every value of the one type is one of the other.
+fn has_all(from: Ty, to: Ty) -> bool
+    ensures { result ≡ has_all_of from to }
+{
+    is_bool(from) || within(from, to)
 }
 
 impl<'a> Flat<'a> {
@@ -423,7 +431,7 @@ impl<'a> Flat<'a> {
     fn read(&mut self, slot: u32) -> Result<u32, Build>
         requires { slot < length self.old.slots }
         ensures made { IfOk result (λ k. (x : SlotOf) → slice_get self.old.slots slot ≡ Some x → Reads self.old self.new slot x.ty k) }
-        ensures refuses { IfErr result (λ why. Refuses self.old self.new 0 why) }
+        ensures refuses { IfErr result (λ why. Leaves self.old self.new (one_slot slot) 0 why) }
     {
         if let Some(k) = self.known[slot as usize] {
             return Ok(k);
@@ -439,14 +447,15 @@ impl<'a> Flat<'a> {
 
     /// Adds the operations of an expression of the program under the present path condition, after those
     /// that are there. Gives the number of its value. A widening adds none. A slot that the expression
-    /// reads, and that no operation holds, gets its LOAD; every other slot is held as before. After a
-    /// refusal the operations that it added stay, and what was known stays known.
+    /// reads, and that no operation holds, gets its LOAD; every other slot is held as before, after a
+    /// refusal too. After one the operations that it added stay, and what was known stays known.
     #[cycle(expr)]
     pub fn expr(&mut self, e: &TExpr) -> Result<u32, Build>
         requires checked { IsExpr self.old.slots (texpr_tree e.now) }
         requires code { Allows self.old.graph.profile (expr_is_wide (texpr_tree e.now)) }
         ensures made { IfOk result (λ k. Flattens self.old self.new (texpr_tree e.now) k) }
-        ensures refuses { IfErr result (λ why. Refuses self.old self.new (expr_size (texpr_tree e.now)) why) }
+        ensures refuses { IfErr result
+            (λ why. Leaves self.old self.new (reads_slot (texpr_tree e.now)) (expr_size (texpr_tree e.now)) why) }
     {
         match e {
             TExpr::Lit { ty, value, spot } => self.constant(*ty, *value, *spot),
@@ -489,7 +498,8 @@ impl<'a> Flat<'a> {
         requires checked { AreExprs self.old.slots (texpr_trees args.now) }
         requires code { Allows self.old.graph.profile (exprs_are_wide (texpr_trees args.now)) }
         ensures made { IfOk result (λ k. FlattensOne self.old self.new (argument_of (texpr_trees args.now) i) k) }
-        ensures refuses { IfErr result (λ why. Refuses self.old self.new (one_size (argument_of (texpr_trees args.now) i)) why) }
+        ensures refuses { IfErr result
+            (λ why. Leaves self.old self.new (one_reads (argument_of (texpr_trees args.now) i)) (one_size (argument_of (texpr_trees args.now) i)) why) }
     {
         if i < args.len() {
             self.expr(&args[i])
@@ -506,19 +516,32 @@ impl<'a> Flat<'a> {
         ensures made { IfOk result (λ k. Makes self.old self.new ty (function_size fun) (applies self.old fun ty a b c spot) k) }
         ensures refuses { IfErr result (λ why. Refuses self.old self.new (function_size fun) why) }
     {
+        if let Some((from, to)) = conversion(fun) {
+            return self.convert(from, to, a, spot);
+        }
         match fun {
             Fun::Abs => self.absolute(ty, a, spot),
             Fun::Min => self.pick(ty, b, a, a, b, spot),
             Fun::Max => self.pick(ty, a, b, a, b, spot),
             Fun::Limit => self.limit(ty, a, b, c, spot),
             Fun::Sel => self.select(ty, a, b, c, spot),
-            Fun::IntToDint => self.copy(Ty::Int, Ty::Dint, a, spot),
-            Fun::IntToLint => self.copy(Ty::Int, Ty::Lint, a, spot),
-            Fun::DintToInt => self.narrow(Ty::Dint, Ty::Int, a, spot),
-            Fun::DintToLint => self.copy(Ty::Dint, Ty::Lint, a, spot),
-            Fun::LintToInt => self.narrow(Ty::Lint, Ty::Int, a, spot),
-            Fun::LintToDint => self.narrow(Ty::Lint, Ty::Dint, a, spot),
-            Fun::BoolToInt => self.copy(Ty::Bool, Ty::Int, a, spot),
+            _ => unreachable!(),
+        }
+    }
+
+    // A conversion. It can stop only where not every value of the one type is one of the other.
+    fn convert(&mut self, from: Ty, to: Ty, a: u32, spot: Spot) -> Result<u32, Build>
+        requires types { types_fit kind_of.Conv from to ≡ true }
+        requires from { admits self.old.graph.profile from ≡ true }
+        requires to { admits self.old.graph.profile to ≡ true }
+        requires a { IsA from self.old.graph.operations a }
+        ensures made { IfOk result (λ k. Makes self.old self.new to 2 (narrows self.old to a spot) k) }
+        ensures refuses { IfErr result (λ why. Refuses self.old self.new 2 why) }
+    {
+        if has_all(from, to) {
+            self.copy(from, to, a, spot)
+        } else {
+            self.narrow(from, to, a, spot)
         }
     }
 
@@ -538,7 +561,7 @@ impl<'a> Flat<'a> {
         requires slot { slot < length self.old.slots }
         requires fits { (x : SlotOf) → slice_get self.old.slots slot ≡ Some x → IsA x.ty self.old.graph.operations op }
         ensures made { IfOk result (λ _. Assigns self.old self.new slot op) }
-        ensures refuses { IfErr result (λ why. Refuses self.old self.new 1 why) }
+        ensures refuses { IfErr result (λ why. Leaves self.old self.new (one_slot slot) 1 why) }
     {
         match self.path {
             None => {
@@ -555,7 +578,7 @@ impl<'a> Flat<'a> {
         requires fits { (x : SlotOf) → slice_get self.old.slots slot ≡ Some x → IsA x.ty self.old.graph.operations op }
         requires path { self.old.path ≡ Some path }
         ensures made { IfOk result (λ _. Assigns self.old self.new slot op) }
-        ensures refuses { IfErr result (λ why. Refuses self.old self.new 1 why) }
+        ensures refuses { IfErr result (λ why. Leaves self.old self.new (one_slot slot) 1 why) }
     {
         let ty = self.type_of(slot);
         let old = self.read(slot)?;

@@ -1,5 +1,6 @@
 -- Algebra: steps of statements one after another, and under other path conditions.
-use Rattle.std.proofs.Common.{◌≡◌, ℕ, ◌+◌, ◌≤◌, ℤ, pos, Bool, true, not, List, [], length, Option, Some, None, Result, Ok, Err, refl, sym, ap, ◌∙◌, subst, arith}
+use Rattle.std.proofs.Common.{◌≡◌, ℕ, ◌+◌, ◌≤◌, ℤ, pos, Bool, true, not, List, [], ◌++◌, length, Option, Some, None, Result, Ok, Err, refl, sym, ap, ◌∙◌, subst, arith}
+use Rattle.std.proofs.Common.{append_assoc}
 use Rattle.std.proofs.lemmas.List.{append-nil}
 use Rattle.vcp_base.specs.declared.ty.Ty.{Ty}
 use Rattle.vcp_base.specs.declared.ty.Ty.TheVariants as ty
@@ -9,7 +10,7 @@ use Rattle.op_graph.specs.Lists.{turns_of}
 use Rattle.vcp_base.specs.Values.{at}
 use Rattle.vcp_typed.specs.Meaning.{Stop, and_then}
 use Rattle.flat_expr.specs.Laws.{Laws}
-use Rattle.flat_expr.specs.State.{State, IsState, IsA, IsPlace, active, Knows, Kept, Continues, Follows, Ends, IsValue, Meant, Steps, run}
+use Rattle.flat_expr.specs.State.{State, IsState, IsA, IsPlace, active, Knows, Kept, Extends, Continues, Follows, Ends, IsValue, Meant, Computes, run}
 use Rattle.flat_stmt.specs.Moves.{Here, here, Doing, EndsIn, Tells, Moves}
 
 -- ---- results
@@ -23,6 +24,17 @@ pub ends_weaker : {A : Type 0} (P Q : A → List ℤ → Type 0) (x : Result A S
     → ((a : A) (ws : List ℤ) → r ≡ Ok ws → P a ws → Q a ws) → EndsIn P x r → EndsIn Q x r
 ends_weaker P Q (Ok a) r f h = (h.0, h.1, f a h.0 h.1 h.2)
 ends_weaker P Q (Err s) r f h = h
+
+-- ---- lists that begin with others
+
+pub extends-self : {X : Type 0} (xs : List X) → Extends xs xs
+extends-self xs = ([], sym (append-nil xs))
+
+extends-same : {X : Type 0} (xs ys : List X) → ys ≡ xs → Extends xs ys
+extends-same xs ys e = ([], e ∙ sym (append-nil xs))
+
+pub extends-trans : {X : Type 0} (xs ys zs : List X) → Extends xs ys → Extends ys zs → Extends xs zs
+extends-trans xs ys zs f g = (f.0 ++ g.0, g.1 ∙ ap (λ l. l ++ g.0) f.1 ∙ append_assoc xs f.0 g.0)
 
 -- ---- states
 
@@ -76,6 +88,9 @@ continues-trans a b c f g = record {
   profile = g.profile ∙ f.profile;
   nodes = omega (arith, f.nodes, g.nodes);
   turns = λ n le. g.turns n (omega (arith, le, f.nodes)) ∙ f.turns n le;
+  operations = extends-trans a.graph.operations b.graph.operations c.graph.operations f.operations g.operations;
+  cells = extends-trans a.graph.loads b.graph.loads c.graph.loads f.cells g.cells;
+  turn_nodes = extends-trans a.graph.turn_nodes b.graph.turn_nodes c.graph.turn_nodes f.turn_nodes g.turn_nodes;
   ends = (g.ends.0 ∙ f.ends.0, g.ends.1 ∙ f.ends.1, g.ends.2 ∙ f.ends.2);
   longer = omega (arith, f.longer, g.longer);
   typed = λ t k h. g.typed t k (f.typed t k h);
@@ -93,6 +108,9 @@ continues-self s i = record {
   profile = refl;
   nodes = omega arith;
   turns = λ n le. refl;
+  operations = extends-self s.graph.operations;
+  cells = extends-self s.graph.loads;
+  turn_nodes = extends-self s.graph.turn_nodes;
   ends = (refl, refl, refl);
   longer = omega arith;
   typed = λ t k h. h;
@@ -112,6 +130,9 @@ continues-at a b p h f = record {
   profile = f.profile;
   nodes = f.nodes;
   turns = f.turns;
+  operations = f.operations;
+  cells = f.cells;
+  turn_nodes = f.turn_nodes;
   ends = f.ends;
   longer = f.longer;
   typed = f.typed;
@@ -129,6 +150,9 @@ follows_continues a b f = record {
   profile = f.profile;
   nodes = omega (arith, ap length f.turn_nodes);
   turns = λ n le. turns_same n;
+  operations = f.operations;
+  cells = f.cells;
+  turn_nodes = extends-same a.graph.turn_nodes b.graph.turn_nodes f.turn_nodes;
   ends = (f.inputs, f.outputs, f.stores);
   longer = f.longer;
   typed = f.typed;
@@ -151,8 +175,8 @@ follows-none s i = record {
   inputs = refl;
   outputs = refl;
   stores = refl;
-  operations = ([], sym (append-nil s.graph.operations));
-  cells = ([], sym (append-nil s.graph.loads));
+  operations = extends-self s.graph.operations;
+  cells = extends-self s.graph.loads;
   places = λ slot k e. e;
   longer = omega arith;
   typed = λ t k h. h;
@@ -272,7 +296,7 @@ bind_ends P Q (Ok None) all next r1 r2 place b h stops val go = subst (λ x. End
 bind_ends P Q (Err s) all next r1 r2 place b h stops val go = subst (λ x. EndsIn Q x r2) (sym b) (stops s h)
 
 pub moves_with : {is_read : ℕ → Bool} → Laws → (a b c : State) (t : Ty) (Such : List ℤ → Type 0) (k n1 n2 : ℕ) (m : Meant) (f : Doing) (g : ℤ → Doing) → Lasts a Such
-    → Steps a b is_read t n1 m k → ((v : ℤ) → Moves b c (With Such k v) n2 (g v)) →
+    → Computes a b is_read t n1 m k → ((v : ℤ) → Moves b c (With Such k v) n2 (g v)) →
     ((now vs : List ℤ) → Typed a vs → Such vs → Binds (m now vs) (f (active a.path vs) now) (λ v. g v (active a.path vs) now)) →
     Moves a c Such (n1 + n2) f
 moves_with laws a b c t Such k n1 n2 m f g lasts p q binds = record {

@@ -15,7 +15,7 @@ use Rattle.vcp_typed.specs.Checked.{ty_of}
 use Rattle.flat_expr.specs.Laws.{Laws}
 use Rattle.flat_expr.specs.State.{State, IsState, active, Kept, Knows, Continues, Makes, Flattens, Assigns, Nests, giving, guarded, meaning_of, run}
 use Rattle.flat_stmt.specs.Moves.{here, EndsIn, Tells, Moves, Any, where_reached, Does, setting}
-use Rattle.flat_stmt.proofs.Algebra.{With, Binds, moves_then, moves_same, moves_nothing, moves_with, then_do, ends_weaker}
+use Rattle.flat_stmt.proofs.Algebra.{With, Binds, extends-trans, moves_then, moves_same, moves_nothing, moves_with, then_do, ends_weaker}
 use Rattle.flat_stmt.proofs.Branches.{lasts_any, lasts_active}
 
 -- ---- statements one after another
@@ -138,6 +138,9 @@ nested a b c node n k f nest d few = record {
       nodes = omega (arith, d1.moves.continues.nodes, length-append a.graph.turn_nodes (node ∷ []));
       turns = λ j le. d1.moves.continues.turns j (omega (arith, le, length-append a.graph.turn_nodes (node ∷ [])))
           ∙ subst (λ s. turns_of s.graph j ≡ turns_of a.graph j) nest.is (nest.turns j le);
+      operations = d1.moves.continues.operations;
+      cells = d1.moves.continues.cells;
+      turn_nodes = extends-trans a.graph.turn_nodes (a.graph.turn_nodes ++ node ∷ []) c.graph.turn_nodes (node ∷ [], refl) d1.moves.continues.turn_nodes;
       ends = d1.moves.continues.ends;
       longer = d1.moves.continues.longer;
       typed = d1.moves.continues.typed;

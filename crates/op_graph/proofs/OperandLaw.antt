@@ -1,4 +1,4 @@
--- OperandLaw: the operations of a graph read values of the types in which they read them.
+-- OperandLaw: the operations of a graph read values of the types in which they read them. Other crates cite `operand_laws` alone.
 use Rattle.std.proofs.Common.{◌≡◌, ◌≢◌, ℕ, zero, suc, ◌+◌, ◌<◌, ◌≤◌, ◌==◌, ℤ, pos, negsuc, Bool, true, false, not, ◌&&◌, cond, List, [], ◌∷◌, ◌++◌, length, map}
 use Rattle.std.proofs.Common.{take, slice_get, slice_index_or, All, Option, Some, None, Ok, Err, refl, sym, ap, subst, ◌∙◌, append_assoc, length-append, arith}
 use Rattle.std.proofs.Common.{nat_lt, IfSome, below_more}
@@ -28,11 +28,12 @@ use Rattle.op_graph.specs.Rules.{found, stored_by, cell_entry, kind_fits, agree,
 use Rattle.op_graph.specs.Rules.{operand_fits, imm_fits}
 use Rattle.op_graph.specs.GraphRun.{read, operand, outcome_of, Cycle, after, cycle_from, cycle, initial, stored, Run, after_cycle, run_from, graph_run}
 use Rattle.op_graph.specs.GraphRun.{CellsFit, OutputsFit, ValuesFit}
+use Rattle.op_graph.specs.Laws.{OperandLaws}
 use Rattle.op_graph.proofs.Entries.{eqb_self, last_of_push, other, get_last}
 
 -- ---- types
 
-pub within_fits : (s t : Ty) (v : ℤ) → within s t ≡ true → fits s v ≡ true → fits t v ≡ true
+within_fits : (s t : Ty) (v : ℤ) → within s t ≡ true → fits s v ≡ true → fits t v ≡ true
 within_fits ty.Bool ty.Bool v w h = h
 within_fits ty.Bool ty.Int v w h = absurd cc
 within_fits ty.Bool ty.Dint v w h = absurd cc
@@ -379,7 +380,7 @@ outputs_fit g values graph typed len = λ k o there.
     let fits_op : fits op.0.ty (at values o.op) ≡ true = typed o.op op.0 (omega (arith, fits_list.operation)) op.1 in
     subst (λ t. fits t (at values o.op) ≡ true) (sym type) fits_op
 
-pub initial_fits : (g : Lists) → IsGraph g → CellsFit g (initial g)
+initial_fits : (g : Lists) → IsGraph g → CellsFit g (initial g)
 initial_fits g graph = λ k l there.
     let fit = each_at (LoadFits (length g.names) (length g.operations)) [] g.loads k l graph.part.loads there in
     subst (λ z. fits l.ty z ≡ true) (sym (map_at (λ m. m.init) g.loads k l there)) fit.init
@@ -393,14 +394,14 @@ typed_nothing ops = λ i op lt there. absurd (omega arith)
 sound : (g : Lists) (cells row : List ℤ) → IsGraph g → CellsFit g cells → Sound g.operations (cycle g cells row)
 sound g cells row graph held = cycle_sound g (length g.turn_nodes) cells row [] [] g.operations held graph.part.operations (typed_nothing []) refl
 
-pub cycle_without_operand_stop : (g : Lists) (cells row : List ℤ) → IsGraph g → CellsFit g cells → (cycle g cells row).stop ≢ Some stop.Operand
+cycle_without_operand_stop : (g : Lists) (cells row : List ℤ) → IsGraph g → CellsFit g cells → (cycle g cells row).stop ≢ Some stop.Operand
 cycle_without_operand_stop g cells row graph held = (sound g cells row graph held).no_operand
 
-pub cycle_keeps_types : (g : Lists) (cells row : List ℤ) → IsGraph g → CellsFit g cells → (cycle g cells row).stop ≡ None
+cycle_keeps_types : (g : Lists) (cells row : List ℤ) → IsGraph g → CellsFit g cells → (cycle g cells row).stop ≡ None
     → CellsFit g (stored g (cycle g cells row).values)
 cycle_keeps_types g cells row graph held whole = let c = sound g cells row graph held in stored_fits g (cycle g cells row).values graph c.typed (c.whole whole)
 
-pub cycle_outputs_fit : (g : Lists) (cells row : List ℤ) → IsGraph g → CellsFit g cells → (cycle g cells row).stop ≡ None
+cycle_outputs_fit : (g : Lists) (cells row : List ℤ) → IsGraph g → CellsFit g cells → (cycle g cells row).stop ≡ None
     → OutputsFit g (cycle g cells row).values
 cycle_outputs_fit g cells row graph held whole = let c = sound g cells row graph held in outputs_fit g (cycle g cells row).values graph c.typed (c.whole whole)
 
@@ -415,15 +416,27 @@ run_fair g cells (row ∷ rows) graph held =
     after_cycle_fair g (cycle g cells row).values (λ kept. run_from g kept rows) (cycle g cells row).stop (cycle_without_operand_stop g cells row graph held)
     (λ whole. run_fair g (stored g (cycle g cells row).values) rows graph (cycle_keeps_types g cells row graph held whole))
 
-pub run_without_operand_stop : (g : Lists) (rows : List (List ℤ)) → IsGraph g → IfSome (graph_run g rows).end (λ e. e.kind ≢ stop.Operand)
+run_without_operand_stop : (g : Lists) (rows : List (List ℤ)) → IsGraph g → IfSome (graph_run g rows).end (λ e. e.kind ≢ stop.Operand)
 run_without_operand_stop g rows graph = run_fair g (initial g) rows graph (initial_fits g graph)
 
 part_sound : (g : Lists) (cells row : List ℤ) → IsPart g → CellsFit g cells → Sound g.operations (cycle g cells row)
 part_sound g cells row part held = cycle_sound g (length g.turn_nodes) cells row [] [] g.operations held part.operations (typed_nothing []) refl
 
-pub part_without_operand_stop : (g : Lists) (cells row : List ℤ) → IsPart g → CellsFit g cells → (cycle g cells row).stop ≢ Some stop.Operand
+part_without_operand_stop : (g : Lists) (cells row : List ℤ) → IsPart g → CellsFit g cells → (cycle g cells row).stop ≢ Some stop.Operand
 part_without_operand_stop g cells row part held = (part_sound g cells row part held).no_operand
 
-pub part_values_fit : (g : Lists) (cells row : List ℤ) → IsPart g → CellsFit g cells → ValuesFit g (cycle g cells row).values
+part_values_fit : (g : Lists) (cells row : List ℤ) → IsPart g → CellsFit g cells → ValuesFit g (cycle g cells row).values
 unfolding Typed
 part_values_fit g cells row part held = (part_sound g cells row part held).typed
+
+pub operand_laws : OperandLaws
+operand_laws = record {
+  cycle = λ g held row graph fit. cycle_without_operand_stop g held row graph fit;
+  cells_at_first = λ g graph. initial_fits g graph;
+  cells_kept = λ g held row graph fit whole. cycle_keeps_types g held row graph fit whole;
+  outputs = λ g held row graph fit whole. cycle_outputs_fit g held row graph fit whole;
+  part = λ g held row part fit. part_without_operand_stop g held row part fit;
+  values = λ g held row part fit. part_values_fit g held row part fit;
+  run = λ g rows graph. run_without_operand_stop g rows graph;
+  wider = within_fits;
+}

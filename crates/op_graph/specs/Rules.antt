@@ -3,7 +3,7 @@ use Rattle.std.specs.Option.{is_some}
 use Rattle.std.specs.Ordering.{int_eq}
 use Rattle.std.specs.Int.{w64}
 use Rattle.vcp_base.specs.declared.spot.Spot.{Spot}
-use Rattle.std.specs.Prelude.{FitsSigned, ◌≡◌, ℕ, ◌+◌, ◌^◌, ◌<◌, ◌≤◌, ◌==◌, ℤ, pos, Bool, true, false, not, ◌&&◌, cond, nat_lt, nat_le, List, [], ◌∷◌, ◌++◌}
+use Rattle.std.specs.Prelude.{FitsSigned, ◌≡◌, ℕ, ◌+◌, ◌^◌, ◌<◌, ◌≤◌, ◌==◌, ℤ, pos, Bool, true, false, not, ◌&&◌, ◌||◌, cond, nat_lt, nat_le, List, [], ◌∷◌, ◌++◌}
 use Rattle.std.specs.Prelude.{length, slice_get, All, Option, Some, None}
 use Rattle.vcp_base.specs.declared.code.Profile.{Profile}
 use Rattle.vcp_base.specs.declared.ty.Ty.{Ty}
@@ -154,24 +154,9 @@ abbrev pub kind_fits : Place → Kind → Bool
 kind_fits p k =
     agree (is_input k) (is_some p.input) && agree (is_load k) (is_some p.load) && agree (is_store k) (is_some p.store) && agree (is_out k) (is_some p.out)
 
--- CONV goes from a number to another number, and from BOOL to INT
+-- CONV goes to another type: from a number to a number, and from BOOL to INT
 abbrev pub converts : Ty → Ty → Bool
-converts ty.Bool ty.Bool = false
-converts ty.Bool ty.Int = true
-converts ty.Bool ty.Dint = false
-converts ty.Bool ty.Lint = false
-converts ty.Int ty.Bool = false
-converts ty.Int ty.Int = false
-converts ty.Int ty.Dint = true
-converts ty.Int ty.Lint = true
-converts ty.Dint ty.Bool = false
-converts ty.Dint ty.Int = true
-converts ty.Dint ty.Dint = false
-converts ty.Dint ty.Lint = true
-converts ty.Lint ty.Bool = false
-converts ty.Lint ty.Int = true
-converts ty.Lint ty.Dint = true
-converts ty.Lint ty.Lint = false
+converts from to = is_number to && not (same_type from to) && (is_number from || same_type to ty.Int)
 
 -- a kind takes operands of the type: arithmetic and `<` take numbers, logic takes BOOL, every other kind any type
 abbrev pub takes_type : Kind → Ty → Bool

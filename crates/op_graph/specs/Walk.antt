@@ -1,5 +1,5 @@
 -- Walk: the entry of each operation by one walk over a list of entries whose operations rise.
--- How an entry is found, and no promise of its own: what is found is `place_of` in Rules.
+-- Who reads the operations in their order may find entries so: what the walk finds is `place_of` in Rules, as the law of walks says.
 use Rattle.std.specs.Prelude.{ℕ, ◌+◌, ◌==◌, Bool, false, cond, nat_lt, List, [], ◌∷◌, slice_get, Option, Some, None}
 use Rattle.vcp_base.specs.declared.ty.Ty.{Ty}
 use Rattle.op_graph.specs.declared.op.Loaded.{Loaded}

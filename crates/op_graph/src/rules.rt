@@ -68,13 +68,7 @@ pub fn kind_fits(place: &Place, kind: Kind) -> bool
 pub fn converts(from: Ty, to: Ty) -> bool
     ensures { result ≡ converts_of from to }
 {
-    match (from, to) {
-        (Ty::Bool, Ty::Int) => true,
-        (Ty::Int, Ty::Dint | Ty::Lint) => true,
-        (Ty::Dint, Ty::Int | Ty::Lint) => true,
-        (Ty::Lint, Ty::Int | Ty::Dint) => true,
-        _ => false,
-    }
+    is_number(to) && !same_type(from, to) && (is_number(from) || same_type(to, Ty::Int))
 }
 
 /// Whether the kind takes operands of the type: arithmetic and `<` take numbers, logic takes BOOL, every other kind any

@@ -13,7 +13,7 @@ use Rattle.st_tree.specs.declared.program.Class.TheVariants as class
 use Rattle.st_tree.specs.ExprTree.{ExprTree, ExprTrees, literal, name, unary, binary, call, no_exprs, and_expr}
 use Rattle.vcp_typed.specs.declared.expr.Fun.{Fun}
 use Rattle.vcp_typed.specs.declared.expr.Fun.TheVariants as fun
-use Rattle.vcp_typed.specs.Rules.{widens, joined, joined_or_bool, common, result, signed, arguments}
+use Rattle.vcp_typed.specs.Rules.{widens, joined, joined_or_bool, common, result, signed, conversion, arguments}
 use Rattle.vcp_typed.specs.TExprTree as typed
 use Rattle.vcp_typed.specs.Checked.{ty_of}
 pub use Rattle.st_types.specs.declared.literal.Untyped.{Untyped}
@@ -107,14 +107,7 @@ of_sel ty.Lint a b = None
 -- the type of a function of one, two or three arguments of these types
 abbrev pub of_one : Fun → Ty → Option Ty
 of_one fun.Abs a = joined a a
-of_one fun.IntToDint a = converted ty.Int ty.Dint a
-of_one fun.IntToLint a = converted ty.Int ty.Lint a
-of_one fun.DintToInt a = converted ty.Dint ty.Int a
-of_one fun.DintToLint a = converted ty.Dint ty.Lint a
-of_one fun.LintToInt a = converted ty.Lint ty.Int a
-of_one fun.LintToDint a = converted ty.Lint ty.Dint a
-of_one fun.BoolToInt a = converted ty.Bool ty.Int a
-of_one _ a = None
+of_one f a = option_and_then (λ types. converted types.0 types.1 a) (conversion f)
 
 abbrev pub of_two : Fun → Ty → Ty → Option Ty
 of_two fun.Min a b = joined a b

@@ -1,8 +1,9 @@
 //! The functions of the language: their names, their arguments and their types.
 
-ghost use Rattle.std.specs.Prelude.{◌≡◌, [], ◌∷◌, IfOk, Some, map, option_map};
+ghost use Rattle.std.specs.Prelude.{◌≡◌, [], ◌∷◌, IfOk, Some, map, option_map, option_and_then};
 ghost use Rattle.vcp_typed.specs.declared.expr.Fun.TheVariants as fun_;
-ghost use Rattle.vcp_typed.specs.Rules.{of_numbers as of_numbers_of, arguments as arguments_of};
+ghost use Rattle.vcp_typed.specs.Rules.{of_numbers as of_numbers_of, conversion as conversion_of, converted_from as converted_from_of};
+ghost use Rattle.vcp_typed.specs.Rules.{arguments as arguments_of};
 ghost use Rattle.vcp_typed.specs.TExprViews.{texpr_tree};
 ghost use Rattle.vcp_typed.specs.Checked.{ty_of as type_of_value};
 ghost use Rattle.st_types.specs.ExprTyping.{function as function_of, arity as arity_of, called as called_of, converted as converted_of, of_sel as of_sel_of};
@@ -10,8 +11,8 @@ ghost use Rattle.st_types.specs.ExprTyping.{of_one as of_one_of, of_two as of_tw
 
 use crate::operator::{joined, joined_or_bool, ty_of};
 use std::alloc::Global;
-use vcp_base::{Memory, Ty, within};
-use vcp_typed::{Fun, TExpr};
+use vcp_base::{Memory, Ty, same_type, within};
+use vcp_typed::{Fun, TExpr, conversion};
 
 // The function of a name, without regard to case.
 fn function(name: &[u8]) -> Option<Fun>
@@ -99,17 +100,10 @@ fn of_one(fun: Fun, a: Ty) -> Option<Ty>
 {
     match fun {
         Fun::Abs => joined(a, a),
-        Fun::IntToDint => converted(Ty::Int, Ty::Dint, a),
-        Fun::IntToLint => converted(Ty::Int, Ty::Lint, a),
-        Fun::DintToInt => converted(Ty::Dint, Ty::Int, a),
-        Fun::DintToLint => converted(Ty::Dint, Ty::Lint, a),
-        Fun::LintToInt => converted(Ty::Lint, Ty::Int, a),
-        Fun::LintToDint => converted(Ty::Lint, Ty::Dint, a),
-        Fun::BoolToInt => converted(Ty::Bool, Ty::Int, a),
-        Fun::Min => None,
-        Fun::Max => None,
-        Fun::Limit => None,
-        Fun::Sel => None,
+        _ => {
+            let (source, ty) = conversion(fun)?;
+            converted(source, ty, a)
+        }
     }
 }
 
@@ -185,34 +179,32 @@ fn of_numbers(alloc: Global, types: &[Ty], ty: Ty) -> Result<Option<Vec<Ty>>, Me
     }
 }
 
-// The one argument's type.
-fn one_type(alloc: Global, ty: Ty) -> Result<Option<Vec<Ty>>, Memory>
-    ensures { IfOk result (λ r. option_map (λ v. v.items) r ≡ Some (ty ∷ [])) }
+// The types of a function's argument, where it is a conversion to the type.
+fn converted_from(alloc: Global, fun: Fun, ty: Ty) -> Result<Option<Vec<Ty>>, Memory>
+    ensures { IfOk result (λ r. option_map (λ v. v.items) r ≡ option_and_then (λ types. converted_from_of types ty) (conversion_of fun)) }
 {
-    Ok(Some([ty].to_vec(alloc)?))
+    match conversion(fun) {
+        None => Ok(None),
+        Some((source, to)) => {
+            if same_type(ty, to) {
+                Ok(Some([source].to_vec(alloc)?))
+            } else {
+                Ok(None)
+            }
+        }
+    }
 }
 
 /// The types of a function's arguments, where its value has this type; none where it hasn't such a value.
 pub(crate) fn arguments(alloc: Global, fun: Fun, ty: Ty) -> Result<Option<Vec<Ty>>, Memory>
     ensures { IfOk result (λ r. option_map (λ v. v.items) r ≡ arguments_of fun ty) }
 {
-    match (fun, ty) {
-        (Fun::Abs, _) => of_numbers(alloc, &[ty], ty),
-        (Fun::Min, _) => of_numbers(alloc, &[ty, ty], ty),
-        (Fun::Max, _) => of_numbers(alloc, &[ty, ty], ty),
-        (Fun::Limit, _) => of_numbers(alloc, &[ty, ty, ty], ty),
-        (Fun::Sel, _) => Ok(Some([Ty::Bool, ty, ty].to_vec(alloc)?)),
-        (Fun::IntToDint, Ty::Dint) => one_type(alloc, Ty::Int),
-        (Fun::IntToLint, Ty::Lint) => one_type(alloc, Ty::Int),
-        (Fun::DintToInt, Ty::Int) => one_type(alloc, Ty::Dint),
-        (Fun::DintToLint, Ty::Lint) => one_type(alloc, Ty::Dint),
-        (Fun::LintToInt, Ty::Int) => one_type(alloc, Ty::Lint),
-        (Fun::LintToDint, Ty::Dint) => one_type(alloc, Ty::Lint),
-        (Fun::BoolToInt, Ty::Int) => one_type(alloc, Ty::Bool),
-        (Fun::IntToDint | Fun::LintToDint, Ty::Bool | Ty::Int | Ty::Lint) => Ok(None),
-        (Fun::IntToLint | Fun::DintToLint, Ty::Bool | Ty::Int | Ty::Dint) => Ok(None),
-        (Fun::DintToInt | Fun::LintToInt | Fun::BoolToInt, Ty::Bool | Ty::Dint | Ty::Lint) => Ok(
-            None,
-        ),
+    match fun {
+        Fun::Abs => of_numbers(alloc, &[ty], ty),
+        Fun::Min => of_numbers(alloc, &[ty, ty], ty),
+        Fun::Max => of_numbers(alloc, &[ty, ty], ty),
+        Fun::Limit => of_numbers(alloc, &[ty, ty, ty], ty),
+        Fun::Sel => Ok(Some([Ty::Bool, ty, ty].to_vec(alloc)?)),
+        _ => converted_from(alloc, fun, ty),
     }
 }

@@ -1,7 +1,8 @@
 -- Rules: the types of operators and functions.
-use Rattle.std.specs.Prelude.{Bool, true, false, List, [], ◌∷◌, Option, Some, None}
+use Rattle.std.specs.Prelude.{Bool, true, false, cond, List, [], ◌∷◌, Option, Some, None, option_and_then}
 use Rattle.vcp_base.specs.declared.ty.Ty.{Ty}
 use Rattle.vcp_base.specs.declared.ty.Ty.TheVariants as ty
+use Rattle.vcp_base.specs.Types.{same_type}
 use Rattle.st_tree.specs.declared.expr.UnOp.{UnOp}
 use Rattle.st_tree.specs.declared.expr.UnOp.TheVariants as un
 use Rattle.st_tree.specs.declared.expr.BinOp.{BinOp}
@@ -106,44 +107,37 @@ signed un.Not ty.Int = None
 signed un.Not ty.Dint = None
 signed un.Not ty.Lint = None
 
--- the types of a function's arguments, where its value has this type; none where it hasn't such a value
+-- these types, where the value's type is one of numbers
 abbrev pub of_numbers : List Ty → Ty → Option (List Ty)
 of_numbers ts ty.Bool = None
 of_numbers ts ty.Int = Some ts
 of_numbers ts ty.Dint = Some ts
 of_numbers ts ty.Lint = Some ts
 
+-- the types of a conversion: that of its argument, and that of its value; none where the function is no conversion
+abbrev pub conversion : Fun → Option (Ty × Ty)
+conversion fun.Abs = None
+conversion fun.Min = None
+conversion fun.Max = None
+conversion fun.Limit = None
+conversion fun.Sel = None
+conversion fun.IntToDint = Some (ty.Int, ty.Dint)
+conversion fun.IntToLint = Some (ty.Int, ty.Lint)
+conversion fun.DintToInt = Some (ty.Dint, ty.Int)
+conversion fun.DintToLint = Some (ty.Dint, ty.Lint)
+conversion fun.LintToInt = Some (ty.Lint, ty.Int)
+conversion fun.LintToDint = Some (ty.Lint, ty.Dint)
+conversion fun.BoolToInt = Some (ty.Bool, ty.Int)
+
+-- the one argument's type, where the conversion's value has the type t
+abbrev pub converted_from : Ty × Ty → Ty → Option (List Ty)
+converted_from types t = cond (same_type t types.1) (Some (types.0 ∷ [])) None
+
+-- the types of a function's arguments, where its value has this type; none where it hasn't such a value
 abbrev pub arguments : Fun → Ty → Option (List Ty)
 arguments fun.Abs t = of_numbers (t ∷ []) t
 arguments fun.Min t = of_numbers (t ∷ t ∷ []) t
 arguments fun.Max t = of_numbers (t ∷ t ∷ []) t
 arguments fun.Limit t = of_numbers (t ∷ t ∷ t ∷ []) t
 arguments fun.Sel t = Some (ty.Bool ∷ t ∷ t ∷ [])
-arguments fun.IntToDint ty.Bool = None
-arguments fun.IntToDint ty.Int = None
-arguments fun.IntToDint ty.Dint = Some (ty.Int ∷ [])
-arguments fun.IntToDint ty.Lint = None
-arguments fun.IntToLint ty.Bool = None
-arguments fun.IntToLint ty.Int = None
-arguments fun.IntToLint ty.Dint = None
-arguments fun.IntToLint ty.Lint = Some (ty.Int ∷ [])
-arguments fun.DintToInt ty.Bool = None
-arguments fun.DintToInt ty.Int = Some (ty.Dint ∷ [])
-arguments fun.DintToInt ty.Dint = None
-arguments fun.DintToInt ty.Lint = None
-arguments fun.DintToLint ty.Bool = None
-arguments fun.DintToLint ty.Int = None
-arguments fun.DintToLint ty.Dint = None
-arguments fun.DintToLint ty.Lint = Some (ty.Dint ∷ [])
-arguments fun.LintToInt ty.Bool = None
-arguments fun.LintToInt ty.Int = Some (ty.Lint ∷ [])
-arguments fun.LintToInt ty.Dint = None
-arguments fun.LintToInt ty.Lint = None
-arguments fun.LintToDint ty.Bool = None
-arguments fun.LintToDint ty.Int = None
-arguments fun.LintToDint ty.Dint = Some (ty.Lint ∷ [])
-arguments fun.LintToDint ty.Lint = None
-arguments fun.BoolToInt ty.Bool = None
-arguments fun.BoolToInt ty.Int = Some (ty.Bool ∷ [])
-arguments fun.BoolToInt ty.Dint = None
-arguments fun.BoolToInt ty.Lint = None
+arguments f t = option_and_then (λ types. converted_from types t) (conversion f)

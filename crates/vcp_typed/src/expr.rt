@@ -1,6 +1,7 @@
 //! Checked expressions.
 
 ghost use Rattle.std.specs.Prelude.{◌≡◌, ◌<◌, ◌+◌, [], ◌∷◌, ◌++◌, Some, IfOk, OnOk, OnErr, drop, length, slice_get};
+ghost use Rattle.vcp_typed.specs.Rules.{conversion as conversion_of};
 ghost use Rattle.vcp_typed.specs.TExprTree.{literal as literal_tree, get as get_tree, widen as widen_tree, unary as unary_tree, binary as binary_tree};
 ghost use Rattle.vcp_typed.specs.TExprTree.{call as call_tree, no_texprs, and_texpr};
 ghost use Rattle.vcp_typed.specs.TExprViews.{texpr_tree, texpr_trees, texprs_and};
@@ -37,6 +38,23 @@ pub enum Fun {
     LintToDint,
     /// BOOL_TO_INT
     BoolToInt,
+}
+
+/// The types of a conversion: that of its argument, and that of its value; None where the function is
+/// no conversion.
+pub fn conversion(fun: Fun) -> Option<(Ty, Ty)>
+    ensures { result ≡ conversion_of fun }
+{
+    match fun {
+        Fun::Abs | Fun::Min | Fun::Max | Fun::Limit | Fun::Sel => None,
+        Fun::IntToDint => Some((Ty::Int, Ty::Dint)),
+        Fun::IntToLint => Some((Ty::Int, Ty::Lint)),
+        Fun::DintToInt => Some((Ty::Dint, Ty::Int)),
+        Fun::DintToLint => Some((Ty::Dint, Ty::Lint)),
+        Fun::LintToInt => Some((Ty::Lint, Ty::Int)),
+        Fun::LintToDint => Some((Ty::Lint, Ty::Dint)),
+        Fun::BoolToInt => Some((Ty::Bool, Ty::Int)),
+    }
 }
 
 /// The arguments of a function.

@@ -12,7 +12,7 @@ mod stmt;
 mod typed;
 mod wide;
 
-pub use expr::{Fun, TExpr, TExprs};
+pub use expr::{Fun, TExpr, TExprs, conversion};
 pub use laws::{causes_of_stops, trees_of_appended, trees_of_nodes, turns_name_slots, values_fit};
 pub use size::size_of;
 pub use slot::{Slot, Slots};

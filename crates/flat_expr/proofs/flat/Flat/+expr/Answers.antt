@@ -1,4 +1,4 @@
-use Rattle.std.proofs.Common.{◌≡◌, sym, ap, ◌∙◌, subst, rules, w64, SFits}
+use Rattle.std.proofs.Common.{◌≡◌, ℕ, false, sym, ap, ap₂, ◌∙◌, subst, rules, w64, SFits}
 use Rattle.std.proofs.lemmas.Result.{IfOk-weaker}
 use Rattle.std.proofs.lemmas.Int.{to_z-of_z}
 use Rattle.vcp_typed.specs.TExprTree.{literal, get, unary, binary}
@@ -8,8 +8,10 @@ use Rattle.flat_expr.specs.State.{Flattens, Reads}
 use Rattle.flat_expr.proofs.Exprs.{literal_made, get_made, unary_made, binary_made}
 use Rattle.std.specs.Prelude.{IfErr}
 use Rattle.std.proofs.lemmas.Result.{err_from_is_err_and}
-use Rattle.flat_expr.specs.State.{Refuses}
-use Rattle.flat_expr.proofs.Refusals.{later_refuses, more_refuses}
+use Rattle.flat_expr.specs.State.{Leaves, no_slot, one_reads}
+use Rattle.flat_expr.specs.ReadSlots.{reads_slot, read_slots}
+use Rattle.flat_expr.proofs.Steps.{neither}
+use Rattle.flat_expr.proofs.Refusals.{later_leaves, more_leaves}
 use Rattle.std.proofs.Common.{◌+◌, length, Some, refl, arith}
 use Rattle.std.proofs.lemmas.Option.{slice_get_read}
 use Rattle.vcp_typed.specs.TExprTree.{call}
@@ -23,7 +25,7 @@ use Rattle.vcp_typed.specs.Wide.{is_lint, expr_is_wide, exprs_are_wide}
 use Rattle.std.specs.Prelude.{◌||◌}
 use Rattle.flat_expr.proofs.Codes.{still, allows_at, allows_second, call_admitted, argument_code}
 use Rattle.flat_expr.proofs.Weight.{expr_weight}
-use Rattle.flat_expr.proofs.Arguments.{call_made, call_fits, one_follows, one_count, first_follows, sizes, argument_is, argument_none, argument_expr}
+use Rattle.flat_expr.proofs.Arguments.{call_made, call_fits, one_follows, one_count, one_unread, unread_argument, first_follows, sizes, argument_is, argument_none, argument_expr}
 use Rattle.flat_expr.proofs.Arguments.{argument_lighter, tree_of_call}
 use Rattle.flat_expr.proofs.flat.Flat.+expr.Goals as goal
 
@@ -70,6 +72,20 @@ expr-returns-in_ok-b-in-Binary-clause-made t c =
     (texpr_tree c.in-Binary.left.value)
     (texpr_tree c.in-Binary.right.value) c.in-Binary.spot c.in_ok-a-in-Binary.a c.in_ok-b-in-Binary.b k left right p)) c.operate.ensures.made
 
+pub expr-returns-in_err-a-in-Binary-clause-refuses : goal.expr-returns-in_err-a-in-Binary-clause-refuses
+expr-returns-in_err-a-in-Binary-clause-refuses t c =
+    let l = texpr_tree c.deref-in-Binary.result.now in
+    let r = texpr_tree c.in-Binary.right.value in
+    let tree : texpr_tree c.args.e.now ≡ binary c.in-Binary.op c.in-Binary.ty l r c.in-Binary.spot =
+    ap texpr_tree c.in-Binary.is ∙ ap (λ x. binary c.in-Binary.op c.in-Binary.ty (texpr_tree x) r c.in-Binary.spot) (sym c.deref-in-Binary.ensures) in
+    let all = reads_slot (texpr_tree c.args.e.now) in
+    let q = err_from_is_err_and c.from_residual-in_err-a-in-Binary.result c.from_residual-in_err-a-in-Binary.ensures.1 in
+    let h = more_leaves (reads_slot l) all c.args.self.now c.expr-in-Binary.new.self (expr_size l) (expr_size (texpr_tree c.args.e.now))
+    c.expr-in-Binary.result (λ slot no. (neither (reads_slot l slot) (reads_slot r slot) (sym (ap (λ x. reads_slot x slot) tree) ∙ no)).0)
+    (omega (arith, ap expr_size tree)) c.expr-in-Binary.ensures.refuses in
+    rw (q.1, q.2)
+    (subst (λ r. IfErr r (λ e. Leaves c.args.self.now c.expr-in-Binary.new.self all (expr_size (texpr_tree c.args.e.now)) e)) c.in_err-a-in-Binary.was h)
+
 pub expr-returns-in_err-b-in-Binary-clause-refuses : goal.expr-returns-in_err-b-in-Binary-clause-refuses
 expr-returns-in_err-b-in-Binary-clause-refuses t c =
     let is : texpr_tree c.args.e.now ≡ binary c.in-Binary.op c.in-Binary.ty (texpr_tree c.in-Binary.left.value)
@@ -77,21 +93,36 @@ expr-returns-in_err-b-in-Binary-clause-refuses t c =
     let left = ap (λ x. expr_size (texpr_tree x)) c.deref-in-Binary.ensures in
     let right = ap (λ x. expr_size (texpr_tree x)) c.deref-in-Binary-2.ensures in
     let q = err_from_is_err_and c.from_residual-in_err-b-in-Binary.result c.from_residual-in_err-b-in-Binary.ensures.1 in
-    let h = more_refuses c.args.self.now c.expr-in-Binary-2.new.self
+    let l = texpr_tree c.deref-in-Binary.result.now in
+    let r = texpr_tree c.deref-in-Binary-2.result.now in
+    let tree : texpr_tree c.args.e.now ≡ binary c.in-Binary.op c.in-Binary.ty l r c.in-Binary.spot =
+    is ∙ ap₂ (λ x y. binary c.in-Binary.op c.in-Binary.ty (texpr_tree x) (texpr_tree y) c.in-Binary.spot) (sym c.deref-in-Binary.ensures)
+    (sym c.deref-in-Binary-2.ensures) in
+    let all = reads_slot (texpr_tree c.args.e.now) in
+    let h = more_leaves all all c.args.self.now c.expr-in-Binary-2.new.self
     (expr_size (texpr_tree c.deref-in-Binary.result.now) + expr_size (texpr_tree c.deref-in-Binary-2.result.now))
-    (expr_size (texpr_tree c.args.e.now)) c.expr-in-Binary-2.result
+    (expr_size (texpr_tree c.args.e.now)) c.expr-in-Binary-2.result (λ slot no. no)
     (omega (arith, ap expr_size is, left, right))
-    (later_refuses c.args.self.now c.expr-in-Binary.new.self c.expr-in-Binary-2.new.self (expr_size (texpr_tree c.deref-in-Binary.result.now)) (expr_size (texpr_tree c.deref-in-Binary-2.result.now)) c.expr-in-Binary-2.result c.in_ok-a-in-Binary.ensures.made.follows c.in_ok-a-in-Binary.ensures.made.count c.expr-in-Binary-2.ensures.refuses) in
+    (later_leaves (reads_slot l) (reads_slot r) all c.args.self.now c.expr-in-Binary.new.self c.expr-in-Binary-2.new.self (expr_size l) (expr_size r)
+    c.expr-in-Binary-2.result (λ slot no. neither (reads_slot l slot) (reads_slot r slot) (sym (ap (λ x. reads_slot x slot) tree) ∙ no))
+    c.in_ok-a-in-Binary.ensures.made.follows c.in_ok-a-in-Binary.ensures.made.unread c.in_ok-a-in-Binary.ensures.made.count
+    c.expr-in-Binary-2.ensures.refuses) in
     rw (q.1, q.2)
-    (subst (λ r. IfErr r (λ e. Refuses c.args.self.now c.expr-in-Binary-2.new.self (expr_size (texpr_tree c.args.e.now)) e)) c.in_err-b-in-Binary.was h)
+    (subst (λ r. IfErr r (λ e. Leaves c.args.self.now c.expr-in-Binary-2.new.self all (expr_size (texpr_tree c.args.e.now)) e)) c.in_err-b-in-Binary.was h)
 
 pub expr-returns-in_ok-a-in-Unary-clause-refuses : goal.expr-returns-in_ok-a-in-Unary-clause-refuses
 expr-returns-in_ok-a-in-Unary-clause-refuses t c =
     let is : texpr_tree c.args.e.now ≡ unary c.in-Unary.op c.in-Unary.ty (texpr_tree c.in-Unary.arg.value) c.in-Unary.spot = ap texpr_tree c.in-Unary.is in
     let arg = ap (λ x. expr_size (texpr_tree x)) c.deref-in-Unary.ensures in
-    more_refuses c.args.self.now c.sign.new.self (expr_size (texpr_tree c.deref-in-Unary.result.now) + 2) (expr_size (texpr_tree c.args.e.now)) c.sign.result
+    let a = texpr_tree c.deref-in-Unary.result.now in
+    let tree : texpr_tree c.args.e.now ≡ unary c.in-Unary.op c.in-Unary.ty a c.in-Unary.spot =
+    is ∙ ap (λ x. unary c.in-Unary.op c.in-Unary.ty (texpr_tree x) c.in-Unary.spot) (sym c.deref-in-Unary.ensures) in
+    let all = reads_slot (texpr_tree c.args.e.now) in
+    more_leaves all all c.args.self.now c.sign.new.self (expr_size a + 2) (expr_size (texpr_tree c.args.e.now)) c.sign.result (λ slot no. no)
     (omega (arith, ap expr_size is, arg))
-    (later_refuses c.args.self.now c.expr-in-Unary.new.self c.sign.new.self (expr_size (texpr_tree c.deref-in-Unary.result.now)) 2 c.sign.result c.in_ok-a-in-Unary.ensures.made.follows c.in_ok-a-in-Unary.ensures.made.count c.sign.ensures.refuses)
+    (later_leaves (reads_slot a) no_slot all c.args.self.now c.expr-in-Unary.new.self c.sign.new.self (expr_size a) 2 c.sign.result
+    (λ slot no. (sym (ap (λ x. reads_slot x slot) tree) ∙ no, refl)) c.in_ok-a-in-Unary.ensures.made.follows c.in_ok-a-in-Unary.ensures.made.unread
+    c.in_ok-a-in-Unary.ensures.made.count c.sign.ensures.refuses)
 
 pub expr-returns-in_ok-b-in-Binary-clause-refuses : goal.expr-returns-in_ok-b-in-Binary-clause-refuses
 expr-returns-in_ok-b-in-Binary-clause-refuses t c =
@@ -99,12 +130,21 @@ expr-returns-in_ok-b-in-Binary-clause-refuses t c =
     (texpr_tree c.in-Binary.right.value) c.in-Binary.spot = ap texpr_tree c.in-Binary.is in
     let left = ap (λ x. expr_size (texpr_tree x)) c.deref-in-Binary.ensures in
     let right = ap (λ x. expr_size (texpr_tree x)) c.deref-in-Binary-2.ensures in
-    more_refuses c.args.self.now c.operate.new.self
-    (expr_size (texpr_tree c.deref-in-Binary.result.now) + (expr_size (texpr_tree c.deref-in-Binary-2.result.now) + operator_size c.in-Binary.op))
-    (expr_size (texpr_tree c.args.e.now)) c.operate.result
-    (omega (arith, ap expr_size is, left, right))
-    (later_refuses c.args.self.now c.expr-in-Binary.new.self c.operate.new.self (expr_size (texpr_tree c.deref-in-Binary.result.now)) (expr_size (texpr_tree c.deref-in-Binary-2.result.now) + operator_size c.in-Binary.op) c.operate.result c.in_ok-a-in-Binary.ensures.made.follows c.in_ok-a-in-Binary.ensures.made.count
-    (later_refuses c.expr-in-Binary.new.self c.expr-in-Binary-2.new.self c.operate.new.self (expr_size (texpr_tree c.deref-in-Binary-2.result.now)) (operator_size c.in-Binary.op) c.operate.result c.in_ok-b-in-Binary.ensures.made.follows c.in_ok-b-in-Binary.ensures.made.count c.operate.ensures.refuses))
+    let l = texpr_tree c.deref-in-Binary.result.now in
+    let r = texpr_tree c.deref-in-Binary-2.result.now in
+    let tree : texpr_tree c.args.e.now ≡ binary c.in-Binary.op c.in-Binary.ty l r c.in-Binary.spot =
+    is ∙ ap₂ (λ x y. binary c.in-Binary.op c.in-Binary.ty (texpr_tree x) (texpr_tree y) c.in-Binary.spot) (sym c.deref-in-Binary.ensures)
+    (sym c.deref-in-Binary-2.ensures) in
+    let all = reads_slot (texpr_tree c.args.e.now) in
+    more_leaves all all c.args.self.now c.operate.new.self (expr_size l + (expr_size r + operator_size c.in-Binary.op)) (expr_size (texpr_tree c.args.e.now))
+    c.operate.result (λ slot no. no) (omega (arith, ap expr_size is, left, right))
+    (later_leaves (reads_slot l) (reads_slot r) all c.args.self.now c.expr-in-Binary.new.self c.operate.new.self (expr_size l)
+    (expr_size r + operator_size c.in-Binary.op) c.operate.result
+    (λ slot no. neither (reads_slot l slot) (reads_slot r slot) (sym (ap (λ x. reads_slot x slot) tree) ∙ no)) c.in_ok-a-in-Binary.ensures.made.follows
+    c.in_ok-a-in-Binary.ensures.made.unread c.in_ok-a-in-Binary.ensures.made.count
+    (later_leaves (reads_slot r) no_slot (reads_slot r) c.expr-in-Binary.new.self c.expr-in-Binary-2.new.self c.operate.new.self (expr_size r)
+    (operator_size c.in-Binary.op) c.operate.result (λ slot no. (no, refl)) c.in_ok-b-in-Binary.ensures.made.follows
+    c.in_ok-b-in-Binary.ensures.made.unread c.in_ok-b-in-Binary.ensures.made.count c.operate.ensures.refuses))
 
 -- ---- functions
 
@@ -127,7 +167,7 @@ argument-returns-then-i-args-clause-made t c =
 pub argument-returns-then-i-args-clause-refuses : goal.argument-returns-then-i-args-clause-refuses
 argument-returns-then-i-args-clause-refuses t c =
     let there = slice_get_read c.args.args.now (length c.args.args.now) c.args.i c.index-args-i.result refl c.if-i-args.true c.index-args-i.is in
-    subst (λ o. IfErr c.expr.result (λ why. Refuses c.args.self.now c.expr.new.self (one_size o) why))
+    subst (λ o. IfErr c.expr.result (λ why. Leaves c.args.self.now c.expr.new.self (one_reads o) (one_size o) why))
     (sym (argument_is c.args.args.now c.args.i c.index-args-i.result there)) c.expr.ensures.refuses
 
 pub argument-returns-else-i-args-clause-made : goal.argument-returns-else-i-args-clause-made
@@ -261,9 +301,12 @@ expr-returns-in_err-a-in-Call-clause-refuses t c =
     let ok : AreExprs c.args.self.now.slots es × (arguments c.in-Call.fun c.in-Call.ty ≡ Some (tys_of es)) =
     subst (IsExpr c.args.self.now.slots) e c.requires.checked in
     let q = err_from_is_err_and c.from_residual-in_err-a-in-Call.result c.from_residual-in_err-a-in-Call.ensures.1 in
-    let h = more_refuses c.args.self.now c.argument.new.self (one_size (argument es 0)) (expr_size (texpr_tree c.args.e.now)) c.argument.result
+    let not_read : (slot : ℕ) → reads_slot (texpr_tree c.args.e.now) slot ≡ false → read_slots es slot ≡ false =
+    λ slot no. sym (ap (λ x. reads_slot x slot) e) ∙ no in
+    let h = more_leaves (one_reads (argument es 0)) (reads_slot (texpr_tree c.args.e.now)) c.args.self.now c.argument.new.self (one_size (argument es 0))
+    (expr_size (texpr_tree c.args.e.now)) c.argument.result (λ slot no. unread_argument es 0 slot (not_read slot no))
     (omega (arith, ap expr_size e, sizes es)) c.argument.ensures.refuses in
-    rw (q.1, q.2) (subst (λ r. IfErr r (λ e. Refuses c.args.self.now c.argument.new.self (expr_size (texpr_tree c.args.e.now)) e)) c.in_err-a-in-Call.was h)
+    rw (q.1, q.2) (subst (λ r. IfErr r (λ e. Leaves c.args.self.now c.argument.new.self (reads_slot (texpr_tree c.args.e.now)) (expr_size (texpr_tree c.args.e.now)) e)) c.in_err-a-in-Call.was h)
 
 pub expr-returns-in_err-b-in-Call-clause-refuses : goal.expr-returns-in_err-b-in-Call-clause-refuses
 expr-returns-in_err-b-in-Call-clause-refuses t c =
@@ -277,12 +320,17 @@ expr-returns-in_err-b-in-Call-clause-refuses t c =
     first_follows c.args.self.now c.argument.new.self c.in-Call.fun c.in-Call.ty es c.in_ok-a-in-Call.a ok.1 c.in_ok-a-in-Call.ensures.made in
     let count = one_count c.args.self.now c.argument.new.self (argument es 0) c.in_ok-a-in-Call.a c.in_ok-a-in-Call.ensures.made in
     let q = err_from_is_err_and c.from_residual-in_err-b-in-Call.result c.from_residual-in_err-b-in-Call.ensures.1 in
-    let h = more_refuses c.args.self.now c.argument-in-Call.new.self (one_size (argument es 0) + one_size (argument es 1))
-    (expr_size (texpr_tree c.args.e.now)) c.argument-in-Call.result (omega (arith, ap expr_size e, sizes es))
-    (later_refuses c.args.self.now c.argument.new.self c.argument-in-Call.new.self (one_size (argument es 0))
-    (one_size (argument es 1)) c.argument-in-Call.result first count c.argument-in-Call.ensures.refuses) in
+    let not_read : (slot : ℕ) → reads_slot (texpr_tree c.args.e.now) slot ≡ false → read_slots es slot ≡ false =
+    λ slot no. sym (ap (λ x. reads_slot x slot) e) ∙ no in
+    let unread = one_unread c.args.self.now c.argument.new.self (argument es 0) c.in_ok-a-in-Call.a c.in_ok-a-in-Call.ensures.made in
+    let h = more_leaves (read_slots es) (reads_slot (texpr_tree c.args.e.now)) c.args.self.now c.argument-in-Call.new.self
+    (one_size (argument es 0) + one_size (argument es 1))
+    (expr_size (texpr_tree c.args.e.now)) c.argument-in-Call.result not_read (omega (arith, ap expr_size e, sizes es))
+    (later_leaves (one_reads (argument es 0)) (one_reads (argument es 1)) (read_slots es) c.args.self.now c.argument.new.self c.argument-in-Call.new.self
+    (one_size (argument es 0)) (one_size (argument es 1)) c.argument-in-Call.result
+    (λ slot no. (unread_argument es 0 slot no, unread_argument es 1 slot no)) first unread count c.argument-in-Call.ensures.refuses) in
     rw (q.1, q.2)
-    (subst (λ r. IfErr r (λ e. Refuses c.args.self.now c.argument-in-Call.new.self (expr_size (texpr_tree c.args.e.now)) e)) c.in_err-b-in-Call.was h)
+    (subst (λ r. IfErr r (λ e. Leaves c.args.self.now c.argument-in-Call.new.self (reads_slot (texpr_tree c.args.e.now)) (expr_size (texpr_tree c.args.e.now)) e)) c.in_err-b-in-Call.was h)
 
 pub expr-returns-in_err-c-in-Call-clause-refuses : goal.expr-returns-in_err-c-in-Call-clause-refuses
 expr-returns-in_err-c-in-Call-clause-refuses t c =
@@ -299,14 +347,21 @@ expr-returns-in_err-c-in-Call-clause-refuses t c =
     let count = one_count c.args.self.now c.argument.new.self (argument es 0) c.in_ok-a-in-Call.a c.in_ok-a-in-Call.ensures.made in
     let count2 = one_count c.argument.new.self c.argument-in-Call.new.self (argument es 1) c.in_ok-b-in-Call.b c.in_ok-b-in-Call.ensures.made in
     let q = err_from_is_err_and c.from_residual-in_err-c-in-Call.result c.from_residual-in_err-c-in-Call.ensures.1 in
-    let h = more_refuses c.args.self.now c.argument-in-Call-2.new.self (one_size (argument es 0) + (one_size (argument es 1) + one_size (argument es 2)))
-    (expr_size (texpr_tree c.args.e.now)) c.argument-in-Call-2.result (omega (arith, ap expr_size e, sizes es))
-    (later_refuses c.args.self.now c.argument.new.self c.argument-in-Call-2.new.self (one_size (argument es 0))
-    (one_size (argument es 1) + one_size (argument es 2)) c.argument-in-Call-2.result first count
-    (later_refuses c.argument.new.self c.argument-in-Call.new.self c.argument-in-Call-2.new.self (one_size (argument es 1))
-    (one_size (argument es 2)) c.argument-in-Call-2.result second count2 c.argument-in-Call-2.ensures.refuses)) in
+    let not_read : (slot : ℕ) → reads_slot (texpr_tree c.args.e.now) slot ≡ false → read_slots es slot ≡ false =
+    λ slot no. sym (ap (λ x. reads_slot x slot) e) ∙ no in
+    let unread = one_unread c.args.self.now c.argument.new.self (argument es 0) c.in_ok-a-in-Call.a c.in_ok-a-in-Call.ensures.made in
+    let unread2 = one_unread c.argument.new.self c.argument-in-Call.new.self (argument es 1) c.in_ok-b-in-Call.b c.in_ok-b-in-Call.ensures.made in
+    let h = more_leaves (read_slots es) (reads_slot (texpr_tree c.args.e.now)) c.args.self.now c.argument-in-Call-2.new.self
+    (one_size (argument es 0) + (one_size (argument es 1) + one_size (argument es 2)))
+    (expr_size (texpr_tree c.args.e.now)) c.argument-in-Call-2.result not_read (omega (arith, ap expr_size e, sizes es))
+    (later_leaves (one_reads (argument es 0)) (read_slots es) (read_slots es) c.args.self.now c.argument.new.self c.argument-in-Call-2.new.self
+    (one_size (argument es 0)) (one_size (argument es 1) + one_size (argument es 2)) c.argument-in-Call-2.result
+    (λ slot no. (unread_argument es 0 slot no, no)) first unread count
+    (later_leaves (one_reads (argument es 1)) (one_reads (argument es 2)) (read_slots es) c.argument.new.self c.argument-in-Call.new.self
+    c.argument-in-Call-2.new.self (one_size (argument es 1)) (one_size (argument es 2)) c.argument-in-Call-2.result
+    (λ slot no. (unread_argument es 1 slot no, unread_argument es 2 slot no)) second unread2 count2 c.argument-in-Call-2.ensures.refuses)) in
     rw (q.1, q.2)
-    (subst (λ r. IfErr r (λ e. Refuses c.args.self.now c.argument-in-Call-2.new.self (expr_size (texpr_tree c.args.e.now)) e)) c.in_err-c-in-Call.was h)
+    (subst (λ r. IfErr r (λ e. Leaves c.args.self.now c.argument-in-Call-2.new.self (reads_slot (texpr_tree c.args.e.now)) (expr_size (texpr_tree c.args.e.now)) e)) c.in_err-c-in-Call.was h)
 
 pub expr-returns-in_ok-c-in-Call-clause-refuses : goal.expr-returns-in_ok-c-in-Call-clause-refuses
 expr-returns-in_ok-c-in-Call-clause-refuses t c =
@@ -325,12 +380,20 @@ expr-returns-in_ok-c-in-Call-clause-refuses t c =
     let count = one_count c.args.self.now c.argument.new.self (argument es 0) c.in_ok-a-in-Call.a c.in_ok-a-in-Call.ensures.made in
     let count2 = one_count c.argument.new.self c.argument-in-Call.new.self (argument es 1) c.in_ok-b-in-Call.b c.in_ok-b-in-Call.ensures.made in
     let count3 = one_count c.argument-in-Call.new.self c.argument-in-Call-2.new.self (argument es 2) c.in_ok-c-in-Call.c c.in_ok-c-in-Call.ensures.made in
-    more_refuses c.args.self.now c.apply.new.self
+    let not_read : (slot : ℕ) → reads_slot (texpr_tree c.args.e.now) slot ≡ false → read_slots es slot ≡ false =
+    λ slot no. sym (ap (λ x. reads_slot x slot) e) ∙ no in
+    let unread = one_unread c.args.self.now c.argument.new.self (argument es 0) c.in_ok-a-in-Call.a c.in_ok-a-in-Call.ensures.made in
+    let unread2 = one_unread c.argument.new.self c.argument-in-Call.new.self (argument es 1) c.in_ok-b-in-Call.b c.in_ok-b-in-Call.ensures.made in
+    let unread3 = one_unread c.argument-in-Call.new.self c.argument-in-Call-2.new.self (argument es 2) c.in_ok-c-in-Call.c c.in_ok-c-in-Call.ensures.made in
+    more_leaves (read_slots es) (reads_slot (texpr_tree c.args.e.now)) c.args.self.now c.apply.new.self
     (one_size (argument es 0) + (one_size (argument es 1) + (one_size (argument es 2) + function_size c.in-Call.fun)))
-    (expr_size (texpr_tree c.args.e.now)) c.apply.result (omega (arith, ap expr_size e, sizes es))
-    (later_refuses c.args.self.now c.argument.new.self c.apply.new.self (one_size (argument es 0))
-    (one_size (argument es 1) + (one_size (argument es 2) + function_size c.in-Call.fun)) c.apply.result first count
-    (later_refuses c.argument.new.self c.argument-in-Call.new.self c.apply.new.self (one_size (argument es 1))
-    (one_size (argument es 2) + function_size c.in-Call.fun) c.apply.result second count2
-    (later_refuses c.argument-in-Call.new.self c.argument-in-Call-2.new.self c.apply.new.self (one_size (argument es 2))
-    (function_size c.in-Call.fun) c.apply.result third count3 c.apply.ensures.refuses)))
+    (expr_size (texpr_tree c.args.e.now)) c.apply.result not_read (omega (arith, ap expr_size e, sizes es))
+    (later_leaves (one_reads (argument es 0)) (read_slots es) (read_slots es) c.args.self.now c.argument.new.self c.apply.new.self (one_size (argument es 0))
+    (one_size (argument es 1) + (one_size (argument es 2) + function_size c.in-Call.fun)) c.apply.result
+    (λ slot no. (unread_argument es 0 slot no, no)) first unread count
+    (later_leaves (one_reads (argument es 1)) (read_slots es) (read_slots es) c.argument.new.self c.argument-in-Call.new.self c.apply.new.self
+    (one_size (argument es 1)) (one_size (argument es 2) + function_size c.in-Call.fun) c.apply.result
+    (λ slot no. (unread_argument es 1 slot no, no)) second unread2 count2
+    (later_leaves (one_reads (argument es 2)) no_slot (read_slots es) c.argument-in-Call.new.self c.argument-in-Call-2.new.self c.apply.new.self
+    (one_size (argument es 2)) (function_size c.in-Call.fun) c.apply.result (λ slot no. (unread_argument es 2 slot no, refl)) third unread3 count3
+    c.apply.ensures.refuses)))

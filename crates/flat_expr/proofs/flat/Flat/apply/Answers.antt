@@ -1,12 +1,14 @@
-use Rattle.std.proofs.Common.{pos, cond, refl, sym, subst, arith}
+use Rattle.std.proofs.Common.{◌≡◌, pos, true, cond, refl, sym, ◌∙◌, subst, arith}
+use Rattle.std.specs.Prelude.{IfErr}
 use Rattle.std.proofs.lemmas.Result.{IfOk-weaker}
-use Rattle.vcp_base.specs.declared.ty.Ty.TheVariants as ty
+use Rattle.vcp_base.specs.declared.ty.Ty.{Ty}
+use Rattle.vcp_base.specs.Code.{admits}
 use Rattle.vcp_base.specs.Kinds.{same}
 use Rattle.vcp_base.specs.Values.{at}
-use Rattle.vcp_typed.specs.declared.expr.Fun.TheVariants as fun
 use Rattle.vcp_typed.specs.Meaning.{lesser, greater}
 use Rattle.vcp_typed.specs.Size.{function_size}
-use Rattle.flat_expr.specs.State.{Makes, FunFits, applies}
+use Rattle.flat_expr.specs.State.{Makes, Refuses, applies}
+use Rattle.flat_expr.proofs.Conversions.{conversion_fits, conversion_last, conversion_size, argument_fits, converted}
 use Rattle.flat_expr.proofs.Operators.{total_step}
 use Rattle.flat_expr.proofs.flat.Flat.apply.Goals as goal
 
@@ -42,45 +44,38 @@ returns-in-Sel-clause-made c =
     (total_step c.args.self.now c.select.new.self c.args.ty _ (λ vs. cond (same (at vs c.args.a) (pos 0)) (at vs c.args.b) (at vs c.args.c)) _ _ k (omega arith)
     (λ now vs types. refl) p)) c.select.ensures.made
 
-pub returns-in-IntToDint-clause-made : goal.returns-in-IntToDint-clause-made
-returns-in-IntToDint-clause-made c =
-    IfOk-weaker c.copy.result _ _ (λ k p.
-    subst (λ f. Makes c.args.self.now c.copy.new.self c.args.ty (function_size f)
-    (applies c.args.self.now f c.args.ty c.args.a c.args.b c.args.c c.args.spot) k) (sym c.in-IntToDint.is)
-    (subst (λ u. Makes c.args.self.now c.copy.new.self u (function_size fun.IntToDint)
-    (applies c.args.self.now fun.IntToDint u c.args.a c.args.b c.args.c c.args.spot) k)
-    (sym (subst (λ f. FunFits f c.args.ty c.args.self.now.graph.operations c.args.a c.args.b c.args.c) c.in-IntToDint.is c.requires.arguments).0)
-    (total_step c.args.self.now c.copy.new.self ty.Dint _ (λ vs. at vs c.args.a) _ _ k (omega arith) (λ now vs types. refl) p))) c.copy.ensures.made
+pub convert-requires-clause-types : goal.convert-requires-clause-types
+convert-requires-clause-types c = conversion_fits c.args.fun (c.in-Some.from, c.in-Some.to) (sym c.conversion.ensures ∙ c.in-Some.is)
 
-pub returns-in-BoolToInt-clause-made : goal.returns-in-BoolToInt-clause-made
-returns-in-BoolToInt-clause-made c =
-    IfOk-weaker c.copy-in-BoolToInt.result _ _ (λ k p.
-    subst (λ f. Makes c.args.self.now c.copy-in-BoolToInt.new.self c.args.ty (function_size f)
-    (applies c.args.self.now f c.args.ty c.args.a c.args.b c.args.c c.args.spot) k) (sym c.in-BoolToInt.is)
-    (subst (λ u. Makes c.args.self.now c.copy-in-BoolToInt.new.self u (function_size fun.BoolToInt)
-    (applies c.args.self.now fun.BoolToInt u c.args.a c.args.b c.args.c c.args.spot) k)
-    (sym (subst (λ f. FunFits f c.args.ty c.args.self.now.graph.operations c.args.a c.args.b c.args.c) c.in-BoolToInt.is c.requires.arguments).0)
-    (total_step c.args.self.now c.copy-in-BoolToInt.new.self ty.Int _ (λ vs. at vs c.args.a) _ _ k (omega arith)
-    (λ now vs types. refl) p))) c.copy-in-BoolToInt.ensures.made
+pub convert-requires-clause-from : goal.convert-requires-clause-from
+convert-requires-clause-from c =
+    let last = conversion_last c.args.ty c.args.fun (c.in-Some.from, c.in-Some.to) (sym c.conversion.ensures ∙ c.in-Some.is) in
+    subst (λ t. admits c.args.self.now.graph.profile t ≡ true) last c.requires.last
 
-pub returns-in-IntToLint-clause-made : goal.returns-in-IntToLint-clause-made
-returns-in-IntToLint-clause-made c =
-    IfOk-weaker c.copy-in-IntToLint.result _ _ (λ k p.
-    subst (λ f. Makes c.args.self.now c.copy-in-IntToLint.new.self c.args.ty (function_size f)
-    (applies c.args.self.now f c.args.ty c.args.a c.args.b c.args.c c.args.spot) k) (sym c.in-IntToLint.is)
-    (subst (λ u. Makes c.args.self.now c.copy-in-IntToLint.new.self u (function_size fun.IntToLint)
-    (applies c.args.self.now fun.IntToLint u c.args.a c.args.b c.args.c c.args.spot) k)
-    (sym (subst (λ f. FunFits f c.args.ty c.args.self.now.graph.operations c.args.a c.args.b c.args.c) c.in-IntToLint.is c.requires.arguments).0)
-    (total_step c.args.self.now c.copy-in-IntToLint.new.self ty.Lint _ (λ vs. at vs c.args.a) _ _ k (omega arith)
-    (λ now vs types. refl) p))) c.copy-in-IntToLint.ensures.made
+pub convert-requires-clause-to : goal.convert-requires-clause-to
+convert-requires-clause-to c =
+    let fit = argument_fits c.args.ty c.args.self.now.graph.operations c.args.a c.args.b c.args.c c.args.fun (c.in-Some.from, c.in-Some.to)
+    (sym c.conversion.ensures ∙ c.in-Some.is) c.requires.arguments in
+    subst (λ t. admits c.args.self.now.graph.profile t ≡ true) fit.0 c.requires.ty
 
-pub returns-in-DintToLint-clause-made : goal.returns-in-DintToLint-clause-made
-returns-in-DintToLint-clause-made c =
-    IfOk-weaker c.copy-in-DintToLint.result _ _ (λ k p.
-    subst (λ f. Makes c.args.self.now c.copy-in-DintToLint.new.self c.args.ty (function_size f)
-    (applies c.args.self.now f c.args.ty c.args.a c.args.b c.args.c c.args.spot) k) (sym c.in-DintToLint.is)
-    (subst (λ u. Makes c.args.self.now c.copy-in-DintToLint.new.self u (function_size fun.DintToLint)
-    (applies c.args.self.now fun.DintToLint u c.args.a c.args.b c.args.c c.args.spot) k)
-    (sym (subst (λ f. FunFits f c.args.ty c.args.self.now.graph.operations c.args.a c.args.b c.args.c) c.in-DintToLint.is c.requires.arguments).0)
-    (total_step c.args.self.now c.copy-in-DintToLint.new.self ty.Lint _ (λ vs. at vs c.args.a) _ _ k (omega arith)
-    (λ now vs types. refl) p))) c.copy-in-DintToLint.ensures.made
+pub convert-requires-clause-a : goal.convert-requires-clause-a
+convert-requires-clause-a c =
+    let fit = argument_fits c.args.ty c.args.self.now.graph.operations c.args.a c.args.b c.args.c c.args.fun (c.in-Some.from, c.in-Some.to)
+    (sym c.conversion.ensures ∙ c.in-Some.is) c.requires.arguments in fit.1
+
+pub returns-in-Some-clause-made : goal.returns-in-Some-clause-made
+returns-in-Some-clause-made c =
+    let types : Ty × Ty = (c.in-Some.from, c.in-Some.to) in
+    let is = sym c.conversion.ensures ∙ c.in-Some.is in
+    let fit = argument_fits c.args.ty c.args.self.now.graph.operations c.args.a c.args.b c.args.c c.args.fun types is c.requires.arguments in
+    let two = conversion_size c.args.fun types is in
+    IfOk-weaker c.convert.result _ _ (λ k p.
+    subst (λ n. Makes c.args.self.now c.convert.new.self c.args.ty n (applies c.args.self.now c.args.fun c.args.ty c.args.a c.args.b c.args.c c.args.spot) k)
+    (sym two)
+    (subst (λ u. Makes c.args.self.now c.convert.new.self u 2 (applies c.args.self.now c.args.fun u c.args.a c.args.b c.args.c c.args.spot) k) (sym fit.0)
+    (converted c.args.self.now c.convert.new.self c.args.a c.args.b c.args.c k c.args.spot c.args.fun types is fit.1 p))) c.convert.ensures.made
+
+pub returns-in-Some-clause-refuses : goal.returns-in-Some-clause-refuses
+returns-in-Some-clause-refuses c =
+    let two = conversion_size c.args.fun (c.in-Some.from, c.in-Some.to) (sym c.conversion.ensures ∙ c.in-Some.is) in
+    subst (λ n. IfErr c.convert.result (λ e. Refuses c.args.self.now c.convert.new.self n e)) (sym two) c.convert.ensures.refuses

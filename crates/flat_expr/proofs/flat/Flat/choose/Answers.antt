@@ -1,12 +1,12 @@
-use Rattle.std.proofs.Common.{◌≡◌, Some, length, slice_get, sym, ap, ◌∙◌, subst, arith}
+use Rattle.std.proofs.Common.{◌≡◌, Some, length, slice_get, refl, sym, ap, ◌∙◌, subst, arith}
 use Rattle.std.specs.Prelude.{IfErr}
 use Rattle.std.proofs.lemmas.Result.{err_from_is_err_and}
 use Rattle.vcp_base.specs.declared.kind.Kind.TheVariants as kind
 use Rattle.vcp_base.specs.declared.ty.Ty.TheVariants as ty
-use Rattle.flat_expr.specs.State.{IsState, IsA, IsPlace, Makes, Assigns, Refuses, acts}
+use Rattle.flat_expr.specs.State.{IsState, IsA, IsPlace, Makes, Assigns, Leaves, no_slot, one_slot, acts}
 use Rattle.flat_expr.proofs.Assigning.{chosen}
 use Rattle.flat_expr.proofs.Codes.{still}
-use Rattle.flat_expr.proofs.Refusals.{later_refuses}
+use Rattle.flat_expr.proofs.Refusals.{later_leaves}
 use Rattle.flat_expr.proofs.Steps.{slot_there}
 use Rattle.flat_expr.proofs.flat.Flat.choose.Goals as goal
 
@@ -26,8 +26,10 @@ returns-in_err-value-clause-refuses c =
     let x = slot_there c.args.self.now.slots c.args.slot c.requires.slot in
     let old = c.in_ok-old.ensures.made x.0 x.1 in
     let q = err_from_is_err_and c.from_residual-in_err-value.result c.from_residual-in_err-value.ensures.1 in
-    let h = later_refuses c.args.self.now c.read.new.self c.add.new.self 0 1 c.add.result old.follows old.count c.add.ensures.refuses in
-    rw (q.1, q.2) (subst (λ r. IfErr r (λ e. Refuses c.args.self.now c.add.new.self 1 e)) c.in_err-value.was h)
+    let h =
+    later_leaves (one_slot c.args.slot) no_slot (one_slot c.args.slot) c.args.self.now c.read.new.self c.add.new.self 0 1 c.add.result (λ s no. (no, refl))
+    old.follows old.unread old.count c.add.ensures.refuses in
+    rw (q.1, q.2) (subst (λ r. IfErr r (λ e. Leaves c.args.self.now c.add.new.self (one_slot c.args.slot) 1 e)) c.in_err-value.was h)
 
 pub add-requires-clause-a : goal.add-requires-clause-a
 add-requires-clause-a c =

@@ -7,7 +7,7 @@ use Rattle.flat_expr.specs.State.{State, IsState, Reads, unknown}
 use Rattle.flat_expr.proofs.Loads.{unknown_set, others_fewer, loading, load_state, loaded}
 use Rattle.std.specs.Prelude.{IfErr}
 use Rattle.std.proofs.lemmas.Result.{err_from_is_err_and}
-use Rattle.flat_expr.specs.State.{Refuses}
+use Rattle.flat_expr.specs.State.{Leaves, one_slot}
 use Rattle.flat_expr.proofs.Refusals.{load_refuses}
 use Rattle.flat_expr.proofs.flat.Flat.read.Goals as goal
 
@@ -91,6 +91,6 @@ returns-in_err-k-clause-refuses c =
     let lt : c.args.slot < length c.self.inside.known.items = let h = subst (λ (s : State). c.args.slot < length s.slots) (sym c.self.view_is) c.requires in
     omega (arith, h, c.self.invariant.long) in
     let some : 1 ≤ unknown c.self.inside.known.items = omega (arith, unknown_set c.self.inside.known.items c.args.slot 0 lt none) in
-    let h = load_refuses a c.load.new.self c.load.result c.self.invariant some c.load.ensures.err c.load.ensures.full in
-    rw (q.1, q.2) (subst (λ r. IfErr r (λ e. Refuses c.args.self.now (record a { graph = c.load.new.self }) 0 e)) c.in_err-k.was
-    (subst (λ (s : State). IfErr c.load.result (λ e. Refuses s (record a { graph = c.load.new.self }) 0 e)) c.self.view_is h))
+    let h = load_refuses (one_slot c.args.slot) a c.load.new.self c.load.result c.self.invariant some c.load.ensures.err c.load.ensures.full in
+    rw (q.1, q.2) (subst (λ r. IfErr r (λ e. Leaves c.args.self.now (record a { graph = c.load.new.self }) (one_slot c.args.slot) 0 e)) c.in_err-k.was
+    (subst (λ (s : State). IfErr c.load.result (λ e. Leaves s (record a { graph = c.load.new.self }) (one_slot c.args.slot) 0 e)) c.self.view_is h))
