@@ -16,6 +16,7 @@ TOOLS = {
     "expect": "compares a run with wanted rows, and names the first difference",
     "diff": "whether two programs or images have the same operations, and where they part",
     "lint": "what is lawful and likely a mistake",
+    "report": "one HTML file that tells a program and its run, to be filed",
 }
 """The tools, each in the module of its name, with what its help says."""
 VALUED = frozenset(("--cycles", "--cycle-time", "--faults", "--horizon", "--check", "-o", "--allow"))
