@@ -15,9 +15,11 @@ TOOLS = {
     "vcd": "the same as a VCD file, for GTKWave",
     "expect": "compares a run with wanted rows, and names the first difference",
     "diff": "whether two programs or images have the same operations, and where they part",
+    "lint": "what is lawful and likely a mistake",
+    "report": "one HTML file that tells a program and its run, to be filed",
 }
 """The tools, each in the module of its name, with what its help says."""
-VALUED = frozenset(("--cycles", "--cycle-time", "--faults", "--horizon", "--check", "-o"))
+VALUED = frozenset(("--cycles", "--cycle-time", "--faults", "--horizon", "--check", "-o", "--allow"))
 """The options that a word follows."""
 USAGE = "statuses: 0 nothing was found, 1 a fault, a difference or a likely mistake was found, 2 the words or a file can't be used; explain gives vcp's own"
 

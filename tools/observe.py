@@ -56,11 +56,9 @@ class Observation:
 
 def observe(program: Program, file: str, rows: Sequence[str], traced: bool = False) -> Observation:
     """The run of a source on rows, which are a file or `--cycles` and a number; all inputs, outputs and variables, as declared."""
-    program.must("check", file)
+    run = read_run(program.must("run", file, *rows, statuses=(0, 2, 3)).text)
     source = Source(read_bytes(file))
     tree = parse(source)
-    outcome = program.must("run", file, *rows, statuses=(0, 2, 3))
-    run = read_run(outcome.text)
     opened = _opened_run(program, source, rows, run)
     inputs = _inputs(tree, rows, len(run.rows))
     columns = []
