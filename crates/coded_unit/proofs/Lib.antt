@@ -1,4 +1,5 @@
 pub mod Modular
 pub mod Replacements
+pub mod Shifts
 pub mod Steps
 pub mod Worked

@@ -20,6 +20,15 @@ coded p v r = pos (modulus p) *ℤ v +ℤ pos r
 abbrev pub nearest_word : ℤ → ℤ
 nearest_word z = int_max (neg_ℤ (pos (2 ^ 126 - 1))) (int_min z (pos (2 ^ 126 - 1)))
 
+-- by how much the value part grows where e is added to a word of this residue
+abbrev pub carry : Profile → ℕ → ℤ → ℤ
+carry p residue e = value_part p (pos residue +ℤ e)
+
+-- v is a value of a type, or one to which a carry was added: its word is far from the ends of words
+pub record Near (v : ℤ) : Type 0 where
+  pub low : neg_ℤ (pos (2 ^ 64)) ≤ℤ v
+  pub high : v ≤ℤ pos (2 ^ 64)
+
 -- z is far from the ends of 64 bits, so that five such integers are added without overflow
 abbrev pub Short : ℤ → Type 0
 Short z = (negsuc (2 ^ 40) ≤ℤ z) × (z ≤ℤ pos (2 ^ 40))

@@ -4,12 +4,19 @@ ghost use Rattle.vcp_base.specs.declared.code.Profile.{Profile};
 ghost use Rattle.coded_unit.specs.declared.call.Call.{Call};
 ghost use Rattle.coded_unit.specs.Right.{Right};
 ghost use Rattle.coded_unit.specs.Step.{StepLaw, ExchangedLaw};
-ghost use Rattle.coded_unit.specs.WordLaws.{WordLaws};
+ghost use Rattle.coded_unit.specs.WordLaws.{WordLaws, ShiftLaw};
 
 /// In each code integers split into a value part and a residue in one way. It does nothing: it states
 /// a law.
 pub fn words_split_in_one_way()
     ensures { (p : Profile) → WordLaws p }
+{}
+
+/// In each code the word of a near value, to which an integer is added, is no further word at the end of
+/// words: what the sum of residue and integer carries goes to the value part. It does nothing: it states
+/// a law.
+pub fn shifted_words_keep_their_parts()
+    ensures { (p : Profile) → ShiftLaw p }
 {}
 
 /// The right answer to every call keeps the step law, also where the kind that is carried out is not

@@ -18,7 +18,9 @@ mod word;
 pub use bad_unit::BadUnit;
 pub use call::{Answer, Call};
 pub use cpu_unit::CpuUnit;
-pub use laws::{right_answers_keep_the_step_law, words_split_in_one_way};
+pub use laws::{
+    right_answers_keep_the_step_law, shifted_words_keep_their_parts, words_split_in_one_way,
+};
 pub use log_unit::LogUnit;
 pub use unit::Unit;
 pub use word::{Word, remainder};

@@ -11,5 +11,5 @@ mod table;
 
 pub use corrections::correction;
 pub use laws::{constants_are_in_range, expected_residues_are_residues, signatures_are_distinct};
-pub use signatures::signature_of;
+pub use signatures::{expected, signature_of, stamp};
 pub use table::Table;

@@ -21,8 +21,9 @@ pub fn signature_of(profile: Profile, seed: u32, i: u32) -> Residue
     }
 }
 
-/// The stamp of a cycle, counted from 0.
-fn stamp(step: u16, cycle: u32) -> u32
+/// The stamp of a cycle, counted from 0 and below 1,000,000: the step, which is at most 1000, as often as
+/// cycles have begun. It is at most 1,000,000,000.
+pub fn stamp(step: u16, cycle: u32) -> u32
     requires step { step ≤ most_step }
     requires cycle { cycle < most_cycles }
     ensures value { result ≡ stamp_value step cycle }
@@ -31,8 +32,9 @@ fn stamp(step: u16, cycle: u32) -> u32
     step as u32 * (cycle + 1)
 }
 
-/// The residue that the word of operation `i` has in a cycle where nothing is amiss.
-pub(crate) fn expected(profile: Profile, seed: u32, step: u16, i: u32, cycle: u32) -> Residue
+/// The residue that the word of operation `i` has in a cycle, counted from 0 and below 1,000,000, where
+/// nothing is amiss: the operation's signature and the cycle's stamp. The step is at most 1000.
+pub fn expected(profile: Profile, seed: u32, step: u16, i: u32, cycle: u32) -> Residue
     requires step { step ≤ most_step }
     requires cycle { cycle < most_cycles }
     ensures value { result ≡ expected_value profile seed step i cycle }

@@ -1,0 +1,9 @@
+pub mod Equation
+pub mod Following
+pub mod Lookups
+pub mod Orders
+pub mod RightSending
+pub mod Rises
+pub mod Rows
+pub mod Senders
+pub mod Worked

@@ -1,0 +1,5 @@
+pub mod Deliveries
+pub mod Receipts
+pub mod Sendings
+pub mod WireRead
+pub mod WireRun

@@ -1,0 +1,23 @@
+//! Stamped telegrams: DINT values between controllers, in coded words.
+//!
+//! A telegram is the word of a value in the narrow code and the number of the cycle in which it was sent.
+//! The word's residue names the sender and that cycle. A network may lose, repeat, delay, reorder,
+//! misroute and alter telegrams: a receiver delivers a value exactly where the residue is that of the
+//! sender that it hears, the number is above all that it delivered, and the telegram is young enough.
+//! That all controllers count the same cycles is a premise.
+#![tactic(auto)]
+
+mod laws;
+mod receipt;
+mod receiver;
+mod sending;
+mod telegram;
+
+pub use laws::{
+    deliveries_are_young, deliveries_rise, receipts_follow_the_equation,
+    unaltered_come_from_their_sender,
+};
+pub use receipt::Receipt;
+pub use receiver::Receiver;
+pub use sending::send;
+pub use telegram::Telegram;
