@@ -1,7 +1,7 @@
 //! The lines of a run. Each call writes one line to a sink and takes no memory. It answers `Failed`
 //! only where the sink's count of faults rose, and then a part of the line is written.
 
-ghost use Rattle.std.specs.Prelude.{◌≡◌, ◌++◌, decimal, map, flat_map};
+ghost use Rattle.std.specs.Prelude.{map, flat_map};
 ghost use Rattle.vcp_base.specs.Stops.{told_stop, told_turn};
 ghost use Rattle.vcp_outside.specs.Written.{Writes};
 ghost use Rattle.gathered_line.specs.Gathering.{IsGathered, Gathers};
