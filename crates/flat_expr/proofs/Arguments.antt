@@ -1,5 +1,6 @@
 -- Arguments: a function of one, two or three arguments, each of which is flattened by a call.
-use Rattle.std.proofs.Common.{◌≡◌, ℕ, zero, suc, ◌+◌, ◌<◌, ◌≤◌, ℤ, true, false, List, [], ◌∷◌, length, get_or, slice_get, Option, Some, None, refl, sym, ap, ◌∙◌, subst, arith}
+use Rattle.std.proofs.Common.{◌≡◌, ℕ, zero, suc, ◌+◌, ◌<◌, ◌≤◌, ℤ, true, false, List, [], ◌∷◌, length, get_or, slice_get, Option, Some, None, refl, sym, ap}
+use Rattle.std.proofs.Common.{◌∙◌, subst, arith}
 use Rattle.std.specs.Prelude.{⊤}
 use Rattle.vcp_base.specs.declared.spot.Spot.{Spot}
 use Rattle.vcp_base.specs.declared.turns.Turn.{Turn}
@@ -21,7 +22,8 @@ use Rattle.vcp_typed.specs.TExprViews.{texpr_tree, texpr_trees}
 use Rattle.vcp_typed.specs.Checked.{ty_of, tys_of, IsExpr, AreExprs}
 use Rattle.vcp_typed.specs.Rules.{arguments, of_numbers, converted_from}
 use Rattle.vcp_typed.specs.Size.{expr_size, exprs_size, function_size}
-use Rattle.flat_expr.specs.State.{State, IsState, IsA, active, guarded, Follows, Makes, Flattens, FlattensOne, FunFits, applies, argument, one_reads, one_size, reserved}
+use Rattle.flat_expr.specs.State.{State, IsState, IsA, active, guarded, Follows, Makes, Flattens, FlattensOne, FunFits, applies, argument, one_reads}
+use Rattle.flat_expr.specs.State.{one_size, reserved}
 use Rattle.flat_expr.specs.ReadSlots.{reads_slot, read_slots}
 use Rattle.flat_expr.proofs.Weight.{expr_weight, exprs_weight}
 use Rattle.flat_expr.proofs.Steps.{neither, weaker, as_good-is, follows-self}

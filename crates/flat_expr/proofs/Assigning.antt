@@ -11,7 +11,8 @@ use Rattle.vcp_base.specs.Kinds.{same}
 use Rattle.vcp_base.specs.Values.{at}
 use Rattle.op_graph.specs.Lists.{turns_of, turns_back}
 use Rattle.vcp_typed.specs.Meaning.{Stop}
-use Rattle.flat_expr.specs.State.{State, IsState, IsA, IsPlace, active, KnowsOne, Knows, exactly, IsValue, Kept, Ends, placed, Meant, Computes, Makes, Reads, one_slot, no_slot, reading, acts, run}
+use Rattle.flat_expr.specs.State.{State, IsState, IsA, IsPlace, active, KnowsOne, Knows, exactly, IsValue, Kept, Ends, placed, Meant, Computes, Makes}
+use Rattle.flat_expr.specs.State.{Reads, one_slot, no_slot, reading, acts, run}
 use Rattle.flat_expr.specs.State.{Assigns}
 use Rattle.flat_expr.proofs.Loads.{unknown_fewer}
 use Rattle.flat_expr.proofs.Steps.{extends-same, then_reading, weaker, stays, as_good-is}
@@ -97,7 +98,8 @@ pub chosen : (s0 s1 s2 : State) (t : Ty) (slot path k old j : ℕ) (spot : Spot)
     Reads s0 s1 slot t old → Makes s1 s2 t 1 (acts s1 kind.Sel t path old k spot) j → Assigns s0 (placed s2 slot j) slot k
 chosen s0 s1 s2 t slot path k old j spot lt some state hk g h =
     set_assigns s0 s2 t (0 + 1) slot k j (omega arith) lt state (λ i ne. not_equal slot i ne)
-    (then_reading (one_slot slot) no_slot (one_slot slot) (λ i h. (h, refl)) s0 s1 s2 t t 0 1 (reading slot) (acts s1 kind.Sel t path old k spot) (between s0 slot k) old j g h (record {
+    (then_reading (one_slot slot) no_slot (one_slot slot) (λ i h. (h, refl)) s0 s1 s2 t t 0 1 (reading slot) (acts s1 kind.Sel t path old k spot)
+    (between s0 slot k) old j g h (record {
       stops = λ now vs s x. absurd cc;
       goes = λ now vs ws o is kept same_path types val.
           let here : at ws old ≡ at now slot = some_is o (at now slot) (at ws old) is val in

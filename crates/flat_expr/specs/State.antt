@@ -1,5 +1,6 @@
 -- State: what is known while a program is flattened, and what a step does.
-use Rattle.std.specs.Prelude.{◌≡◌, ℕ, zero, suc, ◌<◌, ◌≤◌, ◌+◌, nat_lt, int_lt, unsigned_abs, ℤ, pos, Bool, true, false, not, ◌||◌, cond, List, [], ◌∷◌, ◌++◌, length}
+use Rattle.std.specs.Prelude.{◌≡◌, ℕ, zero, suc, ◌<◌, ◌≤◌, ◌+◌, nat_lt, int_lt, unsigned_abs, ℤ, pos, Bool, true, false, not, ◌||◌, cond, List, [], ◌∷◌}
+use Rattle.std.specs.Prelude.{◌++◌, length}
 use Rattle.std.specs.Prelude.{reverse, get_or, slice_get, slice_set, map, sum_by, set, ◌==◌, ◌≢◌, All, Option, Some, None, Result, Ok, Err, ⊤}
 use Rattle.vcp_base.specs.declared.spot.Spot.{Spot}
 use Rattle.vcp_base.specs.declared.turns.Turn.{Turn}

@@ -25,7 +25,8 @@ use Rattle.vcp_typed.specs.Wide.{is_lint, expr_is_wide, exprs_are_wide}
 use Rattle.std.specs.Prelude.{◌||◌}
 use Rattle.flat_expr.proofs.Codes.{still, allows_at, allows_second, call_admitted, argument_code}
 use Rattle.flat_expr.proofs.Weight.{expr_weight}
-use Rattle.flat_expr.proofs.Arguments.{call_made, call_fits, one_follows, one_count, one_unread, unread_argument, first_follows, sizes, argument_is, argument_none, argument_expr}
+use Rattle.flat_expr.proofs.Arguments.{call_made, call_fits, one_follows, one_count, one_unread, unread_argument, first_follows, sizes, argument_is}
+use Rattle.flat_expr.proofs.Arguments.{argument_none, argument_expr}
 use Rattle.flat_expr.proofs.Arguments.{argument_lighter, tree_of_call}
 use Rattle.flat_expr.proofs.flat.Flat.+expr.Goals as goal
 
@@ -306,7 +307,8 @@ expr-returns-in_err-a-in-Call-clause-refuses t c =
     let h = more_leaves (one_reads (argument es 0)) (reads_slot (texpr_tree c.args.e.now)) c.args.self.now c.argument.new.self (one_size (argument es 0))
     (expr_size (texpr_tree c.args.e.now)) c.argument.result (λ slot no. unread_argument es 0 slot (not_read slot no))
     (omega (arith, ap expr_size e, sizes es)) c.argument.ensures.refuses in
-    rw (q.1, q.2) (subst (λ r. IfErr r (λ e. Leaves c.args.self.now c.argument.new.self (reads_slot (texpr_tree c.args.e.now)) (expr_size (texpr_tree c.args.e.now)) e)) c.in_err-a-in-Call.was h)
+    rw (q.1, q.2) (subst (λ r. IfErr r (λ e. Leaves c.args.self.now c.argument.new.self (reads_slot (texpr_tree c.args.e.now)) (expr_size
+    (texpr_tree c.args.e.now)) e)) c.in_err-a-in-Call.was h)
 
 pub expr-returns-in_err-b-in-Call-clause-refuses : goal.expr-returns-in_err-b-in-Call-clause-refuses
 expr-returns-in_err-b-in-Call-clause-refuses t c =
@@ -330,7 +332,8 @@ expr-returns-in_err-b-in-Call-clause-refuses t c =
     (one_size (argument es 0)) (one_size (argument es 1)) c.argument-in-Call.result
     (λ slot no. (unread_argument es 0 slot no, unread_argument es 1 slot no)) first unread count c.argument-in-Call.ensures.refuses) in
     rw (q.1, q.2)
-    (subst (λ r. IfErr r (λ e. Leaves c.args.self.now c.argument-in-Call.new.self (reads_slot (texpr_tree c.args.e.now)) (expr_size (texpr_tree c.args.e.now)) e)) c.in_err-b-in-Call.was h)
+    (subst (λ r. IfErr r (λ e. Leaves c.args.self.now c.argument-in-Call.new.self (reads_slot (texpr_tree c.args.e.now)) (expr_size
+    (texpr_tree c.args.e.now)) e)) c.in_err-b-in-Call.was h)
 
 pub expr-returns-in_err-c-in-Call-clause-refuses : goal.expr-returns-in_err-c-in-Call-clause-refuses
 expr-returns-in_err-c-in-Call-clause-refuses t c =
@@ -361,7 +364,8 @@ expr-returns-in_err-c-in-Call-clause-refuses t c =
     c.argument-in-Call-2.new.self (one_size (argument es 1)) (one_size (argument es 2)) c.argument-in-Call-2.result
     (λ slot no. (unread_argument es 1 slot no, unread_argument es 2 slot no)) second unread2 count2 c.argument-in-Call-2.ensures.refuses)) in
     rw (q.1, q.2)
-    (subst (λ r. IfErr r (λ e. Leaves c.args.self.now c.argument-in-Call-2.new.self (reads_slot (texpr_tree c.args.e.now)) (expr_size (texpr_tree c.args.e.now)) e)) c.in_err-c-in-Call.was h)
+    (subst (λ r. IfErr r (λ e. Leaves c.args.self.now c.argument-in-Call-2.new.self (reads_slot (texpr_tree c.args.e.now)) (expr_size
+    (texpr_tree c.args.e.now)) e)) c.in_err-c-in-Call.was h)
 
 pub expr-returns-in_ok-c-in-Call-clause-refuses : goal.expr-returns-in_ok-c-in-Call-clause-refuses
 expr-returns-in_ok-c-in-Call-clause-refuses t c =

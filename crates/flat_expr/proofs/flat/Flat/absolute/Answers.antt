@@ -13,22 +13,42 @@ returns-clause-made c =
     absolute_made c.args.self.now c.mask.new.self c.neutral.new.self c.add.new.self c.add-2.new.self c.add-3.new.self c.args.ty c.args.a c.in_ok-m.m c.in_ok-z.z c.in_ok-r.r c.in_ok-n.n k c.args.spot c.requires.number c.requires.a c.in_ok-m.ensures.made c.in_ok-z.ensures.made c.in_ok-r.ensures.made c.in_ok-n.ensures.made p) c.add-3.ensures.made
 
 pub returns-clause-refuses : goal.returns-clause-refuses
-returns-clause-refuses c = more_refuses c.args.self.now c.add-3.new.self (1 + (0 + (1 + (1 + 1)))) 5 c.add-3.result (omega arith) (later_refuses c.args.self.now c.mask.new.self c.add-3.new.self 1 (0 + (1 + (1 + 1))) c.add-3.result c.in_ok-m.ensures.made.follows c.in_ok-m.ensures.made.unread c.in_ok-m.ensures.made.count (later_refuses c.mask.new.self c.neutral.new.self c.add-3.new.self 0 (1 + (1 + 1)) c.add-3.result c.in_ok-z.ensures.made.follows c.in_ok-z.ensures.made.unread c.in_ok-z.ensures.made.count (later_refuses c.neutral.new.self c.add.new.self c.add-3.new.self 1 (1 + 1) c.add-3.result c.in_ok-r.ensures.made.follows c.in_ok-r.ensures.made.unread c.in_ok-r.ensures.made.count (later_refuses c.add.new.self c.add-2.new.self c.add-3.new.self 1 1 c.add-3.result c.in_ok-n.ensures.made.follows c.in_ok-n.ensures.made.unread c.in_ok-n.ensures.made.count c.add-3.ensures.refuses))))
+returns-clause-refuses c = more_refuses c.args.self.now c.add-3.new.self (1 + (0 + (1 + (1 + 1)))) 5 c.add-3.result (omega arith)
+    (later_refuses c.args.self.now c.mask.new.self c.add-3.new.self 1 (0 + (1 +
+    (1 + 1))) c.add-3.result c.in_ok-m.ensures.made.follows c.in_ok-m.ensures.made.unread c.in_ok-m.ensures.made.count
+    (later_refuses c.mask.new.self c.neutral.new.self c.add-3.new.self 0 (1 +
+    (1 + 1)) c.add-3.result c.in_ok-z.ensures.made.follows c.in_ok-z.ensures.made.unread c.in_ok-z.ensures.made.count
+    (later_refuses c.neutral.new.self c.add.new.self c.add-3.new.self 1
+    (1 + 1) c.add-3.result c.in_ok-r.ensures.made.follows c.in_ok-r.ensures.made.unread c.in_ok-r.ensures.made.count
+    (later_refuses c.add.new.self c.add-2.new.self c.add-3.new.self 1 1 c.add-3.result c.in_ok-n.ensures.made.follows c.in_ok-n.ensures.made.unread
+    c.in_ok-n.ensures.made.count c.add-3.ensures.refuses))))
 
 pub returns-in_err-z-clause-refuses : goal.returns-in_err-z-clause-refuses
 returns-in_err-z-clause-refuses c =
     let q = err_from_is_err_and c.from_residual-in_err-z.result c.from_residual-in_err-z.ensures.1 in
-    let h = more_refuses c.args.self.now c.neutral.new.self (1 + 0) 5 c.neutral.result (omega arith) (later_refuses c.args.self.now c.mask.new.self c.neutral.new.self 1 0 c.neutral.result c.in_ok-m.ensures.made.follows c.in_ok-m.ensures.made.unread c.in_ok-m.ensures.made.count c.neutral.ensures.refuses) in
+    let h = more_refuses c.args.self.now c.neutral.new.self (1 + 0) 5 c.neutral.result (omega arith)
+    (later_refuses c.args.self.now c.mask.new.self c.neutral.new.self 1 0 c.neutral.result c.in_ok-m.ensures.made.follows c.in_ok-m.ensures.made.unread
+    c.in_ok-m.ensures.made.count c.neutral.ensures.refuses) in
     rw (q.1, q.2) (subst (λ r. IfErr r (λ e. Refuses c.args.self.now c.neutral.new.self 5 e)) c.in_err-z.was h)
 
 pub returns-in_err-r-clause-refuses : goal.returns-in_err-r-clause-refuses
 returns-in_err-r-clause-refuses c =
     let q = err_from_is_err_and c.from_residual-in_err-r.result c.from_residual-in_err-r.ensures.1 in
-    let h = more_refuses c.args.self.now c.add.new.self (1 + (0 + 1)) 5 c.add.result (omega arith) (later_refuses c.args.self.now c.mask.new.self c.add.new.self 1 (0 + 1) c.add.result c.in_ok-m.ensures.made.follows c.in_ok-m.ensures.made.unread c.in_ok-m.ensures.made.count (later_refuses c.mask.new.self c.neutral.new.self c.add.new.self 0 1 c.add.result c.in_ok-z.ensures.made.follows c.in_ok-z.ensures.made.unread c.in_ok-z.ensures.made.count c.add.ensures.refuses)) in
+    let h = more_refuses c.args.self.now c.add.new.self (1 + (0 + 1)) 5 c.add.result (omega arith)
+    (later_refuses c.args.self.now c.mask.new.self c.add.new.self 1
+    (0 + 1) c.add.result c.in_ok-m.ensures.made.follows c.in_ok-m.ensures.made.unread c.in_ok-m.ensures.made.count
+    (later_refuses c.mask.new.self c.neutral.new.self c.add.new.self 0 1 c.add.result c.in_ok-z.ensures.made.follows c.in_ok-z.ensures.made.unread
+    c.in_ok-z.ensures.made.count c.add.ensures.refuses)) in
     rw (q.1, q.2) (subst (λ r. IfErr r (λ e. Refuses c.args.self.now c.add.new.self 5 e)) c.in_err-r.was h)
 
 pub returns-in_err-n-clause-refuses : goal.returns-in_err-n-clause-refuses
 returns-in_err-n-clause-refuses c =
     let q = err_from_is_err_and c.from_residual-in_err-n.result c.from_residual-in_err-n.ensures.1 in
-    let h = more_refuses c.args.self.now c.add-2.new.self (1 + (0 + (1 + 1))) 5 c.add-2.result (omega arith) (later_refuses c.args.self.now c.mask.new.self c.add-2.new.self 1 (0 + (1 + 1)) c.add-2.result c.in_ok-m.ensures.made.follows c.in_ok-m.ensures.made.unread c.in_ok-m.ensures.made.count (later_refuses c.mask.new.self c.neutral.new.self c.add-2.new.self 0 (1 + 1) c.add-2.result c.in_ok-z.ensures.made.follows c.in_ok-z.ensures.made.unread c.in_ok-z.ensures.made.count (later_refuses c.neutral.new.self c.add.new.self c.add-2.new.self 1 1 c.add-2.result c.in_ok-r.ensures.made.follows c.in_ok-r.ensures.made.unread c.in_ok-r.ensures.made.count c.add-2.ensures.refuses))) in
+    let h = more_refuses c.args.self.now c.add-2.new.self (1 + (0 + (1 + 1))) 5 c.add-2.result (omega arith)
+    (later_refuses c.args.self.now c.mask.new.self c.add-2.new.self 1 (0 +
+    (1 + 1)) c.add-2.result c.in_ok-m.ensures.made.follows c.in_ok-m.ensures.made.unread c.in_ok-m.ensures.made.count
+    (later_refuses c.mask.new.self c.neutral.new.self c.add-2.new.self 0
+    (1 + 1) c.add-2.result c.in_ok-z.ensures.made.follows c.in_ok-z.ensures.made.unread c.in_ok-z.ensures.made.count
+    (later_refuses c.neutral.new.self c.add.new.self c.add-2.new.self 1 1 c.add-2.result c.in_ok-r.ensures.made.follows c.in_ok-r.ensures.made.unread
+    c.in_ok-r.ensures.made.count c.add-2.ensures.refuses))) in
     rw (q.1, q.2) (subst (λ r. IfErr r (λ e. Refuses c.args.self.now c.add-2.new.self 5 e)) c.in_err-n.was h)

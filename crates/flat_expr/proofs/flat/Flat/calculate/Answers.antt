@@ -15,10 +15,14 @@ returns-clause-made c =
 pub returns-in_err-second-clause-refuses : goal.returns-in_err-second-clause-refuses
 returns-in_err-second-clause-refuses c =
     let q = err_from_is_err_and c.from_residual-in_err-second.result c.from_residual-in_err-second.ensures.1 in
-    let h = more_refuses c.args.self.now c.mask-2.new.self (1 + 1) 3 c.mask-2.result (omega arith) (later_refuses c.args.self.now c.mask.new.self c.mask-2.new.self 1 1 c.mask-2.result c.in_ok-first.ensures.made.follows c.in_ok-first.ensures.made.unread c.in_ok-first.ensures.made.count c.mask-2.ensures.refuses) in
+    let h = more_refuses c.args.self.now c.mask-2.new.self (1 + 1) 3 c.mask-2.result (omega arith)
+    (later_refuses c.args.self.now c.mask.new.self c.mask-2.new.self 1 1 c.mask-2.result c.in_ok-first.ensures.made.follows
+    c.in_ok-first.ensures.made.unread c.in_ok-first.ensures.made.count c.mask-2.ensures.refuses) in
     rw (q.1, q.2) (subst (λ r. IfErr r (λ e. Refuses c.args.self.now c.mask-2.new.self 3 e)) c.in_err-second.was h)
 
 pub returns-clause-refuses : goal.returns-clause-refuses
 returns-clause-refuses c =
-    later_refuses c.args.self.now c.mask.new.self c.add.new.self 1 (1 + 1) c.add.result c.in_ok-first.ensures.made.follows c.in_ok-first.ensures.made.unread c.in_ok-first.ensures.made.count
-    (later_refuses c.mask.new.self c.mask-2.new.self c.add.new.self 1 1 c.add.result c.in_ok-second.ensures.made.follows c.in_ok-second.ensures.made.unread c.in_ok-second.ensures.made.count c.add.ensures.refuses)
+    later_refuses c.args.self.now c.mask.new.self c.add.new.self 1
+    (1 + 1) c.add.result c.in_ok-first.ensures.made.follows c.in_ok-first.ensures.made.unread c.in_ok-first.ensures.made.count
+    (later_refuses c.mask.new.self c.mask-2.new.self c.add.new.self 1 1 c.add.result c.in_ok-second.ensures.made.follows c.in_ok-second.ensures.made.unread
+    c.in_ok-second.ensures.made.count c.add.ensures.refuses)

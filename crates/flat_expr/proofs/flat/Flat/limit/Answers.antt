@@ -10,4 +10,6 @@ returns-clause-made c =
     limited c.args.self.now c.pick.new.self c.pick-2.new.self c.args.ty c.args.low c.args.a c.args.high c.in_ok-m.m k c.requires.high c.in_ok-m.ensures.made p) c.pick-2.ensures.made
 
 pub returns-clause-refuses : goal.returns-clause-refuses
-returns-clause-refuses c = more_refuses c.args.self.now c.pick-2.new.self (2 + 2) 6 c.pick-2.result (omega arith) (later_refuses c.args.self.now c.pick.new.self c.pick-2.new.self 2 2 c.pick-2.result c.in_ok-m.ensures.made.follows c.in_ok-m.ensures.made.unread c.in_ok-m.ensures.made.count c.pick-2.ensures.refuses)
+returns-clause-refuses c = more_refuses c.args.self.now c.pick-2.new.self (2 + 2) 6 c.pick-2.result (omega arith)
+    (later_refuses c.args.self.now c.pick.new.self c.pick-2.new.self 2 2 c.pick-2.result c.in_ok-m.ensures.made.follows c.in_ok-m.ensures.made.unread
+    c.in_ok-m.ensures.made.count c.pick-2.ensures.refuses)

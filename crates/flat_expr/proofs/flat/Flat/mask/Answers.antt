@@ -12,4 +12,5 @@ returns-clause-made c =
     masked c.args.self.now c.neutral.new.self c.add.new.self c.args.ty c.args.one c.in-Some.path c.in_ok-other.other c.args.k j c.args.spot c.requires.number path c.requires.there c.in_ok-other.ensures.made p) c.add.ensures.made
 
 pub returns-clause-refuses : goal.returns-clause-refuses
-returns-clause-refuses c = later_refuses c.args.self.now c.neutral.new.self c.add.new.self 0 1 c.add.result c.in_ok-other.ensures.made.follows c.in_ok-other.ensures.made.unread c.in_ok-other.ensures.made.count c.add.ensures.refuses
+returns-clause-refuses c = later_refuses c.args.self.now c.neutral.new.self c.add.new.self 0 1 c.add.result c.in_ok-other.ensures.made.follows
+    c.in_ok-other.ensures.made.unread c.in_ok-other.ensures.made.count c.add.ensures.refuses

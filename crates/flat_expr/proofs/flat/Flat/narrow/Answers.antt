@@ -10,4 +10,6 @@ returns-clause-made c =
     narrowed c.args.self.now c.mask.new.self c.add.new.self c.args.from c.args.to c.args.a c.in_ok-m.m k c.args.spot c.in_ok-m.ensures.made p) c.add.ensures.made
 
 pub returns-clause-refuses : goal.returns-clause-refuses
-returns-clause-refuses c = more_refuses c.args.self.now c.add.new.self (1 + 1) 2 c.add.result (omega arith) (later_refuses c.args.self.now c.mask.new.self c.add.new.self 1 1 c.add.result c.in_ok-m.ensures.made.follows c.in_ok-m.ensures.made.unread c.in_ok-m.ensures.made.count c.add.ensures.refuses)
+returns-clause-refuses c = more_refuses c.args.self.now c.add.new.self (1 + 1) 2 c.add.result (omega arith)
+    (later_refuses c.args.self.now c.mask.new.self c.add.new.self 1 1 c.add.result c.in_ok-m.ensures.made.follows c.in_ok-m.ensures.made.unread
+    c.in_ok-m.ensures.made.count c.add.ensures.refuses)

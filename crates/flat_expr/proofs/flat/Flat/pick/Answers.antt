@@ -10,4 +10,6 @@ returns-clause-made c =
     picked c.args.self.now c.add.new.self c.add-2.new.self c.args.ty c.args.x c.args.y c.args.a c.args.b c.in_ok-r.r k c.args.spot c.requires.a c.requires.b c.in_ok-r.ensures.made p) c.add-2.ensures.made
 
 pub returns-clause-refuses : goal.returns-clause-refuses
-returns-clause-refuses c = more_refuses c.args.self.now c.add-2.new.self (1 + 1) 2 c.add-2.result (omega arith) (later_refuses c.args.self.now c.add.new.self c.add-2.new.self 1 1 c.add-2.result c.in_ok-r.ensures.made.follows c.in_ok-r.ensures.made.unread c.in_ok-r.ensures.made.count c.add-2.ensures.refuses)
+returns-clause-refuses c = more_refuses c.args.self.now c.add-2.new.self (1 + 1) 2 c.add-2.result (omega arith)
+    (later_refuses c.args.self.now c.add.new.self c.add-2.new.self 1 1 c.add-2.result c.in_ok-r.ensures.made.follows c.in_ok-r.ensures.made.unread
+    c.in_ok-r.ensures.made.count c.add-2.ensures.refuses)

@@ -33,4 +33,5 @@ returns-in-Not-clause-made c =
     (subst (λ u. IsA u c.args.self.now.graph.operations c.args.a) t c.requires.a) p))) c.add-in-Not.ensures.made
 
 pub returns-in_ok-m-in-Neg-clause-refuses : goal.returns-in_ok-m-in-Neg-clause-refuses
-returns-in_ok-m-in-Neg-clause-refuses c = later_refuses c.args.self.now c.mask.new.self c.add.new.self 1 1 c.add.result c.in_ok-m-in-Neg.ensures.made.follows c.in_ok-m-in-Neg.ensures.made.unread c.in_ok-m-in-Neg.ensures.made.count c.add.ensures.refuses
+returns-in_ok-m-in-Neg-clause-refuses c = later_refuses c.args.self.now c.mask.new.self c.add.new.self 1 1 c.add.result
+    c.in_ok-m-in-Neg.ensures.made.follows c.in_ok-m-in-Neg.ensures.made.unread c.in_ok-m-in-Neg.ensures.made.count c.add.ensures.refuses
