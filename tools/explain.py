@@ -98,6 +98,8 @@ class Explainer:
             return Explanation(fault.file, reading_hint(fault.file))
         if fault.code in STATUS_LINES:
             return Explanation(fault.file or "vcp", STATUS_LINES[fault.code])
+        if not Path(fault.file).is_file() and fault.file not in ("--cycles", "demo"):
+            return Explanation(fault.text.rpartition(f" {fault.code}")[0], "the file isn't here, so that its line can't be shown")
         if fault.code[0] in "ST" or fault.code in ("L2", "L3"):
             source = Source(_bytes(fault.file))
             at = source.offset(fault.first or 1, fault.second or 1)

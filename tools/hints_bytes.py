@@ -37,6 +37,8 @@ _SAME = {"!": ("NOT", "NOT"), "|": ("OR", "OR"), "~": ("NOT", "NOT")}
 
 def byte_hint(source: Source, at: int) -> Hint:
     """What is said of the byte `at`, with which no token begins."""
+    if at >= len(source.data):
+        return Hint("the file has changed since: it ends before this place", at, at)
     for look in (_encoding, _image, _outside_ascii, _not_equal, _time, _dot):
         hint = look(source, at)
         if hint is not None:

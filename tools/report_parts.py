@@ -135,8 +135,12 @@ def _listing(case: Case) -> str:
 def _audit(case: Case) -> str:
     """The counts, the blind operations, and those from which no output is reached."""
     audit = read_audit(case.call("audit", case.image_name, str(case.horizon)).text)
-    counts = table(("output", "borders", "reached", "blind"),
-                   [(code(it.output), str(it.borders), str(it.reached), element("span", str(len(it.blind)), class_="bad") if it.blind else "0") for it in audit], (1, 2, 3))
+    by_output: dict[str, list[str]] = {}
+    for it in audit:
+        blind = element("span", f" {len(it.blind)} blind", class_="bad") if it.blind else ""
+        by_output.setdefault(it.output, []).append(f"{it.reached}{blind}")
+    head = ["output", *(f"reached across {borders}" for borders in range(case.horizon + 1))]
+    counts = table(head, [(code(output), *cells) for output, cells in by_output.items()], range(1, case.horizon + 2))
     return section("audit", f"Audit, across at most {case.horizon} cycle borders", counts + _blind(case, audit) + _unreached(case))
 
 

@@ -104,6 +104,10 @@ class Calls(InFolder):
         printed = self.tool("explain", given="p.st:5:3 S4 Syntax\n", status=1)
         self.assertIn("to set a variable write `:=`", printed.split("\n")[0])
         self.assertEqual(self.tool("explain", given="ok 11\n"), "ok 11\n")
+        for line in ("q.st:5:3 S4 Syntax", "q.csv:5:3 R3 Cell", "f.txt:2 F1 Form", "q.img:2132 I6 Table stored 0 expected 2", "q.csv:1 R1 Header"):
+            self.assertIn("the file isn't here", self.tool("explain", given=line + "\n", status=1))
+        for line in ("p.st:90:3 S1 Byte", "p.st:90:3 S4 Syntax", "p.st:90:3 S3 Number", "p.st:1:3 T3 Mismatch", "p.st:9 R2 Width", "p.st:90 F1 Form"):
+            self.tool("explain", given=line + "\n", status=1)
 
     @needs_program
     def test_all_faults_of_a_ported_text_are_told_at_once(self) -> None:
