@@ -142,7 +142,7 @@ class Explainer:
         if record > len(rows.records):
             return Explanation(f"{fault.file}:{record}", "the file has changed since: it has no such record")
         if fault.code == "R2":
-            return _of_rows(fault.file, data, width_hint(rows, record, inputs))
+            return _of_rows(fault.file, data, width_hint(rows, record))
         return _of_rows(fault.file, data, cell_hint(rows, record, fault.second or 1, inputs))
 
     def silent_rows(self) -> list[Explanation]:

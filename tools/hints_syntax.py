@@ -244,10 +244,9 @@ def _late_declarations(stuck: Stuck) -> Hint | None:
     if stuck.before.is_symbol(";") and (stuck.two_before.is_word("END_VAR") or stuck.two_before.kind == "name" and stuck.index < 4):
         return _on(stuck.before, "this `;` is a statement, and declarations can't follow one: no `;` stands behind END_VAR or the program's name", " ")
     if stuck.in_declaration:
-        return Hint(
-            f"{stuck.here.upper} stands in a block that isn't closed: END_VAR is missing, for the block from {stuck.source.told(stuck.openers[-1].token.start)}",
-            stuck.here.start, stuck.here.end, repair=Repair(stuck.here.start, stuck.here.start, "END_VAR "),
-        )
+        opened = stuck.source.told(stuck.openers[-1].token.start)
+        message = f"{stuck.here.upper} stands in a block that isn't closed: END_VAR is missing, for the block from {opened}"
+        return Hint(message, stuck.here.start, stuck.here.end, repair=Repair(stuck.here.start, stuck.here.start, "END_VAR "))
     closing = next((token for token in stuck.tokens[stuck.index :] if token.is_word("END_VAR")), None)
     message = "declarations stand before the first statement: move this block up"
     return Hint(message, stuck.here.start, stuck.here.end, repair=Repair(stuck.here.start, closing.end, "") if closing else None)
