@@ -24,6 +24,8 @@ from tools.syntax import Declaration
 
 WIDTH = 110
 """The most characters of a source line that are shown; a longer one is cut round the caret."""
+MOST_BYTES_LOOKED_AT = 8_000_000
+"""A rows file that was accepted is looked through up to this size."""
 STATUS_LINES = {
     "memory": "the machine had no memory left for this run: end other programs, or take fewer rows",
     "write": "standard output couldn't be written: the disk is full, or the reader of the pipe has ended",
@@ -149,7 +151,9 @@ class Explainer:
         """What the rows file of an accepted call holds that is read in silence."""
         takes_rows = len(self.words) > 2 and self.words[0] in ("plain", "run", "exec", "trace", "inject") and self.words[2] != "--cycles"
         data = _bytes(self.words[2]) if takes_rows else b""
-        return [_of_rows(self.words[2], data, hint) for hint in silent_faults(data, None)[:3]] if data else []
+        if not 0 < len(data) <= MOST_BYTES_LOOKED_AT:
+            return []
+        return [_of_rows(self.words[2], data, hint) for hint in silent_faults(data, None)[:3]]
 
     def _script(self, fault: FaultLine) -> Explanation:
         """F1 to F4 and L5."""

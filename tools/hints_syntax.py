@@ -300,6 +300,13 @@ def _wrong_end(stuck: Stuck) -> Hint | None:
                 f"{stuck.source.line(stuck.source.place(opener.token.start)[0]).decode('utf-8', 'replace').strip()}",)
     text = wanted if word == "(" else f" {wanted}" + (";" if word in ("IF", "CASE", "FOR") else "") + " "
     anchor = opener.token if here.kind == "end" else here
+    early = stuck.closed_too_early(opener.token) if word in ("IF", "CASE", "FOR") else None
+    if early is not None:
+        inner, closing = early
+        anchor = inner
+        message = (f"END_{inner.upper} is missing for this {inner.upper}: the {closing.upper} at {stuck.source.told(closing.start)} closes it, "
+                   f"and stands below the {word} from {place}")
+        more = (f"So {what}, and the {word} from {place} isn't closed.",)
     return Hint(message, anchor.start, anchor.end, more, Repair(here.start, here.start, text))
 
 

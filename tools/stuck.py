@@ -42,6 +42,28 @@ class Stuck:
                 _follow(found, token, index)
         return found
 
+    def closed_too_early(self, unclosed: Token) -> tuple[Token, Token] | None:
+        """An opener behind `unclosed` and the end that closes it, where that end stands below `unclosed` by its indentation: then the end of the
+        inner one is likely the one that is missing."""
+        found: list[Opener] = []
+        for index, token in enumerate(self.tokens[: self.index]):
+            top = found[-1].token if found else None
+            if token.kind != "word":
+                continue
+            _follow(found, token, index)
+            if top is None or not token.upper.startswith("END_") or top.start <= unclosed.start:
+                continue
+            inner, outer, closing = (self.indentation(it) for it in (top, unclosed, token))
+            if None not in (inner, outer, closing) and closing == outer and closing != inner:
+                return top, token
+        return None
+
+    def indentation(self, token: Token) -> int | None:
+        """How far right a token stands, where it is the first of its line; else None."""
+        line, column = self.source.place(token.start)
+        before = self.source.line(line)[: column - 1]
+        return len(before.expandtabs(4)) if before.strip() == b"" else None
+
     @cached_property
     def statement_start(self) -> int:
         """The index of the first token of the statement or declaration that the token stands in."""
