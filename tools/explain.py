@@ -24,6 +24,8 @@ from tools.syntax import Declaration
 
 WIDTH = 110
 """The most characters of a source line that are shown; a longer one is cut round the caret."""
+MOST_BYTES_LOOKED_AT = 8_000_000
+"""A rows file that was accepted is looked through up to this size."""
 STATUS_LINES = {
     "memory": "the machine had no memory left for this run: end other programs, or take fewer rows",
     "write": "standard output couldn't be written: the disk is full, or the reader of the pipe has ended",
@@ -98,6 +100,8 @@ class Explainer:
             return Explanation(fault.file, reading_hint(fault.file))
         if fault.code in STATUS_LINES:
             return Explanation(fault.file or "vcp", STATUS_LINES[fault.code])
+        if not Path(fault.file).is_file() and fault.file not in ("--cycles", "demo"):
+            return Explanation(fault.text.rpartition(f" {fault.code}")[0], "the file isn't here, so that its line can't be shown")
         if fault.code[0] in "ST" or fault.code in ("L2", "L3"):
             source = Source(_bytes(fault.file))
             at = source.offset(fault.first or 1, fault.second or 1)
@@ -140,14 +144,16 @@ class Explainer:
         if record > len(rows.records):
             return Explanation(f"{fault.file}:{record}", "the file has changed since: it has no such record")
         if fault.code == "R2":
-            return _of_rows(fault.file, data, width_hint(rows, record, inputs))
+            return _of_rows(fault.file, data, width_hint(rows, record))
         return _of_rows(fault.file, data, cell_hint(rows, record, fault.second or 1, inputs))
 
     def silent_rows(self) -> list[Explanation]:
         """What the rows file of an accepted call holds that is read in silence."""
         takes_rows = len(self.words) > 2 and self.words[0] in ("plain", "run", "exec", "trace", "inject") and self.words[2] != "--cycles"
         data = _bytes(self.words[2]) if takes_rows else b""
-        return [_of_rows(self.words[2], data, hint) for hint in silent_faults(data, None)[:3]] if data else []
+        if not 0 < len(data) <= MOST_BYTES_LOOKED_AT:
+            return []
+        return [_of_rows(self.words[2], data, hint) for hint in silent_faults(data, None)[:3]]
 
     def _script(self, fault: FaultLine) -> Explanation:
         """F1 to F4 and L5."""

@@ -8,10 +8,10 @@ from pathlib import Path
 from tools.fault_line import FaultLine, read_fault
 from tools.hint import Hint, Repair
 from tools.hints_source import source_hint
-from tools.hints_syntax import Stuck
 from tools.hints_types import Typed, step_over
 from tools.program import Program, read_bytes
 from tools.source import Source
+from tools.stuck import Stuck
 from tools.syntax import parse
 
 MOST_ROUNDS = 200

@@ -37,6 +37,8 @@ _SAME = {"!": ("NOT", "NOT"), "|": ("OR", "OR"), "~": ("NOT", "NOT")}
 
 def byte_hint(source: Source, at: int) -> Hint:
     """What is said of the byte `at`, with which no token begins."""
+    if at >= len(source.data):
+        return Hint("the file has changed since: it ends before this place", at, at)
     for look in (_encoding, _image, _outside_ascii, _not_equal, _time, _dot):
         hint = look(source, at)
         if hint is not None:
@@ -134,7 +136,8 @@ def _dot(source: Source, at: int) -> Hint | None:
         return Hint(f"`{whole}`: there are no bits of a number: declare a BOOL for each", start, end, repair=Repair(start, end, front))
     if whole[len(front) + 1 :].upper() in _BLOCK_MEMBERS:
         return Hint(f"`{whole}`: {NO_BLOCKS}", start, end, repair=Repair(at, at + 1, "_"))
-    message = f"`{whole}`: there are no structures, blocks or enumerations, and so no members: declare a constant or variable `{front}_{whole[len(front) + 1:]}`"
+    own = f"{front}_{whole[len(front) + 1 :]}"
+    message = f"`{whole}`: there are no structures, blocks or enumerations, and so no members: declare a constant or variable `{own}`"
     return Hint(message, start, end, repair=Repair(at, at + 1, "_"))
 
 

@@ -74,7 +74,7 @@ def _names_hint(header: Record, names: list[str]) -> RowsHint:
     return RowsHint("the header isn't each input once: " + "; ".join(said or ["the names differ"]), header.line)
 
 
-def width_hint(rows: RowsFile, number: int, inputs: list[Declaration]) -> RowsHint:
+def width_hint(rows: RowsFile, number: int) -> RowsHint:
     """R2: a record with too few or too many fields, with the line in which it stands."""
     record = rows.records[number - 1]
     header = rows.records[0]
@@ -88,8 +88,8 @@ def width_hint(rows: RowsFile, number: int, inputs: list[Declaration]) -> RowsHi
     if len(record.fields) > len(header.fields) and digits > 1:
         return RowsHint(f"a decimal comma, or a field too many: {here}; numbers are whole", record.line)
     if len(record.fields) < len(header.fields):
-        names = [cell for cell in header.cells[len(record.fields) :]]
-        return RowsHint(f"fields are missing, from `{names[0]}` on: {here}", record.line)
+        first = header.cells[len(record.fields)]
+        return RowsHint(f"fields are missing, from `{first}` on: {here}", record.line)
     return RowsHint(f"a field too many: {here}", record.line)
 
 
@@ -143,7 +143,7 @@ def silent_faults(data: bytes, inputs: list[Declaration] | None) -> list[RowsHin
     if inputs is not None:
         found += _header_faults(data, rows, inputs)
     width = len(rows.records[0].fields)
-    found += [width_hint(rows, it.number, inputs or []) for it in rows.records[1:] if len(it.fields) != width]
+    found += [width_hint(rows, it.number) for it in rows.records[1:] if len(it.fields) != width]
     if inputs is not None:
         found += _cell_faults(rows, inputs, width)
     if len(rows.records) == 1:

@@ -3,9 +3,10 @@ from __future__ import annotations
 
 from tools.hint import Hint, Repair
 from tools.hints_bytes import byte_hint, comment_hint, number_hint
-from tools.hints_syntax import Stuck, depth_hint, syntax_hint
+from tools.hints_syntax import depth_hint, syntax_hint
 from tools.hints_types import size_hint, type_hint
 from tools.source import Source
+from tools.stuck import Stuck
 from tools.syntax import SyntaxFault, parse
 
 

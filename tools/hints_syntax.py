@@ -5,13 +5,13 @@ that says something is taken; so those that look at the narrowest cases stand fi
 """
 from __future__ import annotations
 
-from dataclasses import dataclass
-from functools import cached_property
 from typing import Callable
 
-from tools.hint import Hint, Repair, listed, nearest
+from tools.hint import Hint, Repair, nearest
 from tools.hints_bytes import NO_BLOCKS, NO_REAL, NO_TIME
+from tools.hints_wanted import wanted_hint
 from tools.source import GRAMMAR_WORDS, RESERVED, TYPES, UNUSED_WORDS, Source, Token
+from tools.stuck import Stuck, ends_operand
 
 CLOSERS = {
     "END_PROGRAM": "PROGRAM", "END_IF": "IF", "END_CASE": "CASE", "END_FOR": "FOR", "END_VAR": "VAR", "ELSE": "IF", "ELSIF": "IF",
@@ -42,91 +42,6 @@ _STATEMENT_WAYS = {
 _UNIT_WORDS = frozenset("TYPE FUNCTION FUNCTION_BLOCK CONFIGURATION RESOURCE CLASS INTERFACE METHOD NAMESPACE VAR_GLOBAL VAR".split())
 
 
-@dataclass(frozen=True)
-class Opener:
-    """A construct that is open: the token that opened it, and the index of that token."""
-
-    token: Token
-    index: int
-    has_else: bool = False
-
-
-class Stuck:
-    """A source, and the index of the token at which no program goes on."""
-
-    def __init__(self, source: Source, index: int) -> None:
-        self.source = source
-        self.tokens = source.tokens
-        self.index = index
-        self.here = self.tokens[index]
-        nothing = Token("end", "", 0, 0)
-        self.before = self.tokens[index - 1] if index > 0 else nothing
-        self.two_before = self.tokens[index - 2] if index > 1 else nothing
-        self.behind = self.tokens[min(index + 1, len(self.tokens) - 1)]
-
-    @cached_property
-    def openers(self) -> list[Opener]:
-        """What is open before the token, the innermost last."""
-        found: list[Opener] = []
-        for index, token in enumerate(self.tokens[: self.index]):
-            if token.is_symbol("("):
-                found.append(Opener(token, index))
-            elif token.is_symbol(")") and found and found[-1].token.is_symbol("("):
-                found.pop()
-            elif token.kind == "word":
-                _follow(found, token, index)
-        return found
-
-    @cached_property
-    def statement_start(self) -> int:
-        """The index of the first token of the statement or declaration that the token stands in."""
-        index = self.index
-        while index > 0 and not _ends_statement(self.tokens, index - 1):
-            index -= 1
-        return index
-
-    @property
-    def in_declaration(self) -> bool:
-        """Whether the token stands in a block of declarations."""
-        return bool(self.openers) and self.openers[-1].token.upper.startswith("VAR")
-
-    def in_condition(self) -> str | None:
-        """The word (IF, ELSIF, CASE or FOR) whose condition, selector or bounds the token stands in."""
-        for token in reversed(self.tokens[: self.index]):
-            if token.is_word("THEN", "OF", "DO", "ELSE") or token.is_symbol(";"):
-                return None
-            if token.is_word("IF", "ELSIF", "CASE", "FOR"):
-                return token.upper
-        return None
-
-
-def _follow(found: list[Opener], token: Token, index: int) -> None:
-    """What is open behind a reserved word."""
-    word = token.upper
-    if word in ("PROGRAM", "VAR", "VAR_INPUT", "VAR_OUTPUT", "IF", "CASE", "FOR"):
-        found.append(Opener(token, index))
-    elif word == "ELSE" and found and found[-1].token.is_word("IF", "CASE"):
-        found[-1] = Opener(found[-1].token, found[-1].index, True)
-    elif word.startswith("END_"):
-        while found and found[-1].token.is_symbol("("):
-            found.pop()
-        if found:
-            found.pop()
-
-
-def _ends_statement(tokens: list[Token], index: int) -> bool:
-    """Whether a statement or declaration begins behind this token."""
-    token = tokens[index]
-    if token.is_symbol(";") or token.is_word("THEN", "ELSE", "OF", "DO", "END_VAR", "VAR", "VAR_INPUT", "VAR_OUTPUT", "CONSTANT", "RETAIN"):
-        return True
-    return token.is_symbol(":") and not tokens[index + 1].is_word(*TYPES, *UNUSED_WORDS) and tokens[index - 1].kind == "number"
-
-
-def ends_operand(token: Token) -> bool:
-    """Whether an expression may end with this token."""
-    return token.kind in ("name", "number") or token.is_symbol(")") or token.is_word("TRUE", "FALSE")
-
-
 def begins_statement(token: Token, behind: Token) -> bool:
     """Whether this token can only stand behind a whole statement."""
     return token.is_word(*STATEMENT_WORDS) or (token.kind == "name" and behind.is_symbol(":=", "=", "(", ":", ","))
@@ -139,7 +54,7 @@ def syntax_hint(source: Source, at: int) -> Hint:
         hint = rule(stuck)
         if hint is not None:
             return hint
-    return _unknown(stuck)
+    return wanted_hint(stuck)
 
 
 def depth_hint(source: Source, at: int) -> Hint:
@@ -329,10 +244,9 @@ def _late_declarations(stuck: Stuck) -> Hint | None:
     if stuck.before.is_symbol(";") and (stuck.two_before.is_word("END_VAR") or stuck.two_before.kind == "name" and stuck.index < 4):
         return _on(stuck.before, "this `;` is a statement, and declarations can't follow one: no `;` stands behind END_VAR or the program's name", " ")
     if stuck.in_declaration:
-        return Hint(
-            f"{stuck.here.upper} stands in a block that isn't closed: END_VAR is missing, for the block from {stuck.source.told(stuck.openers[-1].token.start)}",
-            stuck.here.start, stuck.here.end, repair=Repair(stuck.here.start, stuck.here.start, "END_VAR "),
-        )
+        opened = stuck.source.told(stuck.openers[-1].token.start)
+        message = f"{stuck.here.upper} stands in a block that isn't closed: END_VAR is missing, for the block from {opened}"
+        return Hint(message, stuck.here.start, stuck.here.end, repair=Repair(stuck.here.start, stuck.here.start, "END_VAR "))
     closing = next((token for token in stuck.tokens[stuck.index :] if token.is_word("END_VAR")), None)
     message = "declarations stand before the first statement: move this block up"
     return Hint(message, stuck.here.start, stuck.here.end, repair=Repair(stuck.here.start, closing.end, "") if closing else None)
@@ -386,6 +300,13 @@ def _wrong_end(stuck: Stuck) -> Hint | None:
                 f"{stuck.source.line(stuck.source.place(opener.token.start)[0]).decode('utf-8', 'replace').strip()}",)
     text = wanted if word == "(" else f" {wanted}" + (";" if word in ("IF", "CASE", "FOR") else "") + " "
     anchor = opener.token if here.kind == "end" else here
+    early = stuck.closed_too_early(opener.token) if word in ("IF", "CASE", "FOR") else None
+    if early is not None:
+        inner, closing = early
+        anchor = inner
+        message = (f"END_{inner.upper} is missing for this {inner.upper}: the {closing.upper} at {stuck.source.told(closing.start)} closes it, "
+                   f"and stands below the {word} from {place}")
+        more = (f"So {what}, and the {word} from {place} isn't closed.",)
     return Hint(message, anchor.start, anchor.end, more, Repair(here.start, here.start, text))
 
 
@@ -451,27 +372,23 @@ def _statement_word(stuck: Stuck) -> Hint | None:
     )
 
 
-def _missing_operand(stuck: Stuck) -> Hint | None:
-    if stuck.before.is_symbol("+", "-", "*", "/", "=", "<>", "<", ">", "<=", ">=", ":=", "(", ",") or stuck.before.is_word("AND", "OR", "XOR", "NOT", "MOD"):
-        if stuck.here.is_symbol("+"):
-            return _on(stuck.here, "there is no sign `+`: leave it out", " ")
-        if stuck.here.is_word("AND", "OR", "XOR", "MOD") or stuck.here.kind in ("symbol", "end") or stuck.here.is_word(*STATEMENT_WORDS):
-            stands = "the text ends" if stuck.here.kind == "end" else f"`{stuck.here.text}` stands"
-            return _on(stuck.here, f"a value is missing behind `{stuck.before.text}`: {stands} there")
+def _outside_a_block(stuck: Stuck) -> Hint | None:
+    """`a, b : INT;` where no block of declarations is open."""
+    inside_case = bool(stuck.openers) and stuck.openers[-1].token.is_word("CASE")
+    if not stuck.here.is_symbol(":", ",") or stuck.before.kind != "name" or stuck.index - 1 != stuck.statement_start or stuck.in_declaration or inside_case:
+        return None
+    message = f"a declaration of `{stuck.before.text}` outside a block: VAR, VAR_INPUT or VAR_OUTPUT is missing before it, or its block ended too early"
+    return Hint(message, stuck.before.start, stuck.here.end, repair=Repair(stuck.before.start, _declaration_end(stuck), ""))
+
+
+def _too_many_brackets(stuck: Stuck) -> Hint | None:
+    if stuck.here.is_symbol(")") and not any(opener.token.is_symbol("(") for opener in stuck.openers):
+        return _on(stuck.here, "a `)` too many: no `(` is open here", " ")
     return None
 
 
-def _unknown(stuck: Stuck) -> Hint:
-    """What is said where no rule knows the mistake: what stands there, behind what, within what."""
-    what = "the text ends" if stuck.here.kind == "end" else f"`{stuck.here.text}` can't stand"
-    behind = f" behind `{stuck.before.text}`" if stuck.index else ""
-    within = [f"{opener.token.upper} from {stuck.source.told(opener.token.start)}" for opener in stuck.openers[-3:]]
-    more = (f"Open here: {listed(within)}.",) if within else ()
-    return Hint(f"{what}{' here' if stuck.here.kind != 'end' else ''}{behind}", stuck.here.start, stuck.here.end, more)
-
-
 RULES: tuple[Callable[[Stuck], Hint | None], ...] = (
-    _empty, _not_first, _behind_the_end, _elsif, _comment_end, _missing_behind_end, _sum_and_set, _equals_for_assignment,
-    _assignment_in_condition, _power, _type, _unknown_block, _reserved_name, _late_declarations, _call_statement, _second_else, _else_if,
-    _wrong_end, _missing_word, _missing_semicolon, _operator_word, _statement_word, _missing_operand,
+    _empty, _not_first, _behind_the_end, _elsif, _comment_end, _missing_behind_end, _too_many_brackets, _outside_a_block, _sum_and_set,
+    _equals_for_assignment, _assignment_in_condition, _power, _type, _unknown_block, _reserved_name, _late_declarations, _call_statement,
+    _second_else, _else_if, _wrong_end, _missing_word, _missing_semicolon, _operator_word, _statement_word,
 )

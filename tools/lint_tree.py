@@ -28,7 +28,7 @@ def tree_findings(source: Source, tree: Tree) -> Iterator[Finding]:
         elif isinstance(statement, Loop):
             yield from _turns(types, statement)
     yield from _lost(tree.body, source)
-    yield from _counters(source, tree, types)
+    yield from _counters(tree, types)
 
 
 def reads(statement: Statement) -> set[str]:
@@ -167,7 +167,7 @@ def _lost(body: Sequence[Statement], source: Source) -> Iterator[Finding]:
             yield from _lost(inner, source)
 
 
-def _counters(source: Source, tree: Tree, types: Types) -> Iterator[Finding]:
+def _counters(tree: Tree, types: Types) -> Iterator[Finding]:
     """Variables that only grow, or only shrink, and that nothing limits."""
     assignments = list(_guarded(tree.body, frozenset()))
     for it in tree.declarations:

@@ -10,6 +10,7 @@ h1 { font-size: 1.5em; } h2 { font-size: 1.15em; margin-top: 2em; border-bottom:
 table { border-collapse: collapse; margin: .6em 0; } th, td { text-align: left; padding: 2px 10px 2px 0; vertical-align: top; }
 th { border-bottom: 1px solid #888; font-weight: 600; } td.n, th.n { text-align: right; }
 code, pre, .m { font: 13px/1.4 ui-monospace, Consolas, monospace; } pre { margin: 0; white-space: pre-wrap; }
+.scroll td code { white-space: nowrap; }
 .good { color: #1b6e2b; } .bad { color: #a31515; font-weight: 600; } .dim { color: #666; }
 .scroll { overflow-x: auto; } a { color: #174ea6; text-decoration: none; } :target { background: #fff3b0; }
 @media print { body { max-width: none; } .scroll { overflow: visible; } section { break-inside: auto; } }

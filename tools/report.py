@@ -3,57 +3,21 @@ from __future__ import annotations
 
 import argparse
 import re
-import shlex
 import sys
-import tempfile
-from dataclasses import dataclass, field
 from pathlib import Path
-from typing import Sequence
 
-from tools.image import Image, read_image
+from tools.case import Case
+from tools.image import read_image
 from tools.markup import page
-from tools.observe import Observation, observe, rows_words
-from tools.program import Outcome, Program, read_bytes
+from tools.observe import observe, rows_words
+from tools.program import Program, read_bytes
 from tools.refusal import FINE, FOUND, Refusal
+from tools.report_parts import SECTIONS
 from tools.source import Source
 from tools.table import add_run_words
 
 HORIZON = 2
 """The cycle borders of the audit, where none are given."""
-
-
-@dataclass
-class Case:
-    """What a report tells: the files, the graph, the run, and every command by which that was found out, as a reader may repeat it."""
-
-    program: Program
-    file: str
-    rows: list[str]
-    horizon: int
-    faults: str | None
-    source: Source
-    image_bytes: bytes
-    image: Image
-    run: Observation
-    commands: list[str] = field(default_factory=list)
-
-    @property
-    def image_name(self) -> str:
-        """The name under which the commands write the image."""
-        return Path(self.file).stem + ".img"
-
-    def call(self, *words: str, statuses: Sequence[int] = (0,)) -> Outcome:
-        """Runs the program, with the image in the place of its name, and notes the command."""
-        with tempfile.TemporaryDirectory() as folder:
-            at = Path(folder) / "image"
-            at.write_bytes(self.image_bytes)
-            given = [str(at) if word == self.image_name else word for word in words]
-            self.note(*words)
-            return self.program.must(*given, statuses=statuses)
-
-    def note(self, *words: str, into: str = "") -> None:
-        """Notes a command that was carried out."""
-        self.commands.append("vcp " + shlex.join(words) + (f" >{shlex.quote(into)}" if into else ""))
 
 
 def add_words(parser: argparse.ArgumentParser) -> None:
@@ -83,8 +47,6 @@ def run(given: argparse.Namespace) -> int:
 
 def make(file: str, rows: list[str], horizon: int, faults: str | None, traced: bool = False) -> str:
     """The report, as one document."""
-    from tools.report_parts import SECTIONS
-
     program = Program.found()
     found = observe(program, file, rows, traced)
     source = Source(read_bytes(file))
@@ -106,7 +68,7 @@ def check(file: str, filed: str, made: str) -> int:
     """Compares a filed report with one that was made now, section by section; the status is 1 where they differ."""
     if filed == made:
         print(f"{file}: the report is made again as it is filed")
-        return FOUND if not made else FINE
+        return FINE
     before, now = sections_of(filed), sections_of(made)
     if not before:
         raise Refusal(f"{file}: this is no report")

@@ -7,12 +7,12 @@ from pathlib import Path
 from typing import Callable
 
 from tools.audit_lines import Audited, reached_from, read_audit
+from tools.case import Case
 from tools.image import Operation
 from tools.lint import findings
 from tools.markup import code, element, section, table, text
 from tools.program import TOP, read_bytes
 from tools.programs import Given
-from tools.report import Case
 from tools.verdict_lines import read_verdicts
 from tools.waves import waves
 
@@ -79,7 +79,8 @@ def _tool(case: Case) -> str:
         ("vcp_tools, all files", code(tools_digest())),
         ("toolchain of the proof", code(toolchain())),
     ]
-    note = "<p class='dim'>The program is proved where it was built by <code>./vcp</code> or <code>rt ci</code>; these tools are tested. A digest tells which file it was.</p>"
+    built = f"The program is proved where it was built by {code('./vcp')} or {code('rt ci')}; these tools are tested. A digest tells which file it was."
+    note = element("p", built, class_="dim")
     return section("tool", "Tool", table(("what", "SHA-256, or version"), rows) + note)
 
 
@@ -100,7 +101,7 @@ def _rows(case: Case) -> str:
             if len(told) < MOST_ROWS:
                 told.append([str(cycle), *map(str, row)])
         before = row
-    note = f"<p class='dim'>Cycles in which nothing changes are left out{f', and {left} more at the end' if left else ''}.</p>"
+    note = element("p", f"Cycles in which nothing changes are left out{f', and {left} more at the end' if left else ''}.", class_="dim")
     inside = table(["cycle", *(text(column.name) for column in columns)], told, range(len(columns) + 1))
     return section("values", "Values, cycle by cycle", note + inside + element("p", code(case.run.ending)))
 
@@ -117,14 +118,19 @@ def _line(case: Case, operation: Operation) -> str:
     return code(case.source.line(operation.line).decode("utf-8", "replace").strip()) if operation.line else ""
 
 
+def _reference(case: Case, operation: Operation) -> str:
+    """A link to an operation, with its name or value where it has one."""
+    name = case.image.name_of(operation)
+    return element("a", f"{operation.number} {text(name)}".rstrip(), href=f"#O{operation.number}")
+
+
 def _listing(case: Case) -> str:
     """The operations, with names and places."""
     listed = case.call("list", case.image_name).text.split("\n")
     rows = []
     for operation, line in zip(case.image.operations, listed):
         signature = re.search(r" sig (\d+) ", line)
-        reads = ", ".join(element("a", f"{it}" + (f" {text(case.image.name_of(case.image.operations[it]))}" if case.image.name_of(case.image.operations[it]) else ""),
-                                  href=f"#O{it}") for it in operation.operands)
+        reads = ", ".join(_reference(case, case.image.operations[it]) for it in operation.operands)
         number = element("span", str(operation.number), id=f"O{operation.number}")
         types = operation.type if operation.type == operation.operand_type else f"{operation.operand_type} to {operation.type}"
         rows.append((number, code(operation.kind), types, element("span", reads, class_="m"), code(case.image.name_of(operation)), _place(operation),
@@ -135,8 +141,12 @@ def _listing(case: Case) -> str:
 def _audit(case: Case) -> str:
     """The counts, the blind operations, and those from which no output is reached."""
     audit = read_audit(case.call("audit", case.image_name, str(case.horizon)).text)
-    counts = table(("output", "borders", "reached", "blind"),
-                   [(code(it.output), str(it.borders), str(it.reached), element("span", str(len(it.blind)), class_="bad") if it.blind else "0") for it in audit], (1, 2, 3))
+    by_output: dict[str, list[str]] = {}
+    for it in audit:
+        blind = element("span", f" {len(it.blind)} blind", class_="bad") if it.blind else ""
+        by_output.setdefault(it.output, []).append(f"{it.reached}{blind}")
+    head = ["output", *(f"reached across {borders}" for borders in range(case.horizon + 1))]
+    counts = table(head, [(code(output), *cells) for output, cells in by_output.items()], range(1, case.horizon + 2))
     return section("audit", f"Audit, across at most {case.horizon} cycle borders", counts + _blind(case, audit) + _unreached(case))
 
 
@@ -147,7 +157,7 @@ def _blind(case: Case, audit: list[Audited]) -> str:
         for operation in it.blind:
             where.setdefault(operation, []).append(f"{it.output} across {it.borders}")
     if not where:
-        return "<p class='good'>No operation is blind: each that is reached has a weight other than 0.</p>"
+        return element("p", "No operation is blind: each that is reached has a weight other than 0.", class_="good")
     rows = [(*_operation_cells(case, case.image.operations[number]), text(", ".join(places))) for number, places in sorted(where.items())]
     return "<h3>Blind: every difference that is made there cancels</h3>" + table(("no.", "kind", "name", "place", "line", "at the outputs"), rows, (0,))
 
@@ -158,7 +168,7 @@ def _unreached(case: Case) -> str:
         reached |= set().union(*reached_from(case.image, output, case.horizon))
     left = [operation for operation in case.image.operations if operation.number not in reached]
     if not left:
-        return "<p class='good'>Each operation reaches an output.</p>"
+        return element("p", "Each operation reaches an output.", class_="good")
     rows = [_operation_cells(case, operation) for operation in left]
     return "<h3>Unreached: no path leads to an output</h3>" + table(("no.", "kind", "name", "place", "line"), rows, (0,))
 
@@ -179,8 +189,8 @@ def _campaign(case: Case) -> str:
         mark = "good" if it.verdict in ("refused", "stopped", "same") else "bad"
         rows.append((str(it.line), code(script[it.line - 1].strip()), element("span", it.verdict, class_=mark), code(it.rest), text(_remark(script, it.line))))
     meanings = "; ".join(f"<b>{name}</b>: {said}" for name, said in _MEANINGS.items())
-    inside = table(("line", "fault", "verdict", "details", "remark above it"), rows, (0,)) + element("p", code(totals)) + f"<p class='dim'>{meanings}.</p>"
-    return section("campaign", "Faults and their verdicts", inside)
+    told = table(("line", "fault", "verdict", "details", "remark above it"), rows, (0,))
+    return section("campaign", "Faults and their verdicts", told + element("p", code(totals)) + element("p", meanings + ".", class_="dim"))
 
 
 def _remark(script: list[str], line: int) -> str:
@@ -196,7 +206,7 @@ def _remark(script: list[str], line: int) -> str:
 def _lint(case: Case) -> str:
     found = findings(Given(case.file, case.image, case.source), case.source)
     if not found:
-        return section("lint", "Likely mistakes", "<p class='good'>None is told.</p>")
+        return section("lint", "Likely mistakes", element("p", "None is told.", class_="good"))
     rows = [(element("a", case.source.told(it.at), href=f"#L{case.source.place(it.at)[0]}", class_="m"), code(it.kind), text(it.message)) for it in found]
     return section("lint", "Likely mistakes", table(("place", "kind", "what is told"), rows))
 
@@ -213,8 +223,8 @@ def _source(case: Case) -> str:
 
 def _commands(case: Case) -> str:
     """Every command by which the report was made."""
-    note = "<p class='dim'>In this order, with the files named above. Variables come from one more run, of the source with each VAR as a VAR_OUTPUT.</p>"
-    return section("commands", "Commands", note + element("pre", text("\n".join(case.commands))))
+    note = "In this order, with the files named above. Variables come from one more run, of the source with each VAR as a VAR_OUTPUT."
+    return section("commands", "Commands", element("p", note, class_="dim") + element("pre", text("\n".join(case.commands))))
 
 
 SECTIONS: tuple[Callable[[Case], str], ...] = (

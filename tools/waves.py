@@ -50,8 +50,9 @@ def _ending(found: Observation, cycles: int, scale: float, bottom: int) -> str:
     """The end of the run, red where it is an early one; or where the drawing ends."""
     x = LABEL + cycles * scale
     words = found.ending if cycles == found.cycles else f"the first {cycles} of {found.cycles} cycles"
-    colour = "" if found.is_whole else ' class="e"'
-    return f'<line{colour or " class=" + chr(34) + "i" + chr(34)} x1="{x:.1f}" y1="16" x2="{x:.1f}" y2="{bottom}"/><text x="{LABEL}" y="{bottom + 16}">{text(words)}</text>'
+    style = "i" if found.is_whole else "e"
+    line = f'<line class="{style}" x1="{x:.1f}" y1="16" x2="{x:.1f}" y2="{bottom}"/>'
+    return line + f'<text x="{LABEL}" y="{bottom + 16}">{text(words)}</text>'
 
 
 def segments(values: Sequence[int]) -> Iterator[tuple[int, int, int]]:

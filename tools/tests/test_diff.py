@@ -82,16 +82,19 @@ class Differences(InFolder):
 
     @needs_program
     def test_where_they_part(self) -> None:
-        for old, new, said in (("kept > 3", "kept > 4", "output z: in A operation 4, CONST 3 at 6:13; in B operation 4, CONST 4 at 6:13\n    A: z := kept > 3;\n    B: z := kept > 4;"),
+        for old, new, said in (("kept > 3", "kept > 4", "output z: in A operation 4, CONST 3 at 6:13; in B operation 4, CONST 4 at 6:13\n"
+                                "    A: z := kept > 3;\n    B: z := kept > 4;"),
                                ("a + b", "a - b", "output y: in A operation 2, ADD at 5:8; in B operation 2, SUB at 5:8"),
-                               ("kept + 1", "kept + 2", "kept value kept: in A"), ("kept : INT;", "kept : INT := 5;", "kept begins with 0 as an INT in A, and with 5"),
-                               ("a, b : INT", "b, a : INT", "the inputs stand in another order"), ("z : BOOL", "zz, z : BOOL", "only B has the output zz : BOOL"),
+                               ("kept + 1", "kept + 2", "kept value kept: in A"),
+                               ("kept : INT;", "kept : INT := 5;", "kept begins with 0 as an INT in A, and with 5"),
+                               ("a, b : INT", "b, a : INT", "the inputs stand in another order"),
+                               ("z : BOOL", "zz, z : BOOL", "only B has the output zz : BOOL"),
                                ("y := a + b", "IF a <> 0 THEN y := a + b; END_IF", "only B keeps y : INT")):
             self.assertIn(said, self.compare(old, new, 1))
 
     @needs_program
     def test_an_operation_that_may_stop_and_gives_nothing(self) -> None:
-        self.assertIn("only B may stop at operation", self.compare("y := a + b;", "y := a + b; kept := kept; IF kept > 3 THEN y := a + b; END_IF;\ny := a * b; y := a + b;", 1))
+        self.assertIn("only B may stop at operation", self.compare("y := a + b;", "y := a * b;\ny := a + b;", 1))
 
     @needs_program
     def test_images_and_seeds(self) -> None:

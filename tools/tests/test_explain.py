@@ -6,9 +6,10 @@ import re
 import shutil
 import unittest
 from dataclasses import dataclass, field
+from unittest import mock
 
 from tools.fault_line import meanings, read_ending, read_fault
-from tools.hints_files import words_hint
+from tools.hints_files import reading_hint, words_hint
 from tools.source import RESERVED, Source, literal_value
 from tools.syntax import SyntaxFault, parse
 from tools.tests.support import DATA, EXAMPLES, InFolder, needs_program
@@ -104,6 +105,10 @@ class Calls(InFolder):
         printed = self.tool("explain", given="p.st:5:3 S4 Syntax\n", status=1)
         self.assertIn("to set a variable write `:=`", printed.split("\n")[0])
         self.assertEqual(self.tool("explain", given="ok 11\n"), "ok 11\n")
+        for line in ("q.st:5:3 S4 Syntax", "q.csv:5:3 R3 Cell", "f.txt:2 F1 Form", "q.img:2132 I6 Table stored 0 expected 2", "q.csv:1 R1 Header"):
+            self.assertIn("the file isn't here", self.tool("explain", given=line + "\n", status=1))
+        for line in ("p.st:90:3 S1 Byte", "p.st:90:3 S4 Syntax", "p.st:90:3 S3 Number", "p.st:1:3 T3 Mismatch", "p.st:9 R2 Width", "p.st:90 F1 Form"):
+            self.tool("explain", given=line + "\n", status=1)
 
     @needs_program
     def test_all_faults_of_a_ported_text_are_told_at_once(self) -> None:
@@ -112,6 +117,14 @@ class Calls(InFolder):
         places = re.findall(r"^p\.st:(\d+):\d+: (.*)", printed, re.M)
         self.assertEqual([line for line, _ in places], ["5", "6", "6", "7", "8"])
         self.assertIn("p.st: 5 to mend", printed)
+
+    def test_folders_absence_and_permission_are_told_apart(self) -> None:
+        file = self.write("p.st", ONE)
+        self.assertIn("this is a folder", reading_hint(str(self.folder)))
+        self.assertIn("did you mean `p.st`?", reading_hint(str(self.folder / "q.st")))
+        self.assertIn("there is no folder", reading_hint(str(self.folder / "none" / "p.st")))
+        with mock.patch("os.access", return_value=False):
+            self.assertIn("no permission", reading_hint(str(file)))
 
     @unittest.skipIf(hasattr(os, "geteuid") and os.geteuid() == 0, "root may read every file")
     @needs_program
@@ -168,7 +181,8 @@ class Readers(unittest.TestCase):
         self.assertEqual(getattr(stop, "turns", None), "i=2 j=3")
 
     def test_which_word_is_not_in_its_place(self) -> None:
-        for words, said in (("check", "a word is missing"), ("run p in --seed 0 --seed 1", "stands twice"), ("trace m in x", "`x` stands in the place of CYCLE"),
+        for words, said in (("check", "a word is missing"), ("run p in --seed 0 --seed 1", "stands twice"),
+                            ("trace m in x", "`x` stands in the place of CYCLE"),
                             ("run p --cycles 1000001", "`1000001` stands behind `--cycles`"), ("check p q", "`q` is left over"),
                             ("compile p --sed 0", "did you mean `--seed`?"), ("run p", "a rows file")):
             self.assertIn(said, words_hint(words.split()), words)

@@ -50,7 +50,8 @@ class Findings(InFolder):
 
     @needs_program
     def test_names_that_nothing_sets_or_reads(self) -> None:
-        head = "PROGRAM p\nVAR_INPUT a,\nb : BOOL; END_VAR\nVAR_OUTPUT q,\nz : BOOL; END_VAR\nVAR t : INT;\nu : BOOL;\nw : INT; END_VAR\nVAR CONSTANT C : INT := 3; END_VAR\n"
+        head = "PROGRAM p\nVAR_INPUT a,\nb : BOOL; END_VAR\nVAR_OUTPUT q,\nz : BOOL; END_VAR\n"
+        head += "VAR t : INT;\nu : BOOL;\nw : INT; END_VAR\nVAR CONSTANT C : INT := 3; END_VAR\n"
         told = {(int(line) + head.count("\n"), kind) for line, kind in self.told("q := a AND u;\nt := 4;\n", head)}
         self.assertEqual(told, {(3, "input-never-read"), (5, "output-never-set"), (6, "never-read"), (7, "never-set"), (8, "never-read"), (9, "never-read")})
 
@@ -69,8 +70,10 @@ class Findings(InFolder):
             self.assertIn("nothing that is likely", self.tool("lint", str(EXAMPLES / f"{name}.st"), status=None), name)
 
     def test_constants_after_the_document(self) -> None:
-        for text, value in (("-7 / 2", -3), ("-7 MOD 2", -1), ("7 MOD -2", 1), ("1 / 0", None), ("32767 + 1", None), ("DINT#32767 + 1", 32768), ("SEL(TRUE, 1, 2)", 2),
-                            ("LIMIT(0, 9, 5)", 5), ("C * 2 > 5", 1), ("a AND FALSE", 0), ("a OR b", None), ("NOT (C <> 3)", 1), ("i < -32768", 0), ("40000 > i", 1),
+        for text, value in (("-7 / 2", -3), ("-7 MOD 2", -1), ("7 MOD -2", 1), ("1 / 0", None), ("32767 + 1", None),
+                            ("DINT#32767 + 1", 32768), ("SEL(TRUE, 1, 2)", 2),
+                            ("LIMIT(0, 9, 5)", 5), ("C * 2 > 5", 1), ("a AND FALSE", 0), ("a OR b", None),
+                            ("NOT (C <> 3)", 1), ("i < -32768", 0), ("40000 > i", 1),
                             ("ABS(-C)", 3), ("BOOL_TO_INT(TRUE)", 1)):
             tree = parse(Source((HEAD + f"r := {text};\nEND_PROGRAM\n").encode()))
             self.assertEqual(constant(Types(tree), next(expressions(tree.body[0]))), value, text)

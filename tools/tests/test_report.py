@@ -66,7 +66,8 @@ class Reports(InFolder):
         self.assertEqual(parser.outside, [])
         self.assertLessEqual(parser.links - {""}, parser.ids)
         self.assertNotIn("<script", document)
-        self.assertEqual(list(sections_of(document)), ["summary", "files", "tool", "run", "audit", "campaign", "lint", "listing", "values", "source", "commands"])
+        wanted = "summary files tool run audit campaign lint listing values source commands"
+        self.assertEqual(" ".join(sections_of(document)), wanted)
 
     @needs_program
     def test_it_has_digests_verdicts_and_commands(self) -> None:
@@ -77,7 +78,8 @@ class Reports(InFolder):
         self.assertIn("the same, byte for byte", parts["summary"][1])
         self.assertIn("faults 14 same 3 wrong 3 ran-on 0 refused 6 stopped 2", parts["campaign"][1])
         commands = parts["commands"][1]
-        for command in ("vcp check crossing.st", "vcp compile crossing.st &gt;crossing.img", "vcp audit crossing.img 2", "vcp inject crossing.img crossing.csv crossing.faults"):
+        for command in ("vcp check crossing.st", "vcp compile crossing.st &gt;crossing.img", "vcp audit crossing.img 2",
+                        "vcp inject crossing.img crossing.csv crossing.faults"):
             self.assertIn(command, commands)
         self.assertEqual(parts["run"][1].count("<polyline"), 4)
         self.assertEqual(len(re.findall(r'id="O\d+"', parts["listing"][1])), 50)

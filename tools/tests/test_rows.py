@@ -20,8 +20,10 @@ class Stimuli(InFolder):
         self.write("p.st", PROGRAM)
         self.write("in.stim", "1 SPEED=4 go=TRUE\n")
         self.assertEqual(self.tool("rows", "make", "in.stim", "p.st"), "go,speed\nTRUE,4\n")
-        for text, said in (("1 spead=4\n", "in.stim:1: `spead` is no input: did you mean `speed`?"), ("1 go=2\n", "in.stim:1: `2` isn't a value of `go` : BOOL"),
-                           ("1 speed=40000\n", "-32768 to 32767"), ("go\n1 go=1\n", "missing: speed"), ("go=1\n", "stands where the number of cycles is wanted"),
+        for text, said in (("1 spead=4\n", "in.stim:1: `spead` is no input: did you mean `speed`?"),
+                           ("1 go=2\n", "in.stim:1: `2` isn't a value of `go` : BOOL"),
+                           ("1 speed=40000\n", "-32768 to 32767"), ("go\n1 go=1\n", "missing: speed"),
+                           ("go=1\n", "stands where the number of cycles is wanted"),
                            ("1 go = 1\n", "`go` isn't `NAME=VALUE`"), ("0 go=1\n", "1 to 1000000"), ("# nothing\n", "no line has a number of cycles")):
             self.write("in.stim", text)
             self.assertIn(said, self.tool("rows", "make", "in.stim", "p.st", status=2), text)

@@ -58,7 +58,8 @@ class Tables(InFolder):
 
     @needs_program
     def test_inputs_and_outputs_where_no_name_is_given(self) -> None:
-        self.assertEqual(self.tool("table", "p.st", "in.csv", "--changes"), "cycle  go  full\n    0   0     0\n    1   1     0\n    3   1     1\n    4   0     1\nend 5\n")
+        wanted = "cycle  go  full\n    0   0     0\n    1   1     0\n    3   1     1\n    4   0     1\nend 5\n"
+        self.assertEqual(self.tool("table", "p.st", "in.csv", "--changes"), wanted)
 
     @needs_program
     def test_what_cannot_be_shown_is_refused(self) -> None:
@@ -81,7 +82,8 @@ class Tables(InFolder):
         run = read_run("cycle,y,z\n0,6,-1\nstop 1 RANGE 2:3\n")
         self.assertEqual((run.names, run.rows, run.ending, run.is_whole), (["y", "z"], [[6, -1]], "stop 1 RANGE 2:3", False))
         words, last = read_trace("0 INPUT 10737418236 5 1 1\n3 OUT 13529146978 6 644245096 644245096\nreleased\n")
-        self.assertEqual(([(word.operation, word.kind, word.value, word.expected) for word in words], last), ([(0, "INPUT", 5, 1), (3, "OUT", 6, 644245096)], "released"))
+        told = [(word.operation, word.kind, word.value, word.expected) for word in words]
+        self.assertEqual((told, last), ([(0, "INPUT", 5, 1), (3, "OUT", 6, 644245096)], "released"))
 
 
 class Dumps(InFolder):
@@ -138,7 +140,8 @@ class Wanted(InFolder):
 
     @needs_program
     def test_wanted_rows_that_are_none(self) -> None:
-        for text, said in (("", "there is no record"), ("nn\n1\n", "`nn` is no input"), ("n,full\n1\n", "want.csv:2: 1 fields"), ("full\n2\n", "`2` is no value of `full`")):
+        for text, said in (("", "there is no record"), ("nn\n1\n", "`nn` is no input"),
+                           ("n,full\n1\n", "want.csv:2: 1 fields"), ("full\n2\n", "`2` is no value of `full`")):
             self.write("want.csv", text)
             self.assertIn(said, self.tool("expect", "p.st", "in.csv", "want.csv", status=2))
         self.assertIn("WANTED is missing", self.tool("expect", "p.st", "in.csv", status=2))
