@@ -3,7 +3,7 @@
 ghost use Rattle.std.specs.Prelude.{◌≡◌, IfSome, OnOk, Ok, Err};
 ghost use Rattle.std.specs.Io.KnownBytes.{IsAtEnd};
 ghost use Rattle.machine_run.specs.Moments.{moment};
-ghost use Rattle.machine_run.specs.Stops.{GrowsByStop};
+ghost use Rattle.machine_run.specs.Stops.{GrowsToStop};
 ghost use Rattle.vcp_outside.specs.Counts.{Rose};
 ghost use Rattle.vcp_words.specs.Forms.{exec, rows_of, AreFew};
 ghost use Rattle.vcp_core.specs.Reach.{Reaches, Unread, Taken};
@@ -43,7 +43,7 @@ pub fn exec_command<F: Files, U: Unit, O: Sink>(
     ensures ended { OnOk result (IsAtEnd (F.rest files.new)) }
     ensures taken { IfSome (F.held files.old) (λ h. Taken (exec image.now (rows_of rows.entry)) h (F.rest files.new) result) }
     ensures refused { result ≡ Ok end.Refused → Rose (U.wrong unit.old) (U.wrong unit.new) }
-    ensures stopped { result ≡ Ok end.Stopped → GrowsByStop (U.log unit.old) (U.log unit.new) }
+    ensures stopped { result ≡ Ok end.Stopped → GrowsToStop (U.log unit.old) (U.log unit.new) }
 {
     let loaded = load_image_and_rows(alloc, image, rows, files)?;
     match loaded.rows.open(alloc, &loaded.columns) {

@@ -6,7 +6,7 @@ ghost use Rattle.vcp_outside.specs.Counts.{Rose};
 ghost use Rattle.vcp_words.specs.Forms.{form, form_of, IsSound};
 ghost use Rattle.vcp_words.specs.Tables.{calls_unit, reads_files};
 ghost use Rattle.machine_run.specs.Moments.{moment};
-ghost use Rattle.machine_run.specs.Stops.{GrowsByStop};
+ghost use Rattle.machine_run.specs.Stops.{GrowsToStop};
 ghost use Rattle.vcp_answer.specs.Answered.{Answered};
 ghost use Rattle.vcp_answer.specs.Endings.{TellsUsage};
 ghost use Rattle.vcp_answer.specs.Moments.{errors, ended, FilesStay};
@@ -104,7 +104,7 @@ pub fn vcp<F: Files, U: Unit, O: Sink, E: Sink>(
     ensures ended { IfSome (form_of words.now) (λ f. reads_files f ≡ true → IsEnd result → IsAtEnd (F.rest files.new)) }
     ensures taken { IfSome (F.held files.old) (λ h. IfSome (form_of words.now)
         (λ f. reads_files f ≡ true → result ≡ 1 → Refused f h (F.rest files.new))) }
-    ensures stopped { IfSome (form_of words.now) (λ f. calls_unit f ≡ true → result ≡ 2 → GrowsByStop (U.log unit.old) (U.log unit.new)) }
+    ensures stopped { IfSome (form_of words.now) (λ f. calls_unit f ≡ true → result ≡ 2 → GrowsToStop (U.log unit.old) (U.log unit.new)) }
     ensures refused { result ≡ 3 → Rose (U.wrong unit.old) (U.wrong unit.new) }
     ensures read { result ≡ 5 → Rose (F.faults files.old) (F.faults files.new) }
     ensures write { result ≡ 6 → Rose (O.faults out.old) (O.faults out.new) ⊎ Rose (E.faults err.old) (E.faults err.new) }
@@ -151,7 +151,7 @@ fn serve<F: Files, U: Unit, O: Sink, E: Sink>(
     ensures held { F.held files.new ≡ F.held files.old }
     ensures ended { reads_files (form command.now) ≡ true → IsEnd result → IsAtEnd (F.rest files.new) }
     ensures taken { reads_files (form command.now) ≡ true → IfSome (F.held files.old) (λ h. result ≡ 1 → Refused (form command.now) h (F.rest files.new)) }
-    ensures stopped { calls_unit (form command.now) ≡ true → result ≡ 2 → GrowsByStop (U.log unit.old) (U.log unit.new) }
+    ensures stopped { calls_unit (form command.now) ≡ true → result ≡ 2 → GrowsToStop (U.log unit.old) (U.log unit.new) }
     ensures refused { result ≡ 3 → Rose (U.wrong unit.old) (U.wrong unit.new) }
     ensures read { result ≡ 5 → Rose (F.faults files.old) (F.faults files.new) }
     ensures write { result ≡ 6 → Rose (O.faults out.old) (O.faults out.new) ⊎ Rose (E.faults err.old) (E.faults err.new) }
@@ -190,7 +190,7 @@ fn perform<F: Files, U: Unit, O: Sink>(
     ensures ended { reads_files (form command.now) ≡ true → OnOk result (IsAtEnd (F.rest files.new)) }
     ensures taken { reads_files (form command.now) ≡ true → IfSome (F.held files.old) (λ h. Taken (form command.now) h (F.rest files.new) result) }
     ensures refused { result ≡ Ok end.Refused → Rose (U.wrong unit.old) (U.wrong unit.new) }
-    ensures stopped { calls_unit (form command.now) ≡ true → result ≡ Ok end.Stopped → GrowsByStop (U.log unit.old) (U.log unit.new) }
+    ensures stopped { calls_unit (form command.now) ≡ true → result ≡ Ok end.Stopped → GrowsToStop (U.log unit.old) (U.log unit.new) }
 {
     match command {
         Command::Check { source } => check_command(alloc, source, files, out),

@@ -8,7 +8,7 @@ ghost use Rattle.input_rows.specs.RowsOf.{IsOfRecord};
 ghost use Rattle.signature_table.specs.Signatures.{IsTableOf, table_of};
 ghost use Rattle.coded_machine.specs.Calls.{Whole};
 ghost use Rattle.machine_run.specs.Moments.{moment};
-ghost use Rattle.machine_run.specs.Stops.{GrowsByStop};
+ghost use Rattle.machine_run.specs.Stops.{GrowsToStop};
 ghost use Rattle.vcp_answer.specs.CycleWords.{word_lines, words_among};
 ghost use Rattle.vcp_core.specs.MachineRun.{IsThere, RunsJob};
 ghost use Rattle.vcp_core.specs.Trace.{words_job};
@@ -130,7 +130,7 @@ pub fn run_words<U: Unit, O: Sink>(
         (moment (U.log unit.new) (U.wrong unit.new) (O.written out.new) (O.faults out.new)) result }
     ensures write { result ≡ Err fault.Write → Rose (O.faults out.old) (O.faults out.new) }
     ensures refused { result ≡ Ok end.Refused → Rose (U.wrong unit.old) (U.wrong unit.new) }
-    ensures stopped { result ≡ Ok end.Stopped → GrowsByStop (U.log unit.old) (U.log unit.new) }
+    ensures stopped { result ≡ Ok end.Stopped → GrowsToStop (U.log unit.old) (U.log unit.new) }
 {
     // So the words of an honest unit are those that are meant.
     right_answers_stand_for_values();
