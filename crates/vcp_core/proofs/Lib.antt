@@ -1,3 +1,4 @@
+pub mod AcceptedShown
 pub mod Audits
 pub mod Facts
 pub mod ImageLoaded

@@ -1,3 +1,4 @@
+pub mod AcceptedRuns
 pub mod Audit
 pub mod Check
 pub mod Compile
@@ -14,7 +15,7 @@ pub mod Plain
 pub mod PlainRun
 pub mod Reach
 pub mod Run
-pub mod StaleOperands
+pub mod StaleSeen
 pub mod SummaryRun
 pub mod Tasks
 pub mod Trace
