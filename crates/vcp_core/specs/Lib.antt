@@ -1,6 +1,7 @@
 pub mod AcceptedRuns
 pub mod Audit
 pub mod Check
+pub mod CommandTasks
 pub mod Compile
 pub mod Demo
 pub mod Exec

@@ -10,7 +10,10 @@ ghost use Rattle.coded_machine.specs.Calls.{Whole};
 ghost use Rattle.machine_run.specs.Moments.{moment};
 ghost use Rattle.machine_run.specs.Stops.{GrowsToStop};
 ghost use Rattle.vcp_answer.specs.CycleWords.{word_lines, words_among};
-ghost use Rattle.vcp_core.specs.MachineRun.{IsThere, RunsJob};
+ghost use Rattle.vcp_answer.specs.Seen.{moment_seen};
+ghost use Rattle.vcp_core.specs.CommandTasks.{words_job as words_job_to};
+ghost use Rattle.vcp_core.specs.Jobs.{code_of};
+ghost use Rattle.vcp_core.specs.MachineRun.{IsThere, RunsJob, RunsTo};
 ghost use Rattle.vcp_core.specs.Trace.{words_job};
 ghost use Rattle.vcp_core.specs.TraceRun.{PrintsWords, answered_words};
 ghost use Rattle.vcp_core.specs.declared.ending.End.TheVariants as end;
@@ -128,6 +131,9 @@ pub fn run_words<U: Unit, O: Sink>(
     ensures runs { (name : List ℕ) → RunsJob (words_job name cycle graph.now table.now rows.old)
         (moment (U.log unit.old) (U.wrong unit.old) (O.written out.old) (O.faults out.old))
         (moment (U.log unit.new) (U.wrong unit.new) (O.written out.new) (O.faults out.new)) result }
+    ensures ran { (name : List ℕ) → RunsTo (words_job_to name cycle graph.now (code_of table.now) rows.old)
+        (moment_seen (U.log unit.old) (U.wrong unit.old) (O.written out.old) (O.faults out.old))
+        (moment_seen (U.log unit.new) (U.wrong unit.new) (O.written out.new) (O.faults out.new)) result }
     ensures write { result ≡ Err fault.Write → Rose (O.faults out.old) (O.faults out.new) }
     ensures refused { result ≡ Ok end.Refused → Rose (U.wrong unit.old) (U.wrong unit.new) }
     ensures stopped { result ≡ Ok end.Stopped → GrowsToStop (U.log unit.old) (U.log unit.new) }
