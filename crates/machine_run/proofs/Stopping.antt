@@ -1,10 +1,10 @@
--- Stopping: a cycle that stopped has a call that stops it.
-use Rattle.std.proofs.Common.{ℕ, zero, suc, ◌<◌, ◌≡◌, true, false, refl, ap, subst, sym, ℤ, List, [], ◌∷◌, ◌++◌, append_assoc, length, slice_get, arith, ◌⊎◌}
-use Rattle.std.proofs.Common.{inl, inr, Option, Some, None, ◌≤◌}
-use Rattle.op_graph.specs.Lists.{Lists}
+-- Stopping: the calls of a cycle that stopped end in a stop.
+use Rattle.std.proofs.Common.{ℕ, ℤ, zero, suc, ◌<◌, ◌≤◌, ◌≡◌, ◌⊎◌, true, false, inl, inr, refl, ap, subst, sym, List, [], ◌∷◌, ◌++◌, append_assoc, length, slice_get}
+use Rattle.std.proofs.Common.{Option, Some, None, arith}
 use Rattle.std.proofs.lemmas.Option.{slice_get_within}
 use Rattle.vcp_base.specs.declared.kind.Kind.TheVariants as kind
 use Rattle.vcp_base.specs.declared.kind.StopKind.{StopKind}
+use Rattle.vcp_base.specs.declared.kind.StopKind.TheVariants as stop
 use Rattle.vcp_base.specs.Types.{fits}
 use Rattle.coded_unit.specs.declared.call.Answer.{Answer}
 use Rattle.coded_unit.specs.declared.call.Answer.TheVariants as answer
@@ -12,93 +12,131 @@ use Rattle.coded_unit.specs.Log.{Entry, GrowsBy}
 use Rattle.coded_unit.specs.Words.{value_part}
 use Rattle.op_graph.specs.declared.op.Op.{Op}
 use Rattle.op_graph.specs.declared.op.Outlet.{Outlet}
+use Rattle.op_graph.specs.Laws.{EntryLaws}
+use Rattle.op_graph.specs.Lists.{Lists}
 use Rattle.op_graph.specs.Rules.{IsGraph}
 use Rattle.signature_table.specs.Signatures.{Numbers}
 use Rattle.coded_machine.specs.declared.cycle_end.CycleEnd.{CycleEnd}
 use Rattle.coded_machine.specs.declared.cycle_end.CycleEnd.TheVariants as end
-use Rattle.coded_machine.specs.Calls.{Setting, CallsOf, calls_from, Whole, AllWords, word_of, word_at}
-use Rattle.coded_machine.specs.CycleEnds.{Outside, Cause, stop_of}
+use Rattle.coded_machine.specs.Calls.{Setting, CallsOf, calls_from, call_of, Whole, AllWords, word_of, word_at}
+use Rattle.coded_machine.specs.CycleEnds.{Cause, stop_of}
 use Rattle.coded_machine.specs.Runs.{Turn}
 use Rattle.coded_machine.specs.State.{State, setting}
-use Rattle.machine_run.specs.Stops.{HasStop, GrowsByStop}
+use Rattle.machine_run.specs.Stops.{AreWordsOf, EndInStop, answered, outside, GrowsToStop}
 use Rattle.machine_run.proofs.Outs.{IsOut, output_is_out}
-use Rattle.op_graph.specs.Laws.{EntryLaws}
+
+-- entries that end in some stop
+record EndsInSome (entries : List Entry) : Type 0 where
+  at : ℕ
+  why : StopKind
+  ends : EndInStop entries at why
+
+-- so do they with one before them
+one_before : (e : Entry) (entries : List Entry) (k : ℕ) (why : StopKind) → EndInStop entries k why → EndInStop (e ∷ entries) k why
+one_before e entries k why (answered earlier call a is op stops) = answered (e ∷ earlier) call a (ap (λ (l : List Entry). e ∷ l) is) op stops
+one_before e entries k why (outside earlier later call a is op operand out beyond words) =
+    outside (e ∷ earlier) later call a (ap (λ (l : List Entry). e ∷ l) is) op operand out beyond words
+
+some_before : (e : Entry) (entries : List Entry) → EndsInSome entries → EndsInSome (e ∷ entries)
+some_before e entries s = record { at = s.at; why = s.why; ends = one_before e entries s.at s.why s.ends }
 
 -- every operation is answered by a word
 record AllAnswered (ops : List Op) (answers : List Answer) : Type 0 where
-  pub words : AllWords answers
-  pub all : length answers ≡ length ops
+  words : AllWords answers
+  all : length answers ≡ length ops
 
 one_more_word : (op : Op) (ops : List Op) (w : ℤ) (answers : List Answer) → AllAnswered ops answers → AllAnswered (op ∷ ops) (answer.Word w ∷ answers)
 one_more_word op ops w answers h = record { words = (refl, h.words); all = ap suc h.all }
 
--- a whole cycle has an answer that is no word, or every operation is answered by one
-stop_or_words : (s : Setting) (before : List Answer) (ops : List Op) (answers : List Answer) → Whole ops answers
-    → HasStop (calls_from s before ops answers) ⊎ AllAnswered ops answers
-stop_or_words s before [] [] whole = inr (record { words = tt; all = refl })
-stop_or_words s before [] (a ∷ answers) whole = absurd whole
-stop_or_words s before (op ∷ ops) [] whole = absurd whole
-stop_or_words s before (op ∷ ops) (answer.Word w ∷ answers) whole =
-    elim (stop_or_words s (before ++ answer.Word w ∷ []) ops answers whole) [ inl h ↦ inl (inr h) | inr h ↦ inr (one_more_word op ops w answers h) ]
-stop_or_words s before (op ∷ ops) (answer.Range ∷ answers) whole = inl (inl (inl refl))
-stop_or_words s before (op ∷ ops) (answer.DivZero ∷ answers) whole = inl (inl (inl refl))
-stop_or_words s before (op ∷ ops) (answer.Operand ∷ answers) whole = inl (inl (inl refl))
+module _ (s : Setting) where
+  -- the last call is answered by a stop
+  last_call : (before : List Answer) (op : Op) (ops : List Op) (a : Answer) (why : StopKind) (answers : List Answer) → stop_of a ≡ Some why → answers ≡ []
+      → EndsInSome (calls_from s before (op ∷ ops) (a ∷ answers))
+  last_call before op ops a why answers stops none = record {
+    at = length before;
+    why = why;
+    ends = answered [] (call_of s op before) a
+        (ap (λ (l : List Answer). (call_of s op before, a) ∷ calls_from s (before ++ a ∷ []) ops l) none) refl stops;
+  }
+
+  stop_or_words : (before : List Answer) (ops : List Op) (answers : List Answer) → Whole ops answers
+      → EndsInSome (calls_from s before ops answers) ⊎ AllAnswered ops answers
+  stop_or_words before [] [] whole = inr (record { words = tt; all = refl })
+  stop_or_words before [] (a ∷ answers) whole = absurd whole
+  stop_or_words before (op ∷ ops) [] whole = absurd whole
+  stop_or_words before (op ∷ ops) (answer.Word w ∷ answers) whole =
+      elim (stop_or_words (before ++ answer.Word w ∷ []) ops answers whole) [
+        | inl h ↦ inl (some_before (call_of s op before, answer.Word w) (calls_from s (before ++ answer.Word w ∷ []) ops answers) h)
+        | inr h ↦ inr (one_more_word op ops w answers h)
+      ]
+  stop_or_words before (op ∷ ops) (answer.Range ∷ answers) whole = inl (last_call before op ops answer.Range stop.Range answers refl whole)
+  stop_or_words before (op ∷ ops) (answer.DivZero ∷ answers) whole = inl (last_call before op ops answer.DivZero stop.DivZero answers refl whole)
+  stop_or_words before (op ∷ ops) (answer.Operand ∷ answers) whole = inl (last_call before op ops answer.Operand stop.Operand answers refl whole)
+
+  are_words : (before : List Answer) (ops : List Op) (answers : List Answer) → AllWords answers → AreWordsOf s.cycle (calls_from s before ops answers)
+  are_words before ops [] words = tt
+  are_words before [] (a ∷ answers) words = tt
+  are_words before (op ∷ ops) (a ∷ answers) words = (refl, words.0, are_words (before ++ a ∷ []) ops answers words.1)
+
+  -- the word of an OUT is outside its type
+  out_stops : (before : List Answer) (ops : List Op) (answers : List Answer) (k : ℕ) (op : Op) → slice_get ops k ≡ Some op → op.kind ≡ kind.Out →
+      AllWords answers → k < length answers → fits op.ty (value_part s.graph.profile (word_at answers k)) ≡ false → EndsInSome (calls_from s before ops answers)
+  out_stops before ops [] k op there is words few beyond = absurd (omega arith)
+  out_stops before [] (a ∷ answers) k op there is words few beyond = absurd cc
+  out_stops before (p ∷ ops) (a ∷ answers) zero op there is words few beyond =
+      let same : op ≡ p = cc in
+      record {
+        at = length before;
+        why = stop.Operand;
+        ends = outside [] (calls_from s (before ++ a ∷ []) ops answers) (call_of s p before) a refl refl refl
+            (subst (λ (x : Op). x.kind ≡ kind.Out) same is)
+            (subst (λ (x : Op). fits x.ty (value_part s.graph.profile (word_of a)) ≡ false) same beyond)
+            (are_words before (p ∷ ops) (a ∷ answers) words);
+      }
+  out_stops before (p ∷ ops) (a ∷ answers) (suc k) op there is words few beyond =
+      some_before (call_of s p before, a) (calls_from s (before ++ a ∷ []) ops answers)
+      (out_stops (before ++ a ∷ []) ops answers k op there is words.1 (omega arith) beyond)
 
 -- no word is a stop
 no_stop : (answers : List Answer) (k : ℕ) (a : Answer) (why : StopKind) → AllWords answers → slice_get answers k ≡ Some a → stop_of a ≡ Some why → ⊥
 no_stop [] k a why words there stops = cc
-no_stop (answer.Word w ∷ answers) zero a why words there stops = let same : answer.Word w ≡ a = cc in let none : stop_of (answer.Word w) ≡ Some why =
-    subst (λ x. stop_of x ≡ Some why) (sym same) stops in cc
+no_stop (answer.Word w ∷ answers) zero a why words there stops =
+    let same : answer.Word w ≡ a = cc in
+    let none : stop_of (answer.Word w) ≡ Some why = subst (λ x. stop_of x ≡ Some why) (sym same) stops in cc
 no_stop (answer.Range ∷ answers) zero a why words there stops = let first : false ≡ true = words.0 in cc
 no_stop (answer.DivZero ∷ answers) zero a why words there stops = let first : false ≡ true = words.0 in cc
 no_stop (answer.Operand ∷ answers) zero a why words there stops = let first : false ≡ true = words.0 in cc
 no_stop (b ∷ answers) (suc k) a why words there stops = no_stop answers k a why words.1 there stops
-
--- the word of an OUT that is outside its type is a stop
-out_stops : (s : Setting) (before : List Answer) (ops : List Op) (answers : List Answer) (k : ℕ) (op : Op) → slice_get ops k ≡ Some op → op.kind ≡ kind.Out
-    → k < length answers → fits op.ty (value_part s.graph.profile (word_at answers k)) ≡ false → HasStop (calls_from s before ops answers)
-out_stops s before ops [] k op there is few outside = absurd (omega arith)
-out_stops s before [] (a ∷ answers) k op there is few outside = absurd cc
-out_stops s before (p ∷ ops) (a ∷ answers) zero op there is few outside =
-    let same : op ≡ p = cc in
-    inl (inr (subst (λ (x : Op). x.kind ≡ kind.Out) same is, subst (λ (x : Op). fits x.ty (value_part s.graph.profile (word_of a)) ≡ false) same outside))
-out_stops s before (p ∷ ops) (a ∷ answers) (suc k) op there is few outside =
-    inr (out_stops s (before ++ a ∷ []) ops answers k op there is (omega arith) outside)
 
 there_is : {X : Type 0} (xs : List X) (k : ℕ) → k < length xs → (x : X) × (slice_get xs k ≡ Some x)
 there_is [] k few = absurd (omega arith)
 there_is (x ∷ xs) zero few = (x, refl)
 there_is (x ∷ xs) (suc k) few = there_is xs k (omega arith)
 
-outside_stops : EntryLaws → (s : Setting) (answers : List Answer) (k : ℕ) → IsGraph s.graph → length answers ≡ length s.graph.operations
-    → Outside s.graph.profile answers s.graph.outputs k → HasStop (CallsOf s answers)
-outside_stops laws s answers k graph all h =
-    let g = s.graph in
-    let o : Outlet = h.1 in
-    let few : o.op < length g.operations = (laws.output g h.0 o graph.part h.2).operation in
-    let here = there_is g.operations o.op few in
-    let out : IsOut here.0 o.ty = output_is_out laws g h.0 o here.0 graph h.2 here.1 in
-    let outside : fits here.0.ty (value_part g.profile (word_at answers o.op)) ≡ false =
-    rw out.ty (subst (λ i. fits o.ty (value_part g.profile (word_at answers i)) ≡ false) (sym h.3) h.4) in
-    out_stops s [] g.operations answers o.op here.0 here.1 out.kind (omega (arith, few, all)) outside
-
--- a cycle that ended with a stop has one
-pub cycle_stops : EntryLaws → (s : Setting) (t : Numbers) (n : ℕ) (answers : List Answer) (k : ℕ) (why : StopKind) → IsGraph s.graph
-    → Whole s.graph.operations answers → Cause s.graph t n answers (end.Stopped k why) → HasStop (CallsOf s answers)
-cycle_stops laws s t n answers k why graph whole cause =
+cycle_ends : EntryLaws → (s : Setting) (t : Numbers) (n : ℕ) (answers : List Answer) (k : ℕ) (why : StopKind) → IsGraph s.graph
+    → Whole s.graph.operations answers → Cause s.graph t n answers (end.Stopped k why) → EndsInSome (CallsOf s answers)
+cycle_ends laws s t n answers k why graph whole cause =
     elim (stop_or_words s [] s.graph.operations answers whole) [
       | inl h ↦ h
       | inr h ↦ elim cause [
         | inl x ↦ absurd (no_stop answers k x.0 why h.words x.1 x.2)
-        | inr x ↦ outside_stops laws s answers k graph h.all x.1
+        | inr x ↦
+            let g = s.graph in
+            let o : Outlet = x.1.1 in
+            let few : o.op < length g.operations = (laws.output g x.1.0 o graph.part x.1.2).operation in
+            let here = there_is g.operations o.op few in
+            let out : IsOut here.0 o.ty = output_is_out laws g x.1.0 o here.0 graph x.1.2 here.1 in
+            let beyond : fits here.0.ty (value_part g.profile (word_at answers o.op)) ≡ false =
+            rw out.ty (subst (λ i. fits o.ty (value_part g.profile (word_at answers i)) ≡ false) (sym x.1.3) x.1.4) in
+            out_stops s [] g.operations answers o.op here.0 here.1 out.kind h.words (omega (arith, few, h.all)) beyond
       ]
     ]
 
 -- ---- the log of a run whose last cycle stopped
 
-has_stop_later : (entries more : List Entry) → HasStop more → HasStop (entries ++ more)
-has_stop_later [] more h = h
-has_stop_later (e ∷ entries) more h = inr (has_stop_later entries more h)
+some_later : (entries more : List Entry) → EndsInSome more → EndsInSome (entries ++ more)
+some_later [] more h = h
+some_later (e ∷ entries) more h = some_before e (entries ++ more) (some_later entries more h)
 
 grows_on : (x y z : Option (List Entry)) (es fs : List Entry) → GrowsBy x y es → GrowsBy y z fs → GrowsBy x z (es ++ fs)
 grows_on (Some x) (Some y) (Some z) es fs h k = rw (k, h) (append_assoc x es fs)
@@ -111,12 +149,13 @@ grows_on (Some x) None (Some z) es fs h k = absurd k
 
 pub stopped_log : EntryLaws
     → (m o : State) (row : List ℤ) (e : CycleEnd) (k : ℕ) (why : StopKind) (x y z : Option (List Entry)) (earlier : List Entry) (i j : ℕ) → IsGraph m.graph
-    → Turn m o row e y z i j → Cause m.graph m.table m.cycles o.answers e → e ≡ end.Stopped k why → GrowsBy x y earlier → GrowsByStop x z
+    → Turn m o row e y z i j → Cause m.graph m.table m.cycles o.answers e → e ≡ end.Stopped k why → GrowsBy x y earlier → GrowsToStop x z
 stopped_log laws m o row e k why x y z earlier i j graph turn cause is h =
     let last = CallsOf (setting m row) o.answers in
-    let stops : HasStop last =
-    cycle_stops laws (setting m row) m.table m.cycles o.answers k why graph turn.whole (subst (Cause m.graph m.table m.cycles o.answers) is cause) in
-    (earlier ++ last, grows_on x y z earlier last h turn.carried.told, has_stop_later earlier last stops)
+    let ends : EndsInSome last =
+    cycle_ends laws (setting m row) m.table m.cycles o.answers k why graph turn.whole (subst (Cause m.graph m.table m.cycles o.answers) is cause) in
+    let all : EndsInSome (earlier ++ last) = some_later earlier last ends in
+    (earlier ++ last, all.at, all.why, grows_on x y z earlier last h turn.carried.told, all.ends)
 
 -- ---- where a cycle stopped, or was refused
 

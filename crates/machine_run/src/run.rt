@@ -13,7 +13,7 @@ ghost use Rattle.machine_run.specs.Cycles.{cycle_end};
 ghost use Rattle.machine_run.specs.Leaves.{Leaves};
 ghost use Rattle.machine_run.specs.Moments.{moment};
 ghost use Rattle.machine_run.specs.RowRuns.{RunsRows, texts_from};
-ghost use Rattle.machine_run.specs.Stops.{GrowsByStop};
+ghost use Rattle.machine_run.specs.Stops.{GrowsToStop};
 
 use crate::fault::RunFault;
 use crate::released::ReleasedRows;
@@ -84,7 +84,7 @@ pub fn run_rows<U: Unit, O: Sink, R: ReleasedRows>(
         (moment (U.log unit.new) (U.wrong unit.new) (O.written out.new) (O.faults out.new))
         (R.Keeps released.old) (R.Keeps released.new) machine.new result }
     ensures later { O.faults out.old ≤ O.faults out.new }
-    ensures stopped { (k : ℕ) (why : StopKind) → result ≡ Ok (end.Stopped k why) → GrowsByStop (U.log unit.old) (U.log unit.new) }
+    ensures stopped { (k : ℕ) (why : StopKind) → result ≡ Ok (end.Stopped k why) → GrowsToStop (U.log unit.old) (U.log unit.new) }
     ensures placed { (k : ℕ) (why : StopKind) → result ≡ Ok (end.Stopped k why) → k < length machine.old.graph.operations }
     ensures refused { (i found expected : ℕ) → result ≡ Ok (end.Refused i found expected) → Rose (U.wrong unit.old) (U.wrong unit.new) }
     ensures numbered { (i found expected : ℕ) → result ≡ Ok (end.Refused i found expected) → i < length machine.old.graph.outputs }

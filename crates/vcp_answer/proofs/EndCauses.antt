@@ -17,22 +17,22 @@ use Rattle.vcp_answer.specs.Reports.{Report, End, complete, stopped, refused, ru
 
 -- ---- the status of a run
 
-stop_of : (e : End) (behind : Option RowFault) → run_status e behind ≡ 2 → (s : ToldStop) × (e ≡ stopped s)
+pub stop_of : (e : End) (behind : Option RowFault) → run_status e behind ≡ 2 → (s : ToldStop) × (e ≡ stopped s)
 stop_of complete None h = absurd (omega (arith, h))
 stop_of complete (Some f) h = absurd (omega (arith, h))
 stop_of (stopped s) behind h = (s, refl)
 stop_of (refused output found wanted) behind h = absurd (omega (arith, h))
 
-stopped_two : (e : End) (behind : Option RowFault) (s : ToldStop) → e ≡ stopped s → run_status e behind ≡ 2
+pub stopped_two : (e : End) (behind : Option RowFault) (s : ToldStop) → e ≡ stopped s → run_status e behind ≡ 2
 stopped_two e behind s is = rw is refl
 
-done_none : (e : End) (behind : Option RowFault) → run_status e behind ≡ 0 → behind ≡ None
+pub done_none : (e : End) (behind : Option RowFault) → run_status e behind ≡ 0 → behind ≡ None
 done_none complete None h = refl
 done_none complete (Some f) h = absurd (omega (arith, h))
 done_none (stopped s) behind h = absurd (omega (arith, h))
 done_none (refused output found wanted) behind h = absurd (omega (arith, h))
 
-refused_some : (e : End) (behind : Option RowFault) → run_status e behind ≡ 1 → behind ≢ None
+pub refused_some : (e : End) (behind : Option RowFault) → run_status e behind ≡ 1 → behind ≢ None
 refused_some complete None h is = absurd (omega (arith, h))
 refused_some complete (Some f) h is = cc
 refused_some (stopped s) behind h is = absurd (omega (arith, h))

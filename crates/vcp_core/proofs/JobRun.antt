@@ -104,18 +104,18 @@ later-text names rows e later behind is = ap (λ x. report_text names (goes_on r
 
 -- ---- fronts and parts
 
-front-of : (old new : Option (List ℕ)) (p more all : List ℕ) → Appends old new p → all ≡ p ++ more → AppendsFront old new all
+pub front-of : (old new : Option (List ℕ)) (p more all : List ℕ) → Appends old new p → all ≡ p ++ more → AppendsFront old new all
 front-of old new p more all w is = (p, more, is, w)
 
-part-of : (old new : Option (List ℕ)) (p more all : List ℕ) → AppendsPart old new p → all ≡ p ++ more → AppendsPart old new all
+pub part-of : (old new : Option (List ℕ)) (p more all : List ℕ) → AppendsPart old new p → all ≡ p ++ more → AppendsPart old new all
 part-of old new p more all (front, rest, is, some, w) whole =
     (front, rest ++ more, whole ∙ ap (λ t. t ++ more) is ∙ append_assoc front rest more, rw (length-append rest more) (omega (arith, some)), w)
 
-part-behind : (a b c : Option (List ℕ)) (p q all : List ℕ) → Appends a b p → AppendsPart b c q → all ≡ p ++ q → AppendsPart a c all
+pub part-behind : (a b c : Option (List ℕ)) (p q all : List ℕ) → Appends a b p → AppendsPart b c q → all ≡ p ++ q → AppendsPart a c all
 part-behind a b c p q all before (front, rest, is, some, w) whole =
     (p ++ front, rest, whole ∙ ap (λ t. p ++ t) is ∙ sym (append_assoc p front rest), some, Appends-trans a b c p front before w)
 
-append-all : (a b c : Option (List ℕ)) (p q all : List ℕ) → Appends a b p → Appends b c q → all ≡ p ++ q → Appends a c all
+pub append-all : (a b c : Option (List ℕ)) (p q all : List ℕ) → Appends a b p → Appends b c q → all ≡ p ++ q → Appends a c all
 append-all a b c p q all first second is = rw is (Appends-trans a b c p q first second)
 
 -- ---- ends
@@ -217,7 +217,7 @@ pub grows-none : (log : Option (List Entry)) → GrowsBy log log []
 grows-none None = tt
 grows-none (Some entries) = sym (append-nil entries)
 
-no-last : {P : Type 0} (earlier : List (List Given)) (last : List Given) → (let none : List (List Given) = [] in none ≡ earlier ++ last ∷ []) → P
+pub no-last : {P : Type 0} (earlier : List (List Given)) (last : List Given) → (let none : List (List Given) = [] in none ≡ earlier ++ last ∷ []) → P
 no-last [] last is = cc
 no-last (first ∷ earlier) last is = cc
 

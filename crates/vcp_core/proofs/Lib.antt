@@ -1,3 +1,5 @@
+pub mod AcceptedShown
+pub mod AuditKinds
 pub mod Audits
 pub mod Facts
 pub mod ImageLoaded
@@ -6,16 +8,20 @@ pub mod JobFacts
 pub mod JobRun
 pub mod Listed
 pub mod Loaded
+pub mod LoadedRows
 pub mod OneTask
+pub mod Performing
 pub mod PlainNames
 pub mod PlainReaching
 pub mod PlainRows
 pub mod PlainTurns
 pub mod PlainWorked
+pub mod PrintedRun
 pub mod Reaching
 pub mod Reduced
 pub mod RunReaching
 pub mod Serving
+pub mod Sized
 pub mod StaleShown
 pub mod SummaryPrinted
 pub mod SummaryRun

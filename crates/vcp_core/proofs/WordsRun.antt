@@ -31,6 +31,10 @@ use Rattle.vcp_answer.specs.CycleWords.{word_lines, words_among, words_in, words
 use Rattle.vcp_answer.specs.Endings.{Cut, Front, Reached}
 use Rattle.vcp_answer.specs.Reports.{End, Report, behind_text, complete, end_read, goes_on, names_of, no_report, refused, report_read, report_told, run_status}
 use Rattle.vcp_answer.specs.Reports.{shown_text, stopped, words_then}
+use Rattle.vcp_answer.specs.Printing.{each_word, last_part}
+use Rattle.vcp_answer.specs.RunKind.{run_read}
+use Rattle.vcp_words.specs.Forms.{Code}
+use Rattle.vcp_core.specs.CommandTasks.{words_job as words_job_to}
 use Rattle.vcp_core.specs.declared.ending.End.{End as Ends}
 use Rattle.vcp_core.specs.Faults.{of_run}
 use Rattle.vcp_core.specs.Jobs.{code_of}
@@ -194,6 +198,15 @@ no-part old new bytes none (front, rest, is, some, w) =
     let empty : length bytes ≡ 0 = ap length none in
     omega (arith, all, empty, some)
 
+-- the last part of what is printed where a run came to this end
+last-words : (code : Code) (n : ℕ) (names : List (List ℕ)) (rows : List (List ℤ)) (words : List ℤ) (g : Lists) (own e : End) (behind : Option RowFault) →
+    last_part (each_word g code n) names (record { rows = rows; end = own; words = words }) e behind
+    ≡ words_then (word_lines g (table_of code.seed code.step g) n 0 g.operations words) names (length rows) e behind
+last-words code n names rows words g own complete None = refl
+last-words code n names rows words g own complete (Some why) = refl
+last-words code n names rows words g own (stopped s) behind = refl
+last-words code n names rows words g own (refused i f w) behind = refl
+
 -- ---- the job
 
 module _ (g : Lists) (n : ℕ) (name : List ℕ) (t : Numbers) (left : RowsLeft) (few-rows : length left.rows ≤ n + 1)
@@ -312,6 +325,11 @@ module _ (g : Lists) (n : ℕ) (name : List ℕ) (t : Numbers) (left : RowsLeft)
         ∙ ap (λ u. words_then (word_lines g u n 0 g.operations (words_in n run.cycles)) names m.cycles (end_read g e) None) after.table
         ∙ ap (λ k. words_then (lines_of run.cycles) names k (end_read g e) None) after.cycles
         ∙ words-same-by (lines_of run.cycles) names (length (outcome_is run.cycles).rows) (end_read g e) left.refusal (λ c. none (complete-is g e there c))
+
+    -- which is the last part of what is printed of the run
+    pub last-part-is : traced_text m names n e
+        ≡ last_part (each_word g (code_of t) n) names (run_read (words_job_to name n g (code_of t) left) g run.cycles) (end_read g e) left.refusal
+    last-part-is = text-is ∙ sym (last-words (code_of t) n names (outcome_is run.cycles).rows (words_in n run.cycles) g (end_read g (outcome_is run.cycles).end) (end_read g e) left.refusal)
 
     -- it was printed
     pub ended-words : (end : Ends) (o3 : Option (List ℕ)) (f3 : ℕ) → Appends o2 o3 (traced_text m names n e)

@@ -1,5 +1,7 @@
+pub mod AcceptedRuns
 pub mod Audit
 pub mod Check
+pub mod CommandTasks
 pub mod Compile
 pub mod Demo
 pub mod Exec
@@ -14,7 +16,7 @@ pub mod Plain
 pub mod PlainRun
 pub mod Reach
 pub mod Run
-pub mod StaleOperands
+pub mod StaleSeen
 pub mod SummaryRun
 pub mod Tasks
 pub mod Trace

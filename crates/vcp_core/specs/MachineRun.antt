@@ -2,7 +2,7 @@
 use Rattle.std.specs.Prelude.{ℕ, ◌≡◌, ◌<◌, ◌⊎◌, List, [], length, map, Option, None, Result, Ok, Err}
 use Rattle.std.specs.Io.KnownBytes.{Appends}
 use Rattle.vcp_outside.specs.Counts.{Rose}
-use Rattle.vcp_outside.specs.Written.{AppendsPart}
+use Rattle.vcp_outside.specs.Written.{AppendsFront, AppendsPart}
 use Rattle.vcp_outside.specs.declared.failed.Failed.{Failed}
 use Rattle.input_rows.specs.RowsOf.{RowsLeft}
 use Rattle.op_graph.specs.Lists.{Lists, output_column}
@@ -14,11 +14,15 @@ use Rattle.coded_machine.specs.declared.cycle_end.CycleEnd.TheVariants as cycle
 use Rattle.machine_run.specs.Moments.{Moment}
 use Rattle.vcp_inputs.specs.declared.refusal.NoInput.TheVariants as input
 use Rattle.vcp_inputs.specs.Lines.{refusal_text}
-use Rattle.vcp_answer.specs.Answer.{Job, Subject, runs}
+use Rattle.vcp_answer.specs.Answer.{Answer, Subject, runs}
+use Rattle.vcp_answer.specs.Answer.{Job as OldJob}
 use Rattle.vcp_answer.specs.Courses.{MayRun}
 use Rattle.vcp_answer.specs.Endings.{Reached, Cut, Front}
 use Rattle.vcp_answer.specs.Moments.{Untouched}
+use Rattle.vcp_answer.specs.Performing.{Still}
 use Rattle.vcp_answer.specs.Reports.{end_read, last_text, names_of, run_status, told_of}
+use Rattle.vcp_answer.specs.RunKind.{Job, RunDone, RunLeft}
+use Rattle.vcp_answer.specs.Seen.{Moment as NewMoment}
 use Rattle.vcp_core.specs.declared.ending.End.{End}
 use Rattle.vcp_core.specs.declared.fault.Fault.{Fault}
 use Rattle.vcp_core.specs.declared.fault.Fault.TheVariants as fault
@@ -33,7 +37,7 @@ pub record CarriesOut (g : Lists) (t : Numbers) (left : RowsLeft) (s : Subject) 
   pub told : told_graph g left.rows ≡ told_of s left.rows
 
 -- how far the run of a job came: to its end, to a row that is refused, or until writing failed or memory was wanted
-abbrev pub RunsJob : Job → Moment → Moment → Result End Fault → Type 0
+abbrev pub RunsJob : OldJob → Moment → Moment → Result End Fault → Type 0
 RunsJob job before after (Ok e) = Reached (runs job) [] (end_status e) before after
 RunsJob job before after (Err (fault.Rows (input.Refused r))) = Reached (runs job) (refusal_text job.rows_name r) 1 before after
 RunsJob job before after (Err (fault.Rows input.Unread)) = ⊥
@@ -42,6 +46,23 @@ RunsJob job before after (Err fault.Write) = Cut (runs job) before after
 RunsJob job before after (Err fault.Memory) = Untouched before after ⊎ Front (runs job) before after
 RunsJob job before after (Err (fault.Source i)) = ⊥
 RunsJob job before after (Err (fault.Script i)) = ⊥
+
+-- a run of a job was done, and all of its answer's output was written; the answer has this line and this status
+abbrev pub RunAnswers : Job → List ℕ → ℕ → NewMoment → NewMoment → Type 0
+RunAnswers j line status before after =
+    (x : Answer) × RunDone j before.unit after.unit x × Appends before.out.written after.out.written x.out × (x.err ≡ line) × (x.status ≡ status)
+
+-- How far the run of a job came: to its end; to a row that is refused; or until writing failed, or memory was wanted, before it began or in
+-- it.
+abbrev pub RunsTo : Job → NewMoment → NewMoment → Result End Fault → Type 0
+RunsTo j before after (Ok e) = RunAnswers j [] (end_status e) before after
+RunsTo j before after (Err (fault.Rows (input.Refused r))) = RunAnswers j (refusal_text j.rows_name r) 1 before after
+RunsTo j before after (Err (fault.Rows input.Unread)) = ⊥
+RunsTo j before after (Err (fault.Rows input.Memory)) = RunLeft j AppendsFront before after
+RunsTo j before after (Err fault.Write) = RunLeft j AppendsPart before after
+RunsTo j before after (Err fault.Memory) = Still before after ⊎ RunLeft j AppendsFront before after
+RunsTo j before after (Err (fault.Source i)) = ⊥
+RunsTo j before after (Err (fault.Script i)) = ⊥
 
 -- the operation that stopped is there, and so is the output that is refused
 abbrev pub IsThere : Lists → CycleEnd → Type 0

@@ -110,3 +110,12 @@ Unread (Err e) = IsUnread e
 abbrev pub Taken : Form → Held → Option (List ℕ) → Result End Fault → Type 0
 Taken f held rest (Ok e) = Unit {0}
 Taken f held rest (Err e) = fault_status e ≡ 1 → Refused f held rest
+
+-- the line of a command that ended so, nothing where it came to its end; and the status
+abbrev pub told_line : Form → Result End Fault → List ℕ
+told_line f (Ok e) = []
+told_line f (Err e) = fault_text f e
+
+abbrev pub told_status : Result End Fault → ℕ
+told_status (Ok e) = end_status e
+told_status (Err e) = fault_status e

@@ -9,7 +9,7 @@ ghost use Rattle.signature_table.specs.Signatures.{table_of};
 ghost use Rattle.vcp_words.specs.Forms.{Form, rows_of, AreFew};
 ghost use Rattle.vcp_inputs.specs.RowsOutcome.{HasFewCycles};
 ghost use Rattle.vcp_answer.specs.Statuses.{Refused};
-ghost use Rattle.vcp_core.specs.Loading.{GraphComesTo, GraphNotLoaded, ReadsRows};
+ghost use Rattle.vcp_core.specs.Loading.{GraphComesTo, GraphNotLoaded, LoadsImage, ReadsRows};
 ghost use Rattle.vcp_core.specs.Reach.{fault_status, IsUnread};
 ghost use Rattle.vcp_core.specs.declared.fault.Fault.TheVariants as fault;
 
@@ -43,6 +43,8 @@ pub fn load_image_and_rows<F: Files>(
     ensures comes { IfSome (F.held files.old) (λ h. IfOk result (GraphComesTo image.now (rows_of rows.entry) h)) }
     ensures not_loaded { IfSome (F.held files.old) (λ h. IfErr result
         (GraphNotLoaded image.now (rows_of rows.entry) h (F.broken files.old) (F.broken files.new))) }
+    ensures loads { IfSome (F.held files.old)
+        (λ h. LoadsImage image.now (rows_of rows.entry) h (F.broken files.old) (F.broken files.new) (F.rest files.new) result) }
     ensures table { IfOk result (λ l. l.image.table ≡ table_of l.image.table.seed l.image.table.step l.image.graph) }
     ensures columns { IfOk result (λ l. l.columns ≡ map (column l.image.graph.names) l.image.graph.inputs) }
     ensures narrow { IfOk result (λ l. length l.columns ≤ most_names) }

@@ -14,14 +14,19 @@ ghost use Rattle.audit_report.specs.AuditText.{AuditOf};
 ghost use Rattle.vcp_words.specs.Forms.{Form, Rows, Code};
 ghost use Rattle.vcp_answer.specs.Answer.{Task, prints};
 ghost use Rattle.vcp_answer.specs.Sources.{ImageTask};
+ghost use Rattle.vcp_core.specs.AcceptedRuns.{AcceptedIsReleased};
 ghost use Rattle.vcp_core.specs.Audit.{AuditTask};
 ghost use Rattle.vcp_core.specs.Plain.{PlainTask};
 ghost use Rattle.vcp_core.specs.Run.{RunTask};
-ghost use Rattle.vcp_core.specs.StaleOperands.{StaleOperandsShow};
+ghost use Rattle.vcp_core.specs.StaleSeen.{StaleShows};
 ghost use Rattle.vcp_core.specs.Tasks.{TaskOf, as_meant};
 ghost use Rattle.vcp_core.specs.Widen.{widened};
 
 use audit_report::an_audit_has_one_text;
+use fault_runs::{
+    ends_under_acts_are_read_off_the_answers, runs_under_acts_keep_the_run_law,
+    scripted_runs_are_right_runs,
+};
 use image_file::images_are_told_apart;
 use st_lexer::one_reading;
 use st_parser::one_answer;
@@ -60,10 +65,22 @@ pub fn written_images_are_taken()
     an_audit_has_one_text();
 }
 
-/// A stale operand shows at each output to which it comes with a weight that isn't 0, as many cycle
-/// borders later as the weight says: a run that comes to that check is refused there, or was before.
-pub fn stale_operands_are_refused()
-    ensures { StaleOperandsShow }
+/// A stale operand is unseen at an output, so many cycle borders later, exactly where the step times its
+/// multiplier times the weight is 0, modulo the constant of the graph's code; else a run that comes to
+/// that check is refused in it.
+pub fn stale_operands_are_seen()
+    ensures { StaleShows }
 {
     differences_come_as_weights();
+}
+
+/// In each cycle that the run with a fault reaches and ends without a stop, over a unit that carries the
+/// fault out around an honest one: the machine ends it by a release exactly where every output is
+/// accepted, and by a refusal of the first that isn't.
+pub fn accepted_outputs_are_released()
+    ensures { AcceptedIsReleased }
+{
+    runs_under_acts_keep_the_run_law();
+    ends_under_acts_are_read_off_the_answers();
+    scripted_runs_are_right_runs();
 }

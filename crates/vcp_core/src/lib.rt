@@ -26,5 +26,7 @@ mod trace;
 mod tracing;
 mod widen;
 
-pub use laws::{one_task, stale_operands_are_refused, written_images_are_taken};
+pub use laws::{
+    accepted_outputs_are_released, one_task, stale_operands_are_seen, written_images_are_taken,
+};
 pub use top::vcp;

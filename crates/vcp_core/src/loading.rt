@@ -8,7 +8,7 @@ ghost use Rattle.vcp_typed.specs.Fitting.{input_columns as input_columns_of};
 ghost use Rattle.vcp_words.specs.Forms.{Form, rows_of, AreFew};
 ghost use Rattle.vcp_inputs.specs.RowsOutcome.{HasFewCycles};
 ghost use Rattle.vcp_answer.specs.Statuses.{Refused};
-ghost use Rattle.vcp_core.specs.Loading.{ComesTo, NotLoaded, ReadsRows};
+ghost use Rattle.vcp_core.specs.Loading.{ComesTo, NotLoaded, ReadsRows, LoadsProgram};
 ghost use Rattle.vcp_core.specs.Reach.{fault_status, IsUnread};
 ghost use Rattle.vcp_core.specs.declared.fault.Fault.TheVariants as fault;
 
@@ -51,6 +51,8 @@ pub fn load<F: Files>(
     // What is answered: the program and its rows, or how far a command comes without them.
     ensures comes { IfSome (F.held files.old) (λ h. IfOk result (ComesTo source.now (rows_of rows.entry) h)) }
     ensures not_loaded { IfSome (F.held files.old) (λ h. IfErr result (NotLoaded source.now (rows_of rows.entry) h (F.broken files.old) (F.broken files.new))) }
+    ensures loads { IfSome (F.held files.old)
+        (λ h. LoadsProgram source.now (rows_of rows.entry) h (F.broken files.old) (F.broken files.new) (F.rest files.new) result) }
     ensures columns { IfOk result (λ l. l.columns ≡ input_columns_of l.program.slots) }
     ensures narrow { IfOk result (λ l. length l.columns ≤ most_names) }
     ensures few { IfOk result (λ l. HasFewCycles l.rows) }

@@ -8,12 +8,14 @@ ghost use Rattle.vcp_typed.specs.Fitting.{input_types};
 ghost use Rattle.input_rows.specs.RowsOf.{IsOfRecord};
 ghost use Rattle.run_report.specs.Lines.{row_text};
 ghost use Rattle.machine_run.specs.Moments.{moment};
-ghost use Rattle.machine_run.specs.Stops.{GrowsByStop};
+ghost use Rattle.machine_run.specs.Stops.{GrowsToStop};
 ghost use Rattle.signature_table.specs.Signatures.{IsTableOf};
 ghost use Rattle.vcp_words.specs.Forms.{Code as CodeOf, as_code, IsCode};
-ghost use Rattle.vcp_answer.specs.Answer.{Subject};
+ghost use Rattle.vcp_answer.specs.Answer.{Subject, source};
 ghost use Rattle.vcp_core.specs.Jobs.{job_of};
-ghost use Rattle.vcp_core.specs.MachineRun.{CarriesOut, RunsJob, IsThere, PrintsEnd};
+ghost use Rattle.vcp_answer.specs.Seen.{moment_seen};
+ghost use Rattle.vcp_core.specs.CommandTasks.{rows_job};
+ghost use Rattle.vcp_core.specs.MachineRun.{CarriesOut, RunsJob, RunsTo, IsThere, PrintsEnd};
 ghost use Rattle.vcp_core.specs.Run.{job};
 ghost use Rattle.vcp_core.specs.declared.ending.End.TheVariants as end;
 ghost use Rattle.vcp_core.specs.declared.fault.Fault.TheVariants as fault;
@@ -103,9 +105,13 @@ pub fn run_graph<U: Unit, O: Sink>(
         RunsJob (job_of name code subject rows.old)
         (moment (U.log unit.old) (U.wrong unit.old) (O.written out.old) (O.faults out.old))
         (moment (U.log unit.new) (U.wrong unit.new) (O.written out.new) (O.faults out.new)) result }
+    ensures ran { (name : List ℕ) (subject : Subject) (code : CodeOf) → CarriesOut graph.now table.now rows.old subject code →
+        RunsTo (rows_job name code subject rows.old)
+        (moment_seen (U.log unit.old) (U.wrong unit.old) (O.written out.old) (O.faults out.old))
+        (moment_seen (U.log unit.new) (U.wrong unit.new) (O.written out.new) (O.faults out.new)) result }
     ensures write { result ≡ Err fault.Write → Rose (O.faults out.old) (O.faults out.new) }
     ensures refused { result ≡ Ok end.Refused → Rose (U.wrong unit.old) (U.wrong unit.new) }
-    ensures stopped { result ≡ Ok end.Stopped → GrowsByStop (U.log unit.old) (U.log unit.new) }
+    ensures stopped { result ≡ Ok end.Stopped → GrowsToStop (U.log unit.old) (U.log unit.new) }
 {
     let mut machine = Machine::new(alloc, graph, table)?;
     let outputs = graph.output_columns(alloc)?;
@@ -131,9 +137,12 @@ pub fn run_program<U: Unit, O: Sink>(
     ensures runs { (name : List ℕ) → RunsJob (job name (as_code code) program.now rows.old)
         (moment (U.log unit.old) (U.wrong unit.old) (O.written out.old) (O.faults out.old))
         (moment (U.log unit.new) (U.wrong unit.new) (O.written out.new) (O.faults out.new)) result }
+    ensures ran { (name : List ℕ) → RunsTo (rows_job name (as_code code) (source program.now) rows.old)
+        (moment_seen (U.log unit.old) (U.wrong unit.old) (O.written out.old) (O.faults out.old))
+        (moment_seen (U.log unit.new) (U.wrong unit.new) (O.written out.new) (O.faults out.new)) result }
     ensures write { result ≡ Err fault.Write → Rose (O.faults out.old) (O.faults out.new) }
     ensures refused { result ≡ Ok end.Refused → Rose (U.wrong unit.old) (U.wrong unit.new) }
-    ensures stopped { result ≡ Ok end.Stopped → GrowsByStop (U.log unit.old) (U.log unit.new) }
+    ensures stopped { result ≡ Ok end.Stopped → GrowsToStop (U.log unit.old) (U.log unit.new) }
 {
     let graph = graph_of(alloc, program)?;
     let table = Table::new(alloc, &graph, code.seed, code.step)?;

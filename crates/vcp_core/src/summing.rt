@@ -7,7 +7,7 @@ ghost use Rattle.vcp_outside.specs.Counts.{Rose};
 ghost use Rattle.vcp_typed.specs.Fitting.{input_types};
 ghost use Rattle.input_rows.specs.RowsOf.{IsOfRecord};
 ghost use Rattle.machine_run.specs.Moments.{moment};
-ghost use Rattle.machine_run.specs.Stops.{GrowsByStop};
+ghost use Rattle.machine_run.specs.Stops.{GrowsToStop};
 ghost use Rattle.signature_table.specs.Signatures.{IsTableOf};
 ghost use Rattle.vcp_words.specs.Forms.{Code as CodeOf};
 ghost use Rattle.vcp_answer.specs.Answer.{Subject};
@@ -113,7 +113,7 @@ fn sum_up<U: Unit, O: Sink>(
         (moment (U.log unit.new) (U.wrong unit.new) (O.written out.new) (O.faults out.new)) result }
     ensures write { result ≡ Err fault.Write → Rose (O.faults out.old) (O.faults out.new) }
     ensures refused { result ≡ Ok end.Refused → Rose (U.wrong unit.old) (U.wrong unit.new) }
-    ensures stopped { result ≡ Ok end.Stopped → GrowsByStop (U.log unit.old) (U.log unit.new) }
+    ensures stopped { result ≡ Ok end.Stopped → GrowsToStop (U.log unit.old) (U.log unit.new) }
 {
     let mut machine = Machine::new(alloc, graph, table)?;
     let outputs = graph.output_columns(alloc)?;
@@ -142,7 +142,7 @@ pub fn run_summed<U: Unit, O: Sink>(
         (moment (U.log unit.new) (U.wrong unit.new) (O.written out.new) (O.faults out.new)) result }
     ensures write { result ≡ Err fault.Write → Rose (O.faults out.old) (O.faults out.new) }
     ensures refused { result ≡ Ok end.Refused → Rose (U.wrong unit.old) (U.wrong unit.new) }
-    ensures stopped { result ≡ Ok end.Stopped → GrowsByStop (U.log unit.old) (U.log unit.new) }
+    ensures stopped { result ≡ Ok end.Stopped → GrowsToStop (U.log unit.old) (U.log unit.new) }
 {
     let graph = graph_of(alloc, program)?;
     let table = Table::new(alloc, &graph, DEFAULT_CODE.seed, DEFAULT_CODE.step)?;

@@ -6,14 +6,14 @@ ghost use Rattle.vcp_outside.specs.Counts.{Rose};
 ghost use Rattle.vcp_words.specs.Forms.{form, form_of, IsSound};
 ghost use Rattle.vcp_words.specs.Tables.{calls_unit, reads_files};
 ghost use Rattle.machine_run.specs.Moments.{moment};
-ghost use Rattle.machine_run.specs.Stops.{GrowsByStop};
+ghost use Rattle.machine_run.specs.Stops.{GrowsToStop};
 ghost use Rattle.vcp_answer.specs.Answered.{Answered};
 ghost use Rattle.vcp_answer.specs.Endings.{TellsUsage};
 ghost use Rattle.vcp_answer.specs.Moments.{errors, ended, FilesStay};
 ghost use Rattle.vcp_answer.specs.Statuses.{IsEnd, MayEnd, FilesHeld, Refused};
-ghost use Rattle.fault_runs.specs.Accepted.{EndsAreRead};
 ghost use Rattle.vcp_core.specs.Reach.{Reaches, OwnEnd, Unread, Taken};
-ghost use Rattle.vcp_core.specs.StaleOperands.{StaleOperandsShow};
+ghost use Rattle.vcp_core.specs.AcceptedRuns.{AcceptedIsReleased};
+ghost use Rattle.vcp_core.specs.StaleSeen.{StaleShows};
 ghost use Rattle.vcp_core.specs.Tasks.{TaskOf, AsPlain};
 ghost use Rattle.vcp_core.specs.declared.ending.End.TheVariants as end;
 ghost use Rattle.vcp_core.specs.declared.fault.Fault.TheVariants as fault;
@@ -27,7 +27,7 @@ use crate::exec::exec_command;
 use crate::fault::Fault;
 use crate::format::format_command;
 use crate::inject::inject_command;
-use crate::laws::{one_task, stale_operands_are_refused};
+use crate::laws::{accepted_outputs_are_released, one_task, stale_operands_are_seen};
 use crate::listing::list_command;
 use crate::plain::plain_command;
 use crate::run::run_command;
@@ -35,7 +35,6 @@ use crate::telling::{fault_status, tell, tell_usage};
 use crate::trace::trace_command;
 use crate::widen::widen_command;
 use coded_unit::Unit;
-use fault_runs::ends_under_acts_are_read_off_the_answers;
 use std::alloc::Global;
 use vcp_answer::endings_have_causes;
 use vcp_base::Words;
@@ -104,20 +103,21 @@ pub fn vcp<F: Files, U: Unit, O: Sink, E: Sink>(
     ensures ended { IfSome (form_of words.now) (λ f. reads_files f ≡ true → IsEnd result → IsAtEnd (F.rest files.new)) }
     ensures taken { IfSome (F.held files.old) (λ h. IfSome (form_of words.now)
         (λ f. reads_files f ≡ true → result ≡ 1 → Refused f h (F.rest files.new))) }
-    ensures stopped { IfSome (form_of words.now) (λ f. calls_unit f ≡ true → result ≡ 2 → GrowsByStop (U.log unit.old) (U.log unit.new)) }
+    ensures stopped { IfSome (form_of words.now) (λ f. calls_unit f ≡ true → result ≡ 2 → GrowsToStop (U.log unit.old) (U.log unit.new)) }
     ensures refused { result ≡ 3 → Rose (U.wrong unit.old) (U.wrong unit.new) }
     ensures read { result ≡ 5 → Rose (F.faults files.old) (F.faults files.new) }
     ensures write { result ≡ 6 → Rose (O.faults out.old) (O.faults out.new) ⊎ Rose (E.faults err.old) (E.faults err.new) }
 
-    // Of the faults that `inject` judges: an output of a cycle that the run with a fault reaches and ends without a stop is accepted
-    // exactly where its equation over signatures and stamps holds; and where a stale operand shows, the run is refused, there or before.
-    ensures accepted { EndsAreRead }
-    ensures stale { StaleOperandsShow }
+    // Of the faults that `inject` judges: a cycle that the run with a fault reaches and ends without a stop is released exactly where
+    // each output is accepted, and else refused at the first that isn't; and a stale operand is unseen at an output exactly where it
+    // shows by 0, and else the run is refused, there or before.
+    ensures accepted { AcceptedIsReleased }
+    ensures stale { StaleShows }
 {
     // So with an honest unit the answer is that of the command without one.
     one_task();
-    ends_under_acts_are_read_off_the_answers();
-    stale_operands_are_refused();
+    accepted_outputs_are_released();
+    stale_operands_are_seen();
     match command_of(words) {
         Some(command) => serve(alloc, &command, files, unit, out, err),
         None => match tell_usage(err) {
@@ -151,7 +151,7 @@ fn serve<F: Files, U: Unit, O: Sink, E: Sink>(
     ensures held { F.held files.new ≡ F.held files.old }
     ensures ended { reads_files (form command.now) ≡ true → IsEnd result → IsAtEnd (F.rest files.new) }
     ensures taken { reads_files (form command.now) ≡ true → IfSome (F.held files.old) (λ h. result ≡ 1 → Refused (form command.now) h (F.rest files.new)) }
-    ensures stopped { calls_unit (form command.now) ≡ true → result ≡ 2 → GrowsByStop (U.log unit.old) (U.log unit.new) }
+    ensures stopped { calls_unit (form command.now) ≡ true → result ≡ 2 → GrowsToStop (U.log unit.old) (U.log unit.new) }
     ensures refused { result ≡ 3 → Rose (U.wrong unit.old) (U.wrong unit.new) }
     ensures read { result ≡ 5 → Rose (F.faults files.old) (F.faults files.new) }
     ensures write { result ≡ 6 → Rose (O.faults out.old) (O.faults out.new) ⊎ Rose (E.faults err.old) (E.faults err.new) }
@@ -190,7 +190,7 @@ fn perform<F: Files, U: Unit, O: Sink>(
     ensures ended { reads_files (form command.now) ≡ true → OnOk result (IsAtEnd (F.rest files.new)) }
     ensures taken { reads_files (form command.now) ≡ true → IfSome (F.held files.old) (λ h. Taken (form command.now) h (F.rest files.new) result) }
     ensures refused { result ≡ Ok end.Refused → Rose (U.wrong unit.old) (U.wrong unit.new) }
-    ensures stopped { calls_unit (form command.now) ≡ true → result ≡ Ok end.Stopped → GrowsByStop (U.log unit.old) (U.log unit.new) }
+    ensures stopped { calls_unit (form command.now) ≡ true → result ≡ Ok end.Stopped → GrowsToStop (U.log unit.old) (U.log unit.new) }
 {
     match command {
         Command::Check { source } => check_command(alloc, source, files, out),

@@ -8,7 +8,11 @@ ghost use Rattle.image_file.specs.Graphs.{HasImage};
 ghost use Rattle.image_file.specs.Image.{image_of};
 ghost use Rattle.vcp_words.specs.Forms.{widen};
 ghost use Rattle.vcp_core.specs.Widen.{WidenTask, widened};
-ghost use Rattle.vcp_core.specs.Reach.{Reaches, Unread, Taken};
+ghost use Rattle.vcp_answer.specs.Abouts.{about};
+ghost use Rattle.vcp_answer.specs.Performing.{Performs};
+ghost use Rattle.vcp_answer.specs.Seen.{files_seen, moment_seen};
+ghost use Rattle.vcp_core.specs.CommandTasks.{WidenTask as WidenTaskOf};
+ghost use Rattle.vcp_core.specs.Reach.{Reaches, Unread, Taken, told_line, told_status};
 ghost use Rattle.machine_run.specs.Moments.{moment};
 ghost use Rattle.vcp_core.specs.declared.ending.End.TheVariants as end;
 ghost use Rattle.vcp_core.specs.declared.fault.Fault.TheVariants as fault;
@@ -45,6 +49,11 @@ pub fn widen_command<F: Files, O: Sink>(
     ensures reaches { (log : Option (List Entry)) (wrong : ℕ) → IfSome (F.held files.old) (λ h. Reaches (widen image.now) (WidenTask image.now h)
         (moment log wrong (O.written out.old) (O.faults out.old)) (moment log wrong (O.written out.new) (O.faults out.new))
         (F.broken files.old) (F.broken files.new) result) }
+    ensures performs { (log : Option (List Entry)) (wrong : ℕ) → Performs (about (widen image.now)) (WidenTaskOf image.now)
+        (files_seen (F.held files.old) (F.rest files.old) (F.faults files.old) (F.broken files.old))
+        (files_seen (F.held files.new) (F.rest files.new) (F.faults files.new) (F.broken files.new))
+        (moment_seen log wrong (O.written out.old) (O.faults out.old)) (moment_seen log wrong (O.written out.new) (O.faults out.new))
+        (told_line (widen image.now) result) (told_status result) }
     ensures done { IfOk result (λ e. e ≡ end.Done) }
     ensures unread { Unread result → Rose (F.faults files.old) (F.faults files.new) }
     ensures write { result ≡ Err fault.Write → Rose (O.faults out.old) (O.faults out.new) }

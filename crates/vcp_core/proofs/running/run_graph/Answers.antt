@@ -1,4 +1,11 @@
-use Rattle.std.proofs.Common.{◌≡◌, length, None, Ok, inl, refl, sym, ap, ◌∙◌, arith}
+use Rattle.std.proofs.Common.{ℕ, ◌≡◌, List, length, None, Ok, inl, refl, sym, ap, subst, ◌∙◌, arith}
+use Rattle.std.specs.Io.KnownBytes.{Appends}
+use Rattle.vcp_outside.specs.Written.{AppendsPart}
+use Rattle.vcp_answer.specs.Reports.{names_of}
+use Rattle.vcp_answer.specs.RunKind.{run_read}
+use Rattle.vcp_core.specs.CommandTasks.{rows_job}
+use Rattle.vcp_core.proofs.Performing.{still}
+use Rattle.vcp_core.proofs.PrintedRun.{header-left, given-up-run, last-left, ended-run, rows-last}
 use Rattle.std.proofs.lemmas.Result.{err_from_is_err_and}
 use Rattle.coded_machine.specs.State.{State}
 use Rattle.vcp_core.specs.declared.ending.End.TheVariants as ending
@@ -79,3 +86,62 @@ returns-clause-stopped g c is =
     let same : c.in_ok-print_end.field-0 ≡ ending.Stopped = cc in
     let (k, why, e) = stopped-is c.args.graph.now c.in_ok-end.end (ap end_status (sym same) ∙ c.in_ok-print_end.ensures.1) in
     c.in_ok-end.ensures.stopped k why (ap Ok e)
+
+-- ---- the same in the words of runs
+
+pub returns-in_err-outputs-clause-ran : goal.returns-in_err-outputs-clause-ran
+returns-in_err-outputs-clause-ran g c name s code carries =
+    let q = err_from_is_err_and c.from_residual-in_err-outputs.result c.from_residual-in_err-outputs.ensures.1 in
+    rw (q.1, q.2) (inl (still _))
+
+pub returns-in_err-header_line-clause-ran : goal.returns-in_err-header_line-clause-ran
+returns-in_err-header_line-clause-ran g c name s code carries =
+    let q = err_from_is_err_and c.from_residual-in_err-header_line.result c.from_residual-in_err-header_line.ensures.1 in
+    let graph = c.args.graph.now in
+    let left = c.args.rows.now in
+    let names = names-are graph c.args.table.now left s code c.in_ok-outputs.outputs carries c.in_ok-outputs.ensures in
+    rw (q.1, q.2) (header-left (rows_job name code s left) graph carries.may carries.told (λ cycles right all. refl) _ None _ 0 _ _ _ _ (rw names at c.in_err-header_line.ensures.part))
+
+pub returns-in_err-end-clause-ran : goal.returns-in_err-end-clause-ran
+returns-in_err-end-clause-ran g c name s code carries =
+    let q = err_from_is_err_and c.from_residual-in_err-end.result c.from_residual-in_err-end.ensures.1 in
+    let graph = c.args.graph.now in
+    let left = c.args.rows.now in
+    let names = names-are graph c.args.table.now left s code c.in_ok-outputs.outputs carries c.in_ok-outputs.ensures in
+    let leaves = leaves-here c.in_ok-machine.machine _ graph c.args.table.now _ left _ _ _ _ _ _ c.in_ok-machine.ensures.fresh carries.numbers c.in_err-end.ensures.leaves in
+    rw (q.1, q.2)
+    (given-up-run (rows_job name code s left) graph carries.may carries.told (λ cycles right all. refl) _ _ _ _ _ _ _ _ _ _ _ c.requires.behind
+    (rw names at c.in_ok-header_line.ensures.whole) leaves.run)
+
+pub returns-in_err-print_end-clause-ran : goal.returns-in_err-print_end-clause-ran
+returns-in_err-print_end-clause-ran g c name s code carries =
+    let q = err_from_is_err_and c.from_residual-in_err-print_end.result c.from_residual-in_err-print_end.ensures.1 in
+    let graph = c.args.graph.now in
+    let left = c.args.rows.now in
+    let names = names-are graph c.args.table.now left s code c.in_ok-outputs.outputs carries c.in_ok-outputs.ensures in
+    let leaves = leaves-here c.in_ok-machine.machine _ graph c.args.table.now _ left _ _ _ _ _ _ c.in_ok-machine.ensures.fresh carries.numbers c.in_ok-end.ensures.leaves in
+    let there = there-is c.in_ok-machine.machine graph c.in_ok-end.end (Ok c.in_ok-end.end) refl
+    (ap (λ (m : State). m.graph) c.in_ok-machine.ensures.fresh) c.in_ok-end.ensures.placed c.in_ok-end.ensures.numbered in
+    let j = rows_job name code s left in
+    let last = rows-last (names_of s) c.cycles.result (run_read j graph leaves.run.cycles) graph c.in_ok-end.end left.refusal there
+    (c.cycles.ensures.value ∙ leaves.machine.cycles) leaves.run.ends.1 in
+    rw (q.1, q.2)
+    (last-left j graph carries.may carries.told (λ cycles right all. refl) _ _ _ _ c.in_ok-end.end _ _ _ _ _ _ _ _
+    (rw names at c.in_ok-header_line.ensures.whole) leaves.run there
+    (subst (λ (l : List ℕ). AppendsPart (g.O.Sink.written c.run_rows.new.out) (g.O.Sink.written c.print_end.new.out) l) last (rw names at c.in_err-print_end.ensures.1)))
+
+pub returns-clause-ran : goal.returns-clause-ran
+returns-clause-ran g c name s code carries =
+    let graph = c.args.graph.now in
+    let left = c.args.rows.now in
+    let names = names-are graph c.args.table.now left s code c.in_ok-outputs.outputs carries c.in_ok-outputs.ensures in
+    let leaves = leaves-here c.in_ok-machine.machine _ graph c.args.table.now _ left _ _ _ _ _ _ c.in_ok-machine.ensures.fresh carries.numbers c.in_ok-end.ensures.leaves in
+    let there = there-is c.in_ok-machine.machine graph c.in_ok-end.end (Ok c.in_ok-end.end) refl
+    (ap (λ (m : State). m.graph) c.in_ok-machine.ensures.fresh) c.in_ok-end.ensures.placed c.in_ok-end.ensures.numbered in
+    let j = rows_job name code s left in
+    let last = rows-last (names_of s) c.cycles.result (run_read j graph leaves.run.cycles) graph c.in_ok-end.end left.refusal there
+    (c.cycles.ensures.value ∙ leaves.machine.cycles) leaves.run.ends.1 in
+    ended-run j graph carries.may carries.told (λ cycles right all. refl) _ _ _ _ c.in_ok-end.end _ _ _ _ 0 _ _ 0
+    (rw names at c.in_ok-header_line.ensures.whole) leaves.run there c.in_ok-print_end.field-0
+    (subst (λ (l : List ℕ). Appends (g.O.Sink.written c.run_rows.new.out) (g.O.Sink.written c.print_end.new.out) l) last (rw names at c.in_ok-print_end.ensures.0))
+    c.in_ok-print_end.ensures.1

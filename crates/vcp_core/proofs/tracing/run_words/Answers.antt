@@ -1,4 +1,12 @@
-use Rattle.std.proofs.Common.{◌≡◌, [], length, map, Ok, inl, refl, sym, ap, subst, ◌∙◌, arith}
+use Rattle.std.proofs.Common.{ℕ, ◌≡◌, List, [], length, map, None, Ok, inl, refl, sym, ap, subst, ◌∙◌, arith}
+use Rattle.std.specs.Io.KnownBytes.{Appends}
+use Rattle.vcp_outside.specs.Written.{AppendsPart}
+use Rattle.vcp_answer.specs.Reports.{end_read, run_status}
+use Rattle.vcp_core.specs.CommandTasks.{words_job as words_job_to}
+use Rattle.vcp_core.specs.Jobs.{code_of}
+use Rattle.vcp_core.proofs.Performing.{still}
+use Rattle.vcp_core.proofs.PlainTurns.{appends-nothing}
+use Rattle.vcp_core.proofs.PrintedRun.{given-up-run, last-left, ended-run}
 use Rattle.std.proofs.lemmas.List.{length-map}
 use Rattle.std.proofs.lemmas.Result.{err_from_is_err_and}
 use Rattle.signature_table.specs.Signatures.{Numbers}
@@ -11,7 +19,7 @@ use Rattle.vcp_core.specs.Reach.{end_status}
 use Rattle.vcp_core.proofs.JobFacts.{leaves-here, there-is, stopped-is, refused-is, untouched-by}
 use Rattle.vcp_core.proofs.ImageLoaded.{table-long}
 use Rattle.vcp_core.proofs.WordsHonest.{meant-words}
-use Rattle.vcp_core.proofs.WordsRun.{given-up-words, whole-there, ended-words, cut-words}
+use Rattle.vcp_core.proofs.WordsRun.{given-up-words, whole-there, ended-words, cut-words, last-part-is}
 use Rattle.vcp_core.proofs.tracing.run_words.Goals as goal
 
 pub returns-in_err-outputs-clause-runs : goal.returns-in_err-outputs-clause-runs
@@ -106,3 +114,54 @@ returns-clause-stopped g c is =
     let same : c.in_ok-print_traced.field-0 ≡ ending.Stopped = cc in
     let (k, why, e) = stopped-is c.run_rows.new.machine.graph c.in_ok-end.end (ap end_status (sym same) ∙ c.in_ok-print_traced.ensures.1) in
     c.in_ok-end.ensures.stopped k why (ap Ok e)
+
+-- ---- the same in the words of runs
+
+pub returns-in_err-outputs-clause-ran : goal.returns-in_err-outputs-clause-ran
+returns-in_err-outputs-clause-ran g c name =
+    let q = err_from_is_err_and c.from_residual-in_err-outputs.result c.from_residual-in_err-outputs.ensures.1 in
+    rw (q.1, q.2) (inl (still _))
+
+pub returns-in_err-end-clause-ran : goal.returns-in_err-end-clause-ran
+returns-in_err-end-clause-ran g c name =
+    let q = err_from_is_err_and c.from_residual-in_err-end.result c.from_residual-in_err-end.ensures.1 in
+    let graph = c.args.graph.now in
+    let table = c.args.table.now in
+    let left = c.args.rows.now in
+    let n = c.args.cycle in
+    let laws = c.right_answers_stand_for_values.ensures in
+    let leaves = leaves-here c.in_ok-machine.machine _ graph table _ left _ _ _ _ _ _ c.in_ok-machine.ensures.fresh c.requires.table c.in_err-end.ensures.leaves in
+    rw (q.1, q.2) (given-up-run (words_job_to name n graph (code_of table) left) graph refl refl (meant-words laws.cycle laws.cells_at_first graph table left.rows n c.len-rules.ensures.rules c.step-ranges.ensures.ranges c.requires.table c.requires.few c.requires.cycle) _ _ _ _ _ _ _ _ _ _ _ c.requires.behind (appends-nothing _) leaves.run)
+
+pub returns-in_err-print_traced-clause-ran : goal.returns-in_err-print_traced-clause-ran
+returns-in_err-print_traced-clause-ran g c name =
+    let q = err_from_is_err_and c.from_residual-in_err-print_traced.result c.from_residual-in_err-print_traced.ensures.1 in
+    let graph = c.args.graph.now in
+    let table = c.args.table.now in
+    let left = c.args.rows.now in
+    let n = c.args.cycle in
+    let laws = c.right_answers_stand_for_values.ensures in
+    let leaves = leaves-here c.in_ok-machine.machine _ graph table _ left _ _ _ _ _ _ c.in_ok-machine.ensures.fresh c.requires.table c.in_ok-end.ensures.leaves in
+    let there = there-is c.in_ok-machine.machine graph c.in_ok-end.end (Ok c.in_ok-end.end) refl
+    (ap (λ (m : State). m.graph) c.in_ok-machine.ensures.fresh) c.in_ok-end.ensures.placed c.in_ok-end.ensures.numbered in
+    let names = ap (map (λ (x : Column). x.name)) c.in_ok-outputs.ensures in
+    let meant = meant-words laws.cycle laws.cells_at_first graph table left.rows n c.len-rules.ensures.rules c.step-ranges.ensures.ranges c.requires.table c.requires.few c.requires.cycle in
+    let last = last-part-is graph n name table left c.requires.few c.requires.through _ _ _ _ meant c.in_ok-end.end _ _ _ _ leaves.run there _ leaves.machine in
+    rw (q.1, q.2) (last-left (words_job_to name n graph (code_of table) left) graph refl refl meant _ _ _ _ c.in_ok-end.end _ _ _ _ _ _ _ _ (appends-nothing _) leaves.run there (subst (λ (l : List ℕ). AppendsPart (g.O.Sink.written c.run_rows.new.out) (g.O.Sink.written c.print_traced.new.out) l) last (rw names at c.in_err-print_traced.ensures.1)))
+
+pub returns-clause-ran : goal.returns-clause-ran
+returns-clause-ran g c name =
+    let graph = c.args.graph.now in
+    let table = c.args.table.now in
+    let left = c.args.rows.now in
+    let n = c.args.cycle in
+    let laws = c.right_answers_stand_for_values.ensures in
+    let leaves = leaves-here c.in_ok-machine.machine _ graph table _ left _ _ _ _ _ _ c.in_ok-machine.ensures.fresh c.requires.table c.in_ok-end.ensures.leaves in
+    let there = there-is c.in_ok-machine.machine graph c.in_ok-end.end (Ok c.in_ok-end.end) refl
+    (ap (λ (m : State). m.graph) c.in_ok-machine.ensures.fresh) c.in_ok-end.ensures.placed c.in_ok-end.ensures.numbered in
+    let names = ap (map (λ (x : Column). x.name)) c.in_ok-outputs.ensures in
+    let meant = meant-words laws.cycle laws.cells_at_first graph table left.rows n c.len-rules.ensures.rules c.step-ranges.ensures.ranges c.requires.table c.requires.few c.requires.cycle in
+    let last = last-part-is graph n name table left c.requires.few c.requires.through _ _ _ _ meant c.in_ok-end.end _ _ _ _ leaves.run there _ leaves.machine in
+    ended-run (words_job_to name n graph (code_of table) left) graph refl refl meant _ _ _ _ c.in_ok-end.end _ _ _ _ 0 _ _ 0 (appends-nothing _) leaves.run there c.in_ok-print_traced.field-0
+    (subst (λ (l : List ℕ). Appends (g.O.Sink.written c.run_rows.new.out) (g.O.Sink.written c.print_traced.new.out) l) last (rw names at c.in_ok-print_traced.ensures.0))
+    (c.in_ok-print_traced.ensures.1 ∙ ap (λ (h : Lists). run_status (end_read h c.in_ok-end.end) None) (leaves.machine.graph))

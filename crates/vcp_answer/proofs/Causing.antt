@@ -1,0 +1,106 @@
+-- Causing: from how a command ends to the causes of its status.
+use Rattle.std.proofs.Common.{ℕ, ◌≡◌, ◌≤◌, lit≤, inl, inr, refl, sym, ap, subst, ◌∙◌, List, Option, Some, None, arith}
+use Rattle.std.specs.Io.KnownBytes.{Appends}
+use Rattle.vcp_outside.specs.Counts.{Rose}
+use Rattle.input_rows.specs.declared.fault.RowFault.{RowFault}
+use Rattle.vcp_answer.specs.Answer.{Answer}
+use Rattle.vcp_answer.specs.HowItEnds.{TellsLine, ended, cut, short, unread, unmade, Given, Causes, NothingFailed, HasOwnStatus}
+use Rattle.vcp_answer.specs.HowItEnds.{EndingsHaveCauses, GivingUpHasCauses}
+use Rattle.vcp_answer.specs.Kinds.{Task, lacks, answers, compiles, runs, judges, Done, lack_answer}
+use Rattle.vcp_answer.specs.Reports.{End, complete, stopped, refused, run_status}
+use Rattle.vcp_answer.specs.RunKind.{run_read}
+use Rattle.vcp_answer.specs.Seen.{Outside, SinkSeen, UnitSeen}
+use Rattle.vcp_answer.proofs.Following.{done_is_meant}
+
+-- ---- the status of an answer
+
+pub run_small : (e : End) (behind : Option RowFault) → run_status e behind ≤ 3
+run_small complete None = lit≤ tt
+run_small complete (Some f) = lit≤ tt
+run_small (stopped s) behind = lit≤ tt
+run_small (refused output found wanted) behind = lit≤ tt
+
+pub status_of : (x y : Answer) → x ≡ y → x.status ≡ y.status
+status_of x y same = ap (λ (z : Answer). z.status) same
+
+-- only where a name is lacking the status is 5
+pub five_lacks : (task : Task) (a b : UnitSeen) (x : Answer) → HasOwnStatus task → Done task a b x → x.status ≡ 5
+    → (name : List ℕ) × (task ≡ lacks name) × (x ≡ lack_answer name)
+five_lacks (lacks name) a b x few d h = (name, refl, d.1)
+five_lacks (answers y) a b x few d h = absurd (omega (arith, few, h, status_of x y d.1))
+five_lacks (compiles p code) a b x few (quiet, (g, may, is)) h = absurd (omega (arith, h, status_of x _ is))
+five_lacks (runs j) a b x few d h = absurd (omega (arith, h, status_of x _ d.read, run_small (run_read j d.graph d.cycles).end j.rows.refusal))
+five_lacks (judges c) a b x few d h = absurd (omega (arith, h, status_of x _ d.read))
+
+lacks_five : (task : Task) (a b : UnitSeen) (x : Answer) (name : List ℕ) → task ≡ lacks name → Done task a b x → x.status ≡ 5
+lacks_five task a b x name is d =
+    let lacking : Done (lacks name) a b x = subst (λ (t : Task). Done t a b x) is d in status_of x (lack_answer name) lacking.1
+
+-- ---- the answer came
+
+came_causes : (task : Task) (before after : Outside) (status : ℕ) → HasOwnStatus task → Given task before after status → Causes task before after status
+came_causes task before after status few g = record {
+  meant = λ honest fine. (g.answer, done_is_meant task before.unit after.unit g.answer g.done honest, g.came);
+  done = λ fine. g;
+  completes = λ nothing. inr g;
+  five_only = λ h.
+      let l = five_lacks task before.unit after.unit g.answer few g.done (sym g.came.status_is ∙ h) in
+      inr (l.0, l.1, subst (λ (z : Answer). Appends before.err.written after.err.written z.err) l.2 g.came.err);
+  five = λ name is sinks memory. g.came.status_is ∙ lacks_five task before.unit after.unit g.answer name is g.done;
+}
+
+-- ---- what kept it from coming
+
+data Kept (before after : Outside) (status : ℕ) : Type 0 where
+  by_files : status ≡ 5 → Rose before.files.broken after.files.broken → Kept before after status
+  by_sink : status ≡ 6 → (NothingFailed before after → ⊥) → Kept before after status
+  by_memory : status ≡ 7 → Kept before after status
+
+kept_causes : (task : Task) (before after : Outside) (status : ℕ) → Kept before after status → Causes task before after status
+kept_causes task before after status (by_files s rose) = record {
+  meant = λ honest fine. absurd (fine.files s);
+  done = λ fine. absurd (fine.files s);
+  completes = λ nothing. absurd (nothing.files rose);
+  five_only = λ h. inl rose;
+  five = λ name is sinks memory. s;
+}
+kept_causes task before after status (by_sink s failed) = record {
+  meant = λ honest fine. absurd (fine.sinks s);
+  done = λ fine. absurd (fine.sinks s);
+  completes = λ nothing. absurd (failed nothing);
+  five_only = λ h. absurd (omega (arith, h, s));
+  five = λ name is sinks memory. absurd (sinks s);
+}
+kept_causes task before after status (by_memory s) = record {
+  meant = λ honest fine. absurd (fine.memory s);
+  done = λ fine. absurd (fine.memory s);
+  completes = λ nothing. inl s;
+  five_only = λ h. absurd (omega (arith, h, s));
+  five = λ name is sinks memory. absurd (memory s);
+}
+
+memory_kept : (before after : Outside) (status : ℕ) (line : List ℕ) → TellsLine line 7 before.err after.err status → Kept before after status
+memory_kept before after status line (inl t) = by_memory t.0
+memory_kept before after status line (inr t) = by_sink t.0 (λ nothing. nothing.err t.1)
+
+sink_six : (line : List ℕ) (a b : SinkSeen) (status : ℕ) → TellsLine line 6 a b status → status ≡ 6
+sink_six line a b status (inl t) = t.0
+sink_six line a b status (inr t) = t.0
+
+-- ---- all
+
+pub endings_have_causes : EndingsHaveCauses
+endings_have_causes c task before after status few (ended x d out (inl (is, line))) =
+    came_causes task before after status few (record { answer = x; done = d; came = record { status_is = is; out = out; err = line } })
+endings_have_causes c task before after status few (ended x d out (inr (is, rose, part))) =
+    kept_causes task before after status (by_sink is (λ nothing. nothing.err rose))
+endings_have_causes c task before after status few (cut rose left told) =
+    kept_causes task before after status (by_sink (sink_six _ before.err after.err status told) (λ nothing. nothing.out rose))
+endings_have_causes c task before after status few (short late left told) =
+    kept_causes task before after status (memory_kept before after status _ told)
+
+pub giving_up_has_causes : GivingUpHasCauses
+giving_up_has_causes c task before after status (unread word named rose u (inl (is, line))) = kept_causes task before after status (by_files is rose)
+giving_up_has_causes c task before after status (unread word named rose u (inr (is, err, part))) =
+    kept_causes task before after status (by_sink is (λ nothing. nothing.err err))
+giving_up_has_causes c task before after status (unmade u told) = kept_causes task before after status (memory_kept before after status _ told)

@@ -1,0 +1,166 @@
+-- Performed: from how far a command came, and what became of its line, to how it serves and what it keeps.
+use Rattle.std.proofs.Common.{ℕ, ◌≡◌, ◌≢◌, ◌⊎◌, inl, inr, refl, sym, subst, ◌∙◌, List, [], ◌∷◌, ◌++◌, Option, Some, None, IfSome, arith}
+use Rattle.std.specs.Io.KnownBytes.{Appends, IsAtEnd}
+use Rattle.vcp_outside.specs.Counts.{Rose}
+use Rattle.vcp_outside.specs.Held.{Held}
+use Rattle.vcp_answer.specs.Answer.{Answer}
+use Rattle.vcp_answer.specs.Endings.{Among}
+use Rattle.vcp_answer.specs.Abouts.{About, AllHeld}
+use Rattle.vcp_answer.specs.Clauses.{IsEnd, IsTooLong, Keeps, MayHold, Serves, TellsTooLong}
+use Rattle.vcp_answer.specs.HowItEnds.{Answered, known, given_up, Causes, Ends, GivenUp, HasOwnStatus, NothingFailed, TellsLine}
+use Rattle.vcp_answer.specs.HowItEnds as ends
+use Rattle.vcp_answer.specs.Kinds.{Task, lacks, answers, compiles, runs, judges, Done}
+use Rattle.vcp_answer.specs.Performing.{Still, Reaches, done, cut, short, unread, unmade, Performs}
+use Rattle.vcp_answer.specs.RunKind.{run_read}
+use Rattle.vcp_answer.specs.Seen.{Outside, SinkSeen, UnitSeen, Untouched, moment_of}
+use Rattle.vcp_answer.proofs.Causing.{endings_have_causes, giving_up_has_causes, five_lacks, run_small, status_of}
+
+-- A command comes to one task at most; to an answer only with a status of its own; and to a lacking name only where not all of its files
+-- are held.
+pub record IsMeaning (c : About) (Comes : Held → Task → Type 0) : Type 0 where
+  pub one : (h : Held) (a b : Task) → Comes h a → Comes h b → a ≡ b
+  pub own : (h : Held) (task : Task) → Comes h task → HasOwnStatus task
+  pub found : (h : Held) (name : List ℕ) → AllHeld h c.files → Comes h (lacks name) → ⊥
+
+-- a line that was told, under other names for it and its status
+retold : (line other : List ℕ) (code number : ℕ) (a b : SinkSeen) (status : ℕ) → line ≡ other → code ≡ number → TellsLine line code a b status
+    → TellsLine other number a b status
+retold line other code number a b status lines codes told =
+    subst (λ (l : List ℕ). TellsLine l number a b status) lines (subst (λ (n : ℕ). TellsLine line n a b status) codes told)
+
+module _ (c : About) (Comes : Task → Type 0) (before after : Outside) (line : List ℕ) (code status : ℕ)
+    (told : TellsLine line code before.err after.err status) where
+  untouched : Still (moment_of before) (moment_of after) → Untouched before after
+  untouched s = record { unit = s.unit; out = s.out }
+
+  answered : Reaches c Comes before.files after.files (moment_of before) (moment_of after) line code → Answered c Comes before after status
+  answered (done task x comes d out line_is code_is) =
+      known task comes (ends.ended x d out (retold line x.err code x.status before.err after.err status (sym line_is) (sym code_is) told))
+  answered (cut task comes left rose line_is code_is) =
+      known task comes (ends.cut rose left (retold line _ code 6 before.err after.err status line_is code_is told))
+  answered (short task comes left late line_is code_is) =
+      known task comes (ends.short late left (retold line _ code 7 before.err after.err status line_is code_is told))
+  answered (unread word named rose still line_is code_is) =
+      given_up (ends.unread word named rose (untouched still) (retold line _ code 5 before.err after.err status line_is code_is told))
+  answered (unmade still line_is code_is) =
+      given_up (ends.unmade (untouched still) (retold line _ code 7 before.err after.err status line_is code_is told))
+
+-- ---- completeness
+
+-- no answer has the status of a sink that failed
+never_six : (task : Task) (a b : UnitSeen) (x : Answer) → HasOwnStatus task → Done task a b x → x.status ≡ 6 → ⊥
+never_six (lacks name) a b x few d h = omega (arith, h, status_of x _ d.1)
+never_six (answers y) a b x few d h = omega (arith, few, h, status_of x y d.1)
+never_six (compiles p code) a b x few (quiet, (g, may, is)) h = omega (arith, h, status_of x _ is)
+never_six (runs j) a b x few d h = omega (arith, h, status_of x _ d.read, run_small (run_read j d.graph d.cycles).end j.rows.refusal)
+never_six (judges c) a b x few d h = omega (arith, h, status_of x _ d.read)
+
+-- a line whose status is another one was told, or its sink failed
+told_five : (line : List ℕ) (code : ℕ) (a b : SinkSeen) (status : ℕ) → TellsLine line code a b status → status ≡ 5 → code ≡ 5
+told_five line code a b status (inl t) is = sym t.0 ∙ is
+told_five line code a b status (inr t) is = absurd (omega (arith, t.0, is))
+
+told_six : (line : List ℕ) (code : ℕ) (a b : SinkSeen) (status : ℕ) → TellsLine line code a b status → status ≡ 6
+    → (code ≡ 6) ⊎ Rose a.faults b.faults
+told_six line code a b status (inl t) is = inl (sym t.0 ∙ is)
+told_six line code a b status (inr t) is = inr t.1
+
+module _ (c : About) (before after : Outside) (status : ℕ) (nothing : NothingFailed before after) where
+  ended_five : (task : Task) → HasOwnStatus task → ((name : List ℕ) → task ≡ lacks name → ⊥) → Ends c task before after status → status ≡ 5 → ⊥
+  ended_five task few found (ends.ended x d out told) is =
+      let l = five_lacks task before.unit after.unit x few d (told_five _ _ before.err after.err status told is) in found l.0 l.1
+  ended_five task few found (ends.cut rose left told) is = nothing.out rose
+  ended_five task few found (ends.short late left told) is = let seven = told_five _ 7 before.err after.err status told is in omega (arith, seven)
+
+  ended_six : (task : Task) → HasOwnStatus task → Ends c task before after status → status ≡ 6 → ⊥
+  ended_six task few (ends.ended x d out told) is =
+      elim (told_six _ _ before.err after.err status told is) [
+        | inl six ↦ never_six task before.unit after.unit x few d six
+        | inr rose ↦ nothing.err rose
+      ]
+  ended_six task few (ends.cut rose left told) is = nothing.out rose
+  ended_six task few (ends.short late left told) is =
+      elim (told_six _ 7 before.err after.err status told is) [ inl six ↦ omega (arith, six) | inr rose ↦ nothing.err rose ]
+
+  given_five : GivenUp c before after status → status ≡ 5 → ⊥
+  given_five (ends.unread word named rose u told) is = nothing.files rose
+  given_five (ends.unmade u told) is = let seven = told_five _ 7 before.err after.err status told is in omega (arith, seven)
+
+  given_six : GivenUp c before after status → status ≡ 6 → ⊥
+  given_six (ends.unread word named rose u told) is = nothing.files rose
+  given_six (ends.unmade u told) is =
+      elim (told_six _ 7 before.err after.err status told is) [ inl six ↦ omega (arith, six) | inr rose ↦ nothing.err rose ]
+
+module _ (c : About) (Comes : Held → Task → Type 0) (before after : Outside) (status : ℕ) (h : Held) (laws : IsMeaning c Comes) where
+  causes_of : Answered c (Comes h) before after status → (task : Task) → Comes h task → Causes task before after status
+  causes_of (known other comes finish) task takes =
+      let same : other ≡ task = laws.one h other task comes takes in
+      subst (λ (t : Task). Causes t before after status) same
+      (endings_have_causes c other before after status (laws.own h other comes) finish)
+  causes_of (given_up g) task takes = giving_up_has_causes c task before after status g
+
+  completes_of : Answered c (Comes h) before after status → AllHeld h c.files → NothingFailed before after → (status ≢ 5) × (status ≢ 6)
+  completes_of (known task comes finish) all nothing = (
+    ended_five c before after status nothing task (laws.own h task comes)
+        (λ name is. laws.found h name all (subst (λ (t : Task). Comes h t) is comes)) finish,
+    ended_six c before after status nothing task (laws.own h task comes) finish,
+  )
+  completes_of (given_up g) all nothing = (given_five c before after status nothing g, given_six c before after status nothing g)
+
+-- where a command came so far and then its line was told, it serves
+pub performed_serves : (c : About) (Comes : Held → Task → Type 0) (before after : Outside) (line : List ℕ) (code status : ℕ) → IsMeaning c Comes →
+    Performs c Comes before.files after.files (moment_of before) (moment_of after) line code → TellsLine line code before.err after.err status →
+    (h : Held) → MayHold c before.files.held h → Serves c h (Comes h) before after status
+performed_serves c Comes before after line code status laws p told h may =
+    let a : Answered c (Comes h) before after status = answered c (Comes h) before after line code status told (p.reaches h may) in
+    record {
+      answered = a;
+      causes = causes_of c Comes before after status h laws a;
+      completes = completes_of c Comes before after status h laws a;
+    }
+
+-- ---- what is kept
+
+among_after : (x : ℕ) (xs ys : List ℕ) → Among x ys → Among x (xs ++ ys)
+among_after x [] ys h = h
+among_after x (y ∷ xs) ys h = inr (among_after x xs ys h)
+
+told_too_long : (c : About) (found : Option Held) (rest : Option (List ℕ)) (line : List ℕ) (a b : SinkSeen) → Appends a.written b.written line
+    → IfSome found (λ h. IsAtEnd rest ⊎ IsTooLong c h line) → IfSome found (λ h. IsAtEnd rest ⊎ TellsTooLong c h a b)
+told_too_long c None rest line a b w h = tt
+told_too_long c (Some held) rest line a b w (inl end) = inl end
+told_too_long c (Some held) rest line a b w (inr long) = inr (line, long, w)
+
+not_six : (status : ℕ) → status ≡ 6 → IsEnd status → ⊥
+not_six status six (inl h) = omega (arith, six, h)
+not_six status six (inr (inl h)) = omega (arith, six, h)
+not_six status six (inr (inr h)) = omega (arith, six, h)
+
+-- and keeps what every command keeps
+pub performed_keeps : (c : About) (Comes : Held → Task → Type 0) (before after : Outside) (line : List ℕ) (code status : ℕ) →
+    Performs c Comes before.files after.files (moment_of before) (moment_of after) line code → TellsLine line code before.err after.err status →
+    Keeps c before after status
+performed_keeps c Comes before after line code status p (inl (is, w)) = record {
+  statuses = subst (λ (n : ℕ). Among n (c.ends ++ 5 ∷ 6 ∷ 7 ∷ [])) (sym is) p.statuses;
+  held = p.held;
+  unit = p.unit;
+  files = p.stay;
+  ended = λ reads end. p.ended reads (subst (λ (n : ℕ). IsEnd n) is end);
+  taken = λ reads one. told_too_long c before.files.held after.files.rest line before.err after.err w (p.taken reads (sym is ∙ one));
+  stopped = λ calls two. p.stopped calls (sym is ∙ two);
+  refused = λ three. p.refused (sym is ∙ three);
+  read = λ five. p.read (sym is ∙ five);
+  write = λ six. inl (p.write (sym is ∙ six));
+}
+performed_keeps c Comes before after line code status p (inr (is, rose, part)) = record {
+  statuses = subst (λ (n : ℕ). Among n (c.ends ++ 5 ∷ 6 ∷ 7 ∷ [])) (sym is) (among_after 6 c.ends (5 ∷ 6 ∷ 7 ∷ []) (inr (inl refl)));
+  held = p.held;
+  unit = p.unit;
+  files = p.stay;
+  ended = λ reads end. absurd (not_six status is end);
+  taken = λ reads one. absurd (omega (arith, is, one));
+  stopped = λ calls two. absurd (omega (arith, is, two));
+  refused = λ three. absurd (omega (arith, is, three));
+  read = λ five. absurd (omega (arith, is, five));
+  write = λ six. inr rose;
+}

@@ -1,0 +1,83 @@
+-- Abouts: what each command is about, a line a command. Nothing else that is said of commands goes by their names.
+use Rattle.std.specs.Prelude.{ℕ, Bool, true, false, List, [], ◌∷◌, ◌++◌, Option, Some, None, IsSome}
+use Rattle.vcp_base.specs.Limits.{most_source_bytes, most_image_bytes, most_rows_bytes}
+use Rattle.vcp_outside.specs.Held.{Held}
+use Rattle.vcp_words.specs.Forms.{Form, Rows, check, format, plain, run, compile, list, exec, trace, widen, audit, inject, demo, file, cycles}
+
+-- ---- files that words name
+
+-- a file's name, and the most bytes that the file may have
+pub record FileWord : Type 0 where
+  pub name : List ℕ
+  pub most : ℕ
+
+-- P, M and F
+abbrev pub source_word : List ℕ → FileWord
+source_word p = record { name = p; most = most_source_bytes }
+
+abbrev pub image_word : List ℕ → FileWord
+image_word m = record { name = m; most = most_image_bytes }
+
+abbrev pub script_word : List ℕ → FileWord
+script_word f = record { name = f; most = most_source_bytes }
+
+-- the file of ROWS, if they have one
+abbrev pub rows_words : Rows → List FileWord
+rows_words (file r) = record { name = r; most = most_rows_bytes } ∷ []
+rows_words (cycles n) = []
+
+-- ---- commands
+
+-- A command: the files that it reads, in their order; whether it calls the unit; whether it takes memory, or its rows through their
+-- refusals, when it has begun to write; and the statuses that it may end with beside 5, 6 and 7.
+pub record About : Type 0 where
+  pub files : List FileWord
+  pub calls : Bool
+  pub late : Bool
+  pub ends : List ℕ
+
+-- one that reads these files and then prints, without the unit
+abbrev pub prints_of : List FileWord → About
+prints_of files = record { files = files; calls = false; late = false; ends = 0 ∷ 1 ∷ [] }
+
+-- one that reads these files and runs on the unit
+abbrev pub runs_of : List FileWord → About
+runs_of files = record { files = files; calls = true; late = true; ends = 0 ∷ 1 ∷ 2 ∷ 3 ∷ [] }
+
+-- one that reads these files and judges faults by runs on the unit
+abbrev pub judges_of : List FileWord → About
+judges_of files = record { files = files; calls = true; late = true; ends = 0 ∷ 1 ∷ [] }
+
+abbrev pub about : Form → About
+about (check p) = prints_of (source_word p ∷ [])
+about (format p) = prints_of (source_word p ∷ [])
+about (plain p rows) = record { files = source_word p ∷ rows_words rows; calls = false; late = true; ends = 0 ∷ 1 ∷ 2 ∷ [] }
+about (run p rows code) = runs_of (source_word p ∷ rows_words rows)
+about (compile p code) = prints_of (source_word p ∷ [])
+about (list m) = prints_of (image_word m ∷ [])
+about (exec m rows) = runs_of (image_word m ∷ rows_words rows)
+about (trace m rows n) = runs_of (image_word m ∷ rows_words rows)
+about (widen m) = prints_of (image_word m ∷ [])
+about (audit m horizon) = prints_of (image_word m ∷ [])
+about (inject m rows f) = judges_of (image_word m ∷ (rows_words rows ++ script_word f ∷ []))
+about (demo n) = runs_of []
+
+-- the command that writes the same without a unit, where there is one
+abbrev pub without_unit : Form → Option Form
+without_unit (check p) = None
+without_unit (format p) = None
+without_unit (plain p rows) = None
+without_unit (run p rows code) = Some (plain p rows)
+without_unit (compile p code) = None
+without_unit (list m) = None
+without_unit (exec m rows) = None
+without_unit (trace m rows n) = None
+without_unit (widen m) = None
+without_unit (audit m horizon) = None
+without_unit (inject m rows f) = None
+without_unit (demo n) = None
+
+-- each of these files is held
+abbrev pub AllHeld : Held → List FileWord → Type 0
+AllHeld held [] = Unit {0}
+AllHeld held (word ∷ words) = IsSome (held word.name) × AllHeld held words

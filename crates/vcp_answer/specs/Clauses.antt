@@ -1,0 +1,77 @@
+-- Clauses: what the top call promises of a command beside its answer, and of words that are none.
+use Rattle.std.specs.Prelude.{ℕ, ◌≡◌, ◌≢◌, ◌⊎◌, ◌<◌, false, true, List, [], ◌∷◌, ◌++◌, length, Option, Some, IfSome}
+use Rattle.std.specs.Io.KnownBytes.{Appends, IsAtEnd}
+use Rattle.vcp_outside.specs.Counts.{Rose}
+use Rattle.vcp_outside.specs.Held.{Held}
+use Rattle.vcp_words.specs.Forms.{Form}
+use Rattle.vcp_words.specs.Usage.{usage_text}
+use Rattle.vcp_inputs.specs.declared.refusal.Refusal.TheVariants as refusal
+use Rattle.vcp_inputs.specs.Lines.{refusal_text}
+use Rattle.vcp_answer.specs.Answer.{Answer}
+use Rattle.vcp_answer.specs.Endings.{Among}
+use Rattle.vcp_answer.specs.Abouts.{About, FileWord, AllHeld, without_unit}
+use Rattle.vcp_answer.specs.HowItEnds.{Answered, Came, Causes, IsNoFault, NothingFailed, TellsLine}
+use Rattle.vcp_answer.specs.Kinds.{Task, answers}
+use Rattle.machine_run.specs.Stops.{GrowsToStop}
+use Rattle.vcp_answer.specs.Seen.{SinkSeen, Outside, IsHonest}
+
+-- ---- words that are no command
+
+-- the usage line was printed, with status 4, or its sink failed in it, with status 6; and nothing else was done
+pub record GetsUsage (before after : Outside) (status : ℕ) : Type 0 where
+  pub told : TellsLine usage_text 4 before.err after.err status
+  pub files : after.files ≡ before.files
+  pub unit : after.unit ≡ before.unit
+  pub out : after.out ≡ before.out
+
+-- ---- what holds of a command whatever the objects tell
+
+-- a file that the command reads has more bytes than it may have, and that is the line
+pub record IsTooLong (c : About) (held : Held) (line : List ℕ) : Type 0 where
+  pub word : FileWord
+  pub named : Among word c.files
+  pub bytes : List ℕ
+  pub found : held word.name ≡ Some bytes
+  pub long : word.most < length bytes
+  pub line_is : line ≡ refusal_text word.name refusal.Bytes
+
+-- and that is the line that was printed
+abbrev pub TellsTooLong : About → Held → SinkSeen → SinkSeen → Type 0
+TellsTooLong c held before after = (line : List ℕ) × IsTooLong c held line × Appends before.written after.written line
+
+-- a command came to its end: the end of its rows, a stop or a refused output
+abbrev pub IsEnd : ℕ → Type 0
+IsEnd status = (status ≡ 0) ⊎ ((status ≡ 2) ⊎ (status ≡ 3))
+
+-- What every command keeps. Its statuses are its own, or those of a fault; what it isn't about stays; 0, 1, 2 and 3 come only where nothing
+-- is unread of the file that was begun last, but for one that is too long; and 2, 3, 5 and 6 come only by the objects that were handed in.
+pub record Keeps (c : About) (before after : Outside) (status : ℕ) : Type 0 where
+  pub statuses : Among status (c.ends ++ 5 ∷ 6 ∷ 7 ∷ [])
+  pub held : after.files.held ≡ before.files.held
+  pub unit : c.calls ≡ false → after.unit ≡ before.unit
+  pub files : c.files ≡ [] → after.files ≡ before.files
+  pub ended : c.files ≢ [] → IsEnd status → IsAtEnd after.files.rest
+  pub taken : c.files ≢ [] → status ≡ 1 → IfSome before.files.held (λ h. IsAtEnd after.files.rest ⊎ TellsTooLong c h before.err after.err)
+  pub stopped : c.calls ≡ true → status ≡ 2 → GrowsToStop before.unit.log after.unit.log
+  pub refused : status ≡ 3 → Rose before.unit.wrong after.unit.wrong
+  pub read : status ≡ 5 → Rose before.files.faults after.files.faults
+  pub write : status ≡ 6 → Rose before.out.faults after.out.faults ⊎ Rose before.err.faults after.err.faults
+
+-- ---- what holds where it is told what is held
+
+-- files hold this, where they tell it; of a command that reads none they may hold anything
+abbrev pub MayHold : About → Option Held → Held → Type 0
+MayHold c told held = (told ≡ Some held) ⊎ (c.files ≡ [])
+
+-- How a command serves, that comes to tasks so: it ends for its task or was given up; whatever its task is, each status has its cause; and
+-- where each of its files is held and nothing failed, neither a file nor a sink is told to have.
+pub record Serves (c : About) (held : Held) (Comes : Task → Type 0) (before after : Outside) (status : ℕ) : Type 0 where
+  pub answered : Answered c Comes before after status
+  pub causes : (task : Task) → Comes task → Causes task before after status
+  pub completes : AllHeld held c.files → NothingFailed before after → (status ≢ 5) × (status ≢ 6)
+
+-- with an honest unit the answer of the command without one came, but for 5, 6 and 7
+abbrev pub AsPlain : (Form → Held → Task → Type 0) → Form → Held → Outside → Outside → ℕ → Type 0
+AsPlain Comes f held before after status =
+    IfSome (without_unit f)
+    (λ g. (x : Answer) → Comes g held (answers x) → IsHonest before.unit after.unit → IsNoFault status → Came x before after status)

@@ -1,0 +1,101 @@
+-- HowItEnds: how a command ends, for the task that it comes to, and the cause of each status.
+use Rattle.std.specs.Prelude.{ℕ, ◌≡◌, ◌≢◌, ◌⊎◌, ◌≤◌, true, List}
+use Rattle.std.specs.Io.KnownBytes.{Appends}
+use Rattle.vcp_outside.specs.Counts.{Rose}
+use Rattle.vcp_outside.specs.Written.{AppendsFront, AppendsPart}
+use Rattle.vcp_inputs.specs.Lines.{memory_text, read_fault_text, write_fault_text}
+use Rattle.vcp_answer.specs.Answer.{Answer}
+use Rattle.vcp_answer.specs.Endings.{Among}
+use Rattle.vcp_answer.specs.Abouts.{About, FileWord}
+use Rattle.vcp_answer.specs.Kinds.{Task, lacks, answers, compiles, runs, judges, Done, Left, Meant}
+use Rattle.vcp_answer.specs.Seen.{SinkSeen, Outside, IsHonest, Untouched, moment_of}
+
+-- ---- how a command ends
+
+-- the line was printed with this status, or the sink of the errors failed in it, with status 6
+abbrev pub TellsLine : List ℕ → ℕ → SinkSeen → SinkSeen → ℕ → Type 0
+TellsLine line code before after status =
+    ((status ≡ code) × Appends before.written after.written line)
+    ⊎ ((status ≡ 6) × Rose before.faults after.faults × AppendsPart before.written after.written line)
+
+-- How a command ends, for its task. It is done: all of its answer's output was written, and the answer's line was told. Or it was cut off
+-- where the sink of the output failed. Or, of a command that takes memory or its rows when it has begun to write, where memory was wanted.
+pub data Ends (c : About) (task : Task) (before after : Outside) (status : ℕ) : Type 0 where
+  ended : (x : Answer) → Done task before.unit after.unit x → Appends before.out.written after.out.written x.out
+      → TellsLine x.err x.status before.err after.err status → Ends c task before after status
+  cut : Rose before.out.faults after.out.faults → Left task AppendsPart (moment_of before) (moment_of after)
+      → TellsLine write_fault_text 6 before.err after.err status → Ends c task before after status
+  short : c.late ≡ true → Left task AppendsFront (moment_of before) (moment_of after)
+      → TellsLine memory_text 7 before.err after.err status → Ends c task before after status
+
+-- A command was given up before it was known what it comes to, and nothing else was done: the files broke in one that it reads, or memory
+-- was wanted.
+pub data GivenUp (c : About) (before after : Outside) (status : ℕ) : Type 0 where
+  unread : (word : FileWord) → Among word c.files → Rose before.files.broken after.files.broken → Untouched before after
+      → TellsLine (read_fault_text word.name) 5 before.err after.err status → GivenUp c before after status
+  unmade : Untouched before after → TellsLine memory_text 7 before.err after.err status → GivenUp c before after status
+
+-- a command ends for a task that it comes to, or it was given up
+pub data Answered (c : About) (Comes : Task → Type 0) (before after : Outside) (status : ℕ) : Type 0 where
+  known : (task : Task) → Comes task → Ends c task before after status → Answered c Comes before after status
+  given_up : GivenUp c before after status → Answered c Comes before after status
+
+-- ---- causes
+
+-- the status is no fault's: neither a file nor a sink failed, and memory was found
+pub record IsNoFault (status : ℕ) : Type 0 where
+  pub files : status ≢ 5
+  pub sinks : status ≢ 6
+  pub memory : status ≢ 7
+
+-- the files didn't break, and no sink's count of faults rose; a name may have been lacking
+pub record NothingFailed (before after : Outside) : Type 0 where
+  pub files : ¬ Rose before.files.broken after.files.broken
+  pub out : ¬ Rose before.out.faults after.out.faults
+  pub err : ¬ Rose before.err.faults after.err.faults
+
+-- an answer came: its output and its line were written and nothing else, and it has the status
+pub record Came (x : Answer) (before after : Outside) (status : ℕ) : Type 0 where
+  pub status_is : status ≡ x.status
+  pub out : Appends before.out.written after.out.written x.out
+  pub err : Appends before.err.written after.err.written x.err
+
+-- a task was done, and its answer came
+pub record Given (task : Task) (before after : Outside) (status : ℕ) : Type 0 where
+  pub answer : Answer
+  pub done : Done task before.unit after.unit answer
+  pub came : Came answer before after status
+
+-- The causes of the statuses, for the task that words and files come to. What 0 to 3 tell is read off the answer's own status.
+pub record Causes (task : Task) (before after : Outside) (status : ℕ) : Type 0 where
+  -- with an honest unit the answer that is meant comes, but for 5, 6 and 7
+  pub meant : IsHonest before.unit after.unit → IsNoFault status → (x : Answer) × Meant task x × Came x before after status
+  -- whatever the unit answers, the task is done, but for 5, 6 and 7
+  pub done : IsNoFault status → Given task before after status
+  -- and where nothing failed, it is done, unless memory was wanted
+  pub completes : NothingFailed before after → (status ≡ 7) ⊎ Given task before after status
+  -- 5 comes only where the files broke, or where a name is lacking that was come to, which the line then names
+  pub five_only : status ≡ 5 → Rose before.files.broken after.files.broken
+      ⊎ ((name : List ℕ) × (task ≡ lacks name) × Appends before.err.written after.err.written (read_fault_text name))
+  -- and where a name is lacking it comes, but for 6 and 7
+  pub five : (name : List ℕ) → task ≡ lacks name → status ≢ 6 → status ≢ 7 → status ≡ 5
+
+-- ---- laws
+
+-- a task that is an answer has no status of a fault, nor that of an output that is refused or of words that are no command
+abbrev pub HasOwnStatus : Task → Type 0
+HasOwnStatus (lacks name) = Unit {0}
+HasOwnStatus (answers a) = a.status ≤ 2
+HasOwnStatus (compiles p code) = Unit {0}
+HasOwnStatus (runs j) = Unit {0}
+HasOwnStatus (judges c) = Unit {0}
+
+-- however a command ends, each status has its cause
+abbrev pub EndingsHaveCauses : Type 0
+EndingsHaveCauses =
+    (c : About) (task : Task) (before after : Outside) (status : ℕ) → HasOwnStatus task → Ends c task before after status → Causes task before after status
+
+-- and where it was given up, whatever its task is
+abbrev pub GivingUpHasCauses : Type 0
+GivingUpHasCauses =
+    (c : About) (task : Task) (before after : Outside) (status : ℕ) → GivenUp c before after status → Causes task before after status

@@ -1,0 +1,76 @@
+-- Kinds: what words and files come to, and what each kind of task leaves behind, a line a kind. A kind that calls the unit has a record of
+-- its own for a whole course and one for a course that was cut off.
+use Rattle.std.specs.Prelude.{ℕ, ◌≡◌, List, [], Option}
+use Rattle.op_graph.specs.Lists.{Lists}
+use Rattle.vcp_typed.specs.SourceRun.{Program}
+use Rattle.vcp_words.specs.Forms.{Code}
+use Rattle.vcp_inputs.specs.declared.refusal.Refusal.{Refusal}
+use Rattle.vcp_inputs.specs.Lines.{read_fault_text, refusal_text}
+use Rattle.vcp_answer.specs.Answer.{Answer, Campaign, printed}
+use Rattle.vcp_answer.specs.Courses.{MayCompile, image_answer}
+use Rattle.vcp_answer.specs.Seen.{UnitSeen, Moment}
+use Rattle.vcp_answer.specs.RunKind.{Job, RunDone, RunLeft, job_answer, run_meant}
+use Rattle.vcp_answer.specs.CampaignKind.{CampaignDone, CampaignLeft, verdicts_answer, verdicts_meant}
+
+-- What a command and files come to: a name that is lacking; an answer for which no unit is called; a program of which the image of some
+-- graph that means it is written, with the numbers of a code; a run; or faults that are judged.
+pub data Task : Type 0 where
+  lacks : List ℕ → Task
+  answers : Answer → Task
+  compiles : Program → Code → Task
+  runs : Job → Task
+  judges : Campaign → Task
+
+-- the file under a name is refused
+abbrev pub refusal_task : List ℕ → Refusal → Task
+refusal_task name r = answers (record { out = []; err = refusal_text name r; status = 1 })
+
+-- a text is printed and nothing else
+abbrev pub prints : List ℕ → Task
+prints text = answers (printed text)
+
+-- the answer where the file under a name is lacking
+abbrev pub lack_answer : List ℕ → Answer
+lack_answer name = record { out = []; err = read_fault_text name; status = 5 }
+
+-- ---- what is meant
+
+-- the answer that a task means: the one that it is given with an honest unit
+abbrev pub Meant : Task → Answer → Type 0
+Meant (lacks name) x = x ≡ lack_answer name
+Meant (answers a) x = x ≡ a
+Meant (compiles p code) x = (g : Lists) × MayCompile p code g × (x ≡ image_answer code g)
+Meant (runs j) x = x ≡ job_answer j (run_meant j)
+Meant (judges c) x = x ≡ verdicts_answer c (verdicts_meant c)
+
+-- ---- what stands after a task
+
+-- the unit was not called, and this is the answer
+abbrev pub Quiet : (Answer → Type 0) → UnitSeen → UnitSeen → Answer → Type 0
+Quiet Is before after x = (after ≡ before) × Is x
+
+-- the task was done, with this answer
+abbrev pub Done : Task → UnitSeen → UnitSeen → Answer → Type 0
+Done (lacks name) before after x = Quiet (Meant (lacks name)) before after x
+Done (answers a) before after x = Quiet (Meant (answers a)) before after x
+Done (compiles p code) before after x = Quiet (Meant (compiles p code)) before after x
+Done (runs j) before after x = RunDone j before after x
+Done (judges c) before after x = CampaignDone c before after x
+
+-- ---- what stands where a sink or want of memory cut it off
+
+-- how much of a text was written between two moments: a front of it, or a part that lacks something
+abbrev pub Writing : Type 1
+Writing = Option (List ℕ) → Option (List ℕ) → List ℕ → Type 0
+
+-- the unit was not called, and so much of the answer was written
+abbrev pub QuietLeft : (Answer → Type 0) → Writing → Moment → Moment → Type 0
+QuietLeft Is Writes before after = (after.unit ≡ before.unit) × ((x : Answer) × Is x × Writes before.out.written after.out.written x.out)
+
+-- the task was cut off, with so much written
+abbrev pub Left : Task → Writing → Moment → Moment → Type 0
+Left (lacks name) Writes before after = QuietLeft (Meant (lacks name)) Writes before after
+Left (answers a) Writes before after = QuietLeft (Meant (answers a)) Writes before after
+Left (compiles p code) Writes before after = QuietLeft (Meant (compiles p code)) Writes before after
+Left (runs j) Writes before after = RunLeft j Writes before after
+Left (judges c) Writes before after = CampaignLeft c Writes before after

@@ -1,0 +1,98 @@
+-- Printing: a run as it is told, and what is printed of it.
+use Rattle.std.specs.Prelude.{ℕ, ℤ, List, [], ◌++◌, length, slice_index_or, Option, Some, None, codes}
+use Rattle.input_rows.specs.declared.fault.RowFault.{RowFault}
+use Rattle.input_rows.specs.RowsOf.{RowsLeft}
+use Rattle.coded_unit.specs.declared.call.Answer.{Answer as UnitAnswer}
+use Rattle.op_graph.specs.Lists.{Lists}
+use Rattle.signature_table.specs.Signatures.{table_of}
+use Rattle.machine_run.specs.RowRuns.{texts_from}
+use Rattle.run_report.specs.Lines.{header_text, row_text, end_text, stop_text, refused_text}
+use Rattle.run_report.specs.SummaryLine.{summary_text}
+use Rattle.vcp_words.specs.Forms.{Code}
+use Rattle.vcp_answer.specs.Answer.{Answer}
+use Rattle.vcp_answer.specs.CycleWords.{words_in, words_meant, word_lines}
+use Rattle.vcp_answer.specs.Reports.{End, complete, stopped, refused, behind_text, run_status}
+use Rattle.vcp_answer.specs.Sums.{last_value, sum_of}
+
+-- ---- a run as it is told
+
+-- the rows of outputs that were released, the end, and the words of it that are shown
+pub record Report : Type 0 where
+  pub rows : List (List ℤ)
+  pub end : End
+  pub words : List ℤ
+
+-- no row yet, no end and no word
+abbrev pub no_report : Report
+no_report = record { rows = []; end = complete; words = [] }
+
+-- a run, and then a later one, unless it was ended
+abbrev pub goes_on : End → Report → Report → Report
+goes_on complete r later = record { rows = r.rows ++ later.rows; end = later.end; words = r.words ++ later.words }
+goes_on (stopped s) r later = r
+goes_on (refused output found wanted) r later = r
+
+abbrev pub run_then : Report → Report → Report
+run_then r later = goes_on r.end r later
+
+-- ---- the words that are shown
+
+-- the words of a run that are shown: as they are read off the answers in its cycles, and as they are meant on rows of inputs
+pub record Words : Type 0 where
+  pub read : List (List UnitAnswer) → List ℤ
+  pub meant : List (List ℤ) → List ℤ
+
+abbrev pub no_words : Words
+no_words = record { read = λ cycles. []; meant = λ rows. [] }
+
+-- those of cycle n of a graph's run
+abbrev pub cycle_words : Lists → Code → ℕ → Words
+cycle_words g code n = record { read = λ cycles. words_in n cycles; meant = λ rows. words_meant g code n rows }
+
+-- ---- what is printed
+
+-- What is printed of a run: first, for each released row, of the words that are shown, and where the run came to the end of its rows.
+pub record Printing : Type 0 where
+  pub header : List ℕ
+  pub row : ℕ → List ℤ → List ℕ
+  pub lines : List ℤ → List ℕ
+  pub done : List (List ℤ) → List ℕ
+
+-- each row, under the names of the outputs
+abbrev pub every_row : List (List ℕ) → Printing
+every_row names = record { header = header_text names; row = row_text; lines = λ words. []; done = λ rows. end_text (length rows) }
+
+-- a line for each word that an operation of a graph answered in cycle n, with the numbers of a code
+abbrev pub each_word : Lists → Code → ℕ → Printing
+each_word g code n = record {
+  header = [];
+  row = λ cycle row. [];
+  lines = λ words. word_lines g (table_of code.seed code.step g) n 0 g.operations words;
+  done = λ rows. codes "released\n";
+}
+
+-- the line that sums up the run of the made program of a number
+abbrev pub summed_up : ℕ → Printing
+summed_up number = record {
+  header = [];
+  row = λ cycle row. [];
+  lines = λ words. [];
+  done = λ rows. summary_text number (length rows) (last_value rows) (sum_of rows);
+}
+
+-- what stands behind the rows of a run that ended so, with outputs of these names; nothing where the next row is refused
+abbrev pub last_part : Printing → List (List ℕ) → Report → End → Option RowFault → List ℕ
+last_part p names r complete None = p.lines r.words ++ p.done r.rows
+last_part p names r complete (Some why) = []
+last_part p names r (stopped s) behind = p.lines r.words ++ stop_text (length r.rows) s
+last_part p names r (refused output found wanted) behind =
+    p.lines r.words ++ refused_text (length r.rows) (slice_index_or names output []) found wanted
+
+-- all that is printed of a run, on rows with this refusal behind them or none
+abbrev pub run_text : Printing → List (List ℕ) → Report → Option RowFault → List ℕ
+run_text p names r behind = p.header ++ (texts_from p.row 0 r.rows ++ last_part p names r r.end behind)
+
+-- the answer to a run that is told so: ROWS are told by this name
+abbrev pub told_answer : Printing → List (List ℕ) → List ℕ → RowsLeft → Report → Answer
+told_answer p names rows_name left r =
+    record { out = run_text p names r left.refusal; err = behind_text rows_name r.end left.refusal; status = run_status r.end left.refusal }

@@ -1,0 +1,93 @@
+-- RunKind: runs on a unit: what stands after a whole one, and what stands where it was cut off.
+use Rattle.std.specs.Prelude.{ℕ, ◌≡◌, List, ◌∷◌, [], ◌++◌, length, map, Option}
+use Rattle.std.specs.Io.KnownBytes.{Appends}
+use Rattle.input_rows.specs.RowsOf.{RowsLeft}
+use Rattle.coded_unit.specs.declared.call.Answer.{Answer as UnitAnswer}
+use Rattle.coded_unit.specs.Log.{Entry, GrowsBy}
+use Rattle.op_graph.specs.Lists.{Lists}
+use Rattle.signature_table.specs.Signatures.{Numbers, table_of}
+use Rattle.coded_machine.specs.CycleEnds.{initial_words, outputs_of}
+use Rattle.coded_machine.specs.Runs.{AllCycles, calls_over, outcome_over}
+use Rattle.machine_run.specs.RowRuns.{SomeCycles, texts_from}
+use Rattle.vcp_words.specs.Forms.{Code}
+use Rattle.vcp_answer.specs.Answer.{Answer, Subject}
+use Rattle.vcp_answer.specs.Courses.{MayRun}
+use Rattle.vcp_answer.specs.Reports.{end_read, end_told, names_of, told_of}
+use Rattle.vcp_answer.specs.Printing.{Report, Words, Printing, no_report, run_then, told_answer}
+use Rattle.vcp_answer.specs.Seen.{UnitSeen, Moment, IsHonest}
+
+-- A run on a unit: of what, the rows of its inputs with the refusal behind them, the name by which lines tell ROWS, the numbers of its
+-- code, what is printed of it, and which words are shown.
+pub record Job : Type 0 where
+  pub subject : Subject
+  pub rows : RowsLeft
+  pub rows_name : List ℕ
+  pub code : Code
+  pub printing : Printing
+  pub words : Words
+
+-- the numbers of a job's code, for a graph
+abbrev pub numbers : Job → Lists → Numbers
+numbers j g = table_of j.code.seed j.code.step g
+
+-- the calls of a run in cycles with these answers, cycle after cycle
+abbrev pub calls_of : Job → Lists → List (List UnitAnswer) → List Entry
+calls_of j g cycles = calls_over g (numbers j g) 0 (initial_words g j.code.seed) j.rows.rows cycles
+
+-- the run that is read off the unit's answers
+abbrev pub run_read : Job → Lists → List (List UnitAnswer) → Report
+run_read j g cycles = record {
+  rows = (outcome_over g (numbers j g) 0 cycles).rows;
+  end = end_read g (outcome_over g (numbers j g) 0 cycles).end;
+  words = j.words.read cycles;
+}
+
+-- the run that is meant: the subject's own, on plain values
+abbrev pub run_meant : Job → Report
+run_meant j = record {
+  rows = (told_of j.subject j.rows.rows).rows;
+  end = end_told (told_of j.subject j.rows.rows).end;
+  words = j.words.meant j.rows.rows;
+}
+
+-- the answer to a job whose run is told so
+abbrev pub job_answer : Job → Report → Answer
+job_answer j r = told_answer j.printing (names_of j.subject) j.rows_name j.rows r
+
+-- A whole run: some graph that may be run for the subject, and a cycle for each row up to the first that is not released. Where the log is
+-- told, it grew by the calls of these cycles with the answers that the unit gave, and by nothing else; where it is not, these are some
+-- answers of that form. What is answered is read off them; and where no answer was wrong, the run is the one that is meant.
+pub record RunDone (j : Job) (before after : UnitSeen) (x : Answer) : Type 0 where
+  pub graph : Lists
+  pub cycles : List (List UnitAnswer)
+  pub may : MayRun j.subject graph
+  pub all : AllCycles graph (numbers j graph) 0 j.rows.rows cycles
+  pub log : GrowsBy before.log after.log (calls_of j graph cycles)
+  pub read : x ≡ job_answer j (run_read j graph cycles)
+  pub honest : IsHonest before after → run_read j graph cycles ≡ run_meant j
+
+-- ---- a run that was cut off
+
+-- a run that may come after these cycles: any at all, and none where all rows were taken
+abbrev pub MayFollow : Job → List (List UnitAnswer) → Report → Type 0
+MayFollow j cycles later = length cycles ≡ length j.rows.rows → later ≡ no_report
+
+-- what is printed first and of the rows of all cycles before the last was written, and maybe more
+abbrev pub EarlierPrinted : Printing → Lists → List (List UnitAnswer) → Option (List ℕ) → Option (List ℕ) → Type 0
+EarlierPrinted p g cycles old new =
+    (earlier : List (List UnitAnswer)) (last : List UnitAnswer) → cycles ≡ earlier ++ last ∷ [] →
+    (more : List ℕ) × Appends old new ((p.header ++ texts_from p.row 0 (map (outputs_of g) earlier)) ++ more)
+
+-- A run that was cut off between two of its cycles, where `Writes` says how much was written: so much of what is printed of it, whatever
+-- would have come later, with all that stands before the last cycle. The unit was asked nothing more than these cycles' calls. Where no
+-- answer was wrong, it is so much of what is printed of the run that is meant.
+pub record RunLeft (j : Job) (Writes : Option (List ℕ) → Option (List ℕ) → List ℕ → Type 0) (before after : Moment) : Type 0 where
+  pub graph : Lists
+  pub cycles : List (List UnitAnswer)
+  pub may : MayRun j.subject graph
+  pub some : SomeCycles graph (numbers j graph) 0 j.rows.rows cycles
+  pub log : GrowsBy before.unit.log after.unit.log (calls_of j graph cycles)
+  pub text : (later : Report) → MayFollow j cycles later
+      → Writes before.out.written after.out.written (job_answer j (run_then (run_read j graph cycles) later)).out
+  pub earlier : EarlierPrinted j.printing graph cycles before.out.written after.out.written
+  pub honest : IsHonest before.unit after.unit → Writes before.out.written after.out.written (job_answer j (run_meant j)).out

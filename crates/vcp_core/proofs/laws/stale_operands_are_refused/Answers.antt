@@ -1,5 +1,0 @@
-use Rattle.vcp_core.proofs.StaleShown.{stale_is_refused}
-use Rattle.vcp_core.proofs.laws.stale_operands_are_refused.Goals as goal
-
-pub returns : goal.returns
-returns c t g graph table = stale_is_refused t g table (c.differences_come_as_weights.ensures.stale t g graph)
