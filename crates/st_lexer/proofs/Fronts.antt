@@ -9,6 +9,7 @@ use Rattle.std.proofs.lemmas.List.Sums.{prefix_len-le-length}
 use Rattle.std.proofs.lemmas.List.Folds.{length-prefix_len}
 use Rattle.vcp_base.specs.declared.ty.Ty.{Ty}
 use Rattle.vcp_base.specs.declared.ty.Ty.TheVariants as ty
+use Rattle.vcp_base.specs.Names.{is_letter, is_letter_or_digit}
 use Rattle.st_lexer.specs.declared.token.Sym.{Sym}
 use Rattle.st_lexer.specs.declared.token.Sym.TheVariants as symbol
 use Rattle.st_lexer.specs.declared.token.Tok.{Tok}
@@ -17,7 +18,7 @@ use Rattle.st_lexer.specs.declared.piece.Found.{Found}
 use Rattle.st_lexer.specs.declared.piece.Found.TheVariants as found
 use Rattle.st_lexer.specs.declared.piece.Opening.{Opening}
 use Rattle.st_lexer.specs.declared.piece.Opening.TheVariants as opens
-use Rattle.st_lexer.specs.Literals.{is_run, is_word, begins_word, run, signed, plain, based, are_digits, literal_at, literal_of, prefix}
+use Rattle.st_lexer.specs.Literals.{is_run, run, signed, plain, based, are_digits, literal_at, literal_of, prefix}
 use Rattle.st_lexer.specs.Spots.{is_not_lf}
 use Rattle.st_lexer.specs.Symbols.{begins, spelling, symbol_among, all_symbols}
 use Rattle.st_lexer.specs.Reading.{order_mark, Begins, Stands, StandsAt}
@@ -85,7 +86,7 @@ begins-len w s e = omega (arith, ap length (begins-is w s e), length-take (lengt
 abbrev Fronts : Opening → List ℕ → Type 0
 Fronts opens.OrderMark s = 3 ≤ length s
 Fronts opens.LineComment s = is_not_lf (slice_index s 0) ≡ true
-Fronts opens.Word s = is_word (slice_index s 0) ≡ true
+Fronts opens.Word s = is_letter_or_digit (slice_index s 0) ≡ true
 Fronts (opens.Symbol y) s = length (spelling y) ≤ length s
 Fronts _ s = Unit {0}
 
@@ -104,7 +105,7 @@ fronts p s opens.Blank h = tt
 fronts p s opens.OrderMark h = begins-len order_mark s h.1
 fronts p s (opens.Comment last) h = tt
 fronts p s opens.LineComment h = line-front s h
-fronts p s opens.Word h = word-byte (begins_word (slice_index s 0)) _ h.0
+fronts p s opens.Word h = word-byte (is_letter (slice_index s 0)) _ h.0
 fronts p s (opens.Literal t) h = tt
 fronts p s opens.Ampersand h = tt
 fronts p s (opens.Symbol y) h = begins-len (spelling y) s (symbol-begins s y h.1)
@@ -138,7 +139,7 @@ by_front opens.Blank s n t h f st = (omega (arith, st.0), omega (arith, st.0))
 by_front opens.OrderMark s n t h f st = (omega (arith, st.0), omega (arith, st.0, f))
 by_front (opens.Comment last) s n t h f st = (omega (arith, st.0.1), omega (arith, st.0.1, st.0.3.0))
 by_front opens.LineComment s n t h f st = (rw st.0 (some_run is_not_lf s h f), rw st.0 (prefix_len-le-length is_not_lf s))
-by_front opens.Word s n t h f st = (rw st.0 (some_run is_word s h f), rw st.0 (prefix_len-le-length is_word s))
+by_front opens.Word s n t h f st = (rw st.0 (some_run is_letter_or_digit s h f), rw st.0 (prefix_len-le-length is_letter_or_digit s))
 by_front (opens.Literal ty) s n t h f st =
     let z = literal-sized ty (drop (length (prefix ty)) s) st.0 st.1 in
     (omega (arith, st.2, z.0), omega (arith, st.2, z.0, z.1, length-drop (length (prefix ty)) s))

@@ -10,6 +10,7 @@ use Rattle.std.proofs.lemmas.List.{length-take, take-append-drop, drop-take}
 use Rattle.std.proofs.lemmas.List.Folds.{length-prefix_len}
 use Rattle.vcp_base.specs.declared.ty.Ty.{Ty}
 use Rattle.vcp_base.specs.declared.ty.Ty.TheVariants as ty
+use Rattle.vcp_base.specs.Names.{is_letter, is_letter_or_digit}
 use Rattle.st_lexer.specs.declared.token.Key.{Key}
 use Rattle.st_lexer.specs.declared.token.Key.TheVariants as key
 use Rattle.st_lexer.specs.declared.token.Sym.{Sym}
@@ -19,7 +20,7 @@ use Rattle.st_lexer.specs.declared.token.Tok.TheVariants as tok
 use Rattle.st_lexer.specs.declared.literal.Literal.{Literal}
 use Rattle.st_lexer.specs.declared.piece.Opening.{Opening}
 use Rattle.st_lexer.specs.declared.piece.Opening.TheVariants as opens
-use Rattle.st_lexer.specs.Literals.{begins_word, is_word, is_run, run, takes_sign, signed, plain, digits, with_sign, literal_at, literal_of, prefix}
+use Rattle.st_lexer.specs.Literals.{is_run, run, takes_sign, signed, plain, digits, with_sign, literal_at, literal_of, prefix}
 use Rattle.st_lexer.specs.Literals.{begins_typed, BeginsLiteral}
 use Rattle.st_lexer.specs.Symbols.{begins, spelling, symbol_among, all_symbols}
 use Rattle.st_lexer.specs.Words.{key_or_name, key_among, all_keys}
@@ -60,11 +61,11 @@ first-within (suc m) [] h = refl
 first-within (suc m) (b ∷ s) h = refl
 
 -- bytes that all are of a word are no more than the longest run of them
-run-most : (s : List ℕ) (m : ℕ) → m ≤ length s → list_all is_word (take m s) ≡ true → m ≤ prefix_len is_word s
+run-most : (s : List ℕ) (m : ℕ) → m ≤ length s → list_all is_letter_or_digit (take m s) ≡ true → m ≤ prefix_len is_letter_or_digit s
 run-most s zero le e = omega arith
 run-most [] (suc m) le e = absurd (omega arith)
 run-most (b ∷ s) (suc m) le e =
-    let h = and-true (is_word b) _ e in
+    let h = and-true (is_letter_or_digit b) _ e in
     let more = run-most s m (omega arith) h.1 in
     rw h.0 (omega (arith, more))
 
@@ -121,22 +122,22 @@ one-most : (t : Bool) (x y : ℕ) → x ≤ y → cond t (1 + x) 0 ≤ suc y
 one-most true x y h = omega arith
 one-most false x y h = omega arith
 
-hash-no-word : (b : ℕ) → nat_eq (to_ascii_lowercase b) 35 ≡ true → is_word b ≡ false
+hash-no-word : (b : ℕ) → nat_eq (to_ascii_lowercase b) 35 ≡ true → is_letter_or_digit b ≡ false
 hash-no-word b e = grind (arith, nat_tests)
 
 -- a word ends before the `#` that stands behind it
-hash-ends : (q s : List ℕ) → str_eq_ignore_ascii_case (take (length (q ++ 35 ∷ [])) s) (q ++ 35 ∷ []) ≡ true → prefix_len is_word s ≤ length q
+hash-ends : (q s : List ℕ) → str_eq_ignore_ascii_case (take (length (q ++ 35 ∷ [])) s) (q ++ 35 ∷ []) ≡ true → prefix_len is_letter_or_digit s ≤ length q
 hash-ends [] [] e = omega arith
 hash-ends (c ∷ q) [] e = omega arith
 hash-ends [] (b ∷ s) e =
     let h = and-true (nat_eq (to_ascii_lowercase b) 35) _ e in
-    let none : prefix_len is_word (b ∷ s) ≡ 0 = rw (hash-no-word b h.0) refl in omega (arith, none)
+    let none : prefix_len is_letter_or_digit (b ∷ s) ≡ 0 = rw (hash-no-word b h.0) refl in omega (arith, none)
 hash-ends (c ∷ q) (b ∷ s) e =
     let h = and-true (nat_eq (to_ascii_lowercase b) (to_ascii_lowercase c)) _ e in
     let more = hash-ends q s h.1 in
-    one-most (is_word b) (prefix_len is_word s) (length q) more
+    one-most (is_letter_or_digit b) (prefix_len is_letter_or_digit s) (length q) more
 
-typed-ends : (t : Ty) (s : List ℕ) → begins_typed t s ≡ true → prefix_len is_word s ≤ length (prefix (Some t))
+typed-ends : (t : Ty) (s : List ℕ) → begins_typed t s ≡ true → prefix_len is_letter_or_digit s ≤ length (prefix (Some t))
 typed-ends ty.Bool s e = let h = hash-ends (66 ∷ 79 ∷ 79 ∷ 76 ∷ []) s e in omega (arith, h)
 typed-ends ty.Int s e = let h = hash-ends (73 ∷ 78 ∷ 84 ∷ []) s e in omega (arith, h)
 typed-ends ty.Dint s e = let h = hash-ends (68 ∷ 73 ∷ 78 ∷ 84 ∷ []) s e in omega (arith, h)
@@ -144,8 +145,8 @@ typed-ends ty.Lint s e = let h = hash-ends (76 ∷ 73 ∷ 78 ∷ 84 ∷ []) s e 
 
 -- a literal begins with a digit, or with the word of a type
 literal-first : (t : Option Ty) (s : List ℕ) → BeginsLiteral t s → begins_token (slice_index s 0) ≡ true
-literal-first None s h = or-second (begins_word (slice_index s 0)) (is_ascii_digit (slice_index s 0)) _ h
-literal-first (Some t) s h = or-first (begins_word (slice_index s 0)) _ (typed-word t s h)
+literal-first None s h = or-second (is_letter (slice_index s 0)) (is_ascii_digit (slice_index s 0)) _ h
+literal-first (Some t) s h = or-first (is_letter (slice_index s 0)) _ (typed-word t s h)
 
 -- the literals of two types don't begin at one place
 literal-one : (t u : Option Ty) (s : List ℕ) → BeginsLiteral t s → BeginsLiteral u s → t ≡ u
@@ -267,11 +268,11 @@ symbol-front y m s e =
 one-byte : (m : ℕ) (s : List ℕ) → m ≤ length s → take m s ≡ codes "&" → m ≡ 1
 one-byte m s le e = omega (arith, ap length e, length-take m s)
 
-first-word : (m : ℕ) (s : List ℕ) → 0 < m → IsWord (take m s) → begins_word (slice_index s 0) ≡ true
-first-word m s some h = sym (ap begins_word (first-within m s some)) ∙ h.0
+first-word : (m : ℕ) (s : List ℕ) → 0 < m → IsWord (take m s) → is_letter (slice_index s 0) ≡ true
+first-word m s some h = sym (ap is_letter (first-within m s some)) ∙ h.0
 
-at-word : (m : ℕ) (s : List ℕ) → 0 < m → m ≤ length s → begins_word (slice_index s 0) ≡ true → ((t : Ty) → begins_typed t s ≡ false)
-    → 0 < prefix_len is_word s → Form (take m s) → m ≤ prefix_len is_word s
+at-word : (m : ℕ) (s : List ℕ) → 0 < m → m ≤ length s → is_letter (slice_index s 0) ≡ true → ((t : Ty) → begins_typed t s ≡ false)
+    → 0 < prefix_len is_letter_or_digit s → Form (take m s) → m ≤ prefix_len is_letter_or_digit s
 at-word m s some le b none n (a_word h) = run-most s m le h.1
 at-word m s some le b none n (an_ampersand e) = omega (arith, one-byte m s le e, n)
 at-word m s some le b none n (a_literal None v h) =
@@ -377,8 +378,8 @@ spelled-by opens.OrderMark p s n t b st some_of le = absurd (no-gap-token t st.1
 spelled-by (opens.Comment last) p s n t b st some_of le = absurd (no-gap-token t st.1)
 spelled-by opens.LineComment p s n t b st some_of le = absurd (no-gap-token t st.1)
 spelled-by opens.Word p s n t b st some_of le =
-    let first = ap begins_word (first-within n s some_of) ∙ b.0 in
-    let each = ap (λ k. list_all is_word (take k s)) st.0 ∙ all-of-run is_word s in
+    let first = ap is_letter (first-within n s some_of) ∙ b.0 in
+    let each = ap (λ k. list_all is_letter_or_digit (take k s)) st.0 ∙ all-of-run is_letter_or_digit s in
     word-spelled (take n s) t _ refl (first, each) st.1
 spelled-by (opens.Literal u) p s n t b st some_of le =
     let k = length (prefix u) in
@@ -405,9 +406,9 @@ gap-by opens.Blank p s n t b st = absurd (no-gap-token t st.1)
 gap-by opens.OrderMark p s n t b st = absurd (no-gap-token t st.1)
 gap-by (opens.Comment last) p s n t b st = absurd (no-gap-token t st.1)
 gap-by opens.LineComment p s n t b st = absurd (no-gap-token t st.1)
-gap-by opens.Word p s n t b st = no-gap-at p s (or-first (begins_word (slice_index s 0)) _ b.0)
+gap-by opens.Word p s n t b st = no-gap-at p s (or-first (is_letter (slice_index s 0)) _ b.0)
 gap-by (opens.Literal u) p s n t b st = no-gap-at p s (literal-first u s b)
-gap-by opens.Ampersand p s n t b st = no-gap-at p s (or-third (begins_word (slice_index s 0)) (is_ascii_digit (slice_index s 0)) _ b)
+gap-by opens.Ampersand p s n t b st = no-gap-at p s (or-third (is_letter (slice_index s 0)) (is_ascii_digit (slice_index s 0)) _ b)
 gap-by (opens.Symbol y) p s n t b st = b.0
 gap-by opens.Nothing p s n t b st = absurd st
 

@@ -8,6 +8,7 @@ use Rattle.std.proofs.lemmas.Bool.Decides.{nat_tests}
 use Rattle.std.proofs.lemmas.List.{take-append-drop}
 use Rattle.vcp_base.specs.declared.ty.Ty.{Ty}
 use Rattle.vcp_base.specs.declared.ty.Ty.TheVariants as ty
+use Rattle.vcp_base.specs.Names.{is_letter}
 use Rattle.st_lexer.specs.declared.token.Sym.{Sym}
 use Rattle.st_lexer.specs.declared.token.Sym.TheVariants as symbol
 use Rattle.st_lexer.specs.declared.token.Tok.{Tok}
@@ -16,7 +17,7 @@ use Rattle.st_lexer.specs.declared.piece.Found.{Found}
 use Rattle.st_lexer.specs.declared.piece.Found.TheVariants as found
 use Rattle.st_lexer.specs.declared.piece.Opening.{Opening}
 use Rattle.st_lexer.specs.declared.piece.Opening.TheVariants as opens
-use Rattle.st_lexer.specs.Literals.{begins_word, begins_typed}
+use Rattle.st_lexer.specs.Literals.{begins_typed}
 use Rattle.st_lexer.specs.Symbols.{begins, spelling, symbol_among, all_symbols}
 use Rattle.st_lexer.specs.Reading.{is_blank, order_mark, OpensComment, begins_gap, begins_token, Begins, Stands, Refuses, StandsAt, RefusedAt}
 use Rattle.st_lexer.specs.Pieces.{type_at, word_opening, symbol_opening, opening, Finds, FindsAt}
@@ -53,7 +54,7 @@ pub record NoGap (b : ℕ) : Type 0 where
   pub slash : nat_eq 47 b ≡ false
   pub mark : nat_eq 239 b ≡ false
 
-word-no-gap : (b : ℕ) → begins_word b ≡ true → NoGap b
+word-no-gap : (b : ℕ) → is_letter b ≡ true → NoGap b
 word-no-gap b e =
     record { blank = grind (arith, nat_tests); bracket = grind (arith, nat_tests); slash = grind (arith, nat_tests); mark = grind (arith, nat_tests) }
 
@@ -61,12 +62,12 @@ digit-no-gap : (b : ℕ) → is_ascii_digit b ≡ true → NoGap b
 digit-no-gap b e =
     record { blank = grind (arith, nat_tests); bracket = grind (arith, nat_tests); slash = grind (arith, nat_tests); mark = grind (arith, nat_tests) }
 
-pub digit-no-word : (b : ℕ) → is_ascii_digit b ≡ true → begins_word b ≡ false
+pub digit-no-word : (b : ℕ) → is_ascii_digit b ≡ true → is_letter b ≡ false
 digit-no-word b e = grind (arith, nat_tests)
 
 -- the first byte of a symbol
 pub record NoWord (b : ℕ) : Type 0 where
-  pub word : begins_word b ≡ false
+  pub word : is_letter b ≡ false
   pub digit : is_ascii_digit b ≡ false
   pub ampersand : (b == 38) ≡ false
 
@@ -130,7 +131,7 @@ typed-letter ty.Int b s e = (and-true (nat_eq (to_ascii_lowercase b) 105) _ e).0
 typed-letter ty.Dint b s e = (and-true (nat_eq (to_ascii_lowercase b) 100) _ e).0
 typed-letter ty.Lint b s e = (and-true (nat_eq (to_ascii_lowercase b) 108) _ e).0
 
-letter-word : (t : Ty) (b : ℕ) → nat_eq (to_ascii_lowercase b) (letter t) ≡ true → begins_word b ≡ true
+letter-word : (t : Ty) (b : ℕ) → nat_eq (to_ascii_lowercase b) (letter t) ≡ true → is_letter b ≡ true
 letter-word ty.Bool b e = grind (arith, nat_tests)
 letter-word ty.Int b e = grind (arith, nat_tests)
 letter-word ty.Dint b e = grind (arith, nat_tests)
@@ -143,7 +144,7 @@ typed-some ty.Dint e = cc
 typed-some ty.Lint e = cc
 
 -- a literal of a type begins with a letter
-pub typed-word : (t : Ty) (s : List ℕ) → begins_typed t s ≡ true → begins_word (slice_index s 0) ≡ true
+pub typed-word : (t : Ty) (s : List ℕ) → begins_typed t s ≡ true → is_letter (slice_index s 0) ≡ true
 typed-word t [] e = absurd (typed-some t e)
 typed-word t (b ∷ s) e = letter-word t b (typed-letter t b s e)
 
@@ -218,7 +219,7 @@ type-none s h =
 -- what begins where no gap does
 behind-gaps : ℕ → List ℕ → Opening
 behind-gaps b s =
-    cond (begins_word b) (word_opening (type_at s))
+    cond (is_letter b) (word_opening (type_at s))
     (cond (is_ascii_digit b) (opens.Literal None) (cond (b == 38) opens.Ampersand (symbol_opening (symbol_among all_symbols s))))
 
 behind-gap : (p : ℕ) (s : List ℕ) → begins_gap p s ≡ false → opening p s ≡ behind-gaps (slice_index s 0) s
@@ -239,13 +240,13 @@ ampersand-no-gap : (b : ℕ) → (b == 38) ≡ true → NoGap b
 ampersand-no-gap b e =
     record { blank = grind (arith, nat_tests); bracket = grind (arith, nat_tests); slash = grind (arith, nat_tests); mark = grind (arith, nat_tests) }
 
-pub ampersand-no-word : (b : ℕ) → (b == 38) ≡ true → (begins_word b ≡ false) × (is_ascii_digit b ≡ false)
+pub ampersand-no-word : (b : ℕ) → (b == 38) ≡ true → (is_letter b ≡ false) × (is_ascii_digit b ≡ false)
 ampersand-no-word b e = (grind (arith, nat_tests), grind (arith, nat_tests))
 
 -- where a token or a literal begins that is no symbol, no gap does
 pub no-gap-at : (p : ℕ) (s : List ℕ) → begins_token (slice_index s 0) ≡ true → begins_gap p s ≡ false
 no-gap-at p s e =
-    no-gap p s (token-no-gap (begins_word (slice_index s 0)) (is_ascii_digit (slice_index s 0)) (slice_index s 0 == 38) (slice_index s 0)
+    no-gap p s (token-no-gap (is_letter (slice_index s 0)) (is_ascii_digit (slice_index s 0)) (slice_index s 0 == 38) (slice_index s 0)
     (word-no-gap (slice_index s 0)) (digit-no-gap (slice_index s 0)) (ampersand-no-gap (slice_index s 0)) e)
   where
     token-no-gap : (t u v : Bool) (b : ℕ) → (t ≡ true → NoGap b) → (u ≡ true → NoGap b) → (v ≡ true → NoGap b) → t || (u || v) ≡ true → NoGap b
@@ -253,9 +254,9 @@ no-gap-at p s e =
     token-no-gap false true v b f g h e = g refl
     token-no-gap false false v b f g h e = h e
 
-opening-word : (p : ℕ) (s : List ℕ) → begins_word (slice_index s 0) ≡ true → opening p s ≡ word_opening (type_at s)
+opening-word : (p : ℕ) (s : List ℕ) → is_letter (slice_index s 0) ≡ true → opening p s ≡ word_opening (type_at s)
 unfolding behind-gaps
-opening-word p s e = behind-gap p s (no-gap p s (word-no-gap (slice_index s 0) e)) ∙ pick (begins_word (slice_index s 0)) _ _ e
+opening-word p s e = behind-gap p s (no-gap p s (word-no-gap (slice_index s 0) e)) ∙ pick (is_letter (slice_index s 0)) _ _ e
 
 opening-comment : (p last : ℕ) (s : List ℕ) → OpensComment last s → opening p s ≡ opens.Comment last
 unfolding opening
@@ -282,12 +283,12 @@ opening-mark p s z e =
 opening-symbol : (p : ℕ) (s : List ℕ) → begins_gap p s ≡ false → NoWord (slice_index s 0) → opening p s ≡ symbol_opening (symbol_among all_symbols s)
 unfolding behind-gaps
 opening-symbol p s gap w =
-    behind-gap p s gap ∙ skip (begins_word (slice_index s 0)) _ _ w.word ∙ skip (is_ascii_digit (slice_index s 0)) _ _ w.digit
+    behind-gap p s gap ∙ skip (is_letter (slice_index s 0)) _ _ w.word ∙ skip (is_ascii_digit (slice_index s 0)) _ _ w.digit
     ∙ skip (slice_index s 0 == 38) _ _ w.ampersand
 
 no-token : (b : ℕ) → begins_token b ≡ false → NoWord b
 no-token b e =
-    let a = or-false (begins_word b) _ e in
+    let a = or-false (is_letter b) _ e in
     let c = or-false (is_ascii_digit b) (b == 38) a.1 in record { word = a.0; digit = c.0; ampersand = c.1 }
 
 -- what begins is found
@@ -299,12 +300,12 @@ opening-is p s (opens.Comment last) h = opening-comment p last s h
 opening-is p s opens.LineComment h = opening-line p s h
 opening-is p s opens.Word h = opening-word p s h.0 ∙ ap word_opening (type-none s h.1)
 opening-is p s (opens.Literal None) h =
-    behind-gap p s (no-gap p s (digit-no-gap (slice_index s 0) h)) ∙ skip (begins_word (slice_index s 0)) _ _ (digit-no-word (slice_index s 0) h)
+    behind-gap p s (no-gap p s (digit-no-gap (slice_index s 0) h)) ∙ skip (is_letter (slice_index s 0)) _ _ (digit-no-word (slice_index s 0) h)
     ∙ pick (is_ascii_digit (slice_index s 0)) _ _ h
 opening-is p s (opens.Literal (Some t)) h = opening-word p s (typed-word t s h) ∙ ap word_opening (type-is t s h)
 opening-is p s opens.Ampersand h =
     let w = ampersand-no-word (slice_index s 0) h in
-    behind-gap p s (no-gap p s (ampersand-no-gap (slice_index s 0) h)) ∙ skip (begins_word (slice_index s 0)) _ _ w.0
+    behind-gap p s (no-gap p s (ampersand-no-gap (slice_index s 0) h)) ∙ skip (is_letter (slice_index s 0)) _ _ w.0
     ∙ skip (is_ascii_digit (slice_index s 0)) _ _ w.1 ∙ pick (slice_index s 0 == 38) _ _ h
 opening-is p s (opens.Symbol y) h = opening-symbol p s h.0 (begins-no-word y s (symbol-begins s y h.1)) ∙ ap symbol_opening h.1
 opening-is p s opens.Nothing h = opening-symbol p s h.0 (no-token (slice_index s 0) h.1) ∙ ap symbol_opening h.2
@@ -318,7 +319,7 @@ no-types s b i d l ty.Int = i
 no-types s b i d l ty.Dint = d
 no-types s b i d l ty.Lint = l
 
-word-begins : (p : ℕ) (s : List ℕ) → begins_word (slice_index s 0) ≡ true → Begins p s (word_opening (type_at s))
+word-begins : (p : ℕ) (s : List ℕ) → is_letter (slice_index s 0) ≡ true → Begins p s (word_opening (type_at s))
 unfolding type_at
 word-begins p s e =
     let P : Option Ty → Type 0 = λ o. Begins p s (word_opening o) in
@@ -342,7 +343,7 @@ opening-begins p s =
     (λ n2. chosen P (begins (codes "(*") s) _ _ (λ e. inl (refl, e))
     (λ n3. chosen P (begins (codes "/*") s) _ _ (λ e. inr (refl, e))
     (λ n4. chosen P (begins (codes "//") s) _ _ (λ e. e)
-    (λ n5. chosen P (begins_word (slice_index s 0)) _ _ (λ e. word-begins p s e)
+    (λ n5. chosen P (is_letter (slice_index s 0)) _ _ (λ e. word-begins p s e)
     (λ n6. chosen P (is_ascii_digit (slice_index s 0)) _ _ (λ e. e)
     (λ n7. chosen P (slice_index s 0 == 38) _ _ (λ e. e)
     (λ n8. symbol-or-nothing p s

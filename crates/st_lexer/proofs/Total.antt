@@ -6,6 +6,7 @@ use Rattle.std.specs.List.{prefix_len}
 use Rattle.std.proofs.str.Laws.{order}
 use Rattle.std.proofs.lemmas.Bool.Decides.{nat_tests}
 use Rattle.vcp_base.specs.declared.ty.Ty.{Ty}
+use Rattle.vcp_base.specs.Names.{is_letter_or_digit}
 use Rattle.st_lexer.specs.declared.fault.Reason.{Reason}
 use Rattle.st_lexer.specs.declared.fault.Reason.TheVariants as reason
 use Rattle.st_lexer.specs.declared.literal.Literal.{Literal}
@@ -15,7 +16,7 @@ use Rattle.st_lexer.specs.declared.token.Key.TheVariants as key
 use Rattle.st_lexer.specs.declared.token.Tok.{Tok}
 use Rattle.st_lexer.specs.declared.token.Tok.TheVariants as tok
 use Rattle.st_lexer.specs.declared.token.Token.{Token}
-use Rattle.st_lexer.specs.Literals.{is_word, literal_at, prefix}
+use Rattle.st_lexer.specs.Literals.{literal_at, prefix}
 use Rattle.st_lexer.specs.Spots.{is_not_lf}
 use Rattle.st_lexer.specs.Symbols.{spelling}
 use Rattle.st_lexer.specs.Words.{word}
@@ -73,7 +74,7 @@ decided (opens.Comment last) s = elim (search-mark last s (length s) 2 (omega ar
   | inr none ↦ inr (reason.Comment, (refl, none))
 ]
 decided opens.LineComment s = inl (prefix_len is_not_lf s, None, (refl, refl))
-decided opens.Word s = inl (prefix_len is_word s, Some (word (take (prefix_len is_word s) s)), (refl, refl))
+decided opens.Word s = inl (prefix_len is_letter_or_digit s, Some (word (take (prefix_len is_letter_or_digit s) s)), (refl, refl))
 decided (opens.Literal ty) s = literal-decided ty s _ refl
 decided opens.Ampersand s = inl (1, Some (tok.Key key.And), (refl, refl))
 decided (opens.Symbol y) s = inl (length (spelling y), Some (tok.Sym y), (refl, refl))

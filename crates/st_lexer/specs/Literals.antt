@@ -2,25 +2,18 @@
 use Rattle.std.specs.Prelude.{◌≡◌, ℕ, ℤ, pos, neg_ℤ, ◌+◌, ◌-◌, ◌*◌, ◌^◌, ◌==◌, Bool, true, false, ◌&&◌, ◌||◌, nat_lt, List, [], ◌∷◌, ◌++◌, length, take, drop}
 use Rattle.std.specs.Prelude.{slice_index, Option, Some, None, if◌then◌else◌, codes}
 use Rattle.std.specs.List.{prefix_len}
-use Rattle.std.specs.Char.{is_ascii_digit, is_ascii_alphabetic, is_ascii_uppercase, is_ascii_lowercase}
+use Rattle.std.specs.Char.{is_ascii_digit, is_ascii_uppercase, is_ascii_lowercase}
 use Rattle.std.specs.Str.{str_eq_ignore_ascii_case}
 use Rattle.vcp_base.specs.declared.ty.Ty.{Ty}
 use Rattle.vcp_base.specs.declared.ty.Ty.TheVariants as ty
 use Rattle.vcp_base.specs.Spellings.{ty_name}
+use Rattle.vcp_base.specs.Names.{is_letter_or_digit}
 use Rattle.st_lexer.specs.declared.literal.Literal.{Literal}
 use Rattle.st_lexer.specs.Symbols.{begins}
 
--- a letter or `_` (95)
-abbrev pub begins_word : ℕ → Bool
-begins_word b = is_ascii_alphabetic b || b == 95
-
--- a letter, a digit or `_`
-abbrev pub is_word : ℕ → Bool
-is_word b = begins_word b || is_ascii_digit b
-
 -- a letter, a digit, `_` or `#` (35): the bytes of a literal's run
 abbrev pub is_run : ℕ → Bool
-is_run b = is_word b || b == 35
+is_run b = is_letter_or_digit b || b == 35
 
 -- the value of a digit, in either case, and 36 where the byte is none
 unfoldable pub digit : ℕ → ℕ

@@ -3,12 +3,13 @@ use Rattle.std.specs.Prelude.{ℕ, ◌<◌, ◌≤◌, ◌==◌, ◌&&◌, List,
 use Rattle.std.specs.Char.{is_ascii_digit}
 use Rattle.vcp_base.specs.declared.ty.Ty.{Ty}
 use Rattle.vcp_base.specs.declared.ty.Ty.TheVariants as ty
+use Rattle.vcp_base.specs.Names.{is_letter}
 use Rattle.st_lexer.specs.declared.token.Sym.{Sym}
 use Rattle.st_lexer.specs.declared.piece.Found.{Found}
 use Rattle.st_lexer.specs.declared.piece.Found.TheVariants as found
 use Rattle.st_lexer.specs.declared.piece.Opening.{Opening}
 use Rattle.st_lexer.specs.declared.piece.Opening.TheVariants as opens
-use Rattle.st_lexer.specs.Literals.{begins_word, begins_typed}
+use Rattle.st_lexer.specs.Literals.{begins_typed}
 use Rattle.st_lexer.specs.Reading.{is_blank, order_mark, Stands, Refuses, StandsAt, RefusedAt}
 use Rattle.st_lexer.specs.Symbols.{all_symbols, begins, symbol_among}
 
@@ -39,7 +40,7 @@ opening p s =
     else (if begins (codes "(*") s then opens.Comment 41
     else (if begins (codes "/*") s then opens.Comment 47
     else (if begins (codes "//") s then opens.LineComment
-    else (if begins_word (slice_index s 0) then word_opening (type_at s)
+    else (if is_letter (slice_index s 0) then word_opening (type_at s)
     else (if is_ascii_digit (slice_index s 0) then opens.Literal None
     else (if slice_index s 0 == 38 then opens.Ampersand
     else symbol_opening (symbol_among all_symbols s))))))))

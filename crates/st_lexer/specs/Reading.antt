@@ -5,6 +5,7 @@ use Rattle.std.specs.List.{prefix_len}
 use Rattle.std.specs.Char.{is_ascii_digit}
 use Rattle.vcp_base.specs.declared.spot.Spot.{Spot}
 use Rattle.vcp_base.specs.declared.ty.Ty.{Ty}
+use Rattle.vcp_base.specs.Names.{is_letter, is_letter_or_digit}
 use Rattle.st_lexer.specs.declared.token.Key.TheVariants as key
 use Rattle.st_lexer.specs.declared.token.Tok.{Tok}
 use Rattle.st_lexer.specs.declared.token.Tok.TheVariants as tok
@@ -16,7 +17,7 @@ use Rattle.st_lexer.specs.declared.fault.LexFault.TheVariants as fault
 use Rattle.st_lexer.specs.declared.literal.Literal.{Literal}
 use Rattle.st_lexer.specs.declared.piece.Opening.{Opening}
 use Rattle.st_lexer.specs.declared.piece.Opening.TheVariants as opens
-use Rattle.st_lexer.specs.Literals.{begins_word, is_word, prefix, begins_typed, BeginsLiteral, literal_at}
+use Rattle.st_lexer.specs.Literals.{prefix, begins_typed, BeginsLiteral, literal_at}
 use Rattle.st_lexer.specs.Spots.{is_not_lf, spot_at}
 use Rattle.st_lexer.specs.Symbols.{all_symbols, begins, spelling, symbol_among}
 use Rattle.st_lexer.specs.Words.{word}
@@ -40,7 +41,7 @@ begins_gap p s =
 
 -- a byte with which a token begins that is no symbol: a word, a literal, or `&` (38)
 abbrev pub begins_token : ℕ → Bool
-begins_token b = begins_word b || (is_ascii_digit b || b == 38)
+begins_token b = is_letter b || (is_ascii_digit b || b == 38)
 
 -- What begins at place p of a text, where s is the text from there on. A symbol, the longest with which s begins, is one
 -- only where no gap begins; nothing begins where no gap, token or literal does.
@@ -49,7 +50,7 @@ Begins p s opens.Blank = is_blank (slice_index s 0) ≡ true
 Begins p s opens.OrderMark = (p ≡ 0) × (begins order_mark s ≡ true)
 Begins p s (opens.Comment last) = OpensComment last s
 Begins p s opens.LineComment = begins (codes "//") s ≡ true
-Begins p s opens.Word = (begins_word (slice_index s 0) ≡ true) × ((t : Ty) → begins_typed t s ≡ false)
+Begins p s opens.Word = (is_letter (slice_index s 0) ≡ true) × ((t : Ty) → begins_typed t s ≡ false)
 Begins p s (opens.Literal t) = BeginsLiteral t s
 Begins p s opens.Ampersand = (slice_index s 0 == 38) ≡ true
 Begins p s (opens.Symbol y) = (begins_gap p s ≡ false) × (symbol_among all_symbols s ≡ Some y)
@@ -71,7 +72,7 @@ Stands opens.Blank s n t = (n ≡ 1) × (t ≡ None)
 Stands opens.OrderMark s n t = (n ≡ 3) × (t ≡ None)
 Stands (opens.Comment last) s n t = ClosesFirst last s n × (t ≡ None)
 Stands opens.LineComment s n t = (n ≡ prefix_len is_not_lf s) × (t ≡ None)
-Stands opens.Word s n t = (n ≡ prefix_len is_word s) × (t ≡ Some (word (take n s)))
+Stands opens.Word s n t = (n ≡ prefix_len is_letter_or_digit s) × (t ≡ Some (word (take n s)))
 Stands (opens.Literal ty) s n t =
     (l : Literal) × (literal_at ty (drop (length (prefix ty)) s) ≡ Some l) × (n ≡ length (prefix ty) + l.len)
     × (t ≡ Some (tok.Number ty l.value))

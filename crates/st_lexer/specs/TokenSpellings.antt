@@ -2,16 +2,17 @@
 use Rattle.std.specs.Prelude.{◌≡◌, ◌⊎◌, ℕ, ℤ, ◌+◌, true, List, length, drop, slice_index, Option, Some, codes}
 use Rattle.std.specs.List.{list_all}
 use Rattle.vcp_base.specs.declared.ty.Ty.{Ty}
+use Rattle.vcp_base.specs.Names.{is_letter, is_letter_or_digit}
 use Rattle.st_lexer.specs.declared.token.Key.TheVariants as key
 use Rattle.st_lexer.specs.declared.token.Tok.{Tok}
 use Rattle.st_lexer.specs.declared.token.Tok.TheVariants as tok
-use Rattle.st_lexer.specs.Literals.{begins_word, is_word, prefix, BeginsLiteral, literal_at}
+use Rattle.st_lexer.specs.Literals.{prefix, BeginsLiteral, literal_at}
 use Rattle.st_lexer.specs.Symbols as symbols
 use Rattle.st_lexer.specs.Words.{word}
 
 -- a letter or `_`, and then letters, digits and `_`
 abbrev pub IsWord : List ℕ → Type 0
-IsWord w = (begins_word (slice_index w 0) ≡ true) × (list_all is_word w ≡ true)
+IsWord w = (is_letter (slice_index w 0) ≡ true) × (list_all is_letter_or_digit w ≡ true)
 
 -- one literal, of a type or of none, with this value
 abbrev pub IsLiteral : Option Ty → ℤ → List ℕ → Type 0

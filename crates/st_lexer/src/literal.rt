@@ -5,7 +5,7 @@ ghost use Rattle.std.specs.List.{prefix_len};
 ghost use Rattle.st_lexer.specs.Literals as spec;
 
 use crate::slices::{behind, first, front, same_word};
-use vcp_base::Ty;
+use vcp_base::{Ty, is_letter_or_digit};
 
 /// The value of a literal, and how many bytes it has, without its type and `#`.
 #[derive(Clone, Copy)]
@@ -14,24 +14,10 @@ pub struct Literal {
     pub len: usize,
 }
 
-/// Whether a word can begin with the byte: a letter or `_`.
-pub fn begins_word(b: u8) -> bool
-    ensures { result ≡ spec.begins_word b }
-{
-    b.is_ascii_alphabetic() || b == b'_'
-}
-
-/// Whether a word can have the byte: a letter, a digit or `_`.
-pub fn is_word(b: u8) -> bool
-    ensures { result ≡ spec.is_word b }
-{
-    begins_word(b) || b.is_ascii_digit()
-}
-
 fn is_run(b: u8) -> bool
     ensures { result ≡ spec.is_run b }
 {
-    is_word(b) || b == b'#'
+    is_letter_or_digit(b) || b == b'#'
 }
 
 // The value of a digit in either case; 36 where the byte is none.

@@ -3,7 +3,8 @@
 ghost use Rattle.std.specs.Prelude.{◌≡◌, ◌==◌, ◌&&◌, ◌∷◌, ◌+◌, ◌<◌, ◌≤◌, ℕ, length, take, IfSome, IfNone, Some, None};
 ghost use Rattle.std.specs.List.{prefix_len};
 ghost use Rattle.std.specs.Str.{str_eq_ignore_ascii_case};
-ghost use Rattle.st_lexer.specs.Literals.{prefix, is_word as is_word_byte};
+ghost use Rattle.vcp_base.specs.Names.{is_letter_or_digit as is_word_byte};
+ghost use Rattle.st_lexer.specs.Literals.{prefix};
 ghost use Rattle.st_lexer.specs.Spots.{is_not_lf};
 ghost use Rattle.st_lexer.specs.Symbols.{all_symbols, symbol_among, begins as begins_with};
 ghost use Rattle.st_lexer.specs.declared.piece.Opening.TheVariants.{Comment, Word, Literal};
@@ -11,12 +12,12 @@ ghost use Rattle.st_lexer.specs.Pieces as pieces;
 ghost use Rattle.st_lexer.specs.Reading as spec;
 
 use crate::fault::Reason;
-use crate::literal::{begins_word, is_word, literal_at};
+use crate::literal::literal_at;
 use crate::slices::{behind, first, front, same_word};
 use crate::symbols::{spelling, symbol_of};
 use crate::token::{Key, Sym, Tok};
 use crate::words::word_token;
-use vcp_base::Ty;
+use vcp_base::{Ty, is_letter, is_letter_or_digit};
 
 /// What begins at a place.
 #[derive(Clone, Copy)]
@@ -131,7 +132,7 @@ fn opening_at(at: usize, rest: &[u8]) -> Opening
         Opening::Comment(b'/')
     } else if rest.starts_with(b"//") {
         Opening::LineComment
-    } else if begins_word(first) {
+    } else if is_letter(first) {
         word_opening(rest)
     } else if first.is_ascii_digit() {
         Opening::Literal(None)
@@ -145,7 +146,7 @@ fn opening_at(at: usize, rest: &[u8]) -> Opening
 fn word_len(rest: &[u8]) -> usize
     ensures { result ≡ prefix_len is_word_byte rest.now }
 {
-    rest.iter().take_while(|b| is_word(**b)).count()
+    rest.iter().take_while(|b| is_letter_or_digit(**b)).count()
 }
 
 fn line_len(rest: &[u8]) -> usize

@@ -4,7 +4,6 @@ use Rattle.std.proofs.Common.{None, sym, refl, ap, ◌∙◌, subst, arith, leng
 use Rattle.std.specs.Prelude.{slice_index}
 use Rattle.std.specs.List.{list_all, prefix_len}
 use Rattle.std.specs.Char.{is_ascii_digit}
-use Rattle.std.proofs.lemmas.Bool.Decides.{nat_tests}
 use Rattle.std.proofs.lemmas.List.Elements.{All-nil, All-cons, All-append}
 use Rattle.vcp_base.specs.Limits.{most_source_bytes}
 use Rattle.vcp_base.specs.Names.{is_letter, is_letter_or_digit, is_name}
@@ -14,7 +13,6 @@ use Rattle.st_lexer.specs.declared.token.Tok.TheVariants as tok
 use Rattle.st_lexer.specs.declared.token.Token.{Token}
 use Rattle.st_lexer.specs.declared.piece.Opening.{Opening}
 use Rattle.st_lexer.specs.declared.piece.Opening.TheVariants as opens
-use Rattle.st_lexer.specs.Literals.{begins_word, is_word}
 use Rattle.st_lexer.specs.Reading.{Begins, Stands, StandsAt, Piece, Cover, token_of, tokens_of as tokens_of_pieces, Reads}
 use Rattle.st_tree.specs.Declarable.{IsDeclarable, AreDeclarable, HasNames}
 use Rattle.st_tree.specs.ProgramTree.{DeclaredTree, DeclTree, BlockTree, ProgramTree}
@@ -32,12 +30,6 @@ Says w (tok.Sym y) = Unit {0}
 
 -- ---- words
 
-letter : (b : ℕ) → begins_word b ≡ true → is_letter b ≡ true
-letter b h = grind (arith, nat_tests)
-
-letter-or-digit : (b : ℕ) → is_word b ≡ true → is_letter_or_digit b ≡ true
-letter-or-digit b h = grind (arith, nat_tests)
-
 one-more : (m b : ℕ) (s : List ℕ) → take (1 + m) (b ∷ s) ≡ b ∷ take m s
 one-more m b s = ap (λ k. take k (b ∷ s)) (let more : 1 + m ≡ suc m = omega arith in more)
 
@@ -48,22 +40,22 @@ word-byte : (t u : Bool) → t ≡ true → (t || u) ≡ true
 word-byte true u e = refl
 word-byte false u e = absurd cc
 
-all-with : (b : ℕ) (s : List ℕ) (t : Bool) → is_word b ≡ t → list_all is_letter_or_digit (take (prefix_len is_word s) s) ≡ true
-    → list_all is_letter_or_digit (take (cond t (1 + prefix_len is_word s) 0) (b ∷ s)) ≡ true
-all-with b s true e h = ap (list_all is_letter_or_digit) (one-more (prefix_len is_word s) b s) ∙ both-hold (is_letter_or_digit b) _ (letter-or-digit b e) h
+all-with : (b : ℕ) (s : List ℕ) (t : Bool) → is_letter_or_digit b ≡ t → list_all is_letter_or_digit (take (prefix_len is_letter_or_digit s) s) ≡ true
+    → list_all is_letter_or_digit (take (cond t (1 + prefix_len is_letter_or_digit s) 0) (b ∷ s)) ≡ true
+all-with b s true e h = ap (list_all is_letter_or_digit) (one-more (prefix_len is_letter_or_digit s) b s) ∙ both-hold (is_letter_or_digit b) _ e h
 all-with b s false e h = refl
 
 -- the bytes of a run are letters, digits and `_`
-run : (s : List ℕ) → list_all is_letter_or_digit (take (prefix_len is_word s) s) ≡ true
+run : (s : List ℕ) → list_all is_letter_or_digit (take (prefix_len is_letter_or_digit s) s) ≡ true
 run [] = refl
-run (b ∷ s) = all-with b s (is_word b) refl (run s)
+run (b ∷ s) = all-with b s (is_letter_or_digit b) refl (run s)
 
 -- a run that begins with a letter is a name
-run-is-name : (s : List ℕ) → begins_word (slice_index s 0) ≡ true → is_name (take (prefix_len is_word s) s) ≡ true
-run-is-name [] e = absurd (let none : begins_word (slice_index [] 0) ≡ false = refl in cc)
+run-is-name : (s : List ℕ) → is_letter (slice_index s 0) ≡ true → is_name (take (prefix_len is_letter_or_digit s) s) ≡ true
+run-is-name [] e = absurd (let none : is_letter (slice_index [] 0) ≡ false = refl in cc)
 run-is-name (b ∷ s) e =
-    let long : prefix_len is_word (b ∷ s) ≡ 1 + prefix_len is_word s = rw (word-byte (begins_word b) (is_ascii_digit b) e) refl in
-    ap is_name (ap (λ k. take k (b ∷ s)) long ∙ one-more (prefix_len is_word s) b s) ∙ both-hold (is_letter b) _ (letter b e) (run s)
+    let long : prefix_len is_letter_or_digit (b ∷ s) ≡ 1 + prefix_len is_letter_or_digit s = rw (word-byte (is_letter b) (is_ascii_digit b) e) refl in
+    ap is_name (ap (λ k. take k (b ∷ s)) long ∙ one-more (prefix_len is_letter_or_digit s) b s) ∙ both-hold (is_letter b) _ e (run s)
 
 -- ---- tokens
 

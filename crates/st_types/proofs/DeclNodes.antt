@@ -1,5 +1,5 @@
 -- DeclNodes: the steps of typing declarations, one after another.
-use Rattle.std.proofs.Common.{◌≡◌, ◌⊎◌, inl, inr, ℕ, ℤ, false, List, [], ◌∷◌, Option, Some, None, option_map, refl, sym, ap, ◌∙◌, subst}
+use Rattle.std.proofs.Common.{◌≡◌, ◌⊎◌, inl, inr, ℕ, ℤ, false, List, [], ◌∷◌, Option, Some, None, option_map, option_and_then, neg_ℤ, refl, sym, ap, ◌∙◌, subst}
 use Rattle.vcp_base.specs.declared.spot.Spot.{Spot}
 use Rattle.vcp_base.specs.declared.ty.Ty.{Ty}
 use Rattle.st_tree.specs.declared.expr.UnOp.{UnOp}
@@ -10,15 +10,15 @@ use Rattle.st_types.specs.declared.fault.Fault.{Fault}
 use Rattle.st_types.specs.declared.fault.Rule.TheVariants as rule
 use Rattle.st_types.specs.Faults.{fault}
 use Rattle.st_types.specs.Notes.{Notes}
-use Rattle.st_types.specs.Scope.{Entry}
-use Rattle.st_types.specs.StmtTyping.{Known, spot_of, known_negated, constant, form_of_known, form_of_negated, form}
-use Rattle.st_types.specs.ExprTyping.{Untyped, negated}
+use Rattle.st_types.specs.Scope.{Entry, find}
+use Rattle.st_types.specs.StmtTyping.{Known, Form, spot_of, form_of_entry, form_of_negated, form, known_form, constant}
+use Rattle.st_types.specs.ExprTyping.{both, sized, Untyped, negated, type_of}
 use Rattle.st_types.specs.DeclTyping.{Made, is_new, after_name, after_names, known_init, init_value, Misfit, NamesFault, InitFault, after_decl, DeclFault}
 use Rattle.st_types.specs.DeclTyping.{after_decls, DeclsFault, after_blocks, BlocksFault}
 use Rattle.st_types.specs.DeclSteps.{FormFault, Judges, InitForm, DeclForm, DeclsForm, BlocksForm, InitInside, DeclsInside, BlocksInside, JudgesInit, Makes}
 use Rattle.st_types.specs.DeclSteps.{MakesNames}
 use Rattle.st_types.proofs.NoteLaws.{quiet, pair, notes-as, note-where, note-always}
-use Rattle.st_types.proofs.ConstantLaws.{name-form, sign-form}
+use Rattle.st_types.proofs.ConstantLaws.{name-known, name-form, sign-known, sign-form}
 
 -- ---- faults inside initial values apart from other faults
 
@@ -89,20 +89,26 @@ pub literal-judges : (s : List Entry) (t : Option Ty) (v : ℤ) (p : Spot) (a : 
     → Judges s (literal t v p) a a k
 literal-judges s t v p a k is = record { notes = quiet a (FormFault s (literal t v p)) (λ f h. absurd cc); gives = is }
 
-pub name-judges : (s : List Entry) (n : List ℕ) (p : Spot) (a b : Option Fault) (k : Option Known) → k ≡ constant s (name n p)
+pub name-judges : (s : List Entry) (n : List ℕ) (p : Spot) (a b : Option Fault) (k : Option Known)
+    → k ≡ option_and_then (λ e. both known_form (form_of_entry e) (Some e.ty)) (find s n)
     → Notes a b (λ f. (f ≡ fault rule.Bound p) × (k ≡ None)) → Judges s (name n p) a b k
-name-judges s n p a b k is h = record {
-  notes = note-where a b (fault rule.Bound p) (k ≡ None) (form s (name n p) ≡ None) h (λ e. is ∙ name-form (constant s (name n p)) e)
-      (λ e. ap (option_map form_of_known) (sym is ∙ e));
-  gives = is;
-}
+name-judges s n p a b k is h =
+    let own : k ≡ constant s (name n p) = is ∙ name-known (find s n) in
+    record {
+      notes = note-where a b (fault rule.Bound p) (k ≡ None) (form s (name n p) ≡ None) h
+          (λ e. own ∙ ap (λ (o : Option Form). both known_form o (type_of s (name n p))) e)
+          (λ e. name-form (find s n) (sym own ∙ e));
+      gives = own;
+    }
 
 pub sign-judges : (s : List Entry) (op : UnOp) (x : ExprTree) (p : Spot) (a b : Option Fault) (l : Option Untyped) (k : Option Known) → l ≡ negated op x
-    → Notes a b (λ f. (f ≡ fault rule.Bound p) × (l ≡ None)) → k ≡ known_negated l → Judges s (unary op x p) a b k
+    → Notes a b (λ f. (f ≡ fault rule.Bound p) × (l ≡ None))
+    → k ≡ option_and_then (λ x. both known_form (Some (form_of_negated x)) (sized (neg_ℤ x.value))) l → Judges s (unary op x p) a b k
 sign-judges s op x p a b l k is h gives = record {
   notes = note-where a b (fault rule.Bound p) (l ≡ None) (form s (unary op x p) ≡ None) h (λ e. is ∙ sign-form (negated op x) e)
       (λ e. ap (option_map form_of_negated) (sym is ∙ e));
-  gives = gives ∙ ap known_negated is;
+  gives = gives ∙ ap (option_and_then (λ x. both known_form (Some (form_of_negated x)) (sized (neg_ℤ x.value)))) is
+      ∙ sign-known op (negated op x) (type_of s x);
 }
 
 -- what else is no constant form

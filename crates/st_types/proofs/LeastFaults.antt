@@ -5,7 +5,7 @@ use Rattle.std.specs.Prelude.{nat_lt}
 use Rattle.std.proofs.lemmas.Bool.Decides.{nat_tests}
 use Rattle.vcp_base.specs.declared.spot.Spot.{Spot}
 use Rattle.vcp_base.specs.declared.ty.Ty.{Ty}
-use Rattle.vcp_base.specs.Types.{within}
+use Rattle.vcp_base.specs.Types.{is_bool, within}
 use Rattle.st_tree.specs.declared.expr.UnOp.{UnOp}
 use Rattle.st_tree.specs.declared.expr.BinOp.{BinOp}
 use Rattle.st_tree.specs.declared.program.Class.{Class}
@@ -22,7 +22,7 @@ use Rattle.st_types.specs.Scope.{Entry, find}
 use Rattle.st_types.specs.ExprTyping.{sized, literal_type, Untyped, negated, called, function_type, type_of, types_of, Clash, Clashes, Misfits, SignFault}
 use Rattle.st_types.specs.ExprTyping.{CallFault, ExprFault, ExprsFault}
 use Rattle.st_types.specs.ExprTyping as typing
-use Rattle.st_types.specs.StmtTyping.{is_bool, spot_of, Known, form, form_number, not_zero, last_form, in_order, is_free, NameFault, entry_type, Narrows}
+use Rattle.st_types.specs.StmtTyping.{spot_of, Known, form, form_number, not_zero, form_label, is_free, NameFault, entry_type, Narrows}
 use Rattle.st_types.specs.StmtTyping.{NoTest, IsBool, BoundFault, StepFault, LastFault, LabelFault, LabelsFault, held_in, StmtFault, StmtsFault, ArmsFault}
 use Rattle.st_types.specs.StmtTyping.{BranchesFault, OtherFault}
 use Rattle.st_types.specs.DeclTyping.{Made, nothing_made, is_new, after_name, init_value, known_init, Misfit, NamesFault, ValueFault, InitFault, after_decl}
@@ -203,13 +203,10 @@ last-least s (Some e) = expr-least s e
 
 abbrev label-least : (s : List Entry) (t : Option Ty) (l : LabelTree) → Least (LabelFault s t l)
 label-least s t l =
-    or-least (ExprFault s l.first)
-    (λ f. LastFault s l.last f ⊎ ((f ≡ fault rule.Label (spot_of l.first)) × (in_order (form_number t (form s l.first)) (last_form s t l.last) ≡ false)))
+    or-least (ExprFault s l.first) (λ f. LastFault s l.last f ⊎ ((f ≡ fault rule.Label (spot_of l.first)) × (form_label s t l ≡ None)))
     (expr-least s l.first)
-    (or-least (LastFault s l.last) (λ f. (f ≡ fault rule.Label (spot_of l.first)) × (in_order (form_number t (form s l.first)) (last_form s t l.last) ≡ false))
-    (last-least s l.last)
-    (where-least (fault rule.Label (spot_of l.first)) (in_order (form_number t (form s l.first)) (last_form s t l.last) ≡ false)
-    (false-or (in_order (form_number t (form s l.first)) (last_form s t l.last)))))
+    (or-least (LastFault s l.last) (λ f. (f ≡ fault rule.Label (spot_of l.first)) × (form_label s t l ≡ None)) (last-least s l.last)
+    (where-least (fault rule.Label (spot_of l.first)) (form_label s t l ≡ None) (none-or (form_label s t l))))
 
 abbrev labels-least : (s : List Entry) (t : Option Ty) (ls : List LabelTree) → Least (LabelsFault s t ls)
 labels-least s t [] = none-least

@@ -8,7 +8,7 @@ use Rattle.std.proofs.lemmas.List.Elements.{All-nil, All-cons}
 use Rattle.vcp_base.specs.declared.spot.Spot.{Spot}
 use Rattle.vcp_base.specs.declared.ty.Ty.{Ty}
 use Rattle.vcp_base.specs.declared.ty.Ty.TheVariants as ty
-use Rattle.vcp_base.specs.Types.{fits, within}
+use Rattle.vcp_base.specs.Types.{fits, is_bool, within}
 use Rattle.vcp_base.specs.Kinds.{same}
 use Rattle.st_tree.specs.declared.expr.UnOp.{UnOp}
 use Rattle.st_tree.specs.declared.expr.UnOp.TheVariants as un
@@ -27,12 +27,16 @@ use Rattle.vcp_typed.specs.TStmtTree as checked
 use Rattle.vcp_typed.specs.Rules.{widens, joined, both_bool, joined_or_bool, common, signed, arguments}
 use Rattle.vcp_typed.specs.Checked.{ty_of, tys_of, is_set, IsExpr, AreExprs, MaySet, IsLabel, IsStmt, AreStmts, AreArms, AreBranches, IsOther}
 use Rattle.st_types.specs.Scope.{Entry, find}
-use Rattle.st_types.specs.ExprTyping.{both, sized, literal_type, Untyped, negated, called, function_type, type_of, got, as_type, widened, widened_all, sign_of}
+use Rattle.st_types.specs.ExprTyping.{both, sized, literal_type, Untyped, negated, called, function_type, sign_type, type_of, got, as_type, widened}
+use Rattle.st_types.specs.ExprTyping.{widened_all, sign_of}
 use Rattle.st_types.specs.ExprTyping.{operation_of, call_of, expr_of, exprs_of}
 use Rattle.st_types.specs.ExprTyping as typing
-use Rattle.st_types.specs.StmtTyping.{is_bool, is_constant, Known, known_entry, known_negated, constant, number_in, is_free, entry_type, not_zero, label_ends}
-use Rattle.st_types.specs.StmtTyping.{last_end, label_of, held_in, assign_of, test_of, selector_of, turns_of, step_of, for_of, arm_of, branch_of, case_of}
+use Rattle.st_types.specs.StmtTyping.{is_constant, Known, Form, form_of_entry, form_of_negated, form, known_form, constant, is_form_bool, form_number}
+use Rattle.st_types.specs.StmtTyping.{number_in, is_free}
+use Rattle.st_types.specs.StmtTyping.{entry_type, not_zero, label_ends, label_of, held_in, assign_of, test_of, selector_of, turns_of, step_of, for_of, arm_of}
+use Rattle.st_types.specs.StmtTyping.{branch_of, case_of}
 use Rattle.st_types.specs.StmtTyping.{labels_of, stmt_of, stmts_of, arms_of, branches_of, other_of, spot_of}
+use Rattle.st_types.proofs.ConstantLaws.{number-by}
 use Rattle.st_types.proofs.ExprLaws.{none-some, same-value, AllTaken, Takes, takes, type-is}
 use Rattle.st_types.proofs.TurnsFit.{turns-fit}
 
@@ -336,11 +340,12 @@ expr-checked slots s e t h is = if-some (IsExpr slots) (expr_of s e) t (expr-mad
 abbrev pub KnownFits : Option Known → Type 0
 KnownFits o = IfSome o (λ k. fits k.ty k.value ≡ true)
 
-known-literal : (v : ℤ) (o : Option Ty) → FitsTo v o → KnownFits (option_map (λ u. record { ty = u; value = v }) o)
-known-literal v None h = tt
-known-literal v (Some t) h = h
+known-literal : (v : ℤ) (t o : Option Ty) → FitsTo v o → KnownFits (both known_form (Some (record { ty = t; value = v })) o)
+known-literal v t None h = tt
+known-literal v t (Some u) h = h
 
-entry-known : (slots : List Slot) (e : Entry) (c : Class) → IsEntry slots e c → KnownFits (known_entry e c)
+entry-known : (slots : List Slot) (e : Entry) (c : Class) → IsEntry slots e c
+    → KnownFits (both known_form (cond (is_constant c) (Some (record { ty = Some e.ty; value = e.value })) None) (Some e.ty))
 entry-known slots e class.Constant h = h
 entry-known slots e class.Input h = tt
 entry-known slots e class.Output h = tt
@@ -348,19 +353,19 @@ entry-known slots e class.Local h = tt
 entry-known slots e class.Retain h = tt
 
 name-known : (slots : List Slot) (o : Option Entry) → ((e : Entry) → o ≡ Some e → IsEntry slots e e.class)
-    → KnownFits (option_and_then (λ e. known_entry e e.class) o)
+    → KnownFits (both known_form (option_and_then form_of_entry o) (option_map (λ e. e.ty) o))
 name-known slots None h = tt
 name-known slots (Some e) h = entry-known slots e e.class (h e refl)
 
-negated-known : (o : Option Untyped) → KnownFits (known_negated o)
-negated-known None = tt
-negated-known (Some l) = known-literal (neg_ℤ l.value) (sized (neg_ℤ l.value)) (sized-fits (neg_ℤ l.value))
+negated-known : (op : UnOp) (o : Option Untyped) (t : Option Ty) → KnownFits (both known_form (option_map form_of_negated o) (sign_type op o t))
+negated-known op None t = tt
+negated-known op (Some l) t = known-literal (neg_ℤ l.value) None (sized (neg_ℤ l.value)) (sized-fits (neg_ℤ l.value))
 
 -- a constant's value is in its type
 pub constant-fits : (slots : List Slot) (s : List Entry) (e : ExprTree) → IsScope slots s → KnownFits (constant s e)
-constant-fits slots s (literal t v spot) h = known-literal v (literal_type t v) (literal-fits t v)
+constant-fits slots s (literal t v spot) h = known-literal v t (literal_type t v) (literal-fits t v)
 constant-fits slots s (name n spot) h = name-known slots (find s n) (h n)
-constant-fits slots s (unary op a spot) h = negated-known (negated op a)
+constant-fits slots s (unary op a spot) h = negated-known op (negated op a) (type_of s a)
 constant-fits slots s (binary op a b spot) h = tt
 constant-fits slots s (call n es spot) h = tt
 
@@ -369,12 +374,15 @@ number-if t w true c e = tt
 number-if t w false false e = tt
 number-if t w false true e = e
 
-number-made : (t : Ty) (k : Option Known) → IfSome (number_in (Some t) k) (λ v. fits t v ≡ true)
-number-made t None = tt
-number-made t (Some k) = number-if t k.value (is_bool k.ty) (fits t k.value) refl
+form-made : (t : Ty) (k : Option Form) → IfSome (form_number (Some t) k) (λ v. fits t v ≡ true)
+form-made t None = tt
+form-made t (Some k) = number-if t k.value (is_form_bool k.ty) (fits t k.value) refl
 
-pub number-fits : (t : Ty) (k : Option Known) (v : ℤ) → number_in (Some t) k ≡ Some v → fits t v ≡ true
-number-fits t k v e = if-some (λ x. fits t x ≡ true) (number_in (Some t) k) v (number-made t k) e
+number-made : (s : List Entry) (t : Ty) (e : ExprTree) → IfSome (number_in s (Some t) e) (λ v. fits t v ≡ true)
+number-made s t e = number-by (λ (o : Option ℤ). IfSome o (λ v. fits t v ≡ true)) s (Some t) e tt (form-made t (form s e))
+
+pub number-fits : (s : List Entry) (t : Ty) (e : ExprTree) (v : ℤ) → number_in s (Some t) e ≡ Some v → fits t v ≡ true
+number-fits s t e v is = if-some (λ x. fits t x ≡ true) (number_in s (Some t) e) v (number-made s t e) is
 
 -- ---- statements
 
@@ -485,16 +493,18 @@ held-made slots held spot e v w q body true k h f g i j =
     let p = free-parts (is_free held e) (is_bool e.ty) k in
     (e.ty, may-set slots held e e.ty refl h p.0, number-joins e.ty p.1, f, turns-fit e.ty v w q i f g, held-free slots held e body p.0 j)
 
-for-made : (slots : List Slot) (held : List ℕ) (spot : Spot) (o : Option Entry) (k l : Option Known) (v w q : Option ℤ) (body : Option checked.TStmtTrees)
-    → ((e : Entry) → o ≡ Some e → IsEntry slots e e.class) → number_in (entry_type o) k ≡ v → number_in (entry_type o) l ≡ w → IfSome q (λ x. x ≡ pos 0 → ⊥)
-    → StmtsMade slots (held_in held o) body → StmtMade slots held (for_of held spot o v w q body)
-for-made slots held spot None k l v w q body h f g i j = tt
-for-made slots held spot (Some e) k l None w q body h f g i j = tt
-for-made slots held spot (Some e) k l (Some v) None q body h f g i j = tt
-for-made slots held spot (Some e) k l (Some v) (Some w) None body h f g i j = tt
-for-made slots held spot (Some e) k l (Some v) (Some w) (Some q) None h f g i j = tt
-for-made slots held spot (Some e) k l (Some v) (Some w) (Some q) (Some body) h f g i j =
-    held-made slots held spot e v w q body (is_free held e && not (is_bool e.ty)) refl (h e refl) (number-fits e.ty k v f) (number-fits e.ty l w g) i j
+for-made : (slots : List Slot) (held : List ℕ) (spot : Spot) (s : List Entry) (o : Option Entry) (first last : ExprTree) (v w q : Option ℤ)
+    (body : Option checked.TStmtTrees) → ((e : Entry) → o ≡ Some e → IsEntry slots e e.class) → number_in s (entry_type o) first ≡ v
+    → number_in s (entry_type o) last ≡ w → IfSome q (λ x. x ≡ pos 0 → ⊥) → StmtsMade slots (held_in held o) body
+    → StmtMade slots held (for_of held spot o v w q body)
+for-made slots held spot s None first last v w q body h f g i j = tt
+for-made slots held spot s (Some e) first last None w q body h f g i j = tt
+for-made slots held spot s (Some e) first last (Some v) None q body h f g i j = tt
+for-made slots held spot s (Some e) first last (Some v) (Some w) None body h f g i j = tt
+for-made slots held spot s (Some e) first last (Some v) (Some w) (Some q) None h f g i j = tt
+for-made slots held spot s (Some e) first last (Some v) (Some w) (Some q) (Some body) h f g i j =
+    held-made slots held spot e v w q body (is_free held e && not (is_bool e.ty)) refl (h e refl) (number-fits s e.ty first v f)
+    (number-fits s e.ty last w g) i j
 
 no-zero : (v : ℤ) (b : Bool) → same v (pos 0) ≡ b → IfSome (cond b None (Some v)) (λ x. x ≡ pos 0 → ⊥)
 no-zero v true e = tt
@@ -509,7 +519,7 @@ one-not-zero e = absurd cc
 
 step-made : (s : List Entry) (t : Option Ty) (by : Option ExprTree) → IfSome (step_of s t by) (λ x. x ≡ pos 0 → ⊥)
 step-made s t None = one-not-zero
-step-made s t (Some e) = not-zero-made (number_in t (constant s e))
+step-made s t (Some e) = not-zero-made (number_in s t e)
 
 -- ---- labels
 
@@ -528,14 +538,13 @@ ends-made t spot (Some a) None h k = record { first = h; last = h; order = order
 ends-made t spot (Some a) (Some None) h k = tt
 ends-made t spot (Some a) (Some (Some b)) h k = range-if t spot a b (int_le a b) refl h k
 
-last-made : (s : List Entry) (t : Ty) (last : Option ExprTree) → IfSome (last_end s (Some t) last) (λ o. IfSome o (λ v. fits t v ≡ true))
+last-made : (s : List Entry) (t : Ty) (last : Option ExprTree) → IfSome (option_map (number_in s (Some t)) last) (λ o. IfSome o (λ v. fits t v ≡ true))
 last-made s t None = tt
-last-made s t (Some e) = number-made t (constant s e)
+last-made s t (Some e) = number-made s t e
 
 label-made : (s : List Entry) (t : Ty) (l : LabelTree) → IfSome (label_of s (Some t) l) (IsLabel t)
 label-made s t l =
-    ends-made t (spot_of l.first) (number_in (Some t) (constant s l.first)) (last_end s (Some t) l.last) (number-made t (constant s l.first))
-    (last-made s t l.last)
+    ends-made t (spot_of l.first) (number_in s (Some t) l.first) (option_map (number_in s (Some t)) l.last) (number-made s t l.first) (last-made s t l.last)
 
 label-more : (t : Ty) (x : Option TLabel) (xs : Option (List TLabel)) → IfSome x (IsLabel t) → IfSome xs (All (IsLabel t))
     → IfSome (both (λ y ys. Some (y ∷ ys)) x xs) (All (IsLabel t))
@@ -593,8 +602,7 @@ mutual
       case-made slots held spot (expr_of s e) (type_of s e) (branches_of s held (type_of s e) branches) (other_of s held o) (type-is s e)
       (expr-made slots s e h) (λ u is. branches-made slots s held (type_of s e) u branches is h) (others-made slots s held o h)
   stmt-made slots s held (for_ n name_spot first last by body spot) h =
-      for-made slots held name_spot (find s n) (constant s first) (constant s last) (number_in (entry_type (find s n)) (constant s first))
-      (number_in (entry_type (find s n)) (constant s last))
+      for-made slots held name_spot s (find s n) first last (number_in s (entry_type (find s n)) first) (number_in s (entry_type (find s n)) last)
       (step_of s (entry_type (find s n)) by) (stmts_of s (held_in held (find s n)) body) (h n) refl refl (step-made s (entry_type (find s n)) by)
       (stmts-made slots s (held_in held (find s n)) body h)
 

@@ -1,11 +1,10 @@
 -- StmtLaws: statements have checked statements exactly where they have no fault.
-use Rattle.std.proofs.Common.{◌≡◌, ℕ, ℤ, neg_ℤ, ◌⊎◌, inl, inr, Bool, true, false, cond, not, ◌&&◌, List, [], ◌∷◌, Option, Some, None, option_map}
-use Rattle.std.proofs.Common.{option_and_then, int_le, refl, sym, ap, ap₂, ◌∙◌}
+use Rattle.std.proofs.Common.{◌≡◌, ℕ, ℤ, ◌⊎◌, inl, inr, Bool, true, false, cond, not, ◌&&◌, List, [], ◌∷◌, Option, Some, None, option_map}
+use Rattle.std.proofs.Common.{option_and_then, refl, sym, ap, ap₂, ◌∙◌}
 use Rattle.vcp_base.specs.declared.spot.Spot.{Spot}
 use Rattle.vcp_base.specs.declared.ty.Ty.{Ty}
-use Rattle.vcp_base.specs.Types.{within}
-use Rattle.st_tree.specs.declared.expr.UnOp.{UnOp}
-use Rattle.st_tree.specs.ExprTree.{ExprTree, literal, name, unary, binary, call}
+use Rattle.vcp_base.specs.Types.{is_bool, within}
+use Rattle.st_tree.specs.ExprTree.{ExprTree}
 use Rattle.st_tree.specs.StmtTree.{LabelTree, StmtTree, StmtTrees, ArmTrees, BranchTrees, OtherTree, assign, if_, case, for_, no_stmts, and_stmt, no_arms}
 use Rattle.st_tree.specs.StmtTree.{and_arm, no_branches, and_branch, no_other, other}
 use Rattle.vcp_typed.specs.declared.stmt.TLabel.{TLabel}
@@ -16,13 +15,13 @@ use Rattle.st_types.specs.declared.fault.Fault.{Fault}
 use Rattle.st_types.specs.declared.fault.Rule.TheVariants as rule
 use Rattle.st_types.specs.Faults.{fault}
 use Rattle.st_types.specs.Scope.{Entry, find}
-use Rattle.st_types.specs.ExprTyping.{both, Untyped, negated, type_of, SignFault, ExprFault, expr_of, widened}
-use Rattle.st_types.specs.StmtTyping.{is_bool, spot_of, known_entry, known_negated, constant, number_in, is_free, NameFault, entry_type, Narrows, NoTest}
-use Rattle.st_types.specs.StmtTyping.{IsBool, BoundFault, not_zero, step_in, StepFault, label_ends, last_end, in_order, label_of, LastFault, LabelFault}
+use Rattle.st_types.specs.ExprTyping.{both, type_of, ExprFault, expr_of, widened}
+use Rattle.st_types.specs.StmtTyping.{spot_of, number_in, is_free, NameFault, entry_type, Narrows, NoTest}
+use Rattle.st_types.specs.StmtTyping.{IsBool, BoundFault, not_zero, StepFault, label_ends, form_label, label_of, LastFault, LabelFault}
 use Rattle.st_types.specs.StmtTyping.{LabelsFault, held_in, StmtFault, StmtsFault, ArmsFault, BranchesFault, OtherFault, assign_of, test_of, selector_of}
 use Rattle.st_types.specs.StmtTyping.{turns_of, step_of, for_of, arm_of, branch_of, case_of, labels_of, stmt_of, stmts_of, arms_of, branches_of, other_of}
-use Rattle.st_types.proofs.ConstantLaws.{number-or, last-or}
-use Rattle.st_types.proofs.ExprLaws.{some-none, same-value, map-none, pair-none, pair-fault, typed-is, no-expr, fault-no-expr}
+use Rattle.st_types.proofs.ConstantLaws.{number-or, last-or, fault-no-number, number-by}
+use Rattle.st_types.proofs.ExprLaws.{none-some, some-none, same-value, map-none, pair-none, pair-fault, typed-is, no-expr, fault-no-expr}
 
 -- ---- conditions
 
@@ -60,98 +59,69 @@ not-false : (b : Bool) → not b ≡ false → b ≡ true
 not-false true e = refl
 not-false false e = absurd cc
 
--- ---- constants
-
-negated-fault : (op : UnOp) (l : Option Untyped) (t : Option Ty) (spot : Spot) (F : Fault → Type 0) (f : Fault) → SignFault op l t spot F f
-    → known_negated l ≡ None
-negated-fault op None t spot F f h = refl
-negated-fault op (Some l) t spot F f h = ap (option_map (λ t. record { ty = t; value = neg_ℤ l.value })) h.1
-
--- an expression with a fault is no constant
-pub fault-no-constant : (s : List Entry) (e : ExprTree) (f : Fault) → ExprFault s e f → constant s e ≡ None
-fault-no-constant s (literal t v spot) f h = ap (option_map (λ u. record { ty = u; value = v })) h.1
-fault-no-constant s (name n spot) f h = ap (option_and_then (λ e. known_entry e e.class)) h.1
-fault-no-constant s (unary op a spot) f h = negated-fault op (negated op a) (type_of s a) spot (ExprFault s a) f h
-fault-no-constant s (binary op a b spot) f h = refl
-fault-no-constant s (call n es spot) f h = refl
-
 -- ---- bounds and labels
 
-bound-none : (s : List Entry) (t : Option Ty) (e : ExprTree) → number_in t (constant s e) ≡ None → (f : Fault) × BoundFault s t e f
-bound-none s t e h = elim (number-or s t e) [
+bound-none : (s : List Entry) (t : Option Ty) (u : Ty) (e : ExprTree) → t ≡ Some u → number_in s t e ≡ None → (f : Fault) × BoundFault s t e f
+bound-none s t u e is h = elim (number-or s t u e is) [
   | inl same ↦ (fault rule.Bound (spot_of e), inr (refl, sym same ∙ h))
   | inr g ↦ (g.1.0, inl g.1.1)
 ]
 
-bound-fault : (s : List Entry) (t : Option Ty) (e : ExprTree) (f : Fault) → BoundFault s t e f → number_in t (constant s e) ≡ None
-bound-fault s t e f (inl h) = ap (number_in t) (fault-no-constant s e f h)
-bound-fault s t e f (inr h) = elim (number-or s t e) [ inl same ↦ same ∙ h.1 | inr g ↦ g.0 ]
+bound-fault : (s : List Entry) (t : Option Ty) (e : ExprTree) (f : Fault) → BoundFault s t e f → number_in s t e ≡ None
+bound-fault s t e f (inl h) = fault-no-number s t e f h
+bound-fault s t e f (inr h) = number-by (λ (o : Option ℤ). o ≡ None) s t e refl h.1
 
-step-none : (s : List Entry) (t : Option Ty) (by : Option ExprTree) → step_of s t by ≡ None → (f : Fault) × StepFault s t by f
-step-none s t None h = absurd cc
-step-none s t (Some e) h = elim (number-or s t e) [
+step-none : (s : List Entry) (t : Option Ty) (u : Ty) (by : Option ExprTree) → t ≡ Some u → step_of s t by ≡ None → (f : Fault) × StepFault s t by f
+step-none s t u None is h = absurd cc
+step-none s t u (Some e) is h = elim (number-or s t u e is) [
   | inl same ↦ (fault rule.Bound (spot_of e), inr (refl, sym (ap (option_and_then not_zero) same) ∙ h))
   | inr g ↦ (g.1.0, inl g.1.1)
 ]
 
 step-fault : (s : List Entry) (t : Option Ty) (by : Option ExprTree) (f : Fault) → StepFault s t by f → step_of s t by ≡ None
 step-fault s t None f h = absurd h
-step-fault s t (Some e) f (inl h) = ap (step_in t) (fault-no-constant s e f h)
-step-fault s t (Some e) f (inr h) = elim (number-or s t e) [
-  | inl same ↦ ap (option_and_then not_zero) same ∙ h.1
-  | inr g ↦ ap (option_and_then not_zero) g.0
-]
+step-fault s t (Some e) f (inl h) = ap (option_and_then not_zero) (fault-no-number s t e f h)
+step-fault s t (Some e) f (inr h) = number-by (λ (o : Option ℤ). option_and_then not_zero o ≡ None) s t e refl h.1
 
 no-last : (spot : Spot) (a : Option ℤ) → label_ends spot a (Some None) ≡ None
 no-last spot None = refl
 no-last spot (Some a) = refl
 
 last-fault : (s : List Entry) (t : Option Ty) (spot : Spot) (a : Option ℤ) (last : Option ExprTree) (f : Fault) → LastFault s last f
-    → label_ends spot a (last_end s t last) ≡ None
+    → label_ends spot a (option_map (number_in s t) last) ≡ None
 last-fault s t spot a None f h = absurd h
-last-fault s t spot a (Some e) f h = ap (λ k. label_ends spot a (Some (number_in t k))) (fault-no-constant s e f h) ∙ no-last spot a
+last-fault s t spot a (Some e) f h = ap (λ k. label_ends spot a (Some k)) (fault-no-number s t e f h) ∙ no-last spot a
 
--- there is no label exactly where its ends are no numbers in order
-ends-none : (spot : Spot) (a : Option ℤ) (b : Option (Option ℤ)) → label_ends spot a b ≡ None → in_order a b ≡ false
-ends-none spot None b h = refl
-ends-none spot (Some a) None h = absurd cc
-ends-none spot (Some a) (Some None) h = refl
-ends-none spot (Some a) (Some (Some b)) h = one-cond (int_le a b) _ h
-
-order-none : (spot : Spot) (a : Option ℤ) (b : Option (Option ℤ)) → in_order a b ≡ false → label_ends spot a b ≡ None
-order-none spot None b h = refl
-order-none spot (Some a) None h = absurd cc
-order-none spot (Some a) (Some None) h = refl
-order-none spot (Some a) (Some (Some b)) h = one-false (int_le a b) _ h
+-- where the forms of the ends are no label, there is none
+no-label : (s : List Entry) (t : Option Ty) (l : LabelTree) → form_label s t l ≡ None → label_of s t l ≡ None
+no-label s None l h = refl
+no-label s (Some t) l h = elim (number-or s (Some t) t l.first refl) [
+  | inr g ↦ ap (λ k. label_ends (spot_of l.first) k (option_map (number_in s (Some t)) l.last)) g.0
+  | inl same ↦ elim (last-or s (Some t) t l.last refl) [
+    | inr g ↦ ap (label_ends (spot_of l.first) (number_in s (Some t) l.first)) g.0 ∙ no-last (spot_of l.first) (number_in s (Some t) l.first)
+    | inl also ↦ (λ i. label_ends (spot_of l.first) (same i) (also i)) ∙ h
+  ]
+]
 
 label-fault : (s : List Entry) (t : Option Ty) (l : LabelTree) (f : Fault) → LabelFault s t l f → label_of s t l ≡ None
-label-fault s t l f (inl h) = ap (λ k. label_ends (spot_of l.first) (number_in t k) (last_end s t l.last)) (fault-no-constant s l.first f h)
-label-fault s t l f (inr (inl h)) = last-fault s t (spot_of l.first) (number_in t (constant s l.first)) l.last f h
-label-fault s t l f (inr (inr h)) = elim (number-or s t l.first) [
-  | inr g ↦ ap (λ k. label_ends (spot_of l.first) k (last_end s t l.last)) g.0
-  | inl same ↦ elim (last-or s t l.last) [
-    | inr g ↦ ap (λ k. label_ends (spot_of l.first) (number_in t (constant s l.first)) k) g.0 ∙ no-last (spot_of l.first) (number_in t (constant s l.first))
-    | inl also ↦ order-none (spot_of l.first) (number_in t (constant s l.first)) (last_end s t l.last) ((λ i. in_order (same i) (also i)) ∙ h.1)
-  ]
-]
+label-fault s t l f (inl h) = ap (λ k. label_ends (spot_of l.first) k (option_map (number_in s t) l.last)) (fault-no-number s t l.first f h)
+label-fault s t l f (inr (inl h)) = last-fault s t (spot_of l.first) (number_in s t l.first) l.last f h
+label-fault s t l f (inr (inr h)) = no-label s t l h.1
 
-label-none : (s : List Entry) (t : Option Ty) (l : LabelTree) → label_of s t l ≡ None → (f : Fault) × LabelFault s t l f
-label-none s t l h = elim (number-or s t l.first) [
+label-none : (s : List Entry) (t : Option Ty) (u : Ty) (l : LabelTree) → t ≡ Some u → label_of s t l ≡ None → (f : Fault) × LabelFault s t l f
+label-none s t u l is h = elim (number-or s t u l.first is) [
   | inr g ↦ (g.1.0, inl g.1.1)
-  | inl same ↦ elim (last-or s t l.last) [
+  | inl same ↦ elim (last-or s t u l.last is) [
     | inr g ↦ (g.1.0, inr (inl g.1.1))
-    | inl also ↦ (
-      fault rule.Label (spot_of l.first),
-      inr
-          (inr (refl, sym (λ i. in_order (same i) (also i)) ∙ ends-none (spot_of l.first) (number_in t (constant s l.first)) (last_end s t l.last) h)),
-    )
+    | inl also ↦ (fault rule.Label (spot_of l.first), inr (inr (refl, sym (λ i. label_ends (spot_of l.first) (same i) (also i)) ∙ h)))
   ]
 ]
 
-pub labels-none : (s : List Entry) (t : Option Ty) (ls : List LabelTree) → labels_of s t ls ≡ None → (f : Fault) × LabelsFault s t ls f
-labels-none s t [] h = let none : List TLabel = [] in absurd (some-none none h)
-labels-none s t (l ∷ ls) h =
-    pair-none (λ x xs. x ∷ xs) (label_of s t l) (labels_of s t ls) (LabelFault s t l) (LabelsFault s t ls) (label-none s t l) (labels-none s t ls) h
+pub labels-none : (s : List Entry) (t : Option Ty) (u : Ty) (ls : List LabelTree) → t ≡ Some u → labels_of s t ls ≡ None
+    → (f : Fault) × LabelsFault s t ls f
+labels-none s t u [] is h = let none : List TLabel = [] in absurd (some-none none h)
+labels-none s t u (l ∷ ls) is h =
+    pair-none (λ x xs. x ∷ xs) (label_of s t l) (labels_of s t ls) (LabelFault s t l) (LabelsFault s t ls) (label-none s t u l is) (labels-none s t u ls is) h
 
 pub labels-fault : (s : List Entry) (t : Option Ty) (ls : List LabelTree) (f : Fault) → LabelsFault s t ls f → labels_of s t ls ≡ None
 labels-fault s t [] f h = absurd h
@@ -181,16 +151,23 @@ selector-none : (spot : Spot) (x : Option typed.TExprTree) (t : Option Ty) (F : 
 selector-none spot None t F h e k = let g = h refl in (g.0, inl g.1)
 selector-none spot (Some x) t F h e k = (fault rule.Mismatch spot, inr (refl, (ty_of x, sym e, other-cond (is_bool (ty_of x)) x k)))
 
+-- a selector has a type
+selected : (x : Option typed.TExprTree) (t : Option Ty) (y : typed.TExprTree) → option_map ty_of x ≡ t → option_and_then selector_of x ≡ Some y
+    → (u : Ty) × (t ≡ Some u)
+selected None t y e k = absurd (none-some y k)
+selected (Some x) t y e k = (ty_of x, sym e)
+
 -- the first two of a sum of faults stand in brackets of their own
 regroup : (F M R : Type 0) → F ⊎ M → F ⊎ (M ⊎ R)
 regroup F M R (inl a) = inl a
 regroup F M R (inr b) = inr (inl b)
 
 case-none : (spot : Spot) (x : Option typed.TExprTree) (b : Option checked.TBranchTrees) (o : Option checked.TOtherTree) (F M G H : Fault → Type 0)
-    → (x ≡ None → (f : Fault) × (F f ⊎ M f)) → (b ≡ None → (f : Fault) × G f) → (o ≡ None → (f : Fault) × H f) → case_of spot x b o ≡ None
+    → (x ≡ None → (f : Fault) × (F f ⊎ M f)) → ((y : typed.TExprTree) → x ≡ Some y → b ≡ None → (f : Fault) × G f) → (o ≡ None → (f : Fault) × H f)
+    → case_of spot x b o ≡ None
     → (f : Fault) × (F f ⊎ (M f ⊎ (G f ⊎ H f)))
 case-none spot None b o F M G H h i j e = let g = h refl in (g.0, regroup (F g.0) (M g.0) (G g.0 ⊎ H g.0) g.1)
-case-none spot (Some x) None o F M G H h i j e = let g = i refl in (g.0, inr (inr (inl g.1)))
+case-none spot (Some x) None o F M G H h i j e = let g = i x refl refl in (g.0, inr (inr (inl g.1)))
 case-none spot (Some x) (Some b) None F M G H h i j e = let g = j refl in (g.0, inr (inr (inr g.1)))
 case-none spot (Some x) (Some b) (Some o) F M G H h i j e = absurd cc
 
@@ -211,13 +188,13 @@ branch-none (Some ls) (Some b) None F G H h i j e = let g = j refl in (g.0, inr 
 branch-none (Some ls) (Some b) (Some r) F G H h i j e = absurd cc
 
 for-none : (held : List ℕ) (spot : Spot) (o : Option Entry) (v w q : Option ℤ) (b : Option checked.TStmtTrees) (F G H I : Fault → Type 0)
-    → (v ≡ None → (f : Fault) × F f) → (w ≡ None → (f : Fault) × G f) → (q ≡ None → (f : Fault) × H f) → (b ≡ None → (f : Fault) × I f)
-    → for_of held spot o v w q b ≡ None
+    → ((x : Entry) → o ≡ Some x → v ≡ None → (f : Fault) × F f) → ((x : Entry) → o ≡ Some x → w ≡ None → (f : Fault) × G f)
+    → ((x : Entry) → o ≡ Some x → q ≡ None → (f : Fault) × H f) → (b ≡ None → (f : Fault) × I f) → for_of held spot o v w q b ≡ None
     → (f : Fault) × (NameFault held o spot f ⊎ (((f ≡ fault rule.Mismatch spot) × IsBool (entry_type o)) ⊎ (F f ⊎ (G f ⊎ (H f ⊎ I f)))))
 for-none held spot None v w q b F G H I k l m n e = (fault rule.Unknown spot, inl refl)
-for-none held spot (Some x) None w q b F G H I k l m n e = let g = k refl in (g.0, inr (inr (inl g.1)))
-for-none held spot (Some x) (Some v) None q b F G H I k l m n e = let g = l refl in (g.0, inr (inr (inr (inl g.1))))
-for-none held spot (Some x) (Some v) (Some w) None b F G H I k l m n e = let g = m refl in (g.0, inr (inr (inr (inr (inl g.1)))))
+for-none held spot (Some x) None w q b F G H I k l m n e = let g = k x refl refl in (g.0, inr (inr (inl g.1)))
+for-none held spot (Some x) (Some v) None q b F G H I k l m n e = let g = l x refl refl in (g.0, inr (inr (inr (inl g.1))))
+for-none held spot (Some x) (Some v) (Some w) None b F G H I k l m n e = let g = m x refl refl in (g.0, inr (inr (inr (inr (inl g.1)))))
 for-none held spot (Some x) (Some v) (Some w) (Some q) None F G H I k l m n e = let g = n refl in (g.0, inr (inr (inr (inr (inr g.1)))))
 for-none held spot (Some x) (Some v) (Some w) (Some q) (Some b) F G H I k l m n e =
     elim (both-conds (is_free held x) (not (is_bool x.ty)) (checked.for_ x.slot v q (turns_of v w q) b spot) e) [
@@ -234,14 +211,17 @@ mutual
   no-stmt s held (case e branches o spot) k =
       case-none spot (option_and_then selector_of (expr_of s e)) (branches_of s held (type_of s e) branches) (other_of s held o)
       (ExprFault s e) (λ f. (f ≡ fault rule.Mismatch spot) × IsBool (type_of s e)) (BranchesFault s held (type_of s e) branches) (OtherFault s held o)
-      (selector-none spot (expr_of s e) (type_of s e) (ExprFault s e) (no-expr s e) (typed-is s e)) (no-branches s held (type_of s e) branches)
+      (selector-none spot (expr_of s e) (type_of s e) (ExprFault s e) (no-expr s e) (typed-is s e))
+      (λ y is. let t = selected (expr_of s e) (type_of s e) y (typed-is s e) is in no-branches s held (type_of s e) t.0 branches t.1)
       (no-other s held o) k
   no-stmt s held (for_ n name_spot first last by body spot) k =
-      for-none held name_spot (find s n) (number_in (entry_type (find s n)) (constant s first)) (number_in (entry_type (find s n)) (constant s last))
+      for-none held name_spot (find s n) (number_in s (entry_type (find s n)) first) (number_in s (entry_type (find s n)) last)
       (step_of s (entry_type (find s n)) by) (stmts_of s (held_in held (find s n)) body)
       (BoundFault s (entry_type (find s n)) first) (BoundFault s (entry_type (find s n)) last) (StepFault s (entry_type (find s n)) by)
       (StmtsFault s (held_in held (find s n)) body)
-      (bound-none s (entry_type (find s n)) first) (bound-none s (entry_type (find s n)) last) (step-none s (entry_type (find s n)) by)
+      (λ x is. bound-none s (entry_type (find s n)) x.ty first (ap entry_type is))
+      (λ x is. bound-none s (entry_type (find s n)) x.ty last (ap entry_type is))
+      (λ x is. step-none s (entry_type (find s n)) x.ty by (ap entry_type is))
       (no-stmts s (held_in held (find s n)) body) k
 
   -- statements that aren't made have a fault
@@ -258,13 +238,13 @@ mutual
       (ExprFault s e) (λ f. (f ≡ fault rule.Mismatch spot) × NoTest (type_of s e)) (StmtsFault s held body) (ArmsFault s held arms)
       (test-none spot (expr_of s e) (type_of s e) (ExprFault s e) (no-expr s e) (typed-is s e)) (no-stmts s held body) (no-arms s held arms) k
 
-  pub no-branches : (s : List Entry) (held : List ℕ) (t : Option Ty) (branches : BranchTrees) → branches_of s held t branches ≡ None
+  pub no-branches : (s : List Entry) (held : List ℕ) (t : Option Ty) (u : Ty) (branches : BranchTrees) → t ≡ Some u → branches_of s held t branches ≡ None
       → (f : Fault) × BranchesFault s held t branches f
-  no-branches s held t no_branches k = absurd cc
-  no-branches s held t (and_branch ls body branches) k =
+  no-branches s held t u no_branches is k = absurd cc
+  no-branches s held t u (and_branch ls body branches) is k =
       branch-none (labels_of s t ls) (stmts_of s held body) (branches_of s held t branches)
       (LabelsFault s t ls) (StmtsFault s held body) (BranchesFault s held t branches)
-      (labels-none s t ls) (no-stmts s held body) (no-branches s held t branches) k
+      (labels-none s t u ls is) (no-stmts s held body) (no-branches s held t u branches is) k
 
   pub no-other : (s : List Entry) (held : List ℕ) (o : OtherTree) → other_of s held o ≡ None → (f : Fault) × OtherFault s held o f
   no-other s held no_other k = absurd cc
@@ -365,7 +345,7 @@ mutual
       (fault-no-selector s e f) (selector-fault spot (expr_of s e) (type_of s e) f (typed-is s e)) (fault-no-branches s held (type_of s e) branches f)
       (fault-no-other s held o f) k
   fault-no-stmt s held (for_ n name_spot first last by body spot) f k =
-      for-fault held name_spot (find s n) (number_in (entry_type (find s n)) (constant s first)) (number_in (entry_type (find s n)) (constant s last))
+      for-fault held name_spot (find s n) (number_in s (entry_type (find s n)) first) (number_in s (entry_type (find s n)) last)
       (step_of s (entry_type (find s n)) by) (stmts_of s (held_in held (find s n)) body) f
       (BoundFault s (entry_type (find s n)) first f) (BoundFault s (entry_type (find s n)) last f) (StepFault s (entry_type (find s n)) by f)
       (StmtsFault s (held_in held (find s n)) body f)

@@ -1,6 +1,7 @@
 -- StmtNodes: one lemma for each node of a statement: the faults of its parts, in order, and what they give.
 use Rattle.std.proofs.Common.{◌≡◌, ◌≢◌, ℕ, ℤ, pos, ◌⊎◌, List, [], ◌∷◌, ◌++◌, Bool, false, Option, Some, None, IfSome, option_map, option_and_then, refl, sym}
 use Rattle.std.proofs.Common.{ap, ap₂, ◌∙◌, subst}
+use Rattle.std.specs.Prelude.{is_some}
 use Rattle.vcp_base.specs.declared.spot.Spot.{Spot}
 use Rattle.vcp_base.specs.declared.ty.Ty.{Ty}
 use Rattle.st_tree.specs.ExprTree.{ExprTree}
@@ -19,29 +20,32 @@ use Rattle.st_types.specs.Notes.{Notes}
 use Rattle.st_types.specs.Scope.{Entry, find}
 use Rattle.st_types.specs.ExprTyping.{both, type_of, expr_of}
 use Rattle.st_types.specs.ExprSteps.{Types}
-use Rattle.st_types.specs.StmtTyping.{Known, Form, spot_of, constant, form, form_number, number_in, not_zero, step_of, NameFault, entry_type, Narrows, NoTest}
-use Rattle.st_types.specs.StmtTyping.{IsBool, BoundFault, StepFault, LastFault, last_end, last_form, in_order, label_ends, label_of, LabelsFault, held_in}
+use Rattle.st_types.specs.StmtTyping.{Form, spot_of, form, form_number, number_in, not_zero, step_of, NameFault, entry_type, Narrows, NoTest}
+use Rattle.st_types.specs.StmtTyping.{IsBool, BoundFault, StepFault, LastFault, label_ends, form_label, label_of, LabelsFault, held_in}
 use Rattle.st_types.specs.StmtTyping.{StmtsFault, stmts_of, ArmsFault, BranchesFault, OtherFault, assign_of, test_of, selector_of, for_of, arm_of, branch_of}
 use Rattle.st_types.specs.StmtTyping.{case_of}
-use Rattle.st_types.specs.StmtSteps.{Gives, literal_known, Numbers, Bounds, Steps, TypesLast, TypesLabel, TypesLabels, TypesStmt, TypesStmts, TypesArms}
+use Rattle.st_types.specs.StmtSteps.{Gives, Numbers, Bounds, Steps, TypesLast, TypesLabel, TypesLabels, TypesStmt, TypesStmts, TypesArms}
 use Rattle.st_types.specs.StmtSteps.{TypesBranches, TypesOther, stmt_after, label_after, arm_after, branch_after, if_of}
-use Rattle.st_types.proofs.ConstantLaws.{constant-is}
 use Rattle.st_types.proofs.ExprLaws.{typed-is}
 use Rattle.st_types.proofs.MadeChecked.{not-zero-made}
-use Rattle.st_types.proofs.NoteLaws.{quiet, pair}
+use Rattle.st_types.proofs.NoteLaws.{quiet, pair, note-where}
 
 own-type : (s : List Entry) (e : ExprTree) (x : Option typed.TExprTree) → x ≡ expr_of s e → option_map ty_of x ≡ type_of s e
 own-type s e x is = ap (option_map ty_of) is ∙ typed-is s e
 
 -- ---- constants
 
-pub numbers : (s : List Entry) (t : Option Ty) (e : ExprTree) (a b : Option Fault) (x : Option typed.TExprTree) (k : Option Known) (o : Option Form)
+pub numbers : (s : List Entry) (t : Option Ty) (e : ExprTree) (a b : Option Fault) (x : Option typed.TExprTree) (found : Option Ty) (o : Option Form)
     (w v : Option ℤ)
-    → Types s e a b x → k ≡ option_and_then literal_known x → (k ≡ constant s e → o ≡ form s e) → w ≡ form_number t o → v ≡ number_in t k
+    → Types s e a b x → found ≡ option_map ty_of x → o ≡ form s e → w ≡ form_number t o → v ≡ both (λ y u. form_number (Some y) o) t found
     → Numbers s t e a b (record { form = w; value = v })
-numbers s t e a b x k o w v h known formed fw fv =
-    let is : k ≡ constant s e = known ∙ ap (option_and_then literal_known) h.gives ∙ constant-is s e in
-    record { notes = h.notes; value = fv ∙ ap (number_in t) is; form = fw ∙ ap (form_number t) (formed is) }
+numbers s t e a b x found o w v h is formed fw fv =
+    let own : found ≡ type_of s e = is ∙ own-type s e x h.gives in
+    record {
+      notes = h.notes;
+      value = fv ∙ (λ i. both (λ y u. form_number (Some y) (formed i)) t (own i));
+      form = fw ∙ ap (form_number t) formed;
+    }
 
 pub bounds : (s : List Entry) (t : Option Ty) (e : ExprTree) (p : Spot) (a b c : Option Fault) (r : Number) → Numbers s t e a b r → p ≡ spot_of e
     → Notes b c (λ f. (f ≡ fault rule.Bound p) × (r.form ≡ None)) → Bounds s t e a c r.value
@@ -70,18 +74,23 @@ no-last s t a = record { notes = quiet a (LastFault s None) (λ f h. h); value =
 pub some-last : (s : List Entry) (t : Option Ty) (e : ExprTree) (a b : Option Fault) (r : Number) → Numbers s t e a b r → TypesLast s t (Some e) a b (Some r)
 some-last s t e a b r h = record { notes = h.notes; value = ap Some h.value; form = ap Some h.form }
 
+none-there : {A : Type 0} (o : Option A) → is_some o ≡ false → o ≡ None
+none-there None e = refl
+none-there (Some x) e = absurd cc
+
 pub label-types : (s : List Entry) (t : Option Ty) (l : LabelTree) (p : Spot) (a b c d : Option Fault) (v : Number) (w : Option Number)
     (x y : Option (Option ℤ)) (o : Bool) (r : Option TLabel)
     → Numbers s t l.first a b v → TypesLast s t l.last b c w → p ≡ spot_of l.first
-    → x ≡ option_map (λ n. n.form) w → o ≡ in_order v.form x → Notes c d (λ f. (f ≡ fault rule.Label p) × (o ≡ false))
+    → x ≡ option_map (λ n. n.form) w → ((q : Spot) → o ≡ is_some (label_ends q v.form x)) → Notes c d (λ f. (f ≡ fault rule.Label p) × (o ≡ false))
     → y ≡ option_map (λ n. n.value) w → r ≡ label_ends p v.value y → TypesLabel s t l a d r
 label-types s t l p a b c d v w x y o r h k at fx fo n fy is =
-    let forms : x ≡ last_form s t l.last = fx ∙ k.form in
-    let ends : y ≡ last_end s t l.last = fy ∙ k.value in
+    let forms : x ≡ option_map (λ e. form_number t (form s e)) l.last = fx ∙ k.form in
+    let ends : y ≡ option_map (number_in s t) l.last = fy ∙ k.value in
     let made : r ≡ label_of s t l = is ∙ (λ i. label_ends (at i) (h.value i) (ends i)) in
-    let ordered : o ≡ in_order (form_number t (form s l.first)) (last_form s t l.last) = fo ∙ (λ i. in_order (h.form i) (forms i)) in
+    let there : o ≡ is_some (form_label s t l) = fo (spot_of l.first) ∙ (λ i. is_some (label_ends (spot_of l.first) (h.form i) (forms i))) in
     let m = subst (λ q. Notes c d (λ f. (f ≡ fault rule.Label q) × (o ≡ false))) at n in
-    let z = subst (λ y. Notes c d (λ f. (f ≡ fault rule.Label (spot_of l.first)) × (y ≡ false))) ordered m in
+    let z = note-where c d (fault rule.Label (spot_of l.first)) (o ≡ false) (form_label s t l ≡ None) m (λ e. there ∙ ap is_some e)
+    (λ e. none-there (form_label s t l) (sym there ∙ e)) in
     record { notes = pair a b d _ _ h.notes (pair b c d _ _ k.notes z); gives = made }
 
 abbrev pub label_cons : TLabel → List TLabel → Option (List TLabel)
@@ -185,7 +194,7 @@ for-types s held n p q e f by body a b c d g h k o t inner v w u y r is ty1 in1 
           ⊎ (((m ≡ fault rule.Mismatch p) × IsBool t)
           ⊎ (BoundFault s t e m ⊎ (BoundFault s t f m ⊎ (StepFault s t by m ⊎ StmtsFault s z body m)))))) in2 all));
       gives = gives ∙ (λ i. for_of held p o (x1.gives i) (x2.gives i) (x3.gives i) (x4.gives i))
-          ∙ (λ i. for_of held p (is i) (number_in (ty2 i) (constant s e)) (number_in (ty2 i) (constant s f)) (step_of s (ty2 i) by) (stmts_of s (in2 i) body));
+          ∙ (λ i. for_of held p (is i) (number_in s (ty2 i) e) (number_in s (ty2 i) f) (step_of s (ty2 i) by) (stmts_of s (in2 i) body));
     }
 
 -- ---- lists

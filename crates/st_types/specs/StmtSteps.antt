@@ -9,13 +9,12 @@ use Rattle.vcp_typed.specs.declared.stmt.TLabel.{TLabel}
 use Rattle.vcp_typed.specs.TExprTree as typed
 use Rattle.vcp_typed.specs.TStmtTree as checked
 use Rattle.vcp_typed.specs.TStmtViews.{tstmts_and, tarms_and, tbranches_and}
-use Rattle.st_types.specs.declared.constants.Known.{Known}
 use Rattle.st_types.specs.declared.constants.Number.{Number}
 use Rattle.st_types.specs.declared.fault.Fault.{Fault}
 use Rattle.st_types.specs.Notes.{Notes}
 use Rattle.st_types.specs.Scope.{Entry}
 use Rattle.st_types.specs.ExprTyping.{ExprFault}
-use Rattle.st_types.specs.StmtTyping.{constant, form, form_number, number_in, step_of, BoundFault, StepFault, last_end, last_form, LastFault, label_of}
+use Rattle.st_types.specs.StmtTyping.{form, form_number, number_in, step_of, BoundFault, StepFault, LastFault, label_of}
 use Rattle.st_types.specs.StmtTyping.{LabelFault, labels_of, LabelsFault, StmtFault, stmt_of, StmtsFault, stmts_of, ArmsFault, arms_of, BranchesFault}
 use Rattle.st_types.specs.StmtTyping.{branches_of, OtherFault, other_of}
 
@@ -26,24 +25,15 @@ pub record Gives {A : Type 0} (F : Fault → Type 0) (w : A) (old new : Option F
 
 -- ---- constants
 
--- the type and value of a checked literal
-abbrev pub literal_known : typed.TExprTree → Option Known
-literal_known (typed.literal t v spot) = Some (record { ty = t; value = v })
-literal_known (typed.get slot t) = None
-literal_known (typed.widen t a) = None
-literal_known (typed.unary op t a spot) = None
-literal_known (typed.binary op t a b spot) = None
-literal_known (typed.call f t es spot) = None
-
--- an expression is typed where a number of the type is wanted: the number of the constant that it is, and that of its form
+-- an expression is typed where a number of the type is wanted: the number that it is, and that of its form
 pub record Numbers (s : List Entry) (t : Option Ty) (e : ExprTree) (old new : Option Fault) (r : Number) : Type 0 where
   pub notes : Notes old new (ExprFault s e)
-  pub value : r.value ≡ number_in t (constant s e)
+  pub value : r.value ≡ number_in s t e
   pub form : r.form ≡ form_number t (form s e)
 
 -- the bound of a FOR that an expression is
 abbrev pub Bounds : List Entry → Option Ty → ExprTree → Option Fault → Option Fault → Option ℤ → Type 0
-Bounds s t e old new r = Gives (BoundFault s t e) (number_in t (constant s e)) old new r
+Bounds s t e old new r = Gives (BoundFault s t e) (number_in s t e) old new r
 
 -- the step of a FOR
 abbrev pub Steps : List Entry → Option Ty → Option ExprTree → Option Fault → Option Fault → Option ℤ → Type 0
@@ -54,8 +44,8 @@ Steps s t e old new r = Gives (StepFault s t e) (step_of s t e) old new r
 -- the last end of a range, where there is one
 pub record TypesLast (s : List Entry) (t : Option Ty) (e : Option ExprTree) (old new : Option Fault) (r : Option Number) : Type 0 where
   pub notes : Notes old new (LastFault s e)
-  pub value : option_map (λ n. n.value) r ≡ last_end s t e
-  pub form : option_map (λ n. n.form) r ≡ last_form s t e
+  pub value : option_map (λ n. n.value) r ≡ option_map (number_in s t) e
+  pub form : option_map (λ n. n.form) r ≡ option_map (λ x. form_number t (form s x)) e
 
 abbrev pub TypesLabel : List Entry → Option Ty → LabelTree → Option Fault → Option Fault → Option TLabel → Type 0
 TypesLabel s t l old new r = Gives (LabelFault s t l) (label_of s t l) old new r

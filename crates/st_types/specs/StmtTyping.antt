@@ -4,8 +4,7 @@ use Rattle.std.specs.Prelude.{◌++◌, Option, Some, None, option_map, option_a
 use Rattle.std.specs.List.{list_any}
 use Rattle.vcp_base.specs.declared.spot.Spot.{Spot}
 use Rattle.vcp_base.specs.declared.ty.Ty.{Ty}
-use Rattle.vcp_base.specs.declared.ty.Ty.TheVariants as ty
-use Rattle.vcp_base.specs.Types.{fits, within}
+use Rattle.vcp_base.specs.Types.{fits, is_bool, within}
 use Rattle.vcp_base.specs.Kinds.{same}
 use Rattle.st_tree.specs.declared.program.Class.{Class}
 use Rattle.st_tree.specs.declared.program.Class.TheVariants as class
@@ -22,13 +21,7 @@ use Rattle.st_types.specs.declared.fault.Fault.{Fault}
 use Rattle.st_types.specs.declared.fault.Rule.TheVariants as rule
 use Rattle.st_types.specs.Faults.{fault}
 use Rattle.st_types.specs.Scope.{Entry, find}
-use Rattle.st_types.specs.ExprTyping.{both, sized, literal_type, Untyped, negated, type_of, ExprFault, expr_of, widened}
-
-abbrev pub is_bool : Ty → Bool
-is_bool ty.Bool = true
-is_bool ty.Int = false
-is_bool ty.Dint = false
-is_bool ty.Lint = false
+use Rattle.st_types.specs.ExprTyping.{both, Untyped, negated, type_of, ExprFault, expr_of, widened}
 
 abbrev pub spot_of : ExprTree → Spot
 spot_of (literal t v spot) = spot
@@ -39,27 +32,16 @@ spot_of (call n es spot) = spot
 
 -- ---- constants
 
-abbrev pub known_entry : Entry → Class → Option Known
-known_entry e class.Constant = Some (record { ty = e.ty; value = e.value })
-known_entry e class.Input = None
-known_entry e class.Output = None
-known_entry e class.Local = None
-known_entry e class.Retain = None
+abbrev pub is_constant : Class → Bool
+is_constant class.Input = false
+is_constant class.Output = false
+is_constant class.Local = false
+is_constant class.Retain = false
+is_constant class.Constant = true
 
-abbrev pub known_negated : Option Untyped → Option Known
-known_negated None = None
-known_negated (Some l) = option_map (λ t. record { ty = t; value = neg_ℤ l.value }) (sized (neg_ℤ l.value))
-
--- the constant that an expression is: a constant form without a fault, with its type
-abbrev pub constant : List Entry → ExprTree → Option Known
-constant s (literal t v spot) = option_map (λ u. record { ty = u; value = v }) (literal_type t v)
-constant s (name n spot) = option_and_then (λ e. known_entry e e.class) (find s n)
-constant s (unary op a spot) = known_negated (negated op a)
-constant s (binary op a b spot) = None
-constant s (call n es spot) = None
-
-abbrev pub form_of_known : Known → Form
-form_of_known k = record { ty = Some k.ty; value = k.value }
+-- the form of a declared constant; a variable has none
+abbrev pub form_of_entry : Entry → Option Form
+form_of_entry e = cond (is_constant e.class) (Some (record { ty = Some e.ty; value = e.value })) None
 
 abbrev pub form_of_negated : Untyped → Form
 form_of_negated l = record { ty = None; value = neg_ℤ l.value }
@@ -68,10 +50,17 @@ form_of_negated l = record { ty = None; value = neg_ℤ l.value }
 -- also where the literal is outside its type. Its type is the one that is written or declared.
 abbrev pub form : List Entry → ExprTree → Option Form
 form s (literal t v spot) = Some (record { ty = t; value = v })
-form s (name n spot) = option_map form_of_known (constant s (name n spot))
+form s (name n spot) = option_and_then form_of_entry (find s n)
 form s (unary op a spot) = option_map form_of_negated (negated op a)
 form s (binary op a b spot) = None
 form s (call n es spot) = None
+
+abbrev pub known_form : Form → Ty → Option Known
+known_form k t = Some (record { ty = t; value = k.value })
+
+-- the constant that an expression is: a constant form without a fault, with its type
+abbrev pub constant : List Entry → ExprTree → Option Known
+constant s e = both known_form (form s e) (type_of s e)
 
 -- a literal without a type is a number
 abbrev pub is_form_bool : Option Ty → Bool
@@ -84,24 +73,15 @@ form_number t None = None
 form_number None (Some k) = cond (is_form_bool k.ty) None (Some k.value)
 form_number (Some t) (Some k) = cond (is_form_bool k.ty) None (cond (fits t k.value) (Some k.value) None)
 
--- the number that a constant is, where it is no BOOL, and is in the type where there is one
-abbrev pub number_in : Option Ty → Option Known → Option ℤ
-number_in t None = None
-number_in None (Some k) = cond (is_bool k.ty) None (Some k.value)
-number_in (Some t) (Some k) = cond (is_bool k.ty) None (cond (fits t k.value) (Some k.value) None)
+-- the number of the type that an expression is, by its form; none where the expression has a fault, or there is no type
+abbrev pub number_in : List Entry → Option Ty → ExprTree → Option ℤ
+number_in s t e = both (λ x u. form_number (Some x) (form s e)) t (type_of s e)
 
 -- ---- names that are set
 
 -- the variable may be set inside FORs over the slots `held`
 abbrev pub is_free : List ℕ → Entry → Bool
 is_free held e = is_set e.class && not (list_any (λ n. n == e.slot) held)
-
-abbrev pub is_constant : Class → Bool
-is_constant class.Input = false
-is_constant class.Output = false
-is_constant class.Local = false
-is_constant class.Retain = false
-is_constant class.Constant = true
 
 -- f is a fault of a name that is set, which stands for this
 abbrev pub NameFault : List ℕ → Option Entry → Spot → Fault → Type 0
@@ -132,10 +112,6 @@ BoundFault s t e f = ExprFault s e f ⊎ ((f ≡ fault rule.Bound (spot_of e)) �
 abbrev pub not_zero : ℤ → Option ℤ
 not_zero v = cond (same v (pos 0)) None (Some v)
 
--- the step that a constant is
-abbrev pub step_in : Option Ty → Option Known → Option ℤ
-step_in t k = option_and_then not_zero (number_in t k)
-
 abbrev pub StepFault : List Entry → Option Ty → Option ExprTree → Fault → Type 0
 StepFault s t None f = ⊥
 StepFault s t (Some e) f =
@@ -145,31 +121,20 @@ StepFault s t (Some e) f =
 abbrev pub range_of : Spot → ℤ → ℤ → Option TLabel
 range_of spot a b = cond (int_le a b) (Some (record { first = a; last = b; range = true; spot = spot })) None
 
--- the checked label of a selector of this type, where it has one
+-- the label of these ends, where they are numbers in order; a label of one value has no last end
 abbrev pub label_ends : Spot → Option ℤ → Option (Option ℤ) → Option TLabel
 label_ends spot None b = None
 label_ends spot (Some a) None = Some (record { first = a; last = a; range = false; spot = spot })
 label_ends spot (Some a) (Some None) = None
 label_ends spot (Some a) (Some (Some b)) = range_of spot a b
 
-abbrev pub last_end : List Entry → Option Ty → Option ExprTree → Option (Option ℤ)
-last_end s t None = None
-last_end s t (Some e) = Some (number_in t (constant s e))
+-- the label that the forms of its ends are
+abbrev pub form_label : List Entry → Option Ty → LabelTree → Option TLabel
+form_label s t l = label_ends (spot_of l.first) (form_number t (form s l.first)) (option_map (λ e. form_number t (form s e)) l.last)
 
+-- the checked label of a selector of this type, where it has one
 abbrev pub label_of : List Entry → Option Ty → LabelTree → Option TLabel
-label_of s t l = label_ends (spot_of l.first) (number_in t (constant s l.first)) (last_end s t l.last)
-
--- the number that the form of a range's last end is
-abbrev pub last_form : List Entry → Option Ty → Option ExprTree → Option (Option ℤ)
-last_form s t None = None
-last_form s t (Some e) = Some (form_number t (form s e))
-
--- the ends are numbers, and the first isn't above the last
-abbrev pub in_order : Option ℤ → Option (Option ℤ) → Bool
-in_order None b = false
-in_order (Some a) None = true
-in_order (Some a) (Some None) = false
-in_order (Some a) (Some (Some b)) = int_le a b
+label_of s t l = label_ends (spot_of l.first) (number_in s t l.first) (option_map (number_in s t) l.last)
 
 abbrev pub LastFault : List Entry → Option ExprTree → Fault → Type 0
 LastFault s None f = ⊥
@@ -179,7 +144,7 @@ abbrev pub LabelFault : List Entry → Option Ty → LabelTree → Fault → Typ
 LabelFault s t l f =
     ExprFault s l.first f
     ⊎ (LastFault s l.last f
-    ⊎ ((f ≡ fault rule.Label (spot_of l.first)) × (in_order (form_number t (form s l.first)) (last_form s t l.last) ≡ false)))
+    ⊎ ((f ≡ fault rule.Label (spot_of l.first)) × (form_label s t l ≡ None)))
 
 abbrev pub LabelsFault : List Entry → Option Ty → List LabelTree → Fault → Type 0
 LabelsFault s t [] f = ⊥
@@ -255,7 +220,7 @@ turns_of first last by = cond (begins first last by) (unsigned_abs (last -ℤ fi
 -- the step, 1 where none is given
 abbrev pub step_of : List Entry → Option Ty → Option ExprTree → Option ℤ
 step_of s t None = Some (pos 1)
-step_of s t (Some e) = step_in t (constant s e)
+step_of s t (Some e) = option_and_then not_zero (number_in s t e)
 
 abbrev pub for_of : List ℕ → Spot → Option Entry → Option ℤ → Option ℤ → Option ℤ → Option checked.TStmtTrees → Option checked.TStmtTree
 for_of held spot (Some e) (Some first) (Some last) (Some by) (Some body) =
@@ -287,8 +252,8 @@ abbrev mutual
       case_of spot (option_and_then selector_of (expr_of s e)) (branches_of s held (type_of s e) branches) (other_of s held o)
   stmt_of s held (for_ n name_spot first last by body spot) =
       for_of held name_spot (find s n)
-      (number_in (entry_type (find s n)) (constant s first))
-      (number_in (entry_type (find s n)) (constant s last))
+      (number_in s (entry_type (find s n)) first)
+      (number_in s (entry_type (find s n)) last)
       (step_of s (entry_type (find s n)) by)
       (stmts_of s (held_in held (find s n)) body)
 

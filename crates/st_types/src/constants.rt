@@ -1,24 +1,25 @@
 //! Constants: the bounds and steps of FORs, and the ends of labels.
 
-ghost use Rattle.std.specs.Prelude.{◌≡◌, ◌≢◌, pos, IfOk, IfSome, List, None, option_map, option_and_then};
+ghost use Rattle.std.specs.Prelude.{◌≡◌, ◌≢◌, pos, IfOk, IfSome, None, Some, option_map, option_and_then};
 ghost use Rattle.st_tree.specs.ExprViews.{expr_tree, expr_tree_or_none};
-ghost use Rattle.vcp_typed.specs.TExprViews.{texpr_tree};
 ghost use Rattle.st_types.specs.declared.fault.Rule.TheVariants as rule_;
+ghost use Rattle.st_types.specs.ExprTyping.{both};
 ghost use Rattle.st_types.specs.Faults.{fault};
-ghost use Rattle.st_types.specs.Scope.{Entry as Entry_};
 ghost use Rattle.st_types.specs.Notes.{Notes};
-ghost use Rattle.st_types.specs.StmtTyping.{is_bool as is_bool_of, spot_of as spot_of_tree, constant, form as form_of_tree, form_of_known as form_of_constant};
-ghost use Rattle.st_types.specs.StmtTyping.{form_of_negated as negated_form, is_form_bool as is_form_bool_of, form_number as form_number_of};
-ghost use Rattle.st_types.specs.StmtTyping.{number_in as number_in_of, not_zero as not_zero_of};
-ghost use Rattle.st_types.specs.StmtSteps.{literal_known as literal_known_of, Numbers, Bounds, Steps};
+ghost use Rattle.st_types.specs.Scope.{find};
+ghost use Rattle.st_types.specs.StmtTyping.{spot_of as spot_of_tree, form_of_entry as entry_form, form_of_negated as negated_form, form as form_of_tree};
+ghost use Rattle.st_types.specs.StmtTyping.{is_form_bool as is_form_bool_of, form_number as form_number_of, not_zero as not_zero_of};
+ghost use Rattle.st_types.specs.StmtSteps.{Numbers, Bounds, Steps};
 
 use crate::environment::Environment;
 use crate::fault::{Fault, Rule};
 use crate::literal::{Untyped, negated};
+use crate::names::{Entry, Names};
 use crate::note::note;
+use crate::operator::type_of;
+use crate::variable::is_constant;
 use st_tree::Expr;
-use vcp_base::{Memory, Spot, Ty, fits};
-use vcp_typed::TExpr;
+use vcp_base::{Memory, Spot, Ty, fits, is_bool};
 
 /// The value of a constant form, with its type.
 #[derive(Clone, Copy, Drop)]
@@ -34,24 +35,12 @@ pub struct Form {
     pub value: i128,
 }
 
-/// What stands where a number of a type is wanted: the number of the constant form, and the same where there is no
-/// fault inside it.
+/// What stands where a number of a type is wanted: the number of the constant form, and the same where there is a type
+/// and no fault inside the expression.
 #[derive(Clone, Copy, Drop)]
 pub struct Number {
     pub form: Option<i128>,
     pub value: Option<i64>,
-}
-
-/// Whether the type is BOOL.
-pub(crate) fn is_bool(ty: Ty) -> bool
-    ensures { result ≡ is_bool_of ty }
-{
-    match ty {
-        Ty::Bool => true,
-        Ty::Int => false,
-        Ty::Dint => false,
-        Ty::Lint => false,
-    }
 }
 
 /// The spot of an expression.
@@ -67,50 +56,27 @@ pub(crate) fn spot_of(e: &Expr) -> Spot
     }
 }
 
-// The type and value of a checked expression that is a literal.
-fn literal_known(e: Option<TExpr>) -> Option<Known>
-    ensures { result ≡ option_and_then literal_known_of (option_map texpr_tree e) }
+// The form of a declared constant; a variable has none.
+fn form_of_entry(e: &Entry) -> Option<Form>
+    ensures { result ≡ entry_form e.now }
 {
-    let e = e?;
-    match e {
-        TExpr::Lit { ty, value, .. } => Some(Known { ty, value }),
-        TExpr::Get { .. } => None,
-        TExpr::Widen { .. } | TExpr::Unary { .. } | TExpr::Binary { .. } | TExpr::Call { .. } => {
-            drop(e);
-            None
-        }
-    }
-}
-
-// The number that a constant is, where it is no BOOL, and is in the type where there is one.
-fn number_in(ty: Option<Ty>, known: Option<Known>) -> Option<i64>
-    ensures { result ≡ number_in_of ty known }
-{
-    let known = known?;
-    if is_bool(known.ty) {
+    if !is_constant(e.class) {
         return None;
     }
-    match ty {
-        None => Some(known.value),
-        Some(ty) => {
-            if fits(ty, i128::from(known.value)) {
-                Some(known.value)
-            } else {
-                None
-            }
-        }
-    }
+    Some(Form {
+        ty: Some(e.ty),
+        value: i128::from(e.value),
+    })
 }
 
-// The form of a name that stands for this constant.
-fn form_of_known(known: Option<Known>) -> Option<Form>
-    ensures { result ≡ option_map form_of_constant known }
+// The form of a name.
+fn form_of_name(names: &Names, name: &[u8]) -> Result<Option<Form>, Memory>
+    ensures { IfOk result (λ r. r ≡ option_and_then entry_form (find names.now name.now)) }
 {
-    let known = known?;
-    Some(Form {
-        ty: Some(known.ty),
-        value: i128::from(known.value),
-    })
+    match names.find(name)? {
+        None => Ok(None),
+        Some(e) => Ok(form_of_entry(e)),
+    }
 }
 
 // The form of a `-`: only a literal without a type may stand behind it.
@@ -124,19 +90,19 @@ fn form_of_negated(l: Option<Untyped>) -> Option<Form>
     })
 }
 
-// The constant form that an expression is, which stands for this constant where it has no fault.
-fn form_of(e: &Expr, known: Option<Known>) -> Option<Form>
-    ensures { (s : List Entry_) → known ≡ constant s (expr_tree e.now) → result ≡ form_of_tree s (expr_tree e.now) }
+// The constant form that an expression is.
+fn form_of(names: &Names, e: &Expr) -> Result<Option<Form>, Memory>
+    ensures { IfOk result (λ r. r ≡ form_of_tree names.now (expr_tree e.now)) }
 {
     match e {
-        Expr::Lit { ty, value, .. } => Some(Form {
+        Expr::Lit { ty, value, .. } => Ok(Some(Form {
             ty: *ty,
             value: i128::from(*value),
-        }),
-        Expr::Name { .. } => form_of_known(known),
-        Expr::Unary { op, arg, .. } => form_of_negated(negated(*op, arg)),
-        Expr::Binary { .. } => None,
-        Expr::Call { .. } => None,
+        })),
+        Expr::Name { name, .. } => form_of_name(names, name.bytes()),
+        Expr::Unary { op, arg, .. } => Ok(form_of_negated(negated(*op, arg))),
+        Expr::Binary { .. } => Ok(None),
+        Expr::Call { .. } => Ok(None),
     }
 }
 
@@ -150,23 +116,44 @@ fn is_form_bool(ty: Option<Ty>) -> bool
     }
 }
 
+// The number of the type that a form is.
+fn number_of(ty: Ty, form: Form) -> Option<i64>
+    ensures { result ≡ form_number_of (Some ty) (Some form) }
+{
+    if is_form_bool(form.ty) {
+        return None;
+    }
+    if fits(ty, form.value) {
+        Some(form.value as i64)
+    } else {
+        None
+    }
+}
+
 // The number that a form is, where it is no BOOL, and is in the type where there is one.
 fn form_number(ty: Option<Ty>, form: Option<Form>) -> Option<i128>
     ensures { result ≡ form_number_of ty form }
 {
     let form = form?;
-    if is_form_bool(form.ty) {
-        return None;
-    }
     match ty {
-        None => Some(form.value),
-        Some(ty) => {
-            if fits(ty, form.value) {
-                Some(form.value)
-            } else {
+        None => {
+            if is_form_bool(form.ty) {
                 None
+            } else {
+                Some(form.value)
             }
         }
+        Some(ty) => Some(i128::from(number_of(ty, form)?)),
+    }
+}
+
+// The same of an expression of the type `found`, where both types are there.
+fn number_in(ty: Option<Ty>, found: Option<Ty>, form: Option<Form>) -> Option<i64>
+    ensures { result ≡ both (λ t u. form_number_of (Some t) form) ty found }
+{
+    match (ty, found, form) {
+        (Some(ty), Some(_), Some(form)) => number_of(ty, form),
+        _ => None,
     }
 }
 
@@ -207,10 +194,12 @@ impl Environment<'_> {
         ensures { IfOk result (λ r. Numbers self.now.names.now ty (expr_tree e.now) first.old first.new r) }
     {
         let x = self.type_expression(e, first)?;
-        let known = literal_known(x);
+        let found = type_of(&x);
+        drop(x);
+        let form = form_of(self.names, e)?;
         Ok(Number {
-            form: form_number(ty, form_of(e, known)),
-            value: number_in(ty, known),
+            form: form_number(ty, form),
+            value: number_in(ty, found, form),
         })
     }
 

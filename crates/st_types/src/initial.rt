@@ -1,22 +1,23 @@
 //! Initial values: literals, `-` before a literal without a type, and names of constants that are declared before.
 
-ghost use Rattle.std.specs.Prelude.{◌≡◌, IfOk, None, Some, neg_ℤ, option_and_then, option_map};
+ghost use Rattle.std.specs.Prelude.{◌≡◌, IfOk, None, Some, neg_ℤ, option_and_then};
 ghost use Rattle.st_tree.specs.ExprTree.{name as name_tree};
 ghost use Rattle.st_tree.specs.ExprViews.{expr_tree};
 ghost use Rattle.st_types.specs.declared.fault.Rule.TheVariants as rule_;
 ghost use Rattle.st_types.specs.DeclSteps.{Judges};
-ghost use Rattle.st_types.specs.ExprTyping.{literal_type as type_of_literal};
+ghost use Rattle.st_types.specs.ExprTyping.{both, sized as sized_of, literal_type as type_of_literal};
 ghost use Rattle.st_types.specs.Faults.{fault};
 ghost use Rattle.st_types.specs.Notes.{Notes};
 ghost use Rattle.st_types.specs.Scope.{find};
-ghost use Rattle.st_types.specs.StmtTyping.{known_entry, known_negated};
+ghost use Rattle.st_types.specs.StmtTyping.{form_of_entry, form_of_negated, known_form};
 
 use crate::constants::Known;
 use crate::fault::{Fault, Rule};
 use crate::literal::{Untyped, literal_type, negated, sized};
 use crate::names::{Entry, Names};
 use crate::note::note;
-use st_tree::{Class, Expr};
+use crate::variable::is_constant;
+use st_tree::Expr;
 use vcp_base::{Memory, Spot, Ty};
 
 // Notes that there is no constant form, where there is no constant.
@@ -31,7 +32,7 @@ fn note_unless(known: Option<Known>, spot: Spot, first: &mut Option<Fault>)
 
 // The constant that a literal is.
 fn of_literal(ty: Option<Ty>, value: i64) -> Option<Known>
-    ensures { result ≡ option_map (λ u. record { ty = u; value = value }) (type_of_literal ty value) }
+    ensures { result ≡ both known_form (Some (record { ty = ty; value = value })) (type_of_literal ty value) }
 {
     let ty = literal_type(ty, value)?;
     Some(Known { ty, value })
@@ -39,7 +40,7 @@ fn of_literal(ty: Option<Ty>, value: i64) -> Option<Known>
 
 // The constant that a literal is with the `-` before it.
 fn of_negated(l: Untyped) -> Option<Known>
-    ensures { result ≡ known_negated (Some l) }
+    ensures { result ≡ both known_form (Some (form_of_negated l)) (sized_of (neg_ℤ l.value)) }
 {
     let value = l.value.checked_neg()?;
     Some(Known {
@@ -50,23 +51,20 @@ fn of_negated(l: Untyped) -> Option<Known>
 
 // The constant that a name stands for; a variable is none.
 fn of_entry(e: &Entry) -> Option<Known>
-    ensures { result ≡ known_entry e.now e.now.class }
+    ensures { result ≡ both known_form (form_of_entry e.now) (Some e.now.ty) }
 {
-    match e.class {
-        Class::Constant => Some(Known {
-            ty: e.ty,
-            value: e.value,
-        }),
-        Class::Input => None,
-        Class::Output => None,
-        Class::Local => None,
-        Class::Retain => None,
+    if !is_constant(e.class) {
+        return None;
     }
+    Some(Known {
+        ty: e.ty,
+        value: e.value,
+    })
 }
 
 // The constant that a name is, by what was declared before.
 fn of_name(names: &Names, name: &[u8]) -> Result<Option<Known>, Memory>
-    ensures { IfOk result (λ r. r ≡ option_and_then (λ e. known_entry e e.class) (find names.now name.now)) }
+    ensures { IfOk result (λ r. r ≡ option_and_then (λ e. both known_form (form_of_entry e) (Some e.ty)) (find names.now name.now)) }
 {
     match names.find(name)? {
         None => Ok(None),
@@ -77,7 +75,7 @@ fn of_name(names: &Names, name: &[u8]) -> Result<Option<Known>, Memory>
 // A `-` as an initial value: only a literal without a type may stand behind it.
 fn negative(l: Option<Untyped>, spot: Spot, first: &mut Option<Fault>) -> Option<Known>
     ensures notes { Notes first.old first.new (λ f. (f ≡ fault rule_.Bound spot) × (l ≡ None)) }
-    ensures gives { result ≡ known_negated l }
+    ensures gives { result ≡ option_and_then (λ x. both known_form (Some (form_of_negated x)) (sized_of (neg_ℤ x.value))) l }
 {
     match l {
         None => {

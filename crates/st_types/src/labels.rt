@@ -1,13 +1,14 @@
 //! The labels of a CASE.
 
-ghost use Rattle.std.specs.Prelude.{◌≡◌, IfOk, false, option_map};
+ghost use Rattle.std.specs.Prelude.{◌≡◌, IfOk, false, is_some, option_map};
+ghost use Rattle.vcp_base.specs.declared.spot.Spot.{Spot as Spot_};
 ghost use Rattle.st_tree.specs.ExprViews.{expr_tree, expr_tree_or_none};
 ghost use Rattle.st_tree.specs.StmtViews.{label_tree, label_trees};
 ghost use Rattle.st_types.specs.declared.fault.Rule.TheVariants as rule_;
 ghost use Rattle.st_types.specs.Faults.{fault};
 ghost use Rattle.st_types.specs.Notes.{Notes};
 ghost use Rattle.st_types.specs.ExprTyping.{both};
-ghost use Rattle.st_types.specs.StmtTyping.{range_of as range_of_ends, label_ends as label_ends_of, in_order as in_order_of};
+ghost use Rattle.st_types.specs.StmtTyping.{range_of as range_of_ends, label_ends as label_ends_of};
 ghost use Rattle.st_types.specs.StmtSteps.{TypesLast, TypesLabel, TypesLabels, label_after};
 
 use crate::constants::{Number, spot_of};
@@ -50,9 +51,9 @@ fn label_ends(spot: Spot, first: Option<i64>, last: Option<Option<i64>>) -> Opti
     }
 }
 
-// Whether the ends are numbers, the first not above the last.
-fn in_order(first: Option<i128>, last: Option<Option<i128>>) -> bool
-    ensures { result ≡ in_order_of first last }
+// Whether there is a label of these ends.
+fn is_label(first: Option<i128>, last: Option<Option<i128>>) -> bool
+    ensures { (spot : Spot_) → result ≡ is_some (label_ends_of spot first last) }
 {
     let Some(first) = first else {
         return false;
@@ -86,11 +87,11 @@ fn last_form(last: Option<Number>) -> Option<Option<i128>>
     }
 }
 
-// Notes that the ends of a label aren't in order.
-fn label_fault(ordered: bool, spot: Spot, first: &mut Option<Fault>)
-    ensures { Notes first.old first.new (λ f. (f ≡ fault rule_.Label spot) × (ordered ≡ false)) }
+// Notes that there is no label.
+fn label_fault(there: bool, spot: Spot, first: &mut Option<Fault>)
+    ensures { Notes first.old first.new (λ f. (f ≡ fault rule_.Label spot) × (there ≡ false)) }
 {
-    if !ordered {
+    if !there {
         note(first, Rule::Label, spot);
     }
 }
@@ -140,7 +141,7 @@ impl Environment<'_> {
         let low = self.read_number(ty, &label.first, first)?;
         let high = self.last_end(ty, &label.last, first)?;
         let spot = spot_of(&label.first);
-        label_fault(in_order(low.form, last_form(high)), spot, first);
+        label_fault(is_label(low.form, last_form(high)), spot, first);
         Ok(label_ends(spot, low.value, last_value(high)))
     }
 

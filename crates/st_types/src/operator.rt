@@ -1,6 +1,6 @@
 //! The types of operators.
 
-ghost use Rattle.std.specs.Prelude.{◌≡◌, IfOk};
+ghost use Rattle.std.specs.Prelude.{◌≡◌, IfOk, option_map};
 ghost use Rattle.vcp_typed.specs.Rules.{widens as widens_of, joined as joined_of, both_bool as both_bool_of, joined_or_bool as joined_or_bool_of};
 ghost use Rattle.vcp_typed.specs.Rules.{common as common_of, result as result_of, signed as signed_of};
 ghost use Rattle.vcp_typed.specs.TExprViews.{texpr_tree};
@@ -120,6 +120,16 @@ pub(crate) fn ty_of(e: &TExpr) -> Ty
         TExpr::Unary { ty, .. } => *ty,
         TExpr::Binary { op, ty, .. } => result(*op, *ty),
         TExpr::Call { ty, .. } => *ty,
+    }
+}
+
+/// The type of a checked expression, where there is one.
+pub(crate) fn type_of(e: &Option<TExpr>) -> Option<Ty>
+    ensures { result ≡ option_map type_of_value (option_map texpr_tree e.now) }
+{
+    match e {
+        None => None,
+        Some(e) => Some(ty_of(e)),
     }
 }
 

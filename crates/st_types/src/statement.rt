@@ -17,16 +17,15 @@ ghost use Rattle.st_types.specs.StmtTyping.{entry_type as entry_type_of, Narrows
 ghost use Rattle.st_types.specs.StmtTyping.{turns_of as turns_of_bounds, for_of, case_of};
 ghost use Rattle.st_types.specs.StmtSteps.{Gives, TypesStmt, TypesStmts, TypesArms, TypesBranches, TypesOther, stmt_after, arm_after, branch_after, if_of};
 
-use crate::constants::is_bool;
 use crate::environment::Environment;
 use crate::fault::{Fault, Rule};
 use crate::names::Entry;
 use crate::note::note;
-use crate::operator::{ty_of, widened};
+use crate::operator::{ty_of, type_of, widened};
 use crate::variable::{bool_fault, entry_type, held_in, is_free, name_fault};
 use st_tree::{Arm, Branch, Expr, Stmt, Stmts, trees_of_nodes};
 use std::alloc::Global;
-use vcp_base::{Memory, Spot, Ty, within};
+use vcp_base::{Memory, Spot, Ty, is_bool, within};
 use vcp_typed::{TArm, TArms, TBranch, TBranches, TExpr, TLabels, TStmt, TStmts};
 
 // ---- what single nodes give
@@ -94,16 +93,6 @@ fn selector(e: Option<TExpr>, spot: Spot, first: &mut Option<Fault>) -> Option<T
         return None;
     }
     Some(e)
-}
-
-// The type of a checked expression, where there is one.
-fn type_of(e: &Option<TExpr>) -> Option<Ty>
-    ensures { result ≡ option_map type_of_value (option_map texpr_tree e.now) }
-{
-    match e {
-        None => None,
-        Some(e) => Some(ty_of(e)),
-    }
 }
 
 // Whether a FOR with these bounds has a first turn.

@@ -8,13 +8,12 @@ ghost use Rattle.st_types.specs.Notes.{Notes};
 ghost use Rattle.st_types.specs.StmtTyping.{is_free as is_free_of, is_constant as is_constant_of, entry_type as entry_type_of, held_in as held_in_of};
 ghost use Rattle.st_types.specs.StmtTyping.{NameFault, IsBool};
 
-use crate::constants::is_bool;
 use crate::fault::{Fault, Rule};
 use crate::names::Entry;
 use crate::note::note;
 use st_tree::Class;
 use std::alloc::Global;
-use vcp_base::{Memory, Spot, Ty};
+use vcp_base::{Memory, Spot, Ty, is_bool};
 
 // Whether statements may set variables of the class.
 fn is_set(class: Class) -> bool

@@ -10,6 +10,7 @@ use Rattle.std.proofs.lemmas.Bool.Decides.{nat_tests}
 use Rattle.std.proofs.lemmas.List.{take_at}
 use Rattle.vcp_base.specs.declared.ty.Ty.{Ty}
 use Rattle.vcp_base.specs.declared.ty.Ty.TheVariants as ty
+use Rattle.vcp_base.specs.Names.{is_letter, is_letter_or_digit}
 use Rattle.st_lexer.specs.declared.token.Key.{Key}
 use Rattle.st_lexer.specs.declared.token.Key.TheVariants as key
 use Rattle.st_lexer.specs.declared.token.Sym.{Sym}
@@ -18,7 +19,7 @@ use Rattle.st_lexer.specs.declared.token.Tok.{Tok}
 use Rattle.st_lexer.specs.declared.token.Tok.TheVariants as tok
 use Rattle.st_lexer.specs.declared.literal.Literal.{Literal}
 use Rattle.st_lexer.specs.declared.piece.Opening.TheVariants as opens
-use Rattle.st_lexer.specs.Literals.{begins_word, is_word, is_run, run, takes_sign, signed, begins_typed, literal_at}
+use Rattle.st_lexer.specs.Literals.{is_run, run, takes_sign, signed, begins_typed, literal_at}
 use Rattle.st_lexer.specs.Reading.{StandsAt}
 use Rattle.st_lexer.specs.Symbols.{symbol_among}
 use Rattle.st_lexer.specs.Words as words
@@ -116,7 +117,7 @@ run-is p (b ∷ bs) rest e z f =
     let more : prefix_len p (bs ++ rest) ≡ length bs = run-is p bs rest h.1 z f in
     rw h.0 (omega (arith, more))
 
-no-run-no-word : (b : ℕ) → is_run b ≡ false → is_word b ≡ false
+no-run-no-word : (b : ℕ) → is_run b ≡ false → is_letter_or_digit b ≡ false
 no-run-no-word b e = grind (arith, nat_tests)
 
 digit-is-run : (b : ℕ) → is_ascii_digit b ≡ true → is_run b ≡ true
@@ -124,31 +125,32 @@ digit-is-run b e = grind (arith, nat_tests)
 
 -- ---- words
 
-begins-no-star : (b : ℕ) → begins_word b ≡ true → nat_eq 42 b ≡ false
+begins-no-star : (b : ℕ) → is_letter b ≡ true → nat_eq 42 b ≡ false
 begins-no-star b e = grind (arith, nat_tests)
 
 -- no word with `#` behind it stands where a word ends
 
-other-letter : (r p : ℕ) → is_run r ≡ false → is_word p ≡ true → nat_eq (to_ascii_lowercase r) (to_ascii_lowercase p) ≡ false
+other-letter : (r p : ℕ) → is_run r ≡ false → is_letter_or_digit p ≡ true → nat_eq (to_ascii_lowercase r) (to_ascii_lowercase p) ≡ false
 other-letter r p e f = grind (arith, nat_tests)
 
 no-hash-behind : (r : ℕ) → is_run r ≡ false → nat_eq (to_ascii_lowercase r) 35 ≡ false
 no-hash-behind r e = grind (arith, nat_tests)
 
-no-hash-within : (r : ℕ) → is_word r ≡ true → nat_eq (to_ascii_lowercase r) 35 ≡ false
+no-hash-within : (r : ℕ) → is_letter_or_digit r ≡ true → nat_eq (to_ascii_lowercase r) 35 ≡ false
 no-hash-within r e = grind (arith, nat_tests)
 
-no-prefix : (w rest q : List ℕ) → list_all is_word w ≡ true → Free rest → list_all is_word q ≡ true
+no-prefix : (w rest q : List ℕ) → list_all is_letter_or_digit w ≡ true → Free rest → list_all is_letter_or_digit q ≡ true
     → str_eq_ignore_ascii_case (take (length (q ++ 35 ∷ [])) (w ++ rest)) (q ++ 35 ∷ []) ≡ false
 no-prefix [] [] [] e f g = refl
 no-prefix [] [] (c ∷ q) e f g = refl
 no-prefix [] (r ∷ rest) [] e f g = rw (no-hash-behind r f) refl
-no-prefix [] (r ∷ rest) (c ∷ q) e f g = rw (other-letter r c f (both (is_word c) _ g).0) refl
-no-prefix (b ∷ w) rest [] e f g = rw (no-hash-within b (both (is_word b) _ e).0) refl
+no-prefix [] (r ∷ rest) (c ∷ q) e f g = rw (other-letter r c f (both (is_letter_or_digit c) _ g).0) refl
+no-prefix (b ∷ w) rest [] e f g = rw (no-hash-within b (both (is_letter_or_digit b) _ e).0) refl
 no-prefix (b ∷ w) rest (c ∷ q) e f g =
-    and-false (nat_eq (to_ascii_lowercase b) (to_ascii_lowercase c)) _ (no-prefix w rest q (both (is_word b) _ e).1 f (both (is_word c) _ g).1)
+    and-false (nat_eq (to_ascii_lowercase b) (to_ascii_lowercase c)) _
+    (no-prefix w rest q (both (is_letter_or_digit b) _ e).1 f (both (is_letter_or_digit c) _ g).1)
 
-no-type : (w rest : List ℕ) → list_all is_word w ≡ true → Free rest → (t : Ty) → begins_typed t (w ++ rest) ≡ false
+no-type : (w rest : List ℕ) → list_all is_letter_or_digit w ≡ true → Free rest → (t : Ty) → begins_typed t (w ++ rest) ≡ false
 no-type w rest e f ty.Bool = no-prefix w rest (66 ∷ 79 ∷ 79 ∷ 76 ∷ []) e f refl
 no-type w rest e f ty.Int = no-prefix w rest (73 ∷ 78 ∷ 84 ∷ []) e f refl
 no-type w rest e f ty.Dint = no-prefix w rest (68 ∷ 73 ∷ 78 ∷ 84 ∷ []) e f refl
@@ -158,8 +160,8 @@ pub fit-word : (w : List ℕ) (t : Tok) (rest : List ℕ) → IsWordOf w t → F
 fit-word [] t rest h f = absurd (let e = h.begins in cc)
 fit-word (b ∷ bs) t rest h f =
     let s = b ∷ (bs ++ rest) in
-    let long : prefix_len is_word s ≡ length (b ∷ bs) =
-    run-is is_word (b ∷ bs) rest h.each refl (no-run-no-word (slice_index rest 0) f) in
+    let long : prefix_len is_letter_or_digit s ≡ length (b ∷ bs) =
+    run-is is_letter_or_digit (b ∷ bs) rest h.each refl (no-run-no-word (slice_index rest 0) f) in
     record {
       some_of = omega arith;
       stands = λ p. (

@@ -3,9 +3,10 @@ use Rattle.std.proofs.Common.{◌≡◌, ℕ, ℤ, pos, negsuc, suc, ◌^◌, �
 use Rattle.std.specs.Prelude.{slice_index}
 use Rattle.std.specs.List.{list_all}
 use Rattle.vcp_base.specs.declared.ty.Ty.{Ty}
+use Rattle.vcp_base.specs.Names.{is_letter, is_letter_or_digit}
 use Rattle.st_lexer.specs.declared.token.Tok.{Tok}
 use Rattle.st_lexer.specs.declared.token.Tok.TheVariants as tok
-use Rattle.st_lexer.specs.Literals.{begins_word, is_word, takes_sign}
+use Rattle.st_lexer.specs.Literals.{takes_sign}
 use Rattle.st_lexer.specs.Words as words
 use Rattle.st_tree.specs.ExprTree.{ExprTree, ExprTrees, literal, name, unary, binary, call, no_exprs, and_expr}
 use Rattle.st_tree.specs.StmtTree.{LabelTree, StmtTree, StmtTrees, ArmTrees, BranchTrees, OtherTree, assign, if_, case, for_, no_stmts, and_stmt, no_arms}
@@ -14,8 +15,8 @@ use Rattle.st_tree.specs.ProgramTree.{DeclaredTree, DeclTree, BlockTree, Program
 
 -- a word that is read as this token
 pub record IsWordOf (w : List ℕ) (t : Tok) : Type 0 where
-  pub begins : begins_word (slice_index w 0) ≡ true
-  pub each : list_all is_word w ≡ true
+  pub begins : is_letter (slice_index w 0) ≡ true
+  pub each : list_all is_letter_or_digit w ≡ true
   pub is : words.word w ≡ t
 
 -- a word that is no reserved one

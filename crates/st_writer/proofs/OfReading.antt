@@ -8,6 +8,7 @@ use Rattle.std.specs.Str.{str_eq_ignore_ascii_case}
 use Rattle.std.proofs.lemmas.Bool.Decides.{nat_tests}
 use Rattle.vcp_base.specs.declared.ty.Ty.{Ty}
 use Rattle.vcp_base.specs.declared.ty.Ty.TheVariants as ty
+use Rattle.vcp_base.specs.Names.{is_letter, is_letter_or_digit}
 use Rattle.st_lexer.specs.declared.token.Key.{Key}
 use Rattle.st_lexer.specs.declared.token.Key.TheVariants as key
 use Rattle.st_lexer.specs.declared.token.Tok.{Tok}
@@ -16,7 +17,7 @@ use Rattle.st_lexer.specs.declared.token.Token.{Token}
 use Rattle.st_lexer.specs.declared.literal.Literal.{Literal}
 use Rattle.st_lexer.specs.declared.piece.Opening.{Opening}
 use Rattle.st_lexer.specs.declared.piece.Opening.TheVariants as opens
-use Rattle.st_lexer.specs.Literals.{begins_word, is_word, are_digits, number, digits, based, plain, prefix, takes_sign, signed, literal_at, literal_of}
+use Rattle.st_lexer.specs.Literals.{are_digits, number, digits, based, plain, prefix, takes_sign, signed, literal_at, literal_of}
 use Rattle.st_lexer.specs.Reading.{Begins, Stands, StandsAt, Piece, Cover, token_of, tokens_of, Reads}
 use Rattle.st_lexer.specs.Symbols.{begins}
 use Rattle.st_lexer.specs.Words.{word, key_or_name, key_among, all_keys}
@@ -110,17 +111,17 @@ word-byte : (t u : Bool) → t ≡ true → (t || u) ≡ true
 word-byte true u e = refl
 word-byte false u e = absurd cc
 
-first-of-run : (s : List ℕ) → begins_word (slice_index s 0) ≡ true → begins_word (slice_index (take (prefix_len is_word s) s) 0) ≡ true
+first-of-run : (s : List ℕ) → is_letter (slice_index s 0) ≡ true → is_letter (slice_index (take (prefix_len is_letter_or_digit s) s) 0) ≡ true
 first-of-run [] e = e
 first-of-run (b ∷ s) e =
-    let long : prefix_len is_word (b ∷ s) ≡ 1 + prefix_len is_word s = rw (word-byte (begins_word b) (is_ascii_digit b) e) refl in
-    ap (λ (w : List ℕ). begins_word (slice_index w 0)) (ap (λ k. take k (b ∷ s)) long ∙ one-more (prefix_len is_word s) b s) ∙ e
+    let long : prefix_len is_letter_or_digit (b ∷ s) ≡ 1 + prefix_len is_letter_or_digit s = rw (word-byte (is_letter b) (is_ascii_digit b) e) refl in
+    ap (λ (w : List ℕ). is_letter (slice_index w 0)) (ap (λ k. take k (b ∷ s)) long ∙ one-more (prefix_len is_letter_or_digit s) b s) ∙ e
 
 no-number : (o : Option Key) (t : Option Ty) (v : ℤ) → key_or_name o ≡ tok.Number t v → ⊥
 no-number None t v e = cc
 no-number (Some k) t v e = cc
 
-says-word : (w : List ℕ) (t : Tok) → begins_word (slice_index w 0) ≡ true → list_all is_word w ≡ true → t ≡ word w → Says w t
+says-word : (w : List ℕ) (t : Tok) → is_letter (slice_index w 0) ≡ true → list_all is_letter_or_digit w ≡ true → t ≡ word w → Says w t
 says-word w tok.Name b h e = record { begins = b; each = h; is = sym e }
 says-word w (tok.Number t v) b h e = absurd (no-number (key_among all_keys w) t v (sym e))
 says-word w (tok.Key k) b h e = tt
@@ -137,10 +138,10 @@ by-opening opens.OrderMark p s n t b st = absurd (let e = st.1 in cc)
 by-opening (opens.Comment last) p s n t b st = absurd (let e = st.1 in cc)
 by-opening opens.LineComment p s n t b st = absurd (let e = st.1 in cc)
 by-opening opens.Word p s n t b st =
-    let w = take (prefix_len is_word s) s in
+    let w = take (prefix_len is_letter_or_digit s) s in
     let cut : take n s ≡ w = ap (λ k. take k s) st.0 in
     subst (λ (x : List ℕ). Says x t) (sym cut)
-    (same-tok w t (word w) (st.1 ∙ ap (λ (x : List ℕ). Some (word x)) cut) (says-word w (word w) (first-of-run s b.0) (all-of-run is_word s) refl))
+    (same-tok w t (word w) (st.1 ∙ ap (λ (x : List ℕ). Some (word x)) cut) (says-word w (word w) (first-of-run s b.0) (all-of-run is_letter_or_digit s) refl))
 by-opening (opens.Literal ty) p s n t b st =
     same-tok (take n s) t (tok.Number ty st.0.value) st.3 (literal-value ty (drop (length (prefix ty)) s) st.0 st.1)
 by-opening opens.Ampersand p s n t b st = same-tok (take n s) t (tok.Key key.And) st.1 tt

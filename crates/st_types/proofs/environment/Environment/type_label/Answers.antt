@@ -4,5 +4,5 @@ use Rattle.st_types.proofs.environment.Environment.type_label.Goals as goal
 
 pub returns : goal.returns
 returns c =
-    label-types _ _ (label_tree c.args.label.now) _ _ _ _ _ _ _ _ _ _ _ c.in_ok-low.ensures c.in_ok-high.ensures c.spot_of-spot.ensures c.last_form.ensures c.in_order.ensures c.label_fault.ensures
+    label-types _ _ (label_tree c.args.label.now) _ _ _ _ _ _ _ _ _ _ _ c.in_ok-low.ensures c.in_ok-high.ensures c.spot_of-spot.ensures c.last_form.ensures c.is_label.ensures c.label_fault.ensures
     c.last_value.ensures c.label_ends.ensures
