@@ -66,7 +66,8 @@ module _ (before after : Outside) (status : ℕ) where
       gave d.answer (causes.meant_answer j)
       (done_is_meant (runs (new_job j)) before.unit after.unit d.answer d.done (new_honest honest) ∙ meant_answer j) d.came
 
-  judged_of : (task : OldTask) (c : Campaign) → task ≡ old.judges c → WasHonest e → Given (new_task task) before after status → Gave (causes.verdicts_answer c) e
+  judged_of : (task : OldTask) (c : Campaign) → task ≡ old.judges c → WasHonest e → Given (new_task task) before after status
+      → Gave (causes.verdicts_answer c) e
   judged_of task c is honest g =
       let d : Given (judges c) before after status = subst (λ (t : OldTask). Given (new_task t) before after status) is g in
       gave d.answer (causes.verdicts_answer c) (done_is_meant (judges c) before.unit after.unit d.answer d.done (new_honest honest)) d.came

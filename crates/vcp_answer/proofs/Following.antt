@@ -1,5 +1,6 @@
 -- Following: the definitions by kinds of tasks give those that stood before them.
-use Rattle.std.proofs.Common.{ℕ, ℤ, suc, ◌≡◌, ◌<◌, ◌-◌, ◌^◌, inl, inr, refl, sym, ap, subst, ◌∙◌, List, [], ◌∷◌, ◌++◌, length, map, append-nil, Option, Some, None}
+use Rattle.std.proofs.Common.{ℕ, ℤ, suc, ◌≡◌, ◌<◌, ◌-◌, ◌^◌, inl, inr, refl, sym, ap, subst, ◌∙◌, List, [], ◌∷◌, ◌++◌, length, map, append-nil, Option, Some}
+use Rattle.std.proofs.Common.{None}
 use Rattle.std.specs.Io.KnownBytes.{Appends}
 use Rattle.vcp_outside.specs.Written.{AppendsFront, AppendsPart}
 use Rattle.input_rows.specs.declared.fault.RowFault.{RowFault}
@@ -21,7 +22,8 @@ use Rattle.vcp_answer.specs.Courses.{EarlierPrinted as OldEarlier}
 use Rattle.vcp_answer.specs.Endings.{Among, Reached}
 use Rattle.vcp_answer.specs.Endings as ends
 use Rattle.vcp_answer.specs.Moments.{Untouched as OldUntouched}
-use Rattle.vcp_answer.specs.Reports.{Report as OldReport, End, complete, stopped, refused, last_text, words_then, summary_then, shown_text, run_answer, names_of}
+use Rattle.vcp_answer.specs.Reports.{Report as OldReport, End, complete, stopped, refused, last_text, words_then, summary_then, shown_text, run_answer}
+use Rattle.vcp_answer.specs.Reports.{names_of}
 use Rattle.vcp_answer.specs.Reports.{shown_read, shown_meant, report_read, report_told, report_judged, end_read, end_told, told_of, followed_by}
 use Rattle.vcp_answer.specs.Reports as reports
 use Rattle.vcp_answer.specs.CycleWords.{word_lines}
@@ -185,7 +187,8 @@ done_is_meant (runs j) before after x d honest = d.read ∙ ap (λ (r : Report).
 done_is_meant (judges c) before after x d honest = d.read ∙ ap (λ (vs : List Verdict). verdicts_answer c vs) (d.honest honest)
 
 -- so much was written of one answer, and of one that is the same
-writes_same : (Writes : Option (List ℕ) → Option (List ℕ) → List ℕ → Type 0) (a b : Option (List ℕ)) (x y : Answer) → x ≡ y → Writes a b x.out → Writes a b y.out
+writes_same : (Writes : Option (List ℕ) → Option (List ℕ) → List ℕ → Type 0) (a b : Option (List ℕ)) (x y : Answer) → x ≡ y → Writes a b x.out
+    → Writes a b y.out
 writes_same Writes a b x y same w = subst (λ (z : Answer). Writes a b z.out) same w
 
 pub done_is_reached : DoneIsReached

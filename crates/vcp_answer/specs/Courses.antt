@@ -21,7 +21,8 @@ use Rattle.machine_run.specs.RowRuns.{SomeCycles, texts_from}
 use Rattle.vcp_typed.specs.SourceRun.{Program}
 use Rattle.vcp_words.specs.Forms.{Code}
 use Rattle.vcp_inputs.specs.Lines.{read_fault_text}
-use Rattle.vcp_answer.specs.Answer.{Answer, Subject, source, image, Shown, every_row, words_of, summary, Job, Campaign, Task, lacks, gives, runs, compiles, judges}
+use Rattle.vcp_answer.specs.Answer.{Answer, Subject, source, image, Shown, every_row, words_of, summary, Job, Campaign, Task, lacks, gives, runs, compiles}
+use Rattle.vcp_answer.specs.Answer.{judges}
 use Rattle.vcp_answer.specs.Answer.{printed}
 use Rattle.vcp_answer.specs.Reports.{Report, report_told, told_of, report_read, report_judged, shown_read, shown_meant, no_report, followed_by}
 use Rattle.vcp_answer.specs.Reports.{names_of, job_answer}

@@ -108,7 +108,8 @@ module _ (t : Numbers) (g : Lists) (acts : Acts) where
       }
   walk (row ∷ rows) (first ∷ cycles) m (suc n) past values held c answers kept there given =
       let now = cycle_under (begun t g acts m past values row) in
-      let on = later_there (stop_under g now) (cycles_from t g acts (suc m) (record { held = values; given = now.values }) (stored g now.values) rows) n c there in
+      let on = later_there (stop_under g now)
+      (cycles_from t g acts (suc m) (record { held = values; given = now.values }) (stored g now.values) rows) n c there in
       let goes : now.stop ≡ None =
       stop_none now.stop (λ why. record { op = length now.values; kind = why }) (outside now.values g.outputs) on.0 in
       let w = walk rows cycles (suc m) n (record { held = values; given = now.values }) (stored g now.values) (stored_words g first) c answers

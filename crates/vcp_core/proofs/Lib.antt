@@ -11,6 +11,7 @@ pub mod Loaded
 pub mod LoadedRows
 pub mod OneTask
 pub mod Performing
+pub mod PlainKinds
 pub mod PlainNames
 pub mod PlainReaching
 pub mod PlainRows

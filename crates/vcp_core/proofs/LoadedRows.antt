@@ -141,7 +141,8 @@ module _ {V L : Type 0} (Is : List ℕ → V → Type 0) (Why : List ℕ → Ref
   loading_taken rest _ (no_rows v (input.Refused r) loads opens begun whole long) is =
       elim (bytes_or r) [
         | inl bytes ↦
-            let l : IsTooLong (about f) held (refusal_text (rows_name rows) refusal.Bytes) = long_rows (about f) rows held more (long (ap input.Refused bytes)) in
+            let l : IsTooLong (about f) held (refusal_text (rows_name rows) refusal.Bytes) =
+            long_rows (about f) rows held more (long (ap input.Refused bytes)) in
             inr (subst (λ (n : List ℕ). IsTooLong (about f) held (refusal_text n r)) (sym told)
             (subst (λ (x : Refusal). IsTooLong (about f) held (refusal_text (rows_name rows) x)) (sym bytes) l))
         | inr other ↦ inl (whole r refl other)

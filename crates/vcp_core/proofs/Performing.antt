@@ -1,5 +1,6 @@
 -- How far a command comes and what it keeps, from what its calls answer.
-use Rattle.std.proofs.Common.{ℕ, ◌≡◌, ◌≢◌, ◌≤◌, ◌⊎◌, length, inl, inr, true, false, refl, sym, subst, List, [], ◌∷◌, ◌++◌, Option, Some, Result, Ok, Err, IfSome, OnOk, arith}
+use Rattle.std.proofs.Common.{ℕ, ◌≡◌, ◌≢◌, ◌≤◌, ◌⊎◌, length, inl, inr, true, false, refl, sym, subst, List, [], ◌∷◌, ◌++◌, Option, Some, Result, Ok, Err}
+use Rattle.std.proofs.Common.{IfSome, OnOk, arith}
 use Rattle.std.specs.Io.KnownBytes.{Appends, IsAtEnd}
 use Rattle.vcp_outside.specs.Counts.{Rose}
 use Rattle.vcp_outside.specs.Held.{Held}
@@ -146,15 +147,15 @@ held_is c o h reads (inr none) = absurd (reads none)
 
 -- ---- a command that reads files, by its result: how far it comes, and what its calls ensure
 
-pub performs_by : (c : About) (Comes : Held → Task → Type 0) (files files_after : FilesSeen) (before after : Moment) (line : List ℕ) (r : Result End Fault)
+pub performs_when : (c : About) (Comes : Held → Task → Type 0) (files files_after : FilesSeen) (before after : Moment) (line : List ℕ) (r : Result End Fault)
     → c.files ≢ [] → Among 1 c.ends → ((e : End) → r ≡ Ok e → Among (end_status e) c.ends) →
     IfSome files.held (λ h. Reaches c (Comes h) files files_after before after line (told_status r)) →
     IfSome files.held (λ h. told_status r ≡ 1 → IsAtEnd files_after.rest ⊎ IsTooLong c h line) → files_after.held ≡ files.held →
     (c.calls ≡ false → after.unit ≡ before.unit) → OnOk r (IsAtEnd files_after.rest) →
-    (r ≡ Ok end.Stopped → GrowsToStop before.unit.log after.unit.log) → (r ≡ Ok end.Refused → Rose before.unit.wrong after.unit.wrong) →
+    (c.calls ≡ true → r ≡ Ok end.Stopped → GrowsToStop before.unit.log after.unit.log) → (r ≡ Ok end.Refused → Rose before.unit.wrong after.unit.wrong) →
     (Unread r → Rose files.faults files_after.faults) → (r ≡ Err fault.Write → Rose before.out.faults after.out.faults) →
     Performs c Comes files files_after before after line (told_status r)
-performs_by c Comes files files_after before after line r reads one own far all_taken held unit ended stopped refused unread_rose write = record {
+performs_when c Comes files files_after before after line r reads one own far all_taken held unit ended stopped refused unread_rose write = record {
   reaches = λ h may.
       of_told files.held (λ x. Reaches c (Comes x) files files_after before after line (told_status r)) far h (held_is c files.held h reads may);
   statuses = result_among c.ends one r own;
@@ -163,11 +164,23 @@ performs_by c Comes files files_after before after line r reads one own far all_
   stay = λ none. absurd (reads none);
   ended = λ some is. at_end r files_after.rest ended is;
   taken = λ some is. if_some_weaker files.held _ _ (λ h f. f is) all_taken;
-  stopped = λ calls two. stopped (two_stopped r two);
+  stopped = λ calls two. stopped calls (two_stopped r two);
   refused = λ three. refused (three_refused r three);
   read = λ five. unread_rose (five_unread r five);
   write = λ six. write (six_write r six);
 }
+
+-- the same where a stop is known whether the command calls the unit or not
+pub performs_by : (c : About) (Comes : Held → Task → Type 0) (files files_after : FilesSeen) (before after : Moment) (line : List ℕ) (r : Result End Fault)
+    → c.files ≢ [] → Among 1 c.ends → ((e : End) → r ≡ Ok e → Among (end_status e) c.ends) →
+    IfSome files.held (λ h. Reaches c (Comes h) files files_after before after line (told_status r)) →
+    IfSome files.held (λ h. told_status r ≡ 1 → IsAtEnd files_after.rest ⊎ IsTooLong c h line) → files_after.held ≡ files.held →
+    (c.calls ≡ false → after.unit ≡ before.unit) → OnOk r (IsAtEnd files_after.rest) →
+    (r ≡ Ok end.Stopped → GrowsToStop before.unit.log after.unit.log) → (r ≡ Ok end.Refused → Rose before.unit.wrong after.unit.wrong) →
+    (Unread r → Rose files.faults files_after.faults) → (r ≡ Err fault.Write → Rose before.out.faults after.out.faults) →
+    Performs c Comes files files_after before after line (told_status r)
+performs_by c Comes files files_after before after line r reads one own far all_taken held unit ended stopped refused unread_rose write =
+    performs_when c Comes files files_after before after line r reads one own far all_taken held unit ended (λ calls. stopped) refused unread_rose write
 
 -- ---- how far it comes
 
@@ -286,9 +299,9 @@ module _ (f : Form) (Comes : Held → Task → Type 0) (files later : FilesSeen)
       held (λ no. unit) end_is (λ is. absurd cc) (λ is. absurd cc) (λ is. absurd is) (λ is. absurd cc)
 
   -- a part of it
-  pub quiet_part : (text : List ℕ) → IfSome files.held (λ h. (task : Task) × Comes h task × Left task AppendsPart before after)
+  pub quiet_part : IfSome files.held (λ h. (task : Task) × Comes h task × Left task AppendsPart before after)
       → Rose before.out.faults after.out.faults → Performs (about f) Comes files later before after write_fault_text 6
-  quiet_part text comes rose =
+  quiet_part comes rose =
       performs_by (about f) Comes files later before after write_fault_text (Err fault.Write) reads one (λ e is. absurd cc)
       (if_some_weaker files.held _ _ (λ h (task, is, l). cut task is l rose refl refl) comes) (taken_all write_fault_text 6 _ comes)
       held (λ no. unit) tt (λ is. absurd cc) (λ is. absurd cc) (λ is. absurd is) (λ is. rose)

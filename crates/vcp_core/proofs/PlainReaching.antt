@@ -24,7 +24,7 @@ use Rattle.vcp_core.specs.Reach.{Reaches}
 use Rattle.vcp_core.proofs.Reaching.{given, cut, front}
 
 -- a refusal that is told has the line of the fault of rows
-row_line : (name : List ℕ) (f : RowFault) (r : Refusal) → no_rows f ≡ input.Refused r → rows_text name f ≡ refusal_text name r
+pub row_line : (name : List ℕ) (f : RowFault) (r : Refusal) → no_rows f ≡ input.Refused r → rows_text name f ≡ refusal_text name r
 row_line name row.Header r is = let e : r ≡ refusal.Rows row.Header = cc in rw e refl
 row_line name (row.Width n) r is = let e : r ≡ refusal.Rows (row.Width n) = cc in rw e refl
 row_line name (row.Cell n m) r is = let e : r ≡ refusal.Rows (row.Cell n m) = cc in rw e refl

@@ -96,7 +96,8 @@ few-step (cycle.Stopped k why) More cycles r h go = rw h (omega arith)
 few-step (cycle.Refused i f w) More cycles r h go = rw h (omega arith)
 
 -- there are no more cycles than rows
-pub cycles-few : (g : Lists) (t : Numbers) (k : ℕ) (rows : List (List ℤ)) (cycles : List (List Given)) → AllCycles g t k rows cycles → length cycles ≤ length rows
+pub cycles-few : (g : Lists) (t : Numbers) (k : ℕ) (rows : List (List ℤ)) (cycles : List (List Given)) → AllCycles g t k rows cycles
+    → length cycles ≤ length rows
 cycles-few g t k [] [] all = omega arith
 cycles-few g t k [] (a ∷ cycles) all = absurd all
 cycles-few g t k (row ∷ rows) [] all = absurd all
@@ -329,7 +330,9 @@ module _ (g : Lists) (n : ℕ) (name : List ℕ) (t : Numbers) (left : RowsLeft)
     -- which is the last part of what is printed of the run
     pub last-part-is : traced_text m names n e
         ≡ last_part (each_word g (code_of t) n) names (run_read (words_job_to name n g (code_of t) left) g run.cycles) (end_read g e) left.refusal
-    last-part-is = text-is ∙ sym (last-words (code_of t) n names (outcome_is run.cycles).rows (words_in n run.cycles) g (end_read g (outcome_is run.cycles).end) (end_read g e) left.refusal)
+    last-part-is = text-is
+        ∙ sym (last-words (code_of t) n names (outcome_is run.cycles).rows (words_in n run.cycles) g (end_read g (outcome_is run.cycles).end)
+        (end_read g e) left.refusal)
 
     -- it was printed
     pub ended-words : (end : Ends) (o3 : Option (List ℕ)) (f3 : ℕ) → Appends o2 o3 (traced_text m names n e)

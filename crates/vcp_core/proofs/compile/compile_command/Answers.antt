@@ -63,40 +63,65 @@ pub returns-in-Err-clause-performs : goal.returns-in-Err-clause-performs
 returns-in-Err-clause-performs g c log wrong =
     let p = c.args.source.now in
     let code = as_code c.args.code in
-    let files = files_seen (g.F.Files.held c.args.files.now) (g.F.Files.rest c.args.files.now) (g.F.Files.faults c.args.files.now) (g.F.Files.broken c.args.files.now) in
-    let later = files_seen (g.F.Files.held c.load_typed.new.files) (g.F.Files.rest c.load_typed.new.files) (g.F.Files.faults c.load_typed.new.files) (g.F.Files.broken c.load_typed.new.files) in
-    quiet_lost (compile p code) TypedOf NotTyped (λ t x. x ≡ compiles_to t code) (source_word p) files later _ c.in-Err.input (inl refl) refl (λ none. cc) (inr (inl refl)) c.load_typed.ensures.held
+    let files = files_seen (g.F.Files.held c.args.files.now) (g.F.Files.rest c.args.files.now) (g.F.Files.faults c.args.files.now)
+    (g.F.Files.broken c.args.files.now) in
+    let later = files_seen (g.F.Files.held c.load_typed.new.files) (g.F.Files.rest c.load_typed.new.files) (g.F.Files.faults c.load_typed.new.files)
+    (g.F.Files.broken c.load_typed.new.files) in
+    quiet_lost (compile p code) TypedOf NotTyped (λ t x. x ≡ compiles_to t code) (source_word p) files later _ c.in-Err.input (inl refl) refl (λ none. cc)
+    (inr (inl refl)) c.load_typed.ensures.held
     c.in-Err.ensures.loads (λ r is. c.in-Err.ensures.whole r (ap Err is)) typed_not_bytes (λ is. c.in-Err.ensures.unread (ap Err is))
 
 pub returns-in_err-image-in-Ok-clause-performs : goal.returns-in_err-image-in-Ok-clause-performs
 returns-in_err-image-in-Ok-clause-performs g c log wrong =
     let p = c.args.source.now in
     let code = as_code c.args.code in
-    let files = files_seen (g.F.Files.held c.args.files.now) (g.F.Files.rest c.args.files.now) (g.F.Files.faults c.args.files.now) (g.F.Files.broken c.args.files.now) in
-    let later = files_seen (g.F.Files.held c.load_typed.new.files) (g.F.Files.rest c.load_typed.new.files) (g.F.Files.faults c.load_typed.new.files) (g.F.Files.broken c.load_typed.new.files) in
+    let files = files_seen (g.F.Files.held c.args.files.now) (g.F.Files.rest c.args.files.now) (g.F.Files.faults c.args.files.now)
+    (g.F.Files.broken c.args.files.now) in
+    let later = files_seen (g.F.Files.held c.load_typed.new.files) (g.F.Files.rest c.load_typed.new.files) (g.F.Files.faults c.load_typed.new.files)
+    (g.F.Files.broken c.load_typed.new.files) in
     let q = err_from_is_err_and c.from_residual.result c.from_residual.ensures.1 in
-    rw (q.1, q.2) (quiet_wanted (compile p code) (CompileTaskOf p code) files later _ _ (λ none. cc) (inr (inl refl)) (inl refl) c.load_typed.ensures.held refl c.in-Ok.ensures.ended (still _))
+    rw (q.1, q.2)
+    (quiet_wanted (compile p code) (CompileTaskOf p code) files later _ _ (λ none. cc) (inr (inl refl))
+    (inl refl) c.load_typed.ensures.held refl c.in-Ok.ensures.ended (still _))
 
 pub returns-in_err-write_all-in-Ok-clause-performs : goal.returns-in_err-write_all-in-Ok-clause-performs
 returns-in_err-write_all-in-Ok-clause-performs g c log wrong =
     let p = c.args.source.now in
     let code = as_code c.args.code in
-    let files = files_seen (g.F.Files.held c.args.files.now) (g.F.Files.rest c.args.files.now) (g.F.Files.faults c.args.files.now) (g.F.Files.broken c.args.files.now) in
-    let later = files_seen (g.F.Files.held c.load_typed.new.files) (g.F.Files.rest c.load_typed.new.files) (g.F.Files.faults c.load_typed.new.files) (g.F.Files.broken c.load_typed.new.files) in
+    let files = files_seen (g.F.Files.held c.args.files.now) (g.F.Files.rest c.args.files.now) (g.F.Files.faults c.args.files.now)
+    (g.F.Files.broken c.args.files.now) in
+    let later = files_seen (g.F.Files.held c.load_typed.new.files) (g.F.Files.rest c.load_typed.new.files) (g.F.Files.faults c.load_typed.new.files)
+    (g.F.Files.broken c.load_typed.new.files) in
     let q = err_from_is_err_and c.from_residual-in_err-write_all-in-Ok.result c.from_residual-in_err-write_all-in-Ok.ensures.1 in
     let (graph, may, is) = c.in_ok-image-in-Ok.ensures in
     rw (q.1, q.2)
-    (quiet_part (compile p code) (CompileTaskOf p code) files later _ _ (λ none. cc) (inr (inl refl)) (inl refl) c.load_typed.ensures.held refl c.in-Ok.ensures.ended (image_of graph code.seed code.step)
-    (if_some_weaker files.held _ _ (λ h loads. (compiles_to c.in-Ok.program code, file_takes TypedOf NotTyped most_source_bytes (λ t x. x ≡ compiles_to t code) p h c.in-Ok.program (compiles_to c.in-Ok.program code) loads refl, (refl, (image_answer code graph, (graph, may, refl), rw (c.bytes.ensures, is) at c.in_err-write_all-in-Ok.ensures.part)))) c.in-Ok.ensures.loads)
+    (quiet_part (compile p code) (CompileTaskOf p code) files later _ _ (λ none. cc) (inr (inl refl))
+    (inl refl) c.load_typed.ensures.held refl c.in-Ok.ensures.ended
+    (if_some_weaker files.held _ _
+    (λ h loads. (
+      compiles_to c.in-Ok.program code,
+      file_takes TypedOf NotTyped most_source_bytes (λ t x. x ≡ compiles_to t code) p h c.in-Ok.program
+          (compiles_to c.in-Ok.program code) loads refl,
+      (refl, (image_answer code graph, (graph, may, refl), rw (c.bytes.ensures, is) at c.in_err-write_all-in-Ok.ensures.part)),
+    )) c.in-Ok.ensures.loads)
     c.in_err-write_all-in-Ok.ensures.cause.failed)
 
 pub returns-in_ok-write_all-in-Ok-clause-performs : goal.returns-in_ok-write_all-in-Ok-clause-performs
 returns-in_ok-write_all-in-Ok-clause-performs g c log wrong =
     let p = c.args.source.now in
     let code = as_code c.args.code in
-    let files = files_seen (g.F.Files.held c.args.files.now) (g.F.Files.rest c.args.files.now) (g.F.Files.faults c.args.files.now) (g.F.Files.broken c.args.files.now) in
-    let later = files_seen (g.F.Files.held c.load_typed.new.files) (g.F.Files.rest c.load_typed.new.files) (g.F.Files.faults c.load_typed.new.files) (g.F.Files.broken c.load_typed.new.files) in
+    let files = files_seen (g.F.Files.held c.args.files.now) (g.F.Files.rest c.args.files.now) (g.F.Files.faults c.args.files.now)
+    (g.F.Files.broken c.args.files.now) in
+    let later = files_seen (g.F.Files.held c.load_typed.new.files) (g.F.Files.rest c.load_typed.new.files) (g.F.Files.faults c.load_typed.new.files)
+    (g.F.Files.broken c.load_typed.new.files) in
     let (graph, may, is) = c.in_ok-image-in-Ok.ensures in
-    quiet_whole (compile p code) (CompileTaskOf p code) files later _ _ (λ none. cc) (inr (inl refl)) (inl refl) c.load_typed.ensures.held refl c.in-Ok.ensures.ended (image_of graph code.seed code.step)
-    (if_some_weaker files.held _ _ (λ h loads. (compiles_to c.in-Ok.program code, file_takes TypedOf NotTyped most_source_bytes (λ t x. x ≡ compiles_to t code) p h c.in-Ok.program (compiles_to c.in-Ok.program code) loads refl, (refl, (graph, may, refl)))) c.in-Ok.ensures.loads)
+    quiet_whole (compile p code) (CompileTaskOf p code) files later _ _ (λ none. cc) (inr (inl refl))
+    (inl refl) c.load_typed.ensures.held refl c.in-Ok.ensures.ended (image_of graph code.seed code.step)
+    (if_some_weaker files.held _ _
+    (λ h loads. (
+      compiles_to c.in-Ok.program code,
+      file_takes TypedOf NotTyped most_source_bytes (λ t x. x ≡ compiles_to t code) p h c.in-Ok.program
+          (compiles_to c.in-Ok.program code) loads refl,
+      (refl, (graph, may, refl)),
+    )) c.in-Ok.ensures.loads)
     (rw (c.bytes.ensures, is) at c.in_ok-write_all-in-Ok.ensures.whole)

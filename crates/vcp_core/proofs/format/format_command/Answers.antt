@@ -56,34 +56,67 @@ returns-in_ok-write_all-in-Ok-clause-reaches g c log wrong =
 pub returns-in-Err-clause-performs : goal.returns-in-Err-clause-performs
 returns-in-Err-clause-performs g c log wrong =
     let p = c.args.source.now in
-    let files = files_seen (g.F.Files.held c.args.files.now) (g.F.Files.rest c.args.files.now) (g.F.Files.faults c.args.files.now) (g.F.Files.broken c.args.files.now) in
-    let later = files_seen (g.F.Files.held c.load_program.new.files) (g.F.Files.rest c.load_program.new.files) (g.F.Files.faults c.load_program.new.files) (g.F.Files.broken c.load_program.new.files) in
-    quiet_lost (format p) IsProgram NoProgram (λ t x. x ≡ prints (canonical t)) (source_word p) files later _ c.in-Err.input (inl refl) refl (λ none. cc) (inr (inl refl)) c.load_program.ensures.held
+    let files = files_seen (g.F.Files.held c.args.files.now) (g.F.Files.rest c.args.files.now) (g.F.Files.faults c.args.files.now)
+    (g.F.Files.broken c.args.files.now) in
+    let later = files_seen (g.F.Files.held c.load_program.new.files) (g.F.Files.rest c.load_program.new.files) (g.F.Files.faults c.load_program.new.files)
+    (g.F.Files.broken c.load_program.new.files) in
+    quiet_lost (format p) IsProgram NoProgram (λ t x. x ≡ prints (canonical t)) (source_word p) files later _ c.in-Err.input (inl refl) refl (λ none. cc)
+    (inr (inl refl)) c.load_program.ensures.held
     c.in-Err.ensures.loads (λ r is. c.in-Err.ensures.whole r (ap Err is)) program_not_bytes (λ is. c.in-Err.ensures.unread (ap Err is))
 
 pub returns-in_err-text-in-Ok-clause-performs : goal.returns-in_err-text-in-Ok-clause-performs
 returns-in_err-text-in-Ok-clause-performs g c log wrong =
     let p = c.args.source.now in
-    let files = files_seen (g.F.Files.held c.args.files.now) (g.F.Files.rest c.args.files.now) (g.F.Files.faults c.args.files.now) (g.F.Files.broken c.args.files.now) in
-    let later = files_seen (g.F.Files.held c.load_program.new.files) (g.F.Files.rest c.load_program.new.files) (g.F.Files.faults c.load_program.new.files) (g.F.Files.broken c.load_program.new.files) in
+    let files = files_seen (g.F.Files.held c.args.files.now) (g.F.Files.rest c.args.files.now) (g.F.Files.faults c.args.files.now)
+    (g.F.Files.broken c.args.files.now) in
+    let later = files_seen (g.F.Files.held c.load_program.new.files) (g.F.Files.rest c.load_program.new.files) (g.F.Files.faults c.load_program.new.files)
+    (g.F.Files.broken c.load_program.new.files) in
     let q = err_from_is_err_and c.from_residual.result c.from_residual.ensures.1 in
-    rw (q.1, q.2) (quiet_wanted (format p) (FormatTaskOf p) files later _ _ (λ none. cc) (inr (inl refl)) (inl refl) c.load_program.ensures.held refl c.in-Ok.ensures.ended (still _))
+    rw (q.1, q.2)
+    (quiet_wanted (format p) (FormatTaskOf p) files later _ _ (λ none. cc) (inr (inl refl))
+    (inl refl) c.load_program.ensures.held refl c.in-Ok.ensures.ended (still _))
 
 pub returns-in_err-write_all-in-Ok-clause-performs : goal.returns-in_err-write_all-in-Ok-clause-performs
 returns-in_err-write_all-in-Ok-clause-performs g c log wrong =
     let p = c.args.source.now in
-    let files = files_seen (g.F.Files.held c.args.files.now) (g.F.Files.rest c.args.files.now) (g.F.Files.faults c.args.files.now) (g.F.Files.broken c.args.files.now) in
-    let later = files_seen (g.F.Files.held c.load_program.new.files) (g.F.Files.rest c.load_program.new.files) (g.F.Files.faults c.load_program.new.files) (g.F.Files.broken c.load_program.new.files) in
+    let files = files_seen (g.F.Files.held c.args.files.now) (g.F.Files.rest c.args.files.now) (g.F.Files.faults c.args.files.now)
+    (g.F.Files.broken c.args.files.now) in
+    let later = files_seen (g.F.Files.held c.load_program.new.files) (g.F.Files.rest c.load_program.new.files) (g.F.Files.faults c.load_program.new.files)
+    (g.F.Files.broken c.load_program.new.files) in
     let q = err_from_is_err_and c.from_residual-in_err-write_all-in-Ok.result c.from_residual-in_err-write_all-in-Ok.ensures.1 in
     rw (q.1, q.2)
-    (quiet_part (format p) (FormatTaskOf p) files later _ _ (λ none. cc) (inr (inl refl)) (inl refl) c.load_program.ensures.held refl c.in-Ok.ensures.ended (canonical (program_tree c.in-Ok.program))
-    (if_some_weaker files.held _ _ (λ h loads. (prints (canonical (program_tree c.in-Ok.program)), file_takes IsProgram NoProgram most_source_bytes (λ t x. x ≡ prints (canonical t)) p h (program_tree c.in-Ok.program) (prints (canonical (program_tree c.in-Ok.program))) loads refl, (refl, (printed_answer (canonical (program_tree c.in-Ok.program)), refl, (rw (c.bytes.ensures, c.in_ok-text-in-Ok.ensures.text) at c.in_err-write_all-in-Ok.ensures.part))))) c.in-Ok.ensures.loads)
+    (quiet_part (format p) (FormatTaskOf p) files later _ _ (λ none. cc) (inr (inl refl)) (inl refl) c.load_program.ensures.held refl c.in-Ok.ensures.ended
+    (if_some_weaker files.held _ _
+    (λ h loads. (
+      prints (canonical (program_tree c.in-Ok.program)),
+      file_takes IsProgram NoProgram most_source_bytes (λ t x. x ≡ prints (canonical t)) p h
+          (program_tree c.in-Ok.program)
+          (prints (canonical (program_tree c.in-Ok.program))) loads refl,
+      (
+        refl,
+        (
+          printed_answer (canonical (program_tree c.in-Ok.program)),
+          refl,
+          (rw (c.bytes.ensures, c.in_ok-text-in-Ok.ensures.text) at c.in_err-write_all-in-Ok.ensures.part),
+        ),
+      ),
+    )) c.in-Ok.ensures.loads)
     c.in_err-write_all-in-Ok.ensures.cause.failed)
 
 pub returns-in_ok-write_all-in-Ok-clause-performs : goal.returns-in_ok-write_all-in-Ok-clause-performs
 returns-in_ok-write_all-in-Ok-clause-performs g c log wrong =
     let p = c.args.source.now in
-    let files = files_seen (g.F.Files.held c.args.files.now) (g.F.Files.rest c.args.files.now) (g.F.Files.faults c.args.files.now) (g.F.Files.broken c.args.files.now) in
-    let later = files_seen (g.F.Files.held c.load_program.new.files) (g.F.Files.rest c.load_program.new.files) (g.F.Files.faults c.load_program.new.files) (g.F.Files.broken c.load_program.new.files) in
-    quiet_whole (format p) (FormatTaskOf p) files later _ _ (λ none. cc) (inr (inl refl)) (inl refl) c.load_program.ensures.held refl c.in-Ok.ensures.ended (canonical (program_tree c.in-Ok.program))
-    (if_some_weaker files.held _ _ (λ h loads. (prints (canonical (program_tree c.in-Ok.program)), file_takes IsProgram NoProgram most_source_bytes (λ t x. x ≡ prints (canonical t)) p h (program_tree c.in-Ok.program) (prints (canonical (program_tree c.in-Ok.program))) loads refl, (refl, refl))) c.in-Ok.ensures.loads) (rw (c.bytes.ensures, c.in_ok-text-in-Ok.ensures.text) at c.in_ok-write_all-in-Ok.ensures.whole)
+    let files = files_seen (g.F.Files.held c.args.files.now) (g.F.Files.rest c.args.files.now) (g.F.Files.faults c.args.files.now)
+    (g.F.Files.broken c.args.files.now) in
+    let later = files_seen (g.F.Files.held c.load_program.new.files) (g.F.Files.rest c.load_program.new.files) (g.F.Files.faults c.load_program.new.files)
+    (g.F.Files.broken c.load_program.new.files) in
+    quiet_whole (format p) (FormatTaskOf p) files later _ _ (λ none. cc) (inr (inl refl)) (inl refl) c.load_program.ensures.held refl c.in-Ok.ensures.ended
+    (canonical (program_tree c.in-Ok.program))
+    (if_some_weaker files.held _ _
+    (λ h loads. (
+      prints (canonical (program_tree c.in-Ok.program)),
+      file_takes IsProgram NoProgram most_source_bytes (λ t x. x ≡ prints (canonical t)) p h
+          (program_tree c.in-Ok.program) (prints (canonical (program_tree c.in-Ok.program))) loads refl,
+      (refl, refl),
+    )) c.in-Ok.ensures.loads)
+    (rw (c.bytes.ensures, c.in_ok-text-in-Ok.ensures.text) at c.in_ok-write_all-in-Ok.ensures.whole)

@@ -51,7 +51,8 @@ returns-in_err-columns-clause-loads g c =
 
 pub returns-in-Err-clause-loads : goal.returns-in-Err-clause-loads
 returns-in-Err-clause-loads g c =
-    if_some_weaker (g.F.Files.held c.args.files.now) _ _ (λ h loads. no_file c.in-Err.input loads (λ r is. c.in-Err.ensures.whole r (ap Err is))) c.in-Err.ensures.loads
+    if_some_weaker (g.F.Files.held c.args.files.now) _ _
+    (λ h loads. no_file c.in-Err.input loads (λ r is. c.in-Err.ensures.whole r (ap Err is))) c.in-Err.ensures.loads
 
 pub returns-in-Ok-load_rows-clause-loads : goal.returns-in-Ok-load_rows-clause-loads
 returns-in-Ok-load_rows-clause-loads g c =

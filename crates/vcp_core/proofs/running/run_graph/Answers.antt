@@ -100,7 +100,9 @@ returns-in_err-header_line-clause-ran g c name s code carries =
     let graph = c.args.graph.now in
     let left = c.args.rows.now in
     let names = names-are graph c.args.table.now left s code c.in_ok-outputs.outputs carries c.in_ok-outputs.ensures in
-    rw (q.1, q.2) (header-left (rows_job name code s left) graph carries.may carries.told (λ cycles right all. refl) _ None _ 0 _ _ _ _ (rw names at c.in_err-header_line.ensures.part))
+    rw (q.1, q.2)
+    (header-left (rows_job name code s left) graph carries.may carries.told (λ cycles right all. refl) _ None _ 0 _ _ _ _
+    (rw names at c.in_err-header_line.ensures.part))
 
 pub returns-in_err-end-clause-ran : goal.returns-in_err-end-clause-ran
 returns-in_err-end-clause-ran g c name s code carries =
@@ -128,7 +130,8 @@ returns-in_err-print_end-clause-ran g c name s code carries =
     rw (q.1, q.2)
     (last-left j graph carries.may carries.told (λ cycles right all. refl) _ _ _ _ c.in_ok-end.end _ _ _ _ _ _ _ _
     (rw names at c.in_ok-header_line.ensures.whole) leaves.run there
-    (subst (λ (l : List ℕ). AppendsPart (g.O.Sink.written c.run_rows.new.out) (g.O.Sink.written c.print_end.new.out) l) last (rw names at c.in_err-print_end.ensures.1)))
+    (subst (λ (l : List ℕ). AppendsPart (g.O.Sink.written c.run_rows.new.out) (g.O.Sink.written c.print_end.new.out) l) last
+    (rw names at c.in_err-print_end.ensures.1)))
 
 pub returns-clause-ran : goal.returns-clause-ran
 returns-clause-ran g c name s code carries =
@@ -143,5 +146,6 @@ returns-clause-ran g c name s code carries =
     (c.cycles.ensures.value ∙ leaves.machine.cycles) leaves.run.ends.1 in
     ended-run j graph carries.may carries.told (λ cycles right all. refl) _ _ _ _ c.in_ok-end.end _ _ _ _ 0 _ _ 0
     (rw names at c.in_ok-header_line.ensures.whole) leaves.run there c.in_ok-print_end.field-0
-    (subst (λ (l : List ℕ). Appends (g.O.Sink.written c.run_rows.new.out) (g.O.Sink.written c.print_end.new.out) l) last (rw names at c.in_ok-print_end.ensures.0))
+    (subst (λ (l : List ℕ). Appends (g.O.Sink.written c.run_rows.new.out) (g.O.Sink.written c.print_end.new.out) l) last
+    (rw names at c.in_ok-print_end.ensures.0))
     c.in_ok-print_end.ensures.1

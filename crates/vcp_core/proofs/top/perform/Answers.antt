@@ -35,4 +35,5 @@ pub returns-in-Inject-clause-reaches : goal.returns-in-Inject-clause-reaches
 returns-in-Inject-clause-reaches g c = rw c.in-Inject.is c.inject_command.ensures.reaches
 
 pub returns-in-Demo-clause-reaches : goal.returns-in-Demo-clause-reaches
-returns-in-Demo-clause-reaches g c = if_some_always (g.F.Files.held c.args.files.now) _ (λ h. rw c.in-Demo.is (c.demo_command.ensures.reaches (g.F.Files.broken c.args.files.now)))
+returns-in-Demo-clause-reaches g c =
+    if_some_always (g.F.Files.held c.args.files.now) _ (λ h. rw c.in-Demo.is (c.demo_command.ensures.reaches (g.F.Files.broken c.args.files.now)))

@@ -147,7 +147,11 @@ returns-in_err-print_traced-clause-ran g c name =
     let names = ap (map (λ (x : Column). x.name)) c.in_ok-outputs.ensures in
     let meant = meant-words laws.cycle laws.cells_at_first graph table left.rows n c.len-rules.ensures.rules c.step-ranges.ensures.ranges c.requires.table c.requires.few c.requires.cycle in
     let last = last-part-is graph n name table left c.requires.few c.requires.through _ _ _ _ meant c.in_ok-end.end _ _ _ _ leaves.run there _ leaves.machine in
-    rw (q.1, q.2) (last-left (words_job_to name n graph (code_of table) left) graph refl refl meant _ _ _ _ c.in_ok-end.end _ _ _ _ _ _ _ _ (appends-nothing _) leaves.run there (subst (λ (l : List ℕ). AppendsPart (g.O.Sink.written c.run_rows.new.out) (g.O.Sink.written c.print_traced.new.out) l) last (rw names at c.in_err-print_traced.ensures.1)))
+    rw (q.1, q.2)
+    (last-left (words_job_to name n graph (code_of table) left) graph refl refl meant _ _ _ _ c.in_ok-end.end _ _ _ _ _ _ _ _
+    (appends-nothing _) leaves.run there
+    (subst (λ (l : List ℕ). AppendsPart (g.O.Sink.written c.run_rows.new.out) (g.O.Sink.written c.print_traced.new.out) l) last
+    (rw names at c.in_err-print_traced.ensures.1)))
 
 pub returns-clause-ran : goal.returns-clause-ran
 returns-clause-ran g c name =
@@ -162,6 +166,8 @@ returns-clause-ran g c name =
     let names = ap (map (λ (x : Column). x.name)) c.in_ok-outputs.ensures in
     let meant = meant-words laws.cycle laws.cells_at_first graph table left.rows n c.len-rules.ensures.rules c.step-ranges.ensures.ranges c.requires.table c.requires.few c.requires.cycle in
     let last = last-part-is graph n name table left c.requires.few c.requires.through _ _ _ _ meant c.in_ok-end.end _ _ _ _ leaves.run there _ leaves.machine in
-    ended-run (words_job_to name n graph (code_of table) left) graph refl refl meant _ _ _ _ c.in_ok-end.end _ _ _ _ 0 _ _ 0 (appends-nothing _) leaves.run there c.in_ok-print_traced.field-0
-    (subst (λ (l : List ℕ). Appends (g.O.Sink.written c.run_rows.new.out) (g.O.Sink.written c.print_traced.new.out) l) last (rw names at c.in_ok-print_traced.ensures.0))
+    ended-run (words_job_to name n graph (code_of table) left) graph refl refl meant _ _ _ _ c.in_ok-end.end _ _ _ _ 0 _ _ 0
+    (appends-nothing _) leaves.run there c.in_ok-print_traced.field-0
+    (subst (λ (l : List ℕ). Appends (g.O.Sink.written c.run_rows.new.out) (g.O.Sink.written c.print_traced.new.out) l) last
+    (rw names at c.in_ok-print_traced.ensures.0))
     (c.in_ok-print_traced.ensures.1 ∙ ap (λ (h : Lists). run_status (end_read h c.in_ok-end.end) None) (leaves.machine.graph))

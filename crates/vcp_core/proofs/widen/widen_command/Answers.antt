@@ -54,34 +54,66 @@ returns-in_ok-write_all-in-Ok-clause-reaches g c log wrong =
 pub returns-in-Err-clause-performs : goal.returns-in-Err-clause-performs
 returns-in-Err-clause-performs g c log wrong =
     let m = c.args.image.now in
-    let files = files_seen (g.F.Files.held c.args.files.now) (g.F.Files.rest c.args.files.now) (g.F.Files.faults c.args.files.now) (g.F.Files.broken c.args.files.now) in
-    let later = files_seen (g.F.Files.held c.load_image.new.files) (g.F.Files.rest c.load_image.new.files) (g.F.Files.faults c.load_image.new.files) (g.F.Files.broken c.load_image.new.files) in
-    quiet_lost (widen m) ImageOf NotImage (λ i x. x ≡ prints (image_of (widened i.graph) i.table.seed i.table.step)) (image_word m) files later _ c.in-Err.input (inl refl) refl (λ none. cc) (inr (inl refl)) c.load_image.ensures.held
+    let files = files_seen (g.F.Files.held c.args.files.now) (g.F.Files.rest c.args.files.now) (g.F.Files.faults c.args.files.now)
+    (g.F.Files.broken c.args.files.now) in
+    let later = files_seen (g.F.Files.held c.load_image.new.files) (g.F.Files.rest c.load_image.new.files) (g.F.Files.faults c.load_image.new.files)
+    (g.F.Files.broken c.load_image.new.files) in
+    quiet_lost (widen m) ImageOf NotImage (λ i x. x ≡ prints (image_of (widened i.graph) i.table.seed i.table.step)) (image_word m) files later _ c.in-Err.input
+    (inl refl) refl (λ none. cc) (inr (inl refl)) c.load_image.ensures.held
     c.in-Err.ensures.loads (λ r is. c.in-Err.ensures.whole r (ap Err is)) image_not_bytes (λ is. c.in-Err.ensures.unread (ap Err is))
 
 pub returns-in_err-wide-in-Ok-clause-performs : goal.returns-in_err-wide-in-Ok-clause-performs
 returns-in_err-wide-in-Ok-clause-performs g c log wrong =
     let m = c.args.image.now in
-    let files = files_seen (g.F.Files.held c.args.files.now) (g.F.Files.rest c.args.files.now) (g.F.Files.faults c.args.files.now) (g.F.Files.broken c.args.files.now) in
-    let later = files_seen (g.F.Files.held c.load_image.new.files) (g.F.Files.rest c.load_image.new.files) (g.F.Files.faults c.load_image.new.files) (g.F.Files.broken c.load_image.new.files) in
+    let files = files_seen (g.F.Files.held c.args.files.now) (g.F.Files.rest c.args.files.now) (g.F.Files.faults c.args.files.now)
+    (g.F.Files.broken c.args.files.now) in
+    let later = files_seen (g.F.Files.held c.load_image.new.files) (g.F.Files.rest c.load_image.new.files) (g.F.Files.faults c.load_image.new.files)
+    (g.F.Files.broken c.load_image.new.files) in
     let q = err_from_is_err_and c.from_residual.result c.from_residual.ensures.1 in
-    rw (q.1, q.2) (quiet_wanted (widen m) (WidenTaskOf m) files later _ _ (λ none. cc) (inr (inl refl)) (inl refl) c.load_image.ensures.held refl c.in-Ok.ensures.ended (still _))
+    rw (q.1, q.2)
+    (quiet_wanted (widen m) (WidenTaskOf m) files later _ _ (λ none. cc) (inr (inl refl)) (inl refl) c.load_image.ensures.held refl c.in-Ok.ensures.ended
+    (still _))
 
 pub returns-in_err-write_all-in-Ok-clause-performs : goal.returns-in_err-write_all-in-Ok-clause-performs
 returns-in_err-write_all-in-Ok-clause-performs g c log wrong =
     let m = c.args.image.now in
-    let files = files_seen (g.F.Files.held c.args.files.now) (g.F.Files.rest c.args.files.now) (g.F.Files.faults c.args.files.now) (g.F.Files.broken c.args.files.now) in
-    let later = files_seen (g.F.Files.held c.load_image.new.files) (g.F.Files.rest c.load_image.new.files) (g.F.Files.faults c.load_image.new.files) (g.F.Files.broken c.load_image.new.files) in
+    let files = files_seen (g.F.Files.held c.args.files.now) (g.F.Files.rest c.args.files.now) (g.F.Files.faults c.args.files.now)
+    (g.F.Files.broken c.args.files.now) in
+    let later = files_seen (g.F.Files.held c.load_image.new.files) (g.F.Files.rest c.load_image.new.files) (g.F.Files.faults c.load_image.new.files)
+    (g.F.Files.broken c.load_image.new.files) in
     let q = err_from_is_err_and c.from_residual-in_err-write_all-in-Ok.result c.from_residual-in_err-write_all-in-Ok.ensures.1 in
     rw (q.1, q.2)
-    (quiet_part (widen m) (WidenTaskOf m) files later _ _ (λ none. cc) (inr (inl refl)) (inl refl) c.load_image.ensures.held refl c.in-Ok.ensures.ended (image_of (widened c.in-Ok.image.graph) c.in-Ok.image.table.seed c.in-Ok.image.table.step)
-    (if_some_weaker files.held _ _ (λ h loads. (prints (image_of (widened c.in-Ok.image.graph) c.in-Ok.image.table.seed c.in-Ok.image.table.step), file_takes ImageOf NotImage most_image_bytes (λ i x. x ≡ prints (image_of (widened i.graph) i.table.seed i.table.step)) m h c.in-Ok.image (prints (image_of (widened c.in-Ok.image.graph) c.in-Ok.image.table.seed c.in-Ok.image.table.step)) loads refl, (refl, (printed_answer (image_of (widened c.in-Ok.image.graph) c.in-Ok.image.table.seed c.in-Ok.image.table.step), refl, (rw (c.bytes.ensures, c.in_ok-wide-in-Ok.ensures) at c.in_err-write_all-in-Ok.ensures.part))))) c.in-Ok.ensures.loads)
+    (quiet_part (widen m) (WidenTaskOf m) files later _ _ (λ none. cc) (inr (inl refl)) (inl refl) c.load_image.ensures.held refl c.in-Ok.ensures.ended
+    (if_some_weaker files.held _ _
+    (λ h loads. (
+      prints (image_of (widened c.in-Ok.image.graph) c.in-Ok.image.table.seed c.in-Ok.image.table.step),
+      file_takes ImageOf NotImage most_image_bytes (λ i x. x ≡ prints (image_of (widened i.graph) i.table.seed i.table.step)) m h c.in-Ok.image
+          (prints (image_of (widened c.in-Ok.image.graph) c.in-Ok.image.table.seed c.in-Ok.image.table.step)) loads refl,
+      (
+        refl,
+        (
+          printed_answer (image_of (widened c.in-Ok.image.graph) c.in-Ok.image.table.seed c.in-Ok.image.table.step),
+          refl,
+          (rw (c.bytes.ensures, c.in_ok-wide-in-Ok.ensures) at c.in_err-write_all-in-Ok.ensures.part),
+        ),
+      ),
+    )) c.in-Ok.ensures.loads)
     c.in_err-write_all-in-Ok.ensures.cause.failed)
 
 pub returns-in_ok-write_all-in-Ok-clause-performs : goal.returns-in_ok-write_all-in-Ok-clause-performs
 returns-in_ok-write_all-in-Ok-clause-performs g c log wrong =
     let m = c.args.image.now in
-    let files = files_seen (g.F.Files.held c.args.files.now) (g.F.Files.rest c.args.files.now) (g.F.Files.faults c.args.files.now) (g.F.Files.broken c.args.files.now) in
-    let later = files_seen (g.F.Files.held c.load_image.new.files) (g.F.Files.rest c.load_image.new.files) (g.F.Files.faults c.load_image.new.files) (g.F.Files.broken c.load_image.new.files) in
-    quiet_whole (widen m) (WidenTaskOf m) files later _ _ (λ none. cc) (inr (inl refl)) (inl refl) c.load_image.ensures.held refl c.in-Ok.ensures.ended (image_of (widened c.in-Ok.image.graph) c.in-Ok.image.table.seed c.in-Ok.image.table.step)
-    (if_some_weaker files.held _ _ (λ h loads. (prints (image_of (widened c.in-Ok.image.graph) c.in-Ok.image.table.seed c.in-Ok.image.table.step), file_takes ImageOf NotImage most_image_bytes (λ i x. x ≡ prints (image_of (widened i.graph) i.table.seed i.table.step)) m h c.in-Ok.image (prints (image_of (widened c.in-Ok.image.graph) c.in-Ok.image.table.seed c.in-Ok.image.table.step)) loads refl, (refl, refl))) c.in-Ok.ensures.loads) (rw (c.bytes.ensures, c.in_ok-wide-in-Ok.ensures) at c.in_ok-write_all-in-Ok.ensures.whole)
+    let files = files_seen (g.F.Files.held c.args.files.now) (g.F.Files.rest c.args.files.now) (g.F.Files.faults c.args.files.now)
+    (g.F.Files.broken c.args.files.now) in
+    let later = files_seen (g.F.Files.held c.load_image.new.files) (g.F.Files.rest c.load_image.new.files) (g.F.Files.faults c.load_image.new.files)
+    (g.F.Files.broken c.load_image.new.files) in
+    quiet_whole (widen m) (WidenTaskOf m) files later _ _ (λ none. cc) (inr (inl refl)) (inl refl) c.load_image.ensures.held refl c.in-Ok.ensures.ended
+    (image_of (widened c.in-Ok.image.graph) c.in-Ok.image.table.seed c.in-Ok.image.table.step)
+    (if_some_weaker files.held _ _
+    (λ h loads. (
+      prints (image_of (widened c.in-Ok.image.graph) c.in-Ok.image.table.seed c.in-Ok.image.table.step),
+      file_takes ImageOf NotImage most_image_bytes (λ i x. x ≡ prints (image_of (widened i.graph) i.table.seed i.table.step)) m h c.in-Ok.image
+          (prints (image_of (widened c.in-Ok.image.graph) c.in-Ok.image.table.seed c.in-Ok.image.table.step)) loads refl,
+      (refl, refl),
+    )) c.in-Ok.ensures.loads)
+    (rw (c.bytes.ensures, c.in_ok-wide-in-Ok.ensures) at c.in_ok-write_all-in-Ok.ensures.whole)
