@@ -41,7 +41,8 @@ sum_of_parts : (p : Profile) (v e : ℤ) (r : ℕ) → coded p v r +ℤ e ≡ co
 unfolding coded
 sum_of_parts p v e r =
     let w : pos r +ℤ e ≡ pos (modulus p) *ℤ carry p r e +ℤ pos (modulo p (pos r +ℤ e)) = whole p (pos r +ℤ e) in
-    let products : pos (modulus p) *ℤ (v +ℤ carry p r e) ≡ pos (modulus p) *ℤ v +ℤ pos (modulus p) *ℤ carry p r e = times_plus (pos (modulus p)) v (carry p r e) in
+    let products : pos (modulus p) *ℤ (v +ℤ carry p r e) ≡ pos (modulus p) *ℤ v +ℤ pos (modulus p) *ℤ carry p r e =
+    times_plus (pos (modulus p)) v (carry p r e) in
     omega (arith, ints)
 
 pub shifted : (p : Profile) → ShiftLaw p

@@ -1,5 +1,6 @@
 -- Following: the receipts that are read off the right words are those of the wire run.
-use Rattle.std.proofs.Common.{refl, ℕ, ◌≡◌, ◌==◌, ◌<◌, ◌≤◌, ◌+◌, ◌-◌, nat_lt, Bool, true, List, [], ◌∷◌, length, slice_index_or, Option, Some, None, ℤ, pos, ◌+ℤ◌, ap, ◌∙◌, arith}
+use Rattle.std.proofs.Common.{refl, ℕ, ◌≡◌, ◌==◌, ◌<◌, ◌≤◌, ◌+◌, ◌-◌, nat_lt, Bool, true, ap, ◌∙◌, arith}
+use Rattle.std.proofs.Common.{List, [], ◌∷◌, length, slice_index_or, Option, Some, None, ℤ, pos, ◌+ℤ◌}
 use Rattle.std.proofs.lemmas.Bool.{ltb-true}
 use Rattle.vcp_base.specs.declared.code.Profile.{Profile}
 use Rattle.vcp_base.specs.declared.code.Profile.TheVariants as profile
@@ -67,8 +68,8 @@ same_choice b m x l y v v' found last c c' d d' e em el ev ec ed =
     ∙ ap (λ (z : Bool). choice (record { begun = b; found = found; expected = x; last = last; cycle = y; value = v' }) true c' z e (fits ty.Dint v')) ed)))
 
 -- the receipt of a right word with something added is that of the wire run
-same_receipt : (laws : Laws) (w : Wire) (sent : List (List ℤ)) (begun : ℕ) (last : Option ℕ) (numbers : List ℕ) (id n : ℕ) (alter : ℤ) → IsWire w → AreRows w sent
-    → begun ≤ length sent → length sent ≤ most_cycles → id < w.senders → Middle alter → Agree last numbers
+same_receipt : (laws : Laws) (w : Wire) (sent : List (List ℤ)) (begun : ℕ) (last : Option ℕ) (numbers : List ℕ) (id n : ℕ) (alter : ℤ)
+    → IsWire w → AreRows w sent → begun ≤ length sent → length sent ≤ most_cycles → id < w.senders → Middle alter → Agree last numbers
     → receipt_of (hears w begun last) (telegram_of (right_words w 0 sent) id n alter) ≡ receipt_at w sent begun numbers id n alter
 same_receipt laws w sent begun last numbers id n alter wire rows so_far few sender middle agree =
     let p = profile.Narrow in
@@ -77,7 +78,8 @@ same_receipt laws w sent begun last numbers id n alter wire rows so_far few send
     let own = telegram_residue id w.seed w.step n in
     let tests = nat_lt w.age (begun - 1 - n) in
     let inside : nat_lt n begun ≡ true →
-    choice (told_of w begun last n word) true (modulo p word == telegram_residue w.listen w.seed w.step n) (is_above last n) tests (fits ty.Dint (value_part p word))
+    choice (told_of w begun last n word) true (modulo p word == telegram_residue w.listen w.seed w.step n) (is_above last n) tests
+    (fits ty.Dint (value_part p word))
     ≡ choice (told_at w sent begun numbers id n alter) true (apart w id alter == 0) (is_above_all n numbers) tests (fits ty.Dint (arrived w id n v alter)) =
     λ test.
     let under : n < begun = ltb-true n begun test in
@@ -105,7 +107,8 @@ same_receipt laws w sent begun last numbers id n alter wire rows so_far few send
 
 -- what follows a receipt, on both sides
 next_same : (w : Wire) (sent : List (List ℤ)) (begun n : ℕ) (last : Option ℕ) (numbers : List ℕ) (es : List Event) (x : Receipt)
-    → ((last : Option ℕ) (numbers : List ℕ) → Agree last numbers → read_from (right_words w 0 sent) (hears w begun last) es ≡ wired_from w sent begun numbers es)
+    → ((last : Option ℕ) (numbers : List ℕ) → Agree last numbers
+    → read_from (right_words w 0 sent) (hears w begun last) es ≡ wired_from w sent begun numbers es)
     → Agree last numbers → ((v : ℤ) → x ≡ receipt.Delivered v → is_above_all n numbers ≡ true)
     → read_from (right_words w 0 sent) (after_receipt (hears w begun last) n x) es ≡ wired_from w sent begun (with_delivered x n numbers) es
 next_same w sent begun n last numbers es (receipt.Delivered v) later agree above = later (Some n) (n ∷ numbers) (agree_more n numbers (above v refl))

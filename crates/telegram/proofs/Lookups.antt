@@ -23,7 +23,8 @@ in_run w n [] k id few under = absurd (omega arith)
 in_run w n (values ∷ sent) zero id few under =
     let first : 0 + id ≡ id = omega arith in
     let here : n ≡ n + 0 = omega arith in
-    in_row w n 0 values id under ∙ (ap (λ i. telegram_word i w.seed w.step n (at values id)) first ∙ ap (λ m. telegram_word id w.seed w.step m (at values id)) here)
+    in_row w n 0 values id under ∙ (ap (λ i. telegram_word i w.seed w.step n (at values id)) first
+    ∙ ap (λ m. telegram_word id w.seed w.step m (at values id)) here)
 in_run w n (values ∷ sent) (suc k) id few under =
     let same : suc n + k ≡ n + suc k = omega arith in
     in_run w (suc n) sent k id (omega arith) under ∙ ap (λ m. telegram_word id w.seed w.step m (sent_by sent id k)) same

@@ -51,6 +51,7 @@ counted_rose before false below above =
 pub failed_rose : (given right : Answer) (w : ℤ) (before now : ℕ) → right ≡ answer.Word w → Counts given right before now → IsNoWord given → Rose before now
 failed_rose given right w before now word (inl h) none = absurd (none w (h.0 ∙ word))
 failed_rose given right w before now word (inr h) none =
-    let rose : Rose before (one_more before) = counted_rose before (nat_lt before (2 ^ 64 - 1)) (λ t. ltb-true before (2 ^ 64 - 1) t) (λ t. ltb-false before (2 ^ 64 - 1) t) in
+    let rose : Rose before (one_more before) =
+    counted_rose before (nat_lt before (2 ^ 64 - 1)) (λ t. ltb-true before (2 ^ 64 - 1) t) (λ t. ltb-false before (2 ^ 64 - 1) t) in
     let here : now ≡ one_more before = h.1 in
     omega (arith, here, rose)

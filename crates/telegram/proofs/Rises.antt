@@ -32,7 +32,8 @@ told_to s t = record {
 
 -- a delivery of a receiver passed every test
 read_passed : (s : State) (t : Telegram) (v : ℤ) → receipt_of s t ≡ receipt.Delivered v
-    → Passed (told_to s t) (nat_lt t.number s.begun) (modulo profile.Narrow t.word == telegram_residue s.listen s.seed s.step t.number) (is_above s.last t.number)
+    → Passed (told_to s t) (nat_lt t.number s.begun) (modulo profile.Narrow t.word == telegram_residue s.listen s.seed s.step t.number)
+    (is_above s.last t.number)
     (nat_lt s.age (present s - t.number)) (fits ty.Dint (value_part profile.Narrow t.word)) v
 read_passed s t v h =
     let b = nat_lt t.number s.begun in
