@@ -1,26 +1,21 @@
 -- What `inject` comes to, from what reading its files and judging the faults give.
-use Rattle.std.proofs.Common.{ℕ, ℤ, ◌+◌, ◌*◌, ◌<◌, ◌≤◌, ◌-◌, ◌^◌, ◌≡◌, ◌≢◌, inl, inr, refl, sym, ap, subst, ◌∙◌, true, false, nat_lt, arith, List}
-use Rattle.std.proofs.Common.{[], ◌∷◌, ◌++◌, append_assoc, length, length-append, take, drop, Option, Some, None, Ok, Err, lit≤}
+use Rattle.std.proofs.Common.{ℕ, ℤ, ◌*◌, ◌<◌, ◌≤◌, ◌-◌, ◌^◌, ◌≡◌, ◌≢◌, inl, inr, refl, sym, ap, subst, ◌∙◌, true, false, nat_lt, arith, List}
+use Rattle.std.proofs.Common.{[], length, take, drop, Option, Some, None, Ok, Err, lit≤}
 use Rattle.std.proofs.lemmas.Bool.Decides.{nat_tests}
-use Rattle.std.proofs.lemmas.List.{length-map, take-append-drop}
-use Rattle.std.proofs.Math.Seq.{take-length}
-use Rattle.std.specs.Io.KnownBytes.{Appends, IsAtEnd}
+use Rattle.std.proofs.lemmas.List.{length-map}
+use Rattle.std.specs.Io.KnownBytes.{IsAtEnd}
 use Rattle.vcp_base.specs.Limits.{most_source_bytes}
 use Rattle.coded_unit.specs.Log.{Entry}
 use Rattle.vcp_outside.specs.Held.{Held}
 use Rattle.vcp_outside.specs.Written.{AppendsFront, AppendsPart}
-use Rattle.input_rows.specs.declared.fault.RowFault.{RowFault}
-use Rattle.input_rows.specs.declared.fault.RowFault.TheVariants as row
-use Rattle.input_rows.specs.RowsOf.{RowsLeft}
 use Rattle.op_graph.specs.Lists.{Lists, nothing}
 use Rattle.signature_table.specs.Signatures.{Numbers}
 use Rattle.fault_script.specs.declared.act.Fault.{Fault as ScriptedFault}
 use Rattle.fault_script.specs.ScriptOf.{script_of}
 use Rattle.fault_injector.specs.declared.verdict.Verdict.{Verdict}
-use Rattle.fault_campaign.specs.FaultLines.{verdict_text, totals_of, totals_text}
 use Rattle.fault_campaign.specs.declared.fault.CampaignFault.{CampaignFault}
 use Rattle.fault_campaign.specs.declared.fault.CampaignFault.TheVariants as campaign
-use Rattle.fault_campaign.specs.Campaign.{campaign_text, verdict_lines, verdicts_of, Tells, Told}
+use Rattle.fault_campaign.specs.Campaign.{campaign_text, verdicts_of, Tells, Told}
 use Rattle.machine_run.specs.Moments.{Moment, moment}
 use Rattle.vcp_words.specs.Forms.{Rows, inject}
 use Rattle.vcp_words.specs.Tables.{rows_name}
@@ -29,8 +24,7 @@ use Rattle.vcp_inputs.specs.declared.refusal.Refusal.TheVariants as refusal
 use Rattle.vcp_inputs.specs.declared.refusal.NoInput.{NoInput}
 use Rattle.vcp_inputs.specs.declared.refusal.NoInput.TheVariants as input
 use Rattle.vcp_inputs.specs.Files.{NotLoaded as FileLost, long, short}
-use Rattle.vcp_inputs.specs.Refusals.{no_rows}
-use Rattle.vcp_inputs.specs.RowsOutcome.{RowsOutcome, opened, Opens}
+use Rattle.vcp_inputs.specs.RowsOutcome.{RowsOutcome}
 use Rattle.vcp_inputs.specs.Scripts.{NotScript, no_script}
 use Rattle.vcp_inputs.specs.Lines.{input_status}
 use Rattle.vcp_answer.specs.Answer.{Campaign, Task, judges, refuses}
@@ -45,76 +39,10 @@ use Rattle.vcp_core.specs.declared.fault.Fault.TheVariants as fault
 use Rattle.vcp_core.specs.Faults.{of_campaign}
 use Rattle.vcp_core.specs.Inject.{most_trace, on_script, script_task, all_rows_task, inject_task, InjectTask, AllRows, RowsRefused, at_header, at_row, too_many}
 use Rattle.vcp_core.specs.Inject.{NoRows}
-use Rattle.vcp_core.specs.Reach.{Gives, IsUnread, Lost, Reaches}
+use Rattle.vcp_core.specs.Reach.{Gives, Lost, Reaches}
+use Rattle.vcp_core.proofs.JudgedTasks.{all_of, left_count, left_of, lines_front}
 use Rattle.vcp_core.proofs.Reaching.{lacking, refused, taken_of}
 use Rattle.vcp_core.proofs.TaskKinds.{script_among}
-
--- ---- all rows
-
--- a row that is refused
-pub row_refused : (o : RowsOutcome) (g : Lists) (left : RowsLeft) (f : RowFault) → o ≡ opened left → (f ≢ row.Memory → left.refusal ≡ Some f)
-    → NoRows o g (fault.Rows (no_rows f))
-row_refused o g left row.Header comes behind = at_row left row.Header comes (behind (λ e. cc))
-row_refused o g left (row.Width n) comes behind = at_row left (row.Width n) comes (behind (λ e. cc))
-row_refused o g left (row.Cell n column) comes behind = at_row left (row.Cell n column) comes (behind (λ e. cc))
-row_refused o g left row.Form comes behind = at_row left row.Form comes (behind (λ e. cc))
-row_refused o g left row.Cycles comes behind = at_row left row.Cycles comes (behind (λ e. cc))
-row_refused o g left row.Cycle comes behind = at_row left row.Cycle comes (behind (λ e. cc))
-row_refused o g left row.Memory comes behind = tt
-
--- rows that aren't opened
-pub not_opened : (o : RowsOutcome) (g : Lists) (i : NoInput) (b : ℕ) → i ≢ input.Unread → Opens o b b (Err i) → NoRows o g (fault.Rows i)
-not_opened o g input.Unread b known opens = absurd (known refl)
-not_opened o g (input.Refused r) b known opens = at_header r opens
-not_opened o g input.Memory b known opens = tt
-
--- that is no read fault and no fault of a sink
-pub rows_are_read : (o : RowsOutcome) (g : Lists) (e : Fault) → NoRows o g e → IsUnread e → ⊥
-rows_are_read o g (fault.Rows (input.Refused r)) h is = cc
-rows_are_read o g (fault.Rows input.Memory) h is = cc
-rows_are_read o g (fault.Rows input.Unread) h is = h
-rows_are_read o g (fault.Source i) h is = h
-rows_are_read o g (fault.Script i) h is = h
-rows_are_read o g fault.Write h is = h
-rows_are_read o g fault.Memory h is = is
-
-pub rows_are_written : (o : RowsOutcome) (g : Lists) (e : Fault) → NoRows o g e → e ≢ fault.Write
-rows_are_written o g (fault.Rows i) h is = cc
-rows_are_written o g (fault.Source i) h is = h
-rows_are_written o g (fault.Script i) h is = h
-rows_are_written o g fault.Write h is = h
-rows_are_written o g fault.Memory h is = cc
-
--- ---- the lines of verdicts
-
--- those of more verdicts go on from them
-lines_go_on : (g : Lists) (faults : List ScriptedFault) (vs later : List Verdict)
-    → (more : List ℕ) × (verdict_lines g faults (vs ++ later) ≡ verdict_lines g faults vs ++ more)
-lines_go_on g [] vs later = ([], refl)
-lines_go_on g (f ∷ faults) [] later = (verdict_lines g (f ∷ faults) later, refl)
-lines_go_on g (f ∷ faults) (v ∷ vs) later =
-    let (more, is) = lines_go_on g faults vs later in
-    let line : List ℕ = verdict_text g f.line v in
-    (more, ap (λ t. line ++ t) is ∙ sym (append_assoc line (verdict_lines g faults vs) more))
-
--- so they are a front of the whole text
-lines_front : (g : Lists) (faults : List ScriptedFault) (vs later : List Verdict) (old new : Option (List ℕ)) → Appends old new (verdict_lines g faults vs)
-    → AppendsFront old new (campaign_text g faults (vs ++ later))
-lines_front g faults vs later old new w =
-    let (more, is) = lines_go_on g faults vs later in
-    let totals : List ℕ = totals_text (totals_of (vs ++ later)) in
-    (verdict_lines g faults vs, more ++ totals, ap (λ t. t ++ totals) is ∙ append_assoc (verdict_lines g faults vs) more totals, w)
-
--- the verdicts that are left of all
-left_of : (vs all : List Verdict) → vs ≡ take (length vs) all → all ≡ vs ++ drop (length vs) all
-left_of vs all is = sym (take-append-drop (length vs) all) ∙ ap (λ l. l ++ drop (length vs) all) (sym is)
-
-left_count : (vs all : List Verdict) (n : ℕ) → vs ≡ take (length vs) all → length all ≡ n → length vs + length (drop (length vs) all) ≡ n
-left_count vs all n is count = sym (length-append vs (drop (length vs) all)) ∙ ap length (sym (left_of vs all is)) ∙ count
-
--- as many as there are faults are all
-all_of : (vs all : List Verdict) → vs ≡ take (length vs) all → length vs ≡ length all → vs ≡ all
-all_of vs all is same = is ∙ ap (λ n. take n all) same ∙ take-length all
 
 -- ---- how far the faults were judged
 

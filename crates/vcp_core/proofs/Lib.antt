@@ -5,6 +5,7 @@ pub mod Facts
 pub mod ImageLoaded
 pub mod Injected
 pub mod JobFacts
+pub mod JudgedTasks
 pub mod JobRun
 pub mod Listed
 pub mod Loaded
