@@ -1,6 +1,7 @@
 pub mod AcceptedShown
 pub mod AuditKinds
 pub mod Audits
+pub mod DemoKinds
 pub mod Facts
 pub mod ImageLoaded
 pub mod Injected

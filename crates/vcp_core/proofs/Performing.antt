@@ -182,6 +182,28 @@ pub performs_by : (c : About) (Comes : Held → Task → Type 0) (files files_af
 performs_by c Comes files files_after before after line r reads one own far all_taken held unit ended stopped refused unread_rose write =
     performs_when c Comes files files_after before after line r reads one own far all_taken held unit ended (λ calls. stopped) refused unread_rose write
 
+-- ---- a command that reads none, by its result
+
+pub performs_alone : (c : About) (Comes : Held → Task → Type 0) (files : FilesSeen) (before after : Moment) (line : List ℕ) (r : Result End Fault)
+    → c.files ≡ [] → Among 1 c.ends → ((e : End) → r ≡ Ok e → Among (end_status e) c.ends) →
+    ((h : Held) → Reaches c (Comes h) files files before after line (told_status r)) → (c.calls ≡ false → after.unit ≡ before.unit) →
+    (r ≡ Ok end.Stopped → GrowsToStop before.unit.log after.unit.log) → (r ≡ Ok end.Refused → Rose before.unit.wrong after.unit.wrong) →
+    (Unread r → ⊥) → (r ≡ Err fault.Write → Rose before.out.faults after.out.faults) →
+    Performs c Comes files files before after line (told_status r)
+performs_alone c Comes files before after line r none one own far unit ended_so refused_so reads write = record {
+  reaches = λ h may. far h;
+  statuses = result_among c.ends one r own;
+  held = refl;
+  unit = unit;
+  stay = λ no. refl;
+  ended = λ some is. absurd (some none);
+  taken = λ some is. absurd (some none);
+  stopped = λ calls two. ended_so (two_stopped r two);
+  refused = λ three. refused_so (three_refused r three);
+  read = λ five. absurd (reads (five_unread r five));
+  write = λ six. write (six_write r six);
+}
+
 -- ---- how far it comes
 
 -- nothing was done

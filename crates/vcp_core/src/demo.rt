@@ -9,8 +9,12 @@ ghost use Rattle.vcp_base.specs.Limits.{most_source_bytes};
 ghost use Rattle.program_maker.specs.MadeRows.{made_rows};
 ghost use Rattle.vcp_inputs.specs.Files.{Loads};
 ghost use Rattle.vcp_inputs.specs.Programs.{TypedOf, NotTyped};
+ghost use Rattle.vcp_answer.specs.Abouts.{about};
+ghost use Rattle.vcp_answer.specs.Performing.{Performs};
+ghost use Rattle.vcp_answer.specs.Seen.{FilesSeen, moment_seen};
+ghost use Rattle.vcp_core.specs.CommandTasks.{DemoTask as DemoTaskOf};
 ghost use Rattle.vcp_core.specs.Demo.{DemoTask, made_held, made_name};
-ghost use Rattle.vcp_core.specs.Reach.{Reaches, Unread};
+ghost use Rattle.vcp_core.specs.Reach.{Reaches, Unread, told_line, told_status};
 ghost use Rattle.vcp_core.specs.declared.ending.End.TheVariants as end;
 ghost use Rattle.vcp_core.specs.declared.fault.Fault.TheVariants as fault;
 
@@ -38,6 +42,10 @@ pub fn demo_command<U: Unit, O: Sink>(
     ensures reaches { (broken : ℕ) → Reaches (demo number) (DemoTask number)
         (moment (U.log unit.old) (U.wrong unit.old) (O.written out.old) (O.faults out.old))
         (moment (U.log unit.new) (U.wrong unit.new) (O.written out.new) (O.faults out.new)) broken broken result }
+    ensures performs { (files : FilesSeen) → Performs (about (demo number)) (λ h. DemoTaskOf number) files files
+        (moment_seen (U.log unit.old) (U.wrong unit.old) (O.written out.old) (O.faults out.old))
+        (moment_seen (U.log unit.new) (U.wrong unit.new) (O.written out.new) (O.faults out.new))
+        (told_line (demo number) result) (told_status result) }
     ensures read { ¬ Unread result }
     ensures write { result ≡ Err fault.Write → Rose (O.faults out.old) (O.faults out.new) }
     ensures refused { result ≡ Ok end.Refused → Rose (U.wrong unit.old) (U.wrong unit.new) }
@@ -64,6 +72,10 @@ fn run_made<U: Unit, O: Sink>(
     ensures reaches { (broken : ℕ) → Reaches (demo number) (DemoTask number)
         (moment (U.log unit.old) (U.wrong unit.old) (O.written out.old) (O.faults out.old))
         (moment (U.log unit.new) (U.wrong unit.new) (O.written out.new) (O.faults out.new)) broken broken result }
+    ensures performs { (files : FilesSeen) → Performs (about (demo number)) (λ h. DemoTaskOf number) files files
+        (moment_seen (U.log unit.old) (U.wrong unit.old) (O.written out.old) (O.faults out.old))
+        (moment_seen (U.log unit.new) (U.wrong unit.new) (O.written out.new) (O.faults out.new))
+        (told_line (demo number) result) (told_status result) }
     ensures read { ¬ Unread result }
     ensures write { result ≡ Err fault.Write → Rose (O.faults out.old) (O.faults out.new) }
     ensures refused { result ≡ Ok end.Refused → Rose (U.wrong unit.old) (U.wrong unit.new) }

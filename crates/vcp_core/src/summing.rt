@@ -9,11 +9,14 @@ ghost use Rattle.input_rows.specs.RowsOf.{IsOfRecord};
 ghost use Rattle.machine_run.specs.Moments.{moment};
 ghost use Rattle.machine_run.specs.Stops.{GrowsToStop};
 ghost use Rattle.signature_table.specs.Signatures.{IsTableOf};
-ghost use Rattle.vcp_words.specs.Forms.{Code as CodeOf};
-ghost use Rattle.vcp_answer.specs.Answer.{Subject};
+ghost use Rattle.vcp_words.specs.Forms.{Code as CodeOf, default_code};
+ghost use Rattle.vcp_typed.specs.SourceRun.{Program};
+ghost use Rattle.vcp_answer.specs.Answer.{Subject, source};
+ghost use Rattle.vcp_answer.specs.Seen.{moment_seen};
 ghost use Rattle.vcp_answer.specs.Sums.{first_value as first_value_of};
+ghost use Rattle.vcp_core.specs.CommandTasks.{summary_job as summary_job_to};
 ghost use Rattle.vcp_core.specs.Demo.{made_job, summary_job};
-ghost use Rattle.vcp_core.specs.MachineRun.{CarriesOut, RunsJob, IsThere};
+ghost use Rattle.vcp_core.specs.MachineRun.{CarriesOut, RunsJob, RunsTo, IsThere};
 ghost use Rattle.vcp_core.specs.SummaryRun.{KeepsSums, PrintsSummary};
 ghost use Rattle.vcp_core.specs.declared.ending.End.TheVariants as end;
 ghost use Rattle.vcp_core.specs.declared.fault.Fault.TheVariants as fault;
@@ -111,6 +114,9 @@ fn sum_up<U: Unit, O: Sink>(
         RunsJob (summary_job number name code subject rows.old)
         (moment (U.log unit.old) (U.wrong unit.old) (O.written out.old) (O.faults out.old))
         (moment (U.log unit.new) (U.wrong unit.new) (O.written out.new) (O.faults out.new)) result }
+    ensures ran { (p : Program) → CarriesOut graph.now table.now rows.old (source p) default_code → RunsTo (summary_job_to number p rows.old)
+        (moment_seen (U.log unit.old) (U.wrong unit.old) (O.written out.old) (O.faults out.old))
+        (moment_seen (U.log unit.new) (U.wrong unit.new) (O.written out.new) (O.faults out.new)) result }
     ensures write { result ≡ Err fault.Write → Rose (O.faults out.old) (O.faults out.new) }
     ensures refused { result ≡ Ok end.Refused → Rose (U.wrong unit.old) (U.wrong unit.new) }
     ensures stopped { result ≡ Ok end.Stopped → GrowsToStop (U.log unit.old) (U.log unit.new) }
@@ -140,6 +146,9 @@ pub fn run_summed<U: Unit, O: Sink>(
     ensures runs { RunsJob (made_job number program.now rows.old)
         (moment (U.log unit.old) (U.wrong unit.old) (O.written out.old) (O.faults out.old))
         (moment (U.log unit.new) (U.wrong unit.new) (O.written out.new) (O.faults out.new)) result }
+    ensures ran { RunsTo (summary_job_to number program.now rows.old)
+        (moment_seen (U.log unit.old) (U.wrong unit.old) (O.written out.old) (O.faults out.old))
+        (moment_seen (U.log unit.new) (U.wrong unit.new) (O.written out.new) (O.faults out.new)) result }
     ensures write { result ≡ Err fault.Write → Rose (O.faults out.old) (O.faults out.new) }
     ensures refused { result ≡ Ok end.Refused → Rose (U.wrong unit.old) (U.wrong unit.new) }
     ensures stopped { result ≡ Ok end.Stopped → GrowsToStop (U.log unit.old) (U.log unit.new) }

@@ -13,3 +13,9 @@ returns-clause-runs g c =
     c.sum_up.ensures.runs made_name (source c.args.program.now) default_code
     (source-carried c.args.program.now default_code c.args.rows.now c.in_ok-graph.graph c.in_ok-table.table c.in_ok-graph.ensures
     c.in_ok-table.ensures.numbers c.requires.types c.requires.typed)
+
+pub returns-clause-ran : goal.returns-clause-ran
+returns-clause-ran g c =
+    c.sum_up.ensures.ran c.args.program.now
+    (source-carried c.args.program.now default_code c.args.rows.now c.in_ok-graph.graph c.in_ok-table.table c.in_ok-graph.ensures
+    c.in_ok-table.ensures.numbers c.requires.types c.requires.typed)
