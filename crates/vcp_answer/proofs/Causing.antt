@@ -3,14 +3,16 @@ use Rattle.std.proofs.Common.{ℕ, ◌≡◌, ◌≤◌, lit≤, inl, inr, refl,
 use Rattle.std.specs.Io.KnownBytes.{Appends}
 use Rattle.vcp_outside.specs.Counts.{Rose}
 use Rattle.input_rows.specs.declared.fault.RowFault.{RowFault}
+use Rattle.fault_injector.specs.declared.verdict.Verdict.{Verdict}
 use Rattle.vcp_answer.specs.Answer.{Answer}
-use Rattle.vcp_answer.specs.HowItEnds.{TellsLine, ended, cut, short, unread, unmade, Given, Causes, NothingFailed, HasOwnStatus}
-use Rattle.vcp_answer.specs.HowItEnds.{EndingsHaveCauses, GivingUpHasCauses}
+use Rattle.vcp_answer.specs.CampaignKind.{verdicts_answer}
+use Rattle.vcp_answer.specs.Printing.{Report}
+use Rattle.vcp_answer.specs.Endings.{TellsLine, ended, cut, short, unread, unmade, Given, Causes, NothingFailed, HasOwnStatus}
+use Rattle.vcp_answer.specs.Endings.{DoneIsMeant, EndingsHaveCauses, GivingUpHasCauses}
 use Rattle.vcp_answer.specs.Kinds.{Task, lacks, answers, compiles, runs, judges, Done, lack_answer}
 use Rattle.vcp_answer.specs.Reports.{End, complete, stopped, refused, run_status}
-use Rattle.vcp_answer.specs.RunKind.{run_read}
+use Rattle.vcp_answer.specs.RunKind.{job_answer, run_read}
 use Rattle.vcp_answer.specs.Seen.{Outside, SinkSeen, UnitSeen}
-use Rattle.vcp_answer.proofs.Following.{done_is_meant}
 
 -- ---- the status of an answer
 
@@ -35,6 +37,15 @@ five_lacks (judges c) a b x few d h = absurd (omega (arith, h, status_of x _ d.r
 lacks_five : (task : Task) (a b : UnitSeen) (x : Answer) (name : List ℕ) → task ≡ lacks name → Done task a b x → x.status ≡ 5
 lacks_five task a b x name is d =
     let lacking : Done (lacks name) a b x = subst (λ (t : Task). Done t a b x) is d in status_of x (lack_answer name) lacking.1
+
+-- ---- the answer is the one that is meant
+
+pub done_is_meant : DoneIsMeant
+done_is_meant (lacks name) before after x d honest = d.1
+done_is_meant (answers a) before after x d honest = d.1
+done_is_meant (compiles p code) before after x d honest = d.1
+done_is_meant (runs j) before after x d honest = d.read ∙ ap (λ (r : Report). job_answer j r) (d.honest honest)
+done_is_meant (judges c) before after x d honest = d.read ∙ ap (λ (vs : List Verdict). verdicts_answer c vs) (d.honest honest)
 
 -- ---- the answer came
 

@@ -4,11 +4,10 @@ use Rattle.std.specs.Io.KnownBytes.{Appends, IsAtEnd}
 use Rattle.vcp_outside.specs.Counts.{Rose}
 use Rattle.vcp_outside.specs.Held.{Held}
 use Rattle.vcp_answer.specs.Answer.{Answer}
-use Rattle.vcp_answer.specs.Endings.{Among}
-use Rattle.vcp_answer.specs.Abouts.{About, AllHeld}
+use Rattle.vcp_answer.specs.Abouts.{Among, About, AllHeld}
 use Rattle.vcp_answer.specs.Clauses.{IsEnd, IsTooLong, Keeps, MayHold, Serves, TellsTooLong}
-use Rattle.vcp_answer.specs.HowItEnds.{Answered, known, given_up, Causes, Ends, GivenUp, HasOwnStatus, NothingFailed, TellsLine}
-use Rattle.vcp_answer.specs.HowItEnds as ends
+use Rattle.vcp_answer.specs.Endings.{Answered, known, given_up, Causes, Ends, GivenUp, HasOwnStatus, NothingFailed, TellsLine}
+use Rattle.vcp_answer.specs.Endings as ends
 use Rattle.vcp_answer.specs.Kinds.{Task, lacks, answers, compiles, runs, judges, Done}
 use Rattle.vcp_answer.specs.Performing.{Still, Reaches, done, cut, short, unread, unmade, Performs}
 use Rattle.vcp_answer.specs.RunKind.{run_read}

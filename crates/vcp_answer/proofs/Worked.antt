@@ -8,7 +8,8 @@ use Rattle.coded_unit.specs.Words.{coded}
 use Rattle.signature_table.specs.Signatures.{signature}
 use Rattle.vcp_words.specs.Forms.{Code}
 use Rattle.vcp_answer.specs.CycleWords.{words_for, words_in}
-use Rattle.vcp_answer.specs.Reports.{complete, words_then}
+use Rattle.vcp_answer.specs.Printing.{Printing, last_part, no_report}
+use Rattle.vcp_answer.specs.Reports.{complete}
 
 abbrev first_code : Code
 first_code = record { seed = 0; step = 1 }
@@ -32,9 +33,12 @@ stopping = refl
 not-begun : words_in 2 ((answer.Word (pos 7) ∷ []) ∷ (answer.Word (pos 8) ∷ answer.Range ∷ []) ∷ []) ≡ []
 not-begun = refl
 
--- after the words' lines: a release, and a row that is refused, where nothing is printed
-released : words_then (codes "0 CONST\n") [] 1 complete None ≡ codes "0 CONST\nreleased\n"
+-- behind the rows, where words are shown: their lines and a release; and nothing where a row is refused
+abbrev one_line : Printing
+one_line = record { header = []; row = λ cycle row. []; lines = λ words. codes "0 CONST\n"; done = λ rows. codes "released\n" }
+
+released : last_part one_line [] no_report complete None ≡ codes "0 CONST\nreleased\n"
 released = refl
 
-refused-row : words_then (codes "0 CONST\n") [] 1 complete (Some row.Cycle) ≡ []
+refused-row : last_part one_line [] no_report complete (Some row.Cycle) ≡ []
 refused-row = refl

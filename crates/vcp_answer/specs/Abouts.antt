@@ -1,5 +1,5 @@
 -- Abouts: what each command is about, a line a command. Nothing else that is said of commands goes by their names.
-use Rattle.std.specs.Prelude.{ℕ, Bool, true, false, List, [], ◌∷◌, ◌++◌, Option, Some, None, IsSome}
+use Rattle.std.specs.Prelude.{ℕ, ◌≡◌, ◌⊎◌, Bool, true, false, List, [], ◌∷◌, ◌++◌, Option, Some, None, IsSome}
 use Rattle.vcp_base.specs.Limits.{most_source_bytes, most_image_bytes, most_rows_bytes}
 use Rattle.vcp_outside.specs.Held.{Held}
 use Rattle.vcp_words.specs.Forms.{Form, Rows, check, format, plain, run, compile, list, exec, trace, widen, audit, inject, demo, file, cycles}
@@ -81,3 +81,8 @@ without_unit (demo n) = None
 abbrev pub AllHeld : Held → List FileWord → Type 0
 AllHeld held [] = Unit {0}
 AllHeld held (word ∷ words) = IsSome (held word.name) × AllHeld held words
+
+-- one of these
+abbrev pub Among : {X : Type 0} → X → List X → Type 0
+Among x [] = ⊥
+Among x (y ∷ ys) = (x ≡ y) ⊎ Among x ys

@@ -8,9 +8,8 @@ use Rattle.vcp_words.specs.Usage.{usage_text}
 use Rattle.vcp_inputs.specs.declared.refusal.Refusal.TheVariants as refusal
 use Rattle.vcp_inputs.specs.Lines.{refusal_text}
 use Rattle.vcp_answer.specs.Answer.{Answer}
-use Rattle.vcp_answer.specs.Endings.{Among}
-use Rattle.vcp_answer.specs.Abouts.{About, FileWord, AllHeld, without_unit}
-use Rattle.vcp_answer.specs.HowItEnds.{Answered, Came, Causes, IsNoFault, NothingFailed, TellsLine}
+use Rattle.vcp_answer.specs.Abouts.{Among, About, FileWord, AllHeld, without_unit}
+use Rattle.vcp_answer.specs.Endings.{Answered, Came, Causes, IsNoFault, NothingFailed, TellsLine}
 use Rattle.vcp_answer.specs.Kinds.{Task, answers}
 use Rattle.machine_run.specs.Stops.{GrowsToStop}
 use Rattle.vcp_answer.specs.Seen.{SinkSeen, Outside, IsHonest}

@@ -7,7 +7,7 @@ use Rattle.vcp_words.specs.Forms.{Code}
 use Rattle.vcp_inputs.specs.declared.refusal.Refusal.{Refusal}
 use Rattle.vcp_inputs.specs.Lines.{read_fault_text, refusal_text}
 use Rattle.vcp_answer.specs.Answer.{Answer, Campaign, printed}
-use Rattle.vcp_answer.specs.Courses.{MayCompile, image_answer}
+use Rattle.vcp_answer.specs.GraphsOf.{MayCompile, image_answer}
 use Rattle.vcp_answer.specs.Seen.{UnitSeen, Moment}
 use Rattle.vcp_answer.specs.RunKind.{Job, RunDone, RunLeft, job_answer, run_meant}
 use Rattle.vcp_answer.specs.CampaignKind.{CampaignDone, CampaignLeft, verdicts_answer, verdicts_meant}

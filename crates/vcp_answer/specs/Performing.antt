@@ -6,8 +6,7 @@ use Rattle.vcp_outside.specs.Held.{Held}
 use Rattle.vcp_outside.specs.Written.{AppendsFront, AppendsPart}
 use Rattle.vcp_inputs.specs.Lines.{memory_text, read_fault_text, write_fault_text}
 use Rattle.vcp_answer.specs.Answer.{Answer}
-use Rattle.vcp_answer.specs.Endings.{Among}
-use Rattle.vcp_answer.specs.Abouts.{About, FileWord}
+use Rattle.vcp_answer.specs.Abouts.{Among, About, FileWord}
 use Rattle.vcp_answer.specs.Clauses.{IsEnd, IsTooLong, MayHold}
 use Rattle.vcp_answer.specs.Kinds.{Task, Done, Left}
 use Rattle.machine_run.specs.Stops.{GrowsToStop}

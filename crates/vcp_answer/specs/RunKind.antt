@@ -11,7 +11,7 @@ use Rattle.coded_machine.specs.Runs.{AllCycles, calls_over, outcome_over}
 use Rattle.machine_run.specs.RowRuns.{SomeCycles, texts_from}
 use Rattle.vcp_words.specs.Forms.{Code}
 use Rattle.vcp_answer.specs.Answer.{Answer, Subject}
-use Rattle.vcp_answer.specs.Courses.{MayRun}
+use Rattle.vcp_answer.specs.GraphsOf.{MayRun}
 use Rattle.vcp_answer.specs.Reports.{end_read, end_told, names_of, told_of}
 use Rattle.vcp_answer.specs.Printing.{Report, Words, Printing, no_report, run_then, told_answer}
 use Rattle.vcp_answer.specs.Seen.{UnitSeen, Moment, IsHonest}

@@ -47,6 +47,12 @@ files_seen held rest faults broken = record { held = held; rest = rest; faults =
 abbrev pub moment_seen : Option (List Entry) → ℕ → Option (List ℕ) → ℕ → Moment
 moment_seen log wrong written faults = record { unit = record { log = log; wrong = wrong }; out = record { written = written; faults = faults } }
 
+-- what is seen of all: of the files, of the unit, of the output and of the errors
+abbrev pub outside_seen : Option Held → Option (List ℕ) → ℕ → ℕ → Option (List Entry) → ℕ → Option (List ℕ) → ℕ → Option (List ℕ) → ℕ → Outside
+outside_seen held rest faults broken log wrong written out_faults lines err_faults =
+    outside (files_seen held rest faults broken) (record { log = log; wrong = wrong }) (record { written = written; faults = out_faults })
+    (record { written = lines; faults = err_faults })
+
 abbrev pub moment_of : Outside → Moment
 moment_of o = record { unit = o.unit; out = o.out }
 

@@ -4,4 +4,4 @@
 
 mod laws;
 
-pub use laws::{endings_have_causes, kinds_follow};
+pub use laws::endings_have_causes;

@@ -16,8 +16,8 @@ use Rattle.vcp_answer.specs.Performing.{Reaches, done, unmade}
 use Rattle.vcp_answer.specs.Seen.{FilesSeen, Moment}
 use Rattle.vcp_core.specs.declared.fault.Fault.{Fault}
 use Rattle.vcp_core.specs.declared.fault.Fault.TheVariants as fault
-use Rattle.vcp_core.specs.CommandTasks.{Audited, AuditTask, too_large}
-use Rattle.vcp_core.specs.CommandTasks as tasks
+use Rattle.vcp_core.specs.Tasks.{Audited, AuditTask, too_large}
+use Rattle.vcp_core.specs.Tasks as tasks
 use Rattle.vcp_core.specs.Reach.{fault_status, fault_text}
 use Rattle.vcp_core.proofs.Performing.{file_takes, still}
 

@@ -1,4 +1,4 @@
--- DemoKinds: what the command `demo` comes to, by kinds of tasks, from what its calls give.
+-- DemoKinds: what the command `demo` comes to, from what its calls give.
 use Rattle.std.proofs.Common.{ℕ, ◌≡◌, refl, sym, subst, [], Ok, Err}
 use Rattle.vcp_base.specs.Limits.{most_source_bytes}
 use Rattle.input_rows.specs.RowsOf.{RowsLeft}
@@ -20,8 +20,7 @@ use Rattle.vcp_answer.specs.Kinds.{Task, refusal_task, runs}
 use Rattle.vcp_answer.specs.Performing.{Still, Reaches, done, unmade}
 use Rattle.vcp_answer.specs.Seen.{FilesSeen, Moment}
 use Rattle.vcp_core.specs.declared.fault.Fault.TheVariants as fault
-use Rattle.vcp_core.specs.CommandTasks.{DemoTask, summary_job}
-use Rattle.vcp_core.specs.Demo.{made_held, made_name}
+use Rattle.vcp_core.specs.Tasks.{DemoTask, summary_job, made_held, made_name}
 use Rattle.vcp_core.specs.Reach.{fault_text}
 use Rattle.vcp_core.proofs.Performing.{file_takes}
 

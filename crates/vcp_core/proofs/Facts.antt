@@ -18,11 +18,6 @@ pub if_some_is : {X : Type 0} (o : Option X) (x : X) (P : X → Type 0) → Some
 if_some_is None x P e h = absurd cc
 if_some_is (Some y) x P e h = let same : x ≡ y = cc in rw same at h
 
--- and of none
-pub if_none : {X : Type 0} (o : Option X) (P : X → Type 0) → None ≡ o → IfSome o P
-if_none None P e = tt
-if_none (Some y) P e = absurd cc
-
 pub if_some_same : {X : Type 0} (o p : Option X) (P : X → Type 0) → p ≡ o → IfSome p P → IfSome o P
 if_some_same o p P e h = rw (sym e) h
 

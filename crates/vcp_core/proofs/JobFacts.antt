@@ -9,7 +9,6 @@ use Rattle.vcp_base.specs.declared.ty.Ty.{Ty}
 use Rattle.vcp_typed.specs.Fitting.{AreRows, input_types}
 use Rattle.vcp_typed.specs.SourceRun.{Program}
 use Rattle.input_rows.specs.RowsOf.{RowsLeft}
-use Rattle.coded_unit.specs.Log.{Entry}
 use Rattle.op_graph.specs.declared.op.Op.{Op}
 use Rattle.op_graph.specs.Lists.{Lists, column, output_column}
 use Rattle.signature_table.specs.Signatures.{Numbers, table_of}
@@ -19,20 +18,13 @@ use Rattle.coded_machine.specs.State.{State, fresh}
 use Rattle.flat_expr.specs.Told.{Means, halted_at}
 use Rattle.machine_run.specs.declared.fault.RunFault.{RunFault}
 use Rattle.machine_run.specs.Leaves.{Leaves}
-use Rattle.machine_run.specs.Moments.{Moment, moment}
+use Rattle.machine_run.specs.Moments.{Moment}
 use Rattle.vcp_words.specs.Forms.{Code}
 use Rattle.vcp_answer.specs.Answer.{Subject, source}
-use Rattle.vcp_answer.specs.Courses.{StandsFor}
-use Rattle.vcp_answer.specs.Moments.{Untouched}
+use Rattle.vcp_answer.specs.GraphsOf.{StandsFor}
 use Rattle.vcp_answer.specs.Reports.{end_read, end_told, names_of, run_status}
 use Rattle.vcp_core.specs.MachineRun.{CarriesOut, IsThere}
-use Rattle.vcp_core.proofs.JobRun.{grows-none}
 use Rattle.vcp_core.proofs.PlainNames.{inputs-count}
-use Rattle.vcp_core.proofs.PlainTurns.{appends-nothing}
-
--- neither the unit nor the sink was called
-pub untouched-by : (log : Option (List Entry)) (wrong : ℕ) (out : Option (List ℕ)) (f h : ℕ) → Untouched (moment log wrong out f) (moment log wrong out h)
-untouched-by log wrong out f h = record { log = grows-none log; wrong = refl; out = appends-nothing out }
 
 -- rows of values of these types, as a list of rows
 all-rows : (types : List Ty) (rows : List (List ℤ)) → All (AreIn types) rows → AreRows types rows

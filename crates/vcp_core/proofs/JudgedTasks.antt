@@ -31,11 +31,10 @@ use Rattle.vcp_inputs.specs.Lines.{input_status, input_text, refusal_text}
 use Rattle.vcp_inputs.specs.Refusals.{no_rows}
 use Rattle.vcp_inputs.specs.RowsOutcome.{RowsOutcome, opened, Opens}
 use Rattle.vcp_inputs.specs.Scripts.{ScriptOf, NotScript, no_script}
-use Rattle.vcp_answer.specs.Abouts.{about, FileWord, rows_words, script_word}
+use Rattle.vcp_answer.specs.Abouts.{about, FileWord, rows_words, script_word, Among}
 use Rattle.vcp_answer.specs.Answer.{Campaign}
 use Rattle.vcp_answer.specs.CampaignKind.{CampaignDone, CampaignLeft, verdicts_answer, verdicts_meant}
 use Rattle.vcp_answer.specs.Clauses.{IsTooLong}
-use Rattle.vcp_answer.specs.Endings.{Among}
 use Rattle.vcp_answer.specs.FileTasks.{OnRows, taken}
 use Rattle.vcp_answer.specs.Kinds.{Task, judges, refusal_task}
 use Rattle.vcp_answer.specs.Performing.{Reaches, done, cut, short, unread, unmade}
@@ -43,10 +42,10 @@ use Rattle.vcp_answer.specs.Seen.{FilesSeen, Moment, moment_seen}
 use Rattle.vcp_core.specs.declared.fault.Fault.{Fault}
 use Rattle.vcp_core.specs.declared.fault.Fault.TheVariants as fault
 use Rattle.vcp_core.specs.declared.image_loading.LoadedImage.{LoadedImage}
-use Rattle.vcp_core.specs.CommandTasks.{FewRows, InjectTask, JudgedScript, WholeRows}
-use Rattle.vcp_core.specs.CommandTasks as task
+use Rattle.vcp_core.specs.Tasks.{FewRows, InjectTask, JudgedScript, WholeRows, most_trace}
+use Rattle.vcp_core.specs.Tasks as task
 use Rattle.vcp_core.specs.Faults.{of_campaign}
-use Rattle.vcp_core.specs.Inject.{AllRows, NoRows, RowsRefused, at_header, at_row, too_many, most_trace}
+use Rattle.vcp_core.specs.Inject.{AllRows, NoRows, RowsRefused, at_header, at_row, too_many}
 use Rattle.vcp_core.specs.Loading.{LoadsImage, image_outcome, loaded}
 use Rattle.vcp_core.specs.Reach.{IsUnread, fault_status, fault_text}
 use Rattle.vcp_core.proofs.Performing.{file_lost, file_taken, file_takes, still}

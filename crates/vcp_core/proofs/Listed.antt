@@ -7,7 +7,7 @@ use Rattle.signature_table.specs.Signatures.{Numbers}
 use Rattle.run_report.specs.OperationLines.{list_text}
 use Rattle.vcp_outside.specs.Written.{Writes}
 use Rattle.vcp_outside.specs.declared.failed.Failed.{Failed}
-use Rattle.vcp_core.specs.Listing.{lines_from, listing}
+use Rattle.vcp_core.specs.Tasks.{lines_from, listing}
 use Rattle.vcp_core.proofs.JobRun.{not-there}
 use Rattle.vcp_core.proofs.Written.{writes-on, writes-fail}
 

@@ -15,8 +15,7 @@ use Rattle.vcp_inputs.specs.Files.{Loads}
 use Rattle.vcp_inputs.specs.Lines.{input_text, input_status, refusal_text}
 use Rattle.vcp_inputs.specs.RowsOutcome.{HasLongFile, Opens, RowsOutcome, begins, lacking, refused, opened, rows_outcome, source_outcome}
 use Rattle.vcp_inputs.specs.declared.rows.RowsSource.{RowsSource}
-use Rattle.vcp_answer.specs.Endings.{Among}
-use Rattle.vcp_answer.specs.Abouts.{About, FileWord, about, rows_words}
+use Rattle.vcp_answer.specs.Abouts.{Among, About, FileWord, about, rows_words}
 use Rattle.vcp_answer.specs.Clauses.{IsTooLong}
 use Rattle.vcp_answer.specs.FileTasks.{TakenFile, taken, OnRows, TakenRows}
 use Rattle.vcp_answer.specs.Kinds.{Task, lacks, lack_answer, refusal_task}
@@ -25,8 +24,7 @@ use Rattle.vcp_answer.specs.Seen.{FilesSeen, Moment}
 use Rattle.vcp_core.specs.declared.fault.Fault.{Fault}
 use Rattle.vcp_core.specs.declared.fault.Fault.TheVariants as fault
 use Rattle.vcp_core.specs.Loading.{LoadsRows, loaded, no_file, no_rows, wanted, IsFile}
-use Rattle.vcp_core.specs.Reach.{fault_status, fault_text, rows_told}
-use Rattle.vcp_core.specs.Tasks.{source_name}
+use Rattle.vcp_core.specs.Reach.{fault_status, fault_text, rows_told, source_name}
 use Rattle.vcp_core.proofs.Performing.{file_lost, file_taken, still}
 
 -- a refusal is that of too many bytes, or it isn't

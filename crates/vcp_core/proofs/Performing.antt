@@ -14,8 +14,7 @@ use Rattle.vcp_inputs.specs.declared.refusal.NoInput.TheVariants as input
 use Rattle.vcp_inputs.specs.Files.{NotLoaded, long, short}
 use Rattle.vcp_inputs.specs.Lines.{input_text, input_status, memory_text, refusal_text, write_fault_text}
 use Rattle.vcp_answer.specs.Answer.{Answer, printed}
-use Rattle.vcp_answer.specs.Endings.{Among}
-use Rattle.vcp_answer.specs.Abouts.{About, FileWord, about}
+use Rattle.vcp_answer.specs.Abouts.{Among, About, FileWord, about}
 use Rattle.vcp_answer.specs.Clauses.{IsEnd, IsTooLong, MayHold}
 use Rattle.vcp_answer.specs.FileTasks.{TakenFile, missing, taken, untaken}
 use Rattle.vcp_answer.specs.Kinds.{Task, answers, lacks, lack_answer, refusal_task, runs, Done, Left}
@@ -28,8 +27,7 @@ use Rattle.vcp_core.specs.declared.ending.End.TheVariants as end
 use Rattle.vcp_core.specs.declared.fault.Fault.{Fault}
 use Rattle.vcp_core.specs.declared.fault.Fault.TheVariants as fault
 use Rattle.vcp_core.specs.MachineRun.{RunsTo}
-use Rattle.vcp_core.specs.Reach.{Unread, end_status, fault_status, fault_text, rows_told, told_line, told_status}
-use Rattle.vcp_core.specs.Tasks.{source_name}
+use Rattle.vcp_core.specs.Reach.{Unread, end_status, fault_status, fault_text, rows_told, told_line, told_status, source_name}
 use Rattle.vcp_core.proofs.Facts.{if_some_always, if_some_weaker}
 use Rattle.vcp_core.proofs.PlainTurns.{appends-nothing}
 

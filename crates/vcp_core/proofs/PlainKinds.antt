@@ -1,4 +1,4 @@
--- How far the command `plain` comes, by kinds of tasks, from what printing its run leaves.
+-- How far the command `plain` comes, from what printing its run leaves.
 use Rattle.std.proofs.Common.{ℕ, ℤ, ◌≡◌, inl, inr, refl, sym, ap, subst, List, [], ◌∷◌, ◌++◌, length, Option, Some, None, Result, Ok, Err}
 use Rattle.std.specs.Io.KnownBytes.{Appends}
 use Rattle.coded_unit.specs.Log.{Entry}
@@ -13,19 +13,19 @@ use Rattle.vcp_typed.specs.SourceRun.{Program}
 use Rattle.vcp_words.specs.Forms.{Rows, plain}
 use Rattle.vcp_words.specs.Tables.{rows_name}
 use Rattle.vcp_inputs.specs.declared.refusal.NoInput.TheVariants as input
-use Rattle.vcp_answer.specs.Abouts.{about}
+use Rattle.vcp_answer.specs.Abouts.{about, Among}
 use Rattle.vcp_answer.specs.Answer.{Answer}
-use Rattle.vcp_answer.specs.Endings.{Among}
 use Rattle.vcp_answer.specs.Kinds.{Task, answers}
 use Rattle.vcp_answer.specs.Performing.{Reaches, done, cut, short}
 use Rattle.vcp_answer.specs.Printing.{every_row, last_part}
-use Rattle.vcp_answer.specs.Reports.{End as RunEnd, complete, stopped, refused, end_told, last_text, output_names}
+use Rattle.vcp_answer.specs.Reports.{End as RunEnd, complete, stopped, refused, end_told, output_names}
+use Rattle.vcp_core.specs.EndLines.{last_text}
 use Rattle.vcp_answer.specs.Seen.{FilesSeen, moment_seen}
 use Rattle.vcp_core.specs.declared.ending.End.{End}
 use Rattle.vcp_core.specs.declared.ending.End.TheVariants as end
 use Rattle.vcp_core.specs.declared.fault.Fault.{Fault}
 use Rattle.vcp_core.specs.declared.fault.Fault.TheVariants as fault
-use Rattle.vcp_core.specs.CommandTasks.{plain_answer}
+use Rattle.vcp_core.specs.Tasks.{plain_answer}
 use Rattle.vcp_core.specs.PlainRun.{Prints, plain_text}
 use Rattle.vcp_core.specs.Reach.{Unread, end_status, told_line, told_status}
 use Rattle.vcp_core.proofs.PlainReaching.{row_line}

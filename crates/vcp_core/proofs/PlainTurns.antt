@@ -17,7 +17,6 @@ use Rattle.vcp_answer.specs.Reports.{output_names}
 use Rattle.vcp_core.specs.declared.fault.Fault.{Fault}
 use Rattle.vcp_core.specs.declared.fault.Fault.TheVariants as fault
 use Rattle.vcp_inputs.specs.declared.refusal.NoInput.TheVariants as input
-use Rattle.vcp_inputs.specs.Refusals.{no_rows}
 use Rattle.vcp_core.specs.declared.ending.End.{End}
 use Rattle.vcp_core.specs.declared.ending.End.TheVariants as end
 use Rattle.vcp_core.specs.PlainRun.{last_line, plain_text, PrintsText, Prints, cycle_line, lines_from, rest_text, PrintsFrom}
@@ -81,9 +80,6 @@ pub record Going (p : Program) (first_values : List ℤ) (first : RowsLeft) (old
   pub stop : (run_from p first_values first.rows).end ≡ (run_from p m left.rows).end
   pub refusal : first.refusal ≡ left.refusal
   pub counted : n + length left.rows ≤ most_cycles
-
-pub going-starts : (p : Program) (m : List ℤ) (left : RowsLeft) (old : Option (List ℕ)) → length left.rows ≤ most_cycles → Going p m left old old 0 m left
-going-starts p m left old few = record { front = []; wrote = appends-nothing old; text = refl; stop = refl; refusal = refl; counted = omega (arith, few) }
 
 -- what the rest prints from here on, the run prints from the first cycle on
 pub going-ends : (p : Program) (m0 : List ℤ) (first : RowsLeft) (old now new : Option (List ℕ)) (n : ℕ) (m : List ℤ) (left : RowsLeft) (r : Result End Fault) →
@@ -151,38 +147,9 @@ pub text-without-rows : (p : Program) (n : ℕ) (m : List ℤ) (left : RowsLeft)
 text-without-rows p n m left refusal none =
     ap (λ rows. lines_from p n (run_from p m rows).rows (run_from p m rows).end left.refusal) none.rows ∙ ap (last_line p n None) none.refusal_is
 
-pub stop-without-rows : (p : Program) (m : List ℤ) (left : RowsLeft) (refusal : Option RowFault) → NoRows left refusal → (run_from p m left.rows).end ≡ None
-stop-without-rows p m left refusal none = ap (λ rows. (run_from p m rows).end) none.rows
-
-pub completes : (p : Program) (n : ℕ) (m : List ℤ) (left : RowsLeft) (now new : Option (List ℕ)) → NoRows left None → Appends now new (end_text n)
-    → PrintsFrom p n m left now new (Ok end.Done)
-completes p n m left now new none w = (stop-without-rows p m left None none, none.refusal_is, rw (text-without-rows p n m left None none) w)
-
 pub end-fails : (p : Program) (n : ℕ) (m : List ℤ) (left : RowsLeft) (now new : Option (List ℕ)) → NoRows left None → AppendsPart now new (end_text n)
     → PrintsFrom p n m left now new (Err fault.Write)
 end-fails p n m left now new none w = rw (text-without-rows p n m left None none) w
-
--- memory was wanted before the next line
-pub wants-memory : (text : List ℕ) (stop : Option Stop) (refusal : Option RowFault) (now : Option (List ℕ))
-    → PrintsText text stop refusal now now (Err fault.Memory)
-wants-memory text stop refusal now = ([], text, refl, appends-nothing now)
-
--- the next row is refused
-pub refuses-here : (p : Program) (n : ℕ) (m : List ℤ) (left : RowsLeft) (now : Option (List ℕ)) (f : RowFault) → ((f ≡ rows.Memory → ⊥) → NoRows left (Some f))
-    → PrintsFrom p n m left now now (Err (fault.Rows (no_rows f)))
-refuses-here p n m left now rows.Memory h = wants-memory (rest_text p n m left) (run_from p m left.rows).end left.refusal now
-refuses-here p n m left now rows.Header h = let none = h (λ e. absurd cc) in
-    (rows.Header, stop-without-rows p m left _ none, none.refusal_is, refl, rw (text-without-rows p n m left _ none) (appends-nothing now))
-refuses-here p n m left now (rows.Width row) h = let none = h (λ e. absurd cc) in
-    (rows.Width row, stop-without-rows p m left _ none, none.refusal_is, refl, rw (text-without-rows p n m left _ none) (appends-nothing now))
-refuses-here p n m left now (rows.Cell row column) h = let none = h (λ e. absurd cc) in
-    (rows.Cell row column, stop-without-rows p m left _ none, none.refusal_is, refl, rw (text-without-rows p n m left _ none) (appends-nothing now))
-refuses-here p n m left now rows.Form h = let none = h (λ e. absurd cc) in
-    (rows.Form, stop-without-rows p m left _ none, none.refusal_is, refl, rw (text-without-rows p n m left _ none) (appends-nothing now))
-refuses-here p n m left now rows.Cycles h = let none = h (λ e. absurd cc) in
-    (rows.Cycles, stop-without-rows p m left _ none, none.refusal_is, refl, rw (text-without-rows p n m left _ none) (appends-nothing now))
-refuses-here p n m left now rows.Cycle h = let none = h (λ e. absurd cc) in
-    (rows.Cycle, stop-without-rows p m left _ none, none.refusal_is, refl, rw (text-without-rows p n m left _ none) (appends-nothing now))
 
 -- ---- the whole
 

@@ -23,8 +23,9 @@ use Rattle.machine_run.specs.Moments.{moment}
 use Rattle.machine_run.specs.RowRuns.{texts_from, IsFront, CameToEnd, RunsRows}
 use Rattle.vcp_inputs.specs.Lines.{rows_text}
 use Rattle.vcp_inputs.specs.Refusals.{no_rows}
-use Rattle.vcp_answer.specs.Courses.{MayRun}
-use Rattle.vcp_answer.specs.Reports.{End, complete, stopped, refused, end_told, end_read, told_of, names_of, last_text, behind_text, run_status}
+use Rattle.vcp_answer.specs.GraphsOf.{MayRun}
+use Rattle.vcp_answer.specs.Reports.{End, complete, stopped, refused, end_told, end_read, told_of, names_of, behind_text, run_status}
+use Rattle.vcp_core.specs.EndLines.{last_text}
 use Rattle.vcp_answer.specs.Printing.{Report, Printing, every_row, goes_on, no_report, run_text, run_then, last_part}
 use Rattle.vcp_answer.specs.RunKind.{Job, RunLeft, numbers, calls_of, run_read, run_meant, job_answer}
 use Rattle.vcp_answer.specs.Seen.{Moment, moment_seen}

@@ -7,8 +7,7 @@ use Rattle.vcp_typed.specs.SourceRun.{Program}
 use Rattle.vcp_inputs.specs.Programs.{TypedOf}
 use Rattle.vcp_answer.specs.FileTasks.{taken}
 use Rattle.vcp_answer.specs.Kinds.{prints}
-use Rattle.vcp_core.specs.Check.{ok_text}
-use Rattle.vcp_core.specs.CommandTasks.{CheckTask}
+use Rattle.vcp_core.specs.Tasks.{ok_text, CheckTask}
 
 pub sized : (p : List ℕ) (held : Held) (t : Program) (n : ℕ) → ((text : List ℕ) × (held p ≡ Some text) × (length text ≤ most_source_bytes) × TypedOf text t)
     → n ≡ size t → CheckTask p held (prints (ok_text n))

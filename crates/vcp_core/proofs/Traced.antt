@@ -2,7 +2,6 @@
 use Rattle.std.proofs.Common.{ℕ, ◌≡◌, ◌≢◌, ◌⊎◌, inl, inr, refl, sym, ap, ◌∙◌, List, ◌++◌, append_assoc, codes, Option, None, Result, Ok, Err, arith}
 use Rattle.std.proofs.KnownBytes.{Appends-trans}
 use Rattle.std.proofs.lemmas.List.{length-append}
-use Rattle.std.specs.Io.KnownBytes.{Appends}
 use Rattle.vcp_base.specs.declared.kind.StopKind.{StopKind}
 use Rattle.vcp_outside.specs.Written.{Writes}
 use Rattle.vcp_outside.specs.declared.failed.Failed.{Failed}
@@ -10,9 +9,9 @@ use Rattle.coded_machine.specs.declared.cycle_end.CycleEnd.{CycleEnd}
 use Rattle.coded_machine.specs.declared.cycle_end.CycleEnd.TheVariants as cycle
 use Rattle.coded_machine.specs.State.{State}
 use Rattle.vcp_answer.specs.CycleWords.{word_lines}
-use Rattle.vcp_answer.specs.Reports.{End, complete, end_read, last_text, refused, stopped, words_then}
+use Rattle.vcp_answer.specs.Reports.{End, complete, end_read, refused, stopped}
+use Rattle.vcp_core.specs.EndLines.{last_text, words_then}
 use Rattle.vcp_core.specs.declared.ending.End.{End as Ends}
-use Rattle.vcp_core.specs.declared.ending.End.TheVariants as ending
 use Rattle.vcp_core.specs.MachineRun.{IsThere, PrintsEnd}
 use Rattle.vcp_core.specs.TraceRun.{PrintsWords, answered_words, traced_text}
 use Rattle.vcp_core.proofs.JobRun.{complete-is}
@@ -48,11 +47,6 @@ module _ (m : State) (names : List (List ℕ)) (n : ℕ) (a b c : Option (List �
       let (front, rest, is, some, taken) = failure.part in
       let whole : traced_text m names n e ≡ front ++ (rest ++ more) = all ∙ ap (λ l. l ++ more) is ∙ append_assoc front rest more in
       (failure.cause.failed, (front, rest ++ more, whole, rw (length-append rest more) (omega (arith, some)), taken))
-
-  -- the cycle was released, and this was written or not
-  pub released-on : Writes {T = Unit {0}} {E = Failed} a b f g lines (Ok tt) → Appends b c (codes "released\n")
-      → PrintsWords m names n cycle.Released a c f h (Ok ending.Done)
-  released-on before w = (Appends-trans a b c lines (codes "released\n") before.whole w, refl)
 
   pub released-cut : (why : Failed) → Writes {T = Unit {0}} {E = Failed} a b f g lines (Ok tt)
       → Writes {T = Unit {0}} {E = Failed} b c g h (codes "released\n") (Err why) → PrintsWords m names n cycle.Released a c f h (Err why)

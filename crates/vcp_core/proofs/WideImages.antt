@@ -1,34 +1,14 @@
 -- WideImages: images are taken, and graphs in the wide code have one.
-use Rattle.std.proofs.Common.{ℕ, ◌≡◌, ◌≤◌, true, refl, sym, ap, List, length, Some, ℤ}
+use Rattle.std.proofs.Common.{ℕ, ◌≡◌, true, refl, sym, ap, List, ℤ}
 use Rattle.vcp_base.specs.Code.{admits}
-use Rattle.vcp_base.specs.Limits.{most_image_bytes}
 use Rattle.vcp_base.specs.declared.code.Profile.TheVariants as profile
 use Rattle.vcp_base.specs.declared.ty.Ty.{Ty}
 use Rattle.vcp_base.specs.declared.ty.Ty.TheVariants as ty
-use Rattle.vcp_outside.specs.Held.{Held}
 use Rattle.op_graph.specs.GraphRun.{graph_run}
 use Rattle.op_graph.specs.Lists.{Lists}
 use Rattle.op_graph.specs.Rules.{IsGraph}
-use Rattle.signature_table.specs.Signatures.{Numbers, table_of}
 use Rattle.image_file.specs.Graphs.{HasImage}
-use Rattle.image_file.specs.Image.{image_of}
-use Rattle.vcp_inputs.specs.declared.images.Image.{Image}
-use Rattle.vcp_inputs.specs.Images.{ImageOf}
-use Rattle.vcp_answer.specs.Answer.{Task}
-use Rattle.vcp_answer.specs.Sources.{ImageText, ImageTask, is_image}
-use Rattle.vcp_core.specs.Widen.{widened}
-use Rattle.vcp_core.proofs.OneTask.{ImageLaws, image_task_once}
-use Rattle.vcp_core.proofs.Reaching.{holds}
-
--- a file that is an image comes to what is said of its graph and its table
-pub image_comes : (laws : ImageLaws) (g : Lists) (seed step : ℕ) (Then : Lists → Numbers → Task) (name : List ℕ) (held : Held) (task : Task)
-    → HasImage g seed step → length (image_of g seed step) ≤ most_image_bytes →
-    held name ≡ Some (image_of g seed step) → ImageTask Then name held task → task ≡ Then g (table_of seed step g)
-image_comes laws g seed step Then name held task has short found comes =
-    let i : Image = record { graph = g; table = table_of seed step g } in
-    let is : ImageOf (image_of g seed step) i = record { has = has; bytes = refl; table = refl } in
-    image_task_once laws Then name held task (Then g (table_of seed step g)) comes
-    (holds name held most_image_bytes (ImageText Then name) (image_of g seed step) (Then g (table_of seed step g)) found short (is_image i is))
+use Rattle.vcp_core.specs.Tasks.{widened}
 
 -- the wide code has words of each type
 wide_admits : (t : Ty) → admits profile.Wide t ≡ true

@@ -18,7 +18,7 @@ use Rattle.coded_machine.specs.Honest.{CellsHold, HonestCells, HonestCycles, Sta
 use Rattle.coded_machine.specs.Runs.{AllCycles, calls_over, setting_at, unless_ended}
 use Rattle.vcp_words.specs.Forms.{Code}
 use Rattle.vcp_answer.specs.CycleWords.{cycle_begun, unless_stopped, words_among, words_begun, words_for, words_in, words_meant}
-use Rattle.vcp_core.specs.Jobs.{code_of}
+use Rattle.vcp_core.specs.Tasks.{code_of}
 
 -- ---- one cycle
 

@@ -1,48 +1,34 @@
 -- WordsRun: how far the run of an image came of which the words of one cycle are printed, from what running its graph leaves.
-use Rattle.std.proofs.Common.{ℕ, zero, suc, ◌+◌, ◌≡◌, ◌≤◌, ◌<◌, ◌-◌, ◌^◌, Bool, true, false, cond, nat_le, inr, refl, sym, ap, subst, ◌∙◌, List, [], ◌∷◌, ◌++◌}
-use Rattle.std.proofs.Common.{length, append-nil, slice_index_or, Option, Some, None, Ok, Err, IfSome, arith, ℤ}
+use Rattle.std.proofs.Common.{ℕ, zero, suc, ◌+◌, ◌≡◌, ◌≤◌, ◌<◌, ◌-◌, Bool, true, false, cond, nat_le, refl, sym, ap, subst, ◌∙◌, List, [], ◌∷◌}
+use Rattle.std.proofs.Common.{length, slice_index_or, Option, Some, None, Ok, arith, ℤ}
 use Rattle.std.proofs.lemmas.Bool.Decides.{nat_tests}
-use Rattle.std.proofs.lemmas.List.{length-append, length-take}
-use Rattle.std.proofs.KnownBytes.{Appends-trans}
-use Rattle.std.specs.Io.KnownBytes.{Appends}
-use Rattle.vcp_outside.specs.Written.{AppendsPart}
+use Rattle.std.proofs.lemmas.List.{length-take}
 use Rattle.input_rows.specs.declared.fault.RowFault.{RowFault}
-use Rattle.input_rows.specs.RowsOf.{RowsLeft, IsOfRecord, behind_wanted, through}
+use Rattle.input_rows.specs.RowsOf.{RowsLeft, behind_wanted, through}
 use Rattle.coded_unit.specs.declared.call.Answer.{Answer as Given}
 use Rattle.coded_unit.specs.Log.{Entry}
 use Rattle.op_graph.specs.Lists.{Lists}
-use Rattle.op_graph.specs.GraphRun.{graph_run}
 use Rattle.signature_table.specs.Signatures.{Numbers, table_of}
 use Rattle.coded_machine.specs.declared.cycle_end.CycleEnd.{CycleEnd}
 use Rattle.coded_machine.specs.declared.cycle_end.CycleEnd.TheVariants as cycle
-use Rattle.coded_machine.specs.Calls.{AllRight, Carried, Whole}
+use Rattle.coded_machine.specs.Calls.{AllRight, Whole}
 use Rattle.coded_machine.specs.CycleEnds.{end_of, initial_words, outputs_of}
-use Rattle.coded_machine.specs.Runs.{AllCycles, Outcome, calls_over, followed_by, outcome_for, outcome_over, unless_ended}
+use Rattle.coded_machine.specs.Runs.{AllCycles, Outcome, calls_over, followed_by, outcome_over, unless_ended}
 use Rattle.coded_machine.specs.State.{State}
-use Rattle.flat_expr.specs.Told.{told_graph}
-use Rattle.machine_run.specs.declared.fault.RunFault.{RunFault}
-use Rattle.machine_run.specs.declared.fault.RunFault.TheVariants as given_up
 use Rattle.machine_run.specs.Leaves.{MachineAfter, last_answers}
 use Rattle.machine_run.specs.Moments.{moment}
-use Rattle.machine_run.specs.RowRuns.{CameToEnd, RunsRows, texts_from}
-use Rattle.vcp_inputs.specs.Lines.{rows_text}
-use Rattle.vcp_answer.specs.Answer.{image, runs, words_of}
+use Rattle.machine_run.specs.RowRuns.{RunsRows}
+use Rattle.vcp_answer.specs.Answer.{image}
 use Rattle.vcp_answer.specs.CycleWords.{word_lines, words_among, words_in, words_meant}
-use Rattle.vcp_answer.specs.Endings.{Cut, Front, Reached}
-use Rattle.vcp_answer.specs.Reports.{End, Report, behind_text, complete, end_read, goes_on, names_of, no_report, refused, report_read, report_told, run_status}
-use Rattle.vcp_answer.specs.Reports.{shown_text, stopped, words_then}
+use Rattle.vcp_answer.specs.Reports.{End, complete, end_read, names_of, refused, stopped}
+use Rattle.vcp_core.specs.EndLines.{words_then}
 use Rattle.vcp_answer.specs.Printing.{each_word, last_part}
 use Rattle.vcp_answer.specs.RunKind.{run_read}
 use Rattle.vcp_words.specs.Forms.{Code}
-use Rattle.vcp_core.specs.CommandTasks.{words_job as words_job_to}
-use Rattle.vcp_core.specs.declared.ending.End.{End as Ends}
-use Rattle.vcp_core.specs.Faults.{of_run}
-use Rattle.vcp_core.specs.Jobs.{code_of}
-use Rattle.vcp_core.specs.MachineRun.{IsThere, RunsJob}
-use Rattle.vcp_core.specs.Reach.{end_status}
-use Rattle.vcp_core.specs.Trace.{words_job}
+use Rattle.vcp_core.specs.Tasks.{words_job, code_of}
+use Rattle.vcp_core.specs.MachineRun.{IsThere}
 use Rattle.vcp_core.specs.TraceRun.{answered_words, traced_text}
-use Rattle.vcp_core.proofs.JobRun.{as-many, complete-is, no-behind-by, read-end, record-of, status-by, told-by}
+use Rattle.vcp_core.proofs.JobRun.{as-many, complete-is}
 
 -- ---- rows through a cycle
 
@@ -175,29 +161,9 @@ words-same-by lines names k complete behind h = ap (words_then lines names k com
 words-same-by lines names k (stopped s) behind h = refl
 words-same-by lines names k (refused i f w) behind h = refl
 
--- only the end of a run that was released is followed by a later one
-words-stay-by : (e : End) (rows : List (List ℤ)) (words : List ℤ) (later : Report) → (e ≡ complete → later ≡ no_report)
-    → goes_on rows e words [] later ≡ record { rows = rows; end = e; words = words; verdicts = [] }
-words-stay-by complete rows words later h = ap (goes_on rows complete words []) (h refl)
-    ∙ ap (λ r. record { rows = r; end = complete; words = words ++ []; verdicts = [] }) (append-nil rows)
-    ∙ ap (λ ws. record { rows = rows; end = complete; words = ws; verdicts = [] }) (append-nil words)
-words-stay-by (stopped s) rows words later h = refl
-words-stay-by (refused i f w) rows words later h = refl
-
 -- nothing is written for rows
 abbrev pub no_text : ℕ → List ℤ → List ℕ
 no_text = λ n row. []
-
-pub texts-none : (k : ℕ) (rows : List (List ℤ)) → texts_from no_text k rows ≡ []
-texts-none k [] = refl
-texts-none k (row ∷ rows) = texts-none (suc k) rows
-
--- and no part of nothing
-pub no-part : (old new : Option (List ℕ)) (bytes : List ℕ) → bytes ≡ [] → AppendsPart old new bytes → ⊥
-no-part old new bytes none (front, rest, is, some, w) =
-    let all : length bytes ≡ length front + length rest = ap length is ∙ length-append front rest in
-    let empty : length bytes ≡ 0 = ap length none in
-    omega (arith, all, empty, some)
 
 -- the last part of what is printed where a run came to this end
 last-words : (code : Code) (n : ℕ) (names : List (List ℕ)) (rows : List (List ℤ)) (words : List ℤ) (g : Lists) (own e : End) (behind : Option RowFault) →
@@ -226,70 +192,6 @@ module _ (g : Lists) (n : ℕ) (name : List ℕ) (t : Numbers) (left : RowsLeft)
   -- the lines of a run's words
   abbrev lines_of : List (List Given) → List ℕ
   lines_of cycles = word_lines g table n 0 g.operations (words_in n cycles)
-
-  -- what is read off answers that stand for the graph's run is what is meant
-  read-meant : (cycles : List (List Given)) → AllRight (calls_over g table 0 (initial_words g t.seed) left.rows cycles) → AllCycles g table 0 left.rows cycles
-      → outcome_is cycles ≡ outcome_for (graph_run g left.rows) →
-      report_read g (outcome_is cycles) (words_in n cycles) ≡ report_told (told_graph g left.rows) (words_meant g (code_of t) n left.rows)
-  read-meant cycles right all is =
-      ap (λ o. report_read g o (words_in n cycles)) is
-      ∙ ap (λ e. record { rows = (graph_run g left.rows).rows; end = e; words = words_in n cycles; verdicts = [] }) (read-end g (graph_run g left.rows).end)
-      ∙ ap (report_told (told_graph g left.rows)) (words-meant cycles right all)
-
-  -- all was written of a run that came to its end
-  reached : (cycles : List (List Given)) (e : CycleEnd) (o0 o3 : Option (List ℕ)) (f0 f3 : ℕ)
-      → Carried (calls_over g table 0 (initial_words g t.seed) left.rows cycles) l0 l1 w0 w1 → CameToEnd g table left.rows cycles e →
-      (w1 ≡ w0 → w0 < 2 ^ 64 - 1 → outcome_is cycles ≡ outcome_for (graph_run g left.rows)) →
-      Appends o0 o3 (words_then (lines_of cycles) names (length (outcome_is cycles).rows) (end_read g e) left.refusal) →
-      Reached (runs (words_job name n g t left)) (behind_text name (end_read g e) left.refusal) (run_status (end_read g e) left.refusal) (moment l0 w0 o0 f0)
-      (moment l1 w1 o3 f3)
-  reached cycles e o0 o3 f0 f3 carried came follows w = record {
-    course = record { graph = g; cycles = cycles; verdicts = [] };
-    whole = (refl, came.all);
-    log = carried.told;
-    out = rw came.end_is w;
-    line_is = ap (λ x. behind_text name (end_read g x) left.refusal) came.end_is;
-    status_is = ap (λ x. run_status (end_read g x) left.refusal) came.end_is;
-    honest = λ same below. read-meant cycles (carried.honest same below) came.all (follows same below);
-  }
-
-  -- nothing was written of a run that was given up, or where a row is refused behind the others
-  none-written : (k : ℕ) (rows : List (List ℤ)) (o1 o2 : Option (List ℕ)) → Appends o1 o2 (texts_from no_text k rows) → Appends o1 o2 []
-  none-written k rows o1 o2 w = rw (texts-none k rows) at w
-
-  row-refused : (f : RowFault) (o1 o2 : Option (List ℕ)) (f1 f2 : ℕ)
-      → RunsRows g table left no_text (moment l0 w0 o1 f1) (moment l1 w1 o2 f2) (Err (given_up.Rows f)) →
-      Reached (runs (words_job name n g t left)) (rows_text name f) 1 (moment l0 w0 o1 f1) (moment l1 w1 o2 f2)
-  row-refused f o1 o2 f1 f2 run =
-      let (came, is, lines) = run.ends in
-      let nothing : Appends o1 o2 [] = none-written 0 (outcome_is run.cycles).rows o1 o2 lines in
-      let text : words_then (lines_of run.cycles) names (length (outcome_is run.cycles).rows) complete left.refusal ≡ [] =
-      ap (words_then (lines_of run.cycles) names (length (outcome_is run.cycles).rows) complete) is in
-      let all = reached run.cycles cycle.Released o1 o2 f1 f2 run.carried came run.follows (rw text nothing) in
-      let line : behind_text name complete left.refusal ≡ rows_text name f = ap (behind_text name complete) is in
-      let code_is : run_status complete left.refusal ≡ 1 = ap (run_status complete) is in
-      rw line at (rw code_is at all)
-
-  wants-row : (o1 o2 : Option (List ℕ)) (f1 f2 : ℕ) → RunsRows g table left no_text (moment l0 w0 o1 f1) (moment l1 w1 o2 f2) (Err given_up.Memory)
-      → Front (runs (words_job name n g t left)) (moment l0 w0 o1 f1) (moment l1 w1 o2 f2)
-  wants-row o1 o2 f1 f2 run =
-      let nothing : Appends o1 o2 [] = none-written 0 (outcome_is run.cycles).rows o1 o2 run.ends in
-      record {
-        course = record { graph = g; cycles = run.cycles; verdicts = [] };
-        begun = (refl, run.some);
-        log = run.carried.told;
-        out = λ later comes. ([], _, refl, nothing);
-        honest = λ same below. ([], _, refl, nothing);
-      }
-
-  -- the run was given up
-  pub given-up-words : (why : RunFault) (o1 o2 : Option (List ℕ)) (f1 f2 : ℕ) → IfSome left.refusal IsOfRecord
-      → RunsRows g table left no_text (moment l0 w0 o1 f1) (moment l1 w1 o2 f2) (Err why) →
-      RunsJob (words_job name n g t left) (moment l0 w0 o1 f1) (moment l1 w1 o2 f2) (Err (of_run why))
-  given-up-words (given_up.Rows f) o1 o2 f1 f2 of run =
-      told-by (words_job name n g t left) f _ _ (record-of f left.refusal of run.ends.1) (row-refused f o1 o2 f1 f2 run)
-  given-up-words given_up.Write o1 o2 f1 f2 of run = absurd (no-part o1 o2 _ (texts-none 0 (outcome_is run.cycles).rows) run.ends.1)
-  given-up-words given_up.Memory o1 o2 f1 f2 of run = inr (wants-row o1 o2 f1 f2 run)
 
   -- ---- the run came to its end
 
@@ -329,49 +231,7 @@ module _ (g : Lists) (n : ℕ) (name : List ℕ) (t : Numbers) (left : RowsLeft)
 
     -- which is the last part of what is printed of the run
     pub last-part-is : traced_text m names n e
-        ≡ last_part (each_word g (code_of t) n) names (run_read (words_job_to name n g (code_of t) left) g run.cycles) (end_read g e) left.refusal
+        ≡ last_part (each_word g (code_of t) n) names (run_read (words_job name n g (code_of t) left) g run.cycles) (end_read g e) left.refusal
     last-part-is = text-is
         ∙ sym (last-words (code_of t) n names (outcome_is run.cycles).rows (words_in n run.cycles) g (end_read g (outcome_is run.cycles).end)
         (end_read g e) left.refusal)
-
-    -- it was printed
-    pub ended-words : (end : Ends) (o3 : Option (List ℕ)) (f3 : ℕ) → Appends o2 o3 (traced_text m names n e)
-        → end_status end ≡ run_status (end_read m.graph e) None
-        → Reached (runs (words_job name n g t left)) [] (end_status end) (moment l0 w0 o1 f1) (moment l1 w1 o3 f3)
-    ended-words end o3 f3 w status =
-        let (came, none, lines) = run.ends in
-        let behind : end_read g e ≡ complete → left.refusal ≡ None = λ c. none (complete-is g e there c) in
-        let nothing : Appends o1 o2 [] = none-written 0 (outcome_is run.cycles).rows o1 o2 lines in
-        let all = reached run.cycles e o1 o3 f1 f3 run.carried came run.follows
-        (rw text-is at (Appends-trans o1 o2 o3 [] (traced_text m names n e) nothing w)) in
-        let line : behind_text name (end_read g e) left.refusal ≡ [] = no-behind-by g names name (end_read g e) left.refusal behind in
-        let code_is : run_status (end_read g e) left.refusal ≡ end_status end =
-        sym (status ∙ ap (λ (h : Lists). run_status (end_read h e) None) after.graph ∙ status-by g names name (end_read g e) left.refusal behind) in
-        rw line at (rw code_is at all)
-
-    -- or a part of it
-    pub cut-words : (o3 : Option (List ℕ)) (f3 : ℕ) → AppendsPart o2 o3 (traced_text m names n e)
-        → Cut (runs (words_job name n g t left)) (moment l0 w0 o1 f1) (moment l1 w1 o3 f3)
-    cut-words o3 f3 (front, rest, is, some, taken) =
-        let (came, none, lines) = run.ends in
-        let o = outcome_is run.cycles in
-        let nothing : Appends o1 o2 [] = none-written 0 o.rows o1 o2 lines in
-        let whole : AppendsPart o1 o3 (words_then (lines_of run.cycles) names (length o.rows) (end_read g e) left.refusal) =
-        (front, rest, sym text-is ∙ is, some, Appends-trans o1 o2 o3 [] front nothing taken) in
-        let read : AppendsPart o1 o3 (shown_text (words_of g n) (code_of t) names (report_read g o (words_in n run.cycles)) left.refusal) =
-        rw came.end_is whole in
-        record {
-          course = record { graph = g; cycles = run.cycles; verdicts = [] };
-          begun = (refl, run.some);
-          log = run.carried.told;
-          out = λ later comes.
-              let stays : goes_on o.rows (end_read g o.end) (words_in n run.cycles) [] later ≡ report_read g o (words_in n run.cycles) =
-              words-stay-by (end_read g o.end) o.rows (words_in n run.cycles) later
-              (λ c. comes (as-many g table 0 left.rows run.cycles came.all
-              (came.end_is ∙ complete-is g e there (ap (end_read g) (sym came.end_is) ∙ c)))) in
-              subst (λ r. AppendsPart o1 o3 (shown_text (words_of g n) (code_of t) names r left.refusal)) (sym stays) read;
-          honest = λ same below.
-              subst (λ r. AppendsPart o1 o3 (shown_text (words_of g n) (code_of t) names r left.refusal))
-              (read-meant run.cycles (run.carried.honest same below) came.all (run.follows same below)) read;
-          earlier = tt;
-        }

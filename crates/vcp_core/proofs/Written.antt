@@ -1,8 +1,6 @@
 -- Bytes that were written in one step and then another.
-use Rattle.std.proofs.Common.{◌≡◌, ℕ, ◌-◌, ◌≤◌, Result, Ok, Err, [], arith, length-append, List, ◌++◌, length, take, drop, Option, append_assoc}
+use Rattle.std.proofs.Common.{◌≡◌, ℕ, ◌-◌, ◌≤◌, Result, Ok, Err, arith, length-append, List, ◌++◌, Option, append_assoc}
 use Rattle.std.proofs.KnownBytes.{Appends-trans}
-use Rattle.std.proofs.Math.Seq.{take-length}
-use Rattle.std.proofs.lemmas.List.{length-drop}
 use Rattle.std.specs.Io.KnownBytes.{Appends}
 use Rattle.vcp_outside.specs.Counts.{last_count}
 use Rattle.vcp_outside.specs.Written.{AppendsPart, Writes}
@@ -10,10 +8,6 @@ use Rattle.vcp_outside.specs.Written.{AppendsPart, Writes}
 -- some bytes were written and then others, which together are all of these
 pub appends-appends : (a b c : Option (List ℕ)) (p q all : List ℕ) → Appends a b p → Appends b c q → all ≡ p ++ q → Appends a c all
 appends-appends a b c p q all first second is = rw is (Appends-trans a b c p q first second)
-
--- the list of `&s[n..]`
-pub tail_slice : (n : ℕ) (s : List ℕ) → take (length s - n) (drop n s) ≡ drop n s
-tail_slice n s = rw (← (length-drop n s)) (take-length (drop n s))
 
 -- a part of some bytes, written after others, is a part of all of them with more behind
 pub part-after : (a b c : Option (List ℕ)) (p q more all : List ℕ) → Appends a b p → AppendsPart b c q → all ≡ p ++ q ++ more → AppendsPart a c all
@@ -32,16 +26,6 @@ failed_after e a b c f g h p q more all before later capped failure is = record 
     failed = omega (arith, failure.cause.failed);
   };
 }
-
--- a call failed in the midst of the first bytes
-pub failed_start : {T E : Type 0} (e : E) (a b : Option (List ℕ)) (f g : ℕ) (p more all : List ℕ)
-    → Writes {T = T} a b f g p (Err e) → all ≡ p ++ more → Writes {T = T} a b f g all (Err e)
-failed_start e a b f g p more all failure whole =
-    let (front, rest, is, some, taken) = failure.part in record {
-      whole = tt;
-      part = (front, rest ++ more, rw (whole, is) (simp append_assoc), rw length-append (omega arith), taken);
-      cause = failure.cause;
-    }
 
 -- the same bytes, written otherwise
 pub writes_same : {T E : Type 0} {a b : Option (List ℕ)} {f g : ℕ} {p q : List ℕ} {r : Result T E} → Writes a b f g p r → q ≡ p → Writes a b f g q r
@@ -66,7 +50,3 @@ pub writes-fail : {T E : Type 0} (x : T) (e d : E) (a b c : Option (List ℕ)) (
 writes-fail x e d a b c f g h p q more all before failure is =
     let w = failed_after e a b c f g h p q more all before.whole before.cause.later before.cause.capped failure is in
     record { whole = tt; part = w.part; cause = record { later = w.cause.later; capped = w.cause.capped; failed = w.cause.failed } }
-
--- before any byte
-pub writes-nothing : {T E : Type 0} (x : T) (a : Option (List ℕ)) (f : ℕ) → Appends a a [] → Writes {T = T} {E = E} a a f f [] (Ok x)
-writes-nothing x a f none = record { whole = none; part = tt; cause = record { later = omega arith; capped = λ within. within; failed = tt } }

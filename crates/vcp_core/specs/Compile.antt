@@ -1,18 +1,11 @@
 -- Compile: the words `compile P CODE`. P is taken through all its refusals, and then the image of a graph that may stand for the program
 -- is written, with the numbers of the code.
 use Rattle.std.specs.Prelude.{◌≡◌, ℕ, List}
-use Rattle.vcp_outside.specs.Held.{Held}
 use Rattle.op_graph.specs.Lists.{Lists}
 use Rattle.image_file.specs.Image.{image_of}
 use Rattle.vcp_typed.specs.SourceRun.{Program}
 use Rattle.vcp_words.specs.Forms.{Code}
-use Rattle.vcp_answer.specs.Answer.{Task, compiles}
-use Rattle.vcp_answer.specs.Courses.{MayCompile}
-use Rattle.vcp_answer.specs.Sources.{TypedTask}
-
--- what `compile P CODE` comes to
-abbrev pub CompileTask : List ℕ → Code → Held → Task → Type 0
-CompileTask p code held task = TypedTask (λ t. compiles t code) p held task
+use Rattle.vcp_answer.specs.GraphsOf.{MayCompile}
 
 -- bytes are the image of a graph that may stand for the program
 abbrev pub IsImageFor : Program → Code → List ℕ → Type 0

@@ -1,16 +1,12 @@
 -- Loading: what loading a program or an image, and its rows, gives.
-use Rattle.std.specs.Prelude.{ℕ, ◌≡◌, ◌≢◌, List, ◌∷◌, map, Option, Result, Ok, Err}
+use Rattle.std.specs.Prelude.{ℕ, ◌≡◌, ◌≢◌, List, map, Option, Result, Ok, Err}
 use Rattle.std.specs.Io.KnownBytes.{IsAtEnd}
 use Rattle.vcp_base.specs.Limits.{most_image_bytes, most_source_bytes}
 use Rattle.vcp_base.specs.declared.columns.Column.{Column}
 use Rattle.vcp_outside.specs.Held.{Held}
-use Rattle.input_rows.specs.RowsOf.{RowsLeft}
-use Rattle.op_graph.specs.Lists.{Lists, column}
-use Rattle.signature_table.specs.Signatures.{Numbers}
+use Rattle.op_graph.specs.Lists.{column}
 use Rattle.vcp_typed.specs.SourceRun.{Program}
-use Rattle.machine_run.specs.Moments.{Moment}
-use Rattle.vcp_words.specs.Forms.{Form, Rows, file, cycles}
-use Rattle.vcp_words.specs.Tables.{file_words, rows_files, rows_name}
+use Rattle.vcp_words.specs.Forms.{Rows, file, cycles}
 use Rattle.vcp_inputs.specs.declared.images.Image.{Image}
 use Rattle.vcp_inputs.specs.declared.refusal.NoInput.{NoInput}
 use Rattle.vcp_inputs.specs.declared.refusal.NoInput.TheVariants as input
@@ -22,16 +18,10 @@ use Rattle.vcp_inputs.specs.Programs.{TypedOf, NotTyped}
 use Rattle.vcp_typed.specs.Fitting.{input_columns}
 use Rattle.vcp_inputs.specs.Images.{ImageOf, NotImage}
 use Rattle.vcp_inputs.specs.RowsOutcome.{HasLongFile, Opens, RowsOutcome, rows_outcome, source_outcome}
-use Rattle.vcp_answer.specs.Answer.{Task}
-use Rattle.vcp_answer.specs.Endings.{Among}
-use Rattle.vcp_answer.specs.Moments.{Untouched}
-use Rattle.vcp_answer.specs.Sources.{ProgramTask, GraphTask, on_rows}
 use Rattle.vcp_core.specs.declared.fault.Fault.{Fault}
 use Rattle.vcp_core.specs.declared.fault.Fault.TheVariants as fault
 use Rattle.vcp_core.specs.declared.image_loading.LoadedImage.{LoadedImage}
 use Rattle.vcp_core.specs.declared.loading.Loaded.{Loaded}
-use Rattle.vcp_core.specs.Reach.{Reaches, rows_told}
-use Rattle.vcp_core.specs.Tasks.{source_name}
 
 -- nothing is unread where a file is refused, but for its length
 abbrev pub ReadWhole : NoInput → Option (List ℕ) → Type 0
@@ -41,35 +31,6 @@ ReadWhole i rest = (r : Refusal) → i ≡ input.Refused r → r ≢ refusal.Byt
 abbrev pub IsFile : Rows → Type 0
 IsFile (file name) = Unit {0}
 IsFile (cycles n) = ⊥
-
--- a command reads P or M, then ROWS, and maybe more
-pub record ReadsRows (f : Form) (p : List ℕ) (rows : Rows) : Type 0 where
-  pub source : source_name f ≡ p
-  pub told : rows_told f ≡ rows_name rows
-  pub files : (name : List ℕ) → Among name (p ∷ rows_files rows) → Among name (file_words f)
-
--- P and ROWS were loaded: whatever is said of a program and its rows, they come to what the rows come to that are still to be opened
-abbrev pub ComesTo : List ℕ → Rows → Held → Loaded → Type 0
-ComesTo p rows held l =
-    (then : Program → RowsLeft → Task) → ProgramTask then p rows held (on_rows (rows_name rows) (then l.program) (source_outcome l.rows l.columns))
-
--- P or ROWS isn't loaded, where the files that broke were so many before and after: a command that reads them comes no further
-abbrev pub NotLoaded : List ℕ → Rows → Held → ℕ → ℕ → Fault → Type 0
-NotLoaded p rows held b n e =
-    (f : Form) (then : Program → RowsLeft → Task) (before after : Moment) → ReadsRows f p rows → Untouched before after →
-    Reaches f (ProgramTask then p rows held) before after b n (Err e)
-
--- M and ROWS were loaded: whatever is said of a graph, its table and its rows, they come to what the rows come to that are still to be opened
-abbrev pub GraphComesTo : List ℕ → Rows → Held → LoadedImage → Type 0
-GraphComesTo m rows held l =
-    (then : Lists → Numbers → RowsLeft → Task) →
-    GraphTask then m rows held (on_rows (rows_name rows) (then l.image.graph l.image.table) (source_outcome l.rows l.columns))
-
--- M or ROWS isn't loaded, where the files that broke were so many before and after: a command that reads them comes no further
-abbrev pub GraphNotLoaded : List ℕ → Rows → Held → ℕ → ℕ → Fault → Type 0
-GraphNotLoaded m rows held b n e =
-    (f : Form) (then : Lists → Numbers → RowsLeft → Task) (before after : Moment) → ReadsRows f m rows → Untouched before after →
-    Reaches f (GraphTask then m rows held) before after b n (Err e)
 
 -- What loading a file and ROWS gives, of which this is the value and these are the columns, where this is held, the files that broke were so
 -- many before and after, and this is unread after: both; or why there is nothing of the file, or of ROWS, with what is unread where it was

@@ -11,18 +11,15 @@ use Rattle.flat_expr.specs.Told.{told_graph}
 use Rattle.vcp_words.specs.Forms.{Code}
 use Rattle.coded_machine.specs.declared.cycle_end.CycleEnd.{CycleEnd}
 use Rattle.coded_machine.specs.declared.cycle_end.CycleEnd.TheVariants as cycle
-use Rattle.machine_run.specs.Moments.{Moment}
 use Rattle.vcp_inputs.specs.declared.refusal.NoInput.TheVariants as input
 use Rattle.vcp_inputs.specs.Lines.{refusal_text}
-use Rattle.vcp_answer.specs.Answer.{Answer, Subject, runs}
-use Rattle.vcp_answer.specs.Answer.{Job as OldJob}
-use Rattle.vcp_answer.specs.Courses.{MayRun}
-use Rattle.vcp_answer.specs.Endings.{Reached, Cut, Front}
-use Rattle.vcp_answer.specs.Moments.{Untouched}
+use Rattle.vcp_answer.specs.Answer.{Answer, Subject}
+use Rattle.vcp_answer.specs.GraphsOf.{MayRun}
 use Rattle.vcp_answer.specs.Performing.{Still}
-use Rattle.vcp_answer.specs.Reports.{end_read, last_text, names_of, run_status, told_of}
+use Rattle.vcp_answer.specs.Reports.{end_read, names_of, run_status, told_of}
+use Rattle.vcp_core.specs.EndLines.{last_text}
 use Rattle.vcp_answer.specs.RunKind.{Job, RunDone, RunLeft}
-use Rattle.vcp_answer.specs.Seen.{Moment as NewMoment}
+use Rattle.vcp_answer.specs.Seen.{Moment}
 use Rattle.vcp_core.specs.declared.ending.End.{End}
 use Rattle.vcp_core.specs.declared.fault.Fault.{Fault}
 use Rattle.vcp_core.specs.declared.fault.Fault.TheVariants as fault
@@ -36,25 +33,14 @@ pub record CarriesOut (g : Lists) (t : Numbers) (left : RowsLeft) (s : Subject) 
   pub names : map (λ c. c.name) (map (output_column g.names) g.outputs) ≡ names_of s
   pub told : told_graph g left.rows ≡ told_of s left.rows
 
--- how far the run of a job came: to its end, to a row that is refused, or until writing failed or memory was wanted
-abbrev pub RunsJob : OldJob → Moment → Moment → Result End Fault → Type 0
-RunsJob job before after (Ok e) = Reached (runs job) [] (end_status e) before after
-RunsJob job before after (Err (fault.Rows (input.Refused r))) = Reached (runs job) (refusal_text job.rows_name r) 1 before after
-RunsJob job before after (Err (fault.Rows input.Unread)) = ⊥
-RunsJob job before after (Err (fault.Rows input.Memory)) = Front (runs job) before after
-RunsJob job before after (Err fault.Write) = Cut (runs job) before after
-RunsJob job before after (Err fault.Memory) = Untouched before after ⊎ Front (runs job) before after
-RunsJob job before after (Err (fault.Source i)) = ⊥
-RunsJob job before after (Err (fault.Script i)) = ⊥
-
 -- a run of a job was done, and all of its answer's output was written; the answer has this line and this status
-abbrev pub RunAnswers : Job → List ℕ → ℕ → NewMoment → NewMoment → Type 0
+abbrev pub RunAnswers : Job → List ℕ → ℕ → Moment → Moment → Type 0
 RunAnswers j line status before after =
     (x : Answer) × RunDone j before.unit after.unit x × Appends before.out.written after.out.written x.out × (x.err ≡ line) × (x.status ≡ status)
 
 -- How far the run of a job came: to its end; to a row that is refused; or until writing failed, or memory was wanted, before it began or in
 -- it.
-abbrev pub RunsTo : Job → NewMoment → NewMoment → Result End Fault → Type 0
+abbrev pub RunsTo : Job → Moment → Moment → Result End Fault → Type 0
 RunsTo j before after (Ok e) = RunAnswers j [] (end_status e) before after
 RunsTo j before after (Err (fault.Rows (input.Refused r))) = RunAnswers j (refusal_text j.rows_name r) 1 before after
 RunsTo j before after (Err (fault.Rows input.Unread)) = ⊥

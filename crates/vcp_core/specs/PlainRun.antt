@@ -1,18 +1,20 @@
 -- PlainRun: what a program's own run prints on the rows of inputs that are left, and how the printing ends.
-use Rattle.std.specs.Prelude.{ℕ, suc, ◌≡◌, ℤ, List, [], ◌∷◌, ◌++◌, Option, Some, None, Result, Ok, Err}
+use Rattle.std.specs.Prelude.{ℕ, suc, ◌≡◌, ℤ, List, [], ◌∷◌, ◌++◌, length, Option, Some, None, Result, Ok, Err}
 use Rattle.std.specs.Io.KnownBytes.{Appends}
 use Rattle.vcp_base.specs.Stops.{told_stop}
 use Rattle.vcp_outside.specs.Written.{AppendsFront, AppendsPart}
 use Rattle.vcp_typed.specs.declared.slot.Slot.{Slot}
 use Rattle.vcp_typed.specs.Meaning.{Stop}
 use Rattle.vcp_typed.specs.SourceRun.{Program, outputs, run_from, source_run}
-use Rattle.flat_expr.specs.Told.{names_of, source_end}
+use Rattle.flat_expr.specs.Told.{names_of, source_end, told_source}
 use Rattle.input_rows.specs.declared.fault.RowFault.{RowFault}
 use Rattle.input_rows.specs.RowsOf.{RowsLeft}
-use Rattle.run_report.specs.Lines.{row_text, stop_text}
+use Rattle.machine_run.specs.RowRuns.{texts_from}
+use Rattle.run_report.specs.Lines.{header_text, row_text, stop_text}
 use Rattle.vcp_inputs.specs.declared.refusal.NoInput.TheVariants as input
 use Rattle.vcp_inputs.specs.Refusals.{no_rows}
-use Rattle.vcp_answer.specs.Reports.{end_told, last_text, output_names, report_meant, report_text}
+use Rattle.vcp_answer.specs.Reports.{end_told, output_names}
+use Rattle.vcp_core.specs.EndLines.{last_text}
 use Rattle.vcp_core.specs.declared.fault.Fault.{Fault}
 use Rattle.vcp_core.specs.declared.fault.Fault.TheVariants as fault
 use Rattle.vcp_core.specs.declared.ending.End.{End}
@@ -20,7 +22,9 @@ use Rattle.vcp_core.specs.declared.ending.End.TheVariants as end
 
 -- all that a program's run prints on the rows that are left
 abbrev pub plain_text : Program → RowsLeft → List ℕ
-plain_text p left = report_text (output_names p) (report_meant p left.rows) left.refusal
+plain_text p left =
+    header_text (output_names p) ++ (texts_from row_text 0 (told_source p left.rows).rows
+    ++ last_text (output_names p) (length (told_source p left.rows).rows) (end_told (told_source p left.rows).end) left.refusal)
 
 -- the last line of a program's run of so many cycles: its stop, or its end; none where the next row is refused
 abbrev pub last_line : Program → ℕ → Option Stop → Option RowFault → List ℕ

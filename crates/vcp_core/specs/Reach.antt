@@ -1,29 +1,35 @@
 -- Reach: how far a command comes before its fault's line, if there is one, is printed.
-use Rattle.std.specs.Prelude.{ℕ, ◌≡◌, ◌⊎◌, true, List, [], Option, Result, Ok, Err}
-use Rattle.vcp_outside.specs.Counts.{Rose}
-use Rattle.vcp_outside.specs.Held.{Held}
-use Rattle.machine_run.specs.Moments.{Moment}
+use Rattle.std.specs.Prelude.{ℕ, ◌≡◌, List, [], Result, Ok, Err}
 use Rattle.vcp_words.specs.Forms.{Form, check, format, plain, run, compile, list, exec, trace, widen, audit, inject, demo}
-use Rattle.vcp_words.specs.Tables.{file_words, own_statuses, rows_name, takes_late}
-use Rattle.vcp_inputs.specs.declared.refusal.NoInput.{NoInput}
+use Rattle.vcp_words.specs.Tables.{rows_name}
 use Rattle.vcp_inputs.specs.declared.refusal.NoInput.TheVariants as input
-use Rattle.vcp_inputs.specs.Lines.{refusal_text, memory_text, read_fault_text, write_fault_text, input_text, input_status}
+use Rattle.vcp_inputs.specs.Lines.{memory_text, write_fault_text, input_text, input_status}
 use Rattle.vcp_core.specs.declared.ending.End.{End}
 use Rattle.vcp_core.specs.declared.ending.End.TheVariants as end
 use Rattle.vcp_core.specs.declared.fault.Fault.{Fault}
 use Rattle.vcp_core.specs.declared.fault.Fault.TheVariants as fault
-use Rattle.vcp_answer.specs.Answer.{Task}
-use Rattle.vcp_answer.specs.Endings.{Reached, Cut, Front, Among}
-use Rattle.vcp_answer.specs.Moments.{Untouched}
-use Rattle.vcp_answer.specs.Statuses.{Refused}
-use Rattle.vcp_core.specs.Demo.{made_name}
-use Rattle.vcp_core.specs.Tasks.{source_name}
+use Rattle.vcp_core.specs.Tasks.{made_name}
 
 -- the status of a command that came to its end so
 abbrev pub end_status : End → ℕ
 end_status end.Done = 0
 end_status end.Stopped = 2
 end_status end.Refused = 3
+
+-- the name of P or M, or by which lines tell a made source
+abbrev pub source_name : Form → List ℕ
+source_name (check p) = p
+source_name (format p) = p
+source_name (plain p rows) = p
+source_name (run p rows code) = p
+source_name (compile p code) = p
+source_name (list m) = m
+source_name (exec m rows) = m
+source_name (trace m rows n) = m
+source_name (widen m) = m
+source_name (audit m horizon) = m
+source_name (inject m rows f) = m
+source_name (demo number) = made_name
 
 -- the name by which lines tell ROWS
 abbrev pub rows_told : Form → List ℕ
@@ -60,40 +66,6 @@ fault_status (fault.Script i) = input_status i
 fault_status fault.Write = 6
 fault_status fault.Memory = 7
 
--- the defined answer of a task was given, but for its line, and has this status
-abbrev pub Gives : (Task → Type 0) → List ℕ → ℕ → Moment → Moment → Type 0
-Gives Takes line status before after = (task : Task) × Takes task × Reached task line status before after
-
--- memory was wanted: nothing was written and no unit called, or of a command that takes memory or rows late a front was written
-abbrev pub WantsMemory : Form → (Task → Type 0) → Moment → Moment → Type 0
-WantsMemory f Takes before after =
-    Untouched before after ⊎ ((takes_late f ≡ true) × ((task : Task) × Takes task × Front task before after))
-
--- the files broke in one of the command's files, and nothing was done
-pub record Broke (f : Form) (name : List ℕ) (before after : Moment) (broken_before broken_after : ℕ) : Type 0 where
-  pub named : Among name (file_words f)
-  pub rose : Rose broken_before broken_after
-  pub untouched : Untouched before after
-
--- there is nothing of the file under a name
-abbrev pub Lost : Form → (Task → Type 0) → List ℕ → Moment → Moment → ℕ → ℕ → NoInput → Type 0
-Lost f Takes name before after b n input.Unread = Gives Takes (read_fault_text name) 5 before after ⊎ Broke f name before after b n
-Lost f Takes name before after b n (input.Refused r) = Gives Takes (refusal_text name r) 1 before after
-Lost f Takes name before after b n input.Memory = WantsMemory f Takes before after
-
--- how far a command came that comes to a task as `Takes` says, where the files that broke were so many before and after
-abbrev pub Reaches : Form → (Task → Type 0) → Moment → Moment → ℕ → ℕ → Result End Fault → Type 0
-Reaches f Takes before after b n (Ok e) = Gives Takes [] (end_status e) before after
-Reaches f Takes before after b n (Err (fault.Source i)) = Lost f Takes (source_name f) before after b n i
-Reaches f Takes before after b n (Err (fault.Rows i)) = Lost f Takes (rows_told f) before after b n i
-Reaches f Takes before after b n (Err (fault.Script i)) = Lost f Takes (script_name f) before after b n i
-Reaches f Takes before after b n (Err fault.Write) = (task : Task) × Takes task × Cut task before after
-Reaches f Takes before after b n (Err fault.Memory) = WantsMemory f Takes before after
-
--- an end whose status is one of the command's own
-abbrev pub OwnEnd : Form → End → Type 0
-OwnEnd f e = Among (end_status e) (own_statuses f)
-
 -- a file couldn't be begun or read
 abbrev pub IsUnread : Fault → Type 0
 IsUnread (fault.Source i) = i ≡ input.Unread
@@ -105,11 +77,6 @@ IsUnread fault.Memory = ⊥
 abbrev pub Unread : Result End Fault → Type 0
 Unread (Ok e) = ⊥
 Unread (Err e) = IsUnread e
-
--- where something is refused, nothing is unread of the file that was begun last, or a file is too long
-abbrev pub Taken : Form → Held → Option (List ℕ) → Result End Fault → Type 0
-Taken f held rest (Ok e) = Unit {0}
-Taken f held rest (Err e) = fault_status e ≡ 1 → Refused f held rest
 
 -- the line of a command that ended so, nothing where it came to its end; and the status
 abbrev pub told_line : Form → Result End Fault → List ℕ

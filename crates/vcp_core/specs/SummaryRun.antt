@@ -7,7 +7,8 @@ use Rattle.vcp_outside.specs.Written.{AppendsPart}
 use Rattle.vcp_outside.specs.declared.failed.Failed.{Failed}
 use Rattle.op_graph.specs.Lists.{Lists}
 use Rattle.coded_machine.specs.declared.cycle_end.CycleEnd.{CycleEnd}
-use Rattle.vcp_answer.specs.Reports.{end_read, run_status, summary_then}
+use Rattle.vcp_answer.specs.Reports.{end_read, run_status}
+use Rattle.vcp_core.specs.EndLines.{summary_then}
 use Rattle.vcp_answer.specs.Sums.{last_value, sum_of}
 use Rattle.vcp_core.specs.declared.ending.End.{End}
 use Rattle.vcp_core.specs.Reach.{end_status}

@@ -1,24 +1,182 @@
--- Tasks: what a command comes to, where the files hold this; a line a command.
-use Rattle.std.specs.Prelude.{ℕ, List}
+-- Tasks: what each command comes to, where the files hold this, by one shape of a file that is taken or refused; a line a command.
+use Rattle.std.specs.Prelude.{ℕ, ℤ, suc, ◌≡◌, ◌<◌, ◌≤◌, ◌*◌, List, [], ◌∷◌, ◌++◌, length, map, Option, Some, None, codes, decimal}
+use Rattle.input_rows.specs.declared.fault.RowFault.{RowFault}
+use Rattle.input_rows.specs.RowsOf.{RowsLeft, through}
+use Rattle.image_file.specs.Image.{image_of}
+use Rattle.op_graph.specs.Lists.{Lists, column}
+use Rattle.op_graph.specs.declared.op.Op.{Op}
+use Rattle.signature_table.specs.Signatures.{Numbers}
+use Rattle.run_report.specs.OperationLines.{list_text}
+use Rattle.vcp_base.specs.declared.code.Profile.TheVariants as profile
+use Rattle.st_writer.specs.CanonicalProgram.{canonical}
+use Rattle.flat_expr.specs.Told.{told_source}
+use Rattle.vcp_base.specs.declared.columns.Column.{Column}
 use Rattle.vcp_outside.specs.Held.{Held}
-use Rattle.vcp_words.specs.Forms.{Form, check, format, plain, run, compile, list, exec, trace, widen, audit, inject, demo}
-use Rattle.vcp_answer.specs.Answer.{Answer, Task, lacks, gives, runs, compiles, judges}
-use Rattle.vcp_answer.specs.Causes.{meant_answer, verdicts_answer, Gave, IsNoFault, WasHonest}
-use Rattle.vcp_answer.specs.Moments.{Ended}
-use Rattle.vcp_core.specs.Audit.{AuditTask}
-use Rattle.vcp_core.specs.Check.{CheckTask}
-use Rattle.vcp_core.specs.Compile.{CompileTask}
-use Rattle.vcp_core.specs.Demo.{DemoTask, made_name}
-use Rattle.vcp_core.specs.Exec.{ExecTask}
-use Rattle.vcp_core.specs.Format.{FormatTask}
-use Rattle.vcp_core.specs.Inject.{InjectTask}
-use Rattle.vcp_core.specs.Listing.{ListTask}
-use Rattle.vcp_core.specs.Plain.{PlainTask}
-use Rattle.vcp_core.specs.Run.{RunTask}
-use Rattle.vcp_core.specs.Trace.{TraceTask}
-use Rattle.vcp_core.specs.Widen.{WidenTask}
+use Rattle.vcp_typed.specs.Fitting.{input_columns}
+use Rattle.vcp_typed.specs.Size.{size}
+use Rattle.vcp_typed.specs.SourceRun.{Program}
+use Rattle.weight_audit.specs.Audit.{most_weights, weights_up_to}
+use Rattle.audit_report.specs.AuditText.{AuditOf}
+use Rattle.program_maker.specs.MadeRows.{made_rows}
+use Rattle.program_maker.specs.MadeSource.{made_source}
+use Rattle.vcp_words.specs.Forms.{Form, Rows, Code, default_code, check, format, plain, run, compile, list, exec, trace, widen, audit, inject, demo}
+use Rattle.vcp_words.specs.Tables.{rows_name}
+use Rattle.vcp_inputs.specs.declared.images.Image.{Image}
+use Rattle.vcp_inputs.specs.declared.refusal.Refusal.TheVariants as refusal
+use Rattle.vcp_inputs.specs.declared.rows.RowsSource.TheVariants as origin
+use Rattle.vcp_inputs.specs.RowsOutcome.{source_outcome}
+use Rattle.vcp_answer.specs.Answer.{Answer, Subject, source, image}
+use Rattle.vcp_answer.specs.FileTasks.{ParsedFile, TypedFile, ImageFile, ScriptFile, TakenRows, OnRows}
+use Rattle.vcp_answer.specs.Kinds.{Task, answers, compiles, runs, judges, prints, refusal_task}
+use Rattle.vcp_answer.specs.Printing.{every_row, each_word, summed_up, no_words, cycle_words, told_answer}
+use Rattle.vcp_answer.specs.Reports.{end_told, names_of, output_names}
+use Rattle.vcp_answer.specs.RunKind.{Job}
 
--- what a command comes to
+-- ---- what single commands print and name, and their limits
+
+-- a program that is one of the language: `ok`, and its Size
+abbrev pub ok_text : ℕ → List ℕ
+ok_text n = codes "ok " ++ (decimal n ++ codes "\n")
+
+-- the lines of these operations of a graph and its table, which are counted from i
+abbrev pub lines_from : Lists → Numbers → ℕ → List Op → List ℕ
+lines_from g t i [] = []
+lines_from g t i (op ∷ ops) = list_text g t i op ++ lines_from g t (suc i) ops
+
+-- the lines of all of them
+abbrev pub listing : Lists → Numbers → List ℕ
+listing g t = lines_from g t 0 g.operations
+
+-- the same lists in the wide code
+abbrev pub widened : Lists → Lists
+widened g = record g { profile = profile.Wide }
+
+-- the code of a table
+abbrev pub code_of : Numbers → Code
+code_of t = record { seed = t.seed; step = t.step }
+
+-- the name by which lines tell the source and the rows
+abbrev pub made_name : List ℕ
+made_name = codes "demo"
+
+-- the made source, under any name
+abbrev pub made_held : ℕ → Held
+made_held number = λ name. Some (made_source number)
+
+-- the most cycles times operations of a run under faults
+abbrev pub most_trace : ℕ
+most_trace = 16777216
+
+-- ---- P alone, M alone
+
+abbrev pub CheckTask : List ℕ → Held → Task → Type 0
+CheckTask p held task = TypedFile (λ t x. x ≡ prints (ok_text (size t))) p held task
+
+abbrev pub FormatTask : List ℕ → Held → Task → Type 0
+FormatTask p held task = ParsedFile (λ p x. x ≡ prints (canonical p)) p held task
+
+abbrev pub CompileTask : List ℕ → Code → Held → Task → Type 0
+CompileTask p code held task = TypedFile (λ t x. x ≡ compiles t code) p held task
+
+abbrev pub ListTask : List ℕ → Held → Task → Type 0
+ListTask m held task = ImageFile (λ i x. x ≡ prints (listing i.graph i.table)) m held task
+
+abbrev pub WidenTask : List ℕ → Held → Task → Type 0
+WidenTask m held task = ImageFile (λ i x. x ≡ prints (image_of (widened i.graph) i.table.seed i.table.step)) m held task
+
+-- an image is refused where its graph has too many weights up to the horizon; else its audit is printed
+pub data Audited (horizon : ℕ) (name : List ℕ) (i : Image) : Task → Type 0 where
+  too_large : most_weights < weights_up_to i.graph horizon → Audited horizon name i (refusal_task name refusal.Audit)
+  printed : weights_up_to i.graph horizon ≤ most_weights → (told : List ℕ) → AuditOf i.graph horizon told → Audited horizon name i (prints told)
+
+abbrev pub AuditTask : List ℕ → ℕ → Held → Task → Type 0
+AuditTask m horizon held task = ImageFile (Audited horizon m) m held task
+
+-- ---- runs on rows
+
+-- the columns of a graph's inputs
+abbrev pub graph_columns : Lists → List Column
+graph_columns g = map (column g.names) g.inputs
+
+-- a run of which each row is printed, on the rows that are left, which are told by this name
+abbrev pub rows_job : List ℕ → Code → Subject → RowsLeft → Job
+rows_job name code s left =
+    record { subject = s; rows = left; rows_name = name; code = code; printing = every_row (names_of s); words = no_words }
+
+-- one of which the words of cycle n of a graph are printed
+abbrev pub words_job : List ℕ → ℕ → Lists → Code → RowsLeft → Job
+words_job name n g code left =
+    record { subject = image g; rows = left; rows_name = name; code = code; printing = each_word g code n; words = cycle_words g code n }
+
+-- one of which the line is printed that sums up the made program of a number
+abbrev pub summary_job : ℕ → Program → RowsLeft → Job
+summary_job number p left = record {
+  subject = source p;
+  rows = left;
+  rows_name = made_name;
+  code = default_code;
+  printing = summed_up number;
+  words = no_words;
+}
+
+-- the answer of a program's own run, without code or unit
+abbrev pub plain_answer : List ℕ → Program → RowsLeft → Answer
+plain_answer name p left =
+    told_answer (every_row (output_names p)) (output_names p) name left
+    (record { rows = (told_source p left.rows).rows; end = end_told (told_source p left.rows).end; words = no_words.meant left.rows })
+
+abbrev pub PlainTask : List ℕ → Rows → Held → Task → Type 0
+PlainTask p rows held task =
+    TypedFile (λ t. TakenRows (λ left x. x ≡ answers (plain_answer (rows_name rows) t left)) rows held (input_columns t.slots)) p held task
+
+abbrev pub RunTask : List ℕ → Rows → Code → Held → Task → Type 0
+RunTask p rows code held task =
+    TypedFile (λ t. TakenRows (λ left x. x ≡ runs (rows_job (rows_name rows) code (source t) left)) rows held (input_columns t.slots)) p held task
+
+abbrev pub ExecTask : List ℕ → Rows → Held → Task → Type 0
+ExecTask m rows held task =
+    ImageFile (λ i. TakenRows (λ left x. x ≡ runs (rows_job (rows_name rows) (code_of i.table) (image i.graph) left)) rows held (graph_columns i.graph))
+    m held task
+
+abbrev pub TraceTask : List ℕ → Rows → ℕ → Held → Task → Type 0
+TraceTask m rows n held task =
+    ImageFile
+    (λ i. TakenRows (λ left x. x ≡ runs (words_job (rows_name rows) n i.graph (code_of i.table) (through n left))) rows held (graph_columns i.graph))
+    m held task
+
+-- the made source of a number, on its made rows; no file is read
+abbrev pub DemoTask : ℕ → Task → Type 0
+DemoTask number task =
+    TypedFile
+    (λ t. OnRows made_name (λ left x. x ≡ runs (summary_job number t left)) (source_outcome (origin.File (made_rows number)) (input_columns t.slots)))
+    made_name (made_held number) task
+
+-- ---- faults
+
+-- all rows are read; they are refused where a refusal stands behind them
+abbrev pub WholeRows : List ℕ → (List (List ℤ) → Task → Type 0) → List (List ℤ) → Option RowFault → Task → Type 0
+WholeRows name Then rows None task = Then rows task
+WholeRows name Then rows (Some why) task = task ≡ refusal_task name (refusal.Rows why)
+
+-- rows are refused where their cycles times the graph's operations are too many
+pub data FewRows (name : List ℕ) (g : Lists) (Then : List (List ℤ) → Task → Type 0) (rows : List (List ℤ)) : Task → Type 0 where
+  too_many : most_trace < length rows * length g.operations → FewRows name g Then rows (refusal_task name refusal.Trace)
+  few : (task : Task) → length rows * length g.operations ≤ most_trace → Then rows task → FewRows name g Then rows task
+
+-- the faults of the script F over the rows of an image
+abbrev pub JudgedScript : Image → List ℕ → Held → List (List ℤ) → Task → Type 0
+JudgedScript i f held rows task =
+    ScriptFile i.graph (λ faults x. x ≡ judges (record { graph = i.graph; table = i.table; rows = rows; faults = faults })) f held task
+
+abbrev pub InjectTask : List ℕ → Rows → List ℕ → Held → Task → Type 0
+InjectTask m rows f held task =
+    ImageFile
+    (λ i. TakenRows (λ left. WholeRows (rows_name rows) (FewRows (rows_name rows) i.graph (JudgedScript i f held)) left.rows left.refusal)
+    rows held (graph_columns i.graph))
+    m held task
+
+-- ---- a line a command
+
 abbrev pub TaskOf : Form → Held → Task → Type 0
 TaskOf (check p) held task = CheckTask p held task
 TaskOf (format p) held task = FormatTask p held task
@@ -32,36 +190,3 @@ TaskOf (widen m) held task = WidenTask m held task
 TaskOf (audit m horizon) held task = AuditTask m horizon held task
 TaskOf (inject m rows f) held task = InjectTask m rows f held task
 TaskOf (demo number) held task = DemoTask number task
-
--- the name of P or M, or by which lines tell a made source
-abbrev pub source_name : Form → List ℕ
-source_name (check p) = p
-source_name (format p) = p
-source_name (plain p rows) = p
-source_name (run p rows code) = p
-source_name (compile p code) = p
-source_name (list m) = m
-source_name (exec m rows) = m
-source_name (trace m rows n) = m
-source_name (widen m) = m
-source_name (audit m horizon) = m
-source_name (inject m rows f) = m
-source_name (demo number) = made_name
-
--- the command that comes to the same without a unit, where there is one
-abbrev pub without_unit : Form → Form
-without_unit (run p rows code) = plain p rows
-without_unit f = f
-
--- the task with the program's own run, or the verdicts of the definitions, in the place of those on a unit
-abbrev pub as_meant : Task → Task
-as_meant (lacks name) = lacks name
-as_meant (gives a) = gives a
-as_meant (runs job) = gives (meant_answer job)
-as_meant (compiles p code) = compiles p code
-as_meant (judges f) = gives (verdicts_answer f)
-
--- With an honest unit a command gives the answer of the command without one, where that gives one, but for 5, 6 and 7; a command
--- that calls no unit gives its own.
-abbrev pub AsPlain : Form → Held → Ended → Type 0
-AsPlain f held e = (a : Answer) → TaskOf (without_unit f) held (gives a) → WasHonest e → IsNoFault e.status → Gave a e

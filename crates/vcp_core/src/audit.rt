@@ -1,23 +1,18 @@
 //! The command `audit`, up to the line of its fault.
 
-ghost use Rattle.std.specs.Prelude.{◌≡◌, ◌⊎◌, ◌<◌, ◌≤◌, IfSome, IfOk, IfErr, OnOk, Err, List, Option, ℕ};
-ghost use Rattle.std.specs.Io.KnownBytes.{IsAtEnd};
+ghost use Rattle.std.specs.Prelude.{◌≡◌, ◌⊎◌, ◌<◌, ◌≤◌, IfOk, IfErr, OnOk, List, Option, ℕ};
 ghost use Rattle.coded_unit.specs.Log.{Entry};
-ghost use Rattle.vcp_outside.specs.Counts.{Rose};
 ghost use Rattle.signature_table.specs.Signatures.{table_of};
 ghost use Rattle.vcp_base.specs.Limits.{most_horizon};
 ghost use Rattle.weight_audit.specs.Audit.{most_weights, weights_up_to, IsAudit};
 ghost use Rattle.vcp_words.specs.Forms.{audit};
 ghost use Rattle.vcp_inputs.specs.declared.refusal.NoInput.TheVariants as input;
 ghost use Rattle.vcp_inputs.specs.declared.refusal.Refusal.TheVariants as refusal;
-ghost use Rattle.vcp_core.specs.Audit.{AuditTask};
 ghost use Rattle.vcp_answer.specs.Abouts.{about};
 ghost use Rattle.vcp_answer.specs.Performing.{Performs};
 ghost use Rattle.vcp_answer.specs.Seen.{files_seen, moment_seen};
-ghost use Rattle.vcp_core.specs.CommandTasks.{AuditTask as AuditTaskOf};
-ghost use Rattle.vcp_core.specs.Reach.{Reaches, Unread, Taken, told_line, told_status};
-ghost use Rattle.machine_run.specs.Moments.{moment};
-ghost use Rattle.vcp_core.specs.declared.ending.End.TheVariants as end;
+ghost use Rattle.vcp_core.specs.Tasks.{AuditTask};
+ghost use Rattle.vcp_core.specs.Reach.{told_line, told_status};
 ghost use Rattle.vcp_core.specs.declared.fault.Fault.TheVariants as fault;
 
 use crate::ending::End;
@@ -56,21 +51,11 @@ pub fn audit_command<F: Files, O: Sink>(
     out: &mut O,
 ) -> Result<End, Fault>
     requires horizon { horizon ≤ most_horizon }
-    ensures held { F.held files.new ≡ F.held files.old }
-    ensures reaches { (log : Option (List Entry)) (wrong : ℕ) → IfSome (F.held files.old) (λ h.
-        Reaches (audit image.now horizon) (AuditTask image.now horizon h)
-        (moment log wrong (O.written out.old) (O.faults out.old)) (moment log wrong (O.written out.new) (O.faults out.new))
-        (F.broken files.old) (F.broken files.new) result) }
-    ensures performs { (log : Option (List Entry)) (wrong : ℕ) → Performs (about (audit image.now horizon)) (AuditTaskOf image.now horizon)
+    ensures { (log : Option (List Entry)) (wrong : ℕ) → Performs (about (audit image.now horizon)) (AuditTask image.now horizon)
         (files_seen (F.held files.old) (F.rest files.old) (F.faults files.old) (F.broken files.old))
         (files_seen (F.held files.new) (F.rest files.new) (F.faults files.new) (F.broken files.new))
         (moment_seen log wrong (O.written out.old) (O.faults out.old)) (moment_seen log wrong (O.written out.new) (O.faults out.new))
         (told_line (audit image.now horizon) result) (told_status result) }
-    ensures done { IfOk result (λ e. e ≡ end.Done) }
-    ensures unread { Unread result → Rose (F.faults files.old) (F.faults files.new) }
-    ensures write { result ≡ Err fault.Write → Rose (O.faults out.old) (O.faults out.new) }
-    ensures ended { OnOk result (IsAtEnd (F.rest files.new)) }
-    ensures taken { IfSome (F.held files.old) (λ h. Taken (audit image.now horizon) h (F.rest files.new) result) }
 {
     match load_image(alloc, files, image) {
         Ok(image) => {

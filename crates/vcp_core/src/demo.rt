@@ -1,9 +1,6 @@
 //! The command `demo`, up to the line of its fault.
 
-ghost use Rattle.std.specs.Prelude.{◌≡◌, ℕ, Ok, Err};
-ghost use Rattle.machine_run.specs.Moments.{moment};
-ghost use Rattle.machine_run.specs.Stops.{GrowsToStop};
-ghost use Rattle.vcp_outside.specs.Counts.{Rose};
+ghost use Rattle.std.specs.Prelude.{◌≡◌, ℕ, Ok};
 ghost use Rattle.vcp_words.specs.Forms.{demo};
 ghost use Rattle.vcp_base.specs.Limits.{most_source_bytes};
 ghost use Rattle.program_maker.specs.MadeRows.{made_rows};
@@ -12,11 +9,8 @@ ghost use Rattle.vcp_inputs.specs.Programs.{TypedOf, NotTyped};
 ghost use Rattle.vcp_answer.specs.Abouts.{about};
 ghost use Rattle.vcp_answer.specs.Performing.{Performs};
 ghost use Rattle.vcp_answer.specs.Seen.{FilesSeen, moment_seen};
-ghost use Rattle.vcp_core.specs.CommandTasks.{DemoTask as DemoTaskOf};
-ghost use Rattle.vcp_core.specs.Demo.{DemoTask, made_held, made_name};
-ghost use Rattle.vcp_core.specs.Reach.{Reaches, Unread, told_line, told_status};
-ghost use Rattle.vcp_core.specs.declared.ending.End.TheVariants as end;
-ghost use Rattle.vcp_core.specs.declared.fault.Fault.TheVariants as fault;
+ghost use Rattle.vcp_core.specs.Tasks.{DemoTask, made_held, made_name};
+ghost use Rattle.vcp_core.specs.Reach.{told_line, told_status};
 
 use crate::ending::End;
 use crate::fault::Fault;
@@ -39,17 +33,10 @@ pub fn demo_command<U: Unit, O: Sink>(
     unit: &mut U,
     out: &mut O,
 ) -> Result<End, Fault>
-    ensures reaches { (broken : ℕ) → Reaches (demo number) (DemoTask number)
-        (moment (U.log unit.old) (U.wrong unit.old) (O.written out.old) (O.faults out.old))
-        (moment (U.log unit.new) (U.wrong unit.new) (O.written out.new) (O.faults out.new)) broken broken result }
-    ensures performs { (files : FilesSeen) → Performs (about (demo number)) (λ h. DemoTaskOf number) files files
+    ensures { (files : FilesSeen) → Performs (about (demo number)) (λ h. DemoTask number) files files
         (moment_seen (U.log unit.old) (U.wrong unit.old) (O.written out.old) (O.faults out.old))
         (moment_seen (U.log unit.new) (U.wrong unit.new) (O.written out.new) (O.faults out.new))
         (told_line (demo number) result) (told_status result) }
-    ensures read { ¬ Unread result }
-    ensures write { result ≡ Err fault.Write → Rose (O.faults out.old) (O.faults out.new) }
-    ensures refused { result ≡ Ok end.Refused → Rose (U.wrong unit.old) (U.wrong unit.new) }
-    ensures stopped { result ≡ Ok end.Stopped → GrowsToStop (U.log unit.old) (U.log unit.new) }
 {
     let made = make(alloc, number)?;
     match typed_of(alloc, &made.source) {
@@ -69,17 +56,10 @@ fn run_made<U: Unit, O: Sink>(
 ) -> Result<End, Fault>
     requires typed { (broken : ℕ) → Loads TypedOf NotTyped (made_held number) made_name most_source_bytes broken broken (Ok program.now) }
     requires rows { rows ≡ made_rows number }
-    ensures reaches { (broken : ℕ) → Reaches (demo number) (DemoTask number)
-        (moment (U.log unit.old) (U.wrong unit.old) (O.written out.old) (O.faults out.old))
-        (moment (U.log unit.new) (U.wrong unit.new) (O.written out.new) (O.faults out.new)) broken broken result }
-    ensures performs { (files : FilesSeen) → Performs (about (demo number)) (λ h. DemoTaskOf number) files files
+    ensures { (files : FilesSeen) → Performs (about (demo number)) (λ h. DemoTask number) files files
         (moment_seen (U.log unit.old) (U.wrong unit.old) (O.written out.old) (O.faults out.old))
         (moment_seen (U.log unit.new) (U.wrong unit.new) (O.written out.new) (O.faults out.new))
         (told_line (demo number) result) (told_status result) }
-    ensures read { ¬ Unread result }
-    ensures write { result ≡ Err fault.Write → Rose (O.faults out.old) (O.faults out.new) }
-    ensures refused { result ≡ Ok end.Refused → Rose (U.wrong unit.old) (U.wrong unit.new) }
-    ensures stopped { result ≡ Ok end.Stopped → GrowsToStop (U.log unit.old) (U.log unit.new) }
 {
     let columns = input_columns(alloc, program)?;
     let source = RowsSource::File(rows);

@@ -1,19 +1,11 @@
 //! The command `exec`, up to the line of its fault.
 
-ghost use Rattle.std.specs.Prelude.{◌≡◌, IfSome, OnOk, Ok, Err};
-ghost use Rattle.std.specs.Io.KnownBytes.{IsAtEnd};
-ghost use Rattle.machine_run.specs.Moments.{moment};
-ghost use Rattle.machine_run.specs.Stops.{GrowsToStop};
-ghost use Rattle.vcp_outside.specs.Counts.{Rose};
 ghost use Rattle.vcp_words.specs.Forms.{exec, rows_of, AreFew};
 ghost use Rattle.vcp_answer.specs.Abouts.{about};
 ghost use Rattle.vcp_answer.specs.Performing.{Performs};
 ghost use Rattle.vcp_answer.specs.Seen.{files_seen, moment_seen};
-ghost use Rattle.vcp_core.specs.CommandTasks.{ExecTask as ExecTaskOf};
-ghost use Rattle.vcp_core.specs.Reach.{Reaches, Unread, Taken, told_line, told_status};
-ghost use Rattle.vcp_core.specs.Exec.{ExecTask};
-ghost use Rattle.vcp_core.specs.declared.ending.End.TheVariants as end;
-ghost use Rattle.vcp_core.specs.declared.fault.Fault.TheVariants as fault;
+ghost use Rattle.vcp_core.specs.Tasks.{ExecTask};
+ghost use Rattle.vcp_core.specs.Reach.{told_line, told_status};
 
 use crate::ending::End;
 use crate::fault::Fault;
@@ -37,23 +29,12 @@ pub fn exec_command<F: Files, U: Unit, O: Sink>(
     out: &mut O,
 ) -> Result<End, Fault>
     requires few { AreFew (rows_of rows) }
-    ensures held { F.held files.new ≡ F.held files.old }
-    ensures reaches { IfSome (F.held files.old) (λ h. Reaches (exec image.now (rows_of rows.entry)) (ExecTask image.now (rows_of rows.entry) h)
-        (moment (U.log unit.old) (U.wrong unit.old) (O.written out.old) (O.faults out.old))
-        (moment (U.log unit.new) (U.wrong unit.new) (O.written out.new) (O.faults out.new))
-        (F.broken files.old) (F.broken files.new) result) }
-    ensures performs { Performs (about (exec image.now (rows_of rows.entry))) (ExecTaskOf image.now (rows_of rows.entry))
+    ensures { Performs (about (exec image.now (rows_of rows.entry))) (ExecTask image.now (rows_of rows.entry))
         (files_seen (F.held files.old) (F.rest files.old) (F.faults files.old) (F.broken files.old))
         (files_seen (F.held files.new) (F.rest files.new) (F.faults files.new) (F.broken files.new))
         (moment_seen (U.log unit.old) (U.wrong unit.old) (O.written out.old) (O.faults out.old))
         (moment_seen (U.log unit.new) (U.wrong unit.new) (O.written out.new) (O.faults out.new))
         (told_line (exec image.now (rows_of rows.entry)) result) (told_status result) }
-    ensures unread { Unread result → Rose (F.faults files.old) (F.faults files.new) }
-    ensures write { result ≡ Err fault.Write → Rose (O.faults out.old) (O.faults out.new) }
-    ensures ended { OnOk result (IsAtEnd (F.rest files.new)) }
-    ensures taken { IfSome (F.held files.old) (λ h. Taken (exec image.now (rows_of rows.entry)) h (F.rest files.new) result) }
-    ensures refused { result ≡ Ok end.Refused → Rose (U.wrong unit.old) (U.wrong unit.new) }
-    ensures stopped { result ≡ Ok end.Stopped → GrowsToStop (U.log unit.old) (U.log unit.new) }
 {
     let loaded = load_image_and_rows(alloc, image, rows, files)?;
     match loaded.rows.open(alloc, &loaded.columns) {

@@ -1,7 +1,7 @@
 //! The graph that stands for a program.
 
 ghost use Rattle.std.specs.Prelude.{IfOk};
-ghost use Rattle.vcp_answer.specs.Courses.{StandsFor};
+ghost use Rattle.vcp_answer.specs.GraphsOf.{StandsFor};
 
 use flat_stmt::flatten;
 use graph_passes::reduce;

@@ -6,11 +6,10 @@ ghost use Rattle.vcp_base.specs.Limits.{most_names};
 ghost use Rattle.vcp_outside.specs.Counts.{Rose};
 ghost use Rattle.op_graph.specs.Lists.{column};
 ghost use Rattle.signature_table.specs.Signatures.{table_of};
-ghost use Rattle.vcp_words.specs.Forms.{Form, rows_of, AreFew};
+ghost use Rattle.vcp_words.specs.Forms.{rows_of, AreFew};
 ghost use Rattle.vcp_inputs.specs.RowsOutcome.{HasFewCycles};
-ghost use Rattle.vcp_answer.specs.Statuses.{Refused};
-ghost use Rattle.vcp_core.specs.Loading.{GraphComesTo, GraphNotLoaded, LoadsImage, ReadsRows};
-ghost use Rattle.vcp_core.specs.Reach.{fault_status, IsUnread};
+ghost use Rattle.vcp_core.specs.Loading.{LoadsImage};
+ghost use Rattle.vcp_core.specs.Reach.{IsUnread};
 ghost use Rattle.vcp_core.specs.declared.fault.Fault.TheVariants as fault;
 
 use crate::fault::Fault;
@@ -40,9 +39,6 @@ pub fn load_image_and_rows<F: Files>(
 ) -> Result<LoadedImage, Fault>
     requires few { AreFew (rows_of rows) }
     // What is answered: the image and its rows, or how far a command comes without them.
-    ensures comes { IfSome (F.held files.old) (λ h. IfOk result (GraphComesTo image.now (rows_of rows.entry) h)) }
-    ensures not_loaded { IfSome (F.held files.old) (λ h. IfErr result
-        (GraphNotLoaded image.now (rows_of rows.entry) h (F.broken files.old) (F.broken files.new))) }
     ensures loads { IfSome (F.held files.old)
         (λ h. LoadsImage image.now (rows_of rows.entry) h (F.broken files.old) (F.broken files.new) (F.rest files.new) result) }
     ensures table { IfOk result (λ l. l.image.table ≡ table_of l.image.table.seed l.image.table.step l.image.graph) }
@@ -55,8 +51,6 @@ pub fn load_image_and_rows<F: Files>(
     ensures no_write { result ≢ Err fault.Write }
     // What was taken of the files: all, unless one has too many bytes.
     ensures ended { OnOk result (IsAtEnd (F.rest files.new)) }
-    ensures taken { (f : Form) → ReadsRows f image.now (rows_of rows.entry) →
-        IfSome (F.held files.old) (λ h. IfErr result (λ e. fault_status e ≡ 1 → Refused f h (F.rest files.new))) }
     // What stays.
     ensures held { F.held files.new ≡ F.held files.old }
 {

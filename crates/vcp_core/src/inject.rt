@@ -1,20 +1,15 @@
 //! The command `inject`, up to the line of its fault.
 
-ghost use Rattle.std.specs.Prelude.{◌≡◌, ◌≤◌, All, IfErr, IfOk, IfSome, OnOk, Err, length};
-ghost use Rattle.std.specs.Io.KnownBytes.{IsAtEnd};
-ghost use Rattle.machine_run.specs.Moments.{moment};
+ghost use Rattle.std.specs.Prelude.{◌≡◌, ◌≤◌, All, IfErr, IfOk, length};
 ghost use Rattle.vcp_base.specs.Limits.{most_cycles, most_names};
-ghost use Rattle.vcp_outside.specs.Counts.{Rose};
 ghost use Rattle.vcp_words.specs.Forms.{inject, rows_of, AreFew};
 ghost use Rattle.vcp_inputs.specs.RowsOutcome.{HasFewCycles, source_outcome};
 ghost use Rattle.vcp_answer.specs.Abouts.{about};
 ghost use Rattle.vcp_answer.specs.Performing.{Performs};
 ghost use Rattle.vcp_answer.specs.Seen.{files_seen, moment_seen};
-ghost use Rattle.vcp_core.specs.CommandTasks.{InjectTask as InjectTaskOf};
-ghost use Rattle.vcp_core.specs.Inject.{AllRows, InjectTask, NoRows};
-ghost use Rattle.vcp_core.specs.Reach.{Reaches, Unread, Taken, told_line, told_status};
-ghost use Rattle.vcp_core.specs.declared.ending.End.TheVariants as end;
-ghost use Rattle.vcp_core.specs.declared.fault.Fault.TheVariants as fault;
+ghost use Rattle.vcp_core.specs.Tasks.{InjectTask};
+ghost use Rattle.vcp_core.specs.Inject.{AllRows, NoRows};
+ghost use Rattle.vcp_core.specs.Reach.{told_line, told_status};
 
 use crate::ending::End;
 use crate::fault::Fault;
@@ -64,23 +59,12 @@ pub fn inject_command<F: Files, U: Unit, O: Sink>(
     out: &mut O,
 ) -> Result<End, Fault>
     requires few { AreFew (rows_of rows) }
-    ensures held { F.held files.new ≡ F.held files.old }
-    ensures reaches { IfSome (F.held files.old) (λ h. Reaches (inject image.now (rows_of rows.entry) script.now)
-        (InjectTask image.now (rows_of rows.entry) script.now h)
-        (moment (U.log unit.old) (U.wrong unit.old) (O.written out.old) (O.faults out.old))
-        (moment (U.log unit.new) (U.wrong unit.new) (O.written out.new) (O.faults out.new))
-        (F.broken files.old) (F.broken files.new) result) }
-    ensures performs { Performs (about (inject image.now (rows_of rows.entry) script.now)) (InjectTaskOf image.now (rows_of rows.entry) script.now)
+    ensures { Performs (about (inject image.now (rows_of rows.entry) script.now)) (InjectTask image.now (rows_of rows.entry) script.now)
         (files_seen (F.held files.old) (F.rest files.old) (F.faults files.old) (F.broken files.old))
         (files_seen (F.held files.new) (F.rest files.new) (F.faults files.new) (F.broken files.new))
         (moment_seen (U.log unit.old) (U.wrong unit.old) (O.written out.old) (O.faults out.old))
         (moment_seen (U.log unit.new) (U.wrong unit.new) (O.written out.new) (O.faults out.new))
         (told_line (inject image.now (rows_of rows.entry) script.now) result) (told_status result) }
-    ensures done { IfOk result (λ e. e ≡ end.Done) }
-    ensures unread { Unread result → Rose (F.faults files.old) (F.faults files.new) }
-    ensures write { result ≡ Err fault.Write → Rose (O.faults out.old) (O.faults out.new) }
-    ensures ended { OnOk result (IsAtEnd (F.rest files.new)) }
-    ensures taken { IfSome (F.held files.old) (λ h. Taken (inject image.now (rows_of rows.entry) script.now) h (F.rest files.new) result) }
 {
     let loaded = load_image_and_rows(alloc, image, rows, files)?;
     let list = all_rows(alloc, &loaded)?;

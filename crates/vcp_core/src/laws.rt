@@ -1,6 +1,6 @@
 //! Laws of what commands come to.
 
-ghost use Rattle.std.specs.Prelude.{◌≡◌, ◌≤◌, Some, List, ℕ, ℤ, length};
+ghost use Rattle.std.specs.Prelude.{◌≡◌, ◌≤◌, Some, IfSome, List, ℕ, ℤ, length};
 ghost use Rattle.vcp_base.specs.Limits.{most_image_bytes};
 ghost use Rattle.vcp_base.specs.declared.code.Profile.TheVariants as profile;
 ghost use Rattle.vcp_outside.specs.Held.{Held};
@@ -11,16 +11,15 @@ ghost use Rattle.image_file.specs.Graphs.{HasImage};
 ghost use Rattle.image_file.specs.Image.{image_of};
 ghost use Rattle.weight_audit.specs.Audit.{most_weights, weights_up_to};
 ghost use Rattle.audit_report.specs.AuditText.{AuditOf};
-ghost use Rattle.vcp_words.specs.Forms.{Form, Rows, Code};
-ghost use Rattle.vcp_answer.specs.Answer.{Task, prints};
-ghost use Rattle.vcp_answer.specs.Sources.{ImageTask};
+ghost use Rattle.vcp_words.specs.Forms.{Form};
+ghost use Rattle.vcp_answer.specs.Abouts.{about, AllHeld, without_unit};
+ghost use Rattle.vcp_answer.specs.Answer.{Answer};
+ghost use Rattle.vcp_answer.specs.FileTasks.{ImageFile};
+ghost use Rattle.vcp_answer.specs.Endings.{HasOwnStatus};
+ghost use Rattle.vcp_answer.specs.Kinds.{Task, answers, lacks, prints, Meant};
 ghost use Rattle.vcp_core.specs.AcceptedRuns.{AcceptedIsReleased};
-ghost use Rattle.vcp_core.specs.Audit.{AuditTask};
-ghost use Rattle.vcp_core.specs.Plain.{PlainTask};
-ghost use Rattle.vcp_core.specs.Run.{RunTask};
+ghost use Rattle.vcp_core.specs.Tasks.{AuditTask, TaskOf, widened};
 ghost use Rattle.vcp_core.specs.StaleSeen.{StaleShows};
-ghost use Rattle.vcp_core.specs.Tasks.{TaskOf, as_meant};
-ghost use Rattle.vcp_core.specs.Widen.{widened};
 
 use audit_report::an_audit_has_one_text;
 use fault_runs::{
@@ -33,11 +32,14 @@ use st_parser::one_answer;
 use st_types::answers_are_one;
 use weight_audit::differences_come_as_weights;
 
-/// What a command comes to, where this is held, is one task; and `plain` comes to the answer that `run` gives with an honest unit.
+/// What a command comes to, where this is held, is one task, with a status of its own, and not a name that is lacking where all its
+/// files are held; and where `run` comes to a task that means an answer, it is the one that `plain` comes to, where it comes to one.
 pub fn one_task()
     ensures one { (f : Form) (held : Held) (a b : Task) → TaskOf f held a → TaskOf f held b → a ≡ b }
-    ensures as_plain { (p : List ℕ) (rows : Rows) (code : Code) (held : Held) (task : Task) → RunTask p rows code held task →
-        PlainTask p rows held (as_meant task) }
+    ensures own { (f : Form) (held : Held) (task : Task) → TaskOf f held task → HasOwnStatus task }
+    ensures found { (f : Form) (held : Held) (name : List ℕ) → AllHeld held (about f).files → TaskOf f held (lacks name) → ⊥ }
+    ensures as_plain { (f : Form) (held : Held) (task : Task) → TaskOf f held task →
+        IfSome (without_unit f) (λ g. (x y : Answer) → TaskOf g held (answers x) → Meant task y → y ≡ x) }
 {
     one_reading();
     one_answer();
@@ -52,7 +54,8 @@ pub fn one_task()
 pub fn written_images_are_taken()
     ensures taken { (g : Lists) (seed step : ℕ) (Then : Lists → Numbers → Task) (name : List ℕ) (held : Held) (task : Task) →
         HasImage g seed step → length (image_of g seed step) ≤ most_image_bytes →
-        held name ≡ Some (image_of g seed step) → ImageTask Then name held task → task ≡ Then g (table_of seed step g) }
+        held name ≡ Some (image_of g seed step) → ImageFile (λ i x. x ≡ Then i.graph i.table) name held task →
+        task ≡ Then g (table_of seed step g) }
     ensures audited { (g : Lists) (seed step horizon : ℕ) (name : List ℕ) (held : Held) (task : Task) →
         HasImage g seed step → length (image_of g seed step) ≤ most_image_bytes →
         held name ≡ Some (image_of g seed step) → weights_up_to g horizon ≤ most_weights → AuditTask name horizon held task →

@@ -1,20 +1,14 @@
 //! The command `list`, up to the line of its fault.
 
-ghost use Rattle.std.specs.Prelude.{◌≡◌, length, IfSome, IfOk, OnOk, Err, List, Option, ℕ};
-ghost use Rattle.std.specs.Io.KnownBytes.{IsAtEnd};
+ghost use Rattle.std.specs.Prelude.{◌≡◌, length, List, Option, ℕ};
 ghost use Rattle.coded_unit.specs.Log.{Entry};
-ghost use Rattle.vcp_outside.specs.Counts.{Rose};
 ghost use Rattle.vcp_outside.specs.Written.{Writes};
 ghost use Rattle.vcp_words.specs.Forms.{list};
-ghost use Rattle.vcp_core.specs.Listing.{ListTask, listing};
+ghost use Rattle.vcp_core.specs.Tasks.{listing, ListTask};
 ghost use Rattle.vcp_answer.specs.Abouts.{about};
 ghost use Rattle.vcp_answer.specs.Performing.{Performs};
 ghost use Rattle.vcp_answer.specs.Seen.{files_seen, moment_seen};
-ghost use Rattle.vcp_core.specs.CommandTasks.{ListTask as ListTaskOf};
-ghost use Rattle.vcp_core.specs.Reach.{Reaches, Unread, Taken, told_line, told_status};
-ghost use Rattle.machine_run.specs.Moments.{moment};
-ghost use Rattle.vcp_core.specs.declared.ending.End.TheVariants as end;
-ghost use Rattle.vcp_core.specs.declared.fault.Fault.TheVariants as fault;
+ghost use Rattle.vcp_core.specs.Reach.{told_line, told_status};
 
 use crate::ending::End;
 use crate::fault::Fault;
@@ -45,20 +39,11 @@ pub fn list_command<F: Files, O: Sink>(
     files: &mut F,
     out: &mut O,
 ) -> Result<End, Fault>
-    ensures held { F.held files.new ≡ F.held files.old }
-    ensures reaches { (log : Option (List Entry)) (wrong : ℕ) → IfSome (F.held files.old) (λ h. Reaches (list image.now) (ListTask image.now h)
-        (moment log wrong (O.written out.old) (O.faults out.old)) (moment log wrong (O.written out.new) (O.faults out.new))
-        (F.broken files.old) (F.broken files.new) result) }
-    ensures performs { (log : Option (List Entry)) (wrong : ℕ) → Performs (about (list image.now)) (ListTaskOf image.now)
+    ensures { (log : Option (List Entry)) (wrong : ℕ) → Performs (about (list image.now)) (ListTask image.now)
         (files_seen (F.held files.old) (F.rest files.old) (F.faults files.old) (F.broken files.old))
         (files_seen (F.held files.new) (F.rest files.new) (F.faults files.new) (F.broken files.new))
         (moment_seen log wrong (O.written out.old) (O.faults out.old)) (moment_seen log wrong (O.written out.new) (O.faults out.new))
         (told_line (list image.now) result) (told_status result) }
-    ensures done { IfOk result (λ e. e ≡ end.Done) }
-    ensures unread { Unread result → Rose (F.faults files.old) (F.faults files.new) }
-    ensures write { result ≡ Err fault.Write → Rose (O.faults out.old) (O.faults out.new) }
-    ensures ended { OnOk result (IsAtEnd (F.rest files.new)) }
-    ensures taken { IfSome (F.held files.old) (λ h. Taken (list image.now) h (F.rest files.new) result) }
 {
     match load_image(alloc, files, image) {
         Ok(image) => {

@@ -5,11 +5,10 @@ ghost use Rattle.std.specs.Io.KnownBytes.{IsAtEnd};
 ghost use Rattle.vcp_base.specs.Limits.{most_names};
 ghost use Rattle.vcp_outside.specs.Counts.{Rose};
 ghost use Rattle.vcp_typed.specs.Fitting.{input_columns as input_columns_of};
-ghost use Rattle.vcp_words.specs.Forms.{Form, rows_of, AreFew};
+ghost use Rattle.vcp_words.specs.Forms.{rows_of, AreFew};
 ghost use Rattle.vcp_inputs.specs.RowsOutcome.{HasFewCycles};
-ghost use Rattle.vcp_answer.specs.Statuses.{Refused};
-ghost use Rattle.vcp_core.specs.Loading.{ComesTo, NotLoaded, ReadsRows, LoadsProgram};
-ghost use Rattle.vcp_core.specs.Reach.{fault_status, IsUnread};
+ghost use Rattle.vcp_core.specs.Loading.{LoadsProgram};
+ghost use Rattle.vcp_core.specs.Reach.{IsUnread};
 ghost use Rattle.vcp_core.specs.declared.fault.Fault.TheVariants as fault;
 
 use crate::fault::Fault;
@@ -49,8 +48,6 @@ pub fn load<F: Files>(
 ) -> Result<Loaded, Fault>
     requires few { AreFew (rows_of rows) }
     // What is answered: the program and its rows, or how far a command comes without them.
-    ensures comes { IfSome (F.held files.old) (λ h. IfOk result (ComesTo source.now (rows_of rows.entry) h)) }
-    ensures not_loaded { IfSome (F.held files.old) (λ h. IfErr result (NotLoaded source.now (rows_of rows.entry) h (F.broken files.old) (F.broken files.new))) }
     ensures loads { IfSome (F.held files.old)
         (λ h. LoadsProgram source.now (rows_of rows.entry) h (F.broken files.old) (F.broken files.new) (F.rest files.new) result) }
     ensures columns { IfOk result (λ l. l.columns ≡ input_columns_of l.program.slots) }
@@ -60,8 +57,6 @@ pub fn load<F: Files>(
     ensures no_write { result ≢ Err fault.Write }
     // What was taken of the files: all, unless one has too many bytes.
     ensures ended { OnOk result (IsAtEnd (F.rest files.new)) }
-    ensures taken { (f : Form) → ReadsRows f source.now (rows_of rows.entry)
-        → IfSome (F.held files.old) (λ h. IfErr result (λ e. fault_status e ≡ 1 → Refused f h (F.rest files.new))) }
     // What stays.
     ensures held { F.held files.new ≡ F.held files.old }
 {

@@ -1,22 +1,19 @@
 //! The run of a graph's operations, and of a program's, on rows, on a unit.
 
-ghost use Rattle.std.specs.Prelude.{◌≡◌, ◌<◌, ◌≤◌, ℕ, List, Ok, Err, IfSome, All, length, map};
+ghost use Rattle.std.specs.Prelude.{◌≡◌, ◌≤◌, ℕ, List, Ok, Err, IfSome, All, length, map};
 ghost use Rattle.vcp_base.specs.Limits.{most_cycles};
 ghost use Rattle.vcp_base.specs.Types.{AreIn};
 ghost use Rattle.vcp_outside.specs.Counts.{Rose};
 ghost use Rattle.vcp_typed.specs.Fitting.{input_types};
 ghost use Rattle.input_rows.specs.RowsOf.{IsOfRecord};
 ghost use Rattle.run_report.specs.Lines.{row_text};
-ghost use Rattle.machine_run.specs.Moments.{moment};
 ghost use Rattle.machine_run.specs.Stops.{GrowsToStop};
 ghost use Rattle.signature_table.specs.Signatures.{IsTableOf};
 ghost use Rattle.vcp_words.specs.Forms.{Code as CodeOf, as_code, IsCode};
 ghost use Rattle.vcp_answer.specs.Answer.{Subject, source};
-ghost use Rattle.vcp_core.specs.Jobs.{job_of};
 ghost use Rattle.vcp_answer.specs.Seen.{moment_seen};
-ghost use Rattle.vcp_core.specs.CommandTasks.{rows_job};
-ghost use Rattle.vcp_core.specs.MachineRun.{CarriesOut, RunsJob, RunsTo, IsThere, PrintsEnd};
-ghost use Rattle.vcp_core.specs.Run.{job};
+ghost use Rattle.vcp_core.specs.Tasks.{rows_job};
+ghost use Rattle.vcp_core.specs.MachineRun.{CarriesOut, RunsTo, IsThere, PrintsEnd};
 ghost use Rattle.vcp_core.specs.declared.ending.End.TheVariants as end;
 ghost use Rattle.vcp_core.specs.declared.fault.Fault.TheVariants as fault;
 
@@ -101,10 +98,6 @@ pub fn run_graph<U: Unit, O: Sink>(
     requires width { length rows.old.types ≡ length graph.now.inputs }
     requires few { length rows.old.rows ≤ most_cycles }
     requires behind { IfSome rows.old.refusal IsOfRecord }
-    ensures runs { (name : List ℕ) (subject : Subject) (code : CodeOf) → CarriesOut graph.now table.now rows.old subject code →
-        RunsJob (job_of name code subject rows.old)
-        (moment (U.log unit.old) (U.wrong unit.old) (O.written out.old) (O.faults out.old))
-        (moment (U.log unit.new) (U.wrong unit.new) (O.written out.new) (O.faults out.new)) result }
     ensures ran { (name : List ℕ) (subject : Subject) (code : CodeOf) → CarriesOut graph.now table.now rows.old subject code →
         RunsTo (rows_job name code subject rows.old)
         (moment_seen (U.log unit.old) (U.wrong unit.old) (O.written out.old) (O.faults out.old))
@@ -134,9 +127,6 @@ pub fn run_program<U: Unit, O: Sink>(
     requires few { length rows.old.rows ≤ most_cycles }
     requires behind { IfSome rows.old.refusal IsOfRecord }
     requires code { IsCode (as_code code) }
-    ensures runs { (name : List ℕ) → RunsJob (job name (as_code code) program.now rows.old)
-        (moment (U.log unit.old) (U.wrong unit.old) (O.written out.old) (O.faults out.old))
-        (moment (U.log unit.new) (U.wrong unit.new) (O.written out.new) (O.faults out.new)) result }
     ensures ran { (name : List ℕ) → RunsTo (rows_job name (as_code code) (source program.now) rows.old)
         (moment_seen (U.log unit.old) (U.wrong unit.old) (O.written out.old) (O.faults out.old))
         (moment_seen (U.log unit.new) (U.wrong unit.new) (O.written out.new) (O.faults out.new)) result }

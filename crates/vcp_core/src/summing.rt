@@ -1,22 +1,20 @@
 //! The run of a made program on rows, on a unit, which is summed up in one line.
 
-ghost use Rattle.std.specs.Prelude.{◌≡◌, ◌<◌, ◌≤◌, ℕ, List, [], Ok, Err, IfSome, All, length, map};
+ghost use Rattle.std.specs.Prelude.{◌≡◌, ◌≤◌, [], Ok, Err, IfSome, All, length, map};
 ghost use Rattle.vcp_base.specs.Limits.{most_cycles};
 ghost use Rattle.vcp_base.specs.Types.{AreIn};
 ghost use Rattle.vcp_outside.specs.Counts.{Rose};
 ghost use Rattle.vcp_typed.specs.Fitting.{input_types};
 ghost use Rattle.input_rows.specs.RowsOf.{IsOfRecord};
-ghost use Rattle.machine_run.specs.Moments.{moment};
 ghost use Rattle.machine_run.specs.Stops.{GrowsToStop};
 ghost use Rattle.signature_table.specs.Signatures.{IsTableOf};
-ghost use Rattle.vcp_words.specs.Forms.{Code as CodeOf, default_code};
+ghost use Rattle.vcp_words.specs.Forms.{default_code};
 ghost use Rattle.vcp_typed.specs.SourceRun.{Program};
-ghost use Rattle.vcp_answer.specs.Answer.{Subject, source};
+ghost use Rattle.vcp_answer.specs.Answer.{source};
 ghost use Rattle.vcp_answer.specs.Seen.{moment_seen};
 ghost use Rattle.vcp_answer.specs.Sums.{first_value as first_value_of};
-ghost use Rattle.vcp_core.specs.CommandTasks.{summary_job as summary_job_to};
-ghost use Rattle.vcp_core.specs.Demo.{made_job, summary_job};
-ghost use Rattle.vcp_core.specs.MachineRun.{CarriesOut, RunsJob, RunsTo, IsThere};
+ghost use Rattle.vcp_core.specs.Tasks.{summary_job};
+ghost use Rattle.vcp_core.specs.MachineRun.{CarriesOut, RunsTo, IsThere};
 ghost use Rattle.vcp_core.specs.SummaryRun.{KeepsSums, PrintsSummary};
 ghost use Rattle.vcp_core.specs.declared.ending.End.TheVariants as end;
 ghost use Rattle.vcp_core.specs.declared.fault.Fault.TheVariants as fault;
@@ -110,11 +108,7 @@ fn sum_up<U: Unit, O: Sink>(
     requires width { length rows.old.types ≡ length graph.now.inputs }
     requires few { length rows.old.rows ≤ most_cycles }
     requires behind { IfSome rows.old.refusal IsOfRecord }
-    ensures runs { (name : List ℕ) (subject : Subject) (code : CodeOf) → CarriesOut graph.now table.now rows.old subject code →
-        RunsJob (summary_job number name code subject rows.old)
-        (moment (U.log unit.old) (U.wrong unit.old) (O.written out.old) (O.faults out.old))
-        (moment (U.log unit.new) (U.wrong unit.new) (O.written out.new) (O.faults out.new)) result }
-    ensures ran { (p : Program) → CarriesOut graph.now table.now rows.old (source p) default_code → RunsTo (summary_job_to number p rows.old)
+    ensures ran { (p : Program) → CarriesOut graph.now table.now rows.old (source p) default_code → RunsTo (summary_job number p rows.old)
         (moment_seen (U.log unit.old) (U.wrong unit.old) (O.written out.old) (O.faults out.old))
         (moment_seen (U.log unit.new) (U.wrong unit.new) (O.written out.new) (O.faults out.new)) result }
     ensures write { result ≡ Err fault.Write → Rose (O.faults out.old) (O.faults out.new) }
@@ -143,10 +137,7 @@ pub fn run_summed<U: Unit, O: Sink>(
     requires typed { All (AreIn rows.old.types) rows.old.rows }
     requires few { length rows.old.rows ≤ most_cycles }
     requires behind { IfSome rows.old.refusal IsOfRecord }
-    ensures runs { RunsJob (made_job number program.now rows.old)
-        (moment (U.log unit.old) (U.wrong unit.old) (O.written out.old) (O.faults out.old))
-        (moment (U.log unit.new) (U.wrong unit.new) (O.written out.new) (O.faults out.new)) result }
-    ensures ran { RunsTo (summary_job_to number program.now rows.old)
+    ensures ran { RunsTo (summary_job number program.now rows.old)
         (moment_seen (U.log unit.old) (U.wrong unit.old) (O.written out.old) (O.faults out.old))
         (moment_seen (U.log unit.new) (U.wrong unit.new) (O.written out.new) (O.faults out.new)) result }
     ensures write { result ≡ Err fault.Write → Rose (O.faults out.old) (O.faults out.new) }

@@ -5,9 +5,7 @@ ghost use Rattle.vcp_outside.specs.Written.{Writes};
 ghost use Rattle.vcp_words.specs.Forms.{form, rows_of};
 ghost use Rattle.vcp_words.specs.Tables.{rows_name as rows_name_of};
 ghost use Rattle.vcp_words.specs.Usage.{usage_text};
-ghost use Rattle.vcp_core.specs.Reach.{rows_told, script_name as script_name_of, fault_text};
-ghost use Rattle.vcp_core.specs.Reach.{fault_status as status_of_fault};
-ghost use Rattle.vcp_core.specs.Tasks.{source_name as source_name_of};
+ghost use Rattle.vcp_core.specs.Reach.{rows_told, script_name as script_name_of, fault_text, fault_status as status_of_fault, source_name as source_name_of};
 
 use crate::fault::Fault;
 use vcp_inputs::{input_status, tell_input};

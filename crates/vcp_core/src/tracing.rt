@@ -5,16 +5,13 @@ ghost use Rattle.vcp_base.specs.Limits.{most_cycles};
 ghost use Rattle.vcp_outside.specs.Counts.{Rose};
 ghost use Rattle.vcp_outside.specs.Written.{Writes};
 ghost use Rattle.input_rows.specs.RowsOf.{IsOfRecord};
-ghost use Rattle.signature_table.specs.Signatures.{IsTableOf, table_of};
+ghost use Rattle.signature_table.specs.Signatures.{table_of};
 ghost use Rattle.coded_machine.specs.Calls.{Whole};
-ghost use Rattle.machine_run.specs.Moments.{moment};
 ghost use Rattle.machine_run.specs.Stops.{GrowsToStop};
 ghost use Rattle.vcp_answer.specs.CycleWords.{word_lines, words_among};
 ghost use Rattle.vcp_answer.specs.Seen.{moment_seen};
-ghost use Rattle.vcp_core.specs.CommandTasks.{words_job as words_job_to};
-ghost use Rattle.vcp_core.specs.Jobs.{code_of};
-ghost use Rattle.vcp_core.specs.MachineRun.{IsThere, RunsJob, RunsTo};
-ghost use Rattle.vcp_core.specs.Trace.{words_job};
+ghost use Rattle.vcp_core.specs.Tasks.{words_job, code_of};
+ghost use Rattle.vcp_core.specs.MachineRun.{IsThere, RunsTo};
 ghost use Rattle.vcp_core.specs.TraceRun.{PrintsWords, answered_words};
 ghost use Rattle.vcp_core.specs.declared.ending.End.TheVariants as end;
 ghost use Rattle.vcp_core.specs.declared.fault.Fault.TheVariants as fault;
@@ -128,10 +125,7 @@ pub fn run_words<U: Unit, O: Sink>(
     requires few { length rows.old.rows ≤ cycle + 1 }
     requires through { rows.old.refusal ≡ None → length rows.old.rows ≡ cycle + 1 }
     requires behind { IfSome rows.old.refusal IsOfRecord }
-    ensures runs { (name : List ℕ) → RunsJob (words_job name cycle graph.now table.now rows.old)
-        (moment (U.log unit.old) (U.wrong unit.old) (O.written out.old) (O.faults out.old))
-        (moment (U.log unit.new) (U.wrong unit.new) (O.written out.new) (O.faults out.new)) result }
-    ensures ran { (name : List ℕ) → RunsTo (words_job_to name cycle graph.now (code_of table.now) rows.old)
+    ensures ran { (name : List ℕ) → RunsTo (words_job name cycle graph.now (code_of table.now) rows.old)
         (moment_seen (U.log unit.old) (U.wrong unit.old) (O.written out.old) (O.faults out.old))
         (moment_seen (U.log unit.new) (U.wrong unit.new) (O.written out.new) (O.faults out.new)) result }
     ensures write { result ≡ Err fault.Write → Rose (O.faults out.old) (O.faults out.new) }

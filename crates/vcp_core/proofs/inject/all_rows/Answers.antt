@@ -1,7 +1,8 @@
 use Rattle.std.proofs.Common.{◌<◌, ◌*◌, ap, sym, length, Err}
 use Rattle.std.proofs.lemmas.Result.{err_from_is_err_and}
 use Rattle.vcp_inputs.specs.RowsOutcome.{source_outcome}
-use Rattle.vcp_core.specs.Inject.{most_trace, too_many}
+use Rattle.vcp_core.specs.Inject.{too_many}
+use Rattle.vcp_core.specs.Tasks.{most_trace}
 use Rattle.vcp_core.proofs.JudgedTasks.{row_refused, not_opened}
 use Rattle.vcp_core.proofs.inject.all_rows.Goals as goal
 

@@ -1,4 +1,5 @@
-use Rattle.vcp_core.proofs.OneTask.{ImageLaws, Laws, task_once, task_meant}
+use Rattle.vcp_core.proofs.Meanings.{task_once, own_status, all_found, plain_meant}
+use Rattle.vcp_core.proofs.OneText.{ImageLaws, Laws}
 use Rattle.vcp_core.proofs.laws.one_task.Goals as goal
 
 pub returns-clause-one : goal.returns-clause-one
@@ -23,5 +24,30 @@ returns-clause-one c =
     } in
     task_once laws
 
+pub returns-clause-own : goal.returns-clause-own
+returns-clause-own c = own_status
+
+pub returns-clause-found : goal.returns-clause-found
+returns-clause-found c = all_found
+
 pub returns-clause-as_plain : goal.returns-clause-as_plain
-returns-clause-as_plain c = task_meant
+returns-clause-as_plain c =
+    let images : ImageLaws = record {
+      graph = c.images_are_told_apart.ensures.one_graph;
+      fault = c.images_are_told_apart.ensures.one_fault;
+      none = c.images_are_told_apart.ensures.no_fault;
+    } in
+    let laws : Laws = record {
+      tokens = c.one_reading.ensures.tokens;
+      either = c.one_reading.ensures.either;
+      place = c.one_reading.ensures.place;
+      reason = c.one_reading.ensures.reason;
+      spelled = c.one_answer.ensures.either;
+      parsed = c.one_answer.ensures.refused;
+      typed = c.answers_are_one.ensures.typed;
+      apart = c.answers_are_one.ensures.either;
+      refused = c.answers_are_one.ensures.refused;
+      images = images;
+      audits = c.an_audit_has_one_text.ensures.one;
+    } in
+    plain_meant laws

@@ -1,6 +1,6 @@
-use Rattle.vcp_core.proofs.Audits.{audit_comes}
-use Rattle.vcp_core.proofs.OneTask.{ImageLaws}
-use Rattle.vcp_core.proofs.WideImages.{image_comes, has_wide, wide_run, wide_same}
+use Rattle.vcp_core.proofs.Meanings.{audit_comes, image_comes}
+use Rattle.vcp_core.proofs.OneText.{ImageLaws}
+use Rattle.vcp_core.proofs.WideImages.{has_wide, wide_run, wide_same}
 use Rattle.vcp_core.proofs.laws.written_images_are_taken.Goals as goal
 
 pub returns-clause-taken : goal.returns-clause-taken
@@ -19,7 +19,7 @@ returns-clause-audited c =
       fault = c.images_are_told_apart.ensures.one_fault;
       none = c.images_are_told_apart.ensures.no_fault;
     } in
-    audit_comes images c.an_audit_has_one_text.ensures.one
+    audit_comes images
 
 pub returns-clause-widened : goal.returns-clause-widened
 returns-clause-widened c = has_wide

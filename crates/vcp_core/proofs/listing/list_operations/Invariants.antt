@@ -1,7 +1,7 @@
 use Rattle.std.proofs.Common.{take, Ok}
 use Rattle.vcp_outside.specs.declared.failed.Failed.{Failed}
 use Rattle.vcp_outside.specs.Written.{Writes}
-use Rattle.vcp_core.specs.Listing.{lines_from}
+use Rattle.vcp_core.specs.Tasks.{lines_from}
 use Rattle.vcp_core.proofs.listing.list_operations.Given as goal
 
 abbrev pub invariant-operations : goal.invariant-operations

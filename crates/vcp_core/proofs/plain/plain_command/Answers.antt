@@ -1,25 +1,17 @@
-use Rattle.std.proofs.Common.{◌∙◌, ◌≡◌, inl, inr, ap, refl, subst, arith, Err}
+use Rattle.std.proofs.Common.{◌∙◌, ◌≡◌, inl, inr, ap, refl, Err}
 use Rattle.std.proofs.lemmas.Result.{err_from_is_err_and}
-use Rattle.input_rows.specs.RowsOf.{RowsLeft, types_of}
-use Rattle.vcp_typed.specs.SourceRun.{Program}
+use Rattle.input_rows.specs.RowsOf.{types_of}
 use Rattle.vcp_words.specs.Forms.{plain, rows_of}
 use Rattle.vcp_words.specs.Tables.{rows_name}
-use Rattle.vcp_inputs.specs.RowsOutcome.{RowsOutcome, source_outcome}
-use Rattle.vcp_answer.specs.Answer.{Task, gives}
-use Rattle.vcp_answer.specs.Sources.{ProgramTask, on_rows}
-use Rattle.vcp_core.specs.Plain.{PlainTask, plain_answer}
 use Rattle.vcp_core.proofs.Facts.{if_some_weaker}
-use Rattle.vcp_core.proofs.Loaded.{typed_not_bytes, unopened}
+use Rattle.vcp_core.proofs.Loaded.{typed_not_bytes}
 use Rattle.vcp_core.proofs.PlainNames.{types-of-inputs}
-use Rattle.vcp_core.proofs.PlainReaching.{run_printed}
-use Rattle.vcp_core.proofs.PlainTurns.{appends-nothing}
-use Rattle.vcp_core.proofs.Reaching.{untouched}
 use Rattle.vcp_inputs.specs.Programs.{TypedOf, NotTyped}
 use Rattle.vcp_answer.specs.Abouts.{about, source_word}
 use Rattle.vcp_answer.specs.Kinds.{answers}
 use Rattle.vcp_answer.specs.Seen.{files_seen, moment_seen}
 use Rattle.vcp_core.specs.declared.fault.Fault.TheVariants as fault
-use Rattle.vcp_core.specs.CommandTasks.{plain_answer as plain_answer_to, PlainTask as PlainTaskOf}
+use Rattle.vcp_core.specs.Tasks.{plain_answer as plain_answer_to, PlainTask}
 use Rattle.vcp_core.specs.Loading.{program_columns, program_in, program_outcome}
 use Rattle.vcp_core.specs.Reach.{fault_text, told_line}
 use Rattle.vcp_core.proofs.LoadedRows.{loading_lost, loading_taken, opened_comes, unopened_lost}
@@ -27,57 +19,11 @@ use Rattle.vcp_core.proofs.Performing.{performs_by, performs_when, at_end_of, st
 use Rattle.vcp_core.proofs.PlainKinds.{plain_ends, plain_reads, plain_refuses, plain_reaches}
 use Rattle.vcp_core.proofs.plain.plain_command.Goals as goal
 
-pub returns-in_err-loaded-clause-reaches : goal.returns-in_err-loaded-clause-reaches
-returns-in_err-loaded-clause-reaches g c log wrong =
-    let rows = rows_of c.args.rows in
-    let q = err_from_is_err_and c.from_residual.result c.from_residual.ensures.1 in
-    if_some_weaker (g.F.Files.held c.args.files.now) _ _
-    (λ h lost. rw (q.1, q.2)
-    (lost (plain c.args.source.now rows) (λ t left. gives (plain_answer (rows_name rows) t left)) _ _
-    (record { source = refl; told = refl; files = λ name among. among })
-    (untouched log wrong _ _ _ _ (appends-nothing _)))) c.in_err-loaded.ensures.not_loaded
-
-pub returns-in_err-loaded-clause-taken : goal.returns-in_err-loaded-clause-taken
-returns-in_err-loaded-clause-taken g c =
-    let q = err_from_is_err_and c.from_residual.result c.from_residual.ensures.1 in
-    if_some_weaker (g.F.Files.held c.args.files.now) _ _
-    (λ h taken. rw (q.1, q.2) taken)
-    (c.in_err-loaded.ensures.taken (plain c.args.source.now (rows_of c.args.rows)) (record { source = refl; told = refl; files = λ name among. among }))
-
 pub print_run-requires-clause-types : goal.print_run-requires-clause-types
 print_run-requires-clause-types g c = c.in-Ok.ensures.types ∙ (ap types_of c.in_ok-loaded.ensures.columns ∙ types-of-inputs c.in_ok-loaded.loaded.program.slots)
 
-pub returns-in-Ok-clause-reaches : goal.returns-in-Ok-clause-reaches
-returns-in-Ok-clause-reaches g c log wrong =
-    let p = c.args.source.now in
-    let rows = rows_of c.args.rows in
-    let loaded = c.in_ok-loaded.loaded in
-    let then : Program → RowsLeft → Task = λ t left. gives (plain_answer (rows_name rows) t left) in
-    if_some_weaker (g.F.Files.held c.args.files.now) _ _
-    (λ h comes.
-    let P : RowsOutcome → Type 0 = λ o. ProgramTask then p rows h (on_rows (rows_name rows) (then loaded.program) o) in
-    run_printed p rows (PlainTask p rows h) log wrong (g.O.Sink.written c.args.out.now) (g.O.Sink.written c.print_run.new.out) (g.O.Sink.faults c.args.out.now)
-    (g.O.Sink.faults c.print_run.new.out)
-    (g.F.Files.broken c.args.files.now) (g.F.Files.broken c.load.new.files) loaded.program c.in-Ok.rows
-    (subst P (c.in-Ok.ensures.opens 0 0) (comes then)) c.print_run.result c.print_run.ensures.prints) c.in_ok-loaded.ensures.comes
-
-pub returns-clause-reaches : goal.returns-clause-reaches
-returns-clause-reaches g c log wrong =
-    let p = c.args.source.now in
-    let rows = rows_of c.args.rows in
-    let loaded = c.in_ok-loaded.loaded in
-    let then : Program → RowsLeft → Task = λ t left. gives (plain_answer (rows_name rows) t left) in
-    let b = g.F.Files.broken c.args.files.now in
-    if_some_weaker (g.F.Files.held c.args.files.now) _ _
-    (λ h comes. unopened (plain p rows) (rows_name rows) (PlainTask p rows h) (then loaded.program) (source_outcome loaded.rows loaded.columns) _ _ b b
-    (g.F.Files.broken c.load.new.files) c.in-Err.input
-    (untouched log wrong _ _ _ _ (appends-nothing _)) (λ e. absurd (c.in-Err.ensures.read (ap Err e))) (omega arith) (comes then)
-    (c.in-Err.ensures.opens b (g.F.Files.broken c.load.new.files))) c.in_ok-loaded.ensures.comes
-
--- ---- the same by kinds of tasks
-
-pub returns-in_err-loaded-clause-performs : goal.returns-in_err-loaded-clause-performs
-returns-in_err-loaded-clause-performs g c log wrong =
+pub returns-in_err-loaded : goal.returns-in_err-loaded
+returns-in_err-loaded g c log wrong =
     let p = c.args.source.now in
     let rows = rows_of c.args.rows in
     let f = plain p rows in
@@ -88,7 +34,7 @@ returns-in_err-loaded-clause-performs g c log wrong =
     let q = err_from_is_err_and c.from_residual.result c.from_residual.ensures.1 in
     let e = c.in_err-loaded.field-0.0 in
     rw (q.1, q.2)
-    (performs_by (about f) (PlainTaskOf p rows) files
+    (performs_by (about f) (PlainTask p rows) files
     later
     _ _ (fault_text f e) (Err e) (λ none. cc) (inr (inl refl)) (λ x is. absurd cc)
     (if_some_weaker (g.F.Files.held c.args.files.now) _ _
@@ -104,8 +50,8 @@ returns-in_err-loaded-clause-performs g c log wrong =
     c.load.ensures.held (λ no. refl) tt (λ is. absurd cc) (λ is. absurd cc) c.in_err-loaded.ensures.unread
     (λ is. let same : c.in_err-loaded.field-0.0 ≡ fault.Write = cc in absurd (c.in_err-loaded.ensures.no_write (ap Err same))))
 
-pub returns-in-Ok-clause-performs : goal.returns-in-Ok-clause-performs
-returns-in-Ok-clause-performs g c log wrong =
+pub returns-in-Ok : goal.returns-in-Ok
+returns-in-Ok g c log wrong =
     let p = c.args.source.now in
     let rows = rows_of c.args.rows in
     let f = plain p rows in
@@ -119,11 +65,11 @@ returns-in-Ok-clause-performs g c log wrong =
     let old = g.O.Sink.written c.args.out.now in
     let now = g.O.Sink.written c.print_run.new.out in
     let prints = c.print_run.ensures.prints in
-    performs_when (about f) (PlainTaskOf p rows) files later (moment_seen log wrong old (g.O.Sink.faults c.args.out.now))
+    performs_when (about f) (PlainTask p rows) files later (moment_seen log wrong old (g.O.Sink.faults c.args.out.now))
     (moment_seen log wrong now (g.O.Sink.faults c.print_run.new.out))
     (told_line f r) r (λ none. cc) (inr (inl refl)) (plain_ends t left old now r prints)
     (if_some_weaker files.held _ _
-    (λ h loads. plain_reaches t left old now p rows (PlainTaskOf p rows h) files later log wrong (g.O.Sink.faults c.args.out.now)
+    (λ h loads. plain_reaches t left old now p rows (PlainTask p rows h) files later log wrong (g.O.Sink.faults c.args.out.now)
     (g.O.Sink.faults c.print_run.new.out)
     (opened_comes TypedOf NotTyped program_columns program_in program_outcome typed_not_bytes f (source_word p) rows refl refl (inl refl)
     (λ w among. inr among) h files later
@@ -135,8 +81,8 @@ returns-in-Ok-clause-performs g c log wrong =
     (λ is. absurd (plain_refuses t left old now r prints is))
     (λ is. absurd (plain_reads t left old now r prints is)) c.print_run.ensures.write
 
-pub returns-clause-performs : goal.returns-clause-performs
-returns-clause-performs g c log wrong =
+pub returns : goal.returns
+returns g c log wrong =
     let p = c.args.source.now in
     let rows = rows_of c.args.rows in
     let f = plain p rows in
@@ -145,7 +91,7 @@ returns-clause-performs g c log wrong =
     let later = files_seen (g.F.Files.held c.load.new.files) (g.F.Files.rest c.load.new.files) (g.F.Files.faults c.load.new.files)
     (g.F.Files.broken c.load.new.files) in
     let e = c.in-Err.input in
-    performs_by (about f) (PlainTaskOf p rows) files
+    performs_by (about f) (PlainTask p rows) files
     later
     _ _ (fault_text f (fault.Rows e)) (Err (fault.Rows e)) (λ none. cc) (inr (inl refl)) (λ x is. absurd cc)
     (if_some_weaker (g.F.Files.held c.args.files.now) _ _

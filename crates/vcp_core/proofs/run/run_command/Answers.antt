@@ -1,27 +1,18 @@
-use Rattle.std.proofs.Common.{◌∙◌, ◌≡◌, inl, inr, ap, refl, subst, arith, Err}
+use Rattle.std.proofs.Common.{◌∙◌, ◌≡◌, inl, inr, ap, refl, Err}
 use Rattle.std.proofs.lemmas.Result.{err_from_is_err_and}
-use Rattle.input_rows.specs.RowsOf.{RowsLeft, types_of}
-use Rattle.vcp_typed.specs.SourceRun.{Program}
-use Rattle.machine_run.specs.Moments.{moment}
+use Rattle.input_rows.specs.RowsOf.{types_of}
 use Rattle.vcp_words.specs.Forms.{run, rows_of, as_code}
 use Rattle.vcp_words.specs.Tables.{rows_name}
-use Rattle.vcp_inputs.specs.RowsOutcome.{RowsOutcome, source_outcome}
-use Rattle.vcp_answer.specs.Answer.{Task, runs}
-use Rattle.vcp_answer.specs.Sources.{ProgramTask, on_rows}
-use Rattle.vcp_core.specs.Run.{RunTask, job}
 use Rattle.vcp_core.proofs.Facts.{if_some_weaker}
-use Rattle.vcp_core.proofs.Loaded.{typed_not_bytes, unopened}
+use Rattle.vcp_core.proofs.Loaded.{typed_not_bytes}
 use Rattle.vcp_core.proofs.PlainNames.{types-of-inputs}
-use Rattle.vcp_core.proofs.PlainTurns.{appends-nothing}
-use Rattle.vcp_core.proofs.Reaching.{untouched}
-use Rattle.vcp_core.proofs.RunReaching.{job_ran, run_reads}
 use Rattle.vcp_inputs.specs.Programs.{TypedOf, NotTyped}
 use Rattle.vcp_answer.specs.Abouts.{about, source_word}
 use Rattle.vcp_answer.specs.Answer.{source}
 use Rattle.vcp_answer.specs.Kinds.{runs as runs_to}
 use Rattle.vcp_answer.specs.Seen.{files_seen, moment_seen}
 use Rattle.vcp_core.specs.declared.fault.Fault.TheVariants as fault
-use Rattle.vcp_core.specs.CommandTasks.{rows_job, RunTask as RunTaskOf}
+use Rattle.vcp_core.specs.Tasks.{rows_job, RunTask}
 use Rattle.vcp_core.specs.Loading.{program_columns, program_in, program_outcome}
 use Rattle.vcp_core.specs.MachineRun.{RunsTo}
 use Rattle.vcp_core.specs.Reach.{fault_text, told_line}
@@ -29,69 +20,12 @@ use Rattle.vcp_core.proofs.LoadedRows.{loading_lost, loading_taken, opened_comes
 use Rattle.vcp_core.proofs.Performing.{performs_by, ran, ran_reads, run_ends, at_end_of, still}
 use Rattle.vcp_core.proofs.run.run_command.Goals as goal
 
-pub returns-in_err-loaded-clause-reaches : goal.returns-in_err-loaded-clause-reaches
-returns-in_err-loaded-clause-reaches g c =
-    let rows = rows_of c.args.rows in
-    let code = as_code c.args.code in
-    let q = err_from_is_err_and c.from_residual.result c.from_residual.ensures.1 in
-    if_some_weaker (g.F.Files.held c.args.files.now) _ _
-    (λ h lost. rw (q.1, q.2)
-    (lost (run c.args.source.now rows code) (λ t left. runs (job (rows_name rows) code t left)) _ _
-    (record { source = refl; told = refl; files = λ name among. among })
-    (untouched (g.U.Unit.log c.args.unit.now) (g.U.Unit.wrong c.args.unit.now) _ _ _ _ (appends-nothing _)))) c.in_err-loaded.ensures.not_loaded
-
-pub returns-in_err-loaded-clause-taken : goal.returns-in_err-loaded-clause-taken
-returns-in_err-loaded-clause-taken g c =
-    let q = err_from_is_err_and c.from_residual.result c.from_residual.ensures.1 in
-    if_some_weaker (g.F.Files.held c.args.files.now) _ _
-    (λ h taken. rw (q.1, q.2) taken)
-    (c.in_err-loaded.ensures.taken (run c.args.source.now (rows_of c.args.rows) (as_code c.args.code))
-    (record { source = refl; told = refl; files = λ name among. among }))
-
 pub run_program-requires-clause-types : goal.run_program-requires-clause-types
 run_program-requires-clause-types g c = c.in-Ok.ensures.types
     ∙ (ap types_of c.in_ok-loaded.ensures.columns ∙ types-of-inputs c.in_ok-loaded.loaded.program.slots)
 
-pub returns-in-Ok-clause-reaches : goal.returns-in-Ok-clause-reaches
-returns-in-Ok-clause-reaches g c =
-    let p = c.args.source.now in
-    let rows = rows_of c.args.rows in
-    let code = as_code c.args.code in
-    let loaded = c.in_ok-loaded.loaded in
-    let then : Program → RowsLeft → Task = λ t left. runs (job (rows_name rows) code t left) in
-    if_some_weaker (g.F.Files.held c.args.files.now) _ _
-    (λ h comes.
-    let P : RowsOutcome → Type 0 = λ o. ProgramTask then p rows h (on_rows (rows_name rows) (then loaded.program) o) in
-    job_ran (run p rows code) (job (rows_name rows) code loaded.program c.in-Ok.rows) refl refl (RunTask p rows code h)
-    (moment (g.U.Unit.log c.args.unit.now) (g.U.Unit.wrong c.args.unit.now) (g.O.Sink.written c.args.out.now) (g.O.Sink.faults c.args.out.now))
-    (moment (g.U.Unit.log c.run_program.new.unit) (g.U.Unit.wrong c.run_program.new.unit) (g.O.Sink.written c.run_program.new.out)
-    (g.O.Sink.faults c.run_program.new.out))
-    (g.F.Files.broken c.args.files.now) (g.F.Files.broken c.load.new.files) (subst P (c.in-Ok.ensures.opens 0 0) (comes then)) c.run_program.result
-    (c.run_program.ensures.runs (rows_name rows))) c.in_ok-loaded.ensures.comes
-
-pub returns-in-Ok-clause-unread : goal.returns-in-Ok-clause-unread
-returns-in-Ok-clause-unread g c =
-    λ is. absurd (run_reads (job (rows_name (rows_of c.args.rows)) (as_code c.args.code) c.in_ok-loaded.loaded.program c.in-Ok.rows) _ _ c.run_program.result
-    (c.run_program.ensures.runs (rows_name (rows_of c.args.rows))) is)
-
-pub returns-clause-reaches : goal.returns-clause-reaches
-returns-clause-reaches g c =
-    let p = c.args.source.now in
-    let rows = rows_of c.args.rows in
-    let code = as_code c.args.code in
-    let loaded = c.in_ok-loaded.loaded in
-    let then : Program → RowsLeft → Task = λ t left. runs (job (rows_name rows) code t left) in
-    let b = g.F.Files.broken c.args.files.now in
-    if_some_weaker (g.F.Files.held c.args.files.now) _ _
-    (λ h comes. unopened (run p rows code) (rows_name rows) (RunTask p rows code h) (then loaded.program) (source_outcome loaded.rows loaded.columns) _ _ b b
-    (g.F.Files.broken c.load.new.files) c.in-Err.input
-    (untouched (g.U.Unit.log c.args.unit.now) (g.U.Unit.wrong c.args.unit.now) _ _ _ _ (appends-nothing _)) (λ e. absurd (c.in-Err.ensures.read (ap Err e)))
-    (omega arith) (comes then) (c.in-Err.ensures.opens b (g.F.Files.broken c.load.new.files))) c.in_ok-loaded.ensures.comes
-
--- ---- the same by kinds of tasks
-
-pub returns-in_err-loaded-clause-performs : goal.returns-in_err-loaded-clause-performs
-returns-in_err-loaded-clause-performs g c =
+pub returns-in_err-loaded : goal.returns-in_err-loaded
+returns-in_err-loaded g c =
     let p = c.args.source.now in
     let code = as_code c.args.code in
     let rows = rows_of c.args.rows in
@@ -103,7 +37,7 @@ returns-in_err-loaded-clause-performs g c =
     let q = err_from_is_err_and c.from_residual.result c.from_residual.ensures.1 in
     let e = c.in_err-loaded.field-0.0 in
     rw (q.1, q.2)
-    (performs_by (about f) (RunTaskOf p rows code) files
+    (performs_by (about f) (RunTask p rows code) files
     later
     _ _ (fault_text f e) (Err e) (λ none. cc) (inr (inl refl)) (λ x is. absurd cc)
     (if_some_weaker (g.F.Files.held c.args.files.now) _ _
@@ -119,8 +53,8 @@ returns-in_err-loaded-clause-performs g c =
     c.load.ensures.held (λ no. refl) tt (λ is. absurd cc) (λ is. absurd cc) c.in_err-loaded.ensures.unread
     (λ is. let same : c.in_err-loaded.field-0.0 ≡ fault.Write = cc in absurd (c.in_err-loaded.ensures.no_write (ap Err same))))
 
-pub returns-in-Ok-clause-performs : goal.returns-in-Ok-clause-performs
-returns-in-Ok-clause-performs g c =
+pub returns-in-Ok : goal.returns-in-Ok
+returns-in-Ok g c =
     let p = c.args.source.now in
     let code = as_code c.args.code in
     let rows = rows_of c.args.rows in
@@ -136,11 +70,11 @@ returns-in-Ok-clause-performs g c =
     (g.O.Sink.faults c.run_program.new.out) in
     let run : RunsTo j before after c.run_program.result =
     c.run_program.ensures.ran (rows_name rows) in
-    performs_by (about f) (RunTaskOf p rows code) files
+    performs_by (about f) (RunTask p rows code) files
     later
     before after (told_line f c.run_program.result) c.run_program.result (λ none. cc) (inr (inl refl)) (λ e is. run_ends e)
     (if_some_weaker (g.F.Files.held c.args.files.now) _ _
-    (λ h loads. ran f (RunTaskOf p rows code h) j _ _ before after c.run_program.result refl refl
+    (λ h loads. ran f (RunTask p rows code h) j _ _ before after c.run_program.result refl refl
     (opened_comes TypedOf NotTyped program_columns program_in program_outcome typed_not_bytes f (source_word p) rows refl refl (inl refl)
     (λ w among. inr among) h files later
     (λ t left. runs_to (rows_job (rows_name rows) code (source t) left)) c.in_ok-loaded.loaded _ loads c.in-Ok.rows
@@ -151,8 +85,8 @@ returns-in-Ok-clause-performs g c =
     (at_end_of c.run_program.result _ c.in_ok-loaded.ensures.ended) c.run_program.ensures.stopped c.run_program.ensures.refused
     (λ is. absurd (ran_reads j before after c.run_program.result run is)) c.run_program.ensures.write
 
-pub returns-clause-performs : goal.returns-clause-performs
-returns-clause-performs g c =
+pub returns : goal.returns
+returns g c =
     let p = c.args.source.now in
     let code = as_code c.args.code in
     let rows = rows_of c.args.rows in
@@ -162,7 +96,7 @@ returns-clause-performs g c =
     let later = files_seen (g.F.Files.held c.load.new.files) (g.F.Files.rest c.load.new.files) (g.F.Files.faults c.load.new.files)
     (g.F.Files.broken c.load.new.files) in
     let e = c.in-Err.input in
-    performs_by (about f) (RunTaskOf p rows code) files
+    performs_by (about f) (RunTask p rows code) files
     later
     _ _ (fault_text f (fault.Rows e)) (Err (fault.Rows e)) (λ none. cc) (inr (inl refl)) (λ x is. absurd cc)
     (if_some_weaker (g.F.Files.held c.args.files.now) _ _

@@ -3,77 +3,26 @@ use Rattle.std.specs.Io.KnownBytes.{Appends}
 use Rattle.vcp_outside.specs.Written.{AppendsPart}
 use Rattle.vcp_answer.specs.Reports.{names_of}
 use Rattle.vcp_answer.specs.RunKind.{run_read}
-use Rattle.vcp_core.specs.CommandTasks.{rows_job}
+use Rattle.vcp_core.specs.Tasks.{rows_job}
 use Rattle.vcp_core.proofs.Performing.{still}
 use Rattle.vcp_core.proofs.PrintedRun.{header-left, given-up-run, last-left, ended-run, rows-last}
 use Rattle.std.proofs.lemmas.Result.{err_from_is_err_and}
 use Rattle.coded_machine.specs.State.{State}
 use Rattle.vcp_core.specs.declared.ending.End.TheVariants as ending
 use Rattle.vcp_core.specs.Reach.{end_status}
-use Rattle.vcp_core.proofs.JobRun.{header-cut, last-cut, ended-job, given-up-job}
-use Rattle.vcp_core.proofs.JobFacts.{names-are, leaves-here, there-is, stopped-is, refused-is, untouched-by}
+use Rattle.vcp_core.proofs.JobFacts.{names-are, leaves-here, there-is, stopped-is, refused-is}
 use Rattle.vcp_core.proofs.running.run_graph.Goals as goal
-
-pub returns-in_err-outputs-clause-runs : goal.returns-in_err-outputs-clause-runs
-returns-in_err-outputs-clause-runs g c name s code carries =
-    let q = err_from_is_err_and c.from_residual-in_err-outputs.result c.from_residual-in_err-outputs.ensures.1 in
-    rw (q.1, q.2) (inl (untouched-by _ _ _ _ _))
-
-pub returns-in_err-header_line-clause-runs : goal.returns-in_err-header_line-clause-runs
-returns-in_err-header_line-clause-runs g c name s code carries =
-    let q = err_from_is_err_and c.from_residual-in_err-header_line.result c.from_residual-in_err-header_line.ensures.1 in
-    let graph = c.args.graph.now in
-    let left = c.args.rows.now in
-    let names = names-are graph c.args.table.now left s code c.in_ok-outputs.outputs carries c.in_ok-outputs.ensures in
-    rw (q.1, q.2) (header-cut graph s name code left carries.may carries.told _ None _ 0 _ _ _ _ (rw names at c.in_err-header_line.ensures.part))
 
 pub run_rows-requires-clause-width : goal.run_rows-requires-clause-width
 run_rows-requires-clause-width g c = c.requires.width ∙ ap (λ (m : State). length m.graph.inputs) (sym c.in_ok-machine.ensures.fresh)
-
-pub returns-in_err-end-clause-runs : goal.returns-in_err-end-clause-runs
-returns-in_err-end-clause-runs g c name s code carries =
-    let q = err_from_is_err_and c.from_residual-in_err-end.result c.from_residual-in_err-end.ensures.1 in
-    let graph = c.args.graph.now in
-    let left = c.args.rows.now in
-    let names = names-are graph c.args.table.now left s code c.in_ok-outputs.outputs carries c.in_ok-outputs.ensures in
-    let leaves = leaves-here c.in_ok-machine.machine _ graph c.args.table.now _ left _ _ _ _ _ _ c.in_ok-machine.ensures.fresh carries.numbers c.in_err-end.ensures.leaves in
-    rw (q.1, q.2)
-    (given-up-job graph s name code left carries.may carries.told _ _ _ _ _ _ _ _ _ _ _ c.requires.behind
-    (rw names at c.in_ok-header_line.ensures.whole) leaves.run)
 
 pub print_end-requires-clause-there : goal.print_end-requires-clause-there
 print_end-requires-clause-there g c =
     there-is c.in_ok-machine.machine c.args.graph.now c.in_ok-end.end (Ok c.in_ok-end.end) refl
     (ap (λ (m : State). m.graph) c.in_ok-machine.ensures.fresh) c.in_ok-end.ensures.placed c.in_ok-end.ensures.numbered
 
-pub returns-in_err-print_end-clause-runs : goal.returns-in_err-print_end-clause-runs
-returns-in_err-print_end-clause-runs g c name s code carries =
-    let q = err_from_is_err_and c.from_residual-in_err-print_end.result c.from_residual-in_err-print_end.ensures.1 in
-    let graph = c.args.graph.now in
-    let left = c.args.rows.now in
-    let names = names-are graph c.args.table.now left s code c.in_ok-outputs.outputs carries c.in_ok-outputs.ensures in
-    let leaves = leaves-here c.in_ok-machine.machine _ graph c.args.table.now _ left _ _ _ _ _ _ c.in_ok-machine.ensures.fresh carries.numbers c.in_ok-end.ensures.leaves in
-    let there = there-is c.in_ok-machine.machine graph c.in_ok-end.end (Ok c.in_ok-end.end) refl
-    (ap (λ (m : State). m.graph) c.in_ok-machine.ensures.fresh) c.in_ok-end.ensures.placed c.in_ok-end.ensures.numbered in
-    rw (q.1, q.2)
-    (last-cut graph s name code left carries.may carries.told _ _ _ _ c.in_ok-end.end _ _ _ _ _ _ _ _ c.cycles.result
-    (rw names at c.in_ok-header_line.ensures.whole) leaves.run there (c.cycles.ensures.value ∙ leaves.machine.cycles)
-    (rw names at c.in_err-print_end.ensures.1))
-
 pub returns-in_err-print_end-clause-write : goal.returns-in_err-print_end-clause-write
 returns-in_err-print_end-clause-write g c = λ is. omega (arith, c.in_ok-header_line.ensures.cause.later, c.run_rows.ensures.later, c.in_err-print_end.ensures.0)
-
-pub returns-clause-runs : goal.returns-clause-runs
-returns-clause-runs g c name s code carries =
-    let graph = c.args.graph.now in
-    let left = c.args.rows.now in
-    let names = names-are graph c.args.table.now left s code c.in_ok-outputs.outputs carries c.in_ok-outputs.ensures in
-    let leaves = leaves-here c.in_ok-machine.machine _ graph c.args.table.now _ left _ _ _ _ _ _ c.in_ok-machine.ensures.fresh carries.numbers c.in_ok-end.ensures.leaves in
-    let there = there-is c.in_ok-machine.machine graph c.in_ok-end.end (Ok c.in_ok-end.end) refl
-    (ap (λ (m : State). m.graph) c.in_ok-machine.ensures.fresh) c.in_ok-end.ensures.placed c.in_ok-end.ensures.numbered in
-    ended-job graph s name code left carries.may carries.told _ _ _ _ c.in_ok-end.end c.in_ok-print_end.field-0 _ _ _ _ _ _ _ _ c.cycles.result
-    (rw names at c.in_ok-header_line.ensures.whole) leaves.run there (c.cycles.ensures.value ∙ leaves.machine.cycles)
-    (rw names at c.in_ok-print_end.ensures.0) c.in_ok-print_end.ensures.1
 
 pub returns-clause-refused : goal.returns-clause-refused
 returns-clause-refused g c is =

@@ -8,75 +8,28 @@ use Rattle.vcp_words.specs.Forms.{default_code}
 use Rattle.vcp_answer.specs.Answer.{source}
 use Rattle.vcp_answer.specs.Reports.{names_of}
 use Rattle.vcp_answer.specs.RunKind.{run_read}
-use Rattle.vcp_core.specs.CommandTasks.{summary_job}
+use Rattle.vcp_core.specs.Tasks.{summary_job}
 use Rattle.vcp_core.specs.declared.ending.End.TheVariants as ending
 use Rattle.vcp_core.specs.Reach.{end_status}
-use Rattle.vcp_core.proofs.JobFacts.{names-are, leaves-here, there-is, stopped-is, refused-is, untouched-by}
+use Rattle.vcp_core.proofs.JobFacts.{names-are, leaves-here, there-is, stopped-is, refused-is}
 use Rattle.vcp_core.proofs.Performing.{still}
 use Rattle.vcp_core.proofs.PlainTurns.{appends-nothing}
 use Rattle.vcp_core.proofs.PrintedRun.{given-up-run, last-left, ended-run}
 use Rattle.vcp_core.proofs.SummaryPrinted.{summary-last}
-use Rattle.vcp_core.proofs.SummaryRun.{cut-summary, ended-summary, given-up-summary, released-few}
+use Rattle.vcp_core.proofs.SummaryRun.{released-few}
 use Rattle.vcp_core.proofs.SumsKept.{no-sums}
 use Rattle.vcp_core.proofs.summing.sum_up.Goals as goal
 
-pub returns-in_err-outputs-clause-runs : goal.returns-in_err-outputs-clause-runs
-returns-in_err-outputs-clause-runs g c name s code carries =
-    let q = err_from_is_err_and c.from_residual-in_err-outputs.result c.from_residual-in_err-outputs.ensures.1 in
-    rw (q.1, q.2) (inl (untouched-by _ _ _ _ _))
-
 pub run_rows-requires-clause-width : goal.run_rows-requires-clause-width
 run_rows-requires-clause-width g c = c.requires.width ∙ ap (λ (m : State). length m.graph.inputs) (sym c.in_ok-machine.ensures.fresh)
-
-pub returns-in_err-end-clause-runs : goal.returns-in_err-end-clause-runs
-returns-in_err-end-clause-runs g c name s code carries =
-    let q = err_from_is_err_and c.from_residual-in_err-end.result c.from_residual-in_err-end.ensures.1 in
-    let graph = c.args.graph.now in
-    let left = c.args.rows.now in
-    let leaves = leaves-here c.in_ok-machine.machine _ graph c.args.table.now _ left _ _ _ _ _ _ c.in_ok-machine.ensures.fresh
-    carries.numbers c.in_err-end.ensures.leaves in
-    rw (q.1, q.2) (given-up-summary graph s c.args.number name code left carries.may carries.told _ _ _ _ _ _ _ _ _ c.requires.behind leaves.run)
 
 pub print_summary-requires-clause-there : goal.print_summary-requires-clause-there
 print_summary-requires-clause-there g c =
     there-is c.in_ok-machine.machine c.args.graph.now c.in_ok-end.end (Ok c.in_ok-end.end) refl
     (ap (λ (m : State). m.graph) c.in_ok-machine.ensures.fresh) c.in_ok-end.ensures.placed c.in_ok-end.ensures.numbered
 
-pub returns-in_err-print_summary-clause-runs : goal.returns-in_err-print_summary-clause-runs
-returns-in_err-print_summary-clause-runs g c name s code carries =
-    let q = err_from_is_err_and c.from_residual-in_err-print_summary.result c.from_residual-in_err-print_summary.ensures.1 in
-    let graph = c.args.graph.now in
-    let left = c.args.rows.now in
-    let names = names-are graph c.args.table.now left s code c.in_ok-outputs.outputs carries c.in_ok-outputs.ensures in
-    let leaves = leaves-here c.in_ok-machine.machine _ graph c.args.table.now _ left _ _ _ _ _ _ c.in_ok-machine.ensures.fresh
-    carries.numbers c.in_ok-end.ensures.leaves in
-    let there = there-is c.in_ok-machine.machine graph c.in_ok-end.end (Ok c.in_ok-end.end) refl
-    (ap (λ (m : State). m.graph) c.in_ok-machine.ensures.fresh) c.in_ok-end.ensures.placed c.in_ok-end.ensures.numbered in
-    let (came, none, lines) = leaves.run.ends in
-    let few = released-few graph (table_of code.seed code.step graph) left.rows leaves.run.cycles came.all in
-    let sums = leaves.kept [] no-sums (omega (arith, few, c.requires.few)) in
-    rw (q.1, q.2)
-    (cut-summary graph s c.args.number name code left carries.may carries.told _ _ _ _ c.in_ok-end.end _ _ _ _ leaves.run there c.cycles-cycles.result
-    (c.cycles-cycles.ensures.value ∙ leaves.machine.cycles) _ _ sums _ _ (rw names at c.in_err-print_summary.ensures.1))
-
 pub returns-in_err-print_summary-clause-write : goal.returns-in_err-print_summary-clause-write
 returns-in_err-print_summary-clause-write g c = λ is. omega (arith, c.run_rows.ensures.later, c.in_err-print_summary.ensures.0)
-
-pub returns-clause-runs : goal.returns-clause-runs
-returns-clause-runs g c name s code carries =
-    let graph = c.args.graph.now in
-    let left = c.args.rows.now in
-    let names = names-are graph c.args.table.now left s code c.in_ok-outputs.outputs carries c.in_ok-outputs.ensures in
-    let leaves = leaves-here c.in_ok-machine.machine _ graph c.args.table.now _ left _ _ _ _ _ _ c.in_ok-machine.ensures.fresh
-    carries.numbers c.in_ok-end.ensures.leaves in
-    let there = there-is c.in_ok-machine.machine graph c.in_ok-end.end (Ok c.in_ok-end.end) refl
-    (ap (λ (m : State). m.graph) c.in_ok-machine.ensures.fresh) c.in_ok-end.ensures.placed c.in_ok-end.ensures.numbered in
-    let (came, none, lines) = leaves.run.ends in
-    let few = released-few graph (table_of code.seed code.step graph) left.rows leaves.run.cycles came.all in
-    let sums = leaves.kept [] no-sums (omega (arith, few, c.requires.few)) in
-    ended-summary graph s c.args.number name code left carries.may carries.told _ _ _ _ c.in_ok-end.end _ _ _ _ leaves.run there c.cycles-cycles.result
-    (c.cycles-cycles.ensures.value ∙ leaves.machine.cycles) _ _ sums c.in_ok-print_summary.field-0 _ _ (rw names at c.in_ok-print_summary.ensures.0)
-    c.in_ok-print_summary.ensures.1
 
 pub returns-clause-refused : goal.returns-clause-refused
 returns-clause-refused g c is =

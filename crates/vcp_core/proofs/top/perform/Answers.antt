@@ -1,39 +1,41 @@
-use Rattle.vcp_core.proofs.Facts.{if_some_always}
+use Rattle.vcp_answer.specs.Seen.{files_seen}
 use Rattle.vcp_core.proofs.top.perform.Goals as goal
 
-pub returns-in-Check-clause-reaches : goal.returns-in-Check-clause-reaches
-returns-in-Check-clause-reaches g c = rw c.in-Check.is (c.check_command.ensures.reaches (g.U.Unit.log c.args.unit.now) (g.U.Unit.wrong c.args.unit.now))
+pub returns-in-Check : goal.returns-in-Check
+returns-in-Check g c = rw c.in-Check.is (c.check_command.ensures (g.U.Unit.log c.args.unit.now) (g.U.Unit.wrong c.args.unit.now))
 
-pub returns-in-Format-clause-reaches : goal.returns-in-Format-clause-reaches
-returns-in-Format-clause-reaches g c = rw c.in-Format.is (c.format_command.ensures.reaches (g.U.Unit.log c.args.unit.now) (g.U.Unit.wrong c.args.unit.now))
+pub returns-in-Format : goal.returns-in-Format
+returns-in-Format g c = rw c.in-Format.is (c.format_command.ensures (g.U.Unit.log c.args.unit.now) (g.U.Unit.wrong c.args.unit.now))
 
-pub returns-in-Plain-clause-reaches : goal.returns-in-Plain-clause-reaches
-returns-in-Plain-clause-reaches g c = rw c.in-Plain.is (c.plain_command.ensures.reaches (g.U.Unit.log c.args.unit.now) (g.U.Unit.wrong c.args.unit.now))
+pub returns-in-Plain : goal.returns-in-Plain
+returns-in-Plain g c = rw c.in-Plain.is (c.plain_command.ensures (g.U.Unit.log c.args.unit.now) (g.U.Unit.wrong c.args.unit.now))
 
-pub returns-in-Run-clause-reaches : goal.returns-in-Run-clause-reaches
-returns-in-Run-clause-reaches g c = rw c.in-Run.is c.run_command.ensures.reaches
+pub returns-in-Run : goal.returns-in-Run
+returns-in-Run g c = rw c.in-Run.is c.run_command.ensures
 
-pub returns-in-Compile-clause-reaches : goal.returns-in-Compile-clause-reaches
-returns-in-Compile-clause-reaches g c = rw c.in-Compile.is (c.compile_command.ensures.reaches (g.U.Unit.log c.args.unit.now) (g.U.Unit.wrong c.args.unit.now))
+pub returns-in-Compile : goal.returns-in-Compile
+returns-in-Compile g c =
+    rw c.in-Compile.is (c.compile_command.ensures (g.U.Unit.log c.args.unit.now) (g.U.Unit.wrong c.args.unit.now))
 
-pub returns-in-List-clause-reaches : goal.returns-in-List-clause-reaches
-returns-in-List-clause-reaches g c = rw c.in-List.is (c.list_command.ensures.reaches (g.U.Unit.log c.args.unit.now) (g.U.Unit.wrong c.args.unit.now))
+pub returns-in-List : goal.returns-in-List
+returns-in-List g c = rw c.in-List.is (c.list_command.ensures (g.U.Unit.log c.args.unit.now) (g.U.Unit.wrong c.args.unit.now))
 
-pub returns-in-Widen-clause-reaches : goal.returns-in-Widen-clause-reaches
-returns-in-Widen-clause-reaches g c = rw c.in-Widen.is (c.widen_command.ensures.reaches (g.U.Unit.log c.args.unit.now) (g.U.Unit.wrong c.args.unit.now))
+pub returns-in-Exec : goal.returns-in-Exec
+returns-in-Exec g c = rw c.in-Exec.is c.exec_command.ensures
 
-pub returns-in-Exec-clause-reaches : goal.returns-in-Exec-clause-reaches
-returns-in-Exec-clause-reaches g c = rw c.in-Exec.is c.exec_command.ensures.reaches
+pub returns-in-Trace : goal.returns-in-Trace
+returns-in-Trace g c = rw c.in-Trace.is c.trace_command.ensures
 
-pub returns-in-Trace-clause-reaches : goal.returns-in-Trace-clause-reaches
-returns-in-Trace-clause-reaches g c = rw c.in-Trace.is c.trace_command.ensures.reaches
+pub returns-in-Widen : goal.returns-in-Widen
+returns-in-Widen g c = rw c.in-Widen.is (c.widen_command.ensures (g.U.Unit.log c.args.unit.now) (g.U.Unit.wrong c.args.unit.now))
 
-pub returns-in-Audit-clause-reaches : goal.returns-in-Audit-clause-reaches
-returns-in-Audit-clause-reaches g c = rw c.in-Audit.is (c.audit_command.ensures.reaches (g.U.Unit.log c.args.unit.now) (g.U.Unit.wrong c.args.unit.now))
+pub returns-in-Audit : goal.returns-in-Audit
+returns-in-Audit g c = rw c.in-Audit.is (c.audit_command.ensures (g.U.Unit.log c.args.unit.now) (g.U.Unit.wrong c.args.unit.now))
 
-pub returns-in-Inject-clause-reaches : goal.returns-in-Inject-clause-reaches
-returns-in-Inject-clause-reaches g c = rw c.in-Inject.is c.inject_command.ensures.reaches
+pub returns-in-Inject : goal.returns-in-Inject
+returns-in-Inject g c = rw c.in-Inject.is c.inject_command.ensures
 
-pub returns-in-Demo-clause-reaches : goal.returns-in-Demo-clause-reaches
-returns-in-Demo-clause-reaches g c =
-    if_some_always (g.F.Files.held c.args.files.now) _ (λ h. rw c.in-Demo.is (c.demo_command.ensures.reaches (g.F.Files.broken c.args.files.now)))
+pub returns-in-Demo : goal.returns-in-Demo
+returns-in-Demo g c =
+    rw c.in-Demo.is (c.demo_command.ensures (files_seen (g.F.Files.held c.args.files.now) (g.F.Files.rest c.args.files.now)
+    (g.F.Files.faults c.args.files.now) (g.F.Files.broken c.args.files.now)))

@@ -1,54 +1,23 @@
-use Rattle.std.proofs.Common.{◌∙◌, ◌≡◌, ◌≤◌, ◌+◌, ap, refl, sym, subst, inl, inr, length, None, arith, Err}
+use Rattle.std.proofs.Common.{◌∙◌, ◌≡◌, ◌≤◌, ◌+◌, ap, refl, sym, subst, inl, inr, length, None, Err}
 use Rattle.std.proofs.lemmas.Result.{err_from_is_err_and}
 use Rattle.input_rows.specs.RowsOf.{RowsLeft, through}
-use Rattle.op_graph.specs.Lists.{Lists}
-use Rattle.signature_table.specs.Signatures.{Numbers}
-use Rattle.machine_run.specs.Moments.{moment}
 use Rattle.vcp_words.specs.Forms.{trace, rows_of}
 use Rattle.vcp_words.specs.Tables.{rows_name}
-use Rattle.vcp_inputs.specs.RowsOutcome.{RowsOutcome, source_outcome}
-use Rattle.vcp_answer.specs.Answer.{Task, runs}
-use Rattle.vcp_answer.specs.Sources.{GraphTask, on_rows}
-use Rattle.vcp_core.specs.MachineRun.{RunsJob, RunsTo}
-use Rattle.vcp_core.specs.Trace.{TraceTask, words_job}
+use Rattle.vcp_core.specs.MachineRun.{RunsTo}
 use Rattle.vcp_core.proofs.ImageLoaded.{image_not_bytes, types-width}
 use Rattle.vcp_core.proofs.WordsRun.{through-few, through-all}
 use Rattle.vcp_core.proofs.Facts.{if_some_weaker}
-use Rattle.vcp_core.proofs.Loaded.{unopened}
-use Rattle.vcp_core.proofs.PlainTurns.{appends-nothing}
-use Rattle.vcp_core.proofs.Reaching.{untouched}
-use Rattle.vcp_core.proofs.RunReaching.{job_ran, run_reads}
 use Rattle.vcp_answer.specs.Abouts.{about, image_word}
 use Rattle.vcp_answer.specs.Kinds.{runs as runs_to}
 use Rattle.vcp_answer.specs.Seen.{files_seen, moment_seen}
 use Rattle.vcp_core.specs.declared.fault.Fault.TheVariants as fault
-use Rattle.vcp_core.specs.CommandTasks.{words_job as words_job_to, TraceTask as TraceTaskOf}
-use Rattle.vcp_core.specs.Jobs.{code_of}
+use Rattle.vcp_core.specs.Tasks.{words_job, TraceTask, code_of}
 use Rattle.vcp_core.specs.Reach.{fault_text, told_line}
 use Rattle.vcp_inputs.specs.Images.{ImageOf, NotImage}
 use Rattle.vcp_core.specs.Loading.{image_columns, image_in, image_outcome}
 use Rattle.vcp_core.proofs.LoadedRows.{loading_lost, loading_taken, opened_comes, unopened_lost}
 use Rattle.vcp_core.proofs.Performing.{performs_by, ran, ran_reads, run_ends, at_end_of, still}
 use Rattle.vcp_core.proofs.trace.trace_command.Goals as goal
-
-pub returns-in_err-loaded-clause-reaches : goal.returns-in_err-loaded-clause-reaches
-returns-in_err-loaded-clause-reaches g c =
-    let rows = rows_of c.args.rows in
-    let n = c.args.cycle in
-    let q = err_from_is_err_and c.from_residual.result c.from_residual.ensures.1 in
-    if_some_weaker (g.F.Files.held c.args.files.now) _ _
-    (λ h lost. rw (q.1, q.2)
-    (lost (trace c.args.image.now rows c.args.cycle) (λ g t left. runs (words_job (rows_name rows) n g t (through n left))) _ _
-    (record { source = refl; told = refl; files = λ name among. among })
-    (untouched (g.U.Unit.log c.args.unit.now) (g.U.Unit.wrong c.args.unit.now) _ _ _ _ (appends-nothing _)))) c.in_err-loaded.ensures.not_loaded
-
-pub returns-in_err-loaded-clause-taken : goal.returns-in_err-loaded-clause-taken
-returns-in_err-loaded-clause-taken g c =
-    let q = err_from_is_err_and c.from_residual.result c.from_residual.ensures.1 in
-    if_some_weaker (g.F.Files.held c.args.files.now) _ _
-    (λ h taken. rw (q.1, q.2) taken)
-    (c.in_err-loaded.ensures.taken (trace c.args.image.now (rows_of c.args.rows) c.args.cycle)
-    (record { source = refl; told = refl; files = λ name among. among }))
 
 pub run_words-requires-clause-width : goal.run_words-requires-clause-width
 run_words-requires-clause-width g c =
@@ -63,48 +32,8 @@ pub run_words-requires-clause-through : goal.run_words-requires-clause-through
 run_words-requires-clause-through g c =
     subst (λ (l : RowsLeft). l.refusal ≡ None → length l.rows ≡ c.args.cycle + 1) (sym c.through.ensures.rows) (through-all c.args.cycle c.in-Ok.rows)
 
-pub returns-in-Ok-clause-reaches : goal.returns-in-Ok-clause-reaches
-returns-in-Ok-clause-reaches g c =
-    let m = c.args.image.now in
-    let n = c.args.cycle in
-    let rows = rows_of c.args.rows in
-    let loaded = c.in_ok-loaded.loaded in
-    let then : Lists → Numbers → RowsLeft → Task = λ g t left. runs (words_job (rows_name rows) n g t (through n left)) in
-    if_some_weaker (g.F.Files.held c.args.files.now) _ _
-    (λ h comes.
-    let P : RowsOutcome → Type 0 = λ o. GraphTask then m rows h (on_rows (rows_name rows) (then loaded.image.graph loaded.image.table) o) in
-    job_ran (trace m rows n) (words_job (rows_name rows) n loaded.image.graph loaded.image.table (through n c.in-Ok.rows)) refl refl (TraceTask m rows n h)
-    (moment (g.U.Unit.log c.args.unit.now) (g.U.Unit.wrong c.args.unit.now) (g.O.Sink.written c.args.out.now) (g.O.Sink.faults c.args.out.now))
-    (moment (g.U.Unit.log c.run_words.new.unit) (g.U.Unit.wrong c.run_words.new.unit) (g.O.Sink.written c.run_words.new.out)
-    (g.O.Sink.faults c.run_words.new.out))
-    (g.F.Files.broken c.args.files.now) (g.F.Files.broken c.load_image_and_rows.new.files) (subst P (c.in-Ok.ensures.opens 0 0) (comes then)) c.run_words.result
-    (subst (λ left. RunsJob (words_job (rows_name rows) n loaded.image.graph loaded.image.table left)
-    (moment (g.U.Unit.log c.args.unit.now) (g.U.Unit.wrong c.args.unit.now) (g.O.Sink.written c.args.out.now) (g.O.Sink.faults c.args.out.now))
-    (moment (g.U.Unit.log c.run_words.new.unit) (g.U.Unit.wrong c.run_words.new.unit) (g.O.Sink.written c.run_words.new.out)
-    (g.O.Sink.faults c.run_words.new.out)) c.run_words.result) c.through.ensures.rows
-    (c.run_words.ensures.runs (rows_name rows)))) c.in_ok-loaded.ensures.comes
-
-pub returns-in-Ok-clause-unread : goal.returns-in-Ok-clause-unread
-returns-in-Ok-clause-unread g c = λ is. absurd (run_reads (words_job (rows_name (rows_of c.args.rows)) c.args.cycle c.in_ok-loaded.loaded.image.graph c.in_ok-loaded.loaded.image.table c.through.result) _ _ c.run_words.result (c.run_words.ensures.runs (rows_name (rows_of c.args.rows))) is)
-
-pub returns-clause-reaches : goal.returns-clause-reaches
-returns-clause-reaches g c =
-    let m = c.args.image.now in
-    let n = c.args.cycle in
-    let rows = rows_of c.args.rows in
-    let loaded = c.in_ok-loaded.loaded in
-    let then : Lists → Numbers → RowsLeft → Task = λ g t left. runs (words_job (rows_name rows) n g t (through n left)) in
-    let b = g.F.Files.broken c.args.files.now in
-    if_some_weaker (g.F.Files.held c.args.files.now) _ _
-    (λ h comes. unopened (trace m rows n) (rows_name rows) (TraceTask m rows n h) (then loaded.image.graph loaded.image.table)
-    (source_outcome loaded.rows loaded.columns) _ _ b b (g.F.Files.broken c.load_image_and_rows.new.files) c.in-Err.input
-    (untouched (g.U.Unit.log c.args.unit.now) (g.U.Unit.wrong c.args.unit.now) _ _ _ _ (appends-nothing _)) (λ e. absurd (c.in-Err.ensures.read (ap Err e)))
-    (omega arith) (comes then) (c.in-Err.ensures.opens b (g.F.Files.broken c.load_image_and_rows.new.files))) c.in_ok-loaded.ensures.comes
-
--- ---- the same by kinds of tasks
-
-pub returns-in_err-loaded-clause-performs : goal.returns-in_err-loaded-clause-performs
-returns-in_err-loaded-clause-performs g c =
+pub returns-in_err-loaded : goal.returns-in_err-loaded
+returns-in_err-loaded g c =
     let m = c.args.image.now in
     let rows = rows_of c.args.rows in
     let n = c.args.cycle in
@@ -116,12 +45,12 @@ returns-in_err-loaded-clause-performs g c =
     let q = err_from_is_err_and c.from_residual.result c.from_residual.ensures.1 in
     let e = c.in_err-loaded.field-0.0 in
     rw (q.1, q.2)
-    (performs_by (about f) (TraceTaskOf m rows n) files
+    (performs_by (about f) (TraceTask m rows n) files
     later
     _ _ (fault_text f e) (Err e) (λ none. cc) (inr (inl refl)) (λ x is. absurd cc)
     (if_some_weaker (g.F.Files.held c.args.files.now) _ _
     (λ h loads. loading_lost ImageOf NotImage image_columns image_in image_outcome image_not_bytes f (image_word m) rows refl refl (inl refl)
-    (λ w among. inr among) h _ _ (λ i left x. x ≡ runs_to (words_job_to (rows_name rows) n i.graph (code_of i.table) (through n left))) _ _
+    (λ w among. inr among) h _ _ (λ i left x. x ≡ runs_to (words_job (rows_name rows) n i.graph (code_of i.table) (through n left))) _ _
     (still _) _ e loads)
     c.in_err-loaded.ensures.loads)
     (if_some_weaker (g.F.Files.held c.args.files.now) _ _
@@ -133,8 +62,8 @@ returns-in_err-loaded-clause-performs g c =
     c.load_image_and_rows.ensures.held (λ no. refl) tt (λ is. absurd cc) (λ is. absurd cc) c.in_err-loaded.ensures.unread
     (λ is. let same : c.in_err-loaded.field-0.0 ≡ fault.Write = cc in absurd (c.in_err-loaded.ensures.no_write (ap Err same))))
 
-pub returns-in-Ok-clause-performs : goal.returns-in-Ok-clause-performs
-returns-in-Ok-clause-performs g c =
+pub returns-in-Ok : goal.returns-in-Ok
+returns-in-Ok g c =
     let m = c.args.image.now in
     let rows = rows_of c.args.rows in
     let n = c.args.cycle in
@@ -144,22 +73,22 @@ returns-in-Ok-clause-performs g c =
     let later = files_seen (g.F.Files.held c.load_image_and_rows.new.files) (g.F.Files.rest c.load_image_and_rows.new.files)
     (g.F.Files.faults c.load_image_and_rows.new.files) (g.F.Files.broken c.load_image_and_rows.new.files) in
     let i = c.in_ok-loaded.loaded.image in
-    let j = words_job_to (rows_name rows) n i.graph (code_of i.table) (through n c.in-Ok.rows) in
+    let j = words_job (rows_name rows) n i.graph (code_of i.table) (through n c.in-Ok.rows) in
     let before = moment_seen (g.U.Unit.log c.args.unit.now) (g.U.Unit.wrong c.args.unit.now) (g.O.Sink.written c.args.out.now)
     (g.O.Sink.faults c.args.out.now) in
     let after = moment_seen (g.U.Unit.log c.run_words.new.unit) (g.U.Unit.wrong c.run_words.new.unit) (g.O.Sink.written c.run_words.new.out)
     (g.O.Sink.faults c.run_words.new.out) in
     let run : RunsTo j before after c.run_words.result =
-    subst (λ left. RunsTo (words_job_to (rows_name rows) n i.graph (code_of i.table) left) before after c.run_words.result) c.through.ensures.rows
+    subst (λ left. RunsTo (words_job (rows_name rows) n i.graph (code_of i.table) left) before after c.run_words.result) c.through.ensures.rows
     (c.run_words.ensures.ran (rows_name rows)) in
-    performs_by (about f) (TraceTaskOf m rows n) files
+    performs_by (about f) (TraceTask m rows n) files
     later
     before after (told_line f c.run_words.result) c.run_words.result (λ none. cc) (inr (inl refl)) (λ e is. run_ends e)
     (if_some_weaker (g.F.Files.held c.args.files.now) _ _
-    (λ h loads. ran f (TraceTaskOf m rows n h) j _ _ before after c.run_words.result refl refl
+    (λ h loads. ran f (TraceTask m rows n h) j _ _ before after c.run_words.result refl refl
     (opened_comes ImageOf NotImage image_columns image_in image_outcome image_not_bytes f (image_word m) rows refl refl (inl refl)
     (λ w among. inr among) h files later
-    (λ x left. runs_to (words_job_to (rows_name rows) n x.graph (code_of x.table) (through n left))) c.in_ok-loaded.loaded _ loads c.in-Ok.rows
+    (λ x left. runs_to (words_job (rows_name rows) n x.graph (code_of x.table) (through n left))) c.in_ok-loaded.loaded _ loads c.in-Ok.rows
     (c.in-Ok.ensures.opens 0 0)) c.run_words.ensures.write run)
     c.in_ok-loaded.ensures.loads)
     (if_some_weaker (g.F.Files.held c.args.files.now) _ _ (λ h loads is. inl c.in_ok-loaded.ensures.ended) c.in_ok-loaded.ensures.loads)
@@ -167,8 +96,8 @@ returns-in-Ok-clause-performs g c =
     (at_end_of c.run_words.result _ c.in_ok-loaded.ensures.ended) c.run_words.ensures.stopped c.run_words.ensures.refused
     (λ is. absurd (ran_reads j before after c.run_words.result run is)) c.run_words.ensures.write
 
-pub returns-clause-performs : goal.returns-clause-performs
-returns-clause-performs g c =
+pub returns : goal.returns
+returns g c =
     let m = c.args.image.now in
     let rows = rows_of c.args.rows in
     let n = c.args.cycle in
@@ -178,13 +107,13 @@ returns-clause-performs g c =
     let later = files_seen (g.F.Files.held c.load_image_and_rows.new.files) (g.F.Files.rest c.load_image_and_rows.new.files)
     (g.F.Files.faults c.load_image_and_rows.new.files) (g.F.Files.broken c.load_image_and_rows.new.files) in
     let e = c.in-Err.input in
-    performs_by (about f) (TraceTaskOf m rows n) files
+    performs_by (about f) (TraceTask m rows n) files
     later
     _ _ (fault_text f (fault.Rows e)) (Err (fault.Rows e)) (λ none. cc) (inr (inl refl)) (λ x is. absurd cc)
     (if_some_weaker (g.F.Files.held c.args.files.now) _ _
     (λ h loads. unopened_lost ImageOf NotImage image_columns image_in image_outcome image_not_bytes f (image_word m) rows refl refl (inl refl)
     (λ w among. inr among) h files later
-    (λ x left. runs_to (words_job_to (rows_name rows) n x.graph (code_of x.table) (through n left))) c.in_ok-loaded.loaded _ loads e
+    (λ x left. runs_to (words_job (rows_name rows) n x.graph (code_of x.table) (through n left))) c.in_ok-loaded.loaded _ loads e
     (λ is. c.in-Err.ensures.read (ap Err is)) (c.in-Err.ensures.opens files.broken later.broken) _)
     c.in_ok-loaded.ensures.loads)
     (if_some_weaker (g.F.Files.held c.args.files.now) _ _ (λ h loads is. inl c.in_ok-loaded.ensures.ended) c.in_ok-loaded.ensures.loads)

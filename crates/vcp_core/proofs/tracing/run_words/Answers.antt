@@ -2,8 +2,7 @@ use Rattle.std.proofs.Common.{ℕ, ◌≡◌, List, [], length, map, None, Ok, i
 use Rattle.std.specs.Io.KnownBytes.{Appends}
 use Rattle.vcp_outside.specs.Written.{AppendsPart}
 use Rattle.vcp_answer.specs.Reports.{end_read, run_status}
-use Rattle.vcp_core.specs.CommandTasks.{words_job as words_job_to}
-use Rattle.vcp_core.specs.Jobs.{code_of}
+use Rattle.vcp_core.specs.Tasks.{words_job, code_of}
 use Rattle.vcp_core.proofs.Performing.{still}
 use Rattle.vcp_core.proofs.PlainTurns.{appends-nothing}
 use Rattle.vcp_core.proofs.PrintedRun.{given-up-run, last-left, ended-run}
@@ -16,30 +15,14 @@ use Rattle.coded_machine.specs.State.{State}
 use Rattle.vcp_core.specs.declared.ending.End.TheVariants as ending
 use Rattle.vcp_core.specs.MachineRun.{IsThere}
 use Rattle.vcp_core.specs.Reach.{end_status}
-use Rattle.vcp_core.proofs.JobFacts.{leaves-here, there-is, stopped-is, refused-is, untouched-by}
+use Rattle.vcp_core.proofs.JobFacts.{leaves-here, there-is, stopped-is, refused-is}
 use Rattle.vcp_core.proofs.ImageLoaded.{table-long}
 use Rattle.vcp_core.proofs.WordsHonest.{meant-words}
-use Rattle.vcp_core.proofs.WordsRun.{given-up-words, whole-there, ended-words, cut-words, last-part-is}
+use Rattle.vcp_core.proofs.WordsRun.{whole-there, last-part-is}
 use Rattle.vcp_core.proofs.tracing.run_words.Goals as goal
-
-pub returns-in_err-outputs-clause-runs : goal.returns-in_err-outputs-clause-runs
-returns-in_err-outputs-clause-runs g c name =
-    let q = err_from_is_err_and c.from_residual-in_err-outputs.result c.from_residual-in_err-outputs.ensures.1 in
-    rw (q.1, q.2) (inl (untouched-by _ _ _ _ _))
 
 pub run_rows-requires-clause-width : goal.run_rows-requires-clause-width
 run_rows-requires-clause-width g c = c.requires.width ∙ ap (λ (m : State). length m.graph.inputs) (sym c.in_ok-machine.ensures.fresh)
-
-pub returns-in_err-end-clause-runs : goal.returns-in_err-end-clause-runs
-returns-in_err-end-clause-runs g c name =
-    let q = err_from_is_err_and c.from_residual-in_err-end.result c.from_residual-in_err-end.ensures.1 in
-    let graph = c.args.graph.now in
-    let table = c.args.table.now in
-    let left = c.args.rows.now in
-    let n = c.args.cycle in
-    let laws = c.right_answers_stand_for_values.ensures in
-    let leaves = leaves-here c.in_ok-machine.machine _ graph table _ left _ _ _ _ _ _ c.in_ok-machine.ensures.fresh c.requires.table c.in_err-end.ensures.leaves in
-    rw (q.1, q.2) (given-up-words graph n name table left c.requires.few c.requires.through _ _ _ _ (meant-words laws.cycle laws.cells_at_first graph table left.rows n c.len-rules.ensures.rules c.step-ranges.ensures.ranges c.requires.table c.requires.few c.requires.cycle) _ _ _ _ _ c.requires.behind leaves.run)
 
 pub print_traced-requires-clause-table : goal.print_traced-requires-clause-table
 print_traced-requires-clause-table g c =
@@ -73,35 +56,8 @@ print_traced-requires-clause-whole g c =
     (ap (λ (m : State). m.graph) c.in_ok-machine.ensures.fresh) c.in_ok-end.ensures.placed c.in_ok-end.ensures.numbered in
     whole-there graph n [] table left c.requires.few c.requires.through _ _ _ _ (meant-words laws.cycle laws.cells_at_first graph table left.rows n c.len-rules.ensures.rules c.step-ranges.ensures.ranges c.requires.table c.requires.few c.requires.cycle) c.in_ok-end.end _ _ _ _ leaves.run there _ leaves.machine
 
-pub returns-in_err-print_traced-clause-runs : goal.returns-in_err-print_traced-clause-runs
-returns-in_err-print_traced-clause-runs g c name =
-    let q = err_from_is_err_and c.from_residual-in_err-print_traced.result c.from_residual-in_err-print_traced.ensures.1 in
-    let graph = c.args.graph.now in
-    let table = c.args.table.now in
-    let left = c.args.rows.now in
-    let n = c.args.cycle in
-    let laws = c.right_answers_stand_for_values.ensures in
-    let leaves = leaves-here c.in_ok-machine.machine _ graph table _ left _ _ _ _ _ _ c.in_ok-machine.ensures.fresh c.requires.table c.in_ok-end.ensures.leaves in
-    let there = there-is c.in_ok-machine.machine graph c.in_ok-end.end (Ok c.in_ok-end.end) refl
-    (ap (λ (m : State). m.graph) c.in_ok-machine.ensures.fresh) c.in_ok-end.ensures.placed c.in_ok-end.ensures.numbered in
-    let names = ap (map (λ (x : Column). x.name)) c.in_ok-outputs.ensures in
-    rw (q.1, q.2) (cut-words graph n name table left c.requires.few c.requires.through _ _ _ _ (meant-words laws.cycle laws.cells_at_first graph table left.rows n c.len-rules.ensures.rules c.step-ranges.ensures.ranges c.requires.table c.requires.few c.requires.cycle) c.in_ok-end.end _ _ _ _ leaves.run there _ leaves.machine _ _ (rw names at c.in_err-print_traced.ensures.1))
-
 pub returns-in_err-print_traced-clause-write : goal.returns-in_err-print_traced-clause-write
 returns-in_err-print_traced-clause-write g c = λ is. omega (arith, c.run_rows.ensures.later, c.in_err-print_traced.ensures.0)
-
-pub returns-clause-runs : goal.returns-clause-runs
-returns-clause-runs g c name =
-    let graph = c.args.graph.now in
-    let table = c.args.table.now in
-    let left = c.args.rows.now in
-    let n = c.args.cycle in
-    let laws = c.right_answers_stand_for_values.ensures in
-    let leaves = leaves-here c.in_ok-machine.machine _ graph table _ left _ _ _ _ _ _ c.in_ok-machine.ensures.fresh c.requires.table c.in_ok-end.ensures.leaves in
-    let there = there-is c.in_ok-machine.machine graph c.in_ok-end.end (Ok c.in_ok-end.end) refl
-    (ap (λ (m : State). m.graph) c.in_ok-machine.ensures.fresh) c.in_ok-end.ensures.placed c.in_ok-end.ensures.numbered in
-    let names = ap (map (λ (x : Column). x.name)) c.in_ok-outputs.ensures in
-    ended-words graph n name table left c.requires.few c.requires.through _ _ _ _ (meant-words laws.cycle laws.cells_at_first graph table left.rows n c.len-rules.ensures.rules c.step-ranges.ensures.ranges c.requires.table c.requires.few c.requires.cycle) c.in_ok-end.end _ _ _ _ leaves.run there _ leaves.machine c.in_ok-print_traced.field-0 _ _ (rw names at c.in_ok-print_traced.ensures.0) c.in_ok-print_traced.ensures.1
 
 pub returns-clause-refused : goal.returns-clause-refused
 returns-clause-refused g c is =
@@ -131,7 +87,7 @@ returns-in_err-end-clause-ran g c name =
     let n = c.args.cycle in
     let laws = c.right_answers_stand_for_values.ensures in
     let leaves = leaves-here c.in_ok-machine.machine _ graph table _ left _ _ _ _ _ _ c.in_ok-machine.ensures.fresh c.requires.table c.in_err-end.ensures.leaves in
-    rw (q.1, q.2) (given-up-run (words_job_to name n graph (code_of table) left) graph refl refl (meant-words laws.cycle laws.cells_at_first graph table left.rows n c.len-rules.ensures.rules c.step-ranges.ensures.ranges c.requires.table c.requires.few c.requires.cycle) _ _ _ _ _ _ _ _ _ _ _ c.requires.behind (appends-nothing _) leaves.run)
+    rw (q.1, q.2) (given-up-run (words_job name n graph (code_of table) left) graph refl refl (meant-words laws.cycle laws.cells_at_first graph table left.rows n c.len-rules.ensures.rules c.step-ranges.ensures.ranges c.requires.table c.requires.few c.requires.cycle) _ _ _ _ _ _ _ _ _ _ _ c.requires.behind (appends-nothing _) leaves.run)
 
 pub returns-in_err-print_traced-clause-ran : goal.returns-in_err-print_traced-clause-ran
 returns-in_err-print_traced-clause-ran g c name =
@@ -148,7 +104,7 @@ returns-in_err-print_traced-clause-ran g c name =
     let meant = meant-words laws.cycle laws.cells_at_first graph table left.rows n c.len-rules.ensures.rules c.step-ranges.ensures.ranges c.requires.table c.requires.few c.requires.cycle in
     let last = last-part-is graph n name table left c.requires.few c.requires.through _ _ _ _ meant c.in_ok-end.end _ _ _ _ leaves.run there _ leaves.machine in
     rw (q.1, q.2)
-    (last-left (words_job_to name n graph (code_of table) left) graph refl refl meant _ _ _ _ c.in_ok-end.end _ _ _ _ _ _ _ _
+    (last-left (words_job name n graph (code_of table) left) graph refl refl meant _ _ _ _ c.in_ok-end.end _ _ _ _ _ _ _ _
     (appends-nothing _) leaves.run there
     (subst (λ (l : List ℕ). AppendsPart (g.O.Sink.written c.run_rows.new.out) (g.O.Sink.written c.print_traced.new.out) l) last
     (rw names at c.in_err-print_traced.ensures.1)))
@@ -166,7 +122,7 @@ returns-clause-ran g c name =
     let names = ap (map (λ (x : Column). x.name)) c.in_ok-outputs.ensures in
     let meant = meant-words laws.cycle laws.cells_at_first graph table left.rows n c.len-rules.ensures.rules c.step-ranges.ensures.ranges c.requires.table c.requires.few c.requires.cycle in
     let last = last-part-is graph n name table left c.requires.few c.requires.through _ _ _ _ meant c.in_ok-end.end _ _ _ _ leaves.run there _ leaves.machine in
-    ended-run (words_job_to name n graph (code_of table) left) graph refl refl meant _ _ _ _ c.in_ok-end.end _ _ _ _ 0 _ _ 0
+    ended-run (words_job name n graph (code_of table) left) graph refl refl meant _ _ _ _ c.in_ok-end.end _ _ _ _ 0 _ _ 0
     (appends-nothing _) leaves.run there c.in_ok-print_traced.field-0
     (subst (λ (l : List ℕ). Appends (g.O.Sink.written c.run_rows.new.out) (g.O.Sink.written c.print_traced.new.out) l) last
     (rw names at c.in_ok-print_traced.ensures.0))

@@ -1,58 +1,21 @@
 use Rattle.std.proofs.Common.{◌≡◌, inl, inr, refl, ap, Err}
 use Rattle.std.proofs.lemmas.Result.{err_from_is_err_and}
 use Rattle.vcp_words.specs.Forms.{widen}
-use Rattle.vcp_core.specs.Widen.{WidenTask, wide_task}
 use Rattle.vcp_core.proofs.Facts.{if_some_weaker}
-use Rattle.vcp_core.proofs.ImageLoaded.{imaged, image_lost, image_not_bytes, image_taken}
-use Rattle.vcp_core.proofs.Loaded.{printed, cut_short}
-use Rattle.vcp_core.proofs.Reaching.{untouched}
-use Rattle.vcp_core.proofs.PlainTurns.{appends-nothing}
+use Rattle.vcp_core.proofs.ImageLoaded.{image_not_bytes}
 use Rattle.vcp_answer.specs.Abouts.{image_word}
 use Rattle.vcp_answer.specs.Answer.{printed as printed_answer}
 use Rattle.vcp_answer.specs.Kinds.{prints}
 use Rattle.vcp_answer.specs.Seen.{files_seen}
-use Rattle.vcp_core.specs.CommandTasks.{WidenTask as WidenTaskOf}
+use Rattle.vcp_core.specs.Tasks.{WidenTask, widened}
 use Rattle.vcp_core.proofs.Performing.{file_takes, quiet_lost, quiet_part, quiet_wanted, quiet_whole, still}
 use Rattle.vcp_base.specs.Limits.{most_image_bytes}
 use Rattle.vcp_inputs.specs.Images.{ImageOf, NotImage}
 use Rattle.image_file.specs.Image.{image_of}
-use Rattle.vcp_core.specs.Widen.{widened}
 use Rattle.vcp_core.proofs.widen.widen_command.Goals as goal
 
-pub returns-in-Err-clause-reaches : goal.returns-in-Err-clause-reaches
-returns-in-Err-clause-reaches g c log wrong =
-    let m = c.args.image.now in
-    if_some_weaker (g.F.Files.held c.args.files.now) _ _
-    (λ h loads. image_lost (widen m) m _ _ (untouched log wrong _ _ _ _ (appends-nothing _)) (inl refl) wide_task h (g.F.Files.broken c.args.files.now)
-    (g.F.Files.broken c.load_image.new.files) c.in-Err.input loads) c.in-Err.ensures.loads
-
-pub returns-in-Err-clause-taken : goal.returns-in-Err-clause-taken
-returns-in-Err-clause-taken g c =
-    let m = c.args.image.now in
-    if_some_weaker (g.F.Files.held c.args.files.now) _ _
-    (λ h loads. image_taken (widen m) m (inl refl) h (g.F.Files.broken c.args.files.now) (g.F.Files.broken c.load_image.new.files) c.in-Err.input _
-    (λ r is. c.in-Err.ensures.whole r (ap Err is)) loads) c.in-Err.ensures.loads
-
-pub returns-in_err-write_all-in-Ok-clause-reaches : goal.returns-in_err-write_all-in-Ok-clause-reaches
-returns-in_err-write_all-in-Ok-clause-reaches g c log wrong =
-    let m = c.args.image.now in
-    let q = err_from_is_err_and c.from_residual-in_err-write_all-in-Ok.result c.from_residual-in_err-write_all-in-Ok.ensures.1 in
-    if_some_weaker (g.F.Files.held c.args.files.now) _ _
-    (λ h loads. rw (q.1, q.2)
-    (cut_short (WidenTask m h) _ log wrong _ _ _ _ (imaged wide_task m h c.in-Ok.image loads)
-    (rw (c.bytes.ensures, c.in_ok-wide-in-Ok.ensures) at c.in_err-write_all-in-Ok.ensures.part))) c.in-Ok.ensures.loads
-
-pub returns-in_ok-write_all-in-Ok-clause-reaches : goal.returns-in_ok-write_all-in-Ok-clause-reaches
-returns-in_ok-write_all-in-Ok-clause-reaches g c log wrong =
-    let m = c.args.image.now in
-    if_some_weaker (g.F.Files.held c.args.files.now) _ _
-    (λ h loads. printed (WidenTask m h) _ log wrong _ _ _ _ (imaged wide_task m h c.in-Ok.image loads)
-    (rw (c.bytes.ensures, c.in_ok-wide-in-Ok.ensures) at c.in_ok-write_all-in-Ok.ensures.whole)) c.in-Ok.ensures.loads
-
--- ---- the same by kinds of tasks
-
-pub returns-in-Err-clause-performs : goal.returns-in-Err-clause-performs
-returns-in-Err-clause-performs g c log wrong =
+pub returns-in-Err : goal.returns-in-Err
+returns-in-Err g c log wrong =
     let m = c.args.image.now in
     let files = files_seen (g.F.Files.held c.args.files.now) (g.F.Files.rest c.args.files.now) (g.F.Files.faults c.args.files.now)
     (g.F.Files.broken c.args.files.now) in
@@ -62,8 +25,8 @@ returns-in-Err-clause-performs g c log wrong =
     (inl refl) refl (λ none. cc) (inr (inl refl)) c.load_image.ensures.held
     c.in-Err.ensures.loads (λ r is. c.in-Err.ensures.whole r (ap Err is)) image_not_bytes (λ is. c.in-Err.ensures.unread (ap Err is))
 
-pub returns-in_err-wide-in-Ok-clause-performs : goal.returns-in_err-wide-in-Ok-clause-performs
-returns-in_err-wide-in-Ok-clause-performs g c log wrong =
+pub returns-in_err-wide-in-Ok : goal.returns-in_err-wide-in-Ok
+returns-in_err-wide-in-Ok g c log wrong =
     let m = c.args.image.now in
     let files = files_seen (g.F.Files.held c.args.files.now) (g.F.Files.rest c.args.files.now) (g.F.Files.faults c.args.files.now)
     (g.F.Files.broken c.args.files.now) in
@@ -71,11 +34,11 @@ returns-in_err-wide-in-Ok-clause-performs g c log wrong =
     (g.F.Files.broken c.load_image.new.files) in
     let q = err_from_is_err_and c.from_residual.result c.from_residual.ensures.1 in
     rw (q.1, q.2)
-    (quiet_wanted (widen m) (WidenTaskOf m) files later _ _ (λ none. cc) (inr (inl refl)) (inl refl) c.load_image.ensures.held refl c.in-Ok.ensures.ended
+    (quiet_wanted (widen m) (WidenTask m) files later _ _ (λ none. cc) (inr (inl refl)) (inl refl) c.load_image.ensures.held refl c.in-Ok.ensures.ended
     (still _))
 
-pub returns-in_err-write_all-in-Ok-clause-performs : goal.returns-in_err-write_all-in-Ok-clause-performs
-returns-in_err-write_all-in-Ok-clause-performs g c log wrong =
+pub returns-in_err-write_all-in-Ok : goal.returns-in_err-write_all-in-Ok
+returns-in_err-write_all-in-Ok g c log wrong =
     let m = c.args.image.now in
     let files = files_seen (g.F.Files.held c.args.files.now) (g.F.Files.rest c.args.files.now) (g.F.Files.faults c.args.files.now)
     (g.F.Files.broken c.args.files.now) in
@@ -83,7 +46,7 @@ returns-in_err-write_all-in-Ok-clause-performs g c log wrong =
     (g.F.Files.broken c.load_image.new.files) in
     let q = err_from_is_err_and c.from_residual-in_err-write_all-in-Ok.result c.from_residual-in_err-write_all-in-Ok.ensures.1 in
     rw (q.1, q.2)
-    (quiet_part (widen m) (WidenTaskOf m) files later _ _ (λ none. cc) (inr (inl refl)) (inl refl) c.load_image.ensures.held refl c.in-Ok.ensures.ended
+    (quiet_part (widen m) (WidenTask m) files later _ _ (λ none. cc) (inr (inl refl)) (inl refl) c.load_image.ensures.held refl c.in-Ok.ensures.ended
     (if_some_weaker files.held _ _
     (λ h loads. (
       prints (image_of (widened c.in-Ok.image.graph) c.in-Ok.image.table.seed c.in-Ok.image.table.step),
@@ -100,14 +63,14 @@ returns-in_err-write_all-in-Ok-clause-performs g c log wrong =
     )) c.in-Ok.ensures.loads)
     c.in_err-write_all-in-Ok.ensures.cause.failed)
 
-pub returns-in_ok-write_all-in-Ok-clause-performs : goal.returns-in_ok-write_all-in-Ok-clause-performs
-returns-in_ok-write_all-in-Ok-clause-performs g c log wrong =
+pub returns-in_ok-write_all-in-Ok : goal.returns-in_ok-write_all-in-Ok
+returns-in_ok-write_all-in-Ok g c log wrong =
     let m = c.args.image.now in
     let files = files_seen (g.F.Files.held c.args.files.now) (g.F.Files.rest c.args.files.now) (g.F.Files.faults c.args.files.now)
     (g.F.Files.broken c.args.files.now) in
     let later = files_seen (g.F.Files.held c.load_image.new.files) (g.F.Files.rest c.load_image.new.files) (g.F.Files.faults c.load_image.new.files)
     (g.F.Files.broken c.load_image.new.files) in
-    quiet_whole (widen m) (WidenTaskOf m) files later _ _ (λ none. cc) (inr (inl refl)) (inl refl) c.load_image.ensures.held refl c.in-Ok.ensures.ended
+    quiet_whole (widen m) (WidenTask m) files later _ _ (λ none. cc) (inr (inl refl)) (inl refl) c.load_image.ensures.held refl c.in-Ok.ensures.ended
     (image_of (widened c.in-Ok.image.graph) c.in-Ok.image.table.seed c.in-Ok.image.table.step)
     (if_some_weaker files.held _ _
     (λ h loads. (
