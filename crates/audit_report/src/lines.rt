@@ -1,7 +1,7 @@
 //! The lines of an audit. Each call writes one line to a sink and takes no memory. It answers `Failed`
 //! only where the sink's count of faults rose, and then a part of the line is written.
 
-ghost use Rattle.vcp_outside.specs.Written.{Writes};
+ghost use Rattle.vcp_outside.specs.Written.{WritesTo};
 ghost use Rattle.audit_report.specs.AuditLines.{reached_text, blind_text};
 
 use gathered_line::{Line, begin};
@@ -19,7 +19,7 @@ pub fn reached_line<O: Sink>(
     reached: u32,
     blind: u32,
 ) -> Result<(), Failed>
-    ensures { Writes (O.written out.old) (O.written out.new) (O.faults out.old) (O.faults out.new) (reached_text name.now after reached blind) result }
+    ensures { WritesTo (O.seen out.old) (O.seen out.new) (reached_text name.now after reached blind) result }
 {
     let mut line = Line::new();
     line.text(out, name.bytes());
@@ -34,7 +34,7 @@ pub fn reached_line<O: Sink>(
 
 /// Writes an operation that is blind, with its kind. After `Failed` a part of the line is written.
 pub fn blind_line<O: Sink>(out: &mut O, op: u32, kind: Kind) -> Result<(), Failed>
-    ensures { Writes (O.written out.old) (O.written out.new) (O.faults out.old) (O.faults out.new) (blind_text op kind) result }
+    ensures { WritesTo (O.seen out.old) (O.seen out.new) (blind_text op kind) result }
 {
     let mut line = begin(out, b"blind ", op);
     line.text(out, b" ");

@@ -1,7 +1,7 @@
 //! An audit, written line by line.
 
 ghost use Rattle.std.specs.Prelude.{◌≡◌, ◌<◌, ◌≤◌, ◌+◌, length};
-ghost use Rattle.vcp_outside.specs.Written.{Writes};
+ghost use Rattle.vcp_outside.specs.Written.{WritesTo};
 ghost use Rattle.vcp_base.specs.Limits.{most_horizon};
 ghost use Rattle.weight_audit.specs.Audit.{IsAudit};
 ghost use Rattle.audit_report.specs.AuditLines.{reached_text};
@@ -25,7 +25,7 @@ fn then_blind<O: Sink>(
     blind: bool,
 ) -> Result<(), Failed>
     requires { op < length graph.now.operations }
-    ensures { Continues (O.written out.old) (O.written out.new) (O.faults out.old) (O.faults out.new) so_far result
+    ensures { Continues (O.seen out.old).written (O.seen out.new).written (O.seen out.old).faults (O.seen out.new).faults so_far result
         (line_if blind graph.now op) }
 {
     if !blind {
@@ -49,7 +49,7 @@ fn then_blind_ones<O: Sink>(
     requires operations { weights.now.operations ≡ length graph.now.operations }
     requires output { output < length weights.now.outputs }
     requires after { after ≤ weights.now.horizon }
-    ensures { Continues (O.written out.old) (O.written out.new) (O.faults out.old) (O.faults out.new) so_far result
+    ensures { Continues (O.seen out.old).written (O.seen out.new).written (O.seen out.old).faults (O.seen out.new).faults so_far result
         (lines_below (is_blind_of weights.now output after) graph.now (length graph.now.operations)) }
 {
     'operations: for op in 0..graph.len() {
@@ -68,7 +68,7 @@ fn then_reached<O: Sink>(
     reached: u32,
     blind: u32,
 ) -> Result<(), Failed>
-    ensures { Continues (O.written out.old) (O.written out.new) (O.faults out.old) (O.faults out.new) so_far result
+    ensures { Continues (O.seen out.old).written (O.seen out.new).written (O.seen out.old).faults (O.seen out.new).faults so_far result
         (reached_text name.now after reached blind) }
 {
     match so_far {
@@ -90,7 +90,7 @@ fn then_distance<O: Sink>(
     requires outputs { length weights.now.outputs ≡ length graph.now.outputs }
     requires output { output < length weights.now.outputs }
     requires after { after ≤ weights.now.horizon }
-    ensures { Continues (O.written out.old) (O.written out.new) (O.faults out.old) (O.faults out.new) so_far result
+    ensures { Continues (O.seen out.old).written (O.seen out.new).written (O.seen out.old).faults (O.seen out.new).faults so_far result
         (distance_text graph.now weights.now output after) }
 {
     let count = graph.len();
@@ -120,7 +120,7 @@ fn then_output<O: Sink>(
     requires outputs { length weights.now.outputs ≡ length graph.now.outputs }
     requires output { output < length weights.now.outputs }
     requires distances { distances ≤ weights.now.horizon + 1 }
-    ensures { Continues (O.written out.old) (O.written out.new) (O.faults out.old) (O.faults out.new) so_far result
+    ensures { Continues (O.seen out.old).written (O.seen out.new).written (O.seen out.old).faults (O.seen out.new).faults so_far result
         (distances_below graph.now weights.now output distances) }
 {
     'distances: for after in 0..distances {
@@ -141,7 +141,7 @@ pub fn write_audit<O: Sink>(
 ) -> Result<(), Failed>
     requires horizon { horizon ≤ most_horizon }
     requires audit { IsAudit graph.now horizon weights.now }
-    ensures { Writes (O.written out.old) (O.written out.new) (O.faults out.old) (O.faults out.new)
+    ensures { WritesTo (O.seen out.old) (O.seen out.new)
         (audit_text graph.now weights.now horizon) result }
 {
     let mut so_far = Ok(());

@@ -288,7 +288,7 @@ impl<'a> Machine<'a> {
         requires out { length out.old ≡ length self.old.graph.outputs }
         ensures whole { self.old.ended ≡ None → Whole self.old.graph.operations self.new.answers }
         ensures carried { self.old.ended ≡ None
-            → CarriedCycle self.old self.new row.now (U.log unit.old) (U.log unit.new) (U.wrong unit.old) (U.wrong unit.new) }
+            → CarriedCycle self.old self.new row.now (U.seen unit.old).log (U.seen unit.new).log (U.seen unit.old).wrong (U.seen unit.new).wrong }
         ensures end { self.old.ended ≡ None → result ≡ end_of self.old.graph self.old.table self.old.cycles self.new.answers }
         ensures machine { self.old.ended ≡ None → self.new ≡ after_end (with_answers self.old self.new.answers) result }
         ensures out { self.old.ended ≡ None → out.new ≡ row_after (with_answers self.old self.new.answers) result out.old }
@@ -300,8 +300,8 @@ impl<'a> Machine<'a> {
         ensures table { self.new.table ≡ self.old.table }
         ensures cycles { self.new.cycles ≤ self.old.cycles + 1 }
         ensures width { length out.new ≡ length out.old }
-        ensures turn { self.old.ended ≡ None → Turn self.old self.new row.now result (U.log unit.old) (U.log unit.new) (U.wrong unit.old) (U.wrong unit.new) }
-        ensures honest { self.old.ended ≡ None → U.wrong unit.new ≡ U.wrong unit.old → U.wrong unit.old < 2 ^ 64 - 1
+        ensures turn { self.old.ended ≡ None → Turn self.old self.new row.now result (U.seen unit.old).log (U.seen unit.new).log (U.seen unit.old).wrong (U.seen unit.new).wrong }
+        ensures honest { self.old.ended ≡ None → (U.seen unit.new).wrong ≡ (U.seen unit.old).wrong → (U.seen unit.old).wrong < 2 ^ 64 - 1
             → FollowsFromCells self.old self.new row.now result out.new }
     {
         if let Some(end) = self.ended {
@@ -319,7 +319,7 @@ impl<'a> Machine<'a> {
         requires going { self.old.ended ≡ None }
         ensures given { given_of self.new ≡ self.new.answers }
         ensures whole { Whole self.old.graph.operations self.new.answers }
-        ensures carried { CarriedCycle self.old self.new row.now (U.log unit.old) (U.log unit.new) (U.wrong unit.old) (U.wrong unit.new) }
+        ensures carried { CarriedCycle self.old self.new row.now (U.seen unit.old).log (U.seen unit.new).log (U.seen unit.old).wrong (U.seen unit.new).wrong }
         ensures machine { self.new ≡ record self.old { answers = self.new.answers; under_way = self.new.under_way } }
     {
         // A field is read, so that the proof knows what holds of every machine.

@@ -41,8 +41,8 @@ impl BadUnit {
     /// is taken by `replace`, and no call takes any.
     pub fn new(alloc: Global, room: u32) -> Result<BadUnit, Memory>
         ensures unit { IfOk result (λ unit. unit ≡ nothing_replaced room) }
-        ensures log { IfOk result (λ unit. ⟦<BadUnit as Unit>⟧.log unit ≡ Some []) }
-        ensures wrong { IfOk result (λ unit. ⟦<BadUnit as Unit>⟧.wrong unit ≡ 0) }
+        ensures log { IfOk result (λ unit. (⟦<BadUnit as Unit>⟧.seen unit).log ≡ Some []) }
+        ensures wrong { IfOk result (λ unit. (⟦<BadUnit as Unit>⟧.seen unit).wrong ≡ 0) }
     {
         Ok(BadUnit {
             kept: CallLog::new(alloc, room)?,
@@ -79,7 +79,7 @@ impl BadUnit {
     /// How many answers so far were not the right ones, up to 2^64 - 1.
     pub fn wrong(&self) -> u64
         ensures value { result ≡ self.now.wrong }
-        ensures wrong { result ≡ ⟦<BadUnit as Unit>⟧.wrong self.now }
+        ensures wrong { result ≡ (⟦<BadUnit as Unit>⟧.seen self.now).wrong }
     {
         self.wrong
     }
@@ -88,9 +88,7 @@ impl BadUnit {
 impl Unit for BadUnit {
     ghost use Rattle.coded_unit.specs.Log.{told};
 
-    ghost log = { λ unit. told unit.kept };
-
-    ghost wrong = { λ unit. unit.wrong };
+    ghost seen = { λ unit. record { log = told unit.kept; wrong = unit.wrong } };
 
     fn perform(&mut self, call: &Call) -> Answer
         requires { Asked call.now }

@@ -16,8 +16,8 @@ pub struct CpuUnit;
 impl CpuUnit {
     /// A processor before its first call.
     pub fn new() -> CpuUnit
-        ensures log { ⟦<CpuUnit as Unit>⟧.log result ≡ None }
-        ensures wrong { ⟦<CpuUnit as Unit>⟧.wrong result ≡ 0 }
+        ensures log { (⟦<CpuUnit as Unit>⟧.seen result).log ≡ None }
+        ensures wrong { (⟦<CpuUnit as Unit>⟧.seen result).wrong ≡ 0 }
     {
         CpuUnit
     }
@@ -26,9 +26,7 @@ impl CpuUnit {
 impl Unit for CpuUnit {
     ghost use Rattle.std.specs.Prelude.{None};
 
-    ghost log = { λ _. None };
-
-    ghost wrong = { λ _. 0 };
+    ghost seen = { λ _. record { log = None; wrong = 0 } };
 
     #[inline(always)]
     fn perform(&mut self, call: &Call) -> Answer

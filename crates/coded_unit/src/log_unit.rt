@@ -35,8 +35,8 @@ impl LogUnit {
     /// taken here; `Memory` where there is not so much.
     pub fn new(alloc: Global, room: u32) -> Result<LogUnit, Memory>
         ensures kept { IfOk result (λ unit. unit ≡ nothing_kept room) }
-        ensures log { IfOk result (λ unit. ⟦<LogUnit as Unit>⟧.log unit ≡ Some []) }
-        ensures wrong { IfOk result (λ unit. ⟦<LogUnit as Unit>⟧.wrong unit ≡ 0) }
+        ensures log { IfOk result (λ unit. (⟦<LogUnit as Unit>⟧.seen unit).log ≡ Some []) }
+        ensures wrong { IfOk result (λ unit. (⟦<LogUnit as Unit>⟧.seen unit).wrong ≡ 0) }
     {
         Ok(LogUnit {
             calls: CallLog::new(alloc, room)?,
@@ -56,9 +56,7 @@ impl LogUnit {
 impl Unit for LogUnit {
     ghost use Rattle.coded_unit.specs.Log.{told};
 
-    ghost log = { told };
-
-    ghost wrong = { λ _. 0 };
+    ghost seen = { λ unit. record { log = told unit; wrong = 0 } };
 
     fn perform(&mut self, call: &Call) -> Answer
         requires { Asked call.now }

@@ -1,9 +1,10 @@
 //! Units: what does the calls of a program, and tells what it did.
 
-ghost use Rattle.std.specs.Prelude.{ℕ, List, Option, ◌∷◌, []};
+ghost use Rattle.std.specs.Prelude.{◌∷◌, []};
 ghost use Rattle.coded_unit.specs.Asked.{Asked};
 ghost use Rattle.coded_unit.specs.Right.{Right};
-ghost use Rattle.coded_unit.specs.Log.{Entry, GrowsBy, Counts};
+ghost use Rattle.coded_unit.specs.Log.{GrowsBy, Counts};
+ghost use Rattle.coded_unit.specs.Seen.{UnitSeen};
 
 use crate::call::{Answer, Call};
 
@@ -11,17 +12,14 @@ use crate::call::{Answer, Call};
 ///
 /// A log that is not told is never told later; a told one may be told no more.
 pub trait Unit {
-    /// The calls so far with their answers, in order, where they are told.
-    ghost log: { Self → Option (List Entry) };
-
-    /// How many answers so far are not the right ones, up to 2^64 - 1.
-    ghost wrong: { Self → ℕ };
+    /// What is seen of it: its calls with their answers, where they are told, and the count of answers that are not the right ones.
+    ghost seen: { Self → UnitSeen };
 
     /// Does one call that may be asked: its correction is below the constant of its code, its stamp at
     /// most 1,000,000,000, and it has no LINT in the narrow code. It is the next entry of the log,
     /// where that is told. The answer may be wrong, and is then counted.
     fn perform(&mut self, call: &Call) -> Answer
         requires { Asked call.now }
-        ensures log { GrowsBy (log self.old) (log self.new) ((call.now, result) ∷ []) }
-        ensures wrong { Counts result (Right call.now) (wrong self.old) (wrong self.new) };
+        ensures log { GrowsBy (seen self.old).log (seen self.new).log ((call.now, result) ∷ []) }
+        ensures wrong { Counts result (Right call.now) (seen self.old).wrong (seen self.new).wrong };
 }

@@ -1,6 +1,7 @@
 -- A line that is gathered in a buffer on its way to a sink.
 use Rattle.std.specs.Prelude.{◌≡◌, ℕ, List, ◌++◌, Option, Result}
 use Rattle.vcp_outside.specs.declared.failed.Failed.{Failed}
+use Rattle.vcp_outside.specs.Seen.{SinkSeen}
 use Rattle.vcp_outside.specs.Written.{Writes}
 
 -- a line on its way: the bytes that are still to be written, and how the writes before them went
@@ -20,3 +21,7 @@ abbrev pub Gathers : Option (List ℕ) → Option (List ℕ) → ℕ → ℕ →
 Gathers old new faults_old faults_new line_old line_new bytes =
     (start : Option (List ℕ)) (before : ℕ) (text : List ℕ) → IsGathered start old before faults_old text line_old
     → IsGathered start new before faults_new (text ++ bytes) line_new
+
+-- the same of a sink as it is seen before and after the call
+abbrev pub GathersTo : SinkSeen → SinkSeen → Gathered → Gathered → List ℕ → Type 0
+GathersTo old new line_old line_new bytes = Gathers old.written new.written old.faults new.faults line_old line_new bytes

@@ -3,7 +3,7 @@
 ghost use Rattle.std.specs.Prelude.{◌≡◌, ◌+◌, ◌≤◌, ℕ, List, [], ◌++◌, Option, length, decimal, codes, IsErr, OnErr};
 ghost use Rattle.std.specs.Fmt.{signed_decimal};
 ghost use Rattle.vcp_outside.specs.Written.{Writes};
-ghost use Rattle.gathered_line.specs.Gathering.{IsGathered, Gathers};
+ghost use Rattle.gathered_line.specs.Gathering.{IsGathered, GathersTo};
 
 use arrayvec::ArrayVec;
 use itoa::Buffer;
@@ -33,8 +33,8 @@ impl Model for Line {
 
 // Goes on with a piece, unless an earlier write failed.
 fn then<O: Sink>(out: &mut O, so_far: Result<(), Failed>, piece: &[u8]) -> Result<(), Failed>
-    ensures writes { (start : Option (List ℕ)) (before : ℕ) (text : List ℕ) → Writes start (O.written out.old) before (O.faults out.old) text so_far
-        → Writes start (O.written out.new) before (O.faults out.new) (text ++ piece.now) result }
+    ensures writes { (start : Option (List ℕ)) (before : ℕ) (text : List ℕ) → Writes start (O.seen out.old).written before (O.seen out.old).faults text so_far
+        → Writes start (O.seen out.new).written before (O.seen out.new).faults (text ++ piece.now) result }
     ensures after_failure { OnErr so_far (out.new ≡ out.old) }
     ensures stays_failed { IsErr so_far → IsErr result }
 {
@@ -59,7 +59,7 @@ impl Line {
     // Writes what is pending.
     fn flush<O: Sink>(&mut self, out: &mut O)
         ensures empty { self.new.pending ≡ [] }
-        ensures gathers { Gathers (O.written out.old) (O.written out.new) (O.faults out.old) (O.faults out.new) self.old self.new [] }
+        ensures gathers { GathersTo (O.seen out.old) (O.seen out.new) self.old self.new [] }
         ensures after_failure { OnErr self.old.so_far (out.new ≡ out.old) }
         ensures stays_failed { IsErr self.old.so_far → IsErr self.new.so_far }
     {
@@ -69,7 +69,7 @@ impl Line {
 
     /// Goes on with these bytes. Nothing is written where there is room for them.
     pub fn text<O: Sink>(&mut self, out: &mut O, bytes: &[u8])
-        ensures gathers { Gathers (O.written out.old) (O.written out.new) (O.faults out.old) (O.faults out.new) self.old self.new bytes.now }
+        ensures gathers { GathersTo (O.seen out.old) (O.seen out.new) self.old self.new bytes.now }
         ensures unwritten { length self.old.pending + length bytes.now ≤ ROOM → out.new ≡ out.old }
         ensures kept { length self.old.pending + length bytes.now ≤ ROOM → self.new ≡ record self.old { pending = self.old.pending ++ bytes.now } }
         ensures after_failure { OnErr self.old.so_far (out.new ≡ out.old) }
@@ -86,7 +86,7 @@ impl Line {
 
     /// Goes on with a number in decimal digits.
     pub fn count<O: Sink>(&mut self, out: &mut O, n: u64)
-        ensures gathers { Gathers (O.written out.old) (O.written out.new) (O.faults out.old) (O.faults out.new) self.old self.new (decimal n) }
+        ensures gathers { GathersTo (O.seen out.old) (O.seen out.new) self.old self.new (decimal n) }
         ensures unwritten { length self.old.pending + length (decimal n) ≤ ROOM → out.new ≡ out.old }
         ensures kept { length self.old.pending + length (decimal n) ≤ ROOM → self.new ≡ record self.old { pending = self.old.pending ++ decimal n } }
         ensures after_failure { OnErr self.old.so_far (out.new ≡ out.old) }
@@ -97,7 +97,7 @@ impl Line {
 
     /// Goes on with a number in decimal digits, after `-` where it is negative.
     pub fn value<O: Sink>(&mut self, out: &mut O, v: i64)
-        ensures gathers { Gathers (O.written out.old) (O.written out.new) (O.faults out.old) (O.faults out.new) self.old self.new (signed_decimal v) }
+        ensures gathers { GathersTo (O.seen out.old) (O.seen out.new) self.old self.new (signed_decimal v) }
         ensures unwritten { length self.old.pending + length (signed_decimal v) ≤ ROOM → out.new ≡ out.old }
         ensures kept { length self.old.pending + length (signed_decimal v) ≤ ROOM
             → self.new ≡ record self.old { pending = self.old.pending ++ signed_decimal v } }
@@ -109,7 +109,7 @@ impl Line {
 
     /// Goes on with a number of 128 bits in decimal digits, after `-` where it is negative.
     pub fn long_value<O: Sink>(&mut self, out: &mut O, number: i128)
-        ensures gathers { Gathers (O.written out.old) (O.written out.new) (O.faults out.old) (O.faults out.new) self.old self.new (signed_decimal number) }
+        ensures gathers { GathersTo (O.seen out.old) (O.seen out.new) self.old self.new (signed_decimal number) }
         ensures unwritten { length self.old.pending + length (signed_decimal number) ≤ ROOM → out.new ≡ out.old }
         ensures kept { length self.old.pending + length (signed_decimal number) ≤ ROOM
             → self.new ≡ record self.old { pending = self.old.pending ++ signed_decimal number } }
@@ -122,8 +122,8 @@ impl Line {
     /// Ends the line with LF, and writes what is pending. It fails where a write of the line failed,
     /// and then a part of the line is written.
     pub fn end<O: Sink>(mut self, out: &mut O) -> Result<(), Failed>
-        ensures writes { (start : Option (List ℕ)) (before : ℕ) (text : List ℕ) → IsGathered start (O.written out.old) before (O.faults out.old) text self
-            → Writes start (O.written out.new) before (O.faults out.new) (text ++ codes "\n") result }
+        ensures writes { (start : Option (List ℕ)) (before : ℕ) (text : List ℕ) → IsGathered start (O.seen out.old).written before (O.seen out.old).faults text self
+            → Writes start (O.seen out.new).written before (O.seen out.new).faults (text ++ codes "\n") result }
         ensures after_failure { OnErr self.so_far (out.new ≡ out.old) }
         ensures stays_failed { IsErr self.so_far → IsErr result }
     {
@@ -135,7 +135,7 @@ impl Line {
 
 /// A line that begins with a word and a number, by its first two pieces.
 pub fn begin<O: Sink>(out: &mut O, word: &[u8], number: u32) -> Line
-    ensures { IsGathered (O.written out.old) (O.written out.new) (O.faults out.old) (O.faults out.new) (word.now ++ decimal number) result }
+    ensures { IsGathered (O.seen out.old).written (O.seen out.new).written (O.seen out.old).faults (O.seen out.new).faults (word.now ++ decimal number) result }
 {
     let mut line = Line::new();
     line.text(out, word);

@@ -1,7 +1,7 @@
 //! The boxes of operations.
 
 ghost use Rattle.std.specs.Prelude.{◌≡◌, ◌<◌, ◌≤◌, ◌+◌, length, map, flat_map, slice_get};
-ghost use Rattle.gathered_line.specs.Gathering.{Gathers};
+ghost use Rattle.gathered_line.specs.Gathering.{GathersTo};
 ghost use Rattle.svg_text.specs.Characters.{piece_bytes};
 ghost use Rattle.svg_text.specs.Elements.{element_text};
 ghost use Rattle.graph_picture.specs.Drawn.{box_drawn, boxes_below};
@@ -30,7 +30,7 @@ fn class(colour: Colour) -> &'static [u8]
 
 /// Draws the rectangle of operation `n`.
 fn then_outline<O: Sink>(line: &mut Line, out: &mut O, n: u32, colour: Colour, place: Place)
-    ensures { Gathers (O.written out.old) (O.written out.new) (O.faults out.old) (O.faults out.new) line.old line.new
+    ensures { GathersTo (O.seen out.old) (O.seen out.new) line.old line.new
         (element_text (outline n colour place)) }
 {
     then_element(
@@ -52,7 +52,7 @@ fn then_outline<O: Sink>(line: &mut Line, out: &mut O, n: u32, colour: Colour, p
 /// Draws words inside a box, so far below its upper side.
 fn then_words<O: Sink>(line: &mut Line, out: &mut O, place: Place, below: u64, pieces: &[Piece<'_>])
     requires { below ≤ 50 }
-    ensures { Gathers (O.written out.old) (O.written out.new) (O.faults out.old) (O.faults out.new) line.old line.new
+    ensures { GathersTo (O.seen out.old) (O.seen out.new) line.old line.new
         (element_text (words place below (map piece_bytes pieces.now))) }
 {
     then_element(
@@ -69,7 +69,7 @@ fn then_words<O: Sink>(line: &mut Line, out: &mut O, place: Place, below: u64, p
 
 /// Draws the number and the kind of operation `n`.
 fn then_head<O: Sink>(line: &mut Line, out: &mut O, n: u32, kind: Kind, place: Place)
-    ensures { Gathers (O.written out.old) (O.written out.new) (O.faults out.old) (O.faults out.new) line.old line.new
+    ensures { GathersTo (O.seen out.old) (O.seen out.new) line.old line.new
         (element_text (head n kind place)) }
 {
     then_words(
@@ -87,7 +87,7 @@ fn then_head<O: Sink>(line: &mut Line, out: &mut O, n: u32, kind: Kind, place: P
 
 /// Draws an operation's own name or value.
 fn then_own<O: Sink>(line: &mut Line, out: &mut O, text: Piece<'_>, place: Place)
-    ensures { Gathers (O.written out.old) (O.written out.new) (O.faults out.old) (O.faults out.new) line.old line.new
+    ensures { GathersTo (O.seen out.old) (O.seen out.new) line.old line.new
         (element_text (own (piece_bytes text.entry) place)) }
 {
     then_words(line, out, place, 23, &[text]);
@@ -95,7 +95,7 @@ fn then_own<O: Sink>(line: &mut Line, out: &mut O, text: Piece<'_>, place: Place
 
 /// Draws the place of an operation in the source.
 fn then_source<O: Sink>(line: &mut Line, out: &mut O, spot: Spot, place: Place)
-    ensures { Gathers (O.written out.old) (O.written out.new) (O.faults out.old) (O.faults out.new) line.old line.new
+    ensures { GathersTo (O.seen out.old) (O.seen out.new) line.old line.new
         (element_text (source spot place)) }
 {
     then_words(
@@ -120,7 +120,7 @@ fn then_blindness<O: Sink>(
     colour: Colour,
     place: Place,
 )
-    ensures { Gathers (O.written out.old) (O.written out.new) (O.faults out.old) (O.faults out.new) line.old line.new
+    ensures { GathersTo (O.seen out.old) (O.seen out.new) line.old line.new
         (flat_map element_text (blindness graph.now colour place)) }
 {
     match colour {
@@ -141,7 +141,7 @@ fn then_blindness<O: Sink>(
 
 /// Draws a bar at a side of a box.
 fn then_bar<O: Sink>(line: &mut Line, out: &mut O, x: u64, y: u64)
-    ensures { Gathers (O.written out.old) (O.written out.new) (O.faults out.old) (O.faults out.new) line.old line.new
+    ensures { GathersTo (O.seen out.old) (O.seen out.new) line.old line.new
         (element_text (bar x y)) }
 {
     then_element(
@@ -161,7 +161,7 @@ fn then_bar<O: Sink>(line: &mut Line, out: &mut O, x: u64, y: u64)
 
 /// Draws the bar of a cell, of its LOAD at the left side, and of its STORE at the right.
 fn then_cell_bar<O: Sink>(line: &mut Line, out: &mut O, kind: Kind, place: Place)
-    ensures { Gathers (O.written out.old) (O.written out.new) (O.faults out.old) (O.faults out.new) line.old line.new
+    ensures { GathersTo (O.seen out.old) (O.seen out.new) line.old line.new
         (flat_map element_text (cell_bar kind place)) }
 {
     match kind {
@@ -181,7 +181,7 @@ fn then_box<O: Sink>(
     place: Place,
 )
     requires { n < length graph.now.operations }
-    ensures { Gathers (O.written out.old) (O.written out.new) (O.faults out.old) (O.faults out.new) line.old line.new
+    ensures { GathersTo (O.seen out.old) (O.seen out.new) line.old line.new
         (flat_map element_text (flat_map (box_elements graph.now) (box_drawn graph.now n colour place (slice_get graph.now.operations n)))) }
 {
     let op = graph.operation(n);
@@ -205,7 +205,7 @@ pub(crate) fn then_boxes<O: Sink>(
     requires operations { weights.now.operations ≡ length graph.now.operations }
     requires outputs { length weights.now.outputs ≡ length graph.now.outputs }
     requires distances { distances ≤ weights.now.horizon + 1 }
-    ensures { Gathers (O.written out.old) (O.written out.new) (O.faults out.old) (O.faults out.new) line.old line.new
+    ensures { GathersTo (O.seen out.old) (O.seen out.new) line.old line.new
         (flat_map element_text (flat_map (box_elements graph.now)
         (boxes_below graph.now weights.now distances layout.now.places (length graph.now.operations)))) }
 {

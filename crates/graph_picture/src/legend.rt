@@ -1,7 +1,7 @@
 //! The legend of a picture, and its style.
 
 ghost use Rattle.std.specs.Prelude.{◌≤◌, ◌≡◌, flat_map};
-ghost use Rattle.gathered_line.specs.Gathering.{Gathers};
+ghost use Rattle.gathered_line.specs.Gathering.{GathersTo};
 ghost use Rattle.svg_text.specs.Characters.{piece_bytes};
 ghost use Rattle.svg_text.specs.Elements.{element_text};
 ghost use Rattle.graph_picture.specs.Elements.{style, swatch, caption, sample, legend};
@@ -16,14 +16,14 @@ const STYLE: &[u8] =
 
 /// Goes on with the rules of style.
 fn then_style<O: Sink>(line: &mut Line, out: &mut O)
-    ensures { Gathers (O.written out.old) (O.written out.new) (O.faults out.old) (O.faults out.new) line.old line.new (element_text style) }
+    ensures { GathersTo (O.seen out.old) (O.seen out.new) line.old line.new (element_text style) }
 {
     then_element(line, out, Tag::Style, &[], &[Piece::Bytes(STYLE)]);
 }
 
 /// Draws a small rectangle of a class.
 fn then_swatch<O: Sink>(line: &mut Line, out: &mut O, x: u64, class: Piece<'_>)
-    ensures { Gathers (O.written out.old) (O.written out.new) (O.faults out.old) (O.faults out.new) line.old line.new
+    ensures { GathersTo (O.seen out.old) (O.seen out.new) line.old line.new
         (element_text (swatch x (piece_bytes class.entry))) }
 {
     then_element(
@@ -44,7 +44,7 @@ fn then_swatch<O: Sink>(line: &mut Line, out: &mut O, x: u64, class: Piece<'_>)
 /// Writes what a class says, beside its rectangle.
 fn then_caption<O: Sink>(line: &mut Line, out: &mut O, x: u64, told: Piece<'_>)
     requires { x ≤ 1000 }
-    ensures { Gathers (O.written out.old) (O.written out.new) (O.faults out.old) (O.faults out.new) line.old line.new
+    ensures { GathersTo (O.seen out.old) (O.seen out.new) line.old line.new
         (element_text (caption x (piece_bytes told.entry))) }
 {
     then_element(
@@ -59,7 +59,7 @@ fn then_caption<O: Sink>(line: &mut Line, out: &mut O, x: u64, told: Piece<'_>)
 /// Draws a small rectangle of a class, and beside it what it says.
 fn then_sample<O: Sink>(line: &mut Line, out: &mut O, x: u64, class: Piece<'_>, told: Piece<'_>)
     requires { x ≤ 1000 }
-    ensures { Gathers (O.written out.old) (O.written out.new) (O.faults out.old) (O.faults out.new) line.old line.new
+    ensures { GathersTo (O.seen out.old) (O.seen out.new) line.old line.new
         (flat_map element_text (sample x (piece_bytes class.entry) (piece_bytes told.entry))) }
 {
     then_swatch(line, out, x, class);
@@ -68,7 +68,7 @@ fn then_sample<O: Sink>(line: &mut Line, out: &mut O, x: u64, class: Piece<'_>, 
 
 /// Draws the style and the legend: what the colours say.
 pub(crate) fn then_legend<O: Sink>(line: &mut Line, out: &mut O)
-    ensures { Gathers (O.written out.old) (O.written out.new) (O.faults out.old) (O.faults out.new) line.old line.new (flat_map element_text legend) }
+    ensures { GathersTo (O.seen out.old) (O.seen out.new) line.old line.new (flat_map element_text legend) }
 {
     then_style(line, out);
     then_sample(

@@ -1,7 +1,7 @@
 //! The picture of a graph.
 
 ghost use Rattle.std.specs.Prelude.{◌≤◌, ◌≡◌};
-ghost use Rattle.vcp_outside.specs.Written.{Writes};
+ghost use Rattle.vcp_outside.specs.Written.{WritesTo};
 ghost use Rattle.vcp_base.specs.Limits.{most_horizon};
 ghost use Rattle.weight_audit.specs.Audit.{IsAudit};
 ghost use Rattle.graph_picture.specs.Elements.{graph_text};
@@ -26,7 +26,7 @@ pub fn write_picture<O: Sink>(
 ) -> Result<(), Failed>
     requires horizon { horizon ≤ most_horizon }
     requires audit { IsAudit graph.now horizon weights.now }
-    ensures { Writes (O.written out.old) (O.written out.new) (O.faults out.old) (O.faults out.new)
+    ensures { WritesTo (O.seen out.old) (O.seen out.new)
         (graph_text graph.now weights.now horizon layout.now) result }
 {
     let mut line = begin_picture(out, layout.width(), layout.height());

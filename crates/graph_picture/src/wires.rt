@@ -1,7 +1,7 @@
 //! The lines from operands to their readers.
 
 ghost use Rattle.std.specs.Prelude.{◌≡◌, ◌<◌, ◌≤◌, length, flat_map, slice_get};
-ghost use Rattle.gathered_line.specs.Gathering.{Gathers};
+ghost use Rattle.gathered_line.specs.Gathering.{GathersTo};
 ghost use Rattle.op_graph.specs.Reads.{named};
 ghost use Rattle.svg_text.specs.Elements.{element_text};
 ghost use Rattle.graph_picture.specs.Drawn.{wire_of, wires_of, wires_below};
@@ -25,7 +25,7 @@ fn then_line<O: Sink>(
     to: Place,
 )
     requires { which < 3 }
-    ensures { Gathers (O.written out.old) (O.written out.new) (O.faults out.old) (O.faults out.new) line.old line.new
+    ensures { GathersTo (O.seen out.old) (O.seen out.new) line.old line.new
         (element_text (wire_element (record { operand = operand; reader = reader; which = which; from = from; to = to }))) }
 {
     then_element(
@@ -57,7 +57,7 @@ fn then_wire<O: Sink>(
 )
     requires operand { j < 3 }
     requires names { named op.now j ≡ k }
-    ensures { Gathers (O.written out.old) (O.written out.new) (O.faults out.old) (O.faults out.new) line.old line.new
+    ensures { GathersTo (O.seen out.old) (O.seen out.new) line.old line.new
         (flat_map element_text (flat_map wire_elements (wire_of layout.now.places n op.now j))) }
 {
     if reads_operation(op.kind, j) {
@@ -68,7 +68,7 @@ fn then_wire<O: Sink>(
 /// Draws the lines to the operands of operation `n`.
 fn then_operands<O: Sink>(line: &mut Line, out: &mut O, graph: &Graph, layout: &Layout, n: u32)
     requires { n < length graph.now.operations }
-    ensures { Gathers (O.written out.old) (O.written out.new) (O.faults out.old) (O.faults out.new) line.old line.new
+    ensures { GathersTo (O.seen out.old) (O.seen out.new) line.old line.new
         (flat_map element_text (flat_map wire_elements (wires_of layout.now.places n (slice_get graph.now.operations n)))) }
 {
     let op = graph.operation(n);
@@ -79,7 +79,7 @@ fn then_operands<O: Sink>(line: &mut Line, out: &mut O, graph: &Graph, layout: &
 
 /// Draws the lines to the operands of a graph's operations.
 pub(crate) fn then_wires<O: Sink>(line: &mut Line, out: &mut O, graph: &Graph, layout: &Layout)
-    ensures { Gathers (O.written out.old) (O.written out.new) (O.faults out.old) (O.faults out.new) line.old line.new
+    ensures { GathersTo (O.seen out.old) (O.seen out.new) line.old line.new
         (flat_map element_text (flat_map wire_elements (wires_below graph.now layout.now.places (length graph.now.operations)))) }
 {
     'operations: for n in 0..graph.len() {

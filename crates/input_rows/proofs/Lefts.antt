@@ -23,17 +23,17 @@ types-from types order cycle (cells ∷ records) = by_test (nat_lt cycle most_cy
     by_test true e = before-types types (row_of types order (cycle + 2) cells) (rows_from types order (cycle + 1) records) e
     by_test false e = refl
 
-before-fresh : (types : List Ty) (r : Result (List ℤ) RowFault) (more : RowsLeft) → more.refused ≡ false → (row_before types r more).refused ≡ false
+before-fresh : (types : List Ty) (r : Result (List ℤ) RowFault) (more : RowsLeft) → more.ended ≡ false → (row_before types r more).ended ≡ false
 before-fresh types (Ok row) more e = e
 before-fresh types (Err why) more e = refl
 
-pub fresh-from : (types : List Ty) (order : List ℕ) (cycle : ℕ) (records : List (List (List ℕ))) → (rows_from types order cycle records).refused ≡ false
+pub fresh-from : (types : List Ty) (order : List ℕ) (cycle : ℕ) (records : List (List (List ℕ))) → (rows_from types order cycle records).ended ≡ false
 fresh-from types order cycle [] = refl
 fresh-from types order cycle (cells ∷ records) = by_test (nat_lt cycle most_cycles) (fresh-from types order (cycle + 1) records)
   where
-    by_test : (b : Bool) → (rows_from types order (cycle + 1) records).refused ≡ false
+    by_test : (b : Bool) → (rows_from types order (cycle + 1) records).ended ≡ false
         → (cond b (row_before types (row_of types order (cycle + 2) cells) (rows_from types order (cycle + 1) records))
-        (no_rows types (Some fault.Cycles))).refused ≡ false
+        (no_rows types (Some fault.Cycles))).ended ≡ false
     by_test true e = before-fresh types (row_of types order (cycle + 2) cells) (rows_from types order (cycle + 1) records) e
     by_test false e = refl
 
@@ -41,7 +41,7 @@ pub left-types : (o : Ordered) (cycle : ℕ) (records : Option (List (List (List
 left-types o cycle None = refl
 left-types o cycle (Some records) = types-from o.types o.places cycle records
 
-pub left-fresh : (o : Ordered) (cycle : ℕ) (records : Option (List (List (List ℕ)))) → (left_from o cycle records).refused ≡ false
+pub left-fresh : (o : Ordered) (cycle : ℕ) (records : Option (List (List (List ℕ)))) → (left_from o cycle records).ended ≡ false
 left-fresh o cycle None = refl
 left-fresh o cycle (Some records) = fresh-from o.types o.places cycle records
 

@@ -13,7 +13,7 @@ pub record Sound (columns : List Column) (left : RowsLeft) : Type 0 where
   pub typed : All (AreIn left.types) left.rows
   pub few : length left.rows ≤ most_cycles
   pub behind : IfSome left.refusal IsOfRecord
-  pub fresh : left.refused ≡ false
+  pub fresh : left.ended ≡ false
 
 sound-from : (columns : List Column) (order : List ℕ) (rs : List (List (List ℕ))) → Sound columns (rows_from (types_of columns) order 0 rs)
 sound-from columns order rs = record {

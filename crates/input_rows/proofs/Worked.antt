@@ -65,7 +65,7 @@ name_too_many : order_of (x ∷ []) (codes "x" ∷ codes "y" ∷ []) ≡ None
 name_too_many = refl
 
 abbrev left : List (List ℤ) → Option RowFault → Result RowsLeft RowFault
-left rows refusal = Ok (record { types = ty.Int ∷ ty.Bool ∷ []; rows = rows; refusal = refusal; refused = false })
+left rows refusal = Ok (record { types = ty.Int ∷ ty.Bool ∷ []; rows = rows; refusal = refusal; ended = false })
 
 -- the values stand in the columns' order
 in_order : rows_of_records (x ∷ go ∷ []) ((codes "go" ∷ codes "x" ∷ []) ∷ (codes "1" ∷ codes "7" ∷ []) ∷ []) ≡ left ((pos 7 ∷ pos 1 ∷ []) ∷ []) None
@@ -85,14 +85,14 @@ no_record = refl
 
 -- x, 5
 file : rows_of (120 ∷ 10 ∷ 53 ∷ []) (record { name = codes "x"; ty = ty.Dint } ∷ [])
-    ≡ Ok (record { types = ty.Dint ∷ []; rows = (pos 5 ∷ []) ∷ []; refusal = None; refused = false })
+    ≡ Ok (record { types = ty.Dint ∷ []; rows = (pos 5 ∷ []) ∷ []; refusal = None; ended = false })
 unfolding next_record records_from strip_bom
 file = refl
 
 no_columns : rows_of (120 ∷ []) [] ≡ Err fault.Form
 no_columns = refl
 
-three_cycles : rows_of_cycles 3 [] ≡ Ok (record { types = []; rows = [] ∷ [] ∷ [] ∷ []; refusal = None; refused = false })
+three_cycles : rows_of_cycles 3 [] ≡ Ok (record { types = []; rows = [] ∷ [] ∷ [] ∷ []; refusal = None; ended = false })
 three_cycles = refl
 
 cycles_with_columns : rows_of_cycles 3 (x ∷ []) ≡ Err fault.Form
@@ -100,7 +100,7 @@ cycles_with_columns = refl
 
 -- two rows and a refusal behind them
 abbrev two : RowsLeft
-two = record { types = ty.Dint ∷ []; rows = (pos 5 ∷ []) ∷ (pos 6 ∷ []) ∷ []; refusal = Some (fault.Cell 4 1); refused = false }
+two = record { types = ty.Dint ∷ []; rows = (pos 5 ∷ []) ∷ (pos 6 ∷ []) ∷ []; refusal = Some (fault.Cell 4 1); ended = false }
 
 through_the_first : through 0 two ≡ record two { rows = (pos 5 ∷ []) ∷ []; refusal = None }
 through_the_first = refl

@@ -11,12 +11,13 @@ use Rattle.input_rows.specs.declared.fault.RowFault.TheVariants as fault
 use Rattle.input_rows.specs.Cells.{value_of}
 use Rattle.input_rows.specs.Header.{order_of}
 
--- what is left: the types of a row's values, the rows, the refusal behind them or none, and whether it was given
+-- what is left: the types of a row's values, the rows, the refusal behind them or none, and whether their end, which is that refusal where there
+-- is one, was given
 pub record RowsLeft : Type 0 where
   pub types : List Ty
   pub rows : List (List ℤ)
   pub refusal : Option RowFault
-  pub refused : Bool
+  pub ended : Bool
 
 -- the types of the columns
 abbrev pub types_of : List Column → List Ty
@@ -59,7 +60,16 @@ row_of types order number cells =
 
 -- no rows, and a refusal or none
 abbrev pub no_rows : List Ty → Option RowFault → RowsLeft
-no_rows types refusal = record { types = types; rows = []; refusal = refusal; refused = false }
+no_rows types refusal = record { types = types; rows = []; refusal = refusal; ended = false }
+
+-- after the end of rows was given, with this refusal behind them or none
+abbrev pub ended_with : List Ty → Option RowFault → RowsLeft
+ended_with types refusal = record { types = types; rows = []; refusal = refusal; ended = true }
+
+-- what is answered at the end of rows with this refusal behind them, or none: that there is no row, or the refusal
+abbrev pub end_answer : Option RowFault → Result Bool RowFault
+end_answer None = Ok false
+end_answer (Some why) = Err why
 
 -- a row before what is left, or its refusal and nothing more
 abbrev pub row_before : List Ty → Result (List ℤ) RowFault → RowsLeft → RowsLeft
@@ -92,7 +102,7 @@ rows_of bytes (c ∷ columns) = rows_of_records (c ∷ columns) (records default
 
 -- as many rows of no values as there are cycles, where there are no columns
 abbrev pub rows_of_cycles : ℕ → List Column → Result RowsLeft RowFault
-rows_of_cycles number [] = Ok (record { types = []; rows = replicate number []; refusal = None; refused = false })
+rows_of_cycles number [] = Ok (record { types = []; rows = replicate number []; refusal = None; ended = false })
 rows_of_cycles number (c ∷ columns) = Err fault.Form
 
 -- what stands behind rows that are wanted: this where there are as many, else the refusal behind those that there are, or `Cycle` where there

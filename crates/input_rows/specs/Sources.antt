@@ -5,5 +5,5 @@ use Rattle.input_rows.specs.declared.all_rows.Source.{Source}
 use Rattle.input_rows.specs.declared.all_rows.Source.TheVariants.{Cycles, File}
 
 abbrev pub rows_left : Source → RowsLeft
-rows_left (Cycles number) = record { types = []; rows = replicate number []; refusal = None; refused = false }
+rows_left (Cycles number) = record { types = []; rows = replicate number []; refusal = None; ended = false }
 rows_left (File left) = left

@@ -1,5 +1,5 @@
 -- What is left of a file whose header was read.
-use Rattle.std.specs.Prelude.{ℕ, List, [], Option, Some, None, true, Result, Ok, Err, ℤ, ◌≡◌}
+use Rattle.std.specs.Prelude.{ℕ, List, Option, Some, None, Result, Ok, Err, ℤ, ◌≡◌}
 use Rattle.vcp_base.specs.declared.ty.Ty.{Ty}
 use Rattle.input_rows.specs.declared.fault.RowFault.{RowFault}
 use Rattle.input_rows.specs.declared.fault.RowFault.TheVariants as fault
@@ -14,15 +14,6 @@ pub record Ordered : Type 0 where
 abbrev pub left_from : Ordered → ℕ → Option (List (List (List ℕ))) → RowsLeft
 left_from o cycle None = no_rows o.types (Some fault.Memory)
 left_from o cycle (Some records) = rows_from o.types o.places cycle records
-
--- nothing is left after a refusal
-abbrev pub refused_with : List Ty → RowFault → RowsLeft
-refused_with types why = record { types = types; rows = []; refusal = Some why; refused = true }
-
--- what is left, after a refusal or none
-abbrev pub left_of_table : Ordered → ℕ → Option (List (List (List ℕ))) → Option RowFault → RowsLeft
-left_of_table o cycle records None = left_from o cycle records
-left_of_table o cycle records (Some why) = refused_with o.types why
 
 -- a call that sets a row answers as is expected of it, and its row is then the expected one
 abbrev pub SetsRow : Result (List ℤ) RowFault → Result (Unit {0}) RowFault → List ℤ → Type 0

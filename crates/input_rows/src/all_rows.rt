@@ -4,7 +4,6 @@ ghost use Rattle.std.specs.Prelude.{◌≡◌, ◌≢◌, ◌<◌, ◌≤◌, �
 ghost use Rattle.vcp_base.specs.Limits.{most_cycles};
 ghost use Rattle.vcp_base.specs.Types.{AreIn};
 ghost use Rattle.input_rows.specs.RowsOf.{IsOfRecord, rows_of, rows_of_cycles, types_of};
-ghost use Rattle.input_rows.specs.TableLeft.{refused_with};
 
 use crate::fault::RowFault;
 use crate::table::Table;
@@ -52,7 +51,7 @@ impl<'a> AllRows<'a> {
         ensures typed { IfOk result (λ left. All (AreIn left.types) left.rows) }
         ensures few { IfOk result (λ left. length left.rows ≤ most_cycles) }
         ensures behind { IfOk result (λ left. IfSome left.refusal IsOfRecord) }
-        ensures fresh { IfOk result (λ left. left.refused ≡ false) }
+        ensures fresh { IfOk result (λ left. left.ended ≡ false) }
     {
         if columns.len() == 0 {
             return Err(RowFault::Form);
@@ -71,7 +70,7 @@ impl<'a> AllRows<'a> {
         ensures typed { IfOk result (λ left. All (AreIn left.types) left.rows) }
         ensures few { IfOk result (λ left. length left.rows ≤ most_cycles) }
         ensures behind { IfOk result (λ left. left.refusal ≡ None) }
-        ensures fresh { IfOk result (λ left. left.refused ≡ false) }
+        ensures fresh { IfOk result (λ left. left.ended ≡ false) }
     {
         if columns.len() != 0 {
             return Err(RowFault::Form);
@@ -91,16 +90,16 @@ impl<'a> AllRows<'a> {
         }
     }
 
-    /// Sets `out` to the next row, and answers whether there was one. After a refusal each later call
-    /// gives it again.
+    /// Sets `out` to the next row, and answers whether there was one. What a call gives after the end
+    /// or a refusal isn't known.
     pub fn next(&mut self, out: &mut Row) -> Result<bool, RowFault>
         requires { length out.old ≡ length self.old.types }
         ensures row { IfOk result (λ found. found ≡ true → self.old ≡ record self.new { rows = out.new ∷ self.new.rows }) }
         ensures end { IfOk result (λ found. found ≡ false → (self.old.rows ≡ []) × (self.old.refusal ≡ None)) }
-        ensures stays { IfOk result (λ found. found ≡ false → (self.new ≡ self.old) × (out.new ≡ out.old)) }
+        ensures stays { IfOk result (λ found. found ≡ false → out.new ≡ out.old) }
         ensures refusal { IfErr result (λ f. f ≢ RowFault.Memory → (self.old.rows ≡ []) × (self.old.refusal ≡ Some f)) }
-        ensures refused { IfErr result (λ f. self.new ≡ refused_with self.old.types f) }
-        ensures again { self.old.refused ≡ true → IfSome self.old.refusal (λ f. result ≡ Err f) }
+        ensures types { self.new.types ≡ self.old.types }
+        ensures fresh { self.new.ended ≡ false }
         ensures out { OnErr result (out.new ≡ out.old) }
         ensures width { length out.new ≡ length out.old }
     {

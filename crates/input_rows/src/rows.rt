@@ -3,8 +3,7 @@
 ghost use Rattle.std.specs.Prelude.{◌≡◌, ◌≢◌, ◌<◌, ◌≤◌, ◌^◌, [], ◌∷◌, length, All, true, false, None, Some, Ok, Err, IfOk, IfErr, IfSome, IfNone, OnErr};
 ghost use Rattle.vcp_base.specs.Limits.{most_cycles};
 ghost use Rattle.vcp_base.specs.Types.{AreIn};
-ghost use Rattle.input_rows.specs.RowsOf.{IsOfRecord, rows_of, rows_of_cycles, through as through_of, types_of};
-ghost use Rattle.input_rows.specs.TableLeft.{refused_with};
+ghost use Rattle.input_rows.specs.RowsOf.{IsOfRecord, rows_of, rows_of_cycles, through as through_of, types_of, ended_with, end_answer};
 
 use crate::all_rows::AllRows;
 use crate::fault::RowFault;
@@ -14,8 +13,8 @@ use std::marker::Model;
 use vcp_base::{Columns, Row};
 
 /// The rows that are left, from the front, and the refusal behind them, if there is one. Contracts
-/// see also the types of a row's values, in the order of the columns, and whether the refusal was
-/// given.
+/// see also the types of a row's values, in the order of the columns, and whether the end or the
+/// refusal was given.
 #[derive(Drop)]
 pub struct Rows<'a> {
     rows: AllRows<'a>,
@@ -23,14 +22,15 @@ pub struct Rows<'a> {
 }
 
 impl<'a> Model for Rows<'a> {
+    ghost use Rattle.std.specs.Prelude.{◌≡◌, false};
     ghost use Rattle.input_rows.specs.RowsOf.{RowsLeft};
-    ghost use Rattle.input_rows.specs.WantedRows.{wanted_rows, EndsWhenRefused};
+    ghost use Rattle.input_rows.specs.WantedRows.{wanted_rows};
 
     ghost Value = { RowsLeft };
 
     ghost view = { λ r. wanted_rows r.wanted r.rows };
 
-    ghost invariant = { λ r. EndsWhenRefused r.rows };
+    ghost invariant = { λ r. r.rows.ended ≡ false };
 }
 
 impl<'a> Rows<'a> {
@@ -47,7 +47,7 @@ impl<'a> Rows<'a> {
         ensures typed { IfOk result (λ left. All (AreIn left.types) left.rows) }
         ensures few { IfOk result (λ left. length left.rows ≤ most_cycles) }
         ensures behind { IfOk result (λ left. IfSome left.refusal IsOfRecord) }
-        ensures fresh { IfOk result (λ left. left.refused ≡ false) }
+        ensures fresh { IfOk result (λ left. left.ended ≡ false) }
     {
         let rows = AllRows::new(alloc, bytes, columns)?;
         Ok(Rows {
@@ -65,7 +65,7 @@ impl<'a> Rows<'a> {
         ensures typed { IfOk result (λ left. All (AreIn left.types) left.rows) }
         ensures few { IfOk result (λ left. length left.rows ≤ most_cycles) }
         ensures behind { IfOk result (λ left. left.refusal ≡ None) }
-        ensures fresh { IfOk result (λ left. left.refused ≡ false) }
+        ensures fresh { IfOk result (λ left. left.ended ≡ false) }
     {
         let rows = AllRows::cycles(number, columns)?;
         Ok(Rows {
@@ -82,7 +82,7 @@ impl<'a> Rows<'a> {
         ensures typed { All (AreIn self.entry.types) self.entry.rows → All (AreIn result.types) result.rows }
         ensures few { length result.rows ≤ length self.entry.rows }
         ensures behind { IfSome self.entry.refusal IsOfRecord → IfSome result.refusal IsOfRecord }
-        ensures fresh { result.refused ≡ self.entry.refused }
+        ensures fresh { result.ended ≡ self.entry.ended }
     {
         Rows {
             rows: self.rows,
@@ -103,47 +103,57 @@ impl<'a> Rows<'a> {
     ///
     /// At a record that is refused: `Cycles` at the record of cycle 1,000,000, then `Width` where it
     /// has another number of fields than there are columns, then `Cell` at its first cell that spells
-    /// no value. `Cycle` where a row is wanted and there is none. After a refusal, `Memory` included,
-    /// each later call gives it again.
+    /// no value. `Cycle` where a row is wanted and there is none. After the end, and after a refusal,
+    /// `Memory` included, each later call gives the same again and changes nothing.
     pub fn next(&mut self, _alloc: Global, out: &mut Row) -> Result<bool, RowFault>
         requires { length out.old ≡ length self.old.types }
         ensures row { IfOk result (λ found. found ≡ true → self.old ≡ record self.new { rows = out.new ∷ self.new.rows }) }
         ensures end { IfOk result (λ found. found ≡ false → (self.old.rows ≡ []) × (self.old.refusal ≡ None)) }
-        ensures stays { IfOk result (λ found. found ≡ false → (self.new ≡ self.old) × (out.new ≡ out.old)) }
+        ensures stays { IfOk result (λ found. found ≡ false → (self.new ≡ ended_with self.old.types None) × (out.new ≡ out.old)) }
         ensures refusal { IfErr result (λ f. f ≢ RowFault.Memory → (self.old.rows ≡ []) × (self.old.refusal ≡ Some f)) }
-        ensures refused { IfErr result (λ f. self.new ≡ refused_with self.old.types f) }
-        ensures again { self.old.refused ≡ true → IfSome self.old.refusal (λ f. result ≡ Err f) }
+        ensures refused { IfErr result (λ f. self.new ≡ ended_with self.old.types (Some f)) }
+        ensures again { self.old.ended ≡ true → (result ≡ end_answer self.old.refusal) × (self.new ≡ self.old) × (out.new ≡ out.old) }
         ensures out { OnErr result (out.new ≡ out.old) }
         ensures width { length out.new ≡ length out.old }
     {
         match self.wanted {
-            Wanted::All => self.rows.next(out),
+            Wanted::All => match self.rows.next(out) {
+                Ok(true) => Ok(true),
+                Ok(false) => self.end(None),
+                Err(why) => self.end(Some(why)),
+            },
             Wanted::First { rows: 0, behind } => self.end(behind),
-            Wanted::First { rows, behind } => {
-                if self.rows.next(out)? {
+            Wanted::First { rows, behind } => match self.rows.next(out) {
+                Ok(true) => {
                     self.wanted = Wanted::First {
                         rows: rows - 1,
                         behind,
                     };
-                    return Ok(true);
+                    Ok(true)
                 }
-                self.end(Some(RowFault::Cycle))
-            }
-            Wanted::Refused(why) => Err(why),
+                Ok(false) => self.end(Some(RowFault::Cycle)),
+                Err(why) => self.end(Some(why)),
+            },
+            Wanted::Ended(behind) => answer(behind),
         }
     }
 
-    // The answer where no row is left, and this stands behind them.
+    // Keeps that the end was given, with this behind the rows, and gives it.
     fn end(&mut self, behind: Option<RowFault>) -> Result<bool, RowFault>
-        ensures end { IfNone behind ((result ≡ Ok false) × (self.new ≡ self.old)) }
-        ensures refused { IfSome behind (λ why. (result ≡ Err why) × (self.new ≡ refused_with self.old.types why)) }
+        ensures answer { result ≡ end_answer behind }
+        ensures ended { self.new ≡ ended_with self.old.types behind }
     {
-        match behind {
-            None => Ok(false),
-            Some(why) => {
-                self.wanted = Wanted::Refused(why);
-                Err(why)
-            }
-        }
+        self.wanted = Wanted::Ended(behind);
+        answer(behind)
+    }
+}
+
+// What is answered at the end, with this behind the rows.
+fn answer(behind: Option<RowFault>) -> Result<bool, RowFault>
+    ensures { result ≡ end_answer behind }
+{
+    match behind {
+        None => Ok(false),
+        Some(why) => Err(why),
     }
 }

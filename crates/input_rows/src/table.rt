@@ -1,10 +1,10 @@
 //! The rows of a file's records.
 
-ghost use Rattle.std.specs.Prelude.{◌≡◌, ◌≢◌, ◌<◌, ◌≤◌, ◌^◌, ◌+◌, ◌⊎◌, [], ◌∷◌, length, true, false, None, Some, IfOk, IfErr, IfSome, OnErr};
+ghost use Rattle.std.specs.Prelude.{◌≡◌, ◌≢◌, ◌<◌, ◌≤◌, ◌^◌, ◌+◌, ◌⊎◌, [], ◌∷◌, length, true, false, None, Some, IfOk, IfErr, OnErr};
 ghost use Rattle.csv.specs.Reading.{records as records_of, default_config, strip_bom};
 ghost use Rattle.vcp_base.specs.Limits.{most_cycles};
 ghost use Rattle.input_rows.specs.RowsOf.{no_rows, rows_of_records};
-ghost use Rattle.input_rows.specs.TableLeft.{left_from, refused_with};
+ghost use Rattle.input_rows.specs.TableLeft.{left_from};
 
 use crate::fault::RowFault;
 use crate::layout::Layout;
@@ -24,18 +24,17 @@ pub struct Table<'a> {
     cells: ByteRecord,
     cycle: u32,
     row: Row,
-    refusal: Option<RowFault>,
 }
 
 impl<'a> Model for Table<'a> {
     ghost use Rattle.std.specs.Prelude.{◌≡◌, ◌≤◌, length};
     ghost use Rattle.vcp_base.specs.Limits.{most_cycles};
     ghost use Rattle.input_rows.specs.RowsOf.{RowsLeft};
-    ghost use Rattle.input_rows.specs.TableLeft.{left_of_table};
+    ghost use Rattle.input_rows.specs.TableLeft.{left_from};
 
     ghost Value = { RowsLeft };
 
-    ghost view = { λ t. left_of_table t.layout t.cycle t.records t.refusal };
+    ghost view = { λ t. left_from t.layout t.cycle t.records };
 
     ghost invariant = { λ t. (length t.row ≡ length t.layout.types) × (t.cycle ≤ most_cycles) };
 }
@@ -89,7 +88,6 @@ impl<'a> Table<'a> {
             cells,
             cycle: 0,
             row,
-            refusal: None,
         })
     }
 
@@ -100,22 +98,19 @@ impl<'a> Table<'a> {
         self.layout.width()
     }
 
-    /// Sets `out` to the next row, and answers whether there was one. After a refusal each later call
-    /// gives it again.
+    /// Sets `out` to the next row, and answers whether there was one. What a call gives after the end
+    /// or a refusal isn't known.
     pub fn next(&mut self, out: &mut Row) -> Result<bool, RowFault>
         requires { length out.old ≡ length self.old.types }
         ensures row { IfOk result (λ found. found ≡ true → self.old ≡ record self.new { rows = out.new ∷ self.new.rows }) }
         ensures end { IfOk result (λ found. found ≡ false → (self.old.rows ≡ []) × (self.old.refusal ≡ None)) }
-        ensures stays { IfOk result (λ found. found ≡ false → (self.new ≡ self.old) × (out.new ≡ out.old)) }
+        ensures stays { IfOk result (λ found. found ≡ false → out.new ≡ out.old) }
         ensures refusal { IfErr result (λ f. f ≢ RowFault.Memory → (self.old.rows ≡ []) × (self.old.refusal ≡ Some f)) }
-        ensures refused { IfErr result (λ f. self.new ≡ refused_with self.old.types f) }
-        ensures again { self.old.refused ≡ true → IfSome self.old.refusal (λ f. result ≡ Err f) }
+        ensures types { self.new.types ≡ self.old.types }
+        ensures fresh { self.new.ended ≡ false }
         ensures out { OnErr result (out.new ≡ out.old) }
         ensures width { length out.new ≡ length out.old }
     {
-        if let Some(fault) = self.refusal {
-            return Err(fault);
-        }
         match read_row(
             &self.layout,
             &mut self.records,
@@ -129,10 +124,7 @@ impl<'a> Table<'a> {
                 Ok(true)
             }
             Ok(false) => Ok(false),
-            Err(fault) => {
-                self.refusal = Some(fault);
-                Err(fault)
-            }
+            Err(fault) => Err(fault),
         }
     }
 }

@@ -13,8 +13,8 @@ pub(crate) enum Wanted {
     All,
     /// So many, and the refusal that is to stand behind them, or none.
     First { rows: u64, behind: Option<RowFault> },
-    /// None: this refusal was given.
-    Refused(RowFault),
+    /// None: the end was given, which is this refusal, where there is one.
+    Ended(Option<RowFault>),
 }
 
 impl Wanted {
@@ -36,7 +36,7 @@ impl Wanted {
                 rows,
                 behind: Some(behind.unwrap_or(RowFault::Cycle)),
             },
-            Wanted::Refused(why) => Wanted::Refused(why),
+            Wanted::Ended(behind) => Wanted::Ended(Some(behind.unwrap_or(RowFault::Cycle))),
         }
     }
 }

@@ -36,8 +36,8 @@ all_rows left rest taken is = ap (λ (r : RowsLeft). r.rows) is
 stands : RunLaws
     → (g : Lists) (t : Numbers) (left rest : RowsLeft) (text : ℕ → List ℤ → List ℕ) (b n : Moment) (kept_before kept_now : List (List ℤ) → Type 0) (m : State)
     → (u : UpTo g t left rest text b n kept_before kept_now m) →
-    RunOver g t u.taken u.cycles (map (outputs_of g) u.cycles) end.Released b.log n.log b.wrong n.wrong
-stands laws g t left rest text b n kept_before kept_now m u = laws.stands g t u.taken u.cycles m b.log n.log b.wrong n.wrong u.run
+    RunOver g t u.taken u.cycles (map (outputs_of g) u.cycles) end.Released b.unit.log n.unit.log b.unit.wrong n.unit.wrong
+stands laws g t left rest text b n kept_before kept_now m u = laws.stands g t u.taken u.cycles m b.unit.log n.unit.log b.unit.wrong n.unit.wrong u.run
 
 -- want of memory
 pub memory_exit : RunLaws → HonestLaws
@@ -55,7 +55,7 @@ memory_exit laws honest g t left rest text b n kept_before kept_now m fair u =
         cycles = u.cycles;
         carried = over.carried;
         some = over.some;
-        ends = subst (λ rows. Appends b.out n.out (texts_from text 0 rows)) (sym outs) u.written;
+        ends = subst (λ rows. Appends b.out.written n.out.written (texts_from text 0 rows)) (sym outs) u.written;
         given_up = ap (λ (o : Outcome). o.end) over.outcome;
         follows = front_follows honest g t left.rows u.taken rest.rows u.cycles m b n fair is u.run over.outcome;
       };
@@ -84,7 +84,7 @@ last_exit laws honest g t left rest text b n kept_before kept_now m fair u none 
         ends = (
           came,
           (λ _. ap (λ (r : RowsLeft). r.refusal) u.rows ∙ behind),
-          subst (λ rows. Appends b.out n.out (texts_from text 0 rows))
+          subst (λ rows. Appends b.out.written n.out.written (texts_from text 0 rows))
               (sym outs) u.written,
         );
         given_up = tt;
@@ -112,7 +112,7 @@ refused_exit laws honest g t left rest text b n kept_before kept_now m why fair 
         cycles = u.cycles;
         carried = over.carried;
         some = over.some;
-        ends = (came, ap (λ (r : RowsLeft). r.refusal) u.rows ∙ behind, subst (λ rows. Appends b.out n.out (texts_from text 0 rows)) (sym outs) u.written);
+        ends = (came, ap (λ (r : RowsLeft). r.refusal) u.rows ∙ behind, subst (λ rows. Appends b.out.written n.out.written (texts_from text 0 rows)) (sym outs) u.written);
         given_up = ap (λ (o : Outcome). o.end) over.outcome;
         follows = whole_follows honest g t left.rows u.cycles (map (outputs_of g) u.cycles) end.Released b n fair over came;
       };
@@ -146,8 +146,8 @@ pub cycle_exit : RunLaws → HonestLaws
     → (g : Lists) (t : Numbers) (left rest now : RowsLeft) (text : ℕ → List ℤ → List ℕ) (b n a : Moment) (kept_before kept_now kept_after : List (List ℤ)
     → Type 0) (m o : State) (row : List ℤ) (e : CycleEnd) → Fair g t left.rows →
     UpTo g t left rest text b n kept_before kept_now m → e ≢ end.Released → rest ≡ record now { rows = row ∷ now.rows }
-    → Turn m o row e n.log a.log n.wrong a.wrong → o.under_way ≡ false →
-    Appends n.out a.out
+    → Turn m o row e n.unit.log a.unit.log n.unit.wrong a.unit.wrong → o.under_way ≡ false →
+    Appends n.out.written a.out.written
     (texts_from text m.cycles (row_if e (outputs_of m.graph o.answers)))
     → ((rows : List (List ℤ)) → kept_now rows → kept_after (rows ++ row_if e (outputs_of m.graph o.answers))) →
     Leaves g t left text b a kept_before kept_after o (Ok e)
@@ -155,8 +155,8 @@ cycle_exit laws honest g t left rest now text b n a kept_before kept_now kept_af
     let cycles = u.cycles ++ o.answers ∷ [] in
     let released = map (outputs_of g) u.cycles ++ row_if e (outputs_of g o.answers) in
     let is = all_rows left now (u.taken ++ row ∷ []) (rows_on left rest now u.taken row u.rows one) in
-    let run : RunOver g t (u.taken ++ row ∷ []) cycles released e b.log a.log b.wrong a.wrong =
-    laws.ends g t u.taken u.cycles m o row e b.log n.log a.log b.wrong n.wrong a.wrong u.run turn in
+    let run : RunOver g t (u.taken ++ row ∷ []) cycles released e b.unit.log a.unit.log b.unit.wrong a.unit.wrong =
+    laws.ends g t u.taken u.cycles m o row e b.unit.log n.unit.log a.unit.log b.unit.wrong n.unit.wrong a.unit.wrong u.run turn in
     let over : Over g t left.rows cycles released e b a = over_all g t left.rows (u.taken ++ row ∷ []) now.rows cycles released e b a is run in
     let came : CameToEnd g t left.rows cycles e = came_to_end g t left.rows (u.taken ++ row ∷ []) now.rows cycles released e b a is (inl not) run in
     let outs = ap (λ (x : Outcome). x.rows) over.outcome in
@@ -168,7 +168,7 @@ cycle_exit laws honest g t left rest now text b n a kept_before kept_now kept_af
         ends = (
           came,
           (λ is_released. absurd (not is_released)),
-          subst (λ rows. Appends b.out a.out (texts_from text 0 rows)) (sym outs)
+          subst (λ rows. Appends b.out.written a.out.written (texts_from text 0 rows)) (sym outs)
               (written_on g t text u.cycles u.taken m o.answers e b n a u.run u.written written),
         );
         given_up = tt;
@@ -192,16 +192,16 @@ snoc_front (a ∷ xs) (b ∷ ys) x y e =
 
 -- all is written for the rows before the last one
 earlier_written : (g : Lists) (text : ℕ → List ℤ → List ℕ) (cycles : List (List Answer)) (answers : List Answer) (b n a : Moment) (more : List ℕ)
-    → Appends b.out a.out (texts_from text 0 (map (outputs_of g) cycles) ++ more) → EarlierWritten g text (cycles ++ answers ∷ []) b a
+    → Appends b.out.written a.out.written (texts_from text 0 (map (outputs_of g) cycles) ++ more) → EarlierWritten g text (cycles ++ answers ∷ []) b a
 earlier_written g text cycles answers b n a more h earlier last is =
-    (more, subst (λ xs. Appends b.out a.out (texts_from text 0 (map (outputs_of g) xs) ++ more)) (snoc_front cycles earlier answers last is) h)
+    (more, subst (λ xs. Appends b.out.written a.out.written (texts_from text 0 (map (outputs_of g) xs) ++ more)) (snoc_front cycles earlier answers last is) h)
 
 pub write_exit : RunLaws → HonestLaws
     → (g : Lists) (t : Numbers) (left rest now : RowsLeft) (text : ℕ → List ℤ → List ℕ) (b n a : Moment) (kept_before kept_now kept_after : List (List ℤ)
     → Type 0) (m o : State) (row : List ℤ) → Fair g t left.rows →
-    UpTo g t left rest text b n kept_before kept_now m → rest ≡ record now { rows = row ∷ now.rows } → Turn m o row end.Released n.log a.log n.wrong a.wrong
+    UpTo g t left rest text b n kept_before kept_now m → rest ≡ record now { rows = row ∷ now.rows } → Turn m o row end.Released n.unit.log a.unit.log n.unit.wrong a.unit.wrong
     → o.under_way ≡ false →
-    AppendsPart n.out a.out (texts_from text m.cycles (row_if end.Released (outputs_of m.graph o.answers))) → Rose n.out_faults a.out_faults →
+    AppendsPart n.out.written a.out.written (texts_from text m.cycles (row_if end.Released (outputs_of m.graph o.answers))) → Rose n.out.faults a.out.faults →
     Leaves g t left text b a kept_before kept_after o (Err fault.Write)
 write_exit laws honest g t left rest now text b n a kept_before kept_now kept_after m o row fair u one turn between part rose =
     let cycles = u.cycles ++ o.answers ∷ [] in
@@ -209,18 +209,18 @@ write_exit laws honest g t left rest now text b n a kept_before kept_now kept_af
     let released = map (outputs_of g) u.cycles in
     let last = outputs_of g o.answers ∷ [] in
     let is = all_rows left now taken (rows_on left rest now u.taken row u.rows one) in
-    let so_far : RunSoFar g t taken cycles o b.log a.log b.wrong a.wrong =
-    laws.goes_on g t u.taken u.cycles m o row b.log n.log a.log b.wrong n.wrong a.wrong u.run turn in
-    let run : RunOver g t taken cycles (map (outputs_of g) cycles) end.Released b.log a.log b.wrong a.wrong =
-    laws.stands g t taken cycles o b.log a.log b.wrong a.wrong so_far in
+    let so_far : RunSoFar g t taken cycles o b.unit.log a.unit.log b.unit.wrong a.unit.wrong =
+    laws.goes_on g t u.taken u.cycles m o row b.unit.log n.unit.log a.unit.log b.unit.wrong n.unit.wrong a.unit.wrong u.run turn in
+    let run : RunOver g t taken cycles (map (outputs_of g) cycles) end.Released b.unit.log a.unit.log b.unit.wrong a.unit.wrong =
+    laws.stands g t taken cycles o b.unit.log a.unit.log b.unit.wrong a.unit.wrong so_far in
     let over : Over g t left.rows cycles (map (outputs_of g) cycles) end.Released b a =
     over_all g t left.rows taken now.rows cycles (map (outputs_of g) cycles) end.Released b a is run in
     let outs : (outcome_over g t 0 cycles).rows ≡ released ++ last = ap (λ (x : Outcome). x.rows) over.outcome ∙ map_more (outputs_of g) u.cycles o.answers in
-    let part_here : AppendsPart n.out a.out (texts_from text (0 + length released) last) =
-    subst (AppendsPart n.out a.out) (text_here g t text u.cycles u.taken m o.answers end.Released b n u.run) part in
-    let all_part : AppendsPart b.out a.out (texts_from text 0 (released ++ last)) = part_written text b.out n.out a.out released last u.written part_here in
-    let earlier : Appends b.out a.out (texts_from text 0 released ++ part_here.0) =
-    appends_on b.out n.out a.out (texts_from text 0 released) part_here.0 u.written part_here.4 in
+    let part_here : AppendsPart n.out.written a.out.written (texts_from text (0 + length released) last) =
+    subst (AppendsPart n.out.written a.out.written) (text_here g t text u.cycles u.taken m o.answers end.Released b n u.run) part in
+    let all_part : AppendsPart b.out.written a.out.written (texts_from text 0 (released ++ last)) = part_written text b.out.written n.out.written a.out.written released last u.written part_here in
+    let earlier : Appends b.out.written a.out.written (texts_from text 0 released ++ part_here.0) =
+    appends_on b.out.written n.out.written a.out.written (texts_from text 0 released) part_here.0 u.written part_here.4 in
     record {
       run = record {
         cycles = cycles;
@@ -228,7 +228,7 @@ write_exit laws honest g t left rest now text b n a kept_before kept_now kept_af
         some = over.some;
         ends = (
           omega (arith, u.faults, rose),
-          subst (λ rows. AppendsPart b.out a.out (texts_from text 0 rows))
+          subst (λ rows. AppendsPart b.out.written a.out.written (texts_from text 0 rows))
               (sym outs) all_part,
           earlier_written g text u.cycles o.answers b n a part_here.0 earlier,
         );
@@ -247,14 +247,14 @@ ends_so None i found wanted e = cc
 ends_so (Some stop) i found wanted e = cc
 
 -- where a run is refused, an answer was wrong
-pub refused_rose : (g : Lists) (t : Numbers) (left : RowsLeft) (text : ℕ → List ℤ → List ℕ) (b a : Moment) (result : Result CycleEnd RunFault) (i found wanted : ℕ) → result ≡ Ok (end.Refused i found wanted) → RunsRows g t left text b a result → Rose b.wrong a.wrong
+pub refused_rose : (g : Lists) (t : Numbers) (left : RowsLeft) (text : ℕ → List ℤ → List ℕ) (b a : Moment) (result : Result CycleEnd RunFault) (i found wanted : ℕ) → result ≡ Ok (end.Refused i found wanted) → RunsRows g t left text b a result → Rose b.unit.wrong a.unit.wrong
 refused_rose g t left text b a result i found wanted is run =
     let h : RunsRows g t left text b a (Ok (end.Refused i found wanted)) = subst (RunsRows g t left text b a) is run in
-    elim (cases_lt b.wrong (2 ^ 64 - 1)) [
-      | inl small ↦ elim (cases_lt b.wrong a.wrong) [
+    elim (cases_lt b.unit.wrong (2 ^ 64 - 1)) [
+      | inl small ↦ elim (cases_lt b.unit.wrong a.unit.wrong) [
         | inl more ↦ omega (arith, more)
         | inr less ↦
-            let same : a.wrong ≡ b.wrong = omega (arith, less, h.carried.never_falls) in
+            let same : a.unit.wrong ≡ b.unit.wrong = omega (arith, less, h.carried.never_falls) in
             absurd (ends_so (graph_run g left.rows).end i found wanted (ap (λ (o : Outcome). o.end) (sym (h.follows same small)) ∙ h.ends.0.end_is))
       ]
       | inr large ↦ omega (arith, large, h.carried.never_falls)

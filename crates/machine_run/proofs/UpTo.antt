@@ -26,11 +26,11 @@ pub record UpTo (g : Lists) (t : Numbers) (left rest : RowsLeft) (text : ℕ →
   pub taken : List (List ℤ)
   pub cycles : List (List Answer)
   pub rows : left ≡ record rest { rows = taken ++ rest.rows }
-  pub run : RunSoFar g t taken cycles m before.log now.log before.wrong now.wrong
+  pub run : RunSoFar g t taken cycles m before.unit.log now.unit.log before.unit.wrong now.unit.wrong
   pub answers : m.answers ≡ last_answers cycles
   pub between : m.under_way ≡ false
-  pub written : Appends before.out now.out (texts_from text 0 (map (outputs_of g) cycles))
-  pub faults : before.out_faults ≤ now.out_faults
+  pub written : Appends before.out.written now.out.written (texts_from text 0 (map (outputs_of g) cycles))
+  pub faults : before.out.faults ≤ now.out.faults
   pub kept : (rows : List (List ℤ)) → kept_before rows → kept_now (rows ++ map (outputs_of g) cycles)
 
 -- before the first cycle
@@ -40,10 +40,10 @@ up_to_first laws left text b kept m is = record {
   taken = [];
   cycles = [];
   rows = refl;
-  run = subst (λ (s : State). RunSoFar m.graph m.table [] [] s b.log b.log b.wrong b.wrong) (sym is) (laws.starts m.graph m.table b.log b.wrong);
+  run = subst (λ (s : State). RunSoFar m.graph m.table [] [] s b.unit.log b.unit.log b.unit.wrong b.unit.wrong) (sym is) (laws.starts m.graph m.table b.unit.log b.unit.wrong);
   answers = ap (λ (s : State). s.answers) is;
   between = ap (λ (s : State). s.under_way) is;
-  written = appends_nothing b.out;
+  written = appends_nothing b.out.written;
   faults = omega arith;
   kept = λ rows h. subst kept (sym (append-nil rows)) h;
 }
@@ -72,24 +72,24 @@ machine_stands g t left rest text b n kept_before kept_now m u outcome = record 
 }
 
 -- what a turn leaves of the graph, the table and the count of cycles
-turn_graph : (m n : State) (row : List ℤ) (e : CycleEnd) (b a : Moment) → Turn m n row e b.log a.log b.wrong a.wrong → n.graph ≡ m.graph
+turn_graph : (m n : State) (row : List ℤ) (e : CycleEnd) (b a : Moment) → Turn m n row e b.unit.log a.unit.log b.unit.wrong a.unit.wrong → n.graph ≡ m.graph
 turn_graph m n row end.Released b a h = ap (λ (s : State). s.graph) h.machine
 turn_graph m n row (end.Stopped op why) b a h = ap (λ (s : State). s.graph) h.machine
 turn_graph m n row (end.Refused i found wanted) b a h = ap (λ (s : State). s.graph) h.machine
 
-turn_table : (m n : State) (row : List ℤ) (e : CycleEnd) (b a : Moment) → Turn m n row e b.log a.log b.wrong a.wrong → n.table ≡ m.table
+turn_table : (m n : State) (row : List ℤ) (e : CycleEnd) (b a : Moment) → Turn m n row e b.unit.log a.unit.log b.unit.wrong a.unit.wrong → n.table ≡ m.table
 turn_table m n row end.Released b a h = ap (λ (s : State). s.table) h.machine
 turn_table m n row (end.Stopped op why) b a h = ap (λ (s : State). s.table) h.machine
 turn_table m n row (end.Refused i found wanted) b a h = ap (λ (s : State). s.table) h.machine
 
-turn_cycles : (m n : State) (row outs : List ℤ) (e : CycleEnd) (b a : Moment) → Turn m n row e b.log a.log b.wrong a.wrong
+turn_cycles : (m n : State) (row outs : List ℤ) (e : CycleEnd) (b a : Moment) → Turn m n row e b.unit.log a.unit.log b.unit.wrong a.unit.wrong
     → n.cycles ≡ m.cycles + length (row_if e outs)
 turn_cycles m n row outs end.Released b a h = ap (λ (s : State). s.cycles) h.machine
 turn_cycles m n row outs (end.Stopped op why) b a h = omega (arith, ap (λ (s : State). s.cycles) h.machine)
 turn_cycles m n row outs (end.Refused i found wanted) b a h = omega (arith, ap (λ (s : State). s.cycles) h.machine)
 
 -- the machine after one more cycle, whatever its end
-pub machine_on : (g : Lists) (t : Numbers) (left rest : RowsLeft) (text : ℕ → List ℤ → List ℕ) (b n a : Moment) (kept_before kept_now : List (List ℤ) → Type 0) (m o : State) (row : List ℤ) (e : CycleEnd) → (u : UpTo g t left rest text b n kept_before kept_now m) → Turn m o row e n.log a.log n.wrong a.wrong → o.under_way ≡ false →
+pub machine_on : (g : Lists) (t : Numbers) (left rest : RowsLeft) (text : ℕ → List ℤ → List ℕ) (b n a : Moment) (kept_before kept_now : List (List ℤ) → Type 0) (m o : State) (row : List ℤ) (e : CycleEnd) → (u : UpTo g t left rest text b n kept_before kept_now m) → Turn m o row e n.unit.log a.unit.log n.unit.wrong a.unit.wrong → o.under_way ≡ false →
     outcome_over g t 0
     (u.cycles ++ o.answers ∷ []) ≡ record { rows = map (outputs_of g) u.cycles ++ row_if e (outputs_of g o.answers); end = e } → MachineAfter g t
     (u.cycles ++ o.answers ∷ []) o
@@ -115,7 +115,7 @@ rows_on left rest now taken row all one =
 -- the text of a cycle's row, by the rows before it
 pub text_here : (g : Lists) (t : Numbers) (text : ℕ → List ℤ
     → List ℕ) (cycles : List (List Answer)) (taken : List
-    (List ℤ)) (m : State) (answers : List Answer) (e : CycleEnd) (b n : Moment) → RunSoFar g t taken cycles m b.log n.log b.wrong n.wrong →
+    (List ℤ)) (m : State) (answers : List Answer) (e : CycleEnd) (b n : Moment) → RunSoFar g t taken cycles m b.unit.log n.unit.log b.unit.wrong n.unit.wrong →
     texts_from text m.cycles (row_if e (outputs_of m.graph answers)) ≡ texts_from text (0 + length (map (outputs_of g) cycles))
     (row_if e (outputs_of g answers))
 text_here g t text cycles taken m answers e b n run =
@@ -126,13 +126,13 @@ text_here g t text cycles taken m answers e b n run =
 -- what is written after a cycle
 pub written_on : (g : Lists) (t : Numbers) (text : ℕ → List ℤ
     → List ℕ) (cycles : List (List Answer)) (taken : List
-    (List ℤ)) (m : State) (answers : List Answer) (e : CycleEnd) (b n a : Moment) → RunSoFar g t taken cycles m b.log n.log b.wrong n.wrong →
-    Appends b.out n.out (texts_from text 0 (map (outputs_of g) cycles)) → Appends n.out a.out
-    (texts_from text m.cycles (row_if e (outputs_of m.graph answers))) → Appends b.out a.out
+    (List ℤ)) (m : State) (answers : List Answer) (e : CycleEnd) (b n a : Moment) → RunSoFar g t taken cycles m b.unit.log n.unit.log b.unit.wrong n.unit.wrong →
+    Appends b.out.written n.out.written (texts_from text 0 (map (outputs_of g) cycles)) → Appends n.out.written a.out.written
+    (texts_from text m.cycles (row_if e (outputs_of m.graph answers))) → Appends b.out.written a.out.written
     (texts_from text 0 (map (outputs_of g) cycles ++ row_if e (outputs_of g answers)))
 written_on g t text cycles taken m answers e b n a run h k =
-    rows_written text b.out n.out a.out (map (outputs_of g) cycles) (row_if e (outputs_of g answers)) h
-    (subst (Appends n.out a.out) (text_here g t text cycles taken m answers e b n run) k)
+    rows_written text b.out.written n.out.written a.out.written (map (outputs_of g) cycles) (row_if e (outputs_of g answers)) h
+    (subst (Appends n.out.written a.out.written) (text_here g t text cycles taken m answers e b n run) k)
 
 -- what is kept after it
 pub kept_on : (g : Lists) (cycles : List (List Answer)) (m : State) (answers : List Answer) (e : CycleEnd) (kept_before kept_now kept_after : List (List ℤ)
@@ -149,19 +149,19 @@ kept_on g cycles m answers e kept_before kept_now kept_after graph h k rows b =
 pub up_to_next : RunLaws
     → (g : Lists) (t : Numbers) (left rest now : RowsLeft) (text : ℕ → List ℤ → List ℕ) (b n a : Moment) (kept_before kept_now kept_after : List (List ℤ)
     → Type 0) (m o : State) (row : List ℤ) (e : CycleEnd) → UpTo g t left rest text b n kept_before kept_now m → e ≡ end.Released →
-    rest ≡ record now { rows = row ∷ now.rows } → Turn m o row e n.log a.log n.wrong a.wrong → o.under_way ≡ false → Appends n.out a.out
-    (texts_from text m.cycles (row_if e (outputs_of m.graph o.answers))) → n.out_faults ≤ a.out_faults →
+    rest ≡ record now { rows = row ∷ now.rows } → Turn m o row e n.unit.log a.unit.log n.unit.wrong a.unit.wrong → o.under_way ≡ false → Appends n.out.written a.out.written
+    (texts_from text m.cycles (row_if e (outputs_of m.graph o.answers))) → n.out.faults ≤ a.out.faults →
     ((rows : List (List ℤ)) → kept_now rows → kept_after (rows ++ row_if e (outputs_of m.graph o.answers)))
     → UpTo g t left now text b a kept_before kept_after o
 up_to_next laws g t left rest now text b n a kept_before kept_now kept_after m o row end.Released u is one turn between written faults kept = record {
   taken = u.taken ++ row ∷ [];
   cycles = u.cycles ++ o.answers ∷ [];
   rows = rows_on left rest now u.taken row u.rows one;
-  run = laws.goes_on g t u.taken u.cycles m o row b.log n.log a.log b.wrong n.wrong a.wrong u.run turn;
+  run = laws.goes_on g t u.taken u.cycles m o row b.unit.log n.unit.log a.unit.log b.unit.wrong n.unit.wrong a.unit.wrong u.run turn;
   answers = sym (last_is u.cycles o.answers);
   between = between;
   written =
-      subst (λ outs. Appends b.out a.out (texts_from text 0 outs)) (sym (map_more (outputs_of g) u.cycles o.answers))
+      subst (λ outs. Appends b.out.written a.out.written (texts_from text 0 outs)) (sym (map_more (outputs_of g) u.cycles o.answers))
       (written_on g t text u.cycles u.taken m o.answers end.Released b n a u.run u.written written);
   faults = omega (arith, u.faults, faults);
   kept = λ rows h.

@@ -1,14 +1,11 @@
--- Moments: what the unit and the sink of the output tell before and after a run.
-use Rattle.std.specs.Prelude.{ℕ, List, Option}
-use Rattle.coded_unit.specs.Log.{Entry}
+-- Moments: what is seen of the unit and of the sink of the output, before and after a run.
+use Rattle.coded_unit.specs.Seen.{UnitSeen}
+use Rattle.vcp_outside.specs.Seen.{SinkSeen}
 
--- What they tell at one moment: the unit's log and its count of wrong answers, and what was written to the sink with its
--- count of faults. The log and the bytes are None where they aren't told.
+-- what a run works on, at one moment
 pub record Moment : Type 0 where
-  pub log : Option (List Entry)
-  pub wrong : ℕ
-  pub out : Option (List ℕ)
-  pub out_faults : ℕ
+  pub unit : UnitSeen
+  pub out : SinkSeen
 
-abbrev pub moment : Option (List Entry) → ℕ → Option (List ℕ) → ℕ → Moment
-moment log wrong out out_faults = record { log = log; wrong = wrong; out = out; out_faults = out_faults }
+abbrev pub moment : UnitSeen → SinkSeen → Moment
+moment unit out = record { unit = unit; out = out }

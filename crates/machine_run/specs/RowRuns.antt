@@ -34,7 +34,7 @@ texts_from text n (row ∷ rows) = text n row ++ texts_from text (suc n) rows
 abbrev pub EarlierWritten : Lists → (ℕ → List ℤ → List ℕ) → List (List Answer) → Moment → Moment → Type 0
 EarlierWritten g text cycles before after =
     (earlier : List (List Answer)) (last : List Answer) → cycles ≡ earlier ++ last ∷ [] →
-    (more : List ℕ) × Appends before.out after.out (texts_from text 0 (map (outputs_of g) earlier) ++ more)
+    (more : List ℕ) × Appends before.out.written after.out.written (texts_from text 0 (map (outputs_of g) earlier) ++ more)
 
 -- a run came to its end on these rows: a cycle that wasn't released, or the last row
 pub record CameToEnd (g : Lists) (t : Numbers) (rows : List (List ℤ)) (cycles : List (List Answer)) (e : CycleEnd) : Type 0 where
@@ -45,15 +45,15 @@ pub record CameToEnd (g : Lists) (t : Numbers) (rows : List (List ℤ)) (cycles 
 -- for its rows was written; where a row is refused that is behind the others, too. Where writing failed, a part of it was.
 abbrev pub EndsSo : Lists → Numbers → RowsLeft → (ℕ → List ℤ → List ℕ) → List (List Answer) → Moment → Moment → Result CycleEnd RunFault → Type 0
 EndsSo g t left text cycles before after (Ok e) =
-    CameToEnd g t left.rows cycles e × (e ≡ end.Released → left.refusal ≡ None) × Appends before.out after.out
+    CameToEnd g t left.rows cycles e × (e ≡ end.Released → left.refusal ≡ None) × Appends before.out.written after.out.written
     (texts_from text 0 (outcome_over g t 0 cycles).rows)
 EndsSo g t left text cycles before after (Err (fault.Rows f)) =
-    CameToEnd g t left.rows cycles end.Released × (left.refusal ≡ Some f) × Appends before.out after.out (texts_from text 0 (outcome_over g t 0 cycles).rows)
+    CameToEnd g t left.rows cycles end.Released × (left.refusal ≡ Some f) × Appends before.out.written after.out.written (texts_from text 0 (outcome_over g t 0 cycles).rows)
 EndsSo g t left text cycles before after (Err fault.Write) =
-    Rose before.out_faults after.out_faults × AppendsPart before.out after.out
+    Rose before.out.faults after.out.faults × AppendsPart before.out.written after.out.written
     (texts_from text 0 (outcome_over g t 0 cycles).rows) × EarlierWritten g text cycles before after
 EndsSo g t left text cycles before after (Err fault.Memory) =
-    Appends before.out after.out (texts_from text 0 (outcome_over g t 0 cycles).rows)
+    Appends before.out.written after.out.written (texts_from text 0 (outcome_over g t 0 cycles).rows)
 
 -- an outcome is a front of that of the graph's run on plain integers over these rows
 pub record IsFront (g : Lists) (rows : List (List ℤ)) (o : Outcome) : Type 0 where
@@ -74,8 +74,8 @@ Follows g rows o (Err fault.Memory) = IsFront g rows o
 pub record RunsRows (g : Lists) (t : Numbers) (left : RowsLeft) (text : ℕ → List ℤ → List ℕ) (before after : Moment)
     (result : Result CycleEnd RunFault) : Type 0 where
   pub cycles : List (List Answer)
-  pub carried : Carried (calls_over g t 0 (initial_words g t.seed) left.rows cycles) before.log after.log before.wrong after.wrong
+  pub carried : Carried (calls_over g t 0 (initial_words g t.seed) left.rows cycles) before.unit.log after.unit.log before.unit.wrong after.unit.wrong
   pub some : SomeCycles g t 0 left.rows cycles
   pub ends : EndsSo g t left text cycles before after result
   pub given_up : OnErr result ((outcome_over g t 0 cycles).end ≡ end.Released)
-  pub follows : after.wrong ≡ before.wrong → before.wrong < 2 ^ 64 - 1 → Follows g left.rows (outcome_over g t 0 cycles) result
+  pub follows : after.unit.wrong ≡ before.unit.wrong → before.unit.wrong < 2 ^ 64 - 1 → Follows g left.rows (outcome_over g t 0 cycles) result

@@ -1,7 +1,7 @@
 //! What is done with the outputs of a released cycle.
 
 ghost use Rattle.std.specs.Prelude.{ℕ, ℤ, List, [], ◌∷◌, ◌++◌, OnOk};
-ghost use Rattle.vcp_outside.specs.Written.{Writes};
+ghost use Rattle.vcp_outside.specs.Written.{WritesTo};
 
 use vcp_base::Row;
 use vcp_outside::{Failed, Sink};
@@ -16,6 +16,6 @@ pub trait ReleasedRows {
 
     /// Takes the outputs of a cycle, which is counted from 0. After `Failed` a part of its text is written.
     fn take<O: Sink>(&mut self, out: &mut O, cycle: u32, outputs: &Row) -> Result<(), Failed>
-        ensures writes { Writes (O.written out.old) (O.written out.new) (O.faults out.old) (O.faults out.new) (text cycle outputs.now) result }
+        ensures writes { WritesTo (O.seen out.old) (O.seen out.new) (text cycle outputs.now) result }
         ensures keeps { (rows : List (List ℤ)) → Keeps self.old rows → OnOk result (Keeps self.new (rows ++ outputs.now ∷ [])) };
 }

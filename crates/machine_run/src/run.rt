@@ -4,7 +4,7 @@ ghost use Rattle.std.specs.Prelude.{◌≡◌, ◌<◌, ◌≤◌, ◌++◌, ℕ
 ghost use Rattle.vcp_base.specs.Limits.{most_cycles};
 ghost use Rattle.vcp_base.specs.declared.kind.StopKind.{StopKind};
 ghost use Rattle.vcp_outside.specs.Counts.{Rose};
-ghost use Rattle.vcp_outside.specs.Written.{Writes};
+ghost use Rattle.vcp_outside.specs.Written.{WritesTo};
 ghost use Rattle.coded_machine.specs.CycleEnds.{Cause, outputs_of};
 ghost use Rattle.coded_machine.specs.Runs.{Turn, row_if};
 ghost use Rattle.coded_machine.specs.State.{fresh};
@@ -39,10 +39,10 @@ fn run_cycle<U: Unit, O: Sink, R: ReleasedRows>(
     requires between { machine.old.under_way ≡ false }
     requires few { machine.old.cycles < most_cycles }
     requires width { length outputs.old ≡ length machine.old.graph.outputs }
-    ensures turn { Turn machine.old machine.new inputs.now (cycle_end result) (U.log unit.old) (U.log unit.new) (U.wrong unit.old) (U.wrong unit.new) }
+    ensures turn { Turn machine.old machine.new inputs.now (cycle_end result) (U.seen unit.old).log (U.seen unit.new).log (U.seen unit.old).wrong (U.seen unit.new).wrong }
     ensures cause { Cause machine.old.graph machine.old.table machine.old.cycles machine.new.answers (cycle_end result) }
     ensures between { machine.new.under_way ≡ false }
-    ensures written { Writes (O.written out.old) (O.written out.new) (O.faults out.old) (O.faults out.new)
+    ensures written { WritesTo (O.seen out.old) (O.seen out.new)
         (texts_from R.text machine.old.cycles (row_if (cycle_end result) (outputs_of machine.old.graph machine.new.answers))) result }
     ensures kept { (rows : List (List ℤ)) → R.Keeps released.old rows
         → OnOk result (R.Keeps released.new (rows ++ row_if (cycle_end result) (outputs_of machine.old.graph machine.new.answers))) }
@@ -77,16 +77,16 @@ pub fn run_rows<U: Unit, O: Sink, R: ReleasedRows>(
     requires few { length rows.old.rows ≤ most_cycles }
     requires width { length rows.old.types ≡ length machine.old.graph.inputs }
     ensures runs { RunsRows machine.old.graph machine.old.table rows.old R.text
-        (moment (U.log unit.old) (U.wrong unit.old) (O.written out.old) (O.faults out.old))
-        (moment (U.log unit.new) (U.wrong unit.new) (O.written out.new) (O.faults out.new)) result }
+        (moment (U.seen unit.old) (O.seen out.old))
+        (moment (U.seen unit.new) (O.seen out.new)) result }
     ensures leaves { Leaves machine.old.graph machine.old.table rows.old R.text
-        (moment (U.log unit.old) (U.wrong unit.old) (O.written out.old) (O.faults out.old))
-        (moment (U.log unit.new) (U.wrong unit.new) (O.written out.new) (O.faults out.new))
+        (moment (U.seen unit.old) (O.seen out.old))
+        (moment (U.seen unit.new) (O.seen out.new))
         (R.Keeps released.old) (R.Keeps released.new) machine.new result }
-    ensures later { O.faults out.old ≤ O.faults out.new }
-    ensures stopped { (k : ℕ) (why : StopKind) → result ≡ Ok (end.Stopped k why) → GrowsToStop (U.log unit.old) (U.log unit.new) }
+    ensures later { (O.seen out.old).faults ≤ (O.seen out.new).faults }
+    ensures stopped { (k : ℕ) (why : StopKind) → result ≡ Ok (end.Stopped k why) → GrowsToStop (U.seen unit.old).log (U.seen unit.new).log }
     ensures placed { (k : ℕ) (why : StopKind) → result ≡ Ok (end.Stopped k why) → k < length machine.old.graph.operations }
-    ensures refused { (i found expected : ℕ) → result ≡ Ok (end.Refused i found expected) → Rose (U.wrong unit.old) (U.wrong unit.new) }
+    ensures refused { (i found expected : ℕ) → result ≡ Ok (end.Refused i found expected) → Rose (U.seen unit.old).wrong (U.seen unit.new).wrong }
     ensures numbered { (i found expected : ℕ) → result ≡ Ok (end.Refused i found expected) → i < length machine.old.graph.outputs }
 {
     // What the laws below and these calls ensure is known of each cycle.

@@ -87,6 +87,46 @@ fn whole_files_are_read_up_to_a_limit(rt: HostRuntime) -> Result<(), Fail> {
     all_read(rt.alloc(), READS)
 }
 
+/// Numbers of calls that are made to fail, and how five calls are answered: a file of three bytes is
+/// begun, two reads have room for two bytes and for eight, a name that is lacking is begun, and one
+/// more read has room for eight.
+const FAILING: &str = "\
+0 => Err(Failed) Ok(0) Ok(0) Err(Failed) Ok(0)
+1 => Ok(()) Err(Failed) Ok(3) Err(Failed) Ok(0)
+2 => Ok(()) Ok(2) Err(Failed) Err(Failed) Ok(0)
+3 => Ok(()) Ok(2) Ok(1) Err(Failed) Ok(0)
+4 => Ok(()) Ok(2) Ok(1) Err(Failed) Err(Failed)
+5 => Ok(()) Ok(2) Ok(1) Err(Failed) Ok(0)
+";
+
+/// How the five calls are answered where the call of a number is made to fail.
+fn answered(alloc: Global, number: u32) -> Result<String, Fail> {
+    let mut files = MemFiles::new(alloc);
+    files.put(b"a", b"abc")?;
+    files.fail_call(number as u64)?;
+    let mut buf = [0u8; 8];
+    let begun = files.begin(b"a");
+    let some = files.read(&mut buf[..2]);
+    let rest = files.read(&mut buf);
+    let lacking = files.begin(b"c");
+    let end = files.read(&mut buf);
+    Ok(format!(in alloc; "{begun:?} {some:?} {rest:?} {lacking:?} {end:?}")?)
+}
+
+/// Fails with the first of these numbers at which the calls are answered otherwise.
+fn all_answered(alloc: Global, rows: &str) -> Result<(), Fail> {
+    for row in rows.lines() {
+        let (number, wanted) = cells(row);
+        same(&answered(alloc, u32_of(number)?)?, wanted)?;
+    }
+    Ok(())
+}
+
+#[test]
+fn calls_that_are_made_to_fail_fail(rt: HostRuntime) -> Result<(), Fail> {
+    all_answered(rt.alloc(), FAILING)
+}
+
 #[test]
 fn a_file_is_read_with_a_counter(rt: HostRuntime) -> Result<(), Fail> {
     let mut files = three_files(rt.alloc())?;
@@ -117,13 +157,7 @@ struct Breaking {
 }
 
 impl Files for Breaking {
-    ghost held = { λ _. None };
-
-    ghost rest = { λ _. None };
-
-    ghost faults = { λ s. s.faults };
-
-    ghost broken = { λ s. s.faults };
+    ghost seen = { λ s. record { held = None; rest = None; faults = s.faults; broken = s.faults } };
 
     fn begin(&mut self, _name: &[u8]) -> Result<(), Failed> {
         Ok(())

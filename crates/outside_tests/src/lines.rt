@@ -18,9 +18,7 @@ struct Counted {
 }
 
 impl Sink for Counted {
-    ghost written = { λ _. None };
-
-    ghost faults = { λ s. s.faults };
+    ghost seen = { λ s. record { written = None; faults = s.faults } };
 
     fn write(&mut self, piece: &[u8]) -> Result<usize, Failed> {
         let call = self.calls;

@@ -37,6 +37,41 @@ fn pieces_are_written_up_to_the_room(rt: HostRuntime) -> Result<(), Fail> {
     all_left(rt.alloc(), PIECES)
 }
 
+/// Numbers of writes that are made to fail, and how no bytes and two pieces of two bytes are answered,
+/// with the bytes that are left.
+const FAILING: &str = "\
+0 => Ok(0) Err(Failed) Ok(2) [cd]
+1 => Ok(0) Ok(2) Err(Failed) [ab]
+2 => Ok(0) Ok(2) Ok(2) [abcd]
+";
+
+/// How they are answered where the write of a number is made to fail.
+fn answered(alloc: Global, number: u32) -> Result<String, Fail> {
+    let mut sink = MemSink::new(alloc, 5)?;
+    sink.fail_call(number as u64)?;
+    let nothing = sink.write(b"");
+    let first = sink.write(b"ab");
+    let second = sink.write(b"cd");
+    Ok(format!(in alloc;
+        "{nothing:?} {first:?} {second:?} [{}]",
+        from_utf8(sink.bytes())?
+    )?)
+}
+
+/// Fails with the first of these numbers at which they are answered otherwise.
+fn all_answered(alloc: Global, rows: &str) -> Result<(), Fail> {
+    for row in rows.lines() {
+        let (number, wanted) = cells(row);
+        same(&answered(alloc, u32_of(number)?)?, wanted)?;
+    }
+    Ok(())
+}
+
+#[test]
+fn writes_that_are_made_to_fail_write_nothing(rt: HostRuntime) -> Result<(), Fail> {
+    all_answered(rt.alloc(), FAILING)
+}
+
 #[test]
 fn the_host_is_written_to_and_flushed(rt: HostRuntime) -> Result<(), Fail> {
     // A writer with a buffer, which only a flush empties.

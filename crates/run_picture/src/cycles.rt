@@ -1,7 +1,7 @@
 //! The style, the cycles, the names and the end of a picture.
 
 ghost use Rattle.std.specs.Prelude.{◌≡◌, ◌<◌, ◌≤◌, length, flat_map};
-ghost use Rattle.gathered_line.specs.Gathering.{Gathers};
+ghost use Rattle.gathered_line.specs.Gathering.{GathersTo};
 ghost use Rattle.svg_text.specs.Elements.{element_text};
 ghost use Rattle.vcp_base.specs.Limits.{most_cycles};
 ghost use Rattle.run_picture.specs.Elements.{style, begin_element, cycle_element, cycle_elements, cycles_elements, name_element, names_elements};
@@ -20,7 +20,7 @@ const STYLE: &[u8] =
 
 /// Goes on with the rules of style.
 pub(crate) fn then_style<O: Sink>(line: &mut Line, out: &mut O)
-    ensures { Gathers (O.written out.old) (O.written out.new) (O.faults out.old) (O.faults out.new) line.old line.new (element_text style) }
+    ensures { GathersTo (O.seen out.old) (O.seen out.new) line.old line.new (element_text style) }
 {
     then_element(line, out, Tag::Style, &[], &[Piece::Bytes(STYLE)]);
 }
@@ -28,7 +28,7 @@ pub(crate) fn then_style<O: Sink>(line: &mut Line, out: &mut O)
 // Draws the begin of a cycle.
 fn then_begin<O: Sink>(line: &mut Line, out: &mut O, layout: Layout, columns: u32, cycle: u32)
     requires { cycle < most_cycles }
-    ensures { Gathers (O.written out.old) (O.written out.new) (O.faults out.old) (O.faults out.new) line.old line.new
+    ensures { GathersTo (O.seen out.old) (O.seen out.new) line.old line.new
         (element_text (begin_element layout columns cycle)) }
 {
     let x = start(layout, cycle);
@@ -56,7 +56,7 @@ fn then_number_of_cycle<O: Sink>(
     cycle: u32,
 )
     requires { cycle < most_cycles }
-    ensures { Gathers (O.written out.old) (O.written out.new) (O.faults out.old) (O.faults out.new) line.old line.new
+    ensures { GathersTo (O.seen out.old) (O.seen out.new) line.old line.new
         (element_text (cycle_element layout columns cycle)) }
 {
     then_element(
@@ -74,7 +74,7 @@ fn then_number_of_cycle<O: Sink>(
 // Draws a cycle: its begin, and its number.
 fn then_cycle<O: Sink>(line: &mut Line, out: &mut O, layout: Layout, columns: u32, cycle: u32)
     requires { cycle < most_cycles }
-    ensures { Gathers (O.written out.old) (O.written out.new) (O.faults out.old) (O.faults out.new) line.old line.new
+    ensures { GathersTo (O.seen out.old) (O.seen out.new) line.old line.new
         (flat_map element_text (cycle_elements layout columns cycle)) }
 {
     then_begin(line, out, layout, columns, cycle);
@@ -83,7 +83,7 @@ fn then_cycle<O: Sink>(line: &mut Line, out: &mut O, layout: Layout, columns: u3
 
 /// Draws the cycles of a run.
 pub(crate) fn then_cycles<O: Sink>(line: &mut Line, out: &mut O, layout: Layout, run: &Run)
-    ensures { Gathers (O.written out.old) (O.written out.new) (O.faults out.old) (O.faults out.new) line.old line.new
+    ensures { GathersTo (O.seen out.old) (O.seen out.new) line.old line.new
         (flat_map element_text (cycles_elements layout run.now (length run.now.rows))) }
 {
     let columns = run.columns();
@@ -95,7 +95,7 @@ pub(crate) fn then_cycles<O: Sink>(line: &mut Line, out: &mut O, layout: Layout,
 // Writes the name of a column.
 fn then_name<O: Sink>(line: &mut Line, out: &mut O, run: &Run, column: u32)
     requires { column < length run.now.names }
-    ensures { Gathers (O.written out.old) (O.written out.new) (O.faults out.old) (O.faults out.new) line.old line.new
+    ensures { GathersTo (O.seen out.old) (O.seen out.new) line.old line.new
         (element_text (name_element run.now column)) }
 {
     then_element(
@@ -113,7 +113,7 @@ fn then_name<O: Sink>(line: &mut Line, out: &mut O, run: &Run, column: u32)
 
 /// Writes the names of the columns.
 pub(crate) fn then_names<O: Sink>(line: &mut Line, out: &mut O, run: &Run)
-    ensures { Gathers (O.written out.old) (O.written out.new) (O.faults out.old) (O.faults out.new) line.old line.new
+    ensures { GathersTo (O.seen out.old) (O.seen out.new) line.old line.new
         (flat_map element_text (names_elements run.now (length run.now.names))) }
 {
     'columns: for column in 0..run.columns() {
@@ -142,7 +142,7 @@ fn then_mark<O: Sink>(
     ending: &Ending,
 )
     requires { cycles ≤ most_cycles }
-    ensures { Gathers (O.written out.old) (O.written out.new) (O.faults out.old) (O.faults out.new) line.old line.new
+    ensures { GathersTo (O.seen out.old) (O.seen out.new) line.old line.new
         (element_text (mark_element layout columns cycles ending.now)) }
 {
     let x = start(layout, cycles);
@@ -170,7 +170,7 @@ fn then_last_line<O: Sink>(
     ending: &Ending,
 )
     requires { cycles ≤ most_cycles }
-    ensures { Gathers (O.written out.old) (O.written out.new) (O.faults out.old) (O.faults out.new) line.old line.new
+    ensures { GathersTo (O.seen out.old) (O.seen out.new) line.old line.new
         (element_text (ending_element layout cycles ending.now)) }
 {
     then_element(
@@ -187,7 +187,7 @@ fn then_last_line<O: Sink>(
 
 /// Draws the end of a run.
 pub(crate) fn then_ending<O: Sink>(line: &mut Line, out: &mut O, layout: Layout, run: &Run)
-    ensures { Gathers (O.written out.old) (O.written out.new) (O.faults out.old) (O.faults out.new) line.old line.new
+    ensures { GathersTo (O.seen out.old) (O.seen out.new) line.old line.new
         (flat_map element_text (ending_elements layout (length run.now.names) (length run.now.rows) run.now.ending)) }
 {
     then_mark(line, out, layout, run.columns(), run.cycles(), run.ending());

@@ -1,7 +1,7 @@
 //! The timing diagram of a run.
 
 ghost use Rattle.std.specs.Prelude.{◌≡◌, ℕ, List};
-ghost use Rattle.vcp_outside.specs.Written.{Writes};
+ghost use Rattle.vcp_outside.specs.Written.{WritesTo};
 ghost use Rattle.run_picture.specs.Elements.{waves_text, IsPictureOf};
 
 use crate::cycles::{then_cycles, then_ending, then_names, then_style};
@@ -13,7 +13,7 @@ use vcp_outside::{Failed, Sink};
 
 // Writes the timing diagram of a run in a layout.
 fn write_in<O: Sink>(out: &mut O, layout: Layout, run: &Run) -> Result<(), Failed>
-    ensures { Writes (O.written out.old) (O.written out.new) (O.faults out.old) (O.faults out.new) (waves_text layout run.now) result }
+    ensures { WritesTo (O.seen out.old) (O.seen out.new) (waves_text layout run.now) result }
 {
     let width = start(layout, run.cycles()) + layout.room as u64;
     let height = top(run.columns()) + 24;
@@ -31,7 +31,7 @@ fn write_in<O: Sink>(out: &mut O, layout: Layout, run: &Run) -> Result<(), Faile
 /// After `Failed` a part of the picture is written.
 pub fn write_waves<O: Sink>(out: &mut O, run: &Run) -> Result<(), Failed>
     ensures { (text : List ℕ) × IsPictureOf run.now text
-        × Writes (O.written out.old) (O.written out.new) (O.faults out.old) (O.faults out.new) text result }
+        × WritesTo (O.seen out.old) (O.seen out.new) text result }
 {
     write_in(out, layout_for(run), run)
 }

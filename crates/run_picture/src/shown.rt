@@ -1,7 +1,7 @@
 //! The values of a run, drawn in lanes.
 
 ghost use Rattle.std.specs.Prelude.{◌≡◌, ◌<◌, ◌≤◌, ◌+◌, length, flat_map, Bool};
-ghost use Rattle.gathered_line.specs.Gathering.{Gathers};
+ghost use Rattle.gathered_line.specs.Gathering.{GathersTo};
 ghost use Rattle.svg_text.specs.Elements.{element_text};
 ghost use Rattle.vcp_base.specs.Limits.{most_cycles};
 ghost use Rattle.run_picture.specs.Drawn.{is_bit as is_bit_of, bits_below, is_level as is_level_of, changes as changes_of, shown as shown_of, lane, lanes};
@@ -47,7 +47,7 @@ fn height(shown: Shown) -> u64
 // Draws a level.
 fn then_level<O: Sink>(line: &mut Line, out: &mut O, layout: Layout, shown: Shown)
     requires { shown.cycle < most_cycles }
-    ensures { Gathers (O.written out.old) (O.written out.new) (O.faults out.old) (O.faults out.new) line.old line.new
+    ensures { GathersTo (O.seen out.old) (O.seen out.new) line.old line.new
         (element_text (level_element layout shown)) }
 {
     let height = height(shown);
@@ -71,7 +71,7 @@ fn then_level<O: Sink>(line: &mut Line, out: &mut O, layout: Layout, shown: Show
 // Draws a number.
 fn then_number<O: Sink>(line: &mut Line, out: &mut O, layout: Layout, shown: Shown)
     requires { shown.cycle < most_cycles }
-    ensures { Gathers (O.written out.old) (O.written out.new) (O.faults out.old) (O.faults out.new) line.old line.new
+    ensures { GathersTo (O.seen out.old) (O.seen out.new) line.old line.new
         (element_text (number_element layout shown)) }
 {
     then_element(
@@ -94,7 +94,7 @@ fn then_number<O: Sink>(line: &mut Line, out: &mut O, layout: Layout, shown: Sho
 // Draws a value.
 fn then_value<O: Sink>(line: &mut Line, out: &mut O, layout: Layout, shown: Shown)
     requires { shown.cycle < most_cycles }
-    ensures { Gathers (O.written out.old) (O.written out.new) (O.faults out.old) (O.faults out.new) line.old line.new
+    ensures { GathersTo (O.seen out.old) (O.seen out.new) line.old line.new
         (element_text (value_element layout shown)) }
 {
     if shown.is_level {
@@ -107,7 +107,7 @@ fn then_value<O: Sink>(line: &mut Line, out: &mut O, layout: Layout, shown: Show
 // Draws the edge before a value.
 fn then_edge<O: Sink>(line: &mut Line, out: &mut O, layout: Layout, shown: Shown)
     requires { shown.cycle < most_cycles }
-    ensures { Gathers (O.written out.old) (O.written out.new) (O.faults out.old) (O.faults out.new) line.old line.new
+    ensures { GathersTo (O.seen out.old) (O.seen out.new) line.old line.new
         (element_text (edge_element layout shown)) }
 {
     let x = start(layout, shown.cycle);
@@ -129,7 +129,7 @@ fn then_edge<O: Sink>(line: &mut Line, out: &mut O, layout: Layout, shown: Shown
 // Writes a value.
 fn then_label<O: Sink>(line: &mut Line, out: &mut O, layout: Layout, shown: Shown)
     requires { shown.cycle < most_cycles }
-    ensures { Gathers (O.written out.old) (O.written out.new) (O.faults out.old) (O.faults out.new) line.old line.new
+    ensures { GathersTo (O.seen out.old) (O.seen out.new) line.old line.new
         (element_text (label_element layout shown)) }
 {
     then_element(
@@ -147,7 +147,7 @@ fn then_label<O: Sink>(line: &mut Line, out: &mut O, layout: Layout, shown: Show
 // Draws the edge before a value, where it changes.
 fn then_edges<O: Sink>(line: &mut Line, out: &mut O, layout: Layout, shown: Shown)
     requires { shown.cycle < most_cycles }
-    ensures { Gathers (O.written out.old) (O.written out.new) (O.faults out.old) (O.faults out.new) line.old line.new
+    ensures { GathersTo (O.seen out.old) (O.seen out.new) line.old line.new
         (flat_map element_text (edge_elements layout shown)) }
 {
     if shown.changes {
@@ -158,7 +158,7 @@ fn then_edges<O: Sink>(line: &mut Line, out: &mut O, layout: Layout, shown: Show
 // Writes a number, where it begins and where it changes.
 fn then_labels<O: Sink>(line: &mut Line, out: &mut O, layout: Layout, shown: Shown)
     requires { shown.cycle < most_cycles }
-    ensures { Gathers (O.written out.old) (O.written out.new) (O.faults out.old) (O.faults out.new) line.old line.new
+    ensures { GathersTo (O.seen out.old) (O.seen out.new) line.old line.new
         (flat_map element_text (label_elements layout shown)) }
 {
     if !shown.is_level && (shown.cycle == 0 || shown.changes) {
@@ -169,7 +169,7 @@ fn then_labels<O: Sink>(line: &mut Line, out: &mut O, layout: Layout, shown: Sho
 // Draws a value, its edge and its label.
 fn then_shown<O: Sink>(line: &mut Line, out: &mut O, layout: Layout, shown: Shown)
     requires { shown.cycle < most_cycles }
-    ensures { Gathers (O.written out.old) (O.written out.new) (O.faults out.old) (O.faults out.new) line.old line.new
+    ensures { GathersTo (O.seen out.old) (O.seen out.new) line.old line.new
         (flat_map element_text (shown_elements layout shown)) }
 {
     then_value(line, out, layout, shown);
@@ -224,7 +224,7 @@ fn shown_in(run: &Run, column: u32, cycle: u32, is_level: bool) -> Shown
 // Draws the values of a column.
 fn then_lane<O: Sink>(line: &mut Line, out: &mut O, layout: Layout, run: &Run, column: u32)
     requires { column < length run.now.names }
-    ensures { Gathers (O.written out.old) (O.written out.new) (O.faults out.old) (O.faults out.new) line.old line.new
+    ensures { GathersTo (O.seen out.old) (O.seen out.new) line.old line.new
         (flat_map element_text (flat_map (shown_elements layout) (lane run.now column (length run.now.rows)))) }
 {
     let is_level = is_level(run, column);
@@ -235,7 +235,7 @@ fn then_lane<O: Sink>(line: &mut Line, out: &mut O, layout: Layout, run: &Run, c
 
 /// Draws the values of a run, column by column.
 pub(crate) fn then_lanes<O: Sink>(line: &mut Line, out: &mut O, layout: Layout, run: &Run)
-    ensures { Gathers (O.written out.old) (O.written out.new) (O.faults out.old) (O.faults out.new) line.old line.new
+    ensures { GathersTo (O.seen out.old) (O.seen out.new) line.old line.new
         (flat_map element_text (flat_map (shown_elements layout) (lanes run.now))) }
 {
     'columns: for column in 0..run.columns() {

@@ -2,9 +2,9 @@
 
 ghost use Rattle.std.specs.Prelude.{◌<◌, IfSome, map, flat_map, length, slice_get};
 ghost use Rattle.vcp_base.specs.Stops.{told_stop, told_turn};
-ghost use Rattle.vcp_outside.specs.Written.{Writes};
+ghost use Rattle.vcp_outside.specs.Written.{WritesTo};
 ghost use Rattle.op_graph.specs.Lists.{turns_of};
-ghost use Rattle.gathered_line.specs.Gathering.{Gathers};
+ghost use Rattle.gathered_line.specs.Gathering.{GathersTo};
 ghost use Rattle.run_report.specs.Lines.{stop_text, turn_text};
 
 use crate::lines::{begin_stop, then_turn};
@@ -18,7 +18,7 @@ use vcp_outside::{Failed, Sink};
 pub fn then_turns_round<O: Sink>(line: &mut Line, out: &mut O, graph: &Graph, op: u32)
     requires { op < length graph.now.operations }
     ensures { IfSome (slice_get graph.now.operations op)
-        (λ o. Gathers (O.written out.old) (O.written out.new) (O.faults out.old) (O.faults out.new) line.old line.new
+        (λ o. GathersTo (O.seen out.old) (O.seen out.new) line.old line.new
         (flat_map turn_text (map (told_turn graph.now.names) (turns_of graph.now o.turn)))) }
 {
     let mut turns = graph.turns(op);
@@ -39,7 +39,7 @@ pub fn graph_stop_line<O: Sink>(
 ) -> Result<(), Failed>
     requires { op < length graph.now.operations }
     ensures { IfSome (slice_get graph.now.operations op)
-        (λ o. Writes (O.written out.old) (O.written out.new) (O.faults out.old) (O.faults out.new)
+        (λ o. WritesTo (O.seen out.old) (O.seen out.new)
         (stop_text cycle (told_stop graph.now.names kind o.spot (turns_of graph.now o.turn))) result) }
 {
     let mut line = begin_stop(out, cycle, kind, graph.operation(op).spot);

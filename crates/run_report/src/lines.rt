@@ -3,8 +3,8 @@
 
 ghost use Rattle.std.specs.Prelude.{map, flat_map};
 ghost use Rattle.vcp_base.specs.Stops.{told_stop, told_turn};
-ghost use Rattle.vcp_outside.specs.Written.{Writes};
-ghost use Rattle.gathered_line.specs.Gathering.{IsGathered, Gathers};
+ghost use Rattle.vcp_outside.specs.Written.{WritesTo};
+ghost use Rattle.gathered_line.specs.Gathering.{IsGathered, GathersTo};
 ghost use Rattle.run_report.specs.Lines.{header_text, row_text, end_text, cause_text, stop_front, stop_text, refused_front, refused_text, place_text};
 ghost use Rattle.run_report.specs.Lines.{turn_text, AreNamed};
 
@@ -15,7 +15,7 @@ use vcp_outside::{Failed, Sink};
 /// Writes the header of a run: `cycle`, and the outputs' names as declared. After `Failed` a part of
 /// the line is written.
 pub fn header_line<O: Sink>(out: &mut O, names: &Columns) -> Result<(), Failed>
-    ensures { Writes (O.written out.old) (O.written out.new) (O.faults out.old) (O.faults out.new) (header_text (map (λ c. c.name) names.now)) result }
+    ensures { WritesTo (O.seen out.old) (O.seen out.new) (header_text (map (λ c. c.name) names.now)) result }
 {
     let mut line = Line::new();
     line.text(out, b"cycle");
@@ -29,7 +29,7 @@ pub fn header_line<O: Sink>(out: &mut O, names: &Columns) -> Result<(), Failed>
 /// Writes the values of the outputs in a cycle, which is counted from 0. After `Failed` a part of the
 /// line is written.
 pub fn row_line<O: Sink>(out: &mut O, cycle: u32, row: &Row) -> Result<(), Failed>
-    ensures { Writes (O.written out.old) (O.written out.new) (O.faults out.old) (O.faults out.new) (row_text cycle row.now) result }
+    ensures { WritesTo (O.seen out.old) (O.seen out.new) (row_text cycle row.now) result }
 {
     let mut line = begin(out, b"", cycle);
     'cells: for i in 0..row.len() {
@@ -42,14 +42,14 @@ pub fn row_line<O: Sink>(out: &mut O, cycle: u32, row: &Row) -> Result<(), Faile
 /// Writes the end of a run over all its rows, with their number. After `Failed` a part of the line is
 /// written.
 pub fn end_line<O: Sink>(out: &mut O, cycles: u32) -> Result<(), Failed>
-    ensures { Writes (O.written out.old) (O.written out.new) (O.faults out.old) (O.faults out.new) (end_text cycles) result }
+    ensures { WritesTo (O.seen out.old) (O.seen out.new) (end_text cycles) result }
 {
     begin(out, b"end ", cycles).end(out)
 }
 
 // Goes on with a place in a source.
 pub(crate) fn then_place<O: Sink>(line: &mut Line, out: &mut O, spot: Spot)
-    ensures { Gathers (O.written out.old) (O.written out.new) (O.faults out.old) (O.faults out.new) line.old line.new (place_text spot) }
+    ensures { GathersTo (O.seen out.old) (O.seen out.new) line.old line.new (place_text spot) }
 {
     line.count(out, spot.line as u64);
     line.text(out, b":");
@@ -58,7 +58,7 @@ pub(crate) fn then_place<O: Sink>(line: &mut Line, out: &mut O, spot: Spot)
 
 /// Goes on with why a run stopped, and the place in the source.
 pub fn then_cause<O: Sink>(line: &mut Line, out: &mut O, kind: StopKind, spot: Spot)
-    ensures { Gathers (O.written out.old) (O.written out.new) (O.faults out.old) (O.faults out.new) line.old line.new (cause_text kind spot) }
+    ensures { GathersTo (O.seen out.old) (O.seen out.new) line.old line.new (cause_text kind spot) }
 {
     line.text(out, stop_name(kind));
     line.text(out, b" ");
@@ -67,7 +67,7 @@ pub fn then_cause<O: Sink>(line: &mut Line, out: &mut O, kind: StopKind, spot: S
 
 // A line that tells a stop up to its turns.
 pub(crate) fn begin_stop<O: Sink>(out: &mut O, cycle: u32, kind: StopKind, spot: Spot) -> Line
-    ensures { IsGathered (O.written out.old) (O.written out.new) (O.faults out.old) (O.faults out.new) (stop_front cycle kind spot) result }
+    ensures { IsGathered (O.seen out.old).written (O.seen out.new).written (O.seen out.old).faults (O.seen out.new).faults (stop_front cycle kind spot) result }
 {
     let mut line = begin(out, b"stop ", cycle);
     line.text(out, b" ");
@@ -77,7 +77,7 @@ pub(crate) fn begin_stop<O: Sink>(out: &mut O, cycle: u32, kind: StopKind, spot:
 
 // Goes on with a turn: the name of its control variable, and that variable's value.
 pub(crate) fn then_turn<O: Sink>(line: &mut Line, out: &mut O, name: &Text, value: i64)
-    ensures { Gathers (O.written out.old) (O.written out.new) (O.faults out.old) (O.faults out.new) line.old line.new
+    ensures { GathersTo (O.seen out.old) (O.seen out.new) line.old line.new
         (turn_text (record { name = name.now; value = value })) }
 {
     line.text(out, b" ");
@@ -89,7 +89,7 @@ pub(crate) fn then_turn<O: Sink>(line: &mut Line, out: &mut O, name: &Text, valu
 // Goes on with the turns round a place, outermost first.
 fn then_turns<O: Sink>(line: &mut Line, out: &mut O, turns: &Turns, names: &Words)
     requires { AreNamed turns.now names.now }
-    ensures { Gathers (O.written out.old) (O.written out.new) (O.faults out.old) (O.faults out.new) line.old line.new
+    ensures { GathersTo (O.seen out.old) (O.seen out.new) line.old line.new
         (flat_map turn_text (map (told_turn names.now) turns.now)) }
 {
     'turns: for i in 0..turns.len() {
@@ -110,7 +110,7 @@ pub fn stop_line<O: Sink>(
     names: &Words,
 ) -> Result<(), Failed>
     requires { AreNamed turns.now names.now }
-    ensures { Writes (O.written out.old) (O.written out.new) (O.faults out.old) (O.faults out.new)
+    ensures { WritesTo (O.seen out.old) (O.seen out.new)
         (stop_text cycle (told_stop names.now kind spot turns.now)) result }
 {
     let mut line = begin_stop(out, cycle, kind, spot);
@@ -128,7 +128,7 @@ pub fn then_refused<O: Sink>(
     found: Residue,
     expected: Residue,
 )
-    ensures { Gathers (O.written out.old) (O.written out.new) (O.faults out.old) (O.faults out.new) line.old line.new
+    ensures { GathersTo (O.seen out.old) (O.seen out.new) line.old line.new
         (refused_front cycle name.now found expected) }
 {
     line.text(out, b"refused ");
@@ -150,7 +150,7 @@ pub fn refused_line<O: Sink>(
     found: Residue,
     expected: Residue,
 ) -> Result<(), Failed>
-    ensures { Writes (O.written out.old) (O.written out.new) (O.faults out.old) (O.faults out.new) (refused_text cycle name.now found expected) result }
+    ensures { WritesTo (O.seen out.old) (O.seen out.new) (refused_text cycle name.now found expected) result }
 {
     let mut line = Line::new();
     then_refused(&mut line, out, cycle, name, found, expected);

@@ -4,8 +4,8 @@
 ghost use Rattle.std.specs.Prelude.{◌≡◌, ◌<◌, ◌≤◌, ◌++◌, IfSome, length, slice_get, take, flat_map};
 ghost use Rattle.std.specs.Fmt.{signed_decimal};
 ghost use Rattle.vcp_base.specs.Limits.{most_cycles};
-ghost use Rattle.vcp_outside.specs.Written.{Writes};
-ghost use Rattle.gathered_line.specs.Gathering.{IsGathered, Gathers};
+ghost use Rattle.vcp_outside.specs.Written.{WritesTo};
+ghost use Rattle.gathered_line.specs.Gathering.{IsGathered, GathersTo};
 ghost use Rattle.run_report.specs.OperationLines.{shown_operands as shown_operands_of, number_cell, operands_text, own_text, operation_front, code_text};
 ghost use Rattle.run_report.specs.OperationLines.{source_text, list_text, parts_text, trace_text};
 
@@ -20,7 +20,7 @@ use vcp_outside::{Failed, Sink};
 
 // A line that begins with an operation's number and kind, and the types of its operands and its result.
 fn begin_operation<O: Sink>(out: &mut O, i: u32, op: &Op) -> Line
-    ensures { IsGathered (O.written out.old) (O.written out.new) (O.faults out.old) (O.faults out.new) (operation_front i op.now) result }
+    ensures { IsGathered (O.seen out.old).written (O.seen out.new).written (O.seen out.old).faults (O.seen out.new).faults (operation_front i op.now) result }
 {
     let mut line = begin(out, b"", i);
     line.text(out, b" ");
@@ -45,7 +45,7 @@ fn shown_operands(kind: Kind) -> u32
 
 // Goes on with numbers, each after a space.
 fn then_numbers<O: Sink>(line: &mut Line, out: &mut O, numbers: &[u32])
-    ensures { Gathers (O.written out.old) (O.written out.new) (O.faults out.old) (O.faults out.new) line.old line.new (flat_map number_cell numbers.now) }
+    ensures { GathersTo (O.seen out.old) (O.seen out.new) line.old line.new (flat_map number_cell numbers.now) }
 {
     'numbers: for i in 0..numbers.len() {
         line.text(out, b" ");
@@ -55,7 +55,7 @@ fn then_numbers<O: Sink>(line: &mut Line, out: &mut O, numbers: &[u32])
 
 // Goes on with the operations that the operands read.
 fn then_operands<O: Sink>(line: &mut Line, out: &mut O, op: &Op)
-    ensures { Gathers (O.written out.old) (O.written out.new) (O.faults out.old) (O.faults out.new) line.old line.new (operands_text op.now) }
+    ensures { GathersTo (O.seen out.old) (O.seen out.new) line.old line.new (operands_text op.now) }
 {
     let read = [op.a, op.b, op.c];
     then_numbers(line, out, &read[..shown_operands(op.kind) as usize]);
@@ -63,7 +63,7 @@ fn then_operands<O: Sink>(line: &mut Line, out: &mut O, op: &Op)
 
 // Goes on with a word and a number.
 fn then_own<O: Sink>(line: &mut Line, out: &mut O, word: &[u8], number: i64)
-    ensures { Gathers (O.written out.old) (O.written out.new) (O.faults out.old) (O.faults out.new) line.old line.new (word.now ++ signed_decimal number) }
+    ensures { GathersTo (O.seen out.old) (O.seen out.new) line.old line.new (word.now ++ signed_decimal number) }
 {
     line.text(out, word);
     line.value(out, number);
@@ -71,7 +71,7 @@ fn then_own<O: Sink>(line: &mut Line, out: &mut O, word: &[u8], number: i64)
 
 // Goes on with the operation's own number, where its kind has one.
 fn then_own_number<O: Sink>(line: &mut Line, out: &mut O, kind: Kind, imm: i64)
-    ensures { Gathers (O.written out.old) (O.written out.new) (O.faults out.old) (O.faults out.new) line.old line.new (own_text kind imm) }
+    ensures { GathersTo (O.seen out.old) (O.seen out.new) line.old line.new (own_text kind imm) }
 {
     match kind {
         Kind::Input => then_own(line, out, b" in ", imm),
@@ -85,7 +85,7 @@ fn then_own_number<O: Sink>(line: &mut Line, out: &mut O, kind: Kind, imm: i64)
 // Goes on with the signature and the correction of operation `i`.
 fn then_code<O: Sink>(line: &mut Line, out: &mut O, table: &Table, i: u32)
     requires { i < length table.now.corrections }
-    ensures { Gathers (O.written out.old) (O.written out.new) (O.faults out.old) (O.faults out.new) line.old line.new (code_text table.now i) }
+    ensures { GathersTo (O.seen out.old) (O.seen out.new) line.old line.new (code_text table.now i) }
 {
     line.text(out, b" sig ");
     line.count(out, table.signature(i));
@@ -97,7 +97,7 @@ fn then_code<O: Sink>(line: &mut Line, out: &mut O, table: &Table, i: u32)
 fn then_source<O: Sink>(line: &mut Line, out: &mut O, graph: &Graph, i: u32)
     requires { i < length graph.now.operations }
     ensures { IfSome (slice_get graph.now.operations i)
-        (λ op. Gathers (O.written out.old) (O.written out.new) (O.faults out.old) (O.faults out.new) line.old line.new (source_text graph.now op)) }
+        (λ op. GathersTo (O.seen out.old) (O.seen out.new) line.old line.new (source_text graph.now op)) }
 {
     line.text(out, b" at ");
     then_place(line, out, graph.operation(i).spot);
@@ -111,7 +111,7 @@ pub fn list_line<O: Sink>(out: &mut O, graph: &Graph, table: &Table, i: u32) -> 
     requires operation { i < length graph.now.operations }
     requires correction { i < length table.now.corrections }
     ensures { IfSome (slice_get graph.now.operations i)
-        (λ op. Writes (O.written out.old) (O.written out.new) (O.faults out.old) (O.faults out.new) (list_text graph.now table.now i op) result) }
+        (λ op. WritesTo (O.seen out.old) (O.seen out.new) (list_text graph.now table.now i op) result) }
 {
     let op = graph.operation(i);
     let mut line = begin_operation(out, i, &op);
@@ -124,7 +124,7 @@ pub fn list_line<O: Sink>(out: &mut O, graph: &Graph, table: &Table, i: u32) -> 
 
 // Goes on with the value and the residue of a word in a code.
 fn then_parts<O: Sink>(line: &mut Line, out: &mut O, profile: Profile, word: Word)
-    ensures { Gathers (O.written out.old) (O.written out.new) (O.faults out.old) (O.faults out.new) line.old line.new (parts_text profile word) }
+    ensures { GathersTo (O.seen out.old) (O.seen out.new) line.old line.new (parts_text profile word) }
 {
     let (value, residue) = word.split(profile);
     line.long_value(out, value);
@@ -147,7 +147,7 @@ pub fn trace_line<O: Sink>(
     requires expected { i < length table.now.corrections }
     requires cycle { cycle < most_cycles }
     ensures { IfSome (slice_get graph.now.operations i)
-        (λ op. Writes (O.written out.old) (O.written out.new) (O.faults out.old) (O.faults out.new)
+        (λ op. WritesTo (O.seen out.old) (O.seen out.new)
         (trace_text graph.now.profile table.now i cycle op.kind word) result) }
 {
     let mut line = begin(out, b"", i);

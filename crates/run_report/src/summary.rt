@@ -1,6 +1,6 @@
 //! The line that sums up the run of a made program.
 
-ghost use Rattle.vcp_outside.specs.Written.{Writes};
+ghost use Rattle.vcp_outside.specs.Written.{WritesTo};
 ghost use Rattle.run_report.specs.SummaryLine.{summary_text};
 
 use gathered_line::begin;
@@ -15,7 +15,7 @@ pub fn summary_line<O: Sink>(
     last: i64,
     sum: i128,
 ) -> Result<(), Failed>
-    ensures { Writes (O.written out.old) (O.written out.new) (O.faults out.old) (O.faults out.new) (summary_text number cycles last sum) result }
+    ensures { WritesTo (O.seen out.old) (O.seen out.new) (summary_text number cycles last sum) result }
 {
     let mut line = begin(out, b"demo ", number);
     line.text(out, b" cycles ");

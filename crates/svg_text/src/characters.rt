@@ -1,7 +1,7 @@
 //! Characters, and references in their place.
 
 ghost use Rattle.std.specs.Prelude.{◌≡◌, flat_map};
-ghost use Rattle.gathered_line.specs.Gathering.{Gathers};
+ghost use Rattle.gathered_line.specs.Gathering.{GathersTo};
 ghost use Rattle.svg_text.specs.Characters.{is_plain as is_plain_of, reference as reference_of, escape, escaped, piece_bytes};
 
 use gathered_line::Line;
@@ -56,7 +56,7 @@ fn reference(byte: u8) -> &'static [u8]
 
 /// Goes on with a byte, or the reference in its place.
 fn then_byte<O: Sink>(line: &mut Line, out: &mut O, byte: u8)
-    ensures { Gathers (O.written out.old) (O.written out.new) (O.faults out.old) (O.faults out.new) line.old line.new (escape byte) }
+    ensures { GathersTo (O.seen out.old) (O.seen out.new) line.old line.new (escape byte) }
 {
     if is_plain(byte) {
         line.text(out, &[byte]);
@@ -67,7 +67,7 @@ fn then_byte<O: Sink>(line: &mut Line, out: &mut O, byte: u8)
 
 /// Goes on with these bytes, or the references in their place.
 fn then_escaped<O: Sink>(line: &mut Line, out: &mut O, bytes: &[u8])
-    ensures { Gathers (O.written out.old) (O.written out.new) (O.faults out.old) (O.faults out.new) line.old line.new (escaped bytes.now) }
+    ensures { GathersTo (O.seen out.old) (O.seen out.new) line.old line.new (escaped bytes.now) }
 {
     'bytes: for i in 0..bytes.len() {
         then_byte(line, out, bytes[i]);
@@ -76,7 +76,7 @@ fn then_escaped<O: Sink>(line: &mut Line, out: &mut O, bytes: &[u8])
 
 /// Goes on with a piece of a text.
 fn then_piece<O: Sink>(line: &mut Line, out: &mut O, piece: Piece<'_>)
-    ensures { Gathers (O.written out.old) (O.written out.new) (O.faults out.old) (O.faults out.new) line.old line.new (escaped (piece_bytes piece.entry)) }
+    ensures { GathersTo (O.seen out.old) (O.seen out.new) line.old line.new (escaped (piece_bytes piece.entry)) }
 {
     match piece {
         Piece::Bytes(bytes) => then_escaped(line, out, bytes),
@@ -87,7 +87,7 @@ fn then_piece<O: Sink>(line: &mut Line, out: &mut O, piece: Piece<'_>)
 
 /// Goes on with the pieces of a text.
 pub(crate) fn then_pieces<O: Sink>(line: &mut Line, out: &mut O, pieces: &[Piece<'_>])
-    ensures { Gathers (O.written out.old) (O.written out.new) (O.faults out.old) (O.faults out.new) line.old line.new
+    ensures { GathersTo (O.seen out.old) (O.seen out.new) line.old line.new
         (flat_map (λ piece. escaped (piece_bytes piece)) pieces.now) }
 {
     'pieces: for i in 0..pieces.len() {

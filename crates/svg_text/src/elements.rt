@@ -2,7 +2,7 @@
 
 ghost use Rattle.std.specs.Prelude.{◌≡◌, map, flat_map, ◌++◌, codes, ℕ, List, Option};
 ghost use Rattle.vcp_outside.specs.Written.{Writes};
-ghost use Rattle.gathered_line.specs.Gathering.{IsGathered, Gathers};
+ghost use Rattle.gathered_line.specs.Gathering.{IsGathered, GathersTo};
 ghost use Rattle.svg_text.specs.Characters.{piece_bytes};
 ghost use Rattle.svg_text.specs.Elements.{attribute_text, attribute_of, given_text, element, element_text, beginning, ending};
 
@@ -13,7 +13,7 @@ use vcp_outside::{Failed, Sink};
 
 /// Goes on with an attribute, after a space.
 fn then_attribute<O: Sink>(line: &mut Line, out: &mut O, name: Name, value: &[Piece<'_>])
-    ensures { Gathers (O.written out.old) (O.written out.new) (O.faults out.old) (O.faults out.new) line.old line.new
+    ensures { GathersTo (O.seen out.old) (O.seen out.new) line.old line.new
         (attribute_text (record { name = name; value = map piece_bytes value.now })) }
 {
     line.text(out, b" ");
@@ -25,7 +25,7 @@ fn then_attribute<O: Sink>(line: &mut Line, out: &mut O, name: Name, value: &[Pi
 
 /// Goes on with attributes, each after a space.
 fn then_attributes<O: Sink>(line: &mut Line, out: &mut O, attributes: &[(Name, Piece<'_>)])
-    ensures { Gathers (O.written out.old) (O.written out.new) (O.faults out.old) (O.faults out.new) line.old line.new
+    ensures { GathersTo (O.seen out.old) (O.seen out.new) line.old line.new
         (flat_map given_text attributes.now) }
 {
     'attributes: for i in 0..attributes.len() {
@@ -42,7 +42,7 @@ pub fn then_element<O: Sink>(
     attributes: &[(Name, Piece<'_>)],
     content: &[Piece<'_>],
 )
-    ensures { Gathers (O.written out.old) (O.written out.new) (O.faults out.old) (O.faults out.new) line.old line.new
+    ensures { GathersTo (O.seen out.old) (O.seen out.new) line.old line.new
         (element_text (element tag (map attribute_of attributes.now) (map piece_bytes content.now))) }
 {
     line.text(out, b"<");
@@ -57,7 +57,7 @@ pub fn then_element<O: Sink>(
 
 /// Begins a picture of this width and height.
 pub fn begin_picture<O: Sink>(out: &mut O, width: u64, height: u64) -> Line
-    ensures { IsGathered (O.written out.old) (O.written out.new) (O.faults out.old) (O.faults out.new) (beginning width height) result }
+    ensures { IsGathered (O.seen out.old).written (O.seen out.new).written (O.seen out.old).faults (O.seen out.new).faults (beginning width height) result }
 {
     let mut line = Line::new();
     line.text(out, b"<svg");
@@ -87,8 +87,8 @@ pub fn begin_picture<O: Sink>(out: &mut O, width: u64, height: u64) -> Line
 /// Ends a picture, and writes what is left of it. It fails where a write failed, and then a part of
 /// the picture is written.
 pub fn end_picture<O: Sink>(mut line: Line, out: &mut O) -> Result<(), Failed>
-    ensures { (start : Option (List ℕ)) (before : ℕ) (text : List ℕ) → IsGathered start (O.written out.old) before (O.faults out.old) text line
-        → Writes start (O.written out.new) before (O.faults out.new) (text ++ ending) result }
+    ensures { (start : Option (List ℕ)) (before : ℕ) (text : List ℕ) → IsGathered start (O.seen out.old).written before (O.seen out.old).faults text line
+        → Writes start (O.seen out.new).written before (O.seen out.new).faults (text ++ ending) result }
 {
     line.text(out, b"</svg>");
     line.end(out)

@@ -5,6 +5,10 @@ use Rattle.std.specs.Prelude.{ℕ, ◌+◌, ◌-◌, ◌^◌, ◌≤◌, min, Re
 abbrev pub last_count : ℕ
 last_count = 2 ^ 64 - 1
 
+-- the next count; it stands still at its last value
+abbrev pub next_count : ℕ → ℕ
+next_count n = min (n + 1) (2 ^ 64 - 1)
+
 -- The count rose in a call: it is greater after it, or stands at its last value.
 -- The lesser of `before + 1` and the last value says both at once.
 abbrev pub Rose : ℕ → ℕ → Type 0

@@ -1,8 +1,10 @@
 pub mod Counts
+pub mod FailingCalls
 pub mod Held
 pub mod HostFiles
 pub mod HostSink
 pub mod MemFiles
 pub mod MemSink
 pub mod ReadAll
+pub mod Seen
 pub mod Written

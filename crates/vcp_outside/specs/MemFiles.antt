@@ -1,14 +1,17 @@
--- Files in memory: what was put, what is unread, and the counts.
+-- Files in memory: what was put, what is unread, the counts, and the calls.
 use Rattle.std.specs.Prelude.{ℕ, ◌≤◌, List, [], length, drop, reverse, find, Option, Some, None, bytes_eq, slice_get, option_map, IsSomeAnd}
+use Rattle.vcp_outside.specs.FailingCalls.{CallCount}
 use Rattle.vcp_outside.specs.declared.mem_files.Entry.{Entry}
 use Rattle.vcp_outside.specs.declared.mem_files.Begun.{Begun}
 
--- files in memory: the entries in the order in which they were put, the unread bytes of the begun file, and the counts
+-- files in memory: the entries in the order in which they were put, the unread bytes of the begun file, the counts of
+-- faults and of breaks, and their calls, of which some are made to fail
 pub record FilesInMemory : Type 0 where
   pub entries : List Entry
   pub unread : List ℕ
   pub faults : ℕ
   pub broken : ℕ
+  pub calls : CallCount
 
 -- the entry that was put last under a name
 abbrev pub last_named : List Entry → List ℕ → Option Entry

@@ -2,6 +2,7 @@
 use Rattle.std.specs.Prelude.{◌≡◌, ◌<◌, ℕ, List, ◌++◌, length, Option, Result, OnOk, OnErr}
 use Rattle.std.specs.Io.KnownBytes.{Appends}
 use Rattle.vcp_outside.specs.Counts.{HasCause}
+use Rattle.vcp_outside.specs.Seen.{SinkSeen}
 
 -- some front of these bytes was written: none, some or all of them
 abbrev pub AppendsFront : Option (List ℕ) → Option (List ℕ) → List ℕ → Type 0
@@ -16,3 +17,7 @@ pub record Writes {T E : Type 0} (old new : Option (List ℕ)) (before now : ℕ
   pub whole : OnOk result (Appends old new bytes)
   pub part : OnErr result (AppendsPart old new bytes)
   pub cause : HasCause before now result
+
+-- the same of a sink as it is seen before and after the call
+abbrev pub WritesTo : {T E : Type 0} → SinkSeen → SinkSeen → List ℕ → Result T E → Type 0
+WritesTo old new bytes result = Writes old.written new.written old.faults new.faults bytes result

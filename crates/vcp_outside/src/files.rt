@@ -1,46 +1,37 @@
 //! Files that are read.
 
-ghost use Rattle.std.specs.Prelude.{◌≡◌, ◌<◌, ◌≤◌, ℕ, List, Option, length};
+ghost use Rattle.std.specs.Prelude.{◌≡◌, ◌<◌, ◌≤◌, length};
 ghost use Rattle.std.specs.Io.{ReadsAtMost};
 ghost use Rattle.std.specs.Io.KnownBytes.{ReadConsumes};
 ghost use Rattle.vcp_outside.specs.Counts.{HasCause, last_count};
-ghost use Rattle.vcp_outside.specs.Held.{Held, Begins, OnlyLackingOrBroken, OnlyBroken};
+ghost use Rattle.vcp_outside.specs.Held.{Begins, OnlyLackingOrBroken, OnlyBroken};
+ghost use Rattle.vcp_outside.specs.Seen.{FilesSeen};
 
 use crate::failed::Failed;
 
 /// Named files, of which one at a time is read from its front.
 pub trait Files {
-    /// The bytes under each name, where they are told.
-    ghost held: { Self → Option Held };
-
-    /// The bytes of the begun file that are still unread, where they are told. None are unread
-    /// before any file is begun.
-    ghost rest: { Self → Option (List ℕ) };
-
-    /// How often a call failed, up to 2^64 - 1.
-    ghost faults: { Self → ℕ };
-
-    /// How often a call failed that was not for a name that is lacking, up to 2^64 - 1.
-    ghost broken: { Self → ℕ };
+    /// What is seen of them: the bytes under each name and the unread ones, where they are told, and the counts of failures.
+    ghost seen: { Self → FilesSeen };
 
     /// Goes to the front of a file. It fails for a name that is lacking, and then nothing is unread.
     fn begin(&mut self, name: &[u8]) -> Result<(), Failed>
-        ensures held { held self.new ≡ held self.old }
-        ensures begins { Begins (held self.old) name.now result (rest self.new) }
-        ensures cause { HasCause (faults self.old) (faults self.new) result }
-        ensures broken_later { broken self.old ≤ broken self.new }
-        ensures broken_capped { broken self.old ≤ last_count → broken self.new ≤ last_count }
-        ensures lacking { OnlyLackingOrBroken (held self.old) name.now (broken self.old) (broken self.new) result };
+        ensures held { (seen self.new).held ≡ (seen self.old).held }
+        ensures begins { Begins (seen self.old).held name.now result (seen self.new).rest }
+        ensures cause { HasCause (seen self.old).faults (seen self.new).faults result }
+        ensures broken_later { (seen self.old).broken ≤ (seen self.new).broken }
+        ensures broken_capped { (seen self.old).broken ≤ last_count → (seen self.new).broken ≤ last_count }
+        ensures lacking { OnlyLackingOrBroken (seen self.old).held name.now (seen self.old).broken (seen self.new).broken result };
 
     /// Moves some unread bytes to the front of the buffer: at least one, and none only at the end.
     /// After `Failed` the same bytes are unread.
     fn read(&mut self, buf: &mut [u8]) -> Result<usize, Failed>
         requires { 0 < length buf.old }
-        ensures held { held self.new ≡ held self.old }
+        ensures held { (seen self.new).held ≡ (seen self.old).held }
         ensures bound { ReadsAtMost result buf.new }
-        ensures bytes { ReadConsumes (rest self.old) (rest self.new) result buf.new }
-        ensures cause { HasCause (faults self.old) (faults self.new) result }
-        ensures broken_later { broken self.old ≤ broken self.new }
-        ensures broken_capped { broken self.old ≤ last_count → broken self.new ≤ last_count }
-        ensures only_broken { OnlyBroken (held self.old) (broken self.old) (broken self.new) result };
+        ensures bytes { ReadConsumes (seen self.old).rest (seen self.new).rest result buf.new }
+        ensures cause { HasCause (seen self.old).faults (seen self.new).faults result }
+        ensures broken_later { (seen self.old).broken ≤ (seen self.new).broken }
+        ensures broken_capped { (seen self.old).broken ≤ last_count → (seen self.new).broken ≤ last_count }
+        ensures only_broken { OnlyBroken (seen self.old).held (seen self.old).broken (seen self.new).broken result };
 }

@@ -58,13 +58,7 @@ impl<'a, R: rt::Files> HostFiles<'a, R> {
 }
 
 impl<R: rt::Files> Files for HostFiles<'_, R> {
-    ghost held = { λ _. None };
-
-    ghost rest = { λ _. None };
-
-    ghost faults = { λ s. s.faults };
-
-    ghost broken = { λ s. s.faults };
+    ghost seen = { λ s. record { held = None; rest = None; faults = s.faults; broken = s.faults } };
 
     fn begin(&mut self, name: &[u8]) -> Result<(), Failed>
         ensures begins { Begins None name.now result None }

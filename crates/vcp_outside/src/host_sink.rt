@@ -58,9 +58,7 @@ fn write_some<W: Write>(writer: &mut W, piece: &[u8]) -> Option<usize>
 }
 
 impl<W: Write> Sink for HostSink<W> {
-    ghost written = { λ _. None };
-
-    ghost faults = { λ s. s.faults };
+    ghost seen = { λ s. record { written = None; faults = s.faults } };
 
     fn write(&mut self, piece: &[u8]) -> Result<usize, Failed>
         ensures bound { WritesAtMost result piece.now }

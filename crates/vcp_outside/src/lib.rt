@@ -1,12 +1,14 @@
 //! What lies outside a program: files that it reads, sinks that it writes to, and the words that it is given.
 //!
 //! `Files` and `Sink` say in ghost members what is held, read and written, where that is told, and
-//! count their faults. `MemFiles` and `MemSink` stand in memory and tell all. `HostFiles` and
-//! `HostSink` stand on the host and tell no bytes. A call answers `Failed` only where a count rose.
+//! count their faults. `MemFiles` and `MemSink` stand in memory, tell all, and fail at the calls that
+//! are made to fail. `HostFiles` and `HostSink` stand on the host and tell no bytes. A call answers
+//! `Failed` only where a count rose.
 #![tactic(auto)]
 
 mod arguments;
 mod failed;
+mod failing_calls;
 mod files;
 mod host_files;
 mod host_sink;

@@ -1,14 +1,16 @@
 //! Files in memory.
 
-ghost use Rattle.std.specs.Prelude.{◌≡◌, ◌+◌, ◌<◌, ◌≤◌, ◌↔◌, ◌∷◌, ◌++◌, [], None, Some, min, length, take, drop, option_and_then, slice_get, IsOk, IsErr, IfOk};
-ghost use Rattle.std.specs.Prelude.{IfSome, OnOk, OnErr};
+ghost use Rattle.std.specs.Prelude.{◌≡◌, ◌+◌, ◌<◌, ◌≤◌, ◌-◌, ◌^◌, ◌⊎◌, ◌↔◌, ◌∷◌, ◌++◌, [], None, Some, min, length, take, drop};
+ghost use Rattle.std.specs.Prelude.{option_and_then, slice_get, IsErr, IfOk, IfSome, OnOk, OnErr};
 ghost use Rattle.std.specs.Io.{ReadsAtMost};
 ghost use Rattle.std.specs.Io.KnownBytes.{ReadConsumes};
-ghost use Rattle.vcp_outside.specs.Counts.{HasCause, count_after, last_count};
+ghost use Rattle.vcp_outside.specs.Counts.{HasCause, count_after, last_count, next_count};
+ghost use Rattle.vcp_outside.specs.FailingCalls.{no_calls, one_more, broken_after, NextFails, FailsAlso};
 ghost use Rattle.vcp_outside.specs.Held.{Begins, OnlyLackingOrBroken, OnlyBroken};
 ghost use Rattle.vcp_outside.specs.MemFiles.{latest, last_named};
 
 use crate::failed::Failed;
+use crate::failing_calls::FailingCalls;
 use crate::files::Files;
 use std::alloc::Global;
 use std::marker::Model;
@@ -31,13 +33,16 @@ struct Begun {
 }
 
 /// Files in memory, which tell all of their bytes. They are seen as the entries that were put, in
-/// order, the unread bytes of the begun file, and the two counts.
+/// order, the unread bytes of the begun file, the two counts, and the calls so far with those that
+/// are made to fail.
 #[derive(Drop)]
 pub struct MemFiles {
     alloc: Global,
     entries: Vec<Entry>,
     begun: Option<Begun>,
     faults: u64,
+    broken: u64,
+    calls: FailingCalls,
 }
 
 impl Model for MemFiles {
@@ -45,12 +50,12 @@ impl Model for MemFiles {
 
     ghost Value = { FilesInMemory };
 
-    // Files in memory never break: a call fails only for a name that is lacking.
     ghost view = { λ s. record {
       entries = s.entries.items;
       unread = unread_at s.entries.items s.begun;
       faults = s.faults;
-      broken = 0;
+      broken = s.broken;
+      calls = s.calls;
     } };
 
     ghost invariant = { λ s. IsPlace s.entries.items s.begun };
@@ -81,15 +86,17 @@ fn copy_front(buf: &mut [u8], bytes: &[u8]) -> usize
 }
 
 impl MemFiles {
-    /// No files, and none begun.
+    /// No files, none begun, and no call that is made to fail.
     pub fn new(alloc: Global) -> MemFiles
-        ensures { result ≡ record { entries = []; unread = []; faults = 0; broken = 0 } }
+        ensures { result ≡ record { entries = []; unread = []; faults = 0; broken = 0; calls = no_calls } }
     {
         MemFiles {
             alloc,
             entries: Vec::new(alloc),
             begun: None,
             faults: 0,
+            broken: 0,
+            calls: FailingCalls::new(alloc),
         }
     }
 
@@ -106,16 +113,32 @@ impl MemFiles {
         self.entries.push(Entry { name, bytes })?;
         Ok(())
     }
+
+    /// Makes the call of a number fail, counted from 0 over all calls of `begin` and `read`. Such a
+    /// call does nothing else: after a `begin` nothing is unread, after a `read` the same bytes are.
+    /// After `Memory` nothing has changed.
+    ///
+    /// A number whose call was made already changes nothing.
+    pub fn fail_call(&mut self, number: u64) -> Result<(), Memory>
+        requires { number < 2 ^ 64 - 1 }
+        ensures set { OnOk result (FailsAlso number self.old.calls self.new.calls) }
+        ensures rest { OnOk result (self.new ≡ record self.old { calls = self.new.calls }) }
+        ensures err { OnErr result (self.new ≡ self.old) }
+    {
+        self.calls.add(number)
+    }
+
+    // Counts that a call that was made to fail failed.
+    fn count_break(&mut self)
+        ensures { self.new ≡ record self.old { faults = next_count self.old.faults; broken = next_count self.old.broken } }
+    {
+        self.faults = self.faults.saturating_add(1);
+        self.broken = self.broken.saturating_add(1);
+    }
 }
 
 impl Files for MemFiles {
-    ghost held = { λ s. Some (latest s.entries) };
-
-    ghost rest = { λ s. Some s.unread };
-
-    ghost faults = { λ s. s.faults };
-
-    ghost broken = { λ s. s.broken };
+    ghost seen = { λ s. record { held = Some (latest s.entries); rest = Some s.unread; faults = s.faults; broken = s.broken } };
 
     fn begin(&mut self, name: &[u8]) -> Result<(), Failed>
         ensures held { latest self.new.entries ≡ latest self.old.entries }
@@ -125,12 +148,24 @@ impl Files for MemFiles {
         ensures broken_capped { self.old.broken ≤ last_count → self.new.broken ≤ last_count }
         ensures lacking { OnlyLackingOrBroken (Some (latest self.old.entries)) name.now self.old.broken self.new.broken result }
 
-        // It fails exactly for a name that is lacking, and then nothing is unread and the faults
-        // rise by one.
-        ensures lacks { IsErr result ↔ (latest self.old.entries name.now ≡ None) }
-        ensures found { IfSome (latest self.old.entries name.now) (λ bytes. self.new ≡ record self.old { unread = bytes }) }
-        ensures lost { OnErr result (self.new ≡ record self.old { unread = []; faults = count_after result self.old.faults }) }
+        // It fails exactly where it is made to fail or the name is lacking, and then nothing is
+        // unread and the faults rise by one; the breaks rise exactly where it is made to fail.
+        ensures fails { IsErr result ↔ (NextFails self.old.calls ⊎ (latest self.old.entries name.now ≡ None)) }
+        ensures found { OnOk result (IfSome (latest self.old.entries name.now) (λ bytes.
+            self.new ≡ record self.old { unread = bytes; calls = one_more self.old.calls })) }
+        ensures lost { OnErr result (self.new ≡ record self.old {
+          unread = [];
+          faults = count_after result self.old.faults;
+          broken = broken_after self.old.calls self.old.broken;
+          calls = one_more self.old.calls;
+        }) }
+        ensures broke { self.new.broken ≡ broken_after self.old.calls self.old.broken }
     {
+        if self.calls.next() {
+            self.begun = None;
+            self.count_break();
+            return Err(Failed);
+        }
         match find_latest(&self.entries, name) {
             Some(entry) => {
                 self.begun = Some(Begun { entry, at: 0 });
@@ -154,12 +189,25 @@ impl Files for MemFiles {
         ensures broken_capped { self.old.broken ≤ last_count → self.new.broken ≤ last_count }
         ensures only_broken { OnlyBroken (Some (latest self.old.entries)) self.old.broken self.new.broken result }
 
-        // It never fails, and reads as much as there is room for.
-        ensures never_fails { IsOk result }
+        // It fails exactly where it is made to fail, and then the two counts alone rise, by one;
+        // else it reads as much as there is room for.
+        ensures fails { IsErr result ↔ NextFails self.old.calls }
         ensures count { IfOk result (λ n. n ≡ min (length buf.old) (length self.old.unread)) }
         ensures front { IfOk result (λ n. take n buf.new ≡ take n self.old.unread) }
-        ensures after { IfOk result (λ n. self.new ≡ record self.old { unread = drop n self.old.unread }) }
+        ensures after { IfOk result (λ n. self.new ≡ record self.old {
+          unread = drop n self.old.unread;
+          calls = one_more self.old.calls;
+        }) }
+        ensures broke { OnErr result (self.new ≡ record self.old {
+          faults = count_after result self.old.faults;
+          broken = count_after result self.old.broken;
+          calls = one_more self.old.calls;
+        }) }
     {
+        if self.calls.next() {
+            self.count_break();
+            return Err(Failed);
+        }
         let Some(begun) = self.begun else {
             return Ok(0);
         };

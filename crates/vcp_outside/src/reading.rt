@@ -52,13 +52,13 @@ fn read_counted<F: Files, L: Ledger>(
     reads: &mut Steps<L>,
 ) -> Result<usize, Failed>
     requires { 0 < length buf.old }
-    ensures held { F.held files.new ≡ F.held files.old }
+    ensures held { (F.seen files.new).held ≡ (F.seen files.old).held }
     ensures bound { ReadsAtMost result buf.new }
-    ensures bytes { ReadConsumes (F.rest files.old) (F.rest files.new) result buf.new }
-    ensures cause { HasCause (F.faults files.old) (F.faults files.new) result }
-    ensures broken_later { F.broken files.old ≤ F.broken files.new }
-    ensures broken_capped { F.broken files.old ≤ last_count → F.broken files.new ≤ last_count }
-    ensures only_broken { OnlyBroken (F.held files.old) (F.broken files.old) (F.broken files.new) result }
+    ensures bytes { ReadConsumes (F.seen files.old).rest (F.seen files.new).rest result buf.new }
+    ensures cause { HasCause (F.seen files.old).faults (F.seen files.new).faults result }
+    ensures broken_later { (F.seen files.old).broken ≤ (F.seen files.new).broken }
+    ensures broken_capped { (F.seen files.old).broken ≤ last_count → (F.seen files.new).broken ≤ last_count }
+    ensures only_broken { OnlyBroken (F.seen files.old).held (F.seen files.old).broken (F.seen files.new).broken result }
     ensures counted { reads.new ≡ reads.old + 1 }
 {
     reads.tick();
@@ -77,23 +77,23 @@ pub fn read_all_counting<F: Files, L: Ledger>(
     requires { limit < 2 ^ 32 }
 
     // What is answered.
-    ensures reads { IfSome (F.held files.old) (λ h. ReadsAll h name.now limit (F.broken files.old) (F.broken files.new) result) }
+    ensures reads { IfSome (F.seen files.old).held (λ h. ReadsAll h name.now limit (F.seen files.old).broken (F.seen files.new).broken result) }
     ensures within { IfOk result (λ text. length text ≤ limit) }
-    ensures failed { IsErrOf result ReadAll.Failed → Rose (F.faults files.old) (F.faults files.new) }
+    ensures failed { IsErrOf result ReadAll.Failed → Rose (F.seen files.old).faults (F.seen files.new).faults }
 
     // What was taken of the file, and in how many reads.
-    ensures ended { OnOk result (IsAtEnd (F.rest files.new)) }
-    ensures taken { IfSome (F.held files.old) (λ h. Takes h name.now limit (F.rest files.new) result) }
+    ensures ended { OnOk result (IsAtEnd (F.seen files.new).rest) }
+    ensures taken { IfSome (F.seen files.old).held (λ h. Takes h name.now limit (F.seen files.new).rest result) }
     ensures counted { reads.new ≤ reads.old + limit + 1 }
     ensures failed_taken { IsErrOf result ReadAll.Failed
-        → IfSome (F.held files.old) (λ h. TakesBetween 0 limit h name.now (F.rest files.new) ⊎ (IsAtEnd (F.rest files.new) × (reads.new ≡ reads.old))) }
+        → IfSome (F.seen files.old).held (λ h. TakesBetween 0 limit h name.now (F.seen files.new).rest ⊎ (IsAtEnd (F.seen files.new).rest × (reads.new ≡ reads.old))) }
 
     // What stays.
-    ensures held { F.held files.new ≡ F.held files.old }
-    ensures later { F.faults files.old ≤ F.faults files.new }
-    ensures capped { F.faults files.old ≤ last_count → F.faults files.new ≤ last_count }
-    ensures broken_later { F.broken files.old ≤ F.broken files.new }
-    ensures broken_capped { F.broken files.old ≤ last_count → F.broken files.new ≤ last_count }
+    ensures held { (F.seen files.new).held ≡ (F.seen files.old).held }
+    ensures later { (F.seen files.old).faults ≤ (F.seen files.new).faults }
+    ensures capped { (F.seen files.old).faults ≤ last_count → (F.seen files.new).faults ≤ last_count }
+    ensures broken_later { (F.seen files.old).broken ≤ (F.seen files.new).broken }
+    ensures broken_capped { (F.seen files.old).broken ≤ last_count → (F.seen files.new).broken ≤ last_count }
 {
     files.begin(name)?;
     let mut content = Vec::new(alloc);
@@ -121,16 +121,16 @@ fn read_all_with<F: Files, L: Ledger>(
     requires name { blank.name ≡ L.name }
     requires parts { blank.parts ≡ L.parts }
     requires some { 0 < L.parts }
-    ensures reads { IfSome (F.held files.old) (λ h. ReadsAll h name.now limit (F.broken files.old) (F.broken files.new) result) }
+    ensures reads { IfSome (F.seen files.old).held (λ h. ReadsAll h name.now limit (F.seen files.old).broken (F.seen files.new).broken result) }
     ensures within { IfOk result (λ text. length text ≤ limit) }
-    ensures failed { IsErrOf result ReadAll.Failed → Rose (F.faults files.old) (F.faults files.new) }
-    ensures ended { OnOk result (IsAtEnd (F.rest files.new)) }
-    ensures taken { IfSome (F.held files.old) (λ h. Takes h name.now limit (F.rest files.new) result) }
-    ensures held { F.held files.new ≡ F.held files.old }
-    ensures later { F.faults files.old ≤ F.faults files.new }
-    ensures capped { F.faults files.old ≤ last_count → F.faults files.new ≤ last_count }
-    ensures broken_later { F.broken files.old ≤ F.broken files.new }
-    ensures broken_capped { F.broken files.old ≤ last_count → F.broken files.new ≤ last_count }
+    ensures failed { IsErrOf result ReadAll.Failed → Rose (F.seen files.old).faults (F.seen files.new).faults }
+    ensures ended { OnOk result (IsAtEnd (F.seen files.new).rest) }
+    ensures taken { IfSome (F.seen files.old).held (λ h. Takes h name.now limit (F.seen files.new).rest result) }
+    ensures held { (F.seen files.new).held ≡ (F.seen files.old).held }
+    ensures later { (F.seen files.old).faults ≤ (F.seen files.new).faults }
+    ensures capped { (F.seen files.old).faults ≤ last_count → (F.seen files.new).faults ≤ last_count }
+    ensures broken_later { (F.seen files.old).broken ≤ (F.seen files.new).broken }
+    ensures broken_capped { (F.seen files.old).broken ≤ last_count → (F.seen files.new).broken ≤ last_count }
 {
     let mut reads = Steps::<L>::none(blank);
     read_all_counting(alloc, files, name, limit, &mut reads)
@@ -151,20 +151,20 @@ pub fn read_all<F: Files>(
     requires { limit < 2 ^ 32 }
 
     // What is answered.
-    ensures reads { IfSome (F.held files.old) (λ h. ReadsAll h name.now limit (F.broken files.old) (F.broken files.new) result) }
+    ensures reads { IfSome (F.seen files.old).held (λ h. ReadsAll h name.now limit (F.seen files.old).broken (F.seen files.new).broken result) }
     ensures within { IfOk result (λ text. length text ≤ limit) }
-    ensures failed { IsErrOf result ReadAll.Failed → Rose (F.faults files.old) (F.faults files.new) }
+    ensures failed { IsErrOf result ReadAll.Failed → Rose (F.seen files.old).faults (F.seen files.new).faults }
 
     // What was taken of the file.
-    ensures ended { OnOk result (IsAtEnd (F.rest files.new)) }
-    ensures taken { IfSome (F.held files.old) (λ h. Takes h name.now limit (F.rest files.new) result) }
+    ensures ended { OnOk result (IsAtEnd (F.seen files.new).rest) }
+    ensures taken { IfSome (F.seen files.old).held (λ h. Takes h name.now limit (F.seen files.new).rest result) }
 
     // What stays.
-    ensures held { F.held files.new ≡ F.held files.old }
-    ensures later { F.faults files.old ≤ F.faults files.new }
-    ensures capped { F.faults files.old ≤ last_count → F.faults files.new ≤ last_count }
-    ensures broken_later { F.broken files.old ≤ F.broken files.new }
-    ensures broken_capped { F.broken files.old ≤ last_count → F.broken files.new ≤ last_count }
+    ensures held { (F.seen files.new).held ≡ (F.seen files.old).held }
+    ensures later { (F.seen files.old).faults ≤ (F.seen files.new).faults }
+    ensures capped { (F.seen files.old).faults ≤ last_count → (F.seen files.new).faults ≤ last_count }
+    ensures broken_later { (F.seen files.old).broken ≤ (F.seen files.new).broken }
+    ensures broken_capped { (F.seen files.old).broken ≤ last_count → (F.seen files.new).broken ≤ last_count }
 {
     read_all_with::<F, Brand>(alloc, files, name, limit, Blank::new(1))
 }

@@ -36,9 +36,7 @@ impl<D: Device> JudgedUnit<D> {
 impl<D: Device> Unit for JudgedUnit<D> {
     ghost use Rattle.std.specs.Prelude.{None};
 
-    ghost log = { λ u. None };
-
-    ghost wrong = { λ u. u.wrong };
+    ghost seen = { λ u. record { log = None; wrong = u.wrong } };
 
     /// Does one call on the device, and counts its answer where it isn't the right one.
     fn perform(&mut self, call: &Call) -> Answer

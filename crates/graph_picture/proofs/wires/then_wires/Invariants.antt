@@ -1,10 +1,10 @@
 use Rattle.std.proofs.Common.{flat_map}
-use Rattle.gathered_line.specs.Gathering.{Gathers}
+use Rattle.gathered_line.specs.Gathering.{GathersTo}
 use Rattle.svg_text.specs.Elements.{element_text}
 use Rattle.graph_picture.specs.Drawn.{wires_below}
 use Rattle.graph_picture.specs.Elements.{wire_elements}
 use Rattle.graph_picture.proofs.wires.then_wires.Given as goal
 
 abbrev pub invariant-operations : goal.invariant-operations
-invariant-operations g l = Gathers (g.O.Sink.written l.fn.out) (g.O.Sink.written l.out) (g.O.Sink.faults l.fn.out) (g.O.Sink.faults l.out)
+invariant-operations g l = GathersTo (g.O.Sink.seen l.fn.out) (g.O.Sink.seen l.out)
     l.fn.line l.line (flat_map element_text (flat_map wire_elements (wires_below l.graph l.layout.places l.n)))

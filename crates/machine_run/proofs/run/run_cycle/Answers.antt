@@ -1,5 +1,5 @@
 use Rattle.std.proofs.Common.{◌≡◌, ◌∙◌, ap, subst}
-use Rattle.vcp_outside.specs.Written.{Writes}
+use Rattle.vcp_outside.specs.Written.{WritesTo}
 use Rattle.coded_machine.specs.CycleEnds.{outputs_of}
 use Rattle.coded_machine.specs.State.{with_answers, row_after}
 use Rattle.machine_run.proofs.Failing.{failed_row}
@@ -15,6 +15,6 @@ returns-in_err-take-in-Released-clause-written g c =
     let bytes : text c.cycles-cycle.result c.cycle.new.out ≡ text m.cycles (outputs_of m.graph answers) =
     ap (λ n. text n c.cycle.new.out) c.cycles-cycle.ensures.value ∙ ap (text m.cycles) row in
     failed_row text m.cycles (outputs_of m.graph answers) _ _ _ _ _ _ c.from_residual.result c.from_residual.ensures.0 bytes
-    (subst (λ r. Writes (g.O.Sink.written c.args.out.now) (g.O.Sink.written c.take.new.out) (g.O.Sink.faults c.args.out.now) (g.O.Sink.faults c.take.new.out)
+    (subst (λ r. WritesTo (g.O.Sink.seen c.args.out.now) (g.O.Sink.seen c.take.new.out)
     (text c.cycles-cycle.result c.cycle.new.out) r)
     c.in_err-take-in-Released.was c.take.ensures.writes)

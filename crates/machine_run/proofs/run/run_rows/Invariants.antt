@@ -20,8 +20,8 @@ invariant-cycles g l =
       outputs : length l.outputs ≡ length first.graph.outputs;
       so_far :
           UpTo first.graph first.table l.fn.rows l.rows released.text
-          (moment (unit.log l.fn.unit) (unit.wrong l.fn.unit) (sink.written l.fn.out) (sink.faults l.fn.out))
-          (moment (unit.log l.unit) (unit.wrong l.unit) (sink.written l.out) (sink.faults l.out)) (released.Keeps l.fn.released)
+          (moment (unit.seen l.fn.unit) (sink.seen l.fn.out))
+          (moment (unit.seen l.unit) (sink.seen l.out)) (released.Keeps l.fn.released)
           (released.Keeps l.released) l.machine;
     }
 

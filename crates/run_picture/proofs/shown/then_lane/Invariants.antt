@@ -1,9 +1,9 @@
-use Rattle.gathered_line.specs.Gathering.{Gathers}
+use Rattle.gathered_line.specs.Gathering.{GathersTo}
 use Rattle.run_picture.specs.Drawn.{lane}
 use Rattle.run_picture.specs.Elements.{shown_elements}
 use Rattle.run_picture.proofs.Going.{drawn_text}
 use Rattle.run_picture.proofs.shown.then_lane.Given as goal
 
 abbrev pub invariant-cycles : goal.invariant-cycles
-invariant-cycles g l = Gathers (g.O.Sink.written l.fn.out) (g.O.Sink.written l.out) (g.O.Sink.faults l.fn.out) (g.O.Sink.faults l.out)
+invariant-cycles g l = GathersTo (g.O.Sink.seen l.fn.out) (g.O.Sink.seen l.out)
     l.fn.line l.line (drawn_text (shown_elements l.layout) (lane l.run l.column l.cycle))

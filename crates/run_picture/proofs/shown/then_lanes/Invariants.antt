@@ -1,5 +1,5 @@
 use Rattle.std.proofs.Common.{length}
-use Rattle.gathered_line.specs.Gathering.{Gathers}
+use Rattle.gathered_line.specs.Gathering.{GathersTo}
 use Rattle.run_picture.specs.Drawn.{lane}
 use Rattle.svg_text.specs.Drawing.{each_below}
 use Rattle.run_picture.specs.Elements.{shown_elements}
@@ -7,5 +7,5 @@ use Rattle.run_picture.proofs.Going.{drawn_text}
 use Rattle.run_picture.proofs.shown.then_lanes.Given as goal
 
 abbrev pub invariant-columns : goal.invariant-columns
-invariant-columns g l = Gathers (g.O.Sink.written l.fn.out) (g.O.Sink.written l.out) (g.O.Sink.faults l.fn.out) (g.O.Sink.faults l.out)
+invariant-columns g l = GathersTo (g.O.Sink.seen l.fn.out) (g.O.Sink.seen l.out)
     l.fn.line l.line (drawn_text (shown_elements l.layout) (each_below (λ column. lane l.run column (length l.run.rows)) l.column))

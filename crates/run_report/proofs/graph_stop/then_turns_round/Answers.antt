@@ -3,7 +3,7 @@ use mir.Val.{SFits}
 use Rattle.std.proofs.Math.Facts.{to_z-of_z}
 use Rattle.std.proofs.lemmas.Option.{IfSome_then}
 use Rattle.vcp_base.specs.declared.turns.Turn.{Turn}
-use Rattle.gathered_line.specs.Gathering.{Gathers}
+use Rattle.gathered_line.specs.Gathering.{GathersTo}
 use Rattle.gathered_line.proofs.Gathering.{gathered_same}
 use Rattle.run_report.proofs.Turns.{first_left, none_left, told_next, told_all, named_left, next_text}
 use Rattle.run_report.proofs.graph_stop.then_turns_round.Goals as goal
@@ -15,8 +15,7 @@ turns-preserved g c =
     let left : c.turns.turns ≡ turn ∷ drop 1 c.turns.turns = first_left c.turns.turns turn (sym c.in-Some.is ∙ c.next.ensures.turn) in
     let fits : SFits w64 turn.value = search rules in
     let told = told_next names c.turns-turns.result c.turns.turns turn _
-    (λ text. Gathers (g.O.Sink.written c.args.out.now) (g.O.Sink.written c.then_turn.new.out) (g.O.Sink.faults c.args.out.now)
-    (g.O.Sink.faults c.then_turn.new.out) c.args.line.now c.then_turn.new.line text)
+    (λ text. GathersTo (g.O.Sink.seen c.args.out.now) (g.O.Sink.seen c.then_turn.new.out) c.args.line.now c.then_turn.new.line text)
     c.turns.invariant.told left
     (λ text gathers start before front is. gathered_same (c.then_turn.ensures start before (front ++ text) (gathers start before front is))
     (rw (to_z-of_z {w = w64} {z = turn.value} fits) (next_text names turn c.name.result.now front text c.name.ensures))) in

@@ -1,5 +1,5 @@
 use Rattle.std.proofs.Common.{length}
-use Rattle.gathered_line.specs.Gathering.{Gathers}
+use Rattle.gathered_line.specs.Gathering.{GathersTo}
 use Rattle.run_report.specs.Lines.{AreNamed}
 use Rattle.run_report.proofs.Turns.{Told}
 use Rattle.run_report.proofs.graph_stop.then_turns_round.Given as goal
@@ -7,7 +7,7 @@ use Rattle.run_report.proofs.graph_stop.then_turns_round.Given as goal
 abbrev pub invariant-turns : goal.invariant-turns
 invariant-turns g l = record {
   told : Told l.graph.names l.initial.turns l.turns
-      (λ text. Gathers (g.O.Sink.written l.fn.out) (g.O.Sink.written l.out) (g.O.Sink.faults l.fn.out) (g.O.Sink.faults l.out) l.fn.line l.line text);
+      (λ text. GathersTo (g.O.Sink.seen l.fn.out) (g.O.Sink.seen l.out) l.fn.line l.line text);
   named : AreNamed l.turns l.graph.names;
 }
 

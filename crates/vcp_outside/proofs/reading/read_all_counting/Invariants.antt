@@ -6,13 +6,13 @@ use Rattle.vcp_outside.proofs.reading.read_all_counting.Given as goal
 abbrev pub invariant-reading : goal.invariant-reading
 invariant-reading g l = record {
   within : vec_len l.content ≤ l.fn.limit + 1;
-  bytes : IfSome (g.F.Files.held l.fn.files) (λ h. IsSome (h l.fn.name) × Consumes (h l.fn.name) (g.F.Files.rest l.files) l.content.items);
+  bytes : IfSome (g.F.Files.seen l.fn.files).held (λ h. IsSome (h l.fn.name) × Consumes (h l.fn.name) (g.F.Files.seen l.files).rest l.content.items);
   counted : l.reads ≤ l.fn.reads + vec_len l.content;
-  held : g.F.Files.held l.files ≡ g.F.Files.held l.fn.files;
-  later : g.F.Files.faults l.fn.files ≤ g.F.Files.faults l.files;
-  capped : g.F.Files.faults l.fn.files ≤ last_count → g.F.Files.faults l.files ≤ last_count;
-  broken_later : g.F.Files.broken l.fn.files ≤ g.F.Files.broken l.files;
-  broken_capped : g.F.Files.broken l.fn.files ≤ last_count → g.F.Files.broken l.files ≤ last_count;
+  held : (g.F.Files.seen l.files).held ≡ (g.F.Files.seen l.fn.files).held;
+  later : (g.F.Files.seen l.fn.files).faults ≤ (g.F.Files.seen l.files).faults;
+  capped : (g.F.Files.seen l.fn.files).faults ≤ last_count → (g.F.Files.seen l.files).faults ≤ last_count;
+  broken_later : (g.F.Files.seen l.fn.files).broken ≤ (g.F.Files.seen l.files).broken;
+  broken_capped : (g.F.Files.seen l.fn.files).broken ≤ last_count → (g.F.Files.seen l.files).broken ≤ last_count;
 }
 
 abbrev pub decreases-reading : goal.decreases-reading

@@ -6,9 +6,9 @@ use Rattle.vcp_outside.proofs.writing.write_all.Given as goal
 abbrev pub invariant-writing : goal.invariant-writing
 invariant-writing g l = record {
   in_range : l.at ≤ length l.piece;
-  bytes : Appends (g.O.Sink.written l.initial.sink) (g.O.Sink.written l.sink) (take l.at l.piece);
-  later : g.O.Sink.faults l.initial.sink ≤ g.O.Sink.faults l.sink;
-  capped : g.O.Sink.faults l.initial.sink ≤ last_count → g.O.Sink.faults l.sink ≤ last_count;
+  bytes : Appends (g.O.Sink.seen l.initial.sink).written (g.O.Sink.seen l.sink).written (take l.at l.piece);
+  later : (g.O.Sink.seen l.initial.sink).faults ≤ (g.O.Sink.seen l.sink).faults;
+  capped : (g.O.Sink.seen l.initial.sink).faults ≤ last_count → (g.O.Sink.seen l.sink).faults ≤ last_count;
 }
 
 abbrev pub decreases-writing : goal.decreases-writing

@@ -12,7 +12,7 @@ invariant-calls g l =
     record {
       same : m ≡ record first { answers = m.answers; under_way = m.under_way };
       idle : m.under_way ≡ false → m.answers ≡ first.answers;
-      carried : Carried (CallsOf (setting first l.row) (given m)) (unit.log l.fn.unit) (unit.log l.unit) (unit.wrong l.fn.unit) (unit.wrong l.unit);
+      carried : Carried (CallsOf (setting first l.row) (given m)) (unit.seen l.fn.unit).log (unit.seen l.unit).log (unit.seen l.fn.unit).wrong (unit.seen l.unit).wrong;
     }
 
 abbrev pub decreases-calls : goal.decreases-calls

@@ -16,11 +16,11 @@ one_less (suc n) out h e = rw (e, sub-one) refl
 
 cycles-row : (source : Source) (left : RowsLeft) (n : ℕ) (out : List ℤ) → rows_left source ≡ left → source ≡ Cycles n → ¬ (n ≡ 0)
     → length out ≡ length left.types
-    → left ≡ record { types = []; rows = out ∷ replicate (n - 1) []; refusal = None; refused = false }
+    → left ≡ record { types = []; rows = out ∷ replicate (n - 1) []; refusal = None; ended = false }
 cycles-row source left n out e is h l =
     let seen : left ≡ rows_left (Cycles n) = sym e ∙ ap rows_left is in
     let width : length out ≡ 0 = l ∙ ap (λ x. length x.types) seen in
-    seen ∙ ap (λ rows. record { types = []; rows = rows; refusal = None; refused = false }) (one_less n out h (no_values out width))
+    seen ∙ ap (λ rows. record { types = []; rows = rows; refusal = None; ended = false }) (one_less n out h (no_values out width))
 
 pub returns-clause-row : goal.returns-clause-row
 returns-clause-row c = elim c.match-self.branch [

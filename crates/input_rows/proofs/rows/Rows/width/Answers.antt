@@ -1,6 +1,6 @@
 use Rattle.std.proofs.Common.{◌≡◌, ◌∙◌, refl, sym, ap, length}
 use Rattle.input_rows.specs.declared.wanted.Wanted.{Wanted}
-use Rattle.input_rows.specs.declared.wanted.Wanted.TheVariants.{All, First, Refused}
+use Rattle.input_rows.specs.declared.wanted.Wanted.TheVariants.{All, First, Ended}
 use Rattle.input_rows.specs.RowsOf.{RowsLeft}
 use Rattle.input_rows.specs.WantedRows.{wanted_rows}
 use Rattle.input_rows.proofs.rows.Rows.width.Goals as goal
@@ -8,7 +8,7 @@ use Rattle.input_rows.proofs.rows.Rows.width.Goals as goal
 types : (w : Wanted) (left : RowsLeft) → (wanted_rows w left).types ≡ left.types
 types All left = refl
 types (First n behind) left = refl
-types (Refused why) left = refl
+types (Ended behind) left = refl
 
 pub returns : goal.returns
 returns c =
