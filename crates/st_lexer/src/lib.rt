@@ -14,6 +14,7 @@ mod words;
 
 pub use fault::LexFault;
 pub use reading::{lex, one_reading};
+pub use spot::spot_behind;
 pub use symbols::spelling as symbol_spelling;
 pub use token::{Key, Sym, Tok, Token};
 pub use tokens::Tokens;

@@ -2,7 +2,7 @@
 
 ghost use Rattle.std.specs.Prelude.{◌≡◌, All, IfOk, IfErr};
 ghost use Rattle.vcp_base.specs.Limits.{most_depth};
-ghost use Rattle.st_lexer.specs.Reading.{Reads, IsInside};
+ghost use Rattle.st_lexer.specs.Reading.{IsInside};
 ghost use Rattle.st_tree.specs.ProgramTree.{ProgramTree};
 ghost use Rattle.st_tree.specs.StmtViews.{stmt_trees};
 ghost use Rattle.st_tree.specs.ProgramViews.{program_tree};
@@ -18,7 +18,7 @@ use crate::fault::SyntaxFault;
 use crate::levels::leave;
 use crate::names::Source;
 use crate::state::{At, Front, Level, Phase, State};
-use st_lexer::{Tokens, one_reading};
+use st_lexer::Tokens;
 use st_spelling::spelling_begins;
 use st_tree::{Program, Stmts};
 use std::alloc::Global;
@@ -147,10 +147,10 @@ fn read_program(
 /// The one program that the tokens of a text spell, no token deeper than 64; or the place of the
 /// fault, or want of memory.
 ///
-/// The tokens are the reading of the text. Each token is looked at once, and what is open round it is
+/// Each token stands inside the text, as those of its reading do. Each is looked at once, and what is open round it is
 /// at most 64 deep, so that time is linear in the tokens; nothing is kept on the machine's stack.
 pub fn parse(alloc: Global, text: &[u8], tokens: &Tokens) -> Result<Program, SyntaxFault>
-    requires reading { Reads text.now tokens.now.tokens }
+    requires inside { All (IsInside text.now) tokens.now.tokens }
 
     // What is answered is spelled so, no token deeper than the limit, and is the only program that the
     // tokens spell, however deep; and no token is too deep, whatever program the tokens through it begin.
@@ -166,7 +166,6 @@ pub fn parse(alloc: Global, text: &[u8], tokens: &Tokens) -> Result<Program, Syn
     // before it is too deep; a fault of depth is at the first token that is too deep.
     ensures err { IfErr result (Refuses text.now tokens.now.tokens tokens.now.end) }
 {
-    one_reading();
     spelling_begins();
     read_program(alloc, text, tokens, MOST_DEPTH as usize)
 }

@@ -1,12 +1,14 @@
 -- The names that are declared where the tokens of a text spell a program: each is a word of the text.
-use Rattle.std.proofs.Common.{◌≡◌, ℕ, suc, ◌+◌, ◌-◌, ◌≤◌, Bool, true, false, cond, ◌&&◌, ◌||◌, List, [], ◌∷◌, ◌++◌, length, take, drop, flat_map, Option, Some}
+use Rattle.std.proofs.Common.{◌≡◌, ℕ, zero, suc, ◌+◌, ◌-◌, ◌≤◌, Bool, true, false, cond, ◌&&◌, ◌||◌, List, [], ◌∷◌, ◌++◌, length, take, drop, flat_map, Option, Some}
 use Rattle.std.proofs.Common.{None, sym, refl, ap, ◌∙◌, subst, arith, length-take, length-drop}
 use Rattle.std.specs.Prelude.{slice_index}
 use Rattle.std.specs.List.{list_all, prefix_len}
 use Rattle.std.specs.Char.{is_ascii_digit}
+use Rattle.std.proofs.lemmas.List.{take-append-le, drop-append-le}
 use Rattle.std.proofs.lemmas.List.Elements.{All-nil, All-cons, All-append}
 use Rattle.vcp_base.specs.Limits.{most_source_bytes}
 use Rattle.vcp_base.specs.Names.{is_letter, is_letter_or_digit, is_name}
+use Rattle.st_lexer.specs.declared.token.Key.{Key}
 use Rattle.st_lexer.specs.declared.token.Key.TheVariants as key
 use Rattle.st_lexer.specs.declared.token.Tok.{Tok}
 use Rattle.st_lexer.specs.declared.token.Tok.TheVariants as tok
@@ -150,3 +152,56 @@ module _ (bytes : Token → List ℕ) (short : (t : Token) → length (bytes t) 
 pub has_names : (p : ProgramTree) (text : List ℕ) (ts : List Token) → Reads text ts → length text ≤ most_source_bytes → Spells p text ts → HasNames p
 has_names p text ts reads short (ps, spells, is) =
     of-program (bytes_in text) (λ t. short-in text t short) spells (each-of text ps (reading-says text (tokens_of ps) (rw is reads)))
+
+-- ---- a reading's front, with a reserved word behind it
+
+-- each token stands in the text
+abbrev EachIn : List ℕ → List Token → Type 0
+EachIn text [] = Unit {0}
+EachIn text (t ∷ ts) = (t.from ≤ length text) × (t.to ≤ length text) × EachIn text ts
+
+in-one : (text : List ℕ) (p : Piece) (o : Option Tok) (ts : List Token) → p.from ≤ length text → p.to ≤ length text → EachIn text ts
+    → EachIn text (token_of text p o ++ ts)
+in-one text p None ts f e h = h
+in-one text p (Some t) ts f e h = (f, e, h)
+
+in-each : (text : List ℕ) (ps : List Piece) (a b : ℕ) → Cover text ps a b → EachIn text (tokens_of_pieces text ps)
+in-each text [] a b c = tt
+in-each text (p ∷ ps) a b c =
+    let to : p.to ≡ p.from + c.1.0 = c.1.2 in
+    let inside : p.to ≤ length text = c.1.3 in
+    in-one text p p.is (tokens_of_pieces text ps) (omega (arith, to, inside)) inside (in-each text ps p.to b c.2)
+
+reading-in : (text : List ℕ) (ts : List Token) → Reads text ts → EachIn text ts
+reading-in text ts r = subst (EachIn text) (sym r.2) (in-each text r.0 0 (length text) r.1)
+
+-- a token has the same bytes where more stand behind the text
+bytes-before : (text more : List ℕ) (t : Token) → t.from ≤ length text → t.to ≤ length text → bytes_in (text ++ more) t ≡ bytes_in text t
+bytes-before text more t f e =
+    ap (λ (s : List ℕ). take (t.to - t.from) s) (drop-append-le t.from text more f)
+    ∙ take-append-le (t.to - t.from) (drop t.from text) more (omega (arith, f, e, length-drop t.from text))
+
+longer-says : (text more : List ℕ) (ts : List Token) → EachSays text ts → EachIn text ts → EachSays (text ++ more) ts
+longer-says text more [] h k = tt
+longer-says text more (t ∷ ts) h k =
+    (subst (λ (w : List ℕ). Says w t.tok) (sym (bytes-before text more t k.0 k.1)) h.0, longer-says text more ts h.1 k.2)
+
+taken-says : (text : List ℕ) (k : ℕ) (ts : List Token) → EachSays text ts → EachSays text (take k ts)
+taken-says text zero [] h = tt
+taken-says text zero (t ∷ ts) h = tt
+taken-says text (suc k) [] h = tt
+taken-says text (suc k) (t ∷ ts) h = (h.0, taken-says text k ts h.1)
+
+ended-says : (text : List ℕ) (ts : List Token) (e : Token) (w : Key) → e.tok ≡ tok.Key w → EachSays text ts → EachSays text (ts ++ e ∷ [])
+ended-says text [] e w is h = (subst (Says (bytes_in text e)) (sym is) tt, tt)
+ended-says text (t ∷ ts) e w is h = (h.0, ended-says text ts e w is h.1)
+
+-- so may those that the first tokens of a reading and a reserved word spell, with more bytes behind the text
+pub begun_names : (p : ProgramTree) (text more : List ℕ) (k : ℕ) (ts : List Token) (e : Token) (w : Key) → Reads text ts
+    → length (text ++ more) ≤ most_source_bytes → e.tok ≡ tok.Key w → Spells p (text ++ more) (take k ts ++ e ∷ []) → HasNames p
+begun_names p text more k ts e w reads short key (ps, spells, is) =
+    of-program (bytes_in (text ++ more)) (λ t. short-in (text ++ more) t short) spells
+    (each-of (text ++ more) ps
+    (subst (EachSays (text ++ more)) (sym is)
+    (ended-says (text ++ more) (take k ts) e w key
+    (taken-says (text ++ more) k ts (longer-says text more ts (reading-says text ts reads) (reading-in text ts reads))))))

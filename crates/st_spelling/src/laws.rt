@@ -1,8 +1,10 @@
 //! Laws of spelling.
 
-ghost use Rattle.std.specs.Prelude.{◌≡◌, ◌++◌, ◌≤◌, ℕ, List, length};
+ghost use Rattle.std.specs.Prelude.{◌≡◌, [], ◌∷◌, ◌++◌, ◌≤◌, ℕ, List, length, take};
 ghost use Rattle.vcp_base.specs.Limits.{most_source_bytes};
 ghost use Rattle.st_lexer.specs.Reading.{Reads};
+ghost use Rattle.st_lexer.specs.declared.token.Key.{Key};
+ghost use Rattle.st_lexer.specs.declared.token.Tok.TheVariants as tok;
 ghost use Rattle.st_lexer.specs.declared.token.Token.{Token};
 ghost use Rattle.st_tree.specs.Declarable.{HasNames};
 ghost use Rattle.st_tree.specs.ProgramTree.{ProgramTree};
@@ -20,7 +22,10 @@ pub fn spelling_begins()
 {}
 
 /// Each name that a program declares is one that may be declared, where the tokens of a source spell
-/// the program: a letter or `_`, and then letters, digits and `_`, no longer than the source.
+/// the program: a letter or `_`, and then letters, digits and `_`, no longer than the source. So too where the first tokens of a
+/// reading and a reserved word spell it, with more bytes behind the text.
 pub fn spelled_names_are_declarable()
     ensures names { (p : ProgramTree) (text : List ℕ) (ts : List Token) → Reads text ts → length text ≤ most_source_bytes → Spells p text ts → HasNames p }
+    ensures begun { (p : ProgramTree) (text more : List ℕ) (k : ℕ) (ts : List Token) (e : Token) (w : Key) → Reads text ts
+        → length (text ++ more) ≤ most_source_bytes → e.tok ≡ tok.Key w → Spells p (text ++ more) (take k ts ++ e ∷ []) → HasNames p }
 {}

@@ -20,3 +20,4 @@ pub mod Keys
 pub mod Wanted
 pub mod WholeLaws
 pub mod StmtNodes
+mod SlotNames

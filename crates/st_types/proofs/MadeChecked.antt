@@ -95,7 +95,7 @@ sized-fits v =
     (cond-fits ty.Dint v (fits ty.Dint v) (cond (fits ty.Lint v) (Some ty.Lint) None) refl
     (cond-fits ty.Lint v (fits ty.Lint v) None refl tt))
 
-literal-fits : (t : Option Ty) (v : ℤ) → FitsTo v (literal_type t v)
+pub literal-fits : (t : Option Ty) (v : ℤ) → FitsTo v (literal_type t v)
 literal-fits None v = sized-fits v
 literal-fits (Some t) v = cond-fits t v (fits t v) None refl tt
 
@@ -220,7 +220,7 @@ either-meets ty.Lint ty.Int = (refl, refl, refl)
 either-meets ty.Lint ty.Dint = (refl, refl, refl)
 either-meets ty.Lint ty.Lint = (refl, refl, refl)
 
-common-meets : (op : BinOp) (x y : Ty) → IfSome (common op x y) (Meets (common op) x y)
+pub common-meets : (op : BinOp) (x y : Ty) → IfSome (common op x y) (Meets (common op) x y)
 common-meets bin.Mul x y = joined-meets x y
 common-meets bin.Div x y = joined-meets x y
 common-meets bin.Mod x y = joined-meets x y

@@ -1,11 +1,13 @@
 //! Laws of typing: what its definitions have to do with each other.
 
-ghost use Rattle.std.specs.Prelude.{◌≡◌, ◌⊎◌, ◌↔◌, ℕ, ◌<◌, ℤ, pos, true, List, Option, Some, None, option_map};
+ghost use Rattle.std.specs.Prelude.{◌≡◌, ◌⊎◌, ◌↔◌, ℕ, ◌<◌, ℤ, pos, true, Bool, List, Option, Some, None, IfSome, option_map};
+ghost use Rattle.std.specs.List.{list_all};
+ghost use Rattle.st_tree.specs.declared.expr.BinOp.{BinOp};
 ghost use Rattle.st_tree.specs.ExprTree.{ExprTree};
 ghost use Rattle.st_tree.specs.StmtTree.{StmtTrees};
 ghost use Rattle.st_tree.specs.ProgramTree.{ProgramTree};
-ghost use Rattle.st_tree.specs.Declarable.{HasNames};
-ghost use Rattle.st_types.specs.ExprTyping.{type_of, ExprFault, expr_of};
+ghost use Rattle.st_tree.specs.Declarable.{HasNames, names_of};
+ghost use Rattle.st_types.specs.ExprTyping.{literal_type, type_of, ExprFault, expr_of, widened};
 ghost use Rattle.st_types.specs.Scope.{Entry};
 ghost use Rattle.st_types.specs.StmtTyping.{StmtsFault, stmts_of, begins, turns_of};
 ghost use Rattle.st_types.specs.Turns.{turn_value};
@@ -14,7 +16,12 @@ ghost use Rattle.st_types.specs.declared.fault.Fault.{Fault};
 ghost use Rattle.st_types.specs.declared.fault.TypeFault.{TypeFault};
 ghost use Rattle.st_types.specs.declared.fault.TypeFault.TheVariants as told;
 ghost use Rattle.vcp_base.specs.declared.spot.Spot.{Spot};
-ghost use Rattle.vcp_typed.specs.Checked.{IsChecked, ty_of};
+ghost use Rattle.vcp_base.specs.declared.ty.Ty.{Ty};
+ghost use Rattle.vcp_base.specs.Types.{fits, within};
+ghost use Rattle.vcp_typed.specs.declared.slot.Slot.{Slot};
+ghost use Rattle.vcp_typed.specs.TExprTree.{TExprTree};
+ghost use Rattle.vcp_typed.specs.Rules.{common};
+ghost use Rattle.vcp_typed.specs.Checked.{IsChecked, IsExpr, ty_of};
 ghost use Rattle.vcp_typed.specs.SourceRun.{Program};
 
 /// An expression has a checked expression exactly where it has no fault, and its type is that one's;
@@ -45,4 +52,20 @@ pub fn answers_are_one()
 /// FOR to this bound would begin. It does nothing: it states a law.
 pub fn turns_go_up_to_the_last_bound()
     ensures { (first last by : ℤ) (n : ℕ) → (by ≡ pos 0 → ⊥) → (n < turns_of first last by) ↔ (begins (turn_value first by n) last by ≡ true) }
+{}
+
+/// Parts of checked expressions. A literal is in its type; an expression keeps the rules where it is widened to a wider type, and
+/// has that type; operands of a common type are taken where that type is wanted. It does nothing: it states a law.
+pub fn widened_parts_are_checked()
+    ensures literal { (t : Option Ty) (v : ℤ) → IfSome (literal_type t v) (λ u. fits u v ≡ true) }
+    ensures widened { (slots : List Slot) (t u : Ty) (a : TExprTree) → ty_of a ≡ u → within u t ≡ true → IsExpr slots a
+        → IsExpr slots (widened t u a) × (ty_of (widened t u a) ≡ t) }
+    ensures common { (op : BinOp) (x y : Ty) → IfSome (common op x y) (λ t. (within x t ≡ true) × (within y t ≡ true) × (common op t t ≡ Some t)) }
+{}
+
+/// A variable of a checked program has a declared name: what all declared names pass, the names of all variables do. It does
+/// nothing: it states a law.
+pub fn slots_have_declared_names()
+    ensures { (p : ProgramTree) (t : Program) (test : List ℕ → Bool) → IsTyped p t → list_all (λ d. test d.name) (names_of p) ≡ true
+        → list_all (λ s. test s.name) t.slots ≡ true }
 {}

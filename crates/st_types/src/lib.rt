@@ -23,6 +23,10 @@ mod variable;
 pub use fault::TypeFault;
 pub use laws::{
     answers_are_one, faultless_programs_are_checked, faults_prevent_checked_trees,
-    turns_go_up_to_the_last_bound,
+    slots_have_declared_names, turns_go_up_to_the_last_bound, widened_parts_are_checked,
 };
+pub use literal::literal_type;
+pub use names::{Entry, Names};
+pub use operator::{common, result, widened_from};
 pub use typing::typed;
+pub use variable::is_set;

@@ -31,7 +31,7 @@ pub(crate) fn sized(value: i64) -> Ty
 }
 
 /// The type of a literal: as it is written, or by its value; none where it is outside.
-pub(crate) fn literal_type(ty: Option<Ty>, value: i64) -> Option<Ty>
+pub fn literal_type(ty: Option<Ty>, value: i64) -> Option<Ty>
     ensures { result ≡ type_of_literal ty value }
 {
     match ty {

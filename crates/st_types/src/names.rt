@@ -21,7 +21,7 @@ pub struct Entry {
 
 /// The declared names, in order of declaration; none is there twice.
 #[derive(Drop)]
-pub(crate) struct Names {
+pub struct Names {
     alloc: Global,
     // By the name in lower case.
     entries: IndexMap<Vec<u8>, Entry>,
@@ -41,7 +41,7 @@ impl Model for Names {
 
 impl Names {
     /// A table of no names. It takes no memory.
-    pub(crate) fn new(alloc: Global) -> Names
+    pub fn new(alloc: Global) -> Names
         ensures { result ≡ [] }
     {
         Names {
@@ -51,14 +51,14 @@ impl Names {
     }
 
     /// How many names there are.
-    pub(crate) fn len(&self) -> usize
+    pub fn len(&self) -> usize
         ensures { result ≡ length self.now }
     {
         self.entries.len()
     }
 
     /// What was declared by a name, without regard to case; `Memory` where there is no room to look.
-    pub(crate) fn find(&self, name: &[u8]) -> Result<Option<&Entry>, Memory>
+    pub fn find(&self, name: &[u8]) -> Result<Option<&Entry>, Memory>
         ensures { IfOk result (λ r. option_map (λ e. e.now) r ≡ find self.now name.now) }
     {
         let entries = &self.entries;
@@ -67,7 +67,7 @@ impl Names {
     }
 
     /// Appends a name, unless it is there, and says whether it did. After `Memory` nothing is changed.
-    pub(crate) fn declare(&mut self, entry: Entry) -> Result<bool, Memory>
+    pub fn declare(&mut self, entry: Entry) -> Result<bool, Memory>
         ensures said { IfOk result (λ r. r ≡ is_none (find self.old entry.name)) }
         ensures declared { OnOk result (self.new ≡ cond (is_none (find self.old entry.name)) (self.old ++ entry ∷ []) self.old) }
         ensures unchanged { OnErr result (self.new ≡ self.old) }

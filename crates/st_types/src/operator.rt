@@ -52,7 +52,7 @@ pub(crate) fn joined_or_bool(a: Ty, b: Ty) -> Option<Ty>
 }
 
 /// The common type of an operator's operands, where it takes operands of these types.
-pub(crate) fn common(op: BinOp, a: Ty, b: Ty) -> Option<Ty>
+pub fn common(op: BinOp, a: Ty, b: Ty) -> Option<Ty>
     ensures { result ≡ common_of op a b }
 {
     match op {
@@ -73,8 +73,8 @@ pub(crate) fn common(op: BinOp, a: Ty, b: Ty) -> Option<Ty>
     }
 }
 
-// The type of an operator's value, where its operands have this one.
-fn result(op: BinOp, ty: Ty) -> Ty
+/// The type of an operator's value, where its operands have this one.
+pub fn result(op: BinOp, ty: Ty) -> Ty
     ensures { result ≡ result_of op ty }
 {
     match op {
@@ -157,14 +157,22 @@ fn as_type(alloc: Global, ty: Ty, e: TExpr) -> Result<TExpr, Memory>
     }
 }
 
-/// The expression where one of type `ty` is wanted: widened where its own type widens to that one.
-pub(crate) fn widened(alloc: Global, ty: Ty, e: TExpr) -> Result<TExpr, Memory>
-    ensures { IfOk result
-        (λ r. texpr_tree r ≡ widened_of ty (type_of_value (texpr_tree e)) (texpr_tree e)) }
+/// The expression, whose type is `from`, where one of type `ty` is wanted: widened where `from` widens to that one.
+pub fn widened_from(alloc: Global, ty: Ty, from: Ty, e: TExpr) -> Result<TExpr, Memory>
+    ensures { IfOk result (λ r. texpr_tree r ≡ widened_of ty from (texpr_tree e)) }
 {
-    if widens(ty_of(&e), ty) {
+    if widens(from, ty) {
         as_type(alloc, ty, e)
     } else {
         Ok(e)
     }
+}
+
+/// The expression where one of type `ty` is wanted, by its own type.
+pub(crate) fn widened(alloc: Global, ty: Ty, e: TExpr) -> Result<TExpr, Memory>
+    ensures { IfOk result
+        (λ r. texpr_tree r ≡ widened_of ty (type_of_value (texpr_tree e)) (texpr_tree e)) }
+{
+    let from = ty_of(&e);
+    widened_from(alloc, ty, from, e)
 }

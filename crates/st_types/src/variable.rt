@@ -15,8 +15,8 @@ use st_tree::Class;
 use std::alloc::Global;
 use vcp_base::{Memory, Spot, Ty, is_bool};
 
-// Whether statements may set variables of the class.
-fn is_set(class: Class) -> bool
+/// Whether statements may set variables of the class.
+pub fn is_set(class: Class) -> bool
     ensures { result ≡ is_set_of class }
 {
     match class {

@@ -61,6 +61,13 @@ impl Typed {
         &self.slots
     }
 
+    /// The variables, in order of declaration, where the rest of the program isn't needed any more.
+    pub fn into_slots(self) -> Slots
+        ensures { result.items.items ≡ self.slots }
+    {
+        self.slots
+    }
+
     /// The statements.
     pub fn body(&self) -> &TStmts
         ensures body { tstmt_trees result.now.items.items ≡ self.now.body }
