@@ -1,14 +1,17 @@
--- SoFar: what a campaign has found and told, fault by fault.
+-- SoFar: what a campaign has found and told, group by group.
 use Rattle.std.proofs.Common.{◌≡◌, ◌≤◌, ◌+◌, ℕ, zero, suc, ℤ, List, [], ◌∷◌, ◌++◌, length, take, All, slice_get, option_map, Option, Some, Err}
 use Rattle.std.proofs.Common.{refl, ap, sym, subst, ◌∙◌, length-append, arith}
-use Rattle.std.proofs.lemmas.List.Elements.{All-nil, All-push}
-use Rattle.std.proofs.lemmas.Option.{slice_get-map, slice_get_within}
+use Rattle.std.proofs.lemmas.List.Elements.{All-get_or, All-nil, All-push}
+use Rattle.std.proofs.lemmas.Option.{get_or_from_slice_get, slice_get-map, slice_get_within}
 use Rattle.std.specs.Io.KnownBytes.{Appends}
 use Rattle.std.proofs.KnownBytes.{Appends-trans, Appends-nil}
 use Rattle.vcp_outside.specs.Written.{AppendsPart}
+use Rattle.coded_machine.specs.Runs.{Outcome}
+use Rattle.coded_machine.specs.declared.cycle_end.CycleEnd.{CycleEnd}
 use Rattle.op_graph.specs.Lists.{Lists}
 use Rattle.signature_table.specs.Signatures.{Numbers}
 use Rattle.fault_script.specs.declared.act.Fault.{Fault}
+use Rattle.fault_script.specs.Groups.{GroupFits, line_of}
 use Rattle.fault_injector.specs.declared.verdict.Verdict.{Verdict}
 use Rattle.fault_injector.specs.Names.{Names}
 use Rattle.fault_runs.specs.Scripts.{StaysHonest}
@@ -20,25 +23,34 @@ use Rattle.fault_campaign.specs.Campaign.{verdict_lines, verdicts_of, Told}
 use Rattle.fault_campaign.proofs.Telling.{no_lines, lines_next, totals_next, line_failed, totals_failed}
 
 -- where no answer was wrong from the first moment to the last, none was up to a moment between them
-honest_first : (a b c : ℕ) → a ≤ b → b ≤ c → StaysHonest a c → StaysHonest a b
+pub honest_first : (a b c : ℕ) → a ≤ b → b ≤ c → StaysHonest a c → StaysHonest a b
 honest_first a b c first second h = (omega (arith, first, second, h.0), h.1)
 
-honest_second : (a b c : ℕ) → a ≤ b → b ≤ c → StaysHonest a c → StaysHonest b c
+pub honest_second : (a b c : ℕ) → a ≤ b → b ≤ c → StaysHonest a c → StaysHonest b c
 honest_second a b c first second h = (omega (arith, first, second, h.0), omega (arith, first, second, h.0, h.1))
+
+-- each group of a script fits the graph
+pub group_fits : (g : Lists) (script : List (List Fault)) (i : ℕ) (f : List Fault) → slice_get script i ≡ Some f → All (GroupFits g) script → GroupFits g f
+group_fits g script i f there all =
+    subst (GroupFits g) (get_or_from_slice_get script i f f there) (All-get_or (GroupFits g) script i f (slice_get_within script i f there) all)
+
+-- how a run ended that released these rows
+abbrev pub outcome : List (List ℤ) → CycleEnd → Outcome
+outcome rows e = record { rows = rows; end = e }
 
 take_one_more : {X : Type 0} (xs : List X) (i : ℕ) (x : X) → slice_get xs i ≡ Some x → take (suc i) xs ≡ take i xs ++ x ∷ []
 take_one_more [] i x e = absurd cc
 take_one_more (y ∷ xs) zero x e = let same : y ≡ x = cc in ap (λ z. z ∷ []) same
 take_one_more (y ∷ xs) (suc i) x e = ap (λ l. y ∷ l) (take_one_more xs i x e)
 
--- the verdicts of the first faults, found between two moments of a unit's count
-pub record Found (t : Numbers) (g : Lists) (fs : List Fault) (rows : List (List ℤ)) (before now : ℕ) (vs : List Verdict) : Type 0 where
+-- the verdicts of the first groups, found between two moments of a unit's count
+pub record Found (t : Numbers) (g : Lists) (fs : List (List Fault)) (rows : List (List ℤ)) (before now : ℕ) (vs : List Verdict) : Type 0 where
   pub names : All (Names (length g.outputs) (length g.operations)) vs
   pub few : length vs ≤ length fs
   pub right : StaysHonest before now → vs ≡ take (length vs) (verdicts_of t g fs rows)
 
 -- so many verdicts are found, counted and told
-pub record SoFar (t : Numbers) (g : Lists) (fs : List Fault) (rows : List (List ℤ)) (before now : ℕ) (old new : Option (List ℕ)) (i : ℕ) (totals : Totals)
+pub record SoFar (t : Numbers) (g : Lists) (fs : List (List Fault)) (rows : List (List ℤ)) (before now : ℕ) (old new : Option (List ℕ)) (i : ℕ) (totals : Totals)
     : Type 0 where
   pub verdicts : List Verdict
   pub count : length verdicts ≡ i
@@ -47,38 +59,49 @@ pub record SoFar (t : Numbers) (g : Lists) (fs : List Fault) (rows : List (List 
   pub totals_are : totals ≡ totals_of verdicts
   pub told : Appends old new (verdict_lines g fs verdicts)
 
--- the verdict of the next fault is found
-pub record Next (t : Numbers) (g : Lists) (fs : List Fault) (rows : List (List ℤ)) (before now i : ℕ) (f : Fault) (v : Verdict) : Type 0 where
+-- the verdict of the next group is found
+pub record Next (t : Numbers) (g : Lists) (fs : List (List Fault)) (rows : List (List ℤ)) (first before now i : ℕ) (f : List Fault) (v : Verdict) : Type 0 where
   pub there : slice_get fs i ≡ Some f
   pub later : before ≤ now
   pub names : Names (length g.outputs) (length g.operations) v
-  pub right : StaysHonest before now → v ≡ verdict_of t g f rows
+  pub right : StaysHonest first now → v ≡ verdict_of t g f rows
 
-pub so_far_none : (t : Numbers) (g : Lists) (fs : List Fault) (rows : List (List ℤ)) (wrong : ℕ) (old : Option (List ℕ)) →
-    SoFar t g fs rows wrong wrong old old 0 no_verdicts
-so_far_none t g fs rows wrong old = record {
+pub so_far_none : (t : Numbers) (g : Lists) (fs : List (List Fault)) (rows : List (List ℤ)) (before now : ℕ) (old : Option (List ℕ)) → before ≤ now →
+    SoFar t g fs rows before now old old 0 no_verdicts
+so_far_none t g fs rows before now old rises = record {
   verdicts = [];
   count = refl;
-  later = omega arith;
+  later = rises;
   found = record { names = All-nil (Names (length g.outputs) (length g.operations)); few = omega arith; right = λ h. refl };
   totals_are = refl;
   told = subst (Appends old old) (sym (no_lines g fs)) (Appends-nil old);
 }
 
-module _ (t : Numbers) (g : Lists) (fs : List Fault) (rows : List (List ℤ)) where
+-- memory was wanted for the run without faults
+pub none_told : (t : Numbers) (g : Lists) (fs : List (List Fault)) (rows : List (List ℤ)) (before now : ℕ) (old : Option (List ℕ)) →
+    Told t g fs rows before now old old (Err fault.Memory)
+none_told t g fs rows before now old = record {
+  verdicts = [];
+  names = All-nil (Names (length g.outputs) (length g.operations));
+  few = omega arith;
+  right = λ h. refl;
+  written = subst (Appends old old) (sym (no_lines g fs)) (Appends-nil old);
+}
+
+module _ (t : Numbers) (g : Lists) (fs : List (List Fault)) (rows : List (List ℤ)) where
   -- the defined verdicts, with one more
-  right_next : (vs : List Verdict) (f : Fault) (v : Verdict) → slice_get fs (length vs) ≡ Some f → vs ≡ take (length vs) (verdicts_of t g fs rows) →
+  right_next : (vs : List Verdict) (f : List Fault) (v : Verdict) → slice_get fs (length vs) ≡ Some f → vs ≡ take (length vs) (verdicts_of t g fs rows) →
       v ≡ verdict_of t g f rows → vs ++ v ∷ [] ≡ take (length (vs ++ v ∷ [])) (verdicts_of t g fs rows)
   right_next vs f v there before is =
       let many : length (vs ++ v ∷ []) ≡ suc (length vs) = omega (arith, length-append vs (v ∷ [])) in
       let all = verdicts_of t g fs rows in
       let here : slice_get all (length vs) ≡ Some (verdict_of t g f rows) =
-      slice_get-map (λ (e : Fault). verdict_of t g e rows) fs (length vs) ∙ ap (option_map (λ (e : Fault). verdict_of t g e rows)) there in
+      slice_get-map (λ (e : List Fault). verdict_of t g e rows) fs (length vs) ∙ ap (option_map (λ (e : List Fault). verdict_of t g e rows)) there in
       ap (λ l. l ++ v ∷ []) before ∙ ap (λ w. take (length vs) all ++ w ∷ []) is
       ∙ sym (take_one_more all (length vs) (verdict_of t g f rows) here) ∙ ap (λ n. take n all) (sym many)
 
   -- one verdict more
-  found_next : (a b c : ℕ) (vs : List Verdict) (f : Fault) (v : Verdict) → a ≤ b → Found t g fs rows a b vs → Next t g fs rows b c (length vs) f v →
+  found_next : (a b c : ℕ) (vs : List Verdict) (f : List Fault) (v : Verdict) → a ≤ b → Found t g fs rows a b vs → Next t g fs rows a b c (length vs) f v →
       Found t g fs rows a c (vs ++ v ∷ [])
   found_next a b c vs f v first found next =
       let many : length (vs ++ v ∷ []) ≡ suc (length vs) = omega (arith, length-append vs (v ∷ [])) in
@@ -86,17 +109,18 @@ module _ (t : Numbers) (g : Lists) (fs : List Fault) (rows : List (List ℤ)) wh
         names = All-push (Names (length g.outputs) (length g.operations)) vs v found.names next.names;
         few = omega (arith, many, slice_get_within fs (length vs) f next.there);
         right = λ h. right_next vs f v next.there (found.right (honest_first a b c first next.later h))
-            (next.right (honest_second a b c first next.later h));
+            (next.right h);
       }
 
   module _ (a b c : ℕ) (old mid new : Option (List ℕ)) (i : ℕ) (totals : Totals) (so_far : SoFar t g fs rows a b old mid i totals) where
     -- the next one, by how many there are
-    here : {f : Fault} {v : Verdict} → Next t g fs rows b c i f v → Next t g fs rows b c (length so_far.verdicts) f v
+    here : {f : List Fault} {v : Verdict} → Next t g fs rows a b c i f v → Next t g fs rows a b c (length so_far.verdicts) f v
     here next = record { there = ap (slice_get fs) so_far.count ∙ next.there; later = next.later; names = next.names; right = next.right }
 
-    pub so_far_next : (f : Fault) (v : Verdict) → Next t g fs rows b c i f v → Appends mid new (verdict_text g f.line v) →
-        SoFar t g fs rows a c old new (i + 1) (counted totals v)
-    so_far_next f v next line =
+    pub so_far_next : (f : List Fault) (v : Verdict) (number : ℕ) → Next t g fs rows a b c i f v → number ≡ line_of f →
+        Appends mid new (verdict_text g number v) → SoFar t g fs rows a c old new (i + 1) (counted totals v)
+    so_far_next f v number next is said =
+        let line = subst (λ (n : ℕ). Appends mid new (verdict_text g n v)) is said in
         let vs = so_far.verdicts in
         let there = (here next).there in
         record {
@@ -106,13 +130,14 @@ module _ (t : Numbers) (g : Lists) (fs : List Fault) (rows : List (List ℤ)) wh
           found = found_next a b c vs f v so_far.later so_far.found (here next);
           totals_are = ap (λ (x : Totals). counted x v) so_far.totals_are ∙ sym (totals_next no_verdicts vs v);
           told = subst (Appends old new) (sym (lines_next g fs vs f v there))
-              (Appends-trans old mid new (verdict_lines g fs vs) (verdict_text g f.line v) so_far.told line);
+              (Appends-trans old mid new (verdict_lines g fs vs) (verdict_text g (line_of f) v) so_far.told line);
         }
 
     -- the line of the next verdict couldn't be written
-    pub line_exit : (f : Fault) (v : Verdict) → Next t g fs rows b c i f v → AppendsPart mid new (verdict_text g f.line v) →
-        Told t g fs rows a c old new (Err fault.Write)
-    line_exit f v next part =
+    pub line_exit : (f : List Fault) (v : Verdict) (number : ℕ) → Next t g fs rows a b c i f v → number ≡ line_of f →
+        AppendsPart mid new (verdict_text g number v) → Told t g fs rows a c old new (Err fault.Write)
+    line_exit f v number next is said =
+        let part = subst (λ (n : ℕ). AppendsPart mid new (verdict_text g n v)) is said in
         let found = found_next a b c so_far.verdicts f v so_far.later so_far.found (here next) in
         record {
           verdicts = so_far.verdicts ++ v ∷ [];

@@ -7,6 +7,7 @@ use Rattle.std.proofs.KnownBytes.{Appends-trans}
 use Rattle.vcp_outside.specs.Written.{AppendsPart}
 use Rattle.op_graph.specs.Lists.{Lists}
 use Rattle.fault_script.specs.declared.act.Fault.{Fault}
+use Rattle.fault_script.specs.Groups.{line_of}
 use Rattle.fault_injector.specs.declared.verdict.Verdict.{Verdict}
 use Rattle.fault_injector.specs.declared.verdict.Verdict.TheVariants as verdict
 use Rattle.fault_campaign.specs.declared.lines.Totals.{Totals}
@@ -16,36 +17,36 @@ use Rattle.fault_campaign.specs.Campaign.{verdict_lines, campaign_text, PartTold
 -- ---- lines
 
 -- the line of the next verdict comes behind those of the verdicts before it, and the later ones behind it
-pub lines_there : (g : Lists) (fs : List Fault) (vs : List Verdict) (f : Fault) (v : Verdict) (more : List Verdict) → slice_get fs (length vs) ≡ Some f →
+pub lines_there : (g : Lists) (fs : List (List Fault)) (vs : List Verdict) (f : List Fault) (v : Verdict) (more : List Verdict) → slice_get fs (length vs) ≡ Some f →
     verdict_lines g fs (vs ++ v ∷ more)
-    ≡ verdict_lines g fs vs ++ (verdict_text g f.line v ++ verdict_lines g (drop (suc (length vs)) fs) more)
+    ≡ verdict_lines g fs vs ++ (verdict_text g (line_of f) v ++ verdict_lines g (drop (suc (length vs)) fs) more)
 lines_there g [] vs f v more there = absurd cc
 lines_there g (e ∷ fs) [] f v more there =
-    let same : e ≡ f = cc in ap (λ (x : Fault). verdict_text g x.line v ++ verdict_lines g fs more) same
+    let same : e ≡ f = cc in ap (λ (x : List Fault). verdict_text g (line_of x) v ++ verdict_lines g fs more) same
 lines_there g (e ∷ fs) (w ∷ vs) f v more there =
-    ap (λ l. verdict_text g e.line w ++ l) (lines_there g fs vs f v more there)
-    ∙ sym (append_assoc (verdict_text g e.line w) (verdict_lines g fs vs) (verdict_text g f.line v ++ verdict_lines g (drop (suc (length vs)) fs) more))
+    ap (λ l. verdict_text g (line_of e) w ++ l) (lines_there g fs vs f v more there)
+    ∙ sym (append_assoc (verdict_text g (line_of e) w) (verdict_lines g fs vs) (verdict_text g (line_of f) v ++ verdict_lines g (drop (suc (length vs)) fs) more))
 
-pub no_lines : (g : Lists) (fs : List Fault) → verdict_lines g fs [] ≡ []
+pub no_lines : (g : Lists) (fs : List (List Fault)) → verdict_lines g fs [] ≡ []
 no_lines g [] = refl
 no_lines g (f ∷ fs) = refl
 
 -- the lines with one more
-pub lines_next : (g : Lists) (fs : List Fault) (vs : List Verdict) (f : Fault) (v : Verdict) → slice_get fs (length vs) ≡ Some f →
-    verdict_lines g fs (vs ++ v ∷ []) ≡ verdict_lines g fs vs ++ verdict_text g f.line v
+pub lines_next : (g : Lists) (fs : List (List Fault)) (vs : List Verdict) (f : List Fault) (v : Verdict) → slice_get fs (length vs) ≡ Some f →
+    verdict_lines g fs (vs ++ v ∷ []) ≡ verdict_lines g fs vs ++ verdict_text g (line_of f) v
 lines_next g fs vs f v there =
     lines_there g fs vs f v [] there
-    ∙ ap (λ l. verdict_lines g fs vs ++ (verdict_text g f.line v ++ l)) (no_lines g (drop (suc (length vs)) fs))
-    ∙ ap (λ l. verdict_lines g fs vs ++ l) (append-nil (verdict_text g f.line v))
+    ∙ ap (λ l. verdict_lines g fs vs ++ (verdict_text g (line_of f) v ++ l)) (no_lines g (drop (suc (length vs)) fs))
+    ∙ ap (λ l. verdict_lines g fs vs ++ l) (append-nil (verdict_text g (line_of f) v))
 
 -- the lines of the first verdicts are a front of those of all
-lines_front : (g : Lists) (fs : List Fault) (first rest : List Verdict) →
+lines_front : (g : Lists) (fs : List (List Fault)) (first rest : List Verdict) →
     (more : List ℕ) × (verdict_lines g fs (first ++ rest) ≡ verdict_lines g fs first ++ more)
 lines_front g [] first rest = ([], refl)
 lines_front g (f ∷ fs) [] rest = (verdict_lines g (f ∷ fs) rest, refl)
 lines_front g (f ∷ fs) (v ∷ first) rest =
     let later = lines_front g fs first rest in
-    (later.0, ap (λ l. verdict_text g f.line v ++ l) later.1 ∙ sym (append_assoc (verdict_text g f.line v) (verdict_lines g fs first) later.0))
+    (later.0, ap (λ l. verdict_text g (line_of f) v ++ l) later.1 ∙ sym (append_assoc (verdict_text g (line_of f) v) (verdict_lines g fs first) later.0))
 
 -- ---- totals
 
@@ -82,7 +83,7 @@ part_behind old mid new text piece more whole part = (
 )
 
 -- the lines of the verdicts before the last one are there where those of all are
-earlier_there : (g : Lists) (fs : List Fault) (vs : List Verdict) (old new : Option (List ℕ)) (more : List ℕ) →
+earlier_there : (g : Lists) (fs : List (List Fault)) (vs : List Verdict) (old new : Option (List ℕ)) (more : List ℕ) →
     Appends old new (verdict_lines g fs vs ++ more) → EarlierTold g fs vs old new
 earlier_there g fs vs old new more told earlier last is =
     let front = lines_front g fs earlier (last ∷ []) in
@@ -91,19 +92,19 @@ earlier_there g fs vs old new more told earlier last is =
     (front.0 ++ more, subst (Appends old new) same told)
 
 -- a part of the line of a verdict was written behind the lines of those before it
-pub line_failed : (g : Lists) (fs : List Fault) (vs : List Verdict) (f : Fault) (v : Verdict) (old mid new : Option (List ℕ)) →
-    slice_get fs (length vs) ≡ Some f → Appends old mid (verdict_lines g fs vs) → AppendsPart mid new (verdict_text g f.line v) →
+pub line_failed : (g : Lists) (fs : List (List Fault)) (vs : List Verdict) (f : List Fault) (v : Verdict) (old mid new : Option (List ℕ)) →
+    slice_get fs (length vs) ≡ Some f → Appends old mid (verdict_lines g fs vs) → AppendsPart mid new (verdict_text g (line_of f) v) →
     PartTold g fs (vs ++ v ∷ []) old new × EarlierTold g fs (vs ++ v ∷ []) old new
 line_failed g fs vs f v old mid new there before part = (
   (λ later few.
       let text = verdict_lines g (drop (suc (length vs)) fs) later in
       let totals = totals_text (totals_of ((vs ++ v ∷ []) ++ later)) in
-      let lines : verdict_lines g fs ((vs ++ v ∷ []) ++ later) ≡ verdict_lines g fs vs ++ (verdict_text g f.line v ++ text) =
+      let lines : verdict_lines g fs ((vs ++ v ∷ []) ++ later) ≡ verdict_lines g fs vs ++ (verdict_text g (line_of f) v ++ text) =
       ap (verdict_lines g fs) (append_assoc vs (v ∷ []) later) ∙ lines_there g fs vs f v later there in
-      let all : verdict_lines g fs vs ++ (verdict_text g f.line v ++ (text ++ totals)) ≡ campaign_text g fs ((vs ++ v ∷ []) ++ later) =
-      ap (λ l. verdict_lines g fs vs ++ l) (sym (append_assoc (verdict_text g f.line v) text totals))
-      ∙ sym (append_assoc (verdict_lines g fs vs) (verdict_text g f.line v ++ text) totals) ∙ ap (λ l. l ++ totals) (sym lines) in
-      subst (AppendsPart old new) all (part_behind old mid new (verdict_lines g fs vs) (verdict_text g f.line v) (text ++ totals) before part)),
+      let all : verdict_lines g fs vs ++ (verdict_text g (line_of f) v ++ (text ++ totals)) ≡ campaign_text g fs ((vs ++ v ∷ []) ++ later) =
+      ap (λ l. verdict_lines g fs vs ++ l) (sym (append_assoc (verdict_text g (line_of f) v) text totals))
+      ∙ sym (append_assoc (verdict_lines g fs vs) (verdict_text g (line_of f) v ++ text) totals) ∙ ap (λ l. l ++ totals) (sym lines) in
+      subst (AppendsPart old new) all (part_behind old mid new (verdict_lines g fs vs) (verdict_text g (line_of f) v) (text ++ totals) before part)),
   (λ earlier last is.
       let same = same_from_push vs earlier v last is in (
         part.0,
@@ -117,7 +118,7 @@ none_later a b [] all is = refl
 none_later a b (v ∷ later) all is = absurd (omega (arith, all, is))
 
 -- a part of the line of the totals was written behind all others
-pub totals_failed : (g : Lists) (fs : List Fault) (vs : List Verdict) (old mid new : Option (List ℕ)) → length vs ≡ length fs →
+pub totals_failed : (g : Lists) (fs : List (List Fault)) (vs : List Verdict) (old mid new : Option (List ℕ)) → length vs ≡ length fs →
     Appends old mid (verdict_lines g fs vs) → AppendsPart mid new (totals_text (totals_of vs)) → PartTold g fs vs old new × EarlierTold g fs vs old new
 totals_failed g fs vs old mid new all before part = (
   (λ later few.

@@ -1,10 +1,11 @@
--- Campaign: the verdicts of the faults of a script, line by line, and their totals.
+-- Campaign: the verdicts of the groups of a script, line by line, and their totals.
 use Rattle.std.specs.Prelude.{◌≡◌, ◌≤◌, ◌+◌, ℕ, ℤ, List, [], ◌∷◌, ◌++◌, length, map, take, All, Option, Result, Ok, Err}
 use Rattle.std.specs.Io.KnownBytes.{Appends}
 use Rattle.vcp_outside.specs.Written.{AppendsPart}
 use Rattle.op_graph.specs.Lists.{Lists}
 use Rattle.signature_table.specs.Signatures.{Numbers}
 use Rattle.fault_script.specs.declared.act.Fault.{Fault}
+use Rattle.fault_script.specs.Groups.{line_of}
 use Rattle.fault_injector.specs.declared.verdict.Verdict.{Verdict}
 use Rattle.fault_injector.specs.Names.{Names}
 use Rattle.fault_runs.specs.Scripts.{StaysHonest}
@@ -15,46 +16,46 @@ use Rattle.fault_campaign.specs.declared.fault.CampaignFault.TheVariants as faul
 
 -- ---- what a campaign writes
 
--- the lines of these verdicts, fault by fault, each with the number of its fault's line
-abbrev pub verdict_lines : Lists → List Fault → List Verdict → List ℕ
+-- the lines of these verdicts, group by group, each with the number of its group's line
+abbrev pub verdict_lines : Lists → List (List Fault) → List Verdict → List ℕ
 verdict_lines g [] vs = []
-verdict_lines g (f ∷ faults) [] = []
-verdict_lines g (f ∷ faults) (v ∷ vs) = verdict_text g f.line v ++ verdict_lines g faults vs
+verdict_lines g (faults ∷ groups) [] = []
+verdict_lines g (faults ∷ groups) (v ∷ vs) = verdict_text g (line_of faults) v ++ verdict_lines g groups vs
 
 -- all of it: a line for each verdict, and then their totals
-abbrev pub campaign_text : Lists → List Fault → List Verdict → List ℕ
-campaign_text g faults vs = verdict_lines g faults vs ++ totals_text (totals_of vs)
+abbrev pub campaign_text : Lists → List (List Fault) → List Verdict → List ℕ
+campaign_text g groups vs = verdict_lines g groups vs ++ totals_text (totals_of vs)
 
--- the verdict of each fault over these rows of inputs
-abbrev pub verdicts_of : Numbers → Lists → List Fault → List (List ℤ) → List Verdict
-verdicts_of t g faults rows = map (λ f. verdict_of t g f rows) faults
+-- the verdict of each group over these rows of inputs
+abbrev pub verdicts_of : Numbers → Lists → List (List Fault) → List (List ℤ) → List Verdict
+verdicts_of t g groups rows = map (λ faults. verdict_of t g faults rows) groups
 
 -- ---- how much of it is written
 
 -- whatever the later verdicts are, a front of the whole text was written that lacks at least its last byte
-abbrev pub PartTold : Lists → List Fault → List Verdict → Option (List ℕ) → Option (List ℕ) → Type 0
-PartTold g faults vs old new = (later : List Verdict) → length vs + length later ≡ length faults → AppendsPart old new (campaign_text g faults (vs ++ later))
+abbrev pub PartTold : Lists → List (List Fault) → List Verdict → Option (List ℕ) → Option (List ℕ) → Type 0
+PartTold g groups vs old new = (later : List Verdict) → length vs + length later ≡ length groups → AppendsPart old new (campaign_text g groups (vs ++ later))
 
 -- all lines of the verdicts before the last were written, and maybe more
-abbrev pub EarlierTold : Lists → List Fault → List Verdict → Option (List ℕ) → Option (List ℕ) → Type 0
-EarlierTold g faults vs old new =
-    (earlier : List Verdict) (last : Verdict) → vs ≡ earlier ++ last ∷ [] → (more : List ℕ) × Appends old new (verdict_lines g faults earlier ++ more)
+abbrev pub EarlierTold : Lists → List (List Fault) → List Verdict → Option (List ℕ) → Option (List ℕ) → Type 0
+EarlierTold g groups vs old new =
+    (earlier : List Verdict) (last : Verdict) → vs ≡ earlier ++ last ∷ [] → (more : List ℕ) × Appends old new (verdict_lines g groups earlier ++ more)
 
--- What was written where these verdicts were found. At the end it is all, with a verdict for each fault; where a write failed it is a part; where
+-- What was written where these verdicts were found. At the end it is all, with a verdict for each group; where a write failed it is a part; where
 -- memory was wanted for the next verdict it is the lines of those before it.
-abbrev pub Tells : Lists → List Fault → List Verdict → Option (List ℕ) → Option (List ℕ) → Result (Unit {0}) CampaignFault → Type 0
-Tells g faults vs old new (Ok _) = (length vs ≡ length faults) × Appends old new (campaign_text g faults vs)
-Tells g faults vs old new (Err fault.Write) = PartTold g faults vs old new × EarlierTold g faults vs old new
-Tells g faults vs old new (Err fault.Memory) = Appends old new (verdict_lines g faults vs)
+abbrev pub Tells : Lists → List (List Fault) → List Verdict → Option (List ℕ) → Option (List ℕ) → Result (Unit {0}) CampaignFault → Type 0
+Tells g groups vs old new (Ok _) = (length vs ≡ length groups) × Appends old new (campaign_text g groups vs)
+Tells g groups vs old new (Err fault.Write) = PartTold g groups vs old new × EarlierTold g groups vs old new
+Tells g groups vs old new (Err fault.Memory) = Appends old new (verdict_lines g groups vs)
 
 -- ---- a whole campaign
 
--- What a campaign tells: of the first faults of the script some verdicts, each of which names what the graph has, and their text. Where no answer of
--- the unit was wrong, they are the defined verdicts of these faults.
-pub record Told (t : Numbers) (g : Lists) (faults : List Fault) (rows : List (List ℤ)) (wrong_before wrong_now : ℕ) (old new : Option (List ℕ))
+-- What a campaign tells: of the first groups of the script some verdicts, each of which names what the graph has, and their text. Where no answer of
+-- the unit was wrong, they are the defined verdicts of these groups.
+pub record Told (t : Numbers) (g : Lists) (groups : List (List Fault)) (rows : List (List ℤ)) (wrong_before wrong_now : ℕ) (old new : Option (List ℕ))
     (result : Result (Unit {0}) CampaignFault) : Type 0 where
   pub verdicts : List Verdict
   pub names : All (Names (length g.outputs) (length g.operations)) verdicts
-  pub few : length verdicts ≤ length faults
-  pub right : StaysHonest wrong_before wrong_now → verdicts ≡ take (length verdicts) (verdicts_of t g faults rows)
-  pub written : Tells g faults verdicts old new result
+  pub few : length verdicts ≤ length groups
+  pub right : StaysHonest wrong_before wrong_now → verdicts ≡ take (length verdicts) (verdicts_of t g groups rows)
+  pub written : Tells g groups verdicts old new result

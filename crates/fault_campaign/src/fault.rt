@@ -11,7 +11,7 @@ use vcp_outside::Failed;
 pub enum CampaignFault {
     /// A line couldn't be written.
     Write,
-    /// Memory was wanted for the verdict of a fault.
+    /// Memory was wanted for the verdict of a group.
     Memory,
 }
 

@@ -1,4 +1,4 @@
-//! A campaign of faults: for each fault of a script the line of its verdict, and then their totals.
+//! A campaign of faults: for each group of a script the line of its verdict, and then their totals.
 #![tactic(auto)]
 
 mod fault;

@@ -3,9 +3,9 @@
 //! a part of the line is written.
 
 ghost use Rattle.std.specs.Prelude.{◌≡◌, ◌<◌, ◌++◌, length, slice_get, decimal};
-ghost use Rattle.vcp_outside.specs.Written.{Writes};
+ghost use Rattle.vcp_outside.specs.Written.{WritesTo};
 ghost use Rattle.fault_injector.specs.Names.{Names};
-ghost use Rattle.gathered_line.specs.Gathering.{Gathers};
+ghost use Rattle.gathered_line.specs.Gathering.{GathersTo};
 ghost use Rattle.fault_campaign.specs.FaultLines.{wrong_text, ran_on_text, stopped_at, stopped_text, what_shows, verdict_text, faults as faults_of};
 ghost use Rattle.fault_campaign.specs.FaultLines.{counted, no_verdicts, totals_text};
 
@@ -73,7 +73,7 @@ impl Totals {
 
 // Goes on with a cycle, an output's name and the values with and without the fault.
 fn then_wrong<O: Sink>(line: &mut Line, out: &mut O, cycle: u32, name: &Text, got: i64, want: i64)
-    ensures { Gathers (O.written out.old) (O.written out.new) (O.faults out.old) (O.faults out.new) line.old line.new (wrong_text cycle name.now got want) }
+    ensures { GathersTo (O.seen out.old) (O.seen out.new) line.old line.new (wrong_text cycle name.now got want) }
 {
     line.text(out, b"wrong ");
     line.count(out, cycle as u64);
@@ -87,7 +87,7 @@ fn then_wrong<O: Sink>(line: &mut Line, out: &mut O, cycle: u32, name: &Text, go
 
 // Goes on with the cycle up to which no output was refused.
 fn then_ran_on<O: Sink>(line: &mut Line, out: &mut O, cycle: u32)
-    ensures { Gathers (O.written out.old) (O.written out.new) (O.faults out.old) (O.faults out.new) line.old line.new (ran_on_text cycle) }
+    ensures { GathersTo (O.seen out.old) (O.seen out.new) line.old line.new (ran_on_text cycle) }
 {
     line.text(out, b"ran-on ");
     line.count(out, cycle as u64);
@@ -96,7 +96,7 @@ fn then_ran_on<O: Sink>(line: &mut Line, out: &mut O, cycle: u32)
 // Goes on with why operation `op` stopped, its place in the source, and the turns round it.
 fn then_stopped_at<O: Sink>(line: &mut Line, out: &mut O, kind: StopKind, graph: &Graph, op: u32)
     requires { op < length graph.now.operations }
-    ensures { Gathers (O.written out.old) (O.written out.new) (O.faults out.old) (O.faults out.new) line.old line.new
+    ensures { GathersTo (O.seen out.old) (O.seen out.new) line.old line.new
         (stopped_at graph.now kind (slice_get graph.now.operations op)) }
 {
     then_cause(line, out, kind, graph.operation(op).spot);
@@ -113,7 +113,7 @@ fn then_stopped<O: Sink>(
     kind: StopKind,
 )
     requires { op < length graph.now.operations }
-    ensures { Gathers (O.written out.old) (O.written out.new) (O.faults out.old) (O.faults out.new) line.old line.new (stopped_text graph.now cycle op kind) }
+    ensures { GathersTo (O.seen out.old) (O.seen out.new) line.old line.new (stopped_text graph.now cycle op kind) }
 {
     line.text(out, b"stopped ");
     line.count(out, cycle as u64);
@@ -126,7 +126,7 @@ fn then_stopped<O: Sink>(
 // Goes on with a verdict.
 fn then_verdict<O: Sink>(line: &mut Line, out: &mut O, graph: &Graph, verdict: &Verdict)
     requires { Names (length graph.now.outputs) (length graph.now.operations) verdict.now }
-    ensures { Gathers (O.written out.old) (O.written out.new) (O.faults out.old) (O.faults out.new) line.old line.new (what_shows graph.now verdict.now) }
+    ensures { GathersTo (O.seen out.old) (O.seen out.new) line.old line.new (what_shows graph.now verdict.now) }
 {
     match *verdict {
         Verdict::Same => line.text(out, b"same"),
@@ -163,7 +163,7 @@ pub fn verdict_line<O: Sink>(
     verdict: &Verdict,
 ) -> Result<(), Failed>
     requires { Names (length graph.now.outputs) (length graph.now.operations) verdict.now }
-    ensures { Writes (O.written out.old) (O.written out.new) (O.faults out.old) (O.faults out.new) (verdict_text graph.now line verdict.now) result }
+    ensures { WritesTo (O.seen out.old) (O.seen out.new) (verdict_text graph.now line verdict.now) result }
 {
     let mut text = begin(out, b"", line);
     text.text(out, b" ");
@@ -173,7 +173,7 @@ pub fn verdict_line<O: Sink>(
 
 // Goes on with a word and a number.
 fn then_count<O: Sink>(line: &mut Line, out: &mut O, word: &[u8], number: u64)
-    ensures { Gathers (O.written out.old) (O.written out.new) (O.faults out.old) (O.faults out.new) line.old line.new (word.now ++ decimal number) }
+    ensures { GathersTo (O.seen out.old) (O.seen out.new) line.old line.new (word.now ++ decimal number) }
 {
     line.text(out, word);
     line.count(out, number);
@@ -182,7 +182,7 @@ fn then_count<O: Sink>(line: &mut Line, out: &mut O, word: &[u8], number: u64)
 /// Writes how many faults a script has, and how many of each verdict. After `Failed` a part of the
 /// line is written.
 pub fn totals_line<O: Sink>(out: &mut O, totals: &Totals) -> Result<(), Failed>
-    ensures { Writes (O.written out.old) (O.written out.new) (O.faults out.old) (O.faults out.new) (totals_text totals.now) result }
+    ensures { WritesTo (O.seen out.old) (O.seen out.new) (totals_text totals.now) result }
 {
     let mut line = Line::new();
     then_count(&mut line, out, b"faults ", totals.faults());

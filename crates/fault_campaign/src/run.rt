@@ -1,10 +1,10 @@
-//! The loop over the faults of a script.
+//! The loop over the groups of a script.
 
 ghost use Rattle.std.specs.Prelude.{◌≡◌, ◌≤◌, All, Err, length};
 ghost use Rattle.vcp_base.specs.Limits.{most_cycles};
 ghost use Rattle.vcp_outside.specs.Counts.{Rose};
 ghost use Rattle.signature_table.specs.Signatures.{IsTableOf};
-ghost use Rattle.fault_script.specs.Fits.{Fits};
+ghost use Rattle.fault_script.specs.Groups.{GroupFits};
 ghost use Rattle.fault_script.specs.ScriptOf.{most_faults};
 ghost use Rattle.fault_campaign.specs.Campaign.{Told};
 ghost use Rattle.fault_campaign.specs.declared.fault.CampaignFault.TheVariants as fault;
@@ -12,7 +12,7 @@ ghost use Rattle.fault_campaign.specs.declared.fault.CampaignFault.TheVariants a
 use crate::fault::CampaignFault;
 use crate::lines::{Totals, totals_line, verdict_line};
 use coded_unit::Unit;
-use fault_injector::judge::verdict;
+use fault_injector::judge::{run_undisturbed, verdict_beside};
 use fault_script::Script;
 use input_rows::RowList;
 use op_graph::Graph;
@@ -20,11 +20,12 @@ use signature_table::Table;
 use std::alloc::Global;
 use vcp_outside::Sink;
 
-/// Finds the verdict of each fault of a script over rows of inputs, in order, and writes its line before
-/// the next fault is looked at; then it writes the totals.
+/// Finds the verdict of each group of a script over rows of inputs, in order, and writes its line before
+/// the next group is looked at; then it writes the totals, which count groups. The run without faults is
+/// carried once, before the first group.
 ///
 /// After `Write` a part of the text is written, in which the lines before the one that failed are whole.
-/// After `Memory` the lines of the faults before the one whose verdict wanted it are written.
+/// After `Memory` the lines of the groups before the one whose verdict wanted it are written.
 pub fn run_campaign<U: Unit, O: Sink>(
     alloc: Global,
     out: &mut O,
@@ -37,18 +38,19 @@ pub fn run_campaign<U: Unit, O: Sink>(
     requires table { IsTableOf table.now graph.now }
     requires width { All (λ row. length row ≡ length graph.now.inputs) rows.now }
     requires few { length rows.now ≤ most_cycles }
-    requires faults { All (Fits graph.now) script.now }
+    requires groups { All (GroupFits graph.now) script.now }
     requires short { length script.now ≤ most_faults }
-    ensures told { Told table.now graph.now script.now rows.now (U.wrong unit.old) (U.wrong unit.new) (O.written out.old) (O.written out.new) result }
-    ensures never_falls { U.wrong unit.old ≤ U.wrong unit.new }
-    ensures write { result ≡ Err fault.Write → Rose (O.faults out.old) (O.faults out.new) }
-    ensures later { O.faults out.old ≤ O.faults out.new }
+    ensures told { Told table.now graph.now script.now rows.now (U.seen unit.old).wrong (U.seen unit.new).wrong (O.seen out.old).written (O.seen out.new).written result }
+    ensures never_falls { (U.seen unit.old).wrong ≤ (U.seen unit.new).wrong }
+    ensures write { result ≡ Err fault.Write → Rose (O.seen out.old).faults (O.seen out.new).faults }
+    ensures later { (O.seen out.old).faults ≤ (O.seen out.new).faults }
 {
+    let other = run_undisturbed(alloc, graph, table, rows, unit)?;
     let mut totals = Totals::new();
-    'faults: for i in 0..script.len() {
-        let fault = script.at(i);
-        let verdict = verdict(alloc, graph, table, rows, &fault, unit)?;
-        verdict_line(out, graph, fault.line, &verdict)?;
+    'groups: for i in 0..script.len() {
+        let group = script.at(i);
+        let verdict = verdict_beside(alloc, graph, table, rows, &other, group, unit)?;
+        verdict_line(out, graph, group.line(), &verdict)?;
         totals.count(&verdict);
     }
     totals_line(out, &totals)?;

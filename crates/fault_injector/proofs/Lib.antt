@@ -4,4 +4,5 @@ pub mod EndsWithin
 pub mod RowsBeside
 pub mod RunsBeside
 pub mod UndisturbedRun
+pub mod WorkedGroups
 pub mod WorkedVerdicts

@@ -17,11 +17,11 @@ use Rattle.fault_injector.specs.declared.verdict.Verdict.{Verdict}
 use Rattle.fault_injector.specs.declared.verdict.Verdict.TheVariants as verdict
 use Rattle.fault_injector.specs.Verdicts.{verdict_of}
 
-abbrev operation : Kind → Ty → ℕ → ℕ → ℤ → Op
+abbrev pub operation : Kind → Ty → ℕ → ℕ → ℤ → Op
 operation k t a b imm = record { kind = k; from = t; ty = t; a = a; b = b; c = 0; imm = imm; spot = record { line = 0; col = 0 }; turn = 0 }
 
 -- a graph of these operations with one output, without cells
-abbrev of_operations : Profile → Ty → ℕ → List Op → Lists
+abbrev pub of_operations : Profile → Ty → ℕ → List Op → Lists
 of_operations p t out ops = record {
   profile = p;
   names = [];
@@ -34,7 +34,7 @@ of_operations p t out ops = record {
 }
 
 -- y := x + 1
-abbrev adds_one : Profile → Ty → Lists
+abbrev pub adds_one : Profile → Ty → Lists
 adds_one p t = of_operations p t 3 (operation kind.Input t 0 0 (pos 0) ∷ operation kind.Const t 0 0 (pos 1) ∷ operation kind.Add t 0 1
     (pos 0) ∷ operation kind.Out t 2 0 (pos 0) ∷ [])
 
@@ -54,7 +54,7 @@ turns_sign = of_operations profile.Narrow ty.Dint 2 (operation kind.Input ty.Din
     (pos 0) ∷ operation kind.Out ty.Dint 1 0 (pos 0) ∷ [])
 
 -- n := n + 1; y := n
-abbrev counts : Lists
+abbrev pub counts : Lists
 counts = record (of_operations profile.Narrow ty.Dint 3
     (operation kind.Load ty.Dint 0 0 (pos 0) ∷ operation kind.Const ty.Dint 0 0 (pos 1) ∷ operation kind.Add ty.Dint 0 1
     (pos 0) ∷ operation kind.Out ty.Dint 2 0 (pos 0) ∷ operation kind.Store ty.Dint 2 0 (pos 0) ∷ [])) {
@@ -63,12 +63,12 @@ counts = record (of_operations profile.Narrow ty.Dint 3
     }
 
 -- the numbers of a seed; no correction is read
-abbrev of_seed : Profile → ℕ → Numbers
+abbrev pub of_seed : Profile → ℕ → Numbers
 of_seed p seed = record { profile = p; seed = seed; step = 1; corrections = [] }
 
 -- the verdict with the seed 0 on these inputs
 abbrev verdict_on : Lists → ℕ → ℕ → Act → List (List ℤ) → Verdict
-verdict_on g n k a rows = verdict_of (of_seed g.profile 0) g (record { line = 1; cycle = n; op = k; act = a }) rows
+verdict_on g n k a rows = verdict_of (of_seed g.profile 0) g (record { line = 1; cycle = n; op = k; act = a } ∷ []) rows
 
 abbrev one : ℤ → List (List ℤ)
 one x = (x ∷ []) ∷ []
@@ -80,7 +80,7 @@ two x y = (x ∷ []) ∷ (y ∷ []) ∷ []
 abbrev cycles : List (List ℤ)
 cycles = [] ∷ [] ∷ [] ∷ []
 
-abbrev narrow : Lists
+abbrev pub narrow : Lists
 narrow = adds_one profile.Narrow ty.Dint
 
 abbrev in_int : Lists
@@ -145,7 +145,7 @@ copied : verdict_on turns_sign 0 1 (act.Operator kind.Conv) (one (pos 5)) ≡ ve
 unfolding signature modulo value_part
 copied = refl
 
-copied_refused : verdict_of (of_seed profile.Narrow 305419896) turns_sign (record { line = 1; cycle = 0; op = 1; act = act.Operator kind.Conv })
+copied_refused : verdict_of (of_seed profile.Narrow 305419896) turns_sign (record { line = 1; cycle = 0; op = 1; act = act.Operator kind.Conv } ∷ [])
     (one (pos 5)) ≡ verdict.Refused 0 0 1345756419 734916627
 unfolding signature modulo value_part
 copied_refused = refl

@@ -29,13 +29,13 @@ EndNames outputs operations end.Released = Unit {0}
 EndNames outputs operations (end.Stopped op kind) = op < operations
 EndNames outputs operations (end.Refused output found wanted) = output < outputs
 
--- Where the run without the fault came to this cycle as cycle n, its rows of outputs and its end tell how it ended: a stop ended the run before
+-- Where the run without the faults came to this cycle as cycle n, its rows of outputs and its end tell how it ended: a stop ended the run before
 -- this row, and else the row is there.
 pub record CycleTold (g : Lists) (n : ℕ) (rows : List (List ℤ)) (e : CycleEnd) (o : Cycle) : Type 0 where
   pub stopped : (why : StopKind) → o.stop ≡ Some why → (length rows ≡ n) × (e ≡ end.Stopped (length o.values) why)
   pub released : o.stop ≡ None → slice_get rows n ≡ Some (outputs g o.values)
 
--- The verdict of cycle n is the defined one: whatever cycles the two runs had there, if this is the end of the one with the fault, this its row of
+-- The verdict of cycle n is the defined one: whatever cycles the two runs had there, if this is the end of the one with the faults, this its row of
 -- outputs where it is released, and the other one is told so.
 abbrev pub JudgesBeside : ℕ → CycleEnd → List ℤ → List (List ℤ) → CycleEnd → Option Verdict → Type 0
 JudgesBeside n e row rows other result =

@@ -1,4 +1,4 @@
--- Verdicts: how the run with a fault differs from the run without it.
+-- Verdicts: how the run with a group of faults differs from the run without it.
 use Rattle.std.specs.Prelude.{ℕ, suc, ◌==◌, Bool, true, false, cond, ◌&&◌, List, [], ◌∷◌, Option, Some, None, ℤ}
 use Rattle.vcp_base.specs.Kinds.{same}
 use Rattle.vcp_base.specs.Values.{at}
@@ -15,7 +15,7 @@ use Rattle.fault_injector.specs.declared.verdict.Verdict.TheVariants as verdict
 use Rattle.fault_runs.specs.FaultRun.{operation_stop, stop_under, followed, fault_run}
 use Rattle.fault_runs.specs.Accepted.{RefusedAt, first_unaccepted}
 
--- ---- the run without the fault, cycle by cycle
+-- ---- the run without the faults, cycle by cycle
 
 -- the cycles over these rows, up to the first that stops, where the cells hold these values
 abbrev pub plain_cycles : Lists → List ℤ → List (List ℤ) → List Cycle
@@ -24,7 +24,7 @@ plain_cycles g held (row ∷ rows) = followed operation_stop (λ c. plain_cycles
 
 -- ---- one cycle of both runs
 
--- an output with another value: its number, the value under the fault and the value without it
+-- an output with another value: its number, the value under the faults and the value without them
 pub record WrongAt : Type 0 where
   pub output : ℕ
   pub got : ℤ
@@ -43,12 +43,12 @@ same_kind stop.DivZero stop.DivZero = true
 same_kind stop.Operand stop.Operand = true
 same_kind _ _ = false
 
--- the run without the fault stops at the same operation with the same kind
+-- the run without the faults stops at the same operation with the same kind
 abbrev pub stops_alike : Stop → Option Stop → Bool
 stops_alike s None = false
 stops_alike s (Some other) = s.op == other.op && same_kind s.kind other.kind
 
--- The verdict of cycle n, if it has one. The first of these cases counts: the run with the fault stops; an output isn't accepted; the other run
+-- The verdict of cycle n, if it has one. The first of these cases counts: the run with the faults stops; an output isn't accepted; the other run
 -- stops; a value of the output rows differs.
 abbrev pub judged : ℕ → Option Stop → Option RefusedAt → Option Stop → Option WrongAt → Option Verdict
 judged n (Some s) refused other wrong = Some (cond (stops_alike s other) verdict.Same (verdict.Stopped n s.op s.kind))
@@ -75,6 +75,6 @@ compared t g acts n [] others = verdict.Same
 compared t g acts n (c ∷ cycles) [] = verdict.Same
 compared t g acts n (c ∷ cycles) (other ∷ others) = verdict_or (judged_cycle t g acts n c other) (compared t g acts (suc n) cycles others)
 
--- the verdict of a fault over rows of inputs
-abbrev pub verdict_of : Numbers → Lists → Fault → List (List ℤ) → Verdict
-verdict_of t g f rows = compared t g (acts_of (f ∷ [])) 0 (fault_run t g f rows) (plain_cycles g (initial g) rows)
+-- the verdict of a group of faults over rows of inputs
+abbrev pub verdict_of : Numbers → Lists → List Fault → List (List ℤ) → Verdict
+verdict_of t g faults rows = compared t g (acts_of faults) 0 (fault_run t g faults rows) (plain_cycles g (initial g) rows)

@@ -1,4 +1,4 @@
-//! The verdict of a fault: the run with the fault beside the run without it, cycle by cycle.
+//! The verdict of a group of faults: the run with the faults beside the run without, cycle by cycle.
 
 ghost use Rattle.std.specs.Prelude.{◌≡◌, ◌<◌, ◌≤◌, ◌^◌, ◌↔◌, ℕ, [], true, false, None, All, IfOk, IfSome, length};
 ghost use Rattle.vcp_base.specs.Limits.{most_cycles};
@@ -9,11 +9,14 @@ ghost use Rattle.coded_machine.specs.CycleEnds.{end_of};
 ghost use Rattle.coded_machine.specs.Runs.{outcome_for};
 ghost use Rattle.coded_machine.specs.State.{setting, with_answers, after_end, row_after};
 ghost use Rattle.coded_machine.specs.declared.cycle_end.CycleEnd.TheVariants.{Released};
+ghost use Rattle.fault_script.specs.Changes.{none_kept};
 ghost use Rattle.fault_script.specs.Fits.{Fits};
+ghost use Rattle.fault_script.specs.Groups.{GroupFits};
 ghost use Rattle.fault_injector.specs.Names.{Names};
+ghost use Rattle.fault_runs.specs.Carried.{faults_of, keeps_of};
 ghost use Rattle.fault_runs.specs.FaultRun.{OneFaultRuns};
 ghost use Rattle.fault_injector.specs.Judging.{EndNames, JudgesBeside, row_wrong, wrong_verdict};
-ghost use Rattle.fault_runs.specs.RunLaw.{RunsKept, OneFaultStands};
+ghost use Rattle.fault_runs.specs.RunLaw.{RunsKept, GroupStands};
 ghost use Rattle.fault_runs.specs.ScriptedRun.{ScriptedCycle, ScriptedRunsAreRight, kept_through};
 ghost use Rattle.fault_runs.specs.Scripts.{StaysHonest};
 ghost use Rattle.fault_injector.specs.Verdicts.{verdict_of};
@@ -23,53 +26,55 @@ use crate::verdict::Verdict;
 use coded_machine::{CycleEnd, Machine, cycles_by_hand_are_whole};
 use coded_unit::Unit;
 use fault_runs::{
-    Scripted, ends_under_acts_are_read_off_the_answers, one_fault_runs_by_its_act,
+    Scripted, carried_of, ends_under_acts_are_read_off_the_answers, one_fault_runs_by_its_act,
     runs_under_acts_keep_the_run_law, scripted_runs_are_right_runs,
 };
-use fault_script::Fault;
+use fault_script::Group;
 use input_rows::RowList;
 use op_graph::{Graph, entries_keep_their_rules};
 use signature_table::Table;
 use std::alloc::Global;
 use vcp_base::{Memory, Row};
 
-/// The run without a fault: the outputs of the cycles that were released, and the end that came after
+/// The run without faults: the outputs of the cycles that were released, and the end that came after
 /// them, which is a release where the rows ended.
 #[derive(Drop)]
-struct Undisturbed {
-    rows: Vec<Row>,
-    end: CycleEnd,
+pub struct Undisturbed {
+    /// The outputs of the released cycles.
+    pub rows: Vec<Row>,
+    /// The end behind them.
+    pub end: CycleEnd,
 }
 
-/// How one fault changes the run of a graph over rows of inputs; `Memory` where there is no room for the
-/// outputs of the run without it and for two machines.
+/// How a group of faults changes the run of a graph over rows of inputs; `Memory` where there is no room for
+/// the faults, for the outputs of the run without them and for two machines.
 ///
-/// The run without the fault is carried first, through all rows. The calls of the second run go to a unit
-/// around the unit, which carries out the fault, and the two are compared cycle by cycle. In the first
+/// The run without the faults is carried first, through all rows. The calls of the second run go to a unit
+/// around the unit, which carries out the faults, and the two are compared cycle by cycle. In the first
 /// cycle in which one of these holds the verdict is: `Stopped`, or `Same` where both stop alike, where the
-/// run with the fault stops; `Refused` where an output of it has another residue than the expected one;
+/// run with the faults stops; `Refused` where an output of it has another residue than the expected one;
 /// `RanOn` where the other run ended; `Wrong` where a value differs. Where the rows end it is `Same`.
 ///
 /// Over a unit that answers each of its calls rightly it is the defined verdict. Any other comes only where
 /// the unit's count of wrong answers rose in the call. The run law, a clause too, says which words the run
-/// with the fault has.
+/// with the faults has.
 pub fn verdict<U: Unit>(
     alloc: Global,
     graph: &Graph,
     table: &Table,
     rows: &RowList,
-    fault: &Fault,
+    group: &Group,
     unit: &mut U,
 ) -> Result<Verdict, Memory>
     requires table { IsTableOf table.now graph.now }
     requires width { All (λ row. length row ≡ length graph.now.inputs) rows.now }
     requires few { length rows.now ≤ most_cycles }
-    requires fault { Fits graph.now fault.now }
-    ensures never_falls { U.wrong unit.old ≤ U.wrong unit.new }
-    ensures verdict { StaysHonest (U.wrong unit.old) (U.wrong unit.new) → IfOk result (λ v. v ≡ verdict_of table.now graph.now fault.now rows.now) }
+    requires group { GroupFits graph.now group.now }
+    ensures never_falls { (U.seen unit.old).wrong ≤ (U.seen unit.new).wrong }
+    ensures verdict { StaysHonest (U.seen unit.old).wrong (U.seen unit.new).wrong → IfOk result (λ v. v ≡ verdict_of table.now graph.now group.now rows.now) }
     ensures names { IfOk result (Names (length graph.now.outputs) (length graph.now.operations)) }
     ensures run_law { RunsKept }
-    ensures one_fault { OneFaultStands }
+    ensures groups { GroupStands }
     ensures values { OneFaultRuns }
     ensures scripted { ScriptedRunsAreRight }
     ensures accepted { EndsAreRead }
@@ -81,11 +86,38 @@ pub fn verdict<U: Unit>(
     scripted_runs_are_right_runs();
     ends_under_acts_are_read_off_the_answers();
     let other = run_undisturbed(alloc, graph, table, rows, unit)?;
-    let mut scripted = Scripted::new(unit, *fault);
-    compared(alloc, graph, table, rows, &mut scripted, &other)
+    verdict_beside(alloc, graph, table, rows, &other, group, unit)
 }
 
-/// The verdict of the run with a fault, beside the run without.
+/// The same beside a run without faults that was carried before, over the same rows.
+pub fn verdict_beside<U: Unit>(
+    alloc: Global,
+    graph: &Graph,
+    table: &Table,
+    rows: &RowList,
+    other: &Undisturbed,
+    group: &Group,
+    unit: &mut U,
+) -> Result<Verdict, Memory>
+    requires table { IsTableOf table.now graph.now }
+    requires width { All (λ row. length row ≡ length graph.now.inputs) rows.now }
+    requires few { length rows.now ≤ most_cycles }
+    requires group { GroupFits graph.now group.now }
+    requires others { All (λ row. length row ≡ length graph.now.outputs) other.now.rows.items }
+    ensures never_falls { (U.seen unit.old).wrong ≤ (U.seen unit.new).wrong }
+    ensures verdict { StaysHonest (U.seen unit.old).wrong (U.seen unit.new).wrong →
+        record { rows = other.now.rows.items; end = other.now.end } ≡ outcome_for (graph_run graph.now rows.now) →
+        IfOk result (λ v. v ≡ verdict_of table.now graph.now group.now rows.now) }
+    ensures names { IfOk result (Names (length graph.now.outputs) (length graph.now.operations)) }
+{
+    let carried = carried_of(alloc, group)?;
+    let mut scripted = Scripted::of_parts(unit, carried);
+    let verdict = compared(alloc, graph, table, rows, &mut scripted, other);
+    scripted.into_inner();
+    verdict
+}
+
+/// The verdict of the run with faults, beside the run without.
 fn compared<U: Unit>(
     alloc: Global,
     graph: &Graph,
@@ -97,14 +129,14 @@ fn compared<U: Unit>(
     requires table { IsTableOf table.now graph.now }
     requires width { All (λ row. length row ≡ length graph.now.inputs) rows.now }
     requires few { length rows.now ≤ most_cycles }
-    requires fault { Fits graph.now scripted.old.fault }
-    requires kept { scripted.old.kept ≡ None }
+    requires faults { All (Fits graph.now) (faults_of scripted.old.carried.items) }
+    requires kept { keeps_of scripted.old.carried.items ≡ none_kept (faults_of scripted.old.carried.items) }
     requires others { All (λ row. length row ≡ length graph.now.outputs) other.now.rows.items }
     ensures same { scripted.new.unit.ghost_name ≡ scripted.old.unit.ghost_name }
-    ensures never_falls { U.wrong scripted.old.unit.now ≤ U.wrong scripted.new.unit.now }
-    ensures verdict { StaysHonest (U.wrong scripted.old.unit.now) (U.wrong scripted.new.unit.now) →
+    ensures never_falls { (U.seen scripted.old.unit.now).wrong ≤ (U.seen scripted.new.unit.now).wrong }
+    ensures verdict { StaysHonest (U.seen scripted.old.unit.now).wrong (U.seen scripted.new.unit.now).wrong →
         record { rows = other.now.rows.items; end = other.now.end } ≡ outcome_for (graph_run graph.now rows.now) →
-        IfOk result (λ v. v ≡ verdict_of table.now graph.now scripted.old.fault rows.now) }
+        IfOk result (λ v. v ≡ verdict_of table.now graph.now (faults_of scripted.old.carried.items) rows.now) }
     ensures names { IfOk result (Names (length graph.now.outputs) (length graph.now.operations)) }
 {
     // What these laws and calls ensure is known of each cycle.
@@ -128,8 +160,8 @@ fn compared<U: Unit>(
     Ok(Verdict::Same)
 }
 
-/// The run without a fault, through all rows or to its end.
-fn run_undisturbed<U: Unit>(
+/// The run without faults, through all rows or to its end.
+pub fn run_undisturbed<U: Unit>(
     alloc: Global,
     graph: &Graph,
     table: &Table,
@@ -139,9 +171,9 @@ fn run_undisturbed<U: Unit>(
     requires table { IsTableOf table.now graph.now }
     requires width { All (λ row. length row ≡ length graph.now.inputs) rows.now }
     requires few { length rows.now ≤ most_cycles }
-    ensures never_falls { U.wrong unit.old ≤ U.wrong unit.new }
+    ensures never_falls { (U.seen unit.old).wrong ≤ (U.seen unit.new).wrong }
     ensures widths { IfOk result (λ other. All (λ row. length row ≡ length graph.now.outputs) other.rows.items) }
-    ensures run { StaysHonest (U.wrong unit.old) (U.wrong unit.new) →
+    ensures run { StaysHonest (U.seen unit.old).wrong (U.seen unit.new).wrong →
         IfOk result (λ other. record { rows = other.rows.items; end = other.end } ≡ outcome_for (graph_run graph.now rows.now)) }
 {
     let mut machine = Machine::new(alloc, graph, table)?;
@@ -167,7 +199,7 @@ fn run_undisturbed<U: Unit>(
     })
 }
 
-/// One cycle of the run with the fault, call by call.
+/// One cycle of the run with the faults, call by call.
 fn carry<U: Unit>(
     machine: &mut Machine<'_>,
     scripted: &mut Scripted<'_, U>,
@@ -184,12 +216,14 @@ fn carry<U: Unit>(
     ensures out { outputs.new ≡ row_after (with_answers machine.old machine.new.answers) result outputs.old }
     ensures width { length outputs.new ≡ length outputs.old }
     ensures same { scripted.new.unit.ghost_name ≡ scripted.old.unit.ghost_name }
-    ensures fault { scripted.new.fault ≡ scripted.old.fault }
-    ensures kept { scripted.new.kept
-        ≡ kept_through scripted.old.fault (setting machine.old inputs.now) scripted.old.kept [] machine.old.graph.operations machine.new.answers }
-    ensures never_falls { U.wrong scripted.old.unit.now ≤ U.wrong scripted.new.unit.now }
-    ensures scripted { StaysHonest (U.wrong scripted.old.unit.now) (U.wrong scripted.new.unit.now) →
-        ScriptedCycle scripted.old.fault (setting machine.old inputs.now) scripted.old.kept [] machine.old.graph.operations machine.new.answers }
+    ensures faults { faults_of scripted.new.carried.items ≡ faults_of scripted.old.carried.items }
+    ensures kept { keeps_of scripted.new.carried.items
+        ≡ kept_through (faults_of scripted.old.carried.items) (setting machine.old inputs.now) (keeps_of scripted.old.carried.items) []
+        machine.old.graph.operations machine.new.answers }
+    ensures never_falls { (U.seen scripted.old.unit.now).wrong ≤ (U.seen scripted.new.unit.now).wrong }
+    ensures scripted { StaysHonest (U.seen scripted.old.unit.now).wrong (U.seen scripted.new.unit.now).wrong →
+        ScriptedCycle (faults_of scripted.old.carried.items) (setting machine.old inputs.now) (keeps_of scripted.old.carried.items) []
+        machine.old.graph.operations machine.new.answers }
 {
     // A cycle that is carried by hand is whole.
     cycles_by_hand_are_whole();
@@ -200,7 +234,7 @@ fn carry<U: Unit>(
     machine.end(outputs)
 }
 
-/// The verdict of a cycle, if it has one, by how the run with the fault ended it and by the run without.
+/// The verdict of a cycle, if it has one, by how the run with the faults ended it and by the run without.
 fn judged(cycle: u32, end: &CycleEnd, outputs: &Row, other: &Undisturbed) -> Option<Verdict>
     requires few { length outputs.now < 2 ^ 32 }
     requires others { All (λ row. length row ≡ length outputs.now) other.now.rows.items }
@@ -233,7 +267,7 @@ fn judged(cycle: u32, end: &CycleEnd, outputs: &Row, other: &Undisturbed) -> Opt
     }
 }
 
-/// Whether the run without the fault has this end in this cycle.
+/// Whether the run without the faults has this end in this cycle.
 fn stops_alike(cycle: u32, end: &CycleEnd, other: &Undisturbed) -> bool
     ensures { (result ≡ true) ↔ ((length other.now.rows.items ≡ cycle) × (other.now.end ≡ end.now)) }
 {

@@ -1,4 +1,4 @@
-//! The verdicts on faults: `judge::verdict` compares the run with a fault with the run without it.
+//! The verdicts on faults: `judge::verdict` compares the run with a group of faults with the run without them.
 #![tactic(auto)]
 
 pub mod judge;

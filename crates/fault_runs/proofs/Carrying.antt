@@ -1,7 +1,6 @@
--- Carrying: one call through a fault.
-use Rattle.std.proofs.Common.{◌≡◌, ℕ, ◌-◌, ◌^◌, ◌<◌, Bool, true, false, cond, not, ◌&&◌, ◌||◌, List, [], ◌∷◌, ◌++◌, Option, Some, None, ℤ, zero, suc, refl, sym}
-use Rattle.std.proofs.Common.{ap, subst, ◌∙◌, arith, inl, inr}
-use Rattle.std.specs.Option.{is_some}
+-- Carrying: one call through the faults of a group.
+use Rattle.std.proofs.Common.{◌≡◌, ℕ, ◌-◌, ◌^◌, ◌<◌, Bool, true, false, cond, List, [], ◌∷◌, ◌++◌, Option, Some, None, ℤ, zero, suc, refl, sym}
+use Rattle.std.proofs.Common.{ap, subst, ◌∙◌, arith, inl, inr, length, drop, get_or, drop-cons, add-one, ◌+◌}
 use Rattle.std.proofs.lemmas.Bool.Decides.{nat_tests}
 use Rattle.coded_unit.specs.declared.call.Call.{Call}
 use Rattle.coded_unit.specs.declared.call.Answer.{Answer}
@@ -12,8 +11,10 @@ use Rattle.coded_unit.specs.Right.{Right}
 use Rattle.fault_script.specs.declared.act.Act.{Act}
 use Rattle.fault_script.specs.declared.act.Act.TheVariants as act
 use Rattle.fault_script.specs.declared.act.Fault.{Fault}
-use Rattle.fault_script.specs.Changes.{with_operand, changed, answered, is_skip, takes_word, is_call_of, act_at_call}
-use Rattle.fault_runs.specs.Scripts.{passed_by, handed_by, skips_by, right_by, word, right_under, Performed, StaysHonest}
+use Rattle.fault_script.specs.Changes.{with_operand, changed, answered, is_skip, is_call_of, act_with, act_at_call, kept_at_call}
+use Rattle.fault_runs.specs.declared.scripted.Carried.{Carried}
+use Rattle.fault_runs.specs.Carried.{faults_of, keeps_of}
+use Rattle.fault_runs.specs.Scripts.{passed_by, handed_by, skips_by, right_by, word, word_at_call, right_under, Performed, StaysHonest}
 
 -- ---- the call that is passed on may be asked
 
@@ -30,28 +31,23 @@ changed_asked (act.ResultAdd e) w call h = h
 changed_asked (act.Operator kind) w call h = record { corr = h.corr; stamp = h.stamp; from = h.from; ty = h.ty }
 changed_asked act.Skip w call h = h
 
--- ---- what a fault makes of a call, by the act that is carried out
+-- ---- what a group makes of a call, by the act that is carried out
 
--- the act is carried out at a call
-abbrev pub Here : Fault → Option ℤ → Call → Bool
-Here f kept call = is_call_of f.cycle f.op call && (not (takes_word f.act) || is_some kept)
-
-no_act : (f : Fault) (kept : Option ℤ) (call : Call) (here : Bool) → here ≡ Here f kept call → here ≡ false → act_at_call f kept call ≡ None
-no_act f kept call here is fails = ap (λ (b : Bool). cond b (Some f.act) None) (sym is ∙ fails)
-
-the_act : (f : Fault) (kept : Option ℤ) (call : Call) (here : Bool) → here ≡ Here f kept call → here ≡ true → act_at_call f kept call ≡ Some f.act
-the_act f kept call here is holds = ap (λ (b : Bool). cond b (Some f.act) None) (sym is ∙ holds)
-
-performed_by : (f : Fault) (kept : Option ℤ) (call : Call) (result : Answer) (x y : Option (List Entry)) (i j : ℕ) (a : Option Act) (inner : Answer) →
-    act_at_call f kept call ≡ a → result ≡ handed_by a (word kept) inner →
-    GrowsBy x y (cond (skips_by a) [] ((passed_by a (word kept) call, inner) ∷ [])) →
-    cond (skips_by a) (j ≡ i) (Counts inner (Right (passed_by a (word kept) call)) i j) → Performed f kept call result x y i j
-performed_by f kept call result x y i j a inner e gives told counted = record {
-  inner = inner;
-  gives = gives ∙ ap (λ (b : Option Act). handed_by b (word kept) inner) (sym e);
-  told = subst (λ (b : Option Act). GrowsBy x y (cond (skips_by b) [] ((passed_by b (word kept) call, inner) ∷ []))) (sym e) told;
-  counted = subst (λ (b : Option Act). cond (skips_by b) (j ≡ i) (Counts inner (Right (passed_by b (word kept) call)) i j)) (sym e) counted;
-}
+performed_by : (faults : List Fault) (keeps : List (Option ℤ)) (call : Call) (result : Answer) (x y : Option (List Entry)) (i j : ℕ) (a : Option Act)
+    (w : ℤ) (inner : Answer) →
+    act_at_call faults keeps call ≡ a → word_at_call faults keeps call ≡ w → result ≡ handed_by a w inner →
+    GrowsBy x y (cond (skips_by a) [] ((passed_by a w call, inner) ∷ [])) →
+    cond (skips_by a) (j ≡ i) (Counts inner (Right (passed_by a w call)) i j) → Performed faults keeps call result x y i j
+performed_by faults keeps call result x y i j a w inner e h gives told counted =
+    let Logs : Option Act → ℤ → Type 0 = λ b v. GrowsBy x y (cond (skips_by b) [] ((passed_by b v call, inner) ∷ [])) in
+    let Rises : Option Act → ℤ → Type 0 = λ b v. cond (skips_by b) (j ≡ i) (Counts inner (Right (passed_by b v call)) i j) in
+    let word = word_at_call faults keeps call in
+    record {
+      inner = inner;
+      gives = gives ∙ (ap (λ (b : Option Act). handed_by b w inner) (sym e) ∙ ap (λ (v : ℤ). handed_by (act_at_call faults keeps call) v inner) (sym h));
+      told = subst (λ (b : Option Act). Logs b word) (sym e) (subst (λ (v : ℤ). Logs a v) (sym h) told);
+      counted = subst (λ (b : Option Act). Rises b word) (sym e) (subst (λ (v : ℤ). Rises a v) (sym h) counted);
+    }
 
 -- a log that is told grows by nothing at no call
 stays : (x : Option (List Entry)) → GrowsBy x x []
@@ -63,44 +59,38 @@ stays (Some es) = none es
     none (e ∷ es) = ap (λ (more : List Entry). e ∷ more) (none es)
 
 -- the call of another operation or cycle, or one that lacks the word that the act takes
-pub unchanged : (f : Fault) (kept : Option ℤ) (call : Call) (result : Answer) (x y : Option (List Entry)) (i j : ℕ) (here : Bool) →
-    here ≡ Here f kept call → here ≡ false → GrowsBy x y ((call, result) ∷ []) → Counts result (Right call) i j → Performed f kept call result x y i j
-unchanged f kept call result x y i j here is fails told counted =
-    performed_by f kept call result x y i j None result (no_act f kept call here is fails) refl told counted
+pub unchanged : (faults : List Fault) (keeps : List (Option ℤ)) (call : Call) (result : Answer) (x y : Option (List Entry)) (i j : ℕ) →
+    act_at_call faults keeps call ≡ None → GrowsBy x y ((call, result) ∷ []) → Counts result (Right call) i j → Performed faults keeps call result x y i j
+unchanged faults keeps call result x y i j none told counted =
+    performed_by faults keeps call result x y i j None (word_at_call faults keeps call) result none refl refl told counted
 
 -- a call that isn't done
-pub skipped : (f : Fault) (kept : Option ℤ) (call : Call) (w : ℤ) (x : Option (List Entry)) (i : ℕ) (here : Bool) → here ≡ Here f kept call → here ≡ true →
-    is_skip f.act ≡ true → w ≡ word kept →
-    Performed f kept call (answer.Word w) x x i i
-skipped f kept call w x i here is holds skip same = by_act f.act refl skip
-  where
-    by_act : (a : Act) → f.act ≡ a → is_skip a ≡ true → Performed f kept call (answer.Word w) x x i i
-    by_act act.Skip e s =
-        performed_by f kept call (answer.Word w) x x i i (Some act.Skip) answer.Operand (the_act f kept call here is holds ∙ ap (λ (a : Act). Some a) e)
-        (ap (λ (v : ℤ). answer.Word v) same) (stays x) refl
-    by_act (act.OperandAdd j e) f s = absurd cc
-    by_act (act.OperandFrom j r) f s = absurd cc
-    by_act (act.OperandStale j) f s = absurd cc
-    by_act (act.ResultAdd e) f s = absurd cc
-    by_act (act.Operator kind) f s = absurd cc
+pub skipped : (faults : List Fault) (keeps : List (Option ℤ)) (call : Call) (a : Act) (w : ℤ) (x : Option (List Entry)) (i : ℕ) →
+    act_at_call faults keeps call ≡ Some a → is_skip a ≡ true → word_at_call faults keeps call ≡ w →
+    Performed faults keeps call (answer.Word w) x x i i
+skipped faults keeps call act.Skip w x i is skip same =
+    performed_by faults keeps call (answer.Word w) x x i i (Some act.Skip) w answer.Operand is same refl (stays x) refl
+skipped faults keeps call (act.OperandAdd j e) w x i is skip same = absurd cc
+skipped faults keeps call (act.OperandFrom j r) w x i is skip same = absurd cc
+skipped faults keeps call (act.OperandStale j) w x i is skip same = absurd cc
+skipped faults keeps call (act.ResultAdd e) w x i is skip same = absurd cc
+skipped faults keeps call (act.Operator kind) w x i is skip same = absurd cc
 
 cond_false : {X : Type 0} (b : Bool) (u v : X) → b ≡ false → cond b u v ≡ v
 cond_false b u v e = ap (λ (b : Bool). cond b u v) e
 
 -- a call that is changed, or whose answer is
-pub made : (f : Fault) (kept : Option ℤ) (call : Call) (inner result : Answer) (w : ℤ) (other : Call) (x y : Option (List Entry)) (i j : ℕ) (here : Bool) →
-    here ≡ Here f kept call → here ≡ true → is_skip f.act ≡ false → w ≡ word kept → other ≡ changed f.act w call → result ≡ answered f.act w inner →
-    GrowsBy x y ((other, inner) ∷ []) → Counts inner (Right other) i j → Performed f kept call result x y i j
-made f kept call inner result w other x y i j here is holds fails same passed gives told counted =
-    let asked : other ≡ changed f.act (word kept) call = passed ∙ ap (λ (v : ℤ). changed f.act v call) same in
-    performed_by f kept call result x y i j (Some f.act) inner (the_act f kept call here is holds)
-    (gives ∙ ap (λ (v : ℤ). answered f.act v inner) same)
+pub made : (faults : List Fault) (keeps : List (Option ℤ)) (call : Call) (inner result : Answer) (a : Act) (w : ℤ) (other : Call)
+    (x y : Option (List Entry)) (i j : ℕ) →
+    act_at_call faults keeps call ≡ Some a → is_skip a ≡ false → word_at_call faults keeps call ≡ w → other ≡ changed a w call → result ≡ answered a w inner →
+    GrowsBy x y ((other, inner) ∷ []) → Counts inner (Right other) i j → Performed faults keeps call result x y i j
+made faults keeps call inner result a w other x y i j is fails same passed gives told counted =
+    performed_by faults keeps call result x y i j (Some a) w inner is same gives
     (subst (GrowsBy x y)
-    (ap (λ (c : Call). (c, inner) ∷ []) asked ∙ sym (cond_false (is_skip f.act) [] ((changed f.act (word kept) call, inner) ∷ []) fails)) told)
-    (by_skip (is_skip f.act) fails (subst (λ (c : Call). Counts inner (Right c) i j) asked counted))
+    (ap (λ (c : Call). (c, inner) ∷ []) passed ∙ sym (cond_false (is_skip a) [] ((changed a w call, inner) ∷ []) fails)) told)
+    (by_skip (is_skip a) fails (subst (λ (c : Call). Counts inner (Right c) i j) passed counted))
   where
-    by_skip : (b : Bool) → b ≡ false → Counts inner (Right (changed f.act (word kept) call)) i j →
-        cond b (j ≡ i) (Counts inner (Right (changed f.act (word kept) call)) i j)
+    by_skip : (b : Bool) → b ≡ false → Counts inner (Right (changed a w call)) i j → cond b (j ≡ i) (Counts inner (Right (changed a w call)) i j)
     by_skip false e c = c
     by_skip true e c = absurd cc
 
@@ -124,10 +114,58 @@ right_from (Some (act.ResultAdd e)) w call result inner i j gives counted honest
     gives ∙ ap (answered (act.ResultAdd e) w) (right_inside inner _ i j counted honest)
 right_from (Some (act.Operator kind)) w call result inner i j gives counted honest = gives ∙ right_inside inner _ i j counted honest
 
-pub right_of : (f : Fault) (kept : Option ℤ) (call : Call) (result : Answer) (x y : Option (List Entry)) (i j : ℕ) → Performed f kept call result x y i j →
-    StaysHonest i j →
-    result ≡ right_under f kept call
-right_of f kept call result x y i j h honest = right_from (act_at_call f kept call) (word kept) call result h.inner i j h.gives h.counted honest
+pub right_of : (faults : List Fault) (keeps : List (Option ℤ)) (call : Call) (result : Answer) (x y : Option (List Entry)) (i j : ℕ) →
+    Performed faults keeps call result x y i j → StaysHonest i j →
+    result ≡ right_under faults keeps call
+right_of faults keeps call result x y i j h honest =
+    right_from (act_at_call faults keeps call) (word_at_call faults keeps call) call result h.inner i j h.gives h.counted honest
+
+-- ---- the fault of a call, among the faults
+
+-- a fault at another call
+other_fault : (one : Carried) (more : List Carried) (call : Call) → is_call_of one.fault.cycle one.fault.op call ≡ false
+    → (act_at_call (faults_of (one ∷ more)) (keeps_of (one ∷ more)) call ≡ act_at_call (faults_of more) (keeps_of more) call)
+    × (word_at_call (faults_of (one ∷ more)) (keeps_of (one ∷ more)) call ≡ word_at_call (faults_of more) (keeps_of more) call)
+other_fault one more call other = (
+  ap (λ (b : Bool). cond b (act_with one.fault.act one.kept) (act_at_call (faults_of more) (keeps_of more) call)) other,
+  ap (λ (b : Bool). word (cond b one.kept (kept_at_call (faults_of more) (keeps_of more) call))) other,
+)
+
+-- the fault of this call
+this_fault : (one : Carried) (more : List Carried) (call : Call) → is_call_of one.fault.cycle one.fault.op call ≡ true
+    → (act_at_call (faults_of (one ∷ more)) (keeps_of (one ∷ more)) call ≡ act_with one.fault.act one.kept)
+    × (word_at_call (faults_of (one ∷ more)) (keeps_of (one ∷ more)) call ≡ word one.kept)
+this_fault one more call this = (
+  ap (λ (b : Bool). cond b (act_with one.fault.act one.kept) (act_at_call (faults_of more) (keeps_of more) call)) this,
+  ap (λ (b : Bool). word (cond b one.kept (kept_at_call (faults_of more) (keeps_of more) call))) this,
+)
+
+-- of all faults the same is carried out as of those from a place on
+pub record DoneFrom (all rest : List Carried) (call : Call) : Type 0 where
+  pub acts : act_at_call (faults_of all) (keeps_of all) call ≡ act_at_call (faults_of rest) (keeps_of rest) call
+  pub words : word_at_call (faults_of all) (keeps_of all) call ≡ word_at_call (faults_of rest) (keeps_of rest) call
+
+-- what stands from a place on
+pub rest_at : (all : List Carried) (i : ℕ) (one : Carried) → i < length all → one ≡ get_or all i one → drop i all ≡ one ∷ drop (i + 1) all
+rest_at all i one within is = rw add-one (drop-cons all i one within ∙ ap (λ (y : Carried). y ∷ drop (suc i) all) (sym is))
+
+pub done_on : (all rest more : List Carried) (one : Carried) (call : Call) → rest ≡ one ∷ more → is_call_of one.fault.cycle one.fault.op call ≡ false
+    → DoneFrom all rest call → DoneFrom all more call
+done_on all rest more one call is other done =
+    let later = other_fault one more call other in
+    record {
+      acts = done.acts ∙ (ap (λ (xs : List Carried). act_at_call (faults_of xs) (keeps_of xs) call) is ∙ later.0);
+      words = done.words ∙ (ap (λ (xs : List Carried). word_at_call (faults_of xs) (keeps_of xs) call) is ∙ later.1);
+    }
+
+pub done_here : (all rest more : List Carried) (one : Carried) (call : Call) → rest ≡ one ∷ more → is_call_of one.fault.cycle one.fault.op call ≡ true
+    → DoneFrom all rest call → (act_at_call (faults_of all) (keeps_of all) call ≡ act_with one.fault.act one.kept)
+    × (word_at_call (faults_of all) (keeps_of all) call ≡ word one.kept)
+done_here all rest more one call is this done =
+    let here = this_fault one more call this in (
+      done.acts ∙ (ap (λ (xs : List Carried). act_at_call (faults_of xs) (keeps_of xs) call) is ∙ here.0),
+      done.words ∙ (ap (λ (xs : List Carried). word_at_call (faults_of xs) (keeps_of xs) call) is ∙ here.1),
+    )
 
 -- what the one call needs
 pub ruleset one_call = (changed_asked, unchanged, skipped, made, right_of)

@@ -1,10 +1,10 @@
--- Scripting: a scripted unit keeps the word that its act takes, and so its answers are those that the run law speaks of.
-use Rattle.std.proofs.Common.{◌≡◌, ℕ, zero, suc, ◌+◌, ◌<◌, ◌≤◌, ◌==◌, ◌&&◌, ◌||◌, not, Bool, true, false, cond, nat_lt, List, [], ◌∷◌, ◌++◌, length, slice_get}
-use Rattle.std.proofs.Common.{Option, Some, None, ℤ, pos, refl, sym, ap, subst, ◌∙◌, arith, eqb-true}
-use Rattle.std.specs.Option.{is_some}
+-- Scripting: a scripted unit keeps the words that its acts take, and so its answers are those that the run law speaks of.
+use Rattle.std.proofs.Common.{◌≡◌, ℕ, zero, suc, ◌+◌, ◌<◌, ◌≤◌, ◌==◌, ◌&&◌, Bool, true, false, cond, nat_lt, List, [], ◌∷◌, ◌++◌, length, slice_get}
+use Rattle.std.proofs.Common.{All, Option, Some, None, ℤ, pos, refl, sym, ap, subst, ◌∙◌, arith, eqb-true}
 use Rattle.std.proofs.lemmas.Bool.{eq-eqb, false≢true}
 use Rattle.std.proofs.lemmas.Bool.Decides.{nat_tests}
 use Rattle.std.proofs.lemmas.List.{append_assoc, append-nil, get_or_append_left}
+use Rattle.std.proofs.lemmas.List.Elements.{All-head, All-tail}
 use Rattle.std.proofs.lemmas.Option.{slice_get_within}
 use Rattle.vcp_base.specs.declared.kind.Kind.{Kind}
 use Rattle.vcp_base.specs.declared.kind.Kind.TheVariants as kind
@@ -25,7 +25,7 @@ use Rattle.coded_machine.specs.Runs.{setting_at}
 use Rattle.fault_script.specs.declared.act.Act.{Act}
 use Rattle.fault_script.specs.declared.act.Act.TheVariants as act
 use Rattle.fault_script.specs.declared.act.Fault.{Fault}
-use Rattle.fault_script.specs.Changes.{acts_of, operand_word, word_of, takes_word, is_call_of, is_call_before, kept_by, kept_after}
+use Rattle.fault_script.specs.Changes.{acts_of, act_at_call, act_with, operand_word, word_of, takes_word, is_call_of, is_call_before, kept_at_call, kept_by, kept_after, none_kept}
 use Rattle.fault_script.specs.Fits.{Fits, is_sited, is_timely}
 use Rattle.fault_runs.specs.Scripts.{right_by, right_under, word}
 use Rattle.fault_runs.specs.RunLaw.{Words, taken, RightsUnder, RightRun, no_words}
@@ -187,10 +187,10 @@ kept_taken g f fits n past held before kept op e place own (act.Operator other) 
 
 -- an act that is carried out takes its word
 carried : (kept : Option ℤ) (call : Call) (x : Act) (w : ℤ) → (takes_word x ≡ true → kept ≡ Some w)
-    → right_by (cond (true && (not (takes_word x) || is_some kept)) (Some x) None) (word kept) call ≡ right_by (Some x) w call
-carried kept call (act.OperandFrom j r) w h = ap (λ (k : Option ℤ). right_by (cond (is_some k) (Some (act.OperandFrom j r)) None) (word k) call) (h refl)
-carried kept call (act.OperandStale j) w h = ap (λ (k : Option ℤ). right_by (cond (is_some k) (Some (act.OperandStale j)) None) (word k) call) (h refl)
-carried kept call act.Skip w h = ap (λ (k : Option ℤ). right_by (cond (is_some k) (Some act.Skip) None) (word k) call) (h refl)
+    → right_by (act_with x kept) (word kept) call ≡ right_by (Some x) w call
+carried kept call (act.OperandFrom j r) w h = ap (λ (k : Option ℤ). right_by (act_with (act.OperandFrom j r) k) (word k) call) (h refl)
+carried kept call (act.OperandStale j) w h = ap (λ (k : Option ℤ). right_by (act_with (act.OperandStale j) k) (word k) call) (h refl)
+carried kept call act.Skip w h = ap (λ (k : Option ℤ). right_by (act_with act.Skip k) (word k) call) (h refl)
 carried kept call (act.OperandAdd j e) w h = refl
 carried kept call (act.ResultAdd e) w h = refl
 carried kept call (act.Operator other) w h = refl
@@ -205,79 +205,106 @@ and_one : (x y : Bool) → (x && y) ≡ true → x ≡ true
 and_one true y h = refl
 and_one false y h = h
 
+-- ---- the words that a group keeps
+
+-- what has been kept for each fault of a group, in cycle n after these answers
+abbrev AllKept : Lists → List Fault → ℕ → Words → List ℤ → List Answer → List (Option ℤ) → Type 0
+AllKept g [] n past held before keeps = Unit {0}
+AllKept g (f ∷ faults) n past held before [] = ⊥
+AllKept g (f ∷ faults) n past held before (kept ∷ keeps) =
+    ((fits : Fits g f) × KeptIs f fits.op n past held before kept f.act) × AllKept g faults n past held before keeps
+
+all_go_on : (reads : ReadLaws) (t : Numbers) (g : Lists) (faults : List Fault) (n : ℕ) (past : Words) (held row : List ℤ) (before : List Answer)
+    (keeps : List (Option ℤ)) (op : Op) (a : Answer) → IsGraph g
+    → slice_get g.operations (length before) ≡ Some op → is_word a ≡ true → AllKept g faults n past held before keeps
+    → AllKept g faults n past held (before ++ a ∷ []) (kept_after faults keeps (call_of (setting_at g t n held row) op before) a)
+all_go_on reads t g [] n past held row before keeps op a graph here w is = tt
+all_go_on reads t g (f ∷ faults) n past held row before [] op a graph here w is = absurd is
+all_go_on reads t g (f ∷ faults) n past held row before (kept ∷ keeps) op a graph here w is =
+    let fits = is.0.0 in (
+      (fits, goes_on reads t g f fits n past held row before kept op a graph here w f.act fits.act.sited is.0.1),
+      all_go_on reads t g faults n past held row before keeps op a graph here w is.1,
+    )
+
+-- at the fault's call its act is carried out, and at any other one that of a later fault
 in_case : (g : Lists) (t : Numbers) (f : Fault) (fits : Fits g f) (n : ℕ) (past : Words) (held row : List ℤ) (before : List Answer) (kept : Option ℤ)
-    (op : Op) → slice_get g.operations (length before) ≡ Some op
-    → KeptIs f fits.op n past held before kept f.act → (b : Bool) → (n == f.cycle && length before == f.op) ≡ b
-    → right_by (cond (b && (not (takes_word f.act) || is_some kept)) (Some f.act) None) (word kept) (call_of (setting_at g t n held row) op before)
-    ≡ right_by (cond b (Some f.act) None) (taken past before op (cond b (Some f.act) None)) (call_of (setting_at g t n held row) op before)
-in_case g t f fits n past held row before kept op here is true h =
+    (op : Op) (later_act act : Option Act) (later_kept : Option ℤ) → slice_get g.operations (length before) ≡ Some op
+    → KeptIs f fits.op n past held before kept f.act
+    → right_by later_act (word later_kept) (call_of (setting_at g t n held row) op before)
+    ≡ right_by act (taken past before op act) (call_of (setting_at g t n held row) op before)
+    → (b : Bool) → (n == f.cycle && length before == f.op) ≡ b
+    → right_by (cond b (act_with f.act kept) later_act) (word (cond b kept later_kept)) (call_of (setting_at g t n held row) op before)
+    ≡ right_by (cond b (Some f.act) act) (taken past before op (cond b (Some f.act) act)) (call_of (setting_at g t n held row) op before)
+in_case g t f fits n past held row before kept op later_act act later_kept here is later true h =
     let cycle : n ≡ f.cycle = eqb-true n f.cycle (and_one (n == f.cycle) (length before == f.op) h) in
     let place : length before ≡ f.op = eqb-true (length before) f.op (and_second (n == f.cycle) (length before == f.op) h) in
     carried kept (call_of (setting_at g t n held row) op before) f.act (taken past before op (Some f.act))
     (kept_taken g f fits n past held before kept op (sym cycle) (sym place) (own_op g f fits (length before) op here (sym place)) f.act fits.act.sited is)
-in_case g t f fits n past held row before kept op here is false h = refl
+in_case g t f fits n past held row before kept op later_act act later_kept here is later false h = later
 
-right_case : (g : Lists) (t : Numbers) (f : Fault) (fits : Fits g f) (n : ℕ) (past : Words) (held row : List ℤ) (before : List Answer) (kept : Option ℤ)
-    (op : Op) → slice_get g.operations (length before) ≡ Some op
-    → KeptIs f fits.op n past held before kept f.act → (b : Bool) → (n == f.cycle && length before == f.op) ≡ b
-    → right_under f kept (call_of (setting_at g t n held row) op before)
-    ≡ right_by (acts_of (f ∷ []) n (length before)) (taken past before op (acts_of (f ∷ []) n (length before))) (call_of (setting_at g t n held row) op before)
-right_case g t f fits n past held row before kept op here is b h =
+right_case : (g : Lists) (t : Numbers) (faults : List Fault) (n : ℕ) (past : Words) (held row : List ℤ) (before : List Answer) (keeps : List (Option ℤ))
+    (op : Op) → slice_get g.operations (length before) ≡ Some op → AllKept g faults n past held before keeps
+    → right_under faults keeps (call_of (setting_at g t n held row) op before)
+    ≡ right_by (acts_of faults n (length before)) (taken past before op (acts_of faults n (length before))) (call_of (setting_at g t n held row) op before)
+right_case g t [] n past held row before keeps op here is = refl
+right_case g t (f ∷ faults) n past held row before [] op here is = absurd is
+right_case g t (f ∷ faults) n past held row before (kept ∷ keeps) op here is =
     let call = call_of (setting_at g t n held row) op before in
-    let other : (f.cycle == n && f.op == length before) ≡ b = two_flipped f.cycle n f.op (length before) ∙ h in
-    ap (λ (c : Bool). right_by (cond (c && (not (takes_word f.act) || is_some kept)) (Some f.act) None) (word kept) call) h
-    ∙ (in_case g t f fits n past held row before kept op here is b h
-    ∙ sym (ap (λ (c : Bool). right_by (cond c (Some f.act) None) (taken past before op (cond c (Some f.act) None)) call) other))
+    let acts = acts_of faults n (length before) in
+    let b = n == f.cycle && length before == f.op in
+    in_case g t f is.0.0 n past held row before kept op (act_at_call faults keeps call) acts (kept_at_call faults keeps call) here is.0.1
+    (right_case g t faults n past held row before keeps op here is.1) b refl
+    ∙ ap (λ (c : Bool). right_by (cond c (Some f.act) acts) (taken past before op (cond c (Some f.act) acts)) call)
+    (two_flipped n f.cycle (length before) f.op)
 
 -- ---- a whole cycle
 
 -- what a cycle through the scripted unit comes to: the right answers with the changes, and what is kept after a cycle of words
-record Through (g : Lists) (t : Numbers) (f : Fault) (fits : Fits g f) (n : ℕ) (past : Words) (held row : List ℤ) (kept : Option ℤ) (before : List Answer)
-    (ops : List Op) (answers : List Answer) : Type 0 where
-  rights : RightsUnder (setting_at g t n held row) (acts_of (f ∷ []) n) past before ops answers
-  later : AllWords answers → KeptIs f fits.op n past held (before ++ answers) (kept_through f (setting_at g t n held row) kept before ops answers) f.act
+record Through (g : Lists) (t : Numbers) (faults : List Fault) (n : ℕ) (past : Words) (held row : List ℤ) (keeps : List (Option ℤ))
+    (before : List Answer) (ops : List Op) (answers : List Answer) : Type 0 where
+  rights : RightsUnder (setting_at g t n held row) (acts_of faults n) past before ops answers
+  later : AllWords answers → AllKept g faults n past held (before ++ answers) (kept_through faults (setting_at g t n held row) keeps before ops answers)
 
 -- after one call more: the run of the cycle goes on where its answer is a word
-turn : (g : Lists) (t : Numbers) (f : Fault) (fits : Fits g f) (n : ℕ) (past : Words) (held row : List ℤ) (op : Op) (ops : List Op) (kept : Option ℤ)
+turn : (g : Lists) (t : Numbers) (faults : List Fault) (n : ℕ) (past : Words) (held row : List ℤ) (op : Op) (ops : List Op) (keeps : List (Option ℤ))
     (before : List Answer) (a : Answer) (answers : List Answer)
-    → a ≡ right_by (acts_of (f ∷ []) n (length before)) (taken past before op (acts_of (f ∷ []) n (length before)))
+    → a ≡ right_by (acts_of faults n (length before)) (taken past before op (acts_of faults n (length before)))
     (call_of (setting_at g t n held row) op before)
-    → (is_word a ≡ true → Whole ops answers → Through g t f fits n past held row (kept_after f kept (call_of (setting_at g t n held row) op before) a)
+    → (is_word a ≡ true → Whole ops answers → Through g t faults n past held row (kept_after faults keeps (call_of (setting_at g t n held row) op before) a)
     (before ++ a ∷ []) ops answers)
-    → (b : Bool) → is_word a ≡ b → cond b (Whole ops answers) (answers ≡ []) → Through g t f fits n past held row kept before (op ∷ ops) (a ∷ answers)
-turn g t f fits n past held row op ops kept before a answers first more true w whole =
+    → (b : Bool) → is_word a ≡ b → cond b (Whole ops answers) (answers ≡ []) → Through g t faults n past held row keeps before (op ∷ ops) (a ∷ answers)
+turn g t faults n past held row op ops keeps before a answers first more true w whole =
     let rest = more w whole in
     record {
       rights = (first, rest.rights);
       later = λ words.
-          subst (λ (xs : List Answer). KeptIs f fits.op n past held xs (kept_through f (setting_at g t n held row) kept before (op ∷ ops) (a ∷ answers)) f.act)
+          subst (λ (xs : List Answer). AllKept g faults n past held xs (kept_through faults (setting_at g t n held row) keeps before (op ∷ ops) (a ∷ answers)))
           (append_assoc before (a ∷ []) answers) (rest.later words.1);
     }
-turn g t f fits n past held row op ops kept before a answers first more false w none =
+turn g t faults n past held row op ops keeps before a answers first more false w none =
     record {
-      rights = (first, subst (λ (xs : List Answer). RightsUnder (setting_at g t n held row) (acts_of (f ∷ []) n) past (before ++ a ∷ []) ops xs) (sym none) tt);
+      rights = (first, subst (λ (xs : List Answer). RightsUnder (setting_at g t n held row) (acts_of faults n) past (before ++ a ∷ []) ops xs) (sym none) tt);
       later = λ words. absurd (false≢true (sym w ∙ words.0));
     }
 
-through : (reads : ReadLaws) (t : Numbers) (g : Lists) (f : Fault) (fits : Fits g f) (n : ℕ) (past : Words) (held row : List ℤ) (ops : List Op)
-    (kept : Option ℤ) (before answers : List Answer) → IsGraph g
-    → ((i : ℕ) (o : Op) → slice_get ops i ≡ Some o → slice_get g.operations (length before + i) ≡ Some o) → KeptIs f fits.op n past held before kept f.act
+through : (reads : ReadLaws) (t : Numbers) (g : Lists) (faults : List Fault) (n : ℕ) (past : Words) (held row : List ℤ) (ops : List Op)
+    (keeps : List (Option ℤ)) (before answers : List Answer) → IsGraph g
+    → ((i : ℕ) (o : Op) → slice_get ops i ≡ Some o → slice_get g.operations (length before + i) ≡ Some o) → AllKept g faults n past held before keeps
     → Whole ops answers
-    → ScriptedCycle f (setting_at g t n held row) kept before ops answers → Through g t f fits n past held row kept before ops answers
-through reads t g f fits n past held row [] kept before [] graph there is whole scripted =
-    record { rights = tt; later = λ words. subst (λ (xs : List Answer). KeptIs f fits.op n past held xs kept f.act) (sym (append-nil before)) is }
-through reads t g f fits n past held row [] kept before (a ∷ answers) graph there is whole scripted = absurd whole
-through reads t g f fits n past held row (op ∷ ops) kept before [] graph there is whole scripted = absurd whole
-through reads t g f fits n past held row (op ∷ ops) kept before (a ∷ answers) graph there is whole scripted =
+    → ScriptedCycle faults (setting_at g t n held row) keeps before ops answers → Through g t faults n past held row keeps before ops answers
+through reads t g faults n past held row [] keeps before [] graph there is whole scripted =
+    record { rights = tt; later = λ words. subst (λ (xs : List Answer). AllKept g faults n past held xs keeps) (sym (append-nil before)) is }
+through reads t g faults n past held row [] keeps before (a ∷ answers) graph there is whole scripted = absurd whole
+through reads t g faults n past held row (op ∷ ops) keeps before [] graph there is whole scripted = absurd whole
+through reads t g faults n past held row (op ∷ ops) keeps before (a ∷ answers) graph there is whole scripted =
     let here : slice_get g.operations (length before) ≡ Some op = ap (slice_get g.operations) (omega arith) ∙ there 0 op refl in
     let call = call_of (setting_at g t n held row) op before in
-    turn g t f fits n past held row op ops kept before a answers
-    (scripted.0 ∙ right_case g t f fits n past held row before kept op here is (n == f.cycle && length before == f.op) refl)
+    turn g t faults n past held row op ops keeps before a answers (scripted.0 ∙ right_case g t faults n past held row before keeps op here is)
     (λ w rest.
-    through reads t g f fits n past held row ops (kept_after f kept call a) (before ++ a ∷ []) answers graph
+    through reads t g faults n past held row ops (kept_after faults keeps call a) (before ++ a ∷ []) answers graph
     (λ i o e. let place : length (before ++ a ∷ []) + i ≡ length before + suc i = omega (arith, one_longer before a) in ap (slice_get g.operations) place
     ∙ there (suc i) o e)
-    (goes_on reads t g f fits n past held row before kept op a graph here w f.act fits.act.sited is) rest scripted.1)
+    (all_go_on reads t g faults n past held row before keeps op a graph here w is) rest scripted.1)
     (is_word a) refl whole
 
 -- ---- whole runs
@@ -300,6 +327,18 @@ next_cycle f op n past held next answers kept inside (act.OperandAdd j e) is = t
 next_cycle f op n past held next answers kept inside (act.ResultAdd e) is = tt
 next_cycle f op n past held next answers kept inside (act.Operator other) is = tt
 
+all_next : (g : Lists) (faults : List Fault) (n : ℕ) (past : Words) (held next : List ℤ) (answers : List Answer) (keeps : List (Option ℤ))
+    → length answers ≡ length g.operations → AllKept g faults n past held answers keeps
+    → AllKept g faults (suc n) (record { held = held; answers = answers }) next [] keeps
+all_next g [] n past held next answers keeps whole is = tt
+all_next g (f ∷ faults) n past held next answers [] whole is = absurd is
+all_next g (f ∷ faults) n past held next answers (kept ∷ keeps) whole is =
+    let fits = is.0.0 in
+    let inside : f.op < length answers = omega (arith, whole, slice_get_within g.operations f.op fits.op fits.there) in (
+      (fits, next_cycle f fits.op n past held next answers kept inside f.act is.0.1),
+      all_next g faults n past held next answers keeps whole is.1,
+    )
+
 -- before the first cycle nothing is kept, and no act of that cycle takes a word of one before
 first_cycle : (f : Fault) (op : Op) (held : List ℤ) (x : Act) → is_timely f.cycle x ≡ true → KeptIs f op 0 no_words held [] None x
 first_cycle f op held (act.OperandFrom j r) timely = λ e below. absurd (omega (arith, below))
@@ -313,27 +352,32 @@ first_cycle f op held (act.OperandAdd j e) timely = tt
 first_cycle f op held (act.ResultAdd e) timely = tt
 first_cycle f op held (act.Operator other) timely = tt
 
-run_right : (reads : ReadLaws) (t : Numbers) (g : Lists) (f : Fault) (fits : Fits g f) (n : ℕ) (past : Words) (kept : Option ℤ) (held : List ℤ)
+all_first : (g : Lists) (faults : List Fault) (held : List ℤ) → All (Fits g) faults → AllKept g faults 0 no_words held [] (none_kept faults)
+all_first g [] held fit = tt
+all_first g (f ∷ faults) held fit =
+    let fits : Fits g f = All-head (Fits g) f faults fit in
+    ((fits, first_cycle f fits.op held f.act fits.act.timely), all_first g faults held (All-tail (Fits g) f faults fit))
+
+run_right : (reads : ReadLaws) (t : Numbers) (g : Lists) (faults : List Fault) (n : ℕ) (past : Words) (keeps : List (Option ℤ)) (held : List ℤ)
     (rows : List (List ℤ)) (cycles : List (List Answer)) → IsGraph g
-    → KeptIs f fits.op n past held [] kept f.act → ScriptedRun t g f n kept held rows cycles → RightRun t g (acts_of (f ∷ [])) n past held rows cycles
-run_right reads t g f fits n past kept held rows [] graph is scripted = tt
-run_right reads t g f fits n past kept held [] (answers ∷ cycles) graph is scripted = tt
-run_right reads t g f fits n past kept held (row ∷ rows) (answers ∷ cycles) graph is scripted =
-    let cycle = through reads t g f fits n past held row g.operations kept [] answers graph
+    → AllKept g faults n past held [] keeps → ScriptedRun t g faults n keeps held rows cycles → RightRun t g (acts_of faults) n past held rows cycles
+run_right reads t g faults n past keeps held rows [] graph is scripted = tt
+run_right reads t g faults n past keeps held [] (answers ∷ cycles) graph is scripted = tt
+run_right reads t g faults n past keeps held (row ∷ rows) (answers ∷ cycles) graph is scripted =
+    let cycle = through reads t g faults n past held row g.operations keeps [] answers graph
     (λ i o e. ap (slice_get g.operations) (omega arith) ∙ e) is scripted.0 scripted.1 in (
       scripted.0,
       cycle.rights,
       λ words.
-          let inside : f.op < length answers =
-          omega (arith, whole_length g.operations answers scripted.0 words, slice_get_within g.operations f.op fits.op fits.there) in
-          run_right reads t g f fits (suc n) (record { held = held; answers = answers })
-          (kept_through f (setting_at g t n held row) kept [] g.operations answers) (stored_words g answers) rows cycles graph
-          (next_cycle f fits.op n past held (stored_words g answers) answers
-          (kept_through f (setting_at g t n held row) kept [] g.operations answers) inside f.act (cycle.later words))
+          run_right reads t g faults (suc n) (record { held = held; answers = answers })
+          (kept_through faults (setting_at g t n held row) keeps [] g.operations answers) (stored_words g answers) rows cycles graph
+          (all_next g faults n past held (stored_words g answers) answers
+          (kept_through faults (setting_at g t n held row) keeps [] g.operations answers) (whole_length g.operations answers scripted.0 words)
+          (cycle.later words))
           (scripted.2 words),
     )
 
 pub scripted_runs_are_right : ReadLaws → ScriptedRunsAreRight
-scripted_runs_are_right reads t g f rows cycles graph fits scripted =
-    run_right reads t g f fits 0 no_words None (initial_words g t.seed) rows cycles graph
-    (first_cycle f fits.op (initial_words g t.seed) f.act fits.act.timely) scripted
+scripted_runs_are_right reads t g faults rows cycles graph fits scripted =
+    run_right reads t g faults 0 no_words (none_kept faults) (initial_words g t.seed) rows cycles graph
+    (all_first g faults (initial_words g t.seed) fits) scripted

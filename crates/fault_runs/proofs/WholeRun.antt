@@ -3,6 +3,7 @@ use Rattle.std.proofs.Common.{◌≡◌, ℕ, zero, suc, ◌+◌, ◌*◌, ◌<�
 use Rattle.std.proofs.Common.{Some, None, Ok, Err, ℤ, pos, ◌+ℤ◌, ◌-ℤ◌, refl, sym, ap, subst, ◌∙◌, arith, eqb-true}
 use Rattle.std.proofs.lemmas.Int.{ints}
 use Rattle.std.proofs.lemmas.List.{append-nil}
+use Rattle.std.proofs.lemmas.List.Elements.{All-head, All-tail}
 use Rattle.vcp_base.specs.declared.code.Profile.{Profile}
 use Rattle.vcp_base.specs.declared.kind.StopKind.{StopKind}
 use Rattle.vcp_base.specs.Code.{modulus}
@@ -23,14 +24,15 @@ use Rattle.signature_table.specs.Signatures.{Numbers, IsTable, signature, stamp,
 use Rattle.coded_machine.specs.Calls.{AllWords, word_at}
 use Rattle.coded_machine.specs.CycleEnds.{initial_words, stored_words}
 use Rattle.coded_machine.specs.Honest.{HonestCells, stop_answer}
+use Rattle.fault_script.specs.declared.act.Act.{Act}
 use Rattle.fault_script.specs.declared.act.Fault.{Fault}
 use Rattle.fault_script.specs.Changes.{Acts, acts_of}
 use Rattle.fault_script.specs.Differences.{Frame, no_frame, frame}
-use Rattle.fault_script.specs.Fits.{ActFits}
+use Rattle.fault_script.specs.Fits.{ActFits, Fits}
 use Rattle.fault_runs.specs.Stepping.{Near, MayStand, word_of, stamp_past}
 use Rattle.fault_runs.specs.FaultRun.{Begun, begun, course, given_by, cycle_under_from, cycle_under}
 use Rattle.fault_runs.specs.RunLaw.{Words, integer, CellsStand, AnswersStand, Stands, words_under, answers_under, AllStand, RightRun, RunKept, no_words}
-use Rattle.fault_runs.specs.RunLaw.{RunsKept, OneFaultStands}
+use Rattle.fault_runs.specs.RunLaw.{RunsKept, GroupStands}
 use Rattle.fault_runs.proofs.Shifts.{fits_between, near_of, zero_near}
 use Rattle.fault_runs.proofs.CycleRun as one
 use Rattle.fault_runs.proofs.CycleRun.{near_more, near_if, one_longer, word_before}
@@ -223,34 +225,43 @@ runs_kept laws t g acts rows cycles graph table profile may right =
     run_kept laws t g acts 0 no_frame (initial g) (initial_words g t.seed) no_words rows cycles graph profile may
     (λ row. first_stands laws t g acts row graph table profile) right
 
--- ---- one fault
+-- ---- the faults of a group
 
-stands_at : (f : Fault) (n k : ℕ) (op : Op) → (f.cycle ≡ n → f.op ≡ k → ActFits op.kind k n f.act) → (x y : Bool) → (f.cycle == n) ≡ x → (f.op == k) ≡ y
-    → MayStand op.kind k n (cond (x && y) (Some f.act) None)
-stands_at f n k op fits true true e h = fits (eqb-true f.cycle n e) (eqb-true f.op k h)
-stands_at f n k op fits true false e h = tt
-stands_at f n k op fits false y e h = tt
+stands_at : (f : Fault) (n k : ℕ) (op : Op) (later : Option Act) → (f.cycle ≡ n → f.op ≡ k → ActFits op.kind k n f.act) → MayStand op.kind k n later
+    → (x y : Bool) → (f.cycle == n) ≡ x → (f.op == k) ≡ y
+    → MayStand op.kind k n (cond (x && y) (Some f.act) later)
+stands_at f n k op later fits may true true e h = fits (eqb-true f.cycle n e) (eqb-true f.op k h)
+stands_at f n k op later fits may true false e h = may
+stands_at f n k op later fits may false y e h = may
 
-all_stand : (f : Fault) (n k : ℕ) (ops : List Op) → ((i : ℕ) (op : Op) → slice_get ops i ≡ Some op → f.cycle ≡ n → f.op ≡ k + i
-    → ActFits op.kind (k + i) n f.act) → AllStand n (acts_of (f ∷ []) n) k ops
-all_stand f n k [] fits = tt
-all_stand f n k (op ∷ ops) fits =
+-- one fault more
+all_stand : (f : Fault) (faults : List Fault) (n k : ℕ) (ops : List Op) → ((i : ℕ) (op : Op) → slice_get ops i ≡ Some op → f.cycle ≡ n → f.op ≡ k + i
+    → ActFits op.kind (k + i) n f.act) → AllStand n (acts_of faults n) k ops → AllStand n (acts_of (f ∷ faults) n) k ops
+all_stand f faults n k [] fits may = tt
+all_stand f faults n k (op ∷ ops) fits may =
     let here : f.cycle ≡ n → f.op ≡ k → ActFits op.kind k n f.act = λ e h. subst (λ m. ActFits op.kind m n f.act) (omega arith)
     (fits 0 op refl e (omega (arith, h))) in (
-      stands_at f n k op here (f.cycle == n) (f.op == k) refl refl,
-      all_stand f n (suc k) ops (λ i o there e h. let same : k + suc i ≡ suc k + i = omega arith in subst (λ m. ActFits o.kind m n f.act) same
-          (fits (suc i) o there e (omega (arith, h)))),
+      stands_at f n k op (acts_of faults n k) here may.0 (f.cycle == n) (f.op == k) refl refl,
+      all_stand f faults n (suc k) ops (λ i o there e h. let same : k + suc i ≡ suc k + i = omega arith in subst (λ m. ActFits o.kind m n f.act) same
+          (fits (suc i) o there e (omega (arith, h)))) may.1,
     )
+
+none_stand : (n k : ℕ) (ops : List Op) → AllStand n (acts_of [] n) k ops
+none_stand n k [] = tt
+none_stand n k (op ∷ ops) = (tt, none_stand n (suc k) ops)
 
 same_op : (a : Option Op) (x y : Op) → a ≡ Some x → a ≡ Some y → x ≡ y
 same_op a x y e f = cc
 
-pub one_fault_stands : OneFaultStands
-one_fault_stands g f n fits =
-    all_stand f n 0 g.operations
+pub group_stands : GroupStands
+group_stands g [] n fit = none_stand n 0 g.operations
+group_stands g (f ∷ faults) n fit =
+    let fits : Fits g f = All-head (Fits g) f faults fit in
+    all_stand f faults n 0 g.operations
     (λ i op there e h.
     let place : f.op ≡ i = omega (arith, h) in
     let here : slice_get g.operations f.op ≡ Some op = ap (slice_get g.operations) place ∙ there in
     let is : fits.op ≡ op = same_op (slice_get g.operations f.op) fits.op op fits.there here in
     subst (λ (o : Op). ActFits o.kind (0 + i) n f.act) is (subst (λ m. ActFits fits.op.kind m n f.act) h
     (subst (λ m. ActFits fits.op.kind f.op m f.act) e fits.act)))
+    (group_stands g faults n (All-tail (Fits g) f faults fit))

@@ -110,9 +110,9 @@ cycles_from t g acts n past held (row ∷ rows) =
 abbrev pub run_under : Numbers → Lists → Acts → List (List ℤ) → List Cycle
 run_under t g acts rows = cycles_from t g acts 0 no_frame (initial g) rows
 
--- the run of a graph with one fault
-abbrev pub fault_run : Numbers → Lists → Fault → List (List ℤ) → List Cycle
-fault_run t g f rows = run_under t g (acts_of (f ∷ [])) rows
+-- the run of a graph with a group of faults
+abbrev pub fault_run : Numbers → Lists → List Fault → List (List ℤ) → List Cycle
+fault_run t g faults rows = run_under t g (acts_of faults) rows
 
 -- ---- the values under one fault
 

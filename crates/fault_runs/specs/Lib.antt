@@ -1,4 +1,6 @@
 pub mod Accepted
+pub mod AcceptedRuns
+pub mod Carried
 pub mod FaultRun
 pub mod RunLaw
 pub mod ScriptedRun

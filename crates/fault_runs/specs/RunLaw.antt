@@ -1,5 +1,5 @@
 -- RunLaw: the words of a run under acts, beside its values and its differences.
-use Rattle.std.specs.Prelude.{◌≡◌, ℕ, suc, ◌<◌, List, [], ◌∷◌, ◌++◌, length, slice_get, Option, Some, None, ℤ, pos, ◌+ℤ◌, ◌-ℤ◌}
+use Rattle.std.specs.Prelude.{◌≡◌, ℕ, suc, ◌<◌, List, [], ◌∷◌, ◌++◌, length, slice_get, All, Option, Some, None, ℤ, pos, ◌+ℤ◌, ◌-ℤ◌}
 use Rattle.vcp_base.specs.Values.{at}
 use Rattle.coded_unit.specs.declared.call.Answer.{Answer}
 use Rattle.coded_unit.specs.declared.call.Answer.TheVariants as answer
@@ -148,6 +148,6 @@ RunsKept =
     ((n : ℕ) → AllStand n (acts n) 0 g.operations) → RightRun t g acts 0 no_words (initial_words g t.seed) rows cycles →
     RunKept t g acts 0 no_frame (initial g) (initial_words g t.seed) rows cycles
 
--- one fault that fits the graph stands where it may
-abbrev pub OneFaultStands : Type 0
-OneFaultStands = (g : Lists) (f : Fault) (n : ℕ) → Fits g f → AllStand n (acts_of (f ∷ []) n) 0 g.operations
+-- faults that fit the graph stand where they may
+abbrev pub GroupStands : Type 0
+GroupStands = (g : Lists) (faults : List Fault) (n : ℕ) → All (Fits g) faults → AllStand n (acts_of faults n) 0 g.operations

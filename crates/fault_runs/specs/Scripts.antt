@@ -1,10 +1,10 @@
--- Scripts: what a unit with a scripted fault does at a call.
+-- Scripts: what a unit with a group of scripted faults does at a call.
 use Rattle.std.specs.Prelude.{ℕ, ◌≡◌, ◌-◌, ◌^◌, ◌<◌, Bool, false, cond, List, [], ◌∷◌, Option, Some, None, ℤ, pos, unwrap_or}
 use Rattle.coded_unit.specs.Log.{Entry, GrowsBy, Counts}
 use Rattle.coded_unit.specs.Right.{Right}
 use Rattle.coded_unit.specs.declared.call.Call.{Call}
 use Rattle.coded_unit.specs.declared.call.Answer.{Answer}
-use Rattle.fault_script.specs.Changes.{changed, answered, is_skip, act_at_call}
+use Rattle.fault_script.specs.Changes.{changed, answered, is_skip, act_at_call, kept_at_call}
 use Rattle.fault_script.specs.declared.act.Act.{Act}
 use Rattle.fault_script.specs.declared.act.Fault.{Fault}
 
@@ -29,33 +29,37 @@ skips_by (Some a) = is_skip a
 abbrev pub right_by : Option Act → ℤ → Call → Answer
 right_by a word call = handed_by a word (Right (passed_by a word call))
 
--- ---- what a fault does, where this word was kept for it
+-- ---- what the faults of a group do, where these words were kept for them
 
 -- the word that was kept; no act that takes a word is carried out without one
 abbrev pub word : Option ℤ → ℤ
 word kept = unwrap_or kept (pos 0)
 
-abbrev pub passed : Fault → Option ℤ → Call → Call
-passed f kept call = passed_by (act_at_call f kept call) (word kept) call
+-- the word that the act at a call takes
+abbrev pub word_at_call : List Fault → List (Option ℤ) → Call → ℤ
+word_at_call faults keeps call = word (kept_at_call faults keeps call)
 
-abbrev pub handed : Fault → Option ℤ → Call → Answer → Answer
-handed f kept call given = handed_by (act_at_call f kept call) (word kept) given
+abbrev pub passed : List Fault → List (Option ℤ) → Call → Call
+passed faults keeps call = passed_by (act_at_call faults keeps call) (word_at_call faults keeps call) call
 
-abbrev pub skips : Fault → Option ℤ → Call → Bool
-skips f kept call = skips_by (act_at_call f kept call)
+abbrev pub handed : List Fault → List (Option ℤ) → Call → Answer → Answer
+handed faults keeps call given = handed_by (act_at_call faults keeps call) (word_at_call faults keeps call) given
 
--- The right answer to each call but one: at the fault's operation and cycle, where it has the word that it takes, the answer by the replaced
--- operand, kind or word.
-abbrev pub right_under : Fault → Option ℤ → Call → Answer
-right_under f kept call = right_by (act_at_call f kept call) (word kept) call
+abbrev pub skips : List Fault → List (Option ℤ) → Call → Bool
+skips faults keeps call = skips_by (act_at_call faults keeps call)
 
--- What a fault makes of a call: the unit inside is asked the call that is passed on, and counts its answer; at a skip it isn't asked at all.
-pub record Performed (f : Fault) (kept : Option ℤ) (call : Call) (result : Answer) (told_before told_now : Option (List Entry))
+-- The right answer to each call but those at the operations and cycles of the faults: there, where a fault has the word that it takes, the answer by
+-- the replaced operand, kind or word.
+abbrev pub right_under : List Fault → List (Option ℤ) → Call → Answer
+right_under faults keeps call = right_by (act_at_call faults keeps call) (word_at_call faults keeps call) call
+
+-- What a group makes of a call: the unit inside is asked the call that is passed on, and counts its answer; at a skip it isn't asked at all.
+pub record Performed (faults : List Fault) (keeps : List (Option ℤ)) (call : Call) (result : Answer) (told_before told_now : Option (List Entry))
     (wrong_before wrong_now : ℕ) : Type 0 where
   pub inner : Answer
-  pub gives : result ≡ handed f kept call inner
-  pub told : GrowsBy told_before told_now (cond (skips f kept call) [] ((passed f kept call, inner) ∷ []))
-  pub counted : cond (skips f kept call) (wrong_now ≡ wrong_before) (Counts inner (Right (passed f kept call)) wrong_before wrong_now)
+  pub gives : result ≡ handed faults keeps call inner
+  pub told : GrowsBy told_before told_now (cond (skips faults keeps call) [] ((passed faults keeps call, inner) ∷ []))
+  pub counted : cond (skips faults keeps call) (wrong_now ≡ wrong_before) (Counts inner (Right (passed faults keeps call)) wrong_before wrong_now)
 
 -- no answer of a unit was wrong where its count of wrong ones stayed below its last value
 abbrev pub StaysHonest : ℕ → ℕ → Type 0

@@ -1,7 +1,7 @@
 //! Runs under faults.
 //!
-//! `Scripted` is a unit around a unit: it does each call by the unit inside, except the one that its
-//! fault is about, which it changes as the script says. The laws say which words a run under acts has,
+//! `Scripted` is a unit around a unit: it does each call by the unit inside, except those that the faults of
+//! its group are about, which it changes as the script says. The laws say which words a run under acts has,
 //! and which of its outputs are accepted.
 #![tactic(auto)]
 
@@ -11,7 +11,7 @@ mod scripted;
 
 pub use laws::acts_keep_the_step_law;
 pub use run_laws::{
-    ends_under_acts_are_read_off_the_answers, one_fault_runs_by_its_act,
-    runs_under_acts_keep_the_run_law, scripted_runs_are_right_runs,
+    accepted_outputs_are_released, ends_under_acts_are_read_off_the_answers,
+    one_fault_runs_by_its_act, runs_under_acts_keep_the_run_law, scripted_runs_are_right_runs,
 };
-pub use scripted::Scripted;
+pub use scripted::{Carried, Scripted, carried_of};

@@ -1,7 +1,8 @@
-//! Laws of runs with a fault.
+//! Laws of runs under faults.
 
 ghost use Rattle.fault_runs.specs.FaultRun.{OneFaultRuns};
-ghost use Rattle.fault_runs.specs.RunLaw.{RunsKept, OneFaultStands};
+ghost use Rattle.fault_runs.specs.RunLaw.{RunsKept, GroupStands};
+ghost use Rattle.fault_runs.specs.AcceptedRuns.{AcceptedIsReleased};
 ghost use Rattle.fault_runs.specs.ScriptedRun.{ScriptedRunsAreRight};
 ghost use Rattle.fault_runs.specs.Accepted.{EndsAreRead, OutputsAreRead};
 
@@ -31,10 +32,10 @@ pub fn one_fault_runs_by_its_act()
 /// The run law: over an honest unit the answers to the calls with the changes have, up to the first stop,
 /// the values of the run under the acts and, as residues, the signature, the stamp and the difference of
 /// each operation; and so have the words of the cells at each cycle's start, with the stamp of the cycle
-/// before. One fault that fits a graph stands where the law wants it. It does nothing: it states a law.
+/// before. Faults that fit a graph stand where the law wants them. It does nothing: it states a law.
 pub fn runs_under_acts_keep_the_run_law()
     ensures runs { RunsKept }
-    ensures one_fault { OneFaultStands }
+    ensures groups { GroupStands }
 {
     operands_are_there();
     operands_are_in_their_types();
@@ -64,9 +65,20 @@ pub fn ends_under_acts_are_read_off_the_answers()
     right_answers_stand_for_values();
 }
 
+/// In a cycle that a run under a group of faults reaches and ends without a stop, a machine releases the
+/// outputs exactly where each of them is accepted, by its equation over signatures and stamps, and refuses
+/// exactly the first that isn't. It does nothing: it states a law.
+pub fn accepted_outputs_are_released()
+    ensures { AcceptedIsReleased }
+{
+    runs_under_acts_keep_the_run_law();
+    scripted_runs_are_right_runs();
+    ends_under_acts_are_read_off_the_answers();
+}
+
 /// The answers of a scripted unit around an honest one, over the calls of a run, are those that the run law
-/// speaks of: the unit has kept the word that its act takes when it comes to the fault's operation. It does
-/// nothing: it states a law.
+/// speaks of: the unit has kept the word that an act takes when it comes to the operation of its fault. It
+/// does nothing: it states a law.
 pub fn scripted_runs_are_right_runs()
     ensures { ScriptedRunsAreRight }
 {

@@ -1,47 +1,98 @@
-//! A unit around a unit, which carries out one fault.
+//! A unit around a unit, which carries out the faults of a group.
 
-ghost use Rattle.std.specs.Option.{is_some};
-ghost use Rattle.std.specs.Prelude.{◌≡◌, ◌+◌, ◌==◌, ◌∷◌, [], cond, None, Some, not, ◌&&◌, ◌||◌};
+ghost use Rattle.std.specs.Prelude.{◌≡◌, ◌+◌, ◌==◌, ◌∷◌, [], cond, None, Some, IfNone, IfSome, IfOk};
 ghost use Rattle.coded_unit.specs.Asked.{Asked};
 ghost use Rattle.coded_unit.specs.Log.{GrowsBy, Counts};
 ghost use Rattle.coded_unit.specs.Right.{Right};
 ghost use Rattle.fault_script.specs.Changes.{operand_word as operand_word_of, with_operand as with_operand_of, changed as changed_of, answered as answered_of};
 ghost use Rattle.fault_script.specs.Changes.{takes_word as takes_word_of, is_skip as is_skip_of, word_of, is_call_of as is_call_of_of};
-ghost use Rattle.fault_script.specs.Changes.{is_call_before as is_call_before_of, kept_after as kept_after_of, act_at_call, shifted as shifted_of};
-ghost use Rattle.fault_runs.specs.Scripts.{word, passed, handed, skips, right_under, Performed, StaysHonest};
+ghost use Rattle.fault_script.specs.Changes.{is_call_before as is_call_before_of, kept_by as kept_by_of, kept_after as kept_after_of, none_kept};
+ghost use Rattle.fault_script.specs.Changes.{act_at_call, act_with, shifted as shifted_of};
+ghost use Rattle.fault_script.specs.Groups.{Apart};
+ghost use Rattle.fault_runs.specs.Carried.{faults_of, keeps_of};
+ghost use Rattle.fault_runs.specs.Scripts.{word, word_at_call, right_under, Performed, StaysHonest};
 
 use coded_unit::{Answer, Call, Unit, Word, table};
-use fault_script::{Act, Fault};
-use vcp_base::Kind;
+use fault_script::{Act, Fault, Group};
+use std::alloc::Global;
+use vcp_base::{Kind, Memory};
 
-/// Carries out one fault around another unit: it changes an operand or the kind of the call that it
-/// passes on, or the answer, or answers without a call.
+/// A fault, and the word that was kept for it of an earlier call, where there is one.
+#[derive(Clone, Copy, Debug)]
+pub struct Carried {
+    /// The fault.
+    pub fault: Fault,
+    /// The word.
+    pub kept: Option<Word>,
+}
+
+/// Carries out the faults of a group around another unit: it changes an operand or the kind of a call that
+/// it passes on, or an answer, or answers without a call.
 ///
-/// It remembers the one word that the fault takes from an earlier call, and tells no log. A struct that
-/// holds a `&mut` has no model, so contracts name its parts.
+/// For each fault it keeps the one word that the fault takes from an earlier call. It tells no log. A struct
+/// that holds a `&mut` has no model, so contracts name its parts.
 #[derive(Drop)]
 pub struct Scripted<'u, U> {
     unit: &'u mut U,
-    fault: Fault,
-    kept: Option<Word>,
+    carried: Vec<Carried>,
     wrong: u64,
 }
 
+/// The faults of a group, of which no word is kept yet; `Memory` where there is no room for them.
+pub fn carried_of(alloc: Global, group: &Group) -> Result<Vec<Carried>, Memory>
+    ensures faults { IfOk result (λ carried. faults_of carried.items ≡ group.now) }
+    ensures kept { IfOk result (λ carried. keeps_of carried.items ≡ none_kept group.now) }
+{
+    let mut carried = Vec::new(alloc);
+    'faults: for i in 0..group.len() {
+        carried.push(Carried {
+            fault: group.at(i),
+            kept: None,
+        })?;
+    }
+    Ok(carried)
+}
+
 impl<'u, U: Unit> Scripted<'u, U> {
-    /// The unit with the fault around it, before its first call. It takes no memory.
-    pub fn new(unit: &'u mut U, fault: Fault) -> Scripted<'u, U>
+    /// The unit with the faults of a group around it, before its first call; `Memory` where there is no room for
+    /// them. No later call takes memory.
+    pub fn new(alloc: Global, unit: &'u mut U, group: &Group) -> Result<Scripted<'u, U>, Memory>
+        requires apart { Apart group.now }
+        ensures inside { IfOk result (λ s. s.unit.now ≡ unit.old) }
+        ensures same { IfOk result (λ s. s.unit.ghost_name ≡ unit.entry.ghost_name) }
+        ensures faults { IfOk result (λ s. faults_of s.carried.items ≡ group.now) }
+        ensures kept { IfOk result (λ s. keeps_of s.carried.items ≡ none_kept group.now) }
+        ensures wrong { IfOk result (λ s. s.wrong ≡ 0) }
+    {
+        let carried = carried_of(alloc, group)?;
+        Ok(Scripted::of_parts(unit, carried))
+    }
+
+    /// The unit with these faults around it. It takes no memory.
+    pub fn of_parts(unit: &'u mut U, carried: Vec<Carried>) -> Scripted<'u, U>
         ensures inside { result.unit.now ≡ unit.old }
         ensures same { result.unit.ghost_name ≡ unit.entry.ghost_name }
-        ensures fault { result.fault ≡ fault }
-        ensures kept { result.kept ≡ None }
+        ensures carried { result.carried.items ≡ carried.items }
         ensures wrong { result.wrong ≡ 0 }
     {
         Scripted {
             unit,
-            fault,
-            kept: None,
+            carried,
             wrong: 0,
         }
+    }
+
+    /// The unit inside, as the calls so far left it.
+    pub fn into_inner(self) -> &'u mut U
+        ensures inside { result.now ≡ self.entry.unit.now }
+        ensures same { result.ghost_name ≡ self.entry.unit.ghost_name }
+    {
+        let Scripted {
+            unit,
+            carried: _carried,
+            wrong: _,
+        } = self;
+        unit
     }
 
     /// How many of its answers so far were not the right ones for the calls that it got, up to 2^64 - 1.
@@ -55,11 +106,9 @@ impl<'u, U: Unit> Scripted<'u, U> {
 impl<'u, U: Unit> Unit for Scripted<'u, U> {
     ghost use Rattle.std.specs.Prelude.{None};
 
-    ghost log = { λ s. None };
+    ghost seen = { λ s. record { log = None; wrong = s.wrong } };
 
-    ghost wrong = { λ s. s.wrong };
-
-    /// Does one call: as the unit inside does it, and at the fault's operation and cycle as the act says,
+    /// Does one call: as the unit inside does it, and at the operation and cycle of a fault as its act says,
     /// where it has the word that the act takes. An answer that isn't the right one for the call that
     /// it got is counted.
     fn perform(&mut self, call: &Call) -> Answer
@@ -67,56 +116,99 @@ impl<'u, U: Unit> Unit for Scripted<'u, U> {
         ensures log { GrowsBy None None ((call.now, result) ∷ []) }
         ensures wrong { Counts result (Right call.now) self.old.wrong self.new.wrong }
         ensures same { self.new.unit.ghost_name ≡ self.old.unit.ghost_name }
-        ensures fault { self.new.fault ≡ self.old.fault }
-        ensures kept { self.new.kept ≡ kept_after_of self.old.fault self.old.kept call.now result }
-        ensures performed { Performed self.old.fault self.old.kept call.now result (U.log self.old.unit.now) (U.log self.new.unit.now)
-            (U.wrong self.old.unit.now) (U.wrong self.new.unit.now) }
-        ensures right { StaysHonest (U.wrong self.old.unit.now) (U.wrong self.new.unit.now) → result ≡ right_under self.old.fault self.old.kept call.now }
+        ensures faults { faults_of self.new.carried.items ≡ faults_of self.old.carried.items }
+        ensures kept { keeps_of self.new.carried.items
+            ≡ kept_after_of (faults_of self.old.carried.items) (keeps_of self.old.carried.items) call.now result }
+        ensures performed { Performed (faults_of self.old.carried.items) (keeps_of self.old.carried.items) call.now result
+            (U.seen self.old.unit.now).log (U.seen self.new.unit.now).log (U.seen self.old.unit.now).wrong (U.seen self.new.unit.now).wrong }
+        ensures right { StaysHonest (U.seen self.old.unit.now).wrong (U.seen self.new.unit.now).wrong
+            → result ≡ right_under (faults_of self.old.carried.items) (keeps_of self.old.carried.items) call.now }
     {
-        let given = carried_out(self.unit, &self.fault, &self.kept, call);
-        self.kept = kept_after(&self.fault, &self.kept, call, &given);
+        let given = carried_out(self.unit, &self.carried, call);
+        keep(&mut self.carried, call, &given);
         self.wrong = counted(self.wrong, &given, &table::answer(call));
         given
     }
 }
 
-/// One call through the fault.
+/// What is carried out at a call: an act, with the word that it takes.
+#[derive(Clone, Copy, Debug)]
+struct Doing {
+    act: Act,
+    word: Word,
+}
+
+/// One call through the faults.
 #[tactic(auto, using(crate::proofs::Carrying::one_call))]
-fn carried_out<U: Unit>(unit: &mut U, fault: &Fault, kept: &Option<Word>, call: &Call) -> Answer
+fn carried_out<U: Unit>(unit: &mut U, carried: &[Carried], call: &Call) -> Answer
     requires { Asked call.now }
-    ensures performed { Performed fault.now kept.now call.now result (U.log unit.old) (U.log unit.new) (U.wrong unit.old) (U.wrong unit.new) }
-    ensures right { StaysHonest (U.wrong unit.old) (U.wrong unit.new) → result ≡ right_under fault.now kept.now call.now }
+    ensures performed { Performed (faults_of carried.now) (keeps_of carried.now) call.now result
+        (U.seen unit.old).log (U.seen unit.new).log (U.seen unit.old).wrong (U.seen unit.new).wrong }
+    ensures right { StaysHonest (U.seen unit.old).wrong (U.seen unit.new).wrong → result ≡ right_under (faults_of carried.now) (keeps_of carried.now) call.now }
 {
-    if !is_carried_out(fault, kept, call) {
+    let Some(doing) = doing_at(carried, call) else {
         return unit.perform(call);
+    };
+    if is_skip(&doing.act) {
+        return Answer::Word(doing.word);
     }
-    let word = kept_word(kept);
-    if is_skip(&fault.act) {
-        return Answer::Word(word);
-    }
-    let given = unit.perform(&changed(&fault.act, &word, call));
-    answered(&fault.act, &word, &given)
+    let given = unit.perform(&changed(&doing.act, &doing.word, call));
+    answered(&doing.act, &doing.word, &given)
 }
 
-/// Whether the act is carried out at this call: it is the fault's, and the word that the act takes is
-/// there.
-fn is_carried_out(fault: &Fault, kept: &Option<Word>, call: &Call) -> bool
-    ensures { result ≡ (is_call_of_of fault.now.cycle fault.now.op call.now && (not (takes_word_of fault.now.act) || is_some kept.now)) }
+/// What is carried out at a call, if anything: the act of the first fault at its operation in its cycle, where
+/// the word that it takes is there.
+fn doing_at(carried: &[Carried], call: &Call) -> Option<Doing>
+    ensures none { IfNone result (act_at_call (faults_of carried.now) (keeps_of carried.now) call.now ≡ None) }
+    ensures some { IfSome result (λ d. (act_at_call (faults_of carried.now) (keeps_of carried.now) call.now ≡ Some d.act)
+        × (word_at_call (faults_of carried.now) (keeps_of carried.now) call.now ≡ d.word)) }
 {
-    if is_call_of(fault.cycle, fault.op, call) {
-        !takes_word(&fault.act) || kept.is_some()
-    } else {
-        false
+    'sites: for i in 0..carried.len() {
+        let one = &carried[i];
+        if is_call_of(one.fault.cycle, one.fault.op, call) {
+            return done_by(one);
+        }
+    }
+    None
+}
+
+/// What a fault does at its call, if it has the word that its act takes.
+fn done_by(one: &Carried) -> Option<Doing>
+    ensures none { IfNone result (act_with one.now.fault.act one.now.kept ≡ None) }
+    ensures some { IfSome result (λ d. (act_with one.now.fault.act one.now.kept ≡ Some d.act) × (word one.now.kept ≡ d.word)) }
+{
+    let act = one.fault.act;
+    match one.kept {
+        Some(word) => Some(Doing { act, word }),
+        None => {
+            if takes_word(&act) {
+                return None;
+            }
+            Some(Doing {
+                act,
+                word: Word::ZERO,
+            })
+        }
     }
 }
 
-/// The word that was kept.
-fn kept_word(kept: &Option<Word>) -> Word
-    ensures { result ≡ word kept.now }
+/// Keeps what each fault takes of a call with this answer.
+fn keep(carried: &mut [Carried], call: &Call, given: &Answer)
+    ensures faults { faults_of carried.new ≡ faults_of carried.old }
+    ensures kept { keeps_of carried.new ≡ kept_after_of (faults_of carried.old) (keeps_of carried.old) call.now given.now }
 {
-    match kept {
-        Some(word) => *word,
-        None => Word::ZERO,
+    'faults: for i in 0..carried.len() {
+        carried[i] = kept_on(&carried[i], call, given);
+    }
+}
+
+/// A fault with what it has kept after a call with this answer.
+fn kept_on(one: &Carried, call: &Call, given: &Answer) -> Carried
+    ensures { result ≡ record { fault = one.now.fault; kept = kept_by_of one.now.fault one.now.fault.act one.now.kept call.now given.now } }
+{
+    Carried {
+        fault: one.fault,
+        kept: kept_by(&one.fault, &one.kept, call, given),
     }
 }
 
@@ -239,9 +331,9 @@ fn shifted(e: i64, given: &Answer) -> Answer
     }
 }
 
-/// The word that is kept after a call with this answer.
-fn kept_after(fault: &Fault, kept: &Option<Word>, call: &Call, given: &Answer) -> Option<Word>
-    ensures { result ≡ kept_after_of fault.now kept.now call.now given.now }
+/// The word that a fault has kept after a call with this answer.
+fn kept_by(fault: &Fault, kept: &Option<Word>, call: &Call, given: &Answer) -> Option<Word>
+    ensures { result ≡ kept_by_of fault.now fault.now.act kept.now call.now given.now }
 {
     match fault.act {
         Act::OperandFrom { j: _, r } => {

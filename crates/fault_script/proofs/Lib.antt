@@ -1,6 +1,8 @@
+pub mod AddedUp
 pub mod Alone
-pub mod Firsts
-pub mod Reading
+pub mod GroupsFit
+pub mod LinesRead
 pub mod Worked
 pub mod WorkedFaults
+pub mod WorkedGroups
 pub mod Written

@@ -31,7 +31,7 @@ adds_one = record {
 }
 
 -- a script of one line
-abbrev said : List ℕ → Result (List Fault) ScriptFault
+abbrev said : List ℕ → Result (List (List Fault)) ScriptFault
 said line = script_of adds_one (line ++ 10 ∷ [])
 
 abbrev pub fault : ℕ → ℕ → ℕ → Act → Fault
@@ -59,15 +59,15 @@ fewer_operands : said (codes "operator 0 2 NOT") ≡ Err (refusal.Kind 1)
 fewer_operands = refl
 
 -- a kind may take its own place, and INPUT that of CONST
-same_kind : said (codes "operator 0 2 ADD") ≡ Ok (fault 1 0 2 (act.Operator kind.Add) ∷ [])
+same_kind : said (codes "operator 0 2 ADD") ≡ Ok ((fault 1 0 2 (act.Operator kind.Add) ∷ []) ∷ [])
 same_kind = refl
 
-no_operands : said (codes "operator 0 1 INPUT") ≡ Ok (fault 1 0 1 (act.Operator kind.Input) ∷ [])
+no_operands : said (codes "operator 0 1 INPUT") ≡ Ok ((fault 1 0 1 (act.Operator kind.Input) ∷ []) ∷ [])
 no_operands = refl
 
 -- comments, empty lines, CR LF, blanks between words and at a line's ends, a last line without LF
 mixed : script_of adds_one (codes "# skip\n\nskip 0000000001 2\r\n\r\n\toperand  0 2 1\tfrom 0 \nresult 7 2 add -5")
-    ≡ Ok (fault 3 1 2 act.Skip ∷ fault 5 0 2 (act.OperandFrom 1 0) ∷ fault 6 7 2 (act.ResultAdd (negsuc 4)) ∷ [])
+    ≡ Ok ((fault 3 1 2 act.Skip ∷ []) ∷ (fault 5 0 2 (act.OperandFrom 1 0) ∷ []) ∷ (fault 6 7 2 (act.ResultAdd (negsuc 4)) ∷ []) ∷ [])
 mixed = refl
 
 first_alone : script_of adds_one (codes "skip 1 2\nskip 0 2\nskip\n") ≡ Err (refusal.Early 2)

@@ -9,7 +9,7 @@ use Rattle.coded_unit.specs.declared.call.Call.{Call}
 use Rattle.coded_unit.specs.declared.call.Answer.TheVariants as answer
 use Rattle.signature_table.specs.Signatures.{Numbers, signature}
 use Rattle.fault_script.specs.declared.act.Act.TheVariants as act
-use Rattle.fault_script.specs.Changes.{operand_word, changed, answered, acts_of, kept_after}
+use Rattle.fault_script.specs.Changes.{operand_word, changed, answered, acts_of, act_at_call, kept_at_call, kept_after}
 use Rattle.fault_script.specs.Differences.{difference_at}
 use Rattle.fault_script.proofs.Worked.{adds_one, fault}
 
@@ -80,18 +80,36 @@ skipped : answered act.Skip (pos 13314398613) (Right second) ≡ answer.Word (po
 skipped = refl
 
 -- what the acts keep
-keeps_operand : kept_after (fault 1 1 2 (act.OperandStale 0)) None first (answer.Word (pos 13314398613)) ≡ Some (pos 10737418236)
+keeps_operand : kept_after (fault 1 1 2 (act.OperandStale 0) ∷ []) (None ∷ []) first (answer.Word (pos 13314398613)) ≡ Some (pos 10737418236) ∷ []
 keeps_operand = refl
 
-keeps_answer : kept_after (fault 1 1 2 act.Skip) None first (answer.Word (pos 13314398613)) ≡ Some (pos 13314398613)
+keeps_answer : kept_after (fault 1 1 2 act.Skip ∷ []) (None ∷ []) first (answer.Word (pos 13314398613)) ≡ Some (pos 13314398613) ∷ []
 keeps_answer = refl
 
-keeps_none : kept_after (fault 1 2 2 act.Skip) None first (answer.Word (pos 13314398613)) ≡ None
+keeps_none : kept_after (fault 1 2 2 act.Skip ∷ []) (None ∷ []) first (answer.Word (pos 13314398613)) ≡ None ∷ []
 keeps_none = refl
+
+-- each of a group keeps its own
+keeps_apart : kept_after (fault 1 1 2 act.Skip ∷ fault 2 0 3 (act.OperandFrom 0 2) ∷ []) (None ∷ None ∷ []) first (answer.Word (pos 13314398613))
+    ≡ Some (pos 13314398613) ∷ Some (pos 13314398613) ∷ []
+keeps_apart = refl
+
+-- and acts at its own call with its own word
+acts_apart : act_at_call (fault 1 0 3 (act.OperandStale 0) ∷ fault 2 0 2 (act.OperandFrom 1 0) ∷ []) (Some (pos 1) ∷ Some (pos 2) ∷ []) first
+    ≡ Some (act.OperandFrom 1 0)
+acts_apart = refl
+
+word_apart : kept_at_call (fault 1 0 3 (act.OperandStale 0) ∷ fault 2 0 2 (act.OperandFrom 1 0) ∷ []) (Some (pos 1) ∷ Some (pos 2) ∷ []) first
+    ≡ Some (pos 2)
+word_apart = refl
+
+-- where none was kept the call is passed on unchanged
+no_act : act_at_call (fault 1 0 2 (act.OperandFrom 1 0) ∷ []) (None ∷ []) first ≡ None
+no_act = refl
 
 -- ---- differences
 
-abbrev numbers : Numbers
+abbrev pub numbers : Numbers
 numbers = record { profile = profile.Narrow; seed = 0; step = 1; corrections = [] }
 
 -- 7 at an operand of the addition, and the difference at its OUT

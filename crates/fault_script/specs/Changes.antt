@@ -1,5 +1,5 @@
 -- Changes: what the acts of faults do to calls and to their answers.
-use Rattle.std.specs.Prelude.{ℕ, zero, suc, ◌+◌, ◌==◌, Bool, true, false, cond, ◌&&◌, ◌||◌, not, List, [], ◌∷◌, Option, Some, None, ℤ, ◌+ℤ◌}
+use Rattle.std.specs.Prelude.{ℕ, zero, suc, ◌+◌, ◌==◌, Bool, true, false, cond, ◌&&◌, ◌||◌, not, List, [], ◌∷◌, map, Option, Some, None, ℤ, ◌+ℤ◌}
 use Rattle.std.specs.Option.{is_some}
 use Rattle.coded_unit.specs.Words.{nearest_word}
 use Rattle.coded_unit.specs.declared.call.Call.{Call}
@@ -98,9 +98,30 @@ kept_by f (act.ResultAdd e) kept call given = kept
 kept_by f (act.Operator kind) kept call given = kept
 kept_by f act.Skip kept call given = cond (is_call_before f.cycle f.op call) (word_of given kept) kept
 
-abbrev pub kept_after : Fault → Option ℤ → Call → Answer → Option ℤ
-kept_after f kept call given = kept_by f f.act kept call given
+-- ---- the faults of a group, beside each the word that was kept for it
 
--- the act that is carried out at a call: the fault's at its operation in its cycle, where it has the word that it takes
-abbrev pub act_at_call : Fault → Option ℤ → Call → Option Act
-act_at_call f kept call = cond (is_call_of f.cycle f.op call && (not (takes_word f.act) || is_some kept)) (Some f.act) None
+-- before the first call none is kept
+abbrev pub none_kept : List Fault → List (Option ℤ)
+none_kept faults = map (λ f. None) faults
+
+-- what is kept after a call with this answer
+abbrev pub kept_after : List Fault → List (Option ℤ) → Call → Answer → List (Option ℤ)
+kept_after [] keeps call given = []
+kept_after (f ∷ faults) [] call given = []
+kept_after (f ∷ faults) (kept ∷ keeps) call given = kept_by f f.act kept call given ∷ kept_after faults keeps call given
+
+-- the act of a fault, where it has the word that it takes
+abbrev pub act_with : Act → Option ℤ → Option Act
+act_with a kept = cond (not (takes_word a) || is_some kept) (Some a) None
+
+-- the act that is carried out at a call: that of the fault at its operation in its cycle, the first of them, where it has the word that it takes
+abbrev pub act_at_call : List Fault → List (Option ℤ) → Call → Option Act
+act_at_call [] keeps call = None
+act_at_call (f ∷ faults) [] call = None
+act_at_call (f ∷ faults) (kept ∷ keeps) call = cond (is_call_of f.cycle f.op call) (act_with f.act kept) (act_at_call faults keeps call)
+
+-- and the word that was kept for that fault
+abbrev pub kept_at_call : List Fault → List (Option ℤ) → Call → Option ℤ
+kept_at_call [] keeps call = None
+kept_at_call (f ∷ faults) [] call = None
+kept_at_call (f ∷ faults) (kept ∷ keeps) call = cond (is_call_of f.cycle f.op call) kept (kept_at_call faults keeps call)

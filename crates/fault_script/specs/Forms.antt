@@ -1,24 +1,16 @@
 -- Forms: what the words of a line say.
-use Rattle.std.specs.Prelude.{ℕ, ◌^◌, Bool, true, false, ◌&&◌, cond, nat_lt, List, [], ◌∷◌, Option, Some, None, option_map, option_and_then, ℤ, pos, neg_ℤ}
-use Rattle.std.specs.Prelude.{int_le, codes, bytes_eq}
-use Rattle.std.specs.List.{filter, slice_split}
+use Rattle.std.specs.Prelude.{ℕ, ◌^◌, cond, nat_lt, List, [], ◌∷◌, Option, Some, None, option_map, option_and_then, ℤ, codes, bytes_eq}
 use Rattle.vcp_base.specs.Limits.{most_cycles}
 use Rattle.vcp_base.specs.declared.kind.Kind.{Kind}
 use Rattle.vcp_base.specs.Spellings.{kinds, kind_name}
-use Rattle.vcp_base.specs.Blanks.{is_blank}
 use Rattle.vcp_base.specs.Numerals.{numeral_of, integer_of}
+use Rattle.script_text.specs.Words.{is_end, only}
+pub use Rattle.script_text.specs.Integers.{is_addend}
 use Rattle.fault_script.specs.declared.act.Act.{Act}
 use Rattle.fault_script.specs.declared.act.Act.TheVariants as act
 use Rattle.fault_script.specs.declared.forms.Change.{Change}
-
--- a part of a line with a byte in it
-abbrev pub is_word : List ℕ → Bool
-is_word [] = false
-is_word (c ∷ part) = true
-
--- the words of a line: what stands between spaces and tabs
-abbrev pub words : List ℕ → List (List ℕ)
-words line = filter is_word (slice_split is_blank line)
+use Rattle.fault_script.specs.declared.forms.Mark.{Mark}
+use Rattle.fault_script.specs.declared.forms.Mark.TheVariants as mark
 
 -- ---- single words
 
@@ -34,10 +26,6 @@ cycle_of w = number_below most_cycles w
 abbrev pub index_of : List ℕ → Option ℕ
 index_of w = number_below (2 ^ 32) w
 
--- e is at most 2^62 in size
-abbrev pub is_addend : ℤ → Bool
-is_addend e = int_le (neg_ℤ (pos (2 ^ 62))) e && int_le e (pos (2 ^ 62))
-
 -- the number that is added: an optional sign and digits, at most 2^62 in size
 abbrev pub addend_of : List ℕ → Option ℤ
 addend_of w = option_and_then (λ e. cond (is_addend e) (Some e) None) (integer_of w)
@@ -52,16 +40,6 @@ abbrev pub kind_of : List ℕ → Option Kind
 kind_of w = first_named w kinds
 
 -- ---- the acts
-
--- no word is left
-abbrev pub is_end : List (List ℕ) → Bool
-is_end [] = true
-is_end (w ∷ more) = false
-
--- the one word that is left, where it is one
-abbrev pub only : List (List ℕ) → Option (List ℕ)
-only [] = None
-only (w ∷ more) = cond (is_end more) (Some w) None
 
 -- what is done to operand j: `add e`, `from r` or `stale`
 abbrev pub operand_change : ℕ → List ℕ → List (List ℕ) → Option Act
@@ -106,3 +84,17 @@ change_of (verb ∷ n ∷ k ∷ more) =
     (λ n. option_and_then (λ k. option_map (λ a. record { cycle = n; op = k; act = a }) (act_of verb more)) (index_of k))
     (cycle_of n)
 change_of _ = None
+
+-- ---- the lines that enclose a group
+
+-- what a line is that has this one word
+abbrev pub mark_named : List ℕ → Mark
+mark_named w = cond (bytes_eq w (codes "begin")) mark.Begin (cond (bytes_eq w (codes "end")) mark.End mark.Fault)
+
+abbrev pub mark_alone : Option (List ℕ) → Mark
+mark_alone None = mark.Fault
+mark_alone (Some w) = mark_named w
+
+-- what a line with these words is: `begin` or `end`, each alone, or else a fault line
+abbrev pub mark_of : List (List ℕ) → Mark
+mark_of ws = mark_alone (only ws)

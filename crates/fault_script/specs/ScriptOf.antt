@@ -1,34 +1,26 @@
 -- ScriptOf: the script of a text, or the first line that is refused.
-use Rattle.std.specs.Prelude.{◌≡◌, ℕ, ◌+◌, ◌==◌, Bool, true, cond, nat_lt, List, [], ◌∷◌, ◌++◌, Option, Some, None, Result, Ok, Err, slice_get}
+use Rattle.std.specs.Prelude.{ℕ, ◌+◌, cond, nat_lt, List, [], ◌∷◌, ◌++◌, Option, Some, None, Result, Ok, Err, slice_get}
 use Rattle.std.specs.Str.Lines.{lines}
 use Rattle.op_graph.specs.declared.op.Op.{Op}
 use Rattle.op_graph.specs.Lists.{Lists}
+use Rattle.script_text.specs.Lines.{Line, read_lines}
+use Rattle.script_text.specs.Words.{words}
 use Rattle.fault_script.specs.declared.act.Fault.{Fault}
 use Rattle.fault_script.specs.declared.script_fault.ScriptFault.{ScriptFault}
 use Rattle.fault_script.specs.declared.script_fault.ScriptFault.TheVariants as refusal
 use Rattle.fault_script.specs.declared.forms.Change.{Change}
-use Rattle.fault_script.specs.Forms.{words, change_of}
+use Rattle.fault_script.specs.declared.forms.Mark.{Mark}
+use Rattle.fault_script.specs.declared.forms.Mark.TheVariants as mark
+use Rattle.fault_script.specs.declared.reading.Opened.{Opened}
+use Rattle.fault_script.specs.Forms.{change_of, mark_of}
+use Rattle.fault_script.specs.Groups.{is_taken}
 use Rattle.fault_script.specs.Fits.{is_sited, is_timely, is_alike}
 
 -- how many fault lines a script may have
 abbrev pub most_faults : ℕ
 most_faults = 10000
 
--- a line of a text: its number, counted from 1, and its bytes
-pub record Line : Type 0 where
-  pub number : ℕ
-  pub text : List ℕ
-
--- an empty line, or one whose first byte is `#`
-abbrev pub is_skipped : List ℕ → Bool
-is_skipped [] = true
-is_skipped (c ∷ text) = c == 35
-
--- the fault lines among these lines, of which the first has this number: those that are not skipped
-abbrev pub fault_lines : ℕ → List (List ℕ) → List Line
-fault_lines number [] = []
-fault_lines number (text ∷ more) =
-    cond (is_skipped text) (fault_lines (number + 1) more) (record { number = number; text = text } ∷ fault_lines (number + 1) more)
+-- ---- a fault line
 
 -- The fault that a line says at this operation, where there is one. In this order: the places of the act are not there, there is
 -- no cycle before, the other kind has another number of operands.
@@ -56,27 +48,68 @@ fault_of g line = fault_if g line.number (change_of (words line.text))
 abbrev pub said_after : Lists → ℕ → Line → Result Fault ScriptFault
 said_after g before line = cond (nat_lt before most_faults) (fault_of g line) (Err (refusal.Faults line.number))
 
--- what fault lines say, after `before` others
-abbrev pub said : Lists → ℕ → List Line → List (Result Fault ScriptFault)
-said g before [] = []
-said g before (line ∷ more) = said_after g before line ∷ said g (before + 1) more
+-- ---- what each line says
 
--- a fault before those of the later lines, unless one of them is refused
-abbrev pub onto : Fault → Result (List Fault) ScriptFault → Result (List Fault) ScriptFault
-onto f (Ok faults) = Ok (f ∷ faults)
-onto f (Err why) = Err why
+-- What a line says that isn't skipped: that a group begins or ends, with the line's number, or a fault, unless the line by itself is refused.
+pub data Item : Type 0 where
+  begins : ℕ → Item
+  ends : ℕ → Item
+  says : Result Fault ScriptFault → Item
 
--- all faults that lines say, or the first refusal
-abbrev pub all_or_first : List (Result Fault ScriptFault) → Result (List Fault) ScriptFault
-all_or_first [] = Ok []
-all_or_first (Ok f ∷ more) = onto f (all_or_first more)
-all_or_first (Err why ∷ more) = Err why
+-- what a line of this kind says, after `before` fault lines
+abbrev pub item_by : Lists → ℕ → Line → Mark → Item
+item_by g before line mark.Begin = begins line.number
+item_by g before line mark.End = ends line.number
+item_by g before line mark.Fault = says (said_after g before line)
+
+abbrev pub item_of : Lists → ℕ → Line → Item
+item_of g before line = item_by g before line (mark_of (words line.text))
+
+-- how many fault lines there are with this one: `begin` and `end` don't count
+abbrev pub counted : ℕ → Item → ℕ
+counted before (begins number) = before
+counted before (ends number) = before
+counted before (says told) = before + 1
+
+-- what lines say, after `before` fault lines
+abbrev pub items_of : Lists → ℕ → List Line → List Item
+items_of g before [] = []
+items_of g before (line ∷ more) = item_of g before line ∷ items_of g (counted before (item_of g before line)) more
+
+-- ---- groups
+
+-- a group before those of the later lines, unless one of them is refused
+abbrev pub onto : List Fault → Result (List (List Fault)) ScriptFault → Result (List (List Fault)) ScriptFault
+onto faults (Ok groups) = Ok (faults ∷ groups)
+onto faults (Err why) = Err why
+
+-- a group that ends in the line of this number, before the later ones: it has a fault
+abbrev pub ended : ℕ → List Fault → Result (List (List Fault)) ScriptFault → Result (List (List Fault)) ScriptFault
+ended number [] later = Err (refusal.Group number)
+ended number (f ∷ faults) later = onto (f ∷ faults) later
+
+-- what comes of the later lines, unless an earlier fault of its group stands where this one does
+abbrev pub unless_taken : Fault → List Fault → Result (List (List Fault)) ScriptFault → Result (List (List Fault)) ScriptFault
+unless_taken f faults later = cond (is_taken f faults) (Err (refusal.Twice f.line)) later
+
+-- the open group with one more fault
+abbrev pub with_fault : Opened → Fault → Opened
+with_fault o f = record { line = o.line; group = o.group ++ f ∷ [] }
+
+-- The groups of lines, behind those of an open group, where there is one; or the first refusal. A fault outside `begin` and `end` is a group of
+-- one. No group begins inside a group, ends outside one, is empty or stays open, and no two of its faults stand at one operation in one cycle.
+abbrev pub groups_of : List Item → Option Opened → Result (List (List Fault)) ScriptFault
+groups_of [] None = Ok []
+groups_of [] (Some o) = Err (refusal.Group o.line)
+groups_of (begins number ∷ more) None = groups_of more (Some (record { line = number; group = [] }))
+groups_of (begins number ∷ more) (Some o) = Err (refusal.Group number)
+groups_of (ends number ∷ more) None = Err (refusal.Group number)
+groups_of (ends number ∷ more) (Some o) = ended number o.group (groups_of more None)
+groups_of (says (Err why) ∷ more) o = Err why
+groups_of (says (Ok f) ∷ more) None = onto (f ∷ []) (groups_of more None)
+groups_of (says (Ok f) ∷ more) (Some o) = unless_taken f o.group (groups_of more (Some (with_fault o f)))
 
 -- The script of a text over a graph, or its first refused line. Lines end at LF, and a CR before it is dropped; the last line needs no
 -- LF, and keeps a CR at its end.
-abbrev pub script_of : Lists → List ℕ → Result (List Fault) ScriptFault
-script_of g text = all_or_first (said g 0 (fault_lines 1 (lines text)))
-
--- a call that was to append what a line says has done it
-abbrev pub Appends : Result Fault ScriptFault → List Fault → List Fault → Type 0
-Appends said old new = (f : Fault) × (said ≡ Ok f) × (new ≡ old ++ f ∷ [])
+abbrev pub script_of : Lists → List ℕ → Result (List (List Fault)) ScriptFault
+script_of g text = groups_of (items_of g 0 (read_lines 1 (lines text))) None

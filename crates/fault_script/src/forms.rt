@@ -3,12 +3,14 @@
 ghost use Rattle.std.specs.Prelude.{◌≡◌, ◌<◌, true, IfSome};
 ghost use Rattle.vcp_base.specs.Limits.{most_cycles};
 ghost use Rattle.fault_script.specs.Forms.{operand_change as operand_change_of, operand_act as operand_act_of, result_act as result_act_of};
-ghost use Rattle.fault_script.specs.Forms.{operator_act as operator_act_of, skip_act as skip_act_of, act_of, change_of, words as words_of};
+ghost use Rattle.fault_script.specs.Forms.{operator_act as operator_act_of, skip_act as skip_act_of, act_of, change_of};
+ghost use Rattle.script_text.specs.Words.{words as words_of};
+ghost use Rattle.fault_script.specs.Forms.{mark_named as mark_named_of, mark_of};
 ghost use Rattle.fault_script.specs.Fits.{is_moderate};
 
 use crate::act::Act;
 use crate::numbers::{addend, cycle, index, kind_named};
-use crate::words::WordsLeft;
+use script_text::WordsLeft;
 
 /// What a well-formed line says: an act at an operation in a cycle.
 #[derive(Clone, Copy, Debug)]
@@ -19,6 +21,17 @@ pub struct Change {
     pub op: u32,
     /// The act.
     pub act: Act,
+}
+
+/// What a line is, by its words.
+#[derive(Clone, Copy, Debug)]
+pub enum Mark {
+    /// The line begins a group.
+    Begin,
+    /// The line ends a group.
+    End,
+    /// The line is a fault line, well formed or not.
+    Fault,
 }
 
 // What is done to operand j: `add e`, `from r` or `stale`.
@@ -114,4 +127,28 @@ pub fn change_of_line(line: &[u8]) -> Option<Change>
     let op = index(k)?;
     let act = act(verb, &mut words)?;
     Some(Change { cycle, op, act })
+}
+
+// What a line is that has this one word.
+fn mark_named(word: &[u8]) -> Mark
+    ensures { result ≡ mark_named_of word.now }
+{
+    if word == b"begin".as_slice() {
+        return Mark::Begin;
+    }
+    if word == b"end".as_slice() {
+        return Mark::End;
+    }
+    Mark::Fault
+}
+
+/// What a line is: `begin` or `end`, each alone, or else a fault line.
+pub fn mark_of_line(line: &[u8]) -> Mark
+    ensures { result ≡ mark_of (words_of line.now) }
+{
+    let mut words = WordsLeft::new(line);
+    match words.only() {
+        Some(word) => mark_named(word),
+        None => Mark::Fault,
+    }
 }

@@ -2,12 +2,11 @@
 
 ghost use Rattle.std.specs.Prelude.{◌≡◌, ◌<◌, ◌≤◌, ◌^◌, true, IfSome};
 ghost use Rattle.vcp_base.specs.Limits.{most_cycles};
-ghost use Rattle.fault_script.specs.Forms.{number_below as number_below_of, cycle_of, index_of, is_addend as is_addend_of, addend_of, kind_of};
+ghost use Rattle.fault_script.specs.Forms.{number_below as number_below_of, cycle_of, index_of, addend_of, kind_of};
+ghost use Rattle.script_text.specs.Integers.{is_addend as is_addend_of};
 
+use script_text::is_addend;
 use vcp_base::{Kind, MOST_CYCLES, Ty, kind_name, kind_of_code, number_in, numeral};
-
-/// The most that an act adds, in size.
-const MOST_ADDEND: i64 = 1 << 62;
 
 // The number that one to ten digits write, where it is below the bound.
 fn number_below(bound: u64, word: &[u8]) -> Option<u32>
@@ -36,13 +35,6 @@ pub fn index(word: &[u8]) -> Option<u32>
     ensures { result ≡ index_of word.now }
 {
     number_below(1 << 32, word)
-}
-
-// Whether a number is at most 2^62 in size.
-fn is_addend(e: i64) -> bool
-    ensures { result ≡ is_addend_of e }
-{
-    -MOST_ADDEND <= e && e <= MOST_ADDEND
 }
 
 /// The number that is added: an optional sign and digits, at most 2^62 in size.

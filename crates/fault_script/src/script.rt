@@ -2,57 +2,58 @@
 
 ghost use Rattle.std.specs.Prelude.{◌≡◌, ◌<◌, [], ◌∷◌, ◌++◌, Some, OnOk, OnErr, length, slice_get};
 
-use crate::act::Fault;
+use crate::group::Group;
 use std::alloc::Global;
 use std::marker::Model;
 use vcp_base::Memory;
 
-/// The faults of a script in the order of its lines, seen as a list.
+/// The groups of a script in the order of its lines, seen as a list. A fault outside `begin` and `end` is a
+/// group of one.
 #[derive(Debug, Drop)]
 pub struct Script {
-    faults: Vec<Fault>,
+    groups: Vec<Group>,
 }
 
 impl Model for Script {
     ghost use Rattle.std.specs.Prelude.{List};
     ghost use Rattle.fault_script.specs.declared.act.Fault.{Fault};
 
-    ghost Value = { List Fault };
+    ghost Value = { List (List Fault) };
 
-    ghost view = { λ s. s.faults.items };
+    ghost view = { λ s. s.groups.items };
 }
 
 impl Script {
-    /// A script without faults. It takes no memory.
+    /// A script without groups. It takes no memory.
     pub fn new(alloc: Global) -> Script
         ensures { result ≡ [] }
     {
         Script {
-            faults: Vec::new(alloc),
+            groups: Vec::new(alloc),
         }
     }
 
-    /// Appends a fault. After `Memory` the script is unchanged.
-    pub fn push(&mut self, fault: Fault) -> Result<(), Memory>
-        ensures ok { OnOk result (self.new ≡ self.old ++ fault ∷ []) }
+    /// Appends a group. After `Memory` the script is unchanged.
+    pub fn push(&mut self, group: Group) -> Result<(), Memory>
+        ensures ok { OnOk result (self.new ≡ self.old ++ group ∷ []) }
         ensures err { OnErr result (self.new ≡ self.old) }
     {
-        self.faults.push(fault)?;
+        self.groups.push(group)?;
         Ok(())
     }
 
-    /// How many faults there are.
+    /// How many groups there are.
     pub fn len(&self) -> usize
         ensures { result ≡ length self.now }
     {
-        self.faults.len()
+        self.groups.len()
     }
 
-    /// The fault at place `i`, counted from 0, where `i` is less than `len`.
-    pub fn at(&self, i: usize) -> Fault
+    /// The group at place `i`, counted from 0, where `i` is less than `len`.
+    pub fn at(&self, i: usize) -> &Group
         requires { i < length self.now }
-        ensures { slice_get self.now i ≡ Some result }
+        ensures { slice_get self.now i ≡ Some result.now }
     {
-        self.faults[i]
+        &self.groups[i]
     }
 }

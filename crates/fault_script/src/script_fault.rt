@@ -33,6 +33,17 @@ pub enum ScriptFault {
         /// The number of the line.
         line: u32,
     },
+    /// A group begins inside a group, ends outside one or without a fault, or doesn't end at all, where
+    /// the line is that of its `begin`.
+    Group {
+        /// The number of the line.
+        line: u32,
+    },
+    /// An earlier fault of the group stands at the same operation in the same cycle.
+    Twice {
+        /// The number of the line.
+        line: u32,
+    },
     /// There was no memory. It is merged with no other cause.
     Memory,
 }

@@ -1,11 +1,11 @@
 //! A scripted unit over the calls of `y := x + 1;` with the seed 0, on 5 and 7: INPUT, CONST, ADD, OUT.
 
-ghost use Rattle.std.specs.Prelude.{◌<◌, ◌≤◌};
+ghost use Rattle.std.specs.Prelude.{◌≡◌, ◌<◌, ◌≤◌, ◌∷◌, [], IfOk};
 ghost use Rattle.coded_unit.specs.Asked.{Asked};
 
 use coded_unit::{Answer, Call, LogUnit, Unit, Word};
-use fault_runs::{Scripted, acts_keep_the_step_law};
-use fault_script::{Act, Fault, read_script};
+use fault_runs::{Scripted, acts_keep_the_step_law, carried_of};
+use fault_script::{Act, Fault, Group, read_script};
 use op_graph::Graph;
 use std::alloc::Global;
 use std::test::Fail;
@@ -68,15 +68,25 @@ fn calls(unit: &LogUnit) -> u32 {
     count
 }
 
+/// A fault as a group of one.
+fn alone(alloc: Global, fault: Fault) -> Result<Group, Memory>
+    ensures { IfOk result (λ group. group ≡ fault ∷ []) }
+{
+    let mut group = Group::new(alloc);
+    group.push(fault)?;
+    Ok(group)
+}
+
 /// The words that the addition answers in two cycles on 5 and 7 with a fault there, 0 for a stop; how many answers were wrong, and how
 /// many calls the unit inside did.
 fn told(alloc: Global, fault: Fault) -> Result<String, Memory> {
     let mut unit = LogUnit::new(alloc, 8)?;
-    let mut scripted = Scripted::new(&mut unit, fault);
+    let mut scripted = Scripted::of_parts(&mut unit, carried_of(alloc, &alone(alloc, fault)?)?);
     let first = word_of(&cycle_on(&mut scripted, 0, 5)).get();
     let second = word_of(&cycle_on(&mut scripted, 1, 7)).get();
     let wrong = scripted.wrong();
-    Ok(format!(in alloc; "{first} {second}, {wrong} wrong, {} calls", calls(&unit))?)
+    let calls = calls(scripted.into_inner());
+    Ok(format!(in alloc; "{first} {second}, {wrong} wrong, {calls} calls")?)
 }
 
 /// Faults at the addition, which is operation 2, and what is told of each. The right answers are 6 with the residue 429496731, and 8 with
@@ -98,9 +108,13 @@ fn fault_of(alloc: Global, graph: &Graph, text: &str) -> Result<Fault, Fail> {
     }
     let script = read_script(alloc, text.as_bytes(), graph)?;
     if script.len() == 0 {
+        return Err("no group".into());
+    }
+    let group = script.at(0);
+    if group.len() == 0 {
         return Err("no fault".into());
     }
-    Ok(script.at(0))
+    Ok(group.at(0))
 }
 
 /// Fails with the first of these faults of which something else is told.
@@ -129,12 +143,14 @@ fn without_its_word_a_skip_passes_the_call_on(rt: HostRuntime) -> Result<(), Fai
         act: Act::Skip,
     };
     let mut unit = LogUnit::new(rt.alloc(), 8)?;
-    let mut scripted = Scripted::new(&mut unit, fault);
+    let carried = carried_of(rt.alloc(), &alone(rt.alloc(), fault)?)?;
+    let mut scripted = Scripted::of_parts(&mut unit, carried);
     let given = cycle_on(&mut scripted, 1, 7);
     let wrong = scripted.wrong();
+    let calls = calls(scripted.into_inner());
     let word = word_of(&given).get();
     same(
-        &format!(in rt.alloc(); "{word}, {wrong} wrong, {} calls", calls(&unit))?,
+        &format!(in rt.alloc(); "{word}, {wrong} wrong, {calls} calls")?,
         "17609365908, 0 wrong, 4 calls",
     )
 }

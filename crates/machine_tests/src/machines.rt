@@ -83,7 +83,7 @@ fn cycle_by_hand<U: Unit>(machine: &mut Machine<'_>, unit: &mut U, row: &Row, ou
     requires outputs { length machine.old.graph.outputs ≡ 1 }
     requires out { length out.old ≡ 1 }
     ensures turn { machine.old.ended ≡ None
-        → Turn machine.old machine.new row.now result.end (U.log unit.old) (U.log unit.new) (U.wrong unit.old) (U.wrong unit.new) }
+        → Turn machine.old machine.new row.now result.end (U.seen unit.old).log (U.seen unit.new).log (U.seen unit.old).wrong (U.seen unit.new).wrong }
     ensures cycles { machine.new.cycles ≤ machine.old.cycles + 1 }
     ensures between { machine.new.under_way ≡ false }
     ensures outputs { length machine.new.graph.outputs ≡ 1 }

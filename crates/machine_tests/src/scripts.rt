@@ -1,6 +1,6 @@
 //! Scripts over the graph of `y := x + 1;`: INPUT, CONST, ADD, OUT.
 
-use fault_script::{Fault, Script, ScriptFault, read_script};
+use fault_script::{Fault, Group, Script, ScriptFault, read_script};
 use op_graph::{Build, Graph, GraphBuilder};
 use std::alloc::Global;
 use std::test::Fail;
@@ -31,21 +31,30 @@ fn read(alloc: Global, graph: &Graph, text: &[u8]) -> Result<Script, ScriptFault
     read_script(alloc, text, graph)
 }
 
+/// Appends the faults of a group, and where they are several that they go together.
+fn show_group(alloc: Global, out: &mut Vec<u8>, group: &Group) -> Result<(), Fail> {
+    'faults: for i in 0..group.len() {
+        let Fault {
+            line,
+            cycle,
+            op,
+            act,
+        } = group.at(i);
+        out.extend_from_slice(format!(in alloc; "{line}: {cycle} {op} {act:?} ")?.as_bytes())?;
+    }
+    if group.len() > 1 {
+        out.extend_from_slice(b"together ")?;
+    }
+    Ok(())
+}
+
 /// What a text says: its faults, or its refusal.
 fn shown(alloc: Global, graph: &Graph, text: &[u8]) -> Result<Vec<u8>, Fail> {
     let mut out = Vec::new(alloc);
     match read(alloc, graph, text) {
         Ok(script) => {
-            'faults: for i in 0..script.len() {
-                let Fault {
-                    line,
-                    cycle,
-                    op,
-                    act,
-                } = script.at(i);
-                out.extend_from_slice(format!(in alloc;
-                    "{line}: {cycle} {op} {act:?} "
-                )?.as_bytes())?;
+            'groups: for i in 0..script.len() {
+                show_group(alloc, &mut out, script.at(i))?;
             }
         }
         Err(fault) => out.extend_from_slice(format!(in alloc; "{fault:?} ")?.as_bytes())?,
@@ -105,6 +114,28 @@ skip 1 2\r\r\n => Form { line: 1 }
 \x20# skip\n => Form { line: 1 }
  =>
 ";
+
+/// Scripts with groups, and what each says.
+const GROUPS: &str =
+    r"begin\nskip 1 2\nresult 0 2 add 5\nend\nskip 1 2\n => 2: 1 2 Skip 3: 0 2 ResultAdd { e: 5 } together 5: 1 2 Skip
+# none\n\nbegin\n# inside\nskip 2 2\n\nend\n => 5: 2 2 Skip
+begin \nskip 1 2\n end\nbegin\nskip 1 2\nend => 2: 1 2 Skip 5: 1 2 Skip
+begin\nend\n => Group { line: 2 }
+begin\nskip 1 2\nbegin\nend\n => Group { line: 3 }
+skip 1 2\nend\n => Group { line: 2 }
+skip 1 2\nbegin\nskip 2 2\n => Group { line: 2 }
+begin\nskip 1 2\nskip 9 99\n => Site { line: 3 }
+begin x\nskip 1 2\nend\n => Form { line: 1 }
+begin\nskip 1 2\nend end\n => Form { line: 3 }
+begin\nskip 1 2\nskip 1 2\nend\n => Twice { line: 3 }
+begin\nskip 1 2\nskip 1 2\n => Twice { line: 3 }
+begin\nskip 1 2\noperator 1 2 NOT\nend\n => Kind { line: 3 }
+";
+
+#[test]
+fn groups_are_read_and_each_refusal_has_its_place(rt: HostRuntime) -> Result<(), Fail> {
+    all_say(rt.alloc(), GROUPS)
+}
 
 #[test]
 fn each_form_is_read_and_each_refusal_has_its_place(rt: HostRuntime) -> Result<(), Fail> {

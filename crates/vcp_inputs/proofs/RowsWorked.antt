@@ -24,5 +24,5 @@ a_lacking_file = refl
 cycles_with_columns : rows_outcome (cycles 2) holding_nothing x ≡ refused (refusal.Rows row.Form)
 cycles_with_columns = refl
 
-two_cycles : rows_outcome (cycles 2) holding_nothing [] ≡ opened (record { types = []; rows = [] ∷ [] ∷ []; refusal = None; refused = false })
+two_cycles : rows_outcome (cycles 2) holding_nothing [] ≡ opened (record { types = []; rows = [] ∷ [] ∷ []; refusal = None; ended = false })
 two_cycles = refl

@@ -14,5 +14,7 @@ script_refuses g text (script.Form line) why = no_script (script.Form line) (λ 
 script_refuses g text (script.Site line) why = no_script (script.Site line) (λ e. cc) (why (λ e. cc))
 script_refuses g text (script.Early line) why = no_script (script.Early line) (λ e. cc) (why (λ e. cc))
 script_refuses g text (script.Kind line) why = no_script (script.Kind line) (λ e. cc) (why (λ e. cc))
+script_refuses g text (script.Group line) why = no_script (script.Group line) (λ e. cc) (why (λ e. cc))
+script_refuses g text (script.Twice line) why = no_script (script.Twice line) (λ e. cc) (why (λ e. cc))
 script_refuses g text (script.Faults line) why = no_script (script.Faults line) (λ e. cc) (why (λ e. cc))
 script_refuses g text script.Memory why = tt

@@ -98,6 +98,8 @@ script_text name (script.Form line) = place_text name line (codes "F1 Form")
 script_text name (script.Site line) = place_text name line (codes "F2 Site")
 script_text name (script.Early line) = place_text name line (codes "F3 Early")
 script_text name (script.Kind line) = place_text name line (codes "F4 Kind")
+script_text name (script.Group line) = place_text name line (codes "F5 Group")
+script_text name (script.Twice line) = place_text name line (codes "F6 Twice")
 script_text name (script.Faults line) = place_text name line (codes "L5 Faults")
 script_text name script.Memory = memory_text
 

@@ -77,5 +77,7 @@ unscripted (script.Form line) = input.Refused (refusal.Script (script.Form line)
 unscripted (script.Site line) = input.Refused (refusal.Script (script.Site line))
 unscripted (script.Early line) = input.Refused (refusal.Script (script.Early line))
 unscripted (script.Kind line) = input.Refused (refusal.Script (script.Kind line))
+unscripted (script.Group line) = input.Refused (refusal.Script (script.Group line))
+unscripted (script.Twice line) = input.Refused (refusal.Script (script.Twice line))
 unscripted (script.Faults line) = input.Refused (refusal.Script (script.Faults line))
 unscripted script.Memory = input.Memory

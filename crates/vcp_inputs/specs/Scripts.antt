@@ -8,9 +8,9 @@ use Rattle.fault_script.specs.ScriptOf.{script_of}
 use Rattle.vcp_inputs.specs.declared.refusal.Refusal.{Refusal}
 use Rattle.vcp_inputs.specs.declared.refusal.Refusal.TheVariants as refusal
 
--- these are the faults of the text, over the graph
-abbrev pub ScriptOf : Lists → List ℕ → List Fault → Type 0
-ScriptOf g text faults = script_of g text ≡ Ok faults
+-- these are the groups of the text, over the graph
+abbrev pub ScriptOf : Lists → List ℕ → List (List Fault) → Type 0
+ScriptOf g text groups = script_of g text ≡ Ok groups
 
 -- the text is no script for the graph: this is its first refused line, and why
 pub data NotScript (g : Lists) (text : List ℕ) : Refusal → Type 0 where

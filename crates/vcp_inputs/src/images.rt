@@ -42,17 +42,17 @@ fn image_of(alloc: Global, text: &[u8]) -> Result<Image, NoInput>
 /// The image under a name: the file is read whole, and has at most 16,777,216 bytes.
 pub fn load_image<F: Files>(alloc: Global, files: &mut F, name: &Text) -> Result<Image, NoInput>
     // What is answered: the image that the file is, or why there is none.
-    ensures loads { IfSome (F.held files.old) (λ h. Loads ImageOf NotImage h name.now most_image_bytes (F.broken files.old) (F.broken files.new) result) }
+    ensures loads { IfSome (F.seen files.old).held (λ h. Loads ImageOf NotImage h name.now most_image_bytes (F.seen files.old).broken (F.seen files.new).broken result) }
     // Its table is the graph's, whatever the files tell.
     ensures table { IfOk result (λ i. i.table ≡ table_of i.table.seed i.table.step i.graph) }
-    ensures unread { result ≡ Err input.Unread → Rose (F.faults files.old) (F.faults files.new) }
+    ensures unread { result ≡ Err input.Unread → Rose (F.seen files.old).faults (F.seen files.new).faults }
     // What was taken of the file: all, unless it has too many bytes.
-    ensures ended { OnOk result (IsAtEnd (F.rest files.new)) }
-    ensures whole { (r : RefusalOf) → result ≡ Err (input.Refused r) → r ≢ refusal.Bytes → IsAtEnd (F.rest files.new) }
+    ensures ended { OnOk result (IsAtEnd (F.seen files.new).rest) }
+    ensures whole { (r : RefusalOf) → result ≡ Err (input.Refused r) → r ≢ refusal.Bytes → IsAtEnd (F.seen files.new).rest }
     // What stays.
-    ensures held { F.held files.new ≡ F.held files.old }
-    ensures later { F.faults files.old ≤ F.faults files.new }
-    ensures broken_later { F.broken files.old ≤ F.broken files.new }
+    ensures held { (F.seen files.new).held ≡ (F.seen files.old).held }
+    ensures later { (F.seen files.old).faults ≤ (F.seen files.new).faults }
+    ensures broken_later { (F.seen files.old).broken ≤ (F.seen files.new).broken }
 {
     let text = read_file(alloc, files, name, MOST_IMAGE_BYTES)?;
     image_of(alloc, text.bytes())

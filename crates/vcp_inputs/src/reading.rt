@@ -22,15 +22,15 @@ pub fn read_file<F: Files>(
 ) -> Result<Text, NoInput>
     requires { limit < 2 ^ 32 }
     // What is answered: the bytes, or why there are none.
-    ensures reads { IfSome (F.held files.old) (λ h. FileRead h name.now limit (F.broken files.old) (F.broken files.new) result) }
+    ensures reads { IfSome (F.seen files.old).held (λ h. FileRead h name.now limit (F.seen files.old).broken (F.seen files.new).broken result) }
     ensures within { IfOk result (λ text. length text ≤ limit) }
-    ensures unread { result ≡ Err input.Unread → Rose (F.faults files.old) (F.faults files.new) }
+    ensures unread { result ≡ Err input.Unread → Rose (F.seen files.old).faults (F.seen files.new).faults }
     ensures long { (r : RefusalOf) → result ≡ Err (input.Refused r) → r ≡ refusal.Bytes }
     // What stays.
-    ensures ended { OnOk result (IsAtEnd (F.rest files.new)) }
-    ensures held { F.held files.new ≡ F.held files.old }
-    ensures later { F.faults files.old ≤ F.faults files.new }
-    ensures broken_later { F.broken files.old ≤ F.broken files.new }
+    ensures ended { OnOk result (IsAtEnd (F.seen files.new).rest) }
+    ensures held { (F.seen files.new).held ≡ (F.seen files.old).held }
+    ensures later { (F.seen files.old).faults ≤ (F.seen files.new).faults }
+    ensures broken_later { (F.seen files.old).broken ≤ (F.seen files.new).broken }
 {
     Ok(read_all(alloc, files, name.bytes(), limit)?)
 }

@@ -157,6 +157,8 @@ impl From<ScriptFault> for NoInput {
             | ScriptFault::Site { .. }
             | ScriptFault::Early { .. }
             | ScriptFault::Kind { .. }
+            | ScriptFault::Group { .. }
+            | ScriptFault::Twice { .. }
             | ScriptFault::Faults { .. } => NoInput::Refused(Refusal::Script(fault)),
         }
     }

@@ -37,22 +37,22 @@ fn load_file<F: Files>(
     name: &Text,
     columns: &Columns,
 ) -> Result<RowsSource, NoInput>
-    ensures loads { IfSome (F.held files.old)
-        (λ h. LoadsRows (rows_outcome (file name.now) h columns.now) columns.now (F.broken files.old) (F.broken files.new) result) }
+    ensures loads { IfSome (F.seen files.old).held
+        (λ h. LoadsRows (rows_outcome (file name.now) h columns.now) columns.now (F.seen files.old).broken (F.seen files.new).broken result) }
     ensures without_file { begins (file name.now) columns.now ≡ false →
-        (h : Held) → LoadsRows (rows_outcome (file name.now) h columns.now) columns.now (F.broken files.old) (F.broken files.new) result }
+        (h : Held) → LoadsRows (rows_outcome (file name.now) h columns.now) columns.now (F.seen files.old).broken (F.seen files.new).broken result }
     ensures few { IfOk result HasFewCycles }
-    ensures unread { result ≡ Err input.Unread → Rose (F.faults files.old) (F.faults files.new) }
+    ensures unread { result ≡ Err input.Unread → Rose (F.seen files.old).faults (F.seen files.new).faults }
     ensures begun { result ≡ Err input.Unread → begins (file name.now) columns.now ≡ true }
     ensures refused { (r : RefusalOf) → result ≡ Err (input.Refused r) → begins (file name.now) columns.now ≡ true → r ≡ refusal.Bytes }
-    ensures long { result ≡ Err (input.Refused refusal.Bytes) → IfSome (F.held files.old) (HasLongFile (file name.now)) }
+    ensures long { result ≡ Err (input.Refused refusal.Bytes) → IfSome (F.seen files.old).held (HasLongFile (file name.now)) }
     ensures unbegun { begins (file name.now) columns.now ≡ false →
-        (F.rest files.new ≡ F.rest files.old) × (F.faults files.new ≡ F.faults files.old) × (F.broken files.new ≡ F.broken files.old) }
-    ensures ended { OnOk result (IsAtEnd (F.rest files.new)) }
-    ensures whole { (r : RefusalOf) → result ≡ Err (input.Refused r) → r ≢ refusal.Bytes → F.rest files.new ≡ F.rest files.old }
-    ensures held { F.held files.new ≡ F.held files.old }
-    ensures later { F.faults files.old ≤ F.faults files.new }
-    ensures broken_later { F.broken files.old ≤ F.broken files.new }
+        ((F.seen files.new).rest ≡ (F.seen files.old).rest) × ((F.seen files.new).faults ≡ (F.seen files.old).faults) × ((F.seen files.new).broken ≡ (F.seen files.old).broken) }
+    ensures ended { OnOk result (IsAtEnd (F.seen files.new).rest) }
+    ensures whole { (r : RefusalOf) → result ≡ Err (input.Refused r) → r ≢ refusal.Bytes → (F.seen files.new).rest ≡ (F.seen files.old).rest }
+    ensures held { (F.seen files.new).held ≡ (F.seen files.old).held }
+    ensures later { (F.seen files.old).faults ≤ (F.seen files.new).faults }
+    ensures broken_later { (F.seen files.old).broken ≤ (F.seen files.new).broken }
 {
     if columns.len() == 0 {
         return Err(NoInput::Refused(Refusal::Rows(RowFault::Form)));
@@ -74,24 +74,24 @@ pub fn load_rows<F: Files>(
     requires few { AreFew (rows_of rows) }
     // What is answered: what comes to the same as ROWS, or why there is nothing. Where no file is begun,
     // that is so whatever files hold, and else the one refusal is that of too many bytes.
-    ensures loads { IfSome (F.held files.old)
-        (λ h. LoadsRows (rows_outcome (rows_of rows.entry) h columns.now) columns.now (F.broken files.old) (F.broken files.new) result) }
+    ensures loads { IfSome (F.seen files.old).held
+        (λ h. LoadsRows (rows_outcome (rows_of rows.entry) h columns.now) columns.now (F.seen files.old).broken (F.seen files.new).broken result) }
     ensures without_file { begins (rows_of rows.entry) columns.now ≡ false →
-        (h : Held) → LoadsRows (rows_outcome (rows_of rows.entry) h columns.now) columns.now (F.broken files.old) (F.broken files.new) result }
+        (h : Held) → LoadsRows (rows_outcome (rows_of rows.entry) h columns.now) columns.now (F.seen files.old).broken (F.seen files.new).broken result }
     ensures few { IfOk result HasFewCycles }
-    ensures unread { result ≡ Err input.Unread → Rose (F.faults files.old) (F.faults files.new) }
+    ensures unread { result ≡ Err input.Unread → Rose (F.seen files.old).faults (F.seen files.new).faults }
     ensures begun { result ≡ Err input.Unread → begins (rows_of rows.entry) columns.now ≡ true }
     ensures refused { (r : RefusalOf) → result ≡ Err (input.Refused r) → begins (rows_of rows.entry) columns.now ≡ true → r ≡ refusal.Bytes }
-    ensures long { result ≡ Err (input.Refused refusal.Bytes) → IfSome (F.held files.old) (HasLongFile (rows_of rows.entry)) }
+    ensures long { result ≡ Err (input.Refused refusal.Bytes) → IfSome (F.seen files.old).held (HasLongFile (rows_of rows.entry)) }
     // What was taken of the file: nothing where none is begun, else all, unless it has too many bytes.
     ensures unbegun { begins (rows_of rows.entry) columns.now ≡ false →
-        (F.rest files.new ≡ F.rest files.old) × (F.faults files.new ≡ F.faults files.old) × (F.broken files.new ≡ F.broken files.old) }
-    ensures ended { OnOk result (IsAtEnd (F.rest files.old) → IsAtEnd (F.rest files.new)) }
-    ensures whole { (r : RefusalOf) → result ≡ Err (input.Refused r) → r ≢ refusal.Bytes → F.rest files.new ≡ F.rest files.old }
+        ((F.seen files.new).rest ≡ (F.seen files.old).rest) × ((F.seen files.new).faults ≡ (F.seen files.old).faults) × ((F.seen files.new).broken ≡ (F.seen files.old).broken) }
+    ensures ended { OnOk result (IsAtEnd (F.seen files.old).rest → IsAtEnd (F.seen files.new).rest) }
+    ensures whole { (r : RefusalOf) → result ≡ Err (input.Refused r) → r ≢ refusal.Bytes → (F.seen files.new).rest ≡ (F.seen files.old).rest }
     // What stays.
-    ensures held { F.held files.new ≡ F.held files.old }
-    ensures later { F.faults files.old ≤ F.faults files.new }
-    ensures broken_later { F.broken files.old ≤ F.broken files.new }
+    ensures held { (F.seen files.new).held ≡ (F.seen files.old).held }
+    ensures later { (F.seen files.old).faults ≤ (F.seen files.new).faults }
+    ensures broken_later { (F.seen files.old).broken ≤ (F.seen files.new).broken }
 {
     match rows {
         RowsWord::File(name) => load_file(alloc, files, name, columns),
@@ -112,7 +112,7 @@ impl RowsSource {
         ensures typed { IfOk result (λ left. All (AreIn left.types) left.rows) }
         ensures few { IfOk result (λ left. length left.rows ≤ most_cycles) }
         ensures behind { IfOk result (λ left. IfSome left.refusal IsOfRecord) }
-        ensures fresh { IfOk result (λ left. left.refused ≡ false) }
+        ensures fresh { IfOk result (λ left. left.ended ≡ false) }
     {
         match self {
             RowsSource::File(text) => Ok(Rows::new(alloc, text.bytes(), columns)?),

@@ -4,7 +4,7 @@ ghost use Rattle.std.specs.Prelude.{◌≡◌, ◌≢◌, ◌≤◌, All, IfErr,
 ghost use Rattle.std.specs.Io.KnownBytes.{IsAtEnd};
 ghost use Rattle.vcp_base.specs.Limits.{most_source_bytes};
 ghost use Rattle.vcp_outside.specs.Counts.{Rose};
-ghost use Rattle.fault_script.specs.Fits.{Fits};
+ghost use Rattle.fault_script.specs.Groups.{GroupFits};
 ghost use Rattle.fault_script.specs.ScriptOf.{most_faults};
 ghost use Rattle.vcp_inputs.specs.Files.{Untaken, Loads};
 ghost use Rattle.vcp_inputs.specs.Scripts.{ScriptOf, NotScript};
@@ -25,7 +25,7 @@ fn script_of(alloc: Global, text: &[u8], graph: &Graph) -> Result<Script, NoInpu
     requires short { length text.now ≤ most_source_bytes }
     ensures ok { IfOk result (ScriptOf graph.now text.now) }
     ensures err { IfErr result (Untaken (NotScript graph.now text.now)) }
-    ensures fits { IfOk result (λ s. All (Fits graph.now) s) }
+    ensures fits { IfOk result (λ s. All (GroupFits graph.now) s) }
     ensures few { IfOk result (λ s. length s ≤ most_faults) }
 {
     Ok(read_script(alloc, text, graph)?)
@@ -39,19 +39,19 @@ pub fn load_script<F: Files>(
     graph: &Graph,
 ) -> Result<Script, NoInput>
     // What is answered: the script that the file is, or why there is none.
-    ensures loads { IfSome (F.held files.old) (λ h. Loads (ScriptOf graph.now) (NotScript graph.now) h name.now most_source_bytes
-        (F.broken files.old) (F.broken files.new) result) }
-    // Its faults fit the graph and are few, whatever the files tell.
-    ensures fits { IfOk result (λ s. All (Fits graph.now) s) }
+    ensures loads { IfSome (F.seen files.old).held (λ h. Loads (ScriptOf graph.now) (NotScript graph.now) h name.now most_source_bytes
+        (F.seen files.old).broken (F.seen files.new).broken result) }
+    // Its groups fit the graph and are few, whatever the files tell.
+    ensures fits { IfOk result (λ s. All (GroupFits graph.now) s) }
     ensures few { IfOk result (λ s. length s ≤ most_faults) }
-    ensures unread { result ≡ Err input.Unread → Rose (F.faults files.old) (F.faults files.new) }
+    ensures unread { result ≡ Err input.Unread → Rose (F.seen files.old).faults (F.seen files.new).faults }
     // What was taken of the file: all, unless it has too many bytes.
-    ensures ended { OnOk result (IsAtEnd (F.rest files.new)) }
-    ensures whole { (r : RefusalOf) → result ≡ Err (input.Refused r) → r ≢ refusal.Bytes → IsAtEnd (F.rest files.new) }
+    ensures ended { OnOk result (IsAtEnd (F.seen files.new).rest) }
+    ensures whole { (r : RefusalOf) → result ≡ Err (input.Refused r) → r ≢ refusal.Bytes → IsAtEnd (F.seen files.new).rest }
     // What stays.
-    ensures held { F.held files.new ≡ F.held files.old }
-    ensures later { F.faults files.old ≤ F.faults files.new }
-    ensures broken_later { F.broken files.old ≤ F.broken files.new }
+    ensures held { (F.seen files.new).held ≡ (F.seen files.old).held }
+    ensures later { (F.seen files.old).faults ≤ (F.seen files.new).faults }
+    ensures broken_later { (F.seen files.old).broken ≤ (F.seen files.new).broken }
 {
     let text = read_file(alloc, files, name, MOST_SOURCE_BYTES)?;
     script_of(alloc, text.bytes(), graph)

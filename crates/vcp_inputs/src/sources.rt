@@ -62,15 +62,15 @@ pub fn typed_of(alloc: Global, source: &Text) -> Result<Typed, NoInput>
 /// lexer and the parser.
 pub fn load_program<F: Files>(alloc: Global, files: &mut F, name: &Text) -> Result<Program, NoInput>
     // What is answered: the file's program, or why there is none.
-    ensures loads { IfSome (F.held files.old) (λ h. Loads IsTreeOf NoProgram h name.now most_source_bytes (F.broken files.old) (F.broken files.new) result) }
-    ensures unread { result ≡ Err input.Unread → Rose (F.faults files.old) (F.faults files.new) }
+    ensures loads { IfSome (F.seen files.old).held (λ h. Loads IsTreeOf NoProgram h name.now most_source_bytes (F.seen files.old).broken (F.seen files.new).broken result) }
+    ensures unread { result ≡ Err input.Unread → Rose (F.seen files.old).faults (F.seen files.new).faults }
     // What was taken of the file: all, unless it has too many bytes.
-    ensures ended { OnOk result (IsAtEnd (F.rest files.new)) }
-    ensures whole { (r : RefusalOf) → result ≡ Err (input.Refused r) → r ≢ refusal.Bytes → IsAtEnd (F.rest files.new) }
+    ensures ended { OnOk result (IsAtEnd (F.seen files.new).rest) }
+    ensures whole { (r : RefusalOf) → result ≡ Err (input.Refused r) → r ≢ refusal.Bytes → IsAtEnd (F.seen files.new).rest }
     // What stays.
-    ensures held { F.held files.new ≡ F.held files.old }
-    ensures later { F.faults files.old ≤ F.faults files.new }
-    ensures broken_later { F.broken files.old ≤ F.broken files.new }
+    ensures held { (F.seen files.new).held ≡ (F.seen files.old).held }
+    ensures later { (F.seen files.old).faults ≤ (F.seen files.new).faults }
+    ensures broken_later { (F.seen files.old).broken ≤ (F.seen files.new).broken }
 {
     let source = read_file(alloc, files, name, MOST_SOURCE_BYTES)?;
     program_of(alloc, source.bytes())
@@ -80,15 +80,15 @@ pub fn load_program<F: Files>(alloc: Global, files: &mut F, name: &Text) -> Resu
 /// Its text and tokens are not kept.
 pub fn load_typed<F: Files>(alloc: Global, files: &mut F, name: &Text) -> Result<Typed, NoInput>
     // What is answered: the file's typed program, or why there is none.
-    ensures loads { IfSome (F.held files.old) (λ h. Loads TypedOf NotTyped h name.now most_source_bytes (F.broken files.old) (F.broken files.new) result) }
-    ensures unread { result ≡ Err input.Unread → Rose (F.faults files.old) (F.faults files.new) }
+    ensures loads { IfSome (F.seen files.old).held (λ h. Loads TypedOf NotTyped h name.now most_source_bytes (F.seen files.old).broken (F.seen files.new).broken result) }
+    ensures unread { result ≡ Err input.Unread → Rose (F.seen files.old).faults (F.seen files.new).faults }
     // What was taken of the file: all, unless it has too many bytes.
-    ensures ended { OnOk result (IsAtEnd (F.rest files.new)) }
-    ensures whole { (r : RefusalOf) → result ≡ Err (input.Refused r) → r ≢ refusal.Bytes → IsAtEnd (F.rest files.new) }
+    ensures ended { OnOk result (IsAtEnd (F.seen files.new).rest) }
+    ensures whole { (r : RefusalOf) → result ≡ Err (input.Refused r) → r ≢ refusal.Bytes → IsAtEnd (F.seen files.new).rest }
     // What stays.
-    ensures held { F.held files.new ≡ F.held files.old }
-    ensures later { F.faults files.old ≤ F.faults files.new }
-    ensures broken_later { F.broken files.old ≤ F.broken files.new }
+    ensures held { (F.seen files.new).held ≡ (F.seen files.old).held }
+    ensures later { (F.seen files.old).faults ≤ (F.seen files.new).faults }
+    ensures broken_later { (F.seen files.old).broken ≤ (F.seen files.new).broken }
 {
     let source = read_file(alloc, files, name, MOST_SOURCE_BYTES)?;
     typed_program(alloc, source.bytes())

@@ -1,7 +1,7 @@
 //! The lines of refusals.
 
 ghost use Rattle.std.specs.Prelude.{◌≡◌, ◌++◌, codes};
-ghost use Rattle.vcp_outside.specs.Written.{Writes};
+ghost use Rattle.vcp_outside.specs.Written.{WritesTo};
 ghost use Rattle.input_rows.specs.declared.fault.RowFault.TheVariants as rows;
 ghost use Rattle.vcp_inputs.specs.Lines.{spot_text, lexing_text, parsing_text, typing_text, rows_text, place_text, correction_text, image_text, script_text};
 ghost use Rattle.vcp_inputs.specs.Lines.{refusal_text, input_text, input_status as status_of_input};
@@ -22,7 +22,7 @@ const NO_MEMORY: &[u8] = b"no memory\n";
 
 /// Prints the line of a refusal of the file under a name.
 pub fn tell_refusal<E: Sink>(err: &mut E, name: &[u8], refusal: &Refusal) -> Result<(), Failed>
-    ensures { Writes (E.written err.old) (E.written err.new) (E.faults err.old) (E.faults err.new) (refusal_text name.now refusal.now) result }
+    ensures { WritesTo (E.seen err.old) (E.seen err.new) (refusal_text name.now refusal.now) result }
 {
     match refusal {
         Refusal::Bytes => tell_of(err, name, b" L1 Bytes"),
@@ -39,7 +39,7 @@ pub fn tell_refusal<E: Sink>(err: &mut E, name: &[u8], refusal: &Refusal) -> Res
 
 /// Prints why there is nothing of the file under a name.
 pub fn tell_input<E: Sink>(err: &mut E, name: &[u8], input: &NoInput) -> Result<(), Failed>
-    ensures { Writes (E.written err.old) (E.written err.new) (E.faults err.old) (E.faults err.new) (input_text name.now input.now) result }
+    ensures { WritesTo (E.seen err.old) (E.seen err.new) (input_text name.now input.now) result }
 {
     match input {
         NoInput::Unread => tell_of(err, name, b" read fault"),
@@ -61,7 +61,7 @@ pub fn input_status(input: &NoInput) -> u8
 
 /// Prints a line of a name and what is said of it.
 pub fn tell_of<E: Sink>(err: &mut E, name: &[u8], what: &[u8]) -> Result<(), Failed>
-    ensures { Writes (E.written err.old) (E.written err.new) (E.faults err.old) (E.faults err.new) (name.now ++ (what.now ++ codes "\n")) result }
+    ensures { WritesTo (E.seen err.old) (E.seen err.new) (name.now ++ (what.now ++ codes "\n")) result }
 {
     let mut line = Line::new();
     line.text(err, name);
@@ -71,7 +71,7 @@ pub fn tell_of<E: Sink>(err: &mut E, name: &[u8], what: &[u8]) -> Result<(), Fai
 
 /// Prints a line of a place in a source and what is said of it.
 fn tell_at<E: Sink>(err: &mut E, name: &[u8], spot: Spot, what: &[u8]) -> Result<(), Failed>
-    ensures { Writes (E.written err.old) (E.written err.new) (E.faults err.old) (E.faults err.new) (spot_text name.now spot what.now) result }
+    ensures { WritesTo (E.seen err.old) (E.seen err.new) (spot_text name.now spot what.now) result }
 {
     let mut line = Line::new();
     line.text(err, name);
@@ -86,7 +86,7 @@ fn tell_at<E: Sink>(err: &mut E, name: &[u8], spot: Spot, what: &[u8]) -> Result
 
 /// Prints a line of a number's place, as a record, an offset or a line of a script, and what is said of it.
 pub fn tell_place<E: Sink>(err: &mut E, name: &[u8], place: u32, what: &[u8]) -> Result<(), Failed>
-    ensures { Writes (E.written err.old) (E.written err.new) (E.faults err.old) (E.faults err.new) (place_text name.now place what.now) result }
+    ensures { WritesTo (E.seen err.old) (E.seen err.new) (place_text name.now place what.now) result }
 {
     let mut line = Line::new();
     line.text(err, name);
@@ -99,7 +99,7 @@ pub fn tell_place<E: Sink>(err: &mut E, name: &[u8], place: u32, what: &[u8]) ->
 
 /// Prints the line of a fault of the lexer.
 fn tell_lexing<E: Sink>(err: &mut E, name: &[u8], fault: LexFault) -> Result<(), Failed>
-    ensures { Writes (E.written err.old) (E.written err.new) (E.faults err.old) (E.faults err.new) (lexing_text name.now fault) result }
+    ensures { WritesTo (E.seen err.old) (E.seen err.new) (lexing_text name.now fault) result }
 {
     match fault {
         LexFault::Byte { spot } => tell_at(err, name, spot, b"S1 Byte"),
@@ -111,7 +111,7 @@ fn tell_lexing<E: Sink>(err: &mut E, name: &[u8], fault: LexFault) -> Result<(),
 
 /// Prints the line of a fault of the parser.
 fn tell_parsing<E: Sink>(err: &mut E, name: &[u8], fault: SyntaxFault) -> Result<(), Failed>
-    ensures { Writes (E.written err.old) (E.written err.new) (E.faults err.old) (E.faults err.new) (parsing_text name.now fault) result }
+    ensures { WritesTo (E.seen err.old) (E.seen err.new) (parsing_text name.now fault) result }
 {
     match fault {
         SyntaxFault::Syntax { spot } => tell_at(err, name, spot, b"S4 Syntax"),
@@ -122,7 +122,7 @@ fn tell_parsing<E: Sink>(err: &mut E, name: &[u8], fault: SyntaxFault) -> Result
 
 /// Prints the line of a fault of typing.
 fn tell_typing<E: Sink>(err: &mut E, name: &[u8], fault: TypeFault) -> Result<(), Failed>
-    ensures { Writes (E.written err.old) (E.written err.new) (E.faults err.old) (E.faults err.new) (typing_text name.now fault) result }
+    ensures { WritesTo (E.seen err.old) (E.seen err.new) (typing_text name.now fault) result }
 {
     match fault {
         TypeFault::Duplicate { spot } => tell_at(err, name, spot, b"T1 Duplicate"),
@@ -141,7 +141,7 @@ fn tell_typing<E: Sink>(err: &mut E, name: &[u8], fault: TypeFault) -> Result<()
 
 /// Prints the line of a refusal of rows.
 fn tell_rows<E: Sink>(err: &mut E, name: &[u8], fault: RowFault) -> Result<(), Failed>
-    ensures { Writes (E.written err.old) (E.written err.new) (E.faults err.old) (E.faults err.new) (rows_text name.now fault) result }
+    ensures { WritesTo (E.seen err.old) (E.seen err.new) (rows_text name.now fault) result }
 {
     match fault {
         RowFault::Header => tell_of(err, name, b":1 R1 Header"),
@@ -156,7 +156,7 @@ fn tell_rows<E: Sink>(err: &mut E, name: &[u8], fault: RowFault) -> Result<(), F
 
 /// Prints the line of a cell that spells no value.
 fn tell_cell<E: Sink>(err: &mut E, name: &[u8], row: u32, column: u32) -> Result<(), Failed>
-    ensures { Writes (E.written err.old) (E.written err.new) (E.faults err.old) (E.faults err.new) (rows_text name.now (rows.Cell row column)) result }
+    ensures { WritesTo (E.seen err.old) (E.seen err.new) (rows_text name.now (rows.Cell row column)) result }
 {
     let mut line = Line::new();
     line.text(err, name);
@@ -170,7 +170,7 @@ fn tell_cell<E: Sink>(err: &mut E, name: &[u8], row: u32, column: u32) -> Result
 
 /// Prints the line of a fault of an image.
 fn tell_image<E: Sink>(err: &mut E, name: &[u8], fault: ImageFault) -> Result<(), Failed>
-    ensures { Writes (E.written err.old) (E.written err.new) (E.faults err.old) (E.faults err.new) (image_text name.now fault) result }
+    ensures { WritesTo (E.seen err.old) (E.seen err.new) (image_text name.now fault) result }
 {
     match fault {
         ImageFault::Magic { at } => tell_place(err, name, at, b"I1 Magic"),
@@ -196,7 +196,7 @@ fn tell_correction<E: Sink>(
     stored: Residue,
     expected: Residue,
 ) -> Result<(), Failed>
-    ensures { Writes (E.written err.old) (E.written err.new) (E.faults err.old) (E.faults err.new) (correction_text name.now offset stored expected) result }
+    ensures { WritesTo (E.seen err.old) (E.seen err.new) (correction_text name.now offset stored expected) result }
 {
     let mut line = Line::new();
     line.text(err, name);
@@ -211,13 +211,15 @@ fn tell_correction<E: Sink>(
 
 /// Prints the line of a fault of a script.
 fn tell_script<E: Sink>(err: &mut E, name: &[u8], fault: ScriptFault) -> Result<(), Failed>
-    ensures { Writes (E.written err.old) (E.written err.new) (E.faults err.old) (E.faults err.new) (script_text name.now fault) result }
+    ensures { WritesTo (E.seen err.old) (E.seen err.new) (script_text name.now fault) result }
 {
     match fault {
         ScriptFault::Form { line } => tell_place(err, name, line, b"F1 Form"),
         ScriptFault::Site { line } => tell_place(err, name, line, b"F2 Site"),
         ScriptFault::Early { line } => tell_place(err, name, line, b"F3 Early"),
         ScriptFault::Kind { line } => tell_place(err, name, line, b"F4 Kind"),
+        ScriptFault::Group { line } => tell_place(err, name, line, b"F5 Group"),
+        ScriptFault::Twice { line } => tell_place(err, name, line, b"F6 Twice"),
         ScriptFault::Faults { line } => tell_place(err, name, line, b"L5 Faults"),
         ScriptFault::Memory => write_all(err, NO_MEMORY),
     }

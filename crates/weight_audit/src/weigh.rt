@@ -2,6 +2,7 @@
 
 ghost use Rattle.std.specs.Prelude.{◌≡◌, ◌<◌, ◌≤◌, ℕ, suc, Err, IfOk, IfErr, length};
 ghost use Rattle.signature_table.specs.Signatures.{IsTableOf};
+ghost use Rattle.fault_script.specs.Sums.{DifferencesAddUp};
 ghost use Rattle.op_graph.specs.Rules.{IsGraph};
 ghost use Rattle.weight_audit.specs.ClosedForm.{ClosedForm, StaleForm};
 ghost use Rattle.vcp_base.specs.Limits.{most_horizon};
@@ -13,6 +14,7 @@ use crate::kept::{AuditFault, Distance, Distances, Weights};
 use crate::laws::differences_come_as_weights;
 use crate::marks::{marks_at, marks_before};
 use crate::numbers::{weights_at, weights_before};
+use fault_script::differences_add_up;
 use op_graph::{Graph, entries_keep_their_rules};
 use signature_table::Table;
 use std::alloc::Global;
@@ -27,7 +29,8 @@ const MOST_WEIGHTS: u64 = 16777216;
 /// `TooLarge` where operations times outputs times one more than the horizon is above 16,777,216,
 /// before any memory is taken. The difference that a fault of a script makes at its operation comes to
 /// each OUT, so many cycle borders later, as the weight times that difference, as `closed` says; of a
-/// stale operand `stale` says where that is none. The time is linear in the number of weights, and so
+/// stale operand `stale` says where that is none. The differences of several faults that add numbers to words
+/// add up, as `sums` says. The time is linear in the number of weights, and so
 /// is the memory: eight bytes for each, and one for its mark.
 pub fn weights(
     alloc: Global,
@@ -40,10 +43,12 @@ pub fn weights(
     ensures weights { IfOk result (λ w. IsAudit graph.now horizon w) }
     ensures closed { ClosedForm table.now graph.now }
     ensures stale { StaleForm table.now graph.now }
+    ensures sums { DifferencesAddUp table.now graph.now }
     ensures too_large { most_weights < weights_of graph.now horizon → result ≡ Err (fault.TooLarge (weights_of graph.now horizon)) }
     ensures not_too_large { weights_of graph.now horizon ≤ most_weights → IfErr result (λ why. why ≡ fault.Memory) }
 {
     differences_come_as_weights();
+    differences_add_up();
     let cells = weights_up_to(graph, horizon);
     if cells > MOST_WEIGHTS {
         return Err(AuditFault::TooLarge { cells });

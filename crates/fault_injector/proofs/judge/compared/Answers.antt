@@ -1,8 +1,10 @@
-use Rattle.std.proofs.Common.{◌≡◌, ◌∙◌, ◌+◌, None, List, [], Option, IfSome, ℤ, refl, sym, ap, subst, arith, length}
+use Rattle.std.proofs.Common.{◌≡◌, ◌∙◌, ◌+◌, List, [], Option, IfSome, ℤ, refl, sym, ap, subst, arith, length}
 use Rattle.std.proofs.lemmas.List.{length-replicate}
 use Rattle.op_graph.specs.Lists.{Lists}
 use Rattle.op_graph.specs.Rules.{IsGraph}
 use Rattle.coded_machine.specs.State.{State, fresh}
+use Rattle.fault_script.specs.Changes.{none_kept}
+use Rattle.fault_runs.specs.Carried.{faults_of, keeps_of}
 use Rattle.fault_injector.specs.Names.{Names}
 use Rattle.fault_injector.proofs.CarriedByHand.{honest_first, honest_second}
 use Rattle.fault_injector.proofs.EndsWithin.{verdict_within}
@@ -15,7 +17,7 @@ pub rows-init : goal.rows-init
 rows-init g c =
     let t = c.args.table.now in
     let graph = c.args.graph.now in
-    let f = c.args.scripted.now.fault in
+    let f = faults_of c.args.scripted.now.carried.items in
     let rows = c.args.rows.now in
     let other = c.args.other.now in
     let begun : State = fresh graph t in
@@ -24,7 +26,7 @@ rows-init g c =
       graph = c.len-operations.ensures.rules;
       table = c.step-step.ensures.ranges;
       profile = c.requires.table.0;
-      fits = c.requires.fault;
+      fits = c.requires.faults;
     } in
     record {
       known = known;
@@ -37,15 +39,15 @@ rows-init g c =
       inputs = ap length c.in_ok-inputs.ensures ∙ (length-replicate _ _ ∙ c.inputs.ensures);
       outputs = ap length c.in_ok-outputs.ensures ∙ (length-replicate _ _ ∙ c.outputs.ensures);
       same = refl;
-      fault = refl;
+      faults = refl;
       never_falls = omega arith;
       stand = λ honest told.
           let laws = c.runs_under_acts_keep_the_run_law.ensures in
           let first =
-          stand_first t graph f rows other.rows.items other.end laws.runs laws.one_fault c.scripted_runs_are_right_runs.ensures known (ap (λ x. x.rows) told)
+          stand_first t graph f rows other.rows.items other.end laws.runs laws.groups c.scripted_runs_are_right_runs.ensures known (ap (λ x. x.rows) told)
           (ap (λ x. x.end) told) in
-          subst (λ (kept : Option ℤ). StandBeside t graph f rows other.rows.items other.end 0 c.in_ok-machine.machine.held kept rows) (sym c.requires.kept)
-          (subst (λ (held : List ℤ). StandBeside t graph f rows other.rows.items other.end 0 held None rows) (sym (ap (λ (x : State). x.held) is)) first);
+          subst (λ (kept : List (Option ℤ)). StandBeside t graph f rows other.rows.items other.end 0 c.in_ok-machine.machine.held kept rows) (sym c.requires.kept)
+          (subst (λ (held : List ℤ). StandBeside t graph f rows other.rows.items other.end 0 held (none_kept f) rows) (sym (ap (λ (x : State). x.held) is)) first);
     }
 
 pub rows-preserved : goal.rows-preserved
@@ -58,7 +60,7 @@ rows-preserved g c =
     let graph = c.args.graph.now in
     let rows = c.args.rows.now in
     let other = c.args.other.now in
-    let f = c.args.scripted.now.fault in
+    let f = faults_of c.args.scripted.now.carried.items in
     let gone = goes_on m n c.carry-end.result (c.judged.ensures.released c.in_default.is) t.machine in
     record {
       known = i.known;
@@ -71,15 +73,15 @@ rows-preserved g c =
       inputs = width_at rows (length graph.inputs) c.rows.cycle row c.requires.width c.get.ensures;
       outputs = t.width ∙ i.outputs;
       same = t.same ∙ i.same;
-      fault = t.fault ∙ i.fault;
+      faults = t.faults ∙ i.faults;
       never_falls = omega (arith, i.never_falls, t.never_falls);
       stand = λ honest told.
-          let between : Between c.args.table.now graph f c.rows.cycle m c.rows.scripted.fault =
-          record { table = i.table; graph = i.graph; cycles = i.cycles; fault = i.fault } in
+          let between : Between c.args.table.now graph f c.rows.cycle m (faults_of c.rows.scripted.carried.items) =
+          record { table = i.table; graph = i.graph; cycles = i.cycles; is_same = i.faults } in
           let reads = c.ends_under_acts_are_read_off_the_answers.ensures in
           let turned =
-          loop_turn c.args.table.now graph f c.rows.scripted.fault rows other.rows.items other.end m n c.rows.cycle row c.carry-end.new.outputs c.rows.outputs
-          c.rows.scripted.kept c.carry-end.new.scripted.kept c.carry-end.result c.judged.result reads.ends reads.outputs i.known between
+          loop_turn c.args.table.now graph f (faults_of c.rows.scripted.carried.items) rows other.rows.items other.end m n c.rows.cycle row c.carry-end.new.outputs c.rows.outputs
+          (keeps_of c.rows.scripted.carried.items) (keeps_of c.carry-end.new.scripted.carried.items) c.carry-end.result c.judged.result reads.ends reads.outputs i.known between
           (omega (arith, c.rows-test.true, i.count, c.requires.few)) c.get.ensures
           (i.stand (honest_first _ _ _ i.never_falls t.never_falls honest) told) t.whole
           (t.scripted (honest_second _ _ _ i.never_falls t.never_falls honest)) t.end t.machine t.out t.kept c.judged.ensures.judged
@@ -97,17 +99,17 @@ returns-in-Some g c =
     let graph = c.args.graph.now in
     let rows = c.args.rows.now in
     let other = c.args.other.now in
-    let f = c.args.scripted.now.fault in
+    let f = faults_of c.args.scripted.now.carried.items in
     record {
       same = t.same ∙ i.same;
       never_falls = omega (arith, i.never_falls, t.never_falls);
       verdict = λ honest told.
-          let between : Between c.args.table.now graph f c.rows.cycle m c.rows.scripted.fault =
-          record { table = i.table; graph = i.graph; cycles = i.cycles; fault = i.fault } in
+          let between : Between c.args.table.now graph f c.rows.cycle m (faults_of c.rows.scripted.carried.items) =
+          record { table = i.table; graph = i.graph; cycles = i.cycles; is_same = i.faults } in
           let reads = c.ends_under_acts_are_read_off_the_answers.ensures in
           let turned =
-          loop_turn c.args.table.now graph f c.rows.scripted.fault rows other.rows.items other.end m n c.rows.cycle row c.carry-end.new.outputs c.rows.outputs
-          c.rows.scripted.kept c.carry-end.new.scripted.kept c.carry-end.result c.judged.result reads.ends reads.outputs i.known between
+          loop_turn c.args.table.now graph f (faults_of c.rows.scripted.carried.items) rows other.rows.items other.end m n c.rows.cycle row c.carry-end.new.outputs c.rows.outputs
+          (keeps_of c.rows.scripted.carried.items) (keeps_of c.carry-end.new.scripted.carried.items) c.carry-end.result c.judged.result reads.ends reads.outputs i.known between
           (omega (arith, c.rows-test.true, i.count, c.requires.few)) c.get.ensures
           (i.stand (honest_first _ _ _ i.never_falls t.never_falls honest) told) t.whole
           (t.scripted (honest_second _ _ _ i.never_falls t.never_falls honest)) t.end t.machine t.out t.kept c.judged.ensures.judged
@@ -128,10 +130,10 @@ returns g c =
     let m : State = c.rows.machine in
     let t = c.args.table.now in
     let graph = c.args.graph.now in
-    let f = c.args.scripted.now.fault in
+    let f = faults_of c.args.scripted.now.carried.items in
     let rows = c.args.rows.now in
     let other = c.args.other.now in
-    let kept = c.rows.scripted.kept in
+    let kept = keeps_of c.rows.scripted.carried.items in
     record {
       same = i.same;
       never_falls = i.never_falls;

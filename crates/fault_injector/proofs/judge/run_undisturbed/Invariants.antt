@@ -16,6 +16,6 @@ invariant-rows g l =
       count : l.count ≡ length l.rows;
       inputs : length l.inputs ≡ length l.graph.inputs;
       widths : All (λ row. length row ≡ length l.graph.outputs) l.released.items;
-      never_falls : unit.wrong l.fn.unit ≤ unit.wrong l.unit;
-      follows : StaysHonest (unit.wrong l.fn.unit) (unit.wrong l.unit) → FollowsTo l.graph l.rows (drop l.i l.rows) m l.released.items;
+      never_falls : (unit.seen l.fn.unit).wrong ≤ (unit.seen l.unit).wrong;
+      follows : StaysHonest (unit.seen l.fn.unit).wrong (unit.seen l.unit).wrong → FollowsTo l.graph l.rows (drop l.i l.rows) m l.released.items;
     }

@@ -1,4 +1,4 @@
-use Rattle.fault_runs.proofs.WholeRun.{runs_kept, one_fault_stands}
+use Rattle.fault_runs.proofs.WholeRun.{runs_kept, group_stands}
 use Rattle.fault_runs.proofs.run_laws.runs_under_acts_keep_the_run_law.Goals as goal
 
 pub returns : goal.returns
@@ -17,5 +17,5 @@ returns c = record {
         operands = c.operands_are_in_their_types.ensures;
         initial = c.right_answers_stand_for_values.ensures.cells_at_first;
       });
-  one_fault = one_fault_stands;
+  groups = group_stands;
 }

@@ -20,7 +20,7 @@ calls-preserved g c =
       cycles = ap (λ (s : State). s.cycles) c.put.ensures ∙ c.calls.invariant.cycles;
       way = λ going. let w = more going in record { going = w.going; same = w.same; calls_are = refl };
       carried = λ going.
-          subst (λ es. Carried es (unit.log c.args.unit.now) (unit.log c.perform.new.self) (unit.wrong c.args.unit.now) (unit.wrong c.perform.new.self))
+          subst (λ es. Carried es (unit.seen c.args.unit.now).log (unit.seen c.perform.new.self).log (unit.seen c.args.unit.now).wrong (unit.seen c.perform.new.self).wrong)
           (more going).calls_are
           (law.one_carried so_far c.in-Some.call c.perform.result _ _ _ _ _ _ (c.calls.invariant.carried going) c.perform.ensures.log c.perform.ensures.wrong);
     }

@@ -15,7 +15,7 @@ invariant-calls g l =
       cycles : m.cycles ≡ first.cycles;
       way : first.ended ≡ None → UnderWay first m l.row (CallsOf (setting first l.row) (given m));
       carried : first.ended ≡ None
-          → Carried (CallsOf (setting first l.row) (given m)) (unit.log l.fn.unit) (unit.log l.unit) (unit.wrong l.fn.unit) (unit.wrong l.unit);
+          → Carried (CallsOf (setting first l.row) (given m)) (unit.seen l.fn.unit).log (unit.seen l.unit).log (unit.seen l.fn.unit).wrong (unit.seen l.unit).wrong;
     }
 
 abbrev pub decreases-calls : goal.decreases-calls

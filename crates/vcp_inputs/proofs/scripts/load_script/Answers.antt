@@ -7,14 +7,14 @@ use Rattle.vcp_inputs.proofs.scripts.load_script.Goals as goal
 pub returns-in_err-text-clause-loads : goal.returns-in_err-text-clause-loads
 returns-in_err-text-clause-loads g c =
     let p = err_from_is_err_and c.from_residual.result c.from_residual.ensures.1 in
-    if_some_weaker (g.F.Files.held c.args.files.now) _ _
+    if_some_weaker (g.F.Files.seen c.args.files.now).held _ _
     (λ h read. rw (p.1, p.2)
-    (not_read (NotScript c.args.graph.now) h c.args.name.now most_source_bytes (g.F.Files.broken c.args.files.now)
-    (g.F.Files.broken c.read_file.new.files) _ read)) c.in_err-text.ensures.reads
+    (not_read (NotScript c.args.graph.now) h c.args.name.now most_source_bytes (g.F.Files.seen c.args.files.now).broken
+    (g.F.Files.seen c.read_file.new.files).broken _ read)) c.in_err-text.ensures.reads
 
 pub returns-clause-loads : goal.returns-clause-loads
 returns-clause-loads g c =
-    if_some_weaker (g.F.Files.held c.args.files.now) _ _
-    (λ h read. by_result (ScriptOf c.args.graph.now) (NotScript c.args.graph.now) h c.args.name.now most_source_bytes (g.F.Files.broken c.args.files.now)
-    (g.F.Files.broken c.read_file.new.files) c.in_ok-text.text c.script_of.result
+    if_some_weaker (g.F.Files.seen c.args.files.now).held _ _
+    (λ h read. by_result (ScriptOf c.args.graph.now) (NotScript c.args.graph.now) h c.args.name.now most_source_bytes (g.F.Files.seen c.args.files.now).broken
+    (g.F.Files.seen c.read_file.new.files).broken c.in_ok-text.text c.script_of.result
     read (rw c.bytes.ensures at c.script_of.ensures.ok) (rw c.bytes.ensures at c.script_of.ensures.err)) c.in_ok-text.ensures.reads

@@ -11,7 +11,7 @@ use Rattle.std.proofs.lemmas.List.Sums.{position_or_len_is, fails_before_first, 
 use Rattle.std.proofs.lemmas.List.Splits.{slice_split-cons_yes, slice_split_none, slice_split_first, length-slice_split}
 use Rattle.memchr.specs.Find.{IsFirstByte}
 use Rattle.vcp_base.specs.Blanks.{is_blank, unindented}
-use Rattle.fault_script.specs.Forms.{is_word, words, is_end}
+use Rattle.script_text.specs.Words.{is_word, words, is_end}
 
 not_true : (b : Bool) → (b ≡ true → ⊥) → b ≡ false
 not_true true h = absurd (h refl)

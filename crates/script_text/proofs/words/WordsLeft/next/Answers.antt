@@ -1,9 +1,9 @@
 use Rattle.std.proofs.Common.{ℕ, List, drop, take, ◌∷◌, sym, ap, ◌∙◌}
 use Rattle.std.specs.List.{position_or_len}
 use Rattle.vcp_base.specs.Blanks.{is_blank}
-use Rattle.fault_script.specs.Forms.{words}
-use Rattle.fault_script.proofs.Firsts.{word_next, no_word, part_to_end}
-use Rattle.fault_script.proofs.words.WordsLeft.next.Goals as goal
+use Rattle.script_text.specs.Words.{words}
+use Rattle.script_text.proofs.Firsts.{word_next, no_word, part_to_end}
+use Rattle.script_text.proofs.words.WordsLeft.next.Goals as goal
 
 pub returns-then-end-eq0-clause-none : goal.returns-then-end-eq0-clause-none
 returns-then-end-eq0-clause-none c =

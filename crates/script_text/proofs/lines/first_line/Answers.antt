@@ -1,7 +1,7 @@
 use Rattle.std.proofs.Common.{◌<◌, ◌+◌, List, ℕ, ◌∷◌, length, drop, sym, ap, ◌∙◌, arith}
 use Rattle.std.specs.Str.Lines.{lines}
-use Rattle.fault_script.proofs.Firsts.{last_line, ended_line, part_to_end}
-use Rattle.fault_script.proofs.lines.first_line.Goals as goal
+use Rattle.script_text.proofs.Firsts.{last_line, ended_line, part_to_end}
+use Rattle.script_text.proofs.lines.first_line.Goals as goal
 
 pub returns-then-end-text-clause-lines : goal.returns-then-end-text-clause-lines
 returns-then-end-text-clause-lines c =
@@ -12,5 +12,5 @@ pub returns-clause-lines : goal.returns-clause-lines
 returns-clause-lines c =
     let within : c.line_length-end.result < length c.args.text.now = omega (arith, c.line_length-end.ensures.bound, c.if-end-text.false) in
     ended_line c.args.text.now c.line_length-end.result c.line_length-end.ensures.place within
-    ∙ ap (λ (line : List ℕ). line ∷ lines (drop (c.line_length-end.result + 1) c.args.text.now)) (sym c.without_return.ensures)
+    ∙ ap (λ (line : List ℕ). line ∷ lines (drop (c.line_length-end.result + 1) c.args.text.now)) (sym c.without_return.ensures.line)
     ∙ ap (λ (rest : List ℕ). c.without_return.result.now ∷ lines rest) (sym (part_to_end c.args.text.now (c.line_length-end.result + 1)))

@@ -1,7 +1,7 @@
 use Rattle.std.proofs.Common.{List, ℕ, ◌==◌, length, ap, ◌∙◌}
-use Rattle.fault_script.specs.Forms.{is_end}
-use Rattle.fault_script.proofs.Firsts.{is_end_is}
-use Rattle.fault_script.proofs.words.WordsLeft.is_end.Goals as goal
+use Rattle.script_text.specs.Words.{is_end}
+use Rattle.script_text.proofs.Firsts.{is_end_is}
+use Rattle.script_text.proofs.words.WordsLeft.is_end.Goals as goal
 
 pub returns : goal.returns
 returns c =

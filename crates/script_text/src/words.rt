@@ -4,7 +4,7 @@ ghost use Rattle.std.specs.Prelude.{◌≡◌, ◌≤◌, ◌∷◌, [], length,
 ghost use Rattle.std.specs.Option.{option_map};
 ghost use Rattle.std.specs.List.{position_or_len};
 ghost use Rattle.vcp_base.specs.Blanks.{is_blank};
-ghost use Rattle.fault_script.specs.Forms.{words as words_of, is_end as is_end_of, only as only_of};
+ghost use Rattle.script_text.specs.Words.{words as words_of, is_end as is_end_of, only as only_of};
 
 use memchr::memchr2;
 use std::marker::Model;
@@ -18,7 +18,7 @@ pub struct WordsLeft<'a> {
 
 impl<'a> Model for WordsLeft<'a> {
     ghost use Rattle.std.specs.Prelude.{List, ℕ};
-    ghost use Rattle.fault_script.specs.Forms.{words};
+    ghost use Rattle.script_text.specs.Words.{words};
 
     ghost Value = { List (List ℕ) };
 

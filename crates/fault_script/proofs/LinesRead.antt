@@ -1,0 +1,148 @@
+-- LinesRead: a script read line by line.
+use Rattle.std.proofs.Common.{◌≡◌, ◌≢◌, ℕ, ◌+◌, ◌<◌, Bool, true, false, cond, List, [], ◌∷◌, ◌++◌, length, Option, Some, None, Result, Ok, Err, IfErr, refl, sym, ap, ◌∙◌, arith}
+use Rattle.std.specs.Str.Lines.{lines}
+use Rattle.std.proofs.lemmas.List.{append_assoc, append-nil}
+use Rattle.op_graph.specs.Lists.{Lists}
+use Rattle.fault_script.specs.declared.act.Fault.{Fault}
+use Rattle.fault_script.specs.declared.reading.Opened.{Opened}
+use Rattle.fault_script.specs.declared.reading.Reading.{Reading as State}
+use Rattle.fault_script.specs.declared.script_fault.ScriptFault.{ScriptFault}
+use Rattle.fault_script.specs.declared.script_fault.ScriptFault.TheVariants as refusal
+use Rattle.fault_script.specs.declared.forms.Mark.TheVariants as mark
+use Rattle.script_text.specs.Lines.{Line, is_skipped, read_lines}
+use Rattle.script_text.specs.Words.{words}
+use Rattle.fault_script.specs.Forms.{mark_of}
+use Rattle.fault_script.specs.Groups.{is_taken}
+use Rattle.fault_script.specs.ScriptOf.{Item, begins, ends, says, said_after, item_by, item_of, items_of, counted, onto, ended, with_fault}
+use Rattle.fault_script.specs.ScriptOf.{groups_of, script_of}
+use Rattle.fault_script.specs.Reading.{behind, comes, Goes, Refuses}
+
+abbrev Groups : Type 0
+Groups = Result (List (List Fault)) ScriptFault
+
+-- ---- one line more
+
+behind_onto : (groups : List (List Fault)) (faults : List Fault) (r : Groups) → behind groups (onto faults r) ≡ behind (groups ++ faults ∷ []) r
+behind_onto groups faults (Ok more) = ap (λ (gs : List (List Fault)). Ok gs) (sym (append_assoc groups (faults ∷ []) more))
+behind_onto groups faults (Err why) = refl
+
+behind_ended : (groups : List (List Fault)) (n : ℕ) (faults : List Fault) (r : Groups) → 0 < length faults
+    → behind groups (ended n faults r) ≡ behind (groups ++ faults ∷ []) r
+behind_ended groups n [] r some = absurd (omega arith)
+behind_ended groups n (f ∷ faults) r some = behind_onto groups (f ∷ faults) r
+
+-- a group begins
+pub begins_go : (r : State) (n : ℕ) → r.opened ≡ None → Goes (begins n) r (record { script = r.script; opened = Some (record { line = n; group = [] }); count = r.count })
+begins_go r n none = record { comes_to = λ later. ap (λ (o : Option Opened). behind r.script (groups_of (begins n ∷ later) o)) none; count = refl }
+
+pub begins_refused : (r : State) (n : ℕ) (o : Opened) → r.opened ≡ Some o → Refuses (begins n) r (refusal.Group n)
+begins_refused r n o is later = ap (λ (o : Option Opened). behind r.script (groups_of (begins n ∷ later) o)) is
+
+-- a group ends
+pub ends_go : (r : State) (n : ℕ) (o : Opened) → r.opened ≡ Some o → 0 < length o.group
+    → Goes (ends n) r (record { script = r.script ++ o.group ∷ []; opened = None; count = r.count })
+ends_go r n o is some = record {
+  comes_to = λ later.
+      ap (λ (o : Option Opened). behind r.script (groups_of (ends n ∷ later) o)) is ∙ behind_ended r.script n o.group (groups_of later None) some;
+  count = refl;
+}
+
+pub ends_outside : (r : State) (n : ℕ) → r.opened ≡ None → Refuses (ends n) r (refusal.Group n)
+ends_outside r n none later = ap (λ (o : Option Opened). behind r.script (groups_of (ends n ∷ later) o)) none
+
+pub ends_empty : (r : State) (n : ℕ) (o : Opened) → r.opened ≡ Some o → o.group ≡ [] → Refuses (ends n) r (refusal.Group n)
+ends_empty r n o is empty later =
+    ap (λ (o : Option Opened). behind r.script (groups_of (ends n ∷ later) o)) is
+    ∙ ap (λ (faults : List Fault). behind r.script (ended n faults (groups_of later None))) empty
+
+-- a fault outside a group
+pub alone_goes : (r : State) (f : Fault) → r.opened ≡ None
+    → Goes (says (Ok f)) r (record { script = r.script ++ (f ∷ []) ∷ []; opened = None; count = r.count + 1 })
+alone_goes r f none = record {
+  comes_to = λ later.
+      ap (λ (o : Option Opened). behind r.script (groups_of (says (Ok f) ∷ later) o)) none ∙ behind_onto r.script (f ∷ []) (groups_of later None);
+  count = refl;
+}
+
+-- one more of a group
+taken_or : (r : State) (f : Fault) (o : Opened) (b : Bool) (later : List Item) → r.opened ≡ Some o → is_taken f o.group ≡ b
+    → comes r (says (Ok f) ∷ later) ≡ behind r.script (cond b (Err (refusal.Twice f.line)) (groups_of later (Some (with_fault o f))))
+taken_or r f o b later is taken =
+    ap (λ (o : Option Opened). behind r.script (groups_of (says (Ok f) ∷ later) o)) is
+    ∙ ap (λ (b : Bool). behind r.script (cond b (Err (refusal.Twice f.line)) (groups_of later (Some (with_fault o f))))) taken
+
+pub joined_goes : (r : State) (f : Fault) (o : Opened) → r.opened ≡ Some o → is_taken f o.group ≡ false
+    → Goes (says (Ok f)) r (record { script = r.script; opened = Some (with_fault o f); count = r.count + 1 })
+joined_goes r f o is free = record { comes_to = λ later. taken_or r f o false later is free; count = refl }
+
+pub twice : (r : State) (f : Fault) (o : Opened) → r.opened ≡ Some o → is_taken f o.group ≡ true → Refuses (says (Ok f)) r (refusal.Twice f.line)
+twice r f o is taken later = taken_or r f o true later is taken
+
+-- ---- what a line says, by what it is
+
+pub begins_is : (g : Lists) (n : ℕ) (line : Line) → mark.Begin ≡ mark_of (words line.text) → begins line.number ≡ item_of g n line
+begins_is g n line is = ap (item_by g n line) is
+
+pub ends_is : (g : Lists) (n : ℕ) (line : Line) → mark.End ≡ mark_of (words line.text) → ends line.number ≡ item_of g n line
+ends_is g n line is = ap (item_by g n line) is
+
+pub says_is : (g : Lists) (n : ℕ) (line : Line) (told : Result Fault ScriptFault) → told ≡ said_after g n line → mark.Fault ≡ mark_of (words line.text)
+    → says told ≡ item_of g n line
+says_is g n line told same is = ap (λ (t : Result Fault ScriptFault). says t) same ∙ ap (item_by g n line) is
+
+-- a fault line that is refused by itself
+pub refused_alone : (r : State) (why : ScriptFault) → Refuses (says (Err why)) r why
+refused_alone r why later = refl
+
+-- ---- the lines of a text
+
+-- what a text comes to, behind lines that came to this, where its first line has this number
+abbrev pub script_from : Lists → State → ℕ → List ℕ → Groups
+script_from g r number text = comes r (items_of g r.count (read_lines number (lines text)))
+
+-- one line more
+at_first : (g : Lists) (r : State) (number : ℕ) (text line more : List ℕ) (b : Bool) → lines text ≡ line ∷ lines more → is_skipped line ≡ b →
+    script_from g r number text
+    ≡ comes r (items_of g r.count (cond b (read_lines (number + 1) (lines more))
+    (record { number = number; text = line } ∷ read_lines (number + 1) (lines more))))
+at_first g r number text line more b is skips =
+    ap (λ (ls : List (List ℕ)). comes r (items_of g r.count (read_lines number ls))) is
+    ∙ ap (λ (b : Bool). comes r (items_of g r.count
+    (cond b (read_lines (number + 1) (lines more)) (record { number = number; text = line } ∷ read_lines (number + 1) (lines more))))) skips
+
+pub skipped : (g : Lists) (r : State) (number : ℕ) (text line more : List ℕ) → lines text ≡ line ∷ lines more → is_skipped line ≡ true →
+    script_from g r number text ≡ script_from g r (number + 1) more
+skipped g r number text line more is skips = at_first g r number text line more true is skips
+
+pub taken : (g : Lists) (r new : State) (number : ℕ) (text line more : List ℕ) → lines text ≡ line ∷ lines more → is_skipped line ≡ false →
+    Goes (item_of g r.count (record { number = number; text = line })) r new → script_from g r number text ≡ script_from g new (number + 1) more
+taken g r new number text line more is skips goes =
+    let item : Item = item_of g r.count (record { number = number; text = line }) in
+    at_first g r number text line more false is skips
+    ∙ (goes.comes_to (items_of g (counted r.count item) (read_lines (number + 1) (lines more)))
+    ∙ ap (λ (n : ℕ). comes new (items_of g n (read_lines (number + 1) (lines more)))) (sym goes.count))
+
+pub refused : (g : Lists) (r : State) (number : ℕ) (text line more : List ℕ) (why : ScriptFault) → lines text ≡ line ∷ lines more
+    → is_skipped line ≡ false → Refuses (item_of g r.count (record { number = number; text = line })) r why → script_from g r number text ≡ Err why
+refused g r number text line more why is skips refuses =
+    let item : Item = item_of g r.count (record { number = number; text = line }) in
+    at_first g r number text line more false is skips ∙ refuses (items_of g (counted r.count item) (read_lines (number + 1) (lines more)))
+
+-- before the first line
+pub started : (g : Lists) (r : State) (text : List ℕ) → ((items : List Item) → groups_of items None ≡ comes r items) → r.count ≡ 0
+    → script_of g text ≡ script_from g r 1 text
+started g r text same none =
+    same (items_of g 0 (read_lines 1 (lines text))) ∙ ap (λ (n : ℕ). comes r (items_of g n (read_lines 1 (lines text)))) (sym none)
+
+-- behind the last line
+pub whole : (r : State) → r.opened ≡ None → comes r [] ≡ Ok r.script
+whole r none =
+    ap (λ (o : Option Opened). behind r.script (groups_of [] o)) none ∙ ap (λ (gs : List (List Fault)). Ok gs) (append-nil r.script)
+
+pub unclosed : (r : State) (o : Opened) → r.opened ≡ Some o → comes r [] ≡ Err (refusal.Group o.line)
+unclosed r o is = ap (λ (o : Option Opened). behind r.script (groups_of [] o)) is
+
+-- whatever the last call gives
+pub refused_at_end : (x y : Groups) (result : Groups) → x ≡ y → IfErr result (λ f. y ≡ Err f) → IfErr result (λ f. f ≢ refusal.Memory → x ≡ Err f)
+refused_at_end x y (Ok groups) same h = h
+refused_at_end x y (Err why) same h = λ other. same ∙ h
