@@ -16,7 +16,10 @@ use Rattle.telegram.specs.declared.receipt.Receipt.{Receipt}
 use Rattle.telegram.specs.declared.receipt.Receipt.TheVariants as receipt
 use Rattle.telegram.specs.Receipts.{State, receipt_of, after_receipt, is_above, last_number}
 use Rattle.telegram.specs.Sendings.{telegram_residue}
-use Rattle.telegram.specs.WireRun.{Wire, Event, cycle, deliver, Handing, IsWire, IsEvent, Every, AreEvents, sent_in, sent_by, wired_from, wired, receipt_at}
+use Rattle.telegram.specs.declared.event.Event.{Event}
+use Rattle.telegram.specs.declared.event.Event.TheVariants as event
+use Rattle.telegram.specs.declared.wire.Wire.{Wire}
+use Rattle.telegram.specs.WireRun.{Handing, IsWire, IsEvent, Every, AreEvents, sent_in, sent_by, wired_from, wired, receipt_at}
 use Rattle.telegram.specs.WireRun.{apart, arrived, is_above_all, greatest, with_delivered}
 use Rattle.telegram.specs.WireRead.{telegram_of, read_from, wire_read, right_words}
 use Rattle.telegram.proofs.Equation.{dint_near, same_test, shifted_residue, shifted_value}
@@ -131,9 +134,9 @@ follows : (laws : Laws) (w : Wire) (sent : List (List ℤ)) (begun : ℕ) (last 
     → begun + length (sent_in es) ≡ length sent → length sent ≤ most_cycles → Every (λ e. IsEvent w e) es → Agree last numbers
     → read_from (right_words w 0 sent) (hears w begun last) es ≡ wired_from w sent begun numbers es
 follows laws w sent begun last numbers [] wire rows count few each agree = refl
-follows laws w sent begun last numbers (cycle values ∷ es) wire rows count few each agree =
+follows laws w sent begun last numbers (event.Cycle values ∷ es) wire rows count few each agree =
     follows laws w sent (begun + 1) last numbers es wire rows (omega arith) few each.1 agree
-follows laws w sent begun last numbers (deliver line id n alter ∷ es) wire rows count few each agree =
+follows laws w sent begun last numbers (event.Deliver line id n alter ∷ es) wire rows count few each agree =
     let handing : Receipt → Handing = λ x. record { line = line; cycle = begun - 1; id = id; number = n; alter = alter; receipt = x } in
     let same = same_receipt laws w sent begun last numbers id n alter wire rows (omega arith) few each.0.0 each.0.1 agree in
     let later = next_same w sent begun n last numbers es (receipt_at w sent begun numbers id n alter)

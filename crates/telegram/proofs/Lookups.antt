@@ -4,7 +4,10 @@ use Rattle.vcp_base.specs.declared.ty.Ty.TheVariants as ty
 use Rattle.vcp_base.specs.Types.{fits}
 use Rattle.vcp_base.specs.Values.{at}
 use Rattle.telegram.specs.Sendings.{telegram_word}
-use Rattle.telegram.specs.WireRun.{Wire, Event, cycle, deliver, Every, IsEvent, sent_in, sent_by}
+use Rattle.telegram.specs.declared.event.Event.{Event}
+use Rattle.telegram.specs.declared.event.Event.TheVariants as event
+use Rattle.telegram.specs.declared.wire.Wire.{Wire}
+use Rattle.telegram.specs.WireRun.{Every, IsEvent, sent_in, sent_by}
 use Rattle.telegram.specs.WireRead.{words_from, right_words}
 
 in_row : (w : Wire) (n id : ℕ) (values : List ℤ) (k : ℕ) → k < length values
@@ -42,8 +45,8 @@ AreRows w sent = Every (λ values. (length values ≡ w.senders) × Every (λ v.
 
 pub rows_of : (w : Wire) (es : List Event) → Every (λ e. IsEvent w e) es → AreRows w (sent_in es)
 rows_of w [] each = tt
-rows_of w (cycle values ∷ es) each = (each.0, rows_of w es each.1)
-rows_of w (deliver line id number alter ∷ es) each = rows_of w es each.1
+rows_of w (event.Cycle values ∷ es) each = (each.0, rows_of w es each.1)
+rows_of w (event.Deliver line id number alter ∷ es) each = rows_of w es each.1
 
 pub row_length : (w : Wire) (sent : List (List ℤ)) (k : ℕ) → AreRows w sent → k < length sent → length (slice_index_or sent k []) ≡ w.senders
 row_length w [] k rows few = absurd (omega arith)

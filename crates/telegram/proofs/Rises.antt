@@ -11,7 +11,10 @@ use Rattle.telegram.specs.declared.telegram.Telegram.{Telegram}
 use Rattle.telegram.specs.Deliveries.{delivered, AreYoung}
 use Rattle.telegram.specs.Receipts.{State, present, receipt_of, after_receipt, is_above, last_number, ticked}
 use Rattle.telegram.specs.Sendings.{telegram_residue}
-use Rattle.telegram.specs.WireRun.{Wire, Event, cycle, deliver, wired_from, receipt_at, is_above_all, with_delivered}
+use Rattle.telegram.specs.declared.event.Event.{Event}
+use Rattle.telegram.specs.declared.event.Event.TheVariants as event
+use Rattle.telegram.specs.declared.wire.Wire.{Wire}
+use Rattle.telegram.specs.WireRun.{wired_from, receipt_at, is_above_all, with_delivered}
 use Rattle.telegram.specs.WireRead.{telegram_of, read_from}
 use Rattle.telegram.proofs.Following.{delivered_passed}
 use Rattle.telegram.proofs.Orders.{RisingIn, one_before, above_before, first_true, second_true}
@@ -60,8 +63,8 @@ rising_read_next words s es n receipt.Value later above = later s
 
 pub rising_read : (words : List (List ℤ)) (s : State) (es : List Event) → RisingIn (λ m. is_above s.last m ≡ true) (delivered (read_from words s es))
 rising_read words s [] = (tt, tt)
-rising_read words s (cycle values ∷ es) = rising_read words (ticked s) es
-rising_read words s (deliver line id n alter ∷ es) =
+rising_read words s (event.Cycle values ∷ es) = rising_read words (ticked s) es
+rising_read words s (event.Deliver line id n alter ∷ es) =
     let t = telegram_of words id n alter in
     rising_read_next words s es n (receipt_of s t) (λ s. rising_read words s es) (λ v h. (read_passed s t v h).above)
 
@@ -82,8 +85,8 @@ rising_run_next w sent begun numbers es n receipt.Value later above = later numb
 pub rising_run : (w : Wire) (sent : List (List ℤ)) (begun : ℕ) (numbers : List ℕ) (es : List Event)
     → RisingIn (λ m. is_above_all m numbers ≡ true) (delivered (wired_from w sent begun numbers es))
 rising_run w sent begun numbers [] = (tt, tt)
-rising_run w sent begun numbers (cycle values ∷ es) = rising_run w sent (begun + 1) numbers es
-rising_run w sent begun numbers (deliver line id n alter ∷ es) =
+rising_run w sent begun numbers (event.Cycle values ∷ es) = rising_run w sent (begun + 1) numbers es
+rising_run w sent begun numbers (event.Deliver line id n alter ∷ es) =
     rising_run_next w sent begun numbers es n (receipt_at w sent begun numbers id n alter) (λ numbers. rising_run w sent begun numbers es)
     (λ v h. (delivered_passed w sent begun numbers id n alter v h).above)
 
@@ -106,8 +109,8 @@ in_age n begun age early old =
 
 pub young_read : (words : List (List ℤ)) (age : ℕ) (s : State) (es : List Event) → s.age ≡ age → AreYoung age (read_from words s es)
 young_read words age s [] same = tt
-young_read words age s (cycle values ∷ es) same = young_read words age (ticked s) es same
-young_read words age s (deliver line id n alter ∷ es) same =
+young_read words age s (event.Cycle values ∷ es) same = young_read words age (ticked s) es same
+young_read words age s (event.Deliver line id n alter ∷ es) same =
     let t = telegram_of words id n alter in
     let x = receipt_of s t in
     let here = if_delivered x (λ v. (n ≤ present s) × (present s ≤ n + age))
@@ -118,8 +121,8 @@ young_read words age s (deliver line id n alter ∷ es) same =
 
 pub young_run : (w : Wire) (sent : List (List ℤ)) (begun : ℕ) (numbers : List ℕ) (es : List Event) → AreYoung w.age (wired_from w sent begun numbers es)
 young_run w sent begun numbers [] = tt
-young_run w sent begun numbers (cycle values ∷ es) = young_run w sent (begun + 1) numbers es
-young_run w sent begun numbers (deliver line id n alter ∷ es) =
+young_run w sent begun numbers (event.Cycle values ∷ es) = young_run w sent (begun + 1) numbers es
+young_run w sent begun numbers (event.Deliver line id n alter ∷ es) =
     let x = receipt_at w sent begun numbers id n alter in
     let here = if_delivered x (λ v. (n ≤ begun - 1) × (begun - 1 ≤ n + w.age))
     (λ v h.

@@ -15,7 +15,10 @@ use Rattle.signature_table.specs.Signatures.{signature, expected}
 use Rattle.telegram.specs.declared.receipt.Receipt.TheVariants as receipt
 use Rattle.telegram.specs.Deliveries.{IfDelivered, ComeFromSender, Solves}
 use Rattle.telegram.specs.Sendings.{telegram_residue}
-use Rattle.telegram.specs.WireRun.{Wire, Event, cycle, deliver, IsWire, IsEvent, AreEvents, Every, sent_in, sent_by, wired_from, wired, receipt_at}
+use Rattle.telegram.specs.declared.event.Event.{Event}
+use Rattle.telegram.specs.declared.event.Event.TheVariants as event
+use Rattle.telegram.specs.declared.wire.Wire.{Wire}
+use Rattle.telegram.specs.WireRun.{IsWire, IsEvent, AreEvents, Every, sent_in, sent_by, wired_from, wired, receipt_at}
 use Rattle.telegram.specs.WireRun.{apart, arrived, is_above_all, with_delivered}
 use Rattle.telegram.proofs.Equation.{same_signature, no_carry}
 use Rattle.telegram.proofs.Following.{told_at, delivered_passed}
@@ -65,9 +68,9 @@ from_sender : (laws : SenderLaws) (w : Wire) (sent : List (List ℤ)) (begun : �
     → begun + length (sent_in es) ≤ most_cycles → Every (λ e. IsEvent w e) es
     → Every (λ h. IfDelivered h.receipt (λ v. h.alter ≡ pos 0 → (h.id ≡ w.listen) × (v ≡ sent_by sent w.listen h.number))) (wired_from w sent begun numbers es)
 from_sender laws w sent begun numbers [] wire few each = tt
-from_sender laws w sent begun numbers (cycle values ∷ es) wire few each =
+from_sender laws w sent begun numbers (event.Cycle values ∷ es) wire few each =
     from_sender laws w sent (begun + 1) numbers es wire (omega arith) each.1
-from_sender laws w sent begun numbers (deliver line id n alter ∷ es) wire few each =
+from_sender laws w sent begun numbers (event.Deliver line id n alter ∷ es) wire few each =
     let x = receipt_at w sent begun numbers id n alter in
     let here = if_delivered x (λ v. alter ≡ pos 0 → (id ≡ w.listen) × (v ≡ sent_by sent w.listen n))
     (λ v h none. unaltered_delivery laws w sent begun numbers id n alter v wire each.0.0 (omega arith) none h) in

@@ -4,7 +4,10 @@ use Rattle.coded_unit.specs.Words.{modulo, value_part, coded}
 use Rattle.signature_table.specs.Signatures.{signature}
 use Rattle.telegram.specs.declared.receipt.Receipt.{Receipt}
 use Rattle.telegram.specs.declared.receipt.Receipt.TheVariants as receipt
-use Rattle.telegram.specs.WireRun.{Wire, Event, cycle, deliver, Handing, sent_in, wired}
+use Rattle.telegram.specs.declared.event.Event.{Event}
+use Rattle.telegram.specs.declared.event.Event.TheVariants as event
+use Rattle.telegram.specs.declared.wire.Wire.{Wire}
+use Rattle.telegram.specs.WireRun.{Handing, sent_in, wired}
 use Rattle.telegram.specs.WireRead.{wire_read, right_words}
 
 -- a wire of so many senders, the one that is heard, an age, a seed and a step
@@ -21,14 +24,14 @@ two-wire = numbers 2 0 1 0 1
 
 two-events : List Event
 two-events =
-    cycle (pos 5 ∷ pos 9 ∷ []) ∷
-    deliver 3 0 0 (pos 0) ∷
-    deliver 4 0 0 (pos 0) ∷
-    deliver 5 1 0 (pos 0) ∷
-    cycle (pos 6 ∷ pos 9 ∷ []) ∷
-    cycle (pos 7 ∷ pos 9 ∷ []) ∷
-    deliver 8 0 1 (pos 0) ∷
-    deliver 9 0 2 (pos 2147483647) ∷
+    event.Cycle (pos 5 ∷ pos 9 ∷ []) ∷
+    event.Deliver 3 0 0 (pos 0) ∷
+    event.Deliver 4 0 0 (pos 0) ∷
+    event.Deliver 5 1 0 (pos 0) ∷
+    event.Cycle (pos 6 ∷ pos 9 ∷ []) ∷
+    event.Cycle (pos 7 ∷ pos 9 ∷ []) ∷
+    event.Deliver 8 0 1 (pos 0) ∷
+    event.Deliver 9 0 2 (pos 2147483647) ∷
     []
 
 two-receipts : List (ℕ × Receipt)
@@ -54,14 +57,14 @@ aged-wire = numbers 2 0 0 0 1
 
 aged-events : List Event
 aged-events =
-    cycle (pos 5 ∷ pos 9 ∷ []) ∷
-    deliver 3 0 0 (pos 0) ∷
-    deliver 4 0 0 (pos 0) ∷
-    deliver 5 1 0 (pos 0) ∷
-    cycle (pos 6 ∷ pos 9 ∷ []) ∷
-    cycle (pos 7 ∷ pos 9 ∷ []) ∷
-    deliver 8 0 1 (pos 0) ∷
-    deliver 9 0 2 (pos 2147483647) ∷
+    event.Cycle (pos 5 ∷ pos 9 ∷ []) ∷
+    event.Deliver 3 0 0 (pos 0) ∷
+    event.Deliver 4 0 0 (pos 0) ∷
+    event.Deliver 5 1 0 (pos 0) ∷
+    event.Cycle (pos 6 ∷ pos 9 ∷ []) ∷
+    event.Cycle (pos 7 ∷ pos 9 ∷ []) ∷
+    event.Deliver 8 0 1 (pos 0) ∷
+    event.Deliver 9 0 2 (pos 2147483647) ∷
     []
 
 aged-receipts : List (ℕ × Receipt)
@@ -87,8 +90,8 @@ foreign-wire = numbers 2 0 1 0 1
 
 foreign-events : List Event
 foreign-events =
-    cycle (pos 5 ∷ pos 9 ∷ []) ∷
-    deliver 3 1 0 (negsuc 214748364) ∷
+    event.Cycle (pos 5 ∷ pos 9 ∷ []) ∷
+    event.Deliver 3 1 0 (negsuc 214748364) ∷
     []
 
 foreign-receipts : List (ℕ × Receipt)
@@ -110,12 +113,12 @@ reordered-wire = numbers 1 0 5 0 1
 
 reordered-events : List Event
 reordered-events =
-    cycle (pos 1 ∷ []) ∷
-    cycle (pos 2 ∷ []) ∷
-    cycle (pos 3 ∷ []) ∷
-    deliver 5 0 2 (pos 0) ∷
-    deliver 6 0 1 (pos 0) ∷
-    deliver 7 0 0 (pos 0) ∷
+    event.Cycle (pos 1 ∷ []) ∷
+    event.Cycle (pos 2 ∷ []) ∷
+    event.Cycle (pos 3 ∷ []) ∷
+    event.Deliver 5 0 2 (pos 0) ∷
+    event.Deliver 6 0 1 (pos 0) ∷
+    event.Deliver 7 0 0 (pos 0) ∷
     []
 
 reordered-receipts : List (ℕ × Receipt)
@@ -139,15 +142,15 @@ three-wire = numbers 3 1 2 7 3
 
 three-events : List Event
 three-events =
-    cycle (pos 1 ∷ pos 2 ∷ pos 3 ∷ []) ∷
-    deliver 3 0 0 (pos 0) ∷
-    deliver 4 1 0 (pos 0) ∷
-    deliver 5 2 0 (pos 0) ∷
-    cycle (pos 4 ∷ pos 5 ∷ pos 6 ∷ []) ∷
-    deliver 7 1 1 (pos 1) ∷
-    deliver 8 1 1 (negsuc 0) ∷
-    deliver 9 1 1 (pos 4294967294) ∷
-    deliver 10 1 1 (pos 0) ∷
+    event.Cycle (pos 1 ∷ pos 2 ∷ pos 3 ∷ []) ∷
+    event.Deliver 3 0 0 (pos 0) ∷
+    event.Deliver 4 1 0 (pos 0) ∷
+    event.Deliver 5 2 0 (pos 0) ∷
+    event.Cycle (pos 4 ∷ pos 5 ∷ pos 6 ∷ []) ∷
+    event.Deliver 7 1 1 (pos 1) ∷
+    event.Deliver 8 1 1 (negsuc 0) ∷
+    event.Deliver 9 1 1 (pos 4294967294) ∷
+    event.Deliver 10 1 1 (pos 0) ∷
     []
 
 three-receipts : List (ℕ × Receipt)
@@ -175,11 +178,11 @@ outside-wire = numbers 1 0 9 0 1
 
 outside-events : List Event
 outside-events =
-    cycle (pos 2147483647 ∷ []) ∷
-    deliver 3 0 0 (pos 2147483647) ∷
-    cycle (negsuc 2147483647 ∷ []) ∷
-    deliver 5 0 1 (negsuc 2147483646) ∷
-    deliver 6 0 1 (pos 0) ∷
+    event.Cycle (pos 2147483647 ∷ []) ∷
+    event.Deliver 3 0 0 (pos 2147483647) ∷
+    event.Cycle (negsuc 2147483647 ∷ []) ∷
+    event.Deliver 5 0 1 (negsuc 2147483646) ∷
+    event.Deliver 6 0 1 (pos 0) ∷
     []
 
 outside-receipts : List (ℕ × Receipt)
@@ -203,9 +206,9 @@ greatest-wire = numbers 16 15 999999 1073741823 1000
 
 greatest-events : List Event
 greatest-events =
-    cycle (pos 0 ∷ pos 1 ∷ pos 2 ∷ pos 3 ∷ pos 4 ∷ pos 5 ∷ pos 6 ∷ pos 7 ∷ pos 8 ∷ pos 9 ∷ pos 10 ∷ pos 11 ∷ pos 12 ∷ pos 13 ∷ pos 14 ∷ pos 15 ∷ []) ∷
-    deliver 3 15 0 (pos 0) ∷
-    deliver 4 14 0 (pos 0) ∷
+    event.Cycle (pos 0 ∷ pos 1 ∷ pos 2 ∷ pos 3 ∷ pos 4 ∷ pos 5 ∷ pos 6 ∷ pos 7 ∷ pos 8 ∷ pos 9 ∷ pos 10 ∷ pos 11 ∷ pos 12 ∷ pos 13 ∷ pos 14 ∷ pos 15 ∷ []) ∷
+    event.Deliver 3 15 0 (pos 0) ∷
+    event.Deliver 4 14 0 (pos 0) ∷
     []
 
 greatest-receipts : List (ℕ × Receipt)
@@ -228,10 +231,10 @@ far-wire = numbers 1 0 3 0 1
 
 far-events : List Event
 far-events =
-    cycle (pos 1 ∷ []) ∷
-    deliver 3 0 0 (pos 4611686018427387904) ∷
-    deliver 4 0 0 (negsuc 4611686018427387903) ∷
-    deliver 5 0 0 (pos 0) ∷
+    event.Cycle (pos 1 ∷ []) ∷
+    event.Deliver 3 0 0 (pos 4611686018427387904) ∷
+    event.Deliver 4 0 0 (negsuc 4611686018427387903) ∷
+    event.Deliver 5 0 0 (pos 0) ∷
     []
 
 far-receipts : List (ℕ × Receipt)

@@ -4,7 +4,9 @@ use Rattle.vcp_base.specs.declared.ty.Ty.TheVariants as ty
 use Rattle.vcp_base.specs.Types.{fits}
 use Rattle.telegram.specs.declared.receipt.Receipt.{Receipt}
 use Rattle.telegram.specs.declared.receipt.Receipt.TheVariants as receipt
-use Rattle.telegram.specs.WireRun.{Wire, Event, Handing, Every, sent_by, sent_in, apart, arrived, with_delivered}
+use Rattle.telegram.specs.declared.event.Event.{Event}
+use Rattle.telegram.specs.declared.wire.Wire.{Wire}
+use Rattle.telegram.specs.WireRun.{Handing, Every, sent_by, sent_in, apart, arrived, with_delivered}
 
 -- where a value was delivered, P holds of it
 abbrev pub IfDelivered : Receipt → (ℤ → Type 0) → Type 0

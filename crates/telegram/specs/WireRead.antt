@@ -5,7 +5,10 @@ use Rattle.coded_unit.specs.Words.{nearest_word}
 use Rattle.telegram.specs.declared.telegram.Telegram.{Telegram}
 use Rattle.telegram.specs.Sendings.{telegram_word}
 use Rattle.telegram.specs.Receipts.{State, nothing_heard, ticked, present, receipt_of, after_receipt}
-use Rattle.telegram.specs.WireRun.{Wire, Event, cycle, deliver, Handing}
+use Rattle.telegram.specs.declared.event.Event.{Event}
+use Rattle.telegram.specs.declared.event.Event.TheVariants as event
+use Rattle.telegram.specs.declared.wire.Wire.{Wire}
+use Rattle.telegram.specs.WireRun.{Handing}
 
 -- the telegram of sender `id` and cycle n with `alter` added to its word, where these are the words of each cycle
 abbrev pub telegram_of : List (List ℤ) → ℕ → ℕ → ℤ → Telegram
@@ -18,8 +21,8 @@ taken h s later = h ∷ later (after_receipt s h.number h.receipt)
 -- the handings of these events by a receiver; `words` has the words of the whole run
 abbrev pub read_from : List (List ℤ) → State → List Event → List Handing
 read_from words s [] = []
-read_from words s (cycle values ∷ es) = read_from words (ticked s) es
-read_from words s (deliver line id n alter ∷ es) =
+read_from words s (event.Cycle values ∷ es) = read_from words (ticked s) es
+read_from words s (event.Deliver line id n alter ∷ es) =
     taken
     (record { line = line; cycle = present s; id = id; number = n; alter = alter; receipt = receipt_of s (telegram_of words id n alter) }) s
     (λ more. read_from words more es)

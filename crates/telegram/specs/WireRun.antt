@@ -9,25 +9,14 @@ use Rattle.vcp_base.specs.Types.{fits}
 use Rattle.vcp_base.specs.Values.{at}
 use Rattle.coded_unit.specs.Words.{modulo, carry, Middle}
 use Rattle.signature_table.specs.Signatures.{signature}
+use Rattle.telegram.specs.declared.event.Event.{Event}
+use Rattle.telegram.specs.declared.event.Event.TheVariants as event
 use Rattle.telegram.specs.declared.receipt.Receipt.{Receipt}
 use Rattle.telegram.specs.declared.receipt.Receipt.TheVariants as receipt
+use Rattle.telegram.specs.declared.wire.Wire.{Wire}
 use Rattle.telegram.specs.Sendings.{most_senders, telegram_residue}
 
 -- ---- what happens on a wire
-
--- how many senders a wire has, the one that is heard, the greatest age in cycles, and the seed and step of the code
-pub record Wire : Type 0 where
-  pub senders : ℕ
-  pub listen : ℕ
-  pub age : ℕ
-  pub seed : ℕ
-  pub step : ℕ
-
--- A cycle begins, in which each sender sends its value. Or the receiver is handed what sender `id` sent in the cycle of that
--- number, with `alter` added to its word, as the line of a script says.
-pub data Event : Type 0 where
-  cycle : (values : List ℤ) → Event
-  deliver : (line id number : ℕ) → (alter : ℤ) → Event
 
 -- P holds of each of these
 abbrev pub Every : {X : Type 0} → (X → Type 0) → List X → Type 0
@@ -37,8 +26,8 @@ Every P (x ∷ xs) = P x × Every P xs
 -- the values of each cycle
 abbrev pub sent_in : List Event → List (List ℤ)
 sent_in [] = []
-sent_in (cycle values ∷ es) = values ∷ sent_in es
-sent_in (deliver line id number alter ∷ es) = sent_in es
+sent_in (event.Cycle values ∷ es) = values ∷ sent_in es
+sent_in (event.Deliver line id number alter ∷ es) = sent_in es
 
 -- the value that sender `id` sent in cycle n
 abbrev pub sent_by : List (List ℤ) → ℕ → ℕ → ℤ
@@ -53,8 +42,8 @@ pub record IsWire (w : Wire) : Type 0 where
 
 -- each sender has a value in the cycle, and it is a DINT; a telegram is that of a sender, and what is added to its word is moderate
 abbrev pub IsEvent : Wire → Event → Type 0
-IsEvent w (cycle values) = (length values ≡ w.senders) × Every (λ v. fits ty.Dint v ≡ true) values
-IsEvent w (deliver line id number alter) = (id < w.senders) × Middle alter
+IsEvent w (event.Cycle values) = (length values ≡ w.senders) × Every (λ v. fits ty.Dint v ≡ true) values
+IsEvent w (event.Deliver line id number alter) = (id < w.senders) × Middle alter
 
 pub record AreEvents (w : Wire) (es : List Event) : Type 0 where
   pub each : Every (λ e. IsEvent w e) es
@@ -120,8 +109,8 @@ handed h numbers later = h ∷ later (with_delivered h.receipt h.number numbers)
 -- the handings of these events, after so many cycles began and these numbers were delivered; `sent` has the values of the whole run
 abbrev pub wired_from : Wire → List (List ℤ) → ℕ → List ℕ → List Event → List Handing
 wired_from w sent begun numbers [] = []
-wired_from w sent begun numbers (cycle values ∷ es) = wired_from w sent (begun + 1) numbers es
-wired_from w sent begun numbers (deliver line id n alter ∷ es) =
+wired_from w sent begun numbers (event.Cycle values ∷ es) = wired_from w sent (begun + 1) numbers es
+wired_from w sent begun numbers (event.Deliver line id n alter ∷ es) =
     handed (record { line = line; cycle = begun - 1; id = id; number = n; alter = alter; receipt = receipt_at w sent begun numbers id n alter }) numbers
     (λ more. wired_from w sent begun more es)
 

@@ -4,7 +4,9 @@ ghost use Rattle.std.specs.Prelude.{◌≡◌, ◌↔◌, ℕ, List, ℤ};
 ghost use Rattle.telegram.specs.declared.receipt.Receipt.TheVariants.{Delivered};
 ghost use Rattle.telegram.specs.Deliveries.{AreYoung, ComeFromSender, Rising, Solves, delivered};
 ghost use Rattle.telegram.specs.WireRead.{right_words, wire_read};
-ghost use Rattle.telegram.specs.WireRun.{AreEvents, Event, IsWire, Wire, receipt_at, sent_in, wired};
+ghost use Rattle.telegram.specs.declared.event.Event.{Event};
+ghost use Rattle.telegram.specs.declared.wire.Wire.{Wire};
+ghost use Rattle.telegram.specs.WireRun.{AreEvents, IsWire, receipt_at, sent_in, wired};
 
 use coded_unit::{shifted_words_keep_their_parts, words_split_in_one_way};
 use signature_table::{expected_residues_are_residues, signatures_are_distinct};

@@ -7,12 +7,15 @@
 //! That all controllers count the same cycles is a premise.
 #![tactic(auto)]
 
+mod event;
 mod laws;
 mod receipt;
 mod receiver;
 mod sending;
 mod telegram;
+mod wire;
 
+pub use event::Event;
 pub use laws::{
     deliveries_are_young, deliveries_rise, receipts_follow_the_equation,
     unaltered_come_from_their_sender,
@@ -21,3 +24,4 @@ pub use receipt::Receipt;
 pub use receiver::Receiver;
 pub use sending::send;
 pub use telegram::Telegram;
+pub use wire::Wire;

@@ -27,11 +27,11 @@ pub fn send<U: Unit>(unit: &mut U, id: u32, seed: u32, step: u16, number: u32, v
     requires step_to { step ≤ most_step }
     requires number { number < most_cycles }
     requires value { fits Dint value ≡ true }
-    ensures log { GrowsBy (U.log unit.old) (U.log unit.new) ((send_call id seed step number value, result) ∷ []) }
-    ensures wrong { Counts result (Right (send_call id seed step number value)) (U.wrong unit.old) (U.wrong unit.new) }
-    ensures honest { U.wrong unit.new ≡ U.wrong unit.old → U.wrong unit.old < 2 ^ 64 - 1
+    ensures log { GrowsBy (U.seen unit.old).log (U.seen unit.new).log ((send_call id seed step number value, result) ∷ []) }
+    ensures wrong { Counts result (Right (send_call id seed step number value)) (U.seen unit.old).wrong (U.seen unit.new).wrong }
+    ensures honest { (U.seen unit.new).wrong ≡ (U.seen unit.old).wrong → (U.seen unit.old).wrong < 2 ^ 64 - 1
         → result ≡ answer.Word (telegram_word id seed step number value) }
-    ensures failed { IsNoWord result → Rose (U.wrong unit.old) (U.wrong unit.new) }
+    ensures failed { IsNoWord result → Rose (U.seen unit.old).wrong (U.seen unit.new).wrong }
 {
     let call = call_of(id, seed, step, number, value);
     unit.perform(&call)

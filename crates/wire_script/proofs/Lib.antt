@@ -1,0 +1,4 @@
+pub mod Heads
+pub mod LinesFit
+pub mod NumbersRead
+pub mod Reading
