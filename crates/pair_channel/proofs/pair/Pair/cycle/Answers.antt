@@ -1,0 +1,114 @@
+use Rattle.std.proofs.Common.{◌≡◌, ◌<◌, None, length, arith, sym, ap, subst, refl, ◌∙◌}
+use Rattle.vcp_base.specs.Limits.{most_cycles}
+use Rattle.op_graph.specs.Lists.{Lists}
+use Rattle.coded_machine.specs.State.{State, with_answers}
+use Rattle.pair_channel.specs.PairStates.{PairState}
+use Rattle.pair_channel.specs.PairTurns.{PairTurn}
+use Rattle.pair_channel.specs.SoundPair.{SoundPair, Together}
+use Rattle.pair_channel.proofs.States.{left_by, pair_left, unchanged_row, closed_between, counted}
+use Rattle.pair_channel.proofs.pair.Pair.cycle.Goals as goal
+
+pub cycle-one-requires-clause-cycle : goal.cycle-one-requires-clause-cycle
+cycle-one-requires-clause-cycle g c =
+    let together = c.self.invariant.together c.in_default.is in
+    omega (arith, together.first_cycles, ap (λ (q : PairState). q.cycles) c.self.view_is, c.requires.cycle)
+
+pub cycle-one-requires-clause-between : goal.cycle-one-requires-clause-between
+cycle-one-requires-clause-between g c = ap (λ (q : PairState). q.first.under_way) c.self.view_is ∙ c.requires.between
+
+pub cycle-two-requires-clause-cycle : goal.cycle-two-requires-clause-cycle
+cycle-two-requires-clause-cycle g c =
+    let together = c.self.invariant.together c.in_default.is in
+    omega (arith, together.second_cycles, ap (λ (q : PairState). q.cycles) c.self.view_is, c.requires.cycle)
+
+pub cycle-two-requires-clause-out : goal.cycle-two-requires-clause-out
+cycle-two-requires-clause-out g c = c.self.invariant.theirs ∙ ap (λ (h : Lists). length h.outputs) (sym c.self.invariant.one_graph)
+
+pub both-end-requires-clause-few : goal.both-end-requires-clause-few
+both-end-requires-clause-few g c = omega (arith, c.cycle-one.ensures.width, c.self.invariant.ours, c.self.invariant.few)
+
+pub both-end-requires-clause-width : goal.both-end-requires-clause-width
+both-end-requires-clause-width g c =
+    c.cycle-two.ensures.width ∙ (c.self.invariant.theirs ∙ (sym c.self.invariant.ours ∙ sym c.cycle-one.ensures.width))
+
+pub settle-requires-clause-few : goal.settle-requires-clause-few
+settle-requires-clause-few g c = omega (arith, ap (λ (q : PairState). q.cycles) c.self.view_is, c.requires.cycle)
+
+pub settle-requires-clause-width : goal.settle-requires-clause-width
+settle-requires-clause-width g c =
+    c.requires.out ∙ (ap (λ (q : PairState). length q.first.graph.outputs) (sym c.self.view_is) ∙ (sym c.self.invariant.ours ∙ sym c.cycle-one.ensures.width))
+
+pub invariant_of-self : goal.invariant_of-self
+invariant_of-self g c =
+    let s = c.self.inside in
+    let p : PairState = record { first = s.first; second = s.second; cycles = s.cycles; ended = s.ended } in
+    let sound : SoundPair p s.ours s.theirs = c.self.invariant in
+    let together : Together p = sound.together c.in_default.is in
+    let m : State = with_answers s.first c.cycle-one.new.self.answers in
+    let k : State = with_answers s.second c.cycle-two.new.self.answers in
+    let few : s.cycles < most_cycles = omega (arith, ap (λ (q : PairState). q.cycles) c.self.view_is, c.requires.cycle) in
+    (left_by p s.ours s.theirs m k c.cycle-one.new.self c.cycle-two.new.self c.cycle-one.result c.cycle-two.result c.cycle-one.new.out c.cycle-two.new.out
+    c.settle.new.row c.args.out.now c.settle.new.out c.both-end.result c.settle.new.cycles c.settle.new.ended sound c.in_default.is few refl refl
+    (c.cycle-one.ensures.machine together.first_going) (c.cycle-two.ensures.machine together.second_going)
+    c.cycle-one.ensures.graph c.cycle-two.ensures.graph c.cycle-one.ensures.between c.cycle-two.ensures.between
+    (c.cycle-one.ensures.out together.first_going) (c.cycle-two.ensures.out together.second_going)
+    c.cycle-one.ensures.width c.cycle-two.ensures.width c.both-end.ensures c.settle.ensures.row
+    c.settle.ensures.out c.settle.ensures.cycles c.settle.ensures.ended).0
+
+pub returns-clause-turn : goal.returns-clause-turn
+returns-clause-turn g c =
+    let s = c.self.inside in
+    let one = g.U.Unit in
+    let unit = g.V.Unit in
+    let p : PairState = record { first = s.first; second = s.second; cycles = s.cycles; ended = s.ended } in
+    let now : PairState =
+    record { first = c.cycle-one.new.self; second = c.cycle-two.new.self; cycles = c.settle.new.cycles; ended = c.settle.new.ended } in
+    let sound : SoundPair p s.ours s.theirs = c.self.invariant in
+    let together : Together p = sound.together c.in_default.is in
+    let m : State = with_answers s.first c.cycle-one.new.self.answers in
+    let k : State = with_answers s.second c.cycle-two.new.self.answers in
+    let e = c.cycle-one.result in
+    let f = c.cycle-two.result in
+    let few : s.cycles < most_cycles = omega (arith, ap (λ (q : PairState). q.cycles) c.self.view_is, c.requires.cycle) in
+    let done =
+    (left_by p s.ours s.theirs m k c.cycle-one.new.self c.cycle-two.new.self e f c.cycle-one.new.out c.cycle-two.new.out
+    c.settle.new.row c.args.out.now c.settle.new.out c.both-end.result c.settle.new.cycles c.settle.new.ended sound c.in_default.is few refl refl
+    (c.cycle-one.ensures.machine together.first_going) (c.cycle-two.ensures.machine together.second_going)
+    c.cycle-one.ensures.graph c.cycle-two.ensures.graph c.cycle-one.ensures.between c.cycle-two.ensures.between
+    (c.cycle-one.ensures.out together.first_going) (c.cycle-two.ensures.out together.second_going)
+    c.cycle-one.ensures.width c.cycle-two.ensures.width c.both-end.ensures c.settle.ensures.row
+    c.settle.ensures.out c.settle.ensures.cycles c.settle.ensures.ended).1 in
+    subst (λ (q : PairState). q.ended ≡ None → PairTurn q now c.args.row.now c.both-end.result c.args.out.now c.settle.new.out
+    (one.seen c.args.first.now) (one.seen c.cycle-one.new.unit)
+    (unit.seen c.args.second.now) (unit.seen c.cycle-two.new.unit))
+    c.self.view_is
+    (λ going. record {
+      going = going;
+      first_end = e;
+      second_end = f;
+      first = c.cycle-one.ensures.turn together.first_going;
+      second = c.cycle-two.ensures.turn together.second_going;
+      first_cause = c.cycle-one.ensures.cause together.first_going;
+      second_cause = c.cycle-two.ensures.cause together.second_going;
+      end_is = done.end_is;
+      cause = done.cause;
+      out_is = done.out_is;
+      pair_is = sym (pair_left p c.cycle-one.new.self c.cycle-two.new.self c.both-end.result c.settle.new.cycles c.settle.new.ended
+          c.settle.ensures.cycles c.settle.ensures.ended);
+    })
+
+pub returns-clause-unchanged : goal.returns-clause-unchanged
+returns-clause-unchanged g c = λ apart. c.settle.ensures.out ∙ unchanged_row c.both-end.result c.cycle-one.new.out c.args.out.now apart
+
+pub returns-clause-cycles : goal.returns-clause-cycles
+returns-clause-cycles g c =
+    omega (arith, c.settle.ensures.cycles, counted c.both-end.result c.self.inside.cycles, ap (λ (q : PairState). q.cycles) c.self.view_is)
+
+pub returns-clause-graph : goal.returns-clause-graph
+returns-clause-graph g c = c.cycle-one.ensures.graph ∙ ap (λ (q : PairState). q.first.graph) c.self.view_is
+
+pub returns-in-Some-clause-between : goal.returns-in-Some-clause-between
+returns-in-Some-clause-between g c =
+    let s = c.self.inside in
+    let p : PairState = record { first = s.first; second = s.second; cycles = s.cycles; ended = s.ended } in
+    sym (ap (λ (q : PairState). q.first.under_way) c.self.view_is) ∙ closed_between p s.ours s.theirs c.in-Some.end c.self.invariant c.in-Some.is

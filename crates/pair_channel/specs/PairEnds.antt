@@ -1,0 +1,60 @@
+-- PairEnds: how a cycle of two channels ends, read off the end and the row of outputs of each.
+use Rattle.std.specs.Prelude.{◌≡◌, ◌≢◌, ℕ, suc, ◌==◌, ◌&&◌, Bool, true, false, cond, List, [], ◌∷◌, take, slice_get, Option, Some, None, ℤ}
+use Rattle.vcp_base.specs.Kinds.{same}
+use Rattle.vcp_base.specs.declared.kind.StopKind.{StopKind}
+use Rattle.vcp_base.specs.declared.kind.StopKind.TheVariants as stop
+use Rattle.coded_machine.specs.declared.cycle_end.CycleEnd.{CycleEnd}
+use Rattle.coded_machine.specs.declared.cycle_end.CycleEnd.TheVariants as end
+use Rattle.pair_channel.specs.declared.pair_end.PairEnd.{PairEnd}
+use Rattle.pair_channel.specs.declared.pair_end.PairEnd.TheVariants as pair
+
+-- an output that has different values: its number, counted from 0, and its value in each channel
+pub record Difference : Type 0 where
+  pub output : ℕ
+  pub first : ℤ
+  pub second : ℤ
+
+-- the first place, counted from `number`, where two rows have different values
+abbrev pub differing : List ℤ → List ℤ → ℕ → Option Difference
+differing [] others number = None
+differing (a ∷ row) [] number = None
+differing (a ∷ row) (b ∷ others) number = cond (same a b) (differing row others (suc number)) (Some (record { output = number; first = a; second = b }))
+
+abbrev pub same_kind : StopKind → StopKind → Bool
+same_kind stop.Range stop.Range = true
+same_kind stop.DivZero stop.DivZero = true
+same_kind stop.Operand stop.Operand = true
+same_kind _ _ = false
+
+-- the end of a cycle that both channels released: the first output whose values differ, if there is one
+abbrev pub released_unless : Option Difference → PairEnd
+released_unless None = pair.Released
+released_unless (Some d) = pair.Differ d.output d.first d.second
+
+-- How a cycle ends that the two channels ended so, with these rows of outputs. It is released where both released it and no output
+-- differs; it is stopped where both stopped at one operation for one cause; in all other cases, two refusals among them, the channels parted.
+abbrev pub both : CycleEnd → CycleEnd → List ℤ → List ℤ → PairEnd
+both end.Released end.Released row other = released_unless (differing row other 0)
+both (end.Stopped k why) (end.Stopped l cause) row other =
+    cond (k == l && same_kind why cause) (pair.Stopped k why) (pair.Parted (end.Stopped k why) (end.Stopped l cause))
+both e f row other = pair.Parted e f
+
+-- output i is the first that has different values in these rows, namely these
+pub record FirstDifference (row other : List ℤ) (i : ℕ) (x y : ℤ) : Type 0 where
+  pub before : take i row ≡ take i other
+  pub here : slice_get row i ≡ Some x
+  pub there : slice_get other i ≡ Some y
+  pub differ : x ≢ y
+
+-- the two channels released the cycle, or stopped it at one operation for one cause
+abbrev pub Alike : CycleEnd → CycleEnd → Type 0
+Alike end.Released f = f ≡ end.Released
+Alike (end.Stopped k why) f = f ≡ end.Stopped k why
+Alike (end.Refused i found expected) f = ⊥
+
+-- Why a cycle ended so that the two channels ended so, with these rows of outputs.
+abbrev pub PairCause : CycleEnd → CycleEnd → List ℤ → List ℤ → PairEnd → Type 0
+PairCause e f row other pair.Released = (e ≡ end.Released) × (f ≡ end.Released) × (row ≡ other)
+PairCause e f row other (pair.Stopped k why) = (e ≡ end.Stopped k why) × (f ≡ end.Stopped k why)
+PairCause e f row other (pair.Parted x y) = (x ≡ e) × (y ≡ f) × (Alike e f → ⊥)
+PairCause e f row other (pair.Differ i x y) = (e ≡ end.Released) × (f ≡ end.Released) × FirstDifference row other i x y

@@ -1,0 +1,5 @@
+pub mod BesideDone
+pub mod PairDone
+pub mod PairLines
+pub mod PairMoments
+pub mod PairRows
