@@ -1,0 +1,236 @@
+-- Cycles: the values of a cycle are given by its operations in turn, and what holds of the cells in each cycle holds in all.
+use Rattle.std.proofs.Common.{◌≡◌, ◌≢◌, ℕ, zero, suc, ◌+◌, ◌<◌, ◌≤◌, ℤ, pos, Bool, true, false, ◌&&◌, List, [], ◌∷◌, ◌++◌, length, take, slice_get, Option, Some, None, Ok, Err, IfSome}
+use Rattle.std.proofs.Common.{refl, sym, ap, subst, ◌∙◌, append_assoc, append-nil, length-append, arith, below_more, take_all}
+use Rattle.std.specs.Prelude.{unsigned_abs}
+use Rattle.std.specs.Option.{is_some}
+use Rattle.std.proofs.lemmas.Bool.Decides.{Decides-int_eq}
+use Rattle.std.proofs.lemmas.List.{take-append-le, length_push}
+use Rattle.std.proofs.lemmas.Option.{slice_get_within}
+use Rattle.vcp_base.specs.declared.kind.Kind.{Kind}
+use Rattle.vcp_base.specs.declared.kind.Kind.TheVariants as kind
+use Rattle.vcp_base.specs.declared.kind.StopKind.{StopKind}
+use Rattle.vcp_base.specs.declared.kind.StopKind.TheVariants as stop
+use Rattle.vcp_base.specs.declared.ty.Ty.{Ty}
+use Rattle.vcp_base.specs.declared.ty.Ty.TheVariants as ty
+use Rattle.vcp_base.specs.Kinds.{Outcome}
+use Rattle.vcp_base.specs.Types.{fits}
+use Rattle.vcp_base.specs.Values.{at}
+use Rattle.op_graph.specs.declared.op.Op.{Op}
+use Rattle.op_graph.specs.declared.op.Var.{Var}
+use Rattle.op_graph.specs.declared.rules.Entry.{Entry}
+use Rattle.op_graph.specs.declared.rules.Place.{Place}
+use Rattle.op_graph.specs.Lists.{Lists}
+use Rattle.op_graph.specs.Laws.{OperandLaws, EntryLaws}
+use Rattle.op_graph.specs.Rules.{IsGraph, scope, place_of, numbered, entry_of, kind_fits, from_fits, ty_fits, imm_fits, is_input, same_type}
+use Rattle.op_graph.specs.GraphRun.{own, outcome_of, Cycle, after, cycle_from, cycle, initial, stored, Run, after_cycle, run_from, unless_stopped, cells_after, CellsFit}
+use Rattle.range_audit.specs.declared.range.Range.{Range}
+use Rattle.range_audit.specs.declared.range.Stops.{Stops}
+use Rattle.range_audit.specs.Audit.{Audit, is_named, RowFits, RowsFit, Holds, Names, Ends}
+use Rattle.range_audit.specs.Intervals.{Hold}
+use Rattle.range_audit.specs.Walking.{Given, OwnFits, IsWalk, AreKept, AreSettled}
+
+-- ---- lists
+
+get_middle : {X : Type 0} (xs : List X) (x : X) (ys : List X) → slice_get (xs ++ x ∷ ys) (length xs) ≡ Some x
+get_middle [] x ys = refl
+get_middle (z ∷ xs) x ys = get_middle xs x ys
+
+at_push : (values : List ℤ) (v : ℤ) (i : ℕ) → i < length values → at (values ++ v ∷ []) i ≡ at values i
+at_push [] v i lt = absurd (omega arith)
+at_push (x ∷ values) v zero lt = refl
+at_push (x ∷ values) v (suc i) lt = at_push values v i (omega arith)
+
+at_last : (values : List ℤ) (v : ℤ) → at (values ++ v ∷ []) (length values) ≡ v
+at_last [] v = refl
+at_last (x ∷ values) v = at_last values v
+
+take_push : (values : List ℤ) (v : ℤ) (i : ℕ) → i ≤ length values → take i (values ++ v ∷ []) ≡ take i values
+take_push values v i le = take-append-le i values (v ∷ []) le
+
+-- ---- the values of a cycle
+
+given_none : (ops : List Op) (held row : List ℤ) → Given ops held row []
+given_none ops held row = record { few = omega arith; each = λ i op lt there. absurd (omega arith) }
+
+given_more : (ops : List Op) (held row values : List ℤ) (op : Op) (v : ℤ) → Given ops held row values → slice_get ops (length values) ≡ Some op
+    → outcome_of held row values op ≡ Ok v → Given ops held row (values ++ v ∷ [])
+given_more ops held row values op v given there is =
+    let within : length values < length ops = slice_get_within ops (length values) op there in
+    let P : ℕ → Type 0 = λ i. (x : Op) → slice_get ops i ≡ Some x → outcome_of held row (take i (values ++ v ∷ [])) x ≡ Ok (at (values ++ v ∷ []) i) in
+    let below : (i : ℕ) → i < length values → P i = λ i lt x e.
+    let le : i ≤ length values = omega arith in
+    subst (λ ws. outcome_of held row ws x ≡ Ok (at (values ++ v ∷ []) i)) (sym (take_push values v i le))
+    (subst (λ w. outcome_of held row (take i values) x ≡ Ok w) (sym (at_push values v i lt)) (given.each i x lt e)) in
+    let here : P (length values) = λ x e.
+    let same : op ≡ x = cc in
+    let le : length values ≤ length values = omega arith in
+    subst (λ ws. outcome_of held row ws x ≡ Ok (at (values ++ v ∷ []) (length values))) (sym (take_push values v (length values) le ∙ take_all (length values) values le))
+    (subst (λ w. outcome_of held row values x ≡ Ok w) (sym (at_last values v)) (subst (λ o. outcome_of held row values o ≡ Ok v) same is)) in
+    let all : (i : ℕ) → i < length values + 1 → P i = below_more P (length values) below here in
+    record { few = omega (arith, length_push values v); each = λ i x lt e. all i (omega (arith, length_push values v)) x e }
+
+-- the values of a cycle are given; where it stops, the next operation gives why; else they are all
+record IsCycle (ops : List Op) (held row : List ℤ) (c : Cycle) : Type 0 where
+  given : Given ops held row c.values
+  stopped : (why : StopKind) → c.stop ≡ Some why → (op : Op) × (slice_get ops (length c.values) ≡ Some op) × (outcome_of held row c.values op ≡ Err why)
+  whole : c.stop ≡ None → length c.values ≡ length ops
+
+is_after : (ops : List Op) (held row values : List ℤ) (op : Op) (next : ℤ → Cycle) (o : Outcome) → outcome_of held row values op ≡ o
+    → slice_get ops (length values) ≡ Some op → Given ops held row values → ((v : ℤ) → o ≡ Ok v → IsCycle ops held row (next v))
+    → IsCycle ops held row (after values next o)
+is_after ops held row values op next (Ok v) e there given rest = rest v refl
+is_after ops held row values op next (Err why) e there given rest =
+    record { given = given; stopped = λ w is. let same : why ≡ w = cc in (op, there, e ∙ ap Err same); whole = λ is. absurd cc }
+
+cycle_is : (held row values : List ℤ) (before ops : List Op) → Given (before ++ ops) held row values → length values ≡ length before
+    → IsCycle (before ++ ops) held row (cycle_from held row values ops)
+cycle_is held row values before [] given len = record {
+  given = given;
+  stopped = λ why is. absurd cc;
+  whole = λ is. len ∙ ap length (sym (append-nil before));
+}
+cycle_is held row values before (op ∷ ops) given len =
+    let there : slice_get (before ++ op ∷ ops) (length values) ≡ Some op = ap (slice_get (before ++ op ∷ ops)) len ∙ get_middle before op ops in
+    is_after (before ++ op ∷ ops) held row values op (λ v. cycle_from held row (values ++ v ∷ []) ops) (outcome_of held row values op) refl there given
+    (λ v is.
+    let more : Given (before ++ op ∷ ops) held row (values ++ v ∷ []) = given_more (before ++ op ∷ ops) held row values op v given there is in
+    let many : length (values ++ v ∷ []) ≡ length (before ++ op ∷ []) = simp length-append (omega arith) in
+    subst (λ all. IsCycle all held row (cycle_from held row (values ++ v ∷ []) ops)) (append_assoc before (op ∷ []) ops)
+    (cycle_is held row (values ++ v ∷ []) (before ++ op ∷ []) ops
+    (subst (λ all. Given all held row (values ++ v ∷ [])) (sym (append_assoc before (op ∷ []) ops)) more) many))
+
+of_cycle : (g : Lists) (held row : List ℤ) → IsCycle g.operations held row (cycle g held row)
+of_cycle g held row = cycle_is held row [] [] g.operations (given_none g.operations held row) refl
+
+-- ---- the cells
+
+unless : (P : List ℤ → Type 0) (held next : List ℤ) (later : List ℤ → List ℤ) (s : Option StopKind) → P held → (s ≡ None → P (later next))
+    → P (unless_stopped held next later s)
+unless P held next later None p q = q refl
+unless P held next later (Some why) p q = p
+
+pub kept_settled : (g : Lists) (cells : List Range) (a : Audit) → IsWalk g.operations cells a → AreKept g cells a.known → AreSettled g cells
+kept_settled g cells a walk kept = record {
+  at_first = kept.at_first;
+  next = λ held row hold fit whole.
+      let c = of_cycle g held row in
+      kept.next (cycle g held row).values (walk.fits held row (cycle g held row).values hold c.given) (c.whole whole);
+}
+
+cells_hold : (g : Lists) (cells : List Range) → AreSettled g cells → OperandLaws → IsGraph g → (held : List ℤ) → Hold cells held → CellsFit g held
+    → (rows : List (List ℤ)) → Hold cells (cells_after g held rows)
+cells_hold g cells settled laws graph held hold fit [] = hold
+cells_hold g cells settled laws graph held hold fit (row ∷ rows) =
+    unless (Hold cells) held (stored g (cycle g held row).values) (λ next. cells_after g next rows) (cycle g held row).stop hold
+    (λ whole. cells_hold g cells settled laws graph (stored g (cycle g held row).values) (settled.next held row hold fit whole)
+    (laws.cells_kept g held row graph fit whole) rows)
+
+cells_fit : (g : Lists) → OperandLaws → IsGraph g → (held : List ℤ) → CellsFit g held → (rows : List (List ℤ)) → CellsFit g (cells_after g held rows)
+cells_fit g laws graph held fit [] = fit
+cells_fit g laws graph held fit (row ∷ rows) =
+    unless (CellsFit g) held (stored g (cycle g held row).values) (λ next. cells_after g next rows) (cycle g held row).stop fit
+    (λ whole. cells_fit g laws graph (stored g (cycle g held row).values) (laws.cells_kept g held row graph fit whole) rows)
+
+-- ---- inputs
+
+same_fits : (s t : Ty) (v : ℤ) → same_type s t ≡ true → fits s v ≡ true → fits t v ≡ true
+same_fits ty.Bool ty.Bool v same h = h
+same_fits ty.Bool ty.Int v same h = absurd cc
+same_fits ty.Bool ty.Dint v same h = absurd cc
+same_fits ty.Bool ty.Lint v same h = absurd cc
+same_fits ty.Int ty.Bool v same h = absurd cc
+same_fits ty.Int ty.Int v same h = h
+same_fits ty.Int ty.Dint v same h = absurd cc
+same_fits ty.Int ty.Lint v same h = absurd cc
+same_fits ty.Dint ty.Bool v same h = absurd cc
+same_fits ty.Dint ty.Int v same h = absurd cc
+same_fits ty.Dint ty.Dint v same h = h
+same_fits ty.Dint ty.Lint v same h = absurd cc
+same_fits ty.Lint ty.Bool v same h = absurd cc
+same_fits ty.Lint ty.Int v same h = absurd cc
+same_fits ty.Lint ty.Dint v same h = absurd cc
+same_fits ty.Lint ty.Lint v same h = h
+
+first_of_four : (a b c d : Bool) → (a && b && c && d) ≡ true → a ≡ true
+first_of_four true b c d h = refl
+first_of_four false true true true h = absurd cc
+first_of_four false true true false h = absurd cc
+first_of_four false true false d h = absurd cc
+first_of_four false false c d h = absurd cc
+
+no_entry : (o : Option Entry) → o ≡ None → is_some o ≡ true → ⊥
+no_entry None is h = absurd cc
+no_entry (Some x) is h = absurd cc
+
+-- the value of an INPUT in a row that fits
+input_value : (p : Place) (i : ℕ) (from to : Ty) (imm : ℤ) (row : List ℤ) (o : Option Var) → p.input ≡ numbered i o → is_some p.input ≡ true
+    → from_fits p.input kind.Input from ≡ true → same_type from to ≡ true → imm_fits p.input kind.Input to imm ≡ true
+    → ((v : Var) → o ≡ Some v → fits v.ty (at row i) ≡ true) → fits to (at row (unsigned_abs imm)) ≡ true
+input_value p i from to imm row None is there types same number fit = absurd (no_entry p.input is there)
+input_value p i from to imm row (Some v) is there types same number fit =
+    let first : fits from (at row i) ≡ true =
+    same_fits v.ty from (at row i) (subst (λ (e : Option Entry). from_fits e kind.Input from ≡ true) is types) (fit v refl) in
+    let second : fits to (at row i) ≡ true = same_fits from to (at row i) same first in
+    let place : imm ≡ pos i = (Decides-int_eq imm (pos i)).0 (subst (λ (e : Option Entry). imm_fits e kind.Input to imm ≡ true) is number) in
+    subst (λ n. fits to (at row n) ≡ true) (sym (ap unsigned_abs place)) second
+
+own_fits_by : (p : Place) (i : ℕ) (k : Kind) (from to : Ty) (imm : ℤ) (row : List ℤ) (o : Option Var) → p.input ≡ numbered i o → kind_fits p k ≡ true
+    → from_fits (entry_of p k) k from ≡ true → ty_fits k from to ≡ true → imm_fits (entry_of p k) k to imm ≡ true
+    → ((v : Var) → o ≡ Some v → fits v.ty (at row i) ≡ true) → is_input k ≡ true → fits to (own row k imm) ≡ true
+own_fits_by p i kind.Input from to imm row o is there types same number fit input =
+    input_value p i from to imm row o is (first_of_four (is_some p.input) _ _ _ there) types same number fit
+own_fits_by p i _ from to imm row o is there types same number fit input = absurd cc
+
+own_fits : (g : Lists) (row : List ℤ) (i : ℕ) (op : Op) → EntryLaws → IsGraph g → RowFits g row → slice_get g.operations i ≡ Some op → OwnFits row op
+own_fits g row i op laws graph fit there =
+    let rules = laws.operation g i op graph.part there in
+    own_fits_by (place_of (scope g) i) i op.kind op.from op.ty op.imm row (slice_get g.inputs i) refl rules.kind rules.from rules.ty rules.imm
+    (λ v e. fit i v e)
+
+-- ---- the promises
+
+named_from : (g : Lists) (cells : List Range) (a : Audit) → IsWalk g.operations cells a → OperandLaws → EntryLaws → IsGraph g → (held row : List ℤ)
+    → Hold cells held → CellsFit g held → RowFits g row → (why : StopKind) → (cycle g held row).stop ≡ Some why
+    → is_named why (slice_get a.stops (length (cycle g held row).values)) ≡ true
+named_from g cells a walk laws entries graph held row hold fit row_fits why is =
+    let c = of_cycle g held row in
+    let next = c.stopped why is in
+    let values = (cycle g held row).values in
+    let no : why ≢ stop.Operand = λ e. laws.cycle g held row graph fit (is ∙ ap Some e) in
+    walk.names held row values next.0 why hold c.given next.1 (own_fits g row (length values) next.0 entries graph row_fits next.1) no next.2
+
+pub holds : (g : Lists) (cells : List Range) (a : Audit) → IsWalk g.operations cells a → AreSettled g cells → OperandLaws → IsGraph g → Holds g a.known
+holds g cells a walk settled laws graph = λ rows row.
+    let held = cells_after g (initial g) rows in
+    let hold = cells_hold g cells settled laws graph (initial g) settled.at_first (laws.cells_at_first g graph) rows in
+    walk.fits held row (cycle g held row).values hold (of_cycle g held row).given
+
+pub names : (g : Lists) (cells : List Range) (a : Audit) → IsWalk g.operations cells a → AreSettled g cells → OperandLaws → EntryLaws → IsGraph g
+    → Names g a.stops
+names g cells a walk settled laws entries graph = λ rows row why row_fits is.
+    let held = cells_after g (initial g) rows in
+    let hold = cells_hold g cells settled laws graph (initial g) settled.at_first (laws.cells_at_first g graph) rows in
+    let fit = cells_fit g laws graph (initial g) (laws.cells_at_first g graph) rows in
+    named_from g cells a walk laws entries graph held row hold fit row_fits why is
+
+named_after : (g : Lists) (stops : List Stops) (values : List ℤ) (next : List ℤ → Run) (s : Option StopKind)
+    → ((why : StopKind) → s ≡ Some why → is_named why (slice_get stops (length values)) ≡ true)
+    → (s ≡ None → IfSome (next (stored g values)).end (λ e. is_named e.kind (slice_get stops e.op) ≡ true))
+    → IfSome (after_cycle g values next s).end (λ e. is_named e.kind (slice_get stops e.op) ≡ true)
+named_after g stops values next None named rest = rest refl
+named_after g stops values next (Some why) named rest = named why refl
+
+ends_from : (g : Lists) (cells : List Range) (a : Audit) → IsWalk g.operations cells a → AreSettled g cells → OperandLaws → EntryLaws → IsGraph g
+    → (held : List ℤ) → Hold cells held → CellsFit g held → (rows : List (List ℤ)) → RowsFit g rows
+    → IfSome (run_from g held rows).end (λ e. is_named e.kind (slice_get a.stops e.op) ≡ true)
+ends_from g cells a walk settled laws entries graph held hold fit [] rows_fit = tt
+ends_from g cells a walk settled laws entries graph held hold fit (row ∷ rows) rows_fit =
+    named_after g a.stops (cycle g held row).values (λ kept. run_from g kept rows) (cycle g held row).stop
+    (λ why is. named_from g cells a walk laws entries graph held row hold fit (rows_fit 0 row refl) why is)
+    (λ whole. ends_from g cells a walk settled laws entries graph (stored g (cycle g held row).values) (settled.next held row hold fit whole)
+    (laws.cells_kept g held row graph fit whole) rows (λ n r e. rows_fit (suc n) r e))
+
+pub ends : (g : Lists) (cells : List Range) (a : Audit) → IsWalk g.operations cells a → AreSettled g cells → OperandLaws → EntryLaws → IsGraph g
+    → Ends g a.stops
+ends g cells a walk settled laws entries graph = λ rows rows_fit.
+    ends_from g cells a walk settled laws entries graph (initial g) settled.at_first (laws.cells_at_first g graph) rows rows_fit

@@ -1,0 +1,9 @@
+mod Bits
+mod Comparisons
+mod Cycles
+mod Integers
+mod Operands
+mod Outcomes
+mod Steps
+mod ValueBounds
+mod Worked

@@ -1,0 +1,11 @@
+use Rattle.std.proofs.Common.{◌≡◌, length}
+use Rattle.range_audit.proofs.Steps.{FitsSoFar, NamesSoFar}
+use Rattle.range_audit.proofs.walk.walk.Given as goal
+
+abbrev pub invariant-operations : goal.invariant-operations
+invariant-operations l = record {
+  known_many : length l.known.items ≡ l.i;
+  stops_many : length l.stops.items ≡ l.i;
+  fits : FitsSoFar l.graph.operations l.cells l.known.items;
+  names : NamesSoFar l.graph.operations l.cells l.stops.items;
+}

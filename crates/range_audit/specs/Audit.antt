@@ -1,0 +1,53 @@
+-- Audit: what the ranges of a graph's operations say of its runs, and which of its operations may stop.
+use Rattle.std.specs.Prelude.{◌≡◌, ℕ, ℤ, Bool, true, false, List, length, slice_get, Option, Some, None, IfSome}
+use Rattle.vcp_base.specs.declared.kind.StopKind.{StopKind}
+use Rattle.vcp_base.specs.declared.kind.StopKind.TheVariants as stop
+use Rattle.vcp_base.specs.Types.{fits}
+use Rattle.vcp_base.specs.Values.{at}
+use Rattle.op_graph.specs.declared.op.Var.{Var}
+use Rattle.op_graph.specs.Lists.{Lists}
+use Rattle.op_graph.specs.GraphRun.{Cycle, cycle, cells_after, initial, graph_run}
+use Rattle.range_audit.specs.declared.range.Range.{Range}
+use Rattle.range_audit.specs.declared.range.Stops.{Stops}
+use Rattle.range_audit.specs.Intervals.{Fit}
+
+-- what is told of each operation: the range of its values, and why it may stop
+pub record Audit : Type 0 where
+  pub known : List Range
+  pub stops : List Stops
+
+-- why an operation may stop; an operand is never outside its type
+abbrev pub may_stop : StopKind → Stops → Bool
+may_stop stop.Range s = s.range
+may_stop stop.DivZero s = s.div_zero
+may_stop stop.Operand s = false
+
+-- the operation is there, and may stop so
+abbrev pub is_named : StopKind → Option Stops → Bool
+is_named why None = false
+is_named why (Some s) = may_stop why s
+
+-- each input has a value of its type
+abbrev pub RowFits : Lists → List ℤ → Type 0
+RowFits g row = (k : ℕ) (v : Var) → slice_get g.inputs k ≡ Some v → fits v.ty (at row k) ≡ true
+
+-- each row fits
+abbrev pub RowsFit : Lists → List (List ℤ) → Type 0
+RowsFit g rows = (n : ℕ) (row : List ℤ) → slice_get rows n ≡ Some row → RowFits g row
+
+-- the cycle on a row, after the cycles on these rows
+abbrev pub cycle_after : Lists → List (List ℤ) → List ℤ → Cycle
+cycle_after g rows row = cycle g (cells_after g (initial g) rows) row
+
+-- each value of each cycle is in the range of its operation, on any rows
+abbrev pub Holds : Lists → List Range → Type 0
+Holds g known = (rows : List (List ℤ)) (row : List ℤ) → Fit known (cycle_after g rows row).values
+
+-- a cycle on a row that fits stops only at an operation that is named, and only so
+abbrev pub Names : Lists → List Stops → Type 0
+Names g stops = (rows : List (List ℤ)) (row : List ℤ) (why : StopKind) → RowFits g row → (cycle_after g rows row).stop ≡ Some why
+    → is_named why (slice_get stops (length (cycle_after g rows row).values)) ≡ true
+
+-- a run over rows that fit ends at an operation that is named, or where its rows end
+abbrev pub Ends : Lists → List Stops → Type 0
+Ends g stops = (rows : List (List ℤ)) → RowsFit g rows → IfSome (graph_run g rows).end (λ e. is_named e.kind (slice_get stops e.op) ≡ true)

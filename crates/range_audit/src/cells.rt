@@ -1,0 +1,174 @@
+//! Ranges in which the cells are always.
+
+ghost use Rattle.std.specs.Prelude.{◌≡◌, ◌<◌, ℕ, ℤ, true, length, slice_get, Some, IfOk};
+ghost use Rattle.op_graph.specs.Rules.{IsGraph};
+ghost use Rattle.range_audit.specs.Intervals.{IsIn};
+ghost use Rattle.range_audit.specs.Walking.{AreKept, CellKept, KeptAt, AreSettled};
+
+use crate::range::{Range, range_at};
+use crate::walk::walk;
+use op_graph::{Graph, Loaded, entries_keep_their_rules, operands_are_in_their_types};
+use std::alloc::Global;
+use vcp_base::{Memory, Ty, greatest, least};
+
+/// How many rounds are tried.
+const ROUNDS: u32 = 64;
+
+/// The first round in which an end that moves goes to the end of the type.
+const FIRST_WIDENED: u32 = 3;
+
+/// What the LOAD of cell `k` makes.
+fn load_of(graph: &Graph, k: usize) -> Loaded
+    requires { k < length graph.now.loads }
+    ensures { slice_get graph.now.loads k ≡ Some result }
+{
+    let loads = graph.loads();
+    loads[k]
+}
+
+/// The number of the STORE of cell `k`.
+fn store_of(graph: &Graph, k: usize) -> u32
+    requires { k < length graph.now.stores }
+    ensures { slice_get graph.now.stores k ≡ Some result }
+{
+    let stores = graph.stores();
+    stores[k]
+}
+
+/// The range of what is stored in cell `k`.
+fn stored_range(graph: &Graph, known: &[Range], k: usize) -> Range
+    requires graph { IsGraph graph.now }
+    requires there { k < length graph.now.stores }
+    requires known { length known.now ≡ length graph.now.operations }
+    ensures { (n : ℕ) → slice_get graph.now.stores k ≡ Some n → slice_get known.now n ≡ Some result }
+{
+    // The STORE of each cell is an operation.
+    entries_keep_their_rules();
+    let store = store_of(graph, k);
+    range_at(known, store as usize)
+}
+
+/// Whether the initial value and each value that is stored are in a cell's range.
+fn is_kept(cell: Range, load: Loaded, stored: Range) -> bool
+    ensures { result ≡ true → CellKept cell load.init stored }
+{
+    !cell.excludes(load.init) && stored.is_inside(cell)
+}
+
+/// Whether cell `k` is in its range at first, and stays there where the operations are in theirs.
+fn is_cell_kept(graph: &Graph, cells: &[Range], known: &[Range], k: usize) -> bool
+    requires graph { IsGraph graph.now }
+    requires there { k < length graph.now.stores }
+    requires cells { length cells.now ≡ length graph.now.stores }
+    requires known { length known.now ≡ length graph.now.operations }
+    ensures { result ≡ true → KeptAt graph.now cells.now known.now k }
+{
+    let cell = range_at(cells, k);
+    let load = load_of(graph, k);
+    let stored = stored_range(graph, known, k);
+    is_kept(cell, load, stored)
+}
+
+/// Whether the cells are in their ranges at first, and stay there where the operations are in theirs.
+fn are_kept(graph: &Graph, cells: &[Range], known: &[Range]) -> bool
+    requires graph { IsGraph graph.now }
+    requires cells { length cells.now ≡ length graph.now.stores }
+    requires known { length known.now ≡ length graph.now.operations }
+    ensures { result ≡ true → AreKept graph.now cells.now known.now }
+{
+    // The STORE of each cell is an operation.
+    entries_keep_their_rules();
+    'cells: for k in 0..cells.len() {
+        let kept = is_cell_kept(graph, cells, known, k);
+        if !kept {
+            return false;
+        }
+    }
+    true
+}
+
+/// The range of a cell for the next round: the values that it had, and those that are stored. From the fourth round on an end that
+/// moves goes to the end of the type, so that the rounds end.
+fn widened(cell: Range, stored: Range, ty: Ty, round: u32) -> Range {
+    let types = round >= FIRST_WIDENED;
+    let low = if stored.low >= cell.low {
+        cell.low
+    } else if types {
+        least(ty)
+    } else {
+        stored.low
+    };
+    let high = if stored.high <= cell.high {
+        cell.high
+    } else if types {
+        greatest(ty)
+    } else {
+        stored.high
+    };
+    Range {
+        low,
+        high,
+        nonzero: cell.nonzero && stored.nonzero,
+    }
+}
+
+/// The ranges of the cells for the next round.
+fn renew(graph: &Graph, cells: &mut [Range], known: &[Range], round: u32)
+    requires graph { IsGraph graph.now }
+    requires cells { length cells.old ≡ length graph.now.stores }
+    requires known { length known.now ≡ length graph.now.operations }
+    ensures { length cells.new ≡ length cells.old }
+{
+    'cells: for k in 0..cells.len() {
+        let stored = stored_range(graph, known, k);
+        let load = load_of(graph, k);
+        cells[k] = widened(cells[k], stored, load.ty, round);
+    }
+}
+
+/// The initial value of each cell, as a range.
+fn first_cells(alloc: Global, graph: &Graph) -> Result<Vec<Range>, Memory>
+    ensures { IfOk result (λ cells. length cells.items ≡ length graph.now.loads) }
+{
+    let mut cells = Vec::with_capacity(alloc, graph.cells() as usize)?;
+    'cells: for cell in graph.loads() {
+        cells.push(Range::only(cell.init))?;
+    }
+    Ok(cells)
+}
+
+/// The type of each cell, as a range.
+fn typed_cells(alloc: Global, graph: &Graph) -> Result<Vec<Range>, Memory>
+    requires { IsGraph graph.now }
+    ensures many { IfOk result (λ cells. length cells.items ≡ length graph.now.loads) }
+    ensures settled { IfOk result (λ cells. AreSettled graph.now cells.items) }
+{
+    // Each cell always has a value of its type.
+    operands_are_in_their_types();
+    let count = graph.cells() as usize;
+    let mut cells = Vec::with_capacity(alloc, count)?;
+    'cells: for k in 0..count {
+        let load = load_of(graph, k);
+        let range = Range::of_type(load.ty);
+        cells.push(range)?;
+    }
+    Ok(cells)
+}
+
+/// Ranges in which the cells are always. Where none are found in the rounds that are tried, these are the types.
+pub(crate) fn settled(alloc: Global, graph: &Graph) -> Result<Vec<Range>, Memory>
+    ensures graph { IsGraph graph.now }
+    ensures many { IfOk result (λ cells. length cells.items ≡ length graph.now.stores) }
+    ensures settled { IfOk result (λ cells. AreSettled graph.now cells.items) }
+{
+    let _operations = graph.len();
+    let mut cells = first_cells(alloc, graph)?;
+    'rounds: for round in 0..ROUNDS {
+        let told = walk(alloc, graph, &cells)?;
+        if are_kept(graph, &cells, told.known()) {
+            return Ok(cells);
+        }
+        renew(graph, &mut cells, told.known(), round);
+    }
+    typed_cells(alloc, graph)
+}

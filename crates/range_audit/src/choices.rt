@@ -1,0 +1,121 @@
+//! What a comparison tells of the two values that it compares, where a SEL takes one of them by it.
+
+ghost use Rattle.std.specs.Prelude.{◌≡◌, ◌<◌, ◌≤◌, ◌<ℤ◌, ◌≤ℤ◌, ℤ, true, List, length, int_lt};
+ghost use Rattle.vcp_base.specs.Kinds.{truth as truth_of};
+ghost use Rattle.vcp_base.specs.Values.{at};
+ghost use Rattle.op_graph.specs.Rules.{IsGraph};
+ghost use Rattle.range_audit.specs.Intervals.{IsIn, IsWithin, Fit};
+ghost use Rattle.range_audit.specs.Walking.{Given, Taken};
+
+use crate::range::{Bounds, Range, earlier_range};
+use op_graph::{Graph, Op, entries_keep_their_rules, operands_are_there};
+use vcp_base::Kind;
+
+/// Bounds of x, where x is less than y.
+fn lesser_one(a: Range, b: Range) -> Bounds
+    ensures { (x y : ℤ) → IsIn a x → IsIn b y → x <ℤ y → IsWithin result x }
+{
+    Bounds {
+        low: a.low as i128,
+        high: b.high as i128 - 1,
+        nonzero: false,
+    }
+}
+
+/// Bounds of y, where x is less than y.
+fn larger_one(a: Range, b: Range) -> Bounds
+    ensures { (x y : ℤ) → IsIn a x → IsIn b y → x <ℤ y → IsWithin result y }
+{
+    Bounds {
+        low: a.low as i128 + 1,
+        high: b.high as i128,
+        nonzero: false,
+    }
+}
+
+/// Bounds of both, where x is no less than y.
+fn no_less(a: Range, b: Range) -> Bounds
+    ensures first { (x y : ℤ) → IsIn a x → IsIn b y → y ≤ℤ x → IsWithin result x }
+    ensures second { (x y : ℤ) → IsIn a x → IsIn b y → y ≤ℤ x → IsWithin result y }
+{
+    Bounds {
+        low: b.low as i128,
+        high: a.high as i128,
+        nonzero: false,
+    }
+}
+
+/// Whether the two numbers are one.
+fn is_one(n: u32, m: u32) -> bool
+    ensures { result ≡ true → n ≡ m }
+{
+    n == m
+}
+
+/// The range of operation `n`, which is in `r`, where of the operations that `op` compares the first is less than the second.
+fn where_less(op: &Op, a: Range, b: Range, n: u32, r: Range) -> Range
+    ensures { (vs : List ℤ) → IsIn a (at vs op.now.a) → IsIn b (at vs op.now.b) → at vs op.now.a <ℤ at vs op.now.b → IsIn r (at vs n) → IsIn result (at vs n) }
+{
+    let is_first = is_one(n, op.a);
+    if is_first {
+        let bounds = lesser_one(a, b);
+        return r.met(bounds);
+    }
+    let is_second = is_one(n, op.b);
+    if is_second {
+        let bounds = larger_one(a, b);
+        return r.met(bounds);
+    }
+    r
+}
+
+/// The same where the first is no less than the second.
+fn where_no_less(op: &Op, a: Range, b: Range, n: u32, r: Range) -> Range
+    ensures { (vs : List ℤ) → IsIn a (at vs op.now.a) → IsIn b (at vs op.now.b) → at vs op.now.b ≤ℤ at vs op.now.a → IsIn r (at vs n) → IsIn result (at vs n) }
+{
+    let bounds = no_less(a, b);
+    let is_first = is_one(n, op.a);
+    if is_first {
+        return r.met(bounds);
+    }
+    let is_second = is_one(n, op.b);
+    if is_second {
+        return r.met(bounds);
+    }
+    r
+}
+
+/// The same where the comparison is `truth`.
+fn compared(op: &Op, truth: bool, a: Range, b: Range, n: u32, r: Range) -> Range
+    ensures { (vs : List ℤ) → IsIn a (at vs op.now.a) → IsIn b (at vs op.now.b) → Taken truth (truth_of (int_lt (at vs op.now.a) (at vs op.now.b)))
+        → IsIn r (at vs n) → IsIn result (at vs n) }
+{
+    if truth {
+        return where_less(op, a, b, n, r);
+    }
+    where_no_less(op, a, b, n, r)
+}
+
+/// The range of operation `n` in the case that condition `c` is `truth`.
+pub(crate) fn case_range(graph: &Graph, known: &[Range], c: u32, truth: bool, n: u32) -> Range
+    requires graph { IsGraph graph.now }
+    requires condition { c < length known.now }
+    requires there { n < length known.now }
+    requires many { length known.now ≤ length graph.now.operations }
+    ensures { (held row vs : List ℤ) → Given graph.now.operations held row vs → Fit known.now vs → length known.now ≤ length vs → Taken truth (at vs c)
+        → IsIn result (at vs n) }
+{
+    // What a condition compares are earlier operations.
+    operands_are_there();
+    entries_keep_their_rules();
+    let op = graph.operation(c);
+    let r = earlier_range(known, n);
+    match op.kind {
+        Kind::Lt => {
+            let a = earlier_range(known, op.a);
+            let b = earlier_range(known, op.b);
+            compared(&op, truth, a, b, n, r)
+        }
+        _ => r,
+    }
+}

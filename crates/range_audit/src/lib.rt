@@ -1,0 +1,16 @@
+//! Which operations of a graph can stop, and between which bounds their values lie, whatever the rows.
+//!
+//! A walk over the operations of one cycle tells the range of each from those of its operands, where each cell is in a range. Rounds of
+//! walks widen the ranges of the cells, until a cycle that begins in them ends in them.
+#![tactic(auto)]
+
+mod audit;
+mod cells;
+mod choices;
+mod range;
+mod told;
+mod values;
+mod walk;
+
+pub use audit::{Ranges, ranges_of};
+pub use range::{Range, Stops};

@@ -1,0 +1,27 @@
+//! A walk over the operations of a cycle, in their order.
+
+ghost use Rattle.std.specs.Prelude.{◌≡◌, length, IfOk};
+ghost use Rattle.range_audit.specs.Walking.{IsWalk};
+
+use crate::audit::Ranges;
+use crate::range::Range;
+use crate::told::tell;
+use op_graph::Graph;
+use std::alloc::Global;
+use vcp_base::Memory;
+
+/// What is told of the operations of a cycle at whose beginning the cells are in these ranges.
+pub(crate) fn walk(alloc: Global, graph: &Graph, cells: &[Range]) -> Result<Ranges, Memory>
+    requires { length cells.now ≡ length graph.now.stores }
+    ensures { IfOk result (λ a. IsWalk graph.now.operations cells.now a) }
+{
+    let count = graph.len();
+    let mut known = Vec::with_capacity(alloc, count as usize)?;
+    let mut stops = Vec::with_capacity(alloc, count as usize)?;
+    'operations: for i in 0..count {
+        let told = tell(graph, cells, &known, i);
+        known.push(told.range)?;
+        stops.push(told.stops)?;
+    }
+    Ok(Ranges::new(known, stops))
+}
