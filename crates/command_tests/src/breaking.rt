@@ -31,13 +31,7 @@ struct Breaking {
 }
 
 impl Files for Breaking {
-    ghost held = { λ _. None };
-
-    ghost rest = { λ _. None };
-
-    ghost faults = { λ s. s.faults };
-
-    ghost broken = { λ s. s.faults };
+    ghost seen = { λ s. record { held = None; rest = None; faults = s.faults; broken = s.faults } };
 
     fn begin(&mut self, name: &[u8]) -> Result<(), Failed> {
         let call = self.calls;

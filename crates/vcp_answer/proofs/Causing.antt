@@ -10,13 +10,15 @@ use Rattle.vcp_answer.specs.Printing.{Report}
 use Rattle.vcp_answer.specs.Endings.{TellsLine, ended, cut, short, unread, unmade, Given, Causes, NothingFailed, HasOwnStatus}
 use Rattle.vcp_answer.specs.Endings.{DoneIsMeant, EndingsHaveCauses, GivingUpHasCauses}
 use Rattle.vcp_answer.specs.Kinds.{Task, lacks, answers, compiles, runs, judges, Done, lack_answer}
-use Rattle.vcp_answer.specs.Reports.{End, complete, stopped, refused, run_status}
+use Rattle.vcp_answer.specs.Reports.{RunEnd, complete, stopped, refused, run_status}
 use Rattle.vcp_answer.specs.RunKind.{job_answer, run_read}
-use Rattle.vcp_answer.specs.Seen.{Outside, SinkSeen, UnitSeen}
+use Rattle.coded_unit.specs.Seen.{UnitSeen}
+use Rattle.vcp_outside.specs.Seen.{SinkSeen}
+use Rattle.vcp_answer.specs.Seen.{Outside}
 
 -- ---- the status of an answer
 
-pub run_small : (e : End) (behind : Option RowFault) → run_status e behind ≤ 3
+pub run_small : (e : RunEnd) (behind : Option RowFault) → run_status e behind ≤ 3
 run_small complete None = lit≤ tt
 run_small complete (Some f) = lit≤ tt
 run_small (stopped s) behind = lit≤ tt

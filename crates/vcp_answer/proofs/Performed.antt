@@ -11,7 +11,9 @@ use Rattle.vcp_answer.specs.Endings as ends
 use Rattle.vcp_answer.specs.Kinds.{Task, lacks, answers, compiles, runs, judges, Done}
 use Rattle.vcp_answer.specs.Performing.{Still, Reaches, done, cut, short, unread, unmade, Performs}
 use Rattle.vcp_answer.specs.RunKind.{run_read}
-use Rattle.vcp_answer.specs.Seen.{Outside, SinkSeen, UnitSeen, Untouched, moment_of}
+use Rattle.coded_unit.specs.Seen.{UnitSeen}
+use Rattle.vcp_outside.specs.Seen.{SinkSeen}
+use Rattle.vcp_answer.specs.Seen.{Outside, Untouched, moment_of}
 use Rattle.vcp_answer.proofs.Causing.{endings_have_causes, giving_up_has_causes, five_lacks, run_small, status_of}
 
 -- A command comes to one task at most; to an answer only with a status of its own; and to a lacking name only where not all of its files

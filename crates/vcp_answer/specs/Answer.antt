@@ -1,4 +1,4 @@
--- Answer: what is written and the status; what is run, and which faults are judged.
+-- Answer: what is written and the status; what is run, and which groups of faults are judged.
 use Rattle.std.specs.Prelude.{ℕ, ℤ, List, []}
 use Rattle.op_graph.specs.Lists.{Lists}
 use Rattle.signature_table.specs.Signatures.{Numbers}
@@ -16,12 +16,12 @@ pub data Subject : Type 0 where
   source : Program → Subject
   image : Lists → Subject
 
--- Faults to be judged: over which graph, with which table, on which rows of inputs, and which faults, in order.
+-- Groups of faults to be judged: over which graph, with which table, on which rows of inputs, and which groups, in order.
 pub record Campaign : Type 0 where
   pub graph : Lists
   pub table : Numbers
   pub rows : List (List ℤ)
-  pub faults : List Fault
+  pub groups : List (List Fault)
 
 -- a text is printed and nothing else
 abbrev pub printed : List ℕ → Answer

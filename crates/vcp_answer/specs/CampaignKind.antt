@@ -1,39 +1,41 @@
--- CampaignKind: faults that are judged: what stands after all of them, and what stands where they were cut off.
+-- CampaignKind: groups of faults that are judged: what stands after all of them, and what stands where they were cut off.
 use Rattle.std.specs.Prelude.{ℕ, ◌≡◌, ◌≤◌, ◌+◌, List, ◌++◌, length, Option, All}
 use Rattle.fault_injector.specs.declared.verdict.Verdict.{Verdict}
 use Rattle.fault_injector.specs.Names.{Names}
 use Rattle.fault_campaign.specs.Campaign.{campaign_text, verdicts_of, EarlierTold}
 use Rattle.vcp_answer.specs.Answer.{Answer, Campaign, printed}
-use Rattle.vcp_answer.specs.Seen.{UnitSeen, Moment, IsHonest}
+use Rattle.coded_unit.specs.Seen.{UnitSeen}
+use Rattle.machine_run.specs.Moments.{Moment}
+use Rattle.vcp_answer.specs.Seen.{IsHonest}
 
--- the answer where faults have these verdicts: a line for each, and the totals
+-- the answer where groups have these verdicts: a line for each, and the totals
 abbrev pub verdicts_answer : Campaign → List Verdict → Answer
-verdicts_answer c verdicts = printed (campaign_text c.graph c.faults verdicts)
+verdicts_answer c verdicts = printed (campaign_text c.graph c.groups verdicts)
 
--- the verdicts that are meant: those of the definitions, fault by fault
+-- the verdicts that are meant: those of the definitions, group by group
 abbrev pub verdicts_meant : Campaign → List Verdict
-verdicts_meant c = verdicts_of c.table c.graph c.faults c.rows
+verdicts_meant c = verdicts_of c.table c.graph c.groups c.rows
 
 -- each verdict names outputs and operations of the graph alone
 abbrev pub AreOf : Campaign → List Verdict → Type 0
 AreOf c verdicts = All (Names (length c.graph.outputs) (length c.graph.operations)) verdicts
 
--- All faults were judged: a verdict for each, in order, and what is answered are their lines. Where no answer was wrong, they are the ones
--- that are meant. Of the calls by which faults are judged nothing is said.
+-- All groups were judged: a verdict for each, in order, and what is answered are their lines. Where no answer was wrong, they are the ones
+-- that are meant. Of the calls by which groups are judged nothing is said.
 pub record CampaignDone (c : Campaign) (before after : UnitSeen) (x : Answer) : Type 0 where
   pub verdicts : List Verdict
-  pub each : length verdicts ≡ length c.faults
+  pub each : length verdicts ≡ length c.groups
   pub names : AreOf c verdicts
   pub read : x ≡ verdicts_answer c verdicts
   pub honest : IsHonest before after → verdicts ≡ verdicts_meant c
 
--- Some of the faults were judged, where `Writes` says how much was written: so much of the lines of these verdicts and any later ones, with
+-- Some of the groups were judged, where `Writes` says how much was written: so much of the lines of these verdicts and any later ones, with
 -- all lines before that of the last verdict. Where no answer was wrong, it is so much of the lines that are meant.
 pub record CampaignLeft (c : Campaign) (Writes : Option (List ℕ) → Option (List ℕ) → List ℕ → Type 0) (before after : Moment) : Type 0 where
   pub verdicts : List Verdict
-  pub few : length verdicts ≤ length c.faults
+  pub few : length verdicts ≤ length c.groups
   pub names : AreOf c verdicts
-  pub text : (later : List Verdict) → length verdicts + length later ≡ length c.faults
+  pub text : (later : List Verdict) → length verdicts + length later ≡ length c.groups
       → Writes before.out.written after.out.written (verdicts_answer c (verdicts ++ later)).out
-  pub earlier : EarlierTold c.graph c.faults verdicts before.out.written after.out.written
+  pub earlier : EarlierTold c.graph c.groups verdicts before.out.written after.out.written
   pub honest : IsHonest before.unit after.unit → Writes before.out.written after.out.written (verdicts_answer c (verdicts_meant c)).out

@@ -12,7 +12,8 @@ use Rattle.vcp_answer.specs.Abouts.{Among, About, FileWord, AllHeld, without_uni
 use Rattle.vcp_answer.specs.Endings.{Answered, Came, Causes, IsNoFault, NothingFailed, TellsLine}
 use Rattle.vcp_answer.specs.Kinds.{Task, answers}
 use Rattle.machine_run.specs.Stops.{GrowsToStop}
-use Rattle.vcp_answer.specs.Seen.{SinkSeen, Outside, IsHonest}
+use Rattle.vcp_outside.specs.Seen.{SinkSeen}
+use Rattle.vcp_answer.specs.Seen.{Outside, IsHonest}
 
 -- ---- words that are no command
 

@@ -7,7 +7,9 @@ use Rattle.vcp_inputs.specs.Lines.{memory_text, read_fault_text, write_fault_tex
 use Rattle.vcp_answer.specs.Answer.{Answer}
 use Rattle.vcp_answer.specs.Abouts.{Among, About, FileWord}
 use Rattle.vcp_answer.specs.Kinds.{Task, lacks, answers, compiles, runs, judges, Done, Left, Meant}
-use Rattle.vcp_answer.specs.Seen.{SinkSeen, UnitSeen, Outside, IsHonest, Untouched, moment_of}
+use Rattle.coded_unit.specs.Seen.{UnitSeen}
+use Rattle.vcp_outside.specs.Seen.{SinkSeen}
+use Rattle.vcp_answer.specs.Seen.{Outside, IsHonest, Untouched, moment_of}
 
 -- ---- how a command ends
 

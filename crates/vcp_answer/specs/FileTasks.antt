@@ -40,8 +40,8 @@ TypedFile Then p held task = TakenFile TypedOf NotTyped most_source_bytes Then p
 abbrev pub ImageFile : (Image → Task → Type 0) → List ℕ → Held → Task → Type 0
 ImageFile Then m held task = TakenFile ImageOf NotImage most_image_bytes Then m (held m) task
 
--- the file F, of whose faults over a graph this is said
-abbrev pub ScriptFile : Lists → (List Fault → Task → Type 0) → List ℕ → Held → Task → Type 0
+-- the file F, of whose groups of faults over a graph this is said
+abbrev pub ScriptFile : Lists → (List (List Fault) → Task → Type 0) → List ℕ → Held → Task → Type 0
 ScriptFile g Then f held task = TakenFile (ScriptOf g) (NotScript g) most_source_bytes Then f (held f) task
 
 -- ---- ROWS

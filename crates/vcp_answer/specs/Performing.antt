@@ -10,7 +10,8 @@ use Rattle.vcp_answer.specs.Abouts.{Among, About, FileWord}
 use Rattle.vcp_answer.specs.Clauses.{IsEnd, IsTooLong, MayHold}
 use Rattle.vcp_answer.specs.Kinds.{Task, Done, Left}
 use Rattle.machine_run.specs.Stops.{GrowsToStop}
-use Rattle.vcp_answer.specs.Seen.{FilesSeen, Moment}
+use Rattle.vcp_outside.specs.Seen.{FilesSeen}
+use Rattle.machine_run.specs.Moments.{Moment}
 
 -- the unit was not called, and nothing was written to the output
 pub record Still (before after : Moment) : Type 0 where

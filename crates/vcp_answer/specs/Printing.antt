@@ -11,7 +11,7 @@ use Rattle.run_report.specs.SummaryLine.{summary_text}
 use Rattle.vcp_words.specs.Forms.{Code}
 use Rattle.vcp_answer.specs.Answer.{Answer}
 use Rattle.vcp_answer.specs.CycleWords.{words_in, words_meant, word_lines}
-use Rattle.vcp_answer.specs.Reports.{End, complete, stopped, refused, behind_text, run_status}
+use Rattle.vcp_answer.specs.Reports.{RunEnd, complete, stopped, refused, behind_text, run_status}
 use Rattle.vcp_answer.specs.Sums.{last_value, sum_of}
 
 -- ---- a run as it is told
@@ -19,7 +19,7 @@ use Rattle.vcp_answer.specs.Sums.{last_value, sum_of}
 -- the rows of outputs that were released, the end, and the words of it that are shown
 pub record Report : Type 0 where
   pub rows : List (List ℤ)
-  pub end : End
+  pub end : RunEnd
   pub words : List ℤ
 
 -- no row yet, no end and no word
@@ -27,7 +27,7 @@ abbrev pub no_report : Report
 no_report = record { rows = []; end = complete; words = [] }
 
 -- a run, and then a later one, unless it was ended
-abbrev pub goes_on : End → Report → Report → Report
+abbrev pub goes_on : RunEnd → Report → Report → Report
 goes_on complete r later = record { rows = r.rows ++ later.rows; end = later.end; words = r.words ++ later.words }
 goes_on (stopped s) r later = r
 goes_on (refused output found wanted) r later = r
@@ -81,7 +81,7 @@ summed_up number = record {
 }
 
 -- what stands behind the rows of a run that ended so, with outputs of these names; nothing where the next row is refused
-abbrev pub last_part : Printing → List (List ℕ) → Report → End → Option RowFault → List ℕ
+abbrev pub last_part : Printing → List (List ℕ) → Report → RunEnd → Option RowFault → List ℕ
 last_part p names r complete None = p.lines r.words ++ p.done r.rows
 last_part p names r complete (Some why) = []
 last_part p names r (stopped s) behind = p.lines r.words ++ stop_text (length r.rows) s

@@ -12,9 +12,11 @@ use Rattle.machine_run.specs.RowRuns.{SomeCycles, texts_from}
 use Rattle.vcp_words.specs.Forms.{Code}
 use Rattle.vcp_answer.specs.Answer.{Answer, Subject}
 use Rattle.vcp_answer.specs.GraphsOf.{MayRun}
-use Rattle.vcp_answer.specs.Reports.{end_read, end_told, names_of, told_of}
+use Rattle.vcp_answer.specs.Reports.{end_read, end_told, subject_outputs, told_of}
 use Rattle.vcp_answer.specs.Printing.{Report, Words, Printing, no_report, run_then, told_answer}
-use Rattle.vcp_answer.specs.Seen.{UnitSeen, Moment, IsHonest}
+use Rattle.coded_unit.specs.Seen.{UnitSeen}
+use Rattle.machine_run.specs.Moments.{Moment}
+use Rattle.vcp_answer.specs.Seen.{IsHonest}
 
 -- A run on a unit: of what, the rows of its inputs with the refusal behind them, the name by which lines tell ROWS, the numbers of its
 -- code, what is printed of it, and which words are shown.
@@ -52,7 +54,7 @@ run_meant j = record {
 
 -- the answer to a job whose run is told so
 abbrev pub job_answer : Job → Report → Answer
-job_answer j r = told_answer j.printing (names_of j.subject) j.rows_name j.rows r
+job_answer j r = told_answer j.printing (subject_outputs j.subject) j.rows_name j.rows r
 
 -- A whole run: some graph that may be run for the subject, and a cycle for each row up to the first that is not released. Where the log is
 -- told, it grew by the calls of these cycles with the answers that the unit gave, and by nothing else; where it is not, these are some

@@ -1,35 +1,9 @@
--- Seen: what contracts see of the objects that are handed in, at one moment: of files, of a unit and of a sink one record each.
-use Rattle.std.specs.Prelude.{ℕ, ◌≡◌, ◌<◌, ◌-◌, ◌^◌, List, [], Option}
+-- Seen: what contracts see, at one moment, of the objects that are handed in together.
+use Rattle.std.specs.Prelude.{◌≡◌, ◌<◌, ◌-◌, ◌^◌, []}
 use Rattle.std.specs.Io.KnownBytes.{Appends}
-use Rattle.coded_unit.specs.Log.{Entry}
-use Rattle.vcp_outside.specs.Held.{Held}
-
--- ---- one object
-
--- Files: the bytes under each name, and those of the begun file that are still unread, where they are told; how often a call failed, and
--- how often one failed that was not for a name that is lacking.
-pub record FilesSeen : Type 0 where
-  pub held : Option Held
-  pub rest : Option (List ℕ)
-  pub faults : ℕ
-  pub broken : ℕ
-
--- a sink: the bytes that were written to it, where they are told, and how often a write failed
-pub record SinkSeen : Type 0 where
-  pub written : Option (List ℕ)
-  pub faults : ℕ
-
--- a unit: its calls with their answers, where they are told, and how many answers were not the right ones
-pub record UnitSeen : Type 0 where
-  pub log : Option (List Entry)
-  pub wrong : ℕ
-
--- ---- several
-
--- the unit and the sink of the output, which a run works on
-pub record Moment : Type 0 where
-  pub unit : UnitSeen
-  pub out : SinkSeen
+use Rattle.coded_unit.specs.Seen.{UnitSeen}
+use Rattle.vcp_outside.specs.Seen.{FilesSeen, SinkSeen}
+use Rattle.machine_run.specs.Moments.{Moment}
 
 -- all that is handed to a program
 pub record Outside : Type 0 where
@@ -40,18 +14,6 @@ pub record Outside : Type 0 where
 
 abbrev pub outside : FilesSeen → UnitSeen → SinkSeen → SinkSeen → Outside
 outside files unit out err = record { files = files; unit = unit; out = out; err = err }
-
-abbrev pub files_seen : Option Held → Option (List ℕ) → ℕ → ℕ → FilesSeen
-files_seen held rest faults broken = record { held = held; rest = rest; faults = faults; broken = broken }
-
-abbrev pub moment_seen : Option (List Entry) → ℕ → Option (List ℕ) → ℕ → Moment
-moment_seen log wrong written faults = record { unit = record { log = log; wrong = wrong }; out = record { written = written; faults = faults } }
-
--- what is seen of all: of the files, of the unit, of the output and of the errors
-abbrev pub outside_seen : Option Held → Option (List ℕ) → ℕ → ℕ → Option (List Entry) → ℕ → Option (List ℕ) → ℕ → Option (List ℕ) → ℕ → Outside
-outside_seen held rest faults broken log wrong written out_faults lines err_faults =
-    outside (files_seen held rest faults broken) (record { log = log; wrong = wrong }) (record { written = written; faults = out_faults })
-    (record { written = lines; faults = err_faults })
 
 abbrev pub moment_of : Outside → Moment
 moment_of o = record { unit = o.unit; out = o.out }

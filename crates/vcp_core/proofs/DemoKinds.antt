@@ -11,17 +11,16 @@ use Rattle.vcp_inputs.specs.declared.refusal.NoInput.{NoInput}
 use Rattle.vcp_inputs.specs.declared.refusal.NoInput.TheVariants as input
 use Rattle.vcp_inputs.specs.declared.rows.RowsSource.TheVariants as origin
 use Rattle.vcp_inputs.specs.Files.{Loads, NotLoaded}
-use Rattle.vcp_inputs.specs.Lines.{input_status, refusal_text}
+use Rattle.vcp_inputs.specs.Lines.{input_status, input_text, refusal_text}
 use Rattle.vcp_inputs.specs.Programs.{TypedOf, NotTyped}
 use Rattle.vcp_inputs.specs.RowsOutcome.{Opens, RowsOutcome, opened, source_outcome}
 use Rattle.vcp_answer.specs.Abouts.{about}
 use Rattle.vcp_answer.specs.FileTasks.{OnRows, untaken}
 use Rattle.vcp_answer.specs.Kinds.{Task, refusal_task, runs}
 use Rattle.vcp_answer.specs.Performing.{Still, Reaches, done, unmade}
-use Rattle.vcp_answer.specs.Seen.{FilesSeen, Moment}
-use Rattle.vcp_core.specs.declared.fault.Fault.TheVariants as fault
+use Rattle.vcp_outside.specs.Seen.{FilesSeen}
+use Rattle.machine_run.specs.Moments.{Moment}
 use Rattle.vcp_core.specs.Tasks.{DemoTask, summary_job, made_held, made_name}
-use Rattle.vcp_core.specs.Reach.{fault_text}
 use Rattle.vcp_core.proofs.Performing.{file_takes}
 
 module _ (number : ℕ) where
@@ -57,7 +56,7 @@ module _ (number : ℕ) where
 
     -- the source isn't taken
     pub source_lost : (i : NoInput) (b n : ℕ) → (i ≡ input.Unread → ⊥) → NotLoaded NotTyped (made_held number) made_name most_source_bytes b n i →
-        Reaches (about (demo number)) (DemoTask number) files files before after (fault_text (demo number) (fault.Source i)) (input_status i)
+        Reaches (about (demo number)) (DemoTask number) files files before after (input_text made_name i) (input_status i)
     source_lost input.Unread b n read h = absurd (read refl)
     source_lost (input.Refused r) b n read (text, found, why) = refuses r (untaken text r found why)
     source_lost input.Memory b n read h = unmade s refl refl
@@ -65,7 +64,7 @@ module _ (number : ℕ) where
     -- the rows aren't opened, of a source that was taken
     pub rows_lost : (p : Program) (i : NoInput) (b n : ℕ) → Loads TypedOf NotTyped (made_held number) made_name most_source_bytes b n (Ok p)
         → (i ≡ input.Unread → ⊥) → Opens (made_outcome p) b n (Err i) →
-        Reaches (about (demo number)) (DemoTask number) files files before after (fault_text (demo number) (fault.Rows i)) (input_status i)
+        Reaches (about (demo number)) (DemoTask number) files files before after (input_text made_name i) (input_status i)
     rows_lost p input.Unread b n loads read is = absurd (read refl)
     rows_lost p (input.Refused r) b n loads read is =
         refuses r

@@ -13,7 +13,7 @@ use Rattle.vcp_inputs.specs.declared.refusal.Refusal.{Refusal}
 use Rattle.vcp_inputs.specs.declared.refusal.Refusal.TheVariants as refusal
 use Rattle.vcp_inputs.specs.Images.{NotImage, no_image}
 use Rattle.vcp_answer.specs.Answer.{image}
-use Rattle.vcp_core.specs.Tasks.{code_of}
+use Rattle.vcp_core.specs.Tasks.{table_code}
 use Rattle.vcp_core.specs.MachineRun.{CarriesOut}
 
 -- ---- an image
@@ -41,5 +41,5 @@ types-width g columns types is are =
     ap length is ∙ length-map columns (λ (c : Column). c.ty) ∙ ap length are ∙ length-map g.inputs (column g.names)
 
 -- the graph itself is run
-pub image-carried : (g : Lists) (t : Numbers) (left : RowsLeft) → t ≡ table_of t.seed t.step g → CarriesOut g t left (image g) (code_of t)
+pub image-carried : (g : Lists) (t : Numbers) (left : RowsLeft) → t ≡ table_of t.seed t.step g → CarriesOut g t left (image g) (table_code t)
 image-carried g t left is = record { may = refl; numbers = is; names = refl; told = refl }

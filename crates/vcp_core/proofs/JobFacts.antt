@@ -22,7 +22,7 @@ use Rattle.machine_run.specs.Moments.{Moment}
 use Rattle.vcp_words.specs.Forms.{Code}
 use Rattle.vcp_answer.specs.Answer.{Subject, source}
 use Rattle.vcp_answer.specs.GraphsOf.{StandsFor}
-use Rattle.vcp_answer.specs.Reports.{end_read, end_told, names_of, run_status}
+use Rattle.vcp_answer.specs.Reports.{end_read, end_told, subject_outputs, run_status}
 use Rattle.vcp_core.specs.MachineRun.{CarriesOut, IsThere}
 use Rattle.vcp_core.proofs.PlainNames.{inputs-count}
 
@@ -43,7 +43,7 @@ source-carried p code left g t stands table types typed = record {
 
 -- the names of the outputs
 pub names-are : (g : Lists) (t : Numbers) (left : RowsLeft) (s : Subject) (code : Code) (outputs : List Column) → CarriesOut g t left s code
-    → outputs ≡ map (output_column g.names) g.outputs → map (λ (c : Column). c.name) outputs ≡ names_of s
+    → outputs ≡ map (output_column g.names) g.outputs → map (λ (c : Column). c.name) outputs ≡ subject_outputs s
 names-are g t left s code outputs carries is = ap (map (λ (c : Column). c.name)) is ∙ carries.names
 
 -- and have a value for each input of the graph

@@ -1,5 +1,5 @@
 -- How far the run of a job came, from what running its graph leaves.
-use Rattle.std.proofs.Common.{ℕ, zero, suc, ◌+◌, ◌≡◌, ◌≢◌, ◌<◌, ◌-◌, refl, sym, ap, ◌∙◌, List, [], ◌∷◌, ◌++◌, length, map, append_assoc}
+use Rattle.std.proofs.Common.{ℕ, zero, suc, ◌≡◌, ◌≢◌, ◌<◌, refl, sym, ap, ◌∙◌, List, [], ◌∷◌, ◌++◌, length, map, append_assoc}
 use Rattle.std.proofs.Common.{append-nil, slice_get, slice_index_or, Option, Some, None, Result, IfSome, arith, ℤ}
 use Rattle.std.proofs.lemmas.List.{length-append}
 use Rattle.std.specs.Io.KnownBytes.{Appends}
@@ -24,7 +24,7 @@ use Rattle.coded_machine.specs.CycleEnds.{end_of, outputs_of}
 use Rattle.coded_machine.specs.Runs.{Outcome, AllCycles, outcome_over, end_of_run, followed_by as outcome_followed, unless_ended}
 use Rattle.flat_expr.specs.Told.{graph_end, halted_at}
 use Rattle.machine_run.specs.RowRuns.{SomeCycles}
-use Rattle.vcp_answer.specs.Reports.{End, complete, stopped, refused, end_told, end_read, behind_text, run_status}
+use Rattle.vcp_answer.specs.Reports.{RunEnd, complete, stopped, refused, end_told, end_read, behind_text, run_status}
 use Rattle.vcp_core.specs.EndLines.{last_text}
 use Rattle.vcp_core.specs.MachineRun.{IsThere}
 
@@ -105,12 +105,12 @@ earlier-rows g t n (row ∷ rows) (b ∷ cycles) (a ∷ earlier) last some is =
 
 -- a cycle's end that is told as one that ends the run is told so whatever is behind the rows or comes later
 module _ (g : Lists) (names : List (List ℕ)) (name : List ℕ) where
-  pub no-behind-by : (e : End) (behind : Option RowFault) → (e ≡ complete → behind ≡ None) → behind_text name e behind ≡ []
+  pub no-behind-by : (e : RunEnd) (behind : Option RowFault) → (e ≡ complete → behind ≡ None) → behind_text name e behind ≡ []
   no-behind-by complete behind h = ap (behind_text name complete) (h refl)
   no-behind-by (stopped s) behind h = refl
   no-behind-by (refused i f w) behind h = refl
 
-  pub status-by : (e : End) (behind : Option RowFault) → (e ≡ complete → behind ≡ None) → run_status e None ≡ run_status e behind
+  pub status-by : (e : RunEnd) (behind : Option RowFault) → (e ≡ complete → behind ≡ None) → run_status e None ≡ run_status e behind
   status-by complete behind h = ap (run_status complete) (sym (h refl))
   status-by (stopped s) behind h = refl
   status-by (refused i f w) behind h = refl

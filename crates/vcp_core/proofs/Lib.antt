@@ -1,6 +1,4 @@
-pub mod AcceptedShown
 pub mod AuditKinds
-pub mod Audits
 pub mod DemoKinds
 pub mod Facts
 pub mod ImageLoaded
@@ -15,7 +13,6 @@ pub mod OneText
 pub mod Performing
 pub mod PlainKinds
 pub mod PlainNames
-pub mod PlainReaching
 pub mod PlainTurns
 pub mod PlainWorked
 pub mod PrintedRun

@@ -45,7 +45,7 @@ use Rattle.vcp_answer.specs.RunKind.{Job, job_answer, run_meant}
 use Rattle.vcp_answer.proofs.OneFile.{one_file, file_has}
 use Rattle.vcp_core.specs.Tasks.{Audited, too_large, printed, FewRows, too_many, few, JudgedScript, WholeRows}
 use Rattle.vcp_core.specs.Tasks.{AuditTask, TaskOf, PlainTask, RunTask, graph_columns, plain_answer, rows_job, summary_job, words_job, ok_text}
-use Rattle.vcp_core.specs.Tasks.{made_held, made_name, most_trace, code_of, listing, widened}
+use Rattle.vcp_core.specs.Tasks.{made_held, made_name, most_trace, table_code, listing, widened}
 use Rattle.vcp_core.proofs.OneText.{ImageLaws, Laws, OneAudit, image_once, image_or_none, no_image_once, program_once, program_or_none, refused_once}
 use Rattle.vcp_core.proofs.OneText.{typed_once, typed_apart, untyped_once}
 
@@ -99,7 +99,7 @@ few_once name g Then rows next _ _ (few a less is) (too_many more) = absurd (not
 few_once name g Then rows next _ _ (few a less is) (few b other also) = next a b is also
 
 -- a text is one script, or is refused in one way
-script_once : (g : Lists) (text : List ℕ) (x y : List Fault) → ScriptOf g text x → ScriptOf g text y → x ≡ y
+script_once : (g : Lists) (text : List ℕ) (x y : List (List Fault)) → ScriptOf g text x → ScriptOf g text y → x ≡ y
 script_once g text x y h k =
     let one : script_of g text ≡ Ok x = h in
     let other : script_of g text ≡ Ok y = k in cc
@@ -107,10 +107,10 @@ script_once g text x y h k =
 no_script_once : (g : Lists) (text : List ℕ) (r s : Refusal) → NotScript g text r → NotScript g text s → r ≡ s
 no_script_once g text _ _ (no_script f known is) (no_script e other also) = let same : f ≡ e = cc in ap refusal.Script same
 
-script_or_none : (g : Lists) (text : List ℕ) (x : List Fault) (r : Refusal) → ScriptOf g text x → NotScript g text r → ⊥
+script_or_none : (g : Lists) (text : List ℕ) (x : List (List Fault)) (r : Refusal) → ScriptOf g text x → NotScript g text r → ⊥
 script_or_none g text x _ h (no_script f known is) = let one : script_of g text ≡ Ok x = h in cc
 
-script_file_once : (g : Lists) (Then : List Fault → Task) (f : List ℕ) (held : Held) (a b : Task) → ScriptFile g (λ x t. t ≡ Then x) f held a
+script_file_once : (g : Lists) (Then : List (List Fault) → Task) (f : List ℕ) (held : Held) (a b : Task) → ScriptFile g (λ x t. t ≡ Then x) f held a
     → ScriptFile g (λ x t. t ≡ Then x) f held b → a ≡ b
 script_file_once g Then f held a b h k =
     one_file (ScriptOf g) (NotScript g) most_source_bytes (λ x t. t ≡ Then x) f (held f) (script_once g) (no_script_once g) (script_or_none g)
@@ -148,7 +148,8 @@ module _ (laws : Laws) where
       TypedFile (λ t. TakenRows (λ left x. x ≡ Then t left) rows held (input_columns t.slots)) p held b → a ≡ b
   program_once_on Then p rows held a b h k =
       typed_file_once (λ t. TakenRows (λ left x. x ≡ Then t left) rows held (input_columns t.slots)) p held
-      (λ t c d. rows_once (rows_name rows) (λ left x. x ≡ Then t left) (λ left x y. one_is (Then t left) x y) (rows_outcome rows held (input_columns t.slots)) c d)
+      (λ t c d. rows_once (rows_name rows) (λ left x. x ≡ Then t left) (λ left x y. one_is (Then t left) x y)
+      (rows_outcome rows held (input_columns t.slots)) c d)
       a b h k
 
   graph_once_on : (Then : Image → RowsLeft → Task → Type 0) (m : List ℕ) (rows : Rows) (held : Held) →
@@ -171,7 +172,7 @@ module _ (laws : Laws) where
   judged_once name f held i left a b h k =
       whole_once name (FewRows name i.graph (JudgedScript i f held)) left.rows left.refusal a b
       (few_once name i.graph (JudgedScript i f held) left.rows
-      (λ c d. script_file_once i.graph (λ faults. judges (record { graph = i.graph; table = i.table; rows = left.rows; faults = faults })) f held c d) a b) h k
+      (λ c d. script_file_once i.graph (λ groups. judges (record { graph = i.graph; table = i.table; rows = left.rows; groups = groups })) f held c d) a b) h k
 
   pub task_once : (f : Form) (held : Held) (a b : Task) → TaskOf f held a → TaskOf f held b → a ≡ b
   task_once (check p) held a b h k = typed_file_is (λ t. prints (ok_text (size t))) p held a b h k
@@ -181,9 +182,9 @@ module _ (laws : Laws) where
   task_once (compile p code) held a b h k = typed_file_is (λ t. compiles t code) p held a b h k
   task_once (list m) held a b h k = image_file_is (λ i. prints (listing i.graph i.table)) m held a b h k
   task_once (exec m rows) held a b h k =
-      graph_once_is (λ i left. runs (rows_job (rows_name rows) (code_of i.table) (image i.graph) left)) m rows held a b h k
+      graph_once_is (λ i left. runs (rows_job (rows_name rows) (table_code i.table) (image i.graph) left)) m rows held a b h k
   task_once (trace m rows n) held a b h k =
-      graph_once_is (λ i left. runs (words_job (rows_name rows) n i.graph (code_of i.table) (through n left))) m rows held a b h k
+      graph_once_is (λ i left. runs (words_job (rows_name rows) n i.graph (table_code i.table) (through n left))) m rows held a b h k
   task_once (widen m) held a b h k = image_file_is wide_prints m held a b h k
   task_once (audit m horizon) held a b h k = image_file_once laws.images (Audited horizon m) m held (audited_once laws.audits horizon m) a b h k
   task_once (inject m rows f) held a b h k =
@@ -347,16 +348,16 @@ module _ (P : Task → Type 0) (given : (a : Answer) → a.status ≤ 2 → P (a
   few_has name g Then rows next _ (too_many more) = refused name refusal.Trace
   few_has name g Then rows next _ (few x less is) = next x is
 
-  abbrev campaign : Image → RowsLeft → List Fault → Campaign
-  campaign i left faults = record { graph = i.graph; table = i.table; rows = left.rows; faults = faults }
+  abbrev campaign : Image → RowsLeft → List (List Fault) → Campaign
+  campaign i left groups = record { graph = i.graph; table = i.table; rows = left.rows; groups = groups }
 
   judged_has : (name f : List ℕ) (held : Held) → (held f ≡ None → P (lacks f)) → ((c : Campaign) → P (judges c)) → (i : Image) (left : RowsLeft) (task : Task) →
       WholeRows name (FewRows name i.graph (JudgedScript i f held)) left.rows left.refusal task → P task
   judged_has name f held none judging i left task comes =
       whole_has name (FewRows name i.graph (JudgedScript i f held)) left.rows left.refusal task
       (few_has name i.graph (JudgedScript i f held) left.rows
-      (λ x. file_has (ScriptOf i.graph) (NotScript i.graph) most_source_bytes (λ faults y. y ≡ judges (campaign i left faults)) f (held f) P none (refused f)
-      (λ faults y is. is_has y (judges (campaign i left faults)) (judging (campaign i left faults)) is) x) task) comes
+      (λ x. file_has (ScriptOf i.graph) (NotScript i.graph) most_source_bytes (λ groups y. y ≡ judges (campaign i left groups)) f (held f) P none (refused f)
+      (λ groups y is. is_has y (judges (campaign i left groups)) (judging (campaign i left groups)) is) x) task) comes
 
   pub task_has : (f : Form) (held : Held) → Lacking P held (about f).files → ((j : Job) → P (runs j)) → ((p : Program) (code : Code) → P (compiles p code)) →
       ((c : Campaign) → P (judges c)) → (task : Task) → TaskOf f held task → P task
@@ -376,11 +377,11 @@ module _ (P : Task → Type 0) (given : (a : Answer) → a.status ≤ 2 → P (a
   task_has (list m) held none running writing judging task comes =
       image_is (λ i. prints (listing i.graph i.table)) m held (none (image_word m) (inl refl)) (λ i. given _ (lit≤ tt)) task comes
   task_has (exec m rows) held none running writing judging task comes =
-      graph_has (λ i left x. x ≡ runs (rows_job (rows_name rows) (code_of i.table) (image i.graph) left)) m rows held none
-      (λ i left x is. is_has x (runs (rows_job (rows_name rows) (code_of i.table) (image i.graph) left)) (running _) is) task comes
+      graph_has (λ i left x. x ≡ runs (rows_job (rows_name rows) (table_code i.table) (image i.graph) left)) m rows held none
+      (λ i left x is. is_has x (runs (rows_job (rows_name rows) (table_code i.table) (image i.graph) left)) (running _) is) task comes
   task_has (trace m rows n) held none running writing judging task comes =
-      graph_has (λ i left x. x ≡ runs (words_job (rows_name rows) n i.graph (code_of i.table) (through n left))) m rows held none
-      (λ i left x is. is_has x (runs (words_job (rows_name rows) n i.graph (code_of i.table) (through n left))) (running _) is) task comes
+      graph_has (λ i left x. x ≡ runs (words_job (rows_name rows) n i.graph (table_code i.table) (through n left))) m rows held none
+      (λ i left x is. is_has x (runs (words_job (rows_name rows) n i.graph (table_code i.table) (through n left))) (running _) is) task comes
   task_has (widen m) held none running writing judging task comes =
       image_is wide_prints m held (none (image_word m) (inl refl)) (λ i. given _ (lit≤ tt)) task comes
   task_has (audit m horizon) held none running writing judging task comes =
@@ -430,7 +431,8 @@ as_meant (runs j) = answers (job_answer j (run_meant j))
 as_meant (judges c) = judges c
 
 rows_meant : (name : List ℕ) (code : Code) (t : Program) (o : RowsOutcome) (task : Task) →
-    OnRows name (λ left x. x ≡ runs (rows_job name code (source t) left)) o task → OnRows name (λ left x. x ≡ answers (plain_answer name t left)) o (as_meant task)
+    OnRows name (λ left x. x ≡ runs (rows_job name code (source t) left)) o task → OnRows name (λ left x. x ≡ answers (plain_answer name t left)) o
+    (as_meant task)
 rows_meant name code t outcome.lacking task h = ap as_meant h
 rows_meant name code t (outcome.refused r) task h = ap as_meant h
 rows_meant name code t (opened left) task h = ap as_meant h

@@ -9,16 +9,14 @@ use Rattle.vcp_core.proofs.Written.{appends-appends, part-after}
 use Rattle.vcp_typed.specs.Meaning.{Stop}
 use Rattle.vcp_typed.specs.SourceRun.{Program, after_cycle, cycle, run_from, source_run, initial}
 use Rattle.input_rows.specs.declared.fault.RowFault.{RowFault}
-use Rattle.input_rows.specs.declared.fault.RowFault.TheVariants as rows
 use Rattle.input_rows.specs.RowsOf.{RowsLeft}
 use Rattle.run_report.specs.Lines.{header_text, row_text, end_text}
 use Rattle.machine_run.specs.RowRuns.{texts_from}
 use Rattle.vcp_answer.specs.Reports.{output_names}
-use Rattle.vcp_core.specs.declared.fault.Fault.{Fault}
-use Rattle.vcp_core.specs.declared.fault.Fault.TheVariants as fault
-use Rattle.vcp_inputs.specs.declared.refusal.NoInput.TheVariants as input
-use Rattle.vcp_core.specs.declared.ending.End.{End}
-use Rattle.vcp_core.specs.declared.ending.End.TheVariants as end
+use Rattle.machine_run.specs.declared.fault.RunFault.{RunFault}
+use Rattle.machine_run.specs.declared.fault.RunFault.TheVariants as fault
+use Rattle.vcp_core.specs.declared.ending.Ending.{Ending}
+use Rattle.vcp_core.specs.declared.ending.Ending.TheVariants as end
 use Rattle.vcp_core.specs.PlainRun.{last_line, plain_text, PrintsText, Prints, cycle_line, lines_from, rest_text, PrintsFrom}
 
 pub appends-nothing : (old : Option (List ℕ)) → Appends old old []
@@ -38,19 +36,15 @@ front-of old mid new front rest text is before (some, more, cut, taken) =
     (front ++ some, more, is ∙ ap (λ t. front ++ t) cut ∙ sym (append_assoc front some more), Appends-trans old mid new front some before taken)
 
 -- the rest was printed so, and so was the whole
-pub prints-after : (stop : Option Stop) (refusal : Option RowFault) (old mid new : Option (List ℕ)) (front rest text : List ℕ) (r : Result End Fault) →
+pub prints-after : (stop : Option Stop) (refusal : Option RowFault) (old mid new : Option (List ℕ)) (front rest text : List ℕ) (r : Result Ending RunFault) →
     text ≡ front ++ rest → Appends old mid front → PrintsText rest stop refusal mid new r → PrintsText text stop refusal old new r
 prints-after stop refusal old mid new front rest text (Ok end.Done) is before (e, f, w) = (e, f, appends-appends old mid new front rest text before w is)
 prints-after stop refusal old mid new front rest text (Ok end.Stopped) is before (s, e, w) = (s, e, appends-appends old mid new front rest text before w is)
 prints-after stop refusal old mid new front rest text (Ok end.Refused) is before h = absurd h
-prints-after stop refusal old mid new front rest text (Err (fault.Rows (input.Refused r))) is before (f, e, g, h, w) =
-    (f, e, g, h, appends-appends old mid new front rest text before w is)
-prints-after stop refusal old mid new front rest text (Err (fault.Rows input.Unread)) is before h = absurd h
-prints-after stop refusal old mid new front rest text (Err (fault.Rows input.Memory)) is before w = front-of old mid new front rest text is before w
+prints-after stop refusal old mid new front rest text (Err (fault.Rows f)) is before (e, behind, known, w) =
+    (e, behind, known, appends-appends old mid new front rest text before w is)
 prints-after stop refusal old mid new front rest text (Err fault.Write) is before w = part-of old mid new front rest text is before w
 prints-after stop refusal old mid new front rest text (Err fault.Memory) is before w = front-of old mid new front rest text is before w
-prints-after stop refusal old mid new front rest text (Err (fault.Source i)) is before h = absurd h
-prints-after stop refusal old mid new front rest text (Err (fault.Script i)) is before h = absurd h
 
 -- ---- one cycle
 
@@ -82,7 +76,8 @@ pub record Going (p : Program) (first_values : List ℤ) (first : RowsLeft) (old
   pub counted : n + length left.rows ≤ most_cycles
 
 -- what the rest prints from here on, the run prints from the first cycle on
-pub going-ends : (p : Program) (m0 : List ℤ) (first : RowsLeft) (old now new : Option (List ℕ)) (n : ℕ) (m : List ℤ) (left : RowsLeft) (r : Result End Fault) →
+pub going-ends : (p : Program) (m0 : List ℤ) (first : RowsLeft) (old now new : Option (List ℕ)) (n : ℕ) (m : List ℤ) (left : RowsLeft)
+    (r : Result Ending RunFault) →
     Going p m0 first old now n m left → PrintsFrom p n m left now new r → PrintsFrom p 0 m0 first old new r
 going-ends p m0 first old now new n m left r going prints =
     let from = prints-after (run_from p m left.rows).end left.refusal old now new going.front (rest_text p n m left)
@@ -170,7 +165,7 @@ whole-is p left =
     (ap (λ k. texts_from row_text 0 run.rows ++ last_line p k run.end left.refusal) (omega arith) ∙ sym (lines-are p 0 run.rows run.end left.refusal))
 
 -- the header was printed, and then the cycles from the first on
-pub header-first : (p : Program) (left : RowsLeft) (old mid new : Option (List ℕ)) (r : Result End Fault) →
+pub header-first : (p : Program) (left : RowsLeft) (old mid new : Option (List ℕ)) (r : Result Ending RunFault) →
     Appends old mid (header_text (output_names p)) → PrintsFrom p 0 (initial p.slots) left mid new r → Prints p left old new r
 header-first p left old mid new r w prints = prints-after _ _ old mid new _ _ _ r (whole-is p left) w prints
 

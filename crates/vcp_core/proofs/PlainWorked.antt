@@ -25,11 +25,11 @@ variable name class = record { name = name; spot = at 1; class = class; ty = ty.
 
 -- rows that are left, each of one DINT, and the refusal behind them or none
 abbrev left : List (List ℤ) → Option RowFault → RowsLeft
-left rows refusal = record { types = ty.Dint ∷ []; rows = rows; refusal = refusal; refused = false }
+left rows refusal = record { types = ty.Dint ∷ []; rows = rows; refusal = refusal; ended = false }
 
 -- so many rows of no values as there are here
 abbrev cycles : List (List ℤ) → RowsLeft
-cycles rows = record { types = []; rows = rows; refusal = None; refused = false }
+cycles rows = record { types = []; rows = rows; refusal = None; ended = false }
 
 -- VAR_INPUT x : DINT; VAR_OUTPUT y : DINT; y := x + 1; the operator stands at 1:8
 abbrev addition : Program

@@ -7,7 +7,8 @@ use Rattle.input_rows.specs.declared.fault.RowFault.{RowFault}
 use Rattle.input_rows.specs.declared.fault.RowFault.TheVariants as row
 use Rattle.input_rows.specs.RowsOf.{IsOfRecord}
 use Rattle.coded_unit.specs.declared.call.Answer.{Answer as UnitAnswer}
-use Rattle.coded_unit.specs.Log.{Entry}
+use Rattle.coded_unit.specs.Seen.{UnitSeen}
+use Rattle.vcp_outside.specs.Seen.{SinkSeen}
 use Rattle.op_graph.specs.Lists.{Lists}
 use Rattle.op_graph.specs.GraphRun.{graph_run}
 use Rattle.signature_table.specs.Signatures.{Numbers}
@@ -19,19 +20,15 @@ use Rattle.coded_machine.specs.Runs.{Outcome, AllCycles, outcome_over, outcome_f
 use Rattle.flat_expr.specs.Told.{Told, told_graph}
 use Rattle.machine_run.specs.declared.fault.RunFault.{RunFault}
 use Rattle.machine_run.specs.declared.fault.RunFault.TheVariants as given_up
-use Rattle.machine_run.specs.Moments.{moment}
 use Rattle.machine_run.specs.RowRuns.{texts_from, IsFront, CameToEnd, RunsRows}
 use Rattle.vcp_inputs.specs.Lines.{rows_text}
-use Rattle.vcp_inputs.specs.Refusals.{no_rows}
 use Rattle.vcp_answer.specs.GraphsOf.{MayRun}
-use Rattle.vcp_answer.specs.Reports.{End, complete, stopped, refused, end_told, end_read, told_of, names_of, behind_text, run_status}
+use Rattle.vcp_answer.specs.Reports.{RunEnd, complete, stopped, refused, end_told, end_read, told_of, subject_outputs, behind_text, run_status}
 use Rattle.vcp_core.specs.EndLines.{last_text}
 use Rattle.vcp_answer.specs.Printing.{Report, Printing, every_row, goes_on, no_report, run_text, run_then, last_part}
 use Rattle.vcp_answer.specs.RunKind.{Job, RunLeft, numbers, calls_of, run_read, run_meant, job_answer}
-use Rattle.vcp_answer.specs.Seen.{Moment, moment_seen}
-use Rattle.vcp_core.specs.declared.ending.End.{End as Ends}
-use Rattle.vcp_core.specs.declared.fault.Fault.TheVariants as fault
-use Rattle.vcp_core.specs.Faults.{of_run}
+use Rattle.machine_run.specs.Moments.{Moment, moment}
+use Rattle.vcp_core.specs.declared.ending.Ending.{Ending}
 use Rattle.vcp_core.specs.Reach.{end_status}
 use Rattle.vcp_core.specs.MachineRun.{IsThere, RunAnswers, RunsTo}
 use Rattle.vcp_core.proofs.JobRun.{read-end, as-many, complete-is, earlier-rows, no-behind-by, status-by, record-of, grows-none, part-of, part-behind}
@@ -56,7 +53,7 @@ module _ (p : Printing) (names : List (List ℕ)) where
   front-more rows more = ap (λ t. p.header ++ t) (texts-more p.row 0 rows more) ∙ sym (append_assoc p.header (texts_from p.row 0 rows) _)
 
   -- what is printed of a run that released these rows and maybe more begins with them
-  text-front : (rows more : List (List ℤ)) (e : End) (words : List ℤ) (behind : Option RowFault) →
+  text-front : (rows more : List (List ℤ)) (e : RunEnd) (words : List ℤ) (behind : Option RowFault) →
       run_text p names (record { rows = rows ++ more; end = e; words = words }) behind
       ≡ front_text rows ++ (texts_from p.row (0 + length rows) more ++ last_part p names (record { rows = rows ++ more; end = e; words = words }) e behind)
   text-front rows more e words behind =
@@ -69,17 +66,17 @@ module _ (p : Printing) (names : List (List ℕ)) where
   text-last r behind = sym (append_assoc p.header (texts_from p.row 0 r.rows) _)
 
   -- a run that released these rows and wasn't ended, and then a later one
-  later-text : (rows : List (List ℤ)) (e : End) (words : List ℤ) (later : Report) (behind : Option RowFault) → e ≡ complete →
+  later-text : (rows : List (List ℤ)) (e : RunEnd) (words : List ℤ) (later : Report) (behind : Option RowFault) → e ≡ complete →
       run_text p names (run_then (record { rows = rows; end = e; words = words }) later) behind
       ≡ front_text rows
       ++ (texts_from p.row (0 + length rows) later.rows
       ++ last_part p names (record { rows = rows ++ later.rows; end = later.end; words = words ++ later.words }) later.end behind)
   later-text rows e words later behind is =
-      ap (λ (x : End). run_text p names (goes_on x (record { rows = rows; end = x; words = words }) later) behind) is
+      ap (λ (x : RunEnd). run_text p names (goes_on x (record { rows = rows; end = x; words = words }) later) behind) is
       ∙ text-front rows later.rows later.end (words ++ later.words) behind
 
 -- only the end of a run that was released is followed by a later one
-stays-by : (e : End) (rows : List (List ℤ)) (words : List ℤ) (later : Report) → (e ≡ complete → later ≡ no_report)
+stays-by : (e : RunEnd) (rows : List (List ℤ)) (words : List ℤ) (later : Report) → (e ≡ complete → later ≡ no_report)
     → run_then (record { rows = rows; end = e; words = words }) later ≡ record { rows = rows; end = e; words = words }
 stays-by complete rows words later h =
     ap (λ (l : Report). run_then (record { rows = rows; end = complete; words = words }) l) (h refl)
@@ -90,7 +87,7 @@ stays-by (refused i f w) rows words later h = refl
 
 -- a refusal of one record, behind the rows of a job
 told-by : (j : Job) (f : RowFault) (before after : Moment) → IsOfRecord f → RunAnswers j (rows_text j.rows_name f) 1 before after
-    → RunsTo j before after (Err (fault.Rows (no_rows f)))
+    → RunsTo j before after (Err (given_up.Rows f))
 told-by j (row.Width n) before after of h = h
 told-by j (row.Cell n m) before after of h = h
 told-by j row.Cycles before after of h = h
@@ -103,9 +100,9 @@ told-by j row.Memory before after of h = absurd of
 
 module _ (j : Job) (g : Lists) (may : MayRun j.subject g) (agrees : told_graph g j.rows.rows ≡ told_of j.subject j.rows.rows)
     (words_right : (cycles : List (List UnitAnswer)) → AllRight (calls_of j g cycles) → AllCycles g (numbers j g) 0 j.rows.rows cycles
-    → j.words.read cycles ≡ j.words.meant j.rows.rows) (l0 l1 : Option (List Entry)) (w0 w1 : ℕ) where
+    → j.words.read cycles ≡ j.words.meant j.rows.rows) (u0 u1 : UnitSeen) where
   abbrev names : List (List ℕ)
-  names = names_of j.subject
+  names = subject_outputs j.subject
 
   abbrev t : Numbers
   t = numbers j g
@@ -122,18 +119,18 @@ module _ (j : Job) (g : Lists) (may : MayRun j.subject g) (agrees : told_graph g
       → outcome_is cycles ≡ outcome_for (graph_run g j.rows.rows) → run_read j g cycles ≡ run_meant j
   read-meant cycles right all is =
       ap (λ (o : Outcome). record { rows = o.rows; end = end_read g o.end; words = j.words.read cycles }) is
-      ∙ ap (λ (e : End). record { rows = (graph_run g j.rows.rows).rows; end = e; words = j.words.read cycles }) (read-end g (graph_run g j.rows.rows).end)
+      ∙ ap (λ (e : RunEnd). record { rows = (graph_run g j.rows.rows).rows; end = e; words = j.words.read cycles }) (read-end g (graph_run g j.rows.rows).end)
       ∙ ap (λ (x : Told). record { rows = x.rows; end = end_told x.end; words = j.words.read cycles }) agrees
       ∙ ap (λ (ws : List ℤ). record { rows = (told_of j.subject j.rows.rows).rows; end = end_told (told_of j.subject j.rows.rows).end; words = ws })
       (words_right cycles right all)
 
   -- all was written of a run that came to its end
-  reached : (cycles : List (List UnitAnswer)) (e : CycleEnd) (o0 o3 : Option (List ℕ)) (f0 f3 : ℕ) → Carried (calls_of j g cycles) l0 l1 w0 w1
-      → CameToEnd g t j.rows.rows cycles e → (w1 ≡ w0 → w0 < 2 ^ 64 - 1 → outcome_is cycles ≡ outcome_for (graph_run g j.rows.rows)) →
-      Appends o0 o3 (front_of cycles ++ last_part j.printing names (run_read j g cycles) (end_read g e) j.rows.refusal) →
-      RunAnswers j (behind_text j.rows_name (end_read g e) j.rows.refusal) (run_status (end_read g e) j.rows.refusal) (moment_seen l0 w0 o0 f0)
-      (moment_seen l1 w1 o3 f3)
-  reached cycles e o0 o3 f0 f3 carried came follows w =
+  reached : (cycles : List (List UnitAnswer)) (e : CycleEnd) (s0 s3 : SinkSeen) → Carried (calls_of j g cycles) u0.log u1.log u0.wrong u1.wrong
+      → CameToEnd g t j.rows.rows cycles e → (u1.wrong ≡ u0.wrong → u0.wrong < 2 ^ 64 - 1 → outcome_is cycles ≡ outcome_for (graph_run g j.rows.rows)) →
+      Appends s0.written s3.written (front_of cycles ++ last_part j.printing names (run_read j g cycles) (end_read g e) j.rows.refusal) →
+      RunAnswers j (behind_text j.rows_name (end_read g e) j.rows.refusal) (run_status (end_read g e) j.rows.refusal) (moment u0 s0)
+      (moment u1 s3)
+  reached cycles e s0 s3 carried came follows w =
       let text : run_text j.printing names (run_read j g cycles) j.rows.refusal
       ≡ front_of cycles ++ last_part j.printing names (run_read j g cycles) (end_read g e) j.rows.refusal =
       text-last j.printing names (run_read j g cycles) j.rows.refusal
@@ -148,7 +145,7 @@ module _ (j : Job) (g : Lists) (may : MayRun j.subject g) (agrees : told_graph g
           read = refl;
           honest = λ h. read-meant cycles (carried.honest h.same h.below) came.all (follows h.same h.below);
         },
-        subst (λ (l : List ℕ). Appends o0 o3 l) (sym text) w,
+        subst (λ (l : List ℕ). Appends s0.written s3.written l) (sym text) w,
         ap (λ (x : CycleEnd). behind_text j.rows_name (end_read g x) j.rows.refusal) came.end_is,
         ap (λ (x : CycleEnd). run_status (end_read g x) j.rows.refusal) came.end_is,
       )
@@ -177,105 +174,110 @@ module _ (j : Job) (g : Lists) (may : MayRun j.subject g) (agrees : told_graph g
       )
 
   -- what is printed first couldn't be written
-  pub header-left : (o0 o1 : Option (List ℕ)) (f0 f1 : ℕ) → AppendsPart o0 o1 j.printing.header
-      → RunLeft j AppendsPart (moment_seen l0 w0 o0 f0) (moment_seen l0 w0 o1 f1)
-  header-left o0 o1 f0 f1 part = record {
+  pub header-left : (s0 s1 : SinkSeen) → AppendsPart s0.written s1.written j.printing.header
+      → RunLeft j AppendsPart (moment u0 s0) (moment u0 s1)
+  header-left s0 s1 part = record {
     graph = g;
     cycles = [];
     may = may;
     some = tt;
-    log = grows-none l0;
-    text = λ later comes. part-of o0 o1 j.printing.header _ _ part refl;
+    log = grows-none u0.log;
+    text = λ later comes. part-of s0.written s1.written j.printing.header _ _ part refl;
     earlier = λ earlier last is. no-last earlier last is;
-    honest = λ h. part-of o0 o1 j.printing.header _ _ part refl;
+    honest = λ h. part-of s0.written s1.written j.printing.header _ _ part refl;
   }
 
   -- memory was wanted for a row
-  wants-row : (o0 o1 o2 : Option (List ℕ)) (f0 f1 f2 : ℕ) → Appends o0 o1 j.printing.header
-      → RunsRows g t j.rows j.printing.row (moment l0 w0 o1 f1) (moment l1 w1 o2 f2) (Err given_up.Memory) →
-      RunLeft j AppendsFront (moment_seen l0 w0 o0 f0) (moment_seen l1 w1 o2 f2)
-  wants-row o0 o1 o2 f0 f1 f2 head run =
+  wants-row : (s0 s1 s2 : SinkSeen) → Appends s0.written s1.written j.printing.header
+      → RunsRows g t j.rows j.printing.row (moment u0 s1) (moment u1 s2) (Err given_up.Memory) →
+      RunLeft j AppendsFront (moment u0 s0) (moment u1 s2)
+  wants-row s0 s1 s2 head run =
       let o = outcome_is run.cycles in
-      let w : Appends o0 o2 (front_of run.cycles) = append-all o0 o1 o2 j.printing.header (texts_from j.printing.row 0 o.rows) _ head run.ends refl in
+      let w : Appends s0.written s2.written (front_of run.cycles) = append-all s0.written s1.written s2.written j.printing.header
+      (texts_from j.printing.row 0 o.rows) _ head run.ends refl in
       record {
         graph = g;
         cycles = run.cycles;
         may = may;
         some = run.some;
         log = run.carried.told;
-        text = λ later comes. front-of o0 o2 (front_of run.cycles) _ _ w
+        text = λ later comes. front-of s0.written s2.written (front_of run.cycles) _ _ w
             (later-text j.printing names o.rows (end_read g o.end) (j.words.read run.cycles) later j.rows.refusal (ap (end_read g) run.given_up));
         earlier = λ earlier last is.
             let m = earlier-rows g t 0 j.rows.rows run.cycles earlier last run.some is in
-            earlier-written run.cycles o0 o2 [] (subst (λ (l : List ℕ). Appends o0 o2 l) (sym (append-nil (front_of run.cycles))) w) earlier m.0 m.1;
-        honest = λ h. let m = meant-front o (run.follows h.same h.below) in front-of o0 o2 (front_of run.cycles) m.0 _ w m.1;
+            earlier-written run.cycles s0.written s2.written [] (subst (λ (l : List ℕ). Appends s0.written s2.written l)
+            (sym (append-nil (front_of run.cycles))) w) earlier m.0 m.1;
+        honest = λ h. let m = meant-front o (run.follows h.same h.below) in front-of s0.written s2.written (front_of run.cycles) m.0 _ w m.1;
       }
 
   -- a row of outputs couldn't be written
-  row-left : (o0 o1 o2 : Option (List ℕ)) (f0 f1 f2 : ℕ) → Appends o0 o1 j.printing.header
-      → RunsRows g t j.rows j.printing.row (moment l0 w0 o1 f1) (moment l1 w1 o2 f2) (Err given_up.Write) →
-      RunLeft j AppendsPart (moment_seen l0 w0 o0 f0) (moment_seen l1 w1 o2 f2)
-  row-left o0 o1 o2 f0 f1 f2 head run =
+  row-left : (s0 s1 s2 : SinkSeen) → Appends s0.written s1.written j.printing.header
+      → RunsRows g t j.rows j.printing.row (moment u0 s1) (moment u1 s2) (Err given_up.Write) →
+      RunLeft j AppendsPart (moment u0 s0) (moment u1 s2)
+  row-left s0 s1 s2 head run =
       let o = outcome_is run.cycles in
       let (rose, part, earlier_lines) = run.ends in
-      let w : AppendsPart o0 o2 (front_of run.cycles) = part-behind o0 o1 o2 j.printing.header (texts_from j.printing.row 0 o.rows) _ head part refl in
+      let w : AppendsPart s0.written s2.written (front_of run.cycles) = part-behind s0.written s1.written s2.written j.printing.header
+      (texts_from j.printing.row 0 o.rows) _ head part refl in
       record {
         graph = g;
         cycles = run.cycles;
         may = may;
         some = run.some;
         log = run.carried.told;
-        text = λ later comes. part-of o0 o2 (front_of run.cycles) _ _ w
+        text = λ later comes. part-of s0.written s2.written (front_of run.cycles) _ _ w
             (later-text j.printing names o.rows (end_read g o.end) (j.words.read run.cycles) later j.rows.refusal (ap (end_read g) run.given_up));
         earlier = λ earlier last is. let m = earlier_lines earlier last is in
-            (m.0, append-all o0 o1 o2 j.printing.header _ _ head m.1 (append_assoc j.printing.header _ m.0));
-        honest = λ h. let m = meant-front o (run.follows h.same h.below) in part-of o0 o2 (front_of run.cycles) m.0 _ w m.1;
+            (m.0, append-all s0.written s1.written s2.written j.printing.header _ _ head m.1 (append_assoc j.printing.header _ m.0));
+        honest = λ h. let m = meant-front o (run.follows h.same h.below) in part-of s0.written s2.written (front_of run.cycles) m.0 _ w m.1;
       }
 
   -- a row is refused behind the others
-  row-refused : (f : RowFault) (o0 o1 o2 : Option (List ℕ)) (f0 f1 f2 : ℕ) → Appends o0 o1 j.printing.header
-      → RunsRows g t j.rows j.printing.row (moment l0 w0 o1 f1) (moment l1 w1 o2 f2) (Err (given_up.Rows f)) →
-      RunAnswers j (rows_text j.rows_name f) 1 (moment_seen l0 w0 o0 f0) (moment_seen l1 w1 o2 f2)
-  row-refused f o0 o1 o2 f0 f1 f2 head run =
+  row-refused : (f : RowFault) (s0 s1 s2 : SinkSeen) → Appends s0.written s1.written j.printing.header
+      → RunsRows g t j.rows j.printing.row (moment u0 s1) (moment u1 s2) (Err (given_up.Rows f)) →
+      RunAnswers j (rows_text j.rows_name f) 1 (moment u0 s0) (moment u1 s2)
+  row-refused f s0 s1 s2 head run =
       let o = outcome_is run.cycles in
       let (came, is, lines) = run.ends in
-      let w : Appends o0 o2 (front_of run.cycles) = append-all o0 o1 o2 j.printing.header (texts_from j.printing.row 0 o.rows) _ head lines refl in
+      let w : Appends s0.written s2.written (front_of run.cycles) = append-all s0.written s1.written s2.written j.printing.header
+      (texts_from j.printing.row 0 o.rows) _ head lines refl in
       let text : front_of run.cycles ++ last_part j.printing names (run_read j g run.cycles) complete j.rows.refusal ≡ front_of run.cycles =
       ap (λ (b : Option RowFault). front_of run.cycles ++ last_part j.printing names (run_read j g run.cycles) complete b) is ∙ append-nil _ in
-      let all = reached run.cycles cycle.Released o0 o2 f0 f2 run.carried came run.follows (subst (λ (l : List ℕ). Appends o0 o2 l) (sym text) w) in
+      let all = reached run.cycles cycle.Released s0 s2 run.carried came run.follows (subst (λ (l : List ℕ). Appends s0.written s2.written l) (sym text) w) in
       let line : behind_text j.rows_name complete j.rows.refusal ≡ rows_text j.rows_name f = ap (behind_text j.rows_name complete) is in
       let code_is : run_status complete j.rows.refusal ≡ 1 = ap (run_status complete) is in
       (all.0, all.1, all.2, all.3 ∙ line, all.4 ∙ code_is)
 
   -- the run was given up
-  pub given-up-run : (why : RunFault) (o0 o1 o2 : Option (List ℕ)) (f0 f1 f2 : ℕ) → IfSome j.rows.refusal IsOfRecord → Appends o0 o1 j.printing.header
-      → RunsRows g t j.rows j.printing.row (moment l0 w0 o1 f1) (moment l1 w1 o2 f2) (Err why) →
-      RunsTo j (moment_seen l0 w0 o0 f0) (moment_seen l1 w1 o2 f2) (Err (of_run why))
-  given-up-run (given_up.Rows f) o0 o1 o2 f0 f1 f2 of head run =
-      told-by j f (moment_seen l0 w0 o0 f0) (moment_seen l1 w1 o2 f2) (record-of f j.rows.refusal of run.ends.1) (row-refused f o0 o1 o2 f0 f1 f2 head run)
-  given-up-run given_up.Write o0 o1 o2 f0 f1 f2 of head run = row-left o0 o1 o2 f0 f1 f2 head run
-  given-up-run given_up.Memory o0 o1 o2 f0 f1 f2 of head run = inr (wants-row o0 o1 o2 f0 f1 f2 head run)
+  pub given-up-run : (why : RunFault) (s0 s1 s2 : SinkSeen) → IfSome j.rows.refusal IsOfRecord → Appends s0.written s1.written j.printing.header
+      → RunsRows g t j.rows j.printing.row (moment u0 s1) (moment u1 s2) (Err why) →
+      RunsTo j (moment u0 s0) (moment u1 s2) (Err why)
+  given-up-run (given_up.Rows f) s0 s1 s2 of head run =
+      told-by j f (moment u0 s0) (moment u1 s2) (record-of f j.rows.refusal of run.ends.1) (row-refused f s0 s1 s2 head run)
+  given-up-run given_up.Write s0 s1 s2 of head run = row-left s0 s1 s2 head run
+  given-up-run given_up.Memory s0 s1 s2 of head run = inr (wants-row s0 s1 s2 head run)
 
   -- ---- the run came to its end
 
-  module _ (e : CycleEnd) (o0 o1 o2 o3 : Option (List ℕ)) (f0 f1 f2 f3 : ℕ) (head : Appends o0 o1 j.printing.header)
-      (run : RunsRows g t j.rows j.printing.row (moment l0 w0 o1 f1) (moment l1 w1 o2 f2) (Ok e)) (there : IsThere g e) where
+  module _ (e : CycleEnd) (s0 s1 s2 s3 : SinkSeen) (head : Appends s0.written s1.written j.printing.header)
+      (run : RunsRows g t j.rows j.printing.row (moment u0 s1) (moment u1 s2) (Ok e)) (there : IsThere g e) where
     -- what is printed when the rows were
     abbrev last_bytes : List ℕ
     last_bytes = last_part j.printing names (run_read j g run.cycles) (end_read g e) j.rows.refusal
 
-    rows-written : Appends o0 o2 (front_of run.cycles)
+    rows-written : Appends s0.written s2.written (front_of run.cycles)
     rows-written =
-        let (came, none, lines) = run.ends in append-all o0 o1 o2 j.printing.header (texts_from j.printing.row 0 (outcome_is run.cycles).rows) _ head lines refl
+        let (came, none, lines) = run.ends in append-all s0.written s1.written s2.written j.printing.header
+        (texts_from j.printing.row 0 (outcome_is run.cycles).rows) _ head lines refl
 
     -- the last part couldn't be written
-    pub last-left : AppendsPart o2 o3 last_bytes → RunLeft j AppendsPart (moment_seen l0 w0 o0 f0) (moment_seen l1 w1 o3 f3)
+    pub last-left : AppendsPart s2.written s3.written last_bytes → RunLeft j AppendsPart (moment u0 s0) (moment u1 s3)
     last-left part =
         let o = outcome_is run.cycles in
         let (came, none, lines) = run.ends in
         let ends : end_read g e ≡ complete → e ≡ cycle.Released = complete-is g e there in
-        let whole : AppendsPart o0 o3 (job_answer j (run_read j g run.cycles)).out =
-        part-behind o0 o2 o3 (front_of run.cycles) _ _ rows-written part
+        let whole : AppendsPart s0.written s3.written (job_answer j (run_read j g run.cycles)).out =
+        part-behind s0.written s2.written s3.written (front_of run.cycles) _ _ rows-written part
         (text-last j.printing names (run_read j g run.cycles) j.rows.refusal
         ∙ ap (λ (x : CycleEnd). front_of run.cycles ++ last_part j.printing names (run_read j g run.cycles) (end_read g x) j.rows.refusal) came.end_is) in
         record {
@@ -288,23 +290,24 @@ module _ (j : Job) (g : Lists) (may : MayRun j.subject g) (agrees : told_graph g
               let stays : run_then (run_read j g run.cycles) later ≡ run_read j g run.cycles =
               stays-by (end_read g o.end) o.rows (j.words.read run.cycles) later
               (λ c. comes (as-many g t 0 j.rows.rows run.cycles came.all (came.end_is ∙ ends (ap (end_read g) (sym came.end_is) ∙ c)))) in
-              subst (λ (r : Report). AppendsPart o0 o3 (job_answer j r).out) (sym stays) whole;
+              subst (λ (r : Report). AppendsPart s0.written s3.written (job_answer j r).out) (sym stays) whole;
           earlier = λ earlier last is.
               let m = earlier-rows g t 0 j.rows.rows run.cycles earlier last run.some is in
               let (front, rest, cut, some, taken) = part in
-              earlier-written run.cycles o0 o3 front (append-all o0 o2 o3 (front_of run.cycles) front _ rows-written taken refl) earlier m.0 m.1;
-          honest = λ h. subst (λ (r : Report). AppendsPart o0 o3 (job_answer j r).out)
+              earlier-written run.cycles s0.written s3.written front (append-all s0.written s2.written s3.written (front_of run.cycles) front _
+              rows-written taken refl) earlier m.0 m.1;
+          honest = λ h. subst (λ (r : Report). AppendsPart s0.written s3.written (job_answer j r).out)
               (read-meant run.cycles (run.carried.honest h.same h.below) came.all (run.follows h.same h.below)) whole;
         }
 
     -- the last part was written
-    pub ended-run : (end : Ends) → Appends o2 o3 last_bytes → end_status end ≡ run_status (end_read g e) None →
-        RunAnswers j [] (end_status end) (moment_seen l0 w0 o0 f0) (moment_seen l1 w1 o3 f3)
+    pub ended-run : (end : Ending) → Appends s2.written s3.written last_bytes → end_status end ≡ run_status (end_read g e) None →
+        RunAnswers j [] (end_status end) (moment u0 s0) (moment u1 s3)
     ended-run end last status =
         let (came, none, lines) = run.ends in
         let behind : end_read g e ≡ complete → j.rows.refusal ≡ None = λ c. none (complete-is g e there c) in
-        let all = reached run.cycles e o0 o3 f0 f3 run.carried came run.follows
-        (append-all o0 o2 o3 (front_of run.cycles) _ _ rows-written last refl) in
+        let all = reached run.cycles e s0 s3 run.carried came run.follows
+        (append-all s0.written s2.written s3.written (front_of run.cycles) _ _ rows-written last refl) in
         let line : behind_text j.rows_name (end_read g e) j.rows.refusal ≡ [] =
         no-behind-by g names j.rows_name (end_read g e) j.rows.refusal behind in
         let code_is : run_status (end_read g e) j.rows.refusal ≡ end_status end =
@@ -313,7 +316,7 @@ module _ (j : Job) (g : Lists) (may : MayRun j.subject g) (agrees : told_graph g
 
 -- ---- the last line, where each row was printed
 
-last-by : (names : List (List ℕ)) (n : ℕ) (r : Report) (e : End) (behind : Option RowFault) → n ≡ length r.rows → (e ≡ complete → behind ≡ None)
+last-by : (names : List (List ℕ)) (n : ℕ) (r : Report) (e : RunEnd) (behind : Option RowFault) → n ≡ length r.rows → (e ≡ complete → behind ≡ None)
     → last_text names n e None ≡ last_part (every_row names) names r e behind
 last-by names n r complete behind is h =
     ap (λ (k : ℕ). last_text names k complete None) is ∙ ap (λ (b : Option RowFault). last_part (every_row names) names r complete b) (sym (h refl))

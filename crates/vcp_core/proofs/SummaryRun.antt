@@ -1,5 +1,5 @@
 -- SummaryRun: how far the run of a job came that is summed up, from what running its graph leaves.
-use Rattle.std.proofs.Common.{ℕ, ◌≤◌, ◌-◌, List, length}
+use Rattle.std.proofs.Common.{ℕ, ◌≤◌, List, length}
 use Rattle.std.proofs.Common.{arith, ℤ}
 use Rattle.coded_unit.specs.declared.call.Answer.{Answer as Given}
 use Rattle.op_graph.specs.Lists.{Lists}

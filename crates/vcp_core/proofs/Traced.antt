@@ -1,29 +1,30 @@
 -- Traced: what is printed of a machine's run of which the words of one cycle are shown, one part after another.
-use Rattle.std.proofs.Common.{ℕ, ◌≡◌, ◌≢◌, ◌⊎◌, inl, inr, refl, sym, ap, ◌∙◌, List, ◌++◌, append_assoc, codes, Option, None, Result, Ok, Err, arith}
+use Rattle.std.proofs.Common.{ℕ, ◌≡◌, ◌≢◌, ◌⊎◌, inl, inr, refl, sym, ap, ◌∙◌, List, ◌++◌, append_assoc, codes, None, Result, Ok, Err, arith}
 use Rattle.std.proofs.KnownBytes.{Appends-trans}
 use Rattle.std.proofs.lemmas.List.{length-append}
 use Rattle.vcp_base.specs.declared.kind.StopKind.{StopKind}
-use Rattle.vcp_outside.specs.Written.{Writes}
+use Rattle.vcp_outside.specs.Seen.{SinkSeen}
+use Rattle.vcp_outside.specs.Written.{WritesTo}
 use Rattle.vcp_outside.specs.declared.failed.Failed.{Failed}
 use Rattle.coded_machine.specs.declared.cycle_end.CycleEnd.{CycleEnd}
 use Rattle.coded_machine.specs.declared.cycle_end.CycleEnd.TheVariants as cycle
 use Rattle.coded_machine.specs.State.{State}
 use Rattle.vcp_answer.specs.CycleWords.{word_lines}
-use Rattle.vcp_answer.specs.Reports.{End, complete, end_read, refused, stopped}
+use Rattle.vcp_answer.specs.Reports.{RunEnd, complete, end_read, refused, stopped}
 use Rattle.vcp_core.specs.EndLines.{last_text, words_then}
-use Rattle.vcp_core.specs.declared.ending.End.{End as Ends}
+use Rattle.vcp_core.specs.declared.ending.Ending.{Ending}
 use Rattle.vcp_core.specs.MachineRun.{IsThere, PrintsEnd}
 use Rattle.vcp_core.specs.TraceRun.{PrintsWords, answered_words, traced_text}
 use Rattle.vcp_core.proofs.JobRun.{complete-is}
 
 -- words' lines come first
-lines-first : (lines : List ℕ) (names : List (List ℕ)) (k : ℕ) (e : End) → (more : List ℕ) × (words_then lines names k e None ≡ lines ++ more)
+lines-first : (lines : List ℕ) (names : List (List ℕ)) (k : ℕ) (e : RunEnd) → (more : List ℕ) × (words_then lines names k e None ≡ lines ++ more)
 lines-first lines names k complete = (_, refl)
 lines-first lines names k (stopped s) = (_, refl)
 lines-first lines names k (refused i f w) = (_, refl)
 
 -- and then the last line, unless the run was released
-then-last : (lines : List ℕ) (names : List (List ℕ)) (k : ℕ) (e : End) → e ≢ complete → words_then lines names k e None ≡ lines ++ last_text names k e None
+then-last : (lines : List ℕ) (names : List (List ℕ)) (k : ℕ) (e : RunEnd) → e ≢ complete → words_then lines names k e None ≡ lines ++ last_text names k e None
 then-last lines names k complete not = absurd (not refl)
 then-last lines names k (stopped s) not = refl
 then-last lines names k (refused i f w) not = refl
@@ -35,35 +36,44 @@ pub not-released : (e : CycleEnd)
 not-released e (inl (k, why, is)) released = let no : cycle.Stopped k why ≡ cycle.Released = sym is ∙ released in cc
 not-released e (inr (i, found, wanted, is)) released = let no : cycle.Refused i found wanted ≡ cycle.Released = sym is ∙ released in cc
 
-module _ (m : State) (names : List (List ℕ)) (n : ℕ) (a b c : Option (List ℕ)) (f g h : ℕ) where
+module _ (m : State) (names : List (List ℕ)) (n : ℕ) (a b c : SinkSeen) where
   -- the lines of the words in a machine
   abbrev lines : List ℕ
   lines = word_lines m.graph m.table n 0 m.graph.operations (answered_words m n)
 
   -- the words couldn't be written
-  pub words-cut : (e : CycleEnd) (why : Failed) → Writes {T = Unit {0}} {E = Failed} a b f g lines (Err why) → PrintsWords m names n e a b f g (Err why)
+  pub words-cut : (e : CycleEnd) (why : Failed) → WritesTo {T = Unit {0}} {E = Failed} a b lines (Err why) → PrintsWords m names n e a b (Err why)
   words-cut e why failure =
       let (more, all) = lines-first lines names m.cycles (end_read m.graph e) in
       let (front, rest, is, some, taken) = failure.part in
       let whole : traced_text m names n e ≡ front ++ (rest ++ more) = all ∙ ap (λ l. l ++ more) is ∙ append_assoc front rest more in
       (failure.cause.failed, (front, rest ++ more, whole, rw (length-append rest more) (omega (arith, some)), taken))
 
-  pub released-cut : (why : Failed) → Writes {T = Unit {0}} {E = Failed} a b f g lines (Ok tt)
-      → Writes {T = Unit {0}} {E = Failed} b c g h (codes "released\n") (Err why) → PrintsWords m names n cycle.Released a c f h (Err why)
+  pub released-cut : (why : Failed) → WritesTo {T = Unit {0}} {E = Failed} a b lines (Ok tt)
+      → WritesTo {T = Unit {0}} {E = Failed} b c (codes "released\n") (Err why) → PrintsWords m names n cycle.Released a c (Err why)
   released-cut why before failure =
       let (front, rest, is, some, taken) = failure.part in
-      let whole : traced_text m names n cycle.Released ≡ (lines ++ front) ++ rest = ap (λ l. lines ++ l) is ∙ sym (append_assoc lines front rest) in
-      (omega (arith, before.cause.later, failure.cause.failed), (lines ++ front, rest, whole, some, Appends-trans a b c lines front before.whole taken))
+      let whole : traced_text m names n cycle.Released ≡ (lines ++ front) ++ rest = ap (λ l. lines ++ l) is ∙ sym (append_assoc lines front rest) in (
+        omega (arith, before.cause.later, failure.cause.failed),
+        (
+          lines ++ front,
+          rest,
+          whole,
+          some,
+          Appends-trans a.written b.written c.written lines front
+              before.whole taken,
+        ),
+      )
 
   -- the run's last line was written, or a part of it
-  pub ended-on : (e : CycleEnd) (r : Result Ends Failed) → e ≢ cycle.Released → IsThere m.graph e → Writes {T = Unit {0}} {E = Failed} a b f g lines (Ok tt)
-      → PrintsEnd m.graph names m.cycles e b c g h r → PrintsWords m names n e a c f h r
+  pub ended-on : (e : CycleEnd) (r : Result Ending Failed) → e ≢ cycle.Released → IsThere m.graph e → WritesTo {T = Unit {0}} {E = Failed} a b lines (Ok tt)
+      → PrintsEnd m.graph names m.cycles e b c r → PrintsWords m names n e a c r
   ended-on e (Ok end) not there before (w, status) =
       let text : traced_text m names n e ≡ lines ++ last_text names m.cycles (end_read m.graph e) None =
       then-last lines names m.cycles (end_read m.graph e) (λ is. not (complete-is m.graph e there is)) in
-      (rw text (Appends-trans a b c lines (last_text names m.cycles (end_read m.graph e) None) before.whole w), status)
+      (rw text (Appends-trans a.written b.written c.written lines (last_text names m.cycles (end_read m.graph e) None) before.whole w), status)
   ended-on e (Err why) not there before (rose, (front, rest, is, some, taken)) =
       let text : traced_text m names n e ≡ lines ++ last_text names m.cycles (end_read m.graph e) None =
       then-last lines names m.cycles (end_read m.graph e) (λ is. not (complete-is m.graph e there is)) in
       let whole : traced_text m names n e ≡ (lines ++ front) ++ rest = text ∙ ap (λ l. lines ++ l) is ∙ sym (append_assoc lines front rest) in
-      (omega (arith, before.cause.later, rose), (lines ++ front, rest, whole, some, Appends-trans a b c lines front before.whole taken))
+      (omega (arith, before.cause.later, rose), (lines ++ front, rest, whole, some, Appends-trans a.written b.written c.written lines front before.whole taken))

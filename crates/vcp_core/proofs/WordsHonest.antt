@@ -18,7 +18,7 @@ use Rattle.coded_machine.specs.Honest.{CellsHold, HonestCells, HonestCycles, Sta
 use Rattle.coded_machine.specs.Runs.{AllCycles, calls_over, setting_at, unless_ended}
 use Rattle.vcp_words.specs.Forms.{Code}
 use Rattle.vcp_answer.specs.CycleWords.{cycle_begun, unless_stopped, words_among, words_begun, words_for, words_in, words_meant}
-use Rattle.vcp_core.specs.Tasks.{code_of}
+use Rattle.vcp_core.specs.Tasks.{table_code}
 
 -- ---- one cycle
 
@@ -62,7 +62,7 @@ module _ (p : Profile) (code : Code) (j k : ℕ) (cycles : List (List Given)) (l
 module _ (laws : HonestCycles) (g : Lists) (t : Numbers) (graph : IsGraph g) (table : IsTable t) where
   words-from-cells : (m : ℕ) (held values : List ℤ) (rows : List (List ℤ)) (cycles : List (List Given)) (k : ℕ) → m + length rows ≤ most_cycles
       → CellsHold g t.seed (stamp_before t.step m) held values →
-      AllRight (calls_over g t m held rows cycles) → AllCycles g t m rows cycles → words_in k cycles ≡ words_begun g.profile (code_of t) (m + k)
+      AllRight (calls_over g t m held rows cycles) → AllCycles g t m rows cycles → words_in k cycles ≡ words_begun g.profile (table_code t) (m + k)
       (cycle_begun g values rows k)
   words-from-cells m held values [] [] k few hold right all = refl
   words-from-cells m held values [] (a ∷ cycles) k few hold right all = absurd all
@@ -73,7 +73,7 @@ module _ (laws : HonestCycles) (g : Lists) (t : Numbers) (graph : IsGraph g) (ta
       (right-front _ (calls_over g t (suc m) (stored_words g a) rows cycles) right) all.0 in
       let c : Cycle = cycle g values row in
       let here : m ≡ m + zero = omega arith in
-      ap words_among s.answers_are ∙ among-words g.profile (code_of t) m 0 c.values c.stop ∙ ap (λ j. words_for g.profile (code_of t) j 0 c.values) here
+      ap words_among s.answers_are ∙ among-words g.profile (table_code t) m 0 c.values c.stop ∙ ap (λ j. words_for g.profile (table_code t) j 0 c.values) here
   words-from-cells m held values (row ∷ rows) (a ∷ cycles) (suc k) few hold right all =
       let rest : List Entry = calls_over g t (suc m) (stored_words g a) rows cycles in
       let s : StandsFor (setting_at g t m held row) values a =
@@ -81,26 +81,26 @@ module _ (laws : HonestCycles) (g : Lists) (t : Numbers) (graph : IsGraph g) (ta
       let c : Cycle = cycle g values row in
       let next : m + 1 ≡ suc m = omega arith in
       let shift : suc m + k ≡ m + suc k = omega arith in
-      after-stop g.profile (code_of t) (m + suc k) k cycles (cycle_begun g (stored g c.values) rows k) c.stop (length c.values) (end_of g t m a)
+      after-stop g.profile (table_code t) (m + suc k) k cycles (cycle_begun g (stored g c.values) rows k) c.stop (length c.values) (end_of g t m a)
       (AllCycles g t (suc m) rows cycles) s.end_is all.1
       (λ none more.
       words-from-cells (suc m) (stored_words g a) (stored g c.values) rows cycles k (omega (arith, few))
       (subst (λ j. CellsHold g t.seed (stamp_before t.step j) (stored_words g a) (stored g c.values)) next (s.cells_are none))
       (right-back (CallsOf (setting_at g t m held row) a) rest right) more
-      ∙ ap (λ j. words_begun g.profile (code_of t) j (cycle_begun g (stored g c.values) rows k)) shift)
+      ∙ ap (λ j. words_begun g.profile (table_code t) j (cycle_begun g (stored g c.values) rows k)) shift)
 
   -- from the first cycle on
   pub words-right : HonestCells → (rows : List (List ℤ)) (cycles : List (List Given)) (n : ℕ) → length rows ≤ most_cycles
-      → AllRight (calls_over g t 0 (initial_words g t.seed) rows cycles) → AllCycles g t 0 rows cycles → words_in n cycles ≡ words_meant g (code_of t) n rows
+      → AllRight (calls_over g t 0 (initial_words g t.seed) rows cycles) → AllCycles g t 0 rows cycles → words_in n cycles ≡ words_meant g (table_code t) n rows
   words-right cells rows cycles n few right all =
       let here : 0 + n ≡ n = omega arith in
       words-from-cells 0 (initial_words g t.seed) (initial g) rows cycles n (omega (arith, few)) (cells g t.seed t.step graph) right all
-      ∙ ap (λ j. words_begun g.profile (code_of t) j (cycle_begun g (initial g) rows n)) here
+      ∙ ap (λ j. words_begun g.profile (table_code t) j (cycle_begun g (initial g) rows n)) here
 
 -- the words of a run over the rows through cycle n, by what these calls promise
 pub meant-words : HonestCycles → HonestCells → (g : Lists) (t : Numbers) (rows : List (List ℤ)) (n : ℕ) → IsGraph g → IsTable t → t ≡ table_of t.seed t.step g
     → length rows ≤ n + 1 → n < most_cycles → (cycles : List (List Given)) →
     AllRight (calls_over g (table_of t.seed t.step g) 0 (initial_words g t.seed) rows cycles) → AllCycles g
-    (table_of t.seed t.step g) 0 rows cycles → words_in n cycles ≡ words_meant g (code_of t) n rows
+    (table_of t.seed t.step g) 0 rows cycles → words_in n cycles ≡ words_meant g (table_code t) n rows
 meant-words laws cells g t rows n graph table is few below cycles right all =
     words-right laws g (table_of t.seed t.step g) graph (subst IsTable is table) cells rows cycles n (omega (arith, few, below)) right all

@@ -1,12 +1,13 @@
 -- WordsRun: how far the run of an image came of which the words of one cycle are printed, from what running its graph leaves.
-use Rattle.std.proofs.Common.{ℕ, zero, suc, ◌+◌, ◌≡◌, ◌≤◌, ◌<◌, ◌-◌, Bool, true, false, cond, nat_le, refl, sym, ap, subst, ◌∙◌, List, [], ◌∷◌}
+use Rattle.std.proofs.Common.{ℕ, zero, suc, ◌+◌, ◌≡◌, ◌≤◌, ◌<◌, Bool, true, false, cond, nat_le, refl, sym, ap, subst, ◌∙◌, List, [], ◌∷◌}
 use Rattle.std.proofs.Common.{length, slice_index_or, Option, Some, None, Ok, arith, ℤ}
 use Rattle.std.proofs.lemmas.Bool.Decides.{nat_tests}
 use Rattle.std.proofs.lemmas.List.{length-take}
 use Rattle.input_rows.specs.declared.fault.RowFault.{RowFault}
 use Rattle.input_rows.specs.RowsOf.{RowsLeft, behind_wanted, through}
 use Rattle.coded_unit.specs.declared.call.Answer.{Answer as Given}
-use Rattle.coded_unit.specs.Log.{Entry}
+use Rattle.coded_unit.specs.Seen.{UnitSeen}
+use Rattle.vcp_outside.specs.Seen.{SinkSeen}
 use Rattle.op_graph.specs.Lists.{Lists}
 use Rattle.signature_table.specs.Signatures.{Numbers, table_of}
 use Rattle.coded_machine.specs.declared.cycle_end.CycleEnd.{CycleEnd}
@@ -20,12 +21,12 @@ use Rattle.machine_run.specs.Moments.{moment}
 use Rattle.machine_run.specs.RowRuns.{RunsRows}
 use Rattle.vcp_answer.specs.Answer.{image}
 use Rattle.vcp_answer.specs.CycleWords.{word_lines, words_among, words_in, words_meant}
-use Rattle.vcp_answer.specs.Reports.{End, complete, end_read, names_of, refused, stopped}
+use Rattle.vcp_answer.specs.Reports.{RunEnd, complete, end_read, subject_outputs, refused, stopped}
 use Rattle.vcp_core.specs.EndLines.{words_then}
 use Rattle.vcp_answer.specs.Printing.{each_word, last_part}
 use Rattle.vcp_answer.specs.RunKind.{run_read}
 use Rattle.vcp_words.specs.Forms.{Code}
-use Rattle.vcp_core.specs.Tasks.{words_job, code_of}
+use Rattle.vcp_core.specs.Tasks.{words_job, table_code}
 use Rattle.vcp_core.specs.MachineRun.{IsThere}
 use Rattle.vcp_core.specs.TraceRun.{answered_words, traced_text}
 use Rattle.vcp_core.proofs.JobRun.{as-many, complete-is}
@@ -155,7 +156,7 @@ answered-by n released false cycles is has =
 -- ---- what is printed
 
 -- a cycle's end that is told as one that ends the run is told so whatever is behind the rows
-words-same-by : (lines : List ℕ) (names : List (List ℕ)) (k : ℕ) (e : End) (behind : Option RowFault) → (e ≡ complete → behind ≡ None)
+words-same-by : (lines : List ℕ) (names : List (List ℕ)) (k : ℕ) (e : RunEnd) (behind : Option RowFault) → (e ≡ complete → behind ≡ None)
     → words_then lines names k e None ≡ words_then lines names k e behind
 words-same-by lines names k complete behind h = ap (words_then lines names k complete) (sym (h refl))
 words-same-by lines names k (stopped s) behind h = refl
@@ -166,7 +167,7 @@ abbrev pub no_text : ℕ → List ℤ → List ℕ
 no_text = λ n row. []
 
 -- the last part of what is printed where a run came to this end
-last-words : (code : Code) (n : ℕ) (names : List (List ℕ)) (rows : List (List ℤ)) (words : List ℤ) (g : Lists) (own e : End) (behind : Option RowFault) →
+last-words : (code : Code) (n : ℕ) (names : List (List ℕ)) (rows : List (List ℤ)) (words : List ℤ) (g : Lists) (own e : RunEnd) (behind : Option RowFault) →
     last_part (each_word g code n) names (record { rows = rows; end = own; words = words }) e behind
     ≡ words_then (word_lines g (table_of code.seed code.step g) n 0 g.operations words) names (length rows) e behind
 last-words code n names rows words g own complete None = refl
@@ -177,11 +178,11 @@ last-words code n names rows words g own (refused i f w) behind = refl
 -- ---- the job
 
 module _ (g : Lists) (n : ℕ) (name : List ℕ) (t : Numbers) (left : RowsLeft) (few-rows : length left.rows ≤ n + 1)
-    (all-there : left.refusal ≡ None → length left.rows ≡ n + 1) (l0 l1 : Option (List Entry)) (w0 w1 : ℕ)
+    (all-there : left.refusal ≡ None → length left.rows ≡ n + 1) (u0 u1 : UnitSeen)
     (words-meant : (cycles : List (List Given)) → AllRight (calls_over g (table_of t.seed t.step g) 0 (initial_words g t.seed) left.rows cycles) → AllCycles g
-    (table_of t.seed t.step g) 0 left.rows cycles → words_in n cycles ≡ words_meant g (code_of t) n left.rows) where
+    (table_of t.seed t.step g) 0 left.rows cycles → words_in n cycles ≡ words_meant g (table_code t) n left.rows) where
   abbrev names : List (List ℕ)
-  names = names_of (image g)
+  names = subject_outputs (image g)
 
   abbrev table : Numbers
   table = table_of t.seed t.step g
@@ -195,7 +196,7 @@ module _ (g : Lists) (n : ℕ) (name : List ℕ) (t : Numbers) (left : RowsLeft)
 
   -- ---- the run came to its end
 
-  module _ (e : CycleEnd) (o1 o2 : Option (List ℕ)) (f1 f2 : ℕ) (run : RunsRows g table left no_text (moment l0 w0 o1 f1) (moment l1 w1 o2 f2) (Ok e))
+  module _ (e : CycleEnd) (s1 s2 : SinkSeen) (run : RunsRows g table left no_text (moment u0 s1) (moment u1 s2) (Ok e))
       (there : IsThere g e) (m : State) (after : MachineAfter g table run.cycles m) where
     has : HasCycles n m.cycles (length run.cycles)
     has =
@@ -231,7 +232,7 @@ module _ (g : Lists) (n : ℕ) (name : List ℕ) (t : Numbers) (left : RowsLeft)
 
     -- which is the last part of what is printed of the run
     pub last-part-is : traced_text m names n e
-        ≡ last_part (each_word g (code_of t) n) names (run_read (words_job name n g (code_of t) left) g run.cycles) (end_read g e) left.refusal
+        ≡ last_part (each_word g (table_code t) n) names (run_read (words_job name n g (table_code t) left) g run.cycles) (end_read g e) left.refusal
     last-part-is = text-is
-        ∙ sym (last-words (code_of t) n names (outcome_is run.cycles).rows (words_in n run.cycles) g (end_read g (outcome_is run.cycles).end)
+        ∙ sym (last-words (table_code t) n names (outcome_is run.cycles).rows (words_in n run.cycles) g (end_read g (outcome_is run.cycles).end)
         (end_read g e) left.refusal)

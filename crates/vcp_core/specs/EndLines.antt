@@ -3,17 +3,17 @@ use Rattle.std.specs.Prelude.{ℕ, ℤ, List, [], ◌++◌, slice_index_or, Opti
 use Rattle.input_rows.specs.declared.fault.RowFault.{RowFault}
 use Rattle.run_report.specs.Lines.{end_text, stop_text, refused_text}
 use Rattle.run_report.specs.SummaryLine.{summary_text}
-use Rattle.vcp_answer.specs.Reports.{End, complete, stopped, refused}
+use Rattle.vcp_answer.specs.Reports.{RunEnd, complete, stopped, refused}
 
 -- the last line of a run of so many cycles: its stop, the output that is refused, or its end; none where the next row is refused
-abbrev pub last_text : List (List ℕ) → ℕ → End → Option RowFault → List ℕ
+abbrev pub last_text : List (List ℕ) → ℕ → RunEnd → Option RowFault → List ℕ
 last_text names n (stopped s) behind = stop_text n s
 last_text names n (refused output found wanted) behind = refused_text n (slice_index_or names output []) found wanted
 last_text names n complete None = end_text n
 last_text names n complete (Some why) = []
 
 -- Words' lines, and then the last line of a run of so many cycles; nothing where the next row is refused.
-abbrev pub words_then : List ℕ → List (List ℕ) → ℕ → End → Option RowFault → List ℕ
+abbrev pub words_then : List ℕ → List (List ℕ) → ℕ → RunEnd → Option RowFault → List ℕ
 words_then lines names n complete None = lines ++ codes "released\n"
 words_then lines names n complete (Some why) = []
 words_then lines names n (stopped s) behind = lines ++ stop_text n s
@@ -21,7 +21,7 @@ words_then lines names n (refused output found wanted) behind = lines ++ refused
 
 -- The summary of a made program's run of so many cycles, with the last value of its output and the sum of all; the run's last line
 -- where it ended early, and nothing where the next row is refused.
-abbrev pub summary_then : ℕ → List (List ℕ) → ℕ → ℤ → ℤ → End → Option RowFault → List ℕ
+abbrev pub summary_then : ℕ → List (List ℕ) → ℕ → ℤ → ℤ → RunEnd → Option RowFault → List ℕ
 summary_then number names n last sum complete None = summary_text number n last sum
 summary_then number names n last sum complete (Some why) = []
 summary_then number names n last sum (stopped s) behind = stop_text n s

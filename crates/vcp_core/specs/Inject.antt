@@ -1,15 +1,14 @@
 -- Inject: all rows of a run under faults, as they are read before the script.
-use Rattle.std.specs.Prelude.{ℕ, ℤ, ◌≡◌, ◌≤◌, ◌<◌, ◌*◌, List, length, Some, None}
+use Rattle.std.specs.Prelude.{ℤ, ◌≡◌, ◌≤◌, ◌<◌, ◌*◌, List, length, Some, None}
 use Rattle.input_rows.specs.declared.fault.RowFault.{RowFault}
 use Rattle.input_rows.specs.RowsOf.{RowsLeft}
 use Rattle.op_graph.specs.Lists.{Lists}
+use Rattle.vcp_inputs.specs.declared.refusal.NoInput.{NoInput}
 use Rattle.vcp_inputs.specs.declared.refusal.NoInput.TheVariants as input
 use Rattle.vcp_inputs.specs.declared.refusal.Refusal.{Refusal}
 use Rattle.vcp_inputs.specs.declared.refusal.Refusal.TheVariants as refusal
 use Rattle.vcp_inputs.specs.RowsOutcome.{RowsOutcome, refused, opened}
 use Rattle.vcp_core.specs.Tasks.{most_trace}
-use Rattle.vcp_core.specs.declared.fault.Fault.{Fault as CommandFault}
-use Rattle.vcp_core.specs.declared.fault.Fault.TheVariants as fault
 
 -- these are all rows, and few enough
 pub record AllRows (o : RowsOutcome) (g : Lists) (rows : List (List ℤ)) : Type 0 where
@@ -27,11 +26,7 @@ pub data RowsRefused (o : RowsOutcome) (g : Lists) : Refusal → Type 0 where
       → RowsRefused o g refusal.Trace
 
 -- why there are none: they are refused, or memory was wanted
-abbrev pub NoRows : RowsOutcome → Lists → CommandFault → Type 0
-NoRows o g (fault.Rows (input.Refused r)) = RowsRefused o g r
-NoRows o g (fault.Rows input.Memory) = Unit {0}
-NoRows o g (fault.Rows input.Unread) = ⊥
-NoRows o g (fault.Source i) = ⊥
-NoRows o g (fault.Script i) = ⊥
-NoRows o g fault.Write = ⊥
-NoRows o g fault.Memory = Unit {0}
+abbrev pub NoRows : RowsOutcome → Lists → NoInput → Type 0
+NoRows o g (input.Refused r) = RowsRefused o g r
+NoRows o g input.Memory = Unit {0}
+NoRows o g input.Unread = ⊥

@@ -1,9 +1,7 @@
-pub mod AcceptedRuns
 pub mod Compile
 pub mod EndLines
 pub mod Faults
 pub mod Inject
-pub mod Loading
 pub mod MachineRun
 pub mod PlainRun
 pub mod Reach

@@ -1,7 +1,8 @@
 -- MachineRun: how far the run of a job came on the machine.
-use Rattle.std.specs.Prelude.{ℕ, ◌≡◌, ◌<◌, ◌⊎◌, List, [], length, map, Option, None, Result, Ok, Err}
+use Rattle.std.specs.Prelude.{ℕ, ◌≡◌, ◌<◌, ◌⊎◌, List, [], length, map, None, Result, Ok, Err}
 use Rattle.std.specs.Io.KnownBytes.{Appends}
 use Rattle.vcp_outside.specs.Counts.{Rose}
+use Rattle.vcp_outside.specs.Seen.{SinkSeen}
 use Rattle.vcp_outside.specs.Written.{AppendsFront, AppendsPart}
 use Rattle.vcp_outside.specs.declared.failed.Failed.{Failed}
 use Rattle.input_rows.specs.RowsOf.{RowsLeft}
@@ -11,18 +12,18 @@ use Rattle.flat_expr.specs.Told.{told_graph}
 use Rattle.vcp_words.specs.Forms.{Code}
 use Rattle.coded_machine.specs.declared.cycle_end.CycleEnd.{CycleEnd}
 use Rattle.coded_machine.specs.declared.cycle_end.CycleEnd.TheVariants as cycle
-use Rattle.vcp_inputs.specs.declared.refusal.NoInput.TheVariants as input
-use Rattle.vcp_inputs.specs.Lines.{refusal_text}
+use Rattle.machine_run.specs.declared.fault.RunFault.{RunFault}
+use Rattle.machine_run.specs.declared.fault.RunFault.TheVariants as run
+use Rattle.vcp_inputs.specs.Lines.{input_status, input_text}
+use Rattle.vcp_inputs.specs.Refusals.{no_rows}
 use Rattle.vcp_answer.specs.Answer.{Answer, Subject}
 use Rattle.vcp_answer.specs.GraphsOf.{MayRun}
 use Rattle.vcp_answer.specs.Performing.{Still}
-use Rattle.vcp_answer.specs.Reports.{end_read, names_of, run_status, told_of}
+use Rattle.vcp_answer.specs.Reports.{end_read, subject_outputs, run_status, told_of}
 use Rattle.vcp_core.specs.EndLines.{last_text}
 use Rattle.vcp_answer.specs.RunKind.{Job, RunDone, RunLeft}
-use Rattle.vcp_answer.specs.Seen.{Moment}
-use Rattle.vcp_core.specs.declared.ending.End.{End}
-use Rattle.vcp_core.specs.declared.fault.Fault.{Fault}
-use Rattle.vcp_core.specs.declared.fault.Fault.TheVariants as fault
+use Rattle.machine_run.specs.Moments.{Moment}
+use Rattle.vcp_core.specs.declared.ending.Ending.{Ending}
 use Rattle.vcp_core.specs.Reach.{end_status}
 
 -- To run a graph with this table on the rows that are left is to run this with the numbers of a code: the graph may be run, the
@@ -30,7 +31,7 @@ use Rattle.vcp_core.specs.Reach.{end_status}
 pub record CarriesOut (g : Lists) (t : Numbers) (left : RowsLeft) (s : Subject) (code : Code) : Type 0 where
   pub may : MayRun s g
   pub numbers : t ≡ table_of code.seed code.step g
-  pub names : map (λ c. c.name) (map (output_column g.names) g.outputs) ≡ names_of s
+  pub names : map (λ c. c.name) (map (output_column g.names) g.outputs) ≡ subject_outputs s
   pub told : told_graph g left.rows ≡ told_of s left.rows
 
 -- a run of a job was done, and all of its answer's output was written; the answer has this line and this status
@@ -40,15 +41,11 @@ RunAnswers j line status before after =
 
 -- How far the run of a job came: to its end; to a row that is refused; or until writing failed, or memory was wanted, before it began or in
 -- it.
-abbrev pub RunsTo : Job → Moment → Moment → Result End Fault → Type 0
+abbrev pub RunsTo : Job → Moment → Moment → Result Ending RunFault → Type 0
 RunsTo j before after (Ok e) = RunAnswers j [] (end_status e) before after
-RunsTo j before after (Err (fault.Rows (input.Refused r))) = RunAnswers j (refusal_text j.rows_name r) 1 before after
-RunsTo j before after (Err (fault.Rows input.Unread)) = ⊥
-RunsTo j before after (Err (fault.Rows input.Memory)) = RunLeft j AppendsFront before after
-RunsTo j before after (Err fault.Write) = RunLeft j AppendsPart before after
-RunsTo j before after (Err fault.Memory) = Still before after ⊎ RunLeft j AppendsFront before after
-RunsTo j before after (Err (fault.Source i)) = ⊥
-RunsTo j before after (Err (fault.Script i)) = ⊥
+RunsTo j before after (Err (run.Rows f)) = RunAnswers j (input_text j.rows_name (no_rows f)) (input_status (no_rows f)) before after
+RunsTo j before after (Err run.Write) = RunLeft j AppendsPart before after
+RunsTo j before after (Err run.Memory) = Still before after ⊎ RunLeft j AppendsFront before after
 
 -- the operation that stopped is there, and so is the output that is refused
 abbrev pub IsThere : Lists → CycleEnd → Type 0
@@ -57,6 +54,8 @@ IsThere g (cycle.Stopped k why) = k < length g.operations
 IsThere g (cycle.Refused output found wanted) = output < length g.outputs
 
 -- the last line of a graph's run of so many cycles was printed, with outputs of these names; or a part of it, where the sink failed
-abbrev pub PrintsEnd : Lists → List (List ℕ) → ℕ → CycleEnd → Option (List ℕ) → Option (List ℕ) → ℕ → ℕ → Result End Failed → Type 0
-PrintsEnd g names n e old new f h (Ok end) = Appends old new (last_text names n (end_read g e) None) × (end_status end ≡ run_status (end_read g e) None)
-PrintsEnd g names n e old new f h (Err why) = Rose f h × AppendsPart old new (last_text names n (end_read g e) None)
+abbrev pub PrintsEnd : Lists → List (List ℕ) → ℕ → CycleEnd → SinkSeen → SinkSeen → Result Ending Failed → Type 0
+PrintsEnd g names n e before after (Ok end) = Appends before.written after.written (last_text names n (end_read g e) None) ×
+    (end_status end ≡ run_status (end_read g e) None)
+PrintsEnd g names n e before after (Err why) = Rose before.faults after.faults × AppendsPart before.written after.written
+    (last_text names n (end_read g e) None)

@@ -1,5 +1,5 @@
 -- PlainRun: what a program's own run prints on the rows of inputs that are left, and how the printing ends.
-use Rattle.std.specs.Prelude.{ℕ, suc, ◌≡◌, ℤ, List, [], ◌∷◌, ◌++◌, length, Option, Some, None, Result, Ok, Err}
+use Rattle.std.specs.Prelude.{ℕ, suc, ◌≡◌, ◌≢◌, ℤ, List, [], ◌∷◌, ◌++◌, length, Option, Some, None, Result, Ok, Err}
 use Rattle.std.specs.Io.KnownBytes.{Appends}
 use Rattle.vcp_base.specs.Stops.{told_stop}
 use Rattle.vcp_outside.specs.Written.{AppendsFront, AppendsPart}
@@ -8,17 +8,16 @@ use Rattle.vcp_typed.specs.Meaning.{Stop}
 use Rattle.vcp_typed.specs.SourceRun.{Program, outputs, run_from, source_run}
 use Rattle.flat_expr.specs.Told.{names_of, source_end, told_source}
 use Rattle.input_rows.specs.declared.fault.RowFault.{RowFault}
+use Rattle.input_rows.specs.declared.fault.RowFault.TheVariants as row
 use Rattle.input_rows.specs.RowsOf.{RowsLeft}
 use Rattle.machine_run.specs.RowRuns.{texts_from}
 use Rattle.run_report.specs.Lines.{header_text, row_text, stop_text}
-use Rattle.vcp_inputs.specs.declared.refusal.NoInput.TheVariants as input
-use Rattle.vcp_inputs.specs.Refusals.{no_rows}
 use Rattle.vcp_answer.specs.Reports.{end_told, output_names}
 use Rattle.vcp_core.specs.EndLines.{last_text}
-use Rattle.vcp_core.specs.declared.fault.Fault.{Fault}
-use Rattle.vcp_core.specs.declared.fault.Fault.TheVariants as fault
-use Rattle.vcp_core.specs.declared.ending.End.{End}
-use Rattle.vcp_core.specs.declared.ending.End.TheVariants as end
+use Rattle.machine_run.specs.declared.fault.RunFault.{RunFault}
+use Rattle.machine_run.specs.declared.fault.RunFault.TheVariants as fault
+use Rattle.vcp_core.specs.declared.ending.Ending.{Ending}
+use Rattle.vcp_core.specs.declared.ending.Ending.TheVariants as end
 
 -- all that a program's run prints on the rows that are left
 abbrev pub plain_text : Program → RowsLeft → List ℕ
@@ -35,21 +34,16 @@ last_line p n stop refusal = last_text (output_names p) n (end_told (source_end 
 -- How the printing of these bytes ends, where they are all that a run prints that has this stop or none, on rows with this
 -- refusal behind them or none. All of them are printed at the end, after a stop and before a refusal; a front of them that
 -- lacks something where the sink failed, and some front of them where there was no memory.
-abbrev pub PrintsText : List ℕ → Option Stop → Option RowFault → Option (List ℕ) → Option (List ℕ) → Result End Fault → Type 0
+abbrev pub PrintsText : List ℕ → Option Stop → Option RowFault → Option (List ℕ) → Option (List ℕ) → Result Ending RunFault → Type 0
 PrintsText text stop refusal old new (Ok end.Done) = (stop ≡ None) × (refusal ≡ None) × Appends old new text
 PrintsText text stop refusal old new (Ok end.Stopped) = (s : Stop) × (stop ≡ Some s) × Appends old new text
 PrintsText text stop refusal old new (Ok end.Refused) = ⊥
-PrintsText text stop refusal old new (Err (fault.Rows (input.Refused r))) =
-    (f : RowFault) × (stop ≡ None) × (refusal ≡ Some f) × (no_rows f ≡ input.Refused r) × Appends old new text
-PrintsText text stop refusal old new (Err (fault.Rows input.Unread)) = ⊥
-PrintsText text stop refusal old new (Err (fault.Rows input.Memory)) = AppendsFront old new text
+PrintsText text stop refusal old new (Err (fault.Rows f)) = (stop ≡ None) × (refusal ≡ Some f) × (f ≢ row.Memory) × Appends old new text
 PrintsText text stop refusal old new (Err fault.Write) = AppendsPart old new text
 PrintsText text stop refusal old new (Err fault.Memory) = AppendsFront old new text
-PrintsText text stop refusal old new (Err (fault.Source i)) = ⊥
-PrintsText text stop refusal old new (Err (fault.Script i)) = ⊥
 
 -- how the printing of a program's run on the rows that are left ends
-abbrev pub Prints : Program → RowsLeft → Option (List ℕ) → Option (List ℕ) → Result End Fault → Type 0
+abbrev pub Prints : Program → RowsLeft → Option (List ℕ) → Option (List ℕ) → Result Ending RunFault → Type 0
 Prints p left old new result =
     PrintsText (plain_text p left) (source_run p left.rows).end left.refusal old new result
 
@@ -70,6 +64,6 @@ abbrev pub rest_text : Program → ℕ → List ℤ → RowsLeft → List ℕ
 rest_text p n m left = lines_from p n (run_from p m left.rows).rows (run_from p m left.rows).end left.refusal
 
 -- how the printing of those lines ends
-abbrev pub PrintsFrom : Program → ℕ → List ℤ → RowsLeft → Option (List ℕ) → Option (List ℕ) → Result End Fault → Type 0
+abbrev pub PrintsFrom : Program → ℕ → List ℤ → RowsLeft → Option (List ℕ) → Option (List ℕ) → Result Ending RunFault → Type 0
 PrintsFrom p n m left old new result =
     PrintsText (rest_text p n m left) (run_from p m left.rows).end left.refusal old new result

@@ -1,8 +1,9 @@
 -- SummaryRun: what is kept and printed of a run that is summed up.
-use Rattle.std.specs.Prelude.{ℕ, ℤ, unsigned_abs, ◌*◌, ◌≡◌, ◌≤◌, ◌^◌, List, length, Option, None, Result, Ok, Err}
+use Rattle.std.specs.Prelude.{ℕ, ℤ, unsigned_abs, ◌*◌, ◌≡◌, ◌≤◌, ◌^◌, List, length, None, Result, Ok, Err}
 use Rattle.std.specs.Io.KnownBytes.{Appends}
 use Rattle.vcp_base.specs.Limits.{most_cycles}
 use Rattle.vcp_outside.specs.Counts.{Rose}
+use Rattle.vcp_outside.specs.Seen.{SinkSeen}
 use Rattle.vcp_outside.specs.Written.{AppendsPart}
 use Rattle.vcp_outside.specs.declared.failed.Failed.{Failed}
 use Rattle.op_graph.specs.Lists.{Lists}
@@ -10,7 +11,7 @@ use Rattle.coded_machine.specs.declared.cycle_end.CycleEnd.{CycleEnd}
 use Rattle.vcp_answer.specs.Reports.{end_read, run_status}
 use Rattle.vcp_core.specs.EndLines.{summary_then}
 use Rattle.vcp_answer.specs.Sums.{last_value, sum_of}
-use Rattle.vcp_core.specs.declared.ending.End.{End}
+use Rattle.vcp_core.specs.declared.ending.Ending.{Ending}
 use Rattle.vcp_core.specs.Reach.{end_status}
 
 -- numbers are the last value and the sum of these rows, and that is no greater than as many numbers of 64 bits
@@ -28,7 +29,8 @@ abbrev pub summed_text : Lists → List (List ℕ) → ℕ → ℕ → ℤ → �
 summed_text g names number n last sum e = summary_then number names n last sum (end_read g e) None
 
 -- it was printed; or a part of it, where the sink failed
-abbrev pub PrintsSummary : Lists → List (List ℕ) → ℕ → ℕ → ℤ → ℤ → CycleEnd → Option (List ℕ) → Option (List ℕ) → ℕ → ℕ → Result End Failed → Type 0
-PrintsSummary g names number n last sum e old new f h (Ok end) =
-    Appends old new (summed_text g names number n last sum e) × (end_status end ≡ run_status (end_read g e) None)
-PrintsSummary g names number n last sum e old new f h (Err why) = Rose f h × AppendsPart old new (summed_text g names number n last sum e)
+abbrev pub PrintsSummary : Lists → List (List ℕ) → ℕ → ℕ → ℤ → ℤ → CycleEnd → SinkSeen → SinkSeen → Result Ending Failed → Type 0
+PrintsSummary g names number n last sum e before after (Ok end) =
+    Appends before.written after.written (summed_text g names number n last sum e) × (end_status end ≡ run_status (end_read g e) None)
+PrintsSummary g names number n last sum e before after (Err why) =
+    Rose before.faults after.faults × AppendsPart before.written after.written (summed_text g names number n last sum e)

@@ -29,7 +29,7 @@ use Rattle.vcp_answer.specs.Answer.{Answer, Subject, source, image}
 use Rattle.vcp_answer.specs.FileTasks.{ParsedFile, TypedFile, ImageFile, ScriptFile, TakenRows, OnRows}
 use Rattle.vcp_answer.specs.Kinds.{Task, answers, compiles, runs, judges, prints, refusal_task}
 use Rattle.vcp_answer.specs.Printing.{every_row, each_word, summed_up, no_words, cycle_words, told_answer}
-use Rattle.vcp_answer.specs.Reports.{end_told, names_of, output_names}
+use Rattle.vcp_answer.specs.Reports.{end_told, subject_outputs, output_names}
 use Rattle.vcp_answer.specs.RunKind.{Job}
 
 -- ---- what single commands print and name, and their limits
@@ -52,8 +52,8 @@ abbrev pub widened : Lists → Lists
 widened g = record g { profile = profile.Wide }
 
 -- the code of a table
-abbrev pub code_of : Numbers → Code
-code_of t = record { seed = t.seed; step = t.step }
+abbrev pub table_code : Numbers → Code
+table_code t = record { seed = t.seed; step = t.step }
 
 -- the name by which lines tell the source and the rows
 abbrev pub made_name : List ℕ
@@ -101,7 +101,7 @@ graph_columns g = map (column g.names) g.inputs
 -- a run of which each row is printed, on the rows that are left, which are told by this name
 abbrev pub rows_job : List ℕ → Code → Subject → RowsLeft → Job
 rows_job name code s left =
-    record { subject = s; rows = left; rows_name = name; code = code; printing = every_row (names_of s); words = no_words }
+    record { subject = s; rows = left; rows_name = name; code = code; printing = every_row (subject_outputs s); words = no_words }
 
 -- one of which the words of cycle n of a graph are printed
 abbrev pub words_job : List ℕ → ℕ → Lists → Code → RowsLeft → Job
@@ -135,13 +135,13 @@ RunTask p rows code held task =
 
 abbrev pub ExecTask : List ℕ → Rows → Held → Task → Type 0
 ExecTask m rows held task =
-    ImageFile (λ i. TakenRows (λ left x. x ≡ runs (rows_job (rows_name rows) (code_of i.table) (image i.graph) left)) rows held (graph_columns i.graph))
+    ImageFile (λ i. TakenRows (λ left x. x ≡ runs (rows_job (rows_name rows) (table_code i.table) (image i.graph) left)) rows held (graph_columns i.graph))
     m held task
 
 abbrev pub TraceTask : List ℕ → Rows → ℕ → Held → Task → Type 0
 TraceTask m rows n held task =
     ImageFile
-    (λ i. TakenRows (λ left x. x ≡ runs (words_job (rows_name rows) n i.graph (code_of i.table) (through n left))) rows held (graph_columns i.graph))
+    (λ i. TakenRows (λ left x. x ≡ runs (words_job (rows_name rows) n i.graph (table_code i.table) (through n left))) rows held (graph_columns i.graph))
     m held task
 
 -- the made source of a number, on its made rows; no file is read
@@ -163,10 +163,10 @@ pub data FewRows (name : List ℕ) (g : Lists) (Then : List (List ℤ) → Task 
   too_many : most_trace < length rows * length g.operations → FewRows name g Then rows (refusal_task name refusal.Trace)
   few : (task : Task) → length rows * length g.operations ≤ most_trace → Then rows task → FewRows name g Then rows task
 
--- the faults of the script F over the rows of an image
+-- the groups of the script F over the rows of an image
 abbrev pub JudgedScript : Image → List ℕ → Held → List (List ℤ) → Task → Type 0
 JudgedScript i f held rows task =
-    ScriptFile i.graph (λ faults x. x ≡ judges (record { graph = i.graph; table = i.table; rows = rows; faults = faults })) f held task
+    ScriptFile i.graph (λ groups x. x ≡ judges (record { graph = i.graph; table = i.table; rows = rows; groups = groups })) f held task
 
 abbrev pub InjectTask : List ℕ → Rows → List ℕ → Held → Task → Type 0
 InjectTask m rows f held task =

@@ -1,16 +1,16 @@
 //! The command `compile`, up to the line of its fault.
 
 ghost use Rattle.std.specs.Prelude.{IfOk, List, Option, ℕ};
-ghost use Rattle.coded_unit.specs.Log.{Entry};
 ghost use Rattle.vcp_words.specs.Forms.{compile, as_code, IsCode};
 ghost use Rattle.vcp_core.specs.Compile.{IsImageFor};
 ghost use Rattle.vcp_answer.specs.Abouts.{about};
 ghost use Rattle.vcp_answer.specs.Performing.{Performs};
-ghost use Rattle.vcp_answer.specs.Seen.{files_seen, moment_seen};
+ghost use Rattle.coded_unit.specs.Seen.{UnitSeen};
+ghost use Rattle.machine_run.specs.Moments.{moment};
 ghost use Rattle.vcp_core.specs.Tasks.{CompileTask};
 ghost use Rattle.vcp_core.specs.Reach.{told_line, told_status};
 
-use crate::ending::End;
+use crate::ending::Ending;
 use crate::fault::Fault;
 use crate::graphs::graph_of;
 use image_file::write_image;
@@ -35,27 +35,28 @@ fn image_for(alloc: Global, program: &Typed, code: Code) -> Result<Text, Memory>
 /// Does what the words `compile P CODE` say, and writes to `out` alone: P is read whole and taken
 /// through its refusals, and then the image of its operations is written, with the numbers of the
 /// code.
-pub fn compile_command<F: Files, O: Sink>(
+pub fn compile_command<'a, F: Files, O: Sink>(
     alloc: Global,
-    source: &Text,
+    source: &'a Text,
     code: Code,
     files: &mut F,
     out: &mut O,
-) -> Result<End, Fault>
+) -> Result<Ending, Fault<'a>>
     requires code { IsCode (as_code code) }
-    ensures { (log : Option (List Entry)) (wrong : ℕ) → Performs (about (compile source.now (as_code code)))
+    ensures { (unit : UnitSeen) → Performs (about (compile source.now (as_code code)))
         (CompileTask source.now (as_code code))
-        (files_seen (F.held files.old) (F.rest files.old) (F.faults files.old) (F.broken files.old))
-        (files_seen (F.held files.new) (F.rest files.new) (F.faults files.new) (F.broken files.new))
-        (moment_seen log wrong (O.written out.old) (O.faults out.old)) (moment_seen log wrong (O.written out.new) (O.faults out.new))
-        (told_line (compile source.now (as_code code)) result) (told_status result) }
+        (F.seen files.old) (F.seen files.new) (moment unit (O.seen out.old)) (moment unit (O.seen out.new))
+        (told_line result) (told_status result) }
 {
     match load_typed(alloc, files, source) {
         Ok(program) => {
             let image = image_for(alloc, &program, code)?;
             write_all(out, image.bytes())?;
-            Ok(End::Done)
+            Ok(Ending::Done)
         }
-        Err(input) => Err(Fault::Source(input)),
+        Err(input) => Err(Fault::Input {
+            name: source.bytes(),
+            input,
+        }),
     }
 }

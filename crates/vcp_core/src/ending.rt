@@ -1,11 +1,15 @@
 //! How commands end.
 
 ghost use Rattle.std.specs.Prelude.{◌≡◌};
-ghost use Rattle.vcp_core.specs.Reach.{end_status};
+ghost use Rattle.vcp_core.specs.Reach.{end_status, run_code, run_line, told_line, told_status};
+
+use crate::fault::Fault;
+use machine_run::RunFault;
+use vcp_inputs::NoInput;
 
 /// How a command came to its end.
 #[derive(Clone, Copy, Debug, PartialEq, Eq)]
-pub enum End {
+pub enum Ending {
     /// All was printed; a run came to the end of its rows.
     Done,
     /// A run stopped.
@@ -15,12 +19,28 @@ pub enum End {
 }
 
 /// The status of a command that came to its end so.
-pub fn status_of(end: End) -> u8
+pub fn status_of(end: Ending) -> u8
     ensures { result ≡ end_status end }
 {
     match end {
-        End::Done => 0,
-        End::Stopped => 2,
-        End::Refused => 3,
+        Ending::Done => 0,
+        Ending::Stopped => 2,
+        Ending::Refused => 3,
+    }
+}
+
+/// How a command ends whose run, on rows that lines tell by this name, ended so.
+pub fn run_ended<'a>(rows: &'a [u8], ended: Result<Ending, RunFault>) -> Result<Ending, Fault<'a>>
+    ensures line { told_line result ≡ run_line rows.now ended }
+    ensures status { told_status result ≡ run_code ended }
+{
+    match ended {
+        Ok(end) => Ok(end),
+        Err(RunFault::Rows(fault)) => Err(Fault::Input {
+            name: rows,
+            input: NoInput::from(fault),
+        }),
+        Err(RunFault::Write) => Err(Fault::Write),
+        Err(RunFault::Memory) => Err(Fault::Memory),
     }
 }

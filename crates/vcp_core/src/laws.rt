@@ -17,15 +17,10 @@ ghost use Rattle.vcp_answer.specs.Answer.{Answer};
 ghost use Rattle.vcp_answer.specs.FileTasks.{ImageFile};
 ghost use Rattle.vcp_answer.specs.Endings.{HasOwnStatus};
 ghost use Rattle.vcp_answer.specs.Kinds.{Task, answers, lacks, prints, Meant};
-ghost use Rattle.vcp_core.specs.AcceptedRuns.{AcceptedIsReleased};
 ghost use Rattle.vcp_core.specs.Tasks.{AuditTask, TaskOf, widened};
 ghost use Rattle.vcp_core.specs.StaleSeen.{StaleShows};
 
 use audit_report::an_audit_has_one_text;
-use fault_runs::{
-    ends_under_acts_are_read_off_the_answers, runs_under_acts_keep_the_run_law,
-    scripted_runs_are_right_runs,
-};
 use image_file::images_are_told_apart;
 use st_lexer::one_reading;
 use st_parser::one_answer;
@@ -75,15 +70,4 @@ pub fn stale_operands_are_seen()
     ensures { StaleShows }
 {
     differences_come_as_weights();
-}
-
-/// In each cycle that the run with a fault reaches and ends without a stop, over a unit that carries the
-/// fault out around an honest one: the machine ends it by a release exactly where every output is
-/// accepted, and by a refusal of the first that isn't.
-pub fn accepted_outputs_are_released()
-    ensures { AcceptedIsReleased }
-{
-    runs_under_acts_keep_the_run_law();
-    ends_under_acts_are_read_off_the_answers();
-    scripted_runs_are_right_runs();
 }

@@ -10,7 +10,6 @@ mod exec;
 mod fault;
 mod format;
 mod graphs;
-mod image_loading;
 mod inject;
 mod laws;
 mod listing;
@@ -26,7 +25,5 @@ mod trace;
 mod tracing;
 mod widen;
 
-pub use laws::{
-    accepted_outputs_are_released, one_task, stale_operands_are_seen, written_images_are_taken,
-};
+pub use laws::{one_task, stale_operands_are_seen, written_images_are_taken};
 pub use top::vcp;

@@ -5,18 +5,18 @@ ghost use Rattle.std.specs.Prelude.{All};
 ghost use Rattle.vcp_base.specs.Limits.{most_cycles};
 ghost use Rattle.vcp_base.specs.Types.{AreIn};
 ghost use Rattle.vcp_outside.specs.Counts.{Rose};
-ghost use Rattle.vcp_outside.specs.Written.{Writes};
+ghost use Rattle.vcp_outside.specs.Written.{WritesTo};
 ghost use Rattle.vcp_typed.specs.Checked.{IsChecked};
 ghost use Rattle.vcp_typed.specs.Fitting.{AreFit, input_types, output_columns, output_types};
 ghost use Rattle.vcp_typed.specs.Meaning.{Stop as StopOf};
 ghost use Rattle.vcp_typed.specs.SourceRun.{cycle as cycle_of};
 ghost use Rattle.flat_expr.specs.Told.{names_of};
 ghost use Rattle.vcp_core.specs.PlainRun.{Prints, PrintsFrom, cycle_line};
-ghost use Rattle.vcp_core.specs.declared.fault.Fault.TheVariants as fault;
+ghost use Rattle.machine_run.specs.declared.fault.RunFault.TheVariants as fault;
 
-use crate::ending::End;
-use crate::fault::Fault;
+use crate::ending::Ending;
 use input_rows::Rows;
+use machine_run::RunFault;
 use run_report::{end_line, header_line, row_line, stop_line};
 use st_plain::Plain;
 use std::alloc::Global;
@@ -59,7 +59,7 @@ fn print_cycle<O: Sink>(
     requires row { AreIn (input_types plain.old.program.slots) inputs.now }
     requires cells { length outputs.old ≡ length (output_types plain.old.program.slots) }
     ensures program { plain.new.program ≡ plain.old.program }
-    ensures line { Writes (O.written out.old) (O.written out.new) (O.faults out.old) (O.faults out.new)
+    ensures line { WritesTo (O.seen out.old) (O.seen out.new)
         (cycle_line plain.old.program.slots cycle (cycle_of plain.old.program plain.old.values inputs.now)) result }
     ensures going { IfOk result (λ more. more ≡ true → plain.new.stop ≡ None) }
     ensures values { IfOk result (λ more. more ≡ true → cycle_of plain.old.program plain.old.values inputs.now ≡ Ok plain.new.values) }
@@ -91,7 +91,7 @@ fn print_cycles<O: Sink>(
     inputs: &mut Row,
     outputs: &mut Row,
     out: &mut O,
-) -> Result<End, Fault>
+) -> Result<Ending, RunFault>
     requires going { plain.old.stop ≡ None }
     requires checked { IsChecked plain.old.program }
     requires fit { AreFit plain.old.program.slots plain.old.values }
@@ -101,18 +101,18 @@ fn print_cycles<O: Sink>(
     requires few { length rows.old.rows ≤ most_cycles }
     requires inputs { length inputs.old ≡ length (input_types plain.old.program.slots) }
     requires outputs { length outputs.old ≡ length (output_types plain.old.program.slots) }
-    ensures prints { PrintsFrom plain.old.program 0 plain.old.values rows.old (O.written out.old) (O.written out.new) result }
-    ensures write { result ≡ Err fault.Write → Rose (O.faults out.old) (O.faults out.new) }
+    ensures prints { PrintsFrom plain.old.program 0 plain.old.values rows.old (O.seen out.old).written (O.seen out.new).written result }
+    ensures write { result ≡ Err fault.Write → Rose (O.seen out.old).faults (O.seen out.new).faults }
 {
     let mut count: u32 = 0;
     'cycles: while rows.next(alloc, inputs)? {
         if !print_cycle(plain, count, names, inputs, outputs, out)? {
-            return Ok(End::Stopped);
+            return Ok(Ending::Stopped);
         }
         count += 1;
     }
     end_line(out, count)?;
-    Ok(End::Done)
+    Ok(Ending::Done)
 }
 
 /// Prints a program's own run on the rows that are left: the header, a line for each cycle as its row
@@ -123,12 +123,12 @@ pub fn print_run<O: Sink>(
     program: &Typed,
     rows: &mut Rows<'_>,
     out: &mut O,
-) -> Result<End, Fault>
+) -> Result<Ending, RunFault>
     requires types { rows.old.types ≡ input_types program.now.slots }
     requires typed { All (AreIn rows.old.types) rows.old.rows }
     requires few { length rows.old.rows ≤ most_cycles }
-    ensures prints { Prints program.now rows.old (O.written out.old) (O.written out.new) result }
-    ensures write { result ≡ Err fault.Write → Rose (O.faults out.old) (O.faults out.new) }
+    ensures prints { Prints program.now rows.old (O.seen out.old).written (O.seen out.new).written result }
+    ensures write { result ≡ Err fault.Write → Rose (O.seen out.old).faults (O.seen out.new).faults }
 {
     let columns = program.output_columns(alloc)?;
     let names = slot_names(alloc, &program.slots().items)?;
@@ -143,15 +143,15 @@ fn print_named<O: Sink>(
     names: &Words,
     rows: &mut Rows<'_>,
     out: &mut O,
-) -> Result<End, Fault>
+) -> Result<Ending, RunFault>
     requires checked { IsChecked program.now }
     requires columns { columns.now ≡ output_columns program.now.slots }
     requires names { names.now ≡ names_of program.now.slots }
     requires types { rows.old.types ≡ input_types program.now.slots }
     requires typed { All (AreIn rows.old.types) rows.old.rows }
     requires few { length rows.old.rows ≤ most_cycles }
-    ensures prints { Prints program.now rows.old (O.written out.old) (O.written out.new) result }
-    ensures write { result ≡ Err fault.Write → Rose (O.faults out.old) (O.faults out.new) }
+    ensures prints { Prints program.now rows.old (O.seen out.old).written (O.seen out.new).written result }
+    ensures write { result ≡ Err fault.Write → Rose (O.seen out.old).faults (O.seen out.new).faults }
 {
     values_fit();
     let mut inputs = zeros(alloc, &program.columns(alloc)?)?;

@@ -11,19 +11,18 @@ ghost use Rattle.machine_run.specs.Stops.{GrowsToStop};
 ghost use Rattle.signature_table.specs.Signatures.{IsTableOf};
 ghost use Rattle.vcp_words.specs.Forms.{Code as CodeOf, as_code, IsCode};
 ghost use Rattle.vcp_answer.specs.Answer.{Subject, source};
-ghost use Rattle.vcp_answer.specs.Seen.{moment_seen};
+ghost use Rattle.machine_run.specs.Moments.{moment};
 ghost use Rattle.vcp_core.specs.Tasks.{rows_job};
 ghost use Rattle.vcp_core.specs.MachineRun.{CarriesOut, RunsTo, IsThere, PrintsEnd};
-ghost use Rattle.vcp_core.specs.declared.ending.End.TheVariants as end;
-ghost use Rattle.vcp_core.specs.declared.fault.Fault.TheVariants as fault;
+ghost use Rattle.vcp_core.specs.declared.ending.Ending.TheVariants as end;
+ghost use Rattle.machine_run.specs.declared.fault.RunFault.TheVariants as fault;
 
-use crate::ending::End;
-use crate::fault::Fault;
+use crate::ending::Ending;
 use crate::graphs::graph_of;
 use coded_machine::{CycleEnd, Machine};
 use coded_unit::Unit;
 use input_rows::Rows;
-use machine_run::{ReleasedRows, run_rows};
+use machine_run::{ReleasedRows, RunFault, run_rows};
 use op_graph::Graph;
 use run_report::{end_line, graph_stop_line, header_line, refused_line, row_line};
 use signature_table::Table;
@@ -55,20 +54,19 @@ pub fn print_end<O: Sink>(
     outputs: &Columns,
     cycles: u32,
     end: &CycleEnd,
-) -> Result<End, Failed>
+) -> Result<Ending, Failed>
     requires there { IsThere graph.now end.now }
     requires outputs { length outputs.now ≡ length graph.now.outputs }
-    ensures { PrintsEnd graph.now (map (λ c. c.name) outputs.now) cycles end.now (O.written out.old) (O.written out.new) (O.faults out.old)
-        (O.faults out.new) result }
+    ensures { PrintsEnd graph.now (map (λ c. c.name) outputs.now) cycles end.now (O.seen out.old) (O.seen out.new) result }
 {
     match end {
         CycleEnd::Released => {
             end_line(out, cycles)?;
-            Ok(End::Done)
+            Ok(Ending::Done)
         }
         CycleEnd::Stopped { op, kind } => {
             graph_stop_line(out, cycles, *kind, graph, *op)?;
-            Ok(End::Stopped)
+            Ok(Ending::Stopped)
         }
         CycleEnd::Refused {
             output,
@@ -77,7 +75,7 @@ pub fn print_end<O: Sink>(
         } => {
             let name = &outputs.at(*output as usize).name;
             refused_line(out, cycles, name, *found, *expected)?;
-            Ok(End::Refused)
+            Ok(Ending::Refused)
         }
     }
 }
@@ -93,18 +91,17 @@ pub fn run_graph<U: Unit, O: Sink>(
     rows: &mut Rows<'_>,
     unit: &mut U,
     out: &mut O,
-) -> Result<End, Fault>
+) -> Result<Ending, RunFault>
     requires table { IsTableOf table.now graph.now }
     requires width { length rows.old.types ≡ length graph.now.inputs }
     requires few { length rows.old.rows ≤ most_cycles }
     requires behind { IfSome rows.old.refusal IsOfRecord }
     ensures ran { (name : List ℕ) (subject : Subject) (code : CodeOf) → CarriesOut graph.now table.now rows.old subject code →
         RunsTo (rows_job name code subject rows.old)
-        (moment_seen (U.log unit.old) (U.wrong unit.old) (O.written out.old) (O.faults out.old))
-        (moment_seen (U.log unit.new) (U.wrong unit.new) (O.written out.new) (O.faults out.new)) result }
-    ensures write { result ≡ Err fault.Write → Rose (O.faults out.old) (O.faults out.new) }
-    ensures refused { result ≡ Ok end.Refused → Rose (U.wrong unit.old) (U.wrong unit.new) }
-    ensures stopped { result ≡ Ok end.Stopped → GrowsToStop (U.log unit.old) (U.log unit.new) }
+        (moment (U.seen unit.old) (O.seen out.old)) (moment (U.seen unit.new) (O.seen out.new)) result }
+    ensures write { result ≡ Err fault.Write → Rose (O.seen out.old).faults (O.seen out.new).faults }
+    ensures refused { result ≡ Ok end.Refused → Rose (U.seen unit.old).wrong (U.seen unit.new).wrong }
+    ensures stopped { result ≡ Ok end.Stopped → GrowsToStop (U.seen unit.old).log (U.seen unit.new).log }
 {
     let mut machine = Machine::new(alloc, graph, table)?;
     let outputs = graph.output_columns(alloc)?;
@@ -121,18 +118,17 @@ pub fn run_program<U: Unit, O: Sink>(
     rows: &mut Rows<'_>,
     unit: &mut U,
     out: &mut O,
-) -> Result<End, Fault>
+) -> Result<Ending, RunFault>
     requires types { rows.old.types ≡ input_types program.now.slots }
     requires typed { All (AreIn rows.old.types) rows.old.rows }
     requires few { length rows.old.rows ≤ most_cycles }
     requires behind { IfSome rows.old.refusal IsOfRecord }
     requires code { IsCode (as_code code) }
     ensures ran { (name : List ℕ) → RunsTo (rows_job name (as_code code) (source program.now) rows.old)
-        (moment_seen (U.log unit.old) (U.wrong unit.old) (O.written out.old) (O.faults out.old))
-        (moment_seen (U.log unit.new) (U.wrong unit.new) (O.written out.new) (O.faults out.new)) result }
-    ensures write { result ≡ Err fault.Write → Rose (O.faults out.old) (O.faults out.new) }
-    ensures refused { result ≡ Ok end.Refused → Rose (U.wrong unit.old) (U.wrong unit.new) }
-    ensures stopped { result ≡ Ok end.Stopped → GrowsToStop (U.log unit.old) (U.log unit.new) }
+        (moment (U.seen unit.old) (O.seen out.old)) (moment (U.seen unit.new) (O.seen out.new)) result }
+    ensures write { result ≡ Err fault.Write → Rose (O.seen out.old).faults (O.seen out.new).faults }
+    ensures refused { result ≡ Ok end.Refused → Rose (U.seen unit.old).wrong (U.seen unit.new).wrong }
+    ensures stopped { result ≡ Ok end.Stopped → GrowsToStop (U.seen unit.old).log (U.seen unit.new).log }
 {
     let graph = graph_of(alloc, program)?;
     let table = Table::new(alloc, &graph, code.seed, code.step)?;

@@ -11,22 +11,21 @@ ghost use Rattle.signature_table.specs.Signatures.{IsTableOf};
 ghost use Rattle.vcp_words.specs.Forms.{default_code};
 ghost use Rattle.vcp_typed.specs.SourceRun.{Program};
 ghost use Rattle.vcp_answer.specs.Answer.{source};
-ghost use Rattle.vcp_answer.specs.Seen.{moment_seen};
+ghost use Rattle.machine_run.specs.Moments.{moment};
 ghost use Rattle.vcp_answer.specs.Sums.{first_value as first_value_of};
 ghost use Rattle.vcp_core.specs.Tasks.{summary_job};
 ghost use Rattle.vcp_core.specs.MachineRun.{CarriesOut, RunsTo, IsThere};
 ghost use Rattle.vcp_core.specs.SummaryRun.{KeepsSums, PrintsSummary};
-ghost use Rattle.vcp_core.specs.declared.ending.End.TheVariants as end;
-ghost use Rattle.vcp_core.specs.declared.fault.Fault.TheVariants as fault;
+ghost use Rattle.vcp_core.specs.declared.ending.Ending.TheVariants as end;
+ghost use Rattle.machine_run.specs.declared.fault.RunFault.TheVariants as fault;
 
-use crate::ending::End;
-use crate::fault::Fault;
+use crate::ending::Ending;
 use crate::graphs::graph_of;
 use crate::running::print_end;
 use coded_machine::{CycleEnd, Machine};
 use coded_unit::Unit;
 use input_rows::Rows;
-use machine_run::{ReleasedRows, run_rows};
+use machine_run::{ReleasedRows, RunFault, run_rows};
 use op_graph::Graph;
 use run_report::summary_line;
 use signature_table::Table;
@@ -75,16 +74,16 @@ fn print_summary<O: Sink>(
     cycles: u32,
     sums: &Sums,
     end: &CycleEnd,
-) -> Result<End, Failed>
+) -> Result<Ending, Failed>
     requires there { IsThere graph.now end.now }
     requires outputs { length outputs.now ≡ length graph.now.outputs }
     ensures { PrintsSummary graph.now (map (λ c. c.name) outputs.now) number cycles sums.now.last sums.now.sum end.now
-        (O.written out.old) (O.written out.new) (O.faults out.old) (O.faults out.new) result }
+        (O.seen out.old) (O.seen out.new) result }
 {
     match end {
         CycleEnd::Released => {
             summary_line(out, number, cycles, sums.last, sums.sum)?;
-            Ok(End::Done)
+            Ok(Ending::Done)
         }
         CycleEnd::Stopped { .. } | CycleEnd::Refused { .. } => {
             print_end(out, graph, outputs, cycles, end)
@@ -103,17 +102,16 @@ fn sum_up<U: Unit, O: Sink>(
     rows: &mut Rows<'_>,
     unit: &mut U,
     out: &mut O,
-) -> Result<End, Fault>
+) -> Result<Ending, RunFault>
     requires table { IsTableOf table.now graph.now }
     requires width { length rows.old.types ≡ length graph.now.inputs }
     requires few { length rows.old.rows ≤ most_cycles }
     requires behind { IfSome rows.old.refusal IsOfRecord }
     ensures ran { (p : Program) → CarriesOut graph.now table.now rows.old (source p) default_code → RunsTo (summary_job number p rows.old)
-        (moment_seen (U.log unit.old) (U.wrong unit.old) (O.written out.old) (O.faults out.old))
-        (moment_seen (U.log unit.new) (U.wrong unit.new) (O.written out.new) (O.faults out.new)) result }
-    ensures write { result ≡ Err fault.Write → Rose (O.faults out.old) (O.faults out.new) }
-    ensures refused { result ≡ Ok end.Refused → Rose (U.wrong unit.old) (U.wrong unit.new) }
-    ensures stopped { result ≡ Ok end.Stopped → GrowsToStop (U.log unit.old) (U.log unit.new) }
+        (moment (U.seen unit.old) (O.seen out.old)) (moment (U.seen unit.new) (O.seen out.new)) result }
+    ensures write { result ≡ Err fault.Write → Rose (O.seen out.old).faults (O.seen out.new).faults }
+    ensures refused { result ≡ Ok end.Refused → Rose (U.seen unit.old).wrong (U.seen unit.new).wrong }
+    ensures stopped { result ≡ Ok end.Stopped → GrowsToStop (U.seen unit.old).log (U.seen unit.new).log }
 {
     let mut machine = Machine::new(alloc, graph, table)?;
     let outputs = graph.output_columns(alloc)?;
@@ -132,17 +130,16 @@ pub fn run_summed<U: Unit, O: Sink>(
     rows: &mut Rows<'_>,
     unit: &mut U,
     out: &mut O,
-) -> Result<End, Fault>
+) -> Result<Ending, RunFault>
     requires types { rows.old.types ≡ input_types program.now.slots }
     requires typed { All (AreIn rows.old.types) rows.old.rows }
     requires few { length rows.old.rows ≤ most_cycles }
     requires behind { IfSome rows.old.refusal IsOfRecord }
     ensures ran { RunsTo (summary_job number program.now rows.old)
-        (moment_seen (U.log unit.old) (U.wrong unit.old) (O.written out.old) (O.faults out.old))
-        (moment_seen (U.log unit.new) (U.wrong unit.new) (O.written out.new) (O.faults out.new)) result }
-    ensures write { result ≡ Err fault.Write → Rose (O.faults out.old) (O.faults out.new) }
-    ensures refused { result ≡ Ok end.Refused → Rose (U.wrong unit.old) (U.wrong unit.new) }
-    ensures stopped { result ≡ Ok end.Stopped → GrowsToStop (U.log unit.old) (U.log unit.new) }
+        (moment (U.seen unit.old) (O.seen out.old)) (moment (U.seen unit.new) (O.seen out.new)) result }
+    ensures write { result ≡ Err fault.Write → Rose (O.seen out.old).faults (O.seen out.new).faults }
+    ensures refused { result ≡ Ok end.Refused → Rose (U.seen unit.old).wrong (U.seen unit.new).wrong }
+    ensures stopped { result ≡ Ok end.Stopped → GrowsToStop (U.seen unit.old).log (U.seen unit.new).log }
 {
     let graph = graph_of(alloc, program)?;
     let table = Table::new(alloc, &graph, DEFAULT_CODE.seed, DEFAULT_CODE.step)?;

@@ -6,8 +6,9 @@ ghost use Rattle.vcp_words.specs.Forms.{form, form_of, IsSound};
 ghost use Rattle.vcp_answer.specs.Abouts.{about};
 ghost use Rattle.vcp_answer.specs.Clauses.{AsPlain, GetsUsage, Keeps, MayHold, Serves};
 ghost use Rattle.vcp_answer.specs.Performing.{Performs};
-ghost use Rattle.vcp_answer.specs.Seen.{files_seen, moment_seen, outside_seen};
-ghost use Rattle.vcp_core.specs.AcceptedRuns.{AcceptedIsReleased};
+ghost use Rattle.machine_run.specs.Moments.{moment};
+ghost use Rattle.vcp_answer.specs.Seen.{outside};
+ghost use Rattle.fault_runs.specs.AcceptedRuns.{AcceptedIsReleased};
 ghost use Rattle.vcp_core.specs.Tasks.{TaskOf};
 ghost use Rattle.vcp_core.specs.Reach.{told_line, told_status};
 ghost use Rattle.vcp_core.specs.StaleSeen.{StaleShows};
@@ -16,12 +17,12 @@ use crate::audit::audit_command;
 use crate::check::check_command;
 use crate::compile::compile_command;
 use crate::demo::demo_command;
-use crate::ending::{End, status_of};
+use crate::ending::{Ending, status_of};
 use crate::exec::exec_command;
 use crate::fault::Fault;
 use crate::format::format_command;
 use crate::inject::inject_command;
-use crate::laws::{accepted_outputs_are_released, one_task, stale_operands_are_seen};
+use crate::laws::{one_task, stale_operands_are_seen};
 use crate::listing::list_command;
 use crate::plain::plain_command;
 use crate::run::run_command;
@@ -29,6 +30,7 @@ use crate::telling::{fault_status, tell, tell_usage};
 use crate::trace::trace_command;
 use crate::widen::widen_command;
 use coded_unit::Unit;
+use fault_runs::accepted_outputs_are_released;
 use std::alloc::Global;
 use vcp_base::Words;
 use vcp_outside::{Failed, Files, Sink};
@@ -57,36 +59,28 @@ pub fn vcp<F: Files, U: Unit, O: Sink, E: Sink>(
 ) -> u8
     // Words that are none of the forms get the usage line, and nothing else is done; no other words do.
     ensures usage { form_of words.now ≡ None → GetsUsage
-        (outside_seen (F.held files.old) (F.rest files.old) (F.faults files.old) (F.broken files.old) (U.log unit.old) (U.wrong unit.old)
-        (O.written out.old) (O.faults out.old) (E.written err.old) (E.faults err.old))
-        (outside_seen (F.held files.new) (F.rest files.new) (F.faults files.new) (F.broken files.new) (U.log unit.new) (U.wrong unit.new)
-        (O.written out.new) (O.faults out.new) (E.written err.new) (E.faults err.new)) result }
+        (outside (F.seen files.old) (U.seen unit.old) (O.seen out.old) (E.seen err.old))
+        (outside (F.seen files.new) (U.seen unit.new) (O.seen out.new) (E.seen err.new)) result }
     ensures usage_only { result ≡ 4 → form_of words.now ≡ None }
 
     // Where it is told what is held, or the command reads no file: how the command ends for the task that it comes to, the cause of each
     // status, and that it completes.
-    ensures serves { IfSome (form_of words.now) (λ f. (h : Held) → MayHold (about f) (F.held files.old) h → Serves (about f) h (TaskOf f h)
-        (outside_seen (F.held files.old) (F.rest files.old) (F.faults files.old) (F.broken files.old) (U.log unit.old) (U.wrong unit.old)
-        (O.written out.old) (O.faults out.old) (E.written err.old) (E.faults err.old))
-        (outside_seen (F.held files.new) (F.rest files.new) (F.faults files.new) (F.broken files.new) (U.log unit.new) (U.wrong unit.new)
-        (O.written out.new) (O.faults out.new) (E.written err.new) (E.faults err.new)) result) }
+    ensures serves { IfSome (form_of words.now) (λ f. (h : Held) → MayHold (about f) (F.seen files.old).held h → Serves (about f) h (TaskOf f h)
+        (outside (F.seen files.old) (U.seen unit.old) (O.seen out.old) (E.seen err.old))
+        (outside (F.seen files.new) (U.seen unit.new) (O.seen out.new) (E.seen err.new)) result) }
 
     // With an honest unit `run` writes the bytes of `plain`.
-    ensures as_plain { IfSome (form_of words.now) (λ f. (h : Held) → MayHold (about f) (F.held files.old) h → AsPlain TaskOf f h
-        (outside_seen (F.held files.old) (F.rest files.old) (F.faults files.old) (F.broken files.old) (U.log unit.old) (U.wrong unit.old)
-        (O.written out.old) (O.faults out.old) (E.written err.old) (E.faults err.old))
-        (outside_seen (F.held files.new) (F.rest files.new) (F.faults files.new) (F.broken files.new) (U.log unit.new) (U.wrong unit.new)
-        (O.written out.new) (O.faults out.new) (E.written err.new) (E.faults err.new)) result) }
+    ensures as_plain { IfSome (form_of words.now) (λ f. (h : Held) → MayHold (about f) (F.seen files.old).held h → AsPlain TaskOf f h
+        (outside (F.seen files.old) (U.seen unit.old) (O.seen out.old) (E.seen err.old))
+        (outside (F.seen files.new) (U.seen unit.new) (O.seen out.new) (E.seen err.new)) result) }
 
     // What every command keeps, whatever the objects tell.
     ensures keeps { IfSome (form_of words.now) (λ f. Keeps (about f)
-        (outside_seen (F.held files.old) (F.rest files.old) (F.faults files.old) (F.broken files.old) (U.log unit.old) (U.wrong unit.old)
-        (O.written out.old) (O.faults out.old) (E.written err.old) (E.faults err.old))
-        (outside_seen (F.held files.new) (F.rest files.new) (F.faults files.new) (F.broken files.new) (U.log unit.new) (U.wrong unit.new)
-        (O.written out.new) (O.faults out.new) (E.written err.new) (E.faults err.new)) result) }
+        (outside (F.seen files.old) (U.seen unit.old) (O.seen out.old) (E.seen err.old))
+        (outside (F.seen files.new) (U.seen unit.new) (O.seen out.new) (E.seen err.new)) result) }
     ensures known { result ≤ 7 }
 
-    // Of the faults that `inject` judges: a cycle that the run with a fault reaches and ends without a stop is released exactly where
+    // Of the groups that `inject` judges: a cycle that the run under one reaches and ends without a stop is released exactly where
     // each output is accepted, and else refused at the first that isn't; and a stale operand is unseen at an output exactly where it
     // shows by 0, and else the run is refused, there or before.
     ensures accepted { AcceptedIsReleased }
@@ -113,21 +107,16 @@ fn serve<F: Files, U: Unit, O: Sink, E: Sink>(
     err: &mut E,
 ) -> u8
     requires sound { IsSound (form command.now) }
-    ensures serves { (h : Held) → MayHold (about (form command.now)) (F.held files.old) h → Serves (about (form command.now)) h (TaskOf (form command.now) h)
-        (outside_seen (F.held files.old) (F.rest files.old) (F.faults files.old) (F.broken files.old) (U.log unit.old) (U.wrong unit.old)
-        (O.written out.old) (O.faults out.old) (E.written err.old) (E.faults err.old))
-        (outside_seen (F.held files.new) (F.rest files.new) (F.faults files.new) (F.broken files.new) (U.log unit.new) (U.wrong unit.new)
-        (O.written out.new) (O.faults out.new) (E.written err.new) (E.faults err.new)) result }
+    ensures serves { (h : Held) → MayHold (about (form command.now)) (F.seen files.old).held h →
+        Serves (about (form command.now)) h (TaskOf (form command.now) h)
+        (outside (F.seen files.old) (U.seen unit.old) (O.seen out.old) (E.seen err.old))
+        (outside (F.seen files.new) (U.seen unit.new) (O.seen out.new) (E.seen err.new)) result }
     ensures keeps { Keeps (about (form command.now))
-        (outside_seen (F.held files.old) (F.rest files.old) (F.faults files.old) (F.broken files.old) (U.log unit.old) (U.wrong unit.old)
-        (O.written out.old) (O.faults out.old) (E.written err.old) (E.faults err.old))
-        (outside_seen (F.held files.new) (F.rest files.new) (F.faults files.new) (F.broken files.new) (U.log unit.new) (U.wrong unit.new)
-        (O.written out.new) (O.faults out.new) (E.written err.new) (E.faults err.new)) result }
-    ensures as_plain { (h : Held) → MayHold (about (form command.now)) (F.held files.old) h → AsPlain TaskOf (form command.now) h
-        (outside_seen (F.held files.old) (F.rest files.old) (F.faults files.old) (F.broken files.old) (U.log unit.old) (U.wrong unit.old)
-        (O.written out.old) (O.faults out.old) (E.written err.old) (E.faults err.old))
-        (outside_seen (F.held files.new) (F.rest files.new) (F.faults files.new) (F.broken files.new) (U.log unit.new) (U.wrong unit.new)
-        (O.written out.new) (O.faults out.new) (E.written err.new) (E.faults err.new)) result }
+        (outside (F.seen files.old) (U.seen unit.old) (O.seen out.old) (E.seen err.old))
+        (outside (F.seen files.new) (U.seen unit.new) (O.seen out.new) (E.seen err.new)) result }
+    ensures as_plain { (h : Held) → MayHold (about (form command.now)) (F.seen files.old).held h → AsPlain TaskOf (form command.now) h
+        (outside (F.seen files.old) (U.seen unit.old) (O.seen out.old) (E.seen err.old))
+        (outside (F.seen files.new) (U.seen unit.new) (O.seen out.new) (E.seen err.new)) result }
     ensures no_usage { result ≢ 4 }
     ensures known { result ≤ 7 }
 {
@@ -135,7 +124,7 @@ fn serve<F: Files, U: Unit, O: Sink, E: Sink>(
     one_task();
     match perform(alloc, command, files, unit, out) {
         Ok(end) => status_of(end),
-        Err(fault) => match tell(err, command, &fault) {
+        Err(fault) => match tell(err, &fault) {
             Ok(()) => fault_status(&fault),
             Err(Failed) => 6,
         },
@@ -143,20 +132,17 @@ fn serve<F: Files, U: Unit, O: Sink, E: Sink>(
 }
 
 /// Does what a command says, and writes to `out` alone.
-fn perform<F: Files, U: Unit, O: Sink>(
+fn perform<'a, F: Files, U: Unit, O: Sink>(
     alloc: Global,
-    command: &Command<'_>,
+    command: &Command<'a>,
     files: &mut F,
     unit: &mut U,
     out: &mut O,
-) -> Result<End, Fault>
+) -> Result<Ending, Fault<'a>>
     requires sound { IsSound (form command.now) }
     ensures { Performs (about (form command.now)) (TaskOf (form command.now))
-        (files_seen (F.held files.old) (F.rest files.old) (F.faults files.old) (F.broken files.old))
-        (files_seen (F.held files.new) (F.rest files.new) (F.faults files.new) (F.broken files.new))
-        (moment_seen (U.log unit.old) (U.wrong unit.old) (O.written out.old) (O.faults out.old))
-        (moment_seen (U.log unit.new) (U.wrong unit.new) (O.written out.new) (O.faults out.new))
-        (told_line (form command.now) result) (told_status result) }
+        (F.seen files.old) (F.seen files.new) (moment (U.seen unit.old) (O.seen out.old)) (moment (U.seen unit.new) (O.seen out.new))
+        (told_line result) (told_status result) }
 {
     match command {
         Command::Check { source } => check_command(alloc, source, files, out),

@@ -5,52 +5,67 @@ ghost use Rattle.vcp_base.specs.Limits.{most_cycles};
 ghost use Rattle.vcp_words.specs.Forms.{trace, rows_of, AreFew};
 ghost use Rattle.vcp_answer.specs.Abouts.{about};
 ghost use Rattle.vcp_answer.specs.Performing.{Performs};
-ghost use Rattle.vcp_answer.specs.Seen.{files_seen, moment_seen};
+ghost use Rattle.machine_run.specs.Moments.{moment};
 ghost use Rattle.vcp_core.specs.Tasks.{TraceTask};
 ghost use Rattle.vcp_core.specs.Reach.{told_line, told_status};
 
-use crate::ending::End;
+use crate::ending::{Ending, run_ended};
 use crate::fault::Fault;
-use crate::image_loading::load_image_and_rows;
+use crate::loading::{graph_columns, rows_name};
 use crate::tracing::run_words;
 use coded_unit::Unit;
 use std::alloc::Global;
 use vcp_base::Text;
+use vcp_inputs::{load_image, load_rows};
 use vcp_outside::{Files, Sink};
 use vcp_words::RowsWord;
 
 /// Does what the words `trace M ROWS CYCLE` say, and writes to `out` alone: M is read whole and taken
 /// through its refusals, then ROWS, and then the operations of its graph are run on the rows through
 /// the cycle, on the unit, as words of its code; the words of that cycle are written.
-pub fn trace_command<F: Files, U: Unit, O: Sink>(
+pub fn trace_command<'a, F: Files, U: Unit, O: Sink>(
     alloc: Global,
-    image: &Text,
-    rows: RowsWord<'_>,
+    image: &'a Text,
+    rows: RowsWord<'a>,
     cycle: u32,
     files: &mut F,
     unit: &mut U,
     out: &mut O,
-) -> Result<End, Fault>
+) -> Result<Ending, Fault<'a>>
     requires few { AreFew (rows_of rows) }
     requires cycle { cycle < most_cycles }
     ensures { Performs (about (trace image.now (rows_of rows.entry) cycle)) (TraceTask image.now (rows_of rows.entry) cycle)
-        (files_seen (F.held files.old) (F.rest files.old) (F.faults files.old) (F.broken files.old))
-        (files_seen (F.held files.new) (F.rest files.new) (F.faults files.new) (F.broken files.new))
-        (moment_seen (U.log unit.old) (U.wrong unit.old) (O.written out.old) (O.faults out.old))
-        (moment_seen (U.log unit.new) (U.wrong unit.new) (O.written out.new) (O.faults out.new))
-        (told_line (trace image.now (rows_of rows.entry) cycle) result) (told_status result) }
+        (F.seen files.old) (F.seen files.new) (moment (U.seen unit.old) (O.seen out.old)) (moment (U.seen unit.new) (O.seen out.new))
+        (told_line result) (told_status result) }
 {
-    let loaded = load_image_and_rows(alloc, image, rows, files)?;
-    match loaded.rows.open(alloc, &loaded.columns) {
-        Ok(rows) => run_words(
-            alloc,
-            &loaded.image.graph,
-            &loaded.image.table,
-            cycle,
-            &mut rows.through(cycle),
-            unit,
-            out,
+    let loaded = match load_image(alloc, files, image) {
+        Ok(loaded) => loaded,
+        Err(input) => {
+            return Err(Fault::Input {
+                name: image.bytes(),
+                input,
+            });
+        }
+    };
+    let columns = graph_columns(alloc, &loaded.graph)?;
+    let name = rows_name(rows);
+    let inputs = match load_rows(alloc, files, rows, &columns) {
+        Ok(inputs) => inputs,
+        Err(input) => return Err(Fault::Input { name, input }),
+    };
+    match inputs.open(alloc, &columns) {
+        Ok(rows) => run_ended(
+            name,
+            run_words(
+                alloc,
+                &loaded.graph,
+                &loaded.table,
+                cycle,
+                &mut rows.through(cycle),
+                unit,
+                out,
+            ),
         ),
-        Err(input) => Err(Fault::Rows(input)),
+        Err(input) => Err(Fault::Input { name, input }),
     }
 }

@@ -3,26 +3,25 @@
 ghost use Rattle.std.specs.Prelude.{◌≡◌, ◌+◌, ◌<◌, ◌≤◌, ℕ, List, [], None, Ok, Err, IfSome, length, map};
 ghost use Rattle.vcp_base.specs.Limits.{most_cycles};
 ghost use Rattle.vcp_outside.specs.Counts.{Rose};
-ghost use Rattle.vcp_outside.specs.Written.{Writes};
+ghost use Rattle.vcp_outside.specs.Written.{WritesTo};
 ghost use Rattle.input_rows.specs.RowsOf.{IsOfRecord};
 ghost use Rattle.signature_table.specs.Signatures.{table_of};
 ghost use Rattle.coded_machine.specs.Calls.{Whole};
 ghost use Rattle.machine_run.specs.Stops.{GrowsToStop};
 ghost use Rattle.vcp_answer.specs.CycleWords.{word_lines, words_among};
-ghost use Rattle.vcp_answer.specs.Seen.{moment_seen};
-ghost use Rattle.vcp_core.specs.Tasks.{words_job, code_of};
+ghost use Rattle.machine_run.specs.Moments.{moment};
+ghost use Rattle.vcp_core.specs.Tasks.{words_job, table_code};
 ghost use Rattle.vcp_core.specs.MachineRun.{IsThere, RunsTo};
 ghost use Rattle.vcp_core.specs.TraceRun.{PrintsWords, answered_words};
-ghost use Rattle.vcp_core.specs.declared.ending.End.TheVariants as end;
-ghost use Rattle.vcp_core.specs.declared.fault.Fault.TheVariants as fault;
+ghost use Rattle.vcp_core.specs.declared.ending.Ending.TheVariants as end;
+ghost use Rattle.machine_run.specs.declared.fault.RunFault.TheVariants as fault;
 
-use crate::ending::End;
-use crate::fault::Fault;
+use crate::ending::Ending;
 use crate::running::print_end;
 use coded_machine::{CycleEnd, Machine, right_answers_stand_for_values};
 use coded_unit::Unit;
 use input_rows::Rows;
-use machine_run::{ReleasedRows, run_rows};
+use machine_run::{ReleasedRows, RunFault, run_rows};
 use op_graph::Graph;
 use run_report::trace_line;
 use signature_table::Table;
@@ -50,7 +49,7 @@ fn print_words<O: Sink>(out: &mut O, machine: &Machine<'_>, cycle: u32) -> Resul
     requires cycle { cycle < most_cycles }
     requires table { length machine.now.table.corrections ≡ length machine.now.graph.operations }
     requires whole { Whole machine.now.graph.operations machine.now.answers }
-    ensures { Writes (O.written out.old) (O.written out.new) (O.faults out.old) (O.faults out.new)
+    ensures { WritesTo (O.seen out.old) (O.seen out.new)
         (word_lines machine.now.graph machine.now.table cycle 0 machine.now.graph.operations (words_among machine.now.answers)) result }
 {
     let graph = machine.graph();
@@ -69,7 +68,7 @@ fn print_begun<O: Sink>(out: &mut O, machine: &Machine<'_>, cycle: u32) -> Resul
     requires cycle { cycle < most_cycles }
     requires table { length machine.now.table.corrections ≡ length machine.now.graph.operations }
     requires whole { cycle ≤ machine.now.cycles → Whole machine.now.graph.operations machine.now.answers }
-    ensures { Writes (O.written out.old) (O.written out.new) (O.faults out.old) (O.faults out.new)
+    ensures { WritesTo (O.seen out.old) (O.seen out.new)
         (word_lines machine.now.graph machine.now.table cycle 0 machine.now.graph.operations (answered_words machine.now cycle)) result }
 {
     if cycle <= machine.cycles() {
@@ -86,20 +85,20 @@ fn print_traced<O: Sink>(
     outputs: &Columns,
     cycle: u32,
     end: &CycleEnd,
-) -> Result<End, Failed>
+) -> Result<Ending, Failed>
     requires cycle { cycle < most_cycles }
     requires table { length machine.now.table.corrections ≡ length machine.now.graph.operations }
     requires whole { cycle ≤ machine.now.cycles → Whole machine.now.graph.operations machine.now.answers }
     requires there { IsThere machine.now.graph end.now }
     requires outputs { length outputs.now ≡ length machine.now.graph.outputs }
     ensures { PrintsWords machine.now (map (λ c. c.name) outputs.now) cycle end.now
-        (O.written out.old) (O.written out.new) (O.faults out.old) (O.faults out.new) result }
+        (O.seen out.old) (O.seen out.new) result }
 {
     print_begun(out, machine, cycle)?;
     match end {
         CycleEnd::Released => {
             write_all(out, b"released\n")?;
-            Ok(End::Done)
+            Ok(Ending::Done)
         }
         CycleEnd::Stopped { .. } | CycleEnd::Refused { .. } => {
             print_end(out, machine.graph(), outputs, machine.cycles(), end)
@@ -118,19 +117,18 @@ pub fn run_words<U: Unit, O: Sink>(
     rows: &mut Rows<'_>,
     unit: &mut U,
     out: &mut O,
-) -> Result<End, Fault>
+) -> Result<Ending, RunFault>
     requires table { table.now ≡ table_of table.now.seed table.now.step graph.now }
     requires cycle { cycle < most_cycles }
     requires width { length rows.old.types ≡ length graph.now.inputs }
     requires few { length rows.old.rows ≤ cycle + 1 }
     requires through { rows.old.refusal ≡ None → length rows.old.rows ≡ cycle + 1 }
     requires behind { IfSome rows.old.refusal IsOfRecord }
-    ensures ran { (name : List ℕ) → RunsTo (words_job name cycle graph.now (code_of table.now) rows.old)
-        (moment_seen (U.log unit.old) (U.wrong unit.old) (O.written out.old) (O.faults out.old))
-        (moment_seen (U.log unit.new) (U.wrong unit.new) (O.written out.new) (O.faults out.new)) result }
-    ensures write { result ≡ Err fault.Write → Rose (O.faults out.old) (O.faults out.new) }
-    ensures refused { result ≡ Ok end.Refused → Rose (U.wrong unit.old) (U.wrong unit.new) }
-    ensures stopped { result ≡ Ok end.Stopped → GrowsToStop (U.log unit.old) (U.log unit.new) }
+    ensures ran { (name : List ℕ) → RunsTo (words_job name cycle graph.now (table_code table.now) rows.old)
+        (moment (U.seen unit.old) (O.seen out.old)) (moment (U.seen unit.new) (O.seen out.new)) result }
+    ensures write { result ≡ Err fault.Write → Rose (O.seen out.old).faults (O.seen out.new).faults }
+    ensures refused { result ≡ Ok end.Refused → Rose (U.seen unit.old).wrong (U.seen unit.new).wrong }
+    ensures stopped { result ≡ Ok end.Stopped → GrowsToStop (U.seen unit.old).log (U.seen unit.new).log }
 {
     // So the words of an honest unit are those that are meant.
     right_answers_stand_for_values();

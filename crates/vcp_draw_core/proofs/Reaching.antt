@@ -15,7 +15,7 @@ use Rattle.graph_picture.specs.Arrangement.{Arrangement, IsArranged}
 use Rattle.graph_picture.specs.Elements.{graph_text}
 use Rattle.vcp_draw_core.specs.declared.fault.Fault.{Fault}
 use Rattle.vcp_draw_core.specs.declared.fault.Fault.TheVariants as fault
-use Rattle.vcp_draw_core.specs.Reach.{IsImage, IsDrawn, no_image, too_large, Reaches, IsUnread}
+use Rattle.vcp_draw_core.specs.Reach.{IsImage, IsDrawn, no_image, too_large, ReachesGraph, IsUnread}
 
 pub if_some_weaker : {X : Type 0} (o : Option X) (P Q : X → Type 0) → ((x : X) → P x → Q x) → IfSome o P → IfSome o Q
 if_some_weaker None P Q f h = tt
@@ -39,7 +39,7 @@ appends-nothing (Some bytes) = sym (append-nil bytes)
 
 module _ (name : List ℕ) (horizon : ℕ) (held : Held) (old : Option (List ℕ)) (b n : ℕ) where
   -- there is nothing of the file
-  pub lost : (i : NoInput) → NotLoaded NotImage held name most_image_bytes b n i → Reaches name horizon held old old b n (Err (fault.Source i))
+  pub lost : (i : NoInput) → NotLoaded NotImage held name most_image_bytes b n i → ReachesGraph name horizon held old old b n (Err (fault.Source i))
   lost input.Unread h = (h, appends-nothing old)
   lost (input.Refused r) (text, holds, why) = (no_image text holds r why, appends-nothing old)
   lost input.Memory h = (tt, appends-nothing old)
@@ -55,7 +55,7 @@ module _ (name : List ℕ) (horizon : ℕ) (held : Held) (old : Option (List ℕ
   abbrev NoWeights : Image → Fault → Type 0
   NoWeights i e = (e ≡ fault.Memory) ⊎ ((e ≡ fault.Source (input.Refused refusal.Audit)) × (most_weights < weights_up_to i.graph horizon))
 
-  pub not_weighed : (i : Image) → Loaded i → (e : Fault) → NoWeights i e → Reaches name horizon held old old b n (Err e)
+  pub not_weighed : (i : Image) → Loaded i → (e : Fault) → NoWeights i e → ReachesGraph name horizon held old old b n (Err e)
   not_weighed i loaded e (inl memory) = rw memory (appends-nothing old)
   not_weighed i loaded e (inr (refused, more)) = rw refused (too_large i (is_image i loaded) more, appends-nothing old)
 

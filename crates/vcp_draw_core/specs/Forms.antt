@@ -35,6 +35,11 @@ abbrev pub form : Command → Form
 form (command.Graph image horizon) = graph image.now horizon
 form (command.Waves file) = waves file.now
 
+-- the name of the file that a command reads
+abbrev pub file_of : Form → List ℕ
+file_of (graph m horizon) = m
+file_of (waves file) = file
+
 -- a horizon is within its limit
 abbrev pub IsSound : Form → Type 0
 IsSound (graph m horizon) = horizon ≤ most_horizon

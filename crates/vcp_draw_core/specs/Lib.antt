@@ -3,3 +3,4 @@ pub mod Forms
 pub mod Reach
 pub mod RunLines
 pub mod RunReach
+pub mod Seen

@@ -45,12 +45,12 @@ Lost name horizon held b n (input.Refused r) = Refuses held name horizon r
 Lost name horizon held b n input.Memory = Unit {0}
 
 -- How far `graph M HORIZON` comes: the picture is written, or a part of it where the sink failed, or nothing.
-abbrev pub Reaches : List ℕ → ℕ → Held → Option (List ℕ) → Option (List ℕ) → ℕ → ℕ → Result (Unit {0}) Fault → Type 0
-Reaches name horizon held old new b n (Ok _) = (text : List ℕ) × IsDrawn held name horizon text × Appends old new text
-Reaches name horizon held old new b n (Err (fault.Source i)) = Lost name horizon held b n i × Appends old new []
-Reaches name horizon held old new b n (Err fault.Write) = (text : List ℕ) × IsDrawn held name horizon text × AppendsPart old new text
-Reaches name horizon held old new b n (Err fault.Memory) = Appends old new []
-Reaches name horizon held old new b n (Err (fault.NoRun f)) = ⊥
+abbrev pub ReachesGraph : List ℕ → ℕ → Held → Option (List ℕ) → Option (List ℕ) → ℕ → ℕ → Result (Unit {0}) Fault → Type 0
+ReachesGraph name horizon held old new b n (Ok _) = (text : List ℕ) × IsDrawn held name horizon text × Appends old new text
+ReachesGraph name horizon held old new b n (Err (fault.Source i)) = Lost name horizon held b n i × Appends old new []
+ReachesGraph name horizon held old new b n (Err fault.Write) = (text : List ℕ) × IsDrawn held name horizon text × AppendsPart old new text
+ReachesGraph name horizon held old new b n (Err fault.Memory) = Appends old new []
+ReachesGraph name horizon held old new b n (Err (fault.NoRun f)) = ⊥
 
 -- the file couldn't be begun or read
 abbrev pub IsUnread : Fault → Type 0

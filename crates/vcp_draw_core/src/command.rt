@@ -2,7 +2,7 @@
 
 ghost use Rattle.std.specs.Prelude.{◌≡◌, IfSome};
 ghost use Rattle.std.specs.Option.{option_map};
-ghost use Rattle.vcp_draw_core.specs.Forms.{form, form_of, graph_form, waves_form, IsSound};
+ghost use Rattle.vcp_draw_core.specs.Forms.{form, form_of, file_of, graph_form, waves_form, IsSound};
 
 use vcp_base::{Text, Words};
 use vcp_words::WordsLeft;
@@ -22,6 +22,18 @@ pub enum Command<'a> {
         /// The name of the file.
         file: &'a Text,
     },
+}
+
+impl Command<'_> {
+    /// The name of the file that it reads.
+    pub fn file(&self) -> &[u8]
+        ensures { result.now ≡ file_of (form self.now) }
+    {
+        match self {
+            Command::Graph { image, .. } => image.bytes(),
+            Command::Waves { file } => file.bytes(),
+        }
+    }
 }
 
 /// The command that the words say; None where they are none of the forms.

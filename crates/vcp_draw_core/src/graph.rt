@@ -8,7 +8,7 @@ ghost use Rattle.signature_table.specs.Signatures.{table_of};
 ghost use Rattle.weight_audit.specs.Audit.{most_weights, weights_up_to, IsAudit};
 ghost use Rattle.vcp_inputs.specs.declared.refusal.NoInput.TheVariants as input;
 ghost use Rattle.vcp_inputs.specs.declared.refusal.Refusal.TheVariants as refusal;
-ghost use Rattle.vcp_draw_core.specs.Reach.{Reaches, IsUnread};
+ghost use Rattle.vcp_draw_core.specs.Reach.{ReachesGraph, IsUnread};
 ghost use Rattle.vcp_draw_core.specs.declared.fault.Fault.TheVariants as fault;
 
 use crate::fault::Fault;
@@ -46,12 +46,12 @@ pub fn graph_command<F: Files, O: Sink>(
     out: &mut O,
 ) -> Result<(), Fault>
     requires horizon { horizon ≤ most_horizon }
-    ensures held { F.held files.new ≡ F.held files.old }
-    ensures reaches { IfSome (F.held files.old) (λ h. Reaches image.now horizon h (O.written out.old) (O.written out.new)
-        (F.broken files.old) (F.broken files.new) result) }
-    ensures unread { IfErr result (λ e. IsUnread e → Rose (F.faults files.old) (F.faults files.new)) }
-    ensures write { result ≡ Err fault.Write → Rose (O.faults out.old) (O.faults out.new) }
-    ensures ended { OnOk result (IsAtEnd (F.rest files.new)) }
+    ensures held { (F.seen files.new).held ≡ (F.seen files.old).held }
+    ensures reaches { IfSome (F.seen files.old).held (λ h. ReachesGraph image.now horizon h (O.seen out.old).written (O.seen out.new).written
+        (F.seen files.old).broken (F.seen files.new).broken result) }
+    ensures unread { IfErr result (λ e. IsUnread e → Rose (F.seen files.old).faults (F.seen files.new).faults) }
+    ensures write { result ≡ Err fault.Write → Rose (O.seen out.old).faults (O.seen out.new).faults }
+    ensures ended { OnOk result (IsAtEnd (F.seen files.new).rest) }
 {
     match load_image(alloc, files, image) {
         Ok(image) => {

@@ -1,7 +1,7 @@
 //! The lines of faults, and their statuses.
 
 ghost use Rattle.std.specs.Prelude.{◌≡◌};
-ghost use Rattle.vcp_outside.specs.Written.{Writes};
+ghost use Rattle.vcp_outside.specs.Written.{WritesTo};
 ghost use Rattle.vcp_draw_core.specs.Forms.{usage_text};
 ghost use Rattle.vcp_inputs.specs.Lines.{rows_text};
 ghost use Rattle.vcp_draw_core.specs.RunLines.{run_text};
@@ -15,14 +15,14 @@ use vcp_outside::{Failed, Sink, write_all};
 
 /// Prints the usage line.
 pub fn tell_usage<E: Sink>(err: &mut E) -> Result<(), Failed>
-    ensures { Writes (E.written err.old) (E.written err.new) (E.faults err.old) (E.faults err.new) usage_text result }
+    ensures { WritesTo (E.seen err.old) (E.seen err.new) usage_text result }
 {
     write_all(err, b"usage: vcp_draw graph M HORIZON or waves FILE\n")
 }
 
 /// Prints the line of a fault of a command on the file under a name.
 pub fn tell<E: Sink>(err: &mut E, name: &[u8], fault: &Fault) -> Result<(), Failed>
-    ensures { Writes (E.written err.old) (E.written err.new) (E.faults err.old) (E.faults err.new) (fault_text name.now fault.now) result }
+    ensures { WritesTo (E.seen err.old) (E.seen err.new) (fault_text name.now fault.now) result }
 {
     match fault {
         Fault::Source(input) => tell_input(err, name, input),
@@ -34,7 +34,7 @@ pub fn tell<E: Sink>(err: &mut E, name: &[u8], fault: &Fault) -> Result<(), Fail
 
 /// Prints the line of a file that is no run.
 fn tell_no_run<E: Sink>(err: &mut E, name: &[u8], why: RunFault) -> Result<(), Failed>
-    ensures { Writes (E.written err.old) (E.written err.new) (E.faults err.old) (E.faults err.new) (run_text name.now why) result }
+    ensures { WritesTo (E.seen err.old) (E.seen err.new) (run_text name.now why) result }
 {
     match why {
         RunFault::Header => tell_rows(err, name, RowFault::Header),
@@ -59,7 +59,7 @@ fn tell_no_run<E: Sink>(err: &mut E, name: &[u8], why: RunFault) -> Result<(), F
 
 /// Prints the line of what rows are refused for too.
 fn tell_rows<E: Sink>(err: &mut E, name: &[u8], why: RowFault) -> Result<(), Failed>
-    ensures { Writes (E.written err.old) (E.written err.new) (E.faults err.old) (E.faults err.new) (rows_text name.now why) result }
+    ensures { WritesTo (E.seen err.old) (E.seen err.new) (rows_text name.now why) result }
 {
     tell_refusal(err, name, &Refusal::Rows(why))
 }

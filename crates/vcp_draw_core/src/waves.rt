@@ -29,8 +29,8 @@ fn run_in(alloc: Global, text: &[u8]) -> Result<Run, Fault>
 
 /// Writes the timing diagram of a run.
 fn write_run<O: Sink>(out: &mut O, told: &Run) -> Result<(), Fault>
-    ensures writes { WritesRun told.now (O.written out.old) (O.written out.new) result }
-    ensures write { result ≡ Err fault.Write → Rose (O.faults out.old) (O.faults out.new) }
+    ensures writes { WritesRun told.now (O.seen out.old).written (O.seen out.new).written result }
+    ensures write { result ≡ Err fault.Write → Rose (O.seen out.old).faults (O.seen out.new).faults }
 {
     match write_waves(out, told) {
         Ok(()) => Ok(()),
@@ -41,8 +41,8 @@ fn write_run<O: Sink>(out: &mut O, told: &Run) -> Result<(), Fault>
 /// Writes the timing diagram of the run that a text tells.
 #[tactic(auto, using(crate::proofs::RunReaching::written_run, crate::proofs::RunReaching::no_run, crate::proofs::RunReaching::no_run_no_write))]
 fn draw_run<O: Sink>(alloc: Global, text: &[u8], out: &mut O) -> Result<(), Fault>
-    ensures draws { DrawsRun text.now (O.written out.old) (O.written out.new) result }
-    ensures write { result ≡ Err fault.Write → Rose (O.faults out.old) (O.faults out.new) }
+    ensures draws { DrawsRun text.now (O.seen out.old).written (O.seen out.new).written result }
+    ensures write { result ≡ Err fault.Write → Rose (O.seen out.old).faults (O.seen out.new).faults }
 {
     match run_in(alloc, text) {
         Ok(told) => write_run(out, &told),
@@ -58,12 +58,12 @@ pub fn waves_command<F: Files, O: Sink>(
     files: &mut F,
     out: &mut O,
 ) -> Result<(), Fault>
-    ensures held { F.held files.new ≡ F.held files.old }
-    ensures reaches { IfSome (F.held files.old) (λ h. ReachesRun file.now h (O.written out.old) (O.written out.new)
-        (F.broken files.old) (F.broken files.new) result) }
-    ensures unread { IfErr result (λ e. IsUnread e → Rose (F.faults files.old) (F.faults files.new)) }
-    ensures write { result ≡ Err fault.Write → Rose (O.faults out.old) (O.faults out.new) }
-    ensures ended { OnOk result (IsAtEnd (F.rest files.new)) }
+    ensures held { (F.seen files.new).held ≡ (F.seen files.old).held }
+    ensures reaches { IfSome (F.seen files.old).held (λ h. ReachesRun file.now h (O.seen out.old).written (O.seen out.new).written
+        (F.seen files.old).broken (F.seen files.new).broken result) }
+    ensures unread { IfErr result (λ e. IsUnread e → Rose (F.seen files.old).faults (F.seen files.new).faults) }
+    ensures write { result ≡ Err fault.Write → Rose (O.seen out.old).faults (O.seen out.new).faults }
+    ensures ended { OnOk result (IsAtEnd (F.seen files.new).rest) }
 {
     match read_file(alloc, files, file, MOST_ROWS_BYTES) {
         Ok(text) => draw_run(alloc, text.bytes(), out),

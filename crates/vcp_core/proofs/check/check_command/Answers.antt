@@ -1,77 +1,52 @@
-use Rattle.std.proofs.Common.{◌≡◌, inl, inr, [], refl, ap, Ok, Err}
+use Rattle.std.proofs.Common.{◌≡◌, inl, inr, refl, ap, Err}
+use Rattle.std.proofs.lemmas.Result.{err_from_is_err_and}
 use Rattle.vcp_typed.specs.Size.{size}
-use Rattle.vcp_inputs.specs.Lines.{write_fault_text}
-use Rattle.vcp_inputs.specs.Programs.{TypedOf}
+use Rattle.vcp_words.specs.Forms.{check}
+use Rattle.vcp_inputs.specs.Programs.{TypedOf, NotTyped}
 use Rattle.vcp_answer.specs.Abouts.{about, source_word}
 use Rattle.vcp_answer.specs.Answer.{printed as printed_answer}
 use Rattle.vcp_answer.specs.Kinds.{prints}
-use Rattle.vcp_answer.specs.Seen.{files_seen}
 use Rattle.vcp_core.specs.Tasks.{ok_text, CheckTask}
-use Rattle.vcp_core.specs.Reach.{fault_text}
-use Rattle.vcp_core.specs.declared.ending.End.TheVariants as end
-use Rattle.vcp_core.specs.declared.fault.Fault.TheVariants as fault
-use Rattle.vcp_core.proofs.Performing.{performs_by, file_lost, file_taken, part_given, given, own_done, still}
-use Rattle.vcp_core.proofs.Sized.{sized}
-use Rattle.std.proofs.lemmas.Result.{err_from_is_err_and}
-use Rattle.vcp_base.specs.Limits.{most_source_bytes}
-use Rattle.vcp_words.specs.Forms.{check}
-use Rattle.vcp_inputs.specs.Programs.{NotTyped}
 use Rattle.vcp_core.proofs.Facts.{if_some_weaker}
 use Rattle.vcp_core.proofs.Loaded.{typed_not_bytes}
+use Rattle.vcp_core.proofs.Performing.{quiet_lost, quiet_part, quiet_whole}
+use Rattle.vcp_core.proofs.Sized.{sized}
 use Rattle.vcp_core.proofs.check.check_command.Goals as goal
 
 pub returns-in-Err : goal.returns-in-Err
-returns-in-Err g c log wrong =
+returns-in-Err g c unit =
     let p = c.args.source.now in
-    let f = check p in
-    let i = c.in-Err.input in
-    let files = files_seen (g.F.Files.held c.args.files.now) (g.F.Files.rest c.args.files.now) (g.F.Files.faults c.args.files.now)
-    (g.F.Files.broken c.args.files.now) in
-    let later = files_seen (g.F.Files.held c.load_typed.new.files) (g.F.Files.rest c.load_typed.new.files) (g.F.Files.faults c.load_typed.new.files)
-    (g.F.Files.broken c.load_typed.new.files) in
-    performs_by (about f) (CheckTask p) files later _ _ (fault_text f (fault.Source i)) (Err (fault.Source i)) (λ none. cc) (inr (inl refl))
-    (λ e is. absurd cc)
-    (if_some_weaker files.held _ _
-    (λ h loads. file_lost (about f) files later _ _ TypedOf NotTyped most_source_bytes (λ t x. x ≡ prints (ok_text (size t))) p h (source_word p)
-    (inl refl) refl (still _) i loads)
-    c.in-Err.ensures.loads)
-    (if_some_weaker files.held _ _
-    (λ h loads. file_taken (about f) NotTyped p h files.broken later.broken (source_word p) (inl refl) refl i later.rest
-    (λ r is. c.in-Err.ensures.whole r (ap Err is)) typed_not_bytes loads)
-    c.in-Err.ensures.loads)
-    c.load_typed.ensures.held (λ no. refl) tt (λ is. absurd cc) (λ is. absurd cc) (λ is. c.in-Err.ensures.unread (ap Err is)) (λ is. absurd cc)
+    let files = g.F.Files.seen c.args.files.now in
+    let later = g.F.Files.seen c.load_typed.new.files in
+    rw c.bytes.ensures
+    (quiet_lost (about (check p)) TypedOf NotTyped (λ h t x. x ≡ prints (ok_text (size t))) (source_word p) files later _ c.in-Err.input (inl refl)
+    (λ none. cc) (inr (inl refl)) c.load_typed.ensures.held
+    c.in-Err.ensures.loads (λ r is. c.in-Err.ensures.whole r (ap Err is)) typed_not_bytes (λ is. c.in-Err.ensures.unread (ap Err is)))
 
 pub returns-in_err-ok_line-in-Ok : goal.returns-in_err-ok_line-in-Ok
-returns-in_err-ok_line-in-Ok g c log wrong =
+returns-in_err-ok_line-in-Ok g c unit =
     let p = c.args.source.now in
-    let f = check p in
+    let files = g.F.Files.seen c.args.files.now in
+    let later = g.F.Files.seen c.load_typed.new.files in
     let q = err_from_is_err_and c.from_residual.result c.from_residual.ensures.1 in
-    let files = files_seen (g.F.Files.held c.args.files.now) (g.F.Files.rest c.args.files.now) (g.F.Files.faults c.args.files.now)
-    (g.F.Files.broken c.args.files.now) in
-    let later = files_seen (g.F.Files.held c.load_typed.new.files) (g.F.Files.rest c.load_typed.new.files) (g.F.Files.faults c.load_typed.new.files)
-    (g.F.Files.broken c.load_typed.new.files) in
     let w = c.in_err-ok_line-in-Ok.ensures in
     rw (q.1, q.2)
-    (performs_by (about f) (CheckTask p) files later _ _ write_fault_text (Err fault.Write) (λ none. cc) (inr (inl refl)) (λ e is. absurd cc)
+    (quiet_part (about (check p)) (CheckTask p) files later (λ none. cc) c.load_typed.ensures.held _ _ c.in-Ok.ensures.ended refl
     (if_some_weaker files.held _ _
-    (λ h loads. part_given (about f) files later _ _ (CheckTask p h) (printed_answer (ok_text c.size.result))
-    (sized p h c.in-Ok.program c.size.result loads c.size.ensures.size) refl w.cause.failed w.part)
-    c.in-Ok.ensures.loads)
-    (if_some_weaker files.held _ _ (λ h loads is. inl c.in-Ok.ensures.ended) c.in-Ok.ensures.loads)
-    c.load_typed.ensures.held (λ no. refl) tt (λ is. absurd cc) (λ is. absurd cc) (λ is. absurd is) (λ is. w.cause.failed))
+    (λ h loads. (
+      prints (ok_text c.size.result),
+      sized p h c.in-Ok.program c.size.result loads c.size.ensures.size,
+      (refl, (printed_answer (ok_text c.size.result), refl, w.part)),
+    )) c.in-Ok.ensures.loads)
+    w.cause.failed)
 
 pub returns-in_ok-ok_line-in-Ok : goal.returns-in_ok-ok_line-in-Ok
-returns-in_ok-ok_line-in-Ok g c log wrong =
+returns-in_ok-ok_line-in-Ok g c unit =
     let p = c.args.source.now in
-    let f = check p in
-    let files = files_seen (g.F.Files.held c.args.files.now) (g.F.Files.rest c.args.files.now) (g.F.Files.faults c.args.files.now)
-    (g.F.Files.broken c.args.files.now) in
-    let later = files_seen (g.F.Files.held c.load_typed.new.files) (g.F.Files.rest c.load_typed.new.files) (g.F.Files.faults c.load_typed.new.files)
-    (g.F.Files.broken c.load_typed.new.files) in
-    performs_by (about f) (CheckTask p) files later _ _ [] (Ok end.Done) (λ none. cc) (inr (inl refl)) (own_done (about f).ends (inl refl) (Ok end.Done) refl)
+    let files = g.F.Files.seen c.args.files.now in
+    let later = g.F.Files.seen c.load_typed.new.files in
+    quiet_whole (about (check p)) (CheckTask p) files later (λ none. cc) c.load_typed.ensures.held _ _ c.in-Ok.ensures.ended refl (inl refl)
+    (ok_text c.size.result)
     (if_some_weaker files.held _ _
-    (λ h loads. given (about f) files later _ _ (CheckTask p h) (printed_answer (ok_text c.size.result))
-    (sized p h c.in-Ok.program c.size.result loads c.size.ensures.size) refl c.in_ok-ok_line-in-Ok.ensures.whole)
-    c.in-Ok.ensures.loads)
-    (if_some_weaker files.held _ _ (λ h loads is. inl c.in-Ok.ensures.ended) c.in-Ok.ensures.loads)
-    c.load_typed.ensures.held (λ no. refl) c.in-Ok.ensures.ended (λ is. absurd cc) (λ is. absurd cc) (λ is. absurd is) (λ is. absurd cc)
+    (λ h loads. (prints (ok_text c.size.result), sized p h c.in-Ok.program c.size.result loads c.size.ensures.size, (refl, refl))) c.in-Ok.ensures.loads)
+    c.in_ok-ok_line-in-Ok.ensures.whole

@@ -6,52 +6,44 @@ use Rattle.vcp_inputs.specs.Programs.{TypedOf, NotTyped}
 use Rattle.vcp_core.proofs.Facts.{if_some_weaker}
 use Rattle.vcp_core.proofs.Loaded.{typed_not_bytes}
 use Rattle.image_file.specs.Image.{image_of}
-use Rattle.vcp_answer.specs.Abouts.{source_word}
+use Rattle.vcp_answer.specs.Abouts.{about, source_word}
 use Rattle.vcp_answer.specs.GraphsOf.{image_answer}
 use Rattle.vcp_answer.specs.Kinds.{compiles as compiles_to}
-use Rattle.vcp_answer.specs.Seen.{files_seen}
 use Rattle.vcp_core.specs.Tasks.{CompileTask}
-use Rattle.vcp_core.proofs.Performing.{file_takes, quiet_lost, quiet_part, quiet_wanted, quiet_whole, still}
+use Rattle.vcp_core.proofs.Performing.{file_takes, files_wanted, quiet_lost, quiet_part, quiet_whole}
 use Rattle.vcp_core.proofs.compile.compile_command.Goals as goal
 
 pub returns-in-Err : goal.returns-in-Err
-returns-in-Err g c log wrong =
+returns-in-Err g c unit =
     let p = c.args.source.now in
     let code = as_code c.args.code in
-    let files = files_seen (g.F.Files.held c.args.files.now) (g.F.Files.rest c.args.files.now) (g.F.Files.faults c.args.files.now)
-    (g.F.Files.broken c.args.files.now) in
-    let later = files_seen (g.F.Files.held c.load_typed.new.files) (g.F.Files.rest c.load_typed.new.files) (g.F.Files.faults c.load_typed.new.files)
-    (g.F.Files.broken c.load_typed.new.files) in
-    quiet_lost (compile p code) TypedOf NotTyped (λ t x. x ≡ compiles_to t code) (source_word p) files later _ c.in-Err.input (inl refl) refl (λ none. cc)
-    (inr (inl refl)) c.load_typed.ensures.held
-    c.in-Err.ensures.loads (λ r is. c.in-Err.ensures.whole r (ap Err is)) typed_not_bytes (λ is. c.in-Err.ensures.unread (ap Err is))
+    let files = g.F.Files.seen c.args.files.now in
+    let later = g.F.Files.seen c.load_typed.new.files in
+    rw c.bytes-in-Err.ensures
+    (quiet_lost (about (compile p code)) TypedOf NotTyped (λ h t x. x ≡ compiles_to t code) (source_word p) files later _ c.in-Err.input (inl refl)
+    (λ none. cc) (inr (inl refl)) c.load_typed.ensures.held
+    c.in-Err.ensures.loads (λ r is. c.in-Err.ensures.whole r (ap Err is)) typed_not_bytes (λ is. c.in-Err.ensures.unread (ap Err is)))
 
 pub returns-in_err-image-in-Ok : goal.returns-in_err-image-in-Ok
-returns-in_err-image-in-Ok g c log wrong =
+returns-in_err-image-in-Ok g c unit =
     let p = c.args.source.now in
     let code = as_code c.args.code in
-    let files = files_seen (g.F.Files.held c.args.files.now) (g.F.Files.rest c.args.files.now) (g.F.Files.faults c.args.files.now)
-    (g.F.Files.broken c.args.files.now) in
-    let later = files_seen (g.F.Files.held c.load_typed.new.files) (g.F.Files.rest c.load_typed.new.files) (g.F.Files.faults c.load_typed.new.files)
-    (g.F.Files.broken c.load_typed.new.files) in
+    let files = g.F.Files.seen c.args.files.now in
+    let later = g.F.Files.seen c.load_typed.new.files in
     let q = err_from_is_err_and c.from_residual.result c.from_residual.ensures.1 in
     rw (q.1, q.2)
-    (quiet_wanted (compile p code) (CompileTask p code) files later _ _ (λ none. cc) (inr (inl refl))
-    (inl refl) c.load_typed.ensures.held refl c.in-Ok.ensures.ended (still _))
+    (files_wanted (about (compile p code)) (CompileTask p code) files later (λ none. cc) c.load_typed.ensures.held _)
 
 pub returns-in_err-write_all-in-Ok : goal.returns-in_err-write_all-in-Ok
-returns-in_err-write_all-in-Ok g c log wrong =
+returns-in_err-write_all-in-Ok g c unit =
     let p = c.args.source.now in
     let code = as_code c.args.code in
-    let files = files_seen (g.F.Files.held c.args.files.now) (g.F.Files.rest c.args.files.now) (g.F.Files.faults c.args.files.now)
-    (g.F.Files.broken c.args.files.now) in
-    let later = files_seen (g.F.Files.held c.load_typed.new.files) (g.F.Files.rest c.load_typed.new.files) (g.F.Files.faults c.load_typed.new.files)
-    (g.F.Files.broken c.load_typed.new.files) in
+    let files = g.F.Files.seen c.args.files.now in
+    let later = g.F.Files.seen c.load_typed.new.files in
     let q = err_from_is_err_and c.from_residual-in_err-write_all-in-Ok.result c.from_residual-in_err-write_all-in-Ok.ensures.1 in
     let (graph, may, is) = c.in_ok-image-in-Ok.ensures in
     rw (q.1, q.2)
-    (quiet_part (compile p code) (CompileTask p code) files later _ _ (λ none. cc) (inr (inl refl))
-    (inl refl) c.load_typed.ensures.held refl c.in-Ok.ensures.ended
+    (quiet_part (about (compile p code)) (CompileTask p code) files later (λ none. cc) c.load_typed.ensures.held _ _ c.in-Ok.ensures.ended refl
     (if_some_weaker files.held _ _
     (λ h loads. (
       compiles_to c.in-Ok.program code,
@@ -62,16 +54,14 @@ returns-in_err-write_all-in-Ok g c log wrong =
     c.in_err-write_all-in-Ok.ensures.cause.failed)
 
 pub returns-in_ok-write_all-in-Ok : goal.returns-in_ok-write_all-in-Ok
-returns-in_ok-write_all-in-Ok g c log wrong =
+returns-in_ok-write_all-in-Ok g c unit =
     let p = c.args.source.now in
     let code = as_code c.args.code in
-    let files = files_seen (g.F.Files.held c.args.files.now) (g.F.Files.rest c.args.files.now) (g.F.Files.faults c.args.files.now)
-    (g.F.Files.broken c.args.files.now) in
-    let later = files_seen (g.F.Files.held c.load_typed.new.files) (g.F.Files.rest c.load_typed.new.files) (g.F.Files.faults c.load_typed.new.files)
-    (g.F.Files.broken c.load_typed.new.files) in
+    let files = g.F.Files.seen c.args.files.now in
+    let later = g.F.Files.seen c.load_typed.new.files in
     let (graph, may, is) = c.in_ok-image-in-Ok.ensures in
-    quiet_whole (compile p code) (CompileTask p code) files later _ _ (λ none. cc) (inr (inl refl))
-    (inl refl) c.load_typed.ensures.held refl c.in-Ok.ensures.ended (image_of graph code.seed code.step)
+    quiet_whole (about (compile p code)) (CompileTask p code) files later (λ none. cc) c.load_typed.ensures.held _ _ c.in-Ok.ensures.ended refl (inl refl)
+    (image_of graph code.seed code.step)
     (if_some_weaker files.held _ _
     (λ h loads. (
       compiles_to c.in-Ok.program code,

@@ -5,49 +5,42 @@ use Rattle.vcp_words.specs.Forms.{format}
 use Rattle.vcp_inputs.specs.Programs.{IsProgram, NoProgram}
 use Rattle.vcp_core.proofs.Facts.{if_some_weaker}
 use Rattle.vcp_core.proofs.Loaded.{program_not_bytes}
-use Rattle.vcp_answer.specs.Abouts.{source_word}
+use Rattle.vcp_answer.specs.Abouts.{about, source_word}
 use Rattle.vcp_answer.specs.Answer.{printed as printed_answer}
 use Rattle.vcp_answer.specs.Kinds.{prints}
-use Rattle.vcp_answer.specs.Seen.{files_seen}
 use Rattle.vcp_core.specs.Tasks.{FormatTask}
-use Rattle.vcp_core.proofs.Performing.{file_takes, quiet_lost, quiet_part, quiet_wanted, quiet_whole, still}
+use Rattle.vcp_core.proofs.Performing.{file_takes, files_wanted, quiet_lost, quiet_part, quiet_whole}
 use Rattle.st_tree.specs.ProgramViews.{program_tree}
 use Rattle.st_writer.specs.CanonicalProgram.{canonical}
 use Rattle.vcp_core.proofs.format.format_command.Goals as goal
 
 pub returns-in-Err : goal.returns-in-Err
-returns-in-Err g c log wrong =
+returns-in-Err g c unit =
     let p = c.args.source.now in
-    let files = files_seen (g.F.Files.held c.args.files.now) (g.F.Files.rest c.args.files.now) (g.F.Files.faults c.args.files.now)
-    (g.F.Files.broken c.args.files.now) in
-    let later = files_seen (g.F.Files.held c.load_program.new.files) (g.F.Files.rest c.load_program.new.files) (g.F.Files.faults c.load_program.new.files)
-    (g.F.Files.broken c.load_program.new.files) in
-    quiet_lost (format p) IsProgram NoProgram (λ t x. x ≡ prints (canonical t)) (source_word p) files later _ c.in-Err.input (inl refl) refl (λ none. cc)
-    (inr (inl refl)) c.load_program.ensures.held
-    c.in-Err.ensures.loads (λ r is. c.in-Err.ensures.whole r (ap Err is)) program_not_bytes (λ is. c.in-Err.ensures.unread (ap Err is))
+    let files = g.F.Files.seen c.args.files.now in
+    let later = g.F.Files.seen c.load_program.new.files in
+    rw c.bytes-in-Err.ensures
+    (quiet_lost (about (format p)) IsProgram NoProgram (λ h t x. x ≡ prints (canonical t)) (source_word p) files later _ c.in-Err.input (inl refl)
+    (λ none. cc) (inr (inl refl)) c.load_program.ensures.held
+    c.in-Err.ensures.loads (λ r is. c.in-Err.ensures.whole r (ap Err is)) program_not_bytes (λ is. c.in-Err.ensures.unread (ap Err is)))
 
 pub returns-in_err-text-in-Ok : goal.returns-in_err-text-in-Ok
-returns-in_err-text-in-Ok g c log wrong =
+returns-in_err-text-in-Ok g c unit =
     let p = c.args.source.now in
-    let files = files_seen (g.F.Files.held c.args.files.now) (g.F.Files.rest c.args.files.now) (g.F.Files.faults c.args.files.now)
-    (g.F.Files.broken c.args.files.now) in
-    let later = files_seen (g.F.Files.held c.load_program.new.files) (g.F.Files.rest c.load_program.new.files) (g.F.Files.faults c.load_program.new.files)
-    (g.F.Files.broken c.load_program.new.files) in
+    let files = g.F.Files.seen c.args.files.now in
+    let later = g.F.Files.seen c.load_program.new.files in
     let q = err_from_is_err_and c.from_residual.result c.from_residual.ensures.1 in
     rw (q.1, q.2)
-    (quiet_wanted (format p) (FormatTask p) files later _ _ (λ none. cc) (inr (inl refl))
-    (inl refl) c.load_program.ensures.held refl c.in-Ok.ensures.ended (still _))
+    (files_wanted (about (format p)) (FormatTask p) files later (λ none. cc) c.load_program.ensures.held _)
 
 pub returns-in_err-write_all-in-Ok : goal.returns-in_err-write_all-in-Ok
-returns-in_err-write_all-in-Ok g c log wrong =
+returns-in_err-write_all-in-Ok g c unit =
     let p = c.args.source.now in
-    let files = files_seen (g.F.Files.held c.args.files.now) (g.F.Files.rest c.args.files.now) (g.F.Files.faults c.args.files.now)
-    (g.F.Files.broken c.args.files.now) in
-    let later = files_seen (g.F.Files.held c.load_program.new.files) (g.F.Files.rest c.load_program.new.files) (g.F.Files.faults c.load_program.new.files)
-    (g.F.Files.broken c.load_program.new.files) in
+    let files = g.F.Files.seen c.args.files.now in
+    let later = g.F.Files.seen c.load_program.new.files in
     let q = err_from_is_err_and c.from_residual-in_err-write_all-in-Ok.result c.from_residual-in_err-write_all-in-Ok.ensures.1 in
     rw (q.1, q.2)
-    (quiet_part (format p) (FormatTask p) files later _ _ (λ none. cc) (inr (inl refl)) (inl refl) c.load_program.ensures.held refl c.in-Ok.ensures.ended
+    (quiet_part (about (format p)) (FormatTask p) files later (λ none. cc) c.load_program.ensures.held _ _ c.in-Ok.ensures.ended refl
     (if_some_weaker files.held _ _
     (λ h loads. (
       prints (canonical (program_tree c.in-Ok.program)),
@@ -66,13 +59,11 @@ returns-in_err-write_all-in-Ok g c log wrong =
     c.in_err-write_all-in-Ok.ensures.cause.failed)
 
 pub returns-in_ok-write_all-in-Ok : goal.returns-in_ok-write_all-in-Ok
-returns-in_ok-write_all-in-Ok g c log wrong =
+returns-in_ok-write_all-in-Ok g c unit =
     let p = c.args.source.now in
-    let files = files_seen (g.F.Files.held c.args.files.now) (g.F.Files.rest c.args.files.now) (g.F.Files.faults c.args.files.now)
-    (g.F.Files.broken c.args.files.now) in
-    let later = files_seen (g.F.Files.held c.load_program.new.files) (g.F.Files.rest c.load_program.new.files) (g.F.Files.faults c.load_program.new.files)
-    (g.F.Files.broken c.load_program.new.files) in
-    quiet_whole (format p) (FormatTask p) files later _ _ (λ none. cc) (inr (inl refl)) (inl refl) c.load_program.ensures.held refl c.in-Ok.ensures.ended
+    let files = g.F.Files.seen c.args.files.now in
+    let later = g.F.Files.seen c.load_program.new.files in
+    quiet_whole (about (format p)) (FormatTask p) files later (λ none. cc) c.load_program.ensures.held _ _ c.in-Ok.ensures.ended refl (inl refl)
     (canonical (program_tree c.in-Ok.program))
     (if_some_weaker files.held _ _
     (λ h loads. (

@@ -8,19 +8,19 @@ use Rattle.vcp_core.proofs.inject.all_rows.Goals as goal
 
 pub returns-in-Err-clause-fault : goal.returns-in-Err-clause-fault
 returns-in-Err-clause-fault c =
-    not_opened (source_outcome c.args.loaded.now.rows c.args.loaded.now.columns) c.args.loaded.now.image.graph c.in-Err.input 0
+    not_opened (source_outcome c.args.inputs.now c.args.columns.now) c.args.graph.now c.in-Err.input 0
     (λ e. c.in-Err.ensures.read (ap Err e)) (c.in-Err.ensures.opens 0 0)
 
 pub returns-in_err-list-clause-fault : goal.returns-in_err-list-clause-fault
 returns-in_err-list-clause-fault c =
     let p = err_from_is_err_and c.from_residual.result c.from_residual.ensures.1 in
     rw (p.1, p.2)
-    (row_refused (source_outcome c.args.loaded.now.rows c.args.loaded.now.columns) c.args.loaded.now.image.graph c.in-Ok.rows _
+    (row_refused (source_outcome c.args.inputs.now c.args.columns.now) c.args.graph.now c.in-Ok.rows _
     (c.in-Ok.ensures.opens 0 0) c.in_err-list.ensures.refusal)
 
 pub returns-then-len-gt-MOST_TRACE-clause-fault : goal.returns-then-len-gt-MOST_TRACE-clause-fault
 returns-then-len-gt-MOST_TRACE-clause-fault c =
-    let over : most_trace < length c.in-Ok.rows.rows * length c.args.loaded.now.image.graph.operations =
+    let over : most_trace < length c.in-Ok.rows.rows * length c.args.graph.now.operations =
     rw (← c.in_ok-list.ensures.rows, ← c.len.ensures.length, ← c.len-2.ensures.count) c.if-len-gt-MOST_TRACE.true in
     too_many c.in-Ok.rows (c.in-Ok.ensures.opens 0 0) c.in_ok-list.ensures.whole over
 

@@ -1,74 +1,28 @@
-use Rattle.std.proofs.Common.{◌≡◌, ◌∙◌, ap, refl, inl, inr, [], Ok, Err, arith}
+use Rattle.std.proofs.Common.{◌≡◌, ◌∙◌, ap, refl, sym, inl, inr, Err, arith}
 use Rattle.std.proofs.lemmas.Result.{err_from_is_err_and}
 use Rattle.vcp_base.specs.Limits.{most_source_bytes}
 use Rattle.vcp_words.specs.Forms.{inject, rows_of}
+use Rattle.vcp_words.specs.Tables.{rows_name}
 use Rattle.vcp_inputs.specs.Images.{ImageOf, NotImage}
+use Rattle.vcp_inputs.specs.RowsOutcome.{rows_outcome, source_outcome}
 use Rattle.vcp_inputs.specs.Scripts.{NotScript}
 use Rattle.vcp_answer.specs.Abouts.{about, image_word}
-use Rattle.vcp_answer.specs.Seen.{files_seen, moment_seen}
-use Rattle.vcp_core.specs.declared.ending.End.TheVariants as end
-use Rattle.vcp_core.specs.declared.fault.Fault.TheVariants as fault
-use Rattle.vcp_core.specs.Tasks.{InjectTask}
-use Rattle.vcp_core.specs.Faults.{of_campaign}
-use Rattle.vcp_core.specs.Loading.{image_columns, image_in, image_outcome}
-use Rattle.vcp_core.specs.Reach.{fault_text}
+use Rattle.vcp_answer.specs.FileTasks.{TakenRows}
+use Rattle.machine_run.specs.Moments.{moment}
+use Rattle.vcp_core.specs.Tasks.{InjectTask, graph_columns}
 use Rattle.vcp_core.proofs.Facts.{if_some_always, if_some_weaker, if_some_both, if_some_same}
 use Rattle.vcp_core.proofs.ImageLoaded.{image_not_bytes, table-is-of}
-use Rattle.vcp_core.proofs.JudgedTasks.{OnLeft, campaign_of, campaign_reads, campaign_write, faults_come as faults_come_to, judged_to as judged_so_far}
-use Rattle.vcp_core.proofs.JudgedTasks.{judged_whole as judged_all, lost_for, rows_are_read, rows_are_written, rows_lost, rows_named, script_lost}
-use Rattle.vcp_core.proofs.JudgedTasks.{script_taken as script_taken_all}
-use Rattle.vcp_core.proofs.LoadedRows.{loading_lost, loading_taken}
-use Rattle.vcp_core.proofs.Performing.{own_done, performs_by, still}
+use Rattle.vcp_core.proofs.JudgedTasks.{LoadsAt, OnLeft, campaign_of, campaign_performs, groups_come as groups_come_to, judged_to as judged_so_far}
+use Rattle.vcp_core.proofs.JudgedTasks.{judged_whole as judged_all, lost_for, rows_are_read, rows_lost as rows_lost_all, rows_named}
+use Rattle.vcp_core.proofs.JudgedTasks.{script_lost as script_lost_all, script_taken as script_taken_all}
+use Rattle.vcp_core.proofs.LoadedRows.{rows_unloaded}
+use Rattle.vcp_core.proofs.Performing.{files_lost, files_wanted, quiet_lost, whole_performs}
 use Rattle.vcp_core.proofs.inject.inject_command.Goals as goal
 
 pub run_campaign-requires-clause-table : goal.run_campaign-requires-clause-table
-run_campaign-requires-clause-table g c = table-is-of c.in_ok-loaded.loaded.image.table c.in_ok-loaded.loaded.image.graph c.in_ok-loaded.ensures.table
+run_campaign-requires-clause-table g c = table-is-of c.in-Ok.loaded.table c.in-Ok.loaded.graph c.in-Ok.ensures.table
 
-pub returns-in_err-loaded : goal.returns-in_err-loaded
-returns-in_err-loaded g c =
-    let m = c.args.image.now in
-    let rows = rows_of c.args.rows in
-    let s = c.args.script.now in
-    let f = inject m rows s in
-    let files = files_seen (g.F.Files.held c.args.files.now) (g.F.Files.rest c.args.files.now) (g.F.Files.faults c.args.files.now)
-    (g.F.Files.broken c.args.files.now) in
-    let later = files_seen (g.F.Files.held c.load_image_and_rows.new.files) (g.F.Files.rest c.load_image_and_rows.new.files)
-    (g.F.Files.faults c.load_image_and_rows.new.files) (g.F.Files.broken c.load_image_and_rows.new.files) in
-    let q = err_from_is_err_and c.from_residual.result c.from_residual.ensures.1 in
-    let e = c.in_err-loaded.field-0.0 in
-    rw (q.1, q.2)
-    (performs_by (about f) (InjectTask m rows s) files later _ _ (fault_text f e) (Err e) (λ none. cc) (inr (inl refl)) (λ x is. absurd cc)
-    (if_some_weaker (g.F.Files.held c.args.files.now) _ _
-    (λ h loads. loading_lost ImageOf NotImage image_columns image_in image_outcome image_not_bytes f (image_word m) rows refl refl (inl refl)
-    (rows_named m rows s) h files later (OnLeft rows s h) _ _ (still _) _ e loads) c.in_err-loaded.ensures.loads)
-    (if_some_weaker (g.F.Files.held c.args.files.now) _ _
-    (λ h loads. loading_taken ImageOf NotImage image_columns image_in image_outcome image_not_bytes f (image_word m) rows refl refl (inl refl)
-    (rows_named m rows s) h files later (g.F.Files.rest c.load_image_and_rows.new.files) e loads) c.in_err-loaded.ensures.loads)
-    c.load_image_and_rows.ensures.held (λ no. refl) tt (λ is. absurd cc) (λ is. absurd cc) c.in_err-loaded.ensures.unread
-    (λ is. let same : c.in_err-loaded.field-0.0 ≡ fault.Write = cc in absurd (c.in_err-loaded.ensures.no_write (ap Err same))))
-
-pub returns-in_err-list : goal.returns-in_err-list
-returns-in_err-list g c =
-    let m = c.args.image.now in
-    let rows = rows_of c.args.rows in
-    let s = c.args.script.now in
-    let f = inject m rows s in
-    let files = files_seen (g.F.Files.held c.args.files.now) (g.F.Files.rest c.args.files.now) (g.F.Files.faults c.args.files.now)
-    (g.F.Files.broken c.args.files.now) in
-    let later = files_seen (g.F.Files.held c.load_image_and_rows.new.files) (g.F.Files.rest c.load_image_and_rows.new.files)
-    (g.F.Files.faults c.load_image_and_rows.new.files) (g.F.Files.broken c.load_image_and_rows.new.files) in
-    let loaded = c.in_ok-loaded.loaded in
-    let q = err_from_is_err_and c.from_residual-in_err-list.result c.from_residual-in_err-list.ensures.1 in
-    let e = c.in_err-list.field-0.0 in
-    rw (q.1, q.2)
-    (performs_by (about f) (InjectTask m rows s) files later _ _ (fault_text f e) (Err e) (λ none. cc) (inr (inl refl)) (λ x is. absurd cc)
-    (if_some_weaker (g.F.Files.held c.args.files.now) _ _
-    (λ h loads. rows_lost m rows s h files later loaded _ _ _ loads _ e c.in_err-list.ensures.fault) c.in_ok-loaded.ensures.loads)
-    (if_some_always (g.F.Files.held c.args.files.now) _ (λ h is. inl c.in_ok-loaded.ensures.ended))
-    c.load_image_and_rows.ensures.held (λ no. refl) tt (λ is. absurd cc) (λ is. absurd cc)
-    (λ is. absurd (rows_are_read (image_outcome loaded) loaded.image.graph e c.in_err-list.ensures.fault is))
-    (λ is. let same : c.in_err-list.field-0.0 ≡ fault.Write = cc in
-    absurd (rows_are_written (image_outcome loaded) loaded.image.graph e c.in_err-list.ensures.fault same)))
+-- ---- M isn't taken, or memory is wanted
 
 pub returns-in-Err : goal.returns-in-Err
 returns-in-Err g c =
@@ -76,25 +30,98 @@ returns-in-Err g c =
     let rows = rows_of c.args.rows in
     let s = c.args.script.now in
     let f = inject m rows s in
-    let files = files_seen (g.F.Files.held c.args.files.now) (g.F.Files.rest c.args.files.now) (g.F.Files.faults c.args.files.now)
-    (g.F.Files.broken c.args.files.now) in
-    let final = files_seen (g.F.Files.held c.load_script.new.files) (g.F.Files.rest c.load_script.new.files)
-    (g.F.Files.faults c.load_script.new.files) (g.F.Files.broken c.load_script.new.files) in
-    let loaded = c.in_ok-loaded.loaded in
-    let mid = g.F.Files.broken c.load_image_and_rows.new.files in
-    let i = c.in-Err.input in
-    performs_by (about f) (InjectTask m rows s) files final _ _ (fault_text f (fault.Script i)) (Err (fault.Script i)) (λ none. cc) (inr (inl refl))
-    (λ x is. absurd cc)
-    (if_some_both (g.F.Files.held c.args.files.now) (g.F.Files.held c.load_image_and_rows.new.files) _ _ _ c.load_image_and_rows.ensures.held
-    (λ h loads lost. script_lost m rows s h files final loaded _ _ _ loads c.in_ok-list.list c.in_ok-list.ensures.rows _ i
-    (lost_for (NotScript loaded.image.graph) h s most_source_bytes files.broken mid final.broken i c.load_image_and_rows.ensures.broken_later lost))
-    c.in_ok-loaded.ensures.loads c.in-Err.ensures.loads)
-    (if_some_same (g.F.Files.held c.args.files.now) (g.F.Files.held c.load_image_and_rows.new.files) _ c.load_image_and_rows.ensures.held
-    (if_some_weaker (g.F.Files.held c.load_image_and_rows.new.files) _ _
-    (λ h lost. script_taken_all m rows s h loaded.image.graph mid final.broken i (g.F.Files.rest c.load_script.new.files)
-    (λ r is. c.in-Err.ensures.whole r (ap Err is)) lost) c.in-Err.ensures.loads))
-    (c.load_script.ensures.held ∙ c.load_image_and_rows.ensures.held) (λ no. refl) tt (λ is. absurd cc) (λ is. absurd cc)
-    (λ is. omega (arith, c.load_image_and_rows.ensures.later, c.in-Err.ensures.unread (ap Err is))) (λ is. absurd cc)
+    let files = g.F.Files.seen c.args.files.now in
+    let mid = g.F.Files.seen c.load_image.new.files in
+    rw c.bytes.ensures
+    (quiet_lost (about f) ImageOf NotImage (λ h i. TakenRows (OnLeft rows s h i) rows h (graph_columns i.graph)) (image_word m) files mid _
+    c.in-Err.input (inl refl) (λ none. cc) (inr (inl refl)) c.load_image.ensures.held
+    c.in-Err.ensures.loads (λ r is. c.in-Err.ensures.whole r (ap Err is)) image_not_bytes (λ is. c.in-Err.ensures.unread (ap Err is)))
+
+pub returns-in_err-columns : goal.returns-in_err-columns
+returns-in_err-columns g c =
+    let m = c.args.image.now in
+    let rows = rows_of c.args.rows in
+    let s = c.args.script.now in
+    let f = inject m rows s in
+    let files = g.F.Files.seen c.args.files.now in
+    let mid = g.F.Files.seen c.load_image.new.files in
+    let q = err_from_is_err_and c.from_residual.result c.from_residual.ensures.1 in
+    rw (q.1, q.2) (files_wanted (about f) (InjectTask m rows s) files mid (λ none. cc) c.load_image.ensures.held _)
+
+-- ---- there is nothing of ROWS
+
+pub returns-in-Err-load_rows : goal.returns-in-Err-load_rows
+returns-in-Err-load_rows g c =
+    let m = c.args.image.now in
+    let rows = rows_of c.args.rows in
+    let s = c.args.script.now in
+    let f = inject m rows s in
+    let files = g.F.Files.seen c.args.files.now in
+    let mid = g.F.Files.seen c.load_image.new.files in
+    let later = g.F.Files.seen c.load_rows.new.files in
+    rw c.rows_name-name.ensures
+    (rows_unloaded ImageOf NotImage (λ i. graph_columns i.graph) (about f) (image_word m) rows (λ none. cc) (inr (inl refl)) (rows_named m rows s)
+    (λ h. OnLeft rows s h)
+    files mid later c.in-Ok.loaded c.in_ok-columns.columns
+    c.in_ok-columns.ensures.columns c.load_image.ensures.held c.load_rows.ensures.held c.in-Ok.ensures.loads _
+    c.in-Err-load_rows.input c.load_image.ensures.later c.load_image.ensures.broken_later c.in-Ok.ensures.ended c.in-Err-load_rows.ensures.loads
+    (λ is. c.in-Err-load_rows.ensures.begun (ap Err is)) (λ is. c.in-Err-load_rows.ensures.unread (ap Err is))
+    (λ r is other. c.in-Err-load_rows.ensures.whole r (ap Err is) other) (λ is. c.in-Err-load_rows.ensures.long (ap Err is)))
+
+pub returns-in-Err-all_rows : goal.returns-in-Err-all_rows
+returns-in-Err-all_rows g c =
+    let m = c.args.image.now in
+    let rows = rows_of c.args.rows in
+    let s = c.args.script.now in
+    let f = inject m rows s in
+    let files = g.F.Files.seen c.args.files.now in
+    let mid = g.F.Files.seen c.load_image.new.files in
+    let later = g.F.Files.seen c.load_rows.new.files in
+    let i = c.in-Ok.loaded in
+    let o = source_outcome c.in-Ok-load_rows.inputs c.in_ok-columns.columns in
+    let end = c.in-Ok-load_rows.ensures.ended c.in-Ok.ensures.ended in
+    let e = c.in-Err-all_rows.input in
+    rw c.rows_name-name.ensures
+    (files_lost (about f) (InjectTask m rows s) files later (λ none. cc) (c.load_rows.ensures.held ∙ c.load_image.ensures.held) (inr (inl refl)) _
+    (rows_name rows) e
+    (if_some_weaker files.held (LoadsAt m rows i o) _ (λ h (l, same). rows_lost_all m rows s h files later i o l same _ e c.in-Err-all_rows.ensures.fault)
+    (if_some_both files.held mid.held _ (λ h. rows_outcome rows h c.in_ok-columns.columns ≡ o) (LoadsAt m rows i o) c.load_image.ensures.held
+    (λ h l is. (l, ap (rows_outcome rows h) (sym c.in_ok-columns.ensures.columns) ∙ is)) c.in-Ok.ensures.loads c.in-Ok-load_rows.ensures.loads))
+    (λ is. if_some_always files.held _ (λ h. inl end)) (λ is. absurd (rows_are_read o i.graph e c.in-Err-all_rows.ensures.fault is)))
+
+-- ---- there is no script
+
+pub returns-in-Err-load_script : goal.returns-in-Err-load_script
+returns-in-Err-load_script g c =
+    let m = c.args.image.now in
+    let rows = rows_of c.args.rows in
+    let s = c.args.script.now in
+    let f = inject m rows s in
+    let files = g.F.Files.seen c.args.files.now in
+    let mid = g.F.Files.seen c.load_image.new.files in
+    let later = g.F.Files.seen c.load_rows.new.files in
+    let final = g.F.Files.seen c.load_script.new.files in
+    let i = c.in-Ok.loaded in
+    let o = source_outcome c.in-Ok-load_rows.inputs c.in_ok-columns.columns in
+    let end = c.in-Ok-load_rows.ensures.ended c.in-Ok.ensures.ended in
+    let e = c.in-Err-load_script.input in
+    rw c.bytes-in-Err-load_script.ensures
+    (files_lost (about f) (InjectTask m rows s) files final (λ none. cc)
+    (c.load_script.ensures.held ∙ c.load_rows.ensures.held ∙ c.load_image.ensures.held) (inr (inl refl)) _ s e
+    (if_some_both files.held later.held (LoadsAt m rows i o) _ _ (c.load_rows.ensures.held ∙ c.load_image.ensures.held)
+    (λ h (l, same) lost. script_lost_all m rows s h files final i o l same c.in-Ok-all_rows.list c.in-Ok-all_rows.ensures.rows _ e
+    (lost_for (NotScript i.graph) h s most_source_bytes files.broken later.broken final.broken e
+    (omega (arith, c.load_image.ensures.broken_later, c.load_rows.ensures.broken_later)) lost))
+    (if_some_both files.held mid.held _ (λ h. rows_outcome rows h c.in_ok-columns.columns ≡ o) (LoadsAt m rows i o) c.load_image.ensures.held
+    (λ h l is. (l, ap (rows_outcome rows h) (sym c.in_ok-columns.ensures.columns) ∙ is)) c.in-Ok.ensures.loads c.in-Ok-load_rows.ensures.loads)
+    c.in-Err-load_script.ensures.loads)
+    (λ is. if_some_same files.held later.held _ (c.load_rows.ensures.held ∙ c.load_image.ensures.held)
+    (if_some_weaker later.held _ _
+    (λ h lost. script_taken_all m rows s h i.graph later.broken final.broken e final.rest (λ r why. c.in-Err-load_script.ensures.whole r (ap Err why)) lost is)
+    c.in-Err-load_script.ensures.loads))
+    (λ is. omega (arith, c.load_image.ensures.later, c.load_rows.ensures.later, c.in-Err-load_script.ensures.unread (ap Err is))))
+
+-- ---- the groups of faults
 
 pub returns-in_err-run_campaign : goal.returns-in_err-run_campaign
 returns-in_err-run_campaign g c =
@@ -102,33 +129,31 @@ returns-in_err-run_campaign g c =
     let rows = rows_of c.args.rows in
     let s = c.args.script.now in
     let f = inject m rows s in
-    let files = files_seen (g.F.Files.held c.args.files.now) (g.F.Files.rest c.args.files.now) (g.F.Files.faults c.args.files.now)
-    (g.F.Files.broken c.args.files.now) in
-    let final = files_seen (g.F.Files.held c.load_script.new.files) (g.F.Files.rest c.load_script.new.files)
-    (g.F.Files.faults c.load_script.new.files) (g.F.Files.broken c.load_script.new.files) in
-    let before = moment_seen (g.U.Unit.log c.args.unit.now) (g.U.Unit.wrong c.args.unit.now) (g.O.Sink.written c.args.out.now)
-    (g.O.Sink.faults c.args.out.now) in
-    let after = moment_seen (g.U.Unit.log c.run_campaign.new.unit) (g.U.Unit.wrong c.run_campaign.new.unit) (g.O.Sink.written c.run_campaign.new.out)
-    (g.O.Sink.faults c.run_campaign.new.out) in
-    let loaded = c.in_ok-loaded.loaded in
+    let files = g.F.Files.seen c.args.files.now in
+    let mid = g.F.Files.seen c.load_image.new.files in
+    let later = g.F.Files.seen c.load_rows.new.files in
+    let final = g.F.Files.seen c.load_script.new.files in
+    let i = c.in-Ok.loaded in
+    let o = source_outcome c.in-Ok-load_rows.inputs c.in_ok-columns.columns in
+    let end = c.in-Ok-load_rows.ensures.ended c.in-Ok.ensures.ended in
+    let before = moment (g.U.Unit.seen c.args.unit.now) (g.O.Sink.seen c.args.out.now) in
+    let after = moment (g.U.Unit.seen c.run_campaign.new.unit) (g.O.Sink.seen c.run_campaign.new.out) in
     let q = err_from_is_err_and c.from_residual-in_err-run_campaign.result c.from_residual-in_err-run_campaign.ensures.1 in
     let e = c.in_err-run_campaign.field-0.0 in
     rw (q.1, q.2)
-    (performs_by (about f) (InjectTask m rows s) files final before after (fault_text f (of_campaign e)) (Err (of_campaign e)) (λ none. cc) (inr (inl refl))
-    (λ x is. absurd cc)
-    (if_some_both (g.F.Files.held c.args.files.now) (g.F.Files.held c.load_image_and_rows.new.files) _ _ _ c.load_image_and_rows.ensures.held
-    (λ h loads found.
-    judged_so_far (campaign_of loaded.image c.in_ok-list.list c.in-Ok.faults) (g.U.Unit.log c.args.unit.now) (g.U.Unit.log c.run_campaign.new.unit)
-    (g.U.Unit.wrong c.args.unit.now) (g.U.Unit.wrong c.run_campaign.new.unit) (g.O.Sink.written c.args.out.now) (g.O.Sink.written c.run_campaign.new.out)
-    (g.O.Sink.faults c.args.out.now) (g.O.Sink.faults c.run_campaign.new.out) m rows s h files final
-    (faults_come_to m rows s h files final loaded _ _ _ loads c.in_ok-list.list c.in_ok-list.ensures.rows c.in-Ok.faults found) e
-    (λ is. c.in_err-run_campaign.ensures.write (ap Err (campaign_write e is))) c.in_err-run_campaign.ensures.told)
-    c.in_ok-loaded.ensures.loads c.in-Ok.ensures.loads)
-    (if_some_always (g.F.Files.held c.args.files.now) _ (λ h is. inl c.in-Ok.ensures.ended))
-    (c.load_script.ensures.held ∙ c.load_image_and_rows.ensures.held) (λ no. absurd cc) tt (λ is. absurd cc) (λ is. absurd cc)
-    (λ is. absurd (campaign_reads e is))
-    (λ is. let same : of_campaign c.in_err-run_campaign.field-0.0 ≡ fault.Write = cc in
-    c.in_err-run_campaign.ensures.write (ap Err (campaign_write e same))))
+    (campaign_performs (about f) (InjectTask m rows s) files final (λ none. cc)
+    (c.load_script.ensures.held ∙ c.load_rows.ensures.held ∙ c.load_image.ensures.held) before after
+    c.in-Ok-load_script.ensures.ended (λ no. absurd cc) e
+    (if_some_both files.held later.held (LoadsAt m rows i o) _ _ (c.load_rows.ensures.held ∙ c.load_image.ensures.held)
+    (λ h (l, same) found. judged_so_far (campaign_of i c.in-Ok-all_rows.list c.in-Ok-load_script.groups) (g.U.Unit.seen c.args.unit.now)
+    (g.U.Unit.seen c.run_campaign.new.unit) (g.O.Sink.seen c.args.out.now)
+    (g.O.Sink.seen c.run_campaign.new.out) m rows s h files final
+    (groups_come_to m rows s h files final i o l same c.in-Ok-all_rows.list c.in-Ok-all_rows.ensures.rows c.in-Ok-load_script.groups found) e
+    (λ is. c.in_err-run_campaign.ensures.write (ap Err is)) c.in_err-run_campaign.ensures.told)
+    (if_some_both files.held mid.held _ (λ h. rows_outcome rows h c.in_ok-columns.columns ≡ o) (LoadsAt m rows i o) c.load_image.ensures.held
+    (λ h l is. (l, ap (rows_outcome rows h) (sym c.in_ok-columns.ensures.columns) ∙ is)) c.in-Ok.ensures.loads c.in-Ok-load_rows.ensures.loads)
+    c.in-Ok-load_script.ensures.loads)
+    (λ is. c.in_err-run_campaign.ensures.write (ap Err is)))
 
 pub returns : goal.returns
 returns g c =
@@ -136,25 +161,24 @@ returns g c =
     let rows = rows_of c.args.rows in
     let s = c.args.script.now in
     let f = inject m rows s in
-    let files = files_seen (g.F.Files.held c.args.files.now) (g.F.Files.rest c.args.files.now) (g.F.Files.faults c.args.files.now)
-    (g.F.Files.broken c.args.files.now) in
-    let final = files_seen (g.F.Files.held c.load_script.new.files) (g.F.Files.rest c.load_script.new.files)
-    (g.F.Files.faults c.load_script.new.files) (g.F.Files.broken c.load_script.new.files) in
-    let before = moment_seen (g.U.Unit.log c.args.unit.now) (g.U.Unit.wrong c.args.unit.now) (g.O.Sink.written c.args.out.now)
-    (g.O.Sink.faults c.args.out.now) in
-    let after = moment_seen (g.U.Unit.log c.run_campaign.new.unit) (g.U.Unit.wrong c.run_campaign.new.unit) (g.O.Sink.written c.run_campaign.new.out)
-    (g.O.Sink.faults c.run_campaign.new.out) in
-    let loaded = c.in_ok-loaded.loaded in
-    performs_by (about f) (InjectTask m rows s) files final before after [] (Ok end.Done) (λ none. cc) (inr (inl refl))
-    (own_done (about f).ends (inl refl) (Ok end.Done) refl)
-    (if_some_both (g.F.Files.held c.args.files.now) (g.F.Files.held c.load_image_and_rows.new.files) _ _ _ c.load_image_and_rows.ensures.held
-    (λ h loads found.
-    judged_all (campaign_of loaded.image c.in_ok-list.list c.in-Ok.faults) (g.U.Unit.log c.args.unit.now) (g.U.Unit.log c.run_campaign.new.unit)
-    (g.U.Unit.wrong c.args.unit.now) (g.U.Unit.wrong c.run_campaign.new.unit) (g.O.Sink.written c.args.out.now) (g.O.Sink.written c.run_campaign.new.out)
-    (g.O.Sink.faults c.args.out.now) (g.O.Sink.faults c.run_campaign.new.out) m rows s h files final
-    (faults_come_to m rows s h files final loaded _ _ _ loads c.in_ok-list.list c.in_ok-list.ensures.rows c.in-Ok.faults found)
+    let files = g.F.Files.seen c.args.files.now in
+    let mid = g.F.Files.seen c.load_image.new.files in
+    let later = g.F.Files.seen c.load_rows.new.files in
+    let final = g.F.Files.seen c.load_script.new.files in
+    let i = c.in-Ok.loaded in
+    let o = source_outcome c.in-Ok-load_rows.inputs c.in_ok-columns.columns in
+    let end = c.in-Ok-load_rows.ensures.ended c.in-Ok.ensures.ended in
+    let before = moment (g.U.Unit.seen c.args.unit.now) (g.O.Sink.seen c.args.out.now) in
+    let after = moment (g.U.Unit.seen c.run_campaign.new.unit) (g.O.Sink.seen c.run_campaign.new.out) in
+    whole_performs (about f) (InjectTask m rows s) files final (λ none. cc)
+    (c.load_script.ensures.held ∙ c.load_rows.ensures.held ∙ c.load_image.ensures.held) before after
+    c.in-Ok-load_script.ensures.ended (inl refl) (λ no. absurd cc)
+    (if_some_both files.held later.held (LoadsAt m rows i o) _ _ (c.load_rows.ensures.held ∙ c.load_image.ensures.held)
+    (λ h (l, same) found. judged_all (campaign_of i c.in-Ok-all_rows.list c.in-Ok-load_script.groups) (g.U.Unit.seen c.args.unit.now)
+    (g.U.Unit.seen c.run_campaign.new.unit) (g.O.Sink.seen c.args.out.now)
+    (g.O.Sink.seen c.run_campaign.new.out) m rows s h files final
+    (groups_come_to m rows s h files final i o l same c.in-Ok-all_rows.list c.in-Ok-all_rows.ensures.rows c.in-Ok-load_script.groups found)
     c.in_ok-run_campaign.ensures.told)
-    c.in_ok-loaded.ensures.loads c.in-Ok.ensures.loads)
-    (if_some_always (g.F.Files.held c.args.files.now) _ (λ h is. inl c.in-Ok.ensures.ended))
-    (c.load_script.ensures.held ∙ c.load_image_and_rows.ensures.held) (λ no. absurd cc) c.in-Ok.ensures.ended (λ is. absurd cc) (λ is. absurd cc)
-    (λ is. absurd is) (λ is. absurd cc)
+    (if_some_both files.held mid.held _ (λ h. rows_outcome rows h c.in_ok-columns.columns ≡ o) (LoadsAt m rows i o) c.load_image.ensures.held
+    (λ h l is. (l, ap (rows_outcome rows h) (sym c.in_ok-columns.ensures.columns) ∙ is)) c.in-Ok.ensures.loads c.in-Ok-load_rows.ensures.loads)
+    c.in-Ok-load_script.ensures.loads)

@@ -7,7 +7,8 @@ pub returns-in_err-list_line : goal.returns-in_err-list_line
 returns-in_err-list_line g c =
     let q = err_from_is_err_and c.from_residual.result c.from_residual.ensures.1 in
     let below : c.operations.i < length c.args.graph.now.operations = omega (arith, c.operations-test.true, c.len-i-end.ensures.count) in
-    rw q.1 (fails c.args.graph.now c.args.table.now c.operations.i _ _ _ _ _ _ below c.operations.invariant c.in_err-list_line.field-0.0 q.0 c.in_err-list_line.ensures)
+    rw q.1 (fails c.args.graph.now c.args.table.now c.operations.i _ _ _ _ _ _ below c.operations.invariant c.in_err-list_line.field-0.0 q.0
+    c.in_err-list_line.ensures)
 
 pub operations-preserved : goal.operations-preserved
 operations-preserved g c =

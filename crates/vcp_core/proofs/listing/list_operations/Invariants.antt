@@ -6,5 +6,6 @@ use Rattle.vcp_core.proofs.listing.list_operations.Given as goal
 
 abbrev pub invariant-operations : goal.invariant-operations
 invariant-operations g l =
-    Writes {T = Unit {0}} {E = Failed} (g.O.Sink.written l.fn.out) (g.O.Sink.written l.out) (g.O.Sink.faults l.fn.out) (g.O.Sink.faults l.out)
+    Writes {T = Unit {0}} {E = Failed} (g.O.Sink.seen l.fn.out).written (g.O.Sink.seen l.out).written (g.O.Sink.seen l.fn.out).faults
+    (g.O.Sink.seen l.out).faults
     (lines_from l.graph l.table 0 (take l.i l.graph.operations)) (Ok tt)

@@ -3,102 +3,112 @@ use Rattle.std.proofs.lemmas.Result.{err_from_is_err_and}
 use Rattle.input_rows.specs.RowsOf.{types_of}
 use Rattle.vcp_words.specs.Forms.{plain, rows_of}
 use Rattle.vcp_words.specs.Tables.{rows_name}
-use Rattle.vcp_core.proofs.Facts.{if_some_weaker}
-use Rattle.vcp_core.proofs.Loaded.{typed_not_bytes}
-use Rattle.vcp_core.proofs.PlainNames.{types-of-inputs}
+use Rattle.machine_run.specs.Moments.{moment}
+use Rattle.vcp_typed.specs.Fitting.{input_columns}
 use Rattle.vcp_inputs.specs.Programs.{TypedOf, NotTyped}
 use Rattle.vcp_answer.specs.Abouts.{about, source_word}
+use Rattle.vcp_answer.specs.FileTasks.{TakenRows}
 use Rattle.vcp_answer.specs.Kinds.{answers}
-use Rattle.vcp_answer.specs.Seen.{files_seen, moment_seen}
-use Rattle.vcp_core.specs.declared.fault.Fault.TheVariants as fault
 use Rattle.vcp_core.specs.Tasks.{plain_answer as plain_answer_to, PlainTask}
-use Rattle.vcp_core.specs.Loading.{program_columns, program_in, program_outcome}
-use Rattle.vcp_core.specs.Reach.{fault_text, told_line}
-use Rattle.vcp_core.proofs.LoadedRows.{loading_lost, loading_taken, opened_comes, unopened_lost}
-use Rattle.vcp_core.proofs.Performing.{performs_by, performs_when, at_end_of, still}
-use Rattle.vcp_core.proofs.PlainKinds.{plain_ends, plain_reads, plain_refuses, plain_reaches}
+use Rattle.vcp_core.proofs.Facts.{if_some_weaker}
+use Rattle.vcp_core.proofs.Loaded.{typed_not_bytes}
+use Rattle.vcp_core.proofs.LoadedRows.{opened_comes, rows_unloaded, rows_unopened}
+use Rattle.vcp_core.proofs.Performing.{files_run, files_wanted, quiet_lost}
+use Rattle.vcp_core.proofs.PlainKinds.{plain_ends, plain_refuses, plain_reaches}
+use Rattle.vcp_core.proofs.PlainNames.{types-of-inputs}
 use Rattle.vcp_core.proofs.plain.plain_command.Goals as goal
 
 pub print_run-requires-clause-types : goal.print_run-requires-clause-types
-print_run-requires-clause-types g c = c.in-Ok.ensures.types ∙ (ap types_of c.in_ok-loaded.ensures.columns ∙ types-of-inputs c.in_ok-loaded.loaded.program.slots)
+print_run-requires-clause-types g c =
+    c.in-Ok-open.ensures.types ∙ (ap types_of c.in_ok-columns.ensures.columns ∙ types-of-inputs c.in-Ok.program.slots)
 
-pub returns-in_err-loaded : goal.returns-in_err-loaded
-returns-in_err-loaded g c log wrong =
+-- ---- the file isn't taken, or memory is wanted
+
+pub returns-in-Err : goal.returns-in-Err
+returns-in-Err g c unit =
     let p = c.args.source.now in
     let rows = rows_of c.args.rows in
     let f = plain p rows in
-    let files = files_seen (g.F.Files.held c.args.files.now) (g.F.Files.rest c.args.files.now) (g.F.Files.faults c.args.files.now)
-    (g.F.Files.broken c.args.files.now) in
-    let later = files_seen (g.F.Files.held c.load.new.files) (g.F.Files.rest c.load.new.files) (g.F.Files.faults c.load.new.files)
-    (g.F.Files.broken c.load.new.files) in
+    let files = g.F.Files.seen c.args.files.now in
+    let mid = g.F.Files.seen c.load_typed.new.files in
+    rw c.bytes.ensures
+    (quiet_lost (about f) TypedOf NotTyped (λ h t. TakenRows (λ left x. x ≡ answers (plain_answer_to (rows_name rows) t left)) rows h
+    (input_columns t.slots)) (source_word p) files mid _
+    c.in-Err.input (inl refl) (λ none. cc) (inr (inl refl)) c.load_typed.ensures.held
+    c.in-Err.ensures.loads (λ r is. c.in-Err.ensures.whole r (ap Err is)) typed_not_bytes (λ is. c.in-Err.ensures.unread (ap Err is)))
+
+pub returns-in_err-columns : goal.returns-in_err-columns
+returns-in_err-columns g c unit =
+    let p = c.args.source.now in
+    let rows = rows_of c.args.rows in
+    let f = plain p rows in
+    let files = g.F.Files.seen c.args.files.now in
+    let mid = g.F.Files.seen c.load_typed.new.files in
     let q = err_from_is_err_and c.from_residual.result c.from_residual.ensures.1 in
-    let e = c.in_err-loaded.field-0.0 in
-    rw (q.1, q.2)
-    (performs_by (about f) (PlainTask p rows) files
-    later
-    _ _ (fault_text f e) (Err e) (λ none. cc) (inr (inl refl)) (λ x is. absurd cc)
-    (if_some_weaker (g.F.Files.held c.args.files.now) _ _
-    (λ h loads. loading_lost TypedOf NotTyped program_columns program_in program_outcome typed_not_bytes f (source_word p) rows refl refl (inl refl)
-    (λ w among. inr among) h _ _ (λ t left x. x ≡ answers (plain_answer_to (rows_name rows) t left)) _ _ (still _) _ e loads)
-    c.in_err-loaded.ensures.loads)
-    (if_some_weaker (g.F.Files.held c.args.files.now) _ _
-    (λ h loads. loading_taken TypedOf NotTyped program_columns program_in program_outcome typed_not_bytes f (source_word p) rows refl refl (inl refl)
-    (λ w among. inr among) h
-    files
-    later
-    (g.F.Files.rest c.load.new.files) e loads) c.in_err-loaded.ensures.loads)
-    c.load.ensures.held (λ no. refl) tt (λ is. absurd cc) (λ is. absurd cc) c.in_err-loaded.ensures.unread
-    (λ is. let same : c.in_err-loaded.field-0.0 ≡ fault.Write = cc in absurd (c.in_err-loaded.ensures.no_write (ap Err same))))
+    rw (q.1, q.2) (files_wanted (about f) (PlainTask p rows) files mid (λ none. cc) c.load_typed.ensures.held _)
 
-pub returns-in-Ok : goal.returns-in-Ok
-returns-in-Ok g c log wrong =
+-- ---- there is nothing of ROWS
+
+pub returns-in-Err-load_rows : goal.returns-in-Err-load_rows
+returns-in-Err-load_rows g c unit =
     let p = c.args.source.now in
     let rows = rows_of c.args.rows in
     let f = plain p rows in
-    let files = files_seen (g.F.Files.held c.args.files.now) (g.F.Files.rest c.args.files.now) (g.F.Files.faults c.args.files.now)
-    (g.F.Files.broken c.args.files.now) in
-    let later = files_seen (g.F.Files.held c.load.new.files) (g.F.Files.rest c.load.new.files) (g.F.Files.faults c.load.new.files)
-    (g.F.Files.broken c.load.new.files) in
-    let t = c.in_ok-loaded.loaded.program in
-    let left = c.in-Ok.rows in
-    let r = c.print_run.result in
-    let old = g.O.Sink.written c.args.out.now in
-    let now = g.O.Sink.written c.print_run.new.out in
-    let prints = c.print_run.ensures.prints in
-    performs_when (about f) (PlainTask p rows) files later (moment_seen log wrong old (g.O.Sink.faults c.args.out.now))
-    (moment_seen log wrong now (g.O.Sink.faults c.print_run.new.out))
-    (told_line f r) r (λ none. cc) (inr (inl refl)) (plain_ends t left old now r prints)
-    (if_some_weaker files.held _ _
-    (λ h loads. plain_reaches t left old now p rows (PlainTask p rows h) files later log wrong (g.O.Sink.faults c.args.out.now)
-    (g.O.Sink.faults c.print_run.new.out)
-    (opened_comes TypedOf NotTyped program_columns program_in program_outcome typed_not_bytes f (source_word p) rows refl refl (inl refl)
-    (λ w among. inr among) h files later
-    (λ x rest. answers (plain_answer_to (rows_name rows) x rest)) c.in_ok-loaded.loaded _ loads left
-    (c.in-Ok.ensures.opens 0 0)) r prints c.print_run.ensures.write)
-    c.in_ok-loaded.ensures.loads)
-    (if_some_weaker files.held _ _ (λ h loads is. inl c.in_ok-loaded.ensures.ended) c.in_ok-loaded.ensures.loads)
-    c.load.ensures.held (λ no. refl) (at_end_of r _ c.in_ok-loaded.ensures.ended) (λ calls is. absurd cc)
-    (λ is. absurd (plain_refuses t left old now r prints is))
-    (λ is. absurd (plain_reads t left old now r prints is)) c.print_run.ensures.write
+    let files = g.F.Files.seen c.args.files.now in
+    let mid = g.F.Files.seen c.load_typed.new.files in
+    let later = g.F.Files.seen c.load_rows.new.files in
+    rw c.rows_name-name.ensures
+    (rows_unloaded TypedOf NotTyped (λ t. input_columns t.slots) (about f) (source_word p) rows (λ none. cc) (inr (inl refl)) (λ w among. inr among)
+    (λ h t left x. x ≡ answers (plain_answer_to (rows_name rows) t left))
+    files mid later c.in-Ok.program c.in_ok-columns.columns
+    c.in_ok-columns.ensures.columns c.load_typed.ensures.held c.load_rows.ensures.held c.in-Ok.ensures.loads _
+    c.in-Err-load_rows.input c.load_typed.ensures.later c.load_typed.ensures.broken_later c.in-Ok.ensures.ended c.in-Err-load_rows.ensures.loads
+    (λ is. c.in-Err-load_rows.ensures.begun (ap Err is)) (λ is. c.in-Err-load_rows.ensures.unread (ap Err is))
+    (λ r is other. c.in-Err-load_rows.ensures.whole r (ap Err is) other) (λ is. c.in-Err-load_rows.ensures.long (ap Err is)))
 
 pub returns : goal.returns
-returns g c log wrong =
+returns g c unit =
     let p = c.args.source.now in
     let rows = rows_of c.args.rows in
     let f = plain p rows in
-    let files = files_seen (g.F.Files.held c.args.files.now) (g.F.Files.rest c.args.files.now) (g.F.Files.faults c.args.files.now)
-    (g.F.Files.broken c.args.files.now) in
-    let later = files_seen (g.F.Files.held c.load.new.files) (g.F.Files.rest c.load.new.files) (g.F.Files.faults c.load.new.files)
-    (g.F.Files.broken c.load.new.files) in
-    let e = c.in-Err.input in
-    performs_by (about f) (PlainTask p rows) files
-    later
-    _ _ (fault_text f (fault.Rows e)) (Err (fault.Rows e)) (λ none. cc) (inr (inl refl)) (λ x is. absurd cc)
-    (if_some_weaker (g.F.Files.held c.args.files.now) _ _
-    (λ h loads. unopened_lost TypedOf NotTyped program_columns program_in program_outcome typed_not_bytes f (source_word p) rows refl refl (inl refl)
-    (λ w among. inr among) h files later
-    (λ t left. answers (plain_answer_to (rows_name rows) t left)) c.in_ok-loaded.loaded _ loads e
-    (λ is. c.in-Err.ensures.read (ap Err is)) (c.in-Err.ensures.opens files.broken later.broken) _)
-    c.in_ok-loaded.ensures.loads)
-    (if_some_weaker (g.F.Files.held c.args.files.now) _ _ (λ h loads is. inl c.in_ok-loaded.ensures.ended) c.in_ok-loaded.ensures.loads)
-    c.load.ensures.held (λ no. refl) tt (λ is. absurd cc) (λ is. absurd cc) (λ is. absurd (c.in-Err.ensures.read (ap Err is))) (λ is. absurd cc)
+    let files = g.F.Files.seen c.args.files.now in
+    let mid = g.F.Files.seen c.load_typed.new.files in
+    let later = g.F.Files.seen c.load_rows.new.files in
+    rw c.rows_name-name.ensures
+    (rows_unopened TypedOf NotTyped (λ t. input_columns t.slots) (about f) (source_word p) rows (λ none. cc) (inr (inl refl)) (λ w among. inr among)
+    (λ h t left x. x ≡ answers (plain_answer_to (rows_name rows) t left))
+    files mid later c.in-Ok.program c.in_ok-columns.columns
+    c.in_ok-columns.ensures.columns c.load_typed.ensures.held c.load_rows.ensures.held c.in-Ok.ensures.loads
+    c.in-Ok-load_rows.inputs (c.in-Ok-load_rows.ensures.ended c.in-Ok.ensures.ended) c.in-Ok-load_rows.ensures.loads _ c.in-Err-open.input
+    (λ is. c.in-Err-open.ensures.read (ap Err is)) (c.in-Err-open.ensures.opens files.broken later.broken))
+
+-- ---- the run
+
+pub returns-in-Ok-open : goal.returns-in-Ok-open
+returns-in-Ok-open g c unit =
+    let p = c.args.source.now in
+    let rows = rows_of c.args.rows in
+    let f = plain p rows in
+    let files = g.F.Files.seen c.args.files.now in
+    let mid = g.F.Files.seen c.load_typed.new.files in
+    let later = g.F.Files.seen c.load_rows.new.files in
+    let t = c.in-Ok.program in
+    let left = c.in-Ok-open.rows in
+    let r = c.print_run.result in
+    let before = g.O.Sink.seen c.args.out.now in
+    let after = g.O.Sink.seen c.print_run.new.out in
+    let prints = c.print_run.ensures.prints in
+    rw (c.run_ended.ensures.line, c.run_ended.ensures.status, c.rows_name-name.ensures)
+    (files_run (about f) (PlainTask p rows) files later (λ none. cc) (c.load_rows.ensures.held ∙ c.load_typed.ensures.held) (inr (inl refl))
+    (moment unit before)
+    (moment unit after) (rows_name rows) r (plain_ends t left before after r prints)
+    (if_some_weaker files.held _ _
+    (λ h comes. plain_reaches t left before after p rows (PlainTask p rows h) files later unit comes r prints c.print_run.ensures.write)
+    (opened_comes TypedOf NotTyped (λ t. input_columns t.slots) (about f) (source_word p) rows (λ none. cc) (inr (inl refl)) (λ w among. inr among)
+    (λ h t left x. x ≡ answers (plain_answer_to (rows_name rows) t left))
+    files mid later c.in-Ok.program c.in_ok-columns.columns
+    c.in_ok-columns.ensures.columns c.load_typed.ensures.held c.load_rows.ensures.held c.in-Ok.ensures.loads
+    c.in-Ok-load_rows.inputs (c.in-Ok-load_rows.ensures.ended c.in-Ok.ensures.ended) c.in-Ok-load_rows.ensures.loads left
+    (λ h. answers (plain_answer_to (rows_name rows) t left)) (c.in-Ok-open.ensures.opens 0 0) (λ h. refl)))
+    (c.in-Ok-load_rows.ensures.ended c.in-Ok.ensures.ended) (λ no. refl) (λ calls is. absurd cc)
+    (λ is. absurd (plain_refuses t left before after r prints is)) c.print_run.ensures.write)

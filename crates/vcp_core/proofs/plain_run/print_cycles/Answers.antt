@@ -5,8 +5,8 @@ use Rattle.vcp_base.specs.Types.{AreIn}
 use Rattle.vcp_typed.specs.Fitting.{input_types}
 use Rattle.vcp_outside.specs.Counts.{Rose}
 use Rattle.input_rows.specs.RowsOf.{RowsLeft}
-use Rattle.vcp_core.specs.declared.ending.End.TheVariants as end
-use Rattle.vcp_core.specs.declared.fault.Fault.TheVariants as fault
+use Rattle.vcp_core.specs.declared.ending.Ending.TheVariants as end
+use Rattle.machine_run.specs.declared.fault.RunFault.TheVariants as fault
 use Rattle.vcp_core.proofs.PlainTurns.{going-ends, going-on, fails-here, stops-here, end-fails}
 use Rattle.vcp_core.proofs.plain_run.print_cycles.Goals as goal
 
@@ -28,10 +28,10 @@ returns-in_err-print_cycle-clause-prints g c =
     let p = err_from_is_err_and c.from_residual-in_err-print_cycle.result c.from_residual-in_err-print_cycle.ensures.1 in
     let part = rw c.cycles.invariant.program at c.in_err-print_cycle.ensures.line.part in
     rw (p.1, p.2)
-    (going-ends c.args.plain.now.program c.args.plain.now.values c.args.rows.now (g.O.Sink.written c.args.out.now) (g.O.Sink.written c.cycles.out)
-    (g.O.Sink.written c.print_cycle.new.out) c.cycles.count c.cycles.plain.values c.cycles.rows (Err fault.Write) c.cycles.invariant.going
-    (fails-here c.args.plain.now.program c.cycles.count c.cycles.plain.values c.next.new.out c.cycles.rows c.next.new.self (g.O.Sink.written c.cycles.out)
-    (g.O.Sink.written c.print_cycle.new.out) (c.in_ok-next.ensures.row c.if-branch.true) part))
+    (going-ends c.args.plain.now.program c.args.plain.now.values c.args.rows.now (g.O.Sink.seen c.args.out.now).written (g.O.Sink.seen c.cycles.out).written
+    (g.O.Sink.seen c.print_cycle.new.out).written c.cycles.count c.cycles.plain.values c.cycles.rows (Err fault.Write) c.cycles.invariant.going
+    (fails-here c.args.plain.now.program c.cycles.count c.cycles.plain.values c.next.new.out c.cycles.rows c.next.new.self (g.O.Sink.seen c.cycles.out).written
+    (g.O.Sink.seen c.print_cycle.new.out).written (c.in_ok-next.ensures.row c.if-branch.true) part))
 
 pub returns-in_err-print_cycle-clause-write : goal.returns-in_err-print_cycle-clause-write
 returns-in_err-print_cycle-clause-write g c = λ _. rose-later _ _ _ c.cycles.invariant.later c.in_err-print_cycle.ensures.line.cause.failed
@@ -41,10 +41,10 @@ returns-in_err-end_line-clause-prints g c =
     let p = err_from_is_err_and c.from_residual-in_err-end_line.result c.from_residual-in_err-end_line.ensures.1 in
     let none = c.in_ok-next.ensures.end c.if-branch.false in
     rw (p.1, p.2)
-    (going-ends c.args.plain.now.program c.args.plain.now.values c.args.rows.now (g.O.Sink.written c.args.out.now) (g.O.Sink.written c.cycles.out)
-    (g.O.Sink.written c.end_line.new.out) c.cycles.count c.cycles.plain.values c.cycles.rows (Err fault.Write) c.cycles.invariant.going
-    (end-fails c.args.plain.now.program c.cycles.count c.cycles.plain.values c.cycles.rows (g.O.Sink.written c.cycles.out)
-    (g.O.Sink.written c.end_line.new.out) (record { rows = none.0; refusal_is = none.1 }) c.in_err-end_line.ensures.part))
+    (going-ends c.args.plain.now.program c.args.plain.now.values c.args.rows.now (g.O.Sink.seen c.args.out.now).written (g.O.Sink.seen c.cycles.out).written
+    (g.O.Sink.seen c.end_line.new.out).written c.cycles.count c.cycles.plain.values c.cycles.rows (Err fault.Write) c.cycles.invariant.going
+    (end-fails c.args.plain.now.program c.cycles.count c.cycles.plain.values c.cycles.rows (g.O.Sink.seen c.cycles.out).written
+    (g.O.Sink.seen c.end_line.new.out).written (record { rows = none.0; refusal_is = none.1 }) c.in_err-end_line.ensures.part))
 
 pub returns-in_err-end_line-clause-write : goal.returns-in_err-end_line-clause-write
 returns-in_err-end_line-clause-write g c = λ _. rose-later _ _ _ c.cycles.invariant.later c.in_err-end_line.ensures.cause.failed
@@ -64,7 +64,10 @@ cycles-preserved g c =
       inputs = c.next.ensures.width ∙ c.cycles.invariant.inputs;
       outputs = here.cells more ∙ c.cycles.invariant.outputs;
       later = omega (arith, c.cycles.invariant.later, here.line.cause.later);
-      going = going-on c.args.plain.now.program c.args.plain.now.values c.args.rows.now (g.O.Sink.written c.args.out.now) (g.O.Sink.written c.cycles.out) (g.O.Sink.written c.print_cycle.new.out) c.cycles.count c.cycles.plain.values c.print_cycle.new.plain.values c.next.new.out c.cycles.rows c.next.new.self c.cycles.invariant.going taken (rw c.cycles.invariant.program at (here.values more)) (rw c.cycles.invariant.program at here.line.whole);
+      going = going-on c.args.plain.now.program c.args.plain.now.values c.args.rows.now (g.O.Sink.seen c.args.out.now).written
+          (g.O.Sink.seen c.cycles.out).written (g.O.Sink.seen c.print_cycle.new.out).written c.cycles.count c.cycles.plain.values
+          c.print_cycle.new.plain.values c.next.new.out c.cycles.rows c.next.new.self c.cycles.invariant.going taken
+          (rw c.cycles.invariant.program at (here.values more)) (rw c.cycles.invariant.program at here.line.whole);
     }
 
 pub returns-then-not-branch-clause-prints : goal.returns-then-not-branch-clause-prints
@@ -72,8 +75,8 @@ returns-then-not-branch-clause-prints g c =
     let p = c.args.plain.now.program in
     let here = c.in_ok-print_cycle.ensures in
     let stopped = here.stopped c.if-not-branch.true in
-    going-ends p c.args.plain.now.values c.args.rows.now (g.O.Sink.written c.args.out.now) (g.O.Sink.written c.cycles.out)
-    (g.O.Sink.written c.print_cycle.new.out) c.cycles.count c.cycles.plain.values c.cycles.rows (Ok end.Stopped) c.cycles.invariant.going
-    (stops-here p c.cycles.count c.cycles.plain.values c.next.new.out stopped.0 c.cycles.rows c.next.new.self (g.O.Sink.written c.cycles.out)
-    (g.O.Sink.written c.print_cycle.new.out) (c.in_ok-next.ensures.row c.if-branch.true) (rw c.cycles.invariant.program at stopped.1)
+    going-ends p c.args.plain.now.values c.args.rows.now (g.O.Sink.seen c.args.out.now).written (g.O.Sink.seen c.cycles.out).written
+    (g.O.Sink.seen c.print_cycle.new.out).written c.cycles.count c.cycles.plain.values c.cycles.rows (Ok end.Stopped) c.cycles.invariant.going
+    (stops-here p c.cycles.count c.cycles.plain.values c.next.new.out stopped.0 c.cycles.rows c.next.new.self (g.O.Sink.seen c.cycles.out).written
+    (g.O.Sink.seen c.print_cycle.new.out).written (c.in_ok-next.ensures.row c.if-branch.true) (rw c.cycles.invariant.program at stopped.1)
     (rw c.cycles.invariant.program at here.line.whole))

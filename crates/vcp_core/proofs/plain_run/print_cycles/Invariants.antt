@@ -14,8 +14,8 @@ invariant-cycles g l = record {
   typed : All (AreIn (input_types l.fn.plain.program.slots)) l.rows.rows;
   inputs : length l.inputs ≡ length (input_types l.fn.plain.program.slots);
   outputs : length l.outputs ≡ length (output_types l.fn.plain.program.slots);
-  later : g.O.Sink.faults l.fn.out ≤ g.O.Sink.faults l.out;
-  going : Going l.fn.plain.program l.fn.plain.values l.fn.rows (g.O.Sink.written l.fn.out) (g.O.Sink.written l.out) l.count l.plain.values l.rows;
+  later : (g.O.Sink.seen l.fn.out).faults ≤ (g.O.Sink.seen l.out).faults;
+  going : Going l.fn.plain.program l.fn.plain.values l.fn.rows (g.O.Sink.seen l.fn.out).written (g.O.Sink.seen l.out).written l.count l.plain.values l.rows;
 }
 
 abbrev pub decreases-cycles : goal.decreases-cycles

@@ -17,7 +17,7 @@ returns-in_err-header_line-clause-prints g c =
     let p = err_from_is_err_and c.from_residual-in_err-header_line.result c.from_residual-in_err-header_line.ensures.1 in
     let names = named c.args.program.now.slots c.args.columns.now c.requires.columns in
     rw (p.1, p.2)
-    (header-fails c.args.program.now c.args.rows.now (g.O.Sink.written c.args.out.now) (g.O.Sink.written c.header_line.new.out)
+    (header-fails c.args.program.now c.args.rows.now (g.O.Sink.seen c.args.out.now).written (g.O.Sink.seen c.header_line.new.out).written
     (rw names at c.in_err-header_line.ensures.part))
 
 pub print_cycles-requires-clause-inputs : goal.print_cycles-requires-clause-inputs
@@ -33,6 +33,6 @@ print_cycles-requires-clause-outputs g c =
 pub returns-clause-prints : goal.returns-clause-prints
 returns-clause-prints g c =
     let names = named c.args.program.now.slots c.args.columns.now c.requires.columns in
-    header-first c.args.program.now c.args.rows.now (g.O.Sink.written c.args.out.now) (g.O.Sink.written c.header_line.new.out)
-    (g.O.Sink.written c.print_cycles.new.out) c.print_cycles.result (rw names at c.in_ok-header_line.ensures.whole)
+    header-first c.args.program.now c.args.rows.now (g.O.Sink.seen c.args.out.now).written (g.O.Sink.seen c.header_line.new.out).written
+    (g.O.Sink.seen c.print_cycles.new.out).written c.print_cycles.result (rw names at c.in_ok-header_line.ensures.whole)
     (rw c.in_ok-plain.ensures at c.print_cycles.ensures.prints)

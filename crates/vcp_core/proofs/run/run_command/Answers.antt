@@ -3,87 +3,72 @@ use Rattle.std.proofs.lemmas.Result.{err_from_is_err_and}
 use Rattle.input_rows.specs.RowsOf.{types_of}
 use Rattle.vcp_words.specs.Forms.{run, rows_of, as_code}
 use Rattle.vcp_words.specs.Tables.{rows_name}
-use Rattle.vcp_core.proofs.Facts.{if_some_weaker}
-use Rattle.vcp_core.proofs.Loaded.{typed_not_bytes}
-use Rattle.vcp_core.proofs.PlainNames.{types-of-inputs}
+use Rattle.machine_run.specs.Moments.{moment}
+use Rattle.vcp_typed.specs.Fitting.{input_columns}
 use Rattle.vcp_inputs.specs.Programs.{TypedOf, NotTyped}
 use Rattle.vcp_answer.specs.Abouts.{about, source_word}
+use Rattle.vcp_answer.specs.FileTasks.{TakenRows}
 use Rattle.vcp_answer.specs.Answer.{source}
 use Rattle.vcp_answer.specs.Kinds.{runs as runs_to}
-use Rattle.vcp_answer.specs.Seen.{files_seen, moment_seen}
-use Rattle.vcp_core.specs.declared.fault.Fault.TheVariants as fault
-use Rattle.vcp_core.specs.Tasks.{rows_job, RunTask}
-use Rattle.vcp_core.specs.Loading.{program_columns, program_in, program_outcome}
 use Rattle.vcp_core.specs.MachineRun.{RunsTo}
-use Rattle.vcp_core.specs.Reach.{fault_text, told_line}
-use Rattle.vcp_core.proofs.LoadedRows.{loading_lost, loading_taken, opened_comes, unopened_lost}
-use Rattle.vcp_core.proofs.Performing.{performs_by, ran, ran_reads, run_ends, at_end_of, still}
+use Rattle.vcp_core.specs.Tasks.{rows_job, RunTask}
+use Rattle.vcp_core.proofs.Facts.{if_some_weaker}
+use Rattle.vcp_core.proofs.Loaded.{typed_not_bytes}
+use Rattle.vcp_core.proofs.LoadedRows.{opened_comes, rows_unloaded, rows_unopened}
+use Rattle.vcp_core.proofs.Performing.{files_run, files_wanted, quiet_lost, ran, run_ends}
+use Rattle.vcp_core.proofs.PlainNames.{types-of-inputs}
 use Rattle.vcp_core.proofs.run.run_command.Goals as goal
 
 pub run_program-requires-clause-types : goal.run_program-requires-clause-types
-run_program-requires-clause-types g c = c.in-Ok.ensures.types
-    ∙ (ap types_of c.in_ok-loaded.ensures.columns ∙ types-of-inputs c.in_ok-loaded.loaded.program.slots)
+run_program-requires-clause-types g c =
+    c.in-Ok-open.ensures.types ∙ (ap types_of c.in_ok-columns.ensures.columns ∙ types-of-inputs c.in-Ok.program.slots)
 
-pub returns-in_err-loaded : goal.returns-in_err-loaded
-returns-in_err-loaded g c =
+-- ---- the file isn't taken, or memory is wanted
+
+pub returns-in-Err : goal.returns-in-Err
+returns-in-Err g c =
     let p = c.args.source.now in
     let code = as_code c.args.code in
     let rows = rows_of c.args.rows in
     let f = run p rows code in
-    let files = files_seen (g.F.Files.held c.args.files.now) (g.F.Files.rest c.args.files.now) (g.F.Files.faults c.args.files.now)
-    (g.F.Files.broken c.args.files.now) in
-    let later = files_seen (g.F.Files.held c.load.new.files) (g.F.Files.rest c.load.new.files) (g.F.Files.faults c.load.new.files)
-    (g.F.Files.broken c.load.new.files) in
+    let files = g.F.Files.seen c.args.files.now in
+    let mid = g.F.Files.seen c.load_typed.new.files in
+    rw c.bytes.ensures
+    (quiet_lost (about f) TypedOf NotTyped (λ h t. TakenRows (λ left x. x ≡ runs_to (rows_job (rows_name rows) code (source t) left)) rows h
+    (input_columns t.slots)) (source_word p) files mid _
+    c.in-Err.input (inl refl) (λ none. cc) (inr (inl refl)) c.load_typed.ensures.held
+    c.in-Err.ensures.loads (λ r is. c.in-Err.ensures.whole r (ap Err is)) typed_not_bytes (λ is. c.in-Err.ensures.unread (ap Err is)))
+
+pub returns-in_err-columns : goal.returns-in_err-columns
+returns-in_err-columns g c =
+    let p = c.args.source.now in
+    let code = as_code c.args.code in
+    let rows = rows_of c.args.rows in
+    let f = run p rows code in
+    let files = g.F.Files.seen c.args.files.now in
+    let mid = g.F.Files.seen c.load_typed.new.files in
     let q = err_from_is_err_and c.from_residual.result c.from_residual.ensures.1 in
-    let e = c.in_err-loaded.field-0.0 in
-    rw (q.1, q.2)
-    (performs_by (about f) (RunTask p rows code) files
-    later
-    _ _ (fault_text f e) (Err e) (λ none. cc) (inr (inl refl)) (λ x is. absurd cc)
-    (if_some_weaker (g.F.Files.held c.args.files.now) _ _
-    (λ h loads. loading_lost TypedOf NotTyped program_columns program_in program_outcome typed_not_bytes f (source_word p) rows refl refl (inl refl)
-    (λ w among. inr among) h _ _ (λ t left x. x ≡ runs_to (rows_job (rows_name rows) code (source t) left)) _ _ (still _) _ e loads)
-    c.in_err-loaded.ensures.loads)
-    (if_some_weaker (g.F.Files.held c.args.files.now) _ _
-    (λ h loads. loading_taken TypedOf NotTyped program_columns program_in program_outcome typed_not_bytes f (source_word p) rows refl refl (inl refl)
-    (λ w among. inr among) h
-    files
-    later
-    (g.F.Files.rest c.load.new.files) e loads) c.in_err-loaded.ensures.loads)
-    c.load.ensures.held (λ no. refl) tt (λ is. absurd cc) (λ is. absurd cc) c.in_err-loaded.ensures.unread
-    (λ is. let same : c.in_err-loaded.field-0.0 ≡ fault.Write = cc in absurd (c.in_err-loaded.ensures.no_write (ap Err same))))
+    rw (q.1, q.2) (files_wanted (about f) (RunTask p rows code) files mid (λ none. cc) c.load_typed.ensures.held _)
 
-pub returns-in-Ok : goal.returns-in-Ok
-returns-in-Ok g c =
+-- ---- there is nothing of ROWS
+
+pub returns-in-Err-load_rows : goal.returns-in-Err-load_rows
+returns-in-Err-load_rows g c =
     let p = c.args.source.now in
     let code = as_code c.args.code in
     let rows = rows_of c.args.rows in
     let f = run p rows code in
-    let files = files_seen (g.F.Files.held c.args.files.now) (g.F.Files.rest c.args.files.now) (g.F.Files.faults c.args.files.now)
-    (g.F.Files.broken c.args.files.now) in
-    let later = files_seen (g.F.Files.held c.load.new.files) (g.F.Files.rest c.load.new.files) (g.F.Files.faults c.load.new.files)
-    (g.F.Files.broken c.load.new.files) in
-    let j = rows_job (rows_name rows) code (source c.in_ok-loaded.loaded.program) c.in-Ok.rows in
-    let before = moment_seen (g.U.Unit.log c.args.unit.now) (g.U.Unit.wrong c.args.unit.now) (g.O.Sink.written c.args.out.now)
-    (g.O.Sink.faults c.args.out.now) in
-    let after = moment_seen (g.U.Unit.log c.run_program.new.unit) (g.U.Unit.wrong c.run_program.new.unit) (g.O.Sink.written c.run_program.new.out)
-    (g.O.Sink.faults c.run_program.new.out) in
-    let run : RunsTo j before after c.run_program.result =
-    c.run_program.ensures.ran (rows_name rows) in
-    performs_by (about f) (RunTask p rows code) files
-    later
-    before after (told_line f c.run_program.result) c.run_program.result (λ none. cc) (inr (inl refl)) (λ e is. run_ends e)
-    (if_some_weaker (g.F.Files.held c.args.files.now) _ _
-    (λ h loads. ran f (RunTask p rows code h) j _ _ before after c.run_program.result refl refl
-    (opened_comes TypedOf NotTyped program_columns program_in program_outcome typed_not_bytes f (source_word p) rows refl refl (inl refl)
-    (λ w among. inr among) h files later
-    (λ t left. runs_to (rows_job (rows_name rows) code (source t) left)) c.in_ok-loaded.loaded _ loads c.in-Ok.rows
-    (c.in-Ok.ensures.opens 0 0)) c.run_program.ensures.write run)
-    c.in_ok-loaded.ensures.loads)
-    (if_some_weaker (g.F.Files.held c.args.files.now) _ _ (λ h loads is. inl c.in_ok-loaded.ensures.ended) c.in_ok-loaded.ensures.loads)
-    c.load.ensures.held (λ no. absurd cc)
-    (at_end_of c.run_program.result _ c.in_ok-loaded.ensures.ended) c.run_program.ensures.stopped c.run_program.ensures.refused
-    (λ is. absurd (ran_reads j before after c.run_program.result run is)) c.run_program.ensures.write
+    let files = g.F.Files.seen c.args.files.now in
+    let mid = g.F.Files.seen c.load_typed.new.files in
+    let later = g.F.Files.seen c.load_rows.new.files in
+    rw c.rows_name-name.ensures
+    (rows_unloaded TypedOf NotTyped (λ t. input_columns t.slots) (about f) (source_word p) rows (λ none. cc) (inr (inl refl)) (λ w among. inr among)
+    (λ h t left x. x ≡ runs_to (rows_job (rows_name rows) code (source t) left))
+    files mid later c.in-Ok.program c.in_ok-columns.columns
+    c.in_ok-columns.ensures.columns c.load_typed.ensures.held c.load_rows.ensures.held c.in-Ok.ensures.loads _
+    c.in-Err-load_rows.input c.load_typed.ensures.later c.load_typed.ensures.broken_later c.in-Ok.ensures.ended c.in-Err-load_rows.ensures.loads
+    (λ is. c.in-Err-load_rows.ensures.begun (ap Err is)) (λ is. c.in-Err-load_rows.ensures.unread (ap Err is))
+    (λ r is other. c.in-Err-load_rows.ensures.whole r (ap Err is) other) (λ is. c.in-Err-load_rows.ensures.long (ap Err is)))
 
 pub returns : goal.returns
 returns g c =
@@ -91,19 +76,43 @@ returns g c =
     let code = as_code c.args.code in
     let rows = rows_of c.args.rows in
     let f = run p rows code in
-    let files = files_seen (g.F.Files.held c.args.files.now) (g.F.Files.rest c.args.files.now) (g.F.Files.faults c.args.files.now)
-    (g.F.Files.broken c.args.files.now) in
-    let later = files_seen (g.F.Files.held c.load.new.files) (g.F.Files.rest c.load.new.files) (g.F.Files.faults c.load.new.files)
-    (g.F.Files.broken c.load.new.files) in
-    let e = c.in-Err.input in
-    performs_by (about f) (RunTask p rows code) files
-    later
-    _ _ (fault_text f (fault.Rows e)) (Err (fault.Rows e)) (λ none. cc) (inr (inl refl)) (λ x is. absurd cc)
-    (if_some_weaker (g.F.Files.held c.args.files.now) _ _
-    (λ h loads. unopened_lost TypedOf NotTyped program_columns program_in program_outcome typed_not_bytes f (source_word p) rows refl refl (inl refl)
-    (λ w among. inr among) h files later
-    (λ t left. runs_to (rows_job (rows_name rows) code (source t) left)) c.in_ok-loaded.loaded _ loads e
-    (λ is. c.in-Err.ensures.read (ap Err is)) (c.in-Err.ensures.opens files.broken later.broken) _)
-    c.in_ok-loaded.ensures.loads)
-    (if_some_weaker (g.F.Files.held c.args.files.now) _ _ (λ h loads is. inl c.in_ok-loaded.ensures.ended) c.in_ok-loaded.ensures.loads)
-    c.load.ensures.held (λ no. refl) tt (λ is. absurd cc) (λ is. absurd cc) (λ is. absurd (c.in-Err.ensures.read (ap Err is))) (λ is. absurd cc)
+    let files = g.F.Files.seen c.args.files.now in
+    let mid = g.F.Files.seen c.load_typed.new.files in
+    let later = g.F.Files.seen c.load_rows.new.files in
+    rw c.rows_name-name.ensures
+    (rows_unopened TypedOf NotTyped (λ t. input_columns t.slots) (about f) (source_word p) rows (λ none. cc) (inr (inl refl)) (λ w among. inr among)
+    (λ h t left x. x ≡ runs_to (rows_job (rows_name rows) code (source t) left))
+    files mid later c.in-Ok.program c.in_ok-columns.columns
+    c.in_ok-columns.ensures.columns c.load_typed.ensures.held c.load_rows.ensures.held c.in-Ok.ensures.loads
+    c.in-Ok-load_rows.inputs (c.in-Ok-load_rows.ensures.ended c.in-Ok.ensures.ended) c.in-Ok-load_rows.ensures.loads _ c.in-Err-open.input
+    (λ is. c.in-Err-open.ensures.read (ap Err is)) (c.in-Err-open.ensures.opens files.broken later.broken))
+
+-- ---- the run
+
+pub returns-in-Ok-open : goal.returns-in-Ok-open
+returns-in-Ok-open g c =
+    let p = c.args.source.now in
+    let code = as_code c.args.code in
+    let rows = rows_of c.args.rows in
+    let f = run p rows code in
+    let files = g.F.Files.seen c.args.files.now in
+    let mid = g.F.Files.seen c.load_typed.new.files in
+    let later = g.F.Files.seen c.load_rows.new.files in
+    let j = rows_job (rows_name rows) code (source c.in-Ok.program) c.in-Ok-open.rows in
+    let before = moment (g.U.Unit.seen c.args.unit.now) (g.O.Sink.seen c.args.out.now) in
+    let after = moment (g.U.Unit.seen c.run_program.new.unit) (g.O.Sink.seen c.run_program.new.out) in
+    let ended : RunsTo j before after c.run_program.result = c.run_program.ensures.ran (rows_name rows) in
+    rw (c.run_ended.ensures.line, c.run_ended.ensures.status, c.rows_name-name.ensures)
+    (files_run (about f) (RunTask p rows code) files later (λ none. cc) (c.load_rows.ensures.held ∙ c.load_typed.ensures.held) (inr (inl refl)) before
+    after (rows_name rows)
+    c.run_program.result (λ e is. run_ends e)
+    (if_some_weaker files.held _ _
+    (λ h comes. ran (about f) files later before after (RunTask p rows code h) j c.run_program.result refl comes c.run_program.ensures.write ended)
+    (opened_comes TypedOf NotTyped (λ t. input_columns t.slots) (about f) (source_word p) rows (λ none. cc) (inr (inl refl)) (λ w among. inr among)
+    (λ h t left x. x ≡ runs_to (rows_job (rows_name rows) code (source t) left))
+    files mid later c.in-Ok.program c.in_ok-columns.columns
+    c.in_ok-columns.ensures.columns c.load_typed.ensures.held c.load_rows.ensures.held c.in-Ok.ensures.loads
+    c.in-Ok-load_rows.inputs (c.in-Ok-load_rows.ensures.ended c.in-Ok.ensures.ended) c.in-Ok-load_rows.ensures.loads c.in-Ok-open.rows (λ h. runs_to j)
+    (c.in-Ok-open.ensures.opens 0 0) (λ h. refl)))
+    (c.in-Ok-load_rows.ensures.ended c.in-Ok.ensures.ended) (λ no. absurd cc) (λ calls. c.run_program.ensures.stopped) c.run_program.ensures.refused
+    c.run_program.ensures.write)

@@ -8,7 +8,8 @@ pub returns-in_err-graph_stop_line-in-Stopped : goal.returns-in_err-graph_stop_l
 returns-in_err-graph_stop_line-in-Stopped g c =
     let p = err_from_is_err_and c.from_residual-in_err-graph_stop_line-in-Stopped.result c.from_residual-in_err-graph_stop_line-in-Stopped.ensures.1 in
     let there : c.in-Stopped.op < length c.args.graph.now.operations = rw c.in-Stopped.is at c.requires.there in
-    let w = stop-printed c.args.graph.now (map (λ (x : Column). x.name) c.args.outputs.now) c.args.cycles c.in-Stopped.kind _ _ _ _ _ c.in-Stopped.op there c.in_err-graph_stop_line-in-Stopped.ensures in
+    let w = stop-printed c.args.graph.now (map (λ (x : Column). x.name) c.args.outputs.now) c.args.cycles c.in-Stopped.kind _ _ _ _ _ c.in-Stopped.op there
+    c.in_err-graph_stop_line-in-Stopped.ensures in
     rw (p.1, c.in-Stopped.is) (w.cause.failed, w.part)
 
 pub returns-in_err-refused_line-in-Refused : goal.returns-in_err-refused_line-in-Refused
@@ -21,7 +22,8 @@ returns-in_err-refused_line-in-Refused g c =
 pub returns-in_ok-graph_stop_line-in-Stopped : goal.returns-in_ok-graph_stop_line-in-Stopped
 returns-in_ok-graph_stop_line-in-Stopped g c =
     let there : c.in-Stopped.op < length c.args.graph.now.operations = rw c.in-Stopped.is at c.requires.there in
-    let w = stop-printed c.args.graph.now (map (λ (x : Column). x.name) c.args.outputs.now) c.args.cycles c.in-Stopped.kind _ _ _ _ _ c.in-Stopped.op there c.in_ok-graph_stop_line-in-Stopped.ensures in
+    let w = stop-printed c.args.graph.now (map (λ (x : Column). x.name) c.args.outputs.now) c.args.cycles c.in-Stopped.kind _ _ _ _ _ c.in-Stopped.op there
+    c.in_ok-graph_stop_line-in-Stopped.ensures in
     rw c.in-Stopped.is (w.whole, stop-status c.args.graph.now c.in-Stopped.op c.in-Stopped.kind there)
 
 pub returns-in_ok-refused_line-in-Refused : goal.returns-in_ok-refused_line-in-Refused

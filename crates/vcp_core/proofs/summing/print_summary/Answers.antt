@@ -19,5 +19,6 @@ returns-in_err-summary_line-in-Released g c =
 
 pub returns-in-Stopped : goal.returns-in-Stopped
 returns-in-Stopped g c =
-    ended-early c.args.graph.now (map (λ (x : Column). x.name) c.args.outputs.now) c.args.number c.args.cycles _ _ c.args.end.now _ _ _ _ c.print_end.result
+    ended-early c.args.graph.now (map (λ (x : Column). x.name) c.args.outputs.now) c.args.number c.args.cycles _ _ c.args.end.now
+    (g.O.Sink.seen c.args.out.now) (g.O.Sink.seen c.print_end.new.out) c.print_end.result
     (not-released c.args.end.now c.in-Stopped.is) c.requires.there c.print_end.ensures

@@ -6,10 +6,10 @@ use Rattle.signature_table.specs.Signatures.{table_of}
 use Rattle.coded_machine.specs.State.{State}
 use Rattle.vcp_words.specs.Forms.{default_code}
 use Rattle.vcp_answer.specs.Answer.{source}
-use Rattle.vcp_answer.specs.Reports.{names_of}
+use Rattle.vcp_answer.specs.Reports.{subject_outputs}
 use Rattle.vcp_answer.specs.RunKind.{run_read}
 use Rattle.vcp_core.specs.Tasks.{summary_job}
-use Rattle.vcp_core.specs.declared.ending.End.TheVariants as ending
+use Rattle.vcp_core.specs.declared.ending.Ending.TheVariants as ending
 use Rattle.vcp_core.specs.Reach.{end_status}
 use Rattle.vcp_core.proofs.JobFacts.{names-are, leaves-here, there-is, stopped-is, refused-is}
 use Rattle.vcp_core.proofs.Performing.{still}
@@ -58,7 +58,9 @@ returns-in_err-end-clause-ran g c p carries =
     let leaves = leaves-here c.in_ok-machine.machine _ graph c.args.table.now _ left _ _ _ _ _ _ c.in_ok-machine.ensures.fresh
     carries.numbers c.in_err-end.ensures.leaves in
     rw (q.1, q.2)
-    (given-up-run (summary_job c.args.number p left) graph carries.may carries.told (λ cycles right all. refl) _ _ _ _ _ _ _ _ _ _ _ c.requires.behind
+    (given-up-run (summary_job c.args.number p left) graph carries.may carries.told (λ cycles right all. refl) (g.U.Unit.seen c.args.unit.now)
+    (g.U.Unit.seen c.run_rows.new.unit) _ (g.O.Sink.seen c.args.out.now) (g.O.Sink.seen c.args.out.now) (g.O.Sink.seen c.run_rows.new.out)
+    c.requires.behind
     (appends-nothing _) leaves.run)
 
 pub returns-in_err-print_summary-clause-ran : goal.returns-in_err-print_summary-clause-ran
@@ -77,12 +79,15 @@ returns-in_err-print_summary-clause-ran g c p carries =
     let few = released-few graph (table_of code.seed code.step graph) left.rows leaves.run.cycles came.all in
     let sums = leaves.kept [] no-sums (omega (arith, few, c.requires.few)) in
     let j = summary_job c.args.number p left in
-    let last = summary-last c.args.number (names_of s) c.cycles-cycles.result _ _ (run_read j graph leaves.run.cycles) graph c.in_ok-end.end left.refusal there
+    let last = summary-last c.args.number (subject_outputs s) c.cycles-cycles.result _ _ (run_read j graph leaves.run.cycles) graph c.in_ok-end.end
+    left.refusal there
     (c.cycles-cycles.ensures.value ∙ leaves.machine.cycles) sums none in
     rw (q.1, q.2)
-    (last-left j graph carries.may carries.told (λ cycles right all. refl) _ _ _ _ c.in_ok-end.end _ _ _ _ _ _ _ _
+    (last-left j graph carries.may carries.told (λ cycles right all. refl) (g.U.Unit.seen c.args.unit.now) (g.U.Unit.seen c.run_rows.new.unit)
+    c.in_ok-end.end (g.O.Sink.seen c.args.out.now) (g.O.Sink.seen c.args.out.now) (g.O.Sink.seen c.run_rows.new.out)
+    (g.O.Sink.seen c.print_summary.new.out)
     (appends-nothing _) leaves.run there
-    (subst (λ (l : List ℕ). AppendsPart (g.O.Sink.written c.run_rows.new.out) (g.O.Sink.written c.print_summary.new.out) l) last
+    (subst (λ (l : List ℕ). AppendsPart (g.O.Sink.seen c.run_rows.new.out).written (g.O.Sink.seen c.print_summary.new.out).written l) last
     (rw names at c.in_err-print_summary.ensures.1)))
 
 pub returns-clause-ran : goal.returns-clause-ran
@@ -100,10 +105,13 @@ returns-clause-ran g c p carries =
     let few = released-few graph (table_of code.seed code.step graph) left.rows leaves.run.cycles came.all in
     let sums = leaves.kept [] no-sums (omega (arith, few, c.requires.few)) in
     let j = summary_job c.args.number p left in
-    let last = summary-last c.args.number (names_of s) c.cycles-cycles.result _ _ (run_read j graph leaves.run.cycles) graph c.in_ok-end.end left.refusal there
+    let last = summary-last c.args.number (subject_outputs s) c.cycles-cycles.result _ _ (run_read j graph leaves.run.cycles) graph c.in_ok-end.end
+    left.refusal there
     (c.cycles-cycles.ensures.value ∙ leaves.machine.cycles) sums none in
-    ended-run j graph carries.may carries.told (λ cycles right all. refl) _ _ _ _ c.in_ok-end.end _ _ _ _ 0 _ _ 0
+    ended-run j graph carries.may carries.told (λ cycles right all. refl) (g.U.Unit.seen c.args.unit.now) (g.U.Unit.seen c.run_rows.new.unit)
+    c.in_ok-end.end (g.O.Sink.seen c.args.out.now) (g.O.Sink.seen c.args.out.now) (g.O.Sink.seen c.run_rows.new.out)
+    (g.O.Sink.seen c.print_summary.new.out)
     (appends-nothing _) leaves.run there c.in_ok-print_summary.field-0
-    (subst (λ (l : List ℕ). Appends (g.O.Sink.written c.run_rows.new.out) (g.O.Sink.written c.print_summary.new.out) l) last
+    (subst (λ (l : List ℕ). Appends (g.O.Sink.seen c.run_rows.new.out).written (g.O.Sink.seen c.print_summary.new.out).written l) last
     (rw names at c.in_ok-print_summary.ensures.0))
     c.in_ok-print_summary.ensures.1

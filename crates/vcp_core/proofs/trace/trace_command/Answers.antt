@@ -3,98 +3,79 @@ use Rattle.std.proofs.lemmas.Result.{err_from_is_err_and}
 use Rattle.input_rows.specs.RowsOf.{RowsLeft, through}
 use Rattle.vcp_words.specs.Forms.{trace, rows_of}
 use Rattle.vcp_words.specs.Tables.{rows_name}
-use Rattle.vcp_core.specs.MachineRun.{RunsTo}
-use Rattle.vcp_core.proofs.ImageLoaded.{image_not_bytes, types-width}
-use Rattle.vcp_core.proofs.WordsRun.{through-few, through-all}
-use Rattle.vcp_core.proofs.Facts.{if_some_weaker}
-use Rattle.vcp_answer.specs.Abouts.{about, image_word}
-use Rattle.vcp_answer.specs.Kinds.{runs as runs_to}
-use Rattle.vcp_answer.specs.Seen.{files_seen, moment_seen}
-use Rattle.vcp_core.specs.declared.fault.Fault.TheVariants as fault
-use Rattle.vcp_core.specs.Tasks.{words_job, TraceTask, code_of}
-use Rattle.vcp_core.specs.Reach.{fault_text, told_line}
+use Rattle.machine_run.specs.Moments.{moment}
 use Rattle.vcp_inputs.specs.Images.{ImageOf, NotImage}
-use Rattle.vcp_core.specs.Loading.{image_columns, image_in, image_outcome}
-use Rattle.vcp_core.proofs.LoadedRows.{loading_lost, loading_taken, opened_comes, unopened_lost}
-use Rattle.vcp_core.proofs.Performing.{performs_by, ran, ran_reads, run_ends, at_end_of, still}
+use Rattle.vcp_answer.specs.Abouts.{about, image_word}
+use Rattle.vcp_answer.specs.FileTasks.{TakenRows}
+use Rattle.vcp_answer.specs.Kinds.{runs as runs_to}
+use Rattle.vcp_core.specs.MachineRun.{RunsTo}
+use Rattle.vcp_core.specs.Tasks.{table_code, graph_columns, words_job, TraceTask}
+use Rattle.vcp_core.proofs.Facts.{if_some_weaker}
+use Rattle.vcp_core.proofs.ImageLoaded.{image_not_bytes, types-width}
+use Rattle.vcp_core.proofs.LoadedRows.{opened_comes, rows_unloaded, rows_unopened}
+use Rattle.vcp_core.proofs.Performing.{files_run, files_wanted, quiet_lost, ran, run_ends}
+use Rattle.vcp_core.proofs.WordsRun.{through-few, through-all}
 use Rattle.vcp_core.proofs.trace.trace_command.Goals as goal
 
 pub run_words-requires-clause-width : goal.run_words-requires-clause-width
 run_words-requires-clause-width g c =
     ap (λ (l : RowsLeft). length l.types) c.through.ensures.rows
-    ∙ types-width c.in_ok-loaded.loaded.image.graph c.in_ok-loaded.loaded.columns c.in-Ok.rows.types c.in-Ok.ensures.types c.in_ok-loaded.ensures.columns
+    ∙ types-width c.in-Ok.loaded.graph c.in_ok-columns.columns c.in-Ok-open.rows.types c.in-Ok-open.ensures.types c.in_ok-columns.ensures.columns
 
 pub run_words-requires-clause-few : goal.run_words-requires-clause-few
 run_words-requires-clause-few g c =
-    subst (λ (l : RowsLeft). length l.rows ≤ c.args.cycle + 1) (sym c.through.ensures.rows) (through-few c.args.cycle c.in-Ok.rows)
+    subst (λ (l : RowsLeft). length l.rows ≤ c.args.cycle + 1) (sym c.through.ensures.rows) (through-few c.args.cycle c.in-Ok-open.rows)
 
 pub run_words-requires-clause-through : goal.run_words-requires-clause-through
 run_words-requires-clause-through g c =
-    subst (λ (l : RowsLeft). l.refusal ≡ None → length l.rows ≡ c.args.cycle + 1) (sym c.through.ensures.rows) (through-all c.args.cycle c.in-Ok.rows)
+    subst (λ (l : RowsLeft). l.refusal ≡ None → length l.rows ≡ c.args.cycle + 1) (sym c.through.ensures.rows) (through-all c.args.cycle c.in-Ok-open.rows)
 
-pub returns-in_err-loaded : goal.returns-in_err-loaded
-returns-in_err-loaded g c =
+-- ---- the file isn't taken, or memory is wanted
+
+pub returns-in-Err : goal.returns-in-Err
+returns-in-Err g c =
     let m = c.args.image.now in
     let rows = rows_of c.args.rows in
     let n = c.args.cycle in
     let f = trace m rows n in
-    let files = files_seen (g.F.Files.held c.args.files.now) (g.F.Files.rest c.args.files.now) (g.F.Files.faults c.args.files.now)
-    (g.F.Files.broken c.args.files.now) in
-    let later = files_seen (g.F.Files.held c.load_image_and_rows.new.files) (g.F.Files.rest c.load_image_and_rows.new.files)
-    (g.F.Files.faults c.load_image_and_rows.new.files) (g.F.Files.broken c.load_image_and_rows.new.files) in
+    let files = g.F.Files.seen c.args.files.now in
+    let mid = g.F.Files.seen c.load_image.new.files in
+    rw c.bytes.ensures
+    (quiet_lost (about f) ImageOf NotImage (λ h i. TakenRows (λ left x. x ≡ runs_to
+    (words_job (rows_name rows) n i.graph (table_code i.table) (through n left))) rows h (graph_columns i.graph)) (image_word m) files mid _
+    c.in-Err.input (inl refl) (λ none. cc) (inr (inl refl)) c.load_image.ensures.held
+    c.in-Err.ensures.loads (λ r is. c.in-Err.ensures.whole r (ap Err is)) image_not_bytes (λ is. c.in-Err.ensures.unread (ap Err is)))
+
+pub returns-in_err-columns : goal.returns-in_err-columns
+returns-in_err-columns g c =
+    let m = c.args.image.now in
+    let rows = rows_of c.args.rows in
+    let n = c.args.cycle in
+    let f = trace m rows n in
+    let files = g.F.Files.seen c.args.files.now in
+    let mid = g.F.Files.seen c.load_image.new.files in
     let q = err_from_is_err_and c.from_residual.result c.from_residual.ensures.1 in
-    let e = c.in_err-loaded.field-0.0 in
-    rw (q.1, q.2)
-    (performs_by (about f) (TraceTask m rows n) files
-    later
-    _ _ (fault_text f e) (Err e) (λ none. cc) (inr (inl refl)) (λ x is. absurd cc)
-    (if_some_weaker (g.F.Files.held c.args.files.now) _ _
-    (λ h loads. loading_lost ImageOf NotImage image_columns image_in image_outcome image_not_bytes f (image_word m) rows refl refl (inl refl)
-    (λ w among. inr among) h _ _ (λ i left x. x ≡ runs_to (words_job (rows_name rows) n i.graph (code_of i.table) (through n left))) _ _
-    (still _) _ e loads)
-    c.in_err-loaded.ensures.loads)
-    (if_some_weaker (g.F.Files.held c.args.files.now) _ _
-    (λ h loads. loading_taken ImageOf NotImage image_columns image_in image_outcome image_not_bytes f (image_word m) rows refl refl (inl refl)
-    (λ w among. inr among) h
-    files
-    later
-    (g.F.Files.rest c.load_image_and_rows.new.files) e loads) c.in_err-loaded.ensures.loads)
-    c.load_image_and_rows.ensures.held (λ no. refl) tt (λ is. absurd cc) (λ is. absurd cc) c.in_err-loaded.ensures.unread
-    (λ is. let same : c.in_err-loaded.field-0.0 ≡ fault.Write = cc in absurd (c.in_err-loaded.ensures.no_write (ap Err same))))
+    rw (q.1, q.2) (files_wanted (about f) (TraceTask m rows n) files mid (λ none. cc) c.load_image.ensures.held _)
 
-pub returns-in-Ok : goal.returns-in-Ok
-returns-in-Ok g c =
+-- ---- there is nothing of ROWS
+
+pub returns-in-Err-load_rows : goal.returns-in-Err-load_rows
+returns-in-Err-load_rows g c =
     let m = c.args.image.now in
     let rows = rows_of c.args.rows in
     let n = c.args.cycle in
     let f = trace m rows n in
-    let files = files_seen (g.F.Files.held c.args.files.now) (g.F.Files.rest c.args.files.now) (g.F.Files.faults c.args.files.now)
-    (g.F.Files.broken c.args.files.now) in
-    let later = files_seen (g.F.Files.held c.load_image_and_rows.new.files) (g.F.Files.rest c.load_image_and_rows.new.files)
-    (g.F.Files.faults c.load_image_and_rows.new.files) (g.F.Files.broken c.load_image_and_rows.new.files) in
-    let i = c.in_ok-loaded.loaded.image in
-    let j = words_job (rows_name rows) n i.graph (code_of i.table) (through n c.in-Ok.rows) in
-    let before = moment_seen (g.U.Unit.log c.args.unit.now) (g.U.Unit.wrong c.args.unit.now) (g.O.Sink.written c.args.out.now)
-    (g.O.Sink.faults c.args.out.now) in
-    let after = moment_seen (g.U.Unit.log c.run_words.new.unit) (g.U.Unit.wrong c.run_words.new.unit) (g.O.Sink.written c.run_words.new.out)
-    (g.O.Sink.faults c.run_words.new.out) in
-    let run : RunsTo j before after c.run_words.result =
-    subst (λ left. RunsTo (words_job (rows_name rows) n i.graph (code_of i.table) left) before after c.run_words.result) c.through.ensures.rows
-    (c.run_words.ensures.ran (rows_name rows)) in
-    performs_by (about f) (TraceTask m rows n) files
-    later
-    before after (told_line f c.run_words.result) c.run_words.result (λ none. cc) (inr (inl refl)) (λ e is. run_ends e)
-    (if_some_weaker (g.F.Files.held c.args.files.now) _ _
-    (λ h loads. ran f (TraceTask m rows n h) j _ _ before after c.run_words.result refl refl
-    (opened_comes ImageOf NotImage image_columns image_in image_outcome image_not_bytes f (image_word m) rows refl refl (inl refl)
-    (λ w among. inr among) h files later
-    (λ x left. runs_to (words_job (rows_name rows) n x.graph (code_of x.table) (through n left))) c.in_ok-loaded.loaded _ loads c.in-Ok.rows
-    (c.in-Ok.ensures.opens 0 0)) c.run_words.ensures.write run)
-    c.in_ok-loaded.ensures.loads)
-    (if_some_weaker (g.F.Files.held c.args.files.now) _ _ (λ h loads is. inl c.in_ok-loaded.ensures.ended) c.in_ok-loaded.ensures.loads)
-    c.load_image_and_rows.ensures.held (λ no. absurd cc)
-    (at_end_of c.run_words.result _ c.in_ok-loaded.ensures.ended) c.run_words.ensures.stopped c.run_words.ensures.refused
-    (λ is. absurd (ran_reads j before after c.run_words.result run is)) c.run_words.ensures.write
+    let files = g.F.Files.seen c.args.files.now in
+    let mid = g.F.Files.seen c.load_image.new.files in
+    let later = g.F.Files.seen c.load_rows.new.files in
+    rw c.rows_name-name.ensures
+    (rows_unloaded ImageOf NotImage (λ i. graph_columns i.graph) (about f) (image_word m) rows (λ none. cc) (inr (inl refl)) (λ w among. inr among)
+    (λ h i left x. x ≡ runs_to (words_job (rows_name rows) n i.graph (table_code i.table) (through n left)))
+    files mid later c.in-Ok.loaded c.in_ok-columns.columns
+    c.in_ok-columns.ensures.columns c.load_image.ensures.held c.load_rows.ensures.held c.in-Ok.ensures.loads _
+    c.in-Err-load_rows.input c.load_image.ensures.later c.load_image.ensures.broken_later c.in-Ok.ensures.ended c.in-Err-load_rows.ensures.loads
+    (λ is. c.in-Err-load_rows.ensures.begun (ap Err is)) (λ is. c.in-Err-load_rows.ensures.unread (ap Err is))
+    (λ r is other. c.in-Err-load_rows.ensures.whole r (ap Err is) other) (λ is. c.in-Err-load_rows.ensures.long (ap Err is)))
 
 pub returns : goal.returns
 returns g c =
@@ -102,19 +83,45 @@ returns g c =
     let rows = rows_of c.args.rows in
     let n = c.args.cycle in
     let f = trace m rows n in
-    let files = files_seen (g.F.Files.held c.args.files.now) (g.F.Files.rest c.args.files.now) (g.F.Files.faults c.args.files.now)
-    (g.F.Files.broken c.args.files.now) in
-    let later = files_seen (g.F.Files.held c.load_image_and_rows.new.files) (g.F.Files.rest c.load_image_and_rows.new.files)
-    (g.F.Files.faults c.load_image_and_rows.new.files) (g.F.Files.broken c.load_image_and_rows.new.files) in
-    let e = c.in-Err.input in
-    performs_by (about f) (TraceTask m rows n) files
-    later
-    _ _ (fault_text f (fault.Rows e)) (Err (fault.Rows e)) (λ none. cc) (inr (inl refl)) (λ x is. absurd cc)
-    (if_some_weaker (g.F.Files.held c.args.files.now) _ _
-    (λ h loads. unopened_lost ImageOf NotImage image_columns image_in image_outcome image_not_bytes f (image_word m) rows refl refl (inl refl)
-    (λ w among. inr among) h files later
-    (λ x left. runs_to (words_job (rows_name rows) n x.graph (code_of x.table) (through n left))) c.in_ok-loaded.loaded _ loads e
-    (λ is. c.in-Err.ensures.read (ap Err is)) (c.in-Err.ensures.opens files.broken later.broken) _)
-    c.in_ok-loaded.ensures.loads)
-    (if_some_weaker (g.F.Files.held c.args.files.now) _ _ (λ h loads is. inl c.in_ok-loaded.ensures.ended) c.in_ok-loaded.ensures.loads)
-    c.load_image_and_rows.ensures.held (λ no. refl) tt (λ is. absurd cc) (λ is. absurd cc) (λ is. absurd (c.in-Err.ensures.read (ap Err is))) (λ is. absurd cc)
+    let files = g.F.Files.seen c.args.files.now in
+    let mid = g.F.Files.seen c.load_image.new.files in
+    let later = g.F.Files.seen c.load_rows.new.files in
+    rw c.rows_name-name.ensures
+    (rows_unopened ImageOf NotImage (λ i. graph_columns i.graph) (about f) (image_word m) rows (λ none. cc) (inr (inl refl)) (λ w among. inr among)
+    (λ h i left x. x ≡ runs_to (words_job (rows_name rows) n i.graph (table_code i.table) (through n left)))
+    files mid later c.in-Ok.loaded c.in_ok-columns.columns
+    c.in_ok-columns.ensures.columns c.load_image.ensures.held c.load_rows.ensures.held c.in-Ok.ensures.loads
+    c.in-Ok-load_rows.inputs (c.in-Ok-load_rows.ensures.ended c.in-Ok.ensures.ended) c.in-Ok-load_rows.ensures.loads _ c.in-Err-open.input
+    (λ is. c.in-Err-open.ensures.read (ap Err is)) (c.in-Err-open.ensures.opens files.broken later.broken))
+
+-- ---- the run
+
+pub returns-in-Ok-open : goal.returns-in-Ok-open
+returns-in-Ok-open g c =
+    let m = c.args.image.now in
+    let rows = rows_of c.args.rows in
+    let n = c.args.cycle in
+    let f = trace m rows n in
+    let files = g.F.Files.seen c.args.files.now in
+    let mid = g.F.Files.seen c.load_image.new.files in
+    let later = g.F.Files.seen c.load_rows.new.files in
+    let j = words_job (rows_name rows) n c.in-Ok.loaded.graph (table_code c.in-Ok.loaded.table) (through n c.in-Ok-open.rows) in
+    let before = moment (g.U.Unit.seen c.args.unit.now) (g.O.Sink.seen c.args.out.now) in
+    let after = moment (g.U.Unit.seen c.run_words.new.unit) (g.O.Sink.seen c.run_words.new.out) in
+    let ended : RunsTo j before after c.run_words.result =
+    subst (λ left. RunsTo (words_job (rows_name rows) n c.in-Ok.loaded.graph (table_code c.in-Ok.loaded.table) left) before after c.run_words.result)
+    c.through.ensures.rows (c.run_words.ensures.ran (rows_name rows)) in
+    rw (c.run_ended.ensures.line, c.run_ended.ensures.status, c.rows_name-name.ensures)
+    (files_run (about f) (TraceTask m rows n) files later (λ none. cc) (c.load_rows.ensures.held ∙ c.load_image.ensures.held) (inr (inl refl)) before after
+    (rows_name rows)
+    c.run_words.result (λ e is. run_ends e)
+    (if_some_weaker files.held _ _
+    (λ h comes. ran (about f) files later before after (TraceTask m rows n h) j c.run_words.result refl comes c.run_words.ensures.write ended)
+    (opened_comes ImageOf NotImage (λ i. graph_columns i.graph) (about f) (image_word m) rows (λ none. cc) (inr (inl refl)) (λ w among. inr among)
+    (λ h i left x. x ≡ runs_to (words_job (rows_name rows) n i.graph (table_code i.table) (through n left)))
+    files mid later c.in-Ok.loaded c.in_ok-columns.columns
+    c.in_ok-columns.ensures.columns c.load_image.ensures.held c.load_rows.ensures.held c.in-Ok.ensures.loads
+    c.in-Ok-load_rows.inputs (c.in-Ok-load_rows.ensures.ended c.in-Ok.ensures.ended) c.in-Ok-load_rows.ensures.loads c.in-Ok-open.rows (λ h. runs_to j)
+    (c.in-Ok-open.ensures.opens 0 0) (λ h. refl)))
+    (c.in-Ok-load_rows.ensures.ended c.in-Ok.ensures.ended) (λ no. absurd cc) (λ calls. c.run_words.ensures.stopped) c.run_words.ensures.refused
+    c.run_words.ensures.write)

@@ -14,7 +14,8 @@ returns-in_err-trace_line-in-Some g c =
     let below : c.words.i < length m.graph.operations =
     omega (arith, c.words-test.true, c.len-i-end.ensures.count, ap (λ (h : Lists). length h.operations) c.graph-graph.ensures) in
     let there : word_in (slice_get m.answers c.words.i) ≡ Some c.in-Some.word = sym c.word.ensures ∙ c.in-Some.is in
-    rw q.1 (fails m.graph m.table c.args.cycle c.words.i m.answers _ _ _ _ _ _ c.requires.whole below c.words.invariant c.in-Some.word there c.in_err-trace_line-in-Some.field-0.0 q.0 (rw (c.graph-graph.ensures, c.table-table.ensures) at c.in_err-trace_line-in-Some.ensures))
+    rw q.1 (fails m.graph m.table c.args.cycle c.words.i m.answers _ _ _ _ _ _ c.requires.whole below c.words.invariant c.in-Some.word there
+    c.in_err-trace_line-in-Some.field-0.0 q.0 (rw (c.graph-graph.ensures, c.table-table.ensures) at c.in_err-trace_line-in-Some.ensures))
 
 pub returns-in-None : goal.returns-in-None
 returns-in-None g c =

@@ -2,7 +2,7 @@ use Rattle.std.proofs.Common.{ℕ, ◌≡◌, List, [], length, map, None, Ok, i
 use Rattle.std.specs.Io.KnownBytes.{Appends}
 use Rattle.vcp_outside.specs.Written.{AppendsPart}
 use Rattle.vcp_answer.specs.Reports.{end_read, run_status}
-use Rattle.vcp_core.specs.Tasks.{words_job, code_of}
+use Rattle.vcp_core.specs.Tasks.{words_job, table_code}
 use Rattle.vcp_core.proofs.Performing.{still}
 use Rattle.vcp_core.proofs.PlainTurns.{appends-nothing}
 use Rattle.vcp_core.proofs.PrintedRun.{given-up-run, last-left, ended-run}
@@ -12,7 +12,7 @@ use Rattle.signature_table.specs.Signatures.{Numbers}
 use Rattle.vcp_base.specs.declared.columns.Column.{Column}
 use Rattle.op_graph.specs.Lists.{Lists}
 use Rattle.coded_machine.specs.State.{State}
-use Rattle.vcp_core.specs.declared.ending.End.TheVariants as ending
+use Rattle.vcp_core.specs.declared.ending.Ending.TheVariants as ending
 use Rattle.vcp_core.specs.MachineRun.{IsThere}
 use Rattle.vcp_core.specs.Reach.{end_status}
 use Rattle.vcp_core.proofs.JobFacts.{leaves-here, there-is, stopped-is, refused-is}
@@ -51,10 +51,13 @@ print_traced-requires-clause-whole g c =
     let left = c.args.rows.now in
     let n = c.args.cycle in
     let laws = c.right_answers_stand_for_values.ensures in
-    let leaves = leaves-here c.in_ok-machine.machine _ graph table _ left _ _ _ _ _ _ c.in_ok-machine.ensures.fresh c.requires.table c.in_ok-end.ensures.leaves in
+    let leaves = leaves-here c.in_ok-machine.machine _ graph table _ left _ _ _ _ _ _ c.in_ok-machine.ensures.fresh c.requires.table
+    c.in_ok-end.ensures.leaves in
     let there = there-is c.in_ok-machine.machine graph c.in_ok-end.end (Ok c.in_ok-end.end) refl
     (ap (λ (m : State). m.graph) c.in_ok-machine.ensures.fresh) c.in_ok-end.ensures.placed c.in_ok-end.ensures.numbered in
-    whole-there graph n [] table left c.requires.few c.requires.through _ _ _ _ (meant-words laws.cycle laws.cells_at_first graph table left.rows n c.len-rules.ensures.rules c.step-ranges.ensures.ranges c.requires.table c.requires.few c.requires.cycle) c.in_ok-end.end _ _ _ _ leaves.run there _ leaves.machine
+    whole-there graph n [] table left c.requires.few c.requires.through _ _
+    (meant-words laws.cycle laws.cells_at_first graph table left.rows n c.len-rules.ensures.rules c.step-ranges.ensures.ranges c.requires.table
+    c.requires.few c.requires.cycle) c.in_ok-end.end _ _ leaves.run there _ leaves.machine
 
 pub returns-in_err-print_traced-clause-write : goal.returns-in_err-print_traced-clause-write
 returns-in_err-print_traced-clause-write g c = λ is. omega (arith, c.run_rows.ensures.later, c.in_err-print_traced.ensures.0)
@@ -86,8 +89,12 @@ returns-in_err-end-clause-ran g c name =
     let left = c.args.rows.now in
     let n = c.args.cycle in
     let laws = c.right_answers_stand_for_values.ensures in
-    let leaves = leaves-here c.in_ok-machine.machine _ graph table _ left _ _ _ _ _ _ c.in_ok-machine.ensures.fresh c.requires.table c.in_err-end.ensures.leaves in
-    rw (q.1, q.2) (given-up-run (words_job name n graph (code_of table) left) graph refl refl (meant-words laws.cycle laws.cells_at_first graph table left.rows n c.len-rules.ensures.rules c.step-ranges.ensures.ranges c.requires.table c.requires.few c.requires.cycle) _ _ _ _ _ _ _ _ _ _ _ c.requires.behind (appends-nothing _) leaves.run)
+    let leaves = leaves-here c.in_ok-machine.machine _ graph table _ left _ _ _ _ _ _ c.in_ok-machine.ensures.fresh c.requires.table
+    c.in_err-end.ensures.leaves in
+    rw (q.1, q.2) (given-up-run (words_job name n graph (table_code table) left) graph refl refl
+    (meant-words laws.cycle laws.cells_at_first graph table left.rows n c.len-rules.ensures.rules c.step-ranges.ensures.ranges c.requires.table
+    c.requires.few c.requires.cycle) (g.U.Unit.seen c.args.unit.now) (g.U.Unit.seen c.run_rows.new.unit) _ (g.O.Sink.seen c.args.out.now)
+    (g.O.Sink.seen c.args.out.now) (g.O.Sink.seen c.run_rows.new.out) c.requires.behind (appends-nothing _) leaves.run)
 
 pub returns-in_err-print_traced-clause-ran : goal.returns-in_err-print_traced-clause-ran
 returns-in_err-print_traced-clause-ran g c name =
@@ -97,16 +104,20 @@ returns-in_err-print_traced-clause-ran g c name =
     let left = c.args.rows.now in
     let n = c.args.cycle in
     let laws = c.right_answers_stand_for_values.ensures in
-    let leaves = leaves-here c.in_ok-machine.machine _ graph table _ left _ _ _ _ _ _ c.in_ok-machine.ensures.fresh c.requires.table c.in_ok-end.ensures.leaves in
+    let leaves = leaves-here c.in_ok-machine.machine _ graph table _ left _ _ _ _ _ _ c.in_ok-machine.ensures.fresh c.requires.table
+    c.in_ok-end.ensures.leaves in
     let there = there-is c.in_ok-machine.machine graph c.in_ok-end.end (Ok c.in_ok-end.end) refl
     (ap (λ (m : State). m.graph) c.in_ok-machine.ensures.fresh) c.in_ok-end.ensures.placed c.in_ok-end.ensures.numbered in
     let names = ap (map (λ (x : Column). x.name)) c.in_ok-outputs.ensures in
-    let meant = meant-words laws.cycle laws.cells_at_first graph table left.rows n c.len-rules.ensures.rules c.step-ranges.ensures.ranges c.requires.table c.requires.few c.requires.cycle in
-    let last = last-part-is graph n name table left c.requires.few c.requires.through _ _ _ _ meant c.in_ok-end.end _ _ _ _ leaves.run there _ leaves.machine in
+    let meant = meant-words laws.cycle laws.cells_at_first graph table left.rows n c.len-rules.ensures.rules c.step-ranges.ensures.ranges c.requires.table
+    c.requires.few c.requires.cycle in
+    let last = last-part-is graph n name table left c.requires.few c.requires.through _ _ meant c.in_ok-end.end _ _ leaves.run there _ leaves.machine in
     rw (q.1, q.2)
-    (last-left (words_job name n graph (code_of table) left) graph refl refl meant _ _ _ _ c.in_ok-end.end _ _ _ _ _ _ _ _
+    (last-left (words_job name n graph (table_code table) left) graph refl refl meant (g.U.Unit.seen c.args.unit.now) (g.U.Unit.seen c.run_rows.new.unit)
+    c.in_ok-end.end (g.O.Sink.seen c.args.out.now) (g.O.Sink.seen c.args.out.now) (g.O.Sink.seen c.run_rows.new.out)
+    (g.O.Sink.seen c.print_traced.new.out)
     (appends-nothing _) leaves.run there
-    (subst (λ (l : List ℕ). AppendsPart (g.O.Sink.written c.run_rows.new.out) (g.O.Sink.written c.print_traced.new.out) l) last
+    (subst (λ (l : List ℕ). AppendsPart (g.O.Sink.seen c.run_rows.new.out).written (g.O.Sink.seen c.print_traced.new.out).written l) last
     (rw names at c.in_err-print_traced.ensures.1)))
 
 pub returns-clause-ran : goal.returns-clause-ran
@@ -116,14 +127,18 @@ returns-clause-ran g c name =
     let left = c.args.rows.now in
     let n = c.args.cycle in
     let laws = c.right_answers_stand_for_values.ensures in
-    let leaves = leaves-here c.in_ok-machine.machine _ graph table _ left _ _ _ _ _ _ c.in_ok-machine.ensures.fresh c.requires.table c.in_ok-end.ensures.leaves in
+    let leaves = leaves-here c.in_ok-machine.machine _ graph table _ left _ _ _ _ _ _ c.in_ok-machine.ensures.fresh c.requires.table
+    c.in_ok-end.ensures.leaves in
     let there = there-is c.in_ok-machine.machine graph c.in_ok-end.end (Ok c.in_ok-end.end) refl
     (ap (λ (m : State). m.graph) c.in_ok-machine.ensures.fresh) c.in_ok-end.ensures.placed c.in_ok-end.ensures.numbered in
     let names = ap (map (λ (x : Column). x.name)) c.in_ok-outputs.ensures in
-    let meant = meant-words laws.cycle laws.cells_at_first graph table left.rows n c.len-rules.ensures.rules c.step-ranges.ensures.ranges c.requires.table c.requires.few c.requires.cycle in
-    let last = last-part-is graph n name table left c.requires.few c.requires.through _ _ _ _ meant c.in_ok-end.end _ _ _ _ leaves.run there _ leaves.machine in
-    ended-run (words_job name n graph (code_of table) left) graph refl refl meant _ _ _ _ c.in_ok-end.end _ _ _ _ 0 _ _ 0
+    let meant = meant-words laws.cycle laws.cells_at_first graph table left.rows n c.len-rules.ensures.rules c.step-ranges.ensures.ranges c.requires.table
+    c.requires.few c.requires.cycle in
+    let last = last-part-is graph n name table left c.requires.few c.requires.through _ _ meant c.in_ok-end.end _ _ leaves.run there _ leaves.machine in
+    ended-run (words_job name n graph (table_code table) left) graph refl refl meant (g.U.Unit.seen c.args.unit.now) (g.U.Unit.seen c.run_rows.new.unit)
+    c.in_ok-end.end (g.O.Sink.seen c.args.out.now) (g.O.Sink.seen c.args.out.now) (g.O.Sink.seen c.run_rows.new.out)
+    (g.O.Sink.seen c.print_traced.new.out)
     (appends-nothing _) leaves.run there c.in_ok-print_traced.field-0
-    (subst (λ (l : List ℕ). Appends (g.O.Sink.written c.run_rows.new.out) (g.O.Sink.written c.print_traced.new.out) l) last
+    (subst (λ (l : List ℕ). Appends (g.O.Sink.seen c.run_rows.new.out).written (g.O.Sink.seen c.print_traced.new.out).written l) last
     (rw names at c.in_ok-print_traced.ensures.0))
     (c.in_ok-print_traced.ensures.1 ∙ ap (λ (h : Lists). run_status (end_read h c.in_ok-end.end) None) (leaves.machine.graph))

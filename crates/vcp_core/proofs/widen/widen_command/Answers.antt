@@ -3,59 +3,52 @@ use Rattle.std.proofs.lemmas.Result.{err_from_is_err_and}
 use Rattle.vcp_words.specs.Forms.{widen}
 use Rattle.vcp_core.proofs.Facts.{if_some_weaker}
 use Rattle.vcp_core.proofs.ImageLoaded.{image_not_bytes}
-use Rattle.vcp_answer.specs.Abouts.{image_word}
+use Rattle.vcp_answer.specs.Abouts.{about, image_word}
 use Rattle.vcp_answer.specs.Answer.{printed as printed_answer}
 use Rattle.vcp_answer.specs.Kinds.{prints}
-use Rattle.vcp_answer.specs.Seen.{files_seen}
 use Rattle.vcp_core.specs.Tasks.{WidenTask, widened}
-use Rattle.vcp_core.proofs.Performing.{file_takes, quiet_lost, quiet_part, quiet_wanted, quiet_whole, still}
+use Rattle.vcp_core.proofs.Performing.{file_takes, files_wanted, quiet_lost, quiet_part, quiet_whole}
 use Rattle.vcp_base.specs.Limits.{most_image_bytes}
 use Rattle.vcp_inputs.specs.Images.{ImageOf, NotImage}
 use Rattle.image_file.specs.Image.{image_of}
 use Rattle.vcp_core.proofs.widen.widen_command.Goals as goal
 
 pub returns-in-Err : goal.returns-in-Err
-returns-in-Err g c log wrong =
+returns-in-Err g c unit =
     let m = c.args.image.now in
-    let files = files_seen (g.F.Files.held c.args.files.now) (g.F.Files.rest c.args.files.now) (g.F.Files.faults c.args.files.now)
-    (g.F.Files.broken c.args.files.now) in
-    let later = files_seen (g.F.Files.held c.load_image.new.files) (g.F.Files.rest c.load_image.new.files) (g.F.Files.faults c.load_image.new.files)
-    (g.F.Files.broken c.load_image.new.files) in
-    quiet_lost (widen m) ImageOf NotImage (λ i x. x ≡ prints (image_of (widened i.graph) i.table.seed i.table.step)) (image_word m) files later _ c.in-Err.input
-    (inl refl) refl (λ none. cc) (inr (inl refl)) c.load_image.ensures.held
-    c.in-Err.ensures.loads (λ r is. c.in-Err.ensures.whole r (ap Err is)) image_not_bytes (λ is. c.in-Err.ensures.unread (ap Err is))
+    let files = g.F.Files.seen c.args.files.now in
+    let later = g.F.Files.seen c.load_image.new.files in
+    rw c.bytes-in-Err.ensures
+    (quiet_lost (about (widen m)) ImageOf NotImage (λ h i x. x ≡ prints (image_of (widened i.graph) i.table.seed i.table.step)) (image_word m) files later
+    _ c.in-Err.input (inl refl) (λ none. cc) (inr (inl refl)) c.load_image.ensures.held
+    c.in-Err.ensures.loads (λ r is. c.in-Err.ensures.whole r (ap Err is)) image_not_bytes (λ is. c.in-Err.ensures.unread (ap Err is)))
 
 pub returns-in_err-wide-in-Ok : goal.returns-in_err-wide-in-Ok
-returns-in_err-wide-in-Ok g c log wrong =
+returns-in_err-wide-in-Ok g c unit =
     let m = c.args.image.now in
-    let files = files_seen (g.F.Files.held c.args.files.now) (g.F.Files.rest c.args.files.now) (g.F.Files.faults c.args.files.now)
-    (g.F.Files.broken c.args.files.now) in
-    let later = files_seen (g.F.Files.held c.load_image.new.files) (g.F.Files.rest c.load_image.new.files) (g.F.Files.faults c.load_image.new.files)
-    (g.F.Files.broken c.load_image.new.files) in
+    let files = g.F.Files.seen c.args.files.now in
+    let later = g.F.Files.seen c.load_image.new.files in
     let q = err_from_is_err_and c.from_residual.result c.from_residual.ensures.1 in
     rw (q.1, q.2)
-    (quiet_wanted (widen m) (WidenTask m) files later _ _ (λ none. cc) (inr (inl refl)) (inl refl) c.load_image.ensures.held refl c.in-Ok.ensures.ended
-    (still _))
+    (files_wanted (about (widen m)) (WidenTask m) files later (λ none. cc) c.load_image.ensures.held _)
 
 pub returns-in_err-write_all-in-Ok : goal.returns-in_err-write_all-in-Ok
-returns-in_err-write_all-in-Ok g c log wrong =
+returns-in_err-write_all-in-Ok g c unit =
     let m = c.args.image.now in
-    let files = files_seen (g.F.Files.held c.args.files.now) (g.F.Files.rest c.args.files.now) (g.F.Files.faults c.args.files.now)
-    (g.F.Files.broken c.args.files.now) in
-    let later = files_seen (g.F.Files.held c.load_image.new.files) (g.F.Files.rest c.load_image.new.files) (g.F.Files.faults c.load_image.new.files)
-    (g.F.Files.broken c.load_image.new.files) in
+    let files = g.F.Files.seen c.args.files.now in
+    let later = g.F.Files.seen c.load_image.new.files in
     let q = err_from_is_err_and c.from_residual-in_err-write_all-in-Ok.result c.from_residual-in_err-write_all-in-Ok.ensures.1 in
     rw (q.1, q.2)
-    (quiet_part (widen m) (WidenTask m) files later _ _ (λ none. cc) (inr (inl refl)) (inl refl) c.load_image.ensures.held refl c.in-Ok.ensures.ended
+    (quiet_part (about (widen m)) (WidenTask m) files later (λ none. cc) c.load_image.ensures.held _ _ c.in-Ok.ensures.ended refl
     (if_some_weaker files.held _ _
     (λ h loads. (
-      prints (image_of (widened c.in-Ok.image.graph) c.in-Ok.image.table.seed c.in-Ok.image.table.step),
-      file_takes ImageOf NotImage most_image_bytes (λ i x. x ≡ prints (image_of (widened i.graph) i.table.seed i.table.step)) m h c.in-Ok.image
-          (prints (image_of (widened c.in-Ok.image.graph) c.in-Ok.image.table.seed c.in-Ok.image.table.step)) loads refl,
+      prints (image_of (widened c.in-Ok.loaded.graph) c.in-Ok.loaded.table.seed c.in-Ok.loaded.table.step),
+      file_takes ImageOf NotImage most_image_bytes (λ i x. x ≡ prints (image_of (widened i.graph) i.table.seed i.table.step)) m h c.in-Ok.loaded
+          (prints (image_of (widened c.in-Ok.loaded.graph) c.in-Ok.loaded.table.seed c.in-Ok.loaded.table.step)) loads refl,
       (
         refl,
         (
-          printed_answer (image_of (widened c.in-Ok.image.graph) c.in-Ok.image.table.seed c.in-Ok.image.table.step),
+          printed_answer (image_of (widened c.in-Ok.loaded.graph) c.in-Ok.loaded.table.seed c.in-Ok.loaded.table.step),
           refl,
           (rw (c.bytes.ensures, c.in_ok-wide-in-Ok.ensures) at c.in_err-write_all-in-Ok.ensures.part),
         ),
@@ -64,19 +57,17 @@ returns-in_err-write_all-in-Ok g c log wrong =
     c.in_err-write_all-in-Ok.ensures.cause.failed)
 
 pub returns-in_ok-write_all-in-Ok : goal.returns-in_ok-write_all-in-Ok
-returns-in_ok-write_all-in-Ok g c log wrong =
+returns-in_ok-write_all-in-Ok g c unit =
     let m = c.args.image.now in
-    let files = files_seen (g.F.Files.held c.args.files.now) (g.F.Files.rest c.args.files.now) (g.F.Files.faults c.args.files.now)
-    (g.F.Files.broken c.args.files.now) in
-    let later = files_seen (g.F.Files.held c.load_image.new.files) (g.F.Files.rest c.load_image.new.files) (g.F.Files.faults c.load_image.new.files)
-    (g.F.Files.broken c.load_image.new.files) in
-    quiet_whole (widen m) (WidenTask m) files later _ _ (λ none. cc) (inr (inl refl)) (inl refl) c.load_image.ensures.held refl c.in-Ok.ensures.ended
-    (image_of (widened c.in-Ok.image.graph) c.in-Ok.image.table.seed c.in-Ok.image.table.step)
+    let files = g.F.Files.seen c.args.files.now in
+    let later = g.F.Files.seen c.load_image.new.files in
+    quiet_whole (about (widen m)) (WidenTask m) files later (λ none. cc) c.load_image.ensures.held _ _ c.in-Ok.ensures.ended refl (inl refl)
+    (image_of (widened c.in-Ok.loaded.graph) c.in-Ok.loaded.table.seed c.in-Ok.loaded.table.step)
     (if_some_weaker files.held _ _
     (λ h loads. (
-      prints (image_of (widened c.in-Ok.image.graph) c.in-Ok.image.table.seed c.in-Ok.image.table.step),
-      file_takes ImageOf NotImage most_image_bytes (λ i x. x ≡ prints (image_of (widened i.graph) i.table.seed i.table.step)) m h c.in-Ok.image
-          (prints (image_of (widened c.in-Ok.image.graph) c.in-Ok.image.table.seed c.in-Ok.image.table.step)) loads refl,
+      prints (image_of (widened c.in-Ok.loaded.graph) c.in-Ok.loaded.table.seed c.in-Ok.loaded.table.step),
+      file_takes ImageOf NotImage most_image_bytes (λ i x. x ≡ prints (image_of (widened i.graph) i.table.seed i.table.step)) m h c.in-Ok.loaded
+          (prints (image_of (widened c.in-Ok.loaded.graph) c.in-Ok.loaded.table.seed c.in-Ok.loaded.table.step)) loads refl,
       (refl, refl),
     )) c.in-Ok.ensures.loads)
     (rw (c.bytes.ensures, c.in_ok-wide-in-Ok.ensures) at c.in_ok-write_all-in-Ok.ensures.whole)
