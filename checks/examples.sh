@@ -16,7 +16,7 @@ shown() {
         inside && /^    [c0-9]/ { print $1 }' "$top/examples/README.md"
 }
 
-for name in crossing two_hand route odometer; do
+for name in crossing two_hand route two_tracks odometer; do
     shown "$name" >"$work/shown"
     for command in plain run; do
         "$vcp" "$command" "$top/examples/$name.st" "$top/examples/$name.csv" >"$work/printed" || exit 1

@@ -10,8 +10,9 @@ Of docs/PROMISES.md, each row of a crate's section:
 - each edit is a file of the crate's must-fail/, and each such file is in one row at least;
 - a test is a #[test] function of its crate, or a session of play_sessions;
 - each public function and method of the crate is named in the column 'clause', or its type is.
+Of its claims: each clause and each edit is there, named with its crate, and the definitions to be read have so many lines.
 Of crates/play_sessions: each session of data/ is in args, and stdout has its line. Of docs/ARCHITECTURE.md: each crate has its row in the first table, and a row that lists what it stands on has what crates.txt has; each name of a crate, a file or a definition is there; and the table
-of modules is the one that checks/cited_modules.py prints. Of docs/GLOSSARY.md: the names in the last column are there. Of docs/UNITS.md:
+of modules is the one that checks/cited_modules.py prints. Of docs/GLOSSARY.md: the names in the last column are there, and each type that two crates export is in its last table. Of docs/UNITS.md:
 each line of code that it shows is a line of the crates coded_unit or worked_unit. Of docs/ASSESSOR.md: each step of the order of reading
 names modules that are there, and has as many lines as the top call rests on in its crates.
 
@@ -163,6 +164,39 @@ def faults_of_section(crate, rows, names, fields):
             yield f"the public call `{owner + '::' if owner else ''}{name}` is in no row"
 
 
+def lines_of_module(crate, module):
+    """The lines of a module of specs/ without comments, blank lines and imports; None where it isn't there."""
+    file = CRATES / crate / "specs" / f"{module}.antt"
+    if not file.is_file():
+        return None
+    return sum(1 for line in without_comments(file, "--").split("\n") if line.strip() and not re.match(r"(pub )?use ", line))
+
+
+def faults_of_claims(names, fields):
+    text = PROMISES.read_text().partition("\n## Claims\n")[2].partition("\n## ")[0]
+    codes = {}
+    for number, claim in re.findall(r"^### (\d+)\. (.*?)(?=^### |\Z)", text, re.M | re.S):
+        parts = {part: " ".join(said.split()) for part, said in re.findall(r"^- \*([a-z ]+)\*: (.*?)(?=^- |\Z)", claim, re.M | re.S)}
+        for cited in quoted(parts.get("clause", "")):
+            crate, _, rest = cited.partition("::")
+            if not rest or not (CRATES / crate).is_dir() or not codes.setdefault(crate, codes.get(crate) or Code(crate)).has(rest, names, fields):
+                yield f"claim {number}: the clause `{cited}` isn't there"
+        for cited in quoted(parts.get("broken by", "")):
+            crate, _, edit = cited.partition("::")
+            if edit and not (CRATES / crate / "must-fail" / f"{edit}.edit").is_file():
+                yield f"claim {number}: the edit `{cited}` isn't there"
+        read, _, said = parts.get("read", "").rpartition(": ")
+        lines = 0
+        for crate, modules in re.findall(r"`(\w+)`: ([^;]*)", read):
+            for module in quoted(modules):
+                counted = lines_of_module(crate, module)
+                if counted is None:
+                    yield f"claim {number}: the module `{crate}::{module}` isn't there"
+                lines += counted or 0
+        if said.split()[:1] != [str(lines)]:
+            yield f"claim {number}: what is to be read has {lines} lines"
+
+
 def is_there(cited, crates, names):
     """Whether a name of docs/ARCHITECTURE.md is a crate, a file, a definition, or a name of some crate's code."""
     if len(cited) == 1 or cited == "st_" or cited in crates or any(cited in below for below in crates.values()) or (TOP / cited).exists() or any(CRATES.glob(f"*/src/**/{cited}")) or any(CRATES.glob(f"*/{cited}")):
@@ -206,6 +240,28 @@ def faults_of_glossary(crates, names):
                 yield f"`{cited}` isn't there"
 
 
+def types_of_two_crates(crates):
+    """The types that more than one crate exports, those for tests aside, each with its crates."""
+    found = {}
+    for crate in crates:
+        top = CRATES / crate / "src" / "lib.rt"
+        if crate.startswith("worked_") or crate.endswith("_tests") or not top.is_file():
+            continue
+        for exported in re.findall(r"pub use \w+::(\{[^}]*\}|[^;]+);", without_comments(top, "//")):
+            for name in re.findall(r"\b[A-Z]\w*[a-z]\w*(?=\s*(?:,|\}|$))", exported):
+                found.setdefault(name, set()).add(crate)
+    return {name: owners for name, owners in found.items() if len(owners) > 1}
+
+
+def faults_of_double_names(crates):
+    text = (TOP / "docs" / "GLOSSARY.md").read_text().partition("\n## Names that two crates have\n")[2]
+    told = {name: set(quoted(owners)) for name, owners in re.findall(r"^\| `(\w+)` \|.*\| (.*) \|$", text, re.M)}
+    wanted = types_of_two_crates(crates)
+    for name in sorted(set(told) | set(wanted)):
+        if told.get(name) != wanted.get(name):
+            yield f"`{name}` is exported by {', '.join(sorted(wanted.get(name, ()))) or 'one crate at most'}, and the table of such names says otherwise"
+
+
 def faults_of_units():
     files = [*(CRATES / "coded_unit" / "src").glob("*.rt"), *(CRATES / "worked_unit" / "src").glob("*.rt")]
     code = {line.strip() for file in files for line in file.read_text().split("\n")}
@@ -236,12 +292,14 @@ def main():
     names, fields = defined()
     found = sections()
     faults = [f"PROMISES: {crate}: {fault}" for crate, rows in found.items() for fault in faults_of_section(crate, rows, names, fields)]
+    faults += [f"PROMISES: {fault}" for fault in faults_of_claims(names, fields)]
     for crate in crates:
         if crate not in found and (CRATES / crate / "must-fail").is_dir():
             faults.append(f"PROMISES: {crate} has no section")
     code_names = names | fields | set().union(*({*c.owners, *c.clauses, *c.clauses_of} for c in map(Code, crates)))
     faults += [f"ARCHITECTURE: {fault}" for fault in faults_of_architecture(crates, code_names)]
     faults += [f"GLOSSARY: {fault}" for fault in faults_of_glossary(crates, code_names)]
+    faults += [f"GLOSSARY: {fault}" for fault in faults_of_double_names(crates)]
     faults += [f"play_sessions: {fault}" for fault in faults_of_sessions()]
     faults += [f"UNITS: {fault}" for fault in faults_of_units()]
     faults += [f"ASSESSOR: {fault}" for fault in faults_of_assessor()]

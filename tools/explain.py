@@ -12,7 +12,7 @@ from typing import Sequence
 from tools.explain_all import all_hints
 from tools.fault_line import FaultLine, RefusedOutput, StopLine, meanings, read_ending, read_fault
 from tools.hint import Hint
-from tools.hints_files import image_hint, reading_hint, script_hint, words_hint
+from tools.hints_files import group_hint, image_hint, reading_hint, script_hint, words_hint
 from tools.hints_rows import RowsHint, cell_hint, encoding_of, form_hint, header_hint, silent_faults, width_hint
 from tools.hints_source import source_hint
 from tools.image import Image, read_image
@@ -156,13 +156,16 @@ class Explainer:
         return [_of_rows(self.words[2], data, hint) for hint in silent_faults(data, None)[:3]]
 
     def _script(self, fault: FaultLine) -> Explanation:
-        """F1 to F4 and L5."""
+        """F1 to F6 and L5."""
         data = _bytes(fault.file)
         number = fault.first or 1
         line = Source(data).line(number)
         if fault.code == "L5":
             return Explanation(f"{fault.file}:{number}", "more than 10,000 faults stand in the script: split it")
         operations = None
+        if fault.code in ("F5", "F6"):
+            hint = group_hint(data.decode("latin-1").split("\n"), number, fault.code)
+            return Explanation(f"{fault.file}:{number}:{hint.start + 1}", hint.message, number, line, hint.start, hint.end)
         if len(self.words) > 1 and self.words[0] == "inject":
             operations = [it.kind for it in _image(self.words[1]).operations]
         hint = script_hint(line.decode("latin-1"), fault.code, operations)
@@ -171,7 +174,7 @@ class Explainer:
     def ending(self, ending: StopLine | RefusedOutput) -> Explanation:
         """What is printed of a run that stopped, or whose output was refused."""
         if isinstance(ending, RefusedOutput):
-            message = f"cycle {ending.cycle}: the word of `{ending.name}` has the residue {ending.found} and not {ending.expected}: the unit computed wrongly"
+            message = f"cycle {ending.cycle}: the word of `{ending.name}` has the residue {ending.found} and not {ending.expected}: a word on its way was changed, or is that of another operation or cycle"
             return Explanation(ending.name, message)
         turns = f" (in the turn {ending.turns})" if ending.turns else ""
         what = {

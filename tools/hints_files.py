@@ -1,4 +1,4 @@
-"""What is said of words of no form, of files that can't be read, of scripts (F1 to F4) and of images (I1 to I7)."""
+"""What is said of words of no form, of files that can't be read, of scripts (F1 to F6) and of images (I1 to I7)."""
 from __future__ import annotations
 
 import os
@@ -22,6 +22,7 @@ KINDS: dict[str, int] = {
 }
 """The kinds of operations, each with its number of operands."""
 ACTS = ("operand", "result", "operator", "skip")
+GROUP_WORDS = ("begin", "end")
 _MEANT = {"P": "a source file", "M": "an image", "ROWS": "a rows file, or `--cycles N`", "F": "a script of faults", "CYCLE": "the number of a cycle",
           "HORIZON": "a number of cycle borders", "N": "a number"}
 _LIMITS = {"--seed": (0, 1073741823), "--step": (1, 1000), "--cycles": (0, 1000000), "CYCLE": (0, 999999), "HORIZON": (0, 1000), "N": (0, 4294967295)}
@@ -153,10 +154,42 @@ def script_hint(line: str, code: str, operations: list[str] | None) -> ScriptHin
     return _site_hint(words, operations)
 
 
+def group_hint(lines: Sequence[str], number: int, code: str) -> ScriptHint:
+    """What is said of a `begin` or an `end` that stands wrongly (F5), and of a second fault at a place in a group (F6): by the lines before it."""
+    changed = ScriptHint("the file has changed since: no fault of a group stands in this line", 0, 1)
+    if number > len(lines):
+        return changed
+    begun, places = 0, {}
+    for at, text in enumerate(lines[: number - 1], 1):
+        words = _words(text)
+        if words in (["begin"], ["end"]):
+            begun, places = (at if words == ["begin"] else 0), {}
+        elif len(words) > 2 and not text.startswith("#"):
+            places[words[1], words[2]] = at
+    line = lines[number - 1]
+    end = max(1, len(line.rstrip()))
+    if code == "F6":
+        words = _words(line)
+        if len(words) < 3:
+            return changed
+        cycle, operation = words[1], words[2]
+        return ScriptHint(f"line {places.get((cycle, operation), begun)} of this group changes operation {operation} in cycle {cycle}, too: only one fault of a group stands at an "
+                          "operation in a cycle", 0, end)
+    if _words(line) == ["begin"]:
+        said = f"the group of line {begun} has no `end` yet, and a group has none inside it" if begun else "no `end` follows this `begin`"
+        return ScriptHint(said, 0, end)
+    said = f"the group of line {begun} has no fault" if begun else "no `begin` stands before this `end`"
+    return ScriptHint(said, 0, end)
+
+
+def _words(line: str) -> list[str]:
+    return re.findall(r"[^ \t]+", line.rstrip("\r\n"))
+
+
 def _form_hint(words: list[tuple[str, int, int]], line: str) -> ScriptHint:
     """F1: which word of a fault isn't of its form."""
     whole = ScriptHint("a fault is `operand n k j add e`, `operand n k j from r`, `operand n k j stale`, `result n k add e`, `operator n k KIND` "
-                       "or `skip n k`, with the cycle n and the operation k", 0, max(1, len(line)))
+                       "or `skip n k`, with the cycle n and the operation k; `begin` and `end` round a group stand alone", 0, max(1, len(line)))
     if not words:
         return ScriptHint("a line of blanks alone is no fault: leave it empty, or begin it with `#`", 0, max(1, len(line)))
     for word, start, _ in words:
@@ -165,7 +198,9 @@ def _form_hint(words: list[tuple[str, int, int]], line: str) -> ScriptHint:
             return ScriptHint(f"`{word}` begins a remark behind a fault or blanks: {stands}", start, len(line))
     act, start, end = words[0]
     if act not in ACTS:
-        near = nearest(act, ACTS)
+        if act in GROUP_WORDS:
+            return ScriptHint(f"`{act}` stands alone in its line", start, words[-1][2])
+        near = nearest(act, (*ACTS, *GROUP_WORDS))
         return ScriptHint(f"`{act}` is no fault: " + (f"did you mean `{near}`?" if near else "there are operand, result, operator and skip"), start, end)
     return _fields_hint(words, act) or whole
 

@@ -179,7 +179,7 @@ def _operation_cells(case: Case, operation: Operation) -> tuple[str, str, str, s
 
 
 def _campaign(case: Case) -> str:
-    """The verdicts on the faults of a script."""
+    """The verdicts on the groups of faults of a script."""
     if not case.faults:
         return ""
     verdicts, totals = read_verdicts(case.call("inject", case.image_name, *case.rows, case.faults).text)
@@ -187,16 +187,28 @@ def _campaign(case: Case) -> str:
     rows = []
     for it in verdicts:
         mark = "good" if it.verdict in ("refused", "stopped", "same") else "bad"
-        rows.append((str(it.line), code(script[it.line - 1].strip()), element("span", it.verdict, class_=mark), code(it.rest), text(_remark(script, it.line))))
+        rows.append((str(it.line), code("; ".join(_faults(script, it.line))), element("span", it.verdict, class_=mark), code(it.rest), text(_remark(script, it.line))))
     meanings = "; ".join(f"<b>{name}</b>: {said}" for name, said in _MEANINGS.items())
     told = table(("line", "fault", "verdict", "details", "remark above it"), rows, (0,))
     return section("campaign", "Faults and their verdicts", told + element("p", code(totals)) + element("p", meanings + ".", class_="dim"))
 
 
+def _faults(script: list[str], line: int) -> list[str]:
+    """The faults of the group of a script whose first stands in this line."""
+    lines = [it.strip() for it in script]
+    marks = [it for it in lines[: line - 1] if it in ("begin", "end")]
+    if not marks or marks[-1] == "end":
+        return [lines[line - 1]]
+    rest = lines[line - 1 :]
+    return [it for it in rest[: rest.index("end")] if it and not it.startswith("#")]
+
+
 def _remark(script: list[str], line: int) -> str:
-    """The remark that stands directly above a line of a script."""
+    """The remark that stands directly above a fault of a script, or above the `begin` before it."""
     words: list[str] = []
     for above in reversed(script[: line - 1]):
+        if above.strip() == "begin" and not words:
+            continue
         if not above.startswith("#"):
             break
         words.insert(0, above.lstrip("# ").rstrip())

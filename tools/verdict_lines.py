@@ -10,7 +10,7 @@ VERDICTS = ("same", "wrong", "ran-on", "refused", "stopped")
 
 @dataclass(frozen=True)
 class Verdict:
-    """The verdict on a fault: the line of the script, what came of it, and the rest of the line."""
+    """The verdict on a group of faults: its line in the script, what came of it, and the rest of the line."""
 
     line: int
     verdict: str

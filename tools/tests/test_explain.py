@@ -9,7 +9,7 @@ from dataclasses import dataclass, field
 from unittest import mock
 
 from tools.fault_line import meanings, read_ending, read_fault
-from tools.hints_files import reading_hint, words_hint
+from tools.hints_files import group_hint, reading_hint, words_hint
 from tools.source import RESERVED, Source, literal_value
 from tools.syntax import SyntaxFault, parse
 from tools.tests.support import DATA, EXAMPLES, InFolder, needs_program
@@ -163,13 +163,19 @@ class Readers(unittest.TestCase):
         self.assertEqual(raised.exception.token.text, "END_PROGRAM")
 
     def test_the_document_has_the_meaning_of_each_code(self) -> None:
-        wanted = "L1 S1 S2 S3 S4 S5 T1 T2 T3 T4 T5 T6 T7 T8 L2 L3 R1 R2 R3 R4 R5 L4 I1 I2 I3 I4 I5 I6 I7 L5 L6 L7 F1 F2 F3 F4".split()
+        wanted = "L1 S1 S2 S3 S4 S5 T1 T2 T3 T4 T5 T6 T7 T8 L2 L3 R1 R2 R3 R4 R5 L4 I1 I2 I3 I4 I5 I6 I7 L5 L6 L7 F1 F2 F3 F4 F5 F6".split()
         self.assertLessEqual(set(wanted), set(meanings()))
 
     def test_reserved_words_are_those_of_the_document(self) -> None:
         text = (EXAMPLES.parent / "docs" / "LANGUAGE.md").read_text()
         part = text[text.index("Reserved words of the grammar") : text.index("`&` is the word AND")]
         self.assertEqual(set(re.findall(r"\b[A-Z][A-Z_]+\b", part)), set(RESERVED))
+
+    def test_groups_of_a_script(self) -> None:
+        script = "begin\nskip 1 2\nresult 1 2 add 1\nbegin\nend\nend\nbegin\nend".split("\n")
+        for number, code, said in ((3, "F6", "line 2 of this group changes operation 2 in cycle 1"), (4, "F5", "the group of line 1 has no `end` yet"),
+                                   (5, "F5", "has no fault"), (6, "F5", "no `begin` stands before"), (7, "F5", "no `end` follows"), (90, "F5", "changed since")):
+            self.assertIn(said, group_hint(script, number, code).message)
 
     def test_lines_of_error(self) -> None:
         fault = read_fault("a b:3.csv:2:7 R3 Cell")
