@@ -20,6 +20,7 @@ written-behind {start = start} {old = old} {new = new} {text = text} {piece = pi
   cause = record {
     later = omega (arith, first.cause.later, second.cause.later);
     capped = λ h. second.cause.capped (first.cause.capped h);
+    stayed = second.cause.stayed ∙ first.cause.stayed;
     failed = tt;
   };
 }
@@ -29,6 +30,7 @@ written-behind {start = start} {old = old} {new = new} {text = text} {piece = pi
   cause = record {
     later = omega (arith, first.cause.later, second.cause.later);
     capped = λ h. second.cause.capped (first.cause.capped h);
+    stayed = tt;
     failed = omega (arith, first.cause.later, second.cause.failed);
   };
 }

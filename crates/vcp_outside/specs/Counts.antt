@@ -1,5 +1,5 @@
 -- Counts of faults. A count never falls, and stands still at its last value.
-use Rattle.std.specs.Prelude.{ℕ, ◌+◌, ◌-◌, ◌^◌, ◌≤◌, min, Result, Ok, Err, OnErr}
+use Rattle.std.specs.Prelude.{◌≡◌, ℕ, ◌+◌, ◌-◌, ◌^◌, ◌≤◌, min, Result, Ok, Err, OnOk, OnErr}
 
 -- the last value of a count
 abbrev pub last_count : ℕ
@@ -14,10 +14,12 @@ next_count n = min (n + 1) (2 ^ 64 - 1)
 abbrev pub Rose : ℕ → ℕ → Type 0
 Rose before now = min (before + 1) (2 ^ 64 - 1) ≤ now
 
--- the count never falls and stays within its last value, and a call failed only where it rose
+-- The count never falls and stays within its last value. A call failed only where it rose, and after `Ok` it stands as before:
+-- no failure within the call was passed over.
 pub record HasCause {T E : Type 0} (before now : ℕ) (result : Result T E) : Type 0 where
   pub later : before ≤ now
   pub capped : before ≤ last_count → now ≤ last_count
+  pub stayed : OnOk result (now ≡ before)
   pub failed : OnErr result (Rose before now)
 
 -- a count after a call: one more after a failure, up to the last value, and else the same

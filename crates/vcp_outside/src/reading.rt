@@ -80,6 +80,7 @@ pub fn read_all_counting<F: Files, L: Ledger>(
     ensures reads { IfSome (F.seen files.old).held (λ h. ReadsAll h name.now limit (F.seen files.old).broken (F.seen files.new).broken result) }
     ensures within { IfOk result (λ text. length text ≤ limit) }
     ensures failed { IsErrOf result ReadAll.Failed → Rose (F.seen files.old).faults (F.seen files.new).faults }
+    ensures stayed { OnOk result ((F.seen files.new).faults ≡ (F.seen files.old).faults) }
 
     // What was taken of the file, and in how many reads.
     ensures ended { OnOk result (IsAtEnd (F.seen files.new).rest) }
@@ -124,6 +125,7 @@ fn read_all_with<F: Files, L: Ledger>(
     ensures reads { IfSome (F.seen files.old).held (λ h. ReadsAll h name.now limit (F.seen files.old).broken (F.seen files.new).broken result) }
     ensures within { IfOk result (λ text. length text ≤ limit) }
     ensures failed { IsErrOf result ReadAll.Failed → Rose (F.seen files.old).faults (F.seen files.new).faults }
+    ensures stayed { OnOk result ((F.seen files.new).faults ≡ (F.seen files.old).faults) }
     ensures ended { OnOk result (IsAtEnd (F.seen files.new).rest) }
     ensures taken { IfSome (F.seen files.old).held (λ h. Takes h name.now limit (F.seen files.new).rest result) }
     ensures held { (F.seen files.new).held ≡ (F.seen files.old).held }
@@ -154,6 +156,7 @@ pub fn read_all<F: Files>(
     ensures reads { IfSome (F.seen files.old).held (λ h. ReadsAll h name.now limit (F.seen files.old).broken (F.seen files.new).broken result) }
     ensures within { IfOk result (λ text. length text ≤ limit) }
     ensures failed { IsErrOf result ReadAll.Failed → Rose (F.seen files.old).faults (F.seen files.new).faults }
+    ensures stayed { OnOk result ((F.seen files.new).faults ≡ (F.seen files.old).faults) }
 
     // What was taken of the file.
     ensures ended { OnOk result (IsAtEnd (F.seen files.new).rest) }

@@ -9,8 +9,7 @@ invariant-reading g l = record {
   bytes : IfSome (g.F.Files.seen l.fn.files).held (λ h. IsSome (h l.fn.name) × Consumes (h l.fn.name) (g.F.Files.seen l.files).rest l.content.items);
   counted : l.reads ≤ l.fn.reads + vec_len l.content;
   held : (g.F.Files.seen l.files).held ≡ (g.F.Files.seen l.fn.files).held;
-  later : (g.F.Files.seen l.fn.files).faults ≤ (g.F.Files.seen l.files).faults;
-  capped : (g.F.Files.seen l.fn.files).faults ≤ last_count → (g.F.Files.seen l.files).faults ≤ last_count;
+  stayed : (g.F.Files.seen l.files).faults ≡ (g.F.Files.seen l.fn.files).faults;
   broken_later : (g.F.Files.seen l.fn.files).broken ≤ (g.F.Files.seen l.files).broken;
   broken_capped : (g.F.Files.seen l.fn.files).broken ≤ last_count → (g.F.Files.seen l.files).broken ≤ last_count;
 }
