@@ -1,10 +1,10 @@
 #!/bin/sh
 # Draws the level crossing anew: its run on its rows, docs/crossing_waves.svg, and its graph across at most two cycle borders,
 # docs/crossing_graph.svg. With --check it compares them with what it draws, and its status is 1 where they differ. With VCP=FILE and
-# VCP_DRAW=FILE before it other programs than the built ones are taken.
+# VCP_STUDY=FILE before it other programs than the built ones are taken.
 top=$(CDPATH='' cd -- "$(dirname -- "$0")/.." && pwd) || exit 1
 vcp=${VCP:-$top/vcp}
-draw=${VCP_DRAW:-$top/vcp_draw}
+draw=${VCP_STUDY:-$top/vcp_study}
 work=$(mktemp -d) || exit 1
 trap 'rm -rf "$work"' EXIT
 "$vcp" run "$top/examples/crossing.st" "$top/examples/crossing.csv" >"$work/run.csv" || exit 1

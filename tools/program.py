@@ -34,7 +34,7 @@ class Outcome:
 
 
 def find_program(name: str = "vcp") -> Path | None:
-    """The built program: VCP=FILE (VCP_DRAW=FILE for vcp_draw), or the one that `./vcp` and `rt ci` leave. None where there is none."""
+    """The built program: VCP=FILE (VCP_STUDY=FILE for vcp_study), or the one that `./vcp` and `rt ci` leave. None where there is none."""
     chosen = os.environ.get(name.upper())
     file = Path(chosen).absolute() if chosen else TOP / "crates" / name / "out" / name
     return file if os.access(file, os.X_OK) and file.is_file() else None

@@ -4,25 +4,25 @@ use image_file::write_image;
 use signature_table::Table;
 use std::alloc::Global;
 use std::test::Fail;
-use vcp_draw_core::vcp_draw;
 use vcp_outside::{MemFiles, MemSink};
+use vcp_study_core::vcp_study;
 use worked_graphs::increment;
 use worked_programs::{cells, same, word_off, words_of};
 
 /// Words => the status, and the line of errors. An image stands under `m.img`, and a source under `p.st`.
 const ANSWERS: &str = "\
-graph => 4 usage: vcp_draw graph M HORIZON or waves FILE
-draw m.img 0 => 4 usage: vcp_draw graph M HORIZON or waves FILE
-graph m.img => 4 usage: vcp_draw graph M HORIZON or waves FILE
-graph m.img 1001 => 4 usage: vcp_draw graph M HORIZON or waves FILE
-graph m.img -1 => 4 usage: vcp_draw graph M HORIZON or waves FILE
-graph -m 1 => 4 usage: vcp_draw graph M HORIZON or waves FILE
-graph m.img 1 2 => 4 usage: vcp_draw graph M HORIZON or waves FILE
+graph => 4 usage: vcp_study graph M HORIZON or waves FILE
+draw m.img 0 => 4 usage: vcp_study graph M HORIZON or waves FILE
+graph m.img => 4 usage: vcp_study graph M HORIZON or waves FILE
+graph m.img 1001 => 4 usage: vcp_study graph M HORIZON or waves FILE
+graph m.img -1 => 4 usage: vcp_study graph M HORIZON or waves FILE
+graph -m 1 => 4 usage: vcp_study graph M HORIZON or waves FILE
+graph m.img 1 2 => 4 usage: vcp_study graph M HORIZON or waves FILE
 graph no.img 0 => 5 no.img read fault
 graph p.st 0 => 1 p.st:0 I1 Magic
 graph m.img 1000 => 0
-waves => 4 usage: vcp_draw graph M HORIZON or waves FILE
-waves -m => 4 usage: vcp_draw graph M HORIZON or waves FILE
+waves => 4 usage: vcp_study graph M HORIZON or waves FILE
+waves -m => 4 usage: vcp_study graph M HORIZON or waves FILE
 waves no.csv => 5 no.csv read fault
 waves p.st => 1 p.st:1 R1 Header
 ";
@@ -35,7 +35,7 @@ pub fn is_answered(alloc: Global, files: &mut MemFiles, row: &str) -> Result<(),
     let words = words_of(alloc, command, behind)?;
     let mut out = MemSink::new(alloc, 6000)?;
     let mut err = MemSink::new(alloc, 100)?;
-    let found = vcp_draw(alloc, &words, files, &mut out, &mut err);
+    let found = vcp_study(alloc, &words, files, &mut out, &mut err);
     same(&format!(in alloc; "{found}")?, status)?;
     let told = err.bytes().strip_suffix(b"\n").unwrap_or(b"");
     if told == line.as_bytes() && out.bytes().starts_with(b"<svg ") == line.is_empty() {

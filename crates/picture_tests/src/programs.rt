@@ -5,8 +5,8 @@ use crate::counts::times_in;
 use std::alloc::Global;
 use std::test::Fail;
 use vcp_base::Memory;
-use vcp_draw_core::vcp_draw;
 use vcp_outside::{MemFiles, MemSink};
+use vcp_study_core::vcp_study;
 use worked_programs::{COUNTER, CROSSING, call, cells, same, word_off, words_of};
 
 /// A program and a horizon => how many boxes, lines, grey boxes and red boxes the picture has.
@@ -43,7 +43,7 @@ fn picture(
     words.push(horizon.as_bytes())?;
     let mut out = MemSink::new(alloc, 40000)?;
     let mut err = MemSink::new(alloc, 100)?;
-    let _status = vcp_draw(alloc, &words, files, &mut out, &mut err);
+    let _status = vcp_study(alloc, &words, files, &mut out, &mut err);
     Ok(out)
 }
 

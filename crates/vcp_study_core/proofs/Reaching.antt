@@ -1,0 +1,82 @@
+-- Reaching: how far `graph` comes, from what loading its image gives.
+use Rattle.std.proofs.Common.{◌≡◌, ◌⊎◌, ◌<◌, ◌≤◌, inl, inr, ℕ, List, [], length, Option, Some, None, IfSome, Result, Err, refl, sym}
+use Rattle.std.proofs.lemmas.List.{append-nil}
+use Rattle.std.specs.Io.KnownBytes.{Appends}
+use Rattle.vcp_base.specs.Limits.{most_image_bytes}
+use Rattle.vcp_outside.specs.Held.{Held}
+use Rattle.weight_audit.specs.Audit.{Audit, most_weights, weights_up_to, IsAudit}
+use Rattle.vcp_inputs.specs.declared.images.Image.{Image}
+use Rattle.vcp_inputs.specs.declared.refusal.NoInput.{NoInput}
+use Rattle.vcp_inputs.specs.declared.refusal.NoInput.TheVariants as input
+use Rattle.vcp_inputs.specs.declared.refusal.Refusal.TheVariants as refusal
+use Rattle.vcp_inputs.specs.Files.{NotLoaded}
+use Rattle.vcp_inputs.specs.Images.{ImageOf, NotImage}
+use Rattle.graph_picture.specs.Arrangement.{Arrangement, IsArranged}
+use Rattle.graph_picture.specs.Elements.{graph_text}
+use Rattle.vcp_study_core.specs.declared.fault.Fault.{Fault}
+use Rattle.vcp_study_core.specs.declared.fault.Fault.TheVariants as fault
+use Rattle.vcp_study_core.specs.Reach.{IsImage, IsDrawn, no_image, too_large, ReachesGraph, IsUnread}
+
+pub if_some_weaker : {X : Type 0} (o : Option X) (P Q : X → Type 0) → ((x : X) → P x → Q x) → IfSome o P → IfSome o Q
+if_some_weaker None P Q f h = tt
+if_some_weaker (Some x) P Q f h = f x h
+
+pub if_some_always : {X : Type 0} (o : Option X) (P : X → Type 0) → ((x : X) → P x) → IfSome o P
+if_some_always None P f = tt
+if_some_always (Some x) P f = f x
+
+pub if_some_is : {X : Type 0} (o : Option X) (x : X) (P : X → Type 0) → Some x ≡ o → P x → IfSome o P
+if_some_is None x P e h = absurd cc
+if_some_is (Some y) x P e h = let same : x ≡ y = cc in rw same at h
+
+pub if_none : {X : Type 0} (o : Option X) (P : X → Type 0) → None ≡ o → IfSome o P
+if_none None P e = tt
+if_none (Some y) P e = absurd cc
+
+pub appends-nothing : (old : Option (List ℕ)) → Appends old old []
+appends-nothing None = tt
+appends-nothing (Some bytes) = sym (append-nil bytes)
+
+module _ (name : List ℕ) (horizon : ℕ) (held : Held) (old : Option (List ℕ)) (b n : ℕ) where
+  -- there is nothing of the file
+  pub lost : (i : NoInput) → NotLoaded NotImage held name most_image_bytes b n i → ReachesGraph name horizon held old old b n (Err (fault.Source i))
+  lost input.Unread h = (h, appends-nothing old)
+  lost (input.Refused r) (text, holds, why) = (no_image text holds r why, appends-nothing old)
+  lost input.Memory h = (tt, appends-nothing old)
+
+  -- the image that was loaded
+  abbrev Loaded : Image → Type 0
+  Loaded i = (text : List ℕ) × (held name ≡ Some text) × (length text ≤ most_image_bytes) × ImageOf text i
+
+  is_image : (i : Image) → Loaded i → IsImage held name i
+  is_image i (text, holds, short, is) = record { bytes = text; holds = holds; short = short; image = is }
+
+  -- why there are no weights of its graph: memory was wanted, or they are too many
+  abbrev NoWeights : Image → Fault → Type 0
+  NoWeights i e = (e ≡ fault.Memory) ⊎ ((e ≡ fault.Source (input.Refused refusal.Audit)) × (most_weights < weights_up_to i.graph horizon))
+
+  pub not_weighed : (i : Image) → Loaded i → (e : Fault) → NoWeights i e → ReachesGraph name horizon held old old b n (Err e)
+  not_weighed i loaded e (inl memory) = rw memory (appends-nothing old)
+  not_weighed i loaded e (inr (refused, more)) = rw refused (too_large i (is_image i loaded) more, appends-nothing old)
+
+  -- its picture
+  pub drawn : (i : Image) → Loaded i → weights_up_to i.graph horizon ≤ most_weights → (a : Audit) → IsAudit i.graph horizon a
+      → (l : Arrangement) → IsArranged i.graph l → IsDrawn held name horizon (graph_text i.graph a horizon l)
+  drawn i loaded few a is l arranged = record {
+    image = i;
+    is = is_image i loaded;
+    few = few;
+    told = record { audit = a; is = is; arrangement = l; arranged = arranged; told = refl };
+  }
+
+-- a fault that isn't for want of a file, nor for a sink that failed
+pub not_unread : (i : Image) (horizon : ℕ) (e : Fault)
+    → (e ≡ fault.Memory) ⊎ ((e ≡ fault.Source (input.Refused refusal.Audit)) × (most_weights < weights_up_to i.graph horizon)) → IsUnread e → ⊥
+not_unread i horizon e (inl memory) is = rw memory at is
+not_unread i horizon e (inr (refused, more)) is = let unread : input.Refused refusal.Audit ≡ input.Unread = rw refused at is in cc
+
+pub not_write : (i : Image) (horizon : ℕ) (e : Fault)
+    → (e ≡ fault.Memory) ⊎ ((e ≡ fault.Source (input.Refused refusal.Audit)) × (most_weights < weights_up_to i.graph horizon))
+    → (r : Result (Unit {0}) Fault) → r ≡ Err e → r ≡ Err fault.Write → ⊥
+not_write i horizon e (inl memory) r is write = cc
+not_write i horizon e (inr (refused, more)) r is write = cc

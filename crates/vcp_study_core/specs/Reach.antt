@@ -1,0 +1,73 @@
+-- Reach: how far a command comes before its fault's line, if there is one, is printed.
+use Rattle.std.specs.Prelude.{ℕ, ◌≡◌, ◌⊎◌, ◌<◌, ◌≤◌, List, [], length, Option, Some, None, Result, Ok, Err}
+use Rattle.std.specs.Io.KnownBytes.{Appends}
+use Rattle.vcp_base.specs.Limits.{most_image_bytes}
+use Rattle.vcp_outside.specs.Counts.{Rose}
+use Rattle.vcp_outside.specs.Held.{Held}
+use Rattle.vcp_outside.specs.Written.{AppendsPart}
+use Rattle.weight_audit.specs.Audit.{most_weights, weights_up_to}
+use Rattle.vcp_inputs.specs.declared.images.Image.{Image}
+use Rattle.vcp_inputs.specs.declared.refusal.NoInput.{NoInput}
+use Rattle.vcp_inputs.specs.declared.refusal.NoInput.TheVariants as input
+use Rattle.vcp_inputs.specs.declared.refusal.Refusal.{Refusal}
+use Rattle.vcp_inputs.specs.declared.refusal.Refusal.TheVariants as refusal
+use Rattle.vcp_inputs.specs.Files.{IsRefused}
+use Rattle.vcp_inputs.specs.Images.{ImageOf, NotImage}
+use Rattle.vcp_inputs.specs.Lines.{memory_text, write_fault_text, input_text, input_status}
+use Rattle.graph_picture.specs.Elements.{IsPictureOf}
+use Rattle.vcp_study_core.specs.RunLines.{run_text}
+use Rattle.vcp_study_core.specs.declared.fault.Fault.{Fault}
+use Rattle.vcp_study_core.specs.declared.fault.Fault.TheVariants as fault
+
+-- the file under a name is this image, and no longer than it may be
+pub record IsImage (held : Held) (name : List ℕ) (i : Image) : Type 0 where
+  pub bytes : List ℕ
+  pub holds : held name ≡ Some bytes
+  pub short : length bytes ≤ most_image_bytes
+  pub image : ImageOf bytes i
+
+-- a text is the picture of the graph of the file under a name, up to a horizon
+pub record IsDrawn (held : Held) (name : List ℕ) (horizon : ℕ) (text : List ℕ) : Type 0 where
+  pub image : Image
+  pub is : IsImage held name image
+  pub few : weights_up_to image.graph horizon ≤ most_weights
+  pub told : IsPictureOf image.graph horizon text
+
+-- why the file under a name is refused: it is no image, or its graph has too many weights up to the horizon
+pub data Refuses (held : Held) (name : List ℕ) (horizon : ℕ) : Refusal → Type 0 where
+  no_image : (bytes : List ℕ) → held name ≡ Some bytes → (r : Refusal) → IsRefused NotImage most_image_bytes bytes r → Refuses held name horizon r
+  too_large : (i : Image) → IsImage held name i → most_weights < weights_up_to i.graph horizon → Refuses held name horizon refusal.Audit
+
+-- there is nothing of the file under a name
+abbrev pub Lost : List ℕ → ℕ → Held → ℕ → ℕ → NoInput → Type 0
+Lost name horizon held b n input.Unread = (held name ≡ None) ⊎ Rose b n
+Lost name horizon held b n (input.Refused r) = Refuses held name horizon r
+Lost name horizon held b n input.Memory = Unit {0}
+
+-- How far `graph M HORIZON` comes: the picture is written, or a part of it where the sink failed, or nothing.
+abbrev pub ReachesGraph : List ℕ → ℕ → Held → Option (List ℕ) → Option (List ℕ) → ℕ → ℕ → Result (Unit {0}) Fault → Type 0
+ReachesGraph name horizon held old new b n (Ok _) = (text : List ℕ) × IsDrawn held name horizon text × Appends old new text
+ReachesGraph name horizon held old new b n (Err (fault.Source i)) = Lost name horizon held b n i × Appends old new []
+ReachesGraph name horizon held old new b n (Err fault.Write) = (text : List ℕ) × IsDrawn held name horizon text × AppendsPart old new text
+ReachesGraph name horizon held old new b n (Err fault.Memory) = Appends old new []
+ReachesGraph name horizon held old new b n (Err (fault.NoRun f)) = ⊥
+
+-- the file couldn't be begun or read
+abbrev pub IsUnread : Fault → Type 0
+IsUnread (fault.Source i) = i ≡ input.Unread
+IsUnread fault.Write = ⊥
+IsUnread fault.Memory = ⊥
+IsUnread (fault.NoRun f) = ⊥
+
+-- the line of a fault, and the status
+abbrev pub fault_text : List ℕ → Fault → List ℕ
+fault_text name (fault.Source i) = input_text name i
+fault_text name fault.Write = write_fault_text
+fault_text name fault.Memory = memory_text
+fault_text name (fault.NoRun f) = run_text name f
+
+abbrev pub fault_status : Fault → ℕ
+fault_status (fault.Source i) = input_status i
+fault_status fault.Write = 6
+fault_status fault.Memory = 7
+fault_status (fault.NoRun f) = 1

@@ -1,0 +1,38 @@
+//! Why a command ends before all is drawn.
+
+ghost use Rattle.std.specs.Prelude.{◌≡◌};
+ghost use Rattle.vcp_study_core.specs.declared.fault.Fault.TheVariants as fault;
+
+use run_picture::RunFault;
+use vcp_base::Memory;
+use vcp_inputs::NoInput;
+use vcp_outside::Failed;
+
+/// Why a command ends before all is drawn.
+#[derive(Debug, Drop)]
+pub enum Fault {
+    /// There is nothing of the file.
+    Source(NoInput),
+    /// The sink of the picture failed.
+    Write,
+    /// An allocation failed.
+    Memory,
+    /// The file is no run.
+    NoRun(RunFault),
+}
+
+impl From<Failed> for Fault {
+    ghost from_gives = { λ _ e. e ≡ fault.Write };
+
+    fn from(_: Failed) -> Fault {
+        Fault::Write
+    }
+}
+
+impl From<Memory> for Fault {
+    ghost from_gives = { λ _ e. e ≡ fault.Memory };
+
+    fn from(_: Memory) -> Fault {
+        Fault::Memory
+    }
+}

@@ -1,0 +1,77 @@
+//! The lines of faults, and their statuses.
+
+ghost use Rattle.std.specs.Prelude.{◌≡◌};
+ghost use Rattle.vcp_outside.specs.Written.{WritesTo};
+ghost use Rattle.vcp_study_core.specs.Forms.{usage_text};
+ghost use Rattle.vcp_inputs.specs.Lines.{rows_text};
+ghost use Rattle.vcp_study_core.specs.RunLines.{run_text};
+ghost use Rattle.vcp_study_core.specs.Reach.{fault_text, fault_status as status_of_fault};
+
+use crate::fault::Fault;
+use input_rows::RowFault;
+use run_picture::RunFault;
+use vcp_inputs::{Refusal, input_status, tell_input, tell_of, tell_place, tell_refusal};
+use vcp_outside::{Failed, Sink, write_all};
+
+/// Prints the usage line.
+pub fn tell_usage<E: Sink>(err: &mut E) -> Result<(), Failed>
+    ensures { WritesTo (E.seen err.old) (E.seen err.new) usage_text result }
+{
+    write_all(err, b"usage: vcp_study graph M HORIZON or waves FILE\n")
+}
+
+/// Prints the line of a fault of a command on the file under a name.
+pub fn tell<E: Sink>(err: &mut E, name: &[u8], fault: &Fault) -> Result<(), Failed>
+    ensures { WritesTo (E.seen err.old) (E.seen err.new) (fault_text name.now fault.now) result }
+{
+    match fault {
+        Fault::Source(input) => tell_input(err, name, input),
+        Fault::Write => write_all(err, b"write fault\n"),
+        Fault::Memory => write_all(err, b"no memory\n"),
+        Fault::NoRun(why) => tell_no_run(err, name, *why),
+    }
+}
+
+/// Prints the line of a file that is no run.
+fn tell_no_run<E: Sink>(err: &mut E, name: &[u8], why: RunFault) -> Result<(), Failed>
+    ensures { WritesTo (E.seen err.old) (E.seen err.new) (run_text name.now why) result }
+{
+    match why {
+        RunFault::Header => tell_rows(err, name, RowFault::Header),
+        RunFault::Names => tell_of(err, name, b":1 L3 Names"),
+        RunFault::Line { record } => tell_place(err, name, record, b"V1 Line"),
+        RunFault::Width { record } => tell_rows(err, name, RowFault::Width { row: record }),
+        RunFault::Cell { record, column } => tell_rows(
+            err,
+            name,
+            RowFault::Cell {
+                row: record,
+                column,
+            },
+        ),
+        RunFault::Cycles => tell_rows(err, name, RowFault::Cycles),
+        RunFault::End => tell_of(err, name, b" V2 End"),
+        RunFault::Rest { record } => tell_place(err, name, record, b"V3 Rest"),
+        RunFault::Cut => tell_of(err, name, b" V4 Cut"),
+        RunFault::Memory => write_all(err, b"no memory\n"),
+    }
+}
+
+/// Prints the line of what rows are refused for too.
+fn tell_rows<E: Sink>(err: &mut E, name: &[u8], why: RowFault) -> Result<(), Failed>
+    ensures { WritesTo (E.seen err.old) (E.seen err.new) (rows_text name.now why) result }
+{
+    tell_refusal(err, name, &Refusal::Rows(why))
+}
+
+/// The status of a fault whose line was printed.
+pub fn fault_status(fault: &Fault) -> u8
+    ensures { result ≡ status_of_fault fault.now }
+{
+    match fault {
+        Fault::Source(input) => input_status(input),
+        Fault::Write => 6,
+        Fault::Memory => 7,
+        Fault::NoRun(_) => 1,
+    }
+}

@@ -1,0 +1,102 @@
+//! The top call.
+
+ghost use Rattle.std.specs.Prelude.{◌≡◌, ◌≢◌, IfSome, IfErr, OnOk, None, Err};
+ghost use Rattle.std.specs.Io.KnownBytes.{IsAtEnd};
+ghost use Rattle.vcp_outside.specs.Counts.{Rose};
+ghost use Rattle.vcp_study_core.specs.Forms.{form, form_of, IsSound};
+ghost use Rattle.vcp_study_core.specs.Answered.{Answered, GetsUsage, Keeps, Reaches};
+ghost use Rattle.vcp_study_core.specs.Reach.{IsUnread};
+ghost use Rattle.vcp_study_core.specs.Seen.{outside};
+ghost use Rattle.vcp_study_core.specs.declared.fault.Fault.TheVariants as fault;
+
+use crate::command::{Command, command_of};
+use crate::fault::Fault;
+use crate::graph::graph_command;
+use crate::telling::{fault_status, tell, tell_usage};
+use crate::waves::waves_command;
+use std::alloc::Global;
+use vcp_base::Words;
+use vcp_outside::{Failed, Files, Sink};
+
+/// Does all that the program does, and answers its status: what the words say, on the files, writing
+/// the picture to `out`, and the line of a fault to `err`.
+///
+/// | status | comes |
+/// |---|---|
+/// | 0 | the picture was written |
+/// | 1 | the file is refused |
+/// | 4 | the words are none of the forms |
+/// | 5 | a file failed |
+/// | 6 | a sink failed |
+/// | 7 | memory was wanted |
+pub fn vcp_study<F: Files, O: Sink, E: Sink>(
+    alloc: Global,
+    words: &Words,
+    files: &mut F,
+    out: &mut O,
+    err: &mut E,
+) -> u8
+    // Where it is told what is held: the picture, or what kept it from being drawn.
+    ensures answered { IfSome (F.seen files.old).held (λ h. IfSome (form_of words.now) (λ f. Answered f h
+        (outside (F.seen files.old) (O.seen out.old) (E.seen err.old)) (outside (F.seen files.new) (O.seen out.new) (E.seen err.new)) result)) }
+
+    // Words that are none of the forms get the usage line, and nothing else is done; no other words do.
+    ensures usage { form_of words.now ≡ None → GetsUsage
+        (outside (F.seen files.old) (O.seen out.old) (E.seen err.old)) (outside (F.seen files.new) (O.seen out.new) (E.seen err.new)) result }
+    ensures usage_only { result ≡ 4 → form_of words.now ≡ None }
+
+    // What every command keeps, whatever the files tell.
+    ensures keeps { Keeps (outside (F.seen files.old) (O.seen out.old) (E.seen err.old)) (outside (F.seen files.new) (O.seen out.new) (E.seen err.new)) result }
+{
+    match command_of(words) {
+        Some(command) => serve(alloc, &command, files, out, err),
+        None => match tell_usage(err) {
+            Ok(()) => 4,
+            Err(Failed) => 6,
+        },
+    }
+}
+
+/// Does a command and, where it ends by a fault, tells the fault's line.
+fn serve<F: Files, O: Sink, E: Sink>(
+    alloc: Global,
+    command: &Command<'_>,
+    files: &mut F,
+    out: &mut O,
+    err: &mut E,
+) -> u8
+    requires sound { IsSound (form command.now) }
+    ensures answered { IfSome (F.seen files.old).held (λ h. Answered (form command.now) h
+        (outside (F.seen files.old) (O.seen out.old) (E.seen err.old)) (outside (F.seen files.new) (O.seen out.new) (E.seen err.new)) result) }
+    ensures no_usage { result ≢ 4 }
+    ensures keeps { Keeps (outside (F.seen files.old) (O.seen out.old) (E.seen err.old)) (outside (F.seen files.new) (O.seen out.new) (E.seen err.new)) result }
+{
+    match draw(alloc, command, files, out) {
+        Ok(()) => 0,
+        Err(fault) => match tell(err, command.file(), &fault) {
+            Ok(()) => fault_status(&fault),
+            Err(Failed) => 6,
+        },
+    }
+}
+
+/// Does what a command says, and writes to `out` alone.
+fn draw<F: Files, O: Sink>(
+    alloc: Global,
+    command: &Command<'_>,
+    files: &mut F,
+    out: &mut O,
+) -> Result<(), Fault>
+    requires sound { IsSound (form command.now) }
+    ensures held { (F.seen files.new).held ≡ (F.seen files.old).held }
+    ensures reaches { IfSome (F.seen files.old).held (λ h. Reaches (form command.now) h (F.seen files.old) (F.seen files.new) (O.seen out.old)
+        (O.seen out.new) result) }
+    ensures unread { IfErr result (λ e. IsUnread e → Rose (F.seen files.old).faults (F.seen files.new).faults) }
+    ensures write { result ≡ Err fault.Write → Rose (O.seen out.old).faults (O.seen out.new).faults }
+    ensures ended { OnOk result (IsAtEnd (F.seen files.new).rest) }
+{
+    match command {
+        Command::Graph { image, horizon } => graph_command(alloc, image, *horizon, files, out),
+        Command::Waves { file } => waves_command(alloc, file, files, out),
+    }
+}
