@@ -82,20 +82,10 @@ rows_and_rest (w ∷ rest) =
     cond (bytes_eq w (codes "--cycles")) (cycles_and_rest rest)
     (cond (is_file_name w) (Some (file w, rest)) None)
 
--- CYCLE: a cycle that a run may have, counted from 0
-abbrev pub cycle_and_rest : List (List ℕ) → Option (ℕ × List (List ℕ))
-cycle_and_rest [] = None
-cycle_and_rest (w ∷ rest) = option_map (λ n. (n, rest)) (number_within 0 (most_cycles - 1) w)
-
--- HORIZON: the most cycle borders of an audit, counted from 0
-abbrev pub horizon_and_rest : List (List ℕ) → Option (ℕ × List (List ℕ))
-horizon_and_rest [] = None
-horizon_and_rest (w ∷ rest) = option_map (λ n. (n, rest)) (number_within 0 most_horizon w)
-
--- N: the number of a made program
-abbrev pub made_and_rest : List (List ℕ) → Option (ℕ × List (List ℕ))
-made_and_rest [] = None
-made_and_rest (w ∷ rest) = option_map (λ n. (n, rest)) (number_within 0 most_made w)
+-- CYCLE, HORIZON, or the number of a made program: a number from `least` to `most`
+abbrev pub number_and_rest : ℕ → ℕ → List (List ℕ) → Option (ℕ × List (List ℕ))
+number_and_rest least most [] = None
+number_and_rest least most (w ∷ rest) = option_map (λ n. (n, rest)) (number_within least most w)
 
 -- ---- CODE: neither of the options `--seed N` and `--step N`, one, or both in either order
 
@@ -137,17 +127,9 @@ name_then more words = followed (name_and_rest words) more
 abbrev pub rows_then : (Rows → List (List ℕ) → Option Form) → List (List ℕ) → Option Form
 rows_then more words = followed (rows_and_rest words) more
 
--- CYCLE, and then more words
-abbrev pub cycle_then : (ℕ → List (List ℕ) → Option Form) → List (List ℕ) → Option Form
-cycle_then more words = followed (cycle_and_rest words) more
-
--- HORIZON, and then more words
-abbrev pub horizon_then : (ℕ → List (List ℕ) → Option Form) → List (List ℕ) → Option Form
-horizon_then more words = followed (horizon_and_rest words) more
-
--- N, and then more words
-abbrev pub made_then : (ℕ → List (List ℕ) → Option Form) → List (List ℕ) → Option Form
-made_then more words = followed (made_and_rest words) more
+-- a number from `least` to `most`, and then more words
+abbrev pub number_then : ℕ → ℕ → (ℕ → List (List ℕ) → Option Form) → List (List ℕ) → Option Form
+number_then least most more words = followed (number_and_rest least most words) more
 
 -- CODE to the last word
 abbrev pub code_then : (Code → Form) → List (List ℕ) → Option Form
@@ -166,9 +148,9 @@ abbrev pub image_form : List ℕ → List (List ℕ) → Option Form
 image_form w words =
     cond (bytes_eq w (codes "list")) (name_then (λ m. end_then (list m)) words)
     (cond (bytes_eq w (codes "exec")) (name_then (λ m. rows_then (λ rows. end_then (exec m rows))) words)
-    (cond (bytes_eq w (codes "trace")) (name_then (λ m. rows_then (λ rows. cycle_then (λ c. end_then (trace m rows c)))) words)
+    (cond (bytes_eq w (codes "trace")) (name_then (λ m. rows_then (λ rows. number_then 0 (most_cycles - 1) (λ c. end_then (trace m rows c)))) words)
     (cond (bytes_eq w (codes "widen")) (name_then (λ m. end_then (widen m)) words)
-    (cond (bytes_eq w (codes "audit")) (name_then (λ m. horizon_then (λ h. end_then (audit m h))) words)
+    (cond (bytes_eq w (codes "audit")) (name_then (λ m. number_then 0 most_horizon (λ h. end_then (audit m h))) words)
     (cond (bytes_eq w (codes "inject")) (name_then (λ m. rows_then (λ rows. name_then (λ f. end_then (inject m rows f)))) words)
     None)))))
 
@@ -181,8 +163,12 @@ form_of (w ∷ words) =
     (cond (bytes_eq w (codes "plain")) (name_then (λ p. rows_then (λ rows. end_then (plain p rows))) words)
     (cond (bytes_eq w (codes "run")) (name_then (λ p. rows_then (λ rows. code_then (run p rows))) words)
     (cond (bytes_eq w (codes "compile")) (name_then (λ p. code_then (compile p)) words)
-    (cond (bytes_eq w (codes "demo")) (made_then (λ n. end_then (demo n)) words)
+    (cond (bytes_eq w (codes "demo")) (number_then 0 most_made (λ n. end_then (demo n)) words)
     (image_form w words))))))
+
+-- the usage line, which words get that are none of the forms
+abbrev pub usage_text : List ℕ
+usage_text = codes "usage: vcp check P, format P, plain P ROWS, run P ROWS CODE, compile P CODE, list M, exec M ROWS, trace M ROWS CYCLE, inject M ROWS F, audit M HORIZON, widen M or demo N\n"
 
 -- ---- commands as values
 

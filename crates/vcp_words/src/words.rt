@@ -1,13 +1,22 @@
-//! From words to a command.
+//! From words to a command; and the usage line.
 
-ghost use Rattle.std.specs.Prelude.{◌≡◌, IfSome};
+ghost use Rattle.std.specs.Prelude.{◌≡◌, ◌-◌, IfSome};
 ghost use Rattle.std.specs.Option.{option_map};
+ghost use Rattle.vcp_base.specs.Limits.{most_cycles, most_horizon};
 ghost use Rattle.vcp_words.specs.Forms.{check, format, plain, run, compile, list, exec, trace, widen, audit, inject, demo, name_then, rows_then};
-ghost use Rattle.vcp_words.specs.Forms.{cycle_then, horizon_then, made_then, code_then, end_then, form, form_of, image_form, IsSound};
+ghost use Rattle.vcp_words.specs.Forms.{number_then, code_then, end_then, form, form_of, image_form, most_made, usage_text, IsSound};
 
 use crate::command::Command;
 use crate::words_left::WordsLeft;
-use vcp_base::Words;
+use vcp_base::{MOST_CYCLES, MOST_HORIZON, Words};
+
+/// The line that words get which are none of the forms.
+pub fn usage() -> &'static [u8]
+    ensures { result.now ≡ usage_text }
+{
+    b"usage: vcp check P, format P, plain P ROWS, run P ROWS CODE, compile P CODE, list M, exec M ROWS, trace M ROWS CYCLE, inject M ROWS F, audit M HORIZON, \
+      widen M or demo N\n"
+}
 
 /// The command that the words say; None where they are none of the forms.
 pub fn command_of(words: &Words) -> Option<Command<'_>>
@@ -126,10 +135,10 @@ fn compile_words<'a>(words: &mut WordsLeft<'a>) -> Option<Command<'a>>
 
 /// The words of `demo`: N.
 fn demo_words<'a>(words: &mut WordsLeft<'a>) -> Option<Command<'a>>
-    ensures form { option_map form result ≡ made_then (λ n. end_then (demo n)) words.old }
+    ensures form { option_map form result ≡ number_then 0 most_made (λ n. end_then (demo n)) words.old }
     ensures sound { IfSome result (λ command. IsSound (form command)) }
 {
-    let number = words.made()?;
+    let number = words.number(0, u32::MAX)?;
     if words.is_end() {
         Some(Command::Demo { number })
     } else {
@@ -166,12 +175,12 @@ fn exec_words<'a>(words: &mut WordsLeft<'a>) -> Option<Command<'a>>
 
 /// The words of `trace`: M, ROWS and CYCLE.
 fn trace_words<'a>(words: &mut WordsLeft<'a>) -> Option<Command<'a>>
-    ensures form { option_map form result ≡ name_then (λ m. rows_then (λ rows. cycle_then (λ c. end_then (trace m rows c)))) words.old }
+    ensures form { option_map form result ≡ name_then (λ m. rows_then (λ rows. number_then 0 (most_cycles - 1) (λ c. end_then (trace m rows c)))) words.old }
     ensures sound { IfSome result (λ command. IsSound (form command)) }
 {
     let image = words.name()?;
     let rows = words.rows()?;
-    let cycle = words.cycle()?;
+    let cycle = words.number(0, MOST_CYCLES - 1)?;
     if words.is_end() {
         Some(Command::Trace { image, rows, cycle })
     } else {
@@ -194,11 +203,11 @@ fn widen_words<'a>(words: &mut WordsLeft<'a>) -> Option<Command<'a>>
 
 /// The words of `audit`: M and HORIZON.
 fn audit_words<'a>(words: &mut WordsLeft<'a>) -> Option<Command<'a>>
-    ensures form { option_map form result ≡ name_then (λ m. horizon_then (λ h. end_then (audit m h))) words.old }
+    ensures form { option_map form result ≡ name_then (λ m. number_then 0 most_horizon (λ h. end_then (audit m h))) words.old }
     ensures sound { IfSome result (λ command. IsSound (form command)) }
 {
     let image = words.name()?;
-    let horizon = words.horizon()?;
+    let horizon = words.number(0, MOST_HORIZON)?;
     if words.is_end() {
         Some(Command::Audit { image, horizon })
     } else {

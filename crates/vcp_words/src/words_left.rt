@@ -1,14 +1,14 @@
 //! The words of a command, read from the front.
 
-ghost use Rattle.std.specs.Prelude.{◌≡◌, ◌≤◌, ◌<◌, ◌∷◌, [], IfSome, IfNone};
+ghost use Rattle.std.specs.Prelude.{◌≡◌, ◌≤◌, ◌∷◌, [], IfSome, IfNone};
 ghost use Rattle.std.specs.Option.{option_map};
-ghost use Rattle.vcp_base.specs.Limits.{most_cycles, most_horizon, seeds, most_step};
-ghost use Rattle.vcp_words.specs.Forms.{is_file_name as is_file_name_of, is_end as is_end_of, number_within, name_and_rest, rows_and_rest, cycle_and_rest};
-ghost use Rattle.vcp_words.specs.Forms.{horizon_and_rest, made_and_rest, code_of, rows_of, as_code, AreFew, IsCode};
+ghost use Rattle.vcp_base.specs.Limits.{seeds, most_step};
+ghost use Rattle.vcp_words.specs.Forms.{is_file_name as is_file_name_of, is_end as is_end_of, number_within, name_and_rest, rows_and_rest};
+ghost use Rattle.vcp_words.specs.Forms.{number_and_rest, code_of, rows_of, as_code, AreFew, IsCode};
 
 use crate::command::{Code, DEFAULT_CODE, RowsWord};
 use std::marker::Model;
-use vcp_base::{MOST_CYCLES, MOST_HORIZON, MOST_STEP, SEEDS, Text, Words, numeral};
+use vcp_base::{MOST_CYCLES, MOST_STEP, SEEDS, Text, Words, numeral};
 
 /// The words that are left, from the front, seen as a list.
 #[derive(Drop)]
@@ -102,30 +102,13 @@ impl<'a> WordsLeft<'a> {
         }
     }
 
-    /// Takes CYCLE.
-    pub fn cycle(&mut self) -> Option<u32>
-        ensures cycle { option_map (λ n. (n, self.new)) result ≡ cycle_and_rest self.old }
-        ensures below { IfSome result (λ n. n < most_cycles) }
+    /// Takes a number from `least` to `most`.
+    pub fn number(&mut self, least: u32, most: u32) -> Option<u32>
+        ensures number { option_map (λ n. (n, self.new)) result ≡ number_and_rest least most self.old }
+        ensures most { IfSome result (λ n. n ≤ most) }
     {
-        let cycle = number(self.next()?, 0, MOST_CYCLES as u64 - 1)?;
-        Some(cycle as u32)
-    }
-
-    /// Takes HORIZON.
-    pub fn horizon(&mut self) -> Option<u32>
-        ensures horizon { option_map (λ n. (n, self.new)) result ≡ horizon_and_rest self.old }
-        ensures most { IfSome result (λ n. n ≤ most_horizon) }
-    {
-        let horizon = number(self.next()?, 0, MOST_HORIZON as u64)?;
-        Some(horizon as u32)
-    }
-
-    /// Takes N, the number of a made program.
-    pub fn made(&mut self) -> Option<u32>
-        ensures { option_map (λ n. (n, self.new)) result ≡ made_and_rest self.old }
-    {
-        let made = number(self.next()?, 0, u32::MAX as u64)?;
-        Some(made as u32)
+        let number = number(self.next()?, least as u64, most as u64)?;
+        Some(number as u32)
     }
 
     /// Takes CODE, to the last word: `--seed N` and `--step N`, each at most once.
