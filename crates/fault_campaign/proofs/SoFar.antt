@@ -14,7 +14,7 @@ use Rattle.fault_script.specs.declared.act.Fault.{Fault}
 use Rattle.fault_script.specs.Groups.{GroupFits, line_of}
 use Rattle.fault_injector.specs.declared.verdict.Verdict.{Verdict}
 use Rattle.fault_injector.specs.Names.{Names}
-use Rattle.fault_runs.specs.Scripts.{StaysHonest}
+use Rattle.coded_unit.specs.Seen.{StoodStill}
 use Rattle.fault_injector.specs.Verdicts.{verdict_of}
 use Rattle.fault_campaign.specs.declared.lines.Totals.{Totals}
 use Rattle.fault_campaign.specs.FaultLines.{verdict_text, counted, no_verdicts, totals_of, totals_text}
@@ -23,10 +23,10 @@ use Rattle.fault_campaign.specs.Campaign.{verdict_lines, verdicts_of, Told}
 use Rattle.fault_campaign.proofs.Telling.{no_lines, lines_next, totals_next, line_failed, totals_failed}
 
 -- where no answer was wrong from the first moment to the last, none was up to a moment between them
-pub honest_first : (a b c : ℕ) → a ≤ b → b ≤ c → StaysHonest a c → StaysHonest a b
+pub honest_first : (a b c : ℕ) → a ≤ b → b ≤ c → StoodStill a c → StoodStill a b
 honest_first a b c first second h = (omega (arith, first, second, h.0), h.1)
 
-pub honest_second : (a b c : ℕ) → a ≤ b → b ≤ c → StaysHonest a c → StaysHonest b c
+pub honest_second : (a b c : ℕ) → a ≤ b → b ≤ c → StoodStill a c → StoodStill b c
 honest_second a b c first second h = (omega (arith, first, second, h.0), omega (arith, first, second, h.0, h.1))
 
 -- each group of a script fits the graph
@@ -47,7 +47,7 @@ take_one_more (y ∷ xs) (suc i) x e = ap (λ l. y ∷ l) (take_one_more xs i x 
 pub record Found (t : Numbers) (g : Lists) (fs : List (List Fault)) (rows : List (List ℤ)) (before now : ℕ) (vs : List Verdict) : Type 0 where
   pub names : All (Names (length g.outputs) (length g.operations)) vs
   pub few : length vs ≤ length fs
-  pub right : StaysHonest before now → vs ≡ take (length vs) (verdicts_of t g fs rows)
+  pub right : StoodStill before now → vs ≡ take (length vs) (verdicts_of t g fs rows)
 
 -- so many verdicts are found, counted and told
 pub record SoFar (t : Numbers) (g : Lists) (fs : List (List Fault)) (rows : List (List ℤ)) (before now : ℕ) (old new : Option (List ℕ)) (i : ℕ) (totals : Totals)
@@ -64,7 +64,7 @@ pub record Next (t : Numbers) (g : Lists) (fs : List (List Fault)) (rows : List 
   pub there : slice_get fs i ≡ Some f
   pub later : before ≤ now
   pub names : Names (length g.outputs) (length g.operations) v
-  pub right : StaysHonest first now → v ≡ verdict_of t g f rows
+  pub right : StoodStill first now → v ≡ verdict_of t g f rows
 
 pub so_far_none : (t : Numbers) (g : Lists) (fs : List (List Fault)) (rows : List (List ℤ)) (before now : ℕ) (old : Option (List ℕ)) → before ≤ now →
     SoFar t g fs rows before now old old 0 no_verdicts

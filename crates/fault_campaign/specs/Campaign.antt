@@ -8,7 +8,7 @@ use Rattle.fault_script.specs.declared.act.Fault.{Fault}
 use Rattle.fault_script.specs.Groups.{line_of}
 use Rattle.fault_injector.specs.declared.verdict.Verdict.{Verdict}
 use Rattle.fault_injector.specs.Names.{Names}
-use Rattle.fault_runs.specs.Scripts.{StaysHonest}
+use Rattle.coded_unit.specs.Seen.{StoodStill}
 use Rattle.fault_injector.specs.Verdicts.{verdict_of}
 use Rattle.fault_campaign.specs.FaultLines.{verdict_text, totals_of, totals_text}
 use Rattle.fault_campaign.specs.declared.fault.CampaignFault.{CampaignFault}
@@ -57,5 +57,5 @@ pub record Told (t : Numbers) (g : Lists) (groups : List (List Fault)) (rows : L
   pub verdicts : List Verdict
   pub names : All (Names (length g.outputs) (length g.operations)) verdicts
   pub few : length verdicts ≤ length groups
-  pub right : StaysHonest wrong_before wrong_now → verdicts ≡ take (length verdicts) (verdicts_of t g groups rows)
+  pub right : StoodStill wrong_before wrong_now → verdicts ≡ take (length verdicts) (verdicts_of t g groups rows)
   pub written : Tells g groups verdicts old new result

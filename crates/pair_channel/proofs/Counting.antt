@@ -12,11 +12,11 @@ use Rattle.pair_channel.specs.declared.pair_end.PairEnd.{PairEnd}
 use Rattle.pair_channel.specs.PairLaws.{OneChannelHonest}
 use Rattle.pair_channel.specs.PairRuns.{PairOutcome, PairOver, FrontOfRun, Disagrees, pair_outcome_for, pair_end_of_run}
 use Rattle.coded_unit.specs.Seen.{UnitSeen}
-use Rattle.pair_channel.specs.PairTurns.{StoodStill}
+use Rattle.coded_unit.specs.Seen.{StaysHonest}
 
 pub front : OneChannelHonest → (g : Lists) (t u : Numbers) (rows : List (List ℤ)) (ours theirs : List (List Answer)) (outputs : List (List ℤ)) (e : PairEnd)
     (x y z w : UnitSeen) → IsGraph g → IsTable t → IsTable u → length rows ≤ most_cycles → PairOver g t u rows ours theirs outputs e x y z w →
-    StoodStill x y ⊎ StoodStill z w → FrontOfRun (record { rows = outputs; end = e }) (graph_run g rows)
+    StaysHonest x y ⊎ StaysHonest z w → FrontOfRun (record { rows = outputs; end = e }) (graph_run g rows)
 front honest g t u rows ours theirs outputs e x y z w graph one two many o (inl still) =
     subst (λ (r : PairOutcome). FrontOfRun r (graph_run g rows)) o.outcome
     (honest.first g t u rows ours theirs graph one many o.all (o.first.honest still.0 still.1))
@@ -25,7 +25,7 @@ front honest g t u rows ours theirs outputs e x y z w graph one two many o (inr 
     (honest.second g t u rows ours theirs graph two many o.all (o.second.honest still.0 still.1))
 
 -- a count that never falls rose, or stood still below its last value
-rose_or_still : (x y : UnitSeen) → x.wrong ≤ y.wrong → Rose x.wrong y.wrong ⊎ StoodStill x y
+rose_or_still : (x y : UnitSeen) → x.wrong ≤ y.wrong → Rose x.wrong y.wrong ⊎ StaysHonest x y
 rose_or_still x y later =
     elim (cases_lt x.wrong (2 ^ 64 - 1)) [
       | inl small ↦ elim (cases_lt x.wrong y.wrong) [
@@ -40,8 +40,8 @@ run_agrees None h = h
 run_agrees (Some s) h = h
 
 rose_case : (g : Lists) (rows : List (List ℤ)) (o : PairOutcome) (e : PairEnd) (x y z w : UnitSeen) →
-    (StoodStill x y → StoodStill z w → o ≡ pair_outcome_for (graph_run g rows)) → o.end ≡ e → Disagrees e → Rose x.wrong y.wrong ⊎ StoodStill x y →
-    Rose z.wrong w.wrong ⊎ StoodStill z w → Rose x.wrong y.wrong ⊎ Rose z.wrong w.wrong
+    (StaysHonest x y → StaysHonest z w → o ≡ pair_outcome_for (graph_run g rows)) → o.end ≡ e → Disagrees e → Rose x.wrong y.wrong ⊎ StaysHonest x y →
+    Rose z.wrong w.wrong ⊎ StaysHonest z w → Rose x.wrong y.wrong ⊎ Rose z.wrong w.wrong
 rose_case g rows o e x y z w honest is apart (inl rose) other = inl rose
 rose_case g rows o e x y z w honest is apart (inr still) (inl rose) = inr rose
 rose_case g rows o e x y z w honest is apart (inr still) (inr too) =

@@ -18,7 +18,8 @@ use Rattle.pair_channel.specs.Beside.{AllBeside, beside}
 use Rattle.pair_channel.specs.PairRuns.{PairSoFar, PairOver, AllPairs, pair_over, pair_row_if, pair_outcome_for, FrontOfRun, Disagrees}
 use Rattle.pair_channel.specs.PairStates.{PairState, fresh_pair}
 use Rattle.coded_unit.specs.Seen.{UnitSeen}
-use Rattle.pair_channel.specs.PairTurns.{PairTurn, PairConcluded, StoodStill}
+use Rattle.coded_unit.specs.Seen.{StaysHonest}
+use Rattle.pair_channel.specs.PairTurns.{PairTurn, PairConcluded}
 
 -- A cycle of a pair whose calls of the first channel a caller made by `next_call` and `put`, and a unit answered, is such a cycle as
 -- `Pair::cycle` promises.
@@ -71,7 +72,7 @@ pub record PairCounts : Type 0 where
   -- where one of the counts stood still, the released rows are the first of the graph's run, and a stop is its stop
   pub front : (g : Lists) (t u : Numbers) (rows : List (List ℤ)) (ours theirs : List (List Answer)) (outputs : List (List ℤ)) (e : PairEnd)
       (x y z w : UnitSeen) → IsGraph g → IsTable t → IsTable u → length rows ≤ most_cycles → PairOver g t u rows ours theirs outputs e x y z w →
-      StoodStill x y ⊎ StoodStill z w → FrontOfRun (record { rows = outputs; end = e }) (graph_run g rows)
+      StaysHonest x y ⊎ StaysHonest z w → FrontOfRun (record { rows = outputs; end = e }) (graph_run g rows)
   -- the channels disagree only where one of the counts rose
   pub rose : (g : Lists) (t u : Numbers) (rows : List (List ℤ)) (ours theirs : List (List Answer)) (outputs : List (List ℤ)) (e : PairEnd)
       (x y z w : UnitSeen) → IsGraph g → IsTable t → IsTable u → length rows ≤ most_cycles → PairOver g t u rows ours theirs outputs e x y z w →

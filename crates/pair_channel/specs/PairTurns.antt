@@ -9,10 +9,6 @@ use Rattle.pair_channel.specs.declared.pair_end.PairEnd.{PairEnd}
 use Rattle.pair_channel.specs.PairEnds.{both, PairCause}
 use Rattle.pair_channel.specs.PairStates.{PairState, after_pair, pair_row_after}
 
--- the count of wrong answers stood still below its last value
-abbrev pub StoodStill : UnitSeen → UnitSeen → Type 0
-StoodStill before now = (now.wrong ≡ before.wrong) × (before.wrong < 2 ^ 64 - 1)
-
 -- A cycle of a pair with no end before, from one state to another: each channel's machine carried one cycle through its unit, and the
 -- pair's end is read off the two ends and the two rows; the caller's row and the pair are as that end leaves them.
 pub record PairTurn (old new : PairState) (row : List ℤ) (e : PairEnd) (out_before out_now : List ℤ)

@@ -24,7 +24,7 @@ use Rattle.pair_channel.specs.declared.pair_end.PairEnd.TheVariants as pair
 use Rattle.pair_channel.specs.PairLaws.{PairCounts, PairRunLaws}
 use Rattle.pair_channel.specs.PairRuns.{PairOutcome, PairOver, FrontOfRun}
 use Rattle.pair_channel.specs.PairStates.{PairState, fresh_pair}
-use Rattle.pair_run.specs.PairDone.{AreFirst, EarlierPairs, OneStoodStill, PairDone, PairRunsTo, nothing_later, outcome_then}
+use Rattle.pair_run.specs.PairDone.{AreFirst, EarlierPairs, OneStaysHonest, PairDone, PairRunsTo, nothing_later, outcome_then}
 use Rattle.pair_run.specs.PairLines.{pair_header, pair_last, pair_text}
 use Rattle.pair_run.specs.PairMoments.{PairMoment}
 use Rattle.pair_run.specs.PairRows.{EarlierRows, PairRows}
@@ -146,7 +146,7 @@ taken_few all rows more is few = let sizes = ap length is in omega (arith, simp 
 
 over_front : PairCounts → (g : Lists) (t u : Numbers) (left : RowsLeft) → Fair g t u left → (taken more : List (List ℤ)) → left.rows ≡ taken ++ more →
     (ours theirs : List (List Answer)) (outputs : List (List ℤ)) (e : PairEnd) (b a : PairMoment) →
-    PairOver g t u taken ours theirs outputs e b.first a.first b.second a.second → OneStoodStill b a →
+    PairOver g t u taken ours theirs outputs e b.first a.first b.second a.second → OneStaysHonest b a →
     FrontOfRun (record { rows = outputs; end = e }) (graph_run g taken)
 over_front counts g t u left fair taken more is ours theirs outputs e b a over still =
     counts.front g t u taken ours theirs outputs e b.first a.first b.second a.second fair.graph fair.first fair.second

@@ -19,7 +19,7 @@ use Rattle.pair_channel.specs.declared.pair_end.PairEnd.TheVariants as pair
 use Rattle.pair_channel.specs.Beside.{AllBeside}
 use Rattle.pair_channel.specs.PairLaws.{OneChannelHonest}
 use Rattle.pair_channel.specs.PairRuns.{PairOutcome, PairOver, FrontOfRun}
-use Rattle.pair_channel.specs.PairTurns.{StoodStill}
+use Rattle.coded_unit.specs.Seen.{StaysHonest}
 use Rattle.pair_run.specs.BesideDone.{BesideDone, BesideLeft, BesideRunsTo, beside_read}
 use Rattle.pair_run.specs.PairDone.{AreFirst, EarlierPairs, PairDone, PairLeft, PairRunsTo, outcome_then}
 use Rattle.pair_run.specs.PairLines.{pair_text}
@@ -50,7 +50,7 @@ module _ (honest : OneChannelHonest) (g : Lists) (t u : Numbers) (left : RowsLef
   abbrev after_unit : Moment
   after_unit = record { unit = now; out = after }
 
-  still : StoodStill processor processor
+  still : StaysHonest processor processor
   still = (refl, omega arith)
 
   -- what is read off the first channel's answers is the outcome

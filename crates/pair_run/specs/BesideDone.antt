@@ -19,7 +19,7 @@ use Rattle.pair_channel.specs.declared.pair_end.PairEnd.{PairEnd}
 use Rattle.pair_channel.specs.declared.pair_end.PairEnd.TheVariants as pair
 use Rattle.pair_channel.specs.Beside.{AllBeside, beside}
 use Rattle.pair_channel.specs.PairRuns.{PairOutcome, FrontOfRun, Disagrees, pair_outcome_for}
-use Rattle.pair_channel.specs.PairTurns.{StoodStill}
+use Rattle.coded_unit.specs.Seen.{StaysHonest}
 use Rattle.pair_run.specs.PairDone.{AreFirst, EarlierPairs, nothing_later, outcome_then}
 use Rattle.pair_run.specs.PairLines.{pair_text}
 
@@ -43,7 +43,7 @@ pub record BesideDone (g : Lists) (t : Numbers) (left : RowsLeft) (before after 
   pub written : Appends before.out.written after.out.written (pair_text g (beside_read g t left.rows cycles) left.refusal)
   pub front : FrontOfRun (beside_read g t left.rows cycles) (graph_run g left.rows)
   pub rose : Disagrees e → Rose before.unit.wrong after.unit.wrong
-  pub honest : StoodStill before.unit after.unit → beside_read g t left.rows cycles ≡ pair_outcome_for (graph_run g left.rows)
+  pub honest : StaysHonest before.unit after.unit → beside_read g t left.rows cycles ≡ pair_outcome_for (graph_run g left.rows)
 
 -- A run that was cut off between two of its cycles, when `more` of its rows weren't taken: `Writes` says how much was written of what is
 -- printed of it, whatever would have come later. The unit was asked nothing more than these cycles' calls.

@@ -18,7 +18,7 @@ use Rattle.machine_run.specs.declared.fault.RunFault.TheVariants as fault
 use Rattle.pair_channel.specs.declared.pair_end.PairEnd.{PairEnd}
 use Rattle.pair_channel.specs.declared.pair_end.PairEnd.TheVariants as pair
 use Rattle.pair_channel.specs.PairRuns.{PairOutcome, PairOver, FrontOfRun, Disagrees}
-use Rattle.pair_channel.specs.PairTurns.{StoodStill}
+use Rattle.coded_unit.specs.Seen.{StaysHonest}
 use Rattle.pair_run.specs.PairLines.{pair_header, pair_text}
 use Rattle.pair_run.specs.PairMoments.{PairMoment}
 
@@ -35,8 +35,8 @@ PairIsThere g (pair.Parted first second) = IsNumbered g first × IsNumbered g se
 PairIsThere g (pair.Differ output first second) = output < length g.outputs
 
 -- no answer of one of the channels was wrong, whichever it is
-abbrev pub OneStoodStill : PairMoment → PairMoment → Type 0
-OneStoodStill before after = StoodStill before.first after.first ⊎ StoodStill before.second after.second
+abbrev pub OneStaysHonest : PairMoment → PairMoment → Type 0
+OneStaysHonest before after = StaysHonest before.first after.first ⊎ StaysHonest before.second after.second
 
 -- these are the first rows of the graph's run on plain integers over these rows of inputs
 abbrev pub AreFirst : Lists → List (List ℤ) → List (List ℤ) → Type 0
@@ -51,7 +51,7 @@ pub record PairDone (g : Lists) (t u : Numbers) (left : RowsLeft) (before after 
   pub outputs : List (List ℤ)
   pub over : PairOver g t u left.rows ours theirs outputs e before.first after.first before.second after.second
   pub written : Appends before.out.written after.out.written (pair_text g (record { rows = outputs; end = e }) left.refusal)
-  pub front : OneStoodStill before after → FrontOfRun (record { rows = outputs; end = e }) (graph_run g left.rows)
+  pub front : OneStaysHonest before after → FrontOfRun (record { rows = outputs; end = e }) (graph_run g left.rows)
   pub rose : Disagrees e → Rose before.first.wrong after.first.wrong ⊎ Rose before.second.wrong after.second.wrong
 
 -- ---- a run that was cut off
@@ -89,7 +89,7 @@ pub record PairLeft (g : Lists) (t u : Numbers) (left : RowsLeft) (Writes : Opti
   pub text : (later : PairOutcome) → (more ≡ [] → later ≡ nothing_later)
       → Writes before.out.written after.out.written (pair_text g (outcome_then (record { rows = outputs; end = end }) later) left.refusal)
   pub earlier : EarlierPairs g outputs before.out after.out
-  pub front : OneStoodStill before after → AreFirst g left.rows outputs
+  pub front : OneStaysHonest before after → AreFirst g left.rows outputs
 
 -- How far a pair's run came: to its end; to a row that is refused; or until writing failed, or memory was wanted, before it began or in it.
 abbrev pub PairRunsTo : Lists → Numbers → Numbers → RowsLeft → PairMoment → PairMoment → Result PairEnd RunFault → Type 0

@@ -14,10 +14,10 @@ use Rattle.vcp_inputs.specs.Files.{Loads, NotLoaded}
 use Rattle.vcp_inputs.specs.Lines.{input_status, input_text, refusal_text}
 use Rattle.vcp_inputs.specs.Programs.{TypedOf, NotTyped}
 use Rattle.vcp_inputs.specs.RowsOutcome.{Opens, RowsOutcome, opened, source_outcome}
-use Rattle.vcp_answer.specs.Abouts.{about}
-use Rattle.vcp_answer.specs.FileTasks.{OnRows, untaken}
-use Rattle.vcp_answer.specs.Kinds.{Task, refusal_task, runs}
-use Rattle.vcp_answer.specs.Performing.{Still, Reaches, done, unmade}
+use Rattle.command_meaning.specs.Abouts.{about}
+use Rattle.command_meaning.specs.FileTasks.{OnRows, untaken}
+use Rattle.command_meaning.specs.Kinds.{Task, refusal_task, runs}
+use Rattle.command_meaning.specs.Performing.{Still, Reaches, done, unmade}
 use Rattle.vcp_outside.specs.Seen.{FilesSeen}
 use Rattle.machine_run.specs.Moments.{Moment}
 use Rattle.vcp_core.specs.Tasks.{DemoTask, summary_job, made_held, made_name}

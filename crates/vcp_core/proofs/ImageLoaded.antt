@@ -12,7 +12,7 @@ use Rattle.signature_table.specs.Signatures.{Numbers, corrections_from, table_of
 use Rattle.vcp_inputs.specs.declared.refusal.Refusal.{Refusal}
 use Rattle.vcp_inputs.specs.declared.refusal.Refusal.TheVariants as refusal
 use Rattle.vcp_inputs.specs.Images.{NotImage, no_image}
-use Rattle.vcp_answer.specs.Answer.{image}
+use Rattle.command_meaning.specs.Answer.{image}
 use Rattle.vcp_core.specs.Tasks.{table_code}
 use Rattle.vcp_core.specs.MachineRun.{CarriesOut}
 

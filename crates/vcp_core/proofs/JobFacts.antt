@@ -20,9 +20,9 @@ use Rattle.machine_run.specs.declared.fault.RunFault.{RunFault}
 use Rattle.machine_run.specs.Leaves.{Leaves}
 use Rattle.machine_run.specs.Moments.{Moment}
 use Rattle.vcp_words.specs.Forms.{Code}
-use Rattle.vcp_answer.specs.Answer.{Subject, source}
-use Rattle.vcp_answer.specs.GraphsOf.{StandsFor}
-use Rattle.vcp_answer.specs.Reports.{end_read, end_told, subject_outputs, run_status}
+use Rattle.command_meaning.specs.Answer.{Subject, source}
+use Rattle.command_meaning.specs.GraphsOf.{StandsFor}
+use Rattle.command_meaning.specs.Reports.{end_read, end_told, subject_outputs, run_status}
 use Rattle.vcp_core.specs.MachineRun.{CarriesOut, IsThere}
 use Rattle.vcp_core.proofs.PlainNames.{inputs-count}
 

@@ -33,13 +33,13 @@ use Rattle.vcp_inputs.specs.Lines.{input_status, input_text, refusal_text}
 use Rattle.vcp_inputs.specs.Refusals.{no_rows}
 use Rattle.vcp_inputs.specs.RowsOutcome.{RowsOutcome, opened, Opens, rows_outcome}
 use Rattle.vcp_inputs.specs.Scripts.{ScriptOf, NotScript, no_script}
-use Rattle.vcp_answer.specs.Abouts.{About, about, FileWord, rows_words, script_word, Among}
-use Rattle.vcp_answer.specs.Answer.{Campaign}
-use Rattle.vcp_answer.specs.CampaignKind.{CampaignDone, CampaignLeft, verdicts_answer, verdicts_meant}
-use Rattle.vcp_answer.specs.Clauses.{IsTooLong}
-use Rattle.vcp_answer.specs.FileTasks.{OnRows, taken}
-use Rattle.vcp_answer.specs.Kinds.{Task, judges, refusal_task}
-use Rattle.vcp_answer.specs.Performing.{Reaches, done, cut, short, unread, unmade, Performs}
+use Rattle.command_meaning.specs.Abouts.{About, about, FileWord, rows_words, script_word, Among}
+use Rattle.command_meaning.specs.Answer.{Campaign}
+use Rattle.command_meaning.specs.CampaignKind.{CampaignDone, CampaignLeft, verdicts_answer, verdicts_meant}
+use Rattle.command_meaning.specs.Clauses.{IsTooLong}
+use Rattle.command_meaning.specs.FileTasks.{OnRows, taken}
+use Rattle.command_meaning.specs.Kinds.{Task, judges, refusal_task}
+use Rattle.command_meaning.specs.Performing.{Reaches, done, cut, short, unread, unmade, Performs}
 use Rattle.vcp_outside.specs.Seen.{FilesSeen, SinkSeen}
 use Rattle.machine_run.specs.Moments.{Moment, moment}
 use Rattle.vcp_core.specs.Tasks.{FewRows, InjectTask, JudgedScript, WholeRows, graph_columns, most_trace}
@@ -244,7 +244,7 @@ module _ (c : Campaign) (unit unit' : UnitSeen) (out out' : SinkSeen) where
     each = told.written.0;
     names = told.names;
     read = refl;
-    honest = λ h. all_of told.verdicts (verdicts_meant c) (told.right (h.same, h.below)) (told.written.0 ∙ sym (length-map c.groups _));
+    honest = λ h. all_of told.verdicts (verdicts_meant c) (told.right h) (told.written.0 ∙ sym (length-map c.groups _));
   }
 
   -- until writing failed
@@ -257,7 +257,7 @@ module _ (c : Campaign) (unit unit' : UnitSeen) (out out' : SinkSeen) where
     text = λ later follows. told.written.0 later follows;
     earlier = told.written.1;
     honest = λ h.
-        let is = told.right (h.same, h.below) in
+        let is = told.right h in
         subst (λ (l : List Verdict). AppendsPart out.written out'.written (campaign_text c.graph c.groups l))
         (sym (left_of told.verdicts (verdicts_meant c) is))
         (told.written.0 (drop (length told.verdicts) (verdicts_meant c))
@@ -281,7 +281,7 @@ module _ (c : Campaign) (unit unit' : UnitSeen) (out out' : SinkSeen) where
     text = λ later follows. lines_front c.graph c.groups told.verdicts later out.written out'.written told.written;
     earlier = earlier_lines told.verdicts told.written;
     honest = λ h.
-        let is = told.right (h.same, h.below) in
+        let is = told.right h in
         subst (λ (l : List Verdict). AppendsFront out.written out'.written (campaign_text c.graph c.groups l))
         (sym (left_of told.verdicts (verdicts_meant c) is))
         (lines_front c.graph c.groups told.verdicts (drop (length told.verdicts) (verdicts_meant c)) out.written out'.written told.written);

@@ -35,14 +35,14 @@ use Rattle.image_file.specs.Image.{image_of}
 use Rattle.signature_table.specs.Signatures.{Numbers, table_of}
 use Rattle.weight_audit.specs.Audit.{most_weights, weights_up_to}
 use Rattle.audit_report.specs.AuditText.{AuditOf}
-use Rattle.vcp_answer.specs.Abouts.{FileWord, about, AllHeld, image_word, rows_words, script_word, source_word, without_unit, Among}
-use Rattle.vcp_answer.specs.Answer.{Answer, Campaign, source, image}
-use Rattle.vcp_answer.specs.FileTasks.{TakenFile, missing, untaken, taken, ParsedFile, TypedFile, ImageFile, ScriptFile, OnRows, TakenRows}
-use Rattle.vcp_answer.specs.Endings.{HasOwnStatus}
-use Rattle.vcp_answer.specs.Kinds.{Task, lacks, answers, compiles, runs, judges, prints, refusal_task, Meant}
-use Rattle.vcp_answer.specs.Reports.{end_told, run_status}
-use Rattle.vcp_answer.specs.RunKind.{Job, job_answer, run_meant}
-use Rattle.vcp_answer.proofs.OneFile.{one_file, file_has}
+use Rattle.command_meaning.specs.Abouts.{FileWord, about, AllHeld, image_word, rows_words, script_word, source_word, without_unit, Among}
+use Rattle.command_meaning.specs.Answer.{Answer, Campaign, source, image}
+use Rattle.command_meaning.specs.FileTasks.{TakenFile, missing, untaken, taken, ParsedFile, TypedFile, ImageFile, ScriptFile, OnRows, TakenRows}
+use Rattle.command_meaning.specs.Endings.{HasOwnStatus}
+use Rattle.command_meaning.specs.Kinds.{Task, lacks, answers, compiles, runs, judges, prints, refusal_task, Meant}
+use Rattle.command_meaning.specs.Reports.{end_told, run_status}
+use Rattle.command_meaning.specs.RunKind.{Job, job_answer, run_meant}
+use Rattle.command_meaning.proofs.OneFile.{one_file, file_has}
 use Rattle.vcp_core.specs.Tasks.{Audited, too_large, printed, FewRows, too_many, few, JudgedScript, WholeRows}
 use Rattle.vcp_core.specs.Tasks.{AuditTask, TaskOf, PlainTask, RunTask, graph_columns, plain_answer, rows_job, summary_job, words_job, ok_text}
 use Rattle.vcp_core.specs.Tasks.{made_held, made_name, most_trace, table_code, listing, widened}

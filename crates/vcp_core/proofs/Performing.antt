@@ -19,14 +19,14 @@ use Rattle.vcp_inputs.specs.declared.refusal.NoInput.TheVariants as input
 use Rattle.vcp_inputs.specs.Files.{NotLoaded, long, short}
 use Rattle.vcp_inputs.specs.Lines.{input_text, input_status, memory_text, refusal_text, rows_text, write_fault_text}
 use Rattle.vcp_inputs.specs.Refusals.{no_rows}
-use Rattle.vcp_answer.specs.Answer.{printed}
-use Rattle.vcp_answer.specs.Abouts.{Among, About, FileWord}
-use Rattle.vcp_answer.specs.Clauses.{IsEnd, IsTooLong, MayHold}
-use Rattle.vcp_answer.specs.FileTasks.{TakenFile, missing, taken, untaken}
-use Rattle.vcp_answer.specs.Kinds.{Task, lacks, lack_answer, refusal_task, runs, Done, Left}
-use Rattle.vcp_answer.specs.Performing.{Still, Reaches, done, cut, unread, unmade, Performs}
-use Rattle.vcp_answer.specs.Performing as reached
-use Rattle.vcp_answer.specs.RunKind.{Job}
+use Rattle.command_meaning.specs.Answer.{printed}
+use Rattle.command_meaning.specs.Abouts.{Among, About, FileWord}
+use Rattle.command_meaning.specs.Clauses.{IsEnd, IsTooLong, MayHold}
+use Rattle.command_meaning.specs.FileTasks.{TakenFile, missing, taken, untaken}
+use Rattle.command_meaning.specs.Kinds.{Task, lacks, lack_answer, refusal_task, runs, Done, Left}
+use Rattle.command_meaning.specs.Performing.{Still, Reaches, done, cut, unread, unmade, Performs}
+use Rattle.command_meaning.specs.Performing as reached
+use Rattle.command_meaning.specs.RunKind.{Job}
 use Rattle.vcp_core.specs.declared.ending.Ending.{Ending}
 use Rattle.vcp_core.specs.declared.ending.Ending.TheVariants as end
 use Rattle.vcp_core.specs.MachineRun.{RunsTo}

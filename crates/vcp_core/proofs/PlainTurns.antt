@@ -12,7 +12,7 @@ use Rattle.input_rows.specs.declared.fault.RowFault.{RowFault}
 use Rattle.input_rows.specs.RowsOf.{RowsLeft}
 use Rattle.run_report.specs.Lines.{header_text, row_text, end_text}
 use Rattle.machine_run.specs.RowRuns.{texts_from}
-use Rattle.vcp_answer.specs.Reports.{output_names}
+use Rattle.command_meaning.specs.Reports.{output_names}
 use Rattle.machine_run.specs.declared.fault.RunFault.{RunFault}
 use Rattle.machine_run.specs.declared.fault.RunFault.TheVariants as fault
 use Rattle.vcp_core.specs.declared.ending.Ending.{Ending}

@@ -22,11 +22,11 @@ use Rattle.machine_run.specs.declared.fault.RunFault.{RunFault}
 use Rattle.machine_run.specs.declared.fault.RunFault.TheVariants as given_up
 use Rattle.machine_run.specs.RowRuns.{texts_from, IsFront, CameToEnd, RunsRows}
 use Rattle.vcp_inputs.specs.Lines.{rows_text}
-use Rattle.vcp_answer.specs.GraphsOf.{MayRun}
-use Rattle.vcp_answer.specs.Reports.{RunEnd, complete, stopped, refused, end_told, end_read, told_of, subject_outputs, behind_text, run_status}
+use Rattle.command_meaning.specs.GraphsOf.{MayRun}
+use Rattle.command_meaning.specs.Reports.{RunEnd, complete, stopped, refused, end_told, end_read, told_of, subject_outputs, behind_text, run_status}
 use Rattle.vcp_core.specs.EndLines.{last_text}
-use Rattle.vcp_answer.specs.Printing.{Report, Printing, every_row, goes_on, no_report, run_text, run_then, last_part}
-use Rattle.vcp_answer.specs.RunKind.{Job, RunLeft, numbers, calls_of, run_read, run_meant, job_answer}
+use Rattle.command_meaning.specs.Printing.{Report, Printing, every_row, goes_on, no_report, run_text, run_then, last_part}
+use Rattle.command_meaning.specs.RunKind.{Job, RunLeft, numbers, calls_of, run_read, run_meant, job_answer}
 use Rattle.machine_run.specs.Moments.{Moment, moment}
 use Rattle.vcp_core.specs.declared.ending.Ending.{Ending}
 use Rattle.vcp_core.specs.Reach.{end_status}
@@ -143,7 +143,7 @@ module _ (j : Job) (g : Lists) (may : MayRun j.subject g) (agrees : told_graph g
           all = came.all;
           log = carried.told;
           read = refl;
-          honest = λ h. read-meant cycles (carried.honest h.same h.below) came.all (follows h.same h.below);
+          honest = λ h. read-meant cycles (carried.honest h.0 h.1) came.all (follows h.0 h.1);
         },
         subst (λ (l : List ℕ). Appends s0.written s3.written l) (sym text) w,
         ap (λ (x : CycleEnd). behind_text j.rows_name (end_read g x) j.rows.refusal) came.end_is,
@@ -207,7 +207,7 @@ module _ (j : Job) (g : Lists) (may : MayRun j.subject g) (agrees : told_graph g
             let m = earlier-rows g t 0 j.rows.rows run.cycles earlier last run.some is in
             earlier-written run.cycles s0.written s2.written [] (subst (λ (l : List ℕ). Appends s0.written s2.written l)
             (sym (append-nil (front_of run.cycles))) w) earlier m.0 m.1;
-        honest = λ h. let m = meant-front o (run.follows h.same h.below) in front-of s0.written s2.written (front_of run.cycles) m.0 _ w m.1;
+        honest = λ h. let m = meant-front o (run.follows h.0 h.1) in front-of s0.written s2.written (front_of run.cycles) m.0 _ w m.1;
       }
 
   -- a row of outputs couldn't be written
@@ -229,7 +229,7 @@ module _ (j : Job) (g : Lists) (may : MayRun j.subject g) (agrees : told_graph g
             (later-text j.printing names o.rows (end_read g o.end) (j.words.read run.cycles) later j.rows.refusal (ap (end_read g) run.given_up));
         earlier = λ earlier last is. let m = earlier_lines earlier last is in
             (m.0, append-all s0.written s1.written s2.written j.printing.header _ _ head m.1 (append_assoc j.printing.header _ m.0));
-        honest = λ h. let m = meant-front o (run.follows h.same h.below) in part-of s0.written s2.written (front_of run.cycles) m.0 _ w m.1;
+        honest = λ h. let m = meant-front o (run.follows h.0 h.1) in part-of s0.written s2.written (front_of run.cycles) m.0 _ w m.1;
       }
 
   -- a row is refused behind the others
@@ -297,7 +297,7 @@ module _ (j : Job) (g : Lists) (may : MayRun j.subject g) (agrees : told_graph g
               earlier-written run.cycles s0.written s3.written front (append-all s0.written s2.written s3.written (front_of run.cycles) front _
               rows-written taken refl) earlier m.0 m.1;
           honest = λ h. subst (λ (r : Report). AppendsPart s0.written s3.written (job_answer j r).out)
-              (read-meant run.cycles (run.carried.honest h.same h.below) came.all (run.follows h.same h.below)) whole;
+              (read-meant run.cycles (run.carried.honest h.0 h.1) came.all (run.follows h.0 h.1)) whole;
         }
 
     -- the last part was written

@@ -12,7 +12,7 @@ use Rattle.graph_passes.specs.SameRun.{MeansAs, SameEnd, SamePlace}
 use Rattle.flat_expr.specs.Told.{Means, Told, graph_end, halted_at, told_graph}
 use Rattle.vcp_typed.specs.Size.{size}
 use Rattle.vcp_typed.specs.SourceRun.{Program}
-use Rattle.vcp_answer.specs.GraphsOf.{StandsFor}
+use Rattle.command_meaning.specs.GraphsOf.{StandsFor}
 
 abbrev told : List (List ℤ) → Option ToldStop → Told
 told rows end = record { rows = rows; end = end }

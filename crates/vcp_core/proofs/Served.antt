@@ -2,13 +2,14 @@
 use Rattle.std.proofs.Common.{ℕ, ◌≡◌, inl, inr, subst, List, Option, IfSome}
 use Rattle.vcp_outside.specs.Held.{Held}
 use Rattle.vcp_words.specs.Forms.{Form}
-use Rattle.vcp_answer.specs.Abouts.{about, AllHeld, without_unit}
-use Rattle.vcp_answer.specs.Answer.{Answer}
-use Rattle.vcp_answer.specs.Clauses.{AsPlain, MayHold, Serves}
-use Rattle.vcp_answer.specs.Endings.{Answered, Came, Causes, GivenUp, HasOwnStatus, IsNoFault, known, given_up, unread, unmade}
-use Rattle.vcp_answer.specs.Kinds.{Task, answers, lacks, Meant}
-use Rattle.vcp_answer.specs.Seen.{Outside, IsHonest}
-use Rattle.vcp_answer.proofs.Performed.{IsMeaning}
+use Rattle.command_meaning.specs.Abouts.{about, AllHeld, without_unit}
+use Rattle.command_meaning.specs.Answer.{Answer}
+use Rattle.command_meaning.specs.Clauses.{AsPlain, MayHold, Serves}
+use Rattle.command_meaning.specs.Endings.{Answered, Came, Causes, GivenUp, HasOwnStatus, IsNoFault, known, given_up, unread, unmade}
+use Rattle.command_meaning.specs.Kinds.{Task, answers, lacks, Meant}
+use Rattle.coded_unit.specs.Seen.{StaysHonest}
+use Rattle.command_meaning.specs.Seen.{Outside}
+use Rattle.command_meaning.proofs.Performed.{IsMeaning}
 use Rattle.vcp_core.specs.Tasks.{TaskOf}
 use Rattle.vcp_core.proofs.Facts.{if_some_always, if_some_weaker}
 
@@ -28,7 +29,7 @@ gave_no_answer f before after status (unmade u (inr told)) fine = fine.sinks tol
 -- the answer of a command came, with an honest unit, but for 5, 6 and 7
 abbrev Comes_as : Held → Outside → Outside → ℕ → Form → Type 0
 Comes_as held before after status g =
-    (x : Answer) → TaskOf g held (answers x) → IsHonest before.unit after.unit → IsNoFault status → Came x before after status
+    (x : Answer) → TaskOf g held (answers x) → StaysHonest before.unit after.unit → IsNoFault status → Came x before after status
 
 module _ (plain : (f : Form) (held : Held) (task : Task) → TaskOf f held task →
     IfSome (without_unit f) (λ g. (x y : Answer) → TaskOf g held (answers x) → Meant task y → y ≡ x)) where

@@ -5,8 +5,8 @@ use Rattle.vcp_outside.specs.Held.{Held}
 use Rattle.vcp_typed.specs.Size.{size}
 use Rattle.vcp_typed.specs.SourceRun.{Program}
 use Rattle.vcp_inputs.specs.Programs.{TypedOf}
-use Rattle.vcp_answer.specs.FileTasks.{taken}
-use Rattle.vcp_answer.specs.Kinds.{prints}
+use Rattle.command_meaning.specs.FileTasks.{taken}
+use Rattle.command_meaning.specs.Kinds.{prints}
 use Rattle.vcp_core.specs.Tasks.{ok_text, CheckTask}
 
 pub sized : (p : List ℕ) (held : Held) (t : Program) (n : ℕ) → ((text : List ℕ) × (held p ≡ Some text) × (length text ≤ most_source_bytes) × TypedOf text t)

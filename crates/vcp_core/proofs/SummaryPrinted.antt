@@ -6,11 +6,11 @@ use Rattle.input_rows.specs.declared.fault.RowFault.{RowFault}
 use Rattle.op_graph.specs.Lists.{Lists}
 use Rattle.coded_machine.specs.declared.cycle_end.CycleEnd.{CycleEnd}
 use Rattle.coded_machine.specs.declared.cycle_end.CycleEnd.TheVariants as cycle
-use Rattle.vcp_answer.specs.Reports.{RunEnd, complete, end_read, refused, stopped}
+use Rattle.command_meaning.specs.Reports.{RunEnd, complete, end_read, refused, stopped}
 use Rattle.vcp_core.specs.EndLines.{last_text, summary_then}
 use Rattle.run_report.specs.SummaryLine.{summary_text}
-use Rattle.vcp_answer.specs.Printing.{Report, last_part, summed_up}
-use Rattle.vcp_answer.specs.Sums.{last_value}
+use Rattle.command_meaning.specs.Printing.{Report, last_part, summed_up}
+use Rattle.command_meaning.specs.Sums.{last_value}
 use Rattle.vcp_core.specs.declared.ending.Ending.{Ending}
 use Rattle.vcp_core.specs.MachineRun.{IsThere, PrintsEnd}
 use Rattle.vcp_core.specs.SummaryRun.{AreSums, PrintsSummary, summed_text}

@@ -4,7 +4,7 @@ use Rattle.std.proofs.Common.{arith}
 use Rattle.std.proofs.lemmas.Int.{ints}
 use Rattle.std.proofs.lemmas.List.{length-append}
 use Rattle.std.specs.Int.{saturate_signed, w128}
-use Rattle.vcp_answer.specs.Sums.{first_value, last_value, sum_of}
+use Rattle.command_meaning.specs.Sums.{first_value, last_value, sum_of}
 use Rattle.vcp_core.specs.SummaryRun.{AreSums, KeepsSums}
 
 last-behind : (rows : List (List ℤ)) (row : List ℤ) → last_value (rows ++ row ∷ []) ≡ first_value row

@@ -9,8 +9,8 @@ use Rattle.vcp_outside.specs.declared.failed.Failed.{Failed}
 use Rattle.coded_machine.specs.declared.cycle_end.CycleEnd.{CycleEnd}
 use Rattle.coded_machine.specs.declared.cycle_end.CycleEnd.TheVariants as cycle
 use Rattle.coded_machine.specs.State.{State}
-use Rattle.vcp_answer.specs.CycleWords.{word_lines}
-use Rattle.vcp_answer.specs.Reports.{RunEnd, complete, end_read, refused, stopped}
+use Rattle.command_meaning.specs.CycleWords.{word_lines}
+use Rattle.command_meaning.specs.Reports.{RunEnd, complete, end_read, refused, stopped}
 use Rattle.vcp_core.specs.EndLines.{last_text, words_then}
 use Rattle.vcp_core.specs.declared.ending.Ending.{Ending}
 use Rattle.vcp_core.specs.MachineRun.{IsThere, PrintsEnd}

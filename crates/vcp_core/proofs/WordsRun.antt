@@ -19,12 +19,12 @@ use Rattle.coded_machine.specs.State.{State}
 use Rattle.machine_run.specs.Leaves.{MachineAfter, last_answers}
 use Rattle.machine_run.specs.Moments.{moment}
 use Rattle.machine_run.specs.RowRuns.{RunsRows}
-use Rattle.vcp_answer.specs.Answer.{image}
-use Rattle.vcp_answer.specs.CycleWords.{word_lines, words_among, words_in, words_meant}
-use Rattle.vcp_answer.specs.Reports.{RunEnd, complete, end_read, subject_outputs, refused, stopped}
+use Rattle.command_meaning.specs.Answer.{image}
+use Rattle.command_meaning.specs.CycleWords.{word_lines, words_among, words_in, words_meant}
+use Rattle.command_meaning.specs.Reports.{RunEnd, complete, end_read, subject_outputs, refused, stopped}
 use Rattle.vcp_core.specs.EndLines.{words_then}
-use Rattle.vcp_answer.specs.Printing.{each_word, last_part}
-use Rattle.vcp_answer.specs.RunKind.{run_read}
+use Rattle.command_meaning.specs.Printing.{each_word, last_part}
+use Rattle.command_meaning.specs.RunKind.{run_read}
 use Rattle.vcp_words.specs.Forms.{Code}
 use Rattle.vcp_core.specs.Tasks.{words_job, table_code}
 use Rattle.vcp_core.specs.MachineRun.{IsThere}

@@ -1,5 +1,5 @@
 -- Bytes that were written in one step and then another.
-use Rattle.std.proofs.Common.{◌≡◌, ℕ, ◌≤◌, Result, Ok, Err, arith, length-append, List, ◌++◌, Option, append_assoc}
+use Rattle.std.proofs.Common.{◌≡◌, ℕ, ◌≤◌, Result, Ok, Err, arith, length-append, List, ◌++◌, Option, append_assoc, ◌∙◌}
 use Rattle.std.proofs.KnownBytes.{Appends-trans}
 use Rattle.std.specs.Io.KnownBytes.{Appends}
 use Rattle.vcp_outside.specs.Counts.{last_count}
@@ -23,6 +23,7 @@ failed_after e a b c f g h p q more all before later capped failure is = record 
   cause = record {
     later = omega (arith, failure.cause.later);
     capped = λ within. failure.cause.capped (capped within);
+    stayed = tt;
     failed = omega (arith, failure.cause.failed);
   };
 }
@@ -40,6 +41,7 @@ writes-on x y z a b c f g h p q all before next is = record {
   cause = record {
     later = omega (arith, before.cause.later, next.cause.later);
     capped = λ within. next.cause.capped (before.cause.capped within);
+    stayed = next.cause.stayed ∙ before.cause.stayed;
     failed = tt;
   };
 }
@@ -49,4 +51,4 @@ pub writes-fail : {T E : Type 0} (x : T) (e d : E) (a b c : Option (List ℕ)) (
     → Writes {T = T} b c g h q (Err e) → all ≡ p ++ q ++ more → Writes {T = T} a c f h all (Err d)
 writes-fail x e d a b c f g h p q more all before failure is =
     let w = failed_after e a b c f g h p q more all before.whole before.cause.later before.cause.capped failure is in
-    record { whole = tt; part = w.part; cause = record { later = w.cause.later; capped = w.cause.capped; failed = w.cause.failed } }
+    record { whole = tt; part = w.part; cause = record { later = w.cause.later; capped = w.cause.capped; stayed = tt; failed = w.cause.failed } }

@@ -5,7 +5,7 @@ use Rattle.op_graph.specs.Lists.{Lists}
 use Rattle.image_file.specs.Image.{image_of}
 use Rattle.vcp_typed.specs.SourceRun.{Program}
 use Rattle.vcp_words.specs.Forms.{Code}
-use Rattle.vcp_answer.specs.GraphsOf.{MayCompile}
+use Rattle.command_meaning.specs.GraphsOf.{MayCompile}
 
 -- bytes are the image of a graph that may stand for the program
 abbrev pub IsImageFor : Program → Code → List ℕ → Type 0

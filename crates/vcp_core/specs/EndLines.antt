@@ -3,7 +3,7 @@ use Rattle.std.specs.Prelude.{ℕ, ℤ, List, [], ◌++◌, slice_index_or, Opti
 use Rattle.input_rows.specs.declared.fault.RowFault.{RowFault}
 use Rattle.run_report.specs.Lines.{end_text, stop_text, refused_text}
 use Rattle.run_report.specs.SummaryLine.{summary_text}
-use Rattle.vcp_answer.specs.Reports.{RunEnd, complete, stopped, refused}
+use Rattle.command_meaning.specs.Reports.{RunEnd, complete, stopped, refused}
 
 -- the last line of a run of so many cycles: its stop, the output that is refused, or its end; none where the next row is refused
 abbrev pub last_text : List (List ℕ) → ℕ → RunEnd → Option RowFault → List ℕ

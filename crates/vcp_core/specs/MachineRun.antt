@@ -16,12 +16,12 @@ use Rattle.machine_run.specs.declared.fault.RunFault.{RunFault}
 use Rattle.machine_run.specs.declared.fault.RunFault.TheVariants as run
 use Rattle.vcp_inputs.specs.Lines.{input_status, input_text}
 use Rattle.vcp_inputs.specs.Refusals.{no_rows}
-use Rattle.vcp_answer.specs.Answer.{Answer, Subject}
-use Rattle.vcp_answer.specs.GraphsOf.{MayRun}
-use Rattle.vcp_answer.specs.Performing.{Still}
-use Rattle.vcp_answer.specs.Reports.{end_read, subject_outputs, run_status, told_of}
+use Rattle.command_meaning.specs.Answer.{Answer, Subject}
+use Rattle.command_meaning.specs.GraphsOf.{MayRun}
+use Rattle.command_meaning.specs.Performing.{Still}
+use Rattle.command_meaning.specs.Reports.{end_read, subject_outputs, run_status, told_of}
 use Rattle.vcp_core.specs.EndLines.{last_text}
-use Rattle.vcp_answer.specs.RunKind.{Job, RunDone, RunLeft}
+use Rattle.command_meaning.specs.RunKind.{Job, RunDone, RunLeft}
 use Rattle.machine_run.specs.Moments.{Moment}
 use Rattle.vcp_core.specs.declared.ending.Ending.{Ending}
 use Rattle.vcp_core.specs.Reach.{end_status}

@@ -12,7 +12,7 @@ use Rattle.input_rows.specs.declared.fault.RowFault.TheVariants as row
 use Rattle.input_rows.specs.RowsOf.{RowsLeft}
 use Rattle.machine_run.specs.RowRuns.{texts_from}
 use Rattle.run_report.specs.Lines.{header_text, row_text, stop_text}
-use Rattle.vcp_answer.specs.Reports.{end_told, output_names}
+use Rattle.command_meaning.specs.Reports.{end_told, output_names}
 use Rattle.vcp_core.specs.EndLines.{last_text}
 use Rattle.machine_run.specs.declared.fault.RunFault.{RunFault}
 use Rattle.machine_run.specs.declared.fault.RunFault.TheVariants as fault

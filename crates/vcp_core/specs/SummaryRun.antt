@@ -8,9 +8,9 @@ use Rattle.vcp_outside.specs.Written.{AppendsPart}
 use Rattle.vcp_outside.specs.declared.failed.Failed.{Failed}
 use Rattle.op_graph.specs.Lists.{Lists}
 use Rattle.coded_machine.specs.declared.cycle_end.CycleEnd.{CycleEnd}
-use Rattle.vcp_answer.specs.Reports.{end_read, run_status}
+use Rattle.command_meaning.specs.Reports.{end_read, run_status}
 use Rattle.vcp_core.specs.EndLines.{summary_then}
-use Rattle.vcp_answer.specs.Sums.{last_value, sum_of}
+use Rattle.command_meaning.specs.Sums.{last_value, sum_of}
 use Rattle.vcp_core.specs.declared.ending.Ending.{Ending}
 use Rattle.vcp_core.specs.Reach.{end_status}
 

@@ -25,12 +25,12 @@ use Rattle.vcp_inputs.specs.declared.images.Image.{Image}
 use Rattle.vcp_inputs.specs.declared.refusal.Refusal.TheVariants as refusal
 use Rattle.vcp_inputs.specs.declared.rows.RowsSource.TheVariants as origin
 use Rattle.vcp_inputs.specs.RowsOutcome.{source_outcome}
-use Rattle.vcp_answer.specs.Answer.{Answer, Subject, source, image}
-use Rattle.vcp_answer.specs.FileTasks.{ParsedFile, TypedFile, ImageFile, ScriptFile, TakenRows, OnRows}
-use Rattle.vcp_answer.specs.Kinds.{Task, answers, compiles, runs, judges, prints, refusal_task}
-use Rattle.vcp_answer.specs.Printing.{every_row, each_word, summed_up, no_words, cycle_words, told_answer}
-use Rattle.vcp_answer.specs.Reports.{end_told, subject_outputs, output_names}
-use Rattle.vcp_answer.specs.RunKind.{Job}
+use Rattle.command_meaning.specs.Answer.{Answer, Subject, source, image}
+use Rattle.command_meaning.specs.FileTasks.{ParsedFile, TypedFile, ImageFile, ScriptFile, TakenRows, OnRows}
+use Rattle.command_meaning.specs.Kinds.{Task, answers, compiles, runs, judges, prints, refusal_task}
+use Rattle.command_meaning.specs.Printing.{every_row, each_word, summed_up, no_words, cycle_words, told_answer}
+use Rattle.command_meaning.specs.Reports.{end_told, subject_outputs, output_names}
+use Rattle.command_meaning.specs.RunKind.{Job}
 
 -- ---- what single commands print and name, and their limits
 

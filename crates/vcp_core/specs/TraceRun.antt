@@ -7,8 +7,8 @@ use Rattle.vcp_outside.specs.Written.{AppendsPart}
 use Rattle.vcp_outside.specs.declared.failed.Failed.{Failed}
 use Rattle.coded_machine.specs.declared.cycle_end.CycleEnd.{CycleEnd}
 use Rattle.coded_machine.specs.State.{State}
-use Rattle.vcp_answer.specs.CycleWords.{word_lines, words_among}
-use Rattle.vcp_answer.specs.Reports.{end_read, run_status}
+use Rattle.command_meaning.specs.CycleWords.{word_lines, words_among}
+use Rattle.command_meaning.specs.Reports.{end_read, run_status}
 use Rattle.vcp_core.specs.EndLines.{words_then}
 use Rattle.vcp_core.specs.declared.ending.Ending.{Ending}
 use Rattle.vcp_core.specs.Reach.{end_status}

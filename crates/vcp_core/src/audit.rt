@@ -7,8 +7,8 @@ ghost use Rattle.weight_audit.specs.Audit.{most_weights, weights_up_to, IsAudit}
 ghost use Rattle.vcp_words.specs.Forms.{audit};
 ghost use Rattle.vcp_inputs.specs.declared.refusal.NoInput.TheVariants as input;
 ghost use Rattle.vcp_inputs.specs.declared.refusal.Refusal.TheVariants as refusal;
-ghost use Rattle.vcp_answer.specs.Abouts.{about};
-ghost use Rattle.vcp_answer.specs.Performing.{Performs};
+ghost use Rattle.command_meaning.specs.Abouts.{about};
+ghost use Rattle.command_meaning.specs.Performing.{Performs};
 ghost use Rattle.coded_unit.specs.Seen.{UnitSeen};
 ghost use Rattle.machine_run.specs.Moments.{moment};
 ghost use Rattle.vcp_core.specs.Tasks.{AuditTask};

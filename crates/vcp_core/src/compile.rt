@@ -3,8 +3,8 @@
 ghost use Rattle.std.specs.Prelude.{IfOk, List, Option, ℕ};
 ghost use Rattle.vcp_words.specs.Forms.{compile, as_code, IsCode};
 ghost use Rattle.vcp_core.specs.Compile.{IsImageFor};
-ghost use Rattle.vcp_answer.specs.Abouts.{about};
-ghost use Rattle.vcp_answer.specs.Performing.{Performs};
+ghost use Rattle.command_meaning.specs.Abouts.{about};
+ghost use Rattle.command_meaning.specs.Performing.{Performs};
 ghost use Rattle.coded_unit.specs.Seen.{UnitSeen};
 ghost use Rattle.machine_run.specs.Moments.{moment};
 ghost use Rattle.vcp_core.specs.Tasks.{CompileTask};

@@ -1,7 +1,7 @@
 //! The graph that stands for a program.
 
 ghost use Rattle.std.specs.Prelude.{IfOk};
-ghost use Rattle.vcp_answer.specs.GraphsOf.{StandsFor};
+ghost use Rattle.command_meaning.specs.GraphsOf.{StandsFor};
 
 use flat_stmt::flatten;
 use graph_passes::reduce;

@@ -4,8 +4,8 @@ ghost use Rattle.std.specs.Prelude.{◌≡◌, ◌≤◌, All, IfErr, IfOk, leng
 ghost use Rattle.vcp_base.specs.Limits.{most_cycles, most_names};
 ghost use Rattle.vcp_words.specs.Forms.{inject, rows_of, AreFew};
 ghost use Rattle.vcp_inputs.specs.RowsOutcome.{HasFewCycles, source_outcome};
-ghost use Rattle.vcp_answer.specs.Abouts.{about};
-ghost use Rattle.vcp_answer.specs.Performing.{Performs};
+ghost use Rattle.command_meaning.specs.Abouts.{about};
+ghost use Rattle.command_meaning.specs.Performing.{Performs};
 ghost use Rattle.machine_run.specs.Moments.{moment};
 ghost use Rattle.vcp_core.specs.Tasks.{InjectTask};
 ghost use Rattle.vcp_core.specs.Inject.{AllRows, NoRows};

@@ -12,11 +12,11 @@ ghost use Rattle.image_file.specs.Image.{image_of};
 ghost use Rattle.weight_audit.specs.Audit.{most_weights, weights_up_to};
 ghost use Rattle.audit_report.specs.AuditText.{AuditOf};
 ghost use Rattle.vcp_words.specs.Forms.{Form};
-ghost use Rattle.vcp_answer.specs.Abouts.{about, AllHeld, without_unit};
-ghost use Rattle.vcp_answer.specs.Answer.{Answer};
-ghost use Rattle.vcp_answer.specs.FileTasks.{ImageFile};
-ghost use Rattle.vcp_answer.specs.Endings.{HasOwnStatus};
-ghost use Rattle.vcp_answer.specs.Kinds.{Task, answers, lacks, prints, Meant};
+ghost use Rattle.command_meaning.specs.Abouts.{about, AllHeld, without_unit};
+ghost use Rattle.command_meaning.specs.Answer.{Answer};
+ghost use Rattle.command_meaning.specs.FileTasks.{ImageFile};
+ghost use Rattle.command_meaning.specs.Endings.{HasOwnStatus};
+ghost use Rattle.command_meaning.specs.Kinds.{Task, answers, lacks, prints, Meant};
 ghost use Rattle.vcp_core.specs.Tasks.{AuditTask, TaskOf, widened};
 ghost use Rattle.vcp_core.specs.StaleSeen.{StaleShows};
 

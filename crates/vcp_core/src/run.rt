@@ -1,8 +1,8 @@
 //! The command `run`, up to the line of its fault.
 
 ghost use Rattle.vcp_words.specs.Forms.{run, rows_of, as_code, AreFew, IsCode};
-ghost use Rattle.vcp_answer.specs.Abouts.{about};
-ghost use Rattle.vcp_answer.specs.Performing.{Performs};
+ghost use Rattle.command_meaning.specs.Abouts.{about};
+ghost use Rattle.command_meaning.specs.Performing.{Performs};
 ghost use Rattle.machine_run.specs.Moments.{moment};
 ghost use Rattle.vcp_core.specs.Tasks.{RunTask};
 ghost use Rattle.vcp_core.specs.Reach.{told_line, told_status};

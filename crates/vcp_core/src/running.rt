@@ -10,7 +10,7 @@ ghost use Rattle.run_report.specs.Lines.{row_text};
 ghost use Rattle.machine_run.specs.Stops.{GrowsToStop};
 ghost use Rattle.signature_table.specs.Signatures.{IsTableOf};
 ghost use Rattle.vcp_words.specs.Forms.{Code as CodeOf, as_code, IsCode};
-ghost use Rattle.vcp_answer.specs.Answer.{Subject, source};
+ghost use Rattle.command_meaning.specs.Answer.{Subject, source};
 ghost use Rattle.machine_run.specs.Moments.{moment};
 ghost use Rattle.vcp_core.specs.Tasks.{rows_job};
 ghost use Rattle.vcp_core.specs.MachineRun.{CarriesOut, RunsTo, IsThere, PrintsEnd};

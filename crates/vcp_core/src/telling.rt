@@ -2,7 +2,7 @@
 
 ghost use Rattle.std.specs.Prelude.{◌≡◌};
 ghost use Rattle.vcp_outside.specs.Written.{WritesTo};
-ghost use Rattle.vcp_words.specs.Usage.{usage_text};
+ghost use Rattle.vcp_words.specs.Forms.{usage_text};
 ghost use Rattle.vcp_core.specs.Reach.{fault_text, fault_status as status_of_fault};
 
 use crate::fault::Fault;

@@ -3,11 +3,11 @@
 ghost use Rattle.std.specs.Prelude.{◌≡◌, ◌≢◌, ◌≤◌, IfSome, None};
 ghost use Rattle.vcp_outside.specs.Held.{Held};
 ghost use Rattle.vcp_words.specs.Forms.{form, form_of, IsSound};
-ghost use Rattle.vcp_answer.specs.Abouts.{about};
-ghost use Rattle.vcp_answer.specs.Clauses.{AsPlain, GetsUsage, Keeps, MayHold, Serves};
-ghost use Rattle.vcp_answer.specs.Performing.{Performs};
+ghost use Rattle.command_meaning.specs.Abouts.{about};
+ghost use Rattle.command_meaning.specs.Clauses.{AsPlain, GetsUsage, Keeps, MayHold, Serves};
+ghost use Rattle.command_meaning.specs.Performing.{Performs};
 ghost use Rattle.machine_run.specs.Moments.{moment};
-ghost use Rattle.vcp_answer.specs.Seen.{outside};
+ghost use Rattle.command_meaning.specs.Seen.{outside};
 ghost use Rattle.fault_runs.specs.AcceptedRuns.{AcceptedIsReleased};
 ghost use Rattle.vcp_core.specs.Tasks.{TaskOf};
 ghost use Rattle.vcp_core.specs.Reach.{told_line, told_status};

@@ -3,8 +3,8 @@
 ghost use Rattle.std.specs.Prelude.{◌<◌};
 ghost use Rattle.vcp_base.specs.Limits.{most_cycles};
 ghost use Rattle.vcp_words.specs.Forms.{trace, rows_of, AreFew};
-ghost use Rattle.vcp_answer.specs.Abouts.{about};
-ghost use Rattle.vcp_answer.specs.Performing.{Performs};
+ghost use Rattle.command_meaning.specs.Abouts.{about};
+ghost use Rattle.command_meaning.specs.Performing.{Performs};
 ghost use Rattle.machine_run.specs.Moments.{moment};
 ghost use Rattle.vcp_core.specs.Tasks.{TraceTask};
 ghost use Rattle.vcp_core.specs.Reach.{told_line, told_status};

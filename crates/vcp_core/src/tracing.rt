@@ -8,7 +8,7 @@ ghost use Rattle.input_rows.specs.RowsOf.{IsOfRecord};
 ghost use Rattle.signature_table.specs.Signatures.{table_of};
 ghost use Rattle.coded_machine.specs.Calls.{Whole};
 ghost use Rattle.machine_run.specs.Stops.{GrowsToStop};
-ghost use Rattle.vcp_answer.specs.CycleWords.{word_lines, words_among};
+ghost use Rattle.command_meaning.specs.CycleWords.{word_lines, words_among};
 ghost use Rattle.machine_run.specs.Moments.{moment};
 ghost use Rattle.vcp_core.specs.Tasks.{words_job, table_code};
 ghost use Rattle.vcp_core.specs.MachineRun.{IsThere, RunsTo};

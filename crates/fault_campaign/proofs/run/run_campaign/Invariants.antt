@@ -1,7 +1,7 @@
 use Rattle.std.proofs.Common.{◌≡◌, ◌≤◌}
 use Rattle.op_graph.specs.GraphRun.{graph_run}
 use Rattle.coded_machine.specs.Runs.{outcome_for}
-use Rattle.fault_runs.specs.Scripts.{StaysHonest}
+use Rattle.coded_unit.specs.Seen.{StoodStill}
 use Rattle.fault_campaign.proofs.SoFar.{SoFar, outcome}
 use Rattle.fault_campaign.proofs.run.run_campaign.Given as goal
 
@@ -14,7 +14,7 @@ invariant-groups g l =
           SoFar l.table l.graph l.script l.rows (unit.seen l.fn.unit).wrong (unit.seen l.unit).wrong (sink.seen l.fn.out).written (sink.seen l.out).written l.i
           l.totals;
       undisturbed :
-          StaysHonest (unit.seen l.fn.unit).wrong (unit.seen l.unit).wrong →
+          StoodStill (unit.seen l.fn.unit).wrong (unit.seen l.unit).wrong →
           outcome l.other.rows.items l.other.end ≡ outcome_for (graph_run l.graph l.rows);
       faults : (sink.seen l.fn.out).faults ≤ (sink.seen l.out).faults;
     }

@@ -2,9 +2,9 @@ use Rattle.std.proofs.Common.{inl, inr, refl, ap, Err}
 use Rattle.std.proofs.lemmas.Result.{err_from_is_err_and}
 use Rattle.vcp_words.specs.Forms.{audit}
 use Rattle.vcp_inputs.specs.Images.{ImageOf, NotImage}
-use Rattle.vcp_answer.specs.Abouts.{about, image_word}
-use Rattle.vcp_answer.specs.Answer.{printed as printed_answer}
-use Rattle.vcp_answer.specs.Kinds.{prints}
+use Rattle.command_meaning.specs.Abouts.{about, image_word}
+use Rattle.command_meaning.specs.Answer.{printed as printed_answer}
+use Rattle.command_meaning.specs.Kinds.{prints}
 use Rattle.vcp_core.specs.Tasks.{Audited, AuditTask}
 use Rattle.vcp_core.proofs.AuditKinds.{audit_told, too_large_audit, weights_read}
 use Rattle.vcp_core.proofs.Facts.{if_some_always, if_some_weaker}

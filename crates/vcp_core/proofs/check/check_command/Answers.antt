@@ -3,9 +3,9 @@ use Rattle.std.proofs.lemmas.Result.{err_from_is_err_and}
 use Rattle.vcp_typed.specs.Size.{size}
 use Rattle.vcp_words.specs.Forms.{check}
 use Rattle.vcp_inputs.specs.Programs.{TypedOf, NotTyped}
-use Rattle.vcp_answer.specs.Abouts.{about, source_word}
-use Rattle.vcp_answer.specs.Answer.{printed as printed_answer}
-use Rattle.vcp_answer.specs.Kinds.{prints}
+use Rattle.command_meaning.specs.Abouts.{about, source_word}
+use Rattle.command_meaning.specs.Answer.{printed as printed_answer}
+use Rattle.command_meaning.specs.Kinds.{prints}
 use Rattle.vcp_core.specs.Tasks.{ok_text, CheckTask}
 use Rattle.vcp_core.proofs.Facts.{if_some_weaker}
 use Rattle.vcp_core.proofs.Loaded.{typed_not_bytes}

@@ -6,9 +6,9 @@ use Rattle.vcp_inputs.specs.Programs.{TypedOf, NotTyped}
 use Rattle.vcp_core.proofs.Facts.{if_some_weaker}
 use Rattle.vcp_core.proofs.Loaded.{typed_not_bytes}
 use Rattle.image_file.specs.Image.{image_of}
-use Rattle.vcp_answer.specs.Abouts.{about, source_word}
-use Rattle.vcp_answer.specs.GraphsOf.{image_answer}
-use Rattle.vcp_answer.specs.Kinds.{compiles as compiles_to}
+use Rattle.command_meaning.specs.Abouts.{about, source_word}
+use Rattle.command_meaning.specs.GraphsOf.{image_answer}
+use Rattle.command_meaning.specs.Kinds.{compiles as compiles_to}
 use Rattle.vcp_core.specs.Tasks.{CompileTask}
 use Rattle.vcp_core.proofs.Performing.{file_takes, files_wanted, quiet_lost, quiet_part, quiet_whole}
 use Rattle.vcp_core.proofs.compile.compile_command.Goals as goal

@@ -4,7 +4,7 @@ use Rattle.input_rows.specs.RowsOf.{types_of}
 use Rattle.program_maker.specs.MadeRows.{made_rows}
 use Rattle.vcp_typed.specs.Fitting.{input_columns}
 use Rattle.vcp_words.specs.Forms.{demo}
-use Rattle.vcp_answer.specs.Abouts.{about}
+use Rattle.command_meaning.specs.Abouts.{about}
 use Rattle.machine_run.specs.Moments.{moment}
 use Rattle.vcp_core.specs.Tasks.{made_name, summary_job, DemoTask}
 use Rattle.vcp_core.specs.MachineRun.{RunsTo}

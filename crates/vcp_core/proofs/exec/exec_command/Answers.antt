@@ -4,10 +4,10 @@ use Rattle.vcp_words.specs.Forms.{exec, rows_of}
 use Rattle.vcp_words.specs.Tables.{rows_name}
 use Rattle.machine_run.specs.Moments.{moment}
 use Rattle.vcp_inputs.specs.Images.{ImageOf, NotImage}
-use Rattle.vcp_answer.specs.Abouts.{about, image_word}
-use Rattle.vcp_answer.specs.FileTasks.{TakenRows}
-use Rattle.vcp_answer.specs.Kinds.{runs as runs_to}
-use Rattle.vcp_answer.specs.Answer.{image}
+use Rattle.command_meaning.specs.Abouts.{about, image_word}
+use Rattle.command_meaning.specs.FileTasks.{TakenRows}
+use Rattle.command_meaning.specs.Kinds.{runs as runs_to}
+use Rattle.command_meaning.specs.Answer.{image}
 use Rattle.vcp_core.specs.MachineRun.{RunsTo}
 use Rattle.vcp_core.specs.Tasks.{table_code, graph_columns, rows_job, ExecTask}
 use Rattle.vcp_core.proofs.Facts.{if_some_weaker}

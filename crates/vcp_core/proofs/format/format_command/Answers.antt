@@ -5,9 +5,9 @@ use Rattle.vcp_words.specs.Forms.{format}
 use Rattle.vcp_inputs.specs.Programs.{IsProgram, NoProgram}
 use Rattle.vcp_core.proofs.Facts.{if_some_weaker}
 use Rattle.vcp_core.proofs.Loaded.{program_not_bytes}
-use Rattle.vcp_answer.specs.Abouts.{about, source_word}
-use Rattle.vcp_answer.specs.Answer.{printed as printed_answer}
-use Rattle.vcp_answer.specs.Kinds.{prints}
+use Rattle.command_meaning.specs.Abouts.{about, source_word}
+use Rattle.command_meaning.specs.Answer.{printed as printed_answer}
+use Rattle.command_meaning.specs.Kinds.{prints}
 use Rattle.vcp_core.specs.Tasks.{FormatTask}
 use Rattle.vcp_core.proofs.Performing.{file_takes, files_wanted, quiet_lost, quiet_part, quiet_whole}
 use Rattle.st_tree.specs.ProgramViews.{program_tree}

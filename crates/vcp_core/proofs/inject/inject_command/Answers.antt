@@ -6,8 +6,8 @@ use Rattle.vcp_words.specs.Tables.{rows_name}
 use Rattle.vcp_inputs.specs.Images.{ImageOf, NotImage}
 use Rattle.vcp_inputs.specs.RowsOutcome.{rows_outcome, source_outcome}
 use Rattle.vcp_inputs.specs.Scripts.{NotScript}
-use Rattle.vcp_answer.specs.Abouts.{about, image_word}
-use Rattle.vcp_answer.specs.FileTasks.{TakenRows}
+use Rattle.command_meaning.specs.Abouts.{about, image_word}
+use Rattle.command_meaning.specs.FileTasks.{TakenRows}
 use Rattle.machine_run.specs.Moments.{moment}
 use Rattle.vcp_core.specs.Tasks.{InjectTask, graph_columns}
 use Rattle.vcp_core.proofs.Facts.{if_some_always, if_some_weaker, if_some_both, if_some_same}

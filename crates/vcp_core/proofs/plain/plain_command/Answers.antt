@@ -6,9 +6,9 @@ use Rattle.vcp_words.specs.Tables.{rows_name}
 use Rattle.machine_run.specs.Moments.{moment}
 use Rattle.vcp_typed.specs.Fitting.{input_columns}
 use Rattle.vcp_inputs.specs.Programs.{TypedOf, NotTyped}
-use Rattle.vcp_answer.specs.Abouts.{about, source_word}
-use Rattle.vcp_answer.specs.FileTasks.{TakenRows}
-use Rattle.vcp_answer.specs.Kinds.{answers}
+use Rattle.command_meaning.specs.Abouts.{about, source_word}
+use Rattle.command_meaning.specs.FileTasks.{TakenRows}
+use Rattle.command_meaning.specs.Kinds.{answers}
 use Rattle.vcp_core.specs.Tasks.{plain_answer as plain_answer_to, PlainTask}
 use Rattle.vcp_core.proofs.Facts.{if_some_weaker}
 use Rattle.vcp_core.proofs.Loaded.{typed_not_bytes}

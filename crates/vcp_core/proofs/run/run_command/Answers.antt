@@ -6,10 +6,10 @@ use Rattle.vcp_words.specs.Tables.{rows_name}
 use Rattle.machine_run.specs.Moments.{moment}
 use Rattle.vcp_typed.specs.Fitting.{input_columns}
 use Rattle.vcp_inputs.specs.Programs.{TypedOf, NotTyped}
-use Rattle.vcp_answer.specs.Abouts.{about, source_word}
-use Rattle.vcp_answer.specs.FileTasks.{TakenRows}
-use Rattle.vcp_answer.specs.Answer.{source}
-use Rattle.vcp_answer.specs.Kinds.{runs as runs_to}
+use Rattle.command_meaning.specs.Abouts.{about, source_word}
+use Rattle.command_meaning.specs.FileTasks.{TakenRows}
+use Rattle.command_meaning.specs.Answer.{source}
+use Rattle.command_meaning.specs.Kinds.{runs as runs_to}
 use Rattle.vcp_core.specs.MachineRun.{RunsTo}
 use Rattle.vcp_core.specs.Tasks.{rows_job, RunTask}
 use Rattle.vcp_core.proofs.Facts.{if_some_weaker}

@@ -1,8 +1,8 @@
 use Rattle.std.proofs.Common.{ℕ, ◌≡◌, List, length, Ok, inl, refl, sym, ap, subst, ◌∙◌, arith}
 use Rattle.std.specs.Io.KnownBytes.{Appends}
 use Rattle.vcp_outside.specs.Written.{AppendsPart}
-use Rattle.vcp_answer.specs.Reports.{subject_outputs}
-use Rattle.vcp_answer.specs.RunKind.{run_read}
+use Rattle.command_meaning.specs.Reports.{subject_outputs}
+use Rattle.command_meaning.specs.RunKind.{run_read}
 use Rattle.vcp_core.specs.Tasks.{rows_job}
 use Rattle.vcp_core.proofs.Performing.{still}
 use Rattle.vcp_core.proofs.PrintedRun.{header-left, given-up-run, last-left, ended-run, rows-last}

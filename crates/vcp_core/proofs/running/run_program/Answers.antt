@@ -1,4 +1,4 @@
-use Rattle.vcp_answer.specs.Answer.{source}
+use Rattle.command_meaning.specs.Answer.{source}
 use Rattle.vcp_words.specs.Forms.{as_code}
 use Rattle.vcp_core.proofs.JobFacts.{source-carried, width-is}
 use Rattle.vcp_core.proofs.running.run_program.Goals as goal

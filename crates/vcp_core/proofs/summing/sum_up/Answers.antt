@@ -5,9 +5,9 @@ use Rattle.std.proofs.lemmas.Result.{err_from_is_err_and}
 use Rattle.signature_table.specs.Signatures.{table_of}
 use Rattle.coded_machine.specs.State.{State}
 use Rattle.vcp_words.specs.Forms.{default_code}
-use Rattle.vcp_answer.specs.Answer.{source}
-use Rattle.vcp_answer.specs.Reports.{subject_outputs}
-use Rattle.vcp_answer.specs.RunKind.{run_read}
+use Rattle.command_meaning.specs.Answer.{source}
+use Rattle.command_meaning.specs.Reports.{subject_outputs}
+use Rattle.command_meaning.specs.RunKind.{run_read}
 use Rattle.vcp_core.specs.Tasks.{summary_job}
 use Rattle.vcp_core.specs.declared.ending.Ending.TheVariants as ending
 use Rattle.vcp_core.specs.Reach.{end_status}

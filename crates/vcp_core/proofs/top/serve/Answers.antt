@@ -1,8 +1,8 @@
 use Rattle.std.proofs.Common.{inl, inr, refl}
 use Rattle.vcp_words.specs.Forms.{form}
-use Rattle.vcp_answer.specs.Abouts.{about}
-use Rattle.vcp_answer.specs.Seen.{outside}
-use Rattle.vcp_answer.proofs.Performed.{performed_keeps, performed_serves}
+use Rattle.command_meaning.specs.Abouts.{about}
+use Rattle.command_meaning.specs.Seen.{outside}
+use Rattle.command_meaning.proofs.Performed.{performed_keeps, performed_serves}
 use Rattle.vcp_core.specs.Tasks.{TaskOf}
 use Rattle.vcp_core.proofs.PlainTurns.{appends-nothing}
 use Rattle.vcp_core.proofs.Served.{meaning, served_as_plain}

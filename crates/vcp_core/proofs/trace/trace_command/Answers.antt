@@ -5,9 +5,9 @@ use Rattle.vcp_words.specs.Forms.{trace, rows_of}
 use Rattle.vcp_words.specs.Tables.{rows_name}
 use Rattle.machine_run.specs.Moments.{moment}
 use Rattle.vcp_inputs.specs.Images.{ImageOf, NotImage}
-use Rattle.vcp_answer.specs.Abouts.{about, image_word}
-use Rattle.vcp_answer.specs.FileTasks.{TakenRows}
-use Rattle.vcp_answer.specs.Kinds.{runs as runs_to}
+use Rattle.command_meaning.specs.Abouts.{about, image_word}
+use Rattle.command_meaning.specs.FileTasks.{TakenRows}
+use Rattle.command_meaning.specs.Kinds.{runs as runs_to}
 use Rattle.vcp_core.specs.MachineRun.{RunsTo}
 use Rattle.vcp_core.specs.Tasks.{table_code, graph_columns, words_job, TraceTask}
 use Rattle.vcp_core.proofs.Facts.{if_some_weaker}

@@ -1,7 +1,7 @@
 use Rattle.std.proofs.Common.{ℕ, ◌≡◌, List, [], length, map, None, Ok, inl, refl, sym, ap, subst, ◌∙◌, arith}
 use Rattle.std.specs.Io.KnownBytes.{Appends}
 use Rattle.vcp_outside.specs.Written.{AppendsPart}
-use Rattle.vcp_answer.specs.Reports.{end_read, run_status}
+use Rattle.command_meaning.specs.Reports.{end_read, run_status}
 use Rattle.vcp_core.specs.Tasks.{words_job, table_code}
 use Rattle.vcp_core.proofs.Performing.{still}
 use Rattle.vcp_core.proofs.PlainTurns.{appends-nothing}

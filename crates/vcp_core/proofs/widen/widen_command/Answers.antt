@@ -3,9 +3,9 @@ use Rattle.std.proofs.lemmas.Result.{err_from_is_err_and}
 use Rattle.vcp_words.specs.Forms.{widen}
 use Rattle.vcp_core.proofs.Facts.{if_some_weaker}
 use Rattle.vcp_core.proofs.ImageLoaded.{image_not_bytes}
-use Rattle.vcp_answer.specs.Abouts.{about, image_word}
-use Rattle.vcp_answer.specs.Answer.{printed as printed_answer}
-use Rattle.vcp_answer.specs.Kinds.{prints}
+use Rattle.command_meaning.specs.Abouts.{about, image_word}
+use Rattle.command_meaning.specs.Answer.{printed as printed_answer}
+use Rattle.command_meaning.specs.Kinds.{prints}
 use Rattle.vcp_core.specs.Tasks.{WidenTask, widened}
 use Rattle.vcp_core.proofs.Performing.{file_takes, files_wanted, quiet_lost, quiet_part, quiet_whole}
 use Rattle.vcp_base.specs.Limits.{most_image_bytes}

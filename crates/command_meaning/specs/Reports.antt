@@ -9,7 +9,7 @@ use Rattle.coded_machine.specs.declared.cycle_end.CycleEnd.{CycleEnd}
 use Rattle.coded_machine.specs.declared.cycle_end.CycleEnd.TheVariants as cycle
 use Rattle.flat_expr.specs.Told.{Told, told_source, told_graph, halted_at}
 use Rattle.vcp_inputs.specs.Lines.{rows_text}
-use Rattle.vcp_answer.specs.Answer.{Subject, source, image}
+use Rattle.command_meaning.specs.Answer.{Subject, source, image}
 
 -- How a run ended: with its rows; at a stop; or at an output, counted from 0, with the residue that was found and the expected one.
 pub data RunEnd : Type 0 where

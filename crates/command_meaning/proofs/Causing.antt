@@ -4,17 +4,17 @@ use Rattle.std.specs.Io.KnownBytes.{Appends}
 use Rattle.vcp_outside.specs.Counts.{Rose}
 use Rattle.input_rows.specs.declared.fault.RowFault.{RowFault}
 use Rattle.fault_injector.specs.declared.verdict.Verdict.{Verdict}
-use Rattle.vcp_answer.specs.Answer.{Answer}
-use Rattle.vcp_answer.specs.CampaignKind.{verdicts_answer}
-use Rattle.vcp_answer.specs.Printing.{Report}
-use Rattle.vcp_answer.specs.Endings.{TellsLine, ended, cut, short, unread, unmade, Given, Causes, NothingFailed, HasOwnStatus}
-use Rattle.vcp_answer.specs.Endings.{DoneIsMeant, EndingsHaveCauses, GivingUpHasCauses}
-use Rattle.vcp_answer.specs.Kinds.{Task, lacks, answers, compiles, runs, judges, Done, lack_answer}
-use Rattle.vcp_answer.specs.Reports.{RunEnd, complete, stopped, refused, run_status}
-use Rattle.vcp_answer.specs.RunKind.{job_answer, run_read}
+use Rattle.command_meaning.specs.Answer.{Answer}
+use Rattle.command_meaning.specs.CampaignKind.{verdicts_answer}
+use Rattle.command_meaning.specs.Printing.{Report}
+use Rattle.command_meaning.specs.Endings.{TellsLine, ended, cut, short, unread, unmade, Given, Causes, NothingFailed, HasOwnStatus}
+use Rattle.command_meaning.specs.Endings.{DoneIsMeant, EndingsHaveCauses, GivingUpHasCauses}
+use Rattle.command_meaning.specs.Kinds.{Task, lacks, answers, compiles, runs, judges, Done, lack_answer}
+use Rattle.command_meaning.specs.Reports.{RunEnd, complete, stopped, refused, run_status}
+use Rattle.command_meaning.specs.RunKind.{job_answer, run_read}
 use Rattle.coded_unit.specs.Seen.{UnitSeen}
 use Rattle.vcp_outside.specs.Seen.{SinkSeen}
-use Rattle.vcp_answer.specs.Seen.{Outside}
+use Rattle.command_meaning.specs.Seen.{Outside}
 
 -- ---- the status of an answer
 

@@ -9,10 +9,10 @@ use Rattle.machine_run.specs.RowRuns.{texts_from}
 use Rattle.run_report.specs.Lines.{header_text, row_text, end_text, stop_text, refused_text}
 use Rattle.run_report.specs.SummaryLine.{summary_text}
 use Rattle.vcp_words.specs.Forms.{Code}
-use Rattle.vcp_answer.specs.Answer.{Answer}
-use Rattle.vcp_answer.specs.CycleWords.{words_in, words_meant, word_lines}
-use Rattle.vcp_answer.specs.Reports.{RunEnd, complete, stopped, refused, behind_text, run_status}
-use Rattle.vcp_answer.specs.Sums.{last_value, sum_of}
+use Rattle.command_meaning.specs.Answer.{Answer}
+use Rattle.command_meaning.specs.CycleWords.{words_in, words_meant, word_lines}
+use Rattle.command_meaning.specs.Reports.{RunEnd, complete, stopped, refused, behind_text, run_status}
+use Rattle.command_meaning.specs.Sums.{last_value, sum_of}
 
 -- ---- a run as it is told
 

@@ -4,16 +4,17 @@ use Rattle.std.specs.Io.KnownBytes.{Appends, IsAtEnd}
 use Rattle.vcp_outside.specs.Counts.{Rose}
 use Rattle.vcp_outside.specs.Held.{Held}
 use Rattle.vcp_words.specs.Forms.{Form}
-use Rattle.vcp_words.specs.Usage.{usage_text}
+use Rattle.vcp_words.specs.Forms.{usage_text}
 use Rattle.vcp_inputs.specs.declared.refusal.Refusal.TheVariants as refusal
 use Rattle.vcp_inputs.specs.Lines.{refusal_text}
-use Rattle.vcp_answer.specs.Answer.{Answer}
-use Rattle.vcp_answer.specs.Abouts.{Among, About, FileWord, AllHeld, without_unit}
-use Rattle.vcp_answer.specs.Endings.{Answered, Came, Causes, IsNoFault, NothingFailed, TellsLine}
-use Rattle.vcp_answer.specs.Kinds.{Task, answers}
+use Rattle.command_meaning.specs.Answer.{Answer}
+use Rattle.command_meaning.specs.Abouts.{Among, About, FileWord, AllHeld, without_unit}
+use Rattle.command_meaning.specs.Endings.{Answered, Came, Causes, IsNoFault, NothingFailed, TellsLine}
+use Rattle.command_meaning.specs.Kinds.{Task, answers}
 use Rattle.machine_run.specs.Stops.{GrowsToStop}
 use Rattle.vcp_outside.specs.Seen.{SinkSeen}
-use Rattle.vcp_answer.specs.Seen.{Outside, IsHonest}
+use Rattle.coded_unit.specs.Seen.{StaysHonest}
+use Rattle.command_meaning.specs.Seen.{Outside}
 
 -- ---- words that are no command
 
@@ -74,4 +75,4 @@ pub record Serves (c : About) (held : Held) (Comes : Task → Type 0) (before af
 abbrev pub AsPlain : (Form → Held → Task → Type 0) → Form → Held → Outside → Outside → ℕ → Type 0
 AsPlain Comes f held before after status =
     IfSome (without_unit f)
-    (λ g. (x : Answer) → Comes g held (answers x) → IsHonest before.unit after.unit → IsNoFault status → Came x before after status)
+    (λ g. (x : Answer) → Comes g held (answers x) → StaysHonest before.unit after.unit → IsNoFault status → Came x before after status)

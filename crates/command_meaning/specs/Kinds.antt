@@ -6,12 +6,12 @@ use Rattle.vcp_typed.specs.SourceRun.{Program}
 use Rattle.vcp_words.specs.Forms.{Code}
 use Rattle.vcp_inputs.specs.declared.refusal.Refusal.{Refusal}
 use Rattle.vcp_inputs.specs.Lines.{read_fault_text, refusal_text}
-use Rattle.vcp_answer.specs.Answer.{Answer, Campaign, printed}
-use Rattle.vcp_answer.specs.GraphsOf.{MayCompile, image_answer}
+use Rattle.command_meaning.specs.Answer.{Answer, Campaign, printed}
+use Rattle.command_meaning.specs.GraphsOf.{MayCompile, image_answer}
 use Rattle.coded_unit.specs.Seen.{UnitSeen}
 use Rattle.machine_run.specs.Moments.{Moment}
-use Rattle.vcp_answer.specs.RunKind.{Job, RunDone, RunLeft, job_answer, run_meant}
-use Rattle.vcp_answer.specs.CampaignKind.{CampaignDone, CampaignLeft, verdicts_answer, verdicts_meant}
+use Rattle.command_meaning.specs.RunKind.{Job, RunDone, RunLeft, job_answer, run_meant}
+use Rattle.command_meaning.specs.CampaignKind.{CampaignDone, CampaignLeft, verdicts_answer, verdicts_meant}
 
 -- What a command and files come to: a name that is lacking; an answer for which no unit is called; a program of which the image of some
 -- graph that means it is written, with the numbers of a code; a run; or groups of faults that are judged.

@@ -4,12 +4,13 @@ use Rattle.std.specs.Io.KnownBytes.{Appends}
 use Rattle.vcp_outside.specs.Counts.{Rose}
 use Rattle.vcp_outside.specs.Written.{AppendsFront, AppendsPart}
 use Rattle.vcp_inputs.specs.Lines.{memory_text, read_fault_text, write_fault_text}
-use Rattle.vcp_answer.specs.Answer.{Answer}
-use Rattle.vcp_answer.specs.Abouts.{Among, About, FileWord}
-use Rattle.vcp_answer.specs.Kinds.{Task, lacks, answers, compiles, runs, judges, Done, Left, Meant}
+use Rattle.command_meaning.specs.Answer.{Answer}
+use Rattle.command_meaning.specs.Abouts.{Among, About, FileWord}
+use Rattle.command_meaning.specs.Kinds.{Task, lacks, answers, compiles, runs, judges, Done, Left, Meant}
 use Rattle.coded_unit.specs.Seen.{UnitSeen}
 use Rattle.vcp_outside.specs.Seen.{SinkSeen}
-use Rattle.vcp_answer.specs.Seen.{Outside, IsHonest, Untouched, moment_of}
+use Rattle.coded_unit.specs.Seen.{StaysHonest}
+use Rattle.command_meaning.specs.Seen.{Outside, Untouched, moment_of}
 
 -- ---- how a command ends
 
@@ -70,7 +71,7 @@ pub record Given (task : Task) (before after : Outside) (status : ℕ) : Type 0 
 -- The causes of the statuses, for the task that words and files come to. What 0 to 3 tell is read off the answer's own status.
 pub record Causes (task : Task) (before after : Outside) (status : ℕ) : Type 0 where
   -- with an honest unit the answer that is meant comes, but for 5, 6 and 7
-  pub meant : IsHonest before.unit after.unit → IsNoFault status → (x : Answer) × Meant task x × Came x before after status
+  pub meant : StaysHonest before.unit after.unit → IsNoFault status → (x : Answer) × Meant task x × Came x before after status
   -- whatever the unit answers, the task is done, but for 5, 6 and 7
   pub done : IsNoFault status → Given task before after status
   -- and where nothing failed, it is done, unless memory was wanted
@@ -93,7 +94,7 @@ HasOwnStatus (judges c) = Unit {0}
 
 -- a task that was done with an honest unit was done as it is meant
 abbrev pub DoneIsMeant : Type 0
-DoneIsMeant = (task : Task) (before after : UnitSeen) (x : Answer) → Done task before after x → IsHonest before after → Meant task x
+DoneIsMeant = (task : Task) (before after : UnitSeen) (x : Answer) → Done task before after x → StaysHonest before after → Meant task x
 
 -- however a command ends, each status has its cause
 abbrev pub EndingsHaveCauses : Type 0

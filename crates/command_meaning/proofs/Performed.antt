@@ -3,18 +3,18 @@ use Rattle.std.proofs.Common.{ℕ, ◌≡◌, ◌≢◌, ◌⊎◌, inl, inr, re
 use Rattle.std.specs.Io.KnownBytes.{Appends, IsAtEnd}
 use Rattle.vcp_outside.specs.Counts.{Rose}
 use Rattle.vcp_outside.specs.Held.{Held}
-use Rattle.vcp_answer.specs.Answer.{Answer}
-use Rattle.vcp_answer.specs.Abouts.{Among, About, AllHeld}
-use Rattle.vcp_answer.specs.Clauses.{IsEnd, IsTooLong, Keeps, MayHold, Serves, TellsTooLong}
-use Rattle.vcp_answer.specs.Endings.{Answered, known, given_up, Causes, Ends, GivenUp, HasOwnStatus, NothingFailed, TellsLine}
-use Rattle.vcp_answer.specs.Endings as ends
-use Rattle.vcp_answer.specs.Kinds.{Task, lacks, answers, compiles, runs, judges, Done}
-use Rattle.vcp_answer.specs.Performing.{Still, Reaches, done, cut, short, unread, unmade, Performs}
-use Rattle.vcp_answer.specs.RunKind.{run_read}
+use Rattle.command_meaning.specs.Answer.{Answer}
+use Rattle.command_meaning.specs.Abouts.{Among, About, AllHeld}
+use Rattle.command_meaning.specs.Clauses.{IsEnd, IsTooLong, Keeps, MayHold, Serves, TellsTooLong}
+use Rattle.command_meaning.specs.Endings.{Answered, known, given_up, Causes, Ends, GivenUp, HasOwnStatus, NothingFailed, TellsLine}
+use Rattle.command_meaning.specs.Endings as ends
+use Rattle.command_meaning.specs.Kinds.{Task, lacks, answers, compiles, runs, judges, Done}
+use Rattle.command_meaning.specs.Performing.{Still, Reaches, done, cut, short, unread, unmade, Performs}
+use Rattle.command_meaning.specs.RunKind.{run_read}
 use Rattle.coded_unit.specs.Seen.{UnitSeen}
 use Rattle.vcp_outside.specs.Seen.{SinkSeen}
-use Rattle.vcp_answer.specs.Seen.{Outside, Untouched, moment_of}
-use Rattle.vcp_answer.proofs.Causing.{endings_have_causes, giving_up_has_causes, five_lacks, run_small, status_of}
+use Rattle.command_meaning.specs.Seen.{Outside, Untouched, moment_of}
+use Rattle.command_meaning.proofs.Causing.{endings_have_causes, giving_up_has_causes, five_lacks, run_small, status_of}
 
 -- A command comes to one task at most; to an answer only with a status of its own; and to a lacking name only where not all of its files
 -- are held.

@@ -20,11 +20,6 @@ moment_of o = record { unit = o.unit; out = o.out }
 
 -- ---- what is said of two moments
 
--- no answer of the unit was wrong: its count of wrong ones is the same, and below its last value
-pub record IsHonest (before after : UnitSeen) : Type 0 where
-  pub same : after.wrong ≡ before.wrong
-  pub below : before.wrong < 2 ^ 64 - 1
-
 -- the unit was not called, and nothing was written to the output
 pub record Untouched (before after : Outside) : Type 0 where
   pub unit : after.unit ≡ before.unit

@@ -1,6 +1,6 @@
 //! Laws of the definitions.
 
-ghost use Rattle.vcp_answer.specs.Endings.{DoneIsMeant, EndingsHaveCauses, GivingUpHasCauses};
+ghost use Rattle.command_meaning.specs.Endings.{DoneIsMeant, EndingsHaveCauses, GivingUpHasCauses};
 
 /// A task that is done with an honest unit is done as it is meant. However a command ends, each status
 /// has its cause, where a task that is an answer has the status 0, 1 or 2; and so it has where the

@@ -17,7 +17,7 @@ use Rattle.vcp_inputs.specs.Images.{ImageOf, NotImage}
 use Rattle.vcp_inputs.specs.Programs.{IsProgram, NoProgram, TypedOf, NotTyped}
 use Rattle.vcp_inputs.specs.RowsOutcome.{RowsOutcome, lacking, refused, opened, rows_outcome}
 use Rattle.vcp_inputs.specs.Scripts.{ScriptOf, NotScript}
-use Rattle.vcp_answer.specs.Kinds.{Task, lacks, refusal_task}
+use Rattle.command_meaning.specs.Kinds.{Task, lacks, refusal_task}
 
 -- What the file under a name comes to, of which these are the bytes, if there are any. It is lacking; or it is refused, since it has more
 -- bytes than the limit or for the reason why a text is no such thing; or it is such a thing, and comes to what is said of that.

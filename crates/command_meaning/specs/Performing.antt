@@ -5,10 +5,10 @@ use Rattle.vcp_outside.specs.Counts.{Rose}
 use Rattle.vcp_outside.specs.Held.{Held}
 use Rattle.vcp_outside.specs.Written.{AppendsFront, AppendsPart}
 use Rattle.vcp_inputs.specs.Lines.{memory_text, read_fault_text, write_fault_text}
-use Rattle.vcp_answer.specs.Answer.{Answer}
-use Rattle.vcp_answer.specs.Abouts.{Among, About, FileWord}
-use Rattle.vcp_answer.specs.Clauses.{IsEnd, IsTooLong, MayHold}
-use Rattle.vcp_answer.specs.Kinds.{Task, Done, Left}
+use Rattle.command_meaning.specs.Answer.{Answer}
+use Rattle.command_meaning.specs.Abouts.{Among, About, FileWord}
+use Rattle.command_meaning.specs.Clauses.{IsEnd, IsTooLong, MayHold}
+use Rattle.command_meaning.specs.Kinds.{Task, Done, Left}
 use Rattle.machine_run.specs.Stops.{GrowsToStop}
 use Rattle.vcp_outside.specs.Seen.{FilesSeen}
 use Rattle.machine_run.specs.Moments.{Moment}

@@ -7,9 +7,9 @@ use Rattle.coded_unit.specs.declared.call.Answer.TheVariants as answer
 use Rattle.coded_unit.specs.Words.{coded}
 use Rattle.signature_table.specs.Signatures.{signature}
 use Rattle.vcp_words.specs.Forms.{Code}
-use Rattle.vcp_answer.specs.CycleWords.{words_for, words_in}
-use Rattle.vcp_answer.specs.Printing.{Printing, last_part, no_report}
-use Rattle.vcp_answer.specs.Reports.{complete}
+use Rattle.command_meaning.specs.CycleWords.{words_for, words_in}
+use Rattle.command_meaning.specs.Printing.{Printing, last_part, no_report}
+use Rattle.command_meaning.specs.Reports.{complete}
 
 abbrev first_code : Code
 first_code = record { seed = 0; step = 1 }

@@ -3,10 +3,10 @@ use Rattle.std.specs.Prelude.{ℕ, ◌≡◌, ◌≤◌, ◌+◌, List, ◌++◌
 use Rattle.fault_injector.specs.declared.verdict.Verdict.{Verdict}
 use Rattle.fault_injector.specs.Names.{Names}
 use Rattle.fault_campaign.specs.Campaign.{campaign_text, verdicts_of, EarlierTold}
-use Rattle.vcp_answer.specs.Answer.{Answer, Campaign, printed}
+use Rattle.command_meaning.specs.Answer.{Answer, Campaign, printed}
 use Rattle.coded_unit.specs.Seen.{UnitSeen}
 use Rattle.machine_run.specs.Moments.{Moment}
-use Rattle.vcp_answer.specs.Seen.{IsHonest}
+use Rattle.coded_unit.specs.Seen.{StaysHonest}
 
 -- the answer where groups have these verdicts: a line for each, and the totals
 abbrev pub verdicts_answer : Campaign → List Verdict → Answer
@@ -27,7 +27,7 @@ pub record CampaignDone (c : Campaign) (before after : UnitSeen) (x : Answer) : 
   pub each : length verdicts ≡ length c.groups
   pub names : AreOf c verdicts
   pub read : x ≡ verdicts_answer c verdicts
-  pub honest : IsHonest before after → verdicts ≡ verdicts_meant c
+  pub honest : StaysHonest before after → verdicts ≡ verdicts_meant c
 
 -- Some of the groups were judged, where `Writes` says how much was written: so much of the lines of these verdicts and any later ones, with
 -- all lines before that of the last verdict. Where no answer was wrong, it is so much of the lines that are meant.
@@ -38,4 +38,4 @@ pub record CampaignLeft (c : Campaign) (Writes : Option (List ℕ) → Option (L
   pub text : (later : List Verdict) → length verdicts + length later ≡ length c.groups
       → Writes before.out.written after.out.written (verdicts_answer c (verdicts ++ later)).out
   pub earlier : EarlierTold c.graph c.groups verdicts before.out.written after.out.written
-  pub honest : IsHonest before.unit after.unit → Writes before.out.written after.out.written (verdicts_answer c (verdicts_meant c)).out
+  pub honest : StaysHonest before.unit after.unit → Writes before.out.written after.out.written (verdicts_answer c (verdicts_meant c)).out

@@ -10,13 +10,13 @@ use Rattle.coded_machine.specs.CycleEnds.{initial_words, outputs_of}
 use Rattle.coded_machine.specs.Runs.{AllCycles, calls_over, outcome_over}
 use Rattle.machine_run.specs.RowRuns.{SomeCycles, texts_from}
 use Rattle.vcp_words.specs.Forms.{Code}
-use Rattle.vcp_answer.specs.Answer.{Answer, Subject}
-use Rattle.vcp_answer.specs.GraphsOf.{MayRun}
-use Rattle.vcp_answer.specs.Reports.{end_read, end_told, subject_outputs, told_of}
-use Rattle.vcp_answer.specs.Printing.{Report, Words, Printing, no_report, run_then, told_answer}
+use Rattle.command_meaning.specs.Answer.{Answer, Subject}
+use Rattle.command_meaning.specs.GraphsOf.{MayRun}
+use Rattle.command_meaning.specs.Reports.{end_read, end_told, subject_outputs, told_of}
+use Rattle.command_meaning.specs.Printing.{Report, Words, Printing, no_report, run_then, told_answer}
 use Rattle.coded_unit.specs.Seen.{UnitSeen}
 use Rattle.machine_run.specs.Moments.{Moment}
-use Rattle.vcp_answer.specs.Seen.{IsHonest}
+use Rattle.coded_unit.specs.Seen.{StaysHonest}
 
 -- A run on a unit: of what, the rows of its inputs with the refusal behind them, the name by which lines tell ROWS, the numbers of its
 -- code, what is printed of it, and which words are shown.
@@ -66,7 +66,7 @@ pub record RunDone (j : Job) (before after : UnitSeen) (x : Answer) : Type 0 whe
   pub all : AllCycles graph (numbers j graph) 0 j.rows.rows cycles
   pub log : GrowsBy before.log after.log (calls_of j graph cycles)
   pub read : x ≡ job_answer j (run_read j graph cycles)
-  pub honest : IsHonest before after → run_read j graph cycles ≡ run_meant j
+  pub honest : StaysHonest before after → run_read j graph cycles ≡ run_meant j
 
 -- ---- a run that was cut off
 
@@ -92,4 +92,4 @@ pub record RunLeft (j : Job) (Writes : Option (List ℕ) → Option (List ℕ) �
   pub text : (later : Report) → MayFollow j cycles later
       → Writes before.out.written after.out.written (job_answer j (run_then (run_read j graph cycles) later)).out
   pub earlier : EarlierPrinted j.printing graph cycles before.out.written after.out.written
-  pub honest : IsHonest before.unit after.unit → Writes before.out.written after.out.written (job_answer j (run_meant j)).out
+  pub honest : StaysHonest before.unit after.unit → Writes before.out.written after.out.written (job_answer j (run_meant j)).out

@@ -1,5 +1,0 @@
-use Rattle.vcp_answer.proofs.Causing.{done_is_meant, endings_have_causes, giving_up_has_causes}
-use Rattle.vcp_answer.proofs.laws.endings_have_causes.Goals as goal
-
-pub returns : goal.returns
-returns c = record { meant = done_is_meant; ended = endings_have_causes; given_up = giving_up_has_causes }
