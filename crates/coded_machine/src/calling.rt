@@ -17,7 +17,7 @@ use vcp_base::{Kind, Row, operands};
 
 /// What a cycle begins with.
 #[derive(Clone, Copy)]
-pub(crate) struct Setting<'a> {
+pub struct Setting<'a> {
     /// The operations, and what belongs to them.
     pub graph: &'a Graph,
     /// The numbers of the graph's code.
@@ -47,7 +47,7 @@ pub struct Operands {
 
 /// Whether an answer is a word, and so tells no stop.
 #[inline(always)]
-pub(crate) fn is_word(answer: &Answer) -> bool
+pub fn is_word(answer: &Answer) -> bool
     ensures { result ≡ is_word_of answer.now }
 {
     matches!(answer, Answer::Word(_))
@@ -66,7 +66,7 @@ fn word_of(answer: &Answer) -> Word
 
 /// The word that operation `k` answered, and 0 where it answered none.
 #[inline(always)]
-pub(crate) fn word_at(answers: &[Answer], k: u32) -> Word
+pub fn word_at(answers: &[Answer], k: u32) -> Word
     ensures { result ≡ word_at_of answers.now k }
 {
     match answers.get(k as usize) {
@@ -77,7 +77,7 @@ pub(crate) fn word_at(answers: &[Answer], k: u32) -> Word
 
 /// The word of cell `i`, and 0 where there is no such cell.
 #[inline(always)]
-fn cell_at(held: &[Word], i: u64) -> Word
+pub fn cell_at(held: &[Word], i: u64) -> Word
     ensures { result ≡ at held.now i }
 {
     match held.get(i as usize) {
@@ -173,9 +173,9 @@ fn call_from(graph: &Graph, table: &Table, op: &Op, i: u32, cycle: u32, operands
     }
 }
 
-/// The call of the operation that comes after these answers, which there is.
+/// The call of operation `op`, which comes after these answers to the earlier ones of its cycle.
 #[inline(always)]
-pub(crate) fn call_after(setting: &Setting<'_>, op: &Op, answers: &[Answer]) -> Call
+pub fn call_after(setting: &Setting<'_>, op: &Op, answers: &[Answer]) -> Call
     requires here { slice_get setting.now.graph.now.operations (length answers.now) ≡ Some op.now }
     requires few { length answers.now ≤ most_operations }
     requires table { IsTableOf setting.now.table.now setting.now.graph.now }

@@ -37,7 +37,7 @@ pub enum CycleEnd {
 }
 
 /// How a cycle with these answers ends. Where it isn't halted all are words.
-pub(crate) fn cycle_end(
+pub fn end_of_answers(
     graph: &Graph,
     table: &Table,
     cycle: u32,

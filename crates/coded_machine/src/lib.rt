@@ -11,10 +11,11 @@ mod laws;
 mod machine;
 mod releasing;
 
-pub use calling::{Operands, operation_call};
-pub use cycle_end::CycleEnd;
+pub use calling::{Operands, Setting, call_after, cell_at, is_word, operation_call, word_at};
+pub use cycle_end::{CycleEnd, end_of_answers};
 pub use laws::{
     cycles_by_hand_are_whole, honest_runs_follow_the_graph, right_answers_stand_for_values,
     runs_follow_their_answers,
 };
 pub use machine::Machine;
+pub use releasing::{first_words, store_words};

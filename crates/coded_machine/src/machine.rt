@@ -14,7 +14,7 @@ ghost use Rattle.coded_machine.specs.State.{fresh, given as given_of, setting, A
 ghost use Rattle.coded_machine.specs.declared.cycle_end.CycleEnd.TheVariants.{Released};
 
 use crate::calling::{Setting, call_after, is_word};
-use crate::cycle_end::{CycleEnd, cycle_end, is_released};
+use crate::cycle_end::{CycleEnd, end_of_answers, is_released};
 use crate::laws::right_answers_stand_for_values;
 use crate::releasing::{first_words, set_outputs, store_words};
 use coded_unit::{Answer, Call, Unit, Word};
@@ -241,7 +241,7 @@ impl<'a> Machine<'a> {
         ensures out { out.new ≡ row_after self.old result out.old }
     {
         let given = given(self.under_way, &self.answers);
-        let end = cycle_end(self.graph, self.table, self.cycles, given, self.halted);
+        let end = end_of_answers(self.graph, self.table, self.cycles, given, self.halted);
         if is_released(&end) {
             self.release(out);
         } else {

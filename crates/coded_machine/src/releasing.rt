@@ -36,7 +36,7 @@ fn set_output(graph: &Graph, out: &mut Row, i: u32, word: Word)
 }
 
 /// Sets the words of the cells to those that their STOREs answered.
-pub(crate) fn store_words(graph: &Graph, answers: &[Answer], held: &mut [Word])
+pub fn store_words(graph: &Graph, answers: &[Answer], held: &mut [Word])
     requires cells { length held.old ≡ length graph.now.stores }
     ensures { held.new ≡ stored_words graph.now answers.now }
 {
@@ -59,8 +59,8 @@ fn first_word(graph: &Graph, table: &Table, cell: &Cell) -> Word
     )
 }
 
-/// The words of the cells before the first cycle.
-pub(crate) fn first_words(alloc: Global, graph: &Graph, table: &Table) -> Result<Vec<Word>, Memory>
+/// The words of the cells before the first cycle; `Memory` where there is no room for them.
+pub fn first_words(alloc: Global, graph: &Graph, table: &Table) -> Result<Vec<Word>, Memory>
     requires graph { IsGraph graph.now }
     requires table { IsTableOf table.now graph.now }
     ensures words { IfOk result (λ held. held.items ≡ initial_words graph.now table.now.seed) }

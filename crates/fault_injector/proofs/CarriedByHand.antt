@@ -14,7 +14,8 @@ use Rattle.coded_machine.specs.Runs.{UnderWay}
 use Rattle.coded_machine.specs.State.{State, given, setting, with_answer}
 use Rattle.fault_script.specs.declared.act.Fault.{Fault}
 use Rattle.fault_script.specs.Changes.{kept_after}
-use Rattle.fault_runs.specs.Scripts.{right_under, passed, skips, Performed, StaysHonest}
+use Rattle.coded_unit.specs.Seen.{StoodStill}
+use Rattle.fault_runs.specs.Scripts.{right_under, passed, skips, Performed}
 use Rattle.fault_runs.specs.ScriptedRun.{ScriptedCycle, kept_through}
 
 -- what stands at a place, and after it
@@ -95,10 +96,10 @@ right_whole f s first now answers h = subst (λ (xs : List Answer). ScriptedCycl
 -- ---- the unit
 
 -- A unit that stayed honest through two parts did so in each.
-pub honest_first : (i j k : ℕ) → i ≤ j → j ≤ k → StaysHonest i k → StaysHonest i j
+pub honest_first : (i j k : ℕ) → i ≤ j → j ≤ k → StoodStill i k → StoodStill i j
 honest_first i j k low high h = (omega (arith, low, high, h.0), h.1)
 
-pub honest_second : (i j k : ℕ) → i ≤ j → j ≤ k → StaysHonest i k → StaysHonest j k
+pub honest_second : (i j k : ℕ) → i ≤ j → j ≤ k → StoodStill i k → StoodStill j k
 honest_second i j k low high h = (omega (arith, low, high, h.0), omega (arith, low, high, h.0, h.1))
 
 one_more_rises : (i : ℕ) (b : Bool) → i ≤ cond b (i + 1) i
@@ -121,7 +122,7 @@ pub record CallsDone (first m : State) (row : List ℤ) (f : List Fault) (kept_f
   pub under : UnderWay first m row (CallsOf (setting first row) (given m))
   pub never_falls : wrong_first ≤ wrong
   pub kept_so_far : KeptSoFar f (setting first row) kept_first (given m) kept
-  pub right_so_far : StaysHonest wrong_first wrong → RightSoFar f (setting first row) kept_first (given m) kept
+  pub right_so_far : StoodStill wrong_first wrong → RightSoFar f (setting first row) kept_first (given m) kept
 
 given_after : (m n : State) (a : Answer) → n ≡ with_answer m a → given n ≡ given m ++ a ∷ []
 given_after m n a e = ap given e
@@ -129,7 +130,7 @@ given_after m n a e = ap given e
 pub call_done : ByHandLaws → (first m n : State) (row : List ℤ) (f g : List Fault) (kept_first now next : List (Option ℤ)) (i j k : ℕ) (call : Call) (a : Answer) →
     CallsDone first m row f kept_first now i j → Next (setting m row) (given m) call → CallsNextOperation (setting m row) (given m) call →
     length (given m) < length m.graph.operations → n ≡ with_answer m a → g ≡ f → next ≡ kept_after g now call a → j ≤ k →
-    (StaysHonest j k → a ≡ right_under g now call) → CallsDone first n row f kept_first next i k
+    (StoodStill j k → a ≡ right_under g now call) → CallsDone first n row f kept_first next i k
 call_done laws first m n row f g kept_first now next i j k call a d is_next is_call left is_n is_f kept rises right =
     let s = setting first row in
     let same : setting m row ≡ s = ap (λ (x : State). setting x row) d.under.same in

@@ -25,7 +25,7 @@ use Rattle.fault_runs.specs.FaultRun.{begun, cycle_under, cycles_from, operation
 use Rattle.fault_injector.specs.Judging.{CycleTold, JudgesBeside}
 use Rattle.fault_runs.specs.RunLaw.{RunsKept, GroupStands, CycleKept, RunKept}
 use Rattle.fault_runs.specs.ScriptedRun.{ScriptedCycle, ScriptedRun, ScriptedRunsAreRight, kept_through}
-use Rattle.fault_runs.specs.Scripts.{StaysHonest}
+use Rattle.coded_unit.specs.Seen.{StoodStill}
 use Rattle.fault_injector.proofs.CarriedByHand as by_hand
 use Rattle.fault_injector.specs.Verdicts.{WrongAt, judged, judged_cycle, verdict_or, compared, verdict_of, plain_cycles}
 
@@ -291,8 +291,8 @@ loop_turn t g faults there rows others e m n cycle row out old keeps next x resu
 -- the verdict of the faults that a unit carries out is that of their group, where its count of wrong answers is told of the unit inside
 pub verdict_of_group : {E : Type 0} (t : Numbers) (g : Lists) (carried group : List Fault) (rows : List (List ℤ)) (result : Result Verdict E) (Told : Type 0)
     (before after old new : ℕ) → carried ≡ group → before ≡ old
-    → (StaysHonest before after → Told → IfOk result (λ v. v ≡ verdict_of t g carried rows))
-    → after ≡ new → StaysHonest old new → Told → IfOk result (λ v. v ≡ verdict_of t g group rows)
+    → (StoodStill before after → Told → IfOk result (λ v. v ≡ verdict_of t g carried rows))
+    → after ≡ new → StoodStill old new → Told → IfOk result (λ v. v ≡ verdict_of t g group rows)
 verdict_of_group t g carried group rows result Told before after old new is first verdict last honest told =
     subst (λ (faults : List Fault). IfOk result (λ v. v ≡ verdict_of t g faults rows)) is
-    (verdict (subst (λ (n : ℕ). StaysHonest n after) (sym first) (subst (λ (n : ℕ). StaysHonest old n) (sym last) honest)) told)
+    (verdict (subst (λ (n : ℕ). StoodStill n after) (sym first) (subst (λ (n : ℕ). StoodStill old n) (sym last) honest)) told)

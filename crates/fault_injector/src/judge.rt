@@ -18,7 +18,7 @@ ghost use Rattle.fault_runs.specs.FaultRun.{OneFaultRuns};
 ghost use Rattle.fault_injector.specs.Judging.{EndNames, JudgesBeside, row_wrong, wrong_verdict};
 ghost use Rattle.fault_runs.specs.RunLaw.{RunsKept, GroupStands};
 ghost use Rattle.fault_runs.specs.ScriptedRun.{ScriptedCycle, ScriptedRunsAreRight, kept_through};
-ghost use Rattle.fault_runs.specs.Scripts.{StaysHonest};
+ghost use Rattle.coded_unit.specs.Seen.{StoodStill};
 ghost use Rattle.fault_injector.specs.Verdicts.{verdict_of};
 ghost use Rattle.fault_runs.specs.Accepted.{EndsAreRead, OutputsAreRead};
 
@@ -71,7 +71,7 @@ pub fn verdict<U: Unit>(
     requires few { length rows.now ≤ most_cycles }
     requires group { GroupFits graph.now group.now }
     ensures never_falls { (U.seen unit.old).wrong ≤ (U.seen unit.new).wrong }
-    ensures verdict { StaysHonest (U.seen unit.old).wrong (U.seen unit.new).wrong → IfOk result (λ v. v ≡ verdict_of table.now graph.now group.now rows.now) }
+    ensures verdict { StoodStill (U.seen unit.old).wrong (U.seen unit.new).wrong → IfOk result (λ v. v ≡ verdict_of table.now graph.now group.now rows.now) }
     ensures names { IfOk result (Names (length graph.now.outputs) (length graph.now.operations)) }
     ensures run_law { RunsKept }
     ensures groups { GroupStands }
@@ -105,7 +105,7 @@ pub fn verdict_beside<U: Unit>(
     requires group { GroupFits graph.now group.now }
     requires others { All (λ row. length row ≡ length graph.now.outputs) other.now.rows.items }
     ensures never_falls { (U.seen unit.old).wrong ≤ (U.seen unit.new).wrong }
-    ensures verdict { StaysHonest (U.seen unit.old).wrong (U.seen unit.new).wrong →
+    ensures verdict { StoodStill (U.seen unit.old).wrong (U.seen unit.new).wrong →
         record { rows = other.now.rows.items; end = other.now.end } ≡ outcome_for (graph_run graph.now rows.now) →
         IfOk result (λ v. v ≡ verdict_of table.now graph.now group.now rows.now) }
     ensures names { IfOk result (Names (length graph.now.outputs) (length graph.now.operations)) }
@@ -134,7 +134,7 @@ fn compared<U: Unit>(
     requires others { All (λ row. length row ≡ length graph.now.outputs) other.now.rows.items }
     ensures same { scripted.new.unit.ghost_name ≡ scripted.old.unit.ghost_name }
     ensures never_falls { (U.seen scripted.old.unit.now).wrong ≤ (U.seen scripted.new.unit.now).wrong }
-    ensures verdict { StaysHonest (U.seen scripted.old.unit.now).wrong (U.seen scripted.new.unit.now).wrong →
+    ensures verdict { StoodStill (U.seen scripted.old.unit.now).wrong (U.seen scripted.new.unit.now).wrong →
         record { rows = other.now.rows.items; end = other.now.end } ≡ outcome_for (graph_run graph.now rows.now) →
         IfOk result (λ v. v ≡ verdict_of table.now graph.now (faults_of scripted.old.carried.items) rows.now) }
     ensures names { IfOk result (Names (length graph.now.outputs) (length graph.now.operations)) }
@@ -173,7 +173,7 @@ pub fn run_undisturbed<U: Unit>(
     requires few { length rows.now ≤ most_cycles }
     ensures never_falls { (U.seen unit.old).wrong ≤ (U.seen unit.new).wrong }
     ensures widths { IfOk result (λ other. All (λ row. length row ≡ length graph.now.outputs) other.rows.items) }
-    ensures run { StaysHonest (U.seen unit.old).wrong (U.seen unit.new).wrong →
+    ensures run { StoodStill (U.seen unit.old).wrong (U.seen unit.new).wrong →
         IfOk result (λ other. record { rows = other.rows.items; end = other.end } ≡ outcome_for (graph_run graph.now rows.now)) }
 {
     let mut machine = Machine::new(alloc, graph, table)?;
@@ -221,7 +221,7 @@ fn carry<U: Unit>(
         ≡ kept_through (faults_of scripted.old.carried.items) (setting machine.old inputs.now) (keeps_of scripted.old.carried.items) []
         machine.old.graph.operations machine.new.answers }
     ensures never_falls { (U.seen scripted.old.unit.now).wrong ≤ (U.seen scripted.new.unit.now).wrong }
-    ensures scripted { StaysHonest (U.seen scripted.old.unit.now).wrong (U.seen scripted.new.unit.now).wrong →
+    ensures scripted { StoodStill (U.seen scripted.old.unit.now).wrong (U.seen scripted.new.unit.now).wrong →
         ScriptedCycle (faults_of scripted.old.carried.items) (setting machine.old inputs.now) (keeps_of scripted.old.carried.items) []
         machine.old.graph.operations machine.new.answers }
 {

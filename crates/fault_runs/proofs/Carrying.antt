@@ -14,7 +14,8 @@ use Rattle.fault_script.specs.declared.act.Fault.{Fault}
 use Rattle.fault_script.specs.Changes.{with_operand, changed, answered, is_skip, is_call_of, act_with, act_at_call, kept_at_call}
 use Rattle.fault_runs.specs.declared.scripted.Carried.{Carried}
 use Rattle.fault_runs.specs.Carried.{faults_of, keeps_of}
-use Rattle.fault_runs.specs.Scripts.{passed_by, handed_by, skips_by, right_by, word, word_at_call, right_under, Performed, StaysHonest}
+use Rattle.coded_unit.specs.Seen.{StoodStill}
+use Rattle.fault_runs.specs.Scripts.{passed_by, handed_by, skips_by, right_by, word, word_at_call, right_under, Performed}
 
 -- ---- the call that is passed on may be asked
 
@@ -99,12 +100,12 @@ made faults keeps call inner result a w other x y i j is fails same passed gives
 same_one_more : (n : ℕ) → one_more n ≡ n → n < 2 ^ 64 - 1 → ⊥
 same_one_more n e h = grind (arith, nat_tests)
 
-right_inside : (inner right : Answer) (i j : ℕ) → Counts inner right i j → StaysHonest i j → inner ≡ right
+right_inside : (inner right : Answer) (i j : ℕ) → Counts inner right i j → StoodStill i j → inner ≡ right
 right_inside inner right i j (inl h) honest = h.0
 right_inside inner right i j (inr h) honest = absurd (same_one_more i (sym h.1 ∙ honest.0) honest.1)
 
 right_from : (a : Option Act) (w : ℤ) (call : Call) (result inner : Answer) (i j : ℕ) → result ≡ handed_by a w inner →
-    cond (skips_by a) (j ≡ i) (Counts inner (Right (passed_by a w call)) i j) → StaysHonest i j → result ≡ right_by a w call
+    cond (skips_by a) (j ≡ i) (Counts inner (Right (passed_by a w call)) i j) → StoodStill i j → result ≡ right_by a w call
 right_from None w call result inner i j gives counted honest = gives ∙ right_inside inner (Right call) i j counted honest
 right_from (Some act.Skip) w call result inner i j gives counted honest = gives
 right_from (Some (act.OperandAdd n e)) w call result inner i j gives counted honest = gives ∙ right_inside inner _ i j counted honest
@@ -115,7 +116,7 @@ right_from (Some (act.ResultAdd e)) w call result inner i j gives counted honest
 right_from (Some (act.Operator kind)) w call result inner i j gives counted honest = gives ∙ right_inside inner _ i j counted honest
 
 pub right_of : (faults : List Fault) (keeps : List (Option ℤ)) (call : Call) (result : Answer) (x y : Option (List Entry)) (i j : ℕ) →
-    Performed faults keeps call result x y i j → StaysHonest i j →
+    Performed faults keeps call result x y i j → StoodStill i j →
     result ≡ right_under faults keeps call
 right_of faults keeps call result x y i j h honest =
     right_from (act_at_call faults keeps call) (word_at_call faults keeps call) call result h.inner i j h.gives h.counted honest

@@ -1,5 +1,5 @@
 -- Keeping: what is kept for each fault of a group after a call.
-use Rattle.std.proofs.Common.{◌≡◌, ℕ, zero, suc, ◌+◌, ◌<◌, List, [], ◌∷◌, ◌++◌, length, map, set, get_or, slice_get, take, Option, Some, None, ℤ, refl, sym, ap, ◌∙◌, arith}
+use Rattle.std.proofs.Common.{◌≡◌, ℕ, zero, suc, ◌+◌, ◌<◌, ◌≤◌, List, [], ◌∷◌, ◌++◌, length, map, set, get_or, slice_get, take, Option, Some, None, ℤ, refl, sym, ap, ◌∙◌, arith}
 use Rattle.coded_unit.specs.declared.call.Call.{Call}
 use Rattle.coded_unit.specs.declared.call.Answer.{Answer}
 use Rattle.fault_script.specs.declared.act.Fault.{Fault}
@@ -59,24 +59,40 @@ map_push : {X Y : Type 0} (f : X → Y) (xs : List X) (x : X) → map f (xs ++ x
 map_push f [] x = refl
 map_push f (y ∷ xs) x = ap (λ ys. f y ∷ ys) (map_push f xs x)
 
-take_more : (faults : List Fault) (i : ℕ) (f : Fault) → slice_get faults i ≡ Some f → take (i + 1) faults ≡ take i faults ++ f ∷ []
-take_more [] i f there = absurd cc
-take_more (g ∷ faults) zero f there = let same : g ≡ f = cc in ap (λ (x : Fault). x ∷ []) same
-take_more (g ∷ faults) (suc i) f there =
+take_more : {X : Type 0} (xs : List X) (i : ℕ) (x : X) → slice_get xs i ≡ Some x → take (i + 1) xs ≡ take i xs ++ x ∷ []
+take_more [] i x there = absurd cc
+take_more (y ∷ xs) zero x there = let same : y ≡ x = cc in ap (λ z. z ∷ []) same
+take_more (y ∷ xs) (suc i) x there =
     let on : suc i + 1 ≡ suc (i + 1) = omega arith in
-    ap (λ (n : ℕ). take n (g ∷ faults)) on ∙ ap (λ (fs : List Fault). g ∷ fs) (take_more faults i f there)
+    ap (λ (n : ℕ). take n (y ∷ xs)) on ∙ ap (λ ys. y ∷ ys) (take_more xs i x there)
 
 -- one fault more is carried
-pub carried_more : (group : List Fault) (now next : List Carried) (i : ℕ) (f : Fault) → slice_get group i ≡ Some f
-    → next ≡ now ++ record { fault = f; kept = None } ∷ [] → faults_of now ≡ take i group → keeps_of now ≡ none_kept (take i group)
-    → (faults_of next ≡ take (i + 1) group) × (keeps_of next ≡ none_kept (take (i + 1) group))
-carried_more group now next i f there is faults keeps =
-    let more = take_more group i f there in
-    let x : Carried = record { fault = f; kept = None } in
-    let none : Fault → Option ℤ = λ g. None in (
+pub carried_more : (group : List Fault) (kept : List (Option ℤ)) (now next : List Carried) (i : ℕ) (f : Fault) (k : Option ℤ)
+    → slice_get group i ≡ Some f → slice_get kept i ≡ Some k → next ≡ now ++ record { fault = f; kept = k } ∷ []
+    → faults_of now ≡ take i group → keeps_of now ≡ take i kept
+    → (faults_of next ≡ take (i + 1) group) × (keeps_of next ≡ take (i + 1) kept)
+carried_more group kept now next i f k there kept_there is faults keeps =
+    let x : Carried = record { fault = f; kept = k } in (
       ap faults_of is
-          ∙ (map_push (λ (c : Carried). c.fault) now x ∙ (ap (λ (fs : List Fault). fs ++ f ∷ []) faults ∙ sym more)),
+          ∙ (map_push (λ (c : Carried). c.fault) now x ∙ (ap (λ (fs : List Fault). fs ++ f ∷ []) faults ∙ sym (take_more group i f there))),
       ap keeps_of is
           ∙ (map_push (λ (c : Carried). c.kept) now x
-          ∙ (ap (λ (ks : List (Option ℤ)). ks ++ None ∷ []) keeps ∙ (sym (map_push none (take i group) f) ∙ ap none_kept (sym more)))),
+          ∙ (ap (λ (ks : List (Option ℤ)). ks ++ k ∷ []) keeps ∙ sym (take_more kept i k kept_there))),
     )
+
+-- of which no word is kept
+none_there : (faults : List Fault) (i : ℕ) (f : Fault) → slice_get faults i ≡ Some f → slice_get (none_kept faults) i ≡ Some None
+none_there [] i f there = absurd cc
+none_there (g ∷ faults) zero f there = refl
+none_there (g ∷ faults) (suc i) f there = none_there faults i f there
+
+pub none_more : (group : List Fault) (now next : List Carried) (i : ℕ) (f : Fault) → slice_get group i ≡ Some f
+    → next ≡ now ++ record { fault = f; kept = None } ∷ [] → faults_of now ≡ take i group → keeps_of now ≡ take i (none_kept group)
+    → (faults_of next ≡ take (i + 1) group) × (keeps_of next ≡ take (i + 1) (none_kept group))
+none_more group now next i f there is faults keeps = carried_more group (none_kept group) now next i f None there (none_there group i f there) is faults keeps
+
+pub none_all : (faults : List Fault) (i : ℕ) → length faults ≤ i → take i (none_kept faults) ≡ none_kept faults
+none_all [] zero all = refl
+none_all [] (suc i) all = refl
+none_all (f ∷ faults) zero all = absurd (omega (arith, all))
+none_all (f ∷ faults) (suc i) all = ap (λ (ks : List (Option ℤ)). None ∷ ks) (none_all faults i (omega (arith, all)))

@@ -1,5 +1,5 @@
 -- Scripts: what a unit with a group of scripted faults does at a call.
-use Rattle.std.specs.Prelude.{ℕ, ◌≡◌, ◌-◌, ◌^◌, ◌<◌, Bool, false, cond, List, [], ◌∷◌, Option, Some, None, ℤ, pos, unwrap_or}
+use Rattle.std.specs.Prelude.{ℕ, ◌≡◌, Bool, false, cond, List, [], ◌∷◌, Option, Some, None, ℤ, pos, unwrap_or}
 use Rattle.coded_unit.specs.Log.{Entry, GrowsBy, Counts}
 use Rattle.coded_unit.specs.Right.{Right}
 use Rattle.coded_unit.specs.declared.call.Call.{Call}
@@ -60,7 +60,3 @@ pub record Performed (faults : List Fault) (keeps : List (Option ℤ)) (call : C
   pub gives : result ≡ handed faults keeps call inner
   pub told : GrowsBy told_before told_now (cond (skips faults keeps call) [] ((passed faults keeps call, inner) ∷ []))
   pub counted : cond (skips faults keeps call) (wrong_now ≡ wrong_before) (Counts inner (Right (passed faults keeps call)) wrong_before wrong_now)
-
--- no answer of a unit was wrong where its count of wrong ones stayed below its last value
-abbrev pub StaysHonest : ℕ → ℕ → Type 0
-StaysHonest before now = (now ≡ before) × (before < 2 ^ 64 - 1)

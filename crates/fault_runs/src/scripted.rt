@@ -1,6 +1,6 @@
 //! A unit around a unit, which carries out the faults of a group.
 
-ghost use Rattle.std.specs.Prelude.{◌≡◌, ◌+◌, ◌==◌, ◌∷◌, [], cond, None, Some, IfNone, IfSome, IfOk};
+ghost use Rattle.std.specs.Prelude.{◌≡◌, ◌+◌, ◌==◌, ◌∷◌, [], cond, None, Some, IfNone, IfSome, IfOk, length};
 ghost use Rattle.coded_unit.specs.Asked.{Asked};
 ghost use Rattle.coded_unit.specs.Log.{GrowsBy, Counts};
 ghost use Rattle.coded_unit.specs.Right.{Right};
@@ -10,8 +10,10 @@ ghost use Rattle.fault_script.specs.Changes.{is_call_before as is_call_before_of
 ghost use Rattle.fault_script.specs.Changes.{act_at_call, act_with, shifted as shifted_of};
 ghost use Rattle.fault_script.specs.Groups.{Apart};
 ghost use Rattle.fault_runs.specs.Carried.{faults_of, keeps_of};
-ghost use Rattle.fault_runs.specs.Scripts.{word, word_at_call, right_under, Performed, StaysHonest};
+ghost use Rattle.coded_unit.specs.Seen.{StoodStill};
+ghost use Rattle.fault_runs.specs.Scripts.{word, word_at_call, right_under, Performed};
 
+use crate::kept_words::KeptWords;
 use coded_unit::{Answer, Call, Unit, Word, table};
 use fault_script::{Act, Fault, Group};
 use std::alloc::Global;
@@ -38,6 +40,21 @@ pub struct Scripted<'u, U> {
     wrong: u64,
 }
 
+/// The faults of a group, with the words that are kept for them; `Memory` where there is no room for them.
+pub fn carried_with(alloc: Global, group: &Group, kept: &KeptWords) -> Result<Vec<Carried>, Memory>
+    requires { length kept.now ≡ length group.now }
+    ensures faults { IfOk result (λ carried. faults_of carried.items ≡ group.now) }
+    ensures kept { IfOk result (λ carried. keeps_of carried.items ≡ kept.now) }
+{
+    let mut carried = Vec::new(alloc);
+    'faults: for i in 0..group.len() {
+        let fault = group.at(i);
+        let word = kept.at(i);
+        carried.push(Carried { fault, kept: word })?;
+    }
+    Ok(carried)
+}
+
 /// The faults of a group, of which no word is kept yet; `Memory` where there is no room for them.
 pub fn carried_of(alloc: Global, group: &Group) -> Result<Vec<Carried>, Memory>
     ensures faults { IfOk result (λ carried. faults_of carried.items ≡ group.now) }
@@ -54,8 +71,8 @@ pub fn carried_of(alloc: Global, group: &Group) -> Result<Vec<Carried>, Memory>
 }
 
 impl<'u, U: Unit> Scripted<'u, U> {
-    /// The unit with the faults of a group around it, before its first call; `Memory` where there is no room for
-    /// them. No later call takes memory.
+    /// The unit with the faults of a group around it, of which no word is kept yet; `Memory` where there is no room
+    /// for them. No later call takes memory.
     pub fn new(alloc: Global, unit: &'u mut U, group: &Group) -> Result<Scripted<'u, U>, Memory>
         requires apart { Apart group.now }
         ensures inside { IfOk result (λ s. s.unit.now ≡ unit.old) }
@@ -65,6 +82,26 @@ impl<'u, U: Unit> Scripted<'u, U> {
         ensures wrong { IfOk result (λ s. s.wrong ≡ 0) }
     {
         let carried = carried_of(alloc, group)?;
+        Ok(Scripted::of_parts(unit, carried))
+    }
+
+    /// The unit with the faults of a group around it, each with the word, if any, that is kept for it: so a run goes on
+    /// where calls were made before. `Memory` where there is no room for them. No later call takes memory.
+    pub fn with_kept(
+        alloc: Global,
+        unit: &'u mut U,
+        group: &Group,
+        kept: &KeptWords,
+    ) -> Result<Scripted<'u, U>, Memory>
+        requires apart { Apart group.now }
+        requires each { length kept.now ≡ length group.now }
+        ensures inside { IfOk result (λ s. s.unit.now ≡ unit.old) }
+        ensures same { IfOk result (λ s. s.unit.ghost_name ≡ unit.entry.ghost_name) }
+        ensures faults { IfOk result (λ s. faults_of s.carried.items ≡ group.now) }
+        ensures kept { IfOk result (λ s. keeps_of s.carried.items ≡ kept.now) }
+        ensures wrong { IfOk result (λ s. s.wrong ≡ 0) }
+    {
+        let carried = carried_with(alloc, group, kept)?;
         Ok(Scripted::of_parts(unit, carried))
     }
 
@@ -121,7 +158,7 @@ impl<'u, U: Unit> Unit for Scripted<'u, U> {
             ≡ kept_after_of (faults_of self.old.carried.items) (keeps_of self.old.carried.items) call.now result }
         ensures performed { Performed (faults_of self.old.carried.items) (keeps_of self.old.carried.items) call.now result
             (U.seen self.old.unit.now).log (U.seen self.new.unit.now).log (U.seen self.old.unit.now).wrong (U.seen self.new.unit.now).wrong }
-        ensures right { StaysHonest (U.seen self.old.unit.now).wrong (U.seen self.new.unit.now).wrong
+        ensures right { StoodStill (U.seen self.old.unit.now).wrong (U.seen self.new.unit.now).wrong
             → result ≡ right_under (faults_of self.old.carried.items) (keeps_of self.old.carried.items) call.now }
     {
         let given = carried_out(self.unit, &self.carried, call);
@@ -144,7 +181,7 @@ fn carried_out<U: Unit>(unit: &mut U, carried: &[Carried], call: &Call) -> Answe
     requires { Asked call.now }
     ensures performed { Performed (faults_of carried.now) (keeps_of carried.now) call.now result
         (U.seen unit.old).log (U.seen unit.new).log (U.seen unit.old).wrong (U.seen unit.new).wrong }
-    ensures right { StaysHonest (U.seen unit.old).wrong (U.seen unit.new).wrong → result ≡ right_under (faults_of carried.now) (keeps_of carried.now) call.now }
+    ensures right { StoodStill (U.seen unit.old).wrong (U.seen unit.new).wrong → result ≡ right_under (faults_of carried.now) (keeps_of carried.now) call.now }
 {
     let Some(doing) = doing_at(carried, call) else {
         return unit.perform(call);
@@ -224,8 +261,8 @@ fn takes_word(act: &Act) -> bool
     }
 }
 
-/// Whether no call is done.
-fn is_skip(act: &Act) -> bool
+/// Whether no call is done under the act.
+pub fn is_skip(act: &Act) -> bool
     ensures { result ≡ is_skip_of act.now }
 {
     match act {
@@ -296,8 +333,10 @@ fn with_kind(call: &Call, kind: Kind) -> Call
 }
 
 /// The call that is done in place of a call, where the act takes this word.
-fn changed(act: &Act, word: &Word, call: &Call) -> Call
+#[tactic(auto, using(crate::proofs::Carrying::one_call))]
+pub fn changed(act: &Act, word: &Word, call: &Call) -> Call
     ensures call { result ≡ changed_of act.now word.now call.now }
+    ensures asked { Asked call.now → Asked result }
 {
     match *act {
         Act::OperandAdd { j, e } => with_operand(call, j, &operand_word(call, j).shift(e)),
@@ -308,7 +347,7 @@ fn changed(act: &Act, word: &Word, call: &Call) -> Call
 }
 
 /// The answer that is handed back in place of an answer, where the act takes this word.
-fn answered(act: &Act, word: &Word, given: &Answer) -> Answer
+pub fn answered(act: &Act, word: &Word, given: &Answer) -> Answer
     ensures { result ≡ answered_of act.now word.now given.now }
 {
     match *act {

@@ -3,7 +3,7 @@ use Rattle.coded_machine.specs.Runs.{outcome_for}
 use Rattle.coded_machine.specs.State.{State}
 use Rattle.op_graph.specs.GraphRun.{graph_run}
 use Rattle.fault_runs.specs.Carried.{faults_of, keeps_of}
-use Rattle.fault_runs.specs.Scripts.{StaysHonest}
+use Rattle.coded_unit.specs.Seen.{StoodStill}
 use Rattle.fault_injector.proofs.RunsBeside.{Known, StandBeside}
 use Rattle.fault_injector.proofs.UndisturbedRun.{outcome}
 use Rattle.fault_injector.proofs.judge.compared.Given as goal
@@ -26,7 +26,7 @@ invariant-rows g l =
       faults : faults_of l.scripted.carried.items ≡ faults_of l.fn.scripted.carried.items;
       never_falls : (unit.seen l.fn.scripted.unit.now).wrong ≤ (unit.seen l.scripted.unit.now).wrong;
       stand :
-          StaysHonest (unit.seen l.fn.scripted.unit.now).wrong (unit.seen l.scripted.unit.now).wrong →
+          StoodStill (unit.seen l.fn.scripted.unit.now).wrong (unit.seen l.scripted.unit.now).wrong →
           outcome l.other.rows.items l.other.end ≡ outcome_for (graph_run l.graph l.rows) →
           StandBeside l.table l.graph (faults_of l.fn.scripted.carried.items) l.rows l.other.rows.items l.other.end l.cycle m.held
           (keeps_of l.scripted.carried.items) (drop l.cycle l.rows);

@@ -1,6 +1,6 @@
 use Rattle.std.proofs.Common.{◌≡◌, ◌≤◌, false, None, All, drop, length}
 use Rattle.coded_machine.specs.State.{State}
-use Rattle.fault_runs.specs.Scripts.{StaysHonest}
+use Rattle.coded_unit.specs.Seen.{StoodStill}
 use Rattle.fault_injector.proofs.UndisturbedRun.{FollowsTo}
 use Rattle.fault_injector.proofs.judge.run_undisturbed.Given as goal
 
@@ -17,5 +17,5 @@ invariant-rows g l =
       inputs : length l.inputs ≡ length l.graph.inputs;
       widths : All (λ row. length row ≡ length l.graph.outputs) l.released.items;
       never_falls : (unit.seen l.fn.unit).wrong ≤ (unit.seen l.unit).wrong;
-      follows : StaysHonest (unit.seen l.fn.unit).wrong (unit.seen l.unit).wrong → FollowsTo l.graph l.rows (drop l.i l.rows) m l.released.items;
+      follows : StoodStill (unit.seen l.fn.unit).wrong (unit.seen l.unit).wrong → FollowsTo l.graph l.rows (drop l.i l.rows) m l.released.items;
     }

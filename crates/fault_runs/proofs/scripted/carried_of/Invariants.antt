@@ -6,5 +6,5 @@ use Rattle.fault_runs.proofs.scripted.carried_of.Given as goal
 abbrev pub invariant-faults : goal.invariant-faults
 invariant-faults l = record {
   faults : faults_of l.carried.items ≡ take l.i l.group;
-  kept : keeps_of l.carried.items ≡ none_kept (take l.i l.group);
+  kept : keeps_of l.carried.items ≡ take l.i (none_kept l.group);
 }
