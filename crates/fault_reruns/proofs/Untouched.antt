@@ -1,0 +1,195 @@
+-- Untouched: where nothing is touched, no call is made again, and the answers and the verdict are those of the run without the faults.
+use Rattle.std.proofs.Common.{◌≡◌, ℕ, zero, suc, ◌+◌, ◌-◌, ◌≤◌, ◌==◌, ◌&&◌, ◌||◌, Bool, true, false, cond, nat_lt, List, [], ◌∷◌, ◌++◌, length}
+use Rattle.std.proofs.Common.{map, slice_get, Option, Some, None, ℤ, unsigned_abs}
+use Rattle.std.proofs.Common.{refl, sym, ap, subst, ◌∙◌, arith}
+use Rattle.std.specs.Option.{is_some}
+use Rattle.std.proofs.lemmas.Bool.{eq-eqb}
+use Rattle.std.proofs.lemmas.List.{append_assoc, append-nil}
+use Rattle.vcp_base.specs.declared.kind.Kind.{Kind}
+use Rattle.vcp_base.specs.declared.kind.Kind.TheVariants as kind
+use Rattle.vcp_base.specs.declared.kind.StopKind.{StopKind}
+use Rattle.vcp_base.specs.declared.kind.StopKind.TheVariants as stop
+use Rattle.vcp_base.specs.Kinds.{operands, same}
+use Rattle.coded_unit.specs.declared.call.Answer.{Answer}
+use Rattle.op_graph.specs.declared.op.Op.{Op}
+use Rattle.op_graph.specs.GraphRun.{Stop}
+use Rattle.op_graph.specs.Lists.{Lists}
+use Rattle.op_graph.specs.Reads.{named}
+use Rattle.signature_table.specs.Signatures.{Numbers}
+use Rattle.coded_machine.specs.Calls.{Whole, call_of, is_word}
+use Rattle.coded_machine.specs.CycleEnds.{end_of, outputs_of, stored_words}
+use Rattle.fault_script.specs.declared.act.Act.{Act}
+use Rattle.fault_script.specs.Changes.{Acts}
+use Rattle.fault_runs.specs.Accepted.{RefusedAt}
+use Rattle.fault_runs.specs.RunLaw.{Words, taken}
+use Rattle.fault_injector.specs.declared.verdict.Verdict.{Verdict}
+use Rattle.fault_injector.specs.declared.verdict.Verdict.TheVariants as verdict
+use Rattle.fault_injector.specs.Judging.{row_wrong}
+use Rattle.fault_injector.specs.Verdicts.{WrongAt, judged, same_kind}
+use Rattle.fault_injector.proofs.RowsBeside.{same_self}
+use Rattle.fault_reruns.specs.Laws.{NoneRefused, Rests, Untouched}
+use Rattle.fault_reruns.specs.Reruns.{Again, CycleAgain, Part, after_answer, again, and_later, cycle_again, done, go_on, read_cycle, refusal_in, runs_again}
+use Rattle.fault_reruns.specs.Reruns.{source_of, source_touched, stop_in, unless_judged}
+use Rattle.fault_reruns.specs.Touched.{Marks, cycle_marks, given_marks, held_marks, mark, operand_touched, past_touched_stop, reads_touched_as, touched_at}
+
+-- ---- marks
+
+abbrev NoMark : List Bool → Type 0
+NoMark marks = (i : ℕ) → mark marks i ≡ false
+
+no_mark_more : (before : List Bool) (b : Bool) → NoMark before → b ≡ false → NoMark (before ++ b ∷ [])
+no_mark_more [] b none h zero = h
+no_mark_more [] b none h (suc i) = refl
+no_mark_more (x ∷ before) b none h zero = none zero
+no_mark_more (x ∷ before) b none h (suc i) = no_mark_more before b (λ j. none (suc j)) h i
+
+and_false : (b x : Bool) → x ≡ false → b && x ≡ false
+and_false true x h = h
+and_false false x h = refl
+
+all_false : (f a b c d : Bool) → f ≡ false → a ≡ false → b ≡ false → c ≡ false → d ≡ false → f || a || b || c || d ≡ false
+all_false true a b c d p q r s t = absurd cc
+all_false false true b c d p q r s t = absurd cc
+all_false false false true c d p q r s t = absurd cc
+all_false false false false true d p q r s t = absurd cc
+all_false false false false false d p q r s t = t
+
+reads_untouched : (m : Marks) (op : Op) (j : ℕ) (k : Kind) → NoMark m.held → NoMark m.given → reads_touched_as m op j k ≡ false
+reads_untouched m op j kind.Load held given = held (unsigned_abs op.imm)
+reads_untouched m op j _ held given = given (named op j)
+
+operand_untouched : (m : Marks) (op : Op) (j : ℕ) → NoMark m.held → NoMark m.given → operand_touched m op j ≡ false
+operand_untouched m op j held given = and_false (nat_lt j (operands op.kind)) (reads_touched_as m op j op.kind) (reads_untouched m op j op.kind held given)
+
+either_false : (b x : Bool) → x ≡ false → cond b false x ≡ false
+either_false true x h = refl
+either_false false x h = h
+
+untouched_at : (other : List Answer) (acts : ℕ → Option Act) (m : Marks) (k : ℕ) (op : Op) → acts k ≡ None → NoMark m.held → NoMark m.given
+    → touched_at other acts m k op ≡ false
+untouched_at other acts m k op none held given =
+    all_false (is_some (acts k)) (operand_touched m op 0) (operand_touched m op 1) (operand_touched m op 2) (past_touched_stop other m.given k)
+    (ap is_some none) (operand_untouched m op 0 held given) (operand_untouched m op 1 held given) (operand_untouched m op 2 held given)
+    (either_false (nat_lt k (length other)) (mark m.given (length other - 1)) (given (length other - 1)))
+
+none_given : (other : List Answer) (acts : ℕ → Option Act) (held before : List Bool) (k : ℕ) (ops : List Op) → ((i : ℕ) → acts i ≡ None) → NoMark held
+    → NoMark before → NoMark (given_marks other acts held before k ops)
+none_given other acts held before k [] none h b = b
+none_given other acts held before k (op ∷ ops) none h b =
+    none_given other acts held (before ++ touched_at other acts (record { held = held; given = before }) k op ∷ []) (k + 1) ops none h
+    (no_mark_more before _ b (untouched_at other acts (record { held = held; given = before }) k op (none k) h b))
+
+pub none_touched : (g : Lists) (other : List Answer) (acts : ℕ → Option Act) (dirty : List Bool) → Untouched acts dirty
+    → NoMark (cycle_marks g other acts dirty).given
+none_touched g other acts dirty u = none_given other acts dirty [] 0 g.operations u.no_fault u.cells (λ i. refl)
+
+stores_untouched : (given : List Bool) (stores : List ℕ) → NoMark given → NoMark (map (λ n. mark given n) stores)
+stores_untouched given [] none i = refl
+stores_untouched given (n ∷ stores) none zero = none n
+stores_untouched given (n ∷ stores) none (suc i) = stores_untouched given stores none i
+
+pub none_held : (g : Lists) (other : List Answer) (acts : ℕ → Option Act) (dirty : List Bool) → Untouched acts dirty
+    → NoMark (held_marks g (cycle_marks g other acts dirty).given)
+none_held g other acts dirty u = stores_untouched (cycle_marks g other acts dirty).given g.stores (none_touched g other acts dirty u)
+
+-- ---- one cycle
+
+seam : (xs : List Answer) (x : Answer) (ys : List Answer) → slice_get (xs ++ x ∷ ys) (length xs) ≡ Some x
+seam [] x ys = refl
+seam (y ∷ xs) x ys = seam xs x ys
+
+word_goes : (x : Answer) (ops : List Op) (rest : List Answer) → is_word x ≡ true → cond (is_word x) (Whole ops rest) (rest ≡ []) → Whole ops rest
+word_goes x ops rest e whole = subst (λ (b : Bool). cond b (Whole ops rest) (rest ≡ [])) e whole
+
+stop_ends : (x : Answer) (ops : List Op) (rest : List Answer) → is_word x ≡ false → cond (is_word x) (Whole ops rest) (rest ≡ []) → rest ≡ []
+stop_ends x ops rest e whole = subst (λ (b : Bool). cond b (Whole ops rest) (rest ≡ [])) e whole
+
+after_same : (c : CycleAgain) (before : List Answer) (x : Answer) (rest left : List Answer) (ops : List Op) (b : Bool) → is_word x ≡ b
+    → c.other ≡ before ++ x ∷ rest → cond (is_word x) (Whole ops rest) (rest ≡ [])
+    → (c.other ≡ (before ++ x ∷ []) ++ rest → Whole ops rest → again c (before ++ x ∷ []) ops left ≡ done c.other left)
+    → after_answer b (before ++ x ∷ []) (λ left. again c (before ++ x ∷ []) ops left) left ≡ done c.other left
+after_same c before x rest left ops true e is whole goes = goes (is ∙ sym (append_assoc before (x ∷ []) rest)) (word_goes x ops rest e whole)
+after_same c before x rest left ops false e is whole goes =
+    ap (λ (own : List Answer). done own left) (sym (is ∙ ap (λ (ys : List Answer). before ++ x ∷ ys) (stop_ends x ops rest e whole)))
+
+again_same : (c : CycleAgain) (ops : List Op) (before rest left : List Answer) → NoMark c.touched → c.other ≡ before ++ rest → Whole ops rest
+    → again c before ops left ≡ done c.other left
+again_same c [] before [] left none is whole = ap (λ (own : List Answer). done own left) (sym (is ∙ append-nil before))
+again_same c [] before (x ∷ rest) left none is whole = absurd whole
+again_same c (op ∷ ops) before [] left none is whole = absurd whole
+again_same c (op ∷ ops) before (x ∷ rest) left none is whole =
+    let k = length before in
+    let next : Answer → List Answer → Part = λ a left. after_answer (is_word a) (before ++ a ∷ []) (λ left. again c (before ++ a ∷ []) ops left) left in
+    let asks = source_touched (c.acts k) (taken c.past before op (c.acts k)) (call_of c.setting op before) in
+    let there : slice_get c.other k ≡ Some x = ap (λ (xs : List Answer). slice_get xs k) is ∙ seam before x rest in
+    ap (λ (b : Bool). go_on before (cond b asks (source_of (slice_get c.other k))) next left) (none k)
+    ∙ (ap (λ (y : Option Answer). go_on before (source_of y) next left) there
+    ∙ after_same c before x rest left ops (is_word x) refl is whole
+    (λ is_next whole_next. again_same c ops (before ++ x ∷ []) rest left none is_next whole_next))
+
+pub cycle_same : (t : Numbers) (g : Lists) (acts : Acts) (n : ℕ) (past : Words) (held : List ℤ) (dirty : List Bool) (row : List ℤ) (other left : List Answer)
+    → Whole g.operations other → Untouched (acts n) dirty
+    → again (cycle_again t g acts n past held dirty row other) [] g.operations left ≡ done other left
+cycle_same t g acts n past held dirty row other left whole u =
+    again_same (cycle_again t g acts n past held dirty row other) g.operations [] other left (none_touched g other (acts n) dirty u) refl whole
+
+-- ---- its verdict
+
+row_same : (row : List ℤ) (number : ℕ) → row_wrong row row number ≡ None
+row_same [] number = refl
+row_same (x ∷ row) number =
+    ap (λ (b : Bool). cond b (row_wrong row row (suc number)) (Some (record { output = number; got = x; want = x }))) (same_self x) ∙ row_same row (suc number)
+
+kind_same : (k : StopKind) → same_kind k k ≡ true
+kind_same stop.Range = refl
+kind_same stop.DivZero = refl
+kind_same stop.Operand = refl
+
+both : (a b : Bool) → a ≡ true → b ≡ true → a && b ≡ true
+both true b h e = e
+both false b h e = absurd cc
+
+stop_same : (n : ℕ) (s : Stop) (r : Option RefusedAt) (w : Option WrongAt) → judged n (Some s) r (Some s) w ≡ Some verdict.Same
+stop_same n s r w =
+    ap (λ (b : Bool). Some (cond b verdict.Same (verdict.Stopped n s.op s.kind)))
+    (both (s.op == s.op) (same_kind s.kind s.kind) (eq-eqb s.op s.op refl) (kind_same s.kind))
+
+-- the verdict is Same, or there is none
+abbrev SameOrNone : Option Verdict → Type 0
+SameOrNone None = Unit {0}
+SameOrNone (Some v) = v ≡ verdict.Same
+
+judged_same : (n : ℕ) (s : Option Stop) (r : Option RefusedAt) (w : Option WrongAt) → r ≡ None → w ≡ None → SameOrNone (judged n s r s w)
+judged_same n (Some s) r w e f = subst SameOrNone (sym (stop_same n s r w)) refl
+judged_same n None None None e f = tt
+judged_same n None None (Some w) e f = absurd cc
+judged_same n None (Some r) w e f = absurd cc
+
+read_same : (g : Lists) (t : Numbers) (n : ℕ) (other : List Answer) → refusal_in (end_of g t n other) ≡ None → SameOrNone (read_cycle g t n other other)
+read_same g t n other none =
+    judged_same n (stop_in (end_of g t n other)) (refusal_in (end_of g t n other)) (row_wrong (outputs_of g other) (outputs_of g other) 0) none
+    (row_same (outputs_of g other) 0)
+
+-- ---- whole runs
+
+rests_then : (v : Option Verdict) (other left : List Answer) (next : List Answer → Again) → SameOrNone v → Rests (next left) left
+    → Rests (unless_judged false v (done other left) next) left
+rests_then (Some v) other left next same later = record { none = refl; same_is = same; left_is = refl; enough = refl }
+rests_then None other left next same later =
+    record { none = later.none; same_is = later.same_is; left_is = later.left_is; enough = later.enough }
+
+pub runs_rest : (t : Numbers) (g : Lists) (acts : Acts) (rows : List (List ℤ)) (others : List (List Answer)) (n : ℕ) (past : Words) (held : List ℤ)
+    (dirty : List Bool) (left : List Answer) → ((i : ℕ) → mark dirty i ≡ false) → ((m k : ℕ) → n ≤ m → acts m k ≡ None) → NoneRefused g t n others
+    → Rests (runs_again t g acts n past held dirty rows others left) left
+runs_rest t g acts [] others n past held dirty left cells none ends = record { none = refl; same_is = refl; left_is = refl; enough = refl }
+runs_rest t g acts (row ∷ rows) [] n past held dirty left cells none ends = record { none = refl; same_is = refl; left_is = refl; enough = refl }
+runs_rest t g acts (row ∷ rows) (other ∷ others) n past held dirty left cells none ends =
+    let u : Untouched (acts n) dirty = record { cells = cells; no_fault = λ k. none n k (omega arith) } in
+    let marks = held_marks g (cycle_marks g other (acts n) dirty).given in
+    let next : List Answer → List Answer → Again =
+    λ own left. runs_again t g acts (suc n) (record { held = held; answers = own }) (stored_words g own) marks rows others left in
+    let later = runs_rest t g acts rows others (suc n) (record { held = held; answers = other }) (stored_words g other) marks left
+    (none_held g other (acts n) dirty u) (λ m k below. none m k (omega (arith, below))) ends.2 in
+    subst (λ (part : Part). Rests (and_later (λ own. read_cycle g t n own other) next part) left)
+    (sym (cycle_same t g acts n past held dirty row other left ends.0 u))
+    (rests_then (read_cycle g t n other other) other left (next other) (read_same g t n other ends.1) later)

@@ -1,0 +1,16 @@
+use Rattle.std.proofs.Common.{◌≡◌, ◌≤◌, length, vec_capacity}
+use Rattle.coded_machine.specs.Calls.{AllWords}
+use Rattle.fault_reruns.specs.Begun.{begun}
+use Rattle.fault_reruns.proofs.AgainRuns.{Midway}
+use Rattle.fault_reruns.proofs.again.rerun_cycle.Given as goal
+
+abbrev pub invariant-operations : goal.invariant-operations
+invariant-operations g l =
+    let unit = g.U.Unit in
+    record {
+      midway : Midway (begun l.b) l.k l.own.items (unit.seen l.fn.unit).log (unit.seen l.unit).log (unit.seen l.fn.unit).wrong (unit.seen l.unit).wrong;
+      answered : length l.own.items ≡ l.k;
+      words : AllWords l.own.items;
+      room : vec_capacity l.fn.own ≤ vec_capacity l.own;
+      all : l.count ≡ length l.b.graph.now.operations;
+    }

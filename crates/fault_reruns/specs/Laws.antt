@@ -1,0 +1,113 @@
+-- Laws: what holds of touched operations and of reruns.
+use Rattle.std.specs.Prelude.{◌≡◌, ◌≤◌, ℕ, suc, Bool, true, false, ℤ, List, [], ◌∷◌, length, slice_get, slice_index_or, Option, Some, None}
+use Rattle.vcp_base.specs.Limits.{most_cycles}
+use Rattle.vcp_base.specs.Types.{fits}
+use Rattle.coded_unit.specs.declared.call.Answer.{Answer}
+use Rattle.coded_unit.specs.Words.{modulo, value_part}
+use Rattle.op_graph.specs.declared.op.Op.{Op}
+use Rattle.op_graph.specs.declared.op.Outlet.{Outlet}
+use Rattle.op_graph.specs.GraphRun.{Cycle, initial}
+use Rattle.op_graph.specs.Lists.{Lists}
+use Rattle.op_graph.specs.Rules.{IsGraph}
+use Rattle.signature_table.specs.Signatures.{Numbers, IsTable, expected}
+use Rattle.coded_machine.specs.declared.cycle_end.CycleEnd.TheVariants as end
+use Rattle.coded_machine.specs.Calls.{AllRight, AllWords, Whole, word_at}
+use Rattle.coded_machine.specs.CycleEnds.{end_of, initial_words}
+use Rattle.coded_machine.specs.Honest.{answers_for}
+use Rattle.fault_script.specs.declared.act.Act.{Act}
+use Rattle.fault_script.specs.declared.act.Fault.{Fault}
+use Rattle.fault_script.specs.Changes.{Acts, acts_of}
+use Rattle.fault_script.specs.Groups.{GroupFits}
+use Rattle.fault_runs.specs.RunLaw.{RightRun, Words, no_words}
+use Rattle.fault_injector.specs.declared.verdict.Verdict.TheVariants as verdict
+use Rattle.fault_injector.specs.Verdicts.{plain_cycles, verdict_of}
+use Rattle.fault_reruns.specs.Reruns.{Again, CycleAgain, IsReference, again, cycle_again, done, refusal_in, rerun, runs_again}
+use Rattle.fault_reruns.specs.Touched.{cycle_marks, held_marks, mark, marks_at, touched, touched_at}
+
+-- what is touched in cycles that the run without the faults came to
+pub record TouchedLaws : Type 0 where
+  -- an operation: by the marks of its whole cycle
+  pub operation : (g : Lists) (acts : Acts) (others : List (List Answer)) (n k : ℕ) (op : Op) → IsGraph g →
+      Whole g.operations (slice_index_or others n []) → slice_get g.operations k ≡ Some op →
+      touched g acts others n k ≡ touched_at (slice_index_or others n []) (acts n) (marks_at g acts others n) k op
+  -- a cell: where its STORE was touched in the cycle before
+  pub cell : (g : Lists) (acts : Acts) (others : List (List Answer)) (n i m : ℕ) → slice_get g.stores i ≡ Some m →
+      mark (marks_at g acts others (suc n)).held i ≡ touched g acts others n m
+  pub first_cells : (g : Lists) (acts : Acts) (others : List (List Answer)) (i : ℕ) → mark (marks_at g acts others 0).held i ≡ false
+
+-- the answers that stand for the cycles of a run on plain integers, the first of which is cycle n
+abbrev pub answers_of : Numbers → Lists → ℕ → List Cycle → List (List Answer)
+answers_of t g n [] = []
+answers_of t g n (c ∷ cycles) = answers_for g.profile t.seed t.step n c ∷ answers_of t g (suc n) cycles
+
+-- the right answers of the run without faults are those that stand for the graph's run
+abbrev pub ReferencesStand : Type 0
+ReferencesStand =
+    (t : Numbers) (g : Lists) (rows : List (List ℤ)) (others : List (List Answer)) → IsGraph g → IsTable t → length rows ≤ most_cycles →
+    IsReference t g rows others → others ≡ answers_of t g 0 (plain_cycles g (initial g) rows)
+
+-- ---- where nothing is touched
+
+-- nothing is touched in a cycle that begins with these marks of cells: no cell, and no fault stands in it
+pub record Untouched (acts : ℕ → Option Act) (dirty : List Bool) : Type 0 where
+  pub cells : (i : ℕ) → mark dirty i ≡ false
+  pub no_fault : (k : ℕ) → acts k ≡ None
+
+-- each of the cycles from n on is whole, and none is refused
+abbrev pub NoneRefused : Lists → Numbers → ℕ → List (List Answer) → Type 0
+NoneRefused g t n [] = Unit {0}
+NoneRefused g t n (answers ∷ cycles) = Whole g.operations answers × (refusal_in (end_of g t n answers) ≡ None) × NoneRefused g t (suc n) cycles
+
+-- a rerun makes no call from here on, and nothing differs
+pub record Rests (a : Again) (left : List Answer) : Type 0 where
+  pub none : a.calls ≡ []
+  pub same_is : a.verdict ≡ verdict.Same
+  pub left_is : a.left ≡ left
+  pub enough : a.short ≡ false
+
+pub record RestLaws : Type 0 where
+  -- in a cycle in which nothing is touched no call is made, and its answers are those of the run without the faults; and no cell is touched after it
+  pub cycle : (t : Numbers) (g : Lists) (acts : Acts) (n : ℕ) (past : Words) (held : List ℤ) (dirty : List Bool) (row : List ℤ) (other left : List Answer) →
+      Whole g.operations other → Untouched (acts n) dirty → again (cycle_again t g acts n past held dirty row other) [] g.operations left ≡ done other left
+  pub cells : (g : Lists) (other : List Answer) (acts : ℕ → Option Act) (dirty : List Bool) → Untouched acts dirty →
+      (i : ℕ) → mark (held_marks g (cycle_marks g other acts dirty).given) i ≡ false
+  -- so from a cycle on in which no cell is touched and behind which no fault comes
+  pub run : (t : Numbers) (g : Lists) (acts : Acts) (rows : List (List ℤ)) (others : List (List Answer)) (n : ℕ) (past : Words) (held : List ℤ)
+      (dirty : List Bool) (left : List Answer) → ((i : ℕ) → mark dirty i ≡ false) → ((m k : ℕ) → n ≤ m → acts m k ≡ None) → NoneRefused g t n others →
+      Rests (runs_again t g acts n past held dirty rows others left) left
+
+-- ---- outputs whose OUTs aren't touched
+
+-- an output has in cycle n a value of its type and the expected residue, and the value that it has in the run without the faults
+pub record SameOutput (g : Lists) (t : Numbers) (n : ℕ) (own other : List Answer) (o : Outlet) : Type 0 where
+  pub inside : fits o.ty (value_part g.profile (word_at own o.op)) ≡ true
+  pub expected_is : modulo g.profile (word_at own o.op) ≡ expected g.profile t.seed t.step o.op n
+  pub value : value_part g.profile (word_at own o.op) ≡ value_part g.profile (word_at other o.op)
+
+pub record OutputLaws : Type 0 where
+  -- whatever the unit answers, where both runs have words alone in a cycle, an operation that isn't touched has one word in both
+  pub words : (c : CycleAgain) (left : List Answer) → Whole c.setting.graph.operations c.other → AllWords c.other →
+      (again c [] c.setting.graph.operations left).short ≡ false → AllWords (again c [] c.setting.graph.operations left).own →
+      (k : ℕ) → mark c.touched k ≡ false → word_at (again c [] c.setting.graph.operations left).own k ≡ word_at c.other k
+  -- so where the run without the faults released the cycle, an output whose OUT isn't touched differs in nothing
+  pub outputs : (g : Lists) (t : Numbers) (n : ℕ) (own other : List Answer) (touched : List Bool) → end_of g t n other ≡ end.Released →
+      ((k : ℕ) → mark touched k ≡ false → word_at own k ≡ word_at other k) → (i : ℕ) (o : Outlet) → slice_get g.outputs i ≡ Some o →
+      mark touched o.op ≡ false → SameOutput g t n own other o
+
+-- ---- where all answers are right
+
+-- The answers that a rerun has are those of a whole run under the acts of the group: where those of the run without the faults are right, and those to
+-- the rerun's calls, of which there were enough.
+abbrev pub RerunsAreRight : Type 0
+RerunsAreRight =
+    (t : Numbers) (g : Lists) (faults : List Fault) (rows : List (List ℤ)) (others : List (List Answer)) (given : List Answer) → IsGraph g →
+    IsReference t g rows others → (rerun t g faults rows others given).short ≡ false → AllRight (rerun t g faults rows others given).calls →
+    RightRun t g (acts_of faults) 0 no_words (initial_words g t.seed) rows (rerun t g faults rows others given).answers
+
+-- and the verdict that is read is the group's
+abbrev pub VerdictsAreRead : Type 0
+VerdictsAreRead =
+    (t : Numbers) (g : Lists) (faults : List Fault) (rows : List (List ℤ)) (others : List (List Answer)) (given : List Answer) → IsGraph g → IsTable t →
+    t.profile ≡ g.profile → GroupFits g faults → length rows ≤ most_cycles → IsReference t g rows others →
+    (rerun t g faults rows others given).short ≡ false → AllRight (rerun t g faults rows others given).calls →
+    (rerun t g faults rows others given).verdict ≡ verdict_of t g faults rows

@@ -1,0 +1,112 @@
+//! Which operations and cells a group of faults touches.
+
+ghost use Rattle.std.specs.Prelude.{◌≡◌, ◌<◌, ◌≤◌, ◌++◌, ◌∷◌, [], length, vec_capacity};
+ghost use Rattle.fault_script.specs.Changes.{acts_of};
+ghost use Rattle.fault_reruns.specs.Begun.{answers_in};
+ghost use Rattle.fault_reruns.specs.Touched.{cycle_marks, held_marks, operand_touched as operand_touched_of};
+ghost use Rattle.fault_reruns.specs.Touched.{past_touched_stop as past_touched_stop_of, touched_at};
+
+use crate::again::{act_at, mark, named};
+use crate::reference::CycleAnswers;
+use fault_script::Group;
+use op_graph::{Graph, Op};
+use vcp_base::{Kind, operands};
+
+/// Whether an operation has an operand `j`, and what it reads there is touched: a cell for LOAD, and else an operation.
+fn operand_touched(cells: &[bool], given: &[bool], op: &Op, j: u32) -> bool
+    ensures { result ≡ operand_touched_of (record { held = cells.now; given = given.now }) op.now j }
+{
+    if operands(op.kind) <= j {
+        return false;
+    }
+    match op.kind {
+        Kind::Load => mark(cells, op.imm.unsigned_abs()),
+        _ => mark(given, named(op, j) as u64),
+    }
+}
+
+/// How many operations answered in a cycle, a stop counted.
+fn answered(other: &CycleAnswers<'_>) -> usize
+    ensures { result ≡ length (answers_in other.now) }
+{
+    match other.stop {
+        Some(_) => other.words.len() + 1,
+        None => other.words.len(),
+    }
+}
+
+/// Whether the run without the faults stopped before operation `k`, at one that is touched.
+fn past_touched_stop(other: &CycleAnswers<'_>, given: &[bool], k: u32) -> bool
+    ensures { result ≡ past_touched_stop_of (answers_in other.now) given.now k }
+{
+    let count = answered(other);
+    if (k as usize) < count {
+        return false;
+    }
+    mark(given, count.saturating_sub(1) as u64)
+}
+
+/// Whether operation `k` is touched in a cycle.
+fn touched(
+    group: &Group,
+    cycle: u32,
+    other: &CycleAnswers<'_>,
+    cells: &[bool],
+    given: &[bool],
+    op: &Op,
+    k: u32,
+) -> bool
+    ensures { result ≡ touched_at (answers_in other.now) (acts_of group.now cycle) (record { held = cells.now; given = given.now }) k op.now }
+{
+    act_at(group, cycle, k).is_some()
+        || operand_touched(cells, given, op, 0)
+        || operand_touched(cells, given, op, 1)
+        || operand_touched(cells, given, op, 2)
+        || past_touched_stop(other, given, k)
+}
+
+/// Appends a mark where there is room.
+fn append(marks: &mut Vec<bool>, marked: bool)
+    requires { length marks.old.items < vec_capacity marks.old }
+    ensures items { marks.new.items ≡ marks.old.items ++ marked ∷ [] }
+    ensures capacity { vec_capacity marks.old ≤ vec_capacity marks.new }
+{
+    if marks.push(marked).is_err() {
+        unreachable!()
+    }
+}
+
+/// Marks the operations that are touched in a cycle that begins with these marks of cells.
+pub(crate) fn mark_operations(
+    graph: &Graph,
+    group: &Group,
+    cycle: u32,
+    other: &CycleAnswers<'_>,
+    cells: &[bool],
+    marks: &mut Vec<bool>,
+)
+    requires room { length graph.now.operations ≤ vec_capacity marks.old }
+    ensures marks { marks.new.items ≡ (cycle_marks graph.now (answers_in other.now) (acts_of group.now cycle) cells.now).given }
+    ensures capacity { vec_capacity marks.old ≤ vec_capacity marks.new }
+{
+    marks.clear();
+    let count = graph.len();
+    'operations: for k in 0..count {
+        let op = graph.operation(k);
+        let marked = touched(group, cycle, other, cells, marks, &op, k);
+        append(marks, marked);
+    }
+}
+
+/// Marks the cells that are touched after a cycle with these marks of operations.
+pub(crate) fn mark_cells(graph: &Graph, given: &[bool], marks: &mut Vec<bool>)
+    requires room { length graph.now.stores ≤ vec_capacity marks.old }
+    ensures marks { marks.new.items ≡ held_marks graph.now given.now }
+    ensures capacity { vec_capacity marks.old ≤ vec_capacity marks.new }
+{
+    marks.clear();
+    let stores = graph.stores();
+    'cells: for i in 0..stores.len() {
+        append(marks, mark(given, stores[i] as u64));
+    }
+}

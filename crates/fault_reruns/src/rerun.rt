@@ -1,0 +1,195 @@
+//! The rerun of a group of faults, and its verdict.
+
+ghost use Rattle.std.specs.Prelude.{◌≡◌, ◌<◌, ◌≤◌, [], ℕ, ℤ, List, Some, IfOk, OnErr, length, slice_get, vec_capacity};
+ghost use Rattle.coded_unit.specs.declared.call.Answer.{Answer as AnswerGiven};
+ghost use Rattle.coded_unit.specs.Seen.{StaysHonest};
+ghost use Rattle.coded_machine.specs.CycleEnds.{initial_words, stored_words};
+ghost use Rattle.fault_script.specs.Groups.{GroupFits};
+ghost use Rattle.fault_injector.specs.Verdicts.{verdict_of};
+ghost use Rattle.fault_reruns.specs.Crossing.{CycleRan, Room};
+ghost use Rattle.fault_reruns.specs.Reruns.{IsReference, Reran};
+ghost use Rattle.fault_reruns.specs.Through.{RanThrough};
+ghost use Rattle.fault_reruns.specs.Touched.{held_marks};
+
+use crate::again::{Begun, rerun_cycle};
+use crate::laws::verdicts_read_off_right_answers_are_defined;
+use crate::marks::{mark_cells, mark_operations};
+use crate::reading::read;
+use crate::reference::Reference;
+use coded_machine::{cycles_by_hand_are_whole, end_of_answers, first_words, store_words};
+use coded_unit::{Answer, Unit, Word};
+use fault_injector::Verdict;
+use fault_script::Group;
+use op_graph::Graph;
+use std::alloc::Global;
+use std::mem::swap;
+use vcp_base::{Memory, Row};
+
+/// What a rerun works on.
+#[derive(Drop)]
+pub(crate) struct Work {
+    /// The answers of the cycle that is rerun.
+    pub own: Vec<Answer>,
+    /// Those of the cycle before.
+    pub past: Vec<Answer>,
+    /// The words of the cells.
+    pub held: Vec<Word>,
+    /// Those of the cycle before.
+    pub past_held: Vec<Word>,
+    /// Which operations are touched.
+    pub touched: Vec<bool>,
+    /// Which cells are.
+    pub dirty: Vec<bool>,
+    /// The values of the inputs.
+    pub inputs: Row,
+}
+
+impl Work {
+    /// What a rerun begins with; `Memory` where there is no room for it.
+    fn new(alloc: Global, reference: &Reference<'_>) -> Result<Work, Memory>
+        ensures room { IfOk result (λ w. Room reference.now.graph w) }
+        ensures held { IfOk result (λ w. w.held.items ≡ initial_words reference.now.graph reference.now.table.seed) }
+        ensures past { IfOk result (λ w. w.past.items ≡ []) }
+        ensures past_held { IfOk result (λ w. w.past_held.items ≡ []) }
+        ensures dirty { IfOk result (λ w. w.dirty.items ≡ []) }
+    {
+        let graph = reference.graph();
+        let table = reference.table();
+        let _sound = reference.cycles();
+        let operations = graph.len() as usize;
+        let cells = graph.cells() as usize;
+        Ok(Work {
+            own: Vec::with_capacity(alloc, operations)?,
+            past: Vec::with_capacity(alloc, operations)?,
+            held: first_words(alloc, graph, table)?,
+            past_held: Vec::with_capacity(alloc, cells)?,
+            touched: Vec::with_capacity(alloc, operations)?,
+            dirty: Vec::with_capacity(alloc, cells)?,
+            inputs: Row::zeros(alloc, graph.inputs())?,
+        })
+    }
+}
+
+/// Copies words to where there is room for them.
+fn copy_words(from: &[Word], to: &mut Vec<Word>)
+    requires { length from.now ≤ vec_capacity to.old }
+    ensures items { to.new.items ≡ from.now }
+    ensures capacity { vec_capacity to.old ≤ vec_capacity to.new }
+{
+    to.clear();
+    'words: for i in 0..from.len() {
+        if to.push(from[i]).is_err() {
+            unreachable!()
+        }
+    }
+}
+
+/// Reruns cycle `n`, and answers its verdict, if it has one.
+fn rerun_one<U: Unit>(
+    reference: &Reference<'_>,
+    group: &Group,
+    n: u32,
+    unit: &mut U,
+    work: &mut Work,
+) -> Option<Verdict>
+    requires there { n < length reference.now.answers }
+    requires room { Room reference.now.graph work.old }
+    ensures room { Room reference.now.graph work.new }
+    ensures ran { (row : List ℤ) → slice_get reference.now.rows n ≡ Some row → (other : List AnswerGiven) → slice_get reference.now.answers n ≡ Some other →
+        CycleRan reference.now group.now n row other work.old work.new result
+        (U.seen unit.old).log (U.seen unit.new).log (U.seen unit.old).wrong (U.seen unit.new).wrong }
+{
+    let _cycles = reference.cycles();
+    let graph = reference.graph();
+    let table = reference.table();
+    let other = reference.cycle(n);
+    let other_end = reference.end(n);
+    reference.rows().get(n, &mut work.inputs);
+    mark_operations(graph, group, n, &other, &work.dirty, &mut work.touched);
+    work.own.clear();
+    let begun = Begun {
+        graph,
+        table,
+        cycle: n,
+        held: &work.held,
+        row: &work.inputs,
+        group,
+        past_held: &work.past_held,
+        past: &work.past,
+        other,
+        touched: &work.touched,
+    };
+    let halted = rerun_cycle(&begun, unit, &mut work.own);
+    let end = end_of_answers(graph, table, n, &work.own, halted);
+    let verdict = read(graph, n, &work.own, &end, &other, &other_end);
+    cross(graph, work);
+    verdict
+}
+
+/// Goes on to the next cycle: the cells have the words that their STOREs answered, and the marks of these.
+fn cross(graph: &Graph, work: &mut Work)
+    requires room { Room graph.now work.old }
+    ensures room { Room graph.now work.new }
+    ensures past { work.new.past.items ≡ work.old.own.items }
+    ensures past_held { work.new.past_held.items ≡ work.old.held.items }
+    ensures held { work.new.held.items ≡ stored_words graph.now work.old.own.items }
+    ensures dirty { work.new.dirty.items ≡ held_marks graph.now work.old.touched.items }
+{
+    copy_words(&work.held, &mut work.past_held);
+    store_words(graph, &work.own, &mut work.held);
+    mark_cells(graph, &work.touched, &mut work.dirty);
+    swap(&mut work.own, &mut work.past);
+}
+
+/// Reruns a group of faults from the first cycle on, and answers its verdict.
+fn rerun<U: Unit>(
+    reference: &Reference<'_>,
+    group: &Group,
+    unit: &mut U,
+    work: &mut Work,
+) -> Verdict
+    requires room { Room reference.now.graph work.old }
+    requires held { work.old.held.items ≡ initial_words reference.now.graph reference.now.table.seed }
+    requires past { work.old.past.items ≡ [] }
+    requires past_held { work.old.past_held.items ≡ [] }
+    requires dirty { work.old.dirty.items ≡ [] }
+    ensures { RanThrough reference.now group.now result
+        (U.seen unit.old).log (U.seen unit.new).log (U.seen unit.old).wrong (U.seen unit.new).wrong }
+{
+    // No call is carried at first.
+    cycles_by_hand_are_whole();
+    let count = reference.cycles();
+    'cycles: for n in 0..count {
+        if let Some(verdict) = rerun_one(reference, group, n, unit, work) {
+            return verdict;
+        }
+    }
+    Verdict::Same
+}
+
+impl<'a> Reference<'a> {
+    /// How a group of faults changes the run: the unit is asked again about just the operations that the group touches, cycle by cycle
+    /// through the one that has a verdict, and the verdict is read off its answers beside those of the run without the group. `Memory`
+    /// where there is no room to rerun a cycle, and then no call was made.
+    ///
+    /// Where the answers of the run without the group are right and those of this call too, it is the defined verdict.
+    pub fn verdict<U: Unit>(
+        &self,
+        alloc: Global,
+        group: &Group,
+        unit: &mut U,
+    ) -> Result<Verdict, Memory>
+        ensures reran { IfOk result (λ v. Reran self.now.table self.now.graph group.now self.now.rows self.now.answers
+            (U.seen unit.old) (U.seen unit.new) v) }
+        ensures verdict { IsReference self.now.table self.now.graph self.now.rows self.now.answers → GroupFits self.now.graph group.now →
+            StaysHonest (U.seen unit.old) (U.seen unit.new) → IfOk result (λ v. v ≡ verdict_of self.now.table self.now.graph group.now self.now.rows) }
+        ensures never_falls { (U.seen unit.old).wrong ≤ (U.seen unit.new).wrong }
+        ensures err { OnErr result (unit.new ≡ unit.old) }
+    {
+        // A verdict that is read off right answers is the defined one.
+        verdicts_read_off_right_answers_are_defined();
+        let _cycles = self.cycles();
+        let mut work = Work::new(alloc, self)?;
+        Ok(rerun(self, group, unit, &mut work))
+    }
+}
