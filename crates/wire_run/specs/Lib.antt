@@ -1,0 +1,3 @@
+pub mod Runs
+pub mod Sends
+pub mod WireLines
