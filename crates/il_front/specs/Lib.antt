@@ -1,0 +1,11 @@
+pub mod Accumulator
+pub mod Lines
+pub mod Judging
+pub mod TypedForm
+pub mod Answers
+pub mod Refusals
+pub mod Writings
+pub mod Tables
+pub mod Places
+pub mod Heads
+pub mod Outcomes

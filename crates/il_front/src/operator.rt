@@ -1,0 +1,119 @@
+//! Operators.
+
+ghost use Rattle.std.specs.Prelude.{◌≡◌, Some};
+ghost use Rattle.st_lexer.specs.Reading.{IsInside};
+ghost use Rattle.st_spelling.specs.Spelling.{bytes_in};
+ghost use Rattle.il_front.specs.declared.operator.Operator.TheVariants as operator_;
+ghost use Rattle.il_front.specs.Judging.{operator_named as named_of, operator_reserved as reserved_of, operator_of as operator_of_bytes, sets as sets_of};
+
+use st_lexer::{Key, Tok, Token};
+use st_tree::BinOp;
+
+/// What an operator does with the current result and its operand. `negated` stands for its N.
+#[derive(Clone, Copy)]
+pub enum Operator {
+    /// LD and LDN.
+    Load { negated: bool },
+    /// ST and STN.
+    Store { negated: bool },
+    /// S, which sets TRUE, and R, which sets FALSE.
+    Put { to: bool },
+    /// NOT, which has no operand.
+    Complement,
+    /// Logic, arithmetic and comparisons.
+    Combine { op: BinOp, negated: bool },
+}
+
+// An operator between the result and its operand.
+fn combine(op: BinOp, negated: bool) -> Option<Operator>
+    ensures { result ≡ Some (operator_.Combine op negated) }
+{
+    Some(Operator::Combine { op, negated })
+}
+
+// The operator of a name, without regard to case.
+fn operator_named(name: &[u8]) -> Option<Operator>
+    ensures { result ≡ named_of name.now }
+{
+    if name.eq_ignore_ascii_case(b"LD") {
+        Some(Operator::Load { negated: false })
+    } else if name.eq_ignore_ascii_case(b"LDN") {
+        Some(Operator::Load { negated: true })
+    } else if name.eq_ignore_ascii_case(b"ST") {
+        Some(Operator::Store { negated: false })
+    } else if name.eq_ignore_ascii_case(b"STN") {
+        Some(Operator::Store { negated: true })
+    } else if name.eq_ignore_ascii_case(b"S") {
+        Some(Operator::Put { to: true })
+    } else if name.eq_ignore_ascii_case(b"R") {
+        Some(Operator::Put { to: false })
+    } else if name.eq_ignore_ascii_case(b"ANDN") {
+        combine(BinOp::And, true)
+    } else if name.eq_ignore_ascii_case(b"ORN") {
+        combine(BinOp::Or, true)
+    } else if name.eq_ignore_ascii_case(b"XORN") {
+        combine(BinOp::Xor, true)
+    } else if name.eq_ignore_ascii_case(b"ADD") {
+        combine(BinOp::Add, false)
+    } else if name.eq_ignore_ascii_case(b"SUB") {
+        combine(BinOp::Sub, false)
+    } else if name.eq_ignore_ascii_case(b"MUL") {
+        combine(BinOp::Mul, false)
+    } else if name.eq_ignore_ascii_case(b"DIV") {
+        combine(BinOp::Div, false)
+    } else if name.eq_ignore_ascii_case(b"GT") {
+        combine(BinOp::Gt, false)
+    } else if name.eq_ignore_ascii_case(b"GE") {
+        combine(BinOp::Ge, false)
+    } else if name.eq_ignore_ascii_case(b"EQ") {
+        combine(BinOp::Eq, false)
+    } else if name.eq_ignore_ascii_case(b"NE") {
+        combine(BinOp::Ne, false)
+    } else if name.eq_ignore_ascii_case(b"LE") {
+        combine(BinOp::Le, false)
+    } else if name.eq_ignore_ascii_case(b"LT") {
+        combine(BinOp::Lt, false)
+    } else {
+        None
+    }
+}
+
+// The operator that a reserved word is.
+fn operator_reserved(key: Key) -> Option<Operator>
+    ensures { result ≡ reserved_of key }
+{
+    match key {
+        Key::And => combine(BinOp::And, false),
+        Key::Or => combine(BinOp::Or, false),
+        Key::Xor => combine(BinOp::Xor, false),
+        Key::Mod => combine(BinOp::Mod, false),
+        Key::Not => Some(Operator::Complement),
+        _ => None,
+    }
+}
+
+/// The operator that a token of the text is.
+pub fn operator_of(text: &[u8], t: Token) -> Option<Operator>
+    requires { IsInside text.now t }
+    ensures { result ≡ operator_of_bytes (bytes_in text.now t) t.tok }
+{
+    match t.tok {
+        Tok::Name => operator_named(&text[t.from as usize..t.to as usize]),
+        Tok::Key(key) => operator_reserved(key),
+        Tok::Number { .. } => None,
+        Tok::Sym(_) => None,
+    }
+}
+
+/// Whether the operator sets its operand.
+pub fn sets(operator: Operator) -> bool
+    ensures { result ≡ sets_of operator }
+{
+    match operator {
+        Operator::Load { .. } => false,
+        Operator::Store { .. } => true,
+        Operator::Put { .. } => true,
+        Operator::Complement => false,
+        Operator::Combine { .. } => false,
+    }
+}

@@ -1,0 +1,123 @@
+//! Where results are kept.
+
+ghost use Rattle.std.specs.Prelude.{◌≡◌, ◌+◌, ◌≤◌, [], ◌∷◌, ◌++◌, cond, OnOk, length, drop};
+ghost use Rattle.vcp_base.specs.Limits.{most_names};
+ghost use Rattle.vcp_base.specs.declared.ty.Ty.TheVariants as ty_;
+ghost use Rattle.il_front.specs.TypedForm.{hidden_name as hidden_name_of, hidden_slot as hidden_slot_of, hidden_slots, all_types, uses as uses_of, used_by};
+ghost use Rattle.il_front.specs.TypedForm.{used_before as used_before_of};
+ghost use Rattle.il_front.specs.Places.{used_in, place_in};
+
+use crate::instruction::Instruction;
+use crate::types::next_type;
+use st_tree::Class;
+use std::alloc::Global;
+use vcp_base::{Memory, Spot, Text, Ty, same_type};
+use vcp_typed::{Slot, Slots};
+
+/// The hidden variables behind the declared ones: of which types there are some.
+#[derive(Clone, Copy)]
+pub struct Places {
+    /// How many variables are declared.
+    pub declared: u32,
+    pub bools: bool,
+    pub ints: bool,
+    pub dints: bool,
+    pub lints: bool,
+}
+
+// Whether a result of the type stands behind one of the instructions.
+fn uses(code: &[Instruction], ty: Ty) -> bool
+    ensures { result ≡ uses_of code.now ty_.Bool ty }
+{
+    let mut kept = Ty::Bool;
+    'each: for i in code {
+        kept = next_type(kept, i.action);
+        if same_type(kept, ty) {
+            return true;
+        }
+    }
+    false
+}
+
+/// The hidden variables of these instructions, behind so many declared ones.
+pub fn places_of(declared: u32, code: &[Instruction]) -> Places
+    ensures declared { result.declared ≡ declared }
+    ensures used { used_in result ≡ used_by code.now }
+{
+    Places {
+        declared,
+        bools: uses(code, Ty::Bool),
+        ints: uses(code, Ty::Int),
+        dints: uses(code, Ty::Dint),
+        lints: uses(code, Ty::Lint),
+    }
+}
+
+// 1 or 0.
+fn one_if(b: bool) -> u32
+    ensures is { result ≡ cond b 1 0 }
+    ensures small { result ≤ 1 }
+{
+    if b { 1 } else { 0 }
+}
+
+impl Places {
+    // How many hidden variables stand before that of the type.
+    fn before(self, ty: Ty) -> u32
+        ensures is { result ≡ used_before_of (used_in self) ty all_types }
+        ensures small { result ≤ 3 }
+    {
+        match ty {
+            Ty::Bool => 0,
+            Ty::Int => one_if(self.bools),
+            Ty::Dint => one_if(self.bools) + one_if(self.ints),
+            Ty::Lint => one_if(self.bools) + one_if(self.ints) + one_if(self.dints),
+        }
+    }
+
+    /// The number of the slot that keeps a result of the type.
+    pub fn place(self, ty: Ty) -> u32
+        requires { self.declared ≤ most_names }
+        ensures { result ≡ place_in self ty }
+    {
+        self.declared + self.before(ty)
+    }
+}
+
+// The name of the variable that keeps a result of the type.
+fn hidden_name(ty: Ty) -> &'static [u8]
+    ensures { result.now ≡ hidden_name_of ty }
+{
+    match ty {
+        Ty::Bool => b"_acc_bool",
+        Ty::Int => b"_acc_int",
+        Ty::Dint => b"_acc_dint",
+        Ty::Lint => b"_acc_lint",
+    }
+}
+
+// Appends the variable that keeps a result of the type, where it is used.
+fn add_hidden(alloc: Global, slots: &mut Slots, used: bool, ty: Ty) -> Result<(), Memory>
+    ensures { OnOk result (slots.new.items.items ≡ slots.old.items.items ++ cond used (hidden_slot_of ty ∷ []) []) }
+{
+    if !used {
+        return Ok(());
+    }
+    slots.push(Slot {
+        name: Text::copy_of(alloc, hidden_name(ty))?,
+        spot: Spot { line: 0, col: 0 },
+        class: Class::Local,
+        ty,
+        init: 0,
+    })
+}
+
+/// Appends the hidden variables.
+pub fn add_all_hidden(alloc: Global, slots: &mut Slots, places: Places) -> Result<(), Memory>
+    ensures { OnOk result (slots.new.items.items ≡ slots.old.items.items ++ hidden_slots (used_in places) all_types) }
+{
+    add_hidden(alloc, slots, places.bools, Ty::Bool)?;
+    add_hidden(alloc, slots, places.ints, Ty::Int)?;
+    add_hidden(alloc, slots, places.dints, Ty::Dint)?;
+    add_hidden(alloc, slots, places.lints, Ty::Lint)
+}

@@ -1,0 +1,97 @@
+//! The reading of instruction lists.
+
+ghost use Rattle.std.specs.Prelude.{◌≡◌, ◌≤◌, IfErr, IfOk, ℕ, List, All, length};
+ghost use Rattle.vcp_base.specs.Limits.{most_names};
+ghost use Rattle.st_lexer.specs.Reading.{Reads, IsInside};
+ghost use Rattle.st_lexer.specs.Spots.{spot_at};
+ghost use Rattle.vcp_typed.specs.TStmtViews.{tstmt_trees};
+ghost use Rattle.il_front.specs.declared.fault.IlFault.TheVariants as il_;
+ghost use Rattle.il_front.specs.Accumulator.{Il};
+ghost use Rattle.il_front.specs.Answers.{most_il_bytes, IsIl, NotIl};
+ghost use Rattle.il_front.specs.Heads.{IsHeadOf};
+ghost use Rattle.il_front.specs.Outcomes.{IsBeyond, Builds, IsTypedIl};
+ghost use Rattle.il_front.specs.TypedForm.{typed_il};
+
+use crate::fault::IlFault;
+use crate::head::{head, head_count};
+use crate::instruction::Instruction;
+use crate::judging::listed;
+use crate::laws::il_answers_are_one;
+use crate::places::{add_all_hidden, places_of};
+use crate::statements::statements;
+use st_lexer::{Tokens, lex};
+use st_types::{
+    TypeFault, faultless_programs_are_checked, slots_have_declared_names, widened_parts_are_checked,
+};
+use std::alloc::Global;
+use vcp_base::{MOST_NAMES, MOST_SIZE, Spot};
+use vcp_typed::{Slots, TStmts, Typed, size_of};
+
+/// The parts of a typed program.
+#[derive(Drop)]
+pub struct Parts {
+    pub slots: Slots,
+    pub body: TStmts,
+}
+
+// The parts of the typed program of these instructions on these variables, where it is within the limits.
+fn built(alloc: Global, declared: Slots, code: &[Instruction]) -> Result<Parts, IlFault>
+    requires { length declared.items.items ≤ most_names }
+    ensures ok { IfOk result (Builds (record { slots = declared.items.items; code = code.now })) }
+    ensures err { IfErr result (IsBeyond (record { slots = declared.items.items; code = code.now })) }
+{
+    let places = places_of(declared.len() as u32, code);
+    let mut slots = declared;
+    add_all_hidden(alloc, &mut slots, places)?;
+    if slots.len() > MOST_NAMES as usize {
+        return Err(IlFault::Types(TypeFault::Names {
+            spot: Spot { line: 1, col: 1 },
+        }));
+    }
+    let body = statements(alloc, places, code)?;
+    if size_of(&slots, &body) > MOST_SIZE {
+        return Err(IlFault::Types(TypeFault::Size));
+    }
+    Ok(Parts { slots, body })
+}
+
+// The typed program of a text whose head is this one.
+fn behind(alloc: Global, text: &[u8], tokens: &Tokens, head: Typed) -> Result<Typed, IlFault>
+    requires head { IsHeadOf text.now tokens.now.tokens head }
+    requires inside { All (IsInside text.now) tokens.now.tokens }
+    requires end { tokens.now.end ≡ spot_at text.now (length text.now) }
+    ensures ok { IfOk result (IsTypedIl text.now) }
+    ensures err { IfErr result (NotIl text.now) }
+{
+    widened_parts_are_checked();
+    slots_have_declared_names();
+    faultless_programs_are_checked();
+    let code = listed(alloc, text, head.slots(), tokens, head_count(tokens))?;
+    let parts = built(alloc, head.into_slots(), &code)?;
+    Ok(Typed::new(parts.slots, parts.body))
+}
+
+// The typed program of a text of instructions, or its first fault.
+fn read(alloc: Global, text: &[u8]) -> Result<Typed, IlFault>
+    requires { length text.now ≤ most_il_bytes }
+    ensures ok { IfOk result (IsTypedIl text.now) }
+    ensures err { IfErr result (NotIl text.now) }
+{
+    let tokens = lex(alloc, text)?;
+    let head = head(alloc, text, &tokens)?;
+    behind(alloc, text, &tokens, head)
+}
+
+/// The typed program of a text of instructions, or its first fault; or want of memory.
+///
+/// The text has at most 1,048,564 bytes, so that with END_PROGRAM behind it it is a source. Time is linear in the text, but for a
+/// look-up of a name in each instruction.
+pub fn read_il(alloc: Global, text: &[u8]) -> Result<Typed, IlFault>
+    requires { length text.now ≤ most_il_bytes }
+    ensures ok { IfOk result (λ p. (i : Il) × IsIl text.now i × (p ≡ typed_il i)) }
+    ensures err { IfErr result (NotIl text.now) }
+    ensures only { (i : Il) → IsIl text.now i → IfErr result (λ e. e ≡ il_.Memory) }
+{
+    il_answers_are_one();
+    read(alloc, text)
+}

@@ -1,0 +1,190 @@
+//! The statements of instructions.
+
+ghost use Rattle.std.specs.Prelude.{◌≡◌, ◌<◌, ◌≤◌, IfOk, Some, length, slice_get};
+ghost use Rattle.vcp_base.specs.Limits.{most_names};
+ghost use Rattle.vcp_base.specs.declared.ty.Ty.TheVariants as ty_;
+ghost use Rattle.vcp_typed.specs.TExprViews.{texpr_tree};
+ghost use Rattle.vcp_typed.specs.TStmtViews.{tstmt_tree, tstmt_trees};
+ghost use Rattle.vcp_typed.specs.TStmtTree.{assign as assign_tree, if_ as if_tree, no_tstmts, and_tstmt, no_tarms, and_tarm, no_tother};
+ghost use Rattle.vcp_typed.specs.TExprTree.{literal as literal_tree};
+ghost use Rattle.vcp_base.specs.Kinds.{truth};
+ghost use Rattle.vcp_typed.specs.Rules.{common as common_of};
+ghost use Rattle.st_types.specs.ExprTyping.{widened as widened_of};
+ghost use Rattle.il_front.specs.Places.{place_in};
+ghost use Rattle.il_front.specs.TypedForm.{operand_expr as operand_expr_of, turned as turned_of, kept as kept_of, combining as combining_of};
+ghost use Rattle.il_front.specs.TypedForm.{action_stmt, statements as statements_of};
+
+use crate::instruction::{Action, Instruction, Operand};
+use crate::places::Places;
+use crate::types::{next_type, operand_type};
+use st_tree::{BinOp, UnOp};
+use st_types::{common, result, widened_from};
+use std::alloc::Global;
+use vcp_base::{Memory, Spot, Ty};
+use vcp_typed::{TArm, TArms, TExpr, TStmt, TStmts};
+
+// An operand as an expression.
+fn operand_expr(at: Spot, operand: Operand) -> TExpr
+    ensures { texpr_tree result ≡ operand_expr_of at operand }
+{
+    match operand {
+        Operand::Variable { slot, ty } => TExpr::get(slot, ty),
+        Operand::Number { ty, value } => TExpr::literal(ty, value, at),
+    }
+}
+
+// An expression with NOT before it, where there is an N.
+fn turned(alloc: Global, negated: bool, spot: Spot, e: TExpr) -> Result<TExpr, Memory>
+    ensures { IfOk result (λ r. texpr_tree r ≡ turned_of negated spot (texpr_tree e)) }
+{
+    if negated {
+        TExpr::unary(alloc, UnOp::Not, Ty::Bool, e, spot)
+    } else {
+        Ok(e)
+    }
+}
+
+// The kept result of the type.
+fn kept(places: Places, ty: Ty) -> TExpr
+    requires { places.declared ≤ most_names }
+    ensures { texpr_tree result ≡ kept_of (place_in places) ty }
+{
+    TExpr::get(places.place(ty), ty)
+}
+
+// No statement.
+fn nothing(alloc: Global) -> TStmt
+    ensures { tstmt_tree result ≡ if_tree no_tarms no_tother }
+{
+    TStmt::if_(TArms::new(alloc), None)
+}
+
+// An operator on the kept result of type `ty` and an operand of type `other`, both widened to a common type.
+fn combining(
+    alloc: Global,
+    places: Places,
+    op: BinOp,
+    spot: Spot,
+    ty: Ty,
+    e: TExpr,
+    other: Ty,
+) -> Result<TStmt, Memory>
+    requires { places.declared ≤ most_names }
+    ensures { IfOk result (λ r. tstmt_tree r ≡ combining_of (place_in places) op spot ty (texpr_tree e) other (common_of op ty other)) }
+{
+    match common(op, ty, other) {
+        None => Ok(nothing(alloc)),
+        Some(wide) => {
+            let left = widened_from(alloc, wide, ty, kept(places, ty))?;
+            let right = widened_from(alloc, wide, other, e)?;
+            let value = TExpr::binary(alloc, op, wide, left, right, spot)?;
+            Ok(TStmt::assign(places.place(result(op, wide)), value, spot))
+        }
+    }
+}
+
+// What a variable of type `to` gets of the kept result of type `ty`.
+fn stored(
+    alloc: Global,
+    places: Places,
+    negated: bool,
+    spot: Spot,
+    ty: Ty,
+    to: Ty,
+) -> Result<TExpr, Memory>
+    requires { places.declared ≤ most_names }
+    ensures { IfOk result (λ r. texpr_tree r ≡ widened_of to ty (turned_of negated spot (kept_of (place_in places) ty))) }
+{
+    let value = turned(alloc, negated, spot, kept(places, ty))?;
+    widened_from(alloc, to, ty, value)
+}
+
+// A variable becomes TRUE or FALSE, where the kept result of the type is TRUE.
+fn putting(
+    alloc: Global,
+    places: Places,
+    spot: Spot,
+    at: Spot,
+    ty: Ty,
+    to: bool,
+    slot: u32,
+) -> Result<TStmt, Memory>
+    requires { places.declared ≤ most_names }
+    ensures { IfOk result (λ r. tstmt_tree r ≡ if_tree (and_tarm (kept_of (place_in places) ty)
+        (and_tstmt (assign_tree slot (literal_tree ty_.Bool (truth to) at) at) no_tstmts) spot no_tarms) no_tother) }
+{
+    let value = if to { 1 } else { 0 };
+    let mut body = TStmts::new(alloc);
+    body.push(TStmt::assign(slot, TExpr::literal(Ty::Bool, value, at), at))?;
+    let mut arms = TArms::new(alloc);
+    arms.push(TArm {
+        cond: kept(places, ty),
+        body,
+        spot,
+    })?;
+    Ok(TStmt::if_(arms, None))
+}
+
+// The statement of an instruction, where the result before it has the type.
+fn statement(
+    alloc: Global,
+    places: Places,
+    instruction: Instruction,
+    ty: Ty,
+) -> Result<TStmt, Memory>
+    requires { places.declared ≤ most_names }
+    ensures { IfOk result (λ r. tstmt_tree r ≡ action_stmt (place_in places) instruction.spot instruction.at ty instruction.action) }
+{
+    let spot = instruction.spot;
+    let at = instruction.at;
+    match instruction.action {
+        Action::Load { negated, operand } => {
+            let value = turned(alloc, negated, spot, operand_expr(at, operand))?;
+            Ok(TStmt::assign(places.place(operand_type(operand)), value, spot))
+        }
+        Action::Store {
+            negated,
+            slot,
+            ty: to,
+        } => {
+            let value = stored(alloc, places, negated, spot, ty, to)?;
+            Ok(TStmt::assign(slot, value, at))
+        }
+        Action::Put { to, slot, .. } => putting(alloc, places, spot, at, ty, to, slot),
+        Action::Complement => {
+            let value = TExpr::unary(alloc, UnOp::Not, Ty::Bool, kept(places, ty), spot)?;
+            Ok(TStmt::assign(places.place(ty), value, spot))
+        }
+        Action::Combine {
+            op,
+            negated,
+            operand,
+        } => {
+            let e = turned(alloc, negated, spot, operand_expr(at, operand))?;
+            combining(alloc, places, op, spot, ty, e, operand_type(operand))
+        }
+    }
+}
+
+// The instruction at place `k`.
+fn instruction_at(code: &[Instruction], k: usize) -> Instruction
+    requires { k < length code.now }
+    ensures { slice_get code.now k ≡ Some result }
+{
+    code[k]
+}
+
+/// The statements of instructions.
+pub fn statements(alloc: Global, places: Places, code: &[Instruction]) -> Result<TStmts, Memory>
+    requires { places.declared ≤ most_names }
+    ensures { IfOk result (λ b. tstmt_trees b.items.items ≡ statements_of (place_in places) ty_.Bool code.now) }
+{
+    let mut body = TStmts::new(alloc);
+    let mut ty = Ty::Bool;
+    'each: for k in 0..code.len() {
+        let i = instruction_at(code, k);
+        body.push(statement(alloc, places, i, ty)?)?;
+        ty = next_type(ty, i.action);
+    }
+    Ok(body)
+}
