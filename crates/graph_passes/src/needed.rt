@@ -29,7 +29,7 @@ fn narrows(from: Ty, to: Ty) -> bool
 
 /// Whether an operation of these types can stop where its operands are in their types. INPUT can: a row
 /// may have any value at its place.
-fn can_stop(kind: Kind, from: Ty, to: Ty) -> bool
+pub fn can_stop(kind: Kind, from: Ty, to: Ty) -> bool
     ensures { result ≡ can_stop_of kind from to }
 {
     match kind {

@@ -2,6 +2,7 @@ mod Bits
 mod Comparisons
 mod Cycles
 mod Integers
+mod Naming
 mod Operands
 mod Outcomes
 mod Steps

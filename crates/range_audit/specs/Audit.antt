@@ -1,5 +1,5 @@
 -- Audit: what the ranges of a graph's operations say of its runs, and which of its operations may stop.
-use Rattle.std.specs.Prelude.{◌≡◌, ℕ, ℤ, Bool, true, false, List, length, slice_get, Option, Some, None, IfSome}
+use Rattle.std.specs.Prelude.{◌≡◌, ℕ, zero, suc, ◌+◌, ℤ, Bool, true, false, ◌||◌, cond, List, length, slice_get, Option, Some, None, IfSome}
 use Rattle.vcp_base.specs.declared.kind.StopKind.{StopKind}
 use Rattle.vcp_base.specs.declared.kind.StopKind.TheVariants as stop
 use Rattle.vcp_base.specs.Types.{fits}
@@ -51,3 +51,25 @@ Names g stops = (rows : List (List ℤ)) (row : List ℤ) (why : StopKind) → R
 -- a run over rows that fit ends at an operation that is named, or where its rows end
 abbrev pub Ends : Lists → List Stops → Type 0
 Ends g stops = (rows : List (List ℤ)) → RowsFit g rows → IfSome (graph_run g rows).end (λ e. is_named e.kind (slice_get stops e.op) ≡ true)
+
+-- what is told of a graph's operations, and what that says of the graph's runs
+pub record IsAudit (g : Lists) (a : Audit) : Type 0 where
+  pub known : length a.known ≡ length g.operations
+  pub stops : length a.stops ≡ length g.operations
+  pub holds : Holds g a.known
+  pub names : Names g a.stops
+  pub ends : Ends g a.stops
+
+-- the operation is there, and may stop, however it may
+abbrev pub is_any_named : Option Stops → Bool
+is_any_named None = false
+is_any_named (Some s) = s.range || s.div_zero
+
+-- how many operations below operation n may stop
+abbrev pub named_below : List Stops → ℕ → ℕ
+named_below stops zero = 0
+named_below stops (suc i) = named_below stops i + cond (is_any_named (slice_get stops i)) 1 0
+
+-- each run over rows that fit ends where its rows end, and none at a stop
+abbrev pub NeverStops : Lists → Type 0
+NeverStops g = (rows : List (List ℤ)) → RowsFit g rows → (graph_run g rows).end ≡ None

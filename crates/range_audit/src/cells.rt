@@ -156,7 +156,7 @@ fn typed_cells(alloc: Global, graph: &Graph) -> Result<Vec<Range>, Memory>
 }
 
 /// Ranges in which the cells are always. Where none are found in the rounds that are tried, these are the types.
-pub(crate) fn settled(alloc: Global, graph: &Graph) -> Result<Vec<Range>, Memory>
+fn found(alloc: Global, graph: &Graph) -> Result<Vec<Range>, Memory>
     ensures graph { IsGraph graph.now }
     ensures many { IfOk result (λ cells. length cells.items ≡ length graph.now.stores) }
     ensures settled { IfOk result (λ cells. AreSettled graph.now cells.items) }
@@ -171,4 +171,43 @@ pub(crate) fn settled(alloc: Global, graph: &Graph) -> Result<Vec<Range>, Memory
         renew(graph, &mut cells, told.known(), round);
     }
     typed_cells(alloc, graph)
+}
+
+/// Whether the cells are always in these ranges, as far as that is seen.
+fn are_settled(alloc: Global, graph: &Graph, cells: &[Range]) -> Result<bool, Memory>
+    requires graph { IsGraph graph.now }
+    requires many { length cells.now ≡ length graph.now.stores }
+    ensures { IfOk result (λ is. is ≡ true → AreSettled graph.now cells.now) }
+{
+    let told = walk(alloc, graph, cells)?;
+    Ok(are_kept(graph, cells, told.known()))
+}
+
+/// Ranges in which the cells are always, where these are some: the values at first and those that are stored where the cells are in
+/// these. They are no wider, and narrower where a round took an end of the type that no value comes to.
+fn closer(alloc: Global, graph: &Graph, cells: Vec<Range>) -> Result<Vec<Range>, Memory>
+    requires graph { IsGraph graph.now }
+    requires many { length cells.items ≡ length graph.now.stores }
+    requires settled { AreSettled graph.now cells.items }
+    ensures many { IfOk result (λ found. length found.items ≡ length graph.now.stores) }
+    ensures settled { IfOk result (λ found. AreSettled graph.now found.items) }
+{
+    let told = walk(alloc, graph, &cells)?;
+    let mut next = first_cells(alloc, graph)?;
+    renew(graph, &mut next, told.known(), 0);
+    let is = are_settled(alloc, graph, &next)?;
+    if is {
+        return Ok(next);
+    }
+    Ok(cells)
+}
+
+/// Ranges in which the cells are always.
+pub(crate) fn settled(alloc: Global, graph: &Graph) -> Result<Vec<Range>, Memory>
+    ensures graph { IsGraph graph.now }
+    ensures many { IfOk result (λ cells. length cells.items ≡ length graph.now.stores) }
+    ensures settled { IfOk result (λ cells. AreSettled graph.now cells.items) }
+{
+    let cells = found(alloc, graph)?;
+    closer(alloc, graph, cells)
 }

@@ -7,10 +7,12 @@
 mod audit;
 mod cells;
 mod choices;
+mod laws;
 mod range;
 mod told;
 mod values;
 mod walk;
 
 pub use audit::{Ranges, ranges_of};
+pub use laws::what_names_nothing_never_stops;
 pub use range::{Range, Stops};

@@ -1,6 +1,6 @@
 //! Ranges of values.
 
-ghost use Rattle.std.specs.Prelude.{◌≡◌, ◌≢◌, ◌⊎◌, ◌&&◌, ◌||◌, ◌<◌, ℤ, true, false, pos, ◌≤ℤ◌, length, slice_get, Some};
+ghost use Rattle.std.specs.Prelude.{◌≡◌, ◌≢◌, ◌⊎◌, ◌&&◌, ◌||◌, ◌<◌, ℤ, true, false, pos, ◌≤ℤ◌, int_lt, length, slice_get, Some};
 ghost use Rattle.vcp_base.specs.Types.{fits as fits_of, least as least_of, greatest as greatest_of};
 ghost use Rattle.range_audit.specs.Intervals.{IsIn, IsWithin};
 
@@ -196,8 +196,9 @@ impl Range {
     }
 
     /// Whether no value is in the range.
-    pub(crate) fn is_empty(self) -> bool
-        ensures { result ≡ true → (v : ℤ) → IsIn self v → ⊥ }
+    pub fn is_empty(self) -> bool
+        ensures value { result ≡ int_lt self.high self.low }
+        ensures none { result ≡ true → (v : ℤ) → IsIn self v → ⊥ }
     {
         self.high < self.low
     }

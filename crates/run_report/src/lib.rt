@@ -16,6 +16,6 @@ pub use graph_stop::{graph_stop_line, then_turns_round};
 pub use lines::{
     end_line, header_line, refused_line, row_line, stop_line, then_cause, then_refused,
 };
-pub use operations::{list_line, trace_line};
+pub use operations::{list_line, then_source, trace_line};
 pub use output_names::output_name;
 pub use summary::summary_line;

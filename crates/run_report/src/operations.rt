@@ -93,8 +93,8 @@ fn then_code<O: Sink>(line: &mut Line, out: &mut O, table: &Table, i: u32)
     line.count(out, table.correction(i));
 }
 
-// Goes on with the place of operation `i` in the source, and the turns round it.
-fn then_source<O: Sink>(line: &mut Line, out: &mut O, graph: &Graph, i: u32)
+/// Goes on with the place of operation `i` in the source, and the turns round it, outermost first.
+pub fn then_source<O: Sink>(line: &mut Line, out: &mut O, graph: &Graph, i: u32)
     requires { i < length graph.now.operations }
     ensures { IfSome (slice_get graph.now.operations i)
         (λ op. GathersTo (O.seen out.old) (O.seen out.new) line.old line.new (source_text graph.now op)) }

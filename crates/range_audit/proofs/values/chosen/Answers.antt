@@ -15,13 +15,13 @@ returns-then-is_one c = λ x y z i j k.
 
 pub returns-then-never_no : goal.returns-then-never_no
 returns-then-never_no c = λ x y z i j k.
-    let other = λ (e : x ≡ pos 0). c.is_empty-never_no.ensures c.if-never_no.true y (j e) in
+    let other = λ (e : x ≡ pos 0). c.is_empty-never_no.ensures.none c.if-never_no.true y (j e) in
     chosen_other c.bounds-yes.result x y z other (c.bounds-yes.ensures z (k other))
 
 pub returns-then-never_yes : goal.returns-then-never_yes
 returns-then-never_yes c = λ x y z i j k.
     chosen_cases c.bounds-no.result (same x (pos 0)) y z (λ t. c.bounds-no.ensures y (j (same_is x (pos 0) t)))
-    (λ f. absurd (c.is_empty-never_yes.ensures c.if-never_yes.true z (k (not_divided x f))))
+    (λ f. absurd (c.is_empty-never_yes.ensures.none c.if-never_yes.true z (k (not_divided x f))))
 
 pub returns : goal.returns
 returns c = λ x y z i j k.

@@ -1,0 +1,58 @@
+-- Naming: where no operation is named, none stops.
+use Rattle.std.proofs.Common.{◌≡◌, ℕ, zero, suc, ◌+◌, ◌<◌, ◌⊎◌, inl, inr, Bool, true, false, ◌||◌, cond, List, length, slice_get, Option, Some, None, IfSome, refl, sym, ◌∙◌, subst, arith}
+use Rattle.std.proofs.lemmas.Bool.{cases_order, false≢true}
+use Rattle.std.proofs.lemmas.Option.{slice_get_within}
+use Rattle.vcp_base.specs.declared.kind.StopKind.{StopKind}
+use Rattle.vcp_base.specs.declared.kind.StopKind.TheVariants as stop
+use Rattle.op_graph.specs.Lists.{Lists}
+use Rattle.op_graph.specs.GraphRun.{Stop, graph_run}
+use Rattle.range_audit.specs.declared.range.Stops.{Stops}
+use Rattle.range_audit.specs.Audit.{Audit, IsAudit, is_named, is_any_named, named_below, NeverStops}
+
+-- one more where it holds is none only where it doesn't hold
+not_counted : (b : Bool) (n : ℕ) → n + cond b 1 0 ≡ 0 → (n ≡ 0) × (b ≡ false)
+not_counted true n e = absurd (omega (arith, e))
+not_counted false n e = (omega (arith, e), refl)
+
+last_or_before : (k n : ℕ) → k < suc n → (k < n) ⊎ (k ≡ n)
+last_or_before k n lt = elim (cases_order k n) [ inl e ↦ inr e | inr (inl l) ↦ inl l | inr (inr l) ↦ absurd (omega (arith, lt, l)) ]
+
+one_of : (stops : List Stops) (n k : ℕ) → is_any_named (slice_get stops n) ≡ false → (k < n → is_any_named (slice_get stops k) ≡ false)
+    → (k < n) ⊎ (k ≡ n) → is_any_named (slice_get stops k) ≡ false
+one_of stops n k last before (inl lt) = before lt
+one_of stops n k last before (inr same) = rw same last
+
+-- where none is counted, none is named
+none_counted : (stops : List Stops) (n k : ℕ) → named_below stops n ≡ 0 → k < n → is_any_named (slice_get stops k) ≡ false
+none_counted stops zero k e lt = absurd (omega (arith, lt))
+none_counted stops (suc n) k e lt =
+    let parts = not_counted (is_any_named (slice_get stops n)) (named_below stops n) e in
+    one_of stops n k parts.1 (none_counted stops n k parts.0) (last_or_before k n lt)
+
+right_holds : (x y : Bool) → y ≡ true → (x || y) ≡ true
+right_holds true y e = refl
+right_holds false y e = e
+
+-- what is named so is named
+any_named : (why : StopKind) (s : Stops) → is_named why (Some s) ≡ true → is_any_named (Some s) ≡ true
+any_named stop.Range s e = rw e refl
+any_named stop.DivZero s e = right_holds s.range s.div_zero e
+any_named stop.Operand s e = absurd cc
+
+-- an operation that isn't named, whichever it is, isn't named so
+unnamed : (stops : List Stops) (why : StopKind) (op : ℕ) (o : Option Stops) → slice_get stops op ≡ o
+    → (op < length stops → is_any_named (slice_get stops op) ≡ false) → is_named why o ≡ true → ⊥
+unnamed stops why op None there none h = absurd cc
+unnamed stops why op (Some s) there none h =
+    let yes = any_named why s h in
+    let is_not = subst (λ o. is_any_named o ≡ false) there (none (slice_get_within stops op s there)) in
+    absurd (false≢true (sym is_not ∙ yes))
+
+ends_nowhere : (stops : List Stops) → ((op : ℕ) → op < length stops → is_any_named (slice_get stops op) ≡ false) → (end : Option Stop)
+    → IfSome end (λ e. is_named e.kind (slice_get stops e.op) ≡ true) → end ≡ None
+ends_nowhere stops none None h = refl
+ends_nowhere stops none (Some e) h = absurd (unnamed stops e.kind e.op (slice_get stops e.op) refl (none e.op) h)
+
+pub never : (g : Lists) (a : Audit) → IsAudit g a → named_below a.stops (length g.operations) ≡ 0 → NeverStops g
+never g a is none rows fit =
+    ends_nowhere a.stops (λ op lt. none_counted a.stops (length g.operations) op none (omega (arith, lt, is.stops))) (graph_run g rows).end (is.ends rows fit)
