@@ -1,7 +1,7 @@
 #!/usr/bin/env python3
 """Which modules of specs/ an assessor reads: those that public contracts cite.
 
-    checks/cited_modules.py                  prints the table of docs/ARCHITECTURE.md
+    checks/cited_modules.py                  prints the list of docs/ARCHITECTURE.md, 'What an assessor reads'
     checks/cited_modules.py --write          puts it there, in the place of the one that stands there
     checks/cited_modules.py vcp_core::vcp    the modules that one public item of a crate rests on, with their lines
 
@@ -22,7 +22,8 @@ from pathlib import Path
 TOP = Path(__file__).resolve().parent.parent
 CRATES = TOP / "crates"
 DOCUMENT = TOP / "docs" / "ARCHITECTURE.md"
-HEAD = "| crate | modules of `specs/` that public contracts cite | and those that views and invariants alone cite |"
+HEAD = "Modules of `specs/` that public contracts cite, and behind *views* those that views and invariants alone cite:"
+WIDTH = 150
 
 # A dot with a space behind it ends the variables of a λ, and is no part of a name.
 WORD = re.compile(r"[^\s(){}\[\],;.:\"⟦⟧]+|\.(?=\S)")
@@ -273,11 +274,11 @@ def named(modules):
 
 
 def listed(crate, modules):
-    """The modules in one cell of the table."""
+    """The modules of a crate, or that they are all."""
     return "all" if modules and len(modules) == len(crate.modules) else named(modules)
 
 
-def table(crates):
+def listing(crates):
     cited = Reading(crates)
     for crate in crates.values():
         for item in crate.public:
@@ -286,15 +287,25 @@ def table(crates):
     for crate in crates.values():
         for item in crate.views:
             viewed.of_item(crate, item, crate.views[item])
-    rows = [HEAD, "|---|---|---|"]
+    rows = [HEAD, ""]
     for name, crate in crates.items():
         here = {m for c, m in cited.modules() if c == name}
         more = {m for c, m in viewed.modules() if c == name} - here
         if here or more:
-            rows.append(f"| `{name}` | {listed(crate, here)} | {listed(crate, more)} |")
+            rows += in_lines(f"`{name}`: " + "; ".join([listed(crate, here)] * bool(here) + [f"*views*: {listed(crate, more)}"] * bool(more)))
     for kit in sorted({c for c, _ in cited.of_kit} - {"std"}):
-        rows.append(f"| `{kit}`, of the kit | {named(m for c, m in cited.of_kit if c == kit)} | |")
+        rows += in_lines(f"`{kit}`, of the kit: {named(m for c, m in cited.of_kit if c == kit)}")
     return rows
+
+
+def in_lines(text):
+    """The lines of an item of the list."""
+    lines = ["-"]
+    for word in text.split(" "):
+        if len(lines[-1]) + 1 + len(word) > WIDTH:
+            lines.append(" ")
+        lines[-1] += " " + word
+    return lines
 
 
 def one_item(crates, wanted):
@@ -316,13 +327,13 @@ def main():
     crates = {name: Crate(name) for name in order}
     if len(sys.argv) > 1 and sys.argv[1] != "--write":
         return one_item(crates, sys.argv[1])
-    rows = table(crates)
+    rows = listing(crates)
     if len(sys.argv) == 1:
         print("\n".join(rows))
         return
     lines = DOCUMENT.read_text().split("\n")
     start = lines.index(HEAD)
-    end = next(i for i in range(start, len(lines) + 1) if i == len(lines) or not lines[i].startswith("|"))
+    end = next(i for i in range(start + 2, len(lines) + 1) if i == len(lines) or not lines[i].startswith(("- ", "  ")))
     DOCUMENT.write_text("\n".join(lines[:start] + rows + lines[end:]))
 
 

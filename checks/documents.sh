@@ -1,21 +1,23 @@
 #!/bin/sh
 # Whether the documents say what stands: `.ci/run` calls it after `rt ci`.
 #
-# Names: all that docs/PROMISES.md and docs/ARCHITECTURE.md name is there, and each public call is listed (promised_names.py).
+# Names: all that docs/CLAUSES.md, docs/PROMISES.md and docs/ARCHITECTURE.md name is there, and each public call is listed (promised_names.py).
+# Lines: none of a document is longer than 160 columns (long_lines.py).
 # Commands: what documents show is what the program prints (transcripts.sh), and the runs of examples/ are those shown there (examples.sh).
 # Words: the manual page and the completion have the commands of the usage line (usage.sh).
-# Pictures: those in docs/ are what vcp_draw draws (pictures.sh).
+# Pictures: those in docs/ are what vcp_study draws (pictures.sh).
 #
-# It uses the programs that are built, or those of VCP=FILE and VCP_DRAW=FILE, and builds none. What a missing tool would do is left out. Its status is 1 where
-# something differs, and else 0.
+# It uses the programs that are built, or those of VCP=FILE and VCP_STUDY=FILE, and builds none. What a missing tool would do is left out. Its status
+# is 1 where something differs, and else 0.
 here=$(CDPATH='' cd -- "$(dirname -- "$0")" && pwd) || exit 1
 VCP=${VCP:-$here/../crates/vcp/out/vcp}
-VCP_DRAW=${VCP_DRAW:-$here/../crates/vcp_draw/out/vcp_draw}
-export VCP VCP_DRAW
+VCP_STUDY=${VCP_STUDY:-$here/../crates/vcp_study/out/vcp_study}
+export VCP VCP_STUDY
 status=0
 
 if command -v python3 >/dev/null 2>&1; then
     python3 "$here/promised_names.py" || status=1
+    python3 "$here/long_lines.py" --documents || status=1
 else
     echo "documents: names are not looked at, since python3 isn't there"
 fi
@@ -23,7 +25,7 @@ fi
 if [ -x "$VCP" ]; then
     "$here/transcripts.sh" || status=1
     "$here/examples.sh" || status=1
-    if [ -x "$VCP_DRAW" ]; then
+    if [ -x "$VCP_STUDY" ]; then
         "$here/pictures.sh" --check || status=1
     fi
 else

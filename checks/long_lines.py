@@ -1,8 +1,9 @@
 #!/usr/bin/env python3
-"""Lines of the sources that are longer than 160 columns.
+"""Lines of the sources and documents that are longer than 160 columns.
 
     checks/long_lines.py [PART ..]            lists them, of the paths that have one of these parts, or of all
     checks/long_lines.py --write [PART ..]    breaks those that can be broken without a change of meaning
+    checks/long_lines.py --documents          lists those of the documents, without the indented blocks; status 1 where there is one
 
 A line is broken at a blank outside texts and comments: a list of imports becomes two, a clause, a definition or a
 lemma goes on in the next line, before an operator. `rt fmt` keeps such breaks. A text in Rattle is broken behind a
@@ -136,7 +137,22 @@ def shortened(path, line):
     return in_lines(line, 4)
 
 
+def documents():
+    """The places of long lines in documents, those aside that show what a program prints."""
+    for path in sorted([*ROOT.glob('*.md'), *ROOT.glob('*/*.md')]):
+        before, in_block = '', False
+        for number, line in enumerate(path.read_text(encoding='utf8').split('\n'), 1):
+            in_block = line.startswith('    ') and (in_block or not before.strip())
+            if len(line) > MOST and not in_block:
+                yield f'{path.relative_to(ROOT)}:{number}: {len(line)}'
+            before = line
+
+
 def main(words):
+    if '--documents' in words:
+        found = list(documents())
+        print('\n'.join(found) or f'long_lines: no line of a document has more than {MOST} columns')
+        sys.exit(1 if found else 0)
     writes = '--write' in words
     parts = [word for word in words if word != '--write']
     for path in sorted((ROOT / 'crates').rglob('*')):

@@ -1,22 +1,29 @@
 #!/usr/bin/env python3
 """Whether what documents name is there, and whether all that they have to list is listed.
 
-    checks/promised_names.py
+    checks/promised_names.py            prints what isn't so
+    checks/promised_names.py --write    puts the numbers of lines right in docs/PROMISES.md and docs/ASSESSOR.md, and then prints
 
-Of docs/PROMISES.md, each row of a crate's section:
-- a name in the column 'clause' is one of the crate: a function, type or trait of its code, the name of a clause, or a definition of
-  specs/ of any crate; a name behind the dot of `call.clause` is a clause of that call, or a field of that definition;
-- 'definitions' names modules of specs/, of the crate itself where no other is named;
-- each edit is a file of the crate's must-fail/, and each such file is in one row at least;
-- a test is a #[test] function of its crate, or a session of play_sessions;
-- each public function and method of the crate is named in the column 'clause', or its type is.
-Of its claims: each clause and each edit is there, named with its crate, and the definitions to be read have so many lines.
-Of crates/play_sessions: each session of data/ is in args, and stdout has its line. Of docs/ARCHITECTURE.md: each crate has its row in the first table, and a row that lists what it stands on has what crates.txt has; each name of a crate, a file or a definition is there; and the table
-of modules is the one that checks/cited_modules.py prints. Of docs/GLOSSARY.md: the names in the last column are there, and each type that two crates export is in its last table. Of docs/UNITS.md:
-each line of code that it shows is a line of the crates coded_unit or worked_unit. Of docs/ASSESSOR.md: each step of the order of reading
-names modules that are there, and has as many lines as the top call rests on in its crates.
+Of docs/CLAUSES.md, each promise of a crate's section, with its parts:
+- 'clause', which each promise has, names things of the crate: functions, types or traits of its code, names of clauses, or definitions
+  of specs/ of any crate; a name behind the dot of `call.clause` is a clause of that call, or a field of that definition;
+- 'read' names modules of specs/, of the crate itself where no other is named;
+- 'broken by' names files of the crate's must-fail/, and each such file is at one promise at least;
+- 'test' names #[test] functions of crates, or sessions of play_sessions;
+- each public function and method of the crate is named as a clause, or its type is;
+- no promise of a crate stands twice, none stands in a table, and the contents have each section;
+- a crate without edits has a line that names a call above it and its clause, which are there, or that says that no program uses the crate.
+Of docs/PROMISES.md, each claim: its clauses and its edits are there, named with their crates, and the definitions to be read have so many lines.
+Of crates/play_sessions: each session of data/ is in args, and stdout has its line.
+Of docs/ARCHITECTURE.md: each crate stands in a layer and on none above it, and has its row in the table of crates and, but for those of tests,
+in that of main contracts; each name of a crate, a file or a definition is there; and the list of
+modules is the one that checks/cited_modules.py prints.
+Of docs/GLOSSARY.md: the names in the last column are there, and each type that two crates export is in its last table.
+Of docs/UNITS.md: each line of code that it shows is a line of the crates coded_unit or worked_unit.
+Of docs/ASSESSOR.md: each step of the order of reading names modules that are there, and has as many lines as the top call rests on in its
+crates; and each crate that the top call rests on has a step, or is told behind them.
 
-It prints what isn't so, and ends with status 1 where there is something. It reads the sources and proves nothing.
+It ends with status 1 where there is something. It reads the sources and proves nothing.
 """
 import re
 import subprocess
@@ -26,6 +33,8 @@ from pathlib import Path
 TOP = Path(__file__).resolve().parent.parent
 CRATES = TOP / "crates"
 PROMISES = TOP / "docs" / "PROMISES.md"
+CLAUSES = TOP / "docs" / "CLAUSES.md"
+ASSESSOR = TOP / "docs" / "ASSESSOR.md"
 ARCHITECTURE = TOP / "docs" / "ARCHITECTURE.md"
 
 
@@ -114,21 +123,70 @@ def quoted(text):
     return [name.lstrip(".") for name in re.findall(r"`([^`]+)`", text)]
 
 
+PARTS = ("holds for", "clause", "read", "broken by", "test")
+
+
+def promises_of(section):
+    """The promises of a section: maps from the names of their parts to what stands there; 'promise' is what is promised."""
+    found = []
+    for item in re.findall(r"^- (.*?)(?=^\S|\Z)", section, re.M | re.S):
+        said, *parts = re.split(r"^  - \*([a-z ]+)\*: ", item, flags=re.M)
+        found.append({"promise": " ".join(said.split())} | {name: " ".join(text.split()) for name, text in zip(parts[::2], parts[1::2])})
+    return found
+
+
 def sections():
-    """The crates' sections of docs/PROMISES.md: a crate with its rows, each a map from the head's words to cells."""
-    found = {}
-    head = rows = None
-    for line in PROMISES.read_text().split("\n"):
-        if line.startswith("## "):
-            crate = line[3:].strip()
-            rows = found.setdefault(crate, []) if (CRATES / crate).is_dir() else None
-            head = None
-        elif rows is not None and line.startswith("|") and not line.startswith("|--"):
-            cells = [cell.strip() for cell in re.split(r"(?<!\\)\|", line)[1:-1]]
-            if head is None:
-                head = cells
-            else:
-                rows.append(dict(zip(head, cells)))
+    """The crates' sections of docs/CLAUSES.md: a crate with its promises."""
+    parts = re.split(r"^## (.*)\n", CLAUSES.read_text(), flags=re.M)
+    return {crate: promises_of(text) for crate, text in zip(parts[1::2], parts[2::2]) if (CRATES / crate).is_dir()}
+
+
+def faults_of_layout(found):
+    """Promises that lack a clause or have another part, that stand twice or in a table, and sections that the contents don't have."""
+    text = CLAUSES.read_text()
+    linked = re.findall(r"\[(\w+)\]\(#\1\)", text)
+    if sorted(linked) != sorted(found):
+        yield f"the contents differ from the sections: {', '.join(sorted(set(linked) ^ set(found)))}"
+    for file in (CLAUSES, PROMISES):
+        if re.search(r"^\| promise \|", file.read_text(), re.M):
+            yield f"a table of promises stands in {file.name}"
+    for crate, promises in found.items():
+        said = [promise["promise"] for promise in promises]
+        for promise in promises:
+            if "clause" not in promise or not set(promise) <= {"promise", *PARTS}:
+                yield f"{crate}: the parts aren't those of a promise: {promise['promise'][:60]}"
+        for twice in sorted({text for text in said if said.count(text) > 1}):
+            yield f"{crate}: a promise stands twice: {twice[:60]}"
+
+
+def faults_of_notes(crates):
+    """Whether what stands below the headings of crates is so: which proofs rest on a crate without edits, and whether a program uses it."""
+    used = below(crates, "vcp") | below(crates, "vcp_study")
+    parts = re.split(r"^## (.*)\n", CLAUSES.read_text(), flags=re.M)
+    for crate, text in zip(parts[1::2], parts[2::2]):
+        if not (CRATES / crate).is_dir():
+            continue
+        is_library = re.search(r"^A library that no (program|command) uses yet", text, re.M) is not None
+        note = re.search(r"^No edit: (.*?)\n\n", text, re.M | re.S)
+        if is_library and crate in used:
+            yield f"{crate}: a program uses it"
+        if not is_library and not note and (crate not in used or not (CRATES / crate / "must-fail").is_dir()):
+            yield f"{crate}: nothing says what rests on it"
+        if note and (CRATES / crate / "must-fail").is_dir():
+            yield f"{crate}: it has edits"
+        for call, owner, clause in re.findall(r"`(\w+)` in `(\w+)`(?: \(`(\w+)`)?", note[1] if note else ""):
+            clauses = Code(owner).clauses_of if (CRATES / owner).is_dir() else {}
+            if call not in clauses or (clause and clause not in clauses[call]):
+                yield f"{crate}: `{call}` of `{owner}` has no such clause"
+
+
+def below(crates, crate):
+    """The crates on which a crate stands, at any distance."""
+    found, waiting = set(), [crate]
+    while waiting:
+        new = [name for name in crates.get(waiting.pop(), ()) if name not in found]
+        found.update(new)
+        waiting += new
     return found
 
 
@@ -137,20 +195,20 @@ def faults_of_section(crate, rows, names, fields):
     edits = {file.stem for file in (CRATES / crate / "must-fail").glob("*.edit")}
     named = set()
     for row in rows:
-        clauses = quoted(row["clause"])
+        clauses = quoted(row.get("clause", ""))
         named |= {part for cited in clauses for part in re.split(r"::|\.", cited)}
         for cited in clauses:
             if not code.has(cited, names, fields):
                 yield f"`{cited}` isn't there"
-        for cited in quoted(row["definitions"]):
+        for cited in quoted(row.get("read", "")):
             owner, _, module = cited.rpartition("::")
             if not (CRATES / (owner or crate) / "specs" / f"{module}.antt").is_file():
                 yield f"the module `{cited}` isn't there"
-        for cited in quoted(row["edit that is refused"]):
+        for cited in quoted(row.get("broken by", "")):
             if not (CRATES / crate / "must-fail" / f"{cited}.edit").is_file():
                 yield f"the edit `{cited}` isn't there"
             edits.discard(cited)
-        for cited in quoted(row["test"]):
+        for cited in quoted(row.get("test", "")):
             owner, _, test = cited.partition("::")
             if cited.startswith("session "):
                 if cited.removeprefix("session ") not in sessions():
@@ -158,10 +216,10 @@ def faults_of_section(crate, rows, names, fields):
             elif not (CRATES / owner).is_dir() or test not in tests_of(owner):
                 yield f"the test `{cited}` isn't there"
     for edit in sorted(edits):
-        yield f"the edit `{edit}` is in no row"
+        yield f"the edit `{edit}` is at no promise"
     for owner, name in sorted(code.public, key=str):
         if name not in named and owner not in named:
-            yield f"the public call `{owner + '::' if owner else ''}{name}` is in no row"
+            yield f"the public call `{owner + '::' if owner else ''}{name}` is at no promise"
 
 
 def lines_of_module(crate, module):
@@ -172,11 +230,21 @@ def lines_of_module(crate, module):
     return sum(1 for line in without_comments(file, "--").split("\n") if line.strip() and not re.match(r"(pub )?use ", line))
 
 
-def faults_of_claims(names, fields):
+def modules_in(text):
+    """The pairs of a crate and a module that a list names, as `crate`: `Module`, `Module`; `crate`: `Module`."""
+    return [(crate, module) for crate, modules in re.findall(r"`(\w+)`:\s+([^;:]*)(?=;|\Z)", text) for module in quoted(modules)]
+
+
+def claims():
+    """The claims of docs/PROMISES.md: the number of each and its parts."""
     text = PROMISES.read_text().partition("\n## Claims\n")[2].partition("\n## ")[0]
-    codes = {}
     for number, claim in re.findall(r"^### (\d+)\. (.*?)(?=^### |\Z)", text, re.M | re.S):
-        parts = {part: " ".join(said.split()) for part, said in re.findall(r"^- \*([a-z ]+)\*: (.*?)(?=^- |\Z)", claim, re.M | re.S)}
+        yield number, {part: " ".join(said.split()) for part, said in re.findall(r"^- \*([a-z ]+)\*: (.*?)(?=^- |\Z)", claim, re.M | re.S)}
+
+
+def faults_of_claims(names, fields):
+    codes = {}
+    for number, parts in claims():
         for cited in quoted(parts.get("clause", "")):
             crate, _, rest = cited.partition("::")
             if not rest or not (CRATES / crate).is_dir() or not codes.setdefault(crate, codes.get(crate) or Code(crate)).has(rest, names, fields):
@@ -186,20 +254,31 @@ def faults_of_claims(names, fields):
             if edit and not (CRATES / crate / "must-fail" / f"{edit}.edit").is_file():
                 yield f"claim {number}: the edit `{cited}` isn't there"
         read, _, said = parts.get("read", "").rpartition(": ")
-        lines = 0
-        for crate, modules in re.findall(r"`(\w+)`: ([^;]*)", read):
-            for module in quoted(modules):
-                counted = lines_of_module(crate, module)
-                if counted is None:
-                    yield f"claim {number}: the module `{crate}::{module}` isn't there"
-                lines += counted or 0
+        for crate, module in modules_in(read):
+            if lines_of_module(crate, module) is None:
+                yield f"claim {number}: the module `{crate}::{module}` isn't there"
+        lines = lines_in(read)
         if said.split()[:1] != [str(lines)]:
             yield f"claim {number}: what is to be read has {lines} lines"
 
 
+def lines_in(text):
+    return sum(lines_of_module(crate, module) or 0 for crate, module in modules_in(text))
+
+
+def write_lines_of_claims():
+    def right(found):
+        return f"{found[1]}{found[2]}:{found[3]}{lines_in(found[2])} lines."
+
+    head, mark, rest = PROMISES.read_text().partition("\n## Endings\n")
+    PROMISES.write_text(re.sub(r"(- \*read\*: )((?:(?!^- ).)*?):(\s+)\d+ lines\.", right, head, flags=re.M | re.S) + mark + rest)
+
+
 def is_there(cited, crates, names):
     """Whether a name of docs/ARCHITECTURE.md is a crate, a file, a definition, or a name of some crate's code."""
-    if len(cited) == 1 or cited == "st_" or cited in crates or any(cited in below for below in crates.values()) or (TOP / cited).exists() or any(CRATES.glob(f"*/src/**/{cited}")) or any(CRATES.glob(f"*/{cited}")):
+    if len(cited) == 1 or cited == "st_" or cited in crates or any(cited in listed for listed in crates.values()):
+        return True
+    if (TOP / cited).exists() or any(CRATES.glob(f"*/src/**/{cited}")) or any(CRATES.glob(f"*/{cited}")):
         return True
     if any(CRATES.glob(f"*/specs/{cited}")) or any(CRATES.glob(f"*/specs/{cited}.antt")) or any((TOP / "bench").glob(cited)):
         return True
@@ -207,20 +286,38 @@ def is_there(cited, crates, names):
     return last in names
 
 
+def is_for_tests(crate):
+    return crate.endswith("_tests") or crate in ("play_sessions", "worked_texts", "worked_graphs", "worked_programs")
+
+
+def faults_of_layers(text, crates):
+    """Whether each crate that something rests on stands in a layer, and on none above it."""
+    lines = re.findall(r"^    .*", text.partition("\n## The layers\n")[2].partition("\n## ")[0], re.M)
+    layer_of = {crate: number for number, line in enumerate(lines) for crate in crates if re.search(rf"\b{crate}\b", line)}
+    for crate, others in crates.items():
+        if crate not in layer_of and not is_for_tests(crate) and crate not in ("worked_unit", "bench_machine"):
+            yield f"the crate `{crate}` stands in no layer"
+        for other in others:
+            if layer_of.get(crate, 0) > layer_of.get(other, len(lines)):
+                yield f"the crate `{crate}` stands in a layer below `{other}`, on which it stands"
+
+
 def faults_of_architecture(crates, names):
     text = ARCHITECTURE.read_text()
+    table = text.partition("\n## The crates\n")[2].partition("\n## ")[0]
     for crate in crates:
-        row = re.search(rf"^\| `{crate}` \| .* \| (.*) \|$", text, re.M)
-        if not row:
+        if not re.search(rf"^\| `{crate}` \| .* \|$", table, re.M):
             yield f"the crate `{crate}` has no row"
-        elif re.fullmatch(r"(`\w+`(, )?)*", row.group(1)) and set(quoted(row.group(1))) != set(crates[crate]) & set(crates):
-            yield f"the crate `{crate}` stands on other crates"
+    contracts = text.partition("\n## The main contract of each crate\n")[2].partition("\n## ")[0]
+    for crate in crates:
+        if not re.search(rf"^\|[^|]*`{crate}`", contracts, re.M) and not is_for_tests(crate):
+            yield f"the crate `{crate}` has no main contract"
+    yield from faults_of_layers(text, crates)
     for cited in sorted(set(re.findall(r"`([A-Za-z_][\w./:]*)`", text))):
         if not is_there(cited, crates, names):
             yield f"`{cited}` isn't there"
-    printed = subprocess.run([sys.executable, TOP / "checks" / "cited_modules.py"], capture_output=True, text=True, check=True).stdout
-    if printed not in text:
-        yield "the table of modules differs from what checks/cited_modules.py prints"
+    if cited_modules() not in text:
+        yield "the list of modules differs from what checks/cited_modules.py prints"
 
 
 def faults_of_sessions():
@@ -270,32 +367,76 @@ def faults_of_units():
             yield f"no line of code is `{line.strip()}`"
 
 
+def lines_below_the_top_call():
+    """How many lines the top call rests on, crate by crate."""
+    found = {}
+    for lines, crate in re.findall(r"^ *(\d+) (\w+) \w+$", cited_modules("vcp_core::vcp"), re.M):
+        found[crate] = found.get(crate, 0) + int(lines)
+    return found
+
+
+def cited_modules(*words):
+    command = [sys.executable, TOP / "checks" / "cited_modules.py", *words]
+    return subprocess.run(command, capture_output=True, text=True, check=True).stdout
+
+
+STEP = re.compile(r"^(\d+)(\. .*) (\d+) lines:\n((?:   .*\n)+)", re.M)
+BESIDE = re.compile(r"`(\w+)` \((\d+) lines\)")
+
+
+def crates_of_step(found):
+    return re.findall(r"^ +- `(\w+)`:", found[4], re.M)
+
+
 def faults_of_assessor():
-    command = [sys.executable, TOP / "checks" / "cited_modules.py", "vcp_core::vcp"]
-    printed = subprocess.run(command, capture_output=True, text=True, check=True).stdout
-    lines_of = {}
-    for lines, crate in re.findall(r"^ *(\d+) (\w+) \w+$", printed, re.M):
-        lines_of[crate] = lines_of.get(crate, 0) + int(lines)
-    for step, modules, lines in re.findall(r"^\| (\d+) \| .* \| (.*) \| (\d+) \|$", (TOP / "docs" / "ASSESSOR.md").read_text(), re.M):
-        crates = re.findall(r"`(\w+)`:", modules)
+    lines_of = lines_below_the_top_call()
+    text = ASSESSOR.read_text().partition("\n## The order of reading\n")[2].partition("\n## ")[0]
+    told = set()
+    for found in STEP.finditer(text):
+        crates = crates_of_step(found)
+        told |= set(crates)
         wanted = sum(lines_of.get(crate, 0) for crate in crates)
-        if wanted != int(lines):
-            yield f"step {step} has {wanted} lines, and not {lines}"
-        for crate, named in re.findall(r"`(\w+)`: ([^;]*)", modules):
-            for module in quoted(named):
+        if wanted != int(found[3]):
+            yield f"step {found[1]} has {wanted} lines, and not {found[3]}"
+        for crate, modules in re.findall(r"^ +- `(\w+)`: (.*(?:\n +[^\s-].*)*)", found[4], re.M):
+            for module in quoted(modules):
                 if not (CRATES / crate / "specs" / f"{module}.antt").is_file():
-                    yield f"step {step}: the module `{crate}::{module}` isn't there"
+                    yield f"step {found[1]}: the module `{crate}::{module}` isn't there"
+    for crate, lines in BESIDE.findall(text):
+        told.add(crate)
+        if lines_of.get(crate) != int(lines):
+            yield f"`{crate}` has {lines_of.get(crate)} lines, and not {lines}"
+    for crate in sorted(set(lines_of) - told):
+        yield f"the top call rests on `{crate}`, which has no step"
+
+
+def write_lines_of_assessor():
+    lines_of = lines_below_the_top_call()
+
+    def of_step(found):
+        return f"{found[1]}{found[2]} {sum(lines_of.get(crate, 0) for crate in crates_of_step(found))} lines:\n{found[4]}"
+
+    def of_command(found):
+        return found[1] + cited_modules(found[2]).split("\n")[-2] + "\n"
+
+    text = STEP.sub(of_step, ASSESSOR.read_text())
+    text = BESIDE.sub(lambda found: f"`{found[1]}` ({lines_of.get(found[1], found[2])} lines)", text)
+    ASSESSOR.write_text(re.sub(r"(    \$ checks/cited_modules\.py (\S+) \| tail -n 1\n    ).*\n", of_command, text))
 
 
 def main():
+    if "--write" in sys.argv[1:]:
+        write_lines_of_claims()
+        write_lines_of_assessor()
     crates = listed_crates()
     names, fields = defined()
     found = sections()
-    faults = [f"PROMISES: {crate}: {fault}" for crate, rows in found.items() for fault in faults_of_section(crate, rows, names, fields)]
+    faults = [f"CLAUSES: {fault}" for fault in [*faults_of_layout(found), *faults_of_notes(crates)]]
+    faults += [f"CLAUSES: {crate}: {fault}" for crate, rows in found.items() for fault in faults_of_section(crate, rows, names, fields)]
     faults += [f"PROMISES: {fault}" for fault in faults_of_claims(names, fields)]
     for crate in crates:
         if crate not in found and (CRATES / crate / "must-fail").is_dir():
-            faults.append(f"PROMISES: {crate} has no section")
+            faults.append(f"CLAUSES: {crate} has no section")
     code_names = names | fields | set().union(*({*c.owners, *c.clauses, *c.clauses_of} for c in map(Code, crates)))
     faults += [f"ARCHITECTURE: {fault}" for fault in faults_of_architecture(crates, code_names)]
     faults += [f"GLOSSARY: {fault}" for fault in faults_of_glossary(crates, code_names)]

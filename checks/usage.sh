@@ -3,13 +3,13 @@
 #
 #     checks/usage.sh
 #
-# The usage line is that of `crates/vcp_words/specs/Usage.antt`, which `vcp` prints. The first list that differs is shown as a diff, and the status is then 1.
+# The usage line is that of `crates/vcp_words/specs/Forms.antt`, which `vcp` prints. The first list that differs is shown as a diff, and the status is then 1.
 top=$(CDPATH='' cd -- "$(dirname -- "$0")/.." && pwd) || exit 1
 work=$(mktemp -d) || exit 1
 trap 'rm -rf "$work"' EXIT
 
 # `check P`, a line a form
-sed -n 's/.*"usage: vcp \(.*\)\\n".*/\1/p' "$top/crates/vcp_words/specs/Usage.antt" | sed 's/ or /, /; s/, /\n/g' >"$work/forms"
+sed -n 's/.*"usage: vcp \(.*\)\\n".*/\1/p' "$top/crates/vcp_words/specs/Forms.antt" | sed 's/ or /, /; s/, /\n/g' >"$work/forms"
 [ -s "$work/forms" ] || {
     echo "usage: no usage line was found"
     exit 1
