@@ -149,7 +149,7 @@ class Explainer:
 
     def silent_rows(self) -> list[Explanation]:
         """What the rows file of an accepted call holds that is read in silence."""
-        takes_rows = len(self.words) > 2 and self.words[0] in ("plain", "run", "exec", "trace", "inject") and self.words[2] != "--cycles"
+        takes_rows = len(self.words) > 2 and self.words[0] in ("plain", "run", "exec", "trace", "inject", "pair") and self.words[2] != "--cycles"
         data = _bytes(self.words[2]) if takes_rows else b""
         if not 0 < len(data) <= MOST_BYTES_LOOKED_AT:
             return []
@@ -199,6 +199,7 @@ def _limit(fault: FaultLine) -> str:
         "L1": "the file is longer than its limit",
         "L6": "the image's operations, outputs and cycle borders are too many for one audit: take a smaller horizon",
         "L7": "the cycles and the image's operations are too many for a campaign: take fewer rows, as those round the faults",
+        "L8": "the second channel is to have another seed than the image: take another number for SEED",
     }.get(fault.code, "this code is unknown to the tools")
 
 

@@ -13,7 +13,7 @@ from tools.hint import listed, nearest
 FORMS: dict[str, tuple[str, ...]] = {
     "check": ("P",), "format": ("P",), "plain": ("P", "ROWS"), "run": ("P", "ROWS", "CODE"), "compile": ("P", "CODE"), "list": ("M",),
     "exec": ("M", "ROWS"), "trace": ("M", "ROWS", "CYCLE"), "widen": ("M",), "audit": ("M", "HORIZON"), "inject": ("M", "ROWS", "F"),
-    "demo": ("N",),
+    "pair": ("M", "ROWS", "SEED"), "demo": ("N",),
 }
 """The words behind each command; ROWS is a file or `--cycles N`, CODE `--seed N` and `--step N`, each at most once."""
 KINDS: dict[str, int] = {
@@ -24,8 +24,9 @@ KINDS: dict[str, int] = {
 ACTS = ("operand", "result", "operator", "skip")
 GROUP_WORDS = ("begin", "end")
 _MEANT = {"P": "a source file", "M": "an image", "ROWS": "a rows file, or `--cycles N`", "F": "a script of faults", "CYCLE": "the number of a cycle",
-          "HORIZON": "a number of cycle borders", "N": "a number"}
-_LIMITS = {"--seed": (0, 1073741823), "--step": (1, 1000), "--cycles": (0, 1000000), "CYCLE": (0, 999999), "HORIZON": (0, 1000), "N": (0, 4294967295)}
+          "HORIZON": "a number of cycle borders", "SEED": "the seed of the second channel", "N": "a number"}
+_LIMITS = {"--seed": (0, 1073741823), "--step": (1, 1000), "--cycles": (0, 1000000), "CYCLE": (0, 999999), "HORIZON": (0, 1000),
+           "SEED": (0, 1073741823), "N": (0, 4294967295)}
 
 
 def form_of(command: str) -> str:

@@ -163,7 +163,7 @@ class Readers(unittest.TestCase):
         self.assertEqual(raised.exception.token.text, "END_PROGRAM")
 
     def test_the_document_has_the_meaning_of_each_code(self) -> None:
-        wanted = "L1 S1 S2 S3 S4 S5 T1 T2 T3 T4 T5 T6 T7 T8 L2 L3 R1 R2 R3 R4 R5 L4 I1 I2 I3 I4 I5 I6 I7 L5 L6 L7 F1 F2 F3 F4 F5 F6".split()
+        wanted = "L1 S1 S2 S3 S4 S5 T1 T2 T3 T4 T5 T6 T7 T8 L2 L3 R1 R2 R3 R4 R5 L4 I1 I2 I3 I4 I5 I6 I7 L5 L6 L7 L8 F1 F2 F3 F4 F5 F6".split()
         self.assertLessEqual(set(wanted), set(meanings()))
 
     def test_reserved_words_are_those_of_the_document(self) -> None:

@@ -4,14 +4,20 @@ use Rattle.std.specs.Io.KnownBytes.{Appends}
 use Rattle.vcp_outside.specs.Counts.{Rose}
 use Rattle.input_rows.specs.declared.fault.RowFault.{RowFault}
 use Rattle.fault_injector.specs.declared.verdict.Verdict.{Verdict}
+use Rattle.pair_channel.specs.declared.pair_end.PairEnd.{PairEnd}
+use Rattle.pair_channel.specs.declared.pair_end.PairEnd.TheVariants as pair
+use Rattle.pair_channel.specs.PairRuns.{PairOutcome}
 use Rattle.command_meaning.specs.Answer.{Answer}
 use Rattle.command_meaning.specs.CampaignKind.{verdicts_answer}
+use Rattle.command_meaning.specs.PairKind.{pair_answer, pair_read, pair_status}
 use Rattle.command_meaning.specs.Printing.{Report}
 use Rattle.command_meaning.specs.Endings.{TellsLine, ended, cut, short, unread, unmade, Given, Causes, NothingFailed, HasOwnStatus}
 use Rattle.command_meaning.specs.Endings.{DoneIsMeant, EndingsHaveCauses, GivingUpHasCauses}
-use Rattle.command_meaning.specs.Kinds.{Task, lacks, answers, compiles, runs, judges, Done, lack_answer}
+use Rattle.command_meaning.specs.Kinds.{Task, lacks, answers, compiles, runs, judges, compares, wires, Done, lack_answer}
 use Rattle.command_meaning.specs.Reports.{RunEnd, complete, stopped, refused, run_status}
 use Rattle.command_meaning.specs.RunKind.{job_answer, run_read}
+use Rattle.wire_run.specs.Sends.{Cut}
+use Rattle.command_meaning.specs.WireKind.{wire_status}
 use Rattle.coded_unit.specs.Seen.{UnitSeen}
 use Rattle.vcp_outside.specs.Seen.{SinkSeen}
 use Rattle.command_meaning.specs.Seen.{Outside}
@@ -24,6 +30,17 @@ run_small complete (Some f) = lit≤ tt
 run_small (stopped s) behind = lit≤ tt
 run_small (refused output found wanted) behind = lit≤ tt
 
+pub pair_small : (e : PairEnd) (behind : Option RowFault) → pair_status e behind ≤ 3
+pair_small pair.Released None = lit≤ tt
+pair_small pair.Released (Some f) = lit≤ tt
+pair_small (pair.Stopped op why) behind = lit≤ tt
+pair_small (pair.Parted first second) behind = lit≤ tt
+pair_small (pair.Differ output first second) behind = lit≤ tt
+
+pub wire_small : (cut : Option Cut) → wire_status cut ≤ 3
+wire_small None = lit≤ tt
+wire_small (Some c) = lit≤ tt
+
 pub status_of : (x y : Answer) → x ≡ y → x.status ≡ y.status
 status_of x y same = ap (λ (z : Answer). z.status) same
 
@@ -35,6 +52,8 @@ five_lacks (answers y) a b x few d h = absurd (omega (arith, few, h, status_of x
 five_lacks (compiles p code) a b x few (quiet, (g, may, is)) h = absurd (omega (arith, h, status_of x _ is))
 five_lacks (runs j) a b x few d h = absurd (omega (arith, h, status_of x _ d.read, run_small (run_read j d.graph d.cycles).end j.rows.refusal))
 five_lacks (judges c) a b x few d h = absurd (omega (arith, h, status_of x _ d.read))
+five_lacks (wires s) a b x few d h = absurd (omega (arith, h, status_of x _ d.read, wire_small d.cut))
+five_lacks (compares j) a b x few d h = absurd (omega (arith, h, status_of x _ d.read, pair_small (pair_read j d.cycles).end j.rows.refusal))
 
 lacks_five : (task : Task) (a b : UnitSeen) (x : Answer) (name : List ℕ) → task ≡ lacks name → Done task a b x → x.status ≡ 5
 lacks_five task a b x name is d =
@@ -48,6 +67,8 @@ done_is_meant (answers a) before after x d honest = d.1
 done_is_meant (compiles p code) before after x d honest = d.1
 done_is_meant (runs j) before after x d honest = d.read ∙ ap (λ (r : Report). job_answer j r) (d.honest honest)
 done_is_meant (judges c) before after x d honest = d.read ∙ ap (λ (vs : List Verdict). verdicts_answer c vs) (d.honest honest)
+done_is_meant (wires s) before after x d honest = d.honest honest
+done_is_meant (compares j) before after x d honest = d.read ∙ ap (λ (o : PairOutcome). pair_answer j o) (d.honest honest)
 
 -- ---- the answer came
 

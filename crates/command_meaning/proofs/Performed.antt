@@ -8,13 +8,14 @@ use Rattle.command_meaning.specs.Abouts.{Among, About, AllHeld}
 use Rattle.command_meaning.specs.Clauses.{IsEnd, IsTooLong, Keeps, MayHold, Serves, TellsTooLong}
 use Rattle.command_meaning.specs.Endings.{Answered, known, given_up, Causes, Ends, GivenUp, HasOwnStatus, NothingFailed, TellsLine}
 use Rattle.command_meaning.specs.Endings as ends
-use Rattle.command_meaning.specs.Kinds.{Task, lacks, answers, compiles, runs, judges, Done}
+use Rattle.command_meaning.specs.Kinds.{Task, lacks, answers, compiles, runs, judges, compares, wires, Done}
 use Rattle.command_meaning.specs.Performing.{Still, Reaches, done, cut, short, unread, unmade, Performs}
+use Rattle.command_meaning.specs.PairKind.{pair_read}
 use Rattle.command_meaning.specs.RunKind.{run_read}
 use Rattle.coded_unit.specs.Seen.{UnitSeen}
 use Rattle.vcp_outside.specs.Seen.{SinkSeen}
 use Rattle.command_meaning.specs.Seen.{Outside, Untouched, moment_of}
-use Rattle.command_meaning.proofs.Causing.{endings_have_causes, giving_up_has_causes, five_lacks, run_small, status_of}
+use Rattle.command_meaning.proofs.Causing.{endings_have_causes, giving_up_has_causes, five_lacks, pair_small, run_small, status_of, wire_small}
 
 -- A command comes to one task at most; to an answer only with a status of its own; and to a lacking name only where not all of its files
 -- are held.
@@ -55,6 +56,8 @@ never_six (answers y) a b x few d h = omega (arith, few, h, status_of x y d.1)
 never_six (compiles p code) a b x few (quiet, (g, may, is)) h = omega (arith, h, status_of x _ is)
 never_six (runs j) a b x few d h = omega (arith, h, status_of x _ d.read, run_small (run_read j d.graph d.cycles).end j.rows.refusal)
 never_six (judges c) a b x few d h = omega (arith, h, status_of x _ d.read)
+never_six (wires s) a b x few d h = omega (arith, h, status_of x _ d.read, wire_small d.cut)
+never_six (compares j) a b x few d h = omega (arith, h, status_of x _ d.read, pair_small (pair_read j d.cycles).end j.rows.refusal)
 
 -- a line whose status is another one was told, or its sink failed
 told_five : (line : List ℕ) (code : ℕ) (a b : SinkSeen) (status : ℕ) → TellsLine line code a b status → status ≡ 5 → code ≡ 5

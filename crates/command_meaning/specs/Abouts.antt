@@ -1,8 +1,9 @@
 -- Abouts: what each command is about, a line a command. Nothing else that is said of commands goes by their names.
 use Rattle.std.specs.Prelude.{ℕ, ◌≡◌, ◌⊎◌, Bool, true, false, List, [], ◌∷◌, ◌++◌, Option, Some, None, IsSome}
 use Rattle.vcp_base.specs.Limits.{most_source_bytes, most_image_bytes, most_rows_bytes}
+use Rattle.il_front.specs.Answers.{most_il_bytes}
 use Rattle.vcp_outside.specs.Held.{Held}
-use Rattle.vcp_words.specs.Forms.{Form, Rows, check, format, plain, run, compile, list, exec, trace, widen, audit, inject, demo, file, cycles}
+use Rattle.vcp_words.specs.Forms.{Form, Rows, check, format, plain, run, il, compile, list, exec, trace, widen, audit, inject, pair, wire, demo, file, cycles}
 
 -- ---- files that words name
 
@@ -14,6 +15,9 @@ pub record FileWord : Type 0 where
 -- P, M and F
 abbrev pub source_word : List ℕ → FileWord
 source_word p = record { name = p; most = most_source_bytes }
+
+abbrev pub listing_word : List ℕ → FileWord
+listing_word p = record { name = p; most = most_il_bytes }
 
 abbrev pub image_word : List ℕ → FileWord
 image_word m = record { name = m; most = most_image_bytes }
@@ -48,11 +52,16 @@ runs_of files = record { files = files; calls = true; late = true; ends = 0 ∷ 
 abbrev pub judges_of : List FileWord → About
 judges_of files = record { files = files; calls = true; late = true; ends = 0 ∷ 1 ∷ [] }
 
+-- one that reads these files, takes all its memory, and then sends values on the unit
+abbrev pub sends_of : List FileWord → About
+sends_of files = record { files = files; calls = true; late = false; ends = 0 ∷ 1 ∷ 3 ∷ [] }
+
 abbrev pub about : Form → About
 about (check p) = prints_of (source_word p ∷ [])
 about (format p) = prints_of (source_word p ∷ [])
 about (plain p rows) = record { files = source_word p ∷ rows_words rows; calls = false; late = true; ends = 0 ∷ 1 ∷ 2 ∷ [] }
 about (run p rows code) = runs_of (source_word p ∷ rows_words rows)
+about (il p rows code) = runs_of (listing_word p ∷ rows_words rows)
 about (compile p code) = prints_of (source_word p ∷ [])
 about (list m) = prints_of (image_word m ∷ [])
 about (exec m rows) = runs_of (image_word m ∷ rows_words rows)
@@ -60,6 +69,8 @@ about (trace m rows n) = runs_of (image_word m ∷ rows_words rows)
 about (widen m) = prints_of (image_word m ∷ [])
 about (audit m horizon) = prints_of (image_word m ∷ [])
 about (inject m rows f) = judges_of (image_word m ∷ (rows_words rows ++ script_word f ∷ []))
+about (pair m rows seed) = runs_of (image_word m ∷ rows_words rows)
+about (wire f) = sends_of (script_word f ∷ [])
 about (demo n) = runs_of []
 
 -- the command that writes the same without a unit, where there is one
@@ -68,6 +79,7 @@ without_unit (check p) = None
 without_unit (format p) = None
 without_unit (plain p rows) = None
 without_unit (run p rows code) = Some (plain p rows)
+without_unit (il p rows code) = None
 without_unit (compile p code) = None
 without_unit (list m) = None
 without_unit (exec m rows) = None
@@ -75,6 +87,8 @@ without_unit (trace m rows n) = None
 without_unit (widen m) = None
 without_unit (audit m horizon) = None
 without_unit (inject m rows f) = None
+without_unit (pair m rows seed) = None
+without_unit (wire f) = None
 without_unit (demo n) = None
 
 -- each of these files is held

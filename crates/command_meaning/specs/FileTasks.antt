@@ -8,15 +8,20 @@ use Rattle.input_rows.specs.RowsOf.{RowsLeft}
 use Rattle.vcp_typed.specs.SourceRun.{Program}
 use Rattle.op_graph.specs.Lists.{Lists}
 use Rattle.fault_script.specs.declared.act.Fault.{Fault}
+use Rattle.il_front.specs.Answers.{most_il_bytes}
+use Rattle.il_front.specs.Outcomes.{IsTypedIl}
 use Rattle.vcp_words.specs.Forms.{Rows}
 use Rattle.vcp_words.specs.Tables.{rows_name}
 use Rattle.vcp_inputs.specs.declared.images.Image.{Image}
 use Rattle.vcp_inputs.specs.declared.refusal.Refusal.{Refusal}
 use Rattle.vcp_inputs.specs.Files.{IsRefused}
 use Rattle.vcp_inputs.specs.Images.{ImageOf, NotImage}
+use Rattle.vcp_inputs.specs.Listings.{NotListing}
 use Rattle.vcp_inputs.specs.Programs.{IsProgram, NoProgram, TypedOf, NotTyped}
 use Rattle.vcp_inputs.specs.RowsOutcome.{RowsOutcome, lacking, refused, opened, rows_outcome}
 use Rattle.vcp_inputs.specs.Scripts.{ScriptOf, NotScript}
+use Rattle.vcp_inputs.specs.Wires.{WireOf, NotWire}
+use Rattle.wire_script.specs.declared.script.Script.{Script}
 use Rattle.command_meaning.specs.Kinds.{Task, lacks, refusal_task}
 
 -- What the file under a name comes to, of which these are the bytes, if there are any. It is lacking; or it is refused, since it has more
@@ -36,6 +41,10 @@ ParsedFile Then p held task = TakenFile IsProgram NoProgram most_source_bytes Th
 abbrev pub TypedFile : (Program → Task → Type 0) → List ℕ → Held → Task → Type 0
 TypedFile Then p held task = TakenFile TypedOf NotTyped most_source_bytes Then p (held p) task
 
+-- the file P of an instruction list, of whose typed program this is said
+abbrev pub ListingFile : (Program → Task → Type 0) → List ℕ → Held → Task → Type 0
+ListingFile Then p held task = TakenFile IsTypedIl NotListing most_il_bytes Then p (held p) task
+
 -- the file M, of whose image this is said
 abbrev pub ImageFile : (Image → Task → Type 0) → List ℕ → Held → Task → Type 0
 ImageFile Then m held task = TakenFile ImageOf NotImage most_image_bytes Then m (held m) task
@@ -43,6 +52,10 @@ ImageFile Then m held task = TakenFile ImageOf NotImage most_image_bytes Then m 
 -- the file F, of whose groups of faults over a graph this is said
 abbrev pub ScriptFile : Lists → (List (List Fault) → Task → Type 0) → List ℕ → Held → Task → Type 0
 ScriptFile g Then f held task = TakenFile (ScriptOf g) (NotScript g) most_source_bytes Then f (held f) task
+
+-- the file F, of whose script of a wire this is said
+abbrev pub WireFile : (Script → Task → Type 0) → List ℕ → Held → Task → Type 0
+WireFile Then f held task = TakenFile WireOf NotWire most_source_bytes Then f (held f) task
 
 -- ---- ROWS
 

@@ -12,15 +12,21 @@ use Rattle.coded_unit.specs.Seen.{UnitSeen}
 use Rattle.machine_run.specs.Moments.{Moment}
 use Rattle.command_meaning.specs.RunKind.{Job, RunDone, RunLeft, job_answer, run_meant}
 use Rattle.command_meaning.specs.CampaignKind.{CampaignDone, CampaignLeft, verdicts_answer, verdicts_meant}
+use Rattle.wire_script.specs.declared.script.Script.{Script}
+use Rattle.command_meaning.specs.WireKind.{WireDone, WireLeft, wire_meant}
+use Rattle.command_meaning.specs.PairKind.{PairJob, PairJobDone, PairJobLeft, pair_answer, pair_meant}
 
 -- What a command and files come to: a name that is lacking; an answer for which no unit is called; a program of which the image of some
--- graph that means it is written, with the numbers of a code; a run; or groups of faults that are judged.
+-- graph that means it is written, with the numbers of a code; a run; groups of faults that are judged; a run of two
+-- channels; or the script of a wire that is run.
 pub data Task : Type 0 where
   lacks : List ℕ → Task
   answers : Answer → Task
   compiles : Program → Code → Task
   runs : Job → Task
   judges : Campaign → Task
+  wires : Script → Task
+  compares : PairJob → Task
 
 -- the file under a name is refused
 abbrev pub refusal_task : List ℕ → Refusal → Task
@@ -43,6 +49,8 @@ Meant (answers a) x = x ≡ a
 Meant (compiles p code) x = (g : Lists) × MayCompile p code g × (x ≡ image_answer code g)
 Meant (runs j) x = x ≡ job_answer j (run_meant j)
 Meant (judges c) x = x ≡ verdicts_answer c (verdicts_meant c)
+Meant (wires s) x = x ≡ wire_meant s
+Meant (compares j) x = x ≡ pair_answer j (pair_meant j)
 
 -- ---- what stands after a task
 
@@ -57,6 +65,8 @@ Done (answers a) before after x = Quiet (Meant (answers a)) before after x
 Done (compiles p code) before after x = Quiet (Meant (compiles p code)) before after x
 Done (runs j) before after x = RunDone j before after x
 Done (judges c) before after x = CampaignDone c before after x
+Done (wires s) before after x = WireDone s before after x
+Done (compares j) before after x = PairJobDone j before after x
 
 -- ---- what stands where a sink or want of memory cut it off
 
@@ -75,3 +85,5 @@ Left (answers a) Writes before after = QuietLeft (Meant (answers a)) Writes befo
 Left (compiles p code) Writes before after = QuietLeft (Meant (compiles p code)) Writes before after
 Left (runs j) Writes before after = RunLeft j Writes before after
 Left (judges c) Writes before after = CampaignLeft c Writes before after
+Left (wires s) Writes before after = WireLeft s Writes before after
+Left (compares j) Writes before after = PairJobLeft j Writes before after

@@ -7,9 +7,11 @@ pub mod Endings
 pub mod FileTasks
 pub mod GraphsOf
 pub mod Kinds
+pub mod PairKind
 pub mod Performing
 pub mod Printing
 pub mod Reports
 pub mod RunKind
 pub mod Seen
 pub mod Sums
+pub mod WireKind

@@ -1,12 +1,11 @@
 //! Laws of instruction lists.
 
-ghost use Rattle.std.specs.Prelude.{◌≡◌, ◌≢◌, ℕ, ℤ, List};
-ghost use Rattle.vcp_typed.specs.SourceRun.{source_run};
-ghost use Rattle.il_front.specs.Accumulator.{Il, acc_run};
+ghost use Rattle.std.specs.Prelude.{◌≡◌, ◌≢◌, ℕ, List};
+ghost use Rattle.il_front.specs.Accumulator.{Il};
 ghost use Rattle.il_front.specs.declared.fault.IlFault.{IlFault};
 ghost use Rattle.il_front.specs.declared.fault.IlFault.TheVariants as fault;
 ghost use Rattle.il_front.specs.Answers.{IsIl, NotIl};
-ghost use Rattle.il_front.specs.TypedForm.{typed_il};
+ghost use Rattle.il_front.specs.Outcomes.{AccumulatorRuns};
 
 use st_lexer::one_reading;
 use st_parser::one_answer;
@@ -15,7 +14,7 @@ use st_types::answers_are_one;
 /// The typed program of a text of instructions has the accumulator's run: for every list of rows the same rows of outputs,
 /// and the same end. It does nothing: it states a law.
 pub fn accumulator_runs()
-    ensures { (text : List ℕ) (i : Il) (rows : List (List ℤ)) → IsIl text i → source_run (typed_il i) rows ≡ acc_run i rows }
+    ensures { AccumulatorRuns }
 {}
 
 /// A text is one instruction list at most, and never one and refused; want of memory apart, it is refused in one way. It does

@@ -21,4 +21,4 @@ pub use fault::IlFault;
 pub use instruction::{Action, Instruction, Operand};
 pub use laws::{accumulator_runs, il_answers_are_one};
 pub use operator::Operator;
-pub use reading::read_il;
+pub use reading::{MOST_IL_BYTES, read_il};

@@ -9,14 +9,13 @@ ghost use Rattle.il_front.specs.declared.fault.IlFault.TheVariants as il_;
 ghost use Rattle.il_front.specs.Accumulator.{Il};
 ghost use Rattle.il_front.specs.Answers.{most_il_bytes, IsIl, NotIl};
 ghost use Rattle.il_front.specs.Heads.{IsHeadOf};
-ghost use Rattle.il_front.specs.Outcomes.{IsBeyond, Builds, IsTypedIl};
-ghost use Rattle.il_front.specs.TypedForm.{typed_il};
+ghost use Rattle.il_front.specs.Outcomes.{IsBeyond, Builds, IsTypedIl, RunsAsListed};
 
 use crate::fault::IlFault;
 use crate::head::{head, head_count};
 use crate::instruction::Instruction;
 use crate::judging::listed;
-use crate::laws::il_answers_are_one;
+use crate::laws::{accumulator_runs, il_answers_are_one};
 use crate::places::{add_all_hidden, places_of};
 use crate::statements::statements;
 use st_lexer::{Tokens, lex};
@@ -26,6 +25,9 @@ use st_types::{
 use std::alloc::Global;
 use vcp_base::{MOST_NAMES, MOST_SIZE, Spot};
 use vcp_typed::{Slots, TStmts, Typed, size_of};
+
+/// The most bytes of a text of instructions: those of a source without the twelve that are added behind it.
+pub const MOST_IL_BYTES: u64 = 1_048_564;
 
 /// The parts of a typed program.
 #[derive(Drop)]
@@ -88,10 +90,12 @@ fn read(alloc: Global, text: &[u8]) -> Result<Typed, IlFault>
 /// look-up of a name in each instruction.
 pub fn read_il(alloc: Global, text: &[u8]) -> Result<Typed, IlFault>
     requires { length text.now ≤ most_il_bytes }
-    ensures ok { IfOk result (λ p. (i : Il) × IsIl text.now i × (p ≡ typed_il i)) }
+    ensures ok { IfOk result (IsTypedIl text.now) }
+    ensures runs { IfOk result (RunsAsListed text.now) }
     ensures err { IfErr result (NotIl text.now) }
     ensures only { (i : Il) → IsIl text.now i → IfErr result (λ e. e ≡ il_.Memory) }
 {
+    accumulator_runs();
     il_answers_are_one();
     read(alloc, text)
 }

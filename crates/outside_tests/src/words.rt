@@ -41,6 +41,8 @@ fn told(command: &Command<'_>) -> (&'static str, u32, u32, u16) {
         Command::Widen { .. } => ("widen", 0, 0, 0),
         Command::Audit { horizon, .. } => ("audit", *horizon, 0, 0),
         Command::Inject { rows, .. } => ("inject", cycles(rows), 0, 0),
+        Command::Pair { rows, seed, .. } => ("pair", cycles(rows), *seed, 0),
+        Command::Wire { .. } => ("wire", 0, 0, 0),
         Command::Demo { number } => ("demo", *number, 0, 0),
     }
 }
@@ -65,6 +67,14 @@ audit m 1001 => none
 inject m --cycles 5 f => inject 5 0 0
 inject m r => none
 inject m r f f => none
+pair m r 00 => pair 0 0 0
+pair m --cycles 3 1073741823 => pair 3 1073741823 0
+pair m r 1073741824 => none
+pair m r => none
+wire f => wire 0 0 0
+wire => none
+wire f f => none
+wire -f => none
 demo 007 => demo 7 0 0
 demo 4294967295 => demo 4294967295 0 0
 demo 4294967296 => none
@@ -119,6 +129,6 @@ fn the_usage_line_ends() -> Result<(), Fail> {
     same(
         from_utf8(usage())?,
         "usage: vcp check P, format P, plain P ROWS, run P ROWS CODE, compile P CODE, list M, exec M ROWS, trace M ROWS CYCLE, \
-         inject M ROWS F, audit M HORIZON, widen M or demo N\n",
+         inject M ROWS F, audit M HORIZON, widen M, il P ROWS CODE, pair M ROWS SEED, wire F or demo N\n",
     )
 }

@@ -22,7 +22,7 @@ use Rattle.machine_run.proofs.Writing.{appends_nothing, appends_on, texts_on}
 use Rattle.pair_channel.specs.declared.pair_end.PairEnd.{PairEnd}
 use Rattle.pair_channel.specs.declared.pair_end.PairEnd.TheVariants as pair
 use Rattle.pair_channel.specs.PairLaws.{PairCounts, PairRunLaws}
-use Rattle.pair_channel.specs.PairRuns.{PairOutcome, PairOver, FrontOfRun}
+use Rattle.pair_channel.specs.PairRuns.{PairOutcome, PairOver, FrontOfRun, pair_end_of_run, pair_outcome_for}
 use Rattle.pair_channel.specs.PairStates.{PairState, fresh_pair}
 use Rattle.pair_run.specs.PairDone.{AreFirst, EarlierPairs, OneStaysHonest, PairDone, PairRunsTo, nothing_later, outcome_then}
 use Rattle.pair_run.specs.PairLines.{pair_header, pair_last, pair_text}
@@ -70,6 +70,36 @@ are_first g all rows more o is f =
       f.later ++ p.0,
       ap (λ rs. (graph_run g rs).rows) is ∙ (p.1 ∙ (ap (λ rs. rs ++ p.0) f.front ∙ append_assoc o.rows f.later p.0)),
     )
+
+-- the outcome that stands for the graph's run over all rows goes on from that over the first of them
+abbrev with_row : List ℤ → PairOutcome → PairOutcome
+with_row row o = record { rows = row ∷ o.rows; end = o.end }
+
+row_then : (row : List ℤ) (rows : List (List ℤ)) (e : PairEnd) (later : PairOutcome) →
+    with_row row (outcome_then (record { rows = rows; end = e }) later) ≡ outcome_then (record { rows = row ∷ rows; end = e }) later
+row_then row rows pair.Released later = refl
+row_then row rows (pair.Stopped op why) later = refl
+row_then row rows (pair.Parted x y) later = refl
+row_then row rows (pair.Differ i x y) later = refl
+
+-- what comes later, and nothing where no row is left
+abbrev GoesOn : Run → Run → List (List ℤ) → Type 0
+GoesOn first all more = (later : PairOutcome) × (pair_outcome_for all ≡ outcome_then (pair_outcome_for first) later) × (more ≡ [] → later ≡ nothing_later)
+
+goes_on_step : (g : Lists) (values : List ℤ) (next wide : List ℤ → Run) (more : List (List ℤ)) (s : Option StopKind) →
+    ((held : List ℤ) → GoesOn (next held) (wide held) more) → GoesOn (after_cycle g values next s) (after_cycle g values wide s) more
+goes_on_step g values next wide more None f =
+    let p = f (stored g values) in
+    let row = outputs g values in
+    let first = next (stored g values) in
+    (p.0, ap (with_row row) p.1 ∙ row_then row first.rows (pair_end_of_run first.end) p.0, p.2)
+goes_on_step g values next wide more (Some why) f = (nothing_later, refl, λ none. refl)
+
+pub run_goes_on : (g : Lists) (held : List ℤ) (rows more : List (List ℤ)) → GoesOn (run_from g held rows) (run_from g held (rows ++ more)) more
+run_goes_on g held [] more = (pair_outcome_for (run_from g held more), refl, λ none. ap (λ rs. pair_outcome_for (run_from g held rs)) none)
+run_goes_on g held (row ∷ rows) more =
+    goes_on_step g (cycle g held row).values (λ h. run_from g h rows) (λ h. run_from g h (rows ++ more)) more (cycle g held row).stop
+    (λ h. run_goes_on g h rows more)
 
 -- ---- texts
 

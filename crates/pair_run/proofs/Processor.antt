@@ -18,13 +18,13 @@ use Rattle.pair_channel.specs.declared.pair_end.PairEnd.{PairEnd}
 use Rattle.pair_channel.specs.declared.pair_end.PairEnd.TheVariants as pair
 use Rattle.pair_channel.specs.Beside.{AllBeside}
 use Rattle.pair_channel.specs.PairLaws.{OneChannelHonest}
-use Rattle.pair_channel.specs.PairRuns.{PairOutcome, PairOver, FrontOfRun}
+use Rattle.pair_channel.specs.PairRuns.{PairOutcome, PairOver, FrontOfRun, pair_outcome_for}
 use Rattle.coded_unit.specs.Seen.{StaysHonest}
 use Rattle.pair_run.specs.BesideDone.{BesideDone, BesideLeft, BesideRunsTo, beside_read}
 use Rattle.pair_run.specs.PairDone.{AreFirst, EarlierPairs, PairDone, PairLeft, PairRunsTo, outcome_then}
 use Rattle.pair_run.specs.PairLines.{pair_text}
 use Rattle.pair_run.specs.PairMoments.{PairMoment}
-use Rattle.pair_run.proofs.Done.{Fair, taken_few}
+use Rattle.pair_run.proofs.Done.{Fair, run_goes_on, taken_few}
 
 -- the processor, at every moment
 abbrev pub processor : UnitSeen
@@ -97,6 +97,15 @@ module _ (honest : OneChannelHonest) (g : Lists) (t u : Numbers) (left : RowsLef
             (d.text later whole);
         earlier = subst (λ (o : PairOutcome). EarlierPairs g o.rows out after) is d.earlier;
         front = subst (λ (o : PairOutcome). AreFirst g left.rows o.rows) is (d.front (inr still));
+        honest = λ right.
+            let p = run_goes_on g (initial g) d.taken d.more in
+            let agreed : record { rows = d.outputs; end = d.end } ≡ pair_outcome_for (graph_run g d.taken) =
+            sym d.over.outcome
+            ∙ honest.both_honest g t u d.taken d.ours d.theirs fair.graph fair.first fair.second few d.over.all (d.over.first.honest right.0 right.1)
+            (d.over.second.honest still.0 still.1) in
+            let meant : pair_outcome_for (graph_run g left.rows) ≡ outcome_then (record { rows = d.outputs; end = d.end }) p.0 =
+            ap (λ rs. pair_outcome_for (graph_run g rs)) d.rows_are ∙ (p.1 ∙ ap (λ (o : PairOutcome). outcome_then o p.0) (sym agreed)) in
+            subst (λ (o : PairOutcome). Writes out.written after.written (pair_text g o left.refusal)) (sym meant) (d.text p.0 p.2);
       }
 
   pub runs_beside : (r : Result PairEnd RunFault) → PairRunsTo g t u left before_pair after_pair r → BesideRunsTo g t left before_unit after_unit r

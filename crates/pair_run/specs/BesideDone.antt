@@ -46,7 +46,8 @@ pub record BesideDone (g : Lists) (t : Numbers) (left : RowsLeft) (before after 
   pub honest : StaysHonest before.unit after.unit → beside_read g t left.rows cycles ≡ pair_outcome_for (graph_run g left.rows)
 
 -- A run that was cut off between two of its cycles, when `more` of its rows weren't taken: `Writes` says how much was written of what is
--- printed of it, whatever would have come later. The unit was asked nothing more than these cycles' calls.
+-- printed of it, whatever would have come later. The unit was asked nothing more than these cycles' calls. Where no answer was wrong, it is so
+-- much of what is printed of the graph's run.
 pub record BesideLeft (g : Lists) (t : Numbers) (left : RowsLeft) (Writes : Option (List ℕ) → Option (List ℕ) → List ℕ → Type 0) (before after : Moment)
     : Type 0 where
   pub taken : List (List ℤ)
@@ -59,6 +60,8 @@ pub record BesideLeft (g : Lists) (t : Numbers) (left : RowsLeft) (Writes : Opti
       → Writes before.out.written after.out.written (pair_text g (outcome_then (beside_read g t taken cycles) later) left.refusal)
   pub earlier : EarlierPairs g (beside_read g t taken cycles).rows before.out after.out
   pub front : AreFirst g left.rows (beside_read g t taken cycles).rows
+  pub honest : StaysHonest before.unit after.unit
+      → Writes before.out.written after.out.written (pair_text g (pair_outcome_for (graph_run g left.rows)) left.refusal)
 
 -- How far the run came: to its end; to a row that is refused; or until writing failed, or memory was wanted, before it began or in it.
 abbrev pub BesideRunsTo : Lists → Numbers → RowsLeft → Moment → Moment → Result PairEnd RunFault → Type 0

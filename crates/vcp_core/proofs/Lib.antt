@@ -24,7 +24,9 @@ pub mod SummaryPrinted
 pub mod SummaryRun
 pub mod SumsKept
 pub mod Traced
+pub mod TwoChannels
 pub mod WideImages
+pub mod WireTasks
 pub mod WordsHonest
 pub mod WordsPrinted
 pub mod WordsRun

@@ -5,6 +5,7 @@ use Rattle.input_rows.specs.RowsOf.{RowsLeft}
 use Rattle.vcp_inputs.specs.declared.refusal.Refusal.{Refusal}
 use Rattle.vcp_inputs.specs.declared.refusal.Refusal.TheVariants as refusal
 use Rattle.vcp_inputs.specs.declared.refusal.NoInput.{NoInput}
+use Rattle.vcp_inputs.specs.Listings.{NotListing, no_listing}
 use Rattle.vcp_inputs.specs.Programs.{NoProgram, unlexed, unparsed, NotTyped, no_program, mistyped}
 use Rattle.vcp_inputs.specs.RowsOutcome.{source_outcome, Opens}
 use Rattle.vcp_inputs.specs.declared.rows.RowsSource.TheVariants as rows
@@ -18,6 +19,9 @@ program_not_bytes text _ (unparsed ts f known reads h) e = cc
 pub typed_not_bytes : (text : List ℕ) (r : Refusal) → NotTyped text r → r ≢ refusal.Bytes
 typed_not_bytes text _ (no_program r h) e = program_not_bytes text r h e
 typed_not_bytes text _ (mistyped p f is known h) e = cc
+
+pub listing_not_bytes : (text : List ℕ) (r : Refusal) → NotListing text r → r ≢ refusal.Bytes
+listing_not_bytes text _ (no_listing f known h) e = cc
 
 -- ---- a program and its rows
 

@@ -36,7 +36,10 @@ bytes_or (refusal.Rows why) = inr (λ e. cc)
 bytes_or (refusal.Image why) = inr (λ e. cc)
 bytes_or refusal.Audit = inr (λ e. cc)
 bytes_or refusal.Trace = inr (λ e. cc)
+bytes_or refusal.Seed = inr (λ e. cc)
 bytes_or (refusal.Script why) = inr (λ e. cc)
+bytes_or (refusal.Listing why) = inr (λ e. cc)
+bytes_or (refusal.Wire why) = inr (λ e. cc)
 
 -- the file of ROWS
 rows_file : (rows : Rows) (columns : List Column) → begins rows columns ≡ true → (word : FileWord) × Among word (rows_words rows) × (word.name ≡ rows_name rows)

@@ -19,35 +19,43 @@ use Rattle.vcp_typed.specs.Size.{size}
 use Rattle.st_tree.specs.ProgramTree.{ProgramTree}
 use Rattle.vcp_typed.specs.Fitting.{input_columns}
 use Rattle.vcp_typed.specs.SourceRun.{Program}
-use Rattle.vcp_words.specs.Forms.{Form, Rows, Code, check, format, plain, run, compile, list, exec, trace, widen, audit, inject, demo, file, cycles}
+use Rattle.vcp_words.specs.Forms.{Form, Rows, Code, check, format, plain, run, il, compile, list, exec, trace, widen, audit, inject, pair, wire, demo, file, cycles}
 use Rattle.vcp_words.specs.Tables.{rows_name}
 use Rattle.vcp_inputs.specs.declared.images.Image.{Image}
 use Rattle.vcp_inputs.specs.declared.refusal.Refusal.{Refusal}
 use Rattle.vcp_inputs.specs.declared.refusal.Refusal.TheVariants as refusal
 use Rattle.vcp_inputs.specs.Files.{IsRefused, long, short}
 use Rattle.vcp_inputs.specs.Images.{ImageOf, NotImage}
+use Rattle.il_front.specs.Answers.{most_il_bytes}
+use Rattle.il_front.specs.Outcomes.{IsTypedIl}
+use Rattle.vcp_inputs.specs.Listings.{NotListing}
 use Rattle.vcp_inputs.specs.Programs.{IsProgram, NoProgram, TypedOf, NotTyped}
 use Rattle.vcp_inputs.specs.RowsOutcome.{RowsOutcome, lacking, opened, rows_or_refusal, file_outcome, rows_outcome}
 use Rattle.vcp_inputs.specs.RowsOutcome as outcome
 use Rattle.vcp_inputs.specs.Scripts.{ScriptOf, NotScript, no_script}
+use Rattle.vcp_inputs.specs.Wires.{WireOf, NotWire}
+use Rattle.wire_script.specs.declared.script.Script.{Script}
 use Rattle.image_file.specs.Graphs.{HasImage}
 use Rattle.image_file.specs.Image.{image_of}
 use Rattle.signature_table.specs.Signatures.{Numbers, table_of}
 use Rattle.weight_audit.specs.Audit.{most_weights, weights_up_to}
 use Rattle.audit_report.specs.AuditText.{AuditOf}
-use Rattle.command_meaning.specs.Abouts.{FileWord, about, AllHeld, image_word, rows_words, script_word, source_word, without_unit, Among}
+use Rattle.command_meaning.specs.Abouts.{FileWord, about, AllHeld, image_word, listing_word, rows_words, script_word, source_word, without_unit, Among}
 use Rattle.command_meaning.specs.Answer.{Answer, Campaign, source, image}
-use Rattle.command_meaning.specs.FileTasks.{TakenFile, missing, untaken, taken, ParsedFile, TypedFile, ImageFile, ScriptFile, OnRows, TakenRows}
+use Rattle.command_meaning.specs.FileTasks.{TakenFile, missing, untaken, taken, ParsedFile, TypedFile, ListingFile, ImageFile, ScriptFile, OnRows, TakenRows}
 use Rattle.command_meaning.specs.Endings.{HasOwnStatus}
-use Rattle.command_meaning.specs.Kinds.{Task, lacks, answers, compiles, runs, judges, prints, refusal_task, Meant}
+use Rattle.command_meaning.specs.Kinds.{Task, lacks, answers, compiles, runs, judges, compares, wires, prints, refusal_task, Meant}
+use Rattle.command_meaning.specs.PairKind.{PairJob}
 use Rattle.command_meaning.specs.Reports.{end_told, run_status}
 use Rattle.command_meaning.specs.RunKind.{Job, job_answer, run_meant}
 use Rattle.command_meaning.proofs.OneFile.{one_file, file_has}
 use Rattle.vcp_core.specs.Tasks.{Audited, too_large, printed, FewRows, too_many, few, JudgedScript, WholeRows}
+use Rattle.vcp_core.specs.Tasks.{Apart, same_seed, two_seeds, Compared, pair_job}
 use Rattle.vcp_core.specs.Tasks.{AuditTask, TaskOf, PlainTask, RunTask, graph_columns, plain_answer, rows_job, summary_job, words_job, ok_text}
 use Rattle.vcp_core.specs.Tasks.{made_held, made_name, most_trace, table_code, listing, widened}
 use Rattle.vcp_core.proofs.OneText.{ImageLaws, Laws, OneAudit, image_once, image_or_none, no_image_once, program_once, program_or_none, refused_once}
-use Rattle.vcp_core.proofs.OneText.{typed_once, typed_apart, untyped_once}
+use Rattle.vcp_core.proofs.OneText.{typed_once, typed_apart, untyped_once, listing_once, listing_or_none, no_listing_once}
+use Rattle.vcp_core.proofs.WireTasks.{wire_task_once}
 
 -- ---- a command comes to one task
 
@@ -97,6 +105,19 @@ few_once name g Then rows next _ _ (too_many more) (too_many other) = refl
 few_once name g Then rows next _ _ (too_many more) (few b less is) = absurd (not_both most_trace (length rows * length g.operations) more less)
 few_once name g Then rows next _ _ (few a less is) (too_many more) = absurd (not_both most_trace (length rows * length g.operations) more less)
 few_once name g Then rows next _ _ (few a less is) (few b other also) = next a b is also
+
+-- an image with another seed comes to one task, and one with this seed is refused
+apart_once : (name : List ℕ) (seed : ℕ) (Then : Image → Task → Type 0) → ((i : Image) (a b : Task) → Then i a → Then i b → a ≡ b) →
+    (i : Image) (a b : Task) → Apart name seed Then i a → Apart name seed Then i b → a ≡ b
+apart_once name seed Then once i _ _ (same_seed is) (same_seed also) = refl
+apart_once name seed Then once i _ _ (same_seed is) (two_seeds b other comes) = absurd (other is)
+apart_once name seed Then once i _ _ (two_seeds a other comes) (same_seed is) = absurd (other is)
+apart_once name seed Then once i _ _ (two_seeds a other comes) (two_seeds b also goes) = once i a b comes goes
+
+compared_once : (rows : Rows) (held : Held) (i : Image) (a b : Task) → Compared rows held i a → Compared rows held i b → a ≡ b
+compared_once rows held i a b comes goes =
+    rows_once (rows_name rows) (λ left x. x ≡ compares (pair_job (rows_name rows) i left)) (λ left x y. one_is (compares (pair_job (rows_name rows) i left)) x y)
+    (rows_outcome rows held (graph_columns i.graph)) a b comes goes
 
 -- a text is one script, or is refused in one way
 script_once : (g : Lists) (text : List ℕ) (x y : List (List Fault)) → ScriptOf g text x → ScriptOf g text y → x ≡ y
@@ -152,6 +173,16 @@ module _ (laws : Laws) where
       (rows_outcome rows held (input_columns t.slots)) c d)
       a b h k
 
+  listing_once_on : (Then : Program → RowsLeft → Task) (p : List ℕ) (rows : Rows) (held : Held) (a b : Task) →
+      ListingFile (λ t. TakenRows (λ left x. x ≡ Then t left) rows held (input_columns t.slots)) p held a →
+      ListingFile (λ t. TakenRows (λ left x. x ≡ Then t left) rows held (input_columns t.slots)) p held b → a ≡ b
+  listing_once_on Then p rows held a b h k =
+      one_file IsTypedIl NotListing most_il_bytes (λ t. TakenRows (λ left x. x ≡ Then t left) rows held (input_columns t.slots)) p (held p)
+      (listing_once laws.listings) (no_listing_once laws.listings) (listing_or_none laws.listings)
+      (λ t c d. rows_once (rows_name rows) (λ left x. x ≡ Then t left) (λ left x y. one_is (Then t left) x y)
+      (rows_outcome rows held (input_columns t.slots)) c d)
+      a b h k
+
   graph_once_on : (Then : Image → RowsLeft → Task → Type 0) (m : List ℕ) (rows : Rows) (held : Held) →
       ((i : Image) (left : RowsLeft) (a b : Task) → Then i left a → Then i left b → a ≡ b) → (a b : Task) →
       ImageFile (λ i. TakenRows (Then i) rows held (graph_columns i.graph)) m held a →
@@ -179,6 +210,7 @@ module _ (laws : Laws) where
   task_once (format p) held a b h k = parsed_file_once (λ t. prints (canonical t)) p held a b h k
   task_once (plain p rows) held a b h k = program_once_on (λ t left. answers (plain_answer (rows_name rows) t left)) p rows held a b h k
   task_once (run p rows code) held a b h k = program_once_on (λ t left. runs (rows_job (rows_name rows) code (source t) left)) p rows held a b h k
+  task_once (il p rows code) held a b h k = listing_once_on (λ t left. runs (rows_job (rows_name rows) code (source t) left)) p rows held a b h k
   task_once (compile p code) held a b h k = typed_file_is (λ t. compiles t code) p held a b h k
   task_once (list m) held a b h k = image_file_is (λ i. prints (listing i.graph i.table)) m held a b h k
   task_once (exec m rows) held a b h k =
@@ -190,6 +222,9 @@ module _ (laws : Laws) where
   task_once (inject m rows f) held a b h k =
       graph_once_on (λ i left. WholeRows (rows_name rows) (FewRows (rows_name rows) i.graph (JudgedScript i f held)) left.rows left.refusal) m rows held
       (judged_once (rows_name rows) f held) a b h k
+  task_once (pair m rows seed) held a b h k =
+      image_file_once laws.images (Apart m seed (Compared rows held)) m held (apart_once m seed (Compared rows held) (compared_once rows held)) a b h k
+  task_once (wire f) held a b h k = wire_task_once f held a b h k
   task_once (demo number) held a b h k =
       typed_file_once (λ t. OnRows made_name (λ left x. x ≡ runs (summary_job number t left)) (made_outcome number t)) made_name (made_held number)
       (λ t c d. rows_once made_name (λ left x. x ≡ runs (summary_job number t left)) (λ left x y. one_is (runs (summary_job number t left)) x y)
@@ -327,6 +362,15 @@ module _ (P : Task → Type 0) (given : (a : Answer) → a.status ≤ 2 → P (a
       (λ t x. rows_have (λ left y. y ≡ Then t left) rows held (input_columns t.slots) (λ word among. none word (inr among))
       (λ left y is. is_has y (Then t left) (next t left) is) x) task comes
 
+  listing_has : (Then : Program → RowsLeft → Task) (p : List ℕ) (rows : Rows) (held : Held) → Lacking P held (listing_word p ∷ rows_words rows) →
+      ((t : Program) (left : RowsLeft) → P (Then t left)) → (task : Task) →
+      ListingFile (λ t. TakenRows (λ left x. x ≡ Then t left) rows held (input_columns t.slots)) p held task → P task
+  listing_has Then p rows held none next task comes =
+      file_has IsTypedIl NotListing most_il_bytes (λ t. TakenRows (λ left x. x ≡ Then t left) rows held (input_columns t.slots)) p (held p) P
+      (none (listing_word p) (inl refl)) (refused p)
+      (λ t x. rows_have (λ left y. y ≡ Then t left) rows held (input_columns t.slots) (λ word among. none word (inr among))
+      (λ left y is. is_has y (Then t left) (next t left) is) x) task comes
+
   graph_has : (Then : Image → RowsLeft → Task → Type 0) (m : List ℕ) (rows : Rows) (held : Held) → Lacking P held (image_word m ∷ rows_words rows) →
       ((i : Image) (left : RowsLeft) (x : Task) → Then i left x → P x) → (task : Task) →
       ImageFile (λ i. TakenRows (Then i) rows held (graph_columns i.graph)) m held task → P task
@@ -337,6 +381,17 @@ module _ (P : Task → Type 0) (given : (a : Answer) → a.status ≤ 2 → P (a
   audited_has : (horizon : ℕ) (m : List ℕ) (i : Image) (task : Task) → Audited horizon m i task → P task
   audited_has horizon m i _ (too_large more) = refused m refusal.Audit
   audited_has horizon m i _ (printed less told is) = given _ (lit≤ tt)
+
+  apart_has : (name : List ℕ) (seed : ℕ) (Then : Image → Task → Type 0) → ((i : Image) (x : Task) → Then i x → P x) → (i : Image) (task : Task) →
+      Apart name seed Then i task → P task
+  apart_has name seed Then next i _ (same_seed is) = refused name refusal.Seed
+  apart_has name seed Then next i _ (two_seeds task other comes) = next i task comes
+
+  compared_has : (rows : Rows) (held : Held) → Lacking P held (rows_words rows) → ((j : PairJob) → P (compares j)) → (i : Image) (task : Task) →
+      Compared rows held i task → P task
+  compared_has rows held none comparing i task comes =
+      rows_have (λ left x. x ≡ compares (pair_job (rows_name rows) i left)) rows held (graph_columns i.graph) none
+      (λ left x is. is_has x (compares (pair_job (rows_name rows) i left)) (comparing (pair_job (rows_name rows) i left)) is) task comes
 
   whole_has : (name : List ℕ) (Then : List (List ℤ) → Task → Type 0) (rows : List (List ℤ)) (behind : Option RowFault) (task : Task) →
       (Then rows task → P task) → WholeRows name Then rows behind task → P task
@@ -360,38 +415,47 @@ module _ (P : Task → Type 0) (given : (a : Answer) → a.status ≤ 2 → P (a
       (λ groups y is. is_has y (judges (campaign i left groups)) (judging (campaign i left groups)) is) x) task) comes
 
   pub task_has : (f : Form) (held : Held) → Lacking P held (about f).files → ((j : Job) → P (runs j)) → ((p : Program) (code : Code) → P (compiles p code)) →
-      ((c : Campaign) → P (judges c)) → (task : Task) → TaskOf f held task → P task
-  task_has (check p) held none running writing judging task comes =
+      ((c : Campaign) → P (judges c)) → ((j : PairJob) → P (compares j)) → ((s : Script) → P (wires s)) → (task : Task) → TaskOf f held task → P task
+  task_has (check p) held none running writing judging comparing wiring task comes =
       typed_is (λ t. prints (ok_text (size t))) p held (none (source_word p) (inl refl)) (λ t. given _ (lit≤ tt)) task comes
-  task_has (format p) held none running writing judging task comes =
+  task_has (format p) held none running writing judging comparing wiring task comes =
       file_has IsProgram NoProgram most_source_bytes (λ t x. x ≡ prints (canonical t)) p (held p) P (none (source_word p) (inl refl)) (refused p)
       (λ t x is. is_has x (prints (canonical t)) (given _ (lit≤ tt)) is) task comes
-  task_has (plain p rows) held none running writing judging task comes =
+  task_has (plain p rows) held none running writing judging comparing wiring task comes =
       program_has (λ t left. answers (plain_answer (rows_name rows) t left)) p rows held none
       (λ t left. given _ (meant_small (told_source t left.rows).end left.refusal)) task comes
-  task_has (run p rows code) held none running writing judging task comes =
+  task_has (run p rows code) held none running writing judging comparing wiring task comes =
       program_has (λ t left. runs (rows_job (rows_name rows) code (source t) left)) p rows held none
       (λ t left. running (rows_job (rows_name rows) code (source t) left)) task comes
-  task_has (compile p code) held none running writing judging task comes =
+  task_has (il p rows code) held none running writing judging comparing wiring task comes =
+      listing_has (λ t left. runs (rows_job (rows_name rows) code (source t) left)) p rows held none
+      (λ t left. running (rows_job (rows_name rows) code (source t) left)) task comes
+  task_has (compile p code) held none running writing judging comparing wiring task comes =
       typed_is (λ t. compiles t code) p held (none (source_word p) (inl refl)) (λ t. writing t code) task comes
-  task_has (list m) held none running writing judging task comes =
+  task_has (list m) held none running writing judging comparing wiring task comes =
       image_is (λ i. prints (listing i.graph i.table)) m held (none (image_word m) (inl refl)) (λ i. given _ (lit≤ tt)) task comes
-  task_has (exec m rows) held none running writing judging task comes =
+  task_has (exec m rows) held none running writing judging comparing wiring task comes =
       graph_has (λ i left x. x ≡ runs (rows_job (rows_name rows) (table_code i.table) (image i.graph) left)) m rows held none
       (λ i left x is. is_has x (runs (rows_job (rows_name rows) (table_code i.table) (image i.graph) left)) (running _) is) task comes
-  task_has (trace m rows n) held none running writing judging task comes =
+  task_has (trace m rows n) held none running writing judging comparing wiring task comes =
       graph_has (λ i left x. x ≡ runs (words_job (rows_name rows) n i.graph (table_code i.table) (through n left))) m rows held none
       (λ i left x is. is_has x (runs (words_job (rows_name rows) n i.graph (table_code i.table) (through n left))) (running _) is) task comes
-  task_has (widen m) held none running writing judging task comes =
+  task_has (widen m) held none running writing judging comparing wiring task comes =
       image_is wide_prints m held (none (image_word m) (inl refl)) (λ i. given _ (lit≤ tt)) task comes
-  task_has (audit m horizon) held none running writing judging task comes =
+  task_has (audit m horizon) held none running writing judging comparing wiring task comes =
       image_has (Audited horizon m) m held (none (image_word m) (inl refl)) (audited_has horizon m) task comes
-  task_has (inject m rows f) held none running writing judging task comes =
+  task_has (inject m rows f) held none running writing judging comparing wiring task comes =
       graph_has (λ i left. WholeRows (rows_name rows) (FewRows (rows_name rows) i.graph (JudgedScript i f held)) left.rows left.refusal) m rows held
       (λ word among. none word (among_front word (image_word m ∷ rows_words rows) (script_word f ∷ []) among))
       (judged_has (rows_name rows) f held (none (script_word f) (among_behind (script_word f) (image_word m ∷ rows_words rows) (script_word f ∷ []) (inl refl)))
       judging) task comes
-  task_has (demo number) held none running writing judging task comes =
+  task_has (pair m rows seed) held none running writing judging comparing wiring task comes =
+      image_has (Apart m seed (Compared rows held)) m held (none (image_word m) (inl refl))
+      (apart_has m seed (Compared rows held) (compared_has rows held (λ word among. none word (inr among)) comparing)) task comes
+  task_has (wire f) held none running writing judging comparing wiring task comes =
+      file_has WireOf NotWire most_source_bytes (λ s x. x ≡ wires s) f (held f) P (none (script_word f) (inl refl)) (refused f)
+      (λ s x is. is_has x (wires s) (wiring s) is) task comes
+  task_has (demo number) held none running writing judging comparing wiring task comes =
       typed_has (λ t. OnRows made_name (λ left x. x ≡ runs (summary_job number t left)) (made_outcome number t)) made_name (made_held number)
       (λ e. absurd (there_is (made_source number) e))
       (λ t x. outcome_has made_name (λ left y. y ≡ runs (summary_job number t left)) (made_outcome number t)
@@ -400,7 +464,7 @@ module _ (P : Task → Type 0) (given : (a : Answer) → a.status ≤ 2 → P (a
 
 -- each task has a status of its own
 pub own_status : (f : Form) (held : Held) (task : Task) → TaskOf f held task → HasOwnStatus task
-own_status f held task comes = task_has HasOwnStatus (λ a small. small) f held (λ word among none. tt) (λ j. tt) (λ p code. tt) (λ c. tt) task comes
+own_status f held task comes = task_has HasOwnStatus (λ a small. small) f held (λ word among none. tt) (λ j. tt) (λ p code. tt) (λ c. tt) (λ j. tt) (λ s. tt) task comes
 
 -- and where all files are held, none is lacking
 not_none : (o : Option (List ℕ)) → IsSome o → o ≡ None → ⊥
@@ -418,7 +482,7 @@ NoneLacks task = (name : List ℕ) → task ≡ lacks name → ⊥
 pub all_found : (f : Form) (held : Held) (name : List ℕ) → AllHeld held (about f).files → TaskOf f held (lacks name) → ⊥
 all_found f held name all comes =
     task_has NoneLacks (λ a small n e. cc) f held (λ word among none. absurd (held_among held (about f).files word all among none)) (λ j n e. cc)
-    (λ p code n e. cc) (λ c n e. cc) (lacks name) comes name refl
+    (λ p code n e. cc) (λ c n e. cc) (λ j n e. cc) (λ s n e. cc) (lacks name) comes name refl
 
 -- ---- without a unit
 
@@ -429,6 +493,8 @@ as_meant (answers a) = answers a
 as_meant (compiles p code) = compiles p code
 as_meant (runs j) = answers (job_answer j (run_meant j))
 as_meant (judges c) = judges c
+as_meant (wires s) = wires s
+as_meant (compares j) = compares j
 
 rows_meant : (name : List ℕ) (code : Code) (t : Program) (o : RowsOutcome) (task : Task) →
     OnRows name (λ left x. x ≡ runs (rows_job name code (source t) left)) o task → OnRows name (λ left x. x ≡ answers (plain_answer name t left)) o
@@ -449,6 +515,8 @@ meant_is (answers a) x y is h = let same : a ≡ x = cc in h ∙ same
 meant_is (compiles p code) x y is h = absurd cc
 meant_is (runs j) x y is h = let same : job_answer j (run_meant j) ≡ x = cc in h ∙ same
 meant_is (judges c) x y is h = absurd cc
+meant_is (wires s) x y is h = absurd cc
+meant_is (compares j) x y is h = absurd cc
 
 pub plain_meant : Laws → (f : Form) (held : Held) (task : Task) → TaskOf f held task →
     IfSome (without_unit f) (λ g. (x y : Answer) → TaskOf g held (answers x) → Meant task y → y ≡ x)
@@ -457,6 +525,7 @@ plain_meant laws (format p) held task comes = tt
 plain_meant laws (plain p rows) held task comes = tt
 plain_meant laws (run p rows code) held task comes =
     λ x y also meant. meant_is task x y (task_once laws (plain p rows) held (as_meant task) (answers x) (run_is_plain p rows code held task comes) also) meant
+plain_meant laws (il p rows code) held task comes = tt
 plain_meant laws (compile p code) held task comes = tt
 plain_meant laws (list m) held task comes = tt
 plain_meant laws (exec m rows) held task comes = tt
@@ -464,4 +533,6 @@ plain_meant laws (trace m rows n) held task comes = tt
 plain_meant laws (widen m) held task comes = tt
 plain_meant laws (audit m horizon) held task comes = tt
 plain_meant laws (inject m rows f) held task comes = tt
+plain_meant laws (pair m rows seed) held task comes = tt
+plain_meant laws (wire f) held task comes = tt
 plain_meant laws (demo number) held task comes = tt

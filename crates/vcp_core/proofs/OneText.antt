@@ -18,8 +18,15 @@ use Rattle.st_types.specs.declared.fault.TypeFault.{TypeFault}
 use Rattle.st_types.specs.declared.fault.TypeFault.TheVariants as typing
 use Rattle.st_types.specs.Typing.{IsTyped, Refuses as RefusesTree}
 use Rattle.vcp_typed.specs.SourceRun.{Program}
+use Rattle.il_front.specs.declared.fault.IlFault.{IlFault}
+use Rattle.il_front.specs.declared.fault.IlFault.TheVariants as il
+use Rattle.il_front.specs.Accumulator.{Il}
+use Rattle.il_front.specs.Answers.{IsIl, NotIl}
+use Rattle.il_front.specs.Outcomes.{IsTypedIl}
+use Rattle.il_front.specs.TypedForm.{typed_il}
 use Rattle.vcp_inputs.specs.declared.refusal.Refusal.{Refusal}
 use Rattle.vcp_inputs.specs.declared.refusal.Refusal.TheVariants as refusal
+use Rattle.vcp_inputs.specs.Listings.{NotListing, no_listing}
 use Rattle.vcp_inputs.specs.Programs.{IsProgram, NoProgram, unlexed, unparsed, TypedOf, NotTyped, no_program, mistyped}
 use Rattle.op_graph.specs.Lists.{Lists}
 use Rattle.signature_table.specs.Signatures.{Numbers, table_of}
@@ -36,6 +43,12 @@ pub record ImageLaws : Type 0 where
       → image_of g seed step ≡ image_of h other_seed other_step → (g ≡ h) × (seed ≡ other_seed) × (step ≡ other_step)
   pub fault : (bytes : List ℕ) (e f : ImageFault) → FaultAt bytes e → FaultAt bytes f → e ≡ f
   pub none : (g : Lists) (seed step : ℕ) (e : ImageFault) → HasImage g seed step → FaultAt (image_of g seed step) e → ⊥
+
+-- the law of instruction lists
+pub record ListingLaws : Type 0 where
+  pub one : (text : List ℕ) (i j : Il) → IsIl text i → IsIl text j → i ≡ j
+  pub either : (text : List ℕ) (i : Il) (f : IlFault) → IsIl text i → NotIl text f → f ≡ il.Memory
+  pub refused : (text : List ℕ) (f g : IlFault) → f ≢ il.Memory → g ≢ il.Memory → NotIl text f → NotIl text g → f ≡ g
 
 -- a graph has one audit
 abbrev pub OneAudit : Type 0
@@ -54,6 +67,7 @@ pub record Laws : Type 0 where
   pub typed : (p : ProgramTree) (t u : Program) → IsTyped p t → IsTyped p u → t ≡ u
   pub apart : (p : ProgramTree) (t : Program) (e : TypeFault) → IsTyped p t → RefusesTree p e → e ≡ typing.Memory
   pub refused : (p : ProgramTree) (e g : TypeFault) → (e ≡ typing.Memory → ⊥) → (g ≡ typing.Memory → ⊥) → RefusesTree p e → RefusesTree p g → e ≡ g
+  pub listings : ListingLaws
   pub images : ImageLaws
   pub audits : OneAudit
 
@@ -118,6 +132,18 @@ module _ (laws : Laws) where
   untyped_once text _ _ (mistyped p f program known refused) (no_program s k) = absurd (program_or_none text s p program k)
   untyped_once text _ _ (mistyped p f program known refused) (mistyped q g program' known' refused') =
       ap refusal.Typing (laws.refused p f g known known' refused (rw (program_once text q p program' program) at refused'))
+
+-- ---- a text is one instruction list, or is refused in one way
+
+module _ (laws : ListingLaws) where
+  pub listing_once : (text : List ℕ) (t u : Program) → IsTypedIl text t → IsTypedIl text u → t ≡ u
+  listing_once text t u (i, is, made) (j, other, also) = made ∙ ap typed_il (laws.one text i j is other) ∙ sym also
+
+  pub listing_or_none : (text : List ℕ) (t : Program) (r : Refusal) → IsTypedIl text t → NotListing text r → ⊥
+  listing_or_none text t _ (i, is, made) (no_listing f known h) = known (laws.either text i f is h)
+
+  pub no_listing_once : (text : List ℕ) (r s : Refusal) → NotListing text r → NotListing text s → r ≡ s
+  no_listing_once text _ _ (no_listing f known h) (no_listing g other k) = ap refusal.Listing (laws.refused text f g known other h k)
 
 -- ---- a text is one image, or is refused in one way
 

@@ -1,3 +1,4 @@
+pub mod ChannelsRun
 pub mod Compile
 pub mod EndLines
 pub mod Faults

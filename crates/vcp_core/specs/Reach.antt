@@ -4,6 +4,8 @@ use Rattle.machine_run.specs.declared.fault.RunFault.{RunFault}
 use Rattle.machine_run.specs.declared.fault.RunFault.TheVariants as run
 use Rattle.vcp_inputs.specs.Lines.{memory_text, write_fault_text, input_text, input_status}
 use Rattle.vcp_inputs.specs.Refusals.{no_rows}
+use Rattle.wire_run.specs.declared.wire_end.WireEnd.{WireEnd}
+use Rattle.wire_run.specs.declared.wire_end.WireEnd.TheVariants as wire
 use Rattle.vcp_core.specs.declared.ending.Ending.{Ending}
 use Rattle.vcp_core.specs.declared.ending.Ending.TheVariants as end
 use Rattle.vcp_core.specs.declared.fault.Fault.{Fault}
@@ -14,6 +16,11 @@ abbrev pub end_status : Ending → ℕ
 end_status end.Done = 0
 end_status end.Stopped = 2
 end_status end.Refused = 3
+
+-- how a command came to its end that ran the script of a wire
+abbrev pub wire_ending : WireEnd → Ending
+wire_ending wire.Complete = end.Done
+wire_ending (wire.Unsent cycle id) = end.Refused
 
 -- the line of a fault, and the status
 abbrev pub fault_text : Fault → List ℕ

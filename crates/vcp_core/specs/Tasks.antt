@@ -1,5 +1,5 @@
 -- Tasks: what each command comes to, where the files hold this, by one shape of a file that is taken or refused; a line a command.
-use Rattle.std.specs.Prelude.{ℕ, ℤ, suc, ◌≡◌, ◌<◌, ◌≤◌, ◌*◌, List, [], ◌∷◌, ◌++◌, length, map, Option, Some, None, codes, decimal}
+use Rattle.std.specs.Prelude.{ℕ, ℤ, suc, ◌≡◌, ◌≢◌, ◌<◌, ◌≤◌, ◌*◌, List, [], ◌∷◌, ◌++◌, length, map, Option, Some, None, codes, decimal}
 use Rattle.input_rows.specs.declared.fault.RowFault.{RowFault}
 use Rattle.input_rows.specs.RowsOf.{RowsLeft, through}
 use Rattle.image_file.specs.Image.{image_of}
@@ -19,15 +19,16 @@ use Rattle.weight_audit.specs.Audit.{most_weights, weights_up_to}
 use Rattle.audit_report.specs.AuditText.{AuditOf}
 use Rattle.program_maker.specs.MadeRows.{made_rows}
 use Rattle.program_maker.specs.MadeSource.{made_source}
-use Rattle.vcp_words.specs.Forms.{Form, Rows, Code, default_code, check, format, plain, run, compile, list, exec, trace, widen, audit, inject, demo}
+use Rattle.vcp_words.specs.Forms.{Form, Rows, Code, default_code, check, format, plain, run, il, compile, list, exec, trace, widen, audit, inject, pair, wire, demo}
 use Rattle.vcp_words.specs.Tables.{rows_name}
 use Rattle.vcp_inputs.specs.declared.images.Image.{Image}
 use Rattle.vcp_inputs.specs.declared.refusal.Refusal.TheVariants as refusal
 use Rattle.vcp_inputs.specs.declared.rows.RowsSource.TheVariants as origin
 use Rattle.vcp_inputs.specs.RowsOutcome.{source_outcome}
 use Rattle.command_meaning.specs.Answer.{Answer, Subject, source, image}
-use Rattle.command_meaning.specs.FileTasks.{ParsedFile, TypedFile, ImageFile, ScriptFile, TakenRows, OnRows}
-use Rattle.command_meaning.specs.Kinds.{Task, answers, compiles, runs, judges, prints, refusal_task}
+use Rattle.command_meaning.specs.FileTasks.{ParsedFile, TypedFile, ListingFile, ImageFile, ScriptFile, WireFile, TakenRows, OnRows}
+use Rattle.command_meaning.specs.Kinds.{Task, answers, compiles, runs, judges, compares, wires, prints, refusal_task}
+use Rattle.command_meaning.specs.PairKind.{PairJob}
 use Rattle.command_meaning.specs.Printing.{every_row, each_word, summed_up, no_words, cycle_words, told_answer}
 use Rattle.command_meaning.specs.Reports.{end_told, subject_outputs, output_names}
 use Rattle.command_meaning.specs.RunKind.{Job}
@@ -133,6 +134,10 @@ abbrev pub RunTask : List ℕ → Rows → Code → Held → Task → Type 0
 RunTask p rows code held task =
     TypedFile (λ t. TakenRows (λ left x. x ≡ runs (rows_job (rows_name rows) code (source t) left)) rows held (input_columns t.slots)) p held task
 
+abbrev pub IlTask : List ℕ → Rows → Code → Held → Task → Type 0
+IlTask p rows code held task =
+    ListingFile (λ t. TakenRows (λ left x. x ≡ runs (rows_job (rows_name rows) code (source t) left)) rows held (input_columns t.slots)) p held task
+
 abbrev pub ExecTask : List ℕ → Rows → Held → Task → Type 0
 ExecTask m rows held task =
     ImageFile (λ i. TakenRows (λ left x. x ≡ runs (rows_job (rows_name rows) (table_code i.table) (image i.graph) left)) rows held (graph_columns i.graph))
@@ -175,6 +180,29 @@ InjectTask m rows f held task =
     rows held (graph_columns i.graph))
     m held task
 
+-- ---- a pair of channels
+
+-- two channels on the graph of an image, on the rows that are left, which are told by this name
+abbrev pub pair_job : List ℕ → Image → RowsLeft → PairJob
+pair_job name i left = record { graph = i.graph; table = i.table; rows = left; rows_name = name }
+
+-- an image is refused where its seed is the one of the second channel; else this is said of it
+pub data Apart (name : List ℕ) (seed : ℕ) (Then : Image → Task → Type 0) (i : Image) : Task → Type 0 where
+  same_seed : seed ≡ i.table.seed → Apart name seed Then i (refusal_task name refusal.Seed)
+  two_seeds : (task : Task) → seed ≢ i.table.seed → Then i task → Apart name seed Then i task
+
+-- its graph is run on ROWS
+abbrev pub Compared : Rows → Held → Image → Task → Type 0
+Compared rows held i task = TakenRows (λ left x. x ≡ compares (pair_job (rows_name rows) i left)) rows held (graph_columns i.graph) task
+
+abbrev pub PairTask : List ℕ → Rows → ℕ → Held → Task → Type 0
+PairTask m rows seed held task = ImageFile (Apart m seed (Compared rows held)) m held task
+
+-- ---- telegrams
+
+abbrev pub WireTask : List ℕ → Held → Task → Type 0
+WireTask f held task = WireFile (λ s x. x ≡ wires s) f held task
+
 -- ---- a line a command
 
 abbrev pub TaskOf : Form → Held → Task → Type 0
@@ -182,6 +210,7 @@ TaskOf (check p) held task = CheckTask p held task
 TaskOf (format p) held task = FormatTask p held task
 TaskOf (plain p rows) held task = PlainTask p rows held task
 TaskOf (run p rows code) held task = RunTask p rows code held task
+TaskOf (il p rows code) held task = IlTask p rows code held task
 TaskOf (compile p code) held task = CompileTask p code held task
 TaskOf (list m) held task = ListTask m held task
 TaskOf (exec m rows) held task = ExecTask m rows held task
@@ -189,4 +218,6 @@ TaskOf (trace m rows n) held task = TraceTask m rows n held task
 TaskOf (widen m) held task = WidenTask m held task
 TaskOf (audit m horizon) held task = AuditTask m horizon held task
 TaskOf (inject m rows f) held task = InjectTask m rows f held task
+TaskOf (pair m rows seed) held task = PairTask m rows seed held task
+TaskOf (wire f) held task = WireTask f held task
 TaskOf (demo number) held task = DemoTask number task

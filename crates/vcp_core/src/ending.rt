@@ -14,7 +14,7 @@ pub enum Ending {
     Done,
     /// A run stopped.
     Stopped,
-    /// An output of a run was refused.
+    /// An output of a run was refused, or the channels of a pair disagreed, or a sending was answered by no word.
     Refused,
 }
 

@@ -1,7 +1,7 @@
 //! Why a command ends before all is written.
 
 ghost use Rattle.std.specs.Prelude.{◌≡◌};
-ghost use Rattle.vcp_core.specs.Faults.{of_campaign};
+ghost use Rattle.vcp_core.specs.Faults.{of_campaign, of_wire};
 ghost use Rattle.vcp_core.specs.declared.fault.Fault.TheVariants as fault;
 
 use fault_campaign::CampaignFault;
@@ -9,6 +9,7 @@ use thiserror::Error;
 use vcp_base::Memory;
 use vcp_inputs::NoInput;
 use vcp_outside::Failed;
+use wire_run::WireRunFault;
 
 /// Why a command ends before all is written.
 #[derive(Debug, Drop, Error)]
@@ -53,6 +54,17 @@ impl<'a> From<CampaignFault> for Fault<'a> {
         match fault {
             CampaignFault::Write => Fault::Write,
             CampaignFault::Memory => Fault::Memory,
+        }
+    }
+}
+
+impl<'a> From<WireRunFault> for Fault<'a> {
+    ghost from_gives = { λ w e. e ≡ of_wire w };
+
+    fn from(fault: WireRunFault) -> Fault<'a> {
+        match fault {
+            WireRunFault::Write => Fault::Write,
+            WireRunFault::Memory => Fault::Memory,
         }
     }
 }

@@ -18,13 +18,16 @@ ghost use Rattle.command_meaning.specs.FileTasks.{ImageFile};
 ghost use Rattle.command_meaning.specs.Endings.{HasOwnStatus};
 ghost use Rattle.command_meaning.specs.Kinds.{Task, answers, lacks, prints, Meant};
 ghost use Rattle.vcp_core.specs.Tasks.{AuditTask, TaskOf, widened};
+ghost use Rattle.command_meaning.specs.WireKind.{WiresDeliver};
 ghost use Rattle.vcp_core.specs.StaleSeen.{StaleShows};
 
 use audit_report::an_audit_has_one_text;
+use il_front::il_answers_are_one;
 use image_file::images_are_told_apart;
 use st_lexer::one_reading;
 use st_parser::one_answer;
 use st_types::answers_are_one;
+use telegram::{deliveries_are_young, deliveries_rise, unaltered_come_from_their_sender};
 use weight_audit::differences_come_as_weights;
 
 /// What a command comes to, where this is held, is one task, with a status of its own, and not a name that is lacking where all its
@@ -39,6 +42,7 @@ pub fn one_task()
     one_reading();
     one_answer();
     answers_are_one();
+    il_answers_are_one();
     images_are_told_apart();
     an_audit_has_one_text();
 }
@@ -70,4 +74,15 @@ pub fn stale_operands_are_seen()
     ensures { StaleShows }
 {
     differences_come_as_weights();
+}
+
+/// Whatever a unit answers to the sendings of a wire's script, the delivered numbers strictly rise, and
+/// nothing is delivered before its sending or too many cycles after it; and where all answers are right,
+/// what is delivered of a telegram that wasn't altered is what the heard sender sent under its number.
+pub fn wires_deliver()
+    ensures { WiresDeliver }
+{
+    deliveries_rise();
+    deliveries_are_young();
+    unaltered_come_from_their_sender();
 }

@@ -2,6 +2,7 @@
 #![tactic(auto)]
 
 mod audit;
+mod channels;
 mod check;
 mod compile;
 mod demo;
@@ -10,10 +11,12 @@ mod exec;
 mod fault;
 mod format;
 mod graphs;
+mod il;
 mod inject;
 mod laws;
 mod listing;
 mod loading;
+mod pair;
 mod plain;
 mod plain_run;
 mod run;
@@ -24,6 +27,7 @@ mod top;
 mod trace;
 mod tracing;
 mod widen;
+mod wire;
 
-pub use laws::{one_task, stale_operands_are_seen, written_images_are_taken};
+pub use laws::{one_task, stale_operands_are_seen, wires_deliver, written_images_are_taken};
 pub use top::vcp;

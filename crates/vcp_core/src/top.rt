@@ -8,7 +8,9 @@ ghost use Rattle.command_meaning.specs.Clauses.{AsPlain, GetsUsage, Keeps, MayHo
 ghost use Rattle.command_meaning.specs.Performing.{Performs};
 ghost use Rattle.machine_run.specs.Moments.{moment};
 ghost use Rattle.command_meaning.specs.Seen.{outside};
+ghost use Rattle.command_meaning.specs.WireKind.{WiresDeliver};
 ghost use Rattle.fault_runs.specs.AcceptedRuns.{AcceptedIsReleased};
+ghost use Rattle.il_front.specs.Outcomes.{AccumulatorRuns};
 ghost use Rattle.vcp_core.specs.Tasks.{TaskOf};
 ghost use Rattle.vcp_core.specs.Reach.{told_line, told_status};
 ghost use Rattle.vcp_core.specs.StaleSeen.{StaleShows};
@@ -21,16 +23,20 @@ use crate::ending::{Ending, status_of};
 use crate::exec::exec_command;
 use crate::fault::Fault;
 use crate::format::format_command;
+use crate::il::il_command;
 use crate::inject::inject_command;
-use crate::laws::{one_task, stale_operands_are_seen};
+use crate::laws::{one_task, stale_operands_are_seen, wires_deliver};
 use crate::listing::list_command;
+use crate::pair::pair_command;
 use crate::plain::plain_command;
 use crate::run::run_command;
 use crate::telling::{fault_status, tell, tell_usage};
 use crate::trace::trace_command;
 use crate::widen::widen_command;
+use crate::wire::wire_command;
 use coded_unit::Unit;
 use fault_runs::accepted_outputs_are_released;
+use il_front::accumulator_runs;
 use std::alloc::Global;
 use vcp_base::Words;
 use vcp_outside::{Failed, Files, Sink};
@@ -44,7 +50,7 @@ use vcp_words::{Command, command_of};
 /// | 0 | the Size, the text, the image, the lines or the verdicts were printed, or the run came to the end of its rows |
 /// | 1 | a file is refused, or a row of one |
 /// | 2 | the run stopped |
-/// | 3 | an output was refused |
+/// | 3 | an output was refused, or the channels of a pair disagreed, or a telegram wasn't sent |
 /// | 4 | the words are none of the forms |
 /// | 5 | a file failed |
 /// | 6 | a sink failed |
@@ -85,9 +91,19 @@ pub fn vcp<F: Files, U: Unit, O: Sink, E: Sink>(
     // shows by 0, and else the run is refused, there or before.
     ensures accepted { AcceptedIsReleased }
     ensures stale { StaleShows }
+
+    // Of the instruction lists that `il` runs: the typed program that is run for one has, over every list of rows, the rows and the end of
+    // the accumulator's run.
+    ensures listed { AccumulatorRuns }
+
+    // Of the scripts that `wire` runs: delivered numbers rise, nothing is delivered that is too old, and with right answers what is
+    // delivered unaltered is what the heard sender sent.
+    ensures delivers { WiresDeliver }
 {
     accepted_outputs_are_released();
     stale_operands_are_seen();
+    accumulator_runs();
+    wires_deliver();
     match command_of(words) {
         Some(command) => serve(alloc, &command, files, unit, out, err),
         None => match tell_usage(err) {
@@ -151,6 +167,9 @@ fn perform<'a, F: Files, U: Unit, O: Sink>(
         Command::Run { source, rows, code } => run_command(
             alloc, source, *rows, *code, files, unit, out,
         ),
+        Command::Il { source, rows, code } => il_command(
+            alloc, source, *rows, *code, files, unit, out,
+        ),
         Command::Compile { source, code } => compile_command(alloc, source, *code, files, out),
         Command::List { image } => list_command(alloc, image, files, out),
         Command::Exec { image, rows } => exec_command(alloc, image, *rows, files, unit, out),
@@ -164,6 +183,10 @@ fn perform<'a, F: Files, U: Unit, O: Sink>(
             rows,
             script,
         } => inject_command(alloc, image, *rows, script, files, unit, out),
+        Command::Pair { image, rows, seed } => pair_command(
+            alloc, image, *rows, *seed, files, unit, out,
+        ),
+        Command::Wire { script } => wire_command(alloc, script, files, unit, out),
         Command::Demo { number } => demo_command(alloc, *number, unit, out),
     }
 }

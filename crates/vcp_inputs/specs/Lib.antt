@@ -1,7 +1,9 @@
 pub mod Files
 pub mod Images
 pub mod Lines
+pub mod Listings
 pub mod Programs
 pub mod Refusals
 pub mod RowsOutcome
 pub mod Scripts
+pub mod Wires

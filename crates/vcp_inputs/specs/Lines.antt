@@ -7,12 +7,16 @@ use Rattle.st_parser.specs.declared.fault.SyntaxFault.{SyntaxFault}
 use Rattle.st_parser.specs.declared.fault.SyntaxFault.TheVariants as syntax
 use Rattle.st_types.specs.declared.fault.TypeFault.{TypeFault}
 use Rattle.st_types.specs.declared.fault.TypeFault.TheVariants as typing
+use Rattle.il_front.specs.declared.fault.IlFault.{IlFault}
+use Rattle.il_front.specs.declared.fault.IlFault.TheVariants as il
 use Rattle.input_rows.specs.declared.fault.RowFault.{RowFault}
 use Rattle.input_rows.specs.declared.fault.RowFault.TheVariants as rows
 use Rattle.image_file.specs.declared.fault.ImageFault.{ImageFault}
 use Rattle.image_file.specs.declared.fault.ImageFault.TheVariants as image
 use Rattle.fault_script.specs.declared.script_fault.ScriptFault.{ScriptFault}
 use Rattle.fault_script.specs.declared.script_fault.ScriptFault.TheVariants as script
+use Rattle.wire_script.specs.declared.wire_fault.WireFault.{WireFault}
+use Rattle.wire_script.specs.declared.wire_fault.WireFault.TheVariants as wire
 use Rattle.vcp_inputs.specs.declared.refusal.Refusal.{Refusal}
 use Rattle.vcp_inputs.specs.declared.refusal.Refusal.TheVariants as refusal
 use Rattle.vcp_inputs.specs.declared.refusal.NoInput.{NoInput}
@@ -62,6 +66,19 @@ typing_text name (typing.Names spot) = spot_text name spot (codes "L3 Names")
 typing_text name typing.Size = name ++ codes " L2 Size\n"
 typing_text name typing.Memory = memory_text
 
+-- a fault of a reader of instructions
+abbrev pub listing_text : List ℕ → IlFault → List ℕ
+listing_text name (il.Lex f) = lexing_text name f
+listing_text name (il.Syntax f) = parsing_text name f
+listing_text name (il.Types f) = typing_text name f
+listing_text name (il.Instruction spot) = spot_text name spot (codes "Q1 Instruction")
+listing_text name (il.Operand spot) = spot_text name spot (codes "Q2 Operand")
+listing_text name (il.Target spot) = spot_text name spot (codes "Q3 Target")
+listing_text name (il.Empty spot) = spot_text name spot (codes "Q4 Empty")
+listing_text name (il.Mismatch spot) = spot_text name spot (codes "Q5 Mismatch")
+listing_text name (il.Reserved spot) = spot_text name spot (codes "Q6 Reserved")
+listing_text name il.Memory = memory_text
+
 -- a fault at a number's place, as a record, an offset or a line of a script: the file's name, the number, and the fault's code and name
 abbrev pub place_text : List ℕ → ℕ → List ℕ → List ℕ
 place_text name place what = name ++ (codes ":" ++ (decimal place ++ (codes " " ++ (what ++ codes "\n"))))
@@ -103,17 +120,27 @@ script_text name (script.Twice line) = place_text name line (codes "F6 Twice")
 script_text name (script.Faults line) = place_text name line (codes "L5 Faults")
 script_text name script.Memory = memory_text
 
+-- a fault of the script of a wire, at its line
+abbrev pub wire_text : List ℕ → WireFault → List ℕ
+wire_text name (wire.Form line) = place_text name line (codes "G1 Form")
+wire_text name (wire.Range line) = place_text name line (codes "G2 Range")
+wire_text name (wire.Unsent line) = place_text name line (codes "G3 Unsent")
+wire_text name wire.Memory = memory_text
+
 -- a refusal of the file under a name
 abbrev pub refusal_text : List ℕ → Refusal → List ℕ
 refusal_text name refusal.Bytes = name ++ codes " L1 Bytes\n"
 refusal_text name (refusal.Lexing f) = lexing_text name f
 refusal_text name (refusal.Parsing f) = parsing_text name f
 refusal_text name (refusal.Typing f) = typing_text name f
+refusal_text name (refusal.Listing f) = listing_text name f
 refusal_text name (refusal.Rows f) = rows_text name f
 refusal_text name (refusal.Image f) = image_text name f
 refusal_text name refusal.Audit = name ++ codes " L6 Audit\n"
 refusal_text name refusal.Trace = name ++ codes " L7 Trace\n"
+refusal_text name refusal.Seed = name ++ codes " L8 Seed\n"
 refusal_text name (refusal.Script f) = script_text name f
+refusal_text name (refusal.Wire f) = wire_text name f
 
 -- the line where there is nothing of the file under a name, and the status
 abbrev pub input_text : List ℕ → NoInput → List ℕ

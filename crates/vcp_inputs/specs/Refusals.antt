@@ -7,12 +7,16 @@ use Rattle.st_parser.specs.declared.fault.SyntaxFault.{SyntaxFault}
 use Rattle.st_parser.specs.declared.fault.SyntaxFault.TheVariants as syntax
 use Rattle.st_types.specs.declared.fault.TypeFault.{TypeFault}
 use Rattle.st_types.specs.declared.fault.TypeFault.TheVariants as typing
+use Rattle.il_front.specs.declared.fault.IlFault.{IlFault}
+use Rattle.il_front.specs.declared.fault.IlFault.TheVariants as il
 use Rattle.input_rows.specs.declared.fault.RowFault.{RowFault}
 use Rattle.input_rows.specs.declared.fault.RowFault.TheVariants as rows
 use Rattle.image_file.specs.declared.fault.ImageFault.{ImageFault}
 use Rattle.image_file.specs.declared.fault.ImageFault.TheVariants as image
 use Rattle.fault_script.specs.declared.script_fault.ScriptFault.{ScriptFault}
 use Rattle.fault_script.specs.declared.script_fault.ScriptFault.TheVariants as script
+use Rattle.wire_script.specs.declared.wire_fault.WireFault.{WireFault}
+use Rattle.wire_script.specs.declared.wire_fault.WireFault.TheVariants as wire
 use Rattle.vcp_inputs.specs.declared.refusal.Refusal.TheVariants as refusal
 use Rattle.vcp_inputs.specs.declared.refusal.NoInput.{NoInput}
 use Rattle.vcp_inputs.specs.declared.refusal.NoInput.TheVariants as input
@@ -50,6 +54,19 @@ untyped (typing.Names spot) = input.Refused (refusal.Typing (typing.Names spot))
 untyped typing.Size = input.Refused (refusal.Typing typing.Size)
 untyped typing.Memory = input.Memory
 
+-- of a reader of instructions
+abbrev pub unlisted : IlFault → NoInput
+unlisted (il.Lex f) = input.Refused (refusal.Listing (il.Lex f))
+unlisted (il.Syntax f) = input.Refused (refusal.Listing (il.Syntax f))
+unlisted (il.Types f) = input.Refused (refusal.Listing (il.Types f))
+unlisted (il.Instruction spot) = input.Refused (refusal.Listing (il.Instruction spot))
+unlisted (il.Operand spot) = input.Refused (refusal.Listing (il.Operand spot))
+unlisted (il.Target spot) = input.Refused (refusal.Listing (il.Target spot))
+unlisted (il.Empty spot) = input.Refused (refusal.Listing (il.Empty spot))
+unlisted (il.Mismatch spot) = input.Refused (refusal.Listing (il.Mismatch spot))
+unlisted (il.Reserved spot) = input.Refused (refusal.Listing (il.Reserved spot))
+unlisted il.Memory = input.Memory
+
 -- of rows
 abbrev pub no_rows : RowFault → NoInput
 no_rows rows.Header = input.Refused (refusal.Rows rows.Header)
@@ -81,3 +98,10 @@ unscripted (script.Group line) = input.Refused (refusal.Script (script.Group lin
 unscripted (script.Twice line) = input.Refused (refusal.Script (script.Twice line))
 unscripted (script.Faults line) = input.Refused (refusal.Script (script.Faults line))
 unscripted script.Memory = input.Memory
+
+-- of the script of a wire
+abbrev pub unwired : WireFault → NoInput
+unwired (wire.Form line) = input.Refused (refusal.Wire (wire.Form line))
+unwired (wire.Range line) = input.Refused (refusal.Wire (wire.Range line))
+unwired (wire.Unsent line) = input.Refused (refusal.Wire (wire.Unsent line))
+unwired wire.Memory = input.Memory

@@ -2,17 +2,21 @@
 #![tactic(auto)]
 
 mod images;
+mod listings;
 mod reading;
 mod refusal;
 mod rows;
 mod scripts;
 mod sources;
 mod telling;
+mod wires;
 
 pub use images::{Image, load_image};
+pub use listings::load_il;
 pub use reading::read_file;
 pub use refusal::{NoInput, Refusal};
 pub use rows::{RowsSource, load_rows};
 pub use scripts::load_script;
 pub use sources::{load_program, load_typed, typed_of};
 pub use telling::{input_status, tell_input, tell_of, tell_place, tell_refusal};
+pub use wires::load_wire;

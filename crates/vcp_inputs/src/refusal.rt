@@ -1,10 +1,11 @@
 //! Why a file isn't taken.
 
 ghost use Rattle.std.specs.Prelude.{◌≡◌};
-ghost use Rattle.vcp_inputs.specs.Refusals.{unread, unlexed, unparsed, untyped, no_rows, unimaged, unscripted};
+ghost use Rattle.vcp_inputs.specs.Refusals.{unread, unlexed, unparsed, untyped, unlisted, no_rows, unimaged, unscripted, unwired};
 ghost use Rattle.vcp_inputs.specs.declared.refusal.NoInput.TheVariants as input;
 
 use fault_script::ScriptFault;
+use il_front::IlFault;
 use image_file::ImageFault;
 use input_rows::RowFault;
 use st_lexer::LexFault;
@@ -12,6 +13,7 @@ use st_parser::SyntaxFault;
 use st_types::TypeFault;
 use vcp_base::Memory;
 use vcp_outside::ReadAll;
+use wire_script::WireFault;
 
 /// Why a file is refused. Where its bytes are looked at, the fault is one of the layer that looks, and
 /// never its want of memory.
@@ -25,6 +27,8 @@ pub enum Refusal {
     Parsing(SyntaxFault),
     /// The source's program breaks a rule of types, or is too large.
     Typing(TypeFault),
+    /// The text is no instruction list. A fault of its tokens, its head or its limits stands in it as in a source's refusal.
+    Listing(IlFault),
     /// The file is no table of rows for the program, or has too many or too few.
     Rows(RowFault),
     /// The file is no image.
@@ -33,8 +37,12 @@ pub enum Refusal {
     Audit,
     /// The rows have too many cycles for faults to be judged over the graph of the image.
     Trace,
+    /// The seed of a second channel is the image's own.
+    Seed,
     /// The file is no script of faults for the graph of the image.
     Script(ScriptFault),
+    /// The file is no script of a wire.
+    Wire(WireFault),
 }
 
 /// Why there is nothing of a file.
@@ -114,6 +122,25 @@ impl From<TypeFault> for NoInput {
     }
 }
 
+impl From<IlFault> for NoInput {
+    ghost from_gives = { λ i e. e ≡ unlisted i };
+
+    fn from(fault: IlFault) -> NoInput {
+        match fault {
+            IlFault::Memory => NoInput::Memory,
+            IlFault::Lex(_)
+            | IlFault::Syntax(_)
+            | IlFault::Types(_)
+            | IlFault::Instruction { .. }
+            | IlFault::Operand { .. }
+            | IlFault::Target { .. }
+            | IlFault::Empty { .. }
+            | IlFault::Mismatch { .. }
+            | IlFault::Reserved { .. } => NoInput::Refused(Refusal::Listing(fault)),
+        }
+    }
+}
+
 impl From<RowFault> for NoInput {
     ghost from_gives = { λ r e. e ≡ no_rows r };
 
@@ -160,6 +187,19 @@ impl From<ScriptFault> for NoInput {
             | ScriptFault::Group { .. }
             | ScriptFault::Twice { .. }
             | ScriptFault::Faults { .. } => NoInput::Refused(Refusal::Script(fault)),
+        }
+    }
+}
+
+impl From<WireFault> for NoInput {
+    ghost from_gives = { λ w e. e ≡ unwired w };
+
+    fn from(fault: WireFault) -> NoInput {
+        match fault {
+            WireFault::Memory => NoInput::Memory,
+            WireFault::Form { .. } | WireFault::Range { .. } | WireFault::Unsent { .. } => {
+                NoInput::Refused(Refusal::Wire(fault))
+            }
         }
     }
 }

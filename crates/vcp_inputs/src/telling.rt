@@ -3,12 +3,13 @@
 ghost use Rattle.std.specs.Prelude.{◌≡◌, ◌++◌, codes};
 ghost use Rattle.vcp_outside.specs.Written.{WritesTo};
 ghost use Rattle.input_rows.specs.declared.fault.RowFault.TheVariants as rows;
-ghost use Rattle.vcp_inputs.specs.Lines.{spot_text, lexing_text, parsing_text, typing_text, rows_text, place_text, correction_text, image_text, script_text};
+ghost use Rattle.vcp_inputs.specs.Lines.{spot_text, lexing_text, parsing_text, typing_text, listing_text, rows_text, place_text, correction_text, image_text, script_text, wire_text};
 ghost use Rattle.vcp_inputs.specs.Lines.{refusal_text, input_text, input_status as status_of_input};
 
 use crate::refusal::{NoInput, Refusal};
 use fault_script::ScriptFault;
 use gathered_line::Line;
+use il_front::IlFault;
 use image_file::ImageFault;
 use input_rows::RowFault;
 use st_lexer::LexFault;
@@ -16,6 +17,7 @@ use st_parser::SyntaxFault;
 use st_types::TypeFault;
 use vcp_base::{Residue, Spot};
 use vcp_outside::{Failed, Sink, write_all};
+use wire_script::WireFault;
 
 /// The line where memory was wanted.
 const NO_MEMORY: &[u8] = b"no memory\n";
@@ -29,11 +31,14 @@ pub fn tell_refusal<E: Sink>(err: &mut E, name: &[u8], refusal: &Refusal) -> Res
         Refusal::Lexing(fault) => tell_lexing(err, name, *fault),
         Refusal::Parsing(fault) => tell_parsing(err, name, *fault),
         Refusal::Typing(fault) => tell_typing(err, name, *fault),
+        Refusal::Listing(fault) => tell_listing(err, name, *fault),
         Refusal::Rows(fault) => tell_rows(err, name, *fault),
         Refusal::Image(fault) => tell_image(err, name, *fault),
         Refusal::Audit => tell_of(err, name, b" L6 Audit"),
         Refusal::Trace => tell_of(err, name, b" L7 Trace"),
+        Refusal::Seed => tell_of(err, name, b" L8 Seed"),
         Refusal::Script(fault) => tell_script(err, name, *fault),
+        Refusal::Wire(fault) => tell_wire(err, name, *fault),
     }
 }
 
@@ -139,6 +144,24 @@ fn tell_typing<E: Sink>(err: &mut E, name: &[u8], fault: TypeFault) -> Result<()
     }
 }
 
+/// Prints the line of a fault of a reader of instructions.
+fn tell_listing<E: Sink>(err: &mut E, name: &[u8], fault: IlFault) -> Result<(), Failed>
+    ensures { WritesTo (E.seen err.old) (E.seen err.new) (listing_text name.now fault) result }
+{
+    match fault {
+        IlFault::Lex(fault) => tell_lexing(err, name, fault),
+        IlFault::Syntax(fault) => tell_parsing(err, name, fault),
+        IlFault::Types(fault) => tell_typing(err, name, fault),
+        IlFault::Instruction { spot } => tell_at(err, name, spot, b"Q1 Instruction"),
+        IlFault::Operand { spot } => tell_at(err, name, spot, b"Q2 Operand"),
+        IlFault::Target { spot } => tell_at(err, name, spot, b"Q3 Target"),
+        IlFault::Empty { spot } => tell_at(err, name, spot, b"Q4 Empty"),
+        IlFault::Mismatch { spot } => tell_at(err, name, spot, b"Q5 Mismatch"),
+        IlFault::Reserved { spot } => tell_at(err, name, spot, b"Q6 Reserved"),
+        IlFault::Memory => write_all(err, NO_MEMORY),
+    }
+}
+
 /// Prints the line of a refusal of rows.
 fn tell_rows<E: Sink>(err: &mut E, name: &[u8], fault: RowFault) -> Result<(), Failed>
     ensures { WritesTo (E.seen err.old) (E.seen err.new) (rows_text name.now fault) result }
@@ -222,5 +245,17 @@ fn tell_script<E: Sink>(err: &mut E, name: &[u8], fault: ScriptFault) -> Result<
         ScriptFault::Twice { line } => tell_place(err, name, line, b"F6 Twice"),
         ScriptFault::Faults { line } => tell_place(err, name, line, b"L5 Faults"),
         ScriptFault::Memory => write_all(err, NO_MEMORY),
+    }
+}
+
+/// Prints the line of a fault of the script of a wire.
+fn tell_wire<E: Sink>(err: &mut E, name: &[u8], fault: WireFault) -> Result<(), Failed>
+    ensures { WritesTo (E.seen err.old) (E.seen err.new) (wire_text name.now fault) result }
+{
+    match fault {
+        WireFault::Form { line } => tell_place(err, name, line, b"G1 Form"),
+        WireFault::Range { line } => tell_place(err, name, line, b"G2 Range"),
+        WireFault::Unsent { line } => tell_place(err, name, line, b"G3 Unsent"),
+        WireFault::Memory => write_all(err, NO_MEMORY),
     }
 }

@@ -1,6 +1,6 @@
 -- Worked rows, computed by the definitions alone.
 use Rattle.std.proofs.Common.{◌≡◌, ℕ, refl, List, [], ◌∷◌, Option, Some, None, codes}
-use Rattle.vcp_words.specs.Forms.{Form, form_of, check, format, plain, run, compile, list, exec, trace, widen, audit, inject, demo, file, cycles}
+use Rattle.vcp_words.specs.Forms.{Form, form_of, check, format, plain, run, il, compile, list, exec, trace, widen, audit, inject, pair, wire, demo, file, cycles}
 
 format_words : form_of (codes "format" ∷ codes "p" ∷ []) ≡ Some (format (codes "p"))
 format_words = refl
@@ -45,6 +45,13 @@ run_of seed step = Some (run (codes "p") (file (codes "r")) (record { seed = see
 
 run_words : run_with [] ≡ run_of 305419896 1
 run_words = refl
+
+il_words : form_of (codes "il" ∷ codes "p" ∷ codes "--cycles" ∷ codes "3" ∷ codes "--step" ∷ codes "7" ∷ [])
+    ≡ Some (il (codes "p") (cycles 3) (record { seed = 305419896; step = 7 }))
+il_words = refl
+
+il_without_rows : form_of (codes "il" ∷ codes "p" ∷ []) ≡ None
+il_without_rows = refl
 
 run_without_rows : form_of (codes "run" ∷ codes "p" ∷ []) ≡ None
 run_without_rows = refl
@@ -140,6 +147,28 @@ inject_words = refl
 
 inject_without_script : form_of (codes "inject" ∷ codes "m" ∷ codes "r" ∷ []) ≡ None
 inject_without_script = refl
+
+pair_words : form_of (codes "pair" ∷ codes "m" ∷ codes "r" ∷ codes "1073741823" ∷ []) ≡ Some (pair (codes "m") (file (codes "r")) 1073741823)
+pair_words = refl
+
+-- a seed is compared as a number
+pair_for_cycles : form_of (codes "pair" ∷ codes "m" ∷ codes "--cycles" ∷ codes "3" ∷ codes "00" ∷ []) ≡ Some (pair (codes "m") (cycles 3) 0)
+pair_for_cycles = refl
+
+no_such_seed : form_of (codes "pair" ∷ codes "m" ∷ codes "r" ∷ codes "1073741824" ∷ []) ≡ None
+no_such_seed = refl
+
+pair_without_seed : form_of (codes "pair" ∷ codes "m" ∷ codes "r" ∷ []) ≡ None
+pair_without_seed = refl
+
+wire_words : form_of (codes "wire" ∷ codes "f" ∷ []) ≡ Some (wire (codes "f"))
+wire_words = refl
+
+wire_without_script : form_of (codes "wire" ∷ []) ≡ None
+wire_without_script = refl
+
+wire_of_two_scripts : form_of (codes "wire" ∷ codes "f" ∷ codes "f" ∷ []) ≡ None
+wire_of_two_scripts = refl
 
 -- leading zeros are allowed
 demo_words : form_of (codes "demo" ∷ codes "007" ∷ []) ≡ Some (demo 7)

@@ -33,13 +33,14 @@ default_code = record { seed = default_seed; step = default_step }
 abbrev pub most_made : ℕ
 most_made = 4294967295
 
--- a command with its words: P is a source's name, M an image's, F a script's; then ROWS, CODE, CYCLE, HORIZON and the number of a
+-- a command with its words: P is a source's name, M an image's, F a script's; then ROWS, CODE, CYCLE, HORIZON, SEED and the number of a
 -- made program
 pub data Form : Type 0 where
   check : List ℕ → Form
   format : List ℕ → Form
   plain : List ℕ → Rows → Form
   run : List ℕ → Rows → Code → Form
+  il : List ℕ → Rows → Code → Form
   compile : List ℕ → Code → Form
   list : List ℕ → Form
   exec : List ℕ → Rows → Form
@@ -47,6 +48,8 @@ pub data Form : Type 0 where
   widen : List ℕ → Form
   audit : List ℕ → ℕ → Form
   inject : List ℕ → Rows → List ℕ → Form
+  pair : List ℕ → Rows → ℕ → Form
+  wire : List ℕ → Form
   demo : ℕ → Form
 
 -- ---- single words
@@ -82,7 +85,7 @@ rows_and_rest (w ∷ rest) =
     cond (bytes_eq w (codes "--cycles")) (cycles_and_rest rest)
     (cond (is_file_name w) (Some (file w, rest)) None)
 
--- CYCLE, HORIZON, or the number of a made program: a number from `least` to `most`
+-- CYCLE, HORIZON, SEED, or the number of a made program: a number from `least` to `most`
 abbrev pub number_and_rest : ℕ → ℕ → List (List ℕ) → Option (ℕ × List (List ℕ))
 number_and_rest least most [] = None
 number_and_rest least most (w ∷ rest) = option_map (λ n. (n, rest)) (number_within least most w)
@@ -152,7 +155,8 @@ image_form w words =
     (cond (bytes_eq w (codes "widen")) (name_then (λ m. end_then (widen m)) words)
     (cond (bytes_eq w (codes "audit")) (name_then (λ m. number_then 0 most_horizon (λ h. end_then (audit m h))) words)
     (cond (bytes_eq w (codes "inject")) (name_then (λ m. rows_then (λ rows. name_then (λ f. end_then (inject m rows f)))) words)
-    None)))))
+    (cond (bytes_eq w (codes "pair")) (name_then (λ m. rows_then (λ rows. number_then 0 (seeds - 1) (λ s. end_then (pair m rows s)))) words)
+    None))))))
 
 -- the command that words say, a line a form
 abbrev pub form_of : List (List ℕ) → Option Form
@@ -162,13 +166,15 @@ form_of (w ∷ words) =
     (cond (bytes_eq w (codes "format")) (name_then (λ p. end_then (format p)) words)
     (cond (bytes_eq w (codes "plain")) (name_then (λ p. rows_then (λ rows. end_then (plain p rows))) words)
     (cond (bytes_eq w (codes "run")) (name_then (λ p. rows_then (λ rows. code_then (run p rows))) words)
+    (cond (bytes_eq w (codes "il")) (name_then (λ p. rows_then (λ rows. code_then (il p rows))) words)
     (cond (bytes_eq w (codes "compile")) (name_then (λ p. code_then (compile p)) words)
+    (cond (bytes_eq w (codes "wire")) (name_then (λ f. end_then (wire f)) words)
     (cond (bytes_eq w (codes "demo")) (number_then 0 most_made (λ n. end_then (demo n)) words)
-    (image_form w words))))))
+    (image_form w words))))))))
 
 -- the usage line, which words get that are none of the forms
 abbrev pub usage_text : List ℕ
-usage_text = codes "usage: vcp check P, format P, plain P ROWS, run P ROWS CODE, compile P CODE, list M, exec M ROWS, trace M ROWS CYCLE, inject M ROWS F, audit M HORIZON, widen M or demo N\n"
+usage_text = codes "usage: vcp check P, format P, plain P ROWS, run P ROWS CODE, compile P CODE, list M, exec M ROWS, trace M ROWS CYCLE, inject M ROWS F, audit M HORIZON, widen M, il P ROWS CODE, pair M ROWS SEED, wire F or demo N\n"
 
 -- ---- commands as values
 
@@ -187,6 +193,7 @@ form (command.Check source) = check source.now
 form (command.Format source) = format source.now
 form (command.Plain source rows) = plain source.now (rows_of rows)
 form (command.Run source rows code) = run source.now (rows_of rows) (as_code code)
+form (command.Il source rows code) = il source.now (rows_of rows) (as_code code)
 form (command.Compile source code) = compile source.now (as_code code)
 form (command.List image) = list image.now
 form (command.Exec image rows) = exec image.now (rows_of rows)
@@ -194,6 +201,8 @@ form (command.Trace image rows cycle) = trace image.now (rows_of rows) cycle
 form (command.Widen image) = widen image.now
 form (command.Audit image horizon) = audit image.now horizon
 form (command.Inject image rows script) = inject image.now (rows_of rows) script.now
+form (command.Pair image rows seed) = pair image.now (rows_of rows) seed
+form (command.Wire script) = wire script.now
 form (command.Demo number) = demo number
 
 -- ---- what holds of each command
@@ -209,12 +218,14 @@ pub record IsCode (code : Code) : Type 0 where
   pub step_from : 1 ≤ code.step
   pub step_to : code.step ≤ most_step
 
--- the rows are few, the code in its ranges, the cycle one that a run may have, and the horizon one that an audit may have, where the command has them
+-- the rows are few, the code and the seed in their ranges, the cycle one that a run may have, and the horizon one that an audit may have, where the
+-- command has them
 abbrev pub IsSound : Form → Type 0
 IsSound (check p) = Unit {0}
 IsSound (format p) = Unit {0}
 IsSound (plain p rows) = AreFew rows
 IsSound (run p rows code) = AreFew rows × IsCode code
+IsSound (il p rows code) = AreFew rows × IsCode code
 IsSound (compile p code) = IsCode code
 IsSound (list m) = Unit {0}
 IsSound (exec m rows) = AreFew rows
@@ -222,4 +233,6 @@ IsSound (trace m rows cycle) = AreFew rows × (cycle < most_cycles)
 IsSound (widen m) = Unit {0}
 IsSound (audit m horizon) = horizon ≤ most_horizon
 IsSound (inject m rows f) = AreFew rows
+IsSound (pair m rows seed) = AreFew rows × (seed < seeds)
+IsSound (wire f) = Unit {0}
 IsSound (demo n) = Unit {0}

@@ -55,6 +55,15 @@ pub enum Command<'a> {
         /// The code, CODE.
         code: Code,
     },
+    /// `il P ROWS CODE`: the run of an instruction list's operations on rows, on a unit.
+    Il {
+        /// The name of the instruction list, P.
+        source: &'a Text,
+        /// The recorded inputs, ROWS.
+        rows: RowsWord<'a>,
+        /// The code, CODE.
+        code: Code,
+    },
     /// `compile P CODE`: the image of the program's operations, and of a code.
     Compile {
         /// The name of the program's source, P.
@@ -102,6 +111,20 @@ pub enum Command<'a> {
         /// The recorded inputs, ROWS.
         rows: RowsWord<'a>,
         /// The name of the script of faults, F.
+        script: &'a Text,
+    },
+    /// `pair M ROWS SEED`: the run of an image's operations on rows, on a pair of channels.
+    Pair {
+        /// The name of the image, M.
+        image: &'a Text,
+        /// The recorded inputs, ROWS.
+        rows: RowsWord<'a>,
+        /// The seed of the second channel's signatures, SEED, below 2^30.
+        seed: u32,
+    },
+    /// `wire F`: the run of a wire's script: values are sent on a unit, and telegrams taken.
+    Wire {
+        /// The name of the script of the wire, F.
         script: &'a Text,
     },
     /// `demo N`: the run of the made program of a number, on a unit.

@@ -2,20 +2,20 @@
 
 ghost use Rattle.std.specs.Prelude.{◌≡◌, ◌-◌, IfSome};
 ghost use Rattle.std.specs.Option.{option_map};
-ghost use Rattle.vcp_base.specs.Limits.{most_cycles, most_horizon};
-ghost use Rattle.vcp_words.specs.Forms.{check, format, plain, run, compile, list, exec, trace, widen, audit, inject, demo, name_then, rows_then};
+ghost use Rattle.vcp_base.specs.Limits.{most_cycles, most_horizon, seeds};
+ghost use Rattle.vcp_words.specs.Forms.{check, format, plain, run, il, compile, list, exec, trace, widen, audit, inject, pair, wire, demo, name_then, rows_then};
 ghost use Rattle.vcp_words.specs.Forms.{number_then, code_then, end_then, form, form_of, image_form, most_made, usage_text, IsSound};
 
 use crate::command::Command;
 use crate::words_left::WordsLeft;
-use vcp_base::{MOST_CYCLES, MOST_HORIZON, Words};
+use vcp_base::{MOST_CYCLES, MOST_HORIZON, SEEDS, Words};
 
 /// The line that words get which are none of the forms.
 pub fn usage() -> &'static [u8]
     ensures { result.now ≡ usage_text }
 {
     b"usage: vcp check P, format P, plain P ROWS, run P ROWS CODE, compile P CODE, list M, exec M ROWS, trace M ROWS CYCLE, inject M ROWS F, audit M HORIZON, \
-      widen M or demo N\n"
+      widen M, il P ROWS CODE, pair M ROWS SEED, wire F or demo N\n"
 }
 
 /// The command that the words say; None where they are none of the forms.
@@ -37,8 +37,14 @@ pub fn command_of(words: &Words) -> Option<Command<'_>>
     if command == b"run".as_slice() {
         return run_words(&mut left);
     }
+    if command == b"il".as_slice() {
+        return il_words(&mut left);
+    }
     if command == b"compile".as_slice() {
         return compile_words(&mut left);
+    }
+    if command == b"wire".as_slice() {
+        return wire_words(&mut left);
     }
     if command == b"demo".as_slice() {
         return demo_words(&mut left);
@@ -68,6 +74,9 @@ fn image_command<'a>(command: &[u8], words: &mut WordsLeft<'a>) -> Option<Comman
     }
     if command == b"inject".as_slice() {
         return inject_words(words);
+    }
+    if command == b"pair".as_slice() {
+        return pair_words(words);
     }
     None
 }
@@ -123,6 +132,17 @@ fn run_words<'a>(words: &mut WordsLeft<'a>) -> Option<Command<'a>>
     Some(Command::Run { source, rows, code })
 }
 
+/// The words of `il`: P, ROWS and CODE.
+fn il_words<'a>(words: &mut WordsLeft<'a>) -> Option<Command<'a>>
+    ensures form { option_map form result ≡ name_then (λ p. rows_then (λ rows. code_then (il p rows))) words.old }
+    ensures sound { IfSome result (λ command. IsSound (form command)) }
+{
+    let source = words.name()?;
+    let rows = words.rows()?;
+    let code = words.code()?;
+    Some(Command::Il { source, rows, code })
+}
+
 /// The words of `compile`: P and CODE.
 fn compile_words<'a>(words: &mut WordsLeft<'a>) -> Option<Command<'a>>
     ensures form { option_map form result ≡ name_then (λ p. code_then (compile p)) words.old }
@@ -131,6 +151,19 @@ fn compile_words<'a>(words: &mut WordsLeft<'a>) -> Option<Command<'a>>
     let source = words.name()?;
     let code = words.code()?;
     Some(Command::Compile { source, code })
+}
+
+/// The words of `wire`: F.
+fn wire_words<'a>(words: &mut WordsLeft<'a>) -> Option<Command<'a>>
+    ensures form { option_map form result ≡ name_then (λ f. end_then (wire f)) words.old }
+    ensures sound { IfSome result (λ command. IsSound (form command)) }
+{
+    let script = words.name()?;
+    if words.is_end() {
+        Some(Command::Wire { script })
+    } else {
+        None
+    }
 }
 
 /// The words of `demo`: N.
@@ -229,6 +262,21 @@ fn inject_words<'a>(words: &mut WordsLeft<'a>) -> Option<Command<'a>>
             rows,
             script,
         })
+    } else {
+        None
+    }
+}
+
+/// The words of `pair`: M, ROWS and SEED.
+fn pair_words<'a>(words: &mut WordsLeft<'a>) -> Option<Command<'a>>
+    ensures form { option_map form result ≡ name_then (λ m. rows_then (λ rows. number_then 0 (seeds - 1) (λ s. end_then (pair m rows s)))) words.old }
+    ensures sound { IfSome result (λ command. IsSound (form command)) }
+{
+    let image = words.name()?;
+    let rows = words.rows()?;
+    let seed = words.number(0, SEEDS - 1)?;
+    if words.is_end() {
+        Some(Command::Pair { image, rows, seed })
     } else {
         None
     }

@@ -1,5 +1,5 @@
 -- Ends: how a run over a wire ends, from what was sent and told so far.
-use Rattle.std.proofs.Common.{◌≡◌, ℕ, ◌+◌, ◌*◌, ◌<◌, ◌≤◌, List, [], ◌∷◌, ◌++◌, length, take, drop, slice_get, slice_index_or, Option, Some, None, Ok, Err}
+use Rattle.std.proofs.Common.{◌≡◌, ℕ, ◌+◌, ◌-◌, ◌*◌, ◌<◌, ◌≤◌, List, [], ◌∷◌, ◌++◌, length, take, drop, slice_get, slice_index_or, Option, Some, None, Ok, Err}
 use Rattle.std.proofs.Common.{ℤ, refl, sym, ap, subst, ◌∙◌, arith, append_assoc, append-nil}
 use Rattle.std.proofs.lemmas.List.{take_all, length-drop}
 use Rattle.std.specs.Io.KnownBytes.{Appends}
@@ -17,14 +17,14 @@ use Rattle.telegram.specs.Deliveries.{delivered}
 use Rattle.telegram.specs.Receipts.{State, receipt_of, after_receipt}
 use Rattle.telegram.specs.WireRead.{read_from, wire_read, right_words}
 use Rattle.telegram.specs.WireRun.{Handing, sent_in, wired}
-use Rattle.wire_run.specs.Runs.{events_before, told_text, meant_text, AreWords, PartTold, RunsWire}
+use Rattle.wire_run.specs.Runs.{events_before, told_text, meant_text, AreWords, PartTold, RunsWire, EarlierTold}
 use Rattle.wire_run.specs.Sends.{Cut, sends_from, cut_sendings, calls_of, SendsAll}
 use Rattle.wire_run.specs.WireLines.{end_text, handings_text, receipt_line, unsent_text}
 use Rattle.wire_run.specs.declared.wire_end.WireEnd.TheVariants as end
 use Rattle.wire_run.specs.declared.wire_end.WireRunFault.TheVariants as fault
 use Rattle.wire_run.proofs.Growing.{grows_on, grows_by_none, drop_here, honest_second, take_drop}
 use Rattle.wire_run.proofs.SoFar.{SoFar, altered, few_cycles, no_sends, right_length, index_there, values_there, within, h, read_next}
-use Rattle.wire_run.proofs.Telling.{lines_joined, part_behind}
+use Rattle.wire_run.proofs.Telling.{first_lines, lines_joined, part_behind}
 
 -- where each sending is answered rightly, the receipts are those of the wire run
 abbrev pub Law : Wire → List Event → Type 0
@@ -74,6 +74,14 @@ module _ (w : Wire) (es : List Event) (before now : UnitSeen) (old new : SinkSee
 
   are : AreWords w (sent_in es) so_far.words None
   are = record { rows = so_far.rows; few = omega (arith, few, so_far.words_are); cut_is = tt }
+
+  -- the lines before the last cycle that was begun
+  earlier : (new' : SinkSeen) (piece : List ℕ) → AppendsPart new.written new'.written piece → EarlierTold w es so_far.words None old.written new'.written
+  earlier new' piece part =
+      let number : begun - 1 ≡ length so_far.words - 1 = ap (λ (n : ℕ). n - 1) (sym so_far.words_are) in
+      subst (λ (n : ℕ). (more : List ℕ) × Appends old.written new'.written (handings_text (wire_read w so_far.words (events_before n es)) ++ more)) number
+      (first_lines so_far.told (wire_read w so_far.words (events_before (begun - 1) es)) so_far.past.0 old.written new.written new'.written piece
+      so_far.past.1 so_far.written part)
 
   -- ---- behind the last event
 
@@ -133,6 +141,7 @@ module _ (w : Wire) (es : List Event) (before now : UnitSeen) (old new : SinkSee
                 let same : so_far.words ≡ so_far.words ++ later =
                 sym (append-nil so_far.words) ∙ ap (λ (l : List (List ℤ)). so_far.words ++ l) (sym none) in
                 subst (λ (ws : List (List ℤ)). AppendsPart old.written new'.written (told_text w es ws None)) same whole,
+            earlier new' (end_text begun count) line,
           );
           rose = tt;
           honest = λ h. subst (AppendsPart old.written new'.written) (right_told w es so_far.words law (right_all h)) whole;
@@ -168,7 +177,7 @@ module _ (w : Wire) (es : List Event) (before now : UnitSeen) (old new : SinkSee
           cut = None;
           are = are;
           log = so_far.log;
-          ends = (omega (arith, rose, faults), told);
+          ends = (omega (arith, rose, faults), told, earlier new' piece part);
           rose = tt;
           honest = λ honest.
               part_meant w es so_far.words begun old.written new'.written law (so_far.honest honest) so_far.words_are few told;
@@ -253,6 +262,8 @@ module _ (w : Wire) (es : List Event) (before now : UnitSeen) (old new : SinkSee
         subst (AppendsPart old.written new'.written)
             (ap (λ (l : List ℕ). handings_text so_far.told ++ l) (append-nil (unsent_text begun id)) ∙ cut_text)
             (part_behind old.written new.written new'.written (handings_text so_far.told) (unsent_text begun id) [] so_far.written part),
+        first_lines so_far.told (wire_read w so_far.words (events_before (length so_far.words) es)) [] old.written new.written new'.written
+            (unsent_text begun id) (sym cut_told ∙ sym (append-nil (wire_read w so_far.words (events_before (length so_far.words) es)))) so_far.written part,
       );
       rose = cut_rose;
       honest = λ honest. absurd (not_honest honest);

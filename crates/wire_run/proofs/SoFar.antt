@@ -1,5 +1,5 @@
 -- SoFar: what a run over a wire has sent and told, event by event.
-use Rattle.std.proofs.Common.{◌≡◌, ℕ, zero, suc, ◌+◌, ◌*◌, ◌<◌, ◌≤◌, List, [], ◌∷◌, ◌++◌, length, take, drop, slice_get, slice_index_or, Option, Some, None}
+use Rattle.std.proofs.Common.{◌≡◌, ℕ, zero, suc, ◌+◌, ◌-◌, ◌*◌, ◌<◌, ◌≤◌, List, [], ◌∷◌, ◌++◌, length, take, drop, slice_get, slice_index_or, Option, Some, None}
 use Rattle.std.proofs.Common.{ℤ, ◌+ℤ◌, refl, sym, ap, subst, ◌∙◌, arith, append_assoc, append-nil, length-append}
 use Rattle.std.specs.Io.KnownBytes.{Appends}
 use Rattle.std.proofs.KnownBytes.{Appends-trans, Appends-nil}
@@ -109,11 +109,18 @@ pub record SoFar (w : Wire) (es : List Event) (before now : UnitSeen) (old new :
   pub read : (later : List (List ℤ)) → wire_read w (words ++ later) es ≡ told ++ read_from (words ++ later) s (drop i es)
   pub early : (k : ℕ) (later : List (List ℤ)) → wire_read w (words ++ later) (events_before (begun + k) es)
       ≡ told ++ read_from (words ++ later) s (events_before k (drop i es))
+  pub past : (more : List Handing) × (told ≡ wire_read w words (events_before (begun - 1) es) ++ more)
   pub count_is : count ≡ length (delivered told)
   pub few : count ≤ i
   pub written : Appends old.written new.written (handings_text told)
   pub later : before.wrong ≤ now.wrong
   pub honest : StaysHonest before now → words ≡ take begun (right_words w 0 (sent_in es))
+
+-- nothing is handed before the first cycle
+none_before : (es : List Event) → AreSent 0 es → events_before 0 es ≡ []
+none_before [] sent = refl
+none_before (event.Cycle values ∷ es) sent = refl
+none_before (event.Deliver line id n alter ∷ es) sent = absurd (omega (arith, sent.0))
 
 pub so_far_none : (w : Wire) (es : List Event) (before : UnitSeen) (old : SinkSeen) → AreSent 0 es
     → SoFar w es before before old old 0 0 0 (nothing_heard w.listen w.age w.seed w.step) []
@@ -133,6 +140,7 @@ so_far_none w es before old sent = record {
   early = λ k later.
       let same : 0 + k ≡ k = omega arith in
       ap (λ (n : ℕ). wire_read w later (events_before n es)) same;
+  past = ([], sym (ap (λ (l : List Event). wire_read w [] l ++ []) (none_before es sent)));
   count_is = refl;
   few = omega arith;
   written = Appends-nil old.written;
@@ -223,6 +231,17 @@ module _ (w : Wire) (es : List Event) (before now : UnitSeen) (old new : SinkSee
             ∙ (so_far.early (suc k) (row ∷ later)
             ∙ (ap (λ (l : List Event). so_far.told ++ read_from (words ++ (row ∷ later)) s (events_before (suc k) l)) here
             ∙ ap (λ (ws : List (List ℤ)). so_far.told ++ read_from ws (ticked s) (events_before k (drop (i + 1) es))) (sym (one later)))));
+        past = (
+          [],
+          let number : begun + 0 ≡ begun + 1 - 1 = omega arith in
+              let all = words ++ row ∷ [] in
+              let read : wire_read w all (events_before (begun + 0) es) ≡ so_far.told ++ [] =
+              so_far.early 0 (row ∷ []) ∙ ap (λ (l : List Event). so_far.told ++ read_from all s (events_before 0 l)) here in
+              sym (append-nil so_far.told)
+              ∙ (sym read
+              ∙ (ap (λ (n : ℕ). wire_read w all (events_before n es)) number
+              ∙ sym (append-nil (wire_read w all (events_before (begun + 1 - 1) es))))),
+        );
         count_is = so_far.count_is;
         few = omega (arith, so_far.few);
         written = so_far.written;
@@ -313,6 +332,11 @@ module _ (w : Wire) (es : List Event) (before now : UnitSeen) (old new : SinkSee
           ∙ (ap (λ (l : List Handing). so_far.told ++ l) (step_early k later)
           ∙ sym (append_assoc so_far.told (h ∷ [])
           (read_from (so_far.words ++ later) (after_receipt s n x) (events_before k (drop (i + 1) es))))));
+      past = (
+        so_far.past.0 ++ h ∷ [],
+        ap (λ (l : List Handing). l ++ h ∷ []) so_far.past.1
+            ∙ append_assoc (wire_read w so_far.words (events_before (begun - 1) es)) so_far.past.0 (h ∷ []),
+      );
       count_is = omega (arith, counts, so_far.count_is, delivered_next so_far.told h);
       few = omega (arith, counts, so_far.few, one_at_most x);
       written = subst (Appends old.written new'.written) (sym (lines_next so_far.told h))

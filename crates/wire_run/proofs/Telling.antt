@@ -1,5 +1,5 @@
 -- Telling: the lines of what is handed, with one more and with all later ones.
-use Rattle.std.proofs.Common.{◌≡◌, ◌+◌, ◌≤◌, ℕ, List, [], ◌∷◌, ◌++◌, length, Option, refl, ap, sym, ◌∙◌}
+use Rattle.std.proofs.Common.{◌≡◌, ◌+◌, ◌≤◌, ℕ, List, [], ◌∷◌, ◌++◌, length, Option, refl, ap, sym, subst, ◌∙◌}
 use Rattle.std.proofs.Common.{append_assoc, append-nil, length-append, arith}
 use Rattle.std.specs.Io.KnownBytes.{Appends}
 use Rattle.std.proofs.KnownBytes.{Appends-trans}
@@ -44,6 +44,15 @@ one_at_most (receipt.Stray found expected) = omega arith
 one_at_most (receipt.Order last) = omega arith
 one_at_most (receipt.Age now) = omega arith
 one_at_most receipt.Value = omega arith
+
+-- the lines of the first of these, whatever is written behind all of them
+pub first_lines : (told first more : List Handing) (old mid new : Option (List ℕ)) (piece : List ℕ) → told ≡ first ++ more
+    → Appends old mid (handings_text told) → AppendsPart mid new piece → (rest : List ℕ) × Appends old new (handings_text first ++ rest)
+first_lines told first more old mid new piece is written part =
+    let text : handings_text told ++ part.0 ≡ handings_text first ++ (handings_text more ++ part.0) =
+    ap (λ (l : List Handing). handings_text l ++ part.0) is
+    ∙ (ap (λ (l : List ℕ). l ++ part.0) (lines_joined first more) ∙ append_assoc (handings_text first) (handings_text more) part.0) in
+    (handings_text more ++ part.0, subst (Appends old new) text (Appends-trans old mid new (handings_text told) part.0 written part.4))
 
 -- all of a text, and behind it a part of a piece that goes on
 pub part_behind : (old mid new : Option (List ℕ)) (text piece more : List ℕ) → Appends old mid text → AppendsPart mid new piece →

@@ -1,5 +1,5 @@
 -- Runs: what a wire's script leaves behind on any unit.
-use Rattle.std.specs.Prelude.{◌≡◌, ◌<◌, ◌≤◌, ◌+◌, ℕ, zero, suc, Bool, true, false, List, [], ◌∷◌, ◌++◌, length, Option, Some, None, IfSome, ℤ, Result, Ok, Err}
+use Rattle.std.specs.Prelude.{◌≡◌, ◌<◌, ◌≤◌, ◌+◌, ◌-◌, ℕ, zero, suc, Bool, true, false, List, [], ◌∷◌, ◌++◌, length, Option, Some, None, IfSome, ℤ, Result, Ok, Err}
 use Rattle.std.specs.Io.KnownBytes.{Appends}
 use Rattle.vcp_outside.specs.Counts.{Rose}
 use Rattle.vcp_outside.specs.Seen.{SinkSeen}
@@ -69,14 +69,21 @@ PartTold w es words None old new =
     (later : List (List ℤ)) → length words + length later ≡ length (sent_in es) → AppendsPart old new (told_text w es (words ++ later) None)
 PartTold w es words (Some c) old new = AppendsPart old new (told_text w es words (Some c))
 
+-- the lines of all that is handed before the last cycle that was begun, and maybe more
+abbrev pub EarlierTold : Wire → List Event → List (List ℤ) → Option Cut → Option (List ℕ) → Option (List ℕ) → Type 0
+EarlierTold w es words None old new = (more : List ℕ) × Appends old new (handings_text (wire_read w words (events_before (length words - 1) es)) ++ more)
+EarlierTold w es words (Some c) old new = (more : List ℕ) × Appends old new (handings_text (wire_read w words (events_before (length words) es)) ++ more)
+
 -- How a run ended whose sendings had these answers. At the end of the script, with words for all cycles, all that is read off them is written; at a
--- sending that was answered by no word, all up to it; where a write failed, a part. Where there was no memory, nothing was done.
+-- sending that was answered by no word, all up to it; where a write failed, a part, with all lines before the last cycle that was begun. Where
+-- there was no memory, nothing was done.
 abbrev pub EndsSo : Wire → List Event → List (List ℤ) → Option Cut → SinkSeen → SinkSeen → Result WireEnd WireRunFault → Type 0
 EndsSo w es words cut old new (Ok end.Complete) =
     (length words ≡ length (sent_in es)) × (cut ≡ None) × Appends old.written new.written (told_text w es words None)
 EndsSo w es words cut old new (Ok (end.Unsent cycle id)) =
     (c : Cut) × (cut ≡ Some c) × (cycle ≡ length words) × (id ≡ length c.row) × Appends old.written new.written (told_text w es words (Some c))
-EndsSo w es words cut old new (Err fault.Write) = Rose old.faults new.faults × PartTold w es words cut old.written new.written
+EndsSo w es words cut old new (Err fault.Write) =
+    Rose old.faults new.faults × PartTold w es words cut old.written new.written × EarlierTold w es words cut old.written new.written
 EndsSo w es words cut old new (Err fault.Memory) = (new ≡ old) × (words ≡ []) × (cut ≡ None)
 
 -- What comes where what is meant comes: to the end of the script, with words of which that is read; where a write failed, a part of it is written.

@@ -1,5 +1,5 @@
 use Rattle.vcp_core.proofs.Meanings.{task_once, own_status, all_found, plain_meant}
-use Rattle.vcp_core.proofs.OneText.{ImageLaws, Laws}
+use Rattle.vcp_core.proofs.OneText.{ImageLaws, Laws, ListingLaws}
 use Rattle.vcp_core.proofs.laws.one_task.Goals as goal
 
 pub returns-clause-one : goal.returns-clause-one
@@ -8,6 +8,11 @@ returns-clause-one c =
       graph = c.images_are_told_apart.ensures.one_graph;
       fault = c.images_are_told_apart.ensures.one_fault;
       none = c.images_are_told_apart.ensures.no_fault;
+    } in
+    let listings : ListingLaws = record {
+      one = c.il_answers_are_one.ensures.one;
+      either = c.il_answers_are_one.ensures.either;
+      refused = c.il_answers_are_one.ensures.refused;
     } in
     let laws : Laws = record {
       tokens = c.one_reading.ensures.tokens;
@@ -19,6 +24,7 @@ returns-clause-one c =
       typed = c.answers_are_one.ensures.typed;
       apart = c.answers_are_one.ensures.either;
       refused = c.answers_are_one.ensures.refused;
+      listings = listings;
       images = images;
       audits = c.an_audit_has_one_text.ensures.one;
     } in
@@ -37,6 +43,11 @@ returns-clause-as_plain c =
       fault = c.images_are_told_apart.ensures.one_fault;
       none = c.images_are_told_apart.ensures.no_fault;
     } in
+    let listings : ListingLaws = record {
+      one = c.il_answers_are_one.ensures.one;
+      either = c.il_answers_are_one.ensures.either;
+      refused = c.il_answers_are_one.ensures.refused;
+    } in
     let laws : Laws = record {
       tokens = c.one_reading.ensures.tokens;
       either = c.one_reading.ensures.either;
@@ -47,6 +58,7 @@ returns-clause-as_plain c =
       typed = c.answers_are_one.ensures.typed;
       apart = c.answers_are_one.ensures.either;
       refused = c.answers_are_one.ensures.refused;
+      listings = listings;
       images = images;
       audits = c.an_audit_has_one_text.ensures.one;
     } in

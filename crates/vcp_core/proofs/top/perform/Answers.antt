@@ -12,6 +12,9 @@ returns-in-Plain g c = rw c.in-Plain.is (c.plain_command.ensures (g.U.Unit.seen 
 pub returns-in-Run : goal.returns-in-Run
 returns-in-Run g c = rw c.in-Run.is c.run_command.ensures
 
+pub returns-in-Il : goal.returns-in-Il
+returns-in-Il g c = rw c.in-Il.is c.il_command.ensures
+
 pub returns-in-Compile : goal.returns-in-Compile
 returns-in-Compile g c =
     rw c.in-Compile.is (c.compile_command.ensures (g.U.Unit.seen c.args.unit.now))
@@ -33,6 +36,12 @@ returns-in-Audit g c = rw c.in-Audit.is (c.audit_command.ensures (g.U.Unit.seen 
 
 pub returns-in-Inject : goal.returns-in-Inject
 returns-in-Inject g c = rw c.in-Inject.is c.inject_command.ensures
+
+pub returns-in-Pair : goal.returns-in-Pair
+returns-in-Pair g c = rw c.in-Pair.is c.pair_command.ensures
+
+pub returns-in-Wire : goal.returns-in-Wire
+returns-in-Wire g c = rw c.in-Wire.is c.wire_command.ensures
 
 pub returns-in-Demo : goal.returns-in-Demo
 returns-in-Demo g c =

@@ -1,0 +1,78 @@
+-- PairKind: a run of two channels that are compared: what stands after a whole one, and what stands where it was cut off.
+use Rattle.std.specs.Prelude.{ℕ, ◌≡◌, List, [], Option, Some, None}
+use Rattle.vcp_outside.specs.Counts.{Rose}
+use Rattle.input_rows.specs.declared.fault.RowFault.{RowFault}
+use Rattle.input_rows.specs.RowsOf.{RowsLeft}
+use Rattle.coded_unit.specs.declared.call.Answer.{Answer as UnitAnswer}
+use Rattle.coded_unit.specs.Log.{GrowsBy}
+use Rattle.coded_unit.specs.Seen.{UnitSeen, StaysHonest}
+use Rattle.op_graph.specs.Lists.{Lists}
+use Rattle.op_graph.specs.GraphRun.{graph_run, initial}
+use Rattle.signature_table.specs.Signatures.{Numbers}
+use Rattle.machine_run.specs.Moments.{Moment}
+use Rattle.pair_channel.specs.declared.pair_end.PairEnd.{PairEnd}
+use Rattle.pair_channel.specs.declared.pair_end.PairEnd.TheVariants as pair
+use Rattle.pair_channel.specs.Beside.{AllBeside}
+use Rattle.pair_channel.specs.PairRuns.{PairOutcome, FrontOfRun, pair_outcome_for}
+use Rattle.pair_run.specs.BesideDone.{BesideLeft, beside_calls, beside_read}
+use Rattle.pair_run.specs.PairLines.{pair_text}
+use Rattle.vcp_inputs.specs.Lines.{rows_text}
+use Rattle.command_meaning.specs.Answer.{Answer}
+
+-- A run of two channels: of which graph, with which table of the first channel, on which rows of inputs with the refusal behind them, and the
+-- name by which lines tell ROWS. Of the second channel, which is on the processor itself, nothing shows by its own table.
+pub record PairJob : Type 0 where
+  pub graph : Lists
+  pub table : Numbers
+  pub rows : RowsLeft
+  pub rows_name : List ℕ
+
+-- the line of the row that is refused behind the others, to which a run comes that ends with its rows; rows are told by ROWS' name
+abbrev pub pair_behind : List ℕ → PairEnd → Option RowFault → List ℕ
+pair_behind name pair.Released None = []
+pair_behind name pair.Released (Some why) = rows_text name why
+pair_behind name (pair.Stopped op why) behind = []
+pair_behind name (pair.Parted first second) behind = []
+pair_behind name (pair.Differ output first second) behind = []
+
+-- and the status: 3 where the channels disagree
+abbrev pub pair_status : PairEnd → Option RowFault → ℕ
+pair_status pair.Released None = 0
+pair_status pair.Released (Some why) = 1
+pair_status (pair.Stopped op why) behind = 2
+pair_status (pair.Parted first second) behind = 3
+pair_status (pair.Differ output first second) behind = 3
+
+-- the answer where a run of two channels comes to this
+abbrev pub pair_answer : PairJob → PairOutcome → Answer
+pair_answer j o = record {
+  out = pair_text j.graph o j.rows.refusal;
+  err = pair_behind j.rows_name o.end j.rows.refusal;
+  status = pair_status o.end j.rows.refusal;
+}
+
+-- the outcome that is read off the first channel's answers
+abbrev pub pair_read : PairJob → List (List UnitAnswer) → PairOutcome
+pair_read j cycles = beside_read j.graph j.table j.rows.rows cycles
+
+-- the outcome that is meant: the graph's run on plain integers, with which both channels agree
+abbrev pub pair_meant : PairJob → PairOutcome
+pair_meant j = pair_outcome_for (graph_run j.graph j.rows.rows)
+
+-- A whole run: a cycle of the first channel for each row up to the first that isn't released. Where the log is told, it grew by the calls of
+-- these cycles with the answers that the unit gave, and by nothing else; where it is not, these are some answers of that form. What is answered
+-- is read off them, with the graph's run on plain integers in the second channel's place. Whatever the unit answers, the rows are the first of
+-- the graph's run, and a stop is its stop; the channels disagree only where the unit's count rose; and where no answer was wrong, the outcome
+-- is the one that is meant.
+pub record PairJobDone (j : PairJob) (before after : UnitSeen) (x : Answer) : Type 0 where
+  pub cycles : List (List UnitAnswer)
+  pub all : AllBeside j.graph j.table 0 (initial j.graph) j.rows.rows cycles
+  pub log : GrowsBy before.log after.log (beside_calls j.graph j.table j.rows.rows cycles)
+  pub read : x ≡ pair_answer j (pair_read j cycles)
+  pub front : FrontOfRun (pair_read j cycles) (graph_run j.graph j.rows.rows)
+  pub rose : x.status ≡ 3 → Rose before.wrong after.wrong
+  pub honest : StaysHonest before after → pair_read j cycles ≡ pair_meant j
+
+-- a run that was cut off between two of its cycles, where `Writes` says how much was written of what is printed of it
+abbrev pub PairJobLeft : PairJob → (Option (List ℕ) → Option (List ℕ) → List ℕ → Type 0) → Moment → Moment → Type 0
+PairJobLeft j Writes before after = BesideLeft j.graph j.table j.rows Writes before after

@@ -1,0 +1,73 @@
+-- WireKind: the script of a wire that is run: what stands after it, what stands where it was cut off, and what holds of all that is
+-- delivered.
+use Rattle.std.specs.Prelude.{ℕ, ℤ, ◌≡◌, ◌+◌, List, [], ◌++◌, length, Option, Some, None}
+use Rattle.coded_unit.specs.Log.{GrowsBy}
+use Rattle.coded_unit.specs.Seen.{UnitSeen, StaysHonest}
+use Rattle.telegram.specs.Deliveries.{AreYoung, ComeFromSender, Rising, delivered}
+use Rattle.telegram.specs.WireRead.{wire_read}
+use Rattle.telegram.specs.WireRun.{sent_in, wired}
+use Rattle.wire_script.specs.declared.script.Script.{Script}
+use Rattle.wire_script.specs.ScriptOf.{ScriptFits}
+use Rattle.wire_run.specs.Runs.{AreWords, EarlierTold, RoseBy, meant_text, told_text}
+use Rattle.wire_run.specs.Sends.{Cut, calls_of}
+use Rattle.machine_run.specs.Moments.{Moment}
+use Rattle.command_meaning.specs.Answer.{Answer, printed}
+
+-- the status: 3 where a sending was answered by no word
+abbrev pub wire_status : Option Cut → ℕ
+wire_status None = 0
+wire_status (Some c) = 3
+
+-- the answer where the sendings had these words: a line for each telegram that the receiver is handed, and the last line
+abbrev pub wire_answer : Script → List (List ℤ) → Option Cut → Answer
+wire_answer s words cut = record { out = told_text s.wire s.events words cut; err = []; status = wire_status cut }
+
+-- the answer that is meant: the lines of the wire run, and the totals
+abbrev pub wire_meant : Script → Answer
+wire_meant s = printed (meant_text s.wire s.events)
+
+-- The script was run, to its end or to a sending that was answered by no word. The told log grew by one call a sender and cycle, in order,
+-- with these words, and what is answered is read off them by the rules of the receiver. Where no answer was wrong, it is what is meant; and
+-- the count of wrong answers rose where a sending was answered by no word.
+pub record WireDone (s : Script) (before after : UnitSeen) (x : Answer) : Type 0 where
+  pub words : List (List ℤ)
+  pub cut : Option Cut
+  pub fits : ScriptFits s
+  pub are : AreWords s.wire (sent_in s.events) words cut
+  pub whole : cut ≡ None → length words ≡ length (sent_in s.events)
+  pub log : GrowsBy before.log after.log (calls_of s.wire (sent_in s.events) words cut)
+  pub read : x ≡ wire_answer s words cut
+  pub rose : RoseBy cut before after
+  pub honest : StaysHonest before after → x ≡ wire_meant s
+
+-- so much of what these words come to was written, whatever words the later cycles have
+abbrev pub WritesTold : (Option (List ℕ) → Option (List ℕ) → List ℕ → Type 0) → Script → List (List ℤ) → Option Cut → Moment → Moment → Type 0
+WritesTold Writes s words None before after =
+    (later : List (List ℤ)) → length words + length later ≡ length (sent_in s.events)
+    → Writes before.out.written after.out.written (wire_answer s (words ++ later) None).out
+WritesTold Writes s words (Some c) before after = Writes before.out.written after.out.written (wire_answer s words (Some c)).out
+
+-- Some of it was done, where `Writes` says how much was written: so much of what these words come to, by which the log grew, with the lines of
+-- all that is handed before the last cycle that was begun. Where no answer was wrong, it is so much of what is meant.
+pub record WireLeft (s : Script) (Writes : Option (List ℕ) → Option (List ℕ) → List ℕ → Type 0) (before after : Moment) : Type 0 where
+  pub words : List (List ℤ)
+  pub cut : Option Cut
+  pub fits : ScriptFits s
+  pub are : AreWords s.wire (sent_in s.events) words cut
+  pub log : GrowsBy before.unit.log after.unit.log (calls_of s.wire (sent_in s.events) words cut)
+  pub text : WritesTold Writes s words cut before after
+  pub earlier : EarlierTold s.wire s.events words cut before.out.written after.out.written
+  pub rose : RoseBy cut before.unit after.unit
+  pub honest : StaysHonest before.unit after.unit → Writes before.out.written after.out.written (wire_meant s).out
+
+-- What holds of all that a script's receiver delivers. Whatever words are answered, the delivered numbers strictly rise, and nothing is
+-- delivered before its sending nor more cycles after it than the age. And where all answers are right, what is delivered of a telegram that
+-- wasn't altered is what the heard sender sent under its number.
+pub record DeliversRightly (s : Script) : Type 0 where
+  pub rises : (words : List (List ℤ)) → Rising (delivered (wire_read s.wire words s.events))
+  pub young : (words : List (List ℤ)) → AreYoung s.wire.age (wire_read s.wire words s.events)
+  pub sent : ComeFromSender s.wire s.events (wired s.wire s.events)
+
+-- so of each script that fits
+abbrev pub WiresDeliver : Type 0
+WiresDeliver = (s : Script) → ScriptFits s → DeliversRightly s

@@ -1,0 +1,60 @@
+//! The command `il`, up to the line of its fault.
+
+ghost use Rattle.vcp_words.specs.Forms.{il, rows_of, as_code, AreFew, IsCode};
+ghost use Rattle.command_meaning.specs.Abouts.{about};
+ghost use Rattle.command_meaning.specs.Performing.{Performs};
+ghost use Rattle.machine_run.specs.Moments.{moment};
+ghost use Rattle.vcp_core.specs.Tasks.{IlTask};
+ghost use Rattle.vcp_core.specs.Reach.{told_line, told_status};
+
+use crate::ending::{Ending, run_ended};
+use crate::fault::Fault;
+use crate::loading::{input_columns, rows_name};
+use crate::running::run_program;
+use coded_unit::Unit;
+use std::alloc::Global;
+use vcp_base::Text;
+use vcp_inputs::{load_il, load_rows};
+use vcp_outside::{Files, Sink};
+use vcp_words::{Code, RowsWord};
+
+/// Does what the words `il P ROWS CODE` say, and writes to `out` alone: P is read whole and taken
+/// through its refusals, then ROWS, and then the program's operations are run on the rows, on the unit.
+pub fn il_command<'a, F: Files, U: Unit, O: Sink>(
+    alloc: Global,
+    source: &'a Text,
+    rows: RowsWord<'a>,
+    code: Code,
+    files: &mut F,
+    unit: &mut U,
+    out: &mut O,
+) -> Result<Ending, Fault<'a>>
+    requires few { AreFew (rows_of rows) }
+    requires code { IsCode (as_code code) }
+    ensures { Performs (about (il source.now (rows_of rows.entry) (as_code code))) (IlTask source.now (rows_of rows.entry) (as_code code))
+        (F.seen files.old) (F.seen files.new) (moment (U.seen unit.old) (O.seen out.old)) (moment (U.seen unit.new) (O.seen out.new))
+        (told_line result) (told_status result) }
+{
+    let program = match load_il(alloc, files, source) {
+        Ok(program) => program,
+        Err(input) => {
+            return Err(Fault::Input {
+                name: source.bytes(),
+                input,
+            });
+        }
+    };
+    let columns = input_columns(alloc, &program)?;
+    let name = rows_name(rows);
+    let inputs = match load_rows(alloc, files, rows, &columns) {
+        Ok(inputs) => inputs,
+        Err(input) => return Err(Fault::Input { name, input }),
+    };
+    match inputs.open(alloc, &columns) {
+        Ok(mut rows) => run_ended(
+            name,
+            run_program(alloc, &program, code, &mut rows, unit, out),
+        ),
+        Err(input) => Err(Fault::Input { name, input }),
+    }
+}

@@ -1,0 +1,69 @@
+//! The command `pair`, up to the line of its fault.
+
+ghost use Rattle.std.specs.Prelude.{◌<◌};
+ghost use Rattle.vcp_base.specs.Limits.{seeds};
+ghost use Rattle.vcp_words.specs.Forms.{pair, rows_of, AreFew};
+ghost use Rattle.command_meaning.specs.Abouts.{about};
+ghost use Rattle.command_meaning.specs.Performing.{Performs};
+ghost use Rattle.machine_run.specs.Moments.{moment};
+ghost use Rattle.vcp_core.specs.Tasks.{PairTask};
+ghost use Rattle.vcp_core.specs.Reach.{told_line, told_status};
+
+use crate::channels::run_channels;
+use crate::ending::{Ending, run_ended};
+use crate::fault::Fault;
+use crate::loading::{graph_columns, rows_name};
+use coded_unit::Unit;
+use std::alloc::Global;
+use vcp_base::Text;
+use vcp_inputs::{NoInput, Refusal, load_image, load_rows};
+use vcp_outside::{Files, Sink};
+use vcp_words::RowsWord;
+
+/// Does what the words `pair M ROWS SEED` say, and writes to `out` alone: M is read whole and taken
+/// through its refusals, and is refused where SEED is its own; then ROWS, and then the operations of its
+/// graph are run on the rows on two channels, of which the second has SEED.
+pub fn pair_command<'a, F: Files, U: Unit, O: Sink>(
+    alloc: Global,
+    image: &'a Text,
+    rows: RowsWord<'a>,
+    seed: u32,
+    files: &mut F,
+    unit: &mut U,
+    out: &mut O,
+) -> Result<Ending, Fault<'a>>
+    requires few { AreFew (rows_of rows) }
+    requires seed { seed < seeds }
+    ensures { Performs (about (pair image.now (rows_of rows.entry) seed)) (PairTask image.now (rows_of rows.entry) seed)
+        (F.seen files.old) (F.seen files.new) (moment (U.seen unit.old) (O.seen out.old)) (moment (U.seen unit.new) (O.seen out.new))
+        (told_line result) (told_status result) }
+{
+    let loaded = match load_image(alloc, files, image) {
+        Ok(loaded) => loaded,
+        Err(input) => {
+            return Err(Fault::Input {
+                name: image.bytes(),
+                input,
+            });
+        }
+    };
+    if loaded.table.seed() == seed {
+        return Err(Fault::Input {
+            name: image.bytes(),
+            input: NoInput::Refused(Refusal::Seed),
+        });
+    }
+    let columns = graph_columns(alloc, &loaded.graph)?;
+    let name = rows_name(rows);
+    let inputs = match load_rows(alloc, files, rows, &columns) {
+        Ok(inputs) => inputs,
+        Err(input) => return Err(Fault::Input { name, input }),
+    };
+    match inputs.open(alloc, &columns) {
+        Ok(mut rows) => run_ended(
+            name,
+            run_channels(alloc, &loaded, seed, &mut rows, unit, out),
+        ),
+        Err(input) => Err(Fault::Input { name, input }),
+    }
+}

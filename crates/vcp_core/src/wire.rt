@@ -1,0 +1,53 @@
+//! The command `wire`, up to the line of its fault.
+
+ghost use Rattle.std.specs.Prelude.{◌≡◌};
+ghost use Rattle.vcp_words.specs.Forms.{wire};
+ghost use Rattle.command_meaning.specs.Abouts.{about};
+ghost use Rattle.command_meaning.specs.Performing.{Performs};
+ghost use Rattle.machine_run.specs.Moments.{moment};
+ghost use Rattle.vcp_core.specs.Tasks.{WireTask};
+ghost use Rattle.vcp_core.specs.Reach.{told_line, told_status, wire_ending};
+
+use crate::ending::Ending;
+use crate::fault::Fault;
+use coded_unit::Unit;
+use std::alloc::Global;
+use vcp_base::Text;
+use vcp_inputs::load_wire;
+use vcp_outside::{Files, Sink};
+use wire_run::{WireEnd, run_wire};
+
+/// Does what the words `wire F` say, and writes to `out` alone: F is read whole and taken through its
+/// refusals; and then its values are sent on the unit, its telegrams taken, and the lines of these written.
+pub fn wire_command<'a, F: Files, U: Unit, O: Sink>(
+    alloc: Global,
+    script: &'a Text,
+    files: &mut F,
+    unit: &mut U,
+    out: &mut O,
+) -> Result<Ending, Fault<'a>>
+    ensures { Performs (about (wire script.now)) (WireTask script.now) (F.seen files.old) (F.seen files.new)
+        (moment (U.seen unit.old) (O.seen out.old)) (moment (U.seen unit.new) (O.seen out.new)) (told_line result) (told_status result) }
+{
+    let loaded = match load_wire(alloc, files, script) {
+        Ok(loaded) => loaded,
+        Err(input) => {
+            return Err(Fault::Input {
+                name: script.bytes(),
+                input,
+            });
+        }
+    };
+    let end = run_wire(alloc, out, &loaded, unit)?;
+    Ok(ending_of(end))
+}
+
+/// How the command came to its end.
+fn ending_of(end: WireEnd) -> Ending
+    ensures { result ≡ wire_ending end }
+{
+    match end {
+        WireEnd::Complete => Ending::Done,
+        WireEnd::Unsent { .. } => Ending::Refused,
+    }
+}

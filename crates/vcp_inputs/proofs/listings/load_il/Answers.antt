@@ -1,0 +1,21 @@
+use Rattle.std.proofs.lemmas.Result.{err_from_is_err_and}
+use Rattle.il_front.specs.Answers.{most_il_bytes}
+use Rattle.il_front.specs.Outcomes.{IsTypedIl}
+use Rattle.vcp_inputs.specs.Listings.{NotListing}
+use Rattle.vcp_inputs.proofs.Taken.{if_some_weaker, not_read, by_result}
+use Rattle.vcp_inputs.proofs.listings.load_il.Goals as goal
+
+pub returns-in_err-text-clause-loads : goal.returns-in_err-text-clause-loads
+returns-in_err-text-clause-loads g c =
+    let p = err_from_is_err_and c.from_residual.result c.from_residual.ensures.1 in
+    if_some_weaker (g.F.Files.seen c.args.files.now).held _ _
+    (λ h read. rw (p.1, p.2)
+    (not_read NotListing h c.args.name.now most_il_bytes (g.F.Files.seen c.args.files.now).broken
+    (g.F.Files.seen c.read_file.new.files).broken _ read)) c.in_err-text.ensures.reads
+
+pub returns-clause-loads : goal.returns-clause-loads
+returns-clause-loads g c =
+    if_some_weaker (g.F.Files.seen c.args.files.now).held _ _
+    (λ h read. by_result IsTypedIl NotListing h c.args.name.now most_il_bytes (g.F.Files.seen c.args.files.now).broken
+    (g.F.Files.seen c.read_file.new.files).broken c.in_ok-text.text c.listed_program.result
+    read (rw c.bytes.ensures at c.listed_program.ensures.ok) (rw c.bytes.ensures at c.listed_program.ensures.err)) c.in_ok-text.ensures.reads

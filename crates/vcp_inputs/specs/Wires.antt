@@ -1,0 +1,16 @@
+-- Wires: the script of a wire that a text is, and why a text is none.
+use Rattle.std.specs.Prelude.{ℕ, ◌≡◌, ◌≢◌, List, Ok, Err}
+use Rattle.wire_script.specs.declared.script.Script.{Script}
+use Rattle.wire_script.specs.declared.wire_fault.WireFault.{WireFault}
+use Rattle.wire_script.specs.declared.wire_fault.WireFault.TheVariants as wire
+use Rattle.wire_script.specs.ScriptOf.{script_of}
+use Rattle.vcp_inputs.specs.declared.refusal.Refusal.{Refusal}
+use Rattle.vcp_inputs.specs.declared.refusal.Refusal.TheVariants as refusal
+
+-- the text is this script of a wire
+abbrev pub WireOf : List ℕ → Script → Type 0
+WireOf text script = script_of text ≡ Ok script
+
+-- the text is no script of a wire: this is its first refused line, and why
+pub data NotWire (text : List ℕ) : Refusal → Type 0 where
+  no_wire : (f : WireFault) → f ≢ wire.Memory → script_of text ≡ Err f → NotWire text (refusal.Wire f)

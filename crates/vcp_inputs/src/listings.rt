@@ -1,0 +1,47 @@
+//! Instruction lists: the typed program of a file.
+
+ghost use Rattle.std.specs.Prelude.{◌≡◌, ◌≢◌, ◌≤◌, IfErr, IfOk, IfSome, OnOk, Err, length};
+ghost use Rattle.std.specs.Io.KnownBytes.{IsAtEnd};
+ghost use Rattle.vcp_outside.specs.Counts.{Rose};
+ghost use Rattle.il_front.specs.Answers.{most_il_bytes};
+ghost use Rattle.il_front.specs.Outcomes.{IsTypedIl};
+ghost use Rattle.vcp_inputs.specs.Files.{Untaken, Loads};
+ghost use Rattle.vcp_inputs.specs.Listings.{NotListing};
+ghost use Rattle.vcp_inputs.specs.declared.refusal.NoInput.TheVariants as input;
+ghost use Rattle.vcp_inputs.specs.declared.refusal.Refusal.{Refusal as RefusalOf};
+ghost use Rattle.vcp_inputs.specs.declared.refusal.Refusal.TheVariants as refusal;
+
+use crate::reading::read_file;
+use crate::refusal::NoInput;
+use il_front::{MOST_IL_BYTES, read_il};
+use std::alloc::Global;
+use vcp_base::Text;
+use vcp_outside::Files;
+use vcp_typed::Typed;
+
+/// The typed program of a text of instructions, taken through all its refusals.
+fn listed_program(alloc: Global, text: &[u8]) -> Result<Typed, NoInput>
+    requires short { length text.now ≤ most_il_bytes }
+    ensures ok { IfOk result (IsTypedIl text.now) }
+    ensures err { IfErr result (Untaken (NotListing text.now)) }
+{
+    Ok(read_il(alloc, text)?)
+}
+
+/// The typed program of the instruction list under a name, which is read whole and taken through all its refusals. Its text and tokens
+/// are not kept.
+pub fn load_il<F: Files>(alloc: Global, files: &mut F, name: &Text) -> Result<Typed, NoInput>
+    // What is answered: the typed program of the file's instruction list, or why there is none.
+    ensures loads { IfSome (F.seen files.old).held (λ h. Loads IsTypedIl NotListing h name.now most_il_bytes (F.seen files.old).broken (F.seen files.new).broken result) }
+    ensures unread { result ≡ Err input.Unread → Rose (F.seen files.old).faults (F.seen files.new).faults }
+    // What was taken of the file: all, unless it has too many bytes.
+    ensures ended { OnOk result (IsAtEnd (F.seen files.new).rest) }
+    ensures whole { (r : RefusalOf) → result ≡ Err (input.Refused r) → r ≢ refusal.Bytes → IsAtEnd (F.seen files.new).rest }
+    // What stays.
+    ensures held { (F.seen files.new).held ≡ (F.seen files.old).held }
+    ensures later { (F.seen files.old).faults ≤ (F.seen files.new).faults }
+    ensures broken_later { (F.seen files.old).broken ≤ (F.seen files.new).broken }
+{
+    let text = read_file(alloc, files, name, MOST_IL_BYTES)?;
+    listed_program(alloc, text.bytes())
+}

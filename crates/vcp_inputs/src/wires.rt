@@ -1,0 +1,49 @@
+//! Scripts of a wire.
+
+ghost use Rattle.std.specs.Prelude.{◌≡◌, ◌≢◌, ◌≤◌, IfErr, IfOk, IfSome, OnOk, Err, length};
+ghost use Rattle.std.specs.Io.KnownBytes.{IsAtEnd};
+ghost use Rattle.vcp_base.specs.Limits.{most_source_bytes};
+ghost use Rattle.vcp_outside.specs.Counts.{Rose};
+ghost use Rattle.wire_script.specs.ScriptOf.{ScriptFits};
+ghost use Rattle.vcp_inputs.specs.Files.{Untaken, Loads};
+ghost use Rattle.vcp_inputs.specs.Wires.{WireOf, NotWire};
+ghost use Rattle.vcp_inputs.specs.declared.refusal.NoInput.TheVariants as input;
+ghost use Rattle.vcp_inputs.specs.declared.refusal.Refusal.{Refusal as RefusalOf};
+ghost use Rattle.vcp_inputs.specs.declared.refusal.Refusal.TheVariants as refusal;
+
+use crate::reading::read_file;
+use crate::refusal::NoInput;
+use std::alloc::Global;
+use vcp_base::{MOST_SOURCE_BYTES, Text};
+use vcp_outside::Files;
+use wire_script::{Script, read_wire};
+
+/// The script of a wire that a text is.
+fn wire_of(alloc: Global, text: &[u8]) -> Result<Script, NoInput>
+    requires short { length text.now ≤ most_source_bytes }
+    ensures ok { IfOk result (WireOf text.now) }
+    ensures err { IfErr result (Untaken (NotWire text.now)) }
+    ensures fits { IfOk result ScriptFits }
+{
+    Ok(read_wire(alloc, text)?)
+}
+
+/// The script of a wire under a name: the file is read whole, and has at most 1,048,576 bytes.
+pub fn load_wire<F: Files>(alloc: Global, files: &mut F, name: &Text) -> Result<Script, NoInput>
+    // What is answered: the script that the file is, or why there is none.
+    ensures loads { IfSome (F.seen files.old).held (λ h. Loads WireOf NotWire h name.now most_source_bytes
+        (F.seen files.old).broken (F.seen files.new).broken result) }
+    // Its numbers are in their ranges, and what it delivers was sent, whatever the files tell.
+    ensures fits { IfOk result ScriptFits }
+    ensures unread { result ≡ Err input.Unread → Rose (F.seen files.old).faults (F.seen files.new).faults }
+    // What was taken of the file: all, unless it has too many bytes.
+    ensures ended { OnOk result (IsAtEnd (F.seen files.new).rest) }
+    ensures whole { (r : RefusalOf) → result ≡ Err (input.Refused r) → r ≢ refusal.Bytes → IsAtEnd (F.seen files.new).rest }
+    // What stays.
+    ensures held { (F.seen files.new).held ≡ (F.seen files.old).held }
+    ensures later { (F.seen files.old).faults ≤ (F.seen files.new).faults }
+    ensures broken_later { (F.seen files.old).broken ≤ (F.seen files.new).broken }
+{
+    let text = read_file(alloc, files, name, MOST_SOURCE_BYTES)?;
+    wire_of(alloc, text.bytes())
+}
