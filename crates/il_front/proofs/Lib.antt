@@ -15,4 +15,5 @@ pub mod Listing
 pub mod PlaceLaws
 pub mod HeadLaws
 pub mod OneAnswer
+pub mod SomeAnswer
 pub mod Built

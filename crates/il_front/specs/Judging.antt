@@ -164,7 +164,7 @@ meant slots nothing = Some (meant_number (pos 0) ty.Bool)
 meant slots (name n) = option_map meant_variable (variable_from 0 slots n)
 meant slots (number t v) = option_map (meant_number v) (literal_type t v)
 
--- the slot of a variable, and its type
+-- the slot of a variable; 0 of a number, which nothing sets
 abbrev pub slot_in : Operand → ℕ
 slot_in (operand.Variable slot t) = slot
 slot_in (operand.Number t v) = 0
@@ -187,7 +187,7 @@ sets (operator.Combine op negated) = false
 
 -- ---- types
 
--- this type, where the one that is asked of is BOOL if it must be
+-- the type u, or none where t must be BOOL and is another
 abbrev pub if_bool : Bool → Ty → Option Ty → Option Ty
 if_bool negated t u = cond negated (cond (is_bool t) u None) u
 
@@ -199,7 +199,7 @@ type_behind t (action.Put to slot u) = if_bool true t (if_bool true u (Some t))
 type_behind t action.Complement = if_bool true t (Some t)
 type_behind t (action.Combine op negated o) = if_bool negated (operand_type o) (option_map (result op) (common op t (operand_type o)))
 
--- the type of the result behind the first action, which must load one, and behind every further one
+-- the action loads a result: the first instruction must
 abbrev pub loads : Action → Bool
 loads (action.Load negated o) = true
 loads (action.Store negated slot t) = false

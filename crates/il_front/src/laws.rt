@@ -1,6 +1,6 @@
 //! Laws of instruction lists.
 
-ghost use Rattle.std.specs.Prelude.{◌≡◌, ◌≢◌, ℕ, List};
+ghost use Rattle.std.specs.Prelude.{◌≡◌, ◌≢◌, ◌⊎◌, ℕ, List};
 ghost use Rattle.il_front.specs.Accumulator.{Il};
 ghost use Rattle.il_front.specs.declared.fault.IlFault.{IlFault};
 ghost use Rattle.il_front.specs.declared.fault.IlFault.TheVariants as fault;
@@ -17,9 +17,10 @@ pub fn accumulator_runs()
     ensures { AccumulatorRuns }
 {}
 
-/// A text is one instruction list at most, and never one and refused; want of memory apart, it is refused in one way. It does
-/// nothing: it states laws.
+/// A text is one instruction list or is refused in one way, want of memory apart, and never both. It does nothing: it states
+/// laws.
 pub fn il_answers_are_one()
+    ensures some { (text : List ℕ) → ((i : Il) × IsIl text i) ⊎ ((f : IlFault) × (f ≢ fault.Memory) × NotIl text f) }
     ensures one { (text : List ℕ) (i j : Il) → IsIl text i → IsIl text j → i ≡ j }
     ensures either { (text : List ℕ) (i : Il) (f : IlFault) → IsIl text i → NotIl text f → f ≡ fault.Memory }
     ensures refused { (text : List ℕ) (f g : IlFault) → f ≢ fault.Memory → g ≢ fault.Memory → NotIl text f → NotIl text g → f ≡ g }

@@ -3,7 +3,7 @@
 use il_front::read_il;
 use std::alloc::Global;
 use std::test::Fail;
-use worked_texts::{cells, joined, same, spelled};
+use worked_texts::{cells, joined, put_number, put_repeated, same, spelled};
 
 /// The most bytes of a text of instructions.
 const MOST_BYTES: usize = 1_048_564;
@@ -32,6 +32,19 @@ ST x\nEND_PROGRAM\n => Target { spot: Spot { line: 4, col: 4 } }
 ADD x\nEND_PROGRAM\n => Empty { spot: Spot { line: 4, col: 1 } }
 LD x\nAND b\nFOO\nEND_PROGRAM\n => Mismatch { spot: Spot { line: 5, col: 1 } }
 LD x\nST q\nEND_PROGRAM\n => Mismatch { spot: Spot { line: 5, col: 1 } }
+LD b\n& b\nST q\nEND_PROGRAM\n => 6 19
+LD (* c *) x\nEND_PROGRAM\n => 6 14
+LD n\nST y\nEND_PROGRAM\n => 6 15
+LD n\nEQ x\nST q\nEND_PROGRAM\n => 7 21
+LD 3000000000\nGT n\nST q\nEND_PROGRAM\n => 7 22
+&N b\nEND_PROGRAM\n => Instruction { spot: Spot { line: 4, col: 1 } }
+LD (* \n *) x\nEND_PROGRAM\n => Instruction { spot: Spot { line: 4, col: 1 } }
+END_PROGRAM LD x\n => Instruction { spot: Spot { line: 4, col: 1 } }
+END_PROGRAM\nEND_PROGRAM\n => Instruction { spot: Spot { line: 4, col: 1 } }
+LD BOOL#2\nEND_PROGRAM\n => Operand { spot: Spot { line: 4, col: 4 } }
+LD b\nS INT#40000\nEND_PROGRAM\n => Operand { spot: Spot { line: 5, col: 3 } }
+ADD TRUE\nEND_PROGRAM\n => Empty { spot: Spot { line: 4, col: 1 } }
+LD x\nEND_VAR\nEND_PROGRAM\n => Syntax(Syntax { spot: Spot { line: 4, col: 4 } })
 ";
 
 /// Whole texts, and what is answered.
@@ -40,6 +53,11 @@ PROGRAM => Syntax(Syntax { spot: Spot { line: 1, col: 9 } })
 LD x\nEND_PROGRAM\n => Syntax(Syntax { spot: Spot { line: 1, col: 1 } })
 PROGRAM p\nVAR x, x : DINT; END_VAR\nLD z\nEND_PROGRAM\n => Types(Duplicate { spot: Spot { line: 2, col: 8 } })
 PROGRAM p\nVAR a, _ACC_int : INT; END_VAR\nFOO\nEND_PROGRAM\n => Reserved { spot: Spot { line: 2, col: 8 } }
+PROGRAM p\nVAR CONSTANT _acc_bool : BOOL := TRUE; END_VAR\nEND_PROGRAM\n => Reserved { spot: Spot { line: 2, col: 14 } }
+PROGRAM _acc_int\nEND_PROGRAM\n => 0 2
+PROGRAM p\nLD 5\nEND_PROGRAM => 1 6
+PROGRAM p LD 5\nEND_PROGRAM => 1 6
+PROGRAM p\nVAR_INPUT n : INT; END_VAR\nVAR_OUTPUT l : LINT; END_VAR\nLD n\nADD 3000000000\nST l\nEND_PROGRAM\n => 4 17
 ";
 
 /// What is answered of the text of these two parts.
@@ -52,6 +70,26 @@ fn answered(alloc: Global, head: &[u8], behind: &[u8]) -> Result<String, Fail> {
         Ok(program) => Ok(format!(in alloc; "{} {}", program.slots().len(), program.size())?),
         Err(why) => Ok(format!(in alloc; "{why:?}")?),
     }
+}
+
+/// A head that declares these variables and so many of DINT, each in a line.
+fn declaring(alloc: Global, first: &[u8], more: u32) -> Result<Vec<u8>, Fail> {
+    let mut text = joined(alloc, &[b"PROGRAM p\nVAR\n", first])?;
+    for i in 0..more {
+        text.extend_from_slice(b"v")?;
+        put_number(alloc, &mut text, i as i64)?;
+        text.extend_from_slice(b" : DINT;\n")?;
+    }
+    text.extend_from_slice(b"END_VAR\n")?;
+    Ok(text)
+}
+
+/// So many instructions behind the first head, and END_PROGRAM.
+fn storing(alloc: Global, times: u32) -> Result<Vec<u8>, Fail> {
+    let mut text = joined(alloc, &[b"LD x\n"])?;
+    put_repeated(&mut text, b"ST y\n", times)?;
+    text.extend_from_slice(b"END_PROGRAM\n")?;
+    Ok(text)
 }
 
 /// Fails with the first other answer to a text that is spelled behind this head.
@@ -72,4 +110,30 @@ fn instructions_have_their_answers(rt: HostRuntime) -> Result<(), Fail> {
 #[test]
 fn heads_have_their_answers(rt: HostRuntime) -> Result<(), Fail> {
     all_answered(rt.alloc(), b"", TEXTS)
+}
+
+#[test]
+fn variables_of_the_accumulator_are_counted(rt: HostRuntime) -> Result<(), Fail> {
+    let alloc = rt.alloc();
+    let most = declaring(alloc, b"", 1024)?;
+    same(&answered(alloc, &most, b"END_PROGRAM\n")?, "1024 2050")?;
+    same(
+        &answered(alloc, &most, b"LD v0\nEND_PROGRAM\n")?,
+        "Types(Names { spot: Spot { line: 1, col: 1 } })",
+    )?;
+    let past = declaring(alloc, b"_acc_int : INT;\n", 1024)?;
+    same(
+        &answered(alloc, &past, b"END_PROGRAM\n")?,
+        "Types(Names { spot: Spot { line: 1027, col: 1 } })",
+    )
+}
+
+#[test]
+fn sizes_are_limited(rt: HostRuntime) -> Result<(), Fail> {
+    let alloc = rt.alloc();
+    same(&answered(alloc, HEAD, &storing(alloc, 65522)?)?, "6 65536")?;
+    same(
+        &answered(alloc, HEAD, &storing(alloc, 65523)?)?,
+        "Types(Size)",
+    )
 }

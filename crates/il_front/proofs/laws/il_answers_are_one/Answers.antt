@@ -1,4 +1,5 @@
 use Rattle.il_front.proofs.OneAnswer.{Laws, one, either, refused}
+use Rattle.il_front.proofs.SomeAnswer.{Totals, answered}
 use Rattle.il_front.proofs.laws.il_answers_are_one.Goals as goal
 
 pub returns : goal.returns
@@ -15,4 +16,5 @@ returns c =
       apart = c.answers_are_one.ensures.either;
       refused = c.answers_are_one.ensures.refused;
     } in
-    record { one = one laws; either = either laws; refused = refused laws }
+    let totals : Totals = record { lexed = c.one_reading.ensures.total; parsed = c.one_answer.ensures.some; typed = c.answers_are_one.ensures.some } in
+    record { some = answered totals; one = one laws; either = either laws; refused = refused laws }
