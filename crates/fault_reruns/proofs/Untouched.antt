@@ -26,11 +26,11 @@ use Rattle.fault_injector.specs.declared.verdict.Verdict.{Verdict}
 use Rattle.fault_injector.specs.declared.verdict.Verdict.TheVariants as verdict
 use Rattle.fault_injector.specs.Judging.{row_wrong}
 use Rattle.fault_injector.specs.Verdicts.{WrongAt, judged, same_kind}
-use Rattle.fault_injector.proofs.RowsBeside.{same_self}
 use Rattle.fault_reruns.specs.Laws.{NoneRefused, Rests, Untouched}
 use Rattle.fault_reruns.specs.Reruns.{Again, CycleAgain, Part, after_answer, again, and_later, cycle_again, done, go_on, read_cycle, refusal_in, runs_again}
 use Rattle.fault_reruns.specs.Reruns.{source_of, source_touched, stop_in, unless_judged}
 use Rattle.fault_reruns.specs.Touched.{Marks, cycle_marks, given_marks, held_marks, mark, operand_touched, past_touched_stop, reads_touched_as, touched_at}
+use Rattle.fault_reruns.proofs.RowsBeside.{same_self}
 
 -- ---- marks
 

@@ -24,10 +24,10 @@ use Rattle.fault_runs.specs.RunLaw.{CycleKept, GroupStands, RightRun, RightsUnde
 use Rattle.fault_injector.specs.declared.verdict.Verdict.{Verdict}
 use Rattle.fault_injector.specs.Judging.{row_wrong}
 use Rattle.fault_injector.specs.Verdicts.{WrongAt, compared, first_wrong, judged, judged_cycle, plain_cycles, verdict_of, verdict_or}
-use Rattle.fault_injector.proofs.RowsBeside.{rows_as_outputs}
 use Rattle.fault_reruns.specs.Reruns.{Again, IsReference, Part, again, cycle_again, read_cycle, refusal_in, rerun, runs_again, stop_in, unless_judged}
 use Rattle.fault_reruns.specs.Touched.{held_marks}
 use Rattle.fault_reruns.proofs.CycleRight.{CellsFollow, CycleRight, rights_of, whole_of}
+use Rattle.fault_reruns.proofs.RowsBeside.{rows_as_outputs}
 use Rattle.fault_reruns.proofs.RunRight.{Other, one_cycle, other_later, released_words, right_back, right_front, stored_follow}
 
 -- what the laws below promise

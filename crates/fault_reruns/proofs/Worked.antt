@@ -1,8 +1,9 @@
 -- Worked: reruns of groups of faults on small programs, with answers that are worked by hand.
-use Rattle.std.specs.Prelude.{◌≡◌, refl, ℕ, false, List, [], ◌∷◌, map, ℤ, pos, negsuc}
+use Rattle.std.specs.Prelude.{◌≡◌, refl, ℕ, true, false, List, [], ◌∷◌, map, ℤ, pos, negsuc}
 use Rattle.vcp_base.specs.declared.code.Profile.TheVariants as profile
 use Rattle.vcp_base.specs.declared.kind.Kind.{Kind}
 use Rattle.vcp_base.specs.declared.kind.Kind.TheVariants as kind
+use Rattle.vcp_base.specs.declared.kind.StopKind.TheVariants as stop
 use Rattle.vcp_base.specs.declared.ty.Ty.TheVariants as ty
 use Rattle.coded_unit.specs.declared.call.Answer.{Answer}
 use Rattle.coded_unit.specs.declared.call.Answer.TheVariants as answer
@@ -176,3 +177,81 @@ behind_verdict = refl
 behind_enough : behind.short ≡ false
 unfolding signature modulo value_part coded
 behind_enough = refl
+
+-- ---- operand numbers that an operation doesn't use touch nothing: a CONST names operation 0 there
+
+abbrev unused : Again
+unused = rerun_of narrow (at 0 0 (act.ResultAdd (pos 1)) ∷ []) on_five (word (pos 5) 1 ∷ word (pos 6) 429496732 ∷ word (pos 6) 644245097 ∷ [])
+
+unused_calls : places unused.calls ≡ (0 ∷ 0 ∷ []) ∷ (0 ∷ 2 ∷ []) ∷ (0 ∷ 3 ∷ []) ∷ []
+unfolding signature modulo value_part coded
+unused_calls = refl
+
+unused_verdict : unused.verdict ≡ verdict.Refused 0 0 644245097 644245096
+unfolding signature modulo value_part coded
+unused_verdict = refl
+
+-- ---- an operand of the cycle before at a LOAD: in cycle 1 it is the cell's initial word
+
+abbrev stale : Again
+stale = rerun_of counts (at 1 0 (act.OperandStale 0) ∷ []) five_cycles
+    (word (pos 0) 1 ∷ word (pos 1) 429496731 ∷ word (pos 1) 644245096 ∷ word (pos 1) 858993461 ∷ [])
+
+stale_calls : places stale.calls ≡ (1 ∷ 0 ∷ []) ∷ (1 ∷ 2 ∷ []) ∷ (1 ∷ 3 ∷ []) ∷ (1 ∷ 4 ∷ []) ∷ []
+unfolding signature modulo value_part coded
+stale_calls = refl
+
+stale_verdict : stale.verdict ≡ verdict.Refused 1 0 644245096 644245097
+unfolding signature modulo value_part coded
+stale_verdict = refl
+
+-- ---- a skip takes the rerun's own word of the cycle before, which was skipped too
+
+abbrev skipped_twice : Again
+skipped_twice = rerun_of narrow (at 1 2 act.Skip ∷ at 1 3 (act.ResultAdd (pos 1)) ∷ at 2 2 act.Skip ∷ [])
+    ((pos 5 ∷ []) ∷ (pos 5 ∷ []) ∷ (pos 5 ∷ []) ∷ []) (word (pos 6) 644245096 ∷ word (pos 6) 644245096 ∷ [])
+
+skipped_twice_calls : places skipped_twice.calls ≡ (1 ∷ 3 ∷ []) ∷ (2 ∷ 3 ∷ []) ∷ []
+unfolding signature modulo value_part coded
+skipped_twice_calls = refl
+
+skipped_twice_verdict : skipped_twice.verdict ≡ verdict.Refused 2 0 644245096 644245098
+unfolding signature modulo value_part coded
+skipped_twice_verdict = refl
+
+-- ---- types of all outputs are looked at before the residue of any
+
+abbrev outside : Again
+outside = rerun_of divides (at 0 4 (act.ResultAdd (pos 1)) ∷ at 0 5 (act.ResultAdd (pos 4611686016279904256)) ∷ []) pairs
+    (word (pos 3) 858993461 ∷ word (pos 9) 2 ∷ [])
+
+outside_calls : places outside.calls ≡ (0 ∷ 4 ∷ []) ∷ (0 ∷ 5 ∷ []) ∷ []
+unfolding signature modulo value_part coded
+outside_calls = refl
+
+outside_verdict : outside.verdict ≡ verdict.Stopped 0 5 stop.Operand
+unfolding signature modulo value_part coded
+outside_verdict = refl
+
+-- ---- a touched stop that comes again
+
+abbrev stops_again : Again
+stops_again = rerun_of divides (at 0 0 (act.ResultAdd (pos 2147483647)) ∷ []) ((pos 9 ∷ pos 0 ∷ []) ∷ []) (word (pos 9) 1 ∷ answer.DivZero ∷ [])
+
+stops_again_calls : places stops_again.calls ≡ (0 ∷ 0 ∷ []) ∷ (0 ∷ 2 ∷ []) ∷ []
+unfolding signature modulo value_part coded
+stops_again_calls = refl
+
+stops_again_verdict : stops_again.verdict ≡ verdict.Same
+unfolding signature modulo value_part coded
+stops_again_verdict = refl
+
+-- ---- no rows, and too few answers
+
+no_rows : (rerun_of narrow (at 0 2 (act.OperandAdd 0 (pos 1)) ∷ []) [] []).verdict ≡ verdict.Same
+unfolding signature modulo value_part coded
+no_rows = refl
+
+too_few : (rerun_of counts (at 2 4 act.Skip ∷ []) five_cycles (word (pos 2) 3 ∷ word (pos 3) 429496733 ∷ word (pos 3) 644245098 ∷ [])).short ≡ true
+unfolding signature modulo value_part coded
+too_few = refl

@@ -1,8 +1,10 @@
 -- Laws: what holds of touched operations and of reruns.
-use Rattle.std.specs.Prelude.{◌≡◌, ◌≤◌, ℕ, suc, Bool, true, false, ℤ, List, [], ◌∷◌, length, slice_get, slice_index_or, Option, Some, None}
+use Rattle.std.specs.Prelude.{◌≡◌, ◌<◌, ◌≤◌, ℕ, suc, Bool, true, false, cond, ◌&&◌, not, ℤ, List, [], ◌∷◌, ◌++◌, length, map, slice_get}
+use Rattle.std.specs.Prelude.{slice_index_or, Option, Some, None}
 use Rattle.vcp_base.specs.Limits.{most_cycles}
 use Rattle.vcp_base.specs.Types.{fits}
 use Rattle.coded_unit.specs.declared.call.Answer.{Answer}
+use Rattle.coded_unit.specs.Seen.{UnitSeen}
 use Rattle.coded_unit.specs.Words.{modulo, value_part}
 use Rattle.op_graph.specs.declared.op.Op.{Op}
 use Rattle.op_graph.specs.declared.op.Outlet.{Outlet}
@@ -10,6 +12,7 @@ use Rattle.op_graph.specs.GraphRun.{Cycle, initial}
 use Rattle.op_graph.specs.Lists.{Lists}
 use Rattle.op_graph.specs.Rules.{IsGraph}
 use Rattle.signature_table.specs.Signatures.{Numbers, IsTable, expected}
+use Rattle.coded_machine.specs.declared.cycle_end.CycleEnd.{CycleEnd}
 use Rattle.coded_machine.specs.declared.cycle_end.CycleEnd.TheVariants as end
 use Rattle.coded_machine.specs.Calls.{AllRight, AllWords, Whole, word_at}
 use Rattle.coded_machine.specs.CycleEnds.{end_of, initial_words}
@@ -19,9 +22,13 @@ use Rattle.fault_script.specs.declared.act.Fault.{Fault}
 use Rattle.fault_script.specs.Changes.{Acts, acts_of}
 use Rattle.fault_script.specs.Groups.{GroupFits}
 use Rattle.fault_runs.specs.RunLaw.{RightRun, Words, no_words}
+use Rattle.fault_runs.specs.Scripts.{skips_by}
+use Rattle.fault_injector.specs.declared.verdict.Verdict.{Verdict}
 use Rattle.fault_injector.specs.declared.verdict.Verdict.TheVariants as verdict
 use Rattle.fault_injector.specs.Verdicts.{plain_cycles, verdict_of}
-use Rattle.fault_reruns.specs.Reruns.{Again, CycleAgain, IsReference, again, cycle_again, done, refusal_in, rerun, runs_again}
+use Rattle.fault_reruns.specs.Groups.{GroupsJudged}
+use Rattle.fault_reruns.specs.References.{RanOver}
+use Rattle.fault_reruns.specs.Reruns.{Again, CycleAgain, IsReference, Reran, again, cycle_again, done, refusal_in, rerun, runs_again}
 use Rattle.fault_reruns.specs.Touched.{cycle_marks, held_marks, mark, marks_at, touched, touched_at}
 
 -- what is touched in cycles that the run without the faults came to
@@ -40,11 +47,16 @@ abbrev pub answers_of : Numbers → Lists → ℕ → List Cycle → List (List 
 answers_of t g n [] = []
 answers_of t g n (c ∷ cycles) = answers_for g.profile t.seed t.step n c ∷ answers_of t g (suc n) cycles
 
--- the right answers of the run without faults are those that stand for the graph's run
+-- each of the cycles from n on is whole, and none is refused
+abbrev pub NoneRefused : Lists → Numbers → ℕ → List (List Answer) → Type 0
+NoneRefused g t n [] = Unit {0}
+NoneRefused g t n (answers ∷ cycles) = Whole g.operations answers × (refusal_in (end_of g t n answers) ≡ None) × NoneRefused g t (suc n) cycles
+
+-- the right answers of the run without faults are those that stand for the graph's run, and none of its cycles is refused
 abbrev pub ReferencesStand : Type 0
 ReferencesStand =
     (t : Numbers) (g : Lists) (rows : List (List ℤ)) (others : List (List Answer)) → IsGraph g → IsTable t → length rows ≤ most_cycles →
-    IsReference t g rows others → others ≡ answers_of t g 0 (plain_cycles g (initial g) rows)
+    IsReference t g rows others → (others ≡ answers_of t g 0 (plain_cycles g (initial g) rows)) × NoneRefused g t 0 others
 
 -- ---- where nothing is touched
 
@@ -52,11 +64,6 @@ ReferencesStand =
 pub record Untouched (acts : ℕ → Option Act) (dirty : List Bool) : Type 0 where
   pub cells : (i : ℕ) → mark dirty i ≡ false
   pub no_fault : (k : ℕ) → acts k ≡ None
-
--- each of the cycles from n on is whole, and none is refused
-abbrev pub NoneRefused : Lists → Numbers → ℕ → List (List Answer) → Type 0
-NoneRefused g t n [] = Unit {0}
-NoneRefused g t n (answers ∷ cycles) = Whole g.operations answers × (refusal_in (end_of g t n answers) ≡ None) × NoneRefused g t (suc n) cycles
 
 -- a rerun makes no call from here on, and nothing differs
 pub record Rests (a : Again) (left : List Answer) : Type 0 where
@@ -111,3 +118,41 @@ VerdictsAreRead =
     t.profile ≡ g.profile → GroupFits g faults → length rows ≤ most_cycles → IsReference t g rows others →
     (rerun t g faults rows others given).short ≡ false → AllRight (rerun t g faults rows others given).calls →
     (rerun t g faults rows others given).verdict ≡ verdict_of t g faults rows
+
+-- ---- where the unit is asked
+
+-- of the operations of cycle n that these answers are of, from operation k on, those for which a test holds: each by its cycle and its number
+abbrev pub places_where : (ℕ → Bool) → ℕ → ℕ → List Answer → List (ℕ × ℕ)
+places_where test n k [] = []
+places_where test n k (a ∷ answers) = cond (test k) ((n, k) ∷ []) [] ++ places_where test n (suc k) answers
+
+-- a rerun that comes to operation k of cycle n asks there: it is touched, and no skip
+abbrev pub asks_at : Lists → Acts → List (List Answer) → ℕ → ℕ → Bool
+asks_at g acts others n k = touched g acts others n k && not (skips_by (acts n k))
+
+-- where a rerun with these answers asks, from cycle n on
+abbrev pub asked_over : Lists → Acts → List (List Answer) → ℕ → List (List Answer) → List (ℕ × ℕ)
+asked_over g acts others n [] = []
+asked_over g acts others n (own ∷ owns) = places_where (asks_at g acts others n) n 0 own ++ asked_over g acts others (suc n) owns
+
+-- A rerun asks at the touched operations that it comes to, in order, at no skip and nowhere else, and every other operation has the answer of the run
+-- without the faults: for every list of answers, also one of too few or of wrong ones.
+pub record AsksAtTouched : Type 0 where
+  pub calls : (t : Numbers) (g : Lists) (faults : List Fault) (rows : List (List ℤ)) (others : List (List Answer)) (given : List Answer) →
+      map (λ e. (e.0.cycle, e.0.op)) (rerun t g faults rows others given).calls
+      ≡ asked_over g (acts_of faults) others 0 (rerun t g faults rows others given).answers
+  pub kept : (t : Numbers) (g : Lists) (faults : List Fault) (rows : List (List ℤ)) (others : List (List Answer)) (given : List Answer) (n k : ℕ) →
+      touched g (acts_of faults) others n k ≡ false → k < length (slice_index_or (rerun t g faults rows others given).answers n []) →
+      slice_get (slice_index_or (rerun t g faults rows others given).answers n []) k ≡ slice_get (slice_index_or others n []) k
+
+-- ---- groups one after another
+
+pub record GroupLaws : Type 0 where
+  -- behind the run without faults no group has a verdict
+  pub starts : (t : Numbers) (g : Lists) (rows : List (List ℤ)) (others : List (List Answer)) (groups : List (List Fault)) (e : CycleEnd)
+      (before now : UnitSeen) → RanOver g t rows others e before.log now.log before.wrong now.wrong → GroupsJudged t g rows others groups [] before now
+  -- and the next one has the verdict of its rerun
+  pub goes_on : (t : Numbers) (g : Lists) (rows : List (List ℤ)) (others : List (List Answer)) (groups : List (List Fault)) (verdicts : List Verdict)
+      (faults : List Fault) (v : Verdict) (before mid now : UnitSeen) → GroupsJudged t g rows others groups verdicts before mid →
+      slice_get groups (length verdicts) ≡ Some faults → Reran t g faults rows others mid now v →
+      GroupsJudged t g rows others groups (verdicts ++ v ∷ []) before now

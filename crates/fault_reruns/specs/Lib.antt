@@ -1,5 +1,6 @@
 pub mod Begun
 pub mod Crossing
+pub mod Groups
 pub mod Kept
 pub mod Laws
 pub mod References

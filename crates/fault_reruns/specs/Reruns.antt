@@ -1,9 +1,9 @@
 -- Reruns: the calls that are made again for a group of faults, and the verdict that is read off their answers.
-use Rattle.std.specs.Prelude.{ℕ, suc, ◌≡◌, Bool, true, false, cond, List, [], ◌∷◌, ◌++◌, length, slice_get, Option, Some, None, ℤ}
+use Rattle.std.specs.Prelude.{ℕ, suc, ◌≡◌, ◌<◌, Bool, true, false, cond, List, [], ◌∷◌, ◌++◌, length, slice_get, Option, Some, None, ℤ}
 use Rattle.coded_unit.specs.declared.call.Call.{Call}
 use Rattle.coded_unit.specs.declared.call.Answer.{Answer}
 use Rattle.coded_unit.specs.declared.call.Answer.TheVariants as answer
-use Rattle.coded_unit.specs.Log.{Entry, GrowsBy}
+use Rattle.coded_unit.specs.Log.{Entry}
 use Rattle.coded_unit.specs.Seen.{UnitSeen}
 use Rattle.op_graph.specs.declared.op.Op.{Op}
 use Rattle.op_graph.specs.GraphRun.{Stop}
@@ -11,7 +11,7 @@ use Rattle.op_graph.specs.Lists.{Lists}
 use Rattle.signature_table.specs.Signatures.{Numbers}
 use Rattle.coded_machine.specs.declared.cycle_end.CycleEnd.{CycleEnd}
 use Rattle.coded_machine.specs.declared.cycle_end.CycleEnd.TheVariants as end
-use Rattle.coded_machine.specs.Calls.{Setting, AllRight, call_of, is_word}
+use Rattle.coded_machine.specs.Calls.{Setting, AllRight, Carried, call_of, is_word}
 use Rattle.coded_machine.specs.CycleEnds.{end_of, initial_words, outputs_of, stored_words}
 use Rattle.coded_machine.specs.Runs.{AllCycles, calls_over, setting_at}
 use Rattle.fault_script.specs.declared.act.Act.{Act}
@@ -183,10 +183,18 @@ pub record IsExact (a : Again) : Type 0 where
   pub enough : a.short ≡ false
 
 -- What the rerun of a group left of a unit, and its verdict: there are answers, one for each of its calls, with which the log grew by these calls and by
--- nothing else, and off which the verdict is read.
+-- nothing else, and off which the verdict is read. Where the count of wrong answers stood still they are right.
 pub record Reran (t : Numbers) (g : Lists) (faults : List Fault) (rows : List (List ℤ)) (others : List (List Answer)) (old new : UnitSeen)
     (v : Verdict) : Type 0 where
   pub given : List Answer
   pub exact : IsExact (rerun t g faults rows others given)
-  pub told : GrowsBy old.log new.log (rerun t g faults rows others given).calls
+  pub carried : Carried (rerun t g faults rows others given).calls old.log new.log old.wrong new.wrong
   pub verdict_is : v ≡ (rerun t g faults rows others given).verdict
+
+-- the cycle that a verdict names is below this number of cycles
+abbrev pub InCycles : ℕ → Verdict → Type 0
+InCycles cycles verdict.Same = Unit {0}
+InCycles cycles (verdict.Wrong cycle output got want) = cycle < cycles
+InCycles cycles (verdict.RanOn cycle) = cycle < cycles
+InCycles cycles (verdict.Refused cycle output found wanted) = cycle < cycles
+InCycles cycles (verdict.Stopped cycle op kind) = cycle < cycles

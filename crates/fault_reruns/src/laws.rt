@@ -1,6 +1,7 @@
 //! Laws of reruns.
 
 ghost use Rattle.fault_reruns.specs.Laws.{TouchedLaws, ReferencesStand, RestLaws, OutputLaws, RerunsAreRight, VerdictsAreRead};
+ghost use Rattle.fault_reruns.specs.Laws.{AsksAtTouched, GroupLaws};
 
 use coded_machine::right_answers_stand_for_values;
 use fault_runs::{ends_under_acts_are_read_off_the_answers, runs_under_acts_keep_the_run_law};
@@ -15,8 +16,16 @@ pub fn touched_operations_are_told_by_what_they_read()
     operands_are_there();
 }
 
+/// A rerun asks the unit at the touched operations that it comes to, in order of cycle and operation, at no skip
+/// and nowhere else, and every operation that isn't touched has the answer of the run without the group,
+/// whatever the unit answers. It does nothing: it states a law.
+pub fn reruns_ask_at_touched_operations()
+    ensures { AsksAtTouched }
+{}
+
 /// Where the answers of the run without faults are right, they are the words of the values of the graph's
-/// run on plain integers, with the expected residues, and its stop. It does nothing: it states a law.
+/// run on plain integers, with the expected residues, and its stop; and no cycle of it is refused. It does
+/// nothing: it states a law.
 pub fn right_references_stand_for_the_graphs_run()
     ensures { ReferencesStand }
 {
@@ -55,3 +64,9 @@ pub fn verdicts_read_off_right_answers_are_defined()
     runs_under_acts_keep_the_run_law();
     ends_under_acts_are_read_off_the_answers();
 }
+
+/// Groups that are judged one after another, behind the run without faults, are judged by the calls of that
+/// run and then by those of their reruns alone. It does nothing: it states a law.
+pub fn groups_are_rerun_one_after_another()
+    ensures { GroupLaws }
+{}

@@ -5,9 +5,10 @@ ghost use Rattle.coded_unit.specs.declared.call.Answer.{Answer as AnswerGiven};
 ghost use Rattle.coded_unit.specs.Seen.{StaysHonest};
 ghost use Rattle.coded_machine.specs.CycleEnds.{initial_words, stored_words};
 ghost use Rattle.fault_script.specs.Groups.{GroupFits};
+ghost use Rattle.fault_injector.specs.Names.{Names};
 ghost use Rattle.fault_injector.specs.Verdicts.{verdict_of};
 ghost use Rattle.fault_reruns.specs.Crossing.{CycleRan, Room};
-ghost use Rattle.fault_reruns.specs.Reruns.{IsReference, Reran};
+ghost use Rattle.fault_reruns.specs.Reruns.{InCycles, IsReference, Reran};
 ghost use Rattle.fault_reruns.specs.Through.{RanThrough};
 ghost use Rattle.fault_reruns.specs.Touched.{held_marks};
 
@@ -20,7 +21,7 @@ use coded_machine::{cycles_by_hand_are_whole, end_of_answers, first_words, store
 use coded_unit::{Answer, Unit, Word};
 use fault_injector::Verdict;
 use fault_script::Group;
-use op_graph::Graph;
+use op_graph::{Graph, entries_keep_their_rules};
 use std::alloc::Global;
 use std::mem::swap;
 use vcp_base::{Memory, Row};
@@ -172,7 +173,8 @@ impl<'a> Reference<'a> {
     /// through the one that has a verdict, and the verdict is read off its answers beside those of the run without the group. `Memory`
     /// where there is no room to rerun a cycle, and then no call was made.
     ///
-    /// Where the answers of the run without the group are right and those of this call too, it is the defined verdict.
+    /// Where the group fits the graph, and the answers of the run without it are right and those of this call too, it is the defined
+    /// verdict. The cycle, the output and the operation that it names are there, whatever the unit answers.
     pub fn verdict<U: Unit>(
         &self,
         alloc: Global,
@@ -183,11 +185,14 @@ impl<'a> Reference<'a> {
             (U.seen unit.old) (U.seen unit.new) v) }
         ensures verdict { IsReference self.now.table self.now.graph self.now.rows self.now.answers → GroupFits self.now.graph group.now →
             StaysHonest (U.seen unit.old) (U.seen unit.new) → IfOk result (λ v. v ≡ verdict_of self.now.table self.now.graph group.now self.now.rows) }
+        ensures names { IfOk result (Names (length self.now.graph.outputs) (length self.now.graph.operations)) }
+        ensures cycle { IfOk result (InCycles (length self.now.rows)) }
         ensures never_falls { (U.seen unit.old).wrong ≤ (U.seen unit.new).wrong }
         ensures err { OnErr result (unit.new ≡ unit.old) }
     {
-        // A verdict that is read off right answers is the defined one.
+        // A verdict that is read off right answers is the defined one; and an output names an operation of its graph.
         verdicts_read_off_right_answers_are_defined();
+        entries_keep_their_rules();
         let _cycles = self.cycles();
         let mut work = Work::new(alloc, self)?;
         Ok(rerun(self, group, unit, &mut work))

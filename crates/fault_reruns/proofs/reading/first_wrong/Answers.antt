@@ -2,12 +2,11 @@ use Rattle.std.proofs.Common.{◌≡◌, ◌≢◌, ℤ, Some, sym, ap, ◌∙�
 use Rattle.std.proofs.lemmas.Int.{to_z-of_z}
 use Rattle.coded_unit.specs.Words.{value_part}
 use Rattle.coded_machine.specs.CycleEnds.{outputs_of}
-use Rattle.coded_machine.proofs.Places.{outside_none, fits_64}
 use Rattle.fault_injector.specs.declared.verdict.Verdict.TheVariants as verdict
 use Rattle.fault_injector.specs.Judging.{wrong_verdict}
-use Rattle.fault_injector.proofs.RowsBeside.{row_passed, row_here, row_ended}
 use Rattle.fault_reruns.specs.Begun.{answers_in}
 use Rattle.fault_reruns.proofs.OutputsRead.{value_there, values_count}
+use Rattle.fault_reruns.proofs.RowsBeside.{fits_64, outside_none, row_ended, row_here, row_passed}
 use Rattle.fault_reruns.proofs.reading.first_wrong.Goals as goal
 
 pub value_of-got-requires : goal.value_of-got-requires
