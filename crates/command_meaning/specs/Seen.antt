@@ -1,5 +1,5 @@
 -- Seen: what contracts see, at one moment, of the objects that are handed in together.
-use Rattle.std.specs.Prelude.{◌≡◌, ◌<◌, ◌-◌, ◌^◌, []}
+use Rattle.std.specs.Prelude.{◌≡◌, []}
 use Rattle.std.specs.Io.KnownBytes.{Appends}
 use Rattle.coded_unit.specs.Seen.{UnitSeen}
 use Rattle.vcp_outside.specs.Seen.{FilesSeen, SinkSeen}
