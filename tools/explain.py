@@ -13,6 +13,7 @@ from tools.explain_all import all_hints
 from tools.fault_line import FaultLine, RefusedOutput, StopLine, meanings, read_ending, read_fault
 from tools.hint import Hint
 from tools.hints_files import group_hint, image_hint, reading_hint, script_hint, words_hint
+from tools.hints_il import declarations_of, head_of, il_hint
 from tools.hints_rows import RowsHint, cell_hint, encoding_of, form_hint, header_hint, silent_faults, width_hint
 from tools.hints_source import source_hint
 from tools.image import Image, read_image
@@ -102,10 +103,8 @@ class Explainer:
             return Explanation(fault.file or "vcp", STATUS_LINES[fault.code])
         if not Path(fault.file).is_file() and fault.file not in ("--cycles", "demo"):
             return Explanation(fault.text.rpartition(f" {fault.code}")[0], "the file isn't here, so that its line can't be shown")
-        if fault.code[0] in "ST" or fault.code in ("L2", "L3"):
-            source = Source(_bytes(fault.file))
-            at = source.offset(fault.first or 1, fault.second or 1)
-            return of_source(fault.file, source, source_hint(source, fault.code, at))
+        if fault.code[0] in "STQ" or fault.code in ("L2", "L3"):
+            return self._source(fault)
         if fault.code[0] == "R" or fault.code == "L4":
             return self._rows(fault)
         if fault.code[0] == "F" or fault.code == "L5":
@@ -115,10 +114,22 @@ class Explainer:
             return Explanation(place, image_hint(fault, _bytes(fault.file)))
         return Explanation(fault.file, _limit(fault))
 
+    def _source(self, fault: FaultLine) -> Explanation:
+        """S1 to S5, T1 to T8, L2 and L3, of a program or of the head of an instruction list; Q1 to Q6."""
+        source = Source(_bytes(fault.file))
+        listed = fault.code[0] == "Q" or self.words[:1] == ["il"]
+        if listed and (fault.code in ("S4", "S5") or fault.code[0] == "T"):
+            source = head_of(source)
+        at = source.offset(fault.first or 1, fault.second or 1)
+        hint = il_hint(source, fault.code, at) if fault.code[0] == "Q" else source_hint(source, fault.code, at)
+        return of_source(fault.file, source, hint)
+
     def _inputs(self) -> list[Declaration]:
         """The inputs of the program or image of the words; none where they aren't known."""
         if len(self.words) < 2 or self.words[0] == "check":
             return []
+        if self.words[0] == "il":
+            return [it for it in declarations_of(Source(_bytes(self.words[1]))) if it.section == "VAR_INPUT"]
         try:
             data = _bytes(self.words[1])
             if data.startswith(b"VCPANBD\n"):
@@ -149,7 +160,7 @@ class Explainer:
 
     def silent_rows(self) -> list[Explanation]:
         """What the rows file of an accepted call holds that is read in silence."""
-        takes_rows = len(self.words) > 2 and self.words[0] in ("plain", "run", "exec", "trace", "inject", "pair") and self.words[2] != "--cycles"
+        takes_rows = len(self.words) > 2 and self.words[0] in ("plain", "run", "il", "exec", "trace", "inject", "pair") and self.words[2] != "--cycles"
         data = _bytes(self.words[2]) if takes_rows else b""
         if not 0 < len(data) <= MOST_BYTES_LOOKED_AT:
             return []
@@ -191,6 +202,8 @@ class Explainer:
         token = source.tokens[source.index_at(source.offset(ending.line, ending.column))]
         guard = {"RANGE": "Limit the operands before, as by MIN, MAX or LIMIT, or take a wider type.",
                  "DIVZERO": "Put the division into `IF divisor <> 0 THEN .. END_IF`."}.get(ending.kind, "")
+        if self.words[0] == "il":
+            guard = {"RANGE": "Load a value of a wider type first: the result is as wide as the wider side."}.get(ending.kind, "")
         return of_source(file, source, Hint(message, token.start, token.end, (guard,) if guard else ()))
 
 
@@ -268,6 +281,8 @@ def explain_all(words: Sequence[str]) -> int:
     if len(words) < 2:
         raise Refusal("explain --all: it looks at a source: give words as `check P`")
     file = words[1]
+    if words[0] == "il":
+        return explain_call(words)
     found = all_hints(Program.found(), file)
     told: set[str] = set()
     for line, source, hint in sorted(found.hints, key=lambda it: it[2].start):
@@ -289,7 +304,7 @@ def _print(lines: Sequence[str]) -> None:
 
 def add_words(parser: argparse.ArgumentParser) -> None:
     """The words of `explain`."""
-    parser.add_argument("--all", action="store_true", help="go on behind each fault of the source that can be stepped over")
+    parser.add_argument("--all", action="store_true", help="go on behind each fault of a source that can be stepped over, but of none of an instruction list")
     parser.add_argument("words", nargs=argparse.REMAINDER, help="words of vcp, as `check P`; without any, lines of error are read from standard input")
 
 

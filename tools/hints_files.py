@@ -13,7 +13,7 @@ from tools.hint import listed, nearest
 FORMS: dict[str, tuple[str, ...]] = {
     "check": ("P",), "format": ("P",), "plain": ("P", "ROWS"), "run": ("P", "ROWS", "CODE"), "compile": ("P", "CODE"), "list": ("M",),
     "exec": ("M", "ROWS"), "trace": ("M", "ROWS", "CYCLE"), "widen": ("M",), "audit": ("M", "HORIZON"), "inject": ("M", "ROWS", "F"),
-    "pair": ("M", "ROWS", "SEED"), "demo": ("N",),
+    "il": ("P", "ROWS", "CODE"), "pair": ("M", "ROWS", "SEED"), "demo": ("N",),
 }
 """The words behind each command; ROWS is a file or `--cycles N`, CODE `--seed N` and `--step N`, each at most once."""
 KINDS: dict[str, int] = {

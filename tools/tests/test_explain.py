@@ -10,6 +10,7 @@ from unittest import mock
 
 from tools.fault_line import meanings, read_ending, read_fault
 from tools.hints_files import group_hint, reading_hint, words_hint
+from tools.hints_il import OPERATORS, declarations_of, il_hint
 from tools.source import RESERVED, Source, literal_value
 from tools.syntax import SyntaxFault, parse
 from tools.tests.support import DATA, EXAMPLES, InFolder, needs_program
@@ -163,7 +164,7 @@ class Readers(unittest.TestCase):
         self.assertEqual(raised.exception.token.text, "END_PROGRAM")
 
     def test_the_document_has_the_meaning_of_each_code(self) -> None:
-        wanted = "L1 S1 S2 S3 S4 S5 T1 T2 T3 T4 T5 T6 T7 T8 L2 L3 R1 R2 R3 R4 R5 L4 I1 I2 I3 I4 I5 I6 I7 L5 L6 L7 L8 F1 F2 F3 F4 F5 F6".split()
+        wanted = "L1 S1 S2 S3 S4 S5 T1 T2 T3 T4 T5 T6 T7 T8 Q1 Q2 Q3 Q4 Q5 Q6 L2 L3 R1 R2 R3 R4 R5 L4 I1 I2 I3 I4 I5 I6 I7 L5 L6 L7 L8 F1 F2 F3 F4 F5 F6".split()
         self.assertLessEqual(set(wanted), set(meanings()))
 
     def test_reserved_words_are_those_of_the_document(self) -> None:
@@ -176,6 +177,34 @@ class Readers(unittest.TestCase):
         for number, code, said in ((3, "F6", "line 2 of this group changes operation 2 in cycle 1"), (4, "F5", "the group of line 1 has no `end` yet"),
                                    (5, "F5", "has no fault"), (6, "F5", "no `begin` stands before"), (7, "F5", "no `end` follows"), (90, "F5", "changed since")):
             self.assertIn(said, group_hint(script, number, code).message)
+
+    def test_instructions(self) -> None:
+        head = "PROGRAM p\nVAR_INPUT x : DINT; b : BOOL; END_VAR\nVAR_OUTPUT y : DINT; q : BOOL; END_VAR\nVAR CONSTANT C : INT := 3; END_VAR\n"
+        for line, code, said in (("LDD x", "Q1", "did you mean LD?"), ("LD", "Q1", "the operand of LD is missing"), ("LD x y", "Q1", "has one operand"),
+                                 ("LD (x)", "Q1", "there are no brackets"), ("next: LD x", "Q1", "there are no labels"), ("JMP next", "Q1", "there are no jumps"),
+                                 ("NOT q", "Q1", "NOT has no operand"), ("y := x;", "Q1", "this is Structured Text"), ("LD - x", "Q1", "without a type"),
+                                 ("x", "Q1", "`x` is a variable"), ("LD x END_PROGRAM", "Q1", "END_PROGRAM stands alone"), ("END_PROGRAM LD", "Q1", "behind END_PROGRAM"),
+                                 ("", "Q1", "END_PROGRAM is missing"), ("ADD 1", "Q4", "no result yet for ADD")):
+            source = Source((head + line).encode())
+            self.assertIn(said, il_hint(source, code, source.offset(5, 1)).message, line)
+        for line, code, said in (("LD z", "Q2", "`z` isn't declared"), ("LD C", "Q2", "write its value"), ("LD INT#40000", "Q2", "from -32768 to 32767"),
+                                 ("ST x", "Q3", "`x` is an input"), ("ST 5", "Q3", "this is no variable")):
+            source = Source((head + line).encode())
+            self.assertIn(said, il_hint(source, code, source.offset(5, 4)).message, line)
+        for line, said in (("AND b", "a comparison makes"), ("ADD b", "two numbers; `b` is a BOOL"), ("GT b", "compares two numbers;"), ("EQ b", "or two BOOL"),
+                           ("ST q", "ST wants"), ("S y", "type BOOL; `y` is a DINT"), ("NOT", "NOT wants BOOL")):
+            source = Source((head + "LD x\n" + line).encode())
+            self.assertIn(said, il_hint(source, "Q5", source.offset(6, 1)).message, line)
+        source = Source(b"PROGRAM p\nVAR _acc_int : INT; END_VAR\nEND_PROGRAM\n")
+        self.assertIn("hidden variable", il_hint(source, "Q6", source.offset(2, 5)).message)
+        self.assertEqual([it.name for it in declarations_of(source)], ["_acc_int"])
+        self.assertEqual(declarations_of(Source(b"")), [])
+
+    def test_operators_are_those_of_the_document(self) -> None:
+        text = (EXAMPLES.parent / "docs" / "LANGUAGE.md").read_text()
+        part = text[text.index("| operator | operand | what it does |") : text.index("N negates the operand, of STN")]
+        first = {word for row in part.split("\n")[2:] for word in re.findall(r"[A-Z]+", row.split("|")[1] if "|" in row else "")}
+        self.assertEqual(first | {"&"}, set(OPERATORS))
 
     def test_lines_of_error(self) -> None:
         fault = read_fault("a b:3.csv:2:7 R3 Cell")

@@ -18,6 +18,10 @@ LD x\nADD 1\nST y\nEND_PROGRAM\n => 6 20
 ld X\r\nadd 1 (* in any case *) // and remarks\r\n\r\n  st Y\r\nend_program => 6 20
 LD n\nADD 40000\nST y\nEND_PROGRAM\n => 7 22
 LD b\nS q\nLDN b\nR q\nEND_PROGRAM\n => 6 27
+LDN b\nSTN q\nEND_PROGRAM\n => 6 19
+LD n\nADD x\nST y\nEND_PROGRAM\n => 7 21
+LD x\nNE -7\nST q\nEND_PROGRAM\n => 7 23
+LD TRUE\nLD 1\nLD 40000\nLD 3000000000\nEND_PROGRAM\n => 9 27
 LD {\nEND_PROGRAM\n => Lex(Byte { spot: Spot { line: 4, col: 4 } })
 FOO x\nEND_PROGRAM\n => Instruction { spot: Spot { line: 4, col: 1 } }
 LD\nx\nEND_PROGRAM\n => Instruction { spot: Spot { line: 4, col: 1 } }
@@ -25,10 +29,15 @@ LD - INT#5\nEND_PROGRAM\n => Instruction { spot: Spot { line: 4, col: 1 } }
 NOT x\nEND_PROGRAM\n => Instruction { spot: Spot { line: 4, col: 1 } }
 LD x\nEND_PROGRAM\nLD x\n => Instruction { spot: Spot { line: 5, col: 1 } }
 LD x\n => Instruction { spot: Spot { line: 5, col: 1 } }
+END_PROGRAM\nEND_PROGRAM\n => Instruction { spot: Spot { line: 4, col: 1 } }
+LD b\n&N b\nEND_PROGRAM\n => Instruction { spot: Spot { line: 5, col: 1 } }
 LD z\nEND_PROGRAM\n => Operand { spot: Spot { line: 4, col: 4 } }
+LD BOOL#2\nEND_PROGRAM\n => Operand { spot: Spot { line: 4, col: 4 } }
+S INT#40000\nEND_PROGRAM\n => Operand { spot: Spot { line: 4, col: 3 } }
 ADD z\nEND_PROGRAM\n => Operand { spot: Spot { line: 4, col: 5 } }
 LD x\nST 5\nEND_PROGRAM\n => Target { spot: Spot { line: 5, col: 4 } }
 ST x\nEND_PROGRAM\n => Target { spot: Spot { line: 4, col: 4 } }
+ADD TRUE\nEND_PROGRAM\n => Empty { spot: Spot { line: 4, col: 1 } }
 ADD x\nEND_PROGRAM\n => Empty { spot: Spot { line: 4, col: 1 } }
 LD x\nAND b\nFOO\nEND_PROGRAM\n => Mismatch { spot: Spot { line: 5, col: 1 } }
 LD x\nST q\nEND_PROGRAM\n => Mismatch { spot: Spot { line: 5, col: 1 } }
@@ -58,6 +67,7 @@ PROGRAM _acc_int\nEND_PROGRAM\n => 0 2
 PROGRAM p\nLD 5\nEND_PROGRAM => 1 6
 PROGRAM p LD 5\nEND_PROGRAM => 1 6
 PROGRAM p\nVAR_INPUT n : INT; END_VAR\nVAR_OUTPUT l : LINT; END_VAR\nLD n\nADD 3000000000\nST l\nEND_PROGRAM\n => 4 17
+PROGRAM p\nVAR x : INT;\nLD x\nEND_PROGRAM => Instruction { spot: Spot { line: 2, col: 1 } }
 ";
 
 /// What is answered of the text of these two parts.
