@@ -10,7 +10,7 @@ from pathlib import Path
 from typing import Sequence
 
 from tools.explain_all import all_hints
-from tools.fault_line import FaultLine, RefusedOutput, StopLine, meanings, read_ending, read_fault
+from tools.fault_line import Disagreement, FaultLine, RefusedOutput, StopLine, meanings, read_ending, read_fault
 from tools.hint import Hint
 from tools.hints_files import group_hint, image_hint, reading_hint, script_hint, words_hint
 from tools.hints_il import declarations_of, head_of, il_hint
@@ -182,8 +182,15 @@ class Explainer:
         hint = script_hint(line.decode("latin-1"), fault.code, operations)
         return Explanation(f"{fault.file}:{number}:{hint.start + 1}", hint.message, number, line, hint.start, hint.end)
 
-    def ending(self, ending: StopLine | RefusedOutput) -> Explanation:
-        """What is printed of a run that stopped, or whose output was refused."""
+    def ending(self, ending: StopLine | RefusedOutput | Disagreement) -> Explanation:
+        """What is printed of a run that stopped, whose output was refused, or whose channels disagreed."""
+        if isinstance(ending, Disagreement):
+            if ending.name:
+                values = f"the first with {ending.first} and the second with {ending.second}"
+                how = f"both channels released `{ending.name}`, {values}, and no residue shows the difference"
+            else:
+                how = f"the first channel ended by `{ending.first}`, the second by `{ending.second}`"
+            return Explanation(ending.name or "channels", f"cycle {ending.cycle}: {how}: the first channel's unit answered wrongly, and nothing is released")
         if isinstance(ending, RefusedOutput):
             message = f"cycle {ending.cycle}: the word of `{ending.name}` has the residue {ending.found} and not {ending.expected}: a word on its way was changed, or is that of another operation or cycle"
             return Explanation(ending.name, message)

@@ -9,6 +9,8 @@ from tools.program import TOP
 
 _REFUSED = re.compile(r"(?P<file>.+?)(?::(?P<first>\d+))?(?::(?P<second>\d+))? (?P<code>[A-Z]\d) (?P<word>[A-Z][a-z]+)(?P<rest> .*)?\Z")
 _STOP = re.compile(r"stop (?P<cycle>\d+) (?P<kind>RANGE|DIVZERO|OPERAND) (?P<line>\d+):(?P<column>\d+)(?P<turns>(?: \S+=-?\d+)*)\Z")
+_PARTED = re.compile(r"parted (?P<cycle>\d+) first (?P<first>.+) second (?P<second>.+)\Z")
+_DIFFER = re.compile(r"differ (?P<cycle>\d+) (?P<name>\S+) first (?P<first>-?\d+) second (?P<second>-?\d+)\Z")
 _OUTPUT = re.compile(r"refused (?P<cycle>\d+) (?P<name>\S+) found (?P<found>\d+) expected (?P<expected>\d+)\Z")
 
 
@@ -48,6 +50,17 @@ class RefusedOutput:
     expected: int
 
 
+@dataclass(frozen=True)
+class Disagreement:
+    """The last line of a run of two channels that disagreed: the cycle, the output where two values were released, and what each channel has."""
+
+    text: str
+    cycle: int
+    name: str
+    first: str
+    second: str
+
+
 def read_fault(line: str) -> FaultLine | None:
     """The fault that a line of error tells; None where it is no such line."""
     line = line.rstrip("\r\n")
@@ -63,7 +76,7 @@ def read_fault(line: str) -> FaultLine | None:
     return FaultLine(line, match["code"], match["word"], match["file"], first, second)
 
 
-def read_ending(line: str) -> StopLine | RefusedOutput | None:
+def read_ending(line: str) -> StopLine | RefusedOutput | Disagreement | None:
     """The early end that the last line of a run tells; None where the run came to its end."""
     stop = _STOP.match(line)
     if stop:
@@ -71,6 +84,9 @@ def read_ending(line: str) -> StopLine | RefusedOutput | None:
     output = _OUTPUT.match(line)
     if output:
         return RefusedOutput(line, int(output["cycle"]), output["name"], int(output["found"]), int(output["expected"]))
+    channels = _DIFFER.match(line) or _PARTED.match(line)
+    if channels:
+        return Disagreement(line, int(channels["cycle"]), channels.groupdict().get("name", ""), channels["first"], channels["second"])
     return None
 
 

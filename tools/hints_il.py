@@ -81,8 +81,9 @@ def _instruction(source: Source, token: Token, line: list[Token], declared: dict
     if token.is_word("VAR", "VAR_INPUT", "VAR_OUTPUT"):
         return _on(token, "END_VAR is missing behind these declarations")
     if len(line) > 1 and line[1].is_symbol(":", ":="):
-        told = "there are no labels, since there are no jumps" if line[1].text == ":" else "this is Structured Text: an instruction is an operator and its operand, as `ST y`"
-        return _on(token, told)
+        if line[1].text == ":":
+            return _on(token, "there are no labels, since there are no jumps")
+        return _on(token, "this is Structured Text: an instruction is an operator and its operand, as `ST y`")
     if any(it.is_symbol("(", ")") for it in line):
         return _on(next(it for it in line if it.is_symbol("(", ")")), "there are no brackets: keep what stands in them in a variable, by ST, and take that")
     if token.upper in _LEFT_OUT:

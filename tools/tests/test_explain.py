@@ -164,7 +164,8 @@ class Readers(unittest.TestCase):
         self.assertEqual(raised.exception.token.text, "END_PROGRAM")
 
     def test_the_document_has_the_meaning_of_each_code(self) -> None:
-        wanted = "L1 S1 S2 S3 S4 S5 T1 T2 T3 T4 T5 T6 T7 T8 Q1 Q2 Q3 Q4 Q5 Q6 L2 L3 R1 R2 R3 R4 R5 L4 I1 I2 I3 I4 I5 I6 I7 L5 L6 L7 L8 F1 F2 F3 F4 F5 F6".split()
+        wanted = ("L1 S1 S2 S3 S4 S5 T1 T2 T3 T4 T5 T6 T7 T8 Q1 Q2 Q3 Q4 Q5 Q6 L2 L3 "
+                  "R1 R2 R3 R4 R5 L4 I1 I2 I3 I4 I5 I6 I7 L5 L6 L7 L8 F1 F2 F3 F4 F5 F6").split()
         self.assertLessEqual(set(wanted), set(meanings()))
 
     def test_reserved_words_are_those_of_the_document(self) -> None:
@@ -181,10 +182,11 @@ class Readers(unittest.TestCase):
     def test_instructions(self) -> None:
         head = "PROGRAM p\nVAR_INPUT x : DINT; b : BOOL; END_VAR\nVAR_OUTPUT y : DINT; q : BOOL; END_VAR\nVAR CONSTANT C : INT := 3; END_VAR\n"
         for line, code, said in (("LDD x", "Q1", "did you mean LD?"), ("LD", "Q1", "the operand of LD is missing"), ("LD x y", "Q1", "has one operand"),
-                                 ("LD (x)", "Q1", "there are no brackets"), ("next: LD x", "Q1", "there are no labels"), ("JMP next", "Q1", "there are no jumps"),
+                                 ("LD (x)", "Q1", "there are no brackets"), ("next: LD x", "Q1", "there are no labels"),
+                                 ("JMP next", "Q1", "there are no jumps"),
                                  ("NOT q", "Q1", "NOT has no operand"), ("y := x;", "Q1", "this is Structured Text"), ("LD - x", "Q1", "without a type"),
-                                 ("x", "Q1", "`x` is a variable"), ("LD x END_PROGRAM", "Q1", "END_PROGRAM stands alone"), ("END_PROGRAM LD", "Q1", "behind END_PROGRAM"),
-                                 ("", "Q1", "END_PROGRAM is missing"), ("ADD 1", "Q4", "no result yet for ADD")):
+                                 ("x", "Q1", "`x` is a variable"), ("LD x END_PROGRAM", "Q1", "END_PROGRAM stands alone"),
+                                 ("END_PROGRAM LD", "Q1", "behind END_PROGRAM"), ("", "Q1", "END_PROGRAM is missing"), ("ADD 1", "Q4", "no result yet for ADD")):
             source = Source((head + line).encode())
             self.assertIn(said, il_hint(source, code, source.offset(5, 1)).message, line)
         for line, code, said in (("LD z", "Q2", "`z` isn't declared"), ("LD C", "Q2", "write its value"), ("LD INT#40000", "Q2", "from -32768 to 32767"),
@@ -212,6 +214,10 @@ class Readers(unittest.TestCase):
         fault = read_fault("m.img:2132 I6 Table stored 0 expected 2")
         self.assertEqual((fault.file, fault.first, fault.code) if fault else None, ("m.img", 2132, "I6"))
         self.assertIsNone(read_fault("ok 11"))
+        for line, wanted in (("differ 0 y first 7 second -6", (0, "y", "7", "-6")),
+                             ("parted 4 first refused y found 1 expected 2 second released", (4, "", "refused y found 1 expected 2", "released"))):
+            ending = read_ending(line)
+            self.assertEqual(tuple(getattr(ending, name) for name in ("cycle", "name", "first", "second")), wanted)
         stop = read_ending("stop 3 DIVZERO 8:14 i=2 j=3")
         self.assertEqual(getattr(stop, "turns", None), "i=2 j=3")
 
