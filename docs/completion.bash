@@ -1,7 +1,7 @@
 # Completion of the words of vcp for bash: `. docs/completion.bash`, or a copy in /etc/bash_completion.d.
 # The commands are those of the usage line (checks/usage.sh compares them).
 
-_vcp_commands='check format plain run compile list exec trace inject audit widen il pair demo'
+_vcp_commands='check format plain run compile list exec trace inject audit widen il pair wire demo'
 
 _vcp() {
     local word=${COMP_WORDS[COMP_CWORD]} before=${COMP_WORDS[COMP_CWORD - 1]} command=${COMP_WORDS[1]}

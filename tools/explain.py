@@ -12,7 +12,7 @@ from typing import Sequence
 from tools.explain_all import all_hints
 from tools.fault_line import Disagreement, FaultLine, RefusedOutput, StopLine, meanings, read_ending, read_fault
 from tools.hint import Hint
-from tools.hints_files import group_hint, image_hint, reading_hint, script_hint, words_hint
+from tools.hints_files import group_hint, image_hint, reading_hint, script_hint, wire_hint, words_hint
 from tools.hints_il import declarations_of, head_of, il_hint
 from tools.hints_rows import RowsHint, cell_hint, encoding_of, form_hint, header_hint, silent_faults, width_hint
 from tools.hints_source import source_hint
@@ -109,6 +109,8 @@ class Explainer:
             return self._rows(fault)
         if fault.code[0] == "F" or fault.code == "L5":
             return self._script(fault)
+        if fault.code[0] == "G":
+            return self._wire(fault)
         if fault.code[0] == "I":
             place = fault.file if fault.first is None else f"{fault.file}:{fault.first}"
             return Explanation(place, image_hint(fault, _bytes(fault.file)))
@@ -181,6 +183,12 @@ class Explainer:
             operations = [it.kind for it in _image(self.words[1]).operations]
         hint = script_hint(line.decode("latin-1"), fault.code, operations)
         return Explanation(f"{fault.file}:{number}:{hint.start + 1}", hint.message, number, line, hint.start, hint.end)
+
+    def _wire(self, fault: FaultLine) -> Explanation:
+        """G1 to G3."""
+        number = fault.first or 1
+        line = Source(_bytes(fault.file)).line(number)
+        return Explanation(f"{fault.file}:{number}:1", wire_hint(line.decode("latin-1"), fault.code), number, line, 0, len(line))
 
     def ending(self, ending: StopLine | RefusedOutput | Disagreement) -> Explanation:
         """What is printed of a run that stopped, whose output was refused, or whose channels disagreed."""

@@ -13,7 +13,7 @@ from tools.hint import listed, nearest
 FORMS: dict[str, tuple[str, ...]] = {
     "check": ("P",), "format": ("P",), "plain": ("P", "ROWS"), "run": ("P", "ROWS", "CODE"), "compile": ("P", "CODE"), "list": ("M",),
     "exec": ("M", "ROWS"), "trace": ("M", "ROWS", "CYCLE"), "widen": ("M",), "audit": ("M", "HORIZON"), "inject": ("M", "ROWS", "F"),
-    "il": ("P", "ROWS", "CODE"), "pair": ("M", "ROWS", "SEED"), "demo": ("N",),
+    "il": ("P", "ROWS", "CODE"), "pair": ("M", "ROWS", "SEED"), "wire": ("F",), "demo": ("N",),
 }
 """The words behind each command; ROWS is a file or `--cycles N`, CODE `--seed N` and `--step N`, each at most once."""
 KINDS: dict[str, int] = {
@@ -23,7 +23,7 @@ KINDS: dict[str, int] = {
 """The kinds of operations, each with its number of operands."""
 ACTS = ("operand", "result", "operator", "skip")
 GROUP_WORDS = ("begin", "end")
-_MEANT = {"P": "a source file", "M": "an image", "ROWS": "a rows file, or `--cycles N`", "F": "a script of faults", "CYCLE": "the number of a cycle",
+_MEANT = {"P": "a source file", "M": "an image", "ROWS": "a rows file, or `--cycles N`", "F": "a script", "CYCLE": "the number of a cycle",
           "HORIZON": "a number of cycle borders", "SEED": "the seed of the second channel", "N": "a number"}
 _LIMITS = {"--seed": (0, 1073741823), "--step": (1, 1000), "--cycles": (0, 1000000), "CYCLE": (0, 999999), "HORIZON": (0, 1000),
            "SEED": (0, 1073741823), "N": (0, 4294967295)}
@@ -309,3 +309,24 @@ def image_hint(fault: FaultLine, data: bytes) -> str:
     if fault.code == "I7":
         return f"bytes are left behind the image, from byte {fault.first} on: it was appended to, compile the source again"
     return f"the field at byte {fault.first} breaks its rule: the image is damaged, compile the source again"
+
+
+WIRE_LINES = {"wire": "wire SENDERS LISTEN AGE SEED STEP", "cycle": "cycle V ..", "deliver": "deliver ID NUMBER ALTER"}
+"""The lines of the script of a wire, by their first words."""
+
+
+def wire_hint(line: str, code: str) -> str:
+    """G1 to G3: what is wrong with a line of the script of a wire."""
+    words = _words(line)
+    if code == "G3":
+        return "no such telegram was sent above this line: there is no such sender, or its cycle hasn't begun"
+    if code == "G2":
+        if words and words[0] == "cycle":
+            return "a cycle has one value for each sender of the first line, each from -2147483648 to 2147483647"
+        if words and words[0] == "deliver":
+            return "what is added to the word is from -4611686018427387904 to 4611686018427387904"
+        return "SENDERS is 1 to 16, LISTEN below it, AGE 0 to 999999, SEED 0 to 1073741823 and STEP 1 to 1000"
+    if words and words[0] in WIRE_LINES:
+        return f"the form is `{WIRE_LINES[words[0]]}`, with numbers; the line `wire ..` stands first, and once"
+    near = nearest(words[0], WIRE_LINES) if words else None
+    return "the lines are " + listed([f"`{it}`" for it in WIRE_LINES.values()]) + (f": did you mean `{near}`?" if near else "")

@@ -9,7 +9,7 @@ from dataclasses import dataclass, field
 from unittest import mock
 
 from tools.fault_line import meanings, read_ending, read_fault
-from tools.hints_files import group_hint, reading_hint, words_hint
+from tools.hints_files import group_hint, reading_hint, wire_hint, words_hint
 from tools.hints_il import OPERATORS, declarations_of, il_hint
 from tools.source import RESERVED, Source, literal_value
 from tools.syntax import SyntaxFault, parse
@@ -165,7 +165,7 @@ class Readers(unittest.TestCase):
 
     def test_the_document_has_the_meaning_of_each_code(self) -> None:
         wanted = ("L1 S1 S2 S3 S4 S5 T1 T2 T3 T4 T5 T6 T7 T8 Q1 Q2 Q3 Q4 Q5 Q6 L2 L3 "
-                  "R1 R2 R3 R4 R5 L4 I1 I2 I3 I4 I5 I6 I7 L5 L6 L7 L8 F1 F2 F3 F4 F5 F6").split()
+                  "R1 R2 R3 R4 R5 L4 I1 I2 I3 I4 I5 I6 I7 L5 L6 L7 L8 F1 F2 F3 F4 F5 F6 G1 G2 G3").split()
         self.assertLessEqual(set(wanted), set(meanings()))
 
     def test_reserved_words_are_those_of_the_document(self) -> None:
@@ -178,6 +178,12 @@ class Readers(unittest.TestCase):
         for number, code, said in ((3, "F6", "line 2 of this group changes operation 2 in cycle 1"), (4, "F5", "the group of line 1 has no `end` yet"),
                                    (5, "F5", "has no fault"), (6, "F5", "no `begin` stands before"), (7, "F5", "no `end` follows"), (90, "F5", "changed since")):
             self.assertIn(said, group_hint(script, number, code).message)
+
+    def test_lines_of_a_wire(self) -> None:
+        for line, code, said in (("wire 2 0", "G1", "the form is `wire SENDERS LISTEN"), ("delivr 0 0 0", "G1", "did you mean `deliver`"), ("", "G1", "the lines are"),
+                                 ("wire 17 0 0 0 1", "G2", "SENDERS is 1 to 16"), ("cycle 1 2", "G2", "one value for each sender"),
+                                 ("deliver 0 0 4611686018427387905", "G2", "what is added"), ("deliver 1 0 0", "G3", "no such telegram was sent")):
+            self.assertIn(said, wire_hint(line, code))
 
     def test_instructions(self) -> None:
         head = "PROGRAM p\nVAR_INPUT x : DINT; b : BOOL; END_VAR\nVAR_OUTPUT y : DINT; q : BOOL; END_VAR\nVAR CONSTANT C : INT := 3; END_VAR\n"
