@@ -1,5 +1,5 @@
 mod Bits
-mod Comparisons
+mod Conditions
 mod Cycles
 mod Integers
 mod Naming

@@ -1,5 +1,5 @@
 -- Walking: what holds of a walk over the operations of a cycle, from cells in given ranges.
-use Rattle.std.specs.Prelude.{◌≡◌, ◌≢◌, ℕ, ◌<◌, ◌≤◌, ℤ, true, List, length, slice_get, take, Ok, Err, Some, None, unsigned_abs, nat_lt, false, pos, Bool}
+use Rattle.std.specs.Prelude.{◌≡◌, ◌≢◌, ◌⊎◌, ℕ, ◌<◌, ◌≤◌, ℤ, true, List, length, slice_get, take, Ok, Err, Some, None, unsigned_abs, nat_lt, false, pos, Bool}
 use Rattle.vcp_base.specs.declared.kind.Kind.{Kind}
 use Rattle.vcp_base.specs.declared.kind.Kind.TheVariants as kind
 use Rattle.vcp_base.specs.declared.kind.StopKind.{StopKind}
@@ -30,6 +30,16 @@ OwnFits row op = is_input op.kind ≡ true → fits op.ty (own row op.kind op.im
 abbrev pub Taken : Bool → ℤ → Type 0
 Taken true v = v ≢ pos 0
 Taken false v = v ≡ pos 0
+
+-- a condition's value is what its truth says: 1 where it is true, and else another
+abbrev pub Said : Bool → ℤ → Type 0
+Said true v = v ≡ pos 1
+Said false v = v ≢ pos 1
+
+-- both hold, or one of the two
+abbrev pub Parts : Bool → Type 0 → Type 0 → Type 0
+Parts true P Q = P × Q
+Parts false P Q = P ⊎ Q
 
 -- what is told of an operation holds of what it gives over these values
 pub record Tells (held row vs : List ℤ) (op : Op) (t : Told) : Type 0 where

@@ -6,6 +6,7 @@ ghost use Rattle.range_audit.specs.Intervals.{IsIn};
 ghost use Rattle.range_audit.specs.Walking.{AreKept, CellKept, KeptAt, AreSettled};
 
 use crate::range::{Range, range_at};
+use crate::thresholds::{next_above, next_below, thresholds};
 use crate::walk::walk;
 use op_graph::{Graph, Loaded, entries_keep_their_rules, operands_are_in_their_types};
 use std::alloc::Global;
@@ -14,8 +15,14 @@ use vcp_base::{Memory, Ty, greatest, least};
 /// How many rounds are tried.
 const ROUNDS: u32 = 64;
 
-/// The first round in which an end that moves goes to the end of the type.
+/// The first round in which an end that moves goes on to the next number beside one that a comparison reads.
 const FIRST_WIDENED: u32 = 3;
+
+/// The first round in which it goes further, past more of these numbers in each round.
+const FIRST_SKIPPED: u32 = 12;
+
+/// The first round in which it goes to the end of the type.
+const FIRST_TYPED: u32 = 30;
 
 /// What the LOAD of cell `k` makes.
 fn load_of(graph: &Graph, k: usize) -> Loaded
@@ -87,23 +94,62 @@ fn are_kept(graph: &Graph, cells: &[Range], known: &[Range]) -> bool
     true
 }
 
-/// The range of a cell for the next round: the values that it had, and those that are stored. From the fourth round on an end that
-/// moves goes to the end of the type, so that the rounds end.
-fn widened(cell: Range, stored: Range, ty: Ty, round: u32) -> Range {
-    let types = round >= FIRST_WIDENED;
+/// How far an end that moves goes.
+#[derive(Clone, Copy)]
+enum Step {
+    /// No further than it must.
+    Near,
+    /// Past so many of the numbers beside those that comparisons read, to the next.
+    Past(usize),
+    /// To the end of the type.
+    Typed,
+}
+
+/// How far it goes in a round.
+fn step_of(round: u32) -> Step {
+    if round < FIRST_WIDENED {
+        return Step::Near;
+    }
+    if round >= FIRST_TYPED {
+        return Step::Typed;
+    }
+    let mut skip: usize = 0;
+    'rounds: for _ in FIRST_SKIPPED..round {
+        skip = skip.saturating_mul(2).saturating_add(1);
+    }
+    Step::Past(skip)
+}
+
+/// Where a low end that moves to `low` goes.
+fn low_moved(low: i64, ty: Ty, step: Step, numbers: &[i64]) -> i64 {
+    match step {
+        Step::Near => low,
+        Step::Past(skip) => next_below(numbers, low, skip, ty),
+        Step::Typed => least(ty),
+    }
+}
+
+/// Where a high end that moves to `high` goes.
+fn high_moved(high: i64, ty: Ty, step: Step, numbers: &[i64]) -> i64 {
+    match step {
+        Step::Near => high,
+        Step::Past(skip) => next_above(numbers, high, skip, ty),
+        Step::Typed => greatest(ty),
+    }
+}
+
+/// The range of a cell for the next round: the values that it had, and those that are stored. An end that moves goes further in later
+/// rounds, so that the rounds end.
+fn widened(cell: Range, stored: Range, ty: Ty, step: Step, numbers: &[i64]) -> Range {
     let low = if stored.low >= cell.low {
         cell.low
-    } else if types {
-        least(ty)
     } else {
-        stored.low
+        low_moved(stored.low, ty, step, numbers)
     };
     let high = if stored.high <= cell.high {
         cell.high
-    } else if types {
-        greatest(ty)
     } else {
-        stored.high
+        high_moved(stored.high, ty, step, numbers)
     };
     Range {
         low,
@@ -113,7 +159,7 @@ fn widened(cell: Range, stored: Range, ty: Ty, round: u32) -> Range {
 }
 
 /// The ranges of the cells for the next round.
-fn renew(graph: &Graph, cells: &mut [Range], known: &[Range], round: u32)
+fn renew(graph: &Graph, cells: &mut [Range], known: &[Range], step: Step, numbers: &[i64])
     requires graph { IsGraph graph.now }
     requires cells { length cells.old ≡ length graph.now.stores }
     requires known { length known.now ≡ length graph.now.operations }
@@ -122,7 +168,7 @@ fn renew(graph: &Graph, cells: &mut [Range], known: &[Range], round: u32)
     'cells: for k in 0..cells.len() {
         let stored = stored_range(graph, known, k);
         let load = load_of(graph, k);
-        cells[k] = widened(cells[k], stored, load.ty, round);
+        cells[k] = widened(cells[k], stored, load.ty, step, numbers);
     }
 }
 
@@ -162,13 +208,14 @@ fn found(alloc: Global, graph: &Graph) -> Result<Vec<Range>, Memory>
     ensures settled { IfOk result (λ cells. AreSettled graph.now cells.items) }
 {
     let _operations = graph.len();
+    let numbers = thresholds(alloc, graph)?;
     let mut cells = first_cells(alloc, graph)?;
     'rounds: for round in 0..ROUNDS {
         let told = walk(alloc, graph, &cells)?;
         if are_kept(graph, &cells, told.known()) {
             return Ok(cells);
         }
-        renew(graph, &mut cells, told.known(), round);
+        renew(graph, &mut cells, told.known(), step_of(round), &numbers);
     }
     typed_cells(alloc, graph)
 }
@@ -194,7 +241,7 @@ fn closer(alloc: Global, graph: &Graph, cells: Vec<Range>) -> Result<Vec<Range>,
 {
     let told = walk(alloc, graph, &cells)?;
     let mut next = first_cells(alloc, graph)?;
-    renew(graph, &mut next, told.known(), 0);
+    renew(graph, &mut next, told.known(), Step::Near, &[]);
     let is = are_settled(alloc, graph, &next)?;
     if is {
         return Ok(next);

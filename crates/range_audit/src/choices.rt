@@ -1,15 +1,21 @@
-//! What a comparison tells of the two values that it compares, where a SEL takes one of them by it.
+//! What a condition tells of the values that it compares, where a SEL takes one of them by it.
 
-ghost use Rattle.std.specs.Prelude.{◌≡◌, ◌<◌, ◌≤◌, ◌<ℤ◌, ◌≤ℤ◌, ℤ, true, List, length, int_lt};
-ghost use Rattle.vcp_base.specs.Kinds.{truth as truth_of};
+ghost use Rattle.std.specs.Prelude.{◌≡◌, ◌≢◌, ◌<◌, ◌≤◌, ◌<ℤ◌, ◌≤ℤ◌, ℤ, true, List, length, int_lt};
+ghost use Rattle.vcp_base.specs.Kinds.{same, truth as truth_of};
 ghost use Rattle.vcp_base.specs.Values.{at};
 ghost use Rattle.op_graph.specs.Rules.{IsGraph};
 ghost use Rattle.range_audit.specs.Intervals.{IsIn, IsWithin, Fit};
-ghost use Rattle.range_audit.specs.Walking.{Given, Taken};
+ghost use Rattle.range_audit.specs.Walking.{Given, Taken, Said, Parts};
 
 use crate::range::{Bounds, Range, earlier_range};
 use op_graph::{Graph, Op, entries_keep_their_rules, operands_are_there};
 use vcp_base::Kind;
+
+/// How many conditions deep is looked, each time into the first of the two that one joins.
+const DEPTH: u32 = 12;
+
+/// How many deep into the second of them. So few conditions are looked into of many that share their parts.
+const SECOND_DEPTH: u32 = 2;
 
 /// Bounds of x, where x is less than y.
 fn lesser_one(a: Range, b: Range) -> Bounds
@@ -87,13 +93,146 @@ fn where_no_less(op: &Op, a: Range, b: Range, n: u32, r: Range) -> Range
 
 /// The same where the comparison is `truth`.
 fn compared(op: &Op, truth: bool, a: Range, b: Range, n: u32, r: Range) -> Range
-    ensures { (vs : List ℤ) → IsIn a (at vs op.now.a) → IsIn b (at vs op.now.b) → Taken truth (truth_of (int_lt (at vs op.now.a) (at vs op.now.b)))
+    ensures { (vs : List ℤ) → IsIn a (at vs op.now.a) → IsIn b (at vs op.now.b) → Said truth (truth_of (int_lt (at vs op.now.a) (at vs op.now.b)))
         → IsIn r (at vs n) → IsIn result (at vs n) }
 {
     if truth {
         return where_less(op, a, b, n, r);
     }
     where_no_less(op, a, b, n, r)
+}
+
+/// The range of operation `n`, which is in `r`, where the two operations that `op` compares are equal.
+fn where_equal(op: &Op, a: Range, b: Range, n: u32, r: Range) -> Range
+    ensures { (vs : List ℤ) → IsIn a (at vs op.now.a) → IsIn b (at vs op.now.b) → at vs op.now.a ≡ at vs op.now.b → IsIn r (at vs n) → IsIn result (at vs n) }
+{
+    let is_first = is_one(n, op.a);
+    if is_first {
+        let second = b.bounds();
+        return r.met(second);
+    }
+    let is_second = is_one(n, op.b);
+    if is_second {
+        let first = a.bounds();
+        return r.met(first);
+    }
+    r
+}
+
+/// The same where they aren't equal.
+fn where_unequal(op: &Op, a: Range, b: Range, n: u32, r: Range) -> Range
+    ensures { (vs : List ℤ) → IsIn a (at vs op.now.a) → IsIn b (at vs op.now.b) → at vs op.now.a ≢ at vs op.now.b → IsIn r (at vs n) → IsIn result (at vs n) }
+{
+    let is_first = is_one(n, op.a);
+    if is_first {
+        return r.without(b);
+    }
+    let is_second = is_one(n, op.b);
+    if is_second {
+        return r.without(a);
+    }
+    r
+}
+
+/// The same where that they are equal is `truth`.
+fn matched(op: &Op, truth: bool, a: Range, b: Range, n: u32, r: Range) -> Range
+    ensures { (vs : List ℤ) → IsIn a (at vs op.now.a) → IsIn b (at vs op.now.b) → Said truth (truth_of (same (at vs op.now.a) (at vs op.now.b)))
+        → IsIn r (at vs n) → IsIn result (at vs n) }
+{
+    if truth {
+        return where_equal(op, a, b, n, r);
+    }
+    where_unequal(op, a, b, n, r)
+}
+
+/// The range of operation `n` where the comparison `c` is `truth`; of what is no comparison nothing is told.
+fn by_comparison(graph: &Graph, known: &[Range], c: u32, truth: bool, n: u32) -> Range
+    requires graph { IsGraph graph.now }
+    requires condition { c < length known.now }
+    requires there { n < length known.now }
+    requires many { length known.now ≤ length graph.now.operations }
+    ensures { (held row vs : List ℤ) → Given graph.now.operations held row vs → Fit known.now vs → length known.now ≤ length vs → Said truth (at vs c)
+        → IsIn result (at vs n) }
+{
+    // What a comparison reads are earlier operations.
+    operands_are_there();
+    entries_keep_their_rules();
+    let op = graph.operation(c);
+    let r = earlier_range(known, n);
+    match op.kind {
+        Kind::Lt => {
+            let a = earlier_range(known, op.a);
+            let b = earlier_range(known, op.b);
+            compared(&op, truth, a, b, n, r)
+        }
+        Kind::Eq => {
+            let x = earlier_range(known, op.a);
+            let y = earlier_range(known, op.b);
+            matched(&op, truth, x, y, n, r)
+        }
+        _ => r,
+    }
+}
+
+/// The range of a value that is in both ranges, or in one of the two.
+fn connected(both: bool, first: Range, second: Range) -> Range
+    ensures { (v : ℤ) → Parts both (IsIn first v) (IsIn second v) → IsIn result v }
+{
+    if both {
+        let bounds = second.bounds();
+        return first.met(bounds);
+    }
+    first.joined(second)
+}
+
+/// How deep the second of two conditions is looked into, where the first is looked into so deep.
+fn second_depth(depth: u32) -> u32
+    ensures { result ≤ depth }
+{
+    if depth < SECOND_DEPTH {
+        depth
+    } else {
+        SECOND_DEPTH
+    }
+}
+
+/// The range of operation `n` where condition `c` is `truth`, by the conditions that `c` joins, so many deep.
+fn case_within(graph: &Graph, known: &[Range], c: u32, truth: bool, n: u32, depth: u32) -> Range
+    requires graph { IsGraph graph.now }
+    requires condition { c < length known.now }
+    requires there { n < length known.now }
+    requires many { length known.now ≤ length graph.now.operations }
+    ensures { (held row vs : List ℤ) → Given graph.now.operations held row vs → Fit known.now vs → length known.now ≤ length vs → Said truth (at vs c)
+        → IsIn result (at vs n) }
+{
+    if depth == 0 {
+        return by_comparison(graph, known, c, truth, n);
+    }
+    // What a condition joins are earlier operations.
+    operands_are_there();
+    entries_keep_their_rules();
+    let op = graph.operation(c);
+    let less = depth - 1;
+    match op.kind {
+        Kind::Not => {
+            let denied = earlier_range(known, op.a);
+            if denied.is_truth() {
+                return case_within(graph, known, op.a, !truth, n, less);
+            }
+            earlier_range(known, n)
+        }
+        Kind::And => {
+            let first = case_within(graph, known, op.a, truth, n, less);
+            let second = case_within(graph, known, op.b, truth, n, second_depth(less));
+            connected(truth, first, second)
+        }
+        Kind::Or => {
+            let one = case_within(graph, known, op.a, truth, n, less);
+            let other = case_within(graph, known, op.b, truth, n, second_depth(less));
+            connected(!truth, one, other)
+        }
+        _ => by_comparison(graph, known, c, truth, n),
+    }
 }
 
 /// The range of operation `n` in the case that condition `c` is `truth`.
@@ -105,17 +244,10 @@ pub(crate) fn case_range(graph: &Graph, known: &[Range], c: u32, truth: bool, n:
     ensures { (held row vs : List ℤ) → Given graph.now.operations held row vs → Fit known.now vs → length known.now ≤ length vs → Taken truth (at vs c)
         → IsIn result (at vs n) }
 {
-    // What a condition compares are earlier operations.
-    operands_are_there();
-    entries_keep_their_rules();
-    let op = graph.operation(c);
-    let r = earlier_range(known, n);
-    match op.kind {
-        Kind::Lt => {
-            let a = earlier_range(known, op.a);
-            let b = earlier_range(known, op.b);
-            compared(&op, truth, a, b, n, r)
-        }
-        _ => r,
+    let condition = earlier_range(known, c);
+    let is_truth = condition.is_truth();
+    if is_truth {
+        return case_within(graph, known, c, truth, n, DEPTH);
     }
+    earlier_range(known, n)
 }

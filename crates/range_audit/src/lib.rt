@@ -9,6 +9,7 @@ mod cells;
 mod choices;
 mod laws;
 mod range;
+mod thresholds;
 mod told;
 mod values;
 mod walk;

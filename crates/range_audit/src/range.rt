@@ -218,6 +218,104 @@ impl Range {
         self.low == v && self.high == v
     }
 
+    /// Whether the range has no values but 0 and 1.
+    pub(crate) fn is_truth(self) -> bool
+        ensures { result ≡ true → (v : ℤ) → IsIn self v → (v ≡ pos 0) ⊎ (v ≡ pos 1) }
+    {
+        self.low >= 0 && self.high <= 1
+    }
+
+    /// The low end of the range without `k`.
+    fn low_without(self, k: i64) -> i64
+        ensures { (v : ℤ) → IsIn self v → v ≢ k → result ≤ℤ v }
+    {
+        if self.low != k || k == i64::MAX {
+            return self.low;
+        }
+        k + 1
+    }
+
+    /// The high end of it.
+    fn high_without(self, k: i64) -> i64
+        ensures { (v : ℤ) → IsIn self v → v ≢ k → v ≤ℤ result }
+    {
+        if self.high != k || k == i64::MIN {
+            return self.high;
+        }
+        k - 1
+    }
+
+    /// The values of the range but `k`, where that is an end of it, or 0.
+    fn without_value(self, k: i64) -> Range
+        ensures { (v : ℤ) → IsIn self v → v ≢ k → IsIn result v }
+    {
+        if k == 0 {
+            return self.without_zero();
+        }
+        let low = self.low_without(k);
+        let high = self.high_without(k);
+        Range {
+            low,
+            high,
+            nonzero: self.nonzero,
+        }
+    }
+
+    /// The values of the range that aren't equal to one in the other range, as far as that is seen: where that has one value.
+    pub(crate) fn without(self, other: Range) -> Range
+        ensures { (v w : ℤ) → IsIn self v → IsIn other w → v ≢ w → IsIn result v }
+    {
+        let k = other.low;
+        let is_one = other.is_only(k);
+        if is_one {
+            return self.without_value(k);
+        }
+        self
+    }
+
+    /// The lesser of the two low ends.
+    fn least_low(self, other: Range) -> i64
+        ensures first { result ≤ℤ self.low }
+        ensures second { result ≤ℤ other.low }
+    {
+        if self.low < other.low {
+            self.low
+        } else {
+            other.low
+        }
+    }
+
+    /// The larger of the two high ends.
+    fn greatest_high(self, other: Range) -> i64
+        ensures first { self.high ≤ℤ result }
+        ensures second { other.high ≤ℤ result }
+    {
+        if self.high < other.high {
+            other.high
+        } else {
+            self.high
+        }
+    }
+
+    /// The values of both ranges, and those between them; of one of the two where the other has none.
+    pub(crate) fn joined(self, other: Range) -> Range
+        ensures first { (v : ℤ) → IsIn self v → IsIn result v }
+        ensures second { (v : ℤ) → IsIn other v → IsIn result v }
+    {
+        let none_here = self.is_empty();
+        if none_here {
+            return other;
+        }
+        let none_there = other.is_empty();
+        if none_there {
+            return self;
+        }
+        let low = self.least_low(other);
+        let high = self.greatest_high(other);
+        let nonzero = both_hold(self.nonzero, other.nonzero);
+        Range { low, high, nonzero }
+    }
+
     /// Whether each value of the range is in the other one.
     pub(crate) fn is_inside(self, other: Range) -> bool
         ensures { result ≡ true → (v : ℤ) → IsIn self v → IsIn other v }

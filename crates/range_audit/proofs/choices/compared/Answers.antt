@@ -1,5 +1,5 @@
 use Rattle.vcp_base.specs.Values.{at}
-use Rattle.range_audit.proofs.Comparisons.{less_where, no_less_where}
+use Rattle.range_audit.proofs.Conditions.{less_where, no_less_where}
 use Rattle.range_audit.proofs.choices.compared.Goals as goal
 
 pub returns-then-truth : goal.returns-then-truth
