@@ -137,7 +137,7 @@ combine_made : (laws : PartLaws) (slots : List Slot) (used : Ty → Bool) (op : 
     → IfSome c (λ w. (within t w ≡ true) × (within u w ≡ true) × (common op w w ≡ Some w))
     → used t ≡ true → IsExpr (with_hidden slots used) e → ty_of e ≡ u → used (combined_type op t c) ≡ true
     → IsStmt (with_hidden slots used) [] (combining (place slots used) op s t e u c)
-combine_made laws slots used op s t e u None m k h is r = (tt, tt)
+combine_made laws slots used op s t e u None m k h is r = (hidden_set slots used t k, kept_made slots used t k)
 combine_made laws slots used op s t e u (Some w) m k h is r =
     let a = laws.widens_to (with_hidden slots used) w t (kept (place slots used) t) refl m.0 (kept_made slots used t k) in
     let b = laws.widens_to (with_hidden slots used) w u e is m.1 h in

@@ -17,3 +17,4 @@ pub mod HeadLaws
 pub mod OneAnswer
 pub mod SomeAnswer
 pub mod Built
+pub mod CodeSize

@@ -129,7 +129,9 @@ kept_value j n now h e k = ap (λ (v : ℤ). let r : Result ℤ Stop = Ok v in r
 combine_step : (j : Ty → ℕ) (n : ℕ) (now : Now) (h : List ℤ) (op : BinOp) (s : Spot) (e : TExprTree) (u : Ty) (y : ℤ) (c : Option Ty)
     → length now.vars ≡ n → Keeps j h now → value [] e (now.vars ++ h) ≡ Ok y
     → do_stmt [] (combining (placed n j) op s now.ty e u c) (now.vars ++ h) ≡ and_then (combined op s y c now) (left_by j h)
-combine_step j n now h op s e u y None l k v = ap (λ (g : List ℤ). done (now.vars ++ g)) (sym (stays j h now k))
+combine_step j n now h op s e u y None l k v =
+    assigned (value [] (kept (placed n j) now.ty) (now.vars ++ h)) now.value (now.vars ++ h) (n + j now.ty) (kept_value j n now h l k)
+    ∙ ap done (hidden-set now.vars h n (j now.ty) now.value l)
 combine_step j n now h op s e u y (Some w) l k v =
     ap (λ (r : Result ℤ Stop). and_then r (λ x. done (slice_set (now.vars ++ h) (n + j (result op w)) x)))
     (both_values op w s (value [] (widened w now.ty (kept (placed n j) now.ty)) (now.vars ++ h)) (value [] (widened w u e) (now.vars ++ h)) now.value y

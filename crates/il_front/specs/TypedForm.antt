@@ -96,9 +96,9 @@ turned negated spot e = cond negated (unary un.Not ty.Bool e spot) e
 abbrev pub kept : (Ty → ℕ) → Ty → TExprTree
 kept place t = get (place t) t
 
--- an operator on the kept result of type t and an operand of type u, both widened
+-- an operator on the kept result of type t and an operand of type u, both widened; where they have no common type the result stays
 abbrev pub combining : (Ty → ℕ) → BinOp → Spot → Ty → TExprTree → Ty → Option Ty → TStmtTree
-combining place op spot t e u None = if_ no_tarms no_tother
+combining place op spot t e u None = assign (place t) (kept place t) spot
 combining place op spot t e u (Some w) =
     assign (place (result op w)) (binary op w (widened w t (kept place t)) (widened w u e) spot) spot
 

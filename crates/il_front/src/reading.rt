@@ -50,6 +50,10 @@ fn built(alloc: Global, declared: Slots, code: &[Instruction]) -> Result<Parts, 
             spot: Spot { line: 1, col: 1 },
         }));
     }
+    // the Size of each statement is 1 or more, so none is made of too many
+    if code.len() > MOST_SIZE as usize {
+        return Err(IlFault::Types(TypeFault::Size));
+    }
     let body = statements(alloc, places, code)?;
     if size_of(&slots, &body) > MOST_SIZE {
         return Err(IlFault::Types(TypeFault::Size));

@@ -52,13 +52,6 @@ fn kept(places: Places, ty: Ty) -> TExpr
     TExpr::get(places.place(ty), ty)
 }
 
-// No statement.
-fn nothing(alloc: Global) -> TStmt
-    ensures { tstmt_tree result ≡ if_tree no_tarms no_tother }
-{
-    TStmt::if_(TArms::new(alloc), None)
-}
-
 // An operator on the kept result of type `ty` and an operand of type `other`, both widened to a common type.
 fn combining(
     alloc: Global,
@@ -73,7 +66,7 @@ fn combining(
     ensures { IfOk result (λ r. tstmt_tree r ≡ combining_of (place_in places) op spot ty (texpr_tree e) other (common_of op ty other)) }
 {
     match common(op, ty, other) {
-        None => Ok(nothing(alloc)),
+        None => Ok(TStmt::assign(places.place(ty), kept(places, ty), spot)),
         Some(wide) => {
             let left = widened_from(alloc, wide, ty, kept(places, ty))?;
             let right = widened_from(alloc, wide, other, e)?;

@@ -2,6 +2,7 @@ use Rattle.std.proofs.Common.{◌<◌, ◌≤◌, ℕ, inl, inr, refl, subst, �
 use Rattle.vcp_typed.specs.SourceRun.{Program}
 use Rattle.vcp_typed.specs.TStmtViews.{tstmt_trees}
 use Rattle.il_front.specs.Accumulator.{Il}
+use Rattle.il_front.proofs.CodeSize.{many_statements}
 use Rattle.il_front.proofs.Built.{parts_are, slots_are, few_slots, many_slots, small_size, large_size}
 use Rattle.il_front.proofs.reading.built.Goals as goal
 
@@ -13,6 +14,17 @@ returns-then-len-clause-err c =
       refl,
       many_slots i s (slots_are i c.places_of-places.result s c.places_of-places.ensures.used c.in_ok-add_all_hidden.ensures)
           (subst (λ (n : ℕ). 1024 < n) c.len-2.ensures c.if-len.true),
+    ))
+
+pub returns-then-code-clause-err : goal.returns-then-code-clause-err
+returns-then-code-clause-err c =
+    let i : Il = record { slots = c.args.declared.items.items; code = c.args.code.now } in
+    let s = c.add_all_hidden.new.slots.items.items in
+    inr (inr (
+      refl,
+      few_slots i s (slots_are i c.places_of-places.result s c.places_of-places.ensures.used c.in_ok-add_all_hidden.ensures)
+          (subst (λ (n : ℕ). n ≤ 1024) c.len-2.ensures c.if-len.false),
+      many_statements i c.if-code.true,
     ))
 
 pub returns-then-size_of-gt-MOST_SIZE-clause-err : goal.returns-then-size_of-gt-MOST_SIZE-clause-err
