@@ -5,3 +5,4 @@ pub mod Lookups
 pub mod Sending
 pub mod SoFar
 pub mod Telling
+mod Worked
