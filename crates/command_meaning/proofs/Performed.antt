@@ -1,21 +1,21 @@
 -- Performed: from how far a command came, and what became of its line, to how it serves and what it keeps.
-use Rattle.std.proofs.Common.{ℕ, ◌≡◌, ◌≢◌, ◌⊎◌, inl, inr, refl, sym, subst, ◌∙◌, List, [], ◌∷◌, ◌++◌, Option, Some, None, IfSome, arith}
+use Rattle.std.proofs.Common.{ℕ, ◌≡◌, ◌≢◌, ◌≤◌, ◌⊎◌, inl, inr, refl, sym, subst, ◌∙◌, List, [], ◌∷◌, ◌++◌, Option, Some, None, IfSome, arith}
 use Rattle.std.specs.Io.KnownBytes.{Appends, IsAtEnd}
 use Rattle.vcp_outside.specs.Counts.{Rose}
 use Rattle.vcp_outside.specs.Held.{Held}
 use Rattle.command_meaning.specs.Answer.{Answer}
 use Rattle.command_meaning.specs.Abouts.{Among, About, AllHeld}
-use Rattle.command_meaning.specs.Clauses.{IsEnd, IsTooLong, Keeps, MayHold, Serves, TellsTooLong}
-use Rattle.command_meaning.specs.Endings.{Answered, known, given_up, Causes, Ends, GivenUp, HasOwnStatus, NothingFailed, TellsLine}
+use Rattle.command_meaning.specs.Clauses.{IsEnd, IsTooLong, Keeps, MayHold, Serves, TellsTooLong, Completed, Completes, IsAccepted}
+use Rattle.command_meaning.specs.Endings.{Answered, known, given_up, Came, Causes, Ends, Given, GivenUp, HasOwnStatus, NothingFailed, TellsLine}
 use Rattle.command_meaning.specs.Endings as ends
-use Rattle.command_meaning.specs.Kinds.{Task, lacks, answers, compiles, runs, judges, compares, wires, Done}
+use Rattle.command_meaning.specs.Kinds.{Task, lacks, answers, compiles, runs, judges, compares, wires, Done, Meant}
 use Rattle.command_meaning.specs.Performing.{Still, Reaches, done, cut, short, unread, unmade, Performs}
 use Rattle.command_meaning.specs.PairKind.{pair_read}
 use Rattle.command_meaning.specs.RunKind.{run_read}
-use Rattle.coded_unit.specs.Seen.{UnitSeen}
+use Rattle.coded_unit.specs.Seen.{UnitSeen, StaysHonest}
 use Rattle.vcp_outside.specs.Seen.{SinkSeen}
 use Rattle.command_meaning.specs.Seen.{Outside, Untouched, moment_of}
-use Rattle.command_meaning.proofs.Causing.{endings_have_causes, giving_up_has_causes, five_lacks, pair_small, run_small, status_of, wire_small}
+use Rattle.command_meaning.proofs.Causing.{endings_have_causes, giving_up_has_causes, five_lacks, pair_small, run_small, status_of, done_is_meant, wire_small}
 
 -- A command comes to one task at most; to an answer only with a status of its own; and to a lacking name only where not all of its files
 -- are held.
@@ -146,6 +146,7 @@ pub performed_keeps : (c : About) (Comes : Held → Task → Type 0) (before aft
     Keeps c before after status
 performed_keeps c Comes before after line code status p (inl (is, w)) = record {
   statuses = subst (λ (n : ℕ). Among n (c.ends ++ 5 ∷ 6 ∷ 7 ∷ [])) (sym is) p.statuses;
+  told = (code, line, p.statuses, p.told, inl (is, w));
   held = p.held;
   unit = p.unit;
   files = p.stay;
@@ -154,10 +155,12 @@ performed_keeps c Comes before after line code status p (inl (is, w)) = record {
   stopped = λ calls two. p.stopped calls (sym is ∙ two);
   refused = λ three. p.refused (sym is ∙ three);
   read = λ five. p.read (sym is ∙ five);
-  write = λ six. inl (p.write (sym is ∙ six));
+  write = λ six.
+      inl (p.write (sym is ∙ six), subst (λ (l : List ℕ). Appends before.err.written after.err.written l) (p.told.output (sym is ∙ six)) w);
 }
 performed_keeps c Comes before after line code status p (inr (is, rose, part)) = record {
   statuses = subst (λ (n : ℕ). Among n (c.ends ++ 5 ∷ 6 ∷ 7 ∷ [])) (sym is) (among_after 6 c.ends (5 ∷ 6 ∷ 7 ∷ []) (inr (inl refl)));
+  told = (code, line, p.statuses, p.told, inr (is, rose, part));
   held = p.held;
   unit = p.unit;
   files = p.stay;
@@ -168,3 +171,53 @@ performed_keeps c Comes before after line code status p (inr (is, rose, part)) =
   read = λ five. absurd (omega (arith, is, five));
   write = λ six. inr rose;
 }
+
+-- ---- completeness, as one sentence
+
+-- a status that is none of the others is 7, 0 or 2
+seven_or_end : (n : ℕ) → n ≤ 7 → n ≢ 1 → n ≢ 3 → n ≢ 4 → n ≢ 5 → n ≢ 6 → (n ≡ 7) ⊎ ((n ≡ 0) ⊎ (n ≡ 2))
+seven_or_end n few one three four five six = grind arith
+
+-- a status of a command that is no fault's is its own
+among_own : (n : ℕ) (ends : List ℕ) → n ≢ 5 → n ≢ 6 → n ≢ 7 → Among n (ends ++ 5 ∷ 6 ∷ 7 ∷ []) → Among n ends
+among_own n [] five six seven (inl is) = five is
+among_own n [] five six seven (inr (inl is)) = six is
+among_own n [] five six seven (inr (inr (inl is))) = seven is
+among_own n [] five six seven (inr (inr (inr h))) = h
+among_own n (end ∷ ends) five six seven (inl is) = inl is
+among_own n (end ∷ ends) five six seven (inr h) = inr (among_own n ends five six seven h)
+
+two_own : (n : ℕ) (ends : List ℕ) → n ≡ 2 → Among n (ends ++ 5 ∷ 6 ∷ 7 ∷ []) → Among 2 ends
+two_own n ends two own =
+    among_own 2 ends (λ e. omega (arith, e)) (λ e. omega (arith, e)) (λ e. omega (arith, e))
+    (subst (λ (m : ℕ). Among m (ends ++ 5 ∷ 6 ∷ 7 ∷ [])) two own)
+
+module _ (c : About) (task : Task) (before after : Outside) (status : ℕ) (kept : Keeps c before after status) where
+  ended_so : (x : Answer) → Meant task x → Came x before after status → (status ≡ 7) ⊎ ((status ≡ 0) ⊎ (status ≡ 2)) →
+      (status ≡ 7) ⊎ Completed c task before after status
+  ended_so x meant came (inl wanted) = inl wanted
+  ended_so x meant came (inr (inl zero)) =
+      inr (record { answer = x; meant = meant; came = came; own = inl zero; read = λ reads. kept.ended reads (inl zero) })
+  ended_so x meant came (inr (inr two)) =
+      inr (record {
+        answer = x;
+        meant = meant;
+        came = came;
+        own = inr (two, two_own status c.ends two kept.statuses);
+        read = λ reads. kept.ended reads (inr (inl two));
+      })
+
+  module _ (small : status ≤ 7) (no_usage : status ≢ 4) (honest : StaysHonest before.unit after.unit) (accepted : IsAccepted task) where
+    came_so : (status ≢ 5) × (status ≢ 6) → (status ≡ 7) ⊎ Given task before after status → (status ≡ 7) ⊎ Completed c task before after status
+    came_so faults (inl wanted) = inl wanted
+    came_so faults (inr given) =
+        let meant = done_is_meant task before.unit after.unit given.answer given.done honest in
+        ended_so given.answer meant given.came
+        (seven_or_end status small (λ one. accepted given.answer meant (sym given.came.status_is ∙ one))
+        (λ three. let rose = kept.refused three in omega (arith, rose, honest.0, honest.1)) no_usage faults.0 faults.1)
+
+-- where a command serves and keeps what every command keeps, it completes
+pub serves_completes : (c : About) (held : Held) (Comes : Task → Type 0) (before after : Outside) (status : ℕ) → Serves c held Comes before after status →
+    Keeps c before after status → status ≤ 7 → status ≢ 4 → Completes c held Comes before after status
+serves_completes c held Comes before after status serves kept small no_usage all nothing honest task comes accepted =
+    came_so c task before after status kept small no_usage honest accepted (serves.completes all nothing) ((serves.causes task comes).completes nothing)

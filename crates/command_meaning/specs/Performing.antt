@@ -7,7 +7,7 @@ use Rattle.vcp_outside.specs.Written.{AppendsFront, AppendsPart}
 use Rattle.vcp_inputs.specs.Lines.{memory_text, read_fault_text, write_fault_text}
 use Rattle.command_meaning.specs.Answer.{Answer}
 use Rattle.command_meaning.specs.Abouts.{Among, About, FileWord}
-use Rattle.command_meaning.specs.Clauses.{IsEnd, IsTooLong, MayHold}
+use Rattle.command_meaning.specs.Clauses.{IsEnd, IsLine, IsTooLong, MayHold}
 use Rattle.command_meaning.specs.Kinds.{Task, Done, Left}
 use Rattle.machine_run.specs.Stops.{GrowsToStop}
 use Rattle.vcp_outside.specs.Seen.{FilesSeen}
@@ -36,6 +36,7 @@ pub record Performs (c : About) (Comes : Held → Task → Type 0) (files files_
     : Type 0 where
   pub reaches : (h : Held) → MayHold c files.held h → Reaches c (Comes h) files files_after before after line code
   pub statuses : Among code (c.ends ++ 5 ∷ 6 ∷ 7 ∷ [])
+  pub told : IsLine c code line
   pub held : files_after.held ≡ files.held
   pub unit : c.calls ≡ false → after.unit ≡ before.unit
   pub stay : c.files ≡ [] → files_after ≡ files

@@ -136,6 +136,7 @@ module _ {V : Type 0} (Is : List ℕ → V → Type 0) (Why : List ℕ → Refus
         (opens_before (rows_outcome rows h columns) files.broken mid.broken later.broken i broken o))
         loads opens)
         (rows_taken i (λ r is other. stays_at_end mid.rest later.rest end (rest r is other)) long) (λ is. omega (arith, faults, rose is))
+        (λ is. let (w, among, name_is) = rows_file rows columns (begun is) in (w, more w among, sym name_is))
 
     -- they were, from this source
     module _ (s : RowsSource) (end : IsAtEnd later.rest) (source_is : IfSome mid.held (λ h. rows_outcome rows h columns ≡ source_outcome s columns)) where
@@ -159,4 +160,4 @@ module _ {V : Type 0} (Is : List ℕ → V → Type 0) (Why : List ℕ → Refus
           files_lost c OnFile files later reads (held_later ∙ held_mid) one at (rows_name rows) i
           (if_some_both files.held mid.held _ _ _ held_mid
           (λ h l is. rows_lost h at (source_outcome s columns) i l is (λ e. absurd (read e)) opens) loads source_is)
-          (λ is. if_some_always files.held _ (λ h. inl end)) (λ is. absurd (read is))
+          (λ is. if_some_always files.held _ (λ h. inl end)) (λ is. absurd (read is)) (λ is. absurd (read is))

@@ -1,5 +1,5 @@
 -- How far a command comes and what it keeps, from what its calls answer.
-use Rattle.std.proofs.Common.{ℕ, ◌≡◌, ◌≢◌, ◌≤◌, ◌⊎◌, length, inl, inr, true, false, refl, sym, subst, List, [], ◌∷◌, ◌++◌, Option, Some, Result, Ok, Err}
+use Rattle.std.proofs.Common.{ℕ, ◌≡◌, ◌≢◌, ◌≤◌, ◌⊎◌, length, inl, inr, true, false, refl, sym, subst, ◌∙◌, List, [], ◌∷◌, ◌++◌, Option, Some, Result, Ok, Err}
 use Rattle.std.proofs.Common.{IfSome, arith}
 use Rattle.std.specs.Io.KnownBytes.{Appends, IsAtEnd}
 use Rattle.vcp_outside.specs.Counts.{Rose}
@@ -21,7 +21,7 @@ use Rattle.vcp_inputs.specs.Lines.{input_text, input_status, memory_text, refusa
 use Rattle.vcp_inputs.specs.Refusals.{no_rows}
 use Rattle.command_meaning.specs.Answer.{printed}
 use Rattle.command_meaning.specs.Abouts.{Among, About, FileWord}
-use Rattle.command_meaning.specs.Clauses.{IsEnd, IsTooLong, MayHold}
+use Rattle.command_meaning.specs.Clauses.{IsEnd, IsLine, IsTooLong, MayHold, NamesFile}
 use Rattle.command_meaning.specs.FileTasks.{TakenFile, missing, taken, untaken}
 use Rattle.command_meaning.specs.Kinds.{Task, lacks, lack_answer, refusal_task, runs, Done, Left}
 use Rattle.command_meaning.specs.Performing.{Still, Reaches, done, cut, unread, unmade, Performs}
@@ -54,6 +54,12 @@ not_three i h = not_input i 3 h (λ x. omega (arith, x)) (λ x. omega (arith, x)
 
 not_six : (i : NoInput) → input_status i ≡ 6 → ⊥
 not_six i h = not_input i 6 h (λ x. omega (arith, x)) (λ x. omega (arith, x)) (λ x. omega (arith, x))
+
+-- an end is none of the other statuses
+end_not : (code n : ℕ) → IsEnd code → code ≡ n → (0 ≡ n → ⊥) → (2 ≡ n → ⊥) → (3 ≡ n → ⊥) → ⊥
+end_not code n (inl is) other zero two three = zero (sym is ∙ other)
+end_not code n (inr (inl is)) other zero two three = two (sym is ∙ other)
+end_not code n (inr (inr is)) other zero two three = three (sym is ∙ other)
 
 no_end : (i : NoInput) → IsEnd (input_status i) → ⊥
 no_end i (inl h) = not_input i 0 h (λ x. omega (arith, x)) (λ x. omega (arith, x)) (λ x. omega (arith, x))
@@ -147,6 +153,63 @@ module _ (ends : List ℕ) where
     run_among (Err run.Write) own = six_among
     run_among (Err run.Memory) own = seven_among
 
+-- ---- the line of each status
+
+module _ (c : About) where
+  -- none where the command came to its end
+  pub no_line : (code : ℕ) → IsEnd code → IsLine c code []
+  no_line code end = record {
+    none = λ is. refl;
+    refused = λ is. absurd (end_not code _ end is (λ e. omega (arith, e)) (λ e. omega (arith, e)) (λ e. omega (arith, e)));
+    file = λ is. absurd (end_not code _ end is (λ e. omega (arith, e)) (λ e. omega (arith, e)) (λ e. omega (arith, e)));
+    output = λ is. absurd (end_not code _ end is (λ e. omega (arith, e)) (λ e. omega (arith, e)) (λ e. omega (arith, e)));
+    memory = λ is. absurd (end_not code _ end is (λ e. omega (arith, e)) (λ e. omega (arith, e)) (λ e. omega (arith, e)));
+  }
+
+  write_line : IsLine c 6 write_fault_text
+  write_line = record {
+    none = λ end. absurd (end_not 6 6 end refl (λ e. omega (arith, e)) (λ e. omega (arith, e)) (λ e. omega (arith, e)));
+    refused = λ is. absurd (omega (arith, is));
+    file = λ is. absurd (omega (arith, is));
+    output = λ is. refl;
+    memory = λ is. absurd (omega (arith, is));
+  }
+
+  -- that of an input that isn't there; one that is unread is a file that the command reads
+  input_line : (name : List ℕ) (i : NoInput) → (i ≡ input.Unread → NamesFile c name) → IsLine c (input_status i) (input_text name i)
+  input_line name input.Unread named = record {
+    none = λ end. absurd (no_end input.Unread end);
+    refused = λ is. absurd (omega (arith, is));
+    file = λ is. (name, named refl, refl);
+    output = λ is. absurd (omega (arith, is));
+    memory = λ is. absurd (omega (arith, is));
+  }
+  input_line name (input.Refused r) named = record {
+    none = λ end. absurd (no_end (input.Refused r) end);
+    refused = λ is. (name, r, refl);
+    file = λ is. absurd (omega (arith, is));
+    output = λ is. absurd (omega (arith, is));
+    memory = λ is. absurd (omega (arith, is));
+  }
+  input_line name input.Memory named = record {
+    none = λ end. absurd (no_end input.Memory end);
+    refused = λ is. absurd (omega (arith, is));
+    file = λ is. absurd (omega (arith, is));
+    output = λ is. absurd (omega (arith, is));
+    memory = λ is. refl;
+  }
+
+  memory_line : IsLine c 7 memory_text
+  memory_line = input_line [] input.Memory (λ e. absurd cc)
+
+  run_lines : (name : List ℕ) (r : Result Ending RunFault) → IsLine c (run_code r) (run_line name r)
+  run_lines name (Ok end.Done) = no_line 0 (inl refl)
+  run_lines name (Ok end.Stopped) = no_line 2 (inr (inl refl))
+  run_lines name (Ok end.Refused) = no_line 3 (inr (inr refl))
+  run_lines name (Err (run.Rows f)) = input_line name (no_rows f) (λ e. absurd (row_read f e))
+  run_lines name (Err run.Write) = write_line
+  run_lines name (Err run.Memory) = memory_line
+
 -- each end of a run is one of its own
 pub run_ends : (e : Ending) → Among (end_status e) (0 ∷ 1 ∷ 2 ∷ 3 ∷ [])
 run_ends end.Done = inl refl
@@ -225,6 +288,7 @@ module _ (c : About) (Comes : Held → Task → Type 0) (files later : FilesSeen
   wanted_performs before after s = record {
     reaches = λ h may. unmade s refl refl;
     statuses = seven_among c.ends;
+    told = memory_line c;
     held = held;
     unit = λ no. s.unit;
     stay = stay;
@@ -241,10 +305,12 @@ module _ (c : About) (Comes : Held → Task → Type 0) (files later : FilesSeen
     pub input_performs : (at : Moment) (name : List ℕ) (i : NoInput) →
         ((h : Held) → MayHold c files.held h → Reaches c (Comes h) files later at at (input_text name i) (input_status i)) →
         (c.files ≢ [] → input_status i ≡ 1 → IfSome files.held (λ h. IsAtEnd later.rest ⊎ IsTooLong c h (input_text name i))) →
-        (i ≡ input.Unread → Rose files.faults later.faults) → Performs c Comes files later at at (input_text name i) (input_status i)
-    input_performs at name i far all_taken rose = record {
+        (i ≡ input.Unread → Rose files.faults later.faults) → (i ≡ input.Unread → NamesFile c name) →
+        Performs c Comes files later at at (input_text name i) (input_status i)
+    input_performs at name i far all_taken rose named = record {
       reaches = far;
       statuses = input_among c.ends one i;
+      told = input_line c name i named;
       held = held;
       unit = λ no. refl;
       stay = stay;
@@ -266,6 +332,7 @@ module _ (c : About) (Comes : Held → Task → Type 0) (files later : FilesSeen
     run_performs before after name r own far end_is unit stopped refused write = record {
       reaches = far;
       statuses = run_among c.ends one r own;
+      told = run_lines c name r;
       held = held;
       unit = unit;
       stay = stay;
@@ -291,10 +358,11 @@ module _ (c : About) (Comes : Held → Task → Type 0) (files later : FilesSeen
   pub files_lost : Among 1 c.ends → (at : Moment) (name : List ℕ) (i : NoInput)
       → IfSome files.held (λ h. Reaches c (Comes h) files later at at (input_text name i) (input_status i)) →
       (input_status i ≡ 1 → IfSome files.held (λ h. IsAtEnd later.rest ⊎ IsTooLong c h (input_text name i))) →
-      (i ≡ input.Unread → Rose files.faults later.faults) → Performs c Comes files later at at (input_text name i) (input_status i)
-  files_lost one at name i far all_taken rose =
+      (i ≡ input.Unread → Rose files.faults later.faults) → (i ≡ input.Unread → NamesFile c name) →
+      Performs c Comes files later at at (input_text name i) (input_status i)
+  files_lost one at name i far all_taken rose named =
       input_performs c Comes files later held (λ none. absurd (reads none)) one at name i
-      (on_held (λ h. Reaches c (Comes h) files later at at (input_text name i) (input_status i)) far) (λ some. all_taken) rose
+      (on_held (λ h. Reaches c (Comes h) files later at at (input_text name i) (input_status i)) far) (λ some. all_taken) rose named
 
   -- a run was done, or given up
   pub files_run : Among 1 c.ends → (before after : Moment) (name : List ℕ) (r : Result Ending RunFault) →
@@ -314,6 +382,7 @@ module _ (c : About) (Comes : Held → Task → Type 0) (files later : FilesSeen
     whole_performs zero unit far = record {
       reaches = on_held (λ h. Reaches c (Comes h) files later before after [] 0) far;
       statuses = among_front 0 c.ends (5 ∷ 6 ∷ 7 ∷ []) zero;
+      told = no_line c 0 (inl refl);
       held = held;
       unit = unit;
       stay = λ none. absurd (reads none);
@@ -332,6 +401,7 @@ module _ (c : About) (Comes : Held → Task → Type 0) (files later : FilesSeen
     part_performs unit rose far = record {
       reaches = on_held (λ h. Reaches c (Comes h) files later before after write_fault_text 6) far;
       statuses = six_among c.ends;
+      told = write_line c;
       held = held;
       unit = unit;
       stay = λ none. absurd (reads none);
@@ -349,6 +419,7 @@ module _ (c : About) (Comes : Held → Task → Type 0) (files later : FilesSeen
     short_performs unit far = record {
       reaches = on_held (λ h. Reaches c (Comes h) files later before after memory_text 7) far;
       statuses = seven_among c.ends;
+      told = memory_line c;
       held = held;
       unit = unit;
       stay = λ none. absurd (reads none);
@@ -384,4 +455,4 @@ quiet_lost c Is Why Then word files later at i named reads one held lost whole o
     files_lost c (λ h task. TakenFile Is Why word.most (Then h) word.name (h word.name) task) files later reads held one at word.name i
     (if_some_weaker files.held _ _ (λ h l. file_lost c files later at at Is Why word.most (Then h) word.name h word named refl (still at) i l) lost)
     (λ is. if_some_weaker files.held _ _ (λ h l. file_taken c Why word.name h files.broken later.broken word named refl i later.rest whole other l is) lost)
-    rose
+    rose (λ is. (word, named, refl))

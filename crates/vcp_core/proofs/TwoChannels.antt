@@ -135,6 +135,7 @@ module _ (c : About) (Comes Other : Held → Task → Type 0) (weaker : (h : Hel
   performs_by p = record {
     reaches = λ h may. reaches_by h (p.reaches h may);
     statuses = p.statuses;
+    told = p.told;
     held = p.held;
     unit = p.unit;
     stay = p.stay;

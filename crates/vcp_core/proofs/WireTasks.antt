@@ -24,6 +24,7 @@ use Rattle.vcp_inputs.specs.declared.refusal.Refusal.TheVariants as refusal
 use Rattle.vcp_inputs.specs.Wires.{WireOf, NotWire, no_wire}
 use Rattle.command_meaning.specs.Abouts.{about, Among}
 use Rattle.command_meaning.specs.Answer.{Answer, printed}
+use Rattle.command_meaning.specs.Clauses.{IsEnd}
 use Rattle.command_meaning.specs.FileTasks.{TakenFile}
 use Rattle.command_meaning.specs.Kinds.{Task, wires}
 use Rattle.command_meaning.specs.Performing.{Reaches, done, cut, unmade, Performs}
@@ -33,7 +34,7 @@ use Rattle.vcp_core.specs.Faults.{of_wire}
 use Rattle.vcp_core.specs.Reach.{end_status, fault_status, fault_text, wire_ending}
 use Rattle.vcp_core.specs.Tasks.{WireTask}
 use Rattle.vcp_core.proofs.Facts.{if_some_weaker}
-use Rattle.vcp_core.proofs.Performing.{on_held, part_performs, wanted_performs, whole_performs}
+use Rattle.vcp_core.proofs.Performing.{no_line, on_held, part_performs, wanted_performs, whole_performs}
 use Rattle.vcp_core.proofs.PlainTurns.{appends-nothing}
 
 -- ---- a text is one script, or is refused in one way
@@ -146,6 +147,10 @@ module _ (f : List ℕ) (files later : FilesSeen) (held : later.held ≡ files.h
   status_among end.Complete = inl refl
   status_among (end.Unsent cycle id) = inr (inr (inl refl))
 
+  is_end : (e : WireEnd) → IsEnd (end_status (wire_ending e))
+  is_end end.Complete = inl refl
+  is_end (end.Unsent cycle id) = inr (inr refl)
+
   -- to its end, or to a sending that was answered by no word
   pub wire_ended : (e : WireEnd) → RunsWire s.wire s.events unit unit' out out' (Ok e)
       → Performs (about (wire f)) (WireTask f) files later (moment unit out) (moment unit' out') [] (end_status (wire_ending e))
@@ -156,6 +161,7 @@ module _ (f : List ℕ) (files later : FilesSeen) (held : later.held ≡ files.h
             (λ h. Reaches (about (wire f)) (WireTask f h) files later (moment unit out) (moment unit' out') [] (end_status (wire_ending e)))
             (if_some_weaker files.held _ _ (λ h task. done (wires s) x task is written err status) comes);
         statuses = status_among e;
+        told = no_line (about (wire f)) (end_status (wire_ending e)) (is_end e);
         held = held;
         unit = λ no. absurd cc;
         stay = λ none. absurd (reads none);

@@ -4,7 +4,7 @@ ghost use Rattle.std.specs.Prelude.{◌≡◌, ◌≢◌, ◌≤◌, IfSome, Non
 ghost use Rattle.vcp_outside.specs.Held.{Held};
 ghost use Rattle.vcp_words.specs.Forms.{form, form_of, IsSound};
 ghost use Rattle.command_meaning.specs.Abouts.{about};
-ghost use Rattle.command_meaning.specs.Clauses.{AsPlain, GetsUsage, Keeps, MayHold, Serves};
+ghost use Rattle.command_meaning.specs.Clauses.{AsPlain, Completes, GetsUsage, Keeps, MayHold, Serves};
 ghost use Rattle.command_meaning.specs.Performing.{Performs};
 ghost use Rattle.machine_run.specs.Moments.{moment};
 ghost use Rattle.command_meaning.specs.Seen.{outside};
@@ -69,9 +69,15 @@ pub fn vcp<F: Files, U: Unit, O: Sink, E: Sink>(
         (outside (F.seen files.new) (U.seen unit.new) (O.seen out.new) (E.seen err.new)) result }
     ensures usage_only { result ≡ 4 → form_of words.now ≡ None }
 
-    // Where it is told what is held, or the command reads no file: how the command ends for the task that it comes to, the cause of each
-    // status, and that it completes.
+    // Where it is told what is held, or the command reads no file: how the command ends for the task that it comes to, and the cause of
+    // each status.
     ensures serves { IfSome (form_of words.now) (λ f. (h : Held) → MayHold (about f) (F.seen files.old).held h → Serves (about f) h (TaskOf f h)
+        (outside (F.seen files.old) (U.seen unit.old) (O.seen out.old) (E.seen err.old))
+        (outside (F.seen files.new) (U.seen unit.new) (O.seen out.new) (E.seen err.new)) result) }
+
+    // Completeness: where each file is held, nothing failed, the unit was honest and nothing is refused, the command is brought to its end,
+    // unless memory was wanted.
+    ensures complete { IfSome (form_of words.now) (λ f. (h : Held) → MayHold (about f) (F.seen files.old).held h → Completes (about f) h (TaskOf f h)
         (outside (F.seen files.old) (U.seen unit.old) (O.seen out.old) (E.seen err.old))
         (outside (F.seen files.new) (U.seen unit.new) (O.seen out.new) (E.seen err.new)) result) }
 

@@ -67,4 +67,5 @@ returns g c unit =
     rw c.bytes-in-Err-weights_of.ensures
     (files_lost (about (audit m horizon)) (AuditTask m horizon) files later (λ none. cc) c.load_image.ensures.held (inr (inl refl)) _ m e
     (if_some_weaker files.held _ _ (λ h loads. too_large_audit m horizon h c.in-Ok.loaded files later _ e loads why) c.in-Ok.ensures.loads)
-    (λ is. if_some_always files.held _ (λ h. inl c.in-Ok.ensures.ended)) (λ is. absurd (weights_read c.in-Ok.loaded horizon e why is)))
+    (λ is. if_some_always files.held _ (λ h. inl c.in-Ok.ensures.ended)) (λ is. absurd (weights_read c.in-Ok.loaded horizon e why is))
+    (λ is. absurd (weights_read c.in-Ok.loaded horizon e why is)))

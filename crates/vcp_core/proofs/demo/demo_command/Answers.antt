@@ -23,4 +23,4 @@ returns g c files =
     input_performs (about (demo number)) (λ h. DemoTask number) files files refl (λ none. refl) (inr (inl refl)) _ made_name i
     (λ h may. source_lost number files _ _ (still _) i 0 0 (λ e. c.in-Err.ensures.read (ap Err e))
     (rw c.in_ok-made.ensures.source at (c.in-Err.ensures.loads made_name 0)))
-    (λ some. absurd (some refl)) (λ is. absurd (c.in-Err.ensures.read (ap Err is)))
+    (λ some. absurd (some refl)) (λ is. absurd (c.in-Err.ensures.read (ap Err is))) (λ is. absurd (c.in-Err.ensures.read (ap Err is)))

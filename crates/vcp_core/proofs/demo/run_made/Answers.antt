@@ -49,4 +49,4 @@ returns g c files =
     c.in_ok-columns.ensures.columns (c.in-Err.ensures.opens 0 0) in
     input_performs (about (demo number)) (λ h. DemoTask number) files files refl (λ none. refl) (inr (inl refl)) _ made_name i
     (λ h may. rows_lost number files _ _ (still _) program i 0 0 (c.requires.typed 0) (λ e. c.in-Err.ensures.read (ap Err e)) opens)
-    (λ some. absurd (some refl)) (λ is. absurd (c.in-Err.ensures.read (ap Err is)))
+    (λ some. absurd (some refl)) (λ is. absurd (c.in-Err.ensures.read (ap Err is))) (λ is. absurd (c.in-Err.ensures.read (ap Err is)))

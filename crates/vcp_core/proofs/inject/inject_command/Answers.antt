@@ -6,7 +6,7 @@ use Rattle.vcp_words.specs.Tables.{rows_name}
 use Rattle.vcp_inputs.specs.Images.{ImageOf, NotImage}
 use Rattle.vcp_inputs.specs.RowsOutcome.{rows_outcome, source_outcome}
 use Rattle.vcp_inputs.specs.Scripts.{NotScript}
-use Rattle.command_meaning.specs.Abouts.{about, image_word}
+use Rattle.command_meaning.specs.Abouts.{about, image_word, script_word}
 use Rattle.command_meaning.specs.FileTasks.{TakenRows}
 use Rattle.machine_run.specs.Moments.{moment}
 use Rattle.vcp_core.specs.Tasks.{InjectTask, graph_columns}
@@ -14,7 +14,7 @@ use Rattle.vcp_core.proofs.Facts.{if_some_always, if_some_weaker, if_some_both, 
 use Rattle.vcp_core.proofs.ImageLoaded.{image_not_bytes, table-is-of}
 use Rattle.vcp_core.proofs.JudgedTasks.{LoadsAt, OnLeft, campaign_of, campaign_performs, groups_come as groups_come_to, judged_to as judged_so_far}
 use Rattle.vcp_core.proofs.JudgedTasks.{judged_whole as judged_all, lost_for, rows_are_read, rows_lost as rows_lost_all, rows_named}
-use Rattle.vcp_core.proofs.JudgedTasks.{script_lost as script_lost_all, script_taken as script_taken_all}
+use Rattle.vcp_core.proofs.JudgedTasks.{script_lost as script_lost_all, script_named as script_named_of, script_taken as script_taken_all}
 use Rattle.vcp_core.proofs.LoadedRows.{rows_unloaded}
 use Rattle.vcp_core.proofs.Performing.{files_lost, files_wanted, quiet_lost, whole_performs}
 use Rattle.vcp_core.proofs.inject.inject_command.Goals as goal
@@ -87,7 +87,8 @@ returns-in-Err-all_rows g c =
     (if_some_weaker files.held (LoadsAt m rows i o) _ (λ h (l, same). rows_lost_all m rows s h files later i o l same _ e c.in-Err-all_rows.ensures.fault)
     (if_some_both files.held mid.held _ (λ h. rows_outcome rows h c.in_ok-columns.columns ≡ o) (LoadsAt m rows i o) c.load_image.ensures.held
     (λ h l is. (l, ap (rows_outcome rows h) (sym c.in_ok-columns.ensures.columns) ∙ is)) c.in-Ok.ensures.loads c.in-Ok-load_rows.ensures.loads))
-    (λ is. if_some_always files.held _ (λ h. inl end)) (λ is. absurd (rows_are_read o i.graph e c.in-Err-all_rows.ensures.fault is)))
+    (λ is. if_some_always files.held _ (λ h. inl end)) (λ is. absurd (rows_are_read o i.graph e c.in-Err-all_rows.ensures.fault is))
+    (λ is. absurd (rows_are_read o i.graph e c.in-Err-all_rows.ensures.fault is)))
 
 -- ---- there is no script
 
@@ -119,7 +120,8 @@ returns-in-Err-load_script g c =
     (if_some_weaker later.held _ _
     (λ h lost. script_taken_all m rows s h i.graph later.broken final.broken e final.rest (λ r why. c.in-Err-load_script.ensures.whole r (ap Err why)) lost is)
     c.in-Err-load_script.ensures.loads))
-    (λ is. omega (arith, c.load_image.ensures.later, c.load_rows.ensures.later, c.in-Err-load_script.ensures.unread (ap Err is))))
+    (λ is. omega (arith, c.load_image.ensures.later, c.load_rows.ensures.later, c.in-Err-load_script.ensures.unread (ap Err is)))
+    (λ is. (script_word s, script_named_of m rows s, refl)))
 
 -- ---- the groups of faults
 

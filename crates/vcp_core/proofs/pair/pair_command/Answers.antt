@@ -60,7 +60,7 @@ returns-then-seed g c =
     rw c.bytes-then-seed.ensures
     (files_lost (about f) (PairTask m rows seed) files mid (λ none. cc) c.load_image.ensures.held (inr (inl refl)) _ m (input.Refused refusal.Seed)
     (if_some_weaker files.held _ _ (λ h loads. seed_refused m rows seed h c.in-Ok.loaded files mid _ loads same) c.in-Ok.ensures.loads)
-    (λ is. if_some_always files.held _ (λ h. inl c.in-Ok.ensures.ended)) (λ is. cc))
+    (λ is. if_some_always files.held _ (λ h. inl c.in-Ok.ensures.ended)) (λ is. cc) (λ is. absurd cc))
 
 -- ---- there is nothing of ROWS
 
