@@ -54,7 +54,7 @@ pub totals_next : (t : Totals) (vs : List Verdict) (v : Verdict) → totals_afte
 totals_next t [] v = refl
 totals_next t (w ∷ vs) v = totals_next (counted t w) vs v
 
-one_counted : (t : Totals) (v : Verdict) → faults (counted t v) ≡ suc (faults t)
+pub one_counted : (t : Totals) (v : Verdict) → faults (counted t v) ≡ suc (faults t)
 one_counted t verdict.Same = omega arith
 one_counted t (verdict.Wrong cycle output got want) = omega arith
 one_counted t (verdict.RanOn cycle) = omega arith

@@ -6,13 +6,13 @@ ghost use Rattle.vcp_outside.specs.Counts.{Rose};
 ghost use Rattle.signature_table.specs.Signatures.{IsTableOf};
 ghost use Rattle.fault_script.specs.Groups.{GroupFits};
 ghost use Rattle.fault_script.specs.ScriptOf.{most_faults};
-ghost use Rattle.fault_campaign.specs.Campaign.{Told};
+ghost use Rattle.fault_campaign.specs.Campaign.{Told, ToldBehind};
 ghost use Rattle.fault_campaign.specs.declared.fault.CampaignFault.TheVariants as fault;
 
 use crate::fault::CampaignFault;
 use crate::lines::{Totals, totals_line, verdict_line};
 use coded_unit::Unit;
-use fault_injector::judge::{run_undisturbed, verdict_beside};
+use fault_reruns::{Reference, groups_are_rerun_one_after_another};
 use fault_script::Script;
 use input_rows::RowList;
 use op_graph::Graph;
@@ -22,7 +22,8 @@ use vcp_outside::Sink;
 
 /// Finds the verdict of each group of a script over rows of inputs, in order, and writes its line before
 /// the next group is looked at; then it writes the totals, which count groups. The run without faults is
-/// carried once, before the first group.
+/// carried once, before the first group, and where there is none too; then the unit is asked again about
+/// just the operations that each group touches, and about nothing else.
 ///
 /// After `Write` a part of the text is written, in which the lines before the one that failed are whole.
 /// After `Memory` the lines of the groups before the one whose verdict wanted it are written.
@@ -40,16 +41,39 @@ pub fn run_campaign<U: Unit, O: Sink>(
     requires few { length rows.now ≤ most_cycles }
     requires groups { All (GroupFits graph.now) script.now }
     requires short { length script.now ≤ most_faults }
-    ensures told { Told table.now graph.now script.now rows.now (U.seen unit.old).wrong (U.seen unit.new).wrong (O.seen out.old).written (O.seen out.new).written result }
+    ensures told { Told table.now graph.now script.now rows.now (U.seen unit.old) (U.seen unit.new) (O.seen out.old).written (O.seen out.new).written result }
     ensures never_falls { (U.seen unit.old).wrong ≤ (U.seen unit.new).wrong }
     ensures write { result ≡ Err fault.Write → Rose (O.seen out.old).faults (O.seen out.new).faults }
     ensures later { (O.seen out.old).faults ≤ (O.seen out.new).faults }
 {
-    let other = run_undisturbed(alloc, graph, table, rows, unit)?;
+    // The calls are put together from those of the run without faults and of the reruns.
+    groups_are_rerun_one_after_another();
+    let reference = Reference::new(alloc, graph, table, rows, unit)?;
+    judge_groups(alloc, out, &reference, script, unit)
+}
+
+/// The same behind a run without faults that was carried before.
+fn judge_groups<U: Unit, O: Sink>(
+    alloc: Global,
+    out: &mut O,
+    reference: &Reference<'_>,
+    script: &Script,
+    unit: &mut U,
+) -> Result<(), CampaignFault>
+    requires groups { All (GroupFits reference.now.graph) script.now }
+    requires short { length script.now ≤ most_faults }
+    ensures told { ToldBehind reference.now script.now (U.seen unit.old) (U.seen unit.new) (O.seen out.old).written (O.seen out.new).written result }
+    ensures never_falls { (U.seen unit.old).wrong ≤ (U.seen unit.new).wrong }
+    ensures write { result ≡ Err fault.Write → Rose (O.seen out.old).faults (O.seen out.new).faults }
+    ensures later { (O.seen out.old).faults ≤ (O.seen out.new).faults }
+{
+    // The calls are put together from those of the run without faults and of the reruns.
+    groups_are_rerun_one_after_another();
+    let graph = reference.graph();
     let mut totals = Totals::new();
     'groups: for i in 0..script.len() {
         let group = script.at(i);
-        let verdict = verdict_beside(alloc, graph, table, rows, &other, group, unit)?;
+        let verdict = reference.verdict(alloc, group, unit)?;
         verdict_line(out, graph, group.line(), &verdict)?;
         totals.count(&verdict);
     }

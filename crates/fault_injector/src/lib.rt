@@ -1,7 +1,6 @@
-//! The verdicts on faults: `judge::verdict` compares the run with a group of faults with the run without them.
+//! The verdicts on faults: how a run with a group of faults differs from the run without them.
 #![tactic(auto)]
 
-pub mod judge;
 mod verdict;
 
 pub use verdict::Verdict;

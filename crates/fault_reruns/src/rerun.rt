@@ -5,6 +5,9 @@ ghost use Rattle.coded_unit.specs.declared.call.Answer.{Answer as AnswerGiven};
 ghost use Rattle.coded_unit.specs.Seen.{StaysHonest};
 ghost use Rattle.coded_machine.specs.CycleEnds.{initial_words, stored_words};
 ghost use Rattle.fault_script.specs.Groups.{GroupFits};
+ghost use Rattle.fault_runs.specs.Accepted.{EndsAreRead, OutputsAreRead};
+ghost use Rattle.fault_runs.specs.FaultRun.{OneFaultRuns};
+ghost use Rattle.fault_runs.specs.RunLaw.{GroupStands, RunsKept};
 ghost use Rattle.fault_injector.specs.Names.{Names};
 ghost use Rattle.fault_injector.specs.Verdicts.{verdict_of};
 ghost use Rattle.fault_reruns.specs.Crossing.{CycleRan, Room};
@@ -20,6 +23,10 @@ use crate::reference::Reference;
 use coded_machine::{cycles_by_hand_are_whole, end_of_answers, first_words, store_words};
 use coded_unit::{Answer, Unit, Word};
 use fault_injector::Verdict;
+use fault_runs::{
+    ends_under_acts_are_read_off_the_answers, one_fault_runs_by_its_act,
+    runs_under_acts_keep_the_run_law,
+};
 use fault_script::Group;
 use op_graph::{Graph, entries_keep_their_rules};
 use std::alloc::Global;
@@ -174,7 +181,8 @@ impl<'a> Reference<'a> {
     /// where there is no room to rerun a cycle, and then no call was made.
     ///
     /// Where the group fits the graph, and the answers of the run without it are right and those of this call too, it is the defined
-    /// verdict. The cycle, the output and the operation that it names are there, whatever the unit answers.
+    /// verdict. The cycle, the output and the operation that it names are there, whatever the unit answers. The run law, a clause too,
+    /// says which words the run with the group has.
     pub fn verdict<U: Unit>(
         &self,
         alloc: Global,
@@ -189,8 +197,17 @@ impl<'a> Reference<'a> {
         ensures cycle { IfOk result (InCycles (length self.now.rows)) }
         ensures never_falls { (U.seen unit.old).wrong ≤ (U.seen unit.new).wrong }
         ensures err { OnErr result (unit.new ≡ unit.old) }
+        ensures run_law { RunsKept }
+        ensures groups { GroupStands }
+        ensures values { OneFaultRuns }
+        ensures accepted { EndsAreRead }
+        ensures outputs { OutputsAreRead }
     {
-        // A verdict that is read off right answers is the defined one; and an output names an operation of its graph.
+        // The laws that are clauses of the verdict; a verdict that is read off right answers is the defined one; and an output names an
+        // operation of its graph.
+        runs_under_acts_keep_the_run_law();
+        one_fault_runs_by_its_act();
+        ends_under_acts_are_read_off_the_answers();
         verdicts_read_off_right_answers_are_defined();
         entries_keep_their_rules();
         let _cycles = self.cycles();

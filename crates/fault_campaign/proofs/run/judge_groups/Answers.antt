@@ -1,0 +1,106 @@
+use Rattle.std.proofs.Common.{◌≡◌, ap, sym, refl, subst, length, List, Err, arith}
+use Rattle.std.proofs.lemmas.Result.{err_from_is_err_and}
+use Rattle.op_graph.specs.Lists.{Lists}
+use Rattle.std.specs.Io.KnownBytes.{Appends}
+use Rattle.vcp_outside.specs.Written.{AppendsPart}
+use Rattle.fault_reruns.specs.References.{KeptRun}
+use Rattle.coded_unit.specs.Seen.{UnitSeen}
+use Rattle.fault_script.specs.declared.act.Fault.{Fault}
+use Rattle.fault_injector.specs.declared.verdict.Verdict.{Verdict}
+use Rattle.fault_campaign.specs.declared.fault.CampaignFault.TheVariants as fault
+use Rattle.fault_campaign.specs.Campaign.{Told}
+use Rattle.fault_campaign.specs.FaultLines.{verdict_text}
+use Rattle.fault_campaign.proofs.SoFar.{all_told, group_fits, line_exit, memory_exit, next_found, so_far_next, so_far_none, totals_exit}
+use Rattle.fault_campaign.proofs.Telling.{one_counted}
+use Rattle.fault_campaign.proofs.run.judge_groups.Goals as goal
+
+pub groups-init : goal.groups-init
+groups-init g c =
+    let r : KeptRun = c.args.reference.now in
+    record {
+      so_far = λ before judged right.
+          rw (c.new-totals.ensures)
+          (so_far_none r.table r.graph c.args.script.now r.rows r.answers before (g.U.Unit.seen c.args.unit.now) (g.O.Sink.seen c.args.out.now).written judged);
+      counted = rw (c.new-totals.ensures) refl;
+      never_falls = omega arith;
+      later = omega arith;
+    }
+
+pub returns-in_err-verdict-clause-told : goal.returns-in_err-verdict-clause-told
+returns-in_err-verdict-clause-told g c = λ before judged right.
+    let r : KeptRun = c.args.reference.now in
+    let script = c.args.script.now in
+    let old = (g.O.Sink.seen c.args.out.now).written in
+    let new = (g.O.Sink.seen c.groups.out).written in
+    let p = err_from_is_err_and c.from_residual.result c.from_residual.ensures.1 in
+    rw (p.1, p.2)
+    (subst (λ (u : UnitSeen). Told r.table r.graph script r.rows before u old new (Err fault.Memory)) (sym (ap g.U.Unit.seen c.in_err-verdict.ensures.err))
+    (memory_exit r.table r.graph script r.rows r.answers before (g.U.Unit.seen c.groups.unit) old new c.groups.i c.groups.totals
+    (c.groups.invariant.so_far before judged right)))
+
+pub line-requires : goal.line-requires
+line-requires g c = (group_fits c.args.reference.now.graph c.args.script.now c.groups.i c.at-group.result.now c.at-group.ensures c.requires.groups).some
+
+pub returns-in_err-verdict_line-clause-told : goal.returns-in_err-verdict_line-clause-told
+returns-in_err-verdict_line-clause-told g c = λ before judged right.
+    let r : KeptRun = c.args.reference.now in
+    let script = c.args.script.now in
+    let i = c.groups.invariant in
+    let unit = g.U.Unit in
+    let f : List Fault = c.at-group.result.now in
+    let v : Verdict = c.in_ok-verdict.verdict in
+    let found = c.in_ok-verdict.ensures in
+    let so_far = i.so_far before judged right in
+    let old = (g.O.Sink.seen c.args.out.now).written in
+    let mid = (g.O.Sink.seen c.groups.out).written in
+    let new = (g.O.Sink.seen c.verdict_line.new.out).written in
+    let p = err_from_is_err_and c.from_residual-in_err-verdict_line.result c.from_residual-in_err-verdict_line.ensures.1 in
+    let next = next_found r script before (unit.seen c.args.unit.now) (unit.seen c.groups.unit) (unit.seen c.verdict.new.unit) c.groups.i f v c.at-group.ensures
+    judged.carried.never_falls i.never_falls right c.requires.groups found.reran found.names found.verdict in
+    let part = subst (λ (h : Lists). AppendsPart mid new (verdict_text h c.line.result v)) c.graph-graph.ensures c.in_err-verdict_line.ensures.part in
+    rw (p.1, p.2)
+    (line_exit r.table r.graph script r.rows c.groups_are_rerun_one_after_another.ensures r.answers before (unit.seen c.groups.unit)
+    (unit.seen c.verdict.new.unit) old mid new c.groups.i c.groups.totals so_far f v c.line.result next c.line.ensures part)
+
+pub groups-preserved : goal.groups-preserved
+groups-preserved g c =
+    let r : KeptRun = c.args.reference.now in
+    let script = c.args.script.now in
+    let i = c.groups.invariant in
+    let unit = g.U.Unit in
+    let f : List Fault = c.at-group.result.now in
+    let v : Verdict = c.in_ok-verdict.verdict in
+    let found = c.in_ok-verdict.ensures in
+    let old = (g.O.Sink.seen c.args.out.now).written in
+    let mid = (g.O.Sink.seen c.groups.out).written in
+    let new = (g.O.Sink.seen c.verdict_line.new.out).written in
+    let said = subst (λ (h : Lists). Appends mid new (verdict_text h c.line.result v)) c.graph-graph.ensures c.in_ok-verdict_line.ensures.whole in
+    record {
+      so_far = λ before judged right.
+          let next = next_found r script before (unit.seen c.args.unit.now) (unit.seen c.groups.unit) (unit.seen c.verdict.new.unit) c.groups.i f v
+          c.at-group.ensures judged.carried.never_falls i.never_falls right c.requires.groups found.reran found.names found.verdict in
+          rw (c.count.ensures)
+          (so_far_next r.table r.graph script r.rows c.groups_are_rerun_one_after_another.ensures r.answers before (unit.seen c.groups.unit)
+          (unit.seen c.verdict.new.unit) old mid new c.groups.i c.groups.totals (i.so_far before judged right) f v c.line.result next c.line.ensures said);
+      counted = rw (c.count.ensures) (omega (arith, one_counted c.groups.totals v, i.counted));
+      never_falls = omega (arith, i.never_falls, found.never_falls);
+      later = omega (arith, i.later, c.in_ok-verdict_line.ensures.cause.later);
+    }
+
+pub returns-in_err-totals_line-clause-told : goal.returns-in_err-totals_line-clause-told
+returns-in_err-totals_line-clause-told g c = λ before judged right.
+    let r : KeptRun = c.args.reference.now in
+    let p = err_from_is_err_and c.from_residual-in_err-totals_line.result c.from_residual-in_err-totals_line.ensures.1 in
+    let all : c.groups.i ≡ length c.args.script.now = omega (arith, c.groups-test.false, c.groups.auto.i-end, c.len-i-end.ensures) in
+    let so_far = rw all at (c.groups.invariant.so_far before judged right) in
+    rw (p.1, p.2)
+    (totals_exit r.table r.graph c.args.script.now r.rows r.answers before (g.U.Unit.seen c.groups.unit) _ _ _ c.groups.totals so_far
+    c.in_err-totals_line.ensures.part)
+
+pub returns-clause-told : goal.returns-clause-told
+returns-clause-told g c = λ before judged right.
+    let r : KeptRun = c.args.reference.now in
+    let all : c.groups.i ≡ length c.args.script.now = omega (arith, c.groups-test.false, c.groups.auto.i-end, c.len-i-end.ensures) in
+    let so_far = rw all at (c.groups.invariant.so_far before judged right) in
+    all_told r.table r.graph c.args.script.now r.rows r.answers before (g.U.Unit.seen c.groups.unit) _ _ _ c.groups.totals so_far
+    c.in_ok-totals_line.ensures.whole
