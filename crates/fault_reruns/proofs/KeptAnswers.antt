@@ -231,7 +231,7 @@ all_ended g t n (r ∷ front) rest row (c ∷ cycles) answers m released count a
 
 -- ---- how each cycle of a run ended
 
-not_released : (e : CycleEnd) (A B : Type 0) → unless_ended e A B → (B → ⊥) → (e ≡ end.Released) × A
+pub not_released : (e : CycleEnd) (A B : Type 0) → unless_ended e A B → (B → ⊥) → (e ≡ end.Released) × A
 not_released end.Released A B u none = (refl, u)
 not_released (end.Stopped k why) A B u none = absurd (none u)
 not_released (end.Refused i found wanted) A B u none = absurd (none u)

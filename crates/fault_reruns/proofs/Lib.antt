@@ -14,6 +14,7 @@ pub mod OneCycle
 pub mod OutputsRead
 pub mod ReferenceStands
 pub mod RerunRuns
+pub mod PassedOver
 pub mod RowsBeside
 pub mod RunRight
 pub mod TouchedOutputs

@@ -135,7 +135,7 @@ cycle_same t g acts n past held dirty row other left whole u =
 
 -- ---- its verdict
 
-row_same : (row : List ℤ) (number : ℕ) → row_wrong row row number ≡ None
+pub row_same : (row : List ℤ) (number : ℕ) → row_wrong row row number ≡ None
 row_same [] number = refl
 row_same (x ∷ row) number =
     ap (λ (b : Bool). cond b (row_wrong row row (suc number)) (Some (record { output = number; got = x; want = x }))) (same_self x) ∙ row_same row (suc number)

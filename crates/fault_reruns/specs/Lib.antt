@@ -5,5 +5,6 @@ pub mod Kept
 pub mod Laws
 pub mod References
 pub mod Reruns
+pub mod Resting
 pub mod Through
 pub mod Touched

@@ -118,7 +118,7 @@ fn taken(b: &Begun<'_>, own: &[Answer], op: &Op, act: &Option<Act>) -> Word
 }
 
 /// The answer that a stop is.
-fn answer_for(kind: StopKind) -> Answer
+pub(crate) fn answer_for(kind: StopKind) -> Answer
     ensures { stop_answer (Some kind) ≡ result ∷ [] }
 {
     match kind {
@@ -208,7 +208,7 @@ fn answer_again<U: Unit>(b: &Begun<'_>, unit: &mut U, own: &[Answer]) -> Option<
 }
 
 /// Appends an answer where there is room.
-fn append(own: &mut Vec<Answer>, answer: &Answer)
+pub(crate) fn append(own: &mut Vec<Answer>, answer: &Answer)
     requires { length own.old.items < vec_capacity own.old }
     ensures items { own.new.items ≡ own.old.items ++ answer.now ∷ [] }
     ensures capacity { vec_capacity own.old ≤ vec_capacity own.new }

@@ -12,6 +12,7 @@ mod marks;
 mod reading;
 mod reference;
 mod rerun;
+mod resting;
 
 pub use laws::{
     groups_are_rerun_one_after_another, reruns_ask_at_touched_operations,

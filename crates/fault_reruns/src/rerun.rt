@@ -20,6 +20,7 @@ use crate::laws::verdicts_read_off_right_answers_are_defined;
 use crate::marks::{mark_cells, mark_operations};
 use crate::reading::read;
 use crate::reference::Reference;
+use crate::resting::{is_quiet, wake};
 use coded_machine::{cycles_by_hand_are_whole, end_of_answers, first_words, store_words};
 use coded_unit::{Answer, Unit, Word};
 use fault_injector::Verdict;
@@ -79,7 +80,7 @@ impl Work {
 }
 
 /// Copies words to where there is room for them.
-fn copy_words(from: &[Word], to: &mut Vec<Word>)
+pub(crate) fn copy_words(from: &[Word], to: &mut Vec<Word>)
     requires { length from.now ≤ vec_capacity to.old }
     ensures items { to.new.items ≡ from.now }
     ensures capacity { vec_capacity to.old ≤ vec_capacity to.new }
@@ -149,7 +150,8 @@ fn cross(graph: &Graph, work: &mut Work)
     swap(&mut work.own, &mut work.past);
 }
 
-/// Reruns a group of faults from the first cycle on, and answers its verdict.
+/// Reruns a group of faults from the first cycle on, and answers its verdict. It passes over each cycle in which nothing is touched, as in
+/// the cycle before: there it would make no call, and come to what the run without the faults came to.
 fn rerun<U: Unit>(
     reference: &Reference<'_>,
     group: &Group,
@@ -167,7 +169,17 @@ fn rerun<U: Unit>(
     // No call is carried at first.
     cycles_by_hand_are_whole();
     let count = reference.cycles();
+    let mut at_rest = false;
+    let mut quiet_before = false;
     'cycles: for n in 0..count {
+        let quiet = is_quiet(reference, group, n, quiet_before, &work.dirty);
+        if quiet && quiet_before {
+            at_rest = true;
+            continue;
+        }
+        wake(reference, n, at_rest, work);
+        at_rest = false;
+        quiet_before = quiet;
         if let Some(verdict) = rerun_one(reference, group, n, unit, work) {
             return verdict;
         }
