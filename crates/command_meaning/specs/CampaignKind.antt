@@ -1,8 +1,8 @@
 -- CampaignKind: groups of faults that are judged: what stands after all of them, and what stands where they were cut off.
-use Rattle.std.specs.Prelude.{ℕ, ◌≡◌, ◌≤◌, ◌+◌, List, ◌++◌, length, Option, All}
+use Rattle.std.specs.Prelude.{ℕ, ◌≡◌, ◌≤◌, ◌+◌, ◌⊎◌, List, [], ◌++◌, length, Option, All}
 use Rattle.fault_injector.specs.declared.verdict.Verdict.{Verdict}
 use Rattle.fault_injector.specs.Names.{Names}
-use Rattle.fault_campaign.specs.Campaign.{campaign_text, verdicts_of, EarlierTold}
+use Rattle.fault_campaign.specs.Campaign.{campaign_text, verdicts_of, EarlierTold, JudgedOnce}
 use Rattle.command_meaning.specs.Answer.{Answer, Campaign, printed}
 use Rattle.coded_unit.specs.Seen.{UnitSeen}
 use Rattle.machine_run.specs.Moments.{Moment}
@@ -20,21 +20,25 @@ verdicts_meant c = verdicts_of c.table c.graph c.groups c.rows
 abbrev pub AreOf : Campaign → List Verdict → Type 0
 AreOf c verdicts = All (Names (length c.graph.outputs) (length c.graph.operations)) verdicts
 
--- All groups were judged: a verdict for each, in order, and what is answered are their lines. Where no answer was wrong, they are the ones
--- that are meant. Of the calls by which groups are judged nothing is said.
+-- All groups were judged: a verdict for each, in order, and what is answered are their lines. The unit was asked the calls of the run without
+-- faults and then, group by group, those of the rerun off which the verdict is read, and no other. Where no answer was wrong, the verdicts are
+-- the ones that are meant.
 pub record CampaignDone (c : Campaign) (before after : UnitSeen) (x : Answer) : Type 0 where
   pub verdicts : List Verdict
   pub each : length verdicts ≡ length c.groups
   pub names : AreOf c verdicts
+  pub asked : JudgedOnce c.table c.graph c.groups c.rows verdicts before after
   pub read : x ≡ verdicts_answer c verdicts
   pub honest : StaysHonest before after → verdicts ≡ verdicts_meant c
 
 -- Some of the groups were judged, where `Writes` says how much was written: so much of the lines of these verdicts and any later ones, with
--- all lines before that of the last verdict. Where no answer was wrong, it is so much of the lines that are meant.
+-- all lines before that of the last verdict. The calls are those of the run without faults and of these groups' reruns, or none yet. Where no
+-- answer was wrong, it is so much of the lines that are meant.
 pub record CampaignLeft (c : Campaign) (Writes : Option (List ℕ) → Option (List ℕ) → List ℕ → Type 0) (before after : Moment) : Type 0 where
   pub verdicts : List Verdict
   pub few : length verdicts ≤ length c.groups
   pub names : AreOf c verdicts
+  pub asked : JudgedOnce c.table c.graph c.groups c.rows verdicts before.unit after.unit ⊎ ((verdicts ≡ []) × (after.unit ≡ before.unit))
   pub text : (later : List Verdict) → length verdicts + length later ≡ length c.groups
       → Writes before.out.written after.out.written (verdicts_answer c (verdicts ++ later)).out
   pub earlier : EarlierTold c.graph c.groups verdicts before.out.written after.out.written

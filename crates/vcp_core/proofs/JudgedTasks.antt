@@ -237,23 +237,25 @@ module _ (c : Campaign) (unit unit' : UnitSeen) (out out' : SinkSeen) where
   after = moment unit' out'
 
   -- all of them
-  pub all_judged : (told : Told c.table c.graph c.groups c.rows unit.wrong unit'.wrong out.written out'.written (Ok tt))
+  pub all_judged : (told : Told c.table c.graph c.groups c.rows unit unit' out.written out'.written (Ok tt))
       → CampaignDone c before.unit after.unit (verdicts_answer c told.verdicts)
   all_judged told = record {
     verdicts = told.verdicts;
     each = told.written.0;
     names = told.names;
+    asked = told.asked;
     read = refl;
     honest = λ h. all_of told.verdicts (verdicts_meant c) (told.right h) (told.written.0 ∙ sym (length-map c.groups _));
   }
 
   -- until writing failed
-  pub judged_part : Told c.table c.graph c.groups c.rows unit.wrong unit'.wrong out.written out'.written (Err campaign.Write) → CampaignLeft c AppendsPart
+  pub judged_part : Told c.table c.graph c.groups c.rows unit unit' out.written out'.written (Err campaign.Write) → CampaignLeft c AppendsPart
       before after
   judged_part told = record {
     verdicts = told.verdicts;
     few = told.few;
     names = told.names;
+    asked = inl told.asked;
     text = λ later follows. told.written.0 later follows;
     earlier = told.written.1;
     honest = λ h.
@@ -272,12 +274,13 @@ module _ (c : Campaign) (unit unit' : UnitSeen) (out out' : SinkSeen) where
       (more, subst (λ (t : List ℕ). Appends out.written out'.written t) (ap (verdict_lines c.graph c.groups) is ∙ lines) w)
 
   -- until memory was wanted
-  pub judged_front : Told c.table c.graph c.groups c.rows unit.wrong unit'.wrong out.written out'.written (Err campaign.Memory) → CampaignLeft c
+  pub judged_front : Told c.table c.graph c.groups c.rows unit unit' out.written out'.written (Err campaign.Memory) → CampaignLeft c
       AppendsFront before after
   judged_front told = record {
     verdicts = told.verdicts;
     few = told.few;
     names = told.names;
+    asked = told.asked;
     text = λ later follows. lines_front c.graph c.groups told.verdicts later out.written out'.written told.written;
     earlier = earlier_lines told.verdicts told.written;
     honest = λ h.
@@ -288,11 +291,11 @@ module _ (c : Campaign) (unit unit' : UnitSeen) (out out' : SinkSeen) where
   }
 
   module _ (m : List ℕ) (rows : Rows) (f : List ℕ) (held : Held) (files later : FilesSeen) (comes : InjectTask m rows f held (judges c)) where
-    pub judged_whole : Told c.table c.graph c.groups c.rows unit.wrong unit'.wrong out.written out'.written (Ok tt)
+    pub judged_whole : Told c.table c.graph c.groups c.rows unit unit' out.written out'.written (Ok tt)
         → Reaches (about (inject m rows f)) (InjectTask m rows f held) files later before after [] 0
     judged_whole told = done (judges c) (verdicts_answer c told.verdicts) comes (all_judged told) told.written.1 refl refl
 
-    pub judged_to : (e : CampaignFault) → (e ≡ campaign.Write → Rose out.faults out'.faults) → Told c.table c.graph c.groups c.rows unit.wrong unit'.wrong
+    pub judged_to : (e : CampaignFault) → (e ≡ campaign.Write → Rose out.faults out'.faults) → Told c.table c.graph c.groups c.rows unit unit'
         out.written out'.written (Err e)
         → Reaches (about (inject m rows f)) (InjectTask m rows f held) files later before after (fault_text (of_campaign e))
         (fault_status (of_campaign e))

@@ -53,8 +53,8 @@ fn all_rows(
 }
 
 /// Does what the words `inject M ROWS F` say, and writes to `out` alone: M is read whole and taken
-/// through its refusals, then ROWS with all rows, and then F; and then each fault of the script is judged
-/// by runs on the unit, and its verdict written, and the totals.
+/// through its refusals, then ROWS with all rows, and then F; and then the run without faults is carried on
+/// the unit, each group of the script is judged by a rerun, and its verdict written, and the totals.
 pub fn inject_command<'a, F: Files, U: Unit, O: Sink>(
     alloc: Global,
     image: &'a Text,
