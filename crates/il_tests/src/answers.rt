@@ -49,10 +49,7 @@ LD 3000000000\nGT n\nST q\nEND_PROGRAM\n => 7 22
 &N b\nEND_PROGRAM\n => Instruction { spot: Spot { line: 4, col: 1 } }
 LD (* \n *) x\nEND_PROGRAM\n => Instruction { spot: Spot { line: 4, col: 1 } }
 END_PROGRAM LD x\n => Instruction { spot: Spot { line: 4, col: 1 } }
-END_PROGRAM\nEND_PROGRAM\n => Instruction { spot: Spot { line: 4, col: 1 } }
-LD BOOL#2\nEND_PROGRAM\n => Operand { spot: Spot { line: 4, col: 4 } }
 LD b\nS INT#40000\nEND_PROGRAM\n => Operand { spot: Spot { line: 5, col: 3 } }
-ADD TRUE\nEND_PROGRAM\n => Empty { spot: Spot { line: 4, col: 1 } }
 LD x\nEND_VAR\nEND_PROGRAM\n => Syntax(Syntax { spot: Spot { line: 4, col: 4 } })
 ";
 
