@@ -22,3 +22,15 @@ _vcp() {
 }
 
 complete -o filenames -F _vcp vcp ./vcp
+
+# Those of vcp_study, which has three commands.
+_vcp_study() {
+    local word=${COMP_WORDS[COMP_CWORD]}
+    case $COMP_CWORD:${COMP_WORDS[1]} in
+    1:*) mapfile -t COMPREPLY < <(compgen -W 'graph waves ranges' -- "$word") ;;
+    2:*) mapfile -t COMPREPLY < <(compgen -f -- "$word") ;;
+    3:ranges) mapfile -t COMPREPLY < <(compgen -W '--all' -- "$word") ;;
+    esac
+}
+
+complete -o filenames -F _vcp_study vcp_study ./vcp_study

@@ -11,20 +11,25 @@ use worked_programs::{cells, same, word_off, words_of};
 
 /// Words => the status, and the line of errors. An image stands under `m.img`, and a source under `p.st`.
 const ANSWERS: &str = "\
-graph => 4 usage: vcp_study graph M HORIZON or waves FILE
-draw m.img 0 => 4 usage: vcp_study graph M HORIZON or waves FILE
-graph m.img => 4 usage: vcp_study graph M HORIZON or waves FILE
-graph m.img 1001 => 4 usage: vcp_study graph M HORIZON or waves FILE
-graph m.img -1 => 4 usage: vcp_study graph M HORIZON or waves FILE
-graph -m 1 => 4 usage: vcp_study graph M HORIZON or waves FILE
-graph m.img 1 2 => 4 usage: vcp_study graph M HORIZON or waves FILE
+graph => 4 usage: vcp_study graph M HORIZON, waves FILE, ranges M or ranges M --all
+draw m.img 0 => 4 usage: vcp_study graph M HORIZON, waves FILE, ranges M or ranges M --all
+graph m.img => 4 usage: vcp_study graph M HORIZON, waves FILE, ranges M or ranges M --all
+graph m.img 1001 => 4 usage: vcp_study graph M HORIZON, waves FILE, ranges M or ranges M --all
+graph m.img -1 => 4 usage: vcp_study graph M HORIZON, waves FILE, ranges M or ranges M --all
+graph -m 1 => 4 usage: vcp_study graph M HORIZON, waves FILE, ranges M or ranges M --all
+graph m.img 1 2 => 4 usage: vcp_study graph M HORIZON, waves FILE, ranges M or ranges M --all
 graph no.img 0 => 5 no.img read fault
 graph p.st 0 => 1 p.st:0 I1 Magic
 graph m.img 1000 => 0
-waves => 4 usage: vcp_study graph M HORIZON or waves FILE
-waves -m => 4 usage: vcp_study graph M HORIZON or waves FILE
+waves => 4 usage: vcp_study graph M HORIZON, waves FILE, ranges M or ranges M --all
+waves -m => 4 usage: vcp_study graph M HORIZON, waves FILE, ranges M or ranges M --all
 waves no.csv => 5 no.csv read fault
 waves p.st => 1 p.st:1 R1 Header
+ranges => 4 usage: vcp_study graph M HORIZON, waves FILE, ranges M or ranges M --all
+ranges m.img --al => 4 usage: vcp_study graph M HORIZON, waves FILE, ranges M or ranges M --all
+ranges m.img --all 0 => 4 usage: vcp_study graph M HORIZON, waves FILE, ranges M or ranges M --all
+ranges no.img => 5 no.img read fault
+ranges p.st => 1 p.st:0 I1 Magic
 ";
 
 /// Fails where a row's words don't get its status and its line, and a picture alone where there is no line.

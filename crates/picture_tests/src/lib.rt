@@ -1,4 +1,4 @@
-//! Pictures of small graphs and of runs, and the program's answers.
+//! Pictures of small graphs and of runs, which operations may stop, and the program's answers.
 #![tactic(auto)]
 
 #[cfg(test)]
@@ -9,6 +9,8 @@ mod counts;
 mod pictures;
 #[cfg(test)]
 mod programs;
+#[cfg(test)]
+mod ranges;
 #[cfg(test)]
 mod texts;
 #[cfg(test)]

@@ -1,2 +1,4 @@
+mod RangesReaching
 mod Reaching
 pub mod RunReaching
+mod Statuses

@@ -6,15 +6,27 @@ use Rattle.vcp_outside.specs.Held.{Held}
 use Rattle.vcp_outside.specs.Seen.{FilesSeen, SinkSeen}
 use Rattle.vcp_outside.specs.Written.{AppendsPart}
 use Rattle.vcp_study_core.specs.declared.fault.Fault.{Fault}
-use Rattle.vcp_study_core.specs.Forms.{Form, graph, waves, file_of, usage_text}
+use Rattle.vcp_study_core.specs.Forms.{Form, graph, waves, ranges, file_of, usage_text}
 use Rattle.vcp_study_core.specs.Reach.{ReachesGraph, fault_text, fault_status}
+use Rattle.vcp_study_core.specs.RangesReach.{ReachesRanges}
 use Rattle.vcp_study_core.specs.RunReach.{ReachesRun}
 use Rattle.vcp_study_core.specs.Seen.{Outside}
 
--- how far a command comes before its fault's line, if there is one, is printed: where the files hold this, of the files and of the output
-abbrev pub Reaches : Form → Held → FilesSeen → FilesSeen → SinkSeen → SinkSeen → Result (Unit {0}) Fault → Type 0
-Reaches (graph m horizon) held files later out now result = ReachesGraph m horizon held out.written now.written files.broken later.broken result
-Reaches (waves file) held files later out now result = ReachesRun file held out.written now.written files.broken later.broken result
+-- what a command that draws comes to, with its status: 0 where the picture is written
+abbrev pub as_status : Result (Unit {0}) Fault → Result ℕ Fault
+as_status (Ok _) = Ok 0
+as_status (Err e) = Err e
+
+abbrev pub IsDrawing : (Result (Unit {0}) Fault → Type 0) → Result ℕ Fault → Type 0
+IsDrawing Draws result = (drawn : Result (Unit {0}) Fault) × (result ≡ as_status drawn) × Draws drawn
+
+-- How far a command comes before its fault's line, if there is one, is printed: where the files hold this, of the files and of the output.
+-- Where no fault keeps it from its end, it has a status.
+abbrev pub Reaches : Form → Held → FilesSeen → FilesSeen → SinkSeen → SinkSeen → Result ℕ Fault → Type 0
+Reaches (graph m horizon) held files later out now result =
+    IsDrawing (ReachesGraph m horizon held out.written now.written files.broken later.broken) result
+Reaches (waves file) held files later out now result = IsDrawing (ReachesRun file held out.written now.written files.broken later.broken) result
+Reaches (ranges m all) held files later out now result = ReachesRanges m all held out.written now.written files.broken later.broken result
 
 -- the line was printed with this status, or the sink of the errors failed in it, with status 6
 abbrev pub TellsLine : List ℕ → ℕ → SinkSeen → SinkSeen → ℕ → Type 0
@@ -22,15 +34,15 @@ TellsLine line code before after status =
     ((status ≡ code) × Appends before.written after.written line)
     ⊎ ((status ≡ 6) × Rose before.faults after.faults × AppendsPart before.written after.written line)
 
--- how a command ends that came so far: with 0 and no line, or with the line of its fault and its status
-abbrev pub Ends : Form → SinkSeen → SinkSeen → ℕ → Result (Unit {0}) Fault → Type 0
-Ends f before after status (Ok _) = (status ≡ 0) × Appends before.written after.written []
+-- how a command ends that came so far: with its status and no line, or with the line of its fault and the status of that
+abbrev pub Ends : Form → SinkSeen → SinkSeen → ℕ → Result ℕ Fault → Type 0
+Ends f before after status (Ok own) = (status ≡ own) × Appends before.written after.written []
 Ends f before after status (Err e) = TellsLine (fault_text (file_of f) e) (fault_status e) before after status
 
 -- how a command is answered, where the files hold this: it came so far, and it ends so
 abbrev pub Answered : Form → Held → Outside → Outside → ℕ → Type 0
 Answered f held before after status =
-    (result : Result (Unit {0}) Fault) × Reaches f held before.files after.files before.out after.out result × Ends f before.err after.err status result
+    (result : Result ℕ Fault) × Reaches f held before.files after.files before.out after.out result × Ends f before.err after.err status result
 
 -- words that are none of the forms get the usage line, and nothing else is done
 pub record GetsUsage (before after : Outside) (status : ℕ) : Type 0 where
@@ -39,8 +51,8 @@ pub record GetsUsage (before after : Outside) (status : ℕ) : Type 0 where
   pub rest : after.files.rest ≡ before.files.rest
   pub faults : after.files.faults ≡ before.files.faults
 
--- What every command keeps, whatever the files tell: what they hold. A picture that is whole comes of a file that was read to its end, and
--- a file or a sink failed only where its count rose.
+-- What every command keeps, whatever the files tell: what they hold. Status 0 comes of a file that was read to its end, and a file
+-- or a sink failed only where its count rose.
 pub record Keeps (before after : Outside) (status : ℕ) : Type 0 where
   pub held : after.files.held ≡ before.files.held
   pub ended : status ≡ 0 → IsAtEnd after.files.rest

@@ -1,5 +1,6 @@
 pub mod Answered
 pub mod Forms
+pub mod RangesReach
 pub mod Reach
 pub mod RunLines
 pub mod RunReach

@@ -2,7 +2,7 @@
 
 ghost use Rattle.std.specs.Prelude.{◌≡◌, IfSome};
 ghost use Rattle.std.specs.Option.{option_map};
-ghost use Rattle.vcp_study_core.specs.Forms.{form, form_of, file_of, graph_form, waves_form, IsSound};
+ghost use Rattle.vcp_study_core.specs.Forms.{form, form_of, file_of, graph_form, waves_form, ranges_form, all_of, IsSound};
 
 use vcp_base::{MOST_HORIZON, Text, Words};
 use vcp_words::WordsLeft;
@@ -22,6 +22,13 @@ pub enum Command<'a> {
         /// The name of the file.
         file: &'a Text,
     },
+    /// `ranges M` and `ranges M --all`: which operations of an image's graph may stop.
+    Ranges {
+        /// The name of the image, M.
+        image: &'a Text,
+        /// Whether the range of each operation is told too.
+        all: bool,
+    },
 }
 
 impl Command<'_> {
@@ -32,6 +39,7 @@ impl Command<'_> {
         match self {
             Command::Graph { image, .. } => image.bytes(),
             Command::Waves { file } => file.bytes(),
+            Command::Ranges { image, .. } => image.bytes(),
         }
     }
 }
@@ -48,6 +56,9 @@ pub fn command_of(words: &Words) -> Option<Command<'_>>
     }
     if command == b"waves".as_slice() {
         return waves_words(&mut left);
+    }
+    if command == b"ranges".as_slice() {
+        return ranges_words(&mut left);
     }
     None
 }
@@ -76,4 +87,28 @@ fn waves_words<'a>(words: &mut WordsLeft<'a>) -> Option<Command<'a>>
         return None;
     }
     Some(Command::Waves { file })
+}
+
+/// Whether all operations are told: `--all` says so, as the last word.
+fn all_word(words: &mut WordsLeft<'_>) -> Option<bool>
+    ensures { result ≡ all_of words.old }
+{
+    match words.next() {
+        Some(word) => if word.bytes() == b"--all".as_slice() && words.is_end() {
+            Some(true)
+        } else {
+            None
+        },
+        None => Some(false),
+    }
+}
+
+/// The words of `ranges`: M, and `--all` where it is said.
+fn ranges_words<'a>(words: &mut WordsLeft<'a>) -> Option<Command<'a>>
+    ensures form { option_map form result ≡ ranges_form words.old }
+    ensures sound { IfSome result (λ command. IsSound (form command)) }
+{
+    let image = words.name()?;
+    let all = all_word(words)?;
+    Some(Command::Ranges { image, all })
 }

@@ -1,9 +1,10 @@
-//! The commands that draw pictures, and the top call.
+//! The commands that study an image or a run: pictures, and which operations can stop. And the top call.
 #![tactic(auto)]
 
 mod command;
 mod fault;
 mod graph;
+mod ranges;
 mod telling;
 mod top;
 mod waves;

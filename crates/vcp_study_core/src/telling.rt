@@ -17,7 +17,10 @@ use vcp_outside::{Failed, Sink, write_all};
 pub fn tell_usage<E: Sink>(err: &mut E) -> Result<(), Failed>
     ensures { WritesTo (E.seen err.old) (E.seen err.new) usage_text result }
 {
-    write_all(err, b"usage: vcp_study graph M HORIZON or waves FILE\n")
+    write_all(
+        err,
+        b"usage: vcp_study graph M HORIZON, waves FILE, ranges M or ranges M --all\n",
+    )
 }
 
 /// Prints the line of a fault of a command on the file under a name.

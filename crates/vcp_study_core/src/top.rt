@@ -1,10 +1,10 @@
 //! The top call.
 
-ghost use Rattle.std.specs.Prelude.{◌≡◌, ◌≢◌, IfSome, IfErr, OnOk, None, Err};
+ghost use Rattle.std.specs.Prelude.{◌≡◌, ◌≢◌, ◌≤◌, IfSome, IfOk, IfErr, OnOk, None, Err};
 ghost use Rattle.std.specs.Io.KnownBytes.{IsAtEnd};
 ghost use Rattle.vcp_outside.specs.Counts.{Rose};
 ghost use Rattle.vcp_study_core.specs.Forms.{form, form_of, IsSound};
-ghost use Rattle.vcp_study_core.specs.Answered.{Answered, GetsUsage, Keeps, Reaches};
+ghost use Rattle.vcp_study_core.specs.Answered.{Answered, GetsUsage, Keeps, Reaches, as_status};
 ghost use Rattle.vcp_study_core.specs.Reach.{IsUnread};
 ghost use Rattle.vcp_study_core.specs.Seen.{outside};
 ghost use Rattle.vcp_study_core.specs.declared.fault.Fault.TheVariants as fault;
@@ -12,6 +12,7 @@ ghost use Rattle.vcp_study_core.specs.declared.fault.Fault.TheVariants as fault;
 use crate::command::{Command, command_of};
 use crate::fault::Fault;
 use crate::graph::graph_command;
+use crate::ranges::ranges_command;
 use crate::telling::{fault_status, tell, tell_usage};
 use crate::waves::waves_command;
 use std::alloc::Global;
@@ -19,12 +20,12 @@ use vcp_base::Words;
 use vcp_outside::{Failed, Files, Sink};
 
 /// Does all that the program does, and answers its status: what the words say, on the files, writing
-/// the picture to `out`, and the line of a fault to `err`.
+/// the picture or the ranges to `out`, and the line of a fault to `err`.
 ///
 /// | status | comes |
 /// |---|---|
-/// | 0 | the picture was written |
-/// | 1 | the file is refused |
+/// | 0 | the picture was written; or the ranges, and no operation may stop |
+/// | 1 | the ranges were written, and an operation may stop; or the file is refused |
 /// | 4 | the words are none of the forms |
 /// | 5 | a file failed |
 /// | 6 | a sink failed |
@@ -36,7 +37,7 @@ pub fn vcp_study<F: Files, O: Sink, E: Sink>(
     out: &mut O,
     err: &mut E,
 ) -> u8
-    // Where it is told what is held: the picture, or what kept it from being drawn.
+    // Where it is told what is held: what was written, or what kept it from being written.
     ensures answered { IfSome (F.seen files.old).held (λ h. IfSome (form_of words.now) (λ f. Answered f h
         (outside (F.seen files.old) (O.seen out.old) (E.seen err.old)) (outside (F.seen files.new) (O.seen out.new) (E.seen err.new)) result)) }
 
@@ -71,8 +72,8 @@ fn serve<F: Files, O: Sink, E: Sink>(
     ensures no_usage { result ≢ 4 }
     ensures keeps { Keeps (outside (F.seen files.old) (O.seen out.old) (E.seen err.old)) (outside (F.seen files.new) (O.seen out.new) (E.seen err.new)) result }
 {
-    match draw(alloc, command, files, out) {
-        Ok(()) => 0,
+    match study(alloc, command, files, out) {
+        Ok(status) => status,
         Err(fault) => match tell(err, command.file(), &fault) {
             Ok(()) => fault_status(&fault),
             Err(Failed) => 6,
@@ -80,13 +81,23 @@ fn serve<F: Files, O: Sink, E: Sink>(
     }
 }
 
-/// Does what a command says, and writes to `out` alone.
-fn draw<F: Files, O: Sink>(
+/// The status of a command that draws.
+fn with_status(drawn: Result<(), Fault>) -> Result<u8, Fault>
+    ensures { result ≡ as_status drawn }
+{
+    match drawn {
+        Ok(()) => Ok(0),
+        Err(fault) => Err(fault),
+    }
+}
+
+/// Does what a command says, and writes to `out` alone. Answers its status, where no fault keeps it from its end.
+fn study<F: Files, O: Sink>(
     alloc: Global,
     command: &Command<'_>,
     files: &mut F,
     out: &mut O,
-) -> Result<(), Fault>
+) -> Result<u8, Fault>
     requires sound { IsSound (form command.now) }
     ensures held { (F.seen files.new).held ≡ (F.seen files.old).held }
     ensures reaches { IfSome (F.seen files.old).held (λ h. Reaches (form command.now) h (F.seen files.old) (F.seen files.new) (O.seen out.old)
@@ -94,9 +105,13 @@ fn draw<F: Files, O: Sink>(
     ensures unread { IfErr result (λ e. IsUnread e → Rose (F.seen files.old).faults (F.seen files.new).faults) }
     ensures write { result ≡ Err fault.Write → Rose (O.seen out.old).faults (O.seen out.new).faults }
     ensures ended { OnOk result (IsAtEnd (F.seen files.new).rest) }
+    ensures known { IfOk result (λ status. status ≤ 1) }
 {
     match command {
-        Command::Graph { image, horizon } => graph_command(alloc, image, *horizon, files, out),
-        Command::Waves { file } => waves_command(alloc, file, files, out),
+        Command::Graph { image, horizon } => with_status(graph_command(
+            alloc, image, *horizon, files, out,
+        )),
+        Command::Waves { file } => with_status(waves_command(alloc, file, files, out)),
+        Command::Ranges { image, all } => ranges_command(alloc, image, *all, files, out),
     }
 }

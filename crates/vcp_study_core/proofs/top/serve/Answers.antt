@@ -4,7 +4,7 @@ use Rattle.vcp_study_core.proofs.top.serve.Goals as goal
 
 pub returns-in-Ok-clause-answered : goal.returns-in-Ok-clause-answered
 returns-in-Ok-clause-answered g c =
-    if_some_weaker (g.F.Files.seen c.args.files.now).held _ _ (λ h reach. (Ok tt, reach, (refl, appends-nothing _))) c.in-Ok.ensures.reaches
+    if_some_weaker (g.F.Files.seen c.args.files.now).held _ _ (λ h reach. (Ok c.in-Ok.status, reach, (refl, appends-nothing _))) c.in-Ok.ensures.reaches
 
 pub returns-in-Ok-tell-clause-answered : goal.returns-in-Ok-tell-clause-answered
 returns-in-Ok-tell-clause-answered g c =
