@@ -20,7 +20,6 @@ use Rattle.vcp_words.specs.Forms.{Rows}
 use Rattle.vcp_words.specs.Forms as form
 use Rattle.vcp_words.specs.Tables.{rows_name}
 use Rattle.vcp_inputs.specs.declared.images.Image.{Image}
-use Rattle.vcp_inputs.specs.declared.refusal.NoInput.TheVariants as input
 use Rattle.vcp_inputs.specs.declared.refusal.Refusal.TheVariants as refusal
 use Rattle.vcp_inputs.specs.Files.{Loads}
 use Rattle.vcp_inputs.specs.Images.{ImageOf, NotImage}

@@ -1,9 +1,9 @@
 -- What `wire` comes to, and how far it comes, from what reading its script and running it give.
-use Rattle.std.proofs.Common.{ℕ, ℤ, ◌≡◌, ◌≢◌, ◌≤◌, inl, inr, refl, sym, ap, subst, ◌∙◌, arith, List, [], ◌∷◌, length, Option, Some, None, IfSome, Result, Ok, Err}
+use Rattle.std.proofs.Common.{ℕ, ℤ, ◌≡◌, ◌≢◌, inl, inr, refl, sym, ap, subst, ◌∙◌, arith, List, [], ◌∷◌, Option, Some, None, IfSome, Ok, Err}
 use Rattle.std.specs.Io.KnownBytes.{Appends, IsAtEnd}
 use Rattle.vcp_base.specs.Limits.{most_source_bytes}
-use Rattle.coded_unit.specs.Log.{Entry, GrowsBy}
-use Rattle.coded_unit.specs.Seen.{UnitSeen, StaysHonest}
+use Rattle.coded_unit.specs.Log.{GrowsBy}
+use Rattle.coded_unit.specs.Seen.{UnitSeen}
 use Rattle.vcp_outside.specs.Counts.{Rose}
 use Rattle.vcp_outside.specs.Held.{Held}
 use Rattle.vcp_outside.specs.Seen.{FilesSeen, SinkSeen}
@@ -15,7 +15,7 @@ use Rattle.wire_run.specs.declared.wire_end.WireEnd.{WireEnd}
 use Rattle.wire_run.specs.declared.wire_end.WireEnd.TheVariants as end
 use Rattle.wire_run.specs.declared.wire_end.WireRunFault.{WireRunFault}
 use Rattle.wire_run.specs.declared.wire_end.WireRunFault.TheVariants as fault
-use Rattle.wire_run.specs.Runs.{AreWords, PartTold, RoseBy, RunsWire, told_text}
+use Rattle.wire_run.specs.Runs.{AreWords, PartTold, RoseBy, RunsWire}
 use Rattle.wire_run.specs.Sends.{Cut, calls_of}
 use Rattle.machine_run.specs.Moments.{Moment, moment}
 use Rattle.vcp_words.specs.Forms.{wire}
@@ -25,16 +25,15 @@ use Rattle.vcp_inputs.specs.Wires.{WireOf, NotWire, no_wire}
 use Rattle.command_meaning.specs.Abouts.{about, Among}
 use Rattle.command_meaning.specs.Answer.{Answer, printed}
 use Rattle.command_meaning.specs.Clauses.{IsEnd}
-use Rattle.command_meaning.specs.FileTasks.{TakenFile}
 use Rattle.command_meaning.specs.Kinds.{Task, wires}
-use Rattle.command_meaning.specs.Performing.{Reaches, done, cut, unmade, Performs}
+use Rattle.command_meaning.specs.Performing.{Reaches, done, cut, Performs}
 use Rattle.command_meaning.specs.WireKind.{WireDone, WireLeft, WritesTold, wire_answer}
 use Rattle.command_meaning.proofs.OneFile.{one_file}
 use Rattle.vcp_core.specs.Faults.{of_wire}
 use Rattle.vcp_core.specs.Reach.{end_status, fault_status, fault_text, wire_ending}
 use Rattle.vcp_core.specs.Tasks.{WireTask}
 use Rattle.vcp_core.proofs.Facts.{if_some_weaker}
-use Rattle.vcp_core.proofs.Performing.{no_line, on_held, part_performs, wanted_performs, whole_performs}
+use Rattle.vcp_core.proofs.Performing.{no_line, on_held, part_performs, wanted_performs}
 use Rattle.vcp_core.proofs.PlainTurns.{appends-nothing}
 
 -- ---- a text is one script, or is refused in one way

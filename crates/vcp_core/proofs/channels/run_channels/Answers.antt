@@ -1,7 +1,6 @@
-use Rattle.std.proofs.Common.{◌≡◌, inl, refl, sym, ap, ◌∙◌, Ok}
+use Rattle.std.proofs.Common.{◌≡◌, inl, sym, ap, ◌∙◌, Ok}
 use Rattle.std.proofs.lemmas.Result.{err_from_is_err_and}
 use Rattle.signature_table.specs.Signatures.{Numbers}
-use Rattle.machine_run.specs.Moments.{moment}
 use Rattle.vcp_core.specs.declared.ending.Ending.TheVariants as ending
 use Rattle.vcp_core.specs.Tasks.{pair_job}
 use Rattle.vcp_core.proofs.TwoChannels.{came_to_end, gave_up, wrote}
