@@ -1,0 +1,5 @@
+pub mod GroupCalls
+pub mod GroupLines
+pub mod GroupRuns
+pub mod PairCampaigns
+pub mod PairVerdicts
