@@ -1,7 +1,7 @@
 # Completion of the words of vcp for bash: `. docs/completion.bash`, or a copy in /etc/bash_completion.d.
 # The commands are those of the usage line (checks/usage.sh compares them).
 
-_vcp_commands='check format plain run compile list exec trace inject audit widen il pair wire demo'
+_vcp_commands='check format plain run compile list exec trace inject audit widen il pair pairs wire demo'
 
 _vcp() {
     local word=${COMP_WORDS[COMP_CWORD]} before=${COMP_WORDS[COMP_CWORD - 1]} command=${COMP_WORDS[1]}
@@ -15,7 +15,7 @@ _vcp() {
     case $command:$word in
     run:-* | il:-*) mapfile -t COMPREPLY < <(compgen -W '--cycles --seed --step' -- "$word") ;;
     compile:-*) mapfile -t COMPREPLY < <(compgen -W '--seed --step' -- "$word") ;;
-    plain:-* | exec:-* | trace:-* | inject:-* | pair:-*) mapfile -t COMPREPLY < <(compgen -W '--cycles' -- "$word") ;;
+    plain:-* | exec:-* | trace:-* | inject:-* | pair:-* | pairs:-*) mapfile -t COMPREPLY < <(compgen -W '--cycles' -- "$word") ;;
     demo:*) ;;
     *) mapfile -t COMPREPLY < <(compgen -f -- "$word") ;;
     esac

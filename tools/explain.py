@@ -162,7 +162,7 @@ class Explainer:
 
     def silent_rows(self) -> list[Explanation]:
         """What the rows file of an accepted call holds that is read in silence."""
-        takes_rows = len(self.words) > 2 and self.words[0] in ("plain", "run", "il", "exec", "trace", "inject", "pair") and self.words[2] != "--cycles"
+        takes_rows = len(self.words) > 2 and self.words[0] in ("plain", "run", "il", "exec", "trace", "inject", "pair", "pairs") and self.words[2] != "--cycles"
         data = _bytes(self.words[2]) if takes_rows else b""
         if not 0 < len(data) <= MOST_BYTES_LOOKED_AT:
             return []
@@ -179,7 +179,7 @@ class Explainer:
         if fault.code in ("F5", "F6"):
             hint = group_hint(data.decode("latin-1").split("\n"), number, fault.code)
             return Explanation(f"{fault.file}:{number}:{hint.start + 1}", hint.message, number, line, hint.start, hint.end)
-        if len(self.words) > 1 and self.words[0] == "inject":
+        if len(self.words) > 1 and self.words[0] in ("inject", "pairs"):
             operations = [it.kind for it in _image(self.words[1]).operations]
         hint = script_hint(line.decode("latin-1"), fault.code, operations)
         return Explanation(f"{fault.file}:{number}:{hint.start + 1}", hint.message, number, line, hint.start, hint.end)

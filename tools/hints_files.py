@@ -13,7 +13,8 @@ from tools.hint import listed, nearest
 FORMS: dict[str, tuple[str, ...]] = {
     "check": ("P",), "format": ("P",), "plain": ("P", "ROWS"), "run": ("P", "ROWS", "CODE"), "compile": ("P", "CODE"), "list": ("M",),
     "exec": ("M", "ROWS"), "trace": ("M", "ROWS", "CYCLE"), "widen": ("M",), "audit": ("M", "HORIZON"), "inject": ("M", "ROWS", "F"),
-    "il": ("P", "ROWS", "CODE"), "pair": ("M", "ROWS", "SEED"), "wire": ("F",), "demo": ("N",),
+    "il": ("P", "ROWS", "CODE"), "pair": ("M", "ROWS", "SEED"), "pairs": ("M", "ROWS", "SEED", "F"),
+    "wire": ("F",), "demo": ("N",),
 }
 """The words behind each command; ROWS is a file or `--cycles N`, CODE `--seed N` and `--step N`, each at most once."""
 KINDS: dict[str, int] = {

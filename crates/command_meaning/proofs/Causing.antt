@@ -9,11 +9,13 @@ use Rattle.pair_channel.specs.declared.pair_end.PairEnd.TheVariants as pair
 use Rattle.pair_channel.specs.PairRuns.{PairOutcome}
 use Rattle.command_meaning.specs.Answer.{Answer}
 use Rattle.command_meaning.specs.CampaignKind.{verdicts_answer}
+use Rattle.pair_campaign.specs.declared.verdict.PairVerdict.{PairVerdict}
+use Rattle.command_meaning.specs.HoldKind.{held_answer}
 use Rattle.command_meaning.specs.PairKind.{pair_answer, pair_read, pair_status}
 use Rattle.command_meaning.specs.Printing.{Report}
 use Rattle.command_meaning.specs.Endings.{TellsLine, ended, cut, short, unread, unmade, Given, Causes, NothingFailed, HasOwnStatus}
 use Rattle.command_meaning.specs.Endings.{DoneIsMeant, EndingsHaveCauses, GivingUpHasCauses}
-use Rattle.command_meaning.specs.Kinds.{Task, lacks, answers, compiles, runs, judges, compares, wires, Done, lack_answer}
+use Rattle.command_meaning.specs.Kinds.{Task, lacks, answers, compiles, runs, judges, compares, holds, wires, Done, lack_answer}
 use Rattle.command_meaning.specs.Reports.{RunEnd, complete, stopped, refused, run_status}
 use Rattle.command_meaning.specs.RunKind.{job_answer, run_read}
 use Rattle.wire_run.specs.Sends.{Cut}
@@ -54,6 +56,7 @@ five_lacks (runs j) a b x few d h = absurd (omega (arith, h, status_of x _ d.rea
 five_lacks (judges c) a b x few d h = absurd (omega (arith, h, status_of x _ d.read))
 five_lacks (wires s) a b x few d h = absurd (omega (arith, h, status_of x _ d.read, wire_small d.cut))
 five_lacks (compares j) a b x few d h = absurd (omega (arith, h, status_of x _ d.read, pair_small (pair_read j d.cycles).end j.rows.refusal))
+five_lacks (holds c) a b x few d h = absurd (omega (arith, h, status_of x _ d.read))
 
 lacks_five : (task : Task) (a b : UnitSeen) (x : Answer) (name : List ℕ) → task ≡ lacks name → Done task a b x → x.status ≡ 5
 lacks_five task a b x name is d =
@@ -69,6 +72,7 @@ done_is_meant (runs j) before after x d honest = d.read ∙ ap (λ (r : Report).
 done_is_meant (judges c) before after x d honest = d.read ∙ ap (λ (vs : List Verdict). verdicts_answer c vs) (d.honest honest)
 done_is_meant (wires s) before after x d honest = d.honest honest
 done_is_meant (compares j) before after x d honest = d.read ∙ ap (λ (o : PairOutcome). pair_answer j o) (d.honest honest)
+done_is_meant (holds c) before after x d honest = d.read ∙ ap (λ (vs : List PairVerdict). held_answer c vs) (d.honest honest)
 
 -- ---- the answer came
 

@@ -8,7 +8,7 @@ use Rattle.command_meaning.specs.Abouts.{Among, About, AllHeld}
 use Rattle.command_meaning.specs.Clauses.{IsEnd, IsTooLong, Keeps, MayHold, Serves, TellsTooLong, Completed, Completes, IsAccepted}
 use Rattle.command_meaning.specs.Endings.{Answered, known, given_up, Came, Causes, Ends, Given, GivenUp, HasOwnStatus, NothingFailed, TellsLine}
 use Rattle.command_meaning.specs.Endings as ends
-use Rattle.command_meaning.specs.Kinds.{Task, lacks, answers, compiles, runs, judges, compares, wires, Done, Meant}
+use Rattle.command_meaning.specs.Kinds.{Task, lacks, answers, compiles, runs, judges, compares, holds, wires, Done, Meant}
 use Rattle.command_meaning.specs.Performing.{Still, Reaches, done, cut, short, unread, unmade, Performs}
 use Rattle.command_meaning.specs.PairKind.{pair_read}
 use Rattle.command_meaning.specs.RunKind.{run_read}
@@ -58,6 +58,7 @@ never_six (runs j) a b x few d h = omega (arith, h, status_of x _ d.read, run_sm
 never_six (judges c) a b x few d h = omega (arith, h, status_of x _ d.read)
 never_six (wires s) a b x few d h = omega (arith, h, status_of x _ d.read, wire_small d.cut)
 never_six (compares j) a b x few d h = omega (arith, h, status_of x _ d.read, pair_small (pair_read j d.cycles).end j.rows.refusal)
+never_six (holds c) a b x few d h = omega (arith, h, status_of x _ d.read)
 
 -- a line whose status is another one was told, or its sink failed
 told_five : (line : List ℕ) (code : ℕ) (a b : SinkSeen) (status : ℕ) → TellsLine line code a b status → status ≡ 5 → code ≡ 5

@@ -3,7 +3,7 @@ use Rattle.std.specs.Prelude.{ℕ, ◌≡◌, ◌⊎◌, Bool, true, false, List
 use Rattle.vcp_base.specs.Limits.{most_source_bytes, most_image_bytes, most_rows_bytes}
 use Rattle.il_front.specs.Answers.{most_il_bytes}
 use Rattle.vcp_outside.specs.Held.{Held}
-use Rattle.vcp_words.specs.Forms.{Form, Rows, check, format, plain, run, il, compile, list, exec, trace, widen, audit, inject, pair, wire, demo, file, cycles}
+use Rattle.vcp_words.specs.Forms.{Form, Rows, check, format, plain, run, il, compile, list, exec, trace, widen, audit, inject, pair, pairs, wire, demo, file, cycles}
 
 -- ---- files that words name
 
@@ -70,6 +70,7 @@ about (widen m) = prints_of (image_word m ∷ [])
 about (audit m horizon) = prints_of (image_word m ∷ [])
 about (inject m rows f) = judges_of (image_word m ∷ (rows_words rows ++ script_word f ∷ []))
 about (pair m rows seed) = runs_of (image_word m ∷ rows_words rows)
+about (pairs m rows seed f) = judges_of (image_word m ∷ (rows_words rows ++ script_word f ∷ []))
 about (wire f) = sends_of (script_word f ∷ [])
 about (demo n) = runs_of []
 
@@ -88,6 +89,7 @@ without_unit (widen m) = None
 without_unit (audit m horizon) = None
 without_unit (inject m rows f) = None
 without_unit (pair m rows seed) = None
+without_unit (pairs m rows seed f) = None
 without_unit (wire f) = None
 without_unit (demo n) = None
 

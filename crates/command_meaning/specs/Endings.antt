@@ -6,7 +6,7 @@ use Rattle.vcp_outside.specs.Written.{AppendsFront, AppendsPart}
 use Rattle.vcp_inputs.specs.Lines.{memory_text, read_fault_text, write_fault_text}
 use Rattle.command_meaning.specs.Answer.{Answer}
 use Rattle.command_meaning.specs.Abouts.{Among, About, FileWord}
-use Rattle.command_meaning.specs.Kinds.{Task, lacks, answers, compiles, runs, judges, compares, wires, Done, Left, Meant}
+use Rattle.command_meaning.specs.Kinds.{Task, lacks, answers, compiles, runs, judges, compares, holds, wires, Done, Left, Meant}
 use Rattle.coded_unit.specs.Seen.{UnitSeen}
 use Rattle.vcp_outside.specs.Seen.{SinkSeen}
 use Rattle.coded_unit.specs.Seen.{StaysHonest}
@@ -93,6 +93,7 @@ HasOwnStatus (runs j) = Unit {0}
 HasOwnStatus (judges c) = Unit {0}
 HasOwnStatus (wires s) = Unit {0}
 HasOwnStatus (compares j) = Unit {0}
+HasOwnStatus (holds c) = Unit {0}
 
 -- a task that was done with an honest unit was done as it is meant
 abbrev pub DoneIsMeant : Type 0

@@ -14,11 +14,12 @@ use Rattle.command_meaning.specs.RunKind.{Job, RunDone, RunLeft, job_answer, run
 use Rattle.command_meaning.specs.CampaignKind.{CampaignDone, CampaignLeft, verdicts_answer, verdicts_meant}
 use Rattle.wire_script.specs.declared.script.Script.{Script}
 use Rattle.command_meaning.specs.WireKind.{WireDone, WireLeft, wire_meant}
+use Rattle.command_meaning.specs.HoldKind.{HoldDone, HoldLeft, held_answer, held_meant}
 use Rattle.command_meaning.specs.PairKind.{PairJob, PairJobDone, PairJobLeft, pair_answer, pair_meant}
 
 -- What a command and files come to: a name that is lacking; an answer for which no unit is called; a program of which the image of some
 -- graph that means it is written, with the numbers of a code; a run; groups of faults that are judged; a run of two
--- channels; or the script of a wire that is run.
+-- channels; groups of faults that two channels may hold; or the script of a wire that is run.
 pub data Task : Type 0 where
   lacks : List ℕ → Task
   answers : Answer → Task
@@ -27,6 +28,7 @@ pub data Task : Type 0 where
   judges : Campaign → Task
   wires : Script → Task
   compares : PairJob → Task
+  holds : Campaign → Task
 
 -- the file under a name is refused
 abbrev pub refusal_task : List ℕ → Refusal → Task
@@ -51,6 +53,7 @@ Meant (runs j) x = x ≡ job_answer j (run_meant j)
 Meant (judges c) x = x ≡ verdicts_answer c (verdicts_meant c)
 Meant (wires s) x = x ≡ wire_meant s
 Meant (compares j) x = x ≡ pair_answer j (pair_meant j)
+Meant (holds c) x = x ≡ held_answer c (held_meant c)
 
 -- ---- what stands after a task
 
@@ -67,6 +70,7 @@ Done (runs j) before after x = RunDone j before after x
 Done (judges c) before after x = CampaignDone c before after x
 Done (wires s) before after x = WireDone s before after x
 Done (compares j) before after x = PairJobDone j before after x
+Done (holds c) before after x = HoldDone c before after x
 
 -- ---- what stands where a sink or want of memory cut it off
 
@@ -87,3 +91,4 @@ Left (runs j) Writes before after = RunLeft j Writes before after
 Left (judges c) Writes before after = CampaignLeft c Writes before after
 Left (wires s) Writes before after = WireLeft s Writes before after
 Left (compares j) Writes before after = PairJobLeft j Writes before after
+Left (holds c) Writes before after = HoldLeft c Writes before after

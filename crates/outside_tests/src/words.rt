@@ -43,6 +43,7 @@ fn told(command: &Command<'_>) -> (&'static str, u32, u32, u16) {
         Command::Audit { horizon, .. } => ("audit", *horizon, 0, 0),
         Command::Inject { rows, .. } => ("inject", cycles(rows), 0, 0),
         Command::Pair { rows, seed, .. } => ("pair", cycles(rows), *seed, 0),
+        Command::Pairs { rows, seed, .. } => ("pairs", cycles(rows), *seed, 0),
         Command::Wire { .. } => ("wire", 0, 0, 0),
         Command::Demo { number } => ("demo", *number, 0, 0),
     }
@@ -76,6 +77,10 @@ pair m r 00 => pair 0 0 0
 pair m --cycles 3 1073741823 => pair 3 1073741823 0
 pair m r 1073741824 => none
 pair m r => none
+pairs m r 7 f => pairs 0 7 0
+pairs m --cycles 3 00 f => pairs 3 0 0
+pairs m r f 7 => none
+pairs m r 7 => none
 wire f => wire 0 0 0
 wire => none
 wire f f => none
@@ -134,6 +139,6 @@ fn the_usage_line_ends() -> Result<(), Fail> {
     same(
         from_utf8(usage())?,
         "usage: vcp check P, format P, plain P ROWS, run P ROWS CODE, compile P CODE, list M, exec M ROWS, trace M ROWS CYCLE, \
-         inject M ROWS F, audit M HORIZON, widen M, il P ROWS CODE, pair M ROWS SEED, wire F or demo N\n",
+         inject M ROWS F, audit M HORIZON, widen M, il P ROWS CODE, pair M ROWS SEED, pairs M ROWS SEED F, wire F or demo N\n",
     )
 }

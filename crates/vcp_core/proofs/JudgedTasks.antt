@@ -45,28 +45,33 @@ use Rattle.machine_run.specs.Moments.{Moment, moment}
 use Rattle.vcp_core.specs.Tasks.{FewRows, InjectTask, JudgedScript, WholeRows, graph_columns, most_trace}
 use Rattle.vcp_core.specs.Tasks as task
 use Rattle.vcp_core.specs.Faults.{of_campaign}
-use Rattle.vcp_core.specs.Inject.{AllRows, NoRows, RowsRefused, at_header, at_row, too_many}
+use Rattle.vcp_core.specs.Inject.{AllRead, AllRows, NoneRead, NoRows, RowsBroken, RowsRefused, at_header, at_row, broken, too_many}
 use Rattle.vcp_core.specs.Reach.{fault_status, fault_text}
 use Rattle.vcp_core.proofs.Performing.{file_lost, file_taken, file_takes, part_performs, short_performs, still}
 
 -- ---- all rows
 
 -- a row that is refused
-pub row_refused : (o : RowsOutcome) (g : Lists) (left : RowsLeft) (f : RowFault) → o ≡ opened left → (f ≢ row.Memory → left.refusal ≡ Some f)
-    → NoRows o g (no_rows f)
-row_refused o g left row.Header comes behind = at_row left row.Header comes (behind (λ e. cc))
-row_refused o g left (row.Width n) comes behind = at_row left (row.Width n) comes (behind (λ e. cc))
-row_refused o g left (row.Cell n column) comes behind = at_row left (row.Cell n column) comes (behind (λ e. cc))
-row_refused o g left row.Form comes behind = at_row left row.Form comes (behind (λ e. cc))
-row_refused o g left row.Cycles comes behind = at_row left row.Cycles comes (behind (λ e. cc))
-row_refused o g left row.Cycle comes behind = at_row left row.Cycle comes (behind (λ e. cc))
-row_refused o g left row.Memory comes behind = tt
+pub row_refused : (o : RowsOutcome) (left : RowsLeft) (f : RowFault) → o ≡ opened left → (f ≢ row.Memory → left.refusal ≡ Some f) → NoneRead o (no_rows f)
+row_refused o left row.Header comes behind = at_row left row.Header comes (behind (λ e. cc))
+row_refused o left (row.Width n) comes behind = at_row left (row.Width n) comes (behind (λ e. cc))
+row_refused o left (row.Cell n column) comes behind = at_row left (row.Cell n column) comes (behind (λ e. cc))
+row_refused o left row.Form comes behind = at_row left row.Form comes (behind (λ e. cc))
+row_refused o left row.Cycles comes behind = at_row left row.Cycles comes (behind (λ e. cc))
+row_refused o left row.Cycle comes behind = at_row left row.Cycle comes (behind (λ e. cc))
+row_refused o left row.Memory comes behind = tt
 
 -- rows that aren't opened
-pub not_opened : (o : RowsOutcome) (g : Lists) (i : NoInput) (b : ℕ) → i ≢ input.Unread → Opens o b b (Err i) → NoRows o g i
-not_opened o g input.Unread b known opens = absurd (known refl)
-not_opened o g (input.Refused r) b known opens = at_header r opens
-not_opened o g input.Memory b known opens = tt
+pub not_opened : (o : RowsOutcome) (i : NoInput) (b : ℕ) → i ≢ input.Unread → Opens o b b (Err i) → NoneRead o i
+not_opened o input.Unread b known opens = absurd (known refl)
+not_opened o (input.Refused r) b known opens = at_header r opens
+not_opened o input.Memory b known opens = tt
+
+-- rows that aren't read are none for any graph
+pub none_for : (o : RowsOutcome) (g : Lists) (i : NoInput) → NoneRead o i → NoRows o g i
+none_for o g input.Unread h = h
+none_for o g (input.Refused r) h = broken r h
+none_for o g input.Memory h = tt
 
 -- that is no read fault
 pub rows_are_read : (o : RowsOutcome) (g : Lists) (i : NoInput) → NoRows o g i → i ≡ input.Unread → ⊥
@@ -76,12 +81,12 @@ rows_are_read o g input.Unread h is = h
 
 -- ---- the files of `inject`
 
-rows_front : (word : FileWord) (words more : List FileWord) → Among word words → Among word (words ++ more)
+pub rows_front : (word : FileWord) (words more : List FileWord) → Among word words → Among word (words ++ more)
 rows_front word [] more h = absurd h
 rows_front word (w ∷ words) more (inl e) = inl e
 rows_front word (w ∷ words) more (inr h) = inr (rows_front word words more h)
 
-script_end : (word : FileWord) (words more : List FileWord) → Among word more → Among word (words ++ more)
+pub script_end : (word : FileWord) (words more : List FileWord) → Among word more → Among word (words ++ more)
 script_end word [] more h = h
 script_end word (w ∷ words) more h = inr (script_end word words more h)
 
@@ -92,6 +97,25 @@ pub script_named : (m : List ℕ) (rows : Rows) (f : List ℕ) → Among (script
 script_named m rows f = inr (script_end (script_word f) (rows_words rows) (script_word f ∷ []) (inl refl))
 
 -- ---- what it comes to
+
+-- all rows that stand behind no refusal come to what is said of them
+abbrev pub WholeLeft : Rows → (List (List ℤ) → Task → Type 0) → RowsLeft → Task → Type 0
+WholeLeft rows Then left t = WholeRows (rows_name rows) Then left.rows left.refusal t
+
+pub whole_broken : (rows : Rows) (o : RowsOutcome) (Then : List (List ℤ) → Task → Type 0) (r : Refusal) → RowsBroken o r →
+    OnRows (rows_name rows) (WholeLeft rows Then) o (refusal_task (rows_name rows) r)
+whole_broken rows o Then r (at_header _ is) =
+    subst (λ (x : RowsOutcome). OnRows (rows_name rows) (WholeLeft rows Then) x (refusal_task (rows_name rows) r)) (sym is) refl
+whole_broken rows o Then _ (at_row left why is behind) =
+    subst (λ (x : RowsOutcome). OnRows (rows_name rows) (WholeLeft rows Then) x (refusal_task (rows_name rows) (refusal.Rows why))) (sym is)
+    (subst (λ (x : Option RowFault). WholeRows (rows_name rows) Then left.rows x (refusal_task (rows_name rows) (refusal.Rows why))) (sym behind) refl)
+
+pub whole_comes : (rows : Rows) (o : RowsOutcome) (Then : List (List ℤ) → Task → Type 0) (list : List (List ℤ)) → AllRead o list → (t : Task) →
+    Then list t → OnRows (rows_name rows) (WholeLeft rows Then) o t
+whole_comes rows o Then list all t comes =
+    subst (λ (x : RowsOutcome). OnRows (rows_name rows) (WholeLeft rows Then) x t) (sym all.comes)
+    (subst (λ (x : Option RowFault). WholeRows (rows_name rows) Then all.left.rows x t) (sym all.whole)
+    (subst (λ (x : List (List ℤ)). Then x t) (sym all.rows_are) comes))
 
 -- the groups of a script over these rows
 abbrev pub campaign_of : Image → List (List ℤ) → List (List ScriptedFault) → Campaign
@@ -118,11 +142,7 @@ module _ (m : List ℕ) (rows : Rows) (f : List ℕ) (held : Held) where
 
   -- ROWS are refused
   rows_refused : (i : Image) (o : RowsOutcome) (r : Refusal) → RowsRefused o i.graph r → Comes i o (refusal_task (rows_name rows) r)
-  rows_refused i o r (at_header _ is) = subst (λ (x : RowsOutcome). Comes i x (refusal_task (rows_name rows) r)) (sym is) refl
-  rows_refused i o _ (at_row left why is behind) =
-      subst (λ (x : RowsOutcome). Comes i x (refusal_task (rows_name rows) (refusal.Rows why))) (sym is)
-      (subst (λ (x : Option RowFault). WholeRows (rows_name rows) (FewRows (rows_name rows) i.graph (JudgedScript i f held)) left.rows x
-      (refusal_task (rows_name rows) (refusal.Rows why))) (sym behind) refl)
+  rows_refused i o r (broken _ why) = whole_broken rows o (FewRows (rows_name rows) i.graph (JudgedScript i f held)) r why
   rows_refused i o _ (too_many left is none more) =
       subst (λ (x : RowsOutcome). Comes i x (refusal_task (rows_name rows) refusal.Trace)) (sym is)
       (subst (λ (x : Option RowFault). WholeRows (rows_name rows) (FewRows (rows_name rows) i.graph (JudgedScript i f held)) left.rows x
@@ -131,11 +151,7 @@ module _ (m : List ℕ) (rows : Rows) (f : List ℕ) (held : Held) where
   -- or all of them were read
   script_comes : (i : Image) (o : RowsOutcome) (list : List (List ℤ)) → AllRows o i.graph list → (t : Task) → JudgedScript i f held list t → Comes i o t
   script_comes i o list all t comes =
-      subst (λ (x : RowsOutcome). Comes i x t) (sym all.comes)
-      (subst (λ (x : Option RowFault). WholeRows (rows_name rows) (FewRows (rows_name rows) i.graph (JudgedScript i f held)) all.left.rows x t)
-      (sym all.whole)
-      (task.few t (subst (λ (x : List (List ℤ)). length x * length i.graph.operations ≤ most_trace) (sym all.rows_are) all.few)
-      (subst (λ (x : List (List ℤ)). JudgedScript i f held x t) (sym all.rows_are) comes)))
+      whole_comes rows o (FewRows (rows_name rows) i.graph (JudgedScript i f held)) list all.read t (task.few t all.few comes)
 
   module _ (files later : FilesSeen) (i : Image) (o : RowsOutcome) (loads : Loads ImageOf NotImage held m most_image_bytes 0 0 (Ok i))
       (same : rows_outcome rows held (graph_columns i.graph) ≡ o) where
@@ -217,14 +233,14 @@ lines_front g groups vs later old new w =
     (verdict_lines g groups vs, more ++ totals, ap (λ t. t ++ totals) is ∙ append_assoc (verdict_lines g groups vs) more totals, w)
 
 -- the verdicts that are left of all
-pub left_of : (vs all : List Verdict) → vs ≡ take (length vs) all → all ≡ vs ++ drop (length vs) all
+pub left_of : {X : Type 0} (vs all : List X) → vs ≡ take (length vs) all → all ≡ vs ++ drop (length vs) all
 left_of vs all is = sym (take-append-drop (length vs) all) ∙ ap (λ l. l ++ drop (length vs) all) (sym is)
 
-pub left_count : (vs all : List Verdict) (n : ℕ) → vs ≡ take (length vs) all → length all ≡ n → length vs + length (drop (length vs) all) ≡ n
+pub left_count : {X : Type 0} (vs all : List X) (n : ℕ) → vs ≡ take (length vs) all → length all ≡ n → length vs + length (drop (length vs) all) ≡ n
 left_count vs all n is count = sym (length-append vs (drop (length vs) all)) ∙ ap length (sym (left_of vs all is)) ∙ count
 
 -- as many as there are groups are all
-pub all_of : (vs all : List Verdict) → vs ≡ take (length vs) all → length vs ≡ length all → vs ≡ all
+pub all_of : {X : Type 0} (vs all : List X) → vs ≡ take (length vs) all → length vs ≡ length all → vs ≡ all
 all_of vs all is same = is ∙ ap (λ n. take n all) same ∙ take-length all
 
 -- ---- how far the groups were judged

@@ -1,6 +1,7 @@
 pub mod AuditKinds
 pub mod DemoKinds
 pub mod Facts
+pub mod HeldTasks
 pub mod ImageLoaded
 pub mod JobFacts
 pub mod JudgedTasks

@@ -19,7 +19,7 @@ use Rattle.vcp_typed.specs.Size.{size}
 use Rattle.st_tree.specs.ProgramTree.{ProgramTree}
 use Rattle.vcp_typed.specs.Fitting.{input_columns}
 use Rattle.vcp_typed.specs.SourceRun.{Program}
-use Rattle.vcp_words.specs.Forms.{Form, Rows, Code, check, format, plain, run, il, compile, list, exec, trace, widen, audit, inject, pair, wire, demo, file, cycles}
+use Rattle.vcp_words.specs.Forms.{Form, Rows, Code, check, format, plain, run, il, compile, list, exec, trace, widen, audit, inject, pair, pairs, wire, demo, file, cycles}
 use Rattle.vcp_words.specs.Tables.{rows_name}
 use Rattle.vcp_inputs.specs.declared.images.Image.{Image}
 use Rattle.vcp_inputs.specs.declared.refusal.Refusal.{Refusal}
@@ -44,13 +44,13 @@ use Rattle.command_meaning.specs.Abouts.{FileWord, about, AllHeld, image_word, l
 use Rattle.command_meaning.specs.Answer.{Answer, Campaign, source, image}
 use Rattle.command_meaning.specs.FileTasks.{TakenFile, missing, untaken, taken, ParsedFile, TypedFile, ListingFile, ImageFile, ScriptFile, OnRows, TakenRows}
 use Rattle.command_meaning.specs.Endings.{HasOwnStatus}
-use Rattle.command_meaning.specs.Kinds.{Task, lacks, answers, compiles, runs, judges, compares, wires, prints, refusal_task, Meant}
+use Rattle.command_meaning.specs.Kinds.{Task, lacks, answers, compiles, runs, judges, compares, holds, wires, prints, refusal_task, Meant}
 use Rattle.command_meaning.specs.PairKind.{PairJob}
 use Rattle.command_meaning.specs.Reports.{end_told, run_status}
 use Rattle.command_meaning.specs.RunKind.{Job, job_answer, run_meant}
 use Rattle.command_meaning.proofs.OneFile.{one_file, file_has}
 use Rattle.vcp_core.specs.Tasks.{Audited, too_large, printed, FewRows, too_many, few, JudgedScript, WholeRows}
-use Rattle.vcp_core.specs.Tasks.{Apart, same_seed, two_seeds, Compared, pair_job}
+use Rattle.vcp_core.specs.Tasks.{Apart, same_seed, two_seeds, Compared, HeldRows, HeldScript, pair_job}
 use Rattle.vcp_core.specs.Tasks.{AuditTask, TaskOf, PlainTask, RunTask, graph_columns, plain_answer, rows_job, summary_job, words_job, ok_text}
 use Rattle.vcp_core.specs.Tasks.{made_held, made_name, most_trace, table_code, listing, widened}
 use Rattle.vcp_core.proofs.OneText.{ImageLaws, Laws, OneAudit, image_once, image_or_none, no_image_once, program_once, program_or_none, refused_once}
@@ -205,6 +205,14 @@ module _ (laws : Laws) where
       (few_once name i.graph (JudgedScript i f held) left.rows
       (λ c d. script_file_once i.graph (λ groups. judges (record { graph = i.graph; table = i.table; rows = left.rows; groups = groups })) f held c d) a b) h k
 
+  held_once : (rows : Rows) (f : List ℕ) (held : Held) (i : Image) (a b : Task) → HeldRows rows f held i a → HeldRows rows f held i b → a ≡ b
+  held_once rows f held i a b h k =
+      let name = rows_name rows in
+      rows_once name (λ left. WholeRows name (HeldScript i f held) left.rows left.refusal)
+      (λ left x y. whole_once name (HeldScript i f held) left.rows left.refusal x y
+      (script_file_once i.graph (λ groups. holds (record { graph = i.graph; table = i.table; rows = left.rows; groups = groups })) f held x y))
+      (rows_outcome rows held (graph_columns i.graph)) a b h k
+
   pub task_once : (f : Form) (held : Held) (a b : Task) → TaskOf f held a → TaskOf f held b → a ≡ b
   task_once (check p) held a b h k = typed_file_is (λ t. prints (ok_text (size t))) p held a b h k
   task_once (format p) held a b h k = parsed_file_once (λ t. prints (canonical t)) p held a b h k
@@ -224,6 +232,8 @@ module _ (laws : Laws) where
       (judged_once (rows_name rows) f held) a b h k
   task_once (pair m rows seed) held a b h k =
       image_file_once laws.images (Apart m seed (Compared rows held)) m held (apart_once m seed (Compared rows held) (compared_once rows held)) a b h k
+  task_once (pairs m rows seed f) held a b h k =
+      image_file_once laws.images (Apart m seed (HeldRows rows f held)) m held (apart_once m seed (HeldRows rows f held) (held_once rows f held)) a b h k
   task_once (wire f) held a b h k = wire_task_once f held a b h k
   task_once (demo number) held a b h k =
       typed_file_once (λ t. OnRows made_name (λ left x. x ≡ runs (summary_job number t left)) (made_outcome number t)) made_name (made_held number)
@@ -414,48 +424,63 @@ module _ (P : Task → Type 0) (given : (a : Answer) → a.status ≤ 2 → P (a
       (λ x. file_has (ScriptOf i.graph) (NotScript i.graph) most_source_bytes (λ groups y. y ≡ judges (campaign i left groups)) f (held f) P none (refused f)
       (λ groups y is. is_has y (judges (campaign i left groups)) (judging (campaign i left groups)) is) x) task) comes
 
+  held_has : (rows : Rows) (f : List ℕ) (held : Held) → Lacking P held (rows_words rows) → (held f ≡ None → P (lacks f)) → ((c : Campaign) → P (holds c)) →
+      (i : Image) (task : Task) → HeldRows rows f held i task → P task
+  held_has rows f held none script holding i task comes =
+      rows_have (λ left. WholeRows (rows_name rows) (HeldScript i f held) left.rows left.refusal) rows held (graph_columns i.graph) none
+      (λ left x.
+      whole_has (rows_name rows) (HeldScript i f held) left.rows left.refusal x
+      (file_has (ScriptOf i.graph) (NotScript i.graph) most_source_bytes (λ groups y. y ≡ holds (campaign i left groups)) f (held f) P script (refused f)
+      (λ groups y is. is_has y (holds (campaign i left groups)) (holding (campaign i left groups)) is) x)) task comes
+
   pub task_has : (f : Form) (held : Held) → Lacking P held (about f).files → ((j : Job) → P (runs j)) → ((p : Program) (code : Code) → P (compiles p code)) →
-      ((c : Campaign) → P (judges c)) → ((j : PairJob) → P (compares j)) → ((s : Script) → P (wires s)) → (task : Task) → TaskOf f held task → P task
-  task_has (check p) held none running writing judging comparing wiring task comes =
+      ((c : Campaign) → P (judges c)) → ((j : PairJob) → P (compares j)) → ((c : Campaign) → P (holds c)) → ((s : Script) → P (wires s)) → (task : Task) →
+      TaskOf f held task → P task
+  task_has (check p) held none running writing judging comparing holding wiring task comes =
       typed_is (λ t. prints (ok_text (size t))) p held (none (source_word p) (inl refl)) (λ t. given _ (lit≤ tt)) task comes
-  task_has (format p) held none running writing judging comparing wiring task comes =
+  task_has (format p) held none running writing judging comparing holding wiring task comes =
       file_has IsProgram NoProgram most_source_bytes (λ t x. x ≡ prints (canonical t)) p (held p) P (none (source_word p) (inl refl)) (refused p)
       (λ t x is. is_has x (prints (canonical t)) (given _ (lit≤ tt)) is) task comes
-  task_has (plain p rows) held none running writing judging comparing wiring task comes =
+  task_has (plain p rows) held none running writing judging comparing holding wiring task comes =
       program_has (λ t left. answers (plain_answer (rows_name rows) t left)) p rows held none
       (λ t left. given _ (meant_small (told_source t left.rows).end left.refusal)) task comes
-  task_has (run p rows code) held none running writing judging comparing wiring task comes =
+  task_has (run p rows code) held none running writing judging comparing holding wiring task comes =
       program_has (λ t left. runs (rows_job (rows_name rows) code (source t) left)) p rows held none
       (λ t left. running (rows_job (rows_name rows) code (source t) left)) task comes
-  task_has (il p rows code) held none running writing judging comparing wiring task comes =
+  task_has (il p rows code) held none running writing judging comparing holding wiring task comes =
       listing_has (λ t left. runs (rows_job (rows_name rows) code (source t) left)) p rows held none
       (λ t left. running (rows_job (rows_name rows) code (source t) left)) task comes
-  task_has (compile p code) held none running writing judging comparing wiring task comes =
+  task_has (compile p code) held none running writing judging comparing holding wiring task comes =
       typed_is (λ t. compiles t code) p held (none (source_word p) (inl refl)) (λ t. writing t code) task comes
-  task_has (list m) held none running writing judging comparing wiring task comes =
+  task_has (list m) held none running writing judging comparing holding wiring task comes =
       image_is (λ i. prints (listing i.graph i.table)) m held (none (image_word m) (inl refl)) (λ i. given _ (lit≤ tt)) task comes
-  task_has (exec m rows) held none running writing judging comparing wiring task comes =
+  task_has (exec m rows) held none running writing judging comparing holding wiring task comes =
       graph_has (λ i left x. x ≡ runs (rows_job (rows_name rows) (table_code i.table) (image i.graph) left)) m rows held none
       (λ i left x is. is_has x (runs (rows_job (rows_name rows) (table_code i.table) (image i.graph) left)) (running _) is) task comes
-  task_has (trace m rows n) held none running writing judging comparing wiring task comes =
+  task_has (trace m rows n) held none running writing judging comparing holding wiring task comes =
       graph_has (λ i left x. x ≡ runs (words_job (rows_name rows) n i.graph (table_code i.table) (through n left))) m rows held none
       (λ i left x is. is_has x (runs (words_job (rows_name rows) n i.graph (table_code i.table) (through n left))) (running _) is) task comes
-  task_has (widen m) held none running writing judging comparing wiring task comes =
+  task_has (widen m) held none running writing judging comparing holding wiring task comes =
       image_is wide_prints m held (none (image_word m) (inl refl)) (λ i. given _ (lit≤ tt)) task comes
-  task_has (audit m horizon) held none running writing judging comparing wiring task comes =
+  task_has (audit m horizon) held none running writing judging comparing holding wiring task comes =
       image_has (Audited horizon m) m held (none (image_word m) (inl refl)) (audited_has horizon m) task comes
-  task_has (inject m rows f) held none running writing judging comparing wiring task comes =
+  task_has (inject m rows f) held none running writing judging comparing holding wiring task comes =
       graph_has (λ i left. WholeRows (rows_name rows) (FewRows (rows_name rows) i.graph (JudgedScript i f held)) left.rows left.refusal) m rows held
       (λ word among. none word (among_front word (image_word m ∷ rows_words rows) (script_word f ∷ []) among))
       (judged_has (rows_name rows) f held (none (script_word f) (among_behind (script_word f) (image_word m ∷ rows_words rows) (script_word f ∷ []) (inl refl)))
       judging) task comes
-  task_has (pair m rows seed) held none running writing judging comparing wiring task comes =
+  task_has (pair m rows seed) held none running writing judging comparing holding wiring task comes =
       image_has (Apart m seed (Compared rows held)) m held (none (image_word m) (inl refl))
       (apart_has m seed (Compared rows held) (compared_has rows held (λ word among. none word (inr among)) comparing)) task comes
-  task_has (wire f) held none running writing judging comparing wiring task comes =
+  task_has (pairs m rows seed f) held none running writing judging comparing holding wiring task comes =
+      image_has (Apart m seed (HeldRows rows f held)) m held (none (image_word m) (inl refl))
+      (apart_has m seed (HeldRows rows f held)
+      (held_has rows f held (λ word among. none word (among_front word (image_word m ∷ rows_words rows) (script_word f ∷ []) (inr among)))
+      (none (script_word f) (among_behind (script_word f) (image_word m ∷ rows_words rows) (script_word f ∷ []) (inl refl))) holding)) task comes
+  task_has (wire f) held none running writing judging comparing holding wiring task comes =
       file_has WireOf NotWire most_source_bytes (λ s x. x ≡ wires s) f (held f) P (none (script_word f) (inl refl)) (refused f)
       (λ s x is. is_has x (wires s) (wiring s) is) task comes
-  task_has (demo number) held none running writing judging comparing wiring task comes =
+  task_has (demo number) held none running writing judging comparing holding wiring task comes =
       typed_has (λ t. OnRows made_name (λ left x. x ≡ runs (summary_job number t left)) (made_outcome number t)) made_name (made_held number)
       (λ e. absurd (there_is (made_source number) e))
       (λ t x. outcome_has made_name (λ left y. y ≡ runs (summary_job number t left)) (made_outcome number t)
@@ -464,7 +489,7 @@ module _ (P : Task → Type 0) (given : (a : Answer) → a.status ≤ 2 → P (a
 
 -- each task has a status of its own
 pub own_status : (f : Form) (held : Held) (task : Task) → TaskOf f held task → HasOwnStatus task
-own_status f held task comes = task_has HasOwnStatus (λ a small. small) f held (λ word among none. tt) (λ j. tt) (λ p code. tt) (λ c. tt) (λ j. tt) (λ s. tt) task comes
+own_status f held task comes = task_has HasOwnStatus (λ a small. small) f held (λ word among none. tt) (λ j. tt) (λ p code. tt) (λ c. tt) (λ j. tt) (λ c. tt) (λ s. tt) task comes
 
 -- and where all files are held, none is lacking
 not_none : (o : Option (List ℕ)) → IsSome o → o ≡ None → ⊥
@@ -482,7 +507,7 @@ NoneLacks task = (name : List ℕ) → task ≡ lacks name → ⊥
 pub all_found : (f : Form) (held : Held) (name : List ℕ) → AllHeld held (about f).files → TaskOf f held (lacks name) → ⊥
 all_found f held name all comes =
     task_has NoneLacks (λ a small n e. cc) f held (λ word among none. absurd (held_among held (about f).files word all among none)) (λ j n e. cc)
-    (λ p code n e. cc) (λ c n e. cc) (λ j n e. cc) (λ s n e. cc) (lacks name) comes name refl
+    (λ p code n e. cc) (λ c n e. cc) (λ j n e. cc) (λ c n e. cc) (λ s n e. cc) (lacks name) comes name refl
 
 -- ---- without a unit
 
@@ -495,6 +520,7 @@ as_meant (runs j) = answers (job_answer j (run_meant j))
 as_meant (judges c) = judges c
 as_meant (wires s) = wires s
 as_meant (compares j) = compares j
+as_meant (holds c) = holds c
 
 rows_meant : (name : List ℕ) (code : Code) (t : Program) (o : RowsOutcome) (task : Task) →
     OnRows name (λ left x. x ≡ runs (rows_job name code (source t) left)) o task → OnRows name (λ left x. x ≡ answers (plain_answer name t left)) o
@@ -517,6 +543,7 @@ meant_is (runs j) x y is h = let same : job_answer j (run_meant j) ≡ x = cc in
 meant_is (judges c) x y is h = absurd cc
 meant_is (wires s) x y is h = absurd cc
 meant_is (compares j) x y is h = absurd cc
+meant_is (holds c) x y is h = absurd cc
 
 pub plain_meant : Laws → (f : Form) (held : Held) (task : Task) → TaskOf f held task →
     IfSome (without_unit f) (λ g. (x y : Answer) → TaskOf g held (answers x) → Meant task y → y ≡ x)
@@ -534,5 +561,6 @@ plain_meant laws (widen m) held task comes = tt
 plain_meant laws (audit m horizon) held task comes = tt
 plain_meant laws (inject m rows f) held task comes = tt
 plain_meant laws (pair m rows seed) held task comes = tt
+plain_meant laws (pairs m rows seed f) held task comes = tt
 plain_meant laws (wire f) held task comes = tt
 plain_meant laws (demo number) held task comes = tt

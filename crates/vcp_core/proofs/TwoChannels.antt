@@ -156,17 +156,17 @@ ApartImage seed text i = ImageOf text i × (seed ≢ i.table.seed)
 abbrev pub Comparing : Rows → Held → Image → RowsLeft → Task → Type 0
 Comparing rows held i left task = task ≡ compares (pair_job (rows_name rows) i left)
 
-apart_by : (m : List ℕ) (rows : Rows) (seed : ℕ) (held : Held) (found : Option (List ℕ)) (task : Task) →
-    TakenFile (ApartImage seed) NotImage most_image_bytes (λ i. TakenRows (Comparing rows held i) rows held (graph_columns i.graph)) m found task →
-    TakenFile ImageOf NotImage most_image_bytes (Apart m seed (Compared rows held)) m found task
-apart_by m rows seed held found _ (missing none) = missing none
-apart_by m rows seed held found _ (untaken text r here why) = untaken text r here why
-apart_by m rows seed held found task (taken text i _ here few is comes) = taken text i task here few is.0 (two_seeds task is.1 comes)
+pub apart_by : (m : List ℕ) (seed : ℕ) (Then : Image → Task → Type 0) (found : Option (List ℕ)) (task : Task) →
+    TakenFile (ApartImage seed) NotImage most_image_bytes Then m found task →
+    TakenFile ImageOf NotImage most_image_bytes (Apart m seed Then) m found task
+apart_by m seed Then found _ (missing none) = missing none
+apart_by m seed Then found _ (untaken text r here why) = untaken text r here why
+apart_by m seed Then found task (taken text i _ here few is comes) = taken text i task here few is.0 (two_seeds task is.1 comes)
 
 pub apart_comes : (m : List ℕ) (rows : Rows) (seed : ℕ) (held : Held) (task : Task) →
     TakenFile (ApartImage seed) NotImage most_image_bytes (λ i. TakenRows (Comparing rows held i) rows held (graph_columns i.graph)) m (held m) task →
     PairTask m rows seed held task
-apart_comes m rows seed held task comes = apart_by m rows seed held (held m) task comes
+apart_comes m rows seed held task comes = apart_by m seed (Compared rows held) (held m) task comes
 
 pub loads_apart : (m : List ℕ) (seed : ℕ) (held : Option Held) (b n : ℕ) (i : Image) → seed ≢ i.table.seed →
     IfSome held (λ h. Loads ImageOf NotImage h m most_image_bytes b n (Ok i)) →
@@ -174,11 +174,16 @@ pub loads_apart : (m : List ℕ) (seed : ℕ) (held : Option Held) (b n : ℕ) (
 loads_apart m seed held b n i apart loads = if_some_weaker held _ _ (λ h (text, found, few, is). (text, found, few, (is, apart))) loads
 
 -- the seeds are one, and nothing was done
+pub seeds_same : (c : About) (m : List ℕ) (seed : ℕ) (Then : Image → Task → Type 0) (held : Held) (i : Image) (files later : FilesSeen) (at : Moment) →
+    ((text : List ℕ) × (held m ≡ Some text) × (length text ≤ most_image_bytes) × ImageOf text i) → seed ≡ i.table.seed →
+    Reaches c (λ task. TakenFile ImageOf NotImage most_image_bytes (Apart m seed Then) m (held m) task) files later at at (refusal_text m refusal.Seed) 1
+seeds_same c m seed Then held i files later at loads same =
+    done (refusal_task m refusal.Seed) (record { out = []; err = refusal_text m refusal.Seed; status = 1 })
+    (file_takes ImageOf NotImage most_image_bytes (Apart m seed Then) m held i (refusal_task m refusal.Seed) loads (same_seed same)) (refl, refl)
+    (still at).out refl refl
+
 pub seed_refused : (m : List ℕ) (rows : Rows) (seed : ℕ) (held : Held) (i : Image) (files later : FilesSeen) (at : Moment) →
     ((text : List ℕ) × (held m ≡ Some text) × (length text ≤ most_image_bytes) × ImageOf text i) → seed ≡ i.table.seed →
     Reaches (about (form.pair m rows seed)) (PairTask m rows seed held) files later at at (refusal_text m refusal.Seed) 1
 seed_refused m rows seed held i files later at loads same =
-    let s = still at in
-    done (refusal_task m refusal.Seed) (record { out = []; err = refusal_text m refusal.Seed; status = 1 })
-    (file_takes ImageOf NotImage most_image_bytes (Apart m seed (Compared rows held)) m held i (refusal_task m refusal.Seed) loads (same_seed same)) (refl, refl) s.out
-    refl refl
+    seeds_same (about (form.pair m rows seed)) m seed (Compared rows held) held i files later at loads same

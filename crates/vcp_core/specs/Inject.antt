@@ -1,4 +1,4 @@
--- Inject: all rows of a run under faults, as they are read before the script.
+-- Inject: all rows of runs under faults, as they are read before the script.
 use Rattle.std.specs.Prelude.{ℤ, ◌≡◌, ◌≤◌, ◌<◌, ◌*◌, List, length, Some, None}
 use Rattle.input_rows.specs.declared.fault.RowFault.{RowFault}
 use Rattle.input_rows.specs.RowsOf.{RowsLeft}
@@ -10,18 +10,32 @@ use Rattle.vcp_inputs.specs.declared.refusal.Refusal.TheVariants as refusal
 use Rattle.vcp_inputs.specs.RowsOutcome.{RowsOutcome, refused, opened}
 use Rattle.vcp_core.specs.Tasks.{most_trace}
 
--- these are all rows, and few enough
-pub record AllRows (o : RowsOutcome) (g : Lists) (rows : List (List ℤ)) : Type 0 where
+-- these are all rows
+pub record AllRead (o : RowsOutcome) (rows : List (List ℤ)) : Type 0 where
   pub left : RowsLeft
   pub comes : o ≡ opened left
   pub rows_are : left.rows ≡ rows
   pub whole : left.refusal ≡ None
+
+-- why rows are refused: at their header, or at a row
+pub data RowsBroken (o : RowsOutcome) : Refusal → Type 0 where
+  at_header : (r : Refusal) → o ≡ refused r → RowsBroken o r
+  at_row : (left : RowsLeft) (why : RowFault) → o ≡ opened left → left.refusal ≡ Some why → RowsBroken o (refusal.Rows why)
+
+-- why there are none: they are refused, or memory was wanted
+abbrev pub NoneRead : RowsOutcome → NoInput → Type 0
+NoneRead o (input.Refused r) = RowsBroken o r
+NoneRead o input.Memory = Unit {0}
+NoneRead o input.Unread = ⊥
+
+-- these are all rows, and few enough
+pub record AllRows (o : RowsOutcome) (g : Lists) (rows : List (List ℤ)) : Type 0 where
+  pub read : AllRead o rows
   pub few : length rows * length g.operations ≤ most_trace
 
--- why rows are refused: at their header, at a row, or since they are too many
+-- why rows are refused: at their header or at a row, or since they are too many
 pub data RowsRefused (o : RowsOutcome) (g : Lists) : Refusal → Type 0 where
-  at_header : (r : Refusal) → o ≡ refused r → RowsRefused o g r
-  at_row : (left : RowsLeft) (why : RowFault) → o ≡ opened left → left.refusal ≡ Some why → RowsRefused o g (refusal.Rows why)
+  broken : (r : Refusal) → RowsBroken o r → RowsRefused o g r
   too_many : (left : RowsLeft) → o ≡ opened left → left.refusal ≡ None → most_trace < length left.rows * length g.operations
       → RowsRefused o g refusal.Trace
 

@@ -19,7 +19,7 @@ use Rattle.weight_audit.specs.Audit.{most_weights, weights_up_to}
 use Rattle.audit_report.specs.AuditText.{AuditOf}
 use Rattle.program_maker.specs.MadeRows.{made_rows}
 use Rattle.program_maker.specs.MadeSource.{made_source}
-use Rattle.vcp_words.specs.Forms.{Form, Rows, Code, default_code, check, format, plain, run, il, compile, list, exec, trace, widen, audit, inject, pair, wire, demo}
+use Rattle.vcp_words.specs.Forms.{Form, Rows, Code, default_code, check, format, plain, run, il, compile, list, exec, trace, widen, audit, inject, pair, pairs, wire, demo}
 use Rattle.vcp_words.specs.Tables.{rows_name}
 use Rattle.vcp_inputs.specs.declared.images.Image.{Image}
 use Rattle.vcp_inputs.specs.declared.refusal.Refusal.TheVariants as refusal
@@ -27,7 +27,7 @@ use Rattle.vcp_inputs.specs.declared.rows.RowsSource.TheVariants as origin
 use Rattle.vcp_inputs.specs.RowsOutcome.{source_outcome}
 use Rattle.command_meaning.specs.Answer.{Answer, Subject, source, image}
 use Rattle.command_meaning.specs.FileTasks.{ParsedFile, TypedFile, ListingFile, ImageFile, ScriptFile, WireFile, TakenRows, OnRows}
-use Rattle.command_meaning.specs.Kinds.{Task, answers, compiles, runs, judges, compares, wires, prints, refusal_task}
+use Rattle.command_meaning.specs.Kinds.{Task, answers, compiles, runs, judges, compares, holds, wires, prints, refusal_task}
 use Rattle.command_meaning.specs.PairKind.{PairJob}
 use Rattle.command_meaning.specs.Printing.{every_row, each_word, summed_up, no_words, cycle_words, told_answer}
 use Rattle.command_meaning.specs.Reports.{end_told, subject_outputs, output_names}
@@ -198,6 +198,18 @@ Compared rows held i task = TakenRows (λ left x. x ≡ compares (pair_job (rows
 abbrev pub PairTask : List ℕ → Rows → ℕ → Held → Task → Type 0
 PairTask m rows seed held task = ImageFile (Apart m seed (Compared rows held)) m held task
 
+-- the groups of the script F over all rows of an image, on two channels; they may be as many as a run may have
+abbrev pub HeldScript : Image → List ℕ → Held → List (List ℤ) → Task → Type 0
+HeldScript i f held rows task =
+    ScriptFile i.graph (λ groups x. x ≡ holds (record { graph = i.graph; table = i.table; rows = rows; groups = groups })) f held task
+
+abbrev pub HeldRows : Rows → List ℕ → Held → Image → Task → Type 0
+HeldRows rows f held i task =
+    TakenRows (λ left. WholeRows (rows_name rows) (HeldScript i f held) left.rows left.refusal) rows held (graph_columns i.graph) task
+
+abbrev pub PairsTask : List ℕ → Rows → ℕ → List ℕ → Held → Task → Type 0
+PairsTask m rows seed f held task = ImageFile (Apart m seed (HeldRows rows f held)) m held task
+
 -- ---- telegrams
 
 abbrev pub WireTask : List ℕ → Held → Task → Type 0
@@ -219,5 +231,6 @@ TaskOf (widen m) held task = WidenTask m held task
 TaskOf (audit m horizon) held task = AuditTask m horizon held task
 TaskOf (inject m rows f) held task = InjectTask m rows f held task
 TaskOf (pair m rows seed) held task = PairTask m rows seed held task
+TaskOf (pairs m rows seed f) held task = PairsTask m rows seed f held task
 TaskOf (wire f) held task = WireTask f held task
 TaskOf (demo number) held task = DemoTask number task

@@ -13,10 +13,10 @@ ghost use Rattle.vcp_core.specs.Reach.{told_line, told_status};
 
 use crate::ending::Ending;
 use crate::fault::Fault;
-use crate::loading::{graph_columns, rows_name};
+use crate::loading::{graph_columns, rows_name, whole_rows};
 use coded_unit::Unit;
 use fault_campaign::run_campaign;
-use input_rows::{RowList, Rows, collect_rows};
+use input_rows::RowList;
 use op_graph::Graph;
 use std::alloc::Global;
 use vcp_base::{Columns, Text};
@@ -41,11 +41,10 @@ fn all_rows(
     ensures width { IfOk result (λ list. All (λ row. length row ≡ length columns.now) list) }
     ensures few { IfOk result (λ list. length list ≤ most_cycles) }
 {
-    let rows = match inputs.open(alloc, columns) {
-        Ok(rows) => rows,
+    let list = match whole_rows(alloc, inputs, columns) {
+        Ok(list) => list,
         Err(input) => return Err(input),
     };
-    let list = collect_rows(alloc, rows)?;
     if list.len() as u64 * graph.len() as u64 > MOST_TRACE {
         return Err(NoInput::Refused(Refusal::Trace));
     }

@@ -17,6 +17,7 @@ mod laws;
 mod listing;
 mod loading;
 mod pair;
+mod pairs;
 mod plain;
 mod plain_run;
 mod run;

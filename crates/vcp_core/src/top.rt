@@ -28,6 +28,7 @@ use crate::inject::inject_command;
 use crate::laws::{one_task, stale_operands_are_seen, wires_deliver};
 use crate::listing::list_command;
 use crate::pair::pair_command;
+use crate::pairs::pairs_command;
 use crate::plain::plain_command;
 use crate::run::run_command;
 use crate::telling::{fault_status, tell, tell_usage};
@@ -192,6 +193,12 @@ fn perform<'a, F: Files, U: Unit, O: Sink>(
         Command::Pair { image, rows, seed } => pair_command(
             alloc, image, *rows, *seed, files, unit, out,
         ),
+        Command::Pairs {
+            image,
+            rows,
+            seed,
+            script,
+        } => pairs_command(alloc, image, *rows, *seed, script, files, unit, out),
         Command::Wire { script } => wire_command(alloc, script, files, unit, out),
         Command::Demo { number } => demo_command(alloc, *number, unit, out),
     }

@@ -1,6 +1,6 @@
 -- Worked rows, computed by the definitions alone.
 use Rattle.std.proofs.Common.{◌≡◌, ℕ, refl, List, [], ◌∷◌, Option, Some, None, codes}
-use Rattle.vcp_words.specs.Forms.{Form, form_of, check, format, plain, run, il, compile, list, exec, trace, widen, audit, inject, pair, wire, demo, file, cycles}
+use Rattle.vcp_words.specs.Forms.{Form, form_of, check, format, plain, run, il, compile, list, exec, trace, widen, audit, inject, pair, pairs, wire, demo, file, cycles}
 
 format_words : form_of (codes "format" ∷ codes "p" ∷ []) ≡ Some (format (codes "p"))
 format_words = refl
@@ -160,6 +160,15 @@ no_such_seed = refl
 
 pair_without_seed : form_of (codes "pair" ∷ codes "m" ∷ codes "r" ∷ []) ≡ None
 pair_without_seed = refl
+
+pairs_words : form_of (codes "pairs" ∷ codes "m" ∷ codes "r" ∷ codes "7" ∷ codes "f" ∷ []) ≡ Some (pairs (codes "m") (file (codes "r")) 7 (codes "f"))
+pairs_words = refl
+
+pairs_for_cycles : form_of (codes "pairs" ∷ codes "m" ∷ codes "--cycles" ∷ codes "5" ∷ codes "7" ∷ codes "f" ∷ []) ≡ Some (pairs (codes "m") (cycles 5) 7 (codes "f"))
+pairs_for_cycles = refl
+
+pairs_without_script : form_of (codes "pairs" ∷ codes "m" ∷ codes "r" ∷ codes "7" ∷ []) ≡ None
+pairs_without_script = refl
 
 wire_words : form_of (codes "wire" ∷ codes "f" ∷ []) ≡ Some (wire (codes "f"))
 wire_words = refl

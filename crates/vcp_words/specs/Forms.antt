@@ -49,6 +49,7 @@ pub data Form : Type 0 where
   audit : List ℕ → ℕ → Form
   inject : List ℕ → Rows → List ℕ → Form
   pair : List ℕ → Rows → ℕ → Form
+  pairs : List ℕ → Rows → ℕ → List ℕ → Form
   wire : List ℕ → Form
   demo : ℕ → Form
 
@@ -156,7 +157,8 @@ image_form w words =
     (cond (bytes_eq w (codes "audit")) (name_then (λ m. number_then 0 most_horizon (λ h. end_then (audit m h))) words)
     (cond (bytes_eq w (codes "inject")) (name_then (λ m. rows_then (λ rows. name_then (λ f. end_then (inject m rows f)))) words)
     (cond (bytes_eq w (codes "pair")) (name_then (λ m. rows_then (λ rows. number_then 0 (seeds - 1) (λ s. end_then (pair m rows s)))) words)
-    None))))))
+    (cond (bytes_eq w (codes "pairs")) (name_then (λ m. rows_then (λ rows. number_then 0 (seeds - 1) (λ s. name_then (λ f. end_then (pairs m rows s f))))) words)
+    None)))))))
 
 -- the command that words say, a line a form
 abbrev pub form_of : List (List ℕ) → Option Form
@@ -174,7 +176,7 @@ form_of (w ∷ words) =
 
 -- the usage line, which words get that are none of the forms
 abbrev pub usage_text : List ℕ
-usage_text = codes "usage: vcp check P, format P, plain P ROWS, run P ROWS CODE, compile P CODE, list M, exec M ROWS, trace M ROWS CYCLE, inject M ROWS F, audit M HORIZON, widen M, il P ROWS CODE, pair M ROWS SEED, wire F or demo N\n"
+usage_text = codes "usage: vcp check P, format P, plain P ROWS, run P ROWS CODE, compile P CODE, list M, exec M ROWS, trace M ROWS CYCLE, inject M ROWS F, audit M HORIZON, widen M, il P ROWS CODE, pair M ROWS SEED, pairs M ROWS SEED F, wire F or demo N\n"
 
 -- ---- commands as values
 
@@ -202,6 +204,7 @@ form (command.Widen image) = widen image.now
 form (command.Audit image horizon) = audit image.now horizon
 form (command.Inject image rows script) = inject image.now (rows_of rows) script.now
 form (command.Pair image rows seed) = pair image.now (rows_of rows) seed
+form (command.Pairs image rows seed script) = pairs image.now (rows_of rows) seed script.now
 form (command.Wire script) = wire script.now
 form (command.Demo number) = demo number
 
@@ -234,5 +237,6 @@ IsSound (widen m) = Unit {0}
 IsSound (audit m horizon) = horizon ≤ most_horizon
 IsSound (inject m rows f) = AreFew rows
 IsSound (pair m rows seed) = AreFew rows × (seed < seeds)
+IsSound (pairs m rows seed f) = AreFew rows × (seed < seeds)
 IsSound (wire f) = Unit {0}
 IsSound (demo n) = Unit {0}

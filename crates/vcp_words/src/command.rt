@@ -122,6 +122,17 @@ pub enum Command<'a> {
         /// The seed of the second channel's signatures, SEED, below 2^30.
         seed: u32,
     },
+    /// `pairs M ROWS SEED F`: what a pair of channels makes of each group of a script of faults.
+    Pairs {
+        /// The name of the image, M.
+        image: &'a Text,
+        /// The recorded inputs, ROWS.
+        rows: RowsWord<'a>,
+        /// The seed of the second channel's signatures, SEED, below 2^30.
+        seed: u32,
+        /// The name of the script of faults, F.
+        script: &'a Text,
+    },
     /// `wire F`: the run of a wire's script: values are sent on a unit, and telegrams taken.
     Wire {
         /// The name of the script of the wire, F.

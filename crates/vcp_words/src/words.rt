@@ -3,7 +3,7 @@
 ghost use Rattle.std.specs.Prelude.{◌≡◌, ◌-◌, IfSome};
 ghost use Rattle.std.specs.Option.{option_map};
 ghost use Rattle.vcp_base.specs.Limits.{most_cycles, most_horizon, seeds};
-ghost use Rattle.vcp_words.specs.Forms.{check, format, plain, run, il, compile, list, exec, trace, widen, audit, inject, pair, wire, demo, name_then, rows_then};
+ghost use Rattle.vcp_words.specs.Forms.{check, format, plain, run, il, compile, list, exec, trace, widen, audit, inject, pair, pairs, wire, demo, name_then, rows_then};
 ghost use Rattle.vcp_words.specs.Forms.{number_then, code_then, end_then, form, form_of, image_form, most_made, usage_text, IsSound};
 
 use crate::command::Command;
@@ -15,7 +15,7 @@ pub fn usage() -> &'static [u8]
     ensures { result.now ≡ usage_text }
 {
     b"usage: vcp check P, format P, plain P ROWS, run P ROWS CODE, compile P CODE, list M, exec M ROWS, trace M ROWS CYCLE, inject M ROWS F, audit M HORIZON, \
-      widen M, il P ROWS CODE, pair M ROWS SEED, wire F or demo N\n"
+      widen M, il P ROWS CODE, pair M ROWS SEED, pairs M ROWS SEED F, wire F or demo N\n"
 }
 
 /// The command that the words say; None where they are none of the forms.
@@ -77,6 +77,9 @@ fn image_command<'a>(command: &[u8], words: &mut WordsLeft<'a>) -> Option<Comman
     }
     if command == b"pair".as_slice() {
         return pair_words(words);
+    }
+    if command == b"pairs".as_slice() {
+        return pairs_words(words);
     }
     None
 }
@@ -277,6 +280,28 @@ fn pair_words<'a>(words: &mut WordsLeft<'a>) -> Option<Command<'a>>
     let seed = words.number(0, SEEDS - 1)?;
     if words.is_end() {
         Some(Command::Pair { image, rows, seed })
+    } else {
+        None
+    }
+}
+
+/// The words of `pairs`: M, ROWS, SEED and F.
+fn pairs_words<'a>(words: &mut WordsLeft<'a>) -> Option<Command<'a>>
+    ensures form { option_map form result
+        ≡ name_then (λ m. rows_then (λ rows. number_then 0 (seeds - 1) (λ s. name_then (λ f. end_then (pairs m rows s f))))) words.old }
+    ensures sound { IfSome result (λ command. IsSound (form command)) }
+{
+    let image = words.name()?;
+    let rows = words.rows()?;
+    let seed = words.number(0, SEEDS - 1)?;
+    let script = words.name()?;
+    if words.is_end() {
+        Some(Command::Pairs {
+            image,
+            rows,
+            seed,
+            script,
+        })
     } else {
         None
     }

@@ -6,7 +6,7 @@ use vcp_base::{Memory, Words};
 /// The line of error where the words are none of the forms.
 pub const USAGE: &[u8] =
     b"usage: vcp check P, format P, plain P ROWS, run P ROWS CODE, compile P CODE, list M, exec M ROWS, trace M ROWS CYCLE, inject M ROWS F, audit M HORIZON, \
-      widen M, il P ROWS CODE, pair M ROWS SEED, wire F or demo N\n";
+      widen M, il P ROWS CODE, pair M ROWS SEED, pairs M ROWS SEED F, wire F or demo N\n";
 
 /// Adds a word, which is empty where it is written `''`; nothing where it isn't written at all.
 fn add_word(words: &mut Words, word: &str) -> Result<(), Memory> {

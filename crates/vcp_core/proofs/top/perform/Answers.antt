@@ -40,6 +40,9 @@ returns-in-Inject g c = rw c.in-Inject.is c.inject_command.ensures
 pub returns-in-Pair : goal.returns-in-Pair
 returns-in-Pair g c = rw c.in-Pair.is c.pair_command.ensures
 
+pub returns-in-Pairs : goal.returns-in-Pairs
+returns-in-Pairs g c = rw c.in-Pairs.is c.pairs_command.ensures
+
 pub returns-in-Wire : goal.returns-in-Wire
 returns-in-Wire g c = rw c.in-Wire.is c.wire_command.ensures
 

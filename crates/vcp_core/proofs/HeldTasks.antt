@@ -1,0 +1,222 @@
+-- What `pairs` comes to and how far it comes, from what reading its files and running the groups give.
+use Rattle.std.proofs.Common.{ℕ, ℤ, ◌+◌, ◌≤◌, ◌≡◌, ◌≢◌, ◌⊎◌, inl, inr, refl, sym, ap, subst, ◌∙◌, List, [], ◌∷◌, ◌++◌, append_assoc, length, take, drop, Option}
+use Rattle.std.proofs.Common.{Some, Ok, Err}
+use Rattle.std.proofs.lemmas.List.{length-map}
+use Rattle.std.specs.Io.KnownBytes.{Appends, IsAtEnd}
+use Rattle.vcp_base.specs.Limits.{most_image_bytes, most_source_bytes}
+use Rattle.coded_unit.specs.Seen.{UnitSeen}
+use Rattle.vcp_outside.specs.Counts.{Rose}
+use Rattle.vcp_outside.specs.Held.{Held}
+use Rattle.vcp_outside.specs.Seen.{FilesSeen, SinkSeen}
+use Rattle.vcp_outside.specs.Written.{AppendsFront, AppendsPart}
+use Rattle.input_rows.specs.RowsOf.{RowsLeft}
+use Rattle.op_graph.specs.Lists.{Lists}
+use Rattle.machine_run.specs.Moments.{Moment, moment}
+use Rattle.fault_script.specs.declared.act.Fault.{Fault as ScriptedFault}
+use Rattle.fault_script.specs.Groups.{line_of}
+use Rattle.fault_campaign.specs.Campaign.{verdicts_of}
+use Rattle.fault_campaign.specs.declared.fault.CampaignFault.{CampaignFault}
+use Rattle.fault_campaign.specs.declared.fault.CampaignFault.TheVariants as campaign
+use Rattle.pair_campaign.specs.declared.verdict.PairVerdict.{PairVerdict}
+use Rattle.pair_campaign.specs.GroupLines.{group_text, pair_totals_text, totals_of}
+use Rattle.pair_campaign.specs.PairCampaigns.{EarlierTold, PairsTold, group_lines, pairs_text}
+use Rattle.pair_campaign.specs.PairVerdicts.{told_verdict}
+use Rattle.vcp_words.specs.Forms.{Rows, pairs}
+use Rattle.vcp_words.specs.Tables.{rows_name}
+use Rattle.vcp_inputs.specs.declared.images.Image.{Image}
+use Rattle.vcp_inputs.specs.declared.refusal.Refusal.{Refusal}
+use Rattle.vcp_inputs.specs.declared.refusal.Refusal.TheVariants as refusal
+use Rattle.vcp_inputs.specs.declared.refusal.NoInput.{NoInput}
+use Rattle.vcp_inputs.specs.declared.refusal.NoInput.TheVariants as input
+use Rattle.vcp_inputs.specs.Files.{Loads, NotLoaded as FileLost}
+use Rattle.vcp_inputs.specs.Images.{ImageOf, NotImage}
+use Rattle.vcp_inputs.specs.Lines.{input_status, input_text, refusal_text}
+use Rattle.vcp_inputs.specs.RowsOutcome.{RowsOutcome, rows_outcome}
+use Rattle.vcp_inputs.specs.Scripts.{ScriptOf, NotScript, no_script}
+use Rattle.command_meaning.specs.Abouts.{Among, FileWord, about, rows_words, script_word}
+use Rattle.command_meaning.specs.Answer.{Campaign}
+use Rattle.command_meaning.specs.Clauses.{IsTooLong}
+use Rattle.command_meaning.specs.FileTasks.{OnRows, taken}
+use Rattle.command_meaning.specs.HoldKind.{HoldDone, HoldLeft, held_answer, held_meant}
+use Rattle.command_meaning.specs.Kinds.{Task, holds, refusal_task}
+use Rattle.command_meaning.specs.Performing.{Reaches, done, cut, short, unread, unmade}
+use Rattle.vcp_core.specs.Faults.{of_campaign}
+use Rattle.vcp_core.specs.Inject.{AllRead, NoneRead}
+use Rattle.vcp_core.specs.Reach.{fault_status, fault_text}
+use Rattle.vcp_core.specs.Tasks.{Apart, HeldRows, HeldScript, PairsTask, graph_columns, two_seeds}
+use Rattle.vcp_core.proofs.JudgedTasks.{WholeLeft, all_of, campaign_of, left_count, left_of, rows_front, script_end, whole_broken, whole_comes}
+use Rattle.vcp_core.proofs.Performing.{file_lost, file_taken, file_takes, still}
+
+-- that is no read fault
+pub none_is_read : (o : RowsOutcome) (i : NoInput) → NoneRead o i → i ≡ input.Unread → ⊥
+none_is_read o (input.Refused r) h is = cc
+none_is_read o input.Memory h is = cc
+none_is_read o input.Unread h is = h
+
+-- ---- the files of `pairs`
+
+pub rows_named : (m : List ℕ) (rows : Rows) (seed : ℕ) (f : List ℕ) (word : FileWord) → Among word (rows_words rows) →
+    Among word (about (pairs m rows seed f)).files
+rows_named m rows seed f word h = inr (rows_front word (rows_words rows) (script_word f ∷ []) h)
+
+pub script_named : (m : List ℕ) (rows : Rows) (seed : ℕ) (f : List ℕ) → Among (script_word f) (about (pairs m rows seed f)).files
+script_named m rows seed f = inr (script_end (script_word f) (rows_words rows) (script_word f ∷ []) (inl refl))
+
+-- ---- what it comes to
+
+-- what its rows come to, once they are opened
+abbrev pub OnLeft : Rows → List ℕ → Held → Image → RowsLeft → Task → Type 0
+OnLeft rows f held i left t = WholeLeft rows (HeldScript i f held) left t
+
+-- M holds this image, and ROWS come to this for its graph
+abbrev pub LoadsAt : List ℕ → Rows → Image → RowsOutcome → Held → Type 0
+LoadsAt m rows i o held = Loads ImageOf NotImage held m most_image_bytes 0 0 (Ok i) × (rows_outcome rows held (graph_columns i.graph) ≡ o)
+
+module _ (m : List ℕ) (rows : Rows) (seed : ℕ) (f : List ℕ) (held : Held) (files later : FilesSeen) (i : Image) (apart : seed ≢ i.table.seed)
+    (o : RowsOutcome) (loads : Loads ImageOf NotImage held m most_image_bytes 0 0 (Ok i)) (same : rows_outcome rows held (graph_columns i.graph) ≡ o) where
+  -- what ROWS come to for a graph
+  abbrev Comes : RowsOutcome → Task → Type 0
+  Comes x t = OnRows (rows_name rows) (OnLeft rows f held i) x t
+
+  rows_come : (t : Task) → Comes o t → PairsTask m rows seed f held t
+  rows_come t comes =
+      let (text, found, few, is) = loads in
+      taken text i t found few is (two_seeds t apart (subst (λ (x : RowsOutcome). Comes x t) (sym same) comes))
+
+  -- there are no rows, and nothing was done
+  pub rows_lost : (at : Moment) (e : NoInput) → NoneRead o e →
+      Reaches (about (pairs m rows seed f)) (PairsTask m rows seed f held) files later at at (input_text (rows_name rows) e) (input_status e)
+  rows_lost at (input.Refused r) h =
+      done (refusal_task (rows_name rows) r) (record { out = []; err = refusal_text (rows_name rows) r; status = 1 })
+      (rows_come (refusal_task (rows_name rows) r) (whole_broken rows o (HeldScript i f held) r h)) (refl, refl) (still at).out refl refl
+  rows_lost at input.Memory h = unmade (still at) refl refl
+  rows_lost at input.Unread h = absurd h
+
+  module _ (list : List (List ℤ)) (all : AllRead o list) where
+    -- the task of the script is that of the command
+    script_comes : (t : Task) → HeldScript i f held list t → PairsTask m rows seed f held t
+    script_comes t comes = rows_come t (whole_comes rows o (HeldScript i f held) list all t comes)
+
+    script_reaches : (before after : Moment) (line : List ℕ) (code : ℕ)
+        → Reaches (about (pairs m rows seed f)) (HeldScript i f held list) files later before after line code
+        → Reaches (about (pairs m rows seed f)) (PairsTask m rows seed f held) files later before after line code
+    script_reaches before after line code (done t x comes d w line_is code_is) = done t x (script_comes t comes) d w line_is code_is
+    script_reaches before after line code (cut t comes left rose line_is code_is) = cut t (script_comes t comes) left rose line_is code_is
+    script_reaches before after line code (short t comes left late line_is code_is) = short t (script_comes t comes) left late line_is code_is
+    script_reaches before after line code (unread word named rose s line_is code_is) = unread word named rose s line_is code_is
+    script_reaches before after line code (unmade s line_is code_is) = unmade s line_is code_is
+
+    -- there is no script, and nothing was done
+    pub script_lost : (at : Moment) (e : NoInput) → FileLost (NotScript i.graph) held f most_source_bytes files.broken later.broken e
+        → Reaches (about (pairs m rows seed f)) (PairsTask m rows seed f held) files later at at (input_text f e) (input_status e)
+    script_lost at e lost =
+        script_reaches at at (input_text f e) (input_status e)
+        (file_lost (about (pairs m rows seed f)) files later at at (ScriptOf i.graph) (NotScript i.graph) most_source_bytes
+        (λ groups x. x ≡ holds (campaign_of i list groups)) f held (script_word f) (script_named m rows seed f) refl (still at) e lost)
+
+    -- the groups are there
+    pub groups_come : (groups : List (List ScriptedFault))
+        → ((text : List ℕ) × (held f ≡ Some text) × (length text ≤ most_source_bytes) × ScriptOf i.graph text groups)
+        → PairsTask m rows seed f held (holds (campaign_of i list groups))
+    groups_come groups found =
+        script_comes (holds (campaign_of i list groups))
+        (file_takes (ScriptOf i.graph) (NotScript i.graph) most_source_bytes (λ fs x. x ≡ holds (campaign_of i list fs)) f held groups
+        (holds (campaign_of i list groups)) found refl)
+
+-- where the script is refused, it was read to its end, or it is too long
+pub script_taken : (m : List ℕ) (rows : Rows) (seed : ℕ) (f : List ℕ) (held : Held) (g : Lists) (b n : ℕ) (i : NoInput) (rest : Option (List ℕ))
+    → ((r : Refusal) → i ≡ input.Refused r → r ≢ refusal.Bytes → IsAtEnd rest) → FileLost (NotScript g) held f most_source_bytes b n i
+    → input_status i ≡ 1 → IsAtEnd rest ⊎ IsTooLong (about (pairs m rows seed f)) held (input_text f i)
+script_taken m rows seed f held g b n i rest ends h is =
+    file_taken (about (pairs m rows seed f)) (NotScript g) f held b n (script_word f) (script_named m rows seed f) refl i rest ends not_bytes h is where
+      not_bytes : (text : List ℕ) (r : Refusal) → NotScript g text r → r ≢ refusal.Bytes
+      not_bytes text _ (no_script why known is) e = cc
+
+-- ---- the lines of verdicts
+
+-- those of more verdicts go on from them
+lines_go_on : (groups : List (List ScriptedFault)) (vs later : List PairVerdict)
+    → (more : List ℕ) × (group_lines groups (vs ++ later) ≡ group_lines groups vs ++ more)
+lines_go_on [] vs later = ([], refl)
+lines_go_on (f ∷ groups) [] later = (group_lines (f ∷ groups) later, refl)
+lines_go_on (f ∷ groups) (v ∷ vs) later =
+    let (more, is) = lines_go_on groups vs later in
+    let line : List ℕ = group_text (line_of f) v in
+    (more, ap (λ t. line ++ t) is ∙ sym (append_assoc line (group_lines groups vs) more))
+
+-- so they are a front of the whole text
+lines_front : (groups : List (List ScriptedFault)) (vs later : List PairVerdict) (old new : Option (List ℕ))
+    → Appends old new (group_lines groups vs) → AppendsFront old new (pairs_text groups (vs ++ later))
+lines_front groups vs later old new w =
+    let (more, is) = lines_go_on groups vs later in
+    let totals : List ℕ = pair_totals_text (totals_of (vs ++ later)) in
+    (group_lines groups vs, more ++ totals, ap (λ t. t ++ totals) is ∙ append_assoc (group_lines groups vs) more totals, w)
+
+-- ---- how far the groups were run
+
+module _ (c : Campaign) (unit unit' : UnitSeen) (out out' : SinkSeen) where
+  abbrev before : Moment
+  before = moment unit out
+
+  abbrev after : Moment
+  after = moment unit' out'
+
+  as_many : length (held_meant c) ≡ length c.groups
+  as_many = length-map (verdicts_of c.table c.graph c.groups c.rows) told_verdict ∙ length-map c.groups _
+
+  -- all of them
+  all_held : (told : PairsTold c.table c.graph c.groups c.rows unit unit' out.written out'.written (Ok tt))
+      → HoldDone c before.unit after.unit (held_answer c told.verdicts)
+  all_held told = record {
+    verdicts = told.verdicts;
+    each = told.written.0;
+    ran = told.ran;
+    read = refl;
+    honest = λ h. all_of told.verdicts (held_meant c) (told.right h) (told.written.0 ∙ sym as_many);
+  }
+
+  -- until writing failed
+  held_part : PairsTold c.table c.graph c.groups c.rows unit unit' out.written out'.written (Err campaign.Write) → HoldLeft c AppendsPart before after
+  held_part told = record {
+    verdicts = told.verdicts;
+    few = told.few;
+    ran = told.ran;
+    text = λ later follows. told.written.0 later follows;
+    earlier = told.written.1;
+    honest = λ h.
+        let is = told.right h in
+        subst (λ (l : List PairVerdict). AppendsPart out.written out'.written (pairs_text c.groups l)) (sym (left_of told.verdicts (held_meant c) is))
+        (told.written.0 (drop (length told.verdicts) (held_meant c)) (left_count told.verdicts (held_meant c) _ is as_many));
+  }
+
+  -- the lines before the last were written
+  earlier_lines : (vs : List PairVerdict) → Appends out.written out'.written (group_lines c.groups vs) → EarlierTold c.groups vs out.written out'.written
+  earlier_lines vs w earlier last is =
+      let (more, lines) = lines_go_on c.groups earlier (last ∷ []) in
+      (more, subst (λ (t : List ℕ). Appends out.written out'.written t) (ap (group_lines c.groups) is ∙ lines) w)
+
+  -- until memory was wanted
+  held_front : PairsTold c.table c.graph c.groups c.rows unit unit' out.written out'.written (Err campaign.Memory) → HoldLeft c AppendsFront before after
+  held_front told = record {
+    verdicts = told.verdicts;
+    few = told.few;
+    ran = told.ran;
+    text = λ later follows. lines_front c.groups told.verdicts later out.written out'.written told.written;
+    earlier = earlier_lines told.verdicts told.written;
+    honest = λ h.
+        let is = told.right h in
+        subst (λ (l : List PairVerdict). AppendsFront out.written out'.written (pairs_text c.groups l)) (sym (left_of told.verdicts (held_meant c) is))
+        (lines_front c.groups told.verdicts (drop (length told.verdicts) (held_meant c)) out.written out'.written told.written);
+  }
+
+  module _ (m : List ℕ) (rows : Rows) (seed : ℕ) (f : List ℕ) (held : Held) (files later : FilesSeen) (comes : PairsTask m rows seed f held (holds c)) where
+    pub held_whole : PairsTold c.table c.graph c.groups c.rows unit unit' out.written out'.written (Ok tt)
+        → Reaches (about (pairs m rows seed f)) (PairsTask m rows seed f held) files later before after [] 0
+    held_whole told = done (holds c) (held_answer c told.verdicts) comes (all_held told) told.written.1 refl refl
+
+    pub held_to : (e : CampaignFault) → (e ≡ campaign.Write → Rose out.faults out'.faults)
+        → PairsTold c.table c.graph c.groups c.rows unit unit' out.written out'.written (Err e)
+        → Reaches (about (pairs m rows seed f)) (PairsTask m rows seed f held) files later before after (fault_text (of_campaign e))
+        (fault_status (of_campaign e))
+    held_to campaign.Write rose told = cut (holds c) comes (held_part told) (rose refl) refl refl
+    held_to campaign.Memory rose told = short (holds c) comes (held_front told) refl refl refl
