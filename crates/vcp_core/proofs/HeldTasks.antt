@@ -1,5 +1,5 @@
 -- What `pairs` comes to and how far it comes, from what reading its files and running the groups give.
-use Rattle.std.proofs.Common.{ℕ, ℤ, ◌+◌, ◌≤◌, ◌≡◌, ◌≢◌, ◌⊎◌, inl, inr, refl, sym, ap, subst, ◌∙◌, List, [], ◌∷◌, ◌++◌, append_assoc, length, take, drop, Option}
+use Rattle.std.proofs.Common.{ℕ, ℤ, ◌≤◌, ◌≡◌, ◌≢◌, ◌⊎◌, inl, inr, refl, sym, ap, subst, ◌∙◌, List, [], ◌∷◌, ◌++◌, append_assoc, length, drop, Option}
 use Rattle.std.proofs.Common.{Some, Ok, Err}
 use Rattle.std.proofs.lemmas.List.{length-map}
 use Rattle.std.specs.Io.KnownBytes.{Appends, IsAtEnd}
@@ -43,7 +43,7 @@ use Rattle.command_meaning.specs.Performing.{Reaches, done, cut, short, unread, 
 use Rattle.vcp_core.specs.Faults.{of_campaign}
 use Rattle.vcp_core.specs.Inject.{AllRead, NoneRead}
 use Rattle.vcp_core.specs.Reach.{fault_status, fault_text}
-use Rattle.vcp_core.specs.Tasks.{Apart, HeldRows, HeldScript, PairsTask, graph_columns, two_seeds}
+use Rattle.vcp_core.specs.Tasks.{HeldScript, PairsTask, graph_columns, two_seeds}
 use Rattle.vcp_core.proofs.JudgedTasks.{WholeLeft, all_of, campaign_of, left_count, left_of, rows_front, script_end, whole_broken, whole_comes}
 use Rattle.vcp_core.proofs.Performing.{file_lost, file_taken, file_takes, still}
 

@@ -1,5 +1,4 @@
-use Rattle.std.proofs.Common.{◌<◌, ◌*◌, ◌≡◌, ap, subst, sym, length, Some, None, Option}
-use Rattle.input_rows.specs.declared.fault.RowFault.{RowFault}
+use Rattle.std.proofs.Common.{◌<◌, ◌*◌, length}
 use Rattle.vcp_inputs.specs.RowsOutcome.{source_outcome}
 use Rattle.vcp_core.specs.Inject.{too_many}
 use Rattle.vcp_core.specs.Tasks.{most_trace}
