@@ -14,5 +14,4 @@ pub mod Printing
 pub mod Reports
 pub mod RunKind
 pub mod Seen
-pub mod Sums
 pub mod WireKind

@@ -7,12 +7,10 @@ use Rattle.op_graph.specs.Lists.{Lists}
 use Rattle.signature_table.specs.Signatures.{table_of}
 use Rattle.machine_run.specs.RowRuns.{texts_from}
 use Rattle.run_report.specs.Lines.{header_text, row_text, end_text, stop_text, refused_text}
-use Rattle.run_report.specs.SummaryLine.{summary_text}
 use Rattle.vcp_words.specs.Forms.{Code}
 use Rattle.command_meaning.specs.Answer.{Answer}
 use Rattle.command_meaning.specs.CycleWords.{words_in, words_meant, word_lines}
 use Rattle.command_meaning.specs.Reports.{RunEnd, complete, stopped, refused, behind_text, run_status}
-use Rattle.command_meaning.specs.Sums.{last_value, sum_of}
 
 -- ---- a run as it is told
 
@@ -69,15 +67,6 @@ each_word g code n = record {
   row = λ cycle row. [];
   lines = λ words. word_lines g (table_of code.seed code.step g) n 0 g.operations words;
   done = λ rows. codes "released\n";
-}
-
--- the line that sums up the run of the made program of a number
-abbrev pub summed_up : ℕ → Printing
-summed_up number = record {
-  header = [];
-  row = λ cycle row. [];
-  lines = λ words. [];
-  done = λ rows. summary_text number (length rows) (last_value rows) (sum_of rows);
 }
 
 -- what stands behind the rows of a run that ended so, with outputs of these names; nothing where the next row is refused

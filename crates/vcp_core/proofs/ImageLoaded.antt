@@ -26,8 +26,8 @@ corrections-count : (p : Profile) (seed step : ℕ) (held : List Cell) (k : ℕ)
 corrections-count p seed step held k [] = refl
 corrections-count p seed step held k (op ∷ ops) = omega (arith, corrections-count p seed step held (k + 1) ops)
 
-pub table-long : (t : Numbers) (g : Lists) → t ≡ table_of t.seed t.step g → length t.corrections ≡ length g.operations
-table-long t g is = ap (λ (u : Numbers). length u.corrections) is ∙ corrections-count g.profile t.seed t.step (cells g) 0 g.operations
+pub corrections-long : (t : Numbers) (g : Lists) → IsTableOf t g → length t.corrections ≡ length g.operations
+corrections-long t g is = ap length is.1 ∙ corrections-count g.profile t.seed t.step (cells g) 0 g.operations
 
 -- ---- the run of an image
 

@@ -1,5 +1,5 @@
 -- What the calls of a job's run give, as its lemmas take it.
-use Rattle.std.proofs.Common.{ℕ, suc, [], ◌∷◌, ◌≡◌, ◌<◌, refl, sym, ap, subst, ◌∙◌, List, length, map, slice_get, Option, None, Some, Result, Ok, All}
+use Rattle.std.proofs.Common.{ℕ, suc, [], ◌∷◌, ◌≡◌, ◌<◌, refl, sym, ap, subst, ◌∙◌, List, length, map, slice_get, Option, None, Some, Result, Ok, Err, All}
 use Rattle.std.proofs.Common.{arith, ℤ}
 use Rattle.std.proofs.lemmas.List.{length-map}
 use Rattle.vcp_base.specs.Types.{AreIn}
@@ -17,13 +17,16 @@ use Rattle.coded_machine.specs.declared.cycle_end.CycleEnd.TheVariants as cycle
 use Rattle.coded_machine.specs.State.{State, fresh}
 use Rattle.flat_expr.specs.Told.{Means, halted_at}
 use Rattle.machine_run.specs.declared.fault.RunFault.{RunFault}
+use Rattle.machine_run.specs.declared.fault.RunFault.TheVariants as given_up
+use Rattle.machine_run.specs.RowRuns.{RunsRows}
+use Rattle.vcp_outside.specs.Counts.{Rose}
 use Rattle.machine_run.specs.Leaves.{Leaves}
 use Rattle.machine_run.specs.Moments.{Moment}
 use Rattle.vcp_words.specs.Forms.{Code}
 use Rattle.command_meaning.specs.Answer.{Subject, source}
 use Rattle.command_meaning.specs.GraphsOf.{StandsFor}
 use Rattle.command_meaning.specs.Reports.{end_read, end_told, subject_outputs, run_status}
-use Rattle.vcp_core.specs.MachineRun.{CarriesOut, IsThere}
+use Rattle.vcp_core.specs.MachineRun.{CarriesOut, HasCauses, IsThere}
 use Rattle.vcp_core.proofs.PlainNames.{inputs-count}
 
 -- rows of values of these types, as a list of rows
@@ -58,6 +61,25 @@ pub leaves-here : (m n : State) (g : Lists) (u t : Numbers) (left : RowsLeft) (t
 leaves-here m n g u t left text before after kept_before kept_after r is same h =
     subst (λ x. Leaves g x left text before after kept_before kept_after n r) same
     (subst (λ (x : State). Leaves x.graph x.table left text before after kept_before kept_after n r) is h)
+
+-- the same where this is printed of each row
+pub leaves-shown : (n : State) (g : Lists) (t : Numbers) (left : RowsLeft) (text shown : ℕ → List ℤ → List ℕ) (before after : Moment)
+    (kept_before kept_after : List (List ℤ) → Type 0) (r : Result CycleEnd RunFault) → text ≡ shown →
+    Leaves g t left text before after kept_before kept_after n r → Leaves g t left shown before after kept_before kept_after n r
+leaves-shown n g t left text shown before after kept_before kept_after r is h =
+    subst (λ (x : ℕ → List ℤ → List ℕ). Leaves g t left x before after kept_before kept_after n r) is h
+
+-- a run that failed has cause, where the count rose if a write failed
+pub failed-causes : (before after : Moment) (why : RunFault) → (why ≡ given_up.Write → Rose before.out.faults after.out.faults)
+    → HasCauses before after (Err why)
+failed-causes before after why rose = record { write = λ is. rose cc; refused = λ is. absurd cc; stopped = λ is. absurd cc }
+
+-- a row couldn't be written
+pub rows-rose : (g : Lists) (t : Numbers) (left : RowsLeft) (text : ℕ → List ℤ → List ℕ) (before after : Moment) (why : RunFault)
+    → RunsRows g t left text before after (Err why) → why ≡ given_up.Write → Rose before.out.faults after.out.faults
+rows-rose g t left text before after given_up.Write run is = run.ends.0
+rows-rose g t left text before after given_up.Memory run is = absurd cc
+rows-rose g t left text before after (given_up.Rows f) run is = absurd cc
 
 -- the operation that stopped is there, and so is the output that is refused
 pub there-is : {E : Type 0} (m : State) (g : Lists) (e : CycleEnd) (ok : Result CycleEnd E) → ok ≡ Ok e → m.graph ≡ g

@@ -1,5 +1,5 @@
 pub mod AuditKinds
-pub mod DemoKinds
+pub mod DemoRun
 pub mod Facts
 pub mod HeldTasks
 pub mod ImageLoaded
@@ -21,9 +21,6 @@ pub mod Reduced
 pub mod Served
 pub mod Sized
 pub mod StaleShown
-pub mod SummaryPrinted
-pub mod SummaryRun
-pub mod SumsKept
 pub mod Traced
 pub mod TwoChannels
 pub mod WideImages

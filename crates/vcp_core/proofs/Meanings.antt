@@ -51,8 +51,9 @@ use Rattle.command_meaning.specs.RunKind.{Job, job_answer, run_meant}
 use Rattle.command_meaning.proofs.OneFile.{one_file, file_has}
 use Rattle.vcp_core.specs.Tasks.{Audited, too_large, printed, FewRows, too_many, few, JudgedScript, WholeRows}
 use Rattle.vcp_core.specs.Tasks.{Apart, same_seed, two_seeds, Compared, HeldRows, HeldScript, pair_job}
-use Rattle.vcp_core.specs.Tasks.{AuditTask, TaskOf, PlainTask, RunTask, graph_columns, plain_answer, rows_job, summary_job, words_job, ok_text}
-use Rattle.vcp_core.specs.Tasks.{made_held, made_name, most_trace, table_code, listing, widened}
+use Rattle.vcp_core.specs.Tasks.{AuditTask, TaskOf, PlainTask, RunTask, graph_columns, plain_answer, rows_job, words_job, ok_text}
+use Rattle.vcp_core.specs.Tasks.{most_trace, table_code, listing, widened}
+use Rattle.vcp_core.specs.Demo.{made_held, made_name, summary_job}
 use Rattle.vcp_core.proofs.OneText.{ImageLaws, Laws, OneAudit, image_once, image_or_none, no_image_once, program_once, program_or_none, refused_once}
 use Rattle.vcp_core.proofs.OneText.{typed_once, typed_apart, untyped_once, listing_once, listing_or_none, no_listing_once}
 use Rattle.vcp_core.proofs.WireTasks.{wire_task_once}

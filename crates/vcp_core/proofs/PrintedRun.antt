@@ -5,7 +5,7 @@ use Rattle.std.specs.Io.KnownBytes.{Appends}
 use Rattle.vcp_outside.specs.Written.{AppendsFront, AppendsPart}
 use Rattle.input_rows.specs.declared.fault.RowFault.{RowFault}
 use Rattle.input_rows.specs.declared.fault.RowFault.TheVariants as row
-use Rattle.input_rows.specs.RowsOf.{IsOfRecord}
+use Rattle.input_rows.specs.RowsOf.{IsOfRecord, RowsLeft}
 use Rattle.coded_unit.specs.declared.call.Answer.{Answer as UnitAnswer}
 use Rattle.coded_unit.specs.Seen.{UnitSeen}
 use Rattle.vcp_outside.specs.Seen.{SinkSeen}
@@ -24,7 +24,12 @@ use Rattle.machine_run.specs.RowRuns.{texts_from, IsFront, CameToEnd, RunsRows}
 use Rattle.vcp_inputs.specs.Lines.{rows_text}
 use Rattle.command_meaning.specs.GraphsOf.{MayRun}
 use Rattle.command_meaning.specs.Reports.{RunEnd, complete, stopped, refused, end_told, end_read, told_of, subject_outputs, behind_text, run_status}
+use Rattle.run_report.specs.Lines.{header_text, row_text}
+use Rattle.vcp_words.specs.Forms.{Code}
+use Rattle.command_meaning.specs.Answer.{Subject}
 use Rattle.vcp_core.specs.EndLines.{last_text}
+use Rattle.vcp_core.specs.Shown.{Shows}
+use Rattle.vcp_core.specs.Tasks.{rows_job}
 use Rattle.command_meaning.specs.Printing.{Report, Printing, every_row, goes_on, no_report, run_text, run_then, last_part}
 use Rattle.command_meaning.specs.RunKind.{Job, RunLeft, numbers, calls_of, run_read, run_meant, job_answer}
 use Rattle.machine_run.specs.Moments.{Moment, moment}
@@ -326,3 +331,14 @@ last-by names n r (refused i f w) behind is h = ap (λ (k : ℕ). last_text name
 pub rows-last : (names : List (List ℕ)) (n : ℕ) (r : Report) (g : Lists) (e : CycleEnd) (behind : Option RowFault) → IsThere g e → n ≡ length r.rows
     → (e ≡ cycle.Released → behind ≡ None) → last_text names n (end_read g e) None ≡ last_part (every_row names) names r (end_read g e) behind
 rows-last names n r g e behind there is none = last-by names n r (end_read g e) behind is (λ c. none (complete-is g e there c))
+
+-- so this is what is printed of a run of which each row is printed
+pub rows-shown : {R : Type 0} (Keeps : R → List (List ℤ) → Type 0) (kept : R) (s : Subject) (code : Code) (left : RowsLeft) (name : List ℕ) (g : Lists)
+    → Shows header_text row_text (λ now m names e. last_text names m.cycles (end_read m.graph e) None) Keeps kept (rows_job name code s left) g
+rows-shown Keeps kept s code left name g = record {
+  first_is = refl;
+  row_is = refl;
+  words_are = λ cycles right all. refl;
+  last_is = λ now cycles m e came. ap (λ (h : Lists). last_text (subject_outputs s) m.cycles (end_read h e) None) came.machine.graph
+      ∙ rows-last (subject_outputs s) m.cycles (run_read (rows_job name code s left) g cycles) g e left.refusal came.there came.machine.cycles came.all_taken;
+}

@@ -13,8 +13,8 @@ use Rattle.command_meaning.specs.CycleWords.{word_lines}
 use Rattle.command_meaning.specs.Reports.{RunEnd, complete, end_read, refused, stopped}
 use Rattle.vcp_core.specs.EndLines.{last_text, words_then}
 use Rattle.vcp_core.specs.declared.ending.Ending.{Ending}
-use Rattle.vcp_core.specs.MachineRun.{IsThere, PrintsEnd}
-use Rattle.vcp_core.specs.TraceRun.{PrintsWords, answered_words, traced_text}
+use Rattle.vcp_core.specs.MachineRun.{IsThere, PrintsLast}
+use Rattle.vcp_core.specs.TraceRun.{answered_words, traced_text}
 use Rattle.vcp_core.proofs.JobRun.{complete-is}
 
 -- words' lines come first
@@ -42,7 +42,8 @@ module _ (m : State) (names : List (List ℕ)) (n : ℕ) (a b c : SinkSeen) wher
   lines = word_lines m.graph m.table n 0 m.graph.operations (answered_words m n)
 
   -- the words couldn't be written
-  pub words-cut : (e : CycleEnd) (why : Failed) → WritesTo {T = Unit {0}} {E = Failed} a b lines (Err why) → PrintsWords m names n e a b (Err why)
+  pub words-cut : (e : CycleEnd) (why : Failed) → WritesTo {T = Unit {0}} {E = Failed} a b lines (Err why)
+      → PrintsLast (traced_text m names n e) m.graph e a b (Err why)
   words-cut e why failure =
       let (more, all) = lines-first lines names m.cycles (end_read m.graph e) in
       let (front, rest, is, some, taken) = failure.part in
@@ -50,7 +51,8 @@ module _ (m : State) (names : List (List ℕ)) (n : ℕ) (a b c : SinkSeen) wher
       (failure.cause.failed, (front, rest ++ more, whole, rw (length-append rest more) (omega (arith, some)), taken))
 
   pub released-cut : (why : Failed) → WritesTo {T = Unit {0}} {E = Failed} a b lines (Ok tt)
-      → WritesTo {T = Unit {0}} {E = Failed} b c (codes "released\n") (Err why) → PrintsWords m names n cycle.Released a c (Err why)
+      → WritesTo {T = Unit {0}} {E = Failed} b c (codes "released\n") (Err why)
+      → PrintsLast (traced_text m names n cycle.Released) m.graph cycle.Released a c (Err why)
   released-cut why before failure =
       let (front, rest, is, some, taken) = failure.part in
       let whole : traced_text m names n cycle.Released ≡ (lines ++ front) ++ rest = ap (λ l. lines ++ l) is ∙ sym (append_assoc lines front rest) in (
@@ -67,7 +69,7 @@ module _ (m : State) (names : List (List ℕ)) (n : ℕ) (a b c : SinkSeen) wher
 
   -- the run's last line was written, or a part of it
   pub ended-on : (e : CycleEnd) (r : Result Ending Failed) → e ≢ cycle.Released → IsThere m.graph e → WritesTo {T = Unit {0}} {E = Failed} a b lines (Ok tt)
-      → PrintsEnd m.graph names m.cycles e b c r → PrintsWords m names n e a c r
+      → PrintsLast (last_text names m.cycles (end_read m.graph e) None) m.graph e b c r → PrintsLast (traced_text m names n e) m.graph e a c r
   ended-on e (Ok end) not there before (w, status) =
       let text : traced_text m names n e ≡ lines ++ last_text names m.cycles (end_read m.graph e) None =
       then-last lines names m.cycles (end_read m.graph e) (λ is. not (complete-is m.graph e there is)) in

@@ -1,5 +1,6 @@
 -- WordsPrinted: the lines of the words that a whole cycle answered, one after another.
-use Rattle.std.proofs.Common.{ℕ, zero, suc, ◌+◌, ◌≡◌, ◌<◌, refl, ap, sym, ◌∙◌, List, [], ◌∷◌, ◌++◌, length, take, append_assoc, append-nil, slice_get, Option}
+use Rattle.std.proofs.Common.{ℕ, zero, suc, ◌+◌, ◌⊎◌, inl, inr, ◌≡◌, ◌<◌, refl, ap, sym, ◌∙◌, List, [], ◌∷◌, ◌++◌, length, take}
+use Rattle.std.proofs.Common.{append_assoc, append-nil, slice_get, Option}
 use Rattle.std.proofs.Common.{Some, None, IfSome, Ok, Err, arith, ℤ}
 use Rattle.coded_unit.specs.declared.call.Answer.{Answer}
 use Rattle.coded_unit.specs.declared.call.Answer.TheVariants as answer
@@ -101,29 +102,45 @@ module _ (g : Lists) (t : Numbers) (n : ℕ) where
   rest-behind k (suc i) (x ∷ ops) (answer.Operand ∷ answers) op w whole there is = absurd (none-there answers i w whole is)
 
 -- where an answer is no word, the words are those before it
-pub no-more : (i : ℕ) (ops : List Op) (answers : List Answer) → Whole ops answers → word_in (slice_get answers i) ≡ None
+no-more-words : (i : ℕ) (ops : List Op) (answers : List Answer) → Whole ops answers → word_in (slice_get answers i) ≡ None
     → words_among answers ≡ words_among (take i answers)
-no-more i [] [] whole is = both-none i [] refl
-no-more i [] (a ∷ answers) whole is = absurd whole
-no-more i (x ∷ ops) [] whole is = absurd whole
-no-more zero (x ∷ ops) (answer.Word v ∷ answers) whole is = absurd cc
-no-more zero (x ∷ ops) (answer.Range ∷ answers) whole is = ap words_among whole
-no-more zero (x ∷ ops) (answer.DivZero ∷ answers) whole is = ap words_among whole
-no-more zero (x ∷ ops) (answer.Operand ∷ answers) whole is = ap words_among whole
-no-more (suc i) (x ∷ ops) (answer.Word v ∷ answers) whole is = ap (λ ws. v ∷ ws) (no-more i ops answers whole is)
-no-more (suc i) (x ∷ ops) (answer.Range ∷ answers) whole is = both-none i answers whole
-no-more (suc i) (x ∷ ops) (answer.DivZero ∷ answers) whole is = both-none i answers whole
-no-more (suc i) (x ∷ ops) (answer.Operand ∷ answers) whole is = both-none i answers whole
+no-more-words i [] [] whole is = both-none i [] refl
+no-more-words i [] (a ∷ answers) whole is = absurd whole
+no-more-words i (x ∷ ops) [] whole is = absurd whole
+no-more-words zero (x ∷ ops) (answer.Word v ∷ answers) whole is = absurd cc
+no-more-words zero (x ∷ ops) (answer.Range ∷ answers) whole is = ap words_among whole
+no-more-words zero (x ∷ ops) (answer.DivZero ∷ answers) whole is = ap words_among whole
+no-more-words zero (x ∷ ops) (answer.Operand ∷ answers) whole is = ap words_among whole
+no-more-words (suc i) (x ∷ ops) (answer.Word v ∷ answers) whole is = ap (λ ws. v ∷ ws) (no-more-words i ops answers whole is)
+no-more-words (suc i) (x ∷ ops) (answer.Range ∷ answers) whole is = both-none i answers whole
+no-more-words (suc i) (x ∷ ops) (answer.DivZero ∷ answers) whole is = both-none i answers whole
+no-more-words (suc i) (x ∷ ops) (answer.Operand ∷ answers) whole is = both-none i answers whole
+
+-- answers are whole where there is one
+pub whole-there : (ops : List Op) (answers : List Answer) (i : ℕ) (w : ℤ) → (answers ≡ []) ⊎ Whole ops answers
+    → word_in (slice_get answers i) ≡ Some w → Whole ops answers
+whole-there ops answers i w (inl none) is = absurd (none-there answers i w none is)
+whole-there ops answers i w (inr whole) is = whole
+
+-- the same where there is none
+pub no-more : (i : ℕ) (ops : List Op) (answers : List Answer) → (answers ≡ []) ⊎ Whole ops answers → word_in (slice_get answers i) ≡ None
+    → words_among answers ≡ words_among (take i answers)
+no-more i ops answers (inl none) is = both-none i answers none
+no-more i ops answers (inr whole) is = no-more-words i ops answers whole is
 
 -- and where there are no more operations, they are all
-pub all-words : (ops : List Op) (answers : List Answer) → Whole ops answers → take (length ops) answers ≡ answers
-all-words [] [] whole = refl
-all-words [] (a ∷ answers) whole = absurd whole
-all-words (x ∷ ops) [] whole = absurd whole
-all-words (x ∷ ops) (answer.Word v ∷ answers) whole = ap (λ xs. answer.Word v ∷ xs) (all-words ops answers whole)
-all-words (x ∷ ops) (answer.Range ∷ answers) whole = ap (λ xs. answer.Range ∷ xs) (take-none (length ops) answers whole)
-all-words (x ∷ ops) (answer.DivZero ∷ answers) whole = ap (λ xs. answer.DivZero ∷ xs) (take-none (length ops) answers whole)
-all-words (x ∷ ops) (answer.Operand ∷ answers) whole = ap (λ xs. answer.Operand ∷ xs) (take-none (length ops) answers whole)
+all-words-of : (ops : List Op) (answers : List Answer) → Whole ops answers → take (length ops) answers ≡ answers
+all-words-of [] [] whole = refl
+all-words-of [] (a ∷ answers) whole = absurd whole
+all-words-of (x ∷ ops) [] whole = absurd whole
+all-words-of (x ∷ ops) (answer.Word v ∷ answers) whole = ap (λ xs. answer.Word v ∷ xs) (all-words-of ops answers whole)
+all-words-of (x ∷ ops) (answer.Range ∷ answers) whole = ap (λ xs. answer.Range ∷ xs) (take-none (length ops) answers whole)
+all-words-of (x ∷ ops) (answer.DivZero ∷ answers) whole = ap (λ xs. answer.DivZero ∷ xs) (take-none (length ops) answers whole)
+all-words-of (x ∷ ops) (answer.Operand ∷ answers) whole = ap (λ xs. answer.Operand ∷ xs) (take-none (length ops) answers whole)
+
+pub all-words : (ops : List Op) (answers : List Answer) → (answers ≡ []) ⊎ Whole ops answers → take (length ops) answers ≡ answers
+all-words ops answers (inl none) = take-none (length ops) answers none
+all-words ops answers (inr whole) = all-words-of ops answers whole
 
 -- ---- the loop over operations
 

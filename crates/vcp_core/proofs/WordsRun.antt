@@ -1,33 +1,29 @@
 -- WordsRun: how far the run of an image came of which the words of one cycle are printed, from what running its graph leaves.
-use Rattle.std.proofs.Common.{ℕ, zero, suc, ◌+◌, ◌≡◌, ◌≤◌, ◌<◌, Bool, true, false, cond, nat_le, refl, sym, ap, subst, ◌∙◌, List, [], ◌∷◌}
-use Rattle.std.proofs.Common.{length, slice_index_or, Option, Some, None, Ok, arith, ℤ}
+use Rattle.std.proofs.Common.{ℕ, zero, suc, ◌+◌, ◌≡◌, ◌≤◌, ◌<◌, ◌⊎◌, inl, inr, Bool, true, false, cond, nat_le, refl, sym, ap, subst, ◌∙◌, List, [], ◌∷◌}
+use Rattle.std.proofs.Common.{length, slice_index_or, Option, Some, None, arith, ℤ}
 use Rattle.std.proofs.lemmas.Bool.Decides.{nat_tests}
 use Rattle.std.proofs.lemmas.List.{length-take}
 use Rattle.input_rows.specs.declared.fault.RowFault.{RowFault}
 use Rattle.input_rows.specs.RowsOf.{RowsLeft, behind_wanted, through}
 use Rattle.coded_unit.specs.declared.call.Answer.{Answer as Given}
-use Rattle.coded_unit.specs.Seen.{UnitSeen}
-use Rattle.vcp_outside.specs.Seen.{SinkSeen}
 use Rattle.op_graph.specs.Lists.{Lists}
 use Rattle.signature_table.specs.Signatures.{Numbers, table_of}
 use Rattle.coded_machine.specs.declared.cycle_end.CycleEnd.{CycleEnd}
 use Rattle.coded_machine.specs.declared.cycle_end.CycleEnd.TheVariants as cycle
-use Rattle.coded_machine.specs.Calls.{AllRight, Whole}
-use Rattle.coded_machine.specs.CycleEnds.{end_of, initial_words, outputs_of}
-use Rattle.coded_machine.specs.Runs.{AllCycles, Outcome, calls_over, followed_by, outcome_over, unless_ended}
+use Rattle.coded_machine.specs.Calls.{Whole}
+use Rattle.coded_machine.specs.CycleEnds.{end_of, outputs_of}
+use Rattle.coded_machine.specs.Runs.{AllCycles, Outcome, followed_by, outcome_over, unless_ended}
 use Rattle.coded_machine.specs.State.{State}
-use Rattle.machine_run.specs.Leaves.{MachineAfter, last_answers}
-use Rattle.machine_run.specs.Moments.{moment}
-use Rattle.machine_run.specs.RowRuns.{RunsRows}
+use Rattle.machine_run.specs.Leaves.{last_answers}
 use Rattle.command_meaning.specs.Answer.{image}
-use Rattle.command_meaning.specs.CycleWords.{word_lines, words_among, words_in, words_meant}
+use Rattle.command_meaning.specs.CycleWords.{word_lines, words_among, words_in}
 use Rattle.command_meaning.specs.Reports.{RunEnd, complete, end_read, subject_outputs, refused, stopped}
 use Rattle.vcp_core.specs.EndLines.{words_then}
 use Rattle.command_meaning.specs.Printing.{each_word, last_part}
 use Rattle.command_meaning.specs.RunKind.{run_read}
 use Rattle.vcp_words.specs.Forms.{Code}
 use Rattle.vcp_core.specs.Tasks.{words_job, table_code}
-use Rattle.vcp_core.specs.MachineRun.{IsThere}
+use Rattle.vcp_core.specs.Shown.{Came}
 use Rattle.vcp_core.specs.TraceRun.{answered_words, traced_text}
 use Rattle.vcp_core.proofs.JobRun.{as-many, complete-is}
 
@@ -120,6 +116,12 @@ last-whole g t k (row ∷ rows) (a ∷ b ∷ cycles) all some =
     unless-some (end_of g t k a) (AllCycles g t (suc k) rows (b ∷ cycles)) (Whole g.operations (last_answers (b ∷ cycles))) b cycles all.1
     (λ more. last-whole g t (suc k) rows (b ∷ cycles) more (omega arith))
 
+-- the answers of the last cycle are whole, where there is one
+pub answers-whole : (g : Lists) (t : Numbers) (rows : List (List ℤ)) (cycles : List (List Given)) → AllCycles g t 0 rows cycles
+    → (last_answers cycles ≡ []) ⊎ Whole g.operations (last_answers cycles)
+answers-whole g t rows [] all = inl refl
+answers-whole g t rows (a ∷ cycles) all = inr (last-whole g t 0 rows (a ∷ cycles) all (omega arith))
+
 -- how many cycles there are of a run over the rows through cycle n, where so many were released
 pub record HasCycles (n released cycles : ℕ) : Type 0 where
   pub begun : n ≤ released → cycles ≡ suc n
@@ -162,10 +164,6 @@ words-same-by lines names k complete behind h = ap (words_then lines names k com
 words-same-by lines names k (stopped s) behind h = refl
 words-same-by lines names k (refused i f w) behind h = refl
 
--- nothing is written for rows
-abbrev pub no_text : ℕ → List ℤ → List ℕ
-no_text = λ n row. []
-
 -- the last part of what is printed where a run came to this end
 last-words : (code : Code) (n : ℕ) (names : List (List ℕ)) (rows : List (List ℤ)) (words : List ℤ) (g : Lists) (own e : RunEnd) (behind : Option RowFault) →
     last_part (each_word g code n) names (record { rows = rows; end = own; words = words }) e behind
@@ -177,62 +175,45 @@ last-words code n names rows words g own (refused i f w) behind = refl
 
 -- ---- the job
 
+-- each row through cycle n was taken, unless the run ended before
 module _ (g : Lists) (n : ℕ) (name : List ℕ) (t : Numbers) (left : RowsLeft) (few-rows : length left.rows ≤ n + 1)
-    (all-there : left.refusal ≡ None → length left.rows ≡ n + 1) (u0 u1 : UnitSeen)
-    (words-meant : (cycles : List (List Given)) → AllRight (calls_over g (table_of t.seed t.step g) 0 (initial_words g t.seed) left.rows cycles) → AllCycles g
-    (table_of t.seed t.step g) 0 left.rows cycles → words_in n cycles ≡ words_meant g (table_code t) n left.rows) where
+    (all-there : left.refusal ≡ None → length left.rows ≡ n + 1) {R : Type 0} (Keeps : R → List (List ℤ) → Type 0) (kept now : R)
+    (cycles : List (List Given)) (m : State) (e : CycleEnd) (came : Came Keeps kept now (words_job name n g (table_code t) left) g cycles m e) where
   abbrev names : List (List ℕ)
   names = subject_outputs (image g)
 
   abbrev table : Numbers
   table = table_of t.seed t.step g
 
-  abbrev outcome_is : List (List Given) → Outcome
-  outcome_is cycles = outcome_over g table 0 cycles
+  abbrev outcome_is : Outcome
+  outcome_is = outcome_over g table 0 cycles
 
-  -- the lines of a run's words
-  abbrev lines_of : List (List Given) → List ℕ
-  lines_of cycles = word_lines g table n 0 g.operations (words_in n cycles)
+  -- the lines of the run's words
+  abbrev lines_of : List ℕ
+  lines_of = word_lines g table n 0 g.operations (words_in n cycles)
 
-  -- ---- the run came to its end
+  has : HasCycles n m.cycles (length cycles)
+  has =
+      let counts : Counts (length outcome_is.rows) (length cycles) outcome_is.end = cycles-count g table 0 left.rows cycles came.came.all in
+      has-cycles n m.cycles (length cycles) (length left.rows) e
+      (subst (λ x. Counts m.cycles (length cycles) x) came.came.end_is (subst (λ r. Counts r (length cycles) outcome_is.end) (sym came.machine.cycles) counts))
+      (cycles-few g table 0 left.rows cycles came.came.all) few-rows
+      (λ released. (as-many g table 0 left.rows cycles came.came.all (came.came.end_is ∙ released), all-there (came.all_taken released)))
 
-  module _ (e : CycleEnd) (s1 s2 : SinkSeen) (run : RunsRows g table left no_text (moment u0 s1) (moment u1 s2) (Ok e))
-      (there : IsThere g e) (m : State) (after : MachineAfter g table run.cycles m) where
-    has : HasCycles n m.cycles (length run.cycles)
-    has =
-        let (came, none, lines) = run.ends in
-        let o = outcome_is run.cycles in
-        let counts : Counts (length o.rows) (length run.cycles) o.end = cycles-count g table 0 left.rows run.cycles came.all in
-        has-cycles n m.cycles (length run.cycles) (length left.rows) e
-        (subst (λ x. Counts m.cycles (length run.cycles) x) came.end_is (subst (λ r. Counts r (length run.cycles) o.end) (sym after.cycles) counts))
-        (cycles-few g table 0 left.rows run.cycles came.all) few-rows
-        (λ released. (as-many g table 0 left.rows run.cycles came.all (came.end_is ∙ released), all-there (none released)))
+  words-are : answered_words m n ≡ words_in n cycles
+  words-are = ap (λ xs. cond (nat_le n m.cycles) (words_among xs) []) came.machine.answers ∙ answered-by n m.cycles (nat_le n m.cycles) cycles refl has
 
-    -- where cycle n was begun, its answers are those of the machine, and they are whole
-    pub whole-there : n ≤ m.cycles → Whole m.graph.operations m.answers
-    whole-there below =
-        let (came, none, lines) = run.ends in
-        let many : length run.cycles ≡ suc n = has.begun below in
-        let last : Whole g.operations (last_answers run.cycles) = last-whole g table 0 left.rows run.cycles came.all (omega (arith, many)) in
-        rw (after.graph, after.answers) last
+  -- what is printed of the machine is what is read off the answers
+  text-is : traced_text m names n e ≡ words_then lines_of names (length outcome_is.rows) (end_read g e) left.refusal
+  text-is =
+      ap (λ ws. words_then (word_lines m.graph m.table n 0 m.graph.operations ws) names m.cycles (end_read m.graph e) None) words-are
+      ∙ ap (λ (h : Lists). words_then (word_lines h m.table n 0 h.operations (words_in n cycles)) names m.cycles (end_read h e) None) came.machine.graph
+      ∙ ap (λ u. words_then (word_lines g u n 0 g.operations (words_in n cycles)) names m.cycles (end_read g e) None) came.machine.table
+      ∙ ap (λ k. words_then lines_of names k (end_read g e) None) came.machine.cycles
+      ∙ words-same-by lines_of names (length outcome_is.rows) (end_read g e) left.refusal (λ c. came.all_taken (complete-is g e came.there c))
 
-    words-are : answered_words m n ≡ words_in n run.cycles
-    words-are =
-        ap (λ xs. cond (nat_le n m.cycles) (words_among xs) []) after.answers ∙ answered-by n m.cycles (nat_le n m.cycles) run.cycles refl has
-
-    -- what is printed of the machine is what is read off the answers
-    text-is : traced_text m names n e ≡ words_then (lines_of run.cycles) names (length (outcome_is run.cycles).rows) (end_read g e) left.refusal
-    text-is =
-        let (came, none, lines) = run.ends in
-        ap (λ ws. words_then (word_lines m.graph m.table n 0 m.graph.operations ws) names m.cycles (end_read m.graph e) None) words-are
-        ∙ ap (λ (h : Lists). words_then (word_lines h m.table n 0 h.operations (words_in n run.cycles)) names m.cycles (end_read h e) None) after.graph
-        ∙ ap (λ u. words_then (word_lines g u n 0 g.operations (words_in n run.cycles)) names m.cycles (end_read g e) None) after.table
-        ∙ ap (λ k. words_then (lines_of run.cycles) names k (end_read g e) None) after.cycles
-        ∙ words-same-by (lines_of run.cycles) names (length (outcome_is run.cycles).rows) (end_read g e) left.refusal (λ c. none (complete-is g e there c))
-
-    -- which is the last part of what is printed of the run
-    pub last-part-is : traced_text m names n e
-        ≡ last_part (each_word g (table_code t) n) names (run_read (words_job name n g (table_code t) left) g run.cycles) (end_read g e) left.refusal
-    last-part-is = text-is
-        ∙ sym (last-words (table_code t) n names (outcome_is run.cycles).rows (words_in n run.cycles) g (end_read g (outcome_is run.cycles).end)
-        (end_read g e) left.refusal)
+  -- which is the last part of what is printed of the run
+  pub last-part-is : traced_text m names n e
+      ≡ last_part (each_word g (table_code t) n) names (run_read (words_job name n g (table_code t) left) g cycles) (end_read g e) left.refusal
+  last-part-is = text-is
+      ∙ sym (last-words (table_code t) n names outcome_is.rows (words_in n cycles) g (end_read g outcome_is.end) (end_read g e) left.refusal)

@@ -1,8 +1,7 @@
 -- EndLines: what is printed last of a run of so many cycles.
-use Rattle.std.specs.Prelude.{ℕ, ℤ, List, [], ◌++◌, slice_index_or, Option, Some, None, codes}
+use Rattle.std.specs.Prelude.{ℕ, List, [], ◌++◌, slice_index_or, Option, Some, None, codes}
 use Rattle.input_rows.specs.declared.fault.RowFault.{RowFault}
 use Rattle.run_report.specs.Lines.{end_text, stop_text, refused_text}
-use Rattle.run_report.specs.SummaryLine.{summary_text}
 use Rattle.command_meaning.specs.Reports.{RunEnd, complete, stopped, refused}
 
 -- the last line of a run of so many cycles: its stop, the output that is refused, or its end; none where the next row is refused
@@ -18,11 +17,3 @@ words_then lines names n complete None = lines ++ codes "released\n"
 words_then lines names n complete (Some why) = []
 words_then lines names n (stopped s) behind = lines ++ stop_text n s
 words_then lines names n (refused output found wanted) behind = lines ++ refused_text n (slice_index_or names output []) found wanted
-
--- The summary of a made program's run of so many cycles, with the last value of its output and the sum of all; the run's last line
--- where it ended early, and nothing where the next row is refused.
-abbrev pub summary_then : ℕ → List (List ℕ) → ℕ → ℤ → ℤ → RunEnd → Option RowFault → List ℕ
-summary_then number names n last sum complete None = summary_text number n last sum
-summary_then number names n last sum complete (Some why) = []
-summary_then number names n last sum (stopped s) behind = stop_text n s
-summary_then number names n last sum (refused output found wanted) behind = refused_text n (slice_index_or names output []) found wanted

@@ -1,12 +1,13 @@
 pub mod ChannelsRun
 pub mod Compile
+pub mod Demo
 pub mod EndLines
 pub mod Faults
 pub mod Inject
 pub mod MachineRun
 pub mod PlainRun
 pub mod Reach
+pub mod Shown
 pub mod StaleSeen
-pub mod SummaryRun
 pub mod Tasks
 pub mod TraceRun

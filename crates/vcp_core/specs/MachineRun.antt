@@ -20,10 +20,11 @@ use Rattle.command_meaning.specs.Answer.{Answer, Subject}
 use Rattle.command_meaning.specs.GraphsOf.{MayRun}
 use Rattle.command_meaning.specs.Performing.{Still}
 use Rattle.command_meaning.specs.Reports.{end_read, subject_outputs, run_status, told_of}
-use Rattle.vcp_core.specs.EndLines.{last_text}
 use Rattle.command_meaning.specs.RunKind.{Job, RunDone, RunLeft}
 use Rattle.machine_run.specs.Moments.{Moment}
+use Rattle.machine_run.specs.Stops.{GrowsToStop}
 use Rattle.vcp_core.specs.declared.ending.Ending.{Ending}
+use Rattle.vcp_core.specs.declared.ending.Ending.TheVariants as end
 use Rattle.vcp_core.specs.Reach.{end_status}
 
 -- To run a graph with this table on the rows that are left is to run this with the numbers of a code: the graph may be run, the
@@ -53,9 +54,13 @@ IsThere g cycle.Released = Unit {0}
 IsThere g (cycle.Stopped k why) = k < length g.operations
 IsThere g (cycle.Refused output found wanted) = output < length g.outputs
 
--- the last line of a graph's run of so many cycles was printed, with outputs of these names; or a part of it, where the sink failed
-abbrev pub PrintsEnd : Lists → List (List ℕ) → ℕ → CycleEnd → SinkSeen → SinkSeen → Result Ending Failed → Type 0
-PrintsEnd g names n e before after (Ok end) = Appends before.written after.written (last_text names n (end_read g e) None) ×
-    (end_status end ≡ run_status (end_read g e) None)
-PrintsEnd g names n e before after (Err why) = Rose before.faults after.faults × AppendsPart before.written after.written
-    (last_text names n (end_read g e) None)
+-- this was printed last of a graph's run that ended so; or a part of it, where the sink failed
+abbrev pub PrintsLast : List ℕ → Lists → CycleEnd → SinkSeen → SinkSeen → Result Ending Failed → Type 0
+PrintsLast text g e before after (Ok end) = Appends before.written after.written text × (end_status end ≡ run_status (end_read g e) None)
+PrintsLast text g e before after (Err why) = Rose before.faults after.faults × AppendsPart before.written after.written text
+
+-- a run that ended so had cause: a write failed, an answer was wrong, or the log grew to a stop
+pub record HasCauses (before after : Moment) (result : Result Ending RunFault) : Type 0 where
+  pub write : result ≡ Err run.Write → Rose before.out.faults after.out.faults
+  pub refused : result ≡ Ok end.Refused → Rose before.unit.wrong after.unit.wrong
+  pub stopped : result ≡ Ok end.Stopped → GrowsToStop before.unit.log after.unit.log

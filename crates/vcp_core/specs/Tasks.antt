@@ -17,21 +17,18 @@ use Rattle.vcp_typed.specs.Size.{size}
 use Rattle.vcp_typed.specs.SourceRun.{Program}
 use Rattle.weight_audit.specs.Audit.{most_weights, weights_up_to}
 use Rattle.audit_report.specs.AuditText.{AuditOf}
-use Rattle.program_maker.specs.MadeRows.{made_rows}
-use Rattle.program_maker.specs.MadeSource.{made_source}
-use Rattle.vcp_words.specs.Forms.{Form, Rows, Code, default_code, check, format, plain, run, il, compile, list, exec, trace, widen, audit, inject, pair, pairs, wire, demo}
+use Rattle.vcp_words.specs.Forms.{Form, Rows, Code, check, format, plain, run, il, compile, list, exec, trace, widen, audit, inject, pair, pairs, wire, demo}
 use Rattle.vcp_words.specs.Tables.{rows_name}
 use Rattle.vcp_inputs.specs.declared.images.Image.{Image}
 use Rattle.vcp_inputs.specs.declared.refusal.Refusal.TheVariants as refusal
-use Rattle.vcp_inputs.specs.declared.rows.RowsSource.TheVariants as origin
-use Rattle.vcp_inputs.specs.RowsOutcome.{source_outcome}
 use Rattle.command_meaning.specs.Answer.{Answer, Subject, source, image}
-use Rattle.command_meaning.specs.FileTasks.{ParsedFile, TypedFile, ListingFile, ImageFile, ScriptFile, WireFile, TakenRows, OnRows}
+use Rattle.command_meaning.specs.FileTasks.{ParsedFile, TypedFile, ListingFile, ImageFile, ScriptFile, WireFile, TakenRows}
 use Rattle.command_meaning.specs.Kinds.{Task, answers, compiles, runs, judges, compares, holds, wires, prints, refusal_task}
 use Rattle.command_meaning.specs.PairKind.{PairJob}
-use Rattle.command_meaning.specs.Printing.{every_row, each_word, summed_up, no_words, cycle_words, told_answer}
+use Rattle.command_meaning.specs.Printing.{every_row, each_word, no_words, cycle_words, told_answer}
 use Rattle.command_meaning.specs.Reports.{end_told, subject_outputs, output_names}
 use Rattle.command_meaning.specs.RunKind.{Job}
+use Rattle.vcp_core.specs.Demo.{DemoTask}
 
 -- ---- what single commands print and name, and their limits
 
@@ -55,14 +52,6 @@ widened g = record g { profile = profile.Wide }
 -- the code of a table
 abbrev pub table_code : Numbers → Code
 table_code t = record { seed = t.seed; step = t.step }
-
--- the name by which lines tell the source and the rows
-abbrev pub made_name : List ℕ
-made_name = codes "demo"
-
--- the made source, under any name
-abbrev pub made_held : ℕ → Held
-made_held number = λ name. Some (made_source number)
 
 -- the most cycles times operations of a run under faults
 abbrev pub most_trace : ℕ
@@ -109,17 +98,6 @@ abbrev pub words_job : List ℕ → ℕ → Lists → Code → RowsLeft → Job
 words_job name n g code left =
     record { subject = image g; rows = left; rows_name = name; code = code; printing = each_word g code n; words = cycle_words g code n }
 
--- one of which the line is printed that sums up the made program of a number
-abbrev pub summary_job : ℕ → Program → RowsLeft → Job
-summary_job number p left = record {
-  subject = source p;
-  rows = left;
-  rows_name = made_name;
-  code = default_code;
-  printing = summed_up number;
-  words = no_words;
-}
-
 -- the answer of a program's own run, without code or unit
 abbrev pub plain_answer : List ℕ → Program → RowsLeft → Answer
 plain_answer name p left =
@@ -148,13 +126,6 @@ TraceTask m rows n held task =
     ImageFile
     (λ i. TakenRows (λ left x. x ≡ runs (words_job (rows_name rows) n i.graph (table_code i.table) (through n left))) rows held (graph_columns i.graph))
     m held task
-
--- the made source of a number, on its made rows; no file is read
-abbrev pub DemoTask : ℕ → Task → Type 0
-DemoTask number task =
-    TypedFile
-    (λ t. OnRows made_name (λ left x. x ≡ runs (summary_job number t left)) (source_outcome (origin.File (made_rows number)) (input_columns t.slots)))
-    made_name (made_held number) task
 
 -- ---- faults
 

@@ -1,17 +1,10 @@
 -- TraceRun: what is printed of a machine's run of which the words of one cycle are shown.
-use Rattle.std.specs.Prelude.{ℕ, ◌≡◌, cond, nat_le, List, [], None, Result, Ok, Err, ℤ}
-use Rattle.std.specs.Io.KnownBytes.{Appends}
-use Rattle.vcp_outside.specs.Counts.{Rose}
-use Rattle.vcp_outside.specs.Seen.{SinkSeen}
-use Rattle.vcp_outside.specs.Written.{AppendsPart}
-use Rattle.vcp_outside.specs.declared.failed.Failed.{Failed}
+use Rattle.std.specs.Prelude.{ℕ, cond, nat_le, List, [], None, ℤ}
 use Rattle.coded_machine.specs.declared.cycle_end.CycleEnd.{CycleEnd}
 use Rattle.coded_machine.specs.State.{State}
 use Rattle.command_meaning.specs.CycleWords.{word_lines, words_among}
-use Rattle.command_meaning.specs.Reports.{end_read, run_status}
+use Rattle.command_meaning.specs.Reports.{end_read}
 use Rattle.vcp_core.specs.EndLines.{words_then}
-use Rattle.vcp_core.specs.declared.ending.Ending.{Ending}
-use Rattle.vcp_core.specs.Reach.{end_status}
 
 -- the words that a machine's operations answered in cycle n, where it was begun
 abbrev pub answered_words : State → ℕ → List ℤ
@@ -20,9 +13,3 @@ answered_words m n = cond (nat_le n m.cycles) (words_among m.answers) []
 -- what is shown of a machine's run that came to this end, with outputs of these names
 abbrev pub traced_text : State → List (List ℕ) → ℕ → CycleEnd → List ℕ
 traced_text m names n e = words_then (word_lines m.graph m.table n 0 m.graph.operations (answered_words m n)) names m.cycles (end_read m.graph e) None
-
--- it was printed; or a part of it, where the sink failed
-abbrev pub PrintsWords : State → List (List ℕ) → ℕ → CycleEnd → SinkSeen → SinkSeen → Result Ending Failed → Type 0
-PrintsWords m names n e before after (Ok end) = Appends before.written after.written (traced_text m names n e) ×
-    (end_status end ≡ run_status (end_read m.graph e) None)
-PrintsWords m names n e before after (Err why) = Rose before.faults after.faults × AppendsPart before.written after.written (traced_text m names n e)

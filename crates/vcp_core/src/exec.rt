@@ -8,9 +8,10 @@ ghost use Rattle.vcp_core.specs.Tasks.{ExecTask};
 ghost use Rattle.vcp_core.specs.Reach.{told_line, told_status};
 
 use crate::ending::{Ending, run_ended};
+use crate::every_row::{EveryRow, RowLines};
 use crate::fault::Fault;
 use crate::loading::{graph_columns, rows_name};
-use crate::running::run_graph;
+use crate::printed::run_printed;
 use coded_unit::Unit;
 use std::alloc::Global;
 use vcp_base::Text;
@@ -52,7 +53,16 @@ pub fn exec_command<'a, F: Files, U: Unit, O: Sink>(
     match inputs.open(alloc, &columns) {
         Ok(mut rows) => run_ended(
             name,
-            run_graph(alloc, &loaded.graph, &loaded.table, &mut rows, unit, out),
+            run_printed(
+                alloc,
+                &loaded.graph,
+                &loaded.table,
+                &mut rows,
+                unit,
+                out,
+                &EveryRow,
+                &mut RowLines,
+            ),
         ),
         Err(input) => Err(Fault::Input { name, input }),
     }

@@ -8,9 +8,10 @@ ghost use Rattle.vcp_core.specs.Tasks.{IlTask};
 ghost use Rattle.vcp_core.specs.Reach.{told_line, told_status};
 
 use crate::ending::{Ending, run_ended};
+use crate::every_row::{EveryRow, RowLines};
 use crate::fault::Fault;
 use crate::loading::{input_columns, rows_name};
-use crate::running::run_program;
+use crate::printed::run_program;
 use coded_unit::Unit;
 use std::alloc::Global;
 use vcp_base::Text;
@@ -53,7 +54,16 @@ pub fn il_command<'a, F: Files, U: Unit, O: Sink>(
     match inputs.open(alloc, &columns) {
         Ok(mut rows) => run_ended(
             name,
-            run_program(alloc, &program, code, &mut rows, unit, out),
+            run_program(
+                alloc,
+                &program,
+                code,
+                &mut rows,
+                unit,
+                out,
+                &EveryRow,
+                &mut RowLines,
+            ),
         ),
         Err(input) => Err(Fault::Input { name, input }),
     }

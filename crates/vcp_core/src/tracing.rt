@@ -1,27 +1,23 @@
-//! The words of one cycle of a graph's run on rows, on a unit.
+//! Of a run, the words of one cycle are printed.
 
-ghost use Rattle.std.specs.Prelude.{◌≡◌, ◌+◌, ◌<◌, ◌≤◌, ℕ, List, [], None, Ok, Err, IfSome, length, map};
+ghost use Rattle.std.specs.Prelude.{◌≡◌, ◌+◌, ◌⊎◌, ◌<◌, ◌≤◌, ℕ, List, [], None, IfSome, length};
 ghost use Rattle.vcp_base.specs.Limits.{most_cycles};
-ghost use Rattle.vcp_outside.specs.Counts.{Rose};
 ghost use Rattle.vcp_outside.specs.Written.{WritesTo};
 ghost use Rattle.input_rows.specs.RowsOf.{IsOfRecord};
 ghost use Rattle.signature_table.specs.Signatures.{table_of};
 ghost use Rattle.coded_machine.specs.Calls.{Whole};
-ghost use Rattle.machine_run.specs.Stops.{GrowsToStop};
 ghost use Rattle.command_meaning.specs.CycleWords.{word_lines, words_among};
 ghost use Rattle.machine_run.specs.Moments.{moment};
 ghost use Rattle.vcp_core.specs.Tasks.{words_job, table_code};
-ghost use Rattle.vcp_core.specs.MachineRun.{IsThere, RunsTo};
-ghost use Rattle.vcp_core.specs.TraceRun.{PrintsWords, answered_words};
-ghost use Rattle.vcp_core.specs.declared.ending.Ending.TheVariants as end;
-ghost use Rattle.machine_run.specs.declared.fault.RunFault.TheVariants as fault;
+ghost use Rattle.vcp_core.specs.MachineRun.{HasCauses, RunsTo};
+ghost use Rattle.vcp_core.specs.TraceRun.{answered_words, traced_text};
 
 use crate::ending::Ending;
-use crate::running::print_end;
+use crate::printed::{Printed, print_end, run_printed};
 use coded_machine::{CycleEnd, Machine, right_answers_stand_for_values};
 use coded_unit::Unit;
 use input_rows::Rows;
-use machine_run::{ReleasedRows, RunFault, run_rows};
+use machine_run::{ReleasedRows, RunFault};
 use op_graph::Graph;
 use run_report::trace_line;
 use signature_table::Table;
@@ -43,12 +39,52 @@ impl ReleasedRows for NoRows {
     }
 }
 
+/// The words of a cycle, where the run began it, and then that it was released, or the line of the run's
+/// end.
+#[derive(Drop)]
+struct EachWord {
+    /// The cycle, counted from 0.
+    cycle: u32,
+}
+
+impl Printed<NoRows> for EachWord {
+    ghost IsSound = { λ words. words.cycle < most_cycles };
+
+    ghost first = { λ _ _. [] };
+
+    ghost last = { λ words _ m names e. traced_text m names words.cycle e };
+
+    fn print_first<O: Sink>(&self, _out: &mut O, _outputs: &Columns) -> Result<(), Failed> {
+        Ok(())
+    }
+
+    fn print_last<O: Sink>(
+        &self,
+        out: &mut O,
+        machine: &Machine<'_>,
+        outputs: &Columns,
+        _rows: &NoRows,
+        end: &CycleEnd,
+    ) -> Result<Ending, Failed> {
+        print_begun(out, machine, self.cycle)?;
+        match end {
+            CycleEnd::Released => {
+                write_all(out, b"released\n")?;
+                Ok(Ending::Done)
+            }
+            CycleEnd::Stopped { .. } | CycleEnd::Refused { .. } => {
+                print_end(out, machine.graph(), outputs, machine.cycles(), end)
+            }
+        }
+    }
+}
+
 /// Prints the words that a machine's operations answered in its last cycle, which was this one: a line
 /// for each, in order of operation. It takes no memory.
 fn print_words<O: Sink>(out: &mut O, machine: &Machine<'_>, cycle: u32) -> Result<(), Failed>
     requires cycle { cycle < most_cycles }
     requires table { length machine.now.table.corrections ≡ length machine.now.graph.operations }
-    requires whole { Whole machine.now.graph.operations machine.now.answers }
+    requires whole { (machine.now.answers ≡ []) ⊎ Whole machine.now.graph.operations machine.now.answers }
     ensures { WritesTo (O.seen out.old) (O.seen out.new)
         (word_lines machine.now.graph machine.now.table cycle 0 machine.now.graph.operations (words_among machine.now.answers)) result }
 {
@@ -67,7 +103,7 @@ fn print_words<O: Sink>(out: &mut O, machine: &Machine<'_>, cycle: u32) -> Resul
 fn print_begun<O: Sink>(out: &mut O, machine: &Machine<'_>, cycle: u32) -> Result<(), Failed>
     requires cycle { cycle < most_cycles }
     requires table { length machine.now.table.corrections ≡ length machine.now.graph.operations }
-    requires whole { cycle ≤ machine.now.cycles → Whole machine.now.graph.operations machine.now.answers }
+    requires whole { (machine.now.answers ≡ []) ⊎ Whole machine.now.graph.operations machine.now.answers }
     ensures { WritesTo (O.seen out.old) (O.seen out.new)
         (word_lines machine.now.graph machine.now.table cycle 0 machine.now.graph.operations (answered_words machine.now cycle)) result }
 {
@@ -75,35 +111,6 @@ fn print_begun<O: Sink>(out: &mut O, machine: &Machine<'_>, cycle: u32) -> Resul
         return print_words(out, machine, cycle);
     }
     Ok(())
-}
-
-/// Prints what is shown of a run that came to its end: the words of this cycle, where it was begun, and
-/// that it was released, or the line of the run's end.
-fn print_traced<O: Sink>(
-    out: &mut O,
-    machine: &Machine<'_>,
-    outputs: &Columns,
-    cycle: u32,
-    end: &CycleEnd,
-) -> Result<Ending, Failed>
-    requires cycle { cycle < most_cycles }
-    requires table { length machine.now.table.corrections ≡ length machine.now.graph.operations }
-    requires whole { cycle ≤ machine.now.cycles → Whole machine.now.graph.operations machine.now.answers }
-    requires there { IsThere machine.now.graph end.now }
-    requires outputs { length outputs.now ≡ length machine.now.graph.outputs }
-    ensures { PrintsWords machine.now (map (λ c. c.name) outputs.now) cycle end.now
-        (O.seen out.old) (O.seen out.new) result }
-{
-    print_begun(out, machine, cycle)?;
-    match end {
-        CycleEnd::Released => {
-            write_all(out, b"released\n")?;
-            Ok(Ending::Done)
-        }
-        CycleEnd::Stopped { .. } | CycleEnd::Refused { .. } => {
-            print_end(out, machine.graph(), outputs, machine.cycles(), end)
-        }
-    }
 }
 
 /// Runs the operations of a graph, whose table this is, on the rows through a cycle, on the unit, and
@@ -126,16 +133,20 @@ pub fn run_words<U: Unit, O: Sink>(
     requires behind { IfSome rows.old.refusal IsOfRecord }
     ensures ran { (name : List ℕ) → RunsTo (words_job name cycle graph.now (table_code table.now) rows.old)
         (moment (U.seen unit.old) (O.seen out.old)) (moment (U.seen unit.new) (O.seen out.new)) result }
-    ensures write { result ≡ Err fault.Write → Rose (O.seen out.old).faults (O.seen out.new).faults }
-    ensures refused { result ≡ Ok end.Refused → Rose (U.seen unit.old).wrong (U.seen unit.new).wrong }
-    ensures stopped { result ≡ Ok end.Stopped → GrowsToStop (U.seen unit.old).log (U.seen unit.new).log }
+    ensures causes { HasCauses (moment (U.seen unit.old) (O.seen out.old)) (moment (U.seen unit.new) (O.seen out.new)) result }
 {
     // So the words of an honest unit are those that are meant.
     right_answers_stand_for_values();
     let _rules = graph.len();
     let _ranges = table.step();
-    let mut machine = Machine::new(alloc, graph, table)?;
-    let outputs = graph.output_columns(alloc)?;
-    let end = run_rows(alloc, &mut machine, rows, unit, out, &mut NoRows)?;
-    Ok(print_traced(out, &machine, &outputs, cycle, &end)?)
+    run_printed(
+        alloc,
+        graph,
+        table,
+        rows,
+        unit,
+        out,
+        &EachWord { cycle },
+        &mut NoRows,
+    )
 }

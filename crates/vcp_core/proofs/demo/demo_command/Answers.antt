@@ -2,8 +2,8 @@ use Rattle.std.proofs.Common.{ap, inl, inr, refl, Err}
 use Rattle.std.proofs.lemmas.Result.{err_from_is_err_and}
 use Rattle.vcp_words.specs.Forms.{demo}
 use Rattle.command_meaning.specs.Abouts.{about}
-use Rattle.vcp_core.specs.Tasks.{DemoTask, made_name}
-use Rattle.vcp_core.proofs.DemoKinds.{source_lost}
+use Rattle.vcp_core.specs.Demo.{DemoTask, made_name}
+use Rattle.vcp_core.proofs.DemoRun.{source_lost}
 use Rattle.vcp_core.proofs.Performing.{input_performs, still, wanted_performs}
 use Rattle.vcp_core.proofs.demo.demo_command.Goals as goal
 

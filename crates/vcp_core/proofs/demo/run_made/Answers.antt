@@ -6,16 +6,18 @@ use Rattle.vcp_typed.specs.Fitting.{input_columns}
 use Rattle.vcp_words.specs.Forms.{demo}
 use Rattle.command_meaning.specs.Abouts.{about}
 use Rattle.machine_run.specs.Moments.{moment}
-use Rattle.vcp_core.specs.Tasks.{made_name, summary_job, DemoTask}
+use Rattle.command_meaning.specs.Printing.{no_words}
+use Rattle.vcp_core.specs.declared.demo.Sums.{Sums}
+use Rattle.vcp_core.specs.Demo.{made_name, summary_job, summed_up, DemoTask}
 use Rattle.vcp_core.specs.MachineRun.{RunsTo}
-use Rattle.vcp_core.proofs.DemoKinds.{opened_comes, rows_lost}
+use Rattle.vcp_core.proofs.DemoRun.{no-sums, opened_comes, rows_lost, summed-shown}
 use Rattle.vcp_core.proofs.Performing.{input_performs, ran, run_ends, run_performs, still, wanted_performs}
 use Rattle.vcp_core.proofs.Loaded.{opens-as}
 use Rattle.vcp_core.proofs.PlainNames.{types-of-inputs}
 use Rattle.vcp_core.proofs.demo.run_made.Goals as goal
 
-pub run_summed-requires-clause-types : goal.run_summed-requires-clause-types
-run_summed-requires-clause-types g c = c.in-Ok.ensures.types ∙ (ap types_of c.in_ok-columns.ensures.columns ∙ types-of-inputs c.args.program.now.slots)
+pub run_program-requires-clause-types : goal.run_program-requires-clause-types
+run_program-requires-clause-types g c = c.in-Ok.ensures.types ∙ (ap types_of c.in_ok-columns.ensures.columns ∙ types-of-inputs c.args.program.now.slots)
 
 pub returns-in_err-columns : goal.returns-in_err-columns
 returns-in_err-columns g c files =
@@ -29,16 +31,18 @@ returns-in-Ok g c files =
     let program = c.args.program.now in
     let j = summary_job number program c.in-Ok.rows in
     let before = moment (g.U.Unit.seen c.args.unit.now) (g.O.Sink.seen c.args.out.now) in
-    let after = moment (g.U.Unit.seen c.run_summed.new.unit) (g.O.Sink.seen c.run_summed.new.out) in
-    let ended : RunsTo j before after c.run_summed.result = c.run_summed.ensures.ran in
+    let after = moment (g.U.Unit.seen c.run_program.new.unit) (g.O.Sink.seen c.run_program.new.out) in
+    let ended : RunsTo j before after c.run_program.result = c.run_program.ensures.ran made_name (summed_up number) no_words
+    (λ h. summed-shown _ _ (λ (x : Sums). x.last) (λ (x : Sums). x.sum) (λ now rows kept. kept) no-sums number program c.in-Ok.rows h c.in-Ok.ensures.few) in
     let opens = opens-as c.args.rows (made_rows number) c.in_ok-columns.columns (input_columns program.slots) 0 0 (Ok c.in-Ok.rows) c.requires.rows
     c.in_ok-columns.ensures.columns (c.in-Ok.ensures.opens 0 0) in
     rw (c.run_ended.ensures.line, c.run_ended.ensures.status)
-    (run_performs (about (demo number)) (λ h. DemoTask number) files files refl (λ none. refl) (inr (inl refl)) before after made_name c.run_summed.result
+    (run_performs (about (demo number)) (λ h. DemoTask number) files files refl (λ none. refl) (inr (inl refl)) before after made_name c.run_program.result
     (λ e is. run_ends e)
-    (λ h may. ran (about (demo number)) files files before after (DemoTask number) j c.run_summed.result refl
-    (opened_comes number program c.in-Ok.rows 0 0 (c.requires.typed 0) opens) c.run_summed.ensures.write ended)
-    (λ some. absurd (some refl)) (λ no. absurd cc) (λ calls. c.run_summed.ensures.stopped) c.run_summed.ensures.refused c.run_summed.ensures.write)
+    (λ h may. ran (about (demo number)) files files before after (DemoTask number) j c.run_program.result refl
+    (opened_comes number program c.in-Ok.rows 0 0 (c.requires.typed 0) opens) c.run_program.ensures.causes.write ended)
+    (λ some. absurd (some refl)) (λ no. absurd cc) (λ calls. c.run_program.ensures.causes.stopped) c.run_program.ensures.causes.refused
+    c.run_program.ensures.causes.write)
 
 pub returns : goal.returns
 returns g c files =

@@ -8,7 +8,10 @@ use Rattle.command_meaning.specs.Abouts.{about, image_word}
 use Rattle.command_meaning.specs.FileTasks.{TakenRows}
 use Rattle.command_meaning.specs.Kinds.{runs as runs_to}
 use Rattle.command_meaning.specs.Answer.{image}
+use Rattle.command_meaning.specs.Printing.{every_row, no_words}
+use Rattle.command_meaning.specs.Reports.{subject_outputs}
 use Rattle.vcp_core.specs.MachineRun.{RunsTo}
+use Rattle.vcp_core.proofs.PrintedRun.{rows-shown}
 use Rattle.vcp_core.specs.Tasks.{table_code, graph_columns, rows_job, ExecTask}
 use Rattle.vcp_core.proofs.Facts.{if_some_weaker}
 use Rattle.vcp_core.proofs.ImageLoaded.{image-carried, image_not_bytes, table-is-of, types-width}
@@ -16,11 +19,11 @@ use Rattle.vcp_core.proofs.LoadedRows.{opened_comes, rows_unloaded, rows_unopene
 use Rattle.vcp_core.proofs.Performing.{files_run, files_wanted, quiet_lost, ran, run_ends}
 use Rattle.vcp_core.proofs.exec.exec_command.Goals as goal
 
-pub run_graph-requires-clause-table : goal.run_graph-requires-clause-table
-run_graph-requires-clause-table g c = table-is-of c.in-Ok.loaded.table c.in-Ok.loaded.graph c.in-Ok.ensures.table
+pub run_printed-requires-clause-table : goal.run_printed-requires-clause-table
+run_printed-requires-clause-table g c = table-is-of c.in-Ok.loaded.table c.in-Ok.loaded.graph c.in-Ok.ensures.table
 
-pub run_graph-requires-clause-width : goal.run_graph-requires-clause-width
-run_graph-requires-clause-width g c =
+pub run_printed-requires-clause-width : goal.run_printed-requires-clause-width
+run_printed-requires-clause-width g c =
     types-width c.in-Ok.loaded.graph c.in_ok-columns.columns c.in-Ok-open.rows.types c.in-Ok-open.ensures.types c.in_ok-columns.ensures.columns
 
 -- ---- the file isn't taken, or memory is wanted
@@ -95,21 +98,22 @@ returns-in-Ok-open g c =
     let later = g.F.Files.seen c.load_rows.new.files in
     let j = rows_job (rows_name rows) (table_code c.in-Ok.loaded.table) (image c.in-Ok.loaded.graph) c.in-Ok-open.rows in
     let before = moment (g.U.Unit.seen c.args.unit.now) (g.O.Sink.seen c.args.out.now) in
-    let after = moment (g.U.Unit.seen c.run_graph.new.unit) (g.O.Sink.seen c.run_graph.new.out) in
-    let ended : RunsTo j before after c.run_graph.result = c.run_graph.ensures.ran (rows_name rows) (image c.in-Ok.loaded.graph)
-    (table_code c.in-Ok.loaded.table)
-    (image-carried c.in-Ok.loaded.graph c.in-Ok.loaded.table c.in-Ok-open.rows c.in-Ok.ensures.table) in
+    let after = moment (g.U.Unit.seen c.run_printed.new.unit) (g.O.Sink.seen c.run_printed.new.out) in
+    let ended : RunsTo j before after c.run_printed.result = c.run_printed.ensures.ran (image c.in-Ok.loaded.graph)
+    (table_code c.in-Ok.loaded.table) (rows_name rows) (every_row (subject_outputs (image c.in-Ok.loaded.graph))) no_words
+    (image-carried c.in-Ok.loaded.graph c.in-Ok.loaded.table c.in-Ok-open.rows c.in-Ok.ensures.table)
+    (rows-shown _ _ (image c.in-Ok.loaded.graph) (table_code c.in-Ok.loaded.table) c.in-Ok-open.rows (rows_name rows) c.in-Ok.loaded.graph) in
     rw (c.run_ended.ensures.line, c.run_ended.ensures.status, c.rows_name-name.ensures)
     (files_run (about f) (ExecTask m rows) files later (λ none. cc) (c.load_rows.ensures.held ∙ c.load_image.ensures.held) (inr (inl refl)) before after
     (rows_name rows)
-    c.run_graph.result (λ e is. run_ends e)
+    c.run_printed.result (λ e is. run_ends e)
     (if_some_weaker files.held _ _
-    (λ h comes. ran (about f) files later before after (ExecTask m rows h) j c.run_graph.result refl comes c.run_graph.ensures.write ended)
+    (λ h comes. ran (about f) files later before after (ExecTask m rows h) j c.run_printed.result refl comes c.run_printed.ensures.causes.write ended)
     (opened_comes ImageOf NotImage (λ i. graph_columns i.graph) (about f) (image_word m) rows (λ none. cc) (inr (inl refl)) (λ w among. inr among)
     (λ h i left x. x ≡ runs_to (rows_job (rows_name rows) (table_code i.table) (image i.graph) left))
     files mid later c.in-Ok.loaded c.in_ok-columns.columns
     c.in_ok-columns.ensures.columns c.load_image.ensures.held c.load_rows.ensures.held c.in-Ok.ensures.loads
     c.in-Ok-load_rows.inputs (c.in-Ok-load_rows.ensures.ended c.in-Ok.ensures.ended) c.in-Ok-load_rows.ensures.loads c.in-Ok-open.rows (λ h. runs_to j)
     (c.in-Ok-open.ensures.opens 0 0) (λ h. refl)))
-    (c.in-Ok-load_rows.ensures.ended c.in-Ok.ensures.ended) (λ no. absurd cc) (λ calls. c.run_graph.ensures.stopped) c.run_graph.ensures.refused
-    c.run_graph.ensures.write)
+    (c.in-Ok-load_rows.ensures.ended c.in-Ok.ensures.ended) (λ no. absurd cc) (λ calls. c.run_printed.ensures.causes.stopped)
+    c.run_printed.ensures.causes.refused c.run_printed.ensures.causes.write)

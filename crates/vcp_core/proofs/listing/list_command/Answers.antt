@@ -2,7 +2,7 @@ use Rattle.std.proofs.Common.{◌≡◌, inl, inr, refl, ap, Err}
 use Rattle.std.proofs.lemmas.Result.{err_from_is_err_and}
 use Rattle.vcp_words.specs.Forms.{list}
 use Rattle.vcp_core.proofs.Facts.{if_some_weaker}
-use Rattle.vcp_core.proofs.ImageLoaded.{image_not_bytes, table-long}
+use Rattle.vcp_core.proofs.ImageLoaded.{corrections-long, image_not_bytes, table-is-of}
 use Rattle.command_meaning.specs.Abouts.{about, image_word}
 use Rattle.command_meaning.specs.Answer.{printed as printed_answer}
 use Rattle.command_meaning.specs.Kinds.{prints}
@@ -13,7 +13,8 @@ use Rattle.vcp_inputs.specs.Images.{ImageOf, NotImage}
 use Rattle.vcp_core.proofs.listing.list_command.Goals as goal
 
 pub list_operations-requires : goal.list_operations-requires
-list_operations-requires g c = table-long c.in-Ok.loaded.table c.in-Ok.loaded.graph c.in-Ok.ensures.table
+list_operations-requires g c =
+    corrections-long c.in-Ok.loaded.table c.in-Ok.loaded.graph (table-is-of c.in-Ok.loaded.table c.in-Ok.loaded.graph c.in-Ok.ensures.table)
 
 pub returns-in-Err : goal.returns-in-Err
 returns-in-Err g c unit =

@@ -10,7 +10,10 @@ use Rattle.command_meaning.specs.Abouts.{about, source_word}
 use Rattle.command_meaning.specs.FileTasks.{TakenRows}
 use Rattle.command_meaning.specs.Answer.{source}
 use Rattle.command_meaning.specs.Kinds.{runs as runs_to}
+use Rattle.command_meaning.specs.Printing.{every_row, no_words}
+use Rattle.command_meaning.specs.Reports.{subject_outputs}
 use Rattle.vcp_core.specs.MachineRun.{RunsTo}
+use Rattle.vcp_core.proofs.PrintedRun.{rows-shown}
 use Rattle.vcp_core.specs.Tasks.{rows_job, RunTask}
 use Rattle.vcp_core.proofs.Facts.{if_some_weaker}
 use Rattle.vcp_core.proofs.Loaded.{typed_not_bytes}
@@ -101,18 +104,20 @@ returns-in-Ok-open g c =
     let j = rows_job (rows_name rows) code (source c.in-Ok.program) c.in-Ok-open.rows in
     let before = moment (g.U.Unit.seen c.args.unit.now) (g.O.Sink.seen c.args.out.now) in
     let after = moment (g.U.Unit.seen c.run_program.new.unit) (g.O.Sink.seen c.run_program.new.out) in
-    let ended : RunsTo j before after c.run_program.result = c.run_program.ensures.ran (rows_name rows) in
+    let ended : RunsTo j before after c.run_program.result = c.run_program.ensures.ran (rows_name rows)
+    (every_row (subject_outputs (source c.in-Ok.program))) no_words
+    (rows-shown _ _ (source c.in-Ok.program) code c.in-Ok-open.rows (rows_name rows)) in
     rw (c.run_ended.ensures.line, c.run_ended.ensures.status, c.rows_name-name.ensures)
     (files_run (about f) (RunTask p rows code) files later (λ none. cc) (c.load_rows.ensures.held ∙ c.load_typed.ensures.held) (inr (inl refl)) before
     after (rows_name rows)
     c.run_program.result (λ e is. run_ends e)
     (if_some_weaker files.held _ _
-    (λ h comes. ran (about f) files later before after (RunTask p rows code h) j c.run_program.result refl comes c.run_program.ensures.write ended)
+    (λ h comes. ran (about f) files later before after (RunTask p rows code h) j c.run_program.result refl comes c.run_program.ensures.causes.write ended)
     (opened_comes TypedOf NotTyped (λ t. input_columns t.slots) (about f) (source_word p) rows (λ none. cc) (inr (inl refl)) (λ w among. inr among)
     (λ h t left x. x ≡ runs_to (rows_job (rows_name rows) code (source t) left))
     files mid later c.in-Ok.program c.in_ok-columns.columns
     c.in_ok-columns.ensures.columns c.load_typed.ensures.held c.load_rows.ensures.held c.in-Ok.ensures.loads
     c.in-Ok-load_rows.inputs (c.in-Ok-load_rows.ensures.ended c.in-Ok.ensures.ended) c.in-Ok-load_rows.ensures.loads c.in-Ok-open.rows (λ h. runs_to j)
     (c.in-Ok-open.ensures.opens 0 0) (λ h. refl)))
-    (c.in-Ok-load_rows.ensures.ended c.in-Ok.ensures.ended) (λ no. absurd cc) (λ calls. c.run_program.ensures.stopped) c.run_program.ensures.refused
-    c.run_program.ensures.write)
+    (c.in-Ok-load_rows.ensures.ended c.in-Ok.ensures.ended) (λ no. absurd cc) (λ calls. c.run_program.ensures.causes.stopped)
+    c.run_program.ensures.causes.refused c.run_program.ensures.causes.write)

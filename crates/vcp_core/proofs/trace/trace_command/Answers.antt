@@ -116,12 +116,12 @@ returns-in-Ok-open g c =
     (rows_name rows)
     c.run_words.result (λ e is. run_ends e)
     (if_some_weaker files.held _ _
-    (λ h comes. ran (about f) files later before after (TraceTask m rows n h) j c.run_words.result refl comes c.run_words.ensures.write ended)
+    (λ h comes. ran (about f) files later before after (TraceTask m rows n h) j c.run_words.result refl comes c.run_words.ensures.causes.write ended)
     (opened_comes ImageOf NotImage (λ i. graph_columns i.graph) (about f) (image_word m) rows (λ none. cc) (inr (inl refl)) (λ w among. inr among)
     (λ h i left x. x ≡ runs_to (words_job (rows_name rows) n i.graph (table_code i.table) (through n left)))
     files mid later c.in-Ok.loaded c.in_ok-columns.columns
     c.in_ok-columns.ensures.columns c.load_image.ensures.held c.load_rows.ensures.held c.in-Ok.ensures.loads
     c.in-Ok-load_rows.inputs (c.in-Ok-load_rows.ensures.ended c.in-Ok.ensures.ended) c.in-Ok-load_rows.ensures.loads c.in-Ok-open.rows (λ h. runs_to j)
     (c.in-Ok-open.ensures.opens 0 0) (λ h. refl)))
-    (c.in-Ok-load_rows.ensures.ended c.in-Ok.ensures.ended) (λ no. absurd cc) (λ calls. c.run_words.ensures.stopped) c.run_words.ensures.refused
-    c.run_words.ensures.write)
+    (c.in-Ok-load_rows.ensures.ended c.in-Ok.ensures.ended) (λ no. absurd cc) (λ calls. c.run_words.ensures.causes.stopped) c.run_words.ensures.causes.refused
+    c.run_words.ensures.causes.write)

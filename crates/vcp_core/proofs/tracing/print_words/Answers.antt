@@ -4,7 +4,7 @@ use Rattle.coded_machine.specs.State.{word_in}
 use Rattle.op_graph.specs.Lists.{Lists}
 use Rattle.command_meaning.specs.CycleWords.{word_lines}
 use Rattle.vcp_core.proofs.Written.{writes_same}
-use Rattle.vcp_core.proofs.WordsPrinted.{goes-on, fails, no-more, all-words, lines_to}
+use Rattle.vcp_core.proofs.WordsPrinted.{goes-on, fails, no-more, all-words, lines_to, whole-there}
 use Rattle.vcp_core.proofs.tracing.print_words.Goals as goal
 
 pub returns-in_err-trace_line-in-Some : goal.returns-in_err-trace_line-in-Some
@@ -14,7 +14,8 @@ returns-in_err-trace_line-in-Some g c =
     let below : c.words.i < length m.graph.operations =
     omega (arith, c.words-test.true, c.len-i-end.ensures.count, ap (λ (h : Lists). length h.operations) c.graph-graph.ensures) in
     let there : word_in (slice_get m.answers c.words.i) ≡ Some c.in-Some.word = sym c.word.ensures ∙ c.in-Some.is in
-    rw q.1 (fails m.graph m.table c.args.cycle c.words.i m.answers _ _ _ _ _ _ c.requires.whole below c.words.invariant c.in-Some.word there
+    let whole = whole-there m.graph.operations m.answers c.words.i c.in-Some.word c.requires.whole there in
+    rw q.1 (fails m.graph m.table c.args.cycle c.words.i m.answers _ _ _ _ _ _ whole below c.words.invariant c.in-Some.word there
     c.in_err-trace_line-in-Some.field-0.0 q.0 (rw (c.graph-graph.ensures, c.table-table.ensures) at c.in_err-trace_line-in-Some.ensures))
 
 pub returns-in-None : goal.returns-in-None
@@ -30,7 +31,8 @@ words-preserved g c =
     let below : c.words.i < length m.graph.operations =
     omega (arith, c.words-test.true, c.len-i-end.ensures.count, ap (λ (h : Lists). length h.operations) c.graph-graph.ensures) in
     let there : word_in (slice_get m.answers c.words.i) ≡ Some c.in-Some.word = sym c.word.ensures ∙ c.in-Some.is in
-    goes-on m.graph m.table c.args.cycle c.words.i m.answers _ _ _ _ _ _ c.requires.whole below c.words.invariant c.in-Some.word there
+    let whole = whole-there m.graph.operations m.answers c.words.i c.in-Some.word c.requires.whole there in
+    goes-on m.graph m.table c.args.cycle c.words.i m.answers _ _ _ _ _ _ whole below c.words.invariant c.in-Some.word there
     (rw (c.graph-graph.ensures, c.table-table.ensures) at c.in_ok-trace_line-in-Some.ensures)
 
 pub returns : goal.returns

@@ -3,8 +3,8 @@ use Rattle.std.specs.Int.{w128}
 use Rattle.std.specs.Int.Signed.{nat_abs-le}
 use mir.Val.{SFits}
 use Rattle.std.proofs.Math.Facts.{to_z-of_z}
-use Rattle.vcp_core.proofs.SumsKept.{row-behind}
-use Rattle.vcp_core.proofs.summing.SumsReleasedRows.take.Goals as goal
+use Rattle.vcp_core.proofs.DemoRun.{row-behind}
+use Rattle.vcp_core.proofs.demo.SumsReleasedRows.take.Goals as goal
 
 pub returns-clause-keeps : goal.returns-clause-keeps
 returns-clause-keeps g c rows kept =

@@ -2,7 +2,7 @@ use Rattle.std.proofs.Common.{◌<◌, length, map, refl}
 use Rattle.std.proofs.lemmas.Result.{err_from_is_err_and}
 use Rattle.vcp_base.specs.declared.columns.Column.{Column}
 use Rattle.vcp_core.proofs.JobRun.{stop-printed, stop-status, name-at}
-use Rattle.vcp_core.proofs.running.print_end.Goals as goal
+use Rattle.vcp_core.proofs.printed.print_end.Goals as goal
 
 pub returns-in_err-graph_stop_line-in-Stopped : goal.returns-in_err-graph_stop_line-in-Stopped
 returns-in_err-graph_stop_line-in-Stopped g c =

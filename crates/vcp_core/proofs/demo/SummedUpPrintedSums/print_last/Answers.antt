@@ -4,21 +4,25 @@ use mir.Val.{SFits}
 use Rattle.std.proofs.Math.Facts.{to_z-of_z}
 use Rattle.std.proofs.lemmas.Result.{err_from_is_err_and}
 use Rattle.vcp_base.specs.declared.columns.Column.{Column}
-use Rattle.vcp_core.proofs.SummaryPrinted.{ended-early}
+use Rattle.vcp_core.proofs.DemoRun.{ended-early}
 use Rattle.vcp_core.proofs.Traced.{not-released}
-use Rattle.vcp_core.proofs.summing.print_summary.Goals as goal
+use Rattle.vcp_core.proofs.demo.SummedUpPrintedSums.print_last.Goals as goal
 
 pub returns-in_err-summary_line-in-Released : goal.returns-in_err-summary_line-in-Released
 returns-in_err-summary_line-in-Released g c =
     let p = err_from_is_err_and c.from_residual.result c.from_residual.ensures.1 in
     let last_fits : SFits w64 c.args.sums.now.last = search rules in
     let sum_fits : SFits w128 c.args.sums.now.sum = search rules in
-    let w = rw (to_z-of_z {w = w64} {z = c.args.sums.now.last} last_fits, to_z-of_z {w = w128} {z = c.args.sums.now.sum} sum_fits)
+    let w = rw (
+      to_z-of_z {w = w64} {z = c.args.sums.now.last} last_fits,
+      to_z-of_z {w = w128} {z = c.args.sums.now.sum} sum_fits,
+      c.cycles-cycles.ensures.value,
+    )
     at c.in_err-summary_line-in-Released.ensures in
     rw (p.1, c.in-Released.is) (w.cause.failed, w.part)
 
 pub returns-in-Stopped : goal.returns-in-Stopped
 returns-in-Stopped g c =
-    ended-early c.args.graph.now (map (λ (x : Column). x.name) c.args.outputs.now) c.args.number c.args.cycles _ _ c.args.end.now
+    ended-early c.args.machine.now (map (λ (x : Column). x.name) c.args.outputs.now) c.args.self.now.number _ _ c.args.end.now
     (g.O.Sink.seen c.args.out.now) (g.O.Sink.seen c.print_end.new.out) c.print_end.result
-    (not-released c.args.end.now c.in-Stopped.is) c.requires.there c.print_end.ensures
+    (not-released c.args.end.now c.in-Stopped.is) c.requires.there (rw (c.graph.ensures, c.cycles-cycles.ensures.value) at c.print_end.ensures)
