@@ -5,7 +5,6 @@ ghost use Rattle.vcp_base.specs.Limits.{most_cycles};
 ghost use Rattle.coded_unit.specs.Seen.{StaysHonest};
 ghost use Rattle.signature_table.specs.Signatures.{IsTableOf};
 ghost use Rattle.coded_machine.specs.CycleEnds.{end_of};
-ghost use Rattle.coded_machine.specs.State.{word_in};
 ghost use Rattle.coded_machine.specs.Honest.{stop_answer};
 ghost use Rattle.fault_reruns.specs.References.{RanOver, Sound, words_answered};
 ghost use Rattle.fault_reruns.specs.Reruns.{IsReference};
@@ -23,7 +22,7 @@ use vcp_base::{Memory, Row, StopKind};
 /// The run of a graph over rows of inputs without faults, with every word that was answered in it. It borrows the graph, the table
 /// of its code and the rows.
 ///
-/// A word takes 16 bytes, and there is room for one for each operation in each row.
+/// A word takes 16 bytes, and there is room for one for each operation in each row: it is for the caller to bound these.
 #[derive(Drop)]
 pub struct Reference<'a> {
     graph: &'a Graph,
@@ -165,16 +164,6 @@ impl<'a> Reference<'a> {
         } else {
             self.kept.end
         }
-    }
-
-    /// The word that operation `op` answered in cycle `n`, both counted from 0; `None` where it answered none.
-    pub fn word(&self, n: u32, op: u32) -> Option<Word>
-        ensures { result ≡ word_in (slice_get (slice_index_or self.now.answers n []) op) }
-    {
-        if n >= self.cycles() {
-            return None;
-        }
-        self.cycle(n).words.get(op as usize).copied()
     }
 }
 
