@@ -1,5 +1,5 @@
 -- Conditions: what the value of a condition tells of the values that it compares, and of the conditions that it joins.
-use Rattle.std.proofs.Common.{◌≡◌, ◌≢◌, ℕ, ◌<◌, ℤ, pos, ◌<ℤ◌, ◌≤ℤ◌, ◌-ℤ◌, ◌⊎◌, inl, inr, Bool, true, false, not, ◌&&◌, ◌||◌, cond, List, take, Ok, refl, sym, ap, subst, ◌∙◌}
+use Rattle.std.proofs.Common.{◌≡◌, ◌≢◌, ℕ, ◌<◌, ℤ, pos, ◌<ℤ◌, ◌≤ℤ◌, ◌-ℤ◌, neg_ℤ, ◌⊎◌, inl, inr, Bool, true, false, not, ◌&&◌, ◌||◌, cond, List, take, Ok, refl, sym, ap, subst, ◌∙◌}
 use Rattle.std.proofs.Common.{get_or-take, nat_lt, arith}
 use Rattle.std.specs.Prelude.{int_lt}
 use Rattle.std.proofs.lemmas.Int.{ints}
@@ -9,9 +9,9 @@ use Rattle.vcp_base.specs.Kinds.{operands, value, truth, same}
 use Rattle.vcp_base.specs.Values.{at}
 use Rattle.op_graph.specs.declared.op.Op.{Op}
 use Rattle.op_graph.specs.GraphRun.{own, read, outcome_of}
-use Rattle.range_audit.specs.Walking.{Taken, Said, Parts, OperandIs}
+use Rattle.range_audit.specs.Walking.{Taken, Said, Parts, Compares, OperandIs}
 use Rattle.range_audit.proofs.Outcomes.{ok_says}
-use Rattle.range_audit.proofs.ValueBounds.{is_true, same_is, is_same, true_false, and_left, and_right}
+use Rattle.range_audit.proofs.ValueBounds.{is_true, same_is, is_same, true_false, refuted, and_left, and_right}
 
 -- ---- truths
 
@@ -93,6 +93,9 @@ denied true x zero_or_one h = λ e. let no : pos 1 -ℤ pos 1 ≡ pos 1 = ap (λ
 denied false x (inl zero) h = absurd (h (ap (λ v. pos 1 -ℤ v) zero))
 denied false x (inr one) h = one
 
+twice_negated : (x : ℤ) → neg_ℤ (neg_ℤ x) ≡ x
+twice_negated x = omega (arith, ints)
+
 -- ---- operations of a cycle
 
 -- the value of a kind over these operations
@@ -130,7 +133,42 @@ module _ (held row vs : List ℤ) (op : Op) (c : ℕ) (e : outcome_of held row (
       or_parts t (at vs op.a) (at vs op.b)
       (subst (λ v. Said t v) (valued kind.Or is ∙ earlier (λ x y. truth (same x (pos 1) || same y (pos 1))) first second) said)
 
+  pub opposite : op.kind ≡ kind.Neg → op.a < c → neg_ℤ (at vs c) ≡ at vs op.a
+  opposite is first =
+      let e : at vs c ≡ neg_ℤ (at vs op.a) = valued kind.Neg is ∙ ap neg_ℤ (get_or-take c vs op.a (pos 0) first) in
+      ap neg_ℤ e ∙ twice_negated (at vs op.a)
+
+  pub selection : op.kind ≡ kind.Sel → op.a < c → op.b < c → op.c < c → at vs c ≡ cond (same (at vs op.a) (pos 0)) (at vs op.b) (at vs op.c)
+  selection is first second third =
+      valued kind.Sel is
+      ∙ ap (λ x. cond (same x (pos 0)) (at (take c vs) op.b) (at (take c vs) op.c)) (get_or-take c vs op.a (pos 0) first)
+      ∙ ap (λ y. cond (same (at vs op.a) (pos 0)) y (at (take c vs) op.c)) (get_or-take c vs op.b (pos 0) second)
+      ∙ ap (λ z. cond (same (at vs op.a) (pos 0)) (at vs op.b) z) (get_or-take c vs op.c (pos 0) third)
+
+-- what is chosen
+pub chosen_no : (x y z v : ℤ) → v ≡ cond (same x (pos 0)) y z → x ≡ pos 0 → v ≡ y
+chosen_no x y z v e zero = e ∙ ap (λ t. cond t y z) (is_same x (pos 0) zero)
+
+pub chosen_yes : (x y z v : ℤ) → v ≡ cond (same x (pos 0)) y z → x ≢ pos 0 → v ≡ z
+chosen_yes x y z v e other = e ∙ ap (λ t. cond t y z) (refuted (same x (pos 0)) (λ t. other (same_is x (pos 0) t)))
+
+-- 0 isn't 1
+pub not_one : (x : ℤ) → x ≡ pos 0 → x ≢ pos 1
+not_one x zero one = let no : pos 0 ≡ pos 1 = sym zero ∙ one in absurd cc
+
+pub not_zero : (x : ℤ) → x ≡ pos 1 → x ≢ pos 0
+not_zero x one zero = let no : pos 0 ≡ pos 1 = sym zero ∙ one in absurd cc
+
 -- an operand that a kind has is there
 pub there : (cells count : ℕ) (k : Kind) (imm : ℤ) (n j : ℕ) (is : Kind) → k ≡ is → nat_lt j (operands is) ≡ true
     → (nat_lt j (operands k) ≡ true → OperandIs cells count k imm n) → OperandIs cells count is imm n
 there cells count k imm n j is e has h = subst (λ t. (nat_lt j (operands t) ≡ true → OperandIs cells count t imm n) → OperandIs cells count is imm n) (sym e) (λ f. f has) h
+
+-- both operands of a comparison are there
+pub compares_first : (cells count : ℕ) (k : Kind) (imm : ℤ) (n : ℕ) → Compares k → (nat_lt 0 (operands k) ≡ true → OperandIs cells count k imm n) → n < count
+compares_first cells count k imm n (inl is) h = there cells count k imm n 0 kind.Lt is refl h
+compares_first cells count k imm n (inr is) h = there cells count k imm n 0 kind.Eq is refl h
+
+pub compares_second : (cells count : ℕ) (k : Kind) (imm : ℤ) (n : ℕ) → Compares k → (nat_lt 1 (operands k) ≡ true → OperandIs cells count k imm n) → n < count
+compares_second cells count k imm n (inl is) h = there cells count k imm n 1 kind.Lt is refl h
+compares_second cells count k imm n (inr is) h = there cells count k imm n 1 kind.Eq is refl h

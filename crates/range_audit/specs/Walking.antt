@@ -36,6 +36,10 @@ abbrev pub Said : Bool → ℤ → Type 0
 Said true v = v ≡ pos 1
 Said false v = v ≢ pos 1
 
+-- a kind compares the values of two operations
+abbrev pub Compares : Kind → Type 0
+Compares k = (k ≡ kind.Lt) ⊎ (k ≡ kind.Eq)
+
 -- both hold, or one of the two
 abbrev pub Parts : Bool → Type 0 → Type 0 → Type 0
 Parts true P Q = P × Q

@@ -82,7 +82,7 @@ fn divided(x: i64, k: i64) -> i128
 }
 
 /// Bounds of -x.
-fn negated(a: Range) -> Bounds
+pub(crate) fn negated(a: Range) -> Bounds
     ensures { (x : ℤ) → IsIn a x → IsWithin result (neg_ℤ x) }
 {
     let low = negative(a.high);

@@ -9,5 +9,8 @@ returns-then-is_truth c = λ held row vs given fit le taken.
     (taken_said c.args.truth (at vs c.args.c) (c.is_truth-is_truth.ensures c.if-is_truth.true (at vs c.args.c)
     (fit c.args.c c.earlier_range-condition.result (omega (arith, le, c.requires.condition)) c.earlier_range-condition.ensures)) taken)
 
+pub returns-then-is_one : goal.returns-then-is_one
+returns-then-is_one c = λ held row vs given fit le taken. fit c.args.n c.earlier_range-r.result (omega (arith, le, c.requires.there)) c.earlier_range-r.ensures
+
 pub returns : goal.returns
-returns c = λ held row vs given fit le taken. fit c.args.n c.earlier_range.result (omega (arith, le, c.requires.there)) c.earlier_range.ensures
+returns c = λ held row vs given fit le taken. fit c.args.n c.earlier_range-r.result (omega (arith, le, c.requires.there)) c.earlier_range-r.ensures
