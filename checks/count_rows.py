@@ -16,7 +16,7 @@ from pathlib import Path
 
 TOP = Path(__file__).resolve().parent.parent
 CRATES = TOP / "crates"
-MARKS = ("#", "<", "+", "@", "%", "$")
+MARKS = ("#", "<", "+", "@", "%", "!", "$")
 
 
 def calls_in(lines):

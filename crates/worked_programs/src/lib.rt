@@ -10,6 +10,8 @@
 //! | `+ NAME TIMES TEXT` | this text so many times behind what the file of this name has |
 //! | `@ CALL ANSWER` | what the unit of the next call answers to its call of this number, from 0: a word, RANGE, DIVZERO or OPERAND |
 //! | `% ROOM` | for how many bytes of output the next call has room; behind it may stand the room for its line of error |
+//! | `! files N` | the next call's file call of this number fails, from 0 over each begin and each read; `! output N` and `! errors N` one write |
+//! | `! each F O E` | the next call makes so many file calls, writes of output and writes of errors; it is made once more for each, which fails |
 //! | `$ WORDS` | a call of the program; `$ plain,run WORDS` makes two, and each has to give what follows |
 //! | `? CYCLE OPERATION KIND ANSWER` | the next call that the unit is asked, from its first, with its answer; behind it may stand the correction, the stamp and the three operands, as far as they are to be compared |
 //! | `? end` | the unit is asked no more calls |
@@ -24,9 +26,13 @@
 //! Each call has to come to its end, and no line may stand between an end and the next call that says what a call gives. Lines that
 //! begin with `?` stand among the output's lines or before them, in any order with them. Of the words of a call `''` is an empty one.
 //!
-//! Each call is made on a `BadUnit`, which answers rightly where nothing is set and keeps its first 4,096 calls.
+//! Each call is made on a `BadUnit`, which answers rightly where nothing is set and keeps its first 4,096 calls. Behind `! each` a call
+//! whose files fail has to end with 5, a front of the output and the line of a read fault; one whose output fails with 6, a part of the
+//! output and the line of a write fault; and one whose errors fail with 6, all of the output and a part of the line.
 #![tactic(auto)]
 
+mod failing;
+mod files;
 mod lines;
 mod player;
 mod program_call;

@@ -1,5 +1,6 @@
 //! What the lines of a session say.
 
+use crate::failing::{Counts, Outside};
 use crate::program_call::ROOM;
 use coded_unit::{Answer, Word};
 use worked_texts::word_off;
@@ -17,6 +18,10 @@ pub(crate) enum Line<'a> {
     Answers(u32, Answer),
     /// For how many bytes of output and of errors the next call has room.
     Room(u32, u32),
+    /// Which of the next call's calls is made to fail, by its number.
+    Fails(Outside, u32),
+    /// How many calls of each kind the next call makes, each of which is made to fail.
+    EachFails(Counts),
     /// The commands between commas, and the words behind them, which each is called with.
     Call(&'a str, &'a str),
     /// The call's end, and the name of the file that its output becomes.
@@ -54,7 +59,7 @@ impl<'a> Line<'a> {
         let (mark, rest) = word_off(line);
         match mark {
             "#" => Some(Line::Remark),
-            "<" | "+" | "@" | "%" | "$" => before_a_call(mark, rest),
+            "<" | "+" | "@" | "%" | "!" | "$" => before_a_call(mark, rest),
             "?" => Some(Line::Wants(asked(rest)?)),
             "=" => Some(Line::Wants(end_of(rest)?)),
             ">" => Some(Line::Keeps(rest)),
@@ -76,6 +81,7 @@ fn before_a_call<'a>(mark: &'a str, rest: &'a str) -> Option<Line<'a>> {
         }
         "@" => Some(Line::Answers(first.parse().ok()?, answer_named(behind)?)),
         "%" => room_of(first, behind),
+        "!" => failing_of(first, behind),
         _ => Some(Line::Call(first, behind)),
     }
 }
@@ -87,6 +93,29 @@ fn room_of<'a>(output: &str, errors: &str) -> Option<Line<'a>> {
         return Some(Line::Room(output, ROOM));
     }
     Some(Line::Room(output, errors.parse().ok()?))
+}
+
+/// The call of the next call's objects that is made to fail, or `each` with how many there are of each kind.
+fn failing_of<'a>(which: &str, numbers: &str) -> Option<Line<'a>> {
+    let outside = match which {
+        "files" => Outside::Files,
+        "output" => Outside::Output,
+        "errors" => Outside::Errors,
+        "each" => return each_of(numbers),
+        _ => return None,
+    };
+    Some(Line::Fails(outside, numbers.parse().ok()?))
+}
+
+/// How many calls there are of each kind: of the files, of the output and of the errors.
+fn each_of<'a>(numbers: &str) -> Option<Line<'a>> {
+    let (files, rest) = word_off(numbers);
+    let (output, errors) = word_off(rest);
+    Some(Line::EachFails(Counts {
+        files: files.parse().ok()?,
+        output: output.parse().ok()?,
+        errors: errors.parse().ok()?,
+    }))
 }
 
 /// The answer that is written so, where one is.

@@ -1,14 +1,12 @@
 //! Playing a session.
 
+use crate::failing::otherwise_where_each_fails;
+use crate::files::SessionFiles;
 use crate::lines::{Line, Wanted};
 use crate::program_call::{ProgramCall, Setting};
 use std::alloc::Global;
-use vcp_base::{Memory, Text};
-use vcp_outside::{MemFiles, ReadAll, read_all};
+use vcp_base::Memory;
 use worked_texts::{put_repeated, spelled};
-
-/// How many bytes a file may have that a session reads.
-const LIMIT: u64 = 1 << 24;
 
 /// What came out of a session.
 #[derive(Debug, Drop)]
@@ -34,7 +32,7 @@ pub fn play(alloc: Global, session: &str) -> Result<Played, Memory> {
 #[derive(Drop)]
 struct Player {
     alloc: Global,
-    files: MemFiles,
+    files: SessionFiles,
     /// What the next call is made with.
     setting: Setting,
     /// The calls of the last line of a call, until its end.
@@ -49,7 +47,7 @@ impl Player {
     fn new(alloc: Global) -> Player {
         Player {
             alloc,
-            files: MemFiles::new(alloc),
+            files: SessionFiles::new(alloc),
             setting: Setting::new(alloc),
             open: Vec::new(alloc),
             number: 0,
@@ -72,7 +70,7 @@ impl Player {
             Line::File(name, text) => {
                 self.begin(line)?;
                 let text = spelled(self.alloc, text)?;
-                self.files.put(name.as_bytes(), &text)
+                self.files.put(name, &text)
             }
             Line::More(name, times, text) => {
                 self.begin(line)?;
@@ -89,9 +87,19 @@ impl Player {
                 self.setting.error_room = error_room;
                 Ok(())
             }
+            Line::Fails(outside, number) => {
+                self.begin(line)?;
+                self.setting.failing = Some((outside, number));
+                Ok(())
+            }
+            Line::EachFails(counts) => {
+                self.begin(line)?;
+                self.setting.each = Some(counts);
+                Ok(())
+            }
             Line::Call(commands, behind) => {
                 self.begin(line)?;
-                self.call(commands, behind)
+                self.call(line, commands, behind)
             }
             Line::Keeps(name) => {
                 self.want(line, Wanted::Kept)?;
@@ -119,39 +127,49 @@ impl Player {
         self.note("no end of a call before", line)
     }
 
-    /// What the file of a name has; `None` where there is none.
-    fn text(&mut self, name: &str) -> Result<Option<Text>, Memory> {
-        match read_all(self.alloc, &mut self.files, name.as_bytes(), LIMIT) {
-            Ok(text) => Ok(Some(text)),
-            Err(ReadAll::Memory) => Err(Memory),
-            Err(_) => Ok(None),
-        }
-    }
-
     /// Adds a text, which is spelled, so many times to the file of a name, or to none.
     fn add(&mut self, name: &str, times: u32, text: &str) -> Result<(), Memory> {
         let mut whole = Vec::new(self.alloc);
-        if let Some(front) = self.text(name)? {
-            whole.extend_from_slice(front.bytes())?;
+        if let Some(front) = self.files.text(name) {
+            whole.extend_from_slice(front)?;
         }
         put_repeated(&mut whole, &spelled(self.alloc, text)?, times)?;
-        self.files.put(name.as_bytes(), &whole)
+        self.files.put(name, &whole)
     }
 
     /// Makes the calls of a line.
-    fn call(&mut self, commands: &str, behind: &str) -> Result<(), Memory> {
+    fn call(&mut self, line: &str, commands: &str, behind: &str) -> Result<(), Memory> {
         for command in commands.split(',') {
-            let made = ProgramCall::new(
-                self.alloc,
-                &mut self.files,
-                &self.setting,
-                command,
-                behind,
-            )?;
+            let mut files = self.files.in_memory()?;
+            let made = ProgramCall::new(self.alloc, &mut files, &self.setting, command, behind)?;
+            self.break_each(line, &made)?;
             self.open.push(made)?;
             self.played.calls = self.played.calls.saturating_add(1);
         }
         self.setting = Setting::new(self.alloc);
+        Ok(())
+    }
+
+    /// Makes a call once more for each call of its objects, which fails, where the setting says so, and notes what came otherwise.
+    fn break_each(&mut self, line: &str, made: &ProgramCall) -> Result<(), Memory> {
+        let Some(counts) = self.setting.each else {
+            return Ok(());
+        };
+        let other = otherwise_where_each_fails(
+            self.alloc,
+            &self.files,
+            &mut self.setting,
+            made,
+            counts,
+        )?;
+        self.setting.failing = None;
+        let Some(came) = other else {
+            return Ok(());
+        };
+        self.played.otherwise = self.played.otherwise.saturating_add(1);
+        let number = self.number;
+        let fault = format!(in self.alloc; "line {number}: came `{came}` of `{line}`")?;
+        self.played.faults.push(fault)?;
         Ok(())
     }
 
@@ -183,16 +201,17 @@ impl Player {
 
     /// Notes what came of the open calls where it is not what stands in the file of a name.
     fn want_file(&mut self, line: &str, name: &str) -> Result<(), Memory> {
-        match self.text(name)? {
-            Some(text) => self.want(line, Wanted::Bytes(text.bytes())),
-            None => self.note("no file for", line),
-        }
+        let bytes = match self.files.text(name) {
+            Some(text) => Vec::from_slice(self.alloc, text)?,
+            None => return self.note("no file for", line),
+        };
+        self.want(line, Wanted::Bytes(&bytes))
     }
 
     /// Makes the output of the open call a file, which is its end.
     fn keep(&mut self, name: &str) -> Result<(), Memory> {
         if let Some(made) = self.open.first() {
-            self.files.put(name.as_bytes(), made.output())?;
+            self.files.put(name, made.output())?;
         }
         self.open.clear();
         Ok(())

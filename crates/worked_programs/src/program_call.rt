@@ -1,5 +1,7 @@
 //! Calls of the program, and what is left of what they gave.
 
+use crate::failing::{Counts, Outside};
+use crate::files::SessionFiles;
 use crate::lines::Wanted;
 use crate::words::{USAGE, words_of};
 use coded_unit::{Answer, BadUnit};
@@ -24,15 +26,21 @@ pub(crate) struct Setting {
     pub(crate) room: u32,
     /// For how many bytes of errors there is room.
     pub(crate) error_room: u32,
+    /// Which call of an object is made to fail, by its number.
+    pub(crate) failing: Option<(Outside, u32)>,
+    /// How many calls of each kind are made, where each of them is made to fail in a call of its own.
+    pub(crate) each: Option<Counts>,
 }
 
 impl Setting {
-    /// Right answers, and room for a megabyte each.
+    /// Right answers, room for a megabyte each, and no call that is made to fail.
     pub(crate) fn new(alloc: Global) -> Setting {
         Setting {
             answers: Vec::new(alloc),
             room: ROOM,
             error_room: ROOM,
+            failing: None,
+            each: None,
         }
     }
 
@@ -44,6 +52,21 @@ impl Setting {
         }
         Ok(unit)
     }
+
+    /// Makes the call fail that is to fail.
+    fn fail(
+        &self,
+        files: &mut MemFiles,
+        out: &mut MemSink,
+        err: &mut MemSink,
+    ) -> Result<(), Memory> {
+        match self.failing {
+            Some((Outside::Files, number)) => files.fail_call(number as u64),
+            Some((Outside::Output, number)) => out.fail_call(number as u64),
+            Some((Outside::Errors, number)) => err.fail_call(number as u64),
+            None => Ok(()),
+        }
+    }
 }
 
 /// A call that was made of the program.
@@ -51,6 +74,8 @@ impl Setting {
 pub struct ProgramCall {
     /// The command and the words behind it.
     pub(crate) words: String,
+    command: String,
+    behind: String,
     status: u8,
     out: MemSink,
     err: MemSink,
@@ -89,9 +114,12 @@ impl ProgramCall {
         let mut unit = setting.unit(alloc)?;
         let mut out = MemSink::new(alloc, setting.room)?;
         let mut err = MemSink::new(alloc, setting.error_room)?;
+        setting.fail(files, &mut out, &mut err)?;
         let status = vcp(alloc, &words, files, &mut unit, &mut out, &mut err);
         Ok(ProgramCall {
             words: format!(in alloc; "{command} {behind}")?,
+            command: String::from_str(alloc, command)?,
+            behind: String::from_str(alloc, behind)?,
             status,
             out,
             err,
@@ -101,6 +129,45 @@ impl ProgramCall {
             asked: 0,
             is_otherwise: false,
         })
+    }
+
+    /// The same call on these files, in this setting.
+    pub(crate) fn again(
+        &self,
+        alloc: Global,
+        files: &SessionFiles,
+        setting: &Setting,
+    ) -> Result<ProgramCall, Memory> {
+        let mut files = files.in_memory()?;
+        let command = self.command.as_str();
+        ProgramCall::new(alloc, &mut files, setting, command, self.behind.as_str())
+    }
+
+    /// Whether the same came as of another call.
+    pub(crate) fn is_same(&self, other: &ProgramCall) -> bool {
+        self.status == other.status
+            && self.out.bytes() == other.out.bytes()
+            && self.err.bytes() == other.err.bytes()
+    }
+
+    /// Whether the call ended as it has to where a call of this kind failed in it, and in another call of the program none did:
+    /// where the files failed, with 5, a front of the output and the line of a read fault; where the output failed, with 6, a part of
+    /// the output and the line of a write fault; where the errors failed, with 6, all of the output and a part of the line.
+    pub(crate) fn is_broken(&self, outside: Outside, other: &ProgramCall) -> bool {
+        let out = self.out.bytes();
+        let err = self.err.bytes();
+        let whole = other.out.bytes();
+        match outside {
+            Outside::Files => {
+                self.status == 5 && whole.starts_with(out) && err.ends_with(b" read fault\n")
+            }
+            Outside::Output => {
+                self.status == 6 && is_part(out, whole) && err == b"write fault\n".as_slice()
+            }
+            Outside::Errors => {
+                self.status == 6 && out == whole && is_part(err, other.err.bytes())
+            }
+        }
     }
 
     /// What was written to the output.
@@ -204,7 +271,7 @@ impl ProgramCall {
     }
 
     /// The status and the errors, as a session writes them.
-    fn came_last(&self, alloc: Global) -> Result<String, Memory> {
+    pub(crate) fn came_last(&self, alloc: Global) -> Result<String, Memory> {
         let status = self.status;
         if status == 4 && self.err.bytes() == USAGE {
             return Ok(String::from_str(alloc, "= usage")?);
@@ -234,6 +301,11 @@ impl ProgramCall {
             "{cycle} {operation} {kind} {answer} {correction} {stamp} {first} {second} {third}"
         )?)
     }
+}
+
+/// Whether a text is a front of another that lacks at least its last byte.
+fn is_part(front: &[u8], whole: &[u8]) -> bool {
+    front.len() < whole.len() && whole.starts_with(front)
 }
 
 /// An answer as a session writes it.
