@@ -1,6 +1,8 @@
 -- PassedOver: a rerun passes over cycles in which nothing is touched.
-use Rattle.std.proofs.Common.{◌≡◌, ℕ, zero, suc, ◌+◌, ◌-◌, ◌≤◌, Bool, true, false, List, [], ◌∷◌, ◌++◌, map, slice_get, slice_index_or, Option, Some}
+use Rattle.std.proofs.Common.{◌≡◌, ℕ, zero, suc, ◌+◌, ◌-◌, ◌<◌, ◌≤◌, Bool, false, List, [], ◌∷◌, ◌++◌, length, map, drop, slice_get, slice_index_or}
+use Rattle.std.proofs.Common.{Option, Some}
 use Rattle.std.proofs.Common.{None, ℤ, refl, sym, ap, subst, ◌∙◌, arith}
+use Rattle.std.proofs.lemmas.List.{append-nil, length-drop}
 use Rattle.std.proofs.lemmas.Option.{get_or_from_slice_get}
 use Rattle.coded_unit.specs.declared.call.Answer.{Answer}
 use Rattle.coded_unit.specs.Log.{Entry}
@@ -14,24 +16,25 @@ use Rattle.coded_machine.specs.Runs.{AllCycles}
 use Rattle.fault_script.specs.declared.act.Fault.{Fault}
 use Rattle.fault_script.specs.Changes.{acts_of}
 use Rattle.fault_runs.specs.RunLaw.{Words}
-use Rattle.fault_injector.specs.declared.verdict.Verdict.{Verdict}
+use Rattle.fault_injector.specs.declared.verdict.Verdict.TheVariants as verdict
 use Rattle.fault_injector.specs.Judging.{row_wrong}
 use Rattle.fault_injector.specs.Verdicts.{judged}
 use Rattle.fault_reruns.specs.Begun.{RanAgain}
-use Rattle.fault_reruns.specs.Crossing.{CycleRan, past_of}
-use Rattle.fault_reruns.specs.Laws.{Untouched}
+use Rattle.fault_reruns.specs.Crossing.{past_of}
+use Rattle.fault_reruns.specs.Laws.{NoneRefused, Rests, Untouched}
 use Rattle.fault_reruns.specs.References.{KeptRun}
-use Rattle.fault_reruns.specs.Reruns.{Part, cycle_again, read_cycle, refusal_in, stop_in}
-use Rattle.fault_reruns.specs.Resting.{dirty_at, held_at, last_answers, past_at}
+use Rattle.fault_reruns.specs.Reruns.{Again, cycle_again, read_cycle, refusal_in, rerun, runs_again, stop_in}
+use Rattle.fault_reruns.specs.Resting.{Advanced, LastStands, held_at, last_answers, passes, past_at, stays}
 use Rattle.fault_reruns.specs.Through.{RanThrough}
 use Rattle.fault_reruns.specs.Touched.{cycle_marks, held_marks, mark}
 use Rattle.fault_reruns.specs.declared.rerun.Work.{Work}
-use Rattle.fault_reruns.proofs.Crossed.{crossed, judged_there}
 use Rattle.fault_reruns.proofs.KeptAnswers.{not_released}
-use Rattle.fault_reruns.proofs.RerunRuns.{Between, goes_on}
-use Rattle.fault_reruns.proofs.Untouched.{cycle_same, none_held, none_touched, row_same}
+use Rattle.fault_reruns.proofs.KeptParts.{ended_early}
+use Rattle.fault_reruns.proofs.Lists.{drop_behind, there_is}
+use Rattle.fault_reruns.proofs.RerunRuns.{Between, after_cycles, drop_at, goes_on}
+use Rattle.fault_reruns.proofs.Untouched.{cycle_same, none_touched, row_same, runs_rest}
 
-abbrev NoMark : List Bool → Type 0
+abbrev pub NoMark : List Bool → Type 0
 NoMark marks = (i : ℕ) → mark marks i ≡ false
 
 -- each cycle of a run is whole
@@ -62,24 +65,16 @@ read_none g t n other released =
     ap (λ (e : CycleEnd). judged n (stop_in e) (refusal_in e) (stop_in e) (row_wrong (outputs_of g other) (outputs_of g other) 0)) released
     ∙ ap (judged n None None None) (row_same (outputs_of g other) 0)
 
-module _ (r : KeptRun) (faults : List Fault) (n : ℕ) (past : Words) (held : List ℤ) (dirty : List Bool) (row : List ℤ) (other : List Answer)
-    (whole : Whole r.graph.operations other) (u : Untouched (acts_of faults n) dirty) where
-  -- its rerun makes no call
-  quiet_again : (x : Option (List Entry)) (i : ℕ) → Carried [] x x i i
-      → RanAgain (cycle_again r.table r.graph (acts_of faults) n past held dirty row other) other x x i i
-  quiet_again x i nothing = record {
-    given = [];
-    entries = [];
-    comes = λ more. cycle_same r.table r.graph (acts_of faults) n past held dirty row other more whole u;
-    carried = nothing;
-  }
-
-  -- and comes to the answers of the run without the faults
-  pub own_same : (own : List Answer) (x y : Option (List Entry)) (i j : ℕ)
-      → RanAgain (cycle_again r.table r.graph (acts_of faults) n past held dirty row other) own x y i j → own ≡ other
-  own_same own x y i j ran =
-      ap (λ (p : Part). p.own) (sym (ran.comes [])
-      ∙ cycle_same r.table r.graph (acts_of faults) n past held dirty row other (ran.given ++ []) whole u)
+-- the rerun of a cycle in which nothing is touched makes no call
+quiet_again : (r : KeptRun) (faults : List Fault) (n : ℕ) (past : Words) (held : List ℤ) (dirty : List Bool) (row : List ℤ) (other : List Answer)
+    (x : Option (List Entry)) (i : ℕ) → Whole r.graph.operations other → Untouched (acts_of faults n) dirty → Carried [] x x i i
+    → RanAgain (cycle_again r.table r.graph (acts_of faults) n past held dirty row other) other x x i i
+quiet_again r faults n past held dirty row other x i whole u nothing = record {
+  given = [];
+  entries = [];
+  comes = λ more. cycle_same r.table r.graph (acts_of faults) n past held dirty row other more whole u;
+  carried = nothing;
+}
 
 -- the answers of a cycle are the last ones before the next
 last_is : (r : KeptRun) (n : ℕ) (other : List Answer) → slice_get r.answers n ≡ Some other → other ≡ last_answers r (n + 1)
@@ -87,101 +82,123 @@ last_is r n other answered =
     let back : n + 1 - 1 ≡ n = omega arith in
     sym (get_or_from_slice_get r.answers n other [] answered) ∙ ap (λ (k : ℕ). slice_index_or r.answers k []) (sym back)
 
--- a quiet cycle, where the cells have the words of the run without the faults
-pub passed_over : (r : KeptRun) (faults : List Fault) (n : ℕ) (past : Words) (held : List ℤ) (dirty : List Bool) (row : List ℤ) (other : List Answer) (w : Work)
-    (x y : Option (List Entry)) (i j : ℕ) → slice_get r.rows n ≡ Some row → slice_get r.answers n ≡ Some other → Whole r.graph.operations other
-    → end_of r.graph r.table n other ≡ end.Released → Untouched (acts_of faults n) dirty → held ≡ stored_words r.graph (last_answers r n)
-    → Carried [] y y j j → Between r faults n past held dirty x y i j
-    → Between r faults (n + 1) (past_at r (n + 1) true w) (held_at r (n + 1) true w) (dirty_at r.graph true w) x y i j
-passed_over r faults n past held dirty row other w x y i j there answered whole released u cells nothing b =
+-- no fault stands in the cycles from n up to m, which is a cycle of the run
+pub record Free (r : KeptRun) (faults : List Fault) (n m : ℕ) : Type 0 where
+  pub none : (p k : ℕ) → n ≤ p → p < m → acts_of faults p k ≡ None
+  pub there : m < length r.answers
+  pub rows : length r.answers ≤ length r.rows
+  pub all : AllCycles r.graph r.table 0 r.rows r.answers
+
+-- ---- from a cycle in which nothing is touched to a later one
+
+module _ (r : KeptRun) (faults : List Fault) (n m : ℕ) (free : Free r faults n m) (x y : Option (List Entry)) (i j : ℕ) (nothing : Carried [] y y j j) where
+  -- the next cycle begins with the words and the answers of the run without the faults
+  hop : (p : ℕ) (past : Words) (held : List ℤ) (dirty : List Bool) → n ≤ p → p < m → NoMark dirty → Between r faults p past held dirty x y i j
+      → Between r faults (p + 1) (record { held = held; answers = last_answers r (p + 1) }) (held_at r (p + 1)) (held_marks r.graph []) x y i j
+  hop p past held dirty above below cells b =
+      let g = r.graph in
+      let there = there_is r.rows p (omega (arith, below, free.there, free.rows)) in
+      let answered = there_is r.answers p (omega (arith, below, free.there)) in
+      let other : List Answer = answered.0 in
+      let whole = whole_there g r.table 0 r.rows r.answers p other free.all answered.1 in
+      let u : Untouched (acts_of faults p) dirty = record { cells = cells; no_fault = λ k. free.none p k above below } in
+      let released : end_of g r.table p other ≡ end.Released =
+      ap (end_of g r.table p) (sym (get_or_from_slice_get r.answers p other [] answered.1))
+      ∙ ended_early g r.table r.rows r.answers p free.all (omega (arith, below, free.there)) in
+      let next = goes_on r faults p past held dirty there.0 other other x y y i j j there.1 answered.1 b
+      (quiet_again r faults p past held dirty there.0 other y j whole u nothing) (sym (read_none g r.table p other released)) in
+      subst (λ (xs : List Answer). Between r faults (p + 1) (record { held = held; answers = xs }) (stored_words g xs) (held_marks g []) x y i j)
+      (last_is r p other answered.1)
+      (subst (λ (d : List Bool). Between r faults (p + 1) (record { held = held; answers = other }) (stored_words g other) d x y i j)
+      (unmarked (cycle_marks g other (acts_of faults p) dirty).given g.stores (none_touched g other (acts_of faults p) dirty u)) next)
+
+  -- and so does the one behind it, whose cycle before began with the words of that run too
+  abbrev AtRest : ℕ → Type 0
+  AtRest p = Between r faults p (past_at r p) (held_at r p) (held_marks r.graph []) x y i j
+
+  rested : (p : ℕ) (past : Words) (dirty : List Bool) → n ≤ p → p < m → NoMark dirty → Between r faults p past (held_at r p) dirty x y i j → AtRest (p + 1)
+  rested p past dirty above below cells b =
+      let back : p + 1 - 1 ≡ p = omega arith in
+      let now : held_at r p ≡ held_at r (p + 1 - 1) = ap (held_at r) (sym back) in
+      subst (λ (h : List ℤ). Between r faults (p + 1) (record { held = h; answers = last_answers r (p + 1) }) (held_at r (p + 1)) (held_marks r.graph [])
+      x y i j) now (hop p past (held_at r p) dirty above below cells b)
+
+  rest_on : (d p : ℕ) → n ≤ p → p + d ≡ m → AtRest p → AtRest m
+  rest_on zero p above is b = let same : p ≡ m = omega (arith, is) in subst AtRest same b
+  rest_on (suc d) p above is b =
+      rest_on d (p + 1) (omega (arith, above)) (omega (arith, is))
+      (rested p (past_at r p) (held_marks r.graph []) above (omega (arith, is)) (none_marked r.graph.stores) b)
+
+  rests_until : (past : Words) (held : List ℤ) (dirty : List Bool) → n + 2 ≤ m → NoMark dirty → Between r faults n past held dirty x y i j → AtRest m
+  rests_until past held dirty far cells b =
+      rest_on (m - (n + 1 + 1)) (n + 1 + 1) (omega arith) (omega (arith, far))
+      (rested (n + 1) (record { held = held; answers = last_answers r (n + 1) }) (held_marks r.graph []) (omega arith) (omega (arith, far))
+      (none_marked r.graph.stores) (hop n past held dirty (omega arith) (omega (arith, far)) cells b))
+
+-- a rerun comes to a cycle so
+pub comes_to : (r : KeptRun) (faults : List Fault) (n to : ℕ) (v w : Work) (m : ℕ) (x y : Option (List Entry)) (i j : ℕ) → Free r faults n to → n ≤ to
+    → (n < to → NoMark v.dirty.items) → Carried [] y y j j → Between r faults n (past_of v) v.held.items v.dirty.items x y i j → Advanced r n to v w m
+    → Between r faults m (past_of w) w.held.items w.dirty.items x y i j × (n ≤ m) × (m ≤ to)
+comes_to r faults n to v w m x y i j free above cells nothing b (stays here same) = (
+  subst (λ (k : ℕ). Between r faults k (past_of w) w.held.items w.dirty.items x y i j) (sym here)
+      (subst (λ (u : Work). Between r faults n (past_of u) u.held.items u.dirty.items x y i j) (sym same) b),
+  omega (arith, here),
+  omega (arith, here, above),
+)
+comes_to r faults n to v w m x y i j free above cells nothing b (passes far there rest) = (
+  subst (λ (k : ℕ). Between r faults k (past_of w) w.held.items w.dirty.items x y i j) (sym there)
+      (subst (λ (p : Words). Between r faults to p w.held.items w.dirty.items x y i j) (sym rest.past)
+      (subst (λ (h : List ℤ). Between r faults to (past_at r to) h w.dirty.items x y i j) (sym rest.held)
+      (subst (λ (d : List Bool). Between r faults to (past_at r to) (held_at r to) d x y i j) (sym rest.dirty)
+      (rests_until r faults n to free x y i j nothing (past_of v) v.held.items v.dirty.items far (cells (omega (arith, far))) b)))),
+  omega (arith, there, above),
+  omega (arith, there),
+)
+
+-- ---- to the end
+
+none_refused : (r : KeptRun) → AllCycles r.graph r.table 0 r.rows r.answers → LastStands r → (d n : ℕ) → n + d ≡ length r.answers
+    → NoneRefused r.graph r.table n (drop n r.answers)
+none_refused r all stands zero n is = subst (NoneRefused r.graph r.table n) (sym (drop_behind r.answers n (omega (arith, is)))) tt
+none_refused r all stands (suc zero) n is =
     let g = r.graph in
-    let back : n + 1 - 1 ≡ n = omega arith in
-    let marks = (cycle_marks g other (acts_of faults n) dirty).given in
-    let before : held ≡ stored_words g (last_answers r (n + 1 - 1)) = cells ∙ ap (λ (k : ℕ). stored_words g (last_answers r k)) (sym back) in
-    let last = last_is r n other answered in
-    let next = goes_on r faults n past held dirty row other other x y y i j j there answered b
-    (quiet_again r faults n past held dirty row other whole u y j nothing) (sym (read_none g r.table n other released)) in
-    subst (λ (h : List ℤ). Between r faults (n + 1) (record { held = h; answers = last_answers r (n + 1) }) (stored_words g (last_answers r (n + 1)))
-    (held_marks g []) x y i j) before
-    (subst (λ (xs : List Answer). Between r faults (n + 1) (record { held = held; answers = xs }) (stored_words g xs) (held_marks g []) x y i j) last
-    (subst (λ (d : List Bool). Between r faults (n + 1) (record { held = held; answers = other }) (stored_words g other) d x y i j)
-    (unmarked marks g.stores (none_touched g other (acts_of faults n) dirty u)) next))
+    let answered = there_is r.answers n (omega (arith, is)) in
+    let other : List Answer = answered.0 in
+    let last : length r.answers - 1 ≡ n = omega (arith, is) in
+    let here = ap (λ (k : ℕ). refusal_in (end_of g r.table k (slice_index_or r.answers k []))) (sym last) ∙ stands in
+    let ends = ap (λ (xs : List Answer). refusal_in (end_of g r.table n xs)) (sym (get_or_from_slice_get r.answers n other [] answered.1)) ∙ here in
+    subst (NoneRefused g r.table n) (sym (drop_at r.answers n other answered.1))
+    (whole_there g r.table 0 r.rows r.answers n other all answered.1, ends, none_refused r all stands zero (suc n) (omega (arith, is)))
+none_refused r all stands (suc (suc d)) n is =
+    let g = r.graph in
+    let answered = there_is r.answers n (omega (arith, is)) in
+    let other : List Answer = answered.0 in
+    let ends =
+    ap (λ (xs : List Answer). refusal_in (end_of g r.table n xs)) (sym (get_or_from_slice_get r.answers n other [] answered.1))
+    ∙ ap refusal_in (ended_early g r.table r.rows r.answers n all (omega (arith, is))) in
+    subst (NoneRefused g r.table n) (sym (drop_at r.answers n other answered.1))
+    (whole_there g r.table 0 r.rows r.answers n other all answered.1, ends, none_refused r all stands (suc d) (suc n) (omega (arith, is)))
 
--- ---- a rerun before a cycle
-
--- It goes on from this work, or at rest from what the run without the faults left. After a cycle in which nothing was touched the cells have the words
--- of that run.
-pub record Going (r : KeptRun) (faults : List Fault) (n : ℕ) (rest calm : Bool) (w : Work) (x y : Option (List Entry)) (i j : ℕ) : Type 0 where
-  pub between : Between r faults n (past_at r n rest w) (held_at r n rest w) (dirty_at r.graph rest w) x y i j
-  pub calm_is : calm ≡ true → (1 ≤ n) × (held_at r n rest w ≡ stored_words r.graph (last_answers r n)) × NoMark (dirty_at r.graph rest w)
-  pub rest_is : rest ≡ true → (calm ≡ true) × (2 ≤ n)
-
--- the first cycle
-pub begins : (r : KeptRun) (faults : List Fault) (w : Work) (x : Option (List Entry)) (i : ℕ)
-    → Between r faults 0 (past_of w) w.held.items w.dirty.items x x i i → Going r faults 0 false false w x x i i
-begins r faults w x i b = record { between = b; calm_is = λ no. absurd cc; rest_is = λ no. absurd cc }
-
--- what is known of the cells in a quiet cycle
-cells_quiet : (g : Lists) (w : Work) (rest calm : Bool) → (calm ≡ true → NoMark (dirty_at g rest w)) → (rest ≡ true → calm ≡ true)
-    → (calm ≡ false → NoMark w.dirty.items) → NoMark (dirty_at g rest w)
-cells_quiet g w rest true first second third = first refl
-cells_quiet g w true false first second third = let no : false ≡ true = second refl in absurd cc
-cells_quiet g w false false first second third = third refl
-
--- a cycle is quiet
-pub record Quiet (r : KeptRun) (faults : List Fault) (n : ℕ) (calm : Bool) (w : Work) : Type 0 where
-  pub no_fault : (k : ℕ) → acts_of faults n k ≡ None
-  pub cells : calm ≡ false → NoMark w.dirty.items
-  pub released : end_of r.graph r.table n (slice_index_or r.answers n []) ≡ end.Released
-
-module _ (r : KeptRun) (faults : List Fault) (n : ℕ) (rest calm : Bool) (w : Work) (row : List ℤ) (other : List Answer)
-    (x y : Option (List Entry)) (i j : ℕ) (there : slice_get r.rows n ≡ Some row) (answered : slice_get r.answers n ≡ Some other)
-    (all : AllCycles r.graph r.table 0 r.rows r.answers) (going : Going r faults n rest calm w x y i j) where
-  untouched : Quiet r faults n calm w → Untouched (acts_of faults n) (dirty_at r.graph rest w)
-  untouched q = record {
-    cells = cells_quiet r.graph w rest calm (λ yes. (going.calm_is yes).2) (λ yes. (going.rest_is yes).0) q.cells;
-    no_fault = q.no_fault;
-  }
-
-  whole : Whole r.graph.operations other
-  whole = whole_there r.graph r.table 0 r.rows r.answers n other all answered
-
-  -- it is passed over
-  pub passes : calm ≡ true → Quiet r faults n calm w → Carried [] y y j j → Going r faults (n + 1) true true w x y i j
-  passes was q nothing =
-      let released = ap (end_of r.graph r.table n) (sym (get_or_from_slice_get r.answers n other [] answered)) ∙ q.released in
-      let before = going.calm_is was in
-      record {
-        between = passed_over r faults n (past_at r n rest w) (held_at r n rest w) (dirty_at r.graph rest w) row other w x y i j there answered whole released
-            (untouched q) before.1 nothing going.between;
-        calm_is = λ _. (omega arith, refl, none_marked r.graph.stores);
-        rest_is = λ _. (refl, omega (arith, before.0));
-      }
-
-  module _ (z : Option (List Entry)) (k : ℕ) (v u : Work) (past : past_of v ≡ past_at r n rest w) (held : v.held.items ≡ held_at r n rest w)
-      (dirty : v.dirty.items ≡ dirty_at r.graph rest w) where
-    woken : Between r faults n (past_of v) v.held.items v.dirty.items x y i j
-    woken =
-        subst (λ (p : Words). Between r faults n p v.held.items v.dirty.items x y i j) (sym past)
-        (subst (λ (h : List ℤ). Between r faults n (past_at r n rest w) h v.dirty.items x y i j) (sym held)
-        (subst (λ (d : List Bool). Between r faults n (past_at r n rest w) (held_at r n rest w) d x y i j) (sym dirty) going.between))
-
-    -- it is rerun, and has no verdict
-    pub walks : (quiet : Bool) → (quiet ≡ true → Quiet r faults n calm w) → CycleRan r faults n row other v u None y z j k
-        → Going r faults (n + 1) false quiet u x z i k
-    walks quiet q ran = record {
-      between = crossed r faults n row other v u x y z i j k there answered woken ran;
-      calm_is = λ yes.
-          let same = untouched (q yes) in
-          let nothing : Untouched (acts_of faults n) v.dirty.items = subst (λ (d : List Bool). Untouched (acts_of faults n) d) (sym dirty) same in
-          let own = own_same r faults n (past_of v) v.held.items v.dirty.items row other whole nothing u.past.items y z j k ran.ran in (
-            omega arith,
-            ran.held ∙ ap (stored_words r.graph) (own ∙ last_is r n other answered),
-            subst NoMark (sym ran.dirty) (none_held r.graph other (acts_of faults n) v.dirty.items nothing),
-          );
-      rest_is = λ no. absurd cc;
+-- where nothing is touched any more the verdict is Same
+pub rests : (r : KeptRun) (faults : List Fault) (n : ℕ) (past : Words) (held : List ℤ) (dirty : List Bool) (x y : Option (List Entry)) (i j : ℕ)
+    → n ≤ length r.answers → AllCycles r.graph r.table 0 r.rows r.answers → LastStands r → NoMark dirty
+    → ((m k : ℕ) → n ≤ m → m < length r.answers → acts_of faults m k ≡ None) → Between r faults n past held dirty x y i j
+    → RanThrough r faults verdict.Same x y i j
+rests r faults n past held dirty x y i j within all stands cells none b =
+    let t = r.table in
+    let g = r.graph in
+    let few : length (drop n r.answers) ≡ length r.answers - n = length-drop n r.answers in
+    let later = runs_again t g (acts_of faults) n past held dirty (drop n r.rows) (drop n r.answers) [] in
+    let rest : Rests later [] = runs_rest t g (acts_of faults) (drop n r.rows) (drop n r.answers) n past held dirty [] cells
+    (λ m k above below. none m k above (omega (arith, below, few, within)))
+    (none_refused r all stands (length r.answers - n) n (omega (arith, within))) in
+    let is : rerun t g faults r.rows r.answers b.given ≡ after_cycles b.owns b.entries later =
+    ap (λ (us : List Answer). rerun t g faults r.rows r.answers us) (sym (append-nil b.given)) ∙ b.so_far [] in
+    record {
+      given = b.given;
+      exact = record { none_left = ap (λ (a : Again). a.left) is ∙ rest.left_is; enough = ap (λ (a : Again). a.short) is ∙ rest.enough };
+      carried =
+          subst (λ (es : List Entry). Carried es x y i j)
+          (sym (ap (λ (a : Again). a.calls) is ∙ (ap (λ (es : List Entry). b.entries ++ es) rest.none ∙ append-nil b.entries))) b.carried;
+      verdict_is = sym (ap (λ (a : Again). a.verdict) is ∙ rest.same_is);
     }
-
-    -- or it has one
-    pub judges_there : (verdict : Verdict) → CycleRan r faults n row other v u (Some verdict) y z j k → RanThrough r faults verdict x z i k
-    judges_there verdict ran = judged_there r faults n row other v u verdict x y z i j k there answered woken ran

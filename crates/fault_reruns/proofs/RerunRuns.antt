@@ -44,7 +44,7 @@ pub starts : (r : KeptRun) (faults : List Fault) (x : Option (List Entry)) (i : 
     → Between r faults 0 no_words (initial_words r.graph r.table.seed) [] x x i i
 starts r faults x i nothing = record { given = []; entries = []; owns = []; so_far = λ more. refl; carried = nothing }
 
-drop_at : {X : Type 0} (xs : List X) (k : ℕ) (x : X) → slice_get xs k ≡ Some x → drop k xs ≡ x ∷ drop (suc k) xs
+pub drop_at : {X : Type 0} (xs : List X) (k : ℕ) (x : X) → slice_get xs k ≡ Some x → drop k xs ≡ x ∷ drop (suc k) xs
 drop_at [] k x there = absurd cc
 drop_at (y ∷ xs) zero x there = let same : y ≡ x = cc in ap (λ z. z ∷ xs) same
 drop_at (y ∷ xs) (suc k) x there = drop_at xs k x there

@@ -1,5 +1,5 @@
 -- Untouched: where nothing is touched, no call is made again, and the answers and the verdict are those of the run without the faults.
-use Rattle.std.proofs.Common.{◌≡◌, ℕ, zero, suc, ◌+◌, ◌-◌, ◌≤◌, ◌==◌, ◌&&◌, ◌||◌, Bool, true, false, cond, nat_lt, List, [], ◌∷◌, ◌++◌, length}
+use Rattle.std.proofs.Common.{◌≡◌, ℕ, zero, suc, ◌+◌, ◌-◌, ◌<◌, ◌≤◌, ◌==◌, ◌&&◌, ◌||◌, Bool, true, false, cond, nat_lt, List, [], ◌∷◌, ◌++◌, length}
 use Rattle.std.proofs.Common.{map, slice_get, Option, Some, None, ℤ, unsigned_abs}
 use Rattle.std.proofs.Common.{refl, sym, ap, subst, ◌∙◌, arith}
 use Rattle.std.specs.Option.{is_some}
@@ -179,17 +179,17 @@ rests_then None other left next same later =
     record { none = later.none; same_is = later.same_is; left_is = later.left_is; enough = later.enough }
 
 pub runs_rest : (t : Numbers) (g : Lists) (acts : Acts) (rows : List (List ℤ)) (others : List (List Answer)) (n : ℕ) (past : Words) (held : List ℤ)
-    (dirty : List Bool) (left : List Answer) → ((i : ℕ) → mark dirty i ≡ false) → ((m k : ℕ) → n ≤ m → acts m k ≡ None) → NoneRefused g t n others
-    → Rests (runs_again t g acts n past held dirty rows others left) left
+    (dirty : List Bool) (left : List Answer) → ((i : ℕ) → mark dirty i ≡ false) → ((m k : ℕ) → n ≤ m → m < n + length others → acts m k ≡ None)
+    → NoneRefused g t n others → Rests (runs_again t g acts n past held dirty rows others left) left
 runs_rest t g acts [] others n past held dirty left cells none ends = record { none = refl; same_is = refl; left_is = refl; enough = refl }
 runs_rest t g acts (row ∷ rows) [] n past held dirty left cells none ends = record { none = refl; same_is = refl; left_is = refl; enough = refl }
 runs_rest t g acts (row ∷ rows) (other ∷ others) n past held dirty left cells none ends =
-    let u : Untouched (acts n) dirty = record { cells = cells; no_fault = λ k. none n k (omega arith) } in
+    let u : Untouched (acts n) dirty = record { cells = cells; no_fault = λ k. none n k (omega arith) (omega arith) } in
     let marks = held_marks g (cycle_marks g other (acts n) dirty).given in
     let next : List Answer → List Answer → Again =
     λ own left. runs_again t g acts (suc n) (record { held = held; answers = own }) (stored_words g own) marks rows others left in
     let later = runs_rest t g acts rows others (suc n) (record { held = held; answers = other }) (stored_words g other) marks left
-    (none_held g other (acts n) dirty u) (λ m k below. none m k (omega (arith, below))) ends.2 in
+    (none_held g other (acts n) dirty u) (λ m k above below. none m k (omega (arith, above)) (omega (arith, below))) ends.2 in
     subst (λ (part : Part). Rests (and_later (λ own. read_cycle g t n own other) next part) left)
     (sym (cycle_same t g acts n past held dirty row other left ends.0 u))
     (rests_then (read_cycle g t n other other) other left (next other) (read_same g t n other ends.1) later)

@@ -1,28 +1,37 @@
 -- Resting: what a rerun goes on with where it passed over cycles in which nothing is touched.
-use Rattle.std.specs.Prelude.{ℕ, ◌-◌, Bool, true, false, List, [], ℤ, slice_index_or}
+use Rattle.std.specs.Prelude.{ℕ, ◌≡◌, ◌-◌, ◌≤◌, ◌+◌, List, [], length, ℤ, None, slice_index_or}
 use Rattle.coded_unit.specs.declared.call.Answer.{Answer}
-use Rattle.op_graph.specs.Lists.{Lists}
-use Rattle.coded_machine.specs.CycleEnds.{stored_words}
+use Rattle.coded_machine.specs.CycleEnds.{end_of, stored_words}
 use Rattle.fault_runs.specs.RunLaw.{Words}
 use Rattle.fault_reruns.specs.declared.rerun.Work.{Work}
 use Rattle.fault_reruns.specs.Crossing.{past_of}
 use Rattle.fault_reruns.specs.References.{KeptRun}
+use Rattle.fault_reruns.specs.Reruns.{refusal_in}
 use Rattle.fault_reruns.specs.Touched.{held_marks}
 
 -- the answers of the run without the faults in the cycle before cycle n
 abbrev pub last_answers : KeptRun → ℕ → List Answer
 last_answers r n = slice_index_or r.answers (n - 1) []
 
--- what cycle n begins with: at rest, as the run without the faults left it, with no cell touched; and else as the rerun itself did
+-- what cycle n, from the third on, begins with in that run: the words of the cells, and what the cycle before left
 
-abbrev pub held_at : KeptRun → ℕ → Bool → Work → List ℤ
-held_at r n true w = stored_words r.graph (last_answers r n)
-held_at r n false w = w.held.items
+abbrev pub held_at : KeptRun → ℕ → List ℤ
+held_at r n = stored_words r.graph (last_answers r n)
 
-abbrev pub past_at : KeptRun → ℕ → Bool → Work → Words
-past_at r n true w = record { held = stored_words r.graph (last_answers r (n - 1)); answers = last_answers r n }
-past_at r n false w = past_of w
+abbrev pub past_at : KeptRun → ℕ → Words
+past_at r n = record { held = held_at r (n - 1); answers = last_answers r n }
 
-abbrev pub dirty_at : Lists → Bool → Work → List Bool
-dirty_at g true w = held_marks g []
-dirty_at g false w = w.dirty.items
+-- the work is that, with no cell touched
+pub record Resting (r : KeptRun) (n : ℕ) (w : Work) : Type 0 where
+  pub past : past_of w ≡ past_at r n
+  pub held : w.held.items ≡ held_at r n
+  pub dirty : w.dirty.items ≡ held_marks r.graph []
+
+-- From cycle n a rerun comes to cycle m: it stays, or passes over two cycles or more.
+pub data Advanced (r : KeptRun) (n to : ℕ) (old new : Work) (m : ℕ) : Type 0 where
+  stays : m ≡ n → new ≡ old → Advanced r n to old new m
+  passes : n + 2 ≤ to → m ≡ to → Resting r to new → Advanced r n to old new m
+
+-- the last cycle of the run without the faults isn't refused
+abbrev pub LastStands : KeptRun → Type 0
+LastStands r = refusal_in (end_of r.graph r.table (length r.answers - 1) (slice_index_or r.answers (length r.answers - 1) [])) ≡ None

@@ -24,7 +24,7 @@ use crate::laws::{
 use crate::marks::{mark_cells, mark_operations};
 use crate::reading::read;
 use crate::reference::Reference;
-use crate::resting::{is_quiet, wake};
+use crate::resting::{advance, next_touched, rests};
 use coded_machine::{cycles_by_hand_are_whole, end_of_answers, first_words, store_words};
 use coded_unit::{Answer, Unit, Word};
 use fault_injector::Verdict;
@@ -154,8 +154,9 @@ fn cross(graph: &Graph, work: &mut Work)
     swap(&mut work.own, &mut work.past);
 }
 
-/// Reruns a group of faults from the first cycle on, and answers its verdict. It passes over each cycle in which nothing is touched, as in
-/// the cycle before: there it would make no call, and come to what the run without the faults came to.
+/// Reruns a group of faults from the first cycle on, and answers its verdict. It passes over cycles in which nothing is touched, up to the
+/// next one in which a fault stands: in them it would make no call, and come to what the run without the faults came to. Where no such cycle
+/// is left nothing differs any more.
 fn rerun<U: Unit>(
     reference: &Reference<'_>,
     group: &Group,
@@ -173,20 +174,17 @@ fn rerun<U: Unit>(
     // No call is carried at first.
     cycles_by_hand_are_whole();
     let count = reference.cycles();
-    let mut at_rest = false;
-    let mut quiet_before = false;
-    'cycles: for n in 0..count {
-        let quiet = is_quiet(reference, group, n, quiet_before, &work.dirty);
-        if quiet && quiet_before {
-            at_rest = true;
-            continue;
+    let mut n = 0;
+    'cycles: while n < count {
+        let next = next_touched(reference, group, n, &work.dirty);
+        if rests(reference, next) {
+            return Verdict::Same;
         }
-        wake(reference, n, at_rest, work);
-        at_rest = false;
-        quiet_before = quiet;
-        if let Some(verdict) = rerun_one(reference, group, n, unit, work) {
+        let here = advance(reference, n, next.min(count - 1), work);
+        if let Some(verdict) = rerun_one(reference, group, here, unit, work) {
             return verdict;
         }
+        n = here + 1;
     }
     Verdict::Same
 }

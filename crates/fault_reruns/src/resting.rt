@@ -1,12 +1,11 @@
 //! Cycles in which nothing is touched, which a rerun passes over.
 
 ghost use Rattle.std.specs.Prelude.{◌≡◌, ◌==◌, ◌<◌, ◌≤◌, ◌-◌, ℕ, [], true, false, None, length, slice_index_or, vec_capacity};
-ghost use Rattle.coded_machine.specs.CycleEnds.{end_of, stored_words};
-ghost use Rattle.coded_machine.specs.declared.cycle_end.CycleEnd.TheVariants.{Released};
 ghost use Rattle.fault_script.specs.Changes.{acts_of};
 ghost use Rattle.fault_reruns.specs.Begun.{answers_in};
-ghost use Rattle.fault_reruns.specs.Crossing.{Room, past_of};
-ghost use Rattle.fault_reruns.specs.Resting.{dirty_at, held_at, last_answers, past_at};
+ghost use Rattle.fault_reruns.specs.Crossing.{Room};
+ghost use Rattle.fault_reruns.specs.Reruns.{refusal_in};
+ghost use Rattle.fault_reruns.specs.Resting.{Advanced, LastStands, held_at, last_answers};
 ghost use Rattle.fault_reruns.specs.Touched.{held_marks, mark as mark_of};
 
 use crate::again::{answer_for, append};
@@ -17,24 +16,33 @@ use coded_machine::{CycleEnd, store_words};
 use coded_unit::Answer;
 use fault_script::{Fault, Group};
 
-/// Whether a fault stands in a cycle.
-fn stands_in(fault: &Fault, cycle: u32) -> bool
-    ensures { result ≡ (fault.now.cycle == cycle) }
+/// The earlier one of cycle `next` and of that of a fault, where the fault stands in cycle `n` or later.
+fn earlier(fault: &Fault, n: u32, next: u32) -> u32
+    requires { n ≤ next }
+    ensures from { n ≤ result }
+    ensures within { result ≤ next }
+    ensures passed { (m : ℕ) → n ≤ m → m < result → false ≡ (fault.now.cycle == m) }
 {
-    fault.cycle == cycle
+    if n <= fault.cycle && fault.cycle < next {
+        fault.cycle
+    } else {
+        next
+    }
 }
 
-/// Whether a fault of a group does.
-fn has_fault(group: &Group, cycle: u32) -> bool
-    ensures { result ≡ false → (k : ℕ) → acts_of group.now cycle k ≡ None }
+/// The first cycle from `n` on and before `last` in which a fault of the group stands, or `last`.
+fn next_fault(group: &Group, n: u32, last: u32) -> u32
+    requires { n ≤ last }
+    ensures from { n ≤ result }
+    ensures within { result ≤ last }
+    ensures none { (m k : ℕ) → n ≤ m → m < result → acts_of group.now m k ≡ None }
 {
+    let mut next = last;
     'faults: for i in 0..group.len() {
         let fault = group.at(i);
-        if stands_in(&fault, cycle) {
-            return true;
-        }
+        next = earlier(&fault, n, next);
     }
-    false
+    next
 }
 
 /// Whether none of these marks is set.
@@ -49,43 +57,44 @@ fn none_marked(marks: &[bool]) -> bool
     true
 }
 
-/// Whether a cycle ended by a release.
-fn is_released(end: &CycleEnd) -> bool
-    ensures { result ≡ true → end.now ≡ Released }
+/// Whether a cycle ended by the refusal of an output.
+fn is_refused(end: &CycleEnd) -> bool
+    ensures { result ≡ false → refusal_in end.now ≡ None }
 {
     match end {
-        CycleEnd::Released => true,
-        CycleEnd::Stopped { op: _, kind: _ }
-        | CycleEnd::Refused {
+        CycleEnd::Refused {
             output: _,
             found: _,
             expected: _,
-        } => false,
+        } => true,
+        CycleEnd::Released | CycleEnd::Stopped { op: _, kind: _ } => false,
     }
 }
 
-/// Whether nothing is touched in cycle `n`, and the run without the faults released it. Where nothing was in the cycle before, no cell
-/// is, and else these marks tell it.
-pub(crate) fn is_quiet(
-    reference: &Reference<'_>,
-    group: &Group,
-    n: u32,
-    quiet_before: bool,
-    cells: &[bool],
-) -> bool
+/// The next cycle from `n` on in which something may be touched: cycle `n` where a cell is, or else the first one in which a fault stands;
+/// the number of cycles where there is none.
+pub(crate) fn next_touched(reference: &Reference<'_>, group: &Group, n: u32, cells: &[bool]) -> u32
     requires { n < length reference.now.answers }
-    ensures no_fault { result ≡ true → (k : ℕ) → acts_of group.now n k ≡ None }
-    ensures cells { result ≡ true → quiet_before ≡ false → (i : ℕ) → mark_of cells.now i ≡ false }
-    ensures released { result ≡ true →
-        end_of reference.now.graph reference.now.table n (slice_index_or reference.now.answers n []) ≡ Released }
+    ensures from { n ≤ result }
+    ensures within { result ≤ length reference.now.answers }
+    ensures cells { n < result → (i : ℕ) → mark_of cells.now i ≡ false }
+    ensures none { (m k : ℕ) → n ≤ m → m < result → acts_of group.now m k ≡ None }
 {
-    if has_fault(group, n) {
-        return false;
+    if !none_marked(cells) {
+        return n;
     }
-    if !quiet_before && !none_marked(cells) {
-        return false;
-    }
-    is_released(&reference.end(n))
+    next_fault(group, n, reference.cycles())
+}
+
+/// Whether nothing differs any more where the next cycle in which something may be touched is this one: there is none, and no output was
+/// refused in the run without the faults.
+pub(crate) fn rests(reference: &Reference<'_>, next: u32) -> bool
+    requires { 0 < length reference.now.answers }
+    ensures none { result ≡ true → next ≡ length reference.now.answers }
+    ensures stands { result ≡ true → LastStands reference.now }
+{
+    let count = reference.cycles();
+    next == count && !is_refused(&reference.end(count - 1))
 }
 
 /// Copies the answers of a cycle to where there is room for them.
@@ -122,8 +131,8 @@ fn copy_state(reference: &Reference<'_>, n: u32, work: &mut Work)
     requires room { Room reference.now.graph work.old }
     ensures room { Room reference.now.graph work.new }
     ensures past { work.new.past.items ≡ last_answers reference.now n }
-    ensures past_held { work.new.past_held.items ≡ stored_words reference.now.graph (last_answers reference.now (n - 1)) }
-    ensures held { work.new.held.items ≡ stored_words reference.now.graph (last_answers reference.now n) }
+    ensures past_held { work.new.past_held.items ≡ held_at reference.now (n - 1) }
+    ensures held { work.new.held.items ≡ held_at reference.now n }
     ensures dirty { work.new.dirty.items ≡ held_marks reference.now.graph [] }
 {
     let graph = reference.graph();
@@ -135,17 +144,17 @@ fn copy_state(reference: &Reference<'_>, n: u32, work: &mut Work)
     mark_cells(graph, &[], &mut work.dirty);
 }
 
-/// Makes the work what cycle `n` begins with, where cycles before it were passed over or not.
-pub(crate) fn wake(reference: &Reference<'_>, n: u32, at_rest: bool, work: &mut Work)
-    requires there { n < length reference.now.answers }
-    requires begun { at_rest ≡ true → 2 ≤ n }
+/// Goes on from cycle `n` to cycle `to`, where two cycles or more are passed over.
+pub(crate) fn advance(reference: &Reference<'_>, n: u32, to: u32, work: &mut Work) -> u32
+    requires from { n ≤ to }
+    requires there { to < length reference.now.answers }
     requires room { Room reference.now.graph work.old }
     ensures room { Room reference.now.graph work.new }
-    ensures past { past_of work.new ≡ past_at reference.now n at_rest work.old }
-    ensures held { work.new.held.items ≡ held_at reference.now n at_rest work.old }
-    ensures dirty { work.new.dirty.items ≡ dirty_at reference.now.graph at_rest work.old }
+    ensures advanced { Advanced reference.now n to work.old work.new result }
 {
-    if at_rest {
-        copy_state(reference, n, work);
+    if to - n < 2 {
+        return n;
     }
+    copy_state(reference, to, work);
+    to
 }

@@ -1,8 +1,8 @@
-use Rattle.std.proofs.Common.{◌≡◌, length}
-use Rattle.fault_reruns.specs.Crossing.{Room}
+use Rattle.std.proofs.Common.{◌≡◌, ◌-◌, ◌≤◌, length}
+use Rattle.fault_reruns.specs.Crossing.{Room, past_of}
 use Rattle.fault_reruns.specs.References.{KeptRun}
 use Rattle.fault_reruns.specs.declared.rerun.Work.{Work}
-use Rattle.fault_reruns.proofs.PassedOver.{Going}
+use Rattle.fault_reruns.proofs.RerunRuns.{Between}
 use Rattle.fault_reruns.proofs.rerun.rerun.Given as goal
 
 abbrev pub invariant-cycles : goal.invariant-cycles
@@ -11,8 +11,12 @@ invariant-cycles g l =
     let r : KeptRun = l.reference in
     let w : Work = l.work in
     record {
-      going : Going r l.group l.n l.at_rest l.quiet_before w
+      between : Between r l.group l.n (past_of w) w.held.items w.dirty.items
           (unit.seen l.fn.unit).log (unit.seen l.unit).log (unit.seen l.fn.unit).wrong (unit.seen l.unit).wrong;
       room : Room r.graph w;
       count : l.count ≡ length r.answers;
+      within : l.n ≤ length r.answers;
     }
+
+abbrev pub decreases-cycles : goal.decreases-cycles
+decreases-cycles g l = l.count - l.n
