@@ -1,4 +1,5 @@
--- Abouts: what each command is about, a line a command. Nothing else that is said of commands goes by their names.
+-- Abouts: what each command is about, a line a command, and which one writes the same without a unit. What each comes to stands in the
+-- crate of the top call; nothing else is said of a command by its name.
 use Rattle.std.specs.Prelude.{ℕ, ◌≡◌, ◌⊎◌, Bool, true, false, List, [], ◌∷◌, ◌++◌, Option, Some, None, IsSome}
 use Rattle.vcp_base.specs.Limits.{most_source_bytes, most_image_bytes, most_rows_bytes}
 use Rattle.il_front.specs.Answers.{most_il_bytes}

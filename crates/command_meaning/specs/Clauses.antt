@@ -93,7 +93,7 @@ abbrev pub MayHold : About → Option Held → Held → Type 0
 MayHold c told held = (told ≡ Some held) ⊎ (c.files ≡ [])
 
 -- How a command serves, that comes to tasks so: it ends for its task or was given up; whatever its task is, each status has its cause; and
--- where each of its files is held and nothing failed, neither a file nor a sink is told to have.
+-- where each of its files is held and nothing failed, its status says of neither a file nor a sink that it failed.
 pub record Serves (c : About) (held : Held) (Comes : Task → Type 0) (before after : Outside) (status : ℕ) : Type 0 where
   pub answered : Answered c Comes before after status
   pub causes : (task : Task) → Comes task → Causes task before after status

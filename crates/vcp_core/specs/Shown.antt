@@ -1,4 +1,4 @@
--- Shown: when what is printed of a machine's run is what is printed of a job's.
+-- Shown: the condition under which a `Printed` prints of a machine's run what a job's `Printing` defines.
 use Rattle.std.specs.Prelude.{ℕ, ℤ, ◌≡◌, List, ◌++◌, None}
 use Rattle.coded_unit.specs.declared.call.Answer.{Answer as UnitAnswer}
 use Rattle.op_graph.specs.Lists.{Lists}

@@ -47,9 +47,10 @@ pub fn one_task()
     an_audit_has_one_text();
 }
 
-/// The image of any graph, seed and step is taken by each command that reads one, unless it has too
-/// many bytes: so what `compile` and `widen` write is never refused. The wide graph that `widen` writes
-/// has an image too and the same run, and it is the graph itself where that is wide.
+/// The image of any graph, seed and step is read as that graph and its table by each command that reads
+/// one, unless it has too many bytes: so nothing that `compile` and `widen` write is refused as no image.
+/// The wide graph that `widen` writes has an image too and the same run, and it is the graph itself where
+/// that is wide.
 pub fn written_images_are_taken()
     ensures taken { (g : Lists) (seed step : ℕ) (Then : Lists → Numbers → Task) (name : List ℕ) (held : Held) (task : Task) →
         HasImage g seed step → length (image_of g seed step) ≤ most_image_bytes →

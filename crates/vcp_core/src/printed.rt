@@ -1,4 +1,4 @@
-//! A graph's run on rows, on a unit, of which a value says what is printed.
+//! A graph's run on rows, on a unit. A `Printed` says what is printed of it first and last, a `ReleasedRows` what for each row.
 
 ghost use Rattle.std.specs.Prelude.{◌≡◌, ◌≤◌, ◌⊎◌, ℕ, List, [], None, IfSome, All, length, map};
 ghost use Rattle.vcp_base.specs.Limits.{most_cycles};
@@ -106,7 +106,7 @@ pub fn print_end<O: Sink>(
 }
 
 /// Runs the operations of a graph, whose table this is, on the rows that are left, on the unit, and
-/// prints of it what the values say. A row that is refused ends the run, and what was printed before it
+/// prints of it what `printed` and `released` say. A row that is refused ends the run, and what was printed before it
 /// stands. Where there is no memory, some front of all that may be printed was.
 pub fn run_printed<U: Unit, O: Sink, R: ReleasedRows, P: Printed<R>>(
     alloc: Global,
@@ -137,7 +137,7 @@ pub fn run_printed<U: Unit, O: Sink, R: ReleasedRows, P: Printed<R>>(
 }
 
 /// Runs a program's operations on the rows that are left, on the unit, as words of the code, and prints
-/// of it what the values say.
+/// of it what `printed` and `released` say.
 pub fn run_program<U: Unit, O: Sink, R: ReleasedRows, P: Printed<R>>(
     alloc: Global,
     program: &Typed,
