@@ -11,15 +11,15 @@ ghost use Rattle.fault_runs.specs.RunLaw.{GroupStands, RunsKept};
 ghost use Rattle.fault_injector.specs.Names.{Names};
 ghost use Rattle.fault_injector.specs.Verdicts.{verdict_of};
 ghost use Rattle.fault_reruns.specs.Crossing.{CycleRan, Room};
-ghost use Rattle.fault_reruns.specs.Laws.{AsksAtTouched, TouchedLaws};
+ghost use Rattle.fault_reruns.specs.Laws.{AsksAtTouched, RerunsAreRight, TouchedLaws};
 ghost use Rattle.fault_reruns.specs.Reruns.{InCycles, IsReference, Reran};
 ghost use Rattle.fault_reruns.specs.Through.{RanThrough};
 ghost use Rattle.fault_reruns.specs.Touched.{held_marks};
 
 use crate::again::{Begun, rerun_cycle};
 use crate::laws::{
-    reruns_ask_at_touched_operations, touched_operations_are_told_by_what_they_read,
-    verdicts_read_off_right_answers_are_defined,
+    reruns_ask_at_touched_operations, reruns_of_right_answers_are_right_runs,
+    touched_operations_are_told_by_what_they_read, verdicts_read_off_right_answers_are_defined,
 };
 use crate::marks::{mark_cells, mark_operations};
 use crate::reading::read;
@@ -196,7 +196,7 @@ impl<'a> Reference<'a> {
     ///
     /// Where the group fits the graph, and the answers of the run without it are right and those of this call too, it is the defined
     /// verdict. The cycle, the output and the operation that it names are there, whatever the unit answers. Laws that are clauses too say
-    /// which operations are touched, at which the unit is asked, and which words the run with the group has.
+    /// which operations are touched, at which the unit is asked, which answers a whole run with the group has, and which words.
     pub fn verdict<U: Unit>(
         &self,
         alloc: Global,
@@ -213,6 +213,7 @@ impl<'a> Reference<'a> {
         ensures err { OnErr result (unit.new ≡ unit.old) }
         ensures touched { TouchedLaws }
         ensures asks { AsksAtTouched }
+        ensures right_runs { RerunsAreRight }
         ensures run_law { RunsKept }
         ensures groups { GroupStands }
         ensures values { OneFaultRuns }
@@ -223,6 +224,7 @@ impl<'a> Reference<'a> {
         // operation of its graph.
         touched_operations_are_told_by_what_they_read();
         reruns_ask_at_touched_operations();
+        reruns_of_right_answers_are_right_runs();
         runs_under_acts_keep_the_run_law();
         one_fault_runs_by_its_act();
         ends_under_acts_are_read_off_the_answers();
