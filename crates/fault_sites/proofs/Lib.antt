@@ -1,0 +1,10 @@
+mod Below
+mod Counting
+mod Ended
+mod Going
+mod Parts
+mod ReadBack
+mod SitesFit
+mod SitesOnce
+mod Spelled
+mod Worked

@@ -1,0 +1,7 @@
+use Rattle.fault_sites.specs.Sites.{each_below, sites_in}
+use Rattle.fault_sites.specs.Telling.{Tells}
+use Rattle.fault_sites.proofs.writing.then_class.Given as goal
+
+abbrev pub invariant-cycles : goal.invariant-cycles
+invariant-cycles g l =
+    Tells (g.O.Sink.seen l.fn.out) (g.O.Sink.seen l.out) l.fn.line l.line l.fn.part l.part (each_below (λ n. sites_in l.class l.graph n) l.n)

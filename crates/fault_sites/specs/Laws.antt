@@ -1,0 +1,38 @@
+-- Laws: what holds of the sites of all graphs.
+use Rattle.std.specs.Prelude.{◌≡◌, ◌≢◌, ℕ, ◌+◌, ◌^◌, ◌≤◌, List, [], ◌∷◌, ◌++◌, length, All, Ok}
+use Rattle.vcp_base.specs.Limits.{most_cycles}
+use Rattle.op_graph.specs.Lists.{Lists}
+use Rattle.fault_script.specs.Fits.{Fits}
+use Rattle.fault_script.specs.ScriptOf.{most_faults, script_of}
+use Rattle.fault_sites.specs.declared.class.Classes.{Classes}
+use Rattle.fault_sites.specs.declared.part.Part.{Part}
+use Rattle.fault_sites.specs.declared.site.Site.{Site}
+use Rattle.fault_sites.specs.Part.{kept}
+use Rattle.fault_sites.specs.Sites.{as_fault, sites}
+use Rattle.fault_sites.specs.SiteText.{said_from, sites_text}
+
+-- no two of these are one
+abbrev pub Distinct : {X : Type 0} → List X → Type 0
+Distinct [] = Unit {0}
+Distinct (x ∷ xs) = All (λ y. x ≢ y) xs × Distinct xs
+
+-- each site fits the graph, whatever line it has
+abbrev pub EachFits : Type 0
+EachFits = (c : Classes) (g : Lists) (cycles line : ℕ) → cycles ≤ most_cycles → All (λ s. Fits g (as_fault line s)) (sites c g cycles)
+
+-- each site stands once
+abbrev pub EachOnce : Type 0
+EachOnce = (c : Classes) (g : Lists) (cycles : ℕ) → Distinct (sites c g cycles)
+
+-- two parts, one behind the other, are one part of both lengths
+abbrev pub PartsAreWhole : Type 0
+PartsAreWhole = (xs : List Site) (skip first second : ℕ) →
+    kept (record { skip = skip; left = first + second }) xs
+    ≡ kept (record { skip = skip; left = first }) xs ++ kept (record { skip = skip + first; left = second }) xs
+
+-- The script of a part is read back as the faults of its sites, a group each, from line 2 on. The digits of the digest are no control characters.
+abbrev pub IsReadBack : Type 0
+IsReadBack =
+    (c : Classes) (digest : List ℕ) (g : Lists) (cycles : ℕ) (p : Part) → All (λ b. 32 ≤ b) digest → cycles ≤ most_cycles
+    → length g.operations ≤ 2 ^ 32 → length (kept p (sites c g cycles)) ≤ most_faults →
+    script_of g (sites_text c digest g cycles p) ≡ Ok (said_from 2 (kept p (sites c g cycles)))

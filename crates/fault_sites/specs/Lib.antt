@@ -1,0 +1,5 @@
+pub mod Laws
+pub mod Part
+pub mod SiteText
+pub mod Sites
+pub mod Telling

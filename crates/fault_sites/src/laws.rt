@@ -1,0 +1,23 @@
+//! Laws of sites. Each function does nothing: it states a law.
+
+ghost use Rattle.fault_sites.specs.Laws.{EachFits, EachOnce, IsReadBack, PartsAreWhole};
+
+/// Each site fits the graph, in the sense of scripts of faults, whatever line it stands in.
+pub fn each_site_fits()
+    ensures { EachFits }
+{}
+
+/// No site stands twice.
+pub fn each_site_stands_once()
+    ensures { EachOnce }
+{}
+
+/// Two parts, one behind the other, are one part of both lengths.
+pub fn parts_are_the_whole()
+    ensures { PartsAreWhole }
+{}
+
+/// The script of a part of at most 10,000 sites is read back as the faults of these sites, a group each, in their order.
+pub fn a_script_is_read_back()
+    ensures { IsReadBack }
+{}

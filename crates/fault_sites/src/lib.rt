@@ -1,0 +1,21 @@
+//! Scripts of the single faults of a class: each fault that a graph can have there in so many cycles, once, in order.
+#![tactic(auto)]
+
+mod acts;
+mod class;
+mod counts;
+mod laws;
+mod lines;
+mod part;
+mod site;
+mod telling;
+mod values;
+mod writing;
+
+pub use class::{Class, Classes};
+pub use counts::count_sites;
+pub use laws::{a_script_is_read_back, each_site_fits, each_site_stands_once, parts_are_the_whole};
+pub use lines::classes_name;
+pub use part::Part;
+pub use site::Site;
+pub use writing::write_sites;

@@ -1,0 +1,110 @@
+//! The line of a site.
+
+ghost use Rattle.std.specs.Prelude.{◌≡◌, ◌++◌, codes, decimal};
+ghost use Rattle.gathered_line.specs.Gathering.{GathersTo};
+ghost use Rattle.fault_sites.specs.SiteText.{class_name as class_name_of, classes_name as classes_name_of, verb as verb_of, rest as rest_of, site_line};
+
+use crate::class::{Class, Classes};
+use crate::site::Site;
+use fault_script::Act;
+use gathered_line::Line;
+use vcp_base::kind_name;
+use vcp_outside::Sink;
+
+/// The word that names a class.
+fn class_name(class: Class) -> &'static [u8]
+    ensures { result.now ≡ class_name_of class }
+{
+    match class {
+        Class::Bits => b"bits",
+        Class::Stale => b"stale",
+        Class::Skip => b"skip",
+        Class::From => b"from",
+        Class::Operator => b"operator",
+    }
+}
+
+/// The word that names one class, or all.
+pub fn classes_name(classes: Classes) -> &'static [u8]
+    ensures { result.now ≡ classes_name_of classes }
+{
+    match classes {
+        Classes::One(class) => class_name(class),
+        Classes::All => b"all",
+    }
+}
+
+/// The first word of a line, and a space.
+fn verb(act: &Act) -> &'static [u8]
+    ensures { result.now ≡ verb_of act.now }
+{
+    match *act {
+        Act::OperandAdd { j: _, e: _ }
+        | Act::OperandFrom { j: _, r: _ }
+        | Act::OperandStale { j: _ } => b"operand ",
+        Act::ResultAdd { e: _ } => b"result ",
+        Act::Operator { kind: _ } => b"operator ",
+        Act::Skip => b"skip ",
+    }
+}
+
+/// Goes on with the number of an operand and a word.
+fn then_operand<O: Sink>(line: &mut Line, out: &mut O, j: u32, word: &[u8])
+    ensures { GathersTo (O.seen out.old) (O.seen out.new) line.old line.new (codes " " ++ (decimal j ++ word.now)) }
+{
+    line.text(out, b" ");
+    line.count(out, j as u64);
+    line.text(out, word);
+}
+
+/// Goes on with a number that is added to operand `j`.
+fn then_operand_add<O: Sink>(line: &mut Line, out: &mut O, j: u32, e: i64)
+    ensures { GathersTo (O.seen out.old) (O.seen out.new) line.old line.new (rest_of (Act.OperandAdd j e)) }
+{
+    then_operand(line, out, j, b" add ");
+    line.value(out, e);
+}
+
+/// Goes on with a number that is added to the result.
+fn then_result_add<O: Sink>(line: &mut Line, out: &mut O, e: i64)
+    ensures { GathersTo (O.seen out.old) (O.seen out.new) line.old line.new (rest_of (Act.ResultAdd e)) }
+{
+    line.text(out, b" add ");
+    line.value(out, e);
+}
+
+/// Goes on with the operation whose word operand `j` is.
+fn then_operand_from<O: Sink>(line: &mut Line, out: &mut O, j: u32, r: u32)
+    ensures { GathersTo (O.seen out.old) (O.seen out.new) line.old line.new (rest_of (Act.OperandFrom j r)) }
+{
+    then_operand(line, out, j, b" from ");
+    line.count(out, r as u64);
+}
+
+/// Goes on with what stands behind the cycle and the operation.
+fn then_rest<O: Sink>(line: &mut Line, out: &mut O, act: &Act)
+    ensures { GathersTo (O.seen out.old) (O.seen out.new) line.old line.new (rest_of act.now) }
+{
+    match *act {
+        Act::OperandAdd { j, e } => then_operand_add(line, out, j, e),
+        Act::OperandFrom { j, r } => then_operand_from(line, out, j, r),
+        Act::OperandStale { j } => then_operand(line, out, j, b" stale"),
+        Act::ResultAdd { e } => then_result_add(line, out, e),
+        Act::Operator { kind } => {
+            line.text(out, b" ");
+            line.text(out, kind_name(kind));
+        }
+        Act::Skip => {}
+    }
+}
+
+/// Goes on with the line of a site, without its LF.
+pub(crate) fn then_site<O: Sink>(line: &mut Line, out: &mut O, site: &Site)
+    ensures { GathersTo (O.seen out.old) (O.seen out.new) line.old line.new (site_line site.now) }
+{
+    line.text(out, verb(&site.act));
+    line.count(out, site.cycle as u64);
+    line.text(out, b" ");
+    line.count(out, site.op as u64);
+    then_rest(line, out, &site.act);
+}

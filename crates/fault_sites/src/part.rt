@@ -1,0 +1,10 @@
+//! Parts of sites.
+
+/// A part of the sites, in their order.
+#[derive(Clone, Copy, Debug, PartialEq, Eq)]
+pub struct Part {
+    /// How many sites stand before it.
+    pub skip: u64,
+    /// The most sites that it has.
+    pub left: u64,
+}
