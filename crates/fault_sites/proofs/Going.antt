@@ -27,7 +27,9 @@ same gathers e start before text is = rw e (gathers start before text is)
 
 fed_append : (xs ys : List Site) → fed_lines (xs ++ ys) ≡ fed_lines xs ++ fed_lines ys
 fed_append [] ys = refl
-fed_append (s ∷ xs) ys = ap (λ (t : List ℕ). 10 ∷ (site_line s ++ t)) (fed_append xs ys) ∙ ap (λ (t : List ℕ). 10 ∷ t) (sym (append_assoc (site_line s) (fed_lines xs) (fed_lines ys)))
+fed_append (s ∷ xs) ys =
+    ap (λ (t : List ℕ). 10 ∷ (site_line s ++ t)) (fed_append xs ys)
+    ∙ ap (λ (t : List ℕ). 10 ∷ t) (sym (append_assoc (site_line s) (fed_lines xs) (fed_lines ys)))
 
 -- no sites
 pub tells_none : {a : SinkSeen} {l : Gathered} {p : Part} → Tells a a l l p p []
@@ -83,7 +85,8 @@ pub one_told : {a b : SinkSeen} {l m : Gathered} {p q : Part} (s : Site) → 0 <
     → GathersTo a b l m (codes "\n" ++ site_line s) → Tells a b l m p q (s ∷ [])
 one_told {p = p} {q = q} s going none skip left told = record {
   gathers = same told (ap fed_lines (kept_first p s going none) ∙ ap (λ (t : List ℕ). 10 ∷ t) (append-nil (site_line s)));
-  left = part_same q.skip (p.skip - 1) q.left (p.left - (1 - p.skip)) (omega (arith, skip, none)) (omega (arith, left, none)) ∙ sym (after_going p (s ∷ []) going);
+  left = part_same q.skip (p.skip - 1) q.left (p.left - (1 - p.skip)) (omega (arith, skip, none)) (omega (arith, left, none))
+      ∙ sym (after_going p (s ∷ []) going);
 }
 
 -- sites that all stand before the part

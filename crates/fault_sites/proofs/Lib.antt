@@ -5,6 +5,7 @@ mod Going
 mod Parts
 mod ReadBack
 mod SitesFit
+mod SitesHave
 mod SitesOnce
 mod Spelled
 mod Worked

@@ -1,6 +1,8 @@
 -- ReadBack: a script of sites is read back as their faults.
-use Rattle.std.proofs.Common.{◌≡◌, ℕ, zero, suc, ◌+◌, ◌-◌, ◌^◌, ◌<◌, ◌≤◌, ◌==◌, ◌&&◌, Bool, true, false, cond, nat_lt, nat_le, List, [], ◌∷◌, ◌++◌, length, drop}
-use Rattle.std.proofs.Common.{All, Option, Some, None, Result, Ok, Err, ℤ, decimal, codes, slice_get, slice_index, refl, ap, ◌∙◌, arith, append_assoc, append-nil}
+use Rattle.std.proofs.Common.{◌≡◌, ℕ, zero, suc, ◌+◌, ◌-◌, ◌^◌, ◌<◌, ◌≤◌, ◌==◌, ◌&&◌, Bool, true, false, cond, nat_lt, nat_le, List, [], ◌∷◌, ◌++◌, length}
+use Rattle.std.proofs.Common.{drop}
+use Rattle.std.proofs.Common.{All, Option, Some, None, Result, Ok, Err, ℤ, decimal, codes, slice_get, slice_index, refl, ap, ◌∙◌, arith, append_assoc}
+use Rattle.std.proofs.Common.{append-nil}
 use Rattle.std.specs.Option.{option_map, option_and_then}
 use Rattle.std.specs.Fmt.{signed_decimal}
 use Rattle.std.specs.List.{list_all, filter, slice_split}
@@ -187,8 +189,19 @@ shown_number n h = decimal_shown n (omega arith)
 all_shown : (n k : ℕ) (a : Act) → n < 2 ^ 32 → k < 2 ^ 32 → Small a → AllShown (site_words (site n k a))
 all_shown n k (act.OperandAdd j e) h l m =
     (shown_from (codes "operand") refl, (shown_number n h, (shown_number k l, (shown_number j m.0, (shown_from (codes "add") refl, (signed_shown e m.1, tt))))))
-all_shown n k (act.OperandFrom j r) h l m =
-    (shown_from (codes "operand") refl, (shown_number n h, (shown_number k l, (shown_number j m.0, (shown_from (codes "from") refl, (shown_number r m.1, tt))))))
+all_shown n k (act.OperandFrom j r) h l m = (
+  shown_from (codes "operand") refl,
+  (
+    shown_number n h,
+    (
+      shown_number k l,
+      (
+        shown_number j m.0,
+        (shown_from (codes "from") refl, (shown_number r m.1, tt)),
+      ),
+    ),
+  ),
+)
 all_shown n k (act.OperandStale j) h l m =
     (shown_from (codes "operand") refl, (shown_number n h, (shown_number k l, (shown_number j m, (shown_from (codes "stale") refl, tt)))))
 all_shown n k (act.ResultAdd e) h l m =
@@ -217,7 +230,8 @@ change n k a = record { cycle = n; op = k; act = a }
 
 change_is : (n k : ℕ) (a : Act) → n < most_cycles → k < 2 ^ 32 → Small a → change_of (site_words (site n k a)) ≡ Some (change n k a)
 change_is n k a h l m =
-    ap (λ (o : Option ℕ). option_and_then (λ n. option_and_then (λ k. option_map (λ a. change n k a) (act_of (verb_word a) (rest_words a))) (index_of (decimal k))) o)
+    ap (λ (o : Option ℕ). option_and_then
+    (λ n. option_and_then (λ k. option_map (λ a. change n k a) (act_of (verb_word a) (rest_words a))) (index_of (decimal k))) o)
     (cycle_is n h)
     ∙ (ap (λ (o : Option ℕ). option_and_then (λ k. option_map (λ a. change n k a) (act_of (verb_word a) (rest_words a))) o) (index_is k l)
     ∙ ap (λ (o : Option Act). option_map (λ a. change n k a) o) (act_is a m))

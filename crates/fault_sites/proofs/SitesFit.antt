@@ -86,7 +86,7 @@ other_fits kind k n (Some other) =
     (λ may. all_one (ActFits kind k n) (act.Operator other)
     (record { sited = refl; timely = refl; alike = left_of (operands other == operands kind) _ may; moderate = refl }))
 
-acts_fit : (c : Class) (g : Lists) (op : Op) (k n : ℕ) → has_acts c n ≡ true → All (ActFits op.kind k n) (acts_of c g k op)
+pub acts_fit : (c : Class) (g : Lists) (op : Op) (k n : ℕ) → has_acts c n ≡ true → All (ActFits op.kind k n) (acts_of c g k op)
 acts_fit class.Bits g op k n has =
     All-append (ActFits op.kind k n) (bits_at None) _ (results_fit op.kind k n)
     (all_below (ActFits op.kind k n) (λ j. bits_at (Some j)) (operands op.kind) (λ j there. operands_fit op.kind k n j there))

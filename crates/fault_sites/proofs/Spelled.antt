@@ -1,5 +1,6 @@
 -- Spelled: what the words of a line write.
-use Rattle.std.proofs.Common.{◌≡◌, ℕ, suc, ◌+◌, ◌-◌, ◌*◌, ◌/◌, ◌%◌, ◌^◌, ◌<◌, ◌≤◌, ◌==◌, ◌&&◌, Bool, true, false, cond, nat_lt, nat_le, List, [], ◌∷◌, ◌++◌, length}
+use Rattle.std.proofs.Common.{◌≡◌, ℕ, suc, ◌+◌, ◌-◌, ◌*◌, ◌/◌, ◌%◌, ◌^◌, ◌<◌, ◌≤◌, ◌==◌, ◌&&◌, Bool, true, false, cond, nat_lt, nat_le, List, [], ◌∷◌, ◌++◌}
+use Rattle.std.proofs.Common.{length}
 use Rattle.std.proofs.Common.{Option, Some, None, ℤ, pos, negsuc, neg_ℤ, decimal, refl, ap, ◌∙◌, arith}
 use Rattle.std.specs.Option.{option_map, option_and_then}
 use Rattle.std.specs.Fmt.{signed_decimal}
@@ -28,7 +29,8 @@ pub record IsDigits (n : ℕ) (ds : List ℕ) : Type 0 where
   pub digits : list_all is_ascii_digit ds ≡ true
   pub value : number_of ds ≡ n
 
-number_more : (a : ℕ) (ds : List ℕ) (c : ℕ) → fold (λ n digit. n * 10 + (digit - 48)) a (ds ++ c ∷ []) ≡ fold (λ n digit. n * 10 + (digit - 48)) a ds * 10 + (c - 48)
+number_more : (a : ℕ) (ds : List ℕ) (c : ℕ)
+    → fold (λ n digit. n * 10 + (digit - 48)) a (ds ++ c ∷ []) ≡ fold (λ n digit. n * 10 + (digit - 48)) a ds * 10 + (c - 48)
 number_more a [] c = refl
 number_more a (d ∷ ds) c = number_more (a * 10 + (d - 48)) ds c
 

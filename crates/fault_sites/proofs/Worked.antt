@@ -1,5 +1,5 @@
 -- Worked: the sites of the graph of `n := n + 1; y := n;` (LOAD, CONST, ADD, OUT, STORE), by hand.
-use Rattle.std.specs.Prelude.{◌≡◌, refl, ℕ, ◌+◌, [], ◌∷◌, length, slice_get, Some, ℤ, pos, neg_ℤ, codes, Ok}
+use Rattle.std.specs.Prelude.{◌≡◌, refl, ℕ, ◌+◌, [], ◌∷◌, length, slice_get, Some, None, ℤ, pos, neg_ℤ, codes, Ok}
 use Rattle.std.specs.Fmt.{digits}
 use Rattle.vcp_base.specs.declared.code.Profile.TheVariants as profile
 use Rattle.vcp_base.specs.declared.ty.Ty.TheVariants as ty
@@ -12,7 +12,7 @@ use Rattle.fault_script.specs.ScriptOf.{script_of}
 use Rattle.fault_sites.specs.declared.class.Class.TheVariants as class
 use Rattle.fault_sites.specs.declared.class.Classes.TheVariants as classes
 use Rattle.fault_sites.specs.Sites.{addend, site, sites_of, sites}
-use Rattle.fault_sites.specs.SiteText.{site_text, sites_text, said_from}
+use Rattle.fault_sites.specs.SiteText.{classes_name, classes_of, site_text, sites_text, said_from}
 
 op_on : Kind → ℕ → ℕ → ℤ → Op
 op_on k a b imm = record { kind = k; from = ty.Dint; ty = ty.Dint; a = a; b = b; c = 0; imm = imm; spot = record { line = 0; col = 0 }; turn = 0 }
@@ -115,3 +115,16 @@ stale_read : script_of counter (sites_text (classes.One class.Stale) (codes "00f
     ≡ Ok (said_from 2 (sites_of class.Stale counter 2))
 unfolding digits counter op_on
 stale_read = refl
+
+-- a word that names classes is read back
+named_bits : classes_of (classes_name (classes.One class.Bits)) ≡ Some (classes.One class.Bits)
+named_bits = refl
+
+named_operator : classes_of (classes_name (classes.One class.Operator)) ≡ Some (classes.One class.Operator)
+named_operator = refl
+
+named_all : classes_of (classes_name classes.All) ≡ Some classes.All
+named_all = refl
+
+named_none : classes_of (codes "flip") ≡ None
+named_none = refl

@@ -1,4 +1,5 @@
 pub mod Laws
+pub mod Members
 pub mod Part
 pub mod SiteText
 pub mod Sites

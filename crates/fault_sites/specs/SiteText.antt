@@ -1,5 +1,5 @@
 -- SiteText: a script of sites: a remark, and a line each. Each line ends with LF.
-use Rattle.std.specs.Prelude.{ℕ, ◌+◌, List, [], ◌∷◌, ◌++◌, decimal, codes}
+use Rattle.std.specs.Prelude.{ℕ, ◌+◌, List, [], ◌∷◌, ◌++◌, cond, bytes_eq, Option, Some, None, decimal, codes}
 use Rattle.std.specs.Fmt.{signed_decimal}
 use Rattle.vcp_base.specs.Spellings.{kind_name}
 use Rattle.op_graph.specs.Lists.{Lists}
@@ -26,6 +26,17 @@ class_name class.Operator = codes "operator"
 abbrev pub classes_name : Classes → List ℕ
 classes_name (classes.One c) = class_name c
 classes_name classes.All = codes "all"
+
+-- the classes that a word names
+abbrev pub classes_of : List ℕ → Option Classes
+classes_of w =
+    cond (bytes_eq w (codes "bits")) (Some (classes.One class.Bits))
+    (cond (bytes_eq w (codes "stale")) (Some (classes.One class.Stale))
+    (cond (bytes_eq w (codes "skip")) (Some (classes.One class.Skip))
+    (cond (bytes_eq w (codes "from")) (Some (classes.One class.From))
+    (cond (bytes_eq w (codes "operator")) (Some (classes.One class.Operator))
+    (cond (bytes_eq w (codes "all")) (Some classes.All)
+    None)))))
 
 -- the first word of a line
 abbrev pub verb : Act → List ℕ

@@ -1,6 +1,7 @@
 //! Laws of sites. Each function does nothing: it states a law.
 
 ghost use Rattle.fault_sites.specs.Laws.{EachFits, EachOnce, IsReadBack, PartsAreWhole};
+ghost use Rattle.fault_sites.specs.Members.{HasEach};
 
 /// Each site fits the graph, in the sense of scripts of faults, whatever line it stands in.
 pub fn each_site_fits()
@@ -20,4 +21,9 @@ pub fn parts_are_the_whole()
 /// The script of a part of at most 10,000 sites is read back as the faults of these sites, a group each, in their order.
 pub fn a_script_is_read_back()
     ensures { IsReadBack }
+{}
+
+/// The sites of a class are the faults that are of the class, and no others.
+pub fn each_fault_of_a_class_has_a_site()
+    ensures { HasEach }
 {}

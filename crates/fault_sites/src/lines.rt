@@ -2,7 +2,8 @@
 
 ghost use Rattle.std.specs.Prelude.{◌≡◌, ◌++◌, codes, decimal};
 ghost use Rattle.gathered_line.specs.Gathering.{GathersTo};
-ghost use Rattle.fault_sites.specs.SiteText.{class_name as class_name_of, classes_name as classes_name_of, verb as verb_of, rest as rest_of, site_line};
+ghost use Rattle.fault_sites.specs.SiteText.{class_name as class_name_of, classes_name as classes_name_of, classes_of, verb as verb_of, rest as rest_of};
+ghost use Rattle.fault_sites.specs.SiteText.{site_line};
 
 use crate::class::{Class, Classes};
 use crate::site::Site;
@@ -32,6 +33,31 @@ pub fn classes_name(classes: Classes) -> &'static [u8]
         Classes::One(class) => class_name(class),
         Classes::All => b"all",
     }
+}
+
+/// The classes that a word names.
+pub fn classes_named(word: &[u8]) -> Option<Classes>
+    ensures { result ≡ classes_of word.now }
+{
+    if word == b"bits".as_slice() {
+        return Some(Classes::One(Class::Bits));
+    }
+    if word == b"stale".as_slice() {
+        return Some(Classes::One(Class::Stale));
+    }
+    if word == b"skip".as_slice() {
+        return Some(Classes::One(Class::Skip));
+    }
+    if word == b"from".as_slice() {
+        return Some(Classes::One(Class::From));
+    }
+    if word == b"operator".as_slice() {
+        return Some(Classes::One(Class::Operator));
+    }
+    if word == b"all".as_slice() {
+        return Some(Classes::All);
+    }
+    None
 }
 
 /// The first word of a line, and a space.

@@ -6,7 +6,9 @@ use Rattle.fault_sites.proofs.counts.count_class.Goals as goal
 pub cycles-preserved : goal.cycles-preserved
 cycles-preserved c =
     record {
-      value = count_more (λ n. sites_in c.args.class c.args.graph.now n) c.cycles.n _ _ c.cycles.invariant.value (c.count_cycle-count.ensures.count ∙ in_many c.args.class c.args.graph.now c.cycles.n _ c.count_in-size.ensures.count);
+      value =
+          count_more (λ n. sites_in c.args.class c.args.graph.now n)
+          c.cycles.n _ _ c.cycles.invariant.value (c.count_cycle-count.ensures.count ∙ in_many c.args.class c.args.graph.now c.cycles.n _ c.count_in-size.ensures.count);
       few = omega arith;
     }
 

@@ -7,7 +7,9 @@ use Rattle.fault_sites.proofs.counts.count_from.Goals as goal
 pub operands-preserved : goal.operands-preserved
 operands-preserved c =
     record {
-      value = count_more (λ j. each_below (λ r. from_one c.args.op.now j r (slice_get c.args.graph.now.operations r)) c.args.k) c.operands.j _ _ c.operands.invariant.value c.count_sources-count.ensures.count;
+      value =
+          count_more (λ j. each_below (λ r. from_one c.args.op.now j r (slice_get c.args.graph.now.operations r)) c.args.k)
+          c.operands.j _ _ c.operands.invariant.value c.count_sources-count.ensures.count;
       few = omega arith;
     }
 

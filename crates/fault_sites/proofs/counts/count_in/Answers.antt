@@ -6,7 +6,9 @@ use Rattle.fault_sites.proofs.counts.count_in.Goals as goal
 pub operations-preserved : goal.operations-preserved
 operations-preserved c =
     record {
-      value = count_more (λ k. sites_at c.args.class c.args.graph.now 1 k (slice_get c.args.graph.now.operations k)) c.operations.k _ _ c.operations.invariant.value c.count_at-count.ensures.count;
+      value =
+          count_more (λ k. sites_at c.args.class c.args.graph.now 1 k (slice_get c.args.graph.now.operations k))
+          c.operations.k _ _ c.operations.invariant.value c.count_at-count.ensures.count;
       few = omega arith;
     }
 

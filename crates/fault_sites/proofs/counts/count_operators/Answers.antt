@@ -7,7 +7,9 @@ use Rattle.fault_sites.proofs.counts.count_operators.Goals as goal
 pub kinds-preserved : goal.kinds-preserved
 kinds-preserved c =
     record {
-      value = count_more (λ code. operator_one c.args.op.now.kind (slice_get kinds code)) c.kinds.code _ _ c.kinds.invariant.value (rw (← c.operator_of.ensures) at c.count_any-count.ensures.count);
+      value =
+          count_more (λ code. operator_one c.args.op.now.kind (slice_get kinds code))
+          c.kinds.code _ _ c.kinds.invariant.value (rw (← c.operator_of.ensures) at c.count_any-count.ensures.count);
       few = omega arith;
     }
 

@@ -6,7 +6,9 @@ use Rattle.fault_sites.proofs.counts.count_sources.Goals as goal
 pub sources-preserved : goal.sources-preserved
 sources-preserved c =
     record {
-      value = count_more (λ r. from_one c.args.op.now c.args.j r (slice_get c.args.graph.now.operations r)) c.sources.r _ _ c.sources.invariant.value (rw (← c.from_of.ensures) at c.count_any-count.ensures.count);
+      value =
+          count_more (λ r. from_one c.args.op.now c.args.j r (slice_get c.args.graph.now.operations r))
+          c.sources.r _ _ c.sources.invariant.value (rw (← c.from_of.ensures) at c.count_any-count.ensures.count);
       few = omega arith;
     }
 

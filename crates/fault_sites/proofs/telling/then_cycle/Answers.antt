@@ -7,7 +7,9 @@ pub operations-init : goal.operations-init
 operations-init g c = tells_none
 
 pub operations-preserved : goal.operations-preserved
-operations-preserved g c = sites_more (λ k. sites_at c.args.class c.args.graph.now c.args.n k (slice_get c.args.graph.now.operations k)) c.operations.k c.operations.invariant c.then_operation-part.ensures
+operations-preserved g c =
+    sites_more (λ k. sites_at c.args.class c.args.graph.now c.args.n k (slice_get c.args.graph.now.operations k))
+    c.operations.k c.operations.invariant c.then_operation-part.ensures
 
 pub returns : goal.returns
 returns g c =

@@ -8,7 +8,9 @@ pub operands-init : goal.operands-init
 operands-init g c = tells_none
 
 pub operands-preserved : goal.operands-preserved
-operands-preserved g c = acts_more _ _ (λ j. each_below (λ r. from_one c.args.op.now j r (slice_get c.args.graph.now.operations r)) c.args.k) c.operands.j c.operands.invariant c.then_sources-part.ensures
+operands-preserved g c =
+    acts_more _ _ (λ j. each_below (λ r. from_one c.args.op.now j r (slice_get c.args.graph.now.operations r)) c.args.k)
+    c.operands.j c.operands.invariant c.then_sources-part.ensures
 
 pub returns : goal.returns
 returns g c =

@@ -4,4 +4,6 @@ use Rattle.fault_sites.specs.Telling.{Tells}
 use Rattle.fault_sites.proofs.telling.then_from.Given as goal
 
 abbrev pub invariant-operands : goal.invariant-operands
-invariant-operands g l = Tells (g.O.Sink.seen l.fn.out) (g.O.Sink.seen l.out) l.fn.line l.line l.fn.part l.part (sited l.n l.k (each_below (λ j. each_below (λ r. from_one l.op j r (slice_get l.graph.operations r)) l.k) l.j))
+invariant-operands g l =
+    Tells (g.O.Sink.seen l.fn.out) (g.O.Sink.seen l.out) l.fn.line l.line l.fn.part l.part
+    (sited l.n l.k (each_below (λ j. each_below (λ r. from_one l.op j r (slice_get l.graph.operations r)) l.k) l.j))

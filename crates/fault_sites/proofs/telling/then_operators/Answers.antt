@@ -8,7 +8,9 @@ pub kinds-init : goal.kinds-init
 kinds-init g c = tells_none
 
 pub kinds-preserved : goal.kinds-preserved
-kinds-preserved g c = acts_more _ _ (λ code. operator_one c.args.op.now.kind (slice_get kinds code)) c.kinds.code c.kinds.invariant (rw (← c.operator_of.ensures) at c.then_any-part.ensures)
+kinds-preserved g c =
+    acts_more _ _ (λ code. operator_one c.args.op.now.kind (slice_get kinds code))
+    c.kinds.code c.kinds.invariant (rw (← c.operator_of.ensures) at c.then_any-part.ensures)
 
 pub returns : goal.returns
 returns g c =

@@ -7,7 +7,9 @@ pub sources-init : goal.sources-init
 sources-init g c = tells_none
 
 pub sources-preserved : goal.sources-preserved
-sources-preserved g c = acts_more _ _ (λ r. from_one c.args.op.now c.args.j r (slice_get c.args.graph.now.operations r)) c.sources.r c.sources.invariant (rw (← c.from_of.ensures) at c.then_any-part.ensures)
+sources-preserved g c =
+    acts_more _ _ (λ r. from_one c.args.op.now c.args.j r (slice_get c.args.graph.now.operations r))
+    c.sources.r c.sources.invariant (rw (← c.from_of.ensures) at c.then_any-part.ensures)
 
 pub returns : goal.returns
 returns g c =
