@@ -4,6 +4,7 @@ mod Ended
 mod Going
 mod Parts
 mod ReadBack
+mod Short
 mod SitesFit
 mod SitesHave
 mod SitesOnce

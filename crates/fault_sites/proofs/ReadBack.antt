@@ -157,7 +157,7 @@ line_is n k (act.Operator other) = refl
 line_is n k act.Skip = ap (λ (t : List ℕ). codes "skip " ++ (decimal n ++ 32 ∷ t)) (append-nil (decimal k))
 
 -- the numbers of an act are such as a line has
-abbrev Small : Act → Type 0
+abbrev pub Small : Act → Type 0
 Small (act.OperandAdd j e) = (j < 2 ^ 32) × (is_addend e ≡ true)
 Small (act.OperandFrom j r) = (j < 2 ^ 32) × (r < 2 ^ 32)
 Small (act.OperandStale j) = j < 2 ^ 32
@@ -171,7 +171,7 @@ few_operands k = grind arith
 less : (m n : ℕ) → nat_lt m n ≡ true → m < n
 less m n h = grind (arith, nat_tests)
 
-small : (kind : Kind) (k n : ℕ) (a : Act) → k < 2 ^ 32 → ActFits kind k n a → Small a
+pub small : (kind : Kind) (k n : ℕ) (a : Act) → k < 2 ^ 32 → ActFits kind k n a → Small a
 small kind k n (act.OperandAdd j e) l fit =
     let there : j < operands kind = less j (operands kind) fit.sited in (omega (arith, few_operands kind), fit.moderate)
 small kind k n (act.OperandFrom j r) l fit =
@@ -271,7 +271,7 @@ item_is g before number s room few l fit =
     ∙ (ap (λ (b : Bool). says (cond b (fault_of g line) (Err (refusal.Faults number)))) lower
     ∙ ap (λ (r : Result Fault ScriptFault). says r) (fault_is g number s few l fit))
 
-there_few : (g : Lists) (k : ℕ) (op : Op) → slice_get g.operations k ≡ Some op → length g.operations ≤ 2 ^ 32 → k < 2 ^ 32
+pub there_few : (g : Lists) (k : ℕ) (op : Op) → slice_get g.operations k ≡ Some op → length g.operations ≤ 2 ^ 32 → k < 2 ^ 32
 there_few g k op there few = let within : k < length g.operations = slice_get_within g.operations k op there in omega arith
 
 abbrev Groups : Type 0

@@ -89,10 +89,10 @@ integer_is n (c ∷ ds) is =
     (no_sign c 45 (list_all is_ascii_digit ds) is.digits (omega arith))
     ∙ ap (option_map pos) (natural_is n (c ∷ ds) is)
 
-low : (n : ℕ) → is_addend (pos n) ≡ true → n < 2 ^ 64
+pub low : (n : ℕ) → is_addend (pos n) ≡ true → n < 2 ^ 64
 low n h = grind (arith, ints, nat_tests)
 
-low_negative : (n : ℕ) → is_addend (negsuc n) ≡ true → suc n < 2 ^ 64
+pub low_negative : (n : ℕ) → is_addend (negsuc n) ≡ true → suc n < 2 ^ 64
 low_negative n h = grind (arith, ints, nat_tests)
 
 spelled : (e : ℤ) → is_addend e ≡ true → integer_of (signed_decimal e) ≡ Some e

@@ -1,6 +1,6 @@
 -- Laws: what holds of the sites of all graphs.
 use Rattle.std.specs.Prelude.{◌≡◌, ◌≢◌, ℕ, ◌+◌, ◌^◌, ◌≤◌, List, [], ◌∷◌, ◌++◌, length, All, Ok}
-use Rattle.vcp_base.specs.Limits.{most_cycles}
+use Rattle.vcp_base.specs.Limits.{most_cycles, most_source_bytes}
 use Rattle.op_graph.specs.Lists.{Lists}
 use Rattle.fault_script.specs.Fits.{Fits}
 use Rattle.fault_script.specs.ScriptOf.{most_faults, script_of}
@@ -36,3 +36,10 @@ IsReadBack =
     (c : Classes) (digest : List ℕ) (g : Lists) (cycles : ℕ) (p : Part) → All (λ b. 32 ≤ b) digest → cycles ≤ most_cycles
     → length g.operations ≤ 2 ^ 32 → length (kept p (sites c g cycles)) ≤ most_faults →
     script_of g (sites_text c digest g cycles p) ≡ Ok (said_from 2 (kept p (sites c g cycles)))
+
+-- such a script is short enough to be read from a file, where the digest has at most 1,000 digits
+abbrev pub IsShort : Type 0
+IsShort =
+    (c : Classes) (digest : List ℕ) (g : Lists) (cycles : ℕ) (p : Part) → length digest ≤ 1000 → cycles ≤ most_cycles
+    → length g.operations ≤ 2 ^ 32 → length (kept p (sites c g cycles)) ≤ most_faults →
+    length (sites_text c digest g cycles p) ≤ most_source_bytes

@@ -1,6 +1,6 @@
 //! Laws of sites. Each function does nothing: it states a law.
 
-ghost use Rattle.fault_sites.specs.Laws.{EachFits, EachOnce, IsReadBack, PartsAreWhole};
+ghost use Rattle.fault_sites.specs.Laws.{EachFits, EachOnce, IsReadBack, IsShort, PartsAreWhole};
 ghost use Rattle.fault_sites.specs.Members.{HasEach};
 
 /// Each site fits the graph, in the sense of scripts of faults, whatever line it stands in.
@@ -18,9 +18,11 @@ pub fn parts_are_the_whole()
     ensures { PartsAreWhole }
 {}
 
-/// The script of a part of at most 10,000 sites is read back as the faults of these sites, a group each, in their order.
+/// The script of a part of at most 10,000 sites is read back as the faults of these sites, a group each, in
+/// their order, and has at most 1,048,576 bytes.
 pub fn a_script_is_read_back()
-    ensures { IsReadBack }
+    ensures read { IsReadBack }
+    ensures short { IsShort }
 {}
 
 /// The sites of a class are the faults that are of the class, and no others.

@@ -8,7 +8,8 @@ cycles-preserved c =
     record {
       value =
           count_more (λ n. sites_in c.args.class c.args.graph.now n)
-          c.cycles.n _ _ c.cycles.invariant.value (c.count_cycle-count.ensures.count ∙ in_many c.args.class c.args.graph.now c.cycles.n _ c.count_in-size.ensures.count);
+          c.cycles.n _ _ c.cycles.invariant.value
+          (c.count_cycle-count.ensures.count ∙ in_many c.args.class c.args.graph.now c.cycles.n _ c.count_in-size.ensures.count);
       few = omega arith;
     }
 
