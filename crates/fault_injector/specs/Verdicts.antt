@@ -1,9 +1,7 @@
 -- Verdicts: how the run with a group of faults differs from the run without it.
 use Rattle.std.specs.Prelude.{ℕ, suc, ◌==◌, Bool, true, false, cond, ◌&&◌, List, [], ◌∷◌, Option, Some, None, ℤ}
-use Rattle.vcp_base.specs.Kinds.{same}
+use Rattle.vcp_base.specs.Kinds.{same, same_stop}
 use Rattle.vcp_base.specs.Values.{at}
-use Rattle.vcp_base.specs.declared.kind.StopKind.{StopKind}
-use Rattle.vcp_base.specs.declared.kind.StopKind.TheVariants as stop
 use Rattle.op_graph.specs.declared.op.Outlet.{Outlet}
 use Rattle.op_graph.specs.GraphRun.{Cycle, Stop, cycle, initial, stored}
 use Rattle.op_graph.specs.Lists.{Lists}
@@ -37,16 +35,10 @@ first_wrong got want number (o ∷ outputs) =
     cond (same (at got o.op) (at want o.op)) (first_wrong got want (suc number) outputs)
     (Some (record { output = number; got = at got o.op; want = at want o.op }))
 
-abbrev pub same_kind : StopKind → StopKind → Bool
-same_kind stop.Range stop.Range = true
-same_kind stop.DivZero stop.DivZero = true
-same_kind stop.Operand stop.Operand = true
-same_kind _ _ = false
-
 -- the run without the faults stops at the same operation with the same kind
 abbrev pub stops_alike : Stop → Option Stop → Bool
 stops_alike s None = false
-stops_alike s (Some other) = s.op == other.op && same_kind s.kind other.kind
+stops_alike s (Some other) = s.op == other.op && same_stop s.kind other.kind
 
 -- The verdict of cycle n, if it has one. The first of these cases counts: the run with the faults stops; an output isn't accepted; the other run
 -- stops; a value of the output rows differs.

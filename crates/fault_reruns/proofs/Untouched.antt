@@ -9,7 +9,7 @@ use Rattle.vcp_base.specs.declared.kind.Kind.{Kind}
 use Rattle.vcp_base.specs.declared.kind.Kind.TheVariants as kind
 use Rattle.vcp_base.specs.declared.kind.StopKind.{StopKind}
 use Rattle.vcp_base.specs.declared.kind.StopKind.TheVariants as stop
-use Rattle.vcp_base.specs.Kinds.{operands, same}
+use Rattle.vcp_base.specs.Kinds.{operands, same, same_stop}
 use Rattle.coded_unit.specs.declared.call.Answer.{Answer}
 use Rattle.op_graph.specs.declared.op.Op.{Op}
 use Rattle.op_graph.specs.GraphRun.{Stop}
@@ -25,7 +25,7 @@ use Rattle.fault_runs.specs.RunLaw.{Words, taken}
 use Rattle.fault_injector.specs.declared.verdict.Verdict.{Verdict}
 use Rattle.fault_injector.specs.declared.verdict.Verdict.TheVariants as verdict
 use Rattle.fault_injector.specs.Judging.{row_wrong}
-use Rattle.fault_injector.specs.Verdicts.{WrongAt, judged, same_kind}
+use Rattle.fault_injector.specs.Verdicts.{WrongAt, judged}
 use Rattle.fault_reruns.specs.Laws.{NoneRefused, Rests, Untouched}
 use Rattle.fault_reruns.specs.Reruns.{Again, CycleAgain, Part, after_answer, again, and_later, cycle_again, done, go_on, read_cycle, refusal_in, runs_again}
 use Rattle.fault_reruns.specs.Reruns.{source_of, source_touched, stop_in, unless_judged}
@@ -140,7 +140,7 @@ row_same [] number = refl
 row_same (x ∷ row) number =
     ap (λ (b : Bool). cond b (row_wrong row row (suc number)) (Some (record { output = number; got = x; want = x }))) (same_self x) ∙ row_same row (suc number)
 
-kind_same : (k : StopKind) → same_kind k k ≡ true
+kind_same : (k : StopKind) → same_stop k k ≡ true
 kind_same stop.Range = refl
 kind_same stop.DivZero = refl
 kind_same stop.Operand = refl
@@ -152,7 +152,7 @@ both false b h e = absurd cc
 stop_same : (n : ℕ) (s : Stop) (r : Option RefusedAt) (w : Option WrongAt) → judged n (Some s) r (Some s) w ≡ Some verdict.Same
 stop_same n s r w =
     ap (λ (b : Bool). Some (cond b verdict.Same (verdict.Stopped n s.op s.kind)))
-    (both (s.op == s.op) (same_kind s.kind s.kind) (eq-eqb s.op s.op refl) (kind_same s.kind))
+    (both (s.op == s.op) (same_stop s.kind s.kind) (eq-eqb s.op s.op refl) (kind_same s.kind))
 
 -- the verdict is Same, or there is none
 abbrev SameOrNone : Option Verdict → Type 0

@@ -2,8 +2,7 @@
 use Rattle.std.proofs.Common.{◌≡◌, ◌≢◌, ℕ, suc, ◌+◌, ◌≤◌, ◌==◌, ◌&&◌, Bool, true, false, cond, List, [], ◌∷◌, length, map, Option, Some, None, option_map}
 use Rattle.std.proofs.Common.{All, ℤ, refl, sym, ap, subst, ◌∙◌, arith}
 use Rattle.vcp_base.specs.declared.kind.StopKind.{StopKind}
-use Rattle.vcp_base.specs.declared.kind.StopKind.TheVariants as stop
-use Rattle.vcp_base.specs.Kinds.{same}
+use Rattle.vcp_base.specs.Kinds.{same, same_stop}
 use Rattle.vcp_base.specs.Limits.{most_cycles}
 use Rattle.vcp_base.specs.Values.{at}
 use Rattle.coded_unit.specs.declared.call.Answer.{Answer}
@@ -25,12 +24,10 @@ use Rattle.fault_runs.specs.RunLaw.{CycleKept, RunKept}
 use Rattle.fault_injector.specs.declared.verdict.Verdict.{Verdict}
 use Rattle.fault_injector.specs.declared.verdict.Verdict.TheVariants as verdict
 use Rattle.fault_injector.specs.Verdicts.{WrongAt, first_wrong, judged, judged_cycle, verdict_or, compared, plain_cycles}
-use Rattle.fault_injector.specs.Verdicts as verdicts
 use Rattle.pair_channel.specs.declared.pair_end.PairEnd.{PairEnd}
 use Rattle.pair_channel.specs.declared.pair_end.PairEnd.TheVariants as pair
 use Rattle.pair_channel.specs.Beside.{AllBeside, beside, beside_end}
 use Rattle.pair_channel.specs.PairEnds.{Difference, both, differing, released_unless}
-use Rattle.pair_channel.specs.PairEnds as ends
 use Rattle.pair_channel.specs.PairRuns.{PairOutcome, pair_then, unless_over}
 use Rattle.pair_campaign.specs.PairVerdicts.{told_verdict, verdict_at}
 
@@ -70,17 +67,6 @@ abbrev pub Tells : ℕ → PairEnd → Option Verdict → Type 0
 Tells n e None = e ≡ pair.Released
 Tells n e (Some v) = (e ≢ pair.Released) × (verdict_at n e ≡ told_verdict v)
 
-same_kinds : (j k : StopKind) → ends.same_kind j k ≡ verdicts.same_kind j k
-same_kinds stop.Range stop.Range = refl
-same_kinds stop.Range stop.DivZero = refl
-same_kinds stop.Range stop.Operand = refl
-same_kinds stop.DivZero stop.Range = refl
-same_kinds stop.DivZero stop.DivZero = refl
-same_kinds stop.DivZero stop.Operand = refl
-same_kinds stop.Operand stop.Range = refl
-same_kinds stop.Operand stop.DivZero = refl
-same_kinds stop.Operand stop.Operand = refl
-
 stop_tells : (n k : ℕ) (why : StopKind) (x y : CycleEnd) (b c : Bool) → b ≡ c →
     Tells n (cond b (pair.Stopped k why) (pair.Parted x y)) (Some (cond c verdict.Same (verdict.Stopped n k why)))
 stop_tells n k why x y true true is = (λ e. cc, refl)
@@ -102,8 +88,7 @@ ends_tell : (n : ℕ) (s : Option Stop) (r : Option RefusedAt) (k : ℕ) (x : Op
     (s ≡ None → Together (differing row other 0) w) → Tells n (both (ending s r) (end_at k x) row other) (judged n s r (stop_there k x) w)
 ends_tell n (Some s) r k None row other w h = (λ e. cc, refl)
 ends_tell n (Some s) r k (Some why) row other w h =
-    stop_tells n s.op s.kind _ _ (s.op == k && ends.same_kind s.kind why) (s.op == k && verdicts.same_kind s.kind why)
-    (ap (λ b. s.op == k && b) (same_kinds s.kind why))
+    stop_tells n s.op s.kind _ _ (s.op == k && same_stop s.kind why) (s.op == k && same_stop s.kind why) refl
 ends_tell n None (Some r) k None row other w h = (λ e. cc, refl)
 ends_tell n None (Some r) k (Some why) row other w h = (λ e. cc, refl)
 ends_tell n None None k (Some why) row other w h = (λ e. cc, refl)

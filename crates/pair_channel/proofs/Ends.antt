@@ -2,6 +2,7 @@
 use Rattle.std.proofs.Common.{◌≡◌, ◌≢◌, ℕ, ◌==◌, ◌&&◌, Bool, true, false, cond, List, length, Option, Some, None, ℤ}
 use Rattle.std.proofs.Common.{refl, sym, ap, subst, ◌∙◌, arith, eqb-true}
 use Rattle.std.proofs.lemmas.Bool.{eq-eqb, false≢true}
+use Rattle.vcp_base.specs.Kinds.{same_stop}
 use Rattle.vcp_base.specs.declared.kind.StopKind.{StopKind}
 use Rattle.vcp_base.specs.declared.kind.StopKind.TheVariants as stop
 use Rattle.coded_machine.specs.declared.cycle_end.CycleEnd.{CycleEnd}
@@ -9,15 +10,15 @@ use Rattle.coded_machine.specs.declared.cycle_end.CycleEnd.TheVariants as end
 use Rattle.op_graph.specs.GraphRun.{Stop}
 use Rattle.pair_channel.specs.declared.pair_end.PairEnd.{PairEnd}
 use Rattle.pair_channel.specs.declared.pair_end.PairEnd.TheVariants as pair
-use Rattle.pair_channel.specs.PairEnds.{both, differing, Difference, FirstDifference, released_unless, same_kind, PairCause}
+use Rattle.pair_channel.specs.PairEnds.{both, differing, Difference, FirstDifference, released_unless, PairCause}
 use Rattle.pair_channel.proofs.Rows.{differing_self, differing_none, differing_some, Placed}
 
-pub kind_self : (a : StopKind) → same_kind a a ≡ true
+pub kind_self : (a : StopKind) → same_stop a a ≡ true
 kind_self stop.Range = refl
 kind_self stop.DivZero = refl
 kind_self stop.Operand = refl
 
-kind_same : (a b : StopKind) → same_kind a b ≡ true → a ≡ b
+kind_same : (a b : StopKind) → same_stop a b ≡ true → a ≡ b
 kind_same stop.Range stop.Range h = refl
 kind_same stop.Range stop.DivZero h = absurd cc
 kind_same stop.Range stop.Operand h = absurd cc
@@ -54,20 +55,20 @@ stop_or (Some s) other = s
 stop_or None other = other
 
 -- two stops that are one
-stops_equal : (k l : ℕ) (why cause : StopKind) → (k == l && same_kind why cause) ≡ true → end.Stopped l cause ≡ end.Stopped k why
+stops_equal : (k l : ℕ) (why cause : StopKind) → (k == l && same_stop why cause) ≡ true → end.Stopped l cause ≡ end.Stopped k why
 stops_equal k l why cause h =
-    let p = both_true (k == l) (same_kind why cause) h in
+    let p = both_true (k == l) (same_stop why cause) h in
     ap (λ z. end.Stopped z cause) (sym (eqb-true k l p.0)) ∙ ap (λ z. end.Stopped k z) (sym (kind_same why cause p.1))
 
-stop_self : (k : ℕ) (why : StopKind) → (k == k && same_kind why why) ≡ true
-stop_self k why = ap (λ b. b && same_kind why why) (eq-eqb k k refl) ∙ kind_self why
+stop_self : (k : ℕ) (why : StopKind) → (k == k && same_stop why why) ≡ true
+stop_self k why = ap (λ b. b && same_stop why why) (eq-eqb k k refl) ∙ kind_self why
 
-equal_stops : (k l : ℕ) (why cause : StopKind) → end.Stopped l cause ≡ end.Stopped k why → (k == l && same_kind why cause) ≡ true
+equal_stops : (k l : ℕ) (why cause : StopKind) → end.Stopped l cause ≡ end.Stopped k why → (k == l && same_stop why cause) ≡ true
 equal_stops k l why cause h =
     let one : Stop = record { op = k; kind = why } in
     let two : Stop = record { op = l; kind = cause } in
     let same : two ≡ one = ap (λ e. stop_or (stop_in e) one) h in
-    ap (λ (s : Stop). k == s.op && same_kind why s.kind) same ∙ stop_self k why
+    ap (λ (s : Stop). k == s.op && same_stop why s.kind) same ∙ stop_self k why
 
 -- ---- both ends alike, or not
 
@@ -87,7 +88,7 @@ both_apart end.Released (end.Refused i found wanted) row other h = refl
 both_apart (end.Stopped k why) end.Released row other h = refl
 both_apart (end.Stopped k why) (end.Stopped l cause) row other h =
     ap (λ b. cond b (pair.Stopped k why) (pair.Parted (end.Stopped k why) (end.Stopped l cause)))
-    (not_true (k == l && same_kind why cause) (λ e. h (sym (stops_equal k l why cause e))))
+    (not_true (k == l && same_stop why cause) (λ e. h (sym (stops_equal k l why cause e))))
 both_apart (end.Stopped k why) (end.Refused i found wanted) row other h = refl
 both_apart (end.Refused j got want) end.Released row other h = refl
 both_apart (end.Refused j got want) (end.Stopped l cause) row other h = refl
@@ -127,7 +128,7 @@ released_cause row other (Some d) e is =
     let at : p.i ≡ d.output = omega (arith, p.number) in
     (refl, refl, subst (λ i. FirstDifference row other i d.first d.second) at p.first)
 
-stopped_cause : (k l : ℕ) (why cause : StopKind) (row other : List ℤ) (b : Bool) → (k == l && same_kind why cause) ≡ b →
+stopped_cause : (k l : ℕ) (why cause : StopKind) (row other : List ℤ) (b : Bool) → (k == l && same_stop why cause) ≡ b →
     PairCause (end.Stopped k why) (end.Stopped l cause) row other
     (cond b (pair.Stopped k why) (pair.Parted (end.Stopped k why) (end.Stopped l cause)))
 stopped_cause k l why cause row other true is = (refl, stops_equal k l why cause is)
@@ -139,7 +140,7 @@ both_cause end.Released (end.Stopped l cause) row other w = (refl, refl, λ h. a
 both_cause end.Released (end.Refused i found wanted) row other w = (refl, refl, λ h. absurd cc)
 both_cause (end.Stopped k why) end.Released row other w = (refl, refl, λ h. absurd cc)
 both_cause (end.Stopped k why) (end.Stopped l cause) row other w =
-    stopped_cause k l why cause row other (k == l && same_kind why cause) refl
+    stopped_cause k l why cause row other (k == l && same_stop why cause) refl
 both_cause (end.Stopped k why) (end.Refused i found wanted) row other w = (refl, refl, λ h. absurd cc)
 both_cause (end.Refused j got want) end.Released row other w = (refl, refl, λ h. h)
 both_cause (end.Refused j got want) (end.Stopped l cause) row other w = (refl, refl, λ h. h)

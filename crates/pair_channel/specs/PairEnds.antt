@@ -1,8 +1,6 @@
 -- PairEnds: how a cycle of two channels ends, read off the end and the row of outputs of each.
 use Rattle.std.specs.Prelude.{◌≡◌, ◌≢◌, ℕ, suc, ◌==◌, ◌&&◌, Bool, true, false, cond, List, [], ◌∷◌, take, slice_get, Option, Some, None, ℤ}
-use Rattle.vcp_base.specs.Kinds.{same}
-use Rattle.vcp_base.specs.declared.kind.StopKind.{StopKind}
-use Rattle.vcp_base.specs.declared.kind.StopKind.TheVariants as stop
+use Rattle.vcp_base.specs.Kinds.{same, same_stop}
 use Rattle.coded_machine.specs.declared.cycle_end.CycleEnd.{CycleEnd}
 use Rattle.coded_machine.specs.declared.cycle_end.CycleEnd.TheVariants as end
 use Rattle.pair_channel.specs.declared.pair_end.PairEnd.{PairEnd}
@@ -20,12 +18,6 @@ differing [] others number = None
 differing (a ∷ row) [] number = None
 differing (a ∷ row) (b ∷ others) number = cond (same a b) (differing row others (suc number)) (Some (record { output = number; first = a; second = b }))
 
-abbrev pub same_kind : StopKind → StopKind → Bool
-same_kind stop.Range stop.Range = true
-same_kind stop.DivZero stop.DivZero = true
-same_kind stop.Operand stop.Operand = true
-same_kind _ _ = false
-
 -- the end of a cycle that both channels released: the first output whose values differ, if there is one
 abbrev pub released_unless : Option Difference → PairEnd
 released_unless None = pair.Released
@@ -36,7 +28,7 @@ released_unless (Some d) = pair.Differ d.output d.first d.second
 abbrev pub both : CycleEnd → CycleEnd → List ℤ → List ℤ → PairEnd
 both end.Released end.Released row other = released_unless (differing row other 0)
 both (end.Stopped k why) (end.Stopped l cause) row other =
-    cond (k == l && same_kind why cause) (pair.Stopped k why) (pair.Parted (end.Stopped k why) (end.Stopped l cause))
+    cond (k == l && same_stop why cause) (pair.Stopped k why) (pair.Parted (end.Stopped k why) (end.Stopped l cause))
 both e f row other = pair.Parted e f
 
 -- output i is the first that has different values in these rows, namely these

@@ -97,6 +97,13 @@ divides_by_zero _ b = false
 abbrev pub Outcome : Type 0
 Outcome = Result ℤ StopKind
 
+-- two operations stop for one cause
+abbrev pub same_stop : StopKind → StopKind → Bool
+same_stop stop.Range stop.Range = true
+same_stop stop.DivZero stop.DivZero = true
+same_stop stop.Operand stop.Operand = true
+same_stop _ _ = false
+
 -- the outcome with a result of type `to` where the operands fit or not, and the value is v where they do and none is a zero divisor
 abbrev pub outcome_at : Ty → Bool → ℤ → Outcome
 outcome_at to fit v = cond fit (cond (fits to v) (Ok v) (Err stop.Range)) (Err stop.Operand)

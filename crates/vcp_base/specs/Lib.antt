@@ -1,5 +1,6 @@
 pub mod Blanks
 pub mod Code
+pub mod Differences
 pub mod Kinds
 pub mod Limits
 pub mod Names
