@@ -3,8 +3,9 @@
 #
 # Names: all that docs/CLAUSES.md, docs/PROMISES.md and docs/ARCHITECTURE.md name is there, and each public call is listed (promised_names.py).
 # Lines: none of a document is longer than 160 columns (long_lines.py).
-# Commands: what documents show is what the program prints (transcripts.sh), and the runs of examples/ are those shown there (examples.sh).
-# Words: the manual page and the completion have the commands of the usage line (usage.sh).
+# Commands: what documents show is what the program prints (transcripts.sh); the runs of examples/ are those shown there, and the examples of the manual pages
+# end well (examples.sh).
+# Words: the manual pages and the completion have the commands and options of the usage lines (usage.sh).
 # Pictures: those in docs/ are what vcp_study draws (pictures.sh).
 #
 # It uses the programs that are built, or those of VCP=FILE and VCP_STUDY=FILE, and builds none. What a missing tool would do is left out. Its status

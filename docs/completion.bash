@@ -1,5 +1,5 @@
-# Completion of the words of vcp for bash: `. docs/completion.bash`, or a copy in /etc/bash_completion.d.
-# The commands are those of the usage line (checks/usage.sh compares them).
+# Completion of the words of vcp and vcp_study for bash: `. docs/completion.bash`, or a copy in /etc/bash_completion.d.
+# The commands and their options are those of the usage lines (checks/usage.sh compares them).
 
 _vcp_commands='check format plain run compile list exec trace inject audit widen il pair pairs wire demo'
 
@@ -23,11 +23,12 @@ _vcp() {
 
 complete -o filenames -F _vcp vcp ./vcp
 
-# Those of vcp_study, which has three commands.
+_vcp_study_commands='graph waves ranges'
+
 _vcp_study() {
     local word=${COMP_WORDS[COMP_CWORD]}
     case $COMP_CWORD:${COMP_WORDS[1]} in
-    1:*) mapfile -t COMPREPLY < <(compgen -W 'graph waves ranges' -- "$word") ;;
+    1:*) mapfile -t COMPREPLY < <(compgen -W "$_vcp_study_commands" -- "$word") ;;
     2:*) mapfile -t COMPREPLY < <(compgen -f -- "$word") ;;
     3:ranges) mapfile -t COMPREPLY < <(compgen -W '--all' -- "$word") ;;
     esac
