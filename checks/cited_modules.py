@@ -322,9 +322,14 @@ def one_item(crates, wanted):
     print(f"{total:6} lines of {len(reading.modules())} modules, without comments, blank lines and imports")
 
 
-def main():
+def read_crates():
+    """The crates of crates.txt, in its order."""
     order = [l.split(":")[0].split()[0] for l in (TOP / "crates.txt").read_text().split("\n") if l.strip() and not l.startswith("#")]
-    crates = {name: Crate(name) for name in order}
+    return {name: Crate(name) for name in order}
+
+
+def main():
+    crates = read_crates()
     if len(sys.argv) > 1 and sys.argv[1] != "--write":
         return one_item(crates, sys.argv[1])
     rows = listing(crates)
@@ -337,4 +342,5 @@ def main():
     DOCUMENT.write_text("\n".join(lines[:start] + rows + lines[end:]))
 
 
-main()
+if __name__ == "__main__":
+    main()

@@ -18,7 +18,7 @@ Of crates/play_sessions: each session of data/ is in args, and stdout has its li
 Of docs/ARCHITECTURE.md: each crate stands in a layer and on none above it, and has its row in the table of crates and, but for those of tests,
 in that of main contracts; each name of a crate, a file or a definition is there; and the list of
 modules is the one that checks/cited_modules.py prints.
-Of docs/GLOSSARY.md: the names in the last column are there, and each type that two crates export is in its last table.
+Of docs/GLOSSARY.md: the names in the last column are there (of names that two crates have, checks/double_names.py tells).
 Of docs/UNITS.md: each line of code that it shows is a line of the crates coded_unit or worked_unit.
 Of docs/ASSESSOR.md: each step of the order of reading names modules that are there, and has as many lines as the top call rests on in its
 crates; and each crate that the top call rests on has a step, or is told behind them.
@@ -337,28 +337,6 @@ def faults_of_glossary(crates, names):
                 yield f"`{cited}` isn't there"
 
 
-def types_of_two_crates(crates):
-    """The types that more than one crate exports, those for tests aside, each with its crates."""
-    found = {}
-    for crate in crates:
-        top = CRATES / crate / "src" / "lib.rt"
-        if crate.startswith("worked_") or crate.endswith("_tests") or not top.is_file():
-            continue
-        for exported in re.findall(r"pub use \w+::(\{[^}]*\}|[^;]+);", without_comments(top, "//")):
-            for name in re.findall(r"\b[A-Z]\w*[a-z]\w*(?=\s*(?:,|\}|$))", exported):
-                found.setdefault(name, set()).add(crate)
-    return {name: owners for name, owners in found.items() if len(owners) > 1}
-
-
-def faults_of_double_names(crates):
-    text = (TOP / "docs" / "GLOSSARY.md").read_text().partition("\n## Names that two crates have\n")[2]
-    told = {name: set(quoted(owners)) for name, owners in re.findall(r"^\| `(\w+)` \|.*\| (.*) \|$", text, re.M)}
-    wanted = types_of_two_crates(crates)
-    for name in sorted(set(told) | set(wanted)):
-        if told.get(name) != wanted.get(name):
-            yield f"`{name}` is exported by {', '.join(sorted(wanted.get(name, ()))) or 'one crate at most'}, and the table of such names says otherwise"
-
-
 def faults_of_units():
     files = [*(CRATES / "coded_unit" / "src").glob("*.rt"), *(CRATES / "worked_unit" / "src").glob("*.rt")]
     code = {line.strip() for file in files for line in file.read_text().split("\n")}
@@ -440,7 +418,6 @@ def main():
     code_names = names | fields | set().union(*({*c.owners, *c.clauses, *c.clauses_of} for c in map(Code, crates)))
     faults += [f"ARCHITECTURE: {fault}" for fault in faults_of_architecture(crates, code_names)]
     faults += [f"GLOSSARY: {fault}" for fault in faults_of_glossary(crates, code_names)]
-    faults += [f"GLOSSARY: {fault}" for fault in faults_of_double_names(crates)]
     faults += [f"play_sessions: {fault}" for fault in faults_of_sessions()]
     faults += [f"UNITS: {fault}" for fault in faults_of_units()]
     faults += [f"ASSESSOR: {fault}" for fault in faults_of_assessor()]
