@@ -3,6 +3,7 @@
 #
 # Names: all that docs/CLAUSES.md, docs/PROMISES.md and docs/ARCHITECTURE.md name is there, and each public call is listed (promised_names.py); and
 # docs/GLOSSARY.md says of names that two crates have what they are (double_names.py).
+# Sections: those that a document refers to are there (sections.py).
 # Lines: none of a document is longer than 160 columns (long_lines.py).
 # Commands: what documents show is what the program prints (transcripts.sh); the runs of examples/ are those shown there, and the examples of the manual pages
 # end well (examples.sh).
@@ -20,6 +21,7 @@ status=0
 if command -v python3 >/dev/null 2>&1; then
     python3 "$here/promised_names.py" || status=1
     python3 "$here/double_names.py" || status=1
+    python3 "$here/sections.py" || status=1
     python3 "$here/long_lines.py" --documents || status=1
 else
     echo "documents: names are not looked at, since python3 isn't there"
