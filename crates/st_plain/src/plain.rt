@@ -1,6 +1,6 @@
 //! The evaluator of a checked program, cycle by cycle.
 
-ghost use Rattle.std.specs.Prelude.{◌≡◌, ◌≤◌, [], None, Some, Ok, Err, IfOk, IfErr, OnOk, OnErr, length, vec_capacity};
+ghost use Rattle.std.specs.Prelude.{◌≡◌, ◌≤◌, [], None, Some, Ok, Err, IfOk, IfErr, IfSome, OnOk, OnErr, length, vec_capacity};
 ghost use Rattle.vcp_base.specs.Types.{AreIn};
 ghost use Rattle.vcp_base.specs.declared.kind.StopKind.TheVariants as why;
 ghost use Rattle.vcp_typed.specs.Fitting.{AreFit, input_types, output_types};
@@ -87,6 +87,7 @@ impl<'p> Plain<'p> {
         ensures going { OnOk result (self.new.stop ≡ None) }
         ensures stop { IfErr result (λ s. comes_to self.old row.now ≡ Err (within_turns (turns_of self.new.stop) s)) }
         ensures kept { IfErr result (λ s. self.new.stop ≡ Some (within_turns (turns_of self.new.stop) s)) }
+        ensures again { IfSome self.old.stop (λ s. (left [] s.turns result ≡ Err s) × (self.new ≡ self.old) × (out.new ≡ out.old)) }
         ensures cause { IfErr result (λ s. s.kind ≡ why.Operand → ⊥) }
         ensures cells { length out.new ≡ length out.old }
         ensures out_stays { OnErr result (out.new ≡ out.old) }
