@@ -69,6 +69,7 @@ refuse_each audit crossing.img 3
 refuse_each widen m.img
 refuse_each il p.il in.csv
 refuse_each pair m.img in.csv 7
+refuse_each pairs m.img in.csv 7 f.txt
 refuse_each wire w.wire
 step=500
 refuse_each demo 7
