@@ -1,6 +1,6 @@
 //! The records of a file's bytes, one at a time.
 
-ghost use Rattle.std.specs.Prelude.{◌≡◌, ◌<◌, length, slice_get, Some, None, IfOk, IfSome, OnErr, IsErr};
+ghost use Rattle.std.specs.Prelude.{◌≡◌, ◌<◌, length, slice_get, Some, None, Ok, true, false, IfOk, IfSome, OnErr, IsErr};
 ghost use Rattle.csv.specs.Reading.{records, default_config, strip_bom};
 ghost use Rattle.csv.specs.Records.{fields_of};
 ghost use Rattle.input_rows.specs.RecordsLeft.{IsPlain, Reads, Takes};
@@ -10,7 +10,8 @@ use std::alloc::Global;
 use std::marker::Model;
 use vcp_base::Memory;
 
-/// The records that are left of a text, or `None` after want of memory.
+/// The records that are left of a text, which are not known after want of memory, and whether their
+/// end was told.
 #[derive(Drop)]
 pub struct Records<'a> {
     reader: Reader<&'a [u8]>,
@@ -19,13 +20,16 @@ pub struct Records<'a> {
 }
 
 impl<'a> Model for Records<'a> {
-    ghost use Rattle.std.specs.Prelude.{◌≡◌, List, ℕ, Option, None, Some, [], false, if◌then◌else◌};
+    ghost use Rattle.std.specs.Prelude.{◌≡◌, None, Some, [], false, if◌then◌else◌};
     ghost use Rattle.csv.specs.Reading.{reader_state};
-    ghost use Rattle.input_rows.specs.RecordsLeft.{left_of, text_left, IsPlain};
+    ghost use Rattle.input_rows.specs.RecordsLeft.{RecordsLeft, left_of, text_left, IsPlain};
 
-    ghost Value = { Option (List (List (List ℕ))) };
+    ghost Value = { RecordsLeft };
 
-    ghost view = { λ r. if r.failed then None else (if r.ended then Some [] else Some (left_of (reader_state r.reader) (text_left r.reader))) };
+    ghost view = { λ r. record {
+      left = if r.ended then Some [] else (if r.failed then None else Some (left_of (reader_state r.reader) (text_left r.reader)));
+      ended = r.ended;
+    } };
 
     ghost invariant = { λ r. r.failed ≡ false → r.ended ≡ false → IsPlain r.reader };
 }
@@ -40,7 +44,7 @@ fn read(reader: &mut Reader<&[u8]>, cells: &mut ByteRecord) -> Option<bool>
 impl<'a> Records<'a> {
     /// The records of a text, without the byte order mark at its front.
     pub fn new(alloc: Global, text: &'a [u8]) -> Records<'a>
-        ensures { result ≡ Some (records default_config (strip_bom text.now)) }
+        ensures { result ≡ record { left = Some (records default_config (strip_bom text.now)); ended = false } }
     {
         let reader = ReaderBuilder::new()
             .has_headers(false)
@@ -53,18 +57,20 @@ impl<'a> Records<'a> {
         }
     }
 
-    /// Reads the next record, and answers whether there was one. After `Memory` each later call
-    /// gives it again.
+    /// Reads the next record, and answers whether there was one. After the end, and after `Memory`,
+    /// each later call gives the same again and changes nothing.
     pub fn next(&mut self, cells: &mut ByteRecord) -> Result<bool, Memory>
-        ensures reads { IfOk result (λ found. Takes self.old self.new (fields_of cells.new) found) }
-        ensures err { OnErr result (self.new ≡ None) }
-        ensures again { self.old ≡ None → IsErr result }
+        ensures reads { IfOk result (λ found. Takes self.old.left self.new.left (fields_of cells.new) found) }
+        ensures end { IfOk result (λ found. found ≡ false → self.new.ended ≡ true) }
+        ensures err { OnErr result (self.new.left ≡ None) }
+        ensures again { self.old.ended ≡ true → (result ≡ Ok false) × (self.new ≡ self.old) × (cells.new ≡ cells.old) }
+        ensures failed_again { self.old.left ≡ None → (IsErr result) × (self.new ≡ self.old) × (cells.new ≡ cells.old) }
     {
-        if self.failed {
-            return Err(Memory);
-        }
         if self.ended {
             return Ok(false);
+        }
+        if self.failed {
+            return Err(Memory);
         }
         match read(&mut self.reader, cells) {
             Some(found) => {

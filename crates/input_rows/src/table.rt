@@ -34,7 +34,7 @@ impl<'a> Model for Table<'a> {
 
     ghost Value = { RowsLeft };
 
-    ghost view = { λ t. left_from t.layout t.cycle t.records };
+    ghost view = { λ t. left_from t.layout t.cycle t.records.left };
 
     ghost invariant = { λ t. (length t.row ≡ length t.layout.types) × (t.cycle ≤ most_cycles) };
 }
@@ -50,12 +50,12 @@ fn read_row(
     requires width { length row.old ≡ length layout.now.types }
     requires cycle { cycle ≤ most_cycles }
     ensures row { IfOk result (λ found. found ≡ true
-        → left_from layout.now cycle records.old
-        ≡ record (left_from layout.now (cycle + 1) records.new) { rows = row.new ∷ (left_from layout.now (cycle + 1) records.new).rows }) }
+        → left_from layout.now cycle records.old.left
+        ≡ record (left_from layout.now (cycle + 1) records.new.left) { rows = row.new ∷ (left_from layout.now (cycle + 1) records.new.left).rows }) }
     ensures more { IfOk result (λ found. found ≡ true → cycle < most_cycles) }
     ensures end { IfOk result (λ found. found ≡ false
-        → (left_from layout.now cycle records.old ≡ no_rows layout.now.types None) × (records.new ≡ records.old)) }
-    ensures refusal { IfErr result (λ f. f ≢ RowFault.Memory → left_from layout.now cycle records.old ≡ no_rows layout.now.types (Some f)) }
+        → (left_from layout.now cycle records.old.left ≡ no_rows layout.now.types None) × (records.new.left ≡ records.old.left)) }
+    ensures refusal { IfErr result (λ f. f ≢ RowFault.Memory → left_from layout.now cycle records.old.left ≡ no_rows layout.now.types (Some f)) }
     ensures width { length row.new ≡ length row.old }
 {
     if !records.next(cells)? {

@@ -84,7 +84,7 @@ fn last(
     ending: Ending,
 ) -> Result<Ending, RunFault>
     requires { number < 2 ^ 31 }
-    ensures { (left : List (List (List ℕ))) → records.old ≡ Some left → Answers (last_of number ending left) result }
+    ensures { (left : List (List (List ℕ))) → records.old.left ≡ Some left → Answers (last_of number ending left) result }
 {
     if records.next(cells)? {
         return Err(RunFault::Rest { record: number + 1 });
@@ -100,7 +100,7 @@ pub(crate) fn read_lines(
     width: u32,
 ) -> Result<(RowTable, Ending), RunFault>
     requires names { width ≤ most_names }
-    ensures told { (left : List (List (List ℕ))) → records.old ≡ Some left → Tells (told_from width 0 left) result }
+    ensures told { (left : List (List (List ℕ))) → records.old.left ≡ Some left → Tells (told_from width 0 left) result }
     ensures width { IfOk result (λ told. HasWidth width told.0) }
     ensures few { IfOk result (λ told. length told.0 ≤ most_cycles) }
 {

@@ -7,8 +7,8 @@ use Rattle.run_picture.proofs.lines.read_lines.Given as goal
 
 abbrev pub invariant-lines : goal.invariant-lines
 invariant-lines l = record {
-  told : (left : List (List (List ℕ))) → l.initial.records ≡ Some left
-      → (more : List (List (List ℕ))) × (l.records ≡ Some more) × (told_from l.width 0 left ≡ onto l.rows (told_from l.width l.cycle more));
+  told : (left : List (List (List ℕ))) → l.initial.records.left ≡ Some left
+      → (more : List (List (List ℕ))) × (l.records.left ≡ Some more) × (told_from l.width 0 left ≡ onto l.rows (told_from l.width l.cycle more));
   width : HasWidth l.width l.rows;
   count : length l.rows ≡ l.cycle;
   few : l.cycle ≤ most_cycles;
@@ -19,4 +19,4 @@ records_left None = 0
 records_left (Some records) = length records
 
 abbrev pub decreases-lines : goal.decreases-lines
-decreases-lines l = records_left l.records
+decreases-lines l = records_left l.records.left
