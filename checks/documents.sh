@@ -7,6 +7,7 @@
 # Lines: none of a document is longer than 160 columns (long_lines.py).
 # Commands: what documents show is what the program prints (transcripts.sh); the runs of examples/ are those shown there, and the examples of the manual pages
 # end well (examples.sh).
+# Refusals: the examples of docs/ERRORS.md are refused as it says (refusals.py).
 # Words: the manual pages and the completion have the commands and options of the usage lines (usage.sh).
 # Pictures: those in docs/ are what vcp_study draws (pictures.sh).
 #
@@ -29,6 +30,9 @@ fi
 "$here/usage.sh" || status=1
 if [ -x "$VCP" ]; then
     "$here/transcripts.sh" || status=1
+    if command -v python3 >/dev/null 2>&1; then
+        python3 "$here/refusals.py" || status=1
+    fi
     "$here/examples.sh" || status=1
     if [ -x "$VCP_STUDY" ]; then
         "$here/pictures.sh" --check || status=1
