@@ -19,7 +19,7 @@ use Rattle.telegram.specs.WireRead.{read_from, wire_read, right_words}
 use Rattle.telegram.specs.WireRun.{Handing, sent_in, wired}
 use Rattle.wire_run.specs.Runs.{events_before, told_text, meant_text, AreWords, PartTold, RunsWire, EarlierTold}
 use Rattle.wire_run.specs.Sends.{Cut, sends_from, cut_sendings, calls_of, SendsAll}
-use Rattle.wire_run.specs.WireLines.{end_text, handings_text, receipt_line, unsent_text}
+use Rattle.wire_run.specs.WireLines.{wire_end_text, handings_text, receipt_line, unsent_text}
 use Rattle.wire_run.specs.declared.wire_end.WireEnd.TheVariants as end
 use Rattle.wire_run.specs.declared.wire_end.WireRunFault.TheVariants as fault
 use Rattle.wire_run.proofs.Growing.{grows_on, grows_by_none, drop_here, honest_second, take_drop}
@@ -35,7 +35,7 @@ Law w es = wire_read w (right_words w 0 (sent_in es)) es ≡ wired w es
 right_told : (w : Wire) (es : List Event) (words : List (List ℤ)) → Law w es → words ≡ right_words w 0 (sent_in es) → told_text w es words None ≡ meant_text w es
 right_told w es words law is =
     ap (λ (ws : List (List ℤ)). told_text w es ws None) is
-    ∙ ap (λ (l : List Handing). handings_text l ++ end_text (length (sent_in es)) (length (delivered l))) law
+    ∙ ap (λ (l : List Handing). handings_text l ++ wire_end_text (length (sent_in es)) (length (delivered l))) law
 
 part_meant : (w : Wire) (es : List Event) (words : List (List ℤ)) (n : ℕ) (old new : Option (List ℕ)) → Law w es
     → words ≡ take n (right_words w 0 (sent_in es)) → length words ≡ n → n ≤ length (sent_in es) → PartTold w es words None old new
@@ -96,20 +96,20 @@ module _ (w : Wire) (es : List Event) (before now : UnitSeen) (old new : SinkSee
         ap (λ (ws : List (List ℤ)). wire_read w ws es) (sym (append-nil so_far.words))
         ∙ (so_far.read [] ∙ (ap (λ (l : List Event). so_far.told ++ read_from (so_far.words ++ []) s l) last ∙ append-nil so_far.told))
 
-    text_all : handings_text so_far.told ++ end_text begun count ≡ told_text w es so_far.words None
+    text_all : handings_text so_far.told ++ wire_end_text begun count ≡ told_text w es so_far.words None
     text_all =
-        ap (λ (n : ℕ). handings_text so_far.told ++ end_text n count) all_cycles
-        ∙ (ap (λ (n : ℕ). handings_text so_far.told ++ end_text (length (sent_in es)) n) so_far.count_is
-        ∙ ap (λ (l : List Handing). handings_text l ++ end_text (length (sent_in es)) (length (delivered l))) (sym told_all))
+        ap (λ (n : ℕ). handings_text so_far.told ++ wire_end_text n count) all_cycles
+        ∙ (ap (λ (n : ℕ). handings_text so_far.told ++ wire_end_text (length (sent_in es)) n) so_far.count_is
+        ∙ ap (λ (l : List Handing). handings_text l ++ wire_end_text (length (sent_in es)) (length (delivered l))) (sym told_all))
 
     right_all : StaysHonest before now → so_far.words ≡ right_words w 0 (sent_in es)
     right_all honest =
         let right = right_words w 0 (sent_in es) in
         so_far.honest honest ∙ take_all begun right (omega (arith, all_cycles, right_length w 0 (sent_in es)))
 
-    pub complete : (new' : SinkSeen) → Appends new.written new'.written (end_text begun count) → RunsWire w es before now old new' (Ok end.Complete)
+    pub complete : (new' : SinkSeen) → Appends new.written new'.written (wire_end_text begun count) → RunsWire w es before now old new' (Ok end.Complete)
     complete new' line =
-        let text = Appends-trans old.written new.written new'.written (handings_text so_far.told) (end_text begun count) so_far.written line in
+        let text = Appends-trans old.written new.written new'.written (handings_text so_far.told) (wire_end_text begun count) so_far.written line in
         let all = subst (Appends old.written new'.written) text_all text in
         record {
           words = so_far.words;
@@ -122,13 +122,13 @@ module _ (w : Wire) (es : List Event) (before now : UnitSeen) (old new : SinkSee
           still = λ is. absurd cc;
         }
 
-    pub end_failed : (new' : SinkSeen) → AppendsPart new.written new'.written (end_text begun count) → Rose new.faults new'.faults
+    pub end_failed : (new' : SinkSeen) → AppendsPart new.written new'.written (wire_end_text begun count) → Rose new.faults new'.faults
         → RunsWire w es before now old new' (Err fault.Write)
     end_failed new' line rose =
-        let piece = part_behind old.written new.written new'.written (handings_text so_far.told) (end_text begun count) [] so_far.written line in
+        let piece = part_behind old.written new.written new'.written (handings_text so_far.told) (wire_end_text begun count) [] so_far.written line in
         let whole : AppendsPart old.written new'.written (told_text w es so_far.words None) =
         subst (AppendsPart old.written new'.written)
-        (ap (λ (l : List ℕ). handings_text so_far.told ++ l) (append-nil (end_text begun count)) ∙ text_all) piece in
+        (ap (λ (l : List ℕ). handings_text so_far.told ++ l) (append-nil (wire_end_text begun count)) ∙ text_all) piece in
         record {
           words = so_far.words;
           cut = None;
@@ -141,7 +141,7 @@ module _ (w : Wire) (es : List Event) (before now : UnitSeen) (old new : SinkSee
                 let same : so_far.words ≡ so_far.words ++ later =
                 sym (append-nil so_far.words) ∙ ap (λ (l : List (List ℤ)). so_far.words ++ l) (sym none) in
                 subst (λ (ws : List (List ℤ)). AppendsPart old.written new'.written (told_text w es ws None)) same whole,
-            earlier new' (end_text begun count) line,
+            earlier new' (wire_end_text begun count) line,
           );
           rose = tt;
           honest = λ h. subst (AppendsPart old.written new'.written) (right_told w es so_far.words law (right_all h)) whole;
@@ -161,7 +161,7 @@ module _ (w : Wire) (es : List Event) (before now : UnitSeen) (old new : SinkSee
         let told : PartTold w es so_far.words None old.written new'.written =
         λ later many.
         let rest = read_from (so_far.words ++ later) (after_receipt s n x) (drop (i + 1) es) in
-        let totals : List Handing → List ℕ = λ l. end_text (length (sent_in es)) (length (delivered l)) in
+        let totals : List Handing → List ℕ = λ l. wire_end_text (length (sent_in es)) (length (delivered l)) in
         let all = wire_read w (so_far.words ++ later) es in
         let read : all ≡ (so_far.told ++ one ∷ []) ++ rest =
         read_next w es before now old new i begun count s kept so_far line id n alter word x there sender kept_there x_is later in

@@ -10,7 +10,7 @@ use Rattle.telegram.specs.declared.wire.Wire.{Wire}
 use Rattle.telegram.specs.Deliveries.{delivered}
 use Rattle.telegram.specs.WireRun.{Handing}
 use Rattle.wire_run.specs.Runs.{events_before, told_text}
-use Rattle.wire_run.specs.WireLines.{end_text, handings_text, receipt_line}
+use Rattle.wire_run.specs.WireLines.{wire_end_text, handings_text, receipt_line}
 
 -- a telegram of this number that was handed by a line, and its receipt
 handing : (line number : ℕ) → Receipt → Handing
@@ -26,7 +26,7 @@ two =
     handing 9 2 (receipt.Delivered (pos 8)) ∷
     []
 
-two-told : handings_text two ++ end_text 3 (length (delivered two))
+two-told : handings_text two ++ wire_end_text 3 (length (delivered two))
     ≡ codes "3 delivered 0 5\n4 order last 0\n5 stray found 214748366 expected 1\n8 delivered 1 6\n9 delivered 2 8\nend 3 delivered 3\n"
 unfolding digits handing two
 two-told = refl
@@ -35,7 +35,7 @@ two-told = refl
 outside : List Handing
 outside = handing 3 0 receipt.Value ∷ handing 5 1 receipt.Value ∷ handing 6 1 (receipt.Delivered (negsuc 2147483647)) ∷ []
 
-outside-told : handings_text outside ++ end_text 2 (length (delivered outside)) ≡ codes "3 value\n5 value\n6 delivered 1 -2147483648\nend 2 delivered 1\n"
+outside-told : handings_text outside ++ wire_end_text 2 (length (delivered outside)) ≡ codes "3 value\n5 value\n6 delivered 1 -2147483648\nend 2 delivered 1\n"
 unfolding digits handing outside
 outside-told = refl
 

@@ -14,13 +14,13 @@ use Rattle.telegram.specs.declared.wire.Wire.{Wire}
 use Rattle.telegram.specs.Deliveries.{delivered}
 use Rattle.telegram.specs.Sendings.{IsNoWord}
 use Rattle.telegram.specs.WireRead.{wire_read}
-use Rattle.telegram.specs.WireRun.{Every, sent_in, wired}
+use Rattle.telegram.specs.WireRun.{Every, Handing, sent_in, wired}
 use Rattle.wire_run.specs.declared.wire_end.WireEnd.{WireEnd}
 use Rattle.wire_run.specs.declared.wire_end.WireEnd.TheVariants as end
 use Rattle.wire_run.specs.declared.wire_end.WireRunFault.{WireRunFault}
 use Rattle.wire_run.specs.declared.wire_end.WireRunFault.TheVariants as fault
 use Rattle.wire_run.specs.Sends.{Cut, calls_of}
-use Rattle.wire_run.specs.WireLines.{end_text, handings_text, unsent_text}
+use Rattle.wire_run.specs.WireLines.{wire_end_text, handings_text, unsent_text}
 
 -- ---- what is printed
 
@@ -31,15 +31,24 @@ events_before zero (event.Cycle values ∷ es) = []
 events_before (suc n) (event.Cycle values ∷ es) = event.Cycle values ∷ events_before n es
 events_before n (event.Deliver line id number alter ∷ es) = event.Deliver line id number alter ∷ events_before n es
 
--- What is read off these words, a list of them a cycle: a line for each telegram that is handed, by the rules of the receiver, and the totals. Where
--- a sending was answered by no word, the lines of what is handed before its cycle, and who didn't send.
+-- The handings that are told where the sendings had these words, a list of them a cycle, by the rules of the receiver: all of them; or where a
+-- sending was answered by no word, those before its cycle.
+abbrev pub told_handings : Wire → List Event → List (List ℤ) → Option Cut → List Handing
+told_handings w es words None = wire_read w words es
+told_handings w es words (Some c) = wire_read w words (events_before (length words) es)
+
+-- what stands behind their lines: the totals, or who didn't send
+abbrev pub told_end : List Event → List (List ℤ) → Option Cut → List Handing → List ℕ
+told_end es words None handings = wire_end_text (length (sent_in es)) (length (delivered handings))
+told_end es words (Some c) handings = unsent_text (length words) (length c.row)
+
+-- what is read off these words: a line for each telegram that is handed, and what stands behind
 abbrev pub told_text : Wire → List Event → List (List ℤ) → Option Cut → List ℕ
-told_text w es words None = handings_text (wire_read w words es) ++ end_text (length (sent_in es)) (length (delivered (wire_read w words es)))
-told_text w es words (Some c) = handings_text (wire_read w words (events_before (length words) es)) ++ unsent_text (length words) (length c.row)
+told_text w es words cut = handings_text (told_handings w es words cut) ++ told_end es words cut (told_handings w es words cut)
 
 -- what is meant: the lines and the totals of the wire run
 abbrev pub meant_text : Wire → List Event → List ℕ
-meant_text w es = handings_text (wired w es) ++ end_text (length (sent_in es)) (length (delivered (wired w es)))
+meant_text w es = handings_text (wired w es) ++ wire_end_text (length (sent_in es)) (length (delivered (wired w es)))
 
 -- a cycle begins with the event
 abbrev pub is_cycle : Event → Bool

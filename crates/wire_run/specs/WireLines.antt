@@ -24,8 +24,8 @@ handings_text [] = []
 handings_text (h ∷ handings) = receipt_line h.line h.number h.receipt ++ handings_text handings
 
 -- behind all: how many cycles there were, and how many telegrams were delivered
-abbrev pub end_text : ℕ → ℕ → List ℕ
-end_text cycles delivered = codes "end " ++ (decimal cycles ++ (codes " delivered " ++ (decimal delivered ++ codes "\n")))
+abbrev pub wire_end_text : ℕ → ℕ → List ℕ
+wire_end_text cycles delivered = codes "end " ++ (decimal cycles ++ (codes " delivered " ++ (decimal delivered ++ codes "\n")))
 
 -- the unit answered no word to the sending of a sender in a cycle
 abbrev pub unsent_text : ℕ → ℕ → List ℕ

@@ -5,7 +5,7 @@ ghost use Rattle.std.specs.Prelude.{◌++◌, ℕ, decimal};
 ghost use Rattle.telegram.specs.declared.receipt.Receipt.TheVariants as receipt;
 ghost use Rattle.vcp_outside.specs.Written.{WritesTo};
 ghost use Rattle.gathered_line.specs.Gathering.{GathersTo};
-ghost use Rattle.wire_run.specs.WireLines.{receipt_text, receipt_line as receipt_line_of, end_text, unsent_text};
+ghost use Rattle.wire_run.specs.WireLines.{receipt_text, receipt_line as receipt_line_of, wire_end_text, unsent_text};
 
 use gathered_line::{Line, begin};
 use telegram::Receipt;
@@ -68,7 +68,7 @@ pub fn receipt_line<O: Sink>(
 
 /// Writes how many cycles there were, and how many telegrams were delivered.
 pub fn end_line<O: Sink>(out: &mut O, cycles: u32, delivered: u64) -> Result<(), Failed>
-    ensures { WritesTo (O.seen out.old) (O.seen out.new) (end_text cycles delivered) result }
+    ensures { WritesTo (O.seen out.old) (O.seen out.new) (wire_end_text cycles delivered) result }
 {
     let mut line = begin(out, b"end ", cycles);
     line.text(out, b" delivered ");
