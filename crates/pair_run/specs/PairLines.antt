@@ -21,14 +21,14 @@ abbrev pub operation_text : ℕ → StopKind → List ℕ
 operation_text op why = decimal op ++ (codes " " ++ stop_name why)
 
 -- an output that is refused, with the residue that was found and the expected one
-abbrev pub refusal_text : List ℕ → ℕ → ℕ → List ℕ
-refusal_text name found wanted = codes "refused " ++ (name ++ (codes " found " ++ (decimal found ++ (codes " expected " ++ decimal wanted))))
+abbrev pub refused_output_text : List ℕ → ℕ → ℕ → List ℕ
+refused_output_text name found wanted = codes "refused " ++ (name ++ (codes " found " ++ (decimal found ++ (codes " expected " ++ decimal wanted))))
 
 -- how one channel ended a cycle
 abbrev pub channel_text : Lists → CycleEnd → List ℕ
 channel_text g end.Released = codes "released"
 channel_text g (end.Stopped op why) = operation_text op why
-channel_text g (end.Refused output found wanted) = refusal_text (output_name g output) found wanted
+channel_text g (end.Refused output found wanted) = refused_output_text (output_name g output) found wanted
 
 -- the channels ended a cycle differently, or refused it
 abbrev pub parted_text : Lists → ℕ → CycleEnd → CycleEnd → List ℕ

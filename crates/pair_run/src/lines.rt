@@ -4,7 +4,7 @@
 ghost use Rattle.vcp_outside.specs.Written.{WritesTo};
 ghost use Rattle.gathered_line.specs.Gathering.{GathersTo};
 ghost use Rattle.pair_run.specs.PairDone.{IsNumbered};
-ghost use Rattle.pair_run.specs.PairLines.{channel_text, differ_text, parted_text, refusal_text, operation_text};
+ghost use Rattle.pair_run.specs.PairLines.{channel_text, differ_text, parted_text, refused_output_text, operation_text};
 
 use coded_machine::CycleEnd;
 use gathered_line::{Line, begin};
@@ -30,7 +30,7 @@ fn then_refusal<O: Sink>(
     found: Residue,
     expected: Residue,
 )
-    ensures { GathersTo (O.seen out.old) (O.seen out.new) line.old line.new (refusal_text name.now found expected) }
+    ensures { GathersTo (O.seen out.old) (O.seen out.new) line.old line.new (refused_output_text name.now found expected) }
 {
     line.text(out, b"refused ");
     line.text(out, name.bytes());
