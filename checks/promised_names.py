@@ -13,7 +13,8 @@ Of docs/CLAUSES.md, each promise of a crate's section, with its parts:
 - each public function and method of the crate is named as a clause, or its type is;
 - no promise of a crate stands twice, none stands in a table, and the contents have each section;
 - a crate without edits has a line that names a call above it and its clause, which are there, or that says that no program uses the crate.
-Of docs/PROMISES.md, each claim: its clauses and its edits are there, named with their crates, and the definitions to be read have so many lines.
+Of docs/PROMISES.md, each claim: its clauses and its edits are there, named with their crates, and the definitions to be read have so many lines; and all that
+is named so elsewhere on that page is there.
 Of crates/play_sessions: each session of data/ is in args, and stdout has its line.
 Of docs/ARCHITECTURE.md: each crate stands in a layer and on none above it, and has its row in the table of crates and, but for those of tests,
 in that of main contracts; each name of a crate, a file or a definition is there; and the list of
@@ -262,6 +263,17 @@ def faults_of_claims(names, fields):
             yield f"claim {number}: what is to be read has {lines} lines"
 
 
+def faults_of_cited_names(names, fields):
+    """What docs/PROMISES.md names beside its claims, as `crate::name`: a clause or an edit of that crate."""
+    codes = {}
+    for cited in sorted(set(quoted(PROMISES.read_text()))):
+        crate, _, rest = cited.partition("::")
+        if re.fullmatch(r"[\w:.]+", rest) and (CRATES / crate).is_dir():
+            code = codes.setdefault(crate, codes.get(crate) or Code(crate))
+            if not code.has(rest, names, fields) and not (CRATES / crate / "must-fail" / f"{rest}.edit").is_file():
+                yield f"`{cited}` isn't there"
+
+
 def lines_in(text):
     return sum(lines_of_module(crate, module) or 0 for crate, module in modules_in(text))
 
@@ -412,6 +424,7 @@ def main():
     faults = [f"CLAUSES: {fault}" for fault in [*faults_of_layout(found), *faults_of_notes(crates)]]
     faults += [f"CLAUSES: {crate}: {fault}" for crate, rows in found.items() for fault in faults_of_section(crate, rows, names, fields)]
     faults += [f"PROMISES: {fault}" for fault in faults_of_claims(names, fields)]
+    faults += [f"PROMISES: {fault}" for fault in faults_of_cited_names(names, fields)]
     for crate in crates:
         if crate not in found and (CRATES / crate / "must-fail").is_dir():
             faults.append(f"CLAUSES: {crate} has no section")
