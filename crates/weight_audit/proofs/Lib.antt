@@ -2,6 +2,8 @@ mod Along
 mod Auditing
 mod Closing
 mod Cycles
+mod Deciding
+mod Existing
 mod FirstSteps
 mod Frames
 mod Loads

@@ -1,8 +1,10 @@
-//! The law of weights. The function does nothing: it states a law.
+//! Laws of weights and audits. Each function does nothing: it states laws.
 
+ghost use Rattle.std.specs.Prelude.{ℕ};
 ghost use Rattle.op_graph.specs.Lists.{Lists};
 ghost use Rattle.op_graph.specs.Rules.{IsGraph};
 ghost use Rattle.signature_table.specs.Signatures.{Numbers};
+ghost use Rattle.weight_audit.specs.Audit.{Audit, IsAudit};
 ghost use Rattle.weight_audit.specs.ClosedForm.{ClosedForm, StaleForm};
 
 use coded_unit::words_split_in_one_way;
@@ -22,4 +24,13 @@ pub fn differences_come_as_weights()
     entries_keep_their_rules();
     words_split_in_one_way();
     one_fault_makes_its_difference();
+}
+
+/// A graph has an audit up to each number of cycle borders.
+pub fn each_graph_has_an_audit()
+    ensures { (g : Lists) (horizon : ℕ) → IsGraph g → (a : Audit) × IsAudit g horizon a }
+{
+    // What an operation reads is an earlier one, and STOREs and OUTs are operations.
+    operands_are_there();
+    entries_keep_their_rules();
 }

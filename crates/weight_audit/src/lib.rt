@@ -12,4 +12,4 @@ mod numbers;
 pub mod weigh;
 
 pub use kept::{AuditFault, Weights};
-pub use laws::differences_come_as_weights;
+pub use laws::{differences_come_as_weights, each_graph_has_an_audit};
