@@ -1,9 +1,8 @@
 -- Verdicts: how the run with a group of faults differs from the run without it.
-use Rattle.std.specs.Prelude.{ℕ, suc, ◌==◌, Bool, true, false, cond, ◌&&◌, List, [], ◌∷◌, Option, Some, None, ℤ}
-use Rattle.vcp_base.specs.Kinds.{same, same_stop}
-use Rattle.vcp_base.specs.Values.{at}
-use Rattle.op_graph.specs.declared.op.Outlet.{Outlet}
-use Rattle.op_graph.specs.GraphRun.{Cycle, Stop, cycle, initial, stored}
+use Rattle.std.specs.Prelude.{ℕ, suc, ◌==◌, Bool, false, cond, ◌&&◌, List, [], ◌∷◌, Option, Some, None, ℤ}
+use Rattle.vcp_base.specs.Differences.{Difference, first_difference}
+use Rattle.vcp_base.specs.Kinds.{same_stop}
+use Rattle.op_graph.specs.GraphRun.{Cycle, Stop, cycle, initial, outputs, stored}
 use Rattle.op_graph.specs.Lists.{Lists}
 use Rattle.signature_table.specs.Signatures.{Numbers}
 use Rattle.fault_script.specs.declared.act.Fault.{Fault}
@@ -22,37 +21,24 @@ plain_cycles g held (row ∷ rows) = followed operation_stop (λ c. plain_cycles
 
 -- ---- one cycle of both runs
 
--- an output with another value: its number, the value under the faults and the value without them
-pub record WrongAt : Type 0 where
-  pub output : ℕ
-  pub got : ℤ
-  pub want : ℤ
-
--- the first of these outputs, which are counted from `number`, whose value differs
-abbrev pub first_wrong : List ℤ → List ℤ → ℕ → List Outlet → Option WrongAt
-first_wrong got want number [] = None
-first_wrong got want number (o ∷ outputs) =
-    cond (same (at got o.op) (at want o.op)) (first_wrong got want (suc number) outputs)
-    (Some (record { output = number; got = at got o.op; want = at want o.op }))
-
 -- the run without the faults stops at the same operation with the same kind
 abbrev pub stops_alike : Stop → Option Stop → Bool
 stops_alike s None = false
 stops_alike s (Some other) = s.op == other.op && same_stop s.kind other.kind
 
 -- The verdict of cycle n, if it has one. The first of these cases counts: the run with the faults stops; an output isn't accepted; the other run
--- stops; a value of the output rows differs.
-abbrev pub judged : ℕ → Option Stop → Option RefusedAt → Option Stop → Option WrongAt → Option Verdict
+-- stops; the output rows differ, the row with the faults being the first of the two.
+abbrev pub judged : ℕ → Option Stop → Option RefusedAt → Option Stop → Option Difference → Option Verdict
 judged n (Some s) refused other wrong = Some (cond (stops_alike s other) verdict.Same (verdict.Stopped n s.op s.kind))
 judged n None (Some r) other wrong = Some (verdict.Refused n r.output r.found r.expected)
 judged n None None (Some s) wrong = Some (verdict.RanOn n)
-judged n None None None (Some w) = Some (verdict.Wrong n w.output w.got w.want)
+judged n None None None (Some w) = Some (verdict.Wrong n w.place w.first w.second)
 judged n None None None None = None
 
 -- the verdict of cycle n of a run under acts, beside the run without
 abbrev pub judged_cycle : Numbers → Lists → Acts → ℕ → Cycle → Cycle → Option Verdict
 judged_cycle t g acts n c other = judged n (stop_under g c) (first_unaccepted t g acts n 0 g.outputs) (operation_stop other)
-    (first_wrong c.values other.values 0 g.outputs)
+    (first_difference (outputs g c.values) (outputs g other.values) 0)
 
 -- ---- whole runs
 

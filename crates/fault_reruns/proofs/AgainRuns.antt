@@ -43,7 +43,7 @@ after_calls entries p = record p { calls = entries ++ p.calls }
 after_more : (es fs : List Entry) (p : Part) → after_calls es (after_calls fs p) ≡ after_calls (es ++ fs) p
 after_more es fs p = ap (λ (cs : List Entry). record p { calls = cs }) (sym (append_assoc es fs p.calls))
 
-after_done : (es : List Entry) (own left : List Answer) → after_calls es (done own left) ≡ record { own = own; calls = es; left = left; short = false }
+after_done : (es : List Entry) (own left : List Answer) → after_calls es (done own left) ≡ record { own = own; calls = es; left = left; too_few = false }
 after_done es own left = ap (λ (cs : List Entry). record (done own left) { calls = cs }) (append-nil es)
 
 -- A rerun in the midst of a cycle: so many operations have these answers, and whatever more the unit gives, the whole goes on from them.

@@ -128,7 +128,7 @@ module _ (c : CycleAgain) where
   told_by : (k : ℕ) (before : List Answer) (s : Source) (next : Answer → List Answer → Part) (left : List Answer) → Comes k s
       → ((a : Answer) (rest : List Answer) → Told (suc k) (before ++ a ∷ []) (next a rest)) → Told k before (go_on before s next left)
   told_by k before (has a) next left comes later = has_told k before a (next a left) comes.0 comes.1 (later a left)
-  told_by k before (asks call act word) next [] comes later = nothing_more k before (record { own = before; calls = []; left = []; short = true }) refl refl
+  told_by k before (asks call act word) next [] comes later = nothing_more k before (record { own = before; calls = []; left = []; too_few = true }) refl refl
   told_by k before (asks call act word) next (given ∷ left) comes later =
       let a = handed_by act word given in
       call_told k before a (call, given) (next a left) comes.0 comes.1 comes.2 (later a left)
@@ -168,11 +168,11 @@ module _ (t : Numbers) (g : Lists) (acts : Acts) (all : List (List Answer)) wher
     calls_are : map place part.calls ≡ places_where (asks_at g acts all n) n 0 part.own
     kept : (k : ℕ) → touched g acts all n k ≡ false → k < length part.own → slice_get part.own k ≡ slice_get (slice_index_or all n []) k
 
-  cycle_asks : (n : ℕ) (past : Words) (held : List ℤ) (dirty : List Bool) (row : List ℤ) (other left : List Answer)
-      → cycle_marks g other (acts n) dirty ≡ marks_at g acts all n → other ≡ slice_index_or all n []
-      → CycleAsks n (again (cycle_again t g acts n past held dirty row other) [] g.operations left)
-  cycle_asks n past held dirty row other left marks is =
-      let c = cycle_again t g acts n past held dirty row other in
+  cycle_asks : (n : ℕ) (past : Words) (held : List ℤ) (cell_marks : List Bool) (row : List ℤ) (other left : List Answer)
+      → cycle_marks g other (acts n) cell_marks ≡ marks_at g acts all n → other ≡ slice_index_or all n []
+      → CycleAsks n (again (cycle_again t g acts n past held cell_marks row other) [] g.operations left)
+  cycle_asks n past held cell_marks row other left marks is =
+      let c = cycle_again t g acts n past held cell_marks row other in
       let part = again c [] g.operations left in
       let told = cycle_told c g.operations [] left in
       record {
@@ -195,9 +195,9 @@ module _ (t : Numbers) (g : Lists) (acts : Acts) (all : List (List Answer)) wher
     kept : (i k : ℕ) → touched g acts all (n + i) k ≡ false → k < length (slice_index_or a.answers i [])
         → slice_get (slice_index_or a.answers i []) k ≡ slice_get (slice_index_or all (n + i) []) k
 
-  one_cycle : (n : ℕ) (part : Part) (v : Verdict) (left : List Answer) (short : Bool) → CycleAsks n part
-      → RunAsks n (record { answers = part.own ∷ []; calls = part.calls; verdict = v; left = left; short = short })
-  one_cycle n part v left short c = record {
+  one_cycle : (n : ℕ) (part : Part) (v : Verdict) (left : List Answer) (too_few : Bool) → CycleAsks n part
+      → RunAsks n (record { answers = part.own ∷ []; calls = part.calls; verdict = v; left = left; too_few = too_few })
+  one_cycle n part v left too_few c = record {
     calls_are = c.calls_are ∙ sym (append-nil (places_where (asks_at g acts all n) n 0 part.own));
     kept = one_kept n part c;
   } where
@@ -242,23 +242,23 @@ module _ (t : Numbers) (g : Lists) (acts : Acts) (all : List (List Answer)) wher
     kept = λ i k untouched within. absurd (nothing_there a.answers i k answers within);
   }
 
-  run_asks : (rows : List (List ℤ)) (others : List (List Answer)) (n : ℕ) (past : Words) (held : List ℤ) (dirty : List Bool) (left : List Answer)
-      → dirty ≡ (marks_at g acts all n).held → ((k : ℕ) → slice_index_or others k [] ≡ slice_index_or all (n + k) [])
-      → RunAsks n (runs_again t g acts n past held dirty rows others left)
-  run_asks [] others n past held dirty left cells same = no_cycles n _ refl refl
-  run_asks (row ∷ rows) [] n past held dirty left cells same = no_cycles n _ refl refl
-  run_asks (row ∷ rows) (other ∷ others) n past held dirty left cells same =
-      let c = cycle_again t g acts n past held dirty row other in
+  run_asks : (rows : List (List ℤ)) (others : List (List Answer)) (n : ℕ) (past : Words) (held : List ℤ) (cell_marks : List Bool) (left : List Answer)
+      → cell_marks ≡ (marks_at g acts all n).held → ((k : ℕ) → slice_index_or others k [] ≡ slice_index_or all (n + k) [])
+      → RunAsks n (runs_again t g acts n past held cell_marks rows others left)
+  run_asks [] others n past held cell_marks left cells same = no_cycles n _ refl refl
+  run_asks (row ∷ rows) [] n past held cell_marks left cells same = no_cycles n _ refl refl
+  run_asks (row ∷ rows) (other ∷ others) n past held cell_marks left cells same =
+      let c = cycle_again t g acts n past held cell_marks row other in
       let part = again c [] g.operations left in
       let here : n + 0 ≡ n = omega arith in
       let is : other ≡ slice_index_or all n [] = same 0 ∙ ap (λ (m : ℕ). slice_index_or all m []) here in
-      let marks : cycle_marks g other (acts n) dirty ≡ marks_at g acts all n =
-      ap (λ (xs : List Answer). cycle_marks g xs (acts n) dirty) is
+      let marks : cycle_marks g other (acts n) cell_marks ≡ marks_at g acts all n =
+      ap (λ (xs : List Answer). cycle_marks g xs (acts n) cell_marks) is
       ∙ (ap (cycle_marks g (slice_index_or all n []) (acts n)) cells ∙ marks_here g acts all n) in
       let words : Words = record { held = held; answers = part.own } in
       let next : List Answer → Again = λ rest. runs_again t g acts (suc n) words (stored_words g part.own) (held_marks g c.touched) rows others rest in
-      unless_asks n part.short (read_cycle g t n part.own other) part next
-      (cycle_asks n past held dirty row other left marks is)
+      unless_asks n part.too_few (read_cycle g t n part.own other) part next
+      (cycle_asks n past held cell_marks row other left marks is)
       (run_asks rows others (suc n) words (stored_words g part.own) (held_marks g c.touched) part.left
       (ap (λ (m : Marks). held_marks g m.given) marks)
       (λ k. same (suc k) ∙ ap (λ (m : ℕ). slice_index_or all m []) (omega arith)))

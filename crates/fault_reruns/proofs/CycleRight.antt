@@ -33,7 +33,7 @@ Follow f own other = (p : ℕ) → f p ≡ false → word_at own p ≡ word_at o
 
 -- and of each cell that isn't marked
 abbrev pub CellsFollow : List Bool → List ℤ → List ℤ → Type 0
-CellsFollow dirty held others = (i : ℕ) → mark dirty i ≡ false → at held i ≡ at others i
+CellsFollow cell_marks held others = (i : ℕ) → mark cell_marks i ≡ false → at held i ≡ at others i
 
 pub follow_more : (f : ℕ → Bool) (own other : List Answer) (a x : Answer) → length own ≡ length other → Follow f own other
     → (f (length other) ≡ false → word_of a ≡ word_of x) → Follow f (own ++ a ∷ []) (other ++ x ∷ [])
@@ -125,11 +125,11 @@ has_right c others held before fore op x cells given many h is =
 record Next (part : Part) (next : Answer → List Answer → Part) (a : Answer) : Type 0 where
   left : List Answer
   own : part.own ≡ (next a left).own
-  enough : (next a left).short ≡ false
+  enough : (next a left).too_few ≡ false
   right : AllRight (next a left).calls
 
 asked : (call : Call) (a : Option Act) (w : ℤ) (before : List Answer) (next : Answer → List Answer → Part) (left : List Answer)
-    → (go_on before (asks call a w) next left).short ≡ false → AllRight (go_on before (asks call a w) next left).calls
+    → (go_on before (asks call a w) next left).too_few ≡ false → AllRight (go_on before (asks call a w) next left).calls
     → Next (go_on before (asks call a w) next left) next (handed_by a w (Right call))
 asked call a w before next [] enough right = absurd cc
 asked call a w before next (x ∷ left) enough right =
@@ -137,12 +137,12 @@ asked call a w before next (x ∷ left) enough right =
     record {
       left = left;
       own = ap (λ (y : Answer). (next y left).own) is;
-      enough = subst (λ (y : Answer). (next y left).short ≡ false) is enough;
+      enough = subst (λ (y : Answer). (next y left).too_few ≡ false) is enough;
       right = subst (λ (y : Answer). AllRight (next y left).calls) is right.1;
     }
 
 touched_next : (a : Option Act) (w : ℤ) (call : Call) (before : List Answer) (next : Answer → List Answer → Part) (left : List Answer)
-    → (go_on before (source_touched a w call) next left).short ≡ false → AllRight (go_on before (source_touched a w call) next left).calls
+    → (go_on before (source_touched a w call) next left).too_few ≡ false → AllRight (go_on before (source_touched a w call) next left).calls
     → Next (go_on before (source_touched a w call) next left) next (right_by a w call)
 touched_next None w call before next left enough right = asked call None w before next left enough right
 touched_next (Some (act.OperandAdd j e)) w call before next left enough right =
@@ -198,20 +198,20 @@ abbrev pub next_of : CycleAgain → List Answer → List Op → Answer → List 
 next_of c before ops a left = after_answer (is_word a) (before ++ a ∷ []) (λ left. again c (before ++ a ∷ []) ops left) left
 
 marked_next : (c : CycleAgain) (before : List Answer) (op : Op) (ops : List Op) (left : List Answer) → mark c.touched (length before) ≡ true
-    → (again c before (op ∷ ops) left).short ≡ false → AllRight (again c before (op ∷ ops) left).calls
+    → (again c before (op ∷ ops) left).too_few ≡ false → AllRight (again c before (op ∷ ops) left).calls
     → Next (again c before (op ∷ ops) left) (next_of c before ops) (right_at c before op)
 marked_next c before op ops left e =
     let k = length before in
     let w = taken c.past before op (c.acts k) in
     let call = call_of c.setting op before in
     let part : Bool → Part = λ b. go_on before (cond b (source_touched (c.acts k) w call) (source_of (slice_get c.other k))) (next_of c before ops) left in
-    subst (λ (b : Bool). (part b).short ≡ false → AllRight (part b).calls → Next (part b) (next_of c before ops) (right_at c before op)) (sym e)
+    subst (λ (b : Bool). (part b).too_few ≡ false → AllRight (part b).calls → Next (part b) (next_of c before ops) (right_at c before op)) (sym e)
     (touched_next (c.acts k) w call before (next_of c before ops) left)
 
 step_right : (c : CycleAgain) (op : Op) (ops : List Op) (before : List Answer) (a : Answer) (rest : List Answer → Part) (left : List Answer) (b : Bool)
-    → is_word a ≡ b → a ≡ right_at c before op → (after_answer b (before ++ a ∷ []) rest left).short ≡ false
+    → is_word a ≡ b → a ≡ right_at c before op → (after_answer b (before ++ a ∷ []) rest left).too_few ≡ false
     → AllRight (after_answer b (before ++ a ∷ []) rest left).calls
-    → (is_word a ≡ true → (rest left).short ≡ false → AllRight (rest left).calls → Rightly c (before ++ a ∷ []) ops (rest left).own)
+    → (is_word a ≡ true → (rest left).too_few ≡ false → AllRight (rest left).calls → Rightly c (before ++ a ∷ []) ops (rest left).own)
     → Rightly c before (op ∷ ops) (after_answer b (before ++ a ∷ []) rest left).own
 step_right c op ops before a rest left true e is enough right more = rightly_more c before op ops a (rest left).own e is (more e enough right)
 step_right c op ops before a rest left false e is enough right more = rightly_stop c before op ops a (before ++ a ∷ []) e is refl
@@ -245,7 +245,7 @@ base : (c : CycleAgain) (before : List Answer) → Rightly c before [] before
 base c before = record { later = []; own_is = sym (append-nil before); whole = tt; rights = tt }
 
 marked_right : (c : CycleAgain) (ops : List Op) (before left : List Answer) → AllMarked c.touched (length before) ops
-    → (again c before ops left).short ≡ false → AllRight (again c before ops left).calls → Rightly c before ops (again c before ops left).own
+    → (again c before ops left).too_few ≡ false → AllRight (again c before ops left).calls → Rightly c before ops (again c before ops left).own
 marked_right c [] before left marked enough right = base c before
 marked_right c (op ∷ ops) before left marked enough right =
     let a = right_at c before op in
@@ -272,7 +272,7 @@ pub record CycleRight (c : CycleAgain) (before : List Answer) (ops : List Op) (o
   pub follows : AllWords c.other → AllWords own → Follow (mark c.touched) own c.other
 
 abbrev Goes : CycleAgain → List ℤ → List Bool → List Op → Type 0
-Goes c others held ops = (before fore rest left : List Answer) → Side c others held before fore rest ops → (again c before ops left).short ≡ false
+Goes c others held ops = (before fore rest left : List Answer) → Side c others held before fore rest ops → (again c before ops left).too_few ≡ false
     → AllRight (again c before ops left).calls → CycleRight c before ops (again c before ops left).own
 
 pub words_at : (xs : List Answer) (a : Answer) (ys : List Answer) → AllWords (xs ++ a ∷ ys) → is_word a ≡ true
@@ -317,7 +317,7 @@ right_stop c before op ops a word is = record {
 past_right : (c : CycleAgain) (others : List ℤ) (held : List Bool) (before fore : List Answer) (a x : Answer) (rest left : List Answer) (op : Op)
     (ops : List Op)
     → Side c others held before fore (x ∷ rest) (op ∷ ops) → mark c.touched (length before) ≡ true → is_word x ≡ false
-    → (again c (before ++ a ∷ []) ops left).short ≡ false → AllRight (again c (before ++ a ∷ []) ops left).calls
+    → (again c (before ++ a ∷ []) ops left).too_few ≡ false → AllRight (again c (before ++ a ∷ []) ops left).calls
     → CycleRight c (before ++ a ∷ []) ops (again c (before ++ a ∷ []) ops left).own
 past_right c others held before fore a x rest left op ops s e stop enough right =
     let none : rest ≡ [] = whole_off x ops rest stop s.whole in
@@ -338,7 +338,7 @@ after_touched : (c : CycleAgain) (others : List ℤ) (held : List Bool) (before 
     (ops : List Op)
     → Side c others held before fore (x ∷ rest) (op ∷ ops) → mark c.touched (length before) ≡ true → Goes c others held ops → a ≡ right_at c before op
     → (b : Bool) → is_word a ≡ b → (d : Bool) → is_word x ≡ d
-    → (after_answer b (before ++ a ∷ []) (λ left. again c (before ++ a ∷ []) ops left) left).short ≡ false
+    → (after_answer b (before ++ a ∷ []) (λ left. again c (before ++ a ∷ []) ops left) left).too_few ≡ false
     → AllRight (after_answer b (before ++ a ∷ []) (λ left. again c (before ++ a ∷ []) ops left) left).calls
     → CycleRight c before (op ∷ ops) (after_answer b (before ++ a ∷ []) (λ left. again c (before ++ a ∷ []) ops left) left).own
 after_touched c others held before fore a x rest left op ops s e goes is false word d other enough right = right_stop c before op ops a word is
@@ -354,7 +354,7 @@ after_untouched : (c : CycleAgain) (others : List ℤ) (held : List Bool) (befor
     (ops : List Op)
     → Side c others held before fore (x ∷ rest) (op ∷ ops) → Goes c others held ops → x ≡ right_at c before op
     → (b : Bool) → is_word x ≡ b
-    → (after_answer b (before ++ x ∷ []) (λ left. again c (before ++ x ∷ []) ops left) left).short ≡ false
+    → (after_answer b (before ++ x ∷ []) (λ left. again c (before ++ x ∷ []) ops left) left).too_few ≡ false
     → AllRight (after_answer b (before ++ x ∷ []) (λ left. again c (before ++ x ∷ []) ops left) left).calls
     → CycleRight c before (op ∷ ops) (after_answer b (before ++ x ∷ []) (λ left. again c (before ++ x ∷ []) ops left) left).own
 after_untouched c others held before fore x rest left op ops s goes is true word enough right =
@@ -364,7 +364,7 @@ after_untouched c others held before fore x rest left op ops s goes is false wor
 
 by_mark : (c : CycleAgain) (others : List ℤ) (held : List Bool) (before fore : List Answer) (x : Answer) (rest left : List Answer) (op : Op) (ops : List Op)
     → CellsFollow held c.setting.held others → Side c others held before fore (x ∷ rest) (op ∷ ops) → Goes c others held ops
-    → (b : Bool) → mark c.touched (length before) ≡ b → (again c before (op ∷ ops) left).short ≡ false → AllRight (again c before (op ∷ ops) left).calls
+    → (b : Bool) → mark c.touched (length before) ≡ b → (again c before (op ∷ ops) left).too_few ≡ false → AllRight (again c before (op ∷ ops) left).calls
     → CycleRight c before (op ∷ ops) (again c before (op ∷ ops) left).own
 by_mark c others held before fore x rest left op ops cells s goes true e enough right =
     let a = right_at c before op in
@@ -385,7 +385,7 @@ by_mark c others held before fore x rest left op ops cells s goes false e enough
     let is = has_right c others held before fore op x cells s.follow s.many touch s.right.0 in
     subst (λ (part : Part). CycleRight c before (op ∷ ops) part.own) (sym part_is)
     (after_untouched c others held before fore x rest left op ops s goes is (is_word x) refl
-    (subst (λ (part : Part). part.short ≡ false) part_is enough) (subst (λ (part : Part). AllRight part.calls) part_is right))
+    (subst (λ (part : Part). part.too_few ≡ false) part_is enough) (subst (λ (part : Part). AllRight part.calls) part_is right))
 
 again_right : (c : CycleAgain) (others : List ℤ) (held : List Bool) → CellsFollow held c.setting.held others → (ops : List Op) → Goes c others held ops
 again_right c others held cells [] before fore [] left s enough right = record {
@@ -401,7 +401,7 @@ again_right c others held cells (op ∷ ops) before fore (x ∷ rest) left s eno
 pub cycle_right : (c : CycleAgain) (others : List ℤ) (held : List Bool) (left : List Answer) → CellsFollow held c.setting.held others
     → Spread c.other c.acts (record { held = held; given = c.touched }) 0 c.setting.graph.operations → Whole c.setting.graph.operations c.other
     → AllRight (calls_from (beside c.setting others) [] c.setting.graph.operations c.other)
-    → (again c [] c.setting.graph.operations left).short ≡ false → AllRight (again c [] c.setting.graph.operations left).calls
+    → (again c [] c.setting.graph.operations left).too_few ≡ false → AllRight (again c [] c.setting.graph.operations left).calls
     → CycleRight c [] c.setting.graph.operations (again c [] c.setting.graph.operations left).own
 cycle_right c others held left cells spread whole right =
     again_right c others held cells c.setting.graph.operations [] [] c.other left

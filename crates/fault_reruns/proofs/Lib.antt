@@ -1,5 +1,6 @@
 pub mod Acts
 pub mod AgainRuns
+pub mod Alone
 pub mod Asking
 pub mod Crossed
 pub mod CycleRight

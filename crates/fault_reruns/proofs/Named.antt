@@ -1,6 +1,7 @@
 -- Named: the verdict that is read off a rerun names an output or an operation of the graph, and a cycle that has a row.
 use Rattle.std.proofs.Common.{◌≡◌, ◌<◌, ◌≤◌, ◌+◌, ℕ, suc, ℤ, Bool, true, false, cond, List, [], ◌∷◌, ◌++◌, length, slice_get, Option, Some, None, IfSome}
 use Rattle.std.proofs.Common.{refl, ◌==◌, arith, length-append}
+use Rattle.vcp_base.specs.Differences.{Difference, first_difference}
 use Rattle.vcp_base.specs.Kinds.{same}
 use Rattle.vcp_base.specs.Types.{fits}
 use Rattle.vcp_base.specs.declared.code.Profile.{Profile}
@@ -22,9 +23,8 @@ use Rattle.coded_machine.specs.declared.cycle_end.CycleEnd.{CycleEnd}
 use Rattle.coded_machine.specs.declared.cycle_end.CycleEnd.TheVariants as end
 use Rattle.fault_script.specs.Changes.{Acts}
 use Rattle.fault_runs.specs.RunLaw.{Words}
-use Rattle.fault_injector.specs.Judging.{row_wrong, wrong_verdict}
 use Rattle.fault_injector.specs.Names.{Names}
-use Rattle.fault_injector.specs.Verdicts.{WrongAt, judged, stops_alike}
+use Rattle.fault_injector.specs.Verdicts.{judged, stops_alike}
 use Rattle.fault_injector.specs.declared.verdict.Verdict.{Verdict}
 use Rattle.fault_injector.specs.declared.verdict.Verdict.TheVariants as verdict
 use Rattle.fault_reruns.specs.Reruns.{Again, CycleAgain, InCycles, Part, Source, has, asks, ended, after_answer, again, cycle_again, go_on, read_cycle}
@@ -113,18 +113,21 @@ end_within laws g t n answers graph few =
 
 -- ---- the first output with another value
 
-wrong_later : (b : Bool) (n outputs operations : ℕ) (later : Option WrongAt) (w : WrongAt) → IfSome (wrong_verdict n later) (Names outputs operations) →
-    w.output < outputs → IfSome (wrong_verdict n (cond b later (Some w))) (Names outputs operations)
-wrong_later true n outputs operations later w first second = first
-wrong_later false n outputs operations later w first second = second
+-- where there is a difference, its place is below this number of outputs
+abbrev PlaceWithin : ℕ → Option Difference → Type 0
+PlaceWithin outputs d = IfSome d (λ (w : Difference). w.place < outputs)
 
-wrong_within : (n outputs operations number : ℕ) (row wants : List ℤ) → number + length row ≡ outputs →
-    IfSome (wrong_verdict n (row_wrong row wants number)) (Names outputs operations)
-wrong_within n outputs operations number [] wants count = tt
-wrong_within n outputs operations number (got ∷ row) [] count = tt
-wrong_within n outputs operations number (got ∷ row) (want ∷ wants) count =
-    wrong_later (same got want) n outputs operations (row_wrong row wants (suc number)) (record { output = number; got = got; want = want })
-    (wrong_within n outputs operations (suc number) row wants (omega (arith, count))) (omega (arith, count))
+wrong_later : (b : Bool) (outputs : ℕ) (later : Option Difference) (w : Difference) → PlaceWithin outputs later → w.place < outputs
+    → PlaceWithin outputs (cond b later (Some w))
+wrong_later true outputs later w first second = first
+wrong_later false outputs later w first second = second
+
+wrong_within : (outputs number : ℕ) (row wants : List ℤ) → number + length row ≡ outputs → PlaceWithin outputs (first_difference row wants number)
+wrong_within outputs number [] wants count = tt
+wrong_within outputs number (got ∷ row) [] count = tt
+wrong_within outputs number (got ∷ row) (want ∷ wants) count =
+    wrong_later (same got want) outputs (first_difference row wants (suc number)) (record { place = number; first = got; second = want })
+    (wrong_within outputs (suc number) row wants (omega (arith, count))) (omega (arith, count))
 
 -- ---- verdicts
 
@@ -138,8 +141,8 @@ same_or_stopped : (b : Bool) (outputs operations cycles n k : ℕ) (why : StopKi
 same_or_stopped true outputs operations cycles n k why within below = record { names = tt; cycle = tt }
 same_or_stopped false outputs operations cycles n k why within below = record { names = within; cycle = below }
 
-named_by : (outputs operations cycles n : ℕ) (e : CycleEnd) (o : Option Stop) (w : Option WrongAt) → n < cycles → EndNames outputs operations e
-    → IfSome (wrong_verdict n w) (Names outputs operations)
+named_by : (outputs operations cycles n : ℕ) (e : CycleEnd) (o : Option Stop) (w : Option Difference) → n < cycles → EndNames outputs operations e
+    → PlaceWithin outputs w
     → IfSome (judged n (stop_in e) (refusal_in e) o w) (Named outputs operations cycles)
 named_by outputs operations cycles n (end.Stopped k why) o w below within wrong =
     same_or_stopped (stops_alike (record { op = k; kind = why }) o) outputs operations cycles n k why within below
@@ -153,9 +156,9 @@ named_cycle : EntryLaws → (g : Lists) (t : Numbers) (n cycles : ℕ) (own othe
 named_cycle laws g t n cycles own other graph few below =
     let outputs = length g.outputs in
     let operations = length g.operations in
-    named_by outputs operations cycles n (end_of g t n own) (stop_in (end_of g t n other)) (row_wrong (outputs_of g own) (outputs_of g other) 0) below
+    named_by outputs operations cycles n (end_of g t n own) (stop_in (end_of g t n other)) (first_difference (outputs_of g own) (outputs_of g other) 0) below
     (end_within laws g t n own graph few)
-    (wrong_within n outputs operations 0 (outputs_of g own) (outputs_of g other) (omega (arith, values_count g own)))
+    (wrong_within outputs 0 (outputs_of g own) (outputs_of g other) (omega (arith, values_count g own)))
 
 -- the verdict of a cycle, or else the one that the later cycles come to
 named_step : (P : Verdict → Type 0) (b : Bool) (v : Option Verdict) (part : Part) (next : List Answer → Again) → P verdict.Same → IfSome v P
@@ -165,16 +168,16 @@ named_step P false (Some v) part next none here later = here
 named_step P false None part next none here later = later
 
 pub runs_named : EntryLaws → (t : Numbers) (g : Lists) (acts : Acts) (cycles : ℕ) → IsGraph g → (rows : List (List ℤ)) (others : List (List Answer)) (n : ℕ)
-    (past : Words) (held : List ℤ) (dirty : List Bool) (left : List Answer) → n + length rows ≡ cycles
-    → Named (length g.outputs) (length g.operations) cycles (runs_again t g acts n past held dirty rows others left).verdict
-runs_named laws t g acts cycles graph [] others n past held dirty left count = record { names = tt; cycle = tt }
-runs_named laws t g acts cycles graph (row ∷ rows) [] n past held dirty left count = record { names = tt; cycle = tt }
-runs_named laws t g acts cycles graph (row ∷ rows) (other ∷ others) n past held dirty left count =
-    let c = cycle_again t g acts n past held dirty row other in
+    (past : Words) (held : List ℤ) (cell_marks : List Bool) (left : List Answer) → n + length rows ≡ cycles
+    → Named (length g.outputs) (length g.operations) cycles (runs_again t g acts n past held cell_marks rows others left).verdict
+runs_named laws t g acts cycles graph [] others n past held cell_marks left count = record { names = tt; cycle = tt }
+runs_named laws t g acts cycles graph (row ∷ rows) [] n past held cell_marks left count = record { names = tt; cycle = tt }
+runs_named laws t g acts cycles graph (row ∷ rows) (other ∷ others) n past held cell_marks left count =
+    let c = cycle_again t g acts n past held cell_marks row other in
     let part = again c [] g.operations left in
     let words : Words = record { held = held; answers = part.own } in
     let next : List Answer → Again = λ rest. runs_again t g acts (suc n) words (stored_words g part.own) (held_marks g c.touched) rows others rest in
-    named_step (Named (length g.outputs) (length g.operations) cycles) part.short (read_cycle g t n part.own other) part next
+    named_step (Named (length g.outputs) (length g.operations) cycles) part.too_few (read_cycle g t n part.own other) part next
     (record { names = tt; cycle = tt })
     (named_cycle laws g t n cycles part.own other graph (omega (arith, few_own c [] g.operations left)) (omega (arith, count)))
     (runs_named laws t g acts cycles graph rows others (suc n) words (stored_words g part.own) (held_marks g c.touched) part.left (omega (arith, count)))

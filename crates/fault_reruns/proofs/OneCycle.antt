@@ -9,8 +9,8 @@ use Rattle.coded_machine.specs.Runs.{setting_at}
 use Rattle.fault_script.specs.declared.act.Act.{Act}
 use Rattle.fault_script.specs.Changes.{Acts}
 use Rattle.fault_injector.specs.declared.verdict.Verdict.{Verdict}
-use Rattle.fault_injector.specs.Judging.{row_wrong}
 use Rattle.fault_injector.specs.Verdicts.{judged}
+use Rattle.vcp_base.specs.Differences.{first_difference}
 use Rattle.fault_reruns.specs.Reruns.{CycleAgain, cycle_again, read_cycle, refusal_in, stop_in}
 use Rattle.fault_reruns.specs.Touched.{cycle_marks}
 
@@ -29,17 +29,17 @@ begins_with g t acts n past_held past held row other touched = record {
   touched = touched;
 }
 
-pub marks_same : (g h : Lists) (acts : ℕ → Option Act) (dirty d : List Bool) (other o : List Answer) → h ≡ g → d ≡ dirty → o ≡ other
-    → (cycle_marks h o acts d).given ≡ (cycle_marks g other acts dirty).given
-marks_same g h acts dirty d other o graph cells answers =
+pub marks_same : (g h : Lists) (acts : ℕ → Option Act) (cell_marks d : List Bool) (other o : List Answer) → h ≡ g → d ≡ cell_marks → o ≡ other
+    → (cycle_marks h o acts d).given ≡ (cycle_marks g other acts cell_marks).given
+marks_same g h acts cell_marks d other o graph cells answers =
     ap (λ (x : Lists). (cycle_marks x o acts d).given) graph
-    ∙ (ap (λ (x : List Bool). (cycle_marks g o acts x).given) cells ∙ ap (λ (x : List Answer). (cycle_marks g x acts dirty).given) answers)
+    ∙ (ap (λ (x : List Bool). (cycle_marks g o acts x).given) cells ∙ ap (λ (x : List Answer). (cycle_marks g x acts cell_marks).given) answers)
 
-pub begins_same : (g h : Lists) (t u : Numbers) (acts : Acts) (n : ℕ) (past_held ph : List ℤ) (past pa : List Answer) (held hw : List ℤ) (dirty : List Bool)
+pub begins_same : (g h : Lists) (t u : Numbers) (acts : Acts) (n : ℕ) (past_held ph : List ℤ) (past pa : List Answer) (held hw : List ℤ) (cell_marks : List Bool)
     (row rv : List ℤ) (other o : List Answer) (touched : List Bool) → h ≡ g → u ≡ t → ph ≡ past_held → pa ≡ past → hw ≡ held → rv ≡ row → o ≡ other
-    → touched ≡ (cycle_marks g other (acts n) dirty).given
-    → begins_with h u (acts n) n ph pa hw rv o touched ≡ cycle_again t g acts n (record { held = past_held; answers = past }) held dirty row other
-begins_same g h t u acts n past_held ph past pa held hw dirty row rv other o touched graph table first before cells inputs answers marks =
+    → touched ≡ (cycle_marks g other (acts n) cell_marks).given
+    → begins_with h u (acts n) n ph pa hw rv o touched ≡ cycle_again t g acts n (record { held = past_held; answers = past }) held cell_marks row other
+begins_same g h t u acts n past_held ph past pa held hw cell_marks row rv other o touched graph table first before cells inputs answers marks =
     ap (λ (x : Lists). begins_with x u (acts n) n ph pa hw rv o touched) graph
     ∙ (ap (λ (x : Numbers). begins_with g x (acts n) n ph pa hw rv o touched) table
     ∙ (ap (λ (x : List ℤ). begins_with g t (acts n) n x pa hw rv o touched) first
@@ -50,7 +50,7 @@ begins_same g h t u acts n past_held ph past pa held hw dirty row rv other o tou
     ∙ ap (λ (x : List Bool). begins_with g t (acts n) n past_held past held row other x) marks))))))
 
 abbrev read_by : ℕ → CycleEnd → CycleEnd → Lists → List Answer → List Answer → Option Verdict
-read_by n e f g own other = judged n (stop_in e) (refusal_in e) (stop_in f) (row_wrong (outputs_of g own) (outputs_of g other) 0)
+read_by n e f g own other = judged n (stop_in e) (refusal_in e) (stop_in f) (first_difference (outputs_of g own) (outputs_of g other) 0)
 
 pub read_same : (g h : Lists) (t u : Numbers) (n : ℕ) (own d6 d7 other o : List Answer) (e f : CycleEnd) → h ≡ g → u ≡ t → d6 ≡ own → d7 ≡ own → o ≡ other
     → e ≡ end_of h u n d6 → f ≡ end_of g t n other → read_by n e f h d7 o ≡ read_cycle g t n own other

@@ -17,14 +17,14 @@ use Rattle.fault_script.specs.declared.act.Fault.{Fault}
 use Rattle.fault_script.specs.Changes.{acts_of}
 use Rattle.fault_runs.specs.RunLaw.{Words}
 use Rattle.fault_injector.specs.declared.verdict.Verdict.TheVariants as verdict
-use Rattle.fault_injector.specs.Judging.{row_wrong}
 use Rattle.fault_injector.specs.Verdicts.{judged}
+use Rattle.vcp_base.specs.Differences.{first_difference}
 use Rattle.fault_reruns.specs.Begun.{RanAgain}
 use Rattle.fault_reruns.specs.Crossing.{past_of}
-use Rattle.fault_reruns.specs.Laws.{NoneRefused, Rests, Untouched}
+use Rattle.fault_reruns.specs.Laws.{NoneRefused, AsksNoMore, NothingTouched}
 use Rattle.fault_reruns.specs.References.{KeptRun}
 use Rattle.fault_reruns.specs.Reruns.{Again, cycle_again, read_cycle, refusal_in, rerun, runs_again, stop_in}
-use Rattle.fault_reruns.specs.Resting.{Advanced, LastStands, held_at, last_answers, passes, past_at, stays}
+use Rattle.fault_reruns.specs.PassedOver.{Advanced, LastStands, held_at, last_answers, passes, past_at, stays}
 use Rattle.fault_reruns.specs.Through.{RanThrough}
 use Rattle.fault_reruns.specs.Touched.{cycle_marks, held_marks, mark}
 use Rattle.fault_reruns.specs.declared.rerun.Work.{Work}
@@ -32,7 +32,7 @@ use Rattle.fault_reruns.proofs.KeptAnswers.{not_released}
 use Rattle.fault_reruns.proofs.KeptParts.{ended_early}
 use Rattle.fault_reruns.proofs.Lists.{drop_behind, there_is}
 use Rattle.fault_reruns.proofs.RerunRuns.{Between, after_cycles, drop_at, goes_on}
-use Rattle.fault_reruns.proofs.Untouched.{cycle_same, none_touched, row_same, runs_rest}
+use Rattle.fault_reruns.proofs.Untouched.{cycle_same, none_touched, row_same, asks_no_more}
 
 abbrev pub NoMark : List Bool → Type 0
 NoMark marks = (i : ℕ) → mark marks i ≡ false
@@ -62,17 +62,17 @@ none_marked (n ∷ stores) (suc i) = none_marked stores i
 -- a released cycle has no verdict beside itself
 read_none : (g : Lists) (t : Numbers) (n : ℕ) (other : List Answer) → end_of g t n other ≡ end.Released → read_cycle g t n other other ≡ None
 read_none g t n other released =
-    ap (λ (e : CycleEnd). judged n (stop_in e) (refusal_in e) (stop_in e) (row_wrong (outputs_of g other) (outputs_of g other) 0)) released
+    ap (λ (e : CycleEnd). judged n (stop_in e) (refusal_in e) (stop_in e) (first_difference (outputs_of g other) (outputs_of g other) 0)) released
     ∙ ap (judged n None None None) (row_same (outputs_of g other) 0)
 
 -- the rerun of a cycle in which nothing is touched makes no call
-quiet_again : (r : KeptRun) (faults : List Fault) (n : ℕ) (past : Words) (held : List ℤ) (dirty : List Bool) (row : List ℤ) (other : List Answer)
-    (x : Option (List Entry)) (i : ℕ) → Whole r.graph.operations other → Untouched (acts_of faults n) dirty → Carried [] x x i i
-    → RanAgain (cycle_again r.table r.graph (acts_of faults) n past held dirty row other) other x x i i
-quiet_again r faults n past held dirty row other x i whole u nothing = record {
+untouched_again : (r : KeptRun) (faults : List Fault) (n : ℕ) (past : Words) (held : List ℤ) (cell_marks : List Bool) (row : List ℤ) (other : List Answer)
+    (x : Option (List Entry)) (i : ℕ) → Whole r.graph.operations other → NothingTouched (acts_of faults n) cell_marks → Carried [] x x i i
+    → RanAgain (cycle_again r.table r.graph (acts_of faults) n past held cell_marks row other) other x x i i
+untouched_again r faults n past held cell_marks row other x i whole u nothing = record {
   given = [];
   entries = [];
-  comes = λ more. cycle_same r.table r.graph (acts_of faults) n past held dirty row other more whole u;
+  comes = λ more. cycle_same r.table r.graph (acts_of faults) n past held cell_marks row other more whole u;
   carried = nothing;
 }
 
@@ -93,64 +93,64 @@ pub record Free (r : KeptRun) (faults : List Fault) (n m : ℕ) : Type 0 where
 
 module _ (r : KeptRun) (faults : List Fault) (n m : ℕ) (free : Free r faults n m) (x y : Option (List Entry)) (i j : ℕ) (nothing : Carried [] y y j j) where
   -- the next cycle begins with the words and the answers of the run without the faults
-  hop : (p : ℕ) (past : Words) (held : List ℤ) (dirty : List Bool) → n ≤ p → p < m → NoMark dirty → Between r faults p past held dirty x y i j
+  hop : (p : ℕ) (past : Words) (held : List ℤ) (cell_marks : List Bool) → n ≤ p → p < m → NoMark cell_marks → Between r faults p past held cell_marks x y i j
       → Between r faults (p + 1) (record { held = held; answers = last_answers r (p + 1) }) (held_at r (p + 1)) (held_marks r.graph []) x y i j
-  hop p past held dirty above below cells b =
+  hop p past held cell_marks above below cells b =
       let g = r.graph in
       let there = there_is r.rows p (omega (arith, below, free.there, free.rows)) in
       let answered = there_is r.answers p (omega (arith, below, free.there)) in
       let other : List Answer = answered.0 in
       let whole = whole_there g r.table 0 r.rows r.answers p other free.all answered.1 in
-      let u : Untouched (acts_of faults p) dirty = record { cells = cells; no_fault = λ k. free.none p k above below } in
+      let u : NothingTouched (acts_of faults p) cell_marks = record { cells = cells; no_fault = λ k. free.none p k above below } in
       let released : end_of g r.table p other ≡ end.Released =
       ap (end_of g r.table p) (sym (get_or_from_slice_get r.answers p other [] answered.1))
       ∙ ended_early g r.table r.rows r.answers p free.all (omega (arith, below, free.there)) in
-      let next = goes_on r faults p past held dirty there.0 other other x y y i j j there.1 answered.1 b
-      (quiet_again r faults p past held dirty there.0 other y j whole u nothing) (sym (read_none g r.table p other released)) in
+      let next = goes_on r faults p past held cell_marks there.0 other other x y y i j j there.1 answered.1 b
+      (untouched_again r faults p past held cell_marks there.0 other y j whole u nothing) (sym (read_none g r.table p other released)) in
       subst (λ (xs : List Answer). Between r faults (p + 1) (record { held = held; answers = xs }) (stored_words g xs) (held_marks g []) x y i j)
       (last_is r p other answered.1)
       (subst (λ (d : List Bool). Between r faults (p + 1) (record { held = held; answers = other }) (stored_words g other) d x y i j)
-      (unmarked (cycle_marks g other (acts_of faults p) dirty).given g.stores (none_touched g other (acts_of faults p) dirty u)) next)
+      (unmarked (cycle_marks g other (acts_of faults p) cell_marks).given g.stores (none_touched g other (acts_of faults p) cell_marks u)) next)
 
   -- and so does the one behind it, whose cycle before began with the words of that run too
-  abbrev AtRest : ℕ → Type 0
-  AtRest p = Between r faults p (past_at r p) (held_at r p) (held_marks r.graph []) x y i j
+  abbrev Passing : ℕ → Type 0
+  Passing p = Between r faults p (past_at r p) (held_at r p) (held_marks r.graph []) x y i j
 
-  rested : (p : ℕ) (past : Words) (dirty : List Bool) → n ≤ p → p < m → NoMark dirty → Between r faults p past (held_at r p) dirty x y i j → AtRest (p + 1)
-  rested p past dirty above below cells b =
+  passes_on : (p : ℕ) (past : Words) (cell_marks : List Bool) → n ≤ p → p < m → NoMark cell_marks → Between r faults p past (held_at r p) cell_marks x y i j → Passing (p + 1)
+  passes_on p past cell_marks above below cells b =
       let back : p + 1 - 1 ≡ p = omega arith in
       let now : held_at r p ≡ held_at r (p + 1 - 1) = ap (held_at r) (sym back) in
       subst (λ (h : List ℤ). Between r faults (p + 1) (record { held = h; answers = last_answers r (p + 1) }) (held_at r (p + 1)) (held_marks r.graph [])
-      x y i j) now (hop p past (held_at r p) dirty above below cells b)
+      x y i j) now (hop p past (held_at r p) cell_marks above below cells b)
 
-  rest_on : (d p : ℕ) → n ≤ p → p + d ≡ m → AtRest p → AtRest m
-  rest_on zero p above is b = let same : p ≡ m = omega (arith, is) in subst AtRest same b
-  rest_on (suc d) p above is b =
-      rest_on d (p + 1) (omega (arith, above)) (omega (arith, is))
-      (rested p (past_at r p) (held_marks r.graph []) above (omega (arith, is)) (none_marked r.graph.stores) b)
+  pass_on : (d p : ℕ) → n ≤ p → p + d ≡ m → Passing p → Passing m
+  pass_on zero p above is b = let same : p ≡ m = omega (arith, is) in subst Passing same b
+  pass_on (suc d) p above is b =
+      pass_on d (p + 1) (omega (arith, above)) (omega (arith, is))
+      (passes_on p (past_at r p) (held_marks r.graph []) above (omega (arith, is)) (none_marked r.graph.stores) b)
 
-  rests_until : (past : Words) (held : List ℤ) (dirty : List Bool) → n + 2 ≤ m → NoMark dirty → Between r faults n past held dirty x y i j → AtRest m
-  rests_until past held dirty far cells b =
-      rest_on (m - (n + 1 + 1)) (n + 1 + 1) (omega arith) (omega (arith, far))
-      (rested (n + 1) (record { held = held; answers = last_answers r (n + 1) }) (held_marks r.graph []) (omega arith) (omega (arith, far))
-      (none_marked r.graph.stores) (hop n past held dirty (omega arith) (omega (arith, far)) cells b))
+  passed_until : (past : Words) (held : List ℤ) (cell_marks : List Bool) → n + 2 ≤ m → NoMark cell_marks → Between r faults n past held cell_marks x y i j → Passing m
+  passed_until past held cell_marks far cells b =
+      pass_on (m - (n + 1 + 1)) (n + 1 + 1) (omega arith) (omega (arith, far))
+      (passes_on (n + 1) (record { held = held; answers = last_answers r (n + 1) }) (held_marks r.graph []) (omega arith) (omega (arith, far))
+      (none_marked r.graph.stores) (hop n past held cell_marks (omega arith) (omega (arith, far)) cells b))
 
 -- a rerun comes to a cycle so
 pub comes_to : (r : KeptRun) (faults : List Fault) (n to : ℕ) (v w : Work) (m : ℕ) (x y : Option (List Entry)) (i j : ℕ) → Free r faults n to → n ≤ to
-    → (n < to → NoMark v.dirty.items) → Carried [] y y j j → Between r faults n (past_of v) v.held.items v.dirty.items x y i j → Advanced r n to v w m
-    → Between r faults m (past_of w) w.held.items w.dirty.items x y i j × (n ≤ m) × (m ≤ to)
+    → (n < to → NoMark v.cell_marks.items) → Carried [] y y j j → Between r faults n (past_of v) v.held.items v.cell_marks.items x y i j → Advanced r n to v w m
+    → Between r faults m (past_of w) w.held.items w.cell_marks.items x y i j × (n ≤ m) × (m ≤ to)
 comes_to r faults n to v w m x y i j free above cells nothing b (stays here same) = (
-  subst (λ (k : ℕ). Between r faults k (past_of w) w.held.items w.dirty.items x y i j) (sym here)
-      (subst (λ (u : Work). Between r faults n (past_of u) u.held.items u.dirty.items x y i j) (sym same) b),
+  subst (λ (k : ℕ). Between r faults k (past_of w) w.held.items w.cell_marks.items x y i j) (sym here)
+      (subst (λ (u : Work). Between r faults n (past_of u) u.held.items u.cell_marks.items x y i j) (sym same) b),
   omega (arith, here),
   omega (arith, here, above),
 )
 comes_to r faults n to v w m x y i j free above cells nothing b (passes far there rest) = (
-  subst (λ (k : ℕ). Between r faults k (past_of w) w.held.items w.dirty.items x y i j) (sym there)
-      (subst (λ (p : Words). Between r faults to p w.held.items w.dirty.items x y i j) (sym rest.past)
-      (subst (λ (h : List ℤ). Between r faults to (past_at r to) h w.dirty.items x y i j) (sym rest.held)
-      (subst (λ (d : List Bool). Between r faults to (past_at r to) (held_at r to) d x y i j) (sym rest.dirty)
-      (rests_until r faults n to free x y i j nothing (past_of v) v.held.items v.dirty.items far (cells (omega (arith, far))) b)))),
+  subst (λ (k : ℕ). Between r faults k (past_of w) w.held.items w.cell_marks.items x y i j) (sym there)
+      (subst (λ (p : Words). Between r faults to p w.held.items w.cell_marks.items x y i j) (sym rest.past)
+      (subst (λ (h : List ℤ). Between r faults to (past_at r to) h w.cell_marks.items x y i j) (sym rest.held)
+      (subst (λ (d : List Bool). Between r faults to (past_at r to) (held_at r to) d x y i j) (sym rest.cell_marks)
+      (passed_until r faults n to free x y i j nothing (past_of v) v.held.items v.cell_marks.items far (cells (omega (arith, far))) b)))),
   omega (arith, there, above),
   omega (arith, there),
 )
@@ -180,23 +180,23 @@ none_refused r all stands (suc (suc d)) n is =
     (whole_there g r.table 0 r.rows r.answers n other all answered.1, ends, none_refused r all stands (suc d) (suc n) (omega (arith, is)))
 
 -- where nothing is touched any more the verdict is Same
-pub rests : (r : KeptRun) (faults : List Fault) (n : ℕ) (past : Words) (held : List ℤ) (dirty : List Bool) (x y : Option (List Entry)) (i j : ℕ)
-    → n ≤ length r.answers → AllCycles r.graph r.table 0 r.rows r.answers → LastStands r → NoMark dirty
-    → ((m k : ℕ) → n ≤ m → m < length r.answers → acts_of faults m k ≡ None) → Between r faults n past held dirty x y i j
+pub ends_same : (r : KeptRun) (faults : List Fault) (n : ℕ) (past : Words) (held : List ℤ) (cell_marks : List Bool) (x y : Option (List Entry)) (i j : ℕ)
+    → n ≤ length r.answers → AllCycles r.graph r.table 0 r.rows r.answers → LastStands r → NoMark cell_marks
+    → ((m k : ℕ) → n ≤ m → m < length r.answers → acts_of faults m k ≡ None) → Between r faults n past held cell_marks x y i j
     → RanThrough r faults verdict.Same x y i j
-rests r faults n past held dirty x y i j within all stands cells none b =
+ends_same r faults n past held cell_marks x y i j within all stands cells none b =
     let t = r.table in
     let g = r.graph in
     let few : length (drop n r.answers) ≡ length r.answers - n = length-drop n r.answers in
-    let later = runs_again t g (acts_of faults) n past held dirty (drop n r.rows) (drop n r.answers) [] in
-    let rest : Rests later [] = runs_rest t g (acts_of faults) (drop n r.rows) (drop n r.answers) n past held dirty [] cells
+    let later = runs_again t g (acts_of faults) n past held cell_marks (drop n r.rows) (drop n r.answers) [] in
+    let rest : AsksNoMore later [] = asks_no_more t g (acts_of faults) (drop n r.rows) (drop n r.answers) n past held cell_marks [] cells
     (λ m k above below. none m k above (omega (arith, below, few, within)))
     (none_refused r all stands (length r.answers - n) n (omega (arith, within))) in
     let is : rerun t g faults r.rows r.answers b.given ≡ after_cycles b.owns b.entries later =
     ap (λ (us : List Answer). rerun t g faults r.rows r.answers us) (sym (append-nil b.given)) ∙ b.so_far [] in
     record {
       given = b.given;
-      exact = record { none_left = ap (λ (a : Again). a.left) is ∙ rest.left_is; enough = ap (λ (a : Again). a.short) is ∙ rest.enough };
+      exact = record { none_left = ap (λ (a : Again). a.left) is ∙ rest.left_is; enough = ap (λ (a : Again). a.too_few) is ∙ rest.enough };
       carried =
           subst (λ (es : List Entry). Carried es x y i j)
           (sym (ap (λ (a : Again). a.calls) is ∙ (ap (λ (es : List Entry). b.entries ++ es) rest.none ∙ append-nil b.entries))) b.carried;

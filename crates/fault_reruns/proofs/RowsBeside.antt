@@ -1,10 +1,11 @@
--- RowsBeside: the first place where two rows differ, the first output whose values differ, and values that are in their types.
+-- RowsBeside: the first place where two rows differ, and values that are in their types.
 use Rattle.std.specs.Prelude.{FitsSigned}
 use Rattle.std.specs.Int.{w64}
-use Rattle.std.proofs.Common.{◌≡◌, ◌≢◌, ℕ, suc, ◌+◌, ◌≤◌, Bool, true, false, cond, List, [], ◌∷◌, length, map, drop, slice_get, Option, Some, None, ℤ, pos}
+use Rattle.std.proofs.Common.{◌≡◌, ◌≢◌, ℕ, suc, ◌+◌, ◌≤◌, Bool, true, false, cond, List, ◌∷◌, length, drop, slice_get, Option, Some, None, ℤ, pos}
 use Rattle.std.proofs.Common.{negsuc, ◌≤ℤ◌, refl, sym, ap, ◌∙◌, arith, add-one}
 use Rattle.std.proofs.lemmas.Bool.Decides.{nat_tests}
 use Rattle.std.proofs.lemmas.Int.{ints}
+use Rattle.vcp_base.specs.Differences.{Difference, first_difference}
 use Rattle.vcp_base.specs.Kinds.{same}
 use Rattle.vcp_base.specs.Types.{fits}
 use Rattle.vcp_base.specs.declared.code.Profile.{Profile}
@@ -15,10 +16,7 @@ use Rattle.coded_unit.specs.declared.call.Answer.{Answer}
 use Rattle.coded_machine.specs.Calls.{word_at}
 use Rattle.coded_machine.specs.CycleEnds.{first_outside}
 use Rattle.coded_machine.specs.declared.cycle_end.CycleEnd.{CycleEnd}
-use Rattle.vcp_base.specs.Values.{at}
 use Rattle.op_graph.specs.declared.op.Outlet.{Outlet}
-use Rattle.fault_injector.specs.Judging.{row_wrong}
-use Rattle.fault_injector.specs.Verdicts.{WrongAt, first_wrong}
 use Rattle.fault_reruns.proofs.Lists.{drop_behind, drop_there}
 
 pub same_self : (x : ℤ) → same x x ≡ true
@@ -41,35 +39,25 @@ same_other x y h = not_true (same x y) (λ e. h (same_equal x y e))
 -- ---- rows
 
 pub row_passed : (xs ys : List ℤ) (k : ℕ) (x y : ℤ) → slice_get xs k ≡ Some x → slice_get ys k ≡ Some y → x ≡ y →
-    row_wrong (drop k xs) (drop k ys) k ≡ row_wrong (drop (k + 1) xs) (drop (k + 1) ys) (k + 1)
+    first_difference (drop k xs) (drop k ys) k ≡ first_difference (drop (k + 1) xs) (drop (k + 1) ys) (k + 1)
 row_passed xs ys k x y there here e =
-    let told : WrongAt = record { output = k; got = x; want = y } in
+    let told : Difference = record { place = k; first = x; second = y } in
     let whole : same x y ≡ true = ap (same x) (sym e) ∙ same_self x in
-    ap (λ us. row_wrong us (drop k ys) k) (drop_there xs k x there)
-    ∙ (ap (λ us. row_wrong (x ∷ drop (k + 1) xs) us k) (drop_there ys k y here)
-    ∙ (ap (λ b. cond b (row_wrong (drop (k + 1) xs) (drop (k + 1) ys) (suc k)) (Some told)) whole
-    ∙ ap (λ j. row_wrong (drop (k + 1) xs) (drop (k + 1) ys) j) (sym (add-one k))))
+    ap (λ us. first_difference us (drop k ys) k) (drop_there xs k x there)
+    ∙ (ap (λ us. first_difference (x ∷ drop (k + 1) xs) us k) (drop_there ys k y here)
+    ∙ (ap (λ b. cond b (first_difference (drop (k + 1) xs) (drop (k + 1) ys) (suc k)) (Some told)) whole
+    ∙ ap (λ j. first_difference (drop (k + 1) xs) (drop (k + 1) ys) j) (sym (add-one k))))
 
 pub row_here : (xs ys : List ℤ) (k : ℕ) (x y : ℤ) → slice_get xs k ≡ Some x → slice_get ys k ≡ Some y → x ≢ y →
-    row_wrong (drop k xs) (drop k ys) k ≡ Some (record { output = k; got = x; want = y })
+    first_difference (drop k xs) (drop k ys) k ≡ Some (record { place = k; first = x; second = y })
 row_here xs ys k x y there here ne =
-    let told : WrongAt = record { output = k; got = x; want = y } in
-    ap (λ us. row_wrong us (drop k ys) k) (drop_there xs k x there)
-    ∙ (ap (λ us. row_wrong (x ∷ drop (k + 1) xs) us k) (drop_there ys k y here)
-    ∙ ap (λ b. cond b (row_wrong (drop (k + 1) xs) (drop (k + 1) ys) (suc k)) (Some told)) (same_other x y ne))
+    let told : Difference = record { place = k; first = x; second = y } in
+    ap (λ us. first_difference us (drop k ys) k) (drop_there xs k x there)
+    ∙ (ap (λ us. first_difference (x ∷ drop (k + 1) xs) us k) (drop_there ys k y here)
+    ∙ ap (λ b. cond b (first_difference (drop (k + 1) xs) (drop (k + 1) ys) (suc k)) (Some told)) (same_other x y ne))
 
-pub row_ended : (xs ys : List ℤ) (k : ℕ) → length xs ≤ k → row_wrong (drop k xs) (drop k ys) k ≡ None
-row_ended xs ys k h = ap (λ us. row_wrong us (drop k ys) k) (drop_behind xs k h)
-
--- ---- outputs
-
--- the first place where the rows of outputs differ is the first output whose values do
-pub rows_as_outputs : (got want : List ℤ) (number : ℕ) (outputs : List Outlet)
-    → row_wrong (map (λ (o : Outlet). at got o.op) outputs) (map (λ (o : Outlet). at want o.op) outputs) number ≡ first_wrong got want number outputs
-rows_as_outputs got want number [] = refl
-rows_as_outputs got want number (o ∷ outputs) =
-    ap (λ later. cond (same (at got o.op) (at want o.op)) later (Some (record { output = number; got = at got o.op; want = at want o.op })))
-    (rows_as_outputs got want (suc number) outputs)
+pub row_ended : (xs ys : List ℤ) (k : ℕ) → length xs ≤ k → first_difference (drop k xs) (drop k ys) k ≡ None
+row_ended xs ys k h = ap (λ us. first_difference us (drop k ys) k) (drop_behind xs k h)
 
 -- ---- outputs in their types
 

@@ -110,8 +110,8 @@ pub record Stepped (enough : Bool) (part : Part) (answers : List (List Answer)) 
   pub later : Later tail
 
 pub stepped : (b : Bool) (v : Option Verdict) (part : Part) (next : List Answer → Again) (Later : List (List Answer) → Type 0) → Later []
-    → (b ≡ false → AllRight part.calls → v ≡ None → (next part.left).short ≡ false → AllRight (next part.left).calls → Later (next part.left).answers)
-    → (unless_judged b v part next).short ≡ false → AllRight (unless_judged b v part next).calls
+    → (b ≡ false → AllRight part.calls → v ≡ None → (next part.left).too_few ≡ false → AllRight (next part.left).calls → Later (next part.left).answers)
+    → (unless_judged b v part next).too_few ≡ false → AllRight (unless_judged b v part next).calls
     → Stepped b part (unless_judged b v part next).answers Later
 stepped true v part next Later none goes enough right = absurd cc
 stepped false (Some w) part next Later none goes enough right =
@@ -129,45 +129,45 @@ stepped false None part next Later none goes enough right =
 -- ---- whole runs
 
 abbrev Right : Numbers → Lists → Acts → List (List ℤ) → Type 0
-Right t g acts rows = (others : List (List Answer)) (n : ℕ) (past : Words) (held : List ℤ) (dirty : List Bool) (beside : List ℤ) (left : List Answer) →
-    CellsFollow dirty held beside → Other t g n beside rows others → (runs_again t g acts n past held dirty rows others left).short ≡ false →
-    AllRight (runs_again t g acts n past held dirty rows others left).calls →
-    RightRun t g acts n past held rows (runs_again t g acts n past held dirty rows others left).answers
+Right t g acts rows = (others : List (List Answer)) (n : ℕ) (past : Words) (held : List ℤ) (cell_marks : List Bool) (beside : List ℤ) (left : List Answer) →
+    CellsFollow cell_marks held beside → Other t g n beside rows others → (runs_again t g acts n past held cell_marks rows others left).too_few ≡ false →
+    AllRight (runs_again t g acts n past held cell_marks rows others left).calls →
+    RightRun t g acts n past held rows (runs_again t g acts n past held cell_marks rows others left).answers
 
-without_others : (t : Numbers) (g : Lists) (acts : Acts) (n : ℕ) (past : Words) (held : List ℤ) (dirty : List Bool) (rows : List (List ℤ)) (left : List Answer)
-    → RightRun t g acts n past held rows (runs_again t g acts n past held dirty rows [] left).answers
-without_others t g acts n past held dirty [] left = tt
-without_others t g acts n past held dirty (row ∷ rows) left = tt
+without_others : (t : Numbers) (g : Lists) (acts : Acts) (n : ℕ) (past : Words) (held : List ℤ) (cell_marks : List Bool) (rows : List (List ℤ)) (left : List Answer)
+    → RightRun t g acts n past held rows (runs_again t g acts n past held cell_marks rows [] left).answers
+without_others t g acts n past held cell_marks [] left = tt
+without_others t g acts n past held cell_marks (row ∷ rows) left = tt
 
 -- the cycle of a row
-pub one_cycle : (reads : ReadLaws) (t : Numbers) (g : Lists) (acts : Acts) (n : ℕ) (past : Words) (held : List ℤ) (dirty : List Bool) (beside row : List ℤ)
-    (rows : List (List ℤ)) (other : List Answer) (others : List (List Answer)) (left : List Answer) → IsGraph g → CellsFollow dirty held beside
+pub one_cycle : (reads : ReadLaws) (t : Numbers) (g : Lists) (acts : Acts) (n : ℕ) (past : Words) (held : List ℤ) (cell_marks : List Bool) (beside row : List ℤ)
+    (rows : List (List ℤ)) (other : List Answer) (others : List (List Answer)) (left : List Answer) → IsGraph g → CellsFollow cell_marks held beside
     → Other t g n beside (row ∷ rows) (other ∷ others)
-    → (again (cycle_again t g acts n past held dirty row other) [] g.operations left).short ≡ false
-    → AllRight (again (cycle_again t g acts n past held dirty row other) [] g.operations left).calls
-    → CycleRight (cycle_again t g acts n past held dirty row other) [] g.operations
-    (again (cycle_again t g acts n past held dirty row other) [] g.operations left).own
-one_cycle reads t g acts n past held dirty beside row rows other others left graph cells o enough right =
-    cycle_right (cycle_again t g acts n past held dirty row other) beside dirty left cells (cycle_spread reads g other (acts n) dirty graph o.all.0) o.all.0
+    → (again (cycle_again t g acts n past held cell_marks row other) [] g.operations left).too_few ≡ false
+    → AllRight (again (cycle_again t g acts n past held cell_marks row other) [] g.operations left).calls
+    → CycleRight (cycle_again t g acts n past held cell_marks row other) [] g.operations
+    (again (cycle_again t g acts n past held cell_marks row other) [] g.operations left).own
+one_cycle reads t g acts n past held cell_marks beside row rows other others left graph cells o enough right =
+    cycle_right (cycle_again t g acts n past held cell_marks row other) beside cell_marks left cells (cycle_spread reads g other (acts n) cell_marks graph o.all.0) o.all.0
     (right_front (CallsOf (setting_at g t n beside row) other) (calls_over g t (suc n) (stored_words g other) rows others) o.right) enough right
 
-later_right : (t : Numbers) (g : Lists) (acts : Acts) (n : ℕ) (past : Words) (held : List ℤ) (dirty touched : List Bool) (beside row : List ℤ)
+later_right : (t : Numbers) (g : Lists) (acts : Acts) (n : ℕ) (past : Words) (held : List ℤ) (cell_marks touched : List Bool) (beside row : List ℤ)
     (rows : List (List ℤ)) (own other : List Answer) (others : List (List Answer)) (left : List Answer) → Right t g acts rows
     → Other t g n beside (row ∷ rows) (other ∷ others) → (AllWords other → Follow (mark touched) own other) → (e : CycleEnd) → end_of g t n other ≡ e
-    → (runs_again t g acts (suc n) past held (held_marks g touched) rows others left).short ≡ false
+    → (runs_again t g acts (suc n) past held (held_marks g touched) rows others left).too_few ≡ false
     → AllRight (runs_again t g acts (suc n) past held (held_marks g touched) rows others left).calls → held ≡ stored_words g own
     → RightRun t g acts (suc n) past held rows (runs_again t g acts (suc n) past held (held_marks g touched) rows others left).answers
-later_right t g acts n past held dirty touched beside row rows own other others left goes o follows end.Released e enough right is =
+later_right t g acts n past held cell_marks touched beside row rows own other others left goes o follows end.Released e enough right is =
     goes others (suc n) past held (held_marks g touched) (stored_words g other) left
     (λ i h. ap (λ (xs : List ℤ). at xs i) is ∙ stored_follow touched own other g.stores i (follows (released_words g t n other e)) h)
     (other_later t g n beside row rows other others o e) enough right
-later_right t g acts n past held dirty touched beside row rows own other others left goes o follows (end.Stopped k why) e enough right is =
+later_right t g acts n past held cell_marks touched beside row rows own other others left goes o follows (end.Stopped k why) e enough right is =
     let none : others ≡ [] = none_after (end.Stopped k why) (AllCycles g t (suc n) rows others) (others ≡ []) tt
     (subst (λ (x : CycleEnd). unless_ended x (AllCycles g t (suc n) rows others) (others ≡ [])) e o.all.1) in
     subst (λ (xs : List (List Answer)). RightRun t g acts (suc n) past held rows (runs_again t g acts (suc n) past held (held_marks g touched) rows xs
     left).answers)
     (sym none) (without_others t g acts (suc n) past held (held_marks g touched) rows left)
-later_right t g acts n past held dirty touched beside row rows own other others left goes o follows (end.Refused number found wanted) e enough right is =
+later_right t g acts n past held cell_marks touched beside row rows own other others left goes o follows (end.Refused number found wanted) e enough right is =
     let none : others ≡ [] = none_after (end.Refused number found wanted) (AllCycles g t (suc n) rows others) (others ≡ []) tt
     (subst (λ (x : CycleEnd). unless_ended x (AllCycles g t (suc n) rows others) (others ≡ [])) e o.all.1) in
     subst (λ (xs : List (List Answer)). RightRun t g acts (suc n) past held rows (runs_again t g acts (suc n) past held (held_marks g touched) rows xs
@@ -175,22 +175,22 @@ later_right t g acts n past held dirty touched beside row rows own other others 
     (sym none) (without_others t g acts (suc n) past held (held_marks g touched) rows left)
 
 pub runs_right : (reads : ReadLaws) (t : Numbers) (g : Lists) (acts : Acts) → IsGraph g → (rows : List (List ℤ)) → Right t g acts rows
-runs_right reads t g acts graph [] others n past held dirty beside left cells o enough right = tt
-runs_right reads t g acts graph (row ∷ rows) [] n past held dirty beside left cells o enough right = tt
-runs_right reads t g acts graph (row ∷ rows) (other ∷ others) n past held dirty beside left cells o enough right =
-    let c = cycle_again t g acts n past held dirty row other in
+runs_right reads t g acts graph [] others n past held cell_marks beside left cells o enough right = tt
+runs_right reads t g acts graph (row ∷ rows) [] n past held cell_marks beside left cells o enough right = tt
+runs_right reads t g acts graph (row ∷ rows) (other ∷ others) n past held cell_marks beside left cells o enough right =
+    let c = cycle_again t g acts n past held cell_marks row other in
     let part = again c [] g.operations left in
     let words : Words = record { held = held; answers = part.own } in
     let next : List Answer → Again = λ left. runs_again t g acts (suc n) words (stored_words g part.own) (held_marks g c.touched) rows others left in
     let Later : List (List Answer) → Type 0 = λ tail. AllWords part.own → RightRun t g acts (suc n) words (stored_words g part.own) rows tail in
     let step =
-    stepped part.short (read_cycle g t n part.own other) part next Later (λ all. tt)
-    (λ short calls none enough_later right_later all.
-    later_right t g acts n words (stored_words g part.own) dirty c.touched beside row rows part.own other others part.left (runs_right reads t g acts graph
+    stepped part.too_few (read_cycle g t n part.own other) part next Later (λ all. tt)
+    (λ too_few calls none enough_later right_later all.
+    later_right t g acts n words (stored_words g part.own) cell_marks c.touched beside row rows part.own other others part.left (runs_right reads t g acts graph
     rows) o
-    (λ all_other. (one_cycle reads t g acts n past held dirty beside row rows other others left graph cells o short calls).follows all_other all)
+    (λ all_other. (one_cycle reads t g acts n past held cell_marks beside row rows other others left graph cells o too_few calls).follows all_other all)
     (end_of g t n other) refl enough_later right_later refl) enough right in
-    let r = (one_cycle reads t g acts n past held dirty beside row rows other others left graph cells o step.enough_is step.right).rightly in
+    let r = (one_cycle reads t g acts n past held cell_marks beside row rows other others left graph cells o step.enough_is step.right).rightly in
     subst (λ (xs : List (List Answer)). RightRun t g acts n past held (row ∷ rows) xs) (sym step.answers_are) (
       whole_of c g.operations part.own r,
       rights_of c g.operations part.own r,
@@ -198,7 +198,7 @@ runs_right reads t g acts graph (row ∷ rows) (other ∷ others) n past held di
     )
 
 pub reruns_are_right : ReadLaws → (t : Numbers) (g : Lists) (faults : List Fault) (rows : List (List ℤ)) (others : List (List Answer)) (given : List Answer)
-    → IsGraph g → IsReference t g rows others → (rerun t g faults rows others given).short ≡ false → AllRight (rerun t g faults rows others given).calls
+    → IsGraph g → IsReference t g rows others → (rerun t g faults rows others given).too_few ≡ false → AllRight (rerun t g faults rows others given).calls
     → RightRun t g (acts_of faults) 0 no_words (initial_words g t.seed) rows (rerun t g faults rows others given).answers
 reruns_are_right reads t g faults rows others given graph reference enough right =
     runs_right reads t g (acts_of faults) graph rows others 0 no_words (initial_words g t.seed) [] (initial_words g t.seed) given (λ i h. refl)

@@ -32,16 +32,16 @@ record Goes (part : Part) (next : Answer → List Answer → Part) : Type 0 wher
   answer : Answer
   left : List Answer
   own : part.own ≡ (next answer left).own
-  enough : (next answer left).short ≡ false
+  enough : (next answer left).too_few ≡ false
 
 asked_any : (call : Call) (a : Option Act) (w : ℤ) (before : List Answer) (next : Answer → List Answer → Part) (left : List Answer)
-    → (go_on before (asks call a w) next left).short ≡ false → Goes (go_on before (asks call a w) next left) next
+    → (go_on before (asks call a w) next left).too_few ≡ false → Goes (go_on before (asks call a w) next left) next
 asked_any call a w before next [] enough = absurd cc
 asked_any call a w before next (x ∷ left) enough = record { answer = handed_by a w x; left = left; own = refl; enough = enough }
 
 touched_any : (skips : Bool) (given : Answer) (call : Call) (a : Option Act) (w : ℤ) (before : List Answer) (next : Answer → List Answer
     → Part) (left : List Answer)
-    → (go_on before (cond skips (has given) (asks call a w)) next left).short ≡ false
+    → (go_on before (cond skips (has given) (asks call a w)) next left).too_few ≡ false
     → Goes (go_on before (cond skips (has given) (asks call a w)) next left) next
 touched_any true given call a w before next left enough = record { answer = given; left = left; own = refl; enough = enough }
 touched_any false given call a w before next left enough = asked_any call a w before next left enough
@@ -52,13 +52,13 @@ all_words_at xs a words = words_at xs a [] words
 -- what is shown of the operations of a cycle that are left
 abbrev Follows : CycleAgain → List Op → Type 0
 Follows c ops = (before fore rest left : List Answer) → c.other ≡ fore ++ rest → length before ≡ length fore → Follow (mark c.touched) before fore
-    → Whole ops rest → (again c before ops left).short ≡ false → AllWords (again c before ops left).own
+    → Whole ops rest → (again c before ops left).too_few ≡ false → AllWords (again c before ops left).own
     → Follow (mark c.touched) (again c before ops left).own c.other
 
 after_any : (c : CycleAgain) (ops : List Op) (before fore : List Answer) (a x : Answer) (rest left : List Answer) → Follows c ops → AllWords c.other
     → c.other ≡ fore ++ x ∷ rest → length before ≡ length fore → Follow (mark c.touched) before fore → cond (is_word x) (Whole ops rest) (rest ≡ [])
     → (mark c.touched (length fore) ≡ false → a ≡ x) → (b : Bool) → is_word a ≡ b
-    → (after_answer b (before ++ a ∷ []) (λ left. again c (before ++ a ∷ []) ops left) left).short ≡ false
+    → (after_answer b (before ++ a ∷ []) (λ left. again c (before ++ a ∷ []) ops left) left).too_few ≡ false
     → AllWords (after_answer b (before ++ a ∷ []) (λ left. again c (before ++ a ∷ []) ops left) left).own
     → Follow (mark c.touched) (after_answer b (before ++ a ∷ []) (λ left. again c (before ++ a ∷ []) ops left) left).own c.other
 after_any c ops before fore a x rest left goes others is many follow whole same false word enough words =
@@ -71,7 +71,7 @@ after_any c ops before fore a x rest left goes others is many follow whole same 
 
 any_mark : (c : CycleAgain) (op : Op) (ops : List Op) (before fore : List Answer) (x : Answer) (rest left : List Answer) → Follows c ops → AllWords c.other
     → c.other ≡ fore ++ x ∷ rest → length before ≡ length fore → Follow (mark c.touched) before fore → cond (is_word x) (Whole ops rest) (rest ≡ [])
-    → (b : Bool) → mark c.touched (length before) ≡ b → (again c before (op ∷ ops) left).short ≡ false → AllWords (again c before (op ∷ ops) left).own
+    → (b : Bool) → mark c.touched (length before) ≡ b → (again c before (op ∷ ops) left).too_few ≡ false → AllWords (again c before (op ∷ ops) left).own
     → Follow (mark c.touched) (again c before (op ∷ ops) left).own c.other
 any_mark c op ops before fore x rest left goes others is many follow whole true e enough words =
     let k = length before in
@@ -82,7 +82,7 @@ any_mark c op ops before fore x rest left goes others is many follow whole true 
     ap (λ (b : Bool). go_on before (cond b (source_touched (c.acts k) w call) (source_of (slice_get c.other k))) next left) e in
     let n =
     touched_any (skips_by (c.acts k)) (answer.Word w) (passed_by (c.acts k) w call) (c.acts k) w before next left
-    (subst (λ (part : Part). part.short ≡ false) part_is enough) in
+    (subst (λ (part : Part). part.too_few ≡ false) part_is enough) in
     let own_is : (again c before (op ∷ ops) left).own ≡ (next n.answer n.left).own = ap (λ (part : Part). part.own) part_is ∙ n.own in
     subst (λ (own : List Answer). Follow (mark c.touched) own c.other) (sym own_is)
     (after_any c ops before fore n.answer x rest n.left goes others is many follow whole
@@ -98,7 +98,7 @@ any_mark c op ops before fore x rest left goes others is many follow whole false
     ∙ ap (λ (y : Option Answer). go_on before (source_of y) next left) there in
     subst (λ (part : Part). Follow (mark c.touched) part.own c.other) (sym part_is)
     (after_any c ops before fore x x rest left goes others is many follow whole (λ h. refl) (is_word x) refl
-    (subst (λ (part : Part). part.short ≡ false) part_is enough) (subst (λ (part : Part). AllWords part.own) part_is words))
+    (subst (λ (part : Part). part.too_few ≡ false) part_is enough) (subst (λ (part : Part). AllWords part.own) part_is words))
 
 any_follows : (c : CycleAgain) → AllWords c.other → (ops : List Op) → Follows c ops
 any_follows c others [] before fore [] left is many follow whole enough words = subst (Follow (mark c.touched) before) (sym (is ∙ append-nil fore)) follow
@@ -108,7 +108,7 @@ any_follows c others (op ∷ ops) before fore (x ∷ rest) left is many follow w
     any_mark c op ops before fore x rest left (any_follows c others ops) others is many follow whole (mark c.touched (length before)) refl enough words
 
 pub words_follow : (c : CycleAgain) (left : List Answer) → Whole c.setting.graph.operations c.other → AllWords c.other
-    → (again c [] c.setting.graph.operations left).short ≡ false → AllWords (again c [] c.setting.graph.operations left).own
+    → (again c [] c.setting.graph.operations left).too_few ≡ false → AllWords (again c [] c.setting.graph.operations left).own
     → Follow (mark c.touched) (again c [] c.setting.graph.operations left).own c.other
 words_follow c left whole others enough words =
     any_follows c others c.setting.graph.operations [] [] c.other left refl refl (λ p h. refl) whole enough words

@@ -9,6 +9,7 @@ use Rattle.vcp_base.specs.declared.kind.Kind.{Kind}
 use Rattle.vcp_base.specs.declared.kind.Kind.TheVariants as kind
 use Rattle.vcp_base.specs.declared.kind.StopKind.{StopKind}
 use Rattle.vcp_base.specs.declared.kind.StopKind.TheVariants as stop
+use Rattle.vcp_base.specs.Differences.{Difference, first_difference}
 use Rattle.vcp_base.specs.Kinds.{operands, same, same_stop}
 use Rattle.coded_unit.specs.declared.call.Answer.{Answer}
 use Rattle.op_graph.specs.declared.op.Op.{Op}
@@ -24,9 +25,8 @@ use Rattle.fault_runs.specs.Accepted.{RefusedAt}
 use Rattle.fault_runs.specs.RunLaw.{Words, taken}
 use Rattle.fault_injector.specs.declared.verdict.Verdict.{Verdict}
 use Rattle.fault_injector.specs.declared.verdict.Verdict.TheVariants as verdict
-use Rattle.fault_injector.specs.Judging.{row_wrong}
-use Rattle.fault_injector.specs.Verdicts.{WrongAt, judged}
-use Rattle.fault_reruns.specs.Laws.{NoneRefused, Rests, Untouched}
+use Rattle.fault_injector.specs.Verdicts.{judged}
+use Rattle.fault_reruns.specs.Laws.{NoneRefused, AsksNoMore, NothingTouched}
 use Rattle.fault_reruns.specs.Reruns.{Again, CycleAgain, Part, after_answer, again, and_later, cycle_again, done, go_on, read_cycle, refusal_in, runs_again}
 use Rattle.fault_reruns.specs.Reruns.{source_of, source_touched, stop_in, unless_judged}
 use Rattle.fault_reruns.specs.Touched.{Marks, cycle_marks, given_marks, held_marks, mark, operand_touched, past_touched_stop, reads_touched_as, touched_at}
@@ -79,18 +79,18 @@ none_given other acts held before k (op ∷ ops) none h b =
     none_given other acts held (before ++ touched_at other acts (record { held = held; given = before }) k op ∷ []) (k + 1) ops none h
     (no_mark_more before _ b (untouched_at other acts (record { held = held; given = before }) k op (none k) h b))
 
-pub none_touched : (g : Lists) (other : List Answer) (acts : ℕ → Option Act) (dirty : List Bool) → Untouched acts dirty
-    → NoMark (cycle_marks g other acts dirty).given
-none_touched g other acts dirty u = none_given other acts dirty [] 0 g.operations u.no_fault u.cells (λ i. refl)
+pub none_touched : (g : Lists) (other : List Answer) (acts : ℕ → Option Act) (cell_marks : List Bool) → NothingTouched acts cell_marks
+    → NoMark (cycle_marks g other acts cell_marks).given
+none_touched g other acts cell_marks u = none_given other acts cell_marks [] 0 g.operations u.no_fault u.cells (λ i. refl)
 
 stores_untouched : (given : List Bool) (stores : List ℕ) → NoMark given → NoMark (map (λ n. mark given n) stores)
 stores_untouched given [] none i = refl
 stores_untouched given (n ∷ stores) none zero = none n
 stores_untouched given (n ∷ stores) none (suc i) = stores_untouched given stores none i
 
-pub none_held : (g : Lists) (other : List Answer) (acts : ℕ → Option Act) (dirty : List Bool) → Untouched acts dirty
-    → NoMark (held_marks g (cycle_marks g other acts dirty).given)
-none_held g other acts dirty u = stores_untouched (cycle_marks g other acts dirty).given g.stores (none_touched g other acts dirty u)
+pub none_held : (g : Lists) (other : List Answer) (acts : ℕ → Option Act) (cell_marks : List Bool) → NothingTouched acts cell_marks
+    → NoMark (held_marks g (cycle_marks g other acts cell_marks).given)
+none_held g other acts cell_marks u = stores_untouched (cycle_marks g other acts cell_marks).given g.stores (none_touched g other acts cell_marks u)
 
 -- ---- one cycle
 
@@ -127,18 +127,18 @@ again_same c (op ∷ ops) before (x ∷ rest) left none is whole =
     ∙ after_same c before x rest left ops (is_word x) refl is whole
     (λ is_next whole_next. again_same c ops (before ++ x ∷ []) rest left none is_next whole_next))
 
-pub cycle_same : (t : Numbers) (g : Lists) (acts : Acts) (n : ℕ) (past : Words) (held : List ℤ) (dirty : List Bool) (row : List ℤ) (other left : List Answer)
-    → Whole g.operations other → Untouched (acts n) dirty
-    → again (cycle_again t g acts n past held dirty row other) [] g.operations left ≡ done other left
-cycle_same t g acts n past held dirty row other left whole u =
-    again_same (cycle_again t g acts n past held dirty row other) g.operations [] other left (none_touched g other (acts n) dirty u) refl whole
+pub cycle_same : (t : Numbers) (g : Lists) (acts : Acts) (n : ℕ) (past : Words) (held : List ℤ) (cell_marks : List Bool) (row : List ℤ) (other left : List Answer)
+    → Whole g.operations other → NothingTouched (acts n) cell_marks
+    → again (cycle_again t g acts n past held cell_marks row other) [] g.operations left ≡ done other left
+cycle_same t g acts n past held cell_marks row other left whole u =
+    again_same (cycle_again t g acts n past held cell_marks row other) g.operations [] other left (none_touched g other (acts n) cell_marks u) refl whole
 
 -- ---- its verdict
 
-pub row_same : (row : List ℤ) (number : ℕ) → row_wrong row row number ≡ None
+pub row_same : (row : List ℤ) (number : ℕ) → first_difference row row number ≡ None
 row_same [] number = refl
 row_same (x ∷ row) number =
-    ap (λ (b : Bool). cond b (row_wrong row row (suc number)) (Some (record { output = number; got = x; want = x }))) (same_self x) ∙ row_same row (suc number)
+    ap (λ (b : Bool). cond b (first_difference row row (suc number)) (Some (record { place = number; first = x; second = x }))) (same_self x) ∙ row_same row (suc number)
 
 kind_same : (k : StopKind) → same_stop k k ≡ true
 kind_same stop.Range = refl
@@ -149,7 +149,7 @@ both : (a b : Bool) → a ≡ true → b ≡ true → a && b ≡ true
 both true b h e = e
 both false b h e = absurd cc
 
-stop_same : (n : ℕ) (s : Stop) (r : Option RefusedAt) (w : Option WrongAt) → judged n (Some s) r (Some s) w ≡ Some verdict.Same
+stop_same : (n : ℕ) (s : Stop) (r : Option RefusedAt) (w : Option Difference) → judged n (Some s) r (Some s) w ≡ Some verdict.Same
 stop_same n s r w =
     ap (λ (b : Bool). Some (cond b verdict.Same (verdict.Stopped n s.op s.kind)))
     (both (s.op == s.op) (same_stop s.kind s.kind) (eq-eqb s.op s.op refl) (kind_same s.kind))
@@ -159,7 +159,7 @@ abbrev SameOrNone : Option Verdict → Type 0
 SameOrNone None = Unit {0}
 SameOrNone (Some v) = v ≡ verdict.Same
 
-judged_same : (n : ℕ) (s : Option Stop) (r : Option RefusedAt) (w : Option WrongAt) → r ≡ None → w ≡ None → SameOrNone (judged n s r s w)
+judged_same : (n : ℕ) (s : Option Stop) (r : Option RefusedAt) (w : Option Difference) → r ≡ None → w ≡ None → SameOrNone (judged n s r s w)
 judged_same n (Some s) r w e f = subst SameOrNone (sym (stop_same n s r w)) refl
 judged_same n None None None e f = tt
 judged_same n None None (Some w) e f = absurd cc
@@ -167,29 +167,29 @@ judged_same n None (Some r) w e f = absurd cc
 
 read_same : (g : Lists) (t : Numbers) (n : ℕ) (other : List Answer) → refusal_in (end_of g t n other) ≡ None → SameOrNone (read_cycle g t n other other)
 read_same g t n other none =
-    judged_same n (stop_in (end_of g t n other)) (refusal_in (end_of g t n other)) (row_wrong (outputs_of g other) (outputs_of g other) 0) none
+    judged_same n (stop_in (end_of g t n other)) (refusal_in (end_of g t n other)) (first_difference (outputs_of g other) (outputs_of g other) 0) none
     (row_same (outputs_of g other) 0)
 
 -- ---- whole runs
 
-rests_then : (v : Option Verdict) (other left : List Answer) (next : List Answer → Again) → SameOrNone v → Rests (next left) left
-    → Rests (unless_judged false v (done other left) next) left
-rests_then (Some v) other left next same later = record { none = refl; same_is = same; left_is = refl; enough = refl }
-rests_then None other left next same later =
+no_more_then : (v : Option Verdict) (other left : List Answer) (next : List Answer → Again) → SameOrNone v → AsksNoMore (next left) left
+    → AsksNoMore (unless_judged false v (done other left) next) left
+no_more_then (Some v) other left next same later = record { none = refl; same_is = same; left_is = refl; enough = refl }
+no_more_then None other left next same later =
     record { none = later.none; same_is = later.same_is; left_is = later.left_is; enough = later.enough }
 
-pub runs_rest : (t : Numbers) (g : Lists) (acts : Acts) (rows : List (List ℤ)) (others : List (List Answer)) (n : ℕ) (past : Words) (held : List ℤ)
-    (dirty : List Bool) (left : List Answer) → ((i : ℕ) → mark dirty i ≡ false) → ((m k : ℕ) → n ≤ m → m < n + length others → acts m k ≡ None)
-    → NoneRefused g t n others → Rests (runs_again t g acts n past held dirty rows others left) left
-runs_rest t g acts [] others n past held dirty left cells none ends = record { none = refl; same_is = refl; left_is = refl; enough = refl }
-runs_rest t g acts (row ∷ rows) [] n past held dirty left cells none ends = record { none = refl; same_is = refl; left_is = refl; enough = refl }
-runs_rest t g acts (row ∷ rows) (other ∷ others) n past held dirty left cells none ends =
-    let u : Untouched (acts n) dirty = record { cells = cells; no_fault = λ k. none n k (omega arith) (omega arith) } in
-    let marks = held_marks g (cycle_marks g other (acts n) dirty).given in
+pub asks_no_more : (t : Numbers) (g : Lists) (acts : Acts) (rows : List (List ℤ)) (others : List (List Answer)) (n : ℕ) (past : Words) (held : List ℤ)
+    (cell_marks : List Bool) (left : List Answer) → ((i : ℕ) → mark cell_marks i ≡ false) → ((m k : ℕ) → n ≤ m → m < n + length others → acts m k ≡ None)
+    → NoneRefused g t n others → AsksNoMore (runs_again t g acts n past held cell_marks rows others left) left
+asks_no_more t g acts [] others n past held cell_marks left cells none ends = record { none = refl; same_is = refl; left_is = refl; enough = refl }
+asks_no_more t g acts (row ∷ rows) [] n past held cell_marks left cells none ends = record { none = refl; same_is = refl; left_is = refl; enough = refl }
+asks_no_more t g acts (row ∷ rows) (other ∷ others) n past held cell_marks left cells none ends =
+    let u : NothingTouched (acts n) cell_marks = record { cells = cells; no_fault = λ k. none n k (omega arith) (omega arith) } in
+    let marks = held_marks g (cycle_marks g other (acts n) cell_marks).given in
     let next : List Answer → List Answer → Again =
     λ own left. runs_again t g acts (suc n) (record { held = held; answers = own }) (stored_words g own) marks rows others left in
-    let later = runs_rest t g acts rows others (suc n) (record { held = held; answers = other }) (stored_words g other) marks left
-    (none_held g other (acts n) dirty u) (λ m k above below. none m k (omega (arith, above)) (omega (arith, below))) ends.2 in
-    subst (λ (part : Part). Rests (and_later (λ own. read_cycle g t n own other) next part) left)
-    (sym (cycle_same t g acts n past held dirty row other left ends.0 u))
-    (rests_then (read_cycle g t n other other) other left (next other) (read_same g t n other ends.1) later)
+    let later = asks_no_more t g acts rows others (suc n) (record { held = held; answers = other }) (stored_words g other) marks left
+    (none_held g other (acts n) cell_marks u) (λ m k above below. none m k (omega (arith, above)) (omega (arith, below))) ends.2 in
+    subst (λ (part : Part). AsksNoMore (and_later (λ own. read_cycle g t n own other) next part) left)
+    (sym (cycle_same t g acts n past held cell_marks row other left ends.0 u))
+    (no_more_then (read_cycle g t n other other) other left (next other) (read_same g t n other ends.1) later)

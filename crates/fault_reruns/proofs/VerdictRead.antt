@@ -1,5 +1,6 @@
 -- VerdictRead: the verdict that is read off the answers of a rerun is the defined one, where these are right.
 use Rattle.std.proofs.Common.{◌≡◌, ℕ, suc, ◌+◌, ◌<◌, ◌≤◌, Bool, true, false, List, [], ◌∷◌, length, Option, Some, None, ℤ, refl, sym, ap, subst, ◌∙◌, arith}
+use Rattle.vcp_base.specs.Differences.{Difference, first_difference}
 use Rattle.vcp_base.specs.Limits.{most_cycles}
 use Rattle.vcp_base.specs.declared.kind.StopKind.{StopKind}
 use Rattle.coded_unit.specs.declared.call.Answer.{Answer}
@@ -22,12 +23,10 @@ use Rattle.fault_runs.specs.Accepted.{EndsAreRead, OutputsAreRead, RefusedAt, en
 use Rattle.fault_runs.specs.FaultRun.{begun, cycle_under, cycles_from, operation_stop, outside, stop_or, stop_under, unless_stopped}
 use Rattle.fault_runs.specs.RunLaw.{CycleKept, GroupStands, RightRun, RightsUnder, RunKept, RunsKept, Words, no_words}
 use Rattle.fault_injector.specs.declared.verdict.Verdict.{Verdict}
-use Rattle.fault_injector.specs.Judging.{row_wrong}
-use Rattle.fault_injector.specs.Verdicts.{WrongAt, compared, first_wrong, judged, judged_cycle, plain_cycles, verdict_of, verdict_or}
+use Rattle.fault_injector.specs.Verdicts.{compared, judged, judged_cycle, plain_cycles, verdict_of, verdict_or}
 use Rattle.fault_reruns.specs.Reruns.{Again, IsReference, Part, again, cycle_again, read_cycle, refusal_in, rerun, runs_again, stop_in, unless_judged}
 use Rattle.fault_reruns.specs.Touched.{held_marks}
 use Rattle.fault_reruns.proofs.CycleRight.{CellsFollow, CycleRight, rights_of, whole_of}
-use Rattle.fault_reruns.proofs.RowsBeside.{rows_as_outputs}
 use Rattle.fault_reruns.proofs.RunRight.{Other, one_cycle, other_later, released_words, right_back, right_front, stored_follow}
 
 -- what the laws below promise
@@ -42,7 +41,7 @@ pub record Laws : Type 0 where
 
 -- ---- the verdict of one cycle
 
-judged_ending : (n : ℕ) (s : Option Stop) (r : Option RefusedAt) (o : Option Stop) (w v : Option WrongAt)
+judged_ending : (n : ℕ) (s : Option Stop) (r : Option RefusedAt) (o : Option Stop) (w v : Option Difference)
     → (s ≡ None → r ≡ None → o ≡ None → w ≡ v) → judged n (stop_in (ending s r)) (refusal_in (ending s r)) o w ≡ judged n s r o v
 judged_ending n (Some s) r o w v h = refl
 judged_ending n None (Some r) o w v h = refl
@@ -53,7 +52,7 @@ stop_at : (values : List ℤ) (x : Option StopKind) → stop_in (end_at (length 
 stop_at values None = refl
 stop_at values (Some why) = refl
 
-none_judged : (n : ℕ) (s : Option Stop) (r : Option RefusedAt) (o : Option Stop) (w : Option WrongAt) → judged n s r o w ≡ None
+none_judged : (n : ℕ) (s : Option Stop) (r : Option RefusedAt) (o : Option Stop) (w : Option Difference) → judged n s r o w ≡ None
     → (s ≡ None) × (r ≡ None) × (o ≡ None)
 none_judged n (Some s) r o w h = absurd cc
 none_judged n None (Some r) o w h = absurd cc
@@ -126,18 +125,17 @@ cycle_read laws t g faults all n past held beside row rows own other k below s w
     laws.ends t g acts n s.before s.values row own k.graph k.table k.profile below law.answers_are in
     let other_stop : stop_in (end_of g t n other) ≡ operation_stop o = ap stop_in honest.end_is ∙ stop_at o.values o.stop in
     let wrong : stops ≡ None → refusal ≡ None → operation_stop o ≡ None
-    → row_wrong (outputs_of g own) (outputs_of g other) 0 ≡ first_wrong c.values o.values 0 g.outputs =
+    → first_difference (outputs_of g own) (outputs_of g other) 0 ≡ first_difference (outputs g c.values) (outputs g o.values) 0 =
     λ no_stop no_refusal plain_on.
-    ap (λ (xs : List ℤ). row_wrong xs (outputs_of g other) 0)
+    ap (λ (xs : List ℤ). first_difference xs (outputs_of g other) 0)
     (laws.outputs t g acts n s.before s.values row own k.graph k.table k.profile below law.answers_are no_stop)
-    ∙ (ap (λ (xs : List ℤ). row_wrong (outputs g c.values) xs 0) (honest.row_is (no_kind o.values o.stop plain_on))
-    ∙ rows_as_outputs c.values o.values 0 g.outputs) in
+    ∙ ap (λ (xs : List ℤ). first_difference (outputs g c.values) xs 0) (honest.row_is (no_kind o.values o.stop plain_on)) in
     let read_is : read_cycle g t n own other ≡ judged_cycle t g acts n c o =
-    ap (λ (e : CycleEnd). judged n (stop_in e) (refusal_in e) (stop_in (end_of g t n other)) (row_wrong (outputs_of g own) (outputs_of g other) 0)) end_is
-    ∙ (ap (λ (x : Option Stop). judged n (stop_in (ending stops refusal)) (refusal_in (ending stops refusal)) x (row_wrong (outputs_of g own)
+    ap (λ (e : CycleEnd). judged n (stop_in e) (refusal_in e) (stop_in (end_of g t n other)) (first_difference (outputs_of g own) (outputs_of g other) 0)) end_is
+    ∙ (ap (λ (x : Option Stop). judged n (stop_in (ending stops refusal)) (refusal_in (ending stops refusal)) x (first_difference (outputs_of g own)
     (outputs_of g other) 0)) other_stop
-    ∙ judged_ending n stops refusal (operation_stop o) (row_wrong (outputs_of g own) (outputs_of g other) 0)
-    (first_wrong c.values o.values 0 g.outputs) wrong) in
+    ∙ judged_ending n stops refusal (operation_stop o) (first_difference (outputs_of g own) (outputs_of g other) 0)
+    (first_difference (outputs g c.values) (outputs g o.values) 0) wrong) in
     let later = cycles_from t g acts (suc n) (record { held = s.values; given = c.values }) (stored g c.values) rows in
     let plain_later = plain_cycles g (stored g o.values) rows in
     let after : List Cycle → List Cycle → Verdict = λ xs ys. compared t g acts (suc n) xs ys in
@@ -147,7 +145,7 @@ cycle_read laws t g faults all n past held beside row rows own other k below s w
           (after (unless_stopped stops later) (unless_stopped (operation_stop o) plain_later)) s.verdict (sym read_is ∙ h);
       goes_on = λ h.
           let none = sym read_is ∙ h in
-          let nones = none_judged n stops refusal (operation_stop o) (first_wrong c.values o.values 0 g.outputs) none in
+          let nones = none_judged n stops refusal (operation_stop o) (first_difference (outputs g c.values) (outputs g o.values) 0) none in
           let no_stop : c.stop ≡ None = no_kind c.values c.stop (no_stop_first (operation_stop c) (outside c.values g.outputs) nones.0) in
           let plain_on : o.stop ≡ None = no_kind o.values o.stop nones.2 in
           let released : end_of g t n own ≡ end.Released =
@@ -175,8 +173,8 @@ cycle_read laws t g faults all n past held beside row rows own other k below s w
 -- the verdict of a cycle, or else the one that the later cycles come to
 verdict_step : (b : Bool) (v : Option Verdict) (part : Part) (next : List Answer → Again) (w : Verdict)
     → (b ≡ false → AllRight part.calls → (u : Verdict) → v ≡ Some u → w ≡ u)
-    → (b ≡ false → AllRight part.calls → v ≡ None → (next part.left).short ≡ false → AllRight (next part.left).calls → w ≡ (next part.left).verdict)
-    → (unless_judged b v part next).short ≡ false → AllRight (unless_judged b v part next).calls → w ≡ (unless_judged b v part next).verdict
+    → (b ≡ false → AllRight part.calls → v ≡ None → (next part.left).too_few ≡ false → AllRight (next part.left).calls → w ≡ (next part.left).verdict)
+    → (unless_judged b v part next).too_few ≡ false → AllRight (unless_judged b v part next).calls → w ≡ (unless_judged b v part next).verdict
 verdict_step true v part next w ends goes enough right = absurd cc
 verdict_step false (Some u) part next w ends goes enough right = ends refl right u refl
 verdict_step false None part next w ends goes enough right =
@@ -184,33 +182,33 @@ verdict_step false None part next w ends goes enough right =
 
 runs_read : (laws : Laws) (t : Numbers) (g : Lists) (faults : List Fault) (all : List (List ℤ)) → Known t g →
     (rows : List (List ℤ)) (others : List (List Answer)) (n : ℕ)
-    (past : Words) (held : List ℤ) (dirty : List Bool) (beside : List ℤ) (left : List Answer) → CellsFollow dirty held beside → Other t g n beside rows others
+    (past : Words) (held : List ℤ) (cell_marks : List Bool) (beside : List ℤ) (left : List Answer) → CellsFollow cell_marks held beside → Other t g n beside rows others
     → n + length rows ≤ most_cycles → Stand t g faults all n past held beside rows
-    → (runs_again t g (acts_of faults) n past held dirty rows others left).short ≡ false
-    → AllRight (runs_again t g (acts_of faults) n past held dirty rows others left).calls
-    → verdict_of t g faults all ≡ (runs_again t g (acts_of faults) n past held dirty rows others left).verdict
-runs_read laws t g faults all k [] others n past held dirty beside left cells o few s enough right = s.verdict
-runs_read laws t g faults all k (row ∷ rows) [] n past held dirty beside left cells o few s enough right = absurd o.all
-runs_read laws t g faults all k (row ∷ rows) (other ∷ others) n past held dirty beside left cells o few s enough right =
+    → (runs_again t g (acts_of faults) n past held cell_marks rows others left).too_few ≡ false
+    → AllRight (runs_again t g (acts_of faults) n past held cell_marks rows others left).calls
+    → verdict_of t g faults all ≡ (runs_again t g (acts_of faults) n past held cell_marks rows others left).verdict
+runs_read laws t g faults all k [] others n past held cell_marks beside left cells o few s enough right = s.verdict
+runs_read laws t g faults all k (row ∷ rows) [] n past held cell_marks beside left cells o few s enough right = absurd o.all
+runs_read laws t g faults all k (row ∷ rows) (other ∷ others) n past held cell_marks beside left cells o few s enough right =
     let acts = acts_of faults in
-    let c = cycle_again t g acts n past held dirty row other in
+    let c = cycle_again t g acts n past held cell_marks row other in
     let part = again c [] g.operations left in
     let words : Words = record { held = held; answers = part.own } in
     let next : List Answer → Again = λ left. runs_again t g acts (suc n) words (stored_words g part.own) (held_marks g c.touched) rows others left in
-    let here : part.short ≡ false → AllRight part.calls → CycleRight c [] g.operations part.own =
-    λ short calls. one_cycle laws.reads t g acts n past held dirty beside row rows other others left k.graph cells o short calls in
+    let here : part.too_few ≡ false → AllRight part.calls → CycleRight c [] g.operations part.own =
+    λ too_few calls. one_cycle laws.reads t g acts n past held cell_marks beside row rows other others left k.graph cells o too_few calls in
     let other_right : AllRight (CallsOf (setting_at g t n beside row) other) =
     right_front (CallsOf (setting_at g t n beside row) other) (calls_over g t (suc n) (stored_words g other) rows others) o.right in
-    let read : part.short ≡ false → AllRight part.calls → CycleRead t g faults all n held rows part.own other =
-    λ short calls.
-    let r = (here short calls).rightly in
+    let read : part.too_few ≡ false → AllRight part.calls → CycleRead t g faults all n held rows part.own other =
+    λ too_few calls.
+    let r = (here too_few calls).rightly in
     cycle_read laws t g faults all n past held beside row rows part.own other k (omega (arith, few)) s
     (whole_of c g.operations part.own r) (rights_of c g.operations part.own r) o.all.0 other_right in
-    verdict_step part.short (read_cycle g t n part.own other) part next (verdict_of t g faults all)
-    (λ short calls u h. (read short calls).ends u h)
-    (λ short calls none enough_later right_later.
-    let on = (read short calls).goes_on none in
-    let follows = (here short calls).follows (released_words g t n other on.0) on.1 in
+    verdict_step part.too_few (read_cycle g t n part.own other) part next (verdict_of t g faults all)
+    (λ too_few calls u h. (read too_few calls).ends u h)
+    (λ too_few calls none enough_later right_later.
+    let on = (read too_few calls).goes_on none in
+    let follows = (here too_few calls).follows (released_words g t n other on.0) on.1 in
     runs_read laws t g faults all k rows others (suc n) words (stored_words g part.own) (held_marks g c.touched) (stored_words g other) part.left
     (λ i h. stored_follow c.touched part.own other g.stores i follows h) (other_later t g n beside row rows other others o on.0) (omega (arith, few)) on.2
     enough_later right_later)
@@ -218,7 +216,7 @@ runs_read laws t g faults all k (row ∷ rows) (other ∷ others) n past held di
 
 pub verdicts_are_read : (laws : Laws) (t : Numbers) (g : Lists) (faults : List Fault) (rows : List (List ℤ)) (others : List (List Answer)) (given : List Answer)
     → IsGraph g → IsTable t → t.profile ≡ g.profile → GroupFits g faults → length rows ≤ most_cycles → IsReference t g rows others
-    → (rerun t g faults rows others given).short ≡ false → AllRight (rerun t g faults rows others given).calls
+    → (rerun t g faults rows others given).too_few ≡ false → AllRight (rerun t g faults rows others given).calls
     → (rerun t g faults rows others given).verdict ≡ verdict_of t g faults rows
 verdicts_are_read laws t g faults rows others given graph table profile fits few reference enough right =
     sym

@@ -65,7 +65,7 @@ late_left : late.left ≡ []
 unfolding signature modulo value_part coded
 late_left = refl
 
-late_enough : late.short ≡ false
+late_enough : late.too_few ≡ false
 unfolding signature modulo value_part coded
 late_enough = refl
 
@@ -174,7 +174,7 @@ behind_verdict : behind.verdict ≡ verdict.Same
 unfolding signature modulo value_part coded
 behind_verdict = refl
 
-behind_enough : behind.short ≡ false
+behind_enough : behind.too_few ≡ false
 unfolding signature modulo value_part coded
 behind_enough = refl
 
@@ -252,6 +252,6 @@ no_rows : (rerun_of narrow (at 0 2 (act.OperandAdd 0 (pos 1)) ∷ []) [] []).ver
 unfolding signature modulo value_part coded
 no_rows = refl
 
-too_few : (rerun_of counts (at 2 4 act.Skip ∷ []) five_cycles (word (pos 2) 3 ∷ word (pos 3) 429496733 ∷ word (pos 3) 644245098 ∷ [])).short ≡ true
+few_answers : (rerun_of counts (at 2 4 act.Skip ∷ []) five_cycles (word (pos 2) 3 ∷ word (pos 3) 429496733 ∷ word (pos 3) 644245098 ∷ [])).too_few ≡ true
 unfolding signature modulo value_part coded
-too_few = refl
+few_answers = refl

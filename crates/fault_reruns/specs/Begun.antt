@@ -19,8 +19,8 @@ answers_in c = words_answered c.words.now ++ stop_answer c.stop
 -- what the cycle begins with
 abbrev pub begun : Begun → CycleAgain
 begun b = record {
-  setting = setting_at b.graph.now b.table.now b.cycle b.held.now b.row.now;
-  acts = acts_of b.group.now b.cycle;
+  setting = setting_at b.graph.now b.table.now b.standing.cycle b.held.now b.row.now;
+  acts = acts_of b.standing.group.now b.standing.cycle;
   past = record { held = b.past_held.now; answers = b.past.now };
   other = answers_in b.other;
   touched = b.touched.now;
@@ -39,5 +39,5 @@ pub record RanAgain (c : CycleAgain) (own : List Answer) (x y : Option (List Ent
   pub given : List Answer
   pub entries : List Entry
   pub comes : (more : List Answer) →
-      again c [] c.setting.graph.operations (given ++ more) ≡ record { own = own; calls = entries; left = more; short = false }
+      again c [] c.setting.graph.operations (given ++ more) ≡ record { own = own; calls = entries; left = more; too_few = false }
   pub carried : Carried entries x y i j

@@ -40,3 +40,7 @@ pub record GroupsJudged (t : Numbers) (g : Lists) (rows : List (List ℤ)) (othe
   pub carried :
       Carried (calls_over g t 0 (initial_words g t.seed) rows others ++ calls_again (reruns t g rows others groups givens))
       before.log now.log before.wrong now.wrong
+
+-- so a group is judged alone: by the calls of the run without faults, and then by those of its rerun
+abbrev pub JudgedAlone : Numbers → Lists → List (List ℤ) → List Fault → Verdict → UnitSeen → UnitSeen → Type 0
+JudgedAlone t g rows faults v before now = (others : List (List Answer)) × GroupsJudged t g rows others (faults ∷ []) (v ∷ []) before now

@@ -61,27 +61,27 @@ ReferencesStand =
 -- ---- where nothing is touched
 
 -- nothing is touched in a cycle that begins with these marks of cells: no cell, and no fault stands in it
-pub record Untouched (acts : ℕ → Option Act) (dirty : List Bool) : Type 0 where
-  pub cells : (i : ℕ) → mark dirty i ≡ false
+pub record NothingTouched (acts : ℕ → Option Act) (cell_marks : List Bool) : Type 0 where
+  pub cells : (i : ℕ) → mark cell_marks i ≡ false
   pub no_fault : (k : ℕ) → acts k ≡ None
 
 -- a rerun makes no call from here on, and nothing differs
-pub record Rests (a : Again) (left : List Answer) : Type 0 where
+pub record AsksNoMore (a : Again) (left : List Answer) : Type 0 where
   pub none : a.calls ≡ []
   pub same_is : a.verdict ≡ verdict.Same
   pub left_is : a.left ≡ left
-  pub enough : a.short ≡ false
+  pub enough : a.too_few ≡ false
 
-pub record RestLaws : Type 0 where
+pub record PassedOverLaws : Type 0 where
   -- in a cycle in which nothing is touched no call is made, and its answers are those of the run without the faults; and no cell is touched after it
-  pub cycle : (t : Numbers) (g : Lists) (acts : Acts) (n : ℕ) (past : Words) (held : List ℤ) (dirty : List Bool) (row : List ℤ) (other left : List Answer) →
-      Whole g.operations other → Untouched (acts n) dirty → again (cycle_again t g acts n past held dirty row other) [] g.operations left ≡ done other left
-  pub cells : (g : Lists) (other : List Answer) (acts : ℕ → Option Act) (dirty : List Bool) → Untouched acts dirty →
-      (i : ℕ) → mark (held_marks g (cycle_marks g other acts dirty).given) i ≡ false
+  pub cycle : (t : Numbers) (g : Lists) (acts : Acts) (n : ℕ) (past : Words) (held : List ℤ) (cell_marks : List Bool) (row : List ℤ) (other left : List Answer) →
+      Whole g.operations other → NothingTouched (acts n) cell_marks → again (cycle_again t g acts n past held cell_marks row other) [] g.operations left ≡ done other left
+  pub cells : (g : Lists) (other : List Answer) (acts : ℕ → Option Act) (cell_marks : List Bool) → NothingTouched acts cell_marks →
+      (i : ℕ) → mark (held_marks g (cycle_marks g other acts cell_marks).given) i ≡ false
   -- so from a cycle on in which no cell is touched and behind which no fault comes
   pub run : (t : Numbers) (g : Lists) (acts : Acts) (rows : List (List ℤ)) (others : List (List Answer)) (n : ℕ) (past : Words) (held : List ℤ)
-      (dirty : List Bool) (left : List Answer) → ((i : ℕ) → mark dirty i ≡ false) → ((m k : ℕ) → n ≤ m → acts m k ≡ None) → NoneRefused g t n others →
-      Rests (runs_again t g acts n past held dirty rows others left) left
+      (cell_marks : List Bool) (left : List Answer) → ((i : ℕ) → mark cell_marks i ≡ false) → ((m k : ℕ) → n ≤ m → acts m k ≡ None) → NoneRefused g t n others →
+      AsksNoMore (runs_again t g acts n past held cell_marks rows others left) left
 
 -- ---- outputs whose OUTs aren't touched
 
@@ -94,7 +94,7 @@ pub record SameOutput (g : Lists) (t : Numbers) (n : ℕ) (own other : List Answ
 pub record OutputLaws : Type 0 where
   -- whatever the unit answers, where both runs have words alone in a cycle, an operation that isn't touched has one word in both
   pub words : (c : CycleAgain) (left : List Answer) → Whole c.setting.graph.operations c.other → AllWords c.other →
-      (again c [] c.setting.graph.operations left).short ≡ false → AllWords (again c [] c.setting.graph.operations left).own →
+      (again c [] c.setting.graph.operations left).too_few ≡ false → AllWords (again c [] c.setting.graph.operations left).own →
       (k : ℕ) → mark c.touched k ≡ false → word_at (again c [] c.setting.graph.operations left).own k ≡ word_at c.other k
   -- so where the run without the faults released the cycle, an output whose OUT isn't touched differs in nothing
   pub outputs : (g : Lists) (t : Numbers) (n : ℕ) (own other : List Answer) (touched : List Bool) → end_of g t n other ≡ end.Released →
@@ -108,7 +108,7 @@ pub record OutputLaws : Type 0 where
 abbrev pub RerunsAreRight : Type 0
 RerunsAreRight =
     (t : Numbers) (g : Lists) (faults : List Fault) (rows : List (List ℤ)) (others : List (List Answer)) (given : List Answer) → IsGraph g →
-    IsReference t g rows others → (rerun t g faults rows others given).short ≡ false → AllRight (rerun t g faults rows others given).calls →
+    IsReference t g rows others → (rerun t g faults rows others given).too_few ≡ false → AllRight (rerun t g faults rows others given).calls →
     RightRun t g (acts_of faults) 0 no_words (initial_words g t.seed) rows (rerun t g faults rows others given).answers
 
 -- and the verdict that is read is the group's
@@ -116,7 +116,7 @@ abbrev pub VerdictsAreRead : Type 0
 VerdictsAreRead =
     (t : Numbers) (g : Lists) (faults : List Fault) (rows : List (List ℤ)) (others : List (List Answer)) (given : List Answer) → IsGraph g → IsTable t →
     t.profile ≡ g.profile → GroupFits g faults → length rows ≤ most_cycles → IsReference t g rows others →
-    (rerun t g faults rows others given).short ≡ false → AllRight (rerun t g faults rows others given).calls →
+    (rerun t g faults rows others given).too_few ≡ false → AllRight (rerun t g faults rows others given).calls →
     (rerun t g faults rows others given).verdict ≡ verdict_of t g faults rows
 
 -- ---- where the unit is asked

@@ -3,8 +3,9 @@ pub mod Crossing
 pub mod Groups
 pub mod Kept
 pub mod Laws
+pub mod PassedOver
 pub mod References
 pub mod Reruns
-pub mod Resting
+pub mod Standing
 pub mod Through
 pub mod Touched

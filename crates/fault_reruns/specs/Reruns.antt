@@ -1,5 +1,6 @@
 -- Reruns: the calls that are made again for a group of faults, and the verdict that is read off their answers.
 use Rattle.std.specs.Prelude.{ℕ, suc, ◌≡◌, ◌<◌, Bool, true, false, cond, List, [], ◌∷◌, ◌++◌, length, slice_get, Option, Some, None, ℤ}
+use Rattle.vcp_base.specs.Differences.{first_difference}
 use Rattle.coded_unit.specs.declared.call.Call.{Call}
 use Rattle.coded_unit.specs.declared.call.Answer.{Answer}
 use Rattle.coded_unit.specs.declared.call.Answer.TheVariants as answer
@@ -22,7 +23,6 @@ use Rattle.fault_runs.specs.RunLaw.{Words, no_words, taken}
 use Rattle.fault_runs.specs.Scripts.{passed_by, handed_by, skips_by}
 use Rattle.fault_injector.specs.declared.verdict.Verdict.{Verdict}
 use Rattle.fault_injector.specs.declared.verdict.Verdict.TheVariants as verdict
-use Rattle.fault_injector.specs.Judging.{row_wrong}
 use Rattle.fault_injector.specs.Verdicts.{judged}
 use Rattle.fault_reruns.specs.Touched.{cycle_marks, held_marks, mark}
 
@@ -73,11 +73,11 @@ pub record Part : Type 0 where
   pub own : List Answer
   pub calls : List Entry
   pub left : List Answer
-  pub short : Bool
+  pub too_few : Bool
 
 -- the cycle ended with these answers
 abbrev pub done : List Answer → List Answer → Part
-done own left = record { own = own; calls = []; left = left; short = false }
+done own left = record { own = own; calls = []; left = left; too_few = false }
 
 -- a call, and then the later ones
 abbrev pub with_call : Entry → Part → Part
@@ -91,7 +91,7 @@ after_answer false own next left = done own left
 -- the cycle after the next operation, which gets its answer so
 abbrev pub go_on : List Answer → Source → (Answer → List Answer → Part) → List Answer → Part
 go_on before (has a) next left = next a left
-go_on before (asks call act word) next [] = record { own = before; calls = []; left = []; short = true }
+go_on before (asks call act word) next [] = record { own = before; calls = []; left = []; too_few = true }
 go_on before (asks call act word) next (given ∷ left) = with_call (call, given) (next (handed_by act word given) left)
 go_on before ended next left = done before left
 
@@ -121,7 +121,7 @@ refusal_in end.Released = None
 abbrev pub read_cycle : Lists → Numbers → ℕ → List Answer → List Answer → Option Verdict
 read_cycle g t n own other =
     judged n (stop_in (end_of g t n own)) (refusal_in (end_of g t n own)) (stop_in (end_of g t n other))
-    (row_wrong (outputs_of g own) (outputs_of g other) 0)
+    (first_difference (outputs_of g own) (outputs_of g other) 0)
 
 -- ---- whole runs
 
@@ -132,11 +132,11 @@ pub record Again : Type 0 where
   pub calls : List Entry
   pub verdict : Verdict
   pub left : List Answer
-  pub short : Bool
+  pub too_few : Bool
 
 -- where the rows end, or the run without the faults
 abbrev pub same_then : List Answer → Again
-same_then left = record { answers = []; calls = []; verdict = verdict.Same; left = left; short = false }
+same_then left = record { answers = []; calls = []; verdict = verdict.Same; left = left; too_few = false }
 
 -- a cycle, and then the later ones
 abbrev pub with_cycle : Part → Again → Again
@@ -144,34 +144,34 @@ with_cycle part later = record later { answers = part.own ∷ later.answers; cal
 
 -- a cycle of too few answers ends the rerun, and so does one that has a verdict
 abbrev pub unless_judged : Bool → Option Verdict → Part → (List Answer → Again) → Again
-unless_judged true judgement part next = record { answers = part.own ∷ []; calls = part.calls; verdict = verdict.Same; left = []; short = true }
-unless_judged false (Some v) part next = record { answers = part.own ∷ []; calls = part.calls; verdict = v; left = part.left; short = false }
+unless_judged true judgement part next = record { answers = part.own ∷ []; calls = part.calls; verdict = verdict.Same; left = []; too_few = true }
+unless_judged false (Some v) part next = record { answers = part.own ∷ []; calls = part.calls; verdict = v; left = part.left; too_few = false }
 unless_judged false None part next = with_cycle part (next part.left)
 
 -- a cycle, and the later ones, which begin with its answers, unless it ends the rerun
 abbrev pub and_later : (List Answer → Option Verdict) → (List Answer → List Answer → Again) → Part → Again
-and_later judgement next part = unless_judged part.short (judgement part.own) part (next part.own)
+and_later judgement next part = unless_judged part.too_few (judgement part.own) part (next part.own)
 
 -- what the rerun of cycle n begins with
 abbrev pub cycle_again : Numbers → Lists → Acts → ℕ → Words → List ℤ → List Bool → List ℤ → List Answer → CycleAgain
-cycle_again t g acts n past held dirty row other = record {
+cycle_again t g acts n past held cell_marks row other = record {
   setting = setting_at g t n held row;
   acts = acts n;
   past = past;
   other = other;
-  touched = (cycle_marks g other (acts n) dirty).given;
+  touched = (cycle_marks g other (acts n) cell_marks).given;
 }
 
 -- The rerun from cycle n on, over these rows: what its cycle before left, the words of its cells and their marks, the answers of the run without the
 -- faults from cycle n on, and the answers that the unit gives one after another.
 abbrev pub runs_again : Numbers → Lists → Acts → ℕ → Words → List ℤ → List Bool → List (List ℤ) → List (List Answer) → List Answer → Again
-runs_again t g acts n past held dirty [] others left = same_then left
-runs_again t g acts n past held dirty (row ∷ rows) [] left = same_then left
-runs_again t g acts n past held dirty (row ∷ rows) (other ∷ others) left =
+runs_again t g acts n past held cell_marks [] others left = same_then left
+runs_again t g acts n past held cell_marks (row ∷ rows) [] left = same_then left
+runs_again t g acts n past held cell_marks (row ∷ rows) (other ∷ others) left =
     and_later (λ own. read_cycle g t n own other)
     (λ own left. runs_again t g acts (suc n) (record { held = held; answers = own }) (stored_words g own)
-    (held_marks g (cycle_marks g other (acts n) dirty).given) rows others left)
-    (again (cycle_again t g acts n past held dirty row other) [] g.operations left)
+    (held_marks g (cycle_marks g other (acts n) cell_marks).given) rows others left)
+    (again (cycle_again t g acts n past held cell_marks row other) [] g.operations left)
 
 -- the rerun of a group of faults over rows of inputs, beside the answers of the run without them
 abbrev pub rerun : Numbers → Lists → List Fault → List (List ℤ) → List (List Answer) → List Answer → Again
@@ -180,7 +180,7 @@ rerun t g faults rows others left = runs_again t g (acts_of faults) 0 no_words (
 -- the answers were as many as there were calls
 pub record IsExact (a : Again) : Type 0 where
   pub none_left : a.left ≡ []
-  pub enough : a.short ≡ false
+  pub enough : a.too_few ≡ false
 
 -- What the rerun of a group left of a unit, and its verdict: there are answers, one for each of its calls, with which the log grew by these calls and by
 -- nothing else, and off which the verdict is read. Where the count of wrong answers stood still they are right.

@@ -8,17 +8,18 @@ ghost use Rattle.op_graph.specs.declared.op.Op.{Op as Operation};
 ghost use Rattle.signature_table.specs.Signatures.{IsTableOf};
 ghost use Rattle.coded_machine.specs.Calls.{AllWords, call_of, read_word};
 ghost use Rattle.coded_machine.specs.Honest.{stop_answer};
-ghost use Rattle.fault_script.specs.Changes.{acts_of};
 ghost use Rattle.fault_runs.specs.RunLaw.{taken as taken_of};
 ghost use Rattle.fault_reruns.specs.Begun.{Comes, RanAgain, answers_in, begun};
 ghost use Rattle.fault_reruns.specs.Reruns.{source, source_touched};
+ghost use Rattle.fault_reruns.specs.Standing.{IsStanding};
 ghost use Rattle.fault_reruns.specs.Touched.{mark as mark_of};
 
 use crate::reference::CycleAnswers;
+use crate::standing::{Standing, act_at};
 use coded_machine::{Setting, call_after, cell_at, cycles_by_hand_are_whole, is_word, word_at};
 use coded_unit::{Answer, Call, Unit, Word};
 use fault_runs::{answered, changed, is_skip};
-use fault_script::{Act, Fault, Group};
+use fault_script::Act;
 use op_graph::{Graph, Op};
 use signature_table::Table;
 use vcp_base::{Kind, Row, StopKind};
@@ -30,14 +31,12 @@ pub(crate) struct Begun<'c> {
     pub graph: &'c Graph,
     /// The numbers of the graph's code.
     pub table: &'c Table,
-    /// The number of the cycle, from 0.
-    pub cycle: u32,
     /// The words of the cells.
     pub held: &'c [Word],
     /// The values of the inputs.
     pub row: &'c Row,
-    /// The faults.
-    pub group: &'c Group,
+    /// The number of the cycle, and the faults that stand in it.
+    pub standing: Standing<'c>,
     /// The words that the cells had in the cycle before.
     pub past_held: &'c [Word],
     /// The answers of the cycle before.
@@ -69,26 +68,6 @@ pub(crate) fn named(op: &Op, j: u32) -> u32
         1 => op.b,
         _ => op.c,
     }
-}
-
-/// Whether a fault stands at an operation in a cycle.
-fn stands_at(fault: &Fault, cycle: u32, op: u32) -> bool
-    ensures { result ≡ (fault.now.cycle == cycle && fault.now.op == op) }
-{
-    fault.cycle == cycle && fault.op == op
-}
-
-/// The act of the first fault at an operation in a cycle, where there is one.
-pub(crate) fn act_at(group: &Group, cycle: u32, op: u32) -> Option<Act>
-    ensures { result ≡ acts_of group.now cycle op }
-{
-    'faults: for i in 0..group.len() {
-        let fault = group.at(i);
-        if stands_at(&fault, cycle, op) {
-            return Some(fault.act);
-        }
-    }
-    None
 }
 
 /// The word that operand `j` of an operation read in the cycle before.
@@ -169,7 +148,7 @@ fn call_again(b: &Begun<'_>, op: &Op, own: &[Answer]) -> Call
     requires here { slice_get b.now.graph.now.operations (length own.now) ≡ Some op.now }
     requires few { length own.now ≤ most_operations }
     requires table { IsTableOf b.now.table.now b.now.graph.now }
-    requires cycle { b.now.cycle < most_cycles }
+    requires cycle { b.now.standing.cycle < most_cycles }
     ensures call { result ≡ call_of (begun b.now).setting op.now own.now }
     ensures asked { Asked result }
 {
@@ -178,7 +157,7 @@ fn call_again(b: &Begun<'_>, op: &Op, own: &[Answer]) -> Call
         table: b.table,
         held: b.held,
         row: b.row,
-        cycle: b.cycle,
+        cycle: b.standing.cycle,
     };
     call_after(&setting, op, own)
 }
@@ -189,7 +168,8 @@ fn answer_again<U: Unit>(b: &Begun<'_>, unit: &mut U, own: &[Answer]) -> Option<
     requires there { length own.now < length b.now.graph.now.operations }
     requires few { length own.now ≤ most_operations }
     requires table { IsTableOf b.now.table.now b.now.graph.now }
-    requires cycle { b.now.cycle < most_cycles }
+    requires standing { IsStanding b.now.standing }
+    requires cycle { b.now.standing.cycle < most_cycles }
     ensures { (op : Operation) → slice_get b.now.graph.now.operations (length own.now) ≡ Some op →
         Comes (source (begun b.now) own.now op) result
         (U.seen unit.old).log (U.seen unit.new).log (U.seen unit.old).wrong (U.seen unit.new).wrong }
@@ -201,7 +181,7 @@ fn answer_again<U: Unit>(b: &Begun<'_>, unit: &mut U, own: &[Answer]) -> Option<
         return answer_at(&b.other, k);
     }
     let op = b.graph.operation(k);
-    let act = act_at(b.group, b.cycle, k);
+    let act = act_at(&b.standing, k);
     let word = taken(b, own, &op, &act);
     let call = call_again(b, &op, own);
     Some(perform_under(unit, &act, &word, &call))
@@ -224,7 +204,8 @@ pub(crate) fn rerun_cycle<U: Unit>(b: &Begun<'_>, unit: &mut U, own: &mut Vec<An
     requires room { length b.now.graph.now.operations ≤ vec_capacity own.old }
     requires few { length b.now.graph.now.operations ≤ most_operations }
     requires table { IsTableOf b.now.table.now b.now.graph.now }
-    requires cycle { b.now.cycle < most_cycles }
+    requires standing { IsStanding b.now.standing }
+    requires cycle { b.now.standing.cycle < most_cycles }
     ensures ran { RanAgain (begun b.now) own.new.items
         (U.seen unit.old).log (U.seen unit.new).log (U.seen unit.old).wrong (U.seen unit.new).wrong }
     ensures words { result ≡ false → AllWords own.new.items }

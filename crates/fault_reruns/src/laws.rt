@@ -1,6 +1,6 @@
 //! Laws of reruns.
 
-ghost use Rattle.fault_reruns.specs.Laws.{TouchedLaws, ReferencesStand, RestLaws, OutputLaws, RerunsAreRight, VerdictsAreRead};
+ghost use Rattle.fault_reruns.specs.Laws.{TouchedLaws, ReferencesStand, PassedOverLaws, OutputLaws, RerunsAreRight, VerdictsAreRead};
 ghost use Rattle.fault_reruns.specs.Laws.{AsksAtTouched, GroupLaws};
 
 use coded_machine::right_answers_stand_for_values;
@@ -35,8 +35,8 @@ pub fn right_references_stand_for_the_graphs_run()
 /// In a cycle in which no fault stands and that begins with no cell touched, no call is made again, its
 /// answers are those of the run without the group, and no cell is touched after it; so from such a cycle on
 /// behind which no fault comes nothing differs. It does nothing: it states a law.
-pub fn runs_rest_where_nothing_is_touched()
-    ensures { RestLaws }
+pub fn nothing_differs_where_nothing_is_touched()
+    ensures { PassedOverLaws }
 {}
 
 /// Whatever a unit answers, an operation that isn't touched has one word in both runs of a cycle in which

@@ -9,15 +9,17 @@ mod again;
 mod kept;
 mod laws;
 mod marks;
+mod passing;
 mod reading;
 mod reference;
 mod rerun;
-mod resting;
+mod standing;
 
 pub use laws::{
-    groups_are_rerun_one_after_another, reruns_ask_at_touched_operations,
-    reruns_of_right_answers_are_right_runs, right_references_stand_for_the_graphs_run,
-    runs_rest_where_nothing_is_touched, touched_operations_are_told_by_what_they_read,
+    groups_are_rerun_one_after_another, nothing_differs_where_nothing_is_touched,
+    reruns_ask_at_touched_operations, reruns_of_right_answers_are_right_runs,
+    right_references_stand_for_the_graphs_run, touched_operations_are_told_by_what_they_read,
     untouched_outputs_differ_in_nothing, verdicts_read_off_right_answers_are_defined,
 };
 pub use reference::{CycleAnswers, Reference};
+pub use rerun::verdict;

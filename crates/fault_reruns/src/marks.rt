@@ -3,12 +3,13 @@
 ghost use Rattle.std.specs.Prelude.{◌≡◌, ◌<◌, ◌≤◌, ◌++◌, ◌∷◌, [], length, vec_capacity};
 ghost use Rattle.fault_script.specs.Changes.{acts_of};
 ghost use Rattle.fault_reruns.specs.Begun.{answers_in};
+ghost use Rattle.fault_reruns.specs.Standing.{IsStanding};
 ghost use Rattle.fault_reruns.specs.Touched.{cycle_marks, held_marks, operand_touched as operand_touched_of};
 ghost use Rattle.fault_reruns.specs.Touched.{past_touched_stop as past_touched_stop_of, touched_at};
 
-use crate::again::{act_at, mark, named};
+use crate::again::{mark, named};
 use crate::reference::CycleAnswers;
-use fault_script::Group;
+use crate::standing::{Standing, act_at};
 use op_graph::{Graph, Op};
 use vcp_base::{Kind, operands};
 
@@ -48,17 +49,17 @@ fn past_touched_stop(other: &CycleAnswers<'_>, given: &[bool], k: u32) -> bool
 
 /// Whether operation `k` is touched in a cycle.
 fn touched(
-    group: &Group,
-    cycle: u32,
+    standing: &Standing<'_>,
     other: &CycleAnswers<'_>,
     cells: &[bool],
     given: &[bool],
     op: &Op,
     k: u32,
 ) -> bool
-    ensures { result ≡ touched_at (answers_in other.now) (acts_of group.now cycle) (record { held = cells.now; given = given.now }) k op.now }
+    requires { IsStanding standing.now }
+    ensures { result ≡ touched_at (answers_in other.now) (acts_of standing.now.group.now standing.now.cycle) (record { held = cells.now; given = given.now }) k op.now }
 {
-    act_at(group, cycle, k).is_some()
+    act_at(standing, k).is_some()
         || operand_touched(cells, given, op, 0)
         || operand_touched(cells, given, op, 1)
         || operand_touched(cells, given, op, 2)
@@ -79,21 +80,21 @@ fn append(marks: &mut Vec<bool>, marked: bool)
 /// Marks the operations that are touched in a cycle that begins with these marks of cells.
 pub(crate) fn mark_operations(
     graph: &Graph,
-    group: &Group,
-    cycle: u32,
+    standing: &Standing<'_>,
     other: &CycleAnswers<'_>,
     cells: &[bool],
     marks: &mut Vec<bool>,
 )
+    requires standing { IsStanding standing.now }
     requires room { length graph.now.operations ≤ vec_capacity marks.old }
-    ensures marks { marks.new.items ≡ (cycle_marks graph.now (answers_in other.now) (acts_of group.now cycle) cells.now).given }
+    ensures marks { marks.new.items ≡ (cycle_marks graph.now (answers_in other.now) (acts_of standing.now.group.now standing.now.cycle) cells.now).given }
     ensures capacity { vec_capacity marks.old ≤ vec_capacity marks.new }
 {
     marks.clear();
     let count = graph.len();
     'operations: for k in 0..count {
         let op = graph.operation(k);
-        let marked = touched(group, cycle, other, cells, marks, &op, k);
+        let marked = touched(standing, other, cells, marks, &op, k);
         append(marks, marked);
     }
 }

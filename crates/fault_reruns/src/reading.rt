@@ -2,10 +2,10 @@
 
 ghost use Rattle.std.specs.Prelude.{◌≡◌, None, FitsSigned};
 ghost use Rattle.std.specs.Int.{w64};
+ghost use Rattle.vcp_base.specs.Differences.{first_difference};
 ghost use Rattle.coded_unit.specs.Words.{value_part};
 ghost use Rattle.coded_machine.specs.Calls.{word_at as word_at_of};
 ghost use Rattle.coded_machine.specs.CycleEnds.{first_outside, outputs_of};
-ghost use Rattle.fault_injector.specs.Judging.{row_wrong, wrong_verdict};
 ghost use Rattle.fault_injector.specs.Verdicts.{judged, stops_alike as stops_alike_of};
 ghost use Rattle.fault_reruns.specs.Begun.{answers_in};
 ghost use Rattle.coded_machine.specs.declared.cycle_end.CycleEnd.TheVariants.{Released};
@@ -37,7 +37,7 @@ fn other_word(other: &CycleAnswers<'_>, k: u32) -> Word
 }
 
 /// The first output with another value than in the run without the faults, where neither run stopped.
-fn first_wrong(
+fn wrong_verdict(
     graph: &Graph,
     cycle: u32,
     own: &[Answer],
@@ -45,7 +45,7 @@ fn first_wrong(
 ) -> Option<Verdict>
     requires inside { first_outside graph.now.profile own.now graph.now.outputs ≡ None }
     requires other_inside { first_outside graph.now.profile (answers_in other.now) graph.now.outputs ≡ None }
-    ensures { result ≡ wrong_verdict cycle (row_wrong (outputs_of graph.now own.now) (outputs_of graph.now (answers_in other.now)) 0) }
+    ensures { result ≡ judged cycle None None None (first_difference (outputs_of graph.now own.now) (outputs_of graph.now (answers_in other.now)) 0) }
 {
     'outputs: for output in 0..graph.outputs() {
         let outlet = graph.output(output);
@@ -93,7 +93,7 @@ pub(crate) fn read(
     requires inside { end.now ≡ Released → first_outside graph.now.profile own.now graph.now.outputs ≡ None }
     requires other_inside { stop_in other_end.now ≡ None → first_outside graph.now.profile (answers_in other.now) graph.now.outputs ≡ None }
     ensures { result ≡ judged cycle (stop_in end.now) (refusal_in end.now) (stop_in other_end.now)
-        (row_wrong (outputs_of graph.now own.now) (outputs_of graph.now (answers_in other.now)) 0) }
+        (first_difference (outputs_of graph.now own.now) (outputs_of graph.now (answers_in other.now)) 0) }
 {
     match *end {
         CycleEnd::Stopped { op, kind } => {
@@ -120,7 +120,7 @@ pub(crate) fn read(
                 found: _,
                 expected: _,
             }
-            | CycleEnd::Released => first_wrong(graph, cycle, own, other),
+            | CycleEnd::Released => wrong_verdict(graph, cycle, own, other),
         },
     }
 }

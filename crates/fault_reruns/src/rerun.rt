@@ -1,8 +1,10 @@
 //! The rerun of a group of faults, and its verdict.
 
-ghost use Rattle.std.specs.Prelude.{◌≡◌, ◌<◌, ◌≤◌, [], ℕ, ℤ, List, Some, IfOk, OnErr, length, slice_get, vec_capacity};
+ghost use Rattle.std.specs.Prelude.{◌≡◌, ◌<◌, ◌≤◌, [], ℕ, ℤ, List, Some, All, IfOk, OnErr, length, slice_get, vec_capacity};
+ghost use Rattle.vcp_base.specs.Limits.{most_cycles};
 ghost use Rattle.coded_unit.specs.declared.call.Answer.{Answer as AnswerGiven};
 ghost use Rattle.coded_unit.specs.Seen.{StaysHonest};
+ghost use Rattle.signature_table.specs.Signatures.{IsTableOf};
 ghost use Rattle.coded_machine.specs.CycleEnds.{initial_words, stored_words};
 ghost use Rattle.fault_script.specs.Groups.{GroupFits};
 ghost use Rattle.fault_runs.specs.Accepted.{EndsAreRead, OutputsAreRead};
@@ -11,6 +13,7 @@ ghost use Rattle.fault_runs.specs.RunLaw.{GroupStands, RunsKept};
 ghost use Rattle.fault_injector.specs.Names.{Names};
 ghost use Rattle.fault_injector.specs.Verdicts.{verdict_of};
 ghost use Rattle.fault_reruns.specs.Crossing.{CycleRan, Room};
+ghost use Rattle.fault_reruns.specs.Groups.{JudgedAlone};
 ghost use Rattle.fault_reruns.specs.Laws.{AsksAtTouched, RerunsAreRight, TouchedLaws};
 ghost use Rattle.fault_reruns.specs.Reruns.{InCycles, IsReference, Reran};
 ghost use Rattle.fault_reruns.specs.Through.{RanThrough};
@@ -18,13 +21,15 @@ ghost use Rattle.fault_reruns.specs.Touched.{held_marks};
 
 use crate::again::{Begun, rerun_cycle};
 use crate::laws::{
-    reruns_ask_at_touched_operations, reruns_of_right_answers_are_right_runs,
-    touched_operations_are_told_by_what_they_read, verdicts_read_off_right_answers_are_defined,
+    groups_are_rerun_one_after_another, reruns_ask_at_touched_operations,
+    reruns_of_right_answers_are_right_runs, touched_operations_are_told_by_what_they_read,
+    verdicts_read_off_right_answers_are_defined,
 };
 use crate::marks::{mark_cells, mark_operations};
+use crate::passing::{advance, ends_same, next_touched};
 use crate::reading::read;
 use crate::reference::Reference;
-use crate::resting::{advance, next_touched, rests};
+use crate::standing::{Standing, gather};
 use coded_machine::{cycles_by_hand_are_whole, end_of_answers, first_words, store_words};
 use coded_unit::{Answer, Unit, Word};
 use fault_injector::Verdict;
@@ -32,8 +37,10 @@ use fault_runs::{
     ends_under_acts_are_read_off_the_answers, one_fault_runs_by_its_act,
     runs_under_acts_keep_the_run_law,
 };
-use fault_script::Group;
+use fault_script::{Fault, Group};
+use input_rows::RowList;
 use op_graph::{Graph, entries_keep_their_rules};
+use signature_table::Table;
 use std::alloc::Global;
 use std::mem::swap;
 use vcp_base::{Memory, Row};
@@ -52,7 +59,7 @@ pub(crate) struct Work {
     /// Which operations are touched.
     pub touched: Vec<bool>,
     /// Which cells are.
-    pub dirty: Vec<bool>,
+    pub cell_marks: Vec<bool>,
     /// The values of the inputs.
     pub inputs: Row,
 }
@@ -64,7 +71,7 @@ impl Work {
         ensures held { IfOk result (λ w. w.held.items ≡ initial_words reference.now.graph reference.now.table.seed) }
         ensures past { IfOk result (λ w. w.past.items ≡ []) }
         ensures past_held { IfOk result (λ w. w.past_held.items ≡ []) }
-        ensures dirty { IfOk result (λ w. w.dirty.items ≡ []) }
+        ensures cell_marks { IfOk result (λ w. w.cell_marks.items ≡ []) }
     {
         let graph = reference.graph();
         let table = reference.table();
@@ -77,7 +84,7 @@ impl Work {
             held: first_words(alloc, graph, table)?,
             past_held: Vec::with_capacity(alloc, cells)?,
             touched: Vec::with_capacity(alloc, operations)?,
-            dirty: Vec::with_capacity(alloc, cells)?,
+            cell_marks: Vec::with_capacity(alloc, cells)?,
             inputs: Row::zeros(alloc, graph.inputs())?,
         })
     }
@@ -104,10 +111,13 @@ fn rerun_one<U: Unit>(
     n: u32,
     unit: &mut U,
     work: &mut Work,
+    faults: &mut Vec<Fault>,
 ) -> Option<Verdict>
     requires there { n < length reference.now.answers }
     requires room { Room reference.now.graph work.old }
+    requires faults { length group.now ≤ vec_capacity faults.old }
     ensures room { Room reference.now.graph work.new }
+    ensures faults { vec_capacity faults.old ≤ vec_capacity faults.new }
     ensures ran { (row : List ℤ) → slice_get reference.now.rows n ≡ Some row → (other : List AnswerGiven) → slice_get reference.now.answers n ≡ Some other →
         CycleRan reference.now group.now n row other work.old work.new result
         (U.seen unit.old).log (U.seen unit.new).log (U.seen unit.old).wrong (U.seen unit.new).wrong }
@@ -118,15 +128,26 @@ fn rerun_one<U: Unit>(
     let other = reference.cycle(n);
     let other_end = reference.end(n);
     reference.rows().get(n, &mut work.inputs);
-    mark_operations(graph, group, n, &other, &work.dirty, &mut work.touched);
+    gather(group, n, faults);
+    let standing = Standing {
+        group,
+        cycle: n,
+        faults,
+    };
+    mark_operations(
+        graph,
+        &standing,
+        &other,
+        &work.cell_marks,
+        &mut work.touched,
+    );
     work.own.clear();
     let begun = Begun {
         graph,
         table,
-        cycle: n,
         held: &work.held,
         row: &work.inputs,
-        group,
+        standing,
         past_held: &work.past_held,
         past: &work.past,
         other,
@@ -146,11 +167,11 @@ fn cross(graph: &Graph, work: &mut Work)
     ensures past { work.new.past.items ≡ work.old.own.items }
     ensures past_held { work.new.past_held.items ≡ work.old.held.items }
     ensures held { work.new.held.items ≡ stored_words graph.now work.old.own.items }
-    ensures dirty { work.new.dirty.items ≡ held_marks graph.now work.old.touched.items }
+    ensures cell_marks { work.new.cell_marks.items ≡ held_marks graph.now work.old.touched.items }
 {
     copy_words(&work.held, &mut work.past_held);
     store_words(graph, &work.own, &mut work.held);
-    mark_cells(graph, &work.touched, &mut work.dirty);
+    mark_cells(graph, &work.touched, &mut work.cell_marks);
     swap(&mut work.own, &mut work.past);
 }
 
@@ -162,12 +183,14 @@ fn rerun<U: Unit>(
     group: &Group,
     unit: &mut U,
     work: &mut Work,
+    faults: &mut Vec<Fault>,
 ) -> Verdict
     requires room { Room reference.now.graph work.old }
+    requires faults { length group.now ≤ vec_capacity faults.old }
     requires held { work.old.held.items ≡ initial_words reference.now.graph reference.now.table.seed }
     requires past { work.old.past.items ≡ [] }
     requires past_held { work.old.past_held.items ≡ [] }
-    requires dirty { work.old.dirty.items ≡ [] }
+    requires cell_marks { work.old.cell_marks.items ≡ [] }
     ensures { RanThrough reference.now group.now result
         (U.seen unit.old).log (U.seen unit.new).log (U.seen unit.old).wrong (U.seen unit.new).wrong }
 {
@@ -176,12 +199,12 @@ fn rerun<U: Unit>(
     let count = reference.cycles();
     let mut n = 0;
     'cycles: while n < count {
-        let next = next_touched(reference, group, n, &work.dirty);
-        if rests(reference, next) {
+        let next = next_touched(reference, group, n, &work.cell_marks);
+        if ends_same(reference, next) {
             return Verdict::Same;
         }
         let here = advance(reference, n, next.min(count - 1), work);
-        if let Some(verdict) = rerun_one(reference, group, here, unit, work) {
+        if let Some(verdict) = rerun_one(reference, group, here, unit, work, faults) {
             return verdict;
         }
         n = here + 1;
@@ -232,6 +255,34 @@ impl<'a> Reference<'a> {
         entries_keep_their_rules();
         let _cycles = self.cycles();
         let mut work = Work::new(alloc, self)?;
-        Ok(rerun(self, group, unit, &mut work))
+        let mut faults = Vec::with_capacity(alloc, group.len())?;
+        Ok(rerun(self, group, unit, &mut work, &mut faults))
     }
+}
+
+/// How a group of faults changes a run over these rows: the run without faults is carried through the unit once and kept, and then the unit
+/// is asked again as `Reference::verdict` asks it. Who judges several groups makes one `Reference` for them. `Memory` where there is no room;
+/// the run without faults may have been carried by then.
+pub fn verdict<U: Unit>(
+    alloc: Global,
+    graph: &Graph,
+    table: &Table,
+    rows: &RowList,
+    group: &Group,
+    unit: &mut U,
+) -> Result<Verdict, Memory>
+    requires table { IsTableOf table.now graph.now }
+    requires width { All (λ row. length row ≡ length graph.now.inputs) rows.now }
+    requires few { length rows.now ≤ most_cycles }
+    ensures verdict { GroupFits graph.now group.now → StaysHonest (U.seen unit.old) (U.seen unit.new) →
+        IfOk result (λ v. v ≡ verdict_of table.now graph.now group.now rows.now) }
+    ensures judged { IfOk result (λ v. JudgedAlone table.now graph.now rows.now group.now v (U.seen unit.old) (U.seen unit.new)) }
+    ensures names { IfOk result (Names (length graph.now.outputs) (length graph.now.operations)) }
+    ensures cycle { IfOk result (InCycles (length rows.now)) }
+    ensures never_falls { (U.seen unit.old).wrong ≤ (U.seen unit.new).wrong }
+{
+    // The calls are put together from those of the run without faults and of the rerun.
+    groups_are_rerun_one_after_another();
+    let reference = Reference::new(alloc, graph, table, rows, unit)?;
+    reference.verdict(alloc, group, unit)
 }

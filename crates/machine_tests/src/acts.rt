@@ -1,10 +1,10 @@
 //! A scripted unit over the calls of `y := x + 1;` with the seed 0, on 5 and 7: INPUT, CONST, ADD, OUT.
 
-ghost use Rattle.std.specs.Prelude.{◌≡◌, ◌<◌, ◌≤◌, ◌∷◌, [], IfOk};
+ghost use Rattle.std.specs.Prelude.{◌≡◌, ◌<◌, ◌≤◌, ◌∷◌, [], Some, IfOk};
 ghost use Rattle.coded_unit.specs.Asked.{Asked};
 
 use coded_unit::{Answer, Call, LogUnit, Unit, Word};
-use fault_runs::{Scripted, acts_keep_the_step_law, carried_of};
+use fault_runs::{KeptWords, Scripted, acts_keep_the_step_law, carried_of};
 use fault_script::{Act, Fault, Group, read_script};
 use op_graph::Graph;
 use std::alloc::Global;
@@ -152,5 +152,40 @@ fn without_its_word_a_skip_passes_the_call_on(rt: HostRuntime) -> Result<(), Fai
     same(
         &format!(in rt.alloc(); "{word}, {wrong} wrong, {calls} calls")?,
         "17609365908, 0 wrong, 4 calls",
+    )
+}
+
+/// One word that is kept.
+fn kept_word(alloc: Global, word: Word) -> Result<KeptWords, Memory>
+    ensures { IfOk result (λ kept. kept ≡ Some word ∷ []) }
+{
+    let mut kept = KeptWords::new(alloc);
+    kept.push(Some(word))?;
+    Ok(kept)
+}
+
+#[test]
+fn a_skip_has_the_word_that_was_kept_before(rt: HostRuntime) -> Result<(), Fail> {
+    let alloc = rt.alloc();
+    let fault = Fault {
+        line: 1,
+        cycle: 1,
+        op: 2,
+        act: Act::Skip,
+    };
+    // 6 with the residue that is right in the cycle before.
+    let Some(word) = Word::new(13314398613) else {
+        return Err("no word".into());
+    };
+    let group = alone(alloc, fault)?;
+    let kept = kept_word(alloc, word)?;
+    let mut unit = LogUnit::new(alloc, 8)?;
+    let mut scripted = Scripted::with_kept(alloc, &mut unit, &group, &kept)?;
+    let given = word_of(&cycle_on(&mut scripted, 1, 7)).get();
+    let wrong = scripted.wrong();
+    let calls = calls(scripted.into_inner());
+    same(
+        &format!(in alloc; "{given}, {wrong} wrong, {calls} calls")?,
+        "13314398613, 1 wrong, 3 calls",
     )
 }

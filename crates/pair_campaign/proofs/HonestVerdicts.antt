@@ -2,7 +2,8 @@
 use Rattle.std.proofs.Common.{◌≡◌, ◌≢◌, ℕ, suc, ◌+◌, ◌≤◌, ◌==◌, ◌&&◌, Bool, true, false, cond, List, [], ◌∷◌, length, map, Option, Some, None, option_map}
 use Rattle.std.proofs.Common.{All, ℤ, refl, sym, ap, subst, ◌∙◌, arith}
 use Rattle.vcp_base.specs.declared.kind.StopKind.{StopKind}
-use Rattle.vcp_base.specs.Kinds.{same, same_stop}
+use Rattle.vcp_base.specs.Differences.{Difference, first_difference}
+use Rattle.vcp_base.specs.Kinds.{same_stop}
 use Rattle.vcp_base.specs.Limits.{most_cycles}
 use Rattle.vcp_base.specs.Values.{at}
 use Rattle.coded_unit.specs.declared.call.Answer.{Answer}
@@ -23,11 +24,11 @@ use Rattle.fault_runs.specs.FaultRun.{begun, cycle_under, cycles_from, operation
 use Rattle.fault_runs.specs.RunLaw.{CycleKept, RunKept}
 use Rattle.fault_injector.specs.declared.verdict.Verdict.{Verdict}
 use Rattle.fault_injector.specs.declared.verdict.Verdict.TheVariants as verdict
-use Rattle.fault_injector.specs.Verdicts.{WrongAt, first_wrong, judged, judged_cycle, verdict_or, compared, plain_cycles}
+use Rattle.fault_injector.specs.Verdicts.{judged, judged_cycle, verdict_or, compared, plain_cycles}
 use Rattle.pair_channel.specs.declared.pair_end.PairEnd.{PairEnd}
 use Rattle.pair_channel.specs.declared.pair_end.PairEnd.TheVariants as pair
 use Rattle.pair_channel.specs.Beside.{AllBeside, beside, beside_end}
-use Rattle.pair_channel.specs.PairEnds.{Difference, both, differing, released_unless}
+use Rattle.pair_channel.specs.PairEnds.{both, released_unless}
 use Rattle.pair_channel.specs.PairRuns.{PairOutcome, pair_then, unless_over}
 use Rattle.pair_campaign.specs.PairVerdicts.{told_verdict, verdict_at}
 
@@ -37,28 +38,6 @@ pub record Known (t : Numbers) (g : Lists) (faults : List Fault) : Type 0 where
   pub table : IsTable t
   pub profile : t.profile ≡ g.profile
   pub fits : All (Fits g) faults
-
--- ---- values
-
--- a difference of rows stands beside a wrong value
-abbrev Together : Option Difference → Option WrongAt → Type 0
-Together None None = Unit {0}
-Together (Some d) (Some w) = Unit {0}
-Together None (Some w) = ⊥
-Together (Some d) None = ⊥
-
-one_place : (b : Bool) (x : Option Difference) (y : Option WrongAt) (d : Difference) (w : WrongAt) → Together x y → Together (cond b x (Some d)) (cond b y (Some w))
-one_place true x y d w h = h
-one_place false x y d w h = tt
-
-found_together : (got want : List ℤ) (number : ℕ) (outs : List Outlet) →
-    Together (differing (map (λ (o : Outlet). at got o.op) outs) (map (λ (o : Outlet). at want o.op) outs) number) (first_wrong got want number outs)
-found_together got want number [] = tt
-found_together got want number (o ∷ outs) =
-    one_place (same (at got o.op) (at want o.op))
-    (differing (map (λ (o : Outlet). at got o.op) outs) (map (λ (o : Outlet). at want o.op) outs) (suc number)) (first_wrong got want (suc number) outs)
-    (record { output = number; first = at got o.op; second = at want o.op }) (record { output = number; got = at got o.op; want = at want o.op })
-    (found_together got want (suc number) outs)
 
 -- ---- one cycle
 
@@ -74,25 +53,25 @@ stop_tells n k why x y false false is = (λ e. cc, refl)
 stop_tells n k why x y true false is = absurd cc
 stop_tells n k why x y false true is = absurd cc
 
-release_tells : (n : ℕ) (x : Option Difference) (w : Option WrongAt) → Together x w → Tells n (released_unless x) (judged n None None None w)
-release_tells n None None h = refl
-release_tells n (Some d) (Some w) h = (λ e. cc, refl)
-release_tells n None (Some w) h = absurd h
-release_tells n (Some d) None h = absurd h
+release_tells : (n : ℕ) (x : Option Difference) → Tells n (released_unless x) (judged n None None None x)
+release_tells n None = refl
+release_tells n (Some d) = (λ e. cc, refl)
 
 -- the stop that a cycle of so many values has
 abbrev stop_there : ℕ → Option StopKind → Option Stop
 stop_there k x = option_map (λ why. record { op = k; kind = why }) x
 
-ends_tell : (n : ℕ) (s : Option Stop) (r : Option RefusedAt) (k : ℕ) (x : Option StopKind) (row other : List ℤ) (w : Option WrongAt) →
-    (s ≡ None → Together (differing row other 0) w) → Tells n (both (ending s r) (end_at k x) row other) (judged n s r (stop_there k x) w)
+ends_tell : (n : ℕ) (s : Option Stop) (r : Option RefusedAt) (k : ℕ) (x : Option StopKind) (row other : List ℤ) (w : Option Difference) →
+    (s ≡ None → first_difference row other 0 ≡ w) → Tells n (both (ending s r) (end_at k x) row other) (judged n s r (stop_there k x) w)
 ends_tell n (Some s) r k None row other w h = (λ e. cc, refl)
 ends_tell n (Some s) r k (Some why) row other w h =
     stop_tells n s.op s.kind _ _ (s.op == k && same_stop s.kind why) (s.op == k && same_stop s.kind why) refl
 ends_tell n None (Some r) k None row other w h = (λ e. cc, refl)
 ends_tell n None (Some r) k (Some why) row other w h = (λ e. cc, refl)
 ends_tell n None None k (Some why) row other w h = (λ e. cc, refl)
-ends_tell n None None k None row other w h = release_tells n (differing row other 0) w (h refl)
+ends_tell n None None k None row other w h =
+    subst (λ (x : Option Difference). Tells n (released_unless (first_difference row other 0)) (judged n None None None x)) (h refl)
+    (release_tells n (first_difference row other 0))
 
 -- so of a cycle whose answers keep the run law, beside the graph's
 cycle_tells : EndsAreRead → OutputsAreRead → (t : Numbers) (g : Lists) (faults : List Fault) → Known t g faults → (n : ℕ) (past : Frame)
@@ -105,18 +84,18 @@ cycle_tells ends_read outputs_read t g faults k n past values held row answers o
     let c : Cycle = cycle_under b in
     let s = stop_under g c in
     let r = first_unaccepted t g acts n 0 g.outputs in
-    let w = first_wrong c.values o.values 0 g.outputs in
     let other = outputs g o.values in
+    let w = first_difference (outputs g c.values) other 0 in
     let end_is = ends_read t g acts n past values row answers k.graph k.table k.profile (omega (arith, few)) kept.answers_are in
     let row_is = outputs_read t g acts n past values row answers k.graph k.table k.profile (omega (arith, few)) kept.answers_are in
-    let found : s ≡ None → Together (differing (outputs_of g answers) other 0) w =
-    λ none. subst (λ (xs : List ℤ). Together (differing xs other 0) w) (sym (row_is none)) (found_together c.values o.values 0 g.outputs) in
+    let found : s ≡ None → first_difference (outputs_of g answers) other 0 ≡ w =
+    λ none. ap (λ (xs : List ℤ). first_difference xs other 0) (row_is none) in
     subst (λ (x : CycleEnd). Tells n (both x (end_for o) (outputs_of g answers) other) (judged n s r (operation_stop o) w)) (sym end_is)
     (ends_tell n s r (length o.values) o.stop (outputs_of g answers) other w found)
 
 -- ---- whole runs
 
-none_judged : (n : ℕ) (s : Option Stop) (r : Option RefusedAt) (o : Option Stop) (w : Option WrongAt) → judged n s r o w ≡ None → (s ≡ None) × (o ≡ None)
+none_judged : (n : ℕ) (s : Option Stop) (r : Option RefusedAt) (o : Option Stop) (w : Option Difference) → judged n s r o w ≡ None → (s ≡ None) × (o ≡ None)
 none_judged n (Some s) r o w h = absurd cc
 none_judged n None (Some r) o w h = absurd cc
 none_judged n None None (Some o) w h = absurd cc
@@ -174,7 +153,7 @@ read_is_told ends_read outputs_read t g faults k n past values plain held (row �
     next_tells n e j (outputs_of g answers) later (after (unless_stopped s under) (unless_stopped (operation_stop o) beside_it))
     (cycle_tells ends_read outputs_read t g faults k n past values held row answers o (omega (arith, few)) kept.0)
     (λ released none.
-    let nones = none_judged n s (first_unaccepted t g acts n 0 g.outputs) (operation_stop o) (first_wrong c.values o.values 0 g.outputs) none in
+    let nones = none_judged n s (first_unaccepted t g acts n 0 g.outputs) (operation_stop o) (first_difference (outputs g c.values) (outputs g o.values) 0) none in
     let going : c.stop ≡ None = no_kind (length c.values) c.stop (no_stop_first (operation_stop c) (outside c.values g.outputs) nones.0) in
     let rest = subst (λ (x : PairEnd). unless_over x (AllBeside g t (suc n) (stored g o.values) rows cycles) (cycles ≡ [])) released all.1 in
     read_is_told ends_read outputs_read t g faults k (suc n) (record { held = values; given = c.values }) (stored g c.values) (stored g o.values)

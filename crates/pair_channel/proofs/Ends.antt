@@ -2,6 +2,7 @@
 use Rattle.std.proofs.Common.{◌≡◌, ◌≢◌, ℕ, ◌==◌, ◌&&◌, Bool, true, false, cond, List, length, Option, Some, None, ℤ}
 use Rattle.std.proofs.Common.{refl, sym, ap, subst, ◌∙◌, arith, eqb-true}
 use Rattle.std.proofs.lemmas.Bool.{eq-eqb, false≢true}
+use Rattle.vcp_base.specs.Differences.{Difference, first_difference}
 use Rattle.vcp_base.specs.Kinds.{same_stop}
 use Rattle.vcp_base.specs.declared.kind.StopKind.{StopKind}
 use Rattle.vcp_base.specs.declared.kind.StopKind.TheVariants as stop
@@ -10,8 +11,8 @@ use Rattle.coded_machine.specs.declared.cycle_end.CycleEnd.TheVariants as end
 use Rattle.op_graph.specs.GraphRun.{Stop}
 use Rattle.pair_channel.specs.declared.pair_end.PairEnd.{PairEnd}
 use Rattle.pair_channel.specs.declared.pair_end.PairEnd.TheVariants as pair
-use Rattle.pair_channel.specs.PairEnds.{both, differing, Difference, FirstDifference, released_unless, PairCause}
-use Rattle.pair_channel.proofs.Rows.{differing_self, differing_none, differing_some, Placed}
+use Rattle.pair_channel.specs.PairEnds.{both, FirstDifference, released_unless, PairCause}
+use Rattle.pair_channel.proofs.Rows.{same_row, none_differs, some_differs, Placed}
 
 pub kind_self : (a : StopKind) → same_stop a a ≡ true
 kind_self stop.Range = refl
@@ -79,7 +80,7 @@ both_stop k why row other =
 pub both_released : (e f : CycleEnd) (row other : List ℤ) → e ≡ end.Released → f ≡ end.Released → row ≡ other → both e f row other ≡ pair.Released
 both_released e f row other is that same =
     ap (λ x. both x f row other) is ∙ (ap (λ x. both end.Released x row other) that
-    ∙ (ap (λ r. released_unless (differing r other 0)) same ∙ ap released_unless (differing_self other 0)))
+    ∙ (ap (λ r. released_unless (first_difference r other 0)) same ∙ ap released_unless (same_row other 0)))
 
 pub both_apart : (e f : CycleEnd) (row other : List ℤ) → e ≢ f → both e f row other ≡ pair.Parted e f
 both_apart end.Released end.Released row other h = absurd (h refl)
@@ -96,7 +97,7 @@ both_apart (end.Refused j got want) (end.Refused i found wanted) row other h = r
 
 -- the second channel's row counts only where it released
 pub both_second_row : (e f : CycleEnd) (row other more : List ℤ) → (f ≡ end.Released → other ≡ more) → both e f row other ≡ both e f row more
-both_second_row end.Released end.Released row other more h = ap (λ r. released_unless (differing row r 0)) (h refl)
+both_second_row end.Released end.Released row other more h = ap (λ r. released_unless (first_difference row r 0)) (h refl)
 both_second_row end.Released (end.Stopped l cause) row other more h = refl
 both_second_row end.Released (end.Refused i found wanted) row other more h = refl
 both_second_row (end.Stopped k why) end.Released row other more h = refl
@@ -108,7 +109,7 @@ both_second_row (end.Refused j got want) (end.Refused i found wanted) row other 
 
 -- and so does the first one's
 pub both_first_row : (e f : CycleEnd) (row other more : List ℤ) → (e ≡ end.Released → row ≡ more) → both e f row other ≡ both e f more other
-both_first_row end.Released end.Released row other more h = ap (λ r. released_unless (differing r other 0)) (h refl)
+both_first_row end.Released end.Released row other more h = ap (λ r. released_unless (first_difference r other 0)) (h refl)
 both_first_row end.Released (end.Stopped l cause) row other more h = refl
 both_first_row end.Released (end.Refused i found wanted) row other more h = refl
 both_first_row (end.Stopped k why) end.Released row other more h = refl
@@ -120,12 +121,12 @@ both_first_row (end.Refused j got want) (end.Refused i found wanted) row other m
 
 -- ---- causes
 
-released_cause : (row other : List ℤ) (o : Option Difference) → length row ≡ length other → differing row other 0 ≡ o →
+released_cause : (row other : List ℤ) (o : Option Difference) → length row ≡ length other → first_difference row other 0 ≡ o →
     PairCause end.Released end.Released row other (released_unless o)
-released_cause row other None e is = (refl, refl, differing_none row other 0 e is)
+released_cause row other None e is = (refl, refl, none_differs row other 0 e is)
 released_cause row other (Some d) e is =
-    let p : Placed row other 0 d = differing_some row other 0 d is in
-    let at : p.i ≡ d.output = omega (arith, p.number) in
+    let p : Placed row other 0 d = some_differs row other 0 d is in
+    let at : p.i ≡ d.place = omega (arith, p.number) in
     (refl, refl, subst (λ i. FirstDifference row other i d.first d.second) at p.first)
 
 stopped_cause : (k l : ℕ) (why cause : StopKind) (row other : List ℤ) (b : Bool) → (k == l && same_stop why cause) ≡ b →
@@ -135,7 +136,7 @@ stopped_cause k l why cause row other true is = (refl, stops_equal k l why cause
 stopped_cause k l why cause row other false is = (refl, refl, λ h. false≢true (sym is ∙ equal_stops k l why cause h))
 
 pub both_cause : (e f : CycleEnd) (row other : List ℤ) → length row ≡ length other → PairCause e f row other (both e f row other)
-both_cause end.Released end.Released row other w = released_cause row other (differing row other 0) w refl
+both_cause end.Released end.Released row other w = released_cause row other (first_difference row other 0) w refl
 both_cause end.Released (end.Stopped l cause) row other w = (refl, refl, λ h. absurd cc)
 both_cause end.Released (end.Refused i found wanted) row other w = (refl, refl, λ h. absurd cc)
 both_cause (end.Stopped k why) end.Released row other w = (refl, refl, λ h. absurd cc)

@@ -6,7 +6,8 @@ use Rattle.std.proofs.lemmas.Bool.Decides.{nat_tests}
 use Rattle.std.proofs.lemmas.Int.{ints}
 use Rattle.std.proofs.lemmas.Option.{get_or_from_slice_get, slice_get_within}
 use Rattle.vcp_base.specs.Kinds.{same}
-use Rattle.pair_channel.specs.PairEnds.{Difference, differing, FirstDifference}
+use Rattle.vcp_base.specs.Differences.{Difference, first_difference}
+use Rattle.pair_channel.specs.PairEnds.{FirstDifference}
 
 pub same_self : (x : ℤ) → same x x ≡ true
 same_self (pos n) = grind (arith, nat_tests)
@@ -33,22 +34,22 @@ drop_at xs k x there =
     rw add-one (drop-cons xs k x within ∙ ap (λ y. y ∷ drop (suc k) xs) (get_or_from_slice_get xs k x x there))
 
 pub row_passed : (xs ys : List ℤ) (k : ℕ) (x y : ℤ) → slice_get xs k ≡ Some x → slice_get ys k ≡ Some y → x ≡ y →
-    differing (drop k xs) (drop k ys) k ≡ differing (drop (k + 1) xs) (drop (k + 1) ys) (k + 1)
+    first_difference (drop k xs) (drop k ys) k ≡ first_difference (drop (k + 1) xs) (drop (k + 1) ys) (k + 1)
 row_passed xs ys k x y there here e =
-    let told : Difference = record { output = k; first = x; second = y } in
+    let told : Difference = record { place = k; first = x; second = y } in
     let whole : same x y ≡ true = ap (same x) (sym e) ∙ same_self x in
-    ap (λ us. differing us (drop k ys) k) (drop_at xs k x there)
-    ∙ (ap (λ us. differing (x ∷ drop (k + 1) xs) us k) (drop_at ys k y here)
-    ∙ (ap (λ b. cond b (differing (drop (k + 1) xs) (drop (k + 1) ys) (suc k)) (Some told)) whole
-    ∙ ap (λ j. differing (drop (k + 1) xs) (drop (k + 1) ys) j) (sym (add-one k))))
+    ap (λ us. first_difference us (drop k ys) k) (drop_at xs k x there)
+    ∙ (ap (λ us. first_difference (x ∷ drop (k + 1) xs) us k) (drop_at ys k y here)
+    ∙ (ap (λ b. cond b (first_difference (drop (k + 1) xs) (drop (k + 1) ys) (suc k)) (Some told)) whole
+    ∙ ap (λ j. first_difference (drop (k + 1) xs) (drop (k + 1) ys) j) (sym (add-one k))))
 
 pub row_here : (xs ys : List ℤ) (k : ℕ) (x y : ℤ) → slice_get xs k ≡ Some x → slice_get ys k ≡ Some y → x ≢ y →
-    differing (drop k xs) (drop k ys) k ≡ Some (record { output = k; first = x; second = y })
+    first_difference (drop k xs) (drop k ys) k ≡ Some (record { place = k; first = x; second = y })
 row_here xs ys k x y there here ne =
-    let told : Difference = record { output = k; first = x; second = y } in
-    ap (λ us. differing us (drop k ys) k) (drop_at xs k x there)
-    ∙ (ap (λ us. differing (x ∷ drop (k + 1) xs) us k) (drop_at ys k y here)
-    ∙ ap (λ b. cond b (differing (drop (k + 1) xs) (drop (k + 1) ys) (suc k)) (Some told)) (same_other x y ne))
+    let told : Difference = record { place = k; first = x; second = y } in
+    ap (λ us. first_difference us (drop k ys) k) (drop_at xs k x there)
+    ∙ (ap (λ us. first_difference (x ∷ drop (k + 1) xs) us k) (drop_at ys k y here)
+    ∙ ap (λ b. cond b (first_difference (drop (k + 1) xs) (drop (k + 1) ys) (suc k)) (Some told)) (same_other x y ne))
 
 drop_all : {X : Type 0} (xs : List X) (k : ℕ) → length xs ≤ k → drop k xs ≡ []
 drop_all [] zero h = refl
@@ -56,16 +57,16 @@ drop_all [] (suc k) h = refl
 drop_all (x ∷ xs) zero h = absurd (omega (arith, h))
 drop_all (x ∷ xs) (suc k) h = drop_all xs k (omega (arith, h))
 
-pub row_ended : (xs ys : List ℤ) (k : ℕ) → length xs ≤ k → differing (drop k xs) (drop k ys) k ≡ None
-row_ended xs ys k h = ap (λ us. differing us (drop k ys) k) (drop_all xs k h)
+pub row_ended : (xs ys : List ℤ) (k : ℕ) → length xs ≤ k → first_difference (drop k xs) (drop k ys) k ≡ None
+row_ended xs ys k h = ap (λ us. first_difference us (drop k ys) k) (drop_all xs k h)
 
 -- ---- of whole rows
 
-pub differing_self : (row : List ℤ) (k : ℕ) → differing row row k ≡ None
-differing_self [] k = refl
-differing_self (x ∷ row) k =
-    let told : Difference = record { output = k; first = x; second = x } in
-    ap (λ b. cond b (differing row row (suc k)) (Some told)) (same_self x) ∙ differing_self row (suc k)
+pub same_row : (row : List ℤ) (k : ℕ) → first_difference row row k ≡ None
+same_row [] k = refl
+same_row (x ∷ row) k =
+    let told : Difference = record { place = k; first = x; second = x } in
+    ap (λ b. cond b (first_difference row row (suc k)) (Some told)) (same_self x) ∙ same_row row (suc k)
 
 none_here : (b : Bool) (later : Option Difference) (d : Difference) → cond b later (Some d) ≡ None → (b ≡ true) × (later ≡ None)
 none_here true later d h = (refl, h)
@@ -76,14 +77,14 @@ some_here : (b : Bool) (later : Option Difference) (d e : Difference) → cond b
 some_here true later d e h = inl (refl, h)
 some_here false later d e h = inr (refl, h)
 
-pub differing_none : (row other : List ℤ) (k : ℕ) → length row ≡ length other → differing row other k ≡ None → row ≡ other
-differing_none [] [] k e h = refl
-differing_none [] (y ∷ other) k e h = absurd (omega (arith, e))
-differing_none (x ∷ row) [] k e h = absurd (omega (arith, e))
-differing_none (x ∷ row) (y ∷ other) k e h =
-    let told : Difference = record { output = k; first = x; second = y } in
-    let p = none_here (same x y) (differing row other (suc k)) told h in
-    ap (λ z. z ∷ row) (same_equal x y p.0) ∙ ap (λ r. y ∷ r) (differing_none row other (suc k) (omega (arith, e)) p.1)
+pub none_differs : (row other : List ℤ) (k : ℕ) → length row ≡ length other → first_difference row other k ≡ None → row ≡ other
+none_differs [] [] k e h = refl
+none_differs [] (y ∷ other) k e h = absurd (omega (arith, e))
+none_differs (x ∷ row) [] k e h = absurd (omega (arith, e))
+none_differs (x ∷ row) (y ∷ other) k e h =
+    let told : Difference = record { place = k; first = x; second = y } in
+    let p = none_here (same x y) (first_difference row other (suc k)) told h in
+    ap (λ z. z ∷ row) (same_equal x y p.0) ∙ ap (λ r. y ∷ r) (none_differs row other (suc k) (omega (arith, e)) p.1)
 
 -- the difference that is told, or another one
 abbrev pub or_else : Option Difference → Difference → Difference
@@ -93,7 +94,7 @@ or_else None other = other
 -- a difference that is told is the first one of the rows, and its number is counted from `k`
 pub record Placed (row other : List ℤ) (k : ℕ) (d : Difference) : Type 0 where
   pub i : ℕ
-  pub number : d.output ≡ k + i
+  pub number : d.place ≡ k + i
   pub first : FirstDifference row other i d.first d.second
 
 placed_later : (row other : List ℤ) (k : ℕ) (x y : ℤ) (d : Difference) → x ≡ y → Placed row other (suc k) d → Placed (x ∷ row) (y ∷ other) k d
@@ -108,14 +109,14 @@ placed_later row other k x y d e p = record {
   };
 }
 
-placed_here : (row other : List ℤ) (k : ℕ) (x y : ℤ) (d : Difference) → same x y ≡ false → Some (record { output = k; first = x; second = y }) ≡ Some d →
+placed_here : (row other : List ℤ) (k : ℕ) (x y : ℤ) (d : Difference) → same x y ≡ false → Some (record { place = k; first = x; second = y }) ≡ Some d →
     Placed (x ∷ row) (y ∷ other) k d
 placed_here row other k x y d apart is =
-    let told : Difference = record { output = k; first = x; second = y } in
+    let told : Difference = record { place = k; first = x; second = y } in
     let same_d : told ≡ d = ap (λ o. or_else o told) is in
     record {
       i = zero;
-      number = ap (λ (z : Difference). z.output) (sym same_d) ∙ omega arith;
+      number = ap (λ (z : Difference). z.place) (sym same_d) ∙ omega arith;
       first = record {
         before = refl;
         here = ap (λ (z : Difference). Some z.first) same_d;
@@ -126,12 +127,12 @@ placed_here row other k x y d apart is =
       };
     }
 
-pub differing_some : (row other : List ℤ) (k : ℕ) (d : Difference) → differing row other k ≡ Some d → Placed row other k d
-differing_some [] other k d h = absurd cc
-differing_some (x ∷ row) [] k d h = absurd cc
-differing_some (x ∷ row) (y ∷ other) k d h =
-    let told : Difference = record { output = k; first = x; second = y } in
-    elim (some_here (same x y) (differing row other (suc k)) told d h) [
-      | inl p ↦ placed_later row other k x y d (same_equal x y p.0) (differing_some row other (suc k) d p.1)
+pub some_differs : (row other : List ℤ) (k : ℕ) (d : Difference) → first_difference row other k ≡ Some d → Placed row other k d
+some_differs [] other k d h = absurd cc
+some_differs (x ∷ row) [] k d h = absurd cc
+some_differs (x ∷ row) (y ∷ other) k d h =
+    let told : Difference = record { place = k; first = x; second = y } in
+    elim (some_here (same x y) (first_difference row other (suc k)) told d h) [
+      | inl p ↦ placed_later row other k x y d (same_equal x y p.0) (some_differs row other (suc k) d p.1)
       | inr p ↦ placed_here row other k x y d p.0 p.1
     ]

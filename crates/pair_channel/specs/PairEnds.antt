@@ -1,32 +1,21 @@
 -- PairEnds: how a cycle of two channels ends, read off the end and the row of outputs of each.
-use Rattle.std.specs.Prelude.{◌≡◌, ◌≢◌, ℕ, suc, ◌==◌, ◌&&◌, Bool, true, false, cond, List, [], ◌∷◌, take, slice_get, Option, Some, None, ℤ}
-use Rattle.vcp_base.specs.Kinds.{same, same_stop}
+use Rattle.std.specs.Prelude.{◌≡◌, ◌≢◌, ℕ, ◌==◌, ◌&&◌, cond, List, take, slice_get, Option, Some, None, ℤ}
+use Rattle.vcp_base.specs.Differences.{Difference, first_difference}
+use Rattle.vcp_base.specs.Kinds.{same_stop}
 use Rattle.coded_machine.specs.declared.cycle_end.CycleEnd.{CycleEnd}
 use Rattle.coded_machine.specs.declared.cycle_end.CycleEnd.TheVariants as end
 use Rattle.pair_channel.specs.declared.pair_end.PairEnd.{PairEnd}
 use Rattle.pair_channel.specs.declared.pair_end.PairEnd.TheVariants as pair
 
--- an output that has different values: its number, counted from 0, and its value in each channel
-pub record Difference : Type 0 where
-  pub output : ℕ
-  pub first : ℤ
-  pub second : ℤ
-
--- the first place, counted from `number`, where two rows have different values
-abbrev pub differing : List ℤ → List ℤ → ℕ → Option Difference
-differing [] others number = None
-differing (a ∷ row) [] number = None
-differing (a ∷ row) (b ∷ others) number = cond (same a b) (differing row others (suc number)) (Some (record { output = number; first = a; second = b }))
-
 -- the end of a cycle that both channels released: the first output whose values differ, if there is one
 abbrev pub released_unless : Option Difference → PairEnd
 released_unless None = pair.Released
-released_unless (Some d) = pair.Differ d.output d.first d.second
+released_unless (Some d) = pair.Differ d.place d.first d.second
 
 -- How a cycle ends that the two channels ended so, with these rows of outputs. It is released where both released it and no output
 -- differs; it is stopped where both stopped at one operation for one cause; in all other cases, two refusals among them, the channels parted.
 abbrev pub both : CycleEnd → CycleEnd → List ℤ → List ℤ → PairEnd
-both end.Released end.Released row other = released_unless (differing row other 0)
+both end.Released end.Released row other = released_unless (first_difference row other 0)
 both (end.Stopped k why) (end.Stopped l cause) row other =
     cond (k == l && same_stop why cause) (pair.Stopped k why) (pair.Parted (end.Stopped k why) (end.Stopped l cause))
 both e f row other = pair.Parted e f

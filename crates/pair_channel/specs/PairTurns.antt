@@ -1,5 +1,5 @@
 -- PairTurns: one cycle of a pair.
-use Rattle.std.specs.Prelude.{◌≡◌, ◌-◌, ◌^◌, ◌<◌, List, None, ℤ}
+use Rattle.std.specs.Prelude.{◌≡◌, List, None, ℤ}
 use Rattle.coded_unit.specs.Seen.{UnitSeen}
 use Rattle.coded_machine.specs.declared.cycle_end.CycleEnd.{CycleEnd}
 use Rattle.coded_machine.specs.CycleEnds.{Cause, end_of, outputs_of}

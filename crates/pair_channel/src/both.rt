@@ -1,8 +1,9 @@
 //! How a pair's cycle ends, by the ends and the rows of its two channels.
 
 ghost use Rattle.std.specs.Prelude.{◌≡◌, ◌<◌, ◌^◌, length};
-ghost use Rattle.pair_channel.specs.PairEnds.{both as both_of, differing, released_unless};
+ghost use Rattle.pair_channel.specs.PairEnds.{both as both_of, released_unless};
 ghost use Rattle.pair_channel.specs.PairStates.{cycles_after, ended_after, pair_row_after};
+ghost use Rattle.vcp_base.specs.Differences.{first_difference};
 ghost use Rattle.vcp_base.specs.Limits.{most_cycles};
 
 use crate::pair_end::PairEnd;
@@ -33,7 +34,7 @@ fn alike(end: &CycleEnd, row: &Row, other: &Row) -> PairEnd
     ensures { result ≡ both_of end.now end.now row.now other.now }
 {
     match *end {
-        CycleEnd::Released => first_difference(row, other),
+        CycleEnd::Released => compare_rows(row, other),
         CycleEnd::Stopped { op, kind } => PairEnd::Stopped { op, kind },
         refused => PairEnd::Parted {
             first: refused,
@@ -43,10 +44,10 @@ fn alike(end: &CycleEnd, row: &Row, other: &Row) -> PairEnd
 }
 
 /// The end of a cycle that both channels released with these rows: the first output whose values differ, if there is one.
-fn first_difference(row: &Row, other: &Row) -> PairEnd
+fn compare_rows(row: &Row, other: &Row) -> PairEnd
     requires few { length row.now < 2 ^ 32 }
     requires width { length other.now ≡ length row.now }
-    ensures { result ≡ released_unless (differing row.now other.now 0) }
+    ensures { result ≡ released_unless (first_difference row.now other.now 0) }
 {
     let count = row.len() as u32;
     'outputs: for output in 0..count {

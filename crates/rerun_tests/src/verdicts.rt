@@ -5,7 +5,7 @@ ghost use Rattle.std.specs.Prelude.{◌≡◌, ◌≤◌, All, IfOk, length};
 ghost use Rattle.vcp_base.specs.Limits.{most_cycles};
 
 use coded_unit::{Answer, BadUnit, LogUnit, Word};
-use fault_reruns::Reference;
+use fault_reruns::{Reference, verdict};
 use fault_script::{Script, read_script};
 use input_rows::{RowList, Rows, collect_rows};
 use op_graph::Graph;
@@ -155,4 +155,23 @@ fn a_verdict_is_read_off_the_answers(rt: HostRuntime) -> Result<(), Fail> {
     let verdict = reference.verdict(alloc, script.at(0), &mut unit)?;
     holds(unit.wrong() == 1 && unit.entry(6).is_none(), "the unit")?;
     same(&format!(in alloc; "{verdict:?}")?, "Same")
+}
+
+#[test]
+fn a_group_is_judged_alone_behind_a_run_without_it(rt: HostRuntime) -> Result<(), Fail> {
+    let alloc = rt.alloc();
+    let graph = counter(alloc)?;
+    let table = Table::new(alloc, &graph, 0, 1)?;
+    let columns = graph.columns(alloc)?;
+    let rows = collect_rows(alloc, Rows::cycles(5, &columns)?)?;
+    fits(&rows, &graph)?;
+    let script = script_of(alloc, &graph, b"skip 2 4\n")?;
+    let mut unit = LogUnit::new(alloc, ROOM)?;
+    let verdict = verdict(alloc, &graph, &table, &rows, script.at(0), &mut unit)?;
+    let calls = calls(&unit);
+    // 25 calls of the run without the fault, and four behind it.
+    same(
+        &format!(in alloc; "{verdict:?}, {calls} calls")?,
+        "Refused { cycle: 3, output: 0, found: 644245098, expected: 644245099 }, 29 calls",
+    )
 }

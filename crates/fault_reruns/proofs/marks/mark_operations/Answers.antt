@@ -12,7 +12,7 @@ operations-preserved c =
     let i = c.operations.invariant in
     let k = c.operations.k in
     let other = answers_in c.args.other.now in
-    let acts = acts_of c.args.group.now c.args.cycle in
+    let acts = acts_of c.args.standing.now.group.now c.args.standing.now.cycle in
     let cells = c.args.cells.now in
     let ops = c.args.graph.now.operations in
     let rest = drop (k + 1) ops in
@@ -34,7 +34,7 @@ pub returns-clause-marks : goal.returns-clause-marks
 returns-clause-marks c =
     let i = c.operations.invariant in
     let other = answers_in c.args.other.now in
-    let acts = acts_of c.args.group.now c.args.cycle in
+    let acts = acts_of c.args.standing.now.group.now c.args.standing.now.cycle in
     sym (i.marks
     ∙ ap (λ (left : List Op). given_marks other acts c.args.cells.now c.operations.marks.items c.operations.k left)
     (drop_behind c.args.graph.now.operations c.operations.k (omega (arith, c.operations-test.false, i.all))))

@@ -7,7 +7,7 @@ use Rattle.fault_reruns.proofs.marks.mark_operations.Given as goal
 abbrev pub invariant-operations : goal.invariant-operations
 invariant-operations l =
     let other = answers_in l.other in
-    let acts = acts_of l.group l.cycle in
+    let acts = acts_of l.standing.group.now l.standing.cycle in
     record {
       marks : given_marks other acts l.cells [] 0 l.graph.operations ≡ given_marks other acts l.cells l.marks.items l.k (drop l.k l.graph.operations);
       marked : length l.marks.items ≡ l.k;

@@ -5,7 +5,7 @@ use Rattle.fault_reruns.specs.References.{KeptRun}
 use Rattle.fault_reruns.specs.declared.rerun.Work.{Work}
 use Rattle.fault_reruns.proofs.Crossed.{crossed, judged_there, started}
 use Rattle.fault_reruns.proofs.Lists.{there_is}
-use Rattle.fault_reruns.proofs.PassedOver.{Free, NoMark, comes_to, rests}
+use Rattle.fault_reruns.proofs.PassedOver.{Free, NoMark, comes_to, ends_same}
 use Rattle.fault_reruns.proofs.RerunRuns.{ends}
 use Rattle.fault_reruns.proofs.rerun.rerun.Goals as goal
 
@@ -16,14 +16,15 @@ cycles-init g c =
     record {
       between =
           started r c.args.group.now c.args.work.now seen.log seen.wrong (c.cycles_by_hand_are_whole.ensures.nothing_carried seen.log seen.wrong)
-          c.requires.past_held c.requires.past c.requires.held c.requires.dirty;
+          c.requires.past_held c.requires.past c.requires.held c.requires.cell_marks;
       room = c.requires.room;
+      faults = c.requires.faults;
       count = c.cycles-count.ensures.count;
       within = omega arith;
     }
 
-pub returns-then-rests : goal.returns-then-rests
-returns-then-rests g c =
+pub returns-then-ends_same : goal.returns-then-ends_same
+returns-then-ends_same g c =
     let r : KeptRun = c.args.reference.now in
     let n = c.cycles.n in
     let w : Work = c.cycles.work in
@@ -31,11 +32,11 @@ returns-then-rests g c =
     let first = g.U.Unit.seen c.args.unit.now in
     let now = g.U.Unit.seen c.cycles.unit in
     let told = c.next_touched-next.ensures in
-    let last = c.rests.ensures.none c.if-rests.true in
-    let cells : NoMark w.dirty.items =
+    let last = c.ends_same.ensures.none c.if-ends_same.true in
+    let cells : NoMark w.cell_marks.items =
     subst NoMark c.deref.ensures.value (told.cells (omega (arith, last, c.cycles-test.true, c.cycles-count.ensures.count))) in
-    rests r c.args.group.now n _ w.held.items w.dirty.items first.log now.log first.wrong now.wrong i.within c.cycles-count.ensures.sound.5
-    (c.rests.ensures.stands c.if-rests.true) cells (λ m k above below. told.none m k above (omega (arith, below, last))) i.between
+    ends_same r c.args.group.now n _ w.held.items w.cell_marks.items first.log now.log first.wrong now.wrong i.within c.cycles-count.ensures.sound.5
+    (c.ends_same.ensures.stands c.if-ends_same.true) cells (λ m k above below. told.none m k above (omega (arith, below, last))) i.between
 
 pub returns-in-Some : goal.returns-in-Some
 returns-in-Some g c =
@@ -104,6 +105,7 @@ cycles-preserved g c =
       between =
           crossed r faults here there.0 answered.0 v u first.log before.log after.log first.wrong before.wrong after.wrong there.1 answered.1 came.0 ran;
       room = c.rerun_one.ensures.room;
+      faults = omega (arith, i.faults, c.rerun_one.ensures.faults);
       count = i.count;
       within = omega (arith, came.2, free.there);
     }
@@ -115,5 +117,5 @@ returns g c =
     let w : Work = c.cycles.work in
     let first = g.U.Unit.seen c.args.unit.now in
     let now = g.U.Unit.seen c.cycles.unit in
-    ends r c.args.group.now c.cycles.n _ w.held.items w.dirty.items first.log now.log first.wrong now.wrong
+    ends r c.args.group.now c.cycles.n _ w.held.items w.cell_marks.items first.log now.log first.wrong now.wrong
     (omega (arith, c.cycles-test.false, c.cycles-count.ensures.count)) i.between

@@ -1,4 +1,4 @@
-use Rattle.std.proofs.Common.{◌≡◌, ◌-◌, ◌≤◌, length}
+use Rattle.std.proofs.Common.{◌≡◌, ◌-◌, ◌≤◌, length, vec_capacity}
 use Rattle.fault_reruns.specs.Crossing.{Room, past_of}
 use Rattle.fault_reruns.specs.References.{KeptRun}
 use Rattle.fault_reruns.specs.declared.rerun.Work.{Work}
@@ -11,9 +11,10 @@ invariant-cycles g l =
     let r : KeptRun = l.reference in
     let w : Work = l.work in
     record {
-      between : Between r l.group l.n (past_of w) w.held.items w.dirty.items
+      between : Between r l.group l.n (past_of w) w.held.items w.cell_marks.items
           (unit.seen l.fn.unit).log (unit.seen l.unit).log (unit.seen l.fn.unit).wrong (unit.seen l.unit).wrong;
       room : Room r.graph w;
+      faults : length l.group ≤ vec_capacity l.faults;
       count : l.count ≡ length r.answers;
       within : l.n ≤ length r.answers;
     }

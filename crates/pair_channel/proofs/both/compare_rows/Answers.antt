@@ -3,7 +3,7 @@ use Rattle.std.proofs.lemmas.Int.{to_z-of_z}
 use Rattle.pair_channel.specs.declared.pair_end.PairEnd.TheVariants as pair
 use Rattle.pair_channel.specs.PairEnds.{released_unless}
 use Rattle.pair_channel.proofs.Rows.{row_passed, row_here, row_ended}
-use Rattle.pair_channel.proofs.both.first_difference.Goals as goal
+use Rattle.pair_channel.proofs.both.compare_rows.Goals as goal
 
 pub outputs-preserved : goal.outputs-preserved
 outputs-preserved c =

@@ -1,6 +1,6 @@
 use Rattle.std.proofs.Common.{false, refl, ◌∙◌, arith}
 use Rattle.fault_reruns.proofs.Acts.{acts_passed}
-use Rattle.fault_reruns.proofs.resting.next_fault.Goals as goal
+use Rattle.fault_reruns.proofs.passing.next_fault.Goals as goal
 
 pub faults-preserved : goal.faults-preserved
 faults-preserved c =

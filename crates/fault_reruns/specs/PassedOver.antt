@@ -1,4 +1,4 @@
--- Resting: what a rerun goes on with where it passed over cycles in which nothing is touched.
+-- PassedOver: what a rerun goes on with where it passed over cycles in which nothing is touched.
 use Rattle.std.specs.Prelude.{ℕ, ◌≡◌, ◌-◌, ◌≤◌, ◌+◌, List, [], length, ℤ, None, slice_index_or}
 use Rattle.coded_unit.specs.declared.call.Answer.{Answer}
 use Rattle.coded_machine.specs.CycleEnds.{end_of, stored_words}
@@ -22,15 +22,15 @@ abbrev pub past_at : KeptRun → ℕ → Words
 past_at r n = record { held = held_at r (n - 1); answers = last_answers r n }
 
 -- the work is that, with no cell touched
-pub record Resting (r : KeptRun) (n : ℕ) (w : Work) : Type 0 where
+pub record IsUndisturbed (r : KeptRun) (n : ℕ) (w : Work) : Type 0 where
   pub past : past_of w ≡ past_at r n
   pub held : w.held.items ≡ held_at r n
-  pub dirty : w.dirty.items ≡ held_marks r.graph []
+  pub cell_marks : w.cell_marks.items ≡ held_marks r.graph []
 
 -- From cycle n a rerun comes to cycle m: it stays, or passes over two cycles or more.
 pub data Advanced (r : KeptRun) (n to : ℕ) (old new : Work) (m : ℕ) : Type 0 where
   stays : m ≡ n → new ≡ old → Advanced r n to old new m
-  passes : n + 2 ≤ to → m ≡ to → Resting r to new → Advanced r n to old new m
+  passes : n + 2 ≤ to → m ≡ to → IsUndisturbed r to new → Advanced r n to old new m
 
 -- the last cycle of the run without the faults isn't refused
 abbrev pub LastStands : KeptRun → Type 0

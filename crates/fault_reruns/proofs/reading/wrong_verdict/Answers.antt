@@ -1,13 +1,13 @@
-use Rattle.std.proofs.Common.{◌≡◌, ◌≢◌, ℤ, Some, sym, ap, ◌∙◌, arith, rules, w64, SFits, to_z, of_z}
+use Rattle.std.proofs.Common.{◌≡◌, ◌≢◌, ℤ, Some, None, sym, ap, ◌∙◌, arith, rules, w64, SFits, to_z, of_z}
 use Rattle.std.proofs.lemmas.Int.{to_z-of_z}
 use Rattle.coded_unit.specs.Words.{value_part}
 use Rattle.coded_machine.specs.CycleEnds.{outputs_of}
 use Rattle.fault_injector.specs.declared.verdict.Verdict.TheVariants as verdict
-use Rattle.fault_injector.specs.Judging.{wrong_verdict}
+use Rattle.fault_injector.specs.Verdicts.{judged}
 use Rattle.fault_reruns.specs.Begun.{answers_in}
 use Rattle.fault_reruns.proofs.OutputsRead.{value_there, values_count}
 use Rattle.fault_reruns.proofs.RowsBeside.{fits_64, outside_none, row_ended, row_here, row_passed}
-use Rattle.fault_reruns.proofs.reading.first_wrong.Goals as goal
+use Rattle.fault_reruns.proofs.reading.wrong_verdict.Goals as goal
 
 pub value_of-got-requires : goal.value_of-got-requires
 value_of-got-requires c =
@@ -62,7 +62,7 @@ returns-then-got-want c =
     ∙ ap (λ w. Some (value_part g.profile w)) (sym c.other_word.ensures) ∙ ap (λ (v : ℤ). Some v) (sym c.value_of-want.ensures) in
     ap (λ (x : ℤ). Some (verdict.Wrong c.args.cycle k x (to_z w64 (of_z w64 c.value_of-want.result)))) (to_z-of_z w64 c.value_of-got.result got)
     ∙ (ap (λ (x : ℤ). Some (verdict.Wrong c.args.cycle k c.value_of-got.result x)) (to_z-of_z w64 c.value_of-want.result want)
-    ∙ sym (ap (wrong_verdict c.args.cycle)
+    ∙ sym (ap (judged c.args.cycle None None None)
     (c.outputs.invariant.wrong
     ∙ row_here (outputs_of g own) (outputs_of g other) k c.value_of-got.result c.value_of-want.result got_is want_is differ)))
 
@@ -70,7 +70,7 @@ pub returns : goal.returns
 returns c =
     let g = c.args.graph.now in
     let count = values_count g c.args.own.now in
-    sym (ap (wrong_verdict c.args.cycle)
+    sym (ap (judged c.args.cycle None None None)
     (c.outputs.invariant.wrong
     ∙ row_ended (outputs_of g c.args.own.now) (outputs_of g (answers_in c.args.other.now)) c.outputs.output
     (omega (arith, c.outputs-test.false, c.outputs-output-end.ensures, count))))

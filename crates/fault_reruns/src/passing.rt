@@ -5,7 +5,7 @@ ghost use Rattle.fault_script.specs.Changes.{acts_of};
 ghost use Rattle.fault_reruns.specs.Begun.{answers_in};
 ghost use Rattle.fault_reruns.specs.Crossing.{Room};
 ghost use Rattle.fault_reruns.specs.Reruns.{refusal_in};
-ghost use Rattle.fault_reruns.specs.Resting.{Advanced, LastStands, held_at, last_answers};
+ghost use Rattle.fault_reruns.specs.PassedOver.{Advanced, LastStands, held_at, last_answers};
 ghost use Rattle.fault_reruns.specs.Touched.{held_marks, mark as mark_of};
 
 use crate::again::{answer_for, append};
@@ -88,7 +88,7 @@ pub(crate) fn next_touched(reference: &Reference<'_>, group: &Group, n: u32, cel
 
 /// Whether nothing differs any more where the next cycle in which something may be touched is this one: there is none, and no output was
 /// refused in the run without the faults.
-pub(crate) fn rests(reference: &Reference<'_>, next: u32) -> bool
+pub(crate) fn ends_same(reference: &Reference<'_>, next: u32) -> bool
     requires { 0 < length reference.now.answers }
     ensures none { result ≡ true → next ≡ length reference.now.answers }
     ensures stands { result ≡ true → LastStands reference.now }
@@ -133,7 +133,7 @@ fn copy_state(reference: &Reference<'_>, n: u32, work: &mut Work)
     ensures past { work.new.past.items ≡ last_answers reference.now n }
     ensures past_held { work.new.past_held.items ≡ held_at reference.now (n - 1) }
     ensures held { work.new.held.items ≡ held_at reference.now n }
-    ensures dirty { work.new.dirty.items ≡ held_marks reference.now.graph [] }
+    ensures cell_marks { work.new.cell_marks.items ≡ held_marks reference.now.graph [] }
 {
     let graph = reference.graph();
     copy_cycle(reference, n - 2, &mut work.own);
@@ -141,7 +141,7 @@ fn copy_state(reference: &Reference<'_>, n: u32, work: &mut Work)
     copy_words(&work.held, &mut work.past_held);
     copy_cycle(reference, n - 1, &mut work.past);
     store_words(graph, &work.past, &mut work.held);
-    mark_cells(graph, &[], &mut work.dirty);
+    mark_cells(graph, &[], &mut work.cell_marks);
 }
 
 /// Goes on from cycle `n` to cycle `to`, where two cycles or more are passed over.

@@ -1,15 +1,15 @@
 use Rattle.std.proofs.Common.{◌≡◌, None, drop}
 use Rattle.coded_machine.specs.CycleEnds.{first_outside, outputs_of}
-use Rattle.fault_injector.specs.Judging.{row_wrong}
+use Rattle.vcp_base.specs.Differences.{first_difference}
 use Rattle.fault_reruns.specs.Begun.{answers_in}
-use Rattle.fault_reruns.proofs.reading.first_wrong.Given as goal
+use Rattle.fault_reruns.proofs.reading.wrong_verdict.Given as goal
 
 abbrev pub invariant-outputs : goal.invariant-outputs
 invariant-outputs l =
     let other = answers_in l.other in
     record {
-      wrong : row_wrong (outputs_of l.graph l.own) (outputs_of l.graph other) 0
-          ≡ row_wrong (drop l.output (outputs_of l.graph l.own)) (drop l.output (outputs_of l.graph other)) l.output;
+      wrong : first_difference (outputs_of l.graph l.own) (outputs_of l.graph other) 0
+          ≡ first_difference (drop l.output (outputs_of l.graph l.own)) (drop l.output (outputs_of l.graph other)) l.output;
       inside : first_outside l.graph.profile l.own (drop l.output l.graph.outputs) ≡ None;
       other_inside : first_outside l.graph.profile other (drop l.output l.graph.outputs) ≡ None;
     }

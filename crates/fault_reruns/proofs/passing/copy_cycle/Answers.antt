@@ -4,7 +4,7 @@ use Rattle.fault_reruns.specs.Begun.{answers_in}
 use Rattle.fault_reruns.specs.References.{KeptRun}
 use Rattle.fault_reruns.proofs.KeptAnswers.{whole_few}
 use Rattle.fault_reruns.proofs.PassedOver.{whole_there}
-use Rattle.fault_reruns.proofs.resting.copy_cycle.Goals as goal
+use Rattle.fault_reruns.proofs.passing.copy_cycle.Goals as goal
 
 pub copy_answers-requires : goal.copy_answers-requires
 copy_answers-requires c =

@@ -1,6 +1,6 @@
 use Rattle.std.proofs.Common.{◌≡◌, ◌<◌, ◌≤◌, ℕ, drop}
 use Rattle.fault_script.specs.Changes.{acts_of}
-use Rattle.fault_reruns.proofs.resting.next_fault.Given as goal
+use Rattle.fault_reruns.proofs.passing.next_fault.Given as goal
 
 abbrev pub invariant-faults : goal.invariant-faults
 invariant-faults l = record {

@@ -1,6 +1,6 @@
 use Rattle.std.proofs.Common.{◌≡◌, ◌≤◌, take, vec_capacity}
 use Rattle.fault_reruns.specs.References.{words_answered}
-use Rattle.fault_reruns.proofs.resting.copy_answers.Given as goal
+use Rattle.fault_reruns.proofs.passing.copy_answers.Given as goal
 
 abbrev pub invariant-words : goal.invariant-words
 invariant-words l = record {
