@@ -37,7 +37,7 @@ use Rattle.fault_sites.specs.declared.part.Part.{Part}
 use Rattle.fault_sites.specs.declared.site.Site.{Site}
 use Rattle.fault_sites.specs.Part.{kept}
 use Rattle.fault_sites.specs.Sites.{as_fault, sites, site}
-use Rattle.fault_sites.specs.SiteText.{classes_name, said_from, site_line, site_lines, sites_text}
+use Rattle.fault_sites.specs.SiteText.{classes_name, said_from, site_line, site_lines, site_text, sites_text}
 use Rattle.fault_sites.proofs.Spelled.{Shown, shows, shown_from, decimal_shown, signed_shown, kind_shown, addend_is, cycle_is, index_is, kind_is}
 use Rattle.fault_sites.proofs.SitesFit.{each_fits}
 
@@ -277,27 +277,34 @@ there_few g k op there few = let within : k < length g.operations = slice_get_wi
 abbrev Groups : Type 0
 Groups = Result (List (List Fault)) ScriptFault
 
+-- the line of a site, before any text
+pub line_back : (g : Lists) (s : Site) (rest : List ℕ) (number before : ℕ) → length g.operations ≤ 2 ^ 32 → before < most_faults
+    → Fits g (as_fault 0 s)
+    → items_of g before (read_lines number (lines (site_text s ++ rest)))
+    ≡ says (Ok (as_fault number s)) ∷ items_of g (before + 1) (read_lines (number + 1) (lines rest))
+line_back g s rest number before few room here =
+    let l : s.op < 2 ^ 32 = there_few g s.op here.op here.there few in
+    let m : Small s.act = small here.op.kind s.op s.cycle s.act l here.act in
+    let n32 : s.cycle < 2 ^ 32 = omega (arith, here.cycle) in
+    let text : List ℕ = joined (site_words s) in
+    let first : site_text s ++ rest ≡ text ++ 10 ∷ rest =
+    append_assoc (site_line s) (10 ∷ []) rest ∙ ap (λ (t : List ℕ). t ++ 10 ∷ rest) (line_is s.cycle s.op s.act) in
+    let cut : lines (site_text s ++ rest) ≡ text ∷ lines rest =
+    ap lines first ∙ line_first text rest (plain_joined (site_words s) (all_shown s.cycle s.op s.act n32 l m)) in
+    let line : Line = record { number = number; text = text } in
+    let more : List Line = read_lines (number + 1) (lines rest) in
+    ap (λ (ls : List (List ℕ)). items_of g before (read_lines number ls)) cut
+    ∙ (ap (λ (b : Bool). items_of g before (cond b more (line ∷ more))) (not_skipped s.cycle s.op s.act)
+    ∙ ap (λ (i : Item). i ∷ items_of g (counted before i) more) (item_is g before number s room few l here))
+
 come_back : (g : Lists) (xs : List Site) (number before : ℕ) → length g.operations ≤ 2 ^ 32 → before + length xs ≤ most_faults
     → All (λ s. Fits g (as_fault 0 s)) xs → groups_of (items_of g before (read_lines number (lines (site_lines xs)))) None ≡ Ok (said_from number xs)
 come_back g [] number before few room fit = refl
 come_back g (s ∷ xs) number before few room fit =
     let here : Fits g (as_fault 0 s) = All-head (λ s. Fits g (as_fault 0 s)) s xs fit in
-    let l : s.op < 2 ^ 32 = there_few g s.op here.op here.there few in
-    let m : Small s.act = small here.op.kind s.op s.cycle s.act l here.act in
-    let n32 : s.cycle < 2 ^ 32 = omega (arith, here.cycle) in
-    let text : List ℕ = joined (site_words s) in
-    let rest : List ℕ = site_lines xs in
-    let first : site_lines (s ∷ xs) ≡ text ++ 10 ∷ rest =
-    append_assoc (site_line s) (10 ∷ []) rest ∙ ap (λ (t : List ℕ). t ++ 10 ∷ rest) (line_is s.cycle s.op s.act) in
-    let cut : lines (site_lines (s ∷ xs)) ≡ text ∷ lines rest =
-    ap lines first ∙ line_first text rest (plain_joined (site_words s) (all_shown s.cycle s.op s.act n32 l m)) in
-    let line : Line = record { number = number; text = text } in
-    let more : List Line = read_lines (number + 1) (lines rest) in
-    ap (λ (ls : List (List ℕ)). groups_of (items_of g before (read_lines number ls)) None) cut
-    ∙ (ap (λ (b : Bool). groups_of (items_of g before (cond b more (line ∷ more))) None) (not_skipped s.cycle s.op s.act)
-    ∙ (ap (λ (i : Item). groups_of (i ∷ items_of g (counted before i) more) None) (item_is g before number s (omega arith) few l here)
+    ap (λ (is : List Item). groups_of is None) (line_back g s (site_lines xs) number before few (omega arith) here)
     ∙ ap (λ (r : Groups). onto (as_fault number s ∷ []) r)
-    (come_back g xs (number + 1) (before + 1) few (omega arith) (All-tail (λ s. Fits g (as_fault 0 s)) s xs fit))))
+    (come_back g xs (number + 1) (before + 1) few (omega arith) (All-tail (λ s. Fits g (as_fault 0 s)) s xs fit))
 
 plain_all : (xs : List ℕ) → All (λ b. 32 ≤ b) xs → list_all plain xs ≡ true
 plain_all [] h = refl

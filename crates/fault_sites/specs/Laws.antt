@@ -1,15 +1,17 @@
 -- Laws: what holds of the sites of all graphs.
-use Rattle.std.specs.Prelude.{◌≡◌, ◌≢◌, ℕ, ◌+◌, ◌^◌, ◌≤◌, List, [], ◌∷◌, ◌++◌, length, All, Ok}
+use Rattle.std.specs.Prelude.{◌≡◌, ◌≢◌, ℕ, ◌+◌, ◌^◌, ◌<◌, ◌≤◌, List, [], ◌∷◌, ◌++◌, length, All, Ok}
+use Rattle.std.specs.Str.Lines.{lines}
 use Rattle.vcp_base.specs.Limits.{most_cycles, most_source_bytes}
 use Rattle.op_graph.specs.Lists.{Lists}
+use Rattle.script_text.specs.Lines.{read_lines}
 use Rattle.fault_script.specs.Fits.{Fits}
-use Rattle.fault_script.specs.ScriptOf.{most_faults, script_of}
+use Rattle.fault_script.specs.ScriptOf.{says, items_of, most_faults, script_of}
 use Rattle.fault_sites.specs.declared.class.Classes.{Classes}
 use Rattle.fault_sites.specs.declared.part.Part.{Part}
 use Rattle.fault_sites.specs.declared.site.Site.{Site}
 use Rattle.fault_sites.specs.Part.{kept}
 use Rattle.fault_sites.specs.Sites.{as_fault, sites}
-use Rattle.fault_sites.specs.SiteText.{said_from, sites_text}
+use Rattle.fault_sites.specs.SiteText.{said_from, site_text, sites_text}
 
 -- no two of these are one
 abbrev pub Distinct : {X : Type 0} → List X → Type 0
@@ -29,6 +31,13 @@ abbrev pub PartsAreWhole : Type 0
 PartsAreWhole = (xs : List Site) (skip first second : ℕ) →
     kept (record { skip = skip; left = first + second }) xs
     ≡ kept (record { skip = skip; left = first }) xs ++ kept (record { skip = skip + first; left = second }) xs
+
+-- The line of a fault that fits the graph is read as that fault, behind so many fault lines, whatever text follows it.
+abbrev pub IsLineRead : Type 0
+IsLineRead =
+    (g : Lists) (s : Site) (rest : List ℕ) (number before : ℕ) → length g.operations ≤ 2 ^ 32 → before < most_faults → Fits g (as_fault 0 s)
+    → items_of g before (read_lines number (lines (site_text s ++ rest)))
+    ≡ says (Ok (as_fault number s)) ∷ items_of g (before + 1) (read_lines (number + 1) (lines rest))
 
 -- The script of a part is read back as the faults of its sites, a group each, from line 2 on. The digits of the digest are no control characters.
 abbrev pub IsReadBack : Type 0

@@ -1,6 +1,6 @@
 //! Laws of sites. Each function does nothing: it states a law.
 
-ghost use Rattle.fault_sites.specs.Laws.{EachFits, EachOnce, IsReadBack, IsShort, PartsAreWhole};
+ghost use Rattle.fault_sites.specs.Laws.{EachFits, EachOnce, IsLineRead, IsReadBack, IsShort, PartsAreWhole};
 ghost use Rattle.fault_sites.specs.Members.{HasEach};
 
 /// Each site fits the graph, in the sense of scripts of faults, whatever line it stands in.
@@ -16,6 +16,11 @@ pub fn each_site_stands_once()
 /// Two parts, one behind the other, are one part of both lengths.
 pub fn parts_are_the_whole()
     ensures { PartsAreWhole }
+{}
+
+/// The line of a fault that fits a graph is read back as that fault, whatever lines stand before it and behind it.
+pub fn a_line_is_read_back()
+    ensures { IsLineRead }
 {}
 
 /// The script of a part of at most 10,000 sites is read back as the faults of these sites, a group each, in

@@ -125,7 +125,7 @@ fn then_rest<O: Sink>(line: &mut Line, out: &mut O, act: &Act)
 }
 
 /// Goes on with the line of a site, without its LF.
-pub(crate) fn then_site<O: Sink>(line: &mut Line, out: &mut O, site: &Site)
+pub fn then_site<O: Sink>(line: &mut Line, out: &mut O, site: &Site)
     ensures { GathersTo (O.seen out.old) (O.seen out.new) line.old line.new (site_line site.now) }
 {
     line.text(out, verb(&site.act));
