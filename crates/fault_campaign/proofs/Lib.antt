@@ -1,3 +1,2 @@
-pub mod FaultRows
 pub mod Telling
 pub mod SoFar

@@ -19,8 +19,8 @@ use Rattle.fault_reruns.specs.Groups.{GroupsJudged}
 use Rattle.fault_reruns.specs.Laws.{GroupLaws}
 use Rattle.fault_reruns.specs.References.{KeptRun}
 use Rattle.fault_reruns.specs.Reruns.{IsReference, Reran}
-use Rattle.fault_campaign.specs.declared.lines.Totals.{Totals}
-use Rattle.fault_campaign.specs.FaultLines.{verdict_text, counted, no_verdicts, totals_of, totals_text}
+use Rattle.verdict_lines.specs.declared.lines.Totals.{Totals}
+use Rattle.verdict_lines.specs.FaultLines.{verdict_text, counted, no_verdicts, totals_of, totals_text}
 use Rattle.fault_campaign.specs.declared.fault.CampaignFault.TheVariants as fault
 use Rattle.fault_campaign.specs.Campaign.{verdict_lines, verdicts_of, Told}
 use Rattle.fault_campaign.proofs.Telling.{no_lines, lines_next, totals_next, line_failed, totals_failed}

@@ -10,8 +10,8 @@ use Rattle.fault_script.specs.declared.act.Fault.{Fault}
 use Rattle.fault_script.specs.Groups.{line_of}
 use Rattle.fault_injector.specs.declared.verdict.Verdict.{Verdict}
 use Rattle.fault_injector.specs.declared.verdict.Verdict.TheVariants as verdict
-use Rattle.fault_campaign.specs.declared.lines.Totals.{Totals}
-use Rattle.fault_campaign.specs.FaultLines.{verdict_text, faults, counted, no_verdicts, totals_after, totals_of, totals_text}
+use Rattle.verdict_lines.specs.declared.lines.Totals.{Totals}
+use Rattle.verdict_lines.specs.FaultLines.{verdict_text, faults, counted, no_verdicts, totals_after, totals_of, totals_text}
 use Rattle.fault_campaign.specs.Campaign.{verdict_lines, campaign_text, PartTold, EarlierTold}
 
 -- ---- lines

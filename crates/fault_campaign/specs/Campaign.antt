@@ -5,7 +5,6 @@ use Rattle.vcp_outside.specs.Written.{AppendsPart}
 use Rattle.op_graph.specs.Lists.{Lists}
 use Rattle.signature_table.specs.Signatures.{Numbers}
 use Rattle.fault_script.specs.declared.act.Fault.{Fault}
-use Rattle.fault_script.specs.Groups.{line_of}
 use Rattle.fault_injector.specs.declared.verdict.Verdict.{Verdict}
 use Rattle.fault_injector.specs.Names.{Names}
 use Rattle.coded_unit.specs.declared.call.Answer.{Answer}
@@ -14,21 +13,11 @@ use Rattle.fault_injector.specs.Verdicts.{verdict_of}
 use Rattle.fault_reruns.specs.Groups.{GroupsJudged}
 use Rattle.fault_reruns.specs.References.{KeptRun}
 use Rattle.fault_reruns.specs.Reruns.{IsReference}
-use Rattle.fault_campaign.specs.FaultLines.{verdict_text, totals_of, totals_text}
+pub use Rattle.verdict_lines.specs.FaultLines.{verdict_lines, campaign_text}
 use Rattle.fault_campaign.specs.declared.fault.CampaignFault.{CampaignFault}
 use Rattle.fault_campaign.specs.declared.fault.CampaignFault.TheVariants as fault
 
--- ---- what a campaign writes
-
--- the lines of these verdicts, group by group, each with the number of its group's line
-abbrev pub verdict_lines : Lists → List (List Fault) → List Verdict → List ℕ
-verdict_lines g [] vs = []
-verdict_lines g (faults ∷ groups) [] = []
-verdict_lines g (faults ∷ groups) (v ∷ vs) = verdict_text g (line_of faults) v ++ verdict_lines g groups vs
-
--- all of it: a line for each verdict, and then their totals
-abbrev pub campaign_text : Lists → List (List Fault) → List Verdict → List ℕ
-campaign_text g groups vs = verdict_lines g groups vs ++ totals_text (totals_of vs)
+-- ---- what a campaign finds
 
 -- the verdict of each group over these rows of inputs
 abbrev pub verdicts_of : Numbers → Lists → List (List Fault) → List (List ℤ) → List Verdict

@@ -1,2 +1,1 @@
 pub mod Campaign
-pub mod FaultLines

@@ -2,9 +2,7 @@
 #![tactic(auto)]
 
 mod fault;
-mod lines;
 mod run;
 
 pub use fault::CampaignFault;
-pub use lines::{Totals, totals_line, verdict_line};
 pub use run::run_campaign;

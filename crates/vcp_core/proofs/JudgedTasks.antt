@@ -19,7 +19,7 @@ use Rattle.fault_injector.specs.declared.verdict.Verdict.{Verdict}
 use Rattle.fault_campaign.specs.declared.fault.CampaignFault.{CampaignFault}
 use Rattle.fault_campaign.specs.declared.fault.CampaignFault.TheVariants as campaign
 use Rattle.fault_campaign.specs.Campaign.{campaign_text, verdict_lines, EarlierTold, Told}
-use Rattle.fault_campaign.specs.FaultLines.{verdict_text, totals_of, totals_text}
+use Rattle.verdict_lines.specs.FaultLines.{verdict_text, totals_of, totals_text}
 use Rattle.vcp_words.specs.Forms.{Rows, inject}
 use Rattle.vcp_words.specs.Tables.{rows_name}
 use Rattle.vcp_inputs.specs.declared.images.Image.{Image}

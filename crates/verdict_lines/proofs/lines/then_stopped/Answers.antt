@@ -1,6 +1,6 @@
 use Rattle.std.proofs.Common.{◌≡◌, ℕ, List, ◌++◌, codes, decimal, append_assoc}
 use Rattle.gathered_line.proofs.Gathering.{gathered_same}
-use Rattle.fault_campaign.proofs.lines.then_stopped.Goals as goal
+use Rattle.verdict_lines.proofs.lines.then_stopped.Goals as goal
 
 pieces : (text cycle op place : List ℕ)
     → text ++ (codes "stopped " ++ (cycle ++ (codes " " ++ (op ++ (codes " " ++ place)))))

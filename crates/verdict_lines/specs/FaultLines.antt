@@ -5,9 +5,11 @@ use Rattle.vcp_base.specs.declared.kind.StopKind.{StopKind}
 use Rattle.vcp_base.specs.Stops.{told_turn}
 use Rattle.op_graph.specs.declared.op.Op.{Op}
 use Rattle.op_graph.specs.Lists.{Lists, turns_of}
+use Rattle.fault_script.specs.declared.act.Fault.{Fault}
+use Rattle.fault_script.specs.Groups.{line_of}
 use Rattle.fault_injector.specs.declared.verdict.Verdict.{Verdict}
 use Rattle.fault_injector.specs.declared.verdict.Verdict.TheVariants as verdict
-use Rattle.fault_campaign.specs.declared.lines.Totals.{Totals}
+use Rattle.verdict_lines.specs.declared.lines.Totals.{Totals}
 use Rattle.run_report.specs.OutputNames.{output_name}
 use Rattle.run_report.specs.Lines.{cause_text, turn_text, refused_front}
 
@@ -69,8 +71,24 @@ abbrev pub totals_of : List Verdict → Totals
 totals_of vs = totals_after no_verdicts vs
 
 -- how many faults a script has, and how many of each verdict
-abbrev pub totals_text : Totals → List ℕ
-totals_text t =
+abbrev pub totals_front : Totals → List ℕ
+totals_front t =
     codes "faults "
     ++ (decimal (faults t) ++ (codes " same " ++ (decimal t.same ++ (codes " wrong " ++ (decimal t.wrong ++ (codes " ran-on " ++ (decimal t.ran_on
-    ++ (codes " refused " ++ (decimal t.refused ++ (codes " stopped " ++ (decimal t.stopped ++ codes "\n")))))))))))
+    ++ (codes " refused " ++ (decimal t.refused ++ (codes " stopped " ++ decimal t.stopped))))))))))
+
+-- their line
+abbrev pub totals_text : Totals → List ℕ
+totals_text t = totals_front t ++ codes "\n"
+
+-- ---- a whole campaign
+
+-- the lines of these verdicts, group by group, each with the number of its group's line
+abbrev pub verdict_lines : Lists → List (List Fault) → List Verdict → List ℕ
+verdict_lines g [] vs = []
+verdict_lines g (group ∷ groups) [] = []
+verdict_lines g (group ∷ groups) (v ∷ vs) = verdict_text g (line_of group) v ++ verdict_lines g groups vs
+
+-- all of it: a line for each verdict, and then their totals
+abbrev pub campaign_text : Lists → List (List Fault) → List Verdict → List ℕ
+campaign_text g groups vs = verdict_lines g groups vs ++ totals_text (totals_of vs)

@@ -1,6 +1,6 @@
 use Rattle.std.proofs.Common.{◌≡◌, ℕ, List, ◌++◌, codes, decimal, append_assoc}
 use Rattle.gathered_line.proofs.Gathering.{written_same}
-use Rattle.fault_campaign.proofs.lines.verdict_line.Goals as goal
+use Rattle.verdict_lines.proofs.lines.verdict_line.Goals as goal
 
 pieces : (line shows : List ℕ) → line ++ (codes " " ++ (shows ++ codes "\n")) ≡ line ++ codes " " ++ shows ++ codes "\n"
 pieces line shows = simp append_assoc

@@ -6,8 +6,8 @@ ghost use Rattle.std.specs.Prelude.{◌≡◌, ◌<◌, ◌++◌, length, slice_
 ghost use Rattle.vcp_outside.specs.Written.{WritesTo};
 ghost use Rattle.fault_injector.specs.Names.{Names};
 ghost use Rattle.gathered_line.specs.Gathering.{GathersTo};
-ghost use Rattle.fault_campaign.specs.FaultLines.{wrong_text, ran_on_text, stopped_at, stopped_text, what_shows, verdict_text, faults as faults_of};
-ghost use Rattle.fault_campaign.specs.FaultLines.{counted, no_verdicts, totals_text};
+ghost use Rattle.verdict_lines.specs.FaultLines.{wrong_text, ran_on_text, stopped_at, stopped_text, what_shows, verdict_text, faults as faults_of};
+ghost use Rattle.verdict_lines.specs.FaultLines.{counted, no_verdicts, totals_front, totals_text};
 
 use fault_injector::Verdict;
 use gathered_line::{Line, begin};
@@ -123,8 +123,8 @@ fn then_stopped<O: Sink>(
     then_stopped_at(line, out, kind, graph, op);
 }
 
-// Goes on with a verdict.
-fn then_verdict<O: Sink>(line: &mut Line, out: &mut O, graph: &Graph, verdict: &Verdict)
+/// Goes on with a verdict: in which cycle it shows, at which output or operation of the graph, and by what.
+pub fn then_verdict<O: Sink>(line: &mut Line, out: &mut O, graph: &Graph, verdict: &Verdict)
     requires { Names (length graph.now.outputs) (length graph.now.operations) verdict.now }
     ensures { GathersTo (O.seen out.old) (O.seen out.new) line.old line.new (what_shows graph.now verdict.now) }
 {
@@ -179,17 +179,23 @@ fn then_count<O: Sink>(line: &mut Line, out: &mut O, word: &[u8], number: u64)
     line.count(out, number);
 }
 
-/// Writes how many faults a script has, and how many of each verdict. After `Failed` a part of the
-/// line is written.
+/// Goes on with totals: how many faults a script has, and how many of each verdict.
+pub fn then_totals<O: Sink>(line: &mut Line, out: &mut O, totals: &Totals)
+    ensures { GathersTo (O.seen out.old) (O.seen out.new) line.old line.new (totals_front totals.now) }
+{
+    then_count(line, out, b"faults ", totals.faults());
+    then_count(line, out, b" same ", totals.same as u64);
+    then_count(line, out, b" wrong ", totals.wrong as u64);
+    then_count(line, out, b" ran-on ", totals.ran_on as u64);
+    then_count(line, out, b" refused ", totals.refused as u64);
+    then_count(line, out, b" stopped ", totals.stopped as u64);
+}
+
+/// Writes the line of totals. After `Failed` a part of the line is written.
 pub fn totals_line<O: Sink>(out: &mut O, totals: &Totals) -> Result<(), Failed>
     ensures { WritesTo (O.seen out.old) (O.seen out.new) (totals_text totals.now) result }
 {
     let mut line = Line::new();
-    then_count(&mut line, out, b"faults ", totals.faults());
-    then_count(&mut line, out, b" same ", totals.same as u64);
-    then_count(&mut line, out, b" wrong ", totals.wrong as u64);
-    then_count(&mut line, out, b" ran-on ", totals.ran_on as u64);
-    then_count(&mut line, out, b" refused ", totals.refused as u64);
-    then_count(&mut line, out, b" stopped ", totals.stopped as u64);
+    then_totals(&mut line, out, totals);
     line.end(out)
 }

@@ -5,7 +5,7 @@ use Rattle.vcp_base.specs.declared.code.Profile.TheVariants as profile
 use Rattle.vcp_base.specs.declared.kind.StopKind.TheVariants as stop
 use Rattle.vcp_base.specs.declared.ty.Ty.TheVariants as ty
 use Rattle.fault_injector.specs.declared.verdict.Verdict.TheVariants as verdict
-use Rattle.fault_campaign.specs.FaultLines.{verdict_text, totals_of, totals_text}
+use Rattle.verdict_lines.specs.FaultLines.{verdict_text, totals_of, totals_text}
 use Rattle.run_report.proofs.OperationRows.{adding}
 
 verdicts : verdict_text (adding profile.Narrow ty.Dint) 1 (verdict.Wrong 0 0 (pos 7) (pos 6))

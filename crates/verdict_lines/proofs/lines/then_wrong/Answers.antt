@@ -2,7 +2,7 @@ use Rattle.std.proofs.Common.{◌≡◌, ℕ, List, ◌++◌, codes, decimal, ap
 use mir.Val.{SFits}
 use Rattle.std.proofs.Math.Facts.{to_z-of_z}
 use Rattle.gathered_line.proofs.Gathering.{gathered_same}
-use Rattle.fault_campaign.proofs.lines.then_wrong.Goals as goal
+use Rattle.verdict_lines.proofs.lines.then_wrong.Goals as goal
 
 pieces : (text cycle name got want : List ℕ)
     → text ++ (codes "wrong " ++ (cycle ++ (codes " " ++ (name ++ (codes " got " ++ (got ++ (codes " want " ++ want)))))))

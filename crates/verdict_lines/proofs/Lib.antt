@@ -1,0 +1,2 @@
+mod FaultRows
+mod Going
