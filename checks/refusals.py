@@ -95,10 +95,9 @@ def text_of(code, at, marked):
 
 def examples_on_the_page():
     """Pairs of a code and an example of its item."""
-    items = re.findall(r"^- `([TQ]\d) \w+`.*?(?=^- |\Z)", text := (TOP / "docs" / "ERRORS.md").read_text(encoding="utf8"), re.M | re.S)
-    for code in dict.fromkeys(items):
-        item = re.search(rf"^- `{code} .*?^  - Examples?: (.*?)^  - ", text, re.M | re.S)
-        for example in re.findall(r"`([^`]+)`", item[1]):
+    text = (TOP / "docs" / "ERRORS.md").read_text(encoding="utf8")
+    for code, examples in re.findall(r"^- `([TQ]\d) \w+`(?:(?!^- ).)*?^  - Examples?: (.*?)^  - ", text, re.M | re.S):
+        for example in re.findall(r"`([^`]+)`", examples):
             if example not in BESIDE:
                 yield code, example
 
