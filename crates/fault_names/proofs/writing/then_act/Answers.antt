@@ -1,0 +1,15 @@
+use Rattle.std.proofs.Common.{◌≡◌, refl, arith}
+use Rattle.fault_names.specs.Script.{cycles_of}
+use Rattle.fault_names.proofs.Going.{and_then, same, unmoved, one_more}
+use Rattle.fault_names.proofs.writing.then_act.Goals as goal
+
+pub cycles-init : goal.cycles-init
+cycles-init g c = unmoved
+
+pub cycles-preserved : goal.cycles-preserved
+cycles-preserved g c = same (and_then c.cycles.invariant c.then_fault.ensures) (one_more c.args.k c.args.act c.args.span.first c.cycles.i _ refl)
+
+pub returns : goal.returns
+returns g c =
+    let all : c.cycles.i ≡ cycles_of c.args.span = omega (arith, c.cycles-test.false, c.cycles.auto.i-end, c.cycles-i-end.ensures.count) in
+    rw all at c.cycles.invariant

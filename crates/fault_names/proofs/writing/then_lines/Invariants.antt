@@ -1,0 +1,17 @@
+use Rattle.std.proofs.Common.{◌+◌, ◌≤◌, length}
+use Rattle.std.specs.Str.Lines.{lines}
+use Rattle.vcp_base.specs.Limits.{most_source_bytes}
+use Rattle.script_text.specs.Lines.{read_lines}
+use Rattle.fault_names.specs.Script.{entries}
+use Rattle.fault_names.proofs.Going.{Part}
+use Rattle.fault_names.proofs.writing.then_lines.Given as goal
+
+abbrev pub invariant-lines : goal.invariant-lines
+invariant-lines g l = record {
+  told : Part (g.O.Sink.seen l.fn.out) (g.O.Sink.seen l.out) l.fn.line l.line (entries l.graph (read_lines 1 (lines l.text)))
+      (entries l.graph (read_lines (l.before + 1) (lines l.rest)));
+  few : l.before + length l.rest ≤ most_source_bytes;
+}
+
+abbrev pub decreases-lines : goal.decreases-lines
+decreases-lines g l = length l.rest

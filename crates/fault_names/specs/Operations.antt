@@ -1,0 +1,108 @@
+-- Operations: which operation a name names.
+use Rattle.std.specs.Prelude.{ℕ, zero, suc, ◌==◌, Bool, true, false, not, cond, ◌&&◌, ◌||◌, List, [], ◌∷◌, ◌++◌, length, slice_get, slice_index_or}
+use Rattle.std.specs.Prelude.{Option, Some, None, Result, Ok, Err, unsigned_abs}
+use Rattle.vcp_base.specs.declared.spot.Spot.{Spot}
+use Rattle.vcp_base.specs.declared.kind.Kind.{Kind}
+use Rattle.vcp_base.specs.declared.kind.Kind.TheVariants as kind
+use Rattle.vcp_base.specs.Names.{is_same_name}
+use Rattle.vcp_base.specs.Spellings.{kind_code}
+use Rattle.op_graph.specs.declared.op.Op.{Op}
+use Rattle.op_graph.specs.declared.op.Var.{Var}
+use Rattle.op_graph.specs.declared.op.Cell.{Cell}
+use Rattle.op_graph.specs.declared.op.Outlet.{Outlet}
+use Rattle.op_graph.specs.Lists.{Lists, cells}
+use Rattle.op_graph.specs.Rules.{is_load}
+use Rattle.fault_names.specs.declared.refused.Why.{Why}
+use Rattle.fault_names.specs.declared.refused.Why.TheVariants as reason
+use Rattle.fault_names.specs.declared.operations.Found.{Found}
+use Rattle.fault_names.specs.declared.operations.Found.TheVariants as found
+use Rattle.fault_names.specs.Words.{spot_of}
+
+-- ---- the variable of an operation
+
+abbrev pub name_at : Lists → ℕ → List ℕ
+name_at g n = slice_index_or g.names n []
+
+abbrev pub name_of_input : Lists → Option Var → List ℕ
+name_of_input g None = []
+name_of_input g (Some v) = name_at g v.name
+
+abbrev pub name_of_cell : Lists → Option Cell → List ℕ
+name_of_cell g None = []
+name_of_cell g (Some c) = name_at g c.name
+
+abbrev pub name_of_output : Lists → Option Outlet → List ℕ
+name_of_output g None = []
+name_of_output g (Some o) = name_at g o.name
+
+-- the name of input, cell or output n, of an operation of this kind; none for the other kinds
+abbrev pub variable : Lists → Kind → ℕ → List ℕ
+variable g kind.Input n = name_of_input g (slice_get g.inputs n)
+variable g kind.Load n = name_of_cell g (slice_get (cells g) n)
+variable g kind.Store n = name_of_cell g (slice_get (cells g) n)
+variable g kind.Out n = name_of_output g (slice_get g.outputs n)
+variable g _ n = []
+
+abbrev pub variable_of : Lists → Op → List ℕ
+variable_of g op = variable g op.kind (unsigned_abs op.imm)
+
+-- ---- what a name means
+
+-- the operation is of this kind, where one is said
+abbrev pub is_kind : Option Kind → Kind → Bool
+is_kind None other = true
+is_kind (Some k) other = kind_code k == kind_code other
+
+-- the kind is said, or the operation is no LOAD: a variable alone is its INPUT, STORE or OUT
+abbrev pub may_be_alone : Option Kind → Kind → Bool
+may_be_alone None other = not (is_load other)
+may_be_alone (Some k) other = true
+
+-- the operation is that of the variable
+abbrev pub is_variable : Lists → Option Kind → List ℕ → Op → Bool
+is_variable g k w op = may_be_alone k op.kind && is_same_name w (variable_of g op)
+
+-- the operation stands for this place
+abbrev pub is_at : Option Spot → Spot → Bool
+is_at None other = false
+is_at (Some s) other = s.line == other.line && s.col == other.col
+
+-- the operation has the name
+abbrev pub is_named : Lists → Option Kind → List ℕ → Op → Bool
+is_named g k w op = is_kind k op.kind && (is_variable g k w op || is_at (spot_of w) op.spot)
+
+abbrev pub is_named_there : Lists → Option Kind → List ℕ → Option Op → Bool
+is_named_there g k w None = false
+is_named_there g k w (Some op) = is_named g k w op
+
+-- one number, where it is so
+abbrev pub number_if : Bool → ℕ → List ℕ
+number_if b i = cond b (i ∷ []) []
+
+-- the numbers of the operations below n that have the name
+abbrev pub named_below : Lists → Option Kind → List ℕ → ℕ → List ℕ
+named_below g k w zero = []
+named_below g k w (suc i) = named_below g k w i ++ number_if (is_named_there g k w (slice_get g.operations i)) i
+
+-- the one of them
+abbrev pub the_one : List ℕ → Result ℕ Why
+the_one [] = Err reason.Unknown
+the_one (k ∷ []) = Ok k
+the_one (k ∷ l ∷ more) = Err reason.Several
+
+-- the same of the code's count of them: none, one or more
+abbrev pub found_of : List ℕ → Found
+found_of [] = found.Nothing
+found_of (k ∷ []) = found.One k
+found_of (k ∷ l ∷ more) = found.Several
+
+-- with operation i, which has the name or hasn't
+abbrev pub found_next : Found → ℕ → Bool → Found
+found_next f i false = f
+found_next found.Nothing i true = found.One i
+found_next (found.One k) i true = found.Several
+found_next found.Several i true = found.Several
+
+-- the operation that has the name, of this kind where one is said
+abbrev pub operation_named : Lists → Option Kind → List ℕ → Result ℕ Why
+operation_named g k w = the_one (named_below g k w (length g.operations))

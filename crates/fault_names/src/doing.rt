@@ -1,0 +1,211 @@
+//! What a line does, and to what.
+
+ghost use Rattle.std.specs.Prelude.{◌≡◌, ◌<◌, IfOk, length};
+ghost use Rattle.script_text.specs.Words.{words as words_of};
+ghost use Rattle.fault_names.specs.Lines.{with_rest, of_kind as of_kind_of, place_at as place_at_of, place_of, operand_of, target_of, add_of, as_of, read_of};
+ghost use Rattle.fault_names.specs.Lines.{operator_of, doing_of};
+
+use crate::cutting::{index, kind_named};
+use crate::operations::operation_named;
+use crate::refused::Why;
+use op_graph::Graph;
+use script_text::WordsLeft;
+use vcp_base::{Kind, Ty, number_in};
+
+/// What the words before the operation say.
+#[derive(Clone, Copy, Debug)]
+pub enum Doing {
+    /// A number is added.
+    Add {
+        /// The number.
+        e: i64,
+    },
+    /// An operand is the word of the cycle before.
+    Stale,
+    /// An operand is the word of another operation.
+    Read {
+        /// The number of that operation.
+        r: u32,
+    },
+    /// The call is done as one of another kind.
+    Operator {
+        /// The other kind.
+        kind: Kind,
+    },
+    /// The operation keeps its answer of the cycle before.
+    Skip,
+    /// A bit is flipped.
+    Flip,
+}
+
+/// An operation, or an operand of it.
+#[derive(Clone, Copy, Debug)]
+pub struct Target {
+    /// The operand, where it is one.
+    pub operand: Option<u32>,
+    /// The number of the operation.
+    pub op: u32,
+}
+
+/// Takes the name of an operation of this kind.
+fn of_kind(graph: &Graph, kind: Kind, words: &mut WordsLeft<'_>) -> Result<u32, Why>
+    ensures value { with_rest words.new result ≡ of_kind_of graph.now kind words.old }
+    ensures there { IfOk result (λ k. k < length graph.now.operations) }
+{
+    let Some(name) = words.next() else {
+        return Err(Why::Form);
+    };
+    operation_named(graph, Some(kind), name)
+}
+
+/// Takes the rest of what names an operation, behind its first word.
+fn place_at(graph: &Graph, first: &[u8], words: &mut WordsLeft<'_>) -> Result<u32, Why>
+    ensures value { with_rest words.new result ≡ place_at_of graph.now first.now words.old }
+    ensures there { IfOk result (λ k. k < length graph.now.operations) }
+{
+    match kind_named(first) {
+        None => operation_named(graph, None, first),
+        Some(kind) => of_kind(graph, kind, words),
+    }
+}
+
+/// Takes what names an operation.
+fn place(graph: &Graph, words: &mut WordsLeft<'_>) -> Result<u32, Why>
+    ensures value { with_rest words.new result ≡ place_of graph.now words.old }
+    ensures there { IfOk result (λ k. k < length graph.now.operations) }
+{
+    let Some(first) = words.next() else {
+        return Err(Why::Form);
+    };
+    place_at(graph, first, words)
+}
+
+/// Takes what names an operand, behind `operand`.
+fn operand(graph: &Graph, words: &mut WordsLeft<'_>) -> Result<Target, Why>
+    ensures value { with_rest words.new result ≡ operand_of graph.now words.old }
+    ensures there { IfOk result (λ t. t.op < length graph.now.operations) }
+{
+    let Some(number) = words.next() else {
+        return Err(Why::Form);
+    };
+    let Some(of) = words.next() else {
+        return Err(Why::Form);
+    };
+    if of != b"of".as_slice() {
+        return Err(Why::Form);
+    }
+    let Some(j) = index(number) else {
+        return Err(Why::Form);
+    };
+    let op = place(graph, words)?;
+    Ok(Target {
+        operand: Some(j),
+        op,
+    })
+}
+
+/// Takes what names an operation, or an operand of one.
+pub(crate) fn take_target(graph: &Graph, words: &mut WordsLeft<'_>) -> Result<Target, Why>
+    ensures value { with_rest words.new result ≡ target_of graph.now words.old }
+    ensures there { IfOk result (λ t. t.op < length graph.now.operations) }
+{
+    let Some(first) = words.next() else {
+        return Err(Why::Form);
+    };
+    if first == b"operand".as_slice() {
+        return operand(graph, words);
+    }
+    let op = place_at(graph, first, words)?;
+    Ok(Target { operand: None, op })
+}
+
+/// Takes the words behind `add`: E, and `to`.
+fn add(words: &mut WordsLeft<'_>) -> Result<Doing, Why>
+    ensures { with_rest words.new result ≡ add_of words.old }
+{
+    let Some(number) = words.next() else {
+        return Err(Why::Form);
+    };
+    let Some(to) = words.next() else {
+        return Err(Why::Form);
+    };
+    if to != b"to".as_slice() {
+        return Err(Why::Form);
+    }
+    match number_in(Ty::Lint, number) {
+        Some(e) => Ok(Doing::Add { e }),
+        None => Err(Why::Form),
+    }
+}
+
+/// Takes the word behind what is read: `as`.
+fn read_as(r: u32, words: &mut WordsLeft<'_>) -> Result<Doing, Why>
+    ensures { with_rest words.new result ≡ as_of r words.old }
+{
+    let Some(word) = words.next() else {
+        return Err(Why::Form);
+    };
+    if word == b"as".as_slice() {
+        Ok(Doing::Read { r })
+    } else {
+        Err(Why::Form)
+    }
+}
+
+/// Takes the words behind `read`: what names an operation, and `as`.
+fn read(graph: &Graph, words: &mut WordsLeft<'_>) -> Result<Doing, Why>
+    ensures { with_rest words.new result ≡ read_of graph.now words.old }
+{
+    let r = place(graph, words)?;
+    read_as(r, words)
+}
+
+/// Takes the words behind `operator`: KIND, and `at`.
+fn operator(words: &mut WordsLeft<'_>) -> Result<Doing, Why>
+    ensures { with_rest words.new result ≡ operator_of words.old }
+{
+    let Some(name) = words.next() else {
+        return Err(Why::Form);
+    };
+    let Some(at) = words.next() else {
+        return Err(Why::Form);
+    };
+    if at != b"at".as_slice() {
+        return Err(Why::Form);
+    }
+    match kind_named(name) {
+        Some(kind) => Ok(Doing::Operator { kind }),
+        None => Err(Why::Form),
+    }
+}
+
+/// Takes the words before the operation.
+pub(crate) fn take_doing(graph: &Graph, words: &mut WordsLeft<'_>) -> Result<Doing, Why>
+    ensures { with_rest words.new result ≡ doing_of graph.now words.old }
+{
+    let Some(verb) = words.next() else {
+        return Err(Why::Form);
+    };
+    if verb == b"add".as_slice() {
+        return add(words);
+    }
+    if verb == b"stale".as_slice() {
+        return Ok(Doing::Stale);
+    }
+    if verb == b"read".as_slice() {
+        return read(graph, words);
+    }
+    if verb == b"operator".as_slice() {
+        return operator(words);
+    }
+    if verb == b"skip".as_slice() {
+        return Ok(Doing::Skip);
+    }
+    if verb == b"flip".as_slice() {
+        return Ok(Doing::Flip);
+    }
+    if verb == b"stuck".as_slice() {
+        return Err(Why::Held);
+    }
+    Err(Why::Form)
+}

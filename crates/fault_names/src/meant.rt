@@ -1,0 +1,191 @@
+//! What a line means.
+
+ghost use Rattle.std.specs.Prelude.{◌≡◌, ◌<◌, ◌^◌, pos, length};
+ghost use Rattle.script_text.specs.Words.{words as words_of};
+ghost use Rattle.fault_sites.specs.Sites.{adding as adding_of};
+ghost use Rattle.fault_names.specs.Lines.{act_of, acts_of, is_together as is_together_of, fitted as fitted_of, ended as ended_of, timed as timed_of};
+ghost use Rattle.fault_names.specs.Lines.{aimed as aimed_of, meant_of, both_flips as both_flips_of, flips_of, plain_acts as plain_acts_of};
+
+use crate::doing::{Doing, Target, take_doing, take_target};
+use crate::fitting::unfit_acts;
+use crate::refused::Why;
+use crate::when::{Ending, Span, is_together, take_ending, when};
+use fault_script::Act;
+use op_graph::Graph;
+use script_text::WordsLeft;
+
+/// The acts of a line: one, or the two of which one flips a bit.
+#[derive(Clone, Copy, Debug)]
+pub struct Acts {
+    /// The first.
+    pub act: Act,
+    /// The other, where there is one.
+    pub other: Option<Act>,
+}
+
+/// What a line means: acts at an operation in each of some cycles.
+#[derive(Clone, Copy, Debug)]
+pub struct Meant {
+    /// The number of the operation.
+    pub op: u32,
+    /// The cycles.
+    pub span: Span,
+    /// Whether they are one group.
+    pub together: bool,
+    /// The acts.
+    pub acts: Acts,
+}
+
+/// A number is added to an operand, or else to the result.
+fn adding(place: Option<u32>, e: i64) -> Act
+    ensures { result ≡ adding_of place e }
+{
+    match place {
+        Some(j) => Act::OperandAdd { j, e },
+        None => Act::ResultAdd { e },
+    }
+}
+
+/// The act of words other than `flip`.
+fn act(doing: Doing, place: Option<u32>) -> Option<Act>
+    ensures { result ≡ act_of doing place }
+{
+    match doing {
+        Doing::Add { e } => Some(adding(place, e)),
+        Doing::Stale => Some(Act::OperandStale { j: place? }),
+        Doing::Read { r } => Some(Act::OperandFrom { j: place?, r }),
+        Doing::Operator { kind } => if place.is_none() {
+            Some(Act::Operator { kind })
+        } else {
+            None
+        },
+        Doing::Skip => if place.is_none() {
+            Some(Act::Skip)
+        } else {
+            None
+        },
+        Doing::Flip => None,
+    }
+}
+
+/// A power of two, at most 2^61.
+fn power(b: u32) -> i64
+    requires { b < 62 }
+    ensures { result ≡ pos (2 ^ b) }
+{
+    (1u64 << b) as i64
+}
+
+/// The two acts of which one flips a bit.
+fn both_flips(place: Option<u32>, b: u32) -> Acts
+    requires { b < 62 }
+    ensures { result ≡ both_flips_of place b }
+{
+    Acts {
+        act: adding(place, power(b)),
+        other: Some(adding(place, -power(b))),
+    }
+}
+
+/// The acts of a line that isn't `flip`.
+fn plain_acts(doing: Doing, place: Option<u32>, ending: Ending) -> Option<Acts>
+    ensures { result ≡ plain_acts_of doing place ending }
+{
+    if let Ending::Bit { b: _ } = ending {
+        return None;
+    }
+    let act = act(doing, place)?;
+    Some(Acts { act, other: None })
+}
+
+/// The acts of `flip`.
+fn flips(place: Option<u32>, ending: Ending) -> Option<Acts>
+    ensures { result ≡ flips_of place ending }
+{
+    match ending {
+        Ending::Bit { b } => if b < 62 {
+            Some(both_flips(place, b))
+        } else {
+            None
+        },
+        Ending::Alone | Ending::Together => None,
+    }
+}
+
+/// The acts of a line.
+fn acts_said(doing: Doing, place: Option<u32>, ending: Ending) -> Option<Acts>
+    ensures { result ≡ acts_of doing place ending }
+{
+    match doing {
+        Doing::Flip => flips(place, ending),
+        _ => plain_acts(doing, place, ending),
+    }
+}
+
+/// The acts at an operation, where they may stand there.
+fn fitted(graph: &Graph, op: u32, span: Span, together: bool, acts: Acts) -> Result<Meant, Why>
+    requires { op < length graph.now.operations }
+    ensures { result ≡ fitted_of graph.now op span together acts }
+{
+    let operation = graph.operation(op);
+    match unfit_acts(operation.kind, op, span.first, &acts) {
+        Some(why) => Err(why),
+        None => Ok(Meant {
+            op,
+            span,
+            together,
+            acts,
+        }),
+    }
+}
+
+/// What a line means whose words are these.
+fn ended(
+    graph: &Graph,
+    doing: Doing,
+    target: Target,
+    span: Span,
+    ending: Ending,
+) -> Result<Meant, Why>
+    requires { target.op < length graph.now.operations }
+    ensures { result ≡ ended_of graph.now doing target span ending }
+{
+    match acts_said(doing, target.operand, ending) {
+        Some(acts) => fitted(graph, target.op, span, is_together(ending), acts),
+        None => Err(Why::Form),
+    }
+}
+
+/// The same, from the words of the cycles on.
+fn timed(
+    graph: &Graph,
+    doing: Doing,
+    target: Target,
+    words: &mut WordsLeft<'_>,
+) -> Result<Meant, Why>
+    requires { target.op < length graph.now.operations }
+    ensures { result ≡ timed_of graph.now doing target words.old }
+{
+    let span = when(words)?;
+    match take_ending(words) {
+        Some(ending) => ended(graph, doing, target, span, ending),
+        None => Err(Why::Form),
+    }
+}
+
+/// The same, from the words of the operation on.
+fn aimed(graph: &Graph, doing: Doing, words: &mut WordsLeft<'_>) -> Result<Meant, Why>
+    ensures { result ≡ aimed_of graph.now doing words.old }
+{
+    let target = take_target(graph, words)?;
+    timed(graph, doing, target, words)
+}
+
+/// What a line means, or why it is refused.
+pub fn meaning(graph: &Graph, text: &[u8]) -> Result<Meant, Why>
+    ensures { result ≡ meant_of graph.now (words_of text.now) }
+{
+    let mut words = WordsLeft::new(text);
+    let doing = take_doing(graph, &mut words)?;
+    aimed(graph, doing, &mut words)
+}

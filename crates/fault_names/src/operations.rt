@@ -1,0 +1,113 @@
+//! Which operation a name names.
+
+ghost use Rattle.std.specs.Prelude.{◌≡◌, ◌<◌, ℕ, List, IfOk, length};
+ghost use Rattle.fault_names.specs.Operations.{is_kind as is_kind_of, may_be_alone as may_be_alone_of, is_variable as is_variable_of, is_at as is_at_of};
+ghost use Rattle.fault_names.specs.Operations.{is_named as is_named_of, found_of, found_next, the_one as the_one_of, operation_named as operation_named_of};
+ghost use Rattle.fault_names.specs.Words.{spot_of};
+
+use crate::cutting::spot;
+use crate::refused::Why;
+use crate::variables::variable_name;
+use op_graph::{Graph, Op};
+use vcp_base::{Kind, Spot, is_same_name, kind_code};
+
+/// Whether an operation is of this kind, where one is said.
+fn is_kind(kind: Option<Kind>, other: Kind) -> bool
+    ensures { result ≡ is_kind_of kind other }
+{
+    match kind {
+        None => true,
+        Some(said) => kind_code(said) == kind_code(other),
+    }
+}
+
+/// Whether the kind is said, or the operation is no LOAD.
+fn may_be_alone(kind: Option<Kind>, other: Kind) -> bool
+    ensures { result ≡ may_be_alone_of kind other }
+{
+    match kind {
+        Some(_) => true,
+        None => match other {
+            Kind::Load => false,
+            _ => true,
+        },
+    }
+}
+
+/// Whether an operation is that of a variable.
+fn is_variable(graph: &Graph, kind: Option<Kind>, name: &[u8], op: &Op) -> bool
+    ensures { result ≡ is_variable_of graph.now kind name.now op.now }
+{
+    may_be_alone(kind, op.kind) && is_same_name(name, variable_name(graph, op))
+}
+
+/// Whether an operation stands for a place.
+fn is_at(place: Option<Spot>, other: Spot) -> bool
+    ensures { result ≡ is_at_of place other }
+{
+    match place {
+        None => false,
+        Some(spot) => spot.line == other.line && spot.col == other.col,
+    }
+}
+
+/// Whether an operation has a name, which is this place where it is one.
+fn is_named(graph: &Graph, kind: Option<Kind>, name: &[u8], place: Option<Spot>, op: &Op) -> bool
+    requires { place ≡ spot_of name.now }
+    ensures { result ≡ is_named_of graph.now kind name.now op.now }
+{
+    is_kind(kind, op.kind) && (is_variable(graph, kind, name, op) || is_at(place, op.spot))
+}
+
+/// Which of some operations have a name.
+#[derive(Clone, Copy, Debug)]
+pub enum Found {
+    /// None.
+    Nothing,
+    /// One.
+    One {
+        /// Its number.
+        k: u32,
+    },
+    /// More than one.
+    Several,
+}
+
+/// The same with operation `i`, which has the name or hasn't.
+fn with_next(found: Found, i: u32, is: bool) -> Found
+    ensures { result ≡ found_next found i is }
+{
+    if !is {
+        return found;
+    }
+    match found {
+        Found::Nothing => Found::One { k: i },
+        Found::One { k: _ } | Found::Several => Found::Several,
+    }
+}
+
+/// The one that was found.
+fn the_one(found: Found) -> Result<u32, Why>
+    ensures value { (ks : List ℕ) → found_of ks ≡ found → the_one_of ks ≡ result }
+    ensures one { IfOk result (λ k. found ≡ Found.One k) }
+{
+    match found {
+        Found::Nothing => Err(Why::Unknown),
+        Found::One { k } => Ok(k),
+        Found::Several => Err(Why::Several),
+    }
+}
+
+/// The operation that has a name, of this kind where one is said.
+pub fn operation_named(graph: &Graph, kind: Option<Kind>, name: &[u8]) -> Result<u32, Why>
+    ensures value { result ≡ operation_named_of graph.now kind name.now }
+    ensures there { IfOk result (λ k. k < length graph.now.operations) }
+{
+    let place = spot(name);
+    let mut found = Found::Nothing;
+    'operations: for i in 0..graph.len() {
+        let op = graph.operation(i);
+        found = with_next(found, i, is_named(graph, kind, name, place, &op));
+    }
+    the_one(found)
+}

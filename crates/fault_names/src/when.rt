@@ -1,0 +1,132 @@
+//! In which cycles.
+
+ghost use Rattle.std.specs.Prelude.{◌≡◌, ◌<◌, ◌≤◌, IfSome, IfOk};
+ghost use Rattle.vcp_base.specs.Limits.{most_cycles};
+ghost use Rattle.fault_names.specs.Words.{last_of, from_to as from_to_of, span_of};
+ghost use Rattle.fault_names.specs.Lines.{ending_of, bit_of, when_of, with_rest, is_together as is_together_of};
+
+use crate::cutting::{cut_at, cycle, index};
+use crate::refused::Why;
+use script_text::WordsLeft;
+
+/// Cycles, from one to another, which may be the same.
+#[derive(Clone, Copy, Debug, PartialEq, Eq)]
+pub struct Span {
+    /// The first, below 1,000,000.
+    pub first: u32,
+    /// The last, which isn't before it, below 1,000,000.
+    pub last: u32,
+}
+
+/// What stands behind the cycles.
+#[derive(Clone, Copy, Debug, PartialEq, Eq)]
+pub enum Ending {
+    /// Nothing: each cycle has a group of its own.
+    Alone,
+    /// `together`: the cycles are one group.
+    Together,
+    /// `bit B`: the number of a bit.
+    Bit {
+        /// The number.
+        b: u32,
+    },
+}
+
+/// The cycle behind the second `.` of N..M.
+fn last(text: &[u8]) -> Option<u32>
+    ensures value { result ≡ last_of text.now }
+    ensures below { IfSome result (λ n. n < most_cycles) }
+{
+    match text {
+        [b'.', word @ ..] => cycle(word),
+        _ => None,
+    }
+}
+
+/// Cycles from the first to the last.
+fn from_to(first: u32, last: u32) -> Option<Span>
+    ensures value { result ≡ from_to_of first last }
+    ensures order { IfSome result (λ s. s.first ≤ s.last) }
+    ensures last { IfSome result (λ s. s.last ≡ last) }
+{
+    if first <= last {
+        Some(Span { first, last })
+    } else {
+        None
+    }
+}
+
+/// One cycle, or N..M.
+pub(crate) fn cycles_said(word: &[u8]) -> Option<Span>
+    ensures value { result ≡ span_of word.now }
+    ensures order { IfSome result (λ s. s.first ≤ s.last) }
+    ensures below { IfSome result (λ s. s.last < most_cycles) }
+{
+    match cut_at(word, b'.') {
+        None => {
+            let n = cycle(word)?;
+            Some(Span { first: n, last: n })
+        }
+        Some((front, back)) => {
+            let first = cycle(front)?;
+            let last = last(back)?;
+            from_to(first, last)
+        }
+    }
+}
+
+/// The number of a bit.
+fn bit(word: &[u8]) -> Option<Ending>
+    ensures value { result ≡ bit_of word.now }
+{
+    let b = index(word)?;
+    Some(Ending::Bit { b })
+}
+
+/// What stands behind the cycles, to the end of the line.
+pub(crate) fn take_ending(words: &mut WordsLeft<'_>) -> Option<Ending>
+    ensures value { result ≡ ending_of words.old }
+{
+    let Some(word) = words.next() else {
+        return Some(Ending::Alone);
+    };
+    if word == b"bit".as_slice() {
+        return bit(words.only()?);
+    }
+    if word == b"together".as_slice() && words.is_end() {
+        Some(Ending::Together)
+    } else {
+        None
+    }
+}
+
+/// Takes `cycle` and the cycles.
+pub(crate) fn when(words: &mut WordsLeft<'_>) -> Result<Span, Why>
+    ensures value { with_rest words.new result ≡ when_of words.old }
+    ensures order { IfOk result (λ s. s.first ≤ s.last) }
+    ensures below { IfOk result (λ s. s.last < most_cycles) }
+{
+    let Some(word) = words.next() else {
+        return Err(Why::Form);
+    };
+    let Some(cycles) = words.next() else {
+        return Err(Why::Form);
+    };
+    if word != b"cycle".as_slice() {
+        return Err(Why::Form);
+    }
+    match cycles_said(cycles) {
+        Some(span) => Ok(span),
+        None => Err(Why::Form),
+    }
+}
+
+/// Whether the cycles are one group.
+pub(crate) fn is_together(ending: Ending) -> bool
+    ensures { result ≡ is_together_of ending }
+{
+    match ending {
+        Ending::Together => true,
+        Ending::Alone | Ending::Bit { b: _ } => false,
+    }
+}
