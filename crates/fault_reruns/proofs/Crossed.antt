@@ -44,6 +44,7 @@ crossed r faults n row other w u x y z i j k there answered b ran =
 -- after one with a verdict
 pub judged_there : (r : KeptRun) (faults : List Fault) (n : ℕ) (row : List ℤ) (other : List Answer) (w u : Work) (v : Verdict)
     (x y z : Option (List Entry)) (i j k : ℕ) → slice_get r.rows n ≡ Some row → slice_get r.answers n ≡ Some other
-    → Between r faults n (past_of w) w.held.items w.cell_marks.items x y i j → CycleRan r faults n row other w u (Some v) y z j k → RanThrough r faults v x z i k
+    → Between r faults n (past_of w) w.held.items w.cell_marks.items x y i j → CycleRan r faults n row other w u (Some v) y z j k
+    → RanThrough r faults v x z i k
 judged_there r faults n row other w u v x y z i j k there answered b ran =
     judges r faults n (past_of w) w.held.items w.cell_marks.items row other u.past.items v x y z i j k there answered b ran.ran ran.verdict

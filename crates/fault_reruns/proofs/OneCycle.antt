@@ -35,8 +35,9 @@ marks_same g h acts cell_marks d other o graph cells answers =
     ap (λ (x : Lists). (cycle_marks x o acts d).given) graph
     ∙ (ap (λ (x : List Bool). (cycle_marks g o acts x).given) cells ∙ ap (λ (x : List Answer). (cycle_marks g x acts cell_marks).given) answers)
 
-pub begins_same : (g h : Lists) (t u : Numbers) (acts : Acts) (n : ℕ) (past_held ph : List ℤ) (past pa : List Answer) (held hw : List ℤ) (cell_marks : List Bool)
-    (row rv : List ℤ) (other o : List Answer) (touched : List Bool) → h ≡ g → u ≡ t → ph ≡ past_held → pa ≡ past → hw ≡ held → rv ≡ row → o ≡ other
+pub begins_same : (g h : Lists) (t u : Numbers) (acts : Acts) (n : ℕ) (past_held ph : List ℤ) (past pa : List Answer) (held hw : List ℤ)
+    (cell_marks : List Bool) (row rv : List ℤ) (other o : List Answer) (touched : List Bool)
+    → h ≡ g → u ≡ t → ph ≡ past_held → pa ≡ past → hw ≡ held → rv ≡ row → o ≡ other
     → touched ≡ (cycle_marks g other (acts n) cell_marks).given
     → begins_with h u (acts n) n ph pa hw rv o touched ≡ cycle_again t g acts n (record { held = past_held; answers = past }) held cell_marks row other
 begins_same g h t u acts n past_held ph past pa held hw cell_marks row rv other o touched graph table first before cells inputs answers marks =

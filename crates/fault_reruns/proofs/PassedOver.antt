@@ -116,7 +116,8 @@ module _ (r : KeptRun) (faults : List Fault) (n m : ℕ) (free : Free r faults n
   abbrev Passing : ℕ → Type 0
   Passing p = Between r faults p (past_at r p) (held_at r p) (held_marks r.graph []) x y i j
 
-  passes_on : (p : ℕ) (past : Words) (cell_marks : List Bool) → n ≤ p → p < m → NoMark cell_marks → Between r faults p past (held_at r p) cell_marks x y i j → Passing (p + 1)
+  passes_on : (p : ℕ) (past : Words) (cell_marks : List Bool) → n ≤ p → p < m → NoMark cell_marks → Between r faults p past (held_at r p) cell_marks x y i j
+      → Passing (p + 1)
   passes_on p past cell_marks above below cells b =
       let back : p + 1 - 1 ≡ p = omega arith in
       let now : held_at r p ≡ held_at r (p + 1 - 1) = ap (held_at r) (sym back) in
@@ -129,7 +130,8 @@ module _ (r : KeptRun) (faults : List Fault) (n m : ℕ) (free : Free r faults n
       pass_on d (p + 1) (omega (arith, above)) (omega (arith, is))
       (passes_on p (past_at r p) (held_marks r.graph []) above (omega (arith, is)) (none_marked r.graph.stores) b)
 
-  passed_until : (past : Words) (held : List ℤ) (cell_marks : List Bool) → n + 2 ≤ m → NoMark cell_marks → Between r faults n past held cell_marks x y i j → Passing m
+  passed_until : (past : Words) (held : List ℤ) (cell_marks : List Bool) → n + 2 ≤ m → NoMark cell_marks → Between r faults n past held cell_marks x y i j
+      → Passing m
   passed_until past held cell_marks far cells b =
       pass_on (m - (n + 1 + 1)) (n + 1 + 1) (omega arith) (omega (arith, far))
       (passes_on (n + 1) (record { held = held; answers = last_answers r (n + 1) }) (held_marks r.graph []) (omega arith) (omega (arith, far))

@@ -133,8 +133,8 @@ judges r faults n past held cell_marks row other own v x y z i j k there answere
     }
 
 -- and so do the rows, or the run without the faults
-nothing_left : (t : Numbers) (g : Lists) (acts : Acts) (n : ℕ) (past : Words) (held : List ℤ) (cell_marks : List Bool) (rows : List (List ℤ)) (left : List Answer)
-    → runs_again t g acts n past held cell_marks rows [] left ≡ same_then left
+nothing_left : (t : Numbers) (g : Lists) (acts : Acts) (n : ℕ) (past : Words) (held : List ℤ) (cell_marks : List Bool) (rows : List (List ℤ))
+    (left : List Answer) → runs_again t g acts n past held cell_marks rows [] left ≡ same_then left
 nothing_left t g acts n past held cell_marks [] left = refl
 nothing_left t g acts n past held cell_marks (row ∷ rows) left = refl
 

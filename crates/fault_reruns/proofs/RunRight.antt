@@ -134,8 +134,8 @@ Right t g acts rows = (others : List (List Answer)) (n : ℕ) (past : Words) (he
     AllRight (runs_again t g acts n past held cell_marks rows others left).calls →
     RightRun t g acts n past held rows (runs_again t g acts n past held cell_marks rows others left).answers
 
-without_others : (t : Numbers) (g : Lists) (acts : Acts) (n : ℕ) (past : Words) (held : List ℤ) (cell_marks : List Bool) (rows : List (List ℤ)) (left : List Answer)
-    → RightRun t g acts n past held rows (runs_again t g acts n past held cell_marks rows [] left).answers
+without_others : (t : Numbers) (g : Lists) (acts : Acts) (n : ℕ) (past : Words) (held : List ℤ) (cell_marks : List Bool) (rows : List (List ℤ))
+    (left : List Answer) → RightRun t g acts n past held rows (runs_again t g acts n past held cell_marks rows [] left).answers
 without_others t g acts n past held cell_marks [] left = tt
 without_others t g acts n past held cell_marks (row ∷ rows) left = tt
 
@@ -148,8 +148,9 @@ pub one_cycle : (reads : ReadLaws) (t : Numbers) (g : Lists) (acts : Acts) (n : 
     → CycleRight (cycle_again t g acts n past held cell_marks row other) [] g.operations
     (again (cycle_again t g acts n past held cell_marks row other) [] g.operations left).own
 one_cycle reads t g acts n past held cell_marks beside row rows other others left graph cells o enough right =
-    cycle_right (cycle_again t g acts n past held cell_marks row other) beside cell_marks left cells (cycle_spread reads g other (acts n) cell_marks graph o.all.0) o.all.0
-    (right_front (CallsOf (setting_at g t n beside row) other) (calls_over g t (suc n) (stored_words g other) rows others) o.right) enough right
+    cycle_right (cycle_again t g acts n past held cell_marks row other) beside cell_marks left cells
+    (cycle_spread reads g other (acts n) cell_marks graph o.all.0)
+    o.all.0 (right_front (CallsOf (setting_at g t n beside row) other) (calls_over g t (suc n) (stored_words g other) rows others) o.right) enough right
 
 later_right : (t : Numbers) (g : Lists) (acts : Acts) (n : ℕ) (past : Words) (held : List ℤ) (cell_marks touched : List Bool) (beside row : List ℤ)
     (rows : List (List ℤ)) (own other : List Answer) (others : List (List Answer)) (left : List Answer) → Right t g acts rows

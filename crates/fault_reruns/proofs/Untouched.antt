@@ -127,8 +127,8 @@ again_same c (op ∷ ops) before (x ∷ rest) left none is whole =
     ∙ after_same c before x rest left ops (is_word x) refl is whole
     (λ is_next whole_next. again_same c ops (before ++ x ∷ []) rest left none is_next whole_next))
 
-pub cycle_same : (t : Numbers) (g : Lists) (acts : Acts) (n : ℕ) (past : Words) (held : List ℤ) (cell_marks : List Bool) (row : List ℤ) (other left : List Answer)
-    → Whole g.operations other → NothingTouched (acts n) cell_marks
+pub cycle_same : (t : Numbers) (g : Lists) (acts : Acts) (n : ℕ) (past : Words) (held : List ℤ) (cell_marks : List Bool) (row : List ℤ)
+    (other left : List Answer) → Whole g.operations other → NothingTouched (acts n) cell_marks
     → again (cycle_again t g acts n past held cell_marks row other) [] g.operations left ≡ done other left
 cycle_same t g acts n past held cell_marks row other left whole u =
     again_same (cycle_again t g acts n past held cell_marks row other) g.operations [] other left (none_touched g other (acts n) cell_marks u) refl whole
@@ -138,7 +138,8 @@ cycle_same t g acts n past held cell_marks row other left whole u =
 pub row_same : (row : List ℤ) (number : ℕ) → first_difference row row number ≡ None
 row_same [] number = refl
 row_same (x ∷ row) number =
-    ap (λ (b : Bool). cond b (first_difference row row (suc number)) (Some (record { place = number; first = x; second = x }))) (same_self x) ∙ row_same row (suc number)
+    ap (λ (b : Bool). cond b (first_difference row row (suc number)) (Some (record { place = number; first = x; second = x }))) (same_self x)
+    ∙ row_same row (suc number)
 
 kind_same : (k : StopKind) → same_stop k k ≡ true
 kind_same stop.Range = refl

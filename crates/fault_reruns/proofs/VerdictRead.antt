@@ -131,7 +131,8 @@ cycle_read laws t g faults all n past held beside row rows own other k below s w
     (laws.outputs t g acts n s.before s.values row own k.graph k.table k.profile below law.answers_are no_stop)
     ∙ ap (λ (xs : List ℤ). first_difference (outputs g c.values) xs 0) (honest.row_is (no_kind o.values o.stop plain_on)) in
     let read_is : read_cycle g t n own other ≡ judged_cycle t g acts n c o =
-    ap (λ (e : CycleEnd). judged n (stop_in e) (refusal_in e) (stop_in (end_of g t n other)) (first_difference (outputs_of g own) (outputs_of g other) 0)) end_is
+    ap (λ (e : CycleEnd). judged n (stop_in e) (refusal_in e) (stop_in (end_of g t n other)) (first_difference (outputs_of g own) (outputs_of g other) 0))
+    end_is
     ∙ (ap (λ (x : Option Stop). judged n (stop_in (ending stops refusal)) (refusal_in (ending stops refusal)) x (first_difference (outputs_of g own)
     (outputs_of g other) 0)) other_stop
     ∙ judged_ending n stops refusal (operation_stop o) (first_difference (outputs_of g own) (outputs_of g other) 0)
@@ -182,8 +183,8 @@ verdict_step false None part next w ends goes enough right =
 
 runs_read : (laws : Laws) (t : Numbers) (g : Lists) (faults : List Fault) (all : List (List ℤ)) → Known t g →
     (rows : List (List ℤ)) (others : List (List Answer)) (n : ℕ)
-    (past : Words) (held : List ℤ) (cell_marks : List Bool) (beside : List ℤ) (left : List Answer) → CellsFollow cell_marks held beside → Other t g n beside rows others
-    → n + length rows ≤ most_cycles → Stand t g faults all n past held beside rows
+    (past : Words) (held : List ℤ) (cell_marks : List Bool) (beside : List ℤ) (left : List Answer) → CellsFollow cell_marks held beside
+    → Other t g n beside rows others → n + length rows ≤ most_cycles → Stand t g faults all n past held beside rows
     → (runs_again t g (acts_of faults) n past held cell_marks rows others left).too_few ≡ false
     → AllRight (runs_again t g (acts_of faults) n past held cell_marks rows others left).calls
     → verdict_of t g faults all ≡ (runs_again t g (acts_of faults) n past held cell_marks rows others left).verdict

@@ -32,7 +32,8 @@ past_of w = record { held = w.past_held.items; answers = w.past.items }
 -- cycle leaves; and this is its verdict.
 pub record CycleRan (r : KeptRun) (faults : List Fault) (n : ℕ) (row : List ℤ) (other : List Answer) (before now : Work) (v : Option Verdict)
     (x y : Option (List Entry)) (i j : ℕ) : Type 0 where
-  pub ran : RanAgain (cycle_again r.table r.graph (acts_of faults) n (past_of before) before.held.items before.cell_marks.items row other) now.past.items x y i j
+  pub ran : RanAgain (cycle_again r.table r.graph (acts_of faults) n (past_of before) before.held.items before.cell_marks.items row other)
+      now.past.items x y i j
   pub past_held : now.past_held.items ≡ before.held.items
   pub held : now.held.items ≡ stored_words r.graph now.past.items
   pub cell_marks : now.cell_marks.items ≡ held_marks r.graph (cycle_marks r.graph other (acts_of faults n) before.cell_marks.items).given

@@ -74,8 +74,9 @@ pub record AsksNoMore (a : Again) (left : List Answer) : Type 0 where
 
 pub record PassedOverLaws : Type 0 where
   -- in a cycle in which nothing is touched no call is made, and its answers are those of the run without the faults; and no cell is touched after it
-  pub cycle : (t : Numbers) (g : Lists) (acts : Acts) (n : ℕ) (past : Words) (held : List ℤ) (cell_marks : List Bool) (row : List ℤ) (other left : List Answer) →
-      Whole g.operations other → NothingTouched (acts n) cell_marks → again (cycle_again t g acts n past held cell_marks row other) [] g.operations left ≡ done other left
+  pub cycle : (t : Numbers) (g : Lists) (acts : Acts) (n : ℕ) (past : Words) (held : List ℤ) (cell_marks : List Bool) (row : List ℤ)
+      (other left : List Answer) → Whole g.operations other → NothingTouched (acts n) cell_marks →
+      again (cycle_again t g acts n past held cell_marks row other) [] g.operations left ≡ done other left
   pub cells : (g : Lists) (other : List Answer) (acts : ℕ → Option Act) (cell_marks : List Bool) → NothingTouched acts cell_marks →
       (i : ℕ) → mark (held_marks g (cycle_marks g other acts cell_marks).given) i ≡ false
   -- so from a cycle on in which no cell is touched and behind which no fault comes

@@ -57,7 +57,8 @@ fn touched(
     k: u32,
 ) -> bool
     requires { IsStanding standing.now }
-    ensures { result ≡ touched_at (answers_in other.now) (acts_of standing.now.group.now standing.now.cycle) (record { held = cells.now; given = given.now }) k op.now }
+    ensures { result ≡ touched_at (answers_in other.now) (acts_of standing.now.group.now standing.now.cycle)
+        (record { held = cells.now; given = given.now }) k op.now }
 {
     act_at(standing, k).is_some()
         || operand_touched(cells, given, op, 0)

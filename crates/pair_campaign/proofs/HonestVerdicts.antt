@@ -1,13 +1,11 @@
 -- HonestVerdicts: the verdict of a pair whose first channel's answers keep the run law is the defined one, as a pair tells it.
-use Rattle.std.proofs.Common.{◌≡◌, ◌≢◌, ℕ, suc, ◌+◌, ◌≤◌, ◌==◌, ◌&&◌, Bool, true, false, cond, List, [], ◌∷◌, length, map, Option, Some, None, option_map}
+use Rattle.std.proofs.Common.{◌≡◌, ◌≢◌, ℕ, suc, ◌+◌, ◌≤◌, ◌==◌, ◌&&◌, Bool, true, false, cond, List, [], ◌∷◌, length, Option, Some, None, option_map}
 use Rattle.std.proofs.Common.{All, ℤ, refl, sym, ap, subst, ◌∙◌, arith}
 use Rattle.vcp_base.specs.declared.kind.StopKind.{StopKind}
 use Rattle.vcp_base.specs.Differences.{Difference, first_difference}
 use Rattle.vcp_base.specs.Kinds.{same_stop}
 use Rattle.vcp_base.specs.Limits.{most_cycles}
-use Rattle.vcp_base.specs.Values.{at}
 use Rattle.coded_unit.specs.declared.call.Answer.{Answer}
-use Rattle.op_graph.specs.declared.op.Outlet.{Outlet}
 use Rattle.op_graph.specs.GraphRun.{Cycle, Stop, cycle, outputs, stored}
 use Rattle.op_graph.specs.Lists.{Lists}
 use Rattle.op_graph.specs.Rules.{IsGraph}

@@ -10,7 +10,9 @@ pub copy_answers-requires : goal.copy_answers-requires
 copy_answers-requires c =
     let r : KeptRun = c.args.reference.now in
     let other = answers_in c.cycle-answers.result in
-    let few = whole_few r.graph.operations other (whole_there r.graph r.table 0 r.rows r.answers c.args.n other c.cycles-sound.ensures.sound.5 c.cycle-answers.ensures) in
+    let few =
+    whole_few r.graph.operations other
+    (whole_there r.graph r.table 0 r.rows r.answers c.args.n other c.cycles-sound.ensures.sound.5 c.cycle-answers.ensures) in
     omega (arith, few, c.requires.room)
 
 pub returns-clause-items : goal.returns-clause-items

@@ -86,7 +86,8 @@ returns-clause-ran g c = λ row there other answered.
       held =
           c.cross.ensures.held ∙ (ap (λ (x : Lists). stored_words x own) c.graph-graph.ensures ∙ ap (stored_words r.graph) (sym past));
       cell_marks =
-          c.cross.ensures.cell_marks ∙ (ap (λ (x : Lists). held_marks x c.mark_operations.new.marks.items) c.graph-graph.ensures ∙ ap (held_marks r.graph) marked);
+          c.cross.ensures.cell_marks
+          ∙ (ap (λ (x : Lists). held_marks x c.mark_operations.new.marks.items) c.graph-graph.ensures ∙ ap (held_marks r.graph) marked);
       verdict =
           c.read-verdict.ensures
           ∙ read_same r.graph h r.table t n u.past.items c.deref-7.result.now c.deref-8.result.now other kept c.end_of_answers-end.result c.end-other_end.result

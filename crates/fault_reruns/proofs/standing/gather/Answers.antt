@@ -12,7 +12,9 @@ faults-preserved c =
     let n = c.args.cycle in
     let f : Fault = c.at.result in
     record {
-      faults = i.faults ∙ (gathered n c.args.group.now c.faults.i f c.faults.faults.items _ c.at.ensures refl ∙ ap (λ xs. xs ++ faults_in n (drop (c.faults.i + 1) c.args.group.now)) (sym c.append_in.ensures.items));
+      faults = i.faults
+          ∙ (gathered n c.args.group.now c.faults.i f c.faults.faults.items _ c.at.ensures refl
+          ∙ ap (λ xs. xs ++ faults_in n (drop (c.faults.i + 1) c.args.group.now)) (sym c.append_in.ensures.items));
       few = omega (arith, i.few, c.append_in.ensures.few);
       room = omega (arith, i.room, c.append_in.ensures.capacity);
     }
