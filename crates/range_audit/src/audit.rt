@@ -1,7 +1,7 @@
 //! What is told of all operations of a graph.
 
 ghost use Rattle.std.specs.Prelude.{◌≡◌, ◌<◌, Some, length, slice_get, IfOk};
-ghost use Rattle.range_audit.specs.Audit.{Holds, Names, Ends};
+ghost use Rattle.range_audit.specs.Audit.{Holds, Names, Ends, named_below, NeverStops};
 
 use crate::cells::settled;
 use crate::range::{Range, Stops};
@@ -52,14 +52,15 @@ impl Ranges {
 /// The range of the values of each operation of a graph, and why it may stop: an answer for all inputs and any number of cycles.
 ///
 /// Each value of each operation, in each cycle of the graph's run over whatever rows, is in the range of its operation. In a run over
-/// rows whose values are in the types of their inputs, only an operation that is named stops, and only so as is said of it. That an
-/// operation is named doesn't say that it can stop. The time is linear in the number of operations.
+/// rows whose values are in the types of their inputs, only an operation that is named stops, and only so as is said of it; where none
+/// is named, no run stops. That an operation is named doesn't say that it can stop. The time is linear in the number of operations.
 pub fn ranges_of(alloc: Global, graph: &Graph) -> Result<Ranges, Memory>
     ensures known { IfOk result (λ a. length a.known ≡ length graph.now.operations) }
     ensures stops { IfOk result (λ a. length a.stops ≡ length graph.now.operations) }
     ensures holds { IfOk result (λ a. Holds graph.now a.known) }
     ensures names { IfOk result (λ a. Names graph.now a.stops) }
     ensures ends { IfOk result (λ a. Ends graph.now a.stops) }
+    ensures never { IfOk result (λ a. named_below a.stops (length graph.now.operations) ≡ 0 → NeverStops graph.now) }
 {
     // No operation stops because an operand is outside its type.
     operands_are_in_their_types();

@@ -1,6 +1,8 @@
 use Rattle.std.proofs.Common.{subst}
+use Rattle.range_audit.specs.Audit.{IsAudit}
 use Rattle.range_audit.specs.Walking.{IsWalk}
 use Rattle.range_audit.proofs.Cycles.{holds, names, ends}
+use Rattle.range_audit.proofs.Naming.{never}
 use Rattle.range_audit.proofs.audit.ranges_of.Goals as goal
 
 pub returns : goal.returns
@@ -13,10 +15,11 @@ returns c =
     let laws = c.operands_are_in_their_types.ensures in
     let rules = c.entries_keep_their_rules.ensures in
     let graph = c.in_ok-cells.ensures.graph in
-    record {
+    let is : IsAudit g told = record {
       known = walk.known_many;
       stops = walk.stops_many;
       holds = holds g cells told walk settled laws graph;
       names = names g cells told walk settled laws rules graph;
       ends = ends g cells told walk settled laws rules graph;
-    }
+    } in
+    record { known = is.known; stops = is.stops; holds = is.holds; names = is.names; ends = is.ends; never = never g told is }
