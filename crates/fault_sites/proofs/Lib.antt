@@ -1,6 +1,9 @@
 mod Below
+mod Bits
 mod Counting
 mod Ended
+mod FlipGoing
+mod FlipsFit
 mod Going
 mod Parts
 mod ReadBack

@@ -37,7 +37,7 @@ use Rattle.fault_sites.specs.declared.part.Part.{Part}
 use Rattle.fault_sites.specs.declared.site.Site.{Site}
 use Rattle.fault_sites.specs.Part.{kept}
 use Rattle.fault_sites.specs.Sites.{as_fault, sites, site}
-use Rattle.fault_sites.specs.SiteText.{classes_name, said_from, site_line, site_lines, site_text, sites_text}
+use Rattle.fault_sites.specs.SiteText.{classes_name, named_remark, said_from, site_line, site_lines, site_text, sites_text}
 use Rattle.fault_sites.proofs.Spelled.{Shown, shows, shown_from, decimal_shown, signed_shown, kind_shown, addend_is, cycle_is, index_is, kind_is}
 use Rattle.fault_sites.proofs.SitesFit.{each_fits}
 
@@ -330,15 +330,21 @@ plain_name (classes.One class.From) = refl
 plain_name (classes.One class.Operator) = refl
 plain_name classes.All = refl
 
+-- the lines of sites that fit, behind a remark
+pub lines_read_back : (name digest : List ℕ) (g : Lists) (xs : List Site) → list_all plain name ≡ true → All (λ b. 32 ≤ b) digest
+    → length g.operations ≤ 2 ^ 32 → length xs ≤ most_faults → All (λ s. Fits g (as_fault 0 s)) xs
+    → script_of g (named_remark name digest ++ site_lines xs) ≡ Ok (said_from 2 xs)
+lines_read_back name digest g xs named digits ops room fit =
+    let front : List ℕ = codes "# sites " ++ (name ++ (codes " of " ++ digest)) in
+    let cut : lines (named_remark name digest ++ site_lines xs) ≡ front ∷ lines (site_lines xs) =
+    ap lines (regroup name digest (site_lines xs)) ∙ line_first front (site_lines xs) (plain_remark name digest named (plain_all digest digits)) in
+    ap (λ (ls : List (List ℕ)). groups_of (items_of g 0 (read_lines 1 ls)) None) cut ∙ come_back g xs 2 0 ops (omega (arith, room)) fit
+
 pub read_back : (c : Classes) (digest : List ℕ) (g : Lists) (cycles : ℕ) (p : Part) → All (λ b. 32 ≤ b) digest → cycles ≤ most_cycles
     → length g.operations ≤ 2 ^ 32 → length (kept p (sites c g cycles)) ≤ most_faults
     → script_of g (sites_text c digest g cycles p) ≡ Ok (said_from 2 (kept p (sites c g cycles)))
 read_back c digest g cycles p digits few ops room =
     let xs : List Site = kept p (sites c g cycles) in
     let P : Site → Type 0 = λ s. Fits g (as_fault 0 s) in
-    let name : List ℕ = classes_name c in
-    let front : List ℕ = codes "# sites " ++ (name ++ (codes " of " ++ digest)) in
     let fit : All P xs = All-take P p.left (drop p.skip (sites c g cycles)) (All-drop P p.skip (sites c g cycles) (each_fits c g cycles 0 few)) in
-    let cut : lines (sites_text c digest g cycles p) ≡ front ∷ lines (site_lines xs) =
-    ap lines (regroup name digest (site_lines xs)) ∙ line_first front (site_lines xs) (plain_remark name digest (plain_name c) (plain_all digest digits)) in
-    ap (λ (ls : List (List ℕ)). groups_of (items_of g 0 (read_lines 1 ls)) None) cut ∙ come_back g xs 2 0 ops (omega arith) fit
+    lines_read_back (classes_name c) digest g xs (plain_name c) digits ops room fit

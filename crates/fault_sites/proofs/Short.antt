@@ -20,7 +20,7 @@ use Rattle.fault_sites.specs.declared.part.Part.{Part}
 use Rattle.fault_sites.specs.declared.site.Site.{Site}
 use Rattle.fault_sites.specs.Part.{kept}
 use Rattle.fault_sites.specs.Sites.{as_fault, sites, site}
-use Rattle.fault_sites.specs.SiteText.{classes_name, rest, site_line, site_lines, sites_text, verb}
+use Rattle.fault_sites.specs.SiteText.{classes_name, named_remark, rest, site_line, site_lines, sites_text, verb}
 use Rattle.fault_sites.proofs.ReadBack.{Small, small, there_few}
 use Rattle.fault_sites.proofs.SitesFit.{each_fits}
 use Rattle.fault_sites.proofs.Spelled.{low, low_negative}
@@ -76,18 +76,22 @@ name_short (classes.One class.From) = omega arith
 name_short (classes.One class.Operator) = omega arith
 name_short classes.All = omega arith
 
+pub text_short : (name digest : List ℕ) (g : Lists) (xs : List Site) → length name ≤ 8 → length digest ≤ 1000 → length g.operations ≤ 2 ^ 32
+    → length xs ≤ most_faults → All (λ s. Fits g (as_fault 0 s)) xs → length (named_remark name digest ++ site_lines xs) ≤ most_source_bytes
+text_short name digest g xs few_letters few_digits ops room fit =
+    omega (
+      arith,
+      lines_short g xs ops fit,
+      few_letters,
+      length-append name (codes " of " ++ (digest ++ codes "\n")),
+      length-append digest (codes "\n"),
+      length-append (codes "# sites " ++ (name ++ (codes " of " ++ (digest ++ codes "\n")))) (site_lines xs),
+    )
+
 pub is_short : (c : Classes) (digest : List ℕ) (g : Lists) (cycles : ℕ) (p : Part) → length digest ≤ 1000 → cycles ≤ most_cycles
     → length g.operations ≤ 2 ^ 32 → length (kept p (sites c g cycles)) ≤ most_faults → length (sites_text c digest g cycles p) ≤ most_source_bytes
 is_short c digest g cycles p few_digits few ops room =
     let xs : List Site = kept p (sites c g cycles) in
     let P : Site → Type 0 = λ s. Fits g (as_fault 0 s) in
     let fit : All P xs = All-take P p.left (drop p.skip (sites c g cycles)) (All-drop P p.skip (sites c g cycles) (each_fits c g cycles 0 few)) in
-    let name : List ℕ = classes_name c in
-    omega (
-      arith,
-      lines_short g xs ops fit,
-      name_short c,
-      length-append name (codes " of " ++ (digest ++ codes "\n")),
-      length-append digest (codes "\n"),
-      length-append (codes "# sites " ++ (name ++ (codes " of " ++ (digest ++ codes "\n")))) (site_lines xs),
-    )
+    text_short (classes_name c) digest g xs (name_short c) few_digits ops room fit

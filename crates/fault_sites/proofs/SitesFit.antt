@@ -100,7 +100,7 @@ acts_fit class.Operator g op k n has =
 
 -- ---- their sites
 
-sited_fit : (g : Lists) (op : Op) (k n line : ℕ) (acts : List Act) → n < most_cycles → slice_get g.operations k ≡ Some op
+pub sited_fit : (g : Lists) (op : Op) (k n line : ℕ) (acts : List Act) → n < most_cycles → slice_get g.operations k ≡ Some op
     → All (ActFits op.kind k n) acts → All (λ s. Fits g (as_fault line s)) (sited n k acts)
 sited_fit g op k n line [] few there fit = All-nil (λ s. Fits g (as_fault line s))
 sited_fit g op k n line (a ∷ acts) few there fit =

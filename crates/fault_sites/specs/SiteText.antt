@@ -68,8 +68,11 @@ site_lines [] = []
 site_lines (s ∷ more) = site_text s ++ site_lines more
 
 -- the remark that names the class and the image, by the digits of its digest
+abbrev pub named_remark : List ℕ → List ℕ → List ℕ
+named_remark name digest = codes "# sites " ++ (name ++ (codes " of " ++ (digest ++ codes "\n")))
+
 abbrev pub remark : Classes → List ℕ → List ℕ
-remark c digest = codes "# sites " ++ (classes_name c ++ (codes " of " ++ (digest ++ codes "\n")))
+remark c digest = named_remark (classes_name c) digest
 
 -- the script of a part of the sites
 abbrev pub sites_text : Classes → List ℕ → Lists → ℕ → Part → List ℕ

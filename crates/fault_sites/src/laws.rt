@@ -1,6 +1,6 @@
 //! Laws of sites. Each function does nothing: it states a law.
 
-ghost use Rattle.fault_sites.specs.Laws.{EachFits, EachOnce, IsLineRead, IsReadBack, IsShort, PartsAreWhole};
+ghost use Rattle.fault_sites.specs.Laws.{EachFits, EachFlipFits, EachOnce, FlipsAreReadBack, FlipsAreShort, IsLineRead, IsReadBack, IsShort, PartsAreWhole};
 ghost use Rattle.fault_sites.specs.Members.{HasEach};
 
 /// Each site fits the graph, in the sense of scripts of faults, whatever line it stands in.
@@ -33,4 +33,11 @@ pub fn a_script_is_read_back()
 /// The sites of a class are the faults that are of the class, and no others.
 pub fn each_fault_of_a_class_has_a_site()
     ensures { HasEach }
+{}
+
+/// The script of a part of at most 10,000 flips is read back as the faults of these, in the same way.
+pub fn a_script_of_flips_is_read_back()
+    ensures fit { EachFlipFits }
+    ensures read { FlipsAreReadBack }
+    ensures short { FlipsAreShort }
 {}

@@ -19,7 +19,14 @@ use vcp_base::operands;
 use vcp_outside::Sink;
 
 /// Goes on with the line of an act at operation `k` in cycle `n`, where it is in the part, and gives what is left of the part.
-fn then_one<O: Sink>(line: &mut Line, out: &mut O, part: Part, n: u32, k: u32, act: Act) -> Part
+pub(crate) fn then_one<O: Sink>(
+    line: &mut Line,
+    out: &mut O,
+    part: Part,
+    n: u32,
+    k: u32,
+    act: Act,
+) -> Part
     ensures { Tells (O.seen out.old) (O.seen out.new) line.old line.new part result (sited n k (act ∷ [])) }
 {
     if part.left == 0 {

@@ -1,0 +1,25 @@
+use Rattle.std.proofs.Common.{◌≡◌, ℤ, length, sym, ap, ◌∙◌, arith, w64, SFits, rules}
+use Rattle.std.proofs.lemmas.Int.{to_z-of_z}
+use Rattle.vcp_base.specs.Values.{at}
+use Rattle.op_graph.specs.Lists.{Lists}
+use Rattle.fault_sites.specs.Flips.{flips_of}
+use Rattle.fault_sites.specs.Sites.{sited}
+use Rattle.fault_sites.proofs.Going.{tells_none, tells_same, sites_more}
+use Rattle.fault_sites.proofs.flips.then_flips_in.Goals as goal
+
+pub operations-init : goal.operations-init
+operations-init g c = tells_none
+
+pub operations-preserved : goal.operations-preserved
+operations-preserved g c =
+    let fits : SFits w64 c.value.result = search rules in
+    sites_more (λ k. sited c.args.n k (flips_of (at c.args.run.now.values k))) c.operations.k c.operations.invariant
+    (tells_same c.then_bits_of-part.ensures
+    (ap (λ (v : ℤ). sited c.args.n c.operations.k (flips_of v)) (sym c.value.ensures ∙ sym (to_z-of_z w64 c.value.result fits))))
+
+pub returns : goal.returns
+returns g c =
+    let same = ap (λ (h : Lists). length h.operations) c.graph.ensures in
+    let all : c.operations.k ≡ length c.args.run.now.graph.operations =
+    omega (arith, c.operations-test.false, c.operations.auto.k-end, c.len-k-end.ensures.count, same) in
+    rw all at c.operations.invariant
