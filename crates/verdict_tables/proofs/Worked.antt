@@ -1,0 +1,104 @@
+-- Worked: texts of verdicts over the graph of `y := x + 1;`, and their tables, worked by hand.
+use Rattle.std.specs.Prelude.{◌≡◌, refl, ℕ, List, [], ◌∷◌, ◌++◌, Result, Ok, Err, pos, codes, true, false}
+use Rattle.std.specs.Fmt.{digits}
+use Rattle.vcp_base.specs.declared.code.Profile.TheVariants as profile
+use Rattle.vcp_base.specs.declared.ty.Ty.TheVariants as ty
+use Rattle.vcp_base.specs.declared.kind.Kind.TheVariants as kind
+use Rattle.op_graph.specs.Lists.{Lists}
+use Rattle.run_report.proofs.OperationRows.{adding}
+use Rattle.fault_script.specs.declared.act.Act.{Act}
+use Rattle.fault_script.specs.declared.act.Act.TheVariants as act
+use Rattle.fault_script.specs.declared.act.Fault.{Fault}
+use Rattle.fault_injector.specs.declared.verdict.Verdict.{Verdict}
+use Rattle.fault_injector.specs.declared.verdict.Verdict.TheVariants as verdict
+use Rattle.verdict_tables.specs.declared.fault.VerdictsFault.{VerdictsFault}
+use Rattle.verdict_tables.specs.declared.fault.VerdictsFault.TheVariants as fault
+use Rattle.verdict_tables.specs.Reading.{verdicts_in}
+use Rattle.verdict_tables.specs.Remark.{is_for}
+use Rattle.verdict_tables.specs.SumText.{sum_text}
+
+sum : Lists
+sum = adding profile.Narrow ty.Dint
+
+-- a fault on a line of its own, a group of one
+alone : ℕ → Act → List Fault
+alone line a = (record { line = line; cycle = 0; op = 2; act = a }) ∷ []
+
+-- `operand 0 2 0 add 2147483647`, `operand 0 2 1 from 0` and `operator 0 2 SUB`
+three : List (List Fault)
+three = alone 1 (act.OperandAdd 0 (pos 2147483647)) ∷ alone 2 (act.OperandFrom 1 0) ∷ alone 3 (act.Operator kind.Sub) ∷ []
+
+-- what these lines say, with these totals behind them
+said : List ℕ → List ℕ → Result (List Verdict) VerdictsFault
+said lines totals = verdicts_in sum three (lines ++ totals)
+
+totals : List ℕ
+totals = codes "faults 3 same 0 wrong 1 ran-on 0 refused 2 stopped 0\n"
+
+-- as `inject` prints them
+told : said (codes "1 wrong 0 y got 7 want 6\n2 refused 0 y found 429496731 expected 644245096\n3 refused 0 y found 214748366 expected 644245096\n") totals
+    ≡ Ok (verdict.Wrong 0 0 (pos 7) (pos 6) ∷ verdict.Refused 0 0 429496731 644245096 ∷ verdict.Refused 0 0 214748366 644245096 ∷ [])
+unfolding digits sum three alone said totals
+told = refl
+
+-- the lines of the second and the third group stand in each other's place
+exchanged : said (codes "1 wrong 0 y got 7 want 6\n3 refused 0 y found 214748366 expected 644245096\n2 refused 0 y found 429496731 expected 644245096\n") totals
+    ≡ Err (fault.Group 2)
+unfolding digits sum three alone said totals
+exchanged = refl
+
+missing : said (codes "1 wrong 0 y got 7 want 6\n2 refused 0 y found 429496731 expected 644245096\n") totals ≡ Err (fault.Group 3)
+unfolding digits sum three alone said totals
+missing = refl
+
+cut : said (codes "1 wrong 0 y got 7 want 6\n2 refused 0 y found 429496731 expected 644245096\n") [] ≡ Err (fault.End 3)
+unfolding digits sum three alone said totals
+cut = refl
+
+-- no output is called z, and numbers have no zeros before them
+unnamed : said (codes "1 wrong 0 z got 7 want 6\n") totals ≡ Err (fault.Verdict 1)
+unfolding digits sum three alone said totals
+unnamed = refl
+
+zeros : said (codes "1 wrong 0 y got 07 want 6\n") totals ≡ Err (fault.Verdict 1)
+unfolding digits sum three alone said totals
+zeros = refl
+
+-- a stop at another place than that of its operation
+elsewhere : said (codes "1 stopped 0 2 OPERAND 4:9\n") totals ≡ Err (fault.Verdict 1)
+unfolding digits sum three alone said totals
+elsewhere = refl
+
+-- other totals, and a line behind them
+miscounted : said (codes "1 same\n2 stopped 0 2 OPERAND 4:8\n3 ran-on 0\n") totals ≡ Err (fault.Totals 4)
+unfolding digits sum three alone said totals
+miscounted = refl
+
+more : said (codes "1 same\n2 stopped 0 2 OPERAND 4:8\n3 ran-on 0\nfaults 3 same 1 wrong 0 ran-on 1 refused 0 stopped 1\n") totals ≡ Err (fault.Rest 5)
+unfolding digits sum three alone said totals
+more = refl
+
+-- ---- tables
+
+tables : sum_text sum three (verdict.Wrong 0 0 (pos 7) (pos 6) ∷ verdict.Refused 0 0 429496731 644245096 ∷ verdict.Refused 0 0 214748366 644245096 ∷ [])
+    ≡ codes "operand add faults 1 same 0 wrong 1 ran-on 0 refused 0 stopped 0\n"
+    ++ (codes "operand from faults 1 same 0 wrong 0 ran-on 0 refused 1 stopped 0\n"
+    ++ (codes "operator faults 1 same 0 wrong 0 ran-on 0 refused 1 stopped 0\n"
+    ++ (codes "operation 2 ADD at 4:8 faults 3 same 0 wrong 1 ran-on 0 refused 2 stopped 0\n"
+    ++ (codes "output y faults 3 same 0 wrong 1 ran-on 0 refused 2 stopped 0\n"
+    ++ (codes "after 0 faults 3 same 0 wrong 1 ran-on 0 refused 2 stopped 0\n"
+    ++ (codes "1 wrong 0 y got 7 want 6\n  operand add in cycle 0 at operation 2 ADD at 4:8\n"
+    ++ codes "faults 3 same 0 wrong 1 ran-on 0 refused 2 stopped 0\n"))))))
+unfolding digits sum three alone
+tables = refl
+
+-- ---- remarks
+
+of_this : is_for (codes "0a1b") (codes "# sites bits of 0a1b\nskip 1 2\n") ≡ true
+of_this = refl
+
+of_another : is_for (codes "0a1b") (codes "# sites bits of ff1b\nskip 1 2\n") ≡ false
+of_another = refl
+
+of_none : is_for (codes "0a1b") (codes "skip 1 2\n# sites bits of ff1b\n") ≡ true
+of_none = refl

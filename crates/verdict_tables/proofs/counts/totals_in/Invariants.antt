@@ -1,0 +1,10 @@
+use Rattle.std.proofs.Common.{◌≡◌, ◌≤◌, drop}
+use Rattle.verdict_lines.specs.FaultLines.{faults, totals_after}
+use Rattle.verdict_tables.specs.Tables.{picked, totals_in}
+use Rattle.verdict_tables.proofs.counts.totals_in.Given as goal
+
+abbrev pub invariant-groups : goal.invariant-groups
+invariant-groups l = record {
+  left : totals_in l.table l.n l.script l.verdicts ≡ totals_after l.totals (picked l.table l.n (drop l.i l.script) (drop l.i l.verdicts));
+  few : faults l.totals ≤ l.i;
+}

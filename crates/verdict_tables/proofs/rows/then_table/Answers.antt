@@ -1,0 +1,16 @@
+use Rattle.std.proofs.Common.{◌≡◌, add-one, arith}
+use Rattle.verdict_tables.specs.Tables.{rows}
+use Rattle.verdict_tables.proofs.Going.{and_then, unmoved}
+use Rattle.verdict_tables.proofs.rows.then_table.Goals as goal
+
+pub rows-init : goal.rows-init
+rows-init g c = unmoved
+
+pub rows-preserved : goal.rows-preserved
+rows-preserved g c = rw (add-one c.rows.n) (and_then c.rows.invariant (rw c.totals_in-totals.ensures at c.then_row.ensures))
+
+pub returns : goal.returns
+returns g c =
+    let all : c.rows.n ≡ rows c.args.graph.now c.args.table =
+    omega (arith, c.rows-test.false, c.rows.auto.n-end, c.rows-n-end.ensures) in
+    rw all at c.rows.invariant

@@ -1,0 +1,7 @@
+use Rattle.gathered_line.specs.Gathering.{GathersTo}
+use Rattle.verdict_tables.specs.SumText.{unseen_below}
+use Rattle.verdict_tables.proofs.unseen.then_all_unseen.Given as goal
+
+abbrev pub invariant-groups : goal.invariant-groups
+invariant-groups g l =
+    GathersTo (g.O.Sink.seen l.fn.out) (g.O.Sink.seen l.out) l.fn.line l.line (unseen_below l.graph l.script l.verdicts l.i)

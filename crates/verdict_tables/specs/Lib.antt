@@ -1,0 +1,7 @@
+pub mod Outcome
+pub mod Places
+pub mod Reading
+pub mod Remark
+pub mod Tables
+pub mod TextSink
+pub mod SumText

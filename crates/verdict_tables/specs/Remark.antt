@@ -1,0 +1,26 @@
+-- Remark: which image a script is for, by the remark in its first line.
+use Rattle.std.specs.Prelude.{ℕ, Bool, true, ◌&&◌, cond, List, [], ◌∷◌, bytes_eq, codes, Option, Some, None}
+use Rattle.std.specs.Str.Lines.{lines}
+use Rattle.script_text.specs.Words.{words}
+
+-- the digits of a digest in the words of a remark: `# sites CLASS of DIGEST`
+abbrev pub digest_in : List (List ℕ) → Option (List ℕ)
+digest_in (mark ∷ word ∷ class ∷ of ∷ digest ∷ more) =
+    cond (bytes_eq mark (codes "#") && (bytes_eq word (codes "sites") && bytes_eq of (codes "of"))) (Some digest) None
+digest_in _ = None
+
+abbrev pub first_digest : List (List ℕ) → Option (List ℕ)
+first_digest [] = None
+first_digest (line ∷ more) = digest_in (words line)
+
+-- the digits of the digest in the first line of a script, where it is such a remark
+abbrev pub digest_of : List ℕ → Option (List ℕ)
+digest_of text = first_digest (lines text)
+
+abbrev pub is_digest : List ℕ → Option (List ℕ) → Bool
+is_digest digest None = true
+is_digest digest (Some named) = bytes_eq named digest
+
+-- a script names the image with this digest, or none
+abbrev pub is_for : List ℕ → List ℕ → Bool
+is_for digest text = is_digest digest (digest_of text)

@@ -1,0 +1,26 @@
+//! Tables of verdicts: which faults of a campaign are seen, counted by what they do, where they stand, at which output they show, and how
+//! late.
+//!
+//! `read_verdicts` reads what a campaign printed for the groups of a script, or tells the first line that doesn't belong to it, and
+//! `write_sum` writes the tables.
+#![tactic(auto)]
+
+mod counts;
+mod fault;
+mod names;
+mod reading;
+mod remark;
+mod rows;
+mod tables;
+mod text_sink;
+mod unseen;
+mod verdicts;
+mod words;
+mod writing;
+
+pub use counts::{status, totals_of_all};
+pub use fault::VerdictsFault;
+pub use reading::read_verdicts;
+pub use remark::is_for;
+pub use verdicts::Verdicts;
+pub use writing::write_sum;

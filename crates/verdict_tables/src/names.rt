@@ -1,0 +1,108 @@
+//! How an operation is named.
+
+ghost use Rattle.std.specs.Prelude.{◌≡◌, ◌++◌, Some, codes, slice_get, unsigned_abs};
+ghost use Rattle.gathered_line.specs.Gathering.{GathersTo};
+ghost use Rattle.run_report.specs.OutputNames.{output_name as output_name_of};
+ghost use Rattle.verdict_tables.specs.Places.{name_at as name_at_of, input_name as input_name_of, cell_name as cell_name_of};
+ghost use Rattle.verdict_tables.specs.Places.{variable_text, operation_text};
+
+use gathered_line::Line;
+use op_graph::{Graph, Op};
+use run_report::then_source;
+use vcp_base::{Kind, kind_name};
+use vcp_outside::Sink;
+
+/// Name `n`, and nothing where there is no such name.
+fn name_at(graph: &Graph, n: u32) -> &[u8]
+    ensures { result.now ≡ name_at_of graph.now n }
+{
+    if n < graph.names() {
+        graph.name(n).bytes()
+    } else {
+        b""
+    }
+}
+
+/// The name of input `n`, and nothing where there is no such input.
+fn input_name(graph: &Graph, n: u64) -> &[u8]
+    ensures { result.now ≡ input_name_of graph.now n }
+{
+    if n < graph.inputs() as u64 {
+        name_at(graph, graph.input(n as u32).name)
+    } else {
+        b""
+    }
+}
+
+/// The name of cell `n`, and nothing where there is no such cell.
+fn cell_name(graph: &Graph, n: u64) -> &[u8]
+    ensures { result.now ≡ cell_name_of graph.now n }
+{
+    if n < graph.cells() as u64 {
+        name_at(graph, graph.cell(n as u32).name)
+    } else {
+        b""
+    }
+}
+
+/// The name of output `n`, and nothing where there is no such output.
+pub(crate) fn output_name(graph: &Graph, n: u64) -> &[u8]
+    ensures { result.now ≡ output_name_of graph.now n }
+{
+    if n < graph.outputs() as u64 {
+        run_report::output_name(graph, n as u32).bytes()
+    } else {
+        b""
+    }
+}
+
+/// Goes on with a space and a name.
+fn then_name<O: Sink>(line: &mut Line, out: &mut O, name: &[u8])
+    ensures { GathersTo (O.seen out.old) (O.seen out.new) line.old line.new (codes " " ++ name.now) }
+{
+    line.text(out, b" ");
+    line.text(out, name);
+}
+
+/// Goes on with the variable of an operation, where it has one.
+fn then_variable<O: Sink>(line: &mut Line, out: &mut O, graph: &Graph, kind: Kind, n: u64)
+    ensures { GathersTo (O.seen out.old) (O.seen out.new) line.old line.new (variable_text graph.now kind n) }
+{
+    match kind {
+        Kind::Input => then_name(line, out, input_name(graph, n)),
+        Kind::Load | Kind::Store => then_name(line, out, cell_name(graph, n)),
+        Kind::Out => then_name(line, out, output_name(graph, n)),
+        _ => {}
+    }
+}
+
+/// The number of an operation's own input, cell or output.
+fn own_number(op: &Op) -> u64
+    ensures { result ≡ unsigned_abs op.now.imm }
+{
+    op.imm.unsigned_abs()
+}
+
+/// Goes on with operation `n`, which is `op`: its number, kind, variable and place.
+fn then_op<O: Sink>(line: &mut Line, out: &mut O, graph: &Graph, n: u32, op: &Op)
+    requires { slice_get graph.now.operations n ≡ Some op.now }
+    ensures { GathersTo (O.seen out.old) (O.seen out.new) line.old line.new (operation_text graph.now n (Some op.now)) }
+{
+    line.text(out, b"operation ");
+    line.count(out, n as u64);
+    line.text(out, b" ");
+    line.text(out, kind_name(op.kind));
+    then_variable(line, out, graph, op.kind, own_number(op));
+    then_source(line, out, graph, n);
+}
+
+/// Goes on with operation `n`, where it is there.
+pub(crate) fn then_operation<O: Sink>(line: &mut Line, out: &mut O, graph: &Graph, n: u32)
+    ensures { GathersTo (O.seen out.old) (O.seen out.new) line.old line.new
+        (operation_text graph.now n (slice_get graph.now.operations n)) }
+{
+    match graph.operations().get(n as usize) {
+        Some(op) => then_op(line, out, graph, n, op),
+        None => {}
+    }
+}

@@ -1,0 +1,46 @@
+//! Which image a script is for.
+
+ghost use Rattle.std.specs.Prelude.{◌≡◌, option_map};
+ghost use Rattle.std.specs.List.{list_any};
+ghost use Rattle.script_text.specs.Words.{words as words_of};
+ghost use Rattle.verdict_tables.specs.Remark.{digest_in, digest_of, is_for as is_for_of};
+
+use script_text::{WordsLeft, first_line};
+
+/// The digits of the digest in a remark of sites.
+fn digest(line: &[u8]) -> Option<&[u8]>
+    ensures { option_map (λ w. w.now) result ≡ digest_in (words_of line.now) }
+{
+    let mut words = WordsLeft::new(line);
+    let mark = words.next()?;
+    let word = words.next()?;
+    words.next()?;
+    let of = words.next()?;
+    let digest = words.next()?;
+    if mark == b"#".as_slice() && word == b"sites".as_slice() && of == b"of".as_slice() {
+        Some(digest)
+    } else {
+        None
+    }
+}
+
+/// The digits of the digest in the first line of a script, where it is a remark of sites.
+fn named(script: &[u8]) -> Option<&[u8]>
+    ensures { option_map (λ w. w.now) result ≡ digest_of script.now }
+{
+    if script.is_empty() {
+        return None;
+    }
+    let (line, _) = first_line(script);
+    digest(line)
+}
+
+/// Whether a script names the image with this digest, or none.
+pub fn is_for(digest: &[u8], script: &[u8]) -> bool
+    ensures { result ≡ is_for_of digest.now script.now }
+{
+    match named(script) {
+        Some(named) => named == digest,
+        None => true,
+    }
+}

@@ -1,0 +1,117 @@
+//! The rows of tables.
+
+ghost use Rattle.std.specs.Prelude.{◌≡◌, ◌<◌, ◌≤◌, ◌++◌, codes, length};
+ghost use Rattle.gathered_line.specs.Gathering.{GathersTo};
+ghost use Rattle.fault_script.specs.ScriptOf.{most_faults};
+ghost use Rattle.verdict_tables.specs.Tables.{rows as rows_of};
+ghost use Rattle.verdict_tables.specs.SumText.{act_name as act_name_of, more_text, delay_text, row_name, row_text, table_text};
+ghost use Rattle.verdict_tables.specs.declared.tables.Table.TheVariants as table;
+
+use crate::counts::totals_in;
+use crate::names::{output_name, then_operation};
+use crate::tables::{OWN_DELAYS, Table, rows};
+use crate::verdicts::Verdicts;
+use fault_script::Script;
+use gathered_line::Line;
+use op_graph::Graph;
+use vcp_outside::Sink;
+use verdict_lines::{Totals, then_totals};
+
+/// The act of row `n`.
+pub(crate) fn act_name(n: u32) -> &'static [u8]
+    ensures { result.now ≡ act_name_of n }
+{
+    if n == 0 {
+        return b"operand add";
+    }
+    if n == 1 {
+        return b"operand from";
+    }
+    if n == 2 {
+        return b"operand stale";
+    }
+    if n == 3 {
+        return b"result add";
+    }
+    if n == 4 {
+        return b"operator";
+    }
+    b"skip"
+}
+
+/// What stands behind the number of cycles of row `n`.
+fn or_more(n: u32) -> &'static [u8]
+    ensures { result.now ≡ more_text n }
+{
+    if n < OWN_DELAYS { b"" } else { b" or more" }
+}
+
+/// Goes on with the row of a number of cycles.
+fn then_delay<O: Sink>(line: &mut Line, out: &mut O, n: u32)
+    ensures { GathersTo (O.seen out.old) (O.seen out.new) line.old line.new (delay_text n) }
+{
+    line.text(out, b"after ");
+    line.count(out, n as u64);
+    line.text(out, or_more(n));
+}
+
+/// Goes on with the name of an output.
+fn then_output<O: Sink>(line: &mut Line, out: &mut O, graph: &Graph, n: u32)
+    ensures { GathersTo (O.seen out.old) (O.seen out.new) line.old line.new (row_name graph.now table.Outputs n) }
+{
+    line.text(out, b"output ");
+    line.text(out, output_name(graph, n as u64));
+}
+
+/// Goes on with what row `n` of a table counts.
+fn then_row_name<O: Sink>(line: &mut Line, out: &mut O, graph: &Graph, table: Table, n: u32)
+    requires { n < rows_of graph.now table }
+    ensures { GathersTo (O.seen out.old) (O.seen out.new) line.old line.new (row_name graph.now table n) }
+{
+    match table {
+        Table::Acts => line.text(out, act_name(n)),
+        Table::Operations => then_operation(line, out, graph, n),
+        Table::Outputs => then_output(line, out, graph, n),
+        Table::Delays => then_delay(line, out, n),
+    }
+}
+
+/// Goes on with row `n` of a table, where something is counted in it.
+fn then_row<O: Sink>(
+    line: &mut Line,
+    out: &mut O,
+    graph: &Graph,
+    table: Table,
+    n: u32,
+    totals: &Totals,
+)
+    requires { n < rows_of graph.now table }
+    ensures { GathersTo (O.seen out.old) (O.seen out.new) line.old line.new (row_text (row_name graph.now table n) totals.now) }
+{
+    if totals.faults() == 0 {
+        return;
+    }
+    then_row_name(line, out, graph, table, n);
+    line.text(out, b" ");
+    then_totals(line, out, totals);
+    line.text(out, b"\n");
+}
+
+/// Goes on with a table.
+pub(crate) fn then_table<O: Sink>(
+    line: &mut Line,
+    out: &mut O,
+    graph: &Graph,
+    table: Table,
+    script: &Script,
+    verdicts: &Verdicts,
+)
+    requires many { length verdicts.now ≡ length script.now }
+    requires few { length script.now ≤ most_faults }
+    ensures { GathersTo (O.seen out.old) (O.seen out.new) line.old line.new (table_text graph.now table script.now verdicts.now) }
+{
+    'rows: for n in 0..rows(graph, table) {
+        let totals = totals_in(table, n, script, verdicts);
+        then_row(line, out, graph, table, n, &totals);
+    }
+}

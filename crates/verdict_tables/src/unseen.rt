@@ -1,0 +1,123 @@
+//! The faults that are not seen.
+
+ghost use Rattle.std.specs.Prelude.{◌≡◌, ◌<◌, ◌≤◌, ◌++◌, Some, codes, decimal, flat_map, length, slice_get, All};
+ghost use Rattle.gathered_line.specs.Gathering.{GathersTo};
+ghost use Rattle.fault_script.specs.Groups.{GroupFits, line_of};
+ghost use Rattle.fault_injector.specs.Names.{Names};
+ghost use Rattle.verdict_lines.specs.FaultLines.{verdict_text};
+ghost use Rattle.verdict_tables.specs.SumText.{fault_text, is_unseen as is_unseen_of, unseen_text, unseen_below};
+
+use crate::names::then_operation;
+use crate::rows::act_name;
+use crate::tables::act_number;
+use crate::verdicts::Verdicts;
+use fault_injector::Verdict;
+use fault_script::{Fault, Group, Script};
+use gathered_line::Line;
+use op_graph::Graph;
+use vcp_outside::Sink;
+use verdict_lines::then_verdict;
+
+/// Goes on with a fault of a group.
+fn then_fault<O: Sink>(line: &mut Line, out: &mut O, graph: &Graph, fault: Fault)
+    ensures { GathersTo (O.seen out.old) (O.seen out.new) line.old line.new (fault_text graph.now fault) }
+{
+    line.text(out, b"  ");
+    line.text(out, act_name(act_number(fault.act)));
+    line.text(out, b" in cycle ");
+    line.count(out, fault.cycle as u64);
+    line.text(out, b" at ");
+    then_operation(line, out, graph, fault.op);
+    line.text(out, b"\n");
+}
+
+/// Goes on with the faults of a group.
+fn then_faults<O: Sink>(line: &mut Line, out: &mut O, graph: &Graph, group: &Group)
+    ensures { GathersTo (O.seen out.old) (O.seen out.new) line.old line.new (flat_map (fault_text graph.now) group.now) }
+{
+    'faults: for i in 0..group.len() {
+        then_fault(line, out, graph, group.at(i));
+    }
+}
+
+/// Goes on with a verdict and its group.
+fn then_judged<O: Sink>(
+    line: &mut Line,
+    out: &mut O,
+    graph: &Graph,
+    group: &Group,
+    verdict: Verdict,
+)
+    requires some { 0 < length group.now }
+    requires names { Names (length graph.now.outputs) (length graph.now.operations) verdict }
+    ensures { GathersTo (O.seen out.old) (O.seen out.new) line.old line.new
+        (verdict_text graph.now (line_of group.now) verdict ++ flat_map (fault_text graph.now) group.now) }
+{
+    line.count(out, group.line() as u64);
+    line.text(out, b" ");
+    then_verdict(line, out, graph, &verdict);
+    line.text(out, b"\n");
+    then_faults(line, out, graph, group);
+}
+
+/// Whether a verdict is `wrong` or `ran-on`.
+fn is_unseen(verdict: Verdict) -> bool
+    ensures { result ≡ is_unseen_of verdict }
+{
+    match verdict {
+        Verdict::Wrong {
+            cycle: _,
+            output: _,
+            got: _,
+            want: _,
+        }
+        | Verdict::RanOn { cycle: _ } => true,
+        Verdict::Same
+        | Verdict::Refused {
+            cycle: _,
+            output: _,
+            found: _,
+            expected: _,
+        }
+        | Verdict::Stopped {
+            cycle: _,
+            op: _,
+            kind: _,
+        } => false,
+    }
+}
+
+/// Goes on with a verdict and its group, where the verdict isn't seen.
+fn then_unseen<O: Sink>(
+    line: &mut Line,
+    out: &mut O,
+    graph: &Graph,
+    group: &Group,
+    verdict: Verdict,
+)
+    requires some { 0 < length group.now }
+    requires names { Names (length graph.now.outputs) (length graph.now.operations) verdict }
+    ensures { GathersTo (O.seen out.old) (O.seen out.new) line.old line.new (unseen_text graph.now (Some group.now) (Some verdict)) }
+{
+    if is_unseen(verdict) {
+        then_judged(line, out, graph, group, verdict);
+    }
+}
+
+/// Goes on with the verdicts that aren't seen, and their groups.
+pub(crate) fn then_all_unseen<O: Sink>(
+    line: &mut Line,
+    out: &mut O,
+    graph: &Graph,
+    script: &Script,
+    verdicts: &Verdicts,
+)
+    requires fits { All (GroupFits graph.now) script.now }
+    requires names { All (Names (length graph.now.outputs) (length graph.now.operations)) verdicts.now }
+    requires many { length verdicts.now ≡ length script.now }
+    ensures { GathersTo (O.seen out.old) (O.seen out.new) line.old line.new (unseen_below graph.now script.now verdicts.now (length verdicts.now)) }
+{
+    'groups: for i in 0..verdicts.len() {
+        then_unseen(line, out, graph, script.at(i), verdicts.at(i));
+    }
+}

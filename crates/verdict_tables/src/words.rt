@@ -1,0 +1,223 @@
+//! Which verdict the words of a line may mean.
+
+ghost use Rattle.std.specs.Prelude.{◌≡◌, ◌<◌, ◌≤◌, ◌^◌, IfSome, length, option_map};
+ghost use Rattle.vcp_base.specs.Limits.{most_cycles};
+ghost use Rattle.fault_script.specs.Forms.{number_below as number_below_of, cycle_of};
+ghost use Rattle.fault_injector.specs.Names.{Names};
+ghost use Rattle.verdict_tables.specs.Outcome.{value_of, numbers_of, named_then, output_named, shown_of, as_wrong, as_refused, stop_of};
+ghost use Rattle.verdict_tables.specs.Outcome.{stopped_of, ran_on_of, meant as meant_of};
+
+use fault_injector::Verdict;
+use op_graph::Graph;
+use run_report::output_name;
+use script_text::WordsLeft;
+use vcp_base::{MOST_CYCLES, StopKind, Ty, number_in, numeral, stop_name};
+
+/// Two numbers.
+#[derive(Clone, Copy, Debug)]
+pub(crate) struct Numbers {
+    /// The first.
+    pub first: i64,
+    /// The second.
+    pub second: i64,
+}
+
+/// What shows at an output.
+#[derive(Clone, Copy, Debug)]
+pub(crate) struct Shown {
+    /// In which cycle.
+    pub cycle: u32,
+    /// At which output.
+    pub output: u32,
+    /// The two numbers that are told of it.
+    pub numbers: Numbers,
+}
+
+/// The number that one to ten digits write, where it is below the bound.
+fn number_below(bound: u64, word: &[u8]) -> Option<u32>
+    requires { bound ≤ 2 ^ 32 }
+    ensures value { result ≡ number_below_of bound word.now }
+    ensures below { IfSome result (λ n. n < bound) }
+{
+    let number = numeral(word)?;
+    if number < bound {
+        Some(number as u32)
+    } else {
+        None
+    }
+}
+
+/// The number of a cycle, below 1,000,000.
+fn cycle(word: &[u8]) -> Option<u32>
+    ensures { result ≡ cycle_of word.now }
+{
+    number_below(MOST_CYCLES as u64, word)
+}
+
+/// The number of 64 bits that a word writes.
+fn value(word: &[u8]) -> Option<i64>
+    ensures { result ≡ value_of word.now }
+{
+    number_in(Ty::Lint, word)
+}
+
+/// Two numbers, each behind another word.
+fn two_numbers(words: &mut WordsLeft<'_>) -> Option<Numbers>
+    ensures { result ≡ numbers_of words.old }
+{
+    words.next()?;
+    let a = words.next()?;
+    words.next()?;
+    let b = words.next()?;
+    let first = value(a)?;
+    let second = value(b)?;
+    Some(Numbers { first, second })
+}
+
+/// The output that was found, or output `n` where it has this name.
+fn named(found: Option<u32>, graph: &Graph, name: &[u8], n: u32) -> Option<u32>
+    requires { n < length graph.now.outputs }
+    ensures { result ≡ named_then graph.now name.now n found }
+{
+    match found {
+        Some(output) => Some(output),
+        None => if name == output_name(graph, n).bytes() {
+            Some(n)
+        } else {
+            None
+        },
+    }
+}
+
+/// The first output with this name.
+fn output(graph: &Graph, name: &[u8]) -> Option<u32>
+    ensures value { result ≡ output_named graph.now name.now }
+    ensures there { IfSome result (λ n. n < length graph.now.outputs) }
+{
+    let mut found = None;
+    'outputs: for n in 0..graph.outputs() {
+        found = named(found, graph, name, n);
+    }
+    found
+}
+
+/// What shows at an output, by the words behind the first.
+fn shown_at(graph: &Graph, words: &mut WordsLeft<'_>) -> Option<Shown>
+    ensures value { result ≡ shown_of graph.now words.old }
+    ensures there { IfSome result (λ s. s.output < length graph.now.outputs) }
+{
+    let n = words.next()?;
+    let name = words.next()?;
+    let cycle = cycle(n)?;
+    let output = output(graph, name)?;
+    let numbers = two_numbers(words)?;
+    Some(Shown {
+        cycle,
+        output,
+        numbers,
+    })
+}
+
+/// An output is released with a wrong value.
+fn wrong(shown: Shown) -> Verdict
+    ensures { result ≡ as_wrong shown }
+{
+    Verdict::Wrong {
+        cycle: shown.cycle,
+        output: shown.output,
+        got: shown.numbers.first,
+        want: shown.numbers.second,
+    }
+}
+
+/// An output is refused by its residue.
+fn refused(shown: Shown) -> Verdict
+    ensures { result ≡ as_refused shown }
+{
+    Verdict::Refused {
+        cycle: shown.cycle,
+        output: shown.output,
+        found: shown.numbers.first.unsigned_abs(),
+        expected: shown.numbers.second.unsigned_abs(),
+    }
+}
+
+/// The kind of a stop with this name.
+fn stop(word: &[u8]) -> Option<StopKind>
+    ensures { result ≡ stop_of word.now }
+{
+    if word == stop_name(StopKind::Range) {
+        return Some(StopKind::Range);
+    }
+    if word == stop_name(StopKind::DivZero) {
+        return Some(StopKind::DivZero);
+    }
+    if word == stop_name(StopKind::Operand) {
+        return Some(StopKind::Operand);
+    }
+    None
+}
+
+/// The words behind `stopped`.
+fn stopped(graph: &Graph, words: &mut WordsLeft<'_>) -> Option<Verdict>
+    ensures value { result ≡ stopped_of graph.now words.old }
+    ensures names { IfSome result (Names (length graph.now.outputs) (length graph.now.operations)) }
+{
+    let n = words.next()?;
+    let k = words.next()?;
+    let why = words.next()?;
+    let cycle = cycle(n)?;
+    let op = number_below(graph.len() as u64, k)?;
+    let kind = stop(why)?;
+    Some(Verdict::Stopped { cycle, op, kind })
+}
+
+/// The word behind `ran-on`.
+fn ran_on(words: &mut WordsLeft<'_>) -> Option<Verdict>
+    ensures { result ≡ ran_on_of words.old }
+{
+    let cycle = cycle(words.next()?)?;
+    Some(Verdict::RanOn { cycle })
+}
+
+/// The words behind `wrong`.
+fn wrong_of(graph: &Graph, words: &mut WordsLeft<'_>) -> Option<Verdict>
+    ensures value { result ≡ option_map as_wrong (shown_of graph.now words.old) }
+    ensures names { IfSome result (Names (length graph.now.outputs) (length graph.now.operations)) }
+{
+    let shown = shown_at(graph, words)?;
+    Some(wrong(shown))
+}
+
+/// The words behind `refused`.
+fn refused_of(graph: &Graph, words: &mut WordsLeft<'_>) -> Option<Verdict>
+    ensures value { result ≡ option_map as_refused (shown_of graph.now words.old) }
+    ensures names { IfSome result (Names (length graph.now.outputs) (length graph.now.operations)) }
+{
+    let shown = shown_at(graph, words)?;
+    Some(refused(shown))
+}
+
+/// The verdict that words may mean, by the first of them.
+pub(crate) fn meant(graph: &Graph, words: &mut WordsLeft<'_>) -> Option<Verdict>
+    ensures value { result ≡ meant_of graph.now words.old }
+    ensures names { IfSome result (Names (length graph.now.outputs) (length graph.now.operations)) }
+{
+    let first = words.next()?;
+    if first == b"same".as_slice() {
+        return Some(Verdict::Same);
+    }
+    if first == b"wrong".as_slice() {
+        return wrong_of(graph, words);
+    }
+    if first == b"ran-on".as_slice() {
+        return ran_on(words);
+    }
+    if first == b"refused".as_slice() {
+        return refused_of(graph, words);
+    }
+    if first == b"stopped".as_slice() {
+        return stopped(graph, words);
+    }
+    None
+}
