@@ -154,7 +154,8 @@ compiled law digest g text plain few is =
     let all : Taken g 0 (read_lines 1 (lines text)) = all_taken digest g text is in
     let es : List Entry = entries g (read_lines 1 (lines text)) in
     let P : ℕ → Type 0 = λ c. (c == 10) ≡ false in
-    let word : NoFeed (codes "sites named of " ++ digest) = All-append P (codes "sites named of ") digest (all_so (codes "sites named of ") refl) (no_feeds digest plain) in
+    let word : NoFeed (codes "sites named of " ++ digest) =
+    All-append P (codes "sites named of ") digest (all_so (codes "sites named of ") refl) (no_feeds digest plain) in
     record {
       whole = all.whole;
       read =

@@ -166,9 +166,11 @@ act_fits kind k n a h =
     let all = and_four (is_moderate a) (is_sited kind k a) (is_timely n a) (is_alike kind a) h in
     record { sited = all.1; timely = all.2; alike = all.3; moderate = all.0 }
 
-else_none : (kind : Kind) (k n : ℕ) (other : Option Act) (o : Option Why) → unfit_else kind k n other o ≡ None → (o ≡ None) × (unfit_other kind k n other ≡ None)
+else_none : (kind : Kind) (k n : ℕ) (other : Option Act) (o : Option Why) → unfit_else kind k n other o ≡ None
+    → (o ≡ None) × (unfit_other kind k n other ≡ None)
 else_none kind k n other None h = (refl, h)
 else_none kind k n other (Some e) h = absurd cc
 
-pub acts_fit : (kind : Kind) (k n : ℕ) (acts : Acts) → unfit_acts kind k n acts ≡ None → (unfit kind k n acts.act ≡ None) × (unfit_other kind k n acts.other ≡ None)
+pub acts_fit : (kind : Kind) (k n : ℕ) (acts : Acts) → unfit_acts kind k n acts ≡ None
+    → (unfit kind k n acts.act ≡ None) × (unfit_other kind k n acts.other ≡ None)
 acts_fit kind k n acts h = else_none kind k n acts.other (unfit kind k n acts.act) h

@@ -181,12 +181,14 @@ together_read law g (s ∷ xs) rest line group from number before number_then th
     let earlier : AllBefore s.cycle group = later_too from s.cycle group up.0 past in
     let regroup : site_lines (s ∷ xs) ++ rest ≡ site_text s ++ (site_lines xs ++ rest) = append_assoc (site_text s) (site_lines xs) rest in
     let later : Groups = Comes g (number + 1) (before + 1) (site_lines xs ++ rest) (open_at line (group ++ here ∷ [])) in
-    let next : AllBefore (s.cycle + 1) (group ++ here ∷ []) = with_next (s.cycle + 1) group here (omega arith) (later_too s.cycle (s.cycle + 1) group (omega arith) earlier) in
+    let next : AllBefore (s.cycle + 1) (group ++ here ∷ []) =
+    with_next (s.cycle + 1) group here (omega arith) (later_too s.cycle (s.cycle + 1) group (omega arith) earlier) in
     ap (λ (t : List ℕ). Comes g number before t (open_at line group)) regroup
     ∙ (ap (λ (is : List Item). groups_of is (open_at line group))
     (law g s (site_lines xs ++ rest) number before few (omega (arith, room, f)) (All-head P s xs fit))
     ∙ (ap (λ (b : Bool). cond b (Err (refusal.Twice here.line)) later) (none_taken here group earlier)
-    ∙ (together_read law g xs rest line (group ++ here ∷ []) (s.cycle + 1) (number + 1) (before + 1) number_then then_ few room (omega (arith, e)) (omega (arith, f))
+    ∙ (together_read law g xs rest line (group ++ here ∷ []) (s.cycle + 1) (number + 1) (before + 1) number_then then_ few room (omega (arith, e))
+    (omega (arith, f))
     (All-tail P s xs fit) up.1 next
     ∙ ap (λ (fs : List Fault). Comes g number_then then_ rest (open_at line fs)) (append_assoc group (here ∷ []) (faults_from (number + 1) xs)))))
 
@@ -250,13 +252,16 @@ group_ends : (number : ℕ) (fs : List Fault) (r : Groups) → 0 < length fs →
 group_ends number [] r some = absurd (omega arith)
 group_ends number (f ∷ fs) r some = behind_one (f ∷ fs) r
 
-begin_read : (g : Lists) (number before : ℕ) (rest : List ℕ) → Comes g number before (codes "begin\n" ++ rest) None ≡ Comes g (number + 1) before rest (open_at number [])
-begin_read g number before rest = ap (λ (ls : List (List ℕ)). groups_of (items_of g before (read_lines number ls)) None) (line_first (codes "begin") rest (all_so (codes "begin") refl))
+begin_read : (g : Lists) (number before : ℕ) (rest : List ℕ)
+    → Comes g number before (codes "begin\n" ++ rest) None ≡ Comes g (number + 1) before rest (open_at number [])
+begin_read g number before rest =
+    ap (λ (ls : List (List ℕ)). groups_of (items_of g before (read_lines number ls)) None) (line_first (codes "begin") rest (all_so (codes "begin") refl))
 
 end_read : (g : Lists) (number before line : ℕ) (fs : List Fault) (rest : List ℕ) → 0 < length fs
     → Comes g number before (codes "end\n" ++ rest) (open_at line fs) ≡ behind (fs ∷ []) (Comes g (number + 1) before rest None)
 end_read g number before line fs rest some =
-    ap (λ (ls : List (List ℕ)). groups_of (items_of g before (read_lines number ls)) (open_at line fs)) (line_first (codes "end") rest (all_so (codes "end") refl))
+    ap (λ (ls : List (List ℕ)). groups_of (items_of g before (read_lines number ls)) (open_at line fs))
+    (line_first (codes "end") rest (all_so (codes "end") refl))
     ∙ group_ends number fs (Comes g (number + 1) before rest None) some
 
 faults_many : (number : ℕ) (xs : List Site) → length (faults_from number xs) ≡ length xs
@@ -319,6 +324,7 @@ all_read law g (e ∷ es) rest number before few room fit last =
     append_assoc (entry_text e) (entry_texts es) rest ∙ entry_pieces e.text (meant_text e.meant) (entry_texts es ++ rest) in
     ap (λ (t : List ℕ). Comes g number before t None) regroup
     ∙ (remark_read g number before e.text (meant_text e.meant ++ (entry_texts es ++ rest)) None fit.0.1
-    ∙ (meant_read law g e.meant (entry_texts es ++ rest) (number + 1) before (before + fault_count e.meant) e.meant.together few (omega (arith, room)) refl fit.0.0 refl
+    ∙ (meant_read law g e.meant (entry_texts es ++ rest) (number + 1) before (before + fault_count e.meant) e.meant.together few
+    (omega (arith, room)) refl fit.0.0 refl
     ∙ ap (behind (groups_meant (number + 1) e.meant))
     (all_read law g es rest (number + 1 + lines_meant e.meant) (before + fault_count e.meant) few (omega (arith, room)) fit.1 last)))

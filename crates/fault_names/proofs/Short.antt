@@ -1,5 +1,6 @@
 -- Short: the script of a text that isn't too long can be read from a file.
-use Rattle.std.proofs.Common.{◌≡◌, ℕ, suc, ◌+◌, ◌-◌, ◌*◌, ◌^◌, ◌<◌, ◌≤◌, ◌==◌, ◌&&◌, Bool, true, false, cond, nat_lt, List, [], ◌∷◌, ◌++◌, length, take, ℤ, pos, negsuc}
+use Rattle.std.proofs.Common.{◌≡◌, ℕ, suc, ◌+◌, ◌-◌, ◌*◌, ◌^◌, ◌<◌, ◌≤◌, ◌==◌, ◌&&◌, Bool, true, false, cond, nat_lt, List, [], ◌∷◌, ◌++◌, length, take, ℤ, pos}
+use Rattle.std.proofs.Common.{negsuc}
 use Rattle.std.proofs.Common.{decimal, codes, slice_index, Result, Ok, Err, arith, refl, sym, subst, length-append}
 use Rattle.std.specs.Fmt.{signed_decimal}
 use Rattle.std.specs.List.{slice_split, onto_first}
@@ -40,7 +41,8 @@ signed_short : (e : ℤ) → is_addend e ≡ true → length (signed_decimal e) 
 signed_short (pos n) h =
     let low : n < 10 ^ 19 = grind (arith, ints, nat_tests) in omega (arith, length-decimal-le 19 n (omega arith) (omega (arith, low)) (omega (arith, low)))
 signed_short (negsuc n) h =
-    let low : suc n < 10 ^ 19 = grind (arith, ints, nat_tests) in omega (arith, length-decimal-le 19 (suc n) (omega arith) (omega (arith, low)) (omega (arith, low)))
+    let low : suc n < 10 ^ 19 = grind (arith, ints, nat_tests) in
+    omega (arith, length-decimal-le 19 (suc n) (omega arith) (omega (arith, low)) (omega (arith, low)))
 
 kind_short : (k : Kind) → length (kind_name k) ≤ 5
 kind_short k = grind arith

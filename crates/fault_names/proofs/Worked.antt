@@ -1,5 +1,5 @@
 -- Worked: lines over the graph of `n := n + 1; y := n;` (LOAD, CONST, ADD, OUT, STORE), by hand.
-use Rattle.std.specs.Prelude.{◌≡◌, refl, ℕ, List, [], ◌∷◌, Some, false, true, ℤ, pos, neg_ℤ, codes, Result, Ok, Err}
+use Rattle.std.specs.Prelude.{◌≡◌, refl, ℕ, List, [], ◌∷◌, ◌++◌, Some, false, true, ℤ, pos, neg_ℤ, codes, Result, Ok, Err}
 use Rattle.std.specs.Fmt.{digits}
 use Rattle.vcp_base.specs.declared.code.Profile.TheVariants as profile
 use Rattle.vcp_base.specs.declared.ty.Ty.TheVariants as ty
@@ -135,7 +135,8 @@ unfolding counter op_on text
 other_image = refl
 
 written : text_of_script (codes "00ff") counter text
-    ≡ codes "# sites named of 00ff\n# skip y cycle 4..5\nskip 4 3\nskip 5 3\n# add 1 to n cycle 3..4 together\nbegin\nresult 3 4 add 1\nresult 4 4 add 1\nend\n# end\n"
+    ≡ codes "# sites named of 00ff\n# skip y cycle 4..5\nskip 4 3\nskip 5 3\n"
+    ++ codes "# add 1 to n cycle 3..4 together\nbegin\nresult 3 4 add 1\nresult 4 4 add 1\nend\n# end\n"
 unfolding counter op_on text digits
 written = refl
 

@@ -1,5 +1,6 @@
 -- Lines: what the words of a line mean. A line is read from the left, and the first word that is wrong decides why it is refused.
-use Rattle.std.specs.Prelude.{ℕ, ◌^◌, Bool, true, false, cond, nat_lt, List, [], ◌∷◌, Option, Some, None, option_map, option_and_then, Result, Ok, Err, slice_get}
+use Rattle.std.specs.Prelude.{ℕ, ◌^◌, Bool, true, false, cond, nat_lt, List, [], ◌∷◌, Option, Some, None, option_map, option_and_then, Result, Ok, Err}
+use Rattle.std.specs.Prelude.{slice_get}
 use Rattle.std.specs.Prelude.{pos, neg_ℤ, codes, bytes_eq}
 use Rattle.vcp_base.specs.declared.kind.Kind.{Kind}
 use Rattle.op_graph.specs.declared.op.Op.{Op}
@@ -144,7 +145,7 @@ act_of _ _ = None
 abbrev pub one_act : Act → Acts
 one_act a = record { act = a; other = None }
 
--- The two acts of which one flips the bit: plus and minus its power of two. Which of them it is, the value of a run decides.
+-- The two acts of which one flips the bit: plus and minus its power of two. Which of them it is, the word decides that is there.
 abbrev pub both_flips : Option ℕ → ℕ → Acts
 both_flips place b = record { act = adding place (pos (2 ^ b)); other = Some (adding place (neg_ℤ (pos (2 ^ b)))) }
 

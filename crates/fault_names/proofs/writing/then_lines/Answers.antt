@@ -16,7 +16,8 @@ lines-preserved g c =
     let more = read_lines (c.in-Some.number + 1) (lines c.in-Some.more.now) in
     record {
       told =
-          told_more (entry_of c.in-Some.words.now (meant_of c.args.graph.now (words c.in-Some.words.now))) (entries c.args.graph.now more) c.lines.invariant.told
+          told_more (entry_of c.in-Some.words.now (meant_of c.args.graph.now (words c.in-Some.words.now)))
+          (entries c.args.graph.now more) c.lines.invariant.told
           (ap (entries c.args.graph.now) c.in-Some.ensures.some) c.then_line.ensures;
       few = omega (arith, c.in-Some.ensures.number, c.lines.invariant.few);
     }
