@@ -325,7 +325,9 @@ def faults_of_architecture(crates, names):
         if not re.search(rf"^\|[^|]*`{crate}`", contracts, re.M) and not is_for_tests(crate):
             yield f"the crate `{crate}` has no main contract"
     yield from faults_of_layers(text, crates)
-    for cited in sorted(set(re.findall(r"`([A-Za-z_][\w./:]*)`", text))):
+    # The modules of the kit's crates are no files of the repository; that they are the present ones is compared below.
+    own = re.sub(r"^- `\w+`, of the kit: .*$", "", text, flags=re.M)
+    for cited in sorted(set(re.findall(r"`([A-Za-z_][\w./:]*)`", own))):
         if not is_there(cited, crates, names):
             yield f"`{cited}` isn't there"
     if cited_modules() not in text:

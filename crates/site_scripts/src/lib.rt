@@ -1,0 +1,11 @@
+//! Scripts of all single faults of a class that an image can have, as `inject` takes them, whole or in parts; and how many there are.
+#![tactic(auto)]
+
+mod chosen;
+mod number;
+mod of_class;
+mod unwritten;
+
+pub use chosen::Chosen;
+pub use of_class::write_chosen_sites;
+pub use unwritten::Unwritten;
