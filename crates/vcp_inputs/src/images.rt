@@ -7,6 +7,7 @@ ghost use Rattle.vcp_outside.specs.Counts.{Rose};
 ghost use Rattle.signature_table.specs.Signatures.{table_of};
 ghost use Rattle.vcp_inputs.specs.Files.{Untaken, Loads};
 ghost use Rattle.vcp_inputs.specs.Images.{ImageOf, NotImage};
+ghost use Rattle.vcp_inputs.specs.Refusals.{IsCaused};
 ghost use Rattle.vcp_inputs.specs.declared.refusal.NoInput.TheVariants as input;
 ghost use Rattle.vcp_inputs.specs.declared.refusal.Refusal.{Refusal as RefusalOf};
 ghost use Rattle.vcp_inputs.specs.declared.refusal.Refusal.TheVariants as refusal;
@@ -34,6 +35,7 @@ fn image_of(alloc: Global, text: &[u8]) -> Result<Image, NoInput>
     requires short { length text.now ≤ most_image_bytes }
     ensures ok { IfOk result (ImageOf text.now) }
     ensures err { IfErr result (Untaken (NotImage text.now)) }
+    ensures caused { IfErr result IsCaused }
 {
     let (graph, table) = read_image(alloc, text)?;
     Ok(Image { graph, table })
@@ -46,6 +48,8 @@ pub fn load_image<F: Files>(alloc: Global, files: &mut F, name: &Text) -> Result
     // Its table is the graph's, whatever the files tell.
     ensures table { IfOk result (λ i. i.table ≡ table_of i.table.seed i.table.step i.graph) }
     ensures unread { result ≡ Err input.Unread → Rose (F.seen files.old).faults (F.seen files.new).faults }
+    // Where it is refused, that is no want of memory, whatever the files tell.
+    ensures caused { IfErr result IsCaused }
     // What was taken of the file: all, unless it has too many bytes.
     ensures ended { OnOk result (IsAtEnd (F.seen files.new).rest) }
     ensures whole { (r : RefusalOf) → result ≡ Err (input.Refused r) → r ≢ refusal.Bytes → IsAtEnd (F.seen files.new).rest }

@@ -7,6 +7,7 @@ ghost use Rattle.il_front.specs.Answers.{most_il_bytes};
 ghost use Rattle.il_front.specs.Outcomes.{IsTypedIl};
 ghost use Rattle.vcp_inputs.specs.Files.{Untaken, Loads};
 ghost use Rattle.vcp_inputs.specs.Listings.{NotListing};
+ghost use Rattle.vcp_inputs.specs.Refusals.{IsCaused};
 ghost use Rattle.vcp_inputs.specs.declared.refusal.NoInput.TheVariants as input;
 ghost use Rattle.vcp_inputs.specs.declared.refusal.Refusal.{Refusal as RefusalOf};
 ghost use Rattle.vcp_inputs.specs.declared.refusal.Refusal.TheVariants as refusal;
@@ -24,6 +25,7 @@ fn listed_program(alloc: Global, text: &[u8]) -> Result<Typed, NoInput>
     requires short { length text.now ≤ most_il_bytes }
     ensures ok { IfOk result (IsTypedIl text.now) }
     ensures err { IfErr result (Untaken (NotListing text.now)) }
+    ensures caused { IfErr result IsCaused }
 {
     Ok(read_il(alloc, text)?)
 }
@@ -34,6 +36,8 @@ pub fn load_il<F: Files>(alloc: Global, files: &mut F, name: &Text) -> Result<Ty
     // What is answered: the typed program of the file's instruction list, or why there is none.
     ensures loads { IfSome (F.seen files.old).held (λ h. Loads IsTypedIl NotListing h name.now most_il_bytes (F.seen files.old).broken (F.seen files.new).broken result) }
     ensures unread { result ≡ Err input.Unread → Rose (F.seen files.old).faults (F.seen files.new).faults }
+    // Where it is refused, that is no want of memory, whatever the files tell.
+    ensures caused { IfErr result IsCaused }
     // What was taken of the file: all, unless it has too many bytes.
     ensures ended { OnOk result (IsAtEnd (F.seen files.new).rest) }
     ensures whole { (r : RefusalOf) → result ≡ Err (input.Refused r) → r ≢ refusal.Bytes → IsAtEnd (F.seen files.new).rest }

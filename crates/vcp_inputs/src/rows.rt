@@ -1,6 +1,6 @@
 //! The rows of a run, taken through their refusals.
 
-ghost use Rattle.std.specs.Prelude.{◌≡◌, ◌≢◌, ◌<◌, ◌≤◌, ◌^◌, ℕ, false, true, All, IfSome, IfOk, OnOk, Err, length};
+ghost use Rattle.std.specs.Prelude.{◌≡◌, ◌≢◌, ◌<◌, ◌≤◌, ◌^◌, ℕ, false, true, All, IfErr, IfSome, IfOk, OnOk, Err, length};
 ghost use Rattle.std.specs.Io.KnownBytes.{IsAtEnd};
 ghost use Rattle.vcp_base.specs.Limits.{most_cycles};
 ghost use Rattle.vcp_base.specs.Types.{AreIn};
@@ -9,6 +9,7 @@ ghost use Rattle.vcp_outside.specs.Held.{Held};
 ghost use Rattle.input_rows.specs.RowsOf.{IsOfRecord, types_of};
 ghost use Rattle.vcp_words.specs.Forms.{rows_of, file, AreFew};
 ghost use Rattle.vcp_inputs.specs.RowsOutcome.{rows_outcome, source_outcome, Opens, LoadsRows, begins, HasLongFile, HasFewCycles};
+ghost use Rattle.vcp_inputs.specs.Refusals.{IsCaused};
 ghost use Rattle.vcp_inputs.specs.declared.refusal.NoInput.TheVariants as input;
 ghost use Rattle.vcp_inputs.specs.declared.refusal.Refusal.{Refusal as RefusalOf};
 ghost use Rattle.vcp_inputs.specs.declared.refusal.Refusal.TheVariants as refusal;
@@ -43,6 +44,7 @@ fn load_file<F: Files>(
         (h : Held) → LoadsRows (rows_outcome (file name.now) h columns.now) columns.now (F.seen files.old).broken (F.seen files.new).broken result }
     ensures few { IfOk result HasFewCycles }
     ensures unread { result ≡ Err input.Unread → Rose (F.seen files.old).faults (F.seen files.new).faults }
+    ensures caused { IfErr result IsCaused }
     ensures begun { result ≡ Err input.Unread → begins (file name.now) columns.now ≡ true }
     ensures refused { (r : RefusalOf) → result ≡ Err (input.Refused r) → begins (file name.now) columns.now ≡ true → r ≡ refusal.Bytes }
     ensures long { result ≡ Err (input.Refused refusal.Bytes) → IfSome (F.seen files.old).held (HasLongFile (file name.now)) }
@@ -80,6 +82,8 @@ pub fn load_rows<F: Files>(
         (h : Held) → LoadsRows (rows_outcome (rows_of rows.entry) h columns.now) columns.now (F.seen files.old).broken (F.seen files.new).broken result }
     ensures few { IfOk result HasFewCycles }
     ensures unread { result ≡ Err input.Unread → Rose (F.seen files.old).faults (F.seen files.new).faults }
+    // Where it is refused, that is no want of memory, whatever the files tell.
+    ensures caused { IfErr result IsCaused }
     ensures begun { result ≡ Err input.Unread → begins (rows_of rows.entry) columns.now ≡ true }
     ensures refused { (r : RefusalOf) → result ≡ Err (input.Refused r) → begins (rows_of rows.entry) columns.now ≡ true → r ≡ refusal.Bytes }
     ensures long { result ≡ Err (input.Refused refusal.Bytes) → IfSome (F.seen files.old).held (HasLongFile (rows_of rows.entry)) }
@@ -108,6 +112,7 @@ impl RowsSource {
         requires narrow { length columns.now < 2 ^ 32 }
         ensures opens { (before now : ℕ) → Opens (source_outcome self.now columns.now) before now result }
         ensures read { result ≢ Err input.Unread }
+        ensures caused { IfErr result IsCaused }
         ensures types { IfOk result (λ left. left.types ≡ types_of columns.now) }
         ensures typed { IfOk result (λ left. All (AreIn left.types) left.rows) }
         ensures few { IfOk result (λ left. length left.rows ≤ most_cycles) }

@@ -8,6 +8,7 @@ ghost use Rattle.fault_script.specs.Groups.{GroupFits};
 ghost use Rattle.fault_script.specs.ScriptOf.{most_faults};
 ghost use Rattle.vcp_inputs.specs.Files.{Untaken, Loads};
 ghost use Rattle.vcp_inputs.specs.Scripts.{ScriptOf, NotScript};
+ghost use Rattle.vcp_inputs.specs.Refusals.{IsCaused};
 ghost use Rattle.vcp_inputs.specs.declared.refusal.NoInput.TheVariants as input;
 ghost use Rattle.vcp_inputs.specs.declared.refusal.Refusal.{Refusal as RefusalOf};
 ghost use Rattle.vcp_inputs.specs.declared.refusal.Refusal.TheVariants as refusal;
@@ -25,6 +26,7 @@ fn script_of(alloc: Global, text: &[u8], graph: &Graph) -> Result<Script, NoInpu
     requires short { length text.now ≤ most_source_bytes }
     ensures ok { IfOk result (ScriptOf graph.now text.now) }
     ensures err { IfErr result (Untaken (NotScript graph.now text.now)) }
+    ensures caused { IfErr result IsCaused }
     ensures fits { IfOk result (λ s. All (GroupFits graph.now) s) }
     ensures few { IfOk result (λ s. length s ≤ most_faults) }
 {
@@ -45,6 +47,8 @@ pub fn load_script<F: Files>(
     ensures fits { IfOk result (λ s. All (GroupFits graph.now) s) }
     ensures few { IfOk result (λ s. length s ≤ most_faults) }
     ensures unread { result ≡ Err input.Unread → Rose (F.seen files.old).faults (F.seen files.new).faults }
+    // Where it is refused, that is no want of memory, whatever the files tell.
+    ensures caused { IfErr result IsCaused }
     // What was taken of the file: all, unless it has too many bytes.
     ensures ended { OnOk result (IsAtEnd (F.seen files.new).rest) }
     ensures whole { (r : RefusalOf) → result ≡ Err (input.Refused r) → r ≢ refusal.Bytes → IsAtEnd (F.seen files.new).rest }

@@ -7,6 +7,7 @@ ghost use Rattle.vcp_outside.specs.Counts.{Rose};
 ghost use Rattle.st_tree.specs.ProgramViews.{program_tree};
 ghost use Rattle.vcp_inputs.specs.Files.{Untaken, Loads};
 ghost use Rattle.vcp_inputs.specs.Programs.{IsProgram, NoProgram, NotTyped, TypedOf, IsTreeOf};
+ghost use Rattle.vcp_inputs.specs.Refusals.{IsCaused};
 ghost use Rattle.vcp_inputs.specs.declared.refusal.NoInput.TheVariants as input;
 ghost use Rattle.vcp_inputs.specs.declared.refusal.Refusal.{Refusal as RefusalOf};
 ghost use Rattle.vcp_inputs.specs.declared.refusal.Refusal.TheVariants as refusal;
@@ -28,6 +29,7 @@ fn program_of(alloc: Global, source: &[u8]) -> Result<Program, NoInput>
     requires short { length source.now ≤ most_source_bytes }
     ensures ok { IfOk result (λ p. IsProgram source.now (program_tree p)) }
     ensures err { IfErr result (Untaken (NoProgram source.now)) }
+    ensures caused { IfErr result IsCaused }
 {
     let tokens = lex(alloc, source)?;
     let program = parse(alloc, source, &tokens)?;
@@ -39,6 +41,7 @@ fn typed_program(alloc: Global, source: &[u8]) -> Result<Typed, NoInput>
     requires short { length source.now ≤ most_source_bytes }
     ensures ok { IfOk result (TypedOf source.now) }
     ensures err { IfErr result (Untaken (NotTyped source.now)) }
+    ensures caused { IfErr result IsCaused }
 {
     let program = program_of(alloc, source)?;
     // So each declared name is one that may be.
@@ -51,6 +54,7 @@ fn typed_program(alloc: Global, source: &[u8]) -> Result<Typed, NoInput>
 pub fn typed_of(alloc: Global, source: &Text) -> Result<Typed, NoInput>
     ensures loads { (name : List ℕ) (broken : ℕ) → Loads TypedOf NotTyped (λ _. Some source.now) name most_source_bytes broken broken result }
     ensures read { result ≢ Err input.Unread }
+    ensures caused { IfErr result IsCaused }
 {
     if source.len() as u64 > MOST_SOURCE_BYTES {
         return Err(NoInput::Refused(Refusal::Bytes));
@@ -64,6 +68,8 @@ pub fn load_program<F: Files>(alloc: Global, files: &mut F, name: &Text) -> Resu
     // What is answered: the file's program, or why there is none.
     ensures loads { IfSome (F.seen files.old).held (λ h. Loads IsTreeOf NoProgram h name.now most_source_bytes (F.seen files.old).broken (F.seen files.new).broken result) }
     ensures unread { result ≡ Err input.Unread → Rose (F.seen files.old).faults (F.seen files.new).faults }
+    // Where it is refused, that is no want of memory, whatever the files tell.
+    ensures caused { IfErr result IsCaused }
     // What was taken of the file: all, unless it has too many bytes.
     ensures ended { OnOk result (IsAtEnd (F.seen files.new).rest) }
     ensures whole { (r : RefusalOf) → result ≡ Err (input.Refused r) → r ≢ refusal.Bytes → IsAtEnd (F.seen files.new).rest }
@@ -82,6 +88,8 @@ pub fn load_typed<F: Files>(alloc: Global, files: &mut F, name: &Text) -> Result
     // What is answered: the file's typed program, or why there is none.
     ensures loads { IfSome (F.seen files.old).held (λ h. Loads TypedOf NotTyped h name.now most_source_bytes (F.seen files.old).broken (F.seen files.new).broken result) }
     ensures unread { result ≡ Err input.Unread → Rose (F.seen files.old).faults (F.seen files.new).faults }
+    // Where it is refused, that is no want of memory, whatever the files tell.
+    ensures caused { IfErr result IsCaused }
     // What was taken of the file: all, unless it has too many bytes.
     ensures ended { OnOk result (IsAtEnd (F.seen files.new).rest) }
     ensures whole { (r : RefusalOf) → result ≡ Err (input.Refused r) → r ≢ refusal.Bytes → IsAtEnd (F.seen files.new).rest }

@@ -7,6 +7,7 @@ ghost use Rattle.vcp_outside.specs.Counts.{Rose};
 ghost use Rattle.wire_script.specs.ScriptOf.{ScriptFits};
 ghost use Rattle.vcp_inputs.specs.Files.{Untaken, Loads};
 ghost use Rattle.vcp_inputs.specs.Wires.{WireOf, NotWire};
+ghost use Rattle.vcp_inputs.specs.Refusals.{IsCaused};
 ghost use Rattle.vcp_inputs.specs.declared.refusal.NoInput.TheVariants as input;
 ghost use Rattle.vcp_inputs.specs.declared.refusal.Refusal.{Refusal as RefusalOf};
 ghost use Rattle.vcp_inputs.specs.declared.refusal.Refusal.TheVariants as refusal;
@@ -23,6 +24,7 @@ fn wire_of(alloc: Global, text: &[u8]) -> Result<Script, NoInput>
     requires short { length text.now ≤ most_source_bytes }
     ensures ok { IfOk result (WireOf text.now) }
     ensures err { IfErr result (Untaken (NotWire text.now)) }
+    ensures caused { IfErr result IsCaused }
     ensures fits { IfOk result ScriptFits }
 {
     Ok(read_wire(alloc, text)?)
@@ -36,6 +38,8 @@ pub fn load_wire<F: Files>(alloc: Global, files: &mut F, name: &Text) -> Result<
     // Its numbers are in their ranges, and what it delivers was sent, whatever the files tell.
     ensures fits { IfOk result ScriptFits }
     ensures unread { result ≡ Err input.Unread → Rose (F.seen files.old).faults (F.seen files.new).faults }
+    // Where it is refused, that is no want of memory, whatever the files tell.
+    ensures caused { IfErr result IsCaused }
     // What was taken of the file: all, unless it has too many bytes.
     ensures ended { OnOk result (IsAtEnd (F.seen files.new).rest) }
     ensures whole { (r : RefusalOf) → result ≡ Err (input.Refused r) → r ≢ refusal.Bytes → IsAtEnd (F.seen files.new).rest }

@@ -2,6 +2,8 @@ use Rattle.std.proofs.lemmas.Result.{err_from_is_err_and}
 use Rattle.vcp_base.specs.Limits.{most_source_bytes}
 use Rattle.vcp_inputs.specs.Wires.{WireOf, NotWire}
 use Rattle.vcp_inputs.proofs.Taken.{if_some_weaker, not_read, by_result}
+use Rattle.std.proofs.Common.{ap, Err}
+use Rattle.vcp_inputs.proofs.Causes.{read_caused}
 use Rattle.vcp_inputs.proofs.wires.load_wire.Goals as goal
 
 pub returns-in_err-text-clause-loads : goal.returns-in_err-text-clause-loads
@@ -18,3 +20,8 @@ returns-clause-loads g c =
     (λ h read. by_result WireOf NotWire h c.args.name.now most_source_bytes (g.F.Files.seen c.args.files.now).broken
     (g.F.Files.seen c.read_file.new.files).broken c.in_ok-text.text c.wire_of.result
     read (rw c.bytes.ensures at c.wire_of.ensures.ok) (rw c.bytes.ensures at c.wire_of.ensures.err)) c.in_ok-text.ensures.reads
+
+pub returns-in_err-text-clause-caused : goal.returns-in_err-text-clause-caused
+returns-in_err-text-clause-caused g c =
+    let p = err_from_is_err_and c.from_residual.result c.from_residual.ensures.1 in
+    rw (p.1, p.2) (read_caused _ (λ r is. c.in_err-text.ensures.long r (ap Err is)))
