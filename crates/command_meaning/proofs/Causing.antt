@@ -10,12 +10,12 @@ use Rattle.pair_channel.specs.PairRuns.{PairOutcome}
 use Rattle.command_meaning.specs.Answer.{Answer}
 use Rattle.command_meaning.specs.CampaignKind.{verdicts_answer}
 use Rattle.pair_campaign.specs.declared.verdict.PairVerdict.{PairVerdict}
-use Rattle.command_meaning.specs.HoldKind.{held_answer}
+use Rattle.command_meaning.specs.PairsKind.{pairs_answer}
 use Rattle.command_meaning.specs.PairKind.{pair_answer, pair_read, pair_status}
 use Rattle.command_meaning.specs.Printing.{Report}
-use Rattle.command_meaning.specs.Endings.{TellsLine, ended, cut, short, unread, unmade, Given, Causes, NothingFailed, HasOwnStatus}
+use Rattle.command_meaning.specs.Endings.{TellsLine, ended, cut, wanting, unread, unmade, Given, Causes, NothingFailed, HasOwnStatus}
 use Rattle.command_meaning.specs.Endings.{DoneIsMeant, EndingsHaveCauses, GivingUpHasCauses}
-use Rattle.command_meaning.specs.Kinds.{Task, lacks, answers, compiles, runs, judges, compares, holds, wires, Done, lack_answer}
+use Rattle.command_meaning.specs.Kinds.{Task, lacks, answers, compiles, runs, judges, compares, pairs_, wires, Done, lack_answer}
 use Rattle.command_meaning.specs.Reports.{RunEnd, complete, stopped, refused, run_status}
 use Rattle.command_meaning.specs.RunKind.{job_answer, run_read}
 use Rattle.wire_run.specs.Sends.{Cut}
@@ -56,7 +56,7 @@ five_lacks (runs j) a b x few d h = absurd (omega (arith, h, status_of x _ d.rea
 five_lacks (judges c) a b x few d h = absurd (omega (arith, h, status_of x _ d.read))
 five_lacks (wires s) a b x few d h = absurd (omega (arith, h, status_of x _ d.read, wire_small d.cut))
 five_lacks (compares j) a b x few d h = absurd (omega (arith, h, status_of x _ d.read, pair_small (pair_read j d.cycles).end j.rows.refusal))
-five_lacks (holds c) a b x few d h = absurd (omega (arith, h, status_of x _ d.read))
+five_lacks (pairs_ c) a b x few d h = absurd (omega (arith, h, status_of x _ d.read))
 
 lacks_five : (task : Task) (a b : UnitSeen) (x : Answer) (name : List ℕ) → task ≡ lacks name → Done task a b x → x.status ≡ 5
 lacks_five task a b x name is d =
@@ -72,7 +72,7 @@ done_is_meant (runs j) before after x d honest = d.read ∙ ap (λ (r : Report).
 done_is_meant (judges c) before after x d honest = d.read ∙ ap (λ (vs : List Verdict). verdicts_answer c vs) (d.honest honest)
 done_is_meant (wires s) before after x d honest = d.honest honest
 done_is_meant (compares j) before after x d honest = d.read ∙ ap (λ (o : PairOutcome). pair_answer j o) (d.honest honest)
-done_is_meant (holds c) before after x d honest = d.read ∙ ap (λ (vs : List PairVerdict). held_answer c vs) (d.honest honest)
+done_is_meant (pairs_ c) before after x d honest = d.read ∙ ap (λ (vs : List PairVerdict). pairs_answer c vs) (d.honest honest)
 
 -- ---- the answer came
 
@@ -80,7 +80,7 @@ came_causes : (task : Task) (before after : Outside) (status : ℕ) → HasOwnSt
 came_causes task before after status few g = record {
   meant = λ honest fine. (g.answer, done_is_meant task before.unit after.unit g.answer g.done honest, g.came);
   done = λ fine. g;
-  completes = λ nothing. inr g;
+  finishes = λ nothing. inr g;
   five_only = λ h.
       let l = five_lacks task before.unit after.unit g.answer few g.done (sym g.came.status_is ∙ h) in
       inr (l.0, l.1, subst (λ (z : Answer). Appends before.err.written after.err.written z.err) l.2 g.came.err);
@@ -98,21 +98,21 @@ kept_causes : (task : Task) (before after : Outside) (status : ℕ) → Kept bef
 kept_causes task before after status (by_files s rose) = record {
   meant = λ honest fine. absurd (fine.files s);
   done = λ fine. absurd (fine.files s);
-  completes = λ nothing. absurd (nothing.files rose);
+  finishes = λ nothing. absurd (nothing.files rose);
   five_only = λ h. inl rose;
   five = λ name is sinks memory. s;
 }
 kept_causes task before after status (by_sink s failed) = record {
   meant = λ honest fine. absurd (fine.sinks s);
   done = λ fine. absurd (fine.sinks s);
-  completes = λ nothing. absurd (failed nothing);
+  finishes = λ nothing. absurd (failed nothing);
   five_only = λ h. absurd (omega (arith, h, s));
   five = λ name is sinks memory. absurd (sinks s);
 }
 kept_causes task before after status (by_memory s) = record {
   meant = λ honest fine. absurd (fine.memory s);
   done = λ fine. absurd (fine.memory s);
-  completes = λ nothing. inl s;
+  finishes = λ nothing. inl s;
   five_only = λ h. absurd (omega (arith, h, s));
   five = λ name is sinks memory. absurd (memory s);
 }
@@ -134,7 +134,7 @@ endings_have_causes c task before after status few (ended x d out (inr (is, rose
     kept_causes task before after status (by_sink is (λ nothing. nothing.err rose))
 endings_have_causes c task before after status few (cut rose left told) =
     kept_causes task before after status (by_sink (sink_six _ before.err after.err status told) (λ nothing. nothing.out rose))
-endings_have_causes c task before after status few (short late left told) =
+endings_have_causes c task before after status few (wanting late left told) =
     kept_causes task before after status (memory_kept before after status _ told)
 
 pub giving_up_has_causes : GivingUpHasCauses

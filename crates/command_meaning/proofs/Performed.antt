@@ -1,5 +1,5 @@
 -- Performed: from how far a command came, and what became of its line, to how it serves and what it keeps.
-use Rattle.std.proofs.Common.{ℕ, ◌≡◌, ◌≢◌, ◌≤◌, ◌⊎◌, inl, inr, refl, sym, subst, ◌∙◌, List, [], ◌∷◌, ◌++◌, Option, Some, None, IfSome, arith}
+use Rattle.std.proofs.Common.{ℕ, ◌≡◌, ◌≢◌, ◌≤◌, ◌⊎◌, inl, inr, refl, sym, subst, ◌∙◌, Bool, true, false, List, [], ◌∷◌, ◌++◌, Option, Some, None, IfSome, arith}
 use Rattle.std.specs.Io.KnownBytes.{Appends, IsAtEnd}
 use Rattle.vcp_outside.specs.Counts.{Rose}
 use Rattle.vcp_outside.specs.Held.{Held}
@@ -8,13 +8,13 @@ use Rattle.command_meaning.specs.Abouts.{Among, About, AllHeld}
 use Rattle.command_meaning.specs.Clauses.{IsEnd, IsTooLong, Keeps, MayHold, Serves, TellsTooLong, Completed, Completes, IsAccepted}
 use Rattle.command_meaning.specs.Endings.{Answered, known, given_up, Came, Causes, Ends, Given, GivenUp, HasOwnStatus, NothingFailed, TellsLine}
 use Rattle.command_meaning.specs.Endings as ends
-use Rattle.command_meaning.specs.Kinds.{Task, lacks, answers, compiles, runs, judges, compares, holds, wires, Done, Meant}
-use Rattle.command_meaning.specs.Performing.{Still, Reaches, done, cut, short, unread, unmade, Performs}
+use Rattle.command_meaning.specs.Kinds.{Task, lacks, answers, compiles, runs, judges, compares, pairs_, wires, Done, Meant}
+use Rattle.command_meaning.specs.Performing.{Reaches, done, cut, wanting, unread, unmade, Performs}
 use Rattle.command_meaning.specs.PairKind.{pair_read}
 use Rattle.command_meaning.specs.RunKind.{run_read}
 use Rattle.coded_unit.specs.Seen.{UnitSeen, StaysHonest}
 use Rattle.vcp_outside.specs.Seen.{SinkSeen}
-use Rattle.command_meaning.specs.Seen.{Outside, Untouched, moment_of}
+use Rattle.command_meaning.specs.Seen.{Outside, moment_of}
 use Rattle.command_meaning.proofs.Causing.{endings_have_causes, giving_up_has_causes, five_lacks, pair_small, run_small, status_of, done_is_meant, wire_small}
 
 -- A command comes to one task at most; to an answer only with a status of its own; and to a lacking name only where not all of its files
@@ -32,20 +32,17 @@ retold line other code number a b status lines codes told =
 
 module _ (c : About) (Comes : Task → Type 0) (before after : Outside) (line : List ℕ) (code status : ℕ)
     (told : TellsLine line code before.err after.err status) where
-  untouched : Still (moment_of before) (moment_of after) → Untouched before after
-  untouched s = record { unit = s.unit; out = s.out }
-
   answered : Reaches c Comes before.files after.files (moment_of before) (moment_of after) line code → Answered c Comes before after status
   answered (done task x comes d out line_is code_is) =
       known task comes (ends.ended x d out (retold line x.err code x.status before.err after.err status (sym line_is) (sym code_is) told))
   answered (cut task comes left rose line_is code_is) =
       known task comes (ends.cut rose left (retold line _ code 6 before.err after.err status line_is code_is told))
-  answered (short task comes left late line_is code_is) =
-      known task comes (ends.short late left (retold line _ code 7 before.err after.err status line_is code_is told))
+  answered (wanting task comes left late line_is code_is) =
+      known task comes (ends.wanting late left (retold line _ code 7 before.err after.err status line_is code_is told))
   answered (unread word named rose still line_is code_is) =
-      given_up (ends.unread word named rose (untouched still) (retold line _ code 5 before.err after.err status line_is code_is told))
+      given_up (ends.unread word named rose still (retold line _ code 5 before.err after.err status line_is code_is told))
   answered (unmade still line_is code_is) =
-      given_up (ends.unmade (untouched still) (retold line _ code 7 before.err after.err status line_is code_is told))
+      given_up (ends.unmade still (retold line _ code 7 before.err after.err status line_is code_is told))
 
 -- ---- completeness
 
@@ -58,7 +55,39 @@ never_six (runs j) a b x few d h = omega (arith, h, status_of x _ d.read, run_sm
 never_six (judges c) a b x few d h = omega (arith, h, status_of x _ d.read)
 never_six (wires s) a b x few d h = omega (arith, h, status_of x _ d.read, wire_small d.cut)
 never_six (compares j) a b x few d h = omega (arith, h, status_of x _ d.read, pair_small (pair_read j d.cycles).end j.rows.refusal)
-never_six (holds c) a b x few d h = omega (arith, h, status_of x _ d.read)
+never_six (pairs_ c) a b x few d h = omega (arith, h, status_of x _ d.read)
+
+-- a task that needs no unit: it comes to one answer, or to one of some, whatever a unit answers
+abbrev pub NeedsNone : Task → Type 0
+NeedsNone (lacks name) = Unit {0}
+NeedsNone (answers y) = y.status ≤ 2
+NeedsNone (compiles p code) = Unit {0}
+NeedsNone (runs j) = ⊥
+NeedsNone (judges c) = ⊥
+NeedsNone (wires s) = ⊥
+NeedsNone (compares j) = ⊥
+NeedsNone (pairs_ c) = ⊥
+
+-- it was done as it is meant, with no status of an output that is refused
+none_meant : (task : Task) (a b : UnitSeen) (x : Answer) → NeedsNone task → Done task a b x → Meant task x
+none_meant (lacks name) a b x none d = d.1
+none_meant (answers y) a b x none d = d.1
+none_meant (compiles p code) a b x none d = d.1
+none_meant (runs j) a b x none d = absurd none
+none_meant (judges c) a b x none d = absurd none
+none_meant (wires s) a b x none d = absurd none
+none_meant (compares j) a b x none d = absurd none
+none_meant (pairs_ c) a b x none d = absurd none
+
+none_three : (task : Task) (a b : UnitSeen) (x : Answer) → NeedsNone task → Done task a b x → x.status ≡ 3 → ⊥
+none_three (lacks name) a b x none d h = omega (arith, h, status_of x _ d.1)
+none_three (answers y) a b x none d h = omega (arith, none, h, status_of x y d.1)
+none_three (compiles p code) a b x none (quiet, (g, may, is)) h = omega (arith, h, status_of x _ is)
+none_three (runs j) a b x none d h = none
+none_three (judges c) a b x none d h = none
+none_three (wires s) a b x none d h = none
+none_three (compares j) a b x none d h = none
+none_three (pairs_ c) a b x none d h = none
 
 -- a line whose status is another one was told, or its sink failed
 told_five : (line : List ℕ) (code : ℕ) (a b : SinkSeen) (status : ℕ) → TellsLine line code a b status → status ≡ 5 → code ≡ 5
@@ -75,7 +104,7 @@ module _ (c : About) (before after : Outside) (status : ℕ) (nothing : NothingF
   ended_five task few found (ends.ended x d out told) is =
       let l = five_lacks task before.unit after.unit x few d (told_five _ _ before.err after.err status told is) in found l.0 l.1
   ended_five task few found (ends.cut rose left told) is = nothing.out rose
-  ended_five task few found (ends.short late left told) is = let seven = told_five _ 7 before.err after.err status told is in omega (arith, seven)
+  ended_five task few found (ends.wanting late left told) is = let seven = told_five _ 7 before.err after.err status told is in omega (arith, seven)
 
   ended_six : (task : Task) → HasOwnStatus task → Ends c task before after status → status ≡ 6 → ⊥
   ended_six task few (ends.ended x d out told) is =
@@ -84,7 +113,7 @@ module _ (c : About) (before after : Outside) (status : ℕ) (nothing : NothingF
         | inr rose ↦ nothing.err rose
       ]
   ended_six task few (ends.cut rose left told) is = nothing.out rose
-  ended_six task few (ends.short late left told) is =
+  ended_six task few (ends.wanting late left told) is =
       elim (told_six _ 7 before.err after.err status told is) [ inl six ↦ omega (arith, six) | inr rose ↦ nothing.err rose ]
 
   given_five : GivenUp c before after status → status ≡ 5 → ⊥
@@ -104,13 +133,13 @@ module _ (c : About) (Comes : Held → Task → Type 0) (before after : Outside)
       (endings_have_causes c other before after status (laws.own h other comes) finish)
   causes_of (given_up g) task takes = giving_up_has_causes c task before after status g
 
-  completes_of : Answered c (Comes h) before after status → AllHeld h c.files → NothingFailed before after → (status ≢ 5) × (status ≢ 6)
-  completes_of (known task comes finish) all nothing = (
+  unfailing_of : Answered c (Comes h) before after status → AllHeld h c.files → NothingFailed before after → (status ≢ 5) × (status ≢ 6)
+  unfailing_of (known task comes finish) all nothing = (
     ended_five c before after status nothing task (laws.own h task comes)
         (λ name is. laws.found h name all (subst (λ (t : Task). Comes h t) is comes)) finish,
     ended_six c before after status nothing task (laws.own h task comes) finish,
   )
-  completes_of (given_up g) all nothing = (given_five c before after status nothing g, given_six c before after status nothing g)
+  unfailing_of (given_up g) all nothing = (given_five c before after status nothing g, given_six c before after status nothing g)
 
 -- where a command came so far and then its line was told, it serves
 pub performed_serves : (c : About) (Comes : Held → Task → Type 0) (before after : Outside) (line : List ℕ) (code status : ℕ) → IsMeaning c Comes →
@@ -121,7 +150,7 @@ performed_serves c Comes before after line code status laws p told h may =
     record {
       answered = a;
       causes = causes_of c Comes before after status h laws a;
-      completes = completes_of c Comes before after status h laws a;
+      unfailing = unfailing_of c Comes before after status h laws a;
     }
 
 -- ---- what is kept
@@ -147,7 +176,7 @@ pub performed_keeps : (c : About) (Comes : Held → Task → Type 0) (before aft
     Keeps c before after status
 performed_keeps c Comes before after line code status p (inl (is, w)) = record {
   statuses = subst (λ (n : ℕ). Among n (c.ends ++ 5 ∷ 6 ∷ 7 ∷ [])) (sym is) p.statuses;
-  told = (code, line, p.statuses, p.told, inl (is, w));
+  told = (code, line, p.statuses, p.told, p.write, inl (is, w));
   held = p.held;
   unit = p.unit;
   files = p.stay;
@@ -161,7 +190,7 @@ performed_keeps c Comes before after line code status p (inl (is, w)) = record {
 }
 performed_keeps c Comes before after line code status p (inr (is, rose, part)) = record {
   statuses = subst (λ (n : ℕ). Among n (c.ends ++ 5 ∷ 6 ∷ 7 ∷ [])) (sym is) (among_after 6 c.ends (5 ∷ 6 ∷ 7 ∷ []) (inr (inl refl)));
-  told = (code, line, p.statuses, p.told, inr (is, rose, part));
+  told = (code, line, p.statuses, p.told, p.write, inr (is, rose, part));
   held = p.held;
   unit = p.unit;
   files = p.stay;
@@ -208,17 +237,37 @@ module _ (c : About) (task : Task) (before after : Outside) (status : ℕ) (kept
         read = λ reads. kept.ended reads (inr (inl two));
       })
 
-  module _ (small : status ≤ 7) (no_usage : status ≢ 4) (honest : StaysHonest before.unit after.unit) (accepted : IsAccepted task) where
-    came_so : (status ≢ 5) × (status ≢ 6) → (status ≡ 7) ⊎ Given task before after status → (status ≡ 7) ⊎ Completed c task before after status
-    came_so faults (inl wanted) = inl wanted
-    came_so faults (inr given) =
-        let meant = done_is_meant task before.unit after.unit given.answer given.done honest in
-        ended_so given.answer meant given.came
-        (seven_or_end status small (λ one. accepted given.answer meant (sym given.came.status_is ∙ one))
-        (λ three. let rose = kept.refused three in omega (arith, rose, honest.0, honest.1)) no_usage faults.0 faults.1)
+  module _ (small : status ≤ 7) (no_usage : status ≢ 4) (accepted : IsAccepted task) (faults : (status ≢ 5) × (status ≢ 6)) where
+    module _ (given : Given task before after status) where
+      meant_so : Meant task given.answer → status ≢ 3 → (status ≡ 7) ⊎ Completed c task before after status
+      meant_so meant three =
+          ended_so given.answer meant given.came
+          (seven_or_end status small (λ one. accepted given.answer meant (sym given.came.status_is ∙ one)) three no_usage faults.0 faults.1)
 
--- where a command serves and keeps what every command keeps, it completes
-pub serves_completes : (c : About) (held : Held) (Comes : Task → Type 0) (before after : Outside) (status : ℕ) → Serves c held Comes before after status →
-    Keeps c before after status → status ≤ 7 → status ≢ 4 → Completes c held Comes before after status
-serves_completes c held Comes before after status serves kept small no_usage all nothing honest task comes accepted =
-    came_so c task before after status kept small no_usage honest accepted (serves.completes all nothing) ((serves.causes task comes).completes nothing)
+      -- with an honest unit, or for a task that needs none
+      given_so : StaysHonest before.unit after.unit ⊎ NeedsNone task → (status ≡ 7) ⊎ Completed c task before after status
+      given_so (inl honest) =
+          meant_so (done_is_meant task before.unit after.unit given.answer given.done honest)
+          (λ three. let rose = kept.refused three in omega (arith, rose, honest.0, honest.1))
+      given_so (inr none) =
+          meant_so (none_meant task before.unit after.unit given.answer none given.done)
+          (λ three. none_three task before.unit after.unit given.answer none given.done (sym given.came.status_is ∙ three))
+
+    came_so : StaysHonest before.unit after.unit ⊎ NeedsNone task → (status ≡ 7) ⊎ Given task before after status →
+        (status ≡ 7) ⊎ Completed c task before after status
+    came_so how (inl wanted) = inl wanted
+    came_so how (inr given) = given_so given how
+
+-- the unit is honest where it is called, and else the task needs none
+honest_or_none : (calls : Bool) (before after : UnitSeen) (task : Task) → (calls ≡ true → StaysHonest before after) → (calls ≡ false → NeedsNone task)
+    → StaysHonest before after ⊎ NeedsNone task
+honest_or_none true before after task honest none = inl (honest refl)
+honest_or_none false before after task honest none = inr (none refl)
+
+-- where a command serves and keeps what every command keeps, and comes to tasks that need no unit if it calls none, it completes
+pub serves_completes : (c : About) (held : Held) (Comes : Task → Type 0) (before after : Outside) (status : ℕ) →
+    (c.calls ≡ false → (task : Task) → Comes task → NeedsNone task) → Serves c held Comes before after status → Keeps c before after status →
+    status ≤ 7 → status ≢ 4 → Completes c held Comes before after status
+serves_completes c held Comes before after status none serves kept small no_usage all nothing honest task comes accepted =
+    came_so c task before after status kept small no_usage accepted (serves.unfailing all nothing)
+    (honest_or_none c.calls before.unit after.unit task honest (λ no. none no task comes)) ((serves.causes task comes).finishes nothing)

@@ -7,6 +7,7 @@ use Rattle.command_meaning.specs.Answer.{Answer, Campaign, printed}
 use Rattle.coded_unit.specs.Seen.{UnitSeen}
 use Rattle.machine_run.specs.Moments.{Moment}
 use Rattle.coded_unit.specs.Seen.{StaysHonest}
+use Rattle.command_meaning.specs.Seen.{Appending}
 
 -- the answer where groups have these verdicts: a line for each, and the totals
 abbrev pub verdicts_answer : Campaign → List Verdict → Answer
@@ -32,13 +33,15 @@ pub record CampaignDone (c : Campaign) (before after : UnitSeen) (x : Answer) : 
   pub honest : StaysHonest before after → verdicts ≡ verdicts_meant c
 
 -- Some of the groups were judged, where `Writes` says how much was written: so much of the lines of these verdicts and any later ones, with
--- all lines before that of the last verdict. The calls are those of the run without faults and of these groups' reruns, or none yet. Where no
--- answer was wrong, it is so much of the lines that are meant.
-pub record CampaignLeft (c : Campaign) (Writes : Option (List ℕ) → Option (List ℕ) → List ℕ → Type 0) (before after : Moment) : Type 0 where
+-- all lines before that of the last verdict. The calls are those of the run without faults and of these groups' reruns; or none yet, and then
+-- nothing was written: which can't be where a write failed, since nothing has no part that lacks something. Where no answer was wrong, it is so
+-- much of the lines that are meant.
+pub record CampaignLeft (c : Campaign) (Writes : Appending) (before after : Moment) : Type 0 where
   pub verdicts : List Verdict
   pub few : length verdicts ≤ length c.groups
   pub names : AreOf c verdicts
-  pub asked : JudgedOnce c.table c.graph c.groups c.rows verdicts before.unit after.unit ⊎ ((verdicts ≡ []) × (after.unit ≡ before.unit))
+  pub asked : JudgedOnce c.table c.graph c.groups c.rows verdicts before.unit after.unit
+      ⊎ ((verdicts ≡ []) × (after.unit ≡ before.unit) × Writes before.out.written after.out.written [])
   pub text : (later : List Verdict) → length verdicts + length later ≡ length c.groups
       → Writes before.out.written after.out.written (verdicts_answer c (verdicts ++ later)).out
   pub earlier : EarlierTold c.graph c.groups verdicts before.out.written after.out.written

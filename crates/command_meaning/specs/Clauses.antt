@@ -8,6 +8,7 @@ use Rattle.vcp_words.specs.Forms.{usage_text}
 use Rattle.vcp_inputs.specs.declared.refusal.Refusal.TheVariants as refusal
 use Rattle.vcp_inputs.specs.declared.refusal.Refusal.{Refusal}
 use Rattle.vcp_inputs.specs.Lines.{memory_text, read_fault_text, refusal_text, write_fault_text}
+use Rattle.vcp_inputs.specs.Refusals.{IsCause}
 use Rattle.command_meaning.specs.Answer.{Answer}
 use Rattle.command_meaning.specs.Abouts.{Among, About, FileWord, AllHeld, without_unit}
 use Rattle.command_meaning.specs.Endings.{Answered, Came, Causes, IsNoFault, NothingFailed, TellsLine}
@@ -49,20 +50,25 @@ IsEnd status = (status ≡ 0) ⊎ ((status ≡ 2) ⊎ (status ≡ 3))
 abbrev pub NamesFile : About → List ℕ → Type 0
 NamesFile c name = (word : FileWord) × Among word c.files × (name ≡ word.name)
 
--- The line of a status: none where the command came to its end; of 1 a refusal of what has a name; of 5 that of a file that the command
--- reads; of 6 that of the output, and of 7 that of memory, which name no file.
+-- the command's lines tell something by this name: a file that it reads, or what is no file
+abbrev pub MayName : About → List ℕ → Type 0
+MayName c name = NamesFile c name ⊎ Among name c.others
+
+-- The line of a status: none where the command came to its end; of 1 the refusal of what the command may name, for another cause than want of
+-- memory; of 5 that of a file that it reads; of 6 that of the output, and of 7 that of memory, which name no file.
 pub record IsLine (c : About) (code : ℕ) (line : List ℕ) : Type 0 where
   pub none : IsEnd code → line ≡ []
-  pub refused : code ≡ 1 → (name : List ℕ) × (r : Refusal) × (line ≡ refusal_text name r)
+  pub refused : code ≡ 1 → (name : List ℕ) × (r : Refusal) × MayName c name × IsCause r × (line ≡ refusal_text name r)
   pub file : code ≡ 5 → (name : List ℕ) × NamesFile c name × (line ≡ read_fault_text name)
   pub output : code ≡ 6 → line ≡ write_fault_text
   pub memory : code ≡ 7 → line ≡ memory_text
 
--- Of the statuses that the command may have one came, and its line was told whole; or the sink of the errors failed in that line, which
--- was told in part, and the status is 6.
-abbrev pub TellsItsLine : About → SinkSeen → SinkSeen → ℕ → Type 0
+-- Of the statuses that the command may have one came, 6 only where the sink of the output failed, and its line was told whole; or the sink of the
+-- errors failed in that line, which was told in part, and the status is 6.
+abbrev pub TellsItsLine : About → Outside → Outside → ℕ → Type 0
 TellsItsLine c before after status =
-    (code : ℕ) × (line : List ℕ) × Among code (c.ends ++ 5 ∷ 6 ∷ 7 ∷ []) × IsLine c code line × TellsLine line code before after status
+    (code : ℕ) × (line : List ℕ) × Among code (c.ends ++ 5 ∷ 6 ∷ 7 ∷ []) × IsLine c code line
+    × (code ≡ 6 → Rose before.out.faults after.out.faults) × TellsLine line code before.err after.err status
 
 -- a sink failed: that of the output, and its line was told, or that of the errors
 abbrev pub LosesOutput : Outside → Outside → Type 0
@@ -75,7 +81,7 @@ LosesOutput before after =
 -- objects that were handed in.
 pub record Keeps (c : About) (before after : Outside) (status : ℕ) : Type 0 where
   pub statuses : Among status (c.ends ++ 5 ∷ 6 ∷ 7 ∷ [])
-  pub told : TellsItsLine c before.err after.err status
+  pub told : TellsItsLine c before after status
   pub held : after.files.held ≡ before.files.held
   pub unit : c.calls ≡ false → after.unit ≡ before.unit
   pub files : c.files ≡ [] → after.files ≡ before.files
@@ -97,14 +103,14 @@ MayHold c told held = (told ≡ Some held) ⊎ (c.files ≡ [])
 pub record Serves (c : About) (held : Held) (Comes : Task → Type 0) (before after : Outside) (status : ℕ) : Type 0 where
   pub answered : Answered c Comes before after status
   pub causes : (task : Task) → Comes task → Causes task before after status
-  pub completes : AllHeld held c.files → NothingFailed before after → (status ≢ 5) × (status ≢ 6)
+  pub unfailing : AllHeld held c.files → NothingFailed before after → (status ≢ 5) × (status ≢ 6)
 
 -- nothing of a task is refused: no answer that is meant by it has the status of a refusal
 abbrev pub IsAccepted : Task → Type 0
 IsAccepted task = (x : Answer) → Meant task x → x.status ≢ 1
 
 -- A task was brought to its end: with 0, or with 2 where the command may meet a stop. All that is meant by it was written, to the output
--- and to the errors, and what was begun of files was read to its end.
+-- and to the errors. Of the file that was begun last nothing is unread; what was read of the others the answer shows.
 pub record Completed (c : About) (task : Task) (before after : Outside) (status : ℕ) : Type 0 where
   pub answer : Answer
   pub meant : Meant task answer
@@ -112,12 +118,12 @@ pub record Completed (c : About) (task : Task) (before after : Outside) (status 
   pub own : (status ≡ 0) ⊎ ((status ≡ 2) × Among 2 c.ends)
   pub read : c.files ≢ [] → IsAtEnd after.files.rest
 
--- Completeness: where each file of a command is held, nothing failed, the unit was honest and nothing of its task is refused, the task is
--- brought to its end, unless memory was wanted.
+-- Completeness: where each file of a command is held, nothing failed, the unit was honest, if the command calls it, and nothing of its task is
+-- refused, the task is brought to its end, unless memory was wanted.
 abbrev pub Completes : About → Held → (Task → Type 0) → Outside → Outside → ℕ → Type 0
 Completes c held Comes before after status =
-    AllHeld held c.files → NothingFailed before after → StaysHonest before.unit after.unit → (task : Task) → Comes task → IsAccepted task
-    → (status ≡ 7) ⊎ Completed c task before after status
+    AllHeld held c.files → NothingFailed before after → (c.calls ≡ true → StaysHonest before.unit after.unit) →
+    (task : Task) → Comes task → IsAccepted task → (status ≡ 7) ⊎ Completed c task before after status
 
 -- with an honest unit the answer of the command without one came, but for 5, 6 and 7
 abbrev pub AsPlain : (Form → Held → Task → Type 0) → Form → Held → Outside → Outside → ℕ → Type 0

@@ -6,11 +6,11 @@ use Rattle.vcp_outside.specs.Written.{AppendsFront, AppendsPart}
 use Rattle.vcp_inputs.specs.Lines.{memory_text, read_fault_text, write_fault_text}
 use Rattle.command_meaning.specs.Answer.{Answer}
 use Rattle.command_meaning.specs.Abouts.{Among, About, FileWord}
-use Rattle.command_meaning.specs.Kinds.{Task, lacks, answers, compiles, runs, judges, compares, holds, wires, Done, Left, Meant}
+use Rattle.command_meaning.specs.Kinds.{Task, lacks, answers, compiles, runs, judges, compares, pairs_, wires, Done, Left, Meant}
 use Rattle.coded_unit.specs.Seen.{UnitSeen}
 use Rattle.vcp_outside.specs.Seen.{SinkSeen}
 use Rattle.coded_unit.specs.Seen.{StaysHonest}
-use Rattle.command_meaning.specs.Seen.{Outside, Untouched, moment_of}
+use Rattle.command_meaning.specs.Seen.{Outside, Still, moment_of}
 
 -- ---- how a command ends
 
@@ -27,15 +27,15 @@ pub data Ends (c : About) (task : Task) (before after : Outside) (status : ℕ) 
       → TellsLine x.err x.status before.err after.err status → Ends c task before after status
   cut : Rose before.out.faults after.out.faults → Left task AppendsPart (moment_of before) (moment_of after)
       → TellsLine write_fault_text 6 before.err after.err status → Ends c task before after status
-  short : c.late ≡ true → Left task AppendsFront (moment_of before) (moment_of after)
+  wanting : c.late ≡ true → Left task AppendsFront (moment_of before) (moment_of after)
       → TellsLine memory_text 7 before.err after.err status → Ends c task before after status
 
 -- A command was given up before it was known what it comes to, and nothing else was done: the files broke in one that it reads, or memory
 -- was wanted.
 pub data GivenUp (c : About) (before after : Outside) (status : ℕ) : Type 0 where
-  unread : (word : FileWord) → Among word c.files → Rose before.files.broken after.files.broken → Untouched before after
+  unread : (word : FileWord) → Among word c.files → Rose before.files.broken after.files.broken → Still (moment_of before) (moment_of after)
       → TellsLine (read_fault_text word.name) 5 before.err after.err status → GivenUp c before after status
-  unmade : Untouched before after → TellsLine memory_text 7 before.err after.err status → GivenUp c before after status
+  unmade : Still (moment_of before) (moment_of after) → TellsLine memory_text 7 before.err after.err status → GivenUp c before after status
 
 -- a command ends for a task that it comes to, or it was given up
 pub data Answered (c : About) (Comes : Task → Type 0) (before after : Outside) (status : ℕ) : Type 0 where
@@ -75,7 +75,7 @@ pub record Causes (task : Task) (before after : Outside) (status : ℕ) : Type 0
   -- whatever the unit answers, the task is done, but for 5, 6 and 7
   pub done : IsNoFault status → Given task before after status
   -- and where nothing failed, it is done, unless memory was wanted
-  pub completes : NothingFailed before after → (status ≡ 7) ⊎ Given task before after status
+  pub finishes : NothingFailed before after → (status ≡ 7) ⊎ Given task before after status
   -- 5 comes only where the files broke, or where a name is lacking that was come to, which the line then names
   pub five_only : status ≡ 5 → Rose before.files.broken after.files.broken
       ⊎ ((name : List ℕ) × (task ≡ lacks name) × Appends before.err.written after.err.written (read_fault_text name))
@@ -93,7 +93,7 @@ HasOwnStatus (runs j) = Unit {0}
 HasOwnStatus (judges c) = Unit {0}
 HasOwnStatus (wires s) = Unit {0}
 HasOwnStatus (compares j) = Unit {0}
-HasOwnStatus (holds c) = Unit {0}
+HasOwnStatus (pairs_ c) = Unit {0}
 
 -- a task that was done with an honest unit was done as it is meant
 abbrev pub DoneIsMeant : Type 0

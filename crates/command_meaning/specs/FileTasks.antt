@@ -8,8 +8,8 @@ use Rattle.input_rows.specs.RowsOf.{RowsLeft}
 use Rattle.vcp_typed.specs.SourceRun.{Program}
 use Rattle.op_graph.specs.Lists.{Lists}
 use Rattle.fault_script.specs.declared.act.Fault.{Fault}
-use Rattle.il_front.specs.Answers.{most_il_bytes}
-use Rattle.il_front.specs.Outcomes.{IsTypedIl}
+use Rattle.il_front.specs.Accumulator.{Il}
+use Rattle.il_front.specs.Answers.{IsIl, most_il_bytes}
 use Rattle.vcp_words.specs.Forms.{Rows}
 use Rattle.vcp_words.specs.Tables.{rows_name}
 use Rattle.vcp_inputs.specs.declared.images.Image.{Image}
@@ -41,9 +41,9 @@ ParsedFile Then p held task = TakenFile IsProgram NoProgram most_source_bytes Th
 abbrev pub TypedFile : (Program → Task → Type 0) → List ℕ → Held → Task → Type 0
 TypedFile Then p held task = TakenFile TypedOf NotTyped most_source_bytes Then p (held p) task
 
--- the file P of an instruction list, of whose typed program this is said
-abbrev pub ListingFile : (Program → Task → Type 0) → List ℕ → Held → Task → Type 0
-ListingFile Then p held task = TakenFile IsTypedIl NotListing most_il_bytes Then p (held p) task
+-- the file P of an instruction list, of which this is said
+abbrev pub ListingFile : (Il → Task → Type 0) → List ℕ → Held → Task → Type 0
+ListingFile Then p held task = TakenFile IsIl NotListing most_il_bytes Then p (held p) task
 
 -- the file M, of whose image this is said
 abbrev pub ImageFile : (Image → Task → Type 0) → List ℕ → Held → Task → Type 0

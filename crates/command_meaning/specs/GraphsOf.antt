@@ -8,8 +8,9 @@ use Rattle.vcp_typed.specs.Size.{size}
 use Rattle.image_file.specs.Graphs.{HasImage}
 use Rattle.image_file.specs.Image.{image_of}
 use Rattle.vcp_typed.specs.SourceRun.{Program}
+use Rattle.il_front.specs.TypedForm.{typed_il}
 use Rattle.vcp_words.specs.Forms.{Code}
-use Rattle.command_meaning.specs.Answer.{Answer, Subject, source, image, printed}
+use Rattle.command_meaning.specs.Answer.{Answer, Subject, source, listed, image, printed}
 
 -- A graph that may stand for a program: any that means it, has at most as many operations as its Size, and of which no pass leaves
 -- less.
@@ -19,9 +20,10 @@ pub record StandsFor (p : Program) (g : Lists) : Type 0 where
   pub few : length g.operations ≤ size p
   pub reduced : IsReduced g
 
--- the graph may be run: it stands for the program, or it is the image's
+-- the graph may be run: it stands for the program, or the typed one of the instruction list, or it is the image's
 abbrev pub MayRun : Subject → Lists → Type 0
 MayRun (source p) g = StandsFor p g
+MayRun (listed i) g = StandsFor (typed_il i) g
 MayRun (image h) g = g ≡ h
 
 -- the graph stands for the program, and it has an image with the numbers of the code

@@ -10,11 +10,12 @@ use Rattle.command_meaning.specs.Answer.{Answer, Campaign, printed}
 use Rattle.command_meaning.specs.GraphsOf.{MayCompile, image_answer}
 use Rattle.coded_unit.specs.Seen.{UnitSeen}
 use Rattle.machine_run.specs.Moments.{Moment}
+use Rattle.command_meaning.specs.Seen.{Appending}
 use Rattle.command_meaning.specs.RunKind.{Job, RunDone, RunLeft, job_answer, run_meant}
 use Rattle.command_meaning.specs.CampaignKind.{CampaignDone, CampaignLeft, verdicts_answer, verdicts_meant}
 use Rattle.wire_script.specs.declared.script.Script.{Script}
 use Rattle.command_meaning.specs.WireKind.{WireDone, WireLeft, wire_meant}
-use Rattle.command_meaning.specs.HoldKind.{HoldDone, HoldLeft, held_answer, held_meant}
+use Rattle.command_meaning.specs.PairsKind.{PairsDone, PairsLeft, pairs_answer, pairs_meant}
 use Rattle.command_meaning.specs.PairKind.{PairJob, PairJobDone, PairJobLeft, pair_answer, pair_meant}
 
 -- What a command and files come to: a name that is lacking; an answer for which no unit is called; a program of which the image of some
@@ -28,7 +29,7 @@ pub data Task : Type 0 where
   judges : Campaign → Task
   wires : Script → Task
   compares : PairJob → Task
-  holds : Campaign → Task
+  pairs_ : Campaign → Task
 
 -- the file under a name is refused
 abbrev pub refusal_task : List ℕ → Refusal → Task
@@ -53,42 +54,38 @@ Meant (runs j) x = x ≡ job_answer j (run_meant j)
 Meant (judges c) x = x ≡ verdicts_answer c (verdicts_meant c)
 Meant (wires s) x = x ≡ wire_meant s
 Meant (compares j) x = x ≡ pair_answer j (pair_meant j)
-Meant (holds c) x = x ≡ held_answer c (held_meant c)
+Meant (pairs_ c) x = x ≡ pairs_answer c (pairs_meant c)
 
 -- ---- what stands after a task
 
 -- the unit was not called, and this is the answer
-abbrev pub Quiet : (Answer → Type 0) → UnitSeen → UnitSeen → Answer → Type 0
-Quiet Is before after x = (after ≡ before) × Is x
+abbrev pub NoCall : (Answer → Type 0) → UnitSeen → UnitSeen → Answer → Type 0
+NoCall Is before after x = (after ≡ before) × Is x
 
 -- the task was done, with this answer
 abbrev pub Done : Task → UnitSeen → UnitSeen → Answer → Type 0
-Done (lacks name) before after x = Quiet (Meant (lacks name)) before after x
-Done (answers a) before after x = Quiet (Meant (answers a)) before after x
-Done (compiles p code) before after x = Quiet (Meant (compiles p code)) before after x
+Done (lacks name) before after x = NoCall (Meant (lacks name)) before after x
+Done (answers a) before after x = NoCall (Meant (answers a)) before after x
+Done (compiles p code) before after x = NoCall (Meant (compiles p code)) before after x
 Done (runs j) before after x = RunDone j before after x
 Done (judges c) before after x = CampaignDone c before after x
 Done (wires s) before after x = WireDone s before after x
 Done (compares j) before after x = PairJobDone j before after x
-Done (holds c) before after x = HoldDone c before after x
+Done (pairs_ c) before after x = PairsDone c before after x
 
 -- ---- what stands where a sink or want of memory cut it off
 
--- how much of a text was written between two moments: a front of it, or a part that lacks something
-abbrev pub Writing : Type 1
-Writing = Option (List ℕ) → Option (List ℕ) → List ℕ → Type 0
-
 -- the unit was not called, and so much of the answer was written
-abbrev pub QuietLeft : (Answer → Type 0) → Writing → Moment → Moment → Type 0
-QuietLeft Is Writes before after = (after.unit ≡ before.unit) × ((x : Answer) × Is x × Writes before.out.written after.out.written x.out)
+abbrev pub NoCallLeft : (Answer → Type 0) → Appending → Moment → Moment → Type 0
+NoCallLeft Is Writes before after = (after.unit ≡ before.unit) × ((x : Answer) × Is x × Writes before.out.written after.out.written x.out)
 
 -- the task was cut off, with so much written
-abbrev pub Left : Task → Writing → Moment → Moment → Type 0
-Left (lacks name) Writes before after = QuietLeft (Meant (lacks name)) Writes before after
-Left (answers a) Writes before after = QuietLeft (Meant (answers a)) Writes before after
-Left (compiles p code) Writes before after = QuietLeft (Meant (compiles p code)) Writes before after
+abbrev pub Left : Task → Appending → Moment → Moment → Type 0
+Left (lacks name) Writes before after = NoCallLeft (Meant (lacks name)) Writes before after
+Left (answers a) Writes before after = NoCallLeft (Meant (answers a)) Writes before after
+Left (compiles p code) Writes before after = NoCallLeft (Meant (compiles p code)) Writes before after
 Left (runs j) Writes before after = RunLeft j Writes before after
 Left (judges c) Writes before after = CampaignLeft c Writes before after
 Left (wires s) Writes before after = WireLeft s Writes before after
 Left (compares j) Writes before after = PairJobLeft j Writes before after
-Left (holds c) Writes before after = HoldLeft c Writes before after
+Left (pairs_ c) Writes before after = PairsLeft c Writes before after

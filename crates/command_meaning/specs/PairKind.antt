@@ -16,8 +16,9 @@ use Rattle.pair_channel.specs.Beside.{AllBeside}
 use Rattle.pair_channel.specs.PairRuns.{PairOutcome, FrontOfRun, pair_outcome_for}
 use Rattle.pair_run.specs.BesideDone.{BesideLeft, beside_calls, beside_read}
 use Rattle.pair_run.specs.PairLines.{pair_text}
-use Rattle.vcp_inputs.specs.Lines.{rows_text}
 use Rattle.command_meaning.specs.Answer.{Answer}
+use Rattle.command_meaning.specs.Reports.{EndKind, with_rows, at_stop, unaccepted, line_behind, status_behind}
+use Rattle.command_meaning.specs.Seen.{Appending}
 
 -- A run of two channels: of which graph, with which table of the first channel, on which rows of inputs with the refusal behind them, and the
 -- name by which lines tell ROWS. Of the second channel, which is on the processor itself, nothing shows by its own table.
@@ -27,21 +28,19 @@ pub record PairJob : Type 0 where
   pub rows : RowsLeft
   pub rows_name : List ℕ
 
--- the line of the row that is refused behind the others, to which a run comes that ends with its rows; rows are told by ROWS' name
-abbrev pub pair_behind : List ℕ → PairEnd → Option RowFault → List ℕ
-pair_behind name pair.Released None = []
-pair_behind name pair.Released (Some why) = rows_text name why
-pair_behind name (pair.Stopped op why) behind = []
-pair_behind name (pair.Parted first second) behind = []
-pair_behind name (pair.Differ output first second) behind = []
+-- how a run of two channels ended: no value is accepted where they disagree
+abbrev pub pair_end_kind : PairEnd → EndKind
+pair_end_kind pair.Released = with_rows
+pair_end_kind (pair.Stopped op why) = at_stop
+pair_end_kind (pair.Parted first second) = unaccepted
+pair_end_kind (pair.Differ output first second) = unaccepted
 
--- and the status: 3 where the channels disagree
+-- the line of the row that is refused behind the others, and the status
+abbrev pub pair_behind : List ℕ → PairEnd → Option RowFault → List ℕ
+pair_behind name e behind = line_behind name (pair_end_kind e) behind
+
 abbrev pub pair_status : PairEnd → Option RowFault → ℕ
-pair_status pair.Released None = 0
-pair_status pair.Released (Some why) = 1
-pair_status (pair.Stopped op why) behind = 2
-pair_status (pair.Parted first second) behind = 3
-pair_status (pair.Differ output first second) behind = 3
+pair_status e behind = status_behind (pair_end_kind e) behind
 
 -- the answer where a run of two channels comes to this
 abbrev pub pair_answer : PairJob → PairOutcome → Answer
@@ -74,5 +73,5 @@ pub record PairJobDone (j : PairJob) (before after : UnitSeen) (x : Answer) : Ty
   pub honest : StaysHonest before after → pair_read j cycles ≡ pair_meant j
 
 -- a run that was cut off between two of its cycles, where `Writes` says how much was written of what is printed of it
-abbrev pub PairJobLeft : PairJob → (Option (List ℕ) → Option (List ℕ) → List ℕ → Type 0) → Moment → Moment → Type 0
+abbrev pub PairJobLeft : PairJob → Appending → Moment → Moment → Type 0
 PairJobLeft j Writes before after = BesideLeft j.graph j.table j.rows Writes before after

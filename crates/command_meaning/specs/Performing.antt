@@ -12,11 +12,7 @@ use Rattle.command_meaning.specs.Kinds.{Task, Done, Left}
 use Rattle.machine_run.specs.Stops.{GrowsToStop}
 use Rattle.vcp_outside.specs.Seen.{FilesSeen}
 use Rattle.machine_run.specs.Moments.{Moment}
-
--- the unit was not called, and nothing was written to the output
-pub record Still (before after : Moment) : Type 0 where
-  pub unit : after.unit ≡ before.unit
-  pub out : Appends before.out.written after.out.written []
+use Rattle.command_meaning.specs.Seen.{Still}
 
 -- How far a command comes. Its task is done, but for the answer's line; or was cut off, where the sink failed or, of a command that takes
 -- memory late, memory was wanted; or nothing was done, since the files broke or memory was wanted.
@@ -25,7 +21,7 @@ pub data Reaches (c : About) (Comes : Task → Type 0) (files files_after : File
       → x.err ≡ line → x.status ≡ code → Reaches c Comes files files_after before after line code
   cut : (task : Task) → Comes task → Left task AppendsPart before after → Rose before.out.faults after.out.faults
       → line ≡ write_fault_text → code ≡ 6 → Reaches c Comes files files_after before after line code
-  short : (task : Task) → Comes task → Left task AppendsFront before after → c.late ≡ true
+  wanting : (task : Task) → Comes task → Left task AppendsFront before after → c.late ≡ true
       → line ≡ memory_text → code ≡ 7 → Reaches c Comes files files_after before after line code
   unread : (word : FileWord) → Among word c.files → Rose files.broken files_after.broken → Still before after
       → line ≡ read_fault_text word.name → code ≡ 5 → Reaches c Comes files files_after before after line code

@@ -36,15 +36,15 @@ run_then r later = goes_on r.end r later
 -- ---- the words that are shown
 
 -- the words of a run that are shown: as they are read off the answers in its cycles, and as they are meant on rows of inputs
-pub record Words : Type 0 where
+pub record ShownWords : Type 0 where
   pub read : List (List UnitAnswer) → List ℤ
   pub meant : List (List ℤ) → List ℤ
 
-abbrev pub no_words : Words
+abbrev pub no_words : ShownWords
 no_words = record { read = λ cycles. []; meant = λ rows. [] }
 
 -- those of cycle n of a graph's run
-abbrev pub cycle_words : Lists → Code → ℕ → Words
+abbrev pub cycle_words : Lists → Code → ℕ → ShownWords
 cycle_words g code n = record { read = λ cycles. words_in n cycles; meant = λ rows. words_meant g code n rows }
 
 -- ---- what is printed
@@ -69,13 +69,17 @@ each_word g code n = record {
   done = λ rows. codes "released\n";
 }
 
--- what stands behind the rows of a run that ended so, with outputs of these names; nothing where the next row is refused
+-- These lines, and then the last line of a run of so many cycles, with outputs of these names: its stop, the output that is refused, or what
+-- is printed where it came to the end of its rows; nothing where the next row is refused.
+abbrev pub last_line : List ℕ → List ℕ → List (List ℕ) → ℕ → RunEnd → Option RowFault → List ℕ
+last_line lines done names n complete None = lines ++ done
+last_line lines done names n complete (Some why) = []
+last_line lines done names n (stopped s) behind = lines ++ stop_text n s
+last_line lines done names n (refused output found wanted) behind = lines ++ refused_text n (slice_index_or names output []) found wanted
+
+-- what stands behind the rows of a run that ended so
 abbrev pub last_part : Printing → List (List ℕ) → Report → RunEnd → Option RowFault → List ℕ
-last_part p names r complete None = p.lines r.words ++ p.done r.rows
-last_part p names r complete (Some why) = []
-last_part p names r (stopped s) behind = p.lines r.words ++ stop_text (length r.rows) s
-last_part p names r (refused output found wanted) behind =
-    p.lines r.words ++ refused_text (length r.rows) (slice_index_or names output []) found wanted
+last_part p names r e behind = last_line (p.lines r.words) (p.done r.rows) names (length r.rows) e behind
 
 -- all that is printed of a run, on rows with this refusal behind them or none
 abbrev pub run_text : Printing → List (List ℕ) → Report → Option RowFault → List ℕ

@@ -13,10 +13,11 @@ use Rattle.vcp_words.specs.Forms.{Code}
 use Rattle.command_meaning.specs.Answer.{Answer, Subject}
 use Rattle.command_meaning.specs.GraphsOf.{MayRun}
 use Rattle.command_meaning.specs.Reports.{end_read, end_told, subject_outputs, told_of}
-use Rattle.command_meaning.specs.Printing.{Report, Words, Printing, no_report, run_then, told_answer}
+use Rattle.command_meaning.specs.Printing.{Report, ShownWords, Printing, no_report, run_then, told_answer}
 use Rattle.coded_unit.specs.Seen.{UnitSeen}
 use Rattle.machine_run.specs.Moments.{Moment}
 use Rattle.coded_unit.specs.Seen.{StaysHonest}
+use Rattle.command_meaning.specs.Seen.{Appending}
 
 -- A run on a unit: of what, the rows of its inputs with the refusal behind them, the name by which lines tell ROWS, the numbers of its
 -- code, what is printed of it, and which words are shown.
@@ -26,7 +27,7 @@ pub record Job : Type 0 where
   pub rows_name : List ℕ
   pub code : Code
   pub printing : Printing
-  pub words : Words
+  pub words : ShownWords
 
 -- the numbers of a job's code, for a graph
 abbrev pub numbers : Job → Lists → Numbers
@@ -83,7 +84,7 @@ EarlierPrinted p g cycles old new =
 -- A run that was cut off between two of its cycles, where `Writes` says how much was written: so much of what is printed of it, whatever
 -- would have come later, with all that stands before the last cycle. The unit was asked nothing more than these cycles' calls. Where no
 -- answer was wrong, it is so much of what is printed of the run that is meant.
-pub record RunLeft (j : Job) (Writes : Option (List ℕ) → Option (List ℕ) → List ℕ → Type 0) (before after : Moment) : Type 0 where
+pub record RunLeft (j : Job) (Writes : Appending) (before after : Moment) : Type 0 where
   pub graph : Lists
   pub cycles : List (List UnitAnswer)
   pub may : MayRun j.subject graph

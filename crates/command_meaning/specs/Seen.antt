@@ -1,5 +1,5 @@
 -- Seen: what contracts see, at one moment, of the objects that are handed in together.
-use Rattle.std.specs.Prelude.{◌≡◌, []}
+use Rattle.std.specs.Prelude.{ℕ, ◌≡◌, List, [], Option}
 use Rattle.std.specs.Io.KnownBytes.{Appends}
 use Rattle.coded_unit.specs.Seen.{UnitSeen}
 use Rattle.vcp_outside.specs.Seen.{FilesSeen, SinkSeen}
@@ -20,7 +20,11 @@ moment_of o = record { unit = o.unit; out = o.out }
 
 -- ---- what is said of two moments
 
+-- how much of a text was appended to what was written: a front of it, or a part that lacks something
+abbrev pub Appending : Type 1
+Appending = Option (List ℕ) → Option (List ℕ) → List ℕ → Type 0
+
 -- the unit was not called, and nothing was written to the output
-pub record Untouched (before after : Outside) : Type 0 where
+pub record Still (before after : Moment) : Type 0 where
   pub unit : after.unit ≡ before.unit
   pub out : Appends before.out.written after.out.written []

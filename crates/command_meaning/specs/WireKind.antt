@@ -4,14 +4,15 @@ use Rattle.std.specs.Prelude.{ℕ, ℤ, ◌≡◌, ◌+◌, List, [], ◌++◌, 
 use Rattle.coded_unit.specs.Log.{GrowsBy}
 use Rattle.coded_unit.specs.Seen.{UnitSeen, StaysHonest}
 use Rattle.telegram.specs.Deliveries.{AreYoung, ComeFromSender, Rising, delivered}
-use Rattle.telegram.specs.WireRead.{wire_read}
+use Rattle.telegram.specs.WireRead.{right_words}
 use Rattle.telegram.specs.WireRun.{sent_in, wired}
 use Rattle.wire_script.specs.declared.script.Script.{Script}
 use Rattle.wire_script.specs.ScriptOf.{ScriptFits}
-use Rattle.wire_run.specs.Runs.{AreWords, EarlierTold, RoseBy, meant_text, told_text}
+use Rattle.wire_run.specs.Runs.{AreWords, EarlierTold, RoseBy, meant_text, told_handings, told_text}
 use Rattle.wire_run.specs.Sends.{Cut, calls_of}
 use Rattle.machine_run.specs.Moments.{Moment}
 use Rattle.command_meaning.specs.Answer.{Answer, printed}
+use Rattle.command_meaning.specs.Seen.{Appending}
 
 -- the status: 3 where a sending was answered by no word
 abbrev pub wire_status : Option Cut → ℕ
@@ -41,7 +42,7 @@ pub record WireDone (s : Script) (before after : UnitSeen) (x : Answer) : Type 0
   pub honest : StaysHonest before after → x ≡ wire_meant s
 
 -- so much of what these words come to was written, whatever words the later cycles have
-abbrev pub WritesTold : (Option (List ℕ) → Option (List ℕ) → List ℕ → Type 0) → Script → List (List ℤ) → Option Cut → Moment → Moment → Type 0
+abbrev pub WritesTold : Appending → Script → List (List ℤ) → Option Cut → Moment → Moment → Type 0
 WritesTold Writes s words None before after =
     (later : List (List ℤ)) → length words + length later ≡ length (sent_in s.events)
     → Writes before.out.written after.out.written (wire_answer s (words ++ later) None).out
@@ -49,7 +50,7 @@ WritesTold Writes s words (Some c) before after = Writes before.out.written afte
 
 -- Some of it was done, where `Writes` says how much was written: so much of what these words come to, by which the log grew, with the lines of
 -- all that is handed before the last cycle that was begun. Where no answer was wrong, it is so much of what is meant.
-pub record WireLeft (s : Script) (Writes : Option (List ℕ) → Option (List ℕ) → List ℕ → Type 0) (before after : Moment) : Type 0 where
+pub record WireLeft (s : Script) (Writes : Appending) (before after : Moment) : Type 0 where
   pub words : List (List ℤ)
   pub cut : Option Cut
   pub fits : ScriptFits s
@@ -60,12 +61,13 @@ pub record WireLeft (s : Script) (Writes : Option (List ℕ) → Option (List �
   pub rose : RoseBy cut before.unit after.unit
   pub honest : StaysHonest before.unit after.unit → Writes before.out.written after.out.written (wire_meant s).out
 
--- What holds of all that a script's receiver delivers. Whatever words are answered, the delivered numbers strictly rise, and nothing is
--- delivered before its sending nor more cycles after it than the age. And where all answers are right, what is delivered of a telegram that
--- wasn't altered is what the heard sender sent under its number.
+-- What holds of all that is told of a script's receiver. Whatever words are answered, the delivered numbers strictly rise, and nothing is
+-- delivered before its sending nor more cycles after it than the age. Where all words are the right ones, what is told is the wire run, in which
+-- what is delivered of a telegram that wasn't altered is what the heard sender sent under its number.
 pub record DeliversRightly (s : Script) : Type 0 where
-  pub rises : (words : List (List ℤ)) → Rising (delivered (wire_read s.wire words s.events))
-  pub young : (words : List (List ℤ)) → AreYoung s.wire.age (wire_read s.wire words s.events)
+  pub rises : (words : List (List ℤ)) (cut : Option Cut) → Rising (delivered (told_handings s.wire s.events words cut))
+  pub young : (words : List (List ℤ)) (cut : Option Cut) → AreYoung s.wire.age (told_handings s.wire s.events words cut)
+  pub right : told_handings s.wire s.events (right_words s.wire 0 (sent_in s.events)) None ≡ wired s.wire s.events
   pub sent : ComeFromSender s.wire s.events (wired s.wire s.events)
 
 -- so of each script that fits

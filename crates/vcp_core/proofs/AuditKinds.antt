@@ -11,6 +11,7 @@ use Rattle.vcp_inputs.specs.declared.refusal.NoInput.{NoInput}
 use Rattle.vcp_inputs.specs.declared.refusal.NoInput.TheVariants as input
 use Rattle.vcp_inputs.specs.Images.{ImageOf, NotImage}
 use Rattle.vcp_inputs.specs.Lines.{input_status, input_text, refusal_text}
+use Rattle.vcp_inputs.specs.Refusals.{IsCaused}
 use Rattle.command_meaning.specs.Abouts.{about}
 use Rattle.command_meaning.specs.Kinds.{prints, refusal_task}
 use Rattle.command_meaning.specs.Performing.{Reaches, done, unmade}
@@ -51,3 +52,8 @@ too_large_audit m horizon held i files later at e loads (inr (is, large)) =
 pub weights_read : (i : Image) (horizon : ℕ) (e : NoInput) → NoWeights i horizon e → e ≡ input.Unread → ⊥
 weights_read i horizon e (inl memory) is = cc
 weights_read i horizon e (inr (because, more)) is = cc
+
+-- they are refused for a cause
+pub weights_caused : (i : Image) (horizon : ℕ) (e : NoInput) → NoWeights i horizon e → IsCaused e
+weights_caused i horizon e (inl memory) = subst IsCaused (sym memory) tt
+weights_caused i horizon e (inr (because, more)) = subst IsCaused (sym because) tt

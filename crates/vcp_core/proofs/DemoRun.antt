@@ -15,10 +15,11 @@ use Rattle.vcp_inputs.specs.Files.{Loads, NotLoaded}
 use Rattle.vcp_inputs.specs.Lines.{input_status, input_text, refusal_text}
 use Rattle.vcp_inputs.specs.Programs.{TypedOf, NotTyped}
 use Rattle.vcp_inputs.specs.RowsOutcome.{Opens, RowsOutcome, opened, source_outcome}
-use Rattle.command_meaning.specs.Abouts.{about}
+use Rattle.command_meaning.specs.Abouts.{about, made_name}
 use Rattle.command_meaning.specs.FileTasks.{OnRows, untaken}
 use Rattle.command_meaning.specs.Kinds.{Task, refusal_task, runs}
-use Rattle.command_meaning.specs.Performing.{Still, Reaches, done, unmade}
+use Rattle.command_meaning.specs.Seen.{Still}
+use Rattle.command_meaning.specs.Performing.{Reaches, done, unmade}
 use Rattle.vcp_outside.specs.Seen.{FilesSeen, SinkSeen}
 use Rattle.machine_run.specs.Moments.{Moment}
 use Rattle.vcp_core.proofs.Performing.{file_takes}
@@ -42,9 +43,9 @@ use Rattle.std.proofs.lemmas.List.{length-append}
 use Rattle.std.specs.Int.{saturate_signed, w128}
 use Rattle.vcp_core.specs.EndLines.{last_text}
 use Rattle.command_meaning.specs.Printing.{Report, last_part}
-use Rattle.vcp_core.specs.Demo.{AreSums, DemoTask, KeepsSums, first_value, last_value, made_held, made_name, sum_of, summary_job, summary_then}
+use Rattle.vcp_core.specs.Demo.{AreSums, DemoTask, KeepsSums, first_value, last_value, made_held, sum_of, summary_job, summary_then}
 use Rattle.vcp_core.specs.Demo.{summed_text, summed_up}
-use Rattle.vcp_core.specs.Shown.{Came, Shows}
+use Rattle.vcp_core.specs.Shown.{RunCame, Shows}
 use Rattle.coded_machine.specs.State.{State}
 
 -- ---- the last value and the sum of rows, as a row comes behind them
@@ -136,7 +137,7 @@ module _ {R : Type 0} (Keeps : R → List (List ℤ) → Type 0) (kept : R) (las
   abbrev job : Job
   job = summary_job number p left
 
-  summed-last : (now : R) (cycles : List (List Given)) (m : State) (e : CycleEnd) → Came Keeps kept now job g cycles m e
+  summed-last : (now : R) (cycles : List (List Given)) (m : State) (e : CycleEnd) → RunCame Keeps kept now job g cycles m e
       → summed_text m (output_names p) number (last now) (sum now) e
       ≡ last_part (summed_up number) (output_names p) (run_read job g cycles) (end_read g e) left.refusal
   summed-last now cycles m e came =

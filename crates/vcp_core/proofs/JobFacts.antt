@@ -26,7 +26,7 @@ use Rattle.vcp_words.specs.Forms.{Code}
 use Rattle.command_meaning.specs.Answer.{Subject, source}
 use Rattle.command_meaning.specs.GraphsOf.{StandsFor}
 use Rattle.command_meaning.specs.Reports.{end_read, end_told, subject_outputs, run_status}
-use Rattle.vcp_core.specs.MachineRun.{CarriesOut, HasCauses, IsThere}
+use Rattle.vcp_core.specs.MachineRun.{CarriesOut, HasCauses, IsThere, StandsAs}
 use Rattle.vcp_core.proofs.PlainNames.{inputs-count}
 
 -- rows of values of these types, as a list of rows
@@ -34,15 +34,19 @@ all-rows : (types : List Ty) (rows : List (List ℤ)) → All (AreIn types) rows
 all-rows types [] h = tt
 all-rows types (row ∷ rows) h = (h 0 row (omega arith), all-rows types rows (λ k d below. h (suc k) d (omega (arith, below))))
 
--- a graph that stands for a program is run in its place on rows that fit its inputs
-pub source-carried : (p : Program) (code : Code) (left : RowsLeft) (g : Lists) (t : Numbers) → StandsFor p g → t ≡ table_of code.seed code.step g →
-    left.types ≡ input_types p.slots → All (AreIn left.types) left.rows → CarriesOut g t left (source p) code
-source-carried p code left g t stands table types typed = record {
-  may = stands;
+-- a graph that stands for a program is run in the place of what the program stands as, on rows that fit its inputs
+pub carried-as : (p : Program) (code : Code) (left : RowsLeft) (g : Lists) (t : Numbers) (s : Subject) → StandsAs p left s → StandsFor p g
+    → t ≡ table_of code.seed code.step g → left.types ≡ input_types p.slots → All (AreIn left.types) left.rows → CarriesOut g t left s code
+carried-as p code left g t s stood stands table types typed = record {
+  may = stood.may g stands;
   numbers = table;
-  names = ap (map (λ (c : Column). c.name)) stands.means.outputs;
-  told = stands.means.runs left.rows (subst (λ types. AreRows types left.rows) types (all-rows left.types left.rows typed));
+  names = ap (map (λ (c : Column). c.name)) stands.means.outputs ∙ stood.names;
+  told = stands.means.runs left.rows (subst (λ types. AreRows types left.rows) types (all-rows left.types left.rows typed)) ∙ stood.told;
 }
+
+-- a program stands as itself
+pub as-itself : (p : Program) (left : RowsLeft) → StandsAs p left (source p)
+as-itself p left = record { may = λ g stands. stands; names = refl; told = refl }
 
 -- the names of the outputs
 pub names-are : (g : Lists) (t : Numbers) (left : RowsLeft) (s : Subject) (code : Code) (outputs : List Column) → CarriesOut g t left s code

@@ -18,7 +18,7 @@ use Rattle.fault_script.specs.Groups.{line_of}
 use Rattle.fault_injector.specs.declared.verdict.Verdict.{Verdict}
 use Rattle.fault_campaign.specs.declared.fault.CampaignFault.{CampaignFault}
 use Rattle.fault_campaign.specs.declared.fault.CampaignFault.TheVariants as campaign
-use Rattle.fault_campaign.specs.Campaign.{campaign_text, verdict_lines, EarlierTold, Told}
+use Rattle.fault_campaign.specs.Campaign.{EarlierTold, JudgedOnce, Told, campaign_text, verdict_lines}
 use Rattle.verdict_lines.specs.FaultLines.{verdict_text, totals_of, totals_text}
 use Rattle.vcp_words.specs.Forms.{Rows, inject}
 use Rattle.vcp_words.specs.Tables.{rows_name}
@@ -39,7 +39,7 @@ use Rattle.command_meaning.specs.CampaignKind.{CampaignDone, CampaignLeft, verdi
 use Rattle.command_meaning.specs.Clauses.{IsTooLong}
 use Rattle.command_meaning.specs.FileTasks.{OnRows, taken}
 use Rattle.command_meaning.specs.Kinds.{Task, judges, refusal_task}
-use Rattle.command_meaning.specs.Performing.{Reaches, done, cut, short, unread, unmade, Performs}
+use Rattle.command_meaning.specs.Performing.{Reaches, done, cut, wanting, unread, unmade, Performs}
 use Rattle.vcp_outside.specs.Seen.{FilesSeen, SinkSeen}
 use Rattle.machine_run.specs.Moments.{Moment, moment}
 use Rattle.vcp_core.specs.Tasks.{FewRows, InjectTask, JudgedScript, WholeRows, graph_columns, most_trace}
@@ -174,7 +174,7 @@ module _ (m : List ℕ) (rows : Rows) (f : List ℕ) (held : Held) where
           → Reaches (about (inject m rows f)) (InjectTask m rows f held) files later before after line code
       script_reaches before after line code (done t x comes d w line_is code_is) = done t x (judged_comes t comes) d w line_is code_is
       script_reaches before after line code (cut t comes left rose line_is code_is) = cut t (judged_comes t comes) left rose line_is code_is
-      script_reaches before after line code (short t comes left late line_is code_is) = short t (judged_comes t comes) left late line_is code_is
+      script_reaches before after line code (wanting t comes left late line_is code_is) = wanting t (judged_comes t comes) left late line_is code_is
       script_reaches before after line code (unread word named rose s line_is code_is) = unread word named rose s line_is code_is
       script_reaches before after line code (unmade s line_is code_is) = unmade s line_is code_is
 
@@ -289,6 +289,19 @@ module _ (c : Campaign) (unit unit' : UnitSeen) (out out' : SinkSeen) where
       let (more, lines) = lines_go_on c.graph c.groups earlier (last ∷ []) in
       (more, subst (λ (t : List ℕ). Appends out.written out'.written t) (ap (verdict_lines c.graph c.groups) is ∙ lines) w)
 
+  -- no line was written where no group was judged
+  no_lines : (groups : List (List ScriptedFault)) → verdict_lines c.graph groups [] ≡ []
+  no_lines [] = refl
+  no_lines (faults ∷ groups) = refl
+
+  none_asked : (vs : List Verdict) → Appends out.written out'.written (verdict_lines c.graph c.groups vs)
+      → JudgedOnce c.table c.graph c.groups c.rows vs unit unit' ⊎ ((vs ≡ []) × (unit' ≡ unit))
+      → JudgedOnce c.table c.graph c.groups c.rows vs unit unit' ⊎ ((vs ≡ []) × (unit' ≡ unit) × AppendsFront out.written out'.written [])
+  none_asked vs w (inl judged) = inl judged
+  none_asked vs w (inr none) =
+      let lines : verdict_lines c.graph c.groups vs ≡ [] = ap (verdict_lines c.graph c.groups) none.0 ∙ no_lines c.groups in
+      inr (none.0, none.1, ([], [], refl, subst (λ (t : List ℕ). Appends out.written out'.written t) lines w))
+
   -- until memory was wanted
   pub judged_front : Told c.table c.graph c.groups c.rows unit unit' out.written out'.written (Err campaign.Memory) → CampaignLeft c
       AppendsFront before after
@@ -296,7 +309,7 @@ module _ (c : Campaign) (unit unit' : UnitSeen) (out out' : SinkSeen) where
     verdicts = told.verdicts;
     few = told.few;
     names = told.names;
-    asked = told.asked;
+    asked = none_asked told.verdicts told.written told.asked;
     text = λ later follows. lines_front c.graph c.groups told.verdicts later out.written out'.written told.written;
     earlier = earlier_lines told.verdicts told.written;
     honest = λ h.
@@ -316,7 +329,7 @@ module _ (c : Campaign) (unit unit' : UnitSeen) (out out' : SinkSeen) where
         → Reaches (about (inject m rows f)) (InjectTask m rows f held) files later before after (fault_text (of_campaign e))
         (fault_status (of_campaign e))
     judged_to campaign.Write rose told = cut (judges c) comes (judged_part told) (rose refl) refl refl
-    judged_to campaign.Memory rose told = short (judges c) comes (judged_front told) refl refl refl
+    judged_to campaign.Memory rose told = wanting (judges c) comes (judged_front told) refl refl refl
 
 -- the groups weren't all judged, behind all files
 pub campaign_performs : (c : About) (Comes : Held → Task → Type 0) (files later : FilesSeen) → c.files ≢ [] → later.held ≡ files.held →

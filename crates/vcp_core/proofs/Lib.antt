@@ -1,12 +1,13 @@
 pub mod AuditKinds
 pub mod DemoRun
 pub mod Facts
-pub mod HeldTasks
+pub mod PairsTasks
 pub mod ImageLoaded
 pub mod JobFacts
 pub mod JudgedTasks
 pub mod JobRun
 pub mod Listed
+pub mod ListedRuns
 pub mod Loaded
 pub mod LoadedRows
 pub mod Meanings

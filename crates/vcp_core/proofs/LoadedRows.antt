@@ -18,8 +18,9 @@ use Rattle.vcp_inputs.specs.declared.rows.RowsSource.{RowsSource}
 use Rattle.vcp_inputs.specs.Files.{Loads}
 use Rattle.vcp_inputs.specs.Lines.{input_text, input_status, refusal_text}
 use Rattle.vcp_inputs.specs.RowsOutcome.{HasLongFile, Opens, RowsOutcome, begins, opened, rows_outcome, source_outcome}
-use Rattle.command_meaning.specs.Abouts.{Among, About, FileWord, rows_words}
-use Rattle.command_meaning.specs.Clauses.{IsTooLong}
+use Rattle.vcp_inputs.specs.Refusals.{IsCaused}
+use Rattle.command_meaning.specs.Abouts.{Among, About, FileWord, rows_others, rows_words}
+use Rattle.command_meaning.specs.Clauses.{IsTooLong, MayName}
 use Rattle.command_meaning.specs.FileTasks.{TakenFile, taken, OnRows, TakenRows}
 use Rattle.command_meaning.specs.Kinds.{Task, lacks, lack_answer, refusal_task}
 use Rattle.command_meaning.specs.Performing.{Reaches, done, unread, unmade, Performs}
@@ -45,6 +46,13 @@ bytes_or (refusal.Wire why) = inr (λ e. cc)
 rows_file : (rows : Rows) (columns : List Column) → begins rows columns ≡ true → (word : FileWord) × Among word (rows_words rows) × (word.name ≡ rows_name rows)
 rows_file (file name) columns begun = (record { name = name; most = most_rows_bytes }, inl refl, refl)
 rows_file (cycles n) columns begun = cc
+
+-- lines may tell of ROWS by their name
+pub rows_may : (c : About) (rows : Rows) → ((word : FileWord) → Among word (rows_words rows) → Among word c.files)
+    → ((name : List ℕ) → Among name (rows_others rows) → Among name c.others) → MayName c (rows_name rows)
+rows_may c (file name) more names =
+    inl (record { name = name; most = most_rows_bytes }, more (record { name = name; most = most_rows_bytes }) (inl refl), refl)
+rows_may c (cycles n) more names = inr (names (rows_name (cycles n)) (inl refl))
 
 -- ROWS have too long a file
 long_rows : (c : About) (rows : Rows) (held : Held) → ((word : FileWord) → Among word (rows_words rows) → Among word c.files) → HasLongFile rows held
@@ -73,7 +81,7 @@ stays_at_end mid rest end same = rw same end
 
 module _ {V : Type 0} (Is : List ℕ → V → Type 0) (Why : List ℕ → Refusal → Type 0) (columns_of : V → List Column) (c : About) (word : FileWord) (rows : Rows)
     (reads : c.files ≢ []) (one : Among 1 c.ends) (more : (w : FileWord) → Among w (rows_words rows) → Among w c.files)
-    (Then : Held → V → RowsLeft → Task → Type 0) where
+    (names : (n : List ℕ) → Among n (rows_others rows) → Among n c.others) (Then : Held → V → RowsLeft → Task → Type 0) where
   -- what the file comes to
   abbrev pub OnFile : Held → Task → Type 0
   OnFile held task = TakenFile Is Why word.most (λ v. TakenRows (Then held v) rows held (columns_of v)) word.name (held word.name) task
@@ -127,16 +135,16 @@ module _ {V : Type 0} (Is : List ℕ → V → Type 0) (Why : List ℕ → Refus
     pub rows_unloaded : (at : Moment) (i : NoInput) → files.faults ≤ mid.faults → files.broken ≤ mid.broken → IsAtEnd mid.rest
         → IfSome mid.held (λ h. Opens (rows_outcome rows h columns) mid.broken later.broken (Err i)) → (i ≡ input.Unread → begins rows columns ≡ true)
         → (i ≡ input.Unread → Rose mid.faults later.faults) → ((r : Refusal) → i ≡ input.Refused r → r ≢ refusal.Bytes → later.rest ≡ mid.rest)
-        → (i ≡ input.Refused refusal.Bytes → IfSome mid.held (HasLongFile rows)) →
+        → (i ≡ input.Refused refusal.Bytes → IfSome mid.held (HasLongFile rows)) → IsCaused i →
         Performs c OnFile files later at at (input_text (rows_name rows) i) (input_status i)
-    rows_unloaded at i faults broken end opens begun rose rest long =
+    rows_unloaded at i faults broken end opens begun rose rest long caused =
         files_lost c OnFile files later reads (held_later ∙ held_mid) one at (rows_name rows) i
         (if_some_both files.held mid.held _ _ _ held_mid
         (λ h l o. rows_lost h at (rows_outcome rows h columns) i l refl begun
         (opens_before (rows_outcome rows h columns) files.broken mid.broken later.broken i broken o))
         loads opens)
         (rows_taken i (λ r is other. stays_at_end mid.rest later.rest end (rest r is other)) long) (λ is. omega (arith, faults, rose is))
-        (λ is. let (w, among, name_is) = rows_file rows columns (begun is) in (w, more w among, sym name_is))
+        (λ is. let (w, among, name_is) = rows_file rows columns (begun is) in (w, more w among, sym name_is)) caused (rows_may c rows more names)
 
     -- they were, from this source
     module _ (s : RowsSource) (end : IsAtEnd later.rest) (source_is : IfSome mid.held (λ h. rows_outcome rows h columns ≡ source_outcome s columns)) where
@@ -155,9 +163,9 @@ module _ {V : Type 0} (Is : List ℕ → V → Type 0) (Why : List ℕ → Refus
 
       -- it wasn't opened
       pub rows_unopened : (at : Moment) (i : NoInput) → (i ≡ input.Unread → ⊥) → Opens (source_outcome s columns) files.broken later.broken (Err i)
-          → Performs c OnFile files later at at (input_text (rows_name rows) i) (input_status i)
-      rows_unopened at i read opens =
+          → IsCaused i → Performs c OnFile files later at at (input_text (rows_name rows) i) (input_status i)
+      rows_unopened at i read opens caused =
           files_lost c OnFile files later reads (held_later ∙ held_mid) one at (rows_name rows) i
           (if_some_both files.held mid.held _ _ _ held_mid
           (λ h l is. rows_lost h at (source_outcome s columns) i l is (λ e. absurd (read e)) opens) loads source_is)
-          (λ is. if_some_always files.held _ (λ h. inl end)) (λ is. absurd (read is)) (λ is. absurd (read is))
+          (λ is. if_some_always files.held _ (λ h. inl end)) (λ is. absurd (read is)) (λ is. absurd (read is)) caused (rows_may c rows more names)

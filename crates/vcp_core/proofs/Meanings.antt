@@ -26,8 +26,8 @@ use Rattle.vcp_inputs.specs.declared.refusal.Refusal.{Refusal}
 use Rattle.vcp_inputs.specs.declared.refusal.Refusal.TheVariants as refusal
 use Rattle.vcp_inputs.specs.Files.{IsRefused, long, short}
 use Rattle.vcp_inputs.specs.Images.{ImageOf, NotImage}
-use Rattle.il_front.specs.Answers.{most_il_bytes}
-use Rattle.il_front.specs.Outcomes.{IsTypedIl}
+use Rattle.il_front.specs.Answers.{IsIl, most_il_bytes}
+use Rattle.il_front.specs.Accumulator.{Il}
 use Rattle.vcp_inputs.specs.Listings.{NotListing}
 use Rattle.vcp_inputs.specs.Programs.{IsProgram, NoProgram, TypedOf, NotTyped}
 use Rattle.vcp_inputs.specs.RowsOutcome.{RowsOutcome, lacking, opened, rows_or_refusal, file_outcome, rows_outcome}
@@ -40,22 +40,23 @@ use Rattle.image_file.specs.Image.{image_of}
 use Rattle.signature_table.specs.Signatures.{Numbers, table_of}
 use Rattle.weight_audit.specs.Audit.{most_weights, weights_up_to}
 use Rattle.audit_report.specs.AuditText.{AuditOf}
-use Rattle.command_meaning.specs.Abouts.{FileWord, about, AllHeld, image_word, listing_word, rows_words, script_word, source_word, without_unit, Among}
-use Rattle.command_meaning.specs.Answer.{Answer, Campaign, source, image}
+use Rattle.command_meaning.specs.Abouts.{FileWord, about, AllHeld, made_name, image_word, listing_word, rows_words, script_word, source_word, without_unit, Among}
+use Rattle.command_meaning.specs.Answer.{Answer, Campaign, source, listed, image}
 use Rattle.command_meaning.specs.FileTasks.{TakenFile, missing, untaken, taken, ParsedFile, TypedFile, ListingFile, ImageFile, ScriptFile, OnRows, TakenRows}
 use Rattle.command_meaning.specs.Endings.{HasOwnStatus}
-use Rattle.command_meaning.specs.Kinds.{Task, lacks, answers, compiles, runs, judges, compares, holds, wires, prints, refusal_task, Meant}
+use Rattle.command_meaning.specs.Kinds.{Task, lacks, answers, compiles, runs, judges, compares, pairs_, wires, prints, refusal_task, Meant}
 use Rattle.command_meaning.specs.PairKind.{PairJob}
 use Rattle.command_meaning.specs.Reports.{end_told, run_status}
 use Rattle.command_meaning.specs.RunKind.{Job, job_answer, run_meant}
 use Rattle.command_meaning.proofs.OneFile.{one_file, file_has}
 use Rattle.vcp_core.specs.Tasks.{Audited, too_large, printed, FewRows, too_many, few, JudgedScript, WholeRows}
-use Rattle.vcp_core.specs.Tasks.{Apart, same_seed, two_seeds, Compared, HeldRows, HeldScript, pair_job}
+use Rattle.vcp_core.specs.Tasks.{Apart, same_seed, two_seeds, Compared, PairsRows, PairsScript, pair_job}
+use Rattle.command_meaning.proofs.Performed.{NeedsNone}
 use Rattle.vcp_core.specs.Tasks.{AuditTask, TaskOf, PlainTask, RunTask, graph_columns, plain_answer, rows_job, words_job, ok_text}
 use Rattle.vcp_core.specs.Tasks.{most_trace, table_code, listing, widened}
-use Rattle.vcp_core.specs.Demo.{made_held, made_name, summary_job}
+use Rattle.vcp_core.specs.Demo.{made_held, summary_job}
 use Rattle.vcp_core.proofs.OneText.{ImageLaws, Laws, OneAudit, image_once, image_or_none, no_image_once, program_once, program_or_none, refused_once}
-use Rattle.vcp_core.proofs.OneText.{typed_once, typed_apart, untyped_once, listing_once, listing_or_none, no_listing_once}
+use Rattle.vcp_core.proofs.OneText.{typed_once, typed_apart, untyped_once, listing_or_none, no_listing_once}
 use Rattle.vcp_core.proofs.WireTasks.{wire_task_once}
 
 -- ---- a command comes to one task
@@ -174,14 +175,14 @@ module _ (laws : Laws) where
       (rows_outcome rows held (input_columns t.slots)) c d)
       a b h k
 
-  listing_once_on : (Then : Program → RowsLeft → Task) (p : List ℕ) (rows : Rows) (held : Held) (a b : Task) →
-      ListingFile (λ t. TakenRows (λ left x. x ≡ Then t left) rows held (input_columns t.slots)) p held a →
-      ListingFile (λ t. TakenRows (λ left x. x ≡ Then t left) rows held (input_columns t.slots)) p held b → a ≡ b
+  listing_once_on : (Then : Il → RowsLeft → Task) (p : List ℕ) (rows : Rows) (held : Held) (a b : Task) →
+      ListingFile (λ i. TakenRows (λ left x. x ≡ Then i left) rows held (input_columns i.slots)) p held a →
+      ListingFile (λ i. TakenRows (λ left x. x ≡ Then i left) rows held (input_columns i.slots)) p held b → a ≡ b
   listing_once_on Then p rows held a b h k =
-      one_file IsTypedIl NotListing most_il_bytes (λ t. TakenRows (λ left x. x ≡ Then t left) rows held (input_columns t.slots)) p (held p)
-      (listing_once laws.listings) (no_listing_once laws.listings) (listing_or_none laws.listings)
-      (λ t c d. rows_once (rows_name rows) (λ left x. x ≡ Then t left) (λ left x y. one_is (Then t left) x y)
-      (rows_outcome rows held (input_columns t.slots)) c d)
+      one_file IsIl NotListing most_il_bytes (λ i. TakenRows (λ left x. x ≡ Then i left) rows held (input_columns i.slots)) p (held p)
+      (laws.listings).one (no_listing_once laws.listings) (listing_or_none laws.listings)
+      (λ i c d. rows_once (rows_name rows) (λ left x. x ≡ Then i left) (λ left x y. one_is (Then i left) x y)
+      (rows_outcome rows held (input_columns i.slots)) c d)
       a b h k
 
   graph_once_on : (Then : Image → RowsLeft → Task → Type 0) (m : List ℕ) (rows : Rows) (held : Held) →
@@ -206,12 +207,12 @@ module _ (laws : Laws) where
       (few_once name i.graph (JudgedScript i f held) left.rows
       (λ c d. script_file_once i.graph (λ groups. judges (record { graph = i.graph; table = i.table; rows = left.rows; groups = groups })) f held c d) a b) h k
 
-  held_once : (rows : Rows) (f : List ℕ) (held : Held) (i : Image) (a b : Task) → HeldRows rows f held i a → HeldRows rows f held i b → a ≡ b
-  held_once rows f held i a b h k =
+  pairs_once : (rows : Rows) (f : List ℕ) (held : Held) (i : Image) (a b : Task) → PairsRows rows f held i a → PairsRows rows f held i b → a ≡ b
+  pairs_once rows f held i a b h k =
       let name = rows_name rows in
-      rows_once name (λ left. WholeRows name (HeldScript i f held) left.rows left.refusal)
-      (λ left x y. whole_once name (HeldScript i f held) left.rows left.refusal x y
-      (script_file_once i.graph (λ groups. holds (record { graph = i.graph; table = i.table; rows = left.rows; groups = groups })) f held x y))
+      rows_once name (λ left. WholeRows name (PairsScript i f held) left.rows left.refusal)
+      (λ left x y. whole_once name (PairsScript i f held) left.rows left.refusal x y
+      (script_file_once i.graph (λ groups. pairs_ (record { graph = i.graph; table = i.table; rows = left.rows; groups = groups })) f held x y))
       (rows_outcome rows held (graph_columns i.graph)) a b h k
 
   pub task_once : (f : Form) (held : Held) (a b : Task) → TaskOf f held a → TaskOf f held b → a ≡ b
@@ -219,7 +220,7 @@ module _ (laws : Laws) where
   task_once (format p) held a b h k = parsed_file_once (λ t. prints (canonical t)) p held a b h k
   task_once (plain p rows) held a b h k = program_once_on (λ t left. answers (plain_answer (rows_name rows) t left)) p rows held a b h k
   task_once (run p rows code) held a b h k = program_once_on (λ t left. runs (rows_job (rows_name rows) code (source t) left)) p rows held a b h k
-  task_once (il p rows code) held a b h k = listing_once_on (λ t left. runs (rows_job (rows_name rows) code (source t) left)) p rows held a b h k
+  task_once (il p rows code) held a b h k = listing_once_on (λ i left. runs (rows_job (rows_name rows) code (listed i) left)) p rows held a b h k
   task_once (compile p code) held a b h k = typed_file_is (λ t. compiles t code) p held a b h k
   task_once (list m) held a b h k = image_file_is (λ i. prints (listing i.graph i.table)) m held a b h k
   task_once (exec m rows) held a b h k =
@@ -234,7 +235,7 @@ module _ (laws : Laws) where
   task_once (pair m rows seed) held a b h k =
       image_file_once laws.images (Apart m seed (Compared rows held)) m held (apart_once m seed (Compared rows held) (compared_once rows held)) a b h k
   task_once (pairs m rows seed f) held a b h k =
-      image_file_once laws.images (Apart m seed (HeldRows rows f held)) m held (apart_once m seed (HeldRows rows f held) (held_once rows f held)) a b h k
+      image_file_once laws.images (Apart m seed (PairsRows rows f held)) m held (apart_once m seed (PairsRows rows f held) (pairs_once rows f held)) a b h k
   task_once (wire f) held a b h k = wire_task_once f held a b h k
   task_once (demo number) held a b h k =
       typed_file_once (λ t. OnRows made_name (λ left x. x ≡ runs (summary_job number t left)) (made_outcome number t)) made_name (made_held number)
@@ -373,14 +374,14 @@ module _ (P : Task → Type 0) (given : (a : Answer) → a.status ≤ 2 → P (a
       (λ t x. rows_have (λ left y. y ≡ Then t left) rows held (input_columns t.slots) (λ word among. none word (inr among))
       (λ left y is. is_has y (Then t left) (next t left) is) x) task comes
 
-  listing_has : (Then : Program → RowsLeft → Task) (p : List ℕ) (rows : Rows) (held : Held) → Lacking P held (listing_word p ∷ rows_words rows) →
-      ((t : Program) (left : RowsLeft) → P (Then t left)) → (task : Task) →
-      ListingFile (λ t. TakenRows (λ left x. x ≡ Then t left) rows held (input_columns t.slots)) p held task → P task
+  listing_has : (Then : Il → RowsLeft → Task) (p : List ℕ) (rows : Rows) (held : Held) → Lacking P held (listing_word p ∷ rows_words rows) →
+      ((i : Il) (left : RowsLeft) → P (Then i left)) → (task : Task) →
+      ListingFile (λ i. TakenRows (λ left x. x ≡ Then i left) rows held (input_columns i.slots)) p held task → P task
   listing_has Then p rows held none next task comes =
-      file_has IsTypedIl NotListing most_il_bytes (λ t. TakenRows (λ left x. x ≡ Then t left) rows held (input_columns t.slots)) p (held p) P
+      file_has IsIl NotListing most_il_bytes (λ i. TakenRows (λ left x. x ≡ Then i left) rows held (input_columns i.slots)) p (held p) P
       (none (listing_word p) (inl refl)) (refused p)
-      (λ t x. rows_have (λ left y. y ≡ Then t left) rows held (input_columns t.slots) (λ word among. none word (inr among))
-      (λ left y is. is_has y (Then t left) (next t left) is) x) task comes
+      (λ i x. rows_have (λ left y. y ≡ Then i left) rows held (input_columns i.slots) (λ word among. none word (inr among))
+      (λ left y is. is_has y (Then i left) (next i left) is) x) task comes
 
   graph_has : (Then : Image → RowsLeft → Task → Type 0) (m : List ℕ) (rows : Rows) (held : Held) → Lacking P held (image_word m ∷ rows_words rows) →
       ((i : Image) (left : RowsLeft) (x : Task) → Then i left x → P x) → (task : Task) →
@@ -425,63 +426,63 @@ module _ (P : Task → Type 0) (given : (a : Answer) → a.status ≤ 2 → P (a
       (λ x. file_has (ScriptOf i.graph) (NotScript i.graph) most_source_bytes (λ groups y. y ≡ judges (campaign i left groups)) f (held f) P none (refused f)
       (λ groups y is. is_has y (judges (campaign i left groups)) (judging (campaign i left groups)) is) x) task) comes
 
-  held_has : (rows : Rows) (f : List ℕ) (held : Held) → Lacking P held (rows_words rows) → (held f ≡ None → P (lacks f)) → ((c : Campaign) → P (holds c)) →
-      (i : Image) (task : Task) → HeldRows rows f held i task → P task
-  held_has rows f held none script holding i task comes =
-      rows_have (λ left. WholeRows (rows_name rows) (HeldScript i f held) left.rows left.refusal) rows held (graph_columns i.graph) none
+  pairs_has : (rows : Rows) (f : List ℕ) (held : Held) → Lacking P held (rows_words rows) → (held f ≡ None → P (lacks f)) → ((c : Campaign) → P (pairs_ c)) →
+      (i : Image) (task : Task) → PairsRows rows f held i task → P task
+  pairs_has rows f held none script pairing i task comes =
+      rows_have (λ left. WholeRows (rows_name rows) (PairsScript i f held) left.rows left.refusal) rows held (graph_columns i.graph) none
       (λ left x.
-      whole_has (rows_name rows) (HeldScript i f held) left.rows left.refusal x
-      (file_has (ScriptOf i.graph) (NotScript i.graph) most_source_bytes (λ groups y. y ≡ holds (campaign i left groups)) f (held f) P script (refused f)
-      (λ groups y is. is_has y (holds (campaign i left groups)) (holding (campaign i left groups)) is) x)) task comes
+      whole_has (rows_name rows) (PairsScript i f held) left.rows left.refusal x
+      (file_has (ScriptOf i.graph) (NotScript i.graph) most_source_bytes (λ groups y. y ≡ pairs_ (campaign i left groups)) f (held f) P script (refused f)
+      (λ groups y is. is_has y (pairs_ (campaign i left groups)) (pairing (campaign i left groups)) is) x)) task comes
 
   pub task_has : (f : Form) (held : Held) → Lacking P held (about f).files → ((j : Job) → P (runs j)) → ((p : Program) (code : Code) → P (compiles p code)) →
-      ((c : Campaign) → P (judges c)) → ((j : PairJob) → P (compares j)) → ((c : Campaign) → P (holds c)) → ((s : Script) → P (wires s)) → (task : Task) →
+      ((c : Campaign) → P (judges c)) → ((j : PairJob) → P (compares j)) → ((c : Campaign) → P (pairs_ c)) → ((s : Script) → P (wires s)) → (task : Task) →
       TaskOf f held task → P task
-  task_has (check p) held none running writing judging comparing holding wiring task comes =
+  task_has (check p) held none running writing judging comparing pairing wiring task comes =
       typed_is (λ t. prints (ok_text (size t))) p held (none (source_word p) (inl refl)) (λ t. given _ (lit≤ tt)) task comes
-  task_has (format p) held none running writing judging comparing holding wiring task comes =
+  task_has (format p) held none running writing judging comparing pairing wiring task comes =
       file_has IsProgram NoProgram most_source_bytes (λ t x. x ≡ prints (canonical t)) p (held p) P (none (source_word p) (inl refl)) (refused p)
       (λ t x is. is_has x (prints (canonical t)) (given _ (lit≤ tt)) is) task comes
-  task_has (plain p rows) held none running writing judging comparing holding wiring task comes =
+  task_has (plain p rows) held none running writing judging comparing pairing wiring task comes =
       program_has (λ t left. answers (plain_answer (rows_name rows) t left)) p rows held none
       (λ t left. given _ (meant_small (told_source t left.rows).end left.refusal)) task comes
-  task_has (run p rows code) held none running writing judging comparing holding wiring task comes =
+  task_has (run p rows code) held none running writing judging comparing pairing wiring task comes =
       program_has (λ t left. runs (rows_job (rows_name rows) code (source t) left)) p rows held none
       (λ t left. running (rows_job (rows_name rows) code (source t) left)) task comes
-  task_has (il p rows code) held none running writing judging comparing holding wiring task comes =
-      listing_has (λ t left. runs (rows_job (rows_name rows) code (source t) left)) p rows held none
-      (λ t left. running (rows_job (rows_name rows) code (source t) left)) task comes
-  task_has (compile p code) held none running writing judging comparing holding wiring task comes =
+  task_has (il p rows code) held none running writing judging comparing pairing wiring task comes =
+      listing_has (λ i left. runs (rows_job (rows_name rows) code (listed i) left)) p rows held none
+      (λ i left. running (rows_job (rows_name rows) code (listed i) left)) task comes
+  task_has (compile p code) held none running writing judging comparing pairing wiring task comes =
       typed_is (λ t. compiles t code) p held (none (source_word p) (inl refl)) (λ t. writing t code) task comes
-  task_has (list m) held none running writing judging comparing holding wiring task comes =
+  task_has (list m) held none running writing judging comparing pairing wiring task comes =
       image_is (λ i. prints (listing i.graph i.table)) m held (none (image_word m) (inl refl)) (λ i. given _ (lit≤ tt)) task comes
-  task_has (exec m rows) held none running writing judging comparing holding wiring task comes =
+  task_has (exec m rows) held none running writing judging comparing pairing wiring task comes =
       graph_has (λ i left x. x ≡ runs (rows_job (rows_name rows) (table_code i.table) (image i.graph) left)) m rows held none
       (λ i left x is. is_has x (runs (rows_job (rows_name rows) (table_code i.table) (image i.graph) left)) (running _) is) task comes
-  task_has (trace m rows n) held none running writing judging comparing holding wiring task comes =
+  task_has (trace m rows n) held none running writing judging comparing pairing wiring task comes =
       graph_has (λ i left x. x ≡ runs (words_job (rows_name rows) n i.graph (table_code i.table) (through n left))) m rows held none
       (λ i left x is. is_has x (runs (words_job (rows_name rows) n i.graph (table_code i.table) (through n left))) (running _) is) task comes
-  task_has (widen m) held none running writing judging comparing holding wiring task comes =
+  task_has (widen m) held none running writing judging comparing pairing wiring task comes =
       image_is wide_prints m held (none (image_word m) (inl refl)) (λ i. given _ (lit≤ tt)) task comes
-  task_has (audit m horizon) held none running writing judging comparing holding wiring task comes =
+  task_has (audit m horizon) held none running writing judging comparing pairing wiring task comes =
       image_has (Audited horizon m) m held (none (image_word m) (inl refl)) (audited_has horizon m) task comes
-  task_has (inject m rows f) held none running writing judging comparing holding wiring task comes =
+  task_has (inject m rows f) held none running writing judging comparing pairing wiring task comes =
       graph_has (λ i left. WholeRows (rows_name rows) (FewRows (rows_name rows) i.graph (JudgedScript i f held)) left.rows left.refusal) m rows held
       (λ word among. none word (among_front word (image_word m ∷ rows_words rows) (script_word f ∷ []) among))
       (judged_has (rows_name rows) f held (none (script_word f) (among_behind (script_word f) (image_word m ∷ rows_words rows) (script_word f ∷ []) (inl refl)))
       judging) task comes
-  task_has (pair m rows seed) held none running writing judging comparing holding wiring task comes =
+  task_has (pair m rows seed) held none running writing judging comparing pairing wiring task comes =
       image_has (Apart m seed (Compared rows held)) m held (none (image_word m) (inl refl))
       (apart_has m seed (Compared rows held) (compared_has rows held (λ word among. none word (inr among)) comparing)) task comes
-  task_has (pairs m rows seed f) held none running writing judging comparing holding wiring task comes =
-      image_has (Apart m seed (HeldRows rows f held)) m held (none (image_word m) (inl refl))
-      (apart_has m seed (HeldRows rows f held)
-      (held_has rows f held (λ word among. none word (among_front word (image_word m ∷ rows_words rows) (script_word f ∷ []) (inr among)))
-      (none (script_word f) (among_behind (script_word f) (image_word m ∷ rows_words rows) (script_word f ∷ []) (inl refl))) holding)) task comes
-  task_has (wire f) held none running writing judging comparing holding wiring task comes =
+  task_has (pairs m rows seed f) held none running writing judging comparing pairing wiring task comes =
+      image_has (Apart m seed (PairsRows rows f held)) m held (none (image_word m) (inl refl))
+      (apart_has m seed (PairsRows rows f held)
+      (pairs_has rows f held (λ word among. none word (among_front word (image_word m ∷ rows_words rows) (script_word f ∷ []) (inr among)))
+      (none (script_word f) (among_behind (script_word f) (image_word m ∷ rows_words rows) (script_word f ∷ []) (inl refl))) pairing)) task comes
+  task_has (wire f) held none running writing judging comparing pairing wiring task comes =
       file_has WireOf NotWire most_source_bytes (λ s x. x ≡ wires s) f (held f) P (none (script_word f) (inl refl)) (refused f)
       (λ s x is. is_has x (wires s) (wiring s) is) task comes
-  task_has (demo number) held none running writing judging comparing holding wiring task comes =
+  task_has (demo number) held none running writing judging comparing pairing wiring task comes =
       typed_has (λ t. OnRows made_name (λ left x. x ≡ runs (summary_job number t left)) (made_outcome number t)) made_name (made_held number)
       (λ e. absurd (there_is (made_source number) e))
       (λ t x. outcome_has made_name (λ left y. y ≡ runs (summary_job number t left)) (made_outcome number t)
@@ -510,6 +511,30 @@ all_found f held name all comes =
     task_has NoneLacks (λ a small n e. cc) f held (λ word among none. absurd (held_among held (about f).files word all among none)) (λ j n e. cc)
     (λ p code n e. cc) (λ c n e. cc) (λ j n e. cc) (λ c n e. cc) (λ s n e. cc) (lacks name) comes name refl
 
+-- a command that calls no unit comes to tasks that need none
+pub none_needed : (f : Form) (held : Held) (task : Task) → (about f).calls ≡ false → TaskOf f held task → NeedsNone task
+none_needed (check p) held task quiet comes = typed_is NeedsNone (λ a small. small) (λ t. prints (ok_text (size t))) p held (λ e. tt) (λ t. lit≤ tt) task comes
+none_needed (format p) held task quiet comes =
+    file_has IsProgram NoProgram most_source_bytes (λ t x. x ≡ prints (canonical t)) p (held p) NeedsNone (λ e. tt) (refused NeedsNone (λ a small. small) p)
+    (λ t x is. is_has NeedsNone (λ a small. small) x (prints (canonical t)) (lit≤ tt) is) task comes
+none_needed (plain p rows) held task quiet comes =
+    program_has NeedsNone (λ a small. small) (λ t left. answers (plain_answer (rows_name rows) t left)) p rows held (λ word among e. tt)
+    (λ t left. meant_small (told_source t left.rows).end left.refusal) task comes
+none_needed (run p rows code) held task quiet comes = absurd cc
+none_needed (il p rows code) held task quiet comes = absurd cc
+none_needed (compile p code) held task quiet comes = typed_is NeedsNone (λ a small. small) (λ t. compiles t code) p held (λ e. tt) (λ t. tt) task comes
+none_needed (list m) held task quiet comes = image_is NeedsNone (λ a small. small) (λ i. prints (listing i.graph i.table)) m held (λ e. tt) (λ i. lit≤ tt) task comes
+none_needed (exec m rows) held task quiet comes = absurd cc
+none_needed (trace m rows n) held task quiet comes = absurd cc
+none_needed (widen m) held task quiet comes = image_is NeedsNone (λ a small. small) wide_prints m held (λ e. tt) (λ i. lit≤ tt) task comes
+none_needed (audit m horizon) held task quiet comes =
+    image_has NeedsNone (λ a small. small) (Audited horizon m) m held (λ e. tt) (audited_has NeedsNone (λ a small. small) horizon m) task comes
+none_needed (inject m rows f) held task quiet comes = absurd cc
+none_needed (pair m rows seed) held task quiet comes = absurd cc
+none_needed (pairs m rows seed f) held task quiet comes = absurd cc
+none_needed (wire f) held task quiet comes = absurd cc
+none_needed (demo number) held task quiet comes = absurd cc
+
 -- ---- without a unit
 
 -- the task with the answer that is meant in the place of a run
@@ -521,7 +546,7 @@ as_meant (runs j) = answers (job_answer j (run_meant j))
 as_meant (judges c) = judges c
 as_meant (wires s) = wires s
 as_meant (compares j) = compares j
-as_meant (holds c) = holds c
+as_meant (pairs_ c) = pairs_ c
 
 rows_meant : (name : List ℕ) (code : Code) (t : Program) (o : RowsOutcome) (task : Task) →
     OnRows name (λ left x. x ≡ runs (rows_job name code (source t) left)) o task → OnRows name (λ left x. x ≡ answers (plain_answer name t left)) o
@@ -544,7 +569,7 @@ meant_is (runs j) x y is h = let same : job_answer j (run_meant j) ≡ x = cc in
 meant_is (judges c) x y is h = absurd cc
 meant_is (wires s) x y is h = absurd cc
 meant_is (compares j) x y is h = absurd cc
-meant_is (holds c) x y is h = absurd cc
+meant_is (pairs_ c) x y is h = absurd cc
 
 pub plain_meant : Laws → (f : Form) (held : Held) (task : Task) → TaskOf f held task →
     IfSome (without_unit f) (λ g. (x y : Answer) → TaskOf g held (answers x) → Meant task y → y ≡ x)

@@ -22,8 +22,6 @@ use Rattle.il_front.specs.declared.fault.IlFault.{IlFault}
 use Rattle.il_front.specs.declared.fault.IlFault.TheVariants as il
 use Rattle.il_front.specs.Accumulator.{Il}
 use Rattle.il_front.specs.Answers.{IsIl, NotIl}
-use Rattle.il_front.specs.Outcomes.{IsTypedIl}
-use Rattle.il_front.specs.TypedForm.{typed_il}
 use Rattle.vcp_inputs.specs.declared.refusal.Refusal.{Refusal}
 use Rattle.vcp_inputs.specs.declared.refusal.Refusal.TheVariants as refusal
 use Rattle.vcp_inputs.specs.Listings.{NotListing, no_listing}
@@ -136,11 +134,8 @@ module _ (laws : Laws) where
 -- ---- a text is one instruction list, or is refused in one way
 
 module _ (laws : ListingLaws) where
-  pub listing_once : (text : List ℕ) (t u : Program) → IsTypedIl text t → IsTypedIl text u → t ≡ u
-  listing_once text t u (i, is, made) (j, other, also) = made ∙ ap typed_il (laws.one text i j is other) ∙ sym also
-
-  pub listing_or_none : (text : List ℕ) (t : Program) (r : Refusal) → IsTypedIl text t → NotListing text r → ⊥
-  listing_or_none text t _ (i, is, made) (no_listing f known h) = known (laws.either text i f is h)
+  pub listing_or_none : (text : List ℕ) (i : Il) (r : Refusal) → IsIl text i → NotListing text r → ⊥
+  listing_or_none text i _ is (no_listing f known h) = known (laws.either text i f is h)
 
   pub no_listing_once : (text : List ℕ) (r s : Refusal) → NotListing text r → NotListing text s → r ≡ s
   no_listing_once text _ _ (no_listing f known h) (no_listing g other k) = ap refusal.Listing (laws.refused text f g known other h k)

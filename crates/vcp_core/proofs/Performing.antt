@@ -18,13 +18,15 @@ use Rattle.vcp_inputs.specs.declared.refusal.NoInput.{NoInput}
 use Rattle.vcp_inputs.specs.declared.refusal.NoInput.TheVariants as input
 use Rattle.vcp_inputs.specs.Files.{NotLoaded, long, short}
 use Rattle.vcp_inputs.specs.Lines.{input_text, input_status, memory_text, refusal_text, rows_text, write_fault_text}
-use Rattle.vcp_inputs.specs.Refusals.{no_rows}
+use Rattle.vcp_inputs.specs.Refusals.{IsCaused, no_rows}
+use Rattle.vcp_inputs.proofs.Causes.{row_caused}
 use Rattle.command_meaning.specs.Answer.{printed}
 use Rattle.command_meaning.specs.Abouts.{Among, About, FileWord}
-use Rattle.command_meaning.specs.Clauses.{IsEnd, IsLine, IsTooLong, MayHold, NamesFile}
+use Rattle.command_meaning.specs.Clauses.{IsEnd, IsLine, IsTooLong, MayHold, MayName, NamesFile}
 use Rattle.command_meaning.specs.FileTasks.{TakenFile, missing, taken, untaken}
 use Rattle.command_meaning.specs.Kinds.{Task, lacks, lack_answer, refusal_task, runs, Done, Left}
-use Rattle.command_meaning.specs.Performing.{Still, Reaches, done, cut, unread, unmade, Performs}
+use Rattle.command_meaning.specs.Seen.{Still}
+use Rattle.command_meaning.specs.Performing.{Reaches, done, cut, unread, unmade, Performs}
 use Rattle.command_meaning.specs.Performing as reached
 use Rattle.command_meaning.specs.RunKind.{Job}
 use Rattle.vcp_core.specs.declared.ending.Ending.{Ending}
@@ -175,23 +177,8 @@ module _ (c : About) where
     memory = λ is. absurd (omega (arith, is));
   }
 
-  -- that of an input that isn't there; one that is unread is a file that the command reads
-  input_line : (name : List ℕ) (i : NoInput) → (i ≡ input.Unread → NamesFile c name) → IsLine c (input_status i) (input_text name i)
-  input_line name input.Unread named = record {
-    none = λ end. absurd (no_end input.Unread end);
-    refused = λ is. absurd (omega (arith, is));
-    file = λ is. (name, named refl, refl);
-    output = λ is. absurd (omega (arith, is));
-    memory = λ is. absurd (omega (arith, is));
-  }
-  input_line name (input.Refused r) named = record {
-    none = λ end. absurd (no_end (input.Refused r) end);
-    refused = λ is. (name, r, refl);
-    file = λ is. absurd (omega (arith, is));
-    output = λ is. absurd (omega (arith, is));
-    memory = λ is. absurd (omega (arith, is));
-  }
-  input_line name input.Memory named = record {
+  memory_line : IsLine c 7 memory_text
+  memory_line = record {
     none = λ end. absurd (no_end input.Memory end);
     refused = λ is. absurd (omega (arith, is));
     file = λ is. absurd (omega (arith, is));
@@ -199,16 +186,32 @@ module _ (c : About) where
     memory = λ is. refl;
   }
 
-  memory_line : IsLine c 7 memory_text
-  memory_line = input_line [] input.Memory (λ e. absurd cc)
+  -- that of an input that isn't there; one that is unread is a file that the command reads
+  input_line : (name : List ℕ) (i : NoInput) → IsCaused i → MayName c name → (i ≡ input.Unread → NamesFile c name)
+      → IsLine c (input_status i) (input_text name i)
+  input_line name input.Unread caused may named = record {
+    none = λ end. absurd (no_end input.Unread end);
+    refused = λ is. absurd (omega (arith, is));
+    file = λ is. (name, named refl, refl);
+    output = λ is. absurd (omega (arith, is));
+    memory = λ is. absurd (omega (arith, is));
+  }
+  input_line name (input.Refused r) caused may named = record {
+    none = λ end. absurd (no_end (input.Refused r) end);
+    refused = λ is. (name, r, may, caused, refl);
+    file = λ is. absurd (omega (arith, is));
+    output = λ is. absurd (omega (arith, is));
+    memory = λ is. absurd (omega (arith, is));
+  }
+  input_line name input.Memory caused may named = memory_line
 
-  run_lines : (name : List ℕ) (r : Result Ending RunFault) → IsLine c (run_code r) (run_line name r)
-  run_lines name (Ok end.Done) = no_line 0 (inl refl)
-  run_lines name (Ok end.Stopped) = no_line 2 (inr (inl refl))
-  run_lines name (Ok end.Refused) = no_line 3 (inr (inr refl))
-  run_lines name (Err (run.Rows f)) = input_line name (no_rows f) (λ e. absurd (row_read f e))
-  run_lines name (Err run.Write) = write_line
-  run_lines name (Err run.Memory) = memory_line
+  run_lines : (name : List ℕ) → MayName c name → (r : Result Ending RunFault) → IsLine c (run_code r) (run_line name r)
+  run_lines name may (Ok end.Done) = no_line 0 (inl refl)
+  run_lines name may (Ok end.Stopped) = no_line 2 (inr (inl refl))
+  run_lines name may (Ok end.Refused) = no_line 3 (inr (inr refl))
+  run_lines name may (Err (run.Rows f)) = input_line name (no_rows f) (row_caused f) may (λ e. absurd (row_read f e))
+  run_lines name may (Err run.Write) = write_line
+  run_lines name may (Err run.Memory) = memory_line
 
 -- each end of a run is one of its own
 pub run_ends : (e : Ending) → Among (end_status e) (0 ∷ 1 ∷ 2 ∷ 3 ∷ [])
@@ -253,7 +256,7 @@ module _ (c : About) (files files_after : FilesSeen) (before after : Moment) whe
   ran Comes j (Err (run.Rows f)) late comes rose (x, d, w, line, status) = done (runs j) x comes d w line status
   ran Comes j (Err run.Write) late comes rose left = cut (runs j) comes left (rose refl) refl refl
   ran Comes j (Err run.Memory) late comes rose (inl s) = unmade s refl refl
-  ran Comes j (Err run.Memory) late comes rose (inr left) = reached.short (runs j) comes left late refl refl
+  ran Comes j (Err run.Memory) late comes rose (inr left) = reached.wanting (runs j) comes left late refl refl
 
 -- where it is refused, it was read to its end, or it is too long
 pub file_taken : (c : About) (Why : List ℕ → Refusal → Type 0) (name : List ℕ) (held : Held) (b n : ℕ) (word : FileWord) (named : Among word c.files)
@@ -305,12 +308,12 @@ module _ (c : About) (Comes : Held → Task → Type 0) (files later : FilesSeen
     pub input_performs : (at : Moment) (name : List ℕ) (i : NoInput) →
         ((h : Held) → MayHold c files.held h → Reaches c (Comes h) files later at at (input_text name i) (input_status i)) →
         (c.files ≢ [] → input_status i ≡ 1 → IfSome files.held (λ h. IsAtEnd later.rest ⊎ IsTooLong c h (input_text name i))) →
-        (i ≡ input.Unread → Rose files.faults later.faults) → (i ≡ input.Unread → NamesFile c name) →
+        (i ≡ input.Unread → Rose files.faults later.faults) → (i ≡ input.Unread → NamesFile c name) → IsCaused i → MayName c name →
         Performs c Comes files later at at (input_text name i) (input_status i)
-    input_performs at name i far all_taken rose named = record {
+    input_performs at name i far all_taken rose named caused may = record {
       reaches = far;
       statuses = input_among c.ends one i;
-      told = input_line c name i named;
+      told = input_line c name i caused may named;
       held = held;
       unit = λ no. refl;
       stay = stay;
@@ -328,11 +331,11 @@ module _ (c : About) (Comes : Held → Task → Type 0) (files later : FilesSeen
         (c.files ≢ [] → IsAtEnd later.rest) → (c.calls ≡ false → after.unit ≡ before.unit) →
         (c.calls ≡ true → r ≡ Ok end.Stopped → GrowsToStop before.unit.log after.unit.log) →
         (r ≡ Ok end.Refused → Rose before.unit.wrong after.unit.wrong) → (r ≡ Err run.Write → Rose before.out.faults after.out.faults) →
-        Performs c Comes files later before after (run_line name r) (run_code r)
-    run_performs before after name r own far end_is unit stopped refused write = record {
+        MayName c name → Performs c Comes files later before after (run_line name r) (run_code r)
+    run_performs before after name r own far end_is unit stopped refused write may = record {
       reaches = far;
       statuses = run_among c.ends one r own;
-      told = run_lines c name r;
+      told = run_lines c name may r;
       held = held;
       unit = unit;
       stay = stay;
@@ -358,11 +361,11 @@ module _ (c : About) (Comes : Held → Task → Type 0) (files later : FilesSeen
   pub files_lost : Among 1 c.ends → (at : Moment) (name : List ℕ) (i : NoInput)
       → IfSome files.held (λ h. Reaches c (Comes h) files later at at (input_text name i) (input_status i)) →
       (input_status i ≡ 1 → IfSome files.held (λ h. IsAtEnd later.rest ⊎ IsTooLong c h (input_text name i))) →
-      (i ≡ input.Unread → Rose files.faults later.faults) → (i ≡ input.Unread → NamesFile c name) →
+      (i ≡ input.Unread → Rose files.faults later.faults) → (i ≡ input.Unread → NamesFile c name) → IsCaused i → MayName c name →
       Performs c Comes files later at at (input_text name i) (input_status i)
-  files_lost one at name i far all_taken rose named =
+  files_lost one at name i far all_taken rose named caused may =
       input_performs c Comes files later held (λ none. absurd (reads none)) one at name i
-      (on_held (λ h. Reaches c (Comes h) files later at at (input_text name i) (input_status i)) far) (λ some. all_taken) rose named
+      (on_held (λ h. Reaches c (Comes h) files later at at (input_text name i) (input_status i)) far) (λ some. all_taken) rose named caused may
 
   -- a run was done, or given up
   pub files_run : Among 1 c.ends → (before after : Moment) (name : List ℕ) (r : Result Ending RunFault) →
@@ -370,10 +373,10 @@ module _ (c : About) (Comes : Held → Task → Type 0) (files later : FilesSeen
       → IfSome files.held (λ h. Reaches c (Comes h) files later before after (run_line name r) (run_code r)) → IsAtEnd later.rest →
       (c.calls ≡ false → after.unit ≡ before.unit) → (c.calls ≡ true → r ≡ Ok end.Stopped → GrowsToStop before.unit.log after.unit.log) →
       (r ≡ Ok end.Refused → Rose before.unit.wrong after.unit.wrong) → (r ≡ Err run.Write → Rose before.out.faults after.out.faults) →
-      Performs c Comes files later before after (run_line name r) (run_code r)
-  files_run one before after name r own far end_is unit stopped refused write =
+      MayName c name → Performs c Comes files later before after (run_line name r) (run_code r)
+  files_run one before after name r own far end_is unit stopped refused write may =
       run_performs c Comes files later held (λ none. absurd (reads none)) one before after name r own
-      (on_held (λ h. Reaches c (Comes h) files later before after (run_line name r) (run_code r)) far) (λ some. end_is) unit stopped refused write
+      (on_held (λ h. Reaches c (Comes h) files later before after (run_line name r) (run_code r)) far) (λ some. end_is) unit stopped refused write may
 
   module _ (before after : Moment) (end_is : IsAtEnd later.rest) where
     -- all was written
@@ -449,10 +452,10 @@ pub quiet_lost : (c : About) {V : Type 0} (Is : List ℕ → V → Type 0) (Why 
     (files later : FilesSeen) (at : Moment) (i : NoInput) → Among word c.files → c.files ≢ [] → Among 1 c.ends → later.held ≡ files.held
     → IfSome files.held (λ h. NotLoaded Why h word.name word.most files.broken later.broken i)
     → ((r : Refusal) → i ≡ input.Refused r → r ≢ refusal.Bytes → IsAtEnd later.rest) → ((text : List ℕ) (r : Refusal) → Why text r → r ≢ refusal.Bytes)
-    → (i ≡ input.Unread → Rose files.faults later.faults) →
+    → (i ≡ input.Unread → Rose files.faults later.faults) → IsCaused i →
     Performs c (λ h task. TakenFile Is Why word.most (Then h) word.name (h word.name) task) files later at at (input_text word.name i) (input_status i)
-quiet_lost c Is Why Then word files later at i named reads one held lost whole other rose =
+quiet_lost c Is Why Then word files later at i named reads one held lost whole other rose caused =
     files_lost c (λ h task. TakenFile Is Why word.most (Then h) word.name (h word.name) task) files later reads held one at word.name i
     (if_some_weaker files.held _ _ (λ h l. file_lost c files later at at Is Why word.most (Then h) word.name h word named refl (still at) i l) lost)
     (λ is. if_some_weaker files.held _ _ (λ h l. file_taken c Why word.name h files.broken later.broken word named refl i later.rest whole other l is) lost)
-    rose (λ is. (word, named, refl))
+    rose (λ is. (word, named, refl)) caused (inl (word, named, refl))

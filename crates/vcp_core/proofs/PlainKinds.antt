@@ -15,7 +15,7 @@ use Rattle.vcp_words.specs.Tables.{rows_name}
 use Rattle.command_meaning.specs.Abouts.{about, Among}
 use Rattle.command_meaning.specs.Answer.{Answer}
 use Rattle.command_meaning.specs.Kinds.{Task, answers}
-use Rattle.command_meaning.specs.Performing.{Reaches, done, cut, short}
+use Rattle.command_meaning.specs.Performing.{Reaches, done, cut, wanting}
 use Rattle.command_meaning.specs.Printing.{every_row, last_part}
 use Rattle.command_meaning.specs.Reports.{RunEnd, complete, stopped, refused, end_told, output_names}
 use Rattle.vcp_core.specs.EndLines.{last_text}
@@ -92,7 +92,7 @@ module _ (t : Program) (left : RowsLeft) (before after : SinkSeen) where
         )
         (rose refl) refl refl
     plain_reaches (Err fault.Memory) some rose =
-        short (answers a) takes (
+        wanting (answers a) takes (
           refl,
           (
             a,

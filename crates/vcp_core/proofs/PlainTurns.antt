@@ -17,7 +17,7 @@ use Rattle.machine_run.specs.declared.fault.RunFault.{RunFault}
 use Rattle.machine_run.specs.declared.fault.RunFault.TheVariants as fault
 use Rattle.vcp_core.specs.declared.ending.Ending.{Ending}
 use Rattle.vcp_core.specs.declared.ending.Ending.TheVariants as end
-use Rattle.vcp_core.specs.PlainRun.{last_line, plain_text, PrintsText, Prints, cycle_line, lines_from, rest_text, PrintsFrom}
+use Rattle.vcp_core.specs.PlainRun.{plain_last_line, plain_text, PrintsText, Prints, cycle_line, lines_from, rest_text, PrintsFrom}
 
 pub appends-nothing : (old : Option (List ℕ)) → Appends old old []
 appends-nothing None = tt
@@ -138,9 +138,9 @@ pub record NoRows (left : RowsLeft) (refusal : Option RowFault) : Type 0 where
   pub refusal_is : left.refusal ≡ refusal
 
 pub text-without-rows : (p : Program) (n : ℕ) (m : List ℤ) (left : RowsLeft) (refusal : Option RowFault) → NoRows left refusal
-    → rest_text p n m left ≡ last_line p n None refusal
+    → rest_text p n m left ≡ plain_last_line p n None refusal
 text-without-rows p n m left refusal none =
-    ap (λ rows. lines_from p n (run_from p m rows).rows (run_from p m rows).end left.refusal) none.rows ∙ ap (last_line p n None) none.refusal_is
+    ap (λ rows. lines_from p n (run_from p m rows).rows (run_from p m rows).end left.refusal) none.rows ∙ ap (plain_last_line p n None) none.refusal_is
 
 pub end-fails : (p : Program) (n : ℕ) (m : List ℤ) (left : RowsLeft) (now new : Option (List ℕ)) → NoRows left None → AppendsPart now new (end_text n)
     → PrintsFrom p n m left now new (Err fault.Write)
@@ -150,11 +150,11 @@ end-fails p n m left now new none w = rw (text-without-rows p n m left None none
 
 -- the lines from a cycle on are the lines of the rows, and then the last one
 pub lines-are : (p : Program) (n : ℕ) (rows : List (List ℤ)) (stop : Option Stop) (refusal : Option RowFault)
-    → lines_from p n rows stop refusal ≡ texts_from row_text n rows ++ last_line p (n + length rows) stop refusal
-lines-are p n [] stop refusal = ap (λ k. last_line p k stop refusal) (omega arith)
+    → lines_from p n rows stop refusal ≡ texts_from row_text n rows ++ plain_last_line p (n + length rows) stop refusal
+lines-are p n [] stop refusal = ap (λ k. plain_last_line p k stop refusal) (omega arith)
 lines-are p n (row ∷ rows) stop refusal =
     let shift : suc n + length rows ≡ n + length (row ∷ rows) = omega arith in
-    ap (λ t. row_text n row ++ t) (lines-are p (suc n) rows stop refusal ∙ ap (λ k. texts_from row_text (suc n) rows ++ last_line p k stop refusal) shift)
+    ap (λ t. row_text n row ++ t) (lines-are p (suc n) rows stop refusal ∙ ap (λ k. texts_from row_text (suc n) rows ++ plain_last_line p k stop refusal) shift)
     ∙ sym (append_assoc (row_text n row) (texts_from row_text (suc n) rows) _)
 
 -- the header, and the lines from the first cycle on
@@ -162,7 +162,7 @@ pub whole-is : (p : Program) (left : RowsLeft) → plain_text p left ≡ header_
 whole-is p left =
     let run = source_run p left.rows in
     ap (λ t. header_text (output_names p) ++ t)
-    (ap (λ k. texts_from row_text 0 run.rows ++ last_line p k run.end left.refusal) (omega arith) ∙ sym (lines-are p 0 run.rows run.end left.refusal))
+    (ap (λ k. texts_from row_text 0 run.rows ++ plain_last_line p k run.end left.refusal) (omega arith) ∙ sym (lines-are p 0 run.rows run.end left.refusal))
 
 -- the header was printed, and then the cycles from the first on
 pub header-first : (p : Program) (left : RowsLeft) (old mid new : Option (List ℕ)) (r : Result Ending RunFault) →

@@ -11,10 +11,10 @@ use Rattle.coded_machine.specs.declared.cycle_end.CycleEnd.TheVariants as cycle
 use Rattle.coded_machine.specs.State.{State}
 use Rattle.command_meaning.specs.CycleWords.{word_lines}
 use Rattle.command_meaning.specs.Reports.{RunEnd, complete, end_read, refused, stopped}
-use Rattle.vcp_core.specs.EndLines.{last_text, words_then}
+use Rattle.vcp_core.specs.EndLines.{last_text}
 use Rattle.vcp_core.specs.declared.ending.Ending.{Ending}
 use Rattle.vcp_core.specs.MachineRun.{IsThere, PrintsLast}
-use Rattle.vcp_core.specs.TraceRun.{answered_words, traced_text}
+use Rattle.vcp_core.specs.TraceRun.{answered_words, traced_text, words_then}
 use Rattle.vcp_core.proofs.JobRun.{complete-is}
 
 -- words' lines come first

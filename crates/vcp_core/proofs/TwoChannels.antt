@@ -29,7 +29,7 @@ use Rattle.command_meaning.specs.Abouts.{About, about}
 use Rattle.command_meaning.specs.FileTasks.{TakenFile, missing, taken, untaken, TakenRows}
 use Rattle.command_meaning.specs.Kinds.{Task, compares, refusal_task}
 use Rattle.command_meaning.specs.PairKind.{PairJob, pair_answer, pair_behind, pair_read, pair_status}
-use Rattle.command_meaning.specs.Performing.{Performs, Reaches, done, cut, short, unread, unmade}
+use Rattle.command_meaning.specs.Performing.{Performs, Reaches, done, cut, wanting, unread, unmade}
 use Rattle.vcp_core.specs.declared.ending.Ending.{Ending}
 use Rattle.vcp_core.specs.ChannelsRun.{ComparesTo, PairAnswers}
 use Rattle.vcp_core.specs.Reach.{end_status, run_code, run_line}
@@ -110,7 +110,7 @@ module _ (j : PairJob) (before after : Moment) where
   compared c Comes files later (Err (run.Rows f)) late comes rose (x, d, w, line, status) = done (compares j) x comes d w line status
   compared c Comes files later (Err run.Write) late comes rose left = cut (compares j) comes left (rose refl) refl refl
   compared c Comes files later (Err run.Memory) late comes rose (inl s) = unmade s refl refl
-  compared c Comes files later (Err run.Memory) late comes rose (inr left) = short (compares j) comes left late refl refl
+  compared c Comes files later (Err run.Memory) late comes rose (inr left) = wanting (compares j) comes left late refl refl
 
 -- it was given up only where the sink failed, if writing was the cause
 pub wrote : (g : Lists) (t : Numbers) (left : RowsLeft) (before after : Moment) (f : RunFault) → BesideRunsTo g t left before after (Err f) → f ≡ run.Write
@@ -126,7 +126,7 @@ module _ (c : About) (Comes Other : Held → Task → Type 0) (weaker : (h : Hel
   reaches_by : (h : Held) → Reaches c (Comes h) files later before after line code → Reaches c (Other h) files later before after line code
   reaches_by h (done task x comes d w l s) = done task x (weaker h task comes) d w l s
   reaches_by h (cut task comes left rose l s) = cut task (weaker h task comes) left rose l s
-  reaches_by h (short task comes left late l s) = short task (weaker h task comes) left late l s
+  reaches_by h (wanting task comes left late l s) = wanting task (weaker h task comes) left late l s
   reaches_by h (unread word named rose s l n) = unread word named rose s l n
   reaches_by h (unmade s l n) = unmade s l n
 

@@ -18,13 +18,12 @@ use Rattle.machine_run.specs.Leaves.{last_answers}
 use Rattle.command_meaning.specs.Answer.{image}
 use Rattle.command_meaning.specs.CycleWords.{word_lines, words_among, words_in}
 use Rattle.command_meaning.specs.Reports.{RunEnd, complete, end_read, subject_outputs, refused, stopped}
-use Rattle.vcp_core.specs.EndLines.{words_then}
 use Rattle.command_meaning.specs.Printing.{each_word, last_part}
 use Rattle.command_meaning.specs.RunKind.{run_read}
 use Rattle.vcp_words.specs.Forms.{Code}
 use Rattle.vcp_core.specs.Tasks.{words_job, table_code}
-use Rattle.vcp_core.specs.Shown.{Came}
-use Rattle.vcp_core.specs.TraceRun.{answered_words, traced_text}
+use Rattle.vcp_core.specs.Shown.{RunCame}
+use Rattle.vcp_core.specs.TraceRun.{answered_words, traced_text, words_then}
 use Rattle.vcp_core.proofs.JobRun.{as-many, complete-is}
 
 -- ---- rows through a cycle
@@ -178,7 +177,7 @@ last-words code n names rows words g own (refused i f w) behind = refl
 -- each row through cycle n was taken, unless the run ended before
 module _ (g : Lists) (n : ℕ) (name : List ℕ) (t : Numbers) (left : RowsLeft) (few-rows : length left.rows ≤ n + 1)
     (all-there : left.refusal ≡ None → length left.rows ≡ n + 1) {R : Type 0} (Keeps : R → List (List ℤ) → Type 0) (kept now : R)
-    (cycles : List (List Given)) (m : State) (e : CycleEnd) (came : Came Keeps kept now (words_job name n g (table_code t) left) g cycles m e) where
+    (cycles : List (List Given)) (m : State) (e : CycleEnd) (came : RunCame Keeps kept now (words_job name n g (table_code t) left) g cycles m e) where
   abbrev names : List (List ℕ)
   names = subject_outputs (image g)
 

@@ -9,7 +9,7 @@ use Rattle.vcp_inputs.specs.Lines.{input_status, input_text}
 use Rattle.vcp_inputs.specs.Refusals.{no_rows}
 use Rattle.command_meaning.specs.Answer.{Answer}
 use Rattle.command_meaning.specs.PairKind.{PairJob, PairJobDone, PairJobLeft}
-use Rattle.command_meaning.specs.Performing.{Still}
+use Rattle.command_meaning.specs.Seen.{Still}
 use Rattle.vcp_core.specs.declared.ending.Ending.{Ending}
 use Rattle.vcp_core.specs.Reach.{end_status}
 

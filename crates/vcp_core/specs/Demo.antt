@@ -1,6 +1,6 @@
 -- Demo: the words `demo N`. The source and the rows that are made of the number are taken through their refusals, and the program's run, in
 -- the code that holds where none is given, is summed up in one line.
-use Rattle.std.specs.Prelude.{ℕ, ℤ, pos, ◌+ℤ◌, unsigned_abs, ◌*◌, ◌≡◌, ◌≤◌, ◌^◌, List, [], ◌∷◌, length, slice_index_or, Option, Some, None, codes}
+use Rattle.std.specs.Prelude.{ℕ, ℤ, pos, ◌+ℤ◌, unsigned_abs, ◌*◌, ◌≡◌, ◌≤◌, ◌^◌, List, [], ◌∷◌, length, Option, Some, None}
 use Rattle.vcp_base.specs.Limits.{most_cycles}
 use Rattle.vcp_outside.specs.Held.{Held}
 use Rattle.input_rows.specs.declared.fault.RowFault.{RowFault}
@@ -9,18 +9,18 @@ use Rattle.vcp_typed.specs.Fitting.{input_columns}
 use Rattle.vcp_typed.specs.SourceRun.{Program}
 use Rattle.coded_machine.specs.declared.cycle_end.CycleEnd.{CycleEnd}
 use Rattle.coded_machine.specs.State.{State}
-use Rattle.run_report.specs.Lines.{stop_text, refused_text}
 use Rattle.run_report.specs.SummaryLine.{summary_text}
 use Rattle.program_maker.specs.MadeRows.{made_rows}
 use Rattle.program_maker.specs.MadeSource.{made_source}
 use Rattle.vcp_words.specs.Forms.{default_code}
 use Rattle.vcp_inputs.specs.declared.rows.RowsSource.TheVariants as origin
 use Rattle.vcp_inputs.specs.RowsOutcome.{source_outcome}
+use Rattle.command_meaning.specs.Abouts.{made_name}
 use Rattle.command_meaning.specs.Answer.{source}
 use Rattle.command_meaning.specs.FileTasks.{TypedFile, OnRows}
 use Rattle.command_meaning.specs.Kinds.{Task, runs}
-use Rattle.command_meaning.specs.Printing.{Printing, no_words}
-use Rattle.command_meaning.specs.Reports.{RunEnd, complete, stopped, refused, end_read}
+use Rattle.command_meaning.specs.Printing.{Printing, last_line, no_words}
+use Rattle.command_meaning.specs.Reports.{RunEnd, end_read}
 use Rattle.command_meaning.specs.RunKind.{Job}
 
 -- ---- what is summed up of a run: the first output in its rows
@@ -51,10 +51,6 @@ summed_up number = record {
 }
 
 -- ---- the task
-
--- the name by which lines tell the source and the rows
-abbrev pub made_name : List ℕ
-made_name = codes "demo"
 
 -- the made source, under any name
 abbrev pub made_held : ℕ → Held
@@ -90,13 +86,10 @@ pub record AreSums (last sum : ℤ) (rows : List (List ℤ)) : Type 0 where
 abbrev pub KeepsSums : ℤ → ℤ → List (List ℤ) → Type 0
 KeepsSums last sum rows = length rows ≤ most_cycles → AreSums last sum rows
 
--- The summary of a made program's run of so many cycles, with the last value of its output and the sum of all; the run's last line
--- where it ended early, and nothing where the next row is refused.
+-- the last line of a made program's run of so many cycles: its summary, with the last value of its output and the sum of all, where it came
+-- to the end of its rows
 abbrev pub summary_then : ℕ → List (List ℕ) → ℕ → ℤ → ℤ → RunEnd → Option RowFault → List ℕ
-summary_then number names n last sum complete None = summary_text number n last sum
-summary_then number names n last sum complete (Some why) = []
-summary_then number names n last sum (stopped s) behind = stop_text n s
-summary_then number names n last sum (refused output found wanted) behind = refused_text n (slice_index_or names output []) found wanted
+summary_then number names n last sum e behind = last_line [] (summary_text number n last sum) names n e behind
 
 -- what is printed of a machine's run that came to this end, with outputs of these names
 abbrev pub summed_text : State → List (List ℕ) → ℕ → ℤ → ℤ → CycleEnd → List ℕ

@@ -8,7 +8,8 @@ use Rattle.vcp_outside.specs.declared.failed.Failed.{Failed}
 use Rattle.input_rows.specs.RowsOf.{RowsLeft}
 use Rattle.op_graph.specs.Lists.{Lists, output_column}
 use Rattle.signature_table.specs.Signatures.{Numbers, table_of}
-use Rattle.flat_expr.specs.Told.{told_graph}
+use Rattle.flat_expr.specs.Told.{told_graph, told_source}
+use Rattle.vcp_typed.specs.SourceRun.{Program}
 use Rattle.vcp_words.specs.Forms.{Code}
 use Rattle.coded_machine.specs.declared.cycle_end.CycleEnd.{CycleEnd}
 use Rattle.coded_machine.specs.declared.cycle_end.CycleEnd.TheVariants as cycle
@@ -17,9 +18,9 @@ use Rattle.machine_run.specs.declared.fault.RunFault.TheVariants as run
 use Rattle.vcp_inputs.specs.Lines.{input_status, input_text}
 use Rattle.vcp_inputs.specs.Refusals.{no_rows}
 use Rattle.command_meaning.specs.Answer.{Answer, Subject}
-use Rattle.command_meaning.specs.GraphsOf.{MayRun}
-use Rattle.command_meaning.specs.Performing.{Still}
-use Rattle.command_meaning.specs.Reports.{end_read, subject_outputs, run_status, told_of}
+use Rattle.command_meaning.specs.GraphsOf.{MayRun, StandsFor}
+use Rattle.command_meaning.specs.Seen.{Still}
+use Rattle.command_meaning.specs.Reports.{end_read, output_names, subject_outputs, run_status, told_of}
 use Rattle.command_meaning.specs.RunKind.{Job, RunDone, RunLeft}
 use Rattle.machine_run.specs.Moments.{Moment}
 use Rattle.machine_run.specs.Stops.{GrowsToStop}
@@ -34,6 +35,13 @@ pub record CarriesOut (g : Lists) (t : Numbers) (left : RowsLeft) (s : Subject) 
   pub numbers : t ≡ table_of code.seed code.step g
   pub names : map (λ c. c.name) (map (output_column g.names) g.outputs) ≡ subject_outputs s
   pub told : told_graph g left.rows ≡ told_of s left.rows
+
+-- To run this program on the rows that are left is to run this: any graph that stands for the program may be run, the outputs have the names, and on
+-- these rows the program's run is told as the one meant.
+pub record StandsAs (p : Program) (left : RowsLeft) (s : Subject) : Type 0 where
+  pub may : (g : Lists) → StandsFor p g → MayRun s g
+  pub names : output_names p ≡ subject_outputs s
+  pub told : told_source p left.rows ≡ told_of s left.rows
 
 -- a run of a job was done, and all of its answer's output was written; the answer has this line and this status
 abbrev pub RunAnswers : Job → List ℕ → ℕ → Moment → Moment → Type 0

@@ -26,8 +26,8 @@ plain_text p left =
     ++ last_text (output_names p) (length (told_source p left.rows).rows) (end_told (told_source p left.rows).end) left.refusal)
 
 -- the last line of a program's run of so many cycles: its stop, or its end; none where the next row is refused
-abbrev pub last_line : Program → ℕ → Option Stop → Option RowFault → List ℕ
-last_line p n stop refusal = last_text (output_names p) n (end_told (source_end (names_of p.slots) stop)) refusal
+abbrev pub plain_last_line : Program → ℕ → Option Stop → Option RowFault → List ℕ
+plain_last_line p n stop refusal = last_text (output_names p) n (end_told (source_end (names_of p.slots) stop)) refusal
 
 -- ---- how the printing ends
 
@@ -56,7 +56,7 @@ cycle_line slots n (Err s) = stop_text n (told_stop (names_of slots) s.kind s.sp
 
 -- the lines from cycle n on: a line for each row, and the last one
 abbrev pub lines_from : Program → ℕ → List (List ℤ) → Option Stop → Option RowFault → List ℕ
-lines_from p n [] stop refusal = last_line p n stop refusal
+lines_from p n [] stop refusal = plain_last_line p n stop refusal
 lines_from p n (row ∷ rows) stop refusal = row_text n row ++ lines_from p (suc n) rows stop refusal
 
 -- the same of a program whose slots have these values, on the rows that are left

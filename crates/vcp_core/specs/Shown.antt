@@ -10,7 +10,7 @@ use Rattle.coded_machine.specs.State.{State}
 use Rattle.machine_run.specs.Leaves.{MachineAfter}
 use Rattle.machine_run.specs.RowRuns.{CameToEnd}
 use Rattle.command_meaning.specs.Answer.{Subject}
-use Rattle.command_meaning.specs.Printing.{Printing, Words, last_part}
+use Rattle.command_meaning.specs.Printing.{Printing, ShownWords, last_part}
 use Rattle.command_meaning.specs.Reports.{end_read, subject_outputs}
 use Rattle.command_meaning.specs.RunKind.{Job, calls_of, numbers, run_read}
 use Rattle.vcp_words.specs.Forms.{Code}
@@ -18,11 +18,11 @@ use Rattle.input_rows.specs.RowsOf.{RowsLeft}
 use Rattle.vcp_core.specs.MachineRun.{IsThere}
 
 -- the job of a run, by its parts
-abbrev pub job_of : Subject → Code → RowsLeft → List ℕ → Printing → Words → Job
+abbrev pub job_of : Subject → Code → RowsLeft → List ℕ → Printing → ShownWords → Job
 job_of s code left name p words = record { subject = s; rows = left; rows_name = name; code = code; printing = p; words = words }
 
 -- a job's run on a graph came to this end in these cycles, and left this machine, and this of what is kept of its rows
-pub record Came {R : Type 0} (Keeps : R → List (List ℤ) → Type 0) (kept now : R) (j : Job) (g : Lists) (cycles : List (List UnitAnswer)) (m : State)
+pub record RunCame {R : Type 0} (Keeps : R → List (List ℤ) → Type 0) (kept now : R) (j : Job) (g : Lists) (cycles : List (List UnitAnswer)) (m : State)
     (e : CycleEnd) : Type 0 where
   pub came : CameToEnd g (numbers j g) j.rows.rows cycles e
   pub all_taken : e ≡ cycle.Released → j.rows.refusal ≡ None
@@ -38,5 +38,5 @@ pub record Shows {R : Type 0} (first : List (List ℕ) → List ℕ) (row : ℕ 
   pub row_is : row ≡ j.printing.row
   pub words_are : (cycles : List (List UnitAnswer)) → AllRight (calls_of j g cycles) → AllCycles g (numbers j g) 0 j.rows.rows cycles
       → j.words.read cycles ≡ j.words.meant j.rows.rows
-  pub last_is : (now : R) (cycles : List (List UnitAnswer)) (m : State) (e : CycleEnd) → Came Keeps kept now j g cycles m e
+  pub last_is : (now : R) (cycles : List (List UnitAnswer)) (m : State) (e : CycleEnd) → RunCame Keeps kept now j g cycles m e
       → last now m (subject_outputs j.subject) e ≡ last_part j.printing (subject_outputs j.subject) (run_read j g cycles) (end_read g e) j.rows.refusal

@@ -21,9 +21,9 @@ use Rattle.vcp_words.specs.Forms.{Form, Rows, Code, check, format, plain, run, i
 use Rattle.vcp_words.specs.Tables.{rows_name}
 use Rattle.vcp_inputs.specs.declared.images.Image.{Image}
 use Rattle.vcp_inputs.specs.declared.refusal.Refusal.TheVariants as refusal
-use Rattle.command_meaning.specs.Answer.{Answer, Subject, source, image}
+use Rattle.command_meaning.specs.Answer.{Answer, Subject, source, listed, image}
 use Rattle.command_meaning.specs.FileTasks.{ParsedFile, TypedFile, ListingFile, ImageFile, ScriptFile, WireFile, TakenRows}
-use Rattle.command_meaning.specs.Kinds.{Task, answers, compiles, runs, judges, compares, holds, wires, prints, refusal_task}
+use Rattle.command_meaning.specs.Kinds.{Task, answers, compiles, runs, judges, compares, pairs_, wires, prints, refusal_task}
 use Rattle.command_meaning.specs.PairKind.{PairJob}
 use Rattle.command_meaning.specs.Printing.{every_row, each_word, no_words, cycle_words, told_answer}
 use Rattle.command_meaning.specs.Reports.{end_told, subject_outputs, output_names}
@@ -114,7 +114,7 @@ RunTask p rows code held task =
 
 abbrev pub IlTask : List ℕ → Rows → Code → Held → Task → Type 0
 IlTask p rows code held task =
-    ListingFile (λ t. TakenRows (λ left x. x ≡ runs (rows_job (rows_name rows) code (source t) left)) rows held (input_columns t.slots)) p held task
+    ListingFile (λ i. TakenRows (λ left x. x ≡ runs (rows_job (rows_name rows) code (listed i) left)) rows held (input_columns i.slots)) p held task
 
 abbrev pub ExecTask : List ℕ → Rows → Held → Task → Type 0
 ExecTask m rows held task =
@@ -170,16 +170,16 @@ abbrev pub PairTask : List ℕ → Rows → ℕ → Held → Task → Type 0
 PairTask m rows seed held task = ImageFile (Apart m seed (Compared rows held)) m held task
 
 -- the groups of the script F over all rows of an image, on two channels; they may be as many as a run may have
-abbrev pub HeldScript : Image → List ℕ → Held → List (List ℤ) → Task → Type 0
-HeldScript i f held rows task =
-    ScriptFile i.graph (λ groups x. x ≡ holds (record { graph = i.graph; table = i.table; rows = rows; groups = groups })) f held task
+abbrev pub PairsScript : Image → List ℕ → Held → List (List ℤ) → Task → Type 0
+PairsScript i f held rows task =
+    ScriptFile i.graph (λ groups x. x ≡ pairs_ (record { graph = i.graph; table = i.table; rows = rows; groups = groups })) f held task
 
-abbrev pub HeldRows : Rows → List ℕ → Held → Image → Task → Type 0
-HeldRows rows f held i task =
-    TakenRows (λ left. WholeRows (rows_name rows) (HeldScript i f held) left.rows left.refusal) rows held (graph_columns i.graph) task
+abbrev pub PairsRows : Rows → List ℕ → Held → Image → Task → Type 0
+PairsRows rows f held i task =
+    TakenRows (λ left. WholeRows (rows_name rows) (PairsScript i f held) left.rows left.refusal) rows held (graph_columns i.graph) task
 
 abbrev pub PairsTask : List ℕ → Rows → ℕ → List ℕ → Held → Task → Type 0
-PairsTask m rows seed f held task = ImageFile (Apart m seed (HeldRows rows f held)) m held task
+PairsTask m rows seed f held task = ImageFile (Apart m seed (PairsRows rows f held)) m held task
 
 -- ---- telegrams
 

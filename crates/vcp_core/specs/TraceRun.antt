@@ -1,14 +1,19 @@
 -- TraceRun: what is printed of a machine's run of which the words of one cycle are shown.
-use Rattle.std.specs.Prelude.{ℕ, cond, nat_le, List, [], None, ℤ}
+use Rattle.std.specs.Prelude.{ℕ, cond, nat_le, List, [], Option, None, ℤ, codes}
 use Rattle.coded_machine.specs.declared.cycle_end.CycleEnd.{CycleEnd}
 use Rattle.coded_machine.specs.State.{State}
+use Rattle.input_rows.specs.declared.fault.RowFault.{RowFault}
 use Rattle.command_meaning.specs.CycleWords.{word_lines, words_among}
-use Rattle.command_meaning.specs.Reports.{end_read}
-use Rattle.vcp_core.specs.EndLines.{words_then}
+use Rattle.command_meaning.specs.Printing.{last_line}
+use Rattle.command_meaning.specs.Reports.{RunEnd, end_read}
 
 -- the words that a machine's operations answered in cycle n, where it was begun
 abbrev pub answered_words : State → ℕ → List ℤ
 answered_words m n = cond (nat_le n m.cycles) (words_among m.answers) []
+
+-- these lines, and then the last line of a run of so many cycles; nothing where the next row is refused
+abbrev pub words_then : List ℕ → List (List ℕ) → ℕ → RunEnd → Option RowFault → List ℕ
+words_then lines names n e behind = last_line lines (codes "released\n") names n e behind
 
 -- what is shown of a machine's run that came to this end, with outputs of these names
 abbrev pub traced_text : State → List (List ℕ) → ℕ → CycleEnd → List ℕ

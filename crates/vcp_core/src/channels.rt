@@ -1,18 +1,16 @@
 //! The run of an image's operations on a pair of channels.
 
-ghost use Rattle.std.specs.Prelude.{ℕ, ◌≡◌, ◌≢◌, ◌<◌, ◌≤◌, List, None, Ok, Err, IfSome, length};
+ghost use Rattle.std.specs.Prelude.{ℕ, ◌≡◌, ◌≢◌, ◌<◌, ◌≤◌, List, None, IfSome, length};
 ghost use Rattle.vcp_base.specs.Limits.{most_cycles, seeds};
 ghost use Rattle.vcp_base.specs.declared.kind.StopKind.{StopKind};
-ghost use Rattle.vcp_outside.specs.Counts.{Rose};
 ghost use Rattle.input_rows.specs.RowsOf.{IsOfRecord};
 ghost use Rattle.signature_table.specs.Signatures.{table_of};
 ghost use Rattle.machine_run.specs.Moments.{moment};
-ghost use Rattle.machine_run.specs.Stops.{GrowsToStop};
-ghost use Rattle.machine_run.specs.declared.fault.RunFault.TheVariants as fault;
 ghost use Rattle.pair_channel.specs.declared.pair_end.PairEnd.TheVariants as pair;
 ghost use Rattle.pair_channel.specs.PairRuns.{Disagrees};
 ghost use Rattle.command_meaning.specs.PairKind.{pair_status};
 ghost use Rattle.vcp_core.specs.ChannelsRun.{ComparesTo};
+ghost use Rattle.vcp_core.specs.MachineRun.{HasCauses};
 ghost use Rattle.vcp_core.specs.Reach.{end_status};
 ghost use Rattle.vcp_core.specs.Tasks.{pair_job};
 ghost use Rattle.vcp_core.specs.declared.ending.Ending.TheVariants as end;
@@ -61,9 +59,7 @@ pub fn run_channels<U: Unit, O: Sink>(
     requires behind { IfSome rows.old.refusal IsOfRecord }
     ensures ran { (name : List ℕ) → ComparesTo (pair_job name image.now rows.old)
         (moment (U.seen unit.old) (O.seen out.old)) (moment (U.seen unit.new) (O.seen out.new)) result }
-    ensures write { result ≡ Err fault.Write → Rose (O.seen out.old).faults (O.seen out.new).faults }
-    ensures refused { result ≡ Ok end.Refused → Rose (U.seen unit.old).wrong (U.seen unit.new).wrong }
-    ensures stopped { result ≡ Ok end.Stopped → GrowsToStop (U.seen unit.old).log (U.seen unit.new).log }
+    ensures causes { HasCauses (moment (U.seen unit.old) (O.seen out.old)) (moment (U.seen unit.new) (O.seen out.new)) result }
 {
     let other = Table::new(alloc, &image.graph, seed, image.table.step())?;
     let last = run_beside(alloc, &image.graph, &image.table, &other, rows, unit, out)?;

@@ -6,11 +6,11 @@ ghost use Rattle.vcp_base.specs.Limits.{most_source_bytes};
 ghost use Rattle.program_maker.specs.MadeRows.{made_rows};
 ghost use Rattle.vcp_inputs.specs.Files.{Loads};
 ghost use Rattle.vcp_inputs.specs.Programs.{TypedOf, NotTyped};
-ghost use Rattle.command_meaning.specs.Abouts.{about};
+ghost use Rattle.command_meaning.specs.Abouts.{about, made_name};
 ghost use Rattle.command_meaning.specs.Performing.{Performs};
 ghost use Rattle.vcp_outside.specs.Seen.{FilesSeen};
 ghost use Rattle.machine_run.specs.Moments.{moment};
-ghost use Rattle.vcp_core.specs.Demo.{DemoTask, KeepsSums, first_value as first_value_of, made_held, made_name, summed_text};
+ghost use Rattle.vcp_core.specs.Demo.{DemoTask, KeepsSums, first_value as first_value_of, made_held, summed_text};
 ghost use Rattle.vcp_core.specs.Reach.{told_line, told_status};
 
 use crate::ending::{Ending, run_ended};

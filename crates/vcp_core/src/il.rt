@@ -13,6 +13,7 @@ use crate::fault::Fault;
 use crate::loading::{input_columns, rows_name};
 use crate::printed::run_program;
 use coded_unit::Unit;
+use il_front::accumulator_runs;
 use std::alloc::Global;
 use vcp_base::Text;
 use vcp_inputs::{load_il, load_rows};
@@ -36,6 +37,8 @@ pub fn il_command<'a, F: Files, U: Unit, O: Sink>(
         (F.seen files.old) (F.seen files.new) (moment (U.seen unit.old) (O.seen out.old)) (moment (U.seen unit.new) (O.seen out.new))
         (told_line result) (told_status result) }
 {
+    // So what is run is the list on the accumulator.
+    accumulator_runs();
     let program = match load_il(alloc, files, source) {
         Ok(program) => program,
         Err(input) => {

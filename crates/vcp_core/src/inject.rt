@@ -3,6 +3,7 @@
 ghost use Rattle.std.specs.Prelude.{◌≡◌, ◌≤◌, All, IfErr, IfOk, length};
 ghost use Rattle.vcp_base.specs.Limits.{most_cycles, most_names};
 ghost use Rattle.vcp_words.specs.Forms.{inject, rows_of, AreFew};
+ghost use Rattle.vcp_inputs.specs.Refusals.{IsCaused};
 ghost use Rattle.vcp_inputs.specs.RowsOutcome.{HasFewCycles, source_outcome};
 ghost use Rattle.command_meaning.specs.Abouts.{about};
 ghost use Rattle.command_meaning.specs.Performing.{Performs};
@@ -38,6 +39,7 @@ fn all_rows(
     requires narrow { length columns.now ≤ most_names }
     ensures rows { IfOk result (AllRows (source_outcome inputs.now columns.now) graph.now) }
     ensures fault { IfErr result (NoRows (source_outcome inputs.now columns.now) graph.now) }
+    ensures caused { IfErr result IsCaused }
     ensures width { IfOk result (λ list. All (λ row. length row ≡ length columns.now) list) }
     ensures few { IfOk result (λ list. length list ≤ most_cycles) }
 {

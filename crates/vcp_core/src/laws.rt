@@ -27,7 +27,10 @@ use image_file::images_are_told_apart;
 use st_lexer::one_reading;
 use st_parser::one_answer;
 use st_types::answers_are_one;
-use telegram::{deliveries_are_young, deliveries_rise, unaltered_come_from_their_sender};
+use telegram::{
+    deliveries_are_young, deliveries_rise, receipts_follow_the_equation,
+    unaltered_come_from_their_sender,
+};
 use weight_audit::differences_come_as_weights;
 
 /// What a command comes to, where this is held, is one task, with a status of its own, and not a name that is lacking where all its
@@ -85,5 +88,6 @@ pub fn wires_deliver()
 {
     deliveries_rise();
     deliveries_are_young();
+    receipts_follow_the_equation();
     unaltered_come_from_their_sender();
 }

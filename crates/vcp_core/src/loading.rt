@@ -6,6 +6,7 @@ ghost use Rattle.op_graph.specs.Lists.{column};
 ghost use Rattle.vcp_typed.specs.Fitting.{input_columns as input_columns_of};
 ghost use Rattle.vcp_words.specs.Forms.{rows_of};
 ghost use Rattle.vcp_words.specs.Tables.{rows_name as rows_name_of};
+ghost use Rattle.vcp_inputs.specs.Refusals.{IsCaused};
 ghost use Rattle.vcp_inputs.specs.RowsOutcome.{HasFewCycles, source_outcome};
 ghost use Rattle.vcp_core.specs.Inject.{AllRead, NoneRead};
 
@@ -51,6 +52,7 @@ pub fn whole_rows(alloc: Global, inputs: &RowsSource, columns: &Columns) -> Resu
     requires narrow { length columns.now ≤ most_names }
     ensures rows { IfOk result (AllRead (source_outcome inputs.now columns.now)) }
     ensures fault { IfErr result (NoneRead (source_outcome inputs.now columns.now)) }
+    ensures caused { IfErr result IsCaused }
     ensures width { IfOk result (λ list. All (λ row. length row ≡ length columns.now) list) }
     ensures few { IfOk result (λ list. length list ≤ most_cycles) }
 {

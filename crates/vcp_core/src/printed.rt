@@ -12,12 +12,12 @@ ghost use Rattle.coded_machine.specs.Calls.{Whole};
 ghost use Rattle.coded_machine.specs.State.{State};
 ghost use Rattle.coded_machine.specs.declared.cycle_end.CycleEnd.{CycleEnd as CycleEndOf};
 ghost use Rattle.vcp_words.specs.Forms.{Code as CodeOf, as_code, IsCode};
-ghost use Rattle.command_meaning.specs.Answer.{Subject, source};
-ghost use Rattle.command_meaning.specs.Printing.{Printing, Words};
+ghost use Rattle.command_meaning.specs.Answer.{Subject};
+ghost use Rattle.command_meaning.specs.Printing.{Printing, ShownWords};
 ghost use Rattle.command_meaning.specs.Reports.{end_read};
 ghost use Rattle.machine_run.specs.Moments.{moment};
 ghost use Rattle.vcp_core.specs.EndLines.{last_text};
-ghost use Rattle.vcp_core.specs.MachineRun.{CarriesOut, HasCauses, IsThere, PrintsLast, RunsTo};
+ghost use Rattle.vcp_core.specs.MachineRun.{CarriesOut, HasCauses, IsThere, PrintsLast, RunsTo, StandsAs};
 ghost use Rattle.vcp_core.specs.Shown.{Shows, job_of};
 
 use crate::ending::Ending;
@@ -123,7 +123,7 @@ pub fn run_printed<U: Unit, O: Sink, R: ReleasedRows, P: Printed<R>>(
     requires width { length rows.old.types ≡ length graph.now.inputs }
     requires few { length rows.old.rows ≤ most_cycles }
     requires behind { IfSome rows.old.refusal IsOfRecord }
-    ensures ran { (s : Subject) (code : CodeOf) (name : List ℕ) (p : Printing) (words : Words) → CarriesOut graph.now table.now rows.old s code →
+    ensures ran { (s : Subject) (code : CodeOf) (name : List ℕ) (p : Printing) (words : ShownWords) → CarriesOut graph.now table.now rows.old s code →
         Shows (P.first printed.now) R.text (P.last printed.now) R.Keeps released.old (job_of s code rows.old name p words) graph.now →
         RunsTo (job_of s code rows.old name p words)
         (moment (U.seen unit.old) (O.seen out.old)) (moment (U.seen unit.new) (O.seen out.new)) result }
@@ -154,10 +154,9 @@ pub fn run_program<U: Unit, O: Sink, R: ReleasedRows, P: Printed<R>>(
     requires few { length rows.old.rows ≤ most_cycles }
     requires behind { IfSome rows.old.refusal IsOfRecord }
     requires code { IsCode (as_code code) }
-    ensures ran { (name : List ℕ) (p : Printing) (words : Words) →
-        ((g : Lists) → Shows (P.first printed.now) R.text (P.last printed.now) R.Keeps released.old
-        (job_of (source program.now) (as_code code) rows.old name p words) g) →
-        RunsTo (job_of (source program.now) (as_code code) rows.old name p words)
+    ensures ran { (s : Subject) (name : List ℕ) (p : Printing) (words : ShownWords) → StandsAs program.now rows.old s →
+        ((g : Lists) → Shows (P.first printed.now) R.text (P.last printed.now) R.Keeps released.old (job_of s (as_code code) rows.old name p words) g) →
+        RunsTo (job_of s (as_code code) rows.old name p words)
         (moment (U.seen unit.old) (O.seen out.old)) (moment (U.seen unit.new) (O.seen out.new)) result }
     ensures causes { HasCauses (moment (U.seen unit.old) (O.seen out.old)) (moment (U.seen unit.new) (O.seen out.new)) result }
 {

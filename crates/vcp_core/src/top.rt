@@ -76,8 +76,8 @@ pub fn vcp<F: Files, U: Unit, O: Sink, E: Sink>(
         (outside (F.seen files.old) (U.seen unit.old) (O.seen out.old) (E.seen err.old))
         (outside (F.seen files.new) (U.seen unit.new) (O.seen out.new) (E.seen err.new)) result) }
 
-    // Completeness: where each file is held, nothing failed, the unit was honest and nothing is refused, the command is brought to its end,
-    // unless memory was wanted.
+    // Completeness: where each file is held, nothing failed, the unit was honest, if it is called, and nothing is refused, the command is
+    // brought to its end, unless memory was wanted.
     ensures complete { IfSome (form_of words.now) (λ f. (h : Held) → MayHold (about f) (F.seen files.old).held h → Completes (about f) h (TaskOf f h)
         (outside (F.seen files.old) (U.seen unit.old) (O.seen out.old) (E.seen err.old))
         (outside (F.seen files.new) (U.seen unit.new) (O.seen out.new) (E.seen err.new)) result) }
@@ -99,12 +99,12 @@ pub fn vcp<F: Files, U: Unit, O: Sink, E: Sink>(
     ensures accepted { AcceptedIsReleased }
     ensures stale { StaleShows }
 
-    // Of the instruction lists that `il` runs: the typed program that is run for one has, over every list of rows, the rows and the end of
-    // the accumulator's run.
+    // Of the instruction lists that `il` runs: the typed program by whose graphs one is run has, over every list of rows, the rows and the
+    // end of the accumulator's run.
     ensures listed { AccumulatorRuns }
 
-    // Of the scripts that `wire` runs: delivered numbers rise, nothing is delivered that is too old, and with right answers what is
-    // delivered unaltered is what the heard sender sent.
+    // Of the scripts that `wire` runs: in what is told delivered numbers rise and nothing is delivered that is too old, and with right words
+    // what is delivered unaltered is what the heard sender sent.
     ensures delivers { WiresDeliver }
 {
     accepted_outputs_are_released();

@@ -6,7 +6,7 @@ use Rattle.command_meaning.specs.Abouts.{about, image_word}
 use Rattle.command_meaning.specs.Answer.{printed as printed_answer}
 use Rattle.command_meaning.specs.Kinds.{prints}
 use Rattle.vcp_core.specs.Tasks.{Audited, AuditTask}
-use Rattle.vcp_core.proofs.AuditKinds.{audit_told, too_large_audit, weights_read}
+use Rattle.vcp_core.proofs.AuditKinds.{audit_told, too_large_audit, weights_caused, weights_read}
 use Rattle.vcp_core.proofs.Facts.{if_some_always, if_some_weaker}
 use Rattle.vcp_core.proofs.ImageLoaded.{image_not_bytes}
 use Rattle.vcp_core.proofs.Performing.{files_lost, quiet_lost, quiet_part, quiet_whole}
@@ -21,7 +21,8 @@ returns-in-Err g c unit =
     rw c.bytes.ensures
     (quiet_lost (about (audit m horizon)) ImageOf NotImage (λ h. Audited horizon m) (image_word m) files later _ c.in-Err.input (inl refl) (λ none. cc)
     (inr (inl refl)) c.load_image.ensures.held
-    c.in-Err.ensures.loads (λ r is. c.in-Err.ensures.whole r (ap Err is)) image_not_bytes (λ is. c.in-Err.ensures.unread (ap Err is)))
+    c.in-Err.ensures.loads (λ r is. c.in-Err.ensures.whole r (ap Err is)) image_not_bytes (λ is. c.in-Err.ensures.unread (ap Err is))
+    c.in-Err.ensures.caused)
 
 pub returns-in_err-write_audit-in-Ok-weights_of : goal.returns-in_err-write_audit-in-Ok-weights_of
 returns-in_err-write_audit-in-Ok-weights_of g c unit =
@@ -68,4 +69,5 @@ returns g c unit =
     (files_lost (about (audit m horizon)) (AuditTask m horizon) files later (λ none. cc) c.load_image.ensures.held (inr (inl refl)) _ m e
     (if_some_weaker files.held _ _ (λ h loads. too_large_audit m horizon h c.in-Ok.loaded files later _ e loads why) c.in-Ok.ensures.loads)
     (λ is. if_some_always files.held _ (λ h. inl c.in-Ok.ensures.ended)) (λ is. absurd (weights_read c.in-Ok.loaded horizon e why is))
-    (λ is. absurd (weights_read c.in-Ok.loaded horizon e why is)))
+    (λ is. absurd (weights_read c.in-Ok.loaded horizon e why is)) (weights_caused c.in-Ok.loaded horizon e why)
+    (inl (image_word m, inl refl, refl)))

@@ -4,7 +4,9 @@ use Rattle.signature_table.specs.Signatures.{Numbers}
 use Rattle.vcp_core.specs.declared.ending.Ending.TheVariants as ending
 use Rattle.vcp_core.specs.Tasks.{pair_job}
 use Rattle.vcp_core.proofs.TwoChannels.{came_to_end, gave_up, wrote}
+use Rattle.machine_run.specs.declared.fault.RunFault.TheVariants as given_up
 use Rattle.vcp_core.proofs.ImageLoaded.{table-is-of}
+use Rattle.vcp_core.proofs.JobFacts.{failed-causes}
 use Rattle.vcp_core.proofs.Performing.{still}
 use Rattle.vcp_core.proofs.channels.run_channels.Goals as goal
 
@@ -26,10 +28,19 @@ returns-in_err-last-clause-ran g c name =
     let q = err_from_is_err_and c.from_residual-in_err-last.result c.from_residual-in_err-last.ensures.1 in
     rw (q.1, q.2) (gave_up (pair_job name c.args.image.now c.args.rows.now) _ _ c.in_err-last.field-0.0 c.requires.behind c.in_err-last.ensures.ran)
 
-pub returns-in_err-last-clause-write : goal.returns-in_err-last-clause-write
-returns-in_err-last-clause-write g c is =
+-- ---- causes
+
+pub returns-in_err-other-clause-causes : goal.returns-in_err-other-clause-causes
+returns-in_err-other-clause-causes g c =
+    let q = err_from_is_err_and c.from_residual.result c.from_residual.ensures.1 in
+    rw (q.1, q.2) (failed-causes _ _ given_up.Memory (λ is. absurd cc))
+
+pub returns-in_err-last-clause-causes : goal.returns-in_err-last-clause-causes
+returns-in_err-last-clause-causes g c =
     let q = err_from_is_err_and c.from_residual-in_err-last.result c.from_residual-in_err-last.ensures.1 in
-    wrote c.args.image.now.graph c.args.image.now.table c.args.rows.now _ _ c.in_err-last.field-0.0 c.in_err-last.ensures.ran cc
+    rw (q.1, q.2)
+    (failed-causes _ _ c.in_err-last.field-0.0
+    (wrote c.args.image.now.graph c.args.image.now.table c.args.rows.now _ _ c.in_err-last.field-0.0 c.in_err-last.ensures.ran))
 
 -- ---- it came to its end
 
@@ -37,13 +48,14 @@ pub returns-clause-ran : goal.returns-clause-ran
 returns-clause-ran g c name =
     came_to_end (pair_job name c.args.image.now c.args.rows.now) _ _ c.in_ok-last.last c.ending_of.result c.ending_of.ensures.status c.in_ok-last.ensures.ran
 
-pub returns-clause-refused : goal.returns-clause-refused
-returns-clause-refused g c is =
-    let same : c.ending_of.result ≡ ending.Refused = cc in
-    c.in_ok-last.ensures.ran.0.rose (c.ending_of.ensures.refused same)
-
-pub returns-clause-stopped : goal.returns-clause-stopped
-returns-clause-stopped g c is =
-    let same : c.ending_of.result ≡ ending.Stopped = cc in
-    let (op, why, last) = c.ending_of.ensures.stopped same in
-    c.in_ok-last.ensures.stopped op why (ap Ok last)
+pub returns-clause-causes : goal.returns-clause-causes
+returns-clause-causes g c = record {
+  write = λ is. absurd cc;
+  refused = λ is.
+      let same : c.ending_of.result ≡ ending.Refused = cc in
+      c.in_ok-last.ensures.ran.0.rose (c.ending_of.ensures.refused same);
+  stopped = λ is.
+      let same : c.ending_of.result ≡ ending.Stopped = cc in
+      let (op, why, last) = c.ending_of.ensures.stopped same in
+      c.in_ok-last.ensures.stopped op why (ap Ok last);
+}

@@ -21,7 +21,8 @@ returns-in-Err g c unit =
     rw c.bytes.ensures
     (quiet_lost (about (check p)) TypedOf NotTyped (λ h t x. x ≡ prints (ok_text (size t))) (source_word p) files later _ c.in-Err.input (inl refl)
     (λ none. cc) (inr (inl refl)) c.load_typed.ensures.held
-    c.in-Err.ensures.loads (λ r is. c.in-Err.ensures.whole r (ap Err is)) typed_not_bytes (λ is. c.in-Err.ensures.unread (ap Err is)))
+    c.in-Err.ensures.loads (λ r is. c.in-Err.ensures.whole r (ap Err is)) typed_not_bytes (λ is. c.in-Err.ensures.unread (ap Err is))
+    c.in-Err.ensures.caused)
 
 pub returns-in_err-ok_line-in-Ok : goal.returns-in_err-ok_line-in-Ok
 returns-in_err-ok_line-in-Ok g c unit =

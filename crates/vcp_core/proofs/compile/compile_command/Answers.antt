@@ -22,7 +22,8 @@ returns-in-Err g c unit =
     rw c.bytes-in-Err.ensures
     (quiet_lost (about (compile p code)) TypedOf NotTyped (λ h t x. x ≡ compiles_to t code) (source_word p) files later _ c.in-Err.input (inl refl)
     (λ none. cc) (inr (inl refl)) c.load_typed.ensures.held
-    c.in-Err.ensures.loads (λ r is. c.in-Err.ensures.whole r (ap Err is)) typed_not_bytes (λ is. c.in-Err.ensures.unread (ap Err is)))
+    c.in-Err.ensures.loads (λ r is. c.in-Err.ensures.whole r (ap Err is)) typed_not_bytes (λ is. c.in-Err.ensures.unread (ap Err is))
+    c.in-Err.ensures.caused)
 
 pub returns-in_err-image-in-Ok : goal.returns-in_err-image-in-Ok
 returns-in_err-image-in-Ok g c unit =

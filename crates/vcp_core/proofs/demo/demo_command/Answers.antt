@@ -1,8 +1,8 @@
 use Rattle.std.proofs.Common.{ap, inl, inr, refl, Err}
 use Rattle.std.proofs.lemmas.Result.{err_from_is_err_and}
 use Rattle.vcp_words.specs.Forms.{demo}
-use Rattle.command_meaning.specs.Abouts.{about}
-use Rattle.vcp_core.specs.Demo.{DemoTask, made_name}
+use Rattle.command_meaning.specs.Abouts.{about, made_name}
+use Rattle.vcp_core.specs.Demo.{DemoTask}
 use Rattle.vcp_core.proofs.DemoRun.{source_lost}
 use Rattle.vcp_core.proofs.Performing.{input_performs, still, wanted_performs}
 use Rattle.vcp_core.proofs.demo.demo_command.Goals as goal
@@ -24,3 +24,4 @@ returns g c files =
     (λ h may. source_lost number files _ _ (still _) i 0 0 (λ e. c.in-Err.ensures.read (ap Err e))
     (rw c.in_ok-made.ensures.source at (c.in-Err.ensures.loads made_name 0)))
     (λ some. absurd (some refl)) (λ is. absurd (c.in-Err.ensures.read (ap Err is))) (λ is. absurd (c.in-Err.ensures.read (ap Err is)))
+    c.in-Err.ensures.caused (inr (inl refl))

@@ -4,14 +4,16 @@ use Rattle.input_rows.specs.RowsOf.{types_of}
 use Rattle.program_maker.specs.MadeRows.{made_rows}
 use Rattle.vcp_typed.specs.Fitting.{input_columns}
 use Rattle.vcp_words.specs.Forms.{demo}
-use Rattle.command_meaning.specs.Abouts.{about}
+use Rattle.command_meaning.specs.Abouts.{about, made_name}
 use Rattle.machine_run.specs.Moments.{moment}
+use Rattle.command_meaning.specs.Answer.{source}
 use Rattle.command_meaning.specs.Printing.{no_words}
 use Rattle.vcp_core.specs.declared.demo.Sums.{Sums}
-use Rattle.vcp_core.specs.Demo.{made_name, summary_job, summed_up, DemoTask}
+use Rattle.vcp_core.specs.Demo.{summary_job, summed_up, DemoTask}
 use Rattle.vcp_core.specs.MachineRun.{RunsTo}
 use Rattle.vcp_core.proofs.DemoRun.{no-sums, opened_comes, rows_lost, summed-shown}
 use Rattle.vcp_core.proofs.Performing.{input_performs, ran, run_ends, run_performs, still, wanted_performs}
+use Rattle.vcp_core.proofs.JobFacts.{as-itself}
 use Rattle.vcp_core.proofs.Loaded.{opens-as}
 use Rattle.vcp_core.proofs.PlainNames.{types-of-inputs}
 use Rattle.vcp_core.proofs.demo.run_made.Goals as goal
@@ -32,7 +34,8 @@ returns-in-Ok g c files =
     let j = summary_job number program c.in-Ok.rows in
     let before = moment (g.U.Unit.seen c.args.unit.now) (g.O.Sink.seen c.args.out.now) in
     let after = moment (g.U.Unit.seen c.run_program.new.unit) (g.O.Sink.seen c.run_program.new.out) in
-    let ended : RunsTo j before after c.run_program.result = c.run_program.ensures.ran made_name (summed_up number) no_words
+    let ended : RunsTo j before after c.run_program.result = c.run_program.ensures.ran (source program) made_name (summed_up number) no_words
+    (as-itself program c.in-Ok.rows)
     (λ h. summed-shown _ _ (λ (x : Sums). x.last) (λ (x : Sums). x.sum) (λ now rows kept. kept) no-sums number program c.in-Ok.rows h c.in-Ok.ensures.few) in
     let opens = opens-as c.args.rows (made_rows number) c.in_ok-columns.columns (input_columns program.slots) 0 0 (Ok c.in-Ok.rows) c.requires.rows
     c.in_ok-columns.ensures.columns (c.in-Ok.ensures.opens 0 0) in
@@ -42,7 +45,7 @@ returns-in-Ok g c files =
     (λ h may. ran (about (demo number)) files files before after (DemoTask number) j c.run_program.result refl
     (opened_comes number program c.in-Ok.rows 0 0 (c.requires.typed 0) opens) c.run_program.ensures.causes.write ended)
     (λ some. absurd (some refl)) (λ no. absurd cc) (λ calls. c.run_program.ensures.causes.stopped) c.run_program.ensures.causes.refused
-    c.run_program.ensures.causes.write)
+    c.run_program.ensures.causes.write (inr (inl refl)))
 
 pub returns : goal.returns
 returns g c files =
@@ -54,3 +57,4 @@ returns g c files =
     input_performs (about (demo number)) (λ h. DemoTask number) files files refl (λ none. refl) (inr (inl refl)) _ made_name i
     (λ h may. rows_lost number files _ _ (still _) program i 0 0 (c.requires.typed 0) (λ e. c.in-Err.ensures.read (ap Err e)) opens)
     (λ some. absurd (some refl)) (λ is. absurd (c.in-Err.ensures.read (ap Err is))) (λ is. absurd (c.in-Err.ensures.read (ap Err is)))
+    c.in-Err.ensures.caused (inr (inl refl))

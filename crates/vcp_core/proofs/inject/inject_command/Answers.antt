@@ -15,7 +15,7 @@ use Rattle.vcp_core.proofs.ImageLoaded.{image_not_bytes, table-is-of}
 use Rattle.vcp_core.proofs.JudgedTasks.{LoadsAt, OnLeft, campaign_of, campaign_performs, groups_come as groups_come_to, judged_to as judged_so_far}
 use Rattle.vcp_core.proofs.JudgedTasks.{judged_whole as judged_all, lost_for, rows_are_read, rows_lost as rows_lost_all, rows_named}
 use Rattle.vcp_core.proofs.JudgedTasks.{script_lost as script_lost_all, script_named as script_named_of, script_taken as script_taken_all}
-use Rattle.vcp_core.proofs.LoadedRows.{rows_unloaded}
+use Rattle.vcp_core.proofs.LoadedRows.{rows_may, rows_unloaded}
 use Rattle.vcp_core.proofs.Performing.{files_lost, files_wanted, quiet_lost, whole_performs}
 use Rattle.vcp_core.proofs.inject.inject_command.Goals as goal
 
@@ -35,7 +35,8 @@ returns-in-Err g c =
     rw c.bytes.ensures
     (quiet_lost (about f) ImageOf NotImage (λ h i. TakenRows (OnLeft rows s h i) rows h (graph_columns i.graph)) (image_word m) files mid _
     c.in-Err.input (inl refl) (λ none. cc) (inr (inl refl)) c.load_image.ensures.held
-    c.in-Err.ensures.loads (λ r is. c.in-Err.ensures.whole r (ap Err is)) image_not_bytes (λ is. c.in-Err.ensures.unread (ap Err is)))
+    c.in-Err.ensures.loads (λ r is. c.in-Err.ensures.whole r (ap Err is)) image_not_bytes (λ is. c.in-Err.ensures.unread (ap Err is))
+    c.in-Err.ensures.caused)
 
 pub returns-in_err-columns : goal.returns-in_err-columns
 returns-in_err-columns g c =
@@ -61,12 +62,13 @@ returns-in-Err-load_rows g c =
     let later = g.F.Files.seen c.load_rows.new.files in
     rw c.rows_name-name.ensures
     (rows_unloaded ImageOf NotImage (λ i. graph_columns i.graph) (about f) (image_word m) rows (λ none. cc) (inr (inl refl)) (rows_named m rows s)
-    (λ h. OnLeft rows s h)
+    (λ n among. among) (λ h. OnLeft rows s h)
     files mid later c.in-Ok.loaded c.in_ok-columns.columns
     c.in_ok-columns.ensures.columns c.load_image.ensures.held c.load_rows.ensures.held c.in-Ok.ensures.loads _
     c.in-Err-load_rows.input c.load_image.ensures.later c.load_image.ensures.broken_later c.in-Ok.ensures.ended c.in-Err-load_rows.ensures.loads
     (λ is. c.in-Err-load_rows.ensures.begun (ap Err is)) (λ is. c.in-Err-load_rows.ensures.unread (ap Err is))
-    (λ r is other. c.in-Err-load_rows.ensures.whole r (ap Err is) other) (λ is. c.in-Err-load_rows.ensures.long (ap Err is)))
+    (λ r is other. c.in-Err-load_rows.ensures.whole r (ap Err is) other) (λ is. c.in-Err-load_rows.ensures.long (ap Err is))
+    c.in-Err-load_rows.ensures.caused)
 
 pub returns-in-Err-all_rows : goal.returns-in-Err-all_rows
 returns-in-Err-all_rows g c =
@@ -88,7 +90,8 @@ returns-in-Err-all_rows g c =
     (if_some_both files.held mid.held _ (λ h. rows_outcome rows h c.in_ok-columns.columns ≡ o) (LoadsAt m rows i o) c.load_image.ensures.held
     (λ h l is. (l, ap (rows_outcome rows h) (sym c.in_ok-columns.ensures.columns) ∙ is)) c.in-Ok.ensures.loads c.in-Ok-load_rows.ensures.loads))
     (λ is. if_some_always files.held _ (λ h. inl end)) (λ is. absurd (rows_are_read o i.graph e c.in-Err-all_rows.ensures.fault is))
-    (λ is. absurd (rows_are_read o i.graph e c.in-Err-all_rows.ensures.fault is)))
+    (λ is. absurd (rows_are_read o i.graph e c.in-Err-all_rows.ensures.fault is)) c.in-Err-all_rows.ensures.caused
+    (rows_may (about f) rows (rows_named m rows s) (λ n among. among)))
 
 -- ---- there is no script
 
@@ -121,7 +124,7 @@ returns-in-Err-load_script g c =
     (λ h lost. script_taken_all m rows s h i.graph later.broken final.broken e final.rest (λ r why. c.in-Err-load_script.ensures.whole r (ap Err why)) lost is)
     c.in-Err-load_script.ensures.loads))
     (λ is. omega (arith, c.load_image.ensures.later, c.load_rows.ensures.later, c.in-Err-load_script.ensures.unread (ap Err is)))
-    (λ is. (script_word s, script_named_of m rows s, refl)))
+    (λ is. (script_word s, script_named_of m rows s, refl)) c.in-Err-load_script.ensures.caused (inl (script_word s, script_named_of m rows s, refl)))
 
 -- ---- the groups of faults
 

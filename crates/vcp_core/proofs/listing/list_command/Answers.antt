@@ -24,7 +24,8 @@ returns-in-Err g c unit =
     rw c.bytes.ensures
     (quiet_lost (about (list m)) ImageOf NotImage (λ h i x. x ≡ prints (listing i.graph i.table)) (image_word m) files later _ c.in-Err.input (inl refl)
     (λ none. cc) (inr (inl refl)) c.load_image.ensures.held
-    c.in-Err.ensures.loads (λ r is. c.in-Err.ensures.whole r (ap Err is)) image_not_bytes (λ is. c.in-Err.ensures.unread (ap Err is)))
+    c.in-Err.ensures.loads (λ r is. c.in-Err.ensures.whole r (ap Err is)) image_not_bytes (λ is. c.in-Err.ensures.unread (ap Err is))
+    c.in-Err.ensures.caused)
 
 pub returns-in_err-list_operations-in-Ok : goal.returns-in_err-list_operations-in-Ok
 returns-in_err-list_operations-in-Ok g c unit =

@@ -1,6 +1,7 @@
 use Rattle.std.proofs.Common.{ap, sym, Err}
 use Rattle.std.proofs.lemmas.Result.{err_from_is_err_and}
 use Rattle.vcp_inputs.specs.RowsOutcome.{source_outcome}
+use Rattle.vcp_inputs.proofs.Causes.{row_caused}
 use Rattle.vcp_core.proofs.JudgedTasks.{row_refused, not_opened}
 use Rattle.vcp_core.proofs.loading.whole_rows.Goals as goal
 
@@ -21,3 +22,8 @@ returns-clause-rows c = record {
   rows_are = sym c.in_ok-list.ensures.rows;
   whole = c.in_ok-list.ensures.whole;
 }
+
+pub returns-in_err-list-clause-caused : goal.returns-in_err-list-clause-caused
+returns-in_err-list-clause-caused c =
+    let p = err_from_is_err_and c.from_residual.result c.from_residual.ensures.1 in
+    rw (p.1, p.2) (row_caused _)

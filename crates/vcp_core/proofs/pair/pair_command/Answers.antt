@@ -13,7 +13,7 @@ use Rattle.vcp_core.specs.Tasks.{Apart, Compared, PairTask, graph_columns, pair_
 use Rattle.vcp_core.proofs.TwoChannels.{ApartImage, Comparing, apart_comes, compared, loads_apart, performs_by, seed_refused}
 use Rattle.vcp_core.proofs.Facts.{if_some_always, if_some_weaker}
 use Rattle.vcp_core.proofs.ImageLoaded.{image_not_bytes, types-width}
-use Rattle.vcp_core.proofs.LoadedRows.{opened_comes, rows_unloaded, rows_unopened}
+use Rattle.vcp_core.proofs.LoadedRows.{opened_comes, rows_may, rows_unloaded, rows_unopened}
 use Rattle.vcp_core.proofs.Performing.{files_lost, files_run, files_wanted, quiet_lost, run_ends}
 use Rattle.vcp_core.proofs.pair.pair_command.Goals as goal
 
@@ -36,7 +36,8 @@ returns-in-Err g c =
     rw c.bytes.ensures
     (quiet_lost (about f) ImageOf NotImage (λ h. Apart m c.args.seed (Compared rows h)) (image_word m) files mid _ c.in-Err.input (inl refl) (λ none. cc) (inr (inl refl))
     c.load_image.ensures.held c.in-Err.ensures.loads (λ r is. c.in-Err.ensures.whole r (ap Err is)) image_not_bytes
-    (λ is. c.in-Err.ensures.unread (ap Err is)))
+    (λ is. c.in-Err.ensures.unread (ap Err is))
+    c.in-Err.ensures.caused)
 
 pub returns-in_err-columns : goal.returns-in_err-columns
 returns-in_err-columns g c =
@@ -60,7 +61,7 @@ returns-then-seed g c =
     rw c.bytes-then-seed.ensures
     (files_lost (about f) (PairTask m rows seed) files mid (λ none. cc) c.load_image.ensures.held (inr (inl refl)) _ m (input.Refused refusal.Seed)
     (if_some_weaker files.held _ _ (λ h loads. seed_refused m rows seed h c.in-Ok.loaded files mid _ loads same) c.in-Ok.ensures.loads)
-    (λ is. if_some_always files.held _ (λ h. inl c.in-Ok.ensures.ended)) (λ is. cc) (λ is. absurd cc))
+    (λ is. if_some_always files.held _ (λ h. inl c.in-Ok.ensures.ended)) (λ is. cc) (λ is. absurd cc) tt (inl (image_word m, inl refl, refl)))
 
 -- ---- there is nothing of ROWS
 
@@ -77,13 +78,14 @@ returns-in-Err-load_rows g c =
     rw c.rows_name-name.ensures
     (performs_by (about f) _ (PairTask m rows seed) (apart_comes m rows seed) files later _ _ _ _
     (rows_unloaded (ApartImage seed) NotImage (λ i. graph_columns i.graph) (about f) (image_word m) rows (λ none. cc) (inr (inl refl)) (λ w among. inr among)
-    (Comparing rows)
+    (λ n among. among) (Comparing rows)
     files mid later c.in-Ok.loaded c.in_ok-columns.columns
     c.in_ok-columns.ensures.columns c.load_image.ensures.held c.load_rows.ensures.held
     (loads_apart m seed files.held files.broken mid.broken c.in-Ok.loaded apart c.in-Ok.ensures.loads) _
     c.in-Err-load_rows.input c.load_image.ensures.later c.load_image.ensures.broken_later c.in-Ok.ensures.ended c.in-Err-load_rows.ensures.loads
     (λ is. c.in-Err-load_rows.ensures.begun (ap Err is)) (λ is. c.in-Err-load_rows.ensures.unread (ap Err is))
-    (λ r is other. c.in-Err-load_rows.ensures.whole r (ap Err is) other) (λ is. c.in-Err-load_rows.ensures.long (ap Err is))))
+    (λ r is other. c.in-Err-load_rows.ensures.whole r (ap Err is) other) (λ is. c.in-Err-load_rows.ensures.long (ap Err is))
+    c.in-Err-load_rows.ensures.caused))
 
 pub returns : goal.returns
 returns g c =
@@ -98,12 +100,12 @@ returns g c =
     rw c.rows_name-name.ensures
     (performs_by (about f) _ (PairTask m rows seed) (apart_comes m rows seed) files later _ _ _ _
     (rows_unopened (ApartImage seed) NotImage (λ i. graph_columns i.graph) (about f) (image_word m) rows (λ none. cc) (inr (inl refl)) (λ w among. inr among)
-    (Comparing rows)
+    (λ n among. among) (Comparing rows)
     files mid later c.in-Ok.loaded c.in_ok-columns.columns
     c.in_ok-columns.ensures.columns c.load_image.ensures.held c.load_rows.ensures.held
     (loads_apart m seed files.held files.broken mid.broken c.in-Ok.loaded apart c.in-Ok.ensures.loads)
     c.in-Ok-load_rows.inputs (c.in-Ok-load_rows.ensures.ended c.in-Ok.ensures.ended) c.in-Ok-load_rows.ensures.loads _ c.in-Err-open.input
-    (λ is. c.in-Err-open.ensures.read (ap Err is)) (c.in-Err-open.ensures.opens files.broken later.broken)))
+    (λ is. c.in-Err-open.ensures.read (ap Err is)) (c.in-Err-open.ensures.opens files.broken later.broken) c.in-Err-open.ensures.caused))
 
 -- ---- the run
 
@@ -127,13 +129,14 @@ returns-in-Ok-open g c =
     c.run_channels.result (λ e is. run_ends e)
     (if_some_weaker files.held _ _
     (λ h comes. compared j before after (about f) (PairTask m rows seed h) files later c.run_channels.result refl
-    (apart_comes m rows seed h (compares j) comes) c.run_channels.ensures.write ended)
+    (apart_comes m rows seed h (compares j) comes) c.run_channels.ensures.causes.write ended)
     (opened_comes (ApartImage seed) NotImage (λ i. graph_columns i.graph) (about f) (image_word m) rows (λ none. cc) (inr (inl refl)) (λ w among. inr among)
-    (Comparing rows)
+    (λ n among. among) (Comparing rows)
     files mid later c.in-Ok.loaded c.in_ok-columns.columns
     c.in_ok-columns.ensures.columns c.load_image.ensures.held c.load_rows.ensures.held
     (loads_apart m seed files.held files.broken mid.broken c.in-Ok.loaded apart c.in-Ok.ensures.loads)
     c.in-Ok-load_rows.inputs (c.in-Ok-load_rows.ensures.ended c.in-Ok.ensures.ended) c.in-Ok-load_rows.ensures.loads c.in-Ok-open.rows (λ h. compares j)
     (c.in-Ok-open.ensures.opens 0 0) (λ h. refl)))
-    (c.in-Ok-load_rows.ensures.ended c.in-Ok.ensures.ended) (λ no. absurd cc) (λ calls. c.run_channels.ensures.stopped) c.run_channels.ensures.refused
-    c.run_channels.ensures.write)
+    (c.in-Ok-load_rows.ensures.ended c.in-Ok.ensures.ended) (λ no. absurd cc) (λ calls. c.run_channels.ensures.causes.stopped) c.run_channels.ensures.causes.refused
+    c.run_channels.ensures.causes.write
+    (rows_may (about f) rows (λ w among. inr among) (λ n among. among)))

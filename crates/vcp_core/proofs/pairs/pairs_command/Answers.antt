@@ -11,13 +11,13 @@ use Rattle.vcp_inputs.specs.RowsOutcome.{rows_outcome, source_outcome}
 use Rattle.vcp_inputs.specs.Scripts.{NotScript}
 use Rattle.command_meaning.specs.Abouts.{about, image_word, script_word}
 use Rattle.machine_run.specs.Moments.{moment}
-use Rattle.vcp_core.specs.Tasks.{Apart, HeldRows, PairsTask, graph_columns}
+use Rattle.vcp_core.specs.Tasks.{Apart, PairsRows, PairsTask, graph_columns}
 use Rattle.vcp_core.proofs.Facts.{if_some_always, if_some_weaker, if_some_both, if_some_same}
-use Rattle.vcp_core.proofs.HeldTasks.{LoadsAt, OnLeft, groups_come as groups_come_to, held_to as held_so_far, held_whole as held_all, none_is_read}
-use Rattle.vcp_core.proofs.HeldTasks.{rows_lost as rows_lost_all, rows_named, script_lost as script_lost_all, script_named as script_named_of, script_taken as script_taken_all}
+use Rattle.vcp_core.proofs.PairsTasks.{LoadsAt, OnLeft, groups_come as groups_come_to, pairs_to as pairs_so_far, pairs_whole as pairs_all, none_is_read}
+use Rattle.vcp_core.proofs.PairsTasks.{rows_lost as rows_lost_all, rows_named, script_lost as script_lost_all, script_named as script_named_of, script_taken as script_taken_all}
 use Rattle.vcp_core.proofs.ImageLoaded.{image_not_bytes, table-is-of}
 use Rattle.vcp_core.proofs.JudgedTasks.{campaign_of, campaign_performs, lost_for}
-use Rattle.vcp_core.proofs.LoadedRows.{rows_unloaded}
+use Rattle.vcp_core.proofs.LoadedRows.{rows_may, rows_unloaded}
 use Rattle.vcp_core.proofs.Performing.{files_lost, files_wanted, quiet_lost, whole_performs}
 use Rattle.vcp_core.proofs.TwoChannels.{ApartImage, apart_by, loads_apart, performs_by, seeds_same}
 use Rattle.vcp_core.proofs.pairs.pairs_command.Goals as goal
@@ -41,9 +41,10 @@ returns-in-Err g c =
     let files = g.F.Files.seen c.args.files.now in
     let mid = g.F.Files.seen c.load_image.new.files in
     rw c.bytes.ensures
-    (quiet_lost (about f) ImageOf NotImage (λ h. Apart m seed (HeldRows rows s h)) (image_word m) files mid _ c.in-Err.input (inl refl) (λ none. cc)
+    (quiet_lost (about f) ImageOf NotImage (λ h. Apart m seed (PairsRows rows s h)) (image_word m) files mid _ c.in-Err.input (inl refl) (λ none. cc)
     (inr (inl refl)) c.load_image.ensures.held c.in-Err.ensures.loads (λ r is. c.in-Err.ensures.whole r (ap Err is)) image_not_bytes
-    (λ is. c.in-Err.ensures.unread (ap Err is)))
+    (λ is. c.in-Err.ensures.unread (ap Err is))
+    c.in-Err.ensures.caused)
 
 pub returns-then-seed : goal.returns-then-seed
 returns-then-seed g c =
@@ -58,8 +59,8 @@ returns-then-seed g c =
     rw c.bytes-then-seed.ensures
     (files_lost (about f) (PairsTask m rows seed s) files mid (λ none. cc) c.load_image.ensures.held (inr (inl refl)) _ m (input.Refused refusal.Seed)
     (if_some_weaker files.held _ _
-    (λ h loads. seeds_same (about f) m seed (HeldRows rows s h) h c.in-Ok.loaded files mid _ loads same) c.in-Ok.ensures.loads)
-    (λ is. if_some_always files.held _ (λ h. inl c.in-Ok.ensures.ended)) (λ is. cc) (λ is. absurd cc))
+    (λ h loads. seeds_same (about f) m seed (PairsRows rows s h) h c.in-Ok.loaded files mid _ loads same) c.in-Ok.ensures.loads)
+    (λ is. if_some_always files.held _ (λ h. inl c.in-Ok.ensures.ended)) (λ is. cc) (λ is. absurd cc) tt (inl (image_word m, inl refl, refl)))
 
 pub returns-in_err-columns : goal.returns-in_err-columns
 returns-in_err-columns g c =
@@ -87,15 +88,16 @@ returns-in-Err-load_rows g c =
     let later = g.F.Files.seen c.load_rows.new.files in
     let apart : seed ≢ c.in-Ok.loaded.table.seed = λ same. c.if-seed.false (c.seed.ensures.value ∙ sym same) in
     rw c.rows_name-name.ensures
-    (performs_by (about f) _ (PairsTask m rows seed s) (λ h task. apart_by m seed (HeldRows rows s h) (h m) task) files later _ _ _ _
+    (performs_by (about f) _ (PairsTask m rows seed s) (λ h task. apart_by m seed (PairsRows rows s h) (h m) task) files later _ _ _ _
     (rows_unloaded (ApartImage seed) NotImage (λ i. graph_columns i.graph) (about f) (image_word m) rows (λ none. cc) (inr (inl refl))
-    (rows_named m rows seed s) (λ h. OnLeft rows s h)
+    (rows_named m rows seed s) (λ n among. among) (λ h. OnLeft rows s h)
     files mid later c.in-Ok.loaded c.in_ok-columns.columns
     c.in_ok-columns.ensures.columns c.load_image.ensures.held c.load_rows.ensures.held
     (loads_apart m seed files.held files.broken mid.broken c.in-Ok.loaded apart c.in-Ok.ensures.loads) _
     c.in-Err-load_rows.input c.load_image.ensures.later c.load_image.ensures.broken_later c.in-Ok.ensures.ended c.in-Err-load_rows.ensures.loads
     (λ is. c.in-Err-load_rows.ensures.begun (ap Err is)) (λ is. c.in-Err-load_rows.ensures.unread (ap Err is))
-    (λ r is other. c.in-Err-load_rows.ensures.whole r (ap Err is) other) (λ is. c.in-Err-load_rows.ensures.long (ap Err is))))
+    (λ r is other. c.in-Err-load_rows.ensures.whole r (ap Err is) other) (λ is. c.in-Err-load_rows.ensures.long (ap Err is))
+    c.in-Err-load_rows.ensures.caused))
 
 pub returns-in-Err-whole_rows : goal.returns-in-Err-whole_rows
 returns-in-Err-whole_rows g c =
@@ -120,7 +122,8 @@ returns-in-Err-whole_rows g c =
     (if_some_both files.held mid.held _ (λ h. rows_outcome rows h c.in_ok-columns.columns ≡ o) (LoadsAt m rows i o) c.load_image.ensures.held
     (λ h l is. (l, ap (rows_outcome rows h) (sym c.in_ok-columns.ensures.columns) ∙ is)) c.in-Ok.ensures.loads c.in-Ok-load_rows.ensures.loads))
     (λ is. if_some_always files.held _ (λ h. inl end)) (λ is. absurd (none_is_read o e c.in-Err-whole_rows.ensures.fault is))
-    (λ is. absurd (none_is_read o e c.in-Err-whole_rows.ensures.fault is)))
+    (λ is. absurd (none_is_read o e c.in-Err-whole_rows.ensures.fault is)) c.in-Err-whole_rows.ensures.caused
+    (rows_may (about f) rows (rows_named m rows seed s) (λ n among. among)))
 
 -- ---- there is no script
 
@@ -156,7 +159,8 @@ returns-in-Err-load_script g c =
     lost is)
     c.in-Err-load_script.ensures.loads))
     (λ is. omega (arith, c.load_image.ensures.later, c.load_rows.ensures.later, c.in-Err-load_script.ensures.unread (ap Err is)))
-    (λ is. (script_word s, script_named_of m rows seed s, refl)))
+    (λ is. (script_word s, script_named_of m rows seed s, refl)) c.in-Err-load_script.ensures.caused
+    (inl (script_word s, script_named_of m rows seed s, refl)))
 
 -- ---- the groups of faults
 
@@ -200,7 +204,7 @@ returns-in_err-run_pairs g c =
     (c.load_script.ensures.held ∙ c.load_rows.ensures.held ∙ c.load_image.ensures.held) before after
     c.in-Ok-load_script.ensures.ended (λ no. absurd cc) e
     (if_some_both files.held later.held (LoadsAt m rows i o) _ _ (c.load_rows.ensures.held ∙ c.load_image.ensures.held)
-    (λ h (l, same) found. held_so_far (campaign_of i c.in-Ok-whole_rows.list c.in-Ok-load_script.groups) (g.U.Unit.seen c.args.unit.now)
+    (λ h (l, same) found. pairs_so_far (campaign_of i c.in-Ok-whole_rows.list c.in-Ok-load_script.groups) (g.U.Unit.seen c.args.unit.now)
     (g.U.Unit.seen c.run_pairs.new.unit) (g.O.Sink.seen c.args.out.now)
     (g.O.Sink.seen c.run_pairs.new.out) m rows seed s h files final
     (groups_come_to m rows seed s h files final i apart o l same c.in-Ok-whole_rows.list c.in-Ok-whole_rows.ensures.rows c.in-Ok-load_script.groups found) e
@@ -231,7 +235,7 @@ returns g c =
     (c.load_script.ensures.held ∙ c.load_rows.ensures.held ∙ c.load_image.ensures.held) before after
     c.in-Ok-load_script.ensures.ended (inl refl) (λ no. absurd cc)
     (if_some_both files.held later.held (LoadsAt m rows i o) _ _ (c.load_rows.ensures.held ∙ c.load_image.ensures.held)
-    (λ h (l, same) found. held_all (campaign_of i c.in-Ok-whole_rows.list c.in-Ok-load_script.groups) (g.U.Unit.seen c.args.unit.now)
+    (λ h (l, same) found. pairs_all (campaign_of i c.in-Ok-whole_rows.list c.in-Ok-load_script.groups) (g.U.Unit.seen c.args.unit.now)
     (g.U.Unit.seen c.run_pairs.new.unit) (g.O.Sink.seen c.args.out.now)
     (g.O.Sink.seen c.run_pairs.new.out) m rows seed s h files final
     (groups_come_to m rows seed s h files final i apart o l same c.in-Ok-whole_rows.list c.in-Ok-whole_rows.ensures.rows c.in-Ok-load_script.groups found)

@@ -12,7 +12,7 @@ use Rattle.command_meaning.specs.Kinds.{answers}
 use Rattle.vcp_core.specs.Tasks.{plain_answer as plain_answer_to, PlainTask}
 use Rattle.vcp_core.proofs.Facts.{if_some_weaker}
 use Rattle.vcp_core.proofs.Loaded.{typed_not_bytes}
-use Rattle.vcp_core.proofs.LoadedRows.{opened_comes, rows_unloaded, rows_unopened}
+use Rattle.vcp_core.proofs.LoadedRows.{opened_comes, rows_may, rows_unloaded, rows_unopened}
 use Rattle.vcp_core.proofs.Performing.{files_run, files_wanted, quiet_lost}
 use Rattle.vcp_core.proofs.PlainKinds.{plain_ends, plain_refuses, plain_reaches}
 use Rattle.vcp_core.proofs.PlainNames.{types-of-inputs}
@@ -35,7 +35,8 @@ returns-in-Err g c unit =
     (quiet_lost (about f) TypedOf NotTyped (λ h t. TakenRows (λ left x. x ≡ answers (plain_answer_to (rows_name rows) t left)) rows h
     (input_columns t.slots)) (source_word p) files mid _
     c.in-Err.input (inl refl) (λ none. cc) (inr (inl refl)) c.load_typed.ensures.held
-    c.in-Err.ensures.loads (λ r is. c.in-Err.ensures.whole r (ap Err is)) typed_not_bytes (λ is. c.in-Err.ensures.unread (ap Err is)))
+    c.in-Err.ensures.loads (λ r is. c.in-Err.ensures.whole r (ap Err is)) typed_not_bytes (λ is. c.in-Err.ensures.unread (ap Err is))
+    c.in-Err.ensures.caused)
 
 pub returns-in_err-columns : goal.returns-in_err-columns
 returns-in_err-columns g c unit =
@@ -59,12 +60,13 @@ returns-in-Err-load_rows g c unit =
     let later = g.F.Files.seen c.load_rows.new.files in
     rw c.rows_name-name.ensures
     (rows_unloaded TypedOf NotTyped (λ t. input_columns t.slots) (about f) (source_word p) rows (λ none. cc) (inr (inl refl)) (λ w among. inr among)
-    (λ h t left x. x ≡ answers (plain_answer_to (rows_name rows) t left))
+    (λ n among. among) (λ h t left x. x ≡ answers (plain_answer_to (rows_name rows) t left))
     files mid later c.in-Ok.program c.in_ok-columns.columns
     c.in_ok-columns.ensures.columns c.load_typed.ensures.held c.load_rows.ensures.held c.in-Ok.ensures.loads _
     c.in-Err-load_rows.input c.load_typed.ensures.later c.load_typed.ensures.broken_later c.in-Ok.ensures.ended c.in-Err-load_rows.ensures.loads
     (λ is. c.in-Err-load_rows.ensures.begun (ap Err is)) (λ is. c.in-Err-load_rows.ensures.unread (ap Err is))
-    (λ r is other. c.in-Err-load_rows.ensures.whole r (ap Err is) other) (λ is. c.in-Err-load_rows.ensures.long (ap Err is)))
+    (λ r is other. c.in-Err-load_rows.ensures.whole r (ap Err is) other) (λ is. c.in-Err-load_rows.ensures.long (ap Err is))
+    c.in-Err-load_rows.ensures.caused)
 
 pub returns : goal.returns
 returns g c unit =
@@ -76,11 +78,11 @@ returns g c unit =
     let later = g.F.Files.seen c.load_rows.new.files in
     rw c.rows_name-name.ensures
     (rows_unopened TypedOf NotTyped (λ t. input_columns t.slots) (about f) (source_word p) rows (λ none. cc) (inr (inl refl)) (λ w among. inr among)
-    (λ h t left x. x ≡ answers (plain_answer_to (rows_name rows) t left))
+    (λ n among. among) (λ h t left x. x ≡ answers (plain_answer_to (rows_name rows) t left))
     files mid later c.in-Ok.program c.in_ok-columns.columns
     c.in_ok-columns.ensures.columns c.load_typed.ensures.held c.load_rows.ensures.held c.in-Ok.ensures.loads
     c.in-Ok-load_rows.inputs (c.in-Ok-load_rows.ensures.ended c.in-Ok.ensures.ended) c.in-Ok-load_rows.ensures.loads _ c.in-Err-open.input
-    (λ is. c.in-Err-open.ensures.read (ap Err is)) (c.in-Err-open.ensures.opens files.broken later.broken))
+    (λ is. c.in-Err-open.ensures.read (ap Err is)) (c.in-Err-open.ensures.opens files.broken later.broken) c.in-Err-open.ensures.caused)
 
 -- ---- the run
 
@@ -105,10 +107,11 @@ returns-in-Ok-open g c unit =
     (if_some_weaker files.held _ _
     (λ h comes. plain_reaches t left before after p rows (PlainTask p rows h) files later unit comes r prints c.print_run.ensures.write)
     (opened_comes TypedOf NotTyped (λ t. input_columns t.slots) (about f) (source_word p) rows (λ none. cc) (inr (inl refl)) (λ w among. inr among)
-    (λ h t left x. x ≡ answers (plain_answer_to (rows_name rows) t left))
+    (λ n among. among) (λ h t left x. x ≡ answers (plain_answer_to (rows_name rows) t left))
     files mid later c.in-Ok.program c.in_ok-columns.columns
     c.in_ok-columns.ensures.columns c.load_typed.ensures.held c.load_rows.ensures.held c.in-Ok.ensures.loads
     c.in-Ok-load_rows.inputs (c.in-Ok-load_rows.ensures.ended c.in-Ok.ensures.ended) c.in-Ok-load_rows.ensures.loads left
     (λ h. answers (plain_answer_to (rows_name rows) t left)) (c.in-Ok-open.ensures.opens 0 0) (λ h. refl)))
     (c.in-Ok-load_rows.ensures.ended c.in-Ok.ensures.ended) (λ no. refl) (λ calls is. absurd cc)
-    (λ is. absurd (plain_refuses t left before after r prints is)) c.print_run.ensures.write)
+    (λ is. absurd (plain_refuses t left before after r prints is)) c.print_run.ensures.write
+    (rows_may (about f) rows (λ w among. inr among) (λ n among. among)))

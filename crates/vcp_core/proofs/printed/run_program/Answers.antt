@@ -1,8 +1,7 @@
 use Rattle.std.proofs.lemmas.Result.{err_from_is_err_and}
 use Rattle.machine_run.specs.declared.fault.RunFault.TheVariants as given_up
-use Rattle.command_meaning.specs.Answer.{source}
 use Rattle.vcp_words.specs.Forms.{as_code}
-use Rattle.vcp_core.proofs.JobFacts.{failed-causes, source-carried, width-is}
+use Rattle.vcp_core.proofs.JobFacts.{carried-as, failed-causes, width-is}
 use Rattle.vcp_core.proofs.printed.run_program.Goals as goal
 
 pub run_printed-requires-clause-width : goal.run_printed-requires-clause-width
@@ -10,9 +9,9 @@ run_printed-requires-clause-width g c =
     width-is c.in_ok-graph.graph c.args.program.now c.args.rows.now.types c.in_ok-graph.ensures.means c.requires.types
 
 pub returns-clause-ran : goal.returns-clause-ran
-returns-clause-ran g c name p words shows =
-    c.run_printed.ensures.ran (source c.args.program.now) (as_code c.args.code) name p words
-    (source-carried c.args.program.now (as_code c.args.code) c.args.rows.now c.in_ok-graph.graph c.in_ok-table.table c.in_ok-graph.ensures
+returns-clause-ran g c s name p words stands shows =
+    c.run_printed.ensures.ran s (as_code c.args.code) name p words
+    (carried-as c.args.program.now (as_code c.args.code) c.args.rows.now c.in_ok-graph.graph c.in_ok-table.table s stands c.in_ok-graph.ensures
     c.in_ok-table.ensures.numbers c.requires.types c.requires.typed)
     (shows c.in_ok-graph.graph)
 

@@ -13,11 +13,12 @@ use Rattle.command_meaning.specs.Kinds.{runs as runs_to}
 use Rattle.command_meaning.specs.Printing.{every_row, no_words}
 use Rattle.command_meaning.specs.Reports.{subject_outputs}
 use Rattle.vcp_core.specs.MachineRun.{RunsTo}
+use Rattle.vcp_core.proofs.JobFacts.{as-itself}
 use Rattle.vcp_core.proofs.PrintedRun.{rows-shown}
 use Rattle.vcp_core.specs.Tasks.{rows_job, RunTask}
 use Rattle.vcp_core.proofs.Facts.{if_some_weaker}
 use Rattle.vcp_core.proofs.Loaded.{typed_not_bytes}
-use Rattle.vcp_core.proofs.LoadedRows.{opened_comes, rows_unloaded, rows_unopened}
+use Rattle.vcp_core.proofs.LoadedRows.{opened_comes, rows_may, rows_unloaded, rows_unopened}
 use Rattle.vcp_core.proofs.Performing.{files_run, files_wanted, quiet_lost, ran, run_ends}
 use Rattle.vcp_core.proofs.PlainNames.{types-of-inputs}
 use Rattle.vcp_core.proofs.run.run_command.Goals as goal
@@ -40,7 +41,8 @@ returns-in-Err g c =
     (quiet_lost (about f) TypedOf NotTyped (λ h t. TakenRows (λ left x. x ≡ runs_to (rows_job (rows_name rows) code (source t) left)) rows h
     (input_columns t.slots)) (source_word p) files mid _
     c.in-Err.input (inl refl) (λ none. cc) (inr (inl refl)) c.load_typed.ensures.held
-    c.in-Err.ensures.loads (λ r is. c.in-Err.ensures.whole r (ap Err is)) typed_not_bytes (λ is. c.in-Err.ensures.unread (ap Err is)))
+    c.in-Err.ensures.loads (λ r is. c.in-Err.ensures.whole r (ap Err is)) typed_not_bytes (λ is. c.in-Err.ensures.unread (ap Err is))
+    c.in-Err.ensures.caused)
 
 pub returns-in_err-columns : goal.returns-in_err-columns
 returns-in_err-columns g c =
@@ -66,12 +68,13 @@ returns-in-Err-load_rows g c =
     let later = g.F.Files.seen c.load_rows.new.files in
     rw c.rows_name-name.ensures
     (rows_unloaded TypedOf NotTyped (λ t. input_columns t.slots) (about f) (source_word p) rows (λ none. cc) (inr (inl refl)) (λ w among. inr among)
-    (λ h t left x. x ≡ runs_to (rows_job (rows_name rows) code (source t) left))
+    (λ n among. among) (λ h t left x. x ≡ runs_to (rows_job (rows_name rows) code (source t) left))
     files mid later c.in-Ok.program c.in_ok-columns.columns
     c.in_ok-columns.ensures.columns c.load_typed.ensures.held c.load_rows.ensures.held c.in-Ok.ensures.loads _
     c.in-Err-load_rows.input c.load_typed.ensures.later c.load_typed.ensures.broken_later c.in-Ok.ensures.ended c.in-Err-load_rows.ensures.loads
     (λ is. c.in-Err-load_rows.ensures.begun (ap Err is)) (λ is. c.in-Err-load_rows.ensures.unread (ap Err is))
-    (λ r is other. c.in-Err-load_rows.ensures.whole r (ap Err is) other) (λ is. c.in-Err-load_rows.ensures.long (ap Err is)))
+    (λ r is other. c.in-Err-load_rows.ensures.whole r (ap Err is) other) (λ is. c.in-Err-load_rows.ensures.long (ap Err is))
+    c.in-Err-load_rows.ensures.caused)
 
 pub returns : goal.returns
 returns g c =
@@ -84,11 +87,11 @@ returns g c =
     let later = g.F.Files.seen c.load_rows.new.files in
     rw c.rows_name-name.ensures
     (rows_unopened TypedOf NotTyped (λ t. input_columns t.slots) (about f) (source_word p) rows (λ none. cc) (inr (inl refl)) (λ w among. inr among)
-    (λ h t left x. x ≡ runs_to (rows_job (rows_name rows) code (source t) left))
+    (λ n among. among) (λ h t left x. x ≡ runs_to (rows_job (rows_name rows) code (source t) left))
     files mid later c.in-Ok.program c.in_ok-columns.columns
     c.in_ok-columns.ensures.columns c.load_typed.ensures.held c.load_rows.ensures.held c.in-Ok.ensures.loads
     c.in-Ok-load_rows.inputs (c.in-Ok-load_rows.ensures.ended c.in-Ok.ensures.ended) c.in-Ok-load_rows.ensures.loads _ c.in-Err-open.input
-    (λ is. c.in-Err-open.ensures.read (ap Err is)) (c.in-Err-open.ensures.opens files.broken later.broken))
+    (λ is. c.in-Err-open.ensures.read (ap Err is)) (c.in-Err-open.ensures.opens files.broken later.broken) c.in-Err-open.ensures.caused)
 
 -- ---- the run
 
@@ -104,8 +107,8 @@ returns-in-Ok-open g c =
     let j = rows_job (rows_name rows) code (source c.in-Ok.program) c.in-Ok-open.rows in
     let before = moment (g.U.Unit.seen c.args.unit.now) (g.O.Sink.seen c.args.out.now) in
     let after = moment (g.U.Unit.seen c.run_program.new.unit) (g.O.Sink.seen c.run_program.new.out) in
-    let ended : RunsTo j before after c.run_program.result = c.run_program.ensures.ran (rows_name rows)
-    (every_row (subject_outputs (source c.in-Ok.program))) no_words
+    let ended : RunsTo j before after c.run_program.result = c.run_program.ensures.ran (source c.in-Ok.program) (rows_name rows)
+    (every_row (subject_outputs (source c.in-Ok.program))) no_words (as-itself c.in-Ok.program c.in-Ok-open.rows)
     (rows-shown _ _ (source c.in-Ok.program) code c.in-Ok-open.rows (rows_name rows)) in
     rw (c.run_ended.ensures.line, c.run_ended.ensures.status, c.rows_name-name.ensures)
     (files_run (about f) (RunTask p rows code) files later (λ none. cc) (c.load_rows.ensures.held ∙ c.load_typed.ensures.held) (inr (inl refl)) before
@@ -114,10 +117,11 @@ returns-in-Ok-open g c =
     (if_some_weaker files.held _ _
     (λ h comes. ran (about f) files later before after (RunTask p rows code h) j c.run_program.result refl comes c.run_program.ensures.causes.write ended)
     (opened_comes TypedOf NotTyped (λ t. input_columns t.slots) (about f) (source_word p) rows (λ none. cc) (inr (inl refl)) (λ w among. inr among)
-    (λ h t left x. x ≡ runs_to (rows_job (rows_name rows) code (source t) left))
+    (λ n among. among) (λ h t left x. x ≡ runs_to (rows_job (rows_name rows) code (source t) left))
     files mid later c.in-Ok.program c.in_ok-columns.columns
     c.in_ok-columns.ensures.columns c.load_typed.ensures.held c.load_rows.ensures.held c.in-Ok.ensures.loads
     c.in-Ok-load_rows.inputs (c.in-Ok-load_rows.ensures.ended c.in-Ok.ensures.ended) c.in-Ok-load_rows.ensures.loads c.in-Ok-open.rows (λ h. runs_to j)
     (c.in-Ok-open.ensures.opens 0 0) (λ h. refl)))
     (c.in-Ok-load_rows.ensures.ended c.in-Ok.ensures.ended) (λ no. absurd cc) (λ calls. c.run_program.ensures.causes.stopped)
-    c.run_program.ensures.causes.refused c.run_program.ensures.causes.write)
+    c.run_program.ensures.causes.refused c.run_program.ensures.causes.write
+    (rows_may (about f) rows (λ w among. inr among) (λ n among. among)))

@@ -12,7 +12,7 @@ use Rattle.vcp_core.specs.MachineRun.{RunsTo}
 use Rattle.vcp_core.specs.Tasks.{table_code, graph_columns, words_job, TraceTask}
 use Rattle.vcp_core.proofs.Facts.{if_some_weaker}
 use Rattle.vcp_core.proofs.ImageLoaded.{image_not_bytes, types-width}
-use Rattle.vcp_core.proofs.LoadedRows.{opened_comes, rows_unloaded, rows_unopened}
+use Rattle.vcp_core.proofs.LoadedRows.{opened_comes, rows_may, rows_unloaded, rows_unopened}
 use Rattle.vcp_core.proofs.Performing.{files_run, files_wanted, quiet_lost, ran, run_ends}
 use Rattle.vcp_core.proofs.WordsRun.{through-few, through-all}
 use Rattle.vcp_core.proofs.trace.trace_command.Goals as goal
@@ -44,7 +44,8 @@ returns-in-Err g c =
     (quiet_lost (about f) ImageOf NotImage (λ h i. TakenRows (λ left x. x ≡ runs_to
     (words_job (rows_name rows) n i.graph (table_code i.table) (through n left))) rows h (graph_columns i.graph)) (image_word m) files mid _
     c.in-Err.input (inl refl) (λ none. cc) (inr (inl refl)) c.load_image.ensures.held
-    c.in-Err.ensures.loads (λ r is. c.in-Err.ensures.whole r (ap Err is)) image_not_bytes (λ is. c.in-Err.ensures.unread (ap Err is)))
+    c.in-Err.ensures.loads (λ r is. c.in-Err.ensures.whole r (ap Err is)) image_not_bytes (λ is. c.in-Err.ensures.unread (ap Err is))
+    c.in-Err.ensures.caused)
 
 pub returns-in_err-columns : goal.returns-in_err-columns
 returns-in_err-columns g c =
@@ -70,12 +71,13 @@ returns-in-Err-load_rows g c =
     let later = g.F.Files.seen c.load_rows.new.files in
     rw c.rows_name-name.ensures
     (rows_unloaded ImageOf NotImage (λ i. graph_columns i.graph) (about f) (image_word m) rows (λ none. cc) (inr (inl refl)) (λ w among. inr among)
-    (λ h i left x. x ≡ runs_to (words_job (rows_name rows) n i.graph (table_code i.table) (through n left)))
+    (λ n among. among) (λ h i left x. x ≡ runs_to (words_job (rows_name rows) n i.graph (table_code i.table) (through n left)))
     files mid later c.in-Ok.loaded c.in_ok-columns.columns
     c.in_ok-columns.ensures.columns c.load_image.ensures.held c.load_rows.ensures.held c.in-Ok.ensures.loads _
     c.in-Err-load_rows.input c.load_image.ensures.later c.load_image.ensures.broken_later c.in-Ok.ensures.ended c.in-Err-load_rows.ensures.loads
     (λ is. c.in-Err-load_rows.ensures.begun (ap Err is)) (λ is. c.in-Err-load_rows.ensures.unread (ap Err is))
-    (λ r is other. c.in-Err-load_rows.ensures.whole r (ap Err is) other) (λ is. c.in-Err-load_rows.ensures.long (ap Err is)))
+    (λ r is other. c.in-Err-load_rows.ensures.whole r (ap Err is) other) (λ is. c.in-Err-load_rows.ensures.long (ap Err is))
+    c.in-Err-load_rows.ensures.caused)
 
 pub returns : goal.returns
 returns g c =
@@ -88,11 +90,11 @@ returns g c =
     let later = g.F.Files.seen c.load_rows.new.files in
     rw c.rows_name-name.ensures
     (rows_unopened ImageOf NotImage (λ i. graph_columns i.graph) (about f) (image_word m) rows (λ none. cc) (inr (inl refl)) (λ w among. inr among)
-    (λ h i left x. x ≡ runs_to (words_job (rows_name rows) n i.graph (table_code i.table) (through n left)))
+    (λ n among. among) (λ h i left x. x ≡ runs_to (words_job (rows_name rows) n i.graph (table_code i.table) (through n left)))
     files mid later c.in-Ok.loaded c.in_ok-columns.columns
     c.in_ok-columns.ensures.columns c.load_image.ensures.held c.load_rows.ensures.held c.in-Ok.ensures.loads
     c.in-Ok-load_rows.inputs (c.in-Ok-load_rows.ensures.ended c.in-Ok.ensures.ended) c.in-Ok-load_rows.ensures.loads _ c.in-Err-open.input
-    (λ is. c.in-Err-open.ensures.read (ap Err is)) (c.in-Err-open.ensures.opens files.broken later.broken))
+    (λ is. c.in-Err-open.ensures.read (ap Err is)) (c.in-Err-open.ensures.opens files.broken later.broken) c.in-Err-open.ensures.caused)
 
 -- ---- the run
 
@@ -118,10 +120,11 @@ returns-in-Ok-open g c =
     (if_some_weaker files.held _ _
     (λ h comes. ran (about f) files later before after (TraceTask m rows n h) j c.run_words.result refl comes c.run_words.ensures.causes.write ended)
     (opened_comes ImageOf NotImage (λ i. graph_columns i.graph) (about f) (image_word m) rows (λ none. cc) (inr (inl refl)) (λ w among. inr among)
-    (λ h i left x. x ≡ runs_to (words_job (rows_name rows) n i.graph (table_code i.table) (through n left)))
+    (λ n among. among) (λ h i left x. x ≡ runs_to (words_job (rows_name rows) n i.graph (table_code i.table) (through n left)))
     files mid later c.in-Ok.loaded c.in_ok-columns.columns
     c.in_ok-columns.ensures.columns c.load_image.ensures.held c.load_rows.ensures.held c.in-Ok.ensures.loads
     c.in-Ok-load_rows.inputs (c.in-Ok-load_rows.ensures.ended c.in-Ok.ensures.ended) c.in-Ok-load_rows.ensures.loads c.in-Ok-open.rows (λ h. runs_to j)
     (c.in-Ok-open.ensures.opens 0 0) (λ h. refl)))
     (c.in-Ok-load_rows.ensures.ended c.in-Ok.ensures.ended) (λ no. absurd cc) (λ calls. c.run_words.ensures.causes.stopped) c.run_words.ensures.causes.refused
-    c.run_words.ensures.causes.write)
+    c.run_words.ensures.causes.write
+    (rows_may (about f) rows (λ w among. inr among) (λ n among. among)))

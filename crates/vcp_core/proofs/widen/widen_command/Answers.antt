@@ -21,7 +21,8 @@ returns-in-Err g c unit =
     rw c.bytes-in-Err.ensures
     (quiet_lost (about (widen m)) ImageOf NotImage (λ h i x. x ≡ prints (image_of (widened i.graph) i.table.seed i.table.step)) (image_word m) files later
     _ c.in-Err.input (inl refl) (λ none. cc) (inr (inl refl)) c.load_image.ensures.held
-    c.in-Err.ensures.loads (λ r is. c.in-Err.ensures.whole r (ap Err is)) image_not_bytes (λ is. c.in-Err.ensures.unread (ap Err is)))
+    c.in-Err.ensures.loads (λ r is. c.in-Err.ensures.whole r (ap Err is)) image_not_bytes (λ is. c.in-Err.ensures.unread (ap Err is))
+    c.in-Err.ensures.caused)
 
 pub returns-in_err-wide-in-Ok : goal.returns-in_err-wide-in-Ok
 returns-in_err-wide-in-Ok g c unit =

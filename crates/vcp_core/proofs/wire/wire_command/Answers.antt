@@ -19,7 +19,8 @@ returns-in-Err g c =
     rw c.bytes.ensures
     (quiet_lost (about (wire f)) WireOf NotWire (λ h s x. x ≡ wires s) (script_word f) files later _
     c.in-Err.input (inl refl) (λ none. cc) (inr (inl refl)) c.load_wire.ensures.held
-    c.in-Err.ensures.loads (λ r is. c.in-Err.ensures.whole r (ap Err is)) wire_not_bytes (λ is. c.in-Err.ensures.unread (ap Err is)))
+    c.in-Err.ensures.loads (λ r is. c.in-Err.ensures.whole r (ap Err is)) wire_not_bytes (λ is. c.in-Err.ensures.unread (ap Err is))
+    c.in-Err.ensures.caused)
 
 -- it wasn't run to its end
 pub returns-in_err-end : goal.returns-in_err-end

@@ -37,13 +37,13 @@ use Rattle.command_meaning.specs.Abouts.{Among, FileWord, about, rows_words, scr
 use Rattle.command_meaning.specs.Answer.{Campaign}
 use Rattle.command_meaning.specs.Clauses.{IsTooLong}
 use Rattle.command_meaning.specs.FileTasks.{OnRows, taken}
-use Rattle.command_meaning.specs.HoldKind.{HoldDone, HoldLeft, held_answer, held_meant}
-use Rattle.command_meaning.specs.Kinds.{Task, holds, refusal_task}
-use Rattle.command_meaning.specs.Performing.{Reaches, done, cut, short, unread, unmade}
+use Rattle.command_meaning.specs.PairsKind.{PairsDone, PairsLeft, pairs_answer, pairs_meant}
+use Rattle.command_meaning.specs.Kinds.{Task, pairs_, refusal_task}
+use Rattle.command_meaning.specs.Performing.{Reaches, done, cut, wanting, unread, unmade}
 use Rattle.vcp_core.specs.Faults.{of_campaign}
 use Rattle.vcp_core.specs.Inject.{AllRead, NoneRead}
 use Rattle.vcp_core.specs.Reach.{fault_status, fault_text}
-use Rattle.vcp_core.specs.Tasks.{HeldScript, PairsTask, graph_columns, two_seeds}
+use Rattle.vcp_core.specs.Tasks.{PairsScript, PairsTask, graph_columns, two_seeds}
 use Rattle.vcp_core.proofs.JudgedTasks.{WholeLeft, all_of, campaign_of, left_count, left_of, rows_front, script_end, whole_broken, whole_comes}
 use Rattle.vcp_core.proofs.Performing.{file_lost, file_taken, file_takes, still}
 
@@ -66,7 +66,7 @@ script_named m rows seed f = inr (script_end (script_word f) (rows_words rows) (
 
 -- what its rows come to, once they are opened
 abbrev pub OnLeft : Rows → List ℕ → Held → Image → RowsLeft → Task → Type 0
-OnLeft rows f held i left t = WholeLeft rows (HeldScript i f held) left t
+OnLeft rows f held i left t = WholeLeft rows (PairsScript i f held) left t
 
 -- M holds this image, and ROWS come to this for its graph
 abbrev pub LoadsAt : List ℕ → Rows → Image → RowsOutcome → Held → Type 0
@@ -88,21 +88,21 @@ module _ (m : List ℕ) (rows : Rows) (seed : ℕ) (f : List ℕ) (held : Held) 
       Reaches (about (pairs m rows seed f)) (PairsTask m rows seed f held) files later at at (input_text (rows_name rows) e) (input_status e)
   rows_lost at (input.Refused r) h =
       done (refusal_task (rows_name rows) r) (record { out = []; err = refusal_text (rows_name rows) r; status = 1 })
-      (rows_come (refusal_task (rows_name rows) r) (whole_broken rows o (HeldScript i f held) r h)) (refl, refl) (still at).out refl refl
+      (rows_come (refusal_task (rows_name rows) r) (whole_broken rows o (PairsScript i f held) r h)) (refl, refl) (still at).out refl refl
   rows_lost at input.Memory h = unmade (still at) refl refl
   rows_lost at input.Unread h = absurd h
 
   module _ (list : List (List ℤ)) (all : AllRead o list) where
     -- the task of the script is that of the command
-    script_comes : (t : Task) → HeldScript i f held list t → PairsTask m rows seed f held t
-    script_comes t comes = rows_come t (whole_comes rows o (HeldScript i f held) list all t comes)
+    script_comes : (t : Task) → PairsScript i f held list t → PairsTask m rows seed f held t
+    script_comes t comes = rows_come t (whole_comes rows o (PairsScript i f held) list all t comes)
 
     script_reaches : (before after : Moment) (line : List ℕ) (code : ℕ)
-        → Reaches (about (pairs m rows seed f)) (HeldScript i f held list) files later before after line code
+        → Reaches (about (pairs m rows seed f)) (PairsScript i f held list) files later before after line code
         → Reaches (about (pairs m rows seed f)) (PairsTask m rows seed f held) files later before after line code
     script_reaches before after line code (done t x comes d w line_is code_is) = done t x (script_comes t comes) d w line_is code_is
     script_reaches before after line code (cut t comes left rose line_is code_is) = cut t (script_comes t comes) left rose line_is code_is
-    script_reaches before after line code (short t comes left late line_is code_is) = short t (script_comes t comes) left late line_is code_is
+    script_reaches before after line code (wanting t comes left late line_is code_is) = wanting t (script_comes t comes) left late line_is code_is
     script_reaches before after line code (unread word named rose s line_is code_is) = unread word named rose s line_is code_is
     script_reaches before after line code (unmade s line_is code_is) = unmade s line_is code_is
 
@@ -112,16 +112,16 @@ module _ (m : List ℕ) (rows : Rows) (seed : ℕ) (f : List ℕ) (held : Held) 
     script_lost at e lost =
         script_reaches at at (input_text f e) (input_status e)
         (file_lost (about (pairs m rows seed f)) files later at at (ScriptOf i.graph) (NotScript i.graph) most_source_bytes
-        (λ groups x. x ≡ holds (campaign_of i list groups)) f held (script_word f) (script_named m rows seed f) refl (still at) e lost)
+        (λ groups x. x ≡ pairs_ (campaign_of i list groups)) f held (script_word f) (script_named m rows seed f) refl (still at) e lost)
 
     -- the groups are there
     pub groups_come : (groups : List (List ScriptedFault))
         → ((text : List ℕ) × (held f ≡ Some text) × (length text ≤ most_source_bytes) × ScriptOf i.graph text groups)
-        → PairsTask m rows seed f held (holds (campaign_of i list groups))
+        → PairsTask m rows seed f held (pairs_ (campaign_of i list groups))
     groups_come groups found =
-        script_comes (holds (campaign_of i list groups))
-        (file_takes (ScriptOf i.graph) (NotScript i.graph) most_source_bytes (λ fs x. x ≡ holds (campaign_of i list fs)) f held groups
-        (holds (campaign_of i list groups)) found refl)
+        script_comes (pairs_ (campaign_of i list groups))
+        (file_takes (ScriptOf i.graph) (NotScript i.graph) most_source_bytes (λ fs x. x ≡ pairs_ (campaign_of i list fs)) f held groups
+        (pairs_ (campaign_of i list groups)) found refl)
 
 -- where the script is refused, it was read to its end, or it is too long
 pub script_taken : (m : List ℕ) (rows : Rows) (seed : ℕ) (f : List ℕ) (held : Held) (g : Lists) (b n : ℕ) (i : NoInput) (rest : Option (List ℕ))
@@ -161,23 +161,23 @@ module _ (c : Campaign) (unit unit' : UnitSeen) (out out' : SinkSeen) where
   abbrev after : Moment
   after = moment unit' out'
 
-  as_many : length (held_meant c) ≡ length c.groups
+  as_many : length (pairs_meant c) ≡ length c.groups
   as_many = length-map (verdicts_of c.table c.graph c.groups c.rows) told_verdict ∙ length-map c.groups _
 
   -- all of them
   all_held : (told : PairsTold c.table c.graph c.groups c.rows unit unit' out.written out'.written (Ok tt))
-      → HoldDone c before.unit after.unit (held_answer c told.verdicts)
+      → PairsDone c before.unit after.unit (pairs_answer c told.verdicts)
   all_held told = record {
     verdicts = told.verdicts;
     each = told.written.0;
     ran = told.ran;
     read = refl;
-    honest = λ h. all_of told.verdicts (held_meant c) (told.right h) (told.written.0 ∙ sym as_many);
+    honest = λ h. all_of told.verdicts (pairs_meant c) (told.right h) (told.written.0 ∙ sym as_many);
   }
 
   -- until writing failed
-  held_part : PairsTold c.table c.graph c.groups c.rows unit unit' out.written out'.written (Err campaign.Write) → HoldLeft c AppendsPart before after
-  held_part told = record {
+  pairs_part : PairsTold c.table c.graph c.groups c.rows unit unit' out.written out'.written (Err campaign.Write) → PairsLeft c AppendsPart before after
+  pairs_part told = record {
     verdicts = told.verdicts;
     few = told.few;
     ran = told.ran;
@@ -185,8 +185,8 @@ module _ (c : Campaign) (unit unit' : UnitSeen) (out out' : SinkSeen) where
     earlier = told.written.1;
     honest = λ h.
         let is = told.right h in
-        subst (λ (l : List PairVerdict). AppendsPart out.written out'.written (pairs_text c.groups l)) (sym (left_of told.verdicts (held_meant c) is))
-        (told.written.0 (drop (length told.verdicts) (held_meant c)) (left_count told.verdicts (held_meant c) _ is as_many));
+        subst (λ (l : List PairVerdict). AppendsPart out.written out'.written (pairs_text c.groups l)) (sym (left_of told.verdicts (pairs_meant c) is))
+        (told.written.0 (drop (length told.verdicts) (pairs_meant c)) (left_count told.verdicts (pairs_meant c) _ is as_many));
   }
 
   -- the lines before the last were written
@@ -196,8 +196,8 @@ module _ (c : Campaign) (unit unit' : UnitSeen) (out out' : SinkSeen) where
       (more, subst (λ (t : List ℕ). Appends out.written out'.written t) (ap (group_lines c.groups) is ∙ lines) w)
 
   -- until memory was wanted
-  held_front : PairsTold c.table c.graph c.groups c.rows unit unit' out.written out'.written (Err campaign.Memory) → HoldLeft c AppendsFront before after
-  held_front told = record {
+  pairs_front : PairsTold c.table c.graph c.groups c.rows unit unit' out.written out'.written (Err campaign.Memory) → PairsLeft c AppendsFront before after
+  pairs_front told = record {
     verdicts = told.verdicts;
     few = told.few;
     ran = told.ran;
@@ -205,18 +205,18 @@ module _ (c : Campaign) (unit unit' : UnitSeen) (out out' : SinkSeen) where
     earlier = earlier_lines told.verdicts told.written;
     honest = λ h.
         let is = told.right h in
-        subst (λ (l : List PairVerdict). AppendsFront out.written out'.written (pairs_text c.groups l)) (sym (left_of told.verdicts (held_meant c) is))
-        (lines_front c.groups told.verdicts (drop (length told.verdicts) (held_meant c)) out.written out'.written told.written);
+        subst (λ (l : List PairVerdict). AppendsFront out.written out'.written (pairs_text c.groups l)) (sym (left_of told.verdicts (pairs_meant c) is))
+        (lines_front c.groups told.verdicts (drop (length told.verdicts) (pairs_meant c)) out.written out'.written told.written);
   }
 
-  module _ (m : List ℕ) (rows : Rows) (seed : ℕ) (f : List ℕ) (held : Held) (files later : FilesSeen) (comes : PairsTask m rows seed f held (holds c)) where
-    pub held_whole : PairsTold c.table c.graph c.groups c.rows unit unit' out.written out'.written (Ok tt)
+  module _ (m : List ℕ) (rows : Rows) (seed : ℕ) (f : List ℕ) (held : Held) (files later : FilesSeen) (comes : PairsTask m rows seed f held (pairs_ c)) where
+    pub pairs_whole : PairsTold c.table c.graph c.groups c.rows unit unit' out.written out'.written (Ok tt)
         → Reaches (about (pairs m rows seed f)) (PairsTask m rows seed f held) files later before after [] 0
-    held_whole told = done (holds c) (held_answer c told.verdicts) comes (all_held told) told.written.1 refl refl
+    pairs_whole told = done (pairs_ c) (pairs_answer c told.verdicts) comes (all_held told) told.written.1 refl refl
 
-    pub held_to : (e : CampaignFault) → (e ≡ campaign.Write → Rose out.faults out'.faults)
+    pub pairs_to : (e : CampaignFault) → (e ≡ campaign.Write → Rose out.faults out'.faults)
         → PairsTold c.table c.graph c.groups c.rows unit unit' out.written out'.written (Err e)
         → Reaches (about (pairs m rows seed f)) (PairsTask m rows seed f held) files later before after (fault_text (of_campaign e))
         (fault_status (of_campaign e))
-    held_to campaign.Write rose told = cut (holds c) comes (held_part told) (rose refl) refl refl
-    held_to campaign.Memory rose told = short (holds c) comes (held_front told) refl refl refl
+    pairs_to campaign.Write rose told = cut (pairs_ c) comes (pairs_part told) (rose refl) refl refl
+    pairs_to campaign.Memory rose told = wanting (pairs_ c) comes (pairs_front told) refl refl refl

@@ -1,4 +1,4 @@
--- HoldKind: groups of faults that a pair of channels may hold: what stands after all of them, and what stands where they were cut off.
+-- PairsKind: groups of faults that a pair of channels may hold: what stands after all of them, and what stands where they were cut off.
 use Rattle.std.specs.Prelude.{ℕ, ◌≡◌, ◌≤◌, ◌+◌, List, ◌++◌, length, Option}
 use Rattle.coded_unit.specs.Seen.{UnitSeen, StaysHonest}
 use Rattle.machine_run.specs.Moments.{Moment}
@@ -6,32 +6,33 @@ use Rattle.pair_campaign.specs.declared.verdict.PairVerdict.{PairVerdict}
 use Rattle.pair_campaign.specs.PairCampaigns.{EarlierTold, GroupsRan, pairs_text}
 use Rattle.pair_campaign.specs.PairVerdicts.{told_verdicts}
 use Rattle.command_meaning.specs.Answer.{Answer, Campaign, printed}
+use Rattle.command_meaning.specs.Seen.{Appending}
 
 -- the answer where groups have these verdicts: a line for each, and the totals
-abbrev pub held_answer : Campaign → List PairVerdict → Answer
-held_answer c verdicts = printed (pairs_text c.groups verdicts)
+abbrev pub pairs_answer : Campaign → List PairVerdict → Answer
+pairs_answer c verdicts = printed (pairs_text c.groups verdicts)
 
 -- the verdicts that are meant: those of the definitions, group by group, as a pair tells them
-abbrev pub held_meant : Campaign → List PairVerdict
-held_meant c = told_verdicts c.table c.graph c.groups c.rows
+abbrev pub pairs_meant : Campaign → List PairVerdict
+pairs_meant c = told_verdicts c.table c.graph c.groups c.rows
 
 -- All groups were run on the pair: a verdict for each, in order, read off what the unit answered in its run, and what is answered are their lines.
 -- Where no answer was wrong, they are the ones that are meant.
-pub record HoldDone (c : Campaign) (before after : UnitSeen) (x : Answer) : Type 0 where
+pub record PairsDone (c : Campaign) (before after : UnitSeen) (x : Answer) : Type 0 where
   pub verdicts : List PairVerdict
   pub each : length verdicts ≡ length c.groups
   pub ran : GroupsRan c.table c.graph c.rows c.groups verdicts before after
-  pub read : x ≡ held_answer c verdicts
-  pub honest : StaysHonest before after → verdicts ≡ held_meant c
+  pub read : x ≡ pairs_answer c verdicts
+  pub honest : StaysHonest before after → verdicts ≡ pairs_meant c
 
 -- Some of the groups were run, where `Writes` says how much was written: so much of the lines of these verdicts and any later ones, with all lines
 -- before that of the last verdict. The unit was asked nothing more than these groups' calls. Where no answer was wrong, it is so much of the lines
 -- that are meant.
-pub record HoldLeft (c : Campaign) (Writes : Option (List ℕ) → Option (List ℕ) → List ℕ → Type 0) (before after : Moment) : Type 0 where
+pub record PairsLeft (c : Campaign) (Writes : Appending) (before after : Moment) : Type 0 where
   pub verdicts : List PairVerdict
   pub few : length verdicts ≤ length c.groups
   pub ran : GroupsRan c.table c.graph c.rows c.groups verdicts before.unit after.unit
   pub text : (later : List PairVerdict) → length verdicts + length later ≡ length c.groups
-      → Writes before.out.written after.out.written (held_answer c (verdicts ++ later)).out
+      → Writes before.out.written after.out.written (pairs_answer c (verdicts ++ later)).out
   pub earlier : EarlierTold c.groups verdicts before.out.written after.out.written
-  pub honest : StaysHonest before.unit after.unit → Writes before.out.written after.out.written (held_answer c (held_meant c)).out
+  pub honest : StaysHonest before.unit after.unit → Writes before.out.written after.out.written (pairs_answer c (pairs_meant c)).out
