@@ -1,5 +1,6 @@
 pub mod AuditKinds
 pub mod DemoRun
+pub mod EachTask
 pub mod Facts
 pub mod PairsTasks
 pub mod ImageLoaded
@@ -19,6 +20,7 @@ pub mod PlainTurns
 pub mod PlainWorked
 pub mod PrintedRun
 pub mod Reduced
+pub mod ScriptsTold
 pub mod Served
 pub mod Sized
 pub mod StaleShown

@@ -1,6 +1,7 @@
 pub mod ChannelsRun
 pub mod Compile
 pub mod Demo
+pub mod EachTask
 pub mod EndLines
 pub mod Faults
 pub mod Inject

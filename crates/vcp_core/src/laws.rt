@@ -17,6 +17,7 @@ ghost use Rattle.command_meaning.specs.Answer.{Answer};
 ghost use Rattle.command_meaning.specs.FileTasks.{ImageFile};
 ghost use Rattle.command_meaning.specs.Endings.{HasOwnStatus};
 ghost use Rattle.command_meaning.specs.Kinds.{Task, answers, lacks, prints, Meant};
+ghost use Rattle.vcp_core.specs.EachTask.{EachHasTask};
 ghost use Rattle.vcp_core.specs.Tasks.{AuditTask, TaskOf, widened};
 ghost use Rattle.command_meaning.specs.WireKind.{WiresDeliver};
 ghost use Rattle.vcp_core.specs.StaleSeen.{StaleShows};
@@ -33,9 +34,10 @@ use telegram::{
 };
 use weight_audit::differences_come_as_weights;
 
-/// What a command comes to, where this is held, is one task, with a status of its own, and not a name that is lacking where all its
-/// files are held; and where `run` comes to a task that means an answer, it is the one that `plain` comes to, where it comes to one.
+/// A command comes to a task, whatever bytes are held, and only to one, with a status of its own, and not to a name that is lacking where
+/// all its files are held; and where `run` comes to a task that means an answer, it is the one that `plain` comes to, where it comes to one.
 pub fn one_task()
+    ensures some { EachHasTask }
     ensures one { (f : Form) (held : Held) (a b : Task) → TaskOf f held a → TaskOf f held b → a ≡ b }
     ensures own { (f : Form) (held : Held) (task : Task) → TaskOf f held task → HasOwnStatus task }
     ensures found { (f : Form) (held : Held) (name : List ℕ) → AllHeld held (about f).files → TaskOf f held (lacks name) → ⊥ }

@@ -11,6 +11,7 @@ ghost use Rattle.command_meaning.specs.Seen.{outside};
 ghost use Rattle.command_meaning.specs.WireKind.{WiresDeliver};
 ghost use Rattle.fault_runs.specs.AcceptedRuns.{AcceptedIsReleased};
 ghost use Rattle.il_front.specs.Outcomes.{AccumulatorRuns};
+ghost use Rattle.vcp_core.specs.EachTask.{EachHasTask};
 ghost use Rattle.vcp_core.specs.Tasks.{TaskOf};
 ghost use Rattle.vcp_core.specs.Reach.{told_line, told_status};
 ghost use Rattle.vcp_core.specs.StaleSeen.{StaleShows};
@@ -70,6 +71,9 @@ pub fn vcp<F: Files, U: Unit, O: Sink, E: Sink>(
         (outside (F.seen files.new) (U.seen unit.new) (O.seen out.new) (E.seen err.new)) result }
     ensures usage_only { result ≡ 4 → form_of words.now ≡ None }
 
+    // Each command comes to a task, whatever bytes the files hold.
+    ensures some { EachHasTask }
+
     // Where it is told what is held, or the command reads no file: how the command ends for the task that it comes to, and the cause of
     // each status.
     ensures serves { IfSome (form_of words.now) (λ f. (h : Held) → MayHold (about f) (F.seen files.old).held h → Serves (about f) h (TaskOf f h)
@@ -107,6 +111,7 @@ pub fn vcp<F: Files, U: Unit, O: Sink, E: Sink>(
     // what is delivered unaltered is what the heard sender sent.
     ensures delivers { WiresDeliver }
 {
+    one_task();
     accepted_outputs_are_released();
     stale_operands_are_seen();
     accumulator_runs();

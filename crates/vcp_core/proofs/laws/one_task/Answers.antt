@@ -1,6 +1,20 @@
+use Rattle.vcp_core.proofs.EachTask.{AnswerLaws, some_task}
 use Rattle.vcp_core.proofs.Meanings.{task_once, own_status, all_found, plain_meant}
 use Rattle.vcp_core.proofs.OneText.{ImageLaws, Laws, ListingLaws}
 use Rattle.vcp_core.proofs.laws.one_task.Goals as goal
+
+pub returns-clause-some : goal.returns-clause-some
+returns-clause-some c =
+    let laws : AnswerLaws = record {
+      lexed = c.one_reading.ensures.total;
+      parsed = c.one_answer.ensures.some;
+      once = c.one_answer.ensures.program;
+      typed = c.answers_are_one.ensures.some;
+      listings = c.il_answers_are_one.ensures.some;
+      images = c.images_are_told_apart.ensures.either;
+      audited = c.an_audit_has_one_text.ensures.some;
+    } in
+    some_task laws
 
 pub returns-clause-one : goal.returns-clause-one
 returns-clause-one c =
