@@ -23,7 +23,7 @@ _vcp() {
 
 complete -o filenames -F _vcp vcp ./vcp
 
-_vcp_study_commands='graph waves ranges'
+_vcp_study_commands='graph waves ranges sites'
 
 _vcp_study() {
     local word=${COMP_WORDS[COMP_CWORD]}
@@ -31,6 +31,8 @@ _vcp_study() {
     1:*) mapfile -t COMPREPLY < <(compgen -W "$_vcp_study_commands" -- "$word") ;;
     2:*) mapfile -t COMPREPLY < <(compgen -f -- "$word") ;;
     3:ranges) mapfile -t COMPREPLY < <(compgen -W '--all' -- "$word") ;;
+    4:sites) mapfile -t COMPREPLY < <(compgen -W 'bits stale skip from operator all' -- "$word") ;;
+    *:sites) mapfile -t COMPREPLY < <(compgen -W '--count' -- "$word") ;;
     esac
 }
 

@@ -9,27 +9,43 @@ use vcp_study_core::vcp_study;
 use worked_graphs::increment;
 use worked_programs::{cells, same, word_off, words_of};
 
-/// Words => the status, and the line of errors. An image stands under `m.img`, and a source under `p.st`.
+/// The usage line.
+const USAGE: &str =
+    "usage: vcp_study graph M HORIZON, waves FILE, ranges M, ranges M --all, sites M CYCLES CLASS, \
+    sites M CYCLES CLASS FROM COUNT or sites M CYCLES CLASS --count";
+
+/// Words => the status, and the line of errors; `usage` is the usage line. An image stands under `m.img`, and a source under `p.st`.
 const ANSWERS: &str = "\
-graph => 4 usage: vcp_study graph M HORIZON, waves FILE, ranges M or ranges M --all
-draw m.img 0 => 4 usage: vcp_study graph M HORIZON, waves FILE, ranges M or ranges M --all
-graph m.img => 4 usage: vcp_study graph M HORIZON, waves FILE, ranges M or ranges M --all
-graph m.img 1001 => 4 usage: vcp_study graph M HORIZON, waves FILE, ranges M or ranges M --all
-graph m.img -1 => 4 usage: vcp_study graph M HORIZON, waves FILE, ranges M or ranges M --all
-graph -m 1 => 4 usage: vcp_study graph M HORIZON, waves FILE, ranges M or ranges M --all
-graph m.img 1 2 => 4 usage: vcp_study graph M HORIZON, waves FILE, ranges M or ranges M --all
+graph => 4 usage
+draw m.img 0 => 4 usage
+graph m.img => 4 usage
+graph m.img 1001 => 4 usage
+graph m.img -1 => 4 usage
+graph -m 1 => 4 usage
+graph m.img 1 2 => 4 usage
 graph no.img 0 => 5 no.img read fault
 graph p.st 0 => 1 p.st:0 I1 Magic
 graph m.img 1000 => 0
-waves => 4 usage: vcp_study graph M HORIZON, waves FILE, ranges M or ranges M --all
-waves -m => 4 usage: vcp_study graph M HORIZON, waves FILE, ranges M or ranges M --all
+waves => 4 usage
+waves -m => 4 usage
 waves no.csv => 5 no.csv read fault
 waves p.st => 1 p.st:1 R1 Header
-ranges => 4 usage: vcp_study graph M HORIZON, waves FILE, ranges M or ranges M --all
-ranges m.img --al => 4 usage: vcp_study graph M HORIZON, waves FILE, ranges M or ranges M --all
-ranges m.img --all 0 => 4 usage: vcp_study graph M HORIZON, waves FILE, ranges M or ranges M --all
+ranges => 4 usage
+ranges m.img --al => 4 usage
+ranges m.img --all 0 => 4 usage
 ranges no.img => 5 no.img read fault
 ranges p.st => 1 p.st:0 I1 Magic
+sites m.img 3 => 4 usage
+sites m.img 0 skip => 4 usage
+sites m.img 1000001 skip => 4 usage
+sites m.img 3 bit => 4 usage
+sites m.img 3 skip 0 => 4 usage
+sites m.img 3 skip 0 1 2 => 4 usage
+sites m.img 3 skip --count 1 => 4 usage
+sites no.img 3 skip => 5 no.img read fault
+sites p.st 3 skip --count => 1 p.st:0 I1 Magic
+sites m.img 1000 bits => 1 m.img L9 Sites
+sites m.img 1000 bits 5 10001 => 1 m.img L9 Sites
 ";
 
 /// Fails where a row's words don't get its status and its line, and a picture alone where there is no line.
@@ -37,9 +53,10 @@ pub fn is_answered(alloc: Global, files: &mut MemFiles, row: &str) -> Result<(),
     let (words, wanted) = cells(row);
     let (command, behind) = word_off(words);
     let (status, line) = word_off(wanted);
+    let line = if line == "usage" { USAGE } else { line };
     let words = words_of(alloc, command, behind)?;
     let mut out = MemSink::new(alloc, 6000)?;
-    let mut err = MemSink::new(alloc, 100)?;
+    let mut err = MemSink::new(alloc, 200)?;
     let found = vcp_study(alloc, &words, files, &mut out, &mut err);
     same(&format!(in alloc; "{found}")?, status)?;
     let told = err.bytes().strip_suffix(b"\n").unwrap_or(b"");

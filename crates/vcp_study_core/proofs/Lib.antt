@@ -1,4 +1,5 @@
 mod RangesReaching
 mod Reaching
 pub mod RunReaching
+mod SitesReaching
 mod Statuses

@@ -26,8 +26,7 @@ pub of_image : (name : List ℕ) (all : Bool) (held : Held) (old new : Option (L
 of_image name all held old new b n i is (Ok status) tells = (i, is, tells)
 of_image name all held old new b n i is (Err fault.Write) tells = (i, is, tells)
 of_image name all held old new b n i is (Err fault.Memory) tells = (i, is, tells)
-of_image name all held old new b n i is (Err (fault.NoRun f)) tells = absurd tells
-of_image name all held old new b n i is (Err (fault.Source s)) tells = absurd tells
+of_image name all held old new b n i is (Err _) tells = absurd tells
 
 pub loaded : (name : List ℕ) (all : Bool) (held : Held) (old new : Option (List ℕ)) (b n : ℕ) (i : Image)
     → ((text : List ℕ) × (held name ≡ Some text) × (length text ≤ most_image_bytes) × ImageOf text i)
@@ -41,8 +40,7 @@ pub never_unread : (g : Lists) (all : Bool) (old new : Option (List ℕ)) (X : T
 never_unread g all old new X (Ok status) tells = tt
 never_unread g all old new X (Err fault.Write) tells = λ is. absurd is
 never_unread g all old new X (Err fault.Memory) tells = λ is. absurd is
-never_unread g all old new X (Err (fault.NoRun f)) tells = absurd tells
-never_unread g all old new X (Err (fault.Source s)) tells = absurd tells
+never_unread g all old new X (Err _) tells = absurd tells
 
 -- where the status is 0, no operation is named
 none_named : (n status : ℕ) → status ≡ status_of n → status ≡ 0 → n ≡ 0

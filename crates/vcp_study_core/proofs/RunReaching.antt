@@ -16,22 +16,18 @@ pub written_run : (text : List ℕ) (recorded : Recorded) (old new : Option (Lis
     → WritesRun recorded old new r → DrawsRun text old new r
 written_run text recorded old new is (Ok done) (picture, told, written) = (picture, record { recorded = recorded; is = is; told = told }, written)
 written_run text recorded old new is (Err fault.Write) (picture, told, written) = (picture, record { recorded = recorded; is = is; told = told }, written)
-written_run text recorded old new is (Err (fault.NoRun f)) h = absurd h
-written_run text recorded old new is (Err fault.Memory) h = absurd h
-written_run text recorded old new is (Err (fault.Source i)) h = absurd h
+written_run text recorded old new is (Err _) h = absurd h
 
 -- a text has no run
 pub no_run : (text : List ℕ) (old : Option (List ℕ)) (e : Fault) → IsNoRun text e → DrawsRun text old old (Err e)
 no_run text old (fault.NoRun f) h = (h, appends-nothing old)
 no_run text old fault.Memory h = appends-nothing old
-no_run text old fault.Write h = absurd h
-no_run text old (fault.Source i) h = absurd h
+no_run text old _ h = absurd h
 
 pub no_run_no_write : {X : Type 0} (text : List ℕ) (e : Fault) (r : Result (Unit {0}) Fault) → IsNoRun text e → r ≡ Err e → r ≡ Err fault.Write → X
 no_run_no_write text (fault.NoRun f) r h e is = absurd cc
 no_run_no_write text fault.Memory r h e is = absurd cc
-no_run_no_write text fault.Write r h e is = absurd h
-no_run_no_write text (fault.Source i) r h e is = absurd h
+no_run_no_write text _ r h e is = absurd h
 
 -- the file isn't read
 pub not_read : (name : List ℕ) (held : Held) (old : Option (List ℕ)) (b n : ℕ) (i : NoInput) → NotLoaded Never held name most_rows_bytes b n i
@@ -44,7 +40,7 @@ of_drawn name held old new b n text holds short (Ok done) d = (text, holds, shor
 of_drawn name held old new b n text holds short (Err (fault.NoRun f)) d = (text, holds, short, d)
 of_drawn name held old new b n text holds short (Err fault.Memory) d = (text, holds, short, d)
 of_drawn name held old new b n text holds short (Err fault.Write) d = (text, holds, short, d)
-of_drawn name held old new b n text holds short (Err (fault.Source i)) d = absurd d
+of_drawn name held old new b n text holds short (Err _) d = absurd d
 
 -- the file is read, and its run is drawn so far
 pub of_read : (name : List ℕ) (held : Held) (old new : Option (List ℕ)) (b n : ℕ) (bytes : List ℕ) → FileRead held name most_rows_bytes b n (Ok bytes)
@@ -58,4 +54,4 @@ never_unread text old new X (Ok done) d = tt
 never_unread text old new X (Err (fault.NoRun f)) d = λ is. absurd is
 never_unread text old new X (Err fault.Memory) d = λ is. absurd is
 never_unread text old new X (Err fault.Write) d = λ is. absurd is
-never_unread text old new X (Err (fault.Source i)) d = absurd d
+never_unread text old new X (Err _) d = absurd d

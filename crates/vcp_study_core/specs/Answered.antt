@@ -6,11 +6,12 @@ use Rattle.vcp_outside.specs.Held.{Held}
 use Rattle.vcp_outside.specs.Seen.{FilesSeen, SinkSeen}
 use Rattle.vcp_outside.specs.Written.{AppendsPart}
 use Rattle.vcp_study_core.specs.declared.fault.Fault.{Fault}
-use Rattle.vcp_study_core.specs.Forms.{Form, graph, waves, ranges, file_of, usage_text}
+use Rattle.vcp_study_core.specs.Forms.{Form, graph, waves, ranges, sites, file_of, usage_text}
 use Rattle.vcp_study_core.specs.Reach.{ReachesGraph, fault_text, fault_status}
 use Rattle.vcp_study_core.specs.RangesReach.{ReachesRanges}
 use Rattle.vcp_study_core.specs.RunReach.{ReachesRun}
 use Rattle.vcp_study_core.specs.Seen.{Outside}
+use Rattle.vcp_study_core.specs.SitesReach.{ReachesSites}
 
 -- what a command that draws comes to, with its status: 0 where the picture is written
 abbrev pub as_status : Result (Unit {0}) Fault → Result ℕ Fault
@@ -27,6 +28,8 @@ Reaches (graph m horizon) held files later out now result =
     IsDrawing (ReachesGraph m horizon held out.written now.written files.broken later.broken) result
 Reaches (waves file) held files later out now result = IsDrawing (ReachesRun file held out.written now.written files.broken later.broken) result
 Reaches (ranges m all) held files later out now result = ReachesRanges m all held out.written now.written files.broken later.broken result
+Reaches (sites m cycles classes which) held files later out now result =
+    ReachesSites m cycles classes which held out.written now.written files.broken later.broken result
 
 -- the line was printed with this status, or the sink of the errors failed in it, with status 6
 abbrev pub TellsLine : List ℕ → ℕ → SinkSeen → SinkSeen → ℕ → Type 0
@@ -37,7 +40,7 @@ TellsLine line code before after status =
 -- how a command ends that came so far: with its status and no line, or with the line of its fault and the status of that
 abbrev pub Ends : Form → SinkSeen → SinkSeen → ℕ → Result ℕ Fault → Type 0
 Ends f before after status (Ok own) = (status ≡ own) × Appends before.written after.written []
-Ends f before after status (Err e) = TellsLine (fault_text (file_of f) e) (fault_status e) before after status
+Ends f before after status (Err e) = TellsLine (fault_text (file_of f e) e) (fault_status e) before after status
 
 -- how a command is answered, where the files hold this: it came so far, and it ends so
 abbrev pub Answered : Form → Held → Outside → Outside → ℕ → Type 0

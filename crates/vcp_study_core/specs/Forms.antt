@@ -1,16 +1,23 @@
 -- Forms: which words are a command. The first word names it, and its own words follow, in their order.
 use Rattle.std.specs.Prelude.{ℕ, ◌≤◌, Bool, true, false, cond, ◌&&◌, bytes_eq, List, [], ◌∷◌, Option, Some, None, codes}
 use Rattle.std.specs.Option.{option_and_then, option_map}
-use Rattle.vcp_base.specs.Limits.{most_horizon}
+use Rattle.vcp_base.specs.Limits.{most_cycles, most_horizon}
+use Rattle.vcp_base.specs.Numerals.{numeral_of}
 use Rattle.vcp_words.specs.Forms.{name_and_rest, number_and_rest, is_end}
+use Rattle.fault_sites.specs.declared.class.Classes.{Classes}
+use Rattle.fault_sites.specs.SiteText.{classes_of}
+use Rattle.site_scripts.specs.declared.chosen.Chosen.{Chosen}
+use Rattle.site_scripts.specs.declared.chosen.Chosen.TheVariants as chosen
 use Rattle.vcp_study_core.specs.declared.command.Command.{Command}
 use Rattle.vcp_study_core.specs.declared.command.Command.TheVariants as command
+use Rattle.vcp_study_core.specs.declared.fault.Fault.{Fault}
 
--- a command with its words: M is an image's name, FILE a file's; then HORIZON, and whether all operations are told
+-- a command with its words: M is an image's name, FILE a file's; then HORIZON, whether all operations are told, CYCLES, CLASS and which of the sites
 pub data Form : Type 0 where
   graph : List ℕ → ℕ → Form
   waves : List ℕ → Form
   ranges : List ℕ → Bool → Form
+  sites : List ℕ → ℕ → Classes → Chosen → Form
 
 -- a command, where no words are left
 abbrev pub at_end : Form → List (List ℕ) → Option Form
@@ -33,32 +40,60 @@ all_of (w ∷ rest) = cond (bytes_eq w (codes "--all") && is_end rest) (Some tru
 abbrev pub ranges_form : List (List ℕ) → Option Form
 ranges_form words = option_and_then (λ m. option_map (ranges m.0) (all_of m.1)) (name_and_rest words)
 
+-- the class that the first word names, and the words after it
+abbrev pub classes_and_rest : List (List ℕ) → Option (Classes × List (List ℕ))
+classes_and_rest [] = None
+classes_and_rest (w ∷ rest) = option_map (λ c. (c, rest)) (classes_of w)
+
+-- which of the sites: without more words all; `--count` asks how many there are; FROM COUNT is a part
+abbrev pub number_word : List ℕ → Option Chosen
+number_word w = cond (bytes_eq w (codes "--count")) (Some chosen.Number) None
+
+abbrev pub part_of : List ℕ → List ℕ → Option Chosen
+part_of from count =
+    option_and_then (λ skip. option_map (λ left. chosen.Part (record { skip = skip; left = left })) (numeral_of count)) (numeral_of from)
+
+abbrev pub chosen_of : List (List ℕ) → Option Chosen
+chosen_of [] = Some chosen.All
+chosen_of (w ∷ []) = number_word w
+chosen_of (w ∷ v ∷ rest) = cond (is_end rest) (part_of w v) None
+
+-- the words of `sites`: M, CYCLES, CLASS, and which of the sites
+abbrev pub sites_form : List (List ℕ) → Option Form
+sites_form words =
+    option_and_then (λ m. option_and_then (λ n. option_and_then (λ c. option_map (sites m.0 n.0 c.0) (chosen_of c.1)) (classes_and_rest n.1))
+    (number_and_rest 1 most_cycles m.1)) (name_and_rest words)
+
 -- the command that words say, a line a form
 abbrev pub form_of : List (List ℕ) → Option Form
 form_of [] = None
 form_of (w ∷ words) =
     cond (bytes_eq w (codes "graph")) (graph_form words)
     (cond (bytes_eq w (codes "waves")) (waves_form words)
-    (cond (bytes_eq w (codes "ranges")) (ranges_form words) None))
+    (cond (bytes_eq w (codes "ranges")) (ranges_form words)
+    (cond (bytes_eq w (codes "sites")) (sites_form words) None)))
 
 -- a command, as a form
 abbrev pub form : Command → Form
 form (command.Graph image horizon) = graph image.now horizon
 form (command.Waves file) = waves file.now
 form (command.Ranges image all) = ranges image.now all
+form (command.Sites image cycles classes which) = sites image.now cycles classes which
 
--- the name of the file that a command reads
-abbrev pub file_of : Form → List ℕ
-file_of (graph m horizon) = m
-file_of (waves file) = file
-file_of (ranges m all) = m
+-- the name of the file that the line of a fault names
+abbrev pub file_of : Form → Fault → List ℕ
+file_of (graph m horizon) e = m
+file_of (waves file) e = file
+file_of (ranges m all) e = m
+file_of (sites m cycles classes which) e = m
 
--- a horizon is within its limit
+-- a horizon and a number of cycles are within their limits
 abbrev pub IsSound : Form → Type 0
 IsSound (graph m horizon) = horizon ≤ most_horizon
 IsSound (waves file) = Unit {0}
 IsSound (ranges m all) = Unit {0}
+IsSound (sites m cycles classes which) = cycles ≤ most_cycles
 
 -- the usage line
 abbrev pub usage_text : List ℕ
-usage_text = codes "usage: vcp_study graph M HORIZON, waves FILE, ranges M or ranges M --all\n"
+usage_text = codes "usage: vcp_study graph M HORIZON, waves FILE, ranges M, ranges M --all, sites M CYCLES CLASS, sites M CYCLES CLASS FROM COUNT or sites M CYCLES CLASS --count\n"

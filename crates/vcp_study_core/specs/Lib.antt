@@ -5,3 +5,4 @@ pub mod Reach
 pub mod RunLines
 pub mod RunReach
 pub mod Seen
+pub mod SitesReach

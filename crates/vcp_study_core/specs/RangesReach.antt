@@ -33,8 +33,7 @@ abbrev pub TellsRanges : Lists → Bool → Option (List ℕ) → Option (List �
 TellsRanges g all old new (Ok status) = (text : List ℕ) × IsRanged g all text status × Appends old new text
 TellsRanges g all old new (Err fault.Write) = (text : List ℕ) × (status : ℕ) × IsRanged g all text status × AppendsPart old new text
 TellsRanges g all old new (Err fault.Memory) = Appends old new []
-TellsRanges g all old new (Err (fault.Source i)) = ⊥
-TellsRanges g all old new (Err (fault.NoRun f)) = ⊥
+TellsRanges g all old new (Err _) = ⊥
 
 -- the file under a name is an image, of whose graph it is told so far
 abbrev pub TellsFile : List ℕ → Bool → Held → Option (List ℕ) → Option (List ℕ) → Result ℕ Fault → Type 0
@@ -45,5 +44,5 @@ abbrev pub ReachesRanges : List ℕ → Bool → Held → Option (List ℕ) → 
 ReachesRanges name all held old new b n (Err (fault.Source i)) = NotLoaded NotImage held name most_image_bytes b n i × Appends old new []
 ReachesRanges name all held old new b n (Err fault.Write) = TellsFile name all held old new (Err fault.Write)
 ReachesRanges name all held old new b n (Err fault.Memory) = TellsFile name all held old new (Err fault.Memory)
-ReachesRanges name all held old new b n (Err (fault.NoRun f)) = ⊥
 ReachesRanges name all held old new b n (Ok status) = TellsFile name all held old new (Ok status)
+ReachesRanges name all held old new b n (Err _) = ⊥

@@ -1,5 +1,5 @@
 -- Reach: how far a command comes before its fault's line, if there is one, is printed.
-use Rattle.std.specs.Prelude.{ℕ, ◌≡◌, ◌⊎◌, ◌<◌, ◌≤◌, List, [], length, Option, Some, None, Result, Ok, Err}
+use Rattle.std.specs.Prelude.{ℕ, ◌≡◌, ◌⊎◌, ◌<◌, ◌≤◌, List, [], ◌++◌, codes, length, Option, Some, None, Result, Ok, Err}
 use Rattle.std.specs.Io.KnownBytes.{Appends}
 use Rattle.vcp_base.specs.Limits.{most_image_bytes}
 use Rattle.vcp_outside.specs.Counts.{Rose}
@@ -50,14 +50,12 @@ ReachesGraph name horizon held old new b n (Ok _) = (text : List ℕ) × IsDrawn
 ReachesGraph name horizon held old new b n (Err (fault.Source i)) = Lost name horizon held b n i × Appends old new []
 ReachesGraph name horizon held old new b n (Err fault.Write) = (text : List ℕ) × IsDrawn held name horizon text × AppendsPart old new text
 ReachesGraph name horizon held old new b n (Err fault.Memory) = Appends old new []
-ReachesGraph name horizon held old new b n (Err (fault.NoRun f)) = ⊥
+ReachesGraph name horizon held old new b n (Err _) = ⊥
 
 -- the file couldn't be begun or read
 abbrev pub IsUnread : Fault → Type 0
 IsUnread (fault.Source i) = i ≡ input.Unread
-IsUnread fault.Write = ⊥
-IsUnread fault.Memory = ⊥
-IsUnread (fault.NoRun f) = ⊥
+IsUnread _ = ⊥
 
 -- the line of a fault, and the status
 abbrev pub fault_text : List ℕ → Fault → List ℕ
@@ -65,9 +63,11 @@ fault_text name (fault.Source i) = input_text name i
 fault_text name fault.Write = write_fault_text
 fault_text name fault.Memory = memory_text
 fault_text name (fault.NoRun f) = run_text name f
+fault_text name fault.Sites = name ++ codes " L9 Sites\n"
 
 abbrev pub fault_status : Fault → ℕ
 fault_status (fault.Source i) = input_status i
 fault_status fault.Write = 6
 fault_status fault.Memory = 7
 fault_status (fault.NoRun f) = 1
+fault_status fault.Sites = 1

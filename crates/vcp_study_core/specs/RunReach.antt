@@ -21,16 +21,13 @@ pub record IsDrawnRun (text picture : List ℕ) : Type 0 where
 abbrev pub IsNoRun : List ℕ → Fault → Type 0
 IsNoRun text (fault.NoRun f) = (f ≢ run.Memory) × (run_of text ≡ Err f)
 IsNoRun text fault.Memory = Unit {0}
-IsNoRun text fault.Write = ⊥
-IsNoRun text (fault.Source i) = ⊥
+IsNoRun text _ = ⊥
 
 -- a run is drawn: the picture is written, or a part of it where the sink failed
 abbrev pub WritesRun : Recorded → Option (List ℕ) → Option (List ℕ) → Result (Unit {0}) Fault → Type 0
 WritesRun recorded old new (Ok _) = (picture : List ℕ) × IsPictureOf recorded picture × Appends old new picture
 WritesRun recorded old new (Err fault.Write) = (picture : List ℕ) × IsPictureOf recorded picture × AppendsPart old new picture
-WritesRun recorded old new (Err (fault.NoRun f)) = ⊥
-WritesRun recorded old new (Err fault.Memory) = ⊥
-WritesRun recorded old new (Err (fault.Source i)) = ⊥
+WritesRun recorded old new (Err _) = ⊥
 
 -- how far a text's run is drawn: the picture is written, or a part of it where the sink failed, or nothing
 abbrev pub DrawsRun : List ℕ → Option (List ℕ) → Option (List ℕ) → Result (Unit {0}) Fault → Type 0
@@ -38,7 +35,7 @@ DrawsRun text old new (Ok _) = (picture : List ℕ) × IsDrawnRun text picture �
 DrawsRun text old new (Err fault.Write) = (picture : List ℕ) × IsDrawnRun text picture × AppendsPart old new picture
 DrawsRun text old new (Err (fault.NoRun f)) = IsNoRun text (fault.NoRun f) × Appends old new []
 DrawsRun text old new (Err fault.Memory) = Appends old new []
-DrawsRun text old new (Err (fault.Source i)) = ⊥
+DrawsRun text old new (Err _) = ⊥
 
 -- the file under a name holds a text, no longer than it may be, whose run is drawn so far
 abbrev pub DrawsFile : List ℕ → Held → Option (List ℕ) → Option (List ℕ) → Result (Unit {0}) Fault → Type 0
@@ -51,3 +48,4 @@ ReachesRun name held old new b n (Err (fault.NoRun f)) = DrawsFile name held old
 ReachesRun name held old new b n (Err fault.Write) = DrawsFile name held old new (Err fault.Write)
 ReachesRun name held old new b n (Err fault.Memory) = DrawsFile name held old new (Err fault.Memory)
 ReachesRun name held old new b n (Ok done) = DrawsFile name held old new (Ok done)
+ReachesRun name held old new b n (Err _) = ⊥

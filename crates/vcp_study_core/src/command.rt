@@ -2,9 +2,14 @@
 
 ghost use Rattle.std.specs.Prelude.{◌≡◌, IfSome};
 ghost use Rattle.std.specs.Option.{option_map};
+ghost use Rattle.vcp_base.specs.Limits.{most_cycles};
 ghost use Rattle.vcp_study_core.specs.Forms.{form, form_of, file_of, graph_form, waves_form, ranges_form, all_of, IsSound};
+ghost use Rattle.vcp_study_core.specs.Forms.{sites_form, classes_and_rest, chosen_of, number_word, part_of};
 
-use vcp_base::{MOST_HORIZON, Text, Words};
+use crate::fault::Fault;
+use fault_sites::{Classes, Part, classes_named};
+use site_scripts::Chosen;
+use vcp_base::{MOST_CYCLES, MOST_HORIZON, Text, Words, numeral};
 use vcp_words::WordsLeft;
 
 /// A command, with its own words. A name of a file isn't empty and doesn't begin with `-`.
@@ -29,17 +34,30 @@ pub enum Command<'a> {
         /// Whether the range of each operation is told too.
         all: bool,
     },
+    /// `sites M CYCLES CLASS`, with `FROM COUNT` or `--count` behind it or without: the script of the single faults of a class.
+    Sites {
+        /// The name of the image, M.
+        image: &'a Text,
+        /// How many cycles the faults are in, CYCLES, 1 to 1,000,000.
+        cycles: u32,
+        /// The class, or all, CLASS.
+        classes: Classes,
+        /// What is written.
+        chosen: Chosen,
+    },
 }
 
 impl Command<'_> {
-    /// The name of the file that it reads.
-    pub fn file(&self) -> &[u8]
-        ensures { result.now ≡ file_of (form self.now) }
+    /// The name of the file that the line of a fault names.
+    pub(crate) fn file(&self, fault: &Fault) -> &[u8]
+        ensures { result.now ≡ file_of (form self.now) fault.now }
     {
+        let _fault = fault;
         match self {
             Command::Graph { image, .. } => image.bytes(),
             Command::Waves { file } => file.bytes(),
             Command::Ranges { image, .. } => image.bytes(),
+            Command::Sites { image, .. } => image.bytes(),
         }
     }
 }
@@ -59,6 +77,9 @@ pub fn command_of(words: &Words) -> Option<Command<'_>>
     }
     if command == b"ranges".as_slice() {
         return ranges_words(&mut left);
+    }
+    if command == b"sites".as_slice() {
+        return sites_words(&mut left);
     }
     None
 }
@@ -111,4 +132,65 @@ fn ranges_words<'a>(words: &mut WordsLeft<'a>) -> Option<Command<'a>>
     let image = words.name()?;
     let all = all_word(words)?;
     Some(Command::Ranges { image, all })
+}
+
+/// The word that names a class.
+fn class_word(words: &mut WordsLeft<'_>) -> Option<Classes>
+    ensures { option_map (λ c. (c, words.new)) result ≡ classes_and_rest words.old }
+{
+    classes_named(words.next()?.bytes())
+}
+
+/// Whether only the number is wanted: `--count` says so.
+fn number_chosen(word: &Text) -> Option<Chosen>
+    ensures { result ≡ number_word word.now }
+{
+    if word.bytes() == b"--count".as_slice() {
+        Some(Chosen::Number)
+    } else {
+        None
+    }
+}
+
+/// A part: how many sites stand before it, FROM, and the most that it has, COUNT.
+fn part_chosen(from: &Text, count: &Text) -> Option<Chosen>
+    ensures { result ≡ part_of from.now count.now }
+{
+    let skip = numeral(from.bytes())?;
+    let left = numeral(count.bytes())?;
+    Some(Chosen::Part(Part { skip, left }))
+}
+
+/// What is written of the sites: without more words the script of all.
+fn chosen_words(words: &mut WordsLeft<'_>) -> Option<Chosen>
+    ensures { result ≡ chosen_of words.old }
+{
+    match words.next() {
+        None => Some(Chosen::All),
+        Some(first) => match words.next() {
+            None => number_chosen(first),
+            Some(second) => if words.is_end() {
+                part_chosen(first, second)
+            } else {
+                None
+            },
+        },
+    }
+}
+
+/// The words of `sites`: M, CYCLES, CLASS, and what is written.
+fn sites_words<'a>(words: &mut WordsLeft<'a>) -> Option<Command<'a>>
+    ensures form { option_map form result ≡ sites_form words.old }
+    ensures sound { IfSome result (λ command. IsSound (form command)) }
+{
+    let image = words.name()?;
+    let cycles = words.number(1, MOST_CYCLES)?;
+    let classes = class_word(words)?;
+    let chosen = chosen_words(words)?;
+    Some(Command::Sites {
+        image,
+        cycles,
+        classes,
+        chosen,
+    })
 }

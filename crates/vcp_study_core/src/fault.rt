@@ -19,6 +19,8 @@ pub enum Fault {
     Memory,
     /// The file is no run.
     NoRun(RunFault),
+    /// The script would have more than 10,000 faults.
+    Sites,
 }
 
 impl From<Failed> for Fault {

@@ -1,10 +1,11 @@
-//! The commands that study an image or a run: pictures, and which operations can stop. And the top call.
+//! The commands that study an image or a run: pictures, which operations can stop, and scripts of faults. And the top call.
 #![tactic(auto)]
 
 mod command;
 mod fault;
 mod graph;
 mod ranges;
+mod sites;
 mod telling;
 mod top;
 mod waves;

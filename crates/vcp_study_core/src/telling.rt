@@ -19,7 +19,7 @@ pub fn tell_usage<E: Sink>(err: &mut E) -> Result<(), Failed>
 {
     write_all(
         err,
-        b"usage: vcp_study graph M HORIZON, waves FILE, ranges M or ranges M --all\n",
+        b"usage: vcp_study graph M HORIZON, waves FILE, ranges M, ranges M --all, sites M CYCLES CLASS, sites M CYCLES CLASS FROM COUNT or sites M CYCLES CLASS --count\n",
     )
 }
 
@@ -32,6 +32,7 @@ pub fn tell<E: Sink>(err: &mut E, name: &[u8], fault: &Fault) -> Result<(), Fail
         Fault::Write => write_all(err, b"write fault\n"),
         Fault::Memory => write_all(err, b"no memory\n"),
         Fault::NoRun(why) => tell_no_run(err, name, *why),
+        Fault::Sites => tell_of(err, name, b" L9 Sites"),
     }
 }
 
@@ -75,6 +76,6 @@ pub fn fault_status(fault: &Fault) -> u8
         Fault::Source(input) => input_status(input),
         Fault::Write => 6,
         Fault::Memory => 7,
-        Fault::NoRun(_) => 1,
+        Fault::NoRun(_) | Fault::Sites => 1,
     }
 }

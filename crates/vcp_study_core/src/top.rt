@@ -13,6 +13,7 @@ use crate::command::{Command, command_of};
 use crate::fault::Fault;
 use crate::graph::graph_command;
 use crate::ranges::ranges_command;
+use crate::sites::sites_command;
 use crate::telling::{fault_status, tell, tell_usage};
 use crate::waves::waves_command;
 use std::alloc::Global;
@@ -20,11 +21,11 @@ use vcp_base::Words;
 use vcp_outside::{Failed, Files, Sink};
 
 /// Does all that the program does, and answers its status: what the words say, on the files, writing
-/// the picture or the ranges to `out`, and the line of a fault to `err`.
+/// the picture, the ranges or the script to `out`, and the line of a fault to `err`.
 ///
 /// | status | comes |
 /// |---|---|
-/// | 0 | the picture was written; or the ranges, and no operation may stop |
+/// | 0 | the picture, the script or the number was written; or the ranges, and no operation may stop |
 /// | 1 | the ranges were written, and an operation may stop; or the file is refused |
 /// | 4 | the words are none of the forms |
 /// | 5 | a file failed |
@@ -74,7 +75,7 @@ fn serve<F: Files, O: Sink, E: Sink>(
 {
     match study(alloc, command, files, out) {
         Ok(status) => status,
-        Err(fault) => match tell(err, command.file(), &fault) {
+        Err(fault) => match tell(err, command.file(&fault), &fault) {
             Ok(()) => fault_status(&fault),
             Err(Failed) => 6,
         },
@@ -113,5 +114,11 @@ fn study<F: Files, O: Sink>(
         )),
         Command::Waves { file } => with_status(waves_command(alloc, file, files, out)),
         Command::Ranges { image, all } => ranges_command(alloc, image, *all, files, out),
+        Command::Sites {
+            image,
+            cycles,
+            classes,
+            chosen,
+        } => sites_command(alloc, image, *cycles, *classes, chosen, files, out),
     }
 }

@@ -1,0 +1,44 @@
+-- SitesReach: how far `sites M CYCLES CLASS` comes before its fault's line, if there is one, is printed.
+use Rattle.std.specs.Prelude.{ℕ, ◌≡◌, List, [], Option, Result, Ok, Err}
+use Rattle.std.specs.Io.KnownBytes.{Appends}
+use Rattle.vcp_base.specs.Limits.{most_image_bytes}
+use Rattle.vcp_outside.specs.Held.{Held}
+use Rattle.fault_sites.specs.declared.class.Classes.{Classes}
+use Rattle.fault_sites.specs.Laws.{Distinct}
+use Rattle.fault_sites.specs.Sites.{sites}
+use Rattle.fault_sites.specs.SiteText.{classes_name}
+use Rattle.site_scripts.specs.declared.chosen.Chosen.{Chosen}
+use Rattle.site_scripts.specs.declared.unwritten.Unwritten.TheVariants as unwritten
+use Rattle.site_scripts.specs.Script.{WritesChosen}
+use Rattle.vcp_inputs.specs.declared.images.Image.{Image}
+use Rattle.vcp_inputs.specs.Files.{NotLoaded}
+use Rattle.vcp_inputs.specs.Images.{NotImage}
+use Rattle.vcp_study_core.specs.declared.fault.Fault.{Fault}
+use Rattle.vcp_study_core.specs.declared.fault.Fault.TheVariants as fault
+use Rattle.vcp_study_core.specs.Reach.{IsImage}
+
+-- how far it is written of the sites of an image what is chosen
+abbrev pub WritesSites : Image → ℕ → Classes → Chosen → Option (List ℕ) → Option (List ℕ) → Result ℕ Fault → Type 0
+WritesSites i cycles c which old new (Ok status) =
+    (status ≡ 0) × WritesChosen i.graph i.table (classes_name c) (sites c i.graph cycles) which old new (Ok tt)
+WritesSites i cycles c which old new (Err fault.Write) =
+    WritesChosen i.graph i.table (classes_name c) (sites c i.graph cycles) which old new (Err unwritten.Failed)
+WritesSites i cycles c which old new (Err fault.Sites) =
+    WritesChosen i.graph i.table (classes_name c) (sites c i.graph cycles) which old new (Err unwritten.TooMany)
+WritesSites i cycles c which old new (Err fault.Memory) =
+    WritesChosen i.graph i.table (classes_name c) (sites c i.graph cycles) which old new (Err unwritten.Memory)
+WritesSites i cycles c which old new (Err _) = ⊥
+
+-- the file under a name is an image, of whose sites of the class, each of which stands once, it is written so far
+abbrev pub WritesFile : List ℕ → ℕ → Classes → Chosen → Held → Option (List ℕ) → Option (List ℕ) → Result ℕ Fault → Type 0
+WritesFile name cycles c which held old new result =
+    (i : Image) × IsImage held name i × Distinct (sites c i.graph cycles) × WritesSites i cycles c which old new result
+
+-- how far `sites M CYCLES CLASS` comes: there is nothing of the image, and nothing is written; or it is written of its sites so far
+abbrev pub ReachesSites : List ℕ → ℕ → Classes → Chosen → Held → Option (List ℕ) → Option (List ℕ) → ℕ → ℕ → Result ℕ Fault → Type 0
+ReachesSites name cycles c which held old new b n (Ok status) = WritesFile name cycles c which held old new (Ok status)
+ReachesSites name cycles c which held old new b n (Err (fault.Source i)) = NotLoaded NotImage held name most_image_bytes b n i × Appends old new []
+ReachesSites name cycles c which held old new b n (Err fault.Write) = WritesFile name cycles c which held old new (Err fault.Write)
+ReachesSites name cycles c which held old new b n (Err fault.Sites) = WritesFile name cycles c which held old new (Err fault.Sites)
+ReachesSites name cycles c which held old new b n (Err fault.Memory) = WritesFile name cycles c which held old new (Err fault.Memory)
+ReachesSites name cycles c which held old new b n (Err _) = ⊥
