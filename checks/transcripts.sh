@@ -4,8 +4,8 @@
 #     checks/transcripts.sh [DOCUMENT..]
 #
 # An indented block that begins with `$ ` is a transcript: each of its lines that begins so is a command, and what the command prints stands
-# below it. The transcripts of a document are run in order by one shell, in a new folder with `vcp`, `vcp_study`, `vcp_tools`, `examples/` and
-# `checks/`. What is printed has to be the transcript; the first document that differs is shown as a diff, and the status is then 1.
+# below it. The transcripts of a document are run in order by one shell, in a new folder with `vcp`, `vcp_study`, `vcp_tools`, `campaign.sh`,
+# `examples/` and `checks/`. What is printed has to be the transcript; the first document that differs is shown as a diff, and the status is then 1.
 #
 # It uses the programs that are built, or those of VCP=FILE and VCP_STUDY=FILE, and builds none: without `vcp` nothing is run and the status is 0.
 # Without `vcp_study` a transcript that runs it is left out, and without Python 3 one that runs a script of checks/ or a tool.
@@ -25,7 +25,7 @@ command -v python3 >/dev/null 2>&1 && python=1 || python=0
 # The transcripts of a document, without their indentation, each ended by an empty line.
 shown() {
     awk -v python="$python" -v studies="$studies" '
-        function flush() { if (block != "" && (python || block !~ /checks\/|vcp_tools/) && (studies || block !~ /vcp_study/)) print block; block = "" }
+        function flush() { if (block != "" && (python || block !~ /checks\/|vcp_tools/) && (studies || block !~ /vcp_study|campaign/)) print block; block = "" }
         /^    \$ / && !indented { inside = 1 }
         { indented = /^    / }
         inside && indented { block = block substr($0, 5) "\n"; next }
@@ -51,10 +51,10 @@ agrees() {
     rm -rf "$work/here"
     mkdir "$work/here" && cp -R "$top/examples" "$work/here/examples" || return 1
     [ "$studies" = 0 ] || ln -s "$study" "$work/here/vcp_study" || return 1
-    ln -s "$vcp" "$work/here/vcp" && ln -s "$top/vcp_tools" "$work/here/vcp_tools" && ln -s "$top/checks" "$work/here/checks" || return 1
+    ln -s "$top/campaign.sh" "$work/here/campaign.sh" && ln -s "$vcp" "$work/here/vcp" && ln -s "$top/vcp_tools" "$work/here/vcp_tools" && ln -s "$top/checks" "$work/here/checks" || return 1
     shown "$1" >"$work/shown"
     script <"$work/shown" >"$work/script"
-    (cd "$work/here" && VCP=$vcp sh "$work/script" >"$work/printed" 2>&1 </dev/null)
+    (cd "$work/here" && VCP=$vcp VCP_STUDY=$study sh "$work/script" >"$work/printed" 2>&1 </dev/null)
     diff "$work/shown" "$work/printed"
 }
 

@@ -1,0 +1,177 @@
+#!/bin/sh
+# campaign.sh M ROWS (SCRIPT | CLASS) [options of parallel]
+#
+# Judges each fault of a class, or of a script of any length, over the image M and the rows ROWS. `vcp inject` takes 10,000 faults at once:
+# the campaign is cut into parts of at most so many, never within a group, which run side by side under GNU parallel, on other machines too
+# (--sshloginfile); without it they run one by one. What stands of a campaign is kept in a folder, so that one that was broken off goes on.
+#
+# CLASS is a word of `vcp_study sites`: bits, stale, skip, from, operator or all. The folder, campaign.DIGEST, is named by what M, ROWS and the
+# script hold. Behind the last part it has `faults`, the whole script, and `verdicts`, the lines of `vcp inject` with the lines of that script.
+# The status is 0 where all parts were judged, and 1 else.
+top=$(CDPATH='' cd -- "$(dirname -- "$0")" && pwd) || exit 1
+vcp=${VCP:-$top/crates/vcp/out/vcp}
+study=${VCP_STUDY:-$top/crates/vcp_study/out/vcp_study}
+most=10000
+tries=3
+
+refuse() {
+    echo "campaign.sh: $*" >&2
+    exit 1
+}
+
+[ $# -ge 3 ] || refuse "usage: campaign.sh M ROWS (SCRIPT | CLASS) [options of parallel]"
+image=$1 rows=$2 faults=$3
+shift 3
+for file in "$vcp" "$study" "$image" "$rows"; do
+    [ -r "$file" ] || refuse "cannot read $file"
+done
+digest=$(sha256sum <"$image" | cut -c 1-64)
+
+# Whether the third word names a class; a script that has such a name is given as ./bits.
+is_class() {
+    case $1 in
+    bits | stale | skip | from | operator | all) true ;;
+    *) false ;;
+    esac
+}
+
+# The cycles of a run over the rows, from its last line.
+cycles() {
+    "$vcp" exec "$image" "$rows" | awk 'END { if ($1 == "end") print $2; else print $2 + 1 }'
+}
+
+if is_class "$faults"; then
+    of=$( (echo "$digest" "$faults"; cat "$rows") | sha256sum | cut -c 1-12)
+else
+    [ -r "$faults" ] || refuse "cannot read $faults, and no class has this name"
+    named=$(awk 'NR == 1 && /^#/ { for (i = 1; i <= NF; i++) if ($i ~ /^[0-9a-f]+$/ && length($i) == 64) print $i }' "$faults")
+    [ -z "$named" ] || [ "$named" = "$digest" ] || refuse "$faults is a script of another image than $image"
+    of=$( (echo "$digest"; cat "$faults" "$rows") | sha256sum | cut -c 1-12)
+fi
+work=campaign.$of
+mkdir -p "$work/parts" || exit 1
+
+# The parts of a class. `first` of a part says how many lines of the whole script stand before its second line; the first line of each part is
+# a remark.
+cut_class() {
+    count=$(cycles) && number=$("$study" sites "$image" "$count" "$faults" --count) || return 1
+    part=0
+    while [ $((part * most)) -lt "$number" ]; do
+        name=$(printf '%s/parts/%06d' "$work" "$part")
+        echo $((part * most)) >"$name.first"
+        "$study" sites "$image" "$count" "$faults" $((part * most)) $most >"$name.faults" || return 1
+        part=$((part + 1))
+    done
+}
+
+# The parts of a script: its lines as they stand, but that a remark's line is left empty. No group is cut. Before each part's lines stands a
+# remark, so that line n of a part is line first + n of the script.
+cut_script() {
+    awk -v most=$most -v work="$work/parts" '
+        function open_part(line) {
+            if (part) close(name ".faults")
+            name = sprintf("%s/%06d", work, part++)
+            print line - 2 >(name ".first")
+            close(name ".first")
+            print "# part " part >(name ".faults")
+            held = 0
+        }
+        function put() {
+            if (!part || held + count > most) open_part(start)
+            printf "%s", lines >(name ".faults")
+            held += count
+            lines = ""
+        }
+        !grouped { start = NR; count = 0 }
+        /^#/ || !NF { lines = lines "\n" }
+        !/^#/ && NF {
+            lines = lines $0 "\n"
+            if ($1 == "begin") grouped = 1
+            else if ($1 == "end") grouped = 0
+            else count++
+        }
+        !grouped { put() }
+        END { if (lines != "") put() }
+    ' "$faults"
+}
+
+if [ ! -e "$work/cut" ]; then
+    rm -f "$work"/parts/*
+    if is_class "$faults"; then
+        cut_class || refuse "the sites of $faults cannot be told"
+    else
+        cut_script || refuse "$faults cannot be cut into parts"
+    fi
+    cp "$image" "$work/image" && cp "$rows" "$work/rows" && cp "$vcp" "$work/vcp" || exit 1
+    # One part, judged from within the folder: what is printed stands whole or not at all.
+    cat >"$work/judge" <<'JUDGE' && chmod +x "$work/judge" || exit 1
+#!/bin/sh
+./vcp inject image rows "$1" >"${1%.faults}.now" && mv "${1%.faults}.now" "${1%.faults}.verdicts"
+JUDGE
+    # The whole script, whose lines the verdicts name.
+    if is_class "$faults"; then
+        { sed -n 1p "$work"/parts/000000.faults; sed -s 1d "$work"/parts/*.faults; } >"$work/faults"
+    else
+        cp "$faults" "$work/faults"
+    fi || exit 1
+    : >"$work/cut"
+fi
+cd "$work" || exit 1
+
+# The parts that aren't judged yet.
+left() {
+    for part in parts/*.faults; do
+        [ -e "$part" ] && [ ! -e "${part%.faults}.verdicts" ] && echo "$part"
+    done
+}
+
+# Whether an option of parallel names other machines; the files that a part needs are sent there then.
+sends() {
+    for word in "$@"; do
+        case $word in
+        -S | -S* | --sshlogin* | --slf*) return 0 ;;
+        esac
+    done
+    return 1
+}
+
+if command -v parallel >/dev/null 2>&1; then
+    if sends "$@"; then
+        left | parallel --retries $tries --workdir ... --basefile vcp --basefile judge --basefile image --basefile rows \
+            --transferfile '{}' --return '{.}.verdicts' --cleanup "$@" ./judge '{}'
+    else
+        left | parallel --retries $tries "$@" ./judge '{}'
+    fi
+else
+    [ -z "$(left)" ] || echo "campaign.sh: GNU parallel isn't installed: the parts run one by one" >&2
+    for part in $(left); do
+        try=1
+        until ./judge "$part"; do
+            echo "campaign.sh: $part failed, try $try of $tries" >&2
+            [ $try -lt $tries ] || break
+            try=$((try + 1))
+        done
+    done
+fi
+[ -z "$(left)" ] || refuse "not judged: $(left | tr '\n' ' ')in $work; the same call tries them again"
+
+# The verdicts of a part with the lines of the whole script; its totals have to count them.
+moved() {
+    awk -v first="$(cat "${1%.verdicts}.first")" '
+        $1 == "faults" { if ($2 != NR - 1) exit 1; whole = 1; print; next }
+        { sub(/^[0-9]+/, $1 + first); print }
+        END { if (!whole) exit 1 }
+    ' "$1"
+}
+
+# One text in order, and one line of totals behind it.
+for part in parts/*.verdicts; do
+    [ -e "$part" ] || continue
+    moved "$part" || refuse "$work/$part has lost lines"
+done >moved.now
+awk '
+    $1 == "faults" { for (i = 2; i <= NF; i += 2) sum[i] += $i; next }
+    { print }
+    END { printf "faults %d same %d wrong %d ran-on %d refused %d stopped %d\n", sum[2], sum[4], sum[6], sum[8], sum[10], sum[12] }
+' moved.now >verdicts && rm moved.now || exit 1
+tail -n 1 verdicts
