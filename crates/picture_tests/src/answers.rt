@@ -12,7 +12,7 @@ use worked_programs::{cells, same, word_off, words_of};
 /// The usage line.
 const USAGE: &str =
     "usage: vcp_study graph M HORIZON, waves FILE, ranges M, ranges M --all, sites M CYCLES CLASS, \
-    sites M CYCLES CLASS FROM COUNT or sites M CYCLES CLASS --count";
+    sites M CYCLES CLASS FROM COUNT, sites M CYCLES CLASS --count or sum M SCRIPT VERDICTS";
 
 /// Words => the status, and the line of errors; `usage` is the usage line. An image stands under `m.img`, and a source under `p.st`.
 const ANSWERS: &str = "\
@@ -46,6 +46,14 @@ sites no.img 3 skip => 5 no.img read fault
 sites p.st 3 skip --count => 1 p.st:0 I1 Magic
 sites m.img 1000 bits => 1 m.img L9 Sites
 sites m.img 1000 bits 5 10001 => 1 m.img L9 Sites
+sum m.img => 4 usage
+sum m.img p.st => 4 usage
+sum m.img p.st p.st 0 => 4 usage
+sum m.img -s p.st => 4 usage
+sum no.img p.st p.st => 5 no.img read fault
+sum p.st p.st p.st => 1 p.st:0 I1 Magic
+sum m.img no.txt p.st => 5 no.txt read fault
+sum m.img p.st p.st => 1 p.st:1 F1 Form
 ";
 
 /// Fails where a row's words don't get its status and its line, and a picture alone where there is no line.

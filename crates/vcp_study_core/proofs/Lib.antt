@@ -3,3 +3,4 @@ mod Reaching
 pub mod RunReaching
 mod SitesReaching
 mod Statuses
+mod SumReaching

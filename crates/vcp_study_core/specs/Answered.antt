@@ -6,12 +6,13 @@ use Rattle.vcp_outside.specs.Held.{Held}
 use Rattle.vcp_outside.specs.Seen.{FilesSeen, SinkSeen}
 use Rattle.vcp_outside.specs.Written.{AppendsPart}
 use Rattle.vcp_study_core.specs.declared.fault.Fault.{Fault}
-use Rattle.vcp_study_core.specs.Forms.{Form, graph, waves, ranges, sites, file_of, usage_text}
+use Rattle.vcp_study_core.specs.Forms.{Form, graph, waves, ranges, sites, sum, file_of, usage_text}
 use Rattle.vcp_study_core.specs.Reach.{ReachesGraph, fault_text, fault_status}
 use Rattle.vcp_study_core.specs.RangesReach.{ReachesRanges}
 use Rattle.vcp_study_core.specs.RunReach.{ReachesRun}
 use Rattle.vcp_study_core.specs.Seen.{Outside}
 use Rattle.vcp_study_core.specs.SitesReach.{ReachesSites}
+use Rattle.vcp_study_core.specs.SumReach.{ReachesSum}
 
 -- what a command that draws comes to, with its status: 0 where the picture is written
 abbrev pub as_status : Result (Unit {0}) Fault → Result ℕ Fault
@@ -30,6 +31,8 @@ Reaches (waves file) held files later out now result = IsDrawing (ReachesRun fil
 Reaches (ranges m all) held files later out now result = ReachesRanges m all held out.written now.written files.broken later.broken result
 Reaches (sites m cycles classes which) held files later out now result =
     ReachesSites m cycles classes which held out.written now.written files.broken later.broken result
+Reaches (sum m script verdicts) held files later out now result =
+    ReachesSum m script verdicts held out.written now.written files.broken later.broken result
 
 -- the line was printed with this status, or the sink of the errors failed in it, with status 6
 abbrev pub TellsLine : List ℕ → ℕ → SinkSeen → SinkSeen → ℕ → Type 0

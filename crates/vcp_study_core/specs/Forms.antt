@@ -11,13 +11,16 @@ use Rattle.site_scripts.specs.declared.chosen.Chosen.TheVariants as chosen
 use Rattle.vcp_study_core.specs.declared.command.Command.{Command}
 use Rattle.vcp_study_core.specs.declared.command.Command.TheVariants as command
 use Rattle.vcp_study_core.specs.declared.fault.Fault.{Fault}
+use Rattle.vcp_study_core.specs.declared.fault.Fault.TheVariants as fault
 
--- a command with its words: M is an image's name, FILE a file's; then HORIZON, whether all operations are told, CYCLES, CLASS and which of the sites
+-- a command with its words: M is an image's name, FILE a file's; then HORIZON, whether all operations are told, CYCLES, CLASS and which
+-- of the sites, and SCRIPT and VERDICTS, the names of files
 pub data Form : Type 0 where
   graph : List ℕ → ℕ → Form
   waves : List ℕ → Form
   ranges : List ℕ → Bool → Form
   sites : List ℕ → ℕ → Classes → Chosen → Form
+  sum : List ℕ → List ℕ → List ℕ → Form
 
 -- a command, where no words are left
 abbrev pub at_end : Form → List (List ℕ) → Option Form
@@ -64,6 +67,12 @@ sites_form words =
     option_and_then (λ m. option_and_then (λ n. option_and_then (λ c. option_map (sites m.0 n.0 c.0) (chosen_of c.1)) (classes_and_rest n.1))
     (number_and_rest 1 most_cycles m.1)) (name_and_rest words)
 
+-- the words of `sum`: M, SCRIPT and VERDICTS
+abbrev pub sum_form : List (List ℕ) → Option Form
+sum_form words =
+    option_and_then (λ m. option_and_then (λ s. option_and_then (λ v. at_end (sum m.0 s.0 v.0) v.1) (name_and_rest s.1)) (name_and_rest m.1))
+    (name_and_rest words)
+
 -- the command that words say, a line a form
 abbrev pub form_of : List (List ℕ) → Option Form
 form_of [] = None
@@ -71,7 +80,8 @@ form_of (w ∷ words) =
     cond (bytes_eq w (codes "graph")) (graph_form words)
     (cond (bytes_eq w (codes "waves")) (waves_form words)
     (cond (bytes_eq w (codes "ranges")) (ranges_form words)
-    (cond (bytes_eq w (codes "sites")) (sites_form words) None)))
+    (cond (bytes_eq w (codes "sites")) (sites_form words)
+    (cond (bytes_eq w (codes "sum")) (sum_form words) None))))
 
 -- a command, as a form
 abbrev pub form : Command → Form
@@ -79,6 +89,7 @@ form (command.Graph image horizon) = graph image.now horizon
 form (command.Waves file) = waves file.now
 form (command.Ranges image all) = ranges image.now all
 form (command.Sites image cycles classes which) = sites image.now cycles classes which
+form (command.Sum image script verdicts) = sum image.now script.now verdicts.now
 
 -- the name of the file that the line of a fault names
 abbrev pub file_of : Form → Fault → List ℕ
@@ -86,6 +97,11 @@ file_of (graph m horizon) e = m
 file_of (waves file) e = file
 file_of (ranges m all) e = m
 file_of (sites m cycles classes which) e = m
+file_of (sum m script verdicts) (fault.Script i) = script
+file_of (sum m script verdicts) fault.Image = script
+file_of (sum m script verdicts) (fault.Verdicts i) = verdicts
+file_of (sum m script verdicts) (fault.NoVerdicts f) = verdicts
+file_of (sum m script verdicts) e = m
 
 -- a horizon and a number of cycles are within their limits
 abbrev pub IsSound : Form → Type 0
@@ -93,7 +109,8 @@ IsSound (graph m horizon) = horizon ≤ most_horizon
 IsSound (waves file) = Unit {0}
 IsSound (ranges m all) = Unit {0}
 IsSound (sites m cycles classes which) = cycles ≤ most_cycles
+IsSound (sum m script verdicts) = Unit {0}
 
 -- the usage line
 abbrev pub usage_text : List ℕ
-usage_text = codes "usage: vcp_study graph M HORIZON, waves FILE, ranges M, ranges M --all, sites M CYCLES CLASS, sites M CYCLES CLASS FROM COUNT or sites M CYCLES CLASS --count\n"
+usage_text = codes "usage: vcp_study graph M HORIZON, waves FILE, ranges M, ranges M --all, sites M CYCLES CLASS, sites M CYCLES CLASS FROM COUNT, sites M CYCLES CLASS --count or sum M SCRIPT VERDICTS\n"

@@ -6,3 +6,5 @@ pub mod RunLines
 pub mod RunReach
 pub mod Seen
 pub mod SitesReach
+pub mod SumLines
+pub mod SumReach

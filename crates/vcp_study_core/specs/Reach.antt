@@ -16,6 +16,7 @@ use Rattle.vcp_inputs.specs.Images.{ImageOf, NotImage}
 use Rattle.vcp_inputs.specs.Lines.{memory_text, write_fault_text, input_text, input_status}
 use Rattle.graph_picture.specs.Elements.{IsPictureOf}
 use Rattle.vcp_study_core.specs.RunLines.{run_text}
+use Rattle.vcp_study_core.specs.SumLines.{verdicts_text}
 use Rattle.vcp_study_core.specs.declared.fault.Fault.{Fault}
 use Rattle.vcp_study_core.specs.declared.fault.Fault.TheVariants as fault
 
@@ -55,6 +56,8 @@ ReachesGraph name horizon held old new b n (Err _) = ⊥
 -- the file couldn't be begun or read
 abbrev pub IsUnread : Fault → Type 0
 IsUnread (fault.Source i) = i ≡ input.Unread
+IsUnread (fault.Script i) = i ≡ input.Unread
+IsUnread (fault.Verdicts i) = i ≡ input.Unread
 IsUnread _ = ⊥
 
 -- the line of a fault, and the status
@@ -64,6 +67,10 @@ fault_text name fault.Write = write_fault_text
 fault_text name fault.Memory = memory_text
 fault_text name (fault.NoRun f) = run_text name f
 fault_text name fault.Sites = name ++ codes " L9 Sites\n"
+fault_text name (fault.Script i) = input_text name i
+fault_text name (fault.Verdicts i) = input_text name i
+fault_text name fault.Image = name ++ codes ":1 U1 Image\n"
+fault_text name (fault.NoVerdicts f) = verdicts_text name f
 
 abbrev pub fault_status : Fault → ℕ
 fault_status (fault.Source i) = input_status i
@@ -71,3 +78,7 @@ fault_status fault.Write = 6
 fault_status fault.Memory = 7
 fault_status (fault.NoRun f) = 1
 fault_status fault.Sites = 1
+fault_status (fault.Script i) = input_status i
+fault_status (fault.Verdicts i) = input_status i
+fault_status fault.Image = 1
+fault_status (fault.NoVerdicts f) = 1

@@ -4,7 +4,7 @@ ghost use Rattle.std.specs.Prelude.{◌≡◌, IfSome};
 ghost use Rattle.std.specs.Option.{option_map};
 ghost use Rattle.vcp_base.specs.Limits.{most_cycles};
 ghost use Rattle.vcp_study_core.specs.Forms.{form, form_of, file_of, graph_form, waves_form, ranges_form, all_of, IsSound};
-ghost use Rattle.vcp_study_core.specs.Forms.{sites_form, classes_and_rest, chosen_of, number_word, part_of};
+ghost use Rattle.vcp_study_core.specs.Forms.{sites_form, sum_form, classes_and_rest, chosen_of, number_word, part_of};
 
 use crate::fault::Fault;
 use fault_sites::{Classes, Part, classes_named};
@@ -45,6 +45,15 @@ pub enum Command<'a> {
         /// What is written.
         chosen: Chosen,
     },
+    /// `sum M SCRIPT VERDICTS`: tables of the verdicts that were printed on a script.
+    Sum {
+        /// The name of the image, M.
+        image: &'a Text,
+        /// The name of the script.
+        script: &'a Text,
+        /// The name of what was printed on it.
+        verdicts: &'a Text,
+    },
 }
 
 impl Command<'_> {
@@ -52,12 +61,20 @@ impl Command<'_> {
     pub(crate) fn file(&self, fault: &Fault) -> &[u8]
         ensures { result.now ≡ file_of (form self.now) fault.now }
     {
-        let _fault = fault;
         match self {
             Command::Graph { image, .. } => image.bytes(),
             Command::Waves { file } => file.bytes(),
             Command::Ranges { image, .. } => image.bytes(),
             Command::Sites { image, .. } => image.bytes(),
+            Command::Sum {
+                image,
+                script,
+                verdicts,
+            } => match fault {
+                Fault::Script(_) | Fault::Image => script.bytes(),
+                Fault::Verdicts(_) | Fault::NoVerdicts(_) => verdicts.bytes(),
+                _ => image.bytes(),
+            },
         }
     }
 }
@@ -80,6 +97,9 @@ pub fn command_of(words: &Words) -> Option<Command<'_>>
     }
     if command == b"sites".as_slice() {
         return sites_words(&mut left);
+    }
+    if command == b"sum".as_slice() {
+        return sum_words(&mut left);
     }
     None
 }
@@ -192,5 +212,23 @@ fn sites_words<'a>(words: &mut WordsLeft<'a>) -> Option<Command<'a>>
         cycles,
         classes,
         chosen,
+    })
+}
+
+/// The words of `sum`: M, SCRIPT and VERDICTS.
+fn sum_words<'a>(words: &mut WordsLeft<'a>) -> Option<Command<'a>>
+    ensures form { option_map form result ≡ sum_form words.old }
+    ensures sound { IfSome result (λ command. IsSound (form command)) }
+{
+    let image = words.name()?;
+    let script = words.name()?;
+    let verdicts = words.name()?;
+    if !words.is_end() {
+        return None;
+    }
+    Some(Command::Sum {
+        image,
+        script,
+        verdicts,
     })
 }

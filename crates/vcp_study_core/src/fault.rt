@@ -7,6 +7,7 @@ use run_picture::RunFault;
 use vcp_base::Memory;
 use vcp_inputs::NoInput;
 use vcp_outside::Failed;
+use verdict_tables::VerdictsFault;
 
 /// Why a command ends before all is drawn.
 #[derive(Debug, Drop)]
@@ -21,6 +22,14 @@ pub enum Fault {
     NoRun(RunFault),
     /// The script would have more than 10,000 faults.
     Sites,
+    /// There is nothing of the script.
+    Script(NoInput),
+    /// There is nothing of the verdicts.
+    Verdicts(NoInput),
+    /// The script names another image.
+    Image,
+    /// The text doesn't tell the verdicts of the script.
+    NoVerdicts(VerdictsFault),
 }
 
 impl From<Failed> for Fault {

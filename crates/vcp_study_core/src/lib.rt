@@ -6,6 +6,7 @@ mod fault;
 mod graph;
 mod ranges;
 mod sites;
+mod sum;
 mod telling;
 mod top;
 mod waves;

@@ -5,6 +5,7 @@ ghost use Rattle.vcp_outside.specs.Written.{WritesTo};
 ghost use Rattle.vcp_study_core.specs.Forms.{usage_text};
 ghost use Rattle.vcp_inputs.specs.Lines.{rows_text};
 ghost use Rattle.vcp_study_core.specs.RunLines.{run_text};
+ghost use Rattle.vcp_study_core.specs.SumLines.{verdicts_text};
 ghost use Rattle.vcp_study_core.specs.Reach.{fault_text, fault_status as status_of_fault};
 
 use crate::fault::Fault;
@@ -12,6 +13,7 @@ use input_rows::RowFault;
 use run_picture::RunFault;
 use vcp_inputs::{Refusal, input_status, tell_input, tell_of, tell_place, tell_refusal};
 use vcp_outside::{Failed, Sink, write_all};
+use verdict_tables::VerdictsFault;
 
 /// Prints the usage line.
 pub fn tell_usage<E: Sink>(err: &mut E) -> Result<(), Failed>
@@ -19,7 +21,7 @@ pub fn tell_usage<E: Sink>(err: &mut E) -> Result<(), Failed>
 {
     write_all(
         err,
-        b"usage: vcp_study graph M HORIZON, waves FILE, ranges M, ranges M --all, sites M CYCLES CLASS, sites M CYCLES CLASS FROM COUNT or sites M CYCLES CLASS --count\n",
+        b"usage: vcp_study graph M HORIZON, waves FILE, ranges M, ranges M --all, sites M CYCLES CLASS, sites M CYCLES CLASS FROM COUNT, sites M CYCLES CLASS --count or sum M SCRIPT VERDICTS\n",
     )
 }
 
@@ -33,6 +35,10 @@ pub fn tell<E: Sink>(err: &mut E, name: &[u8], fault: &Fault) -> Result<(), Fail
         Fault::Memory => write_all(err, b"no memory\n"),
         Fault::NoRun(why) => tell_no_run(err, name, *why),
         Fault::Sites => tell_of(err, name, b" L9 Sites"),
+        Fault::Script(input) => tell_input(err, name, input),
+        Fault::Verdicts(input) => tell_input(err, name, input),
+        Fault::Image => tell_of(err, name, b":1 U1 Image"),
+        Fault::NoVerdicts(why) => tell_no_verdicts(err, name, *why),
     }
 }
 
@@ -61,6 +67,20 @@ fn tell_no_run<E: Sink>(err: &mut E, name: &[u8], why: RunFault) -> Result<(), F
     }
 }
 
+/// Prints the line of a text that doesn't tell the verdicts of a script.
+fn tell_no_verdicts<E: Sink>(err: &mut E, name: &[u8], why: VerdictsFault) -> Result<(), Failed>
+    ensures { WritesTo (E.seen err.old) (E.seen err.new) (verdicts_text name.now why) result }
+{
+    match why {
+        VerdictsFault::Group { line } => tell_place(err, name, line, b"U2 Group"),
+        VerdictsFault::Verdict { line } => tell_place(err, name, line, b"U3 Verdict"),
+        VerdictsFault::End { line } => tell_place(err, name, line, b"U4 End"),
+        VerdictsFault::Totals { line } => tell_place(err, name, line, b"U5 Totals"),
+        VerdictsFault::Rest { line } => tell_place(err, name, line, b"U6 Rest"),
+        VerdictsFault::Memory => write_all(err, b"no memory\n"),
+    }
+}
+
 /// Prints the line of what rows are refused for too.
 fn tell_rows<E: Sink>(err: &mut E, name: &[u8], why: RowFault) -> Result<(), Failed>
     ensures { WritesTo (E.seen err.old) (E.seen err.new) (rows_text name.now why) result }
@@ -73,9 +93,9 @@ pub fn fault_status(fault: &Fault) -> u8
     ensures { result ≡ status_of_fault fault.now }
 {
     match fault {
-        Fault::Source(input) => input_status(input),
+        Fault::Source(input) | Fault::Script(input) | Fault::Verdicts(input) => input_status(input),
         Fault::Write => 6,
         Fault::Memory => 7,
-        Fault::NoRun(_) | Fault::Sites => 1,
+        Fault::NoRun(_) | Fault::Sites | Fault::Image | Fault::NoVerdicts(_) => 1,
     }
 }

@@ -14,6 +14,7 @@ use crate::fault::Fault;
 use crate::graph::graph_command;
 use crate::ranges::ranges_command;
 use crate::sites::sites_command;
+use crate::sum::sum_command;
 use crate::telling::{fault_status, tell, tell_usage};
 use crate::waves::waves_command;
 use std::alloc::Global;
@@ -21,12 +22,12 @@ use vcp_base::Words;
 use vcp_outside::{Failed, Files, Sink};
 
 /// Does all that the program does, and answers its status: what the words say, on the files, writing
-/// the picture, the ranges or the script to `out`, and the line of a fault to `err`.
+/// the picture, the ranges, the script or the tables to `out`, and the line of a fault to `err`.
 ///
 /// | status | comes |
 /// |---|---|
-/// | 0 | the picture, the script or the number was written; or the ranges, and no operation may stop |
-/// | 1 | the ranges were written, and an operation may stop; or the file is refused |
+/// | 0 | the picture, the script or the number was written; or the ranges, and no operation may stop; or the tables, and no fault is unseen |
+/// | 1 | the ranges were written, and an operation may stop; or the tables, and a fault is unseen; or a file is refused |
 /// | 4 | the words are none of the forms |
 /// | 5 | a file failed |
 /// | 6 | a sink failed |
@@ -120,5 +121,10 @@ fn study<F: Files, O: Sink>(
             classes,
             chosen,
         } => sites_command(alloc, image, *cycles, *classes, chosen, files, out),
+        Command::Sum {
+            image,
+            script,
+            verdicts,
+        } => sum_command(alloc, image, script, verdicts, files, out),
     }
 }
