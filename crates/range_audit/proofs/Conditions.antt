@@ -72,7 +72,7 @@ pub in_one : {P Q R : Type 0} → P ⊎ Q → (P → R) → (Q → R) → R
 in_one (inl p) f g = f p
 in_one (inr q) f g = g q
 
-and_parts : (t : Bool) (x y : ℤ) → Said t (truth (same x (pos 1) && same y (pos 1))) → Parts t (Said t x) (Said t y)
+pub and_parts : (t : Bool) (x y : ℤ) → Said t (truth (same x (pos 1) && same y (pos 1))) → Parts t (Said t x) (Said t y)
 and_parts true x y h =
     let both = said_true (same x (pos 1) && same y (pos 1)) h in
     (same_is x (pos 1) (and_left (same x (pos 1)) (same y (pos 1)) both), same_is y (pos 1) (and_right (same x (pos 1)) (same y (pos 1)) both))
@@ -80,7 +80,7 @@ and_parts false x y h =
     parts_map {P = same x (pos 1) ≡ false} {Q = same y (pos 1) ≡ false} false (other_than x (pos 1)) (other_than y (pos 1))
     (one_false (same x (pos 1)) (same y (pos 1)) (said_false (same x (pos 1) && same y (pos 1)) h))
 
-or_parts : (t : Bool) (x y : ℤ) → Said t (truth (same x (pos 1) || same y (pos 1))) → Parts (not t) (Said t x) (Said t y)
+pub or_parts : (t : Bool) (x y : ℤ) → Said t (truth (same x (pos 1) || same y (pos 1))) → Parts (not t) (Said t x) (Said t y)
 or_parts true x y h =
     parts_map {P = same x (pos 1) ≡ true} {Q = same y (pos 1) ≡ true} false (same_is x (pos 1)) (same_is y (pos 1))
     (one_true (same x (pos 1)) (same y (pos 1)) (said_true (same x (pos 1) || same y (pos 1)) h))

@@ -22,12 +22,12 @@ use Rattle.op_graph.specs.declared.rules.Place.{Place}
 use Rattle.op_graph.specs.Lists.{Lists}
 use Rattle.op_graph.specs.Laws.{OperandLaws, EntryLaws}
 use Rattle.op_graph.specs.Rules.{IsGraph, scope, place_of, numbered, entry_of, kind_fits, from_fits, ty_fits, imm_fits, is_input, same_type}
-use Rattle.op_graph.specs.GraphRun.{own, outcome_of, Cycle, after, cycle_from, cycle, initial, stored, Run, after_cycle, run_from, unless_stopped, cells_after, CellsFit}
+use Rattle.op_graph.specs.GraphRun.{own, outcome_of, Stop, Cycle, after, cycle_from, cycle, initial, stored, Run, after_cycle, run_from, unless_stopped, cells_after, CellsFit}
 use Rattle.range_audit.specs.declared.range.Range.{Range}
 use Rattle.range_audit.specs.declared.range.Stops.{Stops}
 use Rattle.range_audit.specs.Audit.{Audit, is_named, RowFits, RowsFit, Holds, Names, Ends}
 use Rattle.range_audit.specs.Intervals.{Hold}
-use Rattle.range_audit.specs.Walking.{Given, OwnFits, IsWalk, AreKept, AreSettled}
+use Rattle.range_audit.specs.Walking.{Given, OwnFits, IsWalk, AreKept, AreSettled, NamesFrom}
 
 -- ---- lists
 
@@ -102,6 +102,11 @@ cycle_is held row values before (op ∷ ops) given len =
 of_cycle : (g : Lists) (held row : List ℤ) → IsCycle g.operations held row (cycle g held row)
 of_cycle g held row = cycle_is held row [] [] g.operations (given_none g.operations held row) refl
 
+-- a cycle without a stop gives each of its operations a value
+pub whole_cycle : (g : Lists) (held row : List ℤ) → (cycle g held row).stop ≡ None
+    → Given g.operations held row (cycle g held row).values × (length (cycle g held row).values ≡ length g.operations)
+whole_cycle g held row whole = let c = of_cycle g held row in (c.given, c.whole whole)
+
 -- ---- the cells
 
 unless : (P : List ℤ → Type 0) (held next : List ℤ) (later : List ℤ → List ℤ) (s : Option StopKind) → P held → (s ≡ None → P (later next))
@@ -109,7 +114,7 @@ unless : (P : List ℤ → Type 0) (held next : List ℤ) (later : List ℤ → 
 unless P held next later None p q = q refl
 unless P held next later (Some why) p q = p
 
-pub kept_settled : (g : Lists) (cells : List Range) (a : Audit) → IsWalk g.operations cells a → AreKept g cells a.known → AreSettled g cells
+pub kept_settled : (g : Lists) (cells : List Range) (a : Audit) → IsWalk g.operations cells a → AreKept g cells a.known → AreSettled g (Hold cells)
 kept_settled g cells a walk kept = record {
   at_first = kept.at_first;
   next = λ held row hold fit whole.
@@ -117,12 +122,13 @@ kept_settled g cells a walk kept = record {
       kept.next (cycle g held row).values (walk.fits held row (cycle g held row).values hold c.given) (c.whole whole);
 }
 
-cells_hold : (g : Lists) (cells : List Range) → AreSettled g cells → OperandLaws → IsGraph g → (held : List ℤ) → Hold cells held → CellsFit g held
-    → (rows : List (List ℤ)) → Hold cells (cells_after g held rows)
-cells_hold g cells settled laws graph held hold fit [] = hold
-cells_hold g cells settled laws graph held hold fit (row ∷ rows) =
-    unless (Hold cells) held (stored g (cycle g held row).values) (λ next. cells_after g next rows) (cycle g held row).stop hold
-    (λ whole. cells_hold g cells settled laws graph (stored g (cycle g held row).values) (settled.next held row hold fit whole)
+-- what is settled holds of the cells after each run
+cells_keep : (g : Lists) (Kept : List ℤ → Type 0) → AreSettled g Kept → OperandLaws → IsGraph g → (held : List ℤ) → Kept held → CellsFit g held
+    → (rows : List (List ℤ)) → Kept (cells_after g held rows)
+cells_keep g Kept settled laws graph held hold fit [] = hold
+cells_keep g Kept settled laws graph held hold fit (row ∷ rows) =
+    unless Kept held (stored g (cycle g held row).values) (λ next. cells_after g next rows) (cycle g held row).stop hold
+    (λ whole. cells_keep g Kept settled laws graph (stored g (cycle g held row).values) (settled.next held row hold fit whole)
     (laws.cells_kept g held row graph fit whole) rows)
 
 cells_fit : (g : Lists) → OperandLaws → IsGraph g → (held : List ℤ) → CellsFit g held → (rows : List (List ℤ)) → CellsFit g (cells_after g held rows)
@@ -189,29 +195,30 @@ own_fits g row i op laws graph fit there =
 
 -- ---- the promises
 
-named_from : (g : Lists) (cells : List Range) (a : Audit) → IsWalk g.operations cells a → OperandLaws → EntryLaws → IsGraph g → (held row : List ℤ)
-    → Hold cells held → CellsFit g held → RowFits g row → (why : StopKind) → (cycle g held row).stop ≡ Some why
-    → is_named why (slice_get a.stops (length (cycle g held row).values)) ≡ true
-named_from g cells a walk laws entries graph held row hold fit row_fits why is =
+named_from : (g : Lists) (Kept : List ℤ → Type 0) (stops : List Stops) → NamesFrom g.operations Kept stops → OperandLaws → EntryLaws → IsGraph g
+    → (held row : List ℤ) → Kept held → CellsFit g held → RowFits g row → (why : StopKind) → (cycle g held row).stop ≡ Some why
+    → is_named why (slice_get stops (length (cycle g held row).values)) ≡ true
+named_from g Kept stops named laws entries graph held row hold fit row_fits why is =
     let c = of_cycle g held row in
     let next = c.stopped why is in
     let values = (cycle g held row).values in
     let no : why ≢ stop.Operand = λ e. laws.cycle g held row graph fit (is ∙ ap Some e) in
-    walk.names held row values next.0 why hold c.given next.1 (own_fits g row (length values) next.0 entries graph row_fits next.1) no next.2
+    named held row values next.0 why hold c.given next.1 (own_fits g row (length values) next.0 entries graph row_fits next.1) no next.2
 
-pub holds : (g : Lists) (cells : List Range) (a : Audit) → IsWalk g.operations cells a → AreSettled g cells → OperandLaws → IsGraph g → Holds g a.known
+pub holds : (g : Lists) (cells : List Range) (a : Audit) → IsWalk g.operations cells a → AreSettled g (Hold cells) → OperandLaws → IsGraph g
+    → Holds g a.known
 holds g cells a walk settled laws graph = λ rows row.
     let held = cells_after g (initial g) rows in
-    let hold = cells_hold g cells settled laws graph (initial g) settled.at_first (laws.cells_at_first g graph) rows in
+    let hold = cells_keep g (Hold cells) settled laws graph (initial g) settled.at_first (laws.cells_at_first g graph) rows in
     walk.fits held row (cycle g held row).values hold (of_cycle g held row).given
 
-pub names : (g : Lists) (cells : List Range) (a : Audit) → IsWalk g.operations cells a → AreSettled g cells → OperandLaws → EntryLaws → IsGraph g
-    → Names g a.stops
-names g cells a walk settled laws entries graph = λ rows row why row_fits is.
+pub names : (g : Lists) (Kept : List ℤ → Type 0) (stops : List Stops) → NamesFrom g.operations Kept stops → AreSettled g Kept → OperandLaws → EntryLaws
+    → IsGraph g → Names g stops
+names g Kept stops named settled laws entries graph = λ rows row why row_fits is.
     let held = cells_after g (initial g) rows in
-    let hold = cells_hold g cells settled laws graph (initial g) settled.at_first (laws.cells_at_first g graph) rows in
+    let hold = cells_keep g Kept settled laws graph (initial g) settled.at_first (laws.cells_at_first g graph) rows in
     let fit = cells_fit g laws graph (initial g) (laws.cells_at_first g graph) rows in
-    named_from g cells a walk laws entries graph held row hold fit row_fits why is
+    named_from g Kept stops named laws entries graph held row hold fit row_fits why is
 
 named_after : (g : Lists) (stops : List Stops) (values : List ℤ) (next : List ℤ → Run) (s : Option StopKind)
     → ((why : StopKind) → s ≡ Some why → is_named why (slice_get stops (length values)) ≡ true)
@@ -220,17 +227,25 @@ named_after : (g : Lists) (stops : List Stops) (values : List ℤ) (next : List 
 named_after g stops values next None named rest = rest refl
 named_after g stops values next (Some why) named rest = named why refl
 
-ends_from : (g : Lists) (cells : List Range) (a : Audit) → IsWalk g.operations cells a → AreSettled g cells → OperandLaws → EntryLaws → IsGraph g
-    → (held : List ℤ) → Hold cells held → CellsFit g held → (rows : List (List ℤ)) → RowsFit g rows
-    → IfSome (run_from g held rows).end (λ e. is_named e.kind (slice_get a.stops e.op) ≡ true)
-ends_from g cells a walk settled laws entries graph held hold fit [] rows_fit = tt
-ends_from g cells a walk settled laws entries graph held hold fit (row ∷ rows) rows_fit =
-    named_after g a.stops (cycle g held row).values (λ kept. run_from g kept rows) (cycle g held row).stop
-    (λ why is. named_from g cells a walk laws entries graph held row hold fit (rows_fit 0 row refl) why is)
-    (λ whole. ends_from g cells a walk settled laws entries graph (stored g (cycle g held row).values) (settled.next held row hold fit whole)
+ends_from : (g : Lists) (Kept : List ℤ → Type 0) (stops : List Stops) → NamesFrom g.operations Kept stops → AreSettled g Kept → OperandLaws → EntryLaws
+    → IsGraph g → (held : List ℤ) → Kept held → CellsFit g held → (rows : List (List ℤ)) → RowsFit g rows
+    → IfSome (run_from g held rows).end (λ e. is_named e.kind (slice_get stops e.op) ≡ true)
+ends_from g Kept stops named settled laws entries graph held hold fit [] rows_fit = tt
+ends_from g Kept stops named settled laws entries graph held hold fit (row ∷ rows) rows_fit =
+    named_after g stops (cycle g held row).values (λ kept. run_from g kept rows) (cycle g held row).stop
+    (λ why is. named_from g Kept stops named laws entries graph held row hold fit (rows_fit 0 row refl) why is)
+    (λ whole. ends_from g Kept stops named settled laws entries graph (stored g (cycle g held row).values) (settled.next held row hold fit whole)
     (laws.cells_kept g held row graph fit whole) rows (λ n r e. rows_fit (suc n) r e))
 
-pub ends : (g : Lists) (cells : List Range) (a : Audit) → IsWalk g.operations cells a → AreSettled g cells → OperandLaws → EntryLaws → IsGraph g
-    → Ends g a.stops
-ends g cells a walk settled laws entries graph = λ rows rows_fit.
-    ends_from g cells a walk settled laws entries graph (initial g) settled.at_first (laws.cells_at_first g graph) rows rows_fit
+pub ends : (g : Lists) (Kept : List ℤ → Type 0) (stops : List Stops) → NamesFrom g.operations Kept stops → AreSettled g Kept → OperandLaws → EntryLaws
+    → IsGraph g → Ends g stops
+ends g Kept stops named settled laws entries graph = λ rows rows_fit.
+    ends_from g Kept stops named settled laws entries graph (initial g) settled.at_first (laws.cells_at_first g graph) rows rows_fit
+
+-- what two lists name where a run ends, a list names that names what both do
+pub both_end : (a b r : List Stops) (end : Option Stop)
+    → ((why : StopKind) (i : ℕ) → is_named why (slice_get a i) ≡ true → is_named why (slice_get b i) ≡ true → is_named why (slice_get r i) ≡ true)
+    → IfSome end (λ e. is_named e.kind (slice_get a e.op) ≡ true) → IfSome end (λ e. is_named e.kind (slice_get b e.op) ≡ true)
+    → IfSome end (λ e. is_named e.kind (slice_get r e.op) ≡ true)
+both_end a b r None both p q = tt
+both_end a b r (Some e) both p q = both e.kind e.op p q

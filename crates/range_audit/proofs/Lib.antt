@@ -1,10 +1,14 @@
+mod Backward
 mod Bits
+mod Boxed
 mod Conditions
 mod Cycles
 mod Integers
-mod Naming
+mod Joined
+mod NoneNamed
 mod Operands
 mod Outcomes
+mod Putting
 mod Steps
 mod ValueBounds
 mod Worked

@@ -52,7 +52,7 @@ all_more P xs x each last k y there =
     let within : k < length xs + 1 = omega (arith, slice_get_within (xs ++ x ∷ []) k y there, length_push xs x) in
     below_more Q (length xs) below here k within there
 
-map_at : {X : Type 0} (f : X → ℤ) (xs : List X) (i : ℕ) (x : X) → slice_get xs i ≡ Some x → at (map f xs) i ≡ f x
+pub map_at : {X : Type 0} (f : X → ℤ) (xs : List X) (i : ℕ) (x : X) → slice_get xs i ≡ Some x → at (map f xs) i ≡ f x
 map_at f [] i x e = absurd cc
 map_at f (y ∷ xs) zero x e = let same : y ≡ x = cc in ap f same
 map_at f (y ∷ xs) (suc i) x e = map_at f xs i x e
@@ -97,7 +97,7 @@ NamesSoFar ops cells stops = (held row vs : List ℤ) (op : Op) (why : StopKind)
     → slice_get ops (length vs) ≡ Some op → OwnFits row op → why ≢ stop.Operand → outcome_of held row vs op ≡ Err why
     → is_named why (slice_get stops (length vs)) ≡ true
 
-fit_front : (known : List Range) (vs : List ℤ) (i : ℕ) → i < length vs → Fit known vs → Fit known (take i vs)
+pub fit_front : (known : List Range) (vs : List ℤ) (i : ℕ) → i < length vs → Fit known vs → Fit known (take i vs)
 fit_front known vs i lt fit = λ k r below there.
     let count : length (take i vs) ≡ i = length-take-le i vs (omega arith) in
     let first : k < i = omega arith in
@@ -202,7 +202,7 @@ typed_hold g cells many typed held fit = λ k r there.
     typed k r there m.0 m.1 (at held k) (fit k m.0 m.1)
 
 pub typed_settled : (g : Lists) (cells : List Range) → OperandLaws → IsGraph g → length cells ≡ length g.loads
-    → ((k : ℕ) (r : Range) → slice_get cells k ≡ Some r → Typed g.loads k r) → AreSettled g cells
+    → ((k : ℕ) (r : Range) → slice_get cells k ≡ Some r → Typed g.loads k r) → AreSettled g (Hold cells)
 typed_settled g cells laws graph many typed = record {
   at_first = typed_hold g cells many typed (initial g) (laws.cells_at_first g graph);
   next = λ held row hold fit whole. typed_hold g cells many typed (stored g (cycle g held row).values) (laws.cells_kept g held row graph fit whole);

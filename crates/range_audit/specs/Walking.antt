@@ -1,5 +1,5 @@
 -- Walking: what holds of a walk over the operations of a cycle, from cells in given ranges.
-use Rattle.std.specs.Prelude.{◌≡◌, ◌≢◌, ◌⊎◌, ℕ, ◌<◌, ◌≤◌, ℤ, true, List, length, slice_get, take, Ok, Err, Some, None, unsigned_abs, nat_lt, false, pos, Bool}
+use Rattle.std.specs.Prelude.{◌≡◌, ◌≢◌, ◌⊎◌, ℕ, zero, suc, ◌+◌, ◌<◌, ◌≤◌, ℤ, true, List, length, slice_get, take, Ok, Err, Some, None, unsigned_abs, nat_lt, false, pos, Bool}
 use Rattle.vcp_base.specs.declared.kind.Kind.{Kind}
 use Rattle.vcp_base.specs.declared.kind.Kind.TheVariants as kind
 use Rattle.vcp_base.specs.declared.kind.StopKind.{StopKind}
@@ -13,6 +13,7 @@ use Rattle.op_graph.specs.Lists.{Lists}
 use Rattle.op_graph.specs.GraphRun.{own, outcome_of, cycle, initial, stored, CellsFit}
 use Rattle.op_graph.specs.Rules.{is_input}
 use Rattle.range_audit.specs.declared.range.Range.{Range}
+use Rattle.range_audit.specs.declared.range.Stops.{Stops}
 use Rattle.range_audit.specs.declared.told.Told.{Told}
 use Rattle.range_audit.specs.Audit.{Audit, may_stop, is_named}
 use Rattle.range_audit.specs.Intervals.{IsIn, Fit, Hold}
@@ -25,6 +26,10 @@ pub record Given (ops : List Op) (held row vs : List ℤ) : Type 0 where
 -- an INPUT's value in the row is of its type
 abbrev pub OwnFits : List ℤ → Op → Type 0
 OwnFits row op = is_input op.kind ≡ true → fits op.ty (own row op.kind op.imm) ≡ true
+
+-- the kind reads a cell
+abbrev pub ReadsCell : Kind → Type 0
+ReadsCell k = k ≡ kind.Load
 
 -- a condition's value is what its truth says: 0 where it is false, and else another
 abbrev pub Taken : Bool → ℤ → Type 0
@@ -84,7 +89,44 @@ pub record AreKept (g : Lists) (cells known : List Range) : Type 0 where
   pub at_first : Hold cells (initial g)
   pub next : (vs : List ℤ) → Fit known vs → length vs ≡ length g.operations → Hold cells (stored g vs)
 
--- The cells are in their ranges at first, and stay there in a cycle that doesn't stop.
-pub record AreSettled (g : Lists) (cells : List Range) : Type 0 where
-  pub at_first : Hold cells (initial g)
-  pub next : (held row : List ℤ) → Hold cells held → CellsFit g held → (cycle g held row).stop ≡ None → Hold cells (stored g (cycle g held row).values)
+-- What holds of the cells at first, and stays so in a cycle that doesn't stop.
+pub record AreSettled (g : Lists) (Kept : List ℤ → Type 0) : Type 0 where
+  pub at_first : Kept (initial g)
+  pub next : (held row : List ℤ) → Kept held → CellsFit g held → (cycle g held row).stop ≡ None → Kept (stored g (cycle g held row).values)
+
+-- each operation that stops in a cycle, where this holds of the cells, is named
+abbrev pub NamesFrom : List Op → (List ℤ → Type 0) → List Stops → Type 0
+NamesFrom ops Kept stops = (held row vs : List ℤ) (op : Op) (why : StopKind) → Kept held → Given ops held row vs → slice_get ops (length vs) ≡ Some op
+    → OwnFits row op → why ≢ stop.Operand → outcome_of held row vs op ≡ Err why → is_named why (slice_get stops (length vs)) ≡ true
+
+-- in a whole cycle in which the cells are in these ranges, and the operations in the old ones, they are in the new ones
+abbrev pub Narrows : List Op → List Range → List Range → List Range → Type 0
+Narrows ops cells old new =
+    (held row vs : List ℤ) → Hold cells held → Given ops held row vs → length vs ≡ length ops → Fit old vs → Fit new vs
+
+-- the same where operation n is in r too
+pub record NarrowsTo (ops : List Op) (cells : List Range) (n : ℕ) (r : Range) (old new : List Range) : Type 0 where
+  pub fits : (held row vs : List ℤ) → Hold cells held → Given ops held row vs → length vs ≡ length ops → Fit old vs → IsIn r (at vs n) → Fit new vs
+
+-- where box k begins in a list of boxes, each of which has so many ranges
+abbrev pub start_of : ℕ → ℕ → ℕ
+start_of many zero = 0
+start_of many (suc k) = start_of many k + many
+
+-- each cell holds a value in its range of the box that begins there
+abbrev pub HoldAt : List Range → ℕ → ℕ → List ℤ → Type 0
+HoldAt boxes many start held = (j : ℕ) (r : Range) → j < many → slice_get boxes (start + j) ≡ Some r → IsIn r (at held j)
+
+-- the cells hold values in the ranges of one of so many boxes
+abbrev pub InBox : List Range → ℕ → ℕ → List ℤ → Type 0
+InBox boxes many count held = (k : ℕ) × (k < count) × HoldAt boxes many (start_of many k) held
+
+-- a whole cycle from cells in these ranges, with values in these, ends in a box
+abbrev pub EndsIn : Lists → List Range → List Range → List Range → ℕ → Type 0
+EndsIn g cells ranges boxes count = (held row vs : List ℤ) → Hold cells held → Given g.operations held row vs → length vs ≡ length g.operations
+    → Fit ranges vs → InBox boxes (length g.stores) count (stored g vs)
+
+-- a whole cycle from cells in the box that begins there ends in a box
+abbrev pub EndsFrom : Lists → List Range → ℕ → ℕ → Type 0
+EndsFrom g boxes count start = (held row vs : List ℤ) → HoldAt boxes (length g.stores) start held → Given g.operations held row vs
+    → length vs ≡ length g.operations → InBox boxes (length g.stores) count (stored g vs)

@@ -1,9 +1,11 @@
 //! What is told of all operations of a graph.
 
 ghost use Rattle.std.specs.Prelude.{◌≡◌, ◌<◌, Some, length, slice_get, IfOk};
-ghost use Rattle.range_audit.specs.Audit.{Holds, Names, Ends, named_below, NeverStops};
+ghost use Rattle.range_audit.specs.Audit.{Holds, Names, Ends, IsAudit, named_below, NeverStops};
+ghost use Rattle.op_graph.specs.Rules.{IsGraph};
 
 use crate::cells::settled;
+use crate::families::closer;
 use crate::range::{Range, Stops};
 use crate::walk::walk;
 use op_graph::{Graph, entries_keep_their_rules, operands_are_in_their_types};
@@ -49,6 +51,19 @@ impl Ranges {
     }
 }
 
+/// The same, where each cell has one range.
+fn ranges_in_one_box(alloc: Global, graph: &Graph) -> Result<Ranges, Memory>
+    ensures graph { IsGraph graph.now }
+    ensures audit { IfOk result (λ a. IsAudit graph.now a) }
+{
+    // No operation stops because an operand is outside its type.
+    operands_are_in_their_types();
+    entries_keep_their_rules();
+    let cells = settled(alloc, graph)?;
+    let told = walk(alloc, graph, &cells)?;
+    Ok(told)
+}
+
 /// The range of the values of each operation of a graph, and why it may stop: an answer for all inputs and any number of cycles.
 ///
 /// Each value of each operation, in each cycle of the graph's run over whatever rows, is in the range of its operation. In a run over
@@ -62,10 +77,7 @@ pub fn ranges_of(alloc: Global, graph: &Graph) -> Result<Ranges, Memory>
     ensures ends { IfOk result (λ a. Ends graph.now a.stops) }
     ensures never { IfOk result (λ a. named_below a.stops (length graph.now.operations) ≡ 0 → NeverStops graph.now) }
 {
-    // No operation stops because an operand is outside its type.
-    operands_are_in_their_types();
-    entries_keep_their_rules();
-    let cells = settled(alloc, graph)?;
-    let told = walk(alloc, graph, &cells)?;
+    let ranges = ranges_in_one_box(alloc, graph)?;
+    let told = closer(alloc, graph, ranges)?;
     Ok(told)
 }

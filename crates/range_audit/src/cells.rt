@@ -2,7 +2,7 @@
 
 ghost use Rattle.std.specs.Prelude.{◌≡◌, ◌<◌, ℕ, ℤ, true, length, slice_get, Some, IfOk};
 ghost use Rattle.op_graph.specs.Rules.{IsGraph};
-ghost use Rattle.range_audit.specs.Intervals.{IsIn};
+ghost use Rattle.range_audit.specs.Intervals.{IsIn, Hold};
 ghost use Rattle.range_audit.specs.Walking.{AreKept, CellKept, KeptAt, AreSettled};
 
 use crate::range::{Range, range_at};
@@ -25,7 +25,7 @@ const FIRST_SKIPPED: u32 = 12;
 const FIRST_TYPED: u32 = 30;
 
 /// What the LOAD of cell `k` makes.
-fn load_of(graph: &Graph, k: usize) -> Loaded
+pub(crate) fn load_of(graph: &Graph, k: usize) -> Loaded
     requires { k < length graph.now.loads }
     ensures { slice_get graph.now.loads k ≡ Some result }
 {
@@ -34,7 +34,7 @@ fn load_of(graph: &Graph, k: usize) -> Loaded
 }
 
 /// The number of the STORE of cell `k`.
-fn store_of(graph: &Graph, k: usize) -> u32
+pub(crate) fn store_of(graph: &Graph, k: usize) -> u32
     requires { k < length graph.now.stores }
     ensures { slice_get graph.now.stores k ≡ Some result }
 {
@@ -43,7 +43,7 @@ fn store_of(graph: &Graph, k: usize) -> u32
 }
 
 /// The range of what is stored in cell `k`.
-fn stored_range(graph: &Graph, known: &[Range], k: usize) -> Range
+pub(crate) fn stored_range(graph: &Graph, known: &[Range], k: usize) -> Range
     requires graph { IsGraph graph.now }
     requires there { k < length graph.now.stores }
     requires known { length known.now ≡ length graph.now.operations }
@@ -96,7 +96,7 @@ fn are_kept(graph: &Graph, cells: &[Range], known: &[Range]) -> bool
 
 /// How far an end that moves goes.
 #[derive(Clone, Copy)]
-enum Step {
+pub(crate) enum Step {
     /// No further than it must.
     Near,
     /// Past so many of the numbers beside those that comparisons read, to the next.
@@ -106,7 +106,7 @@ enum Step {
 }
 
 /// How far it goes in a round.
-fn step_of(round: u32) -> Step {
+pub(crate) fn step_of(round: u32) -> Step {
     if round < FIRST_WIDENED {
         return Step::Near;
     }
@@ -140,7 +140,7 @@ fn high_moved(high: i64, ty: Ty, step: Step, numbers: &[i64]) -> i64 {
 
 /// The range of a cell for the next round: the values that it had, and those that are stored. An end that moves goes further in later
 /// rounds, so that the rounds end.
-fn widened(cell: Range, stored: Range, ty: Ty, step: Step, numbers: &[i64]) -> Range {
+pub(crate) fn widened(cell: Range, stored: Range, ty: Ty, step: Step, numbers: &[i64]) -> Range {
     let low = if stored.low >= cell.low {
         cell.low
     } else {
@@ -187,7 +187,7 @@ fn first_cells(alloc: Global, graph: &Graph) -> Result<Vec<Range>, Memory>
 fn typed_cells(alloc: Global, graph: &Graph) -> Result<Vec<Range>, Memory>
     requires { IsGraph graph.now }
     ensures many { IfOk result (λ cells. length cells.items ≡ length graph.now.loads) }
-    ensures settled { IfOk result (λ cells. AreSettled graph.now cells.items) }
+    ensures settled { IfOk result (λ cells. AreSettled graph.now (Hold cells.items)) }
 {
     // Each cell always has a value of its type.
     operands_are_in_their_types();
@@ -205,7 +205,7 @@ fn typed_cells(alloc: Global, graph: &Graph) -> Result<Vec<Range>, Memory>
 fn found(alloc: Global, graph: &Graph) -> Result<Vec<Range>, Memory>
     ensures graph { IsGraph graph.now }
     ensures many { IfOk result (λ cells. length cells.items ≡ length graph.now.stores) }
-    ensures settled { IfOk result (λ cells. AreSettled graph.now cells.items) }
+    ensures settled { IfOk result (λ cells. AreSettled graph.now (Hold cells.items)) }
 {
     let _operations = graph.len();
     let numbers = thresholds(alloc, graph)?;
@@ -224,7 +224,7 @@ fn found(alloc: Global, graph: &Graph) -> Result<Vec<Range>, Memory>
 fn are_settled(alloc: Global, graph: &Graph, cells: &[Range]) -> Result<bool, Memory>
     requires graph { IsGraph graph.now }
     requires many { length cells.now ≡ length graph.now.stores }
-    ensures { IfOk result (λ is. is ≡ true → AreSettled graph.now cells.now) }
+    ensures { IfOk result (λ is. is ≡ true → AreSettled graph.now (Hold cells.now)) }
 {
     let told = walk(alloc, graph, cells)?;
     Ok(are_kept(graph, cells, told.known()))
@@ -235,9 +235,9 @@ fn are_settled(alloc: Global, graph: &Graph, cells: &[Range]) -> Result<bool, Me
 fn closer(alloc: Global, graph: &Graph, cells: Vec<Range>) -> Result<Vec<Range>, Memory>
     requires graph { IsGraph graph.now }
     requires many { length cells.items ≡ length graph.now.stores }
-    requires settled { AreSettled graph.now cells.items }
+    requires settled { AreSettled graph.now (Hold cells.items) }
     ensures many { IfOk result (λ found. length found.items ≡ length graph.now.stores) }
-    ensures settled { IfOk result (λ found. AreSettled graph.now found.items) }
+    ensures settled { IfOk result (λ found. AreSettled graph.now (Hold found.items)) }
 {
     let told = walk(alloc, graph, &cells)?;
     let mut next = first_cells(alloc, graph)?;
@@ -253,7 +253,7 @@ fn closer(alloc: Global, graph: &Graph, cells: Vec<Range>) -> Result<Vec<Range>,
 pub(crate) fn settled(alloc: Global, graph: &Graph) -> Result<Vec<Range>, Memory>
     ensures graph { IsGraph graph.now }
     ensures many { IfOk result (λ cells. length cells.items ≡ length graph.now.stores) }
-    ensures settled { IfOk result (λ cells. AreSettled graph.now cells.items) }
+    ensures settled { IfOk result (λ cells. AreSettled graph.now (Hold cells.items)) }
 {
     let cells = found(alloc, graph)?;
     closer(alloc, graph, cells)

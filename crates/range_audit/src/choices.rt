@@ -22,7 +22,7 @@ const SECOND_DEPTH: u32 = 2;
 const MADE_DEPTH: u32 = 2;
 
 /// Bounds of x, where x is less than y.
-fn lesser_one(a: Range, b: Range) -> Bounds
+pub(crate) fn lesser_one(a: Range, b: Range) -> Bounds
     ensures { (x y : ℤ) → IsIn a x → IsIn b y → x <ℤ y → IsWithin result x }
 {
     Bounds {
@@ -33,7 +33,7 @@ fn lesser_one(a: Range, b: Range) -> Bounds
 }
 
 /// Bounds of y, where x is less than y.
-fn larger_one(a: Range, b: Range) -> Bounds
+pub(crate) fn larger_one(a: Range, b: Range) -> Bounds
     ensures { (x y : ℤ) → IsIn a x → IsIn b y → x <ℤ y → IsWithin result y }
 {
     Bounds {
@@ -44,7 +44,7 @@ fn larger_one(a: Range, b: Range) -> Bounds
 }
 
 /// Bounds of both, where x is no less than y.
-fn no_less(a: Range, b: Range) -> Bounds
+pub(crate) fn no_less(a: Range, b: Range) -> Bounds
     ensures first { (x y : ℤ) → IsIn a x → IsIn b y → y ≤ℤ x → IsWithin result x }
     ensures second { (x y : ℤ) → IsIn a x → IsIn b y → y ≤ℤ x → IsWithin result y }
 {

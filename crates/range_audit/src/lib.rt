@@ -5,9 +5,15 @@
 #![tactic(auto)]
 
 mod audit;
+mod boxes;
+mod cases;
 mod cells;
 mod choices;
+mod families;
 mod laws;
+mod naming;
+mod narrowing;
+mod operand_ranges;
 mod range;
 mod thresholds;
 mod told;

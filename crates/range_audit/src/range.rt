@@ -246,7 +246,7 @@ impl Range {
     }
 
     /// The values of the range but `k`, where that is an end of it, or 0.
-    fn without_value(self, k: i64) -> Range
+    pub(crate) fn without_value(self, k: i64) -> Range
         ensures { (v : ℤ) → IsIn self v → v ≢ k → IsIn result v }
     {
         if k == 0 {

@@ -32,7 +32,7 @@ fn may_divide_by_zero(kind: Kind, b: Range) -> bool
 }
 
 /// Whether an operation of the kind has operand `j`.
-fn has_operand(kind: Kind, j: u32) -> bool
+pub(crate) fn has_operand(kind: Kind, j: u32) -> bool
     ensures { result ≡ nat_lt j (operands_of kind) }
 {
     j < operands(kind)
@@ -138,7 +138,7 @@ fn read_range(cells: &[Range], known: &[Range], op: &Op, n: u32) -> Range
 }
 
 /// The range of what an operation reads as its operand `j`, which is operation `n`, or for LOAD its cell; 0 where it has no such operand.
-fn operand_range(cells: &[Range], known: &[Range], op: &Op, j: u32, n: u32) -> Range
+pub(crate) fn operand_range(cells: &[Range], known: &[Range], op: &Op, j: u32, n: u32) -> Range
     requires { nat_lt j (operands_of op.now.kind) ≡ true → OperandIs (length cells.now) (length known.now) op.now.kind op.now.imm n }
     ensures { (held vs : List ℤ) → Hold cells.now held → Fit known.now vs → length known.now ≤ length vs → IsIn result (operand held vs op.now j n) }
 {

@@ -108,7 +108,7 @@ fn sum(a: Range, b: Range) -> Bounds
 }
 
 /// Bounds of x - y.
-fn difference(a: Range, b: Range) -> Bounds
+pub(crate) fn difference(a: Range, b: Range) -> Bounds
     ensures { (x y : ℤ) → IsIn a x → IsIn b y → IsWithin result (x -ℤ y) }
 {
     let low = minus(a.low, b.high);
@@ -292,7 +292,7 @@ fn is_left_out(one: Range, other: Range) -> bool
 }
 
 /// Whether no integer is in both ranges, as far as that is seen.
-fn are_apart(a: Range, b: Range) -> bool
+pub(crate) fn are_apart(a: Range, b: Range) -> bool
     ensures { result ≡ true → (x : ℤ) → IsIn a x → IsIn b x → ⊥ }
 {
     let beside = are_beside(a, b);

@@ -1,0 +1,21 @@
+use Rattle.std.proofs.Common.{length, sym, subst, ◌∙◌, ap, arith}
+use Rattle.std.proofs.lemmas.Option.{slice_get_within}
+use Rattle.op_graph.specs.GraphRun.{stored}
+use Rattle.vcp_base.specs.Values.{at}
+use Rattle.range_audit.specs.Walking.{InBox}
+use Rattle.range_audit.specs.Intervals.{Hold}
+use Rattle.range_audit.proofs.cases.ends.Goals as goal
+
+pub returns-then-none : goal.returns-then-none
+returns-then-none c = λ e vs whole fit.
+    let n = c.has_none-none.ensures c.if-none.true in
+    let within = slice_get_within c.args.ranges.now n.0 n.1 n.2 in
+    absurd (n.3 (at vs n.0) (fit n.0 n.1 (omega (arith, within, whole, c.requires.many)) n.2))
+
+pub returns : goal.returns
+returns c = λ e vs whole fit.
+    let g = c.args.graph.now in
+    let cells = c.in_ok-cells.cells.items in
+    let hold = c.in_ok-cells.ensures.holds vs whole fit in
+    let at_end = c.is_in_one-is.ensures e (stored g vs) (subst (λ rs. Hold rs (stored g vs)) (sym c.deref.ensures.value) hold) in
+    subst (λ n. InBox c.args.boxes.now n c.args.count (stored g vs)) (ap length c.deref.ensures.value ∙ c.in_ok-cells.ensures.many) at_end

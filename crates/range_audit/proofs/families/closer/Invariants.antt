@@ -1,0 +1,5 @@
+use Rattle.range_audit.specs.Audit.{IsAudit}
+use Rattle.range_audit.proofs.families.closer.Given as goal
+
+abbrev pub invariant-cells : goal.invariant-cells
+invariant-cells l = IsAudit l.graph l.told

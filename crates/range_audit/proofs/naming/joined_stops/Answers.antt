@@ -1,0 +1,7 @@
+use Rattle.range_audit.proofs.Joined.{joined_by}
+use Rattle.range_audit.proofs.naming.joined_stops.Goals as goal
+
+pub returns : goal.returns
+returns c =
+    joined_by c.args.both c.args.a c.args.b (record { range = c.joined-range.result; div_zero = c.joined-div_zero.result }) c.joined-range.ensures
+    c.joined-div_zero.ensures

@@ -1,0 +1,36 @@
+use Rattle.std.proofs.Common.{length, subst, below_more, arith}
+use Rattle.range_audit.specs.Walking.{start_of, HoldAt, NamesFrom}
+use Rattle.range_audit.proofs.Boxed.{start_more, start_less}
+use Rattle.range_audit.proofs.naming.named_from.Goals as goal
+
+pub with_box-requires-clause-start : goal.with_box-requires-clause-start
+with_box-requires-clause-start c =
+    let less = start_less (length c.args.graph.now.stores) c.boxes.k c.args.count (omega (arith, c.boxes-test.true)) in
+    omega (arith, less, c.boxes.invariant.start, c.requires.boxes)
+
+pub next_start-next-requires : goal.next_start-next-requires
+next_start-next-requires c =
+    let less = start_less (length c.args.graph.now.stores) c.boxes.k c.args.count (omega (arith, c.boxes-test.true)) in
+    omega (arith, less, c.boxes.invariant.start, c.requires.boxes, c.cell_count-many.ensures)
+
+pub boxes-preserved : goal.boxes-preserved
+boxes-preserved c =
+    let g = c.args.graph.now in
+    let boxes = c.args.boxes.now in
+    let many = length g.stores in
+    let i = c.boxes.invariant in
+    let further = start_more many c.boxes.k in
+    let new = c.in_ok-more.more.items in
+    record {
+      start = omega (arith, further, i.start, c.cell_count-many.ensures, c.next_start-next.ensures);
+      many = c.in_ok-more.ensures.many;
+      named = below_more (λ j. NamesFrom g.operations (HoldAt boxes many (start_of many j)) new) c.boxes.k
+          (λ j lt held row vs op why inside given there own no e.
+          c.in_ok-more.ensures.kept why (length vs) (i.named j lt held row vs op why inside given there own no e))
+          (subst (λ s. NamesFrom g.operations (HoldAt boxes many s) new) i.start c.in_ok-more.ensures.named);
+    }
+
+pub returns-clause-named : goal.returns-clause-named
+returns-clause-named c = λ held row vs op why inside given there own no e.
+    let lt = inside.1 in
+    c.boxes.invariant.named inside.0 (omega (arith, lt, c.boxes-test.false, c.boxes.auto.k-end)) held row vs op why inside.2 given there own no e

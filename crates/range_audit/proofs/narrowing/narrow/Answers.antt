@@ -1,0 +1,21 @@
+use Rattle.std.proofs.Common.{◌∙◌, sym}
+use Rattle.range_audit.proofs.narrowing.narrow.Goals as goal
+
+pub passes-init : goal.passes-init
+passes-init c = record { many = c.requires.many; fits = λ held row vs hold given whole fit. fit }
+
+pub passes-preserved : goal.passes-preserved
+passes-preserved c =
+    let i = c.passes.invariant in
+    record {
+      many = c.go_forth.ensures.many ∙ c.go_back.ensures.many ∙ i.many;
+      fits = λ held row vs hold given whole fit.
+          c.go_forth.ensures.fits held row vs hold given whole
+          (c.go_back.ensures.fits held row vs hold given whole (i.fits held row vs hold given whole fit));
+    }
+
+pub returns-clause-many : goal.returns-clause-many
+returns-clause-many c = c.passes.invariant.many ∙ sym c.requires.many
+
+pub returns-clause-fits : goal.returns-clause-fits
+returns-clause-fits c = c.passes.invariant.fits

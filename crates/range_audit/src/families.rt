@@ -1,0 +1,385 @@
+//! Boxes in one of which the cells always are: a box for each value of one cell.
+
+ghost use Rattle.std.specs.Prelude.{◌≡◌, ◌<◌, ◌≤◌, ◌+◌, ℕ, true, length, IfOk, IfSome};
+ghost use Rattle.op_graph.specs.Rules.{IsGraph};
+ghost use Rattle.range_audit.specs.Audit.{IsAudit};
+ghost use Rattle.range_audit.specs.Walking.{start_of, InBox, EndsFrom, AreSettled};
+
+use crate::audit::Ranges;
+use crate::boxes::{box_at, cell_count, has_none, initial_cells, is_in_one, next_start};
+use crate::cases::{copied, ends_by_cases};
+use crate::cells::{Step, step_of, store_of, widened};
+use crate::naming::{named_by, named_from};
+use crate::range::{Range, Stops, both_hold};
+use crate::thresholds::thresholds;
+use crate::walk::walk;
+use op_graph::{Graph, entries_keep_their_rules, operands_are_in_their_types};
+use std::alloc::Global;
+use vcp_base::{Memory, Ty};
+
+/// How many values the cell may have.
+const VALUES: u32 = 64;
+
+/// How many rounds are tried.
+const ROUNDS: u32 = 32;
+
+/// With fewer rounds none are tried.
+const FEWEST: u64 = 4;
+
+/// How many operations are gone through, of those in all the cases of all cells.
+const STEPS: u64 = 1_048_576;
+
+/// Whether each whole cycle from cells in the box that begins there ends in one of so many boxes, by the cases of the value of operation `n`.
+fn is_box_kept(
+    alloc: Global,
+    graph: &Graph,
+    boxes: &[Range],
+    count: u32,
+    start: usize,
+    n: u32,
+    missed: &mut Vec<Range>,
+) -> Result<bool, Memory>
+    requires graph { IsGraph graph.now }
+    requires there { n < length graph.now.operations }
+    requires boxes { start_of (length graph.now.stores) count ≤ length boxes.now }
+    requires start { start + length graph.now.stores ≤ length boxes.now }
+    ensures { IfOk result (λ is. is ≡ true → EndsFrom graph.now boxes.now count start) }
+{
+    let many = cell_count(graph);
+    let cells = box_at(alloc, boxes, many, start)?;
+    let none = has_none(&cells);
+    if none {
+        return Ok(true);
+    }
+    let told = walk(alloc, graph, &cells)?;
+    let known = told.known();
+    let is = ends_by_cases(alloc, graph, &cells, known, boxes, count, n, VALUES, missed)?;
+    Ok(is)
+}
+
+/// Whether that is so of each of the boxes.
+fn are_boxes_kept(
+    alloc: Global,
+    graph: &Graph,
+    boxes: &[Range],
+    count: u32,
+    n: u32,
+    missed: &mut Vec<Range>,
+) -> Result<bool, Memory>
+    requires graph { IsGraph graph.now }
+    requires there { n < length graph.now.operations }
+    requires boxes { start_of (length graph.now.stores) count ≤ length boxes.now }
+    ensures { IfOk result (λ is. is ≡ true → (k : ℕ) → k < count → EndsFrom graph.now boxes.now count (start_of (length graph.now.stores) k)) }
+{
+    let many = cell_count(graph);
+    let mut start: usize = 0;
+    let mut all = true;
+    'boxes: for k in 0..count {
+        let kept = is_box_kept(alloc, graph, boxes, count, start, n, missed)?;
+        let both = both_hold(all, kept);
+        all = both;
+        let next = next_start(boxes, start, many);
+        start = next;
+    }
+    Ok(all)
+}
+
+/// Whether the cells are always in one of the boxes, as far as that is seen.
+fn is_family(
+    alloc: Global,
+    graph: &Graph,
+    boxes: &[Range],
+    count: u32,
+    n: u32,
+    missed: &mut Vec<Range>,
+) -> Result<bool, Memory>
+    requires graph { IsGraph graph.now }
+    requires there { n < length graph.now.operations }
+    requires boxes { start_of (length graph.now.stores) count ≤ length boxes.now }
+    ensures { IfOk result (λ is. is ≡ true → AreSettled graph.now (InBox boxes.now (length graph.now.stores) count)) }
+{
+    let first = initial_cells(alloc, graph)?;
+    let begins = is_in_one(&first, boxes, count);
+    let kept = are_boxes_kept(alloc, graph, boxes, count, n, missed)?;
+    let both = both_hold(begins, kept);
+    Ok(both)
+}
+
+/// So many ranges without a value.
+fn empty_box(alloc: Global, many: usize) -> Result<Vec<Range>, Memory>
+    ensures { IfOk result (λ ranges. length ranges.items ≡ many) }
+{
+    let mut ranges = Vec::with_capacity(alloc, many)?;
+    'cells: for j in 0..many {
+        ranges.push(Range {
+            low: 1,
+            high: 0,
+            nonzero: false,
+        })?;
+    }
+    Ok(ranges)
+}
+
+/// So many boxes without a value.
+fn empty_boxes(alloc: Global, graph: &Graph, count: u32) -> Result<Vec<Range>, Memory>
+    ensures { IfOk result (λ boxes. length boxes.items ≡ start_of (length graph.now.stores) count) }
+{
+    let many = cell_count(graph);
+    let empty = empty_box(alloc, many)?;
+    let mut boxes = Vec::new(alloc);
+    'boxes: for k in 0..count {
+        boxes.extend_from_slice(&empty)?;
+    }
+    Ok(boxes)
+}
+
+/// The value of the cell at `place` in the ranges that begin at `first`.
+fn value_in(missed: &[Range], first: usize, place: usize) -> i64 {
+    match missed.get(first.saturating_add(place)) {
+        Some(range) => range.low,
+        None => 0,
+    }
+}
+
+/// Where cell `j` stands in the box of a value, where the first box is that of the value `base`.
+fn place_in_box(value: i64, base: i64, many: usize, j: usize) -> usize {
+    let number = value.saturating_sub(base).unsigned_abs() as usize;
+    number.saturating_mul(many).saturating_add(j)
+}
+
+/// The type of cell `j`.
+fn cell_type(graph: &Graph, j: usize) -> Ty {
+    match graph.loads().get(j) {
+        Some(load) => load.ty,
+        None => Ty::Lint,
+    }
+}
+
+/// The range of a cell for the next round, with the values in `more`.
+fn grown(cell: Range, more: Range, ty: Ty, step: Step, numbers: &[i64]) -> Range {
+    if cell.is_empty() {
+        return more;
+    }
+    widened(cell, more, ty, step, numbers)
+}
+
+/// Widens one range of a box by range `i` of those that are missed.
+fn grow_one(
+    graph: &Graph,
+    boxes: &mut [Range],
+    missed: &[Range],
+    i: usize,
+    place: usize,
+    base: i64,
+    step: Step,
+    numbers: &[i64],
+)
+    ensures { length boxes.new ≡ length boxes.old }
+{
+    let many = cell_count(graph);
+    if i >= missed.len() {
+        return;
+    }
+    if many == 0 {
+        return;
+    }
+    let j = i % many;
+    let value = value_in(missed, i.saturating_sub(j), place);
+    let there = place_in_box(value, base, many, j);
+    if there < boxes.len() {
+        boxes[there] = grown(boxes[there], missed[i], cell_type(graph, j), step, numbers);
+    }
+}
+
+/// Widens the boxes by the ranges that are missed.
+fn grow(
+    graph: &Graph,
+    boxes: &mut [Range],
+    missed: &[Range],
+    place: usize,
+    base: i64,
+    step: Step,
+    numbers: &[i64],
+)
+    ensures { length boxes.new ≡ length boxes.old }
+{
+    'ranges: for i in 0..missed.len() {
+        grow_one(graph, boxes, missed, i, place, base, step, numbers);
+    }
+}
+
+/// The number of the STORE of the cell at `place`.
+fn store_at(graph: &Graph, place: usize) -> u32
+    requires graph { IsGraph graph.now }
+    requires place { place < length graph.now.stores }
+    ensures { result < length graph.now.operations }
+{
+    // The STORE of each cell is an operation.
+    entries_keep_their_rules();
+    store_of(graph, place)
+}
+
+/// Boxes in one of which the cells always are, one for each of so many values of the cell at `place` from `base` on; None where none are
+/// found in so many rounds.
+fn family(
+    alloc: Global,
+    graph: &Graph,
+    place: usize,
+    base: i64,
+    count: u32,
+    rounds: u32,
+    numbers: &[i64],
+) -> Result<Option<Vec<Range>>, Memory>
+    requires graph { IsGraph graph.now }
+    requires place { place < length graph.now.stores }
+    ensures room { IfOk result (λ found. IfSome found (λ boxes. start_of (length graph.now.stores) count ≤ length boxes.items)) }
+    ensures settled { IfOk result (λ found. IfSome found (λ boxes. AreSettled graph.now (InBox boxes.items (length graph.now.stores) count))) }
+{
+    let n = store_at(graph, place);
+    let first = initial_cells(alloc, graph)?;
+    let mut boxes = empty_boxes(alloc, graph, count)?;
+    grow(graph, &mut boxes, &first, place, base, Step::Near, numbers);
+    'rounds: for round in 0..rounds {
+        let mut missed = Vec::new(alloc);
+        let is = is_family(alloc, graph, &boxes, count, n, &mut missed)?;
+        if is {
+            return Ok(Some(boxes));
+        }
+        grow(
+            graph,
+            &mut boxes,
+            &missed,
+            place,
+            base,
+            step_of(round),
+            numbers,
+        );
+    }
+    Ok(None)
+}
+
+/// What is told of the operations of a graph, without the operations that don't stop in cycles from cells in one of these boxes.
+fn with_family(
+    alloc: Global,
+    graph: &Graph,
+    ranges: &Ranges,
+    boxes: &[Range],
+    count: u32,
+) -> Result<Ranges, Memory>
+    requires graph { IsGraph graph.now }
+    requires room { start_of (length graph.now.stores) count ≤ length boxes.now }
+    requires settled { AreSettled graph.now (InBox boxes.now (length graph.now.stores) count) }
+    requires audit { IsAudit graph.now ranges.now }
+    ensures { IfOk result (λ a. IsAudit graph.now a) }
+{
+    // No operation stops because an operand is outside its type.
+    operands_are_in_their_types();
+    entries_keep_their_rules();
+    let others = named_from(alloc, graph, boxes, count)?;
+    let named = ranges.stops();
+    let stops = named_by(alloc, true, named, &others)?;
+    let before = ranges.known();
+    let known = copied(alloc, before)?;
+    let told = Ranges::new(known, stops);
+    Ok(told)
+}
+
+/// Whether an operation is named.
+fn names_any(stops: &[Stops]) -> bool {
+    'operations: for i in 0..stops.len() {
+        if stops[i].range || stops[i].div_zero {
+            return true;
+        }
+    }
+    false
+}
+
+/// The range of the cell at `place`.
+fn cell_range(graph: &Graph, known: &[Range], place: usize) -> Range {
+    match graph.loads().get(place) {
+        Some(load) => match known.get(load.load as usize) {
+            Some(range) => *range,
+            None => Range::of_type(Ty::Lint),
+        },
+        None => Range::of_type(Ty::Lint),
+    }
+}
+
+/// How many values a range has; 0 where these are too many to be told apart.
+fn values_of(range: Range) -> u32 {
+    let past = range.high.saturating_sub(range.low);
+    if past < 0 {
+        return 0;
+    }
+    if past >= VALUES as i64 {
+        return 0;
+    }
+    past as u32 + 1
+}
+
+/// How many rounds may be tried with so many boxes, so that no more operations are gone through in those of all cells.
+fn rounds_of(graph: &Graph, count: u32) -> u32 {
+    let cases = (count as u64).saturating_mul(2).saturating_add(1);
+    let round = (graph.len() as u64)
+        .saturating_mul(count as u64)
+        .saturating_mul(cases);
+    let all = round.saturating_mul(graph.cells() as u64);
+    if all == 0 {
+        return 0;
+    }
+    let rounds = STEPS / all;
+    if rounds < FEWEST {
+        return 0;
+    }
+    if rounds < ROUNDS as u64 {
+        rounds as u32
+    } else {
+        ROUNDS
+    }
+}
+
+/// What is told of the operations of a graph, and what is told by the values of the cell at `place`.
+fn closer_by(
+    alloc: Global,
+    graph: &Graph,
+    ranges: Ranges,
+    place: usize,
+    numbers: &[i64],
+) -> Result<Ranges, Memory>
+    requires graph { IsGraph graph.now }
+    requires place { place < length graph.now.stores }
+    requires audit { IsAudit graph.now ranges }
+    ensures { IfOk result (λ a. IsAudit graph.now a) }
+{
+    let range = cell_range(graph, ranges.known(), place);
+    let count = values_of(range);
+    let rounds = rounds_of(graph, count);
+    if rounds == 0 {
+        return Ok(ranges);
+    }
+    let any = names_any(ranges.stops());
+    if !any {
+        return Ok(ranges);
+    }
+    let found = family(alloc, graph, place, range.low, count, rounds, numbers)?;
+    match found {
+        Some(boxes) => with_family(alloc, graph, &ranges, &boxes, count),
+        None => Ok(ranges),
+    }
+}
+
+/// What is told of the operations of a graph, and what is told by the values of each of its cells.
+pub(crate) fn closer(alloc: Global, graph: &Graph, ranges: Ranges) -> Result<Ranges, Memory>
+    requires graph { IsGraph graph.now }
+    requires audit { IsAudit graph.now ranges }
+    ensures { IfOk result (λ a. IsAudit graph.now a) }
+{
+    let numbers = thresholds(alloc, graph)?;
+    let count = cell_count(graph);
+    let mut told = ranges;
+    'cells: for place in 0..count {
+        let next = closer_by(alloc, graph, told, place, &numbers)?;
+        told = next;
+    }
+    Ok(told)
+}

@@ -1,0 +1,130 @@
+//! Which operations are named, over several boxes of cells and by several searches.
+
+ghost use Rattle.std.specs.Prelude.{◌≡◌, ◌<◌, ◌≤◌, ◌+◌, ℕ, true, false, length, slice_get, IfOk, Some};
+ghost use Rattle.vcp_base.specs.declared.kind.StopKind.{StopKind};
+ghost use Rattle.op_graph.specs.Rules.{IsGraph};
+ghost use Rattle.range_audit.specs.Audit.{may_stop, is_named};
+ghost use Rattle.range_audit.specs.Walking.{Parts, start_of, HoldAt, InBox, NamesFrom};
+
+use crate::boxes::{box_at, cell_count, has_none, next_start};
+use crate::range::{Range, Stops, both_hold, either_holds};
+use crate::walk::walk;
+use op_graph::Graph;
+use std::alloc::Global;
+use vcp_base::Memory;
+
+/// Whether both hold, or one of the two.
+fn joined(both: bool, x: bool, y: bool) -> bool
+    ensures { Parts both (x ≡ true) (y ≡ true) → result ≡ true }
+{
+    if both {
+        return both_hold(x, y);
+    }
+    either_holds(x, y)
+}
+
+/// Why an operation may stop, that may for both these reasons, or for one of the two.
+fn joined_stops(both: bool, a: Stops, b: Stops) -> Stops
+    ensures { (why : StopKind) → Parts both (may_stop why a ≡ true) (may_stop why b ≡ true) → may_stop why result ≡ true }
+{
+    let range = joined(both, a.range, b.range);
+    let div_zero = joined(both, a.div_zero, b.div_zero);
+    Stops { range, div_zero }
+}
+
+/// Why the operation at place `i` may stop.
+fn stops_at(stops: &[Stops], i: usize) -> Stops
+    requires { i < length stops.now }
+    ensures { slice_get stops.now i ≡ Some result }
+{
+    stops[i]
+}
+
+/// Which operations are named that both lists name, or one of the two.
+pub(crate) fn named_by(
+    alloc: Global,
+    both: bool,
+    a: &[Stops],
+    b: &[Stops],
+) -> Result<Vec<Stops>, Memory>
+    requires { length a.now ≡ length b.now }
+    ensures many { IfOk result (λ stops. length stops.items ≡ length a.now) }
+    ensures named { IfOk result (λ stops. (why : StopKind) (i : ℕ) → Parts both (is_named why (slice_get a.now i) ≡ true) (is_named why (slice_get b.now i) ≡ true)
+        → is_named why (slice_get stops.items i) ≡ true) }
+{
+    let count = a.len();
+    let mut stops = Vec::with_capacity(alloc, count)?;
+    'operations: for i in 0..count {
+        let first = stops_at(a, i);
+        let second = stops_at(b, i);
+        let named = joined_stops(both, first, second);
+        stops.push(named)?;
+    }
+    Ok(stops)
+}
+
+/// None of the operations named.
+fn none_named(alloc: Global, graph: &Graph) -> Result<Vec<Stops>, Memory>
+    ensures { IfOk result (λ stops. length stops.items ≡ length graph.now.operations) }
+{
+    let count = graph.len();
+    let mut stops = Vec::with_capacity(alloc, count as usize)?;
+    'operations: for i in 0..count {
+        stops.push(Stops {
+            range: false,
+            div_zero: false,
+        })?;
+    }
+    Ok(stops)
+}
+
+/// The operations that are named already, and those that may stop in a cycle from cells in the box that begins there.
+fn with_box(
+    alloc: Global,
+    graph: &Graph,
+    boxes: &[Range],
+    start: usize,
+    stops: Vec<Stops>,
+) -> Result<Vec<Stops>, Memory>
+    requires graph { IsGraph graph.now }
+    requires start { start + length graph.now.stores ≤ length boxes.now }
+    requires many { length stops.items ≡ length graph.now.operations }
+    ensures many { IfOk result (λ more. length more.items ≡ length graph.now.operations) }
+    ensures kept { IfOk result (λ more. (why : StopKind) (i : ℕ) → is_named why (slice_get stops.items i) ≡ true → is_named why (slice_get more.items i) ≡ true) }
+    ensures named { IfOk result (λ more. NamesFrom graph.now.operations (HoldAt boxes.now (length graph.now.stores) start) more.items) }
+{
+    let many = cell_count(graph);
+    let cells = box_at(alloc, boxes, many, start)?;
+    let none = has_none(&cells);
+    if none {
+        return Ok(stops);
+    }
+    let told = walk(alloc, graph, &cells)?;
+    let others = told.stops();
+    let more = named_by(alloc, false, &stops, others)?;
+    Ok(more)
+}
+
+/// The operations that may stop in a cycle from cells in one of so many boxes.
+pub(crate) fn named_from(
+    alloc: Global,
+    graph: &Graph,
+    boxes: &[Range],
+    count: u32,
+) -> Result<Vec<Stops>, Memory>
+    requires graph { IsGraph graph.now }
+    requires boxes { start_of (length graph.now.stores) count ≤ length boxes.now }
+    ensures many { IfOk result (λ stops. length stops.items ≡ length graph.now.operations) }
+    ensures named { IfOk result (λ stops. NamesFrom graph.now.operations (InBox boxes.now (length graph.now.stores) count) stops.items) }
+{
+    let many = cell_count(graph);
+    let mut stops = none_named(alloc, graph)?;
+    let mut start: usize = 0;
+    'boxes: for k in 0..count {
+        let more = with_box(alloc, graph, boxes, start, stops)?;
+        stops = more;
+        let next = next_start(boxes, start, many);
+        start = next;
+    }
+    Ok(stops)
+}

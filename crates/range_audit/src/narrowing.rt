@@ -1,0 +1,166 @@
+//! Ranges of the operations of one whole cycle, made narrower by what each operation gives and reads.
+
+ghost use Rattle.std.specs.Prelude.{◌≡◌, ◌<◌, ◌≤◌, ℕ, ℤ, true, false, List, length, take, nat_lt};
+ghost use Rattle.vcp_base.specs.Kinds.{operands as operands_of};
+ghost use Rattle.vcp_base.specs.Values.{at};
+ghost use Rattle.op_graph.specs.GraphRun.{operand};
+ghost use Rattle.op_graph.specs.Rules.{IsGraph};
+ghost use Rattle.range_audit.specs.Intervals.{IsIn, Fit, Hold};
+ghost use Rattle.range_audit.specs.Walking.{Given, OperandIs, Narrows, ReadsCell};
+
+use crate::operand_ranges::{first_operand, second_operand, third_operand};
+use crate::range::{Range, earlier_range};
+use crate::told::{has_operand, operand_range, tell};
+use op_graph::{Graph, Op, entries_keep_their_rules, operands_are_there};
+use vcp_base::Kind;
+
+/// How often the operations are gone through, each time from the last to the first and back.
+const PASSES: u32 = 3;
+
+/// Makes the range of operation `n`, whose value is in `r`, narrower.
+pub(crate) fn put(ranges: &mut [Range], n: u32, r: Range)
+    requires { n < length ranges.old }
+    ensures many { length ranges.new ≡ length ranges.old }
+    ensures fits { (vs : List ℤ) → n < length vs → Fit ranges.old vs → IsIn r (at vs n) → Fit ranges.new vs }
+{
+    let before = earlier_range(ranges, n);
+    let bounds = r.bounds();
+    ranges[n as usize] = before.met(bounds);
+}
+
+/// The first ranges.
+fn first_ranges(ranges: &[Range], i: u32) -> &[Range]
+    requires { i ≤ length ranges.now }
+    ensures { result.now ≡ take i ranges.now }
+{
+    &ranges[..i as usize]
+}
+
+/// The range of operation `i` by what it reads.
+fn told_range(graph: &Graph, cells: &[Range], ranges: &[Range], i: u32) -> Range
+    requires graph { IsGraph graph.now }
+    requires there { i < length graph.now.operations }
+    requires many { length ranges.now ≡ length graph.now.operations }
+    requires cells { length cells.now ≡ length graph.now.stores }
+    ensures { (held row vs : List ℤ) → Hold cells.now held → Given graph.now.operations held row vs → length vs ≡ length graph.now.operations
+        → Fit ranges.now vs → IsIn result (at vs i) }
+{
+    let first = first_ranges(ranges, i);
+    let told = tell(graph, cells, first, i);
+    told.range
+}
+
+/// Makes the range of operation `i` narrower by what it reads.
+fn settle_value(graph: &Graph, cells: &[Range], ranges: &mut [Range], i: u32)
+    requires graph { IsGraph graph.now }
+    requires there { i < length graph.now.operations }
+    requires many { length ranges.old ≡ length graph.now.operations }
+    requires cells { length cells.now ≡ length graph.now.stores }
+    ensures many { length ranges.new ≡ length ranges.old }
+    ensures fits { Narrows graph.now.operations cells.now ranges.old ranges.new }
+{
+    let told = told_range(graph, cells, ranges, i);
+    put(ranges, i, told);
+}
+
+/// Whether the kind reads operation `n` as its operand `j`: a LOAD reads its cell.
+fn reads_earlier(kind: Kind, j: u32) -> bool
+    ensures has { result ≡ true → nat_lt j (operands_of kind) ≡ true }
+    ensures other { result ≡ true → ReadsCell kind → ⊥ }
+{
+    match kind {
+        Kind::Load => false,
+        _ => has_operand(kind, j),
+    }
+}
+
+/// Makes the range of what an operation reads as its operand `j`, which is operation `n`, narrower, where what is read is in `r`.
+fn put_operand(cells: &[Range], ranges: &mut [Range], op: &Op, j: u32, n: u32, r: Range)
+    requires { nat_lt j (operands_of op.now.kind) ≡ true → OperandIs (length cells.now) (length ranges.old) op.now.kind op.now.imm n }
+    ensures many { length ranges.new ≡ length ranges.old }
+    ensures fits { (held vs : List ℤ) → length ranges.old ≤ length vs → Fit ranges.old vs → IsIn r (operand held vs op.now j n) → Fit ranges.new vs }
+{
+    let reads = reads_earlier(op.kind, j);
+    if reads {
+        put(ranges, n, r);
+    }
+}
+
+/// Makes the ranges of what operation `i` reads narrower by its own.
+fn settle_operands(graph: &Graph, cells: &[Range], ranges: &mut [Range], i: u32)
+    requires graph { IsGraph graph.now }
+    requires there { i < length graph.now.operations }
+    requires many { length ranges.old ≡ length graph.now.operations }
+    requires cells { length cells.now ≡ length graph.now.stores }
+    ensures many { length ranges.new ≡ length ranges.old }
+    ensures fits { Narrows graph.now.operations cells.now ranges.old ranges.new }
+{
+    // What an operation reads is an earlier one, or a cell.
+    operands_are_there();
+    entries_keep_their_rules();
+    let op = graph.operation(i);
+    let r = earlier_range(ranges, i);
+    let a = operand_range(cells, ranges, &op, 0, op.a);
+    let b = operand_range(cells, ranges, &op, 1, op.b);
+    let c = operand_range(cells, ranges, &op, 2, op.c);
+    let first = first_operand(op.kind, r, a, b, c);
+    let second = second_operand(op.kind, r, a, b);
+    let third = third_operand(op.kind, r, a, c);
+    put_operand(cells, ranges, &op, 0, op.a, first);
+    put_operand(cells, ranges, &op, 1, op.b, second);
+    put_operand(cells, ranges, &op, 2, op.c, third);
+}
+
+/// Makes the range of operation `i` narrower by what it reads, and then what it reads by its own.
+fn settle(graph: &Graph, cells: &[Range], ranges: &mut [Range], i: u32)
+    requires graph { IsGraph graph.now }
+    requires there { i < length graph.now.operations }
+    requires many { length ranges.old ≡ length graph.now.operations }
+    requires cells { length cells.now ≡ length graph.now.stores }
+    ensures many { length ranges.new ≡ length ranges.old }
+    ensures fits { Narrows graph.now.operations cells.now ranges.old ranges.new }
+{
+    settle_value(graph, cells, ranges, i);
+    settle_operands(graph, cells, ranges, i);
+}
+
+/// Does so for each operation, from the last to the first.
+fn go_back(graph: &Graph, cells: &[Range], ranges: &mut [Range])
+    requires graph { IsGraph graph.now }
+    requires many { length ranges.old ≡ length graph.now.operations }
+    requires cells { length cells.now ≡ length graph.now.stores }
+    ensures many { length ranges.new ≡ length ranges.old }
+    ensures fits { Narrows graph.now.operations cells.now ranges.old ranges.new }
+{
+    let count = graph.len();
+    'operations: for k in 0..count {
+        settle(graph, cells, ranges, count - 1 - k);
+    }
+}
+
+/// Does so for each operation, from the first to the last.
+fn go_forth(graph: &Graph, cells: &[Range], ranges: &mut [Range])
+    requires graph { IsGraph graph.now }
+    requires many { length ranges.old ≡ length graph.now.operations }
+    requires cells { length cells.now ≡ length graph.now.stores }
+    ensures many { length ranges.new ≡ length ranges.old }
+    ensures fits { Narrows graph.now.operations cells.now ranges.old ranges.new }
+{
+    'operations: for i in 0..graph.len() {
+        settle(graph, cells, ranges, i);
+    }
+}
+
+/// Makes the ranges of the operations of a whole cycle, at whose beginning the cells are in these ranges, narrower by one another.
+pub(crate) fn narrow(graph: &Graph, cells: &[Range], ranges: &mut [Range])
+    requires graph { IsGraph graph.now }
+    requires many { length ranges.old ≡ length graph.now.operations }
+    requires cells { length cells.now ≡ length graph.now.stores }
+    ensures many { length ranges.new ≡ length ranges.old }
+    ensures fits { Narrows graph.now.operations cells.now ranges.old ranges.new }
+{
+    'passes: for _ in 0..PASSES {
+        go_back(graph, cells, ranges);
+        go_forth(graph, cells, ranges);
+    }
+}
