@@ -4,7 +4,9 @@ mod Counting
 mod Ended
 mod FlipGoing
 mod FlipsFit
+mod FlipsOnce
 mod Going
+mod OneBit
 mod Parts
 mod ReadBack
 mod Short

@@ -66,7 +66,7 @@ number_of class.Skip = 2
 number_of class.From = 3
 number_of class.Operator = 4
 
-same : (m n : ℕ) → (m == n) ≡ true → m ≡ n
+pub same : (m n : ℕ) → (m == n) ≡ true → m ≡ n
 same m n h = grind (arith, nat_tests)
 
 -- ---- bits
@@ -178,16 +178,16 @@ of_class class.Operator g k op =
 
 -- ---- their sites
 
-each_sited : (P : Site → Type 0) (n k : ℕ) (acts : List Act) → All (λ a. P (site n k a)) acts → All P (sited n k acts)
+pub each_sited : (P : Site → Type 0) (n k : ℕ) (acts : List Act) → All (λ a. P (site n k a)) acts → All P (sited n k acts)
 each_sited P n k [] h = All-nil P
 each_sited P n k (a ∷ acts) h =
     All-cons P (site n k a) (sited n k acts) (All-head (λ a. P (site n k a)) a acts h) (each_sited P n k acts (All-tail (λ a. P (site n k a)) a acts h))
 
-any_act : (P : Act → Type 0) (acts : List Act) → ((a : Act) → P a) → All P acts
+pub any_act : (P : Act → Type 0) (acts : List Act) → ((a : Act) → P a) → All P acts
 any_act P [] h = All-nil P
 any_act P (a ∷ acts) h = All-cons P a acts (h a) (any_act P acts h)
 
-sited_once : (n k : ℕ) (acts : List Act) → Distinct acts → Distinct (sited n k acts)
+pub sited_once : (n k : ℕ) (acts : List Act) → Distinct acts → Distinct (sited n k acts)
 sited_once n k [] once = tt
 sited_once n k (a ∷ acts) once = (
   each_sited (λ s. site n k a ≢ s) n k acts

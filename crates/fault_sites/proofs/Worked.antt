@@ -6,11 +6,14 @@ use Rattle.vcp_base.specs.declared.ty.Ty.TheVariants as ty
 use Rattle.vcp_base.specs.declared.kind.Kind.{Kind}
 use Rattle.vcp_base.specs.declared.kind.Kind.TheVariants as kind
 use Rattle.op_graph.specs.declared.op.Op.{Op}
+use Rattle.coded_unit.specs.Words.{coded}
 use Rattle.op_graph.specs.Lists.{Lists}
+use Rattle.signature_table.specs.Signatures.{Numbers, signature}
 use Rattle.fault_script.specs.declared.act.Act.TheVariants as act
 use Rattle.fault_script.specs.ScriptOf.{script_of}
 use Rattle.fault_sites.specs.declared.class.Class.TheVariants as class
 use Rattle.fault_sites.specs.declared.class.Classes.TheVariants as classes
+use Rattle.fault_sites.specs.Flips.{expected_word, flips, flips_of, flips_text}
 use Rattle.fault_sites.specs.Sites.{addend, site, sites_of, sites}
 use Rattle.fault_sites.specs.SiteText.{classes_name, classes_of, site_text, sites_text, said_from}
 
@@ -115,6 +118,55 @@ stale_read : script_of counter (sites_text (classes.One class.Stale) (codes "00f
     ≡ Ok (said_from 2 (sites_of class.Stale counter 2))
 unfolding digits counter op_on
 stale_read = refl
+
+-- ---- flips, in the narrow code with seed 0 and step 1
+
+numbers : Numbers
+numbers = record { profile = profile.Narrow; seed = 0; step = 1; corrections = [] }
+
+-- the word of the value -1 at operation 0 in cycle 0 is -A + 1, in two's complement ..10000000000000000000000000000010
+minus_one : expected_word numbers 0 0 (neg_ℤ (pos 1)) ≡ neg_ℤ (pos 2147483646)
+unfolding numbers coded signature
+minus_one = refl
+
+-- of its lowest 32 bits only bits 1 and 31 are 1, where the value has no other than 1
+its_bit_0 : slice_get (flips_of (neg_ℤ (pos 2147483646))) 0 ≡ Some (act.ResultAdd (pos 1))
+its_bit_0 = refl
+
+its_bit_1 : slice_get (flips_of (neg_ℤ (pos 2147483646))) 1 ≡ Some (act.ResultAdd (neg_ℤ (pos 2)))
+its_bit_1 = refl
+
+its_bit_2 : slice_get (flips_of (neg_ℤ (pos 2147483646))) 2 ≡ Some (act.ResultAdd (pos 4))
+its_bit_2 = refl
+
+its_bit_31 : slice_get (flips_of (neg_ℤ (pos 2147483646))) 31 ≡ Some (act.ResultAdd (neg_ℤ (pos 2147483648)))
+its_bit_31 = refl
+
+-- five results in two cycles
+flips_count : length (flips numbers counter ([] ∷ [] ∷ [])) ≡ 320
+unfolding counter op_on numbers coded signature
+flips_count = refl
+
+-- CONST is operation 1, of the signature 214748365. The stamp is 1, and so its word is 2147483647 + 214748365 + 1, which ends in 1101.
+flips_of_const : flips_text (codes "00ff") numbers counter ([] ∷ []) (record { skip = 32; left = 3 })
+    ≡ codes "# sites flips of 00ff\nresult 0 1 add -1\nresult 0 1 add 2\nresult 0 1 add -4\n"
+unfolding digits counter op_on numbers coded signature
+flips_of_const = refl
+
+-- in the second cycle the stamp is 2, and the word ends in 1110
+flips_later : flips_text (codes "00ff") numbers counter ([] ∷ [] ∷ []) (record { skip = 192; left = 3 })
+    ≡ codes "# sites flips of 00ff\nresult 1 1 add 1\nresult 1 1 add -2\nresult 1 1 add -4\n"
+unfolding digits counter op_on numbers coded signature
+flips_later = refl
+
+-- 0 / 0 stops, and its cycle has no flips
+stopping : Lists
+unfolding counter
+stopping = record counter { operations = op_on kind.Const 0 0 (pos 0) ∷ op_on kind.Div 0 0 (pos 0) ∷ [] }
+
+none_of_stopped : flips numbers stopping ([] ∷ []) ≡ []
+unfolding counter stopping op_on numbers coded signature
+none_of_stopped = refl
 
 -- a word that names classes is read back
 named_bits : classes_of (classes_name (classes.One class.Bits)) ≡ Some (classes.One class.Bits)

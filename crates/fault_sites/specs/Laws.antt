@@ -1,15 +1,16 @@
 -- Laws: what holds of the sites of all graphs.
-use Rattle.std.specs.Prelude.{◌≡◌, ◌≢◌, ℕ, ℤ, ◌+◌, ◌^◌, ◌<◌, ◌≤◌, List, [], ◌∷◌, ◌++◌, length, All, Ok}
+use Rattle.std.specs.Prelude.{◌≡◌, ◌≢◌, ℕ, ℤ, ◌+ℤ◌, ◌+◌, ◌^◌, ◌<◌, ◌≤◌, ◌==◌, not, cond, List, [], ◌∷◌, ◌++◌, length, All, Ok}
 use Rattle.std.specs.Str.Lines.{lines}
 use Rattle.vcp_base.specs.Limits.{most_cycles, most_source_bytes}
 use Rattle.op_graph.specs.Lists.{Lists}
+use Rattle.signature_table.specs.Signatures.{Numbers}
 use Rattle.script_text.specs.Lines.{read_lines}
 use Rattle.fault_script.specs.Fits.{Fits}
 use Rattle.fault_script.specs.ScriptOf.{says, items_of, most_faults, script_of}
 use Rattle.fault_sites.specs.declared.class.Classes.{Classes}
 use Rattle.fault_sites.specs.declared.part.Part.{Part}
 use Rattle.fault_sites.specs.declared.site.Site.{Site}
-use Rattle.fault_sites.specs.Flips.{flips, flips_text}
+use Rattle.fault_sites.specs.Flips.{bit_of, flip, flips, flips_text}
 use Rattle.fault_sites.specs.Part.{kept}
 use Rattle.fault_sites.specs.Sites.{as_fault, sites}
 use Rattle.fault_sites.specs.SiteText.{said_from, site_text, sites_text}
@@ -54,18 +55,26 @@ IsShort =
     → length g.operations ≤ 2 ^ 32 → length (kept p (sites c g cycles)) ≤ most_faults →
     length (sites_text c digest g cycles p) ≤ most_source_bytes
 
+-- what flips bit b of a word, where it is added, turns this bit and no other
+abbrev pub TurnsOneBit : Type 0
+TurnsOneBit = (w : ℤ) (b c : ℕ) → bit_of (w +ℤ flip w b) c ≡ cond (c == b) (not (bit_of w c)) (bit_of w c)
+
+-- each flip stands once
+abbrev pub EachFlipOnce : Type 0
+EachFlipOnce = (t : Numbers) (g : Lists) (rows : List (List ℤ)) → Distinct (flips t g rows)
+
 -- the same of flips: each fits the graph, and their script is read back
 abbrev pub EachFlipFits : Type 0
-EachFlipFits = (g : Lists) (rows : List (List ℤ)) (line : ℕ) → length rows ≤ most_cycles → All (λ s. Fits g (as_fault line s)) (flips g rows)
+EachFlipFits = (t : Numbers) (g : Lists) (rows : List (List ℤ)) (line : ℕ) → length rows ≤ most_cycles → All (λ s. Fits g (as_fault line s)) (flips t g rows)
 
 abbrev pub FlipsAreReadBack : Type 0
 FlipsAreReadBack =
-    (digest : List ℕ) (g : Lists) (rows : List (List ℤ)) (p : Part) → All (λ b. 32 ≤ b) digest → length rows ≤ most_cycles
-    → length g.operations ≤ 2 ^ 32 → length (kept p (flips g rows)) ≤ most_faults →
-    script_of g (flips_text digest g rows p) ≡ Ok (said_from 2 (kept p (flips g rows)))
+    (digest : List ℕ) (t : Numbers) (g : Lists) (rows : List (List ℤ)) (p : Part) → All (λ b. 32 ≤ b) digest → length rows ≤ most_cycles
+    → length g.operations ≤ 2 ^ 32 → length (kept p (flips t g rows)) ≤ most_faults →
+    script_of g (flips_text digest t g rows p) ≡ Ok (said_from 2 (kept p (flips t g rows)))
 
 abbrev pub FlipsAreShort : Type 0
 FlipsAreShort =
-    (digest : List ℕ) (g : Lists) (rows : List (List ℤ)) (p : Part) → length digest ≤ 1000 → length rows ≤ most_cycles
-    → length g.operations ≤ 2 ^ 32 → length (kept p (flips g rows)) ≤ most_faults →
-    length (flips_text digest g rows p) ≤ most_source_bytes
+    (digest : List ℕ) (t : Numbers) (g : Lists) (rows : List (List ℤ)) (p : Part) → length digest ≤ 1000 → length rows ≤ most_cycles
+    → length g.operations ≤ 2 ^ 32 → length (kept p (flips t g rows)) ≤ most_faults →
+    length (flips_text digest t g rows p) ≤ most_source_bytes

@@ -1,6 +1,7 @@
 //! Laws of sites. Each function does nothing: it states a law.
 
-ghost use Rattle.fault_sites.specs.Laws.{EachFits, EachFlipFits, EachOnce, FlipsAreReadBack, FlipsAreShort, IsLineRead, IsReadBack, IsShort, PartsAreWhole};
+ghost use Rattle.fault_sites.specs.Laws.{EachFits, EachFlipFits, EachFlipOnce, EachOnce, FlipsAreReadBack, FlipsAreShort, IsLineRead, IsReadBack, IsShort};
+ghost use Rattle.fault_sites.specs.Laws.{PartsAreWhole, TurnsOneBit};
 ghost use Rattle.fault_sites.specs.Members.{HasEach};
 
 /// Each site fits the graph, in the sense of scripts of faults, whatever line it stands in.
@@ -33,6 +34,16 @@ pub fn a_script_is_read_back()
 /// The sites of a class are the faults that are of the class, and no others.
 pub fn each_fault_of_a_class_has_a_site()
     ensures { HasEach }
+{}
+
+/// What a flip adds to a word turns one bit of the word, and no other.
+pub fn a_flip_turns_one_bit()
+    ensures { TurnsOneBit }
+{}
+
+/// No flip of a run stands twice.
+pub fn each_flip_stands_once()
+    ensures { EachFlipOnce }
 {}
 
 /// The script of a part of at most 10,000 flips is read back as the faults of these, in the same way.

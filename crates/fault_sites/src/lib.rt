@@ -17,8 +17,9 @@ pub use class::{Class, Classes};
 pub use counts::count_sites;
 pub use flips::{count_flips, write_flips};
 pub use laws::{
-    a_line_is_read_back, a_script_is_read_back, a_script_of_flips_is_read_back,
-    each_fault_of_a_class_has_a_site, each_site_fits, each_site_stands_once, parts_are_the_whole,
+    a_flip_turns_one_bit, a_line_is_read_back, a_script_is_read_back,
+    a_script_of_flips_is_read_back, each_fault_of_a_class_has_a_site, each_flip_stands_once,
+    each_site_fits, each_site_stands_once, parts_are_the_whole,
 };
 pub use lines::{classes_name, classes_named, then_site};
 pub use part::Part;

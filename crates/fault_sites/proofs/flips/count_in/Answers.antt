@@ -4,10 +4,10 @@ use Rattle.fault_sites.proofs.FlipGoing.{in_many}
 use Rattle.fault_sites.proofs.flips.count_in.Goals as goal
 
 pub returns-clause-count : goal.returns-clause-count
-returns-clause-count c =
+returns-clause-count c = λ t n.
     omega (
       arith,
-      in_many c.args.run.now.graph c.args.n c.args.run.now.values,
+      in_many t c.args.run.now.graph n c.args.run.now.values,
       c.len.ensures.count,
       ap (λ (h : Lists). length h.operations) c.graph.ensures,
     )

@@ -8,4 +8,4 @@ use Rattle.fault_sites.proofs.flips.then_bits_of.Given as goal
 abbrev pub invariant-bits : goal.invariant-bits
 invariant-bits g l =
     Tells (g.O.Sink.seen l.fn.out) (g.O.Sink.seen l.out) l.fn.line l.line l.fn.part l.part
-    (sited l.n l.k (each_below (λ b. act.ResultAdd (flip l.v b) ∷ []) l.b))
+    (sited l.n l.k (each_below (λ b. act.ResultAdd (flip l.w b) ∷ []) l.b))

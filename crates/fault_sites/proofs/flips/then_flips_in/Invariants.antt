@@ -1,5 +1,5 @@
 use Rattle.vcp_base.specs.Values.{at}
-use Rattle.fault_sites.specs.Flips.{flips_of}
+use Rattle.fault_sites.specs.Flips.{expected_word, flips_of}
 use Rattle.fault_sites.specs.Sites.{each_below, sited}
 use Rattle.fault_sites.specs.Telling.{Tells}
 use Rattle.fault_sites.proofs.flips.then_flips_in.Given as goal
@@ -7,4 +7,4 @@ use Rattle.fault_sites.proofs.flips.then_flips_in.Given as goal
 abbrev pub invariant-operations : goal.invariant-operations
 invariant-operations g l =
     Tells (g.O.Sink.seen l.fn.out) (g.O.Sink.seen l.out) l.fn.line l.line l.fn.part l.part
-    (each_below (λ k. sited l.n k (flips_of (at l.run.values k))) l.k)
+    (each_below (λ k. sited l.n k (flips_of (expected_word l.table l.n k (at l.run.values k)))) l.k)

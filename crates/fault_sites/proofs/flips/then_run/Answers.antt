@@ -4,22 +4,22 @@ use Rattle.fault_sites.proofs.flips.then_run.Goals as goal
 
 pub cycles-init : goal.cycles-init
 cycles-init g c = record {
-  so_far = so_far_none c.args.run.now.graph c.args.rows.now c.args.run.now c.requires.begun;
+  so_far = so_far_none c.args.table.now c.args.run.now.graph c.args.rows.now c.args.run.now c.requires.begun;
   row = c.requires.row;
   count = search rules;
 }
 
 pub returns-in-Some : goal.returns-in-Some
 returns-in-Some g c =
-    so_far_all c.args.run.now.graph c.args.rows.now c.cycles.n c.cycles.run c.cycles.invariant.so_far
-    (left_none c.cycles.run c.cycles.n c.args.rows.now c.get.new.out c.in-Some.field-0 c.get.ensures (sym c.cycle.ensures.stop ∙ c.in-Some.is))
+    so_far_all c.args.table.now c.args.run.now.graph c.args.rows.now c.cycles.n c.cycles.run c.cycles.invariant.so_far
+    (left_none c.args.table.now c.cycles.run c.cycles.n c.args.rows.now c.get.new.out c.in-Some.field-0 c.get.ensures (sym c.cycle.ensures.stop ∙ c.in-Some.is))
 
 pub cycles-preserved : goal.cycles-preserved
 cycles-preserved g c =
     let i = c.cycles.invariant in
     record {
       so_far =
-          so_far_more c.args.run.now.graph c.args.rows.now c.cycles.n c.cycles.run c.cycle.new.self c.get.new.out i.so_far c.get.ensures
+          so_far_more c.args.table.now c.args.run.now.graph c.args.rows.now c.cycles.n c.cycles.run c.cycle.new.self c.get.new.out i.so_far c.get.ensures
           (sym c.cycle.ensures.stop ∙ c.in-None.is) c.cycle.ensures.run c.then_cycle-part.ensures;
       row = width_there c.args.rows.now (length c.args.run.now.graph.inputs) c.cycles.n c.get.new.out c.requires.width c.get.ensures;
       count = i.count;

@@ -4,7 +4,7 @@ use Rattle.fault_sites.proofs.flips.then_run.Given as goal
 
 abbrev pub invariant-cycles : goal.invariant-cycles
 invariant-cycles g l = record {
-  so_far : SoFar (g.O.Sink.seen l.fn.out) (g.O.Sink.seen l.out) l.fn.line l.line l.fn.part l.part l.fn.run.graph l.rows l.n l.run;
+  so_far : SoFar (g.O.Sink.seen l.fn.out) (g.O.Sink.seen l.out) l.fn.line l.line l.fn.part l.part l.table l.fn.run.graph l.rows l.n l.run;
   row : length l.row ≡ length l.fn.run.graph.inputs;
   count : l.count ≡ length l.rows;
 }

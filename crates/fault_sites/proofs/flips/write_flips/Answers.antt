@@ -10,4 +10,4 @@ returns g c =
     let remark = c.then_remark.ensures _ _ _ (c.new-line.ensures.begun _ _) in
     let told = c.then_run.ensures.gathers _ _ _ remark in
     written_same (c.end.ensures.writes _ _ _ told)
-    (ended_text (codes "flips") c.args.digest.now (kept c.args.part (flips c.args.run.now.graph c.args.rows.now)))
+    (ended_text (codes "flips") c.args.digest.now (kept c.args.part (flips c.args.table.now c.args.run.now.graph c.args.rows.now)))
