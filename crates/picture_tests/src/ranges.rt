@@ -36,6 +36,7 @@ IF ABS(x) <= 100 THEN y := x * 327; END_IF; => 1 4 NEG RANGE of -32768..32767 at
 CASE x OF 1, 2, 3: y := x * 10922; END_CASE; => 0 may stop 0 of 1
 CASE x OF 5..9: y := x * 3640; END_CASE; => 0 may stop 0 of 1
 CASE x OF 0: y := 0; ELSE y := 100 / x; END_CASE; => 0 may stop 0 of 1
+CASE y OF 0: n := 0; IF b THEN y := 1; END_IF; 1: n := n + 1; IF n = 5 THEN y := 2; END_IF; 2: IF b THEN y := 0; END_IF; END_CASE; => 0 may stop 0 of 1
 ";
 
 /// Statements => the status, and the lines of `ranges` where all are told.

@@ -104,7 +104,12 @@ abbrev pub Narrows : List Op → List Range → List Range → List Range → Ty
 Narrows ops cells old new =
     (held row vs : List ℤ) → Hold cells held → Given ops held row vs → length vs ≡ length ops → Fit old vs → Fit new vs
 
--- the same where operation n is in r too
+-- in such a cycle the value of operation j is in r
+abbrev pub IsValueIn : List Op → List Range → List Range → ℕ → Range → Type 0
+IsValueIn ops cells ranges j r =
+    (held row vs : List ℤ) → Hold cells held → Given ops held row vs → length vs ≡ length ops → Fit ranges vs → IsIn r (at vs j)
+
+-- where operation n is in r too, and the operations in the old ranges, they are in the new ones
 pub record NarrowsTo (ops : List Op) (cells : List Range) (n : ℕ) (r : Range) (old new : List Range) : Type 0 where
   pub fits : (held row vs : List ℤ) → Hold cells held → Given ops held row vs → length vs ≡ length ops → Fit old vs → IsIn r (at vs n) → Fit new vs
 

@@ -5,10 +5,12 @@ ghost use Rattle.vcp_base.specs.Values.{at};
 ghost use Rattle.op_graph.specs.GraphRun.{stored};
 ghost use Rattle.op_graph.specs.Rules.{IsGraph};
 ghost use Rattle.range_audit.specs.Intervals.{IsIn, Fit, Hold};
-ghost use Rattle.range_audit.specs.Walking.{NarrowsTo, start_of, InBox, EndsIn};
+ghost use Rattle.range_audit.specs.Walking.{IsValueIn, Narrows, NarrowsTo, start_of, InBox, EndsIn};
 
-use crate::boxes::{has_none, is_in_one, stored_cells};
+use crate::boxes::{cell_count, has_none, is_in_one, stored_cells};
+use crate::cells::store_at;
 use crate::narrowing::{narrow, put};
+use crate::questions::{box_of, open_condition, wanted_at};
 use crate::range::{Range, both_hold, earlier_range};
 use op_graph::Graph;
 use std::alloc::Global;
@@ -90,6 +92,153 @@ fn part(
     Ok(part)
 }
 
+/// How many conditions are taken apart at once.
+const CONDITIONS: u32 = 4;
+
+/// Takes the operations of two cases from those that may still be gone through. Whether there were as many.
+fn spend(graph: &Graph, left: &mut u64) -> bool {
+    let many = (graph.len() as u64).saturating_mul(2);
+    if *left < many {
+        *left = 0;
+        return false;
+    }
+    *left = *left - many;
+    true
+}
+
+/// A range without a value.
+fn no_value() -> Range {
+    Range {
+        low: 1,
+        high: 0,
+        nonzero: false,
+    }
+}
+
+/// The range of operation `j` in whole cycles with values in these ranges, by the cases of conditions, so many at once, until it is inside
+/// the wanted one.
+fn range_by_cases(
+    alloc: Global,
+    graph: &Graph,
+    cells: &[Range],
+    ranges: &[Range],
+    j: u32,
+    wanted: Range,
+    depth: u32,
+    left: &mut u64,
+) -> Result<Range, Memory>
+    requires graph { IsGraph graph.now }
+    requires there { j < length graph.now.operations }
+    requires many { length ranges.now ≡ length graph.now.operations }
+    requires cells { length cells.now ≡ length graph.now.stores }
+    ensures { IfOk result (λ r. IsValueIn graph.now.operations cells.now ranges.now j r) }
+{
+    let none = has_none(ranges);
+    if none {
+        return Ok(no_value());
+    }
+    let known = earlier_range(ranges, j);
+    if depth == 0 {
+        return Ok(known);
+    }
+    let is = known.is_inside(wanted);
+    if is {
+        return Ok(known);
+    }
+    let q = open_condition(graph, ranges, j);
+    let many = graph.len();
+    let nothing = q >= many;
+    if nothing {
+        return Ok(known);
+    }
+    let enough = spend(graph, left);
+    if !enough {
+        return Ok(known);
+    }
+    let less = depth - 1;
+    let r = earlier_range(ranges, q);
+    let one = up_to(r, 0);
+    let rest = above(r, 0);
+    let low = part(alloc, graph, cells, ranges, q, one)?;
+    let high = part(alloc, graph, cells, ranges, q, rest)?;
+    let first = range_by_cases(alloc, graph, cells, &low, j, wanted, less, left)?;
+    let second = range_by_cases(alloc, graph, cells, &high, j, wanted, less, left)?;
+    let both = first.joined(second);
+    Ok(both)
+}
+
+/// Makes the range of operation `j` narrower by cases of conditions, until it is inside the wanted one.
+fn narrow_by_cases(
+    alloc: Global,
+    graph: &Graph,
+    cells: &[Range],
+    ranges: &mut [Range],
+    j: u32,
+    wanted: Range,
+    left: &mut u64,
+) -> Result<(), Memory>
+    requires graph { IsGraph graph.now }
+    requires there { j < length graph.now.operations }
+    requires many { length ranges.old ≡ length graph.now.operations }
+    requires cells { length cells.now ≡ length graph.now.stores }
+    ensures many { length ranges.new ≡ length ranges.old }
+    ensures fits { Narrows graph.now.operations cells.now ranges.old ranges.new }
+{
+    let r = range_by_cases(alloc, graph, cells, ranges, j, wanted, CONDITIONS, left)?;
+    put(ranges, j, r);
+    Ok(())
+}
+
+/// Does so for each number that is stored, until it is inside its range of the box that begins there.
+fn narrow_stores(
+    alloc: Global,
+    graph: &Graph,
+    cells: &[Range],
+    ranges: &mut [Range],
+    boxes: &[Range],
+    start: usize,
+    left: &mut u64,
+) -> Result<(), Memory>
+    requires graph { IsGraph graph.now }
+    requires many { length ranges.old ≡ length graph.now.operations }
+    requires cells { length cells.now ≡ length graph.now.stores }
+    ensures many { length ranges.new ≡ length ranges.old }
+    ensures fits { Narrows graph.now.operations cells.now ranges.old ranges.new }
+{
+    let count = cell_count(graph);
+    'cells: for k in 0..count {
+        let store = store_at(graph, k);
+        let wanted = wanted_at(graph, boxes, start, k);
+        narrow_by_cases(alloc, graph, cells, ranges, store, wanted, left)?;
+    }
+    Ok(())
+}
+
+/// The ranges of the operations of a whole cycle in which the value of operation `n` is in `r`, also by cases of conditions.
+fn closer_part(
+    alloc: Global,
+    graph: &Graph,
+    cells: &[Range],
+    ranges: &[Range],
+    boxes: &[Range],
+    count: u32,
+    n: u32,
+    r: Range,
+    left: &mut u64,
+) -> Result<Vec<Range>, Memory>
+    requires graph { IsGraph graph.now }
+    requires there { n < length graph.now.operations }
+    requires many { length ranges.now ≡ length graph.now.operations }
+    requires cells { length cells.now ≡ length graph.now.stores }
+    ensures many { IfOk result (λ part. length part.items ≡ length graph.now.operations) }
+    ensures fits { IfOk result (λ part. NarrowsTo graph.now.operations cells.now n r ranges.now part.items) }
+{
+    let mut found = part(alloc, graph, cells, ranges, n, r)?;
+    let start = box_of(graph, &found, boxes, count, n);
+    narrow_stores(alloc, graph, cells, &mut found, boxes, start, left)?;
+    Ok(found)
+}
+
 /// Appends the ranges to those that are missed, where they aren't in a box.
 fn note(cells: &[Range], is: bool, missed: &mut Vec<Range>) -> Result<(), Memory> {
     if is {
@@ -135,6 +284,7 @@ pub(crate) fn ends_by_cases(
     count: u32,
     n: u32,
     depth: u32,
+    left: &mut u64,
     missed: &mut Vec<Range>,
 ) -> Result<bool, Memory>
     requires graph { IsGraph graph.now }
@@ -152,15 +302,21 @@ pub(crate) fn ends_by_cases(
     if none {
         return Ok(true);
     }
+    let enough = spend(graph, left);
+    if !enough {
+        return Ok(false);
+    }
     let r = earlier_range(ranges, n);
     let m = r.low;
     let less = depth - 1;
     let one = up_to(r, m);
     let rest = above(r, m);
-    let low = part(alloc, graph, cells, ranges, n, one)?;
+    let low = closer_part(alloc, graph, cells, ranges, boxes, count, n, one, left)?;
     let high = part(alloc, graph, cells, ranges, n, rest)?;
     let first = ends(alloc, graph, &low, boxes, count, missed)?;
-    let second = ends_by_cases(alloc, graph, cells, &high, boxes, count, n, less, missed)?;
+    let second = ends_by_cases(
+        alloc, graph, cells, &high, boxes, count, n, less, left, missed,
+    )?;
     let both = both_hold(first, second);
     Ok(both)
 }

@@ -42,6 +42,17 @@ pub(crate) fn store_of(graph: &Graph, k: usize) -> u32
     stores[k]
 }
 
+/// The number of the STORE of the cell at `place`.
+pub(crate) fn store_at(graph: &Graph, place: usize) -> u32
+    requires graph { IsGraph graph.now }
+    requires place { place < length graph.now.stores }
+    ensures { result < length graph.now.operations }
+{
+    // The STORE of each cell is an operation.
+    entries_keep_their_rules();
+    store_of(graph, place)
+}
+
 /// The range of what is stored in cell `k`.
 pub(crate) fn stored_range(graph: &Graph, known: &[Range], k: usize) -> Range
     requires graph { IsGraph graph.now }

@@ -8,7 +8,7 @@ ghost use Rattle.range_audit.specs.Walking.{start_of, InBox, EndsFrom, AreSettle
 use crate::audit::Ranges;
 use crate::boxes::{box_at, cell_count, has_none, initial_cells, is_in_one, next_start};
 use crate::cases::{copied, ends_by_cases};
-use crate::cells::{Step, step_of, store_of, widened};
+use crate::cells::{Step, step_of, store_at, widened};
 use crate::naming::{named_by, named_from};
 use crate::range::{Range, Stops, both_hold};
 use crate::thresholds::thresholds;
@@ -18,16 +18,16 @@ use std::alloc::Global;
 use vcp_base::{Memory, Ty};
 
 /// How many values the cell may have.
-const VALUES: u32 = 64;
+const VALUES: u32 = 16;
 
 /// How many rounds are tried.
 const ROUNDS: u32 = 32;
 
-/// With fewer rounds none are tried.
-const FEWEST: u64 = 4;
-
-/// How many operations are gone through, of those in all the cases of all cells.
+/// How many operations are gone through in all cases of all cells, each of them at most six times.
 const STEPS: u64 = 1_048_576;
+
+/// Graphs with more operations aren't searched so.
+const LARGEST: u32 = 8_192;
 
 /// Whether each whole cycle from cells in the box that begins there ends in one of so many boxes, by the cases of the value of operation `n`.
 fn is_box_kept(
@@ -37,6 +37,7 @@ fn is_box_kept(
     count: u32,
     start: usize,
     n: u32,
+    left: &mut u64,
     missed: &mut Vec<Range>,
 ) -> Result<bool, Memory>
     requires graph { IsGraph graph.now }
@@ -53,7 +54,9 @@ fn is_box_kept(
     }
     let told = walk(alloc, graph, &cells)?;
     let known = told.known();
-    let is = ends_by_cases(alloc, graph, &cells, known, boxes, count, n, VALUES, missed)?;
+    let is = ends_by_cases(
+        alloc, graph, &cells, known, boxes, count, n, VALUES, left, missed,
+    )?;
     Ok(is)
 }
 
@@ -64,6 +67,7 @@ fn are_boxes_kept(
     boxes: &[Range],
     count: u32,
     n: u32,
+    left: &mut u64,
     missed: &mut Vec<Range>,
 ) -> Result<bool, Memory>
     requires graph { IsGraph graph.now }
@@ -75,7 +79,7 @@ fn are_boxes_kept(
     let mut start: usize = 0;
     let mut all = true;
     'boxes: for k in 0..count {
-        let kept = is_box_kept(alloc, graph, boxes, count, start, n, missed)?;
+        let kept = is_box_kept(alloc, graph, boxes, count, start, n, left, missed)?;
         let both = both_hold(all, kept);
         all = both;
         let next = next_start(boxes, start, many);
@@ -91,6 +95,7 @@ fn is_family(
     boxes: &[Range],
     count: u32,
     n: u32,
+    left: &mut u64,
     missed: &mut Vec<Range>,
 ) -> Result<bool, Memory>
     requires graph { IsGraph graph.now }
@@ -100,7 +105,7 @@ fn is_family(
 {
     let first = initial_cells(alloc, graph)?;
     let begins = is_in_one(&first, boxes, count);
-    let kept = are_boxes_kept(alloc, graph, boxes, count, n, missed)?;
+    let kept = are_boxes_kept(alloc, graph, boxes, count, n, left, missed)?;
     let both = both_hold(begins, kept);
     Ok(both)
 }
@@ -208,26 +213,15 @@ fn grow(
     }
 }
 
-/// The number of the STORE of the cell at `place`.
-fn store_at(graph: &Graph, place: usize) -> u32
-    requires graph { IsGraph graph.now }
-    requires place { place < length graph.now.stores }
-    ensures { result < length graph.now.operations }
-{
-    // The STORE of each cell is an operation.
-    entries_keep_their_rules();
-    store_of(graph, place)
-}
-
 /// Boxes in one of which the cells always are, one for each of so many values of the cell at `place` from `base` on; None where none are
-/// found in so many rounds.
+/// found in the rounds that are tried, or with the operations that are left.
 fn family(
     alloc: Global,
     graph: &Graph,
     place: usize,
     base: i64,
     count: u32,
-    rounds: u32,
+    left: &mut u64,
     numbers: &[i64],
 ) -> Result<Option<Vec<Range>>, Memory>
     requires graph { IsGraph graph.now }
@@ -239,9 +233,13 @@ fn family(
     let first = initial_cells(alloc, graph)?;
     let mut boxes = empty_boxes(alloc, graph, count)?;
     grow(graph, &mut boxes, &first, place, base, Step::Near, numbers);
-    'rounds: for round in 0..rounds {
+    'rounds: for round in 0..ROUNDS {
+        let spent = *left == 0;
+        if spent {
+            return Ok(None);
+        }
         let mut missed = Vec::new(alloc);
-        let is = is_family(alloc, graph, &boxes, count, n, &mut missed)?;
+        let is = is_family(alloc, graph, &boxes, count, n, left, &mut missed)?;
         if is {
             return Ok(Some(boxes));
         }
@@ -317,33 +315,19 @@ fn values_of(range: Range) -> u32 {
     past as u32 + 1
 }
 
-/// How many rounds may be tried with so many boxes, so that no more operations are gone through in those of all cells.
-fn rounds_of(graph: &Graph, count: u32) -> u32 {
-    let cases = (count as u64).saturating_mul(2).saturating_add(1);
-    let round = (graph.len() as u64)
-        .saturating_mul(count as u64)
-        .saturating_mul(cases);
-    let all = round.saturating_mul(graph.cells() as u64);
-    if all == 0 {
-        return 0;
-    }
-    let rounds = STEPS / all;
-    if rounds < FEWEST {
-        return 0;
-    }
-    if rounds < ROUNDS as u64 {
-        rounds as u32
-    } else {
-        ROUNDS
-    }
+/// Whether the cell at `place` is a BOOL, or is none, as is asked for.
+fn is_wanted(graph: &Graph, place: usize, bools: bool) -> bool {
+    matches!(cell_type(graph, place), Ty::Bool) == bools
 }
 
-/// What is told of the operations of a graph, and what is told by the values of the cell at `place`.
+/// What is told of the operations of a graph, and what is told by the values of the cell at `place`, if it is of those that are asked for.
 fn closer_by(
     alloc: Global,
     graph: &Graph,
     ranges: Ranges,
     place: usize,
+    bools: bool,
+    left: &mut u64,
     numbers: &[i64],
 ) -> Result<Ranges, Memory>
     requires graph { IsGraph graph.now }
@@ -351,35 +335,60 @@ fn closer_by(
     requires audit { IsAudit graph.now ranges }
     ensures { IfOk result (λ a. IsAudit graph.now a) }
 {
-    let range = cell_range(graph, ranges.known(), place);
-    let count = values_of(range);
-    let rounds = rounds_of(graph, count);
-    if rounds == 0 {
+    let wanted = is_wanted(graph, place, bools);
+    if !wanted {
         return Ok(ranges);
     }
     let any = names_any(ranges.stops());
     if !any {
         return Ok(ranges);
     }
-    let found = family(alloc, graph, place, range.low, count, rounds, numbers)?;
+    let range = cell_range(graph, ranges.known(), place);
+    let count = values_of(range);
+    if count < 2 {
+        return Ok(ranges);
+    }
+    let found = family(alloc, graph, place, range.low, count, left, numbers)?;
     match found {
         Some(boxes) => with_family(alloc, graph, &ranges, &boxes, count),
         None => Ok(ranges),
     }
 }
 
-/// What is told of the operations of a graph, and what is told by the values of each of its cells.
+/// What is told of the operations of a graph, and what is told by the values of each cell that is a BOOL, or of each other one.
+fn closer_by_each(
+    alloc: Global,
+    graph: &Graph,
+    ranges: Ranges,
+    bools: bool,
+    left: &mut u64,
+    numbers: &[i64],
+) -> Result<Ranges, Memory>
+    requires graph { IsGraph graph.now }
+    requires audit { IsAudit graph.now ranges }
+    ensures { IfOk result (λ a. IsAudit graph.now a) }
+{
+    let count = cell_count(graph);
+    let mut told = ranges;
+    'cells: for place in 0..count {
+        let next = closer_by(alloc, graph, told, place, bools, left, numbers)?;
+        told = next;
+    }
+    Ok(told)
+}
+
+/// What is told of the operations of a graph, and what is told by the values of each of its cells: first of numbers, as a state is one.
 pub(crate) fn closer(alloc: Global, graph: &Graph, ranges: Ranges) -> Result<Ranges, Memory>
     requires graph { IsGraph graph.now }
     requires audit { IsAudit graph.now ranges }
     ensures { IfOk result (λ a. IsAudit graph.now a) }
 {
-    let numbers = thresholds(alloc, graph)?;
-    let count = cell_count(graph);
-    let mut told = ranges;
-    'cells: for place in 0..count {
-        let next = closer_by(alloc, graph, told, place, &numbers)?;
-        told = next;
+    if graph.len() > LARGEST {
+        return Ok(ranges);
     }
-    Ok(told)
+    let numbers = thresholds(alloc, graph)?;
+    let mut left = STEPS;
+    let first = closer_by_each(alloc, graph, ranges, false, &mut left, &numbers)?;
+    let second = closer_by_each(alloc, graph, first, true, &mut left, &numbers)?;
+    Ok(second)
 }

@@ -1,7 +1,8 @@
 //! Which operations of a graph can stop, and between which bounds their values lie, whatever the rows.
 //!
 //! A walk over the operations of one cycle tells the range of each from those of its operands, where each cell is in a range. Rounds of
-//! walks widen the ranges of the cells, until a cycle that begins in them ends in them.
+//! walks widen the ranges of the cells, until a cycle that begins in them ends in them. Where an operation is named, the values of one cell
+//! are told apart, with ranges of all cells for each of them, and whole cycles are gone through by cases.
 #![tactic(auto)]
 
 mod audit;
@@ -14,6 +15,7 @@ mod laws;
 mod naming;
 mod narrowing;
 mod operand_ranges;
+mod questions;
 mod range;
 mod thresholds;
 mod told;

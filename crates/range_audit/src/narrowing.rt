@@ -1,21 +1,25 @@
 //! Ranges of the operations of one whole cycle, made narrower by what each operation gives and reads.
 
-ghost use Rattle.std.specs.Prelude.{◌≡◌, ◌<◌, ◌≤◌, ℕ, ℤ, true, false, List, length, take, nat_lt};
-ghost use Rattle.vcp_base.specs.Kinds.{operands as operands_of};
+ghost use Rattle.std.specs.Prelude.{◌≡◌, ◌≢◌, ◌<◌, ◌≤◌, ℕ, ℤ, true, false, List, length, take, nat_lt};
+ghost use Rattle.vcp_base.specs.Kinds.{operands as operands_of, same, truth as truth_of};
 ghost use Rattle.vcp_base.specs.Values.{at};
 ghost use Rattle.op_graph.specs.GraphRun.{operand};
 ghost use Rattle.op_graph.specs.Rules.{IsGraph};
 ghost use Rattle.range_audit.specs.Intervals.{IsIn, Fit, Hold};
 ghost use Rattle.range_audit.specs.Walking.{Given, OperandIs, Narrows, ReadsCell};
 
-use crate::operand_ranges::{first_operand, second_operand, third_operand};
+use crate::operand_ranges::{condition_where, first_operand, second_operand, third_operand};
 use crate::range::{Range, earlier_range};
 use crate::told::{has_operand, operand_range, tell};
+use crate::values::are_apart;
 use op_graph::{Graph, Op, entries_keep_their_rules, operands_are_there};
 use vcp_base::Kind;
 
-/// How often the operations are gone through, each time from the last to the first and back.
+/// How often the operations are gone through at most, each time from the last to the first and back.
 const PASSES: u32 = 3;
+
+/// Through how many SELs is looked for what a value may be.
+const CHOICES: u32 = 4;
 
 /// Makes the range of operation `n`, whose value is in `r`, narrower.
 pub(crate) fn put(ranges: &mut [Range], n: u32, r: Range)
@@ -111,6 +115,99 @@ fn settle_operands(graph: &Graph, cells: &[Range], ranges: &mut [Range], i: u32)
     put_operand(cells, ranges, &op, 2, op.c, third);
 }
 
+/// Whether operation `m` never has a value in `r`, by the values of which it takes one, so many deep.
+fn is_never_in(graph: &Graph, ranges: &[Range], m: u32, r: Range, depth: u32) -> bool
+    requires graph { IsGraph graph.now }
+    requires made { m < length ranges.now }
+    requires many { length ranges.now ≤ length graph.now.operations }
+    ensures { result ≡ true → (held row vs : List ℤ) → Given graph.now.operations held row vs → Fit ranges.now vs → length ranges.now ≤ length vs
+        → IsIn r (at vs m) → ⊥ }
+{
+    let value = earlier_range(ranges, m);
+    let apart = are_apart(value, r);
+    if apart {
+        return true;
+    }
+    if depth == 0 {
+        return false;
+    }
+    // What an operation reads are earlier ones.
+    operands_are_there();
+    entries_keep_their_rules();
+    let op = graph.operation(m);
+    let less = depth - 1;
+    match op.kind {
+        Kind::Sel => {
+            let first = is_never_in(graph, ranges, op.b, r, less);
+            if !first {
+                return false;
+            }
+            let second = is_never_in(graph, ranges, op.c, r, less);
+            second
+        }
+        _ => false,
+    }
+}
+
+/// Makes the range of the condition by which operation `i`, a SEL, takes a value narrower, where one of the two can't be what it takes.
+fn settle_choice(graph: &Graph, ranges: &mut [Range], i: u32)
+    requires graph { IsGraph graph.now }
+    requires there { i < length graph.now.operations }
+    requires many { length ranges.old ≡ length graph.now.operations }
+    ensures many { length ranges.new ≡ length ranges.old }
+    ensures fits { (held row vs : List ℤ) → Given graph.now.operations held row vs → length vs ≡ length graph.now.operations → Fit ranges.old vs → Fit ranges.new vs }
+{
+    // What an operation reads are earlier ones.
+    operands_are_there();
+    entries_keep_their_rules();
+    let op = graph.operation(i);
+    match op.kind {
+        Kind::Sel => {
+            let r = earlier_range(ranges, i);
+            let a = earlier_range(ranges, op.a);
+            let not_first = is_never_in(graph, ranges, op.b, r, CHOICES);
+            let not_second = is_never_in(graph, ranges, op.c, r, CHOICES);
+            let condition = condition_where(a, not_first, not_second);
+            put(ranges, op.a, condition);
+        }
+        _ => (),
+    }
+}
+
+/// The range of what says whether two values are equal, where they can't be.
+fn equality_where(apart: bool, r: Range) -> Range
+    ensures { (x y : ℤ) → (apart ≡ true → x ≢ y) → IsIn r (truth_of (same x y)) → IsIn result (truth_of (same x y)) }
+{
+    if apart {
+        return Range::only(0);
+    }
+    r
+}
+
+/// Makes the range of operation `i`, an EQ, narrower, where its first operand can't have a value of its second.
+fn settle_equality(graph: &Graph, ranges: &mut [Range], i: u32)
+    requires graph { IsGraph graph.now }
+    requires there { i < length graph.now.operations }
+    requires many { length ranges.old ≡ length graph.now.operations }
+    ensures many { length ranges.new ≡ length ranges.old }
+    ensures fits { (held row vs : List ℤ) → Given graph.now.operations held row vs → length vs ≡ length graph.now.operations → Fit ranges.old vs → Fit ranges.new vs }
+{
+    // What an operation reads are earlier ones.
+    operands_are_there();
+    entries_keep_their_rules();
+    let op = graph.operation(i);
+    match op.kind {
+        Kind::Eq => {
+            let r = earlier_range(ranges, i);
+            let b = earlier_range(ranges, op.b);
+            let apart = is_never_in(graph, ranges, op.a, b, CHOICES);
+            let value = equality_where(apart, r);
+            put(ranges, i, value);
+        }
+        _ => (),
+    }
+}
+
 /// Makes the range of operation `i` narrower by what it reads, and then what it reads by its own.
 fn settle(graph: &Graph, cells: &[Range], ranges: &mut [Range], i: u32)
     requires graph { IsGraph graph.now }
@@ -121,6 +218,8 @@ fn settle(graph: &Graph, cells: &[Range], ranges: &mut [Range], i: u32)
     ensures fits { Narrows graph.now.operations cells.now ranges.old ranges.new }
 {
     settle_value(graph, cells, ranges, i);
+    settle_equality(graph, ranges, i);
+    settle_choice(graph, ranges, i);
     settle_operands(graph, cells, ranges, i);
 }
 
@@ -151,6 +250,24 @@ fn go_forth(graph: &Graph, cells: &[Range], ranges: &mut [Range])
     }
 }
 
+/// The difference of the ends, and one more where 0 isn't left out.
+fn size(r: Range) -> i128 {
+    let wide = r.high as i128 - r.low as i128;
+    if r.nonzero {
+        return wide;
+    }
+    wide + 1
+}
+
+/// The sum of the sizes of the ranges, which is less where one is made narrower.
+fn sizes(ranges: &[Range]) -> i128 {
+    let mut sum: i128 = 0;
+    'ranges: for i in 0..ranges.len() {
+        sum = sum.saturating_add(size(ranges[i]));
+    }
+    sum
+}
+
 /// Makes the ranges of the operations of a whole cycle, at whose beginning the cells are in these ranges, narrower by one another.
 pub(crate) fn narrow(graph: &Graph, cells: &[Range], ranges: &mut [Range])
     requires graph { IsGraph graph.now }
@@ -160,7 +277,13 @@ pub(crate) fn narrow(graph: &Graph, cells: &[Range], ranges: &mut [Range])
     ensures fits { Narrows graph.now.operations cells.now ranges.old ranges.new }
 {
     'passes: for _ in 0..PASSES {
+        let before = sizes(ranges);
         go_back(graph, cells, ranges);
         go_forth(graph, cells, ranges);
+        let after = sizes(ranges);
+        let same = after == before;
+        if same {
+            return;
+        }
     }
 }

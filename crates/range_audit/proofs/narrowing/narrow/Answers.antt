@@ -14,6 +14,14 @@ passes-preserved c =
           (c.go_back.ensures.fits held row vs hold given whole (i.fits held row vs hold given whole fit));
     }
 
+pub returns-then-same-clause-many : goal.returns-then-same-clause-many
+returns-then-same-clause-many c = c.go_forth.ensures.many ∙ c.go_back.ensures.many ∙ c.passes.invariant.many ∙ sym c.requires.many
+
+pub returns-then-same-clause-fits : goal.returns-then-same-clause-fits
+returns-then-same-clause-fits c = λ held row vs hold given whole fit.
+    c.go_forth.ensures.fits held row vs hold given whole
+    (c.go_back.ensures.fits held row vs hold given whole (c.passes.invariant.fits held row vs hold given whole fit))
+
 pub returns-clause-many : goal.returns-clause-many
 returns-clause-many c = c.passes.invariant.many ∙ sym c.requires.many
 

@@ -1,4 +1,4 @@
-use Rattle.range_audit.proofs.families.store_at.Goals as goal
+use Rattle.range_audit.proofs.cells.store_at.Goals as goal
 
 pub returns : goal.returns
 returns c =

@@ -1,0 +1,52 @@
+use Rattle.std.proofs.Common.{◌<◌, ◌≤◌, length, refl, arith}
+use Rattle.vcp_base.specs.declared.kind.Kind.TheVariants as kind
+use Rattle.vcp_base.specs.Values.{at}
+use Rattle.range_audit.proofs.Backward.{not_taken_first, not_taken_second}
+use Rattle.range_audit.proofs.Conditions.{there, selection}
+use Rattle.range_audit.proofs.Steps.{operands_are}
+use Rattle.range_audit.proofs.narrowing.settle_choice.Goals as goal
+
+pub earlier_range-a-requires : goal.earlier_range-a-requires
+earlier_range-a-requires c =
+    let op = c.operation-op.result in
+    let are = operands_are c.args.graph.now c.args.i op _ c.entries_keep_their_rules.ensures c.operands_are_there.ensures c.requires.graph c.operation-op.ensures refl in
+    let first : op.a < c.args.i = there _ c.args.i op.kind op.imm op.a 0 kind.Sel c.in-Sel.is refl are.first in
+    omega (arith, first, c.requires.there, c.requires.many)
+
+pub is_never_in-not_first-requires : goal.is_never_in-not_first-requires
+is_never_in-not_first-requires c =
+    let op = c.operation-op.result in
+    let are = operands_are c.args.graph.now c.args.i op _ c.entries_keep_their_rules.ensures c.operands_are_there.ensures c.requires.graph c.operation-op.ensures refl in
+    let second : op.b < c.args.i = there _ c.args.i op.kind op.imm op.b 1 kind.Sel c.in-Sel.is refl are.second in
+    record { graph = c.requires.graph; made = omega (arith, second, c.requires.there, c.requires.many); many = omega (arith, c.requires.many) }
+
+pub is_never_in-not_second-requires : goal.is_never_in-not_second-requires
+is_never_in-not_second-requires c =
+    let op = c.operation-op.result in
+    let are = operands_are c.args.graph.now c.args.i op _ c.entries_keep_their_rules.ensures c.operands_are_there.ensures c.requires.graph c.operation-op.ensures refl in
+    let third : op.c < c.args.i = there _ c.args.i op.kind op.imm op.c 2 kind.Sel c.in-Sel.is refl are.third in
+    record { graph = c.requires.graph; made = omega (arith, third, c.requires.there, c.requires.many); many = omega (arith, c.requires.many) }
+
+pub put-requires : goal.put-requires
+put-requires c =
+    let op = c.operation-op.result in
+    let are = operands_are c.args.graph.now c.args.i op _ c.entries_keep_their_rules.ensures c.operands_are_there.ensures c.requires.graph c.operation-op.ensures refl in
+    let first : op.a < c.args.i = there _ c.args.i op.kind op.imm op.a 0 kind.Sel c.in-Sel.is refl are.first in
+    omega (arith, first, c.requires.there, c.requires.many)
+
+pub returns-in-Sel-clause-fits : goal.returns-in-Sel-clause-fits
+returns-in-Sel-clause-fits c = λ held row vs given whole fit.
+    let op = c.operation-op.result in
+    let are = operands_are c.args.graph.now c.args.i op _ c.entries_keep_their_rules.ensures c.operands_are_there.ensures c.requires.graph c.operation-op.ensures refl in
+    let first : op.a < c.args.i = there _ c.args.i op.kind op.imm op.a 0 kind.Sel c.in-Sel.is refl are.first in
+    let second : op.b < c.args.i = there _ c.args.i op.kind op.imm op.b 1 kind.Sel c.in-Sel.is refl are.second in
+    let third : op.c < c.args.i = there _ c.args.i op.kind op.imm op.c 2 kind.Sel c.in-Sel.is refl are.third in
+    let le : length c.args.ranges.now ≤ length vs = omega (arith, whole, c.requires.many) in
+    let lt : c.args.i < length vs = omega (arith, whole, c.requires.there) in
+    let is = selection held row vs op c.args.i (given.each c.args.i op lt c.operation-op.ensures) c.in-Sel.is first second third in
+    let r = c.earlier_range-r.result in
+    let i = fit c.args.i r lt c.earlier_range-r.ensures in
+    c.put.ensures.fits vs (omega (arith, first, lt)) fit
+    (c.condition_where-condition.ensures (at vs op.a) (fit op.a c.earlier_range-a.result (omega (arith, first, lt)) c.earlier_range-a.ensures)
+    (λ e. not_taken_first r (at vs op.a) (at vs op.b) (at vs op.c) (at vs c.args.i) is i (c.is_never_in-not_first.ensures e held row vs given fit le))
+    (λ e. not_taken_second r (at vs op.a) (at vs op.b) (at vs op.c) (at vs c.args.i) is i (c.is_never_in-not_second.ensures e held row vs given fit le)))

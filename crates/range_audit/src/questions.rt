@@ -1,0 +1,117 @@
+//! Which condition is taken apart, where a number that is stored leaves its range.
+
+ghost use Rattle.std.specs.Prelude.{◌<◌, length};
+
+use crate::range::Range;
+use op_graph::Graph;
+use vcp_base::{Kind, Ty};
+
+/// How many operations are gone through from one that is stored to a condition.
+const STEPS: u32 = 64;
+
+/// No operation.
+const NONE: u32 = u32::MAX;
+
+/// The range at a place; all values where there is none.
+fn range_or(ranges: &[Range], i: usize) -> Range {
+    match ranges.get(i) {
+        Some(range) => *range,
+        None => Range::of_type(Ty::Lint),
+    }
+}
+
+/// Whether a range has more than one value.
+fn is_open(range: Range) -> bool {
+    range.low < range.high
+}
+
+/// What operation `i` depends on next: of a SEL the condition where that is open, else what is taken; of another operation the first operand
+/// that is open, else the second.
+fn depends_on(graph: &Graph, ranges: &[Range], i: u32) -> u32
+    requires { i < length graph.now.operations }
+{
+    let op = graph.operation(i);
+    let first = range_or(ranges, op.a as usize);
+    let open = is_open(first);
+    match op.kind {
+        Kind::Input | Kind::Const | Kind::Load => NONE,
+        Kind::Sel => {
+            if open {
+                op.a
+            } else if first.low == 0 {
+                op.b
+            } else {
+                op.c
+            }
+        }
+        _ => { if open { op.a } else { op.b } }
+    }
+}
+
+/// Whether operation `i` is a SEL, and takes by `condition`.
+fn takes_by(graph: &Graph, i: u32, condition: u32) -> bool
+    requires { i < length graph.now.operations }
+{
+    let op = graph.operation(i);
+    match op.kind {
+        Kind::Sel => op.a == condition,
+        _ => false,
+    }
+}
+
+/// An open condition on which the value of operation `i` depends; no operation where none is found.
+pub(crate) fn open_condition(graph: &Graph, ranges: &[Range], i: u32) -> u32 {
+    let mut at = i;
+    'steps: for _ in 0..STEPS {
+        if at >= graph.len() {
+            return NONE;
+        }
+        let next = depends_on(graph, ranges, at);
+        if takes_by(graph, at, next) {
+            return next;
+        }
+        at = next;
+    }
+    NONE
+}
+
+/// The number of the cell of which operation `n` is the STORE.
+fn cell_of(graph: &Graph, n: u32) -> usize {
+    if n >= graph.len() {
+        return 0;
+    }
+    let op = graph.operation(n);
+    op.imm.unsigned_abs() as usize
+}
+
+/// Where the box begins in which the cell that operation `n` stores has its value; the end of the boxes where there is none.
+pub(crate) fn box_of(
+    graph: &Graph,
+    ranges: &[Range],
+    boxes: &[Range],
+    count: u32,
+    n: u32,
+) -> usize {
+    let many = graph.cells() as usize;
+    let value = range_or(ranges, n as usize);
+    let place = cell_of(graph, n);
+    'boxes: for k in 0..count {
+        let start = (k as usize).saturating_mul(many);
+        let range = range_or(boxes, start.saturating_add(place));
+        if value.is_inside(range) {
+            return start;
+        }
+    }
+    boxes.len()
+}
+
+/// The range of cell `k` in the box that begins there, where the cell is a number; else all values.
+pub(crate) fn wanted_at(graph: &Graph, boxes: &[Range], start: usize, k: usize) -> Range {
+    match graph.loads().get(k) {
+        Some(load) => match load.ty {
+            Ty::Bool => Range::of_type(Ty::Lint),
+            _ => range_or(boxes, start.saturating_add(k)),
+        },
+        None => Range::of_type(Ty::Lint),
+    }
+}
