@@ -6,11 +6,12 @@
 # (--sshloginfile); without it they run one by one. What stands of a campaign is kept in a folder, so that one that was broken off goes on.
 #
 # CLASS is a word of `vcp_study sites`: bits, stale, skip, from, operator or all. The folder, campaign.DIGEST, is named by what M, ROWS and the
-# script hold. Behind the last part it has `faults`, the whole script, and `verdicts`, the lines of `vcp inject` with the lines of that script.
-# The status is 0 where all parts were judged, and 1 else.
+# script hold. Behind the last part it has `faults`, the whole script, `verdicts`, the lines of `vcp inject` with the lines of that script, and
+# `tables`, the sum of the parts' tables (`vcp_study sum`), which are printed. The status is 0 where all parts were judged, and 1 else.
 top=$(CDPATH='' cd -- "$(dirname -- "$0")" && pwd) || exit 1
 vcp=${VCP:-$top/crates/vcp/out/vcp}
 study=${VCP_STUDY:-$top/crates/vcp_study/out/vcp_study}
+case $study in /*) ;; *) study=$PWD/$study ;; esac
 most=10000
 tries=3
 
@@ -174,4 +175,42 @@ awk '
     { print }
     END { printf "faults %d same %d wrong %d ran-on %d refused %d stopped %d\n", sum[2], sum[4], sum[6], sum[8], sum[10], sum[12] }
 ' moved.now >verdicts && rm moved.now || exit 1
-tail -n 1 verdicts
+
+# The tables of each part, behind a line with how many lines of the whole script stand before its second line.
+for part in parts/*.verdicts; do
+    [ -e "$part" ] || continue
+    echo part "$(cat "${part%.verdicts}.first")"
+    "$study" sum image "${part%.verdicts}.faults" "$part" >sum.now
+    [ -s sum.now ] || refuse "$work/$part has no sum"
+    cat sum.now
+done >sums.now
+
+# Their sum: the rows of the same name are added up, in their order; behind them the faults that aren't seen, with the lines of the whole script.
+: >unseen.now
+./vcp exec image rows | awk '
+    BEGIN { split("operand add,operand from,operand stale,result add,operator,skip", acts, ","); for (i in acts) place[acts[i]] = i }
+    NR == FNR { if (FNR == 1) { sub(/\r$/, ""); n = split($0, names, ","); for (i = 2; i <= n; i++) place["output " names[i]] = i } next }
+    $1 == "part" { first = $2; table = 0; next }
+    /^  faults / { heading[++table] = $0; next }
+    /^ *[0-9]+ +[0-9]+ +[0-9]+ +[0-9]+ +[0-9]+ +[0-9]+  / {
+        name = substr($0, 51)
+        row = name in place ? place[name] : $8
+        names_of[table, row] = name
+        if (row + 0 > last[table] + 0) last[table] = row + 0
+        for (i = 1; i <= 6; i++) sum[table, row, i] += $i
+        next
+    }
+    $1 == "faults" { next }
+    /^[0-9]/ { sub(/^[0-9]+/, $1 + first) }
+    { print >"unseen.now" }
+    END {
+        for (t = 1; t in heading; t++) {
+            print heading[t]
+            for (row = 0; row <= last[t]; row++) if ((t, row) in names_of) {
+                for (i = 1; i <= 6; i++) printf "%8d", sum[t, row, i]
+                print "  " names_of[t, row]
+            }
+        }
+    }
+' - sums.now >tables.now && { cat tables.now unseen.now; tail -n 1 verdicts; } >tables && rm sum.now sums.now tables.now unseen.now || exit 1
+cat tables

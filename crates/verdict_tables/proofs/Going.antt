@@ -1,5 +1,5 @@
 -- Going: one piece of a text behind another.
-use Rattle.std.proofs.Common.{◌≡◌, ◌≢◌, ℕ, ◌==◌, Bool, true, false, cond, List, [], ◌++◌, Option, refl, ap, append_assoc}
+use Rattle.std.proofs.Common.{◌≡◌, ◌≢◌, ℕ, ◌==◌, Bool, true, false, cond, List, [], ◌++◌, Option, refl, sym, ap, append_assoc}
 use Rattle.std.proofs.lemmas.Bool.{eqb-true}
 use Rattle.std.proofs.lemmas.List.{append-nil}
 use Rattle.gathered_line.specs.Gathering.{Gathered, Gathers}
@@ -16,6 +16,13 @@ and_then {s = s} {t = t} first second start before text is = rw (← (append_ass
 -- the same piece, written otherwise
 pub same : {a b : Option (List ℕ)} {f g : ℕ} {l m : Gathered} {s t : List ℕ} → Gathers a b f g l m s → t ≡ s → Gathers a b f g l m t
 same gathers e start before text is = rw e (gathers start before text is)
+
+-- two pieces and a third
+pub followed : {a b c : Option (List ℕ)} {f g h : ℕ} {l m n : Gathered} {t : List ℕ} (r s : List ℕ) → Gathers a b f g l m (r ++ s)
+    → Gathers b c g h m n t → Gathers a c f h l n (r ++ (s ++ t))
+followed {a = a} {c = c} {f = f} {h = h} {l = l} {n = n} {t = t} r s first second =
+    let both : Gathers a c f h l n (r ++ s ++ t) = and_then first second in
+    same both (sym (append_assoc r s t))
 
 -- a piece that is written where a test holds
 pub chosen : {a b : Option (List ℕ)} {f g : ℕ} {l m : Gathered} (is : Bool) (s t : List ℕ) → is ≡ true

@@ -13,9 +13,10 @@ use Rattle.fault_injector.specs.declared.verdict.Verdict.{Verdict}
 use Rattle.fault_injector.specs.declared.verdict.Verdict.TheVariants as verdict
 use Rattle.verdict_tables.specs.declared.fault.VerdictsFault.{VerdictsFault}
 use Rattle.verdict_tables.specs.declared.fault.VerdictsFault.TheVariants as fault
+use Rattle.verdict_tables.specs.declared.tables.Table.TheVariants as table
 use Rattle.verdict_tables.specs.Reading.{verdicts_in}
 use Rattle.verdict_tables.specs.Remark.{is_for}
-use Rattle.verdict_tables.specs.SumText.{sum_text}
+use Rattle.verdict_tables.specs.SumText.{column_text, heading_text, sum_text}
 
 sum : Lists
 sum = adding profile.Narrow ty.Dint
@@ -80,15 +81,25 @@ more = refl
 
 -- ---- tables
 
+-- numbers of one to five digits end alike
+columns : column_text 0 ++ (column_text 10 ++ (column_text 999 ++ (column_text 1000 ++ column_text 10000)))
+    ≡ codes "       0      10     999    1000   10000"
+unfolding digits
+columns = refl
+
 tables : sum_text sum three (verdict.Wrong 0 0 (pos 7) (pos 6) ∷ verdict.Refused 0 0 429496731 644245096 ∷ verdict.Refused 0 0 214748366 644245096 ∷ [])
-    ≡ codes "operand add faults 1 same 0 wrong 1 ran-on 0 refused 0 stopped 0\n"
-    ++ (codes "operand from faults 1 same 0 wrong 0 ran-on 0 refused 1 stopped 0\n"
-    ++ (codes "operator faults 1 same 0 wrong 0 ran-on 0 refused 1 stopped 0\n"
-    ++ (codes "operation 2 ADD at 4:8 faults 3 same 0 wrong 1 ran-on 0 refused 2 stopped 0\n"
-    ++ (codes "output y faults 3 same 0 wrong 1 ran-on 0 refused 2 stopped 0\n"
-    ++ (codes "after 0 faults 3 same 0 wrong 1 ran-on 0 refused 2 stopped 0\n"
-    ++ (codes "1 wrong 0 y got 7 want 6\n  operand add in cycle 0 at operation 2 ADD at 4:8\n"
-    ++ codes "faults 3 same 0 wrong 1 ran-on 0 refused 2 stopped 0\n"))))))
+    ≡ heading_text table.Acts
+    ++ (codes "       1       0       1       0       0       0  operand add\n"
+    ++ (codes "       1       0       0       0       1       0  operand from\n"
+    ++ (codes "       1       0       0       0       1       0  operator\n"
+    ++ (codes "  faults    same   wrong  ran-on refused stopped  by where it stands\n"
+    ++ (codes "       3       0       1       0       2       0  operation 2 ADD at 4:8\n"
+    ++ (heading_text table.Outputs
+    ++ (codes "       3       0       1       0       2       0  output y\n"
+    ++ (heading_text table.Delays
+    ++ (codes "       3       0       1       0       2       0  after 0\n"
+    ++ (codes "1 wrong 0 y got 7 want 6\n  operand 0 2 0 add 2147483647: operation 2 ADD at 4:8\n"
+    ++ codes "faults 3 same 0 wrong 1 ran-on 0 refused 2 stopped 0\n"))))))))))
 unfolding digits sum three alone
 tables = refl
 

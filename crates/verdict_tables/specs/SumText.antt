@@ -5,6 +5,8 @@ use Rattle.op_graph.specs.Lists.{Lists}
 use Rattle.run_report.specs.OutputNames.{output_name}
 use Rattle.fault_script.specs.declared.act.Fault.{Fault}
 use Rattle.fault_script.specs.Groups.{line_of}
+use Rattle.fault_sites.specs.Sites.{site}
+use Rattle.fault_sites.specs.SiteText.{site_line}
 use Rattle.fault_injector.specs.declared.verdict.Verdict.{Verdict}
 use Rattle.fault_injector.specs.declared.verdict.Verdict.TheVariants as verdict
 use Rattle.verdict_lines.specs.declared.lines.Totals.{Totals}
@@ -12,7 +14,7 @@ use Rattle.verdict_lines.specs.FaultLines.{faults as faults_in, verdict_text, to
 use Rattle.verdict_tables.specs.declared.tables.Table.{Table}
 use Rattle.verdict_tables.specs.declared.tables.Table.TheVariants as table
 use Rattle.verdict_tables.specs.Places.{operation_text}
-use Rattle.verdict_tables.specs.Tables.{act_number, own_delays, rows, totals_in}
+use Rattle.verdict_tables.specs.Tables.{own_delays, rows, totals_in}
 
 -- ---- the tables
 
@@ -41,17 +43,45 @@ row_name g table.Operations n = operation_text g n (slice_get g.operations n)
 row_name g table.Outputs n = codes "output " ++ output_name g n
 row_name g table.Delays n = delay_text n
 
+-- a number at the right end of a column of eight; there are at most 10,000 groups
+abbrev pub blanks_before : ℕ → List ℕ
+blanks_before n =
+    cond (nat_lt n 10) (codes "       ")
+    (cond (nat_lt n 100) (codes "      ")
+    (cond (nat_lt n 1000) (codes "     ")
+    (cond (nat_lt n 10000) (codes "    ")
+    (codes "   "))))
+
+abbrev pub column_text : ℕ → List ℕ
+column_text n = blanks_before n ++ decimal n
+
+-- how many groups there are, and how many of them have which verdict
+abbrev pub columns_text : Totals → List ℕ
+columns_text t =
+    column_text (faults_in t) ++ (column_text t.same ++ (column_text t.wrong ++ (column_text t.ran_on ++ (column_text t.refused ++ column_text t.stopped))))
+
 -- a row with these totals; none where nothing is counted
 abbrev pub row_text : List ℕ → Totals → List ℕ
-row_text name t = cond (faults_in t == 0) [] (name ++ (codes " " ++ totals_text t))
+row_text name t = cond (faults_in t == 0) [] (columns_text t ++ (codes "  " ++ (name ++ codes "\n")))
 
 -- the rows of a table below row n
 abbrev pub rows_below : Lists → Table → List (List Fault) → List Verdict → ℕ → List ℕ
 rows_below g t groups vs zero = []
 rows_below g t groups vs (suc n) = rows_below g t groups vs n ++ row_text (row_name g t n) (totals_in t n groups vs)
 
+-- what the rows of a table are about
+abbrev pub title : Table → List ℕ
+title table.Acts = codes "by what the fault does"
+title table.Operations = codes "by where it stands"
+title table.Outputs = codes "by where it shows"
+title table.Delays = codes "by how many cycles later it shows"
+
+-- the names of the columns
+abbrev pub heading_text : Table → List ℕ
+heading_text t = codes "  faults    same   wrong  ran-on refused stopped  " ++ (title t ++ codes "\n")
+
 abbrev pub table_text : Lists → Table → List (List Fault) → List Verdict → List ℕ
-table_text g t groups vs = rows_below g t groups vs (rows g t)
+table_text g t groups vs = heading_text t ++ rows_below g t groups vs (rows g t)
 
 -- ---- the faults that are not seen
 
@@ -63,11 +93,10 @@ is_unseen (verdict.RanOn cycle) = true
 is_unseen (verdict.Refused cycle output found wanted) = false
 is_unseen (verdict.Stopped cycle op kind) = false
 
--- a fault of a group: what it does, in which cycle, and at which operation
+-- a fault of a group: as it stands in a script, and its operation
 abbrev pub fault_text : Lists → Fault → List ℕ
 fault_text g f =
-    codes "  " ++ (act_name (act_number f.act) ++ (codes " in cycle " ++ (decimal f.cycle ++ (codes " at "
-    ++ (operation_text g f.op (slice_get g.operations f.op) ++ codes "\n")))))
+    codes "  " ++ (site_line (site f.cycle f.op f.act) ++ (codes ": " ++ (operation_text g f.op (slice_get g.operations f.op) ++ codes "\n")))
 
 -- the verdict of a group and its faults, where it isn't seen
 abbrev pub unseen_text : Lists → Option (List Fault) → Option Verdict → List ℕ

@@ -5,6 +5,7 @@ ghost use Rattle.gathered_line.specs.Gathering.{GathersTo};
 ghost use Rattle.fault_script.specs.ScriptOf.{most_faults};
 ghost use Rattle.verdict_tables.specs.Tables.{rows as rows_of};
 ghost use Rattle.verdict_tables.specs.SumText.{act_name as act_name_of, more_text, delay_text, row_name, row_text, table_text};
+ghost use Rattle.verdict_tables.specs.SumText.{blanks_before as blanks_before_of, column_text, columns_text, title as title_of, heading_text};
 ghost use Rattle.verdict_tables.specs.declared.tables.Table.TheVariants as table;
 
 use crate::counts::totals_in;
@@ -15,10 +16,10 @@ use fault_script::Script;
 use gathered_line::Line;
 use op_graph::Graph;
 use vcp_outside::Sink;
-use verdict_lines::{Totals, then_totals};
+use verdict_lines::Totals;
 
 /// The act of row `n`.
-pub(crate) fn act_name(n: u32) -> &'static [u8]
+fn act_name(n: u32) -> &'static [u8]
     ensures { result.now ≡ act_name_of n }
 {
     if n == 0 {
@@ -76,6 +77,45 @@ fn then_row_name<O: Sink>(line: &mut Line, out: &mut O, graph: &Graph, table: Ta
     }
 }
 
+/// What stands before a number of at most five digits at the right end of a column of eight.
+fn blanks_before(n: u64) -> &'static [u8]
+    ensures { result.now ≡ blanks_before_of n }
+{
+    if n < 10 {
+        return b"       ";
+    }
+    if n < 100 {
+        return b"      ";
+    }
+    if n < 1000 {
+        return b"     ";
+    }
+    if n < 10000 {
+        return b"    ";
+    }
+    b"   "
+}
+
+/// Goes on with a number in its column.
+fn then_column<O: Sink>(line: &mut Line, out: &mut O, n: u64)
+    ensures { GathersTo (O.seen out.old) (O.seen out.new) line.old line.new (column_text n) }
+{
+    line.text(out, blanks_before(n));
+    line.count(out, n);
+}
+
+/// Goes on with the columns of totals.
+fn then_columns<O: Sink>(line: &mut Line, out: &mut O, totals: &Totals)
+    ensures { GathersTo (O.seen out.old) (O.seen out.new) line.old line.new (columns_text totals.now) }
+{
+    then_column(line, out, totals.faults());
+    then_column(line, out, totals.same as u64);
+    then_column(line, out, totals.wrong as u64);
+    then_column(line, out, totals.ran_on as u64);
+    then_column(line, out, totals.refused as u64);
+    then_column(line, out, totals.stopped as u64);
+}
+
 /// Goes on with row `n` of a table, where something is counted in it.
 fn then_row<O: Sink>(
     line: &mut Line,
@@ -91,9 +131,30 @@ fn then_row<O: Sink>(
     if totals.faults() == 0 {
         return;
     }
+    then_columns(line, out, totals);
+    line.text(out, b"  ");
     then_row_name(line, out, graph, table, n);
-    line.text(out, b" ");
-    then_totals(line, out, totals);
+    line.text(out, b"\n");
+}
+
+/// What the rows of a table are about.
+fn title(table: Table) -> &'static [u8]
+    ensures { result.now ≡ title_of table }
+{
+    match table {
+        Table::Acts => b"by what the fault does",
+        Table::Operations => b"by where it stands",
+        Table::Outputs => b"by where it shows",
+        Table::Delays => b"by how many cycles later it shows",
+    }
+}
+
+/// Goes on with the names of the columns.
+fn then_heading<O: Sink>(line: &mut Line, out: &mut O, table: Table)
+    ensures { GathersTo (O.seen out.old) (O.seen out.new) line.old line.new (heading_text table) }
+{
+    line.text(out, b"  faults    same   wrong  ran-on refused stopped  ");
+    line.text(out, title(table));
     line.text(out, b"\n");
 }
 
@@ -110,6 +171,7 @@ pub(crate) fn then_table<O: Sink>(
     requires few { length script.now ≤ most_faults }
     ensures { GathersTo (O.seen out.old) (O.seen out.new) line.old line.new (table_text graph.now table script.now verdicts.now) }
 {
+    then_heading(line, out, table);
     'rows: for n in 0..rows(graph, table) {
         let totals = totals_in(table, n, script, verdicts);
         then_row(line, out, graph, table, n, &totals);

@@ -28,7 +28,7 @@ pub enum Table {
 pub(crate) const OWN_DELAYS: u32 = 16;
 
 /// The number of an act's row.
-pub(crate) fn act_number(act: Act) -> u32
+fn act_number(act: Act) -> u32
     ensures { result ≡ act_number_of act }
 {
     match act {

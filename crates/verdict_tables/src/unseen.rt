@@ -1,6 +1,6 @@
 //! The faults that are not seen.
 
-ghost use Rattle.std.specs.Prelude.{◌≡◌, ◌<◌, ◌≤◌, ◌++◌, Some, codes, decimal, flat_map, length, slice_get, All};
+ghost use Rattle.std.specs.Prelude.{◌≡◌, ◌<◌, ◌≤◌, ◌++◌, Some, codes, flat_map, length, slice_get, All};
 ghost use Rattle.gathered_line.specs.Gathering.{GathersTo};
 ghost use Rattle.fault_script.specs.Groups.{GroupFits, line_of};
 ghost use Rattle.fault_injector.specs.Names.{Names};
@@ -8,11 +8,10 @@ ghost use Rattle.verdict_lines.specs.FaultLines.{verdict_text};
 ghost use Rattle.verdict_tables.specs.SumText.{fault_text, is_unseen as is_unseen_of, unseen_text, unseen_below};
 
 use crate::names::then_operation;
-use crate::rows::act_name;
-use crate::tables::act_number;
 use crate::verdicts::Verdicts;
 use fault_injector::Verdict;
 use fault_script::{Fault, Group, Script};
+use fault_sites::{Site, then_site};
 use gathered_line::Line;
 use op_graph::Graph;
 use vcp_outside::Sink;
@@ -23,10 +22,13 @@ fn then_fault<O: Sink>(line: &mut Line, out: &mut O, graph: &Graph, fault: Fault
     ensures { GathersTo (O.seen out.old) (O.seen out.new) line.old line.new (fault_text graph.now fault) }
 {
     line.text(out, b"  ");
-    line.text(out, act_name(act_number(fault.act)));
-    line.text(out, b" in cycle ");
-    line.count(out, fault.cycle as u64);
-    line.text(out, b" at ");
+    let site = Site {
+        cycle: fault.cycle,
+        op: fault.op,
+        act: fault.act,
+    };
+    then_site(line, out, &site);
+    line.text(out, b": ");
     then_operation(line, out, graph, fault.op);
     line.text(out, b"\n");
 }

@@ -7,5 +7,5 @@ returns-then-faults-eq0 g c = no_row (faults c.args.totals.now) _ (rw c.faults.e
 
 pub returns : goal.returns
 returns g c =
-    let row = and_then c.then_row_name.ensures (and_then c.text.ensures.gathers (and_then c.then_totals.ensures c.text-2.ensures.gathers)) in
+    let row = and_then c.then_columns.ensures (and_then c.text.ensures.gathers (and_then c.then_row_name.ensures c.text-2.ensures.gathers)) in
     a_row (faults c.args.totals.now) _ (rw c.faults.ensures at c.if-faults-eq0.false) row
