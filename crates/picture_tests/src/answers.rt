@@ -10,8 +10,8 @@ use worked_graphs::increment;
 use worked_programs::{cells, same, word_off, words_of};
 
 /// The usage line.
-const USAGE: &str =
-    "usage: vcp_study graph M HORIZON, waves FILE, ranges M, ranges M --all, sites M CYCLES CLASS, \
+const USAGE: &[u8] =
+    b"usage: vcp_study graph M HORIZON, waves FILE, ranges M, ranges M --all, sites M CYCLES CLASS, \
     sites M CYCLES CLASS FROM COUNT, sites M CYCLES CLASS --count or sum M SCRIPT VERDICTS";
 
 /// Words => the status, and the line of errors; `usage` is the usage line. An image stands under `m.img`, and a source under `p.st`.
@@ -61,14 +61,18 @@ pub fn is_answered(alloc: Global, files: &mut MemFiles, row: &str) -> Result<(),
     let (words, wanted) = cells(row);
     let (command, behind) = word_off(words);
     let (status, line) = word_off(wanted);
-    let line = if line == "usage" { USAGE } else { line };
+    let line = if line == "usage" {
+        USAGE
+    } else {
+        line.as_bytes()
+    };
     let words = words_of(alloc, command, behind)?;
     let mut out = MemSink::new(alloc, 6000)?;
     let mut err = MemSink::new(alloc, 200)?;
     let found = vcp_study(alloc, &words, files, &mut out, &mut err);
     same(&format!(in alloc; "{found}")?, status)?;
     let told = err.bytes().strip_suffix(b"\n").unwrap_or(b"");
-    if told == line.as_bytes() && out.bytes().starts_with(b"<svg ") == line.is_empty() {
+    if told == line && out.bytes().starts_with(b"<svg ") == line.is_empty() {
         Ok(())
     } else {
         Err(Fail::new(row))
