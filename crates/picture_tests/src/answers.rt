@@ -12,7 +12,7 @@ use worked_programs::{cells, same, word_off, words_of};
 /// The usage line.
 const USAGE: &[u8] =
     b"usage: vcp_study graph M HORIZON, waves FILE, ranges M, ranges M --all, sites M CYCLES CLASS, \
-    sites M CYCLES CLASS FROM COUNT, sites M CYCLES CLASS --count or sum M SCRIPT VERDICTS";
+    sites M CYCLES CLASS FROM COUNT, sites M CYCLES CLASS --count, sum M SCRIPT VERDICTS or script M NAMED";
 
 /// Words => the status, and the line of errors; `usage` is the usage line. An image stands under `m.img`, and a source under `p.st`.
 const ANSWERS: &str = "\
@@ -54,6 +54,13 @@ sum no.img p.st p.st => 5 no.img read fault
 sum p.st p.st p.st => 1 p.st:0 I1 Magic
 sum m.img no.txt p.st => 5 no.txt read fault
 sum m.img p.st p.st => 1 p.st:1 F1 Form
+script m.img => 4 usage
+script m.img p.st 0 => 4 usage
+script m.img -n => 4 usage
+script no.img p.st => 5 no.img read fault
+script p.st p.st => 1 p.st:0 I1 Magic
+script m.img no.txt => 5 no.txt read fault
+script m.img p.st => 1 p.st:1 F1 Form
 ";
 
 /// Fails where a row's words don't get its status and its line, and a picture alone where there is no line.
@@ -68,7 +75,7 @@ pub fn is_answered(alloc: Global, files: &mut MemFiles, row: &str) -> Result<(),
     };
     let words = words_of(alloc, command, behind)?;
     let mut out = MemSink::new(alloc, 6000)?;
-    let mut err = MemSink::new(alloc, 200)?;
+    let mut err = MemSink::new(alloc, 400)?;
     let found = vcp_study(alloc, &words, files, &mut out, &mut err);
     same(&format!(in alloc; "{found}")?, status)?;
     let told = err.bytes().strip_suffix(b"\n").unwrap_or(b"");

@@ -1,6 +1,7 @@
 mod RangesReaching
 mod Reaching
 pub mod RunReaching
+mod ScriptReaching
 mod SitesReaching
 mod Statuses
 mod SumReaching

@@ -38,7 +38,7 @@ if_some_both (Some x) None P Q R e f h k = absurd cc
 if_some_both (Some x) (Some y) P Q R e f h k = let same : y ≡ x = cc in f x h (rw same at k)
 
 -- ---- a count that rose later rose
-unloaded_before : (name : List ℕ) (held : Held) (limit b m n : ℕ) → b ≤ m → (i : NoInput) → NotLoaded Never held name limit m n i
+pub unloaded_before : (name : List ℕ) (held : Held) (limit b m n : ℕ) → b ≤ m → (i : NoInput) → NotLoaded Never held name limit m n i
     → NotLoaded Never held name limit b n i
 unloaded_before name held limit b m n le input.Unread (inl none) = inl none
 unloaded_before name held limit b m n le input.Unread (inr rose) = inr (omega (arith, le, rose))

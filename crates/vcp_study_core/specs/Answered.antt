@@ -6,10 +6,11 @@ use Rattle.vcp_outside.specs.Held.{Held}
 use Rattle.vcp_outside.specs.Seen.{FilesSeen, SinkSeen}
 use Rattle.vcp_outside.specs.Written.{AppendsPart}
 use Rattle.vcp_study_core.specs.declared.fault.Fault.{Fault}
-use Rattle.vcp_study_core.specs.Forms.{Form, graph, waves, ranges, sites, sum, file_of, usage_text}
+use Rattle.vcp_study_core.specs.Forms.{Form, graph, waves, ranges, sites, sum, script_named, file_of, usage_text}
 use Rattle.vcp_study_core.specs.Reach.{ReachesGraph, fault_text, fault_status}
 use Rattle.vcp_study_core.specs.RangesReach.{ReachesRanges}
 use Rattle.vcp_study_core.specs.RunReach.{ReachesRun}
+use Rattle.vcp_study_core.specs.ScriptReach.{ReachesNames}
 use Rattle.vcp_study_core.specs.Seen.{Outside}
 use Rattle.vcp_study_core.specs.SitesReach.{ReachesSites}
 use Rattle.vcp_study_core.specs.SumReach.{ReachesSum}
@@ -33,6 +34,7 @@ Reaches (sites m cycles classes which) held files later out now result =
     ReachesSites m cycles classes which held out.written now.written files.broken later.broken result
 Reaches (sum m script verdicts) held files later out now result =
     ReachesSum m script verdicts held out.written now.written files.broken later.broken result
+Reaches (script_named m named) held files later out now result = ReachesNames m named held out.written now.written files.broken later.broken result
 
 -- the line was printed with this status, or the sink of the errors failed in it, with status 6
 abbrev pub TellsLine : List ℕ → ℕ → SinkSeen → SinkSeen → ℕ → Type 0

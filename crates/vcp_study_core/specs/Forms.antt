@@ -14,13 +14,14 @@ use Rattle.vcp_study_core.specs.declared.fault.Fault.{Fault}
 use Rattle.vcp_study_core.specs.declared.fault.Fault.TheVariants as fault
 
 -- a command with its words: M is an image's name, FILE a file's; then HORIZON, whether all operations are told, CYCLES, CLASS and which
--- of the sites, and SCRIPT and VERDICTS, the names of files
+-- of the sites; SCRIPT and VERDICTS, and NAMED, the names of files
 pub data Form : Type 0 where
   graph : List ℕ → ℕ → Form
   waves : List ℕ → Form
   ranges : List ℕ → Bool → Form
   sites : List ℕ → ℕ → Classes → Chosen → Form
   sum : List ℕ → List ℕ → List ℕ → Form
+  script_named : List ℕ → List ℕ → Form
 
 -- a command, where no words are left
 abbrev pub at_end : Form → List (List ℕ) → Option Form
@@ -73,6 +74,10 @@ sum_form words =
     option_and_then (λ m. option_and_then (λ s. option_and_then (λ v. at_end (sum m.0 s.0 v.0) v.1) (name_and_rest s.1)) (name_and_rest m.1))
     (name_and_rest words)
 
+-- the words of `script`: M and NAMED
+abbrev pub script_form : List (List ℕ) → Option Form
+script_form words = option_and_then (λ m. option_and_then (λ n. at_end (script_named m.0 n.0) n.1) (name_and_rest m.1)) (name_and_rest words)
+
 -- the command that words say, a line a form
 abbrev pub form_of : List (List ℕ) → Option Form
 form_of [] = None
@@ -81,7 +86,8 @@ form_of (w ∷ words) =
     (cond (bytes_eq w (codes "waves")) (waves_form words)
     (cond (bytes_eq w (codes "ranges")) (ranges_form words)
     (cond (bytes_eq w (codes "sites")) (sites_form words)
-    (cond (bytes_eq w (codes "sum")) (sum_form words) None))))
+    (cond (bytes_eq w (codes "sum")) (sum_form words)
+    (cond (bytes_eq w (codes "script")) (script_form words) None)))))
 
 -- a command, as a form
 abbrev pub form : Command → Form
@@ -90,6 +96,7 @@ form (command.Waves file) = waves file.now
 form (command.Ranges image all) = ranges image.now all
 form (command.Sites image cycles classes which) = sites image.now cycles classes which
 form (command.Sum image script verdicts) = sum image.now script.now verdicts.now
+form (command.Script image named) = script_named image.now named.now
 
 -- the name of the file that the line of a fault names
 abbrev pub file_of : Form → Fault → List ℕ
@@ -102,6 +109,9 @@ file_of (sum m script verdicts) fault.Image = script
 file_of (sum m script verdicts) (fault.Verdicts i) = verdicts
 file_of (sum m script verdicts) (fault.NoVerdicts f) = verdicts
 file_of (sum m script verdicts) e = m
+file_of (script_named m named) (fault.Script i) = named
+file_of (script_named m named) (fault.Named r) = named
+file_of (script_named m named) e = m
 
 -- a horizon and a number of cycles are within their limits
 abbrev pub IsSound : Form → Type 0
@@ -110,7 +120,8 @@ IsSound (waves file) = Unit {0}
 IsSound (ranges m all) = Unit {0}
 IsSound (sites m cycles classes which) = cycles ≤ most_cycles
 IsSound (sum m script verdicts) = Unit {0}
+IsSound (script_named m named) = Unit {0}
 
 -- the usage line
 abbrev pub usage_text : List ℕ
-usage_text = codes "usage: vcp_study graph M HORIZON, waves FILE, ranges M, ranges M --all, sites M CYCLES CLASS, sites M CYCLES CLASS FROM COUNT, sites M CYCLES CLASS --count or sum M SCRIPT VERDICTS\n"
+usage_text = codes "usage: vcp_study graph M HORIZON, waves FILE, ranges M, ranges M --all, sites M CYCLES CLASS, sites M CYCLES CLASS FROM COUNT, sites M CYCLES CLASS --count, sum M SCRIPT VERDICTS or script M NAMED\n"

@@ -4,6 +4,8 @@ pub mod RangesReach
 pub mod Reach
 pub mod RunLines
 pub mod RunReach
+pub mod ScriptLines
+pub mod ScriptReach
 pub mod Seen
 pub mod SitesReach
 pub mod SumLines

@@ -16,6 +16,7 @@ use Rattle.vcp_inputs.specs.Images.{ImageOf, NotImage}
 use Rattle.vcp_inputs.specs.Lines.{memory_text, write_fault_text, input_text, input_status}
 use Rattle.graph_picture.specs.Elements.{IsPictureOf}
 use Rattle.vcp_study_core.specs.RunLines.{run_text}
+use Rattle.vcp_study_core.specs.ScriptLines.{refused_line_text}
 use Rattle.vcp_study_core.specs.SumLines.{verdicts_text}
 use Rattle.vcp_study_core.specs.declared.fault.Fault.{Fault}
 use Rattle.vcp_study_core.specs.declared.fault.Fault.TheVariants as fault
@@ -71,6 +72,7 @@ fault_text name (fault.Script i) = input_text name i
 fault_text name (fault.Verdicts i) = input_text name i
 fault_text name fault.Image = name ++ codes ":1 U1 Image\n"
 fault_text name (fault.NoVerdicts f) = verdicts_text name f
+fault_text name (fault.Named r) = refused_line_text name r.line r.why
 
 abbrev pub fault_status : Fault → ℕ
 fault_status (fault.Source i) = input_status i
@@ -82,3 +84,4 @@ fault_status (fault.Script i) = input_status i
 fault_status (fault.Verdicts i) = input_status i
 fault_status fault.Image = 1
 fault_status (fault.NoVerdicts f) = 1
+fault_status (fault.Named r) = 1

@@ -32,7 +32,8 @@ use Rattle.vcp_study_core.specs.Reach.{IsImage}
 abbrev pub is_of : Image → List ℕ → Bool
 is_of i text = is_for (digest_of i.graph i.table.seed i.table.step) text
 
--- the script that a text is for an image, or why it is none: it names another image, or a line is refused
+-- the script that a text is for an image, or why it is none: it names another image, or a line is refused; or memory was wanted, for the digest or for
+-- the lines
 pub data ReadsScript (i : Image) (text : List ℕ) : Result (List (List FaultOf)) Fault → Type 0 where
   is_read : (groups : List (List FaultOf)) → is_of i text ≡ true → script_of i.graph text ≡ Ok groups → ReadsScript i text (Ok groups)
   is_other : is_of i text ≡ false → ReadsScript i text (Err fault.Image)
@@ -41,7 +42,7 @@ pub data ReadsScript (i : Image) (text : List ℕ) : Result (List (List FaultOf)
   lacks_memory : ReadsScript i text (Err fault.Memory)
   lacks_memory_within : ReadsScript i text (Err (fault.Script input.Memory))
 
--- these verdicts are told of the groups, each of which names what the graph has
+-- a text tells these verdicts of the groups: one of each, and they name outputs and operations that the graph has
 pub record AreTold (g : Lists) (groups : List (List FaultOf)) (text : List ℕ) (vs : List Verdict) : Type 0 where
   pub read : verdicts_in g groups text ≡ Ok vs
   pub names : All (Names (length g.outputs) (length g.operations)) vs

@@ -4,7 +4,7 @@ ghost use Rattle.std.specs.Prelude.{◌≡◌, IfSome};
 ghost use Rattle.std.specs.Option.{option_map};
 ghost use Rattle.vcp_base.specs.Limits.{most_cycles};
 ghost use Rattle.vcp_study_core.specs.Forms.{form, form_of, file_of, graph_form, waves_form, ranges_form, all_of, IsSound};
-ghost use Rattle.vcp_study_core.specs.Forms.{sites_form, sum_form, classes_and_rest, chosen_of, number_word, part_of};
+ghost use Rattle.vcp_study_core.specs.Forms.{sites_form, sum_form, script_form, classes_and_rest, chosen_of, number_word, part_of};
 
 use crate::fault::Fault;
 use fault_sites::{Classes, Part, classes_named};
@@ -54,6 +54,13 @@ pub enum Command<'a> {
         /// The name of what was printed on it.
         verdicts: &'a Text,
     },
+    /// `script M NAMED`: the script of faults that are named by variables and by places in the source.
+    Script {
+        /// The name of the image, M.
+        image: &'a Text,
+        /// The name of the file with the lines that name faults.
+        named: &'a Text,
+    },
 }
 
 impl Command<'_> {
@@ -73,6 +80,10 @@ impl Command<'_> {
             } => match fault {
                 Fault::Script(_) | Fault::Image => script.bytes(),
                 Fault::Verdicts(_) | Fault::NoVerdicts(_) => verdicts.bytes(),
+                _ => image.bytes(),
+            },
+            Command::Script { image, named } => match fault {
+                Fault::Script(_) | Fault::Named(_) => named.bytes(),
                 _ => image.bytes(),
             },
         }
@@ -100,6 +111,9 @@ pub fn command_of(words: &Words) -> Option<Command<'_>>
     }
     if command == b"sum".as_slice() {
         return sum_words(&mut left);
+    }
+    if command == b"script".as_slice() {
+        return script_words(&mut left);
     }
     None
 }
@@ -231,4 +245,17 @@ fn sum_words<'a>(words: &mut WordsLeft<'a>) -> Option<Command<'a>>
         script,
         verdicts,
     })
+}
+
+/// The words of `script`: M and NAMED.
+fn script_words<'a>(words: &mut WordsLeft<'a>) -> Option<Command<'a>>
+    ensures form { option_map form result ≡ script_form words.old }
+    ensures sound { IfSome result (λ command. IsSound (form command)) }
+{
+    let image = words.name()?;
+    let named = words.name()?;
+    if !words.is_end() {
+        return None;
+    }
+    Some(Command::Script { image, named })
 }

@@ -3,6 +3,7 @@
 ghost use Rattle.std.specs.Prelude.{◌≡◌};
 ghost use Rattle.vcp_study_core.specs.declared.fault.Fault.TheVariants as fault;
 
+use fault_names::Refused;
 use run_picture::RunFault;
 use vcp_base::Memory;
 use vcp_inputs::NoInput;
@@ -30,6 +31,8 @@ pub enum Fault {
     Image,
     /// The text doesn't tell the verdicts of the script.
     NoVerdicts(VerdictsFault),
+    /// A line that names faults is refused.
+    Named(Refused),
 }
 
 impl From<Failed> for Fault {

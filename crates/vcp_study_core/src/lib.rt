@@ -5,6 +5,7 @@ mod command;
 mod fault;
 mod graph;
 mod ranges;
+mod script;
 mod sites;
 mod sum;
 mod telling;

@@ -5,10 +5,12 @@ ghost use Rattle.vcp_outside.specs.Written.{WritesTo};
 ghost use Rattle.vcp_study_core.specs.Forms.{usage_text};
 ghost use Rattle.vcp_inputs.specs.Lines.{rows_text};
 ghost use Rattle.vcp_study_core.specs.RunLines.{run_text};
+ghost use Rattle.vcp_study_core.specs.ScriptLines.{refused_line_text};
 ghost use Rattle.vcp_study_core.specs.SumLines.{verdicts_text};
 ghost use Rattle.vcp_study_core.specs.Reach.{fault_text, fault_status as status_of_fault};
 
 use crate::fault::Fault;
+use fault_names::Why;
 use input_rows::RowFault;
 use run_picture::RunFault;
 use vcp_inputs::{Refusal, input_status, tell_input, tell_of, tell_place, tell_refusal};
@@ -21,7 +23,7 @@ pub fn tell_usage<E: Sink>(err: &mut E) -> Result<(), Failed>
 {
     write_all(
         err,
-        b"usage: vcp_study graph M HORIZON, waves FILE, ranges M, ranges M --all, sites M CYCLES CLASS, sites M CYCLES CLASS FROM COUNT, sites M CYCLES CLASS --count or sum M SCRIPT VERDICTS\n",
+        b"usage: vcp_study graph M HORIZON, waves FILE, ranges M, ranges M --all, sites M CYCLES CLASS, sites M CYCLES CLASS FROM COUNT, sites M CYCLES CLASS --count, sum M SCRIPT VERDICTS or script M NAMED\n",
     )
 }
 
@@ -39,6 +41,7 @@ pub fn tell<E: Sink>(err: &mut E, name: &[u8], fault: &Fault) -> Result<(), Fail
         Fault::Verdicts(input) => tell_input(err, name, input),
         Fault::Image => tell_of(err, name, b":1 U1 Image"),
         Fault::NoVerdicts(why) => tell_no_verdicts(err, name, *why),
+        Fault::Named(refused) => tell_refused_line(err, name, refused.line, refused.why),
     }
 }
 
@@ -81,6 +84,23 @@ fn tell_no_verdicts<E: Sink>(err: &mut E, name: &[u8], why: VerdictsFault) -> Re
     }
 }
 
+/// Prints the line where a line that names faults is refused.
+fn tell_refused_line<E: Sink>(err: &mut E, name: &[u8], line: u32, why: Why) -> Result<(), Failed>
+    ensures { WritesTo (E.seen err.old) (E.seen err.new) (refused_line_text name.now line why) result }
+{
+    match why {
+        Why::Form => tell_place(err, name, line, b"F1 Form"),
+        Why::Site => tell_place(err, name, line, b"F2 Site"),
+        Why::Early => tell_place(err, name, line, b"F3 Early"),
+        Why::Kind => tell_place(err, name, line, b"F4 Kind"),
+        Why::Faults => tell_place(err, name, line, b"L5 Faults"),
+        Why::Unknown => tell_place(err, name, line, b"N1 Unknown"),
+        Why::Several => tell_place(err, name, line, b"N2 Several"),
+        Why::Held => tell_place(err, name, line, b"N3 Held"),
+        Why::Image => tell_place(err, name, line, b"N4 Image"),
+    }
+}
+
 /// Prints the line of what rows are refused for too.
 fn tell_rows<E: Sink>(err: &mut E, name: &[u8], why: RowFault) -> Result<(), Failed>
     ensures { WritesTo (E.seen err.old) (E.seen err.new) (rows_text name.now why) result }
@@ -96,6 +116,6 @@ pub fn fault_status(fault: &Fault) -> u8
         Fault::Source(input) | Fault::Script(input) | Fault::Verdicts(input) => input_status(input),
         Fault::Write => 6,
         Fault::Memory => 7,
-        Fault::NoRun(_) | Fault::Sites | Fault::Image | Fault::NoVerdicts(_) => 1,
+        Fault::NoRun(_) | Fault::Sites | Fault::Image | Fault::NoVerdicts(_) | Fault::Named(_) => 1,
     }
 }

@@ -13,6 +13,7 @@ use crate::command::{Command, command_of};
 use crate::fault::Fault;
 use crate::graph::graph_command;
 use crate::ranges::ranges_command;
+use crate::script::script_command;
 use crate::sites::sites_command;
 use crate::sum::sum_command;
 use crate::telling::{fault_status, tell, tell_usage};
@@ -126,5 +127,6 @@ fn study<F: Files, O: Sink>(
             script,
             verdicts,
         } => sum_command(alloc, image, script, verdicts, files, out),
+        Command::Script { image, named } => script_command(alloc, image, named, files, out),
     }
 }
