@@ -1,10 +1,12 @@
-//! Pictures of small graphs and of runs, which operations may stop, and the program's answers.
+//! Pictures of small graphs and of runs, which operations may stop, sums of verdicts, faults by names, and the program's answers.
 #![tactic(auto)]
 
 #[cfg(test)]
 mod answers;
 #[cfg(test)]
 mod counts;
+#[cfg(test)]
+mod faults;
 #[cfg(test)]
 mod pictures;
 #[cfg(test)]
