@@ -117,6 +117,18 @@ JUDGE
     fi || exit 1
     : >"$work/cut"
 fi
+
+# A file that an option of parallel names, as that of --sshloginfile, stands in the caller's folder.
+number=$#
+while [ "$number" -gt 0 ]; do
+    word=$1 number=$((number - 1))
+    shift
+    case $word in
+    /* | -*) ;;
+    *) [ ! -f "$word" ] || word=$PWD/$word ;;
+    esac
+    set -- "$@" "$word"
+done
 cd "$work" || exit 1
 
 # The parts that aren't judged yet.
@@ -138,7 +150,7 @@ sends() {
 
 if command -v parallel >/dev/null 2>&1; then
     if sends "$@"; then
-        left | parallel --retries $tries --workdir ... --basefile vcp --basefile judge --basefile image --basefile rows \
+        left | parallel --retries $tries --workdir "$work" --basefile vcp --basefile judge --basefile image --basefile rows \
             --transferfile '{}' --return '{.}.verdicts' --cleanup "$@" ./judge '{}'
     else
         left | parallel --retries $tries "$@" ./judge '{}'
