@@ -10,6 +10,7 @@
 # Refusals: the examples of docs/ERRORS.md are refused as it says (refusals.py).
 # Words: the manual pages and the completion have the commands and options of the usage lines (usage.sh).
 # Pictures: those in docs/ are what vcp_study draws (pictures.sh).
+# Sites: vcp_study sites writes as many faults as are counted from outside (site_counts.sh).
 #
 # It uses the programs that are built, or those of VCP=FILE and VCP_STUDY=FILE, and builds none. What a missing tool would do is left out. Its status
 # is 1 where something differs, and else 0.
@@ -36,6 +37,7 @@ if [ -x "$VCP" ]; then
     "$here/examples.sh" || status=1
     if [ -x "$VCP_STUDY" ]; then
         "$here/pictures.sh" --check || status=1
+        "$here/site_counts.sh" || status=1
     fi
 else
     echo "documents: no command is run, since no program is built"

@@ -1,4 +1,5 @@
-//! Pictures of small graphs and of runs, which operations may stop, sums of verdicts, faults by names, and the program's answers.
+//! Pictures of small graphs and of runs, which operations may stop, scripts of all faults, sums of verdicts, faults by names, and the
+//! program's answers.
 #![tactic(auto)]
 
 #[cfg(test)]
@@ -13,6 +14,8 @@ mod pictures;
 mod programs;
 #[cfg(test)]
 mod ranges;
+#[cfg(test)]
+mod sites;
 #[cfg(test)]
 mod texts;
 #[cfg(test)]
