@@ -5,8 +5,8 @@
 # the campaign is cut into parts of at most so many, never within a group, which run side by side under GNU parallel, on other machines too
 # (--sshloginfile); without it they run one by one. What stands of a campaign is kept in a folder, so that one that was broken off goes on.
 #
-# CLASS is a word of `vcp_study sites`: bits, stale, skip, from, operator or all. The folder, campaign.DIGEST, is named by what M, ROWS and the
-# script hold. Behind the last part it has `faults`, the whole script, `verdicts`, the lines of `vcp inject` with the lines of that script, and
+# CLASS is a word of `vcp_study sites`: bits, stale, skip, from, operator, all or flips. The folder, campaign.DIGEST, is named by what M, ROWS
+# and the script hold. Behind the last part it has `faults`, the whole script, `verdicts`, the lines of `vcp inject` with the lines of that script, and
 # `tables`, the sum of the parts' tables (`vcp_study sum`), which are printed. The status is 0 where all parts were judged, and 1 else.
 top=$(CDPATH='' cd -- "$(dirname -- "$0")" && pwd) || exit 1
 vcp=${VCP:-$top/crates/vcp/out/vcp}
@@ -31,7 +31,7 @@ digest=$(sha256sum <"$image" | cut -c 1-64)
 # Whether the third word names a class; a script that has such a name is given as ./bits.
 is_class() {
     case $1 in
-    bits | stale | skip | from | operator | all) true ;;
+    bits | stale | skip | from | operator | all | flips) true ;;
     *) false ;;
     esac
 }
@@ -52,15 +52,23 @@ fi
 work=campaign.$of
 mkdir -p "$work/parts" || exit 1
 
+# What stands behind M in the words of `sites` for a class: the cycles of the run, or the rows.
+over() {
+    case $faults in
+    flips) echo "$rows" ;;
+    *) cycles ;;
+    esac
+}
+
 # The parts of a class. `first` of a part says how many lines of the whole script stand before its second line; the first line of each part is
 # a remark.
 cut_class() {
-    count=$(cycles) && number=$("$study" sites "$image" "$count" "$faults" --count) || return 1
+    over=$(over) && number=$("$study" sites "$image" "$over" "$faults" --count) || return 1
     part=0
     while [ $((part * most)) -lt "$number" ]; do
         name=$(printf '%s/parts/%06d' "$work" "$part")
         echo $((part * most)) >"$name.first"
-        "$study" sites "$image" "$count" "$faults" $((part * most)) $most >"$name.faults" || return 1
+        "$study" sites "$image" "$over" "$faults" $((part * most)) $most >"$name.faults" || return 1
         part=$((part + 1))
     done
 }

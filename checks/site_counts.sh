@@ -1,6 +1,6 @@
 #!/bin/sh
 # Whether `vcp_study sites` writes as many faults of each class as are counted here from what `vcp list` prints, whether parts of 7 are together the whole,
-# and whether `vcp inject` takes each script.
+# whether `vcp inject` takes each script, and whether the flips are those of the words that `vcp trace` prints.
 #
 #     checks/site_counts.sh
 #
@@ -51,6 +51,24 @@ count() {
         }'
 }
 
+# flips IMAGE CYCLES ROWS..: the lines of the flips in the first cycles of the run over ROWS, by the words that are printed of each cycle. A number of awk is
+# exact below 2^53, and these words are smaller.
+flips() {
+    image=$1 cycles=$2 cycle=0
+    shift 2
+    while [ "$cycle" -lt "$cycles" ]; do
+        "$vcp" trace "$image" "$@" "$cycle"
+        cycle=$((cycle + 1))
+    done | awk '
+        function is_set(word, power,    part) {
+            part = int(word / power)
+            if (part > word / power) part--
+            return part % 2 != 0
+        }
+        $1 == "released" { cycle++; next }
+        { for (bit = 0; bit < 32; bit++) printf "result %d %d add %s%.0f\n", cycle, $1, is_set($3, 2 ^ bit) ? "-" : "", 2 ^ bit }'
+}
+
 status=0
 for program in add counter crossing two_tracks; do
     source=$top/examples/$program.st
@@ -98,5 +116,24 @@ digest=$(sha256sum <"$image" 2>/dev/null | cut -d ' ' -f 1)
     echo "site_counts: inject takes other faults"
     status=1
 }
-[ "$status" = 0 ] && echo "site_counts: each class has as many faults as are counted, and parts are the whole"
+
+# The flips of the counter, and those of the level crossing over its rows, which are more than a script may have.
+flips "$image" 3 --cycles 3 >"$work/flips"
+"$study" sites "$image" --cycles 3 flips | sed 1d | cmp - "$work/flips" || status=1
+image=$work/crossing.img
+rows=$top/examples/crossing.csv
+cycles=$("$vcp" exec "$image" "$rows" | awk 'END { print $2 }')
+flips "$image" "$cycles" "$rows" >"$work/flips"
+for from in 0 10000; do
+    "$study" sites "$image" "$rows" flips $from 10000 | sed 1d
+done | cmp - "$work/flips" || status=1
+[ "$("$study" sites "$image" "$rows" flips --count)" = "$(wc -l <"$work/flips" | tr -d ' ')" ] || {
+    echo "site_counts: crossing: another number of flips than is counted"
+    status=1
+}
+[ "$("$study" sites "$image" "$rows" flips 2>&1)" = "$image L9 Sites" ] || {
+    echo "site_counts: crossing: so many flips are written in one script"
+    status=1
+}
+[ "$status" = 0 ] && echo "site_counts: each class has as many faults as are counted, parts are the whole, and flips are those of the words"
 exit "$status"

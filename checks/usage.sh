@@ -12,12 +12,13 @@ trap 'rm -rf "$work"' EXIT
 # The options that each command may have by its forms: ROWS stands also for `--cycles N`, CODE for `--seed N` and `--step N`.
 options() {
     awk '
+        function add(command, option) { if (!index(has[command] " ", " " option " ")) has[command] = has[command] " " option }
         !($1 in has) { command[++count] = $1; has[$1] = "" }
         {
             for (i = 2; i <= NF; i++) {
-                if ($i == "ROWS") has[$1] = has[$1] " --cycles"
-                if ($i == "CODE") has[$1] = has[$1] " --seed --step"
-                if ($i ~ /^--/) has[$1] = has[$1] " " $i
+                if ($i == "ROWS") add($1, "--cycles")
+                if ($i == "CODE") { add($1, "--seed"); add($1, "--step") }
+                if ($i ~ /^--/) add($1, $i)
             }
         }
         END { for (i = 1; i <= count; i++) print command[i] has[command[i]] }' "$1"

@@ -31,8 +31,14 @@ _vcp_study() {
     1:*) mapfile -t COMPREPLY < <(compgen -W "$_vcp_study_commands" -- "$word") ;;
     2:* | 3:sum | 4:sum | 3:script) mapfile -t COMPREPLY < <(compgen -f -- "$word") ;;
     3:ranges) mapfile -t COMPREPLY < <(compgen -W '--all' -- "$word") ;;
-    4:sites) mapfile -t COMPREPLY < <(compgen -W 'bits stale skip from operator all' -- "$word") ;;
-    *:sites) mapfile -t COMPREPLY < <(compgen -W '--count' -- "$word") ;;
+    3:sites)
+        case $word in
+        -*) mapfile -t COMPREPLY < <(compgen -W '--count --cycles' -- "$word") ;;
+        *) mapfile -t COMPREPLY < <(compgen -f -- "$word") ;;
+        esac
+        ;;
+    4:sites) mapfile -t COMPREPLY < <(compgen -W 'bits stale skip from operator all flips' -- "$word") ;;
+    *:sites) mapfile -t COMPREPLY < <(compgen -W '--count flips' -- "$word") ;;
     esac
 }
 

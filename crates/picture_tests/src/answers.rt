@@ -12,7 +12,8 @@ use worked_programs::{cells, same, word_off, words_of};
 /// The usage line.
 const USAGE: &[u8] =
     b"usage: vcp_study graph M HORIZON, waves FILE, ranges M, ranges M --all, sites M CYCLES CLASS, \
-    sites M CYCLES CLASS FROM COUNT, sites M CYCLES CLASS --count, sum M SCRIPT VERDICTS or script M NAMED";
+    sites M CYCLES CLASS FROM COUNT, sites M CYCLES CLASS --count, sites M ROWS flips, sites M ROWS flips FROM COUNT, \
+    sites M ROWS flips --count, sum M SCRIPT VERDICTS or script M NAMED";
 
 /// Words => the status, and the line of errors; `usage` is the usage line. An image stands under `m.img`, and a source under `p.st`.
 const ANSWERS: &str = "\
@@ -46,6 +47,15 @@ sites no.img 3 skip => 5 no.img read fault
 sites p.st 3 skip --count => 1 p.st:0 I1 Magic
 sites m.img 1000 bits => 1 m.img L9 Sites
 sites m.img 1000 bits 5 10001 => 1 m.img L9 Sites
+sites m.img no.csv skip => 4 usage
+sites m.img --cycles 3 skip => 4 usage
+sites m.img --cycles flips => 4 usage
+sites m.img no.csv flips 0 => 4 usage
+sites no.img no.csv flips => 5 no.img read fault
+sites m.img no.csv flips => 5 no.csv read fault
+sites m.img 3 flips => 5 3 read fault
+sites m.img --cycles 3 flips --count => 1 --cycles R4 Form
+sites m.img p.st flips 0 10 => 1 p.st:1 R1 Header
 sum m.img => 4 usage
 sum m.img p.st => 4 usage
 sum m.img p.st p.st 0 => 4 usage

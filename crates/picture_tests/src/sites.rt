@@ -1,4 +1,4 @@
-//! Scripts of all faults of a class.
+//! Scripts of all faults of a class, and of all flips in a run.
 
 use std::alloc::Global;
 use std::str::from_utf8;
@@ -16,6 +16,7 @@ counter.st 5 skip => 20
 counter.st 2 from => 14
 counter.st 2 operator => 50
 counter.st 5 all => 6400
+counter.st --cycles 5 flips => 800
 crossing.st 5 bits => 82460
 crossing.st 2 stale => 83
 crossing.st 2 skip => 50
@@ -24,7 +25,8 @@ crossing.st 1 operator => 239
 crossing.st 5 all => 89207
 ";
 
-/// Cycles, a class and a part of the counter's faults => the lines behind the remark.
+/// Cycles, a class and a part of the counter's faults => the lines behind the remark. Flips: CONST is operation 1, and its word is
+/// 2147483647 + (305419896 + 214748365) + 1 in cycle 0, and one more in the next; the one ends in 0101, the other in 0110.
 const SCRIPTS: &str = "\
 1 from => operand 0 2 0 from 1; operand 0 2 1 from 0; operand 0 3 0 from 0; operand 0 3 0 from 1; operand 0 4 0 from 0; operand 0 4 0 from 1; \
 operand 0 4 0 from 3
@@ -34,6 +36,8 @@ operand 0 4 0 from 3
 1 all 1239 2 => operand 0 4 0 add 2305843009213693952; operand 0 2 0 from 1
 3 skip 9 5 => skip 2 4
 3 skip 10 5 => 
+--cycles 2 flips 32 4 => result 0 1 add -1; result 0 1 add 2; result 0 1 add -4; result 0 1 add 8
+--cycles 2 flips 192 4 => result 1 1 add 1; result 1 1 add -2; result 1 1 add -4; result 1 1 add 8
 ";
 
 /// What the command writes for these words.

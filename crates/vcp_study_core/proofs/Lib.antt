@@ -1,3 +1,4 @@
+mod FlipsReaching
 mod RangesReaching
 mod Reaching
 pub mod RunReaching

@@ -42,6 +42,7 @@ pub never_unread : (i : Image) (cycles : ℕ) (c : Classes) (which : Chosen) (ol
     → WritesSites i cycles c which old new r → IfErr r (λ e. IsUnread e → X)
 never_unread i cycles c which old new X (Ok status) w = tt
 never_unread i cycles c which old new X (Err (fault.Source s)) w = absurd w
+never_unread i cycles c which old new X (Err (fault.Rows s)) w = absurd w
 never_unread i cycles c which old new X (Err (fault.Script s)) w = absurd w
 never_unread i cycles c which old new X (Err (fault.Verdicts s)) w = absurd w
 never_unread i cycles c which old new X (Err _) w = λ is. absurd is

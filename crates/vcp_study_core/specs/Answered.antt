@@ -6,8 +6,9 @@ use Rattle.vcp_outside.specs.Held.{Held}
 use Rattle.vcp_outside.specs.Seen.{FilesSeen, SinkSeen}
 use Rattle.vcp_outside.specs.Written.{AppendsPart}
 use Rattle.vcp_study_core.specs.declared.fault.Fault.{Fault}
-use Rattle.vcp_study_core.specs.Forms.{Form, graph, waves, ranges, sites, sum, script_named, file_of, usage_text}
+use Rattle.vcp_study_core.specs.Forms.{Form, graph, waves, ranges, sites, flips, sum, script_named, file_of, usage_text}
 use Rattle.vcp_study_core.specs.Reach.{ReachesGraph, fault_text, fault_status}
+use Rattle.vcp_study_core.specs.FlipsReach.{ReachesFlips}
 use Rattle.vcp_study_core.specs.RangesReach.{ReachesRanges}
 use Rattle.vcp_study_core.specs.RunReach.{ReachesRun}
 use Rattle.vcp_study_core.specs.ScriptReach.{ReachesNames}
@@ -32,6 +33,7 @@ Reaches (waves file) held files later out now result = IsDrawing (ReachesRun fil
 Reaches (ranges m all) held files later out now result = ReachesRanges m all held out.written now.written files.broken later.broken result
 Reaches (sites m cycles classes which) held files later out now result =
     ReachesSites m cycles classes which held out.written now.written files.broken later.broken result
+Reaches (flips m rows which) held files later out now result = ReachesFlips m rows which held out.written now.written files.broken later.broken result
 Reaches (sum m script verdicts) held files later out now result =
     ReachesSum m script verdicts held out.written now.written files.broken later.broken result
 Reaches (script_named m named) held files later out now result = ReachesNames m named held out.written now.written files.broken later.broken result

@@ -3,7 +3,9 @@ use Rattle.std.specs.Prelude.{ℕ, ◌≤◌, Bool, true, false, cond, ◌&&◌,
 use Rattle.std.specs.Option.{option_and_then, option_map}
 use Rattle.vcp_base.specs.Limits.{most_cycles, most_horizon}
 use Rattle.vcp_base.specs.Numerals.{numeral_of}
-use Rattle.vcp_words.specs.Forms.{name_and_rest, number_and_rest, is_end}
+use Rattle.vcp_words.specs.Forms.{Rows, file as from_file, cycles as from_cycles, rows_of, AreFew}
+use Rattle.vcp_words.specs.Forms.{name_and_rest, number_and_rest, number_within, rows_and_rest, is_end}
+use Rattle.vcp_words.specs.Tables.{rows_name}
 use Rattle.fault_sites.specs.declared.class.Classes.{Classes}
 use Rattle.fault_sites.specs.SiteText.{classes_of}
 use Rattle.site_scripts.specs.declared.chosen.Chosen.{Chosen}
@@ -14,12 +16,13 @@ use Rattle.vcp_study_core.specs.declared.fault.Fault.{Fault}
 use Rattle.vcp_study_core.specs.declared.fault.Fault.TheVariants as fault
 
 -- a command with its words: M is an image's name, FILE a file's; then HORIZON, whether all operations are told, CYCLES, CLASS and which
--- of the sites; SCRIPT and VERDICTS, and NAMED, the names of files
+-- of the sites, ROWS and which of the flips, SCRIPT and VERDICTS, and NAMED, the names of files
 pub data Form : Type 0 where
   graph : List ℕ → ℕ → Form
   waves : List ℕ → Form
   ranges : List ℕ → Bool → Form
   sites : List ℕ → ℕ → Classes → Chosen → Form
+  flips : List ℕ → Rows → Chosen → Form
   sum : List ℕ → List ℕ → List ℕ → Form
   script_named : List ℕ → List ℕ → Form
 
@@ -44,11 +47,6 @@ all_of (w ∷ rest) = cond (bytes_eq w (codes "--all") && is_end rest) (Some tru
 abbrev pub ranges_form : List (List ℕ) → Option Form
 ranges_form words = option_and_then (λ m. option_map (ranges m.0) (all_of m.1)) (name_and_rest words)
 
--- the class that the first word names, and the words after it
-abbrev pub classes_and_rest : List (List ℕ) → Option (Classes × List (List ℕ))
-classes_and_rest [] = None
-classes_and_rest (w ∷ rest) = option_map (λ c. (c, rest)) (classes_of w)
-
 -- which of the sites: without more words all; `--count` asks how many there are; FROM COUNT is a part
 abbrev pub number_word : List ℕ → Option Chosen
 number_word w = cond (bytes_eq w (codes "--count")) (Some chosen.Number) None
@@ -62,11 +60,24 @@ chosen_of [] = Some chosen.All
 chosen_of (w ∷ []) = number_word w
 chosen_of (w ∷ v ∷ rest) = cond (is_end rest) (part_of w v) None
 
--- the words of `sites`: M, CYCLES, CLASS, and which of the sites
+-- CYCLES, where a file's name may stand too
+abbrev pub cycles_in : Rows → Option ℕ
+cycles_in (from_file w) = number_within 1 most_cycles w
+cycles_in (from_cycles n) = None
+
+-- CYCLES, CLASS, and which of the sites
+abbrev pub class_form : List ℕ → Rows → List ℕ → List (List ℕ) → Option Form
+class_form m rows w rest =
+    option_and_then (λ n. option_and_then (λ c. option_map (sites m n c) (chosen_of rest)) (classes_of w)) (cycles_in rows)
+
+-- behind M: ROWS, `flips`, and which of the flips; or CYCLES, CLASS, and which of the sites
+abbrev pub behind_form : List ℕ → Rows → List (List ℕ) → Option Form
+behind_form m rows [] = None
+behind_form m rows (w ∷ rest) = cond (bytes_eq w (codes "flips")) (option_map (flips m rows) (chosen_of rest)) (class_form m rows w rest)
+
+-- the words of `sites`: M, and what is behind it
 abbrev pub sites_form : List (List ℕ) → Option Form
-sites_form words =
-    option_and_then (λ m. option_and_then (λ n. option_and_then (λ c. option_map (sites m.0 n.0 c.0) (chosen_of c.1)) (classes_and_rest n.1))
-    (number_and_rest 1 most_cycles m.1)) (name_and_rest words)
+sites_form words = option_and_then (λ m. option_and_then (λ r. behind_form m.0 r.0 r.1) (rows_and_rest m.1)) (name_and_rest words)
 
 -- the words of `sum`: M, SCRIPT and VERDICTS
 abbrev pub sum_form : List (List ℕ) → Option Form
@@ -95,6 +106,7 @@ form (command.Graph image horizon) = graph image.now horizon
 form (command.Waves file) = waves file.now
 form (command.Ranges image all) = ranges image.now all
 form (command.Sites image cycles classes which) = sites image.now cycles classes which
+form (command.Flips image rows which) = flips image.now (rows_of rows) which
 form (command.Sum image script verdicts) = sum image.now script.now verdicts.now
 form (command.Script image named) = script_named image.now named.now
 
@@ -104,6 +116,8 @@ file_of (graph m horizon) e = m
 file_of (waves file) e = file
 file_of (ranges m all) e = m
 file_of (sites m cycles classes which) e = m
+file_of (flips m rows which) (fault.Rows i) = rows_name rows
+file_of (flips m rows which) e = m
 file_of (sum m script verdicts) (fault.Script i) = script
 file_of (sum m script verdicts) fault.Image = script
 file_of (sum m script verdicts) (fault.Verdicts i) = verdicts
@@ -119,9 +133,10 @@ IsSound (graph m horizon) = horizon ≤ most_horizon
 IsSound (waves file) = Unit {0}
 IsSound (ranges m all) = Unit {0}
 IsSound (sites m cycles classes which) = cycles ≤ most_cycles
+IsSound (flips m rows which) = AreFew rows
 IsSound (sum m script verdicts) = Unit {0}
 IsSound (script_named m named) = Unit {0}
 
 -- the usage line
 abbrev pub usage_text : List ℕ
-usage_text = codes "usage: vcp_study graph M HORIZON, waves FILE, ranges M, ranges M --all, sites M CYCLES CLASS, sites M CYCLES CLASS FROM COUNT, sites M CYCLES CLASS --count, sum M SCRIPT VERDICTS or script M NAMED\n"
+usage_text = codes "usage: vcp_study graph M HORIZON, waves FILE, ranges M, ranges M --all, sites M CYCLES CLASS, sites M CYCLES CLASS FROM COUNT, sites M CYCLES CLASS --count, sites M ROWS flips, sites M ROWS flips FROM COUNT, sites M ROWS flips --count, sum M SCRIPT VERDICTS or script M NAMED\n"

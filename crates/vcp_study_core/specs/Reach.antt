@@ -57,6 +57,7 @@ ReachesGraph name horizon held old new b n (Err _) = ⊥
 -- the file couldn't be begun or read
 abbrev pub IsUnread : Fault → Type 0
 IsUnread (fault.Source i) = i ≡ input.Unread
+IsUnread (fault.Rows i) = i ≡ input.Unread
 IsUnread (fault.Script i) = i ≡ input.Unread
 IsUnread (fault.Verdicts i) = i ≡ input.Unread
 IsUnread _ = ⊥
@@ -68,6 +69,7 @@ fault_text name fault.Write = write_fault_text
 fault_text name fault.Memory = memory_text
 fault_text name (fault.NoRun f) = run_text name f
 fault_text name fault.Sites = name ++ codes " L9 Sites\n"
+fault_text name (fault.Rows i) = input_text name i
 fault_text name (fault.Script i) = input_text name i
 fault_text name (fault.Verdicts i) = input_text name i
 fault_text name fault.Image = name ++ codes ":1 U1 Image\n"
@@ -80,6 +82,7 @@ fault_status fault.Write = 6
 fault_status fault.Memory = 7
 fault_status (fault.NoRun f) = 1
 fault_status fault.Sites = 1
+fault_status (fault.Rows i) = input_status i
 fault_status (fault.Script i) = input_status i
 fault_status (fault.Verdicts i) = input_status i
 fault_status fault.Image = 1

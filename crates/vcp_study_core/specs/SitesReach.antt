@@ -4,6 +4,7 @@ use Rattle.std.specs.Io.KnownBytes.{Appends}
 use Rattle.vcp_base.specs.Limits.{most_image_bytes}
 use Rattle.vcp_outside.specs.Held.{Held}
 use Rattle.fault_sites.specs.declared.class.Classes.{Classes}
+use Rattle.fault_sites.specs.declared.site.Site.{Site}
 use Rattle.fault_sites.specs.Laws.{Distinct}
 use Rattle.fault_sites.specs.Sites.{sites}
 use Rattle.fault_sites.specs.SiteText.{classes_name}
@@ -17,17 +18,17 @@ use Rattle.vcp_study_core.specs.declared.fault.Fault.{Fault}
 use Rattle.vcp_study_core.specs.declared.fault.Fault.TheVariants as fault
 use Rattle.vcp_study_core.specs.Reach.{IsImage}
 
--- how far it is written of the sites of an image what is chosen
+-- how far it is written of these sites of an image, under this name, what is chosen
+abbrev pub WritesOf : Image → List ℕ → List Site → Chosen → Option (List ℕ) → Option (List ℕ) → Result ℕ Fault → Type 0
+WritesOf i name xs which old new (Ok status) = (status ≡ 0) × WritesChosen i.graph i.table name xs which old new (Ok tt)
+WritesOf i name xs which old new (Err fault.Write) = WritesChosen i.graph i.table name xs which old new (Err unwritten.Failed)
+WritesOf i name xs which old new (Err fault.Sites) = WritesChosen i.graph i.table name xs which old new (Err unwritten.TooMany)
+WritesOf i name xs which old new (Err fault.Memory) = WritesChosen i.graph i.table name xs which old new (Err unwritten.Memory)
+WritesOf i name xs which old new (Err _) = ⊥
+
+-- of the sites of a class
 abbrev pub WritesSites : Image → ℕ → Classes → Chosen → Option (List ℕ) → Option (List ℕ) → Result ℕ Fault → Type 0
-WritesSites i cycles c which old new (Ok status) =
-    (status ≡ 0) × WritesChosen i.graph i.table (classes_name c) (sites c i.graph cycles) which old new (Ok tt)
-WritesSites i cycles c which old new (Err fault.Write) =
-    WritesChosen i.graph i.table (classes_name c) (sites c i.graph cycles) which old new (Err unwritten.Failed)
-WritesSites i cycles c which old new (Err fault.Sites) =
-    WritesChosen i.graph i.table (classes_name c) (sites c i.graph cycles) which old new (Err unwritten.TooMany)
-WritesSites i cycles c which old new (Err fault.Memory) =
-    WritesChosen i.graph i.table (classes_name c) (sites c i.graph cycles) which old new (Err unwritten.Memory)
-WritesSites i cycles c which old new (Err _) = ⊥
+WritesSites i cycles c which old new result = WritesOf i (classes_name c) (sites c i.graph cycles) which old new result
 
 -- the file under a name is an image, of whose sites of the class, each of which stands once, it is written so far
 abbrev pub WritesFile : List ℕ → ℕ → Classes → Chosen → Held → Option (List ℕ) → Option (List ℕ) → Result ℕ Fault → Type 0

@@ -1,16 +1,18 @@
 //! From words to a command.
 
-ghost use Rattle.std.specs.Prelude.{◌≡◌, IfSome};
+ghost use Rattle.std.specs.Prelude.{◌≡◌, ◌≤◌, IfSome};
 ghost use Rattle.std.specs.Option.{option_map};
 ghost use Rattle.vcp_base.specs.Limits.{most_cycles};
 ghost use Rattle.vcp_study_core.specs.Forms.{form, form_of, file_of, graph_form, waves_form, ranges_form, all_of, IsSound};
-ghost use Rattle.vcp_study_core.specs.Forms.{sites_form, sum_form, script_form, classes_and_rest, chosen_of, number_word, part_of};
+ghost use Rattle.vcp_words.specs.Forms.{rows_of, AreFew};
+ghost use Rattle.vcp_words.specs.Tables.{rows_name as rows_name_of};
+ghost use Rattle.vcp_study_core.specs.Forms.{sites_form, behind_form, class_form, cycles_in as cycles_in_of, flips, sum_form, script_form, chosen_of, number_word, part_of};
 
 use crate::fault::Fault;
 use fault_sites::{Classes, Part, classes_named};
 use site_scripts::Chosen;
 use vcp_base::{MOST_CYCLES, MOST_HORIZON, Text, Words, numeral};
-use vcp_words::WordsLeft;
+use vcp_words::{RowsWord, WordsLeft};
 
 /// A command, with its own words. A name of a file isn't empty and doesn't begin with `-`.
 #[derive(Clone, Copy, Debug)]
@@ -45,6 +47,15 @@ pub enum Command<'a> {
         /// What is written.
         chosen: Chosen,
     },
+    /// `sites M ROWS flips`, in the same ways: the script of the flips of bits in a run.
+    Flips {
+        /// The name of the image, M.
+        image: &'a Text,
+        /// The recorded inputs, ROWS.
+        rows: RowsWord<'a>,
+        /// What is written.
+        chosen: Chosen,
+    },
     /// `sum M SCRIPT VERDICTS`: tables of the verdicts that were printed on a script.
     Sum {
         /// The name of the image, M.
@@ -63,6 +74,16 @@ pub enum Command<'a> {
     },
 }
 
+/// The name by which lines tell ROWS.
+fn rows_name<'a>(rows: RowsWord<'a>) -> &'a [u8]
+    ensures { result.now ≡ rows_name_of (rows_of rows.entry) }
+{
+    match rows {
+        RowsWord::File(name) => name.bytes(),
+        RowsWord::Cycles(_) => b"--cycles",
+    }
+}
+
 impl Command<'_> {
     /// The name of the file that the line of a fault names.
     pub(crate) fn file(&self, fault: &Fault) -> &[u8]
@@ -73,6 +94,10 @@ impl Command<'_> {
             Command::Waves { file } => file.bytes(),
             Command::Ranges { image, .. } => image.bytes(),
             Command::Sites { image, .. } => image.bytes(),
+            Command::Flips { image, rows, .. } => match fault {
+                Fault::Rows(_) => rows_name(*rows),
+                _ => image.bytes(),
+            },
             Command::Sum {
                 image,
                 script,
@@ -168,13 +193,6 @@ fn ranges_words<'a>(words: &mut WordsLeft<'a>) -> Option<Command<'a>>
     Some(Command::Ranges { image, all })
 }
 
-/// The word that names a class.
-fn class_word(words: &mut WordsLeft<'_>) -> Option<Classes>
-    ensures { option_map (λ c. (c, words.new)) result ≡ classes_and_rest words.old }
-{
-    classes_named(words.next()?.bytes())
-}
-
 /// Whether only the number is wanted: `--count` says so.
 fn number_chosen(word: &Text) -> Option<Chosen>
     ensures { result ≡ number_word word.now }
@@ -212,14 +230,36 @@ fn chosen_words(words: &mut WordsLeft<'_>) -> Option<Chosen>
     }
 }
 
-/// The words of `sites`: M, CYCLES, CLASS, and what is written.
-fn sites_words<'a>(words: &mut WordsLeft<'a>) -> Option<Command<'a>>
-    ensures form { option_map form result ≡ sites_form words.old }
+/// CYCLES, where a file's name may stand too.
+fn cycles_in(rows: RowsWord<'_>) -> Option<u32>
+    ensures cycles { result ≡ cycles_in_of (rows_of rows.entry) }
+    ensures few { IfSome result (λ n. n ≤ most_cycles) }
+{
+    match rows {
+        RowsWord::File(word) => {
+            let cycles = numeral(word.bytes())?;
+            if 1 <= cycles && cycles <= MOST_CYCLES as u64 {
+                Some(cycles as u32)
+            } else {
+                None
+            }
+        }
+        RowsWord::Cycles(_) => None,
+    }
+}
+
+/// CYCLES, CLASS, and which of the sites.
+fn class_words<'a>(
+    image: &'a Text,
+    rows: RowsWord<'a>,
+    class: &Text,
+    words: &mut WordsLeft<'a>,
+) -> Option<Command<'a>>
+    ensures form { option_map form result ≡ class_form image.now (rows_of rows.entry) class.now words.old }
     ensures sound { IfSome result (λ command. IsSound (form command)) }
 {
-    let image = words.name()?;
-    let cycles = words.number(1, MOST_CYCLES)?;
-    let classes = class_word(words)?;
+    let cycles = cycles_in(rows)?;
+    let classes = classes_named(class.bytes())?;
     let chosen = chosen_words(words)?;
     Some(Command::Sites {
         image,
@@ -227,6 +267,51 @@ fn sites_words<'a>(words: &mut WordsLeft<'a>) -> Option<Command<'a>>
         classes,
         chosen,
     })
+}
+
+/// Which of the flips.
+fn flips_words<'a>(
+    image: &'a Text,
+    rows: RowsWord<'a>,
+    words: &mut WordsLeft<'a>,
+) -> Option<Command<'a>>
+    requires { AreFew (rows_of rows) }
+    ensures form { option_map form result ≡ option_map (flips image.now (rows_of rows.entry)) (chosen_of words.old) }
+    ensures sound { IfSome result (λ command. IsSound (form command)) }
+{
+    let chosen = chosen_words(words)?;
+    Some(Command::Flips {
+        image,
+        rows,
+        chosen,
+    })
+}
+
+/// What is behind M: ROWS, `flips`, and which of the flips; or CYCLES, CLASS, and which of the sites.
+fn behind_words<'a>(
+    image: &'a Text,
+    rows: RowsWord<'a>,
+    words: &mut WordsLeft<'a>,
+) -> Option<Command<'a>>
+    requires { AreFew (rows_of rows) }
+    ensures form { option_map form result ≡ behind_form image.now (rows_of rows.entry) words.old }
+    ensures sound { IfSome result (λ command. IsSound (form command)) }
+{
+    let word = words.next()?;
+    if word.bytes() == b"flips".as_slice() {
+        return flips_words(image, rows, words);
+    }
+    class_words(image, rows, word, words)
+}
+
+/// The words of `sites`: M, and what is behind it.
+fn sites_words<'a>(words: &mut WordsLeft<'a>) -> Option<Command<'a>>
+    ensures form { option_map form result ≡ sites_form words.old }
+    ensures sound { IfSome result (λ command. IsSound (form command)) }
+{
+    let image = words.name()?;
+    let rows = words.rows()?;
+    behind_words(image, rows, words)
 }
 
 /// The words of `sum`: M, SCRIPT and VERDICTS.

@@ -23,6 +23,8 @@ pub enum Fault {
     NoRun(RunFault),
     /// The script would have more than 10,000 faults.
     Sites,
+    /// There is nothing of the recorded inputs.
+    Rows(NoInput),
     /// There is nothing of the script.
     Script(NoInput),
     /// There is nothing of the verdicts.

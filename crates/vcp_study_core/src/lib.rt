@@ -3,6 +3,7 @@
 
 mod command;
 mod fault;
+mod flips;
 mod graph;
 mod ranges;
 mod script;

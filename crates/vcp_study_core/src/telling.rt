@@ -23,7 +23,7 @@ pub fn tell_usage<E: Sink>(err: &mut E) -> Result<(), Failed>
 {
     write_all(
         err,
-        b"usage: vcp_study graph M HORIZON, waves FILE, ranges M, ranges M --all, sites M CYCLES CLASS, sites M CYCLES CLASS FROM COUNT, sites M CYCLES CLASS --count, sum M SCRIPT VERDICTS or script M NAMED\n",
+        b"usage: vcp_study graph M HORIZON, waves FILE, ranges M, ranges M --all, sites M CYCLES CLASS, sites M CYCLES CLASS FROM COUNT, sites M CYCLES CLASS --count, sites M ROWS flips, sites M ROWS flips FROM COUNT, sites M ROWS flips --count, sum M SCRIPT VERDICTS or script M NAMED\n",
     )
 }
 
@@ -37,6 +37,7 @@ pub fn tell<E: Sink>(err: &mut E, name: &[u8], fault: &Fault) -> Result<(), Fail
         Fault::Memory => write_all(err, b"no memory\n"),
         Fault::NoRun(why) => tell_no_run(err, name, *why),
         Fault::Sites => tell_of(err, name, b" L9 Sites"),
+        Fault::Rows(input) => tell_input(err, name, input),
         Fault::Script(input) => tell_input(err, name, input),
         Fault::Verdicts(input) => tell_input(err, name, input),
         Fault::Image => tell_of(err, name, b":1 U1 Image"),
@@ -113,7 +114,8 @@ pub fn fault_status(fault: &Fault) -> u8
     ensures { result ≡ status_of_fault fault.now }
 {
     match fault {
-        Fault::Source(input) | Fault::Script(input) | Fault::Verdicts(input) => input_status(input),
+        Fault::Source(input) | Fault::Rows(input) | Fault::Script(input) | Fault::Verdicts(input) =>
+            input_status(input),
         Fault::Write => 6,
         Fault::Memory => 7,
         Fault::NoRun(_) | Fault::Sites | Fault::Image | Fault::NoVerdicts(_) | Fault::Named(_) => 1,

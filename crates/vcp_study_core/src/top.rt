@@ -11,6 +11,7 @@ ghost use Rattle.vcp_study_core.specs.declared.fault.Fault.TheVariants as fault;
 
 use crate::command::{Command, command_of};
 use crate::fault::Fault;
+use crate::flips::flips_command;
 use crate::graph::graph_command;
 use crate::ranges::ranges_command;
 use crate::script::script_command;
@@ -122,6 +123,11 @@ fn study<F: Files, O: Sink>(
             classes,
             chosen,
         } => sites_command(alloc, image, *cycles, *classes, chosen, files, out),
+        Command::Flips {
+            image,
+            rows,
+            chosen,
+        } => flips_command(alloc, image, *rows, chosen, files, out),
         Command::Sum {
             image,
             script,
