@@ -55,7 +55,7 @@ fn colour_at(weights: &Weights, op: u32, output: u32, distances: u32, seen: Colo
 }
 
 /// The colour of an operation.
-pub(crate) fn colour_of(weights: &Weights, op: u32, outputs: u32, distances: u32) -> Colour
+pub fn colour_of(weights: &Weights, op: u32, outputs: u32, distances: u32) -> Colour
     requires operation { op < weights.now.operations }
     requires outputs { outputs ≤ length weights.now.outputs }
     requires distances { distances ≤ weights.now.horizon + 1 }

@@ -17,7 +17,8 @@ mod picture;
 mod rows;
 mod wires;
 
-pub use colours::Colour;
+pub use colours::{Colour, colour_of};
 pub use laws::a_graph_is_drawn_whole;
 pub use layout::{Layout, Place, layout_of};
+pub use names::{output_name, own_piece};
 pub use picture::write_picture;

@@ -43,7 +43,7 @@ fn cell_name(graph: &Graph, n: u64) -> &[u8]
 }
 
 /// The name of output `n`, and nothing where there is no such output.
-pub(crate) fn output_name(graph: &Graph, n: u64) -> &[u8]
+pub fn output_name(graph: &Graph, n: u64) -> &[u8]
     ensures { result.now ≡ output_name_of graph.now n }
 {
     if n < graph.outputs() as u64 {
@@ -54,7 +54,7 @@ pub(crate) fn output_name(graph: &Graph, n: u64) -> &[u8]
 }
 
 /// An operation's own name or value, and nothing where it has none.
-pub(crate) fn own_piece<'a>(graph: &'a Graph, kind: Kind, imm: i64) -> Piece<'a>
+pub fn own_piece<'a>(graph: &'a Graph, kind: Kind, imm: i64) -> Piece<'a>
     ensures { piece_bytes result ≡ own_of graph.now kind imm }
 {
     match kind {
