@@ -6,7 +6,7 @@ use Rattle.op_graph.specs.declared.op.Outlet.{Outlet}
 use Rattle.op_graph.specs.Lists.{Lists}
 use Rattle.weight_audit.specs.Audit.{Audit, weight_kept, reached_kept, IsAudit}
 use Rattle.audit_report.specs.AuditLines.{reached_text}
-use Rattle.run_report.specs.OutputNames.{output_name}
+use Rattle.run_report.specs.Variables.{output_name}
 use Rattle.audit_report.specs.AuditText.{is_reached, is_blind, count_below, line_if, lines_below, distance_text, distances_below, outputs_below}
 use Rattle.audit_report.specs.AuditText.{AuditOf, TellsBlind}
 

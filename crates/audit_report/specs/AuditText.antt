@@ -7,7 +7,7 @@ use Rattle.op_graph.specs.Lists.{Lists}
 use Rattle.weight_audit.specs.Audit.{Audit, weight_kept, reached_kept, IsAudit}
 use Rattle.weight_audit.specs.Paths.{Blind}
 use Rattle.audit_report.specs.AuditLines.{reached_text, blind_text}
-use Rattle.run_report.specs.OutputNames.{output_name}
+use Rattle.run_report.specs.Variables.{output_name}
 
 -- whether a path leads from an operation to an output, after so many borders, and whether the operation is blind, by what is kept
 abbrev pub is_reached : Audit → ℕ → ℕ → ℕ → Bool

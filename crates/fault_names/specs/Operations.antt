@@ -1,50 +1,20 @@
 -- Operations: which operation a name names.
-use Rattle.std.specs.Prelude.{ℕ, zero, suc, ◌==◌, Bool, true, false, not, cond, ◌&&◌, ◌||◌, List, [], ◌∷◌, ◌++◌, length, slice_get, slice_index_or}
-use Rattle.std.specs.Prelude.{Option, Some, None, Result, Ok, Err, unsigned_abs}
+use Rattle.std.specs.Prelude.{ℕ, zero, suc, ◌==◌, Bool, true, false, not, cond, ◌&&◌, ◌||◌, List, [], ◌∷◌, ◌++◌, length, slice_get}
+use Rattle.std.specs.Prelude.{Option, Some, None, Result, Ok, Err}
 use Rattle.vcp_base.specs.declared.spot.Spot.{Spot}
 use Rattle.vcp_base.specs.declared.kind.Kind.{Kind}
 use Rattle.vcp_base.specs.declared.kind.Kind.TheVariants as kind
 use Rattle.vcp_base.specs.Names.{is_same_name}
 use Rattle.vcp_base.specs.Spellings.{kind_code}
 use Rattle.op_graph.specs.declared.op.Op.{Op}
-use Rattle.op_graph.specs.declared.op.Var.{Var}
-use Rattle.op_graph.specs.declared.op.Cell.{Cell}
-use Rattle.op_graph.specs.declared.op.Outlet.{Outlet}
-use Rattle.op_graph.specs.Lists.{Lists, cells}
+use Rattle.op_graph.specs.Lists.{Lists}
 use Rattle.op_graph.specs.Rules.{is_load}
+use Rattle.run_report.specs.Variables.{variable_of}
 use Rattle.fault_names.specs.declared.refused.Why.{Why}
 use Rattle.fault_names.specs.declared.refused.Why.TheVariants as reason
 use Rattle.fault_names.specs.declared.operations.Found.{Found}
 use Rattle.fault_names.specs.declared.operations.Found.TheVariants as found
 use Rattle.fault_names.specs.Words.{spot_of}
-
--- ---- the variable of an operation
-
-abbrev pub name_at : Lists → ℕ → List ℕ
-name_at g n = slice_index_or g.names n []
-
-abbrev pub name_of_input : Lists → Option Var → List ℕ
-name_of_input g None = []
-name_of_input g (Some v) = name_at g v.name
-
-abbrev pub name_of_cell : Lists → Option Cell → List ℕ
-name_of_cell g None = []
-name_of_cell g (Some c) = name_at g c.name
-
-abbrev pub name_of_output : Lists → Option Outlet → List ℕ
-name_of_output g None = []
-name_of_output g (Some o) = name_at g o.name
-
--- the name of input, cell or output n, of an operation of this kind; none for the other kinds
-abbrev pub variable : Lists → Kind → ℕ → List ℕ
-variable g kind.Input n = name_of_input g (slice_get g.inputs n)
-variable g kind.Load n = name_of_cell g (slice_get (cells g) n)
-variable g kind.Store n = name_of_cell g (slice_get (cells g) n)
-variable g kind.Out n = name_of_output g (slice_get g.outputs n)
-variable g _ n = []
-
-abbrev pub variable_of : Lists → Op → List ℕ
-variable_of g op = variable g op.kind (unsigned_abs op.imm)
 
 -- ---- what a name means
 

@@ -5,9 +5,9 @@ ghost use Rattle.script_text.specs.Words.{words as words_of};
 ghost use Rattle.fault_names.specs.Lines.{with_rest, of_kind as of_kind_of, place_at as place_at_of, place_of, operand_of, target_of, add_of, as_of, read_of};
 ghost use Rattle.fault_names.specs.Lines.{operator_of, doing_of};
 
-use crate::cutting::{index, kind_named};
 use crate::operations::operation_named;
 use crate::refused::Why;
+use fault_script::{index_number, kind_named};
 use op_graph::Graph;
 use script_text::WordsLeft;
 use vcp_base::{Kind, Ty, number_in};
@@ -94,7 +94,7 @@ fn operand(graph: &Graph, words: &mut WordsLeft<'_>) -> Result<Target, Why>
     if of != b"of".as_slice() {
         return Err(Why::Form);
     }
-    let Some(j) = index(number) else {
+    let Some(j) = index_number(number) else {
         return Err(Why::Form);
     };
     let op = place(graph, words)?;

@@ -12,7 +12,6 @@ mod meant;
 mod operations;
 mod reading;
 mod refused;
-mod variables;
 mod when;
 mod writing;
 

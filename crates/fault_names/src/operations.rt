@@ -7,8 +7,8 @@ ghost use Rattle.fault_names.specs.Words.{spot_of};
 
 use crate::cutting::spot;
 use crate::refused::Why;
-use crate::variables::variable_name;
 use op_graph::{Graph, Op};
+use run_report::variable_name;
 use vcp_base::{Kind, Spot, is_same_name, kind_code};
 
 /// Whether an operation is of this kind, where one is said.
@@ -38,7 +38,8 @@ fn may_be_alone(kind: Option<Kind>, other: Kind) -> bool
 fn is_variable(graph: &Graph, kind: Option<Kind>, name: &[u8], op: &Op) -> bool
     ensures { result ≡ is_variable_of graph.now kind name.now op.now }
 {
-    may_be_alone(kind, op.kind) && is_same_name(name, variable_name(graph, op))
+    may_be_alone(kind, op.kind)
+        && is_same_name(name, variable_name(graph, op.kind, op.imm.unsigned_abs()))
 }
 
 /// Whether an operation stands for a place.

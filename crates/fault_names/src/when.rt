@@ -5,8 +5,9 @@ ghost use Rattle.vcp_base.specs.Limits.{most_cycles};
 ghost use Rattle.fault_names.specs.Words.{last_of, from_to as from_to_of, span_of};
 ghost use Rattle.fault_names.specs.Lines.{ending_of, bit_of, when_of, with_rest, is_together as is_together_of};
 
-use crate::cutting::{cut_at, cycle, index};
+use crate::cutting::cut_at;
 use crate::refused::Why;
+use fault_script::{cycle_number, index_number};
 use script_text::WordsLeft;
 
 /// Cycles, from one to another, which may be the same.
@@ -38,7 +39,7 @@ fn last(text: &[u8]) -> Option<u32>
     ensures below { IfSome result (λ n. n < most_cycles) }
 {
     match text {
-        [b'.', word @ ..] => cycle(word),
+        [b'.', word @ ..] => cycle_number(word),
         _ => None,
     }
 }
@@ -64,11 +65,11 @@ pub(crate) fn cycles_said(word: &[u8]) -> Option<Span>
 {
     match cut_at(word, b'.') {
         None => {
-            let n = cycle(word)?;
+            let n = cycle_number(word)?;
             Some(Span { first: n, last: n })
         }
         Some((front, back)) => {
-            let first = cycle(front)?;
+            let first = cycle_number(front)?;
             let last = last(back)?;
             from_to(first, last)
         }
@@ -79,7 +80,7 @@ pub(crate) fn cycles_said(word: &[u8]) -> Option<Span>
 fn bit(word: &[u8]) -> Option<Ending>
     ensures value { result ≡ bit_of word.now }
 {
-    let b = index(word)?;
+    let b = index_number(word)?;
     Some(Ending::Bit { b })
 }
 

@@ -11,9 +11,9 @@ use crate::script_fault::ScriptFault;
 use op_graph::{Graph, Op};
 use vcp_base::{Kind, operands};
 
-// Whether an operation of the kind has the operand that the act changes, and the register that it
-// reads stands before operation `k`.
-fn is_sited(kind: Kind, k: u32, act: &Act) -> bool
+/// Whether an operation of the kind has the operand that the act changes, and the register that it
+/// reads stands before operation `k`.
+pub fn is_sited(kind: Kind, k: u32, act: &Act) -> bool
     ensures { result ≡ is_sited_of kind k act.now }
 {
     match *act {
@@ -24,8 +24,8 @@ fn is_sited(kind: Kind, k: u32, act: &Act) -> bool
     }
 }
 
-// Whether there is a cycle before cycle `n`, where the act takes a word of that cycle.
-fn is_timely(n: u32, act: &Act) -> bool
+/// Whether there is a cycle before cycle `n`, where the act takes a word of that cycle.
+pub fn is_timely(n: u32, act: &Act) -> bool
     ensures { result ≡ is_timely_of n act.now }
 {
     match *act {
@@ -37,8 +37,8 @@ fn is_timely(n: u32, act: &Act) -> bool
     }
 }
 
-// Whether the kind that is put in place of an operation's kind has as many operands.
-fn is_alike(kind: Kind, act: &Act) -> bool
+/// Whether the kind that is put in place of an operation's kind has as many operands.
+pub fn is_alike(kind: Kind, act: &Act) -> bool
     ensures { result ≡ is_alike_of kind act.now }
 {
     match *act {
@@ -51,7 +51,7 @@ fn is_alike(kind: Kind, act: &Act) -> bool
     }
 }
 
-// The fault that a line says at this operation.
+/// The fault that a line says at this operation.
 fn fault_at(line: u32, change: &Change, op: &Op) -> Result<Fault, ScriptFault>
     ensures fault { result ≡ fault_at_of line change.now (Some op.now) }
     ensures sited { IfOk result (λ f. is_sited_of op.now.kind f.op f.act ≡ true) }

@@ -9,7 +9,7 @@ ghost use Rattle.fault_script.specs.Forms.{mark_named as mark_named_of, mark_of}
 ghost use Rattle.fault_script.specs.Fits.{is_moderate};
 
 use crate::act::Act;
-use crate::numbers::{addend, cycle, index, kind_named};
+use crate::numbers::{addend, cycle_number, index_number, kind_named};
 use script_text::WordsLeft;
 
 /// What a well-formed line says: an act at an operation in a cycle.
@@ -44,7 +44,7 @@ fn operand_change(j: u32, how: &[u8], more: &mut WordsLeft<'_>) -> Option<Act>
         return Some(Act::OperandAdd { j, e });
     }
     if how == b"from".as_slice() {
-        let r = index(more.only()?)?;
+        let r = index_number(more.only()?)?;
         return Some(Act::OperandFrom { j, r });
     }
     if how == b"stale".as_slice() && more.is_end() {
@@ -60,7 +60,7 @@ fn operand_act(more: &mut WordsLeft<'_>) -> Option<Act>
 {
     let j = more.next()?;
     let how = more.next()?;
-    operand_change(index(j)?, how, more)
+    operand_change(index_number(j)?, how, more)
 }
 
 // The act of the words behind `result n k`.
@@ -123,8 +123,8 @@ pub fn change_of_line(line: &[u8]) -> Option<Change>
     let verb = words.next()?;
     let n = words.next()?;
     let k = words.next()?;
-    let cycle = cycle(n)?;
-    let op = index(k)?;
+    let cycle = cycle_number(n)?;
+    let op = index_number(k)?;
     let act = act(verb, &mut words)?;
     Some(Change { cycle, op, act })
 }

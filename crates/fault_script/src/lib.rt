@@ -17,8 +17,10 @@ mod script;
 mod script_fault;
 
 pub use act::{Act, Fault};
+pub use fitting::{is_alike, is_sited, is_timely};
 pub use group::Group;
 pub use laws::{differences_add_up, one_fault_makes_its_difference};
+pub use numbers::{cycle_number, index_number, kind_named};
 pub use reader::read_script;
 pub use reading::MOST_FAULTS;
 pub use script::Script;

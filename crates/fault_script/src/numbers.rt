@@ -23,15 +23,15 @@ fn number_below(bound: u64, word: &[u8]) -> Option<u32>
 }
 
 /// The number of a cycle, below 1,000,000.
-pub fn cycle(word: &[u8]) -> Option<u32>
+pub fn cycle_number(word: &[u8]) -> Option<u32>
     ensures value { result ≡ cycle_of word.now }
     ensures below { IfSome result (λ n. n < most_cycles) }
 {
     number_below(MOST_CYCLES as u64, word)
 }
 
-/// The number of an operation, an operand or a register.
-pub fn index(word: &[u8]) -> Option<u32>
+/// The number of an operation, an operand or a register, or of a line, a column or a bit.
+pub fn index_number(word: &[u8]) -> Option<u32>
     ensures { result ≡ index_of word.now }
 {
     number_below(1 << 32, word)

@@ -9,7 +9,7 @@ use Rattle.op_graph.specs.declared.op.Op.{Op}
 use Rattle.op_graph.specs.declared.op.Cell.{Cell}
 use Rattle.op_graph.specs.Lists.{Lists, cells}
 use Rattle.weight_audit.specs.Audit.{Audit, IsAudit}
-use Rattle.run_report.specs.OutputNames.{output_name}
+use Rattle.run_report.specs.Variables.{output_name}
 use Rattle.svg_text.specs.Drawing.{each_below}
 use Rattle.graph_picture.specs.declared.colours.Colour.{Colour}
 use Rattle.graph_picture.specs.declared.colours.Colour.TheVariants as colour

@@ -9,8 +9,9 @@ ghost use Rattle.graph_dot.specs.DotText.{head, named, source, blindness, label,
 use crate::characters::then_pieces;
 use crate::words::has_name;
 use gathered_line::Line;
-use graph_picture::{Colour, output_name, own_piece};
+use graph_picture::{Colour, own_piece};
 use op_graph::{Graph, Op};
+use run_report::variable_name;
 use svg_text::Piece;
 use vcp_base::{Kind, Spot, kind_name};
 use vcp_outside::Sink;
@@ -71,7 +72,7 @@ fn then_blindness<O: Sink>(line: &mut Line, out: &mut O, graph: &Graph, colour: 
             out,
             &[
                 Piece::Bytes(b"\nblind: "),
-                Piece::Bytes(output_name(graph, output as u64)),
+                Piece::Bytes(variable_name(graph, Kind::Out, output as u64)),
                 Piece::Bytes(b" "),
                 Piece::Count(after as u64),
             ],

@@ -1,17 +1,15 @@
 -- Drawn: what is drawn of a graph: a box for each operation, and a line for each pair of an operand and its reader.
 use Rattle.std.specs.Option.{is_some}
-use Rattle.std.specs.Prelude.{ℕ, cond, List, [], ◌∷◌, ◌++◌, length, Option, Some, None, slice_get, slice_index_or, ℤ, unsigned_abs}
+use Rattle.std.specs.Prelude.{ℕ, cond, List, [], ◌∷◌, ◌++◌, length, Option, Some, None, slice_get, ℤ, unsigned_abs}
 use Rattle.std.specs.Fmt.{signed_decimal}
 use Rattle.vcp_base.specs.declared.kind.Kind.{Kind}
 use Rattle.vcp_base.specs.declared.kind.Kind.TheVariants as kind
 use Rattle.op_graph.specs.declared.op.Op.{Op}
-use Rattle.op_graph.specs.declared.op.Var.{Var}
-use Rattle.op_graph.specs.declared.op.Cell.{Cell}
-use Rattle.op_graph.specs.Lists.{Lists, cells}
+use Rattle.op_graph.specs.Lists.{Lists}
 use Rattle.op_graph.specs.Reads.{named}
 use Rattle.op_graph.specs.Rules.{reads_as}
 use Rattle.weight_audit.specs.Audit.{Audit}
-use Rattle.run_report.specs.OutputNames.{output_name}
+use Rattle.run_report.specs.Variables.{variable_name}
 use Rattle.svg_text.specs.Drawing.{each_below}
 use Rattle.graph_picture.specs.declared.colours.Colour.{Colour}
 use Rattle.graph_picture.specs.declared.layout.Place.{Place}
@@ -34,34 +32,10 @@ pub record Wire : Type 0 where
   pub from : Place
   pub to : Place
 
--- ---- names
-
-abbrev pub name_at : Lists → ℕ → List ℕ
-name_at g n = slice_index_or g.names n []
-
-abbrev pub name_of_input : Lists → Option Var → List ℕ
-name_of_input g None = []
-name_of_input g (Some v) = name_at g v.name
-
-abbrev pub name_of_cell : Lists → Option Cell → List ℕ
-name_of_cell g None = []
-name_of_cell g (Some c) = name_at g c.name
-
--- the name of input or cell n
-abbrev pub input_name : Lists → ℕ → List ℕ
-input_name g n = name_of_input g (slice_get g.inputs n)
-
-abbrev pub cell_name : Lists → ℕ → List ℕ
-cell_name g n = name_of_cell g (slice_get (cells g) n)
-
 -- an operation's own name or value: the name of the input, cell or output, or the value of a constant
 abbrev pub own_of : Lists → Kind → ℤ → List ℕ
-own_of g kind.Input imm = input_name g (unsigned_abs imm)
 own_of g kind.Const imm = signed_decimal imm
-own_of g kind.Load imm = cell_name g (unsigned_abs imm)
-own_of g kind.Store imm = cell_name g (unsigned_abs imm)
-own_of g kind.Out imm = output_name g (unsigned_abs imm)
-own_of g _ imm = []
+own_of g k imm = variable_name g k (unsigned_abs imm)
 
 -- ---- boxes and lines
 

@@ -13,7 +13,7 @@ use Rattle.graph_picture.specs.declared.colours.Colour.{Colour}
 use Rattle.graph_picture.specs.declared.colours.Colour.TheVariants as colour
 use Rattle.graph_picture.specs.declared.layout.Place.{Place}
 use Rattle.graph_picture.specs.Arrangement.{Arrangement, IsArranged, left_of, top_of, box_width, box_height}
-use Rattle.run_report.specs.OutputNames.{output_name}
+use Rattle.run_report.specs.Variables.{output_name}
 use Rattle.graph_picture.specs.Drawn.{Box, Wire, Drawing, drawing}
 
 -- ---- boxes

@@ -9,9 +9,10 @@ ghost use Rattle.graph_picture.specs.Elements.{class_of, outline, words, head, o
 
 use crate::colours::{Colour, colour_of};
 use crate::layout::{Layout, Place, left, top};
-use crate::names::{output_name, own_piece};
+use crate::names::own_piece;
 use gathered_line::Line;
 use op_graph::Graph;
+use run_report::variable_name;
 use svg_text::{Name, Piece, Tag, then_element};
 use vcp_base::{Kind, Spot, kind_name};
 use vcp_outside::Sink;
@@ -131,7 +132,7 @@ fn then_blindness<O: Sink>(
             place,
             45,
             &[
-                Piece::Bytes(output_name(graph, output as u64)),
+                Piece::Bytes(variable_name(graph, Kind::Out, output as u64)),
                 Piece::Bytes(b" "),
                 Piece::Count(after as u64),
             ],

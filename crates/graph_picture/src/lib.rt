@@ -20,5 +20,5 @@ mod wires;
 pub use colours::{Colour, colour_of};
 pub use laws::a_graph_is_drawn_whole;
 pub use layout::{Layout, Place, layout_of};
-pub use names::{output_name, own_piece};
+pub use names::own_piece;
 pub use picture::write_picture;

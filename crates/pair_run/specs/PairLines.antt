@@ -10,7 +10,7 @@ use Rattle.op_graph.specs.Lists.{Lists, output_column, turns_of}
 use Rattle.coded_machine.specs.declared.cycle_end.CycleEnd.{CycleEnd}
 use Rattle.coded_machine.specs.declared.cycle_end.CycleEnd.TheVariants as end
 use Rattle.run_report.specs.Lines.{header_text, row_text, end_text, stop_text}
-use Rattle.run_report.specs.OutputNames.{output_name}
+use Rattle.run_report.specs.Variables.{output_name}
 use Rattle.machine_run.specs.RowRuns.{texts_from}
 use Rattle.pair_channel.specs.declared.pair_end.PairEnd.{PairEnd}
 use Rattle.pair_channel.specs.declared.pair_end.PairEnd.TheVariants as pair

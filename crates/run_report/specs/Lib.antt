@@ -1,4 +1,4 @@
 pub mod Lines
 pub mod OperationLines
-pub mod OutputNames
 pub mod SummaryLine
+pub mod Variables

@@ -9,13 +9,13 @@
 mod graph_stop;
 mod lines;
 mod operations;
-mod output_names;
 mod summary;
+mod variables;
 
 pub use graph_stop::{graph_stop_line, then_turns_round};
 pub use lines::{
     end_line, header_line, refused_line, row_line, stop_line, then_cause, then_refused,
 };
 pub use operations::{list_line, then_source, trace_line};
-pub use output_names::output_name;
 pub use summary::summary_line;
+pub use variables::{output_name, variable_name};

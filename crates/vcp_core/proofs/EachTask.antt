@@ -67,7 +67,7 @@ use Rattle.vcp_core.specs.Demo.{made_held, summary_job}
 use Rattle.vcp_core.specs.EachTask.{HoldsBytes}
 use Rattle.vcp_core.specs.Tasks.{TaskOf, Audited, too_large, printed, WholeRows, FewRows, too_many, few, JudgedScript, Apart, same_seed, two_seeds, Compared}
 use Rattle.vcp_core.specs.Tasks.{PairsRows, PairsScript, pair_job, plain_answer, rows_job, words_job, ok_text, most_trace, table_code, listing, widened}
-use Rattle.vcp_core.specs.Tasks.{graph_columns}
+use Rattle.vcp_inputs.specs.RowsRead.{graph_columns}
 use Rattle.vcp_core.proofs.ScriptsTold.{script_not_memory, wire_not_memory}
 
 -- the laws that each text has an answer, and each graph an audit

@@ -31,7 +31,8 @@ use Rattle.vcp_inputs.specs.Files.{Loads, NotLoaded as FileLost}
 use Rattle.vcp_inputs.specs.Images.{ImageOf, NotImage}
 use Rattle.vcp_inputs.specs.Lines.{input_status, input_text, refusal_text}
 use Rattle.vcp_inputs.specs.Refusals.{no_rows}
-use Rattle.vcp_inputs.specs.RowsOutcome.{RowsOutcome, opened, Opens, rows_outcome}
+use Rattle.vcp_inputs.specs.RowsOutcome.{RowsOutcome, opened, rows_outcome}
+use Rattle.vcp_inputs.specs.RowsRead.{AllRead, NoneRead, RowsBroken, at_header, at_row, graph_columns}
 use Rattle.vcp_inputs.specs.Scripts.{ScriptOf, NotScript, no_script}
 use Rattle.command_meaning.specs.Abouts.{About, about, FileWord, rows_words, script_word, Among}
 use Rattle.command_meaning.specs.Answer.{Campaign}
@@ -42,30 +43,14 @@ use Rattle.command_meaning.specs.Kinds.{Task, judges, refusal_task}
 use Rattle.command_meaning.specs.Performing.{Reaches, done, cut, wanting, unread, unmade, Performs}
 use Rattle.vcp_outside.specs.Seen.{FilesSeen, SinkSeen}
 use Rattle.machine_run.specs.Moments.{Moment, moment}
-use Rattle.vcp_core.specs.Tasks.{FewRows, InjectTask, JudgedScript, WholeRows, graph_columns, most_trace}
+use Rattle.vcp_core.specs.Tasks.{FewRows, InjectTask, JudgedScript, WholeRows, most_trace}
 use Rattle.vcp_core.specs.Tasks as task
 use Rattle.vcp_core.specs.Faults.{of_campaign}
-use Rattle.vcp_core.specs.Inject.{AllRead, AllRows, NoneRead, NoRows, RowsBroken, RowsRefused, at_header, at_row, broken, too_many}
+use Rattle.vcp_core.specs.Inject.{AllRows, NoRows, RowsRefused, broken, too_many}
 use Rattle.vcp_core.specs.Reach.{fault_status, fault_text}
 use Rattle.vcp_core.proofs.Performing.{file_lost, file_taken, file_takes, part_performs, short_performs, still}
 
 -- ---- all rows
-
--- a row that is refused
-pub row_refused : (o : RowsOutcome) (left : RowsLeft) (f : RowFault) → o ≡ opened left → (f ≢ row.Memory → left.refusal ≡ Some f) → NoneRead o (no_rows f)
-row_refused o left row.Header comes behind = at_row left row.Header comes (behind (λ e. cc))
-row_refused o left (row.Width n) comes behind = at_row left (row.Width n) comes (behind (λ e. cc))
-row_refused o left (row.Cell n column) comes behind = at_row left (row.Cell n column) comes (behind (λ e. cc))
-row_refused o left row.Form comes behind = at_row left row.Form comes (behind (λ e. cc))
-row_refused o left row.Cycles comes behind = at_row left row.Cycles comes (behind (λ e. cc))
-row_refused o left row.Cycle comes behind = at_row left row.Cycle comes (behind (λ e. cc))
-row_refused o left row.Memory comes behind = tt
-
--- rows that aren't opened
-pub not_opened : (o : RowsOutcome) (i : NoInput) (b : ℕ) → i ≢ input.Unread → Opens o b b (Err i) → NoneRead o i
-not_opened o input.Unread b known opens = absurd (known refl)
-not_opened o (input.Refused r) b known opens = at_header r opens
-not_opened o input.Memory b known opens = tt
 
 -- rows that aren't read are none for any graph
 pub none_for : (o : RowsOutcome) (g : Lists) (i : NoInput) → NoneRead o i → NoRows o g i

@@ -52,7 +52,8 @@ use Rattle.command_meaning.proofs.OneFile.{one_file, file_has}
 use Rattle.vcp_core.specs.Tasks.{Audited, too_large, printed, FewRows, too_many, few, JudgedScript, WholeRows}
 use Rattle.vcp_core.specs.Tasks.{Apart, same_seed, two_seeds, Compared, PairsRows, PairsScript, pair_job}
 use Rattle.command_meaning.proofs.Performed.{NeedsNone}
-use Rattle.vcp_core.specs.Tasks.{AuditTask, TaskOf, PlainTask, RunTask, graph_columns, plain_answer, rows_job, words_job, ok_text}
+use Rattle.vcp_inputs.specs.RowsRead.{graph_columns}
+use Rattle.vcp_core.specs.Tasks.{AuditTask, TaskOf, PlainTask, RunTask, plain_answer, rows_job, words_job, ok_text}
 use Rattle.vcp_core.specs.Tasks.{most_trace, table_code, listing, widened}
 use Rattle.vcp_core.specs.Demo.{made_held, summary_job}
 use Rattle.vcp_core.proofs.OneText.{ImageLaws, Laws, OneAudit, image_once, image_or_none, no_image_once, program_once, program_or_none, refused_once}

@@ -41,9 +41,9 @@ use Rattle.command_meaning.specs.PairsKind.{PairsDone, PairsLeft, pairs_answer, 
 use Rattle.command_meaning.specs.Kinds.{Task, pairs_, refusal_task}
 use Rattle.command_meaning.specs.Performing.{Reaches, done, cut, wanting, unread, unmade}
 use Rattle.vcp_core.specs.Faults.{of_campaign}
-use Rattle.vcp_core.specs.Inject.{AllRead, NoneRead}
 use Rattle.vcp_core.specs.Reach.{fault_status, fault_text}
-use Rattle.vcp_core.specs.Tasks.{PairsScript, PairsTask, graph_columns, two_seeds}
+use Rattle.vcp_inputs.specs.RowsRead.{AllRead, NoneRead, graph_columns}
+use Rattle.vcp_core.specs.Tasks.{PairsScript, PairsTask, two_seeds}
 use Rattle.vcp_core.proofs.JudgedTasks.{WholeLeft, all_of, campaign_of, left_count, left_of, rows_front, script_end, whole_broken, whole_comes}
 use Rattle.vcp_core.proofs.Performing.{file_lost, file_taken, file_takes, still}
 

@@ -33,7 +33,8 @@ use Rattle.command_meaning.specs.Performing.{Performs, Reaches, done, cut, wanti
 use Rattle.vcp_core.specs.declared.ending.Ending.{Ending}
 use Rattle.vcp_core.specs.ChannelsRun.{ComparesTo, PairAnswers}
 use Rattle.vcp_core.specs.Reach.{end_status, run_code, run_line}
-use Rattle.vcp_core.specs.Tasks.{Apart, same_seed, two_seeds, Compared, PairTask, graph_columns, pair_job}
+use Rattle.vcp_inputs.specs.RowsRead.{graph_columns}
+use Rattle.vcp_core.specs.Tasks.{Apart, same_seed, two_seeds, Compared, PairTask, pair_job}
 use Rattle.vcp_core.proofs.Facts.{if_some_weaker}
 use Rattle.vcp_core.proofs.JobRun.{record-of}
 use Rattle.vcp_core.proofs.Performing.{file_takes, row_told, still}

@@ -1,16 +1,15 @@
 -- Tasks: what each command comes to, where the files hold this, by one shape of a file that is taken or refused; a line a command.
-use Rattle.std.specs.Prelude.{ℕ, ℤ, suc, ◌≡◌, ◌≢◌, ◌<◌, ◌≤◌, ◌*◌, List, [], ◌∷◌, ◌++◌, length, map, Option, Some, None, codes, decimal}
+use Rattle.std.specs.Prelude.{ℕ, ℤ, suc, ◌≡◌, ◌≢◌, ◌<◌, ◌≤◌, ◌*◌, List, [], ◌∷◌, ◌++◌, length, Option, Some, None, codes, decimal}
 use Rattle.input_rows.specs.declared.fault.RowFault.{RowFault}
 use Rattle.input_rows.specs.RowsOf.{RowsLeft, through}
 use Rattle.image_file.specs.Image.{image_of}
-use Rattle.op_graph.specs.Lists.{Lists, column}
+use Rattle.op_graph.specs.Lists.{Lists}
 use Rattle.op_graph.specs.declared.op.Op.{Op}
 use Rattle.signature_table.specs.Signatures.{Numbers}
 use Rattle.run_report.specs.OperationLines.{list_text}
 use Rattle.vcp_base.specs.declared.code.Profile.TheVariants as profile
 use Rattle.st_writer.specs.CanonicalProgram.{canonical}
 use Rattle.flat_expr.specs.Told.{told_source}
-use Rattle.vcp_base.specs.declared.columns.Column.{Column}
 use Rattle.vcp_outside.specs.Held.{Held}
 use Rattle.vcp_typed.specs.Fitting.{input_columns}
 use Rattle.vcp_typed.specs.Size.{size}
@@ -21,6 +20,7 @@ use Rattle.vcp_words.specs.Forms.{Form, Rows, Code, check, format, plain, run, i
 use Rattle.vcp_words.specs.Tables.{rows_name}
 use Rattle.vcp_inputs.specs.declared.images.Image.{Image}
 use Rattle.vcp_inputs.specs.declared.refusal.Refusal.TheVariants as refusal
+use Rattle.vcp_inputs.specs.RowsRead.{graph_columns}
 use Rattle.command_meaning.specs.Answer.{Answer, Subject, source, listed, image}
 use Rattle.command_meaning.specs.FileTasks.{ParsedFile, TypedFile, ListingFile, ImageFile, ScriptFile, WireFile, TakenRows}
 use Rattle.command_meaning.specs.Kinds.{Task, answers, compiles, runs, judges, compares, pairs_, wires, prints, refusal_task}
@@ -83,10 +83,6 @@ abbrev pub AuditTask : List ℕ → ℕ → Held → Task → Type 0
 AuditTask m horizon held task = ImageFile (Audited horizon m) m held task
 
 -- ---- runs on rows
-
--- the columns of a graph's inputs
-abbrev pub graph_columns : Lists → List Column
-graph_columns g = map (column g.names) g.inputs
 
 -- a run of which each row is printed, on the rows that are left, which are told by this name
 abbrev pub rows_job : List ℕ → Code → Subject → RowsLeft → Job

@@ -14,14 +14,16 @@ ghost use Rattle.vcp_core.specs.Reach.{told_line, told_status};
 
 use crate::ending::Ending;
 use crate::fault::Fault;
-use crate::loading::{graph_columns, rows_name, whole_rows};
+use crate::loading::rows_name;
 use coded_unit::Unit;
 use fault_campaign::run_campaign;
 use input_rows::RowList;
 use op_graph::Graph;
 use std::alloc::Global;
 use vcp_base::{Columns, Text};
-use vcp_inputs::{NoInput, Refusal, RowsSource, load_image, load_rows, load_script};
+use vcp_inputs::{
+    NoInput, Refusal, RowsSource, graph_columns, load_image, load_rows, load_script, whole_rows,
+};
 use vcp_outside::{Files, Sink};
 use vcp_words::RowsWord;
 

@@ -12,11 +12,11 @@ ghost use Rattle.vcp_core.specs.Reach.{told_line, told_status};
 use crate::channels::run_channels;
 use crate::ending::{Ending, run_ended};
 use crate::fault::Fault;
-use crate::loading::{graph_columns, rows_name};
+use crate::loading::rows_name;
 use coded_unit::Unit;
 use std::alloc::Global;
 use vcp_base::Text;
-use vcp_inputs::{NoInput, Refusal, load_image, load_rows};
+use vcp_inputs::{NoInput, Refusal, graph_columns, load_image, load_rows};
 use vcp_outside::{Files, Sink};
 use vcp_words::RowsWord;
 

@@ -11,13 +11,13 @@ ghost use Rattle.vcp_core.specs.Reach.{told_line, told_status};
 
 use crate::ending::Ending;
 use crate::fault::Fault;
-use crate::loading::{graph_columns, rows_name, whole_rows};
+use crate::loading::rows_name;
 use coded_unit::Unit;
 use pair_campaign::run_pairs;
 use signature_table::Table;
 use std::alloc::Global;
 use vcp_base::Text;
-use vcp_inputs::{NoInput, Refusal, load_image, load_rows, load_script};
+use vcp_inputs::{NoInput, Refusal, graph_columns, load_image, load_rows, load_script, whole_rows};
 use vcp_outside::{Files, Sink};
 use vcp_words::RowsWord;
 

@@ -5,5 +5,6 @@ pub mod Listings
 pub mod Programs
 pub mod Refusals
 pub mod RowsOutcome
+pub mod RowsRead
 pub mod Scripts
 pub mod Wires

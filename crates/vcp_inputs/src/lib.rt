@@ -9,6 +9,7 @@ mod rows;
 mod scripts;
 mod sources;
 mod telling;
+mod whole;
 mod wires;
 
 pub use images::{Image, load_image};
@@ -19,4 +20,5 @@ pub use rows::{RowsSource, load_rows};
 pub use scripts::load_script;
 pub use sources::{load_program, load_typed, typed_of};
 pub use telling::{input_status, tell_input, tell_of, tell_place, tell_refusal};
+pub use whole::{graph_columns, whole_rows};
 pub use wires::load_wire;

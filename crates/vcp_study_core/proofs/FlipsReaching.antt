@@ -1,12 +1,10 @@
 -- FlipsReaching: how far `sites` comes for flips, from what loading its image and reading its rows give.
-use Rattle.std.proofs.Common.{◌≡◌, ◌≢◌, inl, inr, ◌≤◌, ℕ, ℤ, List, All, length, map, Option, Some, IfErr, Result, Ok, Err, ap, refl, arith}
+use Rattle.std.proofs.Common.{◌≡◌, inl, inr, ◌≤◌, ℕ, ℤ, List, All, length, map, Option, IfErr, Result, Ok, Err, arith}
+use Rattle.std.specs.Prelude.{IfOk}
 use Rattle.std.proofs.lemmas.List.{length-map}
 use Rattle.vcp_base.specs.Limits.{most_image_bytes}
 use Rattle.vcp_base.specs.declared.columns.Column.{Column}
 use Rattle.vcp_outside.specs.Held.{Held}
-use Rattle.input_rows.specs.declared.fault.RowFault.{RowFault}
-use Rattle.input_rows.specs.declared.fault.RowFault.TheVariants as row
-use Rattle.input_rows.specs.RowsOf.{RowsLeft}
 use Rattle.op_graph.specs.Lists.{Lists, column}
 use Rattle.site_scripts.specs.declared.chosen.Chosen.{Chosen}
 use Rattle.vcp_words.specs.Forms.{Rows}
@@ -15,51 +13,28 @@ use Rattle.vcp_inputs.specs.declared.refusal.NoInput.{NoInput}
 use Rattle.vcp_inputs.specs.declared.refusal.NoInput.TheVariants as input
 use Rattle.vcp_inputs.specs.Files.{NotLoaded}
 use Rattle.vcp_inputs.specs.Images.{ImageOf, NotImage}
-use Rattle.vcp_inputs.specs.Refusals.{no_rows}
-use Rattle.vcp_inputs.specs.RowsOutcome.{RowsOutcome, opened, rows_outcome, Opens}
+use Rattle.vcp_inputs.specs.RowsOutcome.{RowsOutcome, rows_outcome, Opens}
+use Rattle.vcp_inputs.specs.RowsRead.{AllRead, NoneRead, at_header, graph_columns}
 use Rattle.vcp_study_core.specs.declared.fault.Fault.{Fault}
 use Rattle.vcp_study_core.specs.declared.fault.Fault.TheVariants as fault
-use Rattle.vcp_study_core.specs.FlipsReach.{at_header, at_row, LacksRows, ReadsRows, rows_for, WritesFlips}
+use Rattle.vcp_study_core.specs.FlipsReach.{LacksRows, ReadsRows, WritesFlips}
 use Rattle.vcp_study_core.specs.FlipsReach.{ReachesRows, in_rows, lost_rows, no_columns, ReachesFlips, in_image, lost_image}
 use Rattle.vcp_study_core.specs.Reach.{IsUnread}
 use Rattle.vcp_study_core.proofs.Reaching.{appends-nothing}
 
 -- ---- rows
 
-pub row_refused : (o : RowsOutcome) (left : RowsLeft) (f : RowFault) → o ≡ opened left → (f ≢ row.Memory → left.refusal ≡ Some f)
-    → LacksRows o 0 0 (no_rows f)
-row_refused o left row.Header comes behind = at_row left row.Header comes (behind (λ e. cc))
-row_refused o left (row.Width k) comes behind = at_row left (row.Width k) comes (behind (λ e. cc))
-row_refused o left (row.Cell k place) comes behind = at_row left (row.Cell k place) comes (behind (λ e. cc))
-row_refused o left row.Form comes behind = at_row left row.Form comes (behind (λ e. cc))
-row_refused o left row.Cycles comes behind = at_row left row.Cycles comes (behind (λ e. cc))
-row_refused o left row.Cycle comes behind = at_row left row.Cycle comes (behind (λ e. cc))
-row_refused o left row.Memory comes behind = tt
-
-pub row_read : {X : Type 0} (f : RowFault) (r : Result X NoInput) → r ≡ Err (no_rows f) → r ≢ Err input.Unread
-row_read row.Header r is = λ e. cc
-row_read (row.Width k) r is = λ e. cc
-row_read (row.Cell k place) r is = λ e. cc
-row_read row.Form r is = λ e. cc
-row_read row.Cycles r is = λ e. cc
-row_read row.Cycle r is = λ e. cc
-row_read row.Memory r is = λ e. cc
-
 pub not_opened : (o : RowsOutcome) (b n : ℕ) (i : NoInput) → Opens o b n (Err i) → LacksRows o b n i
 not_opened o b n input.Unread opens = opens
 not_opened o b n (input.Refused r) opens = at_header r opens
 not_opened o b n input.Memory opens = tt
 
--- what isn't for want of a file is so whatever was counted
-lacks_at : (o : RowsOutcome) (b n : ℕ) (i : NoInput) → i ≢ input.Unread → LacksRows o 0 0 i → LacksRows o b n i
-lacks_at o b n input.Unread read lacks = absurd (read refl)
-lacks_at o b n (input.Refused r) read lacks = lacks
-lacks_at o b n input.Memory read lacks = tt
-
 -- what was read of a source that comes to the same as ROWS
-pub of_source : (o s : RowsOutcome) (b n : ℕ) (r : Result (List (List ℤ)) NoInput) → o ≡ s → r ≢ Err input.Unread → ReadsRows s 0 0 r → ReadsRows o b n r
-of_source o s b n (Ok rows) same read reads = rw same reads
-of_source o s b n (Err why) same read reads = rw same (lacks_at s b n why (λ e. read (ap Err e)) reads)
+pub of_source : (o s : RowsOutcome) (b n : ℕ) (r : Result (List (List ℤ)) NoInput) → o ≡ s → IfOk r (AllRead s) → IfErr r (NoneRead s) → ReadsRows o b n r
+of_source o s b n (Ok rows) same all none = rw same all
+of_source o s b n (Err input.Unread) same all none = absurd none
+of_source o s b n (Err (input.Refused r)) same all none = rw same none
+of_source o s b n (Err input.Memory) same all none = tt
 
 -- as wide as the columns, and so as the inputs
 pub as_wide : (g : Lists) (columns : List Column) (rows : List (List ℤ)) → All (λ r. length r ≡ length columns) rows
@@ -77,7 +52,7 @@ lacks_before o b m n le input.Memory lacks = lacks
 rows_before : (i : Image) (rows : Rows) (which : Chosen) (held : Held) (old new : Option (List ℕ)) (b m n : ℕ) → b ≤ m
     → (r : Result ℕ Fault) → ReachesRows i rows which held old new m n r → ReachesRows i rows which held old new b n r
 rows_before i rows which held old new b m n le _ (in_rows list are r writes) = in_rows list are r writes
-rows_before i rows which held old new b m n le _ (lost_rows why lacks none) = lost_rows why (lacks_before (rows_for rows held i.graph) b m n le why lacks) none
+rows_before i rows which held old new b m n le _ (lost_rows why lacks none) = lost_rows why (lacks_before (rows_outcome rows held (graph_columns i.graph)) b m n le why lacks) none
 rows_before i rows which held old new b m n le _ (no_columns none) = no_columns none
 
 -- ---- how far it comes

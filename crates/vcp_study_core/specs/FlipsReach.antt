@@ -1,53 +1,33 @@
 -- FlipsReach: how far `sites M ROWS flips` comes before its fault's line, if there is one, is printed.
-use Rattle.std.specs.Prelude.{ℕ, ℤ, ◌≡◌, ◌⊎◌, List, [], map, codes, Option, Some, None, Result, Ok, Err}
+use Rattle.std.specs.Prelude.{ℕ, ℤ, ◌≡◌, ◌⊎◌, List, [], codes, Option, Result, Ok, Err}
 use Rattle.std.specs.Io.KnownBytes.{Appends}
 use Rattle.vcp_base.specs.Limits.{most_image_bytes}
 use Rattle.vcp_outside.specs.Counts.{Rose}
 use Rattle.vcp_outside.specs.Held.{Held}
-use Rattle.input_rows.specs.declared.fault.RowFault.{RowFault}
-use Rattle.input_rows.specs.RowsOf.{RowsLeft}
-use Rattle.op_graph.specs.Lists.{Lists, column}
 use Rattle.fault_sites.specs.Flips.{flips}
 use Rattle.site_scripts.specs.declared.chosen.Chosen.{Chosen}
 use Rattle.vcp_words.specs.Forms.{Rows}
 use Rattle.vcp_inputs.specs.declared.images.Image.{Image}
 use Rattle.vcp_inputs.specs.declared.refusal.NoInput.{NoInput}
 use Rattle.vcp_inputs.specs.declared.refusal.NoInput.TheVariants as input
-use Rattle.vcp_inputs.specs.declared.refusal.Refusal.{Refusal}
-use Rattle.vcp_inputs.specs.declared.refusal.Refusal.TheVariants as refusal
 use Rattle.vcp_inputs.specs.Files.{NotLoaded}
 use Rattle.vcp_inputs.specs.Images.{NotImage}
-use Rattle.vcp_inputs.specs.RowsOutcome.{RowsOutcome, lacking, refused, opened, rows_outcome}
+use Rattle.vcp_inputs.specs.RowsOutcome.{RowsOutcome, lacking, rows_outcome}
+use Rattle.vcp_inputs.specs.RowsRead.{AllRead, RowsBroken, graph_columns}
 use Rattle.vcp_study_core.specs.declared.fault.Fault.{Fault}
 use Rattle.vcp_study_core.specs.declared.fault.Fault.TheVariants as fault
 use Rattle.vcp_study_core.specs.Reach.{IsImage}
 use Rattle.vcp_study_core.specs.SitesReach.{WritesOf}
 
--- what ROWS come to for the inputs of a graph
-abbrev pub rows_for : Rows → Held → Lists → RowsOutcome
-rows_for rows held g = rows_outcome rows held (map (column g.names) g.inputs)
-
--- these are all rows, of which none is refused
-pub record AreRows (o : RowsOutcome) (rows : List (List ℤ)) : Type 0 where
-  pub left : RowsLeft
-  pub comes : o ≡ opened left
-  pub are : left.rows ≡ rows
-  pub whole : left.refusal ≡ None
-
--- why rows are refused: at their header, or at a row
-pub data RefusesRows (o : RowsOutcome) : Refusal → Type 0 where
-  at_header : (r : Refusal) → o ≡ refused r → RefusesRows o r
-  at_row : (left : RowsLeft) (why : RowFault) → o ≡ opened left → left.refusal ≡ Some why → RefusesRows o (refusal.Rows why)
-
 -- why there are none: their file is lacking or couldn't be read, they are refused, or memory was wanted
 abbrev pub LacksRows : RowsOutcome → ℕ → ℕ → NoInput → Type 0
 LacksRows o b n input.Unread = (o ≡ lacking) ⊎ Rose b n
-LacksRows o b n (input.Refused r) = RefusesRows o r
+LacksRows o b n (input.Refused r) = RowsBroken o r
 LacksRows o b n input.Memory = Unit {0}
 
 -- what is read of ROWS: all rows, or why there are none
 abbrev pub ReadsRows : RowsOutcome → ℕ → ℕ → Result (List (List ℤ)) NoInput → Type 0
-ReadsRows o b n (Ok rows) = AreRows o rows
+ReadsRows o b n (Ok rows) = AllRead o rows
 ReadsRows o b n (Err why) = LacksRows o b n why
 
 -- how far it is written of the flips of the run over these rows of an image's graph what is chosen
@@ -57,9 +37,9 @@ WritesFlips i rows which old new result = WritesOf i (codes "flips") (flips i.ta
 -- How far this comes of an image: of the flips of the run over ROWS it is written so far; or there is nothing of ROWS, or no memory, and nothing
 -- is written.
 pub data ReachesRows (i : Image) (rows : Rows) (which : Chosen) (held : Held) (old new : Option (List ℕ)) (b n : ℕ) : Result ℕ Fault → Type 0 where
-  in_rows : (list : List (List ℤ)) → AreRows (rows_for rows held i.graph) list → (r : Result ℕ Fault) → WritesFlips i list which old new r
+  in_rows : (list : List (List ℤ)) → AllRead (rows_outcome rows held (graph_columns i.graph)) list → (r : Result ℕ Fault) → WritesFlips i list which old new r
       → ReachesRows i rows which held old new b n r
-  lost_rows : (why : NoInput) → LacksRows (rows_for rows held i.graph) b n why → Appends old new []
+  lost_rows : (why : NoInput) → LacksRows (rows_outcome rows held (graph_columns i.graph)) b n why → Appends old new []
       → ReachesRows i rows which held old new b n (Err (fault.Rows why))
   no_columns : Appends old new [] → ReachesRows i rows which held old new b n (Err fault.Memory)
 

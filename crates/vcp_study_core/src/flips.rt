@@ -1,53 +1,25 @@
 //! The command `sites` for flips of bits, up to the line of its fault.
 
-ghost use Rattle.std.specs.Prelude.{◌≡◌, ◌≢◌, ◌≤◌, All, IfSome, IfOk, IfErr, OnOk, Err, length, map};
+ghost use Rattle.std.specs.Prelude.{◌≡◌, ◌≤◌, All, IfSome, IfOk, IfErr, OnOk, Err, length};
 ghost use Rattle.std.specs.Io.KnownBytes.{IsAtEnd};
 ghost use Rattle.vcp_base.specs.Limits.{most_cycles, most_names};
 ghost use Rattle.vcp_outside.specs.Counts.{Rose};
-ghost use Rattle.op_graph.specs.Lists.{column};
 ghost use Rattle.signature_table.specs.Signatures.{table_of};
 ghost use Rattle.vcp_words.specs.Forms.{rows_of, AreFew};
-ghost use Rattle.vcp_inputs.specs.RowsOutcome.{HasFewCycles, rows_outcome, source_outcome};
+ghost use Rattle.vcp_inputs.specs.RowsOutcome.{rows_outcome};
 ghost use Rattle.vcp_study_core.specs.Reach.{IsUnread};
 ghost use Rattle.vcp_study_core.specs.FlipsReach.{ReadsRows, WritesFlips, ReachesRows, ReachesFlips};
 ghost use Rattle.vcp_inputs.specs.declared.refusal.NoInput.TheVariants as input;
 ghost use Rattle.vcp_study_core.specs.declared.fault.Fault.TheVariants as fault;
 
 use crate::fault::Fault;
-use input_rows::{RowList, collect_rows};
-use op_graph::Graph;
+use input_rows::RowList;
 use site_scripts::{Chosen, Unwritten, write_chosen_flips};
 use std::alloc::Global;
-use vcp_base::{Columns, Memory, Text};
-use vcp_inputs::{Image, NoInput, RowsSource, load_image, load_rows};
+use vcp_base::{Columns, Text};
+use vcp_inputs::{Image, NoInput, graph_columns, load_image, load_rows, whole_rows};
 use vcp_outside::{Files, Sink};
 use vcp_words::RowsWord;
-
-/// The columns of a graph's inputs, of which there are no more than names.
-fn graph_columns(alloc: Global, graph: &Graph) -> Result<Columns, Memory>
-    ensures columns { IfOk result (λ columns. columns ≡ map (column graph.now.names) graph.now.inputs) }
-    ensures few { IfOk result (λ columns. length columns ≤ most_names) }
-{
-    let _rules = graph.len();
-    graph.columns(alloc)
-}
-
-/// All rows of a source for these columns, none of which is refused.
-fn whole_rows(alloc: Global, source: &RowsSource, columns: &Columns) -> Result<RowList, NoInput>
-    requires few { HasFewCycles source.now }
-    requires narrow { length columns.now ≤ most_names }
-    ensures reads { ReadsRows (source_outcome source.now columns.now) 0 0 result }
-    ensures read { result ≢ Err input.Unread }
-    ensures width { IfOk result (λ list. All (λ row. length row ≡ length columns.now) list) }
-    ensures few { IfOk result (λ list. length list ≤ most_cycles) }
-{
-    let rows = match source.open(alloc, columns) {
-        Ok(rows) => rows,
-        Err(input) => return Err(input),
-    };
-    let list = collect_rows(alloc, rows)?;
-    Ok(list)
-}
 
 /// All rows of ROWS for these columns.
 fn load_list<F: Files>(

@@ -10,7 +10,7 @@ use Rattle.fault_script.specs.Groups.{line_of}
 use Rattle.fault_injector.specs.declared.verdict.Verdict.{Verdict}
 use Rattle.fault_injector.specs.declared.verdict.Verdict.TheVariants as verdict
 use Rattle.verdict_lines.specs.declared.lines.Totals.{Totals}
-use Rattle.run_report.specs.OutputNames.{output_name}
+use Rattle.run_report.specs.Variables.{output_name}
 use Rattle.run_report.specs.Lines.{cause_text, turn_text, refused_front}
 
 -- why an operation stopped, its place in the source, and the turns round it, outermost first

@@ -6,7 +6,7 @@ use Rattle.vcp_base.specs.declared.kind.StopKind.TheVariants as stop
 use Rattle.vcp_base.specs.Numerals.{integer_of, in_type}
 use Rattle.vcp_base.specs.Spellings.{stop_name}
 use Rattle.op_graph.specs.Lists.{Lists}
-use Rattle.run_report.specs.OutputNames.{output_name}
+use Rattle.run_report.specs.Variables.{output_name}
 use Rattle.fault_script.specs.Forms.{number_below, cycle_of}
 use Rattle.fault_injector.specs.declared.verdict.Verdict.{Verdict}
 use Rattle.fault_injector.specs.declared.verdict.Verdict.TheVariants as verdict

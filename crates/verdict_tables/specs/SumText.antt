@@ -2,7 +2,7 @@
 use Rattle.std.specs.Prelude.{ℕ, zero, suc, ◌==◌, ◌&&◌, Bool, true, false, cond, nat_lt, List, [], ◌++◌, length, slice_get, Option, Some, None}
 use Rattle.std.specs.Prelude.{decimal, codes, flat_map}
 use Rattle.op_graph.specs.Lists.{Lists}
-use Rattle.run_report.specs.OutputNames.{output_name}
+use Rattle.run_report.specs.Variables.{output_name}
 use Rattle.fault_script.specs.declared.act.Fault.{Fault}
 use Rattle.fault_script.specs.Groups.{line_of}
 use Rattle.fault_sites.specs.Sites.{site}

@@ -2,59 +2,13 @@
 
 ghost use Rattle.std.specs.Prelude.{◌≡◌, ◌++◌, Some, codes, slice_get, unsigned_abs};
 ghost use Rattle.gathered_line.specs.Gathering.{GathersTo};
-ghost use Rattle.run_report.specs.OutputNames.{output_name as output_name_of};
-ghost use Rattle.verdict_tables.specs.Places.{name_at as name_at_of, input_name as input_name_of, cell_name as cell_name_of};
 ghost use Rattle.verdict_tables.specs.Places.{variable_text, operation_text};
 
 use gathered_line::Line;
 use op_graph::{Graph, Op};
-use run_report::then_source;
+use run_report::{then_source, variable_name};
 use vcp_base::{Kind, kind_name};
 use vcp_outside::Sink;
-
-/// Name `n`, and nothing where there is no such name.
-fn name_at(graph: &Graph, n: u32) -> &[u8]
-    ensures { result.now ≡ name_at_of graph.now n }
-{
-    if n < graph.names() {
-        graph.name(n).bytes()
-    } else {
-        b""
-    }
-}
-
-/// The name of input `n`, and nothing where there is no such input.
-fn input_name(graph: &Graph, n: u64) -> &[u8]
-    ensures { result.now ≡ input_name_of graph.now n }
-{
-    if n < graph.inputs() as u64 {
-        name_at(graph, graph.input(n as u32).name)
-    } else {
-        b""
-    }
-}
-
-/// The name of cell `n`, and nothing where there is no such cell.
-fn cell_name(graph: &Graph, n: u64) -> &[u8]
-    ensures { result.now ≡ cell_name_of graph.now n }
-{
-    if n < graph.cells() as u64 {
-        name_at(graph, graph.cell(n as u32).name)
-    } else {
-        b""
-    }
-}
-
-/// The name of output `n`, and nothing where there is no such output.
-pub(crate) fn output_name(graph: &Graph, n: u64) -> &[u8]
-    ensures { result.now ≡ output_name_of graph.now n }
-{
-    if n < graph.outputs() as u64 {
-        run_report::output_name(graph, n as u32).bytes()
-    } else {
-        b""
-    }
-}
 
 /// Goes on with a space and a name.
 fn then_name<O: Sink>(line: &mut Line, out: &mut O, name: &[u8])
@@ -69,9 +23,9 @@ fn then_variable<O: Sink>(line: &mut Line, out: &mut O, graph: &Graph, kind: Kin
     ensures { GathersTo (O.seen out.old) (O.seen out.new) line.old line.new (variable_text graph.now kind n) }
 {
     match kind {
-        Kind::Input => then_name(line, out, input_name(graph, n)),
-        Kind::Load | Kind::Store => then_name(line, out, cell_name(graph, n)),
-        Kind::Out => then_name(line, out, output_name(graph, n)),
+        Kind::Input | Kind::Load | Kind::Store | Kind::Out => {
+            then_name(line, out, variable_name(graph, kind, n))
+        }
         _ => {}
     }
 }

@@ -9,12 +9,14 @@ ghost use Rattle.verdict_tables.specs.SumText.{blanks_before as blanks_before_of
 ghost use Rattle.verdict_tables.specs.declared.tables.Table.TheVariants as table;
 
 use crate::counts::totals_in;
-use crate::names::{output_name, then_operation};
+use crate::names::then_operation;
 use crate::tables::{OWN_DELAYS, Table, rows};
 use crate::verdicts::Verdicts;
 use fault_script::Script;
 use gathered_line::Line;
 use op_graph::Graph;
+use run_report::variable_name;
+use vcp_base::Kind;
 use vcp_outside::Sink;
 use verdict_lines::Totals;
 
@@ -61,7 +63,7 @@ fn then_output<O: Sink>(line: &mut Line, out: &mut O, graph: &Graph, n: u32)
     ensures { GathersTo (O.seen out.old) (O.seen out.new) line.old line.new (row_name graph.now table.Outputs n) }
 {
     line.text(out, b"output ");
-    line.text(out, output_name(graph, n as u64));
+    line.text(out, variable_name(graph, Kind::Out, n as u64));
 }
 
 /// Goes on with what row `n` of a table counts.

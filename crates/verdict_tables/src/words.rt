@@ -2,16 +2,17 @@
 
 ghost use Rattle.std.specs.Prelude.{◌≡◌, ◌<◌, ◌≤◌, ◌^◌, IfSome, length, option_map};
 ghost use Rattle.vcp_base.specs.Limits.{most_cycles};
-ghost use Rattle.fault_script.specs.Forms.{number_below as number_below_of, cycle_of};
+ghost use Rattle.fault_script.specs.Forms.{cycle_of};
 ghost use Rattle.fault_injector.specs.Names.{Names};
 ghost use Rattle.verdict_tables.specs.Outcome.{value_of, numbers_of, named_then, output_named, shown_of, as_wrong, as_refused, stop_of};
 ghost use Rattle.verdict_tables.specs.Outcome.{stopped_of, ran_on_of, meant as meant_of};
 
 use fault_injector::Verdict;
+use fault_script::cycle_number;
 use op_graph::Graph;
 use run_report::output_name;
 use script_text::WordsLeft;
-use vcp_base::{MOST_CYCLES, StopKind, Ty, number_in, numeral, stop_name};
+use vcp_base::{StopKind, Ty, number_in, stop_name};
 
 /// Two numbers.
 #[derive(Clone, Copy, Debug)]
@@ -31,27 +32,6 @@ pub(crate) struct Shown {
     pub output: u32,
     /// The two numbers that are told of it.
     pub numbers: Numbers,
-}
-
-/// The number that one to ten digits write, where it is below the bound.
-fn number_below(bound: u64, word: &[u8]) -> Option<u32>
-    requires { bound ≤ 2 ^ 32 }
-    ensures value { result ≡ number_below_of bound word.now }
-    ensures below { IfSome result (λ n. n < bound) }
-{
-    let number = numeral(word)?;
-    if number < bound {
-        Some(number as u32)
-    } else {
-        None
-    }
-}
-
-/// The number of a cycle, below 1,000,000.
-fn cycle(word: &[u8]) -> Option<u32>
-    ensures { result ≡ cycle_of word.now }
-{
-    number_below(MOST_CYCLES as u64, word)
 }
 
 /// The number of 64 bits that a word writes.
@@ -108,7 +88,7 @@ fn shown_at(graph: &Graph, words: &mut WordsLeft<'_>) -> Option<Shown>
 {
     let n = words.next()?;
     let name = words.next()?;
-    let cycle = cycle(n)?;
+    let cycle = cycle_number(n)?;
     let output = output(graph, name)?;
     let numbers = two_numbers(words)?;
     Some(Shown {
@@ -166,7 +146,7 @@ fn stopped(graph: &Graph, words: &mut WordsLeft<'_>) -> Option<Verdict>
     let n = words.next()?;
     let k = words.next()?;
     let why = words.next()?;
-    let cycle = cycle(n)?;
+    let cycle = cycle_number(n)?;
     let op = number_below(graph.len() as u64, k)?;
     let kind = stop(why)?;
     Some(Verdict::Stopped { cycle, op, kind })
@@ -176,7 +156,7 @@ fn stopped(graph: &Graph, words: &mut WordsLeft<'_>) -> Option<Verdict>
 fn ran_on(words: &mut WordsLeft<'_>) -> Option<Verdict>
     ensures { result ≡ ran_on_of words.old }
 {
-    let cycle = cycle(words.next()?)?;
+    let cycle = cycle_number(words.next()?)?;
     Some(Verdict::RanOn { cycle })
 }
 

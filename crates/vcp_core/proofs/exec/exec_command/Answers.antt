@@ -12,7 +12,8 @@ use Rattle.command_meaning.specs.Printing.{every_row, no_words}
 use Rattle.command_meaning.specs.Reports.{subject_outputs}
 use Rattle.vcp_core.specs.MachineRun.{RunsTo}
 use Rattle.vcp_core.proofs.PrintedRun.{rows-shown}
-use Rattle.vcp_core.specs.Tasks.{table_code, graph_columns, rows_job, ExecTask}
+use Rattle.vcp_inputs.specs.RowsRead.{graph_columns}
+use Rattle.vcp_core.specs.Tasks.{table_code, rows_job, ExecTask}
 use Rattle.vcp_core.proofs.Facts.{if_some_weaker}
 use Rattle.vcp_core.proofs.ImageLoaded.{image-carried, image_not_bytes, table-is-of, types-width}
 use Rattle.vcp_core.proofs.LoadedRows.{opened_comes, rows_may, rows_unloaded, rows_unopened}

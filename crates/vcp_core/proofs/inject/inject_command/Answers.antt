@@ -9,7 +9,8 @@ use Rattle.vcp_inputs.specs.Scripts.{NotScript}
 use Rattle.command_meaning.specs.Abouts.{about, image_word, script_word}
 use Rattle.command_meaning.specs.FileTasks.{TakenRows}
 use Rattle.machine_run.specs.Moments.{moment}
-use Rattle.vcp_core.specs.Tasks.{InjectTask, graph_columns}
+use Rattle.vcp_inputs.specs.RowsRead.{graph_columns}
+use Rattle.vcp_core.specs.Tasks.{InjectTask}
 use Rattle.vcp_core.proofs.Facts.{if_some_always, if_some_weaker, if_some_both, if_some_same}
 use Rattle.vcp_core.proofs.ImageLoaded.{image_not_bytes, table-is-of}
 use Rattle.vcp_core.proofs.JudgedTasks.{LoadsAt, OnLeft, campaign_of, campaign_performs, groups_come as groups_come_to, judged_to as judged_so_far}

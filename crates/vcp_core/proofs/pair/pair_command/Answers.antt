@@ -9,7 +9,8 @@ use Rattle.vcp_inputs.specs.Images.{ImageOf, NotImage}
 use Rattle.command_meaning.specs.Abouts.{about, image_word}
 use Rattle.command_meaning.specs.Kinds.{compares}
 use Rattle.vcp_core.specs.ChannelsRun.{ComparesTo}
-use Rattle.vcp_core.specs.Tasks.{Apart, Compared, PairTask, graph_columns, pair_job}
+use Rattle.vcp_inputs.specs.RowsRead.{graph_columns}
+use Rattle.vcp_core.specs.Tasks.{Apart, Compared, PairTask, pair_job}
 use Rattle.vcp_core.proofs.TwoChannels.{ApartImage, Comparing, apart_comes, compared, loads_apart, performs_by, seed_refused}
 use Rattle.vcp_core.proofs.Facts.{if_some_always, if_some_weaker}
 use Rattle.vcp_core.proofs.ImageLoaded.{image_not_bytes, types-width}

@@ -6,7 +6,7 @@ pub returns-in-Ok-clause-reads : goal.returns-in-Ok-clause-reads
 returns-in-Ok-clause-reads g c =
     if_some_weaker (g.F.Files.seen c.args.files.now).held _ _
     (λ h loads. of_source _ _ (g.F.Files.seen c.args.files.now).broken (g.F.Files.seen c.load_rows.new.files).broken c.whole_rows.result loads
-    c.whole_rows.ensures.read c.whole_rows.ensures.reads) c.in-Ok.ensures.loads
+    c.whole_rows.ensures.rows c.whole_rows.ensures.fault) c.in-Ok.ensures.loads
 
 pub returns-in-Err-clause-reads : goal.returns-in-Err-clause-reads
 returns-in-Err-clause-reads g c =

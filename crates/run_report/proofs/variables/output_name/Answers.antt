@@ -1,6 +1,6 @@
 use Rattle.std.proofs.Common.{[], sym}
 use Rattle.std.proofs.lemmas.Option.{get_or_from_slice_get}
-use Rattle.run_report.proofs.output_names.output_name.Goals as goal
+use Rattle.run_report.proofs.variables.output_name.Goals as goal
 
 pub name-requires : goal.name-requires
 name-requires c = (c.entries_keep_their_rules.ensures.output c.args.graph.now c.args.i c.output.result c.len-count.ensures.rules.part c.output.ensures).name

@@ -2,8 +2,8 @@ use Rattle.std.proofs.Common.{ap, sym, Err}
 use Rattle.std.proofs.lemmas.Result.{err_from_is_err_and}
 use Rattle.vcp_inputs.specs.RowsOutcome.{source_outcome}
 use Rattle.vcp_inputs.proofs.Causes.{row_caused}
-use Rattle.vcp_core.proofs.JudgedTasks.{row_refused, not_opened}
-use Rattle.vcp_core.proofs.loading.whole_rows.Goals as goal
+use Rattle.vcp_inputs.proofs.RowsRead.{row_refused, not_opened}
+use Rattle.vcp_inputs.proofs.whole.whole_rows.Goals as goal
 
 pub returns-in-Err-clause-fault : goal.returns-in-Err-clause-fault
 returns-in-Err-clause-fault c =
