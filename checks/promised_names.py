@@ -8,7 +8,7 @@ Of docs/CLAUSES.md, each promise of a crate's section, with its parts:
 - 'clause', which each promise has, names things of the crate: functions, types or traits of its code, names of clauses, or definitions
   of specs/ of any crate; a name behind the dot of `call.clause` is a clause of that call, or a field of that definition;
 - 'read' names modules of specs/, of the crate itself where no other is named;
-- 'broken by' names files of the crate's must-fail/, and each such file is at one promise at least;
+- 'broken by' names files of the crate's must-fail/ or of its folder of checks/edits/, and each such file is at one promise at least;
 - 'test' names #[test] functions of crates, or sessions of play_sessions;
 - each public function and method of the crate is named as a clause, or its type is;
 - no promise of a crate stands twice, none stands in a table, and the contents have each section;
@@ -33,6 +33,7 @@ from pathlib import Path
 
 TOP = Path(__file__).resolve().parent.parent
 CRATES = TOP / "crates"
+CHECKS = TOP / "checks"
 PROMISES = TOP / "docs" / "PROMISES.md"
 CLAUSES = TOP / "docs" / "CLAUSES.md"
 ASSESSOR = TOP / "docs" / "ASSESSOR.md"
@@ -191,9 +192,18 @@ def below(crates, crate):
     return found
 
 
+def folders_of_edits(crate):
+    """Where edits of a crate stand: those that the gate tries, and those that are tried by hand."""
+    return CRATES / crate / "must-fail", CHECKS / "edits" / crate
+
+
+def has_edit(crate, name):
+    return any((folder / f"{name}.edit").is_file() for folder in folders_of_edits(crate))
+
+
 def faults_of_section(crate, rows, names, fields):
     code = Code(crate)
-    edits = {file.stem for file in (CRATES / crate / "must-fail").glob("*.edit")}
+    edits = {file.stem for folder in folders_of_edits(crate) for file in folder.glob("*.edit")}
     named = set()
     for row in rows:
         clauses = quoted(row.get("clause", ""))
@@ -206,7 +216,7 @@ def faults_of_section(crate, rows, names, fields):
             if not (CRATES / (owner or crate) / "specs" / f"{module}.antt").is_file():
                 yield f"the module `{cited}` isn't there"
         for cited in quoted(row.get("broken by", "")):
-            if not (CRATES / crate / "must-fail" / f"{cited}.edit").is_file():
+            if not has_edit(crate, cited):
                 yield f"the edit `{cited}` isn't there"
             edits.discard(cited)
         for cited in quoted(row.get("test", "")):
@@ -252,7 +262,7 @@ def faults_of_claims(names, fields):
                 yield f"claim {number}: the clause `{cited}` isn't there"
         for cited in quoted(parts.get("broken by", "")):
             crate, _, edit = cited.partition("::")
-            if edit and not (CRATES / crate / "must-fail" / f"{edit}.edit").is_file():
+            if edit and not has_edit(crate, edit):
                 yield f"claim {number}: the edit `{cited}` isn't there"
         read, _, said = parts.get("read", "").rpartition(": ")
         for crate, module in modules_in(read):
@@ -270,7 +280,7 @@ def faults_of_cited_names(names, fields):
         crate, _, rest = cited.partition("::")
         if re.fullmatch(r"[\w:.]+", rest) and (CRATES / crate).is_dir():
             code = codes.setdefault(crate, codes.get(crate) or Code(crate))
-            if not code.has(rest, names, fields) and not (CRATES / crate / "must-fail" / f"{rest}.edit").is_file():
+            if not code.has(rest, names, fields) and not has_edit(crate, rest):
                 yield f"`{cited}` isn't there"
 
 
