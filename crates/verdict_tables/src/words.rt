@@ -1,8 +1,7 @@
 //! Which verdict the words of a line may mean.
 
-ghost use Rattle.std.specs.Prelude.{◌≡◌, ◌<◌, ◌≤◌, ◌^◌, IfSome, length, option_map};
-ghost use Rattle.vcp_base.specs.Limits.{most_cycles};
-ghost use Rattle.fault_script.specs.Forms.{cycle_of};
+ghost use Rattle.std.specs.Prelude.{◌≡◌, ◌<◌, IfSome, length, option_map};
+ghost use Rattle.fault_script.specs.Forms.{number_below};
 ghost use Rattle.fault_injector.specs.Names.{Names};
 ghost use Rattle.verdict_tables.specs.Outcome.{value_of, numbers_of, named_then, output_named, shown_of, as_wrong, as_refused, stop_of};
 ghost use Rattle.verdict_tables.specs.Outcome.{stopped_of, ran_on_of, meant as meant_of};
@@ -12,7 +11,7 @@ use fault_script::cycle_number;
 use op_graph::Graph;
 use run_report::output_name;
 use script_text::WordsLeft;
-use vcp_base::{StopKind, Ty, number_in, stop_name};
+use vcp_base::{StopKind, Ty, number_in, numeral, stop_name};
 
 /// Two numbers.
 #[derive(Clone, Copy, Debug)]
@@ -138,6 +137,19 @@ fn stop(word: &[u8]) -> Option<StopKind>
     None
 }
 
+/// The operation of a graph whose number a word writes.
+fn operation_number(graph: &Graph, word: &[u8]) -> Option<u32>
+    ensures value { result ≡ number_below (length graph.now.operations) word.now }
+    ensures there { IfSome result (λ n. n < length graph.now.operations) }
+{
+    let number = numeral(word)?;
+    if number < graph.len() as u64 {
+        Some(number as u32)
+    } else {
+        None
+    }
+}
+
 /// The words behind `stopped`.
 fn stopped(graph: &Graph, words: &mut WordsLeft<'_>) -> Option<Verdict>
     ensures value { result ≡ stopped_of graph.now words.old }
@@ -147,7 +159,7 @@ fn stopped(graph: &Graph, words: &mut WordsLeft<'_>) -> Option<Verdict>
     let k = words.next()?;
     let why = words.next()?;
     let cycle = cycle_number(n)?;
-    let op = number_below(graph.len() as u64, k)?;
+    let op = operation_number(graph, k)?;
     let kind = stop(why)?;
     Some(Verdict::Stopped { cycle, op, kind })
 }
