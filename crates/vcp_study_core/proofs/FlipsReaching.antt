@@ -1,5 +1,5 @@
 -- FlipsReaching: how far `sites` comes for flips, from what loading its image and reading its rows give.
-use Rattle.std.proofs.Common.{◌≡◌, inl, inr, ◌≤◌, ℕ, ℤ, List, All, length, map, Option, IfErr, Result, Ok, Err, arith}
+use Rattle.std.proofs.Common.{◌≡◌, inl, inr, ◌≤◌, ℕ, ℤ, List, All, length, map, Option, Some, IfErr, Result, Ok, Err, arith}
 use Rattle.std.specs.Prelude.{IfOk}
 use Rattle.std.proofs.lemmas.List.{length-map}
 use Rattle.vcp_base.specs.Limits.{most_image_bytes}
