@@ -4,7 +4,7 @@ use Rattle.std.proofs.Common.{refl, sym, ap, subst, nat_lt, get_or-take, arith}
 use Rattle.std.proofs.lemmas.Option.{slice_get_within}
 use Rattle.vcp_base.specs.declared.kind.Kind.{Kind}
 use Rattle.vcp_base.specs.declared.kind.Kind.TheVariants as kind
-use Rattle.vcp_base.specs.Kinds.{operands, value}
+use Rattle.vcp_base.specs.Kinds.{operands, value, divides_by_zero}
 use Rattle.vcp_base.specs.Values.{at}
 use Rattle.op_graph.specs.declared.op.Op.{Op}
 use Rattle.op_graph.specs.Lists.{Lists}
@@ -90,6 +90,14 @@ whole_value held row vs i op cells r e are here =
     subst (λ w. IsIn r (V (operand held vs op 0 op.a) (operand held vs op 1 op.b) w)) z
     (subst (λ w. IsIn r (V (operand held vs op 0 op.a) w (operand held (take i vs) op 2 op.c))) y
     (subst (λ w. IsIn r (V w (operand held (take i vs) op 1 op.b) (operand held (take i vs) op 2 op.c))) x (subst (λ w. IsIn r w) (sym front) here)))
+
+-- in a whole cycle no divisor is 0
+pub whole_divisor : (held row vs : List ℤ) (i : ℕ) (op : Op) (cells : ℕ) → outcome_of held row (take i vs) op ≡ Ok (at vs i) → OperandsAre cells i op
+    → divides_by_zero op.kind (operand held vs op 1 op.b) ≡ false
+whole_divisor held row vs i op cells e are =
+    let y = operand_front held vs cells i op 1 op.b are.second in
+    let front : divides_by_zero op.kind (operand held (take i vs) op 1 op.b) ≡ false = (ok_says _ _ _ _ (at vs i) e).0 in
+    subst (λ w. divides_by_zero op.kind w ≡ false) y front
 
 read_at : (r : Range) (held vs : List ℤ) (k : Kind) (imm : ℤ) (n : ℕ) → (k ≡ kind.Load → ⊥) → IsIn r (read held vs k imm n) → IsIn r (at vs n)
 read_at r held vs kind.Load imm n other i = absurd (other refl)

@@ -295,7 +295,9 @@ pub(crate) fn ends_by_cases(
     ensures { IfOk result (λ is. is ≡ true → EndsIn graph.now cells.now ranges.now boxes.now count) }
 {
     if depth == 0 {
-        let is = ends(alloc, graph, ranges, boxes, count, missed)?;
+        let whole = earlier_range(ranges, n);
+        let all = closer_part(alloc, graph, cells, ranges, boxes, count, n, whole, left)?;
+        let is = ends(alloc, graph, &all, boxes, count, missed)?;
         return Ok(is);
     }
     let none = has_none(ranges);

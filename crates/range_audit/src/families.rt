@@ -29,6 +29,11 @@ const STEPS: u64 = 1_048_576;
 /// Graphs with more operations aren't searched so.
 const LARGEST: u32 = 8_192;
 
+/// By how many values the cases are told apart: none for one box.
+fn depth_of(count: u32) -> u32 {
+    if count == 1 { 0 } else { VALUES }
+}
+
 /// Whether each whole cycle from cells in the box that begins there ends in one of so many boxes, by the cases of the value of operation `n`.
 fn is_box_kept(
     alloc: Global,
@@ -54,8 +59,9 @@ fn is_box_kept(
     }
     let told = walk(alloc, graph, &cells)?;
     let known = told.known();
+    let depth = depth_of(count);
     let is = ends_by_cases(
-        alloc, graph, &cells, known, boxes, count, n, VALUES, left, missed,
+        alloc, graph, &cells, known, boxes, count, n, depth, left, missed,
     )?;
     Ok(is)
 }
@@ -146,8 +152,11 @@ fn value_in(missed: &[Range], first: usize, place: usize) -> i64 {
     }
 }
 
-/// Where cell `j` stands in the box of a value, where the first box is that of the value `base`.
-fn place_in_box(value: i64, base: i64, many: usize, j: usize) -> usize {
+/// Where cell `j` stands in the box of a value, where the first of so many boxes is that of the value `base`. One box is that of all values.
+fn place_in_box(value: i64, base: i64, count: u32, many: usize, j: usize) -> usize {
+    if count == 1 {
+        return j;
+    }
     let number = value.saturating_sub(base).unsigned_abs() as usize;
     number.saturating_mul(many).saturating_add(j)
 }
@@ -176,6 +185,7 @@ fn grow_one(
     i: usize,
     place: usize,
     base: i64,
+    count: u32,
     step: Step,
     numbers: &[i64],
 )
@@ -190,7 +200,7 @@ fn grow_one(
     }
     let j = i % many;
     let value = value_in(missed, i.saturating_sub(j), place);
-    let there = place_in_box(value, base, many, j);
+    let there = place_in_box(value, base, count, many, j);
     if there < boxes.len() {
         boxes[there] = grown(boxes[there], missed[i], cell_type(graph, j), step, numbers);
     }
@@ -203,13 +213,14 @@ fn grow(
     missed: &[Range],
     place: usize,
     base: i64,
+    count: u32,
     step: Step,
     numbers: &[i64],
 )
     ensures { length boxes.new ≡ length boxes.old }
 {
     'ranges: for i in 0..missed.len() {
-        grow_one(graph, boxes, missed, i, place, base, step, numbers);
+        grow_one(graph, boxes, missed, i, place, base, count, step, numbers);
     }
 }
 
@@ -232,7 +243,16 @@ fn family(
     let n = store_at(graph, place);
     let first = initial_cells(alloc, graph)?;
     let mut boxes = empty_boxes(alloc, graph, count)?;
-    grow(graph, &mut boxes, &first, place, base, Step::Near, numbers);
+    grow(
+        graph,
+        &mut boxes,
+        &first,
+        place,
+        base,
+        count,
+        Step::Near,
+        numbers,
+    );
     'rounds: for round in 0..ROUNDS {
         let spent = *left == 0;
         if spent {
@@ -249,6 +269,7 @@ fn family(
             &missed,
             place,
             base,
+            count,
             step_of(round),
             numbers,
         );
@@ -377,7 +398,36 @@ fn closer_by_each(
     Ok(told)
 }
 
-/// What is told of the operations of a graph, and what is told by the values of each of its cells: first of numbers, as a state is one.
+/// What is told of the operations of a graph, and what is told by one box in which the cells are at the end of each whole cycle.
+fn closer_in_one(
+    alloc: Global,
+    graph: &Graph,
+    ranges: Ranges,
+    left: &mut u64,
+    numbers: &[i64],
+) -> Result<Ranges, Memory>
+    requires graph { IsGraph graph.now }
+    requires audit { IsAudit graph.now ranges }
+    ensures { IfOk result (λ a. IsAudit graph.now a) }
+{
+    let any = names_any(ranges.stops());
+    if !any {
+        return Ok(ranges);
+    }
+    let many = cell_count(graph);
+    let none = many == 0;
+    if none {
+        return Ok(ranges);
+    }
+    let found = family(alloc, graph, 0, 0, 1, left, numbers)?;
+    match found {
+        Some(boxes) => with_family(alloc, graph, &ranges, &boxes, 1),
+        None => Ok(ranges),
+    }
+}
+
+/// What is told of the operations of a graph, and what is told by one box, and by the values of each of its cells: first of numbers, as
+/// a state is one.
 pub(crate) fn closer(alloc: Global, graph: &Graph, ranges: Ranges) -> Result<Ranges, Memory>
     requires graph { IsGraph graph.now }
     requires audit { IsAudit graph.now ranges }
@@ -388,7 +438,8 @@ pub(crate) fn closer(alloc: Global, graph: &Graph, ranges: Ranges) -> Result<Ran
     }
     let numbers = thresholds(alloc, graph)?;
     let mut left = STEPS;
-    let first = closer_by_each(alloc, graph, ranges, false, &mut left, &numbers)?;
+    let one = closer_in_one(alloc, graph, ranges, &mut left, &numbers)?;
+    let first = closer_by_each(alloc, graph, one, false, &mut left, &numbers)?;
     let second = closer_by_each(alloc, graph, first, true, &mut left, &numbers)?;
     Ok(second)
 }

@@ -1,7 +1,7 @@
 //! What the range of an operation's value tells of its operands.
 
 ghost use Rattle.std.specs.Prelude.{◌≡◌, ◌≢◌, ℤ, pos, true, false, ◌&&◌, ◌||◌, ◌-ℤ◌, cond, int_lt};
-ghost use Rattle.vcp_base.specs.Kinds.{same, truth as truth_of, value as value_of};
+ghost use Rattle.vcp_base.specs.Kinds.{divides_by_zero, same, truth as truth_of, value as value_of};
 ghost use Rattle.range_audit.specs.Intervals.{IsIn};
 ghost use Rattle.range_audit.specs.Walking.{Said};
 
@@ -174,9 +174,9 @@ pub(crate) fn first_operand(kind: Kind, r: Range, a: Range, b: Range, c: Range) 
     }
 }
 
-/// The range of its second operand, which is in `b`.
+/// The range of its second operand, which is in `b`. A divisor of an operation that gave a value isn't 0.
 pub(crate) fn second_operand(kind: Kind, r: Range, a: Range, b: Range) -> Range
-    ensures { (imm x y z : ℤ) → IsIn r (value_of kind imm x y z) → IsIn a x → IsIn b y → IsIn result y }
+    ensures { (imm x y z : ℤ) → IsIn r (value_of kind imm x y z) → IsIn a x → IsIn b y → divides_by_zero kind y ≡ false → IsIn result y }
 {
     match kind {
         Kind::And => joined_by_and(r, b, a),
@@ -184,6 +184,8 @@ pub(crate) fn second_operand(kind: Kind, r: Range, a: Range, b: Range) -> Range
         Kind::Eq => equal_to(r, b, a),
         Kind::Lt => more_than(r, a, b),
         Kind::Sel => taken_where_no(r, a, b),
+        Kind::Div => b.without_zero(),
+        Kind::Mod => b.without_zero(),
         _ => b,
     }
 }

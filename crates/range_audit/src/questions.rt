@@ -92,6 +92,9 @@ pub(crate) fn box_of(
     count: u32,
     n: u32,
 ) -> usize {
+    if count == 1 {
+        return 0;
+    }
     let many = graph.cells() as usize;
     let value = range_or(ranges, n as usize);
     let place = cell_of(graph, n);

@@ -12,16 +12,20 @@ returns-then-none t c = λ held row vs hold given whole fit.
     absurd (n.3 (at vs n.0) (fit n.0 n.1 (omega (arith, within, whole, c.requires.many)) n.2))
 
 pub returns-then-depth-eq0 : goal.returns-then-depth-eq0
-returns-then-depth-eq0 t c = λ held row vs hold given whole fit. fit c.args.j c.earlier_range-known.result (omega (arith, whole, c.requires.there)) c.earlier_range-known.ensures
+returns-then-depth-eq0 t c = λ held row vs hold given whole fit.
+    fit c.args.j c.earlier_range-known.result (omega (arith, whole, c.requires.there)) c.earlier_range-known.ensures
 
 pub returns-then-is : goal.returns-then-is
-returns-then-is t c = λ held row vs hold given whole fit. fit c.args.j c.earlier_range-known.result (omega (arith, whole, c.requires.there)) c.earlier_range-known.ensures
+returns-then-is t c = λ held row vs hold given whole fit.
+    fit c.args.j c.earlier_range-known.result (omega (arith, whole, c.requires.there)) c.earlier_range-known.ensures
 
 pub returns-then-nothing : goal.returns-then-nothing
-returns-then-nothing t c = λ held row vs hold given whole fit. fit c.args.j c.earlier_range-known.result (omega (arith, whole, c.requires.there)) c.earlier_range-known.ensures
+returns-then-nothing t c = λ held row vs hold given whole fit.
+    fit c.args.j c.earlier_range-known.result (omega (arith, whole, c.requires.there)) c.earlier_range-known.ensures
 
 pub returns-then-not-enough : goal.returns-then-not-enough
-returns-then-not-enough t c = λ held row vs hold given whole fit. fit c.args.j c.earlier_range-known.result (omega (arith, whole, c.requires.there)) c.earlier_range-known.ensures
+returns-then-not-enough t c = λ held row vs hold given whole fit.
+    fit c.args.j c.earlier_range-known.result (omega (arith, whole, c.requires.there)) c.earlier_range-known.ensures
 
 pub returns : goal.returns
 returns t c = λ held row vs hold given whole fit.

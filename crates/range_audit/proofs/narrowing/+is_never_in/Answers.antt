@@ -13,21 +13,24 @@ returns-then-apart t c = λ e held row vs given fit le i.
 pub is_never_in-first-requires : goal.is_never_in-first-requires
 is_never_in-first-requires t c =
     let op = c.operation-op.result in
-    let are = operands_are c.args.graph.now c.args.m op _ c.entries_keep_their_rules.ensures c.operands_are_there.ensures c.requires.graph c.operation-op.ensures refl in
+    let are = operands_are c.args.graph.now c.args.m op _ c.entries_keep_their_rules.ensures c.operands_are_there.ensures c.requires.graph
+    c.operation-op.ensures refl in
     let second : op.b < c.args.m = there _ c.args.m op.kind op.imm op.b 1 kind.Sel c.in-Sel.is refl are.second in
     (omega arith, (c.requires.graph, (omega (arith, second, c.requires.made), c.requires.many)))
 
 pub is_never_in-second-requires : goal.is_never_in-second-requires
 is_never_in-second-requires t c =
     let op = c.operation-op.result in
-    let are = operands_are c.args.graph.now c.args.m op _ c.entries_keep_their_rules.ensures c.operands_are_there.ensures c.requires.graph c.operation-op.ensures refl in
+    let are = operands_are c.args.graph.now c.args.m op _ c.entries_keep_their_rules.ensures c.operands_are_there.ensures c.requires.graph
+    c.operation-op.ensures refl in
     let third : op.c < c.args.m = there _ c.args.m op.kind op.imm op.c 2 kind.Sel c.in-Sel.is refl are.third in
     (omega arith, (c.requires.graph, (omega (arith, third, c.requires.made), c.requires.many)))
 
 pub returns-else-not-first : goal.returns-else-not-first
 returns-else-not-first t c = λ e held row vs given fit le i.
     let op = c.operation-op.result in
-    let are = operands_are c.args.graph.now c.args.m op _ c.entries_keep_their_rules.ensures c.operands_are_there.ensures c.requires.graph c.operation-op.ensures refl in
+    let are = operands_are c.args.graph.now c.args.m op _ c.entries_keep_their_rules.ensures c.operands_are_there.ensures c.requires.graph
+    c.operation-op.ensures refl in
     let first : op.a < c.args.m = there _ c.args.m op.kind op.imm op.a 0 kind.Sel c.in-Sel.is refl are.first in
     let second : op.b < c.args.m = there _ c.args.m op.kind op.imm op.b 1 kind.Sel c.in-Sel.is refl are.second in
     let third : op.c < c.args.m = there _ c.args.m op.kind op.imm op.c 2 kind.Sel c.in-Sel.is refl are.third in

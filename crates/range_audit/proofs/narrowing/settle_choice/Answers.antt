@@ -9,35 +9,40 @@ use Rattle.range_audit.proofs.narrowing.settle_choice.Goals as goal
 pub earlier_range-a-requires : goal.earlier_range-a-requires
 earlier_range-a-requires c =
     let op = c.operation-op.result in
-    let are = operands_are c.args.graph.now c.args.i op _ c.entries_keep_their_rules.ensures c.operands_are_there.ensures c.requires.graph c.operation-op.ensures refl in
+    let are = operands_are c.args.graph.now c.args.i op _ c.entries_keep_their_rules.ensures c.operands_are_there.ensures c.requires.graph
+    c.operation-op.ensures refl in
     let first : op.a < c.args.i = there _ c.args.i op.kind op.imm op.a 0 kind.Sel c.in-Sel.is refl are.first in
     omega (arith, first, c.requires.there, c.requires.many)
 
 pub is_never_in-not_first-requires : goal.is_never_in-not_first-requires
 is_never_in-not_first-requires c =
     let op = c.operation-op.result in
-    let are = operands_are c.args.graph.now c.args.i op _ c.entries_keep_their_rules.ensures c.operands_are_there.ensures c.requires.graph c.operation-op.ensures refl in
+    let are = operands_are c.args.graph.now c.args.i op _ c.entries_keep_their_rules.ensures c.operands_are_there.ensures c.requires.graph
+    c.operation-op.ensures refl in
     let second : op.b < c.args.i = there _ c.args.i op.kind op.imm op.b 1 kind.Sel c.in-Sel.is refl are.second in
     record { graph = c.requires.graph; made = omega (arith, second, c.requires.there, c.requires.many); many = omega (arith, c.requires.many) }
 
 pub is_never_in-not_second-requires : goal.is_never_in-not_second-requires
 is_never_in-not_second-requires c =
     let op = c.operation-op.result in
-    let are = operands_are c.args.graph.now c.args.i op _ c.entries_keep_their_rules.ensures c.operands_are_there.ensures c.requires.graph c.operation-op.ensures refl in
+    let are = operands_are c.args.graph.now c.args.i op _ c.entries_keep_their_rules.ensures c.operands_are_there.ensures c.requires.graph
+    c.operation-op.ensures refl in
     let third : op.c < c.args.i = there _ c.args.i op.kind op.imm op.c 2 kind.Sel c.in-Sel.is refl are.third in
     record { graph = c.requires.graph; made = omega (arith, third, c.requires.there, c.requires.many); many = omega (arith, c.requires.many) }
 
 pub put-requires : goal.put-requires
 put-requires c =
     let op = c.operation-op.result in
-    let are = operands_are c.args.graph.now c.args.i op _ c.entries_keep_their_rules.ensures c.operands_are_there.ensures c.requires.graph c.operation-op.ensures refl in
+    let are = operands_are c.args.graph.now c.args.i op _ c.entries_keep_their_rules.ensures c.operands_are_there.ensures c.requires.graph
+    c.operation-op.ensures refl in
     let first : op.a < c.args.i = there _ c.args.i op.kind op.imm op.a 0 kind.Sel c.in-Sel.is refl are.first in
     omega (arith, first, c.requires.there, c.requires.many)
 
 pub returns-in-Sel-clause-fits : goal.returns-in-Sel-clause-fits
 returns-in-Sel-clause-fits c = λ held row vs given whole fit.
     let op = c.operation-op.result in
-    let are = operands_are c.args.graph.now c.args.i op _ c.entries_keep_their_rules.ensures c.operands_are_there.ensures c.requires.graph c.operation-op.ensures refl in
+    let are = operands_are c.args.graph.now c.args.i op _ c.entries_keep_their_rules.ensures c.operands_are_there.ensures c.requires.graph
+    c.operation-op.ensures refl in
     let first : op.a < c.args.i = there _ c.args.i op.kind op.imm op.a 0 kind.Sel c.in-Sel.is refl are.first in
     let second : op.b < c.args.i = there _ c.args.i op.kind op.imm op.b 1 kind.Sel c.in-Sel.is refl are.second in
     let third : op.c < c.args.i = there _ c.args.i op.kind op.imm op.c 2 kind.Sel c.in-Sel.is refl are.third in

@@ -9,21 +9,24 @@ use Rattle.range_audit.proofs.narrowing.settle_equality.Goals as goal
 pub earlier_range-b-requires : goal.earlier_range-b-requires
 earlier_range-b-requires c =
     let op = c.operation-op.result in
-    let are = operands_are c.args.graph.now c.args.i op _ c.entries_keep_their_rules.ensures c.operands_are_there.ensures c.requires.graph c.operation-op.ensures refl in
+    let are = operands_are c.args.graph.now c.args.i op _ c.entries_keep_their_rules.ensures c.operands_are_there.ensures c.requires.graph
+    c.operation-op.ensures refl in
     let second : op.b < c.args.i = there _ c.args.i op.kind op.imm op.b 1 kind.Eq c.in-Eq.is refl are.second in
     omega (arith, second, c.requires.there, c.requires.many)
 
 pub is_never_in-apart-requires : goal.is_never_in-apart-requires
 is_never_in-apart-requires c =
     let op = c.operation-op.result in
-    let are = operands_are c.args.graph.now c.args.i op _ c.entries_keep_their_rules.ensures c.operands_are_there.ensures c.requires.graph c.operation-op.ensures refl in
+    let are = operands_are c.args.graph.now c.args.i op _ c.entries_keep_their_rules.ensures c.operands_are_there.ensures c.requires.graph
+    c.operation-op.ensures refl in
     let first : op.a < c.args.i = there _ c.args.i op.kind op.imm op.a 0 kind.Eq c.in-Eq.is refl are.first in
     record { graph = c.requires.graph; made = omega (arith, first, c.requires.there, c.requires.many); many = omega (arith, c.requires.many) }
 
 pub returns-in-Eq-clause-fits : goal.returns-in-Eq-clause-fits
 returns-in-Eq-clause-fits c = λ held row vs given whole fit.
     let op = c.operation-op.result in
-    let are = operands_are c.args.graph.now c.args.i op _ c.entries_keep_their_rules.ensures c.operands_are_there.ensures c.requires.graph c.operation-op.ensures refl in
+    let are = operands_are c.args.graph.now c.args.i op _ c.entries_keep_their_rules.ensures c.operands_are_there.ensures c.requires.graph
+    c.operation-op.ensures refl in
     let first : op.a < c.args.i = there _ c.args.i op.kind op.imm op.a 0 kind.Eq c.in-Eq.is refl are.first in
     let second : op.b < c.args.i = there _ c.args.i op.kind op.imm op.b 1 kind.Eq c.in-Eq.is refl are.second in
     let le : length c.args.ranges.now ≤ length vs = omega (arith, whole, c.requires.many) in

@@ -1,6 +1,6 @@
 use Rattle.std.proofs.Common.{◌<◌, ◌≤◌, length, sym, ◌∙◌, arith}
 use Rattle.op_graph.specs.GraphRun.{own, operand}
-use Rattle.range_audit.proofs.Putting.{operands_there, whole_value}
+use Rattle.range_audit.proofs.Putting.{operands_there, whole_value, whole_divisor}
 use Rattle.range_audit.proofs.Steps.{operands_are}
 use Rattle.range_audit.proofs.narrowing.settle_operands.Goals as goal
 
@@ -44,14 +44,19 @@ returns-clause-fits c = λ held row vs hold given whole fit.
     let le2 : length c.put_operand.new.ranges ≤ length vs = omega (arith, le, c.put_operand.ensures.many) in
     let le3 : length c.put_operand-2.new.ranges ≤ length vs = omega (arith, le2, c.put_operand-2.ensures.many) in
     let lt : i < length vs = omega (arith, whole, c.requires.there) in
-    let are = operands_are g i op (length c.args.cells.now) c.entries_keep_their_rules.ensures c.operands_are_there.ensures c.requires.graph c.operation-op.ensures
+    let are = operands_are g i op (length c.args.cells.now) c.entries_keep_their_rules.ensures c.operands_are_there.ensures c.requires.graph
+    c.operation-op.ensures
     (sym c.requires.cells) in
     let x = c.operand_range-a.ensures held vs hold fit le in
     let y = c.operand_range-b.ensures held vs hold fit le in
     let z = c.operand_range-c.ensures held vs hold fit le in
     let v = whole_value held row vs i op (length c.args.cells.now) c.earlier_range-r.result (given.each i op lt c.operation-op.ensures) are
     (fit i c.earlier_range-r.result lt c.earlier_range-r.ensures) in
-    let first = c.first_operand-first.ensures (own row op.kind op.imm) (operand held vs op 0 op.a) (operand held vs op 1 op.b) (operand held vs op 2 op.c) v x y z in
-    let second = c.second_operand-second.ensures (own row op.kind op.imm) (operand held vs op 0 op.a) (operand held vs op 1 op.b) (operand held vs op 2 op.c) v x y in
-    let third = c.third_operand-third.ensures (own row op.kind op.imm) (operand held vs op 0 op.a) (operand held vs op 1 op.b) (operand held vs op 2 op.c) v x z in
+    let d = whole_divisor held row vs i op (length c.args.cells.now) (given.each i op lt c.operation-op.ensures) are in
+    let first =
+    c.first_operand-first.ensures (own row op.kind op.imm) (operand held vs op 0 op.a) (operand held vs op 1 op.b) (operand held vs op 2 op.c) v x y z in
+    let second =
+    c.second_operand-second.ensures (own row op.kind op.imm) (operand held vs op 0 op.a) (operand held vs op 1 op.b) (operand held vs op 2 op.c) v x y d in
+    let third =
+    c.third_operand-third.ensures (own row op.kind op.imm) (operand held vs op 0 op.a) (operand held vs op 1 op.b) (operand held vs op 2 op.c) v x z in
     c.put_operand-3.ensures.fits held vs le3 (c.put_operand-2.ensures.fits held vs le2 (c.put_operand.ensures.fits held vs le fit first) second) third

@@ -23,5 +23,6 @@ returns c = λ held row vs hold given whole fit.
     let lt : i < length vs = omega (arith, whole, c.requires.there) in
     let front : Fit c.first_ranges-first.result.now (take i vs) =
     subst (λ rs. Fit rs (take i vs)) (sym c.first_ranges-first.ensures) (fit_first c.args.ranges.now vs i lt fit) in
-    let told = c.tell-told.ensures held row (take i vs) op.0 op.1 hold (given_front g.operations held row vs i lt given) front (length-take-le i vs (omega arith)) in
+    let told =
+    c.tell-told.ensures held row (take i vs) op.0 op.1 hold (given_front g.operations held row vs i lt given) front (length-take-le i vs (omega arith)) in
     told.value (at vs i) (given.each i op.0 lt op.1)
