@@ -13,7 +13,7 @@ use Rattle.run_report.specs.Variables.{output_name}
 use Rattle.svg_text.specs.Drawing.{each_below}
 use Rattle.graph_picture.specs.declared.colours.Colour.{Colour}
 use Rattle.graph_picture.specs.declared.colours.Colour.TheVariants as colour
-use Rattle.graph_picture.specs.Colours.{colour_of}
+use Rattle.graph_picture.specs.Colours.{colours}
 use Rattle.graph_picture.specs.Drawn.{Box, Wire, Drawing, drawing, own_of}
 use Rattle.graph_dot.specs.Characters.{written}
 
@@ -91,8 +91,8 @@ abbrev pub node_line : List ℕ → List (List ℕ) → Kind → Colour → List
 node_line name told k c = name ++ (codes " [ label=\"" ++ (written told ++ node_end k c))
 
 -- the line of an operation's box; a constant has none of its own
-abbrev pub box_text : Lists → Box → List ℕ
-box_text g b = cond (is_constant b.op.kind) [] (node_line (node_name b.number) (label g b.number b.colour b.op) b.op.kind b.colour)
+abbrev pub box_text : Lists → Box Colour → List ℕ
+box_text g b = cond (is_constant b.op.kind) [] (node_line (node_name b.number) (label g b.number b.look b.op) b.op.kind b.look)
 
 -- ---- edges
 
@@ -112,7 +112,7 @@ constant_text g n c op reader which =
 abbrev pub reading_text : Lists → Audit → ℕ → ℕ → Option Op → ℕ → ℕ → List ℕ
 reading_text g a distances n None reader which = edge_line (node_name n) reader which
 reading_text g a distances n (Some op) reader which =
-    cond (is_constant op.kind) (constant_text g n (colour_of a n distances (length g.outputs)) op reader which) (edge_line (node_name n) reader which)
+    cond (is_constant op.kind) (constant_text g n (colours g a distances n) op reader which) (edge_line (node_name n) reader which)
 
 abbrev pub wire_text : Lists → Audit → ℕ → Wire → List ℕ
 wire_text g a distances w = reading_text g a distances w.operand (slice_get g.operations w.operand) w.reader w.which
@@ -146,13 +146,13 @@ abbrev pub ending : List ℕ
 ending = codes "}\n"
 
 -- the boxes and the lines of what is drawn, and the cells
-abbrev pub drawing_text : Lists → Audit → ℕ → Drawing → List ℕ
+abbrev pub drawing_text : Lists → Audit → ℕ → Drawing Colour → List ℕ
 drawing_text g a distances d =
     flat_map (box_text g) d.boxes ++ (flat_map (wire_text g a distances) d.wires ++ cells_below g (length (cells g)))
 
 -- the text of a graph, by what is kept of its weights up to a horizon
 abbrev pub dot_text : Lists → Audit → ℕ → List ℕ
-dot_text g a horizon = beginning ++ (drawing_text g a (horizon + 1) (drawing g a (horizon + 1) []) ++ ending)
+dot_text g a horizon = beginning ++ (drawing_text g a (horizon + 1) (drawing g (colours g a (horizon + 1)) []) ++ ending)
 
 -- a text is that of the graph up to a horizon
 pub record IsDotOf (g : Lists) (horizon : ℕ) (text : List ℕ) : Type 0 where

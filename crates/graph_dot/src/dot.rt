@@ -5,6 +5,7 @@ ghost use Rattle.vcp_outside.specs.Written.{WritesTo};
 ghost use Rattle.vcp_base.specs.Limits.{most_horizon};
 ghost use Rattle.gathered_line.specs.Gathering.{GathersTo};
 ghost use Rattle.weight_audit.specs.Audit.{IsAudit};
+ghost use Rattle.graph_picture.specs.Colours.{colours};
 ghost use Rattle.graph_picture.specs.Drawn.{drawing};
 ghost use Rattle.graph_dot.specs.DotText.{beginning, drawing_text, dot_text};
 
@@ -51,7 +52,7 @@ fn then_graph<O: Sink>(
     requires outputs { length weights.now.outputs ≡ length graph.now.outputs }
     requires distances { distances ≤ weights.now.horizon + 1 }
     ensures { GathersTo (O.seen out.old) (O.seen out.new) line.old line.new
-        (drawing_text graph.now weights.now distances (drawing graph.now weights.now distances [])) }
+        (drawing_text graph.now weights.now distances (drawing graph.now (colours graph.now weights.now distances) [])) }
 {
     then_nodes(line, out, graph, weights, distances);
     then_edges(line, out, graph, weights, distances);

@@ -2,6 +2,7 @@
 
 ghost use Rattle.std.specs.Prelude.{◌≡◌, ◌≤◌, ◌+◌, [], cond, length, flat_map};
 ghost use Rattle.gathered_line.specs.Gathering.{GathersTo};
+ghost use Rattle.graph_picture.specs.Colours.{colours};
 ghost use Rattle.graph_picture.specs.Drawn.{boxes_below};
 ghost use Rattle.graph_dot.specs.DotText.{node_name, constant_name, label, constant_label, is_constant as is_constant_of, node_line, node_end, box_text};
 
@@ -103,7 +104,7 @@ pub(crate) fn then_nodes<O: Sink>(
     requires outputs { length weights.now.outputs ≡ length graph.now.outputs }
     requires distances { distances ≤ weights.now.horizon + 1 }
     ensures { GathersTo (O.seen out.old) (O.seen out.new) line.old line.new
-        (flat_map (box_text graph.now) (boxes_below graph.now weights.now distances [] (length graph.now.operations))) }
+        (flat_map (box_text graph.now) (boxes_below graph.now (colours graph.now weights.now distances) [] (length graph.now.operations))) }
 {
     'operations: for n in 0..graph.len() {
         let colour = colour_of(weights, n, graph.outputs(), distances);

@@ -49,12 +49,10 @@ box_drawn_text o h w s more last =
     ap (flat_map element_text) (append-nil (o ∷ h ∷ w ∷ s ∷ (more ++ last)))
     ∙ ap (λ t. element_text o ++ (element_text h ++ (element_text w ++ (element_text s ++ t)))) (flat_map-append element_text more last)
 
--- the text of the legend's elements
-pub legend_drawn_text : (s : Element) (a b c d : List Element)
-    → flat_map element_text (s ∷ (a ++ (b ++ (c ++ d))))
-    ≡ element_text s ++ (flat_map element_text a ++ (flat_map element_text b ++ (flat_map element_text c ++ flat_map element_text d)))
-legend_drawn_text s a b c d =
-    rw (flat_map-append element_text a (b ++ (c ++ d)), flat_map-append element_text b (c ++ d), flat_map-append element_text c d) refl
+-- the text of what is drawn for things, thing by thing
+pub each_drawn : {X : Type 0} (h : X → List Element) (xs : List X) → drawn_text h xs ≡ flat_map (λ x. flat_map element_text (h x)) xs
+each_drawn h [] = refl
+each_drawn h (x ∷ xs) = flat_map-append element_text (h x) (flat_map h xs) ∙ ap (λ t. flat_map element_text (h x) ++ t) (each_drawn h xs)
 
 -- a picture, part by part
 pub parts : (start end : List ℕ) (a b c : List Element)

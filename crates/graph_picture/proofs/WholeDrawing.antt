@@ -1,19 +1,15 @@
 -- WholeDrawing: each operation has one box, and each pair of an operand and its reader one line.
-use Rattle.std.proofs.Common.{◌≡◌, inl, inr, ℕ, zero, suc, ◌+◌, ◌<◌, List, [], ◌∷◌, ◌++◌, length}
+use Rattle.std.proofs.Common.{◌≡◌, inl, inr, ℕ, zero, suc, ◌<◌, List, [], ◌∷◌, ◌++◌, length}
 use Rattle.std.proofs.Common.{Some, slice_get, refl, sym, ap, ◌∙◌, arith, length-append}
 use Rattle.std.proofs.lemmas.Bool.{cases_order}
 use Rattle.std.proofs.lemmas.Option.{slice_get_within}
 use Rattle.op_graph.specs.declared.op.Op.{Op}
 use Rattle.op_graph.specs.Lists.{Lists}
-use Rattle.weight_audit.specs.Audit.{Audit, IsAudit}
-use Rattle.audit_report.specs.AuditText.{TellsBlind}
 use Rattle.graph_picture.specs.declared.layout.Place.{Place}
 use Rattle.graph_picture.specs.Arrangement.{place_at}
-use Rattle.graph_picture.specs.Colours.{colour_of}
 use Rattle.svg_text.specs.Drawing.{each_below}
 use Rattle.graph_picture.specs.Drawn.{box_of, box_drawn, box_at, boxes_below}
 use Rattle.graph_picture.specs.Whole.{DrawsOperations}
-use Rattle.graph_picture.proofs.Seen.{coloured_so}
 
 -- ---- boxes
 
@@ -49,27 +45,21 @@ there_is [] i lt = absurd (omega (arith, lt))
 there_is (x ∷ xs) zero lt = (x, refl)
 there_is (x ∷ xs) (suc i) lt = there_is xs i (omega (arith, lt))
 
-module _ (g : Lists) (horizon : ℕ) (a : Audit) (places : List Place) (is : IsAudit g horizon a) (tells : TellsBlind g horizon a) where
-  box_is : (n : ℕ) (op : Op) → slice_get g.operations n ≡ Some op
-      → box_at g a (horizon + 1) places n ≡ box_of g n (colour_of a n (horizon + 1) (length g.outputs)) (place_at places n) op ∷ []
-  box_is n op there = ap (box_drawn g n (colour_of a n (horizon + 1) (length g.outputs)) (place_at places n)) there
+module _ {L : Type 0} (g : Lists) (MayLook : ℕ → L → Type 0) (looks : ℕ → L) (places : List Place)
+    (look : (n : ℕ) → n < length g.operations → MayLook n (looks n)) where
+  box_is : (n : ℕ) (op : Op) → slice_get g.operations n ≡ Some op → box_at g looks places n ≡ box_of g n (looks n) (place_at places n) op ∷ []
+  box_is n op there = ap (box_drawn g n (looks n) (place_at places n)) there
 
-  one_box : (n : ℕ) → n < length g.operations → length (box_at g a (horizon + 1) places n) ≡ 1
+  one_box : (n : ℕ) → n < length g.operations → length (box_at g looks places n) ≡ 1
   one_box n lt = let op = there_is g.operations n lt in ap length (box_is n op.0 op.1)
 
-  pub draws_operations : DrawsOperations g horizon places (boxes_below g a (horizon + 1) places (length g.operations))
+  pub draws_operations : DrawsOperations g MayLook places (boxes_below g looks places (length g.operations))
   draws_operations = record {
-    many = many_below (box_at g a (horizon + 1) places) (length g.operations) one_box;
+    many = many_below (box_at g looks places) (length g.operations) one_box;
     each = λ n op there.
         let lt = slice_get_within g.operations n op there in (
-          box_of g n (colour_of a n (horizon + 1) (length g.outputs)) (place_at places n) op,
-          at_below (box_at g a (horizon + 1) places) (length g.operations) n one_box lt ∙ ap (λ bs. slice_get bs 0) (box_is n op there),
-          record {
-            number = refl;
-            operation = refl;
-            own = refl;
-            colour = coloured_so g horizon a is tells n lt;
-            place = refl;
-          },
+          box_of g n (looks n) (place_at places n) op,
+          at_below (box_at g looks places) (length g.operations) n one_box lt ∙ ap (λ bs. slice_get bs 0) (box_is n op there),
+          record { number = refl; operation = refl; own = refl; look = look n lt; place = refl },
         );
   }

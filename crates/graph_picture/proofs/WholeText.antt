@@ -1,5 +1,5 @@
 -- WholeText: no element of a picture has an attribute twice.
-use Rattle.std.proofs.Common.{ℕ, List, [], ◌∷◌, ◌++◌, flat_map, codes, refl}
+use Rattle.std.proofs.Common.{ℕ, List, [], ◌∷◌, ◌++◌, Option, None, flat_map, codes, refl}
 use Rattle.std.specs.List.{AllByRecursion}
 use Rattle.vcp_base.specs.declared.kind.Kind.{Kind}
 use Rattle.vcp_base.specs.declared.kind.Kind.TheVariants as kind
@@ -9,8 +9,10 @@ use Rattle.svg_text.specs.WellFormed.{HasEachOnce}
 use Rattle.graph_picture.specs.declared.colours.Colour.{Colour}
 use Rattle.graph_picture.specs.declared.colours.Colour.TheVariants as colour
 use Rattle.graph_picture.specs.declared.layout.Place.{Place}
+use Rattle.graph_picture.specs.declared.looks.Look.{Look}
+use Rattle.graph_picture.specs.declared.looks.Look.TheVariants as look
 use Rattle.graph_picture.specs.Drawn.{Box, Drawing}
-use Rattle.graph_picture.specs.Elements.{blindness, cell_bar, box_elements, wire_elements, sample, legend, drawing_elements}
+use Rattle.graph_picture.specs.Elements.{blindness, note, cell_bar, box_elements, wire_elements, sample, audit_legend, drawing_elements}
 
 abbrev All : List Element → Type 0
 All es = AllByRecursion HasEachOnce es
@@ -27,6 +29,11 @@ of_blindness : (g : Lists) (c : Colour) (p : Place) → All (blindness g c p)
 of_blindness g colour.Unreached p = tt
 of_blindness g colour.Plain p = tt
 of_blindness g (colour.Blind output after) p = (refl, tt)
+
+of_note : (g : Lists) (l : Look) (p : Place) → All (note g l p)
+of_note g (look.Shown c) p = of_blindness g c p
+of_note g look.Untried p = tt
+of_note g (look.Tried w some all) p = (refl, tt)
 
 of_bar : (k : Kind) (p : Place) → All (cell_bar k p)
 of_bar kind.Input p = tt
@@ -49,33 +56,30 @@ of_bar kind.Or p = tt
 of_bar kind.Xor p = tt
 of_bar kind.Sel p = tt
 
-of_box : (g : Lists) (b : Box) → All (box_elements g b)
+of_box : (g : Lists) (b : Box Look) → All (box_elements g b)
 of_box g b = (
   refl,
-  (
-    refl,
-    (refl, (refl, all_both (blindness g b.colour b.place) (cell_bar b.op.kind b.place) (of_blindness g b.colour b.place) (of_bar b.op.kind b.place))),
-  ),
+  (refl, (refl, (refl, all_both (note g b.look b.place) (cell_bar b.op.kind b.place) (of_note g b.look b.place) (of_bar b.op.kind b.place)))),
 )
 
-of_sample : (x : ℕ) (class told : List ℕ) → All (sample x class told)
-of_sample x class told = (refl, (refl, tt))
+of_sample : (x : ℕ) (class told : List ℕ) (many : Option ℕ) → All (sample x class told many)
+of_sample x class told many = (refl, (refl, tt))
 
-of_legend : All legend
-of_legend =
-    let first : List Element = sample 12 (codes "plain") (codes "reaches an output") in
-    let second : List Element = sample 192 (codes "unreached") (codes "reaches none") in
-    let third : List Element = sample 332 (codes "blind") (codes "blind for the output that it names, so many cycles later") in
-    let fourth : List Element = sample 672 (codes "cell") (codes "a cell's LOAD (left) or STORE (right)") in (
+pub of_audit_legend : All audit_legend
+of_audit_legend =
+    let first : List Element = sample 12 (codes "plain") (codes "reaches an output") None in
+    let second : List Element = sample 192 (codes "unreached") (codes "reaches none") None in
+    let third : List Element = sample 332 (codes "blind") (codes "blind for the output that it names, so many cycles later") None in
+    let fourth : List Element = sample 672 (codes "cell") (codes "a cell's LOAD (left) or STORE (right)") None in (
       refl,
-      all_both first (second ++ (third ++ fourth)) (of_sample 12 (codes "plain") (codes "reaches an output"))
-          (all_both second (third ++ fourth) (of_sample 192 (codes "unreached") (codes "reaches none"))
-          (all_both third fourth (of_sample 332 (codes "blind") (codes "blind for the output that it names, so many cycles later"))
-          (of_sample 672 (codes "cell") (codes "a cell's LOAD (left) or STORE (right)")))),
+      all_both first (second ++ (third ++ fourth)) (of_sample 12 (codes "plain") (codes "reaches an output") None)
+          (all_both second (third ++ fourth) (of_sample 192 (codes "unreached") (codes "reaches none") None)
+          (all_both third fourth (of_sample 332 (codes "blind") (codes "blind for the output that it names, so many cycles later") None)
+          (of_sample 672 (codes "cell") (codes "a cell's LOAD (left) or STORE (right)") None))),
     )
 
-pub each_once : (g : Lists) (d : Drawing) → All (drawing_elements g d)
-each_once g d =
-    all_both legend (flat_map wire_elements d.wires ++ flat_map (box_elements g) d.boxes) of_legend
+pub each_once : (g : Lists) (legend : List Element) → All legend → (d : Drawing Look) → All (drawing_elements g legend d)
+each_once g legend once d =
+    all_both legend (flat_map wire_elements d.wires ++ flat_map (box_elements g) d.boxes) once
     (all_both (flat_map wire_elements d.wires) (flat_map (box_elements g) d.boxes) (all_flat wire_elements (λ w. (refl, tt)) d.wires)
     (all_flat (box_elements g) (of_box g) d.boxes))

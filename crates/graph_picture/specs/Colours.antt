@@ -1,5 +1,5 @@
 -- Colours: how operations show at outputs, by the weights that are kept.
-use Rattle.std.specs.Prelude.{◌≡◌, ◌≤◌, ℕ, zero, suc, Bool, cond, slice_get, Some}
+use Rattle.std.specs.Prelude.{◌≡◌, ◌≤◌, ℕ, zero, suc, Bool, cond, length, slice_get, Some}
 use Rattle.op_graph.specs.declared.op.Outlet.{Outlet}
 use Rattle.op_graph.specs.Lists.{Lists}
 use Rattle.weight_audit.specs.Audit.{Audit}
@@ -24,6 +24,10 @@ seen_after a op output seen (suc after) =
 abbrev pub colour_of : Audit → ℕ → ℕ → ℕ → Colour
 colour_of a op distances zero = colour.Unreached
 colour_of a op distances (suc output) = seen_after a op output (colour_of a op distances output) distances
+
+-- the colours of a graph's operations, across fewer borders than `distances`
+abbrev pub colours : Lists → Audit → ℕ → ℕ → Colour
+colours g a distances op = colour_of a op distances (length g.outputs)
 
 -- The colour that paths and weights say: no path leads to an output across at most `horizon` borders; or there are such paths, and
 -- the operation is blind for none of these outputs; or it is blind for this one.

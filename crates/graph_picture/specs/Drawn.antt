@@ -8,20 +8,17 @@ use Rattle.op_graph.specs.declared.op.Op.{Op}
 use Rattle.op_graph.specs.Lists.{Lists}
 use Rattle.op_graph.specs.Reads.{named}
 use Rattle.op_graph.specs.Rules.{reads_as}
-use Rattle.weight_audit.specs.Audit.{Audit}
 use Rattle.run_report.specs.Variables.{variable_name}
 use Rattle.svg_text.specs.Drawing.{each_below}
-use Rattle.graph_picture.specs.declared.colours.Colour.{Colour}
 use Rattle.graph_picture.specs.declared.layout.Place.{Place}
 use Rattle.graph_picture.specs.Arrangement.{place_at}
-use Rattle.graph_picture.specs.Colours.{colour_of}
 
--- the box of an operation: its number, the operation, its own name or value, its colour, and where it stands
-pub record Box : Type 0 where
+-- the box of an operation: its number, the operation, its own name or value, how it looks, and where it stands
+pub record Box (L : Type 0) : Type 0 where
   pub number : ℕ
   pub op : Op
   pub own : List ℕ
-  pub colour : Colour
+  pub look : L
   pub place : Place
 
 -- the line from an operation to one that reads it, as this operand of it; and where the boxes of both stand
@@ -39,20 +36,20 @@ own_of g k imm = variable_name g k (unsigned_abs imm)
 
 -- ---- boxes and lines
 
--- the box of operation n, in its colour at its place; none where there is no such operation
-abbrev pub box_of : Lists → ℕ → Colour → Place → Op → Box
-box_of g n colour place op = record { number = n; op = op; own = own_of g op.kind op.imm; colour = colour; place = place }
+-- the box of operation n, with its look at its place; none where there is no such operation
+abbrev pub box_of : {L : Type 0} → Lists → ℕ → L → Place → Op → Box L
+box_of g n look place op = record { number = n; op = op; own = own_of g op.kind op.imm; look = look; place = place }
 
-abbrev pub box_drawn : Lists → ℕ → Colour → Place → Option Op → List Box
-box_drawn g n colour place None = []
-box_drawn g n colour place (Some op) = box_of g n colour place op ∷ []
+abbrev pub box_drawn : {L : Type 0} → Lists → ℕ → L → Place → Option Op → List (Box L)
+box_drawn g n look place None = []
+box_drawn g n look place (Some op) = box_of g n look place op ∷ []
 
--- the boxes of the operations below operation n, in order
-abbrev pub box_at : Lists → Audit → ℕ → List Place → ℕ → List Box
-box_at g a distances places k = box_drawn g k (colour_of a k distances (length g.outputs)) (place_at places k) (slice_get g.operations k)
+-- the boxes of the operations below operation n, in order, where each looks so
+abbrev pub box_at : {L : Type 0} → Lists → (ℕ → L) → List Place → ℕ → List (Box L)
+box_at g looks places k = box_drawn g k (looks k) (place_at places k) (slice_get g.operations k)
 
-abbrev pub boxes_below : Lists → Audit → ℕ → List Place → ℕ → List Box
-boxes_below g a distances places n = each_below (box_at g a distances places) n
+abbrev pub boxes_below : {L : Type 0} → Lists → (ℕ → L) → List Place → ℕ → List (Box L)
+boxes_below g looks places n = each_below (box_at g looks places) n
 
 -- the line to operand j of operation n, where that operand is an operation
 abbrev pub wire_of : List Place → ℕ → Op → ℕ → List Wire
@@ -71,13 +68,13 @@ wires_at g places k = wires_of places k (slice_get g.operations k)
 abbrev pub wires_below : Lists → List Place → ℕ → List Wire
 wires_below g places n = each_below (wires_at g places) n
 
--- what is drawn of a graph
-pub record Drawing : Type 0 where
+-- what is drawn of a graph, where its operations look so
+pub record Drawing (L : Type 0) : Type 0 where
   pub wires : List Wire
-  pub boxes : List Box
+  pub boxes : List (Box L)
 
-abbrev pub drawing : Lists → Audit → ℕ → List Place → Drawing
-drawing g a distances places = record {
+abbrev pub drawing : {L : Type 0} → Lists → (ℕ → L) → List Place → Drawing L
+drawing g looks places = record {
   wires = wires_below g places (length g.operations);
-  boxes = boxes_below g a distances places (length g.operations);
+  boxes = boxes_below g looks places (length g.operations);
 }

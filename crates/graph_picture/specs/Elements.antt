@@ -1,5 +1,5 @@
 -- Elements: how boxes and lines are drawn, and the text of the picture of a graph.
-use Rattle.std.specs.Prelude.{◌≡◌, ℕ, ◌+◌, ◌*◌, List, [], ◌∷◌, ◌++◌, codes, decimal, flat_map}
+use Rattle.std.specs.Prelude.{◌≡◌, ℕ, ◌+◌, ◌*◌, List, [], ◌∷◌, ◌++◌, Option, Some, None, codes, decimal, flat_map}
 use Rattle.vcp_base.specs.declared.kind.Kind.{Kind}
 use Rattle.vcp_base.specs.declared.kind.Kind.TheVariants as kind
 use Rattle.vcp_base.specs.declared.spot.Spot.{Spot}
@@ -12,21 +12,40 @@ use Rattle.svg_text.specs.Elements.{Element, attribute, element, picture_text}
 use Rattle.graph_picture.specs.declared.colours.Colour.{Colour}
 use Rattle.graph_picture.specs.declared.colours.Colour.TheVariants as colour
 use Rattle.graph_picture.specs.declared.layout.Place.{Place}
+use Rattle.graph_picture.specs.declared.legend.Sample.{Sample}
+use Rattle.graph_picture.specs.declared.looks.Look.{Look}
+use Rattle.graph_picture.specs.declared.looks.Look.TheVariants as look
+use Rattle.graph_picture.specs.declared.looks.Worst.{Worst}
+use Rattle.graph_picture.specs.declared.looks.Worst.TheVariants as worst
 use Rattle.graph_picture.specs.Arrangement.{Arrangement, IsArranged, left_of, top_of, box_width, box_height}
 use Rattle.run_report.specs.Variables.{output_name}
 use Rattle.graph_picture.specs.Drawn.{Box, Wire, Drawing, drawing}
+use Rattle.graph_picture.specs.Looks.{audit_looks}
 
 -- ---- boxes
 
-abbrev pub class_of : Colour → List ℕ
-class_of colour.Unreached = codes "unreached"
-class_of colour.Plain = codes "plain"
-class_of (colour.Blind output after) = codes "blind"
+abbrev pub colour_class : Colour → List ℕ
+colour_class colour.Unreached = codes "unreached"
+colour_class colour.Plain = codes "plain"
+colour_class (colour.Blind output after) = codes "blind"
 
--- the rectangle of an operation in its colour
-abbrev pub outline : ℕ → Colour → Place → Element
-outline n c p = element tag.Rect
-    (attribute name.Operation (decimal n) ∷ attribute name.Class (class_of c) ∷ attribute name.X (decimal (left_of p))
+abbrev pub worst_class : Worst → List ℕ
+worst_class worst.Wrong = codes "wrong"
+worst_class worst.RanOn = codes "ran-on"
+worst_class worst.Same = codes "same"
+worst_class worst.Stopped = codes "stopped"
+worst_class worst.Refused = codes "refused"
+
+-- the class of a look, to which the rules of style give a colour
+abbrev pub class_of : Look → List ℕ
+class_of (look.Shown c) = colour_class c
+class_of look.Untried = codes "plain"
+class_of (look.Tried w some all) = worst_class w
+
+-- the rectangle of an operation in its class
+abbrev pub outline : ℕ → Look → Place → Element
+outline n l p = element tag.Rect
+    (attribute name.Operation (decimal n) ∷ attribute name.Class (class_of l) ∷ attribute name.X (decimal (left_of p))
     ∷ attribute name.Y (decimal (top_of p)) ∷ attribute name.Width (decimal box_width) ∷ attribute name.Height (decimal box_height) ∷ []) []
 
 -- words inside a box, so far below its upper side
@@ -44,11 +63,17 @@ own text p = words p 23 (text ∷ [])
 abbrev pub source : Spot → Place → Element
 source spot p = words p 34 (codes "at " ∷ decimal spot.line ∷ codes ":" ∷ decimal spot.col ∷ [])
 
--- below a blind operation, the output for which it is blind and the number of borders
+-- in the last line of a box: of a blind operation, the output for which it is and the number of borders; and where faults stand, the worst that came of
+-- them, and of how many of how many
 abbrev pub blindness : Lists → Colour → Place → List Element
 blindness g colour.Unreached p = []
 blindness g colour.Plain p = []
 blindness g (colour.Blind output after) p = words p 45 (output_name g output ∷ codes " " ∷ decimal after ∷ []) ∷ []
+
+abbrev pub note : Lists → Look → Place → List Element
+note g (look.Shown c) p = blindness g c p
+note g look.Untried p = []
+note g (look.Tried w some all) p = words p 45 (worst_class w ∷ codes " " ∷ decimal some ∷ codes "/" ∷ decimal all ∷ []) ∷ []
 
 -- a bar at a side of a box
 abbrev pub bar : ℕ → ℕ → Element
@@ -62,10 +87,10 @@ cell_bar kind.Load p = bar (left_of p) (top_of p) ∷ []
 cell_bar kind.Store p = bar (left_of p + 92) (top_of p) ∷ []
 cell_bar _ p = []
 
-abbrev pub box_elements : Lists → Box → List Element
+abbrev pub box_elements : Lists → Box Look → List Element
 box_elements g b =
-    outline b.number b.colour b.place ∷ head b.number b.op.kind b.place ∷ own b.own b.place ∷ source b.op.spot b.place
-    ∷ (blindness g b.colour b.place ++ cell_bar b.op.kind b.place)
+    outline b.number b.look b.place ∷ head b.number b.op.kind b.place ∷ own b.own b.place ∷ source b.op.spot b.place
+    ∷ (note g b.look b.place ++ cell_bar b.op.kind b.place)
 
 -- ---- lines
 
@@ -81,8 +106,9 @@ wire_elements w = wire_element w ∷ []
 
 -- ---- the legend
 
-abbrev pub style : Element
-style = element tag.Style [] (codes "text{font:9px monospace}rect{stroke:#333;fill:#fff}line{stroke:#888}.unreached{fill:#ddd}.blind{fill:#f99}.cell{fill:#36c}" ∷ [])
+-- the rules of style
+abbrev pub style : List ℕ → Element
+style rules = element tag.Style [] (rules ∷ [])
 
 -- a small rectangle of a class, and beside it what it says
 abbrev pub swatch : ℕ → List ℕ → Element
@@ -90,25 +116,46 @@ swatch x class = element tag.Rect
     (attribute name.X (decimal x) ∷ attribute name.Y (decimal 8) ∷ attribute name.Width (decimal 14) ∷ attribute name.Height (decimal 14)
     ∷ attribute name.Class class ∷ []) []
 
-abbrev pub caption : ℕ → List ℕ → Element
-caption x told = element tag.Text (attribute name.X (decimal (x + 20)) ∷ attribute name.Y (decimal 20) ∷ []) (told ∷ [])
+-- how often it comes, where that is told
+abbrev pub counted : Option ℕ → List (List ℕ)
+counted None = []
+counted (Some n) = codes " " ∷ decimal n ∷ []
 
-abbrev pub sample : ℕ → List ℕ → List ℕ → List Element
-sample x class told = swatch x class ∷ caption x told ∷ []
+abbrev pub caption : ℕ → List ℕ → Option ℕ → Element
+caption x told many = element tag.Text (attribute name.X (decimal (x + 20)) ∷ attribute name.Y (decimal 20) ∷ []) (told ∷ counted many)
 
-abbrev pub legend : List Element
-legend =
-    style ∷ (sample 12 (codes "plain") (codes "reaches an output") ++ (sample 192 (codes "unreached") (codes "reaches none")
-    ++ (sample 332 (codes "blind") (codes "blind for the output that it names, so many cycles later") ++ sample 672 (codes "cell") (codes "a cell's LOAD (left) or STORE (right)"))))
+abbrev pub sample : ℕ → List ℕ → List ℕ → Option ℕ → List Element
+sample x class told many = swatch x class ∷ caption x told many ∷ []
+
+abbrev pub sample_of : Sample → List Element
+sample_of s = sample s.x s.class.now s.told.now s.many
+
+-- a legend with these rules of style and these samples
+abbrev pub legend_of : List ℕ → List Sample → List Element
+legend_of rules samples = style rules ∷ flat_map sample_of samples
+
+-- what the colours say that weights and paths give
+abbrev pub audit_style : List ℕ
+audit_style = codes "text{font:9px monospace}rect{stroke:#333;fill:#fff}line{stroke:#888}.unreached{fill:#ddd}.blind{fill:#f99}.cell{fill:#36c}"
+
+abbrev pub audit_legend : List Element
+audit_legend =
+    style audit_style ∷ (sample 12 (codes "plain") (codes "reaches an output") None ++ (sample 192 (codes "unreached") (codes "reaches none") None
+    ++ (sample 332 (codes "blind") (codes "blind for the output that it names, so many cycles later") None
+    ++ sample 672 (codes "cell") (codes "a cell's LOAD (left) or STORE (right)") None)))
 
 -- ---- the picture
 
-abbrev pub drawing_elements : Lists → Drawing → List Element
-drawing_elements g d = legend ++ (flat_map wire_elements d.wires ++ flat_map (box_elements g) d.boxes)
+abbrev pub drawing_elements : Lists → List Element → Drawing Look → List Element
+drawing_elements g legend d = legend ++ (flat_map wire_elements d.wires ++ flat_map (box_elements g) d.boxes)
+
+-- the picture of a graph with a legend, where its boxes look and stand so
+abbrev pub picture_of : Lists → (ℕ → Look) → List Element → Arrangement → List ℕ
+picture_of g looks legend l = picture_text l.width l.height (drawing_elements g legend (drawing g looks l.places))
 
 -- the picture of a graph, by what is kept of its weights up to a horizon, and by where the boxes stand
 abbrev pub graph_text : Lists → Audit → ℕ → Arrangement → List ℕ
-graph_text g a horizon l = picture_text l.width l.height (drawing_elements g (drawing g a (horizon + 1) l.places))
+graph_text g a horizon l = picture_of g (audit_looks g a (horizon + 1)) audit_legend l
 
 -- a text is a picture of the graph up to a horizon
 pub record IsPictureOf (g : Lists) (horizon : ℕ) (text : List ℕ) : Type 0 where

@@ -1,25 +1,24 @@
--- Whole: a drawing has each operation of the graph once, and each pair of an operand and its reader once, and its colours are right.
+-- Whole: a drawing has each operation of the graph once, with a look that it may have, and each pair of an operand and its reader once.
 use Rattle.std.specs.Prelude.{◌≡◌, ◌<◌, ℕ, ◌+◌, ◌==◌, ◌&&◌, Bool, cond, List, [], ◌∷◌, length, slice_get, Some}
 use Rattle.op_graph.specs.declared.op.Op.{Op}
 use Rattle.op_graph.specs.Lists.{Lists}
 use Rattle.op_graph.specs.Reads.{Reads}
 use Rattle.graph_picture.specs.declared.layout.Place.{Place}
 use Rattle.graph_picture.specs.Arrangement.{place_at}
-use Rattle.graph_picture.specs.Colours.{IsColour}
 use Rattle.graph_picture.specs.Drawn.{Box, Wire, Drawing, own_of}
 
--- the box of operation n: with its number, what it is, its own name or value, the colour that paths and weights say, and at its place
-pub record IsBoxOf (g : Lists) (horizon : ℕ) (places : List Place) (n : ℕ) (op : Op) (b : Box) : Type 0 where
+-- the box of operation n: with its number, what it is, its own name or value, a look that it may have, and at its place
+pub record IsBoxOf {L : Type 0} (g : Lists) (MayLook : ℕ → L → Type 0) (places : List Place) (n : ℕ) (op : Op) (b : Box L) : Type 0 where
   pub number : b.number ≡ n
   pub operation : b.op ≡ op
   pub own : b.own ≡ own_of g op.kind op.imm
-  pub colour : IsColour g horizon n b.colour
+  pub look : MayLook n b.look
   pub place : b.place ≡ place_at places n
 
 -- the boxes are those of the operations, one for each, in order
-pub record DrawsOperations (g : Lists) (horizon : ℕ) (places : List Place) (boxes : List Box) : Type 0 where
+pub record DrawsOperations {L : Type 0} (g : Lists) (MayLook : ℕ → L → Type 0) (places : List Place) (boxes : List (Box L)) : Type 0 where
   pub many : length boxes ≡ length g.operations
-  pub each : (n : ℕ) (op : Op) → slice_get g.operations n ≡ Some op → (b : Box) × (slice_get boxes n ≡ Some b) × IsBoxOf g horizon places n op b
+  pub each : (n : ℕ) (op : Op) → slice_get g.operations n ≡ Some op → (b : Box L) × (slice_get boxes n ≡ Some b) × IsBoxOf g MayLook places n op b
 
 -- the line of operand j of operation q, which is operation k
 abbrev pub is_line : ℕ → ℕ → ℕ → Wire → Bool
@@ -35,7 +34,7 @@ pub record DrawsReads (g : Lists) (wires : List Wire) : Type 0 where
   pub once : (q k j : ℕ) → j < 3 → Reads g.operations q k j → times q k j wires ≡ 1
   pub only : (q k j : ℕ) → 0 < times q k j wires → Reads g.operations q k j
 
--- what is drawn of a graph, by what is kept of its weights up to a horizon, is whole
-pub record IsWhole (g : Lists) (horizon : ℕ) (places : List Place) (d : Drawing) : Type 0 where
-  pub operations : DrawsOperations g horizon places d.boxes
+-- what is drawn of a graph is whole, where each operation may have such looks
+pub record IsWhole {L : Type 0} (g : Lists) (MayLook : ℕ → L → Type 0) (places : List Place) (d : Drawing L) : Type 0 where
+  pub operations : DrawsOperations g MayLook places d.boxes
   pub reads : DrawsReads g d.wires

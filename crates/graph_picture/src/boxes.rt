@@ -1,14 +1,16 @@
 //! The boxes of operations.
 
-ghost use Rattle.std.specs.Prelude.{◌≡◌, ◌<◌, ◌≤◌, ◌+◌, length, map, flat_map, slice_get};
+ghost use Rattle.std.specs.Prelude.{◌≡◌, ◌<◌, ◌≤◌, [], ◌∷◌, codes, decimal, length, map, flat_map, slice_get};
 ghost use Rattle.gathered_line.specs.Gathering.{GathersTo};
 ghost use Rattle.svg_text.specs.Characters.{piece_bytes};
 ghost use Rattle.svg_text.specs.Elements.{element_text};
 ghost use Rattle.graph_picture.specs.Drawn.{box_drawn, boxes_below};
-ghost use Rattle.graph_picture.specs.Elements.{class_of, outline, words, head, own, source, blindness, bar, cell_bar, box_elements};
+ghost use Rattle.graph_picture.specs.Elements.{colour_class as colour_class_of, worst_class as worst_class_of, class_of};
+ghost use Rattle.graph_picture.specs.Elements.{outline, words, head, own, source, blindness, note, bar, cell_bar, box_elements};
 
-use crate::colours::{Colour, colour_of};
+use crate::colours::Colour;
 use crate::layout::{Layout, Place, left, top};
+use crate::looks::{Look, Looks, Worst};
 use crate::names::own_piece;
 use gathered_line::Line;
 use op_graph::Graph;
@@ -16,11 +18,10 @@ use run_report::variable_name;
 use svg_text::{Name, Piece, Tag, then_element};
 use vcp_base::{Kind, Spot, kind_name};
 use vcp_outside::Sink;
-use weight_audit::Weights;
 
 /// The class of a colour.
-fn class(colour: Colour) -> &'static [u8]
-    ensures { result.now ≡ class_of colour }
+fn colour_class(colour: Colour) -> &'static [u8]
+    ensures { result.now ≡ colour_class_of colour }
 {
     match colour {
         Colour::Unreached => b"unreached",
@@ -29,10 +30,34 @@ fn class(colour: Colour) -> &'static [u8]
     }
 }
 
+/// The class of the worst that came of faults, which is its name too.
+fn worst_class(worst: Worst) -> &'static [u8]
+    ensures { result.now ≡ worst_class_of worst }
+{
+    match worst {
+        Worst::Wrong => b"wrong",
+        Worst::RanOn => b"ran-on",
+        Worst::Same => b"same",
+        Worst::Stopped => b"stopped",
+        Worst::Refused => b"refused",
+    }
+}
+
+/// The class of a look.
+fn class(look: Look) -> &'static [u8]
+    ensures { result.now ≡ class_of look }
+{
+    match look {
+        Look::Shown(colour) => colour_class(colour),
+        Look::Untried => b"plain",
+        Look::Tried { worst, .. } => worst_class(worst),
+    }
+}
+
 /// Draws the rectangle of operation `n`.
-fn then_outline<O: Sink>(line: &mut Line, out: &mut O, n: u32, colour: Colour, place: Place)
+fn then_outline<O: Sink>(line: &mut Line, out: &mut O, n: u32, look: Look, place: Place)
     ensures { GathersTo (O.seen out.old) (O.seen out.new) line.old line.new
-        (element_text (outline n colour place)) }
+        (element_text (outline n look place)) }
 {
     then_element(
         line,
@@ -40,7 +65,7 @@ fn then_outline<O: Sink>(line: &mut Line, out: &mut O, n: u32, colour: Colour, p
         Tag::Rect,
         &[
             (Name::Operation, Piece::Count(n as u64)),
-            (Name::Class, Piece::Bytes(class(colour))),
+            (Name::Class, Piece::Bytes(class(look))),
             (Name::X, Piece::Count(left(place))),
             (Name::Y, Piece::Count(top(place))),
             (Name::Width, Piece::Count(96)),
@@ -140,6 +165,45 @@ fn then_blindness<O: Sink>(
     }
 }
 
+/// Draws the worst that came of faults, and of how many of how many.
+fn then_share<O: Sink>(
+    line: &mut Line,
+    out: &mut O,
+    worst: Worst,
+    some: u32,
+    all: u64,
+    place: Place,
+)
+    ensures { GathersTo (O.seen out.old) (O.seen out.new) line.old line.new
+        (element_text (words place 45 (worst_class_of worst ∷ codes " " ∷ decimal some ∷ codes "/" ∷ decimal all ∷ []))) }
+{
+    then_words(
+        line,
+        out,
+        place,
+        45,
+        &[
+            Piece::Bytes(worst_class(worst)),
+            Piece::Bytes(b" "),
+            Piece::Count(some as u64),
+            Piece::Bytes(b"/"),
+            Piece::Count(all),
+        ],
+    );
+}
+
+/// Draws what is noted in the last line of a box, where anything is.
+fn then_note<O: Sink>(line: &mut Line, out: &mut O, graph: &Graph, look: Look, place: Place)
+    ensures { GathersTo (O.seen out.old) (O.seen out.new) line.old line.new
+        (flat_map element_text (note graph.now look place)) }
+{
+    match look {
+        Look::Shown(colour) => then_blindness(line, out, graph, colour, place),
+        Look::Untried => {}
+        Look::Tried { worst, some, all } => then_share(line, out, worst, some, all, place),
+    }
+}
+
 /// Draws a bar at a side of a box.
 fn then_bar<O: Sink>(line: &mut Line, out: &mut O, x: u64, y: u64)
     ensures { GathersTo (O.seen out.old) (O.seen out.new) line.old line.new
@@ -172,46 +236,36 @@ fn then_cell_bar<O: Sink>(line: &mut Line, out: &mut O, kind: Kind, place: Place
     }
 }
 
-/// Draws the box of operation `n` in its colour.
-fn then_box<O: Sink>(
-    line: &mut Line,
-    out: &mut O,
-    graph: &Graph,
-    n: u32,
-    colour: Colour,
-    place: Place,
-)
+/// Draws the box of operation `n` with its look.
+fn then_box<O: Sink>(line: &mut Line, out: &mut O, graph: &Graph, n: u32, look: Look, place: Place)
     requires { n < length graph.now.operations }
     ensures { GathersTo (O.seen out.old) (O.seen out.new) line.old line.new
-        (flat_map element_text (flat_map (box_elements graph.now) (box_drawn graph.now n colour place (slice_get graph.now.operations n)))) }
+        (flat_map element_text (flat_map (box_elements graph.now) (box_drawn graph.now n look place (slice_get graph.now.operations n)))) }
 {
     let op = graph.operation(n);
-    then_outline(line, out, n, colour, place);
+    then_outline(line, out, n, look, place);
     then_head(line, out, n, op.kind, place);
     then_own(line, out, own_piece(graph, op.kind, op.imm), place);
     then_source(line, out, op.spot, place);
-    then_blindness(line, out, graph, colour, place);
+    then_note(line, out, graph, look, place);
     then_cell_bar(line, out, op.kind, place);
 }
 
 /// Draws the boxes of a graph's operations.
-pub(crate) fn then_boxes<O: Sink>(
+pub(crate) fn then_boxes<O: Sink, L: Looks>(
     line: &mut Line,
     out: &mut O,
     graph: &Graph,
-    weights: &Weights,
+    looks: &L,
     layout: &Layout,
-    distances: u32,
 )
-    requires operations { weights.now.operations ≡ length graph.now.operations }
-    requires outputs { length weights.now.outputs ≡ length graph.now.outputs }
-    requires distances { distances ≤ weights.now.horizon + 1 }
+    requires tells { L.IsFor looks.now graph.now }
     ensures { GathersTo (O.seen out.old) (O.seen out.new) line.old line.new
         (flat_map element_text (flat_map (box_elements graph.now)
-        (boxes_below graph.now weights.now distances layout.now.places (length graph.now.operations)))) }
+        (boxes_below graph.now (L.looks looks.now graph.now) layout.now.places (length graph.now.operations)))) }
 {
     'operations: for n in 0..graph.len() {
-        let colour = colour_of(weights, n, graph.outputs(), distances);
-        then_box(line, out, graph, n, colour, layout.place(n));
+        let look = looks.look(graph, n);
+        then_box(line, out, graph, n, look, layout.place(n));
     }
 }

@@ -1,102 +1,105 @@
 //! The legend of a picture, and its style.
 
-ghost use Rattle.std.specs.Prelude.{◌≤◌, ◌≡◌, flat_map};
+ghost use Rattle.std.specs.Prelude.{◌≡◌, flat_map};
 ghost use Rattle.gathered_line.specs.Gathering.{GathersTo};
 ghost use Rattle.svg_text.specs.Characters.{piece_bytes};
 ghost use Rattle.svg_text.specs.Elements.{element_text};
-ghost use Rattle.graph_picture.specs.Elements.{style, swatch, caption, sample, legend};
+ghost use Rattle.graph_picture.specs.Elements.{style, swatch, caption, sample, sample_of, legend_of};
 
 use gathered_line::Line;
 use svg_text::{Name, Piece, Tag, then_element};
 use vcp_outside::Sink;
 
-/// The rules of style.
-const STYLE: &[u8] =
-    b"text{font:9px monospace}rect{stroke:#333;fill:#fff}line{stroke:#888}.unreached{fill:#ddd}.blind{fill:#f99}.cell{fill:#36c}";
+/// A sample of a legend: a small rectangle of a class, and beside it what it says.
+#[derive(Clone, Copy, Debug)]
+pub struct Sample<'a> {
+    /// The distance of the rectangle from the left.
+    pub x: u32,
+    /// The class.
+    pub class: &'a [u8],
+    /// What it says.
+    pub told: &'a [u8],
+    /// How often it comes, where that is told.
+    pub many: Option<u32>,
+}
 
 /// Goes on with the rules of style.
-fn then_style<O: Sink>(line: &mut Line, out: &mut O)
-    ensures { GathersTo (O.seen out.old) (O.seen out.new) line.old line.new (element_text style) }
+fn then_style<O: Sink>(line: &mut Line, out: &mut O, rules: &[u8])
+    ensures { GathersTo (O.seen out.old) (O.seen out.new) line.old line.new (element_text (style rules.now)) }
 {
-    then_element(line, out, Tag::Style, &[], &[Piece::Bytes(STYLE)]);
+    then_element(line, out, Tag::Style, &[], &[Piece::Bytes(rules)]);
 }
 
 /// Draws a small rectangle of a class.
-fn then_swatch<O: Sink>(line: &mut Line, out: &mut O, x: u64, class: Piece<'_>)
-    ensures { GathersTo (O.seen out.old) (O.seen out.new) line.old line.new
-        (element_text (swatch x (piece_bytes class.entry))) }
+fn then_swatch<O: Sink>(line: &mut Line, out: &mut O, x: u32, class: &[u8])
+    ensures { GathersTo (O.seen out.old) (O.seen out.new) line.old line.new (element_text (swatch x class.now)) }
 {
     then_element(
         line,
         out,
         Tag::Rect,
         &[
-            (Name::X, Piece::Count(x)),
+            (Name::X, Piece::Count(x as u64)),
             (Name::Y, Piece::Count(8)),
             (Name::Width, Piece::Count(14)),
             (Name::Height, Piece::Count(14)),
-            (Name::Class, class),
+            (Name::Class, Piece::Bytes(class)),
         ],
         &[],
     );
 }
 
-/// Writes what a class says, beside its rectangle.
-fn then_caption<O: Sink>(line: &mut Line, out: &mut O, x: u64, told: Piece<'_>)
-    requires { x ≤ 1000 }
-    ensures { GathersTo (O.seen out.old) (O.seen out.new) line.old line.new
-        (element_text (caption x (piece_bytes told.entry))) }
+/// Writes what a class says, beside its rectangle, and how often it comes where that is told.
+fn then_caption<O: Sink>(line: &mut Line, out: &mut O, x: u32, told: &[u8], many: Option<u32>)
+    ensures { GathersTo (O.seen out.old) (O.seen out.new) line.old line.new (element_text (caption x told.now many)) }
 {
-    then_element(
-        line,
-        out,
-        Tag::Text,
-        &[(Name::X, Piece::Count(x + 20)), (Name::Y, Piece::Count(20))],
-        &[told],
-    );
+    let place = [
+        (Name::X, Piece::Count(x as u64 + 20)),
+        (Name::Y, Piece::Count(20)),
+    ];
+    match many {
+        None => then_element(line, out, Tag::Text, &place, &[Piece::Bytes(told)]),
+        Some(n) => then_element(
+            line,
+            out,
+            Tag::Text,
+            &place,
+            &[
+                Piece::Bytes(told),
+                Piece::Bytes(b" "),
+                Piece::Count(n as u64),
+            ],
+        ),
+    }
 }
 
-/// Draws a small rectangle of a class, and beside it what it says.
-fn then_sample<O: Sink>(line: &mut Line, out: &mut O, x: u64, class: Piece<'_>, told: Piece<'_>)
-    requires { x ≤ 1000 }
-    ensures { GathersTo (O.seen out.old) (O.seen out.new) line.old line.new
-        (flat_map element_text (sample x (piece_bytes class.entry) (piece_bytes told.entry))) }
+/// Draws a sample.
+fn then_sample<O: Sink>(line: &mut Line, out: &mut O, shown: &Sample<'_>)
+    ensures { GathersTo (O.seen out.old) (O.seen out.new) line.old line.new (flat_map element_text (sample_of shown.now)) }
 {
-    then_swatch(line, out, x, class);
-    then_caption(line, out, x, told);
+    then_swatch(line, out, shown.x, shown.class);
+    then_caption(line, out, shown.x, shown.told, shown.many);
+}
+
+/// Draws samples, one beside the other.
+fn then_samples<O: Sink>(line: &mut Line, out: &mut O, samples: &[Sample<'_>])
+    ensures { GathersTo (O.seen out.old) (O.seen out.new) line.old line.new
+        (flat_map (λ s. flat_map element_text (sample_of s)) samples.now) }
+{
+    'samples: for i in 0..samples.len() {
+        then_sample(line, out, &samples[i]);
+    }
 }
 
 /// Draws the style and the legend: what the colours say.
-pub(crate) fn then_legend<O: Sink>(line: &mut Line, out: &mut O)
-    ensures { GathersTo (O.seen out.old) (O.seen out.new) line.old line.new (flat_map element_text legend) }
+pub(crate) fn then_legend<O: Sink>(
+    line: &mut Line,
+    out: &mut O,
+    rules: &[u8],
+    samples: &[Sample<'_>],
+)
+    ensures { GathersTo (O.seen out.old) (O.seen out.new) line.old line.new (flat_map element_text (legend_of rules.now samples.now)) }
 {
-    then_style(line, out);
-    then_sample(
-        line,
-        out,
-        12,
-        Piece::Bytes(b"plain"),
-        Piece::Bytes(b"reaches an output"),
-    );
-    then_sample(
-        line,
-        out,
-        192,
-        Piece::Bytes(b"unreached"),
-        Piece::Bytes(b"reaches none"),
-    );
-    then_sample(
-        line,
-        out,
-        332,
-        Piece::Bytes(b"blind"),
-        Piece::Bytes(b"blind for the output that it names, so many cycles later"),
-    );
-    then_sample(
-        line,
-        out,
-        672,
-        Piece::Bytes(b"cell"),
-        Piece::Bytes(b"a cell's LOAD (left) or STORE (right)"),
-    );
+    then_style(line, out, rules);
+    then_samples(line, out, samples);
 }

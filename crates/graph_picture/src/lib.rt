@@ -1,9 +1,9 @@
 //! The picture of a graph: a box for each operation, in columns by depth, and a line from each operand
 //! to its reader.
 //!
-//! An operation from which no path leads to an output within the horizon is grey, and one whose
-//! differences cancel on their paths to an output is red, with that output and the number of cycle
-//! borders; so the graph's weights say. The picture is written piece by piece.
+//! How a box looks is told by a `Looks`. By weights, an operation from which no path leads to an output within
+//! the horizon is grey, and one whose differences cancel on their paths to an output is red, with that
+//! output and the number of cycle borders. The picture is written piece by piece.
 #![tactic(auto)]
 
 mod boxes;
@@ -12,6 +12,7 @@ mod columns;
 mod laws;
 mod layout;
 mod legend;
+mod looks;
 mod names;
 mod picture;
 mod rows;
@@ -20,5 +21,7 @@ mod wires;
 pub use colours::{Colour, colour_of};
 pub use laws::a_graph_is_drawn_whole;
 pub use layout::{Layout, Place, layout_of};
+pub use legend::Sample;
+pub use looks::{Look, Looks, Worst};
 pub use names::own_piece;
-pub use picture::write_picture;
+pub use picture::{write_looks, write_picture};

@@ -4,16 +4,42 @@ ghost use Rattle.std.specs.Prelude.{◌≤◌, ◌≡◌};
 ghost use Rattle.vcp_outside.specs.Written.{WritesTo};
 ghost use Rattle.vcp_base.specs.Limits.{most_horizon};
 ghost use Rattle.weight_audit.specs.Audit.{IsAudit};
-ghost use Rattle.graph_picture.specs.Elements.{graph_text};
+ghost use Rattle.graph_picture.specs.Elements.{graph_text, legend_of, picture_of};
 
 use crate::boxes::then_boxes;
 use crate::layout::Layout;
-use crate::legend::then_legend;
+use crate::legend::{Sample, then_legend};
+use crate::looks::{AuditLooks, Looks};
 use crate::wires::then_wires;
 use op_graph::Graph;
 use svg_text::{begin_picture, end_picture};
 use vcp_outside::{Failed, Sink};
 use weight_audit::Weights;
+
+/// The rules of style of the picture by weights.
+const AUDIT_STYLE: &[u8] =
+    b"text{font:9px monospace}rect{stroke:#333;fill:#fff}line{stroke:#888}.unreached{fill:#ddd}.blind{fill:#f99}.cell{fill:#36c}";
+
+/// Writes the picture of a graph whose boxes look so and stand so, with a legend of these rules of style and these samples. It takes no memory. After
+/// `Failed` a part of the picture is written.
+pub fn write_looks<O: Sink, L: Looks>(
+    out: &mut O,
+    graph: &Graph,
+    looks: &L,
+    rules: &[u8],
+    samples: &[Sample<'_>],
+    layout: &Layout,
+) -> Result<(), Failed>
+    requires tells { L.IsFor looks.now graph.now }
+    ensures { WritesTo (O.seen out.old) (O.seen out.new)
+        (picture_of graph.now (L.looks looks.now graph.now) (legend_of rules.now samples.now) layout.now) result }
+{
+    let mut line = begin_picture(out, layout.width(), layout.height());
+    then_legend(&mut line, out, rules, samples);
+    then_wires(&mut line, out, graph, layout);
+    then_boxes(&mut line, out, graph, looks, layout);
+    end_picture(line, out)
+}
 
 /// Writes the picture of a graph, whose weights up to the horizon, of at most 1000 cycle borders, these
 /// are, where its boxes stand so. It takes no memory. After `Failed` a part of the picture is written.
@@ -29,9 +55,35 @@ pub fn write_picture<O: Sink>(
     ensures { WritesTo (O.seen out.old) (O.seen out.new)
         (graph_text graph.now weights.now horizon layout.now) result }
 {
-    let mut line = begin_picture(out, layout.width(), layout.height());
-    then_legend(&mut line, out);
-    then_wires(&mut line, out, graph, layout);
-    then_boxes(&mut line, out, graph, weights, layout, horizon + 1);
-    end_picture(line, out)
+    let samples = [
+        Sample {
+            x: 12,
+            class: b"plain",
+            told: b"reaches an output",
+            many: None,
+        },
+        Sample {
+            x: 192,
+            class: b"unreached",
+            told: b"reaches none",
+            many: None,
+        },
+        Sample {
+            x: 332,
+            class: b"blind",
+            told: b"blind for the output that it names, so many cycles later",
+            many: None,
+        },
+        Sample {
+            x: 672,
+            class: b"cell",
+            told: b"a cell's LOAD (left) or STORE (right)",
+            many: None,
+        },
+    ];
+    let looks = AuditLooks {
+        weights,
+        distances: horizon + 1,
+    };
+    write_looks(out, graph, &looks, AUDIT_STYLE, &samples, layout)
 }

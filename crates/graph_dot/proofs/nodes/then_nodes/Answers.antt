@@ -2,7 +2,7 @@ use Rattle.std.proofs.Common.{◌≡◌, ◌++◌, ◌∙◌, ap, [], length, fl
 use Rattle.std.proofs.lemmas.List.{append-nil}
 use Rattle.svg_text.specs.Drawing.{each_below}
 use Rattle.graph_picture.specs.Arrangement.{place_at}
-use Rattle.graph_picture.specs.Colours.{colour_of}
+use Rattle.graph_picture.specs.Colours.{colours}
 use Rattle.graph_picture.specs.Drawn.{box_at, box_drawn}
 use Rattle.graph_dot.specs.DotText.{box_text}
 use Rattle.graph_dot.proofs.Going.{and_then, same, one_more, unmoved}
@@ -15,12 +15,12 @@ pub operations-preserved : goal.operations-preserved
 operations-preserved g c =
     let graph = c.args.graph.now in
     let n = c.operations.n in
-    let colour = colour_of c.args.weights.now n c.args.distances (length graph.outputs) in
-    let boxes = box_at graph c.args.weights.now c.args.distances [] in
+    let looks = colours graph c.args.weights.now c.args.distances in
+    let boxes = box_at graph looks [] in
     let drawn = rw (c.colour_of-colour.ensures, c.outputs.ensures) at c.then_node.ensures in
     same (and_then c.operations.invariant drawn)
     (one_more (box_text graph) boxes n ∙ ap (λ t. flat_map (box_text graph) (each_below boxes n) ++ t)
-    (ap (λ o. flat_map (box_text graph) (box_drawn graph n colour (place_at [] n) o)) c.operation.ensures ∙ append-nil _))
+    (ap (λ o. flat_map (box_text graph) (box_drawn graph n (looks n) (place_at [] n) o)) c.operation.ensures ∙ append-nil _))
 
 pub returns : goal.returns
 returns g c =

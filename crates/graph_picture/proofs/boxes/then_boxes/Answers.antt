@@ -9,8 +9,8 @@ operations-init g c = unmoved
 
 pub operations-preserved : goal.operations-preserved
 operations-preserved g c =
-    let boxes = box_at c.args.graph.now c.args.weights.now c.args.distances c.args.layout.now.places in
-    let drawn = rw (c.colour_of-colour.ensures, c.outputs.ensures, c.place.ensures) at c.then_box.ensures in
+    let boxes = box_at c.args.graph.now (g.L.Looks.looks c.args.looks.now c.args.graph.now) c.args.layout.now.places in
+    let drawn = rw (c.look-look.ensures, c.place.ensures) at c.then_box.ensures in
     both _ _ _ c.operations.invariant drawn (one_more (box_elements c.args.graph.now) boxes c.operations.n)
 
 pub returns : goal.returns

@@ -1,5 +1,4 @@
 use Rattle.std.proofs.Common.{ap, ◌++◌}
-use Rattle.svg_text.specs.Characters.{piece_bytes}
 use Rattle.svg_text.specs.Elements.{element_text}
 use Rattle.graph_picture.specs.Elements.{swatch, caption}
 use Rattle.graph_picture.proofs.Going.{and_then, same, one_drawn}
@@ -7,5 +6,6 @@ use Rattle.graph_picture.proofs.legend.then_sample.Goals as goal
 
 pub returns : goal.returns
 returns g c =
+    let s = c.args.shown.now in
     same (and_then c.then_swatch.ensures c.then_caption.ensures)
-    (ap (λ t. element_text (swatch c.args.x (piece_bytes c.args.class)) ++ t) (one_drawn (caption c.args.x (piece_bytes c.args.told))))
+    (ap (λ t. element_text (swatch s.x s.class.now) ++ t) (one_drawn (caption s.x s.told.now s.many)))
