@@ -24,7 +24,7 @@ fn count_if(mut totals: Totals, verdict: &Verdict, is: bool) -> Totals
 }
 
 /// The totals of the verdicts in row `n` of a table.
-pub(crate) fn totals_in(table: Table, n: u32, script: &Script, verdicts: &Verdicts) -> Totals
+pub fn totals_in(table: Table, n: u32, script: &Script, verdicts: &Verdicts) -> Totals
     requires many { length verdicts.now ≡ length script.now }
     requires few { length script.now ≤ most_faults }
     ensures { result ≡ totals_in_of table n script.now verdicts.now }

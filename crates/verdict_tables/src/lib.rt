@@ -18,9 +18,10 @@ mod verdicts;
 mod words;
 mod writing;
 
-pub use counts::{status, totals_of_all};
+pub use counts::{status, totals_in, totals_of_all};
 pub use fault::VerdictsFault;
 pub use reading::read_verdicts;
 pub use remark::is_for;
+pub use tables::Table;
 pub use verdicts::Verdicts;
 pub use writing::write_sum;

@@ -1,0 +1,14 @@
+use Rattle.std.proofs.Common.{subst}
+use Rattle.vcp_outside.specs.Written.{WritesTo}
+use Rattle.graph_picture.specs.Elements.{picture_of}
+use Rattle.verdict_picture.specs.FaultsText.{faults_legend}
+use Rattle.verdict_picture.specs.Looks.{verdict_looks}
+use Rattle.verdict_picture.proofs.picture.write_faults.Goals as goal
+
+pub returns : goal.returns
+returns g c =
+    let looks = verdict_looks c.args.script.now c.args.verdicts.now in
+    subst
+    (λ t. WritesTo (g.O.Sink.seen c.args.out.now) (g.O.Sink.seen c.write_looks.new.out)
+    (picture_of c.args.graph.now looks (faults_legend t) c.args.layout.now) c.write_looks.result)
+    c.totals_of_all-totals.ensures c.write_looks.ensures

@@ -1,0 +1,3 @@
+pub mod FaultsText
+pub mod Looks
+pub mod WorstVerdict
