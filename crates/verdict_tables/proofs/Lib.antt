@@ -1,3 +1,4 @@
+pub mod Apart
 pub mod Going
 pub mod Kept
 pub mod LinesRead

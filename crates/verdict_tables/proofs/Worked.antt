@@ -1,5 +1,5 @@
 -- Worked: texts of verdicts over the graph of `y := x + 1;`, and their tables, worked by hand.
-use Rattle.std.specs.Prelude.{◌≡◌, refl, ℕ, List, [], ◌∷◌, ◌++◌, Result, Ok, Err, pos, codes, true, false}
+use Rattle.std.specs.Prelude.{◌≡◌, refl, ℕ, List, [], ◌∷◌, ◌++◌, Result, Ok, Err, Some, None, pos, codes, true, false}
 use Rattle.std.specs.Fmt.{digits}
 use Rattle.vcp_base.specs.declared.code.Profile.TheVariants as profile
 use Rattle.vcp_base.specs.declared.ty.Ty.TheVariants as ty
@@ -16,6 +16,8 @@ use Rattle.verdict_tables.specs.declared.fault.VerdictsFault.TheVariants as faul
 use Rattle.verdict_tables.specs.declared.tables.Table.TheVariants as table
 use Rattle.verdict_tables.specs.Reading.{verdicts_in}
 use Rattle.verdict_tables.specs.Remark.{is_for}
+use Rattle.same_endings.specs.declared.ending.SameEnding.TheVariants as ends
+use Rattle.verdict_tables.specs.SameEndings.{endings_text}
 use Rattle.verdict_tables.specs.SumText.{column_text, heading_text, sum_text}
 
 sum : Lists
@@ -102,6 +104,14 @@ tables : sum_text sum three (verdict.Wrong 0 0 (pos 7) (pos 6) ∷ verdict.Refus
     ++ codes "faults 3 same 0 wrong 1 ran-on 0 refused 2 stopped 0\n"))))))))))
 unfolding digits sum three alone
 tables = refl
+
+-- a row for each ending that a group has
+endings : endings_text (Some ends.DiedOut ∷ None ∷ Some ends.Stands ∷ Some ends.DiedOut ∷ [])
+    ≡ codes "  faults    same   wrong  ran-on refused stopped  by how it ends where it shows nowhere\n"
+    ++ (codes "       2       2       0       0       0       0  died out\n"
+    ++ codes "       1       1       0       0       0       0  stands in a cell\n")
+unfolding digits
+endings = refl
 
 -- ---- remarks
 

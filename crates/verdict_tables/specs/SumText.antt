@@ -76,9 +76,12 @@ title table.Operations = codes "by where it stands"
 title table.Outputs = codes "by where it shows"
 title table.Delays = codes "by how many cycles later it shows"
 
--- the names of the columns
+-- the names of the columns, before what the rows are about
+abbrev pub heading_of : List ℕ → List ℕ
+heading_of name = codes "  faults    same   wrong  ran-on refused stopped  " ++ (name ++ codes "\n")
+
 abbrev pub heading_text : Table → List ℕ
-heading_text t = codes "  faults    same   wrong  ran-on refused stopped  " ++ (title t ++ codes "\n")
+heading_text t = heading_of (title t)
 
 abbrev pub table_text : Lists → Table → List (List Fault) → List Verdict → List ℕ
 table_text g t groups vs = heading_text t ++ rows_below g t groups vs (rows g t)

@@ -2,10 +2,12 @@
 //! late.
 //!
 //! `read_verdicts` reads what a campaign printed for the groups of a script, or tells the first line that doesn't belong to it, and
-//! `write_sum` writes the tables.
+//! `write_sum` writes the tables. `endings_of` tells the groups apart of which no output tells, and `write_sum_apart` writes a table of that, too.
 #![tactic(auto)]
 
 mod counts;
+mod ended;
+mod endings;
 mod fault;
 mod names;
 mod reading;
@@ -19,9 +21,10 @@ mod words;
 mod writing;
 
 pub use counts::{status, totals_in, totals_of_all};
+pub use endings::{Endings, endings_of};
 pub use fault::VerdictsFault;
 pub use reading::read_verdicts;
 pub use remark::is_for;
 pub use tables::Table;
 pub use verdicts::Verdicts;
-pub use writing::write_sum;
+pub use writing::{write_sum, write_sum_apart};

@@ -5,7 +5,7 @@ ghost use Rattle.gathered_line.specs.Gathering.{GathersTo};
 ghost use Rattle.fault_script.specs.ScriptOf.{most_faults};
 ghost use Rattle.verdict_tables.specs.Tables.{rows as rows_of};
 ghost use Rattle.verdict_tables.specs.SumText.{act_name as act_name_of, more_text, delay_text, row_name, row_text, table_text};
-ghost use Rattle.verdict_tables.specs.SumText.{blanks_before as blanks_before_of, column_text, columns_text, title as title_of, heading_text};
+ghost use Rattle.verdict_tables.specs.SumText.{blanks_before as blanks_before_of, column_text, columns_text, title as title_of, heading_of, heading_text};
 ghost use Rattle.verdict_tables.specs.declared.tables.Table.TheVariants as table;
 
 use crate::counts::totals_in;
@@ -107,7 +107,7 @@ fn then_column<O: Sink>(line: &mut Line, out: &mut O, n: u64)
 }
 
 /// Goes on with the columns of totals.
-fn then_columns<O: Sink>(line: &mut Line, out: &mut O, totals: &Totals)
+pub(crate) fn then_columns<O: Sink>(line: &mut Line, out: &mut O, totals: &Totals)
     ensures { GathersTo (O.seen out.old) (O.seen out.new) line.old line.new (columns_text totals.now) }
 {
     then_column(line, out, totals.faults());
@@ -151,13 +151,20 @@ fn title(table: Table) -> &'static [u8]
     }
 }
 
-/// Goes on with the names of the columns.
+/// Goes on with the names of the columns, before what the rows are about.
+pub(crate) fn then_titled<O: Sink>(line: &mut Line, out: &mut O, name: &[u8])
+    ensures { GathersTo (O.seen out.old) (O.seen out.new) line.old line.new (heading_of name.now) }
+{
+    line.text(out, b"  faults    same   wrong  ran-on refused stopped  ");
+    line.text(out, name);
+    line.text(out, b"\n");
+}
+
+/// Goes on with the names of the columns of a table.
 fn then_heading<O: Sink>(line: &mut Line, out: &mut O, table: Table)
     ensures { GathersTo (O.seen out.old) (O.seen out.new) line.old line.new (heading_text table) }
 {
-    line.text(out, b"  faults    same   wrong  ran-on refused stopped  ");
-    line.text(out, title(table));
-    line.text(out, b"\n");
+    then_titled(line, out, title(table));
 }
 
 /// Goes on with a table.

@@ -7,8 +7,11 @@ ghost use Rattle.fault_script.specs.Groups.{GroupFits};
 ghost use Rattle.fault_script.specs.ScriptOf.{most_faults};
 ghost use Rattle.fault_injector.specs.Names.{Names};
 ghost use Rattle.verdict_tables.specs.SumText.{tables_text, sum_text};
+ghost use Rattle.verdict_tables.specs.SameEndings.{sum_apart_text};
 
 use crate::counts::totals_of_all;
+use crate::ended::then_endings;
+use crate::endings::Endings;
 use crate::rows::then_table;
 use crate::tables::Table;
 use crate::unseen::then_all_unseen;
@@ -55,6 +58,30 @@ pub fn write_sum<O: Sink>(
 {
     let mut line = Line::new();
     then_tables(&mut line, out, graph, script, verdicts);
+    then_all_unseen(&mut line, out, graph, script, verdicts);
+    then_totals(&mut line, out, &totals_of_all(verdicts));
+    line.end(out)
+}
+
+/// Writes the same, and behind the tables one more, in which the groups with the verdict `same` are told apart: how many are never reached, how
+/// many died out, and how many still stand in a cell at the end.
+pub fn write_sum_apart<O: Sink>(
+    out: &mut O,
+    graph: &Graph,
+    script: &Script,
+    verdicts: &Verdicts,
+    endings: &Endings,
+) -> Result<(), Failed>
+    requires fits { All (GroupFits graph.now) script.now }
+    requires few { length script.now ≤ most_faults }
+    requires names { All (Names (length graph.now.outputs) (length graph.now.operations)) verdicts.now }
+    requires many { length verdicts.now ≡ length script.now }
+    requires each { length endings.now ≡ length script.now }
+    ensures { WritesTo (O.seen out.old) (O.seen out.new) (sum_apart_text graph.now script.now verdicts.now endings.now) result }
+{
+    let mut line = Line::new();
+    then_tables(&mut line, out, graph, script, verdicts);
+    then_endings(&mut line, out, endings);
     then_all_unseen(&mut line, out, graph, script, verdicts);
     then_totals(&mut line, out, &totals_of_all(verdicts));
     line.end(out)

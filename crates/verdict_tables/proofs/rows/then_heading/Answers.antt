@@ -1,5 +1,4 @@
-use Rattle.verdict_tables.proofs.Going.{and_then}
 use Rattle.verdict_tables.proofs.rows.then_heading.Goals as goal
 
 pub returns : goal.returns
-returns g c = and_then c.text.ensures.gathers (and_then (rw c.title.ensures at c.text-2.ensures.gathers) c.text-3.ensures.gathers)
+returns g c = rw c.title.ensures at c.then_titled.ensures

@@ -1,0 +1,20 @@
+-- Lists: what stands at a place of a list, and behind it.
+use Rattle.std.proofs.Common.{◌≡◌, ℕ, zero, suc, ◌+◌, ◌<◌, ◌≤◌, List, [], ◌∷◌, length, drop, slice_get, Some, refl, ap, sym, ◌∙◌, arith}
+
+pub there_is : {X : Type 0} (xs : List X) (k : ℕ) → k < length xs → (x : X) × (slice_get xs k ≡ Some x)
+there_is [] k within = absurd (omega (arith, within))
+there_is (x ∷ xs) zero within = (x, refl)
+there_is (x ∷ xs) (suc k) within = there_is xs k (omega (arith, within))
+
+pub drop_there : {X : Type 0} (xs : List X) (k : ℕ) (x : X) → slice_get xs k ≡ Some x → drop k xs ≡ x ∷ drop (k + 1) xs
+drop_there [] k x there = absurd cc
+drop_there (y ∷ xs) zero x there = let same : y ≡ x = cc in ap (λ z. z ∷ xs) same
+drop_there (y ∷ xs) (suc k) x there =
+    let on : suc k + 1 ≡ suc (k + 1) = omega arith in
+    drop_there xs k x there ∙ ap (λ (n : ℕ). x ∷ drop n (y ∷ xs)) (sym on)
+
+pub drop_behind : {X : Type 0} (xs : List X) (k : ℕ) → length xs ≤ k → drop k xs ≡ []
+drop_behind [] zero few = refl
+drop_behind [] (suc k) few = refl
+drop_behind (x ∷ xs) zero few = absurd (omega (arith, few))
+drop_behind (x ∷ xs) (suc k) few = drop_behind xs k (omega (arith, few))

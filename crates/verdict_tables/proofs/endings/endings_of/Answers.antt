@@ -1,0 +1,34 @@
+use Rattle.std.proofs.Common.{◌+◌, ◌++◌, List, Option, sym, ap, ◌∙◌, arith, drop, length}
+use Rattle.same_endings.specs.declared.ending.SameEnding.{SameEnding}
+use Rattle.verdict_tables.specs.SameEndings.{endings_for, ended_count}
+use Rattle.verdict_tables.proofs.Apart.{one_ended, none_ended, each_ended, three_are_all}
+use Rattle.verdict_tables.proofs.endings.endings_of.Goals as goal
+
+pub groups-preserved : goal.groups-preserved
+groups-preserved c =
+    let t = c.args.table.now in
+    let g = c.args.graph.now in
+    let rows = c.args.rows.now in
+    let groups = c.args.script.now in
+    let vs = c.args.verdicts.now in
+    let i = c.groups.i in
+    c.groups.invariant
+    ∙ (one_ended t g rows groups vs i c.at-group.result.now c.at-verdict.result c.in_ok-ending.ending c.groups.endings c.at-group.ensures
+    c.at-verdict.ensures c.in_ok-ending.ensures
+    ∙ ap (λ (es : List (Option SameEnding)). es ++ endings_for t g rows (drop (i + 1) groups) (drop (i + 1) vs)) (sym c.in_ok-push.ensures.ok))
+
+pub returns : goal.returns
+returns c =
+    let t = c.args.table.now in
+    let g = c.args.graph.now in
+    let rows = c.args.rows.now in
+    let groups = c.args.script.now in
+    let vs = c.args.verdicts.now in
+    let all = sym (c.groups.invariant
+    ∙ none_ended t g rows groups vs c.groups.i c.groups.endings (omega (arith, c.groups-test.false, c.len-i-end.ensures))) in
+    record {
+      endings = all;
+      each = ap length all ∙ each_ended t g rows groups vs c.requires.many;
+      sum = ap (λ (es : List (Option SameEnding)). ended_count 0 es + ended_count 1 es + ended_count 2 es) all
+          ∙ three_are_all t g rows groups vs c.requires.many;
+    }

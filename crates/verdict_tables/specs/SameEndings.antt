@@ -1,0 +1,73 @@
+-- SameEndings: of the groups with the verdict `same`, how many are never reached, how many died out, and how many still stand in a cell at the end.
+use Rattle.std.specs.Prelude.{ℕ, ◌+◌, ◌==◌, Bool, true, false, cond, List, [], ◌∷◌, ◌++◌, length, codes, Option, Some, None, ℤ}
+use Rattle.op_graph.specs.Lists.{Lists}
+use Rattle.signature_table.specs.Signatures.{Numbers}
+use Rattle.fault_script.specs.declared.act.Fault.{Fault}
+use Rattle.fault_injector.specs.declared.verdict.Verdict.{Verdict}
+use Rattle.fault_injector.specs.declared.verdict.Verdict.TheVariants as verdict
+use Rattle.same_endings.specs.declared.ending.SameEnding.{SameEnding}
+use Rattle.same_endings.specs.declared.ending.SameEnding.TheVariants as ends
+use Rattle.same_endings.specs.Endings.{ending_of}
+use Rattle.verdict_lines.specs.declared.lines.Totals.{Totals}
+use Rattle.verdict_lines.specs.FaultLines.{totals_of, totals_text}
+use Rattle.verdict_tables.specs.SumText.{heading_of, row_text, tables_text, unseen_below}
+
+-- ---- the endings of groups
+
+-- how the run with a group ends whose verdict is `same`; none of any other
+abbrev pub ending_if : Numbers → Lists → List (List ℤ) → List Fault → Verdict → Option SameEnding
+ending_if t g rows faults verdict.Same = Some (ending_of t g faults rows)
+ending_if t g rows faults (verdict.Wrong cycle output got want) = None
+ending_if t g rows faults (verdict.RanOn cycle) = None
+ending_if t g rows faults (verdict.Refused cycle output found wanted) = None
+ending_if t g rows faults (verdict.Stopped cycle op kind) = None
+
+-- the same of each group of a script
+abbrev pub endings_for : Numbers → Lists → List (List ℤ) → List (List Fault) → List Verdict → List (Option SameEnding)
+endings_for t g rows [] vs = []
+endings_for t g rows (faults ∷ groups) [] = []
+endings_for t g rows (faults ∷ groups) (v ∷ vs) = ending_if t g rows faults v ∷ endings_for t g rows groups vs
+
+-- ---- their table
+
+-- the endings in the order of their rows, from 0
+abbrev pub ending_number : SameEnding → ℕ
+ending_number ends.NeverReached = 0
+ending_number ends.DiedOut = 1
+ending_number ends.Stands = 2
+
+-- a group is in row n
+abbrev pub is_ended : ℕ → Option SameEnding → Bool
+is_ended n None = false
+is_ended n (Some e) = ending_number e == n
+
+abbrev pub one_if : Bool → ℕ
+one_if true = 1
+one_if false = 0
+
+-- how many are in row n
+abbrev pub ended_count : ℕ → List (Option SameEnding) → ℕ
+ended_count n [] = 0
+ended_count n (e ∷ endings) = one_if (is_ended n e) + ended_count n endings
+
+-- what row n counts
+abbrev pub ending_name : ℕ → List ℕ
+ending_name n = cond (n == 0) (codes "never reached") (cond (n == 1) (codes "died out") (codes "stands in a cell"))
+
+-- the totals of so many verdicts `same`
+abbrev pub same_only : ℕ → Totals
+same_only n = record { same = n; wrong = 0; ran_on = 0; refused = 0; stopped = 0 }
+
+abbrev pub ended_row : ℕ → List (Option SameEnding) → List ℕ
+ended_row n endings = row_text (ending_name n) (same_only (ended_count n endings))
+
+-- the table, with a row for each ending that a group has
+abbrev pub endings_text : List (Option SameEnding) → List ℕ
+endings_text endings = heading_of (codes "by how it ends where it shows nowhere") ++ (ended_row 0 endings ++ (ended_row 1 endings ++ ended_row 2 endings))
+
+-- ---- the whole text
+
+-- the tables and the one of endings, the verdicts that aren't seen, and the totals of all
+abbrev pub sum_apart_text : Lists → List (List Fault) → List Verdict → List (Option SameEnding) → List ℕ
+sum_apart_text g groups vs endings =
+    tables_text g groups vs ++ (endings_text endings ++ (unseen_below g groups vs (length vs) ++ totals_text (totals_of vs)))

@@ -1,0 +1,115 @@
+//! The table in which the groups are told apart of which no output tells.
+
+ghost use Rattle.std.specs.Prelude.{◌≡◌, ◌<◌, ◌≤◌, ◌++◌, codes, length};
+ghost use Rattle.gathered_line.specs.Gathering.{GathersTo};
+ghost use Rattle.fault_script.specs.ScriptOf.{most_faults};
+ghost use Rattle.verdict_tables.specs.SumText.{row_text};
+ghost use Rattle.verdict_tables.specs.SameEndings.{ending_number as ending_number_of, is_ended as is_ended_of, one_if as one_if_of, ended_count};
+ghost use Rattle.verdict_tables.specs.SameEndings.{ending_name as ending_name_of, same_only as same_only_of, ended_row, endings_text};
+
+use crate::endings::Endings;
+use crate::rows::{then_columns, then_titled};
+use gathered_line::Line;
+use same_endings::SameEnding;
+use vcp_outside::Sink;
+use verdict_lines::Totals;
+
+/// The number of an ending's row.
+fn ending_number(ending: SameEnding) -> u32
+    ensures { result ≡ ending_number_of ending }
+{
+    match ending {
+        SameEnding::NeverReached => 0,
+        SameEnding::DiedOut => 1,
+        SameEnding::Stands => 2,
+    }
+}
+
+/// Whether a group is in row `n`.
+fn is_ended(n: u32, ending: Option<SameEnding>) -> bool
+    ensures { result ≡ is_ended_of n ending }
+{
+    match ending {
+        Some(ending) => ending_number(ending) == n,
+        None => false,
+    }
+}
+
+/// 1 for a group that is in a row.
+fn one_if(is: bool) -> u32
+    ensures one { result ≡ one_if_of is }
+    ensures few { result ≤ 1 }
+{
+    if is { 1 } else { 0 }
+}
+
+/// How many groups are in row `n`.
+fn count_ended(n: u32, endings: &Endings) -> u32
+    requires { length endings.now ≤ most_faults }
+    ensures { result ≡ ended_count n endings.now }
+{
+    let mut count = 0;
+    'endings: for i in 0..endings.len() {
+        count += one_if(is_ended(n, endings.at(i)));
+    }
+    count
+}
+
+/// The totals of so many verdicts `same`.
+fn same_only(count: u32) -> Totals
+    ensures { result ≡ same_only_of count }
+{
+    Totals {
+        same: count,
+        wrong: 0,
+        ran_on: 0,
+        refused: 0,
+        stopped: 0,
+    }
+}
+
+/// What row `n` counts.
+fn ending_name(n: u32) -> &'static [u8]
+    ensures { result.now ≡ ending_name_of n }
+{
+    if n == 0 {
+        return b"never reached";
+    }
+    if n == 1 {
+        return b"died out";
+    }
+    b"stands in a cell"
+}
+
+/// Goes on with a row of this name, where something is counted in it.
+fn then_named_row<O: Sink>(line: &mut Line, out: &mut O, name: &[u8], totals: &Totals)
+    ensures { GathersTo (O.seen out.old) (O.seen out.new) line.old line.new (row_text name.now totals.now) }
+{
+    if totals.faults() == 0 {
+        return;
+    }
+    then_columns(line, out, totals);
+    line.text(out, b"  ");
+    line.text(out, name);
+    line.text(out, b"\n");
+}
+
+/// Goes on with row `n`.
+fn then_ended_row<O: Sink>(line: &mut Line, out: &mut O, n: u32, endings: &Endings)
+    requires { length endings.now ≤ most_faults }
+    ensures { GathersTo (O.seen out.old) (O.seen out.new) line.old line.new (ended_row n endings.now) }
+{
+    let totals = same_only(count_ended(n, endings));
+    then_named_row(line, out, ending_name(n), &totals);
+}
+
+/// Goes on with the table.
+pub(crate) fn then_endings<O: Sink>(line: &mut Line, out: &mut O, endings: &Endings)
+    requires { length endings.now ≤ most_faults }
+    ensures { GathersTo (O.seen out.old) (O.seen out.new) line.old line.new (endings_text endings.now) }
+{
+    then_titled(line, out, b"by how it ends where it shows nowhere");
+    then_ended_row(line, out, 0, endings);
+    then_ended_row(line, out, 1, endings);
+    then_ended_row(line, out, 2, endings);
+}

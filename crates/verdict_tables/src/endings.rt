@@ -1,0 +1,143 @@
+//! How the groups of a script end of which no output tells.
+
+ghost use Rattle.std.specs.Prelude.{◌≡◌, ◌<◌, ◌≤◌, ◌+◌, [], ◌∷◌, ◌++◌, Some, All, IfOk, OnOk, OnErr, length, slice_get};
+ghost use Rattle.vcp_base.specs.Limits.{most_cycles};
+ghost use Rattle.signature_table.specs.Signatures.{IsTableOf};
+ghost use Rattle.fault_script.specs.Changes.{acts_of};
+ghost use Rattle.same_endings.specs.AnswersOver.{held_at_end};
+ghost use Rattle.verdict_lines.specs.FaultLines.{totals_of};
+ghost use Rattle.verdict_tables.specs.SameEndings.{ending_if as ending_if_of, endings_for, ended_count};
+
+use crate::verdicts::Verdicts;
+use coded_unit::Word;
+use fault_injector::Verdict;
+use fault_script::{Group, Script};
+use input_rows::RowList;
+use op_graph::Graph;
+use same_endings::{SameEnding, group_ending, words_left};
+use signature_table::Table;
+use std::alloc::Global;
+use std::marker::Model;
+use vcp_base::Memory;
+
+/// For each group of a script, in order, how its run ends where its verdict is `same`, and none where it is another. Seen as a list.
+#[derive(Debug, Drop)]
+pub struct Endings {
+    endings: Vec<Option<SameEnding>>,
+}
+
+impl Model for Endings {
+    ghost use Rattle.std.specs.Prelude.{List, Option};
+    ghost use Rattle.same_endings.specs.declared.ending.SameEnding.{SameEnding};
+
+    ghost Value = { List (Option SameEnding) };
+
+    ghost view = { λ e. e.endings.items };
+}
+
+impl Endings {
+    /// Of no groups. It takes no memory.
+    pub fn new(alloc: Global) -> Endings
+        ensures { result ≡ [] }
+    {
+        Endings {
+            endings: Vec::new(alloc),
+        }
+    }
+
+    /// Appends that of one more group. After `Memory` the list is unchanged.
+    pub fn push(&mut self, ending: Option<SameEnding>) -> Result<(), Memory>
+        ensures ok { OnOk result (self.new ≡ self.old ++ ending ∷ []) }
+        ensures err { OnErr result (self.new ≡ self.old) }
+    {
+        self.endings.push(ending)?;
+        Ok(())
+    }
+
+    /// Of how many groups it tells.
+    pub fn len(&self) -> usize
+        ensures { result ≡ length self.now }
+    {
+        self.endings.len()
+    }
+
+    /// That of the group at place `i`, counted from 0, where `i` is less than `len`.
+    pub fn at(&self, i: usize) -> Option<SameEnding>
+        requires { i < length self.now }
+        ensures { slice_get self.now i ≡ Some result }
+    {
+        self.endings[i]
+    }
+}
+
+/// How the run with a group ends whose verdict is `same`; none of any other.
+fn ending_if(
+    alloc: Global,
+    graph: &Graph,
+    table: &Table,
+    rows: &RowList,
+    without: &[Word],
+    group: &Group,
+    verdict: Verdict,
+) -> Result<Option<SameEnding>, Memory>
+    requires table { IsTableOf table.now graph.now }
+    requires width { All (λ row. length row ≡ length graph.now.inputs) rows.now }
+    requires few { length rows.now ≤ most_cycles }
+    requires without { without.now ≡ held_at_end table.now graph.now (acts_of []) rows.now }
+    ensures { IfOk result (λ e. e ≡ ending_if_of table.now graph.now rows.now group.now verdict) }
+{
+    match verdict {
+        Verdict::Same => {
+            let ending = group_ending(alloc, graph, table, rows, without, group)?;
+            Ok(Some(ending))
+        }
+        Verdict::Wrong {
+            cycle: _,
+            output: _,
+            got: _,
+            want: _,
+        }
+        | Verdict::RanOn { cycle: _ }
+        | Verdict::Refused {
+            cycle: _,
+            output: _,
+            found: _,
+            expected: _,
+        }
+        | Verdict::Stopped {
+            cycle: _,
+            op: _,
+            kind: _,
+        } => Ok(None),
+    }
+}
+
+/// How each group of a script ends whose verdict over these rows is `same`: it is never reached, its difference has died out, or it still stands
+/// in a cell at the end. The graph is run over the rows once without faults, and then once for each such group. `Memory` where there is no room for
+/// a run or for the list.
+pub fn endings_of(
+    alloc: Global,
+    graph: &Graph,
+    table: &Table,
+    rows: &RowList,
+    script: &Script,
+    verdicts: &Verdicts,
+) -> Result<Endings, Memory>
+    requires table { IsTableOf table.now graph.now }
+    requires width { All (λ row. length row ≡ length graph.now.inputs) rows.now }
+    requires few { length rows.now ≤ most_cycles }
+    requires many { length verdicts.now ≡ length script.now }
+    ensures endings { IfOk result (λ es. es ≡ endings_for table.now graph.now rows.now script.now verdicts.now) }
+    ensures each { IfOk result (λ es. length es ≡ length script.now) }
+    ensures sum { IfOk result (λ es. ended_count 0 es + ended_count 1 es + ended_count 2 es ≡ (totals_of verdicts.now).same) }
+{
+    let without = words_left(alloc, graph, table, rows)?;
+    let mut endings = Endings::new(alloc);
+    'groups: for i in 0..script.len() {
+        let verdict = verdicts.at(i);
+        let group = script.at(i);
+        let ending = ending_if(alloc, graph, table, rows, &without, group, verdict)?;
+        endings.push(ending)?;
+    }
+    Ok(endings)
+}
