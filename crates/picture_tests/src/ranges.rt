@@ -33,6 +33,8 @@ IF x <> 0 THEN y := 7 / x; END_IF; => 0 may stop 0 of 1
 IF x < 0 THEN y := 0; ELSE y := 32767 - x; END_IF; => 0 may stop 0 of 1
 IF -100 <= x AND x <= 100 THEN y := x * 327; END_IF; => 0 may stop 0 of 1
 IF ABS(x) <= 100 THEN y := x * 327; END_IF; => 1 4 NEG RANGE of -32768..32767 at 2:4; may stop 1 of 2
+y := x * 10; IF b THEN y := x * 8; END_IF; => 1 3 MUL RANGE of -32768..32767 and 10..10 at 2:8; may stop 1 of 2
+y := 7 / x; IF b THEN y := 7 MOD x; END_IF; => 1 3 DIV DIVZERO of 7..7 and -32768..32767 at 2:8; may stop 1 of 2
 CASE x OF 1, 2, 3: y := x * 10922; END_CASE; => 0 may stop 0 of 1
 CASE x OF 5..9: y := x * 3640; END_CASE; => 0 may stop 0 of 1
 CASE x OF 0: y := 0; ELSE y := 100 / x; END_CASE; => 0 may stop 0 of 1

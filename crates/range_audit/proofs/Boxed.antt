@@ -1,5 +1,5 @@
 -- Boxed: boxes of cells, and cycles that end in one of them.
-use Rattle.std.proofs.Common.{◌≡◌, ℕ, zero, suc, ◌+◌, ◌<◌, ◌≤◌, ◌⊎◌, inl, inr, ℤ, ◌≤ℤ◌, ◌<ℤ◌, List, length, slice_get, Some, sym, ap, subst, arith}
+use Rattle.std.proofs.Common.{◌≡◌, ℕ, zero, suc, ◌+◌, ◌<◌, ◌≤◌, ◌⊎◌, inl, inr, ℤ, ◌≤ℤ◌, ◌<ℤ◌, List, length, slice_get, Some, sym, ap, subst, ◌∙◌, arith}
 use Rattle.std.proofs.lemmas.Bool.{cases_order}
 use Rattle.std.proofs.lemmas.Int.{ints}
 use Rattle.std.proofs.lemmas.Option.{slice_get_within}
@@ -8,10 +8,10 @@ use Rattle.op_graph.specs.declared.op.Loaded.{Loaded}
 use Rattle.op_graph.specs.Lists.{Lists}
 use Rattle.op_graph.specs.Laws.{EntryLaws}
 use Rattle.op_graph.specs.Rules.{IsGraph}
-use Rattle.op_graph.specs.GraphRun.{initial, stored}
+use Rattle.op_graph.specs.GraphRun.{initial, stored, cycle}
 use Rattle.range_audit.specs.declared.range.Range.{Range}
 use Rattle.range_audit.specs.Intervals.{IsIn, Fit, Hold}
-use Rattle.range_audit.specs.Walking.{start_of}
+use Rattle.range_audit.specs.Walking.{start_of, HoldAt, InBox, AreSettled}
 use Rattle.range_audit.proofs.Steps.{get_there, map_at}
 
 -- ---- where boxes begin
@@ -67,3 +67,27 @@ stored_hold g cells ranges entries graph many each vs whole fit = λ k r there.
 
 pub no_more_or_more : (v m : ℤ) → (v ≤ℤ m) ⊎ (m <ℤ v)
 no_more_or_more v m = grind (arith, ints)
+
+-- ---- one box
+
+first_place : (cells : List Range) (j : ℕ) → slice_get cells (0 + j) ≡ slice_get cells j
+first_place cells j = let e : 0 + j ≡ j = omega arith in ap (slice_get cells) e
+
+in_one : (cells : List Range) (held : List ℤ) (many : ℕ) → Hold cells held → InBox cells many 1 held
+in_one cells held many hold = (0, omega arith, λ j r lt there. hold j r (sym (first_place cells j) ∙ there))
+
+from_one : (cells : List Range) (held : List ℤ) (many : ℕ) → length cells ≡ many → InBox cells many 1 held → Hold cells held
+from_one cells held many same inside = λ j r there.
+    let lt = slice_get_within cells j r there in
+    let first : inside.0 ≡ 0 = omega (arith, inside.1) in
+    let box : HoldAt cells many (start_of many 0) held = subst (λ k. HoldAt cells many (start_of many k) held) first inside.2 in
+    box j r (omega (arith, lt, same)) (first_place cells j ∙ there)
+
+-- where the cells are always in these ranges, they are always in the one box of these
+pub one_box : (g : Lists) (cells : List Range) → length cells ≡ length g.stores → AreSettled g (Hold cells)
+    → AreSettled g (InBox cells (length g.stores) 1)
+one_box g cells many settled = record {
+  at_first = in_one cells (initial g) (length g.stores) settled.at_first;
+  next = λ held row inside fit whole.
+      in_one cells (stored g (cycle g held row).values) (length g.stores) (settled.next held row (from_one cells held (length g.stores) many inside) fit whole);
+}

@@ -1,5 +1,6 @@
 -- Conditions: what the value of a condition tells of the values that it compares, and of the conditions that it joins.
-use Rattle.std.proofs.Common.{◌≡◌, ◌≢◌, ℕ, ◌<◌, ℤ, pos, ◌<ℤ◌, ◌≤ℤ◌, ◌-ℤ◌, neg_ℤ, ◌⊎◌, inl, inr, Bool, true, false, not, ◌&&◌, ◌||◌, cond, List, take, Ok, refl, sym, ap, subst, ◌∙◌}
+use Rattle.std.proofs.Common.{◌≡◌, ◌≢◌, ℕ, ◌<◌, ℤ, pos, ◌<ℤ◌, ◌≤ℤ◌, ◌-ℤ◌, neg_ℤ, ◌⊎◌, inl, inr, Bool, true, false, not, ◌&&◌, ◌||◌, cond, List, take, Ok}
+use Rattle.std.proofs.Common.{refl, sym, ap, subst, ◌∙◌}
 use Rattle.std.proofs.Common.{get_or-take, nat_lt, arith}
 use Rattle.std.specs.Prelude.{int_lt}
 use Rattle.std.proofs.lemmas.Int.{ints}
@@ -101,12 +102,14 @@ twice_negated x = omega (arith, ints)
 -- the value of a kind over these operations
 abbrev over : List ℤ → List ℤ → List ℤ → Op → Kind → ℤ
 over held row vs op k =
-    value k (own row k op.imm) (cond (nat_lt 0 (operands k)) (read held vs k op.imm op.a) (pos 0)) (cond (nat_lt 1 (operands k)) (read held vs k op.imm op.b) (pos 0))
+    value k (own row k op.imm) (cond (nat_lt 0 (operands k)) (read held vs k op.imm op.a) (pos 0))
+    (cond (nat_lt 1 (operands k)) (read held vs k op.imm op.b) (pos 0))
     (cond (nat_lt 2 (operands k)) (read held vs k op.imm op.c) (pos 0))
 
 module _ (held row vs : List ℤ) (op : Op) (c : ℕ) (e : outcome_of held row (take c vs) op ≡ Ok (at vs c)) where
   valued : (k : Kind) → op.kind ≡ k → at vs c ≡ over held row (take c vs) op k
-  valued k is = let here : over held row (take c vs) op op.kind ≡ at vs c = (ok_says _ _ _ _ (at vs c) e).2 in sym here ∙ ap (λ j. over held row (take c vs) op j) is
+  valued k is =
+      let here : over held row (take c vs) op op.kind ≡ at vs c = (ok_says _ _ _ _ (at vs c) e).2 in sym here ∙ ap (λ j. over held row (take c vs) op j) is
 
   -- of values at earlier places
   earlier : (f : ℤ → ℤ → ℤ) → op.a < c → op.b < c → f (at (take c vs) op.a) (at (take c vs) op.b) ≡ f (at vs op.a) (at vs op.b)
@@ -162,7 +165,8 @@ not_zero x one zero = let no : pos 0 ≡ pos 1 = sym zero ∙ one in absurd cc
 -- an operand that a kind has is there
 pub there : (cells count : ℕ) (k : Kind) (imm : ℤ) (n j : ℕ) (is : Kind) → k ≡ is → nat_lt j (operands is) ≡ true
     → (nat_lt j (operands k) ≡ true → OperandIs cells count k imm n) → OperandIs cells count is imm n
-there cells count k imm n j is e has h = subst (λ t. (nat_lt j (operands t) ≡ true → OperandIs cells count t imm n) → OperandIs cells count is imm n) (sym e) (λ f. f has) h
+there cells count k imm n j is e has h =
+    subst (λ t. (nat_lt j (operands t) ≡ true → OperandIs cells count t imm n) → OperandIs cells count is imm n) (sym e) (λ f. f has) h
 
 -- both operands of a comparison are there
 pub compares_first : (cells count : ℕ) (k : Kind) (imm : ℤ) (n : ℕ) → Compares k → (nat_lt 0 (operands k) ≡ true → OperandIs cells count k imm n) → n < count

@@ -1,8 +1,8 @@
 -- Integers: the order of integers, and how products, quotients and remainders keep it.
-use Rattle.std.proofs.Common.{◌≡◌, ◌≢◌, ℕ, zero, suc, ◌*◌, ◌/◌, ◌%◌, ◌<◌, ◌≤◌, ℤ, pos, negsuc, neg_ℤ, ◌≤ℤ◌, ◌-ℤ◌, ◌*ℤ◌, arith, refl, subst}
+use Rattle.std.proofs.Common.{◌≡◌, ◌≢◌, ℕ, zero, suc, ◌*◌, ◌/◌, ◌%◌, ◌<◌, ◌≤◌, ℤ, pos, negsuc, neg_ℤ, ◌≤ℤ◌, ◌-ℤ◌, ◌*ℤ◌, arith, refl, sym, ap, subst, ◌∙◌}
 use Rattle.std.proofs.Common.{mul-le-mul_right, mod-lt}
 use Rattle.std.specs.Prelude.{int_div, int_rem, unsigned_abs}
-use Rattle.std.proofs.Math.Nat.{div-le_self, div-mul-le_self, mod-le}
+use Rattle.std.proofs.Math.Nat.{div-le_self, div-mul-le_self, mod-le, mul-div_cancel, zero-div}
 use Rattle.std.proofs.lemmas.Nat.{le-div}
 use Rattle.std.proofs.Math.IntN.{*ℤ_comm}
 use Rattle.std.proofs.lemmas.Int.{ints}
@@ -50,13 +50,15 @@ turned_low m x y h = subst (λ z. m ≤ℤ z) (*ℤ_comm x y) h
 turned_high : (m x y : ℤ) → (x *ℤ y) ≤ℤ m → (y *ℤ x) ≤ℤ m
 turned_high m x y h = subst (λ z. z ≤ℤ m) (*ℤ_comm x y) h
 
-pub product_low : (l h l' h' x y m : ℤ) → l ≤ℤ x → x ≤ℤ h → l' ≤ℤ y → y ≤ℤ h' → m ≤ℤ (l *ℤ l') → m ≤ℤ (l *ℤ h') → m ≤ℤ (h *ℤ l') → m ≤ℤ (h *ℤ h') → m ≤ℤ (x *ℤ y)
+pub product_low : (l h l' h' x y m : ℤ) → l ≤ℤ x → x ≤ℤ h → l' ≤ℤ y → y ≤ℤ h' → m ≤ℤ (l *ℤ l') → m ≤ℤ (l *ℤ h') → m ≤ℤ (h *ℤ l') → m ≤ℤ (h *ℤ h')
+    → m ≤ℤ (x *ℤ y)
 product_low l h l' h' x y m low high low' high' ll lh hl hh =
     edge_low l h x y m low high
     (turned_low m y l (edge_low l' h' y l m low' high' (turned_low m l l' ll) (turned_low m l h' lh)))
     (turned_low m y h (edge_low l' h' y h m low' high' (turned_low m h l' hl) (turned_low m h h' hh)))
 
-pub product_high : (l h l' h' x y m : ℤ) → l ≤ℤ x → x ≤ℤ h → l' ≤ℤ y → y ≤ℤ h' → (l *ℤ l') ≤ℤ m → (l *ℤ h') ≤ℤ m → (h *ℤ l') ≤ℤ m → (h *ℤ h') ≤ℤ m → (x *ℤ y) ≤ℤ m
+pub product_high : (l h l' h' x y m : ℤ) → l ≤ℤ x → x ≤ℤ h → l' ≤ℤ y → y ≤ℤ h' → (l *ℤ l') ≤ℤ m → (l *ℤ h') ≤ℤ m → (h *ℤ l') ≤ℤ m → (h *ℤ h') ≤ℤ m
+    → (x *ℤ y) ≤ℤ m
 product_high l h l' h' x y m low high low' high' ll lh hl hh =
     edge_high l h x y m low high
     (turned_high m y l (edge_high l' h' y l m low' high' (turned_high m l l' ll) (turned_high m l h' lh)))
@@ -108,7 +110,8 @@ quotient_high l h x (negsuc k) m some low high at_low at_high = le_trans (int_di
 -- by a positive divisor a value comes nearer to 0
 pub shrinks_low : (x y m : ℤ) → pos 1 ≤ℤ y → m ≤ℤ x → m ≤ℤ pos 0 → m ≤ℤ int_div x y
 shrinks_low (pos a) (pos b) m some low zero_above = le_trans m (pos 0) (pos (a / b)) zero_above (omega (arith, ints))
-shrinks_low (negsuc a) (pos b) m some low zero_above = le_trans m (negsuc a) (neg_ℤ (pos (suc a / b))) low (neg_mono (suc a) (suc a / b) (div-le_self (suc a) b))
+shrinks_low (negsuc a) (pos b) m some low zero_above =
+    le_trans m (negsuc a) (neg_ℤ (pos (suc a / b))) low (neg_mono (suc a) (suc a / b) (div-le_self (suc a) b))
 shrinks_low x (negsuc b) m some low zero_above = absurd some.le
 
 pub shrinks_high : (x y m : ℤ) → pos 1 ≤ℤ y → x ≤ℤ m → pos 0 ≤ℤ m → int_div x y ≤ℤ m
@@ -119,7 +122,8 @@ shrinks_high x (negsuc b) m some high zero_below = absurd some.le
 -- by any divisor a value comes no further from 0
 pub sized_low : (x y s : ℤ) → neg_ℤ s ≤ℤ x → x ≤ℤ s → neg_ℤ s ≤ℤ int_div x y
 sized_low (pos a) (pos b) s low high = le_trans (neg_ℤ s) (pos 0) (pos (a / b)) (omega (arith, ints)) (omega (arith, ints))
-sized_low (pos a) (negsuc b) s low high = le_trans (neg_ℤ s) (neg_ℤ (pos a)) (neg_ℤ (pos (a / suc b))) (omega (arith, ints)) (neg_mono a (a / suc b) (div-le_self a (suc b)))
+sized_low (pos a) (negsuc b) s low high =
+    le_trans (neg_ℤ s) (neg_ℤ (pos a)) (neg_ℤ (pos (a / suc b))) (omega (arith, ints)) (neg_mono a (a / suc b) (div-le_self a (suc b)))
 sized_low (negsuc a) (pos b) s low high = le_trans (neg_ℤ s) (negsuc a) (neg_ℤ (pos (suc a / b))) low (neg_mono (suc a) (suc a / b) (div-le_self (suc a) b))
 sized_low (negsuc a) (negsuc b) s low high = le_trans (neg_ℤ s) (pos 0) (pos (suc a / suc b)) (omega (arith, ints)) (omega (arith, ints))
 
@@ -127,7 +131,8 @@ pub sized_high : (x y s : ℤ) → neg_ℤ s ≤ℤ x → x ≤ℤ s → int_div
 sized_high (pos a) (pos b) s low high = let k = div-le_self a b in le_trans (pos (a / b)) (pos a) s (omega (arith, ints, k)) high
 sized_high (pos a) (negsuc b) s low high = le_trans (neg_ℤ (pos (a / suc b))) (pos 0) s (neg_below (a / suc b) 0) (omega (arith, ints))
 sized_high (negsuc a) (pos b) s low high = le_trans (neg_ℤ (pos (suc a / b))) (pos 0) s (neg_below (suc a / b) 0) (omega (arith, ints))
-sized_high (negsuc a) (negsuc b) s low high = let k = div-le_self (suc a) (suc b) in le_trans (pos (suc a / suc b)) (pos (suc a)) s (omega (arith, ints, k)) (omega (arith, ints))
+sized_high (negsuc a) (negsuc b) s low high =
+    let k = div-le_self (suc a) (suc b) in le_trans (pos (suc a / suc b)) (pos (suc a)) s (omega (arith, ints, k)) (omega (arith, ints))
 
 -- ---- remainders
 
@@ -158,3 +163,22 @@ rest_above (negsuc a) y m low zero_above =
 pub rest_below : (x y m : ℤ) → x ≤ℤ m → pos 0 ≤ℤ m → int_rem x y ≤ℤ m
 rest_below (pos a) y m high zero_below = let k = mod-le a (unsigned_abs y) in le_trans (pos (a % unsigned_abs y)) (pos a) m (omega (arith, ints, k)) high
 rest_below (negsuc a) y m high zero_below = le_trans (neg_ℤ (pos (suc a % unsigned_abs y))) (pos 0) m (neg_below (suc a % unsigned_abs y) 0) zero_below
+
+-- ---- quotients of products
+
+quot_negative : (n b : ℕ) → int_div (neg_ℤ (pos n)) (pos (suc b)) ≡ neg_ℤ (pos (n / suc b))
+quot_negative zero b = subst (λ q. pos q ≡ neg_ℤ (pos q)) (sym (zero-div (suc b))) refl
+quot_negative (suc n) b = refl
+
+negative_quot : (n b : ℕ) → int_div (neg_ℤ (pos n)) (negsuc b) ≡ pos (n / suc b)
+negative_quot zero b = subst (λ q. neg_ℤ (pos q) ≡ pos q) (sym (zero-div (suc b))) refl
+negative_quot (suc n) b = refl
+
+-- a product by an integer that isn't 0, divided by it
+pub quot_times : (x y : ℤ) → y ≢ pos 0 → int_div (x *ℤ y) y ≡ x
+quot_times (pos a) (pos zero) some = absurd (some refl)
+quot_times (pos a) (pos (suc b)) some = ap pos (mul-div_cancel a {n = suc b} (omega arith))
+quot_times (negsuc a) (pos zero) some = absurd (some refl)
+quot_times (negsuc a) (pos (suc b)) some = quot_negative (suc a * suc b) b ∙ ap (λ n. neg_ℤ (pos n)) (mul-div_cancel (suc a) {n = suc b} (omega arith))
+quot_times (pos a) (negsuc b) some = negative_quot (a * suc b) b ∙ ap pos (mul-div_cancel a {n = suc b} (omega arith))
+quot_times (negsuc a) (negsuc b) some = ap (λ n. neg_ℤ (pos n)) (mul-div_cancel (suc a) {n = suc b} (omega arith))

@@ -1,5 +1,6 @@
 -- Joined: operations that are named by two lists, and from boxes of cells.
-use Rattle.std.proofs.Common.{◌≡◌, ℕ, ◌<◌, ◌≤◌, ◌⊎◌, inl, inr, Bool, true, false, ◌&&◌, ◌||◌, List, length, slice_get, Option, Some, None, refl, sym, subst, ◌∙◌, arith}
+use Rattle.std.proofs.Common.{◌≡◌, ℕ, ◌<◌, ◌≤◌, ◌⊎◌, inl, inr, Bool, true, false, ◌&&◌, ◌||◌, List, length, slice_get, Option, Some, None, refl, sym, subst}
+use Rattle.std.proofs.Common.{◌∙◌, arith}
 use Rattle.std.proofs.lemmas.Bool.{cases_order, false≢true}
 use Rattle.std.proofs.lemmas.Option.{slice_get_past}
 use Rattle.vcp_base.specs.declared.kind.StopKind.{StopKind}
@@ -38,19 +39,23 @@ abbrev pub JoinedAt : Bool → List Stops → List Stops → ℕ → Stops → T
 JoinedAt both a b k r = (x y : Stops) → slice_get a k ≡ Some x → slice_get b k ≡ Some y → (why : StopKind)
     → Parts both (may_stop why x ≡ true) (may_stop why y ≡ true) → may_stop why r ≡ true
 
-pub joined_same : (both : Bool) (s t x y r : Stops) → s ≡ x → t ≡ y → ((why : StopKind) → Parts both (may_stop why s ≡ true) (may_stop why t ≡ true) → may_stop why r ≡ true)
+pub joined_same : (both : Bool) (s t x y r : Stops) → s ≡ x → t ≡ y
+    → ((why : StopKind) → Parts both (may_stop why s ≡ true) (may_stop why t ≡ true) → may_stop why r ≡ true)
     → (why : StopKind) → Parts both (may_stop why x ≡ true) (may_stop why y ≡ true) → may_stop why r ≡ true
 joined_same both s t x y r e f h why p =
-    h why (subst (λ u. Parts both (may_stop why u ≡ true) (may_stop why t ≡ true)) (sym e) (subst (λ u. Parts both (may_stop why x ≡ true) (may_stop why u ≡ true)) (sym f) p))
+    h why (subst (λ u. Parts both (may_stop why u ≡ true) (may_stop why t ≡ true)) (sym e)
+    (subst (λ u. Parts both (may_stop why x ≡ true) (may_stop why u ≡ true)) (sym f) p))
 
 parts_of : (both : Bool) (why : StopKind) (o q : Option Stops) (x y : Stops) → o ≡ Some x → q ≡ Some y
     → Parts both (is_named why o ≡ true) (is_named why q ≡ true) → Parts both (may_stop why x ≡ true) (may_stop why y ≡ true)
 parts_of both why o q x y e f p =
-    subst (λ u. Parts both (is_named why (Some x) ≡ true) (is_named why u ≡ true)) f (subst (λ u. Parts both (is_named why u ≡ true) (is_named why q ≡ true)) e p)
+    subst (λ u. Parts both (is_named why (Some x) ≡ true) (is_named why u ≡ true)) f
+    (subst (λ u. Parts both (is_named why u ≡ true) (is_named why q ≡ true)) e p)
 
 parts_none : (both : Bool) (why : StopKind) (o q : Option Stops) → o ≡ None → q ≡ None → Parts both (is_named why o ≡ true) (is_named why q ≡ true) → ⊥
 parts_none both why o q e f p =
-    neither both (subst (λ u. Parts both (false ≡ true) (is_named why u ≡ true)) f (subst (λ u. Parts both (is_named why u ≡ true) (is_named why q ≡ true)) e p))
+    neither both (subst (λ u. Parts both (false ≡ true) (is_named why u ≡ true)) f
+    (subst (λ u. Parts both (is_named why u ≡ true) (is_named why q ≡ true)) e p))
 
 within_named : (both : Bool) (a b rs : List Stops) → length a ≡ length b → length rs ≡ length a
     → ((k : ℕ) (r : Stops) → slice_get rs k ≡ Some r → JoinedAt both a b k r) → (why : StopKind) (i : ℕ) → i < length a

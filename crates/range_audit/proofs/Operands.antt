@@ -21,7 +21,8 @@ pub other_there : (cells count : ℕ) (k : Kind) (imm : ℤ) (n : ℕ) → (k �
 other_there cells count kind.Load imm n other h = absurd (other refl)
 other_there cells count _ imm n other h = h
 
-pub load_read : (r : Range) (held vs : List ℤ) (k : Kind) (imm : ℤ) (n : ℕ) → k ≡ kind.Load → IsIn r (at held (unsigned_abs imm)) → IsIn r (read held vs k imm n)
+pub load_read : (r : Range) (held vs : List ℤ) (k : Kind) (imm : ℤ) (n : ℕ) → k ≡ kind.Load → IsIn r (at held (unsigned_abs imm))
+    → IsIn r (read held vs k imm n)
 load_read r held vs k imm n is h = subst (λ j. IsIn r (read held vs j imm n)) (sym is) h
 
 pub other_read : (r : Range) (held vs : List ℤ) (k : Kind) (imm : ℤ) (n : ℕ) → (k ≡ kind.Load → ⊥) → IsIn r (at vs n) → IsIn r (read held vs k imm n)
@@ -65,7 +66,8 @@ choice_value r held vs op is h =
     (cond (nat_lt 1 (operands k)) (read held vs k op.imm op.b) (pos 0)) (cond (nat_lt 2 (operands k)) (read held vs k op.imm op.c) (pos 0)))) (sym is) h
 
 -- they are earlier operations
-choice_read : (cells count : ℕ) (k : Kind) (imm : ℤ) (n j : ℕ) → k ≡ kind.Sel → nat_lt j 3 ≡ true → (nat_lt j (operands k) ≡ true → OperandIs cells count k imm n) → n < count
+choice_read : (cells count : ℕ) (k : Kind) (imm : ℤ) (n j : ℕ) → k ≡ kind.Sel → nat_lt j 3 ≡ true
+    → (nat_lt j (operands k) ≡ true → OperandIs cells count k imm n) → n < count
 choice_read cells count k imm n j is there h = subst (λ t. (nat_lt j (operands t) ≡ true → OperandIs cells count t imm n) → n < count) (sym is) (λ f. f there) h
 
 pub choice_reads : (cells count : ℕ) (op : Op) → op.kind ≡ kind.Sel → OperandsAre cells count op → (op.a < count) × (op.b < count) × (op.c < count)

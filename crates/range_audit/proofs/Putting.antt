@@ -1,7 +1,7 @@
 -- Putting: a range that is put in its place, and what an operation reads in a whole cycle.
-use Rattle.std.proofs.Common.{◌≡◌, ℕ, zero, suc, ◌<◌, ◌≤◌, ◌⊎◌, inl, inr, ℤ, pos, Bool, true, false, cond, List, [], ◌∷◌, length, take, slice_get, slice_set, Some, Ok}
+use Rattle.std.proofs.Common.{◌≡◌, ℕ, zero, suc, ◌<◌, ◌≤◌, ◌⊎◌, inl, inr, ℤ, pos, Bool, true, false, cond, List, [], ◌∷◌, length, take, slice_get, slice_set}
+use Rattle.std.proofs.Common.{Some, Ok}
 use Rattle.std.proofs.Common.{refl, sym, ap, subst, nat_lt, get_or-take, arith}
-use Rattle.std.proofs.lemmas.Option.{slice_get_within}
 use Rattle.vcp_base.specs.declared.kind.Kind.{Kind}
 use Rattle.vcp_base.specs.declared.kind.Kind.TheVariants as kind
 use Rattle.vcp_base.specs.Kinds.{operands, value, divides_by_zero}
@@ -40,6 +40,10 @@ fit_set ranges n m vs fit here = λ k r lt there.
       | inr o ↦ fit k r lt o
     ]
 
+-- the ranges of the first operations
+pub fit_take : (ranges : List Range) (i : ℕ) (vs : List ℤ) → Fit ranges vs → Fit (take i ranges) vs
+fit_take ranges i vs fit = λ k r lt there. fit k r lt (get_take ranges i k r there)
+
 -- the ranges and the values of the first operations
 pub fit_first : (ranges : List Range) (vs : List ℤ) (i : ℕ) → i < length vs → Fit ranges vs → Fit (take i ranges) (take i vs)
 fit_first ranges vs i lt fit = λ k r below there. fit_front ranges vs i lt fit k r below (get_take ranges i k r there)
@@ -51,10 +55,8 @@ operand_more cells count more kind.Load imm n le h = h
 operand_more cells count more _ imm n le h = omega (arith, le, h)
 
 pub operands_there : (g : Lists) (i : ℕ) (op : Op) (cells count : ℕ) → EntryLaws → ReadLaws → IsGraph g → slice_get g.operations i ≡ Some op
-    → cells ≡ length g.stores → count ≡ length g.operations → OperandsAre cells count op
-operands_there g i op cells count entries reads graph there many all =
-    let lt : i < length g.operations = slice_get_within g.operations i op there in
-    let le : i ≤ count = omega (arith, lt, all) in
+    → cells ≡ length g.stores → i ≤ count → OperandsAre cells count op
+operands_there g i op cells count entries reads graph there many le =
     let are = operands_are g i op cells entries reads graph there (sym many) in
     record {
       first = λ h. operand_more cells i count op.kind op.imm op.a le (are.first h);

@@ -139,7 +139,8 @@ names_more ops cells known stops i t many tells fits names = λ held row vs op w
     subst (λ s. is_named why s ≡ true) (sym (get_front stops (t.stops ∷ []) n less)) named in
     let here : P (length stops) = λ same.
     let place : length vs ≡ i = omega arith in
-    let told : Tells held row vs op t = tells held row vs op (subst (λ m. slice_get ops m ≡ Some op) place there) hold given (fits held row vs hold given) place in
+    let told : Tells held row vs op t =
+    tells held row vs op (subst (λ m. slice_get ops m ≡ Some op) place there) hold given (fits held row vs hold given) place in
     subst (λ s. is_named why s ≡ true) (sym (get_last stops t.stops (length stops) refl)) (told.stop why own no e) in
     let within : length vs < length stops + 1 = omega (arith, length_push stops t.stops) in
     below_more P (length stops) below here (length vs) within refl
@@ -172,7 +173,8 @@ pub all_kept : (g : Lists) (cells known : List Range) → EntryLaws → IsGraph 
     → ((k : ℕ) → k < length g.stores → KeptAt g cells known k) → AreKept g cells known
 all_kept g cells known entries graph many all_known kept =
     let at_cell : (k : ℕ) (r : Range) → slice_get cells k ≡ Some r
-    → (s : Range) × (m : Loaded) × (n : ℕ) × (slice_get g.loads k ≡ Some m) × (slice_get g.stores k ≡ Some n) × (slice_get known n ≡ Some s) × CellKept r m.init s =
+    → (s : Range) × (m : Loaded) × (n : ℕ) × (slice_get g.loads k ≡ Some m) × (slice_get g.stores k ≡ Some n)
+    × (slice_get known n ≡ Some s) × CellKept r m.init s =
     λ k r there.
     let lt : k < length g.stores = let l = slice_get_within cells k r there in omega (arith, l) in
     let m = get_there g.loads k (omega (arith, graph.all_stored)) in

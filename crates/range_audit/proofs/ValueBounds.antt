@@ -1,5 +1,6 @@
 -- ValueBounds: the bounds of each kind's value, by the ranges of its operands.
-use Rattle.std.proofs.Common.{◌≡◌, ◌≢◌, ℤ, pos, neg_ℤ, ◌+ℤ◌, ◌-ℤ◌, ◌*ℤ◌, ◌≤ℤ◌, ◌<ℤ◌, Bool, true, false, not, ◌&&◌, ◌||◌, cond, T, refl, sym, subst, ◌∙◌, ◌⊎◌, inl, inr, arith}
+use Rattle.std.proofs.Common.{◌≡◌, ◌≢◌, ℤ, pos, neg_ℤ, ◌+ℤ◌, ◌-ℤ◌, ◌*ℤ◌, ◌≤ℤ◌, ◌<ℤ◌, Bool, true, false, not, ◌&&◌, ◌||◌, cond, T, refl, sym, subst, ◌∙◌, ◌⊎◌}
+use Rattle.std.proofs.Common.{inl, inr, arith}
 use Rattle.std.specs.Prelude.{int_le, int_lt, int_div, int_rem}
 use Rattle.std.proofs.lemmas.Int.{ints}
 use Rattle.vcp_base.specs.declared.ty.Ty.{Ty}
@@ -8,7 +9,8 @@ use Rattle.vcp_base.specs.Types.{fits, least, greatest}
 use Rattle.range_audit.specs.declared.range.Bounds.{Bounds}
 use Rattle.range_audit.specs.declared.range.Range.{Range}
 use Rattle.range_audit.specs.Intervals.{Between, IsIn, IsWithin}
-use Rattle.range_audit.proofs.Integers.{le_trans, le_antisym, product_low, product_high, product_nonzero, quotient_low, quotient_high, shrinks_low, shrinks_high}
+use Rattle.range_audit.proofs.Integers.{le_trans, le_antisym, product_low, product_high, product_nonzero, quotient_low, quotient_high, shrinks_low}
+use Rattle.range_audit.proofs.Integers.{shrinks_high}
 use Rattle.range_audit.proofs.Integers.{sized_low, sized_high, rest_low, rest_high, rest_above, rest_below}
 
 -- ---- tests
@@ -101,7 +103,8 @@ difference_between a b low high x y l h i j =
     record { at_least = omega (arith, ints); at_most = omega (arith, ints); not_zero = λ e. never e }
 
 pub product_between : (a b : Range) (low high x y : ℤ) → low ≤ℤ (a.low *ℤ b.low) → low ≤ℤ (a.low *ℤ b.high) → low ≤ℤ (a.high *ℤ b.low)
-    → low ≤ℤ (a.high *ℤ b.high) → (a.low *ℤ b.low) ≤ℤ high → (a.low *ℤ b.high) ≤ℤ high → (a.high *ℤ b.low) ≤ℤ high → (a.high *ℤ b.high) ≤ℤ high → IsIn a x → IsIn b y
+    → low ≤ℤ (a.high *ℤ b.high) → (a.low *ℤ b.low) ≤ℤ high → (a.low *ℤ b.high) ≤ℤ high → (a.high *ℤ b.low) ≤ℤ high → (a.high *ℤ b.high) ≤ℤ high → IsIn a x
+    → IsIn b y
     → Between low high (a.nonzero && b.nonzero) (x *ℤ y)
 product_between a b low high x y ll lh hl hh ll' lh' hl' hh' i j = record {
   at_least = product_low a.low a.high b.low b.high x y low i.at_least i.at_most j.at_least j.at_most ll lh hl hh;
@@ -232,3 +235,10 @@ pub rest_at_most : (a : Range) (r first second x y s : ℤ) → (r ≡ first) �
     → y ≢ pos 0 → neg_ℤ s ≤ℤ y → y ≤ℤ s → int_rem x y ≤ℤ r
 rest_at_most a r first second x y s (inl e) f g above i some low high = subst (λ z. int_rem x y ≤ℤ z) (sym (e ∙ f)) (rest_below x y a.high i.at_most above)
 rest_at_most a r first second x y s (inr e) f g above i some low high = subst (λ z. int_rem x y ≤ℤ z) (sym (e ∙ g)) (rest_high x y s some low high)
+
+-- the end of a sum, which is the sum of two ends, or an end of what the sum is in
+pub sum_or_low : (low a b m x y : ℤ) → (low ≡ (a +ℤ b)) ⊎ (low ≡ m) → a ≤ℤ x → b ≤ℤ y → m ≤ℤ (x +ℤ y) → low ≤ℤ (x +ℤ y)
+sum_or_low low a b m x y which first second most = elim which [ inl e ↦ omega (arith, ints) | inr e ↦ omega (arith, ints) ]
+
+pub sum_or_high : (high a b m x y : ℤ) → (high ≡ (a +ℤ b)) ⊎ (high ≡ m) → x ≤ℤ a → y ≤ℤ b → (x +ℤ y) ≤ℤ m → (x +ℤ y) ≤ℤ high
+sum_or_high high a b m x y which first second most = elim which [ inl e ↦ omega (arith, ints) | inr e ↦ omega (arith, ints) ]

@@ -1,5 +1,6 @@
 -- Walking: what holds of a walk over the operations of a cycle, from cells in given ranges.
-use Rattle.std.specs.Prelude.{◌≡◌, ◌≢◌, ◌⊎◌, ℕ, zero, suc, ◌+◌, ◌<◌, ◌≤◌, ℤ, true, List, length, slice_get, take, Ok, Err, Some, None, unsigned_abs, nat_lt, false, pos, Bool}
+use Rattle.std.specs.Prelude.{◌≡◌, ◌≢◌, ◌⊎◌, ℕ, zero, suc, ◌+◌, ◌<◌, ◌≤◌, ℤ, true, List, length, slice_get, take, Ok, Err, Some, None}
+use Rattle.std.specs.Prelude.{unsigned_abs, nat_lt, false, pos, Bool}
 use Rattle.vcp_base.specs.declared.kind.Kind.{Kind}
 use Rattle.vcp_base.specs.declared.kind.Kind.TheVariants as kind
 use Rattle.vcp_base.specs.declared.kind.StopKind.{StopKind}
@@ -94,24 +95,34 @@ pub record AreSettled (g : Lists) (Kept : List ℤ → Type 0) : Type 0 where
   pub at_first : Kept (initial g)
   pub next : (held row : List ℤ) → Kept held → CellsFit g held → (cycle g held row).stop ≡ None → Kept (stored g (cycle g held row).values)
 
+-- where operation i stops in a cycle, and this holds of the cells, it may stop so
+abbrev pub StopsFrom : List Op → (List ℤ → Type 0) → ℕ → Stops → Type 0
+StopsFrom ops Kept i s = (held row vs : List ℤ) (op : Op) (why : StopKind) → Kept held → Given ops held row vs → length vs ≡ i
+    → slice_get ops i ≡ Some op → OwnFits row op → why ≢ stop.Operand → outcome_of held row vs op ≡ Err why → may_stop why s ≡ true
+
+-- the same where the operations before it are in these ranges, and the cells in these
+abbrev pub StopsIn : List Op → List Range → List Range → ℕ → Stops → Type 0
+StopsIn ops cells ranges i s = (held row vs : List ℤ) (op : Op) (why : StopKind) → Hold cells held → Given ops held row vs → length vs ≡ i
+    → Fit ranges vs → slice_get ops i ≡ Some op → OwnFits row op → why ≢ stop.Operand → outcome_of held row vs op ≡ Err why → may_stop why s ≡ true
+
 -- each operation that stops in a cycle, where this holds of the cells, is named
 abbrev pub NamesFrom : List Op → (List ℤ → Type 0) → List Stops → Type 0
 NamesFrom ops Kept stops = (held row vs : List ℤ) (op : Op) (why : StopKind) → Kept held → Given ops held row vs → slice_get ops (length vs) ≡ Some op
     → OwnFits row op → why ≢ stop.Operand → outcome_of held row vs op ≡ Err why → is_named why (slice_get stops (length vs)) ≡ true
 
--- in a whole cycle in which the cells are in these ranges, and the operations in the old ones, they are in the new ones
+-- where the cells are in these ranges, and the first operations of a cycle, as many as have ranges, in the old ones, they are in the new ones
 abbrev pub Narrows : List Op → List Range → List Range → List Range → Type 0
 Narrows ops cells old new =
-    (held row vs : List ℤ) → Hold cells held → Given ops held row vs → length vs ≡ length ops → Fit old vs → Fit new vs
+    (held row vs : List ℤ) → Hold cells held → Given ops held row vs → length vs ≡ length old → Fit old vs → Fit new vs
 
--- in such a cycle the value of operation j is in r
+-- there the value of operation j is in r
 abbrev pub IsValueIn : List Op → List Range → List Range → ℕ → Range → Type 0
 IsValueIn ops cells ranges j r =
-    (held row vs : List ℤ) → Hold cells held → Given ops held row vs → length vs ≡ length ops → Fit ranges vs → IsIn r (at vs j)
+    (held row vs : List ℤ) → Hold cells held → Given ops held row vs → length vs ≡ length ranges → Fit ranges vs → IsIn r (at vs j)
 
 -- where operation n is in r too, and the operations in the old ranges, they are in the new ones
 pub record NarrowsTo (ops : List Op) (cells : List Range) (n : ℕ) (r : Range) (old new : List Range) : Type 0 where
-  pub fits : (held row vs : List ℤ) → Hold cells held → Given ops held row vs → length vs ≡ length ops → Fit old vs → IsIn r (at vs n) → Fit new vs
+  pub fits : (held row vs : List ℤ) → Hold cells held → Given ops held row vs → length vs ≡ length old → Fit old vs → IsIn r (at vs n) → Fit new vs
 
 -- where box k begins in a list of boxes, each of which has so many ranges
 abbrev pub start_of : ℕ → ℕ → ℕ

@@ -3,6 +3,8 @@
 ghost use Rattle.std.specs.Prelude.{◌≡◌, ◌<◌, Some, length, slice_get, IfOk};
 ghost use Rattle.range_audit.specs.Audit.{Holds, Names, Ends, IsAudit, named_below, NeverStops};
 ghost use Rattle.op_graph.specs.Rules.{IsGraph};
+ghost use Rattle.range_audit.specs.Intervals.{Hold};
+ghost use Rattle.range_audit.specs.Walking.{AreSettled};
 
 use crate::cells::settled;
 use crate::families::closer;
@@ -51,16 +53,17 @@ impl Ranges {
     }
 }
 
-/// The same, where each cell has one range.
-fn ranges_in_one_box(alloc: Global, graph: &Graph) -> Result<Ranges, Memory>
-    ensures graph { IsGraph graph.now }
-    ensures audit { IfOk result (λ a. IsAudit graph.now a) }
+/// The same, where the cells are always in these ranges.
+fn ranges_in_one_box(alloc: Global, graph: &Graph, cells: &[Range]) -> Result<Ranges, Memory>
+    requires graph { IsGraph graph.now }
+    requires many { length cells.now ≡ length graph.now.stores }
+    requires settled { AreSettled graph.now (Hold cells.now) }
+    ensures { IfOk result (λ a. IsAudit graph.now a) }
 {
     // No operation stops because an operand is outside its type.
     operands_are_in_their_types();
     entries_keep_their_rules();
-    let cells = settled(alloc, graph)?;
-    let told = walk(alloc, graph, &cells)?;
+    let told = walk(alloc, graph, cells)?;
     Ok(told)
 }
 
@@ -77,7 +80,8 @@ pub fn ranges_of(alloc: Global, graph: &Graph) -> Result<Ranges, Memory>
     ensures ends { IfOk result (λ a. Ends graph.now a.stops) }
     ensures never { IfOk result (λ a. named_below a.stops (length graph.now.operations) ≡ 0 → NeverStops graph.now) }
 {
-    let ranges = ranges_in_one_box(alloc, graph)?;
-    let told = closer(alloc, graph, ranges)?;
+    let cells = settled(alloc, graph)?;
+    let ranges = ranges_in_one_box(alloc, graph, &cells)?;
+    let told = closer(alloc, graph, ranges, &cells)?;
     Ok(told)
 }

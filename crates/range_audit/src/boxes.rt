@@ -105,7 +105,8 @@ pub(crate) fn stored_cells(
     requires graph { IsGraph graph.now }
     requires many { length ranges.now ≡ length graph.now.operations }
     ensures many { IfOk result (λ cells. length cells.items ≡ length graph.now.stores) }
-    ensures holds { IfOk result (λ cells. (vs : List ℤ) → length vs ≡ length graph.now.operations → Fit ranges.now vs → Hold cells.items (stored graph.now vs)) }
+    ensures holds { IfOk result (λ cells. (vs : List ℤ) → length vs ≡ length graph.now.operations → Fit ranges.now vs
+        → Hold cells.items (stored graph.now vs)) }
 {
     // The STORE of each cell is an operation.
     entries_keep_their_rules();

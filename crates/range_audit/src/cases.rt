@@ -9,7 +9,7 @@ ghost use Rattle.range_audit.specs.Walking.{IsValueIn, Narrows, NarrowsTo, start
 
 use crate::boxes::{cell_count, has_none, is_in_one, stored_cells};
 use crate::cells::store_at;
-use crate::narrowing::{narrow, put};
+use crate::narrowing::{count_of, narrow, put};
 use crate::questions::{box_of, open_condition, wanted_at};
 use crate::range::{Range, both_hold, earlier_range};
 use op_graph::Graph;
@@ -17,7 +17,7 @@ use std::alloc::Global;
 use vcp_base::Memory;
 
 /// The values of a range that are no more than `m`.
-fn up_to(r: Range, m: i64) -> Range
+pub(crate) fn up_to(r: Range, m: i64) -> Range
     ensures { (v : ℤ) → IsIn r v → v ≤ℤ m → IsIn result v }
 {
     Range {
@@ -38,7 +38,7 @@ fn next(m: i64) -> i64
 }
 
 /// The values of a range that are more than `m`.
-fn above(r: Range, m: i64) -> Range
+pub(crate) fn above(r: Range, m: i64) -> Range
     ensures { (v : ℤ) → IsIn r v → m <ℤ v → IsIn result v }
 {
     let low = next(m);
@@ -58,21 +58,21 @@ pub(crate) fn copied(alloc: Global, ranges: &[Range]) -> Result<Vec<Range>, Memo
     Ok(copy)
 }
 
-/// Makes the ranges of the operations of a whole cycle, in which the value of operation `n` is in `r`, narrower.
+/// Makes the ranges of the operations of a cycle, in which the value of operation `n` is in `r`, narrower: of all, or of the first ones.
 fn narrow_to(graph: &Graph, cells: &[Range], ranges: &mut [Range], n: u32, r: Range)
     requires graph { IsGraph graph.now }
-    requires there { n < length graph.now.operations }
-    requires many { length ranges.old ≡ length graph.now.operations }
+    requires there { n < length ranges.old }
+    requires many { length ranges.old ≤ length graph.now.operations }
     requires cells { length cells.now ≡ length graph.now.stores }
-    ensures many { length ranges.new ≡ length graph.now.operations }
+    ensures many { length ranges.new ≡ length ranges.old }
     ensures fits { NarrowsTo graph.now.operations cells.now n r ranges.old ranges.new }
 {
     put(ranges, n, r);
     narrow(graph, cells, ranges);
 }
 
-/// The ranges of the operations of a whole cycle in which the value of operation `n` is in `r`.
-fn part(
+/// The ranges of the operations of a cycle, of all or of the first ones, in which the value of operation `n` is in `r`.
+pub(crate) fn part(
     alloc: Global,
     graph: &Graph,
     cells: &[Range],
@@ -81,10 +81,10 @@ fn part(
     r: Range,
 ) -> Result<Vec<Range>, Memory>
     requires graph { IsGraph graph.now }
-    requires there { n < length graph.now.operations }
-    requires many { length ranges.now ≡ length graph.now.operations }
+    requires there { n < length ranges.now }
+    requires many { length ranges.now ≤ length graph.now.operations }
     requires cells { length cells.now ≡ length graph.now.stores }
-    ensures many { IfOk result (λ part. length part.items ≡ length graph.now.operations) }
+    ensures many { IfOk result (λ part. length part.items ≡ length ranges.now) }
     ensures fits { IfOk result (λ part. NarrowsTo graph.now.operations cells.now n r ranges.now part.items) }
 {
     let mut part = copied(alloc, ranges)?;
@@ -93,10 +93,10 @@ fn part(
 }
 
 /// How many conditions are taken apart at once.
-const CONDITIONS: u32 = 4;
+pub(crate) const CONDITIONS: u32 = 4;
 
 /// Takes the operations of two cases from those that may still be gone through. Whether there were as many.
-fn spend(graph: &Graph, left: &mut u64) -> bool {
+pub(crate) fn spend(graph: &Graph, left: &mut u64) -> bool {
     let many = (graph.len() as u64).saturating_mul(2);
     if *left < many {
         *left = 0;
@@ -115,7 +115,7 @@ fn no_value() -> Range {
     }
 }
 
-/// The range of operation `j` in whole cycles with values in these ranges, by the cases of conditions, so many at once, until it is inside
+/// The range of operation `j` in cycles with values in these ranges, by the cases of conditions, so many at once, until it is inside
 /// the wanted one.
 fn range_by_cases(
     alloc: Global,
@@ -128,8 +128,8 @@ fn range_by_cases(
     left: &mut u64,
 ) -> Result<Range, Memory>
     requires graph { IsGraph graph.now }
-    requires there { j < length graph.now.operations }
-    requires many { length ranges.now ≡ length graph.now.operations }
+    requires there { j < length ranges.now }
+    requires many { length ranges.now ≤ length graph.now.operations }
     requires cells { length cells.now ≡ length graph.now.stores }
     ensures { IfOk result (λ r. IsValueIn graph.now.operations cells.now ranges.now j r) }
 {
@@ -146,7 +146,7 @@ fn range_by_cases(
         return Ok(known);
     }
     let q = open_condition(graph, ranges, j);
-    let many = graph.len();
+    let many = count_of(graph, ranges);
     let nothing = q >= many;
     if nothing {
         return Ok(known);
@@ -178,8 +178,8 @@ fn narrow_by_cases(
     left: &mut u64,
 ) -> Result<(), Memory>
     requires graph { IsGraph graph.now }
-    requires there { j < length graph.now.operations }
-    requires many { length ranges.old ≡ length graph.now.operations }
+    requires there { j < length ranges.old }
+    requires many { length ranges.old ≤ length graph.now.operations }
     requires cells { length cells.now ≡ length graph.now.stores }
     ensures many { length ranges.new ≡ length ranges.old }
     ensures fits { Narrows graph.now.operations cells.now ranges.old ranges.new }

@@ -3,6 +3,7 @@
 ghost use Rattle.std.specs.Prelude.{◌≡◌, ◌<◌, ◌≤◌, ◌+◌, ℕ, true, length, IfOk, IfSome};
 ghost use Rattle.op_graph.specs.Rules.{IsGraph};
 ghost use Rattle.range_audit.specs.Audit.{IsAudit};
+ghost use Rattle.range_audit.specs.Intervals.{Hold};
 ghost use Rattle.range_audit.specs.Walking.{start_of, InBox, EndsFrom, AreSettled};
 
 use crate::audit::Ranges;
@@ -23,7 +24,8 @@ const VALUES: u32 = 16;
 /// How many rounds are tried.
 const ROUNDS: u32 = 32;
 
-/// How many operations are gone through in all cases of all cells, each of them at most six times.
+/// How many operations are gone through at most in all cases of all cells, each of them six times; and as many where it is asked why single
+/// operations may stop.
 const STEPS: u64 = 1_048_576;
 
 /// Graphs with more operations aren't searched so.
@@ -284,6 +286,7 @@ fn with_family(
     ranges: &Ranges,
     boxes: &[Range],
     count: u32,
+    asked: &mut u64,
 ) -> Result<Ranges, Memory>
     requires graph { IsGraph graph.now }
     requires room { start_of (length graph.now.stores) count ≤ length boxes.now }
@@ -294,8 +297,8 @@ fn with_family(
     // No operation stops because an operand is outside its type.
     operands_are_in_their_types();
     entries_keep_their_rules();
-    let others = named_from(alloc, graph, boxes, count)?;
     let named = ranges.stops();
+    let others = named_from(alloc, graph, boxes, count, named, asked)?;
     let stops = named_by(alloc, true, named, &others)?;
     let before = ranges.known();
     let known = copied(alloc, before)?;
@@ -306,7 +309,7 @@ fn with_family(
 /// Whether an operation is named.
 fn names_any(stops: &[Stops]) -> bool {
     'operations: for i in 0..stops.len() {
-        if stops[i].range || stops[i].div_zero {
+        if stops[i].are_any() {
             return true;
         }
     }
@@ -341,7 +344,36 @@ fn is_wanted(graph: &Graph, place: usize, bools: bool) -> bool {
     matches!(cell_type(graph, place), Ty::Bool) == bools
 }
 
-/// What is told of the operations of a graph, and what is told by the values of the cell at `place`, if it is of those that are asked for.
+/// What is told of the operations of a graph, and what is told by boxes, one for each of so many values of the cell at `place` from `base`
+/// on, where such are found.
+fn closer_by_family(
+    alloc: Global,
+    graph: &Graph,
+    ranges: Ranges,
+    place: usize,
+    base: i64,
+    count: u32,
+    left: &mut u64,
+    asked: &mut u64,
+    numbers: &[i64],
+) -> Result<Ranges, Memory>
+    requires graph { IsGraph graph.now }
+    requires place { place < length graph.now.stores }
+    requires audit { IsAudit graph.now ranges }
+    ensures { IfOk result (λ a. IsAudit graph.now a) }
+{
+    let any = names_any(ranges.stops());
+    if !any {
+        return Ok(ranges);
+    }
+    let found = family(alloc, graph, place, base, count, left, numbers)?;
+    match found {
+        Some(boxes) => with_family(alloc, graph, &ranges, &boxes, count, asked),
+        None => Ok(ranges),
+    }
+}
+
+/// The same by the values of the cell at `place`, if it is of those that are asked for.
 fn closer_by(
     alloc: Global,
     graph: &Graph,
@@ -349,6 +381,7 @@ fn closer_by(
     place: usize,
     bools: bool,
     left: &mut u64,
+    asked: &mut u64,
     numbers: &[i64],
 ) -> Result<Ranges, Memory>
     requires graph { IsGraph graph.now }
@@ -360,20 +393,14 @@ fn closer_by(
     if !wanted {
         return Ok(ranges);
     }
-    let any = names_any(ranges.stops());
-    if !any {
-        return Ok(ranges);
-    }
     let range = cell_range(graph, ranges.known(), place);
     let count = values_of(range);
     if count < 2 {
         return Ok(ranges);
     }
-    let found = family(alloc, graph, place, range.low, count, left, numbers)?;
-    match found {
-        Some(boxes) => with_family(alloc, graph, &ranges, &boxes, count),
-        None => Ok(ranges),
-    }
+    closer_by_family(
+        alloc, graph, ranges, place, range.low, count, left, asked, numbers,
+    )
 }
 
 /// What is told of the operations of a graph, and what is told by the values of each cell that is a BOOL, or of each other one.
@@ -383,6 +410,7 @@ fn closer_by_each(
     ranges: Ranges,
     bools: bool,
     left: &mut u64,
+    asked: &mut u64,
     numbers: &[i64],
 ) -> Result<Ranges, Memory>
     requires graph { IsGraph graph.now }
@@ -392,7 +420,7 @@ fn closer_by_each(
     let count = cell_count(graph);
     let mut told = ranges;
     'cells: for place in 0..count {
-        let next = closer_by(alloc, graph, told, place, bools, left, numbers)?;
+        let next = closer_by(alloc, graph, told, place, bools, left, asked, numbers)?;
         told = next;
     }
     Ok(told)
@@ -404,33 +432,33 @@ fn closer_in_one(
     graph: &Graph,
     ranges: Ranges,
     left: &mut u64,
+    asked: &mut u64,
     numbers: &[i64],
 ) -> Result<Ranges, Memory>
     requires graph { IsGraph graph.now }
     requires audit { IsAudit graph.now ranges }
     ensures { IfOk result (λ a. IsAudit graph.now a) }
 {
-    let any = names_any(ranges.stops());
-    if !any {
-        return Ok(ranges);
-    }
     let many = cell_count(graph);
     let none = many == 0;
     if none {
         return Ok(ranges);
     }
-    let found = family(alloc, graph, 0, 0, 1, left, numbers)?;
-    match found {
-        Some(boxes) => with_family(alloc, graph, &ranges, &boxes, 1),
-        None => Ok(ranges),
-    }
+    closer_by_family(alloc, graph, ranges, 0, 0, 1, left, asked, numbers)
 }
 
-/// What is told of the operations of a graph, and what is told by one box, and by the values of each of its cells: first of numbers, as
-/// a state is one.
-pub(crate) fn closer(alloc: Global, graph: &Graph, ranges: Ranges) -> Result<Ranges, Memory>
+/// What is told of the operations of a graph, whose cells are always in these ranges, by a closer look at those that are named: in these
+/// ranges, in one box, and by the values of each of its cells: first of numbers, as a state is one.
+pub(crate) fn closer(
+    alloc: Global,
+    graph: &Graph,
+    ranges: Ranges,
+    cells: &[Range],
+) -> Result<Ranges, Memory>
     requires graph { IsGraph graph.now }
     requires audit { IsAudit graph.now ranges }
+    requires many { length cells.now ≡ length graph.now.stores }
+    requires settled { AreSettled graph.now (Hold cells.now) }
     ensures { IfOk result (λ a. IsAudit graph.now a) }
 {
     if graph.len() > LARGEST {
@@ -438,8 +466,10 @@ pub(crate) fn closer(alloc: Global, graph: &Graph, ranges: Ranges) -> Result<Ran
     }
     let numbers = thresholds(alloc, graph)?;
     let mut left = STEPS;
-    let one = closer_in_one(alloc, graph, ranges, &mut left, &numbers)?;
-    let first = closer_by_each(alloc, graph, one, false, &mut left, &numbers)?;
-    let second = closer_by_each(alloc, graph, first, true, &mut left, &numbers)?;
+    let mut asked = STEPS;
+    let here = with_family(alloc, graph, &ranges, cells, 1, &mut asked)?;
+    let one = closer_in_one(alloc, graph, here, &mut left, &mut asked, &numbers)?;
+    let first = closer_by_each(alloc, graph, one, false, &mut left, &mut asked, &numbers)?;
+    let second = closer_by_each(alloc, graph, first, true, &mut left, &mut asked, &numbers)?;
     Ok(second)
 }

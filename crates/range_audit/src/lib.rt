@@ -5,6 +5,7 @@
 //! are told apart, with ranges of all cells for each of them, and whole cycles are gone through by cases.
 #![tactic(auto)]
 
+mod asking;
 mod audit;
 mod boxes;
 mod cases;

@@ -6,6 +6,7 @@ ghost use Rattle.op_graph.specs.Rules.{IsGraph};
 ghost use Rattle.range_audit.specs.Audit.{may_stop, is_named};
 ghost use Rattle.range_audit.specs.Walking.{Parts, start_of, HoldAt, InBox, NamesFrom};
 
+use crate::asking::closer_stops;
 use crate::boxes::{box_at, cell_count, has_none, next_start};
 use crate::range::{Range, Stops, both_hold, either_holds};
 use crate::walk::walk;
@@ -24,7 +25,7 @@ fn joined(both: bool, x: bool, y: bool) -> bool
 }
 
 /// Why an operation may stop, that may for both these reasons, or for one of the two.
-fn joined_stops(both: bool, a: Stops, b: Stops) -> Stops
+pub(crate) fn joined_stops(both: bool, a: Stops, b: Stops) -> Stops
     ensures { (why : StopKind) → Parts both (may_stop why a ≡ true) (may_stop why b ≡ true) → may_stop why result ≡ true }
 {
     let range = joined(both, a.range, b.range);
@@ -33,7 +34,7 @@ fn joined_stops(both: bool, a: Stops, b: Stops) -> Stops
 }
 
 /// Why the operation at place `i` may stop.
-fn stops_at(stops: &[Stops], i: usize) -> Stops
+pub(crate) fn stops_at(stops: &[Stops], i: usize) -> Stops
     requires { i < length stops.now }
     ensures { slice_get stops.now i ≡ Some result }
 {
@@ -49,7 +50,8 @@ pub(crate) fn named_by(
 ) -> Result<Vec<Stops>, Memory>
     requires { length a.now ≡ length b.now }
     ensures many { IfOk result (λ stops. length stops.items ≡ length a.now) }
-    ensures named { IfOk result (λ stops. (why : StopKind) (i : ℕ) → Parts both (is_named why (slice_get a.now i) ≡ true) (is_named why (slice_get b.now i) ≡ true)
+    ensures named { IfOk result (λ stops. (why : StopKind) (i : ℕ)
+        → Parts both (is_named why (slice_get a.now i) ≡ true) (is_named why (slice_get b.now i) ≡ true)
         → is_named why (slice_get stops.items i) ≡ true) }
 {
     let count = a.len();
@@ -78,19 +80,23 @@ fn none_named(alloc: Global, graph: &Graph) -> Result<Vec<Stops>, Memory>
     Ok(stops)
 }
 
-/// The operations that are named already, and those that may stop in a cycle from cells in the box that begins there.
+/// The operations that are named already, and those that may stop in a cycle from cells in the box that begins there. Those that are wanted
+/// are looked at closer.
 fn with_box(
     alloc: Global,
     graph: &Graph,
     boxes: &[Range],
     start: usize,
     stops: Vec<Stops>,
+    wanted: &[Stops],
+    left: &mut u64,
 ) -> Result<Vec<Stops>, Memory>
     requires graph { IsGraph graph.now }
     requires start { start + length graph.now.stores ≤ length boxes.now }
     requires many { length stops.items ≡ length graph.now.operations }
     ensures many { IfOk result (λ more. length more.items ≡ length graph.now.operations) }
-    ensures kept { IfOk result (λ more. (why : StopKind) (i : ℕ) → is_named why (slice_get stops.items i) ≡ true → is_named why (slice_get more.items i) ≡ true) }
+    ensures kept { IfOk result (λ more. (why : StopKind) (i : ℕ) → is_named why (slice_get stops.items i) ≡ true
+        → is_named why (slice_get more.items i) ≡ true) }
     ensures named { IfOk result (λ more. NamesFrom graph.now.operations (HoldAt boxes.now (length graph.now.stores) start) more.items) }
 {
     let many = cell_count(graph);
@@ -100,17 +106,19 @@ fn with_box(
         return Ok(stops);
     }
     let told = walk(alloc, graph, &cells)?;
-    let others = told.stops();
-    let more = named_by(alloc, false, &stops, others)?;
+    let others = closer_stops(alloc, graph, &cells, &told, wanted, &stops, left)?;
+    let more = named_by(alloc, false, &stops, &others)?;
     Ok(more)
 }
 
-/// The operations that may stop in a cycle from cells in one of so many boxes.
+/// The operations that may stop in a cycle from cells in one of so many boxes. Those that are wanted are looked at closer.
 pub(crate) fn named_from(
     alloc: Global,
     graph: &Graph,
     boxes: &[Range],
     count: u32,
+    wanted: &[Stops],
+    left: &mut u64,
 ) -> Result<Vec<Stops>, Memory>
     requires graph { IsGraph graph.now }
     requires boxes { start_of (length graph.now.stores) count ≤ length boxes.now }
@@ -121,7 +129,7 @@ pub(crate) fn named_from(
     let mut stops = none_named(alloc, graph)?;
     let mut start: usize = 0;
     'boxes: for k in 0..count {
-        let more = with_box(alloc, graph, boxes, start, stops)?;
+        let more = with_box(alloc, graph, boxes, start, stops, wanted, left)?;
         stops = more;
         let next = next_start(boxes, start, many);
         start = next;

@@ -1,4 +1,4 @@
-//! Ranges of the operations of one whole cycle, made narrower by what each operation gives and reads.
+//! Ranges of the operations of a cycle, of all or of the first ones, made narrower by what each operation gives and reads.
 
 ghost use Rattle.std.specs.Prelude.{◌≡◌, ◌≢◌, ◌<◌, ◌≤◌, ℕ, ℤ, true, false, List, length, take, nat_lt};
 ghost use Rattle.vcp_base.specs.Kinds.{operands as operands_of, same, truth as truth_of};
@@ -33,7 +33,7 @@ pub(crate) fn put(ranges: &mut [Range], n: u32, r: Range)
 }
 
 /// The first ranges.
-fn first_ranges(ranges: &[Range], i: u32) -> &[Range]
+pub(crate) fn first_ranges(ranges: &[Range], i: u32) -> &[Range]
     requires { i ≤ length ranges.now }
     ensures { result.now ≡ take i ranges.now }
 {
@@ -43,10 +43,10 @@ fn first_ranges(ranges: &[Range], i: u32) -> &[Range]
 /// The range of operation `i` by what it reads.
 fn told_range(graph: &Graph, cells: &[Range], ranges: &[Range], i: u32) -> Range
     requires graph { IsGraph graph.now }
-    requires there { i < length graph.now.operations }
-    requires many { length ranges.now ≡ length graph.now.operations }
+    requires there { i < length ranges.now }
+    requires many { length ranges.now ≤ length graph.now.operations }
     requires cells { length cells.now ≡ length graph.now.stores }
-    ensures { (held row vs : List ℤ) → Hold cells.now held → Given graph.now.operations held row vs → length vs ≡ length graph.now.operations
+    ensures { (held row vs : List ℤ) → Hold cells.now held → Given graph.now.operations held row vs → length vs ≡ length ranges.now
         → Fit ranges.now vs → IsIn result (at vs i) }
 {
     let first = first_ranges(ranges, i);
@@ -57,8 +57,8 @@ fn told_range(graph: &Graph, cells: &[Range], ranges: &[Range], i: u32) -> Range
 /// Makes the range of operation `i` narrower by what it reads.
 fn settle_value(graph: &Graph, cells: &[Range], ranges: &mut [Range], i: u32)
     requires graph { IsGraph graph.now }
-    requires there { i < length graph.now.operations }
-    requires many { length ranges.old ≡ length graph.now.operations }
+    requires there { i < length ranges.old }
+    requires many { length ranges.old ≤ length graph.now.operations }
     requires cells { length cells.now ≡ length graph.now.stores }
     ensures many { length ranges.new ≡ length ranges.old }
     ensures fits { Narrows graph.now.operations cells.now ranges.old ranges.new }
@@ -93,8 +93,8 @@ fn put_operand(cells: &[Range], ranges: &mut [Range], op: &Op, j: u32, n: u32, r
 /// Makes the ranges of what operation `i` reads narrower by its own.
 fn settle_operands(graph: &Graph, cells: &[Range], ranges: &mut [Range], i: u32)
     requires graph { IsGraph graph.now }
-    requires there { i < length graph.now.operations }
-    requires many { length ranges.old ≡ length graph.now.operations }
+    requires there { i < length ranges.old }
+    requires many { length ranges.old ≤ length graph.now.operations }
     requires cells { length cells.now ≡ length graph.now.stores }
     ensures many { length ranges.new ≡ length ranges.old }
     ensures fits { Narrows graph.now.operations cells.now ranges.old ranges.new }
@@ -149,31 +149,6 @@ fn is_never_in(graph: &Graph, ranges: &[Range], m: u32, r: Range, depth: u32) ->
     }
 }
 
-/// Makes the range of the condition by which operation `i`, a SEL, takes a value narrower, where one of the two can't be what it takes.
-fn settle_choice(graph: &Graph, ranges: &mut [Range], i: u32)
-    requires graph { IsGraph graph.now }
-    requires there { i < length graph.now.operations }
-    requires many { length ranges.old ≡ length graph.now.operations }
-    ensures many { length ranges.new ≡ length ranges.old }
-    ensures fits { (held row vs : List ℤ) → Given graph.now.operations held row vs → length vs ≡ length graph.now.operations → Fit ranges.old vs → Fit ranges.new vs }
-{
-    // What an operation reads are earlier ones.
-    operands_are_there();
-    entries_keep_their_rules();
-    let op = graph.operation(i);
-    match op.kind {
-        Kind::Sel => {
-            let r = earlier_range(ranges, i);
-            let a = earlier_range(ranges, op.a);
-            let not_first = is_never_in(graph, ranges, op.b, r, CHOICES);
-            let not_second = is_never_in(graph, ranges, op.c, r, CHOICES);
-            let condition = condition_where(a, not_first, not_second);
-            put(ranges, op.a, condition);
-        }
-        _ => (),
-    }
-}
-
 /// The range of what says whether two values are equal, where they can't be.
 fn equality_where(apart: bool, r: Range) -> Range
     ensures { (x y : ℤ) → (apart ≡ true → x ≢ y) → IsIn r (truth_of (same x y)) → IsIn result (truth_of (same x y)) }
@@ -184,21 +159,30 @@ fn equality_where(apart: bool, r: Range) -> Range
     r
 }
 
-/// Makes the range of operation `i`, an EQ, narrower, where its first operand can't have a value of its second.
-fn settle_equality(graph: &Graph, ranges: &mut [Range], i: u32)
+/// Makes ranges narrower where a value is taken by SELs: of operation `i`, an EQ, where its first operand can't have a value of its second,
+/// and of the condition by which operation `i`, a SEL, takes a value, where one of the two can't be what it takes.
+fn settle_choices(graph: &Graph, ranges: &mut [Range], i: u32)
     requires graph { IsGraph graph.now }
-    requires there { i < length graph.now.operations }
-    requires many { length ranges.old ≡ length graph.now.operations }
+    requires there { i < length ranges.old }
+    requires many { length ranges.old ≤ length graph.now.operations }
     ensures many { length ranges.new ≡ length ranges.old }
-    ensures fits { (held row vs : List ℤ) → Given graph.now.operations held row vs → length vs ≡ length graph.now.operations → Fit ranges.old vs → Fit ranges.new vs }
+    ensures fits { (held row vs : List ℤ) → Given graph.now.operations held row vs → length vs ≡ length ranges.old
+        → Fit ranges.old vs → Fit ranges.new vs }
 {
     // What an operation reads are earlier ones.
     operands_are_there();
     entries_keep_their_rules();
     let op = graph.operation(i);
+    let r = earlier_range(ranges, i);
     match op.kind {
+        Kind::Sel => {
+            let a = earlier_range(ranges, op.a);
+            let not_first = is_never_in(graph, ranges, op.b, r, CHOICES);
+            let not_second = is_never_in(graph, ranges, op.c, r, CHOICES);
+            let condition = condition_where(a, not_first, not_second);
+            put(ranges, op.a, condition);
+        }
         Kind::Eq => {
-            let r = earlier_range(ranges, i);
             let b = earlier_range(ranges, op.b);
             let apart = is_never_in(graph, ranges, op.a, b, CHOICES);
             let value = equality_where(apart, r);
@@ -211,27 +195,35 @@ fn settle_equality(graph: &Graph, ranges: &mut [Range], i: u32)
 /// Makes the range of operation `i` narrower by what it reads, and then what it reads by its own.
 fn settle(graph: &Graph, cells: &[Range], ranges: &mut [Range], i: u32)
     requires graph { IsGraph graph.now }
-    requires there { i < length graph.now.operations }
-    requires many { length ranges.old ≡ length graph.now.operations }
+    requires there { i < length ranges.old }
+    requires many { length ranges.old ≤ length graph.now.operations }
     requires cells { length cells.now ≡ length graph.now.stores }
     ensures many { length ranges.new ≡ length ranges.old }
     ensures fits { Narrows graph.now.operations cells.now ranges.old ranges.new }
 {
     settle_value(graph, cells, ranges, i);
-    settle_equality(graph, ranges, i);
-    settle_choice(graph, ranges, i);
+    settle_choices(graph, ranges, i);
     settle_operands(graph, cells, ranges, i);
+}
+
+/// How many operations have ranges.
+pub(crate) fn count_of(graph: &Graph, ranges: &[Range]) -> u32
+    requires { length ranges.now ≤ length graph.now.operations }
+    ensures { result ≡ length ranges.now }
+{
+    let _most = graph.len();
+    ranges.len() as u32
 }
 
 /// Does so for each operation, from the last to the first.
 fn go_back(graph: &Graph, cells: &[Range], ranges: &mut [Range])
     requires graph { IsGraph graph.now }
-    requires many { length ranges.old ≡ length graph.now.operations }
+    requires many { length ranges.old ≤ length graph.now.operations }
     requires cells { length cells.now ≡ length graph.now.stores }
     ensures many { length ranges.new ≡ length ranges.old }
     ensures fits { Narrows graph.now.operations cells.now ranges.old ranges.new }
 {
-    let count = graph.len();
+    let count = count_of(graph, ranges);
     'operations: for k in 0..count {
         settle(graph, cells, ranges, count - 1 - k);
     }
@@ -240,12 +232,13 @@ fn go_back(graph: &Graph, cells: &[Range], ranges: &mut [Range])
 /// Does so for each operation, from the first to the last.
 fn go_forth(graph: &Graph, cells: &[Range], ranges: &mut [Range])
     requires graph { IsGraph graph.now }
-    requires many { length ranges.old ≡ length graph.now.operations }
+    requires many { length ranges.old ≤ length graph.now.operations }
     requires cells { length cells.now ≡ length graph.now.stores }
     ensures many { length ranges.new ≡ length ranges.old }
     ensures fits { Narrows graph.now.operations cells.now ranges.old ranges.new }
 {
-    'operations: for i in 0..graph.len() {
+    let count = count_of(graph, ranges);
+    'operations: for i in 0..count {
         settle(graph, cells, ranges, i);
     }
 }
@@ -268,10 +261,11 @@ fn sizes(ranges: &[Range]) -> i128 {
     sum
 }
 
-/// Makes the ranges of the operations of a whole cycle, at whose beginning the cells are in these ranges, narrower by one another.
+/// Makes the ranges of the operations of a cycle, at whose beginning the cells are in these ranges, narrower by one another: of all, or of
+/// the first ones.
 pub(crate) fn narrow(graph: &Graph, cells: &[Range], ranges: &mut [Range])
     requires graph { IsGraph graph.now }
-    requires many { length ranges.old ≡ length graph.now.operations }
+    requires many { length ranges.old ≤ length graph.now.operations }
     requires cells { length cells.now ≡ length graph.now.stores }
     ensures many { length ranges.new ≡ length ranges.old }
     ensures fits { Narrows graph.now.operations cells.now ranges.old ranges.new }

@@ -1,13 +1,13 @@
 //! What the range of an operation's value tells of its operands.
 
-ghost use Rattle.std.specs.Prelude.{◌≡◌, ◌≢◌, ℤ, pos, true, false, ◌&&◌, ◌||◌, ◌-ℤ◌, cond, int_lt};
+ghost use Rattle.std.specs.Prelude.{◌≡◌, ◌≢◌, ℤ, pos, true, false, ◌&&◌, ◌||◌, ◌-ℤ◌, ◌*ℤ◌, cond, int_div, int_lt};
 ghost use Rattle.vcp_base.specs.Kinds.{divides_by_zero, same, truth as truth_of, value as value_of};
 ghost use Rattle.range_audit.specs.Intervals.{IsIn};
 ghost use Rattle.range_audit.specs.Walking.{Said};
 
 use crate::choices::{larger_one, lesser_one, no_less};
 use crate::range::{Bounds, Range, both_hold};
-use crate::values::{are_apart, difference};
+use crate::values::{are_apart, difference, product, quotient, rest, sum_within};
 use vcp_base::Kind;
 
 /// The range of a condition that is `truth`.
@@ -158,6 +158,32 @@ fn taken_where_yes(r: Range, a: Range, c: Range) -> Range
     c
 }
 
+/// The range of x, where x*y is in `r`: it is the quotient of the product by y, where y isn't 0.
+fn factor(r: Range, a: Range, b: Range) -> Range
+    ensures { (x y : ℤ) → IsIn r (x *ℤ y) → IsIn a x → IsIn b y → IsIn result x }
+{
+    let some = b.excludes(0);
+    if some {
+        let bounds = quotient(r, b);
+        return a.met(bounds);
+    }
+    a
+}
+
+/// The range of x, where x/y is in `r`: it is y times the quotient, and the remainder.
+fn dividend(r: Range, a: Range, b: Range) -> Range
+    ensures { (x y : ℤ) → IsIn r (int_div x y) → IsIn a x → IsIn b y → IsIn result x }
+{
+    let some = b.excludes(0);
+    if some {
+        let multiple = product(r, b);
+        let remainder = rest(a, b);
+        let bounds = sum_within(multiple, remainder, a);
+        return a.met(bounds);
+    }
+    a
+}
+
 /// The range of an operation's first operand, which is in `a`, where its value is in `r` and the other operands are in `b` and `c`.
 pub(crate) fn first_operand(kind: Kind, r: Range, a: Range, b: Range, c: Range) -> Range
     ensures { (imm x y z : ℤ) → IsIn r (value_of kind imm x y z) → IsIn a x → IsIn b y → IsIn c z → IsIn result x }
@@ -170,6 +196,8 @@ pub(crate) fn first_operand(kind: Kind, r: Range, a: Range, b: Range, c: Range) 
         Kind::Eq => equal_to(r, a, b),
         Kind::Lt => less_than(r, a, b),
         Kind::Sel => taken_by(r, a, b, c),
+        Kind::Mul => factor(r, a, b),
+        Kind::Div => dividend(r, a, b),
         _ => a,
     }
 }
@@ -184,6 +212,7 @@ pub(crate) fn second_operand(kind: Kind, r: Range, a: Range, b: Range) -> Range
         Kind::Eq => equal_to(r, b, a),
         Kind::Lt => more_than(r, a, b),
         Kind::Sel => taken_where_no(r, a, b),
+        Kind::Mul => factor(r, b, a),
         Kind::Div => b.without_zero(),
         Kind::Mod => b.without_zero(),
         _ => b,

@@ -26,6 +26,13 @@ pub struct Stops {
     pub div_zero: bool,
 }
 
+impl Stops {
+    /// Whether an operation may stop, however it may.
+    pub(crate) fn are_any(self) -> bool {
+        self.range || self.div_zero
+    }
+}
+
 /// Bounds of a value that isn't known to be one of a type: the integers from `low` to `high`, without 0 where `nonzero`.
 #[derive(Clone, Copy)]
 pub(crate) struct Bounds {

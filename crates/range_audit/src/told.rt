@@ -157,7 +157,8 @@ fn choice(graph: &Graph, known: &[Range], op: &Op) -> Told
     requires first { op.now.a < length known.now }
     requires second { op.now.b < length known.now }
     requires third { op.now.c < length known.now }
-    ensures { (held row vs : List ℤ) → Given graph.now.operations held row vs → Fit known.now vs → length known.now ≤ length vs → Tells held row vs op.now result }
+    ensures { (held row vs : List ℤ) → Given graph.now.operations held row vs → Fit known.now vs → length known.now ≤ length vs
+        → Tells held row vs op.now result }
 {
     let a = earlier_range(known, op.a);
     let b = earlier_range(known, op.b);
@@ -173,7 +174,8 @@ fn by_operands(graph: &Graph, cells: &[Range], known: &[Range], i: u32) -> Told
     requires there { i < length graph.now.operations }
     requires many { length known.now ≡ i }
     requires cells { length cells.now ≡ length graph.now.stores }
-    ensures { (held row vs : List ℤ) (op : Operation) → slice_get graph.now.operations i ≡ Some op → Hold cells.now held → Given graph.now.operations held row vs
+    ensures { (held row vs : List ℤ) (op : Operation) → slice_get graph.now.operations i ≡ Some op → Hold cells.now held
+        → Given graph.now.operations held row vs
         → Fit known.now vs → length vs ≡ i → Tells held row vs op result }
 {
     // What an operation reads is an earlier one, or a cell.
@@ -192,7 +194,8 @@ pub(crate) fn tell(graph: &Graph, cells: &[Range], known: &[Range], i: u32) -> T
     requires there { i < length graph.now.operations }
     requires many { length known.now ≡ i }
     requires cells { length cells.now ≡ length graph.now.stores }
-    ensures { (held row vs : List ℤ) (op : Operation) → slice_get graph.now.operations i ≡ Some op → Hold cells.now held → Given graph.now.operations held row vs
+    ensures { (held row vs : List ℤ) (op : Operation) → slice_get graph.now.operations i ≡ Some op → Hold cells.now held
+        → Given graph.now.operations held row vs
         → Fit known.now vs → length vs ≡ i → Tells held row vs op result }
 {
     // What an operation reads is an earlier one, or a cell.

@@ -1,6 +1,7 @@
 //! Bounds of the values of each kind, where the operands are in ranges.
 
-ghost use Rattle.std.specs.Prelude.{◌≡◌, ◌≢◌, ℤ, Bool, true, false, not, ◌&&◌, ◌||◌, cond, pos, negsuc, ◌≤ℤ◌, ◌<ℤ◌, ◌+ℤ◌, ◌-ℤ◌, ◌*ℤ◌, neg_ℤ, int_div, int_rem, int_lt};
+ghost use Rattle.std.specs.Prelude.{◌≡◌, ◌≢◌, ◌⊎◌, ℤ, Bool, true, false, not, ◌&&◌, ◌||◌, cond, pos, negsuc};
+ghost use Rattle.std.specs.Prelude.{◌≤ℤ◌, ◌<ℤ◌, ◌+ℤ◌, ◌-ℤ◌, ◌*ℤ◌, neg_ℤ, int_div, int_rem, int_lt};
 ghost use Rattle.vcp_base.specs.Kinds.{value as value_of, divides_by_zero, same, truth};
 ghost use Rattle.range_audit.specs.Intervals.{IsIn, IsWithin};
 
@@ -121,7 +122,7 @@ pub(crate) fn difference(a: Range, b: Range) -> Bounds
 }
 
 /// Bounds of x*y: the least and the greatest of the products of the ends, as it is not known which signs meet.
-fn product(a: Range, b: Range) -> Bounds
+pub(crate) fn product(a: Range, b: Range) -> Bounds
     ensures { (x y : ℤ) → IsIn a x → IsIn b y → IsWithin result (x *ℤ y) }
 {
     let low_low = times(a.low, b.low);
@@ -201,7 +202,7 @@ fn is_above_zero(a: Range) -> bool
 }
 
 /// Bounds of x/y, where y isn't 0.
-fn quotient(a: Range, b: Range) -> Bounds
+pub(crate) fn quotient(a: Range, b: Range) -> Bounds
     ensures { (x y : ℤ) → IsIn a x → IsIn b y → y ≢ pos 0 → IsWithin result (int_div x y) }
 {
     let divisor = b.without_zero();
@@ -262,12 +263,38 @@ fn rest_high(a: Range, below: i128) -> i128
 }
 
 /// Bounds of the remainder of x/y, where y isn't 0: it is smaller than y in size, no larger than x, and has the sign of x.
-fn rest(a: Range, b: Range) -> Bounds
+pub(crate) fn rest(a: Range, b: Range) -> Bounds
     ensures { (x y : ℤ) → IsIn a x → IsIn b y → y ≢ pos 0 → IsWithin result (int_rem x y) }
 {
     let below = size(b);
     let low = rest_low(a, below);
     let high = rest_high(a, below);
+    Bounds {
+        low,
+        high,
+        nonzero: false,
+    }
+}
+
+/// The sum of two integers; `other` where it has more bits.
+fn sum_or(x: i128, y: i128, other: i128) -> i128
+    ensures { (result ≡ x +ℤ y) ⊎ (result ≡ other) }
+{
+    let sum = x.checked_add(y);
+    match sum {
+        Some(z) => z,
+        None => other,
+    }
+}
+
+/// Bounds of x + y, which is in `r`, where the two are within bounds.
+pub(crate) fn sum_within(first: Bounds, second: Bounds, r: Range) -> Bounds
+    ensures { (x y : ℤ) → IsWithin first x → IsWithin second y → IsIn r (x +ℤ y) → IsWithin result (x +ℤ y) }
+{
+    let least = wide(r.low);
+    let greatest = wide(r.high);
+    let low = sum_or(first.low, second.low, least);
+    let high = sum_or(first.high, second.high, greatest);
     Bounds {
         low,
         high,

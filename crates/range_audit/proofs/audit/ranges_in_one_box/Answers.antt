@@ -1,19 +1,17 @@
-use Rattle.std.proofs.Common.{subst}
 use Rattle.range_audit.specs.Intervals.{Hold}
-use Rattle.range_audit.specs.Walking.{IsWalk}
 use Rattle.range_audit.proofs.Cycles.{holds, names, ends}
 use Rattle.range_audit.proofs.audit.ranges_in_one_box.Goals as goal
 
-pub returns-clause-audit : goal.returns-clause-audit
-returns-clause-audit c =
+pub returns : goal.returns
+returns c =
     let g = c.args.graph.now in
-    let cells = c.in_ok-cells.cells.items in
+    let cells = c.args.cells.now in
     let told = c.in_ok-told.told in
-    let walk = subst (λ rs. IsWalk g.operations rs told) c.deref.ensures.value c.in_ok-told.ensures in
-    let settled = c.in_ok-cells.ensures.settled in
+    let walk = c.in_ok-told.ensures in
+    let settled = c.requires.settled in
     let laws = c.operands_are_in_their_types.ensures in
     let rules = c.entries_keep_their_rules.ensures in
-    let graph = c.in_ok-cells.ensures.graph in
+    let graph = c.requires.graph in
     record {
       known = walk.known_many;
       stops = walk.stops_many;

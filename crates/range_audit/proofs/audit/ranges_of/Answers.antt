@@ -1,5 +1,29 @@
+use Rattle.std.proofs.Common.{length, sym, ap, subst, ◌∙◌}
+use Rattle.range_audit.specs.Intervals.{Hold}
+use Rattle.range_audit.specs.Walking.{AreSettled}
 use Rattle.range_audit.proofs.NoneNamed.{never}
 use Rattle.range_audit.proofs.audit.ranges_of.Goals as goal
+
+pub ranges_in_one_box-requires : goal.ranges_in_one_box-requires
+ranges_in_one_box-requires c =
+    let cells = c.in_ok-cells.ensures in
+    let same = c.deref.ensures.value in
+    record {
+      graph = cells.graph;
+      many = ap length same ∙ cells.many;
+      settled = subst (λ rs. AreSettled c.args.graph.now (Hold rs)) (sym same) cells.settled;
+    }
+
+pub closer-requires : goal.closer-requires
+closer-requires c =
+    let cells = c.in_ok-cells.ensures in
+    let same = c.deref-2.ensures.value in
+    record {
+      graph = cells.graph;
+      audit = c.in_ok-ranges.ensures;
+      many = ap length same ∙ cells.many;
+      settled = subst (λ rs. AreSettled c.args.graph.now (Hold rs)) (sym same) cells.settled;
+    }
 
 pub returns : goal.returns
 returns c =

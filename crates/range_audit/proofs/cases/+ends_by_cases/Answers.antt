@@ -12,7 +12,7 @@ returns-then-depth-eq0 t c = λ e held row vs hold given whole fit.
     let lt : c.args.n < length vs = omega (arith, whole, c.requires.there) in
     let i = fit c.args.n c.earlier_range-whole.result lt c.earlier_range-whole.ensures in
     c.in_ok-is.ensures e vs whole
-    (subst (λ rs. Fit rs vs) (sym c.deref.ensures.value) (c.in_ok-all.ensures.fits.fits held row vs hold given whole fit i))
+    (subst (λ rs. Fit rs vs) (sym c.deref.ensures.value) (c.in_ok-all.ensures.fits.fits held row vs hold given (whole ∙ sym c.requires.many) fit i))
 
 pub returns-then-none : goal.returns-then-none
 returns-then-none t c = λ e held row vs hold given whole fit.
@@ -31,11 +31,11 @@ returns t c = λ e held row vs hold given whole fit.
       | inl le ↦
           c.in_ok-first.ensures (and_left c.in_ok-first.first c.in_ok-second.second both) vs whole
           (subst (λ rs. Fit rs vs) (sym c.deref-2.ensures.value)
-          (c.in_ok-low.ensures.fits.fits held row vs hold given whole fit (c.up_to-one.ensures (at vs c.args.n) i
+          (c.in_ok-low.ensures.fits.fits held row vs hold given (whole ∙ sym c.requires.many) fit (c.up_to-one.ensures (at vs c.args.n) i
           (subst (λ k. at vs c.args.n ≤ℤ k) (sym (to_z-of_z w64 r.low low_fits)) le))))
       | inr more ↦
           c.in_ok-second.ensures (and_right c.in_ok-first.first c.in_ok-second.second both) held row vs hold given whole
           (subst (λ rs. Fit rs vs) (sym c.deref-3.ensures.value)
-          (c.in_ok-high.ensures.fits.fits held row vs hold given whole fit (c.above-rest.ensures (at vs c.args.n) i
+          (c.in_ok-high.ensures.fits.fits held row vs hold given (whole ∙ sym c.requires.many) fit (c.above-rest.ensures (at vs c.args.n) i
           (subst (λ k. k <ℤ at vs c.args.n) (sym (to_z-of_z w64 r.low low_fits)) more))))
     ]

@@ -10,11 +10,11 @@ returns-clause-fits c =
     let cells = c.args.cells.now in
     let found = c.in_ok-found.found in
     let new = c.narrow_stores.new.ranges in
+    let same_many : length c.deref_mut.result.now ≡ length c.args.ranges.now = ap length c.deref_mut.ensures.value ∙ c.in_ok-found.ensures.many in
     let moved : NarrowsTo g.operations cells c.args.n c.args.r c.args.ranges.now new = record {
       fits = λ held row vs hold given whole fit i.
-          c.narrow_stores.ensures.fits held row vs hold given whole
+          c.narrow_stores.ensures.fits held row vs hold given (whole ∙ sym same_many)
           (subst (λ rs. Fit rs vs) (sym c.deref_mut.ensures.value) (c.in_ok-found.ensures.fits.fits held row vs hold given whole fit i));
     } in
-    let before : length c.deref_mut.result.now ≡ length g.operations = ap length c.deref_mut.ensures.value ∙ c.in_ok-found.ensures.many in
-    let same : length new ≡ found.len = omega (arith, before, c.narrow_stores.ensures.many, c.deref_mut.ensures.len) in
+    let same : length new ≡ found.len = omega (arith, same_many, c.narrow_stores.ensures.many, c.deref_mut.ensures.len) in
     subst (λ rs. NarrowsTo g.operations cells c.args.n c.args.r c.args.ranges.now rs) (sym (with_items_is found new same)) moved

@@ -9,12 +9,14 @@ cells-preserved c =
     let i = c.cells.invariant in
     record {
       many = c.narrow_by_cases.ensures.many ∙ i.many;
-      fits = λ held row vs hold given whole fit. c.narrow_by_cases.ensures.fits held row vs hold given whole (i.fits held row vs hold given whole fit);
+      fits = λ held row vs hold given whole fit.
+          c.narrow_by_cases.ensures.fits held row vs hold given (whole ∙ c.requires.many ∙ sym i.many) (i.fits held row vs hold given whole fit);
     }
 
 pub returns-in_err-narrow_by_cases-clause-fits : goal.returns-in_err-narrow_by_cases-clause-fits
 returns-in_err-narrow_by_cases-clause-fits c = λ held row vs hold given whole fit.
-    c.narrow_by_cases.ensures.fits held row vs hold given whole (c.cells.invariant.fits held row vs hold given whole fit)
+    c.narrow_by_cases.ensures.fits held row vs hold given (whole ∙ c.requires.many ∙ sym c.cells.invariant.many)
+    (c.cells.invariant.fits held row vs hold given whole fit)
 
 pub returns-clause-many : goal.returns-clause-many
 returns-clause-many c = c.cells.invariant.many ∙ sym c.requires.many

@@ -3,6 +3,17 @@ use Rattle.std.proofs.lemmas.List.{with_items_is}
 use Rattle.range_audit.specs.Walking.{NarrowsTo}
 use Rattle.range_audit.proofs.cases.part.Goals as goal
 
+pub narrow_to-requires : goal.narrow_to-requires
+narrow_to-requires c =
+    let before : length c.deref_mut.result.now ≡ length c.args.ranges.now =
+    ap length c.deref_mut.ensures.value ∙ ap length c.in_ok-part.ensures in
+    record {
+      graph = c.requires.graph;
+      there = omega (arith, before, c.requires.there);
+      many = omega (arith, before, c.requires.many);
+      cells = c.requires.cells;
+    }
+
 pub returns-clause-fits : goal.returns-clause-fits
 returns-clause-fits c =
     let g = c.args.graph.now in
@@ -11,7 +22,7 @@ returns-clause-fits c =
     let new = c.narrow_to.new.ranges in
     let moved : NarrowsTo g.operations cells c.args.n c.args.r c.args.ranges.now new =
     subst (λ rs. NarrowsTo g.operations cells c.args.n c.args.r rs new) (c.deref_mut.ensures.value ∙ c.in_ok-part.ensures) c.narrow_to.ensures.fits in
-    let before : length c.deref_mut.result.now ≡ length g.operations =
-    ap length c.deref_mut.ensures.value ∙ ap length c.in_ok-part.ensures ∙ c.requires.many in
+    let before : length c.deref_mut.result.now ≡ length c.args.ranges.now =
+    ap length c.deref_mut.ensures.value ∙ ap length c.in_ok-part.ensures in
     let same : length new ≡ part.len = omega (arith, before, c.narrow_to.ensures.many, c.deref_mut.ensures.len) in
     subst (λ rs. NarrowsTo g.operations cells c.args.n c.args.r c.args.ranges.now rs) (sym (with_items_is part new same)) moved

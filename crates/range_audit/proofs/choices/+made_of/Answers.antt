@@ -12,7 +12,8 @@ returns-then-same t c = λ held row vs given fit le value.
     (c.bounds-bounds.ensures (at vs c.args.n) (subst (λ k. IsIn c.args.value (at vs k)) (sym (c.is_one-same.ensures c.if-same.true)) value))
 
 pub returns-then-depth-eq0 : goal.returns-then-depth-eq0
-returns-then-depth-eq0 t c = λ held row vs given fit le value. fit c.args.n c.earlier_range-r.result (omega (arith, le, c.requires.there)) c.earlier_range-r.ensures
+returns-then-depth-eq0 t c =
+    λ held row vs given fit le value. fit c.args.n c.earlier_range-r.result (omega (arith, le, c.requires.there)) c.earlier_range-r.ensures
 
 pub returns-in_default : goal.returns-in_default
 returns-in_default t c = λ held row vs given fit le value. fit c.args.n c.earlier_range-r.result (omega (arith, le, c.requires.there)) c.earlier_range-r.ensures
@@ -20,21 +21,24 @@ returns-in_default t c = λ held row vs given fit le value. fit c.args.n c.earli
 pub earlier_range-a-requires : goal.earlier_range-a-requires
 earlier_range-a-requires t c =
     let op = c.operation-op.result in
-    let are = operands_are c.args.graph.now c.args.m op _ c.entries_keep_their_rules.ensures c.operands_are_there.ensures c.requires.graph c.operation-op.ensures refl in
+    let are = operands_are c.args.graph.now c.args.m op _ c.entries_keep_their_rules.ensures c.operands_are_there.ensures c.requires.graph
+    c.operation-op.ensures refl in
     let first : op.a < c.args.m = there _ c.args.m op.kind op.imm op.a 0 kind.Neg c.in-Neg.is refl are.first in
     omega (arith, first, c.requires.made)
 
 pub made_of-requires : goal.made_of-requires
 made_of-requires t c =
     let op = c.operation-op.result in
-    let are = operands_are c.args.graph.now c.args.m op _ c.entries_keep_their_rules.ensures c.operands_are_there.ensures c.requires.graph c.operation-op.ensures refl in
+    let are = operands_are c.args.graph.now c.args.m op _ c.entries_keep_their_rules.ensures c.operands_are_there.ensures c.requires.graph
+    c.operation-op.ensures refl in
     let first : op.a < c.args.m = there _ c.args.m op.kind op.imm op.a 0 kind.Neg c.in-Neg.is refl are.first in
     (omega arith, (c.requires.graph, (omega (arith, first, c.requires.made), (c.requires.there, c.requires.many))))
 
 pub returns-in-Neg : goal.returns-in-Neg
 returns-in-Neg t c = λ held row vs given fit le value.
     let op = c.operation-op.result in
-    let are = operands_are c.args.graph.now c.args.m op _ c.entries_keep_their_rules.ensures c.operands_are_there.ensures c.requires.graph c.operation-op.ensures refl in
+    let are = operands_are c.args.graph.now c.args.m op _ c.entries_keep_their_rules.ensures c.operands_are_there.ensures c.requires.graph
+    c.operation-op.ensures refl in
     let first : op.a < c.args.m = there _ c.args.m op.kind op.imm op.a 0 kind.Neg c.in-Neg.is refl are.first in
     let within : c.args.m < length vs = omega (arith, le, c.requires.made) in
     let is = opposite held row vs op c.args.m (given.each c.args.m op within c.operation-op.ensures) c.in-Neg.is first in
@@ -45,28 +49,32 @@ returns-in-Neg t c = λ held row vs given fit le value.
 pub made_of-no-requires : goal.made_of-no-requires
 made_of-no-requires t c =
     let op = c.operation-op.result in
-    let are = operands_are c.args.graph.now c.args.m op _ c.entries_keep_their_rules.ensures c.operands_are_there.ensures c.requires.graph c.operation-op.ensures refl in
+    let are = operands_are c.args.graph.now c.args.m op _ c.entries_keep_their_rules.ensures c.operands_are_there.ensures c.requires.graph
+    c.operation-op.ensures refl in
     let second : op.b < c.args.m = there _ c.args.m op.kind op.imm op.b 1 kind.Sel c.in-Sel.is refl are.second in
     (omega arith, (c.requires.graph, (omega (arith, second, c.requires.made), (c.requires.there, c.requires.many))))
 
 pub made_of-yes-requires : goal.made_of-yes-requires
 made_of-yes-requires t c =
     let op = c.operation-op.result in
-    let are = operands_are c.args.graph.now c.args.m op _ c.entries_keep_their_rules.ensures c.operands_are_there.ensures c.requires.graph c.operation-op.ensures refl in
+    let are = operands_are c.args.graph.now c.args.m op _ c.entries_keep_their_rules.ensures c.operands_are_there.ensures c.requires.graph
+    c.operation-op.ensures refl in
     let third : op.c < c.args.m = there _ c.args.m op.kind op.imm op.c 2 kind.Sel c.in-Sel.is refl are.third in
     (omega arith, (c.requires.graph, (omega (arith, third, c.requires.made), (c.requires.there, c.requires.many))))
 
 pub either_case-requires : goal.either_case-requires
 either_case-requires t c =
     let op = c.operation-op.result in
-    let are = operands_are c.args.graph.now c.args.m op _ c.entries_keep_their_rules.ensures c.operands_are_there.ensures c.requires.graph c.operation-op.ensures refl in
+    let are = operands_are c.args.graph.now c.args.m op _ c.entries_keep_their_rules.ensures c.operands_are_there.ensures c.requires.graph
+    c.operation-op.ensures refl in
     let first : op.a < c.args.m = there _ c.args.m op.kind op.imm op.a 0 kind.Sel c.in-Sel.is refl are.first in
     record { graph = c.requires.graph; condition = omega (arith, first, c.requires.made); there = c.requires.there; many = c.requires.many }
 
 pub returns-in-Sel : goal.returns-in-Sel
 returns-in-Sel t c = λ held row vs given fit le value.
     let op = c.operation-op.result in
-    let are = operands_are c.args.graph.now c.args.m op _ c.entries_keep_their_rules.ensures c.operands_are_there.ensures c.requires.graph c.operation-op.ensures refl in
+    let are = operands_are c.args.graph.now c.args.m op _ c.entries_keep_their_rules.ensures c.operands_are_there.ensures c.requires.graph
+    c.operation-op.ensures refl in
     let first : op.a < c.args.m = there _ c.args.m op.kind op.imm op.a 0 kind.Sel c.in-Sel.is refl are.first in
     let second : op.b < c.args.m = there _ c.args.m op.kind op.imm op.b 1 kind.Sel c.in-Sel.is refl are.second in
     let third : op.c < c.args.m = there _ c.args.m op.kind op.imm op.c 2 kind.Sel c.in-Sel.is refl are.third in

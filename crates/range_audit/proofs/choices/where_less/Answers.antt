@@ -10,5 +10,6 @@ returns-then-is_first c = λ vs i j less k.
 
 pub returns-then-is_second : goal.returns-then-is_second
 returns-then-is_second c = λ vs i j less k.
-    c.met-then-is_second.ensures (at vs c.args.n) k (subst (λ m. IsWithin c.larger_one-bounds.result (at vs m)) (sym (c.is_one-is_second.ensures c.if-is_second.true))
+    c.met-then-is_second.ensures (at vs c.args.n) k (subst (λ m. IsWithin c.larger_one-bounds.result (at vs m))
+    (sym (c.is_one-is_second.ensures c.if-is_second.true))
     (c.larger_one-bounds.ensures (at vs c.args.op.now.a) (at vs c.args.op.now.b) i j less))

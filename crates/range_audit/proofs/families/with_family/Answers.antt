@@ -27,8 +27,11 @@ returns c =
     let end = ends g Kept others named c.requires.settled laws rules c.requires.graph in
     let both : (why : StopKind) (i : ℕ) → is_named why (slice_get before.stops i) ≡ true → is_named why (slice_get others i) ≡ true
     → is_named why (slice_get stops i) ≡ true = λ why i p q.
-    c.in_ok-stops.ensures.named why i
-    (subst (λ ss. is_named why (slice_get ss i) ≡ true) (sym c.stops-named.ensures) p, subst (λ ss. is_named why (slice_get ss i) ≡ true) (sym c.deref.ensures.value) q) in
+    c.in_ok-stops.ensures.named why i (
+      subst (λ ss. is_named why (slice_get ss i) ≡ true) (sym c.stops-named.ensures) p,
+      subst (λ ss. is_named why (slice_get ss i) ≡ true)
+          (sym c.deref.ensures.value) q,
+    ) in
     let same : known ≡ before.known = c.in_ok-known.ensures ∙ c.known-before.ensures in
     subst (λ a. IsAudit g a) (sym c.new-told.ensures)
     (record {

@@ -8,7 +8,8 @@ use Rattle.range_audit.proofs.narrowing.+is_never_in.Goals as goal
 
 pub returns-then-apart : goal.returns-then-apart
 returns-then-apart t c = λ e held row vs given fit le i.
-    c.are_apart-apart.ensures c.if-apart.true (at vs c.args.m) (fit c.args.m c.earlier_range-value.result (omega (arith, le, c.requires.made)) c.earlier_range-value.ensures) i
+    c.are_apart-apart.ensures c.if-apart.true (at vs c.args.m) (fit c.args.m c.earlier_range-value.result
+    (omega (arith, le, c.requires.made)) c.earlier_range-value.ensures) i
 
 pub is_never_in-first-requires : goal.is_never_in-first-requires
 is_never_in-first-requires t c =

@@ -4,6 +4,6 @@ use Rattle.range_audit.proofs.narrowing.go_back.Given as goal
 
 abbrev pub invariant-operations : goal.invariant-operations
 invariant-operations l = record {
-  many : length l.ranges ≡ length l.graph.operations;
+  many : length l.ranges ≡ length l.fn.ranges;
   fits : Narrows l.graph.operations l.cells l.fn.ranges l.ranges;
 }

@@ -4,6 +4,6 @@ use Rattle.range_audit.proofs.narrowing.narrow.Given as goal
 
 abbrev pub invariant-passes : goal.invariant-passes
 invariant-passes l = record {
-  many : length l.ranges ≡ length l.graph.operations;
+  many : length l.ranges ≡ length l.fn.ranges;
   fits : Narrows l.graph.operations l.cells l.fn.ranges l.ranges;
 }

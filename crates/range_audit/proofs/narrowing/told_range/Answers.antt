@@ -7,10 +7,10 @@ use Rattle.range_audit.proofs.narrowing.told_range.Goals as goal
 
 pub tell-told-requires : goal.tell-told-requires
 tell-told-requires c =
-    let le : c.args.i ≤ length c.args.ranges.now = omega (arith, c.requires.there, c.requires.many) in
+    let le : c.args.i ≤ length c.args.ranges.now = omega (arith, c.requires.there) in
     record {
       graph = c.requires.graph;
-      there = c.requires.there;
+      there = omega (arith, c.requires.there, c.requires.many);
       many = ap length c.first_ranges-first.ensures ∙ length-take-le c.args.i c.args.ranges.now le;
       cells = c.requires.cells;
     }
@@ -19,7 +19,7 @@ pub returns : goal.returns
 returns c = λ held row vs hold given whole fit.
     let g = c.args.graph.now in
     let i = c.args.i in
-    let op = get_there g.operations i c.requires.there in
+    let op = get_there g.operations i (omega (arith, c.requires.there, c.requires.many)) in
     let lt : i < length vs = omega (arith, whole, c.requires.there) in
     let front : Fit c.first_ranges-first.result.now (take i vs) =
     subst (λ rs. Fit rs (take i vs)) (sym c.first_ranges-first.ensures) (fit_first c.args.ranges.now vs i lt fit) in

@@ -1,5 +1,6 @@
 use Rattle.std.proofs.Common.{◌≡◌, false, pos, subst}
 use Rattle.std.specs.Prelude.{int_le}
+use Rattle.std.proofs.Math.IntN.{*ℤ_comm}
 use Rattle.vcp_base.specs.Kinds.{value, same, truth, divides_by_zero}
 use Rattle.range_audit.specs.Intervals.{IsIn}
 use Rattle.range_audit.proofs.Backward.{and_swapped, or_swapped}
@@ -40,3 +41,8 @@ pub returns-in-Mod : goal.returns-in-Mod
 returns-in-Mod c = λ imm x y z i j k d.
     let no : same y (pos 0) ≡ false = subst (λ t. divides_by_zero t y ≡ false) c.in-Mod.is d in
     c.without_zero-in-Mod.ensures y k (λ e. true_false (same y (pos 0)) (is_same y (pos 0) e) no)
+
+pub returns-in-Mul : goal.returns-in-Mul
+returns-in-Mul c = λ imm x y z i j k d.
+    let v = subst (λ k. IsIn c.args.r (value k imm x y z)) c.in-Mul.is i in
+    c.factor.ensures y x (subst (λ p. IsIn c.args.r p) (*ℤ_comm x y) v) k j

@@ -16,4 +16,5 @@ returns-then-has c = λ held vs hold fit le.
 pub returns : goal.returns
 returns c = λ held vs hold fit le.
     let op = c.args.op.now in
-    operand_none c.only.result (nat_lt c.args.j (operands op.kind)) (read held vs op.kind op.imm c.args.n) (sym c.has_operand-has.ensures ∙ c.if-has.false) c.only.ensures
+    operand_none c.only.result (nat_lt c.args.j (operands op.kind)) (read held vs op.kind op.imm c.args.n)
+    (sym c.has_operand-has.ensures ∙ c.if-has.false) c.only.ensures

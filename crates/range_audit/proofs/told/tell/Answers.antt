@@ -7,7 +7,8 @@ use Rattle.range_audit.proofs.told.tell.Goals as goal
 pub choice-requires : goal.choice-requires
 choice-requires c =
     let op = c.operation-op.result in
-    let are = operands_are c.args.graph.now c.args.i op _ c.entries_keep_their_rules.ensures c.operands_are_there.ensures c.requires.graph c.operation-op.ensures refl in
+    let are = operands_are c.args.graph.now c.args.i op _ c.entries_keep_their_rules.ensures c.operands_are_there.ensures c.requires.graph
+    c.operation-op.ensures refl in
     let reads = choice_reads _ c.args.i op c.in-Sel.is are in
     record {
       graph = c.requires.graph;

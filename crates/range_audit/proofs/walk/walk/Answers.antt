@@ -39,7 +39,9 @@ returns c =
     let i = c.operations.invariant in
     let known = c.operations.known.items in
     let stops = c.operations.stops.items in
-    let known_many : length known ≡ length g.operations = omega (arith, i.known_many, c.operations-test.false, c.operations.auto.i-end, c.len-count.ensures.count) in
-    let stops_many : length stops ≡ length g.operations = omega (arith, i.stops_many, c.operations-test.false, c.operations.auto.i-end, c.len-count.ensures.count) in
+    let known_many : length known ≡ length g.operations =
+    omega (arith, i.known_many, c.operations-test.false, c.operations.auto.i-end, c.len-count.ensures.count) in
+    let stops_many : length stops ≡ length g.operations =
+    omega (arith, i.stops_many, c.operations-test.false, c.operations.auto.i-end, c.len-count.ensures.count) in
     subst (λ a. IsWalk g.operations c.args.cells.now a) (sym c.new.ensures)
     (whole_walk g.operations c.args.cells.now known stops known_many stops_many i.fits i.names)

@@ -1,0 +1,46 @@
+use Rattle.std.proofs.Common.{◌≡◌, ◌<◌, ◌⊎◌, true, pos, inl, inr, length, sym, subst, ◌∙◌, arith}
+use Rattle.std.proofs.lemmas.Option.{slice_get_within}
+use Rattle.vcp_base.specs.Values.{at}
+use Rattle.range_audit.specs.Audit.{may_stop}
+use Rattle.range_audit.specs.Intervals.{Fit}
+use Rattle.range_audit.proofs.Boxed.{no_more_or_more}
+use Rattle.range_audit.proofs.asking.+stops_by_cases.Goals as goal
+
+pub returns-then-none : goal.returns-then-none
+returns-then-none t c = λ held row vs op why hold given whole fit there own no e.
+    let n = c.has_none-none.ensures c.if-none.true in
+    let within = slice_get_within c.args.ranges.now n.0 n.1 n.2 in
+    absurd (n.3 (at vs n.0) (fit n.0 n.1 (omega (arith, within, whole, c.requires.many)) n.2))
+
+pub returns-then-depth-eq0 : goal.returns-then-depth-eq0
+returns-then-depth-eq0 t c = λ held row vs op why hold given whole fit there own no e.
+    (c.tell-told.ensures held row vs op there hold given fit whole).stop why own no e
+
+pub returns-then-not-any : goal.returns-then-not-any
+returns-then-not-any t c = λ held row vs op why hold given whole fit there own no e.
+    (c.tell-told.ensures held row vs op there hold given fit whole).stop why own no e
+
+pub returns-then-nothing : goal.returns-then-nothing
+returns-then-nothing t c = λ held row vs op why hold given whole fit there own no e.
+    (c.tell-told.ensures held row vs op there hold given fit whole).stop why own no e
+
+pub returns-then-not-enough : goal.returns-then-not-enough
+returns-then-not-enough t c = λ held row vs op why hold given whole fit there own no e.
+    (c.tell-told.ensures held row vs op there hold given fit whole).stop why own no e
+
+pub returns : goal.returns
+returns t c = λ held row vs op why hold given whole fit there own no e.
+    let q = c.open_condition-q.result in
+    let count = whole ∙ sym c.requires.many in
+    let lt : q < length vs = omega (arith, whole, c.if-nothing.false) in
+    let r = c.earlier_range-r.result in
+    let i = fit q r lt c.earlier_range-r.ensures in
+    let one : (may_stop why c.in_ok-first.first ≡ true) ⊎ (may_stop why c.in_ok-second.second ≡ true) = elim (no_more_or_more (at vs q) (pos 0)) [
+      | inl le ↦
+          inl (c.in_ok-first.ensures held row vs op why hold given whole (subst (λ rs. Fit rs vs) (sym c.deref.ensures.value)
+          (c.in_ok-low.ensures.fits.fits held row vs hold given count fit (c.up_to-one.ensures (at vs q) i le))) there own no e)
+      | inr more ↦
+          inr (c.in_ok-second.ensures held row vs op why hold given whole (subst (λ rs. Fit rs vs) (sym c.deref-2.ensures.value)
+          (c.in_ok-high.ensures.fits.fits held row vs hold given count fit (c.above-rest.ensures (at vs q) i more))) there own no e)
+    ] in
+    c.joined_stops-either.ensures why one
