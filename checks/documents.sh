@@ -11,6 +11,7 @@
 # Words: the manual pages and the completion have the commands and options of the usage lines (usage.sh).
 # Pictures: those in docs/ are what vcp_study draws (pictures.sh).
 # Sites: vcp_study sites writes as many faults as are counted from outside (site_counts.sh).
+# Texts for Graphviz: those of vcp_study dot have what its pictures draw (graph_texts.py).
 #
 # It uses the programs that are built, or those of VCP=FILE and VCP_STUDY=FILE, and builds none. What a missing tool would do is left out. Its status
 # is 1 where something differs, and else 0.
@@ -38,6 +39,9 @@ if [ -x "$VCP" ]; then
     if [ -x "$VCP_STUDY" ]; then
         "$here/pictures.sh" --check || status=1
         "$here/site_counts.sh" || status=1
+        if command -v python3 >/dev/null 2>&1; then
+            python3 "$here/graph_texts.py" || status=1
+        fi
     fi
 else
     echo "documents: no command is run, since no program is built"

@@ -23,7 +23,7 @@ _vcp() {
 
 complete -o filenames -F _vcp vcp ./vcp
 
-_vcp_study_commands='graph waves ranges sites sum script'
+_vcp_study_commands='graph dot waves ranges sites sum script'
 
 _vcp_study() {
     local word=${COMP_WORDS[COMP_CWORD]}

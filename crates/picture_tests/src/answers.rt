@@ -11,7 +11,7 @@ use worked_programs::{cells, same, word_off, words_of};
 
 /// The usage line.
 const USAGE: &[u8] =
-    b"usage: vcp_study graph M HORIZON, waves FILE, ranges M, ranges M --all, sites M CYCLES CLASS, \
+    b"usage: vcp_study graph M HORIZON, dot M HORIZON, waves FILE, ranges M, ranges M --all, sites M CYCLES CLASS, \
     sites M CYCLES CLASS FROM COUNT, sites M CYCLES CLASS --count, sites M ROWS flips, sites M ROWS flips FROM COUNT, \
     sites M ROWS flips --count, sum M SCRIPT VERDICTS or script M NAMED";
 
@@ -27,6 +27,12 @@ graph m.img 1 2 => 4 usage
 graph no.img 0 => 5 no.img read fault
 graph p.st 0 => 1 p.st:0 I1 Magic
 graph m.img 1000 => 0
+dot => 4 usage
+dot m.img => 4 usage
+dot m.img 1001 => 4 usage
+dot m.img 1 2 => 4 usage
+dot no.img 0 => 5 no.img read fault
+dot p.st 0 => 1 p.st:0 I1 Magic
 waves => 4 usage
 waves -m => 4 usage
 waves no.csv => 5 no.csv read fault

@@ -7,6 +7,8 @@ mod answers;
 #[cfg(test)]
 mod counts;
 #[cfg(test)]
+mod dots;
+#[cfg(test)]
 mod faults;
 #[cfg(test)]
 mod pictures;

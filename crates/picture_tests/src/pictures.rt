@@ -101,7 +101,7 @@ const COUNTER: &str = "\
 ";
 
 /// The graph of `y := x - x;`: INPUT, SUB, OUT.
-fn difference(alloc: Global) -> Result<Graph, Build> {
+pub fn difference(alloc: Global) -> Result<Graph, Build> {
     let spot = Spot { line: 4, col: 8 };
     let mut builder = GraphBuilder::new(alloc, Profile::Narrow);
     builder.name(&Text::copy_of(alloc, b"x")?)?;

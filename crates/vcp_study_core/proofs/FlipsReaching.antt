@@ -52,7 +52,8 @@ lacks_before o b m n le input.Memory lacks = lacks
 rows_before : (i : Image) (rows : Rows) (which : Chosen) (held : Held) (old new : Option (List ℕ)) (b m n : ℕ) → b ≤ m
     → (r : Result ℕ Fault) → ReachesRows i rows which held old new m n r → ReachesRows i rows which held old new b n r
 rows_before i rows which held old new b m n le _ (in_rows list are r writes) = in_rows list are r writes
-rows_before i rows which held old new b m n le _ (lost_rows why lacks none) = lost_rows why (lacks_before (rows_outcome rows held (graph_columns i.graph)) b m n le why lacks) none
+rows_before i rows which held old new b m n le _ (lost_rows why lacks none) =
+    lost_rows why (lacks_before (rows_outcome rows held (graph_columns i.graph)) b m n le why lacks) none
 rows_before i rows which held old new b m n le _ (no_columns none) = no_columns none
 
 -- ---- how far it comes

@@ -1,9 +1,10 @@
--- Reaching: how far `graph` comes, from what loading its image gives.
+-- Reaching: how far `graph` and `dot` come, from what loading their image gives.
 use Rattle.std.proofs.Common.{◌≡◌, ◌⊎◌, ◌<◌, ◌≤◌, inl, inr, ℕ, List, [], length, Option, Some, None, IfSome, Result, Err, refl, sym}
 use Rattle.std.proofs.lemmas.List.{append-nil}
 use Rattle.std.specs.Io.KnownBytes.{Appends}
 use Rattle.vcp_base.specs.Limits.{most_image_bytes}
 use Rattle.vcp_outside.specs.Held.{Held}
+use Rattle.op_graph.specs.Lists.{Lists}
 use Rattle.weight_audit.specs.Audit.{Audit, most_weights, weights_up_to, IsAudit}
 use Rattle.vcp_inputs.specs.declared.images.Image.{Image}
 use Rattle.vcp_inputs.specs.declared.refusal.NoInput.{NoInput}
@@ -12,10 +13,11 @@ use Rattle.vcp_inputs.specs.declared.refusal.Refusal.TheVariants as refusal
 use Rattle.vcp_inputs.specs.Files.{NotLoaded}
 use Rattle.vcp_inputs.specs.Images.{ImageOf, NotImage}
 use Rattle.graph_picture.specs.Arrangement.{Arrangement, IsArranged}
-use Rattle.graph_picture.specs.Elements.{graph_text}
+use Rattle.graph_picture.specs.Elements.{IsPictureOf, graph_text}
+use Rattle.graph_dot.specs.DotText.{IsDotOf, dot_text}
 use Rattle.vcp_study_core.specs.declared.fault.Fault.{Fault}
 use Rattle.vcp_study_core.specs.declared.fault.Fault.TheVariants as fault
-use Rattle.vcp_study_core.specs.Reach.{IsImage, IsDrawn, no_image, too_large, ReachesGraph, IsUnread}
+use Rattle.vcp_study_core.specs.Reach.{IsImage, IsDrawn, no_image, too_large, ReachesDrawn, IsUnread}
 
 pub if_some_weaker : {X : Type 0} (o : Option X) (P Q : X → Type 0) → ((x : X) → P x → Q x) → IfSome o P → IfSome o Q
 if_some_weaker None P Q f h = tt
@@ -37,9 +39,10 @@ pub appends-nothing : (old : Option (List ℕ)) → Appends old old []
 appends-nothing None = tt
 appends-nothing (Some bytes) = sym (append-nil bytes)
 
-module _ (name : List ℕ) (horizon : ℕ) (held : Held) (old : Option (List ℕ)) (b n : ℕ) where
+module _ (IsTextOf : Lists → ℕ → List ℕ → Type 0) (name : List ℕ) (horizon : ℕ) (held : Held) (old : Option (List ℕ)) (b n : ℕ) where
   -- there is nothing of the file
-  pub lost : (i : NoInput) → NotLoaded NotImage held name most_image_bytes b n i → ReachesGraph name horizon held old old b n (Err (fault.Source i))
+  pub lost : (i : NoInput) → NotLoaded NotImage held name most_image_bytes b n i
+      → ReachesDrawn IsTextOf name horizon held old old b n (Err (fault.Source i))
   lost input.Unread h = (h, appends-nothing old)
   lost (input.Refused r) (text, holds, why) = (no_image text holds r why, appends-nothing old)
   lost input.Memory h = (tt, appends-nothing old)
@@ -55,19 +58,22 @@ module _ (name : List ℕ) (horizon : ℕ) (held : Held) (old : Option (List ℕ
   abbrev NoWeights : Image → Fault → Type 0
   NoWeights i e = (e ≡ fault.Memory) ⊎ ((e ≡ fault.Source (input.Refused refusal.Audit)) × (most_weights < weights_up_to i.graph horizon))
 
-  pub not_weighed : (i : Image) → Loaded i → (e : Fault) → NoWeights i e → ReachesGraph name horizon held old old b n (Err e)
+  pub not_weighed : (i : Image) → Loaded i → (e : Fault) → NoWeights i e → ReachesDrawn IsTextOf name horizon held old old b n (Err e)
   not_weighed i loaded e (inl memory) = rw memory (appends-nothing old)
   not_weighed i loaded e (inr (refused, more)) = rw refused (too_large i (is_image i loaded) more, appends-nothing old)
 
-  -- its picture
-  pub drawn : (i : Image) → Loaded i → weights_up_to i.graph horizon ≤ most_weights → (a : Audit) → IsAudit i.graph horizon a
-      → (l : Arrangement) → IsArranged i.graph l → IsDrawn held name horizon (graph_text i.graph a horizon l)
-  drawn i loaded few a is l arranged = record {
-    image = i;
-    is = is_image i loaded;
-    few = few;
-    told = record { audit = a; is = is; arrangement = l; arranged = arranged; told = refl };
-  }
+  -- its text
+  pub drawn : (i : Image) → Loaded i → weights_up_to i.graph horizon ≤ most_weights → (text : List ℕ) → IsTextOf i.graph horizon text
+      → IsDrawn IsTextOf held name horizon text
+  drawn i loaded few text told = record { image = i; is = is_image i loaded; few = few; told = told }
+
+-- the texts of a graph
+pub picture : (g : Lists) (horizon : ℕ) (a : Audit) → IsAudit g horizon a → (l : Arrangement) → IsArranged g l
+    → IsPictureOf g horizon (graph_text g a horizon l)
+picture g horizon a is l arranged = record { audit = a; is = is; arrangement = l; arranged = arranged; told = refl }
+
+pub dot_of : (g : Lists) (horizon : ℕ) (a : Audit) → IsAudit g horizon a → IsDotOf g horizon (dot_text g a horizon)
+dot_of g horizon a is = record { audit = a; is = is; told = refl }
 
 -- a fault that isn't for want of a file, nor for a sink that failed
 pub not_unread : (i : Image) (horizon : ℕ) (e : Fault)

@@ -3,8 +3,8 @@ use Rattle.std.proofs.Common.{◌≡◌, ℕ, ◌≤◌, List, Result, Ok, Err, 
 use Rattle.vcp_outside.specs.Held.{Held}
 use Rattle.vcp_outside.specs.Seen.{FilesSeen, SinkSeen}
 use Rattle.vcp_study_core.specs.declared.fault.Fault.{Fault}
-use Rattle.vcp_study_core.specs.Forms.{Form, graph, waves}
-use Rattle.vcp_study_core.specs.Reach.{ReachesGraph}
+use Rattle.vcp_study_core.specs.Forms.{Form, graph, dot, waves}
+use Rattle.vcp_study_core.specs.Reach.{ReachesGraph, ReachesDot}
 use Rattle.vcp_study_core.specs.RunReach.{ReachesRun}
 use Rattle.vcp_study_core.specs.Answered.{as_status, Reaches}
 
@@ -13,6 +13,10 @@ module _ (f : Form) (held : Held) (files later : FilesSeen) (out now : SinkSeen)
   pub drawn_graph : (m : List ℕ) (horizon : ℕ) → f ≡ graph m horizon → s ≡ as_status r
       → ReachesGraph m horizon held out.written now.written files.broken later.broken r → Reaches f held files later out now s
   drawn_graph m horizon is told reaches = subst (λ x. Reaches x held files later out now s) (sym is) (r, told, reaches)
+
+  pub drawn_dot : (m : List ℕ) (horizon : ℕ) → f ≡ dot m horizon → s ≡ as_status r
+      → ReachesDot m horizon held out.written now.written files.broken later.broken r → Reaches f held files later out now s
+  drawn_dot m horizon is told reaches = subst (λ x. Reaches x held files later out now s) (sym is) (r, told, reaches)
 
   pub drawn_waves : (file : List ℕ) → f ≡ waves file → s ≡ as_status r
       → ReachesRun file held out.written now.written files.broken later.broken r → Reaches f held files later out now s

@@ -6,8 +6,8 @@ use Rattle.vcp_outside.specs.Held.{Held}
 use Rattle.vcp_outside.specs.Seen.{FilesSeen, SinkSeen}
 use Rattle.vcp_outside.specs.Written.{AppendsPart}
 use Rattle.vcp_study_core.specs.declared.fault.Fault.{Fault}
-use Rattle.vcp_study_core.specs.Forms.{Form, graph, waves, ranges, sites, flips, sum, script_named, file_of, usage_text}
-use Rattle.vcp_study_core.specs.Reach.{ReachesGraph, fault_text, fault_status}
+use Rattle.vcp_study_core.specs.Forms.{Form, graph, dot, waves, ranges, sites, flips, sum, script_named, file_of, usage_text}
+use Rattle.vcp_study_core.specs.Reach.{ReachesGraph, ReachesDot, fault_text, fault_status}
 use Rattle.vcp_study_core.specs.FlipsReach.{ReachesFlips}
 use Rattle.vcp_study_core.specs.RangesReach.{ReachesRanges}
 use Rattle.vcp_study_core.specs.RunReach.{ReachesRun}
@@ -29,6 +29,8 @@ IsDrawing Draws result = (drawn : Result (Unit {0}) Fault) × (result ≡ as_sta
 abbrev pub Reaches : Form → Held → FilesSeen → FilesSeen → SinkSeen → SinkSeen → Result ℕ Fault → Type 0
 Reaches (graph m horizon) held files later out now result =
     IsDrawing (ReachesGraph m horizon held out.written now.written files.broken later.broken) result
+Reaches (dot m horizon) held files later out now result =
+    IsDrawing (ReachesDot m horizon held out.written now.written files.broken later.broken) result
 Reaches (waves file) held files later out now result = IsDrawing (ReachesRun file held out.written now.written files.broken later.broken) result
 Reaches (ranges m all) held files later out now result = ReachesRanges m all held out.written now.written files.broken later.broken result
 Reaches (sites m cycles classes which) held files later out now result =

@@ -19,6 +19,7 @@ use Rattle.vcp_study_core.specs.declared.fault.Fault.TheVariants as fault
 -- of the sites, ROWS and which of the flips, SCRIPT and VERDICTS, and NAMED, the names of files
 pub data Form : Type 0 where
   graph : List ℕ → ℕ → Form
+  dot : List ℕ → ℕ → Form
   waves : List ℕ → Form
   ranges : List ℕ → Bool → Form
   sites : List ℕ → ℕ → Classes → Chosen → Form
@@ -30,9 +31,17 @@ pub data Form : Type 0 where
 abbrev pub at_end : Form → List (List ℕ) → Option Form
 at_end f words = cond (is_end words) (Some f) None
 
--- the words of `graph`: M, and HORIZON
+-- M and HORIZON, and no words behind them
+abbrev pub image_and_horizon : List (List ℕ) → Option (List ℕ × ℕ)
+image_and_horizon words =
+    option_and_then (λ m. option_and_then (λ h. cond (is_end h.1) (Some (m.0, h.0)) None) (number_and_rest 0 most_horizon m.1)) (name_and_rest words)
+
+-- the words of `graph` and of `dot`
 abbrev pub graph_form : List (List ℕ) → Option Form
-graph_form words = option_and_then (λ m. option_and_then (λ h. at_end (graph m.0 h.0) h.1) (number_and_rest 0 most_horizon m.1)) (name_and_rest words)
+graph_form words = option_map (λ d. graph d.0 d.1) (image_and_horizon words)
+
+abbrev pub dot_form : List (List ℕ) → Option Form
+dot_form words = option_map (λ d. dot d.0 d.1) (image_and_horizon words)
 
 -- the word of `waves`: FILE
 abbrev pub waves_form : List (List ℕ) → Option Form
@@ -94,15 +103,17 @@ abbrev pub form_of : List (List ℕ) → Option Form
 form_of [] = None
 form_of (w ∷ words) =
     cond (bytes_eq w (codes "graph")) (graph_form words)
+    (cond (bytes_eq w (codes "dot")) (dot_form words)
     (cond (bytes_eq w (codes "waves")) (waves_form words)
     (cond (bytes_eq w (codes "ranges")) (ranges_form words)
     (cond (bytes_eq w (codes "sites")) (sites_form words)
     (cond (bytes_eq w (codes "sum")) (sum_form words)
-    (cond (bytes_eq w (codes "script")) (script_form words) None)))))
+    (cond (bytes_eq w (codes "script")) (script_form words) None))))))
 
 -- a command, as a form
 abbrev pub form : Command → Form
 form (command.Graph image horizon) = graph image.now horizon
+form (command.Dot image horizon) = dot image.now horizon
 form (command.Waves file) = waves file.now
 form (command.Ranges image all) = ranges image.now all
 form (command.Sites image cycles classes which) = sites image.now cycles classes which
@@ -113,6 +124,7 @@ form (command.Script image named) = script_named image.now named.now
 -- the name of the file that the line of a fault names
 abbrev pub file_of : Form → Fault → List ℕ
 file_of (graph m horizon) e = m
+file_of (dot m horizon) e = m
 file_of (waves file) e = file
 file_of (ranges m all) e = m
 file_of (sites m cycles classes which) e = m
@@ -130,13 +142,11 @@ file_of (script_named m named) e = m
 -- a horizon and a number of cycles are within their limits
 abbrev pub IsSound : Form → Type 0
 IsSound (graph m horizon) = horizon ≤ most_horizon
-IsSound (waves file) = Unit {0}
-IsSound (ranges m all) = Unit {0}
+IsSound (dot m horizon) = horizon ≤ most_horizon
 IsSound (sites m cycles classes which) = cycles ≤ most_cycles
 IsSound (flips m rows which) = AreFew rows
-IsSound (sum m script verdicts) = Unit {0}
-IsSound (script_named m named) = Unit {0}
+IsSound _ = Unit {0}
 
 -- the usage line
 abbrev pub usage_text : List ℕ
-usage_text = codes "usage: vcp_study graph M HORIZON, waves FILE, ranges M, ranges M --all, sites M CYCLES CLASS, sites M CYCLES CLASS FROM COUNT, sites M CYCLES CLASS --count, sites M ROWS flips, sites M ROWS flips FROM COUNT, sites M ROWS flips --count, sum M SCRIPT VERDICTS or script M NAMED\n"
+usage_text = codes "usage: vcp_study graph M HORIZON, dot M HORIZON, waves FILE, ranges M, ranges M --all, sites M CYCLES CLASS, sites M CYCLES CLASS FROM COUNT, sites M CYCLES CLASS --count, sites M ROWS flips, sites M ROWS flips FROM COUNT, sites M ROWS flips --count, sum M SCRIPT VERDICTS or script M NAMED\n"

@@ -14,7 +14,9 @@ use Rattle.vcp_inputs.specs.declared.refusal.Refusal.TheVariants as refusal
 use Rattle.vcp_inputs.specs.Files.{IsRefused}
 use Rattle.vcp_inputs.specs.Images.{ImageOf, NotImage}
 use Rattle.vcp_inputs.specs.Lines.{memory_text, write_fault_text, input_text, input_status}
+use Rattle.op_graph.specs.Lists.{Lists}
 use Rattle.graph_picture.specs.Elements.{IsPictureOf}
+use Rattle.graph_dot.specs.DotText.{IsDotOf}
 use Rattle.vcp_study_core.specs.RunLines.{run_text}
 use Rattle.vcp_study_core.specs.ScriptLines.{refused_line_text}
 use Rattle.vcp_study_core.specs.SumLines.{verdicts_text}
@@ -28,12 +30,12 @@ pub record IsImage (held : Held) (name : List ℕ) (i : Image) : Type 0 where
   pub short : length bytes ≤ most_image_bytes
   pub image : ImageOf bytes i
 
--- a text is the picture of the graph of the file under a name, up to a horizon
-pub record IsDrawn (held : Held) (name : List ℕ) (horizon : ℕ) (text : List ℕ) : Type 0 where
+-- a text is that of the graph of the file under a name, up to a horizon, in this way of drawing
+pub record IsDrawn (IsTextOf : Lists → ℕ → List ℕ → Type 0) (held : Held) (name : List ℕ) (horizon : ℕ) (text : List ℕ) : Type 0 where
   pub image : Image
   pub is : IsImage held name image
   pub few : weights_up_to image.graph horizon ≤ most_weights
-  pub told : IsPictureOf image.graph horizon text
+  pub told : IsTextOf image.graph horizon text
 
 -- why the file under a name is refused: it is no image, or its graph has too many weights up to the horizon
 pub data Refuses (held : Held) (name : List ℕ) (horizon : ℕ) : Refusal → Type 0 where
@@ -46,13 +48,22 @@ Lost name horizon held b n input.Unread = (held name ≡ None) ⊎ Rose b n
 Lost name horizon held b n (input.Refused r) = Refuses held name horizon r
 Lost name horizon held b n input.Memory = Unit {0}
 
--- How far `graph M HORIZON` comes: the picture is written, or a part of it where the sink failed, or nothing.
+-- how far a command comes that draws a graph: the text is written, or a part of it where the sink failed, or nothing
+abbrev pub ReachesDrawn : (Lists → ℕ → List ℕ → Type 0) → List ℕ → ℕ → Held → Option (List ℕ) → Option (List ℕ) → ℕ → ℕ
+    → Result (Unit {0}) Fault → Type 0
+ReachesDrawn IsTextOf name horizon held old new b n (Ok _) = (text : List ℕ) × IsDrawn IsTextOf held name horizon text × Appends old new text
+ReachesDrawn IsTextOf name horizon held old new b n (Err (fault.Source i)) = Lost name horizon held b n i × Appends old new []
+ReachesDrawn IsTextOf name horizon held old new b n (Err fault.Write) =
+    (text : List ℕ) × IsDrawn IsTextOf held name horizon text × AppendsPart old new text
+ReachesDrawn IsTextOf name horizon held old new b n (Err fault.Memory) = Appends old new []
+ReachesDrawn IsTextOf name horizon held old new b n (Err _) = ⊥
+
+-- How far `graph M HORIZON` comes, and `dot M HORIZON`.
 abbrev pub ReachesGraph : List ℕ → ℕ → Held → Option (List ℕ) → Option (List ℕ) → ℕ → ℕ → Result (Unit {0}) Fault → Type 0
-ReachesGraph name horizon held old new b n (Ok _) = (text : List ℕ) × IsDrawn held name horizon text × Appends old new text
-ReachesGraph name horizon held old new b n (Err (fault.Source i)) = Lost name horizon held b n i × Appends old new []
-ReachesGraph name horizon held old new b n (Err fault.Write) = (text : List ℕ) × IsDrawn held name horizon text × AppendsPart old new text
-ReachesGraph name horizon held old new b n (Err fault.Memory) = Appends old new []
-ReachesGraph name horizon held old new b n (Err _) = ⊥
+ReachesGraph name horizon held old new b n result = ReachesDrawn IsPictureOf name horizon held old new b n result
+
+abbrev pub ReachesDot : List ℕ → ℕ → Held → Option (List ℕ) → Option (List ℕ) → ℕ → ℕ → Result (Unit {0}) Fault → Type 0
+ReachesDot name horizon held old new b n result = ReachesDrawn IsDotOf name horizon held old new b n result
 
 -- the file couldn't be begun or read
 abbrev pub IsUnread : Fault → Type 0

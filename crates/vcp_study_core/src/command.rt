@@ -2,11 +2,13 @@
 
 ghost use Rattle.std.specs.Prelude.{◌≡◌, ◌≤◌, IfSome};
 ghost use Rattle.std.specs.Option.{option_map};
-ghost use Rattle.vcp_base.specs.Limits.{most_cycles};
-ghost use Rattle.vcp_study_core.specs.Forms.{form, form_of, file_of, graph_form, waves_form, ranges_form, all_of, IsSound};
+ghost use Rattle.vcp_base.specs.Limits.{most_cycles, most_horizon};
+ghost use Rattle.vcp_study_core.specs.Forms.{form, form_of, file_of, image_and_horizon as image_and_horizon_of, graph_form, dot_form, waves_form};
+ghost use Rattle.vcp_study_core.specs.Forms.{ranges_form, all_of, IsSound};
 ghost use Rattle.vcp_words.specs.Forms.{rows_of, AreFew};
 ghost use Rattle.vcp_words.specs.Tables.{rows_name as rows_name_of};
-ghost use Rattle.vcp_study_core.specs.Forms.{sites_form, behind_form, class_form, cycles_in as cycles_in_of, flips, sum_form, script_form, chosen_of, number_word, part_of};
+ghost use Rattle.vcp_study_core.specs.Forms.{sites_form, behind_form, class_form, cycles_in as cycles_in_of, flips, sum_form, script_form, chosen_of};
+ghost use Rattle.vcp_study_core.specs.Forms.{number_word, part_of};
 
 use crate::fault::Fault;
 use fault_sites::{Classes, Part, classes_named};
@@ -19,6 +21,13 @@ use vcp_words::{RowsWord, WordsLeft};
 pub enum Command<'a> {
     /// `graph M HORIZON`: the picture of an image's graph.
     Graph {
+        /// The name of the image, M.
+        image: &'a Text,
+        /// The greatest number of cycle borders, at most 1000.
+        horizon: u32,
+    },
+    /// `dot M HORIZON`: the image's graph as a text for Graphviz.
+    Dot {
         /// The name of the image, M.
         image: &'a Text,
         /// The greatest number of cycle borders, at most 1000.
@@ -91,6 +100,7 @@ impl Command<'_> {
     {
         match self {
             Command::Graph { image, .. } => image.bytes(),
+            Command::Dot { image, .. } => image.bytes(),
             Command::Waves { file } => file.bytes(),
             Command::Ranges { image, .. } => image.bytes(),
             Command::Sites { image, .. } => image.bytes(),
@@ -125,6 +135,9 @@ pub fn command_of(words: &Words) -> Option<Command<'_>>
     if command == b"graph".as_slice() {
         return graph_words(&mut left);
     }
+    if command == b"dot".as_slice() {
+        return dot_words(&mut left);
+    }
     if command == b"waves".as_slice() {
         return waves_words(&mut left);
     }
@@ -143,18 +156,36 @@ pub fn command_of(words: &Words) -> Option<Command<'_>>
     None
 }
 
-/// The words of `graph`: M, and HORIZON.
-fn graph_words<'a>(words: &mut WordsLeft<'a>) -> Option<Command<'a>>
-    ensures form { option_map form result ≡ graph_form words.old }
-    ensures sound { IfSome result (λ command. IsSound (form command)) }
+/// M and HORIZON, and no words behind them.
+fn image_and_horizon<'a>(words: &mut WordsLeft<'a>) -> Option<(&'a Text, u32)>
+    ensures words { option_map (λ d. (d.0.now, d.1)) result ≡ image_and_horizon_of words.old }
+    ensures horizon { IfSome result (λ d. d.1 ≤ most_horizon) }
 {
     let image = words.name()?;
     let horizon = words.number(0, MOST_HORIZON)?;
     if words.is_end() {
-        Some(Command::Graph { image, horizon })
+        Some((image, horizon))
     } else {
         None
     }
+}
+
+/// The words of `graph`.
+fn graph_words<'a>(words: &mut WordsLeft<'a>) -> Option<Command<'a>>
+    ensures form { option_map form result ≡ graph_form words.old }
+    ensures sound { IfSome result (λ command. IsSound (form command)) }
+{
+    let (image, horizon) = image_and_horizon(words)?;
+    Some(Command::Graph { image, horizon })
+}
+
+/// The words of `dot`.
+fn dot_words<'a>(words: &mut WordsLeft<'a>) -> Option<Command<'a>>
+    ensures form { option_map form result ≡ dot_form words.old }
+    ensures sound { IfSome result (λ command. IsSound (form command)) }
+{
+    let (image, horizon) = image_and_horizon(words)?;
+    Some(Command::Dot { image, horizon })
 }
 
 /// The word of `waves`: FILE.

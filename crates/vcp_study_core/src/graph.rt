@@ -21,7 +21,7 @@ use weight_audit::weigh::weights;
 use weight_audit::{AuditFault, Weights};
 
 /// The weights of an image's graph up to a horizon, unless there are too many.
-fn weights_of(alloc: Global, image: &Image, horizon: u32) -> Result<Weights, Fault>
+pub(crate) fn weights_of(alloc: Global, image: &Image, horizon: u32) -> Result<Weights, Fault>
     requires table { image.now.table ≡ table_of image.now.table.seed image.now.table.step image.now.graph }
     requires horizon { horizon ≤ most_horizon }
     ensures weights { IfOk result (λ w. IsAudit image.now.graph horizon w) }

@@ -2,6 +2,7 @@
 #![tactic(auto)]
 
 mod command;
+mod dot;
 mod fault;
 mod flips;
 mod graph;

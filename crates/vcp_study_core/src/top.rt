@@ -10,6 +10,7 @@ ghost use Rattle.vcp_study_core.specs.Seen.{outside};
 ghost use Rattle.vcp_study_core.specs.declared.fault.Fault.TheVariants as fault;
 
 use crate::command::{Command, command_of};
+use crate::dot::dot_command;
 use crate::fault::Fault;
 use crate::flips::flips_command;
 use crate::graph::graph_command;
@@ -113,6 +114,9 @@ fn study<F: Files, O: Sink>(
 {
     match command {
         Command::Graph { image, horizon } => with_status(graph_command(
+            alloc, image, *horizon, files, out,
+        )),
+        Command::Dot { image, horizon } => with_status(dot_command(
             alloc, image, *horizon, files, out,
         )),
         Command::Waves { file } => with_status(waves_command(alloc, file, files, out)),
