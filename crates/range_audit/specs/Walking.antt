@@ -120,6 +120,11 @@ abbrev pub IsValueIn : List Op → List Range → List Range → ℕ → Range �
 IsValueIn ops cells ranges j r =
     (held row vs : List ℤ) → Hold cells held → Given ops held row vs → length vs ≡ length ranges → Fit ranges vs → IsIn r (at vs j)
 
+-- there the first operations, in these ranges, are in the low ones or in the high ones
+abbrev pub IsHalved : List Op → List Range → List Range → List Range → List Range → Type 0
+IsHalved ops cells ranges low high =
+    (held row vs : List ℤ) → Hold cells held → Given ops held row vs → length vs ≡ length ranges → Fit ranges vs → Fit low vs ⊎ Fit high vs
+
 -- where operation n is in r too, and the operations in the old ranges, they are in the new ones
 pub record NarrowsTo (ops : List Op) (cells : List Range) (n : ℕ) (r : Range) (old new : List Range) : Type 0 where
   pub fits : (held row vs : List ℤ) → Hold cells held → Given ops held row vs → length vs ≡ length old → Fit old vs → IsIn r (at vs n) → Fit new vs

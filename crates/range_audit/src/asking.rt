@@ -7,11 +7,11 @@ ghost use Rattle.range_audit.specs.Walking.{Given, IsWalk, NamesFrom, StopsFrom,
 
 use crate::audit::Ranges;
 use crate::boxes::has_none;
-use crate::cases::{CONDITIONS, above, copied, part, spend, up_to};
+use crate::cases::{CONDITIONS, copied, halved, spend};
 use crate::naming::{joined_stops, stops_at};
 use crate::narrowing::{first_ranges, narrow};
 use crate::questions::open_condition;
-use crate::range::{Range, Stops, earlier_range};
+use crate::range::{Range, Stops};
 use crate::told::tell;
 use op_graph::Graph;
 use std::alloc::Global;
@@ -63,13 +63,9 @@ fn stops_by_cases(
         return Ok(told.stops);
     }
     let less = depth - 1;
-    let r = earlier_range(ranges, q);
-    let one = up_to(r, 0);
-    let rest = above(r, 0);
-    let low = part(alloc, graph, cells, ranges, q, one)?;
-    let high = part(alloc, graph, cells, ranges, q, rest)?;
-    let first = stops_by_cases(alloc, graph, cells, &low, i, less, left)?;
-    let second = stops_by_cases(alloc, graph, cells, &high, i, less, left)?;
+    let two = halved(alloc, graph, cells, ranges, q)?;
+    let first = stops_by_cases(alloc, graph, cells, &two.low, i, less, left)?;
+    let second = stops_by_cases(alloc, graph, cells, &two.high, i, less, left)?;
     let either = joined_stops(false, first, second);
     Ok(either)
 }

@@ -5,7 +5,7 @@ ghost use Rattle.vcp_base.specs.Values.{at};
 ghost use Rattle.op_graph.specs.GraphRun.{stored};
 ghost use Rattle.op_graph.specs.Rules.{IsGraph};
 ghost use Rattle.range_audit.specs.Intervals.{IsIn, Fit, Hold};
-ghost use Rattle.range_audit.specs.Walking.{IsValueIn, Narrows, NarrowsTo, start_of, InBox, EndsIn};
+ghost use Rattle.range_audit.specs.Walking.{IsHalved, IsValueIn, Narrows, NarrowsTo, start_of, InBox, EndsIn};
 
 use crate::boxes::{cell_count, has_none, is_in_one, stored_cells};
 use crate::cells::store_at;
@@ -17,7 +17,7 @@ use std::alloc::Global;
 use vcp_base::Memory;
 
 /// The values of a range that are no more than `m`.
-pub(crate) fn up_to(r: Range, m: i64) -> Range
+fn up_to(r: Range, m: i64) -> Range
     ensures { (v : ℤ) → IsIn r v → v ≤ℤ m → IsIn result v }
 {
     Range {
@@ -38,7 +38,7 @@ fn next(m: i64) -> i64
 }
 
 /// The values of a range that are more than `m`.
-pub(crate) fn above(r: Range, m: i64) -> Range
+fn above(r: Range, m: i64) -> Range
     ensures { (v : ℤ) → IsIn r v → m <ℤ v → IsIn result v }
 {
     let low = next(m);
@@ -72,7 +72,7 @@ fn narrow_to(graph: &Graph, cells: &[Range], ranges: &mut [Range], n: u32, r: Ra
 }
 
 /// The ranges of the operations of a cycle, of all or of the first ones, in which the value of operation `n` is in `r`.
-pub(crate) fn part(
+fn part(
     alloc: Global,
     graph: &Graph,
     cells: &[Range],
@@ -90,6 +90,39 @@ pub(crate) fn part(
     let mut part = copied(alloc, ranges)?;
     narrow_to(graph, cells, &mut part, n, r);
     Ok(part)
+}
+
+/// The ranges of the operations of a cycle, of all or of the first ones, in the two cases of a condition.
+#[derive(Drop)]
+pub(crate) struct Halves {
+    /// Where it is 0, or less.
+    pub(crate) low: Vec<Range>,
+    /// Where it is more.
+    pub(crate) high: Vec<Range>,
+}
+
+/// The ranges of the operations of a cycle in the two cases of the value of operation `q`.
+pub(crate) fn halved(
+    alloc: Global,
+    graph: &Graph,
+    cells: &[Range],
+    ranges: &[Range],
+    q: u32,
+) -> Result<Halves, Memory>
+    requires graph { IsGraph graph.now }
+    requires there { q < length ranges.now }
+    requires many { length ranges.now ≤ length graph.now.operations }
+    requires cells { length cells.now ≡ length graph.now.stores }
+    ensures low { IfOk result (λ h. length h.low.items ≡ length ranges.now) }
+    ensures high { IfOk result (λ h. length h.high.items ≡ length ranges.now) }
+    ensures one { IfOk result (λ h. IsHalved graph.now.operations cells.now ranges.now h.low.items h.high.items) }
+{
+    let r = earlier_range(ranges, q);
+    let at_most = up_to(r, 0);
+    let rest = above(r, 0);
+    let low = part(alloc, graph, cells, ranges, q, at_most)?;
+    let high = part(alloc, graph, cells, ranges, q, rest)?;
+    Ok(Halves { low, high })
 }
 
 /// How many conditions are taken apart at once.
@@ -156,13 +189,9 @@ fn range_by_cases(
         return Ok(known);
     }
     let less = depth - 1;
-    let r = earlier_range(ranges, q);
-    let one = up_to(r, 0);
-    let rest = above(r, 0);
-    let low = part(alloc, graph, cells, ranges, q, one)?;
-    let high = part(alloc, graph, cells, ranges, q, rest)?;
-    let first = range_by_cases(alloc, graph, cells, &low, j, wanted, less, left)?;
-    let second = range_by_cases(alloc, graph, cells, &high, j, wanted, less, left)?;
+    let two = halved(alloc, graph, cells, ranges, q)?;
+    let first = range_by_cases(alloc, graph, cells, &two.low, j, wanted, less, left)?;
+    let second = range_by_cases(alloc, graph, cells, &two.high, j, wanted, less, left)?;
     let both = first.joined(second);
     Ok(both)
 }

@@ -1,9 +1,8 @@
-use Rattle.std.proofs.Common.{◌≡◌, ◌<◌, ◌⊎◌, true, pos, inl, inr, length, sym, subst, ◌∙◌, arith}
+use Rattle.std.proofs.Common.{◌≡◌, ◌⊎◌, true, inl, inr, sym, subst, ◌∙◌, arith}
 use Rattle.std.proofs.lemmas.Option.{slice_get_within}
 use Rattle.vcp_base.specs.Values.{at}
 use Rattle.range_audit.specs.Audit.{may_stop}
 use Rattle.range_audit.specs.Intervals.{Fit}
-use Rattle.range_audit.proofs.Boxed.{no_more_or_more}
 use Rattle.range_audit.proofs.asking.+stops_by_cases.Goals as goal
 
 pub returns-then-none : goal.returns-then-none
@@ -30,17 +29,10 @@ returns-then-not-enough t c = λ held row vs op why hold given whole fit there o
 
 pub returns : goal.returns
 returns t c = λ held row vs op why hold given whole fit there own no e.
-    let q = c.open_condition-q.result in
     let count = whole ∙ sym c.requires.many in
-    let lt : q < length vs = omega (arith, whole, c.if-nothing.false) in
-    let r = c.earlier_range-r.result in
-    let i = fit q r lt c.earlier_range-r.ensures in
-    let one : (may_stop why c.in_ok-first.first ≡ true) ⊎ (may_stop why c.in_ok-second.second ≡ true) = elim (no_more_or_more (at vs q) (pos 0)) [
-      | inl le ↦
-          inl (c.in_ok-first.ensures held row vs op why hold given whole (subst (λ rs. Fit rs vs) (sym c.deref.ensures.value)
-          (c.in_ok-low.ensures.fits.fits held row vs hold given count fit (c.up_to-one.ensures (at vs q) i le))) there own no e)
-      | inr more ↦
-          inr (c.in_ok-second.ensures held row vs op why hold given whole (subst (λ rs. Fit rs vs) (sym c.deref-2.ensures.value)
-          (c.in_ok-high.ensures.fits.fits held row vs hold given count fit (c.above-rest.ensures (at vs q) i more))) there own no e)
+    let one : (may_stop why c.in_ok-first.first ≡ true) ⊎ (may_stop why c.in_ok-second.second ≡ true) =
+    elim (c.in_ok-two.ensures.one held row vs hold given count fit) [
+      | inl low ↦ inl (c.in_ok-first.ensures held row vs op why hold given whole (subst (λ rs. Fit rs vs) (sym c.deref.ensures.value) low) there own no e)
+      | inr high ↦ inr (c.in_ok-second.ensures held row vs op why hold given whole (subst (λ rs. Fit rs vs) (sym c.deref-2.ensures.value) high) there own no e)
     ] in
     c.joined_stops-either.ensures why one

@@ -1,8 +1,7 @@
-use Rattle.std.proofs.Common.{◌<◌, pos, inl, inr, length, sym, ap, subst, ◌∙◌, arith}
+use Rattle.std.proofs.Common.{inl, inr, length, sym, ap, subst, ◌∙◌, arith}
 use Rattle.std.proofs.lemmas.Option.{slice_get_within}
 use Rattle.vcp_base.specs.Values.{at}
 use Rattle.range_audit.specs.Intervals.{Fit}
-use Rattle.range_audit.proofs.Boxed.{no_more_or_more}
 use Rattle.range_audit.proofs.cases.+range_by_cases.Goals as goal
 
 pub returns-then-none : goal.returns-then-none
@@ -29,19 +28,14 @@ returns-then-not-enough t c = λ held row vs hold given whole fit.
 
 pub returns : goal.returns
 returns t c = λ held row vs hold given whole fit.
-    let q = c.open_condition-q.result in
-    let lt : q < length vs = omega (arith, whole, c.if-nothing.false, c.count_of-many.ensures) in
-    let r = c.earlier_range-r.result in
-    let i = fit q r lt c.earlier_range-r.ensures in
-    elim (no_more_or_more (at vs q) (pos 0)) [
-      | inl le ↦
+    let two = c.in_ok-two.ensures in
+    elim (two.one held row vs hold given whole fit) [
+      | inl low ↦
           c.joined-both.ensures.first (at vs c.args.j)
-          (c.in_ok-first.ensures held row vs hold given (whole ∙ sym c.in_ok-low.ensures.many ∙ sym (ap length c.deref.ensures.value))
-          (subst (λ rs. Fit rs vs) (sym c.deref.ensures.value)
-          (c.in_ok-low.ensures.fits.fits held row vs hold given whole fit (c.up_to-one.ensures (at vs q) i le))))
-      | inr more ↦
+          (c.in_ok-first.ensures held row vs hold given (whole ∙ sym two.low ∙ sym (ap length c.deref.ensures.value))
+          (subst (λ rs. Fit rs vs) (sym c.deref.ensures.value) low))
+      | inr high ↦
           c.joined-both.ensures.second (at vs c.args.j)
-          (c.in_ok-second.ensures held row vs hold given (whole ∙ sym c.in_ok-high.ensures.many ∙ sym (ap length c.deref-2.ensures.value))
-          (subst (λ rs. Fit rs vs) (sym c.deref-2.ensures.value)
-          (c.in_ok-high.ensures.fits.fits held row vs hold given whole fit (c.above-rest.ensures (at vs q) i more))))
+          (c.in_ok-second.ensures held row vs hold given (whole ∙ sym two.high ∙ sym (ap length c.deref-2.ensures.value))
+          (subst (λ rs. Fit rs vs) (sym c.deref-2.ensures.value) high))
     ]
