@@ -65,7 +65,8 @@ over() {
 cut_class() {
     over=$(over) && number=$("$study" sites "$image" "$over" "$faults" --count) || return 1
     part=0
-    while [ $((part * most)) -lt "$number" ]; do
+    # A class that has no fault here has one part, with none.
+    while [ "$part" -eq 0 ] || [ $((part * most)) -lt "$number" ]; do
         name=$(printf '%s/parts/%06d' "$work" "$part")
         echo $((part * most)) >"$name.first"
         "$study" sites "$image" "$over" "$faults" $((part * most)) $most >"$name.faults" || return 1
