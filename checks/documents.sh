@@ -12,6 +12,7 @@
 # Pictures: those in docs/ are what vcp_study draws (pictures.sh).
 # Sites: vcp_study sites writes as many faults as are counted from outside (site_counts.sh).
 # Texts for Graphviz: those of vcp_study dot have what its pictures draw (graph_texts.py).
+# Pictures by verdicts: those of vcp_study faults have the colours that scripts and verdicts say (verdict_pictures.py).
 #
 # It uses the programs that are built, or those of VCP=FILE and VCP_STUDY=FILE, and builds none. What a missing tool would do is left out. Its status
 # is 1 where something differs, and else 0.
@@ -41,6 +42,7 @@ if [ -x "$VCP" ]; then
         "$here/site_counts.sh" || status=1
         if command -v python3 >/dev/null 2>&1; then
             python3 "$here/graph_texts.py" || status=1
+            python3 "$here/verdict_pictures.py" || status=1
         fi
     fi
 else

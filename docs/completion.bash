@@ -23,13 +23,13 @@ _vcp() {
 
 complete -o filenames -F _vcp vcp ./vcp
 
-_vcp_study_commands='graph dot waves ranges sites sum script'
+_vcp_study_commands='graph dot waves ranges sites sum faults script'
 
 _vcp_study() {
     local word=${COMP_WORDS[COMP_CWORD]}
     case $COMP_CWORD:${COMP_WORDS[1]} in
     1:*) mapfile -t COMPREPLY < <(compgen -W "$_vcp_study_commands" -- "$word") ;;
-    2:* | 3:sum | 4:sum | 3:script) mapfile -t COMPREPLY < <(compgen -f -- "$word") ;;
+    2:* | 3:sum | 4:sum | 3:faults | 4:faults | 3:script) mapfile -t COMPREPLY < <(compgen -f -- "$word") ;;
     3:ranges) mapfile -t COMPREPLY < <(compgen -W '--all' -- "$word") ;;
     3:sites)
         case $word in

@@ -13,7 +13,8 @@ use worked_programs::{cells, same, word_off, words_of};
 const USAGE: &[u8] =
     b"usage: vcp_study graph M HORIZON, dot M HORIZON, waves FILE, ranges M, ranges M --all, sites M CYCLES CLASS, \
     sites M CYCLES CLASS FROM COUNT, sites M CYCLES CLASS --count, sites M ROWS flips, sites M ROWS flips FROM COUNT, \
-    sites M ROWS flips --count, sum M SCRIPT VERDICTS or script M NAMED";
+    sites M ROWS flips --count, sum M SCRIPT VERDICTS, \
+    faults M SCRIPT VERDICTS or script M NAMED";
 
 /// Words => the status, and the line of errors; `usage` is the usage line. An image stands under `m.img`, and a source under `p.st`.
 const ANSWERS: &str = "\
@@ -71,6 +72,11 @@ sum no.img p.st p.st => 5 no.img read fault
 sum p.st p.st p.st => 1 p.st:0 I1 Magic
 sum m.img no.txt p.st => 5 no.txt read fault
 sum m.img p.st p.st => 1 p.st:1 F1 Form
+faults m.img p.st => 4 usage
+faults m.img p.st p.st 0 => 4 usage
+faults no.img p.st p.st => 5 no.img read fault
+faults m.img no.txt p.st => 5 no.txt read fault
+faults m.img p.st p.st => 1 p.st:1 F1 Form
 script m.img => 4 usage
 script m.img p.st 0 => 4 usage
 script m.img -n => 4 usage

@@ -1,4 +1,4 @@
-//! What `sum` and `script` write and refuse, over the graph of `y := x + 1;`: INPUT at 2:11, CONST and ADD at 4:8, OUT at 2:11.
+//! What `sum`, `faults` and `script` write and refuse, over the graph of `y := x + 1;`: INPUT at 2:11, CONST and ADD at 4:8, OUT at 2:11.
 
 use image_file::write_image;
 use signature_table::Table;
@@ -46,6 +46,49 @@ const SUM: &[u8] = b"  faults    same   wrong  ran-on refused stopped  by what t
 1 wrong 0 y got 7 want 6
   result 0 2 add 2147483647: operation 2 ADD at 4:8
 faults 2 same 0 wrong 1 ran-on 0 refused 1 stopped 0
+";
+
+/// The picture of the last of these.
+const DRAWN: &str = "\
+<svg xmlns=\"http://www.w3.org/2000/svg\" width=\"980\" height=\"156\" viewBox=\"0 0 980 156\">
+<style>text{font:9px monospace}rect{stroke:#333;fill:#fff}line{stroke:#888}.wrong{fill:#f66}.ran-on{fill:#fa6} \
+    .same{fill:#fe9}.stopped{fill:#9cf}.refused{fill:#9e9}.cell{fill:#36c}</style>
+<rect x=\"12\" y=\"8\" width=\"14\" height=\"14\" class=\"wrong\"></rect>
+<text x=\"32\" y=\"20\">wrong 1</text>
+<rect x=\"112\" y=\"8\" width=\"14\" height=\"14\" class=\"ran-on\"></rect>
+<text x=\"132\" y=\"20\">ran-on 0</text>
+<rect x=\"216\" y=\"8\" width=\"14\" height=\"14\" class=\"same\"></rect>
+<text x=\"236\" y=\"20\">same 0</text>
+<rect x=\"312\" y=\"8\" width=\"14\" height=\"14\" class=\"stopped\"></rect>
+<text x=\"332\" y=\"20\">stopped 0</text>
+<rect x=\"420\" y=\"8\" width=\"14\" height=\"14\" class=\"refused\"></rect>
+<text x=\"440\" y=\"20\">refused 1</text>
+<rect x=\"528\" y=\"8\" width=\"14\" height=\"14\" class=\"plain\"></rect>
+<text x=\"548\" y=\"20\">no fault stands there</text>
+<rect x=\"680\" y=\"8\" width=\"14\" height=\"14\" class=\"cell\"></rect>
+<text x=\"700\" y=\"20\">a cell&#39;s LOAD (left) or STORE (right)</text>
+<line data-operand=\"0\" data-reader=\"2\" data-place=\"0\" x1=\"104\" y1=\"65\" x2=\"116\" y2=\"50\"></line>
+<line data-operand=\"1\" data-reader=\"2\" data-place=\"1\" x1=\"104\" y1=\"123\" x2=\"116\" y2=\"65\"></line>
+<line data-operand=\"2\" data-reader=\"3\" data-place=\"0\" x1=\"212\" y1=\"65\" x2=\"224\" y2=\"50\"></line>
+<rect data-operation=\"0\" class=\"plain\" x=\"8\" y=\"40\" width=\"96\" height=\"50\"></rect>
+<text x=\"13\" y=\"52\">0 INPUT</text>
+<text x=\"13\" y=\"63\">x</text>
+<text x=\"13\" y=\"74\">at 2:11</text>
+<rect data-operation=\"1\" class=\"plain\" x=\"8\" y=\"98\" width=\"96\" height=\"50\"></rect>
+<text x=\"13\" y=\"110\">1 CONST</text>
+<text x=\"13\" y=\"121\">1</text>
+<text x=\"13\" y=\"132\">at 4:8</text>
+<rect data-operation=\"2\" class=\"wrong\" x=\"116\" y=\"40\" width=\"96\" height=\"50\"></rect>
+<text x=\"121\" y=\"52\">2 ADD</text>
+<text x=\"121\" y=\"63\"></text>
+<text x=\"121\" y=\"74\">at 4:8</text>
+<text x=\"121\" y=\"85\">wrong 1/2</text>
+<rect data-operation=\"3\" class=\"refused\" x=\"224\" y=\"40\" width=\"96\" height=\"50\"></rect>
+<text x=\"229\" y=\"52\">3 OUT</text>
+<text x=\"229\" y=\"63\">y</text>
+<text x=\"229\" y=\"74\">at 2:11</text>
+<text x=\"229\" y=\"85\">refused 1/1</text>
+</svg>
 ";
 
 /// Lines that name faults.
@@ -114,7 +157,7 @@ fn written(
 ) -> Result<MemSink, Fail> {
     let (status, line) = word_off(wanted);
     let words = words_of(alloc, command, behind)?;
-    let mut out = MemSink::new(alloc, 2000)?;
+    let mut out = MemSink::new(alloc, 4000)?;
     let mut err = MemSink::new(alloc, 100)?;
     let found = vcp_study(alloc, &words, files, &mut out, &mut err);
     same(&format!(in alloc; "{found}")?, status)?;
@@ -122,21 +165,22 @@ fn written(
     Ok(out)
 }
 
-/// Fails where what is told of the groups of the script doesn't get a row's status and line of errors.
-fn is_summed(alloc: Global, files: &mut MemFiles, row: &str) -> Result<MemSink, Fail> {
-    let (verdicts, wanted) = cells(row);
-    files.put(b"v.txt", &spelled(alloc, verdicts)?)?;
-    written(alloc, files, "sum", "m.img s.txt v.txt", wanted)
+/// What a command writes of the last row of what is told of the groups of the script; fails where one doesn't get its status and line of errors.
+fn of_verdicts(alloc: Global, files: &mut MemFiles, command: &str) -> Result<MemSink, Fail> {
+    let mut last = MemSink::new(alloc, 0)?;
+    for row in VERDICTS.lines() {
+        let (verdicts, wanted) = cells(row);
+        files.put(b"v.txt", &spelled(alloc, verdicts)?)?;
+        last = written(alloc, files, command, "m.img s.txt v.txt", wanted)?;
+    }
+    Ok(last)
 }
 
 #[test]
 fn verdicts_are_counted_in_tables(rt: HostRuntime) -> Result<(), Fail> {
     let alloc = rt.alloc();
     let mut files = files_of(alloc)?;
-    let mut last = MemSink::new(alloc, 0)?;
-    for row in VERDICTS.lines() {
-        last = is_summed(alloc, &mut files, row)?;
-    }
+    let last = of_verdicts(alloc, &mut files, "sum")?;
     holds(last.bytes() == SUM, "the tables")?;
     files.put(b"o.txt", b"# sites skip of 00\nskip 1 2\n")?;
     let _nothing = written(
@@ -147,6 +191,14 @@ fn verdicts_are_counted_in_tables(rt: HostRuntime) -> Result<(), Fail> {
         "1 o.txt:1 U1 Image",
     )?;
     Ok(())
+}
+
+#[test]
+fn verdicts_are_drawn(rt: HostRuntime) -> Result<(), Fail> {
+    let alloc = rt.alloc();
+    let mut files = files_of(alloc)?;
+    let last = of_verdicts(alloc, &mut files, "faults")?;
+    same(from_utf8(last.bytes())?, DRAWN)
 }
 
 #[test]

@@ -5,4 +5,4 @@ pub mod RunReaching
 mod ScriptReaching
 mod SitesReaching
 mod Statuses
-mod SumReaching
+mod ToldReaching

@@ -17,7 +17,7 @@ use Rattle.vcp_study_core.specs.Reach.{IsUnread}
 use Rattle.vcp_study_core.specs.ScriptReach.{digits, IsNamedScript, TellsScript, script_whole, script_part, script_refused, script_lacks_memory}
 use Rattle.vcp_study_core.specs.ScriptReach.{ReachesNamed, in_named, lost_named, ReachesNames, in_named_image, lost_named_image}
 use Rattle.vcp_study_core.proofs.Reaching.{appends-nothing}
-use Rattle.vcp_study_core.proofs.SumReaching.{unloaded_before}
+use Rattle.vcp_study_core.proofs.ToldReaching.{unloaded_before}
 
 -- ---- the script
 

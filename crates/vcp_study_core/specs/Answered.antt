@@ -6,7 +6,7 @@ use Rattle.vcp_outside.specs.Held.{Held}
 use Rattle.vcp_outside.specs.Seen.{FilesSeen, SinkSeen}
 use Rattle.vcp_outside.specs.Written.{AppendsPart}
 use Rattle.vcp_study_core.specs.declared.fault.Fault.{Fault}
-use Rattle.vcp_study_core.specs.Forms.{Form, graph, dot, waves, ranges, sites, flips, sum, script_named, file_of, usage_text}
+use Rattle.vcp_study_core.specs.Forms.{Form, graph, dot, waves, ranges, sites, flips, sum, faults, script_named, file_of, usage_text}
 use Rattle.vcp_study_core.specs.Reach.{ReachesGraph, ReachesDot, fault_text, fault_status}
 use Rattle.vcp_study_core.specs.FlipsReach.{ReachesFlips}
 use Rattle.vcp_study_core.specs.RangesReach.{ReachesRanges}
@@ -14,7 +14,7 @@ use Rattle.vcp_study_core.specs.RunReach.{ReachesRun}
 use Rattle.vcp_study_core.specs.ScriptReach.{ReachesNames}
 use Rattle.vcp_study_core.specs.Seen.{Outside}
 use Rattle.vcp_study_core.specs.SitesReach.{ReachesSites}
-use Rattle.vcp_study_core.specs.SumReach.{ReachesSum}
+use Rattle.vcp_study_core.specs.ToldReach.{ReachesSum, ReachesFaults}
 
 -- what a command that draws comes to, with its status: 0 where the picture is written
 abbrev pub as_status : Result (Unit {0}) Fault → Result ℕ Fault
@@ -38,6 +38,8 @@ Reaches (sites m cycles classes which) held files later out now result =
 Reaches (flips m rows which) held files later out now result = ReachesFlips m rows which held out.written now.written files.broken later.broken result
 Reaches (sum m script verdicts) held files later out now result =
     ReachesSum m script verdicts held out.written now.written files.broken later.broken result
+Reaches (faults m script verdicts) held files later out now result =
+    ReachesFaults m script verdicts held out.written now.written files.broken later.broken result
 Reaches (script_named m named) held files later out now result = ReachesNames m named held out.written now.written files.broken later.broken result
 
 -- the line was printed with this status, or the sink of the errors failed in it, with status 6

@@ -25,6 +25,7 @@ pub data Form : Type 0 where
   sites : List ℕ → ℕ → Classes → Chosen → Form
   flips : List ℕ → Rows → Chosen → Form
   sum : List ℕ → List ℕ → List ℕ → Form
+  faults : List ℕ → List ℕ → List ℕ → Form
   script_named : List ℕ → List ℕ → Form
 
 -- a command, where no words are left
@@ -88,11 +89,18 @@ behind_form m rows (w ∷ rest) = cond (bytes_eq w (codes "flips")) (option_map 
 abbrev pub sites_form : List (List ℕ) → Option Form
 sites_form words = option_and_then (λ m. option_and_then (λ r. behind_form m.0 r.0 r.1) (rows_and_rest m.1)) (name_and_rest words)
 
--- the words of `sum`: M, SCRIPT and VERDICTS
-abbrev pub sum_form : List (List ℕ) → Option Form
-sum_form words =
-    option_and_then (λ m. option_and_then (λ s. option_and_then (λ v. at_end (sum m.0 s.0 v.0) v.1) (name_and_rest s.1)) (name_and_rest m.1))
+-- the words of a command on verdicts: M, SCRIPT and VERDICTS
+abbrev pub told_form : (List ℕ → List ℕ → List ℕ → Form) → List (List ℕ) → Option Form
+told_form f words =
+    option_and_then (λ m. option_and_then (λ s. option_and_then (λ v. at_end (f m.0 s.0 v.0) v.1) (name_and_rest s.1)) (name_and_rest m.1))
     (name_and_rest words)
+
+-- the words of `sum` and of `faults`
+abbrev pub sum_form : List (List ℕ) → Option Form
+sum_form words = told_form sum words
+
+abbrev pub faults_form : List (List ℕ) → Option Form
+faults_form words = told_form faults words
 
 -- the words of `script`: M and NAMED
 abbrev pub script_form : List (List ℕ) → Option Form
@@ -108,7 +116,8 @@ form_of (w ∷ words) =
     (cond (bytes_eq w (codes "ranges")) (ranges_form words)
     (cond (bytes_eq w (codes "sites")) (sites_form words)
     (cond (bytes_eq w (codes "sum")) (sum_form words)
-    (cond (bytes_eq w (codes "script")) (script_form words) None))))))
+    (cond (bytes_eq w (codes "faults")) (faults_form words)
+    (cond (bytes_eq w (codes "script")) (script_form words) None)))))))
 
 -- a command, as a form
 abbrev pub form : Command → Form
@@ -119,9 +128,18 @@ form (command.Ranges image all) = ranges image.now all
 form (command.Sites image cycles classes which) = sites image.now cycles classes which
 form (command.Flips image rows which) = flips image.now (rows_of rows) which
 form (command.Sum image script verdicts) = sum image.now script.now verdicts.now
+form (command.Faults image script verdicts) = faults image.now script.now verdicts.now
 form (command.Script image named) = script_named image.now named.now
 
--- the name of the file that the line of a fault names
+-- the name of the file that the line of a fault names, of a command on verdicts
+abbrev pub told_file : List ℕ → List ℕ → List ℕ → Fault → List ℕ
+told_file m script verdicts (fault.Script i) = script
+told_file m script verdicts fault.Image = script
+told_file m script verdicts (fault.Verdicts i) = verdicts
+told_file m script verdicts (fault.NoVerdicts f) = verdicts
+told_file m script verdicts e = m
+
+-- the same of a command
 abbrev pub file_of : Form → Fault → List ℕ
 file_of (graph m horizon) e = m
 file_of (dot m horizon) e = m
@@ -130,11 +148,8 @@ file_of (ranges m all) e = m
 file_of (sites m cycles classes which) e = m
 file_of (flips m rows which) (fault.Rows i) = rows_name rows
 file_of (flips m rows which) e = m
-file_of (sum m script verdicts) (fault.Script i) = script
-file_of (sum m script verdicts) fault.Image = script
-file_of (sum m script verdicts) (fault.Verdicts i) = verdicts
-file_of (sum m script verdicts) (fault.NoVerdicts f) = verdicts
-file_of (sum m script verdicts) e = m
+file_of (sum m script verdicts) e = told_file m script verdicts e
+file_of (faults m script verdicts) e = told_file m script verdicts e
 file_of (script_named m named) (fault.Script i) = named
 file_of (script_named m named) (fault.Named r) = named
 file_of (script_named m named) e = m
@@ -149,4 +164,4 @@ IsSound _ = Unit {0}
 
 -- the usage line
 abbrev pub usage_text : List ℕ
-usage_text = codes "usage: vcp_study graph M HORIZON, dot M HORIZON, waves FILE, ranges M, ranges M --all, sites M CYCLES CLASS, sites M CYCLES CLASS FROM COUNT, sites M CYCLES CLASS --count, sites M ROWS flips, sites M ROWS flips FROM COUNT, sites M ROWS flips --count, sum M SCRIPT VERDICTS or script M NAMED\n"
+usage_text = codes "usage: vcp_study graph M HORIZON, dot M HORIZON, waves FILE, ranges M, ranges M --all, sites M CYCLES CLASS, sites M CYCLES CLASS FROM COUNT, sites M CYCLES CLASS --count, sites M ROWS flips, sites M ROWS flips FROM COUNT, sites M ROWS flips --count, sum M SCRIPT VERDICTS, faults M SCRIPT VERDICTS or script M NAMED\n"

@@ -10,4 +10,4 @@ pub mod ScriptReach
 pub mod Seen
 pub mod SitesReach
 pub mod SumLines
-pub mod SumReach
+pub mod ToldReach

@@ -5,6 +5,7 @@ ghost use Rattle.std.specs.Option.{option_map};
 ghost use Rattle.vcp_base.specs.Limits.{most_cycles, most_horizon};
 ghost use Rattle.vcp_study_core.specs.Forms.{form, form_of, file_of, image_and_horizon as image_and_horizon_of, graph_form, dot_form, waves_form};
 ghost use Rattle.vcp_study_core.specs.Forms.{ranges_form, all_of, IsSound};
+ghost use Rattle.vcp_study_core.specs.Forms.{faults_form, told_file as told_file_of};
 ghost use Rattle.vcp_words.specs.Forms.{rows_of, AreFew};
 ghost use Rattle.vcp_words.specs.Tables.{rows_name as rows_name_of};
 ghost use Rattle.vcp_study_core.specs.Forms.{sites_form, behind_form, class_form, cycles_in as cycles_in_of, flips, sum_form, script_form, chosen_of};
@@ -74,6 +75,15 @@ pub enum Command<'a> {
         /// The name of what was printed on it.
         verdicts: &'a Text,
     },
+    /// `faults M SCRIPT VERDICTS`: the picture of the image's graph by the same.
+    Faults {
+        /// The name of the image, M.
+        image: &'a Text,
+        /// The name of the script.
+        script: &'a Text,
+        /// The name of what was printed on it.
+        verdicts: &'a Text,
+    },
     /// `script M NAMED`: the script of faults that are named by variables and by places in the source.
     Script {
         /// The name of the image, M.
@@ -90,6 +100,17 @@ fn rows_name<'a>(rows: RowsWord<'a>) -> &'a [u8]
     match rows {
         RowsWord::File(name) => name.bytes(),
         RowsWord::Cycles(_) => b"--cycles",
+    }
+}
+
+/// The name of the file that the line of a fault of a command on verdicts names.
+fn told_file<'a>(image: &'a Text, script: &'a Text, verdicts: &'a Text, fault: &Fault) -> &'a [u8]
+    ensures { result.now ≡ told_file_of image.now script.now verdicts.now fault.now }
+{
+    match fault {
+        Fault::Script(_) | Fault::Image => script.bytes(),
+        Fault::Verdicts(_) | Fault::NoVerdicts(_) => verdicts.bytes(),
+        _ => image.bytes(),
     }
 }
 
@@ -112,11 +133,12 @@ impl Command<'_> {
                 image,
                 script,
                 verdicts,
-            } => match fault {
-                Fault::Script(_) | Fault::Image => script.bytes(),
-                Fault::Verdicts(_) | Fault::NoVerdicts(_) => verdicts.bytes(),
-                _ => image.bytes(),
-            },
+            } => told_file(image, script, verdicts, fault),
+            Command::Faults {
+                image,
+                script,
+                verdicts,
+            } => told_file(image, script, verdicts, fault),
             Command::Script { image, named } => match fault {
                 Fault::Script(_) | Fault::Named(_) => named.bytes(),
                 _ => image.bytes(),
@@ -149,6 +171,9 @@ pub fn command_of(words: &Words) -> Option<Command<'_>>
     }
     if command == b"sum".as_slice() {
         return sum_words(&mut left);
+    }
+    if command == b"faults".as_slice() {
+        return faults_words(&mut left);
     }
     if command == b"script".as_slice() {
         return script_words(&mut left);
@@ -357,6 +382,24 @@ fn sum_words<'a>(words: &mut WordsLeft<'a>) -> Option<Command<'a>>
         return None;
     }
     Some(Command::Sum {
+        image,
+        script,
+        verdicts,
+    })
+}
+
+/// The words of `faults`: M, SCRIPT and VERDICTS.
+fn faults_words<'a>(words: &mut WordsLeft<'a>) -> Option<Command<'a>>
+    ensures form { option_map form result ≡ faults_form words.old }
+    ensures sound { IfSome result (λ command. IsSound (form command)) }
+{
+    let image = words.name()?;
+    let script = words.name()?;
+    let verdicts = words.name()?;
+    if !words.is_end() {
+        return None;
+    }
+    Some(Command::Faults {
         image,
         script,
         verdicts,

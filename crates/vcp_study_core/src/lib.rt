@@ -4,6 +4,7 @@
 mod command;
 mod dot;
 mod fault;
+mod faults;
 mod flips;
 mod graph;
 mod ranges;
@@ -11,6 +12,7 @@ mod script;
 mod sites;
 mod sum;
 mod telling;
+mod told;
 mod top;
 mod waves;
 

@@ -12,6 +12,7 @@ ghost use Rattle.vcp_study_core.specs.declared.fault.Fault.TheVariants as fault;
 use crate::command::{Command, command_of};
 use crate::dot::dot_command;
 use crate::fault::Fault;
+use crate::faults::faults_command;
 use crate::flips::flips_command;
 use crate::graph::graph_command;
 use crate::ranges::ranges_command;
@@ -137,6 +138,11 @@ fn study<F: Files, O: Sink>(
             script,
             verdicts,
         } => sum_command(alloc, image, script, verdicts, files, out),
+        Command::Faults {
+            image,
+            script,
+            verdicts,
+        } => faults_command(alloc, image, script, verdicts, files, out),
         Command::Script { image, named } => script_command(alloc, image, named, files, out),
     }
 }

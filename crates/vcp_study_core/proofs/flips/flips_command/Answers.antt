@@ -1,6 +1,6 @@
 use Rattle.vcp_words.specs.Forms.{rows_of}
 use Rattle.vcp_study_core.proofs.Reaching.{if_some_weaker}
-use Rattle.vcp_study_core.proofs.SumReaching.{if_some_both}
+use Rattle.vcp_study_core.proofs.ToldReaching.{if_some_both}
 use Rattle.vcp_study_core.proofs.FlipsReaching.{image_read, image_lost}
 use Rattle.vcp_study_core.proofs.flips.flips_command.Goals as goal
 

@@ -1,6 +1,6 @@
 use Rattle.vcp_study_core.proofs.Reaching.{if_some_weaker}
 use Rattle.vcp_study_core.proofs.ScriptReaching.{image_read, image_lost}
-use Rattle.vcp_study_core.proofs.SumReaching.{if_some_both}
+use Rattle.vcp_study_core.proofs.ToldReaching.{if_some_both}
 use Rattle.vcp_study_core.proofs.script.script_command.Goals as goal
 
 pub returns-in-Ok-clause-reaches : goal.returns-in-Ok-clause-reaches

@@ -1,7 +1,7 @@
 use Rattle.std.proofs.Common.{sym, ◌∙◌}
-use Rattle.vcp_study_core.specs.SumReach.{lacks_memory}
-use Rattle.vcp_study_core.proofs.SumReaching.{other_image, script_in_text, no_script_in_text}
-use Rattle.vcp_study_core.proofs.sum.script_in.Goals as goal
+use Rattle.vcp_study_core.specs.ToldReach.{lacks_memory}
+use Rattle.vcp_study_core.proofs.ToldReaching.{other_image, script_in_text, no_script_in_text}
+use Rattle.vcp_study_core.proofs.told.script_in.Goals as goal
 
 pub returns-then-not-is_for-clause-reads : goal.returns-then-not-is_for-clause-reads
 returns-then-not-is_for-clause-reads c =

@@ -1,6 +1,6 @@
-use Rattle.vcp_study_core.specs.SumReach.{are_told}
-use Rattle.vcp_study_core.proofs.SumReaching.{untold_in_text}
-use Rattle.vcp_study_core.proofs.sum.verdicts_in.Goals as goal
+use Rattle.vcp_study_core.specs.ToldReach.{are_told}
+use Rattle.vcp_study_core.proofs.ToldReaching.{untold_in_text}
+use Rattle.vcp_study_core.proofs.told.verdicts_in.Goals as goal
 
 pub returns-in-Ok : goal.returns-in-Ok
 returns-in-Ok c =

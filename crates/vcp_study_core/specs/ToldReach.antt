@@ -1,4 +1,4 @@
--- SumReach: how far `sum M SCRIPT VERDICTS` comes before its fault's line, if there is one, is printed.
+-- ToldReach: how far `sum M SCRIPT VERDICTS` and `faults M SCRIPT VERDICTS` come before their fault's line, if there is one, is printed.
 use Rattle.std.specs.Prelude.{ℕ, ◌≡◌, ◌≢◌, ◌≤◌, Bool, List, [], length, All, true, false, Option, Some, Result, Ok, Err}
 use Rattle.std.specs.Io.KnownBytes.{Appends}
 use Rattle.vcp_base.specs.Limits.{most_image_bytes, most_rows_bytes, most_source_bytes}
@@ -17,6 +17,7 @@ use Rattle.verdict_tables.specs.declared.fault.VerdictsFault.TheVariants as verd
 use Rattle.verdict_tables.specs.Reading.{verdicts_in}
 use Rattle.verdict_tables.specs.Remark.{is_for}
 use Rattle.verdict_tables.specs.SumText.{sum_text, status_of}
+use Rattle.verdict_picture.specs.FaultsText.{IsFaultsPicture}
 use Rattle.image_digest.specs.Digest.{digest_of}
 use Rattle.vcp_inputs.specs.declared.images.Image.{Image}
 use Rattle.vcp_inputs.specs.declared.refusal.NoInput.{NoInput}
@@ -63,40 +64,73 @@ pub data ReadsVerdicts (g : Lists) (groups : List (List FaultOf)) (text : List �
   are_refused : (f : VerdictsFault) → f ≢ verdicts.Memory → verdicts_in g groups text ≡ Err f → ReadsVerdicts g groups text (Err (fault.NoVerdicts f))
   lack_memory : ReadsVerdicts g groups text (Err fault.Memory)
 
--- how far the tables of these verdicts are written: whole, and the status is theirs; or a part where the sink failed
-pub data WritesSum (g : Lists) (groups : List (List FaultOf)) (vs : List Verdict) (old new : Option (List ℕ)) : Result ℕ Fault → Type 0 where
-  written_whole : (status : ℕ) → status ≡ status_of (totals_of vs) → Appends old new (sum_text g groups vs) → WritesSum g groups vs old new (Ok status)
-  written_part : AppendsPart old new (sum_text g groups vs) → WritesSum g groups vs old new (Err fault.Write)
+-- ---- what is written
 
--- how far the tables of the verdicts that a text tells are written: where it tells none, or memory was wanted, nothing is
-pub data TellsSum (g : Lists) (groups : List (List FaultOf)) (text : List ℕ) (old new : Option (List ℕ)) : Result ℕ Fault → Type 0 where
-  of_told : (vs : List Verdict) → AreTold g groups text vs → (r : Result ℕ Fault) → WritesSum g groups vs old new r → TellsSum g groups text old new r
-  of_untold : (e : Fault) → ReadsVerdicts g groups text (Err e) → Appends old new [] → TellsSum g groups text old new (Err e)
+-- which texts tell verdicts of groups over a graph
+abbrev pub Telling : Type 1
+Telling = Lists → List (List FaultOf) → List Verdict → List ℕ → Type 0
+
+-- a text is the tables of these verdicts
+abbrev pub AreTables : Telling
+AreTables g groups vs text = text ≡ sum_text g groups vs
+
+-- how far such a text is written: whole, or a part where the sink failed, or nothing where memory was wanted
+abbrev pub WritesText : (List ℕ → Type 0) → Option (List ℕ) → Option (List ℕ) → Result (Unit {0}) Fault → Type 0
+WritesText Is old new (Ok _) = (text : List ℕ) × Is text × Appends old new text
+WritesText Is old new (Err fault.Write) = (text : List ℕ) × Is text × AppendsPart old new text
+WritesText Is old new (Err fault.Memory) = Appends old new []
+WritesText Is old new (Err _) = ⊥
+
+-- how far a text that tells these verdicts is written, and the status is theirs
+pub data WritesTold (Tells : Telling) (g : Lists) (groups : List (List FaultOf)) (vs : List Verdict) (old new : Option (List ℕ))
+    : Result ℕ Fault → Type 0 where
+  written_whole : (status : ℕ) → status ≡ status_of (totals_of vs) → (text : List ℕ) → Tells g groups vs text → Appends old new text
+      → WritesTold Tells g groups vs old new (Ok status)
+  written_part : (text : List ℕ) → Tells g groups vs text → AppendsPart old new text → WritesTold Tells g groups vs old new (Err fault.Write)
+  wants_memory : Appends old new [] → WritesTold Tells g groups vs old new (Err fault.Memory)
+
+-- the same of the verdicts that a text tells: where it tells none, or memory was wanted, nothing is written
+pub data TellsText (Tells : Telling) (g : Lists) (groups : List (List FaultOf)) (text : List ℕ) (old new : Option (List ℕ))
+    : Result ℕ Fault → Type 0 where
+  of_told : (vs : List Verdict) → AreTold g groups text vs → (r : Result ℕ Fault) → WritesTold Tells g groups vs old new r
+      → TellsText Tells g groups text old new r
+  of_untold : (e : Fault) → ReadsVerdicts g groups text (Err e) → Appends old new [] → TellsText Tells g groups text old new (Err e)
 
 -- the same of the file of verdicts under a name
-pub data ReachesVerdicts (g : Lists) (groups : List (List FaultOf)) (name : List ℕ) (held : Held) (old new : Option (List ℕ)) (b n : ℕ)
-    : Result ℕ Fault → Type 0 where
-  in_verdicts : (text : List ℕ) → held name ≡ Some text → length text ≤ most_rows_bytes → (r : Result ℕ Fault) → TellsSum g groups text old new r
-      → ReachesVerdicts g groups name held old new b n r
+pub data ReachesVerdicts (Tells : Telling) (g : Lists) (groups : List (List FaultOf)) (name : List ℕ)
+    (held : Held) (old new : Option (List ℕ)) (b n : ℕ) : Result ℕ Fault → Type 0 where
+  in_verdicts : (text : List ℕ) → held name ≡ Some text → length text ≤ most_rows_bytes → (r : Result ℕ Fault) → TellsText Tells g groups text old new r
+      → ReachesVerdicts Tells g groups name held old new b n r
   lost_verdicts : (why : NoInput) → NotLoaded Never held name most_rows_bytes b n why → Appends old new []
-      → ReachesVerdicts g groups name held old new b n (Err (fault.Verdicts why))
+      → ReachesVerdicts Tells g groups name held old new b n (Err (fault.Verdicts why))
 
 -- the same of the text of a script
-pub data ReachesText (i : Image) (text name : List ℕ) (held : Held) (old new : Option (List ℕ)) (b n : ℕ) : Result ℕ Fault → Type 0 where
+pub data ReachesText (Tells : Telling) (i : Image) (text name : List ℕ) (held : Held)
+    (old new : Option (List ℕ)) (b n : ℕ) : Result ℕ Fault → Type 0 where
   in_script : (groups : List (List FaultOf)) → ReadsScript i text (Ok groups) → (r : Result ℕ Fault)
-      → ReachesVerdicts i.graph groups name held old new b n r → ReachesText i text name held old new b n r
-  lost_script : (e : Fault) → ReadsScript i text (Err e) → Appends old new [] → ReachesText i text name held old new b n (Err e)
+      → ReachesVerdicts Tells i.graph groups name held old new b n r → ReachesText Tells i text name held old new b n r
+  lost_script : (e : Fault) → ReadsScript i text (Err e) → Appends old new [] → ReachesText Tells i text name held old new b n (Err e)
 
 -- the same of the file of the script under a name, and of the file of verdicts
-pub data ReachesScript (i : Image) (script name : List ℕ) (held : Held) (old new : Option (List ℕ)) (b n : ℕ) : Result ℕ Fault → Type 0 where
+pub data ReachesScript (Tells : Telling) (i : Image) (script name : List ℕ) (held : Held)
+    (old new : Option (List ℕ)) (b n : ℕ) : Result ℕ Fault → Type 0 where
   in_script_file : (text : List ℕ) → held script ≡ Some text → length text ≤ most_source_bytes → (r : Result ℕ Fault)
-      → ReachesText i text name held old new b n r → ReachesScript i script name held old new b n r
+      → ReachesText Tells i text name held old new b n r → ReachesScript Tells i script name held old new b n r
   lost_script_file : (why : NoInput) → NotLoaded Never held script most_source_bytes b n why → Appends old new []
-      → ReachesScript i script name held old new b n (Err (fault.Script why))
+      → ReachesScript Tells i script name held old new b n (Err (fault.Script why))
 
--- How far `sum M SCRIPT VERDICTS` comes: there is nothing of the image, and nothing is written; or so far of the others.
-pub data ReachesSum (m script name : List ℕ) (held : Held) (old new : Option (List ℕ)) (b n : ℕ) : Result ℕ Fault → Type 0 where
-  in_image : (i : Image) → IsImage held m i → (r : Result ℕ Fault) → ReachesScript i script name held old new b n r
-      → ReachesSum m script name held old new b n r
+-- the same of an image, a script for it and its verdicts: there is nothing of the image, and nothing is written; or so far of the others
+pub data ReachesTold (Tells : Telling) (m script name : List ℕ) (held : Held)
+    (old new : Option (List ℕ)) (b n : ℕ) : Result ℕ Fault → Type 0 where
+  in_image : (i : Image) → IsImage held m i → (r : Result ℕ Fault) → ReachesScript Tells i script name held old new b n r
+      → ReachesTold Tells m script name held old new b n r
   lost_image : (why : NoInput) → NotLoaded NotImage held m most_image_bytes b n why → Appends old new []
-      → ReachesSum m script name held old new b n (Err (fault.Source why))
+      → ReachesTold Tells m script name held old new b n (Err (fault.Source why))
+
+-- How far `sum M SCRIPT VERDICTS` comes: the tables are written, or a part of them, or nothing.
+abbrev pub ReachesSum : List ℕ → List ℕ → List ℕ → Held → Option (List ℕ) → Option (List ℕ) → ℕ → ℕ → Result ℕ Fault → Type 0
+ReachesSum m script name held old new b n result = ReachesTold AreTables m script name held old new b n result
+
+-- How far `faults M SCRIPT VERDICTS` comes: the picture is written, or a part of it, or nothing.
+abbrev pub ReachesFaults : List ℕ → List ℕ → List ℕ → Held → Option (List ℕ) → Option (List ℕ) → ℕ → ℕ → Result ℕ Fault → Type 0
+ReachesFaults m script name held old new b n result = ReachesTold IsFaultsPicture m script name held old new b n result
