@@ -112,7 +112,7 @@ fn stops_after(
     Ok(stops)
 }
 
-/// Whether an operation may stop, and may by the other list too, and isn't done with.
+/// Whether operation `i` is looked at closer: it may stop, is wanted and isn't done with.
 fn is_asked(stops: &[Stops], wanted: &[Stops], done: &[Stops], i: usize) -> bool {
     is_any_at(stops, i) && is_any_at(wanted, i) && !is_any_at(done, i)
 }

@@ -62,21 +62,29 @@ fn is_one(n: u32, m: u32) -> bool
     n == m
 }
 
-/// The range of operation `n`, which is in `r`, where of the operations that `op` compares the first is less than the second.
-fn where_less(op: &Op, a: Range, b: Range, n: u32, r: Range) -> Range
-    ensures { (vs : List ℤ) → IsIn a (at vs op.now.a) → IsIn b (at vs op.now.b) → at vs op.now.a <ℤ at vs op.now.b → IsIn r (at vs n) → IsIn result (at vs n) }
+/// The range of operation `n`, which is in `r`, where of the operations that `op` compares the first is within these bounds and the second
+/// within those.
+fn of_pair(op: &Op, n: u32, r: Range, first: Bounds, second: Bounds) -> Range
+    ensures { (vs : List ℤ) → IsWithin first (at vs op.now.a) → IsWithin second (at vs op.now.b) → IsIn r (at vs n) → IsIn result (at vs n) }
 {
     let is_first = is_one(n, op.a);
     if is_first {
-        let bounds = lesser_one(a, b);
-        return r.met(bounds);
+        return r.met(first);
     }
     let is_second = is_one(n, op.b);
     if is_second {
-        let bounds = larger_one(a, b);
-        return r.met(bounds);
+        return r.met(second);
     }
     r
+}
+
+/// The same where the first is less than the second.
+fn where_less(op: &Op, a: Range, b: Range, n: u32, r: Range) -> Range
+    ensures { (vs : List ℤ) → IsIn a (at vs op.now.a) → IsIn b (at vs op.now.b) → at vs op.now.a <ℤ at vs op.now.b → IsIn r (at vs n) → IsIn result (at vs n) }
+{
+    let first = lesser_one(a, b);
+    let second = larger_one(a, b);
+    of_pair(op, n, r, first, second)
 }
 
 /// The same where the first is no less than the second.
@@ -84,15 +92,7 @@ fn where_no_less(op: &Op, a: Range, b: Range, n: u32, r: Range) -> Range
     ensures { (vs : List ℤ) → IsIn a (at vs op.now.a) → IsIn b (at vs op.now.b) → at vs op.now.b ≤ℤ at vs op.now.a → IsIn r (at vs n) → IsIn result (at vs n) }
 {
     let bounds = no_less(a, b);
-    let is_first = is_one(n, op.a);
-    if is_first {
-        return r.met(bounds);
-    }
-    let is_second = is_one(n, op.b);
-    if is_second {
-        return r.met(bounds);
-    }
-    r
+    of_pair(op, n, r, bounds, bounds)
 }
 
 /// The same where the comparison is `truth`.
@@ -106,21 +106,13 @@ fn compared(op: &Op, truth: bool, a: Range, b: Range, n: u32, r: Range) -> Range
     where_no_less(op, a, b, n, r)
 }
 
-/// The range of operation `n`, which is in `r`, where the two operations that `op` compares are equal.
+/// The same where the two are equal.
 fn where_equal(op: &Op, a: Range, b: Range, n: u32, r: Range) -> Range
     ensures { (vs : List ℤ) → IsIn a (at vs op.now.a) → IsIn b (at vs op.now.b) → at vs op.now.a ≡ at vs op.now.b → IsIn r (at vs n) → IsIn result (at vs n) }
 {
-    let is_first = is_one(n, op.a);
-    if is_first {
-        let second = b.bounds();
-        return r.met(second);
-    }
-    let is_second = is_one(n, op.b);
-    if is_second {
-        let first = a.bounds();
-        return r.met(first);
-    }
-    r
+    let first = b.bounds();
+    let second = a.bounds();
+    of_pair(op, n, r, first, second)
 }
 
 /// The same where they aren't equal.

@@ -1,15 +1,8 @@
-use Rattle.std.proofs.Common.{sym, subst}
 use Rattle.vcp_base.specs.Values.{at}
-use Rattle.range_audit.specs.Intervals.{IsWithin}
 use Rattle.range_audit.proofs.choices.where_no_less.Goals as goal
 
-pub returns-then-is_first : goal.returns-then-is_first
-returns-then-is_first c = λ vs i j le k.
-    c.met.ensures (at vs c.args.n) k (subst (λ m. IsWithin c.no_less-bounds.result (at vs m)) (sym (c.is_one-is_first.ensures c.if-is_first.true))
-    (c.no_less-bounds.ensures.first (at vs c.args.op.now.a) (at vs c.args.op.now.b) i j le))
-
-pub returns-then-is_second : goal.returns-then-is_second
-returns-then-is_second c = λ vs i j le k.
-    c.met-then-is_second.ensures (at vs c.args.n) k (subst (λ m. IsWithin c.no_less-bounds.result (at vs m))
-    (sym (c.is_one-is_second.ensures c.if-is_second.true))
-    (c.no_less-bounds.ensures.second (at vs c.args.op.now.a) (at vs c.args.op.now.b) i j le))
+pub returns : goal.returns
+returns c = λ vs i j le k.
+    let x = at vs c.args.op.now.a in
+    let y = at vs c.args.op.now.b in
+    c.of_pair.ensures vs (c.no_less-bounds.ensures.first x y i j le) (c.no_less-bounds.ensures.second x y i j le) k
