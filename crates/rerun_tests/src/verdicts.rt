@@ -20,7 +20,7 @@ use worked_texts::{cells, holds, same};
 const ROOM: u32 = 64;
 
 /// A script with a group at least.
-fn script_of(alloc: Global, graph: &Graph, text: &[u8]) -> Result<Script, Fail>
+pub(crate) fn script_of(alloc: Global, graph: &Graph, text: &[u8]) -> Result<Script, Fail>
     ensures { IfOk result (λ script. 1 ≤ length script) }
 {
     if text.len() as u64 > MOST_SOURCE_BYTES {
@@ -33,8 +33,17 @@ fn script_of(alloc: Global, graph: &Graph, text: &[u8]) -> Result<Script, Fail>
     Ok(script)
 }
 
+/// The lines of a text in which a `;` stands for the end of a line.
+pub(crate) fn lines_of(alloc: Global, text: &str) -> Result<Vec<u8>, Fail> {
+    let mut lines = Vec::new(alloc);
+    for byte in text.bytes() {
+        lines.push(if byte == b';' { b'\n' } else { byte })?;
+    }
+    Ok(lines)
+}
+
 /// Fails where the rows have another width than the graph's inputs.
-fn fits(rows: &RowList, graph: &Graph) -> Result<(), Fail>
+pub(crate) fn fits(rows: &RowList, graph: &Graph) -> Result<(), Fail>
     ensures { IfOk result (λ _. All (λ row. length row ≡ length graph.now.inputs) rows.now) }
 {
     let width = rows.width();
@@ -89,10 +98,7 @@ fn all_judged(alloc: Global, graph: &Graph, rows: &RowList, wanted: &str) -> Res
 {
     for row in wanted.lines() {
         let (text, wanted) = cells(row);
-        let mut script = Vec::new(alloc);
-        for byte in text.bytes() {
-            script.push(if byte == b';' { b'\n' } else { byte })?;
-        }
+        let script = lines_of(alloc, text)?;
         same(&judged(alloc, graph, rows, &script)?, wanted)?;
     }
     Ok(())
