@@ -1,5 +1,5 @@
 -- Reaching: how far `graph` and `dot` come, from what loading their image gives.
-use Rattle.std.proofs.Common.{◌≡◌, ◌⊎◌, ◌<◌, ◌≤◌, inl, inr, ℕ, List, [], length, Option, Some, None, IfSome, Result, Err, refl, sym}
+use Rattle.std.proofs.Common.{◌≡◌, ◌⊎◌, ◌<◌, ◌≤◌, inl, inr, ℕ, List, [], length, Option, Some, None, IfSome, Ok, Err, refl, sym}
 use Rattle.std.proofs.lemmas.List.{append-nil}
 use Rattle.std.specs.Io.KnownBytes.{Appends}
 use Rattle.vcp_base.specs.Limits.{most_image_bytes}
@@ -15,9 +15,10 @@ use Rattle.vcp_inputs.specs.Images.{ImageOf, NotImage}
 use Rattle.graph_picture.specs.Arrangement.{Arrangement, IsArranged}
 use Rattle.graph_picture.specs.Elements.{IsPictureOf, graph_text}
 use Rattle.graph_dot.specs.DotText.{IsDotOf, dot_text}
+use Rattle.vcp_study_core.specs.declared.graph.Weighed.{Weighed}
 use Rattle.vcp_study_core.specs.declared.fault.Fault.{Fault}
 use Rattle.vcp_study_core.specs.declared.fault.Fault.TheVariants as fault
-use Rattle.vcp_study_core.specs.Reach.{IsImage, IsDrawn, no_image, too_large, ReachesDrawn, IsUnread}
+use Rattle.vcp_study_core.specs.Reach.{IsImage, IsDrawn, no_image, too_large, GivesWeighed, ReachesDrawn, IsUnread}
 
 pub if_some_weaker : {X : Type 0} (o : Option X) (P Q : X → Type 0) → ((x : X) → P x → Q x) → IfSome o P → IfSome o Q
 if_some_weaker None P Q f h = tt
@@ -39,13 +40,12 @@ pub appends-nothing : (old : Option (List ℕ)) → Appends old old []
 appends-nothing None = tt
 appends-nothing (Some bytes) = sym (append-nil bytes)
 
-module _ (IsTextOf : Lists → ℕ → List ℕ → Type 0) (name : List ℕ) (horizon : ℕ) (held : Held) (old : Option (List ℕ)) (b n : ℕ) where
+module _ (name : List ℕ) (horizon : ℕ) (held : Held) (b n : ℕ) where
   -- there is nothing of the file
-  pub lost : (i : NoInput) → NotLoaded NotImage held name most_image_bytes b n i
-      → ReachesDrawn IsTextOf name horizon held old old b n (Err (fault.Source i))
-  lost input.Unread h = (h, appends-nothing old)
-  lost (input.Refused r) (text, holds, why) = (no_image text holds r why, appends-nothing old)
-  lost input.Memory h = (tt, appends-nothing old)
+  pub lost : (i : NoInput) → NotLoaded NotImage held name most_image_bytes b n i → GivesWeighed name horizon held b n (Err (fault.Source i))
+  lost input.Unread h = h
+  lost (input.Refused r) (text, holds, why) = no_image text holds r why
+  lost input.Memory h = tt
 
   -- the image that was loaded
   abbrev Loaded : Image → Type 0
@@ -58,14 +58,25 @@ module _ (IsTextOf : Lists → ℕ → List ℕ → Type 0) (name : List ℕ) (h
   abbrev NoWeights : Image → Fault → Type 0
   NoWeights i e = (e ≡ fault.Memory) ⊎ ((e ≡ fault.Source (input.Refused refusal.Audit)) × (most_weights < weights_up_to i.graph horizon))
 
-  pub not_weighed : (i : Image) → Loaded i → (e : Fault) → NoWeights i e → ReachesDrawn IsTextOf name horizon held old old b n (Err e)
-  not_weighed i loaded e (inl memory) = rw memory (appends-nothing old)
-  not_weighed i loaded e (inr (refused, more)) = rw refused (too_large i (is_image i loaded) more, appends-nothing old)
+  pub not_weighed : (i : Image) → Loaded i → (e : Fault) → NoWeights i e → GivesWeighed name horizon held b n (Err e)
+  not_weighed i loaded e (inl memory) = rw memory tt
+  not_weighed i loaded e (inr (refused, more)) = rw refused (too_large i (is_image i loaded) more)
+
+  pub weighed : (i : Image) → Loaded i → weights_up_to i.graph horizon ≤ most_weights → (a : Audit)
+      → GivesWeighed name horizon held b n (Ok (record { image = i; weights = a }))
+  weighed i loaded few a = (is_image i loaded, few)
+
+module _ (IsTextOf : Lists → ℕ → List ℕ → Type 0) (name : List ℕ) (horizon : ℕ) (held : Held) (old : Option (List ℕ)) (b n : ℕ) where
+  -- there is no image with weights
+  pub not_given : (e : Fault) → GivesWeighed name horizon held b n (Err e) → ReachesDrawn IsTextOf name horizon held old old b n (Err e)
+  not_given (fault.Source i) h = (h, appends-nothing old)
+  not_given fault.Memory h = appends-nothing old
+  not_given _ h = absurd h
 
   -- its text
-  pub drawn : (i : Image) → Loaded i → weights_up_to i.graph horizon ≤ most_weights → (text : List ℕ) → IsTextOf i.graph horizon text
+  pub drawn : (w : Weighed) → GivesWeighed name horizon held b n (Ok w) → (text : List ℕ) → IsTextOf w.image.graph horizon text
       → IsDrawn IsTextOf held name horizon text
-  drawn i loaded few text told = record { image = i; is = is_image i loaded; few = few; told = told }
+  drawn w (is, few) text told = record { image = w.image; is = is; few = few; told = told }
 
 -- the texts of a graph
 pub picture : (g : Lists) (horizon : ℕ) (a : Audit) → IsAudit g horizon a → (l : Arrangement) → IsArranged g l
@@ -82,7 +93,6 @@ not_unread i horizon e (inl memory) is = rw memory at is
 not_unread i horizon e (inr (refused, more)) is = let unread : input.Refused refusal.Audit ≡ input.Unread = rw refused at is in cc
 
 pub not_write : (i : Image) (horizon : ℕ) (e : Fault)
-    → (e ≡ fault.Memory) ⊎ ((e ≡ fault.Source (input.Refused refusal.Audit)) × (most_weights < weights_up_to i.graph horizon))
-    → (r : Result (Unit {0}) Fault) → r ≡ Err e → r ≡ Err fault.Write → ⊥
-not_write i horizon e (inl memory) r is write = cc
-not_write i horizon e (inr (refused, more)) r is write = cc
+    → (e ≡ fault.Memory) ⊎ ((e ≡ fault.Source (input.Refused refusal.Audit)) × (most_weights < weights_up_to i.graph horizon)) → e ≡ fault.Write → ⊥
+not_write i horizon e (inl memory) write = cc
+not_write i horizon e (inr (refused, more)) write = cc

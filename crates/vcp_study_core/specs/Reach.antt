@@ -20,6 +20,7 @@ use Rattle.graph_dot.specs.DotText.{IsDotOf}
 use Rattle.vcp_study_core.specs.RunLines.{run_text}
 use Rattle.vcp_study_core.specs.ScriptLines.{refused_line_text}
 use Rattle.vcp_study_core.specs.SumLines.{verdicts_text}
+use Rattle.vcp_study_core.specs.declared.graph.Weighed.{Weighed}
 use Rattle.vcp_study_core.specs.declared.fault.Fault.{Fault}
 use Rattle.vcp_study_core.specs.declared.fault.Fault.TheVariants as fault
 
@@ -47,6 +48,13 @@ abbrev pub Lost : List ℕ → ℕ → Held → ℕ → ℕ → NoInput → Type
 Lost name horizon held b n input.Unread = (held name ≡ None) ⊎ Rose b n
 Lost name horizon held b n (input.Refused r) = Refuses held name horizon r
 Lost name horizon held b n input.Memory = Unit {0}
+
+-- what a file gives: an image whose graph has few enough weights up to a horizon, or why it gives none
+abbrev pub GivesWeighed : List ℕ → ℕ → Held → ℕ → ℕ → Result Weighed Fault → Type 0
+GivesWeighed name horizon held b n (Ok w) = IsImage held name w.image × (weights_up_to w.image.graph horizon ≤ most_weights)
+GivesWeighed name horizon held b n (Err (fault.Source i)) = Lost name horizon held b n i
+GivesWeighed name horizon held b n (Err fault.Memory) = Unit {0}
+GivesWeighed name horizon held b n (Err _) = ⊥
 
 -- how far a command comes that draws a graph: the text is written, or a part of it where the sink failed, or nothing
 abbrev pub ReachesDrawn : (Lists → ℕ → List ℕ → Type 0) → List ℕ → ℕ → Held → Option (List ℕ) → Option (List ℕ) → ℕ → ℕ

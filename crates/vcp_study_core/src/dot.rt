@@ -8,11 +8,10 @@ ghost use Rattle.vcp_study_core.specs.Reach.{ReachesDot, IsUnread};
 ghost use Rattle.vcp_study_core.specs.declared.fault.Fault.TheVariants as fault;
 
 use crate::fault::Fault;
-use crate::graph::weights_of;
+use crate::graph::load_weighed;
 use graph_dot::write_dot;
 use std::alloc::Global;
 use vcp_base::Text;
-use vcp_inputs::load_image;
 use vcp_outside::{Files, Sink};
 
 /// Does what the words `dot M HORIZON` say, and writes to `out` alone: M is read whole and taken through its refusals, and then its graph is written
@@ -32,12 +31,11 @@ pub fn dot_command<F: Files, O: Sink>(
     ensures write { result ≡ Err fault.Write → Rose (O.seen out.old).faults (O.seen out.new).faults }
     ensures ended { OnOk result (IsAtEnd (F.seen files.new).rest) }
 {
-    match load_image(alloc, files, image) {
-        Ok(image) => {
-            let weights = weights_of(alloc, &image, horizon)?;
-            write_dot(out, &image.graph, &weights, horizon)?;
+    match load_weighed(alloc, image, horizon, files) {
+        Ok(given) => {
+            write_dot(out, &given.image.graph, &given.weights, horizon)?;
             Ok(())
         }
-        Err(input) => Err(Fault::Source(input)),
+        Err(why) => Err(why),
     }
 }
