@@ -3,7 +3,8 @@
 
     checks/graph_texts.py
 
-The text is made here from the picture of `vcp_study graph`: from its boxes and lines. Of a graph the form of the text leaves nothing free. With VCP=FILE and
+The text is made here from the picture of `vcp_study graph`, from its boxes and lines, with the places of constants from `vcp list`. Of a graph the form of the
+text leaves nothing free; for which output a constant is blind doesn't stand in the picture, and isn't compared. With VCP=FILE and
 VCP_STUDY=FILE before it other programs than the built ones are taken. Without Graphviz's `dot` the texts are compared alone. Its status is 1 where something
 differs, and then the name of the example is printed with the first line that does.
 """
@@ -41,35 +42,44 @@ class Box:
         return f'{name} [ label="{label}{self.blind}" shape="{SHAPES.get(self.kind, "box")}" fillcolor="{FILLS[self.look]}" ];'
 
 
-def boxes_and_lines(picture):
-    """The boxes of a picture, and its lines, each an operand's number, its reader's and the operand's place."""
-    boxes, lines = [], []
+def words_behind(rows, i):
+    """What the texts behind a row say."""
+    words = []
+    while rows[i + 1 + len(words)].startswith("<text"):
+        words.append(html.unescape(re.sub(r"<[^>]*>", "", rows[i + 1 + len(words)])))
+    return words
+
+
+def parts_of(picture, places):
+    """The boxes of a picture; and of its lines and constants the reader's number, which operand it is, the operand's number, and the box of a constant."""
+    boxes, reads = [], []
     rows = picture.split("\n")
     for i, row in enumerate(rows):
         if line := re.match(r'<line data-operand="(\d+)" data-reader="(\d+)" data-place="(\d+)"', row):
-            lines.append(tuple(map(int, line.groups())))
+            operand, reader, which = map(int, line.groups())
+            reads.append((reader, which, operand, None))
         if box := re.match(r'<rect data-operation="\d+" class="(\w+)"', row):
-            words = []
-            while rows[i + 1 + len(words)].startswith("<text"):
-                words.append(html.unescape(re.sub(r"<[^>]*>", "", rows[i + 1 + len(words)])))
-            boxes.append(Box(box.group(1), words))
-    return boxes, lines
+            boxes.append(Box(box.group(1), words_behind(rows, i)))
+        if patch := re.match(r'<rect data-operand="(\d+)" data-place="(\d+)" class="(\w+)"', row):
+            number = int(patch.group(1))
+            constant = Box(patch.group(3), [f"{number} CONST", words_behind(rows, i)[0], places[number]])
+            reads.append((boxes[-1].number, int(patch.group(2)), number, constant))
+    return boxes, sorted(reads, key=lambda read: read[:2])
 
 
-def text_of(picture):
-    """The text for Graphviz of the graph that a picture draws."""
-    boxes, lines = boxes_and_lines(picture)
+def text_of(picture, places):
+    """The text for Graphviz of the graph that a picture draws, where the operations have these places in the source."""
+    boxes, reads = parts_of(picture, places)
     out = list(HEAD)
     for box in boxes:
-        if box.kind != "CONST":
-            own = f"\\n{box.own}" if box.own else ""
-            out.append(box.node(f"n{box.number}", f"{box.number} {box.kind}{own}\\n{box.place}"))
-    for operand, reader, place in lines:
-        box, name = boxes[operand], f"n{operand}"
-        if box.kind == "CONST":
-            name = f"c{reader}_{place}"
-            out.append(box.node(name, f"{box.own}\\n{operand} {box.place}"))
-        out.append(f'{name} -> n{reader} [ headlabel="{place}" ];')
+        own = f"\\n{box.own}" if box.own else ""
+        out.append(box.node(f"n{box.number}", f"{box.number} {box.kind}{own}\\n{box.place}"))
+    for reader, which, operand, constant in reads:
+        name = f"n{operand}"
+        if constant:
+            name = f"c{reader}_{which}"
+            out.append(constant.node(name, f"{constant.own}\\n{operand} {constant.place}"))
+        out.append(f'{name} -> n{reader} [ headlabel="{which}" ];')
     stores = {box.own: box.number for box in boxes if box.kind == "STORE"}
     for box in boxes:
         if box.kind == "LOAD":
@@ -106,9 +116,11 @@ def main():
                 subprocess.run([study, command, image, HORIZON], capture_output=True, text=True, check=True).stdout
                 for command in ("graph", "dot")
             )
-            wanted = text_of(picture)
-            if text != wanted:
-                print(f"graph_texts: {program.relative_to(TOP)}: {first_difference(text, wanted)}")
+            listing = subprocess.run([vcp, "list", image], capture_output=True, text=True, check=True).stdout
+            wanted = text_of(picture, re.findall(r" (at \d+:\d+)", listing))
+            found = re.sub(r'^(c\d+_\d+ .*?)\\nblind: [^"]*', r"\1", text, flags=re.M)
+            if found != wanted:
+                print(f"graph_texts: {program.relative_to(TOP)}: {first_difference(found, wanted)}")
                 wrong = 1
             elif not is_taken(text):
                 print(f"graph_texts: {program.relative_to(TOP)}: Graphviz doesn't take it")

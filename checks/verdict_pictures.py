@@ -22,6 +22,7 @@ STYLE = (
     "<style>text{font:9px monospace}rect{stroke:#333;fill:#fff}line{stroke:#888}.wrong{fill:#f66}.ran-on{fill:#fa6} "
     ".same{fill:#fe9}.stopped{fill:#9cf}.refused{fill:#9e9}.cell{fill:#36c}</style>"
 )
+PATCH = re.compile(r'<rect data-operand="(\d+)" data-place="(\d+)" class="\w+"(.*)')
 BOX = re.compile(r'<rect data-operation="(\d+)" class="\w+" x="(\d+)" y="(\d+)"(.*)')
 PLACES = dict(zip(WORST, [12, 112, 216, 312, 420]))
 # A program with its rows, and a script of faults; or a class, and in how many cycles its faults are tried.
@@ -74,13 +75,19 @@ def picture(graph, script, printed):
     body = next(i for i, line in enumerate(given) if "data-operand" in line or "data-operation" in line)
     made = given[:1] + legend(verdicts)
     x = y = note = None
+
+    def judged(number):
+        here = [verdict for verdict, (_, operations) in zip(verdicts, groups) if number in operations]
+        look = min(here, key=WORST.index) if here else "plain"
+        return look, f"{look} {here.count(look)}/{len(here)}" if here else None
+
     for line in given[body:]:
-        box = BOX.fullmatch(line)
+        box, patch = BOX.fullmatch(line), PATCH.fullmatch(line)
+        if patch:
+            line = f'<rect data-operand="{patch[1]}" data-place="{patch[2]}" class="{judged(int(patch[1]))[0]}"{patch[3]}'
         if box:
             number, x, y = int(box[1]), int(box[2]), int(box[3])
-            here = [verdict for verdict, (_, operations) in zip(verdicts, groups) if number in operations]
-            look = min(here, key=WORST.index) if here else "plain"
-            note = f"{look} {here.count(look)}/{len(here)}" if here else None
+            look, note = judged(number)
             line = f'<rect data-operation="{number}" class="{look}" x="{x}" y="{y}"{box[4]}'
         if y is None or f' y="{y + 45}">' not in line:
             made.append(line)

@@ -14,7 +14,7 @@ use Rattle.svg_text.specs.Drawing.{each_below}
 use Rattle.graph_picture.specs.declared.colours.Colour.{Colour}
 use Rattle.graph_picture.specs.declared.colours.Colour.TheVariants as colour
 use Rattle.graph_picture.specs.Colours.{colours}
-use Rattle.graph_picture.specs.Drawn.{Box, Wire, Drawing, drawing, own_of}
+use Rattle.graph_picture.specs.Drawn.{Box, Wire, Drawing, drawing, is_constant, own_of}
 use Rattle.graph_dot.specs.Characters.{written}
 
 -- ---- the names of nodes
@@ -36,10 +36,6 @@ has_name kind.Load = true
 has_name kind.Store = true
 has_name kind.Out = true
 has_name _ = false
-
-abbrev pub is_constant : Kind → Bool
-is_constant kind.Const = true
-is_constant _ = false
 
 -- the number and the kind
 abbrev pub head : ℕ → Kind → List (List ℕ)

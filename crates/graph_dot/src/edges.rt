@@ -7,9 +7,8 @@ ghost use Rattle.graph_picture.specs.Drawn.{wire_of, wires_of, wires_below};
 ghost use Rattle.graph_dot.specs.DotText.{node_name, edge_line, edge_end, constant_text, reading_text, wire_text};
 
 use crate::nodes::{then_constant, then_constant_name, then_node_name};
-use crate::words::is_constant;
 use gathered_line::Line;
-use graph_picture::{Colour, colour_of};
+use graph_picture::{Colour, colour_of, is_constant};
 use op_graph::{Graph, Op, reads_operation};
 use vcp_outside::Sink;
 use weight_audit::Weights;

@@ -3,13 +3,13 @@
 ghost use Rattle.std.specs.Prelude.{◌≡◌, ◌≤◌, ◌+◌, [], cond, length, flat_map};
 ghost use Rattle.gathered_line.specs.Gathering.{GathersTo};
 ghost use Rattle.graph_picture.specs.Colours.{colours};
-ghost use Rattle.graph_picture.specs.Drawn.{boxes_below};
-ghost use Rattle.graph_dot.specs.DotText.{node_name, constant_name, label, constant_label, is_constant as is_constant_of, node_line, node_end, box_text};
+ghost use Rattle.graph_picture.specs.Drawn.{boxes_below, is_constant as is_constant_of};
+ghost use Rattle.graph_dot.specs.DotText.{node_name, constant_name, label, constant_label, node_line, node_end, box_text};
 
 use crate::labels::{then_constant_label, then_label};
-use crate::words::{fill, is_constant, shape};
+use crate::words::{fill, shape};
 use gathered_line::Line;
-use graph_picture::{Colour, colour_of};
+use graph_picture::{Colour, colour_of, is_constant};
 use op_graph::{Graph, Op};
 use vcp_base::Kind;
 use vcp_outside::Sink;

@@ -1,7 +1,7 @@
 //! The shapes and the colours of nodes.
 
 ghost use Rattle.std.specs.Prelude.{◌≡◌};
-ghost use Rattle.graph_dot.specs.DotText.{has_name as has_name_of, is_constant as is_constant_of, shape_of, fill_of};
+ghost use Rattle.graph_dot.specs.DotText.{has_name as has_name_of, shape_of, fill_of};
 
 use graph_picture::Colour;
 use vcp_base::Kind;
@@ -12,16 +12,6 @@ pub(crate) fn has_name(kind: Kind) -> bool
 {
     match kind {
         Kind::Input | Kind::Load | Kind::Store | Kind::Out => true,
-        _ => false,
-    }
-}
-
-/// Whether operations of a kind are constants.
-pub(crate) fn is_constant(kind: Kind) -> bool
-    ensures { result ≡ is_constant_of kind }
-{
-    match kind {
-        Kind::Const => true,
         _ => false,
     }
 }

@@ -42,12 +42,17 @@ pub one_drawn : (e : Element) → flat_map element_text (e ∷ []) ≡ element_t
 one_drawn e = append-nil (element_text e)
 
 -- the text of a box's elements
-pub box_drawn_text : (o h w s : Element) (more last : List Element)
-    → flat_map element_text ((o ∷ h ∷ w ∷ s ∷ (more ++ last)) ++ [])
-    ≡ element_text o ++ (element_text h ++ (element_text w ++ (element_text s ++ (flat_map element_text more ++ flat_map element_text last))))
-box_drawn_text o h w s more last =
-    ap (flat_map element_text) (append-nil (o ∷ h ∷ w ∷ s ∷ (more ++ last)))
-    ∙ ap (λ t. element_text o ++ (element_text h ++ (element_text w ++ (element_text s ++ t)))) (flat_map-append element_text more last)
+pub body_drawn_text : (o h w s : Element) (more last a b c : List Element)
+    → flat_map element_text (o ∷ h ∷ w ∷ s ∷ (more ++ (last ++ (a ++ (b ++ c)))))
+    ≡ element_text o ++ (element_text h ++ (element_text w ++ (element_text s ++ (flat_map element_text more ++ (flat_map element_text last
+    ++ (flat_map element_text a ++ (flat_map element_text b ++ flat_map element_text c)))))))
+body_drawn_text o h w s more last a b c =
+    rw (
+      flat_map-append element_text more (last ++ (a ++ (b ++ c))),
+      flat_map-append element_text last (a ++ (b ++ c)),
+      flat_map-append element_text a (b ++ c),
+      flat_map-append element_text b c,
+    ) refl
 
 -- the text of what is drawn for things, thing by thing
 pub each_drawn : {X : Type 0} (h : X → List Element) (xs : List X) → drawn_text h xs ≡ flat_map (λ x. flat_map element_text (h x)) xs

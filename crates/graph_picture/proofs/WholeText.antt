@@ -1,9 +1,13 @@
 -- WholeText: no element of a picture has an attribute twice.
-use Rattle.std.proofs.Common.{ℕ, List, [], ◌∷◌, ◌++◌, Option, None, flat_map, codes, refl}
+use Rattle.std.proofs.Common.{ℕ, Bool, true, false, cond, List, [], ◌∷◌, ◌++◌, Option, None, Some, slice_get, flat_map, codes, refl}
+use Rattle.std.specs.Option.{is_some}
 use Rattle.std.specs.List.{AllByRecursion}
 use Rattle.vcp_base.specs.declared.kind.Kind.{Kind}
 use Rattle.vcp_base.specs.declared.kind.Kind.TheVariants as kind
+use Rattle.op_graph.specs.declared.op.Op.{Op}
 use Rattle.op_graph.specs.Lists.{Lists}
+use Rattle.op_graph.specs.Reads.{named}
+use Rattle.op_graph.specs.Rules.{reads_as}
 use Rattle.svg_text.specs.Elements.{Element}
 use Rattle.svg_text.specs.WellFormed.{HasEachOnce}
 use Rattle.graph_picture.specs.declared.colours.Colour.{Colour}
@@ -11,8 +15,9 @@ use Rattle.graph_picture.specs.declared.colours.Colour.TheVariants as colour
 use Rattle.graph_picture.specs.declared.layout.Place.{Place}
 use Rattle.graph_picture.specs.declared.looks.Look.{Look}
 use Rattle.graph_picture.specs.declared.looks.Look.TheVariants as look
-use Rattle.graph_picture.specs.Drawn.{Box, Drawing}
-use Rattle.graph_picture.specs.Elements.{blindness, note, cell_bar, box_elements, wire_elements, sample, audit_legend, drawing_elements}
+use Rattle.graph_picture.specs.Drawn.{Box, Wire, Drawing, is_constant, own_of}
+use Rattle.graph_picture.specs.Elements.{blindness, note, cell_bar, constant_elements, constant_of, constant_at, body_elements, box_elements}
+use Rattle.graph_picture.specs.Elements.{wire_element, line_from, wire_elements, sample, audit_legend, drawing_elements}
 
 abbrev All : List Element → Type 0
 All es = AllByRecursion HasEachOnce es
@@ -56,11 +61,39 @@ of_bar kind.Or p = tt
 of_bar kind.Xor p = tt
 of_bar kind.Sel p = tt
 
-of_box : (g : Lists) (b : Box Look) → All (box_elements g b)
-of_box g b = (
-  refl,
-  (refl, (refl, (refl, all_both (note g b.look b.place) (cell_bar b.op.kind b.place) (of_note g b.look b.place) (of_bar b.op.kind b.place)))),
-)
+all_if : (b : Bool) (xs ys : List Element) → All xs → All ys → All (cond b xs ys)
+all_if true xs ys h k = h
+all_if false xs ys h k = k
+
+module _ (g : Lists) (looks : ℕ → Look) where
+  of_constant : (p : Place) (which k : ℕ) (o : Option Op) → All (constant_of g looks p which k o)
+  of_constant p which k None = tt
+  of_constant p which k (Some op) =
+      all_if (is_constant op.kind) (constant_elements p which k (looks k) (own_of g op.kind op.imm)) [] (refl, (refl, tt)) tt
+
+  of_operand : (p : Place) (op : Op) (which : ℕ) → All (constant_at g looks p op which)
+  of_operand p op which =
+      all_if (is_some (reads_as op.kind op.from which)) (constant_of g looks p which (named op which) (slice_get g.operations (named op which))) []
+      (of_constant p which (named op which) (slice_get g.operations (named op which))) tt
+
+  of_body : (b : Box Look) → All (body_elements g looks b)
+  of_body b =
+      let first = constant_at g looks b.place b.op 0 in
+      let second = constant_at g looks b.place b.op 1 in
+      let third = constant_at g looks b.place b.op 2 in
+      let constants =
+      all_both first (second ++ third) (of_operand b.place b.op 0) (all_both second third (of_operand b.place b.op 1) (of_operand b.place b.op 2)) in
+      let bar = all_both (cell_bar b.op.kind b.place) (first ++ (second ++ third)) (of_bar b.op.kind b.place) constants in (
+        refl,
+        (refl, (refl, (refl, all_both (note g b.look b.place) (cell_bar b.op.kind b.place ++ (first ++ (second ++ third))) (of_note g b.look b.place) bar))),
+      )
+
+  of_box : (b : Box Look) → All (box_elements g looks b)
+  of_box b = all_if (is_constant b.op.kind) [] (body_elements g looks b) tt (of_body b)
+
+of_line : (w : Wire) (o : Option Op) → All (line_from w o)
+of_line w None = (refl, tt)
+of_line w (Some op) = all_if (is_constant op.kind) [] (wire_element w ∷ []) tt (refl, tt)
 
 of_sample : (x : ℕ) (class told : List ℕ) (many : Option ℕ) → All (sample x class told many)
 of_sample x class told many = (refl, (refl, tt))
@@ -78,8 +111,8 @@ of_audit_legend =
           (of_sample 672 (codes "cell") (codes "a cell's LOAD (left) or STORE (right)") None))),
     )
 
-pub each_once : (g : Lists) (legend : List Element) → All legend → (d : Drawing Look) → All (drawing_elements g legend d)
-each_once g legend once d =
-    all_both legend (flat_map wire_elements d.wires ++ flat_map (box_elements g) d.boxes) once
-    (all_both (flat_map wire_elements d.wires) (flat_map (box_elements g) d.boxes) (all_flat wire_elements (λ w. (refl, tt)) d.wires)
-    (all_flat (box_elements g) (of_box g) d.boxes))
+pub each_once : (g : Lists) (looks : ℕ → Look) (legend : List Element) → All legend → (d : Drawing Look) → All (drawing_elements g looks legend d)
+each_once g looks legend once d =
+    all_both legend (flat_map (wire_elements g) d.wires ++ flat_map (box_elements g looks) d.boxes) once
+    (all_both (flat_map (wire_elements g) d.wires) (flat_map (box_elements g looks) d.boxes)
+    (all_flat (wire_elements g) (λ w. of_line w (slice_get g.operations w.operand)) d.wires) (all_flat (box_elements g looks) (of_box g looks) d.boxes))

@@ -1,10 +1,14 @@
 -- Elements: how boxes and lines are drawn, and the text of the picture of a graph.
-use Rattle.std.specs.Prelude.{◌≡◌, ℕ, ◌+◌, ◌*◌, List, [], ◌∷◌, ◌++◌, Option, Some, None, codes, decimal, flat_map}
+use Rattle.std.specs.Prelude.{◌≡◌, ℕ, ◌+◌, ◌*◌, cond, List, [], ◌∷◌, ◌++◌, Option, Some, None, codes, decimal, flat_map, slice_get}
+use Rattle.std.specs.Option.{is_some}
 use Rattle.vcp_base.specs.declared.kind.Kind.{Kind}
 use Rattle.vcp_base.specs.declared.kind.Kind.TheVariants as kind
 use Rattle.vcp_base.specs.declared.spot.Spot.{Spot}
 use Rattle.vcp_base.specs.Spellings.{kind_name}
+use Rattle.op_graph.specs.declared.op.Op.{Op}
 use Rattle.op_graph.specs.Lists.{Lists}
+use Rattle.op_graph.specs.Reads.{named}
+use Rattle.op_graph.specs.Rules.{reads_as}
 use Rattle.weight_audit.specs.Audit.{Audit, IsAudit}
 use Rattle.svg_text.specs.declared.names.Tag.TheVariants as tag
 use Rattle.svg_text.specs.declared.names.Name.TheVariants as name
@@ -19,7 +23,7 @@ use Rattle.graph_picture.specs.declared.looks.Worst.{Worst}
 use Rattle.graph_picture.specs.declared.looks.Worst.TheVariants as worst
 use Rattle.graph_picture.specs.Arrangement.{Arrangement, IsArranged, left_of, top_of, box_width, box_height}
 use Rattle.run_report.specs.Variables.{output_name}
-use Rattle.graph_picture.specs.Drawn.{Box, Wire, Drawing, drawing}
+use Rattle.graph_picture.specs.Drawn.{Box, Wire, Drawing, drawing, is_constant, own_of}
 use Rattle.graph_picture.specs.Looks.{audit_looks}
 
 -- ---- boxes
@@ -87,10 +91,44 @@ cell_bar kind.Load p = bar (left_of p) (top_of p) ∷ []
 cell_bar kind.Store p = bar (left_of p + 92) (top_of p) ∷ []
 cell_bar _ p = []
 
-abbrev pub box_elements : Lists → Box Look → List Element
-box_elements g b =
+-- ---- constants
+
+-- a small rectangle in a box, for operand `which`, in the class of the look of this constant
+abbrev pub patch : Place → ℕ → ℕ → Look → Element
+patch p which k l = element tag.Rect
+    (attribute name.Operand (decimal k) ∷ attribute name.Place (decimal which) ∷ attribute name.Class (class_of l) ∷ attribute name.X (decimal (left_of p + 52))
+    ∷ attribute name.Y (decimal (top_of p + 2 + which * 11)) ∷ attribute name.Width (decimal 42) ∷ attribute name.Height (decimal 11) ∷ []) []
+
+-- the value in it
+abbrev pub patch_value : Place → ℕ → List ℕ → Element
+patch_value p which value = element tag.Text
+    (attribute name.X (decimal (left_of p + 54)) ∷ attribute name.Y (decimal (top_of p + 11 + which * 11)) ∷ []) (value ∷ [])
+
+-- a constant in the box of an operation that reads it as this operand
+abbrev pub constant_elements : Place → ℕ → ℕ → Look → List ℕ → List Element
+constant_elements p which k l value = patch p which k l ∷ patch_value p which value ∷ []
+
+-- the operand of an operation, where that is this constant
+abbrev pub constant_of : Lists → (ℕ → Look) → Place → ℕ → ℕ → Option Op → List Element
+constant_of g looks p which k None = []
+constant_of g looks p which k (Some op) = cond (is_constant op.kind) (constant_elements p which k (looks k) (own_of g op.kind op.imm)) []
+
+-- operand `which` of an operation, where that is a constant
+abbrev pub constant_at : Lists → (ℕ → Look) → Place → Op → ℕ → List Element
+constant_at g looks p op which =
+    cond (is_some (reads_as op.kind op.from which)) (constant_of g looks p which (named op which) (slice_get g.operations (named op which))) []
+
+-- ---- boxes of operations that are no constants
+
+abbrev pub body_elements : Lists → (ℕ → Look) → Box Look → List Element
+body_elements g looks b =
     outline b.number b.look b.place ∷ head b.number b.op.kind b.place ∷ own b.own b.place ∷ source b.op.spot b.place
-    ∷ (note g b.look b.place ++ cell_bar b.op.kind b.place)
+    ∷ (note g b.look b.place ++ (cell_bar b.op.kind b.place
+    ++ (constant_at g looks b.place b.op 0 ++ (constant_at g looks b.place b.op 1 ++ constant_at g looks b.place b.op 2))))
+
+-- a constant has no box of its own
+abbrev pub box_elements : Lists → (ℕ → Look) → Box Look → List Element
+box_elements g looks b = cond (is_constant b.op.kind) [] (body_elements g looks b)
 
 -- ---- lines
 
@@ -101,8 +139,13 @@ wire_element w = element tag.Line
     ∷ attribute name.X1 (decimal (left_of w.from + box_width)) ∷ attribute name.Y1 (decimal (top_of w.from + 25))
     ∷ attribute name.X2 (decimal (left_of w.to)) ∷ attribute name.Y2 (decimal (top_of w.to + 10 + w.which * 15)) ∷ []) []
 
-abbrev pub wire_elements : Wire → List Element
-wire_elements w = wire_element w ∷ []
+-- none comes from a constant
+abbrev pub line_from : Wire → Option Op → List Element
+line_from w None = wire_element w ∷ []
+line_from w (Some op) = cond (is_constant op.kind) [] (wire_element w ∷ [])
+
+abbrev pub wire_elements : Lists → Wire → List Element
+wire_elements g w = line_from w (slice_get g.operations w.operand)
 
 -- ---- the legend
 
@@ -146,12 +189,12 @@ audit_legend =
 
 -- ---- the picture
 
-abbrev pub drawing_elements : Lists → List Element → Drawing Look → List Element
-drawing_elements g legend d = legend ++ (flat_map wire_elements d.wires ++ flat_map (box_elements g) d.boxes)
+abbrev pub drawing_elements : Lists → (ℕ → Look) → List Element → Drawing Look → List Element
+drawing_elements g looks legend d = legend ++ (flat_map (wire_elements g) d.wires ++ flat_map (box_elements g looks) d.boxes)
 
 -- the picture of a graph with a legend, where its boxes look and stand so
 abbrev pub picture_of : Lists → (ℕ → Look) → List Element → Arrangement → List ℕ
-picture_of g looks legend l = picture_text l.width l.height (drawing_elements g legend (drawing g looks l.places))
+picture_of g looks legend l = picture_text l.width l.height (drawing_elements g looks legend (drawing g looks l.places))
 
 -- the picture of a graph, by what is kept of its weights up to a horizon, and by where the boxes stand
 abbrev pub graph_text : Lists → Audit → ℕ → Arrangement → List ℕ

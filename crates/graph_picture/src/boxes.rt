@@ -1,19 +1,20 @@
 //! The boxes of operations.
 
-ghost use Rattle.std.specs.Prelude.{◌≡◌, ◌<◌, ◌≤◌, [], ◌∷◌, codes, decimal, length, map, flat_map, slice_get};
+ghost use Rattle.std.specs.Prelude.{◌≡◌, ◌<◌, ◌≤◌, [], ◌∷◌, codes, decimal, length, map, flat_map};
 ghost use Rattle.gathered_line.specs.Gathering.{GathersTo};
 ghost use Rattle.svg_text.specs.Characters.{piece_bytes};
 ghost use Rattle.svg_text.specs.Elements.{element_text};
-ghost use Rattle.graph_picture.specs.Drawn.{box_drawn, boxes_below};
+ghost use Rattle.graph_picture.specs.Drawn.{box_of, boxes_below};
 ghost use Rattle.graph_picture.specs.Elements.{colour_class as colour_class_of, worst_class as worst_class_of, class_of};
-ghost use Rattle.graph_picture.specs.Elements.{outline, words, head, own, source, blindness, note, bar, cell_bar, box_elements};
+ghost use Rattle.graph_picture.specs.Elements.{outline, words, head, own, source, blindness, note, bar, cell_bar, body_elements, box_elements};
 
 use crate::colours::Colour;
+use crate::constants::then_constant_at;
 use crate::layout::{Layout, Place, left, top};
 use crate::looks::{Look, Looks, Worst};
-use crate::names::own_piece;
+use crate::names::{is_constant, own_piece};
 use gathered_line::Line;
-use op_graph::Graph;
+use op_graph::{Graph, Op};
 use run_report::variable_name;
 use svg_text::{Name, Piece, Tag, then_element};
 use vcp_base::{Kind, Spot, kind_name};
@@ -44,7 +45,7 @@ fn worst_class(worst: Worst) -> &'static [u8]
 }
 
 /// The class of a look.
-fn class(look: Look) -> &'static [u8]
+pub(crate) fn class(look: Look) -> &'static [u8]
     ensures { result.now ≡ class_of look }
 {
     match look {
@@ -236,19 +237,50 @@ fn then_cell_bar<O: Sink>(line: &mut Line, out: &mut O, kind: Kind, place: Place
     }
 }
 
-/// Draws the box of operation `n` with its look.
-fn then_box<O: Sink>(line: &mut Line, out: &mut O, graph: &Graph, n: u32, look: Look, place: Place)
-    requires { n < length graph.now.operations }
+/// Draws the box of operation `n`, which is no constant, with its look and the constants that it reads.
+fn then_body<O: Sink, L: Looks>(
+    line: &mut Line,
+    out: &mut O,
+    graph: &Graph,
+    looks: &L,
+    n: u32,
+    look: Look,
+    place: Place,
+    op: &Op,
+)
+    requires tells { L.IsFor looks.now graph.now }
     ensures { GathersTo (O.seen out.old) (O.seen out.new) line.old line.new
-        (flat_map element_text (flat_map (box_elements graph.now) (box_drawn graph.now n look place (slice_get graph.now.operations n)))) }
+        (flat_map element_text (body_elements graph.now (L.looks looks.now graph.now) (box_of graph.now n look place op.now))) }
 {
-    let op = graph.operation(n);
     then_outline(line, out, n, look, place);
     then_head(line, out, n, op.kind, place);
     then_own(line, out, own_piece(graph, op.kind, op.imm), place);
     then_source(line, out, op.spot, place);
     then_note(line, out, graph, look, place);
     then_cell_bar(line, out, op.kind, place);
+    then_constant_at(line, out, graph, looks, place, op, 0, op.a);
+    then_constant_at(line, out, graph, looks, place, op, 1, op.b);
+    then_constant_at(line, out, graph, looks, place, op, 2, op.c);
+}
+
+/// Draws the box of operation `n`, where it is no constant.
+fn then_box<O: Sink, L: Looks>(
+    line: &mut Line,
+    out: &mut O,
+    graph: &Graph,
+    looks: &L,
+    n: u32,
+    look: Look,
+    place: Place,
+    op: &Op,
+)
+    requires tells { L.IsFor looks.now graph.now }
+    ensures { GathersTo (O.seen out.old) (O.seen out.new) line.old line.new
+        (flat_map element_text (box_elements graph.now (L.looks looks.now graph.now) (box_of graph.now n look place op.now))) }
+{
+    if !is_constant(op.kind) {
+        then_body(line, out, graph, looks, n, look, place, op);
+    }
 }
 
 /// Draws the boxes of a graph's operations.
@@ -261,11 +293,12 @@ pub(crate) fn then_boxes<O: Sink, L: Looks>(
 )
     requires tells { L.IsFor looks.now graph.now }
     ensures { GathersTo (O.seen out.old) (O.seen out.new) line.old line.new
-        (flat_map element_text (flat_map (box_elements graph.now)
+        (flat_map element_text (flat_map (box_elements graph.now (L.looks looks.now graph.now))
         (boxes_below graph.now (L.looks looks.now graph.now) layout.now.places (length graph.now.operations)))) }
 {
     'operations: for n in 0..graph.len() {
         let look = looks.look(graph, n);
-        then_box(line, out, graph, n, look, layout.place(n));
+        let place = layout.place(n);
+        then_box(line, out, graph, looks, n, look, place, &graph.operation(n));
     }
 }

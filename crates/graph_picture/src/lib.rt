@@ -9,6 +9,7 @@
 mod boxes;
 mod colours;
 mod columns;
+mod constants;
 mod laws;
 mod layout;
 mod legend;
@@ -23,5 +24,5 @@ pub use laws::a_graph_is_drawn_whole;
 pub use layout::{Layout, Place, layout_of};
 pub use legend::Sample;
 pub use looks::{Look, Looks, Worst};
-pub use names::own_piece;
+pub use names::{is_constant, own_piece};
 pub use picture::{write_looks, write_picture};

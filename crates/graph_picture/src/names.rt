@@ -2,12 +2,22 @@
 
 ghost use Rattle.std.specs.Prelude.{◌≡◌, unsigned_abs};
 ghost use Rattle.svg_text.specs.Characters.{piece_bytes};
-ghost use Rattle.graph_picture.specs.Drawn.{own_of};
+ghost use Rattle.graph_picture.specs.Drawn.{is_constant as is_constant_of, own_of};
 
 use op_graph::Graph;
 use run_report::variable_name;
 use svg_text::Piece;
 use vcp_base::Kind;
+
+/// Whether operations of a kind are constants.
+pub fn is_constant(kind: Kind) -> bool
+    ensures { result ≡ is_constant_of kind }
+{
+    match kind {
+        Kind::Const => true,
+        _ => false,
+    }
+}
 
 /// An operation's own name or value, and nothing where it has none.
 pub fn own_piece<'a>(graph: &'a Graph, kind: Kind, imm: i64) -> Piece<'a>

@@ -5,9 +5,10 @@ ghost use Rattle.gathered_line.specs.Gathering.{GathersTo};
 ghost use Rattle.op_graph.specs.Reads.{named};
 ghost use Rattle.svg_text.specs.Elements.{element_text};
 ghost use Rattle.graph_picture.specs.Drawn.{wire_of, wires_of, wires_below};
-ghost use Rattle.graph_picture.specs.Elements.{wire_element, wire_elements};
+ghost use Rattle.graph_picture.specs.Elements.{wire_element, line_from, wire_elements};
 
 use crate::layout::{Layout, Place, left, top};
+use crate::names::is_constant;
 use gathered_line::Line;
 use op_graph::{Graph, Op, reads_operation};
 use svg_text::{Name, Piece, Tag, then_element};
@@ -45,10 +46,37 @@ fn then_line<O: Sink>(
     );
 }
 
+/// Draws the line from operation `operand`, unless that is a constant, to operation `reader`, which reads it as its operand `which`.
+fn then_line_from<O: Sink>(
+    line: &mut Line,
+    out: &mut O,
+    graph: &Graph,
+    operand: u32,
+    reader: u32,
+    which: u32,
+    from: Place,
+    to: Place,
+)
+    requires { which < 3 }
+    ensures { GathersTo (O.seen out.old) (O.seen out.new) line.old line.new
+        (flat_map element_text (line_from (record { operand = operand; reader = reader; which = which; from = from; to = to })
+        (slice_get graph.now.operations operand))) }
+{
+    if operand < graph.len() {
+        let op = graph.operation(operand);
+        if !is_constant(op.kind) {
+            then_line(line, out, operand, reader, which, from, to);
+        }
+    } else {
+        then_line(line, out, operand, reader, which, from, to);
+    }
+}
+
 /// Draws the line to operand `j` of operation `n`, which is operation `k`, where it is one.
 fn then_wire<O: Sink>(
     line: &mut Line,
     out: &mut O,
+    graph: &Graph,
     layout: &Layout,
     n: u32,
     op: &Op,
@@ -58,10 +86,10 @@ fn then_wire<O: Sink>(
     requires operand { j < 3 }
     requires names { named op.now j ≡ k }
     ensures { GathersTo (O.seen out.old) (O.seen out.new) line.old line.new
-        (flat_map element_text (flat_map wire_elements (wire_of layout.now.places n op.now j))) }
+        (flat_map element_text (flat_map (wire_elements graph.now) (wire_of layout.now.places n op.now j))) }
 {
     if reads_operation(op.kind, j) {
-        then_line(line, out, k, n, j, layout.place(k), layout.place(n));
+        then_line_from(line, out, graph, k, n, j, layout.place(k), layout.place(n));
     }
 }
 
@@ -69,18 +97,18 @@ fn then_wire<O: Sink>(
 fn then_operands<O: Sink>(line: &mut Line, out: &mut O, graph: &Graph, layout: &Layout, n: u32)
     requires { n < length graph.now.operations }
     ensures { GathersTo (O.seen out.old) (O.seen out.new) line.old line.new
-        (flat_map element_text (flat_map wire_elements (wires_of layout.now.places n (slice_get graph.now.operations n)))) }
+        (flat_map element_text (flat_map (wire_elements graph.now) (wires_of layout.now.places n (slice_get graph.now.operations n)))) }
 {
     let op = graph.operation(n);
-    then_wire(line, out, layout, n, &op, 0, op.a);
-    then_wire(line, out, layout, n, &op, 1, op.b);
-    then_wire(line, out, layout, n, &op, 2, op.c);
+    then_wire(line, out, graph, layout, n, &op, 0, op.a);
+    then_wire(line, out, graph, layout, n, &op, 1, op.b);
+    then_wire(line, out, graph, layout, n, &op, 2, op.c);
 }
 
 /// Draws the lines to the operands of a graph's operations.
 pub(crate) fn then_wires<O: Sink>(line: &mut Line, out: &mut O, graph: &Graph, layout: &Layout)
     ensures { GathersTo (O.seen out.old) (O.seen out.new) line.old line.new
-        (flat_map element_text (flat_map wire_elements (wires_below graph.now layout.now.places (length graph.now.operations)))) }
+        (flat_map element_text (flat_map (wire_elements graph.now) (wires_below graph.now layout.now.places (length graph.now.operations)))) }
 {
     'operations: for n in 0..graph.len() {
         then_operands(line, out, graph, layout, n);

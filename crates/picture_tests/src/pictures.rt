@@ -72,7 +72,6 @@ const COUNTER: &str = "\
 <rect x=\"672\" y=\"8\" width=\"14\" height=\"14\" class=\"cell\"></rect>
 <text x=\"692\" y=\"20\">a cell&#39;s LOAD (left) or STORE (right)</text>
 <line data-operand=\"0\" data-reader=\"2\" data-place=\"0\" x1=\"104\" y1=\"65\" x2=\"116\" y2=\"50\"></line>
-<line data-operand=\"1\" data-reader=\"2\" data-place=\"1\" x1=\"104\" y1=\"123\" x2=\"116\" y2=\"65\"></line>
 <line data-operand=\"2\" data-reader=\"3\" data-place=\"0\" x1=\"212\" y1=\"65\" x2=\"224\" y2=\"50\"></line>
 <line data-operand=\"2\" data-reader=\"4\" data-place=\"0\" x1=\"212\" y1=\"65\" x2=\"224\" y2=\"108\"></line>
 <rect data-operation=\"0\" class=\"plain\" x=\"8\" y=\"40\" width=\"96\" height=\"50\"></rect>
@@ -80,14 +79,12 @@ const COUNTER: &str = "\
 <text x=\"13\" y=\"63\">n</text>
 <text x=\"13\" y=\"74\">at 3:5</text>
 <rect class=\"cell\" x=\"8\" y=\"40\" width=\"4\" height=\"50\"></rect>
-<rect data-operation=\"1\" class=\"plain\" x=\"8\" y=\"98\" width=\"96\" height=\"50\"></rect>
-<text x=\"13\" y=\"110\">1 CONST</text>
-<text x=\"13\" y=\"121\">1</text>
-<text x=\"13\" y=\"132\">at 4:8</text>
 <rect data-operation=\"2\" class=\"plain\" x=\"116\" y=\"40\" width=\"96\" height=\"50\"></rect>
 <text x=\"121\" y=\"52\">2 ADD</text>
 <text x=\"121\" y=\"63\"></text>
 <text x=\"121\" y=\"74\">at 4:8</text>
+<rect data-operand=\"1\" data-place=\"1\" class=\"plain\" x=\"168\" y=\"53\" width=\"42\" height=\"11\"></rect>
+<text x=\"170\" y=\"62\">1</text>
 <rect data-operation=\"3\" class=\"plain\" x=\"224\" y=\"40\" width=\"96\" height=\"50\"></rect>
 <text x=\"229\" y=\"52\">3 OUT</text>
 <text x=\"229\" y=\"63\">y</text>

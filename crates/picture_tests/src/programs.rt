@@ -11,13 +11,13 @@ use worked_programs::{COUNTER, CROSSING, call, cells, same, word_off, words_of};
 
 /// A program and a horizon => how many boxes, lines, grey boxes and red boxes the picture has.
 const PICTURES: &str = "\
-sum.st 0 => 4 3 0 0
-counter.st 0 => 5 4 1 0
-counter.st 1 => 5 4 0 0
+sum.st 0 => 3 2 0 0
+counter.st 0 => 4 3 1 0
+counter.st 1 => 4 3 0 0
 difference.st 0 => 3 3 0 1
 difference.st 1000 => 3 3 0 1
 cell.st 2 => 4 3 4 0
-crossing.st 2 => 50 81 0 0
+crossing.st 2 => 46 61 0 0
 ";
 
 const SUM: &[u8] =

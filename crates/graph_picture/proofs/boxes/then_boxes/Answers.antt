@@ -1,7 +1,10 @@
-use Rattle.std.proofs.Common.{◌≡◌, length, arith}
-use Rattle.graph_picture.specs.Drawn.{box_at}
+use Rattle.std.proofs.Common.{◌≡◌, ◌∙◌, ap, length, arith, flat_map}
+use Rattle.std.proofs.lemmas.List.{append-nil}
+use Rattle.svg_text.specs.Elements.{element_text}
+use Rattle.graph_picture.specs.Arrangement.{place_at}
+use Rattle.graph_picture.specs.Drawn.{box_of, box_drawn, box_at}
 use Rattle.graph_picture.specs.Elements.{box_elements}
-use Rattle.graph_picture.proofs.Going.{both, one_more, unmoved}
+use Rattle.graph_picture.proofs.Going.{both, same, one_more, unmoved, drawn_text}
 use Rattle.graph_picture.proofs.boxes.then_boxes.Goals as goal
 
 pub operations-init : goal.operations-init
@@ -9,9 +12,14 @@ operations-init g c = unmoved
 
 pub operations-preserved : goal.operations-preserved
 operations-preserved g c =
-    let boxes = box_at c.args.graph.now (g.L.Looks.looks c.args.looks.now c.args.graph.now) c.args.layout.now.places in
-    let drawn = rw (c.look-look.ensures, c.place.ensures) at c.then_box.ensures in
-    both _ _ _ c.operations.invariant drawn (one_more (box_elements c.args.graph.now) boxes c.operations.n)
+    let graph = c.args.graph.now in
+    let n = c.operations.n in
+    let looks = g.L.Looks.looks c.args.looks.now graph in
+    let places = c.args.layout.now.places in
+    let drawn = rw (c.look-look.ensures, c.place-place.ensures) at c.then_box.ensures in
+    let one = ap (λ o. drawn_text (box_elements graph looks) (box_drawn graph n (looks n) (place_at places n) o)) c.operation.ensures
+    ∙ ap (flat_map element_text) (append-nil (box_elements graph looks (box_of graph n (looks n) (place_at places n) c.operation.result))) in
+    both _ _ _ c.operations.invariant (same drawn one) (one_more (box_elements graph looks) (box_at graph looks places) n)
 
 pub returns : goal.returns
 returns g c =

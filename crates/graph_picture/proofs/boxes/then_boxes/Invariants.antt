@@ -7,4 +7,6 @@ use Rattle.graph_picture.proofs.boxes.then_boxes.Given as goal
 
 abbrev pub invariant-operations : goal.invariant-operations
 invariant-operations g l = GathersTo (g.O.Sink.seen l.fn.out) (g.O.Sink.seen l.out)
-    l.fn.line l.line (flat_map element_text (flat_map (box_elements l.graph) (boxes_below l.graph (g.L.Looks.looks l.looks l.graph) l.layout.places l.n)))
+    l.fn.line l.line
+    (flat_map element_text
+    (flat_map (box_elements l.graph (g.L.Looks.looks l.looks l.graph)) (boxes_below l.graph (g.L.Looks.looks l.looks l.graph) l.layout.places l.n)))

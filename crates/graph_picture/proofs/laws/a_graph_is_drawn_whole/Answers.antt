@@ -32,9 +32,11 @@ returns-clause-colours_whole c g horizon a places is =
 
 pub returns-clause-well_formed : goal.returns-clause-well_formed
 returns-clause-well_formed c g looks legend l once =
-    let d = drawing g looks l.places in c.pictures_are_well_formed.ensures l.width l.height (drawing_elements g legend d) (each_once g legend once d)
+    let d = drawing g looks l.places in
+    c.pictures_are_well_formed.ensures l.width l.height (drawing_elements g looks legend d) (each_once g looks legend once d)
 
 pub returns-clause-audit_well_formed : goal.returns-clause-audit_well_formed
 returns-clause-audit_well_formed c g horizon a l =
-    let d = drawing g (audit_looks g a (horizon + 1)) l.places in
-    c.pictures_are_well_formed.ensures l.width l.height (drawing_elements g audit_legend d) (each_once g audit_legend of_audit_legend d)
+    let looks = audit_looks g a (horizon + 1) in
+    let d = drawing g looks l.places in
+    c.pictures_are_well_formed.ensures l.width l.height (drawing_elements g looks audit_legend d) (each_once g looks audit_legend of_audit_legend d)

@@ -9,9 +9,10 @@ pub returns : goal.returns
 returns g c =
     let graph = c.args.graph.now in
     let l = c.args.layout.now in
-    let d = drawing graph (g.L.Looks.looks c.args.looks.now graph) l.places in
+    let looks = g.L.Looks.looks c.args.looks.now graph in
+    let d = drawing graph looks l.places in
     let legend = legend_of c.args.rules.now c.args.samples.now in
     let begun = rw (c.width.ensures, c.height.ensures) at c.begin_picture-line.ensures in
     let all = c.then_boxes.ensures _ _ _ (c.then_wires.ensures _ _ _ (c.then_legend.ensures _ _ _ begun)) in
-    rw (parts (beginning l.width l.height) ending legend (flat_map wire_elements d.wires) (flat_map (box_elements graph) d.boxes))
+    rw (parts (beginning l.width l.height) ending legend (flat_map (wire_elements graph) d.wires) (flat_map (box_elements graph looks) d.boxes))
     (c.end_picture.ensures _ _ _ all)

@@ -14,4 +14,5 @@ returns g c =
     let third = wire_of places c.args.n op 2 in
     rw c.operation-op.ensures
     (same all
-    (drawn_more wire_elements first (second ++ third) ∙ ap (λ t. drawn_text wire_elements first ++ t) (drawn_more wire_elements second third)))
+    (drawn_more (wire_elements c.args.graph.now) first (second ++ third)
+    ∙ ap (λ t. drawn_text (wire_elements c.args.graph.now) first ++ t) (drawn_more (wire_elements c.args.graph.now) second third)))

@@ -9,7 +9,8 @@ operations-init g c = unmoved
 
 pub operations-preserved : goal.operations-preserved
 operations-preserved g c =
-    both _ _ _ c.operations.invariant c.then_operands.ensures (one_more wire_elements (wires_at c.args.graph.now c.args.layout.now.places) c.operations.n)
+    both _ _ _ c.operations.invariant c.then_operands.ensures
+    (one_more (wire_elements c.args.graph.now) (wires_at c.args.graph.now c.args.layout.now.places) c.operations.n)
 
 pub returns : goal.returns
 returns g c =

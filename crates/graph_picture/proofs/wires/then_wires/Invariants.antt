@@ -7,4 +7,4 @@ use Rattle.graph_picture.proofs.wires.then_wires.Given as goal
 
 abbrev pub invariant-operations : goal.invariant-operations
 invariant-operations g l = GathersTo (g.O.Sink.seen l.fn.out) (g.O.Sink.seen l.out)
-    l.fn.line l.line (flat_map element_text (flat_map wire_elements (wires_below l.graph l.layout.places l.n)))
+    l.fn.line l.line (flat_map element_text (flat_map (wire_elements l.graph) (wires_below l.graph l.layout.places l.n)))

@@ -1,0 +1,123 @@
+//! Constants in the boxes of operations that read them.
+
+ghost use Rattle.std.specs.Prelude.{◌≡◌, ◌<◌, length, flat_map, slice_get};
+ghost use Rattle.gathered_line.specs.Gathering.{GathersTo};
+ghost use Rattle.op_graph.specs.Reads.{named};
+ghost use Rattle.svg_text.specs.Characters.{piece_bytes};
+ghost use Rattle.svg_text.specs.Elements.{element_text};
+ghost use Rattle.graph_picture.specs.Drawn.{own_of};
+ghost use Rattle.graph_picture.specs.Elements.{patch, patch_value, constant_elements, constant_of, constant_at};
+
+use crate::boxes::class;
+use crate::layout::{Place, left, top};
+use crate::looks::{Look, Looks};
+use crate::names::{is_constant, own_piece};
+use gathered_line::Line;
+use op_graph::{Graph, Op, reads_operation};
+use svg_text::{Name, Piece, Tag, then_element};
+use vcp_outside::Sink;
+
+/// Draws the small rectangle of constant `k` in a box that stands so, for operand `which`.
+fn then_patch<O: Sink>(line: &mut Line, out: &mut O, place: Place, which: u32, k: u32, look: Look)
+    requires { which < 3 }
+    ensures { GathersTo (O.seen out.old) (O.seen out.new) line.old line.new (element_text (patch place which k look)) }
+{
+    then_element(
+        line,
+        out,
+        Tag::Rect,
+        &[
+            (Name::Operand, Piece::Count(k as u64)),
+            (Name::Place, Piece::Count(which as u64)),
+            (Name::Class, Piece::Bytes(class(look))),
+            (Name::X, Piece::Count(left(place) + 52)),
+            (Name::Y, Piece::Count(top(place) + 2 + which as u64 * 11)),
+            (Name::Width, Piece::Count(42)),
+            (Name::Height, Piece::Count(11)),
+        ],
+        &[],
+    );
+}
+
+/// Draws the value in it.
+fn then_value<O: Sink>(line: &mut Line, out: &mut O, place: Place, which: u32, value: Piece<'_>)
+    requires { which < 3 }
+    ensures { GathersTo (O.seen out.old) (O.seen out.new) line.old line.new
+        (element_text (patch_value place which (piece_bytes value.entry))) }
+{
+    then_element(
+        line,
+        out,
+        Tag::Text,
+        &[
+            (Name::X, Piece::Count(left(place) + 54)),
+            (Name::Y, Piece::Count(top(place) + 11 + which as u64 * 11)),
+        ],
+        &[value],
+    );
+}
+
+/// Draws constant `k`, which is this operation, in a box that stands so, as operand `which`.
+fn then_constant<O: Sink>(
+    line: &mut Line,
+    out: &mut O,
+    graph: &Graph,
+    place: Place,
+    which: u32,
+    k: u32,
+    look: Look,
+    op: &Op,
+)
+    requires { which < 3 }
+    ensures { GathersTo (O.seen out.old) (O.seen out.new) line.old line.new
+        (flat_map element_text (constant_elements place which k look (own_of graph.now op.now.kind op.now.imm))) }
+{
+    then_patch(line, out, place, which, k, look);
+    then_value(line, out, place, which, own_piece(graph, op.kind, op.imm));
+}
+
+/// Draws operation `k` in a box that reads it as operand `which`, where it is a constant.
+fn then_constant_of<O: Sink, L: Looks>(
+    line: &mut Line,
+    out: &mut O,
+    graph: &Graph,
+    looks: &L,
+    place: Place,
+    which: u32,
+    k: u32,
+)
+    requires operand { which < 3 }
+    requires tells { L.IsFor looks.now graph.now }
+    ensures { GathersTo (O.seen out.old) (O.seen out.new) line.old line.new
+        (flat_map element_text (constant_of graph.now (L.looks looks.now graph.now) place which k (slice_get graph.now.operations k))) }
+{
+    if k < graph.len() {
+        let op = graph.operation(k);
+        if is_constant(op.kind) {
+            let look = looks.look(graph, k);
+            then_constant(line, out, graph, place, which, k, look, &op);
+        }
+    }
+}
+
+/// Draws operand `which` of an operation, which is operation `k`, where that is a constant.
+pub(crate) fn then_constant_at<O: Sink, L: Looks>(
+    line: &mut Line,
+    out: &mut O,
+    graph: &Graph,
+    looks: &L,
+    place: Place,
+    op: &Op,
+    which: u32,
+    k: u32,
+)
+    requires operand { which < 3 }
+    requires names { named op.now which ≡ k }
+    requires tells { L.IsFor looks.now graph.now }
+    ensures { GathersTo (O.seen out.old) (O.seen out.new) line.old line.new
+        (flat_map element_text (constant_at graph.now (L.looks looks.now graph.now) place op.now which)) }
+{
+    if reads_operation(op.kind, which) {
+        then_constant_of(line, out, graph, looks, place, which, k);
+    }
+}
