@@ -34,7 +34,6 @@ dot m.img 1001 => 4 usage
 dot m.img 1 2 => 4 usage
 dot no.img 0 => 5 no.img read fault
 dot p.st 0 => 1 p.st:0 I1 Magic
-dot m.img 1000 => 0
 waves => 4 usage
 waves -m => 4 usage
 waves no.csv => 5 no.csv read fault
