@@ -29,8 +29,14 @@ _vcp_study() {
     local word=${COMP_WORDS[COMP_CWORD]}
     case $COMP_CWORD:${COMP_WORDS[1]} in
     1:*) mapfile -t COMPREPLY < <(compgen -W "$_vcp_study_commands" -- "$word") ;;
-    2:* | 3:sum | 4:sum | 3:faults | 4:faults | 3:script) mapfile -t COMPREPLY < <(compgen -f -- "$word") ;;
+    2:* | 3:faults | 4:faults | 3:script) mapfile -t COMPREPLY < <(compgen -f -- "$word") ;;
     3:ranges) mapfile -t COMPREPLY < <(compgen -W '--all' -- "$word") ;;
+    3:sum | 4:sum | 5:sum)
+        case $word in
+        -*) mapfile -t COMPREPLY < <(compgen -W '--cycles' -- "$word") ;;
+        *) mapfile -t COMPREPLY < <(compgen -f -- "$word") ;;
+        esac
+        ;;
     3:sites)
         case $word in
         -*) mapfile -t COMPREPLY < <(compgen -W '--count --cycles' -- "$word") ;;

@@ -13,7 +13,7 @@ use worked_programs::{cells, same, word_off, words_of};
 const USAGE: &[u8] =
     b"usage: vcp_study graph M HORIZON, dot M HORIZON, waves FILE, ranges M, ranges M --all, sites M CYCLES CLASS, \
     sites M CYCLES CLASS FROM COUNT, sites M CYCLES CLASS --count, sites M ROWS flips, sites M ROWS flips FROM COUNT, \
-    sites M ROWS flips --count, sum M SCRIPT VERDICTS, \
+    sites M ROWS flips --count, sum M SCRIPT VERDICTS, sum M SCRIPT VERDICTS ROWS, \
     faults M SCRIPT VERDICTS or script M NAMED";
 
 /// Words => the status, and the line of errors; `usage` is the usage line. An image stands under `m.img`, and a source under `p.st`.
@@ -65,12 +65,17 @@ sites m.img --cycles 3 flips --count => 1 --cycles R4 Form
 sites m.img p.st flips 0 10 => 1 p.st:1 R1 Header
 sum m.img => 4 usage
 sum m.img p.st => 4 usage
-sum m.img p.st p.st 0 => 4 usage
+sum m.img p.st p.st p.st 0 => 4 usage
+sum m.img p.st p.st --cycles => 4 usage
 sum m.img -s p.st => 4 usage
 sum no.img p.st p.st => 5 no.img read fault
 sum p.st p.st p.st => 1 p.st:0 I1 Magic
 sum m.img no.txt p.st => 5 no.txt read fault
 sum m.img p.st p.st => 1 p.st:1 F1 Form
+sum no.img p.st p.st no.csv => 5 no.img read fault
+sum m.img p.st p.st no.csv => 5 no.csv read fault
+sum m.img p.st p.st p.st => 1 p.st:1 R1 Header
+sum m.img p.st p.st --cycles 3 => 1 --cycles R4 Form
 faults m.img p.st => 4 usage
 faults m.img p.st p.st 0 => 4 usage
 faults no.img p.st p.st => 5 no.img read fault

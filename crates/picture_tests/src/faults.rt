@@ -48,7 +48,26 @@ const SUM: &[u8] = b"  faults    same   wrong  ran-on refused stopped  by what t
 faults 2 same 0 wrong 1 ran-on 0 refused 1 stopped 0
 ";
 
-/// The picture of the last of these.
+/// What is told of the groups where both show nowhere.
+const TOLD: &[u8] = b"1 same\n4 same\nfaults 2 same 2 wrong 0 ran-on 0 refused 0 stopped 0\n";
+
+/// The tables of these over one row: there is no cell, and no second cycle.
+const APART: &str = "  faults    same   wrong  ran-on refused stopped  by what the fault does
+       1       1       0       0       0       0  operand add
+       1       1       0       0       0       0  result add
+       1       1       0       0       0       0  skip
+  faults    same   wrong  ran-on refused stopped  by where it stands
+       2       2       0       0       0       0  operation 2 ADD at 4:8
+       1       1       0       0       0       0  operation 3 OUT y at 2:11
+  faults    same   wrong  ran-on refused stopped  by where it shows
+  faults    same   wrong  ran-on refused stopped  by how many cycles later it shows
+  faults    same   wrong  ran-on refused stopped  by how it ends where it shows nowhere
+       1       1       0       0       0       0  never reached
+       1       1       0       0       0       0  died out
+faults 2 same 2 wrong 0 ran-on 0 refused 0 stopped 0
+";
+
+/// The picture of the last of the rows above.
 const DRAWN: &str = "\
 <svg xmlns=\"http://www.w3.org/2000/svg\" width=\"980\" height=\"156\" viewBox=\"0 0 980 156\">
 <style>text{font:9px monospace}rect{stroke:#333;fill:#fff}line{stroke:#888}.wrong{fill:#f66}.ran-on{fill:#fa6} \
@@ -188,6 +207,16 @@ fn verdicts_are_counted_in_tables(rt: HostRuntime) -> Result<(), Fail> {
         "1 o.txt:1 U1 Image",
     )?;
     Ok(())
+}
+
+#[test]
+fn verdicts_that_are_the_same_are_told_apart(rt: HostRuntime) -> Result<(), Fail> {
+    let alloc = rt.alloc();
+    let mut files = files_of(alloc)?;
+    files.put(b"v.txt", TOLD)?;
+    files.put(b"r.csv", b"x\n5\n")?;
+    let apart = written(alloc, &mut files, "sum", "m.img s.txt v.txt r.csv", "0")?;
+    same(from_utf8(apart.bytes())?, APART)
 }
 
 #[test]

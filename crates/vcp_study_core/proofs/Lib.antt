@@ -1,3 +1,4 @@
+mod ApartReaching
 mod FlipsReaching
 mod RangesReaching
 mod Reaching

@@ -6,8 +6,9 @@ use Rattle.vcp_outside.specs.Held.{Held}
 use Rattle.vcp_outside.specs.Seen.{FilesSeen, SinkSeen}
 use Rattle.vcp_outside.specs.Written.{AppendsPart}
 use Rattle.vcp_study_core.specs.declared.fault.Fault.{Fault}
-use Rattle.vcp_study_core.specs.Forms.{Form, graph, dot, waves, ranges, sites, flips, sum, faults, script_named, file_of, usage_text}
+use Rattle.vcp_study_core.specs.Forms.{Form, graph, dot, waves, ranges, sites, flips, sum, sum_apart, faults, script_named, file_of, usage_text}
 use Rattle.vcp_study_core.specs.Reach.{ReachesGraph, ReachesDot, fault_text, fault_status}
+use Rattle.vcp_study_core.specs.ApartReach.{ReachesApart}
 use Rattle.vcp_study_core.specs.FlipsReach.{ReachesFlips}
 use Rattle.vcp_study_core.specs.RangesReach.{ReachesRanges}
 use Rattle.vcp_study_core.specs.RunReach.{ReachesRun}
@@ -38,6 +39,8 @@ Reaches (sites m cycles classes which) held files later out now result =
 Reaches (flips m rows which) held files later out now result = ReachesFlips m rows which held out.written now.written files.broken later.broken result
 Reaches (sum m script verdicts) held files later out now result =
     ReachesSum m script verdicts held out.written now.written files.broken later.broken result
+Reaches (sum_apart m script verdicts rows) held files later out now result =
+    ReachesApart m rows script verdicts held out.written now.written files.broken later.broken result
 Reaches (faults m script verdicts) held files later out now result =
     ReachesFaults m script verdicts held out.written now.written files.broken later.broken result
 Reaches (script_named m named) held files later out now result = ReachesNames m named held out.written now.written files.broken later.broken result

@@ -25,6 +25,7 @@ pub data Form : Type 0 where
   sites : List ℕ → ℕ → Classes → Chosen → Form
   flips : List ℕ → Rows → Chosen → Form
   sum : List ℕ → List ℕ → List ℕ → Form
+  sum_apart : List ℕ → List ℕ → List ℕ → Rows → Form
   faults : List ℕ → List ℕ → List ℕ → Form
   script_named : List ℕ → List ℕ → Form
 
@@ -95,10 +96,21 @@ told_form f words =
     option_and_then (λ m. option_and_then (λ s. option_and_then (λ v. at_end (f m.0 s.0 v.0) v.1) (name_and_rest s.1)) (name_and_rest m.1))
     (name_and_rest words)
 
--- the words of `sum` and of `faults`
-abbrev pub sum_form : List (List ℕ) → Option Form
-sum_form words = told_form sum words
+-- behind M, SCRIPT and VERDICTS of `sum`: ROWS
+abbrev pub apart_form : List ℕ → List ℕ → List ℕ → List (List ℕ) → Option Form
+apart_form m script verdicts rest = option_and_then (λ r. at_end (sum_apart m script verdicts r.0) r.1) (rows_and_rest rest)
 
+-- or no more words
+abbrev pub behind_sum : List ℕ → List ℕ → List ℕ → List (List ℕ) → Option Form
+behind_sum m script verdicts rest = cond (is_end rest) (Some (sum m script verdicts)) (apart_form m script verdicts rest)
+
+-- the words of `sum`
+abbrev pub sum_form : List (List ℕ) → Option Form
+sum_form words =
+    option_and_then (λ m. option_and_then (λ s. option_and_then (λ v. behind_sum m.0 s.0 v.0 v.1) (name_and_rest s.1)) (name_and_rest m.1))
+    (name_and_rest words)
+
+-- the words of `faults`
 abbrev pub faults_form : List (List ℕ) → Option Form
 faults_form words = told_form faults words
 
@@ -128,6 +140,7 @@ form (command.Ranges image all) = ranges image.now all
 form (command.Sites image cycles classes which) = sites image.now cycles classes which
 form (command.Flips image rows which) = flips image.now (rows_of rows) which
 form (command.Sum image script verdicts) = sum image.now script.now verdicts.now
+form (command.SumApart image script verdicts rows) = sum_apart image.now script.now verdicts.now (rows_of rows)
 form (command.Faults image script verdicts) = faults image.now script.now verdicts.now
 form (command.Script image named) = script_named image.now named.now
 
@@ -149,6 +162,8 @@ file_of (sites m cycles classes which) e = m
 file_of (flips m rows which) (fault.Rows i) = rows_name rows
 file_of (flips m rows which) e = m
 file_of (sum m script verdicts) e = told_file m script verdicts e
+file_of (sum_apart m script verdicts rows) (fault.Rows i) = rows_name rows
+file_of (sum_apart m script verdicts rows) e = told_file m script verdicts e
 file_of (faults m script verdicts) e = told_file m script verdicts e
 file_of (script_named m named) (fault.Script i) = named
 file_of (script_named m named) (fault.Named r) = named
@@ -160,8 +175,9 @@ IsSound (graph m horizon) = horizon ≤ most_horizon
 IsSound (dot m horizon) = horizon ≤ most_horizon
 IsSound (sites m cycles classes which) = cycles ≤ most_cycles
 IsSound (flips m rows which) = AreFew rows
+IsSound (sum_apart m script verdicts rows) = AreFew rows
 IsSound _ = Unit {0}
 
 -- the usage line
 abbrev pub usage_text : List ℕ
-usage_text = codes "usage: vcp_study graph M HORIZON, dot M HORIZON, waves FILE, ranges M, ranges M --all, sites M CYCLES CLASS, sites M CYCLES CLASS FROM COUNT, sites M CYCLES CLASS --count, sites M ROWS flips, sites M ROWS flips FROM COUNT, sites M ROWS flips --count, sum M SCRIPT VERDICTS, faults M SCRIPT VERDICTS or script M NAMED\n"
+usage_text = codes "usage: vcp_study graph M HORIZON, dot M HORIZON, waves FILE, ranges M, ranges M --all, sites M CYCLES CLASS, sites M CYCLES CLASS FROM COUNT, sites M CYCLES CLASS --count, sites M ROWS flips, sites M ROWS flips FROM COUNT, sites M ROWS flips --count, sum M SCRIPT VERDICTS, sum M SCRIPT VERDICTS ROWS, faults M SCRIPT VERDICTS or script M NAMED\n"

@@ -1,4 +1,5 @@
 pub mod Answered
+pub mod ApartReach
 pub mod FlipsReach
 pub mod Forms
 pub mod RangesReach

@@ -8,8 +8,8 @@ ghost use Rattle.vcp_study_core.specs.Forms.{ranges_form, all_of, IsSound};
 ghost use Rattle.vcp_study_core.specs.Forms.{faults_form, told_file as told_file_of};
 ghost use Rattle.vcp_words.specs.Forms.{rows_of, AreFew};
 ghost use Rattle.vcp_words.specs.Tables.{rows_name as rows_name_of};
-ghost use Rattle.vcp_study_core.specs.Forms.{sites_form, behind_form, class_form, cycles_in as cycles_in_of, flips, sum_form, script_form, chosen_of};
-ghost use Rattle.vcp_study_core.specs.Forms.{number_word, part_of};
+ghost use Rattle.vcp_study_core.specs.Forms.{sites_form, behind_form, class_form, cycles_in as cycles_in_of, flips, sum_form, apart_form, script_form};
+ghost use Rattle.vcp_study_core.specs.Forms.{chosen_of, number_word, part_of};
 
 use crate::fault::Fault;
 use fault_sites::{Classes, Part, classes_named};
@@ -75,6 +75,17 @@ pub enum Command<'a> {
         /// The name of what was printed on it.
         verdicts: &'a Text,
     },
+    /// `sum M SCRIPT VERDICTS ROWS`: the same with those that are `same` told apart by runs over ROWS.
+    SumApart {
+        /// The name of the image, M.
+        image: &'a Text,
+        /// The name of the script.
+        script: &'a Text,
+        /// The name of what was printed on it.
+        verdicts: &'a Text,
+        /// ROWS.
+        rows: RowsWord<'a>,
+    },
     /// `faults M SCRIPT VERDICTS`: the picture of the image's graph by the same.
     Faults {
         /// The name of the image, M.
@@ -134,6 +145,15 @@ impl Command<'_> {
                 script,
                 verdicts,
             } => told_file(image, script, verdicts, fault),
+            Command::SumApart {
+                image,
+                script,
+                verdicts,
+                rows,
+            } => match fault {
+                Fault::Rows(_) => rows_name(*rows),
+                _ => told_file(image, script, verdicts, fault),
+            },
             Command::Faults {
                 image,
                 script,
@@ -370,7 +390,29 @@ fn sites_words<'a>(words: &mut WordsLeft<'a>) -> Option<Command<'a>>
     behind_words(image, rows, words)
 }
 
-/// The words of `sum`: M, SCRIPT and VERDICTS.
+/// ROWS behind M, SCRIPT and VERDICTS of `sum`.
+fn apart_words<'a>(
+    image: &'a Text,
+    script: &'a Text,
+    verdicts: &'a Text,
+    words: &mut WordsLeft<'a>,
+) -> Option<Command<'a>>
+    ensures form { option_map form result ≡ apart_form image.now script.now verdicts.now words.old }
+    ensures sound { IfSome result (λ command. IsSound (form command)) }
+{
+    let rows = words.rows()?;
+    if !words.is_end() {
+        return None;
+    }
+    Some(Command::SumApart {
+        image,
+        script,
+        verdicts,
+        rows,
+    })
+}
+
+/// The words of `sum`: M, SCRIPT and VERDICTS, and ROWS where there are more words.
 fn sum_words<'a>(words: &mut WordsLeft<'a>) -> Option<Command<'a>>
     ensures form { option_map form result ≡ sum_form words.old }
     ensures sound { IfSome result (λ command. IsSound (form command)) }
@@ -378,14 +420,14 @@ fn sum_words<'a>(words: &mut WordsLeft<'a>) -> Option<Command<'a>>
     let image = words.name()?;
     let script = words.name()?;
     let verdicts = words.name()?;
-    if !words.is_end() {
-        return None;
+    if words.is_end() {
+        return Some(Command::Sum {
+            image,
+            script,
+            verdicts,
+        });
     }
-    Some(Command::Sum {
-        image,
-        script,
-        verdicts,
-    })
+    apart_words(image, script, verdicts, words)
 }
 
 /// The words of `faults`: M, SCRIPT and VERDICTS.

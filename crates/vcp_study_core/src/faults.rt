@@ -46,7 +46,9 @@ fn draw<O: Sink>(
 struct Picture;
 
 impl Telling for Picture {
-    ghost Tells = { IsFaultsPicture };
+    ghost Tells = { λ s. IsFaultsPicture };
+
+    ghost Belongs = { λ s g. Unit {0} };
 
     fn write<O: Sink>(
         &self,

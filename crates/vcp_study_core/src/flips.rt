@@ -22,7 +22,7 @@ use vcp_outside::{Files, Sink};
 use vcp_words::RowsWord;
 
 /// All rows of ROWS for these columns.
-fn load_list<F: Files>(
+pub(crate) fn load_list<F: Files>(
     alloc: Global,
     rows: RowsWord<'_>,
     columns: &Columns,
@@ -35,6 +35,7 @@ fn load_list<F: Files>(
     ensures unread { result ≡ Err input.Unread → Rose (F.seen files.old).faults (F.seen files.new).faults }
     ensures held { (F.seen files.new).held ≡ (F.seen files.old).held }
     ensures later { (F.seen files.old).faults ≤ (F.seen files.new).faults }
+    ensures broken_later { (F.seen files.old).broken ≤ (F.seen files.new).broken }
     ensures ended { OnOk result (IsAtEnd (F.seen files.old).rest → IsAtEnd (F.seen files.new).rest) }
     ensures width { IfOk result (λ list. All (λ row. length row ≡ length columns.now) list) }
     ensures few { IfOk result (λ list. length list ≤ most_cycles) }

@@ -1,6 +1,7 @@
 //! The commands that study an image or a run: pictures, which operations can stop, and scripts of faults. And the top call.
 #![tactic(auto)]
 
+mod apart;
 mod command;
 mod dot;
 mod fault;

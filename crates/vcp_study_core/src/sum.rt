@@ -21,7 +21,9 @@ use verdict_tables::{Verdicts, write_sum};
 struct Tables;
 
 impl Telling for Tables {
-    ghost Tells = { AreTables };
+    ghost Tells = { λ s. AreTables };
+
+    ghost Belongs = { λ s g. Unit {0} };
 
     fn write<O: Sink>(
         &self,

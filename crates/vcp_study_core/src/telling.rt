@@ -26,7 +26,8 @@ pub fn tell_usage<E: Sink>(err: &mut E) -> Result<(), Failed>
         b"usage: vcp_study graph M HORIZON, dot M HORIZON, waves FILE, ranges M, ranges M --all, \
           sites M CYCLES CLASS, sites M CYCLES CLASS FROM COUNT, sites M CYCLES CLASS --count, \
           sites M ROWS flips, sites M ROWS flips FROM COUNT, sites M ROWS flips --count, \
-          sum M SCRIPT VERDICTS, faults M SCRIPT VERDICTS or script M NAMED\n",
+          sum M SCRIPT VERDICTS, sum M SCRIPT VERDICTS ROWS, faults M SCRIPT VERDICTS \
+          or script M NAMED\n",
     )
 }
 

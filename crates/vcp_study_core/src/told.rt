@@ -89,7 +89,10 @@ fn verdicts_in(
 /// What is written of the verdicts of a script.
 pub(crate) trait Telling {
     /// A text is what is written of these verdicts of groups over a graph.
-    ghost Tells: { Lists → List (List FaultOf) → List VerdictOf → List ℕ → Type 0 };
+    ghost Tells: { Self → Lists → List (List FaultOf) → List VerdictOf → List ℕ → Type 0 };
+
+    /// What is written belongs to a graph.
+    ghost Belongs: { Self → Lists → Type 0 };
 
     /// Writes it. After `Write` a part of it is written, and after another fault nothing.
     fn write<O: Sink>(
@@ -100,11 +103,12 @@ pub(crate) trait Telling {
         verdicts: &Verdicts,
         out: &mut O,
     ) -> Result<(), Fault>
+        requires belongs { Belongs self.now graph.now }
         requires fits { All (GroupFits graph.now) script.now }
         requires few { length script.now ≤ most_faults }
         requires names { All (Names (length graph.now.outputs) (length graph.now.operations)) verdicts.now }
         requires many { length verdicts.now ≡ length script.now }
-        ensures writes { WritesText (Tells graph.now script.now verdicts.now) (O.seen out.old).written (O.seen out.new).written result }
+        ensures writes { WritesText (Tells self.now graph.now script.now verdicts.now) (O.seen out.old).written (O.seen out.new).written result }
         ensures write { result ≡ Err fault.Write → Rose (O.seen out.old).faults (O.seen out.new).faults };
 }
 
@@ -117,11 +121,12 @@ fn write_told<O: Sink, T: Telling>(
     verdicts: &Verdicts,
     out: &mut O,
 ) -> Result<u8, Fault>
+    requires belongs { T.Belongs telling.now graph.now }
     requires fits { All (GroupFits graph.now) script.now }
     requires few { length script.now ≤ most_faults }
     requires names { All (Names (length graph.now.outputs) (length graph.now.operations)) verdicts.now }
     requires many { length verdicts.now ≡ length script.now }
-    ensures writes { WritesTold T.Tells graph.now script.now verdicts.now (O.seen out.old).written (O.seen out.new).written result }
+    ensures writes { WritesTold (T.Tells telling.now) graph.now script.now verdicts.now (O.seen out.old).written (O.seen out.new).written result }
     ensures write { result ≡ Err fault.Write → Rose (O.seen out.old).faults (O.seen out.new).faults }
     ensures known { IfOk result (λ s. s ≤ 1) }
 {
@@ -141,9 +146,10 @@ fn tell<O: Sink, T: Telling>(
     text: &[u8],
     out: &mut O,
 ) -> Result<u8, Fault>
+    requires belongs { T.Belongs telling.now graph.now }
     requires fits { All (GroupFits graph.now) script.now }
     requires few { length script.now ≤ most_faults }
-    ensures tells { TellsText T.Tells graph.now script.now text.now (O.seen out.old).written (O.seen out.new).written result }
+    ensures tells { TellsText (T.Tells telling.now) graph.now script.now text.now (O.seen out.old).written (O.seen out.new).written result }
     ensures write { result ≡ Err fault.Write → Rose (O.seen out.old).faults (O.seen out.new).faults }
     ensures known { IfOk result (λ s. s ≤ 1) }
 {
@@ -163,10 +169,11 @@ fn told_of_script<F: Files, O: Sink, T: Telling>(
     files: &mut F,
     out: &mut O,
 ) -> Result<u8, Fault>
+    requires belongs { T.Belongs telling.now graph.now }
     requires fits { All (GroupFits graph.now) script.now }
     requires few { length script.now ≤ most_faults }
     ensures held { (F.seen files.new).held ≡ (F.seen files.old).held }
-    ensures reaches { IfSome (F.seen files.old).held (λ h. ReachesVerdicts T.Tells graph.now script.now verdicts.now h (O.seen out.old).written
+    ensures reaches { IfSome (F.seen files.old).held (λ h. ReachesVerdicts (T.Tells telling.now) graph.now script.now verdicts.now h (O.seen out.old).written
         (O.seen out.new).written (F.seen files.old).broken (F.seen files.new).broken result) }
     ensures unread { IfErr result (λ e. IsUnread e → Rose (F.seen files.old).faults (F.seen files.new).faults) }
     ensures write { result ≡ Err fault.Write → Rose (O.seen out.old).faults (O.seen out.new).faults }
@@ -192,9 +199,10 @@ fn told_of_text<F: Files, O: Sink, T: Telling>(
     out: &mut O,
 ) -> Result<u8, Fault>
     requires short { length text.now ≤ most_source_bytes }
+    requires belongs { T.Belongs telling.now image.now.graph }
     requires table { image.now.table ≡ table_of image.now.table.seed image.now.table.step image.now.graph }
     ensures held { (F.seen files.new).held ≡ (F.seen files.old).held }
-    ensures reaches { IfSome (F.seen files.old).held (λ h. ReachesText T.Tells image.now text.now verdicts.now h (O.seen out.old).written
+    ensures reaches { IfSome (F.seen files.old).held (λ h. ReachesText (T.Tells telling.now) image.now text.now verdicts.now h (O.seen out.old).written
         (O.seen out.new).written (F.seen files.old).broken (F.seen files.new).broken result) }
     ensures unread { IfErr result (λ e. IsUnread e → Rose (F.seen files.old).faults (F.seen files.new).faults) }
     ensures write { result ≡ Err fault.Write → Rose (O.seen out.old).faults (O.seen out.new).faults }
@@ -210,7 +218,7 @@ fn told_of_text<F: Files, O: Sink, T: Telling>(
 }
 
 /// Reads the script for an image and its verdicts, and writes what is to be written of them; the status.
-fn told_of_image<F: Files, O: Sink, T: Telling>(
+pub(crate) fn told_of_image<F: Files, O: Sink, T: Telling>(
     alloc: Global,
     telling: &T,
     image: &Image,
@@ -219,9 +227,10 @@ fn told_of_image<F: Files, O: Sink, T: Telling>(
     files: &mut F,
     out: &mut O,
 ) -> Result<u8, Fault>
+    requires belongs { T.Belongs telling.now image.now.graph }
     requires table { image.now.table ≡ table_of image.now.table.seed image.now.table.step image.now.graph }
     ensures held { (F.seen files.new).held ≡ (F.seen files.old).held }
-    ensures reaches { IfSome (F.seen files.old).held (λ h. ReachesScript T.Tells image.now script.now verdicts.now h (O.seen out.old).written
+    ensures reaches { IfSome (F.seen files.old).held (λ h. ReachesScript (T.Tells telling.now) image.now script.now verdicts.now h (O.seen out.old).written
         (O.seen out.new).written (F.seen files.old).broken (F.seen files.new).broken result) }
     ensures unread { IfErr result (λ e. IsUnread e → Rose (F.seen files.old).faults (F.seen files.new).faults) }
     ensures write { result ≡ Err fault.Write → Rose (O.seen out.old).faults (O.seen out.new).faults }
@@ -247,8 +256,9 @@ pub(crate) fn told_command<F: Files, O: Sink, T: Telling>(
     files: &mut F,
     out: &mut O,
 ) -> Result<u8, Fault>
+    requires { (g : Lists) → T.Belongs telling.now g }
     ensures held { (F.seen files.new).held ≡ (F.seen files.old).held }
-    ensures reaches { IfSome (F.seen files.old).held (λ h. ReachesTold T.Tells image.now script.now verdicts.now h (O.seen out.old).written
+    ensures reaches { IfSome (F.seen files.old).held (λ h. ReachesTold (T.Tells telling.now) image.now script.now verdicts.now h (O.seen out.old).written
         (O.seen out.new).written (F.seen files.old).broken (F.seen files.new).broken result) }
     ensures unread { IfErr result (λ e. IsUnread e → Rose (F.seen files.old).faults (F.seen files.new).faults) }
     ensures write { result ≡ Err fault.Write → Rose (O.seen out.old).faults (O.seen out.new).faults }

@@ -9,6 +9,7 @@ ghost use Rattle.vcp_study_core.specs.Reach.{IsUnread};
 ghost use Rattle.vcp_study_core.specs.Seen.{outside};
 ghost use Rattle.vcp_study_core.specs.declared.fault.Fault.TheVariants as fault;
 
+use crate::apart::apart_command;
 use crate::command::{Command, command_of};
 use crate::dot::dot_command;
 use crate::fault::Fault;
@@ -138,6 +139,12 @@ fn study<F: Files, O: Sink>(
             script,
             verdicts,
         } => sum_command(alloc, image, script, verdicts, files, out),
+        Command::SumApart {
+            image,
+            script,
+            verdicts,
+            rows,
+        } => apart_command(alloc, image, *rows, script, verdicts, files, out),
         Command::Faults {
             image,
             script,

@@ -5,9 +5,9 @@ use Rattle.vcp_study_core.proofs.told.write_told.Goals as goal
 
 pub returns-in-Ok-clause-writes : goal.returns-in-Ok-clause-writes
 returns-in-Ok-clause-writes g c =
-    writes_status g.T.Telling.Tells c.args.graph.now c.args.script.now c.args.verdicts.now _ _ c.status-status.result
+    writes_status (g.T.Telling.Tells c.args.telling.now) c.args.graph.now c.args.script.now c.args.verdicts.now _ _ c.status-status.result
     (c.status-status.ensures.status ∙ ap status_of c.totals_of_all.ensures) c.in-Ok.ensures.writes
 
 pub returns-in-Err-clause-writes : goal.returns-in-Err-clause-writes
 returns-in-Err-clause-writes g c =
-    writes_fault g.T.Telling.Tells c.args.graph.now c.args.script.now c.args.verdicts.now _ _ c.in-Err.why c.in-Err.ensures.writes
+    writes_fault (g.T.Telling.Tells c.args.telling.now) c.args.graph.now c.args.script.now c.args.verdicts.now _ _ c.in-Err.why c.in-Err.ensures.writes
