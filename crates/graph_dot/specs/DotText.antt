@@ -14,7 +14,8 @@ use Rattle.svg_text.specs.Drawing.{each_below}
 use Rattle.graph_picture.specs.declared.colours.Colour.{Colour}
 use Rattle.graph_picture.specs.declared.colours.Colour.TheVariants as colour
 use Rattle.graph_picture.specs.Colours.{colours}
-use Rattle.graph_picture.specs.Drawn.{Box, Wire, Drawing, drawing, is_constant, own_of}
+use Rattle.graph_picture.specs.Constants.{is_constant}
+use Rattle.graph_picture.specs.Drawn.{Box, Wire, Drawing, drawing, own_of}
 use Rattle.graph_dot.specs.Characters.{written}
 
 -- ---- the names of nodes

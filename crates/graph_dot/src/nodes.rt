@@ -3,7 +3,8 @@
 ghost use Rattle.std.specs.Prelude.{◌≡◌, ◌≤◌, ◌+◌, [], cond, length, flat_map};
 ghost use Rattle.gathered_line.specs.Gathering.{GathersTo};
 ghost use Rattle.graph_picture.specs.Colours.{colours};
-ghost use Rattle.graph_picture.specs.Drawn.{boxes_below, is_constant as is_constant_of};
+ghost use Rattle.graph_picture.specs.Constants.{is_constant as is_constant_of};
+ghost use Rattle.graph_picture.specs.Drawn.{boxes_below};
 ghost use Rattle.graph_dot.specs.DotText.{node_name, constant_name, label, constant_label, node_line, node_end, box_text};
 
 use crate::labels::{then_constant_label, then_label};

@@ -15,7 +15,8 @@ use Rattle.graph_picture.specs.declared.colours.Colour.TheVariants as colour
 use Rattle.graph_picture.specs.declared.layout.Place.{Place}
 use Rattle.graph_picture.specs.declared.looks.Look.{Look}
 use Rattle.graph_picture.specs.declared.looks.Look.TheVariants as look
-use Rattle.graph_picture.specs.Drawn.{Box, Wire, Drawing, is_constant, own_of}
+use Rattle.graph_picture.specs.Constants.{is_constant}
+use Rattle.graph_picture.specs.Drawn.{Box, Wire, Drawing, own_of}
 use Rattle.graph_picture.specs.Elements.{blindness, note, cell_bar, constant_elements, constant_of, constant_at, body_elements, box_elements}
 use Rattle.graph_picture.specs.Elements.{wire_element, line_from, wire_elements, sample, audit_legend, drawing_elements}
 

@@ -1,7 +1,9 @@
 -- Arrangement: where boxes stand.
-use Rattle.std.specs.Prelude.{◌≡◌, ◌≢◌, ◌⊎◌, ◌<◌, ◌≤◌, ◌+◌, ◌*◌, ℕ, List, length, slice_get, slice_index_or, Some}
+use Rattle.std.specs.Prelude.{◌≡◌, ◌≢◌, ◌⊎◌, ◌<◌, ◌≤◌, ◌+◌, ◌*◌, ℕ, false, List, length, slice_get, slice_index_or, Some}
+use Rattle.op_graph.specs.declared.op.Op.{Op}
 use Rattle.op_graph.specs.Lists.{Lists}
 use Rattle.graph_picture.specs.declared.layout.Place.{Place}
+use Rattle.graph_picture.specs.Constants.{is_constant}
 
 -- the places of boxes, in order of operation, and the size of the picture in pixels
 pub record Arrangement : Type 0 where
@@ -46,8 +48,8 @@ IsWithin corner p = (p.column ≤ corner.column) × (p.row ≤ corner.row)
 abbrev pub IsInside : Arrangement → Place → Type 0
 IsInside a p = (left_of p + box_width ≤ a.width) × (top_of p + box_height ≤ a.height)
 
--- each operation has a place, its box is inside the picture, and no two boxes of a column overlap
+-- each operation has a place; the box of each that is no constant is inside the picture; and no two boxes of a column overlap
 pub record IsArranged (g : Lists) (a : Arrangement) : Type 0 where
   pub many : length a.places ≡ length g.operations
-  pub inside : (i : ℕ) (p : Place) → slice_get a.places i ≡ Some p → IsInside a p
+  pub inside : (i : ℕ) (op : Op) (p : Place) → slice_get g.operations i ≡ Some op → is_constant op.kind ≡ false → slice_get a.places i ≡ Some p → IsInside a p
   pub apart : (i j : ℕ) (p q : Place) → slice_get a.places i ≡ Some p → slice_get a.places j ≡ Some q → i ≢ j → left_of p ≡ left_of q → DontOverlap p q

@@ -1,6 +1,6 @@
 -- Drawn: what is drawn of a graph: a box for each operation, and a line for each pair of an operand and its reader.
 use Rattle.std.specs.Option.{is_some}
-use Rattle.std.specs.Prelude.{ℕ, Bool, true, false, cond, List, [], ◌∷◌, ◌++◌, length, Option, Some, None, slice_get, ℤ, unsigned_abs}
+use Rattle.std.specs.Prelude.{ℕ, cond, List, [], ◌∷◌, ◌++◌, length, Option, Some, None, slice_get, ℤ, unsigned_abs}
 use Rattle.std.specs.Fmt.{signed_decimal}
 use Rattle.vcp_base.specs.declared.kind.Kind.{Kind}
 use Rattle.vcp_base.specs.declared.kind.Kind.TheVariants as kind
@@ -28,11 +28,6 @@ pub record Wire : Type 0 where
   pub which : ℕ
   pub from : Place
   pub to : Place
-
--- operations of this kind are constants
-abbrev pub is_constant : Kind → Bool
-is_constant kind.Const = true
-is_constant _ = false
 
 -- an operation's own name or value: the name of the input, cell or output, or the value of a constant
 abbrev pub own_of : Lists → Kind → ℤ → List ℕ

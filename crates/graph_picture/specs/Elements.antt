@@ -23,7 +23,8 @@ use Rattle.graph_picture.specs.declared.looks.Worst.{Worst}
 use Rattle.graph_picture.specs.declared.looks.Worst.TheVariants as worst
 use Rattle.graph_picture.specs.Arrangement.{Arrangement, IsArranged, left_of, top_of, box_width, box_height}
 use Rattle.run_report.specs.Variables.{output_name}
-use Rattle.graph_picture.specs.Drawn.{Box, Wire, Drawing, drawing, is_constant, own_of}
+use Rattle.graph_picture.specs.Constants.{is_constant}
+use Rattle.graph_picture.specs.Drawn.{Box, Wire, Drawing, drawing, own_of}
 use Rattle.graph_picture.specs.Looks.{audit_looks}
 
 -- ---- boxes

@@ -52,16 +52,17 @@ fn depths_of(alloc: Global, graph: &Graph) -> Result<Vec<u32>, Memory>
     Ok(depths)
 }
 
-/// The column of an operation of this depth: the last one, `end`, for what leaves the cycle, and for a
-/// constant until it is moved to those that read it.
+/// The column of an operation of this depth: the last one, `end`, for what leaves the cycle, and one behind all others for a constant, which isn't
+/// drawn there.
 fn column_of(kind: Kind, depth: u32, end: u32) -> u32 {
     match kind {
-        Kind::Out | Kind::Store | Kind::Const => end,
+        Kind::Out | Kind::Store => end,
+        Kind::Const => 4294967295,
         _ => depth,
     }
 }
 
-/// The column of each operation, while constants stand in the last one.
+/// The column of each operation, by their depths.
 fn columns_by(alloc: Global, graph: &Graph, depths: &[u32]) -> Result<Vec<u32>, Memory>
     requires { length depths.now ≡ length graph.now.operations }
     ensures { IfOk result (λ columns. length columns.items ≡ length graph.now.operations) }
@@ -75,49 +76,10 @@ fn columns_by(alloc: Global, graph: &Graph, depths: &[u32]) -> Result<Vec<u32>, 
     Ok(columns)
 }
 
-/// Moves operation `n`, where it is a constant that `reads` says is read in this column, to the column
-/// before, unless it stands there or before it.
-fn move_constant(graph: &Graph, columns: &mut [u32], n: u32, column: u32, reads: bool)
-    requires { length columns.old ≡ length graph.now.operations }
-    ensures { length columns.new ≡ length columns.old }
-{
-    if reads && n < graph.len() && graph.operation(n).kind == Kind::Const {
-        let before = column.saturating_sub(1);
-        if before < columns[n as usize] {
-            columns[n as usize] = before;
-        }
-    }
-}
-
-/// Moves the constants that operation `i` reads to the column before its own.
-fn move_operands(graph: &Graph, columns: &mut [u32], i: u32)
-    requires there { i < length graph.now.operations }
-    requires many { length columns.old ≡ length graph.now.operations }
-    ensures { length columns.new ≡ length columns.old }
-{
-    let op = graph.operation(i);
-    let column = columns[i as usize];
-    move_constant(graph, columns, op.a, column, reads_operation(op.kind, 0));
-    move_constant(graph, columns, op.b, column, reads_operation(op.kind, 1));
-    move_constant(graph, columns, op.c, column, reads_operation(op.kind, 2));
-}
-
-/// Moves each constant to the column before the first one in which it is read.
-fn move_constants(graph: &Graph, columns: &mut [u32])
-    requires { length columns.old ≡ length graph.now.operations }
-    ensures { length columns.new ≡ length columns.old }
-{
-    'operations: for i in 0..graph.len() {
-        move_operands(graph, columns, i);
-    }
-}
-
 /// The column of each operation.
 pub(crate) fn columns_of(alloc: Global, graph: &Graph) -> Result<Vec<u32>, Memory>
     ensures { IfOk result (λ columns. length columns.items ≡ length graph.now.operations) }
 {
     let depths = depths_of(alloc, graph)?;
-    let mut columns = columns_by(alloc, graph, depths.as_slice())?;
-    move_constants(graph, columns.as_mut_slice());
-    Ok(columns)
+    columns_by(alloc, graph, depths.as_slice())
 }

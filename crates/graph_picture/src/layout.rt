@@ -84,16 +84,15 @@ fn with_legend(width: u64) -> u64
     if width < 980 { 980 } else { width }
 }
 
-/// The places of the boxes of a graph's operations: in columns by depth, a constant before those that
-/// read it, what leaves the cycle in the last column; in the row of the first operand, or below it
-/// where boxes of the column stand there. Each is inside the picture, and no two of a column overlap. The time is linear in the number
-/// of operations.
+/// The places of the boxes of a graph's operations: in columns by depth, what leaves the cycle in the last one; in the row of the
+/// first operand that is no constant, or below it where boxes of the column stand there. Each is inside the picture, but those of constants, which are drawn
+/// in others; and no two of a column overlap. The time is linear in the number of operations.
 pub fn layout_of(alloc: Global, graph: &Graph) -> Result<Layout, Memory>
     ensures { IfOk result (IsArranged graph.now) }
 {
     let columns = columns_of(alloc, graph)?;
     let places = places_in(alloc, graph, columns.as_slice())?;
-    let end = corner(places.as_slice());
+    let end = corner(graph, places.as_slice());
     Ok(Layout {
         places,
         width: with_legend(left(end) + 104),

@@ -2,7 +2,8 @@
 
 ghost use Rattle.std.specs.Prelude.{◌≡◌, unsigned_abs};
 ghost use Rattle.svg_text.specs.Characters.{piece_bytes};
-ghost use Rattle.graph_picture.specs.Drawn.{is_constant as is_constant_of, own_of};
+ghost use Rattle.graph_picture.specs.Constants.{is_constant as is_constant_of};
+ghost use Rattle.graph_picture.specs.Drawn.{own_of};
 
 use op_graph::Graph;
 use run_report::variable_name;

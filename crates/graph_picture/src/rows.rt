@@ -1,27 +1,55 @@
 //! The rows of operations: each of a column has its own.
 
-ghost use Rattle.std.specs.Prelude.{◌≡◌, ◌<◌, ◌≤◌, ◌^◌, ◌+◌, ℕ, length, slice_get, slice_index_or, slice_set, replicate, Some, IfOk};
+ghost use Rattle.std.specs.Prelude.{◌≡◌, ◌<◌, ◌≤◌, ◌^◌, ◌+◌, ℕ, length, slice_get, slice_index_or, slice_set, replicate, true, false, Some, IfOk, IfSome};
 ghost use Rattle.graph_picture.specs.declared.layout.Place.{Place as PlaceOf};
+ghost use Rattle.op_graph.specs.declared.op.Op.{Op as OpOf};
 ghost use Rattle.graph_picture.specs.Arrangement.{HaveOwnRows, IsWithin};
+ghost use Rattle.graph_picture.specs.Constants.{is_constant as is_constant_of};
 
 use crate::columns::greater;
 use crate::layout::Place;
+use crate::names::is_constant;
 use op_graph::{Graph, reads_operation};
 use std::alloc::Global;
 use std::marker::Model;
 use vcp_base::Memory;
 
-/// The greatest column and the greatest row of these places, and 0 where there are none.
-pub(crate) fn corner(places: &[Place]) -> Place
-    ensures { (i : ℕ) (p : PlaceOf) → slice_get places.now i ≡ Some p → IsWithin result p }
+/// The place of operation `n` among these.
+fn place_of(places: &[Place], n: u32) -> Place
+    requires { n < length places.now }
+    ensures { slice_get places.now n ≡ Some result }
 {
-    let mut column = 0;
-    let mut row = 0;
-    'places: for i in 0..places.len() {
-        column = greater(column, places[i].column);
-        row = greater(row, places[i].row);
+    places[n as usize]
+}
+
+/// The greatest column and the greatest row of these and of the place of another operation, unless that is a constant.
+fn with_place(corner: Place, place: Place, constant: bool) -> Place
+    ensures earlier { (p : PlaceOf) → IsWithin corner p → IsWithin result p }
+    ensures last { constant ≡ false → IsWithin result place }
+{
+    if constant {
+        corner
+    } else {
+        Place {
+            column: greater(corner.column, place.column),
+            row: greater(corner.row, place.row),
+        }
     }
-    Place { column, row }
+}
+
+/// The greatest column and the greatest row of the places of a graph's operations that are no constants, and 0 where there are none.
+pub(crate) fn corner(graph: &Graph, places: &[Place]) -> Place
+    requires { length places.now ≡ length graph.now.operations }
+    ensures { (i : ℕ) (op : OpOf) (p : PlaceOf) → slice_get graph.now.operations i ≡ Some op → is_constant_of op.kind ≡ false
+        → slice_get places.now i ≡ Some p → IsWithin result p }
+{
+    let mut corner = Place { column: 0, row: 0 };
+    'places: for i in 0..graph.len() {
+        let constant = is_constant(graph.operation(i).kind);
+        let place = place_of(places, i);
+        corner = with_place(corner, place, constant);
+    }
+    corner
 }
 
 /// A column, and the last one in the place of a later one.
@@ -31,7 +59,40 @@ fn within(column: u32, last: u32) -> u32
     if column < last { column } else { last }
 }
 
-/// The row in which operation `i` would best stand: that of its first operand, whose place is among
+/// The row of operation `n`, whose place is among these, where it is drawn and `reads` says that it is read.
+fn row_of(graph: &Graph, places: &[Place], n: u32, reads: bool, most: u32) -> Option<u32>
+    requires rows { (k : ℕ) (p : PlaceOf) → slice_get places.now k ≡ Some p → p.row ≤ most }
+    ensures { IfSome result (λ row. row ≤ most) }
+{
+    if !reads || n >= graph.len() || is_constant(graph.operation(n).kind) {
+        return None;
+    }
+    match places.get(n as usize) {
+        Some(place) => Some(place.row),
+        None => None,
+    }
+}
+
+/// The first of these, and 0 where there is none.
+fn first_row(first: Option<u32>, second: Option<u32>, third: Option<u32>, most: u32) -> u32
+    requires first { IfSome first (λ row. row ≤ most) }
+    requires second { IfSome second (λ row. row ≤ most) }
+    requires third { IfSome third (λ row. row ≤ most) }
+    ensures { result ≤ most }
+{
+    match first {
+        Some(row) => row,
+        None => match second {
+            Some(row) => row,
+            None => match third {
+                Some(row) => row,
+                None => 0,
+            },
+        },
+    }
+}
+
+/// The row in which operation `i` would best stand: that of its first operand that is no constant, whose place is among
 /// these, and the first one where it has none.
 fn wanted_row(graph: &Graph, places: &[Place], i: u32) -> u32
     requires there { i < length graph.now.operations }
@@ -39,14 +100,10 @@ fn wanted_row(graph: &Graph, places: &[Place], i: u32) -> u32
     ensures { result ≤ i }
 {
     let op = graph.operation(i);
-    match places.get(op.a as usize) {
-        Some(place) => if reads_operation(op.kind, 0) {
-            place.row
-        } else {
-            0
-        },
-        None => 0,
-    }
+    let first = row_of(graph, places, op.a, reads_operation(op.kind, 0), i);
+    let second = row_of(graph, places, op.b, reads_operation(op.kind, 1), i);
+    let third = row_of(graph, places, op.c, reads_operation(op.kind, 2), i);
+    first_row(first, second, third, i)
 }
 
 /// The row below the boxes of each column, seen as a list.

@@ -69,7 +69,7 @@ faults 2 same 2 wrong 0 ran-on 0 refused 0 stopped 0
 
 /// The picture of the last of the rows above.
 const DRAWN: &str = "\
-<svg xmlns=\"http://www.w3.org/2000/svg\" width=\"980\" height=\"156\" viewBox=\"0 0 980 156\">
+<svg xmlns=\"http://www.w3.org/2000/svg\" width=\"980\" height=\"98\" viewBox=\"0 0 980 98\">
 <style>text{font:9px monospace}rect{stroke:#333;fill:#fff}line{stroke:#888}.wrong{fill:#f66}.ran-on{fill:#fa6} \
     .same{fill:#fe9}.stopped{fill:#9cf}.refused{fill:#9e9}.cell{fill:#36c}</style>
 <rect x=\"12\" y=\"8\" width=\"14\" height=\"14\" class=\"wrong\"></rect>

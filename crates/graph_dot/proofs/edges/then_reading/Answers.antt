@@ -4,7 +4,7 @@ use Rattle.op_graph.specs.declared.op.Op.{Op}
 use Rattle.op_graph.specs.Lists.{Lists}
 use Rattle.weight_audit.specs.Audit.{Audit}
 use Rattle.graph_picture.specs.Colours.{colour_of}
-use Rattle.graph_picture.specs.Drawn.{is_constant}
+use Rattle.graph_picture.specs.Constants.{is_constant}
 use Rattle.graph_dot.specs.DotText.{node_name, edge_line, constant_text, reading_text}
 use Rattle.graph_dot.proofs.Going.{same}
 use Rattle.graph_dot.proofs.edges.then_reading.Goals as goal

@@ -5,7 +5,8 @@ use Rattle.op_graph.specs.Lists.{Lists}
 use Rattle.svg_text.specs.Elements.{element_text}
 use Rattle.graph_picture.specs.declared.layout.Place.{Place}
 use Rattle.graph_picture.specs.declared.looks.Look.{Look}
-use Rattle.graph_picture.specs.Drawn.{is_constant, own_of}
+use Rattle.graph_picture.specs.Constants.{is_constant}
+use Rattle.graph_picture.specs.Drawn.{own_of}
 use Rattle.graph_picture.specs.Elements.{constant_elements, constant_of}
 use Rattle.graph_picture.proofs.Going.{same, unmoved}
 use Rattle.graph_picture.proofs.constants.then_constant_of.Goals as goal

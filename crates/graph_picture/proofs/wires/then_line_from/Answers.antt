@@ -2,7 +2,8 @@ use Rattle.std.proofs.Common.{◌≡◌, ◌≤◌, ◌∙◌, ap, sym, true, fa
 use Rattle.std.proofs.lemmas.Option.{slice_get_past}
 use Rattle.op_graph.specs.declared.op.Op.{Op}
 use Rattle.svg_text.specs.Elements.{element_text}
-use Rattle.graph_picture.specs.Drawn.{Wire, is_constant}
+use Rattle.graph_picture.specs.Constants.{is_constant}
+use Rattle.graph_picture.specs.Drawn.{Wire}
 use Rattle.graph_picture.specs.Elements.{wire_element, line_from}
 use Rattle.graph_picture.proofs.Going.{same, one_drawn, unmoved}
 use Rattle.graph_picture.proofs.wires.then_line_from.Goals as goal
