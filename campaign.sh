@@ -201,7 +201,7 @@ awk '
 for part in parts/*.verdicts; do
     [ -e "$part" ] || continue
     echo part "$(cat "${part%.verdicts}.first")"
-    "$study" sum image "${part%.verdicts}.faults" "$part" >sum.now
+    "$study" sum image "${part%.verdicts}.faults" "$part" rows >sum.now
     [ -s sum.now ] || refuse "$work/$part has no sum"
     cat sum.now
 done >sums.now
@@ -209,7 +209,12 @@ done >sums.now
 # Their sum: the rows of the same name are added up, in their order; behind them the faults that aren't seen, with the lines of the whole script.
 : >unseen.now
 ./vcp exec image rows | awk '
-    BEGIN { split("operand add,operand from,operand stale,result add,operator,skip", acts, ","); for (i in acts) place[acts[i]] = i }
+    BEGIN {
+        split("operand add,operand from,operand stale,result add,operator,skip", acts, ",")
+        split("never reached,died out,stands in a cell", ends, ",")
+        for (i in acts) place[acts[i]] = i
+        for (i in ends) place[ends[i]] = i
+    }
     NR == FNR { if (FNR == 1) { sub(/\r$/, ""); n = split($0, names, ","); for (i = 2; i <= n; i++) place["output " names[i]] = i } next }
     $1 == "part" { first = $2; table = 0; next }
     /^  faults / { heading[++table] = $0; next }
