@@ -8,7 +8,8 @@ returns-in-Ok-clause-reaches g c =
     let mid = g.F.Files.seen c.read_file.new.files in
     let after = g.F.Files.seen c.told_of_text.new.files in
     if_some_both before.held mid.held _ _ _ c.in-Ok.ensures.held
-    (λ h reads reaches. script_file_read (g.T.Telling.Tells c.args.telling.now) c.args.image.now c.args.script.now c.args.verdicts.now h (g.O.Sink.seen c.args.out.now).written
+    (λ h reads reaches. script_file_read (g.T.Telling.Tells c.args.telling.now) c.args.image.now c.args.script.now c.args.verdicts.now
+    h (g.O.Sink.seen c.args.out.now).written
     (g.O.Sink.seen c.told_of_text.new.out).written before.broken mid.broken after.broken c.in-Ok.text reads c.told_of_text.result
     (rw c.bytes.ensures at reaches)
     c.in-Ok.ensures.broken_later) c.in-Ok.ensures.reads c.told_of_text.ensures.reaches
@@ -16,6 +17,7 @@ returns-in-Ok-clause-reaches g c =
 pub returns-in-Err-clause-reaches : goal.returns-in-Err-clause-reaches
 returns-in-Err-clause-reaches g c =
     if_some_weaker (g.F.Files.seen c.args.files.now).held _ _
-    (λ h reads. script_file_lost (g.T.Telling.Tells c.args.telling.now) c.args.image.now c.args.script.now c.args.verdicts.now h (g.O.Sink.seen c.args.out.now).written
+    (λ h reads. script_file_lost (g.T.Telling.Tells c.args.telling.now) c.args.image.now c.args.script.now c.args.verdicts.now
+    h (g.O.Sink.seen c.args.out.now).written
     (g.O.Sink.seen c.args.out.now).written (g.F.Files.seen c.args.files.now).broken 0 (g.F.Files.seen c.read_file.new.files).broken c.in-Err.input reads)
     c.in-Err.ensures.reads

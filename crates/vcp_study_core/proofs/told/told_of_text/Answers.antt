@@ -5,7 +5,8 @@ use Rattle.vcp_study_core.proofs.told.told_of_text.Goals as goal
 pub returns-in-Ok-clause-reaches : goal.returns-in-Ok-clause-reaches
 returns-in-Ok-clause-reaches g c =
     if_some_weaker (g.F.Files.seen c.args.files.now).held _ _
-    (λ h reaches. script_taken (g.T.Telling.Tells c.args.telling.now) c.args.image.now c.args.text.now c.args.verdicts.now h (g.O.Sink.seen c.args.out.now).written
+    (λ h reaches. script_taken (g.T.Telling.Tells c.args.telling.now) c.args.image.now c.args.text.now c.args.verdicts.now
+    h (g.O.Sink.seen c.args.out.now).written
     (g.O.Sink.seen c.told_of_script.new.out).written (g.F.Files.seen c.args.files.now).broken (g.F.Files.seen c.told_of_script.new.files).broken c.in-Ok.script
     c.in-Ok.ensures.reads c.told_of_script.result reaches) c.told_of_script.ensures.reaches
 
