@@ -6,12 +6,14 @@
 # Of each program, over its first rows: the verdicts of `campaign.sh` on each class are those of `vcp inject` on slices of another size, and its totals count
 # them; a campaign that was ended in its midst, or that lost parts, gives the same bytes when it is called again; and where an input is added to the program, the
 # script of the old image is refused, while the same names give the same verdicts. Without words it takes the programs of examples/ that have rows.
-# CYCLES=N before it takes N rows (4), VCP=FILE and VCP_STUDY=FILE other programs than the built ones. Its status is 1 where something differs.
+# CYCLES=N before it takes N rows (4), HOSTS=FILE judges the class bits on the machines that FILE names for `parallel`, too, and VCP=FILE and VCP_STUDY=FILE
+# take other programs than the built ones. Its status is 1 where something differs.
 top=$(CDPATH='' cd -- "$(dirname -- "$0")/.." && pwd) || exit 1
 VCP=${VCP:-$top/crates/vcp/out/vcp}
 VCP_STUDY=${VCP_STUDY:-$top/crates/vcp_study/out/vcp_study}
 export VCP VCP_STUDY
 cycles=${CYCLES:-4}
+case ${HOSTS:=} in '' | /*) ;; *) HOSTS=$PWD/$HOSTS ;; esac
 slice=3000
 work=$(mktemp -d) || exit 1
 trap 'rm -rf "$work"' EXIT
@@ -56,6 +58,15 @@ each_class() {
         grep -v '^faults ' "$(folder)verdicts" | cmp -s - wanted || differs "$class has other verdicts in slices of $slice"
         counted "$(folder)verdicts" || differs "the totals of $class don't count its verdicts"
     done
+}
+
+# A campaign on other machines ends as one here.
+on_hosts() {
+    "$top/campaign.sh" image rows bits >told 2>log
+    here_told=$(folder)
+    cp "$here_told/verdicts" verdicts.here && rm -r "$here_told"
+    "$top/campaign.sh" image rows bits --sshloginfile "$HOSTS" >told 2>log || differs "bits isn't told on other machines: $(cat log)"
+    cmp -s "$here_told/verdicts" verdicts.here || differs "a campaign on other machines gives other bytes"
 }
 
 # A campaign that is ended in its midst, and one that lost parts, end as the whole one.
@@ -109,6 +120,7 @@ one_program() { # PROGRAM ROWS
     cd "$work/now" || exit 1
     if "$VCP" compile source >image; then
         each_class
+        [ -z "$HOSTS" ] || on_hosts
         broken_off
         with_input
     else
