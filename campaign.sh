@@ -105,18 +105,21 @@ cut_script() {
     ' "$faults"
 }
 
-if [ ! -e "$work/cut" ]; then
+if [ ! -e "$work/ready" ]; then
     rm -f "$work"/parts/*
     if is_class "$faults"; then
         cut_class || refuse "the sites of $faults cannot be told"
     else
         cut_script || refuse "$faults cannot be cut into parts"
     fi
-    cp "$image" "$work/image" && cp "$rows" "$work/rows" && cp "$vcp" "$work/vcp" || exit 1
-    # One part, judged from within the folder: what is printed stands whole or not at all.
+    cp "$image" "$work/image" && cp "$rows" "$work/rows" && cp "$vcp" "$work/vcp" && cp "$study" "$work/study" || exit 1
+    # One part, judged and counted from within the folder: what is printed stands whole or not at all.
     cat >"$work/judge" <<'JUDGE' && chmod +x "$work/judge" || exit 1
 #!/bin/sh
-./vcp inject image rows "$1" >"${1%.faults}.now" && mv "${1%.faults}.now" "${1%.faults}.verdicts"
+part=${1%.faults}
+./vcp inject image rows "$1" >"$part.now" && mv "$part.now" "$part.verdicts" || exit 1
+./study sum image "$1" "$part.verdicts" rows >"$part.now"
+[ -s "$part.now" ] && mv "$part.now" "$part.sums"
 JUDGE
     # The whole script, whose lines the verdicts name.
     if is_class "$faults"; then
@@ -124,7 +127,7 @@ JUDGE
     else
         cp "$faults" "$work/faults"
     fi || exit 1
-    : >"$work/cut"
+    : >"$work/ready"
 fi
 
 # A file that an option of parallel names, as that of --sshloginfile, stands in the caller's folder.
@@ -143,7 +146,8 @@ cd "$work" || exit 1
 # The parts that aren't judged yet.
 left() {
     for part in parts/*.faults; do
-        [ -e "$part" ] && [ ! -e "${part%.faults}.verdicts" ] && echo "$part"
+        [ -e "$part" ] || continue
+        [ -e "${part%.faults}.verdicts" ] && [ -e "${part%.faults}.sums" ] || echo "$part"
     done
 }
 
@@ -159,8 +163,8 @@ sends() {
 
 if command -v parallel >/dev/null 2>&1; then
     if sends "$@"; then
-        left | parallel --retries $tries --workdir "$work" --basefile vcp --basefile judge --basefile image --basefile rows \
-            --transferfile '{}' --return '{.}.verdicts' --cleanup "$@" ./judge '{}'
+        left | parallel --retries $tries --workdir "$work" --basefile vcp --basefile study --basefile judge --basefile image --basefile rows \
+            --transferfile '{}' --return '{.}.verdicts' --return '{.}.sums' --cleanup "$@" ./judge '{}'
     else
         left | parallel --retries $tries "$@" ./judge '{}'
     fi
@@ -181,7 +185,7 @@ fi
 moved() {
     awk -v first="$(cat "${1%.verdicts}.first")" '
         $1 == "faults" { if ($2 != NR - 1) exit 1; whole = 1; print; next }
-        { sub(/^[0-9]+/, $1 + first); print }
+        { print ($1 + first) substr($0, index($0, " ")) }
         END { if (!whole) exit 1 }
     ' "$1"
 }
@@ -198,12 +202,10 @@ awk '
 ' moved.now >verdicts && rm moved.now || exit 1
 
 # The tables of each part, behind a line with how many lines of the whole script stand before its second line.
-for part in parts/*.verdicts; do
+for part in parts/*.sums; do
     [ -e "$part" ] || continue
-    echo part "$(cat "${part%.verdicts}.first")"
-    "$study" sum image "${part%.verdicts}.faults" "$part" rows >sum.now
-    [ -s sum.now ] || refuse "$work/$part has no sum"
-    cat sum.now
+    echo part "$(cat "${part%.sums}.first")"
+    cat "$part"
 done >sums.now
 
 # Their sum: the rows of the same name are added up, in their order; behind them the faults that aren't seen, with the lines of the whole script.
@@ -227,7 +229,7 @@ done >sums.now
         next
     }
     $1 == "faults" { next }
-    /^[0-9]/ { sub(/^[0-9]+/, $1 + first) }
+    /^[0-9]/ { $0 = ($1 + first) substr($0, index($0, " ")) }
     { print >"unseen.now" }
     END {
         for (t = 1; t in heading; t++) {
@@ -238,5 +240,5 @@ done >sums.now
             }
         }
     }
-' - sums.now >tables.now && { cat tables.now unseen.now; tail -n 1 verdicts; } >tables && rm sum.now sums.now tables.now unseen.now || exit 1
+' - sums.now >tables.now && { cat tables.now unseen.now; tail -n 1 verdicts; } >tables && rm sums.now tables.now unseen.now || exit 1
 cat tables

@@ -35,7 +35,7 @@ in_slices() { # CLASS OVER
     from=0
     while [ "$from" -lt "$number" ]; do
         "$VCP_STUDY" sites image "$2" "$1" "$from" $slice >slice.faults
-        "$VCP" inject image rows slice.faults | awk -v from="$from" '$1 == "faults" { next } { sub(/^[0-9]+/, $1 + from); print }'
+        "$VCP" inject image rows slice.faults | awk -v from="$from" '$1 == "faults" { next } { print ($1 + from) substr($0, index($0, " ")) }'
         from=$((from + slice))
     done
 }
