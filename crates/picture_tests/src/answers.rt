@@ -34,6 +34,7 @@ dot m.img 1001 => 4 usage
 dot m.img 1 2 => 4 usage
 dot no.img 0 => 5 no.img read fault
 dot p.st 0 => 1 p.st:0 I1 Magic
+dot m.img 1000 => 0
 waves => 4 usage
 waves -m => 4 usage
 waves no.csv => 5 no.csv read fault
@@ -90,6 +91,11 @@ script m.img no.txt => 5 no.txt read fault
 script m.img p.st => 1 p.st:1 F1 Form
 ";
 
+/// Whether a text begins as a picture does, or as one for Graphviz.
+fn is_drawn(text: &[u8]) -> bool {
+    text.starts_with(b"<svg ") || text.starts_with(b"digraph ")
+}
+
 /// Fails where a row's words don't get its status and its line, and a picture alone where there is no line.
 pub fn is_answered(alloc: Global, files: &mut MemFiles, row: &str) -> Result<(), Fail> {
     let (words, wanted) = cells(row);
@@ -106,7 +112,7 @@ pub fn is_answered(alloc: Global, files: &mut MemFiles, row: &str) -> Result<(),
     let found = vcp_study(alloc, &words, files, &mut out, &mut err);
     same(&format!(in alloc; "{found}")?, status)?;
     let told = err.bytes().strip_suffix(b"\n").unwrap_or(b"");
-    if told == line && out.bytes().starts_with(b"<svg ") == line.is_empty() {
+    if told == line && is_drawn(out.bytes()) == line.is_empty() {
         Ok(())
     } else {
         Err(Fail::new(row))
