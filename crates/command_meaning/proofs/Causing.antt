@@ -9,16 +9,15 @@ use Rattle.pair_channel.specs.declared.pair_end.PairEnd.TheVariants as pair
 use Rattle.pair_channel.specs.PairRuns.{PairOutcome}
 use Rattle.command_meaning.specs.Answer.{Answer}
 use Rattle.command_meaning.specs.CampaignKind.{verdicts_answer}
-use Rattle.pair_campaign.specs.declared.verdict.PairVerdict.{PairVerdict}
+use Rattle.fault_campaign.specs.declared.pairs.verdict.PairVerdict.{PairVerdict}
 use Rattle.command_meaning.specs.PairsKind.{pairs_answer}
 use Rattle.command_meaning.specs.PairKind.{pair_answer, pair_read, pair_status}
 use Rattle.command_meaning.specs.Printing.{Report}
-use Rattle.command_meaning.specs.Endings.{TellsLine, ended, cut, wanting, unread, unmade, Given, Causes, NothingFailed, HasOwnStatus}
-use Rattle.command_meaning.specs.Endings.{DoneIsMeant, EndingsHaveCauses, GivingUpHasCauses}
+use Rattle.command_meaning.specs.Endings.{TellsLine, ended, cut, wanting, unread, unmade, Given, Causes, NothingFailed, HasOwnStatus, DoneIsMeant, EndingsHaveCauses, GivingUpHasCauses}
 use Rattle.command_meaning.specs.Kinds.{Task, lacks, answers, compiles, runs, judges, compares, pairs_, wires, Done, lack_answer}
 use Rattle.command_meaning.specs.Reports.{RunEnd, complete, stopped, refused, run_status}
 use Rattle.command_meaning.specs.RunKind.{job_answer, run_read}
-use Rattle.wire_run.specs.Sends.{Cut}
+use Rattle.telegram.specs.Sends.{Cut}
 use Rattle.command_meaning.specs.WireKind.{wire_status}
 use Rattle.coded_unit.specs.Seen.{UnitSeen}
 use Rattle.vcp_outside.specs.Seen.{SinkSeen}

@@ -4,9 +4,8 @@ use Rattle.fault_injector.specs.declared.verdict.Verdict.{Verdict}
 use Rattle.fault_injector.specs.Names.{Names}
 use Rattle.fault_campaign.specs.Campaign.{campaign_text, verdicts_of, EarlierTold, JudgedOnce}
 use Rattle.command_meaning.specs.Answer.{Answer, Campaign, printed}
-use Rattle.coded_unit.specs.Seen.{UnitSeen}
+use Rattle.coded_unit.specs.Seen.{UnitSeen, StaysHonest}
 use Rattle.machine_run.specs.Moments.{Moment}
-use Rattle.coded_unit.specs.Seen.{StaysHonest}
 use Rattle.command_meaning.specs.Seen.{Appending}
 
 -- the answer where groups have these verdicts: a line for each, and the totals

@@ -7,9 +7,8 @@ use Rattle.vcp_inputs.specs.Lines.{memory_text, read_fault_text, write_fault_tex
 use Rattle.command_meaning.specs.Answer.{Answer}
 use Rattle.command_meaning.specs.Abouts.{Among, About, FileWord}
 use Rattle.command_meaning.specs.Kinds.{Task, lacks, answers, compiles, runs, judges, compares, pairs_, wires, Done, Left, Meant}
-use Rattle.coded_unit.specs.Seen.{UnitSeen}
+use Rattle.coded_unit.specs.Seen.{UnitSeen, StaysHonest}
 use Rattle.vcp_outside.specs.Seen.{SinkSeen}
-use Rattle.coded_unit.specs.Seen.{StaysHonest}
 use Rattle.command_meaning.specs.Seen.{Outside, Still, moment_of}
 
 -- ---- how a command ends

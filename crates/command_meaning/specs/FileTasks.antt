@@ -21,7 +21,7 @@ use Rattle.vcp_inputs.specs.Programs.{IsProgram, NoProgram, TypedOf, NotTyped}
 use Rattle.vcp_inputs.specs.RowsOutcome.{RowsOutcome, lacking, refused, opened, rows_outcome}
 use Rattle.vcp_inputs.specs.Scripts.{ScriptOf, NotScript}
 use Rattle.vcp_inputs.specs.Wires.{WireOf, NotWire}
-use Rattle.wire_script.specs.declared.script.Script.{Script}
+use Rattle.telegram.specs.declared.script.script.Script.{Script}
 use Rattle.command_meaning.specs.Kinds.{Task, lacks, refusal_task}
 
 -- What the file under a name comes to, of which these are the bytes, if there are any. It is lacking; or it is refused, since it has more

@@ -13,7 +13,7 @@ use Rattle.machine_run.specs.Moments.{Moment}
 use Rattle.command_meaning.specs.Seen.{Appending}
 use Rattle.command_meaning.specs.RunKind.{Job, RunDone, RunLeft, job_answer, run_meant}
 use Rattle.command_meaning.specs.CampaignKind.{CampaignDone, CampaignLeft, verdicts_answer, verdicts_meant}
-use Rattle.wire_script.specs.declared.script.Script.{Script}
+use Rattle.telegram.specs.declared.script.script.Script.{Script}
 use Rattle.command_meaning.specs.WireKind.{WireDone, WireLeft, wire_meant}
 use Rattle.command_meaning.specs.PairsKind.{PairsDone, PairsLeft, pairs_answer, pairs_meant}
 use Rattle.command_meaning.specs.PairKind.{PairJob, PairJobDone, PairJobLeft, pair_answer, pair_meant}

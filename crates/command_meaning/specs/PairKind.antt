@@ -14,8 +14,8 @@ use Rattle.pair_channel.specs.declared.pair_end.PairEnd.{PairEnd}
 use Rattle.pair_channel.specs.declared.pair_end.PairEnd.TheVariants as pair
 use Rattle.pair_channel.specs.Beside.{AllBeside}
 use Rattle.pair_channel.specs.PairRuns.{PairOutcome, FrontOfRun, pair_outcome_for}
-use Rattle.pair_run.specs.BesideDone.{BesideLeft, beside_calls, beside_read}
-use Rattle.pair_run.specs.PairLines.{pair_text}
+use Rattle.pair_channel.specs.BesideDone.{BesideLeft, beside_calls, beside_read}
+use Rattle.pair_channel.specs.PairLines.{pair_text}
 use Rattle.command_meaning.specs.Answer.{Answer}
 use Rattle.command_meaning.specs.Reports.{EndKind, with_rows, at_stop, unaccepted, line_behind, status_behind}
 use Rattle.command_meaning.specs.Seen.{Appending}

@@ -2,9 +2,9 @@
 use Rattle.std.specs.Prelude.{ℕ, ◌≡◌, ◌≤◌, ◌+◌, List, ◌++◌, length, Option}
 use Rattle.coded_unit.specs.Seen.{UnitSeen, StaysHonest}
 use Rattle.machine_run.specs.Moments.{Moment}
-use Rattle.pair_campaign.specs.declared.verdict.PairVerdict.{PairVerdict}
-use Rattle.pair_campaign.specs.PairCampaigns.{EarlierTold, GroupsRan, pairs_text}
-use Rattle.pair_campaign.specs.PairVerdicts.{told_verdicts}
+use Rattle.fault_campaign.specs.declared.pairs.verdict.PairVerdict.{PairVerdict}
+use Rattle.fault_campaign.specs.PairCampaigns.{EarlierTold, GroupsRan, pairs_text}
+use Rattle.fault_campaign.specs.PairVerdicts.{told_verdicts}
 use Rattle.command_meaning.specs.Answer.{Answer, Campaign, printed}
 use Rattle.command_meaning.specs.Seen.{Appending}
 

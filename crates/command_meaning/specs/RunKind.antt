@@ -14,9 +14,8 @@ use Rattle.command_meaning.specs.Answer.{Answer, Subject}
 use Rattle.command_meaning.specs.GraphsOf.{MayRun}
 use Rattle.command_meaning.specs.Reports.{end_read, end_told, subject_outputs, told_of}
 use Rattle.command_meaning.specs.Printing.{Report, ShownWords, Printing, no_report, run_then, told_answer}
-use Rattle.coded_unit.specs.Seen.{UnitSeen}
+use Rattle.coded_unit.specs.Seen.{UnitSeen, StaysHonest}
 use Rattle.machine_run.specs.Moments.{Moment}
-use Rattle.coded_unit.specs.Seen.{StaysHonest}
 use Rattle.command_meaning.specs.Seen.{Appending}
 
 -- A run on a unit: of what, the rows of its inputs with the refusal behind them, the name by which lines tell ROWS, the numbers of its

@@ -6,10 +6,10 @@ use Rattle.coded_unit.specs.Seen.{UnitSeen, StaysHonest}
 use Rattle.telegram.specs.Deliveries.{AreYoung, ComeFromSender, Rising, delivered}
 use Rattle.telegram.specs.WireRead.{right_words}
 use Rattle.telegram.specs.WireRun.{sent_in, wired}
-use Rattle.wire_script.specs.declared.script.Script.{Script}
-use Rattle.wire_script.specs.ScriptOf.{ScriptFits}
-use Rattle.wire_run.specs.Runs.{AreWords, EarlierTold, RoseBy, meant_text, told_handings, told_text}
-use Rattle.wire_run.specs.Sends.{Cut, calls_of}
+use Rattle.telegram.specs.declared.script.script.Script.{Script}
+use Rattle.telegram.specs.ScriptOf.{ScriptFits}
+use Rattle.telegram.specs.Runs.{AreWords, EarlierTold, RoseBy, meant_text, told_handings, told_text}
+use Rattle.telegram.specs.Sends.{Cut, calls_of}
 use Rattle.machine_run.specs.Moments.{Moment}
 use Rattle.command_meaning.specs.Answer.{Answer, printed}
 use Rattle.command_meaning.specs.Seen.{Appending}

@@ -1,2 +1,10 @@
 pub mod Telling
 pub mod SoFar
+pub mod CallsAsked
+pub mod CarriedByHand
+pub mod GroupSoFar
+pub mod HonestVerdicts
+pub mod Lists
+pub mod PairRows
+pub mod Told
+pub mod PairsTelling

@@ -1,6 +1,5 @@
 -- SoFar: what a campaign has found and told, group by group.
-use Rattle.std.proofs.Common.{◌≡◌, ◌≤◌, ◌+◌, ℕ, zero, suc, ℤ, List, [], ◌∷◌, ◌++◌, length, take, All, slice_get, option_map, Option, Some, Ok, Err, inl, inr}
-use Rattle.std.proofs.Common.{refl, ap, sym, subst, ◌∙◌, length-append, arith}
+use Rattle.std.proofs.Common.{◌≡◌, ◌≤◌, ◌+◌, ℕ, zero, suc, ℤ, List, [], ◌∷◌, ◌++◌, length, take, All, slice_get, option_map, Option, Some, Ok, Err, inl, inr, refl, ap, sym, subst, ◌∙◌, length-append, arith}
 use Rattle.std.proofs.lemmas.List.Elements.{All-get_or, All-nil, All-push}
 use Rattle.std.proofs.lemmas.Option.{get_or_from_slice_get, slice_get-map, slice_get_within}
 use Rattle.std.specs.Io.KnownBytes.{Appends}
@@ -19,8 +18,8 @@ use Rattle.fault_reruns.specs.Groups.{GroupsJudged}
 use Rattle.fault_reruns.specs.Laws.{GroupLaws}
 use Rattle.fault_reruns.specs.References.{KeptRun}
 use Rattle.fault_reruns.specs.Reruns.{IsReference, Reran}
-use Rattle.verdict_lines.specs.declared.lines.Totals.{Totals}
-use Rattle.verdict_lines.specs.FaultLines.{verdict_text, counted, no_verdicts, totals_of, totals_text}
+use Rattle.fault_injector.specs.declared.lines.Totals.{Totals}
+use Rattle.fault_injector.specs.FaultLines.{verdict_text, counted, no_verdicts, totals_of, totals_text}
 use Rattle.fault_campaign.specs.declared.fault.CampaignFault.TheVariants as fault
 use Rattle.fault_campaign.specs.Campaign.{verdict_lines, verdicts_of, Told}
 use Rattle.fault_campaign.proofs.Telling.{no_lines, lines_next, totals_next, line_failed, totals_failed}

@@ -13,7 +13,7 @@ use Rattle.fault_injector.specs.Verdicts.{verdict_of}
 use Rattle.fault_reruns.specs.Groups.{GroupsJudged}
 use Rattle.fault_reruns.specs.References.{KeptRun}
 use Rattle.fault_reruns.specs.Reruns.{IsReference}
-pub use Rattle.verdict_lines.specs.FaultLines.{verdict_lines, campaign_text}
+pub use Rattle.fault_injector.specs.FaultLines.{verdict_lines, campaign_text}
 use Rattle.fault_campaign.specs.declared.fault.CampaignFault.{CampaignFault}
 use Rattle.fault_campaign.specs.declared.fault.CampaignFault.TheVariants as fault
 

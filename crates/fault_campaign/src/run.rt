@@ -11,6 +11,7 @@ ghost use Rattle.fault_campaign.specs.declared.fault.CampaignFault.TheVariants a
 
 use crate::fault::CampaignFault;
 use coded_unit::Unit;
+use fault_injector::{Totals, totals_line, verdict_line};
 use fault_reruns::{Reference, groups_are_rerun_one_after_another};
 use fault_script::Script;
 use input_rows::RowList;
@@ -18,7 +19,6 @@ use op_graph::Graph;
 use signature_table::Table;
 use std::alloc::Global;
 use vcp_outside::Sink;
-use verdict_lines::{Totals, totals_line, verdict_line};
 
 /// Finds the verdict of each group of a script over rows of inputs, in order, and writes its line before
 /// the next group is looked at; then it writes the totals, which count groups. The run without faults is

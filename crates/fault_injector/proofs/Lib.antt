@@ -1,2 +1,4 @@
 pub mod WorkedGroups
 pub mod WorkedVerdicts
+mod FaultRows
+mod Going

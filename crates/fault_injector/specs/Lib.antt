@@ -1,2 +1,3 @@
 pub mod Names
 pub mod Verdicts
+pub mod FaultLines

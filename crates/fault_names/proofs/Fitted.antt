@@ -1,6 +1,5 @@
 -- Fitted: what a line means fits the graph.
-use Rattle.std.proofs.Common.{◌≡◌, ℕ, ◌<◌, ◌≤◌, ◌==◌, Bool, true, false, cond, nat_lt, nat_le, List, [], ◌∷◌, Option, Some, None, Result, Ok, Err, bytes_eq}
-use Rattle.std.proofs.Common.{slice_get, codes, refl, sym, ap, arith, subst}
+use Rattle.std.proofs.Common.{◌≡◌, ℕ, ◌<◌, ◌≤◌, ◌==◌, Bool, true, false, cond, nat_lt, nat_le, List, [], ◌∷◌, Option, Some, None, Result, Ok, Err, bytes_eq, slice_get, codes, refl, sym, ap, arith, subst}
 use Rattle.std.specs.Option.{option_map, option_and_then}
 use Rattle.std.proofs.lemmas.Bool.Decides.{nat_tests}
 use Rattle.vcp_base.specs.Limits.{most_cycles}
@@ -21,8 +20,7 @@ use Rattle.fault_names.specs.declared.doing.Doing.TheVariants as doing
 use Rattle.fault_names.specs.declared.meant.Acts.{Acts}
 use Rattle.fault_names.specs.declared.meant.Meant.{Meant}
 use Rattle.fault_names.specs.Words.{cut, from_to, last_of, span_by, span_of}
-use Rattle.fault_names.specs.Lines.{with_rest, and_next, or_form, doing_of, target_of, when_of, ending_of, act_of, one_act, acts_of}
-use Rattle.fault_names.specs.Lines.{is_together, unfit, unfit_other, unfit_else, unfit_acts, unless_unfit, fitted_at, fitted, ended, timed, aimed, meant_of}
+use Rattle.fault_names.specs.Lines.{with_rest, and_next, or_form, doing_of, target_of, when_of, ending_of, act_of, one_act, acts_of, is_together, unfit, unfit_other, unfit_else, unfit_acts, unless_unfit, fitted_at, fitted, ended, timed, aimed, meant_of}
 
 -- ---- what was read
 

@@ -2,7 +2,7 @@
 use Rattle.std.proofs.Common.{◌≡◌, ℕ, zero, suc, ◌+◌, List, [], ◌∷◌, ◌++◌, Option, append_assoc, refl, sym, ap, ◌∙◌, arith}
 use Rattle.std.proofs.lemmas.List.{append-nil}
 use Rattle.vcp_outside.specs.Seen.{SinkSeen}
-use Rattle.gathered_line.specs.Gathering.{Gathered, Gathers, GathersTo}
+use Rattle.vcp_outside.specs.Gathering.{Gathered, Gathers, GathersTo}
 use Rattle.fault_script.specs.declared.act.Act.{Act}
 use Rattle.fault_sites.specs.declared.site.Site.{Site}
 use Rattle.fault_sites.specs.Sites.{site}

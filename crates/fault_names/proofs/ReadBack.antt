@@ -1,7 +1,5 @@
 -- ReadBack: the script of named faults is read back as the faults that the lines say.
-use Rattle.std.proofs.Common.{◌≡◌, ℕ, zero, suc, ◌+◌, ◌-◌, ◌^◌, ◌<◌, ◌≤◌, ◌==◌, ◌&&◌, ◌||◌, Bool, true, false, cond, nat_lt, List, [], ◌∷◌, ◌++◌, length}
-use Rattle.std.proofs.Common.{All, Option, Some, None, Result, Ok, Err, codes, slice_get, slice_index, take, refl, sym, ap, subst, ◌∙◌, arith, append_assoc}
-use Rattle.std.proofs.Common.{length-append, append-nil}
+use Rattle.std.proofs.Common.{◌≡◌, ℕ, zero, suc, ◌+◌, ◌-◌, ◌^◌, ◌<◌, ◌≤◌, ◌==◌, ◌&&◌, ◌||◌, Bool, true, false, cond, nat_lt, List, [], ◌∷◌, ◌++◌, length, All, Option, Some, None, Result, Ok, Err, codes, slice_get, slice_index, take, refl, sym, ap, subst, ◌∙◌, arith, append_assoc, length-append, append-nil}
 use Rattle.std.specs.List.{list_all, slice_split}
 use Rattle.std.specs.Str.Lines.{lines, lines_of_parts, strip_carriage_return}
 use Rattle.std.proofs.lemmas.Bool.Decides.{nat_tests}
@@ -28,8 +26,7 @@ use Rattle.fault_sites.specs.SiteText.{said_from, site_lines, site_text}
 use Rattle.fault_names.specs.declared.when.Span.{Span}
 use Rattle.fault_names.specs.declared.meant.Meant.{Meant}
 use Rattle.fault_names.specs.Lines.{unfit, unfit_other}
-use Rattle.fault_names.specs.Script.{cycles_of, sites_from, sites_over, other_sites, sites_meant, faults_from, groups_meant, lines_meant, Entry, groups_from}
-use Rattle.fault_names.specs.Script.{begin_text, end_text, meant_text, entry_text, entry_texts}
+use Rattle.fault_names.specs.Script.{cycles_of, sites_from, sites_over, other_sites, sites_meant, faults_from, groups_meant, lines_meant, Entry, groups_from, begin_text, end_text, meant_text, entry_text, entry_texts}
 use Rattle.fault_names.specs.Entries.{other_count, fault_count}
 use Rattle.fault_names.proofs.Fitted.{MeantFits, act_fits, acts_fit}
 

@@ -1,7 +1,5 @@
 -- Short: the script of a text that isn't too long can be read from a file.
-use Rattle.std.proofs.Common.{◌≡◌, ℕ, suc, ◌+◌, ◌-◌, ◌*◌, ◌^◌, ◌<◌, ◌≤◌, ◌==◌, ◌&&◌, Bool, true, false, cond, nat_lt, List, [], ◌∷◌, ◌++◌, length, take, ℤ, pos}
-use Rattle.std.proofs.Common.{negsuc}
-use Rattle.std.proofs.Common.{decimal, codes, slice_index, Result, Ok, Err, arith, refl, sym, subst, length-append}
+use Rattle.std.proofs.Common.{◌≡◌, ℕ, suc, ◌+◌, ◌-◌, ◌*◌, ◌^◌, ◌<◌, ◌≤◌, ◌==◌, ◌&&◌, Bool, true, false, cond, nat_lt, List, [], ◌∷◌, ◌++◌, length, take, ℤ, pos, negsuc, decimal, codes, slice_index, Result, Ok, Err, arith, refl, sym, subst, length-append}
 use Rattle.std.specs.Fmt.{signed_decimal}
 use Rattle.std.specs.List.{slice_split, onto_first}
 use Rattle.std.specs.Str.Lines.{lines, lines_of_parts}

@@ -1,7 +1,5 @@
 -- Lines: what the words of a line mean. A line is read from the left, and the first word that is wrong decides why it is refused.
-use Rattle.std.specs.Prelude.{ℕ, ◌^◌, Bool, true, false, cond, nat_lt, List, [], ◌∷◌, Option, Some, None, option_map, option_and_then, Result, Ok, Err}
-use Rattle.std.specs.Prelude.{slice_get}
-use Rattle.std.specs.Prelude.{pos, neg_ℤ, codes, bytes_eq}
+use Rattle.std.specs.Prelude.{ℕ, ◌^◌, Bool, true, false, cond, nat_lt, List, [], ◌∷◌, Option, Some, None, option_map, option_and_then, Result, Ok, Err, slice_get, pos, neg_ℤ, codes, bytes_eq}
 use Rattle.vcp_base.specs.declared.kind.Kind.{Kind}
 use Rattle.op_graph.specs.declared.op.Op.{Op}
 use Rattle.op_graph.specs.Lists.{Lists}

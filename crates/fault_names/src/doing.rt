@@ -2,8 +2,7 @@
 
 ghost use Rattle.std.specs.Prelude.{◌≡◌, ◌<◌, IfOk, length};
 ghost use Rattle.script_text.specs.Words.{words as words_of};
-ghost use Rattle.fault_names.specs.Lines.{with_rest, of_kind as of_kind_of, place_at as place_at_of, place_of, operand_of, target_of, add_of, as_of, read_of};
-ghost use Rattle.fault_names.specs.Lines.{operator_of, doing_of};
+ghost use Rattle.fault_names.specs.Lines.{with_rest, of_kind as of_kind_of, place_at as place_at_of, place_of, operand_of, target_of, add_of, as_of, read_of, operator_of, doing_of};
 
 use crate::operations::operation_named;
 use crate::refused::Why;

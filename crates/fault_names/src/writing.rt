@@ -4,7 +4,7 @@ ghost use Rattle.std.specs.Prelude.{◌≤◌, [], cond, length};
 ghost use Rattle.std.specs.Str.Lines.{lines};
 ghost use Rattle.vcp_base.specs.Limits.{most_source_bytes};
 ghost use Rattle.vcp_outside.specs.Written.{WritesTo};
-ghost use Rattle.gathered_line.specs.Gathering.{GathersTo};
+ghost use Rattle.vcp_outside.specs.Gathering.{GathersTo};
 ghost use Rattle.script_text.specs.Lines.{read_lines};
 ghost use Rattle.script_text.specs.Words.{words as words_of};
 ghost use Rattle.fault_sites.specs.SiteText.{site_lines, site_text};
@@ -17,10 +17,9 @@ use crate::reading::cycles;
 use crate::when::Span;
 use fault_script::Act;
 use fault_sites::{Site, then_site};
-use gathered_line::Line;
 use op_graph::Graph;
 use script_text::first_read;
-use vcp_outside::{Failed, Sink};
+use vcp_outside::{Failed, Line, Sink};
 
 /// Goes on with the line of a site.
 fn then_fault<O: Sink>(line: &mut Line, out: &mut O, site: &Site)

@@ -1,6 +1,5 @@
 -- Asking: where a rerun asks the unit, and that every other operation has the answer of the run without the faults.
-use Rattle.std.proofs.Common.{◌≡◌, ℕ, zero, suc, ◌+◌, ◌<◌, Bool, true, false, cond, ◌&&◌, not, List, [], ◌∷◌, ◌++◌, length, map, slice_get}
-use Rattle.std.proofs.Common.{slice_index_or, Option, Some, None, ℤ, refl, sym, ap, subst, ◌∙◌, arith}
+use Rattle.std.proofs.Common.{◌≡◌, ℕ, zero, suc, ◌+◌, ◌<◌, Bool, true, false, cond, ◌&&◌, not, List, [], ◌∷◌, ◌++◌, length, map, slice_get, slice_index_or, Option, Some, None, ℤ, refl, sym, ap, subst, ◌∙◌, arith}
 use Rattle.std.proofs.lemmas.List.{append_assoc, append-nil, length-append, map-append}
 use Rattle.coded_unit.specs.declared.call.Call.{Call}
 use Rattle.coded_unit.specs.declared.call.Answer.{Answer}
@@ -19,8 +18,7 @@ use Rattle.fault_runs.specs.RunLaw.{Words, no_words, taken}
 use Rattle.fault_runs.specs.Scripts.{handed_by, passed_by, skips_by}
 use Rattle.fault_injector.specs.declared.verdict.Verdict.{Verdict}
 use Rattle.fault_reruns.specs.Laws.{asked_over, asks_at, places_where}
-use Rattle.fault_reruns.specs.Reruns.{Again, CycleAgain, Part, Source, has, asks, ended, after_answer, again, cycle_again, done, go_on, read_cycle, rerun}
-use Rattle.fault_reruns.specs.Reruns.{runs_again, source, source_of, source_touched, unless_judged, with_call}
+use Rattle.fault_reruns.specs.Reruns.{Again, CycleAgain, Part, Source, has, asks, ended, after_answer, again, cycle_again, done, go_on, read_cycle, rerun, runs_again, source, source_of, source_touched, unless_judged, with_call}
 use Rattle.fault_reruns.specs.Touched.{Marks, cycle_marks, held_marks, mark, marks_at, touched}
 
 abbrev spot : Call → ℕ × ℕ

@@ -1,7 +1,5 @@
 -- CycleRight: the rerun of a cycle whose calls were answered rightly has the answers of a whole run with the acts.
-use Rattle.std.proofs.Common.{◌≡◌, ℕ, zero, suc, ◌-◌, ◌≤◌, Bool, true, false, cond, ◌&&◌, ◌||◌, nat_lt, List, [], ◌∷◌, ◌++◌, length, slice_get, Option}
-use Rattle.std.proofs.Common.{Some, None}
-use Rattle.std.proofs.Common.{ℤ, pos, unsigned_abs, refl, sym, ap, subst, ◌∙◌, arith}
+use Rattle.std.proofs.Common.{◌≡◌, ℕ, zero, suc, ◌-◌, ◌≤◌, Bool, true, false, cond, ◌&&◌, ◌||◌, nat_lt, List, [], ◌∷◌, ◌++◌, length, slice_get, Option, Some, None, ℤ, pos, unsigned_abs, refl, sym, ap, subst, ◌∙◌, arith}
 use Rattle.std.specs.Option.{is_some}
 use Rattle.std.proofs.lemmas.Bool.{false≢true, ltb-true}
 use Rattle.std.proofs.lemmas.List.{append_assoc, append-nil}
@@ -15,8 +13,7 @@ use Rattle.coded_unit.specs.Right.{Right}
 use Rattle.op_graph.specs.declared.op.Op.{Op}
 use Rattle.op_graph.specs.Reads.{named}
 use Rattle.coded_machine.specs.declared.calling.Operands.{Operands}
-use Rattle.coded_machine.specs.Calls.{Setting, AllRight, AllWords, Whole, call_of, calls_from, is_word, operand_word, operands_of, operation_call, read_word}
-use Rattle.coded_machine.specs.Calls.{word_at, word_of}
+use Rattle.coded_machine.specs.Calls.{Setting, AllRight, AllWords, Whole, call_of, calls_from, is_word, operand_word, operands_of, operation_call, read_word, word_at, word_of}
 use Rattle.fault_script.specs.declared.act.Act.{Act}
 use Rattle.fault_script.specs.declared.act.Act.TheVariants as act
 use Rattle.fault_runs.specs.RunLaw.{RightsUnder, taken}

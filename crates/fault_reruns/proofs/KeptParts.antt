@@ -1,6 +1,5 @@
 -- KeptParts: where the words of a cycle stand among those that are kept, and how each cycle ended.
-use Rattle.std.proofs.Common.{◌≡◌, ℕ, ◌+◌, ◌-◌, ◌*◌, ◌<◌, ◌≤◌, List, [], length, take, drop, slice_index_or, Option, Some, None, ℤ}
-use Rattle.std.proofs.Common.{sym, ap, subst, ◌∙◌, arith}
+use Rattle.std.proofs.Common.{◌≡◌, ℕ, ◌+◌, ◌-◌, ◌*◌, ◌<◌, ◌≤◌, List, [], length, take, drop, slice_index_or, Option, Some, None, ℤ, sym, ap, subst, ◌∙◌, arith}
 use Rattle.vcp_base.specs.declared.kind.StopKind.{StopKind}
 use Rattle.coded_unit.specs.declared.call.Answer.{Answer}
 use Rattle.op_graph.specs.Lists.{Lists}

@@ -1,7 +1,5 @@
 -- KeptRuns: a run over rows, cycle by cycle, beside the words that are kept of it.
-use Rattle.std.proofs.Common.{◌≡◌, ◌≢◌, ℕ, zero, suc, ◌+◌, ◌*◌, ◌<◌, ◌≤◌, Bool, true, false, All, List, [], ◌∷◌, ◌++◌, length, take, drop}
-use Rattle.std.proofs.Common.{slice_get, Option, Some, None}
-use Rattle.std.proofs.Common.{ℤ, refl, sym, ap, subst, ◌∙◌, arith}
+use Rattle.std.proofs.Common.{◌≡◌, ◌≢◌, ℕ, zero, suc, ◌+◌, ◌*◌, ◌<◌, ◌≤◌, Bool, true, false, All, List, [], ◌∷◌, ◌++◌, length, take, drop, slice_get, Option, Some, None, ℤ, refl, sym, ap, subst, ◌∙◌, arith}
 use Rattle.std.proofs.lemmas.List.{append_assoc, length-append}
 use Rattle.std.proofs.lemmas.List.Elements.{All-get_or}
 use Rattle.std.proofs.lemmas.Option.{get_or_from_slice_get, slice_get_within}
@@ -20,8 +18,7 @@ use Rattle.coded_machine.specs.Runs.{AllCycles, Outcome, RunSoFar, Turn, calls_o
 use Rattle.coded_machine.specs.State.{State, fresh}
 use Rattle.fault_reruns.specs.Kept.{front_words, stop_kind}
 use Rattle.fault_reruns.specs.References.{RanOver, words_answered, kept_cycles}
-use Rattle.fault_reruns.proofs.KeptAnswers.{words_split, words_counted, whole_words, stop_split, stop_there, kept_more, kept_whole, kept_stop}
-use Rattle.fault_reruns.proofs.KeptAnswers.{calls_front, all_ended}
+use Rattle.fault_reruns.proofs.KeptAnswers.{words_split, words_counted, whole_words, stop_split, stop_there, kept_more, kept_whole, kept_stop, calls_front, all_ended}
 
 take_row : (rows : List (List ℤ)) (i : ℕ) (row : List ℤ) → slice_get rows i ≡ Some row → take (i + 1) rows ≡ take i rows ++ row ∷ []
 take_row [] i row there = absurd cc

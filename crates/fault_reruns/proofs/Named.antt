@@ -1,6 +1,5 @@
 -- Named: the verdict that is read off a rerun names an output or an operation of the graph, and a cycle that has a row.
-use Rattle.std.proofs.Common.{◌≡◌, ◌<◌, ◌≤◌, ◌+◌, ℕ, suc, ℤ, Bool, true, false, cond, List, [], ◌∷◌, ◌++◌, length, slice_get, Option, Some, None, IfSome}
-use Rattle.std.proofs.Common.{refl, ◌==◌, arith, length-append}
+use Rattle.std.proofs.Common.{◌≡◌, ◌<◌, ◌≤◌, ◌+◌, ℕ, suc, ℤ, Bool, true, false, cond, List, [], ◌∷◌, ◌++◌, length, slice_get, Option, Some, None, IfSome, refl, ◌==◌, arith, length-append}
 use Rattle.vcp_base.specs.Differences.{Difference, first_difference}
 use Rattle.vcp_base.specs.Kinds.{same}
 use Rattle.vcp_base.specs.Types.{fits}
@@ -27,8 +26,7 @@ use Rattle.fault_injector.specs.Names.{Names}
 use Rattle.fault_injector.specs.Verdicts.{judged, stops_alike}
 use Rattle.fault_injector.specs.declared.verdict.Verdict.{Verdict}
 use Rattle.fault_injector.specs.declared.verdict.Verdict.TheVariants as verdict
-use Rattle.fault_reruns.specs.Reruns.{Again, CycleAgain, InCycles, Part, Source, has, asks, ended, after_answer, again, cycle_again, go_on, read_cycle}
-use Rattle.fault_reruns.specs.Reruns.{refusal_in, runs_again, source, stop_in, unless_judged}
+use Rattle.fault_reruns.specs.Reruns.{Again, CycleAgain, InCycles, Part, Source, has, asks, ended, after_answer, again, cycle_again, go_on, read_cycle, refusal_in, runs_again, source, stop_in, unless_judged}
 use Rattle.fault_reruns.specs.Touched.{held_marks}
 use Rattle.fault_reruns.proofs.OutputsRead.{values_count}
 

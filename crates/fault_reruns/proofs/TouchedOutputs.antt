@@ -1,6 +1,5 @@
 -- TouchedOutputs: outputs whose OUTs aren't touched don't decide on the verdict of a cycle.
-use Rattle.std.proofs.Common.{◌≡◌, ℕ, zero, suc, ◌==◌, Bool, true, false, cond, List, [], ◌∷◌, ◌++◌, length, slice_get, Option, Some, None, ℤ, refl, sym}
-use Rattle.std.proofs.Common.{ap, subst, ◌∙◌, eqb-true}
+use Rattle.std.proofs.Common.{◌≡◌, ℕ, zero, suc, ◌==◌, Bool, true, false, cond, List, [], ◌∷◌, ◌++◌, length, slice_get, Option, Some, None, ℤ, refl, sym, ap, subst, ◌∙◌, eqb-true}
 use Rattle.std.proofs.lemmas.Bool.{false≢true}
 use Rattle.std.proofs.lemmas.List.{append_assoc, append-nil}
 use Rattle.vcp_base.specs.declared.code.Profile.{Profile}

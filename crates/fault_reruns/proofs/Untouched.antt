@@ -1,7 +1,5 @@
 -- Untouched: where nothing is touched, no call is made again, and the answers and the verdict are those of the run without the faults.
-use Rattle.std.proofs.Common.{◌≡◌, ℕ, zero, suc, ◌+◌, ◌-◌, ◌<◌, ◌≤◌, ◌==◌, ◌&&◌, ◌||◌, Bool, true, false, cond, nat_lt, List, [], ◌∷◌, ◌++◌, length}
-use Rattle.std.proofs.Common.{map, slice_get, Option, Some, None, ℤ, unsigned_abs}
-use Rattle.std.proofs.Common.{refl, sym, ap, subst, ◌∙◌, arith}
+use Rattle.std.proofs.Common.{◌≡◌, ℕ, zero, suc, ◌+◌, ◌-◌, ◌<◌, ◌≤◌, ◌==◌, ◌&&◌, ◌||◌, Bool, true, false, cond, nat_lt, List, [], ◌∷◌, ◌++◌, length, map, slice_get, Option, Some, None, ℤ, unsigned_abs, refl, sym, ap, subst, ◌∙◌, arith}
 use Rattle.std.specs.Option.{is_some}
 use Rattle.std.proofs.lemmas.Bool.{eq-eqb}
 use Rattle.std.proofs.lemmas.List.{append_assoc, append-nil}
@@ -27,8 +25,7 @@ use Rattle.fault_injector.specs.declared.verdict.Verdict.{Verdict}
 use Rattle.fault_injector.specs.declared.verdict.Verdict.TheVariants as verdict
 use Rattle.fault_injector.specs.Verdicts.{judged}
 use Rattle.fault_reruns.specs.Laws.{NoneRefused, AsksNoMore, NothingTouched}
-use Rattle.fault_reruns.specs.Reruns.{Again, CycleAgain, Part, after_answer, again, and_later, cycle_again, done, go_on, read_cycle, refusal_in, runs_again}
-use Rattle.fault_reruns.specs.Reruns.{source_of, source_touched, stop_in, unless_judged}
+use Rattle.fault_reruns.specs.Reruns.{Again, CycleAgain, Part, after_answer, again, and_later, cycle_again, done, go_on, read_cycle, refusal_in, runs_again, source_of, source_touched, stop_in, unless_judged}
 use Rattle.fault_reruns.specs.Touched.{Marks, cycle_marks, given_marks, held_marks, mark, operand_touched, past_touched_stop, reads_touched_as, touched_at}
 use Rattle.fault_reruns.proofs.RowsBeside.{same_self}
 

@@ -1,6 +1,5 @@
 -- Laws: what holds of touched operations and of reruns.
-use Rattle.std.specs.Prelude.{◌≡◌, ◌<◌, ◌≤◌, ℕ, suc, Bool, true, false, cond, ◌&&◌, not, ℤ, List, [], ◌∷◌, ◌++◌, length, map, slice_get}
-use Rattle.std.specs.Prelude.{slice_index_or, Option, Some, None}
+use Rattle.std.specs.Prelude.{◌≡◌, ◌<◌, ◌≤◌, ℕ, suc, Bool, true, false, cond, ◌&&◌, not, ℤ, List, [], ◌∷◌, ◌++◌, length, map, slice_get, slice_index_or, Option, Some, None}
 use Rattle.vcp_base.specs.Limits.{most_cycles}
 use Rattle.vcp_base.specs.Types.{fits}
 use Rattle.coded_unit.specs.declared.call.Answer.{Answer}

@@ -1,7 +1,6 @@
 //! Laws of reruns.
 
-ghost use Rattle.fault_reruns.specs.Laws.{TouchedLaws, ReferencesStand, PassedOverLaws, OutputLaws, RerunsAreRight, VerdictsAreRead};
-ghost use Rattle.fault_reruns.specs.Laws.{AsksAtTouched, GroupLaws};
+ghost use Rattle.fault_reruns.specs.Laws.{TouchedLaws, ReferencesStand, PassedOverLaws, OutputLaws, RerunsAreRight, VerdictsAreRead, AsksAtTouched, GroupLaws};
 
 use coded_machine::right_answers_stand_for_values;
 use fault_runs::{ends_under_acts_are_read_off_the_answers, runs_under_acts_keep_the_run_law};

@@ -4,8 +4,7 @@ ghost use Rattle.std.specs.Prelude.{◌≡◌, ◌<◌, ◌≤◌, ◌++◌, ◌
 ghost use Rattle.fault_script.specs.Changes.{acts_of};
 ghost use Rattle.fault_reruns.specs.Begun.{answers_in};
 ghost use Rattle.fault_reruns.specs.Standing.{IsStanding};
-ghost use Rattle.fault_reruns.specs.Touched.{cycle_marks, held_marks, operand_touched as operand_touched_of};
-ghost use Rattle.fault_reruns.specs.Touched.{past_touched_stop as past_touched_stop_of, touched_at};
+ghost use Rattle.fault_reruns.specs.Touched.{cycle_marks, held_marks, operand_touched as operand_touched_of, past_touched_stop as past_touched_stop_of, touched_at};
 
 use crate::again::{mark, named};
 use crate::reference::CycleAnswers;

@@ -1,16 +1,15 @@
 -- FlipGoing: the flips of a run, cycle by cycle.
-use Rattle.std.proofs.Common.{◌≡◌, ℕ, ℤ, zero, suc, ◌+◌, ◌*◌, ◌≤◌, List, [], ◌∷◌, ◌++◌, length, drop, slice_get, Option, Some, None, All, refl, sym, ap, ◌∙◌}
-use Rattle.std.proofs.Common.{arith, append_assoc, length-append}
+use Rattle.std.proofs.Common.{◌≡◌, ℕ, ℤ, zero, suc, ◌+◌, ◌*◌, ◌≤◌, List, [], ◌∷◌, ◌++◌, length, drop, slice_get, Option, Some, None, All, refl, sym, ap, ◌∙◌, arith, append_assoc, length-append}
 use Rattle.std.proofs.lemmas.List.{append-nil}
 use Rattle.std.proofs.lemmas.List.Elements.{All-head, All-tail}
 use Rattle.vcp_base.specs.declared.kind.StopKind.{StopKind}
 use Rattle.vcp_base.specs.Values.{at}
 use Rattle.vcp_outside.specs.Seen.{SinkSeen}
-use Rattle.gathered_line.specs.Gathering.{Gathered}
+use Rattle.vcp_outside.specs.Gathering.{Gathered}
 use Rattle.op_graph.specs.Lists.{Lists}
 use Rattle.op_graph.specs.GraphRun.{Cycle, cycle, stored}
 use Rattle.signature_table.specs.Signatures.{Numbers}
-use Rattle.graph_values.specs.Run.{Moment, after, begun}
+use Rattle.fault_sites.specs.Run.{Moment, after, begun}
 use Rattle.fault_script.specs.declared.act.Act.TheVariants as act
 use Rattle.fault_sites.specs.declared.part.Part.{Part}
 use Rattle.fault_sites.specs.declared.site.Site.{Site}

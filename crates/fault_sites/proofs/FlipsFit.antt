@@ -1,6 +1,5 @@
 -- FlipsFit: each flip fits the graph, and the script of a part of the flips is read back.
-use Rattle.std.proofs.Common.{◌≡◌, ℕ, zero, suc, ◌+◌, ◌^◌, ◌<◌, ◌≤◌, ℤ, pos, neg_ℤ, Bool, true, false, cond, List, [], ◌∷◌, length, drop, slice_get, Option}
-use Rattle.std.proofs.Common.{Some, None, All, codes, refl, arith, Ok}
+use Rattle.std.proofs.Common.{◌≡◌, ℕ, zero, suc, ◌+◌, ◌^◌, ◌<◌, ◌≤◌, ℤ, pos, neg_ℤ, Bool, true, false, cond, List, [], ◌∷◌, length, drop, slice_get, Option, Some, None, All, codes, refl, arith, Ok}
 use Rattle.std.proofs.lemmas.List.Elements.{All-nil, All-append, All-take, All-drop}
 use Rattle.vcp_base.specs.Limits.{most_cycles, most_source_bytes}
 use Rattle.vcp_base.specs.declared.kind.Kind.{Kind}

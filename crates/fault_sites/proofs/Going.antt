@@ -2,7 +2,7 @@
 use Rattle.std.proofs.Common.{◌≡◌, ℕ, ◌+◌, ◌<◌, ◌≤◌, List, [], ◌∷◌, ◌++◌, length, Option, codes, ◌-◌, add-one, append_assoc, refl, sym, ap, ◌∙◌, arith}
 use Rattle.std.proofs.lemmas.List.{append-nil}
 use Rattle.vcp_outside.specs.Seen.{SinkSeen}
-use Rattle.gathered_line.specs.Gathering.{Gathered, Gathers, GathersTo}
+use Rattle.vcp_outside.specs.Gathering.{Gathered, Gathers, GathersTo}
 use Rattle.fault_script.specs.declared.act.Act.{Act}
 use Rattle.fault_sites.specs.declared.part.Part.{Part}
 use Rattle.fault_sites.specs.declared.site.Site.{Site}

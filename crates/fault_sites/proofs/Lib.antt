@@ -15,3 +15,6 @@ mod SitesHave
 mod SitesOnce
 mod Spelled
 mod Worked
+pub mod Lists
+pub mod Plain
+pub mod Scripts

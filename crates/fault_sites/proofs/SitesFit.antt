@@ -1,6 +1,5 @@
 -- SitesFit: each site fits the graph.
-use Rattle.std.proofs.Common.{◌≡◌, ℕ, ◌<◌, ◌≤◌, ◌==◌, Bool, true, false, ◌&&◌, ◌||◌, nat_lt, List, [], ◌∷◌, length, slice_get}
-use Rattle.std.proofs.Common.{All, Option, Some, None, refl, arith}
+use Rattle.std.proofs.Common.{◌≡◌, ℕ, ◌<◌, ◌≤◌, ◌==◌, Bool, true, false, ◌&&◌, ◌||◌, nat_lt, List, [], ◌∷◌, length, slice_get, All, Option, Some, None, refl, arith}
 use Rattle.std.proofs.lemmas.Bool.Decides.{nat_tests}
 use Rattle.std.proofs.lemmas.List.Elements.{All-nil, All-cons, All-append, All-head, All-tail}
 use Rattle.vcp_base.specs.Limits.{most_cycles}
@@ -18,8 +17,7 @@ use Rattle.fault_sites.specs.declared.class.Class.TheVariants as class
 use Rattle.fault_sites.specs.declared.class.Classes.{Classes}
 use Rattle.fault_sites.specs.declared.class.Classes.TheVariants as classes
 use Rattle.fault_sites.specs.declared.site.Site.{Site}
-use Rattle.fault_sites.specs.Sites.{addend, addend_count, adding, bits_at, stale, from_one, from, may_replace, may_stand, operator_one}
-use Rattle.fault_sites.specs.Sites.{acts_of, has_acts, sited, sites_at, sites_in, sites_of, sites, as_fault}
+use Rattle.fault_sites.specs.Sites.{addend, addend_count, adding, bits_at, stale, from_one, from, may_replace, may_stand, operator_one, acts_of, has_acts, sited, sites_at, sites_in, sites_of, sites, as_fault}
 use Rattle.fault_sites.proofs.Below.{all_below, all_one, all_if, tested_below, passed}
 
 less : (m n : ℕ) → m < n → nat_lt m n ≡ true

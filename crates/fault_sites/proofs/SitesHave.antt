@@ -1,12 +1,10 @@
 -- SitesHave: the sites of a class are the faults that are of the class, and no others.
-use Rattle.std.proofs.Common.{◌≡◌, ◌≢◌, ◌↔◌, ℕ, zero, suc, ◌+◌, ◌-◌, ◌^◌, ◌<◌, ◌≤◌, ◌==◌, Bool, true, false, cond, not, ◌&&◌, ◌||◌, nat_lt, List, [], ◌∷◌}
-use Rattle.std.proofs.Common.{length, slice_get, All, Option, Some, None, ℤ, pos, neg_ℤ, refl, sym, ap, ◌∙◌, subst, arith, inl, inr}
+use Rattle.std.proofs.Common.{◌≡◌, ◌≢◌, ◌↔◌, ℕ, zero, suc, ◌+◌, ◌-◌, ◌^◌, ◌<◌, ◌≤◌, ◌==◌, Bool, true, false, cond, not, ◌&&◌, ◌||◌, nat_lt, List, [], ◌∷◌, length, slice_get, All, Option, Some, None, ℤ, pos, neg_ℤ, refl, sym, ap, ◌∙◌, subst, arith, inl, inr}
 use Rattle.std.specs.List.{Contains}
 use Rattle.std.proofs.lemmas.Bool.{cases_lt}
 use Rattle.std.proofs.lemmas.Bool.Decides.{nat_tests}
 use Rattle.std.proofs.lemmas.Option.{slice_get_within}
-use Rattle.std.proofs.lemmas.List.Elements.{All-nil, All-cons, All-append, All-head, All-tail, All-contains, Contains-append_left, Contains-append_right}
-use Rattle.std.proofs.lemmas.List.Elements.{Contains-push}
+use Rattle.std.proofs.lemmas.List.Elements.{All-nil, All-cons, All-append, All-head, All-tail, All-contains, Contains-append_left, Contains-append_right, Contains-push}
 use Rattle.vcp_base.specs.declared.kind.Kind.{Kind}
 use Rattle.vcp_base.specs.declared.kind.Kind.TheVariants as kind
 use Rattle.vcp_base.specs.Kinds.{operands}
@@ -20,8 +18,7 @@ use Rattle.fault_sites.specs.declared.class.Class.{Class}
 use Rattle.fault_sites.specs.declared.class.Class.TheVariants as class
 use Rattle.fault_sites.specs.declared.site.Site.{Site}
 use Rattle.fault_sites.specs.Members.{IsPower, OfClass, IsSite}
-use Rattle.fault_sites.specs.Sites.{each_below, addend, addend_count, adding, bits_at, from_one, may_replace, may_stand, operator_one}
-use Rattle.fault_sites.specs.Sites.{acts_of, has_acts, site, sited, sites_at, sites_in, sites_of}
+use Rattle.fault_sites.specs.Sites.{each_below, addend, addend_count, adding, bits_at, from_one, may_replace, may_stand, operator_one, acts_of, has_acts, site, sited, sites_at, sites_in, sites_of}
 use Rattle.fault_sites.proofs.Below.{all_below, all_one, all_if}
 use Rattle.fault_sites.proofs.SitesFit.{acts_fit}
 

@@ -1,6 +1,5 @@
 -- SitesOnce: each site stands once.
-use Rattle.std.proofs.Common.{◌≡◌, ◌≢◌, ℕ, zero, suc, ◌+◌, ◌<◌, ◌==◌, Bool, true, cond, List, [], ◌∷◌, ◌++◌, length, slice_get, int_lt}
-use Rattle.std.proofs.Common.{All, Option, Some, None, ℤ, refl, ap, arith}
+use Rattle.std.proofs.Common.{◌≡◌, ◌≢◌, ℕ, zero, suc, ◌+◌, ◌<◌, ◌==◌, Bool, true, cond, List, [], ◌∷◌, ◌++◌, length, slice_get, int_lt, All, Option, Some, None, ℤ, refl, ap, arith}
 use Rattle.std.proofs.lemmas.Bool.Decides.{nat_tests}
 use Rattle.std.proofs.lemmas.List.Elements.{All-nil, All-cons, All-append, All-head, All-tail, All-weaker}
 use Rattle.vcp_base.specs.declared.kind.Kind.{Kind}
@@ -16,8 +15,7 @@ use Rattle.fault_sites.specs.declared.class.Classes.{Classes}
 use Rattle.fault_sites.specs.declared.class.Classes.TheVariants as classes
 use Rattle.fault_sites.specs.declared.site.Site.{Site}
 use Rattle.fault_sites.specs.Laws.{Distinct}
-use Rattle.fault_sites.specs.Sites.{addend, addend_count, adding, bits_at, bits, stale, from_one, from, may_replace, may_stand, operator_one, operator}
-use Rattle.fault_sites.specs.Sites.{acts_of, has_acts, site, sited, sites_at, sites_in, sites_of, sites, each_below}
+use Rattle.fault_sites.specs.Sites.{addend, addend_count, adding, bits_at, bits, stale, from_one, from, may_replace, may_stand, operator_one, operator, acts_of, has_acts, site, sited, sites_at, sites_in, sites_of, sites, each_below}
 use Rattle.fault_sites.proofs.Below.{all_below, all_one, all_if, tested_below, passed, distinct_append, distinct_one, distinct_if, apart_by, distinct_below}
 
 -- ---- what tells acts of a class apart

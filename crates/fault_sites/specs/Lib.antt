@@ -5,3 +5,6 @@ pub mod Part
 pub mod SiteText
 pub mod Sites
 pub mod Telling
+pub mod Run
+pub mod Digest
+pub mod Script

@@ -1,7 +1,7 @@
 -- Telling: what the calls that write a part of the sites do, one after another.
 use Rattle.std.specs.Prelude.{◌≡◌, List, [], ◌∷◌, ◌++◌, codes, ℕ}
 use Rattle.vcp_outside.specs.Seen.{SinkSeen}
-use Rattle.gathered_line.specs.Gathering.{Gathered, GathersTo}
+use Rattle.vcp_outside.specs.Gathering.{Gathered, GathersTo}
 use Rattle.fault_sites.specs.declared.part.Part.{Part}
 use Rattle.fault_sites.specs.declared.site.Site.{Site}
 use Rattle.fault_sites.specs.Part.{kept, after}

@@ -3,8 +3,7 @@
 ghost use Rattle.std.specs.Prelude.{◌≡◌, ◌<◌, ◌≤◌, cond, length, slice_get};
 ghost use Rattle.std.specs.Option.{option_to_list};
 ghost use Rattle.vcp_base.specs.Limits.{most_cycles};
-ghost use Rattle.fault_sites.specs.Sites.{acts_of, each_below, from as from_of_op, from_one, has_acts as has_acts_of, operator as operator_of_op, sites};
-ghost use Rattle.fault_sites.specs.Sites.{sites_at, sites_in, sites_of};
+ghost use Rattle.fault_sites.specs.Sites.{acts_of, each_below, from as from_of_op, from_one, has_acts as has_acts_of, operator as operator_of_op, sites, sites_at, sites_in, sites_of};
 
 use crate::acts::{KINDS, from_of, has_acts, operator_of};
 use crate::class::{Class, Classes};

@@ -3,24 +3,23 @@
 ghost use Rattle.std.specs.Prelude.{◌≡◌, ℕ, ◌<◌, ◌≤◌, ◌++◌, ◌/◌, ◌%◌, ◌^◌, ◌==◌, All, codes, length};
 ghost use Rattle.vcp_base.specs.Limits.{most_cycles};
 ghost use Rattle.vcp_outside.specs.Written.{WritesTo};
-ghost use Rattle.gathered_line.specs.Gathering.{GathersTo};
-ghost use Rattle.graph_values.specs.Run.{begun};
+ghost use Rattle.vcp_outside.specs.Gathering.{GathersTo};
+ghost use Rattle.fault_sites.specs.Run.{begun};
 ghost use Rattle.signature_table.specs.Signatures.{Numbers};
 ghost use Rattle.fault_sites.specs.Flips.{bit_of, expected_word as expected_word_of, flip as flip_of, flipped_bits, flips, flips_in, flips_of, flips_text};
 ghost use Rattle.fault_sites.specs.Sites.{sited};
 ghost use Rattle.fault_sites.specs.Telling.{Tells};
 
+use crate::GraphValues;
 use crate::part::Part;
 use crate::telling::then_one;
 use crate::values::power;
 use coded_unit::Word;
 use fault_script::Act;
-use gathered_line::Line;
-use graph_values::GraphValues;
 use input_rows::RowList;
 use signature_table::{Table, expected};
 use vcp_base::Row;
-use vcp_outside::{Failed, Sink};
+use vcp_outside::{Failed, Line, Sink};
 
 /// How many bits of a word are flipped.
 const BITS: u32 = 32;

@@ -1,7 +1,6 @@
 //! Laws of sites. Each function does nothing: it states a law.
 
-ghost use Rattle.fault_sites.specs.Laws.{EachFits, EachFlipFits, EachFlipOnce, EachOnce, FlipsAreReadBack, FlipsAreShort, IsLineRead, IsReadBack, IsShort};
-ghost use Rattle.fault_sites.specs.Laws.{PartsAreWhole, TurnsOneBit};
+ghost use Rattle.fault_sites.specs.Laws.{EachFits, EachFlipFits, EachFlipOnce, EachOnce, FlipsAreReadBack, FlipsAreShort, IsLineRead, IsReadBack, IsShort, PartsAreWhole, TurnsOneBit};
 ghost use Rattle.fault_sites.specs.Members.{HasEach};
 
 /// Each site fits the graph, in the sense of scripts of faults, whatever line it stands in.

@@ -1,16 +1,14 @@
 //! The line of a site.
 
 ghost use Rattle.std.specs.Prelude.{◌≡◌, ◌++◌, codes, decimal};
-ghost use Rattle.gathered_line.specs.Gathering.{GathersTo};
-ghost use Rattle.fault_sites.specs.SiteText.{class_name as class_name_of, classes_name as classes_name_of, classes_of, verb as verb_of, rest as rest_of};
-ghost use Rattle.fault_sites.specs.SiteText.{site_line};
+ghost use Rattle.vcp_outside.specs.Gathering.{GathersTo};
+ghost use Rattle.fault_sites.specs.SiteText.{class_name as class_name_of, classes_name as classes_name_of, classes_of, verb as verb_of, rest as rest_of, site_line};
 
 use crate::class::{Class, Classes};
 use crate::site::Site;
 use fault_script::Act;
-use gathered_line::Line;
 use vcp_base::kind_name;
-use vcp_outside::Sink;
+use vcp_outside::{Line, Sink};
 
 /// The word that names a class.
 fn class_name(class: Class) -> &'static [u8]

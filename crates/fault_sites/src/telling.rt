@@ -2,8 +2,7 @@
 
 ghost use Rattle.std.specs.Prelude.{◌≡◌, ◌<◌, ◌≤◌, ◌∷◌, [], Some, length, slice_get};
 ghost use Rattle.std.specs.Option.{option_to_list};
-ghost use Rattle.fault_sites.specs.Sites.{acts_of, bits as bits_of, bits_at, each_below, from as from_of_op, operator as operator_of_op};
-ghost use Rattle.fault_sites.specs.Sites.{sited, sites_at, sites_in, stale as stale_of, from_one};
+ghost use Rattle.fault_sites.specs.Sites.{acts_of, bits as bits_of, bits_at, each_below, from as from_of_op, operator as operator_of_op, sited, sites_at, sites_in, stale as stale_of, from_one};
 ghost use Rattle.fault_sites.specs.Telling.{Tells};
 
 use crate::acts::{KINDS, from_of, has_acts, operator_of};
@@ -13,10 +12,9 @@ use crate::part::Part;
 use crate::site::Site;
 use crate::values::{ADDENDS, bit};
 use fault_script::Act;
-use gathered_line::Line;
 use op_graph::{Graph, Op};
 use vcp_base::operands;
-use vcp_outside::Sink;
+use vcp_outside::{Line, Sink};
 
 /// Goes on with the line of an act at operation `k` in cycle `n`, where it is in the part, and gives what is left of the part.
 pub(crate) fn then_one<O: Sink>(

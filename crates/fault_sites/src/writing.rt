@@ -2,7 +2,7 @@
 
 ghost use Rattle.std.specs.Prelude.{◌≡◌, ◌++◌, codes, length};
 ghost use Rattle.vcp_outside.specs.Written.{WritesTo};
-ghost use Rattle.gathered_line.specs.Gathering.{GathersTo};
+ghost use Rattle.vcp_outside.specs.Gathering.{GathersTo};
 ghost use Rattle.fault_sites.specs.Sites.{sites, sites_in, sites_of};
 ghost use Rattle.fault_sites.specs.SiteText.{classes_name as classes_name_of, sites_text};
 ghost use Rattle.fault_sites.specs.Telling.{Tells};
@@ -12,9 +12,8 @@ use crate::counts::{count_cycle, count_in};
 use crate::lines::classes_name;
 use crate::part::Part;
 use crate::telling::then_cycle;
-use gathered_line::Line;
 use op_graph::Graph;
-use vcp_outside::{Failed, Sink};
+use vcp_outside::{Failed, Line, Sink};
 
 /// Goes on with the sites of a class in cycle `n`, and passes over them at once where they all stand before the part. A class has so
 /// many sites in each cycle in which it has any.

@@ -2,7 +2,7 @@
 use Rattle.std.proofs.Common.{◌≡◌, ℕ, List, [], ◌∷◌, ◌++◌, Option, refl, append_assoc, flat_map, ◌∙◌, ap, add-one, ◌+◌}
 use Rattle.std.proofs.lemmas.Grind.{flat_map-append}
 use Rattle.std.proofs.lemmas.List.{append-nil}
-use Rattle.gathered_line.specs.Gathering.{Gathered, Gathers}
+use Rattle.vcp_outside.specs.Gathering.{Gathered, Gathers}
 use Rattle.svg_text.specs.Elements.{Element, element_text}
 use Rattle.svg_text.specs.Drawing.{each_below}
 

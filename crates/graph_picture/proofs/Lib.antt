@@ -4,3 +4,6 @@ mod OwnRows
 mod Seen
 mod WholeDrawing
 mod WholeText
+mod DotGoing
+mod Counted
+mod WorstIs

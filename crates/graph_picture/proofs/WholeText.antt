@@ -17,8 +17,7 @@ use Rattle.graph_picture.specs.declared.looks.Look.{Look}
 use Rattle.graph_picture.specs.declared.looks.Look.TheVariants as look
 use Rattle.graph_picture.specs.Constants.{is_constant}
 use Rattle.graph_picture.specs.Drawn.{Box, Wire, Drawing, own_of}
-use Rattle.graph_picture.specs.Elements.{blindness, note, cell_bar, constant_elements, constant_of, constant_at, body_elements, box_elements}
-use Rattle.graph_picture.specs.Elements.{wire_element, line_from, wire_elements, sample, audit_legend, drawing_elements}
+use Rattle.graph_picture.specs.Elements.{blindness, note, cell_bar, constant_elements, constant_of, constant_at, body_elements, box_elements, wire_element, line_from, wire_elements, sample, audit_legend, drawing_elements}
 
 abbrev All : List Element → Type 0
 All es = AllByRecursion HasEachOnce es

@@ -4,7 +4,7 @@ use Rattle.op_graph.specs.declared.op.Outlet.{Outlet}
 use Rattle.op_graph.specs.Lists.{Lists}
 use Rattle.weight_audit.specs.Audit.{Audit}
 use Rattle.weight_audit.specs.Paths.{Reached, Blind}
-use Rattle.audit_report.specs.AuditText.{is_reached, is_blind}
+use Rattle.weight_audit.specs.AuditText.{is_reached, is_blind}
 use Rattle.graph_picture.specs.declared.colours.Colour.{Colour}
 use Rattle.graph_picture.specs.declared.colours.Colour.TheVariants as colour
 

@@ -5,3 +5,8 @@ pub mod Drawn
 pub mod Elements
 pub mod Looks
 pub mod Whole
+pub mod Characters
+pub mod DotText
+pub mod FaultsText
+pub mod VerdictLooks
+pub mod WorstVerdict

@@ -3,8 +3,7 @@
 ghost use Rattle.std.specs.Prelude.{◌≡◌, ◌<◌, ◌≤◌, ◌+◌, ◌&&◌, length};
 ghost use Rattle.graph_picture.specs.Colours.{seen_then, seen_after, colour_of as colour_of_kept};
 
-use audit_report::is_blind;
-use weight_audit::Weights;
+use weight_audit::{Weights, is_blind};
 
 /// How an operation shows at the outputs, within a number of cycle borders.
 #[derive(Clone, Copy, Debug, PartialEq, Eq)]

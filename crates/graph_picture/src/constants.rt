@@ -1,7 +1,7 @@
 //! Constants in the boxes of operations that read them.
 
 ghost use Rattle.std.specs.Prelude.{◌≡◌, ◌<◌, length, flat_map, slice_get};
-ghost use Rattle.gathered_line.specs.Gathering.{GathersTo};
+ghost use Rattle.vcp_outside.specs.Gathering.{GathersTo};
 ghost use Rattle.op_graph.specs.Reads.{named};
 ghost use Rattle.svg_text.specs.Characters.{piece_bytes};
 ghost use Rattle.svg_text.specs.Elements.{element_text};
@@ -12,10 +12,9 @@ use crate::boxes::class;
 use crate::layout::{Place, left, top};
 use crate::looks::{Look, Looks};
 use crate::names::{is_constant, own_piece};
-use gathered_line::Line;
 use op_graph::{Graph, Op, reads_operation};
 use svg_text::{Name, Piece, Tag, then_element};
-use vcp_outside::Sink;
+use vcp_outside::{Line, Sink};
 
 /// Draws the small rectangle of constant `k` in a box that stands so, for operand `which`.
 fn then_patch<O: Sink>(line: &mut Line, out: &mut O, place: Place, which: u32, k: u32, look: Look)

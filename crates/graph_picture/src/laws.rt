@@ -15,8 +15,8 @@ ghost use Rattle.graph_picture.specs.Elements.{graph_text, picture_of};
 ghost use Rattle.graph_picture.specs.Looks.{audit_looks, IsAuditLook};
 ghost use Rattle.graph_picture.specs.Whole.{IsWhole};
 
-use audit_report::an_audit_has_one_text;
 use svg_text::pictures_are_well_formed;
+use weight_audit::an_audit_has_one_text;
 
 /// What is drawn of a graph has each operation once, with its look, and each pair of an operand and its
 /// reader once. The looks by weights are of the colours that paths and weights say. And the text of a picture is a

@@ -3,13 +3,15 @@
 //!
 //! How a box looks is told by a `Looks`. By weights, an operation from which no path leads to an output within
 //! the horizon is grey, and one whose differences cancel on their paths to an output is red, with that
-//! output and the number of cycle borders. The picture is written piece by piece.
+//! output and the number of cycle borders. The picture is written piece by piece; as a text for Graphviz, too (`dot`), and by the verdicts of a
+//! campaign (`verdicts`).
 #![tactic(auto)]
 
 mod boxes;
 mod colours;
 mod columns;
 mod constants;
+mod dot;
 mod laws;
 mod layout;
 mod legend;
@@ -17,12 +19,15 @@ mod looks;
 mod names;
 mod picture;
 mod rows;
+mod verdicts;
 mod wires;
 
 pub use colours::{Colour, colour_of};
+pub use dot::{a_text_draws_all, write_dot};
 pub use laws::a_graph_is_drawn_whole;
 pub use layout::{Layout, Place, layout_of};
 pub use legend::Sample;
 pub use looks::{Look, Looks, Worst};
 pub use names::{is_constant, own_piece};
 pub use picture::{write_looks, write_picture};
+pub use verdicts::{a_picture_is_well_formed, each_operation_has_its_worst_verdict, write_faults};

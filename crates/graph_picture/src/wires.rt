@@ -1,7 +1,7 @@
 //! The lines from operands to their readers.
 
 ghost use Rattle.std.specs.Prelude.{◌≡◌, ◌<◌, ◌≤◌, length, flat_map, slice_get};
-ghost use Rattle.gathered_line.specs.Gathering.{GathersTo};
+ghost use Rattle.vcp_outside.specs.Gathering.{GathersTo};
 ghost use Rattle.op_graph.specs.Reads.{named};
 ghost use Rattle.svg_text.specs.Elements.{element_text};
 ghost use Rattle.graph_picture.specs.Drawn.{wire_of, wires_of, wires_below};
@@ -9,10 +9,9 @@ ghost use Rattle.graph_picture.specs.Elements.{wire_element, line_from, wire_ele
 
 use crate::layout::{Layout, Place, left, top};
 use crate::names::is_constant;
-use gathered_line::Line;
 use op_graph::{Graph, Op, reads_operation};
 use svg_text::{Name, Piece, Tag, then_element};
-use vcp_outside::Sink;
+use vcp_outside::{Line, Sink};
 
 /// Draws the line from operation `operand` to operation `reader`, which reads it as its operand
 /// `which`.

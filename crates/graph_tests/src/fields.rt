@@ -1,6 +1,6 @@
 //! Fields and entries, each written or read once.
 
-use image_fields::{
+use image_file::fields::{
     Fault, Keys, ReadError, any_number_here, at_most_here, below_here, cell_of, input_of, name_of,
     output_of, put_i64, put_kind, put_residue, put_ty, put_u16, put_u32, residue_at, turn_of,
     ty_named, u8_at, u16_at, u32_at, u64_at,

@@ -1,6 +1,5 @@
 -- The types of inputs and outputs are those of their operations, so the code has words of them.
-use Rattle.std.proofs.Common.{◌≡◌, ℕ, zero, suc, ◌+◌, ◌<◌, ◌==◌, ◌&&◌, Bool, true, false, cond, List, [], ◌∷◌, length, take, slice_get, All, Option, Some, None}
-use Rattle.std.proofs.Common.{refl, ap, subst, ◌∙◌, arith}
+use Rattle.std.proofs.Common.{◌≡◌, ℕ, zero, suc, ◌+◌, ◌<◌, ◌==◌, ◌&&◌, Bool, true, false, cond, List, [], ◌∷◌, length, take, slice_get, All, Option, Some, None, refl, ap, subst, ◌∙◌, arith}
 use Rattle.std.specs.Option.{is_some}
 use Rattle.std.specs.Prelude.{FitsSigned}
 use Rattle.std.specs.Int.{w64}
@@ -17,10 +16,9 @@ use Rattle.op_graph.specs.declared.op.Op.{Op}
 use Rattle.op_graph.specs.declared.op.Outlet.{Outlet}
 use Rattle.op_graph.specs.declared.op.Loaded.{Loaded}
 use Rattle.op_graph.specs.Lists.{Lists}
-use Rattle.op_graph.specs.Rules.{entry, numbered, found, place_of, entry_of, agree, is_input, is_load, is_store, is_out, kind_fits, from_fits}
+use Rattle.op_graph.specs.Rules.{entry, numbered, found, place_of, entry_of, agree, is_input, is_load, is_store, is_out, kind_fits, from_fits, same_type, OpFits, OutputFits, Admitted, IsPart, IsGraph, scope}
 use Rattle.op_graph.specs.declared.rules.Place.{Place}
 use Rattle.op_graph.specs.declared.rules.Entry.{Entry}
-use Rattle.op_graph.specs.Rules.{same_type, OpFits, OutputFits, Admitted, IsPart, IsGraph, scope}
 use Rattle.image_file.proofs.Entries.{eqb_self}
 
 -- what op_graph promises of the entries of graphs

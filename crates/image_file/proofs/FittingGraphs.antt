@@ -1,6 +1,5 @@
 -- What keeps the rules of a graph has an image: cells, and the whole, where the numbers have the format's widths.
-use Rattle.std.proofs.Common.{◌≡◌, ℕ, suc, ◌+◌, ◌*◌, ◌<◌, ◌≤◌, true, List, [], ◌∷◌, ◌++◌, length, map, All, Some, slice_get, refl, sym, ap, subst, ◌∙◌}
-use Rattle.std.proofs.Common.{append_assoc, arith, length-append}
+use Rattle.std.proofs.Common.{◌≡◌, ℕ, suc, ◌+◌, ◌*◌, ◌<◌, ◌≤◌, true, List, [], ◌∷◌, ◌++◌, length, map, All, Some, slice_get, refl, sym, ap, subst, ◌∙◌, append_assoc, arith, length-append}
 use Rattle.std.proofs.lemmas.Bool.{lt-ltb}
 use Rattle.std.proofs.lemmas.List.Elements.{All-cons, All-nil}
 use Rattle.std.specs.Int.{w64}
@@ -12,9 +11,8 @@ use Rattle.op_graph.specs.declared.op.Op.{Op}
 use Rattle.op_graph.specs.declared.op.Cell.{Cell}
 use Rattle.op_graph.specs.declared.op.Loaded.{Loaded}
 use Rattle.op_graph.specs.Lists.{Lists, cells, joined}
-use Rattle.op_graph.specs.Rules.{Each, LoadFits, StoreFits, LoadedBefore}
-use Rattle.op_graph.specs.Rules.{scope, Operates, PlaceFits, Admitted}
-use Rattle.image_fields.specs.Entries.{cell_piece}
+use Rattle.op_graph.specs.Rules.{Each, LoadFits, StoreFits, LoadedBefore, scope, Operates, PlaceFits, Admitted}
+use Rattle.image_file.specs.Entries.{cell_piece}
 use Rattle.image_file.specs.Image.{parts_of, said, load_of, store_of, image_piece, head_piece, counts_piece}
 use Rattle.image_file.specs.Graphs.{HasImage, lists_of}
 use Rattle.image_file.proofs.FittingLists.{names_fit, inputs_fit, outputs_fit, turns_fit, le_true}

@@ -13,7 +13,7 @@ use Rattle.vcp_base.specs.Names.{NameFits, is_name}
 use Rattle.vcp_base.specs.Limits.{most_names, most_turn_nodes, most_operations}
 use Rattle.op_graph.specs.Rules.{Each, InputFits, OutputFits, TurnNodeFits}
 use Rattle.image_file.proofs.Entries.{each_more}
-use Rattle.image_fields.specs.Entries.{name_by, name_piece, input_piece, output_piece, turn_piece}
+use Rattle.image_file.specs.Entries.{name_by, name_piece, input_piece, output_piece, turn_piece}
 use Rattle.image_file.proofs.Kept.{and, none_any, all_rises, each_with_all}
 
 pub le_true : (a b : ℕ) → a ≤ b → nat_le a b ≡ true

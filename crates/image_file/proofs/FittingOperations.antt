@@ -1,6 +1,5 @@
 -- What keeps the rules of a graph has an image: operations, where their numbers have the format's widths.
-use Rattle.std.proofs.Common.{◌≡◌, ℕ, ◌*◌, ◌<◌, ◌≤◌, ◌^◌, ℤ, pos, negsuc, true, false, List, [], length, All, Option, Some, None, refl, sym, ap, ◌∙◌, arith}
-use Rattle.std.proofs.Common.{inl, inr}
+use Rattle.std.proofs.Common.{◌≡◌, ℕ, ◌*◌, ◌<◌, ◌≤◌, ◌^◌, ℤ, pos, negsuc, true, false, List, [], length, All, Option, Some, None, refl, sym, ap, ◌∙◌, arith, inl, inr}
 use Rattle.std.proofs.lemmas.Bool.{eqb-true, leb-true, cases_lt}
 use Rattle.std.proofs.lemmas.Option.{slice_get_past}
 use Rattle.std.specs.Int.{w64, byte_len}
@@ -18,7 +17,7 @@ use Rattle.op_graph.specs.Rules.{Each, Operates, PlaceFits, Admitted, operand_fi
 use Rattle.op_graph.specs.declared.rules.Entry.{Entry}
 use Rattle.image_file.proofs.Entries.{each_more, eqb_self}
 use Rattle.image_file.specs.Image.{Said, op_by, op_piece, corrected}
-use Rattle.image_fields.specs.Codes.{correction_width}
+use Rattle.image_file.specs.Codes.{correction_width}
 use Rattle.image_file.proofs.Kept.{each_with_all}
 
 clash : false ≡ true → ⊥

@@ -1,22 +1,20 @@
 -- What the reader found.
-use Rattle.std.proofs.Common.{◌≡◌, ◌<◌, ◌∷◌, [], zero, suc, List, ℕ, Result, Ok, Err, ap, sym, subst, All, arith, ◌⊎◌, inl, inr}
+use Rattle.std.proofs.Common.{◌≡◌, ◌<◌, ◌∷◌, [], zero, suc, List, ℕ, Result, Ok, Err, ap, sym, subst, All, arith, ◌⊎◌, inl, inr, ◌∙◌, refl, length}
 use Rattle.std.specs.Prelude.{IfOk}
-use Rattle.image_fields.specs.declared.fault.Fault.{Fault}
-use Rattle.image_fields.specs.declared.fault.ReadError.{ReadError}
-use Rattle.image_fields.specs.declared.fault.ReadError.TheVariants as errors
+use Rattle.image_file.specs.declared.fields.fault.Fault.{Fault}
+use Rattle.image_file.specs.declared.fields.fault.ReadError.{ReadError}
+use Rattle.image_file.specs.declared.fields.fault.ReadError.TheVariants as errors
 use Rattle.image_file.specs.declared.whole.Whole.{Whole}
-use Rattle.image_fields.specs.Pieces.{Gives, read_all, FaultOf}
-use Rattle.image_file.specs.Image.{image_piece}
+use Rattle.image_file.specs.Pieces.{Gives, read_all, FaultOf}
+use Rattle.image_file.specs.Image.{image_piece, Parts, image_of}
 use Rattle.image_file.specs.Views.{parts}
 use Rattle.image_file.proofs.PieceLaws.{IsBytes, all_takes, all_fails}
 use Rattle.image_file.proofs.Sections.{image_law}
-use Rattle.std.proofs.Common.{◌∙◌, refl, length}
 use Rattle.op_graph.specs.Lists.{Lists}
 use Rattle.signature_table.specs.Signatures.{Numbers, table_of, IsTableOf}
-use Rattle.image_fields.specs.declared.fault.Fault.TheVariants as left
+use Rattle.image_file.specs.declared.fields.fault.Fault.TheVariants as left
 use Rattle.image_file.specs.declared.fault.ImageFault.{ImageFault}
 use Rattle.image_file.specs.declared.fault.ImageFault.TheVariants as at
-use Rattle.image_file.specs.Image.{Parts, image_of}
 use Rattle.image_file.specs.Graphs.{lists_of, placed, Reads, OrMemory, HasImage, IsImage, FaultAt, OneGraph, NoFault, ImageOrFault}
 use Rattle.image_file.proofs.Kept.{fits_graph, parts_back}
 

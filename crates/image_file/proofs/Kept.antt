@@ -1,6 +1,5 @@
 -- What was read keeps the rules of a graph, and what keeps them is read.
-use Rattle.std.proofs.Common.{◌≡◌, ℕ, zero, suc, ◌-◌, ◌<◌, ◌≤◌, ◌&&◌, ◌||◌, not, nat_lt, Bool, true, false, List, [], ◌∷◌, ◌++◌, length, map, slice_get, All}
-use Rattle.std.proofs.Common.{Option, Some, None, bytes_eq, refl, sym, ap, subst, ◌∙◌, append_assoc, arith}
+use Rattle.std.proofs.Common.{◌≡◌, ℕ, zero, suc, ◌-◌, ◌<◌, ◌≤◌, ◌&&◌, ◌||◌, not, nat_lt, Bool, true, false, List, [], ◌∷◌, ◌++◌, length, map, slice_get, All, Option, Some, None, bytes_eq, refl, sym, ap, subst, ◌∙◌, append_assoc, arith}
 use Rattle.std.specs.List.{list_any}
 use Rattle.std.specs.Prelude.{FitsSigned}
 use Rattle.std.specs.Int.{w64}
@@ -20,7 +19,7 @@ use Rattle.op_graph.specs.declared.op.TurnNode.{TurnNode}
 use Rattle.op_graph.specs.Lists.{joined}
 use Rattle.op_graph.specs.Rules.{Each, IsPart, InputFits, OutputFits, LoadFits, StoreFits, TurnNodeFits, Operates, LoadedBefore, Admitted, PlaceFits}
 use Rattle.image_file.proofs.Entries.{each_more, Under, under_all, get_last}
-use Rattle.image_fields.specs.Entries.{lower, above, number_of, rises, name_by, name_piece, input_piece, output_piece, cell_piece, turn_piece}
+use Rattle.image_file.specs.Entries.{lower, above, number_of, rises, name_by, name_piece, input_piece, output_piece, cell_piece, turn_piece}
 use Rattle.image_file.specs.Image.{Parts, load_of, store_of, Said, said, image_piece, head_piece, counts_piece, op_by, op_piece, parts_of}
 use Rattle.image_file.specs.Graphs.{lists_of, HasImage}
 

@@ -11,3 +11,4 @@ pub mod Admits
 pub mod FittingLists
 pub mod FittingOperations
 pub mod FittingGraphs
+pub mod KeyLists

@@ -1,6 +1,5 @@
 -- Sections: the laws of each piece of the image, a line for each field.
-use Rattle.std.proofs.Common.{◌≡◌, ℕ, zero, suc, ◌+◌, ◌*◌, ◌^◌, ◌<◌, ◌==◌, ◌&&◌, nat_lt, nat_le, ℤ, Bool, true, cond, List, length, map, Some, None, refl, sym}
-use Rattle.std.proofs.Common.{ap, subst, ◌∙◌, arith}
+use Rattle.std.proofs.Common.{◌≡◌, ℕ, zero, suc, ◌+◌, ◌*◌, ◌^◌, ◌<◌, ◌==◌, ◌&&◌, nat_lt, nat_le, ℤ, Bool, true, cond, List, length, map, Some, None, refl, sym, ap, subst, ◌∙◌, arith}
 use Rattle.std.specs.Int.{byte_len, w16, w32, w64, cast_signed, cast_unsigned}
 use mir.Val.{SFits}
 use Rattle.std.proofs.lemmas.Bool.{eqb-true}
@@ -23,15 +22,13 @@ use Rattle.op_graph.specs.declared.op.Cell.{Cell}
 use Rattle.op_graph.specs.declared.op.TurnNode.{TurnNode}
 use Rattle.op_graph.specs.Rules.{place_of, entry_of, kind_fits, from_fits, ty_fits, reads_as, operand_fits, imm_fits, turn_fits}
 use Rattle.op_graph.specs.declared.rules.Place.{Place}
-use Rattle.image_fields.specs.declared.fault.Fault.{Fault}
-use Rattle.image_fields.specs.declared.fault.Fault.TheVariants.{Version, Field, Operand, Table}
-use Rattle.image_fields.specs.Codes.{version_code, version_of, correction_width, type_of, kind_of}
-use Rattle.image_fields.specs.Fields.{Anything, Is16, Is32, number16, number32, number, signed, type_field, kind_field, operand, residue, version_field}
-use Rattle.image_fields.specs.Entries.{rises, name_fits, name_by, lower, name_piece, input_piece, output_piece, cell_piece, turn_piece}
-use Rattle.image_file.specs.Image.{Head, counts_piece, head_piece, Said, op_of, correction_of, corrected, op_by, op_piece, said, head_with, head_of, parts_with}
-use Rattle.image_file.specs.Image.{image_piece}
-use Rattle.image_file.proofs.PieceLaws.{Lawful, before_law, whole_law, fixed_law, byte_law, field_law, text_law, listed_law, Codes, IsWide, wide16, wide32}
-use Rattle.image_file.proofs.PieceLaws.{wide64}
+use Rattle.image_file.specs.declared.fields.fault.Fault.{Fault}
+use Rattle.image_file.specs.declared.fields.fault.Fault.TheVariants.{Version, Field, Operand, Table}
+use Rattle.image_file.specs.Codes.{version_code, version_of, correction_width, type_of, kind_of}
+use Rattle.image_file.specs.Fields.{Anything, Is16, Is32, number16, number32, number, signed, type_field, kind_field, operand, residue, version_field}
+use Rattle.image_file.specs.Entries.{rises, name_fits, name_by, lower, name_piece, input_piece, output_piece, cell_piece, turn_piece}
+use Rattle.image_file.specs.Image.{Head, counts_piece, head_piece, Said, op_of, correction_of, corrected, op_by, op_piece, said, head_with, head_of, parts_with, image_piece}
+use Rattle.image_file.proofs.PieceLaws.{Lawful, before_law, whole_law, fixed_law, byte_law, field_law, text_law, listed_law, Codes, IsWide, wide16, wide32, wide64}
 
 kind_stands : (n : ℕ) (a : Kind) → kind_of n ≡ Some a → kind_code a ≡ n
 kind_stands zero a e = let same : kind.Input ≡ a = cc in ap kind_code (sym same)

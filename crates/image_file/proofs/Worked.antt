@@ -1,20 +1,19 @@
 -- The image of `y := x + 1` with seed 0 and step 1, byte by byte.
-use Rattle.std.proofs.Common.{◌≡◌, ℕ, pos, List, [], ◌∷◌, refl, arith}
+use Rattle.std.proofs.Common.{◌≡◌, ℕ, pos, List, [], ◌∷◌, refl, arith, Bool, true, false, zero, suc, nat_lt, ◌&&◌}
 use Rattle.vcp_base.specs.declared.code.Profile.TheVariants as profile
 use Rattle.vcp_base.specs.declared.ty.Ty.TheVariants as ty
 use Rattle.vcp_base.specs.declared.kind.Kind.TheVariants as kind
 use Rattle.op_graph.specs.Lists.{Lists}
 use Rattle.coded_unit.specs.Words.{modulo}
 use Rattle.signature_table.specs.Signatures.{signature}
-use Rattle.std.proofs.Common.{Bool, true, false, zero, suc, nat_lt, ◌&&◌}
 use Rattle.std.specs.List.{list_all}
 use Rattle.std.proofs.lemmas.Bool.{ltb-true}
-use Rattle.image_fields.specs.declared.fault.Fault.TheVariants as left
+use Rattle.image_file.specs.declared.fields.fault.Fault.TheVariants as left
 use Rattle.image_file.specs.declared.fault.ImageFault.TheVariants as at
 use Rattle.image_file.specs.Graphs.{FaultAt}
 use Rattle.image_file.proofs.PieceLaws.{IsBytes, all_fails}
 use Rattle.image_file.proofs.Sections.{image_law}
-use Rattle.image_fields.specs.Entries.{name_by, input_piece, output_piece}
+use Rattle.image_file.specs.Entries.{name_by, input_piece, output_piece}
 use Rattle.image_file.specs.Image.{image_of, image_piece, head_piece, counts_piece, op_by, corrected, op_of}
 
 plus_one : Lists

@@ -4,11 +4,11 @@ use Rattle.vcp_base.specs.Limits.{seeds, most_step}
 use Rattle.op_graph.specs.Lists.{Lists}
 use Rattle.op_graph.specs.Rules.{IsGraph}
 use Rattle.signature_table.specs.Signatures.{Numbers, table_of}
-use Rattle.image_fields.specs.declared.fault.Fault.{Fault}
-use Rattle.image_fields.specs.declared.fault.Fault.TheVariants as left
+use Rattle.image_file.specs.declared.fields.fault.Fault.{Fault}
+use Rattle.image_file.specs.declared.fields.fault.Fault.TheVariants as left
 use Rattle.image_file.specs.declared.fault.ImageFault.{ImageFault}
 use Rattle.image_file.specs.declared.fault.ImageFault.TheVariants as at
-use Rattle.image_fields.specs.Pieces.{FaultOf}
+use Rattle.image_file.specs.Pieces.{FaultOf}
 use Rattle.image_file.specs.Image.{Parts, load_of, store_of, image_piece, image_of}
 
 -- the graph that the parts say

@@ -15,10 +15,10 @@ use Rattle.op_graph.specs.Lists.{Lists, cells}
 use Rattle.op_graph.specs.Rules.{Scope, place_of, entry_of, kind_fits, from_fits, ty_fits, reads_as, operand_fits, imm_fits, turn_fits}
 use Rattle.op_graph.specs.declared.rules.Place.{Place}
 use Rattle.signature_table.specs.Signatures.{correction, store_of as store_of_cell}
-use Rattle.image_fields.specs.declared.fault.Fault.TheVariants.{Field}
-use Rattle.image_fields.specs.Pieces.{Piece, before, whole, listed}
-use Rattle.image_fields.specs.Fields.{number16, number, signed, type_field, version_field, kind_field, fixed, operand, residue}
-use Rattle.image_fields.specs.Entries.{name_piece, input_piece, output_piece, cell_piece, turn_piece}
+use Rattle.image_file.specs.declared.fields.fault.Fault.TheVariants.{Field}
+use Rattle.image_file.specs.Pieces.{Piece, before, whole, listed}
+use Rattle.image_file.specs.Fields.{number16, number, signed, type_field, version_field, kind_field, fixed, operand, residue}
+use Rattle.image_file.specs.Entries.{name_piece, input_piece, output_piece, cell_piece, turn_piece}
 
 -- ---- the head
 

@@ -9,7 +9,7 @@ use Rattle.op_graph.specs.declared.op.Var.{Var}
 use Rattle.op_graph.specs.declared.op.Outlet.{Outlet}
 use Rattle.op_graph.specs.declared.op.Cell.{Cell}
 use Rattle.op_graph.specs.declared.op.Op.{Op}
-use Rattle.image_fields.specs.Pieces.{Piece, listed}
+use Rattle.image_file.specs.Pieces.{Piece, listed}
 use Rattle.image_file.specs.declared.whole.Whole.{Whole}
 use Rattle.image_file.specs.Image.{Head, Said, said, op_piece, Parts}
 

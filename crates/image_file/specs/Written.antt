@@ -7,8 +7,8 @@ use Rattle.op_graph.specs.declared.op.Outlet.{Outlet}
 use Rattle.op_graph.specs.declared.op.Cell.{Cell}
 use Rattle.op_graph.specs.declared.op.TurnNode.{TurnNode}
 use Rattle.op_graph.specs.Lists.{Lists, cells}
-use Rattle.image_fields.specs.Pieces.{entries}
-use Rattle.image_fields.specs.Entries.{input_piece, output_piece, cell_piece, turn_piece}
+use Rattle.image_file.specs.Pieces.{entries}
+use Rattle.image_file.specs.Entries.{input_piece, output_piece, cell_piece, turn_piece}
 use Rattle.image_file.specs.Image.{Said, said, correction_of, op_piece}
 
 abbrev pub AddsInput : List ℕ → List ℕ → Var → Type 0

@@ -1,15 +1,15 @@
 //! The head of an image.
 
 ghost use Rattle.std.specs.Prelude.{◌≡◌, ◌≤◌, ◌==◌, ◌&&◌, ◌+◌, ◌*◌, nat_le, Some, IfOk};
-ghost use Rattle.image_fields.specs.declared.fault.Fault.TheVariants as fault;
-ghost use Rattle.image_fields.specs.Pieces.{GivesExactly, byte_field};
-ghost use Rattle.image_fields.specs.Fields.{number, number16, version_field, IsByte};
+ghost use Rattle.image_file.specs.declared.fields.fault.Fault.TheVariants as fault;
+ghost use Rattle.image_file.specs.Pieces.{GivesExactly, byte_field};
+ghost use Rattle.image_file.specs.Fields.{number, number16, version_field, IsByte};
 ghost use Rattle.image_file.specs.Image.{head_piece, counts_piece};
-ghost use Rattle.image_fields.specs.Codes.{version_of};
+ghost use Rattle.image_file.specs.Codes.{version_of};
 ghost use Rattle.vcp_base.specs.Limits.{most_step, most_operations, most_turn_nodes};
 ghost use Rattle.image_file.specs.Views.{head as head_of};
 
-use image_fields::{Fault, at_most_here, below_here, u8_at, u16_at, u32_at};
+use crate::{Fault, at_most_here, below_here, u8_at, u16_at, u32_at};
 use vcp_base::{
     MOST_CELLS, MOST_NAMES, MOST_OPERATIONS, MOST_STEP, MOST_TURN_NODES, Profile, SEEDS,
 };

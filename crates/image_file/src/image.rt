@@ -5,7 +5,7 @@ ghost use Rattle.std.specs.Result.{IsErrOf};
 ghost use Rattle.vcp_base.specs.Limits.{most_image_bytes};
 ghost use Rattle.op_graph.specs.Lists.{Lists};
 ghost use Rattle.signature_table.specs.Signatures.{IsTableOf, table_of};
-ghost use Rattle.image_fields.specs.declared.fault.ReadError.TheVariants as errors;
+ghost use Rattle.image_file.specs.declared.fields.fault.ReadError.TheVariants as errors;
 ghost use Rattle.image_file.specs.Image.{image_piece, image_of};
 ghost use Rattle.image_file.specs.Views.{parts};
 ghost use Rattle.image_file.specs.Graphs.{lists_of, HasImage, placed as placed_of, Reads, OrMemory};
@@ -13,7 +13,7 @@ ghost use Rattle.image_file.specs.Graphs.{lists_of, HasImage, placed as placed_o
 use crate::fault::ImageFault;
 use crate::laws::images_are_told_apart;
 use crate::whole::{Whole, loads_of, read, stores_of};
-use image_fields::{Fault, ReadError};
+use crate::{Fault, ReadError};
 use op_graph::{Graph, GraphLists};
 use signature_table::Table;
 use std::alloc::Global;

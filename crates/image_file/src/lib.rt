@@ -1,7 +1,8 @@
-//! Image files: a graph, its seed and its step as bytes, both ways.
+//! Image files: a graph, its seed and its step as bytes, both ways. `fields` reads and writes their fields.
 #![tactic(auto)]
 
 mod fault;
+pub mod fields;
 mod head;
 mod image;
 mod laws;

@@ -1,13 +1,13 @@
 //! The names, inputs, outputs, cells and turn nodes of an image.
 
 ghost use Rattle.std.specs.Prelude.{◌≤◌, [], map, IfOk};
-ghost use Rattle.image_fields.specs.Pieces.{Gives, listed};
-ghost use Rattle.image_fields.specs.Entries.{name_piece, input_piece, output_piece, cell_piece, turn_piece};
+ghost use Rattle.image_file.specs.Pieces.{Gives, listed};
+ghost use Rattle.image_file.specs.Entries.{name_piece, input_piece, output_piece, cell_piece, turn_piece};
 ghost use Rattle.vcp_base.specs.Limits.{most_turn_nodes};
 ghost use Rattle.op_graph.specs.Rules.{Each, OutputFits, LoadFits, StoreFits};
 ghost use Rattle.image_file.specs.Image.{load_of, store_of};
 
-use image_fields::{Keys, ReadError, cell_of, input_of, name_of, output_of, turn_of};
+use crate::{Keys, ReadError, cell_of, input_of, name_of, output_of, turn_of};
 use op_graph::{Cell, Outlet, TurnNode, Var};
 use std::alloc::Global;
 use vcp_base::{Profile, Text};

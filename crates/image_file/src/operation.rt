@@ -2,20 +2,17 @@
 
 ghost use Rattle.std.specs.Prelude.{◌≡◌, ◌≤◌, ◌==◌, length, unsigned_abs};
 ghost use Rattle.vcp_base.specs.Limits.{most_step, most_operations};
-ghost use Rattle.op_graph.specs.Rules.{entry_of as entry_of_place, kind_fits as kind_fits_of, from_fits as from_fits_of, ty_fits as ty_fits_of, operand_fits as operand_fits_of};
-ghost use Rattle.op_graph.specs.Rules.{reads_as as reads_as_of, imm_fits as imm_fits_of, turn_fits as turn_fits_of};
+ghost use Rattle.op_graph.specs.Rules.{entry_of as entry_of_place, kind_fits as kind_fits_of, from_fits as from_fits_of, ty_fits as ty_fits_of, operand_fits as operand_fits_of, reads_as as reads_as_of, imm_fits as imm_fits_of, turn_fits as turn_fits_of};
 ghost use Rattle.signature_table.specs.Signatures.{store_of as store_of_cell};
-ghost use Rattle.image_fields.specs.declared.fault.Fault.TheVariants as fault;
-ghost use Rattle.image_fields.specs.Pieces.{Gives, GivesExactly, listed};
-ghost use Rattle.image_fields.specs.Fields.{kind_field, type_field, signed, number, operand};
+ghost use Rattle.image_file.specs.declared.fields.fault.Fault.TheVariants as fault;
+ghost use Rattle.image_file.specs.Pieces.{Gives, GivesExactly, listed};
+ghost use Rattle.image_file.specs.Fields.{kind_field, type_field, signed, number, operand};
 ghost use Rattle.image_file.specs.Image.{corrected, op_by, op_piece, correction_of};
 ghost use Rattle.image_file.specs.Views.{scope_of, said_of, Rising};
 
 use crate::scope::Scope;
 use crate::walk::Walk;
-use image_fields::{
-    Fault, ReadError, any_number_here, residue_at, ty_named, u8_at, u32_at, u64_at,
-};
+use crate::{Fault, ReadError, any_number_here, residue_at, ty_named, u8_at, u32_at, u64_at};
 use op_graph::{
     Cell, Op, Place, entry_of, from_fits, imm_fits, kind_fits, operand_fits, reads_as, turn_fits,
     ty_fits,

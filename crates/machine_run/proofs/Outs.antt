@@ -1,6 +1,5 @@
 -- Outs: the operation of an output is an OUT of the output's type.
-use Rattle.std.proofs.Common.{ℕ, zero, suc, ◌+◌, ◌<◌, ◌≡◌, ◌≢◌, true, false, refl, ap, subst, sym, ◌∙◌, ◌&&◌, Bool, List, [], ◌∷◌, length, take, slice_get}
-use Rattle.std.proofs.Common.{arith, eq-eqb, Some}
+use Rattle.std.proofs.Common.{ℕ, zero, suc, ◌+◌, ◌<◌, ◌≡◌, ◌≢◌, true, false, refl, ap, subst, sym, ◌∙◌, ◌&&◌, Bool, List, [], ◌∷◌, length, take, slice_get, arith, eq-eqb, Some}
 use Rattle.std.specs.Option.{is_some}
 use Rattle.std.specs.Prelude.{All, ◌==◌}
 use Rattle.std.proofs.lemmas.Bool.{ne_eqb}
@@ -11,10 +10,9 @@ use Rattle.vcp_base.specs.declared.ty.Ty.TheVariants as ty
 use Rattle.op_graph.specs.declared.op.Op.{Op}
 use Rattle.op_graph.specs.declared.op.Outlet.{Outlet}
 use Rattle.op_graph.specs.Lists.{Lists}
-use Rattle.op_graph.specs.Rules.{IsGraph, entry, found, agree, is_out, kind_fits, same_type, from_fits, ty_fits, entry_of, OpFits, scope}
+use Rattle.op_graph.specs.Rules.{IsGraph, entry, found, agree, is_out, kind_fits, same_type, from_fits, ty_fits, entry_of, OpFits, scope, place_of}
 use Rattle.op_graph.specs.declared.rules.Entry.{Entry}
 use Rattle.op_graph.specs.declared.rules.Place.{Place}
-use Rattle.op_graph.specs.Rules.{place_of}
 use Rattle.op_graph.specs.Laws.{EntryLaws}
 
 -- the output of an operation is the first of that operation, whose number is above those of the outputs before it

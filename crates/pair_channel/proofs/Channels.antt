@@ -19,8 +19,7 @@ use Rattle.pair_channel.specs.declared.pair_end.PairEnd.{PairEnd}
 use Rattle.pair_channel.specs.declared.pair_end.PairEnd.TheVariants as pair
 use Rattle.pair_channel.specs.Beside.{AllBeside, beside, beside_end}
 use Rattle.pair_channel.specs.PairEnds.{both, PairCause, Alike, FirstDifference}
-use Rattle.pair_channel.specs.PairRuns.{pair_end, PairOutcome, pair_then, pair_over, unless_over, AllPairs, FrontOfRun, pair_outcome_for}
-use Rattle.pair_channel.specs.PairRuns.{Disagrees}
+use Rattle.pair_channel.specs.PairRuns.{pair_end, PairOutcome, pair_then, pair_over, unless_over, AllPairs, FrontOfRun, pair_outcome_for, Disagrees}
 use Rattle.pair_channel.proofs.Ends.{both_cause, both_second_row, stop_in, pair_stop_in}
 
 pub right_front : (es fs : List Entry) → AllRight (es ++ fs) → AllRight es × AllRight fs

@@ -11,8 +11,7 @@ use Rattle.signature_table.specs.Signatures.{Numbers, IsTable}
 use Rattle.pair_channel.specs.declared.pair_end.PairEnd.{PairEnd}
 use Rattle.pair_channel.specs.PairLaws.{OneChannelHonest}
 use Rattle.pair_channel.specs.PairRuns.{PairOutcome, PairOver, FrontOfRun, Disagrees, pair_outcome_for, pair_end_of_run}
-use Rattle.coded_unit.specs.Seen.{UnitSeen}
-use Rattle.coded_unit.specs.Seen.{StaysHonest}
+use Rattle.coded_unit.specs.Seen.{UnitSeen, StaysHonest}
 
 pub front : OneChannelHonest → (g : Lists) (t u : Numbers) (rows : List (List ℤ)) (ours theirs : List (List Answer)) (outputs : List (List ℤ)) (e : PairEnd)
     (x y z w : UnitSeen) → IsGraph g → IsTable t → IsTable u → length rows ≤ most_cycles → PairOver g t u rows ours theirs outputs e x y z w →

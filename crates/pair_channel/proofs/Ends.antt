@@ -1,6 +1,5 @@
 -- Ends: how a cycle of a pair ends, and why.
-use Rattle.std.proofs.Common.{◌≡◌, ◌≢◌, ℕ, ◌==◌, ◌&&◌, Bool, true, false, cond, List, length, Option, Some, None, ℤ}
-use Rattle.std.proofs.Common.{refl, sym, ap, subst, ◌∙◌, arith, eqb-true}
+use Rattle.std.proofs.Common.{◌≡◌, ◌≢◌, ℕ, ◌==◌, ◌&&◌, Bool, true, false, cond, List, length, Option, Some, None, ℤ, refl, sym, ap, subst, ◌∙◌, arith, eqb-true}
 use Rattle.std.proofs.lemmas.Bool.{eq-eqb, false≢true}
 use Rattle.vcp_base.specs.Differences.{Difference, first_difference}
 use Rattle.vcp_base.specs.Kinds.{same_stop}

@@ -5,3 +5,9 @@ pub mod Rows
 pub mod Runs
 pub mod States
 pub mod Worked
+pub mod Done
+pub mod Exits
+pub mod Last
+pub mod Processor
+pub mod There
+pub mod UpTo

@@ -1,6 +1,5 @@
 -- States: what a cycle leaves of a pair.
-use Rattle.std.proofs.Common.{ℕ, ◌+◌, ◌<◌, ◌≤◌, ◌≡◌, ◌≢◌, ◌↔◌, ◌^◌, inl, inr, false, refl}
-use Rattle.std.proofs.Common.{sym, ap, subst, ◌∙◌, List, length, arith, ℤ, Option, Some, None, IfSome}
+use Rattle.std.proofs.Common.{ℕ, ◌+◌, ◌<◌, ◌≤◌, ◌≡◌, ◌≢◌, ◌↔◌, ◌^◌, inl, inr, false, refl, sym, ap, subst, ◌∙◌, List, length, arith, ℤ, Option, Some, None, IfSome}
 use Rattle.std.proofs.lemmas.List.{length-map}
 use Rattle.vcp_base.specs.Limits.{most_cycles}
 use Rattle.op_graph.specs.Lists.{Lists}

@@ -5,3 +5,8 @@ pub mod PairRuns
 pub mod PairStates
 pub mod PairTurns
 pub mod SoundPair
+pub mod BesideDone
+pub mod PairDone
+pub mod PairLines
+pub mod PairMoments
+pub mod PairRows

@@ -17,8 +17,7 @@ use Rattle.pair_channel.specs.declared.pair_end.PairEnd.TheVariants as pair
 use Rattle.pair_channel.specs.Beside.{AllBeside, beside}
 use Rattle.pair_channel.specs.PairRuns.{PairSoFar, PairOver, AllPairs, pair_over, pair_row_if, pair_outcome_for, FrontOfRun, Disagrees}
 use Rattle.pair_channel.specs.PairStates.{PairState, fresh_pair}
-use Rattle.coded_unit.specs.Seen.{UnitSeen}
-use Rattle.coded_unit.specs.Seen.{StaysHonest}
+use Rattle.coded_unit.specs.Seen.{UnitSeen, StaysHonest}
 use Rattle.pair_channel.specs.PairTurns.{PairTurn, PairConcluded}
 
 -- A cycle of a pair whose calls of the first channel a caller made by `next_call` and `put`, and a unit answered, is such a cycle as

@@ -1,7 +1,7 @@
 //! Graphs as texts for Graphviz. What is wanted was worked out by hand from the form of the text.
 
 use crate::pictures::difference;
-use graph_dot::write_dot;
+use graph_picture::write_dot;
 use op_graph::{Graph, GraphBuilder};
 use signature_table::Table;
 use std::alloc::Global;

@@ -1,7 +1,5 @@
 -- Cycles: the values of a cycle are given by its operations in turn, and what holds of the cells in each cycle holds in all.
-use Rattle.std.proofs.Common.{◌≡◌, ◌≢◌, ℕ, zero, suc, ◌+◌, ◌<◌, ◌≤◌, ℤ, pos, Bool, true, false, ◌&&◌, List, [], ◌∷◌, ◌++◌, length, take, slice_get, Option}
-use Rattle.std.proofs.Common.{Some, None, Ok, Err, IfSome}
-use Rattle.std.proofs.Common.{refl, sym, ap, subst, ◌∙◌, append_assoc, append-nil, length-append, arith, below_more, take_all}
+use Rattle.std.proofs.Common.{◌≡◌, ◌≢◌, ℕ, zero, suc, ◌+◌, ◌<◌, ◌≤◌, ℤ, pos, Bool, true, false, ◌&&◌, List, [], ◌∷◌, ◌++◌, length, take, slice_get, Option, Some, None, Ok, Err, IfSome, refl, sym, ap, subst, ◌∙◌, append_assoc, append-nil, length-append, arith, below_more, take_all}
 use Rattle.std.specs.Prelude.{unsigned_abs}
 use Rattle.std.specs.Option.{is_some}
 use Rattle.std.proofs.lemmas.Bool.Decides.{Decides-int_eq}
@@ -23,8 +21,7 @@ use Rattle.op_graph.specs.declared.rules.Place.{Place}
 use Rattle.op_graph.specs.Lists.{Lists}
 use Rattle.op_graph.specs.Laws.{OperandLaws, EntryLaws}
 use Rattle.op_graph.specs.Rules.{IsGraph, scope, place_of, numbered, entry_of, kind_fits, from_fits, ty_fits, imm_fits, is_input, same_type}
-use Rattle.op_graph.specs.GraphRun.{own, outcome_of, Stop, Cycle, after, cycle_from, cycle, initial, stored, Run, after_cycle, run_from, unless_stopped}
-use Rattle.op_graph.specs.GraphRun.{cells_after, CellsFit}
+use Rattle.op_graph.specs.GraphRun.{own, outcome_of, Stop, Cycle, after, cycle_from, cycle, initial, stored, Run, after_cycle, run_from, unless_stopped, cells_after, CellsFit}
 use Rattle.range_audit.specs.declared.range.Range.{Range}
 use Rattle.range_audit.specs.declared.range.Stops.{Stops}
 use Rattle.range_audit.specs.Audit.{Audit, is_named, RowFits, RowsFit, Holds, Names, Ends}

@@ -12,3 +12,4 @@ mod Putting
 mod Steps
 mod ValueBounds
 mod Worked
+mod Going

@@ -1,7 +1,5 @@
 -- Putting: a range that is put in its place, and what an operation reads in a whole cycle.
-use Rattle.std.proofs.Common.{◌≡◌, ℕ, zero, suc, ◌<◌, ◌≤◌, ◌⊎◌, inl, inr, ℤ, pos, Bool, true, false, cond, List, [], ◌∷◌, length, take, slice_get, slice_set}
-use Rattle.std.proofs.Common.{Some, Ok}
-use Rattle.std.proofs.Common.{refl, sym, ap, subst, nat_lt, get_or-take, arith}
+use Rattle.std.proofs.Common.{◌≡◌, ℕ, zero, suc, ◌<◌, ◌≤◌, ◌⊎◌, inl, inr, ℤ, pos, Bool, true, false, cond, List, [], ◌∷◌, length, take, slice_get, slice_set, Some, Ok, refl, sym, ap, subst, nat_lt, get_or-take, arith}
 use Rattle.vcp_base.specs.declared.kind.Kind.{Kind}
 use Rattle.vcp_base.specs.declared.kind.Kind.TheVariants as kind
 use Rattle.vcp_base.specs.Kinds.{operands, value, divides_by_zero}

@@ -1,6 +1,5 @@
 -- ValueBounds: the bounds of each kind's value, by the ranges of its operands.
-use Rattle.std.proofs.Common.{◌≡◌, ◌≢◌, ℤ, pos, neg_ℤ, ◌+ℤ◌, ◌-ℤ◌, ◌*ℤ◌, ◌≤ℤ◌, ◌<ℤ◌, Bool, true, false, not, ◌&&◌, ◌||◌, cond, T, refl, sym, subst, ◌∙◌, ◌⊎◌}
-use Rattle.std.proofs.Common.{inl, inr, arith}
+use Rattle.std.proofs.Common.{◌≡◌, ◌≢◌, ℤ, pos, neg_ℤ, ◌+ℤ◌, ◌-ℤ◌, ◌*ℤ◌, ◌≤ℤ◌, ◌<ℤ◌, Bool, true, false, not, ◌&&◌, ◌||◌, cond, T, refl, sym, subst, ◌∙◌, ◌⊎◌, inl, inr, arith}
 use Rattle.std.specs.Prelude.{int_le, int_lt, int_div, int_rem}
 use Rattle.std.proofs.lemmas.Int.{ints}
 use Rattle.vcp_base.specs.declared.ty.Ty.{Ty}
@@ -9,9 +8,7 @@ use Rattle.vcp_base.specs.Types.{fits, least, greatest}
 use Rattle.range_audit.specs.declared.range.Bounds.{Bounds}
 use Rattle.range_audit.specs.declared.range.Range.{Range}
 use Rattle.range_audit.specs.Intervals.{Between, IsIn, IsWithin}
-use Rattle.range_audit.proofs.Integers.{le_trans, le_antisym, product_low, product_high, product_nonzero, quotient_low, quotient_high, shrinks_low}
-use Rattle.range_audit.proofs.Integers.{shrinks_high}
-use Rattle.range_audit.proofs.Integers.{sized_low, sized_high, rest_low, rest_high, rest_above, rest_below}
+use Rattle.range_audit.proofs.Integers.{le_trans, le_antisym, product_low, product_high, product_nonzero, quotient_low, quotient_high, shrinks_low, shrinks_high, sized_low, sized_high, rest_low, rest_high, rest_above, rest_below}
 
 -- ---- tests
 

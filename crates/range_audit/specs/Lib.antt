@@ -1,3 +1,4 @@
 pub mod Audit
 pub mod Intervals
 pub mod Walking
+pub mod RangeText

@@ -1,6 +1,5 @@
 -- Walking: what holds of a walk over the operations of a cycle, from cells in given ranges.
-use Rattle.std.specs.Prelude.{◌≡◌, ◌≢◌, ◌⊎◌, ℕ, zero, suc, ◌+◌, ◌<◌, ◌≤◌, ℤ, true, List, length, slice_get, take, Ok, Err, Some, None}
-use Rattle.std.specs.Prelude.{unsigned_abs, nat_lt, false, pos, Bool}
+use Rattle.std.specs.Prelude.{◌≡◌, ◌≢◌, ◌⊎◌, ℕ, zero, suc, ◌+◌, ◌<◌, ◌≤◌, ℤ, true, List, length, slice_get, take, Ok, Err, Some, None, unsigned_abs, nat_lt, false, pos, Bool}
 use Rattle.vcp_base.specs.declared.kind.Kind.{Kind}
 use Rattle.vcp_base.specs.declared.kind.Kind.TheVariants as kind
 use Rattle.vcp_base.specs.declared.kind.StopKind.{StopKind}

@@ -1,6 +1,5 @@
 -- Reading: what is read so far, and one more.
-use Rattle.std.proofs.Common.{◌≡◌, ℕ, zero, suc, ◌+◌, ◌≤◌, ◌<◌, List, [], ◌∷◌, ◌++◌, length, drop, slice_get, Option, Some, None, Result, Ok, Err, ℤ, refl, ap, ◌∙◌}
-use Rattle.std.proofs.Common.{append_assoc, add-one, arith, true, false, codes, bytes_eq, nat_le}
+use Rattle.std.proofs.Common.{◌≡◌, ℕ, zero, suc, ◌+◌, ◌≤◌, ◌<◌, List, [], ◌∷◌, ◌++◌, length, drop, slice_get, Option, Some, None, Result, Ok, Err, ℤ, refl, ap, ◌∙◌, append_assoc, add-one, arith, true, false, codes, bytes_eq, nat_le}
 use Rattle.std.proofs.lemmas.List.{append-nil}
 use Rattle.std.proofs.lemmas.Bool.Decides.{nat_tests}
 use Rattle.input_rows.specs.RowsOf.{values_after}

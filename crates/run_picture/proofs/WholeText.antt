@@ -8,8 +8,7 @@ use Rattle.run_picture.specs.declared.layout.Layout.{Layout}
 use Rattle.run_picture.specs.declared.shown.Shown.{Shown}
 use Rattle.run_picture.specs.RunOf.{Recorded}
 use Rattle.run_picture.specs.Drawn.{lanes}
-use Rattle.run_picture.specs.Elements.{level_element, number_element, edge_element, label_element, shown_elements, has_label, cycle_elements, name_element}
-use Rattle.run_picture.specs.Elements.{ending_elements, cycles_elements, names_elements, waves_elements}
+use Rattle.run_picture.specs.Elements.{level_element, number_element, edge_element, label_element, shown_elements, has_label, cycle_elements, name_element, ending_elements, cycles_elements, names_elements, waves_elements}
 
 abbrev All : List Element → Type 0
 All es = AllByRecursion HasEachOnce es

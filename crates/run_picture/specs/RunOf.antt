@@ -1,6 +1,5 @@
 -- RunOf: the run that a text tells, or why it tells none.
-use Rattle.std.specs.Prelude.{ℕ, ◌+◌, ◌-◌, ◌==◌, Bool, nat_le, nat_lt, cond, List, [], ◌∷◌, length, get_or, bytes_eq, codes, decimal}
-use Rattle.std.specs.Prelude.{Option, Some, None, Result, Ok, Err, ℤ}
+use Rattle.std.specs.Prelude.{ℕ, ◌+◌, ◌-◌, ◌==◌, Bool, nat_le, nat_lt, cond, List, [], ◌∷◌, length, get_or, bytes_eq, codes, decimal, Option, Some, None, Result, Ok, Err, ℤ}
 use Rattle.csv.specs.Reading.{records, default_config, strip_bom}
 use Rattle.vcp_base.specs.Limits.{most_cycles, most_names}
 use Rattle.run_picture.specs.declared.fault.RunFault.{RunFault}

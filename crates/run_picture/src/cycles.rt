@@ -1,18 +1,16 @@
 //! The style, the cycles, the names and the end of a picture.
 
 ghost use Rattle.std.specs.Prelude.{◌≡◌, ◌<◌, ◌≤◌, length, flat_map};
-ghost use Rattle.gathered_line.specs.Gathering.{GathersTo};
+ghost use Rattle.vcp_outside.specs.Gathering.{GathersTo};
 ghost use Rattle.svg_text.specs.Elements.{element_text};
 ghost use Rattle.vcp_base.specs.Limits.{most_cycles};
-ghost use Rattle.run_picture.specs.Elements.{style, begin_element, cycle_element, cycle_elements, cycles_elements, name_element, names_elements};
-ghost use Rattle.run_picture.specs.Elements.{class_of as class_of_mark, mark_element, ending_element, ending_elements};
+ghost use Rattle.run_picture.specs.Elements.{style, begin_element, cycle_element, cycle_elements, cycles_elements, name_element, names_elements, class_of as class_of_mark, mark_element, ending_element, ending_elements};
 
 use crate::ending::{Ending, Mark};
 use crate::layout::{Layout, start, top};
 use crate::run::Run;
-use gathered_line::Line;
 use svg_text::{Name, Piece, Tag, then_element};
-use vcp_outside::Sink;
+use vcp_outside::{Line, Sink};
 
 /// The rules of style.
 const STYLE: &[u8] =

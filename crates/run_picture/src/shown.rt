@@ -1,18 +1,16 @@
 //! The values of a run, drawn in lanes.
 
 ghost use Rattle.std.specs.Prelude.{◌≡◌, ◌<◌, ◌≤◌, ◌+◌, length, flat_map, Bool};
-ghost use Rattle.gathered_line.specs.Gathering.{GathersTo};
+ghost use Rattle.vcp_outside.specs.Gathering.{GathersTo};
 ghost use Rattle.svg_text.specs.Elements.{element_text};
 ghost use Rattle.vcp_base.specs.Limits.{most_cycles};
 ghost use Rattle.run_picture.specs.Drawn.{is_bit as is_bit_of, bits_below, is_level as is_level_of, changes as changes_of, shown as shown_of, lane, lanes};
-ghost use Rattle.run_picture.specs.Elements.{top_of, level_of, level_element, number_element, value_element, edge_element, edge_elements};
-ghost use Rattle.run_picture.specs.Elements.{label_element, label_elements, shown_elements};
+ghost use Rattle.run_picture.specs.Elements.{top_of, level_of, level_element, number_element, value_element, edge_element, edge_elements, label_element, label_elements, shown_elements};
 
 use crate::layout::{Layout, start, top};
 use crate::run::Run;
-use gathered_line::Line;
 use svg_text::{Name, Piece, Tag, then_element};
-use vcp_outside::Sink;
+use vcp_outside::{Line, Sink};
 
 /// What is drawn of a value.
 #[derive(Clone, Copy, Debug)]

@@ -4,14 +4,13 @@ ghost use Rattle.std.specs.Prelude.{◌<◌, IfSome, map, flat_map, length, slic
 ghost use Rattle.vcp_base.specs.Stops.{told_stop, told_turn};
 ghost use Rattle.vcp_outside.specs.Written.{WritesTo};
 ghost use Rattle.op_graph.specs.Lists.{turns_of};
-ghost use Rattle.gathered_line.specs.Gathering.{GathersTo};
+ghost use Rattle.vcp_outside.specs.Gathering.{GathersTo};
 ghost use Rattle.run_report.specs.Lines.{stop_text, turn_text};
 
 use crate::lines::{begin_stop, then_turn};
-use gathered_line::Line;
 use op_graph::Graph;
 use vcp_base::StopKind;
-use vcp_outside::{Failed, Sink};
+use vcp_outside::{Failed, Line, Sink};
 
 /// Goes on with the turns round operation `op`, outermost first: the name of each control variable, and its
 /// value.

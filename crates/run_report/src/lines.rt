@@ -4,13 +4,11 @@
 ghost use Rattle.std.specs.Prelude.{map, flat_map};
 ghost use Rattle.vcp_base.specs.Stops.{told_stop, told_turn};
 ghost use Rattle.vcp_outside.specs.Written.{WritesTo};
-ghost use Rattle.gathered_line.specs.Gathering.{IsGathered, GathersTo};
-ghost use Rattle.run_report.specs.Lines.{header_text, row_text, end_text, cause_text, stop_front, stop_text, refused_front, refused_text, place_text};
-ghost use Rattle.run_report.specs.Lines.{turn_text, AreNamed};
+ghost use Rattle.vcp_outside.specs.Gathering.{IsGathered, GathersTo};
+ghost use Rattle.run_report.specs.Lines.{header_text, row_text, end_text, cause_text, stop_front, stop_text, refused_front, refused_text, place_text, turn_text, AreNamed};
 
-use gathered_line::{Line, begin};
 use vcp_base::{Columns, Residue, Row, Spot, StopKind, Text, Turns, Words, stop_name};
-use vcp_outside::{Failed, Sink};
+use vcp_outside::{Failed, Line, Sink, begin};
 
 /// Writes the header of a run: `cycle`, and the outputs' names as declared. After `Failed` a part of
 /// the line is written.

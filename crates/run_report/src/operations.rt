@@ -5,18 +5,16 @@ ghost use Rattle.std.specs.Prelude.{◌≡◌, ◌<◌, ◌≤◌, ◌++◌, IfS
 ghost use Rattle.std.specs.Fmt.{signed_decimal};
 ghost use Rattle.vcp_base.specs.Limits.{most_cycles};
 ghost use Rattle.vcp_outside.specs.Written.{WritesTo};
-ghost use Rattle.gathered_line.specs.Gathering.{IsGathered, GathersTo};
-ghost use Rattle.run_report.specs.OperationLines.{shown_operands as shown_operands_of, number_cell, operands_text, own_text, operation_front, code_text};
-ghost use Rattle.run_report.specs.OperationLines.{source_text, list_text, parts_text, trace_text};
+ghost use Rattle.vcp_outside.specs.Gathering.{IsGathered, GathersTo};
+ghost use Rattle.run_report.specs.OperationLines.{shown_operands as shown_operands_of, number_cell, operands_text, own_text, operation_front, code_text, source_text, list_text, parts_text, trace_text};
 
 use crate::graph_stop::then_turns_round;
 use crate::lines::then_place;
 use coded_unit::Word;
-use gathered_line::{Line, begin};
 use op_graph::{Graph, Op};
 use signature_table::Table;
 use vcp_base::{Kind, Profile, kind_name, operands, ty_name};
-use vcp_outside::{Failed, Sink};
+use vcp_outside::{Failed, Line, Sink, begin};
 
 // A line that begins with an operation's number and kind, and the types of its operands and its result.
 fn begin_operation<O: Sink>(out: &mut O, i: u32, op: &Op) -> Line

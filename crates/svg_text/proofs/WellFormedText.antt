@@ -9,8 +9,7 @@ use Rattle.svg_text.specs.declared.names.Name.{Name}
 use Rattle.svg_text.specs.declared.names.Name.TheVariants as name
 use Rattle.svg_text.specs.Characters.{is_plain, reference, escape, escaped}
 use Rattle.svg_text.specs.Elements.{tag_name, attribute_name, Attribute, Element, written, attribute_text, element_text, picture_attributes, picture_text}
-use Rattle.svg_text.specs.WellFormed.{references, AreCharacters, no_character, plain, referred, is_name, AreAttributes, no_attribute, then_one}
-use Rattle.svg_text.specs.WellFormed.{IsContent, nothing, line_end, characters, inner, IsDocument, one, HasEachOnce}
+use Rattle.svg_text.specs.WellFormed.{references, AreCharacters, no_character, plain, referred, is_name, AreAttributes, no_attribute, then_one, IsContent, nothing, line_end, characters, inner, IsDocument, one, HasEachOnce}
 
 -- ---- characters
 

@@ -1,12 +1,11 @@
 //! Characters, and references in their place.
 
 ghost use Rattle.std.specs.Prelude.{◌≡◌, flat_map};
-ghost use Rattle.gathered_line.specs.Gathering.{GathersTo};
+ghost use Rattle.vcp_outside.specs.Gathering.{GathersTo};
 ghost use Rattle.svg_text.specs.Characters.{is_plain as is_plain_of, reference as reference_of, escape, escaped, piece_bytes};
 
-use gathered_line::Line;
 use itoa::Buffer;
-use vcp_outside::Sink;
+use vcp_outside::{Line, Sink};
 
 /// A piece of a text.
 #[derive(Clone, Copy, Debug)]

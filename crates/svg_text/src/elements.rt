@@ -2,14 +2,13 @@
 
 ghost use Rattle.std.specs.Prelude.{◌≡◌, map, flat_map, ◌++◌, codes, ℕ, List, Option};
 ghost use Rattle.vcp_outside.specs.Written.{Writes};
-ghost use Rattle.gathered_line.specs.Gathering.{IsGathered, GathersTo};
+ghost use Rattle.vcp_outside.specs.Gathering.{IsGathered, GathersTo};
 ghost use Rattle.svg_text.specs.Characters.{piece_bytes};
 ghost use Rattle.svg_text.specs.Elements.{attribute_text, attribute_of, given_text, element, element_text, beginning, ending};
 
 use crate::characters::{Piece, then_pieces};
 use crate::names::{Name, Tag, attribute_name, tag_name};
-use gathered_line::Line;
-use vcp_outside::{Failed, Sink};
+use vcp_outside::{Failed, Line, Sink};
 
 /// Goes on with an attribute, after a space.
 fn then_attribute<O: Sink>(line: &mut Line, out: &mut O, name: Name, value: &[Piece<'_>])

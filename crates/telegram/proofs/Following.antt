@@ -1,6 +1,5 @@
 -- Following: the receipts that are read off the right words are those of the wire run.
-use Rattle.std.proofs.Common.{refl, ℕ, ◌≡◌, ◌==◌, ◌<◌, ◌≤◌, ◌+◌, ◌-◌, nat_lt, Bool, true, ap, ◌∙◌, arith}
-use Rattle.std.proofs.Common.{List, [], ◌∷◌, length, slice_index_or, Option, Some, None, ℤ, pos, ◌+ℤ◌}
+use Rattle.std.proofs.Common.{refl, ℕ, ◌≡◌, ◌==◌, ◌<◌, ◌≤◌, ◌+◌, ◌-◌, nat_lt, Bool, true, ap, ◌∙◌, arith, List, [], ◌∷◌, length, slice_index_or, Option, Some, None, ℤ, pos, ◌+ℤ◌}
 use Rattle.std.proofs.lemmas.Bool.{ltb-true}
 use Rattle.vcp_base.specs.declared.code.Profile.{Profile}
 use Rattle.vcp_base.specs.declared.code.Profile.TheVariants as profile
@@ -19,8 +18,7 @@ use Rattle.telegram.specs.Sendings.{telegram_residue}
 use Rattle.telegram.specs.declared.event.Event.{Event}
 use Rattle.telegram.specs.declared.event.Event.TheVariants as event
 use Rattle.telegram.specs.declared.wire.Wire.{Wire}
-use Rattle.telegram.specs.WireRun.{Handing, IsWire, IsEvent, Every, AreEvents, sent_in, sent_by, wired_from, wired, receipt_at}
-use Rattle.telegram.specs.WireRun.{apart, arrived, is_above_all, greatest, with_delivered}
+use Rattle.telegram.specs.WireRun.{Handing, IsWire, IsEvent, Every, AreEvents, sent_in, sent_by, wired_from, wired, receipt_at, apart, arrived, is_above_all, greatest, with_delivered}
 use Rattle.telegram.specs.WireRead.{telegram_of, read_from, wire_read, right_words}
 use Rattle.telegram.proofs.Equation.{dint_near, same_test, shifted_residue, shifted_value}
 use Rattle.telegram.proofs.Lookups.{AreRows, looked_up, rows_of, row_length, sent_fits}

@@ -7,3 +7,15 @@ pub mod Rises
 pub mod Rows
 pub mod Senders
 pub mod Worked
+pub mod Heads
+pub mod LinesFit
+pub mod NumbersRead
+pub mod Reading
+pub mod Counting
+pub mod Ends
+pub mod Growing
+pub mod RunLookups
+pub mod Sending
+pub mod SoFar
+pub mod Telling
+mod WorkedRuns

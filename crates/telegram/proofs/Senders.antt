@@ -18,8 +18,7 @@ use Rattle.telegram.specs.Sendings.{telegram_residue}
 use Rattle.telegram.specs.declared.event.Event.{Event}
 use Rattle.telegram.specs.declared.event.Event.TheVariants as event
 use Rattle.telegram.specs.declared.wire.Wire.{Wire}
-use Rattle.telegram.specs.WireRun.{IsWire, IsEvent, AreEvents, Every, sent_in, sent_by, wired_from, wired, receipt_at}
-use Rattle.telegram.specs.WireRun.{apart, arrived, is_above_all, with_delivered}
+use Rattle.telegram.specs.WireRun.{IsWire, IsEvent, AreEvents, Every, sent_in, sent_by, wired_from, wired, receipt_at, apart, arrived, is_above_all, with_delivered}
 use Rattle.telegram.proofs.Equation.{same_signature, no_carry}
 use Rattle.telegram.proofs.Following.{told_at, delivered_passed}
 use Rattle.telegram.proofs.Orders.{all_below, above_each}

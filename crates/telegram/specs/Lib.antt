@@ -3,3 +3,9 @@ pub mod Receipts
 pub mod Sendings
 pub mod WireRead
 pub mod WireRun
+pub mod Forms
+pub mod Reads
+pub mod ScriptOf
+pub mod Runs
+pub mod Sends
+pub mod WireLines

@@ -1,6 +1,5 @@
 -- WireRun: what is delivered over a wire, by values, the equation of signatures, and delivered numbers. No word stands in it.
-use Rattle.std.specs.Prelude.{◌≡◌, ℕ, ◌+◌, ◌-◌, ◌<◌, ◌≤◌, ◌==◌, nat_lt, max, Bool, true, cond}
-use Rattle.std.specs.Prelude.{List, [], ◌∷◌, length, slice_index_or, ℤ, pos, ◌+ℤ◌, ◌-ℤ◌}
+use Rattle.std.specs.Prelude.{◌≡◌, ℕ, ◌+◌, ◌-◌, ◌<◌, ◌≤◌, ◌==◌, nat_lt, max, Bool, true, cond, List, [], ◌∷◌, length, slice_index_or, ℤ, pos, ◌+ℤ◌, ◌-ℤ◌}
 use Rattle.std.specs.List.{list_all}
 use Rattle.vcp_base.specs.declared.code.Profile.TheVariants as profile
 use Rattle.vcp_base.specs.declared.ty.Ty.TheVariants as ty

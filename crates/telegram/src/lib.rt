@@ -5,12 +5,17 @@
 //! misroute and alter telegrams: a receiver delivers a value exactly where the residue is that of the
 //! sender that it hears, the number is above all that it delivered, and the telegram is young enough.
 //! That all controllers count the same cycles is a premise.
+//!
+//! `read_wire` reads a script of what is sent and handed over (`script`), and `run_wire` carries it out and writes a line for each telegram
+//! (`runs`).
 #![tactic(auto)]
 
 mod event;
 mod laws;
 mod receipt;
 mod receiver;
+mod runs;
+mod script;
 mod sending;
 mod telegram;
 mod wire;
@@ -22,6 +27,8 @@ pub use laws::{
 };
 pub use receipt::Receipt;
 pub use receiver::Receiver;
+pub use runs::{WireEnd, WireRunFault, run_wire};
+pub use script::{Events, Script, WireFault, read_wire};
 pub use sending::send;
 pub use telegram::Telegram;
 pub use wire::Wire;

@@ -3,7 +3,7 @@ use Rattle.std.proofs.Common.{ℕ, ◌≡◌, ◌≤◌, ◌<◌, ◌⊎◌, inl
 use Rattle.vcp_base.specs.Limits.{most_image_bytes}
 use Rattle.vcp_outside.specs.Held.{Held}
 use Rattle.weight_audit.specs.Audit.{Audit, most_weights, weights_up_to, IsAudit}
-use Rattle.audit_report.specs.AuditText.{audit_text}
+use Rattle.weight_audit.specs.AuditText.{audit_text}
 use Rattle.vcp_words.specs.Forms.{audit}
 use Rattle.vcp_inputs.specs.declared.images.Image.{Image}
 use Rattle.vcp_inputs.specs.declared.refusal.Refusal.TheVariants as refusal

@@ -1,6 +1,5 @@
 -- DemoRun: what the command `demo` comes to, from what its calls give; and what is summed up and printed of its run.
-use Rattle.std.proofs.Common.{ℕ, ℤ, pos, negsuc, unsigned_abs, ◌+◌, ◌*◌, ◌^◌, ◌+ℤ◌, ◌≡◌, ◌≢◌, ◌≤◌, ◌<◌, refl, sym, ap, subst, ◌∙◌, arith}
-use Rattle.std.proofs.Common.{List, [], ◌∷◌, ◌++◌, length, Option, None, Result, Ok, Err}
+use Rattle.std.proofs.Common.{ℕ, ℤ, pos, negsuc, unsigned_abs, ◌+◌, ◌*◌, ◌^◌, ◌+ℤ◌, ◌≡◌, ◌≢◌, ◌≤◌, ◌<◌, refl, sym, ap, subst, ◌∙◌, arith, List, [], ◌∷◌, ◌++◌, length, Option, None, Result, Ok, Err}
 use Rattle.vcp_base.specs.Limits.{most_cycles, most_source_bytes}
 use Rattle.input_rows.specs.RowsOf.{RowsLeft}
 use Rattle.program_maker.specs.MadeRows.{made_rows}
@@ -43,8 +42,7 @@ use Rattle.std.proofs.lemmas.List.{length-append}
 use Rattle.std.specs.Int.{saturate_signed, w128}
 use Rattle.vcp_core.specs.EndLines.{last_text}
 use Rattle.command_meaning.specs.Printing.{Report, last_part}
-use Rattle.vcp_core.specs.Demo.{AreSums, DemoTask, KeepsSums, first_value, last_value, made_held, sum_of, summary_job, summary_then}
-use Rattle.vcp_core.specs.Demo.{summed_text, summed_up}
+use Rattle.vcp_core.specs.Demo.{AreSums, DemoTask, KeepsSums, first_value, last_value, made_held, sum_of, summary_job, summary_then, summed_text, summed_up}
 use Rattle.vcp_core.specs.Shown.{RunCame, Shows}
 use Rattle.coded_machine.specs.State.{State}
 

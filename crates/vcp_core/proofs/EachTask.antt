@@ -1,6 +1,5 @@
 -- EachTask: each command comes to a task.
-use Rattle.std.proofs.Common.{ℕ, ℤ, ◌≡◌, ◌≢◌, ◌⊎◌, ⊎_elim, inl, inr, ◌<◌, ◌≤◌, ◌*◌, ◌==◌, nat_le, suc, refl, arith, true, false, List}
-use Rattle.std.proofs.Common.{length, All, Option, Some, None, Result, Ok, Err, subst}
+use Rattle.std.proofs.Common.{ℕ, ℤ, ◌≡◌, ◌≢◌, ◌⊎◌, ⊎_elim, inl, inr, ◌<◌, ◌≤◌, ◌*◌, ◌==◌, nat_le, suc, refl, arith, true, false, List, length, All, Option, Some, None, Result, Ok, Err, subst}
 use Rattle.std.proofs.lemmas.Bool.Decides.{eqb_tells, leb_tells}
 use Rattle.vcp_base.specs.Limits.{most_depth, most_image_bytes, most_source_bytes}
 use Rattle.vcp_base.specs.declared.columns.Column.{Column}
@@ -39,11 +38,11 @@ use Rattle.image_file.specs.Image.{image_of}
 use Rattle.fault_script.specs.declared.act.Fault.{Fault}
 use Rattle.fault_script.specs.declared.script_fault.ScriptFault.{ScriptFault}
 use Rattle.fault_script.specs.ScriptOf.{script_of}
-use Rattle.wire_script.specs.declared.script.Script.{Script}
-use Rattle.wire_script.specs.declared.wire_fault.WireFault.{WireFault}
-use Rattle.wire_script.specs.ScriptOf as wiring
+use Rattle.telegram.specs.declared.script.script.Script.{Script}
+use Rattle.telegram.specs.declared.script.wire_fault.WireFault.{WireFault}
+use Rattle.telegram.specs.ScriptOf as wiring
 use Rattle.weight_audit.specs.Audit.{most_weights, weights_up_to}
-use Rattle.audit_report.specs.AuditText.{AuditOf}
+use Rattle.weight_audit.specs.AuditText.{AuditOf}
 use Rattle.vcp_words.specs.Forms.{Form, Rows, check, format, plain, run, il, compile, list, exec, trace, widen, audit, inject, pair, pairs, wire, demo}
 use Rattle.vcp_words.specs.Tables.{rows_name}
 use Rattle.vcp_inputs.specs.declared.images.Image.{Image}
@@ -65,8 +64,7 @@ use Rattle.command_meaning.specs.FileTasks.{TakenFile, missing, untaken, taken, 
 use Rattle.command_meaning.specs.Kinds.{Task, lacks, answers, compiles, runs, judges, compares, pairs_, wires, prints, refusal_task}
 use Rattle.vcp_core.specs.Demo.{made_held, summary_job}
 use Rattle.vcp_core.specs.EachTask.{HoldsBytes}
-use Rattle.vcp_core.specs.Tasks.{TaskOf, Audited, too_large, printed, WholeRows, FewRows, too_many, few, JudgedScript, Apart, same_seed, two_seeds, Compared}
-use Rattle.vcp_core.specs.Tasks.{PairsRows, PairsScript, pair_job, plain_answer, rows_job, words_job, ok_text, most_trace, table_code, listing, widened}
+use Rattle.vcp_core.specs.Tasks.{TaskOf, Audited, too_large, printed, WholeRows, FewRows, too_many, few, JudgedScript, Apart, same_seed, two_seeds, Compared, PairsRows, PairsScript, pair_job, plain_answer, rows_job, words_job, ok_text, most_trace, table_code, listing, widened}
 use Rattle.vcp_inputs.specs.RowsRead.{graph_columns}
 use Rattle.vcp_core.proofs.ScriptsTold.{script_not_memory, wire_not_memory}
 

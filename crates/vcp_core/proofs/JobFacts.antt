@@ -1,6 +1,5 @@
 -- What the calls of a job's run give, as its lemmas take it.
-use Rattle.std.proofs.Common.{ℕ, suc, [], ◌∷◌, ◌≡◌, ◌<◌, refl, sym, ap, subst, ◌∙◌, List, length, map, slice_get, Option, None, Some, Result, Ok, Err, All}
-use Rattle.std.proofs.Common.{arith, ℤ}
+use Rattle.std.proofs.Common.{ℕ, suc, [], ◌∷◌, ◌≡◌, ◌<◌, refl, sym, ap, subst, ◌∙◌, List, length, map, slice_get, Option, None, Some, Result, Ok, Err, All, arith, ℤ}
 use Rattle.std.proofs.lemmas.List.{length-map}
 use Rattle.vcp_base.specs.Types.{AreIn}
 use Rattle.vcp_base.specs.declared.columns.Column.{Column}

@@ -1,6 +1,5 @@
 -- Listed: the lines of a graph's first operations, and of one more.
-use Rattle.std.proofs.Common.{ℕ, zero, suc, ◌+◌, ◌≡◌, refl, ap, sym, ◌∙◌, List, [], ◌∷◌, ◌++◌, take, append_assoc, append-nil, slice_get, length, Option, Some}
-use Rattle.std.proofs.Common.{None, IfSome, Ok, Err, ◌<◌, arith}
+use Rattle.std.proofs.Common.{ℕ, zero, suc, ◌+◌, ◌≡◌, refl, ap, sym, ◌∙◌, List, [], ◌∷◌, ◌++◌, take, append_assoc, append-nil, slice_get, length, Option, Some, None, IfSome, Ok, Err, ◌<◌, arith}
 use Rattle.op_graph.specs.declared.op.Op.{Op}
 use Rattle.op_graph.specs.Lists.{Lists}
 use Rattle.signature_table.specs.Signatures.{Numbers}

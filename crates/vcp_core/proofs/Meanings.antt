@@ -1,7 +1,6 @@
 -- Meanings: a command comes to one task, which has a status of its own, and lacks no name where all its files are held; and what is meant
 -- where `run` comes to a run is the answer of `plain`.
-use Rattle.std.proofs.Common.{ℕ, ℤ, ◌≡◌, ◌<◌, ◌≤◌, ◌*◌, inl, inr, refl, sym, ap, subst, ◌∙◌, List, [], ◌∷◌, ◌++◌, length, Option, Some, None, IsSome, IfSome, lit≤}
-use Rattle.std.proofs.Common.{Result, Ok, Err, Bool, true, false, cond, nat_lt, arith}
+use Rattle.std.proofs.Common.{ℕ, ℤ, ◌≡◌, ◌<◌, ◌≤◌, ◌*◌, inl, inr, refl, sym, ap, subst, ◌∙◌, List, [], ◌∷◌, ◌++◌, length, Option, Some, None, IsSome, IfSome, lit≤, Result, Ok, Err, Bool, true, false, cond, nat_lt, arith}
 use Rattle.vcp_base.specs.Limits.{most_image_bytes, most_rows_bytes, most_source_bytes}
 use Rattle.vcp_base.specs.Stops.{ToldStop}
 use Rattle.vcp_base.specs.declared.columns.Column.{Column}
@@ -34,12 +33,12 @@ use Rattle.vcp_inputs.specs.RowsOutcome.{RowsOutcome, lacking, opened, rows_or_r
 use Rattle.vcp_inputs.specs.RowsOutcome as outcome
 use Rattle.vcp_inputs.specs.Scripts.{ScriptOf, NotScript, no_script}
 use Rattle.vcp_inputs.specs.Wires.{WireOf, NotWire}
-use Rattle.wire_script.specs.declared.script.Script.{Script}
+use Rattle.telegram.specs.declared.script.script.Script.{Script}
 use Rattle.image_file.specs.Graphs.{HasImage}
 use Rattle.image_file.specs.Image.{image_of}
 use Rattle.signature_table.specs.Signatures.{Numbers, table_of}
 use Rattle.weight_audit.specs.Audit.{most_weights, weights_up_to}
-use Rattle.audit_report.specs.AuditText.{AuditOf}
+use Rattle.weight_audit.specs.AuditText.{AuditOf}
 use Rattle.command_meaning.specs.Abouts.{FileWord, about, AllHeld, made_name, image_word, listing_word, rows_words, script_word, source_word, without_unit, Among}
 use Rattle.command_meaning.specs.Answer.{Answer, Campaign, source, listed, image}
 use Rattle.command_meaning.specs.FileTasks.{TakenFile, missing, untaken, taken, ParsedFile, TypedFile, ListingFile, ImageFile, ScriptFile, OnRows, TakenRows}
@@ -49,15 +48,11 @@ use Rattle.command_meaning.specs.PairKind.{PairJob}
 use Rattle.command_meaning.specs.Reports.{end_told, run_status}
 use Rattle.command_meaning.specs.RunKind.{Job, job_answer, run_meant}
 use Rattle.command_meaning.proofs.OneFile.{one_file, file_has}
-use Rattle.vcp_core.specs.Tasks.{Audited, too_large, printed, FewRows, too_many, few, JudgedScript, WholeRows}
-use Rattle.vcp_core.specs.Tasks.{Apart, same_seed, two_seeds, Compared, PairsRows, PairsScript, pair_job}
+use Rattle.vcp_core.specs.Tasks.{Audited, too_large, printed, FewRows, too_many, few, JudgedScript, WholeRows, Apart, same_seed, two_seeds, Compared, PairsRows, PairsScript, pair_job, AuditTask, TaskOf, PlainTask, RunTask, plain_answer, rows_job, words_job, ok_text, most_trace, table_code, listing, widened}
 use Rattle.command_meaning.proofs.Performed.{NeedsNone}
 use Rattle.vcp_inputs.specs.RowsRead.{graph_columns}
-use Rattle.vcp_core.specs.Tasks.{AuditTask, TaskOf, PlainTask, RunTask, plain_answer, rows_job, words_job, ok_text}
-use Rattle.vcp_core.specs.Tasks.{most_trace, table_code, listing, widened}
 use Rattle.vcp_core.specs.Demo.{made_held, summary_job}
-use Rattle.vcp_core.proofs.OneText.{ImageLaws, Laws, OneAudit, image_once, image_or_none, no_image_once, program_once, program_or_none, refused_once}
-use Rattle.vcp_core.proofs.OneText.{typed_once, typed_apart, untyped_once, listing_or_none, no_listing_once}
+use Rattle.vcp_core.proofs.OneText.{ImageLaws, Laws, OneAudit, image_once, image_or_none, no_image_once, program_once, program_or_none, refused_once, typed_once, typed_apart, untyped_once, listing_or_none, no_listing_once}
 use Rattle.vcp_core.proofs.WireTasks.{wire_task_once}
 
 -- ---- a command comes to one task

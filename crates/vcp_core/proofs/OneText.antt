@@ -33,7 +33,7 @@ use Rattle.image_file.specs.Graphs.{HasImage, FaultAt}
 use Rattle.image_file.specs.Image.{image_of}
 use Rattle.vcp_inputs.specs.declared.images.Image.{Image}
 use Rattle.vcp_inputs.specs.Images.{ImageOf, NotImage, no_image}
-use Rattle.audit_report.specs.AuditText.{AuditOf}
+use Rattle.weight_audit.specs.AuditText.{AuditOf}
 
 -- the law of images
 pub record ImageLaws : Type 0 where

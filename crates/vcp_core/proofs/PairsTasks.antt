@@ -1,6 +1,5 @@
 -- What `pairs` comes to and how far it comes, from what reading its files and running the groups give.
-use Rattle.std.proofs.Common.{ℕ, ℤ, ◌≤◌, ◌≡◌, ◌≢◌, ◌⊎◌, inl, inr, refl, sym, ap, subst, ◌∙◌, List, [], ◌∷◌, ◌++◌, append_assoc, length, drop, Option}
-use Rattle.std.proofs.Common.{Some, Ok, Err}
+use Rattle.std.proofs.Common.{ℕ, ℤ, ◌≤◌, ◌≡◌, ◌≢◌, ◌⊎◌, inl, inr, refl, sym, ap, subst, ◌∙◌, List, [], ◌∷◌, ◌++◌, append_assoc, length, drop, Option, Some, Ok, Err}
 use Rattle.std.proofs.lemmas.List.{length-map}
 use Rattle.std.specs.Io.KnownBytes.{Appends, IsAtEnd}
 use Rattle.vcp_base.specs.Limits.{most_image_bytes, most_source_bytes}
@@ -17,10 +16,10 @@ use Rattle.fault_script.specs.Groups.{line_of}
 use Rattle.fault_campaign.specs.Campaign.{verdicts_of}
 use Rattle.fault_campaign.specs.declared.fault.CampaignFault.{CampaignFault}
 use Rattle.fault_campaign.specs.declared.fault.CampaignFault.TheVariants as campaign
-use Rattle.pair_campaign.specs.declared.verdict.PairVerdict.{PairVerdict}
-use Rattle.pair_campaign.specs.GroupLines.{group_text, pair_totals_text, totals_of}
-use Rattle.pair_campaign.specs.PairCampaigns.{EarlierTold, PairsTold, group_lines, pairs_text}
-use Rattle.pair_campaign.specs.PairVerdicts.{told_verdict}
+use Rattle.fault_campaign.specs.declared.pairs.verdict.PairVerdict.{PairVerdict}
+use Rattle.fault_campaign.specs.GroupLines.{group_text, pair_totals_text, totals_of}
+use Rattle.fault_campaign.specs.PairCampaigns.{EarlierTold, PairsTold, group_lines, pairs_text}
+use Rattle.fault_campaign.specs.PairVerdicts.{told_verdict}
 use Rattle.vcp_words.specs.Forms.{Rows, pairs}
 use Rattle.vcp_words.specs.Tables.{rows_name}
 use Rattle.vcp_inputs.specs.declared.images.Image.{Image}

@@ -1,6 +1,5 @@
 -- How far the run of a job came, from what running its graph leaves, whatever is printed of it.
-use Rattle.std.proofs.Common.{ℕ, ℤ, suc, ◌+◌, ◌≡◌, ◌<◌, ◌-◌, ◌^◌, inr, refl, sym, ap, subst, ◌∙◌, List, [], ◌∷◌, ◌++◌, length, map, append_assoc, append-nil}
-use Rattle.std.proofs.Common.{Option, None, Ok, Err, IfSome, arith}
+use Rattle.std.proofs.Common.{ℕ, ℤ, suc, ◌+◌, ◌≡◌, ◌<◌, ◌-◌, ◌^◌, inr, refl, sym, ap, subst, ◌∙◌, List, [], ◌∷◌, ◌++◌, length, map, append_assoc, append-nil, Option, None, Ok, Err, IfSome, arith}
 use Rattle.std.specs.Io.KnownBytes.{Appends}
 use Rattle.vcp_outside.specs.Written.{AppendsFront, AppendsPart}
 use Rattle.input_rows.specs.declared.fault.RowFault.{RowFault}
@@ -36,8 +35,7 @@ use Rattle.machine_run.specs.Moments.{Moment, moment}
 use Rattle.vcp_core.specs.declared.ending.Ending.{Ending}
 use Rattle.vcp_core.specs.Reach.{end_status}
 use Rattle.vcp_core.specs.MachineRun.{IsThere, RunAnswers, RunsTo}
-use Rattle.vcp_core.proofs.JobRun.{read-end, as-many, complete-is, earlier-rows, no-behind-by, status-by, record-of, grows-none, part-of, part-behind}
-use Rattle.vcp_core.proofs.JobRun.{append-all, front-of, no-last}
+use Rattle.vcp_core.proofs.JobRun.{read-end, as-many, complete-is, earlier-rows, no-behind-by, status-by, record-of, grows-none, part-of, part-behind, append-all, front-of, no-last}
 
 -- ---- texts
 

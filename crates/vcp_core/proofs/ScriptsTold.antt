@@ -1,6 +1,5 @@
 -- ScriptsTold: what a text is as a script never is want of memory: it is a script, or is refused at a line.
-use Rattle.std.proofs.Common.{ℕ, ◌≡◌, Bool, true, false, cond, ◌&&◌, ◌==◌, nat_lt, ℤ, pos, List, [], ◌∷◌, length, slice_get}
-use Rattle.std.proofs.Common.{Option, Some, None, Result, Ok, Err, subst, codes, bytes_eq}
+use Rattle.std.proofs.Common.{ℕ, ◌≡◌, Bool, true, false, cond, ◌&&◌, ◌==◌, nat_lt, ℤ, pos, List, [], ◌∷◌, length, slice_get, Option, Some, None, Result, Ok, Err, subst, codes, bytes_eq}
 use Rattle.std.specs.List.{list_all, list_any}
 use Rattle.std.specs.Str.Lines.{lines}
 use Rattle.vcp_base.specs.Types.{fits}
@@ -20,16 +19,15 @@ use Rattle.fault_script.specs.declared.script_fault.ScriptFault.TheVariants as s
 use Rattle.fault_script.specs.Fits.{is_sited, is_timely, is_alike}
 use Rattle.fault_script.specs.Forms.{change_of, mark_of}
 use Rattle.fault_script.specs.Groups.{is_taken}
-use Rattle.fault_script.specs.ScriptOf.{most_faults, fault_at, fault_if, fault_of, Item, begins, ends, says, item_by, item_of, counted, items_of}
-use Rattle.fault_script.specs.ScriptOf.{onto, ended, with_fault, groups_of, script_of}
+use Rattle.fault_script.specs.ScriptOf.{most_faults, fault_at, fault_if, fault_of, Item, begins, ends, says, item_by, item_of, counted, items_of, onto, ended, with_fault, groups_of, script_of}
 use Rattle.telegram.specs.declared.event.Event.{Event}
 use Rattle.telegram.specs.declared.wire.Wire.{Wire}
-use Rattle.wire_script.specs.declared.script.Script.{Script}
-use Rattle.wire_script.specs.declared.wire_fault.WireFault.{WireFault}
-use Rattle.wire_script.specs.declared.wire_fault.WireFault.TheVariants as wire
-use Rattle.wire_script.specs.Forms.{integers_of, wire_with, or_range, wire_of, head_of, cycle_of, delivery_of, event_of, is_below}
-use Rattle.wire_script.specs.ScriptOf.{is_head, begun_after, events_of, script_said}
-use Rattle.wire_script.specs.ScriptOf as wires
+use Rattle.telegram.specs.declared.script.script.Script.{Script}
+use Rattle.telegram.specs.declared.script.wire_fault.WireFault.{WireFault}
+use Rattle.telegram.specs.declared.script.wire_fault.WireFault.TheVariants as wire
+use Rattle.telegram.specs.Forms.{integers_of, wire_with, or_range, wire_of, head_of, cycle_of, delivery_of, event_of, is_below}
+use Rattle.telegram.specs.ScriptOf.{is_head, begun_after, events_of, script_said}
+use Rattle.telegram.specs.ScriptOf as wires
 
 -- ---- scripts of faults
 

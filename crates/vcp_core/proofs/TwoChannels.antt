@@ -15,7 +15,7 @@ use Rattle.machine_run.specs.declared.fault.RunFault.TheVariants as run
 use Rattle.pair_channel.specs.declared.pair_end.PairEnd.{PairEnd}
 use Rattle.pair_channel.specs.declared.pair_end.PairEnd.TheVariants as pair
 use Rattle.pair_channel.specs.PairRuns.{Disagrees}
-use Rattle.pair_run.specs.BesideDone.{BesideDone, BesideRunsTo}
+use Rattle.pair_channel.specs.BesideDone.{BesideDone, BesideRunsTo}
 use Rattle.vcp_words.specs.Forms.{Rows}
 use Rattle.vcp_words.specs.Forms as form
 use Rattle.vcp_words.specs.Tables.{rows_name}

@@ -9,14 +9,14 @@ use Rattle.vcp_outside.specs.Held.{Held}
 use Rattle.vcp_outside.specs.Seen.{FilesSeen, SinkSeen}
 use Rattle.vcp_outside.specs.Written.{AppendsPart}
 use Rattle.telegram.specs.WireRun.{sent_in}
-use Rattle.wire_script.specs.declared.script.Script.{Script}
-use Rattle.wire_script.specs.ScriptOf.{ScriptFits, script_of}
-use Rattle.wire_run.specs.declared.wire_end.WireEnd.{WireEnd}
-use Rattle.wire_run.specs.declared.wire_end.WireEnd.TheVariants as end
-use Rattle.wire_run.specs.declared.wire_end.WireRunFault.{WireRunFault}
-use Rattle.wire_run.specs.declared.wire_end.WireRunFault.TheVariants as fault
-use Rattle.wire_run.specs.Runs.{AreWords, PartTold, RoseBy, RunsWire}
-use Rattle.wire_run.specs.Sends.{Cut, calls_of}
+use Rattle.telegram.specs.declared.script.script.Script.{Script}
+use Rattle.telegram.specs.ScriptOf.{ScriptFits, script_of}
+use Rattle.telegram.specs.declared.runs.wire_end.WireEnd.{WireEnd}
+use Rattle.telegram.specs.declared.runs.wire_end.WireEnd.TheVariants as end
+use Rattle.telegram.specs.declared.runs.wire_end.WireRunFault.{WireRunFault}
+use Rattle.telegram.specs.declared.runs.wire_end.WireRunFault.TheVariants as fault
+use Rattle.telegram.specs.Runs.{AreWords, PartTold, RoseBy, RunsWire}
+use Rattle.telegram.specs.Sends.{Cut, calls_of}
 use Rattle.machine_run.specs.Moments.{Moment, moment}
 use Rattle.vcp_words.specs.Forms.{wire}
 use Rattle.vcp_inputs.specs.declared.refusal.Refusal.{Refusal}

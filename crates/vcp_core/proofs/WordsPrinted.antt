@@ -1,7 +1,5 @@
 -- WordsPrinted: the lines of the words that a whole cycle answered, one after another.
-use Rattle.std.proofs.Common.{ℕ, zero, suc, ◌+◌, ◌⊎◌, inl, inr, ◌≡◌, ◌<◌, refl, ap, sym, ◌∙◌, List, [], ◌∷◌, ◌++◌, length, take}
-use Rattle.std.proofs.Common.{append_assoc, append-nil, slice_get, Option}
-use Rattle.std.proofs.Common.{Some, None, IfSome, Ok, Err, arith, ℤ}
+use Rattle.std.proofs.Common.{ℕ, zero, suc, ◌+◌, ◌⊎◌, inl, inr, ◌≡◌, ◌<◌, refl, ap, sym, ◌∙◌, List, [], ◌∷◌, ◌++◌, length, take, append_assoc, append-nil, slice_get, Option, Some, None, IfSome, Ok, Err, arith, ℤ}
 use Rattle.coded_unit.specs.declared.call.Answer.{Answer}
 use Rattle.coded_unit.specs.declared.call.Answer.TheVariants as answer
 use Rattle.coded_machine.specs.Calls.{Whole}

@@ -1,6 +1,5 @@
 -- WordsRun: how far the run of an image came of which the words of one cycle are printed, from what running its graph leaves.
-use Rattle.std.proofs.Common.{ℕ, zero, suc, ◌+◌, ◌≡◌, ◌≤◌, ◌<◌, ◌⊎◌, inl, inr, Bool, true, false, cond, nat_le, refl, sym, ap, subst, ◌∙◌, List, [], ◌∷◌}
-use Rattle.std.proofs.Common.{length, slice_index_or, Option, Some, None, arith, ℤ}
+use Rattle.std.proofs.Common.{ℕ, zero, suc, ◌+◌, ◌≡◌, ◌≤◌, ◌<◌, ◌⊎◌, inl, inr, Bool, true, false, cond, nat_le, refl, sym, ap, subst, ◌∙◌, List, [], ◌∷◌, length, slice_index_or, Option, Some, None, arith, ℤ}
 use Rattle.std.proofs.lemmas.Bool.Decides.{nat_tests}
 use Rattle.std.proofs.lemmas.List.{length-take}
 use Rattle.input_rows.specs.declared.fault.RowFault.{RowFault}

@@ -1,8 +1,8 @@
 -- Faults: what is told of faults that weren't all judged, and of a wire's script that wasn't run to its end.
 use Rattle.fault_campaign.specs.declared.fault.CampaignFault.{CampaignFault}
 use Rattle.fault_campaign.specs.declared.fault.CampaignFault.TheVariants as campaign
-use Rattle.wire_run.specs.declared.wire_end.WireRunFault.{WireRunFault}
-use Rattle.wire_run.specs.declared.wire_end.WireRunFault.TheVariants as wire
+use Rattle.telegram.specs.declared.runs.wire_end.WireRunFault.{WireRunFault}
+use Rattle.telegram.specs.declared.runs.wire_end.WireRunFault.TheVariants as wire
 use Rattle.vcp_core.specs.declared.fault.Fault.{Fault}
 use Rattle.vcp_core.specs.declared.fault.Fault.TheVariants as fault
 

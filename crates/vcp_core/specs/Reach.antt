@@ -4,8 +4,8 @@ use Rattle.machine_run.specs.declared.fault.RunFault.{RunFault}
 use Rattle.machine_run.specs.declared.fault.RunFault.TheVariants as run
 use Rattle.vcp_inputs.specs.Lines.{memory_text, write_fault_text, input_text, input_status}
 use Rattle.vcp_inputs.specs.Refusals.{no_rows}
-use Rattle.wire_run.specs.declared.wire_end.WireEnd.{WireEnd}
-use Rattle.wire_run.specs.declared.wire_end.WireEnd.TheVariants as wire
+use Rattle.telegram.specs.declared.runs.wire_end.WireEnd.{WireEnd}
+use Rattle.telegram.specs.declared.runs.wire_end.WireEnd.TheVariants as wire
 use Rattle.vcp_core.specs.declared.ending.Ending.{Ending}
 use Rattle.vcp_core.specs.declared.ending.Ending.TheVariants as end
 use Rattle.vcp_core.specs.declared.fault.Fault.{Fault}

@@ -16,13 +16,12 @@ ghost use Rattle.vcp_core.specs.Reach.{told_line, told_status};
 
 use crate::ending::Ending;
 use crate::fault::Fault;
-use audit_report::write_audit;
 use std::alloc::Global;
 use vcp_base::Text;
 use vcp_inputs::{Image, NoInput, Refusal, load_image};
 use vcp_outside::{Files, Sink};
 use weight_audit::weigh::weights;
-use weight_audit::{AuditFault, Weights};
+use weight_audit::{AuditFault, Weights, write_audit};
 
 /// The weights of an image's graph up to a horizon, unless there are too many.
 fn weights_of(alloc: Global, image: &Image, horizon: u32) -> Result<Weights, NoInput>

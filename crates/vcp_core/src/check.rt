@@ -12,11 +12,10 @@ ghost use Rattle.vcp_core.specs.Reach.{told_line, told_status};
 
 use crate::ending::Ending;
 use crate::fault::Fault;
-use gathered_line::Line;
 use std::alloc::Global;
 use vcp_base::Text;
 use vcp_inputs::load_typed;
-use vcp_outside::{Failed, Files, Sink};
+use vcp_outside::{Failed, Files, Line, Sink};
 
 /// A program that is one of the language, with its Size.
 fn ok_line<O: Sink>(out: &mut O, size: u32) -> Result<(), Failed>

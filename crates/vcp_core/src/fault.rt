@@ -5,11 +5,11 @@ ghost use Rattle.vcp_core.specs.Faults.{of_campaign, of_wire};
 ghost use Rattle.vcp_core.specs.declared.fault.Fault.TheVariants as fault;
 
 use fault_campaign::CampaignFault;
+use telegram::WireRunFault;
 use thiserror::Error;
 use vcp_base::Memory;
 use vcp_inputs::NoInput;
 use vcp_outside::Failed;
-use wire_run::WireRunFault;
 
 /// Why a command ends before all is written.
 #[derive(Debug, Drop, Error)]

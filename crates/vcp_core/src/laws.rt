@@ -10,7 +10,7 @@ ghost use Rattle.signature_table.specs.Signatures.{Numbers, table_of};
 ghost use Rattle.image_file.specs.Graphs.{HasImage};
 ghost use Rattle.image_file.specs.Image.{image_of};
 ghost use Rattle.weight_audit.specs.Audit.{most_weights, weights_up_to};
-ghost use Rattle.audit_report.specs.AuditText.{AuditOf};
+ghost use Rattle.weight_audit.specs.AuditText.{AuditOf};
 ghost use Rattle.vcp_words.specs.Forms.{Form};
 ghost use Rattle.command_meaning.specs.Abouts.{about, AllHeld, without_unit};
 ghost use Rattle.command_meaning.specs.Answer.{Answer};
@@ -22,7 +22,6 @@ ghost use Rattle.vcp_core.specs.Tasks.{AuditTask, TaskOf, widened};
 ghost use Rattle.command_meaning.specs.WireKind.{WiresDeliver};
 ghost use Rattle.vcp_core.specs.StaleSeen.{StaleShows};
 
-use audit_report::an_audit_has_one_text;
 use il_front::il_answers_are_one;
 use image_file::images_are_told_apart;
 use st_lexer::one_reading;
@@ -32,7 +31,7 @@ use telegram::{
     deliveries_are_young, deliveries_rise, receipts_follow_the_equation,
     unaltered_come_from_their_sender,
 };
-use weight_audit::differences_come_as_weights;
+use weight_audit::{an_audit_has_one_text, differences_come_as_weights};
 
 /// A command comes to a task, whatever bytes are held, and only to one, with a status of its own, and not to a name that is lacking where
 /// all its files are held; and where `run` comes to a task that means an answer, it is the one that `plain` comes to, where it comes to one.

@@ -13,7 +13,7 @@ use crate::ending::Ending;
 use crate::fault::Fault;
 use crate::loading::rows_name;
 use coded_unit::Unit;
-use pair_campaign::run_pairs;
+use fault_campaign::run_pairs;
 use signature_table::Table;
 use std::alloc::Global;
 use vcp_base::Text;

@@ -1,7 +1,6 @@
 //! The printing of a program's own run, cycle by cycle, as the rows come.
 
-ghost use Rattle.std.specs.Prelude.{◌≡◌, ◌+◌, ◌≤◌, None, Ok, Err, IfOk, true, false, length};
-ghost use Rattle.std.specs.Prelude.{All};
+ghost use Rattle.std.specs.Prelude.{◌≡◌, ◌+◌, ◌≤◌, None, Ok, Err, IfOk, true, false, length, All};
 ghost use Rattle.vcp_base.specs.Limits.{most_cycles};
 ghost use Rattle.vcp_base.specs.Types.{AreIn};
 ghost use Rattle.vcp_outside.specs.Counts.{Rose};

@@ -12,10 +12,10 @@ use crate::ending::Ending;
 use crate::fault::Fault;
 use coded_unit::Unit;
 use std::alloc::Global;
+use telegram::{WireEnd, run_wire};
 use vcp_base::Text;
 use vcp_inputs::load_wire;
 use vcp_outside::{Files, Sink};
-use wire_run::{WireEnd, run_wire};
 
 /// Does what the words `wire F` say, and writes to `out` alone: F is read whole and taken through its
 /// refusals; and then its values are sent on the unit, its telegrams taken, and the lines of these written.

@@ -17,8 +17,7 @@ use Rattle.il_front.specs.declared.fault.IlFault.{IlFault}
 use Rattle.il_front.specs.declared.fault.IlFault.TheVariants as il
 use Rattle.il_front.specs.declared.instruction.Instruction.{Instruction}
 use Rattle.il_front.specs.Answers.{NotIl, crowded, misread, mistyped, no_memory, reserved, too_large, unlexed, unparsed}
-use Rattle.il_front.specs.Judging.{Judged, Line, alone, and_more, faulted, first_spot, formed_line, instruction_of, is_last_word, judged, line_of, listed}
-use Rattle.il_front.specs.Judging.{loads, meant, meant_line, onto, placed_line, sets, taken, type_behind, typed_line}
+use Rattle.il_front.specs.Judging.{Judged, Line, alone, and_more, faulted, first_spot, formed_line, instruction_of, is_last_word, judged, line_of, listed, loads, meant, meant_line, onto, placed_line, sets, taken, type_behind, typed_line}
 use Rattle.il_front.specs.Lines.{behind_head, lines_of}
 use Rattle.input_rows.specs.declared.fault.RowFault.{RowFault}
 use Rattle.input_rows.specs.declared.fault.RowFault.TheVariants as rows
@@ -26,8 +25,8 @@ use Rattle.image_file.specs.declared.fault.ImageFault.{ImageFault}
 use Rattle.image_file.specs.declared.fault.ImageFault.TheVariants as image
 use Rattle.fault_script.specs.declared.script_fault.ScriptFault.{ScriptFault}
 use Rattle.fault_script.specs.declared.script_fault.ScriptFault.TheVariants as script
-use Rattle.wire_script.specs.declared.wire_fault.WireFault.{WireFault}
-use Rattle.wire_script.specs.declared.wire_fault.WireFault.TheVariants as wire
+use Rattle.telegram.specs.declared.script.wire_fault.WireFault.{WireFault}
+use Rattle.telegram.specs.declared.script.wire_fault.WireFault.TheVariants as wire
 use Rattle.vcp_inputs.specs.declared.refusal.Refusal.{Refusal}
 use Rattle.vcp_inputs.specs.declared.refusal.Refusal.TheVariants as refusal
 use Rattle.vcp_inputs.specs.declared.refusal.NoInput.{NoInput}

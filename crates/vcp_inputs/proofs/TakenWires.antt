@@ -1,8 +1,8 @@
 -- Texts that are no scripts of a wire.
 use Rattle.std.proofs.Common.{ℕ, ◌≡◌, ◌≢◌, List, Err}
-use Rattle.wire_script.specs.declared.wire_fault.WireFault.{WireFault}
-use Rattle.wire_script.specs.declared.wire_fault.WireFault.TheVariants as wire
-use Rattle.wire_script.specs.ScriptOf.{script_of}
+use Rattle.telegram.specs.declared.script.wire_fault.WireFault.{WireFault}
+use Rattle.telegram.specs.declared.script.wire_fault.WireFault.TheVariants as wire
+use Rattle.telegram.specs.ScriptOf.{script_of}
 use Rattle.vcp_inputs.specs.Files.{Untaken}
 use Rattle.vcp_inputs.specs.Refusals.{unwired}
 use Rattle.vcp_inputs.specs.Wires.{NotWire, no_wire}

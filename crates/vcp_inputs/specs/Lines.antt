@@ -15,8 +15,8 @@ use Rattle.image_file.specs.declared.fault.ImageFault.{ImageFault}
 use Rattle.image_file.specs.declared.fault.ImageFault.TheVariants as image
 use Rattle.fault_script.specs.declared.script_fault.ScriptFault.{ScriptFault}
 use Rattle.fault_script.specs.declared.script_fault.ScriptFault.TheVariants as script
-use Rattle.wire_script.specs.declared.wire_fault.WireFault.{WireFault}
-use Rattle.wire_script.specs.declared.wire_fault.WireFault.TheVariants as wire
+use Rattle.telegram.specs.declared.script.wire_fault.WireFault.{WireFault}
+use Rattle.telegram.specs.declared.script.wire_fault.WireFault.TheVariants as wire
 use Rattle.vcp_inputs.specs.declared.refusal.Refusal.{Refusal}
 use Rattle.vcp_inputs.specs.declared.refusal.Refusal.TheVariants as refusal
 use Rattle.vcp_inputs.specs.declared.refusal.NoInput.{NoInput}

@@ -1,9 +1,9 @@
 -- Wires: the script of a wire that a text is, and why a text is none.
 use Rattle.std.specs.Prelude.{ℕ, ◌≡◌, ◌≢◌, List, Ok, Err}
-use Rattle.wire_script.specs.declared.script.Script.{Script}
-use Rattle.wire_script.specs.declared.wire_fault.WireFault.{WireFault}
-use Rattle.wire_script.specs.declared.wire_fault.WireFault.TheVariants as wire
-use Rattle.wire_script.specs.ScriptOf.{script_of}
+use Rattle.telegram.specs.declared.script.script.Script.{Script}
+use Rattle.telegram.specs.declared.script.wire_fault.WireFault.{WireFault}
+use Rattle.telegram.specs.declared.script.wire_fault.WireFault.TheVariants as wire
+use Rattle.telegram.specs.ScriptOf.{script_of}
 use Rattle.vcp_inputs.specs.declared.refusal.Refusal.{Refusal}
 use Rattle.vcp_inputs.specs.declared.refusal.Refusal.TheVariants as refusal
 

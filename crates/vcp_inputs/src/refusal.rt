@@ -11,9 +11,9 @@ use input_rows::RowFault;
 use st_lexer::LexFault;
 use st_parser::SyntaxFault;
 use st_types::TypeFault;
+use telegram::WireFault;
 use vcp_base::Memory;
 use vcp_outside::ReadAll;
-use wire_script::WireFault;
 
 /// Why a file is refused. Where its bytes are looked at, the fault is one of the layer that looks, and
 /// never its want of memory.

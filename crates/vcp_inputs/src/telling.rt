@@ -3,21 +3,19 @@
 ghost use Rattle.std.specs.Prelude.{◌≡◌, ◌++◌, codes};
 ghost use Rattle.vcp_outside.specs.Written.{WritesTo};
 ghost use Rattle.input_rows.specs.declared.fault.RowFault.TheVariants as rows;
-ghost use Rattle.vcp_inputs.specs.Lines.{spot_text, lexing_text, parsing_text, typing_text, listing_text, rows_text, place_text, correction_text, image_text, script_text, wire_text};
-ghost use Rattle.vcp_inputs.specs.Lines.{refusal_text, input_text, input_status as status_of_input};
+ghost use Rattle.vcp_inputs.specs.Lines.{spot_text, lexing_text, parsing_text, typing_text, listing_text, rows_text, place_text, correction_text, image_text, script_text, wire_text, refusal_text, input_text, input_status as status_of_input};
 
 use crate::refusal::{NoInput, Refusal};
 use fault_script::ScriptFault;
-use gathered_line::Line;
 use il_front::IlFault;
 use image_file::ImageFault;
 use input_rows::RowFault;
 use st_lexer::LexFault;
 use st_parser::SyntaxFault;
 use st_types::TypeFault;
+use telegram::WireFault;
 use vcp_base::{Residue, Spot};
-use vcp_outside::{Failed, Sink, write_all};
-use wire_script::WireFault;
+use vcp_outside::{Failed, Line, Sink, write_all};
 
 /// The line where memory was wanted.
 const NO_MEMORY: &[u8] = b"no memory\n";

@@ -4,7 +4,7 @@ ghost use Rattle.std.specs.Prelude.{◌≡◌, ◌≢◌, ◌≤◌, IfErr, IfOk
 ghost use Rattle.std.specs.Io.KnownBytes.{IsAtEnd};
 ghost use Rattle.vcp_base.specs.Limits.{most_source_bytes};
 ghost use Rattle.vcp_outside.specs.Counts.{Rose};
-ghost use Rattle.wire_script.specs.ScriptOf.{ScriptFits};
+ghost use Rattle.telegram.specs.ScriptOf.{ScriptFits};
 ghost use Rattle.vcp_inputs.specs.Files.{Untaken, Loads};
 ghost use Rattle.vcp_inputs.specs.Wires.{WireOf, NotWire};
 ghost use Rattle.vcp_inputs.specs.Refusals.{IsCaused};
@@ -15,9 +15,9 @@ ghost use Rattle.vcp_inputs.specs.declared.refusal.Refusal.TheVariants as refusa
 use crate::reading::read_file;
 use crate::refusal::NoInput;
 use std::alloc::Global;
+use telegram::{Script, read_wire};
 use vcp_base::{MOST_SOURCE_BYTES, Text};
 use vcp_outside::Files;
-use wire_script::{Script, read_wire};
 
 /// The script of a wire that a text is.
 fn wire_of(alloc: Global, text: &[u8]) -> Result<Script, NoInput>

@@ -2,3 +2,4 @@ pub mod Entries
 pub mod Numbers
 pub mod Steps
 pub mod Taken
+pub mod Gathering

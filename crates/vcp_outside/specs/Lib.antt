@@ -8,3 +8,4 @@ pub mod MemSink
 pub mod ReadAll
 pub mod Seen
 pub mod Written
+pub mod Gathering

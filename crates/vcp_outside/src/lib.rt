@@ -4,6 +4,9 @@
 //! count their faults. `MemFiles` and `MemSink` stand in memory, tell all, and fail at the calls that
 //! are made to fail. `HostFiles` and `HostSink` stand on the host and tell no bytes. A call answers
 //! `Failed` only where a count rose.
+//!
+//! `Line` gathers the pieces of a line on its way to a sink, so that a line of at most `ROOM` bytes is
+//! handed over at once. It takes no memory.
 #![tactic(auto)]
 
 mod arguments;
@@ -12,6 +15,7 @@ mod failing_calls;
 mod files;
 mod host_files;
 mod host_sink;
+mod line;
 mod mem_files;
 mod mem_sink;
 mod reading;
@@ -23,6 +27,7 @@ pub use failed::Failed;
 pub use files::Files;
 pub use host_files::HostFiles;
 pub use host_sink::HostSink;
+pub use line::{Line, ROOM, begin};
 pub use mem_files::{Entry, MemFiles};
 pub use mem_sink::MemSink;
 pub use reading::{ReadAll, read_all, read_all_counting};

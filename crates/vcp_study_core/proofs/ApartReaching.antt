@@ -1,12 +1,11 @@
 -- ApartReaching: how far `sum` with rows comes, from what loading its image and reading its rows give.
-use Rattle.std.proofs.Common.{◌≡◌, ◌≤◌, ℕ, ℤ, List, length, map, Option, Result, Ok, Err, ap}
+use Rattle.std.proofs.Common.{◌≡◌, ◌≤◌, ℕ, ℤ, List, length, map, Option, Result, Ok, Err, ap, Some}
 use Rattle.vcp_base.specs.Limits.{most_image_bytes}
 use Rattle.vcp_base.specs.declared.columns.Column.{Column}
 use Rattle.vcp_outside.specs.Held.{Held}
 use Rattle.op_graph.specs.Lists.{Lists, column}
 use Rattle.signature_table.specs.Signatures.{Numbers, IsTableOf, table_of}
 use Rattle.vcp_words.specs.Forms.{Rows}
-use Rattle.std.proofs.Common.{Some}
 use Rattle.vcp_inputs.specs.declared.images.Image.{Image}
 use Rattle.vcp_inputs.specs.declared.refusal.NoInput.{NoInput}
 use Rattle.vcp_inputs.specs.Files.{NotLoaded}

@@ -6,7 +6,7 @@ use Rattle.vcp_base.specs.Limits.{most_image_bytes}
 use Rattle.vcp_base.specs.declared.columns.Column.{Column}
 use Rattle.vcp_outside.specs.Held.{Held}
 use Rattle.op_graph.specs.Lists.{Lists, column}
-use Rattle.site_scripts.specs.declared.chosen.Chosen.{Chosen}
+use Rattle.fault_sites.specs.declared.scripts.chosen.Chosen.{Chosen}
 use Rattle.vcp_words.specs.Forms.{Rows}
 use Rattle.vcp_inputs.specs.declared.images.Image.{Image}
 use Rattle.vcp_inputs.specs.declared.refusal.NoInput.{NoInput}
@@ -17,8 +17,7 @@ use Rattle.vcp_inputs.specs.RowsOutcome.{RowsOutcome, rows_outcome, Opens}
 use Rattle.vcp_inputs.specs.RowsRead.{AllRead, NoneRead, at_header, graph_columns}
 use Rattle.vcp_study_core.specs.declared.fault.Fault.{Fault}
 use Rattle.vcp_study_core.specs.declared.fault.Fault.TheVariants as fault
-use Rattle.vcp_study_core.specs.FlipsReach.{LacksRows, ReadsRows, WritesFlips}
-use Rattle.vcp_study_core.specs.FlipsReach.{ReachesRows, in_rows, lost_rows, no_columns, ReachesFlips, in_image, lost_image}
+use Rattle.vcp_study_core.specs.FlipsReach.{LacksRows, ReadsRows, WritesFlips, ReachesRows, in_rows, lost_rows, no_columns, ReachesFlips, in_image, lost_image}
 use Rattle.vcp_study_core.specs.Reach.{IsUnread}
 use Rattle.vcp_study_core.proofs.Reaching.{appends-nothing}
 

@@ -4,7 +4,7 @@ use Rattle.vcp_base.specs.Limits.{most_image_bytes}
 use Rattle.vcp_outside.specs.Held.{Held}
 use Rattle.op_graph.specs.Lists.{Lists}
 use Rattle.range_audit.specs.Audit.{Audit, IsAudit, named_below, NeverStops}
-use Rattle.range_report.specs.RangeText.{ranges_text}
+use Rattle.range_audit.specs.RangeText.{ranges_text}
 use Rattle.vcp_inputs.specs.declared.images.Image.{Image}
 use Rattle.vcp_inputs.specs.declared.refusal.NoInput.{NoInput}
 use Rattle.vcp_inputs.specs.Files.{NotLoaded}

@@ -14,7 +14,7 @@ use Rattle.vcp_inputs.specs.Files.{NotLoaded}
 use Rattle.vcp_inputs.specs.Images.{ImageOf, NotImage}
 use Rattle.graph_picture.specs.Arrangement.{Arrangement, IsArranged}
 use Rattle.graph_picture.specs.Elements.{IsPictureOf, graph_text}
-use Rattle.graph_dot.specs.DotText.{IsDotOf, dot_text}
+use Rattle.graph_picture.specs.DotText.{IsDotOf, dot_text}
 use Rattle.vcp_study_core.specs.declared.graph.Weighed.{Weighed}
 use Rattle.vcp_study_core.specs.declared.fault.Fault.{Fault}
 use Rattle.vcp_study_core.specs.declared.fault.Fault.TheVariants as fault

@@ -1,6 +1,5 @@
 -- ScriptReaching: how far `script` comes, from what reading its files gives.
-use Rattle.std.proofs.Common.{◌≡◌, ℕ, ◌≤◌, ◌^◌, List, length, All, Option, Some, IfErr, Result, Ok, Err}
-use Rattle.std.proofs.Common.{ap, sym, subst, ◌∙◌, arith}
+use Rattle.std.proofs.Common.{◌≡◌, ℕ, ◌≤◌, ◌^◌, List, length, All, Option, Some, IfErr, Result, Ok, Err, ap, sym, subst, ◌∙◌, arith}
 use Rattle.vcp_base.specs.Limits.{most_image_bytes}
 use Rattle.vcp_outside.specs.Held.{Held}
 use Rattle.op_graph.specs.Rules.{IsGraph}
@@ -14,8 +13,7 @@ use Rattle.vcp_inputs.specs.Images.{ImageOf, NotImage}
 use Rattle.vcp_study_core.specs.declared.fault.Fault.{Fault}
 use Rattle.vcp_study_core.specs.declared.fault.Fault.TheVariants as fault
 use Rattle.vcp_study_core.specs.Reach.{IsUnread}
-use Rattle.vcp_study_core.specs.ScriptReach.{digits, IsNamedScript, TellsScript, script_whole, script_part, script_refused, script_lacks_memory}
-use Rattle.vcp_study_core.specs.ScriptReach.{ReachesNamed, in_named, lost_named, ReachesNames, in_named_image, lost_named_image}
+use Rattle.vcp_study_core.specs.ScriptReach.{digits, IsNamedScript, TellsScript, script_whole, script_part, script_refused, script_lacks_memory, ReachesNamed, in_named, lost_named, ReachesNames, in_named_image, lost_named_image}
 use Rattle.vcp_study_core.proofs.Reaching.{appends-nothing}
 use Rattle.vcp_study_core.proofs.ToldReaching.{unloaded_before}
 

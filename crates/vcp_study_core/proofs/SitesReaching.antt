@@ -5,7 +5,7 @@ use Rattle.vcp_outside.specs.Held.{Held}
 use Rattle.fault_sites.specs.declared.class.Classes.{Classes}
 use Rattle.fault_sites.specs.Laws.{Distinct, EachOnce}
 use Rattle.fault_sites.specs.Sites.{sites}
-use Rattle.site_scripts.specs.declared.chosen.Chosen.{Chosen}
+use Rattle.fault_sites.specs.declared.scripts.chosen.Chosen.{Chosen}
 use Rattle.vcp_inputs.specs.declared.images.Image.{Image}
 use Rattle.vcp_inputs.specs.declared.refusal.NoInput.{NoInput}
 use Rattle.vcp_inputs.specs.Files.{NotLoaded}

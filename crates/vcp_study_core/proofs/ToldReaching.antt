@@ -1,6 +1,5 @@
 -- ToldReaching: how far commands on the verdicts of a script come, from what reading their files gives.
-use Rattle.std.proofs.Common.{◌≡◌, ◌≢◌, inl, inr, ℕ, ◌≤◌, List, length, Option, Some, None, IfSome, IfErr, Result, Ok, Err, arith}
-use Rattle.std.proofs.Common.{Bool, true, false, ap, sym, ◌∙◌}
+use Rattle.std.proofs.Common.{◌≡◌, ◌≢◌, inl, inr, ℕ, ◌≤◌, List, length, Option, Some, None, IfSome, IfErr, Result, Ok, Err, arith, Bool, true, false, ap, sym, ◌∙◌}
 use Rattle.std.specs.Io.KnownBytes.{Appends}
 use Rattle.vcp_base.specs.Limits.{most_image_bytes, most_rows_bytes, most_source_bytes}
 use Rattle.vcp_outside.specs.Held.{Held}
@@ -10,13 +9,13 @@ use Rattle.fault_script.specs.declared.script_fault.ScriptFault.{ScriptFault}
 use Rattle.fault_script.specs.declared.script_fault.ScriptFault.TheVariants as script_fault
 use Rattle.fault_script.specs.ScriptOf.{script_of}
 use Rattle.fault_injector.specs.declared.verdict.Verdict.{Verdict}
-use Rattle.verdict_lines.specs.FaultLines.{totals_of}
+use Rattle.fault_injector.specs.FaultLines.{totals_of}
 use Rattle.verdict_tables.specs.declared.fault.VerdictsFault.{VerdictsFault}
 use Rattle.verdict_tables.specs.declared.fault.VerdictsFault.TheVariants as verdicts
 use Rattle.verdict_tables.specs.Reading.{verdicts_in}
 use Rattle.verdict_tables.specs.Remark.{is_for}
 use Rattle.verdict_tables.specs.SumText.{status_of}
-use Rattle.image_digest.specs.Digest.{digest_of}
+use Rattle.fault_sites.specs.Digest.{digest_of}
 use Rattle.vcp_inputs.specs.declared.images.Image.{Image}
 use Rattle.vcp_inputs.specs.declared.refusal.NoInput.{NoInput}
 use Rattle.vcp_inputs.specs.declared.refusal.NoInput.TheVariants as input
@@ -26,12 +25,7 @@ use Rattle.vcp_inputs.specs.Images.{ImageOf, NotImage}
 use Rattle.vcp_study_core.specs.declared.fault.Fault.{Fault}
 use Rattle.vcp_study_core.specs.declared.fault.Fault.TheVariants as fault
 use Rattle.vcp_study_core.specs.Reach.{IsUnread}
-use Rattle.vcp_study_core.specs.ToldReach.{ReadsScript, is_of, is_read, is_other, is_refused_at, lacks_memory, lacks_memory_within}
-use Rattle.vcp_study_core.specs.ToldReach.{untold_fault, AreTold, ReadsVerdicts, are_told, are_refused, lack_memory}
-use Rattle.vcp_study_core.specs.ToldReach.{Telling, WritesText, WritesTold, written_whole, written_part, wants_memory, TellsText, of_told, of_untold}
-use Rattle.vcp_study_core.specs.ToldReach.{ReachesVerdicts, in_verdicts, lost_verdicts}
-use Rattle.vcp_study_core.specs.ToldReach.{ReachesText, in_script, lost_script, ReachesScript, in_script_file, lost_script_file, ReachesTold, in_image}
-use Rattle.vcp_study_core.specs.ToldReach.{lost_image}
+use Rattle.vcp_study_core.specs.ToldReach.{ReadsScript, is_of, is_read, is_other, is_refused_at, lacks_memory, lacks_memory_within, untold_fault, AreTold, ReadsVerdicts, are_told, are_refused, lack_memory, Telling, WritesText, WritesTold, written_whole, written_part, wants_memory, TellsText, of_told, of_untold, ReachesVerdicts, in_verdicts, lost_verdicts, ReachesText, in_script, lost_script, ReachesScript, in_script_file, lost_script_file, ReachesTold, in_image, lost_image}
 use Rattle.vcp_study_core.proofs.Reaching.{appends-nothing}
 
 -- two facts of what is held, seen at two moments between which nothing of it changed

@@ -5,7 +5,7 @@ use Rattle.vcp_base.specs.Limits.{most_cycles, most_image_bytes}
 use Rattle.vcp_outside.specs.Held.{Held}
 use Rattle.op_graph.specs.Lists.{Lists}
 use Rattle.signature_table.specs.Signatures.{Numbers, IsTableOf}
-use Rattle.same_endings.specs.declared.ending.SameEnding.{SameEnding}
+use Rattle.verdict_tables.specs.declared.endless.ending.SameEnding.{SameEnding}
 use Rattle.verdict_tables.specs.SameEndings.{endings_for, sum_apart_text}
 use Rattle.vcp_words.specs.Forms.{Rows}
 use Rattle.vcp_inputs.specs.declared.images.Image.{Image}

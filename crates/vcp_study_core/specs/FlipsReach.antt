@@ -5,7 +5,7 @@ use Rattle.vcp_base.specs.Limits.{most_image_bytes}
 use Rattle.vcp_outside.specs.Counts.{Rose}
 use Rattle.vcp_outside.specs.Held.{Held}
 use Rattle.fault_sites.specs.Flips.{flips}
-use Rattle.site_scripts.specs.declared.chosen.Chosen.{Chosen}
+use Rattle.fault_sites.specs.declared.scripts.chosen.Chosen.{Chosen}
 use Rattle.vcp_words.specs.Forms.{Rows}
 use Rattle.vcp_inputs.specs.declared.images.Image.{Image}
 use Rattle.vcp_inputs.specs.declared.refusal.NoInput.{NoInput}

@@ -3,13 +3,12 @@ use Rattle.std.specs.Prelude.{ℕ, ◌≤◌, Bool, true, false, cond, ◌&&◌,
 use Rattle.std.specs.Option.{option_and_then, option_map}
 use Rattle.vcp_base.specs.Limits.{most_cycles, most_horizon}
 use Rattle.vcp_base.specs.Numerals.{numeral_of}
-use Rattle.vcp_words.specs.Forms.{Rows, file as from_file, cycles as from_cycles, rows_of, AreFew}
-use Rattle.vcp_words.specs.Forms.{name_and_rest, number_and_rest, number_within, rows_and_rest, is_end}
+use Rattle.vcp_words.specs.Forms.{Rows, file as from_file, cycles as from_cycles, rows_of, AreFew, name_and_rest, number_and_rest, number_within, rows_and_rest, is_end}
 use Rattle.vcp_words.specs.Tables.{rows_name}
 use Rattle.fault_sites.specs.declared.class.Classes.{Classes}
 use Rattle.fault_sites.specs.SiteText.{classes_of}
-use Rattle.site_scripts.specs.declared.chosen.Chosen.{Chosen}
-use Rattle.site_scripts.specs.declared.chosen.Chosen.TheVariants as chosen
+use Rattle.fault_sites.specs.declared.scripts.chosen.Chosen.{Chosen}
+use Rattle.fault_sites.specs.declared.scripts.chosen.Chosen.TheVariants as chosen
 use Rattle.vcp_study_core.specs.declared.command.Command.{Command}
 use Rattle.vcp_study_core.specs.declared.command.Command.TheVariants as command
 use Rattle.vcp_study_core.specs.declared.fault.Fault.{Fault}

@@ -16,7 +16,7 @@ use Rattle.vcp_inputs.specs.Images.{ImageOf, NotImage}
 use Rattle.vcp_inputs.specs.Lines.{memory_text, write_fault_text, input_text, input_status}
 use Rattle.op_graph.specs.Lists.{Lists}
 use Rattle.graph_picture.specs.Elements.{IsPictureOf}
-use Rattle.graph_dot.specs.DotText.{IsDotOf}
+use Rattle.graph_picture.specs.DotText.{IsDotOf}
 use Rattle.vcp_study_core.specs.RunLines.{run_text}
 use Rattle.vcp_study_core.specs.ScriptLines.{refused_line_text}
 use Rattle.vcp_study_core.specs.SumLines.{verdicts_text}

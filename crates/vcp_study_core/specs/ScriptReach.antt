@@ -7,7 +7,7 @@ use Rattle.vcp_outside.specs.Written.{AppendsPart}
 use Rattle.fault_names.specs.declared.refused.Refused.{Refused}
 use Rattle.fault_names.specs.Entries.{most_named_bytes, checked, text_of_script}
 use Rattle.fault_names.specs.Laws.{Compiled}
-use Rattle.image_digest.specs.Digest.{digest_of}
+use Rattle.fault_sites.specs.Digest.{digest_of}
 use Rattle.vcp_inputs.specs.declared.images.Image.{Image}
 use Rattle.vcp_inputs.specs.declared.refusal.NoInput.{NoInput}
 use Rattle.vcp_inputs.specs.Files.{NotLoaded, Never}

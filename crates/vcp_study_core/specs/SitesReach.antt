@@ -8,9 +8,9 @@ use Rattle.fault_sites.specs.declared.site.Site.{Site}
 use Rattle.fault_sites.specs.Laws.{Distinct}
 use Rattle.fault_sites.specs.Sites.{sites}
 use Rattle.fault_sites.specs.SiteText.{classes_name}
-use Rattle.site_scripts.specs.declared.chosen.Chosen.{Chosen}
-use Rattle.site_scripts.specs.declared.unwritten.Unwritten.TheVariants as unwritten
-use Rattle.site_scripts.specs.Script.{WritesChosen}
+use Rattle.fault_sites.specs.declared.scripts.chosen.Chosen.{Chosen}
+use Rattle.fault_sites.specs.declared.scripts.unwritten.Unwritten.TheVariants as unwritten
+use Rattle.fault_sites.specs.Script.{WritesChosen}
 use Rattle.vcp_inputs.specs.declared.images.Image.{Image}
 use Rattle.vcp_inputs.specs.Files.{NotLoaded}
 use Rattle.vcp_inputs.specs.Images.{NotImage}

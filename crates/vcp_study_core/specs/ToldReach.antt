@@ -11,14 +11,14 @@ use Rattle.fault_script.specs.declared.script_fault.ScriptFault.TheVariants as s
 use Rattle.fault_script.specs.ScriptOf.{script_of}
 use Rattle.fault_injector.specs.declared.verdict.Verdict.{Verdict}
 use Rattle.fault_injector.specs.Names.{Names}
-use Rattle.verdict_lines.specs.FaultLines.{totals_of}
+use Rattle.fault_injector.specs.FaultLines.{totals_of}
 use Rattle.verdict_tables.specs.declared.fault.VerdictsFault.{VerdictsFault}
 use Rattle.verdict_tables.specs.declared.fault.VerdictsFault.TheVariants as verdicts
 use Rattle.verdict_tables.specs.Reading.{verdicts_in}
 use Rattle.verdict_tables.specs.Remark.{is_for}
 use Rattle.verdict_tables.specs.SumText.{sum_text, status_of}
-use Rattle.verdict_picture.specs.FaultsText.{IsFaultsPicture}
-use Rattle.image_digest.specs.Digest.{digest_of}
+use Rattle.graph_picture.specs.FaultsText.{IsFaultsPicture}
+use Rattle.fault_sites.specs.Digest.{digest_of}
 use Rattle.vcp_inputs.specs.declared.images.Image.{Image}
 use Rattle.vcp_inputs.specs.declared.refusal.NoInput.{NoInput}
 use Rattle.vcp_inputs.specs.declared.refusal.NoInput.TheVariants as input

@@ -3,17 +3,12 @@
 ghost use Rattle.std.specs.Prelude.{◌≡◌, ◌≤◌, IfSome};
 ghost use Rattle.std.specs.Option.{option_map};
 ghost use Rattle.vcp_base.specs.Limits.{most_cycles, most_horizon};
-ghost use Rattle.vcp_study_core.specs.Forms.{form, form_of, file_of, image_and_horizon as image_and_horizon_of, graph_form, dot_form, waves_form};
-ghost use Rattle.vcp_study_core.specs.Forms.{ranges_form, all_of, IsSound};
-ghost use Rattle.vcp_study_core.specs.Forms.{faults_form, told_file as told_file_of};
+ghost use Rattle.vcp_study_core.specs.Forms.{form, form_of, file_of, image_and_horizon as image_and_horizon_of, graph_form, dot_form, waves_form, ranges_form, all_of, IsSound, faults_form, told_file as told_file_of, sites_form, behind_form, class_form, cycles_in as cycles_in_of, flips, sum_form, apart_form, script_form, chosen_of, number_word, part_of};
 ghost use Rattle.vcp_words.specs.Forms.{rows_of, AreFew};
 ghost use Rattle.vcp_words.specs.Tables.{rows_name as rows_name_of};
-ghost use Rattle.vcp_study_core.specs.Forms.{sites_form, behind_form, class_form, cycles_in as cycles_in_of, flips, sum_form, apart_form, script_form};
-ghost use Rattle.vcp_study_core.specs.Forms.{chosen_of, number_word, part_of};
 
 use crate::fault::Fault;
-use fault_sites::{Classes, Part, classes_named};
-use site_scripts::Chosen;
+use fault_sites::{Chosen, Classes, Part, classes_named};
 use vcp_base::{MOST_CYCLES, MOST_HORIZON, Text, Words, numeral};
 use vcp_words::{RowsWord, WordsLeft};
 

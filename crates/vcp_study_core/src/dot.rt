@@ -9,7 +9,7 @@ ghost use Rattle.vcp_study_core.specs.declared.fault.Fault.TheVariants as fault;
 
 use crate::fault::Fault;
 use crate::graph::load_weighed;
-use graph_dot::write_dot;
+use graph_picture::write_dot;
 use std::alloc::Global;
 use vcp_base::Text;
 use vcp_outside::{Files, Sink};

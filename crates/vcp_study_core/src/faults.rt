@@ -6,19 +6,18 @@ ghost use Rattle.vcp_outside.specs.Counts.{Rose};
 ghost use Rattle.vcp_study_core.specs.Reach.{IsUnread};
 ghost use Rattle.fault_script.specs.ScriptOf.{most_faults};
 ghost use Rattle.graph_picture.specs.Arrangement.{IsArranged};
-ghost use Rattle.verdict_picture.specs.FaultsText.{IsFaultsPicture};
+ghost use Rattle.graph_picture.specs.FaultsText.{IsFaultsPicture};
 ghost use Rattle.vcp_study_core.specs.ToldReach.{WritesText, ReachesFaults};
 ghost use Rattle.vcp_study_core.specs.declared.fault.Fault.TheVariants as fault;
 
 use crate::fault::Fault;
 use crate::told::{Telling, told_command};
 use fault_script::Script;
-use graph_picture::{Layout, layout_of};
+use graph_picture::{Layout, layout_of, write_faults};
 use op_graph::Graph;
 use std::alloc::Global;
 use vcp_base::{Memory, Text};
 use vcp_outside::{Failed, Files, Sink};
-use verdict_picture::write_faults;
 use verdict_tables::Verdicts;
 
 /// Draws a graph by verdicts, where its boxes stand so.

@@ -13,8 +13,8 @@ ghost use Rattle.vcp_inputs.specs.declared.refusal.NoInput.TheVariants as input;
 ghost use Rattle.vcp_study_core.specs.declared.fault.Fault.TheVariants as fault;
 
 use crate::fault::Fault;
+use fault_sites::{Chosen, Unwritten, write_chosen_flips};
 use input_rows::RowList;
-use site_scripts::{Chosen, Unwritten, write_chosen_flips};
 use std::alloc::Global;
 use vcp_base::{Columns, Text};
 use vcp_inputs::{Image, NoInput, graph_columns, load_image, load_rows, whole_rows};

@@ -10,8 +10,7 @@ ghost use Rattle.vcp_study_core.specs.declared.fault.Fault.TheVariants as fault;
 
 use crate::fault::Fault;
 use op_graph::Graph;
-use range_audit::{Ranges, ranges_of, what_names_nothing_never_stops};
-use range_report::{count_named, write_ranges};
+use range_audit::{Ranges, count_named, ranges_of, what_names_nothing_never_stops, write_ranges};
 use std::alloc::Global;
 use vcp_base::Text;
 use vcp_inputs::load_image;

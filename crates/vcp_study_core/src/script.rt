@@ -11,7 +11,7 @@ ghost use Rattle.vcp_study_core.specs.declared.fault.Fault.TheVariants as fault;
 
 use crate::fault::Fault;
 use fault_names::{MOST_NAMED_BYTES, a_script_by_names_is_read_back, check, write_script};
-use image_digest::image_digest;
+use fault_sites::image_digest;
 use std::alloc::Global;
 use vcp_base::Text;
 use vcp_inputs::{Image, load_image, read_file};

@@ -10,8 +10,7 @@ ghost use Rattle.vcp_study_core.specs.SitesReach.{ReachesSites, WritesSites};
 ghost use Rattle.vcp_study_core.specs.declared.fault.Fault.TheVariants as fault;
 
 use crate::fault::Fault;
-use fault_sites::{Classes, each_site_stands_once};
-use site_scripts::{Chosen, Unwritten, write_chosen_sites};
+use fault_sites::{Chosen, Classes, Unwritten, each_site_stands_once, write_chosen_sites};
 use std::alloc::Global;
 use vcp_base::Text;
 use vcp_inputs::{Image, load_image};

@@ -14,13 +14,12 @@ ghost use Rattle.fault_injector.specs.declared.verdict.Verdict.{Verdict as Verdi
 ghost use Rattle.fault_injector.specs.Names.{Names};
 ghost use Rattle.vcp_inputs.specs.Refusals.{unscripted};
 ghost use Rattle.vcp_study_core.specs.Reach.{IsUnread};
-ghost use Rattle.vcp_study_core.specs.ToldReach.{ReadsScript, ReadsVerdicts, WritesText, WritesTold, TellsText, untold_fault};
-ghost use Rattle.vcp_study_core.specs.ToldReach.{ReachesVerdicts, ReachesText, ReachesScript, ReachesTold};
+ghost use Rattle.vcp_study_core.specs.ToldReach.{ReadsScript, ReadsVerdicts, WritesText, WritesTold, TellsText, untold_fault, ReachesVerdicts, ReachesText, ReachesScript, ReachesTold};
 ghost use Rattle.vcp_study_core.specs.declared.fault.Fault.TheVariants as fault;
 
 use crate::fault::Fault;
 use fault_script::{Script, ScriptFault, read_script};
-use image_digest::image_digest;
+use fault_sites::image_digest;
 use op_graph::Graph;
 use std::alloc::Global;
 use vcp_base::{MOST_ROWS_BYTES, MOST_SOURCE_BYTES, Text};

@@ -1,17 +1,16 @@
 -- Apart: the endings of groups, one by one, and how many there are of each.
-use Rattle.std.proofs.Common.{◌≡◌, ℕ, ◌+◌, ◌≤◌, ◌++◌, append_assoc, List, [], ◌∷◌, length, drop, slice_get, Option, Some, None, ℤ}
-use Rattle.std.proofs.Common.{refl, sym, ap, ◌∙◌, arith}
+use Rattle.std.proofs.Common.{◌≡◌, ℕ, ◌+◌, ◌≤◌, ◌++◌, append_assoc, List, [], ◌∷◌, length, drop, slice_get, Option, Some, None, ℤ, refl, sym, ap, ◌∙◌, arith}
 use Rattle.std.proofs.lemmas.List.{append-nil, drop_all}
 use Rattle.op_graph.specs.Lists.{Lists}
 use Rattle.signature_table.specs.Signatures.{Numbers}
 use Rattle.fault_script.specs.declared.act.Fault.{Fault}
 use Rattle.fault_injector.specs.declared.verdict.Verdict.{Verdict}
 use Rattle.fault_injector.specs.declared.verdict.Verdict.TheVariants as verdict
-use Rattle.same_endings.specs.declared.ending.SameEnding.{SameEnding}
-use Rattle.same_endings.specs.declared.ending.SameEnding.TheVariants as ends
-use Rattle.same_endings.specs.Endings.{ending_of}
-use Rattle.verdict_lines.specs.declared.lines.Totals.{Totals}
-use Rattle.verdict_lines.specs.FaultLines.{counted, no_verdicts, totals_after, totals_of}
+use Rattle.verdict_tables.specs.declared.endless.ending.SameEnding.{SameEnding}
+use Rattle.verdict_tables.specs.declared.endless.ending.SameEnding.TheVariants as ends
+use Rattle.verdict_tables.specs.Endings.{ending_of}
+use Rattle.fault_injector.specs.declared.lines.Totals.{Totals}
+use Rattle.fault_injector.specs.FaultLines.{counted, no_verdicts, totals_after, totals_of}
 use Rattle.verdict_tables.specs.SameEndings.{ending_if, endings_for, ended_count, is_ended, one_if}
 use Rattle.verdict_tables.proofs.LinesRead.{drop_here}
 

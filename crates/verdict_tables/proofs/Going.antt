@@ -2,7 +2,7 @@
 use Rattle.std.proofs.Common.{◌≡◌, ◌≢◌, ℕ, ◌==◌, Bool, true, false, cond, List, [], ◌++◌, Option, refl, sym, ap, append_assoc}
 use Rattle.std.proofs.lemmas.Bool.{eqb-true}
 use Rattle.std.proofs.lemmas.List.{append-nil}
-use Rattle.gathered_line.specs.Gathering.{Gathered, Gathers}
+use Rattle.vcp_outside.specs.Gathering.{Gathered, Gathers}
 
 -- nothing
 pub unmoved : {a : Option (List ℕ)} {f : ℕ} {l : Gathered} → Gathers a a f f l l []

@@ -5,3 +5,9 @@ pub mod LinesRead
 pub mod Picking
 pub mod Printed
 pub mod Worked
+pub mod Found
+pub mod EndingsGoing
+pub mod Lists
+pub mod RightAnswers
+pub mod Running
+pub mod WorkedEndings

@@ -1,7 +1,5 @@
 -- LinesRead: the verdicts of a text, read line by line.
-use Rattle.std.proofs.Common.{◌≡◌, ◌≢◌, ℕ, ◌+◌, ◌==◌, Bool, true, false, cond, List, [], ◌∷◌, ◌++◌, length, drop, bytes_eq, decimal, slice_get, Some}
-use Rattle.std.proofs.Common.{Result, Ok, Err}
-use Rattle.std.proofs.Common.{IfOk, IfErr, OnOk, refl, sym, ap, ◌∙◌, arith}
+use Rattle.std.proofs.Common.{◌≡◌, ◌≢◌, ℕ, ◌+◌, ◌==◌, Bool, true, false, cond, List, [], ◌∷◌, ◌++◌, length, drop, bytes_eq, decimal, slice_get, Some, Result, Ok, Err, IfOk, IfErr, OnOk, refl, sym, ap, ◌∙◌, arith}
 use Rattle.std.specs.Str.Lines.{lines}
 use Rattle.std.proofs.lemmas.Bool.{eqb-true}
 use Rattle.std.proofs.lemmas.List.{append_assoc, append-nil, drop_all, drop_more, nil_from_length}
@@ -10,14 +8,12 @@ use Rattle.op_graph.specs.Lists.{Lists}
 use Rattle.fault_script.specs.declared.act.Fault.{Fault}
 use Rattle.fault_script.specs.Groups.{line_of}
 use Rattle.fault_injector.specs.declared.verdict.Verdict.{Verdict}
-use Rattle.verdict_lines.specs.declared.lines.Totals.{Totals}
-use Rattle.verdict_lines.specs.FaultLines.{counted, no_verdicts, totals_text}
+use Rattle.fault_injector.specs.declared.lines.Totals.{Totals}
+use Rattle.fault_injector.specs.FaultLines.{counted, no_verdicts, totals_text}
 use Rattle.verdict_tables.specs.declared.fault.VerdictsFault.{VerdictsFault}
 use Rattle.verdict_tables.specs.declared.fault.VerdictsFault.TheVariants as fault
 use Rattle.verdict_tables.specs.Outcome.{meant}
-use Rattle.verdict_tables.specs.Reading.{is_line, confirmed, verdict_or, verdict_by, verdict_on, Next, followed, next_of, behind_totals, totals_then}
-use Rattle.verdict_tables.specs.Reading.{behind, goes_on}
-use Rattle.verdict_tables.specs.Reading.{verdicts_from, verdicts_in}
+use Rattle.verdict_tables.specs.Reading.{is_line, confirmed, verdict_or, verdict_by, verdict_on, Next, followed, next_of, behind_totals, totals_then, behind, goes_on, verdicts_from, verdicts_in}
 
 -- a list from the place of an element on
 pub drop_here : {X : Type 0} (xs : List X) (i : ℕ) (x : X) → slice_get xs i ≡ Some x → drop i xs ≡ x ∷ drop (i + 1) xs

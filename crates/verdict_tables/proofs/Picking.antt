@@ -1,6 +1,5 @@
 -- Picking: the verdicts of a row, counted one by one.
-use Rattle.std.proofs.Common.{◌≡◌, ℕ, zero, suc, ◌+◌, ◌≤◌, ◌++◌, take, flat_map, add-one, append_assoc, ◌||◌, Bool, true, false, cond, min, List, [], ◌∷◌}
-use Rattle.std.proofs.Common.{length, drop, All, slice_get, Some, refl, sym, ap, subst, ◌∙◌, arith}
+use Rattle.std.proofs.Common.{◌≡◌, ℕ, zero, suc, ◌+◌, ◌≤◌, ◌++◌, take, flat_map, add-one, append_assoc, ◌||◌, Bool, true, false, cond, min, List, [], ◌∷◌, length, drop, All, slice_get, Some, refl, sym, ap, subst, ◌∙◌, arith}
 use Rattle.std.specs.List.{list_any}
 use Rattle.std.proofs.lemmas.List.{append-nil, drop_all}
 use Rattle.std.proofs.lemmas.List.Elements.{All-get_or}
@@ -8,8 +7,8 @@ use Rattle.std.proofs.lemmas.Option.{get_or_from_slice_get, slice_get_within}
 use Rattle.fault_script.specs.declared.act.Fault.{Fault}
 use Rattle.fault_injector.specs.declared.verdict.Verdict.{Verdict}
 use Rattle.fault_injector.specs.declared.verdict.Verdict.TheVariants as verdict
-use Rattle.verdict_lines.specs.declared.lines.Totals.{Totals}
-use Rattle.verdict_lines.specs.FaultLines.{faults as faults_of, counted, totals_after}
+use Rattle.fault_injector.specs.declared.lines.Totals.{Totals}
+use Rattle.fault_injector.specs.FaultLines.{faults as faults_of, counted, totals_after}
 use Rattle.verdict_tables.specs.declared.tables.Table.{Table}
 use Rattle.verdict_tables.specs.Tables.{is_in, picked, first_before}
 use Rattle.verdict_tables.proofs.LinesRead.{drop_here}

@@ -1,6 +1,5 @@
 -- Printed: the lines that are read as verdicts are those that are printed of them.
-use Rattle.std.proofs.Common.{◌≡◌, ℕ, ◌+◌, Bool, true, false, cond, List, [], ◌∷◌, ◌++◌, flat_map, bytes_eq, decimal, Option, Some, None, Result}
-use Rattle.std.proofs.Common.{Ok, Err, refl, sym, ap, ◌∙◌, append_assoc}
+use Rattle.std.proofs.Common.{◌≡◌, ℕ, ◌+◌, Bool, true, false, cond, List, [], ◌∷◌, ◌++◌, flat_map, bytes_eq, decimal, Option, Some, None, Result, Ok, Err, refl, sym, ap, ◌∙◌, append_assoc}
 use Rattle.std.proofs.lemmas.List.{append-nil}
 use Rattle.std.proofs.lemmas.Slice.Eq.{bytes_eq-Decides}
 use Rattle.std.specs.Str.Lines.{lines}
@@ -9,14 +8,12 @@ use Rattle.script_text.specs.Words.{words}
 use Rattle.fault_script.specs.declared.act.Fault.{Fault}
 use Rattle.fault_script.specs.Groups.{line_of}
 use Rattle.fault_injector.specs.declared.verdict.Verdict.{Verdict}
-use Rattle.verdict_lines.specs.declared.lines.Totals.{Totals}
-use Rattle.verdict_lines.specs.FaultLines.{verdict_text, verdict_lines, campaign_text, counted, no_verdicts, totals_after, totals_text}
+use Rattle.fault_injector.specs.declared.lines.Totals.{Totals}
+use Rattle.fault_injector.specs.FaultLines.{verdict_text, verdict_lines, campaign_text, counted, no_verdicts, totals_after, totals_text}
 use Rattle.verdict_tables.specs.declared.fault.VerdictsFault.{VerdictsFault}
 use Rattle.verdict_tables.specs.declared.fault.VerdictsFault.TheVariants as fault
 use Rattle.verdict_tables.specs.Outcome.{meant}
-use Rattle.verdict_tables.specs.Reading.{is_line, ended, confirmed, verdict_or, verdict_by, verdict_on, followed, behind_totals}
-use Rattle.verdict_tables.specs.Reading.{behind, goes_on}
-use Rattle.verdict_tables.specs.Reading.{verdicts_from, verdicts_in}
+use Rattle.verdict_tables.specs.Reading.{is_line, ended, confirmed, verdict_or, verdict_by, verdict_on, followed, behind_totals, behind, goes_on, verdicts_from, verdicts_in}
 
 -- a line is what is printed
 same_line : (line text : List ℕ) (b : Bool) → is_line line text ≡ b → b ≡ true → ended line ≡ text

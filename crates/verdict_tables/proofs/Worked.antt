@@ -16,7 +16,7 @@ use Rattle.verdict_tables.specs.declared.fault.VerdictsFault.TheVariants as faul
 use Rattle.verdict_tables.specs.declared.tables.Table.TheVariants as table
 use Rattle.verdict_tables.specs.Reading.{verdicts_in}
 use Rattle.verdict_tables.specs.Remark.{is_for}
-use Rattle.same_endings.specs.declared.ending.SameEnding.TheVariants as ends
+use Rattle.verdict_tables.specs.declared.endless.ending.SameEnding.TheVariants as ends
 use Rattle.verdict_tables.specs.SameEndings.{endings_text}
 use Rattle.verdict_tables.specs.SumText.{column_text, heading_text, sum_text}
 

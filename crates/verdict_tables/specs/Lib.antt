@@ -6,3 +6,8 @@ pub mod SameEndings
 pub mod Tables
 pub mod TextSink
 pub mod SumText
+pub mod AnswersOver
+pub mod Begun
+pub mod Endings
+pub mod Laws
+pub mod Moments

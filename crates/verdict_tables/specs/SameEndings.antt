@@ -5,11 +5,11 @@ use Rattle.signature_table.specs.Signatures.{Numbers}
 use Rattle.fault_script.specs.declared.act.Fault.{Fault}
 use Rattle.fault_injector.specs.declared.verdict.Verdict.{Verdict}
 use Rattle.fault_injector.specs.declared.verdict.Verdict.TheVariants as verdict
-use Rattle.same_endings.specs.declared.ending.SameEnding.{SameEnding}
-use Rattle.same_endings.specs.declared.ending.SameEnding.TheVariants as ends
-use Rattle.same_endings.specs.Endings.{ending_of}
-use Rattle.verdict_lines.specs.declared.lines.Totals.{Totals}
-use Rattle.verdict_lines.specs.FaultLines.{totals_of, totals_text}
+use Rattle.verdict_tables.specs.declared.endless.ending.SameEnding.{SameEnding}
+use Rattle.verdict_tables.specs.declared.endless.ending.SameEnding.TheVariants as ends
+use Rattle.verdict_tables.specs.Endings.{ending_of}
+use Rattle.fault_injector.specs.declared.lines.Totals.{Totals}
+use Rattle.fault_injector.specs.FaultLines.{totals_of, totals_text}
 use Rattle.verdict_tables.specs.SumText.{heading_of, row_text, tables_text, unseen_below}
 
 -- ---- the endings of groups

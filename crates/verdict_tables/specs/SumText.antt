@@ -1,6 +1,5 @@
 -- SumText: the tables of a campaign's verdicts, as they are printed. Each line ends with LF.
-use Rattle.std.specs.Prelude.{ℕ, zero, suc, ◌==◌, ◌&&◌, Bool, true, false, cond, nat_lt, List, [], ◌++◌, length, slice_get, Option, Some, None}
-use Rattle.std.specs.Prelude.{decimal, codes, flat_map}
+use Rattle.std.specs.Prelude.{ℕ, zero, suc, ◌==◌, ◌&&◌, Bool, true, false, cond, nat_lt, List, [], ◌++◌, length, slice_get, Option, Some, None, decimal, codes, flat_map}
 use Rattle.op_graph.specs.Lists.{Lists}
 use Rattle.run_report.specs.Variables.{output_name}
 use Rattle.fault_script.specs.declared.act.Fault.{Fault}
@@ -9,8 +8,8 @@ use Rattle.fault_sites.specs.Sites.{site}
 use Rattle.fault_sites.specs.SiteText.{site_line}
 use Rattle.fault_injector.specs.declared.verdict.Verdict.{Verdict}
 use Rattle.fault_injector.specs.declared.verdict.Verdict.TheVariants as verdict
-use Rattle.verdict_lines.specs.declared.lines.Totals.{Totals}
-use Rattle.verdict_lines.specs.FaultLines.{faults as faults_in, verdict_text, totals_of, totals_text}
+use Rattle.fault_injector.specs.declared.lines.Totals.{Totals}
+use Rattle.fault_injector.specs.FaultLines.{faults as faults_in, verdict_text, totals_of, totals_text}
 use Rattle.verdict_tables.specs.declared.tables.Table.{Table}
 use Rattle.verdict_tables.specs.declared.tables.Table.TheVariants as table
 use Rattle.verdict_tables.specs.Places.{operation_text}

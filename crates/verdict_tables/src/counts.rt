@@ -2,15 +2,14 @@
 
 ghost use Rattle.std.specs.Prelude.{◌≡◌, ◌<◌, ◌≤◌, cond, length};
 ghost use Rattle.fault_script.specs.ScriptOf.{most_faults};
-ghost use Rattle.verdict_lines.specs.FaultLines.{faults as faults_of, counted, totals_of};
+ghost use Rattle.fault_injector.specs.FaultLines.{faults as faults_of, counted, totals_of};
 ghost use Rattle.verdict_tables.specs.Tables.{totals_in as totals_in_of};
 ghost use Rattle.verdict_tables.specs.SumText.{status_of};
 
 use crate::tables::{Table, is_in};
 use crate::verdicts::Verdicts;
-use fault_injector::Verdict;
+use fault_injector::{Totals, Verdict};
 use fault_script::Script;
-use verdict_lines::Totals;
 
 /// Totals with one verdict more, where it is one of theirs.
 fn count_if(mut totals: Totals, verdict: &Verdict, is: bool) -> Totals

@@ -1,18 +1,16 @@
 //! The table in which the groups are told apart of which no output tells.
 
 ghost use Rattle.std.specs.Prelude.{◌≡◌, ◌<◌, ◌≤◌, ◌++◌, codes, length};
-ghost use Rattle.gathered_line.specs.Gathering.{GathersTo};
+ghost use Rattle.vcp_outside.specs.Gathering.{GathersTo};
 ghost use Rattle.fault_script.specs.ScriptOf.{most_faults};
 ghost use Rattle.verdict_tables.specs.SumText.{row_text};
-ghost use Rattle.verdict_tables.specs.SameEndings.{ending_number as ending_number_of, is_ended as is_ended_of, one_if as one_if_of, ended_count};
-ghost use Rattle.verdict_tables.specs.SameEndings.{ending_name as ending_name_of, same_only as same_only_of, ended_row, endings_text};
+ghost use Rattle.verdict_tables.specs.SameEndings.{ending_number as ending_number_of, is_ended as is_ended_of, one_if as one_if_of, ended_count, ending_name as ending_name_of, same_only as same_only_of, ended_row, endings_text};
 
+use crate::SameEnding;
 use crate::endings::Endings;
 use crate::rows::{then_columns, then_titled};
-use gathered_line::Line;
-use same_endings::SameEnding;
-use vcp_outside::Sink;
-use verdict_lines::Totals;
+use fault_injector::Totals;
+use vcp_outside::{Line, Sink};
 
 /// The number of an ending's row.
 fn ending_number(ending: SameEnding) -> u32

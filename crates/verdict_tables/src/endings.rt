@@ -4,17 +4,17 @@ ghost use Rattle.std.specs.Prelude.{◌≡◌, ◌<◌, ◌≤◌, ◌+◌, [], 
 ghost use Rattle.vcp_base.specs.Limits.{most_cycles};
 ghost use Rattle.signature_table.specs.Signatures.{IsTableOf};
 ghost use Rattle.fault_script.specs.Changes.{acts_of};
-ghost use Rattle.same_endings.specs.AnswersOver.{held_at_end};
-ghost use Rattle.verdict_lines.specs.FaultLines.{totals_of};
+ghost use Rattle.verdict_tables.specs.AnswersOver.{held_at_end};
+ghost use Rattle.fault_injector.specs.FaultLines.{totals_of};
 ghost use Rattle.verdict_tables.specs.SameEndings.{ending_if as ending_if_of, endings_for, ended_count};
 
 use crate::verdicts::Verdicts;
+use crate::{SameEnding, group_ending, words_left};
 use coded_unit::Word;
 use fault_injector::Verdict;
 use fault_script::{Group, Script};
 use input_rows::RowList;
 use op_graph::Graph;
-use same_endings::{SameEnding, group_ending, words_left};
 use signature_table::Table;
 use std::alloc::Global;
 use std::marker::Model;
@@ -28,7 +28,7 @@ pub struct Endings {
 
 impl Model for Endings {
     ghost use Rattle.std.specs.Prelude.{List, Option};
-    ghost use Rattle.same_endings.specs.declared.ending.SameEnding.{SameEnding};
+    ghost use Rattle.verdict_tables.specs.declared.endless.ending.SameEnding.{SameEnding};
 
     ghost Value = { List (Option SameEnding) };
 

@@ -8,6 +8,7 @@
 mod counts;
 mod ended;
 mod endings;
+mod endless;
 mod fault;
 mod names;
 mod reading;
@@ -22,6 +23,7 @@ mod writing;
 
 pub use counts::{status, totals_in, totals_of_all};
 pub use endings::{Endings, endings_of};
+pub use endless::{SameEnding, answers_over_rows_are_a_right_run, group_ending, words_left};
 pub use fault::VerdictsFault;
 pub use reading::read_verdicts;
 pub use remark::is_for;

@@ -1,14 +1,13 @@
 //! How an operation is named.
 
 ghost use Rattle.std.specs.Prelude.{◌≡◌, ◌++◌, Some, codes, slice_get, unsigned_abs};
-ghost use Rattle.gathered_line.specs.Gathering.{GathersTo};
+ghost use Rattle.vcp_outside.specs.Gathering.{GathersTo};
 ghost use Rattle.verdict_tables.specs.Places.{variable_text, operation_text};
 
-use gathered_line::Line;
 use op_graph::{Graph, Op};
 use run_report::{then_source, variable_name};
 use vcp_base::{Kind, kind_name};
-use vcp_outside::Sink;
+use vcp_outside::{Line, Sink};
 
 /// Goes on with a space and a name.
 fn then_name<O: Sink>(line: &mut Line, out: &mut O, name: &[u8])

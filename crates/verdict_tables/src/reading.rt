@@ -5,17 +5,16 @@ ghost use Rattle.std.specs.Str.Lines.{lines};
 ghost use Rattle.fault_script.specs.Groups.{GroupFits};
 ghost use Rattle.fault_script.specs.ScriptOf.{most_faults};
 ghost use Rattle.fault_injector.specs.Names.{Names};
-ghost use Rattle.verdict_lines.specs.FaultLines.{verdict_text, totals_text, campaign_text};
+ghost use Rattle.fault_injector.specs.FaultLines.{verdict_text, totals_text, campaign_text};
 ghost use Rattle.verdict_tables.specs.Outcome.{meant as meant_of};
-ghost use Rattle.verdict_tables.specs.Reading.{is_line, ended, confirmed, verdict_or, verdict_on as verdict_on_of, next_of};
-ghost use Rattle.verdict_tables.specs.Reading.{behind_totals, totals_then, verdicts_in};
+ghost use Rattle.verdict_tables.specs.Reading.{is_line, ended, confirmed, verdict_or, verdict_on as verdict_on_of, next_of, behind_totals, totals_then, verdicts_in};
 ghost use Rattle.verdict_tables.specs.declared.fault.VerdictsFault.TheVariants as fault;
 
 use crate::fault::VerdictsFault;
 use crate::text_sink::TextSink;
 use crate::verdicts::Verdicts;
 use crate::words::meant;
-use fault_injector::Verdict;
+use fault_injector::{Totals, Verdict, totals_line, verdict_line};
 use fault_script::Script;
 use itoa::Buffer;
 use op_graph::Graph;
@@ -23,7 +22,6 @@ use script_text::{WordsLeft, first_line};
 use std::alloc::Global;
 use vcp_base::Memory;
 use vcp_outside::Failed;
-use verdict_lines::{Totals, totals_line, verdict_line};
 
 /// Whether a line with its LF is this text.
 fn is_text(alloc: Global, line: &[u8], text: &[u8]) -> Result<bool, Memory>

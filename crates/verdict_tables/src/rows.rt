@@ -1,24 +1,22 @@
 //! The rows of tables.
 
 ghost use Rattle.std.specs.Prelude.{◌≡◌, ◌<◌, ◌≤◌, ◌++◌, codes, length};
-ghost use Rattle.gathered_line.specs.Gathering.{GathersTo};
+ghost use Rattle.vcp_outside.specs.Gathering.{GathersTo};
 ghost use Rattle.fault_script.specs.ScriptOf.{most_faults};
 ghost use Rattle.verdict_tables.specs.Tables.{rows as rows_of};
-ghost use Rattle.verdict_tables.specs.SumText.{act_name as act_name_of, more_text, delay_text, row_name, row_text, table_text};
-ghost use Rattle.verdict_tables.specs.SumText.{blanks_before as blanks_before_of, column_text, columns_text, title as title_of, heading_of, heading_text};
+ghost use Rattle.verdict_tables.specs.SumText.{act_name as act_name_of, more_text, delay_text, row_name, row_text, table_text, blanks_before as blanks_before_of, column_text, columns_text, title as title_of, heading_of, heading_text};
 ghost use Rattle.verdict_tables.specs.declared.tables.Table.TheVariants as table;
 
 use crate::counts::totals_in;
 use crate::names::then_operation;
 use crate::tables::{OWN_DELAYS, Table, rows};
 use crate::verdicts::Verdicts;
+use fault_injector::Totals;
 use fault_script::Script;
-use gathered_line::Line;
 use op_graph::Graph;
 use run_report::variable_name;
 use vcp_base::Kind;
-use vcp_outside::Sink;
-use verdict_lines::Totals;
+use vcp_outside::{Line, Sink};
 
 /// The act of row `n`.
 fn act_name(n: u32) -> &'static [u8]

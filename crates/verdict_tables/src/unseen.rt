@@ -1,21 +1,19 @@
 //! The faults that are not seen.
 
 ghost use Rattle.std.specs.Prelude.{◌≡◌, ◌<◌, ◌≤◌, ◌++◌, Some, codes, flat_map, length, slice_get, All};
-ghost use Rattle.gathered_line.specs.Gathering.{GathersTo};
+ghost use Rattle.vcp_outside.specs.Gathering.{GathersTo};
 ghost use Rattle.fault_script.specs.Groups.{GroupFits, line_of};
 ghost use Rattle.fault_injector.specs.Names.{Names};
-ghost use Rattle.verdict_lines.specs.FaultLines.{verdict_text};
+ghost use Rattle.fault_injector.specs.FaultLines.{verdict_text};
 ghost use Rattle.verdict_tables.specs.SumText.{fault_text, is_unseen as is_unseen_of, unseen_text, unseen_below};
 
 use crate::names::then_operation;
 use crate::verdicts::Verdicts;
-use fault_injector::Verdict;
+use fault_injector::{Verdict, then_verdict};
 use fault_script::{Fault, Group, Script};
 use fault_sites::{Site, then_site};
-use gathered_line::Line;
 use op_graph::Graph;
-use vcp_outside::Sink;
-use verdict_lines::then_verdict;
+use vcp_outside::{Line, Sink};
 
 /// Goes on with a fault of a group.
 fn then_fault<O: Sink>(line: &mut Line, out: &mut O, graph: &Graph, fault: Fault)

@@ -3,8 +3,7 @@
 ghost use Rattle.std.specs.Prelude.{◌≡◌, ◌<◌, IfSome, length, option_map};
 ghost use Rattle.fault_script.specs.Forms.{number_below};
 ghost use Rattle.fault_injector.specs.Names.{Names};
-ghost use Rattle.verdict_tables.specs.Outcome.{value_of, numbers_of, named_then, output_named, shown_of, as_wrong, as_refused, stop_of};
-ghost use Rattle.verdict_tables.specs.Outcome.{stopped_of, ran_on_of, meant as meant_of};
+ghost use Rattle.verdict_tables.specs.Outcome.{value_of, numbers_of, named_then, output_named, shown_of, as_wrong, as_refused, stop_of, stopped_of, ran_on_of, meant as meant_of};
 
 use fault_injector::Verdict;
 use fault_script::cycle_number;

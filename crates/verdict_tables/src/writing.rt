@@ -2,7 +2,7 @@
 
 ghost use Rattle.std.specs.Prelude.{◌≡◌, ◌≤◌, ◌++◌, length, All};
 ghost use Rattle.vcp_outside.specs.Written.{WritesTo};
-ghost use Rattle.gathered_line.specs.Gathering.{GathersTo};
+ghost use Rattle.vcp_outside.specs.Gathering.{GathersTo};
 ghost use Rattle.fault_script.specs.Groups.{GroupFits};
 ghost use Rattle.fault_script.specs.ScriptOf.{most_faults};
 ghost use Rattle.fault_injector.specs.Names.{Names};
@@ -16,11 +16,10 @@ use crate::rows::then_table;
 use crate::tables::Table;
 use crate::unseen::then_all_unseen;
 use crate::verdicts::Verdicts;
+use fault_injector::then_totals;
 use fault_script::Script;
-use gathered_line::Line;
 use op_graph::Graph;
-use vcp_outside::{Failed, Sink};
-use verdict_lines::then_totals;
+use vcp_outside::{Failed, Line, Sink};
 
 /// Goes on with the tables.
 fn then_tables<O: Sink>(

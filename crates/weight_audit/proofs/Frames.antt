@@ -1,6 +1,5 @@
 -- Frames: the differences of a run with one fault alone solve the equations in which the fault's operation has its own difference.
-use Rattle.std.proofs.Common.{◌≡◌, ◌≢◌, ◌↔◌, ⊎_elim, ℕ, zero, suc, ◌+◌, ◌<◌, ◌≤◌, ◌==◌, ◌&&◌, cond, Bool, true, false, ℤ, pos, unsigned_abs, ◌+ℤ◌, ◌*ℤ◌, List}
-use Rattle.std.proofs.Common.{[], ◌∷◌, ◌++◌, length, take, slice_get, Option, Some, None, ap, ap₂, sym, subst, ◌∙◌, refl, arith}
+use Rattle.std.proofs.Common.{◌≡◌, ◌≢◌, ◌↔◌, ⊎_elim, ℕ, zero, suc, ◌+◌, ◌<◌, ◌≤◌, ◌==◌, ◌&&◌, cond, Bool, true, false, ℤ, pos, unsigned_abs, ◌+ℤ◌, ◌*ℤ◌, List, [], ◌∷◌, ◌++◌, length, take, slice_get, Option, Some, None, ap, ap₂, sym, subst, ◌∙◌, refl, arith}
 use Rattle.std.specs.Option.{is_some}
 use Rattle.std.proofs.Math.IntN.{zero-*ℤ}
 use Rattle.std.proofs.lemmas.Int.{ints}
@@ -25,8 +24,7 @@ use Rattle.fault_script.specs.declared.act.Act.{Act}
 use Rattle.fault_script.specs.declared.act.Act.TheVariants as act
 use Rattle.fault_script.specs.declared.act.Fault.{Fault}
 use Rattle.fault_script.specs.Changes.{acts_of}
-use Rattle.fault_script.specs.Differences.{Frame, brought, difference, given_from, held_after, no_frame, frame, made, OneFault}
-use Rattle.fault_script.specs.Differences.{read_as as read_by}
+use Rattle.fault_script.specs.Differences.{Frame, brought, difference, given_from, held_after, no_frame, frame, made, OneFault, read_as as read_by}
 use Rattle.weight_audit.specs.Weights.{sums, weight}
 use Rattle.weight_audit.specs.ClosedForm.{differs, Comes}
 use Rattle.weight_audit.proofs.Closing.{OpsFit, by_kind, at_zeros, at_nothing, alone_other, closed_form, stale_is}

@@ -12,3 +12,6 @@ mod Places
 mod Residues
 mod Sweep
 mod Worked
+mod Kept
+pub mod Joined
+mod WorkedReport

@@ -9,7 +9,7 @@ use Rattle.fault_script.specs.declared.act.Fault.{Fault}
 use Rattle.fault_injector.specs.declared.verdict.Verdict.{Verdict}
 use Rattle.fault_campaign.specs.declared.fault.CampaignFault.TheVariants as fault
 use Rattle.fault_campaign.specs.Campaign.{Told}
-use Rattle.verdict_lines.specs.FaultLines.{verdict_text}
+use Rattle.fault_injector.specs.FaultLines.{verdict_text}
 use Rattle.fault_campaign.proofs.SoFar.{all_told, group_fits, line_exit, memory_exit, next_found, so_far_next, so_far_none, totals_exit}
 use Rattle.fault_campaign.proofs.Telling.{one_counted}
 use Rattle.fault_campaign.proofs.run.judge_groups.Goals as goal

@@ -3,7 +3,7 @@ use Rattle.coded_unit.specs.Seen.{StaysHonest, UnitSeen}
 use Rattle.fault_reruns.specs.Groups.{GroupsJudged}
 use Rattle.fault_reruns.specs.References.{KeptRun}
 use Rattle.fault_reruns.specs.Reruns.{IsReference}
-use Rattle.verdict_lines.specs.FaultLines.{faults}
+use Rattle.fault_injector.specs.FaultLines.{faults}
 use Rattle.fault_campaign.proofs.SoFar.{SoFar}
 use Rattle.fault_campaign.proofs.run.judge_groups.Given as goal
 

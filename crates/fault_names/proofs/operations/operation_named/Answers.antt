@@ -1,6 +1,5 @@
-use Rattle.std.proofs.Common.{◌≡◌, ◌++◌, Bool, length, add-one, arith, refl, sym, ap, ◌∙◌}
+use Rattle.std.proofs.Common.{◌≡◌, ◌++◌, Bool, length, add-one, arith, refl, sym, ap, ◌∙◌, Option}
 use Rattle.op_graph.specs.declared.op.Op.{Op}
-use Rattle.std.proofs.Common.{Option}
 use Rattle.fault_names.specs.declared.operations.Found.{Found}
 use Rattle.fault_names.specs.Operations.{named_below, number_if, found_of, found_next, is_named_there}
 use Rattle.fault_names.proofs.Found.{found_more, next_below, one_below}

@@ -1,4 +1,4 @@
-use Rattle.gathered_line.specs.Gathering.{GathersTo}
+use Rattle.vcp_outside.specs.Gathering.{GathersTo}
 use Rattle.fault_sites.specs.SiteText.{site_lines}
 use Rattle.fault_names.specs.Script.{sites_from}
 use Rattle.fault_names.proofs.writing.then_act.Given as goal

@@ -1,5 +1,5 @@
 use Rattle.std.proofs.Common.{codes}
-use Rattle.gathered_line.proofs.Gathering.{written_same}
+use Rattle.vcp_outside.proofs.Gathering.{written_same}
 use Rattle.fault_sites.specs.Flips.{flips}
 use Rattle.fault_sites.specs.Part.{kept}
 use Rattle.fault_sites.proofs.Ended.{ended_text}

@@ -1,5 +1,5 @@
 use Rattle.std.proofs.Common.{flat_map}
-use Rattle.gathered_line.specs.Gathering.{GathersTo}
+use Rattle.vcp_outside.specs.Gathering.{GathersTo}
 use Rattle.svg_text.specs.Elements.{element_text}
 use Rattle.graph_picture.specs.Drawn.{boxes_below}
 use Rattle.graph_picture.specs.Elements.{box_elements}

@@ -1,4 +1,4 @@
-use Rattle.std.proofs.Common.{◌≡◌, true, sym, ◌∙◌, flat_map}
+use Rattle.std.proofs.Common.{◌≡◌, true, sym, ◌∙◌, flat_map, ap}
 use Rattle.std.proofs.lemmas.List.{append-nil}
 use Rattle.std.specs.Option.{is_some}
 use Rattle.op_graph.specs.Rules.{reads_as}
@@ -6,7 +6,6 @@ use Rattle.graph_picture.specs.Arrangement.{place_at}
 use Rattle.graph_picture.specs.Elements.{wire_elements}
 use Rattle.graph_picture.proofs.Going.{same}
 use Rattle.svg_text.specs.Elements.{element_text}
-use Rattle.std.proofs.Common.{ap}
 use Rattle.graph_picture.proofs.wires.then_wire.Goals as goal
 
 pub returns-then-reads_operation : goal.returns-then-reads_operation

@@ -1,7 +1,7 @@
 use Rattle.std.proofs.Common.{[], arith}
 use Rattle.std.proofs.lemmas.Result.{err_from_is_err_and}
-use Rattle.image_fields.specs.Pieces.{many}
-use Rattle.image_fields.specs.Entries.{cell_piece}
+use Rattle.image_file.specs.Pieces.{many}
+use Rattle.image_file.specs.Entries.{cell_piece}
 use Rattle.image_file.proofs.Loop.{goes_on, ends_with, is_done}
 use Rattle.image_file.proofs.PieceLaws.{listed_law}
 use Rattle.image_file.proofs.Sections.{cell_law}

@@ -1,5 +1,5 @@
 use Rattle.std.proofs.lemmas.Result.{err_from_is_err_and}
-use Rattle.image_fields.specs.Entries.{input_piece}
+use Rattle.image_file.specs.Entries.{input_piece}
 use Rattle.image_file.proofs.Loop.{goes_on, ends_with}
 use Rattle.image_file.proofs.lists.inputs_of.Goals as goal
 

@@ -1,6 +1,6 @@
 use Rattle.std.proofs.Common.{◌≡◌, ◌-◌, []}
-use Rattle.image_fields.specs.Pieces.{many}
-use Rattle.image_fields.specs.Entries.{input_piece}
+use Rattle.image_file.specs.Pieces.{many}
+use Rattle.image_file.specs.Entries.{input_piece}
 use Rattle.image_file.proofs.Loop.{with_front}
 use Rattle.image_file.proofs.lists.inputs_of.Given as goal
 

@@ -1,6 +1,6 @@
 use Rattle.std.proofs.Common.{◌≡◌, ◌-◌, []}
-use Rattle.image_fields.specs.Pieces.{many}
-use Rattle.image_fields.specs.Entries.{output_piece}
+use Rattle.image_file.specs.Pieces.{many}
+use Rattle.image_file.specs.Entries.{output_piece}
 use Rattle.image_file.proofs.Loop.{with_front}
 use Rattle.image_file.proofs.lists.outputs_of.Given as goal
 

@@ -4,7 +4,7 @@ use Rattle.std.proofs.lemmas.List.{length_push}
 use Rattle.op_graph.specs.declared.op.Op.{Op}
 use Rattle.op_graph.specs.Rules.{place_of}
 use Rattle.op_graph.specs.declared.rules.Place.{Place}
-use Rattle.image_fields.specs.Pieces.{many}
+use Rattle.image_file.specs.Pieces.{many}
 use Rattle.image_file.specs.Image.{Said, op_by, op_piece}
 use Rattle.image_file.specs.Views.{said_of}
 use Rattle.image_file.proofs.Loop.{goes_on, ends_with, is_done}

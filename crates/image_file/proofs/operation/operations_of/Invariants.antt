@@ -1,5 +1,5 @@
 use Rattle.std.proofs.Common.{◌≡◌, ◌-◌, [], length}
-use Rattle.image_fields.specs.Pieces.{many}
+use Rattle.image_file.specs.Pieces.{many}
 use Rattle.image_file.specs.Image.{op_piece}
 use Rattle.image_file.specs.Views.{said_of, scope_of, IsAt}
 use Rattle.image_file.proofs.Loop.{with_front}

@@ -2,7 +2,7 @@ use Rattle.std.proofs.Common.{◌++◌, ◌∷◌, [], ap, ◌∙◌, rules}
 use Rattle.std.proofs.lemmas.Int.{to_z-of_z}
 use Rattle.std.specs.Int.{w32, w64, to_be_bytes, cast_unsigned}
 use Rattle.vcp_base.specs.Spellings.{ty_code}
-use Rattle.image_fields.specs.Entries.{cell_piece}
+use Rattle.image_file.specs.Entries.{cell_piece}
 use Rattle.image_file.proofs.Appended.{joined, ended}
 use Rattle.image_file.proofs.writing.put_cell.Goals as goal
 

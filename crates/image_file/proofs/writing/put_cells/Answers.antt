@@ -1,6 +1,6 @@
 use Rattle.std.proofs.Common.{take}
 use Rattle.op_graph.specs.Lists.{cells}
-use Rattle.image_fields.specs.Entries.{cell_piece}
+use Rattle.image_file.specs.Entries.{cell_piece}
 use Rattle.image_file.proofs.Appended.{next_entry}
 use Rattle.image_file.proofs.writing.put_cells.Goals as goal
 

@@ -1,8 +1,8 @@
 use Rattle.std.proofs.Common.{◌≡◌, ◌++◌, [], take, ℕ}
 use Rattle.vcp_base.specs.declared.code.Profile.{Profile}
 use Rattle.op_graph.specs.Lists.{cells}
-use Rattle.image_fields.specs.Pieces.{entries}
-use Rattle.image_fields.specs.Entries.{cell_piece}
+use Rattle.image_file.specs.Pieces.{entries}
+use Rattle.image_file.specs.Entries.{cell_piece}
 use Rattle.image_file.proofs.writing.put_cells.Given as goal
 
 abbrev pub invariant-entries : goal.invariant-entries

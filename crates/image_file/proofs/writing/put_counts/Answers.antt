@@ -1,7 +1,7 @@
 use Rattle.std.proofs.Common.{◌++◌, [], ap, ◌∙◌}
 use Rattle.std.specs.Int.{w16, w32, to_be_bytes}
 use Rattle.image_file.specs.Image.{counts_piece}
-use Rattle.image_fields.specs.Codes.{version_code}
+use Rattle.image_file.specs.Codes.{version_code}
 use Rattle.image_file.proofs.Appended.{joined, ended}
 use Rattle.image_file.proofs.writing.put_counts.Goals as goal
 

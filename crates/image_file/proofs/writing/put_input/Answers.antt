@@ -1,7 +1,7 @@
 use Rattle.std.proofs.Common.{◌++◌, ◌∷◌, []}
 use Rattle.std.specs.Int.{w32, to_be_bytes}
 use Rattle.vcp_base.specs.Spellings.{ty_code}
-use Rattle.image_fields.specs.Entries.{input_piece}
+use Rattle.image_file.specs.Entries.{input_piece}
 use Rattle.image_file.proofs.Appended.{joined, ended}
 use Rattle.image_file.proofs.writing.put_input.Goals as goal
 

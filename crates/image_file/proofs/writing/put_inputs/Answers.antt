@@ -1,5 +1,5 @@
 use Rattle.std.proofs.Common.{take}
-use Rattle.image_fields.specs.Entries.{input_piece}
+use Rattle.image_file.specs.Entries.{input_piece}
 use Rattle.image_file.proofs.Appended.{next_entry}
 use Rattle.image_file.proofs.writing.put_inputs.Goals as goal
 

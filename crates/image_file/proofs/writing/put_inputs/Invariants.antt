@@ -1,7 +1,7 @@
 use Rattle.std.proofs.Common.{◌≡◌, ◌++◌, [], take, ℕ}
 use Rattle.vcp_base.specs.declared.code.Profile.{Profile}
-use Rattle.image_fields.specs.Pieces.{entries}
-use Rattle.image_fields.specs.Entries.{input_piece}
+use Rattle.image_file.specs.Pieces.{entries}
+use Rattle.image_file.specs.Entries.{input_piece}
 use Rattle.image_file.proofs.writing.put_inputs.Given as goal
 
 abbrev pub invariant-entries : goal.invariant-entries

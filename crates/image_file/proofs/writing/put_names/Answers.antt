@@ -1,10 +1,8 @@
-use Rattle.std.proofs.Common.{[], List, ℕ, length, take}
-use Rattle.image_fields.specs.Entries.{name_piece}
-use Rattle.image_file.proofs.Appended.{next_entry}
+use Rattle.std.proofs.Common.{[], List, ℕ, length, take, ◌≤◌}
+use Rattle.image_file.specs.Entries.{name_piece}
+use Rattle.image_file.proofs.Appended.{next_entry, each_at}
 use Rattle.vcp_base.specs.Limits.{most_name_bytes}
 use Rattle.vcp_base.specs.Names.{NameFits}
-use Rattle.image_file.proofs.Appended.{each_at}
-use Rattle.std.proofs.Common.{◌≤◌}
 use Rattle.image_file.proofs.writing.put_names.Goals as goal
 
 pub entries-preserved : goal.entries-preserved

@@ -3,7 +3,7 @@ use Rattle.std.proofs.lemmas.Int.{to_z-of_z}
 use Rattle.std.specs.Int.{w32, w64, to_be_bytes, cast_unsigned}
 use Rattle.vcp_base.specs.Spellings.{ty_code, kind_code}
 use Rattle.image_file.specs.Image.{op_by, corrected, correction_of}
-use Rattle.image_fields.specs.Codes.{correction_width}
+use Rattle.image_file.specs.Codes.{correction_width}
 use Rattle.image_file.proofs.Appended.{joined, ended}
 use Rattle.image_file.proofs.writing.put_op.Goals as goal
 

@@ -4,7 +4,7 @@ use Rattle.op_graph.specs.Lists.{cells}
 use Rattle.op_graph.specs.declared.op.Op.{Op}
 use Rattle.signature_table.specs.Signatures.{correction, store_of}
 use Rattle.std.specs.Prelude.{unsigned_abs}
-use Rattle.image_fields.specs.Pieces.{entries}
+use Rattle.image_file.specs.Pieces.{entries}
 use Rattle.image_file.specs.Image.{op_piece, said, Said}
 use Rattle.image_file.proofs.Appended.{next_entry, correction_at, length-corrections, some_nat}
 use Rattle.image_file.proofs.writing.put_operations.Goals as goal

@@ -2,7 +2,7 @@ use Rattle.std.proofs.Common.{◌≡◌, ◌++◌, [], take, ℕ, List}
 use Rattle.op_graph.specs.Lists.{cells}
 use Rattle.op_graph.specs.declared.op.Var.{Var}
 use Rattle.op_graph.specs.declared.op.Outlet.{Outlet}
-use Rattle.image_fields.specs.Pieces.{entries}
+use Rattle.image_file.specs.Pieces.{entries}
 use Rattle.image_file.specs.Image.{op_piece, said}
 use Rattle.image_file.proofs.writing.put_operations.Given as goal
 

@@ -1,5 +1,5 @@
 use Rattle.std.proofs.Common.{take}
-use Rattle.image_fields.specs.Entries.{output_piece}
+use Rattle.image_file.specs.Entries.{output_piece}
 use Rattle.image_file.proofs.Appended.{next_entry}
 use Rattle.image_file.proofs.writing.put_outputs.Goals as goal
 

@@ -1,7 +1,7 @@
 use Rattle.std.proofs.Common.{◌++◌, [], ap, ◌∙◌, rules}
 use Rattle.std.proofs.lemmas.Int.{to_z-of_z}
 use Rattle.std.specs.Int.{w32, w64, to_be_bytes, cast_unsigned}
-use Rattle.image_fields.specs.Entries.{turn_piece}
+use Rattle.image_file.specs.Entries.{turn_piece}
 use Rattle.image_file.proofs.Appended.{joined, ended}
 use Rattle.image_file.proofs.writing.put_turn.Goals as goal
 

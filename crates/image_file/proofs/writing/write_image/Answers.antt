@@ -1,8 +1,8 @@
 use Rattle.std.proofs.Common.{◌++◌, [], ℕ, length, ap, ◌∙◌}
 use Rattle.op_graph.specs.Lists.{Lists, cells}
-use Rattle.image_fields.specs.Pieces.{entries}
+use Rattle.image_file.specs.Pieces.{entries}
 use Rattle.image_file.specs.Views.{head}
-use Rattle.image_fields.specs.Entries.{name_piece, input_piece, output_piece, cell_piece, turn_piece}
+use Rattle.image_file.specs.Entries.{name_piece, input_piece, output_piece, cell_piece, turn_piece}
 use Rattle.image_file.specs.Image.{Parts, image_piece, head_piece, head_of, parts_of, op_piece, said}
 use Rattle.image_file.proofs.Appended.{joined, ended}
 use Rattle.image_file.proofs.writing.write_image.Goals as goal

@@ -1,4 +1,4 @@
-use Rattle.gathered_line.specs.Gathering.{GathersTo}
+use Rattle.vcp_outside.specs.Gathering.{GathersTo}
 use Rattle.run_picture.specs.Drawn.{lane}
 use Rattle.run_picture.specs.Elements.{shown_elements}
 use Rattle.run_picture.proofs.Going.{drawn_text}

@@ -1,5 +1,5 @@
 use Rattle.std.proofs.Common.{length}
-use Rattle.gathered_line.specs.Gathering.{GathersTo}
+use Rattle.vcp_outside.specs.Gathering.{GathersTo}
 use Rattle.run_picture.specs.Drawn.{lane}
 use Rattle.svg_text.specs.Drawing.{each_below}
 use Rattle.run_picture.specs.Elements.{shown_elements}

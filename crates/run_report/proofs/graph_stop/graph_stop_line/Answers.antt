@@ -1,5 +1,5 @@
 use Rattle.std.proofs.Common.{append_assoc}
-use Rattle.gathered_line.proofs.Gathering.{written_same}
+use Rattle.vcp_outside.proofs.Gathering.{written_same}
 use Rattle.run_report.proofs.graph_stop.graph_stop_line.Goals as goal
 
 pub returns : goal.returns

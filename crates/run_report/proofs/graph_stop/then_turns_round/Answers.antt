@@ -3,8 +3,8 @@ use mir.Val.{SFits}
 use Rattle.std.proofs.Math.Facts.{to_z-of_z}
 use Rattle.std.proofs.lemmas.Option.{IfSome_then}
 use Rattle.vcp_base.specs.declared.turns.Turn.{Turn}
-use Rattle.gathered_line.specs.Gathering.{GathersTo}
-use Rattle.gathered_line.proofs.Gathering.{gathered_same}
+use Rattle.vcp_outside.specs.Gathering.{GathersTo}
+use Rattle.vcp_outside.proofs.Gathering.{gathered_same}
 use Rattle.run_report.proofs.Turns.{first_left, none_left, told_next, told_all, named_left, next_text}
 use Rattle.run_report.proofs.graph_stop.then_turns_round.Goals as goal
 

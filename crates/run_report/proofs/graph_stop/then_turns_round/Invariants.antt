@@ -1,5 +1,5 @@
 use Rattle.std.proofs.Common.{length}
-use Rattle.gathered_line.specs.Gathering.{GathersTo}
+use Rattle.vcp_outside.specs.Gathering.{GathersTo}
 use Rattle.run_report.specs.Lines.{AreNamed}
 use Rattle.run_report.proofs.Turns.{Told}
 use Rattle.run_report.proofs.graph_stop.then_turns_round.Given as goal

@@ -1,5 +1,5 @@
 use Rattle.std.proofs.Common.{◌≡◌, ℕ, List, ◌++◌, codes, decimal, append_assoc}
-use Rattle.gathered_line.proofs.Gathering.{gathered_same}
+use Rattle.vcp_outside.proofs.Gathering.{gathered_same}
 use Rattle.run_report.proofs.lines.begin_stop.Goals as goal
 
 pieces : (cycle cause : List ℕ) → codes "stop " ++ (cycle ++ (codes " " ++ cause)) ≡ codes "stop " ++ cycle ++ codes " " ++ cause

@@ -3,7 +3,7 @@ use Rattle.std.proofs.lemmas.List.{take_all}
 use Rattle.std.proofs.lemmas.List.Folds.{flat_map-map}
 use Rattle.vcp_base.specs.declared.columns.Column.{Column}
 use Rattle.run_report.specs.Lines.{name_cell}
-use Rattle.gathered_line.proofs.Gathering.{gathered_same}
+use Rattle.vcp_outside.proofs.Gathering.{gathered_same}
 use Rattle.run_report.proofs.Texts.{flat_map-next_two}
 use Rattle.run_report.proofs.lines.header_line.Goals as goal
 

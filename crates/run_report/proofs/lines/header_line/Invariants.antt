@@ -1,5 +1,5 @@
 use Rattle.std.proofs.Common.{take, flat_map, ◌++◌, codes}
-use Rattle.gathered_line.specs.Gathering.{IsGathered}
+use Rattle.vcp_outside.specs.Gathering.{IsGathered}
 use Rattle.run_report.specs.Lines.{name_cell}
 use Rattle.run_report.proofs.lines.header_line.Given as goal
 

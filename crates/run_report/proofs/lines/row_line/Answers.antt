@@ -3,7 +3,7 @@ use mir.Val.{SFits}
 use Rattle.std.proofs.Math.Facts.{to_z-of_z}
 use Rattle.std.proofs.lemmas.List.{append-nil, take_all}
 use Rattle.run_report.specs.Lines.{value_cell}
-use Rattle.gathered_line.proofs.Gathering.{gathered_same}
+use Rattle.vcp_outside.proofs.Gathering.{gathered_same}
 use Rattle.run_report.proofs.Texts.{flat_map-next}
 use Rattle.run_report.proofs.lines.row_line.Goals as goal
 

@@ -1,5 +1,5 @@
 use Rattle.std.proofs.Common.{take, flat_map, ◌++◌, decimal}
-use Rattle.gathered_line.specs.Gathering.{IsGathered}
+use Rattle.vcp_outside.specs.Gathering.{IsGathered}
 use Rattle.run_report.specs.Lines.{value_cell}
 use Rattle.run_report.proofs.lines.row_line.Given as goal
 

@@ -1,7 +1,7 @@
 use Rattle.std.proofs.Common.{rules, append_assoc, w64}
 use mir.Val.{SFits}
 use Rattle.std.proofs.Math.Facts.{to_z-of_z}
-use Rattle.gathered_line.proofs.Gathering.{gathered_same}
+use Rattle.vcp_outside.proofs.Gathering.{gathered_same}
 use Rattle.run_report.proofs.lines.then_turn.Goals as goal
 
 pub returns : goal.returns

@@ -6,7 +6,7 @@ use Rattle.std.proofs.lemmas.List.Folds.{flat_map-map}
 use Rattle.std.proofs.lemmas.Option.{get_or_from_slice_get}
 use Rattle.vcp_base.specs.Stops.{told_turn}
 use Rattle.run_report.specs.Lines.{turn_text}
-use Rattle.gathered_line.proofs.Gathering.{gathered_same}
+use Rattle.vcp_outside.proofs.Gathering.{gathered_same}
 use Rattle.run_report.proofs.Texts.{flat_map-next}
 use Rattle.run_report.proofs.lines.then_turns.Goals as goal
 

@@ -1,6 +1,6 @@
 use Rattle.std.proofs.Common.{take, flat_map}
 use Rattle.vcp_base.specs.Stops.{told_turn}
-use Rattle.gathered_line.specs.Gathering.{GathersTo}
+use Rattle.vcp_outside.specs.Gathering.{GathersTo}
 use Rattle.run_report.specs.Lines.{turn_text}
 use Rattle.run_report.proofs.lines.then_turns.Given as goal
 

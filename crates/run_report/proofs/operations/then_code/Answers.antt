@@ -1,6 +1,6 @@
 use Rattle.std.proofs.Common.{◌≡◌, ℕ, List, ◌++◌, codes, append_assoc, slice_index_or}
 use Rattle.std.proofs.lemmas.Option.{get_or_from_slice_get}
-use Rattle.gathered_line.proofs.Gathering.{gathered_same}
+use Rattle.vcp_outside.proofs.Gathering.{gathered_same}
 use Rattle.run_report.proofs.operations.then_code.Goals as goal
 
 pieces : (text own more : List ℕ) → text ++ (codes " sig " ++ (own ++ (codes " cor " ++ more))) ≡ text ++ codes " sig " ++ own ++ codes " cor " ++ more

@@ -1,5 +1,5 @@
 use Rattle.std.proofs.Common.{take, flat_map}
-use Rattle.gathered_line.specs.Gathering.{GathersTo}
+use Rattle.vcp_outside.specs.Gathering.{GathersTo}
 use Rattle.run_report.specs.OperationLines.{number_cell}
 use Rattle.run_report.proofs.operations.then_numbers.Given as goal
 

@@ -1,5 +1,5 @@
 use Rattle.std.proofs.Common.{take, flat_map}
-use Rattle.gathered_line.specs.Gathering.{GathersTo}
+use Rattle.vcp_outside.specs.Gathering.{GathersTo}
 use Rattle.svg_text.specs.Characters.{escaped, piece_bytes}
 use Rattle.svg_text.proofs.characters.then_pieces.Given as goal
 

@@ -1,6 +1,6 @@
 use Rattle.std.proofs.Common.{◌≡◌, ℕ, List, [], ◌∷◌, ◌++◌, Option, codes, decimal, append_assoc}
 use Rattle.std.proofs.lemmas.List.{append-nil}
-use Rattle.gathered_line.specs.Gathering.{Gathered, IsGathered}
+use Rattle.vcp_outside.specs.Gathering.{Gathered, IsGathered}
 use Rattle.svg_text.specs.declared.names.Name.TheVariants as name
 use Rattle.svg_text.specs.Elements.{attribute, attribute_text}
 use Rattle.svg_text.proofs.elements.begin_picture.Goals as goal

@@ -1,5 +1,5 @@
 use Rattle.std.proofs.Common.{take, flat_map}
-use Rattle.gathered_line.specs.Gathering.{GathersTo}
+use Rattle.vcp_outside.specs.Gathering.{GathersTo}
 use Rattle.svg_text.specs.Elements.{given_text}
 use Rattle.svg_text.proofs.elements.then_attributes.Given as goal
 

@@ -13,9 +13,7 @@ use Rattle.vcp_inputs.specs.RowsRead.{graph_columns}
 use Rattle.vcp_core.specs.Tasks.{InjectTask}
 use Rattle.vcp_core.proofs.Facts.{if_some_always, if_some_weaker, if_some_both, if_some_same}
 use Rattle.vcp_core.proofs.ImageLoaded.{image_not_bytes, table-is-of}
-use Rattle.vcp_core.proofs.JudgedTasks.{LoadsAt, OnLeft, campaign_of, campaign_performs, groups_come as groups_come_to, judged_to as judged_so_far}
-use Rattle.vcp_core.proofs.JudgedTasks.{judged_whole as judged_all, lost_for, rows_are_read, rows_lost as rows_lost_all, rows_named}
-use Rattle.vcp_core.proofs.JudgedTasks.{script_lost as script_lost_all, script_named as script_named_of, script_taken as script_taken_all}
+use Rattle.vcp_core.proofs.JudgedTasks.{LoadsAt, OnLeft, campaign_of, campaign_performs, groups_come as groups_come_to, judged_to as judged_so_far, judged_whole as judged_all, lost_for, rows_are_read, rows_lost as rows_lost_all, rows_named, script_lost as script_lost_all, script_named as script_named_of, script_taken as script_taken_all}
 use Rattle.vcp_core.proofs.LoadedRows.{rows_may, rows_unloaded}
 use Rattle.vcp_core.proofs.Performing.{files_lost, files_wanted, quiet_lost, whole_performs}
 use Rattle.vcp_core.proofs.inject.inject_command.Goals as goal

@@ -4,8 +4,8 @@ use Rattle.telegram.specs.WireRead.{wire_read}
 use Rattle.telegram.specs.declared.event.Event.{Event}
 use Rattle.telegram.specs.declared.wire.Wire.{Wire}
 use Rattle.telegram.specs.WireRun.{Handing}
-use Rattle.wire_run.specs.Runs.{events_before, told_handings}
-use Rattle.wire_run.specs.Sends.{Cut}
+use Rattle.telegram.specs.Runs.{events_before, told_handings}
+use Rattle.telegram.specs.Sends.{Cut}
 use Rattle.vcp_core.proofs.laws.wires_deliver.Goals as goal
 
 -- what holds of the handings of any events holds of those that are told

@@ -14,8 +14,7 @@ use Rattle.machine_run.specs.Moments.{moment}
 use Rattle.vcp_inputs.specs.RowsRead.{graph_columns}
 use Rattle.vcp_core.specs.Tasks.{Apart, PairsRows, PairsTask}
 use Rattle.vcp_core.proofs.Facts.{if_some_always, if_some_weaker, if_some_both, if_some_same}
-use Rattle.vcp_core.proofs.PairsTasks.{LoadsAt, OnLeft, groups_come as groups_come_to, pairs_to as pairs_so_far, pairs_whole as pairs_all, none_is_read}
-use Rattle.vcp_core.proofs.PairsTasks.{rows_lost as rows_lost_all, rows_named, script_lost as script_lost_all, script_named as script_named_of, script_taken as script_taken_all}
+use Rattle.vcp_core.proofs.PairsTasks.{LoadsAt, OnLeft, groups_come as groups_come_to, pairs_to as pairs_so_far, pairs_whole as pairs_all, none_is_read, rows_lost as rows_lost_all, rows_named, script_lost as script_lost_all, script_named as script_named_of, script_taken as script_taken_all}
 use Rattle.vcp_core.proofs.ImageLoaded.{image_not_bytes, table-is-of}
 use Rattle.vcp_core.proofs.JudgedTasks.{campaign_of, campaign_performs, lost_for}
 use Rattle.vcp_core.proofs.LoadedRows.{rows_may, rows_unloaded}

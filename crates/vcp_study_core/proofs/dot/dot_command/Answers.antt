@@ -1,4 +1,4 @@
-use Rattle.graph_dot.specs.DotText.{IsDotOf}
+use Rattle.graph_picture.specs.DotText.{IsDotOf}
 use Rattle.std.proofs.lemmas.Result.{err_from_is_err_and}
 use Rattle.vcp_study_core.proofs.Reaching.{if_some_weaker, not_given, drawn, dot_of}
 use Rattle.vcp_study_core.proofs.dot.dot_command.Goals as goal

@@ -1,5 +1,5 @@
 use Rattle.std.proofs.Common.{refl}
-use Rattle.verdict_picture.specs.FaultsText.{faults_text}
+use Rattle.graph_picture.specs.FaultsText.{faults_text}
 use Rattle.vcp_study_core.proofs.faults.draw.Goals as goal
 
 pub returns-in-Ok-clause-writes : goal.returns-in-Ok-clause-writes

@@ -1,5 +1,5 @@
 use Rattle.std.proofs.Common.{◌≡◌, ◌≤◌, drop}
-use Rattle.verdict_lines.specs.FaultLines.{faults, totals_after}
+use Rattle.fault_injector.specs.FaultLines.{faults, totals_after}
 use Rattle.verdict_tables.specs.Tables.{picked, totals_in}
 use Rattle.verdict_tables.proofs.counts.totals_in.Given as goal
 

@@ -1,5 +1,5 @@
 use Rattle.std.proofs.Common.{◌≡◌, ◌≤◌, drop}
-use Rattle.verdict_lines.specs.FaultLines.{faults, totals_after, totals_of}
+use Rattle.fault_injector.specs.FaultLines.{faults, totals_after, totals_of}
 use Rattle.verdict_tables.proofs.counts.totals_of_all.Given as goal
 
 abbrev pub invariant-verdicts : goal.invariant-verdicts

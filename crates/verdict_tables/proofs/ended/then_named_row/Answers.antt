@@ -1,4 +1,4 @@
-use Rattle.verdict_lines.specs.FaultLines.{faults}
+use Rattle.fault_injector.specs.FaultLines.{faults}
 use Rattle.verdict_tables.proofs.Going.{and_then, no_row, a_row}
 use Rattle.verdict_tables.proofs.ended.then_named_row.Goals as goal
 

@@ -1,5 +1,5 @@
 use Rattle.std.proofs.Common.{◌+◌, ◌++◌, List, Option, sym, ap, ◌∙◌, arith, drop, length}
-use Rattle.same_endings.specs.declared.ending.SameEnding.{SameEnding}
+use Rattle.verdict_tables.specs.declared.endless.ending.SameEnding.{SameEnding}
 use Rattle.verdict_tables.specs.SameEndings.{endings_for, ended_count}
 use Rattle.verdict_tables.proofs.Apart.{one_ended, none_ended, each_ended, three_are_all}
 use Rattle.verdict_tables.proofs.endings.endings_of.Goals as goal

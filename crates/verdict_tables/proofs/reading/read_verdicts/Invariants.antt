@@ -1,7 +1,7 @@
 use Rattle.std.proofs.Common.{◌≡◌, ◌+◌, drop, length, All}
 use Rattle.std.specs.Str.Lines.{lines}
 use Rattle.fault_injector.specs.Names.{Names}
-use Rattle.verdict_lines.specs.FaultLines.{faults}
+use Rattle.fault_injector.specs.FaultLines.{faults}
 use Rattle.verdict_tables.specs.Reading.{behind, verdicts_from, verdicts_in}
 use Rattle.verdict_tables.proofs.reading.read_verdicts.Given as goal
 

@@ -1,5 +1,5 @@
 use Rattle.std.proofs.Common.{◌++◌}
-use Rattle.gathered_line.specs.Gathering.{GathersTo}
+use Rattle.vcp_outside.specs.Gathering.{GathersTo}
 use Rattle.verdict_tables.specs.SumText.{heading_text, rows_below}
 use Rattle.verdict_tables.proofs.rows.then_table.Given as goal
 

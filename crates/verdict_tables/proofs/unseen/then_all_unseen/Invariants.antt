@@ -1,4 +1,4 @@
-use Rattle.gathered_line.specs.Gathering.{GathersTo}
+use Rattle.vcp_outside.specs.Gathering.{GathersTo}
 use Rattle.verdict_tables.specs.SumText.{unseen_below}
 use Rattle.verdict_tables.proofs.unseen.then_all_unseen.Given as goal
 

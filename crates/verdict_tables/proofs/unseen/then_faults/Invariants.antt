@@ -1,5 +1,5 @@
 use Rattle.std.proofs.Common.{take, flat_map}
-use Rattle.gathered_line.specs.Gathering.{GathersTo}
+use Rattle.vcp_outside.specs.Gathering.{GathersTo}
 use Rattle.verdict_tables.specs.SumText.{fault_text}
 use Rattle.verdict_tables.proofs.unseen.then_faults.Given as goal
 

@@ -1,7 +1,7 @@
 use Rattle.std.proofs.Common.{◌≡◌, ℕ, List, ◌++◌, length, codes, append_assoc}
-use Rattle.verdict_lines.specs.FaultLines.{totals_front, totals_of}
+use Rattle.fault_injector.specs.FaultLines.{totals_front, totals_of}
 use Rattle.verdict_tables.specs.SumText.{tables_text, unseen_below}
-use Rattle.gathered_line.proofs.Gathering.{written_same}
+use Rattle.vcp_outside.proofs.Gathering.{written_same}
 use Rattle.verdict_tables.proofs.writing.write_sum.Goals as goal
 
 pieces : (tables unseen totals : List ℕ) → tables ++ (unseen ++ (totals ++ codes "\n")) ≡ tables ++ unseen ++ totals ++ codes "\n"

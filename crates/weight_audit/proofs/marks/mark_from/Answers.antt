@@ -1,6 +1,5 @@
-use Rattle.std.proofs.Common.{arith}
+use Rattle.std.proofs.Common.{arith, subst, ◌<◌, length}
 use Rattle.weight_audit.proofs.Places.{operand_inside}
-use Rattle.std.proofs.Common.{subst, ◌<◌, length}
 use Rattle.weight_audit.proofs.marks.mark_from.Goals as goal
 
 pub mark_operands-requires : goal.mark_operands-requires

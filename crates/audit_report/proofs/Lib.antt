@@ -1,3 +1,0 @@
-mod Kept
-pub mod Joined
-mod Worked

@@ -1,9 +1,0 @@
-use Rattle.std.proofs.Common.{◌≡◌, ◌≤◌}
-use Rattle.audit_report.specs.AuditText.{is_blind, count_below}
-use Rattle.audit_report.proofs.counts.count_blind.Given as goal
-
-abbrev pub invariant-operations : goal.invariant-operations
-invariant-operations l = record {
-  value : l.blind ≡ count_below (is_blind l.weights l.output l.after) l.op;
-  few : l.blind ≤ l.op;
-}

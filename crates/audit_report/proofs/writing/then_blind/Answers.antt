@@ -1,6 +1,0 @@
-use Rattle.audit_report.proofs.Joined.{written-behind}
-use Rattle.audit_report.proofs.writing.then_blind.Goals as goal
-
-pub returns-in-Ok : goal.returns-in-Ok
-returns-in-Ok g c start before text written =
-    rw (c.if-not-blind.false, c.operation.ensures) (written-behind c.blind_line.result (rw c.in-Ok.is at written) c.blind_line.ensures)

@@ -1,5 +1,0 @@
-use Rattle.audit_report.proofs.Joined.{written-behind}
-use Rattle.audit_report.proofs.writing.then_reached.Goals as goal
-
-pub returns-in-Ok : goal.returns-in-Ok
-returns-in-Ok g c start before text written = written-behind c.reached_line.result (rw c.in-Ok.is at written) c.reached_line.ensures

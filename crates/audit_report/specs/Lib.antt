@@ -1,3 +1,0 @@
-pub mod AuditLines
-pub mod AuditText
-pub mod Continues

@@ -1,0 +1,85 @@
+//! The lines of a script of faults on a pair of channels: a verdict a line, and their totals. Each call writes one line to a sink and takes no
+//! memory. It answers `Failed` only where the sink's count of faults rose, and then a part of the line is written.
+
+ghost use Rattle.std.specs.Prelude.{◌≡◌, ◌<◌, ◌++◌, decimal};
+ghost use Rattle.vcp_outside.specs.Written.{WritesTo};
+ghost use Rattle.vcp_outside.specs.Gathering.{GathersTo};
+ghost use Rattle.fault_campaign.specs.GroupLines.{shown, group_text, groups_in, counted, no_groups, pair_totals_text};
+
+use crate::pairs::verdict::PairVerdict;
+use vcp_outside::{Failed, Line, Sink, begin};
+
+/// How many groups of a script have which verdict.
+#[derive(Clone, Copy, Debug, PartialEq, Eq)]
+pub struct PairTotals {
+    /// Those in which the channels agree to the end.
+    pub same: u32,
+    /// Those that are held.
+    pub held: u32,
+}
+
+impl PairTotals {
+    /// The totals of no groups.
+    pub fn new() -> PairTotals
+        ensures { result ≡ no_groups }
+    {
+        PairTotals { same: 0, held: 0 }
+    }
+
+    /// How many groups there are in all.
+    pub fn groups(&self) -> u64
+        ensures { result ≡ groups_in self.now }
+    {
+        self.same as u64 + self.held as u64
+    }
+
+    /// Counts one verdict more, where fewer than 4,294,967,295 were counted.
+    pub fn count(&mut self, verdict: &PairVerdict)
+        requires { groups_in self.old < 4294967295 }
+        ensures { self.new ≡ counted self.old verdict.now }
+    {
+        match *verdict {
+            PairVerdict::Same => self.same += 1,
+            PairVerdict::Held { .. } => self.held += 1,
+        }
+    }
+}
+
+// Goes on with a verdict.
+fn then_verdict<O: Sink>(line: &mut Line, out: &mut O, verdict: &PairVerdict)
+    ensures { GathersTo (O.seen out.old) (O.seen out.new) line.old line.new (shown verdict.now) }
+{
+    match *verdict {
+        PairVerdict::Same => line.text(out, b"same"),
+        PairVerdict::Held { cycle } => then_count(line, out, b"held ", cycle as u64),
+    }
+}
+
+// Goes on with a word and a number.
+fn then_count<O: Sink>(line: &mut Line, out: &mut O, word: &[u8], number: u64)
+    ensures { GathersTo (O.seen out.old) (O.seen out.new) line.old line.new (word.now ++ decimal number) }
+{
+    line.text(out, word);
+    line.count(out, number);
+}
+
+/// Writes the verdict on the group that begins on this line of a script. After `Failed` a part of the line is written.
+pub fn group_line<O: Sink>(out: &mut O, line: u32, verdict: &PairVerdict) -> Result<(), Failed>
+    ensures { WritesTo (O.seen out.old) (O.seen out.new) (group_text line verdict.now) result }
+{
+    let mut text = begin(out, b"", line);
+    text.text(out, b" ");
+    then_verdict(&mut text, out, verdict);
+    text.end(out)
+}
+
+/// Writes how many groups a script has, and how many of each verdict. After `Failed` a part of the line is written.
+pub fn pair_totals_line<O: Sink>(out: &mut O, totals: &PairTotals) -> Result<(), Failed>
+    ensures { WritesTo (O.seen out.old) (O.seen out.new) (pair_totals_text totals.now) result }
+{
+    let mut line = Line::new();
+    then_count(&mut line, out, b"pairs ", totals.groups());
+    then_count(&mut line, out, b" same ", totals.same as u64);
+    then_count(&mut line, out, b" held ", totals.held as u64);
+    line.end(out)
+}

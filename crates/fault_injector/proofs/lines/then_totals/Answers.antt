@@ -1,0 +1,18 @@
+use Rattle.std.proofs.Common.{◌≡◌, ℕ, List, ◌++◌, codes, decimal, append_assoc}
+use Rattle.fault_injector.proofs.Going.{and_then, same}
+use Rattle.fault_injector.proofs.lines.then_totals.Goals as goal
+
+-- six words, each with its number
+pieces : (a all b same c wrong d ran_on e refused f stopped : List ℕ)
+    → a ++ (all ++ (b ++ (same ++ (c ++ (wrong ++ (d ++ (ran_on ++ (e ++ (refused ++ (f ++ stopped))))))))))
+    ≡ (a ++ all) ++ ((b ++ same) ++ ((c ++ wrong) ++ ((d ++ ran_on) ++ ((e ++ refused) ++ (f ++ stopped)))))
+pieces a all b same c wrong d ran_on e refused f stopped = simp append_assoc
+
+pub returns : goal.returns
+returns g c =
+    let t = c.args.totals.now in
+    let all = rw c.faults.ensures at c.then_count.ensures in
+    let last = and_then c.then_count-4.ensures (and_then c.then_count-5.ensures c.then_count-6.ensures) in
+    same (and_then all (and_then c.then_count-2.ensures (and_then c.then_count-3.ensures last)))
+    (pieces (codes "faults ") _ (codes " same ") (decimal t.same) (codes " wrong ") (decimal t.wrong) (codes " ran-on ") (decimal t.ran_on) (codes " refused ")
+    (decimal t.refused) (codes " stopped ") (decimal t.stopped))

@@ -1,0 +1,199 @@
+//! The lines of a script of faults: a verdict a line, and their totals. Each call writes one line to a
+//! sink and takes no memory. It answers `Failed` only where the sink's count of faults rose, and then
+//! a part of the line is written.
+
+ghost use Rattle.std.specs.Prelude.{◌≡◌, ◌<◌, ◌++◌, length, slice_get, decimal};
+ghost use Rattle.vcp_outside.specs.Written.{WritesTo};
+ghost use Rattle.fault_injector.specs.Names.{Names};
+ghost use Rattle.vcp_outside.specs.Gathering.{GathersTo};
+ghost use Rattle.fault_injector.specs.FaultLines.{wrong_text, ran_on_text, stopped_at, stopped_text, what_shows, verdict_text, faults as faults_of, counted, no_verdicts, totals_front, totals_text};
+
+use crate::Verdict;
+use op_graph::Graph;
+use run_report::{output_name, then_cause, then_refused, then_turns_round};
+use vcp_base::{StopKind, Text};
+use vcp_outside::{Failed, Line, Sink, begin};
+
+/// How many faults of a script have which verdict.
+#[derive(Clone, Copy, Debug, PartialEq, Eq)]
+pub struct Totals {
+    /// Those that show nowhere.
+    pub same: u32,
+    /// Those by which a wrong value is released.
+    pub wrong: u32,
+    /// Those by which a run goes on that was to stop.
+    pub ran_on: u32,
+    /// Those by which an output is refused.
+    pub refused: u32,
+    /// Those by which the run stops.
+    pub stopped: u32,
+}
+
+impl Totals {
+    /// The totals of no faults.
+    pub fn new() -> Totals
+        ensures { result ≡ no_verdicts }
+    {
+        Totals {
+            same: 0,
+            wrong: 0,
+            ran_on: 0,
+            refused: 0,
+            stopped: 0,
+        }
+    }
+
+    /// How many faults there are in all.
+    pub fn faults(&self) -> u64
+        ensures { result ≡ faults_of self.now }
+    {
+        self.same as u64
+            + self.wrong as u64
+            + self.ran_on as u64
+            + self.refused as u64
+            + self.stopped as u64
+    }
+
+    /// Counts one verdict more, where fewer than 4,294,967,295 were counted.
+    pub fn count(&mut self, verdict: &Verdict)
+        requires { faults_of self.old < 4294967295 }
+        ensures { self.new ≡ counted self.old verdict.now }
+    {
+        match *verdict {
+            Verdict::Same => self.same += 1,
+            Verdict::Wrong { .. } => self.wrong += 1,
+            Verdict::RanOn { .. } => self.ran_on += 1,
+            Verdict::Refused { .. } => self.refused += 1,
+            Verdict::Stopped { .. } => self.stopped += 1,
+        }
+    }
+}
+
+// Goes on with a cycle, an output's name and the values with and without the fault.
+fn then_wrong<O: Sink>(line: &mut Line, out: &mut O, cycle: u32, name: &Text, got: i64, want: i64)
+    ensures { GathersTo (O.seen out.old) (O.seen out.new) line.old line.new (wrong_text cycle name.now got want) }
+{
+    line.text(out, b"wrong ");
+    line.count(out, cycle as u64);
+    line.text(out, b" ");
+    line.text(out, name.bytes());
+    line.text(out, b" got ");
+    line.value(out, got);
+    line.text(out, b" want ");
+    line.value(out, want);
+}
+
+// Goes on with the cycle up to which no output was refused.
+fn then_ran_on<O: Sink>(line: &mut Line, out: &mut O, cycle: u32)
+    ensures { GathersTo (O.seen out.old) (O.seen out.new) line.old line.new (ran_on_text cycle) }
+{
+    line.text(out, b"ran-on ");
+    line.count(out, cycle as u64);
+}
+
+// Goes on with why operation `op` stopped, its place in the source, and the turns round it.
+fn then_stopped_at<O: Sink>(line: &mut Line, out: &mut O, kind: StopKind, graph: &Graph, op: u32)
+    requires { op < length graph.now.operations }
+    ensures { GathersTo (O.seen out.old) (O.seen out.new) line.old line.new
+        (stopped_at graph.now kind (slice_get graph.now.operations op)) }
+{
+    then_cause(line, out, kind, graph.operation(op).spot);
+    then_turns_round(line, out, graph, op);
+}
+
+// Goes on with the cycle and the operation of a stop.
+fn then_stopped<O: Sink>(
+    line: &mut Line,
+    out: &mut O,
+    cycle: u32,
+    graph: &Graph,
+    op: u32,
+    kind: StopKind,
+)
+    requires { op < length graph.now.operations }
+    ensures { GathersTo (O.seen out.old) (O.seen out.new) line.old line.new (stopped_text graph.now cycle op kind) }
+{
+    line.text(out, b"stopped ");
+    line.count(out, cycle as u64);
+    line.text(out, b" ");
+    line.count(out, op as u64);
+    line.text(out, b" ");
+    then_stopped_at(line, out, kind, graph, op);
+}
+
+/// Goes on with a verdict: in which cycle it shows, at which output or operation of the graph, and by what.
+pub fn then_verdict<O: Sink>(line: &mut Line, out: &mut O, graph: &Graph, verdict: &Verdict)
+    requires { Names (length graph.now.outputs) (length graph.now.operations) verdict.now }
+    ensures { GathersTo (O.seen out.old) (O.seen out.new) line.old line.new (what_shows graph.now verdict.now) }
+{
+    match *verdict {
+        Verdict::Same => line.text(out, b"same"),
+        Verdict::Wrong {
+            cycle,
+            output,
+            got,
+            want,
+        } => then_wrong(line, out, cycle, output_name(graph, output), got, want),
+        Verdict::RanOn { cycle } => then_ran_on(line, out, cycle),
+        Verdict::Refused {
+            cycle,
+            output,
+            found,
+            expected,
+        } => then_refused(
+            line,
+            out,
+            cycle,
+            output_name(graph, output),
+            found,
+            expected,
+        ),
+        Verdict::Stopped { cycle, op, kind } => then_stopped(line, out, cycle, graph, op, kind),
+    }
+}
+
+/// Writes the verdict of the fault on this line of a script: in which cycle the fault shows, at which
+/// output or operation of the graph, and by what. After `Failed` a part of the line is written.
+pub fn verdict_line<O: Sink>(
+    out: &mut O,
+    graph: &Graph,
+    line: u32,
+    verdict: &Verdict,
+) -> Result<(), Failed>
+    requires { Names (length graph.now.outputs) (length graph.now.operations) verdict.now }
+    ensures { WritesTo (O.seen out.old) (O.seen out.new) (verdict_text graph.now line verdict.now) result }
+{
+    let mut text = begin(out, b"", line);
+    text.text(out, b" ");
+    then_verdict(&mut text, out, graph, verdict);
+    text.end(out)
+}
+
+// Goes on with a word and a number.
+fn then_count<O: Sink>(line: &mut Line, out: &mut O, word: &[u8], number: u64)
+    ensures { GathersTo (O.seen out.old) (O.seen out.new) line.old line.new (word.now ++ decimal number) }
+{
+    line.text(out, word);
+    line.count(out, number);
+}
+
+/// Goes on with totals: how many faults a script has, and how many of each verdict.
+pub fn then_totals<O: Sink>(line: &mut Line, out: &mut O, totals: &Totals)
+    ensures { GathersTo (O.seen out.old) (O.seen out.new) line.old line.new (totals_front totals.now) }
+{
+    then_count(line, out, b"faults ", totals.faults());
+    then_count(line, out, b" same ", totals.same as u64);
+    then_count(line, out, b" wrong ", totals.wrong as u64);
+    then_count(line, out, b" ran-on ", totals.ran_on as u64);
+    then_count(line, out, b" refused ", totals.refused as u64);
+    then_count(line, out, b" stopped ", totals.stopped as u64);
+}
+
+/// Writes the line of totals. After `Failed` a part of the line is written.
+pub fn totals_line<O: Sink>(out: &mut O, totals: &Totals) -> Result<(), Failed>
+    ensures { WritesTo (O.seen out.old) (O.seen out.new) (totals_text totals.now) result }
+{
+    let mut line = Line::new();
+    then_totals(&mut line, out, totals);
+    line.end(out)
+}

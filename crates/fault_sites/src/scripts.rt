@@ -1,0 +1,13 @@
+//! Scripts of all single faults of a class that an image can have, or of all flips of bits in a run, as `inject` takes them, whole or in parts;
+//! and how many there are.
+
+mod chosen;
+mod number;
+mod of_class;
+mod of_run;
+mod unwritten;
+
+pub use chosen::Chosen;
+pub use of_class::write_chosen_sites;
+pub use of_run::write_chosen_flips;
+pub use unwritten::Unwritten;

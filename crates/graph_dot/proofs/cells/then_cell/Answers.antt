@@ -1,7 +1,0 @@
-use Rattle.graph_dot.proofs.Going.{and_then}
-use Rattle.graph_dot.proofs.cells.then_cell.Goals as goal
-
-pub returns : goal.returns
-returns g c =
-    rw c.cell-cell.ensures
-    (and_then c.then_node_name.ensures (and_then c.text.ensures.gathers (and_then c.then_node_name-2.ensures c.text-2.ensures.gathers)))

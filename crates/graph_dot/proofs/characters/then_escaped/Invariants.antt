@@ -1,8 +1,0 @@
-use Rattle.std.proofs.Common.{take, flat_map}
-use Rattle.gathered_line.specs.Gathering.{GathersTo}
-use Rattle.graph_dot.specs.Characters.{escape}
-use Rattle.graph_dot.proofs.characters.then_escaped.Given as goal
-
-abbrev pub invariant-bytes : goal.invariant-bytes
-invariant-bytes g l = GathersTo (g.O.Sink.seen l.fn.out) (g.O.Sink.seen l.out)
-    l.fn.line l.line (flat_map escape (take l.i l.bytes))

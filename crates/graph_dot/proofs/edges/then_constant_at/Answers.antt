@@ -1,5 +1,0 @@
-use Rattle.graph_dot.proofs.Going.{and_then}
-use Rattle.graph_dot.proofs.edges.then_constant_at.Goals as goal
-
-pub returns : goal.returns
-returns g c = and_then c.then_constant.ensures (and_then c.then_constant_name.ensures c.then_edge_end.ensures)

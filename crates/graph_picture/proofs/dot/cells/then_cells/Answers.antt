@@ -1,0 +1,16 @@
+use Rattle.std.proofs.Common.{◌≡◌, length, add-one, arith}
+use Rattle.op_graph.specs.Lists.{cells}
+use Rattle.graph_picture.proofs.DotGoing.{and_then, unmoved}
+use Rattle.graph_picture.proofs.dot.cells.then_cells.Goals as goal
+
+pub cells-init : goal.cells-init
+cells-init g c = unmoved
+
+pub cells-preserved : goal.cells-preserved
+cells-preserved g c = rw (add-one c.cells.k) (and_then c.cells.invariant c.then_cell.ensures)
+
+pub returns : goal.returns
+returns g c =
+    let all : c.cells.k ≡ length (cells c.args.graph.now) =
+    omega (arith, c.cells-test.false, c.cells.auto.k-end, c.cells-k-end.ensures.count) in
+    rw all at c.cells.invariant

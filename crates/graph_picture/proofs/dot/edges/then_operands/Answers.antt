@@ -1,0 +1,16 @@
+use Rattle.std.proofs.Common.{ap, ◌++◌, ◌∙◌, [], flat_map}
+use Rattle.graph_picture.specs.Drawn.{wire_of}
+use Rattle.graph_picture.specs.DotText.{wire_text}
+use Rattle.graph_picture.proofs.DotGoing.{and_then, same, more}
+use Rattle.graph_picture.proofs.dot.edges.then_operands.Goals as goal
+
+pub returns : goal.returns
+returns g c =
+    let op = c.operation-op.result in
+    let drawn = wire_text c.args.graph.now c.args.weights.now c.args.distances in
+    let all = and_then c.then_wire.ensures (and_then c.then_wire-2.ensures c.then_wire-3.ensures) in
+    let first = wire_of [] c.args.n op 0 in
+    let second = wire_of [] c.args.n op 1 in
+    let third = wire_of [] c.args.n op 2 in
+    rw c.operation-op.ensures
+    (same all (more drawn first (second ++ third) ∙ ap (λ t. flat_map drawn first ++ t) (more drawn second third)))

@@ -1,0 +1,11 @@
+use Rattle.graph_picture.specs.DotText.{head, named, source, blindness}
+use Rattle.std.proofs.Common.{codes}
+use Rattle.graph_picture.proofs.DotGoing.{and_then, same, in_four}
+use Rattle.graph_picture.proofs.dot.labels.then_label.Goals as goal
+
+pub returns : goal.returns
+returns g c =
+    let op = c.args.op.now in
+    let graph = c.args.graph.now in
+    same (and_then c.then_head.ensures (and_then c.then_named.ensures (and_then c.then_source.ensures c.then_blindness.ensures)))
+    (in_four (head c.args.n op.kind) (named graph op) (source (codes "\n") op.spot) (blindness graph c.args.colour))

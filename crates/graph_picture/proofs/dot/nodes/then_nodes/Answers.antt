@@ -1,0 +1,29 @@
+use Rattle.std.proofs.Common.{◌≡◌, ◌++◌, ◌∙◌, ap, [], length, flat_map, arith}
+use Rattle.std.proofs.lemmas.List.{append-nil}
+use Rattle.svg_text.specs.Drawing.{each_below}
+use Rattle.graph_picture.specs.Arrangement.{place_at}
+use Rattle.graph_picture.specs.Colours.{colours}
+use Rattle.graph_picture.specs.Drawn.{box_at, box_drawn}
+use Rattle.graph_picture.specs.DotText.{box_text}
+use Rattle.graph_picture.proofs.DotGoing.{and_then, same, one_more, unmoved}
+use Rattle.graph_picture.proofs.dot.nodes.then_nodes.Goals as goal
+
+pub operations-init : goal.operations-init
+operations-init g c = unmoved
+
+pub operations-preserved : goal.operations-preserved
+operations-preserved g c =
+    let graph = c.args.graph.now in
+    let n = c.operations.n in
+    let looks = colours graph c.args.weights.now c.args.distances in
+    let boxes = box_at graph looks [] in
+    let drawn = rw (c.colour_of-colour.ensures, c.outputs.ensures) at c.then_node.ensures in
+    same (and_then c.operations.invariant drawn)
+    (one_more (box_text graph) boxes n ∙ ap (λ t. flat_map (box_text graph) (each_below boxes n) ++ t)
+    (ap (λ o. flat_map (box_text graph) (box_drawn graph n (looks n) (place_at [] n) o)) c.operation.ensures ∙ append-nil _))
+
+pub returns : goal.returns
+returns g c =
+    let all : c.operations.n ≡ length c.args.graph.now.operations =
+    omega (arith, c.operations-test.false, c.operations.auto.n-end, c.len-n-end.ensures.count) in
+    rw all at c.operations.invariant

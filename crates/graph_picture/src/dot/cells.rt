@@ -1,0 +1,31 @@
+//! The edges of cells.
+
+ghost use Rattle.std.specs.Prelude.{◌≡◌, ◌<◌, length, slice_get};
+ghost use Rattle.vcp_outside.specs.Gathering.{GathersTo};
+ghost use Rattle.op_graph.specs.Lists.{cells};
+ghost use Rattle.graph_picture.specs.DotText.{cell_text, cells_below};
+
+use crate::dot::nodes::then_node_name;
+use op_graph::Graph;
+use vcp_outside::{Line, Sink};
+
+/// Goes on with the edge of cell `k`.
+fn then_cell<O: Sink>(line: &mut Line, out: &mut O, graph: &Graph, k: u32)
+    requires { k < length (cells graph.now) }
+    ensures { GathersTo (O.seen out.old) (O.seen out.new) line.old line.new (cell_text (slice_get (cells graph.now) k)) }
+{
+    let cell = graph.cell(k);
+    then_node_name(line, out, cell.store);
+    line.text(out, b" -> ");
+    then_node_name(line, out, cell.load);
+    line.text(out, b" [ style=\"dashed\" constraint=\"false\" ];\n");
+}
+
+/// Goes on with the edges of a graph's cells.
+pub(crate) fn then_cells<O: Sink>(line: &mut Line, out: &mut O, graph: &Graph)
+    ensures { GathersTo (O.seen out.old) (O.seen out.new) line.old line.new (cells_below graph.now (length (cells graph.now))) }
+{
+    'cells: for k in 0..graph.cells() {
+        then_cell(line, out, graph, k);
+    }
+}

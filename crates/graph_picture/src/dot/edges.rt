@@ -1,0 +1,146 @@
+//! The edges from operands to their readers.
+
+ghost use Rattle.std.specs.Prelude.{◌≡◌, ◌<◌, ◌≤◌, ◌+◌, [], length, flat_map, slice_get};
+ghost use Rattle.vcp_outside.specs.Gathering.{GathersTo};
+ghost use Rattle.op_graph.specs.Reads.{named};
+ghost use Rattle.graph_picture.specs.Drawn.{wire_of, wires_of, wires_below};
+ghost use Rattle.graph_picture.specs.DotText.{node_name, edge_line, edge_end, constant_text, reading_text, wire_text};
+
+use crate::dot::nodes::{then_constant, then_constant_name, then_node_name};
+use crate::{Colour, colour_of, is_constant};
+use op_graph::{Graph, Op, reads_operation};
+use vcp_outside::{Line, Sink};
+use weight_audit::Weights;
+
+/// Goes on with an edge behind the node from which it comes.
+fn then_edge_end<O: Sink>(line: &mut Line, out: &mut O, reader: u32, which: u32)
+    ensures { GathersTo (O.seen out.old) (O.seen out.new) line.old line.new (edge_end reader which) }
+{
+    line.text(out, b" -> ");
+    then_node_name(line, out, reader);
+    line.text(out, b" [ headlabel=\"");
+    line.count(out, which as u64);
+    line.text(out, b"\" ];\n");
+}
+
+/// Goes on with the edge from operation `n` to operation `reader`, which reads it as its operand `which`.
+fn then_edge<O: Sink>(line: &mut Line, out: &mut O, n: u32, reader: u32, which: u32)
+    ensures { GathersTo (O.seen out.old) (O.seen out.new) line.old line.new (edge_line (node_name n) reader which) }
+{
+    then_node_name(line, out, n);
+    then_edge_end(line, out, reader, which);
+}
+
+/// Goes on with a constant at its reader, and the edge from it.
+fn then_constant_at<O: Sink>(
+    line: &mut Line,
+    out: &mut O,
+    graph: &Graph,
+    n: u32,
+    colour: Colour,
+    op: &Op,
+    reader: u32,
+    which: u32,
+)
+    ensures { GathersTo (O.seen out.old) (O.seen out.new) line.old line.new
+        (constant_text graph.now n colour op.now reader which) }
+{
+    then_constant(line, out, graph, n, colour, op, reader, which);
+    then_constant_name(line, out, reader, which);
+    then_edge_end(line, out, reader, which);
+}
+
+/// Goes on with the line from operation `n` to its reader.
+fn then_reading<O: Sink>(
+    line: &mut Line,
+    out: &mut O,
+    graph: &Graph,
+    weights: &Weights,
+    distances: u32,
+    n: u32,
+    reader: u32,
+    which: u32,
+)
+    requires operations { weights.now.operations ≡ length graph.now.operations }
+    requires outputs { length weights.now.outputs ≡ length graph.now.outputs }
+    requires distances { distances ≤ weights.now.horizon + 1 }
+    ensures { GathersTo (O.seen out.old) (O.seen out.new) line.old line.new
+        (reading_text graph.now weights.now distances n (slice_get graph.now.operations n) reader which) }
+{
+    if n < graph.len() {
+        let op = graph.operation(n);
+        if is_constant(op.kind) {
+            let colour = colour_of(weights, n, graph.outputs(), distances);
+            then_constant_at(line, out, graph, n, colour, &op, reader, which);
+        } else {
+            then_edge(line, out, n, reader, which);
+        }
+    } else {
+        then_edge(line, out, n, reader, which);
+    }
+}
+
+/// Goes on with the line to operand `j` of operation `n`, which is operation `k`, where it is one.
+fn then_wire<O: Sink>(
+    line: &mut Line,
+    out: &mut O,
+    graph: &Graph,
+    weights: &Weights,
+    distances: u32,
+    n: u32,
+    op: &Op,
+    j: u32,
+    k: u32,
+)
+    requires operations { weights.now.operations ≡ length graph.now.operations }
+    requires outputs { length weights.now.outputs ≡ length graph.now.outputs }
+    requires distances { distances ≤ weights.now.horizon + 1 }
+    requires names { named op.now j ≡ k }
+    ensures { GathersTo (O.seen out.old) (O.seen out.new) line.old line.new
+        (flat_map (wire_text graph.now weights.now distances) (wire_of [] n op.now j)) }
+{
+    if reads_operation(op.kind, j) {
+        then_reading(line, out, graph, weights, distances, k, n, j);
+    }
+}
+
+/// Goes on with the lines to the operands of operation `n`.
+fn then_operands<O: Sink>(
+    line: &mut Line,
+    out: &mut O,
+    graph: &Graph,
+    weights: &Weights,
+    distances: u32,
+    n: u32,
+)
+    requires there { n < length graph.now.operations }
+    requires operations { weights.now.operations ≡ length graph.now.operations }
+    requires outputs { length weights.now.outputs ≡ length graph.now.outputs }
+    requires distances { distances ≤ weights.now.horizon + 1 }
+    ensures { GathersTo (O.seen out.old) (O.seen out.new) line.old line.new
+        (flat_map (wire_text graph.now weights.now distances) (wires_of [] n (slice_get graph.now.operations n))) }
+{
+    let op = graph.operation(n);
+    then_wire(line, out, graph, weights, distances, n, &op, 0, op.a);
+    then_wire(line, out, graph, weights, distances, n, &op, 1, op.b);
+    then_wire(line, out, graph, weights, distances, n, &op, 2, op.c);
+}
+
+/// Goes on with the lines to the operands of a graph's operations.
+pub(crate) fn then_edges<O: Sink>(
+    line: &mut Line,
+    out: &mut O,
+    graph: &Graph,
+    weights: &Weights,
+    distances: u32,
+)
+    requires operations { weights.now.operations ≡ length graph.now.operations }
+    requires outputs { length weights.now.outputs ≡ length graph.now.outputs }
+    requires distances { distances ≤ weights.now.horizon + 1 }
+    ensures { GathersTo (O.seen out.old) (O.seen out.new) line.old line.new
+        (flat_map (wire_text graph.now weights.now distances) (wires_below graph.now [] (length graph.now.operations))) }
+{
+    'operations: for n in 0..graph.len() {
+        then_operands(line, out, graph, weights, distances, n);
+    }
+}

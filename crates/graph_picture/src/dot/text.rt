@@ -1,0 +1,78 @@
+//! The text of a graph.
+
+ghost use Rattle.std.specs.Prelude.{◌≡◌, ◌≤◌, ◌+◌, [], length};
+ghost use Rattle.vcp_outside.specs.Written.{WritesTo};
+ghost use Rattle.vcp_base.specs.Limits.{most_horizon};
+ghost use Rattle.vcp_outside.specs.Gathering.{GathersTo};
+ghost use Rattle.weight_audit.specs.Audit.{IsAudit};
+ghost use Rattle.graph_picture.specs.Colours.{colours};
+ghost use Rattle.graph_picture.specs.Drawn.{drawing};
+ghost use Rattle.graph_picture.specs.DotText.{beginning, drawing_text, dot_text};
+
+use crate::dot::cells::then_cells;
+use crate::dot::edges::then_edges;
+use crate::dot::nodes::then_nodes;
+use op_graph::Graph;
+use vcp_outside::{Failed, Line, Sink};
+use weight_audit::Weights;
+
+/// Goes on with how all is drawn, and what the colours mean.
+fn then_beginning<O: Sink>(line: &mut Line, out: &mut O)
+    ensures { GathersTo (O.seen out.old) (O.seen out.new) line.old line.new beginning }
+{
+    line.text(out, b"digraph {\n");
+    line.text(
+        out,
+        b"graph [ rankdir=\"LR\" nodesep=\"0.15\" ranksep=\"0.3\" fontname=\"monospace\" fontsize=\"9\" ];\n",
+    );
+    line.text(
+        out,
+        b"graph [ label=\"red: blind for the output that it names, so many cycles later; grey: reaches no output\" ];\n",
+    );
+    line.text(
+        out,
+        b"node [ fontname=\"monospace\" fontsize=\"9\" style=\"filled\" margin=\"0.06\" width=\"0\" height=\"0\" ];\n",
+    );
+    line.text(
+        out,
+        b"edge [ fontname=\"monospace\" fontsize=\"8\" arrowsize=\"0.5\" labeldistance=\"1.4\" ];\n",
+    );
+}
+
+/// Goes on with the nodes, the edges and the cells of a graph.
+fn then_graph<O: Sink>(
+    line: &mut Line,
+    out: &mut O,
+    graph: &Graph,
+    weights: &Weights,
+    distances: u32,
+)
+    requires operations { weights.now.operations ≡ length graph.now.operations }
+    requires outputs { length weights.now.outputs ≡ length graph.now.outputs }
+    requires distances { distances ≤ weights.now.horizon + 1 }
+    ensures { GathersTo (O.seen out.old) (O.seen out.new) line.old line.new
+        (drawing_text graph.now weights.now distances (drawing graph.now (colours graph.now weights.now distances) [])) }
+{
+    then_nodes(line, out, graph, weights, distances);
+    then_edges(line, out, graph, weights, distances);
+    then_cells(line, out, graph);
+}
+
+/// Writes a graph, whose weights up to the horizon, of at most 1000 cycle borders, these are, as a text for Graphviz. It takes no memory. After
+/// `Failed` a part of the text is written.
+pub fn write_dot<O: Sink>(
+    out: &mut O,
+    graph: &Graph,
+    weights: &Weights,
+    horizon: u32,
+) -> Result<(), Failed>
+    requires horizon { horizon ≤ most_horizon }
+    requires audit { IsAudit graph.now horizon weights.now }
+    ensures { WritesTo (O.seen out.old) (O.seen out.new) (dot_text graph.now weights.now horizon) result }
+{
+    let mut line = Line::new();
+    then_beginning(&mut line, out);
+    then_graph(&mut line, out, graph, weights, horizon + 1);
+    line.text(out, b"}");
+    line.end(out)
+}

@@ -1,5 +1,0 @@
-//! Tests of instruction lists: what is answered of a text.
-#![tactic(auto)]
-
-#[cfg(test)]
-mod answers;

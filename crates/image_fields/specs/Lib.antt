@@ -1,4 +1,0 @@
-pub mod Pieces
-pub mod Codes
-pub mod Fields
-pub mod Entries

@@ -1,5 +1,0 @@
-pub mod GroupCalls
-pub mod GroupLines
-pub mod GroupRuns
-pub mod PairCampaigns
-pub mod PairVerdicts

@@ -1,0 +1,129 @@
+use Rattle.std.proofs.Common.{◌≡◌, length, subst, sym, ap, ◌∙◌, arith}
+use Rattle.std.proofs.lemmas.Result.{err_from_is_err_and}
+use Rattle.std.proofs.lemmas.List.{length-replicate}
+use Rattle.input_rows.specs.RowsOf.{RowsLeft}
+use Rattle.op_graph.specs.Lists.{Lists}
+use Rattle.pair_channel.specs.declared.pair_end.PairEnd.TheVariants as ends
+use Rattle.pair_channel.specs.PairDone.{PairIsThere}
+use Rattle.pair_channel.proofs.Exits.{memory_exit, row_exit, last_exit, cycle_exit, write_exit}
+use Rattle.pair_channel.proofs.There.{is_there, stops_log}
+use Rattle.pair_channel.proofs.UpTo.{up_to_first, up_to_next, cycles_left}
+use Rattle.pair_channel.proofs.run.run_rows.Goals as goal
+
+pub returns-in_err-inputs-clause-rows : goal.returns-in_err-inputs-clause-rows
+returns-in_err-inputs-clause-rows g c =
+    let p = err_from_is_err_and c.from_residual.result c.from_residual.ensures.1 in
+    let laws = c.pairs_follow_their_answers.ensures in
+    let old = c.args.pair.now in
+    rw (p.1, p.2)
+    (memory_exit laws c.args.graph.now old.first.table old.second.table c.args.rows.now c.args.rows.now _ _ old
+    (up_to_first laws c.args.graph.now old.first.table old.second.table c.args.rows.now _ old c.requires.fresh))
+
+pub returns-in_err-outputs-clause-rows : goal.returns-in_err-outputs-clause-rows
+returns-in_err-outputs-clause-rows g c =
+    let p = err_from_is_err_and c.from_residual-in_err-outputs.result c.from_residual-in_err-outputs.ensures.1 in
+    let laws = c.pairs_follow_their_answers.ensures in
+    let old = c.args.pair.now in
+    rw (p.1, p.2)
+    (memory_exit laws c.args.graph.now old.first.table old.second.table c.args.rows.now c.args.rows.now _ _ old
+    (up_to_first laws c.args.graph.now old.first.table old.second.table c.args.rows.now _ old c.requires.fresh))
+
+pub cycles-init : goal.cycles-init
+cycles-init g c =
+    let laws = c.pairs_follow_their_answers.ensures in
+    let old = c.args.pair.now in
+    record {
+      laws = laws;
+      inputs = ap length c.in_ok-inputs.ensures ∙ length-replicate _ _ ∙ c.inputs.ensures ∙ sym c.requires.width;
+      outputs = ap length c.in_ok-outputs.ensures ∙ length-replicate _ _ ∙ c.outputs.ensures;
+      so_far = up_to_first laws c.args.graph.now old.first.table old.second.table c.args.rows.now _ old c.requires.fresh;
+    }
+
+pub next-requires : goal.next-requires
+next-requires g c = c.cycles.invariant.inputs
+
+pub returns-in_err-next-clause-rows : goal.returns-in_err-next-clause-rows
+returns-in_err-next-clause-rows g c =
+    let p = err_from_is_err_and c.from_residual-in_err-next.result c.from_residual-in_err-next.ensures.1 in
+    let old = c.args.pair.now in
+    let so_far = c.cycles.invariant in
+    rw (p.1, p.2)
+    (row_exit so_far.laws c.args.graph.now old.first.table old.second.table c.args.rows.now c.cycles.rows _ _ c.cycles.pair c.in_err-next.field-0.0
+    so_far.so_far c.in_err-next.ensures.refusal)
+
+pub run_cycle-requires-clause-going : goal.run_cycle-requires-clause-going
+run_cycle-requires-clause-going g c = c.cycles.invariant.so_far.run.going
+
+pub run_cycle-requires-clause-between : goal.run_cycle-requires-clause-between
+run_cycle-requires-clause-between g c = c.cycles.invariant.so_far.between
+
+pub run_cycle-requires-clause-few : goal.run_cycle-requires-clause-few
+run_cycle-requires-clause-few g c =
+    let old = c.args.pair.now in
+    let one = c.in_ok-next.ensures.row c.if-branch.true in
+    cycles_left c.args.graph.now old.first.table old.second.table c.args.rows.now c.cycles.rows c.next.new.self _ _ c.cycles.pair c.next.new.out
+    c.cycles.invariant.so_far c.requires.few one
+
+pub run_cycle-requires-clause-width : goal.run_cycle-requires-clause-width
+run_cycle-requires-clause-width g c = c.cycles.invariant.outputs ∙ ap (λ (x : Lists). length x.outputs) (sym c.cycles.invariant.so_far.run.first.graph)
+
+pub returns-in_err-end-clause-rows : goal.returns-in_err-end-clause-rows
+returns-in_err-end-clause-rows g c =
+    let p = err_from_is_err_and c.from_residual-in_err-end.result c.from_residual-in_err-end.ensures.1 in
+    let old = c.args.pair.now in
+    let so_far = c.cycles.invariant in
+    let one = c.in_ok-next.ensures.row c.if-branch.true in
+    let cycle = c.in_err-end.ensures in
+    rw (p.1, p.2)
+    (write_exit so_far.laws c.args.graph.now old.first.table old.second.table c.args.rows.now c.cycles.rows c.next.new.self _ _ _ c.cycles.pair
+    c.run_cycle.new.pair c.next.new.out _ _ so_far.so_far one cycle.turn cycle.written.part cycle.written.cause.failed cycle.written.cause.later)
+
+pub cycles-smaller : goal.cycles-smaller
+cycles-smaller g c = omega (arith, ap (λ (x : RowsLeft). length x.rows) (c.in_ok-next.ensures.row c.if-branch.true))
+
+pub cycles-preserved : goal.cycles-preserved
+cycles-preserved g c =
+    let old = c.args.pair.now in
+    let so_far = c.cycles.invariant in
+    let one = c.in_ok-next.ensures.row c.if-branch.true in
+    let cycle = c.in_ok-end.ensures in
+    record {
+      laws = so_far.laws;
+      inputs = c.next.ensures.width ∙ so_far.inputs ∙ ap (λ (x : RowsLeft). length x.types) one;
+      outputs = cycle.width ∙ so_far.outputs;
+      so_far = up_to_next so_far.laws c.args.graph.now old.first.table old.second.table c.args.rows.now c.cycles.rows c.next.new.self _ _ _ c.cycles.pair
+          c.run_cycle.new.pair c.next.new.out _ _ c.in_ok-end.end so_far.so_far c.in-Released.is one cycle.turn cycle.between cycle.written.whole
+          cycle.written.cause.later;
+    }
+
+pub returns-in_default-clause-rows : goal.returns-in_default-clause-rows
+returns-in_default-clause-rows g c =
+    let old = c.args.pair.now in
+    let so_far = c.cycles.invariant in
+    let one = c.in_ok-next.ensures.row c.if-branch.true in
+    let cycle = c.in_ok-end.ensures in
+    cycle_exit so_far.laws c.args.graph.now old.first.table old.second.table c.args.rows.now c.cycles.rows c.next.new.self _ _ _ c.cycles.pair
+    c.run_cycle.new.pair c.next.new.out _ _ c.in_ok-end.end so_far.so_far c.in_default.not-Released one cycle.turn cycle.written.whole
+    cycle.written.cause.later
+
+pub returns-in_default-clause-there : goal.returns-in_default-clause-there
+returns-in_default-clause-there g c = λ e is.
+    let run = c.cycles.invariant.so_far.run in
+    let same : c.in_ok-end.end ≡ e = cc in
+    subst (PairIsThere c.args.graph.now) same
+    (is_there c.entries_keep_their_rules.ensures c.args.graph.now c.cycles.pair c.run_cycle.new.pair c.next.new.out _ _ c.in_ok-end.end _ _ _ _
+    c.len-operations.ensures.rules run.first.graph run.second.graph c.in_ok-end.ensures.turn)
+
+pub returns-in_default-clause-stopped : goal.returns-in_default-clause-stopped
+returns-in_default-clause-stopped g c = λ op why is.
+    let run = c.cycles.invariant.so_far.run in
+    let stopped : c.in_ok-end.end ≡ ends.Stopped op why = cc in
+    stops_log c.entries_keep_their_rules.ensures c.args.graph.now c.cycles.pair c.run_cycle.new.pair c.next.new.out _ _ c.in_ok-end.end op why _ _ _ _ _ _
+    c.len-operations.ensures.rules run.first.graph c.in_ok-end.ensures.turn stopped run.first.carried.told
+
+pub returns-clause-rows : goal.returns-clause-rows
+returns-clause-rows g c =
+    let old = c.args.pair.now in
+    let so_far = c.cycles.invariant in
+    let none = c.in_ok-next.ensures.end c.if-branch.false in
+    last_exit so_far.laws c.args.graph.now old.first.table old.second.table c.args.rows.now c.cycles.rows _ _ c.cycles.pair so_far.so_far none.0 none.1

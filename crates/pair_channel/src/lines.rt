@@ -1,0 +1,97 @@
+//! The lines of a cycle in which the channels of a pair disagree. Each call writes one line to a sink and takes no memory. It answers `Failed`
+//! only where the sink's count of faults rose, and then a part of the line is written.
+
+ghost use Rattle.vcp_outside.specs.Written.{WritesTo};
+ghost use Rattle.vcp_outside.specs.Gathering.{GathersTo};
+ghost use Rattle.pair_channel.specs.PairDone.{IsNumbered};
+ghost use Rattle.pair_channel.specs.PairLines.{channel_text, differ_text, parted_text, refused_output_text, operation_text};
+
+use coded_machine::CycleEnd;
+use op_graph::Graph;
+use run_report::output_name;
+use vcp_base::{Residue, StopKind, Text, stop_name};
+use vcp_outside::{Failed, Line, Sink, begin};
+
+// Goes on with the number of an operation that stopped, and why.
+fn then_operation<O: Sink>(line: &mut Line, out: &mut O, op: u32, kind: StopKind)
+    ensures { GathersTo (O.seen out.old) (O.seen out.new) line.old line.new (operation_text op kind) }
+{
+    line.count(out, op as u64);
+    line.text(out, b" ");
+    line.text(out, stop_name(kind));
+}
+
+// Goes on with an output that is refused, the residue that was found and the expected one.
+fn then_refusal<O: Sink>(
+    line: &mut Line,
+    out: &mut O,
+    name: &Text,
+    found: Residue,
+    expected: Residue,
+)
+    ensures { GathersTo (O.seen out.old) (O.seen out.new) line.old line.new (refused_output_text name.now found expected) }
+{
+    line.text(out, b"refused ");
+    line.text(out, name.bytes());
+    line.text(out, b" found ");
+    line.count(out, found);
+    line.text(out, b" expected ");
+    line.count(out, expected);
+}
+
+// Goes on with how a channel ended a cycle.
+fn then_channel<O: Sink>(line: &mut Line, out: &mut O, graph: &Graph, end: &CycleEnd)
+    requires { IsNumbered graph.now end.now }
+    ensures { GathersTo (O.seen out.old) (O.seen out.new) line.old line.new (channel_text graph.now end.now) }
+{
+    match *end {
+        CycleEnd::Released => line.text(out, b"released"),
+        CycleEnd::Stopped { op, kind } => then_operation(line, out, op, kind),
+        CycleEnd::Refused {
+            output,
+            found,
+            expected,
+        } => then_refusal(line, out, output_name(graph, output), found, expected),
+    }
+}
+
+/// Writes that the channels ended a cycle, which is counted from 0, in these ways. An output that is refused is one of the graph's. After
+/// `Failed` a part of the line is written.
+pub fn parted_line<O: Sink>(
+    out: &mut O,
+    cycle: u32,
+    graph: &Graph,
+    first: &CycleEnd,
+    second: &CycleEnd,
+) -> Result<(), Failed>
+    requires first { IsNumbered graph.now first.now }
+    requires second { IsNumbered graph.now second.now }
+    ensures { WritesTo (O.seen out.old) (O.seen out.new) (parted_text graph.now cycle first.now second.now) result }
+{
+    let mut line = begin(out, b"parted ", cycle);
+    line.text(out, b" first ");
+    then_channel(&mut line, out, graph, first);
+    line.text(out, b" second ");
+    then_channel(&mut line, out, graph, second);
+    line.end(out)
+}
+
+/// Writes that the output of this name has these values in a cycle, which is counted from 0. After `Failed` a part of the line is written.
+pub fn differ_line<O: Sink>(
+    out: &mut O,
+    cycle: u32,
+    name: &Text,
+    first: i64,
+    second: i64,
+) -> Result<(), Failed>
+    ensures { WritesTo (O.seen out.old) (O.seen out.new) (differ_text name.now cycle first second) result }
+{
+    let mut line = begin(out, b"differ ", cycle);
+    line.text(out, b" ");
+    line.text(out, name.bytes());
+    line.text(out, b" first ");
+    line.value(out, first);
+    line.text(out, b" second ");
+    line.value(out, second);
+    line.end(out)
+}

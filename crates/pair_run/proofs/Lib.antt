@@ -1,6 +1,0 @@
-pub mod Done
-pub mod Exits
-pub mod Last
-pub mod Processor
-pub mod There
-pub mod UpTo

@@ -1,9 +1,0 @@
-use Rattle.std.proofs.Common.{append_assoc}
-use Rattle.gathered_line.proofs.Gathering.{gathered_same}
-use Rattle.pair_run.proofs.lines.then_operation.Goals as goal
-
-pub returns : goal.returns
-returns g c start before text is =
-    let op = c.text.ensures.gathers _ _ _ (c.count.ensures.gathers start before text is) in
-    let kind = rw c.stop_name.ensures at (c.text-2.ensures.gathers _ _ _ op) in
-    gathered_same kind (simp append_assoc)

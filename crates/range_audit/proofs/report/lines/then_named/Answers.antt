@@ -1,0 +1,7 @@
+use Rattle.range_audit.proofs.Going.{and_then}
+use Rattle.range_audit.proofs.report.lines.then_named.Goals as goal
+
+pub returns : goal.returns
+returns g c =
+    let why = rw c.stop_name.ensures at c.text-2.ensures.gathers in
+    and_then c.then_front.ensures (and_then c.text.ensures.gathers (and_then why (and_then c.then_operands.ensures c.then_place.ensures)))

@@ -1,0 +1,121 @@
+//! What is told of a graph's operations, written line by line.
+
+ghost use Rattle.std.specs.Prelude.{◌≡◌, ◌<◌, [], cond, length, slice_get};
+ghost use Rattle.vcp_outside.specs.Written.{WritesTo};
+ghost use Rattle.vcp_outside.specs.Gathering.{GathersTo};
+ghost use Rattle.range_audit.specs.RangeText.{named_text, known_text, lines_of, lines_below, ranges_text};
+
+use crate::report::counts::{count_able, count_named, stops_of};
+use crate::report::lines::{then_known, then_named};
+use crate::{Range, Ranges};
+use op_graph::{Graph, Op};
+use vcp_base::StopKind;
+use vcp_outside::{Failed, Line, Sink};
+
+/// Goes on with the line of the range of operation `i`, which is `op`, where all are told.
+fn then_known_if<O: Sink>(
+    line: &mut Line,
+    out: &mut O,
+    graph: &Graph,
+    known: &[Range],
+    i: u32,
+    op: &Op,
+    all: bool,
+)
+    requires { slice_get graph.now.operations i ≡ Some op.now }
+    ensures { GathersTo (O.seen out.old) (O.seen out.new) line.old line.new (cond all (known_text graph.now known.now i op.now) []) }
+{
+    if all {
+        then_known(line, out, graph, known, i, op);
+    }
+}
+
+/// Goes on with the line that operation `i`, which is `op`, may stop so, where it may.
+fn then_named_if<O: Sink>(
+    line: &mut Line,
+    out: &mut O,
+    graph: &Graph,
+    known: &[Range],
+    i: u32,
+    op: &Op,
+    why: StopKind,
+    may: bool,
+)
+    requires { slice_get graph.now.operations i ≡ Some op.now }
+    ensures { GathersTo (O.seen out.old) (O.seen out.new) line.old line.new (cond may (named_text graph.now known.now i op.now why) []) }
+{
+    if may {
+        then_named(line, out, graph, known, i, op, why);
+    }
+}
+
+/// Goes on with the lines of operation `i`.
+fn then_operation<O: Sink>(
+    line: &mut Line,
+    out: &mut O,
+    graph: &Graph,
+    ranges: &Ranges,
+    i: u32,
+    all: bool,
+)
+    requires there { i < length graph.now.operations }
+    requires stops { length ranges.now.stops ≡ length graph.now.operations }
+    ensures { GathersTo (O.seen out.old) (O.seen out.new) line.old line.new
+        (lines_of all graph.now ranges.now.known i (slice_get graph.now.operations i) (slice_get ranges.now.stops i)) }
+{
+    let op = graph.operation(i);
+    let stops = stops_of(ranges, i);
+    let known = ranges.known();
+    then_known_if(line, out, graph, known, i, &op, all);
+    then_named_if(
+        line,
+        out,
+        graph,
+        known,
+        i,
+        &op,
+        StopKind::Range,
+        stops.range,
+    );
+    then_named_if(
+        line,
+        out,
+        graph,
+        known,
+        i,
+        &op,
+        StopKind::DivZero,
+        stops.div_zero,
+    );
+}
+
+/// Goes on with the lines of the operations.
+fn then_operations<O: Sink>(line: &mut Line, out: &mut O, graph: &Graph, ranges: &Ranges, all: bool)
+    requires { length ranges.now.stops ≡ length graph.now.operations }
+    ensures { GathersTo (O.seen out.old) (O.seen out.new) line.old line.new (lines_below all graph.now ranges.now (length graph.now.operations)) }
+{
+    'operations: for i in 0..graph.len() {
+        then_operation(line, out, graph, ranges, i, all);
+    }
+}
+
+/// Writes a line for each way in which an operation may stop, in order, and before these, where `all` are told, one with the range of
+/// each operation; at last how many may stop, of how many that can by their kinds and types. It takes no memory. After `Failed` a part
+/// of the text is written.
+pub fn write_ranges<O: Sink>(
+    out: &mut O,
+    graph: &Graph,
+    ranges: &Ranges,
+    all: bool,
+) -> Result<(), Failed>
+    requires { length ranges.now.stops ≡ length graph.now.operations }
+    ensures { WritesTo (O.seen out.old) (O.seen out.new) (ranges_text all graph.now ranges.now) result }
+{
+    let mut line = Line::new();
+    then_operations(&mut line, out, graph, ranges, all);
+    line.text(out, b"may stop ");
+    line.count(out, count_named(graph, ranges) as u64);
+    line.text(out, b" of ");
+    line.count(out, count_able(graph) as u64);
+    line.end(out)
+}

@@ -1,5 +1,0 @@
-use Rattle.range_report.proofs.Going.{and_then}
-use Rattle.range_report.proofs.lines.then_operands.Goals as goal
-
-pub returns : goal.returns
-returns g c = and_then c.then_operand.ensures c.then_operand-2.ensures

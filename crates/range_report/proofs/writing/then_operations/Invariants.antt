@@ -1,6 +1,0 @@
-use Rattle.gathered_line.specs.Gathering.{GathersTo}
-use Rattle.range_report.specs.RangeText.{lines_below}
-use Rattle.range_report.proofs.writing.then_operations.Given as goal
-
-abbrev pub invariant-operations : goal.invariant-operations
-invariant-operations g l = GathersTo (g.O.Sink.seen l.fn.out) (g.O.Sink.seen l.out) l.fn.line l.line (lines_below l.all l.graph l.ranges l.i)

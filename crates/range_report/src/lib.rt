@@ -1,9 +1,0 @@
-//! The lines that say which operations of a graph may stop, and between which ends the values of operations are.
-#![tactic(auto)]
-
-mod counts;
-mod lines;
-mod writing;
-
-pub use counts::count_named;
-pub use writing::write_ranges;

@@ -1,8 +1,0 @@
-use Rattle.std.proofs.Common.{sym, ◌∙◌, arith}
-use Rattle.same_endings.proofs.Found.{differ_end}
-use Rattle.same_endings.proofs.ending.words_differ.Goals as goal
-
-pub returns : goal.returns
-returns c =
-    sym (c.words.invariant
-    ∙ differ_end c.args.words.now c.args.others.now c.words.i (omega (arith, c.words-test.false, c.min-i-end.ensures)))

@@ -1,7 +1,0 @@
-use Rattle.std.proofs.Common.{◌≡◌, drop}
-use Rattle.std.specs.List.{list_any}
-use Rattle.same_endings.specs.Endings.{comes_to}
-use Rattle.same_endings.proofs.run.comes_to_any.Given as goal
-
-abbrev pub invariant-faults : goal.invariant-faults
-invariant-faults l = list_any (comes_to l.cycle l.answers) l.group ≡ list_any (comes_to l.cycle l.answers) (drop l.i l.group)

@@ -1,0 +1,101 @@
+//! The first line of a script.
+
+ghost use Rattle.std.specs.Prelude.{◌≡◌, ◌≢◌, Some, Ok, Err, IfOk, IfErr, IfSome};
+ghost use Rattle.script_text.specs.Words.{words as words_of};
+ghost use Rattle.telegram.specs.WireRun.{IsWire};
+ghost use Rattle.telegram.specs.Forms.{wire_with as wire_with_of, wire_if as wire_if_of, wire_of, head_of, names_wire as names_wire_of};
+ghost use Rattle.telegram.specs.declared.script.wire_fault.WireFault.TheVariants as refusal;
+
+use crate::Wire;
+use crate::script::numbers::{number_below, number_between, numbers};
+use crate::script::wire_fault::WireFault;
+use script_text::WordsLeft;
+use std::alloc::Global;
+use vcp_base::{MOST_CYCLES, MOST_STEP, Row, SEEDS};
+
+/// How many senders a wire has at most.
+const MOST_SENDERS: u32 = 16;
+
+// The wire of five numbers, where each is in its range.
+fn wire_with(senders: i64, listen: i64, age: i64, seed: i64, step: i64) -> Option<Wire>
+    ensures wire { result ≡ wire_with_of senders listen age seed step }
+    ensures fits { IfSome result IsWire }
+{
+    let senders = number_between(1, MOST_SENDERS, senders)?;
+    let listen = number_below(senders, listen)?;
+    let age = number_below(MOST_CYCLES, age)?;
+    let seed = number_below(SEEDS, seed)?;
+    let step = number_between(1, MOST_STEP as u32, step)?;
+    Some(Wire {
+        senders,
+        listen,
+        age,
+        seed,
+        step: step as u16,
+    })
+}
+
+// The wire of five numbers, unless one is out of its range.
+fn wire_if(
+    line: u32,
+    senders: i64,
+    listen: i64,
+    age: i64,
+    seed: i64,
+    step: i64,
+) -> Result<Wire, WireFault>
+    ensures wire { result ≡ wire_if_of line senders listen age seed step }
+    ensures fits { IfOk result IsWire }
+{
+    match wire_with(senders, listen, age, seed, step) {
+        Some(wire) => Ok(wire),
+        None => Err(WireFault::Range { line }),
+    }
+}
+
+// The wire of these numbers.
+#[tactic(auto, using(crate::proofs::Heads::not_five))]
+fn wire(line: u32, numbers: &Row) -> Result<Wire, WireFault>
+    ensures wire { result ≡ wire_of line (Some numbers.now) }
+    ensures fits { IfOk result IsWire }
+{
+    if numbers.len() != 5 {
+        return Err(WireFault::Form { line });
+    }
+    wire_if(
+        line,
+        numbers.at(0),
+        numbers.at(1),
+        numbers.at(2),
+        numbers.at(3),
+        numbers.at(4),
+    )
+}
+
+/// The wire of a line of this number.
+#[tactic(auto, using(crate::proofs::Heads::head_is, crate::proofs::Heads::head_refused))]
+pub fn head(alloc: Global, line: u32, text: &[u8]) -> Result<Wire, WireFault>
+    ensures wire { IfOk result (λ w. head_of line (words_of text.now) ≡ Ok w) }
+    ensures refusal { IfErr result (λ f. f ≢ refusal.Memory → head_of line (words_of text.now) ≡ Err f) }
+    ensures fits { IfOk result IsWire }
+{
+    let mut words = WordsLeft::new(text);
+    let Some(verb) = words.next() else {
+        return Err(WireFault::Form { line });
+    };
+    if verb != b"wire".as_slice() {
+        return Err(WireFault::Form { line });
+    }
+    let numbers = numbers(alloc, line, &mut words)?;
+    wire(line, &numbers)
+}
+
+/// Whether the first word of a line is `wire`.
+pub fn names_wire(text: &[u8]) -> bool
+    ensures { result ≡ names_wire_of (words_of text.now) }
+{
+    match WordsLeft::new(text).next() {
+        None => false,
+        Some(verb) => verb == b"wire".as_slice(),
+    }
+}

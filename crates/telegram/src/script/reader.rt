@@ -1,0 +1,95 @@
+//! The script of a text.
+
+ghost use Rattle.std.specs.Prelude.{◌≡◌, ◌≢◌, ◌≤◌, ◌+◌, ℕ, length, Ok, Err, IfOk, IfErr};
+ghost use Rattle.std.specs.List.{list_any};
+ghost use Rattle.std.specs.Str.Lines.{lines};
+ghost use Rattle.vcp_base.specs.Limits.{most_source_bytes};
+ghost use Rattle.script_text.specs.Lines.{read_lines};
+ghost use Rattle.telegram.specs.WireRun.{AreEvents, IsWire};
+ghost use Rattle.telegram.specs.ScriptOf.{AreSent, ScriptFits, begun_after, events_of, is_head, script_of};
+ghost use Rattle.telegram.specs.declared.script.wire_fault.WireFault.TheVariants as refusal;
+
+use crate::script::events::Events;
+use crate::script::head::{head, names_wire};
+use crate::script::lines::event;
+use crate::script::script::Script;
+use crate::script::wire_fault::WireFault;
+use crate::{Event, Wire};
+use script_text::first_read;
+use std::alloc::Global;
+
+// Whether a line of a text has `wire` as its first word.
+#[tactic(auto, using(crate::proofs::Heads::head_here, crate::proofs::Heads::no_head_here, crate::proofs::Heads::no_head_left))]
+fn has_head(bytes: &[u8]) -> bool
+    requires { length bytes.now ≤ most_source_bytes }
+    ensures { result ≡ list_any is_head (read_lines 1 (lines bytes.now)) }
+{
+    let mut rest = bytes;
+    let mut number = 0;
+    'lines: while let Some((at, line, more)) = first_read(rest, number) {
+        if names_wire(line) {
+            return true;
+        }
+        number = at;
+        rest = more;
+    }
+    false
+}
+
+// How many cycles begin with an event.
+fn begins(event: &Event) -> u32
+    ensures after { (begun : ℕ) → begun_after begun event.now ≡ begun + result }
+    ensures few { result ≤ 1 }
+{
+    match event {
+        Event::Cycle { .. } => 1,
+        Event::Deliver { .. } => 0,
+    }
+}
+
+// The events of the lines of a text before which so many lines stand.
+#[tactic(auto, using(crate::proofs::Reading::nothing_read, crate::proofs::Reading::one_event, crate::proofs::Reading::refused_line, crate::proofs::Reading::all_read, crate::proofs::Reading::none_read, crate::proofs::Reading::one_read))]
+fn events(alloc: Global, wire: &Wire, bytes: &[u8], before: u32) -> Result<Events, WireFault>
+    requires wire { IsWire wire.now }
+    requires short { before + length bytes.now ≤ most_source_bytes }
+    ensures events { IfOk result (λ es. events_of wire.now 0 (read_lines (before + 1) (lines bytes.now)) ≡ Ok es) }
+    ensures refusal { IfErr result (λ f. f ≢ refusal.Memory → events_of wire.now 0 (read_lines (before + 1) (lines bytes.now)) ≡ Err f) }
+    ensures fits { IfOk result (AreEvents wire.now) }
+    ensures sent { IfOk result (AreSent 0) }
+{
+    let mut events = Events::new(alloc);
+    let mut rest = bytes;
+    let mut number = before;
+    let mut begun = 0;
+    'lines: while let Some((at, line, more)) = first_read(rest, number) {
+        let event = event(alloc, wire, begun, at, line)?;
+        begun += begins(&event);
+        events.push(event)?;
+        number = at;
+        rest = more;
+    }
+    Ok(events)
+}
+
+/// The script of a text of at most 1,048,576 bytes, or its first refused line. `Memory` where there is no
+/// room for it.
+///
+/// A text in which no line has `wire` as its first word is refused at line 1. A line is refused as `Form`,
+/// `Range` or `Unsent`, in this order.
+#[tactic(auto, using(crate::proofs::Reading::head_fails, crate::proofs::Reading::said, crate::proofs::Reading::nothing_said, crate::proofs::Reading::with_head, crate::proofs::Reading::without_head))]
+pub fn read_wire(alloc: Global, bytes: &[u8]) -> Result<Script, WireFault>
+    requires { length bytes.now ≤ most_source_bytes }
+    ensures script { IfOk result (λ script. script_of bytes.now ≡ Ok script) }
+    ensures refusal { IfErr result (λ f. f ≢ refusal.Memory → script_of bytes.now ≡ Err f) }
+    ensures fits { IfOk result ScriptFits }
+{
+    if !has_head(bytes) {
+        return Err(WireFault::Form { line: 1 });
+    }
+    let Some((number, line, more)) = first_read(bytes, 0) else {
+        return Err(WireFault::Form { line: 1 });
+    };
+    let wire = head(alloc, number, line)?;
+    let events = events(alloc, &wire, more, number)?;
+    Ok(Script { wire, events })
+}

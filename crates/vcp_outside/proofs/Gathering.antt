@@ -1,0 +1,54 @@
+-- What is in a line after a step.
+use Rattle.std.proofs.Common.{◌≡◌, ℕ, List, [], ◌++◌, Option, Result, Ok, Err, OnErr, IsErr, ◌∙◌, refl}
+use Rattle.std.proofs.lemmas.Bool.{false≢true}
+use Rattle.std.proofs.lemmas.List.{append-nil}
+use Rattle.vcp_outside.specs.declared.failed.Failed.{Failed}
+use Rattle.vcp_outside.specs.Written.{Writes}
+use Rattle.vcp_outside.specs.Gathering.{Gathered, IsGathered}
+
+-- what was pending is written
+pub flushed : (start old new : Option (List ℕ)) (before f g : ℕ) (text pending : List ℕ) (line : Gathered) (r : Result (Unit {0}) Failed)
+    → IsGathered start old before f text line → pending ≡ []
+    → ((front : List ℕ) → Writes start old before f front line.so_far → Writes start new before g (front ++ line.pending) r)
+    → IsGathered start new before g (text ++ []) (record { pending = pending; so_far = r })
+flushed start old new before f g text pending line r is none goes = record {
+  front = is.front ++ line.pending;
+  joined = rw (none, is.joined) refl;
+  written = goes is.front is.written;
+}
+
+-- nothing is pending, and a piece is written at once
+pub written_at_once : (start old new : Option (List ℕ)) (before f g : ℕ) (text piece pending : List ℕ) (line : Gathered) (r : Result (Unit {0}) Failed)
+    → IsGathered start old before f (text ++ []) line → line.pending ≡ [] → pending ≡ []
+    → ((front : List ℕ) → Writes start old before f front line.so_far → Writes start new before g (front ++ piece) r)
+    → IsGathered start new before g (text ++ piece) (record { pending = pending; so_far = r })
+written_at_once start old new before f g text piece pending line r is none none_now goes =
+    let joined : text ≡ is.front = rw (none, append-nil text, append-nil is.front) at is.joined in
+    record {
+      front = is.front ++ piece;
+      joined = rw (none_now, append-nil, joined) refl;
+      written = goes is.front is.written;
+    }
+
+-- nothing is pending, so that the text is written
+pub written_all : {start now : Option (List ℕ)} {before f : ℕ} {text : List ℕ} {line : Gathered}
+    → IsGathered start now before f (text ++ []) line → line.pending ≡ [] → Writes start now before f text line.so_far
+written_all {text = text} {line = line} is none =
+    let joined : text ≡ is.front = rw (none, append-nil text, append-nil is.front) at is.joined in
+    rw joined is.written
+
+-- the same text, written otherwise
+pub gathered_same : {start now : Option (List ℕ)} {before f : ℕ} {text other : List ℕ} {line : Gathered}
+    → IsGathered start now before f text line → other ≡ text → IsGathered start now before f other line
+gathered_same is same = rw same is
+
+-- the same bytes, written otherwise
+pub written_same : {T E : Type 0} {start now : Option (List ℕ)} {before f : ℕ} {bytes other : List ℕ} {r : Result T E}
+    → Writes start now before f bytes r → other ≡ bytes → Writes start now before f other r
+written_same written is = rw is written
+
+-- what doesn't change after a failure in one step nor in the next doesn't change in both
+pub unchanged_on : {A T E : Type 0} (a b c : A) (r s : Result T E) → OnErr r (b ≡ a) → (IsErr r → IsErr s) → OnErr s (c ≡ b) → OnErr r (c ≡ a)
+unchanged_on a b c (Ok v) s first failed second = tt
+unchanged_on a b c (Err e) (Ok v) first failed second = absurd (false≢true (failed refl))
+unchanged_on a b c (Err e) (Err f) first failed second = second ∙ first

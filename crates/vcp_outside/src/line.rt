@@ -1,0 +1,144 @@
+//! A line on its way to a sink.
+
+ghost use Rattle.std.specs.Prelude.{◌≡◌, ◌+◌, ◌≤◌, ℕ, List, [], ◌++◌, Option, length, decimal, codes, IsErr, OnErr};
+ghost use Rattle.std.specs.Fmt.{signed_decimal};
+ghost use Rattle.vcp_outside.specs.Written.{Writes};
+ghost use Rattle.vcp_outside.specs.Gathering.{IsGathered, GathersTo};
+
+use crate::{Failed, Sink, write_all};
+use arrayvec::ArrayVec;
+use itoa::Buffer;
+use std::marker::Model;
+
+/// How many bytes of a line are gathered before they are written.
+pub const ROOM: usize = 256;
+
+/// A line on its way to a sink, whose pieces are gathered in `ROOM` bytes on the stack. They are
+/// written where the next piece doesn't fit behind them, and at the line's end; a piece of more than
+/// `ROOM` bytes is written by itself. After a write that failed nothing more is written. A line is
+/// seen as the bytes that are still to be written, and how the writes before them went.
+#[derive(Drop)]
+pub struct Line {
+    pending: ArrayVec<u8, ROOM>,
+    so_far: Result<(), Failed>,
+}
+
+impl Model for Line {
+    ghost use Rattle.vcp_outside.specs.Gathering.{Gathered};
+
+    ghost Value = { Gathered };
+
+    ghost view = { λ l. record { pending = l.pending.items; so_far = l.so_far } };
+}
+
+// Goes on with a piece, unless an earlier write failed.
+fn then<O: Sink>(out: &mut O, so_far: Result<(), Failed>, piece: &[u8]) -> Result<(), Failed>
+    ensures writes { (start : Option (List ℕ)) (before : ℕ) (text : List ℕ) → Writes start (O.seen out.old).written before (O.seen out.old).faults text so_far
+        → Writes start (O.seen out.new).written before (O.seen out.new).faults (text ++ piece.now) result }
+    ensures after_failure { OnErr so_far (out.new ≡ out.old) }
+    ensures stays_failed { IsErr so_far → IsErr result }
+{
+    match so_far {
+        Ok(()) => write_all(out, piece),
+        Err(Failed) => Err(Failed),
+    }
+}
+
+impl Line {
+    /// A line without bytes, of which nothing was written.
+    pub fn new() -> Line
+        ensures empty { result.pending ≡ [] }
+        ensures begun { (written : Option (List ℕ)) (faults : ℕ) → IsGathered written written faults faults [] result }
+    {
+        Line {
+            pending: ArrayVec::new(),
+            so_far: Ok(()),
+        }
+    }
+
+    // Writes what is pending.
+    fn flush<O: Sink>(&mut self, out: &mut O)
+        ensures empty { self.new.pending ≡ [] }
+        ensures gathers { GathersTo (O.seen out.old) (O.seen out.new) self.old self.new [] }
+        ensures after_failure { OnErr self.old.so_far (out.new ≡ out.old) }
+        ensures stays_failed { IsErr self.old.so_far → IsErr self.new.so_far }
+    {
+        self.so_far = then(out, self.so_far, self.pending.as_slice());
+        self.pending.clear();
+    }
+
+    /// Goes on with these bytes. Nothing is written where there is room for them.
+    pub fn text<O: Sink>(&mut self, out: &mut O, bytes: &[u8])
+        ensures gathers { GathersTo (O.seen out.old) (O.seen out.new) self.old self.new bytes.now }
+        ensures unwritten { length self.old.pending + length bytes.now ≤ ROOM → out.new ≡ out.old }
+        ensures kept { length self.old.pending + length bytes.now ≤ ROOM → self.new ≡ record self.old { pending = self.old.pending ++ bytes.now } }
+        ensures after_failure { OnErr self.old.so_far (out.new ≡ out.old) }
+        ensures stays_failed { IsErr self.old.so_far → IsErr self.new.so_far }
+    {
+        if self.pending.try_extend_from_slice(bytes).is_ok() {
+            return;
+        }
+        self.flush(out);
+        if self.pending.try_extend_from_slice(bytes).is_err() {
+            self.so_far = then(out, self.so_far, bytes);
+        }
+    }
+
+    /// Goes on with a number in decimal digits.
+    pub fn count<O: Sink>(&mut self, out: &mut O, n: u64)
+        ensures gathers { GathersTo (O.seen out.old) (O.seen out.new) self.old self.new (decimal n) }
+        ensures unwritten { length self.old.pending + length (decimal n) ≤ ROOM → out.new ≡ out.old }
+        ensures kept { length self.old.pending + length (decimal n) ≤ ROOM → self.new ≡ record self.old { pending = self.old.pending ++ decimal n } }
+        ensures after_failure { OnErr self.old.so_far (out.new ≡ out.old) }
+        ensures stays_failed { IsErr self.old.so_far → IsErr self.new.so_far }
+    {
+        self.text(out, Buffer::new().format(n).as_bytes());
+    }
+
+    /// Goes on with a number in decimal digits, after `-` where it is negative.
+    pub fn value<O: Sink>(&mut self, out: &mut O, v: i64)
+        ensures gathers { GathersTo (O.seen out.old) (O.seen out.new) self.old self.new (signed_decimal v) }
+        ensures unwritten { length self.old.pending + length (signed_decimal v) ≤ ROOM → out.new ≡ out.old }
+        ensures kept { length self.old.pending + length (signed_decimal v) ≤ ROOM
+            → self.new ≡ record self.old { pending = self.old.pending ++ signed_decimal v } }
+        ensures after_failure { OnErr self.old.so_far (out.new ≡ out.old) }
+        ensures stays_failed { IsErr self.old.so_far → IsErr self.new.so_far }
+    {
+        self.text(out, Buffer::new().format(v).as_bytes());
+    }
+
+    /// Goes on with a number of 128 bits in decimal digits, after `-` where it is negative.
+    pub fn long_value<O: Sink>(&mut self, out: &mut O, number: i128)
+        ensures gathers { GathersTo (O.seen out.old) (O.seen out.new) self.old self.new (signed_decimal number) }
+        ensures unwritten { length self.old.pending + length (signed_decimal number) ≤ ROOM → out.new ≡ out.old }
+        ensures kept { length self.old.pending + length (signed_decimal number) ≤ ROOM
+            → self.new ≡ record self.old { pending = self.old.pending ++ signed_decimal number } }
+        ensures after_failure { OnErr self.old.so_far (out.new ≡ out.old) }
+        ensures stays_failed { IsErr self.old.so_far → IsErr self.new.so_far }
+    {
+        self.text(out, Buffer::new().format(number).as_bytes());
+    }
+
+    /// Ends the line with LF, and writes what is pending. It fails where a write of the line failed,
+    /// and then a part of the line is written.
+    pub fn end<O: Sink>(mut self, out: &mut O) -> Result<(), Failed>
+        ensures writes { (start : Option (List ℕ)) (before : ℕ) (text : List ℕ) → IsGathered start (O.seen out.old).written before (O.seen out.old).faults text self
+            → Writes start (O.seen out.new).written before (O.seen out.new).faults (text ++ codes "\n") result }
+        ensures after_failure { OnErr self.so_far (out.new ≡ out.old) }
+        ensures stays_failed { IsErr self.so_far → IsErr result }
+    {
+        self.text(out, b"\n");
+        self.flush(out);
+        self.so_far
+    }
+}
+
+/// A line that begins with a word and a number, by its first two pieces.
+pub fn begin<O: Sink>(out: &mut O, word: &[u8], number: u32) -> Line
+    ensures { IsGathered (O.seen out.old).written (O.seen out.new).written (O.seen out.old).faults (O.seen out.new).faults (word.now ++ decimal number) result }
+{
+    let mut line = Line::new();
+    line.text(out, word);
+    line.count(out, number as u64);
+    line
+}

@@ -1,2 +1,0 @@
-mod FaultRows
-mod Going

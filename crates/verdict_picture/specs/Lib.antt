@@ -1,3 +1,0 @@
-pub mod FaultsText
-pub mod Looks
-pub mod WorstVerdict

@@ -1,0 +1,47 @@
+use Rattle.std.proofs.Common.{◌≡◌, ◌+◌, ◌++◌, ◌∷◌, [], List, true, false, sym, ap, ◌∙◌, arith, drop, length}
+use Rattle.std.proofs.lemmas.List.{length-append}
+use Rattle.coded_unit.specs.declared.call.Answer.{Answer}
+use Rattle.coded_machine.specs.Calls.{is_word}
+use Rattle.verdict_tables.specs.AnswersOver.{all_words, answers_from, next_answer}
+use Rattle.verdict_tables.specs.Begun.{setting, acts, past}
+use Rattle.verdict_tables.proofs.EndingsGoing.{goes_further, goes_no_further, words_and}
+use Rattle.verdict_tables.proofs.endless.cycle.run_cycle.Goals as goal
+
+pub operations-preserved : goal.operations-preserved
+operations-preserved c =
+    let i = c.operations.invariant in
+    let b = c.args.b.now in
+    let ops = b.graph.now.operations in
+    let own = c.operations.own.items in
+    let op = c.operation-op.result in
+    let a : Answer = c.next_answer-answer.result in
+    let word : is_word a ≡ true = sym c.is_word.ensures ∙ c.if-not-is_word.false in
+    let is = c.next_answer-answer.ensures ∙ ap (λ (xs : List Answer). next_answer (setting b) (acts b) (past b) xs op) c.deref.ensures.value in
+    record {
+      answers = i.answers
+          ∙ (goes_further (setting b) (acts b) (past b) own ops c.operations.k op a c.operation-op.ensures is word
+          ∙ ap (λ (xs : List Answer). xs ++ answers_from (setting b) (acts b) (past b) xs (drop (c.operations.k + 1) ops)) (sym c.append.ensures.items));
+      answered = ap length c.append.ensures.items ∙ (length-append own (a ∷ []) ∙ omega (arith, i.answered));
+      words = ap all_words c.append.ensures.items ∙ words_and own a true word i.words;
+      room = omega (arith, i.room, c.append.ensures.capacity);
+      all = i.all;
+    }
+
+pub returns-then-not-is_word-clause-answers : goal.returns-then-not-is_word-clause-answers
+returns-then-not-is_word-clause-answers c =
+    let i = c.operations.invariant in
+    let b = c.args.b.now in
+    let own = c.operations.own.items in
+    let op = c.operation-op.result in
+    let a : Answer = c.next_answer-answer.result in
+    let no_word : is_word a ≡ false = sym c.is_word.ensures ∙ c.if-not-is_word.true in
+    let is = c.next_answer-answer.ensures ∙ ap (λ (xs : List Answer). next_answer (setting b) (acts b) (past b) xs op) c.deref.ensures.value in
+    c.append.ensures.items
+    ∙ sym (i.answers ∙ goes_no_further (setting b) (acts b) (past b) own b.graph.now.operations c.operations.k op a c.operation-op.ensures is no_word)
+
+pub returns-then-not-is_word-clause-words : goal.returns-then-not-is_word-clause-words
+returns-then-not-is_word-clause-words c =
+    let i = c.operations.invariant in
+    let a : Answer = c.next_answer-answer.result in
+    let no_word : is_word a ≡ false = sym c.is_word.ensures ∙ c.if-not-is_word.true in
+    sym (ap all_words c.append.ensures.items ∙ words_and c.operations.own.items a false no_word i.words)

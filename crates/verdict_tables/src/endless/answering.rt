@@ -1,0 +1,143 @@
+//! The answer of one operation of a run under a group of faults.
+
+ghost use Rattle.std.specs.Prelude.{◌≡◌, ◌<◌, ◌≤◌, ◌==◌, ◌&&◌, Some, length, slice_get};
+ghost use Rattle.vcp_base.specs.Limits.{most_cycles, most_operations};
+ghost use Rattle.coded_unit.specs.Asked.{Asked};
+ghost use Rattle.op_graph.specs.Reads.{named as named_of};
+ghost use Rattle.signature_table.specs.Signatures.{IsTableOf};
+ghost use Rattle.coded_machine.specs.Calls.{call_of, read_word};
+ghost use Rattle.fault_script.specs.Changes.{acts_of};
+ghost use Rattle.fault_runs.specs.RunLaw.{taken as taken_of};
+ghost use Rattle.fault_runs.specs.Scripts.{right_by};
+ghost use Rattle.verdict_tables.specs.AnswersOver.{next_answer as next_answer_of};
+ghost use Rattle.verdict_tables.specs.Begun.{setting, acts, past};
+
+use coded_machine::{Setting, call_after, cell_at, word_at};
+use coded_unit::{Answer, Call, Word, table};
+use fault_runs::{answered, changed};
+use fault_script::{Act, Fault, Group};
+use op_graph::{Graph, Op};
+use signature_table::Table;
+use vcp_base::{Kind, Row};
+
+/// What a cycle begins with.
+#[derive(Clone, Copy)]
+pub(crate) struct Begun<'c> {
+    /// The operations, and what belongs to them.
+    pub graph: &'c Graph,
+    /// The numbers of the graph's code.
+    pub table: &'c Table,
+    /// The faults.
+    pub group: &'c Group,
+    /// The number of the cycle.
+    pub cycle: u32,
+    /// The values of the inputs.
+    pub row: &'c Row,
+    /// The words of the cells.
+    pub held: &'c [Word],
+    /// The words that the cells had in the cycle before.
+    pub past_held: &'c [Word],
+    /// The answers of the cycle before.
+    pub past: &'c [Answer],
+}
+
+/// The operation that operand `j` of an operation reads.
+fn named(op: &Op, j: u32) -> u32
+    ensures { result ≡ named_of op.now j }
+{
+    match j {
+        0 => op.a,
+        1 => op.b,
+        _ => op.c,
+    }
+}
+
+/// The word that operand `j` of an operation read in the cycle before.
+fn read_before(b: &Begun<'_>, op: &Op, j: u32) -> Word
+    ensures { result ≡ read_word b.now.past_held.now b.now.past.now op.now.kind op.now.imm (named_of op.now j) }
+{
+    match op.kind {
+        Kind::Load => cell_at(b.past_held, op.imm.unsigned_abs()),
+        _ => word_at(b.past, named(op, j)),
+    }
+}
+
+/// The word that an act takes at the operation behind these answers.
+fn taken(b: &Begun<'_>, own: &[Answer], op: &Op, act: &Option<Act>) -> Word
+    requires { length own.now ≤ most_operations }
+    ensures { result ≡ taken_of (past b.now) own.now op.now act.now }
+{
+    match act {
+        Some(Act::OperandFrom { j: _, r }) => word_at(own, *r),
+        Some(Act::OperandStale { j }) => read_before(b, op, *j),
+        Some(Act::Skip) => word_at(b.past, own.len() as u32),
+        Some(Act::OperandAdd { j: _, e: _ })
+        | Some(Act::ResultAdd { e: _ })
+        | Some(Act::Operator { kind: _ })
+        | None => Word::ZERO,
+    }
+}
+
+/// Whether a fault stands at an operation in a cycle.
+fn stands_at(fault: &Fault, cycle: u32, op: u32) -> bool
+    ensures { result ≡ (fault.now.cycle == cycle && fault.now.op == op) }
+{
+    fault.cycle == cycle && fault.op == op
+}
+
+/// The act of the first fault of a group at an operation in a cycle, where there is one.
+fn act_at(group: &Group, cycle: u32, op: u32) -> Option<Act>
+    ensures { result ≡ acts_of group.now cycle op }
+{
+    'faults: for i in 0..group.len() {
+        let fault = group.at(i);
+        if stands_at(&fault, cycle, op) {
+            return Some(fault.act);
+        }
+    }
+    None
+}
+
+/// The right answer to a call, but for the change of an act that takes this word.
+fn right_answer(act: &Option<Act>, word: &Word, call: &Call) -> Answer
+    requires { Asked call.now }
+    ensures { result ≡ right_by act.now word.now call.now }
+{
+    match act {
+        Some(act) => answered(act, word, &table::answer(&changed(act, word, call))),
+        None => table::answer(call),
+    }
+}
+
+/// The call of the operation behind these answers, before any change.
+fn next_call(b: &Begun<'_>, op: &Op, own: &[Answer]) -> Call
+    requires here { slice_get b.now.graph.now.operations (length own.now) ≡ Some op.now }
+    requires few { length own.now ≤ most_operations }
+    requires table { IsTableOf b.now.table.now b.now.graph.now }
+    requires cycle { b.now.cycle < most_cycles }
+    ensures call { result ≡ call_of (setting b.now) op.now own.now }
+    ensures asked { Asked result }
+{
+    let setting = Setting {
+        graph: b.graph,
+        table: b.table,
+        held: b.held,
+        row: b.row,
+        cycle: b.cycle,
+    };
+    call_after(&setting, op, own)
+}
+
+/// The answer of operation `op`, which comes behind these answers.
+pub(crate) fn next_answer(b: &Begun<'_>, op: &Op, own: &[Answer]) -> Answer
+    requires here { slice_get b.now.graph.now.operations (length own.now) ≡ Some op.now }
+    requires few { length own.now ≤ most_operations }
+    requires table { IsTableOf b.now.table.now b.now.graph.now }
+    requires cycle { b.now.cycle < most_cycles }
+    ensures { result ≡ next_answer_of (setting b.now) (acts b.now) (past b.now) own.now op.now }
+{
+    let act = act_at(b.group, b.cycle, own.len() as u32);
+    let word = taken(b, own, op, &act);
+    let call = next_call(b, op, own);
+    right_answer(&act, &word, &call)
+}

@@ -1,0 +1,5 @@
+use Rattle.weight_audit.proofs.Joined.{written-behind}
+use Rattle.weight_audit.proofs.report.writing.then_reached.Goals as goal
+
+pub returns-in-Ok : goal.returns-in-Ok
+returns-in-Ok g c start before text written = written-behind c.reached_line.result (rw c.in-Ok.is at written) c.reached_line.ensures

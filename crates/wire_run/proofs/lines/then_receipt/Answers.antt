@@ -1,4 +1,0 @@
-use Rattle.wire_run.proofs.lines.then_receipt.Goals as goal
-
-pub returns-in-Stray : goal.returns-in-Stray
-returns-in-Stray g c = rw c.in-Stray.is (c.then_stray.ensures c.args.number)

@@ -1,4 +1,0 @@
-pub mod Heads
-pub mod LinesFit
-pub mod NumbersRead
-pub mod Reading
