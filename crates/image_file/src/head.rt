@@ -9,7 +9,7 @@ ghost use Rattle.image_file.specs.Codes.{version_of};
 ghost use Rattle.vcp_base.specs.Limits.{most_step, most_operations, most_turn_nodes};
 ghost use Rattle.image_file.specs.Views.{head as head_of};
 
-use crate::{Fault, at_most_here, below_here, u8_at, u16_at, u32_at};
+use crate::fields::{Fault, at_most_here, below_here, u8_at, u16_at, u32_at};
 use vcp_base::{
     MOST_CELLS, MOST_NAMES, MOST_OPERATIONS, MOST_STEP, MOST_TURN_NODES, Profile, SEEDS,
 };

@@ -11,9 +11,9 @@ ghost use Rattle.image_file.specs.Views.{parts};
 ghost use Rattle.image_file.specs.Graphs.{lists_of, HasImage, placed as placed_of, Reads, OrMemory};
 
 use crate::fault::ImageFault;
+use crate::fields::{Fault, ReadError};
 use crate::laws::images_are_told_apart;
 use crate::whole::{Whole, loads_of, read, stores_of};
-use crate::{Fault, ReadError};
 use op_graph::{Graph, GraphLists};
 use signature_table::Table;
 use std::alloc::Global;

@@ -7,7 +7,7 @@ ghost use Rattle.vcp_base.specs.Limits.{most_turn_nodes};
 ghost use Rattle.op_graph.specs.Rules.{Each, OutputFits, LoadFits, StoreFits};
 ghost use Rattle.image_file.specs.Image.{load_of, store_of};
 
-use crate::{Keys, ReadError, cell_of, input_of, name_of, output_of, turn_of};
+use crate::fields::{Keys, ReadError, cell_of, input_of, name_of, output_of, turn_of};
 use op_graph::{Cell, Outlet, TurnNode, Var};
 use std::alloc::Global;
 use vcp_base::{Profile, Text};

@@ -10,9 +10,11 @@ ghost use Rattle.image_file.specs.Fields.{kind_field, type_field, signed, number
 ghost use Rattle.image_file.specs.Image.{corrected, op_by, op_piece, correction_of};
 ghost use Rattle.image_file.specs.Views.{scope_of, said_of, Rising};
 
+use crate::fields::{
+    Fault, ReadError, any_number_here, residue_at, ty_named, u8_at, u32_at, u64_at,
+};
 use crate::scope::Scope;
 use crate::walk::Walk;
-use crate::{Fault, ReadError, any_number_here, residue_at, ty_named, u8_at, u32_at, u64_at};
 use op_graph::{
     Cell, Op, Place, entry_of, from_fits, imm_fits, kind_fits, operand_fits, reads_as, turn_fits,
     ty_fits,

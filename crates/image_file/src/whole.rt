@@ -6,11 +6,11 @@ ghost use Rattle.image_file.specs.Pieces.{Gives, read_all, FaultOf};
 ghost use Rattle.image_file.specs.Image.{load_of, store_of, image_piece};
 ghost use Rattle.image_file.specs.Views.{parts, operations_piece, Rising};
 
+use crate::fields::{Fault, ReadError};
 use crate::head::{Counts, head_here};
 use crate::lists::{cells_of, inputs_of, names_of, outputs_of, turns_of};
 use crate::operation::operations_of;
 use crate::scope::Scope;
-use crate::{Fault, ReadError};
 use op_graph::{Cell, Loaded, Op, Outlet, TurnNode, Var};
 use std::alloc::Global;
 use vcp_base::{Profile, Text};

@@ -13,8 +13,8 @@ ghost use Rattle.image_file.specs.Written.{AddsInput, AddsOutput, AddsCell, Adds
 ghost use Rattle.image_file.specs.Entries.{name_piece};
 ghost use Rattle.image_file.specs.Image.{image_of, counts_piece, head_piece, head_of, parts_of};
 
+use crate::fields::{put_i64, put_kind, put_residue, put_ty, put_u16, put_u32};
 use crate::head::Counts;
-use crate::{put_i64, put_kind, put_residue, put_ty, put_u16, put_u32};
 use op_graph::{Cell, Graph, Op, Outlet, TurnNode, Var};
 use signature_table::Table;
 use std::alloc::{AllocError, Global};
