@@ -17,4 +17,4 @@ mod Spelled
 mod Worked
 pub mod Lists
 pub mod Plain
-pub mod Scripts
+pub mod WrittenScripts

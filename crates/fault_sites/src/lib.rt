@@ -7,9 +7,9 @@
 mod acts;
 mod class;
 mod counts;
+mod digest;
 mod flips;
 mod graph_values;
-mod image_digest;
 mod laws;
 mod lines;
 mod part;
@@ -21,9 +21,9 @@ mod writing;
 
 pub use class::{Class, Classes};
 pub use counts::count_sites;
+pub use digest::image_digest;
 pub use flips::{count_flips, write_flips};
 pub use graph_values::GraphValues;
-pub use image_digest::image_digest;
 pub use laws::{
     a_flip_turns_one_bit, a_line_is_read_back, a_script_is_read_back,
     a_script_of_flips_is_read_back, each_fault_of_a_class_has_a_site, each_flip_stands_once,

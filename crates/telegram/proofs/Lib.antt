@@ -15,7 +15,7 @@ pub mod Counting
 pub mod Ends
 pub mod Growing
 pub mod RunLookups
-pub mod Sending
+pub mod RunSending
 pub mod SoFar
 pub mod Telling
 mod WorkedRuns

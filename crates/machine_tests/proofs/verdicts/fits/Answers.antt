@@ -1,5 +1,5 @@
 use Rattle.std.proofs.Common.{◌≡◌, ◌∙◌, All, List, length, subst, ℕ, ℤ}
-use Rattle.machine_tests.proofs.rerun_tests.verdicts.fits.Goals as goal
+use Rattle.machine_tests.proofs.verdicts.fits.Goals as goal
 
 pub returns : goal.returns
 returns c =

@@ -3,7 +3,7 @@ use Rattle.fault_sites.specs.declared.part.Part.{Part}
 use Rattle.fault_sites.specs.declared.site.Site.{Site}
 use Rattle.fault_sites.specs.Part.{kept}
 use Rattle.fault_sites.specs.Sites.{sites}
-use Rattle.fault_sites.proofs.Scripts.{kept_whole}
+use Rattle.fault_sites.proofs.WrittenScripts.{kept_whole}
 use Rattle.fault_sites.proofs.scripts.of_class.write_chosen_sites.Goals as goal
 
 pub returns-in-All-clause-writes : goal.returns-in-All-clause-writes

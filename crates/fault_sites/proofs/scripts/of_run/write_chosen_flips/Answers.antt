@@ -3,7 +3,7 @@ use Rattle.fault_sites.specs.declared.part.Part.{Part}
 use Rattle.fault_sites.specs.declared.site.Site.{Site}
 use Rattle.fault_sites.specs.Flips.{flips}
 use Rattle.fault_sites.specs.Part.{kept}
-use Rattle.fault_sites.proofs.Scripts.{kept_whole, none_written}
+use Rattle.fault_sites.proofs.WrittenScripts.{kept_whole, none_written}
 use Rattle.fault_sites.proofs.scripts.of_run.write_chosen_flips.Goals as goal
 
 pub returns-in-All-clause-writes : goal.returns-in-All-clause-writes

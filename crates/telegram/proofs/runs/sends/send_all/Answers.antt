@@ -2,7 +2,7 @@ use Rattle.std.proofs.Common.{◌≡◌, ◌+◌, true, List, ℤ, refl, sym, ap
 use Rattle.vcp_base.specs.declared.ty.Ty.TheVariants as ty
 use Rattle.vcp_base.specs.Types.{fits}
 use Rattle.telegram.proofs.Growing.{every_at}
-use Rattle.telegram.proofs.Sending.{Sent, SentSoFar, sent_none, sent_next, sent_cut, sent_all}
+use Rattle.telegram.proofs.RunSending.{Sent, SentSoFar, sent_none, sent_next, sent_cut, sent_all}
 use Rattle.telegram.proofs.runs.sends.send_all.Goals as goal
 
 pub senders-init : goal.senders-init

@@ -1,5 +1,5 @@
 use Rattle.std.proofs.Common.{◌≡◌, ◌≤◌, ◌+◌, ◌-◌, vec_len, vec_capacity}
-use Rattle.telegram.proofs.Sending.{SentSoFar}
+use Rattle.telegram.proofs.RunSending.{SentSoFar}
 use Rattle.telegram.proofs.runs.sends.send_all.Given as goal
 
 abbrev pub invariant-senders : goal.invariant-senders

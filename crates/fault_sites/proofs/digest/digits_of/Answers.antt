@@ -1,7 +1,7 @@
 use Rattle.std.proofs.Common.{arith, ◌≤◌, ℕ, All, List, sym, subst}
 use Rattle.std.specs.Prelude.{IsOk, Result, Ok, Err, OnOk}
 use Rattle.fault_sites.proofs.Plain.{plain}
-use Rattle.fault_sites.proofs.image_digest.digits_of.Goals as goal
+use Rattle.fault_sites.proofs.digest.digits_of.Goals as goal
 
 -- what holds after success, holds where it succeeded
 holds_of : {T E : Type 0} (r : Result T E) (X : Type 0) → IsOk r → OnOk r X → X
