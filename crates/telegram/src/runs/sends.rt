@@ -13,7 +13,7 @@ use coded_unit::{Answer, Unit, Word};
 use vcp_base::Row;
 
 // The word that was answered, where it was one.
-#[tactic(auto, using(crate::proofs::Sending::no_range, crate::proofs::Sending::no_division, crate::proofs::Sending::no_operand))]
+#[tactic(auto, using(crate::proofs::RunSending::no_range, crate::proofs::RunSending::no_division, crate::proofs::RunSending::no_operand))]
 fn word_of(given: &Answer) -> Option<Word>
     ensures some { IfSome result (λ w. given.now ≡ answer.Word w) }
     ensures none { IfNone result (IsNoWord given.now) }
