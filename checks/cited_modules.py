@@ -17,10 +17,11 @@ module may be listed too much, but none is left out.
 """
 import re
 import sys
-from pathlib import Path
+from functools import lru_cache
 
-TOP = Path(__file__).resolve().parent.parent
-CRATES = TOP / "crates"
+sys.dont_write_bytecode = True
+from sources import TOP, read_crates  # noqa: E402
+
 DOCUMENT = TOP / "docs" / "ARCHITECTURE.md"
 HEAD = "Modules of `specs/` that public contracts cite, and behind *views* those that views and invariants alone cite:"
 WIDTH = 150
@@ -29,6 +30,7 @@ WIDTH = 150
 WORD = re.compile(r"[^\s(){}\[\],;.:\"⟦⟧]+|\.(?=\S)")
 
 
+@lru_cache(maxsize=None)
 def words(text):
     """The names in a piece of a definition or contract, those behind a dot with what stands before it."""
     found = []
@@ -42,172 +44,6 @@ def words(text):
     return found
 
 
-def imports_of(text, keyword):
-    """What each name of a file's imports stands for: a module's path and a name in it, or a module alone."""
-    names = {}
-    for path, rest in re.findall(keyword + r"\s+([\w.\-]+?)(?:\.?\{([^}]*)\}|(?=\s+as\s|\s*;|\s*$))", text, re.M):
-        for item in filter(None, (i.strip() for i in rest.split(","))):
-            own, _, other = item.partition(" as ")
-            names[(other or own).strip()] = (path, own.strip())
-    for path, name in re.findall(keyword + r"\s+([\w.\-]+)\s+as\s+([\w.\-']+)", text, re.M):
-        names[name] = (path, None)
-    return names
-
-
-def defined_in(text):
-    """The names that an item defines: of definitions, records, kinds of data and their constructors."""
-    fields_from = None
-    for line in text.split("\n"):
-        indent = len(line) - len(line.lstrip())
-        if line.strip() and fields_from is not None and indent <= fields_from:
-            fields_from = None
-        kind = re.match(r"\s*(?:pub )?(data|record) ([^\s(){}:]+)", line)
-        name = re.match(r"\s*(?:(?:abbrev|unfoldable|opaque|pub) )*([^\s(){}:=.,;]+) :", line)
-        if kind:
-            yield kind.group(2)
-            fields_from = indent if kind.group(1) == "record" else None
-        elif name and fields_from is None:
-            yield name.group(1)
-
-
-class Module:
-    """A module of specs/: its items, and what its imports stand for."""
-
-    def __init__(self, file):
-        text = re.sub(r"--.*", "", file.read_text())
-        self.path = file
-        self.lines = sum(1 for l in text.split("\n") if l.strip() and not re.match(r"(pub )?use ", l))
-        self.imports = imports_of(text, r"(?:pub )?use")
-        self.items = {}
-        self.texts = []
-        item = []
-        for line in text.split("\n") + ["abbrev"]:
-            if re.match(r"(pub |abbrev|unfoldable|mutual|data|record|use |opaque)", line):
-                self.add("\n".join(item))
-                item = []
-            item.append(line)
-
-    def add(self, text):
-        if not text.strip() or re.match(r"(pub )?use ", text):
-            return
-        number = len(self.texts)
-        self.texts.append(text)
-        self.items.update((name, number) for name in defined_in(text) if name not in self.items)
-
-
-def crate_modules(crate):
-    return {f.stem: Module(f) for f in sorted((CRATES / crate / "specs").glob("*.antt")) if f.stem != "Lib"}
-
-
-def braced(text, at):
-    """The text of the braces that open at or behind a place, and the place behind them."""
-    start = text.index("{", at)
-    depth = 0
-    for i in range(start, len(text)):
-        depth += (text[i] == "{") - (text[i] == "}")
-        if depth == 0:
-            return text[start + 1 : i], i + 1
-    raise ValueError("a brace isn't closed")
-
-
-def clauses_of(text):
-    """The requires and ensures of a header."""
-    return "\n".join(braced(text, m.end())[0] for m in re.finditer(r"\b(?:requires|ensures)\b(?: \w+)?(?= *\{)", text))
-
-
-def header(text, at):
-    """The header of a function: all that stands before its body, or before the `;` of one without a body."""
-    depth = 0
-    for m in re.finditer(r"[{};\[\]]|\b(?:requires|ensures|decreases)\b(?: \w+)? *\{", text[at:]):
-        found = m.group()
-        if found in "[]":
-            depth += 1 if found == "[" else -1
-        elif found[-1] == "{" and len(found) > 1:
-            depth += 1
-        elif found == "{":
-            if depth == 0:
-                return text[at : at + m.start()]
-            depth += 1
-        elif found == "}":
-            depth -= 1
-        elif found == ";" and depth == 0:
-            return text[at : at + m.start()]
-    return text[at:]
-
-
-def ghosts_of(text, wanted):
-    """The texts of a block's ghost members with these names."""
-    found = []
-    for m in re.finditer(r"\bghost (\w+)(?: =|:) *\{", text):
-        if wanted(m.group(1)):
-            found.append(braced(text, m.end() - 1)[0])
-    return "\n".join(found)
-
-
-class Crate:
-    """What a crate exports, each item with the text of its contracts and that of its views."""
-
-    def __init__(self, name):
-        self.name = name
-        self.modules = crate_modules(name)
-        self.public = {}
-        self.views = {}
-        self.imports = {}
-        self.file_of = {}
-        lib = CRATES / name / "src" / "lib.rt"
-        if not lib.exists():
-            return
-        top = re.sub(r"//.*", "", lib.read_text())
-        exports = {}
-        for module, listed in re.findall(r"pub use (\w+)::(\{[^}]*\}|[^;]+);", top):
-            for item in filter(None, (i.strip() for i in listed.strip("{}").split(","))):
-                own, _, other = item.partition(" as ")
-                exports[(module, own.strip())] = (other or own).strip()
-        whole = set(re.findall(r"pub mod (\w+);", top))
-        types = {own for _, own in exports}
-        for file in sorted((CRATES / name / "src").glob("**/*.rt")):
-            if "tests" in file.stem or "tests" in file.parts:
-                continue
-            text = re.sub(r"//.*", "", file.read_text())
-            self.read(file.stem, text, exports, whole, types)
-
-    def add(self, where, item, text, file):
-        where[item] = where.get(item, "") + "\n" + text
-        self.file_of.setdefault(item, set()).add(file)
-
-    def read(self, file, text, exports, whole, types):
-        self.imports[file] = imports_of(text, "ghost use")
-        for m in re.finditer(r"^pub (?:const )?fn (\w+)", text, re.M):
-            own = m.group(1)
-            if file in whole or (file, own) in exports:
-                item = exports.get((file, own), own if file not in whole else f"{file}::{own}")
-                self.add(self.public, item, clauses_of(header(text, m.start())), file)
-        for m in re.finditer(r"^pub trait (\w+)", text, re.M):
-            if (file, m.group(1)) in exports:
-                body, _ = braced(text, m.end())
-                self.add(self.public, m.group(1), clauses_of(body) + ghosts_of(body, lambda n: True), file)
-        for m in re.finditer(r"^impl\b([^{]*)\{", text, re.M):
-            said = re.sub(r"<[^<>]*(<[^<>]*>[^<>]*)*>", "", m.group(1)).split(" for ")
-            owner = re.match(r"\s*(\w+)", said[-1])
-            if not owner or owner.group(1) not in types:
-                continue
-            body, _ = braced(text, m.end() - 1)
-            keyword = r"\bfn (\w+)" if len(said) > 1 else r"\bpub (?:const )?fn (\w+)"
-            found = [clauses_of(header(body, f.start())) for f in re.finditer(keyword, body)]
-            found.append(ghosts_of(body, lambda n: n not in ("view", "invariant", "coded", "inverse")))
-            self.add(self.public, owner.group(1), "\n".join(found), file)
-            self.add(self.views, owner.group(1), ghosts_of(body, lambda n: n in ("view", "invariant")), file)
-
-    def seen_as(self, name):
-        """The value as which contracts see a type, which stands among its contracts."""
-        found = []
-        for file in self.file_of[name]:
-            text = re.sub(r"//.*", "", next((CRATES / self.name / "src").glob(f"**/{file}.rt")).read_text())
-            for m in re.finditer(r"^impl\b[^{]*\bModel for " + name + r"\b[^{]*\{", text, re.M):
-                found.append(ghosts_of(braced(text, m.end() - 1)[0], lambda n: n == "Value"))
-        return "\n".join(found)
-
-
 class Reading:
     """The definitions that are reached from contracts."""
 
@@ -219,17 +55,18 @@ class Reading:
 
     def of_module(self, path, name):
         """Goes to a definition, or to the value as which contracts see a type of the code."""
-        parts = path.split(".")
+        parts = path.split(".", 3)
         if parts[0] != "Rattle" or len(parts) < 4:
             return
         if parts[1] not in self.crates:
-            self.of_kit.add((parts[1], parts[3]))
+            self.of_kit.add((parts[1], parts[3].split(".")[0]))
             return
         crate = self.crates[parts[1]]
-        if parts[3] == "declared":
-            if name in crate.public and ("type", parts[1], name) not in self.reached:
-                self.reached.add(("type", parts[1], name))
-                self.of_item(crate, name, crate.seen_as(name))
+        if parts[3].startswith("declared"):
+            path = crate.type_of(name)
+            if path and ("type", parts[1], path) not in self.reached:
+                self.reached.add(("type", parts[1], path))
+                self.of_item(crate, path, crate.seen_as(path))
             return
         module = crate.modules.get(parts[3])
         if module is not None and name in module.items:
@@ -250,13 +87,13 @@ class Reading:
                 if before in imports and imports[before][1] is None:
                     self.of_module(imports[before][0], word)
             elif own is not None and word in own[1].items:
-                self.go(own[0], own[1].path.stem, own[1].items[word])
+                self.go(own[0], own[1].name, own[1].items[word])
             elif word in imports and imports[word][1] is not None:
                 self.of_module(*imports[word])
 
     def of_item(self, crate, item, text):
         for file in crate.file_of[item]:
-            self.follow(text, crate.imports[file])
+            self.follow(text, crate.files[file].imports)
         self.finish()
 
     def finish(self):
@@ -320,12 +157,6 @@ def one_item(crates, wanted):
         total += lines
         print(f"{lines:6} {crate} {module}")
     print(f"{total:6} lines of {len(reading.modules())} modules, without comments, blank lines and imports")
-
-
-def read_crates():
-    """The crates of crates.txt, in its order."""
-    order = [l.split(":")[0].split()[0] for l in (TOP / "crates.txt").read_text().split("\n") if l.strip() and not l.startswith("#")]
-    return {name: Crate(name) for name in order}
 
 
 def main():

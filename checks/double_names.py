@@ -16,7 +16,8 @@ import re
 import sys
 
 sys.dont_write_bytecode = True
-from cited_modules import CRATES, TOP, Reading, read_crates  # noqa: E402
+from cited_modules import Reading  # noqa: E402
+from sources import TOP, is_for_tests, read_crates  # noqa: E402
 
 GLOSSARY = TOP / "docs" / "GLOSSARY.md"
 TOP_CALLS = (("vcp_core", "vcp"), ("vcp_study_core", "vcp_study"), ("coded_unit", "Unit"))
@@ -29,15 +30,13 @@ def of_two(found):
 
 
 def types_of_two_crates(crates):
-    """The types that more than one crate exports, each with its crates."""
+    """The types and traits that more than one crate exports, each with its crates."""
     found = {}
-    for crate in crates:
-        top = CRATES / crate / "src" / "lib.rt"
-        if crate.startswith("worked_") or crate.endswith("_tests") or not top.is_file():
-            continue
-        for exported in re.findall(r"pub use \w+::(\{[^}]*\}|[^;]+);", re.sub(r"//.*", "", top.read_text())):
-            for name in re.findall(r"\b[A-Z]\w*[a-z]\w*(?=\s*(?:,|\}|$))", exported):
-                found.setdefault(name, set()).add(crate)
+    for crate in crates.values():
+        if not crate.name.startswith("worked_") and not is_for_tests(crate.name):
+            for item in crate.items:
+                if item.kind in ("type", "trait"):
+                    found.setdefault(item.path.split("::")[-1], set()).add(crate.name)
     return of_two(found)
 
 

@@ -53,7 +53,7 @@ def defined():
     """The names of definitions in specs/, of all crates, and the fields of records."""
     names = set()
     fields = set()
-    for file in CRATES.glob("*/specs/*.antt"):
+    for file in CRATES.glob("*/specs/**/*.antt"):
         text = without_comments(file, "--")
         names |= set(re.findall(r"^\s*(?:(?:abbrev|unfoldable|opaque|pub|data|record) )*([^\s(){}:=.,;]+)(?= [:({])", text, re.M))
         fields |= set(re.findall(r"^  pub (\w+) :", text, re.M))
