@@ -76,7 +76,8 @@ impl BadUnit {
         self.kept.entry(i)
     }
 
-    /// How many answers so far were not the right ones, up to 2^64 - 1.
+    /// How many answers so far were not the right ones, up to 2^64 - 1. An answer that was set and is the
+    /// right one doesn't count.
     pub fn wrong(&self) -> u64
         ensures value { result ≡ self.now.wrong }
         ensures wrong { result ≡ (⟦<BadUnit as Unit>⟧.seen self.now).wrong }

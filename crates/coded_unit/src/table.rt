@@ -17,6 +17,10 @@ use vcp_base::{Kind, Profile, Residue, StopKind, multiplier, outcome, short_outc
 /// `Range` where the value is outside the call's type, else the word of the value. Its residue comes
 /// from the operands' residues, the correction and the stamp alone, never from the value: what is
 /// wrong with an operand's residue is carried on, times the operand's multiplier.
+///
+/// So operands with residues off by `d_j` give an answer off by the sum of `m_j*d_j`, and the same value or
+/// stop. A call may be asked where its correction is below the `A` of its code, its stamp at most
+/// 1,000,000,000, and its code has words of both its types.
 #[inline(always)]
 pub fn answer(call: &Call) -> Answer
     requires { Asked call.now }

@@ -15,9 +15,10 @@ pub trait Unit {
     /// What is seen of it: its calls with their answers, where they are told, and the count of answers that are not the right ones.
     ghost seen: { Self → UnitSeen };
 
-    /// Does one call that may be asked: its correction is below the constant of its code, its stamp at
-    /// most 1,000,000,000, and it has no LINT in the narrow code. It is the next entry of the log,
-    /// where that is told. The answer may be wrong, and is then counted.
+    /// Does one call that may be asked: its correction is below the constant of its code, its stamp at most
+    /// 1,000,000,000, and it has no LINT in the narrow code. It is the next entry of the log, where that is
+    /// told. The answer may be wrong, and is then counted. The count rises exactly at answers that aren't
+    /// right.
     fn perform(&mut self, call: &Call) -> Answer
         requires { Asked call.now }
         ensures log { GrowsBy (seen self.old).log (seen self.new).log ((call.now, result) ∷ []) }

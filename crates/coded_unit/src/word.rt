@@ -53,7 +53,7 @@ impl Word {
     /// The word of the value 0 and the residue 0.
     pub const ZERO: Word = Word { code: 0 };
 
-    /// The word that is the integer `w`; `None` where |w| is 2^126 or more.
+    /// The word that is the integer `w`; `None` where |w| is 2^126 or more. So it is in both codes.
     pub fn new(w: i128) -> Option<Word>
         ensures { SomeIff result (unsigned_abs w < 2 ^ 126) w }
     {
@@ -352,7 +352,7 @@ fn parts(profile: Profile, code: i128) -> (i128, Residue)
     }
 }
 
-/// The residue of an integer in a code.
+/// The residue of an integer in a code. It is below the constant of the code.
 #[tactic(auto, using(crate::proofs::Modular::modulo_below))]
 pub fn remainder(profile: Profile, code: i128) -> Residue
     ensures value { result ≡ modulo profile code }
