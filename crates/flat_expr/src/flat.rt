@@ -144,8 +144,9 @@ fn has_all(from: Ty, to: Ty) -> bool
 }
 
 impl<'a> Flat<'a> {
-    /// The state before the body of a program, in the program's code: its names and INPUTs are there, and
-    /// the inputs alone are known.
+    /// The state before the body of a program, in the program's code: its names and INPUTs are there, and the
+    /// inputs alone are known. Its operations give each input's value of the row; there is no other
+    /// operation, cell, output, turn node, path condition or constant of a mask.
     pub fn new(alloc: Global, program: &'a Typed) -> Result<Flat<'a>, Memory>
         ensures { IfOk result (λ s. Begins s program.now) }
     {
@@ -218,8 +219,8 @@ impl<'a> Flat<'a> {
         self.turn = turn;
     }
 
-    /// Adds an operation of no input, output or cell, which the rules allow after those that are
-    /// there. Gives its number.
+    /// Adds an operation of no input, output or cell, which the rules allow after those that are there. Gives
+    /// its number. `Full` comes exactly where 65,536 operations are there.
     pub fn push(&mut self, op: Op) -> Result<u32, Build>
         requires fits { OpFits nowhere (length self.old.graph.turn_nodes) self.old.graph.operations op }
         requires code { Admitted self.old.graph.profile op }
@@ -451,6 +452,12 @@ impl<'a> Flat<'a> {
     /// that are there. Gives the number of its value. A widening adds none. A slot that the expression
     /// reads, and that no operation holds, gets its LOAD; every other slot is held as before, after a
     /// refusal too. After one the operations that it added stay, and what was known stays known.
+    ///
+    /// In every cycle in which the path condition is 1, or there is none, the added operations stop as the
+    /// expression's meaning does, with kind, place and turns, or give its value; in every other cycle none of
+    /// them stops. They are at most its Size, beside one LOAD for each slot first read and the two constants
+    /// of the masks, and stand after what is there: nothing before them changes, and no turn node, input,
+    /// output or STORE is added. `Full` comes only where there is no room for so many.
     #[cycle(expr)]
     pub fn expr(&mut self, e: &TExpr) -> Result<u32, Build>
         requires checked { IsExpr self.old.slots (texpr_tree e.now) }
@@ -557,8 +564,9 @@ impl<'a> Flat<'a> {
         self.known[slot as usize] = Some(op);
     }
 
-    /// The slot gets the operation's value where the place is reached: without a path condition it gets
-    /// the operation, and under one a SEL of the old value and the operation's, at the spot.
+    /// The slot gets the operation's value where the place is reached: without a path condition it gets the
+    /// operation, and under one a SEL of the old value and the operation's, at the spot. Its operations are
+    /// added after those that are there, and every other slot is held as before, after a refusal too.
     pub fn assign(&mut self, slot: u32, op: u32, spot: Spot) -> Result<(), Build>
         requires slot { slot < length self.old.slots }
         requires fits { (x : SlotOf) → slice_get self.old.slots slot ≡ Some x → IsA x.ty self.old.graph.operations op }
@@ -607,6 +615,10 @@ impl<'a> Flat<'a> {
     /// output where the output's value isn't known, then the STOREs of the slots' present values. It is
     /// `Full` only where the whole graph has more than 65,536 operations. After a refusal the state is
     /// given up.
+    ///
+    /// What is there stays. The cells that it adds are of outputs that no operation held, each of them has
+    /// one, and the operations that it adds are exactly their LOADs, the OUT of each output, which has the
+    /// output's value, and the STORE of each cell: their number is the one defined.
     pub fn finish(self) -> Result<Graph, Build>
         requires { self.path ≡ None }
         ensures made { IfOk result (λ g. Finishes self.entry g) }
