@@ -25,9 +25,9 @@ fn memory(why: Build) -> Memory
 /// The graph that means the program, of at most as many operations as its Size; `Memory` where there
 /// is no room for it.
 ///
-/// Every branch becomes a path condition and every loop its turns. Over all rows of inputs that fit,
-/// the run of the graph and the run of the program are told the same: the rows of outputs, and the
-/// stop with its kind, its place and its turns.
+/// Every branch becomes a path condition and every loop its turns. Over all rows of inputs that fit, the run
+/// of the graph and the run of the program are told the same: the rows of outputs, and the stop with its
+/// kind, its place and its turns. Want of memory is the only refusal.
 pub fn flatten(alloc: Global, program: &Typed) -> Result<Graph, Memory>
     ensures means { IfOk result (λ g. Means g program.now) }
     ensures few { IfOk result (λ g. length g.operations ≤ size program.now) }
