@@ -13,7 +13,10 @@ use vcp_base::{Kind, Memory, operands};
 /// Replaces each operation that reads CONSTs alone and does not stop by the CONST of its value, with
 /// its spot and its turn. INPUT, LOAD, STORE and OUT stay, and so does what stops: it stops in the run.
 ///
-/// No operation is left that would be replaced. Where memory is wanting the graph is given up.
+/// No operation is left that would be replaced. Where memory is wanting the graph is given up. Over every
+/// list of rows the folded graph has the same rows of outputs and the same end: why it stopped, at which
+/// place and in which turn node. It has the same code, names, inputs, output columns and turn nodes, and no
+/// more operations.
 pub fn fold(alloc: Global, graph: Graph) -> Result<Graph, Memory>
     ensures folded { IfOk result (λ g. g ≡ folded graph) }
     ensures means { IfOk result (λ g. MeansAs graph g) }

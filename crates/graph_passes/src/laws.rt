@@ -10,8 +10,9 @@ use op_graph::{
     operands_are_there,
 };
 
-/// A part of a graph that is closed under what is read means what the graph means, though its
-/// operations and cells are numbered anew.
+/// A part of a graph that is closed under what is read means what the graph means, though its operations and
+/// cells are numbered anew. An operation that is left out can't stop, or is joined to an earlier one that
+/// does the same.
 pub fn closed_parts_mean_the_same()
     ensures { RenumberingLaw }
 {
@@ -41,8 +42,9 @@ pub fn closed_parts_are_graphs()
     entries_keep_their_rules();
 }
 
-/// Where each operation that does what an earlier one does, over the same operands, is joined to the
-/// first of them, what is left is a graph that means the same, in which nothing more can be joined.
+/// Where each operation that does what an earlier one does, over the same operands, is joined to the first of
+/// them, what is left is a graph that means the same, in which nothing more can be joined. INPUT, LOAD, STORE
+/// and OUT are never joined; nothing is folded where nothing was.
 pub fn what_is_shared_means_the_same()
     ensures { SharingLaw }
 {

@@ -27,8 +27,8 @@ fn narrows(from: Ty, to: Ty) -> bool
     }
 }
 
-/// Whether an operation of these types can stop where its operands are in their types. INPUT can: a row
-/// may have any value at its place.
+/// Whether an operation of these types can stop where its operands are in their types. INPUT can: a row may
+/// have any value at its place. So can arithmetic, and CONV to a type that has not all values of the other.
 pub fn can_stop(kind: Kind, from: Ty, to: Ty) -> bool
     ensures { result ≡ can_stop_of kind from to }
 {

@@ -19,7 +19,9 @@ use vcp_base::Memory;
 /// cell of which one is kept, with what they read. What is kept is numbered anew in the old order; all
 /// names and turn nodes stay, and cells that are not kept go.
 ///
-/// No operation is left that would not be kept. Where memory is wanting the graph is given up.
+/// No operation is left that would not be kept. Where memory is wanting the graph is given up. The pruned
+/// graph means what its argument meant; none is left that `fold` replaces, and no two that `share` joins,
+/// where its argument had none.
 pub fn prune(alloc: Global, graph: Graph) -> Result<Graph, Memory>
     ensures pruned { IfOk result (λ g. IsPruned graph g) }
     ensures means { IfOk result (λ g. MeansAs graph g) }

@@ -31,7 +31,9 @@ struct Work {
 /// keeps its place in the source; what reads it reads that one. INPUT, LOAD, STORE and OUT stay. What is
 /// kept is numbered anew in the old order.
 ///
-/// No two operations are left that would be joined. Where memory is wanting the graph is given up.
+/// No two operations are left that would be joined. Where memory is wanting the graph is given up. The shared
+/// graph means what its argument meant, as a folded one does; none is left that `fold` replaces where its
+/// argument had none.
 pub fn share(alloc: Global, graph: Graph) -> Result<Graph, Memory>
     ensures shared { IfOk result (λ g. IsShared graph g) }
     ensures means { IfOk result (λ g. MeansAs graph g) }
