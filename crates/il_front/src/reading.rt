@@ -92,6 +92,11 @@ fn read(alloc: Global, text: &[u8]) -> Result<Typed, IlFault>
 ///
 /// The text has at most 1,048,564 bytes, so that with END_PROGRAM behind it it is a source. Time is linear in the text, but for a
 /// look-up of a name in each instruction.
+///
+/// The program has the head's variables, the hidden ones, and one statement an instruction; over every list
+/// of rows it has the rows and the end of the run on an accumulator. Of faults the first is answered: of
+/// tokens, of the head, of its names, of the first line that has one, of the limits. An instruction list is
+/// answered, or `Memory`.
 pub fn read_il(alloc: Global, text: &[u8]) -> Result<Typed, IlFault>
     requires { length text.now ≤ most_il_bytes }
     ensures ok { IfOk result (IsTypedIl text.now) }
