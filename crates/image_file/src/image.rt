@@ -108,6 +108,10 @@ fn answered(alloc: Global, bytes: &[u8]) -> Result<(Graph, Table), ImageFault>
 ///
 /// Ok exactly where the bytes are such an image: the graph, and its table of that seed and step. Else
 /// the fault at the first place where the format fails, field by field, or `Memory`.
+///
+/// The first place where the format fails: the bytes begin with the spellings of fields, each of which keeps
+/// its rule, and then a field is whole and breaks its rule, at its first byte; or they end within it, which
+/// is `Short` at their end; or there is no next field, which is `Rest` at the first byte that is left.
 pub fn read_image(alloc: Global, bytes: &[u8]) -> Result<(Graph, Table), ImageFault>
     requires { length bytes.now ≤ most_image_bytes }
     ensures answer { Reads bytes.now result }
