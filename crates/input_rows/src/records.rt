@@ -57,8 +57,9 @@ impl<'a> Records<'a> {
         }
     }
 
-    /// Reads the next record, and answers whether there was one. After the end, and after `Memory`,
-    /// each later call gives the same again and changes nothing.
+    /// Reads the next record, and answers whether there was one. After the end, and after `Memory`, each
+    /// later call gives the same again and changes nothing. The records are those that `csv` gives, to their
+    /// end; want of memory is the only refusal.
     pub fn next(&mut self, cells: &mut ByteRecord) -> Result<bool, Memory>
         ensures reads { IfOk result (λ found. Takes self.old.left self.new.left (fields_of cells.new) found) }
         ensures end { IfOk result (λ found. found ≡ false → self.new.ended ≡ true) }

@@ -36,9 +36,9 @@ impl<'a> Model for Rows<'a> {
 impl<'a> Rows<'a> {
     /// The rows of a file's bytes, for these columns: a header, and then a record for each cycle.
     ///
-    /// `Form` where there are no columns, and then `Header` where the first record isn't there or
-    /// isn't each column's name once and nothing else. `Memory` where there is no room. There are no
-    /// more columns than a `u32` counts.
+    /// `Form` where there are no columns, and then `Header` where the first record isn't there or isn't each
+    /// column's name once and nothing else. `Memory` where there is no room. There are no more columns than a
+    /// `u32` counts. Each row has a value of each column's type, and there are at most 1,000,000.
     pub fn new(alloc: Global, bytes: &'a [u8], columns: &'a Columns) -> Result<Rows<'a>, RowFault>
         requires { length columns.now < 2 ^ 32 }
         ensures rows { IfOk result (λ left. rows_of bytes.now columns.now ≡ Ok left) }
@@ -74,8 +74,8 @@ impl<'a> Rows<'a> {
         })
     }
 
-    /// The rows through a cycle and no further, where cycles count from 0. Those behind it are not
-    /// read. Where the rows end before it, `Cycle` is the refusal behind them.
+    /// The rows through a cycle and no further, where cycles count from 0. Those behind it are not read.
+    /// Where the rows end before it, `Cycle` is the refusal behind them. No later record is refused then.
     pub fn through(self, cycle: u32) -> Rows<'a>
         ensures rows { result ≡ through_of cycle self.entry }
         ensures types { result.types ≡ self.entry.types }
