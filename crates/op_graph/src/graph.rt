@@ -14,9 +14,9 @@ use vcp_base::{Column, Columns, Memory, Profile, Text, Ty};
 
 /// A graph of operations, which keeps the rules of the image format.
 ///
-/// Its first operations are the INPUTs, in order; each output has one OUT, and each cell one LOAD
-/// and one later STORE. Operands are earlier operations, whose types are within those in which they
-/// are read.
+/// Its first operations are the INPUTs, in order; each output has one OUT, and each cell one LOAD and one
+/// later STORE. Operands are earlier operations, whose types are within those in which they are read. A
+/// narrow one has no LINT: no operation on it, and no cell of it.
 #[derive(Drop)]
 pub struct Graph {
     lists: GraphLists,

@@ -18,8 +18,9 @@ use std::alloc::Global;
 use std::marker::Model;
 use vcp_base::{Kind, MOST_OPERATIONS, Memory, Profile, Spot, Text, Ty};
 
-/// A graph that is built from its front. Each call appends its one entry and operation, and changes
-/// nothing else; after a refusal nothing is changed.
+/// A graph that is built from its front. Each call appends its one entry and operation, and changes nothing
+/// else; after a refusal nothing is changed. `Full` comes exactly where 65,536 operations are there, and
+/// never for an INPUT.
 #[derive(Drop)]
 pub struct GraphBuilder {
     alloc: Global,

@@ -11,8 +11,8 @@ ghost use Rattle.op_graph.specs.declared.op.Op.{Op as Operation};
 ghost use Rattle.vcp_base.specs.declared.kind.Kind.{Kind as KindOf};
 ghost use Rattle.vcp_base.specs.declared.ty.Ty.{Ty as Type_};
 
-/// No operation of a graph's run stops because an operand is outside its type, whatever the rows,
-/// and the cells and the outputs get values of their types.
+/// No operation of a graph's run stops because an operand is outside its type, whatever the rows, and the
+/// cells and the outputs get values of their types. It holds for what is built so far, too.
 pub fn operands_are_in_their_types()
     ensures { OperandLaws }
 {}
@@ -28,7 +28,8 @@ pub fn entries_keep_their_rules()
     ensures { EntryLaws }
 {}
 
-/// The numbers of operations and the initial values of cells have 64 bits.
+/// The numbers of operations and the initial values of cells have 64 bits. Lines and columns have 32, and the
+/// values of turns 64.
 pub fn numbers_have_64_bits()
     ensures imm { (g : Lists) (k : ℕ) (op : Operation) → IsPart g → slice_get g.operations k ≡ Some op → FitsSigned w64 op.imm }
     ensures init { (g : Lists) (k : ℕ) (l : LoadedValue) → IsPart g → slice_get g.loads k ≡ Some l → FitsSigned w64 l.init }
