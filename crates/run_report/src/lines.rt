@@ -10,8 +10,9 @@ ghost use Rattle.run_report.specs.Lines.{header_text, row_text, end_text, cause_
 use vcp_base::{Columns, Residue, Row, Spot, StopKind, Text, Turns, Words, stop_name};
 use vcp_outside::{Failed, Line, Sink, begin};
 
-/// Writes the header of a run: `cycle`, and the outputs' names as declared. After `Failed` a part of
-/// the line is written.
+/// Writes the header of a run: `cycle`, and the outputs' names as declared. After `Failed` a part of the line
+/// is written. So is every other line of this crate: exactly that line is written, or, where the sink's count
+/// rose, a proper part of it. No call takes memory.
 pub fn header_line<O: Sink>(out: &mut O, names: &Columns) -> Result<(), Failed>
     ensures { WritesTo (O.seen out.old) (O.seen out.new) (header_text (map (λ c. c.name) names.now)) result }
 {
