@@ -28,8 +28,8 @@ fn without_return(line: &[u8]) -> &[u8]
     }
 }
 
-/// The first line of a text that isn't empty, and the text behind it. A line ends at LF, and a CR
-/// before it is dropped; the last line needs no LF.
+/// The first line of a text that isn't empty, and the text behind it. A line ends at LF, and a CR before it
+/// is dropped; the last line needs no LF. That one keeps its CR.
 #[tactic(auto, using(crate::proofs::Firsts::last_line, crate::proofs::Firsts::ended_line))]
 pub fn first_line(text: &[u8]) -> (&[u8], &[u8])
     requires { 0 < length text.now }
