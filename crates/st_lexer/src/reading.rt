@@ -51,6 +51,11 @@ fn add(
 /// memory.
 ///
 /// The text has at most as many bytes as a source may have. Each byte is looked at a fixed number of times.
+///
+/// Where tokens are answered, they are those of a reading: pieces that adjoin and cover the text, each a gap
+/// or, where no gap begins, the longest token at its place. A token's spot is that of its first byte, the
+/// end's that of the byte after the last. Where a fault is answered, pieces cover the text up to that byte
+/// and none stands there, for that reason; the spot is its line and column.
 pub fn lex(alloc: Global, text: &[u8]) -> Result<Tokens, LexFault>
     requires { length text.now ≤ most_source_bytes }
     ensures ok { IfOk result (λ t. spec.Reads text.now t.tokens) }
@@ -81,6 +86,8 @@ pub fn lex(alloc: Global, text: &[u8]) -> Result<Tokens, LexFault>
 /// begins. Each token stands inside the text, and only where no gap begins; its bytes are a spelling of
 /// it, and no token has a longer spelling at its place. Of the symbols with which a text begins the longest is taken, and none only where it
 /// begins with none. Each reserved word is found by its spelling.
+///
+/// So, but for want of memory, `lex` is exact.
 pub fn one_reading()
     ensures total { (text : List ℕ) → ((a : List Token) × spec.Reads text a) ⊎ ((p : ℕ) × (r : Reason) × spec.LexAt text p r) }
     ensures pieces { (text : List ℕ) (ps qs : List spec.Piece) → spec.Cover text ps 0 (length text) → spec.Cover text qs 0 (length text) → ps ≡ qs }
