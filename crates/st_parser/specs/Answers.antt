@@ -1,4 +1,6 @@
 -- Answers: what is promised of the parser's answers.
+-- A token is too deep behind those before it where some program's spelling begins with them and it, and gives
+-- it a depth above 64.
 use Rattle.std.specs.Prelude.{◌≡◌, ◌⊎◌, ℕ, List, [], ◌∷◌, ◌++◌, ◌<◌, Result, Ok, Err}
 use Rattle.vcp_base.specs.Limits.{most_depth}
 use Rattle.vcp_base.specs.declared.spot.Spot.{Spot}

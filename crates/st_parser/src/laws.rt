@@ -12,9 +12,10 @@ ghost use Rattle.st_parser.specs.declared.fault.SyntaxFault.TheVariants as fault
 
 use st_spelling::spelling_begins;
 
-/// The laws of the answers. Tokens spell a program within the limit or are refused, never both; they
-/// spell one program at most, and are refused in one way. They spell a program within the limit exactly
-/// where they spell it and none of them is too deep, whatever program the tokens through it begin.
+/// The laws of the answers. Tokens spell a program within the limit or are refused, never both; they spell
+/// one program at most, and are refused in one way. They spell a program within the limit exactly where they
+/// spell it and none of them is too deep, whatever program the tokens through it begin. So, but for want of
+/// memory, `parse` is exact.
 pub fn one_answer()
     ensures some { (text : List ℕ) (ts : List Token) (end : Spot) → ((p : ProgramTree) × SpellsWithin most_depth p text ts)
         ⊎ ((f : SyntaxFault) × (f ≢ fault.Memory) × Refuses text ts end f) }

@@ -149,6 +149,12 @@ fn read_program(
 ///
 /// Each token stands inside the text, as those of its reading do. Each is looked at once, and what is open round it is
 /// at most 64 deep, so that time is linear in the tokens; nothing is kept on the machine's stack.
+///
+/// The program that is answered is the only one that the tokens spell, however deep. Its names are the bytes
+/// of their tokens, and each node has its spot. A program that they spell with no token deeper than 64 is
+/// answered, or `Memory`. `Syntax` comes only at the first token that no program can have there, behind those
+/// before it, or at the end, where the program is incomplete; no token before it is too deep. `Depth` comes
+/// only at the first token that is too deep.
 pub fn parse(alloc: Global, text: &[u8], tokens: &Tokens) -> Result<Program, SyntaxFault>
     requires inside { All (IsInside text.now) tokens.now.tokens }
 
