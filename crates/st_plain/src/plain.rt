@@ -77,7 +77,8 @@ impl<'p> Plain<'p> {
     /// the outputs. It takes no memory.
     ///
     /// A division by 0 or a value outside its type stops the cycle. Then `out` and the values of all
-    /// variables are as before, and each later call gives the same stop.
+    /// variables are as before, and each later call gives the same stop. The values and the stop are those of
+    /// the meaning; the stop has its kind, place and turns, and its kind is never OPERAND.
     pub fn cycle(&mut self, row: &Row, out: &mut Row) -> Result<(), Stop>
         requires row { AreIn (input_types self.old.program.slots) row.now }
         requires cells { length out.old ≡ length (output_types self.old.program.slots) }
