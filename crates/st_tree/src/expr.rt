@@ -58,7 +58,8 @@ pub struct Exprs {
     pub items: Vec<Expr>,
 }
 
-/// An expression, with the spot of its literal, name, operator or function name.
+/// An expression, with the spot of its literal, name, operator or function name. Contracts see a tree as what
+/// it holds, never where it lies in memory.
 #[cycle(tree)]
 #[derive(Drop)]
 pub enum Expr {
