@@ -94,6 +94,10 @@ fn judged(alloc: Global, program: &Program) -> Result<Typed, TypeFault>
 /// Each declared name has 1 to 1,048,576 bytes: a letter or `_`, and then letters, digits and `_`. Else the answer is the
 /// fault whose place and number are least; where there is none, `Names` at the 1,025th name; then `Size`. `Memory` where
 /// there is no room.
+///
+/// Slots stand in order of declaration, widenings are put in, constants are replaced by their values, and
+/// each FOR has its first value, step and number of turns. A checked program that the tree has is answered,
+/// or `Memory`.
 pub fn typed(alloc: Global, program: &Program) -> Result<Typed, TypeFault>
     requires names { HasNames (program_tree program.now) }
     ensures ok { IfOk result (λ t. IsTyped (program_tree program.now) t) }
