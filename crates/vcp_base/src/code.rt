@@ -18,7 +18,8 @@ pub enum Profile {
     Wide,
 }
 
-/// The constant of a code, modulo which residues are counted. No promise rests on its being prime.
+/// The constant of a code, modulo which residues are counted. No promise rests on its being prime. There are
+/// two codes, narrow and wide; the constant of each is positive and below 2^61.
 pub fn modulus(profile: Profile) -> Residue
     ensures value { result ≡ modulus_of profile }
     ensures positive { 0 < result }
@@ -30,7 +31,7 @@ pub fn modulus(profile: Profile) -> Residue
     }
 }
 
-/// Whether the code has words of the type: the narrow one has none of LINT.
+/// Whether the code has words of the type: the narrow one has none of LINT. The wide one has words of all.
 pub fn admits(profile: Profile, ty: Ty) -> bool
     ensures { result ≡ admits_of profile ty }
 {

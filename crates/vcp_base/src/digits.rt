@@ -3,7 +3,8 @@
 ghost use Rattle.std.specs.Prelude.{◌≡◌, IfSome, ◌<◌, ◌^◌};
 ghost use Rattle.vcp_base.specs.Numerals.{numeral_of};
 
-/// The number that one to ten decimal digits write; leading zeros are allowed. It is below 10^10.
+/// The number that one to ten decimal digits write; leading zeros are allowed. It is below 10^10. Nothing
+/// else writes a number.
 pub fn numeral(digits: &[u8]) -> Option<u64>
     ensures value { result ≡ numeral_of digits.now }
     ensures below { IfSome result (λ n. n < 10 ^ 10) }

@@ -71,7 +71,8 @@ pub fn operands(kind: Kind) -> u32
     }
 }
 
-/// The type of operand `j`, counted from 0, of an operation on values of type `from`.
+/// The type of operand `j`, counted from 0, of an operation on values of type `from`. It is BOOL for NOT,
+/// AND, OR, XOR and the first operand of SEL, and else `from`.
 pub fn operand_type(kind: Kind, j: u32, from: Ty) -> Ty
     ensures { result ≡ operand_type_of kind j from }
 {

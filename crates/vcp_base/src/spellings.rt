@@ -7,7 +7,7 @@ ghost use Rattle.vcp_base.specs.Spellings.{stop_name as stop_name_of};
 use crate::kind::{Kind, StopKind};
 use crate::ty::Ty;
 
-/// The code of a kind, 0 to 18: its place in the list of kinds.
+/// The code of a kind, 0 to 18: its place in the list of kinds. No other kind has it.
 pub fn kind_code(kind: Kind) -> u8
     ensures code { result ≡ kind_code_of kind }
     ensures place { slice_get kinds result ≡ Some kind }
@@ -90,7 +90,7 @@ pub fn kind_name(kind: Kind) -> &'static [u8]
     }
 }
 
-/// The code of a type, 0 to 3: its place in the list of types.
+/// The code of a type, 0 to 3: its place in the list of types. No other type has it.
 pub fn ty_code(ty: Ty) -> u8
     ensures code { result ≡ ty_code_of ty }
     ensures place { slice_get types result ≡ Some ty }

@@ -68,7 +68,8 @@ impl Text {
     }
 }
 
-/// Whether two names are one: names are compared without regard to the case of ASCII letters.
+/// Whether two names are one: names are compared without regard to the case of ASCII letters. A to Z are
+/// taken as a to z.
 pub fn same_name(a: &Text, b: &Text) -> bool
     ensures { IsTrue result ↔ SameName a.now b.now }
 {

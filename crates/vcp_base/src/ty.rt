@@ -42,7 +42,7 @@ pub fn greatest(ty: Ty) -> i64
     }
 }
 
-/// Whether `v` is a value of the type, from its least to its greatest.
+/// Whether `v` is a value of the type, from its least to its greatest. Each value of a type has 64 bits.
 pub fn fits(ty: Ty, v: i128) -> bool
     ensures value { result ≡ fits_of ty v }
     ensures width { result ≡ true → FitsSigned w64 v }
