@@ -13,7 +13,8 @@ const NO_MEMORY: u8 = 7;
 /// Status where the runtime refuses the arguments for another cause. No top call answers it.
 const NO_ARGUMENTS: u8 = 8;
 
-/// The words of the arguments, of which the first is the program's name and no word.
+/// The words of the arguments, of which the first is the program's name and no word. Without words memory was
+/// lacking.
 pub fn words_of(alloc: Global, arguments: &[String]) -> Result<Words, Memory>
     ensures { IfOk result (λ words. words ≡ map string_bytes (drop 1 arguments.now)) }
 {
@@ -35,7 +36,8 @@ pub fn given_words(rt: &(impl env::Env + AllocGlobal)) -> io::Result<Words> {
     }
 }
 
-/// The status where there are no words, for an error of this kind.
+/// The status where there are no words, for an error of this kind. It is 7 for want of memory, and 8 for
+/// every other error of the runtime.
 pub fn status_without_words(kind: io::ErrorKind) -> u8
     ensures memory { kind ≡ OutOfMemory → result ≡ 7 }
     ensures other { kind ≢ OutOfMemory → result ≡ 8 }

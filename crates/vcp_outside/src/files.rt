@@ -9,12 +9,15 @@ ghost use Rattle.vcp_outside.specs.Seen.{FilesSeen};
 
 use crate::failed::Failed;
 
-/// Named files, of which one at a time is read from its front.
+/// Named files, of which one at a time is read from its front. A call fails only where the count of faults
+/// rose in it; of files in memory only for a lacking name or where `broken` rose. A call that answers `Ok`
+/// leaves the count as it was. Counts never fall, and stop at 2^64 - 1. No call changes what is held.
 pub trait Files {
     /// What is seen of them: the bytes under each name and the unread ones, where they are told, and the counts of failures.
     ghost seen: { Self → FilesSeen };
 
-    /// Goes to the front of a file. It fails for a name that is lacking, and then nothing is unread.
+    /// Goes to the front of a file. It fails for a name that is lacking, and then nothing is unread. After
+    /// `Ok` the bytes that are held under the name are unread.
     fn begin(&mut self, name: &[u8]) -> Result<(), Failed>
         ensures held { (seen self.new).held ≡ (seen self.old).held }
         ensures begins { Begins (seen self.old).held name.now result (seen self.new).rest }

@@ -15,6 +15,10 @@ use std::{fs, rt};
 /// The files of a runtime, by their paths. A path that isn't UTF-8 is a fault. As `Files` they tell
 /// no bytes. They are seen as whether a file is begun, the bytes that it still gives, where that is
 /// known of the runtime, and the count of faults, which is both numbers of `Files`.
+///
+/// A file is begun exactly after `Ok`, under a name in UTF-8. Without a begun file a read is at the end. The
+/// count rises by one at each failure, up to its last value, and at nothing else; all that it fails for
+/// counts as broken.
 pub struct HostFiles<'a, R: rt::Files> {
     runtime: &'a R,
     file: Option<R::File>,

@@ -14,6 +14,9 @@ use std::marker::Model;
 /// A writer as a sink, which is flushed after each write. A write that takes no byte of some is a
 /// fault; an empty piece doesn't reach the writer. As a `Sink` it tells no bytes. It is seen as the
 /// bytes that the writer holds, where that is known of it, and the count of faults.
+///
+/// It gives its writer what a write takes, and where it fails no more than a front of the piece. The count
+/// rises by one at each failure, up to its last value, and at nothing else.
 #[derive(Drop)]
 pub struct HostSink<W: Write> {
     writer: W,

@@ -17,6 +17,8 @@ pub const ROOM: usize = 256;
 /// written where the next piece doesn't fit behind them, and at the line's end; a piece of more than
 /// `ROOM` bytes is written by itself. After a write that failed nothing more is written. A line is
 /// seen as the bytes that are still to be written, and how the writes before them went.
+///
+/// What was written and what is pending are together what the line was given so far, in order.
 #[derive(Drop)]
 pub struct Line {
     pending: ArrayVec<u8, ROOM>,
@@ -119,8 +121,8 @@ impl Line {
         self.text(out, Buffer::new().format(number).as_bytes());
     }
 
-    /// Ends the line with LF, and writes what is pending. It fails where a write of the line failed,
-    /// and then a part of the line is written.
+    /// Ends the line with LF, and writes what is pending. It fails where a write of the line failed, and then
+    /// a part of the line is written. The part comes only where the count of faults rose.
     pub fn end<O: Sink>(mut self, out: &mut O) -> Result<(), Failed>
         ensures writes { (start : Option (List ℕ)) (before : ℕ) (text : List ℕ) → IsGathered start (O.seen out.old).written before (O.seen out.old).faults text self
             → Writes start (O.seen out.new).written before (O.seen out.new).faults (text ++ codes "\n") result }

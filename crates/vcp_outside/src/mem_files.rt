@@ -31,9 +31,10 @@ struct Begun {
     at: usize,
 }
 
-/// Files in memory, which tell all of their bytes. They are seen as the entries that were put, in
-/// order, the unread bytes of the begun file, the two counts, and the calls so far with those that
-/// are made to fail.
+/// Files in memory, which tell all of their bytes. They are seen as the entries that were put, in order, the
+/// unread bytes of the begun file, the two counts, and the calls so far with those that are made to fail. A
+/// call fails exactly where it was made to fail, or begins a lacking name. `faults` rises by one at each of
+/// these, `broken` exactly at a call that was made to fail.
 #[derive(Drop)]
 pub struct MemFiles {
     alloc: Global,

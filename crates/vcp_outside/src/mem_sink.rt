@@ -14,9 +14,10 @@ use std::alloc::Global;
 use std::marker::Model;
 use vcp_base::Memory;
 
-/// A sink that keeps what is written, up to its room. It is seen as the bytes that were written,
-/// how many it takes in all, its count of faults, and the writes of some bytes so far with those that
-/// are made to fail.
+/// A sink that keeps what is written, up to its room. It is seen as the bytes that were written, how many it
+/// takes in all, its count of faults, and the writes of some bytes so far with those that are made to fail. A
+/// call fails exactly where it was made to fail, or some bytes are written to a full sink; `faults` rises by
+/// one at each of these.
 #[derive(Drop)]
 pub struct MemSink {
     bytes: Vec<u8>,

@@ -144,6 +144,9 @@ fn read_all_with<F: Files, L: Ledger>(
 /// bytes than the limit, and `Memory` where an allocation failed. After `Ok` the file stands at its
 /// end. After a refusal what was taken stays taken: at most `limit` bytes after `Failed`, `limit + 1`
 /// after `TooLong`, and 1 to `limit + 1` after `Memory`.
+///
+/// After `Ok` the count of faults is as before: no failure was passed over, and none was tried again. How
+/// many reads are made is said by `read_all_counting`, of which this is the call with a counter of its own.
 pub fn read_all<F: Files>(
     alloc: Global,
     files: &mut F,

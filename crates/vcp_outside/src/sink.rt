@@ -8,7 +8,8 @@ ghost use Rattle.vcp_outside.specs.Seen.{SinkSeen};
 
 use crate::failed::Failed;
 
-/// What takes bytes, in the order in which they are written.
+/// What takes bytes, in the order in which they are written. A call fails only where the count of faults rose
+/// in it, and one that answers `Ok` leaves the count as it was. The count never falls, and stops at 2^64 - 1.
 pub trait Sink {
     /// What is seen of it: the bytes that were written, where they are told, and the count of failed writes.
     ghost seen: { Self → SinkSeen };
