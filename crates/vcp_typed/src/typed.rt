@@ -16,7 +16,10 @@ use std::alloc::Global;
 use std::marker::Model;
 use vcp_base::{Column, Columns, Memory, Text};
 
-/// A checked program: its slots, its body, and its Size.
+/// A checked program: its slots, its body, and its Size. Each slot's name is a name and new, initial values
+/// and literals are in their types, each node has its type, each slot that is named is there, labels are in
+/// their selector's type, the values of a FOR in its variable's, nothing is set that may not be, there are at
+/// most 1,024 slots and Size is at most 65,536.
 #[derive(Drop)]
 pub struct Typed {
     slots: Slots,
