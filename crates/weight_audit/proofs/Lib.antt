@@ -12,6 +12,6 @@ mod Places
 mod Residues
 mod Sweep
 mod Worked
-mod Kept
+mod KeptMarks
 pub mod Joined
 mod WorkedReport

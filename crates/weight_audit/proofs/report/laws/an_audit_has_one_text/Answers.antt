@@ -1,6 +1,6 @@
 use Rattle.std.proofs.Common.{refl}
 use Rattle.weight_audit.specs.AuditText.{audit_text}
-use Rattle.weight_audit.proofs.Kept.{one_text, blind_is}
+use Rattle.weight_audit.proofs.KeptMarks.{one_text, blind_is}
 use Rattle.weight_audit.proofs.report.laws.an_audit_has_one_text.Goals as goal
 
 pub returns-clause-some : goal.returns-clause-some
