@@ -36,7 +36,8 @@ pub enum CycleEnd {
     },
 }
 
-/// How a cycle with these answers ends. Where it isn't halted all are words.
+/// How a cycle with these answers ends. Where it isn't halted all are words. With `call_after`, `first_words`
+/// and `store_words` a cycle can be carried without a machine.
 pub fn end_of_answers(
     graph: &Graph,
     table: &Table,

@@ -73,9 +73,9 @@ impl<'a> Model for Machine<'a> {
 }
 
 impl<'a> Machine<'a> {
-    /// A machine before its first cycle, for a graph and the graph's table. The cells hold the words
-    /// of their initial values. `Memory` where there is no room for an answer to each operation and a
-    /// word for each cell.
+    /// A machine before its first cycle, for a graph and the graph's table. The cells hold the words of their
+    /// initial values. `Memory` where there is no room for an answer to each operation and a word for each
+    /// cell. They have the signatures of their STOREs at stamp 0. No later call takes memory.
     pub fn new(alloc: Global, graph: &'a Graph, table: &'a Table) -> Result<Machine<'a>, Memory>
         requires { IsTableOf table.now graph.now }
         ensures fresh { IfOk result (λ machine. machine ≡ fresh graph.now table.now) }
@@ -188,7 +188,8 @@ impl<'a> Machine<'a> {
         call_after(&setting, op, given(self.under_way, &self.answers))
     }
 
-    /// Takes the answer to the next call, which there must be.
+    /// Takes the answer to the next call, which there must be. It is one more answer of the cycle, and
+    /// nothing else changes.
     #[inline(always)]
     pub fn put(&mut self, answer: Answer)
         requires { Awaits self.old }
@@ -206,7 +207,8 @@ impl<'a> Machine<'a> {
     ///
     /// After a release `out` has the values of the outputs, the cells have the words that their STOREs
     /// answered, and one cycle more is counted. After any other end `out`, the cells and the count are
-    /// unchanged, and the end is repeated from then on.
+    /// unchanged, and the end is repeated from then on. The end is as `cycle` says: of outputs, of its cause
+    /// and of how it is repeated.
     pub fn end(&mut self, out: &mut Row) -> CycleEnd
         requires cycle { self.old.cycles < most_cycles }
         requires finished { Finished self.old }
@@ -282,6 +284,15 @@ impl<'a> Machine<'a> {
     ///
     /// It does what `next_call`, `put` and `end` do one after another. Where an earlier end is
     /// repeated, no call is made.
+    ///
+    /// For every unit the cycle is whole, a kept log grew by exactly its calls with the unit's answers, and
+    /// its end, row and cells are those that these answers give. Outputs are released exactly where every
+    /// operation was answered by a word, every output's value part is in its type, and every output's residue
+    /// is the expected one. Each other end has its cause: that operation answered that stop, or is the OUT of
+    /// an output and its value part is outside the output's type; or that output has the residue found, which
+    /// isn't the one expected. An end that is no release is repeated from then on, without a call of the
+    /// unit. For an honest unit, and cells that hold honest words, words, end and row are those of the
+    /// graph's cycle on plain integers, and no output is refused.
     pub fn cycle<U: Unit>(&mut self, unit: &mut U, row: &Row, out: &mut Row) -> CycleEnd
         requires cycle { self.old.cycles < most_cycles }
         requires between { self.old.under_way ≡ false }
