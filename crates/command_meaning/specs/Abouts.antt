@@ -1,5 +1,8 @@
 -- Abouts: what each command is about, a line a command, and which one writes the same without a unit. What each comes to stands in the
 -- crate of the top call; nothing else is said of a command by its name.
+-- The table has for each command which files it reads and how long they may be, whether it calls the unit,
+-- whether it takes memory late, with which statuses it may end, and which command writes the same without a
+-- unit.
 use Rattle.std.specs.Prelude.{ℕ, ◌≡◌, ◌⊎◌, Bool, true, false, List, [], ◌∷◌, ◌++◌, Option, Some, None, IsSome, codes}
 use Rattle.vcp_base.specs.Limits.{most_source_bytes, most_image_bytes, most_rows_bytes}
 use Rattle.il_front.specs.Answers.{most_il_bytes}

@@ -1,5 +1,10 @@
 -- Kinds: what words and files come to, and what each kind of task leaves behind, a line a kind. A kind that calls the unit has a record of
 -- its own for a whole course and one for a course that was cut off.
+-- Definitions: the task that a command and files come to, with what each file may be and how long; what is
+-- meant by a task, what stands when it was done and when it was cut off, for runs, for faults that are
+-- judged, for runs of two channels, also with faults in one, and for wires; what all deliver that a wire's
+-- script hands; what is printed of a run; how a command ends, the causes of the statuses, and what every
+-- command keeps.
 use Rattle.std.specs.Prelude.{ℕ, ◌≡◌, List, [], Option}
 use Rattle.op_graph.specs.Lists.{Lists}
 use Rattle.vcp_typed.specs.SourceRun.{Program}
