@@ -27,6 +27,13 @@ use vcp_outside::Sink;
 ///
 /// After `Write` a part of the text is written, in which the lines before the one that failed are whole.
 /// After `Memory` the lines of the groups before the one whose verdict wanted it are written.
+///
+/// Where the unit answered no call wrongly, the verdicts are the defined ones, group by group; where the
+/// campaign was given up, those of the first groups. Whatever it answers, a kept log grows by exactly the
+/// calls of the run without faults and then, group by group, of the reruns; each verdict is the one that is
+/// read off the answers of its rerun, and names an output or an operation of the graph. `Write` comes only
+/// where the sink's count rose. Where memory was lacking for the run without faults, no call was made and
+/// nothing is written.
 pub fn run_campaign<U: Unit, O: Sink>(
     alloc: Global,
     out: &mut O,

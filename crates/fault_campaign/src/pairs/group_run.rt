@@ -34,6 +34,13 @@ use vcp_base::{Memory, Row};
 ///
 /// The calls of the first channel go to a unit around the unit, which carries out the faults; the second channel runs on the processor
 /// itself, with the other table. The run ends in the first cycle that the pair doesn't release, or with the rows.
+///
+/// A kept log of the unit grew by exactly the first channel's calls with the group's changes and the unit's
+/// answers, cycle by cycle, with none at a skip. The verdict is read off these answers: the group is held in
+/// the first cycle in which the channels part or their rows differ, the second channel's end and row being
+/// those of the graph's cycle on plain integers; and it is the same where there is none, also where both stop
+/// alike. Where no answer was wrong, it is the same exactly where the defined verdict of the group is, and
+/// else held in the cycle of that.
 pub fn run_group<U: Unit>(
     alloc: Global,
     graph: &Graph,

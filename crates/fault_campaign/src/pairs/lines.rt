@@ -63,7 +63,8 @@ fn then_count<O: Sink>(line: &mut Line, out: &mut O, word: &[u8], number: u64)
     line.count(out, number);
 }
 
-/// Writes the verdict on the group that begins on this line of a script. After `Failed` a part of the line is written.
+/// Writes the verdict on the group that begins on this line of a script. After `Failed` a part of the line is
+/// written. That comes only where the sink's count rose.
 pub fn group_line<O: Sink>(out: &mut O, line: u32, verdict: &PairVerdict) -> Result<(), Failed>
     ensures { WritesTo (O.seen out.old) (O.seen out.new) (group_text line verdict.now) result }
 {

@@ -24,8 +24,10 @@ use vcp_outside::Sink;
 /// faults in the first channel, on the unit, and the second channel on the processor itself. It writes the line of a group before the next
 /// one is run; then it writes the totals, which count groups.
 ///
-/// After `Write` a part of the text is written, in which the lines before the one that failed are whole. After `Memory` the lines of the
-/// groups before the one that wanted it are written, and for that one no call was made.
+/// After `Write` a part of the text is written, in which the lines before the one that failed are whole.
+/// After `Memory` the lines of the groups before the one that wanted it are written, and for that one no call
+/// was made. `Write` comes only where the sink's count rose. The counts of the unit's wrong answers and of
+/// the sink's faults never fall.
 pub fn run_pairs<U: Unit, O: Sink>(
     alloc: Global,
     out: &mut O,
