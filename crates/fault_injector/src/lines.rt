@@ -152,8 +152,10 @@ pub fn then_verdict<O: Sink>(line: &mut Line, out: &mut O, graph: &Graph, verdic
     }
 }
 
-/// Writes the verdict of the fault on this line of a script: in which cycle the fault shows, at which
-/// output or operation of the graph, and by what. After `Failed` a part of the line is written.
+/// Writes the verdict of the fault on this line of a script: in which cycle the fault shows, at which output
+/// or operation of the graph, and by what. After `Failed` a part of the line is written. For a stop the line
+/// has its place and the turns round it, too. A part is written only where the sink's count rose. It takes no
+/// memory.
 pub fn verdict_line<O: Sink>(
     out: &mut O,
     graph: &Graph,
@@ -189,7 +191,8 @@ pub fn then_totals<O: Sink>(line: &mut Line, out: &mut O, totals: &Totals)
     then_count(line, out, b" stopped ", totals.stopped as u64);
 }
 
-/// Writes the line of totals. After `Failed` a part of the line is written.
+/// Writes the line of totals. After `Failed` a part of the line is written. The line has their sum and each
+/// of them. A part is written only where the sink's count rose. It takes no memory.
 pub fn totals_line<O: Sink>(out: &mut O, totals: &Totals) -> Result<(), Failed>
     ensures { WritesTo (O.seen out.old) (O.seen out.new) (totals_text totals.now) result }
 {
