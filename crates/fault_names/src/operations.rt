@@ -98,7 +98,8 @@ fn the_one(found: Found) -> Result<u32, Why>
     }
 }
 
-/// The operation that has a name, of this kind where one is said.
+/// The operation that has a name, of this kind where one is said. A name is a variable or a place in the
+/// source; one that no operation has, or more than one, is refused.
 pub fn operation_named(graph: &Graph, kind: Option<Kind>, name: &[u8]) -> Result<u32, Why>
     ensures value { result ≡ operation_named_of graph.now kind name.now }
     ensures there { IfOk result (λ k. k < length graph.now.operations) }

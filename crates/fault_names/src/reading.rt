@@ -130,9 +130,10 @@ fn check_lines(graph: &Graph, text: &[u8]) -> Result<(), Refused>
     Ok(())
 }
 
-/// Whether the lines of a text of at most 1,048,576 bytes are taken over the graph of the image with this digest; or the first line that
-/// is refused. A first line `# of DIGEST` is refused where it names another image. A line is read from the left, and the first word that
-/// is wrong decides why it is refused. It takes no memory.
+/// Whether the lines of a text of at most 1,048,576 bytes are taken over the graph of the image with this
+/// digest; or the first line that is refused. A first line `# of DIGEST` is refused where it names another
+/// image. A line is read from the left, and the first word that is wrong decides why it is refused. It takes
+/// no memory. The first line is looked at before all others, and how many faults there are behind all.
 pub fn check(graph: &Graph, digest: &[u8], text: &[u8]) -> Result<(), Refused>
     requires { length text.now ≤ most_source_bytes }
     ensures { result ≡ checked digest.now graph.now text.now }
