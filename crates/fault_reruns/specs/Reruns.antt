@@ -1,4 +1,7 @@
 -- Reruns: the calls that are made again for a group of faults, and the verdict that is read off their answers.
+-- Definitions: the calls that a rerun makes, one for each touched operation that it reaches, but none at a
+-- skip, with the answers that a unit gives to them; the answers of all its operations, where one that isn't
+-- touched has the answer of the run without the faults; and the verdict that is read off them.
 use Rattle.std.specs.Prelude.{ℕ, suc, ◌≡◌, ◌<◌, Bool, true, false, cond, List, [], ◌∷◌, ◌++◌, length, slice_get, Option, Some, None, ℤ}
 use Rattle.vcp_base.specs.Differences.{first_difference}
 use Rattle.coded_unit.specs.declared.call.Call.{Call}

@@ -64,8 +64,10 @@ pub struct CycleAnswers<'r> {
 }
 
 impl<'a> Reference<'a> {
-    /// Carries the run without faults through a unit, over all rows or to its end; `Memory` where there is no room for a machine and for
-    /// a word of each operation in each row, and then no call was made.
+    /// Carries the run without faults through a unit, over all rows or to its end; `Memory` where there is no
+    /// room for a machine and for a word of each operation in each row, and then no call was made. For every
+    /// unit a kept log grows by exactly the run's calls with the unit's answers, and its cycles and its end
+    /// are those that these answers give. Where no answer was wrong in the call, each that is kept is right.
     pub fn new<U: Unit>(
         alloc: Global,
         graph: &'a Graph,

@@ -220,6 +220,12 @@ impl<'a> Reference<'a> {
     /// Where the group fits the graph, and the answers of the run without it are right and those of this call too, it is the defined
     /// verdict. The cycle, the output and the operation that it names are there, whatever the unit answers. Laws that are clauses too say
     /// which operations are touched, at which the unit is asked, which answers a whole run with the group has, and which words.
+    ///
+    /// For every unit a kept log grows by exactly the rerun's calls with the unit's answers: none at a skip,
+    /// in order of cycle and operation, through the cycle that has a verdict, or through the last of the run
+    /// without the group. The unit's count of wrong answers never falls; after `Memory` the unit is as it
+    /// was. Beside the verdict stand the laws that it rests on: the run law, the places of a group's faults,
+    /// one fault's values, and the ends and outputs of a cycle.
     pub fn verdict<U: Unit>(
         &self,
         alloc: Global,
@@ -263,6 +269,10 @@ impl<'a> Reference<'a> {
 /// How a group of faults changes a run over these rows: the run without faults is carried through the unit once and kept, and then the unit
 /// is asked again as `Reference::verdict` asks it. Who judges several groups makes one `Reference` for them. `Memory` where there is no room;
 /// the run without faults may have been carried by then.
+///
+/// The calls are those of the run without faults and then those of its rerun, and no other. Where no answer
+/// was wrong it is the defined verdict of the group, which fits the graph; it names an output or an operation
+/// of the graph, and a cycle that has a row.
 pub fn verdict<U: Unit>(
     alloc: Global,
     graph: &Graph,
