@@ -33,6 +33,8 @@ pub fn one_fault_runs_by_its_act()
 /// the values of the run under the acts and, as residues, the signature, the stamp and the difference of
 /// each operation; and so have the words of the cells at each cycle's start, with the stamp of the cycle
 /// before. Faults that fit a graph stand where the law wants them. It does nothing: it states a law.
+///
+/// It holds for every graph, table, rows and acts that fit the graph.
 pub fn runs_under_acts_keep_the_run_law()
     ensures runs { RunsKept }
     ensures groups { GroupStands }

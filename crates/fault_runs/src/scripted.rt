@@ -148,6 +148,13 @@ impl<'u, U: Unit> Unit for Scripted<'u, U> {
     /// Does one call: as the unit inside does it, and at the operation and cycle of a fault as its act says,
     /// where it has the word that the act takes. An answer that isn't the right one for the call that
     /// it got is counted.
+    ///
+    /// For every unit inside: what is handed back is made of the answer to the call passed on; a kept log
+    /// inside grows by that call, and by nothing at a skip that has its word; the count of wrong answers
+    /// inside is that of the call passed on. The one word that an act takes is kept when its call passes, and
+    /// where none was kept the call is passed on unchanged. Over an honest unit each call is answered rightly
+    /// but at the faults, where the answer is by the operand, kind or word that the act puts there. It tells
+    /// no log, and takes no memory.
     fn perform(&mut self, call: &Call) -> Answer
         requires { Asked call.now }
         ensures log { GrowsBy None None ((call.now, result) ∷ []) }
