@@ -15,8 +15,9 @@ pub fn one_fault_makes_its_difference()
     ensures { (t : Numbers) (g : Lists) (f : FaultValue) (op : Operation) → slice_get g.operations f.op ≡ Some op → OneFault t g f op }
 {}
 
-/// Where each fault of a group adds a number to a word, the difference at each operation in each cycle is
-/// the sum of those that its faults make alone. It does nothing: it states a law.
+/// Where each fault of a group adds a number to a word, the difference at each operation in each cycle is the
+/// sum of those that its faults make alone. It does nothing: it states a law. So it is as integers, and
+/// modulo `A`.
 pub fn differences_add_up()
     ensures { (t : Numbers) (g : Lists) → DifferencesAddUp t g }
 {}

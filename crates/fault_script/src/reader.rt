@@ -18,6 +18,10 @@ use std::alloc::Global;
 /// A fault line is refused as `Faults` where it is the 10,001st; else as `Form`, `Site`, `Early`, `Kind` or
 /// `Twice`, in this order. `begin` and `end` are refused as `Group`. A `begin` without an `end` is told
 /// only where no line is refused.
+///
+/// Each fault of a script fits the graph: cycle, operation, operand and register are in range, what is added
+/// is at most 2^62 in size, another kind has as many operands, and `stale` and `skip` have a cycle before
+/// theirs. Each group has a fault, and no two at one operation in one cycle. There are at most 10,000 faults.
 pub fn read_script(alloc: Global, bytes: &[u8], graph: &Graph) -> Result<Script, ScriptFault>
     requires { length bytes.now ≤ most_source_bytes }
     ensures script { IfOk result (λ script. script_of graph.now bytes.now ≡ Ok script) }
