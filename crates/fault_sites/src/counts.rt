@@ -137,7 +137,8 @@ fn count_all(graph: &Graph, cycles: u32) -> u64
     bits + (stale + (skip + (from + operator)))
 }
 
-/// How many sites there are in the first cycles, at most 1,000,000. It takes no memory.
+/// How many sites there are in the first cycles, at most 1,000,000. It takes no memory. It is told before any
+/// is written.
 pub fn count_sites(graph: &Graph, classes: Classes, cycles: u32) -> u64
     requires { cycles ≤ most_cycles }
     ensures { result ≡ length (sites classes graph.now cycles) }

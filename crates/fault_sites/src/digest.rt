@@ -24,7 +24,9 @@ fn digits_of(hash: &[u8]) -> [u8; 64]
     digits
 }
 
-/// The 64 digits of the digest of the image of a graph with the seed and the step of its table. Want of memory is the only refusal.
+/// The 64 digits of the digest of the image of a graph with the seed and the step of its table. Want of
+/// memory is the only refusal. The digest is SHA-256 of the image's bytes (FIPS 180-4), in hexadecimal
+/// digits.
 pub fn image_digest(alloc: Global, graph: &Graph, table: &Table) -> Result<[u8; 64], Memory>
     requires { IsTableOf table.now graph.now }
     ensures digits { IfOk result (λ d. d ≡ digest_of graph.now table.now.seed table.now.step) }

@@ -159,7 +159,8 @@ fn first_cells(alloc: Global, graph: &Graph) -> Result<Vec<i64>, Memory>
 }
 
 impl<'a> GraphValues<'a> {
-    /// The run of a graph before its first cycle. `Memory` where there is no room for a value of each operation and of each cell.
+    /// The run of a graph before its first cycle. `Memory` where there is no room for a value of each
+    /// operation and of each cell. The cells hold their initial values.
     pub fn new(alloc: Global, graph: &'a Graph) -> Result<GraphValues<'a>, Memory>
         ensures { IfOk result (λ r. r ≡ begun graph.now) }
     {
@@ -179,8 +180,10 @@ impl<'a> GraphValues<'a> {
         self.graph
     }
 
-    /// Runs one cycle on a row of inputs: the operations in order, up to the first that stops. Answers why that one stops; then the
-    /// cells hold what they held. An input past the end of the row has the value 0, and one outside its type stops its operation.
+    /// Runs one cycle on a row of inputs: the operations in order, up to the first that stops. Answers why
+    /// that one stops; then the cells hold what they held. An input past the end of the row has the value 0,
+    /// and one outside its type stops its operation. After a cycle without a stop the cells hold what their
+    /// STOREs gave. It takes no memory.
     pub fn cycle(&mut self, row: &Row) -> Option<StopKind>
         ensures stop { result ≡ (cycle_of self.old.graph self.old.cells row.now).stop }
         ensures run { self.new ≡ after self.old (cycle_of self.old.graph self.old.cells row.now) }

@@ -30,17 +30,22 @@ pub fn a_script_is_read_back()
     ensures short { IsShort }
 {}
 
-/// The sites of a class are the faults that are of the class, and no others.
+/// The sites of a class are the faults that are of the class, and no others. `bits` add plus or minus a power
+/// of two up to 2^61 to a result or an operand, `stale` give an operand of the cycle before, `skip` keep the
+/// answer of the cycle before, `from` give the word of another earlier operation whose type fits, `operator`
+/// do the call as one of another kind.
 pub fn each_fault_of_a_class_has_a_site()
     ensures { HasEach }
 {}
 
-/// What a flip adds to a word turns one bit of the word, and no other.
+/// What a flip adds to a word turns one bit of the word, and no other. For each b below 32 and each result in
+/// each cycle of the run, up to its stop, 2^b is added to the result's word where bit b of that word is 0
+/// while nothing is amiss, and subtracted where it is 1.
 pub fn a_flip_turns_one_bit()
     ensures { TurnsOneBit }
 {}
 
-/// No flip of a run stands twice.
+/// No flip of a run stands twice. Each fits the graph.
 pub fn each_flip_stands_once()
     ensures { EachFlipOnce }
 {}

@@ -54,6 +54,10 @@ fn write_part<O: Sink>(
 
 /// Writes of the sites of a class that an image can have in its first cycles, at most 1,000,000, what is chosen. The image is that of the
 /// graph with the seed and the step of its table. A script has at most 10,000 faults.
+///
+/// It begins with a remark of the class and the image's digest, has at most 1,048,576 bytes, and is read back
+/// as exactly these faults, a group each, in their order. Nothing is written where there would be more, or
+/// memory was lacking, and a proper part where the sink failed.
 pub fn write_chosen_sites<O: Sink>(
     alloc: Global,
     graph: &Graph,

@@ -74,8 +74,9 @@ fn write_part<O: Sink>(
     }
 }
 
-/// Writes of the flips of the run over all rows, at most 1,000,000, or up to its stop, what is chosen. The image is that of the graph with the
-/// seed and the step of its table, and a row has a value for each input. A script has at most 10,000 faults.
+/// Writes of the flips of the run over all rows, at most 1,000,000, or up to its stop, what is chosen. The
+/// image is that of the graph with the seed and the step of its table, and a row has a value for each input.
+/// A script has at most 10,000 faults. It is such a script as `write_chosen_sites` writes.
 pub fn write_chosen_flips<O: Sink>(
     alloc: Global,
     graph: &Graph,
