@@ -21,6 +21,11 @@ use weight_audit::an_audit_has_one_text;
 /// What is drawn of a graph has each operation once, with its look, and each pair of an operand and its
 /// reader once. The looks by weights are of the colours that paths and weights say. And the text of a picture is a
 /// well-formed document, where no element of its legend has an attribute twice.
+///
+/// An operation is drawn with its number, what it is and its own name or value; a constant at each of its
+/// readers. Grey it is exactly where no path leads to an output within the horizon, red only where it is
+/// blind for the output that is noted after so many borders, and plain exactly where paths lead to outputs
+/// and it is blind for none.
 pub fn a_graph_is_drawn_whole()
     ensures whole { (g : Lists) (looks : ℕ → LookOf) (places : List PlaceOf) → IsWhole g (λ n look. look ≡ looks n) places (drawing g looks places) }
     ensures audit_whole { (g : Lists) (horizon : ℕ) (a : Audit) (places : List PlaceOf) → IsAudit g horizon a

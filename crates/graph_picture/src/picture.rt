@@ -22,6 +22,11 @@ const AUDIT_STYLE: &[u8] =
 
 /// Writes the picture of a graph whose boxes look so and stand so, with a legend of these rules of style and these samples. It takes no memory. After
 /// `Failed` a part of the picture is written.
+///
+/// There is a line from each operand that is no constant to its reader, and a box for each operation that is
+/// no constant, in order, with its number, kind, name, place in the source, and the class and the note of its
+/// look, and with the value and the class of each constant that it reads, by which operand it is; the LOAD
+/// and the STORE of a cell are marked.
 pub fn write_looks<O: Sink, L: Looks>(
     out: &mut O,
     graph: &Graph,
@@ -41,8 +46,10 @@ pub fn write_looks<O: Sink, L: Looks>(
     end_picture(line, out)
 }
 
-/// Writes the picture of a graph, whose weights up to the horizon, of at most 1000 cycle borders, these
-/// are, where its boxes stand so. It takes no memory. After `Failed` a part of the picture is written.
+/// Writes the picture of a graph, whose weights up to the horizon, of at most 1000 cycle borders, these are,
+/// where its boxes stand so. It takes no memory. After `Failed` a part of the picture is written. The looks
+/// are the colours by weights, with a legend of these: of a blind operation the output and the number of
+/// cycle borders are noted.
 pub fn write_picture<O: Sink>(
     out: &mut O,
     graph: &Graph,

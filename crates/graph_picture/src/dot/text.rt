@@ -60,6 +60,10 @@ fn then_graph<O: Sink>(
 
 /// Writes a graph, whose weights up to the horizon, of at most 1000 cycle borders, these are, as a text for Graphviz. It takes no memory. After
 /// `Failed` a part of the text is written.
+///
+/// There is a node for each operation but a constant, in order, with its number, kind, name, place in the
+/// source and colour; an edge from each operand to its reader, with which operand it is, before which a
+/// constant has a node of its own; and a dashed edge from the STORE of each cell to its LOAD.
 pub fn write_dot<O: Sink>(
     out: &mut O,
     graph: &Graph,

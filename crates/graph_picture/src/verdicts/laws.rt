@@ -15,8 +15,10 @@ ghost use Rattle.graph_picture.specs.WorstVerdict.{IsWorstLook};
 
 use crate::a_graph_is_drawn_whole;
 
-/// What is drawn has each operation once, in the colour of the worst verdict of the groups that have a fault there, and each
-/// pair of an operand and its reader once.
+/// What is drawn has each operation once, in the colour of the worst verdict of the groups that have a fault
+/// there, and each pair of an operand and its reader once. There are verdicts of its sort, as many as are
+/// noted, none of them is worse, and all are counted; it is without colour exactly where no group has a fault
+/// there.
 pub fn each_operation_has_its_worst_verdict()
     ensures { (g : Lists) (groups : List (List FaultOf)) (vs : List VerdictOf) (places : List PlaceOf)
         → IsWhole g (IsWorstLook groups vs) places (drawing g (verdict_looks groups vs) places) }
