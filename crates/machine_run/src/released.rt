@@ -15,6 +15,7 @@ pub trait ReleasedRows {
     ghost Keeps: { Self → List (List ℤ) → Type 0 };
 
     /// Takes the outputs of a cycle, which is counted from 0. After `Failed` a part of its text is written.
+    /// That comes only where the sink's count rose. What is kept of released rows is what they say, in order.
     fn take<O: Sink>(&mut self, out: &mut O, cycle: u32, outputs: &Row) -> Result<(), Failed>
         ensures writes { WritesTo (O.seen out.old) (O.seen out.new) (text cycle outputs.now) result }
         ensures keeps { (rows : List (List ℤ)) → Keeps self.old rows → OnOk result (Keeps self.new (rows ++ outputs.now ∷ [])) };

@@ -65,6 +65,15 @@ fn run_cycle<U: Unit, O: Sink, R: ReleasedRows>(
 ///
 /// Where a row is refused, or memory is wanted for it, the cycles of the rows before it stand. After
 /// `Write` a part of the last cycle's text is written.
+///
+/// For every unit a kept log grew by exactly the calls of these cycles with the unit's answers, and the end
+/// that is answered and the rows that were handed on are those that the answers give. `Write` comes only
+/// where the sink's count rose, with all of the text of the cycles before the last one. Where no answer was
+/// wrong, the rows and the end are those of the graph's run on plain integers over the same rows, and of a
+/// run that was given up a front of them. The machine has the same graph and table then, counts the cycles
+/// that were released, is between two cycles, and its answers are those of the last one. A stop is answered
+/// only where a kept log ends in that stop; a refused output only where the unit's count of wrong answers
+/// rose.
 pub fn run_rows<U: Unit, O: Sink, R: ReleasedRows>(
     alloc: Global,
     machine: &mut Machine<'_>,
