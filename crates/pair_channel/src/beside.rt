@@ -22,6 +22,11 @@ use vcp_outside::Sink;
 /// Runs a graph on a pair of channels over the rows that are left, as `run_pair` does, the first channel on the unit and the second on the
 /// processor itself, with the other table. What is promised of it is read off the first channel's answers: the second channel's ends and rows
 /// are those of the graph's run on plain integers.
+///
+/// So the rows are the first of that run, whatever the unit answered; the channels disagree only where its
+/// count rose; and where no answer was wrong, the outcome is the graph's run, and what was written of a run
+/// that was cut off is a part of what is printed of that. A stop is answered only where a kept log ends in
+/// that stop.
 pub fn run_beside<U: Unit, O: Sink>(
     alloc: Global,
     graph: &Graph,

@@ -22,8 +22,10 @@ pub fn pairs_follow_their_answers()
     runs_follow_their_answers();
 }
 
-/// A pair's run over rows in which all answers of one channel are right, whichever it is: the released rows are the first of the graph's
-/// run on plain integers, and a stop is its stop. It does nothing: it states a law.
+/// A pair's run over rows in which all answers of one channel are right, whichever it is: the released rows
+/// are the first of the graph's run on plain integers, and a stop is its stop. It does nothing: it states a
+/// law. They are all of them where the rows end. Where it is the second, the graph's run may stand in its
+/// place; where both are, the outcome is the graph's run.
 pub fn one_honest_channel_holds_the_pair()
     ensures { OneChannelHonest }
 {

@@ -55,8 +55,9 @@ fn then_channel<O: Sink>(line: &mut Line, out: &mut O, graph: &Graph, end: &Cycl
     }
 }
 
-/// Writes that the channels ended a cycle, which is counted from 0, in these ways. An output that is refused is one of the graph's. After
-/// `Failed` a part of the line is written.
+/// Writes that the channels ended a cycle, which is counted from 0, in these ways. An output that is refused
+/// is one of the graph's. After `Failed` a part of the line is written. That comes only where the sink's
+/// count rose.
 pub fn parted_line<O: Sink>(
     out: &mut O,
     cycle: u32,
@@ -76,7 +77,8 @@ pub fn parted_line<O: Sink>(
     line.end(out)
 }
 
-/// Writes that the output of this name has these values in a cycle, which is counted from 0. After `Failed` a part of the line is written.
+/// Writes that the output of this name has these values in a cycle, which is counted from 0. After `Failed` a
+/// part of the line is written. That comes only where the sink's count rose.
 pub fn differ_line<O: Sink>(
     out: &mut O,
     cycle: u32,

@@ -49,8 +49,9 @@ impl<'a> Model for Pair<'a> {
 }
 
 impl<'a> Pair<'a> {
-    /// A pair before its first cycle, for a graph and two tables of it whose seeds differ. `Memory` where there is no room for the two
-    /// machines and a row of outputs for each.
+    /// A pair before its first cycle, for a graph and two tables of it whose seeds differ. `Memory` where
+    /// there is no room for the two machines and a row of outputs for each. No cycle is released, and there
+    /// is no end. No later call takes memory.
     pub fn new(
         alloc: Global,
         graph: &'a Graph,
@@ -109,7 +110,8 @@ impl<'a> Pair<'a> {
         }
     }
 
-    /// Takes the answer to the next call of the first channel, which there must be.
+    /// Takes the answer to the next call of the first channel, which there must be. It is one more answer of
+    /// that cycle, and nothing else changes.
     #[inline(always)]
     pub fn put(&mut self, answer: Answer)
         requires { PairAwaits self.old }
@@ -151,6 +153,13 @@ impl<'a> Pair<'a> {
     /// before. The second channel carries its cycle whatever the first one's end is.
     ///
     /// It does what `next_call`, `put` and `end` do one after another. Where an earlier end is repeated, no call is made.
+    ///
+    /// For every two units a kept log of either grew by exactly its machine's calls with its answers; each of
+    /// the two ends has its cause in the answers. A row is released exactly where both channels released it
+    /// with equal values, and then it is the caller's row; a stop comes exactly where both stopped at one
+    /// operation for one cause; the rows differ at the first output of two values; and the channels parted in
+    /// all other cases. After any end but a release the caller's row is unchanged, and each later call makes
+    /// no call of a unit, changes nothing and gives the same end.
     pub fn cycle<U: Unit, V: Unit>(
         &mut self,
         first: &mut U,
