@@ -15,7 +15,8 @@ use std::alloc::Global;
 use std::marker::Model;
 use vcp_base::Memory;
 
-/// The range of the values of each operation of a graph, and why it may stop.
+/// The range of the values of each operation of a graph, and why it may stop. What is told is read as two
+/// lists, in the order of the operations.
 #[derive(Debug, Drop)]
 pub struct Ranges {
     known: Vec<Range>,
@@ -72,6 +73,8 @@ fn ranges_in_one_box(alloc: Global, graph: &Graph, cells: &[Range]) -> Result<Ra
 /// Each value of each operation, in each cycle of the graph's run over whatever rows, is in the range of its operation. In a run over
 /// rows whose values are in the types of their inputs, only an operation that is named stops, and only so as is said of it; where none
 /// is named, no run stops. That an operation is named doesn't say that it can stop. The time is linear in the number of operations.
+///
+/// A run over such rows ends where its rows end, or at an operation that is named, as it is named.
 pub fn ranges_of(alloc: Global, graph: &Graph) -> Result<Ranges, Memory>
     ensures known { IfOk result (λ a. length a.known ≡ length graph.now.operations) }
     ensures stops { IfOk result (λ a. length a.stops ≡ length graph.now.operations) }

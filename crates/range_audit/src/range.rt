@@ -7,6 +7,7 @@ ghost use Rattle.range_audit.specs.Intervals.{IsIn, IsWithin};
 use vcp_base::{Ty, greatest, least};
 
 /// The integers from `low` to `high`, without 0 where `nonzero`. Where `low` is above `high` there is none.
+/// It has no value where its greatest is below its least.
 #[derive(Clone, Copy, Debug, PartialEq, Eq)]
 pub struct Range {
     /// The least of them.

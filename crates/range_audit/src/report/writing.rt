@@ -102,6 +102,9 @@ fn then_operations<O: Sink>(line: &mut Line, out: &mut O, graph: &Graph, ranges:
 /// Writes a line for each way in which an operation may stop, in order, and before these, where `all` are told, one with the range of
 /// each operation; at last how many may stop, of how many that can by their kinds and types. It takes no memory. After `Failed` a part
 /// of the text is written.
+///
+/// A line has the ranges of the operation's first two operands, its place and its turns. Of a range its ends
+/// are written; that 0 isn't in it, as of a divisor that was tested, isn't.
 pub fn write_ranges<O: Sink>(
     out: &mut O,
     graph: &Graph,
