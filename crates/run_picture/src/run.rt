@@ -47,6 +47,11 @@ fn ends_a_line(text: &[u8]) -> bool
 
 /// The run that a text tells. `Memory` where there is no room for it: a value takes 8 bytes, and a row
 /// some 40 more.
+///
+/// Records are those that `csv` gives; the first is `cycle` and at most 1,024 names, record n + 2 begins with
+/// the number of cycle n and has a value of 64 bits, as it is printed, for each name, and behind the rows
+/// stands one last line, ended by LF. Each other text has its fault, and nothing but want of memory comes
+/// besides.
 pub fn read_run(alloc: Global, text: &[u8]) -> Result<Run, RunFault>
     ensures run { IfOk result (λ run. run_of text.now ≡ Ok run) }
     ensures fault { IfErr result (λ f. f ≢ RunFault.Memory → run_of text.now ≡ Err f) }
