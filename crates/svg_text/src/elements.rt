@@ -33,7 +33,9 @@ fn then_attributes<O: Sink>(line: &mut Line, out: &mut O, attributes: &[(Name, P
     }
 }
 
-/// Goes on with an element: its tag, its attributes, none of them twice, and its characters.
+/// Goes on with an element: its tag, its attributes, none of them twice, and its characters. Characters with
+/// a meaning of their own are written as references, those outside printable ASCII as the replacement
+/// character, numbers in decimal digits.
 pub fn then_element<O: Sink>(
     line: &mut Line,
     out: &mut O,
@@ -83,8 +85,8 @@ pub fn begin_picture<O: Sink>(out: &mut O, width: u64, height: u64) -> Line
     line
 }
 
-/// Ends a picture, and writes what is left of it. It fails where a write failed, and then a part of
-/// the picture is written.
+/// Ends a picture, and writes what is left of it. It fails where a write failed, and then a part of the
+/// picture is written. A picture is one element with elements inside.
 pub fn end_picture<O: Sink>(mut line: Line, out: &mut O) -> Result<(), Failed>
     ensures { (start : Option (List ℕ)) (before : ℕ) (text : List ℕ) → IsGathered start (O.seen out.old).written before (O.seen out.old).faults text line
         → Writes start (O.seen out.new).written before (O.seen out.new).faults (text ++ ending) result }

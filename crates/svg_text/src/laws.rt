@@ -5,7 +5,8 @@ ghost use Rattle.std.specs.List.{AllByRecursion};
 ghost use Rattle.svg_text.specs.Elements.{Element, picture_text};
 ghost use Rattle.svg_text.specs.WellFormed.{IsDocument, HasEachOnce};
 
-/// The text of a picture is a well-formed document, where no element of it has an attribute twice.
+/// The text of a picture is a well-formed document, where no element of it has an attribute twice. Each start
+/// has its end, names are names, and no text and no value has a character with a meaning of its own.
 pub fn pictures_are_well_formed()
     ensures { (width height : ℕ) (elements : List Element) → AllByRecursion HasEachOnce elements
         → IsDocument (picture_text width height elements) }
