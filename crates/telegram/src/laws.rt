@@ -14,6 +14,11 @@ use signature_table::{expected_residues_are_residues, signatures_are_distinct};
 /// Where each sending is answered rightly, the receipts are those of the wire run: over every list of
 /// events, a value is delivered exactly where the equation of signatures, the order of numbers, the age
 /// and the type allow it, and each refusal has its first cause. It does nothing: it states a law.
+///
+/// In the wire run a telegram is delivered exactly where its cycle has begun, its sender's signature with
+/// what was added is the heard sender's signature or differs from it by a multiple of `A`, its number is
+/// above every delivered one, the present cycle is at most the age later, and the value that arrives is a
+/// DINT.
 pub fn receipts_follow_the_equation()
     ensures run { (w : Wire) (es : List Event) → IsWire w → AreEvents w es → wire_read w (right_words w 0 (sent_in es)) es ≡ wired w es }
     ensures equation { (w : Wire) (sent : List (List ℤ)) (begun : ℕ) (numbers : List ℕ) (id n : ℕ) (alter v : ℤ)
@@ -24,14 +29,15 @@ pub fn receipts_follow_the_equation()
     expected_residues_are_residues();
 }
 
-/// The delivered numbers strictly rise, whatever the words are. It does nothing: it states a law.
+/// The delivered numbers strictly rise, whatever the words are. It does nothing: it states a law. So it is in
+/// the wire run, too.
 pub fn deliveries_rise()
     ensures run { (w : Wire) (es : List Event) → Rising (delivered (wired w es)) }
     ensures read { (w : Wire) (words : List (List ℤ)) (es : List Event) → Rising (delivered (wire_read w words es)) }
 {}
 
-/// Nothing is delivered more cycles after its sending than the age, nor before it, whatever the words
-/// are. It does nothing: it states a law.
+/// Nothing is delivered more cycles after its sending than the age, nor before it, whatever the words are. It
+/// does nothing: it states a law. So it is in the wire run, too.
 pub fn deliveries_are_young()
     ensures run { (w : Wire) (es : List Event) → AreYoung w.age (wired w es) }
     ensures read { (w : Wire) (words : List (List ℤ)) (es : List Event) → AreYoung w.age (wire_read w words es) }

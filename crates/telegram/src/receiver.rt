@@ -65,6 +65,11 @@ impl Receiver {
 
     /// Takes a telegram, whose number is below 1,000,000, and answers what comes of it. Only where its
     /// value is delivered does the receiver change: the number is then the last delivered one.
+    ///
+    /// The first that applies is answered: the number's cycle hasn't begun (`Early`); the residue isn't that
+    /// of the sender that is heard in that cycle (`Stray`); the number isn't above the last delivered one
+    /// (`Order`); the present cycle is further from the number than the age (`Age`); the value is no DINT
+    /// (`Value`); else the value is delivered (`Delivered`). It takes no memory.
     pub fn take(&mut self, telegram: &Telegram) -> Receipt
         requires { telegram.now.number < most_cycles }
         ensures receipt { result ≡ receipt_of self.old telegram.now }

@@ -20,6 +20,12 @@ use vcp_base::{Kind, Profile, Ty};
 ///
 /// It makes one call. There are 16 senders at most; the seed is below 2^30 and the step 1 to 1000, the
 /// number below 1,000,000, and the value a DINT. It takes no memory.
+///
+/// It is a call of CONST: the operation is the sender, the cycle the number, the correction the sender's
+/// signature, the stamp the cycle's, and each operand the zero word. Where the unit's log is told, it grows
+/// by that call with its answer. Where the count of wrong answers stays, below its last value, the answer is
+/// the word of the value with the residue of the sender and the cycle; it is no word only where the count
+/// rose.
 pub fn send<U: Unit>(unit: &mut U, id: u32, seed: u32, step: u16, number: u32, value: i64) -> Answer
     requires id { id < most_senders }
     requires seed { seed < seeds }

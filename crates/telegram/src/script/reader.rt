@@ -76,6 +76,11 @@ fn events(alloc: Global, wire: &Wire, bytes: &[u8], before: u32) -> Result<Event
 ///
 /// A text in which no line has `wire` as its first word is refused at line 1. A line is refused as `Form`,
 /// `Range` or `Unsent`, in this order.
+///
+/// A script's wire has 1 to 16 senders, the heard one among them, an age below 1,000,000, and a seed and a
+/// step in their ranges. In each cycle each sender has a value, a DINT; there are at most 1,000,000 cycles. A
+/// telegram that is handed is of one of the senders and of a cycle that has begun before, and what is added
+/// to its word is at most 2^62 in size.
 #[tactic(auto, using(crate::proofs::Reading::head_fails, crate::proofs::Reading::said, crate::proofs::Reading::nothing_said, crate::proofs::Reading::with_head, crate::proofs::Reading::without_head))]
 pub fn read_wire(alloc: Global, bytes: &[u8]) -> Result<Script, WireFault>
     requires { length bytes.now ≤ most_source_bytes }
