@@ -41,7 +41,9 @@ fn image_of(alloc: Global, text: &[u8]) -> Result<Image, NoInput>
     Ok(Image { graph, table })
 }
 
-/// The image under a name: the file is read whole, and has at most 16,777,216 bytes.
+/// The image under a name: the file is read whole, and has at most 16,777,216 bytes. It is that of a graph
+/// with a seed and a step, and what is loaded is that graph and its table; or it is refused: its length, then
+/// its first fault, field by field, with its offset.
 pub fn load_image<F: Files>(alloc: Global, files: &mut F, name: &Text) -> Result<Image, NoInput>
     // What is answered: the image that the file is, or why there is none.
     ensures loads { IfSome (F.seen files.old).held (λ h. Loads ImageOf NotImage h name.now most_image_bytes (F.seen files.old).broken (F.seen files.new).broken result) }

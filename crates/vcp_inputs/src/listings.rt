@@ -30,8 +30,9 @@ fn listed_program(alloc: Global, text: &[u8]) -> Result<Typed, NoInput>
     Ok(read_il(alloc, text)?)
 }
 
-/// The typed program of the instruction list under a name, which is read whole and taken through all its refusals. Its text and tokens
-/// are not kept.
+/// The typed program of the instruction list under a name, which is read whole and taken through all its
+/// refusals. Its text and tokens are not kept. It is refused by its length, and then by its first fault as
+/// `read_il` has it.
 pub fn load_il<F: Files>(alloc: Global, files: &mut F, name: &Text) -> Result<Typed, NoInput>
     // What is answered: the typed program of the file's instruction list, or why there is none.
     ensures loads { IfSome (F.seen files.old).held (λ h. Loads IsTypedIl NotListing h name.now most_il_bytes (F.seen files.old).broken (F.seen files.new).broken result) }

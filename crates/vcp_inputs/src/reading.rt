@@ -13,7 +13,10 @@ use std::alloc::Global;
 use vcp_base::Text;
 use vcp_outside::{Files, read_all};
 
-/// Reads the file under a name whole, which has at most so many bytes, fewer than 2^32.
+/// Reads the file under a name whole, which has at most so many bytes, fewer than 2^32. It is lacking, or the
+/// files broke, or it has more bytes than the limit, exactly so. It is unread only where the files' count of
+/// faults rose. After `Ok`, and after each refusal but that of the length, nothing is unread. So it is of
+/// each file that is loaded below, and no refusal is want of memory.
 pub fn read_file<F: Files>(
     alloc: Global,
     files: &mut F,

@@ -65,8 +65,9 @@ fn load_file<F: Files>(
     }
 }
 
-/// Takes ROWS through their refusals up to their header. `Form` comes for a file where there are no
-/// columns, and nothing is begun then; next `Unread`, and then `Bytes`.
+/// Takes ROWS through their refusals up to their header. `Form` comes for a file where there are no columns,
+/// and nothing is begun then; next `Unread`, and then `Bytes`. `Unread` comes only where a file is begun and
+/// the count of faults rose.
 pub fn load_rows<F: Files>(
     alloc: Global,
     files: &mut F,
@@ -104,9 +105,10 @@ pub fn load_rows<F: Files>(
 }
 
 impl RowsSource {
-    /// The rows for the columns with which the source was loaded. `Header` where a file's first
-    /// record isn't each column's name once, and `Form` for cycles where there are columns. There are
-    /// no more columns than a `u32` counts.
+    /// The rows for the columns with which the source was loaded. `Header` where a file's first record isn't
+    /// each column's name once, and `Form` for cycles where there are columns. There are no more columns than
+    /// a `u32` counts. Each row has a value of each column's type, and there are at most 1,000,000; what is
+    /// refused behind them is a record.
     pub fn open<'a>(&'a self, alloc: Global, columns: &'a Columns) -> Result<Rows<'a>, NoInput>
         requires few { HasFewCycles self.now }
         requires narrow { length columns.now < 2 ^ 32 }

@@ -33,7 +33,9 @@ fn script_of(alloc: Global, text: &[u8], graph: &Graph) -> Result<Script, NoInpu
     Ok(read_script(alloc, text, graph)?)
 }
 
-/// The script under a name, for a graph: the file is read whole, and has at most 1,048,576 bytes.
+/// The script under a name, for a graph: the file is read whole, and has at most 1,048,576 bytes. What is
+/// loaded are its groups, which fit that graph and have at most 10,000 faults; or it is refused: its length,
+/// then its first refused line with its one reason.
 pub fn load_script<F: Files>(
     alloc: Global,
     files: &mut F,

@@ -62,8 +62,9 @@ pub fn typed_of(alloc: Global, source: &Text) -> Result<Typed, NoInput>
     typed_program(alloc, source.bytes())
 }
 
-/// The program of the file under a name, which is read whole and taken through the refusals of the
-/// lexer and the parser.
+/// The program of the file under a name, which is read whole and taken through the refusals of the lexer and
+/// the parser. The program is the one that the tokens spell; or the first fault is answered: its length, then
+/// the lexer's, the parser's.
 pub fn load_program<F: Files>(alloc: Global, files: &mut F, name: &Text) -> Result<Program, NoInput>
     // What is answered: the file's program, or why there is none.
     ensures loads { IfSome (F.seen files.old).held (λ h. Loads IsTreeOf NoProgram h name.now most_source_bytes (F.seen files.old).broken (F.seen files.new).broken result) }
@@ -82,8 +83,9 @@ pub fn load_program<F: Files>(alloc: Global, files: &mut F, name: &Text) -> Resu
     program_of(alloc, source.bytes())
 }
 
-/// The typed program of the file under a name, which is read whole and taken through all its refusals.
-/// Its text and tokens are not kept.
+/// The typed program of the file under a name, which is read whole and taken through all its refusals. Its
+/// text and tokens are not kept. It is the checked program of the one program that the tokens spell; or the
+/// first fault is answered: its length, then the lexer's, the parser's, typing's.
 pub fn load_typed<F: Files>(alloc: Global, files: &mut F, name: &Text) -> Result<Typed, NoInput>
     // What is answered: the file's typed program, or why there is none.
     ensures loads { IfSome (F.seen files.old).held (λ h. Loads TypedOf NotTyped h name.now most_source_bytes (F.seen files.old).broken (F.seen files.new).broken result) }

@@ -62,7 +62,8 @@ pub fn input_status(input: &NoInput) -> u8
     }
 }
 
-/// Prints a line of a name and what is said of it.
+/// Prints a line of a name and what is said of it. Of it a proper part is written only where the sink's count
+/// rose; so it is of all lines here.
 pub fn tell_of<E: Sink>(err: &mut E, name: &[u8], what: &[u8]) -> Result<(), Failed>
     ensures { WritesTo (E.seen err.old) (E.seen err.new) (name.now ++ (what.now ++ codes "\n")) result }
 {

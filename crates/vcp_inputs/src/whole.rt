@@ -22,7 +22,8 @@ pub fn graph_columns(alloc: Global, graph: &Graph) -> Result<Columns, Memory>
     graph.columns(alloc)
 }
 
-/// All rows of a source for these columns, none of which is refused.
+/// All rows of a source for these columns, none of which is refused. Else they are refused, at their header
+/// or at a row, or memory was wanted.
 pub fn whole_rows(alloc: Global, inputs: &RowsSource, columns: &Columns) -> Result<RowList, NoInput>
     requires few { HasFewCycles inputs.now }
     requires narrow { length columns.now ≤ most_names }

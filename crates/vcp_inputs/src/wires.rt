@@ -30,7 +30,9 @@ fn wire_of(alloc: Global, text: &[u8]) -> Result<Script, NoInput>
     Ok(read_wire(alloc, text)?)
 }
 
-/// The script of a wire under a name: the file is read whole, and has at most 1,048,576 bytes.
+/// The script of a wire under a name: the file is read whole, and has at most 1,048,576 bytes. Its numbers
+/// are in their ranges, and it hands what was sent; or it is refused: its length, then its first refused line
+/// with its one reason.
 pub fn load_wire<F: Files>(alloc: Global, files: &mut F, name: &Text) -> Result<Script, NoInput>
     // What is answered: the script that the file is, or why there is none.
     ensures loads { IfSome (F.seen files.old).held (λ h. Loads WireOf NotWire h name.now most_source_bytes
