@@ -10,7 +10,7 @@ use crate::command::Command;
 use crate::words_left::WordsLeft;
 use vcp_base::{MOST_CYCLES, MOST_HORIZON, SEEDS, Words};
 
-/// The line that words get which are none of the forms.
+/// The line that words get which are none of the forms. It names all commands.
 pub fn usage() -> &'static [u8]
     ensures { result.now ≡ usage_text }
 {
@@ -18,7 +18,9 @@ pub fn usage() -> &'static [u8]
       widen M, il P ROWS CODE, pair M ROWS SEED, pairs M ROWS SEED F, wire F or demo N\n"
 }
 
-/// The command that the words say; None where they are none of the forms.
+/// The command that the words say; None where they are none of the forms. A command's number of cycles is at
+/// most 1,000,000, its seed, of CODE, of `pair` or of `pairs`, is below 2^30, its step is 1 to 1000, its
+/// cycle is below 1,000,000, and its horizon is at most 1000.
 pub fn command_of(words: &Words) -> Option<Command<'_>>
     ensures form { option_map form result ≡ form_of words.now }
     ensures sound { IfSome result (λ command. IsSound (form command)) }
