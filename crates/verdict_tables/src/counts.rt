@@ -48,7 +48,8 @@ pub fn totals_of_all(verdicts: &Verdicts) -> Totals
     totals
 }
 
-/// The status: 0 where each fault is seen or shows nowhere, and else 1.
+/// The status: 0 where each fault is seen or shows nowhere, and else 1. So it is 0 exactly where no verdict
+/// is `wrong` or `ran-on`.
 pub fn status(totals: &Totals) -> u8
     ensures status { result ≡ status_of totals.now }
     ensures known { result ≤ 1 }

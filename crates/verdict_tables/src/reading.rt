@@ -192,6 +192,11 @@ fn end(alloc: Global, totals: &Totals, number: u32, rest: &[u8]) -> Result<(), V
 
 /// The verdicts that a text tells of the groups of a script, line by line as a campaign prints them; or its first line that is
 /// refused. `Memory` where there is no room for them.
+///
+/// The text has a line for each group, in order, and then the totals of all; a line that begins with another
+/// number than its group's, that no verdict over the graph is printed as, that is lacking, whose totals are
+/// others, or that stands behind the totals is refused. The lines that are taken, each with its LF, are byte
+/// for byte those that a campaign prints of these verdicts.
 pub fn read_verdicts(
     alloc: Global,
     text: &[u8],

@@ -35,7 +35,8 @@ fn named(script: &[u8]) -> Option<&[u8]>
     digest(line)
 }
 
-/// Whether a script names the image with this digest, or none.
+/// Whether a script names the image with this digest, or none. It names one in the remark on its first line,
+/// where that is a remark of sites.
 pub fn is_for(digest: &[u8], script: &[u8]) -> bool
     ensures { result ≡ is_for_of digest.now script.now }
 {

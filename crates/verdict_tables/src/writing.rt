@@ -43,6 +43,8 @@ fn then_tables<O: Sink>(
 /// the verdict shows, and by how many cycles it comes behind the first fault; then each verdict that is `wrong` or `ran-on`, with the
 /// faults of its group; and the totals. A row in which nothing is counted is left out. It takes no memory. After `Failed` a part of the
 /// text is written.
+///
+/// Each group is counted once a row. A part is written only where the sink's count rose.
 pub fn write_sum<O: Sink>(
     out: &mut O,
     graph: &Graph,

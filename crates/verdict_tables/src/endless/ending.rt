@@ -52,6 +52,10 @@ fn ending_by(reached: bool, differs: bool) -> SameEnding
 
 /// How the run over rows with a group of faults ends beside the run without, of which `without` are the words of the cells at its end, as `words_left`
 /// gives them. `Memory` where there is no room for the work of a run.
+///
+/// It is never reached where no cycle comes to the operation of one of its faults; else it still stands where
+/// a cell has another word at the end, in its value or its residue alone; and else its difference has died
+/// out.
 pub fn group_ending(
     alloc: Global,
     graph: &Graph,
