@@ -179,9 +179,10 @@ impl Weights {
         self.distance(output, after).weight(op)
     }
 
-    /// Whether a data path leads from an operation to an output's OUT across exactly so many cycle
-    /// borders. The numbers are below those of operations and outputs, and `after` is at most the
-    /// horizon. It takes no memory.
+    /// Whether a data path leads from an operation to an output's OUT across exactly so many cycle borders.
+    /// The numbers are below those of operations and outputs, and `after` is at most the horizon. It takes no
+    /// memory. A path is a list of steps from an operation to one that reads it, or from a cell's STORE to
+    /// its LOAD across a border.
     pub fn reached(&self, op: u32, output: u32, after: u32) -> bool
         requires operation { op < self.now.operations }
         requires output { output < length self.now.outputs }

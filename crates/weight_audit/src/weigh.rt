@@ -32,6 +32,11 @@ const MOST_WEIGHTS: u64 = 16777216;
 /// stale operand `stale` says where that is none. The differences of several faults that add numbers to words
 /// add up, as `sums` says. The time is linear in the number of weights, and so
 /// is the memory: eight bytes for each, and one for its mark.
+///
+/// `TooLarge` comes exactly there, with that number; else want of memory is the only refusal. Of a fault
+/// alone the difference at an OUT is 0 before the fault's cycle; it comes as an integer over the unreduced
+/// sums, and modulo `A` by the weight. Sums are of faults of one run of which no two stand at one operation
+/// in one cycle.
 pub fn weights(
     alloc: Global,
     graph: &Graph,

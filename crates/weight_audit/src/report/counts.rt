@@ -12,7 +12,8 @@ fn one_if(holds: bool) -> u32
     if holds { 1 } else { 0 }
 }
 
-/// Whether an operation is blind for an output, after so many cycle borders.
+/// Whether an operation is blind for an output, after so many cycle borders. It is exactly where it is
+/// reached and its weight is 0.
 pub fn is_blind(weights: &Weights, op: u32, output: u32, after: u32) -> bool
     requires operation { op < weights.now.operations }
     requires output { output < length weights.now.outputs }

@@ -7,10 +7,10 @@ ghost use Rattle.weight_audit.specs.AuditLines.{reached_text, blind_text};
 use vcp_base::{Kind, Text, kind_name};
 use vcp_outside::{Failed, Line, Sink, begin};
 
-/// Writes, for an output and a number of cycle borders, from how many operations a data path leads to
-/// the output across exactly these borders, and how many of these operations are blind: the
-/// differences that are made there cancel on their paths. After `Failed` a part of the line is
-/// written.
+/// Writes, for an output and a number of cycle borders, from how many operations a data path leads to the
+/// output across exactly these borders, and how many of these operations are blind: the differences that are
+/// made there cancel on their paths. After `Failed` a part of the line is written. That comes only where the
+/// sink's count rose. It takes no memory.
 pub fn reached_line<O: Sink>(
     out: &mut O,
     name: &Text,
@@ -31,7 +31,8 @@ pub fn reached_line<O: Sink>(
     line.end(out)
 }
 
-/// Writes an operation that is blind, with its kind. After `Failed` a part of the line is written.
+/// Writes an operation that is blind, with its kind. After `Failed` a part of the line is written. That comes
+/// only where the sink's count rose. It takes no memory.
 pub fn blind_line<O: Sink>(out: &mut O, op: u32, kind: Kind) -> Result<(), Failed>
     ensures { WritesTo (O.seen out.old) (O.seen out.new) (blind_text op kind) result }
 {

@@ -129,10 +129,10 @@ fn then_output<O: Sink>(
     so_far
 }
 
-/// Writes the audit of a graph up to a horizon of at most 1000 cycle borders: for each output and each
-/// number of borders from 0, how many operations are reached and how many of these are blind, and
-/// then each blind one, in order. The weights are the graph's, up to this horizon. After `Failed` a
-/// part of the text is written.
+/// Writes the audit of a graph up to a horizon of at most 1000 cycle borders: for each output and each number
+/// of borders from 0, how many operations are reached and how many of these are blind, and then each blind
+/// one, in order. The weights are the graph's, up to this horizon. After `Failed` a part of the text is
+/// written. That comes only where the sink's count rose. It takes no memory.
 pub fn write_audit<O: Sink>(
     out: &mut O,
     graph: &Graph,
