@@ -38,7 +38,8 @@ impl<D: Device> Unit for JudgedUnit<D> {
 
     ghost seen = { λ u. record { log = None; wrong = u.wrong } };
 
-    /// Does one call on the device, and counts its answer where it isn't the right one.
+    /// Does one call on the device, and counts its answer where it isn't the right one. Its answer is the
+    /// device's. It tells no log, and counts up to 2^64 - 1.
     fn perform(&mut self, call: &Call) -> Answer
         requires { Asked call.now }
         ensures log { GrowsBy None None ((call.now, result) ∷ []) }

@@ -6,7 +6,8 @@ ghost use Rattle.coded_unit.specs.declared.call.Answer.TheVariants as answer;
 use crate::device::Device;
 use coded_unit::{Answer, Call, Word};
 
-/// A device whose output is stuck: it answers one word to each call.
+/// A device whose output is stuck: it answers one word to each call. It answers its one word to each call,
+/// and stays the same.
 #[derive(Drop)]
 pub struct StuckDevice {
     word: Word,
