@@ -67,6 +67,10 @@ summary_job number p left = record {
   words = no_words;
 }
 
+-- The words `demo N` lead to the refusals of the made source of N, told as `demo`, where it has one, or to
+-- those of the made rows; else to a run on the unit of its checked program over the made rows, as `run` runs
+-- it with no words of a code, of which the summary is printed: the number of cycles, the last value of the
+-- first output and the sum of all. Where the run ends early its last line stands in the summary's place.
 -- the made source of a number, on its made rows; no file is read
 abbrev pub DemoTask : ℕ → Task → Type 0
 DemoTask number task =

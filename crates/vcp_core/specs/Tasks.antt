@@ -59,15 +59,24 @@ most_trace = 16777216
 
 -- ---- P alone, M alone
 
+-- The words `check P` and `format P` lead to P's lack, to its `L1`, to a fault of the lexer or the parser at
+-- its place, or to what is said of the one program that the tokens of P spell, no token deeper than 64: for
+-- `format` its canonical text; for `check` its first fault of typing, the name or the Size that passes a
+-- limit, or the Size of its checked program.
 abbrev pub CheckTask : List ℕ → Held → Task → Type 0
 CheckTask p held task = TypedFile (λ t x. x ≡ prints (ok_text (size t))) p held task
 
 abbrev pub FormatTask : List ℕ → Held → Task → Type 0
 FormatTask p held task = ParsedFile (λ p x. x ≡ prints (canonical p)) p held task
 
+-- The words `compile P CODE` lead to the same refusals of P as `check P`, or to the image of a graph of the
+-- checked program, with the seed and step of the words.
 abbrev pub CompileTask : List ℕ → Code → Held → Task → Type 0
 CompileTask p code held task = TypedFile (λ t x. x ≡ compiles t code) p held task
 
+-- The words `list M` and `widen M` lead to M's lack, to its `L1`, to the first fault of its bytes at its
+-- offset, or to an answer for the one graph, seed and step whose image M is: for `list` a line for each
+-- operation, for `widen` the image of the same lists in the wide code with the same seed and step.
 abbrev pub ListTask : List ℕ → Held → Task → Type 0
 ListTask m held task = ImageFile (λ i x. x ≡ prints (listing i.graph i.table)) m held task
 
@@ -79,6 +88,10 @@ pub data Audited (horizon : ℕ) (name : List ℕ) (i : Image) : Task → Type 0
   too_large : most_weights < weights_up_to i.graph horizon → Audited horizon name i (refusal_task name refusal.Audit)
   printed : weights_up_to i.graph horizon ≤ most_weights → (told : List ℕ) → AuditOf i.graph horizon told → Audited horizon name i (prints told)
 
+-- The words `audit M HORIZON` lead to the same refusals of M, and then to `L6` exactly where the operations
+-- of its graph times its outputs times one more than the horizon are above 16,777,216; else to the one audit
+-- of that graph up to the horizon: for each output and number of cycle borders how many operations are
+-- reached and blind, and each blind one, in order.
 abbrev pub AuditTask : List ℕ → ℕ → Held → Task → Type 0
 AuditTask m horizon held task = ImageFile (Audited horizon m) m held task
 
@@ -100,6 +113,10 @@ plain_answer name p left =
     told_answer (every_row (output_names p)) (output_names p) name left
     (record { rows = (told_source p left.rows).rows; end = end_told (told_source p left.rows).end; words = no_words.meant left.rows })
 
+-- The words `plain P ROWS` and `run P ROWS CODE` lead to the same refusals of P as `check P`, and then to
+-- those of ROWS, `R4` whatever the file holds; or to a run of the checked program over the rows that are left
+-- after the header, up to its end, or the refusal of a later row with its line and status 1. For `plain` that
+-- is an answer, the program's own run; for `run` a run on the unit, with the seed and step of the words.
 abbrev pub PlainTask : List ℕ → Rows → Held → Task → Type 0
 PlainTask p rows held task =
     TypedFile (λ t. TakenRows (λ left x. x ≡ answers (plain_answer (rows_name rows) t left)) rows held (input_columns t.slots)) p held task
@@ -108,10 +125,17 @@ abbrev pub RunTask : List ℕ → Rows → Code → Held → Task → Type 0
 RunTask p rows code held task =
     TypedFile (λ t. TakenRows (λ left x. x ≡ runs (rows_job (rows_name rows) code (source t) left)) rows held (input_columns t.slots)) p held task
 
+-- The words `il P ROWS CODE` lead to P's lack, to its `L1`, or to its first fault as an instruction list;
+-- else to the refusals of ROWS for its inputs, or to its run on the unit: that of any graph that stands for
+-- its typed program.
 abbrev pub IlTask : List ℕ → Rows → Code → Held → Task → Type 0
 IlTask p rows code held task =
     ListingFile (λ i. TakenRows (λ left x. x ≡ runs (rows_job (rows_name rows) code (listed i) left)) rows held (input_columns i.slots)) p held task
 
+-- The words `exec M ROWS` and `trace M ROWS CYCLE` lead to the same refusals of M, and then to those of ROWS
+-- as for `run`; or to a run on the unit of that graph with that seed and step, over the rows that are left
+-- after the header, for `trace` through its cycle, with `R5` behind them where there are too few and nothing
+-- else is refused.
 abbrev pub ExecTask : List ℕ → Rows → Held → Task → Type 0
 ExecTask m rows held task =
     ImageFile (λ i. TakenRows (λ left x. x ≡ runs (rows_job (rows_name rows) (table_code i.table) (image i.graph) left)) rows held (graph_columns i.graph))
@@ -140,6 +164,10 @@ abbrev pub JudgedScript : Image → List ℕ → Held → List (List ℤ) → Ta
 JudgedScript i f held rows task =
     ScriptFile i.graph (λ groups x. x ≡ judges (record { graph = i.graph; table = i.table; rows = rows; groups = groups })) f held task
 
+-- The words `inject M ROWS F` lead to the same refusals of M, and then to those of ROWS with all its rows;
+-- then to `L7` exactly where the rows times the operations of the image's graph are above 16,777,216; then to
+-- F's lack, its `L1` or its first refused line; else to a verdict on each group of the script over these
+-- rows, in order, and the totals.
 abbrev pub InjectTask : List ℕ → Rows → List ℕ → Held → Task → Type 0
 InjectTask m rows f held task =
     ImageFile
@@ -162,6 +190,9 @@ pub data Apart (name : List ℕ) (seed : ℕ) (Then : Image → Task → Type 0)
 abbrev pub Compared : Rows → Held → Image → Task → Type 0
 Compared rows held i task = TakenRows (λ left x. x ≡ compares (pair_job (rows_name rows) i left)) rows held (graph_columns i.graph) task
 
+-- The words `pair M ROWS SEED` lead to the same refusals of M, and then to `L8` exactly where SEED is the
+-- image's seed; else to those of ROWS as for `run`, or to a run of two channels over that graph and the rows
+-- that are left after the header, the first with the image's table on the unit.
 abbrev pub PairTask : List ℕ → Rows → ℕ → Held → Task → Type 0
 PairTask m rows seed held task = ImageFile (Apart m seed (Compared rows held)) m held task
 
@@ -174,11 +205,16 @@ abbrev pub PairsRows : Rows → List ℕ → Held → Image → Task → Type 0
 PairsRows rows f held i task =
     TakenRows (λ left. WholeRows (rows_name rows) (PairsScript i f held) left.rows left.refusal) rows held (graph_columns i.graph) task
 
+-- The words `pairs M ROWS SEED F` lead to the same refusals of M, and then to `L8` exactly where SEED is the
+-- image's seed; then to those of ROWS with all its rows, and to those of F, as for `inject` but without `L7`;
+-- else to the groups of the script over these rows, in order, on two channels, and the totals.
 abbrev pub PairsTask : List ℕ → Rows → ℕ → List ℕ → Held → Task → Type 0
 PairsTask m rows seed f held task = ImageFile (Apart m seed (PairsRows rows f held)) m held task
 
 -- ---- telegrams
 
+-- The words `wire F` lead to F's lack, to its `L1`, to its first refused line, or to the run of the script of
+-- a wire.
 abbrev pub WireTask : List ℕ → Held → Task → Type 0
 WireTask f held task = WireFile (λ s x. x ≡ wires s) f held task
 

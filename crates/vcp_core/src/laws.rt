@@ -55,6 +55,9 @@ pub fn one_task()
 /// one, unless it has too many bytes: so nothing that `compile` and `widen` write is refused as no image.
 /// The wide graph that `widen` writes has an image too and the same run, and it is the graph itself where
 /// that is wide.
+///
+/// `audit` may refuse it (`L6`), and `pair` and `pairs` for its seed (`L8`). Where its graph hasn't too many
+/// weights for the horizon, `audit` prints the audit of that graph.
 pub fn written_images_are_taken()
     ensures taken { (g : Lists) (seed step : ℕ) (Then : Lists → Numbers → Task) (name : List ℕ) (held : Held) (task : Task) →
         HasImage g seed step → length (image_of g seed step) ≤ most_image_bytes →

@@ -57,6 +57,32 @@ use vcp_words::{Command, command_of};
 /// | 5 | a file failed |
 /// | 6 | a sink failed |
 /// | 7 | memory was wanted |
+///
+/// By its clauses:
+/// - `serves`: For the one task that the words lead to with what is held, the program ends in one of these ways: the task's answer is given; the
+///   files failed; the output's sink failed; the errors' sink failed; memory was lacking. Or it was given up before the task was known, as a promise
+///   below says.
+/// - `some`: Words and what is held lead to a task, whatever bytes are held, and to one alone; where that is an answer it has the status 0, 1 or 2;
+///   and where all files of a command are held it is no lack.
+/// - `complete`: Completeness: where the files that the words name are held, nothing failed, the unit was honest, if the command calls it, and
+///   nothing of the task is refused, the task is brought to its end, unless memory was lacking: with 0, or with 2 where the command may meet a stop;
+///   all that is meant by it was written, and of the file that was begun last nothing is unread.
+/// - `as_plain`: Where no answer was wrong, `run P ROWS CODE` writes the bytes that `plain P ROWS` is to write, with its status, unless the status is
+///   5, 6 or 7.
+/// - `usage`: Status 4 comes only where the words are none of the forms; such words get the usage line, and nothing else that contracts see changes.
+/// - `keeps`: What every command keeps, and which cause each of the statuses 2, 3, 5 and 6 has, whatever unit, files and sinks are: `Keeps`, in
+///   `command_meaning`.
+/// - `known`: The status is none but 0 to 7.
+/// - `accepted`: Of each group of faults that fits, over any rows: in a cycle that the run under it reaches and ends without a stop, for the answers
+///   of a unit that carries the faults out around an honest one, the outputs are released exactly where each is accepted, that is, where the
+///   difference of its OUT is 0 modulo `A`; else the first that isn't is refused, with both residues.
+/// - `stale`: A stale operand alone is unseen at an output, so many cycle borders later, exactly where the step times the operand's multiplier times
+///   the weight of its operation there is 0 modulo `A`; else the run is refused there, if it comes so far, or was refused or stopped before.
+/// - `listed`: The typed program that `il` runs has, over every list of rows, the rows of outputs and the end of the run of its instruction list on
+///   an accumulator.
+/// - `delivers`: Of each script that fits: in what is told, whatever words are answered, the delivered numbers strictly rise, and nothing is
+///   delivered before its sending nor more cycles after it than the age; and where all words are right, what is told is the wire run, in which what
+///   is delivered of a telegram that wasn't altered was sent by the heard sender under its number.
 pub fn vcp<F: Files, U: Unit, O: Sink, E: Sink>(
     alloc: Global,
     words: &Words,
