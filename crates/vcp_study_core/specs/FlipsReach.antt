@@ -1,4 +1,7 @@
 -- FlipsReach: how far `sites M ROWS flips` comes before its fault's line, if there is one, is printed.
+-- `sites M ROWS flips`: the same of the flips in the run of the image's graph over all rows, or up to its
+-- stop. Or the line and status tell why nothing was written: M is lacking or no image; ROWS, by its own name,
+-- is lacking or refused; the script would have more than 10,000 faults (1), or memory was lacking.
 use Rattle.std.specs.Prelude.{ℕ, ℤ, ◌≡◌, ◌⊎◌, List, [], codes, Option, Result, Ok, Err}
 use Rattle.std.specs.Io.KnownBytes.{Appends}
 use Rattle.vcp_base.specs.Limits.{most_image_bytes}

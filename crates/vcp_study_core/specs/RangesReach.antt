@@ -1,4 +1,8 @@
 -- RangesReach: how far `ranges M` comes before its fault's line, if there is one, is printed.
+-- `ranges M`: what is told of the operations of the image's graph is written, and the status is 0 where none
+-- is named, and else 1. Status 0 comes only where no run of the graph over rows that fit ends at a stop. Or
+-- the line and status tell why nothing was written: M is lacking or no image, or memory was lacking; or a
+-- proper part was written where the sink failed.
 use Rattle.std.specs.Prelude.{ℕ, zero, suc, ◌≡◌, Bool, List, [], length, Option, Result, Ok, Err}
 use Rattle.std.specs.Io.KnownBytes.{Appends}
 use Rattle.vcp_base.specs.Limits.{most_image_bytes}

@@ -1,4 +1,9 @@
 -- Reach: how far a command comes before its fault's line, if there is one, is printed.
+-- `graph M HORIZON`: where it is told what the files hold, the output is a picture of the graph of the image
+-- M, up to the horizon, with status 0; or nothing was written and the line and status say why: the file is
+-- refused (1), in the words of `vcp`, or too large for an audit (1), it couldn't be read (5), or memory was
+-- lacking (7); or a proper part of that picture was written where the sink failed (6).
+-- `dot M HORIZON`: the same, of the text of that graph for Graphviz.
 use Rattle.std.specs.Prelude.{ℕ, ◌≡◌, ◌⊎◌, ◌<◌, ◌≤◌, List, [], ◌++◌, codes, length, Option, Some, None, Result, Ok, Err}
 use Rattle.std.specs.Io.KnownBytes.{Appends}
 use Rattle.vcp_base.specs.Limits.{most_image_bytes}

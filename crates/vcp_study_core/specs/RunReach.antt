@@ -1,4 +1,7 @@
 -- RunReach: how far `waves FILE` comes before its fault's line, if there is one, is printed.
+-- `waves FILE`: the timing diagram of the run that FILE tells is written, and the status is 0; or its line
+-- and status tell why not: FILE has more than 67,108,864 bytes or is lacking, it is no run (its one fault,
+-- status 1), the sink failed, or memory was lacking.
 use Rattle.std.specs.Prelude.{ℕ, ◌≡◌, ◌≢◌, ◌≤◌, List, [], length, Option, Some, Result, Ok, Err}
 use Rattle.std.specs.Io.KnownBytes.{Appends}
 use Rattle.vcp_base.specs.Limits.{most_rows_bytes}

@@ -1,4 +1,9 @@
 -- ScriptReach: how far `script M NAMED` comes before its fault's line, if there is one, is printed.
+-- `script M NAMED`: the script of the lines of NAMED, which are all taken over the image M, is written, with
+-- status 0; read back, it is the faults that these lines name, and it has at most 1,048,576 bytes. Or nothing
+-- is written, and the line and status tell why: M is lacking or no image; NAMED is lacking or has more than
+-- 262,144 bytes, or a line of it is refused (1), the first one; or memory was lacking; or a proper part was
+-- written where the sink failed.
 use Rattle.std.specs.Prelude.{ℕ, ◌≡◌, ◌≤◌, List, [], length, Option, Some, Result, Ok, Err}
 use Rattle.std.specs.Io.KnownBytes.{Appends}
 use Rattle.vcp_base.specs.Limits.{most_image_bytes, most_source_bytes}

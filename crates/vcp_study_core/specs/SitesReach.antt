@@ -1,4 +1,9 @@
 -- SitesReach: how far `sites M CYCLES CLASS` comes before its fault's line, if there is one, is printed.
+-- `sites M CYCLES CLASS`: the script of the class's sites in the image's graph is written, or of a part of
+-- them, behind a remark with the image's digest, with status 0; read back, it is exactly these faults, a
+-- group each, in their order, of which none stands twice. Or their number is written. Or the line and status
+-- tell why nothing was written: M is lacking or no image, the script would have more than 10,000 faults (1),
+-- or memory was lacking; or a proper part was written where the sink failed.
 use Rattle.std.specs.Prelude.{ℕ, ◌≡◌, List, [], Option, Result, Ok, Err}
 use Rattle.std.specs.Io.KnownBytes.{Appends}
 use Rattle.vcp_base.specs.Limits.{most_image_bytes}

@@ -1,4 +1,12 @@
 -- ToldReach: how far `sum M SCRIPT VERDICTS` and `faults M SCRIPT VERDICTS` come before their fault's line, if there is one, is printed.
+-- `sum M SCRIPT VERDICTS`: the tables of the verdicts that VERDICTS tells of the groups of SCRIPT over the
+-- image M are written, and the status is 0 where none of these is `wrong` or `ran-on`, and else 1. Or nothing
+-- is written, and the line and status tell why, by the first file of which there is nothing, in this order: M
+-- is lacking or no image; SCRIPT is lacking, names another image by its remark, or is no script for this one;
+-- VERDICTS is lacking, or a line of it is refused (1), the first one; or memory was lacking; or a proper part
+-- was written where the sink failed.
+-- `faults M SCRIPT VERDICTS`: the same with the picture of the image's graph in the place of the tables, each
+-- operation in the colour of the worst of the verdicts of the groups that have a fault there.
 use Rattle.std.specs.Prelude.{ℕ, ◌≡◌, ◌≢◌, ◌≤◌, Bool, List, [], length, All, true, false, Option, Some, Result, Ok, Err}
 use Rattle.std.specs.Io.KnownBytes.{Appends}
 use Rattle.vcp_base.specs.Limits.{most_image_bytes, most_rows_bytes, most_source_bytes}

@@ -37,6 +37,12 @@ use vcp_outside::{Failed, Files, Sink};
 /// | 5 | a file failed |
 /// | 6 | a sink failed |
 /// | 7 | memory was wanted |
+///
+/// By its clauses:
+/// - `answered`: For the command that the words are, how far it came, what it wrote and why it ended: a module `..Reach` for each command.
+/// - `usage`: Words that are none of the forms get the usage line and status 4, and nothing else is done; no other words get status 4.
+/// - `keeps`: Whatever the files tell: the status is at most 7, no file is written, status 0 comes after the file was read to its end, status 5 only
+///   where the count of the files' faults rose, and status 6 only where that of a sink rose.
 pub fn vcp_study<F: Files, O: Sink, E: Sink>(
     alloc: Global,
     words: &Words,
