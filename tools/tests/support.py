@@ -10,8 +10,8 @@ import tempfile
 import unittest
 from pathlib import Path
 
-from tools.main import main
-from tools.program import TOP, find_program
+from vcp_tools.main import main
+from vcp_tools.program import TOP, find_program
 
 DATA = Path(__file__).resolve().parent / "data"
 EXAMPLES = TOP / "examples"

@@ -3,9 +3,9 @@ from __future__ import annotations
 
 import unittest
 
-from tools.image import read_image
-from tools.refusal import Refusal
-from tools.tests.support import EXAMPLES, InFolder, needs_program
+from vcp_tools.read.image import read_image
+from vcp_tools.refusal import Refusal
+from tests.support import EXAMPLES, InFolder, needs_program
 
 IMAGE_OF_A_SUM = bytes.fromhex(
     "564350414e42440a 0001 0001 00000000 00000002 00000001 00000001 00000000 00000000 00000004 00000001 78 00000001 79 00000000 02 00000001 02 00000003"

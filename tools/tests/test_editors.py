@@ -5,9 +5,9 @@ import json
 import re
 import unittest
 
-from tools.program import TOP
-from tools.source import RESERVED
-from tools.syntax import ARGUMENTS
+from vcp_tools.program import TOP
+from vcp_tools.read.source import RESERVED
+from vcp_tools.read.syntax import ARGUMENTS
 
 FOLDER = TOP / "tools" / "editors" / "vscode"
 

@@ -8,12 +8,13 @@ import unittest
 from dataclasses import dataclass, field
 from unittest import mock
 
-from tools.fault_line import meanings, read_ending, read_fault
-from tools.hints_files import group_hint, reading_hint, wire_hint, words_hint
-from tools.hints_il import OPERATORS, declarations_of, il_hint
-from tools.source import RESERVED, Source, literal_value
-from tools.syntax import SyntaxFault, parse
-from tools.tests.support import DATA, EXAMPLES, InFolder, needs_program
+from vcp_tools.read.fault_line import meanings, read_ending, read_fault
+from vcp_tools.explain.hints_files import group_hint, reading_hint, wire_hint, words_hint
+from vcp_tools.explain.hints_il import il_hint
+from vcp_tools.read.instruction_list import OPERATORS, declarations_of
+from vcp_tools.read.source import RESERVED, Source, literal_value
+from vcp_tools.read.structured_text import SyntaxFault, parse
+from tests.support import DATA, EXAMPLES, InFolder, needs_program
 
 FRAME = "PROGRAM p\nVAR_INPUT a : BOOL; i : INT; d : DINT; END_VAR\nVAR_OUTPUT q : BOOL; r : INT; END_VAR\nVAR t : INT; x : BOOL; END_VAR\n%sEND_PROGRAM\n"
 ROWS = "PROGRAM p\nVAR_INPUT approach, island : BOOL; END_VAR\nVAR_OUTPUT y : BOOL; END_VAR\ny := approach OR island;\nEND_PROGRAM\n"
@@ -48,7 +49,10 @@ def mistakes() -> list[Mistake]:
             if mark == "!":
                 found[-1].line = rest
             else:
-                {"$": found[-1].calls, ">": found[-1].made, "?": found[-1].said}[mark].append(rest.split() if mark == "$" else rest)  # type: ignore[arg-type]
+                if mark == "$":
+                    found[-1].calls.append(rest.split())
+                else:
+                    (found[-1].made if mark == ">" else found[-1].said).append(rest)
         elif name:
             form, text = found[-1].files[name]
             found[-1].files[name] = (form, text + line + "\n")
@@ -161,7 +165,7 @@ class Readers(unittest.TestCase):
             parse(Source(file.read_bytes()))
         with self.assertRaises(SyntaxFault) as raised:
             parse(Source(b"PROGRAM p x := 1 END_PROGRAM"))
-        self.assertEqual(raised.exception.token.text, "END_PROGRAM")
+        self.assertEqual(raised.exception.text, "END_PROGRAM")
 
     def test_the_document_has_the_meaning_of_each_code(self) -> None:
         wanted = ("L1 S1 S2 S3 S4 S5 T1 T2 T3 T4 T5 T6 T7 T8 Q1 Q2 Q3 Q4 Q5 Q6 L2 L3 "
@@ -176,11 +180,13 @@ class Readers(unittest.TestCase):
     def test_groups_of_a_script(self) -> None:
         script = "begin\nskip 1 2\nresult 1 2 add 1\nbegin\nend\nend\nbegin\nend".split("\n")
         for number, code, said in ((3, "F6", "line 2 of this group changes operation 2 in cycle 1"), (4, "F5", "the group of line 1 has no `end` yet"),
-                                   (5, "F5", "has no fault"), (6, "F5", "no `begin` stands before"), (7, "F5", "no `end` follows"), (90, "F5", "changed since")):
+                                   (5, "F5", "has no fault"),
+                                   (6, "F5", "no `begin` stands before"), (7, "F5", "no `end` follows"), (90, "F5", "changed since")):
             self.assertIn(said, group_hint(script, number, code).message)
 
     def test_lines_of_a_wire(self) -> None:
-        for line, code, said in (("wire 2 0", "G1", "the form is `wire SENDERS LISTEN"), ("delivr 0 0 0", "G1", "did you mean `deliver`"), ("", "G1", "the lines are"),
+        for line, code, said in (("wire 2 0", "G1", "the form is `wire SENDERS LISTEN"), ("delivr 0 0 0", "G1", "did you mean `deliver`"),
+                                 ("", "G1", "the lines are"),
                                  ("wire 17 0 0 0 1", "G2", "SENDERS is 1 to 16"), ("cycle 1 2", "G2", "one value for each sender"),
                                  ("deliver 0 0 4611686018427387905", "G2", "what is added"), ("deliver 1 0 0", "G3", "no such telegram was sent")):
             self.assertIn(said, wire_hint(line, code))
@@ -192,7 +198,8 @@ class Readers(unittest.TestCase):
                                  ("JMP next", "Q1", "there are no jumps"),
                                  ("NOT q", "Q1", "NOT has no operand"), ("y := x;", "Q1", "this is Structured Text"), ("LD - x", "Q1", "without a type"),
                                  ("x", "Q1", "`x` is a variable"), ("LD x END_PROGRAM", "Q1", "END_PROGRAM stands alone"),
-                                 ("END_PROGRAM LD", "Q1", "behind END_PROGRAM"), ("", "Q1", "END_PROGRAM is missing"), ("ADD 1", "Q4", "no result yet for ADD")):
+                                 ("END_PROGRAM LD", "Q1", "behind END_PROGRAM"), ("", "Q1", "END_PROGRAM is missing"),
+                                 ("ADD 1", "Q4", "no result yet for ADD")):
             source = Source((head + line).encode())
             self.assertIn(said, il_hint(source, code, source.offset(5, 1)).message, line)
         for line, code, said in (("LD z", "Q2", "`z` isn't declared"), ("LD C", "Q2", "write its value"), ("LD INT#40000", "Q2", "from -32768 to 32767"),

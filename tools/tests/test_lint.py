@@ -3,10 +3,11 @@ from __future__ import annotations
 
 import re
 
-from tools.constants import constant
-from tools.source import Source
-from tools.syntax import Types, expressions, parse
-from tools.tests.support import EXAMPLES, InFolder, needs_program
+from vcp_tools.lint.constants import constant
+from vcp_tools.read.source import Source
+from vcp_tools.read.structured_text import parse
+from vcp_tools.read.syntax import Types, expressions
+from tests.support import EXAMPLES, InFolder, needs_program
 
 HEAD = "PROGRAM p\nVAR_INPUT a, b : BOOL; i : INT; END_VAR\nVAR_OUTPUT q : BOOL; r : INT; END_VAR\nVAR t : INT; END_VAR\nVAR CONSTANT C : INT := 3; END_VAR\n"
 USES = "q := a OR b;\nr := i + t + C;\n"

@@ -6,12 +6,12 @@ import re
 import shutil
 from html.parser import HTMLParser
 
-from tools.audit_lines import reached_from, read_audit
-from tools.image import read_image
-from tools.report import sections_of
-from tools.tests.support import EXAMPLES, InFolder, needs_program
-from tools.verdict_lines import read_verdicts
-from tools.waves import segments
+from vcp_tools.read.audit_lines import reached_from, read_audit
+from vcp_tools.read.image import read_image
+from vcp_tools.pictures.report import sections_of
+from tests.support import EXAMPLES, InFolder, needs_program
+from vcp_tools.read.verdict_lines import read_verdicts
+from vcp_tools.pictures.waves import segments
 
 VOID = ("meta", "line", "polyline", "rect")
 

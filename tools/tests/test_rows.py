@@ -3,8 +3,8 @@ from __future__ import annotations
 
 import unittest
 
-from tools.rows_file import cell_value, read_rows
-from tools.tests.support import EXAMPLES, InFolder
+from vcp_tools.read.rows_file import cell_value, read_rows
+from tests.support import EXAMPLES, InFolder
 
 PROGRAM = "PROGRAM p\nVAR_INPUT go : BOOL; speed : INT; END_VAR\nVAR_OUTPUT y : BOOL; END_VAR\ny := go AND speed > 3;\nEND_PROGRAM\n"
 

@@ -6,10 +6,10 @@ import shutil
 import subprocess
 import unittest
 
-from tools.observe import opened
-from tools.run_lines import read_run, read_trace
-from tools.source import Source
-from tools.tests.support import EXAMPLES, InFolder, needs_program
+from vcp_tools.pictures.observe import opened
+from vcp_tools.read.run_lines import read_run, read_trace
+from vcp_tools.read.source import Source
+from tests.support import EXAMPLES, InFolder, needs_program
 
 COUNTER = """PROGRAM Counter
 VAR_INPUT go : BOOL; END_VAR

@@ -1,0 +1,1 @@
+"""Comparisons: of two programs, and of a run with wanted rows."""

@@ -1,0 +1,189 @@
+"""`diff`: whether two programs or images have the same operations, and else where they part.
+
+Two operations are the same where they have the same kind and types, the same name or value, and the same operands, which are compared so in turn. Numbers,
+places, signatures and corrections are left aside. A LOAD stands for its cell: cells with one name are one, and of those that are left the first with the first.
+"""
+from __future__ import annotations
+
+import argparse
+from dataclasses import dataclass
+from typing import Hashable, Iterator
+
+from vcp_tools.wording import article
+from vcp_tools.read.image import Cell, Image, Operation, Slot
+from vcp_tools.program import Program
+from vcp_tools.read.given import Given, load
+from vcp_tools.refusal import FINE, FOUND
+
+MAY_STOP = frozenset(("ADD", "SUB", "MUL", "DIV", "MOD", "NEG", "CONV"))
+"""The kinds whose value may be outside its type, or which divide by 0."""
+MOST = 20
+"""So many differences are told at most."""
+
+
+def add_words(parser: argparse.ArgumentParser) -> None:
+    """The words of `diff`."""
+    parser.add_argument("first", metavar="A", help="a source or an image")
+    parser.add_argument("second", metavar="B", help="a source or an image")
+
+
+def run(given: argparse.Namespace) -> int:
+    """Prints whether both have the same operations; the status is 1 where they haven't."""
+    program = Program.found()
+    comparison = Comparison(load(program, given.first), load(program, given.second))
+    differences = list(comparison.differences())
+    for note in comparison.notes():
+        print(note)
+    if not differences:
+        print(comparison.verdict())
+        return FINE
+    print(f"A has {len(comparison.a.image.operations)} operations and B {len(comparison.b.image.operations)}: not the same ones")
+    for difference in differences[:MOST]:
+        print(difference)
+    if len(differences) > MOST:
+        print(f"and {len(differences) - MOST} more differences")
+    return FOUND
+
+
+class Trees:
+    """Numbers for operations: two operations of any graphs have one number exactly where they are the same."""
+
+    def __init__(self) -> None:
+        self.numbers: dict[Hashable, int] = {}
+
+    def of(self, image: Image, cell_names: dict[str, str]) -> list[int]:
+        """The number of each operation of a graph; `cell_names` has the name by which a cell is known, by its own."""
+        found: list[int] = []
+        for operation in image.operations:
+            own: Hashable = operation.own if operation.kind == "CONST" else None
+            if operation.kind == "INPUT":
+                own = image.name_of(operation).upper()
+            elif operation.kind == "LOAD":
+                own = cell_names[image.name_of(operation)]
+            key = (operation.kind, operation.operand_type, operation.type, own, *(found[it] for it in operation.operands))
+            found.append(self.numbers.setdefault(key, len(self.numbers)))
+        return found
+
+
+@dataclass(frozen=True)
+class Pair:
+    """A cell of A and the one of B that stands for it."""
+
+    a: Cell
+    b: Cell
+
+
+class Comparison:
+    """Two graphs side by side."""
+
+    def __init__(self, a: Given, b: Given) -> None:
+        self.a, self.b = a, b
+        self.pairs, self.alone = _paired(a.image.cells, b.image.cells)
+        trees = Trees()
+        names_a = {cell.name: cell.name.upper() for cell in a.image.cells}
+        names_b = {cell.name: cell.name.upper() for cell in b.image.cells} | {pair.b.name: pair.a.name.upper() for pair in self.pairs}
+        self.trees_a = trees.of(a.image, names_a)
+        self.trees_b = trees.of(b.image, names_b)
+
+    def notes(self) -> Iterator[str]:
+        """What differs and is no operation: the code, and names of cells."""
+        first, second = self.a.image, self.b.image
+        if (first.seed, first.step) != (second.seed, second.step):
+            yield f"seed and step are {first.seed} and {first.step} in A, {second.seed} and {second.step} in B, which changes the code and no operation"
+        for pair in self.pairs:
+            if pair.a.name.upper() != pair.b.name.upper():
+                yield f"the cell {pair.a.name} of A is taken for {pair.b.name} of B"
+
+    def verdict(self) -> str:
+        """What is said of two graphs without a difference."""
+        count = len(self.a.image.operations)
+        if self.trees_a == self.trees_b:
+            return f"the same {count} operations in the same order"
+        return f"the same {count} operations in another order: the same values, and the same stops, but where two stop in one cycle the other one may be told"
+
+    def differences(self) -> Iterator[str]:
+        """All differences, in words."""
+        if self.a.image.version != self.b.image.version:
+            codes = {1: "narrow", 2: "wide"}
+            yield f"A is in the {codes[self.a.image.version]} code and B in the {codes[self.b.image.version]} one"
+        yield from _slots("input", self.a.image.inputs, self.b.image.inputs)
+        yield from _slots("output", self.a.image.outputs, self.b.image.outputs)
+        yield from self._cells()
+        yield from self._ends()
+        yield from self._stops()
+
+    def _cells(self) -> Iterator[str]:
+        for side, cell in self.alone:
+            yield f"only {side} keeps {cell.name} : {cell.type} from cycle to cycle"
+        for pair in self.pairs:
+            if (pair.a.type, pair.a.initial) != (pair.b.type, pair.b.initial):
+                yield f"{pair.a.name} begins with {pair.a.initial} as {article(pair.a.type)} in A, and with {pair.b.initial} as {article(pair.b.type)} in B"
+
+    def _ends(self) -> Iterator[str]:
+        """Outputs and kept values that are computed in another way, those together that part at one place."""
+        by_name = {slot.name.upper(): slot for slot in self.b.image.outputs}
+        ends = [(f"output {slot.name}", slot.operation, by_name[slot.name.upper()].operation) for slot in self.a.image.outputs if slot.name.upper() in by_name]
+        ends += [(f"kept value {pair.a.name}", pair.a.store, pair.b.store) for pair in self.pairs]
+        parts: dict[tuple[int, int], list[str]] = {}
+        for what, first, second in ends:
+            place = self._parting(first, second)
+            if place is not None:
+                parts.setdefault(place, []).append(what)
+        for (a, b), names in parts.items():
+            one, other = self.a.image.operations[a], self.b.image.operations[b]
+            lines = [f"{', '.join(names)}: in A {self.a.told(one)}; in B {self.b.told(other)}"]
+            lines += [f"    {side}: {text}" for side, text in (("A", self.a.line_of(one)), ("B", self.b.line_of(other))) if text]
+            yield "\n".join(lines)
+
+    def _parting(self, first: int, second: int) -> tuple[int, int] | None:
+        """Where the operations behind an OUT or STORE part, if they do: the first place on the way from the end to the inputs."""
+        a, b = self.a.image.operations[first].operands[0], self.b.image.operations[second].operands[0]
+        if self.trees_a[a] == self.trees_b[b]:
+            return None
+        while self._same_head(self.a.image.operations[a], self.b.image.operations[b]):
+            operands = zip(self.a.image.operations[a].operands, self.b.image.operations[b].operands)
+            a, b = next((x, y) for x, y in operands if self.trees_a[x] != self.trees_b[y])
+        return a, b
+
+    def _same_head(self, one: Operation, other: Operation) -> bool:
+        """Whether two different operations have the same kind and types, and operands, of which then one differs."""
+        if not one.operands or (one.kind, one.operand_type, one.type) != (other.kind, other.operand_type, other.type):
+            return False
+        return any(self.trees_a[x] != self.trees_b[y] for x, y in zip(one.operands, other.operands))
+
+    def _stops(self) -> Iterator[str]:
+        """Operations of one side alone that may stop a run."""
+        for side, given, trees, others in (("A", self.a, self.trees_a, self.trees_b), ("B", self.b, self.trees_b, self.trees_a)):
+            known = set(others)
+            alone = [it for it in given.image.operations if it.kind in MAY_STOP and trees[it.number] not in known]
+            first = [it for it in alone if not any(given.image.operations[x] in alone for x in it.operands)]
+            if first:
+                more = f", and {len(first) - 1} more" if len(first) > 1 else ""
+                yield f"only {side} may stop at {given.told(first[0])}{more}"
+
+
+def _slots(what: str, first: list[Slot], second: list[Slot]) -> Iterator[str]:
+    """Inputs or outputs that aren't the same names and types in the same order."""
+    one = [(slot.name.upper(), slot.type) for slot in first]
+    other = [(slot.name.upper(), slot.type) for slot in second]
+    for slot in first:
+        if (slot.name.upper(), slot.type) not in other:
+            yield f"only A has the {what} {slot.name} : {slot.type}"
+    for slot in second:
+        if (slot.name.upper(), slot.type) not in one:
+            yield f"only B has the {what} {slot.name} : {slot.type}"
+    if sorted(one) == sorted(other) and one != other:
+        yield f"the {what}s stand in another order"
+
+
+def _paired(first: list[Cell], second: list[Cell]) -> tuple[list[Pair], list[tuple[str, Cell]]]:
+    """Which cell of B stands for which one of A, and the cells of each side that are left."""
+    by_name = {cell.name.upper(): cell for cell in second}
+    pairs = [Pair(cell, by_name[cell.name.upper()]) for cell in first if cell.name.upper() in by_name]
+    taken_a = {pair.a.name for pair in pairs}
+    taken_b = {pair.b.name for pair in pairs}
+    left_a = [cell for cell in first if cell.name not in taken_a]
+    left_b = [cell for cell in second if cell.name not in taken_b]
+    if [(cell.type, cell.initial) for cell in left_a] == [(cell.type, cell.initial) for cell in left_b]:
+        return pairs + [Pair(a, b) for a, b in zip(left_a, left_b)], []
+    return pairs, [("A", cell) for cell in left_a] + [("B", cell) for cell in left_b]

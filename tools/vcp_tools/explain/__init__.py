@@ -1,0 +1,1 @@
+"""`explain`: what a refusal means."""

@@ -1,0 +1,334 @@
+"""`explain`: what a refusal of the program means, with the line, a caret, and the mistake that people make there."""
+from __future__ import annotations
+
+import argparse
+import re
+import sys
+import textwrap
+from dataclasses import dataclass
+from pathlib import Path
+from typing import Sequence
+
+from vcp_tools.explain.all_faults import all_hints
+from vcp_tools.read.fault_line import Disagreement, FaultLine, RefusedOutput, StopLine, meanings, read_ending, read_fault
+from vcp_tools.explain.hint import Hint
+from vcp_tools.explain.hints_files import group_hint, image_hint, reading_hint, script_hint, wire_hint, words_hint
+from vcp_tools.explain.hints_il import il_hint
+from vcp_tools.read.declarations import inputs_of
+from vcp_tools.read.instruction_list import declarations_of, head_of
+from vcp_tools.explain.hints_rows import RowsHint, cell_hint, encoding_of, form_hint, header_hint, silent_faults, width_hint
+from vcp_tools.explain.hints_source import source_hint
+from vcp_tools.read.image import Image, read_image
+from vcp_tools.program import Program
+from vcp_tools.refusal import FINE, FOUND, Refusal
+from vcp_tools.read.rows_file import read_rows
+from vcp_tools.read.source import Source
+from vcp_tools.read.syntax import Declaration
+
+WIDTH = 110
+"""The most characters of a source line that are shown; a longer one is cut round the caret."""
+MOST_BYTES_LOOKED_AT = 8_000_000
+"""A rows file that was accepted is looked through up to this size."""
+STATUS_LINES = {
+    "memory": "the machine had no memory left for this run: end other programs, or take fewer rows",
+    "write": "standard output couldn't be written: the disk is full, or the reader of the pipe has ended",
+}
+
+
+@dataclass(frozen=True)
+class Explanation:
+    """What is printed of one fault: its place as `FILE:LINE:COL`, the message, the line and the bytes of it that are meant."""
+
+    place: str
+    message: str
+    number: int = 0
+    line: bytes = b""
+    start: int = 0
+    end: int = 0
+    more: tuple[str, ...] = ()
+
+    def lines(self) -> list[str]:
+        """The lines that are printed: the place with the message, the line, and the caret below it."""
+        printed = [f"{self.place}: {self.message}"]
+        if self.number:
+            shown, caret, width = _window(self.line, self.start, self.end)
+            gutter = f"{self.number:>5} | "
+            printed += [gutter + shown, " " * (len(gutter) - 2) + "| " + " " * caret + "^" * max(1, width)]
+        return printed + [f"      {line}" for line in self.more]
+
+
+def _window(line: bytes, start: int, end: int) -> tuple[str, int, int]:
+    """A line as text, cut round the meant bytes, with the place and width of the caret."""
+    shown = _shown(line)
+    caret = len(_shown(line[:start]))
+    width = min(len(_shown(line[:end])), len(shown)) - caret
+    if len(shown) > WIDTH:
+        left = max(0, min(caret - WIDTH // 3, len(shown) - WIDTH))
+        shown = shown[left : left + WIDTH]
+        caret -= left
+    return shown, caret, max(1, min(width, WIDTH - caret))
+
+
+def _shown(line: bytes) -> str:
+    """Bytes as text of the same width on a terminal: tabs as blanks, and no control characters."""
+    text = line.decode("utf-8", "replace").replace("\t", " ").replace("\r", "").replace("\ufeff", "")
+    return "".join(letter if letter.isprintable() else "\u00b7" for letter in text)
+
+
+def of_source(file: str, source: Source, hint: Hint) -> Explanation:
+    """A hint on a source text."""
+    number, column = source.place(hint.start)
+    last = source.starts[number] - 1 if number < len(source.starts) else len(source.data)
+    end = column - 1 + max(1, min(hint.end, last) - hint.start)
+    return Explanation(f"{file}:{number}:{column}", hint.message, number, source.line(number), column - 1, end, hint.more)
+
+
+def _of_rows(file: str, data: bytes, hint: RowsHint) -> Explanation:
+    line = Source(data).line(hint.line)
+    end = hint.end or len(line)
+    return Explanation(f"{file}:{hint.line}:{hint.start + 1}", hint.message, hint.line, line[:400], hint.start, end)
+
+
+class Explainer:
+    """Explains the faults of one call of the program, whose words say which file is the program and which the image."""
+
+    def __init__(self, words: Sequence[str]) -> None:
+        self.words = list(words)
+
+    def fault(self, fault: FaultLine) -> Explanation:
+        """What is printed of a line of error."""
+        if fault.code == "usage":
+            return Explanation("vcp " + " ".join(self.words), words_hint(self.words))
+        if fault.code == "read":
+            return Explanation(fault.file, reading_hint(fault.file))
+        if fault.code in STATUS_LINES:
+            return Explanation(fault.file or "vcp", STATUS_LINES[fault.code])
+        if not Path(fault.file).is_file() and fault.file not in ("--cycles", "demo"):
+            return Explanation(fault.text.rpartition(f" {fault.code}")[0], "the file isn't here, so that its line can't be shown")
+        if fault.code[0] in "STQ" or fault.code in ("L2", "L3"):
+            return self._source(fault)
+        if fault.code[0] == "R" or fault.code == "L4":
+            return self._rows(fault)
+        if fault.code[0] == "F" or fault.code == "L5":
+            return self._script(fault)
+        if fault.code[0] == "G":
+            return self._wire(fault)
+        if fault.code[0] == "I":
+            place = fault.file if fault.first is None else f"{fault.file}:{fault.first}"
+            return Explanation(place, image_hint(fault, _bytes(fault.file)))
+        return Explanation(fault.file, _limit(fault))
+
+    def _source(self, fault: FaultLine) -> Explanation:
+        """S1 to S5, T1 to T8, L2 and L3, of a program or of the head of an instruction list; Q1 to Q6."""
+        source = Source(_bytes(fault.file))
+        listed = fault.code[0] == "Q" or self.words[:1] == ["il"]
+        if listed and (fault.code in ("S4", "S5") or fault.code[0] == "T"):
+            source = head_of(source)
+        at = source.offset(fault.first or 1, fault.second or 1)
+        hint = il_hint(source, fault.code, at) if fault.code[0] == "Q" else source_hint(source, fault.code, at)
+        return of_source(fault.file, source, hint)
+
+    def _inputs(self) -> list[Declaration]:
+        """The inputs of the program or image of the words; none where they aren't known."""
+        if len(self.words) < 2 or self.words[0] == "check":
+            return []
+        if self.words[0] == "il":
+            return [it for it in declarations_of(Source(_bytes(self.words[1]))) if it.section == "VAR_INPUT"]
+        try:
+            data = _bytes(self.words[1])
+            if data.startswith(b"VCPANBD\n"):
+                return [Declaration(it.name, 0, "VAR_INPUT", it.type, None) for it in read_image(data, self.words[1]).inputs]
+            return inputs_of(self.words[1])
+        except Refusal:
+            return []
+
+    def _rows(self, fault: FaultLine) -> Explanation:
+        """R1 to R5 and L4."""
+        inputs = self._inputs()
+        if fault.code == "R4":
+            return Explanation(fault.file, form_hint(fault.file != "--cycles", inputs))
+        if fault.code == "R5":
+            return Explanation(fault.file, "the rows end before the cycle that `trace` is to show: cycles count from 0")
+        if fault.code == "L4":
+            return Explanation(fault.file, "there are more than 1,000,000 records: run them in parts")
+        data = _bytes(fault.file)
+        if fault.code == "R1" or encoding_of(data):
+            return _of_rows(fault.file, data, header_hint(data, inputs))
+        rows = read_rows(data)
+        record = fault.first or 1
+        if record > len(rows.records):
+            return Explanation(f"{fault.file}:{record}", "the file has changed since: it has no such record")
+        if fault.code == "R2":
+            return _of_rows(fault.file, data, width_hint(rows, record))
+        return _of_rows(fault.file, data, cell_hint(rows, record, fault.second or 1, inputs))
+
+    def silent_rows(self) -> list[Explanation]:
+        """What the rows file of an accepted call holds that is read in silence."""
+        takes_rows = len(self.words) > 2 and self.words[0] in ("plain", "run", "il", "exec", "trace", "inject", "pair", "pairs") and self.words[2] != "--cycles"
+        data = _bytes(self.words[2]) if takes_rows else b""
+        if not 0 < len(data) <= MOST_BYTES_LOOKED_AT:
+            return []
+        return [_of_rows(self.words[2], data, hint) for hint in silent_faults(data, None)[:3]]
+
+    def _script(self, fault: FaultLine) -> Explanation:
+        """F1 to F6 and L5."""
+        data = _bytes(fault.file)
+        number = fault.first or 1
+        line = Source(data).line(number)
+        if fault.code == "L5":
+            return Explanation(f"{fault.file}:{number}", "more than 10,000 faults stand in the script: split it")
+        operations = None
+        if fault.code in ("F5", "F6"):
+            hint = group_hint(data.decode("latin-1").split("\n"), number, fault.code)
+            return Explanation(f"{fault.file}:{number}:{hint.start + 1}", hint.message, number, line, hint.start, hint.end)
+        if len(self.words) > 1 and self.words[0] in ("inject", "pairs"):
+            operations = [it.kind for it in _image(self.words[1]).operations]
+        hint = script_hint(line.decode("latin-1"), fault.code, operations)
+        return Explanation(f"{fault.file}:{number}:{hint.start + 1}", hint.message, number, line, hint.start, hint.end)
+
+    def _wire(self, fault: FaultLine) -> Explanation:
+        """G1 to G3."""
+        number = fault.first or 1
+        line = Source(_bytes(fault.file)).line(number)
+        return Explanation(f"{fault.file}:{number}:1", wire_hint(line.decode("latin-1"), fault.code), number, line, 0, len(line))
+
+    def ending(self, ending: StopLine | RefusedOutput | Disagreement) -> Explanation:
+        """What is printed of a run that stopped, whose output was refused, or whose channels disagreed."""
+        if isinstance(ending, Disagreement):
+            if ending.name:
+                values = f"the first with {ending.first} and the second with {ending.second}"
+                how = f"both channels released `{ending.name}`, {values}, and no residue shows the difference"
+            else:
+                how = f"the first channel ended by `{ending.first}`, the second by `{ending.second}`"
+            return Explanation(ending.name or "channels", f"cycle {ending.cycle}: {how}: the first channel's unit answered wrongly, and nothing is released")
+        if isinstance(ending, RefusedOutput):
+            message = (f"cycle {ending.cycle}: the word of `{ending.name}` has the residue {ending.found} and not {ending.expected}: a word on its way "
+                       "was changed, or is that of another operation or cycle")
+            return Explanation(ending.name, message)
+        turns = f" (in the turn {ending.turns})" if ending.turns else ""
+        what = {
+            "RANGE": "the value is outside its type, and nothing wraps round",
+            "DIVZERO": "this is a division by 0",
+            "OPERAND": "the unit answered that an operand was outside its type, as an honest one never does",
+        }[ending.kind]
+        message = f"the run stops in cycle {ending.cycle}{turns}: {what}"
+        file = self.words[1] if len(self.words) > 1 else "source"
+        data = b"" if len(self.words) < 2 else _bytes(file)
+        if not data or data.startswith(b"VCPANBD\n"):
+            return Explanation(f"{file}:{ending.line}:{ending.column}", message)
+        source = Source(data)
+        token = source.tokens[source.index_at(source.offset(ending.line, ending.column))]
+        guard = {"RANGE": "Limit the operands before, as by MIN, MAX or LIMIT, or take a wider type.",
+                 "DIVZERO": "Put the division into `IF divisor <> 0 THEN .. END_IF`."}.get(ending.kind, "")
+        if self.words[0] == "il":
+            guard = {"RANGE": "Load a value of a wider type first: the result is as wide as the wider side."}.get(ending.kind, "")
+        return of_source(file, source, Hint(message, token.start, token.end, (guard,) if guard else ()))
+
+
+def _limit(fault: FaultLine) -> str:
+    return {
+        "L1": "the file is longer than its limit",
+        "L6": "the image's operations, outputs and cycle borders are too many for one audit: take a smaller horizon",
+        "L7": "the cycles and the image's operations are too many for a campaign: take fewer rows, as those round the faults",
+        "L8": "the second channel is to have another seed than the image: take another number for SEED",
+    }.get(fault.code, "this code is unknown to the tools")
+
+
+def _bytes(file: str) -> bytes:
+    """The bytes of a file, or none where it can't be read any more."""
+    try:
+        return Path(file).read_bytes()
+    except OSError:
+        return b""
+
+
+def _image(file: str) -> Image:
+    return read_image(_bytes(file), file)
+
+
+def said_by_program(line: str, code: str) -> list[str]:
+    """The program's own line, and below it what the documents say of its code."""
+    meaning = meanings().get(code, "").replace("`", "")
+    wrapped = textwrap.wrap(meaning, WIDTH, initial_indent="      ", subsequent_indent="      ")
+    return [f"vcp:  {line}", *wrapped]
+
+
+def explain_call(words: Sequence[str]) -> int:
+    """Runs the program with these words, and explains what it says. The status is the program's own."""
+    outcome = Program.found().call(*words)
+    explainer = Explainer(words)
+    fault = read_fault(outcome.fault) if outcome.fault else None
+    lines = outcome.text.rstrip("\n").split("\n")
+    ending = read_ending(lines[-1])
+    if fault is not None:
+        _print(explainer.fault(fault).lines() + said_by_program(fault.text if fault.code != "usage" else outcome.errors.split("\n")[0], fault.code))
+    elif ending is not None and outcome.status in (2, 3):
+        _print(explainer.ending(ending).lines() + [f"vcp:  {ending.text}"])
+    else:
+        for warning in explainer.silent_rows():
+            _print(warning.lines())
+        sys.stdout.flush()
+        sys.stdout.buffer.write(outcome.output)
+        sys.stdout.buffer.flush()
+        if outcome.errors:
+            print(outcome.errors, end="", file=sys.stderr)
+        if outcome.status < 0 or outcome.status > 8:
+            raise Refusal(f"vcp {' '.join(words)}: it was killed (status {outcome.status}): the machine's stack or memory is too small, or the host ended it")
+    return outcome.status
+
+
+def explain_lines() -> int:
+    """Explains each line of error that stands on standard input; other lines are printed as they are."""
+    status = FINE
+    for line in sys.stdin:
+        line = line.rstrip("\n")
+        fault, ending = read_fault(line), read_ending(line)
+        if fault is not None and fault.code != "usage":
+            _print(Explainer(()).fault(fault).lines() + said_by_program(line, fault.code))
+            status = FOUND
+        elif ending is not None:
+            _print(Explainer(()).ending(ending).lines() + [f"vcp:  {line}"])
+            status = FOUND
+        else:
+            print(line)
+    return status
+
+
+def explain_all(words: Sequence[str]) -> int:
+    """Explains each fault of the source that the words name, stepping over those that it can."""
+    if len(words) < 2:
+        raise Refusal("explain --all: it looks at a source: give words as `check P`")
+    file = words[1]
+    if words[0] == "il":
+        return explain_call(words)
+    found = all_hints(Program.found(), file)
+    told: set[str] = set()
+    for line, source, hint in sorted(found.hints, key=lambda it: it[2].start):
+        lines = of_source(file, source, hint).lines()
+        kind = re.sub(r"`[^`]*`|[0-9]+:[0-9]+", "", hint.message)
+        _print(lines[:1] if kind in told else lines + [f"vcp:  {line}"])
+        told.add(kind)
+    if not found.hints:
+        return explain_call(words)
+    tail = "" if found.whole else "; what stands behind the last one wasn't looked at"
+    left = f"; {found.suspected} more may follow from these" if found.suspected else ""
+    print(f"{file}: {len(found.hints)} to mend{left}{tail}")
+    return FOUND
+
+
+def _print(lines: Sequence[str]) -> None:
+    print("\n".join(lines))
+
+
+def add_words(parser: argparse.ArgumentParser) -> None:
+    """The words of `explain`."""
+    parser.add_argument("--all", action="store_true", help="go on behind each fault of a source that can be stepped over, but of none of an instruction list")
+    parser.add_argument("words", nargs=argparse.REMAINDER, help="words of vcp, as `check P`; without any, lines of error are read from standard input")
+
+
+def run(given: argparse.Namespace) -> int:
+    """Does what the words of `explain` ask for."""
+    words = given.words[1:] if given.words[:1] == ["--"] else given.words
+    if not words:
+        return explain_lines()
+    return explain_all(words) if given.all else explain_call(words)

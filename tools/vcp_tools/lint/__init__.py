@@ -1,0 +1,1 @@
+"""`lint`: what is lawful and likely a mistake."""

@@ -1,0 +1,85 @@
+"""The words of `vcp_tools`: which tool is meant, its help, and its end."""
+from __future__ import annotations
+
+import argparse
+import importlib
+import os
+import sys
+from types import ModuleType
+
+from vcp_tools.refusal import UNUSABLE, Refusal
+
+TOOLS: dict[str, str] = {
+    "explain": "what a refusal means: the line, a caret, and the mistake that people make there",
+    "rows": "stimuli to a rows file and back, and a check of what is read in silence",
+    "table": "inputs, outputs and variables of a run side by side, cycle by cycle",
+    "vcd": "the same as a VCD file, for GTKWave",
+    "expect": "compares a run with wanted rows, and names the first difference",
+    "diff": "whether two programs or images have the same operations, and where they part",
+    "lint": "what is lawful and likely a mistake",
+    "report": "one HTML file that tells a program and its run, to be filed",
+}
+"""The tools, with what their help says."""
+MODULES = {
+    "explain": "explain.command", "rows": "rows.command", "table": "pictures.table", "vcd": "pictures.vcd", "expect": "compare.expect",
+    "diff": "compare.diff", "lint": "lint.command", "report": "pictures.report",
+}
+"""The module of each tool."""
+VALUED = frozenset(("--cycles", "--cycle-time", "--faults", "--horizon", "--check", "-o", "--allow"))
+"""The options that a word follows."""
+USAGE = "statuses: 0 nothing was found, 1 a fault, a difference or a likely mistake was found, 2 the words or a file can't be used; explain gives vcp's own"
+
+
+def _module(tool: str) -> ModuleType:
+    """The module of a tool: what adds its words, and what runs it."""
+    return importlib.import_module(f"vcp_tools.{MODULES[tool]}")
+
+
+def parser() -> argparse.ArgumentParser:
+    """What reads the words."""
+    top = argparse.ArgumentParser(prog="vcp_tools", description="Tools around the program vcp: tested, and not proved. docs/TOOLS.md shows each.", epilog=USAGE)
+    below = top.add_subparsers(dest="tool", required=True, metavar="TOOL")
+    for name, about in TOOLS.items():
+        tool = _module(name)
+        tool.add_words(below.add_parser(name, help=about, description=f"{name}: {about}", epilog=USAGE))
+    return top
+
+
+def _are_words_of_vcp(words: list[str]) -> bool:
+    """Whether the words behind `explain` are a call of vcp that begins with an option, which isn't one of `explain`."""
+    return words[:1] == ["explain"] and len(words) > 1 and words[1].startswith("-") and words[1] not in ("-h", "--help", "--all")
+
+
+def _options_first(words: list[str]) -> list[str]:
+    """The words with the options of a tool behind its name, so that they may stand anywhere, as `--cycles N` in the place of ROWS does."""
+    if not words or words[0] == "explain":
+        return words
+    options: list[str] = []
+    rest: list[str] = []
+    at = 1
+    while at < len(words):
+        count = 2 if words[at] in VALUED else 1
+        (options if words[at].startswith("-") else rest).extend(words[at : at + count])
+        at += count
+    return [words[0], *options, *rest]
+
+
+def main(words: list[str]) -> int:
+    """Runs the tool that the words name, and gives its status."""
+    given = parser().parse_args(words[:1] + ["--", *words[1:]] if _are_words_of_vcp(words) else _options_first(words))
+    try:
+        status: int = _module(given.tool).run(given)
+        sys.stdout.flush()
+        return status
+    except Refusal as refusal:
+        sys.stdout.flush()
+        print(f"vcp_tools: {refusal}", file=sys.stderr)
+        return UNUSABLE
+    except BrokenPipeError:
+        os.dup2(os.open(os.devnull, os.O_WRONLY), sys.stdout.fileno())
+        return UNUSABLE
+
+
+def command() -> int:
+    """The installed command `vcp_tools`."""
+    return main(sys.argv[1:])

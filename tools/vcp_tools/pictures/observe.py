@@ -1,0 +1,170 @@
+"""A run with its inputs, its outputs and its variables, cycle by cycle.
+
+The outputs are those of `run`. A variable is seen by a run of the same text in which each VAR is a VAR_OUTPUT: the meaning of a program is the same
+for both, and the second run has to release the same outputs and come to the same end. An image shows a variable only where it has a cell, and so
+`trace` can't show each; what it shows is compared, where that is wanted.
+"""
+from __future__ import annotations
+
+import tempfile
+from dataclasses import dataclass
+from pathlib import Path
+from typing import Sequence
+
+from vcp_tools.wording import listed, nearest
+from vcp_tools.explain.hints_rows import silent_faults
+from vcp_tools.read.image import Image, read_image
+from vcp_tools.files import read_bytes
+from vcp_tools.program import Program
+from vcp_tools.refusal import Refusal
+from vcp_tools.read.rows_file import cell_value, read_rows
+from vcp_tools.read.run_lines import PrintedRun, read_run, read_trace
+from vcp_tools.read.source import Source
+from vcp_tools.read.declarations import head_of_program
+from vcp_tools.read.syntax import Declaration
+
+MOST_TRACED = 5000
+"""So many cycles are traced at most: the work grows by the square of them."""
+
+
+@dataclass(frozen=True)
+class Column:
+    """A name that is seen: its declaration, and its value in each cycle."""
+
+    declaration: Declaration
+    values: list[int]
+
+    @property
+    def name(self) -> str:
+        """The name as declared."""
+        return self.declaration.name
+
+    @property
+    def group(self) -> str:
+        """`inputs`, `outputs` or `variables`."""
+        return {"VAR_INPUT": "inputs", "VAR_OUTPUT": "outputs"}.get(self.declaration.section, "variables")
+
+
+@dataclass(frozen=True)
+class Observation:
+    """A run: the program's name, its columns, how many cycles were released, and the last line of `run`."""
+
+    name: str
+    columns: list[Column]
+    cycles: int
+    ending: str
+    is_whole: bool
+
+
+def observe(program: Program, file: str, rows: Sequence[str], traced: bool = False) -> Observation:
+    """The run of a source on rows, which are a file or `--cycles` and a number; all inputs, outputs and variables, as declared."""
+    run = read_run(program.must("run", file, *rows, statuses=(0, 2, 3)).text)
+    source = Source(read_bytes(file))
+    name, declarations = head_of_program(source, file)
+    opened = _opened_run(program, source, rows, run)
+    inputs = _inputs(declarations, rows, len(run.rows))
+    columns = []
+    for declaration in declarations:
+        if declaration.section == "VAR_INPUT":
+            columns.append(Column(declaration, inputs[declaration.name.upper()]))
+        elif declaration.section != "VAR CONSTANT":
+            at = opened.names.index(declaration.name)
+            columns.append(Column(declaration, [row[at] for row in opened.rows]))
+    found = Observation(name, columns, len(run.rows), run.ending, run.is_whole)
+    if traced:
+        _compare_with_trace(program, file, rows, found)
+    return found
+
+
+def opened(source: Source) -> bytes:
+    """The text with VAR_OUTPUT in the place of each VAR that isn't CONSTANT."""
+    data = bytearray(source.data)
+    for index in range(len(source.tokens) - 2, -1, -1):
+        token, behind = source.tokens[index], source.tokens[index + 1]
+        if token.is_word("VAR") and not behind.is_word("CONSTANT"):
+            data[token.start : behind.end if behind.is_word("RETAIN") else token.end] = b"VAR_OUTPUT"
+    return bytes(data)
+
+
+def _opened_run(program: Program, source: Source, rows: Sequence[str], run: PrintedRun) -> PrintedRun:
+    """The run of the opened text; a refusal where it isn't the same run."""
+    with tempfile.TemporaryDirectory() as folder:
+        at = Path(folder) / "opened.st"
+        at.write_bytes(opened(source))
+        found = read_run(program.must("run", at, *rows, statuses=(0, 2, 3)).text)
+    places = [found.names.index(name) for name in run.names]
+    same_rows = [[row[at] for at in places] for row in found.rows] == run.rows
+    if not same_rows or found.ending.split(" ")[:2] != run.ending.split(" ")[:2]:
+        raise Refusal(f"the run with all variables as outputs isn't the same run: `{found.ending}`, and not `{run.ending}`")
+    return found
+
+
+def _inputs(declarations: Sequence[Declaration], rows: Sequence[str], cycles: int) -> dict[str, list[int]]:
+    """The values of each input, by its name in capitals, for so many cycles."""
+    if rows[0] == "--cycles":
+        return {}
+    file = read_rows(read_bytes(rows[0]))
+    columns = [name.upper() for name in file.records[0].cells]
+    found: dict[str, list[int]] = {}
+    for declaration in declarations:
+        if declaration.section == "VAR_INPUT":
+            at = columns.index(declaration.name.upper())
+            cells = [record.cells[at] for record in file.records[1 : cycles + 1]]
+            found[declaration.name.upper()] = [cell_value(cell, declaration.type) or 0 for cell in cells]
+    return found
+
+
+def _compare_with_trace(program: Program, file: str, rows: Sequence[str], found: Observation) -> None:
+    """Refuses where a value that the image has an operation for is another one in `trace`, or a residue isn't the expected one."""
+    if found.cycles > MOST_TRACED:
+        raise Refusal(f"--trace: {found.cycles} cycles are more than {MOST_TRACED}: take fewer rows")
+    with tempfile.TemporaryDirectory() as folder:
+        at = Path(folder) / "image"
+        at.write_bytes(program.must("compile", file).output)
+        seen = _seen(read_image(at.read_bytes(), str(at)))
+        columns = {column.name: column for column in found.columns}
+        for cycle in range(found.cycles):
+            words, _ = read_trace(program.must("trace", at, *rows, str(cycle)).text)
+            for word in words:
+                name = seen.get(word.operation)
+                if word.residue != word.expected:
+                    raise Refusal(f"trace: cycle {cycle}, operation {word.operation}: the residue is {word.residue} and not {word.expected}")
+                if name is not None and columns[name].values[cycle] != word.value:
+                    raise Refusal(f"trace: cycle {cycle}: `{name}` is {word.value}, and {columns[name].values[cycle]} in the run")
+
+
+def _seen(image: Image) -> dict[int, str]:
+    """The name of each INPUT, STORE and OUT."""
+    return {it.number: image.name_of(it) for it in image.operations if it.kind in ("INPUT", "STORE", "OUT")}
+
+
+def chosen(found: Observation, names: Sequence[str]) -> list[Column]:
+    """The columns with these names, in this order; all inputs and outputs where no name is given."""
+    if not names:
+        return [column for column in found.columns if column.group != "variables"]
+    by_name = {column.name.upper(): column for column in found.columns}
+    picked = []
+    for name in names:
+        column = by_name.get(name.upper())
+        if column is None:
+            near = nearest(name, [it.name for it in found.columns])
+            guess = f": did you mean `{near}`?" if near else f": there are {listed(it.name for it in found.columns)}"
+            raise Refusal(f"`{name}` is no input, output or variable" + guess)
+        picked.append(column)
+    return picked
+
+
+def rows_words(rest: Sequence[str], cycles: int | None) -> tuple[list[str], list[str]]:
+    """The words that stand for ROWS in a call, and what is left: ROWS is the first word, or none where `--cycles` is given."""
+    if cycles is not None:
+        return ["--cycles", str(cycles)], list(rest)
+    if not rest:
+        raise Refusal("ROWS is missing: a rows file, or `--cycles N` for a program without inputs")
+    return [rest[0]], list(rest[1:])
+
+
+def warnings(rows: Sequence[str]) -> list[str]:
+    """What the rows file holds that is read in silence, a line each."""
+    if rows[0] == "--cycles":
+        return []
+    return [f"{rows[0]}:{hint.line}: {hint.message}" for hint in silent_faults(read_bytes(rows[0]), None)[:3]]

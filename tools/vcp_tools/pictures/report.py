@@ -1,0 +1,94 @@
+"""`report`: one HTML file that tells a program and its run, to be filed, and a check that makes it again and compares."""
+from __future__ import annotations
+
+import argparse
+import re
+import sys
+from pathlib import Path
+
+from vcp_tools.pictures.case import Case
+from vcp_tools.read.image import read_image
+from vcp_tools.pictures.markup import page
+from vcp_tools.pictures.observe import observe, rows_words
+from vcp_tools.files import read_bytes
+from vcp_tools.program import Program
+from vcp_tools.refusal import FINE, FOUND, Refusal
+from vcp_tools.pictures.report_parts import SECTIONS
+from vcp_tools.read.source import Source
+from vcp_tools.pictures.table import add_run_words
+
+HORIZON = 2
+"""The cycle borders of the audit, where none are given."""
+
+
+def add_words(parser: argparse.ArgumentParser) -> None:
+    """The words of `report`."""
+    add_run_words(parser, "the rows file")
+    parser.add_argument("--faults", metavar="F", help="a script of faults over the image, compiled without --seed and --step: the verdicts are told")
+    parser.add_argument("--horizon", type=int, default=HORIZON, metavar="N", help=f"the cycle borders of the audit, {HORIZON} where it isn't given")
+    parser.add_argument("-o", dest="output", metavar="FILE", help="the file to write, else standard output")
+    parser.add_argument("--check", metavar="FILE", help="make the report again and compare it with this one")
+
+
+def run(given: argparse.Namespace) -> int:
+    """Writes the report, or compares it."""
+    rows, rest = rows_words(given.rest, given.cycles)
+    if rest:
+        raise Refusal(f"`{rest[0]}` is left over behind ROWS")
+    made = make(given.program, rows, given.horizon, given.faults, given.trace)
+    if given.check:
+        return check(given.check, read_bytes(given.check).decode("utf-8", "replace"), made)
+    if given.output:
+        Path(given.output).write_text(made, encoding="utf-8", newline="\n")
+        print(f"{given.output}: {len(made.encode())} bytes, {len(sections_of(made))} sections")
+    else:
+        sys.stdout.write(made)
+    return FINE
+
+
+def make(file: str, rows: list[str], horizon: int, faults: str | None, traced: bool = False) -> str:
+    """The report, as one document."""
+    program = Program.found()
+    found = observe(program, file, rows, traced)
+    source = Source(read_bytes(file))
+    image_bytes = program.must("compile", file).output
+    case = Case(program, file, rows, horizon, faults, source, image_bytes, read_image(image_bytes, file), found)
+    case.note("check", file)
+    case.note("compile", file, into=case.image_name)
+    parts = [part(case) for part in SECTIONS]
+    return page(f"{found.name}: program, run and audit", [part for part in parts if part])
+
+
+def sections_of(document: str) -> dict[str, tuple[str, str]]:
+    """The sections of a report: for each name its title and what is in it."""
+    found = re.findall(r'<section id="([a-z]+)">\n<h2>(.*?)</h2>\n(.*?)\n</section>\n', document, re.S)
+    return {name: (title, inside) for name, title, inside in found}
+
+
+def check(file: str, filed: str, made: str) -> int:
+    """Compares a filed report with one that was made now, section by section; the status is 1 where they differ."""
+    if filed == made:
+        print(f"{file}: the report is made again as it is filed")
+        return FINE
+    before, now = sections_of(filed), sections_of(made)
+    if not before:
+        raise Refusal(f"{file}: this is no report")
+    for name in [*before, *(name for name in now if name not in before)]:
+        if name not in now or name not in before:
+            title = (before.get(name) or now[name])[0]
+            print(f"{file}: {title}: only in the report that {'is filed' if name in before else 'is made now'}")
+        elif before[name] != now[name]:
+            print(f"{file}: {before[name][0]}: {_first_difference(before[name][1], now[name][1])}")
+    return FOUND
+
+
+def _first_difference(filed: str, made: str) -> str:
+    """The first lines that differ, without marks."""
+    for one, other in zip((filed + "\n").split("\n"), (made + "\n").split("\n")):
+        if one != other:
+            return f"filed `{_plain(one)}`, made now `{_plain(other)}`"
+    return "it differs"
+
+
+def _plain(line: str) -> str:
+    return re.sub(r"\s+", " ", re.sub(r"<[^>]*>", " ", line)).strip()[:160]

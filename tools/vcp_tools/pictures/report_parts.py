@@ -1,0 +1,252 @@
+"""The sections of a report, each made of a case."""
+from __future__ import annotations
+
+import hashlib
+import re
+from pathlib import Path
+from typing import Callable
+
+from vcp_tools.read.audit_lines import Audited, reached_from, read_audit
+from vcp_tools.pictures.case import Case
+from vcp_tools.read.image import Operation
+from vcp_tools.lint.command import findings
+from vcp_tools.pictures.markup import code, element, section, table, text
+from vcp_tools.files import read_bytes
+from vcp_tools.needs import find_module
+from vcp_tools.program import TOP
+from vcp_tools.read.given import Given
+from vcp_tools.read.verdict_lines import read_verdicts
+from vcp_tools.pictures.waves import waves
+
+MOST_ROWS = 500
+"""So many rows of the run are told at most."""
+_MEANINGS = {
+    "same": "the run is the same", "wrong": "a wrong value is released", "ran-on": "the run goes on where it should stop",
+    "refused": "an output is refused", "stopped": "the run stops",
+}
+
+
+def digest(data: bytes) -> str:
+    """The SHA-256 of bytes."""
+    return hashlib.sha256(data).hexdigest()
+
+
+def tools_digest() -> str:
+    """The SHA-256 of all files of the tools, their names with them."""
+    here = Path(__file__).resolve().parent.parent
+    files = sorted([*here.glob("**/*.py"), *here.glob("**/*.lark")])
+    return digest(b"".join(file.name.encode() + b"\0" + digest(file.read_bytes()).encode() for file in files))
+
+
+def toolchain() -> str:
+    """The toolchain with which the program is proved, as the README names it."""
+    document = TOP / "docs" / "PROMISES.md"
+    match = re.search(r"`?(rattle-kit\S* [^`\n]*)`?", document.read_text()) if document.is_file() else None
+    return match[1] if match else "not named"
+
+
+def _verdict_on(case: Case) -> str:
+    """What is told first: whether all agrees, and the counts of what follows."""
+    size = case.program.must("check", case.file).text.strip()
+    plain = case.call("plain", case.file, *case.rows, statuses=(0, 2)).output
+    coded = case.call("run", case.file, *case.rows, statuses=(0, 2, 3)).output
+    image = case.call("exec", case.image_name, *case.rows, statuses=(0, 2, 3)).output
+    agree = plain == coded == image
+    same = element("span", "the same, byte for byte", class_="good") if agree else element("span", "DIFFERENT", class_="bad")
+    rows = [
+        ("Size", text(size.removeprefix("ok "))),
+        ("operations", text(len(case.image.operations))),
+        ("code", "narrow" if case.image.version == 1 else "wide"),
+        ("cycles", text(case.run.cycles)),
+        ("end of the run", element("span", text(case.run.ending), class_="good" if case.run.is_whole else "bad")),
+        ("plain, run and exec", same),
+    ]
+    return section("summary", "Summary", table(("what", "found"), rows))
+
+
+def _files(case: Case) -> str:
+    """The files with their digests."""
+    given = [("source", case.file, case.source.data)]
+    if case.rows[0] != "--cycles":
+        given.append(("rows", case.rows[0], read_bytes(case.rows[0])))
+    if case.faults:
+        given.append(("script of faults", case.faults, read_bytes(case.faults)))
+    given.append(("image, made of the source", case.image_name, case.image_bytes))
+    rows = [(text(what), code(Path(name).name), text(len(data)), code(digest(data))) for what, name, data in given]
+    return section("files", "Files", table(("what", "file", "bytes", "SHA-256"), rows, (2,)))
+
+
+def _tool(case: Case) -> str:
+    """The program and the tools."""
+    rows = [
+        ("program vcp", code(digest(case.program.file.read_bytes()))),
+        ("vcp_tools, all files", code(tools_digest())),
+        ("toolchain of the proof", code(toolchain())),
+    ]
+    built = f"The program is proved where it was built by {code('./vcp')} or {code('rt ci')}; these tools are tested. A digest tells which file it was."
+    note = element("p", built, class_="dim")
+    return section("tool", "Tool", table(("what", "SHA-256, or version"), rows) + note)
+
+
+def _picture(case: Case) -> str:
+    return section("run", "The run", element("div", waves(case.run), class_="scroll"))
+
+
+def _rows(case: Case) -> str:
+    """The cycles in which something changes."""
+    columns = case.run.columns
+    told: list[list[str]] = []
+    before: list[int] = []
+    left = 0
+    for cycle in range(case.run.cycles):
+        row = [column.values[cycle] for column in columns]
+        if row != before:
+            left += len(told) >= MOST_ROWS
+            if len(told) < MOST_ROWS:
+                told.append([str(cycle), *map(str, row)])
+        before = row
+    note = element("p", f"Cycles in which nothing changes are left out{f', and {left} more at the end' if left else ''}.", class_="dim")
+    inside = table(["cycle", *(text(column.name) for column in columns)], told, range(len(columns) + 1))
+    return section("values", "Values, cycle by cycle", note + inside + element("p", code(case.run.ending)))
+
+
+def _place(operation: Operation) -> str:
+    """A place with a link to the line of the source."""
+    if not operation.line:
+        return ""
+    turns = "".join(f" {name}={value}" for name, value in operation.turns)
+    return element("a", operation.place + text(turns), href=f"#L{operation.line}", class_="m")
+
+
+def _line(case: Case, operation: Operation) -> str:
+    return code(case.source.line(operation.line).decode("utf-8", "replace").strip()) if operation.line else ""
+
+
+def _reference(case: Case, operation: Operation) -> str:
+    """A link to an operation, with its name or value where it has one."""
+    name = case.image.name_of(operation)
+    return element("a", f"{operation.number} {text(name)}".rstrip(), href=f"#O{operation.number}")
+
+
+def _listing(case: Case) -> str:
+    """The operations, with names and places."""
+    listed = case.call("list", case.image_name).text.split("\n")
+    rows = []
+    for operation, line in zip(case.image.operations, listed):
+        signature = re.search(r" sig (\d+) ", line)
+        reads = ", ".join(_reference(case, case.image.operations[it]) for it in operation.operands)
+        number = element("span", str(operation.number), id=f"O{operation.number}")
+        types = operation.type if operation.type == operation.operand_type else f"{operation.operand_type} to {operation.type}"
+        rows.append((number, code(operation.kind), types, element("span", reads, class_="m"), code(case.image.name_of(operation)), _place(operation),
+                     code(signature[1] if signature else ""), code(operation.correction)))
+    return section("listing", "Operations", table(("no.", "kind", "type", "reads", "name or value", "place", "signature", "correction"), rows, (0, 6, 7)))
+
+
+def _audit(case: Case) -> str:
+    """The counts, the blind operations, and those from which no output is reached."""
+    audit = read_audit(case.call("audit", case.image_name, str(case.horizon)).text)
+    by_output: dict[str, list[str]] = {}
+    for it in audit:
+        blind = element("span", f" {len(it.blind)} blind", class_="bad") if it.blind else ""
+        by_output.setdefault(it.output, []).append(f"{it.reached}{blind}")
+    head = ["output", *(f"reached across {borders}" for borders in range(case.horizon + 1))]
+    counts = table(head, [(code(output), *cells) for output, cells in by_output.items()], range(1, case.horizon + 2))
+    return section("audit", f"Audit, across at most {case.horizon} cycle borders", counts + _blind(case, audit) + _unreached(case))
+
+
+def _blind(case: Case, audit: list[Audited]) -> str:
+    """Each blind operation once, with the outputs and borders for which it is blind."""
+    where: dict[int, list[str]] = {}
+    for it in audit:
+        for operation in it.blind:
+            where.setdefault(operation, []).append(f"{it.output} across {it.borders}")
+    if not where:
+        return element("p", "No operation is blind: each that is reached has a weight other than 0.", class_="good")
+    rows = [(*_operation_cells(case, case.image.operations[number]), text(", ".join(places))) for number, places in sorted(where.items())]
+    return "<h3>Blind: every difference that is made there cancels</h3>" + table(("no.", "kind", "name", "place", "line", "at the outputs"), rows, (0,))
+
+
+def _unreached(case: Case) -> str:
+    reached: set[int] = set()
+    for output in range(len(case.image.outputs)):
+        reached |= set().union(*reached_from(case.image, output, case.horizon))
+    left = [operation for operation in case.image.operations if operation.number not in reached]
+    if not left:
+        return element("p", "Each operation reaches an output.", class_="good")
+    rows = [_operation_cells(case, operation) for operation in left]
+    return "<h3>Unreached: no path leads to an output</h3>" + table(("no.", "kind", "name", "place", "line"), rows, (0,))
+
+
+def _operation_cells(case: Case, operation: Operation) -> tuple[str, str, str, str, str]:
+    link = element("a", str(operation.number), href=f"#O{operation.number}")
+    return link, code(operation.kind), code(case.image.name_of(operation)), _place(operation), _line(case, operation)
+
+
+def _campaign(case: Case) -> str:
+    """The verdicts on the groups of faults of a script."""
+    if not case.faults:
+        return ""
+    verdicts, totals = read_verdicts(case.call("inject", case.image_name, *case.rows, case.faults).text)
+    script = read_bytes(case.faults).decode("utf-8", "replace").split("\n")
+    rows = []
+    for it in verdicts:
+        mark = "good" if it.verdict in ("refused", "stopped", "same") else "bad"
+        faults = code("; ".join(_faults(script, it.line)))
+        rows.append((str(it.line), faults, element("span", it.verdict, class_=mark), code(it.rest), text(_remark(script, it.line))))
+    meanings = "; ".join(f"<b>{name}</b>: {said}" for name, said in _MEANINGS.items())
+    told = table(("line", "fault", "verdict", "details", "remark above it"), rows, (0,))
+    return section("campaign", "Faults and their verdicts", told + element("p", code(totals)) + element("p", meanings + ".", class_="dim"))
+
+
+def _faults(script: list[str], line: int) -> list[str]:
+    """The faults of the group of a script whose first stands in this line."""
+    lines = [it.strip() for it in script]
+    marks = [it for it in lines[: line - 1] if it in ("begin", "end")]
+    if not marks or marks[-1] == "end":
+        return [lines[line - 1]]
+    rest = lines[line - 1 :]
+    return [it for it in rest[: rest.index("end")] if it and not it.startswith("#")]
+
+
+def _remark(script: list[str], line: int) -> str:
+    """The remark that stands directly above a fault of a script, or above the `begin` before it."""
+    words: list[str] = []
+    for above in reversed(script[: line - 1]):
+        if above.strip() == "begin" and not words:
+            continue
+        if not above.startswith("#"):
+            break
+        words.insert(0, above.lstrip("# ").rstrip())
+    return " ".join(words)
+
+
+def _lint(case: Case) -> str:
+    without = find_module("lark") is None
+    found = findings(Given(case.file, case.image, case.source), case.source, without)
+    note = element("p", "`lark` isn't installed: only what the operations tell was looked for.", class_="dim") if without else ""
+    if not found:
+        return section("lint", "Likely mistakes", note + element("p", "None is told.", class_="good"))
+    rows = [(element("a", case.source.told(it.at), href=f"#L{case.source.place(it.at)[0]}", class_="m"), code(it.kind), text(it.message)) for it in found]
+    return section("lint", "Likely mistakes", note + table(("place", "kind", "what is told"), rows))
+
+
+def _source(case: Case) -> str:
+    """The source with numbers of lines, to which places lead."""
+    count = len(case.source.starts) - (case.source.data.endswith(b"\n"))
+    lines = []
+    for number in range(1, count + 1):
+        content = text(case.source.line(number).decode("utf-8", "replace"))
+        lines.append(f'<span id="L{number}"><span class="dim">{number:>4}</span>  {content}</span>')
+    return section("source", "Source", element("pre", "\n".join(lines)))
+
+
+def _commands(case: Case) -> str:
+    """Every command by which the report was made."""
+    note = "In this order, with the files named above. Variables come from one more run, of the source with each VAR as a VAR_OUTPUT."
+    return section("commands", "Commands", element("p", note, class_="dim") + element("pre", text("\n".join(case.commands))))
+
+
+SECTIONS: tuple[Callable[[Case], str], ...] = (
+    _verdict_on, _files, _tool, _picture, _audit, _campaign, _lint, _listing, _rows, _source, _commands,
+)
+"""What makes the sections, in order; the commands stand last, since the others note theirs."""

@@ -1,0 +1,94 @@
+"""The proved programs `vcp` and `vcp_study`: the one place from which they are run."""
+from __future__ import annotations
+
+import os
+import shutil
+import subprocess
+from dataclasses import dataclass
+from pathlib import Path
+from typing import Sequence
+
+from vcp_tools.refusal import Refusal
+
+TOP = Path(__file__).resolve().parent.parent.parent
+"""The repository's folder, where the tools stand in one."""
+
+
+@dataclass(frozen=True)
+class Outcome:
+    """What one call of a program gave: its status, standard output and standard error."""
+
+    status: int
+    output: bytes
+    errors: str
+
+    @property
+    def text(self) -> str:
+        """The output as text."""
+        return self.output.decode("utf-8", "replace")
+
+    @property
+    def fault(self) -> str:
+        """The line of error, without its end; empty where there is none."""
+        lines = self.errors.rstrip("\n").split("\n")
+        return lines[-1]
+
+
+def in_repository() -> bool:
+    """Whether the tools stand in the repository, and aren't installed elsewhere."""
+    return (TOP / "crates.txt").is_file()
+
+
+def find_program(name: str = "vcp") -> Path | None:
+    """A built program: VCP=FILE (VCP_STUDY=FILE for vcp_study), or the one that `./vcp` and `rt ci` leave, or where the tools are installed
+    outside the repository the one on the PATH. None where there is none."""
+    chosen = os.environ.get(name.upper())
+    if chosen:
+        file = Path(chosen).absolute()
+    elif in_repository():
+        file = TOP / "crates" / name / "out" / name
+    else:
+        file = Path(shutil.which(name) or name).absolute()
+    return file if os.access(file, os.X_OK) and file.is_file() else None
+
+
+def is_built_here(file: Path) -> bool:
+    """Whether a program is the one that `./vcp` or `rt ci` left in this repository, which they do only where all was proved."""
+    return in_repository() and file.resolve() == (TOP / "crates" / file.name / "out" / file.name).resolve()
+
+
+class Program:
+    """A built program."""
+
+    def __init__(self, file: Path, name: str = "vcp") -> None:
+        self.file = file
+        self.name = name
+
+    @staticmethod
+    def found(name: str = "vcp") -> "Program":
+        """The built program; a refusal that says how it is made where none is built."""
+        file = find_program(name)
+        if file is None:
+            asked = "check examples/add.st" if name == "vcp" else "ranges M"
+            raise Refusal(
+                f"no program {name} is built: run ./{name} once, as ./{name} {asked}, which proves and builds it (20 minutes or more on 4 processors, "
+                f"docs/MEASURES.md), or set {name.upper()}=FILE"
+            )
+        return Program(file, name)
+
+    def call(self, *words: str | Path) -> Outcome:
+        """Runs the program with these words, and gives what came, whatever its status."""
+        try:
+            done = subprocess.run([str(self.file), *map(str, words)], capture_output=True, stdin=subprocess.DEVNULL, check=False)
+        except OSError as error:
+            raise Refusal(f"{self.file}: the program can't be run: {error.strerror}") from None
+        return Outcome(done.returncode, done.stdout, done.stderr.decode("utf-8", "replace"))
+
+    def must(self, *words: str | Path, statuses: Sequence[int] = (0,)) -> Outcome:
+        """Runs the program, and refuses with its own line where it ends with another status than these."""
+        outcome = self.call(*words)
+        if outcome.status not in statuses:
+            told = outcome.fault or f"status {outcome.status}"
+            more = f" (`vcp_tools explain {' '.join(map(str, words))}` says more)" if self.name == "vcp" else ""
+            raise Refusal(f"{self.name} {words[0]}: {told}{more}")
+        return outcome

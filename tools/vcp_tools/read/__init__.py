@@ -1,0 +1,1 @@
+"""What the tools read: texts, rows, images, scripts, and what the proved programs print; one module a format."""

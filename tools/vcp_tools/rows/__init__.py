@@ -1,0 +1,1 @@
+"""`rows`: stimuli and rows files."""
