@@ -4,7 +4,6 @@ use Rattle.std.proofs.Math.Facts.{to_z-of_z}
 use Rattle.std.proofs.lemmas.Option.{IfSome_then}
 use Rattle.vcp_base.specs.declared.turns.Turn.{Turn}
 use Rattle.vcp_outside.specs.Gathering.{GathersTo}
-use Rattle.vcp_outside.proofs.Gathering.{gathered_same}
 use Rattle.run_report.proofs.Turns.{first_left, none_left, told_next, told_all, named_left, next_text}
 use Rattle.run_report.proofs.graph_stop.then_turns_round.Goals as goal
 
@@ -17,8 +16,8 @@ turns-preserved g c =
     let told = told_next names c.turns-turns.result c.turns.turns turn _
     (λ text. GathersTo (g.O.Sink.seen c.args.out.now) (g.O.Sink.seen c.then_turn.new.out) c.args.line.now c.then_turn.new.line text)
     c.turns.invariant.told left
-    (λ text gathers start before front is. gathered_same (c.then_turn.ensures start before (front ++ text) (gathers start before front is))
-    (rw (to_z-of_z {w = w64} {z = turn.value} fits) (next_text names turn c.name.result.now front text c.name.ensures))) in
+    (λ text gathers start before front is. rw (next_text names turn c.name.result.now front text c.name.ensures)
+    (rw (to_z-of_z {w = w64} {z = turn.value} fits) at (c.then_turn.ensures start before (front ++ text) (gathers start before front is)))) in
     record {
       told = rw c.next.ensures.rest told;
       named = rw c.next.ensures.rest (named_left names c.turns.turns turn c.turns.invariant.named left).1;

@@ -3,7 +3,6 @@ use Rattle.std.proofs.lemmas.List.{take_all}
 use Rattle.std.proofs.lemmas.List.Folds.{flat_map-map}
 use Rattle.vcp_base.specs.declared.columns.Column.{Column}
 use Rattle.run_report.specs.Lines.{name_cell}
-use Rattle.vcp_outside.proofs.Gathering.{gathered_same}
 use Rattle.run_report.proofs.Texts.{flat_map-next_two}
 use Rattle.run_report.proofs.lines.header_line.Goals as goal
 
@@ -14,9 +13,8 @@ pub names-preserved : goal.names-preserved
 names-preserved g c =
     let is = c.text-in-names-2.ensures.gathers _ _ _ (c.text-in-names.ensures.gathers _ _ _ c.names.invariant) in
     let named = rw c.bytes.ensures at is in
-    gathered_same named
-    (flat_map-next_two (λ (column : Column). name_cell column.name) (codes "cycle") c.args.names.now c.names.i c.at.result.now
-    (codes ",") c.at.result.now.name c.at.ensures refl)
+    rw (flat_map-next_two (λ (column : Column). name_cell column.name) (codes "cycle") c.args.names.now c.names.i c.at.result.now
+    (codes ",") c.at.result.now.name c.at.ensures refl) named
 
 pub returns : goal.returns
 returns g c =

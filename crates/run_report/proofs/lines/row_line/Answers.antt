@@ -3,20 +3,18 @@ use mir.Val.{SFits}
 use Rattle.std.proofs.Math.Facts.{to_z-of_z}
 use Rattle.std.proofs.lemmas.List.{append-nil, take_all}
 use Rattle.run_report.specs.Lines.{value_cell}
-use Rattle.vcp_outside.proofs.Gathering.{gathered_same}
 use Rattle.run_report.proofs.Texts.{flat_map-next}
 use Rattle.run_report.proofs.lines.row_line.Goals as goal
 
 pub cells-init : goal.cells-init
-cells-init g c = gathered_same c.begin-line.ensures (append-nil _)
+cells-init g c = rw append-nil c.begin-line.ensures
 
 pub cells-preserved : goal.cells-preserved
 cells-preserved g c =
     let fits : SFits w64 c.at.result = search rules in
     let is = c.value.ensures.gathers _ _ _ (c.text.ensures.gathers _ _ _ c.cells.invariant) in
-    gathered_same is
-    (rw (flat_map-next value_cell (decimal c.args.cycle) c.args.row.now c.cells.i c.at.result c.at.ensures, to_z-of_z {w = w64} {z = c.at.result} fits)
-    (simp append_assoc))
+    rw (flat_map-next value_cell (decimal c.args.cycle) c.args.row.now c.cells.i c.at.result c.at.ensures)
+    (simp append_assoc (simp append_assoc at (rw (to_z-of_z {w = w64} {z = c.at.result} fits) at is)))
 
 pub returns : goal.returns
 returns g c =

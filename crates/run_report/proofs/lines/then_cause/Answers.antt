@@ -1,8 +1,7 @@
 use Rattle.std.proofs.Common.{append_assoc}
-use Rattle.vcp_outside.proofs.Gathering.{gathered_same}
 use Rattle.run_report.proofs.lines.then_cause.Goals as goal
 
 pub returns : goal.returns
 returns g c start before text is =
     let kind = rw c.stop_name.ensures at (c.text.ensures.gathers start before text is) in
-    gathered_same (c.then_place.ensures _ _ _ (c.text-2.ensures.gathers _ _ _ kind)) (simp append_assoc)
+    simp append_assoc at (c.then_place.ensures _ _ _ (c.text-2.ensures.gathers _ _ _ kind))

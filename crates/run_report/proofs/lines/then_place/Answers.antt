@@ -1,7 +1,6 @@
 use Rattle.std.proofs.Common.{append_assoc}
-use Rattle.vcp_outside.proofs.Gathering.{gathered_same}
 use Rattle.run_report.proofs.lines.then_place.Goals as goal
 
 pub returns : goal.returns
 returns g c start before text is =
-    gathered_same (c.count-2.ensures.gathers _ _ _ (c.text.ensures.gathers _ _ _ (c.count.ensures.gathers start before text is))) (simp append_assoc)
+    simp append_assoc at (c.count-2.ensures.gathers _ _ _ (c.text.ensures.gathers _ _ _ (c.count.ensures.gathers start before text is)))

@@ -1,11 +1,5 @@
-use Rattle.std.proofs.Common.{◌≡◌, ℕ, List, ◌++◌, codes, decimal, append_assoc}
-use Rattle.vcp_outside.proofs.Gathering.{gathered_same}
+use Rattle.std.proofs.Common.{append_assoc}
 use Rattle.run_report.proofs.lines.then_refused.Goals as goal
-
-pieces : (text cycle name found wanted : List ℕ)
-    → text ++ (codes "refused " ++ (cycle ++ (codes " " ++ (name ++ (codes " found " ++ (found ++ (codes " expected " ++ wanted)))))))
-    ≡ text ++ codes "refused " ++ cycle ++ codes " " ++ name ++ codes " found " ++ found ++ codes " expected " ++ wanted
-pieces text cycle name found wanted = simp append_assoc
 
 pub returns : goal.returns
 returns g c start before text is =
@@ -13,4 +7,4 @@ returns g c start before text is =
     let named = rw c.bytes.ensures at (c.text-3.ensures.gathers _ _ _ head) in
     let found = c.count-2.ensures.gathers _ _ _ (c.text-4.ensures.gathers _ _ _ named) in
     let all = c.count-3.ensures.gathers _ _ _ (c.text-5.ensures.gathers _ _ _ found) in
-    gathered_same all (pieces text (decimal c.args.cycle) c.args.name.now (decimal c.args.found) (decimal c.args.expected))
+    simp append_assoc at all

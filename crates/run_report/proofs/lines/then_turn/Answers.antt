@@ -1,7 +1,6 @@
 use Rattle.std.proofs.Common.{rules, append_assoc, w64}
 use mir.Val.{SFits}
 use Rattle.std.proofs.Math.Facts.{to_z-of_z}
-use Rattle.vcp_outside.proofs.Gathering.{gathered_same}
 use Rattle.run_report.proofs.lines.then_turn.Goals as goal
 
 pub returns : goal.returns
@@ -9,4 +8,4 @@ returns g c start before text is =
     let fits : SFits w64 c.args.value = search rules in
     let named = c.text-2.ensures.gathers _ _ _ (c.text.ensures.gathers start before text is) in
     let all = c.value.ensures.gathers _ _ _ (c.text-3.ensures.gathers _ _ _ named) in
-    gathered_same all (rw (to_z-of_z {w = w64} {z = c.args.value} fits, c.bytes.ensures) (simp append_assoc))
+    simp append_assoc at (rw (to_z-of_z {w = w64} {z = c.args.value} fits, c.bytes.ensures) at all)

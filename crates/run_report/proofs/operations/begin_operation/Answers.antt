@@ -1,10 +1,5 @@
-use Rattle.std.proofs.Common.{◌≡◌, ℕ, List, ◌++◌, codes, decimal, append_assoc}
-use Rattle.vcp_outside.proofs.Gathering.{gathered_same}
+use Rattle.std.proofs.Common.{append_assoc}
 use Rattle.run_report.proofs.operations.begin_operation.Goals as goal
-
-pieces : (number kind from to : List ℕ)
-    → number ++ (codes " " ++ (kind ++ (codes " " ++ (from ++ (codes " " ++ to))))) ≡ number ++ codes " " ++ kind ++ codes " " ++ from ++ codes " " ++ to
-pieces number kind from to = simp append_assoc
 
 pub returns : goal.returns
 returns g c =
@@ -12,4 +7,4 @@ returns g c =
     let kind = rw c.kind_name.ensures at (c.text-2.ensures.gathers _ _ _ head) in
     let from = rw c.ty_name.ensures at (c.text-4.ensures.gathers _ _ _ (c.text-3.ensures.gathers _ _ _ kind)) in
     let to = rw c.ty_name-2.ensures at (c.text-6.ensures.gathers _ _ _ (c.text-5.ensures.gathers _ _ _ from)) in
-    gathered_same to (pieces (decimal c.args.i) _ _ _)
+    simp append_assoc at to

@@ -1,10 +1,6 @@
-use Rattle.std.proofs.Common.{◌≡◌, ℕ, List, ◌++◌, codes, append_assoc, slice_index_or}
+use Rattle.std.proofs.Common.{◌≡◌, append_assoc, slice_index_or}
 use Rattle.std.proofs.lemmas.Option.{get_or_from_slice_get}
-use Rattle.vcp_outside.proofs.Gathering.{gathered_same}
 use Rattle.run_report.proofs.operations.then_code.Goals as goal
-
-pieces : (text own more : List ℕ) → text ++ (codes " sig " ++ (own ++ (codes " cor " ++ more))) ≡ text ++ codes " sig " ++ own ++ codes " cor " ++ more
-pieces text own more = simp append_assoc
 
 pub returns : goal.returns
 returns g c start before text is =
@@ -12,4 +8,4 @@ returns g c start before text is =
     let all = c.count-2.ensures.gathers _ _ _ (c.text-2.ensures.gathers _ _ _ own) in
     let there : slice_index_or c.args.table.now.corrections c.args.i 0 ≡ c.correction.result =
     get_or_from_slice_get c.args.table.now.corrections c.args.i c.correction.result 0 c.correction.ensures.value in
-    gathered_same all (rw there (pieces text _ _))
+    rw there (simp append_assoc at all)

@@ -1,11 +1,10 @@
 use Rattle.std.proofs.Common.{rules, append_assoc, w64}
 use mir.Val.{SFits}
 use Rattle.std.proofs.Math.Facts.{to_z-of_z}
-use Rattle.vcp_outside.proofs.Gathering.{gathered_same}
 use Rattle.run_report.proofs.operations.then_own.Goals as goal
 
 pub returns : goal.returns
 returns g c start before text is =
     let fits : SFits w64 c.args.number = search rules in
     let all = c.value.ensures.gathers _ _ _ (c.text.ensures.gathers start before text is) in
-    gathered_same all (rw (to_z-of_z {w = w64} {z = c.args.number} fits) (simp append_assoc))
+    simp append_assoc at (rw (to_z-of_z {w = w64} {z = c.args.number} fits) at all)
