@@ -44,66 +44,89 @@ def words(text):
     return found
 
 
-class Reading:
-    """The definitions that are reached from contracts."""
+class Definitions:
+    """Which definitions each definition names, and each contract: a crate, a module and the number of its item there, or a public type."""
 
     def __init__(self, crates):
         self.crates = crates
-        self.reached = set()
         self.of_kit = set()
-        self.waiting = []
+        self.known = {}
 
-    def of_module(self, path, name):
-        """Goes to a definition, or to the value as which contracts see a type of the code."""
+    def in_module(self, path, name):
+        """A definition, or a type of the code, which is named by a module's path; none in what the toolchain has."""
         parts = path.split(".", 3)
         if parts[0] != "Rattle" or len(parts) < 4:
-            return
+            return set()
         if parts[1] not in self.crates:
             self.of_kit.add((parts[1], parts[3].split(".")[0]))
-            return
+            return set()
         crate = self.crates[parts[1]]
         if parts[3].startswith("declared"):
-            path = crate.type_of(name)
-            if path and ("type", parts[1], path) not in self.reached:
-                self.reached.add(("type", parts[1], path))
-                self.of_item(crate, path, crate.seen_as(path))
-            return
+            owner = crate.type_of(name)
+            return {("type", parts[1], owner)} if owner else set()
         module = crate.modules.get(parts[3])
         if module is not None and name in module.items:
-            self.go(parts[1], parts[3], module.items[name])
-        elif module is not None and name in module.imports:
-            self.of_module(*module.imports[name])
-        else:
-            print(f"cited_modules: {name} isn't found in {path}", file=sys.stderr)
+            return {(parts[1], parts[3], module.items[name])}
+        if module is not None and name in module.imports:
+            return self.in_module(*module.imports[name])
+        print(f"cited_modules: {name} isn't found in {path}", file=sys.stderr)
+        return set()
 
-    def go(self, crate, module, number):
-        if (crate, module, number) not in self.reached:
-            self.reached.add((crate, module, number))
-            self.waiting.append((crate, module, number))
-
-    def follow(self, text, imports, own=None):
+    def in_text(self, text, imports, own=None):
+        found = set()
         for before, word in words(text):
             if before is not None:
                 if before in imports and imports[before][1] is None:
-                    self.of_module(imports[before][0], word)
+                    found |= self.in_module(imports[before][0], word)
             elif own is not None and word in own[1].items:
-                self.go(own[0], own[1].name, own[1].items[word])
+                found.add((own[0], own[1].name, own[1].items[word]))
             elif word in imports and imports[word][1] is not None:
-                self.of_module(*imports[word])
+                found |= self.in_module(*imports[word])
+        return found
+
+    def of_contract(self, crate, files, text):
+        return set().union(*(self.in_text(text, crate.files[file].imports) for file in files))
+
+    def of_node(self, node):
+        if node not in self.known:
+            crate = self.crates[node[1] if node[0] == "type" else node[0]]
+            if node[0] == "type":
+                self.known[node] = self.of_contract(crate, crate.file_of[node[2]], crate.seen_as(node[2]))
+            else:
+                module = crate.modules[node[1]]
+                self.known[node] = self.in_text(module.texts[node[2]], module.imports, (crate.name, module))
+        return self.known[node]
+
+    def reached(self, nodes):
+        """These definitions, and those that are reached from them."""
+        found, waiting = set(nodes), list(nodes)
+        while waiting:
+            new = self.of_node(waiting.pop()) - found
+            found |= new
+            waiting += new
+        return found
+
+
+def modules_of(nodes):
+    return {(node[0], node[1]) for node in nodes if node[0] != "type"}
+
+
+class Reading:
+    """The definitions that are reached from the contracts of public items."""
+
+    def __init__(self, crates, definitions=None):
+        self.definitions = definitions or Definitions(crates)
+        self.cited = set()
 
     def of_item(self, crate, item, text):
-        for file in crate.file_of[item]:
-            self.follow(text, crate.files[file].imports)
-        self.finish()
+        self.cited |= self.definitions.of_contract(crate, crate.file_of[item], text)
 
-    def finish(self):
-        while self.waiting:
-            crate, name, number = self.waiting.pop()
-            module = self.crates[crate].modules[name]
-            self.follow(module.texts[number], module.imports, (crate, module))
+    @property
+    def reached(self):
+        return self.definitions.reached(self.cited)
 
     def modules(self):
-        return {(r[0], r[1]) for r in self.reached if r[0] != "type"}
+        return modules_of(self.reached)
 
 
 def named(modules):
@@ -116,22 +139,25 @@ def listed(crate, modules):
 
 
 def listing(crates):
-    cited = Reading(crates)
+    definitions = Definitions(crates)
+    cited, viewed = Reading(crates, definitions), Reading(crates, definitions)
     for crate in crates.values():
         for item in crate.public:
             cited.of_item(crate, item, crate.public[item])
-    viewed = Reading(crates)
+    in_contracts = cited.modules()
+    of_kit = set(definitions.of_kit)
     for crate in crates.values():
         for item in crate.views:
             viewed.of_item(crate, item, crate.views[item])
+    in_views = viewed.modules() - in_contracts
     rows = [HEAD, ""]
     for name, crate in crates.items():
-        here = {m for c, m in cited.modules() if c == name}
-        more = {m for c, m in viewed.modules() if c == name} - here
+        here = {m for c, m in in_contracts if c == name}
+        more = {m for c, m in in_views if c == name}
         if here or more:
             rows += in_lines(f"`{name}`: " + "; ".join([listed(crate, here)] * bool(here) + [f"*views*: {listed(crate, more)}"] * bool(more)))
-    for kit in sorted({c for c, _ in cited.of_kit} - {"std"}):
-        rows += in_lines(f"`{kit}`, of the kit: {named(m for c, m in cited.of_kit if c == kit)}")
+    for kit in sorted({c for c, _ in of_kit} - {"std"}):
+        rows += in_lines(f"`{kit}`, of the kit: {named(m for c, m in of_kit if c == kit)}")
     return rows
 
 

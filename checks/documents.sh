@@ -1,7 +1,7 @@
 #!/bin/sh
 # Whether the documents say what stands: `.ci/run` calls it after `rt ci`.
 #
-# Names: all that docs/CLAUSES.md, docs/PROMISES.md and docs/ARCHITECTURE.md name is there, and each public call is listed (promised_names.py); and
+# Names: all that docs/PROMISES.md and docs/ARCHITECTURE.md name is there (promised_names.py); docs/CLAUSES.md is what the sources say (clauses.py); and
 # docs/GLOSSARY.md says of names that two crates have what they are (double_names.py).
 # Sections: those that a document refers to are there (sections.py).
 # Lines: none of a document is longer than 160 columns (long_lines.py).
@@ -24,6 +24,7 @@ status=0
 
 if command -v python3 >/dev/null 2>&1; then
     python3 "$here/promised_names.py" || status=1
+    python3 "$here/clauses.py" || status=1
     python3 "$here/double_names.py" || status=1
     python3 "$here/sections.py" || status=1
     python3 "$here/long_lines.py" --documents || status=1

@@ -1,20 +1,11 @@
 #!/usr/bin/env python3
-"""Whether what documents name is there, and whether all that they have to list is listed.
+"""Whether what documents name is there.
 
-    checks/promised_names.py            prints what isn't so
+    checks/promised_names.py            prints what isn't
     checks/promised_names.py --write    puts the numbers of lines right in docs/PROMISES.md and docs/ASSESSOR.md, and then prints
 
-Of docs/CLAUSES.md, each promise of a crate's section, with its parts:
-- 'clause', which each promise has, names things of the crate: functions, types or traits of its code, names of clauses, or definitions
-  of specs/ of any crate; a name behind the dot of `call.clause` is a clause of that call, or a field of that definition;
-- 'read' names modules of specs/, of the crate itself where no other is named;
-- 'broken by' names files of the crate's must-fail/ or of its folder of checks/edits/, and each such file is at one promise at least;
-- 'test' names #[test] functions of crates, or sessions of play_sessions;
-- each public function and method of the crate is named as a clause, or its type is;
-- no promise of a crate stands twice, none stands in a table, and the contents have each section;
-- a crate without edits has a line that names a call above it and its clause, which are there, or that says that no program uses the crate.
-Of docs/PROMISES.md, each claim: its clauses and its edits are there, named with their crates, and the definitions to be read have so many lines; and all that
-is named so elsewhere on that page is there.
+Of docs/PROMISES.md, each claim: its clauses and its edits are there, named with their crates, an edit that the gate doesn't try is called so, and the definitions
+to be read have so many lines; and all that is named so elsewhere on that page is there.
 Of crates/play_sessions: each session of data/ is in args, and stdout has its line.
 Of docs/ARCHITECTURE.md: each crate stands in a layer and on none above it, and has its row in the table of crates and, but for those of tests,
 in that of main contracts; each name of a crate, a file or a definition is there; and the list of
@@ -24,18 +15,17 @@ Of docs/UNITS.md: each line of code that it shows is a line of the crates coded_
 Of docs/ASSESSOR.md: each step of the order of reading names modules that are there, and has as many lines as the top call rests on in its
 crates; and each crate that the top call rests on has a step, or is told behind them.
 
-It ends with status 1 where there is something. It reads the sources and proves nothing.
+What docs/CLAUSES.md names is there, since checks/clauses.py makes it. It ends with status 1 where there is something. It reads the sources and proves nothing.
 """
 import re
 import subprocess
 import sys
-from pathlib import Path
 
-TOP = Path(__file__).resolve().parent.parent
-CRATES = TOP / "crates"
+sys.dont_write_bytecode = True
+from sources import CRATES, TOP, is_for_tests, listed_crates, read_crates  # noqa: E402
+
 CHECKS = TOP / "checks"
 PROMISES = TOP / "docs" / "PROMISES.md"
-CLAUSES = TOP / "docs" / "CLAUSES.md"
 ASSESSOR = TOP / "docs" / "ASSESSOR.md"
 ARCHITECTURE = TOP / "docs" / "ARCHITECTURE.md"
 
@@ -44,76 +34,33 @@ def without_comments(file, mark):
     return re.sub(mark + ".*", "", file.read_text())
 
 
-def listed_crates():
-    lines = re.sub(r"#.*", "", (TOP / "crates.txt").read_text()).split("\n")
-    return {line.split(":")[0].split()[0]: line.partition(":")[2].split() for line in lines if line.strip()}
-
-
 def defined():
     """The names of definitions in specs/, of all crates, and the fields of records."""
     names = set()
-    fields = set()
     for file in CRATES.glob("*/specs/**/*.antt"):
         text = without_comments(file, "--")
         names |= set(re.findall(r"^\s*(?:(?:abbrev|unfoldable|opaque|pub|data|record) )*([^\s(){}:=.,;]+)(?= [:({])", text, re.M))
-        fields |= set(re.findall(r"^  pub (\w+) :", text, re.M))
-    return names, fields
+        names |= set(re.findall(r"^  pub (\w+) :", text, re.M))
+    return names
 
 
-class Code:
-    """The names of a crate's code: its modules, types and traits, its functions with their clauses, and all clauses."""
-
-    def __init__(self, crate):
-        self.name = crate
-        self.owners = set()
-        self.clauses_of = {}
-        self.public = set()
-        files = [(file, without_comments(file, "//")) for file in sorted((CRATES / crate / "src").glob("**/*.rt"))]
-        for file, text in files:
-            self.owners.add(file.stem)
-            self.owners |= set(re.findall(r"\b(?:struct|enum|trait|type) (\w+)", text))
-            for exported in re.findall(r"pub use [^;]*;", text):
-                self.owners |= set(re.findall(r"\w+ as (\w+)", exported))
-            parts = re.split(r"\bfn (\w+)", text)
-            for name, rest in zip(parts[1::2], parts[2::2]):
-                self.clauses_of.setdefault(name, set()).update(re.findall(r"\b(?:ensures|requires) (\w+) *\{", rest))
-        self.clauses = set().union(*self.clauses_of.values())
-        self.read_public(files)
-
-    def read_public(self, files):
-        """What lib.rt exports: pairs of a type, or none, and a function."""
-        top = next((text for file, text in files if file.name == "lib.rt"), "")
-        exports = {}
-        for module, names in re.findall(r"pub use (\w+)::(\{[^}]*\}|[^;]+);", top):
-            for own, _, other in (name.strip().partition(" as ") for name in names.strip("{}").split(",") if name.strip()):
-                exports[(module, own.strip())] = (other or own).strip()
-        exported = {own for _, own in exports}
-        whole = set(re.findall(r"pub mod (\w+);", top))
-        for file, text in files:
-            for name in re.findall(r"^pub (?:const )?fn (\w+)", text, re.M):
-                if file.stem in whole or (file.stem, name) in exports:
-                    self.public.add((None, exports.get((file.stem, name), name)))
-            for block in re.split(r"^(?=impl\b|pub trait\b)", text, flags=re.M)[1:]:
-                head = re.sub(r"<[^<>]*(?:<[^<>]*>[^<>]*)*>", "", block.split("{")[0])
-                owner = re.search(r"(\w+)\s*(?:where\b.*)?$", head.split(":")[0].strip())
-                block = block[: end.start()] if (end := re.search(r"^}", block, re.M)) else block
-                mark = r"^    fn (\w+)" if block.startswith("pub trait") else r"^    pub (?:const )?fn (\w+)"
-                if owner and owner.group(1) in exported:
-                    self.public |= {(owner.group(1), name) for name in re.findall(mark, block, re.M)}
-
-    def has(self, cited, names, fields):
-        call, _, clause = cited.partition(".")
-        *owners, last = call.split("::")
-        if not set(owners) <= self.owners:
-            return False
-        if not clause:
-            return last in self.clauses_of or last in self.owners | self.clauses | names | fields
-        return clause in self.clauses_of[last] if last in self.clauses_of else last in names and clause in fields
+def in_code(crates):
+    """The names of all code: of files, types and traits, functions and their clauses."""
+    names = set()
+    for crate in crates.values():
+        for file in crate.files.values():
+            names.add(file.path.stem)
+            for found in re.finditer(r"\b(?:struct|enum|trait|type|fn|as) (\w+)|\b(?:ensures|requires) (\w+) *\{", file.text):
+                names.add(found.group(1) or found.group(2))
+    return names
 
 
-def tests_of(crate):
-    text = "\n".join(file.read_text() for file in (CRATES / crate / "src").glob("**/*.rt"))
-    return set(re.findall(r"#\[test\]\s*(?:#\[[^\]]*\]\s*)*fn (\w+)", text))
+def is_clause(crates, cited):
+    """Whether `crate::call` or `crate::call.clause` is there."""
+    crate, _, rest = cited.partition("::")
+    path, _, clause = rest.partition(".")
+    found = crates[crate].named(path) if crate in crates else []
+    return bool(found) and (not clause or any(clause in item.names_of_clauses() for item in found))
 
 
 def sessions():
@@ -125,112 +72,18 @@ def quoted(text):
     return [name.lstrip(".") for name in re.findall(r"`([^`]+)`", text)]
 
 
-PARTS = ("holds for", "clause", "read", "broken by", "test")
-
-
-def promises_of(section):
-    """The promises of a section: maps from the names of their parts to what stands there; 'promise' is what is promised."""
-    found = []
-    for item in re.findall(r"^- (.*?)(?=^\S|\Z)", section, re.M | re.S):
-        said, *parts = re.split(r"^  - \*([a-z ]+)\*: ", item, flags=re.M)
-        found.append({"promise": " ".join(said.split())} | {name: " ".join(text.split()) for name, text in zip(parts[::2], parts[1::2])})
-    return found
-
-
-def sections():
-    """The crates' sections of docs/CLAUSES.md: a crate with its promises."""
-    parts = re.split(r"^## (.*)\n", CLAUSES.read_text(), flags=re.M)
-    return {crate: promises_of(text) for crate, text in zip(parts[1::2], parts[2::2]) if (CRATES / crate).is_dir()}
-
-
-def faults_of_layout(found):
-    """Promises that lack a clause or have another part, that stand twice or in a table, and sections that the contents don't have."""
-    text = CLAUSES.read_text()
-    linked = re.findall(r"\[(\w+)\]\(#\1\)", text)
-    if sorted(linked) != sorted(found):
-        yield f"the contents differ from the sections: {', '.join(sorted(set(linked) ^ set(found)))}"
-    for file in (CLAUSES, PROMISES):
-        if re.search(r"^\| promise \|", file.read_text(), re.M):
-            yield f"a table of promises stands in {file.name}"
-    for crate, promises in found.items():
-        said = [promise["promise"] for promise in promises]
-        for promise in promises:
-            if "clause" not in promise or not set(promise) <= {"promise", *PARTS}:
-                yield f"{crate}: the parts aren't those of a promise: {promise['promise'][:60]}"
-        for twice in sorted({text for text in said if said.count(text) > 1}):
-            yield f"{crate}: a promise stands twice: {twice[:60]}"
-
-
-def faults_of_notes(crates):
-    """Whether what stands below the headings of crates is so: which proofs rest on a crate without edits, and whether a program uses it."""
-    used = below(crates, "vcp") | below(crates, "vcp_study")
-    parts = re.split(r"^## (.*)\n", CLAUSES.read_text(), flags=re.M)
-    for crate, text in zip(parts[1::2], parts[2::2]):
-        if not (CRATES / crate).is_dir():
-            continue
-        is_library = re.search(r"^A library that no (program|command) uses yet", text, re.M) is not None
-        note = re.search(r"^No edit: (.*?)\n\n", text, re.M | re.S)
-        if is_library and crate in used:
-            yield f"{crate}: a program uses it"
-        if not is_library and not note and (crate not in used or not (CRATES / crate / "must-fail").is_dir()):
-            yield f"{crate}: nothing says what rests on it"
-        if note and (CRATES / crate / "must-fail").is_dir():
-            yield f"{crate}: it has edits"
-        for call, owner, clause in re.findall(r"`(\w+)` in `(\w+)`(?: \(`(\w+)`)?", note[1] if note else ""):
-            clauses = Code(owner).clauses_of if (CRATES / owner).is_dir() else {}
-            if call not in clauses or (clause and clause not in clauses[call]):
-                yield f"{crate}: `{call}` of `{owner}` has no such clause"
-
-
-def below(crates, crate):
-    """The crates on which a crate stands, at any distance."""
-    found, waiting = set(), [crate]
-    while waiting:
-        new = [name for name in crates.get(waiting.pop(), ()) if name not in found]
-        found.update(new)
-        waiting += new
-    return found
-
-
 def folders_of_edits(crate):
     """Where edits of a crate stand: those that the gate tries, and those that are tried by hand."""
     return CRATES / crate / "must-fail", CHECKS / "edits" / crate
 
 
+def is_tried(crate, name):
+    """Whether the gate tries the edit."""
+    return (folders_of_edits(crate)[0] / f"{name}.edit").is_file()
+
+
 def has_edit(crate, name):
     return any((folder / f"{name}.edit").is_file() for folder in folders_of_edits(crate))
-
-
-def faults_of_section(crate, rows, names, fields):
-    code = Code(crate)
-    edits = {file.stem for folder in folders_of_edits(crate) for file in folder.glob("*.edit")}
-    named = set()
-    for row in rows:
-        clauses = quoted(row.get("clause", ""))
-        named |= {part for cited in clauses for part in re.split(r"::|\.", cited)}
-        for cited in clauses:
-            if not code.has(cited, names, fields):
-                yield f"`{cited}` isn't there"
-        for cited in quoted(row.get("read", "")):
-            owner, _, module = cited.rpartition("::")
-            if not (CRATES / (owner or crate) / "specs" / f"{module}.antt").is_file():
-                yield f"the module `{cited}` isn't there"
-        for cited in quoted(row.get("broken by", "")):
-            if not has_edit(crate, cited):
-                yield f"the edit `{cited}` isn't there"
-            edits.discard(cited)
-        for cited in quoted(row.get("test", "")):
-            owner, _, test = cited.partition("::")
-            if cited.startswith("session "):
-                if cited.removeprefix("session ") not in sessions():
-                    yield f"the `{cited}` isn't there"
-            elif not (CRATES / owner).is_dir() or test not in tests_of(owner):
-                yield f"the test `{cited}` isn't there"
-    for edit in sorted(edits):
-        yield f"the edit `{edit}` is at no promise"
-    for owner, name in sorted(code.public, key=str):
-        if name not in named and owner not in named:
-            yield f"the public call `{owner + '::' if owner else ''}{name}` is at no promise"
 
 
 def lines_of_module(crate, module):
@@ -253,17 +106,17 @@ def claims():
         yield number, {part: " ".join(said.split()) for part, said in re.findall(r"^- \*([a-z ]+)\*: (.*?)(?=^- |\Z)", claim, re.M | re.S)}
 
 
-def faults_of_claims(names, fields):
-    codes = {}
+def faults_of_claims(crates):
     for number, parts in claims():
         for cited in quoted(parts.get("clause", "")):
-            crate, _, rest = cited.partition("::")
-            if not rest or not (CRATES / crate).is_dir() or not codes.setdefault(crate, codes.get(crate) or Code(crate)).has(rest, names, fields):
+            if not is_clause(crates, cited):
                 yield f"claim {number}: the clause `{cited}` isn't there"
-        for cited in quoted(parts.get("broken by", "")):
+        for cited, note in re.findall(r"`(\w+::\w+)`( \(by hand\))?", parts.get("broken by", "")):
             crate, _, edit = cited.partition("::")
-            if edit and not has_edit(crate, edit):
+            if not has_edit(crate, edit):
                 yield f"claim {number}: the edit `{cited}` isn't there"
+            elif is_tried(crate, edit) == bool(note):
+                yield f"claim {number}: the edit `{cited}` is tried by {'the gate' if note else 'hand'}"
         read, _, said = parts.get("read", "").rpartition(": ")
         for crate, module in modules_in(read):
             if lines_of_module(crate, module) is None:
@@ -273,15 +126,12 @@ def faults_of_claims(names, fields):
             yield f"claim {number}: what is to be read has {lines} lines"
 
 
-def faults_of_cited_names(names, fields):
+def faults_of_cited_names(crates):
     """What docs/PROMISES.md names beside its claims, as `crate::name`: a clause or an edit of that crate."""
-    codes = {}
     for cited in sorted(set(quoted(PROMISES.read_text()))):
         crate, _, rest = cited.partition("::")
-        if re.fullmatch(r"[\w:.]+", rest) and (CRATES / crate).is_dir():
-            code = codes.setdefault(crate, codes.get(crate) or Code(crate))
-            if not code.has(rest, names, fields) and not has_edit(crate, rest):
-                yield f"`{cited}` isn't there"
+        if re.fullmatch(r"[\w:.]+", rest) and crate in crates and not is_clause(crates, cited) and not has_edit(crate, rest):
+            yield f"`{cited}` isn't there"
 
 
 def lines_in(text):
@@ -306,10 +156,6 @@ def is_there(cited, crates, names):
         return True
     last = re.split(r"::|\.", cited)[-1]
     return last in names
-
-
-def is_for_tests(crate):
-    return crate.endswith("_tests") or crate in ("play_sessions", "worked_texts", "worked_graphs", "worked_programs")
 
 
 def faults_of_layers(text, crates):
@@ -362,7 +208,7 @@ def faults_of_glossary(crates, names):
 
 
 def faults_of_units():
-    files = [*(CRATES / "coded_unit" / "src").glob("*.rt"), *(CRATES / "worked_unit" / "src").glob("*.rt")]
+    files = [*(CRATES / "coded_unit" / "src").glob("**/*.rt"), *(CRATES / "worked_unit" / "src").glob("**/*.rt")]
     code = {line.strip() for file in files for line in file.read_text().split("\n")}
     for line in (TOP / "docs" / "UNITS.md").read_text().split("\n"):
         if line.startswith("    ") and line.strip() not in code:
@@ -430,19 +276,11 @@ def main():
     if "--write" in sys.argv[1:]:
         write_lines_of_claims()
         write_lines_of_assessor()
-    crates = listed_crates()
-    names, fields = defined()
-    found = sections()
-    faults = [f"CLAUSES: {fault}" for fault in [*faults_of_layout(found), *faults_of_notes(crates)]]
-    faults += [f"CLAUSES: {crate}: {fault}" for crate, rows in found.items() for fault in faults_of_section(crate, rows, names, fields)]
-    faults += [f"PROMISES: {fault}" for fault in faults_of_claims(names, fields)]
-    faults += [f"PROMISES: {fault}" for fault in faults_of_cited_names(names, fields)]
-    for crate in crates:
-        if crate not in found and (CRATES / crate / "must-fail").is_dir():
-            faults.append(f"CLAUSES: {crate} has no section")
-    code_names = names | fields | set().union(*({*c.owners, *c.clauses, *c.clauses_of} for c in map(Code, crates)))
-    faults += [f"ARCHITECTURE: {fault}" for fault in faults_of_architecture(crates, code_names)]
-    faults += [f"GLOSSARY: {fault}" for fault in faults_of_glossary(crates, code_names)]
+    listed, crates = listed_crates(), read_crates()
+    names = defined() | in_code(crates)
+    faults = [f"PROMISES: {fault}" for fault in [*faults_of_claims(crates), *faults_of_cited_names(crates)]]
+    faults += [f"ARCHITECTURE: {fault}" for fault in faults_of_architecture(listed, names)]
+    faults += [f"GLOSSARY: {fault}" for fault in faults_of_glossary(listed, names)]
     faults += [f"play_sessions: {fault}" for fault in faults_of_sessions()]
     faults += [f"UNITS: {fault}" for fault in faults_of_units()]
     faults += [f"ASSESSOR: {fault}" for fault in faults_of_assessor()]

@@ -50,6 +50,16 @@ def defined_in(text):
             yield name.group(1)
 
 
+def heading_of(text, mark):
+    """The lines at the head of a text that begin with a mark."""
+    lines = []
+    for line in text.split("\n"):
+        if not line.startswith(mark):
+            break
+        lines.append(line)
+    return lines
+
+
 class Module:
     """A module of specs/: its items, and what its imports stand for."""
 
@@ -57,6 +67,7 @@ class Module:
         text = re.sub(r"--.*", "", file.read_text())
         self.path = file
         self.name = name
+        self.head = [line[2:].strip() for line in heading_of(file.read_text(), "--")]
         self.lines = sum(1 for l in text.split("\n") if l.strip() and not re.match(r"(pub )?use ", l))
         self.imports = imports_of(text, r"(?:pub )?use")
         self.items = {}
@@ -67,6 +78,11 @@ class Module:
                 self.add("\n".join(item))
                 item = []
             item.append(line)
+
+    def heading(self):
+        """What the comment at the head says, without the module's name before it."""
+        said = " ".join(self.head).removeprefix(f"{self.name.split('.')[-1]}: ")
+        return said[:1].upper() + said[1:]
 
     def add(self, text):
         if not text.strip() or re.match(r"(pub )?use ", text):
@@ -147,8 +163,12 @@ class File:
         while number > 0 and (self.raw[number - 1].strip().startswith(("#", "///")) or (not lines and self.is_within(number - 1))):
             number -= 1
             if self.raw[number].strip().startswith("///"):
-                lines.insert(0, self.raw[number].strip()[3:].strip())
+                lines.insert(0, self.raw[number].strip()[3:].removeprefix(" ").rstrip())
         return lines
+
+    def heading(self):
+        """What the `//!` lines at the head say."""
+        return [line[3:].strip() for line in heading_of("\n".join(self.raw), "//!")]
 
     def is_within(self, number):
         """Whether a line is the last of an attribute of several lines."""
@@ -255,6 +275,10 @@ class Crate:
             self.methods(file, m.end() - 1, body, path, r"\bfn (\w+)" if len(said) > 1 else r"\bpub (?:const )?fn (\w+)")
             self.add(self.public, path, ghosts_of(body, lambda n: n not in ("view", "invariant", "coded", "inverse")), file.module)
             self.add(self.views, path, ghosts_of(body, lambda n: n in ("view", "invariant")), file.module)
+
+    def named(self, path):
+        """The items of this path: a function, a type, or a method, which may stand in several traits' implementations."""
+        return [item for item in self.items if item.path == path]
 
     def path_of_type(self, name):
         return next((path for (_, own), path in self.exports.items() if own == name and own[0].isupper()), None)

@@ -60,11 +60,11 @@ use vcp_words::{Command, command_of};
 ///
 /// By its clauses:
 /// - `serves`: For the one task that the words lead to with what is held, the program ends in one of these ways: the task's answer is given; the
-///   files failed; the output's sink failed; the errors' sink failed; memory was lacking. Or it was given up before the task was known, as a promise
-///   below says.
+///   files failed; the output's sink failed; the errors' sink failed; memory was lacking. Or it was given up before the task was known: `Endings`,
+///   in `command_meaning`.
 /// - `some`: Words and what is held lead to a task, whatever bytes are held, and to one alone; where that is an answer it has the status 0, 1 or 2;
 ///   and where all files of a command are held it is no lack.
-/// - `complete`: Completeness: where the files that the words name are held, nothing failed, the unit was honest, if the command calls it, and
+/// - `complete`: Where the files that the words name are held, nothing failed, the unit was honest, if the command calls it, and
 ///   nothing of the task is refused, the task is brought to its end, unless memory was lacking: with 0, or with 2 where the command may meet a stop;
 ///   all that is meant by it was written, and of the file that was begun last nothing is unread.
 /// - `as_plain`: Where no answer was wrong, `run P ROWS CODE` writes the bytes that `plain P ROWS` is to write, with its status, unless the status is
