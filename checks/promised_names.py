@@ -152,6 +152,8 @@ def is_there(cited, crates, names):
         return True
     if (TOP / cited).exists() or any(CRATES.glob(f"*/src/**/{cited}")) or any(CRATES.glob(f"*/{cited}")):
         return True
+    if any((TOP / "tools").glob(f"**/{cited}")):
+        return True
     if any(CRATES.glob(f"*/specs/{cited}")) or any(CRATES.glob(f"*/specs/{cited}.antt")) or any((TOP / "bench").glob(cited)):
         return True
     last = re.split(r"::|\.", cited)[-1]
