@@ -54,9 +54,9 @@ class Marks:
 
     def __init__(self, crates):
         self.crates = crates
-        self.broken_by, self.shown_by, self.faults, self.unmarked = {}, {}, [], []
+        self.broken_by, self.shown_by, self.faults = {}, {}, []
         for name in crates:
-            for folder, how in ((CRATES / name / "must-fail", ""), (TOP / "checks" / "edits" / name, ", by hand")):
+            for folder, how in ((CRATES / name / "must-fail", ""), (TOP / "checks" / "edits" / name, "by hand")):
                 for file in sorted(folder.glob("*.edit")):
                     names = marks(file.read_text(), "# breaks")
                     if not names:
@@ -86,11 +86,17 @@ class Marks:
             found = self.crates[crate].named(path) if crate in self.crates else []
             if not found or (clause and not any(clause in item.names_of_clauses() for item in found)):
                 self.faults.append(f"{file.relative_to(TOP)}: `{cited}` isn't there")
-            note = ", ".join(part for part in (f"`{clause}`" if clause else "", how.strip(", ")) if part)
-            told = f"{what} ({note})" if note else what
-            told_before = where.setdefault((crate, path), [])
-            if told not in told_before:
-                told_before.append(told)
+            told = where.setdefault((crate, path), {}).setdefault((what, how), [])
+            told += [f"`{clause}`"] * (bool(clause) and f"`{clause}`" not in told)
+
+    @staticmethod
+    def listed(where, key):
+        """What is at an item, each with its clauses and, behind them, whether it is tried by hand."""
+        found = []
+        for (what, how), clauses in where.get(key, {}).items():
+            note = ", ".join(clauses + [how] * bool(how))
+            found.append(f"{what} ({note})" if note else what)
+        return found
 
 
 def in_lines(text, first="", later=""):
@@ -136,7 +142,7 @@ class Page:
     def annex(self, crate, item):
         """The lines behind an item: its clauses, what they cite, what breaks and what shows them."""
         key = (crate.name, item.path)
-        broken, shown = self.marks.broken_by.get(key, []), self.marks.shown_by.get(key, [])
+        broken, shown = (self.marks.listed(where, key) for where in (self.marks.broken_by, self.marks.shown_by))
         if not item.clauses and not broken and not shown and (item.kind == "type" or not item.comment):
             return []
         kinds = {kind: [f"`{name}`" for own, name, _ in item.clauses if own == kind and name] for kind in ("ensures", "requires")}
