@@ -67,14 +67,6 @@ pub cut_twice : (z h l m r v : ℤ) (s : ℕ) → z ≡ pos (2 ^ 61) *ℤ h +ℤ
     → pos 2305843009213693951 *ℤ (h +ℤ m) +ℤ (m +ℤ r) ≡ pos 2305843009213693951 *ℤ v +ℤ pos s → z ≡ pos 2305843009213693951 *ℤ v +ℤ pos s
 cut_twice z h l m r v s a b e = omega (arith, ints)
 
--- the same in two steps: what is left after the first cut, and after the second
-pub cut_near : (z h l x : ℤ) → z ≡ pos (2 ^ 61) *ℤ h +ℤ l → x ≡ h +ℤ l → z ≡ pos 2305843009213693951 *ℤ h +ℤ x
-cut_near z h l x a b = omega (arith, ints)
-
-pub cut_far : (z h l x m r v w : ℤ) → z ≡ pos (2 ^ 61) *ℤ h +ℤ l → x ≡ h +ℤ l → x ≡ pos (2 ^ 61) *ℤ m +ℤ r → v ≡ h +ℤ m → w ≡ m +ℤ r
-    → z ≡ pos 2305843009213693951 *ℤ v +ℤ w
-cut_far z h l x m r v w a b d e f = omega (arith, ints)
-
 -- the product of a sum
 pub times_plus : (a x y : ℤ) → a *ℤ (x +ℤ y) ≡ a *ℤ x +ℤ a *ℤ y
 times_plus a x y =

@@ -213,9 +213,6 @@ closes_skip s n m g known x e isnt h = record {
 
 -- ---- a LOAD
 
-load_entry_at : Lists → ℕ → Slot → Loaded
-load_entry_at g slot x = record { name = slot; ty = x.ty; init = x.init; load = length g.operations }
-
 -- what isn't held now wasn't before
 not_then : (o : Option ℕ) → ((k : ℕ) → o ≡ Some k → None ≡ Some k) → o ≡ None
 not_then None h = refl

@@ -1,5 +1,5 @@
 -- Conversions: what is made of their types.
-use Rattle.std.proofs.Common.{◌≡◌, ℕ, ℤ, pos, negsuc, true, false, List, Some, None, Ok, refl, sym, ap, ◌∙◌, subst, arith}
+use Rattle.std.proofs.Common.{◌≡◌, ℕ, ℤ, pos, negsuc, true, false, List, Some, Ok, refl, sym, ap, ◌∙◌, subst, arith}
 use Rattle.vcp_base.specs.declared.spot.Spot.{Spot}
 use Rattle.vcp_base.specs.declared.ty.Ty.{Ty}
 use Rattle.vcp_base.specs.declared.ty.Ty.TheVariants as ty
@@ -106,18 +106,3 @@ converted s new a b c k spot =
     (λ h m. m)
     (λ h m. m)
     (whole s new fun.BoolToInt ty.Bool ty.Int a b c k spot refl refl)
-
--- no other function is a conversion
-pub only_conversions : (f : Fun) → conversion f ≡ None → (f ≡ fun.Abs → ⊥) → (f ≡ fun.Min → ⊥) → (f ≡ fun.Max → ⊥) → (f ≡ fun.Limit → ⊥) → (f ≡ fun.Sel → ⊥) → ⊥
-only_conversions fun.Abs h a b c d e = a refl
-only_conversions fun.Min h a b c d e = b refl
-only_conversions fun.Max h a b c d e = c refl
-only_conversions fun.Limit h a b c d e = d refl
-only_conversions fun.Sel h a b c d e = e refl
-only_conversions fun.IntToDint h a b c d e = absurd cc
-only_conversions fun.IntToLint h a b c d e = absurd cc
-only_conversions fun.DintToInt h a b c d e = absurd cc
-only_conversions fun.DintToLint h a b c d e = absurd cc
-only_conversions fun.LintToInt h a b c d e = absurd cc
-only_conversions fun.LintToDint h a b c d e = absurd cc
-only_conversions fun.BoolToInt h a b c d e = absurd cc

@@ -8,14 +8,14 @@ use Rattle.vcp_base.specs.Values.{at}
 use Rattle.st_tree.specs.declared.expr.UnOp.{UnOp}
 use Rattle.st_tree.specs.declared.expr.BinOp.{BinOp}
 use Rattle.vcp_typed.specs.Meaning.{Stop, and_then, value, sign, operate}
-use Rattle.vcp_typed.specs.TExprTree.{TExprTree, literal, get, widen, unary, binary}
+use Rattle.vcp_typed.specs.TExprTree.{TExprTree, literal, get, unary, binary}
 use Rattle.vcp_typed.specs.Checked.{ty_of}
-use Rattle.vcp_typed.specs.Rules.{result, widens}
+use Rattle.vcp_typed.specs.Rules.{result}
 use Rattle.vcp_typed.specs.Size.{expr_size, operator_size}
 use Rattle.flat_expr.specs.State.{State, active, guarded, IsValue, Meant, Makes, Reads, Flattens, no_slot, meaning_of, giving, reading, signs, operates}
 use Rattle.flat_expr.specs.ReadSlots.{reads_slot}
 use Rattle.flat_expr.proofs.Steps.{then_reading, neither, weaker, AsGood, as_good-self, as_good-is}
-use Rattle.flat_expr.proofs.Operators.{turns-same, good_total, wider_as}
+use Rattle.flat_expr.proofs.Operators.{turns-same, good_total}
 
 pub literal_made : (s new : State) (t : Ty) (v : ℤ) (spot : Spot) (k : ℕ) → Makes s new t 1 (giving v) k → Flattens s new (literal t v spot) k
 literal_made s new t v spot k f = weaker s new t 1 1 (giving v) _ k (omega arith) (λ now vs types. good_total (active s.path vs) (Ok (Some v)) v refl) f
@@ -23,15 +23,6 @@ literal_made s new t v spot k f = weaker s new t 1 1 (giving v) _ k (omega arith
 pub get_made : (s new : State) (t : Ty) (slot k : ℕ) → Reads s new slot t k → Flattens s new (get slot t) k
 get_made s new t slot k f =
     weaker s new t 0 0 (reading slot) _ k (omega arith) (λ now vs types. good_total (active s.path vs) (Ok (Some (at now slot))) (at now slot) refl) f
-
-pub widen_made : (s new : State) (t : Ty) (a : TExprTree) (k : ℕ) → widens (ty_of a) t ≡ true → Flattens s new a k → Flattens s new (widen t a) k
-widen_made s new t a k w f = record {
-  follows = f.follows;
-  unread = f.unread;
-  place = wider_as (ty_of a) t new.graph.operations k w f.place;
-  count = f.count;
-  gives = f.gives;
-}
 
 pub guard_stops : (b : Bool) (x : Result ℤ Stop) (f : ℤ → Result ℤ Stop) (s : Stop) → guarded b x ≡ Err s → guarded b (and_then x f) ≡ Err s
 guard_stops true (Ok v) f s h = absurd cc

@@ -17,13 +17,12 @@ use Rattle.op_graph.specs.Rules.{is_number}
 use Rattle.vcp_base.specs.Values.{at}
 use Rattle.vcp_typed.specs.Meaning.{Stop, in_range}
 use Rattle.st_tree.specs.declared.expr.UnOp.TheVariants as un
-use Rattle.vcp_typed.specs.Rules.{widens}
 use Rattle.flat_expr.specs.State.{State, stopped, missing, IsState, IsA, IsPlace, active, IsNumber, guarded, exactly, IsValue, Follows, Meant, Makes, Pushes}
 use Rattle.flat_expr.specs.State.{act, acts, giving, neutral, neutral_place, with_neutral, reserved, masks, guards, is_arithmetic, divides, is_comparison}
 use Rattle.flat_expr.specs.State.{compares, denies, signs, picks, limits, selects, narrows, copies}
 use Rattle.flat_expr.proofs.Ops.{there, isa}
 use Rattle.flat_expr.proofs.Runs.{Typed}
-use Rattle.flat_expr.proofs.Steps.{made, then, weaker, stays, follows-self, Tells, AsGood, as_good-self, as_good-is}
+use Rattle.flat_expr.proofs.Steps.{made, then, weaker, follows-self, Tells, AsGood, as_good-self, as_good-is}
 
 pub turns-same : (a b : State) → Follows a b → turns_of b.graph b.turn ≡ turns_of a.graph a.turn
 turns-same a b f = ap (λ n. turns_of b.graph n) f.turn ∙ ap (λ nodes. turns_back (reverse nodes) a.turn) f.turn_nodes
@@ -220,38 +219,6 @@ within_int ty.Lint ty.Lint n h = absurd cc
 pub int_as : (t : Ty) (ops : List Op) (k : ℕ) → is_number t ≡ true → IsA ty.Int ops k → IsA t ops k
 int_as t ops k n h = let p = there ty.Int ops k h in isa t ops k p.op p.is (within_int p.op.ty t n p.type)
 
--- what is within a type is within one that it widens to
-within_wider : (u s t : Ty) → widens s t ≡ true → within u s ≡ true → within u t ≡ true
-within_wider u ty.Bool ty.Bool w h = absurd cc
-within_wider u ty.Bool ty.Int w h = absurd cc
-within_wider u ty.Bool ty.Dint w h = absurd cc
-within_wider u ty.Bool ty.Lint w h = absurd cc
-within_wider u ty.Int ty.Bool w h = absurd cc
-within_wider u ty.Int ty.Int w h = absurd cc
-within_wider ty.Bool ty.Int ty.Dint w h = absurd cc
-within_wider ty.Int ty.Int ty.Dint w h = refl
-within_wider ty.Dint ty.Int ty.Dint w h = absurd cc
-within_wider ty.Lint ty.Int ty.Dint w h = absurd cc
-within_wider ty.Bool ty.Int ty.Lint w h = absurd cc
-within_wider ty.Int ty.Int ty.Lint w h = refl
-within_wider ty.Dint ty.Int ty.Lint w h = absurd cc
-within_wider ty.Lint ty.Int ty.Lint w h = absurd cc
-within_wider u ty.Dint ty.Bool w h = absurd cc
-within_wider u ty.Dint ty.Int w h = absurd cc
-within_wider u ty.Dint ty.Dint w h = absurd cc
-within_wider ty.Bool ty.Dint ty.Lint w h = absurd cc
-within_wider ty.Int ty.Dint ty.Lint w h = refl
-within_wider ty.Dint ty.Dint ty.Lint w h = refl
-within_wider ty.Lint ty.Dint ty.Lint w h = absurd cc
-within_wider u ty.Lint ty.Bool w h = absurd cc
-within_wider u ty.Lint ty.Int w h = absurd cc
-within_wider u ty.Lint ty.Dint w h = absurd cc
-within_wider u ty.Lint ty.Lint w h = absurd cc
-
--- a value of a type may be read as one that the type widens to
-pub wider_as : (s t : Ty) (ops : List Op) (k : ℕ) → widens s t ≡ true → IsA s ops k → IsA t ops k
-wider_as s t ops k w h = let p = there s ops k h in isa t ops k p.op p.is (within_wider p.op.ty s t w p.type)
-
 pub some_is : (o : Option ℤ) (v x : ℤ) → giving v [] [] ≡ Ok o → IsValue o x → x ≡ v
 some_is None v x e h = absurd cc
 some_is (Some w) v x e h = let s : v ≡ w = cc in h ∙ sym s
@@ -263,11 +230,6 @@ flip false x n = refl
 pub sel_fits : (t : Ty) (z : Bool) (x y : ℤ) → fits t x ≡ true → fits t y ≡ true → fits t (cond z x y) ≡ true
 sel_fits t true x y hx hy = hx
 sel_fits t false x y hx hy = hy
-
-pub unmasked : (s : State) (t : Ty) (one : Bool) (k : ℕ) → IsState s → s.path ≡ None → IsA t s.graph.operations k → Makes s s t 1 (masks s one k) k
-unmasked s t one k i e h =
-    weaker s s t 0 1 _ (masks s one k) k (omega arith)
-    (λ now vs types. as_good-is _ _ (ap (λ p. Ok (Some (cond (active p vs) (at vs k) (neutral one)))) (sym e))) (stays s t k i h)
 
 pub masked : (s0 s1 s2 : State) (t : Ty) (one : Bool) (path other k j : ℕ) (spot : Spot) → is_number t ≡ true → s0.path ≡ Some path
     → IsA t s0.graph.operations k →

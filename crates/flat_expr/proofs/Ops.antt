@@ -3,15 +3,14 @@ use Rattle.std.proofs.Common.{◌≡◌, ℕ, zero, suc, ◌<◌, ◌≤◌, ℤ
 use Rattle.std.proofs.Common.{ap, ◌∙◌, arith, nat_le}
 use Rattle.std.proofs.lemmas.Bool.Decides.{nat_tests}
 use Rattle.std.proofs.lemmas.Option.{slice_get_within}
-use Rattle.vcp_base.specs.declared.spot.Spot.{Spot}
 use Rattle.vcp_base.specs.declared.ty.Ty.{Ty}
 use Rattle.vcp_base.specs.declared.ty.Ty.TheVariants as ty
 use Rattle.vcp_base.specs.declared.kind.Kind.{Kind}
 use Rattle.vcp_base.specs.declared.kind.Kind.TheVariants as kind
-use Rattle.vcp_base.specs.Types.{within, fits}
+use Rattle.vcp_base.specs.Types.{within}
 use Rattle.op_graph.specs.declared.op.Op.{Op}
 use Rattle.op_graph.specs.Building.{nowhere}
-use Rattle.op_graph.specs.Rules.{OpFits, kind_fits, types_fit, from_fits, takes_type, ty_fits, same_type, entry_of, imm_fits, turn_fits, reads_as, operand_fits}
+use Rattle.op_graph.specs.Rules.{kind_fits, entry_of, imm_fits, reads_as}
 use Rattle.vcp_base.specs.Values.{at}
 use Rattle.op_graph.specs.GraphRun.{own, read}
 use Rattle.flat_expr.specs.State.{IsA, IsPlace, is_plain, reads}
@@ -62,35 +61,6 @@ get_last (x ∷ xs) y = get_last xs y
 
 pub turn_is : (n m : ℕ) → n ≤ m → nat_le n m ≡ true
 turn_is n m h = grind (arith, nat_tests)
-
--- a plain operation whose operands are there
-pub plain_fits : (k : Kind) (from to : Ty) (a b c : ℕ) (spot : Spot) (turn nodes : ℕ) (ops : List Op) → is_plain k ≡ true → types_fit k from to ≡ true →
-    operand_fits ops (reads k from 0) a ≡ true → operand_fits ops (reads k from 1) b ≡ true → operand_fits ops (reads k from 2) c ≡ true → turn ≤ nodes →
-    OpFits nowhere nodes ops (record { kind = k; from = from; ty = to; a = a; b = b; c = c; imm = pos 0; spot = spot; turn = turn })
-plain_fits k from to a b c spot turn nodes ops is types fa fb fc le =
-    let p = plain k is in
-    record {
-      kind = p.kind;
-      from = ap (λ e. from_fits e k from) p.entry ∙ (both_true (takes_type k from) (ty_fits k from to) types).0;
-      ty = (both_true (takes_type k from) (ty_fits k from to) types).1;
-      a = ap (λ r. operand_fits ops r a) (p.reads from 0) ∙ fa;
-      b = ap (λ r. operand_fits ops r b) (p.reads from 1) ∙ fb;
-      c = ap (λ r. operand_fits ops r c) (p.reads from 2) ∙ fc;
-      imm = ap (λ e. imm_fits e k to (pos 0)) p.entry ∙ p.imm to;
-      turn = ap (λ e. turn_fits e nodes turn) p.entry ∙ turn_is turn nodes le;
-    }
-
--- a constant
-pub const_fits : (to : Ty) (v : ℤ) (spot : Spot) (turn nodes : ℕ) (ops : List Op) → fits to v ≡ true → turn ≤ nodes →
-    OpFits nowhere nodes ops (record { kind = kind.Const; from = to; ty = to; a = 0; b = 0; c = 0; imm = v; spot = spot; turn = turn })
-const_fits to v spot turn nodes ops h le =
-    record { kind = refl; from = refl; ty = same_self to; a = refl; b = refl; c = refl; imm = h; turn = turn_is turn nodes le }
-  where
-    same_self : (t : Ty) → same_type t t ≡ true
-    same_self ty.Bool = refl
-    same_self ty.Int = refl
-    same_self ty.Dint = refl
-    same_self ty.Lint = refl
 
 -- ---- places
 

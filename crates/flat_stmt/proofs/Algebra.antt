@@ -76,9 +76,6 @@ place_typed a b t (Some k) f h = f t k h
 pub knows_at : (s : State) (p : Option ℕ) (start now vs : List ℤ) → Knows s start now vs → Knows (record s { path = p }) start now vs
 knows_at s p start now vs k = record { long = k.long; each = k.each; nought = k.nought; unit = k.unit }
 
-pub knows_of : (s : State) (p : Option ℕ) (start now vs : List ℤ) → Knows (record s { path = p }) start now vs → Knows s start now vs
-knows_of s p start now vs k = record { long = k.long; each = k.each; nought = k.nought; unit = k.unit }
-
 pub continues-trans : (a b c : State) → Continues a b → Continues b c → Continues a c
 continues-trans a b c f g = record {
   before = f.before;

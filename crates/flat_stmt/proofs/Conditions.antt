@@ -298,9 +298,6 @@ orders ty.Lint h = refl
 
 -- ---- the loop over labels
 
-taken_one : {X : Type 0} (x : X) (xs : List X) → take 1 (x ∷ xs) ≡ x ∷ []
-taken_one x xs = refl
-
 pub first_label : Laws → (a b : State) (k r : ℕ) (ls : List TLabel) (d : TLabel) → 0 < length ls
     → Makes a b ty.Bool (alone_size (get_or ls 0 d)) (labelled k (get_or ls 0 d)) r
     → Makes a b ty.Bool (sum_by label_size (take 1 ls)) (any_labelled k (take 1 ls)) r

@@ -1,5 +1,5 @@
 -- Loops: statements, branches and turns one after another: what was done so far, and what is still to come.
-use Rattle.std.proofs.Common.{◌≡◌, ℕ, ◌+◌, ◌≤◌, ℤ, pos, Bool, true, false, not, cond, List, [], Option, Result, Ok, Err, refl, sym, ap, ◌∙◌, arith}
+use Rattle.std.proofs.Common.{◌≡◌, ℕ, ◌+◌, ◌≤◌, ℤ, pos, Bool, true, false, not, cond, List, Option, Result, Ok, Err, refl, sym, ap, ◌∙◌, arith}
 use Rattle.std.specs.List.{list_any}
 use Rattle.vcp_base.specs.declared.spot.Spot.{Spot}
 use Rattle.vcp_base.specs.declared.turns.Turn.{Turn}
@@ -9,7 +9,7 @@ use Rattle.vcp_typed.specs.TExprTree.{TExprTree}
 use Rattle.vcp_typed.specs.TStmtTree.{TStmtTrees, TArmTrees, TBranchTrees, and_tarm, and_tbranch}
 use Rattle.vcp_typed.specs.Meaning.{Stop, and_then, value, is_labelled, do_stmts, do_arms, do_branches}
 use Rattle.flat_expr.specs.Laws.{Laws}
-use Rattle.flat_expr.specs.State.{State, IsState, active}
+use Rattle.flat_expr.specs.State.{State, IsState}
 use Rattle.flat_stmt.specs.Moves.{here, Doing, Moves, Any, where_reached, Does}
 use Rattle.flat_stmt.specs.Branches.{branch_of, arm_of, rest_of}
 use Rattle.flat_stmt.proofs.Algebra.{Lasts, then_do, moves_then, moves_same, moves_nothing}
@@ -159,15 +159,3 @@ pub case_rest : (more b : Bool) (turns : List Turn) (v : ℤ) (ls : List TLabel)
 case_rest more b turns v ls body branches other m last =
     branch_rest more b (truth (list_any (is_labelled v) ls)) (do_stmts turns body) (do_branches turns v branches other) m last
     ∙ ap (λ r. cond b r (Ok m)) (truth_zero (list_any (is_labelled v) ls) (do_branches turns v branches other m) (do_stmts turns body m))
-
--- a branch without labels
-pub case_none : (more : Bool) (a : State) (Such : List ℤ → Type 0) (n : ℕ) (v : ℤ) (ls : List TLabel) (body : List ℤ → Result (List ℤ) Stop) → ls ≡ []
-    → IsState a → Moves a a Such n (branch_of more (truth (list_any (is_labelled v) ls)) body)
-case_none more a Such n v ls body none i =
-    moves_same a a Such Such 0 n (λ b m. Ok (here b m)) (branch_of more (truth (list_any (is_labelled v) ls)) body) (omega arith) (λ vs h. h)
-    (λ vs now h. all (active a.path vs) now ∙ ap (λ l. branch_of more (truth (list_any (is_labelled v) l)) body (active a.path vs) now) (sym none))
-    (moves_nothing a Such i)
-  where
-    all : (b : Bool) (m : List ℤ) → Ok (here b m) ≡ branch_of more (truth (list_any (is_labelled v) [])) body b m
-    all true m = refl
-    all false m = refl

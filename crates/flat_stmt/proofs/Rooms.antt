@@ -1,8 +1,7 @@
 -- Rooms: why there may be no room, after a step.
-use Rattle.std.proofs.Common.{◌≡◌, ℕ, ◌+◌, ◌≤◌, Result, Ok, Err, sym, ap, ◌∙◌, arith}
+use Rattle.std.proofs.Common.{◌≡◌, ℕ, ◌+◌, ◌≤◌, Result, Ok, Err, ap, ◌∙◌, arith}
 use Rattle.std.specs.Prelude.{IfErr}
 use Rattle.op_graph.specs.declared.build.Build.{Build}
-use Rattle.op_graph.specs.declared.build.Build.TheVariants as build
 use Rattle.vcp_typed.specs.Size.{size, stmts_size}
 use Rattle.vcp_typed.specs.SourceRun.{Program}
 use Rattle.flat_expr.specs.Begin.{Begins}
@@ -19,16 +18,6 @@ pub fills_later : {A : Type 0} → (old mid : State) (n1 n2 n : ℕ) (r : Result
     → IfErr r (λ e. Fills mid n2 e) → IfErr r (λ e. Fills old n e)
 fills_later old mid n1 n2 n (Ok k) le fits h = tt
 fills_later old mid n1 n2 n (Err e) le fits h = λ is. omega (arith, h is, le, fits)
-
--- the same where the refusal is handed on
-pub fills_at : (old mid : State) (n1 n2 n : ℕ) (e : Build) → reserved mid ≤ reserved old + n1 → n1 + n2 ≤ n → Fills mid n2 e → Fills old n e
-fills_at old mid n1 n2 n e le fits h = λ is. omega (arith, h is, le, fits)
-
-pub refused_at : (old mid new : State) (n1 n2 n : ℕ) (e : Build) → reserved mid ≤ reserved old + n1 → n1 + n2 ≤ n → Refuses mid new n2 e → Fills old n e
-refused_at old mid new n1 n2 n e le fits h = λ is. omega (arith, h.room is, le, fits)
-
-pub from_memory : (old : State) (n : ℕ) (e : Build) → e ≡ build.Memory → Fills old n e
-from_memory old n e is = λ full. let no : build.Memory ≡ build.Full = sym is ∙ full in absurd cc
 
 -- the whole graph has at most as many operations as the program's Size
 pub within_size : Laws → (p : Program) (s0 s1 : State) (n : ℕ) → Begins s0 p → Continues s0 (record s1 { path = s0.path }) → reserved s1 ≤ reserved s0 + n

@@ -283,9 +283,6 @@ drop_past [] (suc n) le = refl
 drop_past (x ∷ xs) zero le = absurd (omega (arith, le))
 drop_past (x ∷ xs) (suc n) le = drop_past xs n (omega (arith, le))
 
-pub done_slots : (a b : State) (left most : ℕ) (rest whole : List ℤ → Result (List ℤ) Stop) → Done a b left most rest whole → b.slots ≡ a.slots
-done_slots a b left most rest whole d = d.does.moves.continues.slots
-
 pub same_context : (a b : State) → Continues a b → context b ≡ context a
 same_context a b f = ap₂ (λ slots profile. record { slots = slots; profile = profile }) f.slots f.profile
 
@@ -344,16 +341,6 @@ arms_rest c all e body spot arms is h =
     let g = subst (λ x. ArmsPart c x) is h in
     (g.0, g.1.3, (allows_three c.profile (expr_is_wide e) (stmts_are_wide body) (arms_are_wide arms) g.2).2)
 
--- the condition and the body of an arm
-pub arm_condition : (c : Context) (e : TExprTree) (body : TStmtTrees) (spot : Spot) → ArmsPart c (and_tarm e body spot no_tarms)
-    → Allows c.profile (expr_is_wide e)
-arm_condition c e body spot h = (allows_three c.profile (expr_is_wide e) (stmts_are_wide body) false h.2).0
-
-pub arm_body : (before c : Context) (e : TExprTree) (body : TStmtTrees) (spot : Spot) → c ≡ before → ArmsPart before (and_tarm e body spot no_tarms)
-    → StmtsPart c body
-arm_body before c e body spot same h =
-    subst (λ x. StmtsPart x body) (sym same) (h.0, h.1.2, (allows_three before.profile (expr_is_wide e) (stmts_are_wide body) false h.2).1)
-
 pub branches_first : (before c : Context) (t : Ty) (all : TBranchTrees) (ls : List TLabel) (body : TStmtTrees) (branches : TBranchTrees)
     → all ≡ and_tbranch ls body branches → c ≡ before → BranchesPart before t all → BranchesPart c t (and_tbranch ls body no_tbranches)
 branches_first before c t all ls body branches is same h =
@@ -367,18 +354,6 @@ pub branches_rest : (c : Context) (t : Ty) (all : TBranchTrees) (ls : List TLabe
 branches_rest c t all ls body branches is h =
     let g = subst (λ x. BranchesPart c t x) is h in
     (g.0, g.1.2, allows_second c.profile (stmts_are_wide body) (branches_are_wide branches) g.2)
-
--- the body of a branch of CASE
-pub branch_body : (before c : Context) (t : Ty) (ls : List TLabel) (body : TStmtTrees) → c ≡ before → BranchesPart before t (and_tbranch ls body no_tbranches)
-    → StmtsPart c body
-branch_body before c t ls body same h = subst (λ x. StmtsPart x body) (sym same) (h.0, h.1.1, allows_first before.profile (stmts_are_wide body) false h.2)
-
--- parts in a later state
-pub stmts_part : (before c : Context) (ss : TStmtTrees) → c ≡ before → StmtsPart before ss → StmtsPart c ss
-stmts_part before c ss same h = subst (λ x. StmtsPart x ss) (sym same) h
-
-pub branches_part : (before c : Context) (t : Ty) (branches : TBranchTrees) → c ≡ before → BranchesPart before t branches → BranchesPart c t branches
-branches_part before c t branches same h = subst (λ x. BranchesPart x t branches) (sym same) h
 
 pub other_part : (before c : Context) (o : TOtherTree) → c ≡ before → OtherPart before o → OtherPart c o
 other_part before c o same h = subst (λ x. OtherPart x o) (sym same) h
@@ -503,16 +478,6 @@ for_values c slot first by n body spot h x e =
     let may = h.1.1 in
     let is : may.of ≡ x = some_same (sym may.there ∙ e) in
     subst (λ t. AreTurns t n first by) (sym may.ty ∙ ap (λ (y : Slot). y.ty) is) h.1.4
-  where
-    some_same : {a b : Slot} → Some a ≡ Some b → a ≡ b
-    some_same e = cc
-
-pub for_first : (c : Context) (slot : ℕ) (first by : ℤ) (n : ℕ) (body : TStmtTrees) (spot : Spot) → StmtPart c (for_ slot first by n body spot) → (x : Slot)
-    → slice_get c.slots slot ≡ Some x → fits x.ty first ≡ true
-for_first c slot first by n body spot h x e =
-    let may = h.1.1 in
-    let is : may.of ≡ x = some_same (sym may.there ∙ e) in
-    subst (λ t. fits t first ≡ true) (sym may.ty ∙ ap (λ (y : Slot). y.ty) is) h.1.3
   where
     some_same : {a b : Slot} → Some a ≡ Some b → a ≡ b
     some_same e = cc

@@ -80,9 +80,6 @@ assigns_moves laws a b slot k x f = record {
     ends true now vs start all ws e kept knows reached = (ws, e, record { kept = kept; knows = knows; reached = reached })
     ends false now vs start all ws e kept knows reached = (ws, e, record { kept = kept; knows = knows; reached = reached })
 
-assigns_path : (a b : State) (slot k : ℕ) → Assigns a b slot k → b.path ≡ a.path
-assigns_path a b slot k f = f.continues.path
-
 -- the slot gets the expression's value
 pub assigned : Laws → (a b c : State) (e : TExprTree) (slot k : ℕ) → Flattens a b e k → Assigns b c slot k
     → Does a c (1 + expr_size e) (λ m. and_then (value (turns_of a.graph a.turn) e m) (λ v. Ok (slice_set m slot v)))

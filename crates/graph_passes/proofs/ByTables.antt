@@ -3,7 +3,7 @@ use Rattle.std.proofs.Common.{◌≡◌, ◌≢◌, ◌⊎◌, ⊎_elim, inl, in
 use Rattle.std.proofs.Common.{take, slice_get, slice_index_or, Option, Some, None, refl, sym, ap, subst, ◌∙◌, arith}
 use Rattle.std.specs.Prelude.{unsigned_abs}
 use Rattle.std.proofs.lemmas.Option.{slice_get_within}
-use Rattle.std.proofs.lemmas.List.{length-take-le, map-append}
+use Rattle.std.proofs.lemmas.List.{length-take-le}
 use Rattle.std.proofs.lemmas.Bool.Decides.{nat_tests, eqb_tells}
 use Rattle.vcp_base.specs.declared.ty.Ty.{Ty}
 use Rattle.vcp_base.specs.declared.kind.Kind.{Kind}
@@ -51,13 +51,6 @@ kept_pushed choice f new old xs i b x y pushed held keep is there =
     let before = chosen choice f 0 (take i xs) in
     pushed ∙ ap (λ l. cond b (l ++ y ∷ []) l) held ∙ ap (λ z. cond b (before ++ z ∷ []) before) is ∙ ap (λ c. cond c (before ++ f x ∷ []) before) keep
     ∙ sym (chosen_next choice f xs i x there)
-
--- the same where all entries are taken
-pub map_pushed : {X Y : Type 0} (f : X → Y) (new old : List Y) (xs : List X) (i : ℕ) (x : X) (y : Y) → new ≡ old ++ y ∷ [] → old ≡ map f (take i xs) →
-    y ≡ f x → slice_get xs i ≡ Some x → new ≡ map f (take (i + 1) xs)
-map_pushed f new old xs i x y pushed held is there =
-    pushed ∙ ap (λ l. l ++ y ∷ []) held ∙ ap (λ z. map f (take i xs) ++ z ∷ []) is ∙ sym (map-append f (take i xs) (x ∷ []))
-    ∙ ap (map f) (sym (take_next xs i x there))
 
 pub output_moved : (m : Numbering) (o : Outlet) (n : ℕ) → n ≡ m.number o.op → record o { op = n } ≡ moved_output m o
 output_moved m o n is = ap (λ k. record o { op = k }) is

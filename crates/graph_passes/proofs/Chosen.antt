@@ -35,10 +35,6 @@ below_grows choice n (suc d) =
     let here = step_up choice (d + n) (choice (d + n)) in
     subst (λ j. below choice n ≤ below choice j) (sym e) (omega (arith, before, here))
 
--- the step to the next place
-one_on : (choice : ℕ → Bool) (s : ℕ) (b : Bool) → choice s ≡ b → below choice (suc s) ≡ cond b (suc (below choice s)) (below choice s)
-one_on choice s b e = ap (λ c. cond c (suc (below choice s)) (below choice s)) e
-
 later_at : {X Y : Type 0} (choice : ℕ → Bool) (f : X → Y) (s d total : ℕ) (x : X) (y : Y) (xs : List X) (b : Bool) →
     below choice (suc s) ≡ cond b (suc (below choice s)) (below choice s) → below choice s + d ≡ total → below choice (suc s) ≤ total →
     ((e : ℕ) → below choice (suc s) + e ≡ total → slice_get (chosen choice f (suc s) xs) e ≡ Some y) →

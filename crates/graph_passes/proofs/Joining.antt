@@ -206,10 +206,6 @@ longer entries g graph n kept numbers b v many_kept many_numbers start =
 
 -- ---- one more
 
-empty_by : (k : Bool) → (k ≡ true → ⊥) → k ≡ false
-empty_by true f = absurd (f refl)
-empty_by false f = refl
-
 -- the first operation has number 0
 starts : (g : Lists) (n : ℕ) (kept : List Bool) (numbers : List ℕ) (firsts after : List (Work × ℕ)) (count v : ℕ) (b : Bool) (op : Op) →
     SoFar g n kept numbers firsts count → Placed firsts after numbers op count v b → n ≡ 0 → v ≡ 0

@@ -93,9 +93,6 @@ grows_by_one marks queue n lt free q = record {
   lists = queues_more marks queue n lt free q;
 }
 
-pub one_is_marked : (marks : List Bool) (n : ℕ) → n < length marks → marked (set marks n true) n ≡ true
-one_is_marked marks n lt = set_marks marks n lt
-
 pub grows_by_none : (P : ℕ → Type 0) (marks : List Bool) (queue : List ℕ) → Queues marks queue → Grows P marks queue marks queue
 grows_by_none P marks queue q = record {
   many = refl;
@@ -117,16 +114,6 @@ grows_on P Q R a b c d e f first second by_first by_second = record {
       (second.sound k h);
   order = λ p k there. second.order p k (first.order p k there);
   lists = second.lists;
-}
-
-pub grows_within : (P R : ℕ → Type 0) (a : List Bool) (b : List ℕ) (c : List Bool) (d : List ℕ) → Grows P a b c d →
-    ((k : ℕ) → P k → (marked a k ≡ true) ⊎ R k) → Grows R a b c d
-grows_within P R a b c d first by_first = record {
-  many = first.many;
-  kept = first.kept;
-  sound = λ k h. ⊎_elim (λ (was : marked a k ≡ true). inl was) (λ (p : P k). by_first k p) (first.sound k h);
-  order = first.order;
-  lists = first.lists;
 }
 
 -- ---- at first

@@ -36,12 +36,6 @@ not_looked t [] h p k v there = absurd cc
 not_looked {K = K} {V = V} t (e ∷ es) h zero k v there = let same : e ≡ (k, v) = cc in ap (λ (x : K × V). t x.0) (sym same) ∙ (not_by t e es (t e.0) refl h).0
 not_looked t (e ∷ es) h (suc p) k v there = not_looked t es (not_by t e es (t e.0) refl h).1 p k v there
 
--- where no key passes, nothing is looked up
-pub none_passes : {K V : Type 0} (t : K → Bool) (es : List (K × V)) → ((p : ℕ) (k : K) (v : V) → slice_get es p ≡ Some (k, v) → t k ≡ false)
-    → lookup t es ≡ None
-none_passes t [] h = refl
-none_passes t (e ∷ es) h = ap (λ b. cond b (Some e.1) (lookup t es)) (h 0 e.0 e.1 refl) ∙ none_passes t es (λ p k v there. h (suc p) k v there)
-
 inserted_by : {K V : Type 0} (b : Bool) (e : K × V) (v : V) (es r s : List (K × V)) → b ≡ false → r ≡ s → (if b then (e.0, v) ∷ es else e ∷ r) ≡ e ∷ s
 inserted_by true e v es r s h k = absurd cc
 inserted_by false e v es r s h k = ap (λ xs. e ∷ xs) k

@@ -1,5 +1,5 @@
 -- HeadLaws: the tokens of the head, its reserved names, and its refusals.
-use Rattle.std.proofs.Common.{◌≡◌, ℕ, zero, suc, ◌+◌, ◌<◌, ◌≤◌, Bool, true, false, cond, min, List, [], ◌∷◌, ◌++◌, length, take, drop, slice_get}
+use Rattle.std.proofs.Common.{◌≡◌, ℕ, zero, suc, ◌+◌, ◌≤◌, Bool, true, false, cond, List, [], ◌∷◌, ◌++◌, length, take, drop, slice_get}
 use Rattle.std.proofs.Common.{All, Option, Some, None, refl, sym, ap, ◌∙◌, arith, codes, length-append}
 use Rattle.std.proofs.lemmas.List.Elements.{All-nil, All-cons, All-append, All-tail}
 use Rattle.vcp_base.specs.Limits.{most_depth, most_source_bytes}
@@ -9,7 +9,6 @@ use Rattle.st_lexer.specs.declared.token.Key.TheVariants as key
 use Rattle.st_lexer.specs.declared.token.Tok.TheVariants as tok
 use Rattle.st_lexer.specs.declared.token.Token.{Token}
 use Rattle.st_lexer.specs.Reading.{IsInside, Reads, Faults}
-use Rattle.st_lexer.specs.Spots.{spot_at}
 use Rattle.st_lexer.specs.declared.fault.LexFault.{LexFault}
 use Rattle.st_lexer.specs.declared.fault.LexFault.TheVariants as lexer
 use Rattle.st_parser.specs.declared.fault.SyntaxFault.{SyntaxFault}
@@ -23,7 +22,7 @@ use Rattle.st_types.specs.declared.fault.TypeFault.TheVariants as typing
 use Rattle.st_types.specs.Typing.{IsTyped, Refuses as RefusesTree}
 use Rattle.vcp_typed.specs.SourceRun.{Program}
 use Rattle.il_front.specs.declared.fault.IlFault.TheVariants as fault
-use Rattle.il_front.specs.Lines.{is_end_var, one_before, through_end_var, or_two, head_count, end_of, head_of, right_of, ended, added_end, head_tokens}
+use Rattle.il_front.specs.Lines.{is_end_var, one_before, through_end_var, head_count, end_of, head_of, ended, added_end, head_tokens}
 use Rattle.il_front.specs.Lines.{head_end}
 use Rattle.il_front.specs.Heads.{IsHeadOf, decls_names, blocks_names}
 use Rattle.il_front.specs.TypedForm.{is_reserved, first_reserved}
@@ -53,21 +52,6 @@ pub through-none : (ts : List Token) (i : ℕ) (t : Token) → slice_get ts i �
 through-none ts i t e is none =
     ap through_end_var (drop-at ts i t e) ∙ ap (one_before t.tok) none ∙ ap (λ (b : Bool). cond b 1 0) is
 
-pub drop-all : (ts : List Token) → through_end_var (drop (length ts) ts) ≡ 0
-drop-all [] = refl
-drop-all (x ∷ xs) = drop-all xs
-
-or-some : (n : ℕ) (ts : List Token) → 0 < n → n ≡ or_two n ts
-or-some zero ts h = absurd (let no : 1 ≤ 0 = h in omega arith)
-or-some (suc n) ts h = refl
-
-pub count-some : (ts : List Token) (n : ℕ) → n ≡ through_end_var ts → 0 < n → n ≡ head_count ts
-count-some ts n e h = or-some n ts h ∙ ap (λ (k : ℕ). or_two k ts) e
-
-pub count-none : (ts : List Token) (n m : ℕ) → n ≡ through_end_var ts → n ≤ 0 → m ≡ min 2 (length ts) → m ≡ head_count ts
-count-none ts n m e h is =
-    let z : n ≡ 0 = omega (arith, h) in is ∙ ap (λ (k : ℕ). or_two k ts) (sym z ∙ e)
-
 -- ---- its tokens
 
 pub end-last : (ts : List Token) (i : ℕ) (t : Token) → slice_get ts i ≡ Some t → end_of (take (suc i) ts) ≡ t.to
@@ -80,22 +64,6 @@ pub take-more : (ts : List Token) (i : ℕ) (t : Token) → slice_get ts i ≡ S
 take-more [] i t e = absurd cc
 take-more (x ∷ xs) zero t e = let same : x ≡ t = cc in ap (λ (y : Token). y ∷ []) same
 take-more (x ∷ xs) (suc i) t e = ap (λ (ys : List Token). x ∷ ys) (take-more xs i t e)
-
--- the tokens as the code makes them
-pub made-tokens : (text : List ℕ) (ts words : List Token) (n : ℕ) (spot : Spot) (t : Token) → n ≡ head_count ts
-    → spot ≡ spot_at text (end_of (take n ts))
-    → t ≡ record { tok = tok.Key key.EndProgram; from = length text + 1; to = length text + 12; spot = right_of spot 1 }
-    → words ≡ take n ts ++ t ∷ [] → words ≡ head_tokens text ts
-made-tokens text ts words n spot t is at e w =
-    w ∙ ap (λ (x : Token). take n ts ++ x ∷ [])
-    (e ∙ ap (λ (s : Spot). let u : Token = record { tok = tok.Key key.EndProgram; from = length text + 1; to = length text + 12; spot = right_of s 1 } in
-    u) at)
-    ∙ ap (λ (k : ℕ). take k ts ++ added_end text (take k ts) ∷ []) is
-
-pub made-end : (text : List ℕ) (ts : List Token) (n : ℕ) (spot end : Spot) → n ≡ head_count ts → spot ≡ spot_at text (end_of (take n ts))
-    → end ≡ right_of spot 12 → end ≡ head_end text ts
-made-end text ts n spot end is at e =
-    e ∙ ap (λ (s : Spot). right_of s 12) at ∙ ap (λ (k : ℕ). right_of (spot_at text (end_of (take k ts))) 12) is
 
 inside-longer : (text more : List ℕ) (t : Token) → IsInside text t → IsInside (text ++ more) t
 inside-longer text more t h = (h.0, omega (arith, h.1, length-append text more))

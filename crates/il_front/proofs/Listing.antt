@@ -18,10 +18,6 @@ abbrev pub with_front : List Instruction → Result (List Instruction) IlFault �
 with_front done (Ok is) = Ok (done ++ is)
 with_front done (Err f) = Err f
 
-pub front-none : (r : Result (List Instruction) IlFault) → with_front [] r ≡ r
-front-none (Ok is) = refl
-front-none (Err f) = refl
-
 front-more : (done : List Instruction) (i : Instruction) (r : Result (List Instruction) IlFault)
     → with_front done (and_more i r) ≡ with_front (done ++ i ∷ []) r
 front-more done i (Ok is) = let e : done ++ i ∷ is ≡ done ++ i ∷ [] ++ is = sym (append_assoc done (i ∷ []) is) in

@@ -1,26 +1,18 @@
 -- PlaceLaws: hidden variables, and the statements that use them, one after the other.
-use Rattle.std.proofs.Common.{◌≡◌, ℕ, ◌+◌, ◌≤◌, Bool, true, false, cond, ◌||◌, List, [], ◌∷◌, ◌++◌, length, drop, slice_get, zero, suc, Some}
+use Rattle.std.proofs.Common.{◌≡◌, ℕ, ◌+◌, ◌≤◌, Bool, true, false, cond, List, [], ◌∷◌, ◌++◌, length, drop, slice_get, zero, suc, Some}
 use Rattle.std.proofs.Common.{refl, sym, ap, ◌∙◌, arith, append_assoc, append-nil}
 use Rattle.std.proofs.Math.Path.{fun_ext}
 use Rattle.vcp_base.specs.declared.ty.Ty.{Ty}
 use Rattle.vcp_base.specs.declared.ty.Ty.TheVariants as ty
-use Rattle.vcp_base.specs.Types.{same_type}
 use Rattle.vcp_typed.specs.declared.slot.Slot.{Slot}
 use Rattle.vcp_typed.specs.TStmtTree.{TStmtTree, TStmtTrees, no_tstmts, and_tstmt}
 use Rattle.vcp_typed.specs.TStmtViews.{tstmts_and}
 use Rattle.il_front.specs.declared.places.Places.{Places}
 use Rattle.il_front.specs.Accumulator.{Instruction}
-use Rattle.il_front.specs.TypedForm.{hidden_slot, hidden_slots, all_types, next_type, uses, used_by, action_stmt, statements}
+use Rattle.il_front.specs.TypedForm.{next_type, used_by, action_stmt, statements}
 use Rattle.il_front.specs.Places.{used_in}
 
 -- ---- the types that are used
-
-pub uses-next : (i : Instruction) (is : List Instruction) (t u : Ty) → same_type (next_type t i.action) u ≡ false
-    → uses (i ∷ is) t u ≡ uses is (next_type t i.action) u
-uses-next i is t u e = ap (λ (b : Bool). b || uses is (next_type t i.action) u) e
-
-pub uses-here : (i : Instruction) (is : List Instruction) (t u : Ty) → same_type (next_type t i.action) u ≡ true → uses (i ∷ is) t u ≡ true
-uses-here i is t u e = ap (λ (b : Bool). b || uses is (next_type t i.action) u) e
 
 used-at : (p : Places) (code : List Instruction) → p.bools ≡ used_by code ty.Bool → p.ints ≡ used_by code ty.Int → p.dints ≡ used_by code ty.Dint
     → p.lints ≡ used_by code ty.Lint → (t : Ty) → used_in p t ≡ used_by code t
@@ -38,17 +30,6 @@ used-same p code a b c d = fun_ext (used-at p code a b c d)
 one-more : (b : Bool) (o rest : List Slot) (x : Slot) → o ++ cond b (x ∷ []) [] ++ rest ≡ o ++ cond b (x ∷ rest) rest
 one-more true o rest x = append_assoc o (x ∷ []) rest
 one-more false o rest x = ap (λ (l : List Slot). l ++ rest) (append-nil o)
-
-pub all-hidden : (used : Ty → Bool) (o a b c d : List Slot) → a ≡ o ++ cond (used ty.Bool) (hidden_slot ty.Bool ∷ []) []
-    → b ≡ a ++ cond (used ty.Int) (hidden_slot ty.Int ∷ []) [] → c ≡ b ++ cond (used ty.Dint) (hidden_slot ty.Dint ∷ []) []
-    → d ≡ c ++ cond (used ty.Lint) (hidden_slot ty.Lint ∷ []) [] → d ≡ o ++ hidden_slots used all_types
-all-hidden used o a b c d e f g h =
-    let lint : List Slot = cond (used ty.Lint) (hidden_slot ty.Lint ∷ []) [] in
-    let dint : List Slot = cond (used ty.Dint) (hidden_slot ty.Dint ∷ lint) lint in
-    let int : List Slot = cond (used ty.Int) (hidden_slot ty.Int ∷ dint) dint in
-    h ∙ ap (λ (l : List Slot). l ++ lint) g ∙ one-more (used ty.Dint) b lint (hidden_slot ty.Dint)
-    ∙ ap (λ (l : List Slot). l ++ dint) f ∙ one-more (used ty.Int) a dint (hidden_slot ty.Int)
-    ∙ ap (λ (l : List Slot). l ++ int) e ∙ one-more (used ty.Bool) o int (hidden_slot ty.Bool)
 
 -- ---- statements
 

@@ -25,7 +25,7 @@ use Rattle.vcp_base.specs.declared.code.Profile.TheVariants as profile
 use Rattle.vcp_base.specs.Code.{admits}
 use Rattle.vcp_base.specs.Limits.{most_names, most_cells, most_turn_nodes, most_operations}
 use Rattle.vcp_base.specs.Names.{NameFits}
-use Rattle.op_graph.specs.Rules.{Admitted, IsGraph, PlaceFits, Scope, scope, place_of, Each, IsPart, InputFits, OutputFits, LoadFits, StoreFits}
+use Rattle.op_graph.specs.Rules.{Admitted, PlaceFits, Scope, scope, place_of, Each, IsPart, InputFits, OutputFits, LoadFits, StoreFits}
 use Rattle.op_graph.specs.declared.rules.Place.{Place}
 use Rattle.op_graph.specs.Rules.{TurnNodeFits, OpFits, Operates, turn_fits, LoadedBefore, operand_fits, numbered, same_type, entry, cell_entry}
 use Rattle.op_graph.specs.declared.rules.Entry.{Entry}
@@ -476,29 +476,3 @@ wide_admits ty.Bool = refl
 wide_admits ty.Int = refl
 wide_admits ty.Dint = refl
 wide_admits ty.Lint = refl
-
-pub widened_fits : (g : Lists) → IsGraph g → IsGraph (record g { profile = profile.Wide })
-widened_fits g h =
-    let p = h.part in
-    record {
-      all_stored = h.all_stored;
-      part = record {
-        widths = record { places = p.widths.places; values = p.widths.values };
-        types = record { operations = λ i d below. (wide_admits _, wide_admits _); loads = λ i d below. wide_admits _ };
-        few_names = p.few_names;
-        few_inputs = p.few_inputs;
-        few_outputs = p.few_outputs;
-        few_cells = p.few_cells;
-        few_turn_nodes = p.few_turn_nodes;
-        few_operations = p.few_operations;
-        enough_operations = p.enough_operations;
-        stored = p.stored;
-        names = p.names;
-        inputs = p.inputs;
-        outputs = p.outputs;
-        loads = p.loads;
-        stores = p.stores;
-        turn_nodes = p.turn_nodes;
-        operations = p.operations;
-      };
-    }

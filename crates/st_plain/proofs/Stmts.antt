@@ -33,7 +33,7 @@ use Rattle.vcp_typed.specs.declared.expr.Fun.TheVariants as fun
 use Rattle.st_plain.specs.declared.stop.Stop.{Stop as Cause}
 use Rattle.st_plain.specs.Evaluator.{within_turns}
 use Rattle.st_plain.specs.Outcomes.{Doing}
-use Rattle.st_plain.specs.Sound.{SoundExpr, SoundStmt, SoundStmts, SoundArms, SoundBranches, SoundOther, SoundTurns}
+use Rattle.st_plain.specs.Sound.{SoundStmt, SoundStmts, SoundArms, SoundBranches, SoundOther, SoundTurns}
 use Rattle.st_plain.proofs.Weight.{stmt_weight, stmts_weight, arms_weight, branches_weight}
 use Rattle.st_plain.proofs.Exprs.{fit-inside}
 use Rattle.st_plain.proofs.Wide.{not-zero}
@@ -128,11 +128,6 @@ value-err turns e m s h = inside-value turns e m ∙ ap (λ r. inside turns r) (
 
 -- ---- assignments
 
-pub assign-sound : (s : TStmtTree) (slot : ℕ) (e : TExprTree) (sp : Spot) (m : List ℤ) → s ≡ assign slot e sp → SoundStmt s m → SoundExpr e m
-assign-sound s slot e sp m is h =
-    let typed : IsStmt h.slots h.held (assign slot e sp) = subst (λ x. IsStmt h.slots h.held x) is h.typed in
-    record { slots = h.slots; typed = typed.1; fit = h.fit }
-
 pub assign-inside : (s : TStmtTree) (slot : ℕ) (e : TExprTree) (sp : Spot) (m : List ℤ) → s ≡ assign slot e sp → SoundStmt s m → slot < length m
 assign-inside s slot e sp m is h =
     let typed : IsStmt h.slots h.held (assign slot e sp) = subst (λ x. IsStmt h.slots h.held x) is h.typed in
@@ -163,11 +158,6 @@ if-other s arms o m next is h e =
 pub if-is : (turns : List Turn) (s : TStmtTree) (arms : TArmTrees) (o : TOtherTree) (m : List ℤ) (r : Result (List ℤ) Stop) → s ≡ if_ arms o
     → r ≡ do_arms turns arms (do_other turns o) m → r ≡ do_stmt turns s m
 if-is turns s arms o m r is h = h ∙ sym (ap (λ x. do_stmt turns x m) is)
-
-pub case-on : (s : TStmtTree) (e : TExprTree) (b : TBranchTrees) (o : TOtherTree) (sp : Spot) (m : List ℤ) → s ≡ case e b o sp → SoundStmt s m → SoundExpr e m
-case-on s e b o sp m is h =
-    let typed : IsStmt h.slots h.held (case e b o sp) = subst (λ x. IsStmt h.slots h.held x) is h.typed in
-    record { slots = h.slots; typed = typed.0; fit = h.fit }
 
 pub case-branches : (s : TStmtTree) (e : TExprTree) (b : TBranchTrees) (o : TOtherTree) (sp : Spot) (m : List ℤ) → s ≡ case e b o sp → SoundStmt s m
     → SoundBranches b m
@@ -251,11 +241,6 @@ stmts-rest law turns all s ss m next is h e =
 pub stmts-next : (turns : List Turn) (all : TStmtTrees) (s : TStmtTree) (ss : TStmtTrees) (m next : List ℤ) (w : Result (List ℤ) Stop) → all ≡ and_tstmt s ss
     → do_stmts turns all m ≡ w → Ok next ≡ do_stmt turns s m → do_stmts turns ss next ≡ w
 stmts-next turns all s ss m next w is h e = ap (λ r. and_then r (λ x. do_stmts turns ss x)) e ∙ sym (ap (λ x. do_stmts turns x m) is) ∙ h
-
-pub stmts-err : (turns : List Turn) (all : TStmtTrees) (s : TStmtTree) (ss : TStmtTrees) (m : List ℤ) (d : Stop) (w : Result (List ℤ) Stop)
-    → all ≡ and_tstmt s ss
-    → do_stmts turns all m ≡ w → Err d ≡ do_stmt turns s m → Err d ≡ w
-stmts-err turns all s ss m d w is h e = ap (λ r. and_then r (λ x. do_stmts turns ss x)) e ∙ sym (ap (λ x. do_stmts turns x m) is) ∙ h
 
 -- ---- the arms of an IF
 
@@ -348,27 +333,12 @@ branches-first all ls b rest m is h =
     let typed : AreBranches h.slots h.held h.of (and_tbranch ls b rest) = subst (λ x. AreBranches h.slots h.held h.of x) is h.typed in
     record { slots = h.slots; held = h.held; of = h.of; typed = (typed.0, typed.1, tt); fit = h.fit }
 
-pub branches-rest : (all : TBranchTrees) (ls : List TLabel) (b : TStmtTrees) (rest : TBranchTrees) (m next : List ℤ) → all ≡ and_tbranch ls b rest
-    → SoundBranches all m → next ≡ m
-    → SoundBranches rest next
-branches-rest all ls b rest m next is h same =
-    let typed : AreBranches h.slots h.held h.of (and_tbranch ls b rest) = subst (λ x. AreBranches h.slots h.held h.of x) is h.typed in
-    record { slots = h.slots; held = h.held; of = h.of; typed = typed.2; fit = subst (λ x. AreFit h.slots x) (sym same) h.fit }
-
 pub branches-step : (t u : List Turn) (v : ℤ) (all : TBranchTrees) (ls : List TLabel) (b : TStmtTrees) (rest : TBranchTrees) (m n : List ℤ) (o : Doing)
     (r w : Result (List ℤ) Stop)
     → all ≡ and_tbranch ls b rest → t ≡ u → m ≡ n → r ≡ do_branches t v (and_tbranch ls b no_tbranches) (do_branches u v rest o) m → do_branches u v all o n ≡ w
     → r ≡ w
 branches-step t u v all ls b rest m n o r w is et em h whole =
     h ∙ (λ i. do_branches (et i) v (and_tbranch ls b no_tbranches) (do_branches u v rest o) (em i)) ∙ sym (ap (λ x. do_branches u v x o n) is) ∙ whole
-
-pub branches-over : (t u : List Turn) (v : ℤ) (all : TBranchTrees) (ls : List TLabel) (b : TStmtTrees) (rest : TBranchTrees) (m n next : List ℤ) (o : Doing)
-    (w : Result (List ℤ) Stop)
-    → all ≡ and_tbranch ls b rest → t ≡ u → m ≡ n → next ≡ m
-    → do_branches u v rest o next ≡ do_branches t v (and_tbranch ls b no_tbranches) (do_branches u v rest o) m
-    → do_branches u v all o n ≡ w → do_branches u v rest o n ≡ w
-branches-over t u v all ls b rest m n next o w is et em same h whole =
-    sym (ap (λ x. do_branches u v rest o x) (same ∙ em)) ∙ branches-step t u v all ls b rest m n o _ w is et em h whole
 
 -- ---- the turns of a FOR
 

@@ -258,9 +258,6 @@ mutual
 pub type-is : (s : List Entry) (e : ExprTree) → type_of s e ≡ option_map ty_of (expr_of s e)
 type-is s e = sym (typed-is s e)
 
-pub types-are : (s : List Entry) (es : ExprTrees) → types_of s es ≡ option_map (map ty_of) (exprs_of s es)
-types-are s es = sym (typed-all s es)
-
 -- ---- where there is no type, there is a fault
 
 call-none : (o : Option Fun) (ts : Option (List Ty)) (spot : Spot) (F : Fault → Type 0) → (ts ≡ None → (f : Fault) × F f)
@@ -352,11 +349,5 @@ mutual
 pub no-expr : (s : List Entry) (e : ExprTree) → expr_of s e ≡ None → (f : Fault) × ExprFault s e f
 no-expr s e h = no-type s e (type-is s e ∙ ap (option_map ty_of) h)
 
-pub no-exprs : (s : List Entry) (es : ExprTrees) → exprs_of s es ≡ None → (f : Fault) × ExprsFault s es f
-no-exprs s es h = no-types s es (types-are s es ∙ ap (option_map (map ty_of)) h)
-
 pub fault-no-expr : (s : List Entry) (e : ExprTree) (f : Fault) → ExprFault s e f → expr_of s e ≡ None
 fault-no-expr s e f h = map-none ty_of (expr_of s e) (typed-is s e ∙ fault-no-type s e f h)
-
-pub fault-no-exprs : (s : List Entry) (es : ExprTrees) (f : Fault) → ExprsFault s es f → exprs_of s es ≡ None
-fault-no-exprs s es f h = map-none (map ty_of) (exprs_of s es) (typed-all s es ∙ fault-no-types s es f h)

@@ -1,5 +1,5 @@
 -- ExprNodes: one lemma for each node of an expression: the faults of its parts, then its own.
-use Rattle.std.proofs.Common.{◌≡◌, ℕ, ◌⊎◌, Option, Some, None, List, [], ◌∷◌, ◌++◌, map, option_map, option_and_then, refl, sym, ap, ap₂, ◌∙◌, subst, neg_ℤ}
+use Rattle.std.proofs.Common.{◌≡◌, ℕ, ◌⊎◌, Option, Some, None, List, [], ◌∷◌, ◌++◌, map, option_map, option_and_then, refl, sym, ap, ap₂, ◌∙◌, subst}
 use Rattle.vcp_base.specs.declared.spot.Spot.{Spot}
 use Rattle.st_tree.specs.declared.expr.UnOp.{UnOp}
 use Rattle.st_tree.specs.declared.expr.BinOp.{BinOp}
@@ -12,7 +12,7 @@ use Rattle.st_types.specs.declared.fault.Rule.TheVariants as rule
 use Rattle.st_types.specs.Faults.{fault}
 use Rattle.st_types.specs.Notes.{Notes}
 use Rattle.st_types.specs.Scope.{Entry}
-use Rattle.st_types.specs.ExprTyping.{both, sized, Untyped, negated, count, called, type_of, types_of, Clash, Clashes, Misfits, SignFault, CallFault, ExprFault}
+use Rattle.st_types.specs.ExprTyping.{both, negated, count, called, type_of, types_of, Clash, Clashes, Misfits, SignFault, CallFault, ExprFault}
 use Rattle.st_types.specs.ExprTyping.{ExprsFault, sign_of, operation_of, call_of, expr_of, exprs_of}
 use Rattle.st_types.specs.ExprSteps.{Types, TypesAll, Signs, Operates, Applies}
 use Rattle.st_types.proofs.NoteLaws.{quiet, pair}
@@ -43,14 +43,6 @@ unary-types s op p l a b c x z plain t v =
       notes = subst (λ o. Notes a c (SignFault op o (type_of s l) p (ExprFault s l))) (sym plain) (pair a b c _ _ t.notes own);
       gives = v.gives ∙ ap (sign_of op None p) t.gives ∙ sym (ap (λ o. sign_of op o p (expr_of s l)) plain);
     }
-
-pub minus-types : (s : List Entry) (op : UnOp) (p : Spot) (l : ExprTree) (u : Untyped) (a b : Option Fault) (z : Option typed.TExprTree) → negated op l ≡ Some u
-    → Notes a b (λ f. (f ≡ fault rule.Literal u.spot) × (sized (neg_ℤ u.value) ≡ None))
-    → z ≡ option_map (λ t. typed.literal t (neg_ℤ u.value) u.spot) (sized (neg_ℤ u.value)) → Types s (unary op l p) a b z
-minus-types s op p l u a b z is n e = record {
-  notes = subst (λ o. Notes a b (SignFault op o (type_of s l) p (ExprFault s l))) (sym is) n;
-  gives = e ∙ sym (ap (λ o. sign_of op o p (expr_of s l)) is);
-}
 
 pub call-types : (s : List Entry) (n : List ℕ) (es : ExprTrees) (p : Spot) (g : Fun) (a b c : Option Fault) (xs : Option (List typed.TExprTree))
     (z : Option typed.TExprTree) → called n (count es) ≡ Some g → TypesAll s es a b xs → Applies g p xs b c z → Types s (call n es p) a c z

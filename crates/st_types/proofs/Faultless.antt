@@ -7,18 +7,17 @@ use Rattle.vcp_typed.specs.TStmtTree.{TStmtTrees}
 use Rattle.vcp_typed.specs.SourceRun.{Program}
 use Rattle.vcp_typed.specs.Size.{size}
 use Rattle.vcp_typed.specs.Checked.{SlotsFit, AreStmts, IsChecked}
-use Rattle.st_types.specs.declared.fault.Fault.{Fault}
 use Rattle.st_types.specs.declared.fault.Rule.TheVariants as rule
 use Rattle.st_types.specs.declared.fault.TypeFault.{TypeFault}
 use Rattle.st_types.specs.declared.fault.TypeFault.TheVariants as told
 use Rattle.st_types.specs.Faults.{fault}
-use Rattle.st_types.specs.StmtTyping.{StmtsFault, stmts_of}
-use Rattle.st_types.specs.DeclTyping.{nothing_made, BlocksFault}
+use Rattle.st_types.specs.StmtTyping.{stmts_of}
+use Rattle.st_types.specs.DeclTyping.{nothing_made}
 use Rattle.st_tree.specs.Declarable.{names_of, HasNames}
 use Rattle.vcp_base.specs.Limits.{most_names}
 use Rattle.st_types.specs.Typing.{made, typed_of, IsFaultless, IsTyped, IsTooLarge, Refuses}
-use Rattle.st_types.proofs.ExprLaws.{some-none, same-value}
-use Rattle.st_types.proofs.StmtLaws.{no-stmts, fault-no-stmts}
+use Rattle.st_types.proofs.ExprLaws.{same-value}
+use Rattle.st_types.proofs.StmtLaws.{no-stmts}
 use Rattle.st_types.proofs.MadeChecked.{stmts-checked}
 use Rattle.st_types.proofs.DeclLaws.{IsSound, nothing-sound, blocks-sound, blocks-length}
 
@@ -85,21 +84,6 @@ typed-checked p t w h =
   where
     few-enough : (n m : ℕ) → n ≤ m → m ≤ most_names → n ≤ most_names
     few-enough n m h k = omega arith
-
-body-there : (p : ProgramTree) (o : Option TStmtTrees) (t : Program) → option_map (λ body. record { slots = (made p).slots; body = body }) o ≡ Some t → o ≡ None
-    → ⊥
-body-there p None t e f = cc
-body-there p (Some b) t e f = some-none b f
-
--- a program with a checked program has no fault in its body
-pub typed-no-body-fault : (p : ProgramTree) (t : Program) → typed_of p ≡ Some t → (f : Fault) → StmtsFault (made p).entries [] p.body f → ⊥
-typed-no-body-fault p t is f h = body-there p (stmts_of (made p).entries [] p.body) t is (fault-no-stmts (made p).entries [] p.body f h)
-
--- a program whose declarations have no fault, and that has a checked program, has none
-pub typed-faultless : (p : ProgramTree) (t : Program) → ((f : Fault) → BlocksFault (made p).entries nothing_made p.blocks f → ⊥) → typed_of p ≡ Some t
-    → IsFaultless p
-typed-faultless p t never is f (inl h) = never f h
-typed-faultless p t never is f (inr h) = typed-no-body-fault p t is f h
 
 -- ---- a program that has a checked program within the limits isn't refused
 

@@ -331,10 +331,6 @@ mutual
 pub if-some : {A : Type 0} (P : A → Type 0) (o : Option A) (x : A) → IfSome o P → o ≡ Some x → P x
 if-some P o x h e = subst (λ y. IfSome y P) e h
 
--- the checked expression over a scope over slots keeps the rules of expressions
-pub expr-checked : (slots : List Slot) (s : List Entry) (e : ExprTree) (t : typed.TExprTree) → IsScope slots s → expr_of s e ≡ Some t → IsExpr slots t
-expr-checked slots s e t h is = if-some (IsExpr slots) (expr_of s e) t (expr-made slots s e h) is
-
 -- ---- constants
 
 abbrev pub KnownFits : Option Known → Type 0

@@ -1,5 +1,5 @@
 -- WholeLaws: the typing of a program from that of its declarations and its body.
-use Rattle.std.proofs.Common.{◌≡◌, ◌⊎◌, ℕ, ◌<◌, ◌≤◌, [], length, Option, Some, None, option_map, sym, ap, ◌∙◌, subst, arith}
+use Rattle.std.proofs.Common.{◌≡◌, ◌⊎◌, ℕ, ◌≤◌, [], length, Option, Some, None, option_map, sym, ap, ◌∙◌, subst, arith}
 use Rattle.st_tree.specs.ProgramTree.{ProgramTree}
 use Rattle.vcp_typed.specs.Size.{cut, size}
 use Rattle.vcp_typed.specs.SourceRun.{Program}
@@ -36,14 +36,8 @@ program-gives p n o e g =
 pub never-none : (p : ProgramTree) → IsFaultless p → typed_of p ≡ None → ⊥
 never-none p never e = let k = faultless-typed p never in some-none k.0 (sym k.1 ∙ e)
 
-cut-large : (n : ℕ) → most_size < cut n → most_size < n
-cut-large n h = omega arith
-
 cut-small : (n : ℕ) → cut n ≤ most_size → n ≤ most_size
 cut-small n h = omega arith
-
-pub large-size : (t : Program) (n : ℕ) → n ≡ cut (size t) → most_size < n → most_size < size t
-large-size t n e h = cut-large (size t) (subst (λ k. most_size < k) e h)
 
 pub small-size : (t : Program) (n : ℕ) → n ≡ cut (size t) → n ≤ most_size → size t ≤ most_size
 small-size t n e h = cut-small (size t) (subst (λ k. k ≤ most_size) e h)

@@ -1,5 +1,5 @@
 -- Lists of expressions.
-use Rattle.std.proofs.Common.{◌≡◌, ℕ, suc, ◌≤◌, Bool, true, false, length, take, List, [], ◌∷◌, ◌++◌, refl, sym, ap, ◌∙◌}
+use Rattle.std.proofs.Common.{◌≡◌, ℕ, suc, ◌≤◌, length, take, List, [], ◌∷◌, ◌++◌, refl, sym, ap, ◌∙◌}
 use Rattle.st_lexer.specs.declared.token.Sym.TheVariants as symbols
 use Rattle.vcp_base.specs.declared.spot.Spot.{Spot}
 use Rattle.st_tree.specs.declared.expr.Expr.{Expr}
@@ -8,8 +8,8 @@ use Rattle.st_tree.specs.ExprViews.{expr_tree, expr_trees}
 use Rattle.st_spelling.specs.Operators.{any_level}
 use Rattle.st_writer.specs.Lexemes as lexeme
 use Rattle.st_writer.specs.Lexemes.{Lexeme}
-use Rattle.st_writer.specs.CanonicalExpr.{expr, args, more_args, bracketed}
-use Rattle.st_writer.specs.Extended.{extended, separator, where_needed}
+use Rattle.st_writer.specs.CanonicalExpr.{expr, args, more_args}
+use Rattle.st_writer.specs.Extended.{extended, separator}
 use Rattle.st_writer.proofs.Extends.{extended-append}
 use Rattle.st_writer.proofs.Lists.{all, ends}
 
@@ -35,12 +35,6 @@ written-arg i e old now new m n = n ∙ ap (λ (t : List ℕ). extended t (expr 
 pub written-args : (es : List Expr) (i : ℕ) (old now : List ℕ) → length es ≤ i → now ≡ extended old (all arg (take i es))
     → now ≡ extended old (args (expr_trees es))
 written-args es i old now h e = ends arg es i old now h e ∙ ap (λ (t : List Lexeme). extended old t) (args-are es)
-
--- brackets where they are needed
-pub written-brackets : (needed : Bool) (old : List ℕ) (xs : List Lexeme)
-    → extended (extended (extended old (where_needed needed symbols.LParen)) xs) (where_needed needed symbols.RParen) ≡ extended old (bracketed needed xs)
-written-brackets true old xs = sym (extended-append _ xs _)
-written-brackets false old xs = refl
 
 -- what an expression that is a call writes, as its parts say
 pub written-call : (l : ℕ) (e : Expr) (name : List ℕ) (es fs : List Expr) (s : Spot) (old new : List ℕ) → expr_tree e ≡ call name (expr_trees fs) s → es ≡ fs
