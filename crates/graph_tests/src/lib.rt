@@ -1,9 +1,7 @@
-//! Tests of graphs: what builders take and refuse, what a source is flattened to, what each pass makes of a graph, and the fields and
-//! rules of images.
+//! Tests of graphs: what builders take and refuse, what a source is flattened to, what each pass makes of a graph, and the rules of
+//! images.
 #![tactic(auto)]
 
-#[cfg(test)]
-mod fields;
 #[cfg(test)]
 mod flattened;
 #[cfg(test)]

@@ -22,8 +22,8 @@ use Rattle.op_graph.specs.declared.op.Cell.{Cell}
 use Rattle.op_graph.specs.declared.op.TurnNode.{TurnNode}
 use Rattle.op_graph.specs.Rules.{place_of, entry_of, kind_fits, from_fits, ty_fits, reads_as, operand_fits, imm_fits, turn_fits}
 use Rattle.op_graph.specs.declared.rules.Place.{Place}
-use Rattle.image_file.specs.declared.fields.fault.Fault.{Fault}
-use Rattle.image_file.specs.declared.fields.fault.Fault.TheVariants.{Version, Field, Operand, Table}
+use Rattle.image_file.specs.declared.fields.fault.FieldFault.{FieldFault}
+use Rattle.image_file.specs.declared.fields.fault.FieldFault.TheVariants.{Version, Field, Operand, Table}
 use Rattle.image_file.specs.Codes.{version_code, version_of, correction_width, type_of, kind_of}
 use Rattle.image_file.specs.Fields.{Anything, Is16, Is32, number16, number32, number, signed, type_field, kind_field, operand, residue, version_field}
 use Rattle.image_file.specs.Entries.{rises, name_fits, name_by, lower, name_piece, input_piece, output_piece, cell_piece, turn_piece}
@@ -168,10 +168,10 @@ signed_codes = record {
 
 -- ---- kinds of fields
 
-law16 : (ok : ℕ → Bool) (d : ℕ → ℕ → Fault) → Lawful Anything (number16 ok d)
+law16 : (ok : ℕ → Bool) (d : ℕ → ℕ → FieldFault) → Lawful Anything (number16 ok d)
 law16 ok d = field_law w16 wide16 (λ n. Some n) (λ n. n) Is16 codes16 ok d
 
-law32 : (ok : ℕ → Bool) (d : ℕ → ℕ → Fault) → Lawful Anything (number32 ok d)
+law32 : (ok : ℕ → Bool) (d : ℕ → ℕ → FieldFault) → Lawful Anything (number32 ok d)
 law32 ok d = field_law w32 wide32 (λ n. Some n) (λ n. n) Is32 codes32 ok d
 
 number_law : (ok : ℕ → Bool) → Lawful Anything (number ok)

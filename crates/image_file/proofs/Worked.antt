@@ -8,9 +8,9 @@ use Rattle.coded_unit.specs.Words.{modulo}
 use Rattle.signature_table.specs.Signatures.{signature}
 use Rattle.std.specs.List.{list_all}
 use Rattle.std.proofs.lemmas.Bool.{ltb-true}
-use Rattle.image_file.specs.declared.fields.fault.Fault.TheVariants as left
+use Rattle.image_file.specs.declared.fields.fault.FieldFault.TheVariants as left
 use Rattle.image_file.specs.declared.fault.ImageFault.TheVariants as at
-use Rattle.image_file.specs.Graphs.{FaultAt}
+use Rattle.image_file.specs.Graphs.{ImageFaultAt}
 use Rattle.image_file.proofs.PieceLaws.{IsBytes, all_fails}
 use Rattle.image_file.proofs.Sections.{image_law}
 use Rattle.image_file.specs.Entries.{name_by, input_piece, output_piece}
@@ -96,11 +96,11 @@ small [] e i = omega arith
 small (b ∷ bytes) e zero = ltb-true _ _ (and (nat_lt b 256) (list_all (λ b. nat_lt b 256) bytes) e).0
 small (b ∷ bytes) e (suc i) = small bytes (and (nat_lt b 256) (list_all (λ b. nat_lt b 256) bytes) e).1 i
 
-its_fault : FaultAt broken (at.Table 177 214748366 214748365)
+its_fault : ImageFaultAt broken (at.Table 177 214748366 214748365)
 unfolding broken image_piece head_piece counts_piece name_by input_piece output_piece op_by corrected signature modulo
 its_fault = (left.Table 43 214748366 214748365, all_fails image_piece image_law broken (left.Table 43 214748366 214748365) (small broken refl) refl, refl)
 
-too_short : FaultAt (86 ∷ 67 ∷ 80 ∷ 65 ∷ 78 ∷ 66 ∷ 68 ∷ 10 ∷ 0 ∷ []) (at.Short 9)
+too_short : ImageFaultAt (86 ∷ 67 ∷ 80 ∷ 65 ∷ 78 ∷ 66 ∷ 68 ∷ 10 ∷ 0 ∷ []) (at.Short 9)
 unfolding image_piece head_piece counts_piece
 too_short = (
   left.Short,

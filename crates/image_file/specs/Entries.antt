@@ -10,8 +10,8 @@ use Rattle.op_graph.specs.declared.op.Var.{Var}
 use Rattle.op_graph.specs.declared.op.Outlet.{Outlet}
 use Rattle.op_graph.specs.declared.op.Cell.{Cell}
 use Rattle.op_graph.specs.declared.op.TurnNode.{TurnNode}
-use Rattle.image_file.specs.declared.fields.fault.Fault.TheVariants.{Field}
-use Rattle.image_file.specs.Pieces.{Piece, text_field, before, whole}
+use Rattle.image_file.specs.declared.fields.fault.FieldFault.TheVariants.{Field}
+use Rattle.image_file.specs.Pieces.{FormatPiece, text_field, before, whole}
 use Rattle.image_file.specs.Fields.{number, signed, type_field}
 
 -- the number is above that of the last entry
@@ -33,30 +33,30 @@ lower name = map to_ascii_lowercase name
 abbrev pub name_fits : List (List ℕ) → List ℕ → Bool
 name_fits keys name = is_name name && not (list_any (bytes_eq (lower name)) keys)
 
-unfoldable pub name_by : List (List ℕ) → Piece (List ℕ)
+unfoldable pub name_by : List (List ℕ) → FormatPiece (List ℕ)
 name_by keys =
     before (number (λ n. nat_le 1 n && nat_le n most_name_bytes)) (λ t. length t) (λ n.
     before (text_field n (name_fits keys) (λ left. Field left)) (λ t. t) (λ t.
     whole t))
 
 -- a name is no earlier one without regard to case
-abbrev pub name_piece : List (List ℕ) → Piece (List ℕ)
+abbrev pub name_piece : List (List ℕ) → FormatPiece (List ℕ)
 name_piece earlier = name_by (map lower earlier)
 
-unfoldable pub input_piece : Profile → ℕ → List Var → Piece Var
+unfoldable pub input_piece : Profile → ℕ → List Var → FormatPiece Var
 input_piece p names earlier =
     before (number (λ n. nat_lt n names && rises (λ w. w.name) earlier n)) (λ v. v.name) (λ name.
     before (type_field p (λ t. true)) (λ v. v.ty) (λ t.
     whole (record { name = name; ty = t })))
 
-unfoldable pub output_piece : Profile → ℕ → ℕ → List Outlet → Piece Outlet
+unfoldable pub output_piece : Profile → ℕ → ℕ → List Outlet → FormatPiece Outlet
 output_piece p names operations earlier =
     before (number (λ n. nat_lt n names && rises (λ w. w.name) earlier n)) (λ v. v.name) (λ name.
     before (type_field p (λ t. true)) (λ v. v.ty) (λ t.
     before (number (λ n. nat_lt n operations && rises (λ w. w.op) earlier n)) (λ v. v.op) (λ op.
     whole (record { name = name; ty = t; op = op }))))
 
-unfoldable pub cell_piece : Profile → ℕ → ℕ → List Cell → Piece Cell
+unfoldable pub cell_piece : Profile → ℕ → ℕ → List Cell → FormatPiece Cell
 cell_piece p names operations earlier =
     before (number (λ n. nat_lt n names)) (λ c. c.name) (λ name.
     before (type_field p (λ t. true)) (λ c. c.ty) (λ t.
@@ -65,7 +65,7 @@ cell_piece p names operations earlier =
     before (number (λ n. nat_lt load n && nat_lt n operations && rises (λ c. c.store) earlier n)) (λ c. c.store) (λ store.
     whole (record { name = name; ty = t; init = init; load = load; store = store }))))))
 
-unfoldable pub turn_piece : ℕ → List TurnNode → Piece TurnNode
+unfoldable pub turn_piece : ℕ → List TurnNode → FormatPiece TurnNode
 turn_piece names earlier =
     before (number (λ n. nat_le n (length earlier))) (λ t. t.parent) (λ parent.
     before (number (λ n. nat_lt n names)) (λ t. t.name) (λ name.

@@ -4,8 +4,8 @@ use Rattle.vcp_base.specs.Limits.{seeds, most_step}
 use Rattle.op_graph.specs.Lists.{Lists}
 use Rattle.op_graph.specs.Rules.{IsGraph}
 use Rattle.signature_table.specs.Signatures.{Numbers, table_of}
-use Rattle.image_file.specs.declared.fields.fault.Fault.{Fault}
-use Rattle.image_file.specs.declared.fields.fault.Fault.TheVariants as left
+use Rattle.image_file.specs.declared.fields.fault.FieldFault.{FieldFault}
+use Rattle.image_file.specs.declared.fields.fault.FieldFault.TheVariants as left
 use Rattle.image_file.specs.declared.fault.ImageFault.{ImageFault}
 use Rattle.image_file.specs.declared.fault.ImageFault.TheVariants as at
 use Rattle.image_file.specs.Pieces.{FaultOf}
@@ -36,7 +36,7 @@ abbrev pub IsImage : List ℕ → Type 0
 IsImage bytes = (g : Lists) × (seed : ℕ) × (step : ℕ) × HasImage g seed step × (bytes ≡ image_of g seed step)
 
 -- a fault with its offset, in so many bytes
-abbrev pub placed : ℕ → Fault → ImageFault
+abbrev pub placed : ℕ → FieldFault → ImageFault
 placed len (left.Magic n) = at.Magic (len - n)
 placed len (left.Version n) = at.Version (len - n)
 placed len left.Short = at.Short len
@@ -46,8 +46,8 @@ placed len (left.Table n stored expected) = at.Table (len - n) stored expected
 placed len (left.Rest n) = at.Rest (len - n)
 
 -- the fault of the bytes, by fields
-abbrev pub FaultAt : List ℕ → ImageFault → Type 0
-FaultAt bytes e = (f : Fault) × FaultOf image_piece bytes f × (e ≡ placed (length bytes) f)
+abbrev pub ImageFaultAt : List ℕ → ImageFault → Type 0
+ImageFaultAt bytes e = (f : FieldFault) × FaultOf image_piece bytes f × (e ≡ placed (length bytes) f)
 
 -- the answer is this one, or memory ran out
 abbrev pub OrMemory : {X : Type 0} → Result X ImageFault → X → Type 0
@@ -58,7 +58,7 @@ OrMemory (Err e) y = e ≡ at.Memory
 abbrev pub Reads : List ℕ → Result (Lists × Numbers) ImageFault → Type 0
 Reads bytes (Ok x) = HasImage x.0 x.1.seed x.1.step × (bytes ≡ image_of x.0 x.1.seed x.1.step) × (x.1 ≡ table_of x.1.seed x.1.step x.0)
 Reads bytes (Err at.Memory) = Unit {0}
-Reads bytes (Err e) = FaultAt bytes e
+Reads bytes (Err e) = ImageFaultAt bytes e
 
 -- an image is of one graph, seed and step
 abbrev pub OneGraph : Type 0
@@ -68,12 +68,12 @@ OneGraph =
 
 -- bytes have one fault at most
 abbrev pub OneFault : Type 0
-OneFault = (bytes : List ℕ) (e f : ImageFault) → FaultAt bytes e → FaultAt bytes f → e ≡ f
+OneFault = (bytes : List ℕ) (e f : ImageFault) → ImageFaultAt bytes e → ImageFaultAt bytes f → e ≡ f
 
 -- an image has no fault
 abbrev pub NoFault : Type 0
-NoFault = (g : Lists) (seed step : ℕ) (e : ImageFault) → HasImage g seed step → FaultAt (image_of g seed step) e → ⊥
+NoFault = (g : Lists) (seed step : ℕ) (e : ImageFault) → HasImage g seed step → ImageFaultAt (image_of g seed step) e → ⊥
 
 -- bytes that are no image have a fault
 abbrev pub ImageOrFault : Type 0
-ImageOrFault = (bytes : List ℕ) → All (λ b. b < 256) bytes → IsImage bytes ⊎ ((e : ImageFault) × FaultAt bytes e)
+ImageOrFault = (bytes : List ℕ) → All (λ b. b < 256) bytes → IsImage bytes ⊎ ((e : ImageFault) × ImageFaultAt bytes e)

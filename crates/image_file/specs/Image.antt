@@ -18,8 +18,8 @@ use Rattle.op_graph.specs.Lists.{Lists, cells}
 use Rattle.op_graph.specs.Rules.{Scope, place_of, entry_of, kind_fits, from_fits, ty_fits, reads_as, operand_fits, imm_fits, turn_fits}
 use Rattle.op_graph.specs.declared.rules.Place.{Place}
 use Rattle.signature_table.specs.Signatures.{correction, store_of as store_of_cell}
-use Rattle.image_file.specs.declared.fields.fault.Fault.TheVariants.{Field}
-use Rattle.image_file.specs.Pieces.{Piece, before, whole, listed}
+use Rattle.image_file.specs.declared.fields.fault.FieldFault.TheVariants.{Field}
+use Rattle.image_file.specs.Pieces.{FormatPiece, before, whole, listed}
 use Rattle.image_file.specs.Fields.{number16, number, signed, type_field, version_field, kind_field, fixed, operand, residue}
 use Rattle.image_file.specs.Entries.{name_piece, input_piece, output_piece, cell_piece, turn_piece}
 
@@ -49,7 +49,7 @@ head_with p step seed names inputs outputs cells turn_nodes operations = record 
   operations = operations;
 }
 
-unfoldable pub counts_piece : Piece Head
+unfoldable pub counts_piece : FormatPiece Head
 counts_piece =
     before version_field (λ h. h.profile) (λ p.
     before (number16 (λ n. nat_le 1 n && nat_le n most_step) (λ left n. Field left)) (λ h. h.step) (λ step.
@@ -63,7 +63,7 @@ counts_piece =
     whole (head_with p step seed names inputs outputs cells turn_nodes operations))))))))))
 
 -- `VCPANBD` and a line feed, and the rest of the head
-unfoldable pub head_piece : Piece Head
+unfoldable pub head_piece : FormatPiece Head
 head_piece = fixed 86 (fixed 67 (fixed 80 (fixed 65 (fixed 78 (fixed 66 (fixed 68 (fixed 10 counts_piece)))))))
 
 -- ---- operations
@@ -88,10 +88,10 @@ abbrev pub correction_of : Said → List Op → Op → ℕ
 correction_of s earlier op = correction s.profile s.seed s.step (length earlier) op (store_of_cell s.cells (unsigned_abs op.imm))
 
 -- the correction of an operation after others, with which the operation ends
-unfoldable pub corrected : Said → List Op → Op → Piece Op
+unfoldable pub corrected : Said → List Op → Op → FormatPiece Op
 corrected s earlier op = before (residue s.profile (correction_of s earlier op)) (λ o. correction_of s earlier o) (λ n. whole op)
 
-unfoldable pub op_by : Place → Said → List Op → Piece Op
+unfoldable pub op_by : Place → Said → List Op → FormatPiece Op
 op_by p s earlier =
     before (kind_field (kind_fits p)) (λ o. o.kind) (λ k.
     before (type_field s.profile (from_fits (entry_of p k) k)) (λ o. o.from) (λ from.
@@ -106,7 +106,7 @@ op_by p s earlier =
     corrected s earlier (op_of k from to a b c imm line col turn)))))))))))
 
 -- an operation after others, which is this by the other lists
-abbrev pub op_piece : Said → List Op → Piece Op
+abbrev pub op_piece : Said → List Op → FormatPiece Op
 op_piece s earlier = op_by (place_of s.scope (length earlier)) s earlier
 
 -- ---- the whole
@@ -164,7 +164,7 @@ parts_with p step seed names inputs outputs cs turn_nodes operations = record {
   operations = operations;
 }
 
-unfoldable pub image_piece : Piece Parts
+unfoldable pub image_piece : FormatPiece Parts
 image_piece =
     before head_piece head_of (λ h.
     before (listed h.names name_piece) (λ p. p.names) (λ names.

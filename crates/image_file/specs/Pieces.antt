@@ -5,26 +5,26 @@
 use Rattle.std.specs.Prelude.{◌≡◌, ℕ, zero, suc, ◌*◌, ◌^◌, ◌<◌, ◌==◌, ◌≢◌, nat_lt, Bool, true, false, cond, List, [], ◌∷◌, ◌++◌, length, take, drop, Option, Some, None, Result, Ok, Err, ◌⊎◌}
 use Rattle.std.specs.Int.{Width, byte_len, from_be_bytes, to_be_bytes}
 use Rattle.op_graph.specs.Rules.{Each}
-use Rattle.image_file.specs.declared.fields.fault.Fault.{Fault}
-use Rattle.image_file.specs.declared.fields.fault.Fault.TheVariants.{Short, Rest}
+use Rattle.image_file.specs.declared.fields.fault.FieldFault.{FieldFault}
+use Rattle.image_file.specs.declared.fields.fault.FieldFault.TheVariants.{Short, Rest}
 use Rattle.image_file.specs.declared.fields.fault.ReadError.{ReadError}
 use Rattle.image_file.specs.declared.fields.fault.ReadError.TheVariants as errors
 
 infixl 10 ◌>>=◌
-abbrev pub ◌>>=◌ : {A B : Type 0} → Result A Fault → (A → Result B Fault) → Result B Fault
+abbrev pub ◌>>=◌ : {A B : Type 0} → Result A FieldFault → (A → Result B FieldFault) → Result B FieldFault
 (Ok x) >>= f = f x
 (Err e) >>= f = Err e
 
 -- One piece of a format. A fault counts the bytes from its place to the end.
-pub record Piece (Y : Type 0) : Type 1 where
+pub record FormatPiece (Y : Type 0) : Type 1 where
   -- the value is allowed here
   pub fits : Y → Type 0
   -- the one spelling of a value
   pub spell : Y → List ℕ
   -- the bytes begin with no piece of this kind, and this is the fault of it
-  pub faulty : List ℕ → Fault → Type 0
+  pub faulty : List ℕ → FieldFault → Type 0
   -- the piece at the front, and the bytes after it
-  pub read : List ℕ → Result (Y × List ℕ) Fault
+  pub read : List ℕ → Result (Y × List ℕ) FieldFault
 
 -- ---- one field
 
@@ -34,24 +34,24 @@ abbrev pub passes : {A : Type 0} → (A → Bool) → Option A → Bool
 passes ok None = false
 passes ok (Some a) = ok a
 
-abbrev pub checked : {A : Type 0} → Option A → (A → Bool) → Fault → List ℕ → Result (A × List ℕ) Fault
+abbrev pub checked : {A : Type 0} → Option A → (A → Bool) → FieldFault → List ℕ → Result (A × List ℕ) FieldFault
 checked None ok bad rest = Err bad
 checked (Some a) ok bad rest = cond (ok a) (Ok (a, rest)) (Err bad)
 
-abbrev pub number_at : Width → List ℕ → Result (ℕ × List ℕ) Fault
+abbrev pub number_at : Width → List ℕ → Result (ℕ × List ℕ) FieldFault
 number_at w bytes = cond (nat_lt (length bytes) (byte_len w)) (Err Short) (Ok (from_be_bytes w (take (byte_len w) bytes), drop (byte_len w) bytes))
 
 -- the field is whole, and its number breaks the rule
-abbrev pub Breaks : {A : Type 0} → Width → (ℕ → Option A) → (A → Bool) → (ℕ → ℕ → Fault) → List ℕ → Fault → Type 0
+abbrev pub Breaks : {A : Type 0} → Width → (ℕ → Option A) → (A → Bool) → (ℕ → ℕ → FieldFault) → List ℕ → FieldFault → Type 0
 Breaks w of ok bad bytes f =
     (n : ℕ) × (rest : List ℕ) × (bytes ≡ to_be_bytes w n ++ rest) × (n < 2 ^ (8 * byte_len w)) × (passes ok (of n) ≡ false)
     × (f ≡ bad (length bytes) n)
 
 -- the bytes end within the field
-abbrev pub Ends : ℕ → List ℕ → Fault → Type 0
+abbrev pub Ends : ℕ → List ℕ → FieldFault → Type 0
 Ends n bytes f = (length bytes < n) × (f ≡ Short)
 
-abbrev pub field : {A : Type 0} → Width → (ℕ → Option A) → (A → ℕ) → (A → Type 0) → (A → Bool) → (ℕ → ℕ → Fault) → Piece A
+abbrev pub field : {A : Type 0} → Width → (ℕ → Option A) → (A → ℕ) → (A → Type 0) → (A → Bool) → (ℕ → ℕ → FieldFault) → FormatPiece A
 field w of code In ok bad = record {
   fits = λ a. In a × (ok a ≡ true);
   spell = λ a. to_be_bytes w (code a);
@@ -60,11 +60,11 @@ field w of code In ok bad = record {
 }
 
 -- a field of one byte
-abbrev pub byte_at : List ℕ → Result (ℕ × List ℕ) Fault
+abbrev pub byte_at : List ℕ → Result (ℕ × List ℕ) FieldFault
 byte_at [] = Err Short
 byte_at (b ∷ rest) = Ok (b, rest)
 
-abbrev pub byte_field : {A : Type 0} → (ℕ → Option A) → (A → ℕ) → (A → Type 0) → (A → Bool) → (ℕ → Fault) → Piece A
+abbrev pub byte_field : {A : Type 0} → (ℕ → Option A) → (A → ℕ) → (A → Type 0) → (A → Bool) → (ℕ → FieldFault) → FormatPiece A
 byte_field of code In ok bad = record {
   fits = λ a. In a × (ok a ≡ true);
   spell = λ a. code a ∷ [];
@@ -75,7 +75,7 @@ byte_field of code In ok bad = record {
 }
 
 -- so many bytes, which pass
-abbrev pub text_field : ℕ → (List ℕ → Bool) → (ℕ → Fault) → Piece (List ℕ)
+abbrev pub text_field : ℕ → (List ℕ → Bool) → (ℕ → FieldFault) → FormatPiece (List ℕ)
 text_field n ok bad = record {
   fits = λ t. (length t ≡ n) × (ok t ≡ true);
   spell = λ t. t;
@@ -89,7 +89,7 @@ text_field n ok bad = record {
 
 -- A piece, and then others, which may depend on it. `p` is what the whole says of the first.
 -- The first has the fault; or the bytes begin with the first, and the others have it.
-abbrev pub before : {A Y : Type 0} → Piece A → (Y → A) → (A → Piece Y) → Piece Y
+abbrev pub before : {A Y : Type 0} → FormatPiece A → (Y → A) → (A → FormatPiece Y) → FormatPiece Y
 before first p others = record {
   fits = λ y. first.fits (p y) × (others (p y)).fits y;
   spell = λ y. first.spell (p y) ++ (others (p y)).spell y;
@@ -99,7 +99,7 @@ before first p others = record {
 
 -- No more fields: the value is whole. It fits whatever it is, so a field that is left out in a definition passes here without a word; what is read shows
 -- it, since a value is built there from its fields.
-abbrev pub whole : {Y : Type 0} → Y → Piece Y
+abbrev pub whole : {Y : Type 0} → Y → FormatPiece Y
 whole y = record {
   fits = λ z. Unit {0};
   spell = λ z. [];
@@ -114,21 +114,21 @@ entries spell earlier [] = []
 entries spell earlier (x ∷ xs) = spell earlier x ++ entries spell (earlier ++ x ∷ []) xs
 
 -- fewer than n entries stand there, and the next one has the fault
-abbrev pub entry_faulty : {X : Type 0} → ℕ → (List X → Piece X) → List X → List ℕ → Fault → Type 0
+abbrev pub entry_faulty : {X : Type 0} → ℕ → (List X → FormatPiece X) → List X → List ℕ → FieldFault → Type 0
 entry_faulty zero piece earlier bytes f = ⊥
 entry_faulty (suc n) piece earlier bytes f =
     (piece earlier).faulty bytes f
     ⊎ ((x : _) × (rest : List ℕ) × (piece earlier).fits x × (bytes ≡ (piece earlier).spell x ++ rest)
     × entry_faulty n piece (earlier ++ x ∷ []) rest f)
 
-abbrev pub many : {X : Type 0} → ℕ → (List X → List ℕ → Result (X × List ℕ) Fault) → List X → List ℕ → Result (List X × List ℕ) Fault
+abbrev pub many : {X : Type 0} → ℕ → (List X → List ℕ → Result (X × List ℕ) FieldFault) → List X → List ℕ → Result (List X × List ℕ) FieldFault
 many zero read earlier bytes = Ok ([], bytes)
 many (suc n) read earlier bytes = do
   first ← read earlier bytes
   others ← many n read (earlier ++ first.0 ∷ []) first.1
   Ok (first.0 ∷ others.0, others.1)
 
-abbrev pub listed : {X : Type 0} → ℕ → (List X → Piece X) → Piece (List X)
+abbrev pub listed : {X : Type 0} → ℕ → (List X → FormatPiece X) → FormatPiece (List X)
 listed n piece = record {
   fits = λ xs. (length xs ≡ n) × Each (λ b. (piece b).fits) [] xs;
   spell = λ xs. entries (λ b. (piece b).spell) [] xs;
@@ -139,12 +139,12 @@ listed n piece = record {
 -- ---- all of the bytes
 
 -- a piece and nothing after it: bytes that are left have the fault Rest
-abbrev pub FaultOf : {Y : Type 0} → Piece Y → List ℕ → Fault → Type 0
+abbrev pub FaultOf : {Y : Type 0} → FormatPiece Y → List ℕ → FieldFault → Type 0
 FaultOf piece bytes f =
     piece.faulty bytes f
     ⊎ ((y : _) × (rest : List ℕ) × piece.fits y × (bytes ≡ piece.spell y ++ rest) × (rest ≢ []) × (f ≡ Rest (length rest)))
 
-abbrev pub read_all : {Y : Type 0} → Piece Y → List ℕ → Result Y Fault
+abbrev pub read_all : {Y : Type 0} → FormatPiece Y → List ℕ → Result Y FieldFault
 read_all piece bytes = do
   y ← piece.read bytes
   cond (length y.1 == 0) (Ok y.0) (Err (Rest (length y.1)))
@@ -152,15 +152,15 @@ read_all piece bytes = do
 -- ---- what code returned
 
 -- what a function returned, seen by view, is what reading gives, the piece and the bytes after it or the fault
-abbrev pub GivesExactly : {X Y : Type 0} → (X → Y) → Result X Fault → Result Y Fault → Type 0
+abbrev pub GivesExactly : {X Y : Type 0} → (X → Y) → Result X FieldFault → Result Y FieldFault → Type 0
 GivesExactly view (Ok x) read = read ≡ Ok (view x)
 GivesExactly view (Err f) read = read ≡ Err f
 
 -- the same, unless memory ran out
-abbrev pub Fails : {Y : Type 0} → ReadError → Result Y Fault → Type 0
+abbrev pub Fails : {Y : Type 0} → ReadError → Result Y FieldFault → Type 0
 Fails errors.Memory read = Unit {0}
-Fails (errors.Fault f) read = read ≡ Err f
+Fails (errors.FieldFault f) read = read ≡ Err f
 
-abbrev pub Gives : {X Y : Type 0} → (X → Y) → Result X ReadError → Result Y Fault → Type 0
+abbrev pub Gives : {X Y : Type 0} → (X → Y) → Result X ReadError → Result Y FieldFault → Type 0
 Gives view (Ok x) read = read ≡ Ok (view x)
 Gives view (Err e) read = Fails e read

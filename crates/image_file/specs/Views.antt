@@ -9,7 +9,7 @@ use Rattle.op_graph.specs.declared.op.Var.{Var}
 use Rattle.op_graph.specs.declared.op.Outlet.{Outlet}
 use Rattle.op_graph.specs.declared.op.Cell.{Cell}
 use Rattle.op_graph.specs.declared.op.Op.{Op}
-use Rattle.image_file.specs.Pieces.{Piece, listed}
+use Rattle.image_file.specs.Pieces.{FormatPiece, listed}
 use Rattle.image_file.specs.declared.whole.Whole.{Whole}
 use Rattle.image_file.specs.Image.{Head, Said, said, op_piece, Parts}
 
@@ -60,5 +60,5 @@ pub record IsAt (s : Lists) (i : ℕ) (w : Walk) : Type 0 where
   pub store : w.store ≡ passed (λ n. n) i s.stores
 
 -- the operations, after what the head, the inputs, the outputs and the cells say
-abbrev pub operations_piece : Counts → List Var → List Outlet → List Cell → Piece (List Op)
+abbrev pub operations_piece : Counts → List Var → List Outlet → List Cell → FormatPiece (List Op)
 operations_piece c inputs outputs cells = listed c.operations (op_piece (said c.profile c.seed c.step inputs outputs cells c.turn_nodes))

@@ -8,7 +8,7 @@ mod reading;
 mod writing;
 
 pub use entries::{cell_of, input_of, output_of, turn_of};
-pub use fault::{Fault, ReadError};
+pub use fault::{FieldFault, ReadError};
 pub use names::{Keys, name_of};
 pub use reading::{
     any_number_here, at_most_here, below_here, residue_at, ty_named, u8_at, u16_at, u32_at, u64_at,

@@ -1,7 +1,7 @@
 //! The head of an image.
 
 ghost use Rattle.std.specs.Prelude.{◌≡◌, ◌≤◌, ◌==◌, ◌&&◌, ◌+◌, ◌*◌, nat_le, Some, IfOk};
-ghost use Rattle.image_file.specs.declared.fields.fault.Fault.TheVariants as fault;
+ghost use Rattle.image_file.specs.declared.fields.fault.FieldFault.TheVariants as fault;
 ghost use Rattle.image_file.specs.Pieces.{GivesExactly, byte_field};
 ghost use Rattle.image_file.specs.Fields.{number, number16, version_field, IsByte};
 ghost use Rattle.image_file.specs.Image.{head_piece, counts_piece};
@@ -9,7 +9,7 @@ ghost use Rattle.image_file.specs.Codes.{version_of};
 ghost use Rattle.vcp_base.specs.Limits.{most_step, most_operations, most_turn_nodes};
 ghost use Rattle.image_file.specs.Views.{head as head_of};
 
-use crate::fields::{Fault, at_most_here, below_here, u8_at, u16_at, u32_at};
+use crate::fields::{FieldFault, at_most_here, below_here, u8_at, u16_at, u32_at};
 use vcp_base::{
     MOST_CELLS, MOST_NAMES, MOST_OPERATIONS, MOST_STEP, MOST_TURN_NODES, Profile, SEEDS,
 };
@@ -29,7 +29,7 @@ pub(crate) struct Counts {
 }
 
 /// A byte of the magic.
-fn magic_here(wanted: u8, bytes: &[u8]) -> Result<(u8, &[u8]), Fault>
+fn magic_here(wanted: u8, bytes: &[u8]) -> Result<(u8, &[u8]), FieldFault>
     ensures { GivesExactly (λ x. (x.0, x.1.now)) result
         ((byte_field (λ n. Some n) (λ n. n) IsByte (λ n. n == wanted) (λ left. fault.Magic left)).read bytes.now) }
 {
@@ -37,7 +37,7 @@ fn magic_here(wanted: u8, bytes: &[u8]) -> Result<(u8, &[u8]), Fault>
     if n == wanted {
         Ok((n, rest))
     } else {
-        Err(Fault::Magic { left: bytes.len() })
+        Err(FieldFault::Magic { left: bytes.len() })
     }
 }
 
@@ -53,18 +53,18 @@ fn profile_named(n: u16) -> Option<Profile>
 }
 
 /// The version at the front, as the code that it stands for.
-fn version_here(bytes: &[u8]) -> Result<(Profile, &[u8]), Fault>
+fn version_here(bytes: &[u8]) -> Result<(Profile, &[u8]), FieldFault>
     ensures { GivesExactly (λ x. (x.0, x.1.now)) result (version_field.read bytes.now) }
 {
     let (n, rest) = u16_at(bytes)?;
     match profile_named(n) {
-        None => Err(Fault::Version { left: bytes.len() }),
+        None => Err(FieldFault::Version { left: bytes.len() }),
         Some(profile) => Ok((profile, rest)),
     }
 }
 
 /// The step at the front, 1 to 1000.
-fn step_here(bytes: &[u8]) -> Result<(u16, &[u8]), Fault>
+fn step_here(bytes: &[u8]) -> Result<(u16, &[u8]), FieldFault>
     ensures is { GivesExactly (λ x. (x.0, x.1.now)) result ((number16 (λ n. nat_le 1 n && nat_le n most_step) (λ left n. fault.Field left)).read bytes.now) }
     ensures from { IfOk result (λ x. 1 ≤ x.0) }
     ensures to { IfOk result (λ x. x.0 ≤ most_step) }
@@ -73,12 +73,12 @@ fn step_here(bytes: &[u8]) -> Result<(u16, &[u8]), Fault>
     if 1 <= n && n <= MOST_STEP {
         Ok((n, rest))
     } else {
-        Err(Fault::Field { left: bytes.len() })
+        Err(FieldFault::Field { left: bytes.len() })
     }
 }
 
 /// The number of operations at the front, at least that of those that inputs, outputs and cells need.
-fn operations_here(low: u32, bytes: &[u8]) -> Result<(u32, &[u8]), Fault>
+fn operations_here(low: u32, bytes: &[u8]) -> Result<(u32, &[u8]), FieldFault>
     ensures is { GivesExactly (λ x. (x.0, x.1.now)) result ((number (λ n. nat_le low n && nat_le n most_operations)).read bytes.now) }
     ensures below { IfOk result (λ x. x.0 ≤ most_operations) }
 {
@@ -86,12 +86,12 @@ fn operations_here(low: u32, bytes: &[u8]) -> Result<(u32, &[u8]), Fault>
     if low <= n && n <= MOST_OPERATIONS {
         Ok((n, rest))
     } else {
-        Err(Fault::Field { left: bytes.len() })
+        Err(FieldFault::Field { left: bytes.len() })
     }
 }
 
 #[tactic(auto, unfolding(crate::specs::Image::counts_piece))]
-fn counts_here(bytes: &[u8]) -> Result<(Counts, &[u8]), Fault>
+fn counts_here(bytes: &[u8]) -> Result<(Counts, &[u8]), FieldFault>
     ensures is { GivesExactly (λ x. (head_of x.0, x.1.now)) result (counts_piece.read bytes.now) }
     ensures below { IfOk result (λ x. (x.0.step ≤ most_step) × (x.0.turn_nodes ≤ most_turn_nodes) × (x.0.operations ≤ most_operations)) }
 {
@@ -122,7 +122,7 @@ fn counts_here(bytes: &[u8]) -> Result<(Counts, &[u8]), Fault>
 
 /// The head at the front.
 #[tactic(auto, unfolding(crate::specs::Image::head_piece))]
-pub(crate) fn head_here(bytes: &[u8]) -> Result<(Counts, &[u8]), Fault>
+pub(crate) fn head_here(bytes: &[u8]) -> Result<(Counts, &[u8]), FieldFault>
     ensures is { GivesExactly (λ x. (head_of x.0, x.1.now)) result (head_piece.read bytes.now) }
     ensures below { IfOk result (λ x. (x.0.step ≤ most_step) × (x.0.turn_nodes ≤ most_turn_nodes) × (x.0.operations ≤ most_operations)) }
 {

@@ -11,7 +11,7 @@ ghost use Rattle.image_file.specs.Views.{parts};
 ghost use Rattle.image_file.specs.Graphs.{lists_of, HasImage, placed as placed_of, Reads, OrMemory};
 
 use crate::fault::ImageFault;
-use crate::fields::{Fault, ReadError};
+use crate::fields::{FieldFault, ReadError};
 use crate::laws::images_are_told_apart;
 use crate::whole::{Whole, loads_of, read, stores_of};
 use op_graph::{Graph, GraphLists};
@@ -44,25 +44,25 @@ fn graph_of(alloc: Global, whole: Whole) -> Result<(Graph, Table), ReadError>
 }
 
 /// The fault with its offset, in so many bytes.
-fn placed(len: usize, fault: Fault) -> ImageFault
+fn placed(len: usize, fault: FieldFault) -> ImageFault
     requires { len ≤ most_image_bytes }
     ensures { result ≡ placed_of len fault }
 {
     match fault {
-        Fault::Magic { left } => ImageFault::Magic {
+        FieldFault::Magic { left } => ImageFault::Magic {
             at: len.saturating_sub(left) as u32,
         },
-        Fault::Version { left } => ImageFault::Version {
+        FieldFault::Version { left } => ImageFault::Version {
             at: len.saturating_sub(left) as u32,
         },
-        Fault::Short => ImageFault::Short { at: len as u32 },
-        Fault::Field { left } => ImageFault::Field {
+        FieldFault::Short => ImageFault::Short { at: len as u32 },
+        FieldFault::Field { left } => ImageFault::Field {
             at: len.saturating_sub(left) as u32,
         },
-        Fault::Operand { left } => ImageFault::Operand {
+        FieldFault::Operand { left } => ImageFault::Operand {
             at: len.saturating_sub(left) as u32,
         },
-        Fault::Table {
+        FieldFault::Table {
             left,
             stored,
             expected,
@@ -71,7 +71,7 @@ fn placed(len: usize, fault: Fault) -> ImageFault
             stored,
             expected,
         },
-        Fault::Rest { left } => ImageFault::Rest {
+        FieldFault::Rest { left } => ImageFault::Rest {
             at: len.saturating_sub(left) as u32,
         },
     }
@@ -81,11 +81,11 @@ fn placed(len: usize, fault: Fault) -> ImageFault
 fn told(len: usize, error: ReadError) -> ImageFault
     requires { len ≤ most_image_bytes }
     ensures memory { error ≡ errors.Memory → result ≡ ImageFault.Memory }
-    ensures fault { (f : _) → error ≡ errors.Fault f → result ≡ placed_of len f }
+    ensures fault { (f : _) → error ≡ errors.FieldFault f → result ≡ placed_of len f }
 {
     match error {
         ReadError::Memory => ImageFault::Memory,
-        ReadError::Fault(fault) => placed(len, fault),
+        ReadError::FieldFault(fault) => placed(len, fault),
     }
 }
 

@@ -2,7 +2,7 @@
 #![tactic(auto)]
 
 mod fault;
-pub mod fields;
+mod fields;
 mod head;
 mod image;
 mod laws;

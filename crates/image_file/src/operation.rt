@@ -4,14 +4,14 @@ ghost use Rattle.std.specs.Prelude.{◌≡◌, ◌≤◌, ◌==◌, length, unsi
 ghost use Rattle.vcp_base.specs.Limits.{most_step, most_operations};
 ghost use Rattle.op_graph.specs.Rules.{entry_of as entry_of_place, kind_fits as kind_fits_of, from_fits as from_fits_of, ty_fits as ty_fits_of, operand_fits as operand_fits_of, reads_as as reads_as_of, imm_fits as imm_fits_of, turn_fits as turn_fits_of};
 ghost use Rattle.signature_table.specs.Signatures.{store_of as store_of_cell};
-ghost use Rattle.image_file.specs.declared.fields.fault.Fault.TheVariants as fault;
+ghost use Rattle.image_file.specs.declared.fields.fault.FieldFault.TheVariants as fault;
 ghost use Rattle.image_file.specs.Pieces.{Gives, GivesExactly, listed};
 ghost use Rattle.image_file.specs.Fields.{kind_field, type_field, signed, number, operand};
 ghost use Rattle.image_file.specs.Image.{corrected, op_by, op_piece, correction_of};
 ghost use Rattle.image_file.specs.Views.{scope_of, said_of, Rising};
 
 use crate::fields::{
-    Fault, ReadError, any_number_here, residue_at, ty_named, u8_at, u32_at, u64_at,
+    FieldFault, ReadError, any_number_here, residue_at, ty_named, u8_at, u32_at, u64_at,
 };
 use crate::scope::Scope;
 use crate::walk::Walk;
@@ -24,17 +24,17 @@ use std::alloc::Global;
 use vcp_base::{Kind, Profile, Residue, Spot, Ty, kind_of_code};
 
 /// The kind at the front, one that the place may have.
-fn kind_here<'a>(p: &Place, bytes: &'a [u8]) -> Result<(Kind, &'a [u8]), Fault>
+fn kind_here<'a>(p: &Place, bytes: &'a [u8]) -> Result<(Kind, &'a [u8]), FieldFault>
     ensures { GivesExactly (λ x. (x.0, x.1.now)) result ((kind_field (kind_fits_of p.now)).read bytes.now) }
 {
     let (n, rest) = u8_at(bytes)?;
     match kind_of_code(n) {
-        None => Err(Fault::Field { left: bytes.len() }),
+        None => Err(FieldFault::Field { left: bytes.len() }),
         Some(kind) => {
             if kind_fits(p, kind) {
                 Ok((kind, rest))
             } else {
-                Err(Fault::Field { left: bytes.len() })
+                Err(FieldFault::Field { left: bytes.len() })
             }
         }
     }
@@ -46,34 +46,34 @@ fn from_here<'a>(
     p: &Place,
     kind: Kind,
     bytes: &'a [u8],
-) -> Result<(Ty, &'a [u8]), Fault>
+) -> Result<(Ty, &'a [u8]), FieldFault>
     ensures { GivesExactly (λ x. (x.0, x.1.now)) result ((type_field profile (from_fits_of (entry_of_place p.now kind) kind)).read bytes.now) }
 {
     let (n, rest) = u8_at(bytes)?;
     match ty_named(profile, n) {
-        None => Err(Fault::Field { left: bytes.len() }),
+        None => Err(FieldFault::Field { left: bytes.len() }),
         Some(ty) => {
             if from_fits(entry_of(p, kind), kind, ty) {
                 Ok((ty, rest))
             } else {
-                Err(Fault::Field { left: bytes.len() })
+                Err(FieldFault::Field { left: bytes.len() })
             }
         }
     }
 }
 
 /// The type of the result at the front.
-fn ty_here(profile: Profile, kind: Kind, from: Ty, bytes: &[u8]) -> Result<(Ty, &[u8]), Fault>
+fn ty_here(profile: Profile, kind: Kind, from: Ty, bytes: &[u8]) -> Result<(Ty, &[u8]), FieldFault>
     ensures { GivesExactly (λ x. (x.0, x.1.now)) result ((type_field profile (ty_fits_of kind from)).read bytes.now) }
 {
     let (n, rest) = u8_at(bytes)?;
     match ty_named(profile, n) {
-        None => Err(Fault::Field { left: bytes.len() }),
+        None => Err(FieldFault::Field { left: bytes.len() }),
         Some(ty) => {
             if ty_fits(kind, from, ty) {
                 Ok((ty, rest))
             } else {
-                Err(Fault::Field { left: bytes.len() })
+                Err(FieldFault::Field { left: bytes.len() })
             }
         }
     }
@@ -86,19 +86,24 @@ fn operand_here<'a>(
     from: Ty,
     j: u32,
     bytes: &'a [u8],
-) -> Result<(u32, &'a [u8]), Fault>
+) -> Result<(u32, &'a [u8]), FieldFault>
     ensures { GivesExactly (λ x. (x.0, x.1.now)) result ((operand (operand_fits_of earlier.now (reads_as_of kind from j))).read bytes.now) }
 {
     let (n, rest) = u32_at(bytes)?;
     if operand_fits(earlier, reads_as(kind, from, j), n) {
         Ok((n, rest))
     } else {
-        Err(Fault::Operand { left: bytes.len() })
+        Err(FieldFault::Operand { left: bytes.len() })
     }
 }
 
 /// The operation's own number at the front.
-fn imm_here<'a>(p: &Place, kind: Kind, to: Ty, bytes: &'a [u8]) -> Result<(i64, &'a [u8]), Fault>
+fn imm_here<'a>(
+    p: &Place,
+    kind: Kind,
+    to: Ty,
+    bytes: &'a [u8],
+) -> Result<(i64, &'a [u8]), FieldFault>
     ensures { GivesExactly (λ x. (x.0, x.1.now)) result ((signed (imm_fits_of (entry_of_place p.now kind) kind to)).read bytes.now) }
 {
     let (n, rest) = u64_at(bytes)?;
@@ -106,7 +111,7 @@ fn imm_here<'a>(p: &Place, kind: Kind, to: Ty, bytes: &'a [u8]) -> Result<(i64, 
     if imm_fits(entry_of(p, kind), kind, to, imm) {
         Ok((imm, rest))
     } else {
-        Err(Fault::Field { left: bytes.len() })
+        Err(FieldFault::Field { left: bytes.len() })
     }
 }
 
@@ -116,14 +121,14 @@ fn turn_here<'a>(
     kind: Kind,
     turn_nodes: u32,
     bytes: &'a [u8],
-) -> Result<(u32, &'a [u8]), Fault>
+) -> Result<(u32, &'a [u8]), FieldFault>
     ensures { GivesExactly (λ x. (x.0, x.1.now)) result ((number (turn_fits_of (entry_of_place p.now kind) turn_nodes)).read bytes.now) }
 {
     let (n, rest) = u32_at(bytes)?;
     if turn_fits(entry_of(p, kind), turn_nodes, n) {
         Ok((n, rest))
     } else {
-        Err(Fault::Field { left: bytes.len() })
+        Err(FieldFault::Field { left: bytes.len() })
     }
 }
 
@@ -161,7 +166,7 @@ fn corrected_here<'a>(
     earlier: &[Op],
     op: Op,
     bytes: &'a [u8],
-) -> Result<(Op, &'a [u8]), Fault>
+) -> Result<(Op, &'a [u8]), FieldFault>
     requires step { s.now.step ≤ most_step }
     requires few { length earlier.now ≤ most_operations }
     ensures { GivesExactly (λ x. (x.0, x.1.now)) result ((corrected (said_of s.now) earlier.now op).read bytes.now) }
@@ -171,7 +176,7 @@ fn corrected_here<'a>(
     if n == expected {
         Ok((op, rest))
     } else {
-        Err(Fault::Table {
+        Err(FieldFault::Table {
             left: bytes.len(),
             stored: n,
             expected,
@@ -186,7 +191,7 @@ fn op_of<'a>(
     p: &Place,
     earlier: &[Op],
     bytes: &'a [u8],
-) -> Result<(Op, &'a [u8]), Fault>
+) -> Result<(Op, &'a [u8]), FieldFault>
     requires step { s.now.step ≤ most_step }
     requires few { length earlier.now ≤ most_operations }
     ensures { GivesExactly (λ x. (x.0, x.1.now)) result ((op_by p.now (said_of s.now) earlier.now).read bytes.now) }

@@ -6,7 +6,7 @@ ghost use Rattle.image_file.specs.Pieces.{Gives, read_all, FaultOf};
 ghost use Rattle.image_file.specs.Image.{load_of, store_of, image_piece};
 ghost use Rattle.image_file.specs.Views.{parts, operations_piece, Rising};
 
-use crate::fields::{Fault, ReadError};
+use crate::fields::{FieldFault, ReadError};
 use crate::head::{Counts, head_here};
 use crate::lists::{cells_of, inputs_of, names_of, outputs_of, turns_of};
 use crate::operation::operations_of;
@@ -136,14 +136,14 @@ fn all(alloc: Global, bytes: &[u8]) -> Result<Whole, ReadError>
     if rest.is_empty() {
         Ok(whole)
     } else {
-        Err(ReadError::Fault(Fault::Rest { left: rest.len() }))
+        Err(ReadError::FieldFault(FieldFault::Rest { left: rest.len() }))
     }
 }
 
 /// The image that the bytes are.
 pub(crate) fn read(alloc: Global, bytes: &[u8]) -> Result<Whole, ReadError>
     ensures found { IfOk result (λ w. image_piece.fits (parts w) × (bytes.now ≡ image_piece.spell (parts w))) }
-    ensures fault { (f : Fault) → result ≡ Err (ReadError.Fault f) → FaultOf image_piece bytes.now f }
+    ensures fault { (f : FieldFault) → result ≡ Err (ReadError.FieldFault f) → FaultOf image_piece bytes.now f }
 {
     all(alloc, bytes)
 }

@@ -33,7 +33,7 @@ use Rattle.op_graph.specs.Lists.{Lists}
 use Rattle.op_graph.specs.Rules.{IsGraph}
 use Rattle.signature_table.specs.Signatures.{table_of}
 use Rattle.image_file.specs.declared.fault.ImageFault.{ImageFault}
-use Rattle.image_file.specs.Graphs.{ImageOrFault, IsImage, FaultAt}
+use Rattle.image_file.specs.Graphs.{ImageOrFault, IsImage, ImageFaultAt}
 use Rattle.image_file.specs.Image.{image_of}
 use Rattle.fault_script.specs.declared.act.Fault.{Fault}
 use Rattle.fault_script.specs.declared.script_fault.ScriptFault.{ScriptFault}
@@ -196,7 +196,7 @@ module _ (laws : AnswerLaws) where
       let (g, seed, step, has, is) = h in
       let i : Image = record { graph = g; table = table_of seed step g } in
       inl (i, record { has = has; bytes = is; table = refl }))
-      (λ (h : (e : ImageFault) × FaultAt text e). inr (refusal.Image h.0, no_image h.0 h.1))
+      (λ (h : (e : ImageFault) × ImageFaultAt text e). inr (refusal.Image h.0, no_image h.0 h.1))
       (laws.images text bytes)
 
   some_typed : (Then : Program → Task → Type 0) (p : List ℕ) (held : Held) → ((t : Program) → (task : Task) × Then t task)

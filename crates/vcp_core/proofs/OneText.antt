@@ -29,7 +29,7 @@ use Rattle.vcp_inputs.specs.Programs.{IsProgram, NoProgram, unlexed, unparsed, T
 use Rattle.op_graph.specs.Lists.{Lists}
 use Rattle.signature_table.specs.Signatures.{Numbers, table_of}
 use Rattle.image_file.specs.declared.fault.ImageFault.{ImageFault}
-use Rattle.image_file.specs.Graphs.{HasImage, FaultAt}
+use Rattle.image_file.specs.Graphs.{HasImage, ImageFaultAt}
 use Rattle.image_file.specs.Image.{image_of}
 use Rattle.vcp_inputs.specs.declared.images.Image.{Image}
 use Rattle.vcp_inputs.specs.Images.{ImageOf, NotImage, no_image}
@@ -39,8 +39,8 @@ use Rattle.weight_audit.specs.AuditText.{AuditOf}
 pub record ImageLaws : Type 0 where
   pub graph : (g h : Lists) (seed other_seed step other_step : ℕ) → HasImage g seed step → HasImage h other_seed other_step
       → image_of g seed step ≡ image_of h other_seed other_step → (g ≡ h) × (seed ≡ other_seed) × (step ≡ other_step)
-  pub fault : (bytes : List ℕ) (e f : ImageFault) → FaultAt bytes e → FaultAt bytes f → e ≡ f
-  pub none : (g : Lists) (seed step : ℕ) (e : ImageFault) → HasImage g seed step → FaultAt (image_of g seed step) e → ⊥
+  pub fault : (bytes : List ℕ) (e f : ImageFault) → ImageFaultAt bytes e → ImageFaultAt bytes f → e ≡ f
+  pub none : (g : Lists) (seed step : ℕ) (e : ImageFault) → HasImage g seed step → ImageFaultAt (image_of g seed step) e → ⊥
 
 -- the law of instruction lists
 pub record ListingLaws : Type 0 where

@@ -3,7 +3,7 @@ use Rattle.std.specs.Prelude.{ℕ, ◌≡◌, List}
 use Rattle.signature_table.specs.Signatures.{table_of}
 use Rattle.image_file.specs.declared.fault.ImageFault.{ImageFault}
 use Rattle.image_file.specs.Image.{image_of}
-use Rattle.image_file.specs.Graphs.{HasImage, FaultAt}
+use Rattle.image_file.specs.Graphs.{HasImage, ImageFaultAt}
 use Rattle.vcp_inputs.specs.declared.images.Image.{Image}
 use Rattle.vcp_inputs.specs.declared.refusal.Refusal.{Refusal}
 use Rattle.vcp_inputs.specs.declared.refusal.Refusal.TheVariants as refusal
@@ -16,4 +16,4 @@ pub record ImageOf (text : List ℕ) (i : Image) : Type 0 where
 
 -- the text is no image: it has this fault, the first, field by field
 pub data NotImage (text : List ℕ) : Refusal → Type 0 where
-  no_image : (f : ImageFault) → FaultAt text f → NotImage text (refusal.Image f)
+  no_image : (f : ImageFault) → ImageFaultAt text f → NotImage text (refusal.Image f)

@@ -5,7 +5,7 @@ ghost use Rattle.image_file.specs.Pieces.{GivesExactly};
 ghost use Rattle.image_file.specs.Fields.{number};
 ghost use Rattle.image_file.specs.Entries.{above as above_of, number_of, rises, input_piece, output_piece, cell_piece, turn_piece};
 
-use crate::fields::fault::Fault;
+use crate::fields::fault::FieldFault;
 use crate::fields::reading::{
     any_ty_here, any_value_here, at_most_here, below_here, u32_at, value_here,
 };
@@ -112,14 +112,14 @@ fn input_name_here<'a>(
     names: u32,
     before: &[Var],
     bytes: &'a [u8],
-) -> Result<(u32, &'a [u8]), Fault>
+) -> Result<(u32, &'a [u8]), FieldFault>
     ensures { GivesExactly (λ x. (x.0, x.1.now)) result ((number (λ n. nat_lt n names && rises (λ w. w.name) before.now n)).read bytes.now) }
 {
     let (n, rest) = u32_at(bytes)?;
     if input_name_fits(names, before, n) {
         Ok((n, rest))
     } else {
-        Err(Fault::Field { left: bytes.len() })
+        Err(FieldFault::Field { left: bytes.len() })
     }
 }
 
@@ -128,14 +128,14 @@ fn output_name_here<'a>(
     names: u32,
     before: &[Outlet],
     bytes: &'a [u8],
-) -> Result<(u32, &'a [u8]), Fault>
+) -> Result<(u32, &'a [u8]), FieldFault>
     ensures { GivesExactly (λ x. (x.0, x.1.now)) result ((number (λ n. nat_lt n names && rises (λ w. w.name) before.now n)).read bytes.now) }
 {
     let (n, rest) = u32_at(bytes)?;
     if output_name_fits(names, before, n) {
         Ok((n, rest))
     } else {
-        Err(Fault::Field { left: bytes.len() })
+        Err(FieldFault::Field { left: bytes.len() })
     }
 }
 
@@ -144,14 +144,14 @@ fn output_op_here<'a>(
     operations: u32,
     before: &[Outlet],
     bytes: &'a [u8],
-) -> Result<(u32, &'a [u8]), Fault>
+) -> Result<(u32, &'a [u8]), FieldFault>
     ensures { GivesExactly (λ x. (x.0, x.1.now)) result ((number (λ n. nat_lt n operations && rises (λ w. w.op) before.now n)).read bytes.now) }
 {
     let (n, rest) = u32_at(bytes)?;
     if output_op_fits(operations, before, n) {
         Ok((n, rest))
     } else {
-        Err(Fault::Field { left: bytes.len() })
+        Err(FieldFault::Field { left: bytes.len() })
     }
 }
 
@@ -160,14 +160,14 @@ fn load_here<'a>(
     operations: u32,
     before: &[Cell],
     bytes: &'a [u8],
-) -> Result<(u32, &'a [u8]), Fault>
+) -> Result<(u32, &'a [u8]), FieldFault>
     ensures { GivesExactly (λ x. (x.0, x.1.now)) result ((number (λ n. nat_lt n operations && rises (λ w. w.load) before.now n)).read bytes.now) }
 {
     let (n, rest) = u32_at(bytes)?;
     if load_fits(operations, before, n) {
         Ok((n, rest))
     } else {
-        Err(Fault::Field { left: bytes.len() })
+        Err(FieldFault::Field { left: bytes.len() })
     }
 }
 
@@ -177,7 +177,7 @@ fn store_here<'a>(
     operations: u32,
     before: &[Cell],
     bytes: &'a [u8],
-) -> Result<(u32, &'a [u8]), Fault>
+) -> Result<(u32, &'a [u8]), FieldFault>
     ensures { GivesExactly (λ x. (x.0, x.1.now)) result
         ((number (λ n. nat_lt load n && nat_lt n operations && rises (λ w. w.store) before.now n)).read bytes.now) }
 {
@@ -185,7 +185,7 @@ fn store_here<'a>(
     if store_fits(load, operations, before, n) {
         Ok((n, rest))
     } else {
-        Err(Fault::Field { left: bytes.len() })
+        Err(FieldFault::Field { left: bytes.len() })
     }
 }
 
@@ -196,7 +196,7 @@ pub fn input_of<'a>(
     names: u32,
     before: &[Var],
     bytes: &'a [u8],
-) -> Result<(Var, &'a [u8]), Fault>
+) -> Result<(Var, &'a [u8]), FieldFault>
     ensures { GivesExactly (λ x. (x.0, x.1.now)) result ((input_piece profile names before.now).read bytes.now) }
 {
     let (name, rest) = input_name_here(names, before, bytes)?;
@@ -213,7 +213,7 @@ pub fn output_of<'a>(
     operations: u32,
     before: &[Outlet],
     bytes: &'a [u8],
-) -> Result<(Outlet, &'a [u8]), Fault>
+) -> Result<(Outlet, &'a [u8]), FieldFault>
     ensures { GivesExactly (λ x. (x.0, x.1.now)) result ((output_piece profile names operations before.now).read bytes.now) }
 {
     let (name, rest) = output_name_here(names, before, bytes)?;
@@ -231,7 +231,7 @@ pub fn cell_of<'a>(
     operations: u32,
     before: &[Cell],
     bytes: &'a [u8],
-) -> Result<(Cell, &'a [u8]), Fault>
+) -> Result<(Cell, &'a [u8]), FieldFault>
     ensures { GivesExactly (λ x. (x.0, x.1.now)) result ((cell_piece profile names operations before.now).read bytes.now) }
 {
     let (name, rest) = below_here(names, bytes)?;
@@ -257,7 +257,7 @@ pub fn turn_of<'a>(
     names: u32,
     before: &[TurnNode],
     bytes: &'a [u8],
-) -> Result<(TurnNode, &'a [u8]), Fault>
+) -> Result<(TurnNode, &'a [u8]), FieldFault>
     requires { length before.now < 2 ^ 32 }
     ensures { GivesExactly (λ x. (x.0, x.1.now)) result ((turn_piece names before.now).read bytes.now) }
 {

@@ -8,7 +8,7 @@ use vcp_base::{Memory as NoMemory, Residue};
 
 /// The first fault of the bytes. `left` counts the bytes from the fault's first byte on.
 #[derive(Clone, Copy, Debug, PartialEq, Eq)]
-pub enum Fault {
+pub enum FieldFault {
     /// A byte of the magic differs.
     Magic {
         left: usize,
@@ -45,7 +45,7 @@ pub enum ReadError {
     /// An allocation failed.
     Memory,
     /// The bytes are no image.
-    Fault(Fault),
+    FieldFault(FieldFault),
 }
 
 impl From<AllocError> for ReadError {
@@ -72,10 +72,10 @@ impl<T: Drop> From<AllocFailed<T>> for ReadError {
     }
 }
 
-impl From<Fault> for ReadError {
-    ghost from_gives = { λ f e. e ≡ errors.Fault f };
+impl From<FieldFault> for ReadError {
+    ghost from_gives = { λ f e. e ≡ errors.FieldFault f };
 
-    fn from(fault: Fault) -> ReadError {
-        ReadError::Fault(fault)
+    fn from(fault: FieldFault) -> ReadError {
+        ReadError::FieldFault(fault)
     }
 }

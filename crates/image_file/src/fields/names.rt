@@ -2,11 +2,11 @@
 
 ghost use Rattle.std.specs.Prelude.{◌≡◌, ◌<◌, ◌==◌, ◌&&◌, ◌||◌, ◌++◌, ◌∷◌, [], not, false, map, bytes_eq, IfOk, OnOk, OnErr};
 ghost use Rattle.std.specs.List.{list_any};
-ghost use Rattle.image_file.specs.declared.fields.fault.Fault.TheVariants as fault;
+ghost use Rattle.image_file.specs.declared.fields.fault.FieldFault.TheVariants as fault;
 ghost use Rattle.image_file.specs.Pieces.{Gives, text_field};
 ghost use Rattle.image_file.specs.Entries.{lower, name_fits, name_by};
 
-use crate::fields::fault::{Fault, ReadError};
+use crate::fields::fault::{FieldFault, ReadError};
 use crate::fields::reading::between_here;
 use indexmap::IndexSet;
 use std::alloc::Global;
@@ -65,15 +65,15 @@ fn text_here<'a>(
 {
     let n = n as usize;
     if bytes.len() < n {
-        return Err(ReadError::Fault(Fault::Short));
+        return Err(ReadError::FieldFault(FieldFault::Short));
     }
     let (text, rest) = bytes.split_at(n);
     if !is_name(text) {
-        return Err(ReadError::Fault(Fault::Field { left: bytes.len() }));
+        return Err(ReadError::FieldFault(FieldFault::Field { left: bytes.len() }));
     }
     let name = Text::copy_of(alloc, text)?;
     if !seen.insert(text)? {
-        return Err(ReadError::Fault(Fault::Field { left: bytes.len() }));
+        return Err(ReadError::FieldFault(FieldFault::Field { left: bytes.len() }));
     }
     Ok((name, rest))
 }

@@ -7,25 +7,25 @@ ghost use Rattle.image_file.specs.Pieces.{GivesExactly, byte_at, number_at};
 ghost use Rattle.image_file.specs.Codes.{type_of, correction_width};
 ghost use Rattle.image_file.specs.Fields.{number, signed, type_field};
 
-use crate::fields::fault::Fault;
+use crate::fields::fault::FieldFault;
 use vcp_base::{Profile, Residue, Ty, admits, fits, ty_of_code};
 
 /// The byte at the front, and the bytes after it; `Short` where there is none.
-pub fn u8_at(bytes: &[u8]) -> Result<(u8, &[u8]), Fault>
+pub fn u8_at(bytes: &[u8]) -> Result<(u8, &[u8]), FieldFault>
     ensures { GivesExactly (λ x. (x.0, x.1.now)) result (byte_at bytes.now) }
 {
     match bytes {
-        [] => Err(Fault::Short),
+        [] => Err(FieldFault::Short),
         [number, rest @ ..] => Ok((*number, rest)),
     }
 }
 
 /// The number of two bytes at the front, and the bytes after it; `Short` where they are fewer.
-pub fn u16_at(bytes: &[u8]) -> Result<(u16, &[u8]), Fault>
+pub fn u16_at(bytes: &[u8]) -> Result<(u16, &[u8]), FieldFault>
     ensures { GivesExactly (λ x. (x.0, x.1.now)) result (number_at w16 bytes.now) }
 {
     if bytes.len() < 2 {
-        return Err(Fault::Short);
+        return Err(FieldFault::Short);
     }
     let (front, rest) = bytes.split_at(2);
     let number = u16::from_be_bytes([front[0], front[1]]);
@@ -33,11 +33,11 @@ pub fn u16_at(bytes: &[u8]) -> Result<(u16, &[u8]), Fault>
 }
 
 /// The number of four bytes at the front, and the bytes after it; `Short` where they are fewer.
-pub fn u32_at(bytes: &[u8]) -> Result<(u32, &[u8]), Fault>
+pub fn u32_at(bytes: &[u8]) -> Result<(u32, &[u8]), FieldFault>
     ensures { GivesExactly (λ x. (x.0, x.1.now)) result (number_at w32 bytes.now) }
 {
     if bytes.len() < 4 {
-        return Err(Fault::Short);
+        return Err(FieldFault::Short);
     }
     let (front, rest) = bytes.split_at(4);
     let number = u32::from_be_bytes([front[0], front[1], front[2], front[3]]);
@@ -45,7 +45,7 @@ pub fn u32_at(bytes: &[u8]) -> Result<(u32, &[u8]), Fault>
 }
 
 /// The residue at the front: four bytes in the narrow code, and eight in the wide one.
-pub fn residue_at(profile: Profile, bytes: &[u8]) -> Result<(Residue, &[u8]), Fault>
+pub fn residue_at(profile: Profile, bytes: &[u8]) -> Result<(Residue, &[u8]), FieldFault>
     ensures { GivesExactly (λ x. (x.0, x.1.now)) result (number_at (correction_width profile) bytes.now) }
 {
     match profile {
@@ -58,11 +58,11 @@ pub fn residue_at(profile: Profile, bytes: &[u8]) -> Result<(Residue, &[u8]), Fa
 }
 
 /// The number of eight bytes at the front, and the bytes after it; `Short` where they are fewer.
-pub fn u64_at(bytes: &[u8]) -> Result<(u64, &[u8]), Fault>
+pub fn u64_at(bytes: &[u8]) -> Result<(u64, &[u8]), FieldFault>
     ensures { GivesExactly (λ x. (x.0, x.1.now)) result (number_at w64 bytes.now) }
 {
     if bytes.len() < 8 {
-        return Err(Fault::Short);
+        return Err(FieldFault::Short);
     }
     let (front, rest) = bytes.split_at(8);
     let number = u64::from_be_bytes([
@@ -82,30 +82,30 @@ pub fn ty_named(profile: Profile, n: u8) -> Option<Ty>
 }
 
 /// Any type.
-pub(crate) fn any_ty_here(profile: Profile, bytes: &[u8]) -> Result<(Ty, &[u8]), Fault>
+pub(crate) fn any_ty_here(profile: Profile, bytes: &[u8]) -> Result<(Ty, &[u8]), FieldFault>
     ensures { GivesExactly (λ x. (x.0, x.1.now)) result ((type_field profile (λ t. true)).read bytes.now) }
 {
     let (n, rest) = u8_at(bytes)?;
     match ty_named(profile, n) {
-        None => Err(Fault::Field { left: bytes.len() }),
+        None => Err(FieldFault::Field { left: bytes.len() }),
         Some(ty) => Ok((ty, rest)),
     }
 }
 
 /// A number of four bytes below a limit; another one is `Field`.
-pub fn below_here(limit: u32, bytes: &[u8]) -> Result<(u32, &[u8]), Fault>
+pub fn below_here(limit: u32, bytes: &[u8]) -> Result<(u32, &[u8]), FieldFault>
     ensures { GivesExactly (λ x. (x.0, x.1.now)) result ((number (λ n. nat_lt n limit)).read bytes.now) }
 {
     let (n, rest) = u32_at(bytes)?;
     if n < limit {
         Ok((n, rest))
     } else {
-        Err(Fault::Field { left: bytes.len() })
+        Err(FieldFault::Field { left: bytes.len() })
     }
 }
 
 /// A number of four bytes up to a limit; another one is `Field`.
-pub fn at_most_here(limit: u32, bytes: &[u8]) -> Result<(u32, &[u8]), Fault>
+pub fn at_most_here(limit: u32, bytes: &[u8]) -> Result<(u32, &[u8]), FieldFault>
     ensures is { GivesExactly (λ x. (x.0, x.1.now)) result ((number (λ n. nat_le n limit)).read bytes.now) }
     ensures below { IfOk result (λ x. x.0 ≤ limit) }
 {
@@ -113,12 +113,12 @@ pub fn at_most_here(limit: u32, bytes: &[u8]) -> Result<(u32, &[u8]), Fault>
     if n <= limit {
         Ok((n, rest))
     } else {
-        Err(Fault::Field { left: bytes.len() })
+        Err(FieldFault::Field { left: bytes.len() })
     }
 }
 
 /// A number from one to another.
-pub(crate) fn between_here(low: u32, high: u32, bytes: &[u8]) -> Result<(u32, &[u8]), Fault>
+pub(crate) fn between_here(low: u32, high: u32, bytes: &[u8]) -> Result<(u32, &[u8]), FieldFault>
     ensures is { GivesExactly (λ x. (x.0, x.1.now)) result ((number (λ n. nat_le low n && nat_le n high)).read bytes.now) }
     ensures below { IfOk result (λ x. x.0 ≤ high) }
 {
@@ -126,19 +126,19 @@ pub(crate) fn between_here(low: u32, high: u32, bytes: &[u8]) -> Result<(u32, &[
     if low <= n && n <= high {
         Ok((n, rest))
     } else {
-        Err(Fault::Field { left: bytes.len() })
+        Err(FieldFault::Field { left: bytes.len() })
     }
 }
 
 /// Any number of four bytes.
-pub fn any_number_here(bytes: &[u8]) -> Result<(u32, &[u8]), Fault>
+pub fn any_number_here(bytes: &[u8]) -> Result<(u32, &[u8]), FieldFault>
     ensures { GivesExactly (λ x. (x.0, x.1.now)) result ((number (λ n. true)).read bytes.now) }
 {
     u32_at(bytes)
 }
 
 /// A value of a type.
-pub(crate) fn value_here(ty: Ty, bytes: &[u8]) -> Result<(i64, &[u8]), Fault>
+pub(crate) fn value_here(ty: Ty, bytes: &[u8]) -> Result<(i64, &[u8]), FieldFault>
     ensures { GivesExactly (λ x. (x.0, x.1.now)) result ((signed (fits_of ty)).read bytes.now) }
 {
     let (n, rest) = u64_at(bytes)?;
@@ -146,12 +146,12 @@ pub(crate) fn value_here(ty: Ty, bytes: &[u8]) -> Result<(i64, &[u8]), Fault>
     if fits(ty, v as i128) {
         Ok((v, rest))
     } else {
-        Err(Fault::Field { left: bytes.len() })
+        Err(FieldFault::Field { left: bytes.len() })
     }
 }
 
 /// Any value.
-pub(crate) fn any_value_here(bytes: &[u8]) -> Result<(i64, &[u8]), Fault>
+pub(crate) fn any_value_here(bytes: &[u8]) -> Result<(i64, &[u8]), FieldFault>
     ensures { GivesExactly (λ x. (x.0, x.1.now)) result ((signed (λ v. true)).read bytes.now) }
 {
     let (n, rest) = u64_at(bytes)?;
