@@ -4,6 +4,5 @@
 mod condition;
 mod program;
 mod stmt;
-mod types;
 
 pub use program::flatten;

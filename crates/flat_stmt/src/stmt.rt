@@ -22,11 +22,10 @@ ghost use Rattle.flat_stmt.specs.Adds.{arm_size, if_size, branch_size, rest_size
 ghost use Rattle.flat_stmt.specs.Parts.{context, StmtPart, StmtsPart, ArmsPart, BranchesPart, OtherPart, Fills};
 
 use crate::condition::{deny, join, labels};
-use crate::types::type_of;
 use flat_expr::{Flat, laws_of_states};
 use op_graph::{Build, TurnNode};
 use vcp_base::{Spot, Ty};
-use vcp_typed::{TArm, TBranch, TExpr, TStmt, TStmts, trees_of_nodes};
+use vcp_typed::{TArm, TBranch, TExpr, TStmt, TStmts, next_value, trees_of_nodes, ty_of};
 
 /// The slot gets the value where the place is reached.
 fn add_value(flat: &mut Flat, slot: u32, value: i64, spot: Spot) -> Result<(), Build>
@@ -76,15 +75,6 @@ fn has_next(i: usize, branches: usize, other: &Option<TStmts>) -> bool
     ensures { result ≡ false → (branches ≡ i + 1) × (tother_tree other.now ≡ no_tother) }
 {
     i + 1 < branches || other.is_some()
-}
-
-/// The control variable's value in the next turn; after the last turn it keeps its value.
-fn next_value(value: i64, by: i64, more: bool) -> i64
-    requires { more ≡ true → FitsSigned w64 (value +ℤ by) }
-    ensures next { more ≡ true → result ≡ value +ℤ by }
-    ensures last { more ≡ false → result ≡ value }
-{
-    if more { value + by } else { value }
 }
 
 /// A statement.
@@ -272,7 +262,7 @@ fn add_case(
 {
     laws_of_states();
     let k = flat.expr(on)?;
-    add_branches(flat, k, type_of(on), branches, other)
+    add_branches(flat, k, ty_of(on), branches, other)
 }
 
 /// The body of ELSE, where there is one.

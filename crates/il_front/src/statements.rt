@@ -18,10 +18,10 @@ use crate::instruction::{Action, Instruction, Operand};
 use crate::places::Places;
 use crate::types::{next_type, operand_type};
 use st_tree::{BinOp, UnOp};
-use st_types::{common, result, widened_from};
+use st_types::{common, widened_from};
 use std::alloc::Global;
 use vcp_base::{Memory, Spot, Ty};
-use vcp_typed::{TArm, TArms, TExpr, TStmt, TStmts};
+use vcp_typed::{TArm, TArms, TExpr, TStmt, TStmts, result};
 
 // An operand as an expression.
 fn operand_expr(at: Spot, operand: Operand) -> TExpr

@@ -11,8 +11,9 @@ ghost use Rattle.il_front.specs.TypedForm.{combined_type as combined_type_of, ne
 use crate::instruction::{Action, Operand};
 use crate::operator::Operator;
 use st_tree::BinOp;
-use st_types::{common, result};
+use st_types::common;
 use vcp_base::{Ty, is_bool, within};
+use vcp_typed::result;
 
 /// The type of an operand.
 pub fn operand_type(operand: Operand) -> Ty

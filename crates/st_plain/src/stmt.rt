@@ -16,7 +16,7 @@ ghost use Rattle.st_plain.specs.Sound.{SoundStmt, SoundStmts, SoundArms, SoundBr
 use crate::expr::evaluate;
 use crate::stop::Stop;
 use vcp_base::{Row, Turn};
-use vcp_typed::{TArm, TBranch, TLabel, TStmt, TStmts, trees_of_nodes, values_fit};
+use vcp_typed::{TArm, TBranch, TLabel, TStmt, TStmts, next_value, trees_of_nodes, values_fit};
 
 /// What a cycle works on: the values of the slots so far, and the turns in which it is, outermost
 /// first. After a stop the turns are those round it.
@@ -252,13 +252,4 @@ fn do_turns(
         value = next_value(value, by, turn + 1 < turns);
     }
     Ok(())
-}
-
-/// The control variable's value in the next turn; after the last turn it keeps its value.
-fn next_value(value: i64, by: i64, more: bool) -> i64
-    requires { more ≡ true → FitsSigned w64 (value +ℤ by) }
-    ensures next { more ≡ true → result ≡ value +ℤ by }
-    ensures last { more ≡ false → result ≡ value }
-{
-    if more { value + by } else { value }
 }

@@ -18,11 +18,11 @@ use crate::function::{arguments, called, function_type};
 use crate::literal::{Untyped, literal_type, minus, negated};
 use crate::names::Entry;
 use crate::note::note;
-use crate::operator::{common, signed, ty_of, widened};
+use crate::operator::{common, signed, widened};
 use st_tree::{BinOp, Class, Expr, UnOp, trees_of_nodes};
 use std::alloc::Global;
 use vcp_base::{Memory, Spot, Ty};
-use vcp_typed::{Fun, TExpr, TExprs};
+use vcp_typed::{Fun, TExpr, TExprs, ty_of};
 
 // What a name stands for.
 fn got(spot: Spot, e: &Entry) -> TExpr

@@ -9,10 +9,10 @@ ghost use Rattle.vcp_typed.specs.Checked.{ty_of as type_of_value};
 ghost use Rattle.st_types.specs.ExprTyping.{function as function_of, arity as arity_of, called as called_of, converted as converted_of, of_sel as of_sel_of};
 ghost use Rattle.st_types.specs.ExprTyping.{of_one as of_one_of, of_two as of_two_of, of_three as of_three_of, function_type as function_type_of};
 
-use crate::operator::{joined, joined_or_bool, ty_of};
+use crate::operator::{joined, joined_or_bool};
 use std::alloc::Global;
 use vcp_base::{Memory, Ty, same_type, within};
-use vcp_typed::{Fun, TExpr, conversion};
+use vcp_typed::{Fun, TExpr, conversion, ty_of};
 
 // The function of a name, without regard to case.
 fn function(name: &[u8]) -> Option<Fun>

@@ -27,6 +27,6 @@ pub use laws::{
 };
 pub use literal::literal_type;
 pub use names::{Entry, Names};
-pub use operator::{common, result, widened_from};
+pub use operator::{common, widened_from};
 pub use typing::typed;
 pub use variable::is_set;

@@ -2,7 +2,7 @@
 
 ghost use Rattle.std.specs.Prelude.{◌≡◌, IfOk, option_map};
 ghost use Rattle.vcp_typed.specs.Rules.{widens as widens_of, joined as joined_of, both_bool as both_bool_of, joined_or_bool as joined_or_bool_of};
-ghost use Rattle.vcp_typed.specs.Rules.{common as common_of, result as result_of, signed as signed_of};
+ghost use Rattle.vcp_typed.specs.Rules.{common as common_of, signed as signed_of};
 ghost use Rattle.vcp_typed.specs.TExprViews.{texpr_tree};
 ghost use Rattle.vcp_typed.specs.Checked.{ty_of as type_of_value};
 ghost use Rattle.st_types.specs.ExprTyping.{widened as widened_of, as_type as as_type_of};
@@ -10,7 +10,7 @@ ghost use Rattle.st_types.specs.ExprTyping.{widened as widened_of, as_type as as
 use st_tree::{BinOp, UnOp};
 use std::alloc::Global;
 use vcp_base::{Memory, Ty};
-use vcp_typed::TExpr;
+use vcp_typed::{TExpr, ty_of};
 
 /// The type to which two types of numbers widen.
 pub(crate) fn joined(a: Ty, b: Ty) -> Option<Ty>
@@ -73,28 +73,6 @@ pub fn common(op: BinOp, a: Ty, b: Ty) -> Option<Ty>
     }
 }
 
-/// The type of an operator's value, where its operands have this one.
-pub fn result(op: BinOp, ty: Ty) -> Ty
-    ensures { result ≡ result_of op ty }
-{
-    match op {
-        BinOp::Mul => ty,
-        BinOp::Div => ty,
-        BinOp::Mod => ty,
-        BinOp::Add => ty,
-        BinOp::Sub => ty,
-        BinOp::Lt => Ty::Bool,
-        BinOp::Gt => Ty::Bool,
-        BinOp::Le => Ty::Bool,
-        BinOp::Ge => Ty::Bool,
-        BinOp::Eq => Ty::Bool,
-        BinOp::Ne => Ty::Bool,
-        BinOp::And => Ty::Bool,
-        BinOp::Xor => Ty::Bool,
-        BinOp::Or => Ty::Bool,
-    }
-}
-
 /// The type of a value with an operator before it, where the operator takes an operand of this type.
 pub(crate) fn signed(op: UnOp, ty: Ty) -> Option<Ty>
     ensures { result ≡ signed_of op ty }
@@ -106,20 +84,6 @@ pub(crate) fn signed(op: UnOp, ty: Ty) -> Option<Ty>
         (UnOp::Neg, Ty::Bool) => None,
         (UnOp::Not, Ty::Bool) => Some(Ty::Bool),
         (UnOp::Not, Ty::Int | Ty::Dint | Ty::Lint) => None,
-    }
-}
-
-/// The type of a checked expression.
-pub(crate) fn ty_of(e: &TExpr) -> Ty
-    ensures { result ≡ type_of_value (texpr_tree e.now) }
-{
-    match e {
-        TExpr::Lit { ty, .. } => *ty,
-        TExpr::Get { ty, .. } => *ty,
-        TExpr::Widen { ty, .. } => *ty,
-        TExpr::Unary { ty, .. } => *ty,
-        TExpr::Binary { op, ty, .. } => result(*op, *ty),
-        TExpr::Call { ty, .. } => *ty,
     }
 }
 

@@ -21,12 +21,12 @@ use crate::environment::Environment;
 use crate::fault::{Fault, Rule};
 use crate::names::Entry;
 use crate::note::note;
-use crate::operator::{ty_of, type_of, widened};
+use crate::operator::{type_of, widened};
 use crate::variable::{bool_fault, entry_type, held_in, is_free, name_fault};
 use st_tree::{Arm, Branch, Expr, Stmt, Stmts, trees_of_nodes};
 use std::alloc::Global;
 use vcp_base::{Memory, Spot, Ty, is_bool, within};
-use vcp_typed::{TArm, TArms, TBranch, TBranches, TExpr, TLabels, TStmt, TStmts};
+use vcp_typed::{TArm, TArms, TBranch, TBranches, TExpr, TLabels, TStmt, TStmts, ty_of};
 
 // ---- what single nodes give
 

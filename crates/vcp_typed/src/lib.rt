@@ -10,11 +10,13 @@ mod size;
 mod slot;
 mod stmt;
 mod typed;
+mod types;
 mod wide;
 
 pub use expr::{Fun, TExpr, TExprs, conversion};
 pub use laws::{causes_of_stops, trees_of_appended, trees_of_nodes, turns_name_slots, values_fit};
 pub use size::size_of;
 pub use slot::{Slot, Slots};
-pub use stmt::{TArm, TArms, TBranch, TBranches, TLabel, TLabels, TStmt, TStmts};
+pub use stmt::{TArm, TArms, TBranch, TBranches, TLabel, TLabels, TStmt, TStmts, next_value};
 pub use typed::Typed;
+pub use types::{result, ty_of};

@@ -1,6 +1,7 @@
 //! Checked statements.
 
-ghost use Rattle.std.specs.Prelude.{◌≡◌, ◌<◌, ◌+◌, [], ◌∷◌, ◌++◌, Some, OnOk, OnErr, drop, length, slice_get};
+ghost use Rattle.std.specs.Prelude.{◌≡◌, ◌<◌, ◌+◌, ◌+ℤ◌, [], ◌∷◌, ◌++◌, FitsSigned, Some, OnOk, OnErr, drop, false, length, slice_get, true};
+ghost use Rattle.std.specs.Int.{w64};
 ghost use Rattle.vcp_typed.specs.TExprViews.{texpr_tree};
 ghost use Rattle.vcp_typed.specs.Items.{tarm_items, tbranch_items};
 ghost use Rattle.vcp_typed.specs.TStmtTree.{assign as assign_tree, if_ as if_tree, case as case_tree, for_ as for_tree, no_tstmts, and_tstmt, no_tarms};
@@ -304,4 +305,13 @@ impl TStmt {
             spot,
         }
     }
+}
+
+/// The control variable's value in the next turn of a FOR; after the last turn it keeps its value.
+pub fn next_value(value: i64, by: i64, more: bool) -> i64
+    requires { more ≡ true → FitsSigned w64 (value +ℤ by) }
+    ensures next { more ≡ true → result ≡ value +ℤ by }
+    ensures last { more ≡ false → result ≡ value }
+{
+    if more { value + by } else { value }
 }

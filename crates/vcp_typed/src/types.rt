@@ -1,16 +1,16 @@
 //! The types of values.
 
 ghost use Rattle.std.specs.Prelude.{◌≡◌};
-ghost use Rattle.vcp_typed.specs.Checked.{ty_of};
+ghost use Rattle.vcp_typed.specs.Checked.{ty_of as type_of_value};
 ghost use Rattle.vcp_typed.specs.Rules.{result as result_of};
 ghost use Rattle.vcp_typed.specs.TExprViews.{texpr_tree};
 
+use crate::expr::TExpr;
 use st_tree::BinOp;
 use vcp_base::Ty;
-use vcp_typed::TExpr;
 
-/// The type of an operator's value, where its operands have the type.
-fn result(op: BinOp, ty: Ty) -> Ty
+/// The type of an operator's value, where its operands have this one.
+pub fn result(op: BinOp, ty: Ty) -> Ty
     ensures { result ≡ result_of op ty }
 {
     match op {
@@ -20,8 +20,8 @@ fn result(op: BinOp, ty: Ty) -> Ty
 }
 
 /// The type of an expression's value.
-pub fn type_of(e: &TExpr) -> Ty
-    ensures { result ≡ ty_of (texpr_tree e.now) }
+pub fn ty_of(e: &TExpr) -> Ty
+    ensures { result ≡ type_of_value (texpr_tree e.now) }
 {
     match e {
         TExpr::Lit { ty, .. } => *ty,
