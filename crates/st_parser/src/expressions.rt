@@ -9,10 +9,11 @@ ghost use Rattle.st_parser.specs.ExprMachine as spec;
 ghost use Rattle.st_parser.specs.FormViews as view;
 
 use crate::fault::SyntaxFault;
-use crate::forms::{Form, Mode, add, close, extend, is_within, level_of, take};
+use crate::forms::{Form, Mode, add, close, extend, is_within, take};
 use crate::marks::{Begins, Goes, begins_by, goes_by};
 use crate::names::{Source, name_of};
 use st_lexer::Token;
+use st_spelling::level_of;
 use st_tree::{Expr, Exprs};
 use std::alloc::Global;
 

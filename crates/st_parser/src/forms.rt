@@ -3,10 +3,11 @@
 ghost use Rattle.std.specs.Prelude.{◌≡◌, ◌+◌, ◌≤◌, ◌∷◌, IfOk, OnOk, ◌↔◌, IsTrue};
 ghost use Rattle.st_tree.specs.Appended.{exprs_and};
 ghost use Rattle.st_tree.specs.ExprViews.{expr_tree, expr_trees};
-ghost use Rattle.st_spelling.specs.Operators.{level, chain};
+ghost use Rattle.st_spelling.specs.Operators.{chain};
 ghost use Rattle.st_parser.specs.ExprMachine as spec;
 ghost use Rattle.st_parser.specs.FormViews as view;
 
+use st_spelling::level_of;
 use st_tree::{BinOp, Expr, Exprs, UnOp};
 use std::alloc::Global;
 use vcp_base::{Memory, Spot, Text};
@@ -33,21 +34,6 @@ pub enum Mode {
     AfterName(Text, Spot),
     /// A whole operand.
     Have(Expr),
-}
-
-/// The level of an operator, 1 to 7: the greater, the more strongly it binds.
-pub fn level_of(op: BinOp) -> u8
-    ensures { result ≡ level op }
-{
-    match op {
-        BinOp::Or => 1,
-        BinOp::Xor => 2,
-        BinOp::And => 3,
-        BinOp::Eq | BinOp::Ne => 4,
-        BinOp::Lt | BinOp::Gt | BinOp::Le | BinOp::Ge => 5,
-        BinOp::Add | BinOp::Sub => 6,
-        BinOp::Mul | BinOp::Div | BinOp::Mod => 7,
-    }
 }
 
 /// Opens one more form, the innermost.

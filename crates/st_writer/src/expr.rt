@@ -2,7 +2,6 @@
 
 ghost use Rattle.std.specs.Prelude.{◌≡◌, ◌++◌, ◌∷◌, ◌≤◌, [], OnOk};
 ghost use Rattle.st_lexer.specs.declared.token.Sym.TheVariants as sym;
-ghost use Rattle.st_spelling.specs.Operators as operators;
 ghost use Rattle.st_tree.specs.ExprViews.{expr_tree, expr_trees};
 ghost use Rattle.st_writer.specs.CanonicalExpr as canonical;
 ghost use Rattle.st_writer.specs.Extended.{extended, where_needed};
@@ -10,30 +9,15 @@ ghost use Rattle.st_writer.specs.Lexemes as lexeme;
 
 use crate::writer::Writer;
 use st_lexer::{Key, Sym};
+use st_spelling::level_of;
 use st_tree::{BinOp, Expr, UnOp, trees_of_nodes};
 use vcp_base::{Memory, Text};
 
 /// The level at which every expression stands without brackets.
-pub const ANY: u32 = 1;
+pub const ANY: u8 = 1;
 
 /// The level of the operand of a sign.
-const UNARY: u32 = 8;
-
-/// The level of an operator: the greater, the more strongly it binds.
-fn level(op: BinOp) -> u32
-    ensures value { result ≡ operators.level op }
-    ensures most { result ≤ 7 }
-{
-    match op {
-        BinOp::Or => 1,
-        BinOp::Xor => 2,
-        BinOp::And => 3,
-        BinOp::Eq | BinOp::Ne => 4,
-        BinOp::Lt | BinOp::Gt | BinOp::Le | BinOp::Ge => 5,
-        BinOp::Add | BinOp::Sub => 6,
-        BinOp::Mul | BinOp::Div | BinOp::Mod => 7,
-    }
-}
+const UNARY: u8 = 8;
 
 impl Writer {
     // Writes an operator between its operands.
@@ -91,7 +75,7 @@ impl Writer {
     /// Writes an expression where an operator of the level `wanted` or more is wanted.
     #[cycle(expr)]
     #[tactic(auto, using(crate::proofs::Extends::writing))]
-    pub fn expr(&mut self, wanted: u32, e: &Expr) -> Result<(), Memory>
+    pub fn expr(&mut self, wanted: u8, e: &Expr) -> Result<(), Memory>
         ensures text { OnOk result (self.new ≡ extended self.old (canonical.expr wanted (expr_tree e.now))) }
     {
         match e {
@@ -107,7 +91,7 @@ impl Writer {
                 right,
                 ..
             } => {
-                let strength = level(*op);
+                let strength = level_of(*op);
                 let weak = strength < wanted;
                 self.bracket(weak, Sym::LParen)?;
                 self.expr(strength, left)?;
