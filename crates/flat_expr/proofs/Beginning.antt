@@ -20,12 +20,12 @@ use Rattle.op_graph.specs.declared.op.TurnNode.{TurnNode}
 use Rattle.op_graph.specs.Lists.{Lists, column, nothing}
 use Rattle.op_graph.specs.Rules.{IsPart}
 use Rattle.op_graph.specs.Building.{entry_op, with_input}
-use Rattle.st_tree.specs.declared.program.Class.{Class}
-use Rattle.st_tree.specs.declared.program.Class.TheVariants as class
+use Rattle.st_tree.specs.declared.program.Section.{Section}
+use Rattle.st_tree.specs.declared.program.Section.TheVariants as section
 use Rattle.vcp_typed.specs.declared.slot.Slot.{Slot}
 use Rattle.vcp_typed.specs.Checked.{SlotsFit, IsChecked}
 use Rattle.vcp_typed.specs.Fitting.{input_types, input_columns}
-use Rattle.vcp_typed.specs.Size.{class_size}
+use Rattle.vcp_typed.specs.Size.{section_size}
 use Rattle.vcp_typed.specs.SourceRun.{Program, is_input, with_inputs}
 use Rattle.flat_expr.specs.Begin.{Begins, inputs_from, input_ops, held_from, entered, begun}
 use Rattle.vcp_typed.specs.Wide.{wide}
@@ -38,14 +38,14 @@ use Rattle.flat_expr.proofs.Runs.{step}
 -- ---- one slot more, for the loops
 
 pub inputs_push : (n : ℕ) (xs : List Slot) (s : Slot)
-    → inputs_from n (xs ++ s ∷ []) ≡ cond (is_input s.class) (inputs_from n xs ++ (record { name = n + length xs; ty = s.ty }) ∷ []) (inputs_from n xs)
-inputs_push n [] s = ap (λ m. cond (is_input s.class) ((record { name = m; ty = s.ty }) ∷ []) []) (let e : n ≡ n + 0 = omega arith in e)
+    → inputs_from n (xs ++ s ∷ []) ≡ cond (is_input s.section) (inputs_from n xs ++ (record { name = n + length xs; ty = s.ty }) ∷ []) (inputs_from n xs)
+inputs_push n [] s = ap (λ m. cond (is_input s.section) ((record { name = m; ty = s.ty }) ∷ []) []) (let e : n ≡ n + 0 = omega arith in e)
 inputs_push n (x ∷ xs) s =
     let e : suc n + length xs ≡ n + suc (length xs) = omega arith in
-    ap (λ l. cond (is_input x.class) (record { name = n; ty = x.ty } ∷ l) l)
+    ap (λ l. cond (is_input x.section) (record { name = n; ty = x.ty } ∷ l) l)
     (inputs_push (suc n) xs s
-    ∙ ap (λ m. cond (is_input s.class) (inputs_from (suc n) xs ++ (record { name = m; ty = s.ty }) ∷ []) (inputs_from (suc n) xs)) e)
-    ∙ swap (is_input x.class) (is_input s.class) (inputs_from (suc n) xs) (record { name = n; ty = x.ty }) (record { name = n + suc (length xs); ty = s.ty })
+    ∙ ap (λ m. cond (is_input s.section) (inputs_from (suc n) xs ++ (record { name = m; ty = s.ty }) ∷ []) (inputs_from (suc n) xs)) e)
+    ∙ swap (is_input x.section) (is_input s.section) (inputs_from (suc n) xs) (record { name = n; ty = x.ty }) (record { name = n + suc (length xs); ty = s.ty })
   where
     swap : (a b : Bool) (l : List Var) (v w : Var)
         → cond a (v ∷ cond b (l ++ w ∷ []) l) (cond b (l ++ w ∷ []) l) ≡ cond b (cond a (v ∷ l) l ++ w ∷ []) (cond a (v ∷ l) l)
@@ -56,18 +56,18 @@ inputs_push n (x ∷ xs) s =
 
 pub ops_push : (j : ℕ) (xs : List Slot) (s : Slot)
     → input_ops j (xs ++ s ∷ [])
-    ≡ cond (is_input s.class) (input_ops j xs ++ entry_op kind.Input s.ty 0 (j + length (input_ops j xs)) s.spot ∷ []) (input_ops j xs)
-ops_push j [] s = ap (λ m. cond (is_input s.class) (entry_op kind.Input s.ty 0 m s.spot ∷ []) []) (let e : j ≡ j + 0 = omega arith in e)
-ops_push j (x ∷ xs) s = go (is_input x.class) (ops_push (suc j) xs s) (ops_push j xs s)
+    ≡ cond (is_input s.section) (input_ops j xs ++ entry_op kind.Input s.ty 0 (j + length (input_ops j xs)) s.spot ∷ []) (input_ops j xs)
+ops_push j [] s = ap (λ m. cond (is_input s.section) (entry_op kind.Input s.ty 0 m s.spot ∷ []) []) (let e : j ≡ j + 0 = omega arith in e)
+ops_push j (x ∷ xs) s = go (is_input x.section) (ops_push (suc j) xs s) (ops_push j xs s)
   where
     go : (a : Bool)
         → input_ops (suc j) (xs ++ s ∷ [])
-        ≡ cond (is_input s.class) (input_ops (suc j) xs ++ entry_op kind.Input s.ty 0 (suc j + length (input_ops (suc j) xs)) s.spot ∷ [])
+        ≡ cond (is_input s.section) (input_ops (suc j) xs ++ entry_op kind.Input s.ty 0 (suc j + length (input_ops (suc j) xs)) s.spot ∷ [])
         (input_ops (suc j) xs) →
-        input_ops j (xs ++ s ∷ []) ≡ cond (is_input s.class) (input_ops j xs ++ entry_op kind.Input s.ty 0 (j + length (input_ops j xs)) s.spot ∷ [])
+        input_ops j (xs ++ s ∷ []) ≡ cond (is_input s.section) (input_ops j xs ++ entry_op kind.Input s.ty 0 (j + length (input_ops j xs)) s.spot ∷ [])
         (input_ops j xs) →
         cond a (entry_op kind.Input x.ty 0 j x.spot ∷ input_ops (suc j) (xs ++ s ∷ [])) (input_ops j (xs ++ s ∷ [])) ≡
-        cond (is_input s.class)
+        cond (is_input s.section)
         (cond a (entry_op kind.Input x.ty 0 j x.spot ∷ input_ops (suc j) xs) (input_ops j xs) ++ entry_op kind.Input s.ty 0
         (j + length (cond a (entry_op kind.Input x.ty 0 j x.spot ∷ input_ops (suc j) xs) (input_ops j xs))) s.spot ∷ [])
         (cond a (entry_op kind.Input x.ty 0 j x.spot ∷ input_ops (suc j) xs) (input_ops j xs))
@@ -75,36 +75,36 @@ ops_push j (x ∷ xs) s = go (is_input x.class) (ops_push (suc j) xs s) (ops_pus
     go true f g =
         let e : suc j + length (input_ops (suc j) xs) ≡ j + suc (length (input_ops (suc j) xs)) = omega arith in
         ap (λ l. entry_op kind.Input x.ty 0 j x.spot ∷ l)
-        (f ∙ ap (λ m. cond (is_input s.class) (input_ops (suc j) xs ++ entry_op kind.Input s.ty 0 m s.spot ∷ []) (input_ops (suc j) xs)) e)
-        ∙ inside (is_input s.class) (entry_op kind.Input x.ty 0 j x.spot) (input_ops (suc j) xs) _
+        (f ∙ ap (λ m. cond (is_input s.section) (input_ops (suc j) xs ++ entry_op kind.Input s.ty 0 m s.spot ∷ []) (input_ops (suc j) xs)) e)
+        ∙ inside (is_input s.section) (entry_op kind.Input x.ty 0 j x.spot) (input_ops (suc j) xs) _
       where
         inside : (b : Bool) (o : Op) (l : List Op) (w : Op) → o ∷ cond b (l ++ w ∷ []) l ≡ cond b ((o ∷ l) ++ w ∷ []) (o ∷ l)
         inside true o l w = refl
         inside false o l w = refl
 
 pub held_push : (j : ℕ) (xs : List Slot) (s : Slot)
-    → held_from j (xs ++ s ∷ []) ≡ held_from j xs ++ cond (is_input s.class) (Some (j + length (input_ops j xs))) None ∷ []
-held_push j [] s = first (is_input s.class)
+    → held_from j (xs ++ s ∷ []) ≡ held_from j xs ++ cond (is_input s.section) (Some (j + length (input_ops j xs))) None ∷ []
+held_push j [] s = first (is_input s.section)
   where
     first : (b : Bool) → cond b (Some j ∷ []) (None ∷ []) ≡ cond b (Some (j + 0)) None ∷ []
     first true = let e : j ≡ j + 0 = omega arith in ap (λ m. Some m ∷ []) e
     first false = refl
-held_push j (x ∷ xs) s = go (is_input x.class) (held_push (suc j) xs s) (held_push j xs s)
+held_push j (x ∷ xs) s = go (is_input x.section) (held_push (suc j) xs s) (held_push j xs s)
   where
     go : (a : Bool)
-        → held_from (suc j) (xs ++ s ∷ []) ≡ held_from (suc j) xs ++ cond (is_input s.class) (Some (suc j + length (input_ops (suc j) xs))) None ∷ [] →
-        held_from j (xs ++ s ∷ []) ≡ held_from j xs ++ cond (is_input s.class) (Some (j + length (input_ops j xs))) None ∷ [] →
+        → held_from (suc j) (xs ++ s ∷ []) ≡ held_from (suc j) xs ++ cond (is_input s.section) (Some (suc j + length (input_ops (suc j) xs))) None ∷ [] →
+        held_from j (xs ++ s ∷ []) ≡ held_from j xs ++ cond (is_input s.section) (Some (j + length (input_ops j xs))) None ∷ [] →
         cond a (Some j ∷ held_from (suc j) (xs ++ s ∷ [])) (None ∷ held_from j (xs ++ s ∷ [])) ≡
-        cond a (Some j ∷ held_from (suc j) xs) (None ∷ held_from j xs) ++ cond (is_input s.class)
+        cond a (Some j ∷ held_from (suc j) xs) (None ∷ held_from j xs) ++ cond (is_input s.section)
         (Some (j + length (cond a (entry_op kind.Input x.ty 0 j x.spot ∷ input_ops (suc j) xs) (input_ops j xs)))) None ∷ []
     go false f g = ap (λ l. None ∷ l) g
     go true f g =
         let e : suc j + length (input_ops (suc j) xs) ≡ j + suc (length (input_ops (suc j) xs)) = omega arith in
-        ap (λ l. Some j ∷ l) (f ∙ ap (λ m. held_from (suc j) xs ++ cond (is_input s.class) (Some m) None ∷ []) e)
+        ap (λ l. Some j ∷ l) (f ∙ ap (λ m. held_from (suc j) xs ++ cond (is_input s.section) (Some m) None ∷ []) e)
 
 pub as_many : (n j : ℕ) (xs : List Slot) → length (inputs_from n xs) ≡ length (input_ops j xs)
 as_many n j [] = refl
-as_many n j (x ∷ xs) = go (is_input x.class) (as_many (suc n) (suc j) xs) (as_many (suc n) j xs)
+as_many n j (x ∷ xs) = go (is_input x.section) (as_many (suc n) (suc j) xs) (as_many (suc n) j xs)
   where
     go : (a : Bool) → length (inputs_from (suc n) xs) ≡ length (input_ops (suc j) xs) → length (inputs_from (suc n) xs) ≡ length (input_ops j xs) →
         length (cond a ((record { name = n; ty = x.ty }) ∷ inputs_from (suc n) xs) (inputs_from (suc n) xs)) ≡ length
@@ -120,7 +120,7 @@ Below n (v ∷ vs) = (v.name < n) × Below n vs
 below_of : (m n : ℕ) (xs : List Slot) → n + length xs ≤ m → Below m (inputs_from n xs)
 unfolding Below
 below_of m n [] le = tt
-below_of m n (x ∷ xs) le = go (is_input x.class) (below_of m (suc n) xs (omega arith))
+below_of m n (x ∷ xs) le = go (is_input x.section) (below_of m (suc n) xs (omega arith))
   where
     go : (a : Bool) → Below m (inputs_from (suc n) xs) → Below m (cond a ((record { name = n; ty = x.ty }) ∷ inputs_from (suc n) xs) (inputs_from (suc n) xs))
     go true h = (omega arith, h)
@@ -165,15 +165,15 @@ own_name_fits slots i s h e = let f = name_fits slots [] i s h e in record { sho
 -- ---- what the state knows
 
 fit_at : (slots before : List Slot) (i : ℕ) (s : Slot) → SlotsFit before slots → slice_get slots i ≡ Some s
-    → (fits s.ty s.init ≡ true) × (s.class ≡ class.Constant → ⊥)
+    → (fits s.ty s.init ≡ true) × (s.section ≡ section.Constant → ⊥)
 fit_at [] before i s h e = absurd cc
 fit_at (x ∷ slots) before zero s h e = let same : x ≡ s = cc in
-    subst (λ (y : Slot). (fits y.ty y.init ≡ true) × (y.class ≡ class.Constant → ⊥)) same (h.0.init, h.0.variable)
+    subst (λ (y : Slot). (fits y.ty y.init ≡ true) × (y.section ≡ section.Constant → ⊥)) same (h.0.init, h.0.variable)
 fit_at (x ∷ slots) before (suc i) s h e = fit_at slots (before ++ x ∷ []) i s h.1 e
 
 pub held_long : (j : ℕ) (slots : List Slot) → length (held_from j slots) ≡ length slots
 held_long j [] = refl
-held_long j (s ∷ slots) = go (is_input s.class) (held_long (suc j) slots) (held_long j slots)
+held_long j (s ∷ slots) = go (is_input s.section) (held_long (suc j) slots) (held_long j slots)
   where
     go : (a : Bool) → length (held_from (suc j) slots) ≡ length slots → length (held_from j slots) ≡ length slots
         → length (cond a (Some j ∷ held_from (suc j) slots) (None ∷ held_from j slots)) ≡ suc (length slots)
@@ -184,7 +184,7 @@ held_place : (before : List Op) (slots : List Slot) (i : ℕ) (s : Slot) → sli
     → IsPlace s.ty (before ++ input_ops (length before) slots) (get_or (held_from (length before) slots) i None)
 held_place before [] i s e = absurd cc
 held_place before (x ∷ slots) i s e =
-    go (is_input x.class) i e (λ k h. held_place (before ++ op ∷ []) slots k s h) (λ k h. held_place before slots k s h)
+    go (is_input x.section) i e (λ k h. held_place (before ++ op ∷ []) slots k s h) (λ k h. held_place before slots k s h)
   where
     op : Op
     op = entry_op kind.Input x.ty 0 (length before) x.spot
@@ -212,24 +212,24 @@ held_place before (x ∷ slots) i s e =
     go false zero h f g = tt
     go false (suc k) h f g = g k h
 
-held_inputs : (j : ℕ) (slots : List Slot) (i : ℕ) (s : Slot) → slice_get slots i ≡ Some s → IsHeld (is_input s.class) (get_or (held_from j slots) i None)
+held_inputs : (j : ℕ) (slots : List Slot) (i : ℕ) (s : Slot) → slice_get slots i ≡ Some s → IsHeld (is_input s.section) (get_or (held_from j slots) i None)
 held_inputs j [] i s e = absurd cc
 held_inputs j (x ∷ slots) zero s e = let same : x ≡ s = cc in
-    subst (λ (y : Slot). IsHeld (is_input y.class) (get_or (held_from j (x ∷ slots)) 0 None)) same (go (is_input x.class))
+    subst (λ (y : Slot). IsHeld (is_input y.section) (get_or (held_from j (x ∷ slots)) 0 None)) same (go (is_input x.section))
   where
     go : (a : Bool) → IsHeld a (get_or (cond a (Some j ∷ held_from (suc j) slots) (None ∷ held_from j slots)) 0 None)
     go true = tt
     go false = tt
-held_inputs j (x ∷ slots) (suc i) s e = go (is_input x.class) (held_inputs (suc j) slots i s e) (held_inputs j slots i s e)
+held_inputs j (x ∷ slots) (suc i) s e = go (is_input x.section) (held_inputs (suc j) slots i s e) (held_inputs j slots i s e)
   where
-    go : (a : Bool) → IsHeld (is_input s.class) (get_or (held_from (suc j) slots) i None) → IsHeld (is_input s.class) (get_or (held_from j slots) i None) →
-        IsHeld (is_input s.class) (get_or (cond a (Some j ∷ held_from (suc j) slots) (None ∷ held_from j slots)) (suc i) None)
+    go : (a : Bool) → IsHeld (is_input s.section) (get_or (held_from (suc j) slots) i None) → IsHeld (is_input s.section) (get_or (held_from j slots) i None) →
+        IsHeld (is_input s.section) (get_or (cond a (Some j ∷ held_from (suc j) slots) (None ∷ held_from j slots)) (suc i) None)
     go true f g = f
     go false f g = g
 
 unknown_others : (j : ℕ) (slots : List Slot) → unknown (held_from j slots) ≡ others slots
 unknown_others j [] = refl
-unknown_others j (s ∷ slots) = go (is_input s.class) (unknown_others (suc j) slots) (unknown_others j slots)
+unknown_others j (s ∷ slots) = go (is_input s.section) (unknown_others (suc j) slots) (unknown_others j slots)
   where
     go : (a : Bool) → unknown (held_from (suc j) slots) ≡ others slots → unknown (held_from j slots) ≡ others slots
         → unknown (cond a (Some j ∷ held_from (suc j) slots) (None ∷ held_from j slots)) ≡ cond a (others slots) (suc (others slots))
@@ -243,7 +243,7 @@ name_at (m ∷ before) n after = name_at before n after
 columns_from : (before : List (List ℕ)) (slots : List Slot) → map (column (before ++ names_of slots)) (inputs_from (length before) slots) ≡ input_columns slots
 columns_from before [] = refl
 columns_from before (s ∷ slots) =
-    go (is_input s.class)
+    go (is_input s.section)
     (subst (λ m. map (column (before ++ s.name ∷ names_of slots)) (inputs_from m slots) ≡ input_columns slots) more
     (subst (λ l. map (column l) (inputs_from (length (before ++ s.name ∷ [])) slots) ≡ input_columns slots) (append_assoc before (s.name ∷ []) (names_of slots))
     (columns_from (before ++ s.name ∷ []) slots)))
@@ -294,28 +294,28 @@ fold_from f a (s ∷ slots) = let h = fold_from f (a + f s) slots in let g = fol
 pub sum_more : (f : Slot → ℕ) (s : Slot) (slots : List Slot) → sum_by f (s ∷ slots) ≡ f s + sum_by f slots
 sum_more f s slots = let h = fold_from f (0 + f s) slots in omega (arith, h)
 
-class_room : (c : Class) → (c ≡ class.Constant → ⊥) → 1 + last_of c ≤ class_size c
-class_room class.Input v = omega arith
-class_room class.Output v = omega arith
-class_room class.Local v = omega arith
-class_room class.Retain v = omega arith
-class_room class.Constant v = absurd (v refl)
+section_room : (c : Section) → (c ≡ section.Constant → ⊥) → 1 + last_of c ≤ section_size c
+section_room section.Input v = omega arith
+section_room section.Output v = omega arith
+section_room section.Local v = omega arith
+section_room section.Retain v = omega arith
+section_room section.Constant v = absurd (v refl)
 
 room_for : (before slots : List Slot) (j : ℕ) → SlotsFit before slots
-    → (length (input_ops j slots) + unknown (held_from j slots)) + last_size slots ≤ sum_by (λ x. class_size x.class) slots
+    → (length (input_ops j slots) + unknown (held_from j slots)) + last_size slots ≤ sum_by (λ x. section_size x.section) slots
 room_for before [] j fit = omega arith
-room_for before (s ∷ slots) j fit = go (is_input s.class) (room_for (before ++ s ∷ []) slots (suc j) fit.1) (room_for (before ++ s ∷ []) slots j fit.1)
+room_for before (s ∷ slots) j fit = go (is_input s.section) (room_for (before ++ s ∷ []) slots (suc j) fit.1) (room_for (before ++ s ∷ []) slots j fit.1)
   where
-    sums : (sum_by (λ (x : Slot). class_size x.class) (s ∷ slots) ≡ class_size s.class + sum_by (λ (x : Slot). class_size x.class) slots)
-        × (last_size (s ∷ slots) ≡ last_of s.class + last_size slots)
-    sums = (sum_more (λ x. class_size x.class) s slots, sum_more (λ x. last_of x.class) s slots)
+    sums : (sum_by (λ (x : Slot). section_size x.section) (s ∷ slots) ≡ section_size s.section + sum_by (λ (x : Slot). section_size x.section) slots)
+        × (last_size (s ∷ slots) ≡ last_of s.section + last_size slots)
+    sums = (sum_more (λ x. section_size x.section) s slots, sum_more (λ x. last_of x.section) s slots)
 
-    go : (a : Bool) → (length (input_ops (suc j) slots) + unknown (held_from (suc j) slots)) + last_size slots ≤ sum_by (λ x. class_size x.class) slots →
-        (length (input_ops j slots) + unknown (held_from j slots)) + last_size slots ≤ sum_by (λ x. class_size x.class) slots →
+    go : (a : Bool) → (length (input_ops (suc j) slots) + unknown (held_from (suc j) slots)) + last_size slots ≤ sum_by (λ x. section_size x.section) slots →
+        (length (input_ops j slots) + unknown (held_from j slots)) + last_size slots ≤ sum_by (λ x. section_size x.section) slots →
         (length (cond a (entry_op kind.Input s.ty 0 j s.spot ∷ input_ops (suc j) slots) (input_ops j slots)) + unknown
-        (cond a (Some j ∷ held_from (suc j) slots) (None ∷ held_from j slots))) + last_size (s ∷ slots) ≤ sum_by (λ x. class_size x.class) (s ∷ slots)
-    go true f g = let one = class_room s.class fit.0.variable in omega (arith, f, one, sums.0, sums.1)
-    go false f g = let one = class_room s.class fit.0.variable in omega (arith, g, one, sums.0, sums.1)
+        (cond a (Some j ∷ held_from (suc j) slots) (None ∷ held_from j slots))) + last_size (s ∷ slots) ≤ sum_by (λ x. section_size x.section) (s ∷ slots)
+    go true f g = let one = section_room s.section fit.0.variable in omega (arith, f, one, sums.0, sums.1)
+    go false f g = let one = section_room s.section fit.0.variable in omega (arith, g, one, sums.0, sums.1)
 
 -- ---- the run of the INPUTs
 
@@ -335,7 +335,7 @@ run_inputs : (nodes : List TurnNode) (cells vs row : List ℤ) (slots : List Slo
 run_inputs nodes cells vs [] [] fit = ap Ok (sym (append-nil vs))
 run_inputs nodes cells vs (x ∷ row) [] fit = absurd fit
 run_inputs nodes cells vs row (s ∷ slots) fit =
-    go (is_input s.class) row fit (λ r h. run_inputs nodes cells vs r slots h) (λ x r h. run_inputs nodes cells (vs ++ x ∷ []) r slots h)
+    go (is_input s.section) row fit (λ r h. run_inputs nodes cells vs r slots h) (λ x r h. run_inputs nodes cells (vs ++ x ∷ []) r slots h)
   where
     go : (a : Bool) (r : List ℤ) → AreIn (cond a (s.ty ∷ input_types slots) (input_types slots)) r
         → ((q : List ℤ) → AreIn (input_types slots) q → run_from nodes cells (vs ++ q) vs (input_ops (length vs) slots) ≡ Ok (vs ++ q)) →
@@ -355,7 +355,7 @@ run_inputs nodes cells vs row (s ∷ slots) fit =
 
 none_held : (j : ℕ) (slots : List Slot) (i : ℕ) → AreIn (input_types slots) [] → get_or (held_from j slots) i None ≡ None
 none_held j [] i fit = refl
-none_held j (s ∷ slots) i fit = go (is_input s.class) i fit (λ k h. none_held j slots k h)
+none_held j (s ∷ slots) i fit = go (is_input s.section) i fit (λ k h. none_held j slots k h)
   where
     go : (a : Bool) (k : ℕ) → AreIn (cond a (s.ty ∷ input_types slots) (input_types slots)) []
         → ((n : ℕ) → AreIn (input_types slots) [] → get_or (held_from j slots) n None ≡ None) →
@@ -371,7 +371,7 @@ knows_inputs vs row [] (s ∷ slots) i fit len lt = absurd (omega arith)
 knows_inputs vs [] (v ∷ m) (s ∷ slots) i fit len lt =
     subst (λ o. KnowsOne o (vs ++ []) (at (v ∷ m) i) (at (v ∷ m) i)) (sym (none_held (length vs) (s ∷ slots) i fit)) refl
 knows_inputs vs (x ∷ row) (v ∷ m) (s ∷ slots) i fit len lt =
-    go (is_input s.class) i fit lt
+    go (is_input s.section) i fit lt
     (λ k h below. knows_inputs (vs ++ x ∷ []) row m slots k h (omega arith) below)
     (λ k h below. knows_inputs vs (x ∷ row) m slots k h (omega arith) below)
   where
@@ -401,7 +401,7 @@ with_inputs-long [] row (v ∷ m) len = refl
 with_inputs-long (s ∷ slots) row [] len = absurd (omega arith)
 with_inputs-long (s ∷ slots) [] (v ∷ m) len = len
 with_inputs-long (s ∷ slots) (x ∷ row) (v ∷ m) len =
-    go (is_input s.class) (with_inputs-long slots row m (omega arith)) (with_inputs-long slots (x ∷ row) m (omega arith))
+    go (is_input s.section) (with_inputs-long slots row m (omega arith)) (with_inputs-long slots (x ∷ row) m (omega arith))
   where
     go : (a : Bool) → length (with_inputs slots row m) ≡ length slots → length (with_inputs slots (x ∷ row) m) ≡ length slots
         → length (cond a (x ∷ with_inputs slots row m) (v ∷ with_inputs slots (x ∷ row) m)) ≡ suc (length slots)
@@ -430,9 +430,9 @@ begins profile p code checked part = record {
 -- ---- one INPUT more
 
 enter_is : (profile : Profile) (names : List (List ℕ)) (before : List Slot) (s : Slot) →
-    cond (is_input s.class) (with_input (entered profile names before) (length before) s.ty s.spot) (entered profile names before) ≡ entered profile names
+    cond (is_input s.section) (with_input (entered profile names before) (length before) s.ty s.spot) (entered profile names before) ≡ entered profile names
     (before ++ s ∷ [])
-enter_is profile names before s = go (is_input s.class) ∙ ap₂ made (sym (inputs_push 0 before s)) (sym (ops_push 0 before s))
+enter_is profile names before s = go (is_input s.section) ∙ ap₂ made (sym (inputs_push 0 before s)) (sym (ops_push 0 before s))
   where
     made : List Var → List Op → Lists
     made x y = record (nothing profile) { names = names; inputs = x; operations = y }
@@ -454,21 +454,21 @@ enter_is profile names before s = go (is_input s.class) ∙ ap₂ made (sym (inp
 
 pub enter_next : (profile : Profile) (names : List (List ℕ)) (slots : List Slot) (i : ℕ) (s : Slot) (g g' : Lists) → i ≤ length slots
     → take (i + 1) slots ≡ take i slots ++ s ∷ [] → g ≡ entered profile names (take i slots) →
-    g' ≡ cond (is_input s.class) (with_input g i s.ty s.spot) g → g' ≡ entered profile names (take (i + 1) slots)
+    g' ≡ cond (is_input s.section) (with_input g i s.ty s.spot) g → g' ≡ entered profile names (take (i + 1) slots)
 enter_next profile names slots i s g g' le more is new =
     new
-    ∙ ap (λ x. cond (is_input s.class) (with_input x i s.ty s.spot) x) is
-    ∙ ap (λ n. cond (is_input s.class) (with_input (entered profile names (take i slots)) n s.ty s.spot) (entered profile names (take i slots)))
+    ∙ ap (λ x. cond (is_input s.section) (with_input x i s.ty s.spot) x) is
+    ∙ ap (λ n. cond (is_input s.section) (with_input (entered profile names (take i slots)) n s.ty s.spot) (entered profile names (take i slots)))
     (sym (length-take-le i slots le))
     ∙ enter_is profile names (take i slots) s
     ∙ ap (entered profile names) (sym more)
 
 pub known_next : (profile : Profile) (slots : List Slot) (i : ℕ) (s : Slot) (g : Lists) (names : List (List ℕ)) (known known' : List (Option ℕ)) (k : Option ℕ)
     → take (i + 1) slots ≡ take i slots ++ s ∷ [] → g ≡ entered profile names (take i slots) → known ≡ held_from 0 (take i slots) →
-    k ≡ cond (is_input s.class) (Some (length g.operations)) None → known' ≡ known ++ k ∷ [] → known' ≡ held_from 0 (take (i + 1) slots)
+    k ≡ cond (is_input s.section) (Some (length g.operations)) None → known' ≡ known ++ k ∷ [] → known' ≡ held_from 0 (take (i + 1) slots)
 known_next profile slots i s g names known known' k more is held place new =
     let number : length g.operations ≡ 0 + length (input_ops 0 (take i slots)) = let same = ap (λ (x : Lists). length x.operations) is in omega (arith, same) in
     new
-    ∙ ap₂ (λ l q. l ++ q ∷ []) held (place ∙ ap (λ n. cond (is_input s.class) (Some n) None) number)
+    ∙ ap₂ (λ l q. l ++ q ∷ []) held (place ∙ ap (λ n. cond (is_input s.section) (Some n) None) number)
     ∙ sym (held_push 0 (take i slots) s)
     ∙ ap (held_from 0) (sym more)

@@ -24,8 +24,8 @@ use Rattle.op_graph.specs.declared.op.TurnNode.{TurnNode}
 use Rattle.op_graph.specs.Lists.{Lists, turns_back, column, output_column}
 use Rattle.op_graph.specs.Rules.{IsPart, Each, OutputFits, StoreFits}
 use Rattle.op_graph.specs.Building.{entry_op, with_load, with_output, with_store}
-use Rattle.st_tree.specs.declared.program.Class.{Class}
-use Rattle.st_tree.specs.declared.program.Class.TheVariants as class
+use Rattle.st_tree.specs.declared.program.Section.{Section}
+use Rattle.st_tree.specs.declared.program.Section.TheVariants as section
 use Rattle.vcp_typed.specs.declared.slot.Slot.{Slot}
 use Rattle.vcp_typed.specs.Fitting.{output_columns}
 use Rattle.vcp_typed.specs.Meaning.{and_then}
@@ -43,19 +43,19 @@ use Rattle.flat_expr.proofs.Beginning.{sum_more}
 -- ---- how many operations the outputs add
 
 outs_split : (slots : List Slot) (known : List (Option ℕ)) (n : ℕ) (x : Slot) → slice_get slots n ≡ Some x → n < length known
-    → outs_from slots known n ≡ out_size (is_output x.class) (get_or known n None) + outs_from slots known (suc n)
+    → outs_from slots known n ≡ out_size (is_output x.section) (get_or known n None) + outs_from slots known (suc n)
 outs_split [] known n x e lt = absurd cc
 outs_split (s ∷ slots) [] n x e lt = absurd (omega arith)
-outs_split (s ∷ slots) (o ∷ known) zero x e lt = let same : s ≡ x = cc in ap (λ (y : Slot). out_size (is_output y.class) o + outs_from slots known zero) same
+outs_split (s ∷ slots) (o ∷ known) zero x e lt = let same : s ≡ x = cc in ap (λ (y : Slot). out_size (is_output y.section) o + outs_from slots known zero) same
 outs_split (s ∷ slots) (o ∷ known) (suc n) x e lt = outs_split slots known n x e (omega arith)
 
 -- an output's LOAD was two of them, with the STORE
-outs_loaded : (slots : List Slot) (known : List (Option ℕ)) (n k : ℕ) (x : Slot) → slice_get slots n ≡ Some x → n < length known → is_output x.class ≡ true
+outs_loaded : (slots : List Slot) (known : List (Option ℕ)) (n k : ℕ) (x : Slot) → slice_get slots n ≡ Some x → n < length known → is_output x.section ≡ true
     → get_or known n None ≡ None → outs_from slots (set known n (Some k)) n + 2 ≡ outs_from slots known n
 outs_loaded [] known n k x e lt is_one none = absurd cc
 outs_loaded (s ∷ slots) [] n k x e lt is_one none = absurd (omega arith)
 outs_loaded (s ∷ slots) (o ∷ known) zero k x e lt is_one none =
-    let same : s ≡ x = cc in go (is_output s.class) o (outs_from slots known zero) (ap (λ (y : Slot). is_output y.class) same ∙ is_one) none
+    let same : s ≡ x = cc in go (is_output s.section) o (outs_from slots known zero) (ap (λ (y : Slot). is_output y.section) same ∙ is_one) none
   where
     go : (b : Bool) (o : Option ℕ) (r : ℕ) → b ≡ true → o ≡ None → out_size b (Some k) + r + 2 ≡ out_size b o + r
     go true None r h e = omega arith
@@ -71,7 +71,7 @@ outs_over (s ∷ slots) (o ∷ known) = outs_over slots known
 outs_within : (slots : List Slot) (known : List (Option ℕ)) → outs_from slots known 0 ≤ length (output_columns slots) + unknown known + unknown known
 outs_within [] known = omega arith
 outs_within (s ∷ slots) [] = omega arith
-outs_within (s ∷ slots) (o ∷ known) = go (is_output s.class) o (outs_within slots known)
+outs_within (s ∷ slots) (o ∷ known) = go (is_output s.section) o (outs_within slots known)
   where
     go : (b : Bool) (o : Option ℕ) → outs_from slots known 0 ≤ length (output_columns slots) + unknown known + unknown known →
         out_size b o + outs_from slots known 0 ≤ length (cond b ((record { name = s.name; ty = s.ty }) ∷ output_columns slots) (output_columns slots))
@@ -134,11 +134,11 @@ stores_kept loads n before (x ∷ xs) vs ws le kept h =
 -- ---- a slot's column and value
 
 columns_more : (slots : List Slot) (n : ℕ) (x : Slot) → slice_get slots n ≡ Some x →
-    output_columns (take (suc n) slots) ≡ cond (is_output x.class) (output_columns (take n slots) ++ (record { name = x.name; ty = x.ty }) ∷ [])
+    output_columns (take (suc n) slots) ≡ cond (is_output x.section) (output_columns (take n slots) ++ (record { name = x.name; ty = x.ty }) ∷ [])
     (output_columns (take n slots))
 columns_more [] n x e = absurd cc
-columns_more (s ∷ slots) zero x e = let same : s ≡ x = cc in ap (λ (y : Slot). cond (is_output y.class) ((record { name = y.name; ty = y.ty }) ∷ []) []) same
-columns_more (s ∷ slots) (suc n) x e = go (is_output s.class) (is_output x.class) (columns_more slots n x e)
+columns_more (s ∷ slots) zero x e = let same : s ≡ x = cc in ap (λ (y : Slot). cond (is_output y.section) ((record { name = y.name; ty = y.ty }) ∷ []) []) same
+columns_more (s ∷ slots) (suc n) x e = go (is_output s.section) (is_output x.section) (columns_more slots n x e)
   where
     col : Column
     col = record { name = s.name; ty = s.ty }
@@ -156,11 +156,11 @@ columns_more (s ∷ slots) (suc n) x e = go (is_output s.class) (is_output x.cla
     go false false h = h
 
 outputs_more : (slots : List Slot) (now : List ℤ) (n : ℕ) (x : Slot) → slice_get slots n ≡ Some x → length now ≡ length slots →
-    outputs (take (suc n) slots) now ≡ cond (is_output x.class) (outputs (take n slots) now ++ at now n ∷ []) (outputs (take n slots) now)
+    outputs (take (suc n) slots) now ≡ cond (is_output x.section) (outputs (take n slots) now ++ at now n ∷ []) (outputs (take n slots) now)
 outputs_more [] now n x e len = absurd cc
 outputs_more (s ∷ slots) [] n x e len = absurd (omega arith)
-outputs_more (s ∷ slots) (v ∷ now) zero x e len = let same : s ≡ x = cc in ap (λ (y : Slot). cond (is_output y.class) (v ∷ []) []) same
-outputs_more (s ∷ slots) (v ∷ now) (suc n) x e len = go (is_output s.class) (is_output x.class) (outputs_more slots now n x e (omega arith))
+outputs_more (s ∷ slots) (v ∷ now) zero x e len = let same : s ≡ x = cc in ap (λ (y : Slot). cond (is_output y.section) (v ∷ []) []) same
+outputs_more (s ∷ slots) (v ∷ now) (suc n) x e len = go (is_output s.section) (is_output x.section) (outputs_more slots now n x e (omega arith))
   where
     go : (a b : Bool) → outputs (take (suc n) slots) now ≡ cond b (outputs (take n slots) now ++ at now n ∷ []) (outputs (take n slots) now) →
         cond a (v ∷ outputs (take (suc n) slots) now) (outputs (take (suc n) slots) now) ≡ cond b
@@ -179,7 +179,7 @@ all_more n xs h = λ k d lt. let below = h k d lt in omega (arith, below)
 
 -- ---- a slot that is no output
 
-pub closes_skip : (s : State) (n m : ℕ) (g : Lists) (known : List (Option ℕ)) (x : Slot) → slice_get s.slots n ≡ Some x → is_output x.class ≡ false
+pub closes_skip : (s : State) (n m : ℕ) (g : Lists) (known : List (Option ℕ)) (x : Slot) → slice_get s.slots n ≡ Some x → is_output x.section ≡ false
     → Closes s n m g known → Closes s (suc n) m g known
 closes_skip s n m g known x e isnt h = record {
   from = h.from;
@@ -197,7 +197,7 @@ closes_skip s n m g known x e isnt h = record {
   cells = h.cells;
   held = h.held;
   room = h.room;
-  columns = h.columns ∙ sym (columns_more s.slots n x e ∙ by_test (is_output x.class) false _ _ isnt);
+  columns = h.columns ∙ sym (columns_more s.slots n x e ∙ by_test (is_output x.section) false _ _ isnt);
   below = all_more n g.outputs h.below;
   so_far = h.so_far;
   size =
@@ -208,7 +208,7 @@ closes_skip s n m g known x e isnt h = record {
   stops = h.stops;
   gives = λ cells row start now vs r loaded knows.
       let f = h.gives cells row start now vs r loaded knows in
-      (f.0, f.1, f.2, f.3 ∙ sym (outputs_more s.slots now n x e knows.long ∙ by_test (is_output x.class) false _ _ isnt), f.4);
+      (f.0, f.1, f.2, f.3 ∙ sym (outputs_more s.slots now n x e knows.long ∙ by_test (is_output x.section) false _ _ isnt), f.4);
 }
 
 -- ---- a LOAD
@@ -218,7 +218,7 @@ not_then : (o : Option ℕ) → ((k : ℕ) → o ≡ Some k → None ≡ Some k)
 not_then None h = refl
 not_then (Some k) h = let both : None ≡ Some k = h k refl in absurd cc
 
-pub closes_load : (s : State) (n m : ℕ) (g : Lists) (known : List (Option ℕ)) (x : Slot) → slice_get s.slots n ≡ Some x → is_output x.class ≡ true
+pub closes_load : (s : State) (n m : ℕ) (g : Lists) (known : List (Option ℕ)) (x : Slot) → slice_get s.slots n ≡ Some x → is_output x.section ≡ true
     → get_or known n None ≡ None → IsPart (with_load g n x.ty x.init x.spot) → Closes s n m g known →
     Closes s n m (with_load g n x.ty x.init x.spot) (set known n (Some (length g.operations)))
 closes_load s n m g known x e is_one none part h = record {
@@ -252,10 +252,10 @@ closes_load s n m g known x e is_one none part h = record {
       (cases_eq j n);
   ins = λ j y ej. ⊎_elim
       (λ (same : j ≡ n).
-      subst (IsHeld (is_input y.class))
+      subst (IsHeld (is_input y.section))
       (sym (ap (λ m. get_or (set known n (Some (length g.operations))) m None) same ∙ get_or-set_same known n (Some (length g.operations)) None lt))
-      (some_held (is_input y.class) (length g.operations)))
-      (λ (other : j ≢ n). subst (IsHeld (is_input y.class)) (sym (get_or-set_other known n j (Some (length g.operations)) None other)) (h.ins j y ej))
+      (some_held (is_input y.section) (length g.operations)))
+      (λ (other : j ≢ n). subst (IsHeld (is_input y.section)) (sym (get_or-set_other known n j (Some (length g.operations)) None other)) (h.ins j y ej))
       (cases_eq j n);
   cells = λ j l q. ⊎_elim
       (λ (last : j ≡ length g.loads).
@@ -263,7 +263,7 @@ closes_load s n m g known x e is_one none part h = record {
       (record {
         of = x;
         there = e;
-        variable = not_held (is_input x.class) (subst (IsHeld (is_input x.class)) none (h.ins n x e));
+        variable = not_held (is_input x.section) (subst (IsHeld (is_input x.section)) none (h.ins n x e));
         ty = refl;
         init =
             refl;
@@ -368,7 +368,7 @@ name_of_slot [] n x e = absurd cc
 name_of_slot (s ∷ slots) zero x e = let same : s ≡ x = cc in ap (λ (y : Slot). y.name) same
 name_of_slot (s ∷ slots) (suc n) x e = name_of_slot slots n x e
 
-pub closes_out : (s : State) (n m k : ℕ) (g : Lists) (known : List (Option ℕ)) (x : Slot) → slice_get s.slots n ≡ Some x → is_output x.class ≡ true
+pub closes_out : (s : State) (n m k : ℕ) (g : Lists) (known : List (Option ℕ)) (x : Slot) → slice_get s.slots n ≡ Some x → is_output x.section ≡ true
     → get_or known n None ≡ Some k → IsPart (with_output g n x.ty k x.spot) → Closes s n m g known →
     Closes s (suc n) m (with_output g n x.ty k x.spot) known
 closes_out s n m k g known x e is_one place part h = record {
@@ -390,7 +390,7 @@ closes_out s n m k g known x e is_one place part h = record {
   columns = map-append (output_column g.names) g.outputs (out ∷ [])
       ∙ ap₂ (λ l (c : List ℕ). l ++ (let one : Column = record { name = c; ty = x.ty } in one) ∷ []) h.columns
       (ap (λ l. slice_index_or l n []) (h.names ∙ h.from.names) ∙ name_of_slot s.slots n x e)
-      ∙ sym (columns_more s.slots n x e ∙ by_test (is_output x.class) true _ _ is_one);
+      ∙ sym (columns_more s.slots n x e ∙ by_test (is_output x.section) true _ _ is_one);
   below = All-push (λ (o : Outlet). o.name < suc n) g.outputs out (all_more n g.outputs h.below) (omega arith);
   so_far = h.so_far;
   size =
@@ -418,7 +418,7 @@ closes_out s n m k g known x e is_one place part h = record {
         map-append (λ (o : Outlet). at us o.op) g.outputs (out ∷ [])
             ∙ ap₂ (λ l z. l ++ z ∷ [])
             (outs_kept (length g.names) (length g.operations) [] g.outputs ws us (omega (arith, len)) (at-front ws v) h.part.outputs ∙ f.3) (last ∙ is)
-            ∙ sym (outputs_more s.slots now n x e knows.long ∙ by_test (is_output x.class) true _ _ is_one),
+            ∙ sym (outputs_more s.slots now n x e knows.long ∙ by_test (is_output x.section) true _ _ is_one),
         stores_kept g.loads (length g.operations) [] g.stores ws us (omega (arith, len)) (at-front ws v) h.part.stores ∙ f.4,
       );
 }
@@ -510,21 +510,21 @@ closes_store s n m k g known l spot e place part h = record {
 
 -- ---- how many OUTs and STOREs there are at most
 
-class_last : (c : Class) → (c ≡ class.Constant → ⊥) → cond (is_output c) 1 0 + cond (is_input c) 0 1 ≤ last_of c
-class_last class.Input v = omega arith
-class_last class.Output v = omega arith
-class_last class.Local v = omega arith
-class_last class.Retain v = omega arith
-class_last class.Constant v = absurd (v refl)
+section_last : (c : Section) → (c ≡ section.Constant → ⊥) → cond (is_output c) 1 0 + cond (is_input c) 0 1 ≤ last_of c
+section_last section.Input v = omega arith
+section_last section.Output v = omega arith
+section_last section.Local v = omega arith
+section_last section.Retain v = omega arith
+section_last section.Constant v = absurd (v refl)
 
-last_room : (slots : List Slot) → ((i : ℕ) (x : Slot) → slice_get slots i ≡ Some x → x.class ≡ class.Constant → ⊥)
+last_room : (slots : List Slot) → ((i : ℕ) (x : Slot) → slice_get slots i ≡ Some x → x.section ≡ section.Constant → ⊥)
     → length (output_columns slots) + others slots ≤ last_size slots
 last_room [] v = omega arith
 last_room (s ∷ slots) v =
     let rest = last_room slots (λ i x e. v (suc i) x e) in
-    let one = class_last s.class (v 0 s refl) in
-    let sum : last_size (s ∷ slots) ≡ last_of s.class + last_size slots = sum_more (λ (x : Slot). last_of x.class) s slots in
-    go (is_output s.class) (is_input s.class) (last_of s.class) (last_size slots) (last_size (s ∷ slots)) rest one sum
+    let one = section_last s.section (v 0 s refl) in
+    let sum : last_size (s ∷ slots) ≡ last_of s.section + last_size slots = sum_more (λ (x : Slot). last_of x.section) s slots in
+    go (is_output s.section) (is_input s.section) (last_of s.section) (last_size slots) (last_size (s ∷ slots)) rest one sum
   where
     go : (a b : Bool) (t u w : ℕ) → length (output_columns slots) + others slots ≤ u → cond a 1 0 + cond b 0 1 ≤ t → w ≡ t + u →
         length (cond a ((record { name = s.name; ty = s.ty }) ∷ output_columns slots) (output_columns slots)) + cond b (others slots) (suc (others slots)) ≤ w
@@ -539,14 +539,14 @@ whole_room s i = let room = last_room s.slots i.variables in let outs = outs_wit
 
 -- a LOAD is refused only where the whole graph has no room
 pub load_room : (s : State) (n m : ℕ) (g : Lists) (known : List (Option ℕ)) (x : Slot) (most : ℕ) → Closes s n m g known → slice_get s.slots n ≡ Some x
-    → is_output x.class ≡ true → get_or known n None ≡ None → length g.operations ≡ most → most < whole_size s
+    → is_output x.section ≡ true → get_or known n None ≡ None → length g.operations ≡ most → most < whole_size s
 load_room s n m g known x most h e is_one none all =
     let lt : n < length known = let inside = slice_get_within s.slots n x e in omega (arith, inside, h.long) in
     omega (arith, h.size, h.part.stored, outs_loaded s.slots known n 0 x e lt is_one none, all)
 
 -- an OUT
 pub out_room : (s : State) (n m : ℕ) (g : Lists) (known : List (Option ℕ)) (k : ℕ) (x : Slot) (most : ℕ) → Closes s n m g known → slice_get s.slots n ≡ Some x
-    → is_output x.class ≡ true → get_or known n None ≡ Some k → length g.operations ≡ most → most < whole_size s
+    → is_output x.section ≡ true → get_or known n None ≡ Some k → length g.operations ≡ most → most < whole_size s
 out_room s n m g known k x most h e is_one place all =
     let lt : n < length known = let inside = slice_get_within s.slots n x e in omega (arith, inside, h.long) in
     let one = ap₂ (λ b o. out_size b o) is_one place in

@@ -34,11 +34,11 @@ unknown_set (Some j ∷ known) (suc slot) k lt e = unknown_set known slot k (ome
 
 pub others_fewer : (slots : List Slot) → others slots ≤ length slots
 others_fewer [] = omega arith
-others_fewer (s ∷ slots) = let h = others_fewer slots in by_class (is_input s.class) (others slots) (length slots) h
+others_fewer (s ∷ slots) = let h = others_fewer slots in by_section (is_input s.section) (others slots) (length slots) h
   where
-    by_class : (b : Bool) (n m : ℕ) → n ≤ m → cond b n (suc n) ≤ suc m
-    by_class true n m le = omega arith
-    by_class false n m le = omega arith
+    by_section : (b : Bool) (n m : ℕ) → n ≤ m → cond b n (suc n) ≤ suc m
+    by_section true n m le = omega arith
+    by_section false n m le = omega arith
 
 pub not_same : (a b : ℕ) → (a == b) ≡ false → b ≢ a
 not_same a b h = grind (arith, nat_tests)
@@ -104,11 +104,11 @@ load_state s slot x i e none part = record {
   variables = i.variables;
   inputs = λ j y ej. ⊎_elim
       (λ (same : j ≡ slot).
-      subst (IsHeld (is_input y.class))
+      subst (IsHeld (is_input y.section))
       (sym (ap (λ n. get_or (set s.known slot (Some (length s.graph.operations))) n None) same
       ∙ get_or-set_same s.known slot (Some (length s.graph.operations)) None lt))
-      (some_held (is_input y.class) (length s.graph.operations)))
-      (λ (other : j ≢ slot). subst (IsHeld (is_input y.class)) (sym (get_or-set_other s.known slot j (Some (length s.graph.operations)) None other))
+      (some_held (is_input y.section) (length s.graph.operations)))
+      (λ (other : j ≢ slot). subst (IsHeld (is_input y.section)) (sym (get_or-set_other s.known slot j (Some (length s.graph.operations)) None other))
       (i.inputs j y ej))
       (cases_eq j slot);
   columns = i.columns;
@@ -120,7 +120,7 @@ load_state s slot x i e none part = record {
       (record {
         of = x;
         there = e;
-        variable = not_held (is_input x.class) (subst (IsHeld (is_input x.class)) none (i.inputs slot x e));
+        variable = not_held (is_input x.section) (subst (IsHeld (is_input x.section)) none (i.inputs slot x e));
         ty = refl;
         init =
             refl;
@@ -270,10 +270,10 @@ set_state s slot k i lt fit = record {
   variables = i.variables;
   inputs = λ j y ej. ⊎_elim
       (λ (same : j ≡ slot).
-      subst (IsHeld (is_input y.class))
+      subst (IsHeld (is_input y.section))
       (sym (ap (λ n. get_or (set s.known slot (Some k)) n None) same ∙ get_or-set_same s.known slot (Some k) None (omega (arith, lt, i.long))))
-      (some_held (is_input y.class) k))
-      (λ (other : j ≢ slot). subst (IsHeld (is_input y.class)) (sym (get_or-set_other s.known slot j (Some k) None other)) (i.inputs j y ej))
+      (some_held (is_input y.section) k))
+      (λ (other : j ≢ slot). subst (IsHeld (is_input y.section)) (sym (get_or-set_other s.known slot j (Some k) None other)) (i.inputs j y ej))
       (cases_eq j slot);
   columns = i.columns;
   loads = i.loads;

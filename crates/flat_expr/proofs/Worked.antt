@@ -6,8 +6,8 @@ use Rattle.vcp_base.specs.declared.ty.Ty.TheVariants as ty
 use Rattle.vcp_base.specs.declared.kind.Kind.TheVariants as kind
 use Rattle.vcp_base.specs.declared.kind.StopKind.TheVariants as why
 use Rattle.op_graph.specs.Lists.{Lists}
-use Rattle.st_tree.specs.declared.program.Class.{Class}
-use Rattle.st_tree.specs.declared.program.Class.TheVariants as class
+use Rattle.st_tree.specs.declared.program.Section.{Section}
+use Rattle.st_tree.specs.declared.program.Section.TheVariants as section
 use Rattle.st_tree.specs.declared.expr.BinOp.TheVariants as bin
 use Rattle.vcp_typed.specs.declared.slot.Slot.{Slot}
 use Rattle.vcp_typed.specs.TExprTree.{literal, get, binary}
@@ -21,13 +21,13 @@ use Rattle.flat_expr.specs.Told.{told_source, told_graph}
 place : Spot
 place = record { line = 4; col = 9 }
 
-slot : List ℕ → Class → Slot
-slot name c = record { name = name; spot = record { line = 0; col = 0 }; class = c; ty = ty.Int; init = pos 8 }
+slot : List ℕ → Section → Slot
+slot name c = record { name = name; spot = record { line = 0; col = 0 }; section = c; ty = ty.Int; init = pos 8 }
 
 -- FOR i := 3 TO 3 DO y := x / x; END_FOR;
 program : Program
 program = record {
-  slots = slot (120 ∷ []) class.Input ∷ slot (121 ∷ []) class.Output ∷ slot (105 ∷ []) class.Local ∷ [];
+  slots = slot (120 ∷ []) section.Input ∷ slot (121 ∷ []) section.Output ∷ slot (105 ∷ []) section.Local ∷ [];
   body = and_tstmt
       (for_ 2 (pos 3) (pos 1) 1 (and_tstmt (assign 1 (binary bin.Div ty.Int (get 0 ty.Int) (get 0 ty.Int) place) place) no_tstmts) place) no_tstmts;
 }
@@ -70,13 +70,13 @@ last-three = refl
 
 -- ---- the same of LINT, in the wide code
 
-lint_slot : List ℕ → Class → Slot
-lint_slot name c = record { name = name; spot = record { line = 0; col = 0 }; class = c; ty = ty.Lint; init = pos 0 }
+lint_slot : List ℕ → Section → Slot
+lint_slot name c = record { name = name; spot = record { line = 0; col = 0 }; section = c; ty = ty.Lint; init = pos 0 }
 
 -- y := x + 1;
 lint_program : Program
 lint_program = record {
-  slots = lint_slot (120 ∷ []) class.Input ∷ lint_slot (121 ∷ []) class.Output ∷ [];
+  slots = lint_slot (120 ∷ []) section.Input ∷ lint_slot (121 ∷ []) section.Output ∷ [];
   body = and_tstmt (assign 1 (binary bin.Add ty.Lint (get 0 ty.Lint) (literal ty.Lint (pos 1) place) place) place) no_tstmts;
 }
 

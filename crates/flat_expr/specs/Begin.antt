@@ -11,7 +11,7 @@ use Rattle.vcp_base.specs.Code.{is_wide}
 use Rattle.vcp_base.specs.Types.{AreIn}
 use Rattle.vcp_typed.specs.SourceRun.{Program, is_input, with_inputs}
 use Rattle.vcp_typed.specs.Fitting.{input_types}
-use Rattle.vcp_typed.specs.Size.{class_size}
+use Rattle.vcp_typed.specs.Size.{section_size}
 use Rattle.vcp_typed.specs.Wide.{wide}
 use Rattle.flat_expr.specs.Told.{names_of}
 use Rattle.flat_expr.specs.State.{State, IsState, Knows, reserved, last_size, run}
@@ -19,17 +19,17 @@ use Rattle.flat_expr.specs.State.{State, IsState, Knows, reserved, last_size, ru
 -- the inputs among slots that are numbered from n
 abbrev pub inputs_from : ℕ → List Slot → List Var
 inputs_from n [] = []
-inputs_from n (s ∷ slots) = cond (is_input s.class) (record { name = n; ty = s.ty } ∷ inputs_from (suc n) slots) (inputs_from (suc n) slots)
+inputs_from n (s ∷ slots) = cond (is_input s.section) (record { name = n; ty = s.ty } ∷ inputs_from (suc n) slots) (inputs_from (suc n) slots)
 
 -- their INPUTs, which are numbered from j
 abbrev pub input_ops : ℕ → List Slot → List Op
 input_ops j [] = []
-input_ops j (s ∷ slots) = cond (is_input s.class) (entry_op kind.Input s.ty 0 j s.spot ∷ input_ops (suc j) slots) (input_ops j slots)
+input_ops j (s ∷ slots) = cond (is_input s.section) (entry_op kind.Input s.ty 0 j s.spot ∷ input_ops (suc j) slots) (input_ops j slots)
 
 -- the operation of each slot: that of an input, and else none
 abbrev pub held_from : ℕ → List Slot → List (Option ℕ)
 held_from j [] = []
-held_from j (s ∷ slots) = cond (is_input s.class) (Some j ∷ held_from (suc j) slots) (None ∷ held_from j slots)
+held_from j (s ∷ slots) = cond (is_input s.section) (Some j ∷ held_from (suc j) slots) (None ∷ held_from j slots)
 
 -- the lists in the code, with the names and the inputs of these slots
 abbrev pub entered : Profile → List (List ℕ) → List Slot → Lists
@@ -49,6 +49,6 @@ pub record Begins (s : State) (p : Program) : Type 0 where
   pub turn : s.turn ≡ 0
   pub nodes : s.graph.turn_nodes ≡ []
   pub loads : s.graph.loads ≡ []
-  pub count : reserved s + last_size p.slots ≤ 2 + sum_by (λ x. class_size x.class) p.slots
+  pub count : reserved s + last_size p.slots ≤ 2 + sum_by (λ x. section_size x.section) p.slots
   pub gives : (cells row m : List ℤ) → AreIn (input_types p.slots) row → length m ≡ length p.slots →
       (ws : List ℤ) × (run s.graph cells row ≡ Ok ws) × Knows s (with_inputs p.slots row m) (with_inputs p.slots row m) ws

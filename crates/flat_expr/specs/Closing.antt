@@ -47,7 +47,7 @@ pub record Closes (s : State) (n m : ℕ) (g : Lists) (known : List (Option ℕ)
   pub kept : (slot k : ℕ) → get_or s.known slot None ≡ Some k → get_or known slot None ≡ Some k
   pub long : length known ≡ length s.slots
   pub places : (slot : ℕ) (x : Slot) → slice_get s.slots slot ≡ Some x → IsPlace x.ty g.operations (get_or known slot None)
-  pub ins : (slot : ℕ) (x : Slot) → slice_get s.slots slot ≡ Some x → IsHeld (is_input x.class) (get_or known slot None)
+  pub ins : (slot : ℕ) (x : Slot) → slice_get s.slots slot ≡ Some x → IsHeld (is_input x.section) (get_or known slot None)
   pub cells : (j : ℕ) (l : Loaded) → slice_get g.loads j ≡ Some l → IsCell s.slots l
   pub held : (j : ℕ) (l : Loaded) → slice_get g.loads j ≡ Some l → IsHeld true (get_or known l.name None)
   pub room : length g.loads + unknown known ≤ others s.slots

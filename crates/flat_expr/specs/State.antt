@@ -38,8 +38,8 @@ use Rattle.vcp_typed.specs.Rules.{conversion}
 use Rattle.vcp_typed.specs.Size.{expr_size}
 use Rattle.vcp_typed.specs.SourceRun.{is_input, is_output, outputs}
 use Rattle.vcp_typed.specs.Fitting.{input_columns, output_columns}
-use Rattle.st_tree.specs.declared.program.Class.{Class}
-use Rattle.st_tree.specs.declared.program.Class.TheVariants as class
+use Rattle.st_tree.specs.declared.program.Section.{Section}
+use Rattle.st_tree.specs.declared.program.Section.TheVariants as section
 use Rattle.flat_expr.specs.Told.{names_of}
 use Rattle.flat_expr.specs.ReadSlots.{reads_slot}
 
@@ -97,28 +97,28 @@ reserved s = length s.graph.operations + unknown s.known + missing s.nought + mi
 -- how many slots are no inputs
 abbrev pub others : List Slot → ℕ
 others [] = 0
-others (s ∷ slots) = cond (is_input s.class) (others slots) (suc (others slots))
+others (s ∷ slots) = cond (is_input s.section) (others slots) (suc (others slots))
 
 -- how many operations the end of a cycle adds at most to a program's: the OUT and the STORE of each variable
-abbrev pub last_of : Class → ℕ
-last_of class.Input = 0
-last_of class.Output = 2
-last_of class.Local = 1
-last_of class.Retain = 1
-last_of class.Constant = 0
+abbrev pub last_of : Section → ℕ
+last_of section.Input = 0
+last_of section.Output = 2
+last_of section.Local = 1
+last_of section.Retain = 1
+last_of section.Constant = 0
 
 abbrev pub last_size : List Slot → ℕ
-last_size slots = sum_by (λ s. last_of s.class) slots
+last_size slots = sum_by (λ s. last_of s.section) slots
 
 -- a cell is of a slot that is no input, with its type and its initial value
 pub record IsCell (slots : List Slot) (l : Loaded) : Type 0 where
   pub of : Slot
   pub there : slice_get slots l.name ≡ Some of
-  pub variable : is_input of.class ≡ false
+  pub variable : is_input of.section ≡ false
   pub ty : l.ty ≡ of.ty
   pub init : l.init ≡ of.init
 
--- a slot is held by an operation, where its class is that of inputs
+-- a slot is held by an operation, where its section is that of inputs
 abbrev pub IsHeld : Bool → Option ℕ → Type 0
 IsHeld false o = ⊤
 IsHeld true None = ⊥
@@ -141,10 +141,10 @@ pub record IsState (s : State) : Type 0 where
   pub names : s.graph.names ≡ names_of s.slots
   pub few : length s.slots ≤ most_names
   pub inits : (slot : ℕ) (x : Slot) → slice_get s.slots slot ≡ Some x → fits x.ty x.init ≡ true
-  pub variables : (slot : ℕ) (x : Slot) → slice_get s.slots slot ≡ Some x → x.class ≡ class.Constant → ⊥
+  pub variables : (slot : ℕ) (x : Slot) → slice_get s.slots slot ≡ Some x → x.section ≡ section.Constant → ⊥
   pub long : length s.known ≡ length s.slots
   pub known : (slot : ℕ) (x : Slot) → slice_get s.slots slot ≡ Some x → IsPlace x.ty s.graph.operations (get_or s.known slot None)
-  pub inputs : (slot : ℕ) (x : Slot) → slice_get s.slots slot ≡ Some x → IsHeld (is_input x.class) (get_or s.known slot None)
+  pub inputs : (slot : ℕ) (x : Slot) → slice_get s.slots slot ≡ Some x → IsHeld (is_input x.section) (get_or s.known slot None)
   pub columns : map (column s.graph.names) s.graph.inputs ≡ input_columns s.slots
   pub loads : (j : ℕ) (l : Loaded) → slice_get s.graph.loads j ≡ Some l → IsCell s.slots l
   pub held : (j : ℕ) (l : Loaded) → slice_get s.graph.loads j ≡ Some l → IsHeld true (get_or s.known l.name None)
@@ -495,7 +495,7 @@ out_size true None = 3
 abbrev pub outs_from : List Slot → List (Option ℕ) → ℕ → ℕ
 outs_from [] known n = 0
 outs_from (s ∷ slots) [] n = 0
-outs_from (s ∷ slots) (o ∷ known) zero = out_size (is_output s.class) o + outs_from slots known zero
+outs_from (s ∷ slots) (o ∷ known) zero = out_size (is_output s.section) o + outs_from slots known zero
 outs_from (s ∷ slots) (o ∷ known) (suc n) = outs_from slots known n
 
 -- how many operations the whole graph has: those that are there, those of the outputs, and the STORE of each cell that is there
@@ -504,7 +504,7 @@ whole_size s = length s.graph.operations + outs_from s.slots s.known 0 + length 
 
 -- a cell of an output that no operation held
 abbrev pub IsNeeded : State → Loaded → Type 0
-IsNeeded s l = (x : Slot) × (slice_get s.slots l.name ≡ Some x) × (is_output x.class ≡ true) × (get_or s.known l.name None ≡ None)
+IsNeeded s l = (x : Slot) × (slice_get s.slots l.name ≡ Some x) × (is_output x.section ≡ true) × (get_or s.known l.name None ≡ None)
 
 -- The whole graph: the outputs and the next values of the cells. Nothing that was there changes; the cells that are new are of outputs that no
 -- operation held.

@@ -6,7 +6,7 @@ ghost use Rattle.flat_expr.specs.Closing.{Closes, Holds, IsOver, IsSlot, NoRoom}
 ghost use Rattle.flat_expr.specs.State.{State};
 
 use op_graph::{Build, GraphBuilder};
-use st_tree::Class;
+use st_tree::Section;
 use vcp_typed::{Slot, Slots};
 
 /// Adds the OUTs in order of declaration, each with the LOAD of its output where no operation holds
@@ -40,7 +40,7 @@ fn close_output(
     ensures refuses { (s : State) → Closes s slot 0 graph.old known.old.items → IsOver s slots.now → IfErr result (NoRoom s) }
 {
     let variable = slots.at(slot as usize);
-    if !is_output(variable.class) {
+    if !is_output(variable.section) {
         return Ok(());
     }
     let k = held(graph, known, slot, variable)?;
@@ -49,13 +49,13 @@ fn close_output(
     Ok(())
 }
 
-/// Whether a variable of the class is an output.
-fn is_output(class: Class) -> bool
-    ensures { result ≡ is_output_of class }
+/// Whether a variable of the section is an output.
+fn is_output(section: Section) -> bool
+    ensures { result ≡ is_output_of section }
 {
-    match class {
-        Class::Output => true,
-        Class::Input | Class::Local | Class::Retain | Class::Constant => false,
+    match section {
+        Section::Output => true,
+        Section::Input | Section::Local | Section::Retain | Section::Constant => false,
     }
 }
 
@@ -66,7 +66,7 @@ fn held(
     slot: u32,
     variable: &Slot,
 ) -> Result<u32, Build>
-    requires output { is_output_of variable.now.class ≡ true }
+    requires output { is_output_of variable.now.section ≡ true }
     requires slot { (s : State) × Closes s slot 0 graph.old known.old.items × IsSlot s slot variable.now }
     ensures made { (s : State) → Closes s slot 0 graph.old known.old.items → IsSlot s slot variable.now → IfOk result (Holds s graph.new known.new.items slot) }
     ensures refuses { (s : State) → Closes s slot 0 graph.old known.old.items → IsSlot s slot variable.now → IfErr result (NoRoom s) }

@@ -31,7 +31,7 @@ ghost use Rattle.vcp_typed.specs.Size.{operator_size, function_size, expr_size};
 
 use crate::ending::{close_cells, close_outputs};
 use op_graph::{Build, Graph, GraphBuilder, Op, TurnNode, entries_keep_their_rules};
-use st_tree::{BinOp, Class, UnOp};
+use st_tree::{BinOp, Section, UnOp};
 use std::alloc::Global;
 use std::marker::Model;
 use vcp_base::{Kind, Memory, Profile, Spot, Ty, is_bool, within};
@@ -119,12 +119,12 @@ fn enter(graph: &mut GraphBuilder, name: u32, slot: &Slot) -> Result<Option<u32>
     requires name { name < length graph.old.names }
     requires rises { All (λ v. v.name < name) graph.old.inputs }
     requires code { admits graph.old.profile slot.now.ty ≡ true }
-    ensures place { IfOk result (λ k. k ≡ cond (is_input slot.now.class) (Some (length graph.old.operations)) None) }
-    ensures graph { OnOk result (graph.new ≡ cond (is_input slot.now.class) (with_input graph.old name slot.now.ty slot.now.spot) graph.old) }
+    ensures place { IfOk result (λ k. k ≡ cond (is_input slot.now.section) (Some (length graph.old.operations)) None) }
+    ensures graph { OnOk result (graph.new ≡ cond (is_input slot.now.section) (with_input graph.old name slot.now.ty slot.now.spot) graph.old) }
 {
-    match slot.class {
-        Class::Input => Ok(Some(graph.input(name, slot.ty, slot.spot)?)),
-        Class::Output | Class::Local | Class::Retain | Class::Constant => Ok(None),
+    match slot.section {
+        Section::Input => Ok(Some(graph.input(name, slot.ty, slot.spot)?)),
+        Section::Output | Section::Local | Section::Retain | Section::Constant => Ok(None),
     }
 }
 

@@ -101,16 +101,16 @@ fit_long (s ∷ slots) [] h = absurd h
 fit_long (s ∷ slots) (v ∷ m) h = ap suc (fit_long slots m h.1)
 
 -- a slot that is no input keeps its value at the begin of a cycle
-kept_at : (slots : List Slot) (row m : List ℤ) (i : ℕ) (x : Slot) → length m ≡ length slots → slice_get slots i ≡ Some x → is_input x.class ≡ false
+kept_at : (slots : List Slot) (row m : List ℤ) (i : ℕ) (x : Slot) → length m ≡ length slots → slice_get slots i ≡ Some x → is_input x.section ≡ false
     → at (with_inputs slots row m) i ≡ at m i
 kept_at [] row m i x long e none = absurd cc
 kept_at (s ∷ slots) row [] i x long e none = absurd (omega (arith, long))
 kept_at (s ∷ slots) [] (v ∷ m) i x long e none = refl
 kept_at (s ∷ slots) (r ∷ row) (v ∷ m) zero x long e none =
     let is : s ≡ x = cc in
-    ap (λ b. at (cond b (r ∷ with_inputs slots row m) (v ∷ with_inputs slots (r ∷ row) m)) zero) (ap (λ (y : Slot). is_input y.class) is ∙ none)
+    ap (λ b. at (cond b (r ∷ with_inputs slots row m) (v ∷ with_inputs slots (r ∷ row) m)) zero) (ap (λ (y : Slot). is_input y.section) is ∙ none)
 kept_at (s ∷ slots) (r ∷ row) (v ∷ m) (suc i) x long e none =
-    either (is_input s.class) (r ∷ with_inputs slots row m) (v ∷ with_inputs slots (r ∷ row) m) i (at m i)
+    either (is_input s.section) (r ∷ with_inputs slots row m) (v ∷ with_inputs slots (r ∷ row) m) i (at m i)
     (kept_at slots row m i x (omega (arith, long)) e none) (kept_at slots (r ∷ row) m i x (omega (arith, long)) e none)
   where
     either : (b : Bool) (xs ys : List ℤ) (i : ℕ) (y : ℤ) → at xs (suc i) ≡ y → at ys (suc i) ≡ y → at (cond b xs ys) (suc i) ≡ y

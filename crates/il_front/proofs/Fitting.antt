@@ -78,7 +78,7 @@ types_fit t (action.Combine op negated o) =
 
 -- the variable is the slot j of these, of which the first has the number k
 abbrev FoundIn : ℕ → List Slot → Variable → Type 0
-FoundIn k slots x = (j : ℕ) × (s : Slot) × (x.slot ≡ k + j) × (slice_get slots j ≡ Some s) × (s.ty ≡ x.ty) × (s.class ≡ x.class)
+FoundIn k slots x = (j : ℕ) × (s : Slot) × (x.slot ≡ k + j) × (slice_get slots j ≡ Some s) × (s.ty ≡ x.ty) × (s.section ≡ x.section)
 
 either_found : (P : Variable → Type 0) (b : Bool) (o p : Option Variable) → IfSome o P → IfSome p P → IfSome (cond b o p) P
 either_found P true o p h k = h
@@ -95,7 +95,7 @@ later_found k s slots (Some x) h =
 found : (slots : List Slot) (k : ℕ) (n : List ℕ) → IfSome (variable_from k slots n) (FoundIn k slots)
 found [] k n = tt
 found (s ∷ slots) k n =
-    let x : Variable = record { slot = k; class = s.class; ty = s.ty } in
+    let x : Variable = record { slot = k; section = s.section; ty = s.ty } in
     either_found (FoundIn k (s ∷ slots)) (is_same_name s.name n) (Some x) (variable_from (suc k) slots n)
     (0, s, (let e : k ≡ k + 0 = omega arith in e), refl, refl, refl)
     (later_found k s slots (variable_from (suc k) slots n) (found slots (suc k) n))

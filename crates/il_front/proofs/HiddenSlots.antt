@@ -3,7 +3,7 @@ use Rattle.std.proofs.Common.{◌≡◌, ℕ, suc, ◌+◌, ◌<◌, ℤ, Bool, 
 use Rattle.vcp_base.specs.declared.ty.Ty.{Ty}
 use Rattle.vcp_base.specs.declared.ty.Ty.TheVariants as ty
 use Rattle.vcp_base.specs.Types.{same_type}
-use Rattle.st_tree.specs.declared.program.Class.TheVariants as class
+use Rattle.st_tree.specs.declared.program.Section.TheVariants as section
 use Rattle.vcp_typed.specs.declared.slot.Slot.{Slot}
 use Rattle.vcp_typed.specs.SourceRun.{is_input, is_output, with_inputs, outputs}
 use Rattle.il_front.specs.TypedForm.{hidden_slot, hidden_slots, used_before, all_types}
@@ -69,14 +69,14 @@ place_among used t (v ∷ us) u e =
 pub place-below : (used : Ty → Bool) (t : Ty) → used t ≡ true → used_before used t all_types < length (hidden_slots used all_types)
 place-below used t u = place_among used t all_types u (all_among t)
 
--- ---- classes
+-- ---- sections
 
 -- the variables are neither inputs nor outputs
 abbrev pub AreLocal : List Slot → Type 0
 AreLocal [] = Unit {0}
-AreLocal (s ∷ ss) = (s.class ≡ class.Local) × AreLocal ss
+AreLocal (s ∷ ss) = (s.section ≡ section.Local) × AreLocal ss
 
-one_local : (b : Bool) (s : Slot) (ss : List Slot) → s.class ≡ class.Local → AreLocal ss → AreLocal (cond b (s ∷ ss) ss)
+one_local : (b : Bool) (s : Slot) (ss : List Slot) → s.section ≡ section.Local → AreLocal ss → AreLocal (cond b (s ∷ ss) ss)
 one_local true s ss e h = (e, h)
 one_local false s ss e h = h
 
@@ -84,10 +84,10 @@ pub hidden-local : (used : Ty → Bool) (us : List Ty) → AreLocal (hidden_slot
 hidden-local used [] = tt
 hidden-local used (u ∷ us) = one_local (used u) (hidden_slot u) (hidden_slots used us) refl (hidden-local used us)
 
-no_input : (s : Slot) → s.class ≡ class.Local → is_input s.class ≡ false
+no_input : (s : Slot) → s.section ≡ section.Local → is_input s.section ≡ false
 no_input s e = ap is_input e
 
-no_output : (s : Slot) → s.class ≡ class.Local → is_output s.class ≡ false
+no_output : (s : Slot) → s.section ≡ section.Local → is_output s.section ≡ false
 no_output s e = ap is_output e
 
 -- ---- inputs
@@ -103,7 +103,7 @@ hidden_keep [] row (v ∷ h) l e = absurd (omega (arith, e))
 hidden_keep (s ∷ hid) row [] l e = absurd (omega (arith, e))
 hidden_keep (s ∷ hid) [] (v ∷ h) l e = refl
 hidden_keep (s ∷ hid) (x ∷ row) (v ∷ h) l e =
-    past_input (is_input s.class) x v (with_inputs hid row h) (with_inputs hid (x ∷ row) h) (no_input s l.0)
+    past_input (is_input s.section) x v (with_inputs hid row h) (with_inputs hid (x ∷ row) h) (no_input s l.0)
     ∙ ap (λ (m : List ℤ). v ∷ m) (hidden_keep hid (x ∷ row) h l.1 (omega (arith, e)))
 
 one_input : (b : Bool) (x v : ℤ) (m n o p h : List ℤ) → m ≡ o ++ h → n ≡ p ++ h → cond b (x ∷ m) (v ∷ n) ≡ cond b (x ∷ o) (v ∷ p) ++ h
@@ -119,7 +119,7 @@ inputs-beside (s ∷ slots) hid row [] h l e f = absurd (omega (arith, e))
 inputs-beside (s ∷ slots) hid [] (v ∷ vars) h l e f = refl
 inputs-beside (s ∷ slots) hid (x ∷ row) (v ∷ vars) h l e f =
     let g : length vars ≡ length slots = omega (arith, e) in
-    one_input (is_input s.class) x v (with_inputs (slots ++ hid) row (vars ++ h)) (with_inputs (slots ++ hid) (x ∷ row) (vars ++ h))
+    one_input (is_input s.section) x v (with_inputs (slots ++ hid) row (vars ++ h)) (with_inputs (slots ++ hid) (x ∷ row) (vars ++ h))
     (with_inputs slots row vars) (with_inputs slots (x ∷ row) vars) h
     (inputs-beside slots hid row vars h l g f) (inputs-beside slots hid (x ∷ row) vars h l g f)
 
@@ -134,7 +134,7 @@ inputs-long (s ∷ slots) row [] e = absurd (omega (arith, e))
 inputs-long (s ∷ slots) [] (v ∷ vars) e = e
 inputs-long (s ∷ slots) (x ∷ row) (v ∷ vars) e =
     let g : length vars ≡ length slots = omega (arith, e) in
-    long_input (is_input s.class) x v (with_inputs slots row vars) (with_inputs slots (x ∷ row) vars) (length slots)
+    long_input (is_input s.section) x v (with_inputs slots row vars) (with_inputs slots (x ∷ row) vars) (length slots)
     (inputs-long slots row vars g) (inputs-long slots (x ∷ row) vars g)
 
 -- ---- outputs
@@ -146,7 +146,7 @@ past_output false v m e = refl
 hidden_silent : (hid : List Slot) (h : List ℤ) → AreLocal hid → outputs hid h ≡ []
 hidden_silent [] h l = refl
 hidden_silent (s ∷ hid) [] l = refl
-hidden_silent (s ∷ hid) (v ∷ h) l = past_output (is_output s.class) v (outputs hid h) (no_output s l.0) ∙ hidden_silent hid h l.1
+hidden_silent (s ∷ hid) (v ∷ h) l = past_output (is_output s.section) v (outputs hid h) (no_output s l.0) ∙ hidden_silent hid h l.1
 
 one_output : (b : Bool) (v : ℤ) (m n : List ℤ) → m ≡ n → cond b (v ∷ m) m ≡ cond b (v ∷ n) n
 one_output b v m n e = ap (λ (l : List ℤ). cond b (v ∷ l) l) e
@@ -158,5 +158,5 @@ outputs-beside [] hid [] h l e = hidden_silent hid h l
 outputs-beside [] hid (v ∷ vars) h l e = absurd (omega (arith, e))
 outputs-beside (s ∷ slots) hid [] h l e = absurd (omega (arith, e))
 outputs-beside (s ∷ slots) hid (v ∷ vars) h l e =
-    one_output (is_output s.class) v (outputs (slots ++ hid) (vars ++ h)) (outputs slots vars)
+    one_output (is_output s.section) v (outputs (slots ++ hid) (vars ++ h)) (outputs slots vars)
     (outputs-beside slots hid vars h l (omega (arith, e)))

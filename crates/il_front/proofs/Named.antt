@@ -12,7 +12,7 @@ use Rattle.vcp_base.specs.Limits.{most_name_bytes}
 use Rattle.vcp_base.specs.Names.{SameName, is_name, is_same_name}
 use Rattle.vcp_base.specs.Types.{fits, same_type}
 use Rattle.vcp_base.specs.declared.spot.Spot.{Spot}
-use Rattle.st_tree.specs.declared.program.Class.TheVariants as class
+use Rattle.st_tree.specs.declared.program.Section.TheVariants as section
 use Rattle.st_tree.specs.ProgramTree.{DeclaredTree}
 use Rattle.vcp_typed.specs.declared.slot.Slot.{Slot}
 use Rattle.vcp_typed.specs.Checked.{is_set, SlotFits, SlotsFit}
@@ -57,7 +57,7 @@ hidden_differ ty.Lint ty.Int e = refl
 hidden_differ ty.Lint ty.Dint e = refl
 hidden_differ ty.Lint ty.Lint e = absurd cc
 
-local_is_set : class.Local ≡ class.Constant → ⊥
+local_is_set : section.Local ≡ section.Constant → ⊥
 local_is_set e = let no : true ≡ false = ap is_set e in absurd cc
 
 -- of the name: its length, and that it is one

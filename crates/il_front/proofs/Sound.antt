@@ -38,7 +38,7 @@ lower k n m o e h = subst (λ (x : ℕ). IfSome o (λ (y : Variable). y.slot < x
 found_in : (slots : List Slot) (k : ℕ) (n : List ℕ) → IfSome (variable_from k slots n) (λ (e : Variable). e.slot < k + length slots)
 found_in [] k n = tt
 found_in (s ∷ slots) k n =
-    let e : Variable = record { slot = k; class = s.class; ty = s.ty } in
+    let e : Variable = record { slot = k; section = s.section; ty = s.ty } in
     either_some (λ (x : Variable). x.slot < k + length (s ∷ slots)) (is_same_name s.name n) (Some e) (variable_from (suc k) slots n)
     (omega arith) (lower k (length slots) (k + length (s ∷ slots)) (variable_from (suc k) slots n) (omega arith) (found_in slots (suc k) n))
 

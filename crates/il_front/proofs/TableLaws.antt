@@ -83,11 +83,11 @@ take-length (x ∷ xs) zero s e = refl
 take-length (x ∷ xs) (suc i) s e = ap suc (take-length xs i s e)
 
 abbrev named_entry : List ℕ → ℕ → Slot → Entry
-named_entry n i s = record { name = n; class = s.class; ty = s.ty; value = pos 0; slot = i }
+named_entry n i s = record { name = n; section = s.section; ty = s.ty; value = pos 0; slot = i }
 
 pub entries-more : (slots : List Slot) (i : ℕ) (s : Slot) (n : List ℕ) (names more : List Entry) → SlotsFit [] slots → slice_get slots i ≡ Some s
     → names ≡ entries_from 0 (take i slots) → n ≡ s.name
-    → more ≡ cond (is_none (find names n)) (names ++ record { name = n; class = s.class; ty = s.ty; value = pos 0; slot = i } ∷ []) names
+    → more ≡ cond (is_none (find names n)) (names ++ record { name = n; section = s.section; ty = s.ty; value = pos 0; slot = i } ∷ []) names
     → more ≡ entries_from 0 (take (i + 1) slots)
 entries-more slots i s n names more h e is same m =
     let new : is_none (find names n) ≡ true =
@@ -104,10 +104,10 @@ entries-more slots i s n names more h e is same m =
 -- ---- what is found
 
 abbrev pub meant_entry : Entry → Meant
-meant_entry e = record { operand = operand.Variable e.slot e.ty; set = is_set e.class }
+meant_entry e = record { operand = operand.Variable e.slot e.ty; set = is_set e.section }
 
 abbrev variable_of : Entry → Variable
-variable_of e = record { slot = e.slot; class = e.class; ty = e.ty }
+variable_of e = record { slot = e.slot; section = e.section; ty = e.ty }
 
 either-found : (b : Bool) (k : ℕ) (s : Slot) (o : Option Entry) (p : Option Variable) → option_map meant_entry o ≡ option_map meant_variable p
     → option_map meant_entry (cond b (Some (entry_of k s)) o)

@@ -10,8 +10,8 @@ use Rattle.st_lexer.specs.declared.token.Sym.TheVariants as sym
 use Rattle.st_lexer.specs.declared.token.Tok.{Tok}
 use Rattle.st_lexer.specs.declared.token.Tok.TheVariants as tok
 use Rattle.st_lexer.specs.declared.token.Token.{Token}
-use Rattle.st_tree.specs.declared.program.Class.{Class}
-use Rattle.st_tree.specs.declared.program.Class.TheVariants as class
+use Rattle.st_tree.specs.declared.program.Section.{Section}
+use Rattle.st_tree.specs.declared.program.Section.TheVariants as section
 use Rattle.vcp_base.specs.declared.ty.Ty.{Ty}
 use Rattle.vcp_typed.specs.declared.slot.Slot.{Slot}
 use Rattle.il_front.specs.declared.fault.IlFault.{IlFault}
@@ -42,8 +42,8 @@ u v = token (tok.Number None v)
 abbrev v : Ty → ℤ → ℕ → ℕ → ℕ → ℕ → Token
 v t x = token (tok.Number (Some t) x)
 
-abbrev slot : List ℕ → Class → Ty → ℤ → Slot
-slot name class t init = record { name = name; spot = at 0 0; class = class; ty = t; init = init }
+abbrev slot : List ℕ → Section → Ty → ℤ → Slot
+slot name section t init = record { name = name; spot = at 0 0; section = section; ty = t; init = init }
 
 -- what the lines behind the head come to, where the text ends at the spot `end`
 abbrev lines_told : List Slot → List ℕ → List Token → Spot → Result (List Instruction) IlFault
@@ -60,7 +60,7 @@ tokens_1 =
     s sym.Semi 57 58 3 20 ∷ k key.EndVar 59 66 3 22 ∷ []
 
 abbrev slots_1 : List Slot
-slots_1 = slot (codes "x") class.Input ty.Dint (pos 0) ∷ slot (codes "y") class.Output ty.Dint (pos 0) ∷ []
+slots_1 = slot (codes "x") section.Input ty.Dint (pos 0) ∷ slot (codes "y") section.Output ty.Dint (pos 0) ∷ []
 
 -- PROGRAM p VAR_INPUT x : DINT; b : BOOL; n : INT; END_VAR VAR_OUTPUT y : DINT; q : BOOL; END_VAR
 abbrev text_2 : List ℕ
@@ -76,8 +76,8 @@ tokens_2 =
 
 abbrev slots_2 : List Slot
 slots_2 =
-    slot (codes "x") class.Input ty.Dint (pos 0) ∷ slot (codes "b") class.Input ty.Bool (pos 0) ∷ slot (codes "n") class.Input ty.Int (pos 0) ∷
-    slot (codes "y") class.Output ty.Dint (pos 0) ∷ slot (codes "q") class.Output ty.Bool (pos 0) ∷ []
+    slot (codes "x") section.Input ty.Dint (pos 0) ∷ slot (codes "b") section.Input ty.Bool (pos 0) ∷ slot (codes "n") section.Input ty.Int (pos 0) ∷
+    slot (codes "y") section.Output ty.Dint (pos 0) ∷ slot (codes "q") section.Output ty.Bool (pos 0) ∷ []
 
 -- PROGRAM p VAR CONSTANT C : INT := 3; END_VAR VAR_OUTPUT y : INT; END_VAR
 abbrev text_6 : List ℕ
@@ -90,7 +90,7 @@ tokens_6 =
     k key.VarOutput 45 55 3 1 ∷ n 56 57 3 12 ∷ s sym.Colon 58 59 3 14 ∷ k key.Int 60 63 3 16 ∷ s sym.Semi 63 64 3 19 ∷ k key.EndVar 65 72 3 21 ∷ []
 
 abbrev slots_6 : List Slot
-slots_6 = slot (codes "y") class.Output ty.Int (pos 0) ∷ []
+slots_6 = slot (codes "y") section.Output ty.Int (pos 0) ∷ []
 
 -- ADD 1; ST y; END_PROGRAM
 row-2 : lines_told slots_1 (text_1 ++ codes " ADD 1 ST y END_PROGRAM ")

@@ -11,8 +11,8 @@ use Rattle.st_lexer.specs.declared.token.Sym.TheVariants as sym
 use Rattle.st_lexer.specs.declared.token.Tok.{Tok}
 use Rattle.st_lexer.specs.declared.token.Tok.TheVariants as tok
 use Rattle.st_lexer.specs.declared.token.Token.{Token}
-use Rattle.st_tree.specs.declared.program.Class.{Class}
-use Rattle.st_tree.specs.declared.program.Class.TheVariants as class
+use Rattle.st_tree.specs.declared.program.Section.{Section}
+use Rattle.st_tree.specs.declared.program.Section.TheVariants as section
 use Rattle.vcp_base.specs.declared.ty.Ty.{Ty}
 use Rattle.vcp_typed.specs.Meaning.{Stop}
 use Rattle.vcp_typed.specs.declared.slot.Slot.{Slot}
@@ -45,8 +45,8 @@ u v = token (tok.Number None v)
 abbrev v : Ty → ℤ → ℕ → ℕ → ℕ → ℕ → Token
 v t x = token (tok.Number (Some t) x)
 
-abbrev slot : List ℕ → Class → Ty → ℤ → Slot
-slot name class t init = record { name = name; spot = at 0 0; class = class; ty = t; init = init }
+abbrev slot : List ℕ → Section → Ty → ℤ → Slot
+slot name section t init = record { name = name; spot = at 0 0; section = section; ty = t; init = init }
 
 -- what the lines behind the head come to, where the text ends at the spot `end`
 abbrev lines_told : List Slot → List ℕ → List Token → Spot → Result (List Instruction) IlFault
@@ -72,7 +72,7 @@ tokens_1 =
     s sym.Semi 57 58 3 20 ∷ k key.EndVar 59 66 3 22 ∷ []
 
 abbrev slots_1 : List Slot
-slots_1 = slot (codes "x") class.Input ty.Dint (pos 0) ∷ slot (codes "y") class.Output ty.Dint (pos 0) ∷ []
+slots_1 = slot (codes "x") section.Input ty.Dint (pos 0) ∷ slot (codes "y") section.Output ty.Dint (pos 0) ∷ []
 
 -- PROGRAM p VAR_INPUT x : DINT; b : BOOL; n : INT; END_VAR VAR_OUTPUT y : DINT; q : BOOL; END_VAR
 abbrev text_2 : List ℕ
@@ -88,8 +88,8 @@ tokens_2 =
 
 abbrev slots_2 : List Slot
 slots_2 =
-    slot (codes "x") class.Input ty.Dint (pos 0) ∷ slot (codes "b") class.Input ty.Bool (pos 0) ∷ slot (codes "n") class.Input ty.Int (pos 0) ∷
-    slot (codes "y") class.Output ty.Dint (pos 0) ∷ slot (codes "q") class.Output ty.Bool (pos 0) ∷ []
+    slot (codes "x") section.Input ty.Dint (pos 0) ∷ slot (codes "b") section.Input ty.Bool (pos 0) ∷ slot (codes "n") section.Input ty.Int (pos 0) ∷
+    slot (codes "y") section.Output ty.Dint (pos 0) ∷ slot (codes "q") section.Output ty.Bool (pos 0) ∷ []
 
 -- PROGRAM p VAR_OUTPUT w : BOOL; q : BOOL := TRUE; END_VAR
 abbrev text_3 : List ℕ
@@ -102,7 +102,7 @@ tokens_3 =
     s sym.Semi 47 48 2 38 ∷ k key.EndVar 49 56 2 40 ∷ []
 
 abbrev slots_3 : List Slot
-slots_3 = slot (codes "w") class.Output ty.Bool (pos 0) ∷ slot (codes "q") class.Output ty.Bool (pos 1) ∷ []
+slots_3 = slot (codes "w") section.Output ty.Bool (pos 0) ∷ slot (codes "q") section.Output ty.Bool (pos 1) ∷ []
 
 -- PROGRAM p VAR_INPUT x : LINT; END_VAR VAR_OUTPUT y : LINT; END_VAR
 abbrev text_4 : List ℕ
@@ -115,7 +115,7 @@ tokens_4 =
     s sym.Semi 57 58 3 20 ∷ k key.EndVar 59 66 3 22 ∷ []
 
 abbrev slots_4 : List Slot
-slots_4 = slot (codes "x") class.Input ty.Lint (pos 0) ∷ slot (codes "y") class.Output ty.Lint (pos 0) ∷ []
+slots_4 = slot (codes "x") section.Input ty.Lint (pos 0) ∷ slot (codes "y") section.Output ty.Lint (pos 0) ∷ []
 
 -- PROGRAM p VAR_OUTPUT y : INT; END_VAR VAR k : INT; END_VAR
 abbrev text_5 : List ℕ
@@ -128,7 +128,7 @@ tokens_5 =
     s sym.Semi 49 50 3 12 ∷ k key.EndVar 51 58 3 14 ∷ []
 
 abbrev slots_5 : List Slot
-slots_5 = slot (codes "y") class.Output ty.Int (pos 0) ∷ slot (codes "k") class.Local ty.Int (pos 0) ∷ []
+slots_5 = slot (codes "y") section.Output ty.Int (pos 0) ∷ slot (codes "k") section.Local ty.Int (pos 0) ∷ []
 
 -- LD x; ADD 1; ST y; END_PROGRAM
 row-1 : both_runs slots_1 ((pos 5 ∷ []) ∷ (pos 2147483647 ∷ []) ∷ [])

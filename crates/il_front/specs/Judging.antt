@@ -12,7 +12,7 @@ use Rattle.st_lexer.specs.declared.token.Tok.{Tok}
 use Rattle.st_lexer.specs.declared.token.Tok.TheVariants as tok
 use Rattle.st_lexer.specs.declared.token.Token.{Token}
 use Rattle.st_tree.specs.declared.expr.BinOp.TheVariants as bin
-use Rattle.st_tree.specs.declared.program.Class.{Class}
+use Rattle.st_tree.specs.declared.program.Section.{Section}
 use Rattle.st_spelling.specs.Spelling.{bytes_in}
 use Rattle.st_spelling.specs.Expressions.{Value, literal_of}
 use Rattle.vcp_base.specs.Names.{is_same_name}
@@ -139,21 +139,21 @@ line_of text (t ∷ ts) = line_with t.spot (first_spot t.spot ts) (operator_of (
 
 -- ---- operands
 
--- a variable: the number of its slot, its class and its type
+-- a variable: the number of its slot, its section and its type
 pub record Variable : Type 0 where
   pub slot : ℕ
-  pub class : Class
+  pub section : Section
   pub ty : Ty
 
 -- the variable of a name among these slots, of which the first has the number k
 abbrev pub variable_from : ℕ → List Slot → List ℕ → Option Variable
 variable_from k [] n = None
 variable_from k (s ∷ slots) n =
-    cond (is_same_name s.name n) (Some (record { slot = k; class = s.class; ty = s.ty })) (variable_from (suc k) slots n)
+    cond (is_same_name s.name n) (Some (record { slot = k; section = s.section; ty = s.ty })) (variable_from (suc k) slots n)
 
 -- what a written operand means: a variable, with whether it may be set, or a literal in its type
 abbrev pub meant_variable : Variable → Meant
-meant_variable x = record { operand = operand.Variable x.slot x.ty; set = is_set x.class }
+meant_variable x = record { operand = operand.Variable x.slot x.ty; set = is_set x.section }
 
 abbrev pub meant_number : ℤ → Ty → Meant
 meant_number v t = record { operand = operand.Number t v; set = false }

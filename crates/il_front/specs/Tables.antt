@@ -5,7 +5,7 @@ use Rattle.st_types.specs.declared.names.Entry.{Entry}
 
 -- the entry of a variable, whose slot has this number; its value isn't looked at
 abbrev pub entry_of : ℕ → Slot → Entry
-entry_of k s = record { name = s.name; class = s.class; ty = s.ty; value = pos 0; slot = k }
+entry_of k s = record { name = s.name; section = s.section; ty = s.ty; value = pos 0; slot = k }
 
 -- the entries of variables, of which the first has the slot k
 abbrev pub entries_from : ℕ → List Slot → List Entry

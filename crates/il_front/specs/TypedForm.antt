@@ -10,7 +10,7 @@ use Rattle.vcp_base.specs.Types.{same_type}
 use Rattle.vcp_base.specs.Kinds.{truth}
 use Rattle.st_tree.specs.declared.expr.UnOp.TheVariants as un
 use Rattle.st_tree.specs.declared.expr.BinOp.{BinOp}
-use Rattle.st_tree.specs.declared.program.Class.TheVariants as class
+use Rattle.st_tree.specs.declared.program.Section.TheVariants as section
 use Rattle.st_tree.specs.ProgramTree.{DeclaredTree}
 use Rattle.vcp_typed.specs.declared.slot.Slot.{Slot}
 use Rattle.vcp_typed.specs.TExprTree.{TExprTree, literal, get, unary, binary}
@@ -45,7 +45,7 @@ first_reserved [] = None
 first_reserved (d ∷ ds) = cond (is_reserved d.name) (Some d.spot) (first_reserved ds)
 
 abbrev pub hidden_slot : Ty → Slot
-hidden_slot t = record { name = hidden_name t; spot = record { line = 0; col = 0 }; class = class.Local; ty = t; init = pos 0 }
+hidden_slot t = record { name = hidden_name t; spot = record { line = 0; col = 0 }; section = section.Local; ty = t; init = pos 0 }
 
 -- the hidden variables of those of these types that are used
 abbrev pub hidden_slots : (Ty → Bool) → List Ty → List Slot

@@ -34,7 +34,7 @@ pub fn table_of(alloc: Global, slots: &Slots) -> Result<Names, Memory>
         let slot = slots.at(i);
         names.declare(Entry {
             name: Text::copy_of(alloc, slot.name.bytes())?,
-            class: slot.class,
+            section: slot.section,
             ty: slot.ty,
             value: 0,
             slot: i as u32,
@@ -54,7 +54,7 @@ fn variable(names: &Names, name: &[u8]) -> Result<Option<Meant>, Memory>
                 slot: x.slot,
                 ty: x.ty,
             },
-            set: is_set(x.class),
+            set: is_set(x.section),
         })),
     }
 }

@@ -9,7 +9,7 @@ ghost use Rattle.il_front.specs.Places.{used_in, place_in};
 
 use crate::instruction::Instruction;
 use crate::types::next_type;
-use st_tree::Class;
+use st_tree::Section;
 use std::alloc::Global;
 use vcp_base::{Memory, Spot, Text, Ty, same_type};
 use vcp_typed::{Slot, Slots};
@@ -106,7 +106,7 @@ fn add_hidden(alloc: Global, slots: &mut Slots, used: bool, ty: Ty) -> Result<()
     slots.push(Slot {
         name: Text::copy_of(alloc, hidden_name(ty))?,
         spot: Spot { line: 0, col: 0 },
-        class: Class::Local,
+        section: Section::Local,
         ty,
         init: 0,
     })

@@ -8,8 +8,8 @@ use Rattle.vcp_base.specs.declared.spot.Spot.{Spot}
 use Rattle.vcp_base.specs.declared.ty.Ty.{Ty}
 use Rattle.vcp_base.specs.declared.ty.Ty.TheVariants as ty
 use Rattle.st_tree.specs.declared.expr.BinOp.TheVariants as bin
-use Rattle.st_tree.specs.declared.program.Class.{Class}
-use Rattle.st_tree.specs.declared.program.Class.TheVariants as class
+use Rattle.st_tree.specs.declared.program.Section.{Section}
+use Rattle.st_tree.specs.declared.program.Section.TheVariants as section
 use Rattle.vcp_typed.specs.declared.slot.Slot.{Slot}
 use Rattle.vcp_typed.specs.TExprTree.{TExprTree, literal, get, binary}
 use Rattle.vcp_typed.specs.TStmtTree.{TStmtTree, TStmtTrees, assign, for_, no_tstmts, and_tstmt}
@@ -17,8 +17,8 @@ use Rattle.vcp_typed.specs.TStmtViews.{tstmts_and}
 use Rattle.vcp_typed.specs.SourceRun.{Program}
 use Rattle.vcp_typed.specs.Checked.{IsChecked}
 
-abbrev variable : ℕ → Class → Ty → Spot → Slot
-variable letter c t p = record { name = letter ∷ []; spot = p; class = c; ty = t; init = pos 0 }
+abbrev variable : ℕ → Section → Ty → Spot → Slot
+variable letter c t p = record { name = letter ∷ []; spot = p; section = c; ty = t; init = pos 0 }
 
 first : List ℕ → ℕ
 first [] = 0
@@ -35,7 +35,7 @@ pub slots-are : (a b c d : List Slot) (x y z : Slot) → a ≡ [] → b ≡ a ++
 slots-are a b c d x y z e f g h = h ∙ ap (λ l. l ++ z ∷ []) (g ∙ ap (λ l. l ++ y ∷ []) (f ∙ ap (λ l. l ++ x ∷ []) e))
 
 abbrev pub slots_of : Spot → List Slot
-slots_of p = variable 105 class.Local ty.Int p ∷ variable 120 class.Input ty.Int p ∷ variable 121 class.Output ty.Int p ∷ []
+slots_of p = variable 105 section.Local ty.Int p ∷ variable 120 section.Input ty.Int p ∷ variable 121 section.Output ty.Int p ∷ []
 
 abbrev pub powers : Spot → TStmtTree
 powers p = for_ 0 (pos 1) (pos 1) 5 (and_tstmt (assign 2 (binary bin.Mul ty.Int (get 2 ty.Int) (get 1 ty.Int) p) p) no_tstmts) p
@@ -54,7 +54,7 @@ keeps-rules p = record {
               short = omega arith;
               letters = refl;
               new = All-cons (λ (r : Slot). SameName r.name (120 ∷ [])
-                  → ⊥) (variable 105 class.Local ty.Int p) [] (differ 105 120 [] [] (omega arith)) (none (120 ∷ []));
+                  → ⊥) (variable 105 section.Local ty.Int p) [] (differ 105 120 [] [] (omega arith)) (none (120 ∷ []));
             };
         init = refl;
         variable = λ e. absurd cc;
@@ -64,9 +64,9 @@ keeps-rules p = record {
           name = record {
             short = omega arith;
             letters = refl;
-            new = All-cons (λ (r : Slot). SameName r.name (121 ∷ []) → ⊥) (variable 105 class.Local ty.Int p) (variable 120 class.Input ty.Int p ∷ [])
+            new = All-cons (λ (r : Slot). SameName r.name (121 ∷ []) → ⊥) (variable 105 section.Local ty.Int p) (variable 120 section.Input ty.Int p ∷ [])
                 (differ 105 121 [] [] (omega arith))
-                (All-cons (λ (r : Slot). SameName r.name (121 ∷ []) → ⊥) (variable 120 class.Input ty.Int p) [] (differ 120 121 [] [] (omega arith))
+                (All-cons (λ (r : Slot). SameName r.name (121 ∷ []) → ⊥) (variable 120 section.Input ty.Int p) [] (differ 120 121 [] [] (omega arith))
                 (none (121 ∷ [])));
           };
           init = refl;
@@ -77,18 +77,18 @@ keeps-rules p = record {
     ),
   );
   body = (
-    (record { of = variable 121 class.Output ty.Int p; there = refl; ty = refl; set = refl; free = refl }, refl),
+    (record { of = variable 121 section.Output ty.Int p; there = refl; ty = refl; set = refl; free = refl }, refl),
     (
       (
         ty.Int,
-        record { of = variable 105 class.Local ty.Int p; there = refl; ty = refl; set = refl; free = refl },
+        record { of = variable 105 section.Local ty.Int p; there = refl; ty = refl; set = refl; free = refl },
         refl,
         refl,
         (refl, (refl, (refl, (refl, (refl, tt))))),
         (
           (
-            record { of = variable 121 class.Output ty.Int p; there = refl; ty = refl; set = refl; free = refl },
-            ((variable 121 class.Output ty.Int p, refl, refl), (variable 120 class.Input ty.Int p, refl, refl), refl, refl, refl),
+            record { of = variable 121 section.Output ty.Int p; there = refl; ty = refl; set = refl; free = refl },
+            ((variable 121 section.Output ty.Int p, refl, refl), (variable 120 section.Input ty.Int p, refl, refl), refl, refl, refl),
           ),
           tt,
         ),

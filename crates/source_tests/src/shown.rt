@@ -2,7 +2,7 @@
 
 use st_lexer::lex;
 use st_parser::{SyntaxFault, parse};
-use st_tree::{Arm, BinOp, Block, Branch, Class, Decl, Expr, Label, Program, Stmt, Stmts, UnOp};
+use st_tree::{Arm, BinOp, Block, Branch, Decl, Expr, Label, Program, Section, Stmt, Stmts, UnOp};
 use std::alloc::Global;
 use std::test::Fail;
 use vcp_base::{MOST_SOURCE_BYTES, Spot, ty_name};
@@ -33,13 +33,13 @@ fn binary_bytes(op: BinOp) -> &'static [u8] {
     }
 }
 
-fn class_bytes(class: Class) -> &'static [u8] {
-    match class {
-        Class::Input => b"INPUT",
-        Class::Output => b"OUTPUT",
-        Class::Local => b"VAR",
-        Class::Retain => b"RETAIN",
-        Class::Constant => b"CONSTANT",
+fn section_bytes(section: Section) -> &'static [u8] {
+    match section {
+        Section::Input => b"INPUT",
+        Section::Output => b"OUTPUT",
+        Section::Local => b"VAR",
+        Section::Retain => b"RETAIN",
+        Section::Constant => b"CONSTANT",
     }
 }
 
@@ -231,7 +231,7 @@ fn show_decl(alloc: Global, out: &mut Vec<u8>, decl: &Decl) -> Result<(), Fail> 
 }
 
 fn show_block(alloc: Global, out: &mut Vec<u8>, block: &Block) -> Result<(), Fail> {
-    add(out, class_bytes(block.class))?;
+    add(out, section_bytes(block.section))?;
     add(out, b" { ")?;
     for decl in &block.decls.items {
         show_decl(alloc, out, decl)?;

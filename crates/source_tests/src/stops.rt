@@ -10,7 +10,7 @@ ghost use Rattle.vcp_typed.specs.TStmtTree.{assign, for_, no_tstmts, and_tstmt};
 ghost use Rattle.vcp_typed.specs.TStmtViews.{tstmt_tree};
 
 use st_plain::{Plain, Stop};
-use st_tree::{BinOp, Class};
+use st_tree::{BinOp, Section};
 use std::alloc::Global;
 use std::test::Fail;
 use vcp_base::{Memory, Row, Spot, StopKind, Text, Turn, Ty};
@@ -21,13 +21,13 @@ use worked_texts::holds;
 const PLACE: Spot = Spot { line: 4, col: 8 };
 
 /// A variable with a name of one letter.
-fn variable(alloc: Global, letter: u8, class: Class, ty: Ty) -> Result<Slot, Memory>
-    ensures { IfOk result (λ s. s ≡ record { name = letter ∷ []; spot = PLACE; class = class; ty = ty; init = pos 0 }) }
+fn variable(alloc: Global, letter: u8, section: Section, ty: Ty) -> Result<Slot, Memory>
+    ensures { IfOk result (λ s. s ≡ record { name = letter ∷ []; spot = PLACE; section = section; ty = ty; init = pos 0 }) }
 {
     Ok(Slot {
         name: Text::copy_of(alloc, &[letter])?,
         spot: PLACE,
-        class,
+        section,
         ty,
         init: 0,
     })
@@ -57,9 +57,9 @@ fn fifth_power(alloc: Global) -> Result<Typed, Memory>
     ensures outputs { IfOk result (λ p. output_types p.slots ≡ type_of.Int ∷ []) }
 {
     let mut slots = Slots::new(alloc);
-    slots.push(variable(alloc, b'i', Class::Local, Ty::Int)?)?;
-    slots.push(variable(alloc, b'x', Class::Input, Ty::Int)?)?;
-    slots.push(variable(alloc, b'y', Class::Output, Ty::Int)?)?;
+    slots.push(variable(alloc, b'i', Section::Local, Ty::Int)?)?;
+    slots.push(variable(alloc, b'x', Section::Input, Ty::Int)?)?;
+    slots.push(variable(alloc, b'y', Section::Output, Ty::Int)?)?;
     let mut body = TStmts::new(alloc);
     body.push(TStmt::assign(2, TExpr::literal(Ty::Int, 1, PLACE), PLACE))?;
     body.push(powers(alloc)?)?;

@@ -10,7 +10,7 @@ use Rattle.st_lexer.specs.declared.token.Tok.{Tok}
 use Rattle.st_lexer.specs.declared.token.Tok.TheVariants as tok
 use Rattle.st_lexer.specs.declared.token.Token.{Token}
 use Rattle.st_tree.specs.declared.expr.UnOp.TheVariants as un
-use Rattle.st_tree.specs.declared.program.Class.TheVariants as class
+use Rattle.st_tree.specs.declared.program.Section.TheVariants as section
 use Rattle.st_tree.specs.ExprTree.{ExprTree, name}
 use Rattle.st_tree.specs.StmtTree.{LabelTree, StmtTrees, no_arms, no_stmts}
 use Rattle.st_tree.specs.ProgramTree.{DeclaredTree}
@@ -362,7 +362,7 @@ module _ (bytes : Token → List ℕ) (m : ℕ) where
   unless_var f k t n = cond (is k mark.Var) (Ok (at_var f)) (body_step f (stmt_step (at_limit n) [] no_stmts start t))
 
   abbrev unless_output : Front → Mark → Token → ℕ → Result State SyntaxFault
-  unless_output f k t n = cond (is k mark.VarOutput) (Ok (at_decl (begun f class.Output))) (unless_var f k t n)
+  unless_output f k t n = cond (is k mark.VarOutput) (Ok (at_decl (begun f section.Output))) (unless_var f k t n)
 
   lifts-local : (f : Front) (k : Mark) (t : Token) → Lifts (unless_var f k t) m
   lifts-local f k t =
@@ -370,21 +370,21 @@ module _ (bytes : Token → List ℕ) (m : ℕ) where
       (lifts-body-step f (λ n. stmt_step (at_limit n) [] no_stmts start t) (lifts-stmt [] no_stmts start t))
 
   lifts-output : (f : Front) (k : Mark) (t : Token) → Lifts (unless_output f k t) m
-  lifts-output f k t = lifts-cond (is k mark.VarOutput) (λ n. Ok (at_decl (begun f class.Output))) (unless_var f k t) m tt (lifts-local f k t)
+  lifts-output f k t = lifts-cond (is k mark.VarOutput) (λ n. Ok (at_decl (begun f section.Output))) (unless_var f k t) m tt (lifts-local f k t)
 
   lifts-block : (f : Front) (k : Mark) (t : Token) → Lifts (λ n. block_at (at_limit n) f k t) m
-  lifts-block f k t = lifts-cond (is k mark.VarInput) (λ n. Ok (at_decl (begun f class.Input))) (unless_output f k t) m tt (lifts-output f k t)
+  lifts-block f k t = lifts-cond (is k mark.VarInput) (λ n. Ok (at_decl (begun f section.Input))) (unless_output f k t) m tt (lifts-output f k t)
 
   abbrev unless_retain : Front → Mark → Token → ℕ → Result State SyntaxFault
-  unless_retain f k t n = cond (is k mark.Retain) (Ok (at_decl (begun f class.Retain))) (decl_at (at_limit n) (begun f class.Local) k t)
+  unless_retain f k t n = cond (is k mark.Retain) (Ok (at_decl (begun f section.Retain))) (decl_at (at_limit n) (begun f section.Local) k t)
 
   lifts-retain : (f : Front) (k : Mark) (t : Token) → Lifts (unless_retain f k t) m
   lifts-retain f k t =
-      lifts-cond (is k mark.Retain) (λ n. Ok (at_decl (begun f class.Retain))) (λ n. decl_at (at_limit n) (begun f class.Local) k t) m tt
-      (lifts-decl (begun f class.Local) k t)
+      lifts-cond (is k mark.Retain) (λ n. Ok (at_decl (begun f section.Retain))) (λ n. decl_at (at_limit n) (begun f section.Local) k t) m tt
+      (lifts-decl (begun f section.Local) k t)
 
   lifts-var : (f : Front) (k : Mark) (t : Token) → Lifts (λ n. var_at (at_limit n) f k t) m
-  lifts-var f k t = lifts-cond (is k mark.Constant) (λ n. Ok (at_decl (begun f class.Constant))) (unless_retain f k t) m tt (lifts-retain f k t)
+  lifts-var f k t = lifts-cond (is k mark.Constant) (λ n. Ok (at_decl (begun f section.Constant))) (unless_retain f k t) m tt (lifts-retain f k t)
 
   flat-type : (o : Opening) (ds : List DeclaredTree) (k : Mark) (t : Token) → Flat (type_at o ds k t)
   flat-type o ds k t =

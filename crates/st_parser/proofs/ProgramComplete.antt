@@ -10,8 +10,8 @@ use Rattle.st_lexer.specs.declared.token.Sym.TheVariants as symbol
 use Rattle.st_lexer.specs.declared.token.Tok.{Tok}
 use Rattle.st_lexer.specs.declared.token.Tok.TheVariants as tok
 use Rattle.st_lexer.specs.declared.token.Token.{Token}
-use Rattle.st_tree.specs.declared.program.Class.{Class}
-use Rattle.st_tree.specs.declared.program.Class.TheVariants as class
+use Rattle.st_tree.specs.declared.program.Section.{Section}
+use Rattle.st_tree.specs.declared.program.Section.TheVariants as section
 use Rattle.st_tree.specs.ExprTree.{ExprTree}
 use Rattle.st_tree.specs.StmtTree.{StmtTree, StmtTrees, ArmTrees, OtherTree, no_stmts}
 use Rattle.st_tree.specs.ProgramTree.{DeclaredTree, DeclTree, BlockTree, ProgramTree}
@@ -53,7 +53,7 @@ named_front c n = record { name = c.bytes n; blocks = [] }
 
 -- the opening with these declarations more
 abbrev pub with_decls : Opening → List DeclTree → Opening
-with_decls o ds = record { front = o.front; class = o.class; decls = o.decls ++ ds }
+with_decls o ds = record { front = o.front; section = o.section; decls = o.decls ++ ds }
 
 -- the front with these blocks more
 abbrev pub with_blocks : Front → List BlockTree → Front
@@ -142,14 +142,14 @@ module _ (c : Context) (end : Spot) where
       → run c end (tokens_of ps ++ rest) s ≡ run c end rest (at_block (with_block (with_decls o ds)))
   decls-read (spells_end_var e he) o s rest w first last =
       taken c end e rest s (at_block (with_block o)) (last e he)
-      ∙ ap (λ (x : List DeclTree). run c end rest (at_block (with_block (record { front = o.front; class = o.class; decls = x })))) (sym (append-nil o.decls))
+      ∙ ap (λ (x : List DeclTree). run c end rest (at_block (with_block (record { front = o.front; section = o.section; decls = x })))) (sym (append-nil o.decls))
   decls-read (spells_next_decl d ds ts us sd sp) o s rest w first last =
       ap (λ (x : List Token). run c end x s) (tokens-append ts us rest)
       ∙ decl-read sd o s (tokens_of us ++ rest) (within-front c.most ts us w) first
       ∙ decls-read sp (with_decl o d.names d.ty d.init) (at_decl (with_decl o d.names d.ty d.init)) rest (within-back c.most ts us w)
       (λ n hn. ap (λ (x : Tok). decl_at c (with_decl o d.names d.ty d.init) (mark_of x) n) hn)
       (λ e he. ap (λ (x : Tok). decl_at c (with_decl o d.names d.ty d.init) (mark_of x) e) he)
-      ∙ ap (λ (x : List DeclTree). run c end rest (at_block (with_block (record { front = o.front; class = o.class; decls = x }))))
+      ∙ ap (λ (x : List DeclTree). run c end rest (at_block (with_block (record { front = o.front; section = o.section; decls = x }))))
       (append_assoc o.decls (d ∷ []) ds)
 
   -- the declarations of a block, from its head on
@@ -159,28 +159,28 @@ module _ (c : Context) (end : Spot) where
       decls-read sp o (at_decl o) rest w (λ n hn. ap (λ (x : Tok). decl_at c o (mark_of x) n) hn) (λ e he. ap (λ (x : Tok). decl_at c o (mark_of x) e) he)
 
   -- the head of a block and its declarations
-  pub block-read : {k : Class} {ds : List DeclTree} {ps qs : List Placed} → SpellsHead k ps → SpellsDecls c.bytes ds qs → (f : Front) (rest : List Token)
+  pub block-read : {k : Section} {ds : List DeclTree} {ps qs : List Placed} → SpellsHead k ps → SpellsDecls c.bytes ds qs → (f : Front) (rest : List Token)
       → Within c.most qs
       → run c end (tokens_of ps ++ (tokens_of qs ++ rest)) (at_block f) ≡ run c end rest (at_block (with_block (with_decls (begun f k) ds)))
   block-read {qs = qs} (spells_input t ht) sp f rest w =
-      taken c end t (tokens_of qs ++ rest) (at_block f) (at_decl (begun f class.Input)) (ap (λ (x : Tok). block_at c f (mark_of x) t) ht)
-      ∙ opened-read sp (begun f class.Input) rest w
+      taken c end t (tokens_of qs ++ rest) (at_block f) (at_decl (begun f section.Input)) (ap (λ (x : Tok). block_at c f (mark_of x) t) ht)
+      ∙ opened-read sp (begun f section.Input) rest w
   block-read {qs = qs} (spells_output t ht) sp f rest w =
-      taken c end t (tokens_of qs ++ rest) (at_block f) (at_decl (begun f class.Output)) (ap (λ (x : Tok). block_at c f (mark_of x) t) ht)
-      ∙ opened-read sp (begun f class.Output) rest w
+      taken c end t (tokens_of qs ++ rest) (at_block f) (at_decl (begun f section.Output)) (ap (λ (x : Tok). block_at c f (mark_of x) t) ht)
+      ∙ opened-read sp (begun f section.Output) rest w
   block-read {qs = qs} (spells_local t ht) sp f rest w =
       taken c end t (tokens_of qs ++ rest) (at_block f) (at_var f) (ap (λ (x : Tok). block_at c f (mark_of x) t) ht)
-      ∙ decls-read sp (begun f class.Local) (at_var f) rest w
+      ∙ decls-read sp (begun f section.Local) (at_var f) rest w
       (λ n hn. ap (λ (x : Tok). var_at c f (mark_of x) n) hn)
       (λ e he. ap (λ (x : Tok). var_at c f (mark_of x) e) he)
   block-read {qs = qs} (spells_constant t u ht hu) sp f rest w =
       taken c end t (u ∷ (tokens_of qs ++ rest)) (at_block f) (at_var f) (ap (λ (x : Tok). block_at c f (mark_of x) t) ht)
-      ∙ taken c end u (tokens_of qs ++ rest) (at_var f) (at_decl (begun f class.Constant)) (ap (λ (x : Tok). var_at c f (mark_of x) u) hu)
-      ∙ opened-read sp (begun f class.Constant) rest w
+      ∙ taken c end u (tokens_of qs ++ rest) (at_var f) (at_decl (begun f section.Constant)) (ap (λ (x : Tok). var_at c f (mark_of x) u) hu)
+      ∙ opened-read sp (begun f section.Constant) rest w
   block-read {qs = qs} (spells_retain t u ht hu) sp f rest w =
       taken c end t (u ∷ (tokens_of qs ++ rest)) (at_block f) (at_var f) (ap (λ (x : Tok). block_at c f (mark_of x) t) ht)
-      ∙ taken c end u (tokens_of qs ++ rest) (at_var f) (at_decl (begun f class.Retain)) (ap (λ (x : Tok). var_at c f (mark_of x) u) hu)
-      ∙ opened-read sp (begun f class.Retain) rest w
+      ∙ taken c end u (tokens_of qs ++ rest) (at_var f) (at_decl (begun f section.Retain)) (ap (λ (x : Tok). var_at c f (mark_of x) u) hu)
+      ∙ opened-read sp (begun f section.Retain) rest w
 
   -- the blocks of a program
   pub blocks-read : {bs : List BlockTree} {ps : List Placed} → SpellsBlocks c.bytes bs ps → (f : Front) (rest : List Token) → Within c.most ps
@@ -193,7 +193,7 @@ module _ (c : Context) (end : Spot) where
       ∙ block-read sh sd f (tokens_of vs ++ rest) (within-front c.most us vs (within-back c.most ts (us ++ vs) w))
       ∙ blocks-read sb (with_block (with_decls (begun f k) ds)) rest (within-back c.most us vs (within-back c.most ts (us ++ vs) w))
       ∙ ap (λ (x : List BlockTree). run c end rest (at_block (record { name = f.name; blocks = x })))
-      (append_assoc f.blocks (record { class = k; decls = ds } ∷ []) bs)
+      (append_assoc f.blocks (record { section = k; decls = ds } ∷ []) bs)
 
   -- ---- the body
 

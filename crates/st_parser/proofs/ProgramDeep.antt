@@ -7,8 +7,8 @@ use Rattle.st_lexer.specs.declared.token.Sym.TheVariants as symbol
 use Rattle.st_lexer.specs.declared.token.Tok.{Tok}
 use Rattle.st_lexer.specs.declared.token.Tok.TheVariants as tok
 use Rattle.st_lexer.specs.declared.token.Token.{Token}
-use Rattle.st_tree.specs.declared.program.Class.{Class}
-use Rattle.st_tree.specs.declared.program.Class.TheVariants as class
+use Rattle.st_tree.specs.declared.program.Section.{Section}
+use Rattle.st_tree.specs.declared.program.Section.TheVariants as section
 use Rattle.st_tree.specs.ExprTree.{ExprTree}
 use Rattle.st_tree.specs.StmtTree.{StmtTrees, no_stmts}
 use Rattle.st_tree.specs.ProgramTree.{DeclaredTree, DeclTree, BlockTree, ProgramTree}
@@ -88,37 +88,37 @@ module _ (c : Context) (end : Spot) where
       (λ q. decls-stuck sp o (at_decl o) (λ n hn. ap (λ (y : Tok). decl_at c o (mark_of y) n) hn) xs x q)
       (λ w rest. opened-read c end sp o rest w) (λ w. behind)
 
-  block-stuck : {k : Class} {ds : List DeclTree} {ts us : List Placed} → SpellsHead k ts → SpellsDecls c.bytes ds us
+  block-stuck : {k : Section} {ds : List DeclTree} {ts us : List Placed} → SpellsHead k ts → SpellsDecls c.bytes ds us
       → (f : Front) (vs xs : List Placed) (x : Placed) → First c.most (ts ++ (us ++ vs)) xs x
       → ((ys : List Placed) → First c.most vs ys x → Stuck c end (at_block (with_block (with_decls (begun f k) ds))) ys x) → Stuck c end (at_block f) xs x
   block-stuck {us = us} (spells_input t ht) sp f vs xs x g behind =
-      past c end (at 0 t) (us ++ vs) xs x (at_block f) (at_decl (begun f class.Input)) g (omega arith)
-      (λ rest. taken c end t rest (at_block f) (at_decl (begun f class.Input)) (ap (λ (y : Tok). block_at c f (mark_of y) t) ht))
-      (λ ys q. opened-stuck sp (begun f class.Input) vs ys x q behind)
+      past c end (at 0 t) (us ++ vs) xs x (at_block f) (at_decl (begun f section.Input)) g (omega arith)
+      (λ rest. taken c end t rest (at_block f) (at_decl (begun f section.Input)) (ap (λ (y : Tok). block_at c f (mark_of y) t) ht))
+      (λ ys q. opened-stuck sp (begun f section.Input) vs ys x q behind)
   block-stuck {us = us} (spells_output t ht) sp f vs xs x g behind =
-      past c end (at 0 t) (us ++ vs) xs x (at_block f) (at_decl (begun f class.Output)) g (omega arith)
-      (λ rest. taken c end t rest (at_block f) (at_decl (begun f class.Output)) (ap (λ (y : Tok). block_at c f (mark_of y) t) ht))
-      (λ ys q. opened-stuck sp (begun f class.Output) vs ys x q behind)
+      past c end (at 0 t) (us ++ vs) xs x (at_block f) (at_decl (begun f section.Output)) g (omega arith)
+      (λ rest. taken c end t rest (at_block f) (at_decl (begun f section.Output)) (ap (λ (y : Tok). block_at c f (mark_of y) t) ht))
+      (λ ys q. opened-stuck sp (begun f section.Output) vs ys x q behind)
   block-stuck {ds = ds} {us = us} (spells_local t ht) sp f vs xs x g behind =
       past c end (at 0 t) (us ++ vs) xs x (at_block f) (at_var f) g (omega arith)
       (λ rest. taken c end t rest (at_block f) (at_var f) (ap (λ (y : Tok). block_at c f (mark_of y) t) ht))
-      (λ ys q. parts c end us vs ys x (at_var f) (at_block (with_block (with_decls (begun f class.Local) ds))) q
-      (λ r. decls-stuck sp (begun f class.Local) (at_var f) (λ n hn. ap (λ (y : Tok). var_at c f (mark_of y) n) hn) ys x r)
-      (λ w rest. decls-read c end sp (begun f class.Local) (at_var f) rest w (λ n hn. ap (λ (y : Tok). var_at c f (mark_of y) n) hn)
+      (λ ys q. parts c end us vs ys x (at_var f) (at_block (with_block (with_decls (begun f section.Local) ds))) q
+      (λ r. decls-stuck sp (begun f section.Local) (at_var f) (λ n hn. ap (λ (y : Tok). var_at c f (mark_of y) n) hn) ys x r)
+      (λ w rest. decls-read c end sp (begun f section.Local) (at_var f) rest w (λ n hn. ap (λ (y : Tok). var_at c f (mark_of y) n) hn)
       (λ e he. ap (λ (y : Tok). var_at c f (mark_of y) e) he))
       (λ w. behind))
   block-stuck {us = us} (spells_constant t u ht hu) sp f vs xs x g behind =
       past c end (at 0 t) (at 0 u ∷ (us ++ vs)) xs x (at_block f) (at_var f) g (omega arith)
       (λ rest. taken c end t rest (at_block f) (at_var f) (ap (λ (y : Tok). block_at c f (mark_of y) t) ht))
-      (λ ys q. past c end (at 0 u) (us ++ vs) ys x (at_var f) (at_decl (begun f class.Constant)) q (omega arith)
-      (λ rest. taken c end u rest (at_var f) (at_decl (begun f class.Constant)) (ap (λ (y : Tok). var_at c f (mark_of y) u) hu))
-      (λ zs r. opened-stuck sp (begun f class.Constant) vs zs x r behind))
+      (λ ys q. past c end (at 0 u) (us ++ vs) ys x (at_var f) (at_decl (begun f section.Constant)) q (omega arith)
+      (λ rest. taken c end u rest (at_var f) (at_decl (begun f section.Constant)) (ap (λ (y : Tok). var_at c f (mark_of y) u) hu))
+      (λ zs r. opened-stuck sp (begun f section.Constant) vs zs x r behind))
   block-stuck {us = us} (spells_retain t u ht hu) sp f vs xs x g behind =
       past c end (at 0 t) (at 0 u ∷ (us ++ vs)) xs x (at_block f) (at_var f) g (omega arith)
       (λ rest. taken c end t rest (at_block f) (at_var f) (ap (λ (y : Tok). block_at c f (mark_of y) t) ht))
-      (λ ys q. past c end (at 0 u) (us ++ vs) ys x (at_var f) (at_decl (begun f class.Retain)) q (omega arith)
-      (λ rest. taken c end u rest (at_var f) (at_decl (begun f class.Retain)) (ap (λ (y : Tok). var_at c f (mark_of y) u) hu))
-      (λ zs r. opened-stuck sp (begun f class.Retain) vs zs x r behind))
+      (λ ys q. past c end (at 0 u) (us ++ vs) ys x (at_var f) (at_decl (begun f section.Retain)) q (omega arith)
+      (λ rest. taken c end u rest (at_var f) (at_decl (begun f section.Retain)) (ap (λ (y : Tok). var_at c f (mark_of y) u) hu))
+      (λ zs r. opened-stuck sp (begun f section.Retain) vs zs x r behind))
 
   blocks-stuck : {bs : List BlockTree} {ps : List Placed} → SpellsBlocks c.bytes bs ps → (f : Front) (us : List Placed) (x : Placed) → First c.most ps us x
       → Stuck c end (at_block f) us x

@@ -7,7 +7,7 @@ use Rattle.st_lexer.specs.declared.token.Sym.TheVariants as symbol
 use Rattle.st_lexer.specs.declared.token.Tok.{Tok}
 use Rattle.st_lexer.specs.declared.token.Tok.TheVariants as tok
 use Rattle.st_lexer.specs.declared.token.Token.{Token}
-use Rattle.st_tree.specs.declared.program.Class.TheVariants as class
+use Rattle.st_tree.specs.declared.program.Section.TheVariants as section
 use Rattle.st_tree.specs.ExprTree.{ExprTree, literal}
 use Rattle.st_tree.specs.StmtTree.{LabelTree, StmtTree, StmtTrees, no_stmts, no_arms, no_branches, and_branch, no_other}
 use Rattle.st_tree.specs.ProgramTree.{DeclaredTree, ProgramTree}
@@ -280,7 +280,7 @@ begins c at_name cs h =
 begins c (at_block f) cs h = blocks-begun c f cs h
 begins c (at_var f) cs h =
     subst (Begun c) (sym h.4)
-    (decls-begun c (begun f class.Local) (h.0 ++ at 0 h.1 ∷ []) (begun-next c f class.Local h.0 (at 0 h.1 ∷ []) h.2 (spells_local h.1 h.3)))
+    (decls-begun c (begun f section.Local) (h.0 ++ at 0 h.1 ∷ []) (begun-next c f section.Local h.0 (at 0 h.1 ∷ []) h.2 (spells_local h.1 h.3)))
 begins c (at_decl o) cs h = decls-begun c o cs h
 begins c (at_comma o ds) cs h =
     let x = made (tok.Sym symbol.Colon) in

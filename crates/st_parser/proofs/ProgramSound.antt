@@ -8,8 +8,8 @@ use Rattle.st_lexer.specs.declared.token.Key.TheVariants as key
 use Rattle.st_lexer.specs.declared.token.Sym.TheVariants as symbol
 use Rattle.st_lexer.specs.declared.token.Tok.TheVariants as tok
 use Rattle.st_lexer.specs.declared.token.Token.{Token}
-use Rattle.st_tree.specs.declared.program.Class.{Class}
-use Rattle.st_tree.specs.declared.program.Class.TheVariants as class
+use Rattle.st_tree.specs.declared.program.Section.{Section}
+use Rattle.st_tree.specs.declared.program.Section.TheVariants as section
 use Rattle.st_tree.specs.ExprTree.{ExprTree}
 use Rattle.st_tree.specs.StmtTree.{StmtTrees, no_stmts}
 use Rattle.st_tree.specs.ProgramTree.{DeclaredTree, DeclTree, BlockTree, ProgramTree}
@@ -55,7 +55,7 @@ BlocksNext c f hs = (bs : List BlockTree) (ts : List Placed) → SpellsBlocks c.
 abbrev pub DeclsNext : Context → Opening → List Placed → Type 0
 DeclsNext c o hs =
     (ds : List DeclTree) (ts : List Placed) → SpellsDecls c.bytes ds ts
-    → BlocksNext c (with_blocks o.front (record { class = o.class; decls = o.decls ++ ds } ∷ [])) (hs ++ ts)
+    → BlocksNext c (with_blocks o.front (record { section = o.section; decls = o.decls ++ ds } ∷ [])) (hs ++ ts)
 
 -- up to the initial value, or none
 abbrev pub InitNext : Context → Opening → List DeclaredTree → Ty → List Placed → Type 0
@@ -113,19 +113,19 @@ body-kept c t f hs us (Err x) h s = tt
 -- ---- the blocks
 
 -- a block begins
-pub begun-next : (c : Context) (f : Front) (k : Class) (hs ts : List Placed) → BlocksNext c f hs → SpellsHead k ts → DeclsNext c (begun f k) (hs ++ ts)
+pub begun-next : (c : Context) (f : Front) (k : Section) (hs ts : List Placed) → BlocksNext c f hs → SpellsHead k ts → DeclsNext c (begun f k) (hs ++ ts)
 begun-next c f k hs ts h head ds us sp bs vs sb =
     let tokens : hs ++ (ts ++ (us ++ vs)) ≡ ((hs ++ ts) ++ us) ++ vs = simp append_assoc in
-    let block : List BlockTree = record { class = k; decls = ds } ∷ [] in
+    let block : List BlockTree = record { section = k; decls = ds } ∷ [] in
     subst (λ (x : List Placed). BodyNext c (with_blocks (with_blocks f block) bs) x) tokens
     (subst (λ (x : List BlockTree). BodyNext c (record { name = f.name; blocks = x }) (hs ++ (ts ++ (us ++ vs)))) (sym (append_assoc f.blocks block bs))
-    (h (record { class = k; decls = ds } ∷ bs) (ts ++ (us ++ vs)) (spells_block k ds bs ts us vs head sp sb)))
+    (h (record { section = k; decls = ds } ∷ bs) (ts ++ (us ++ vs)) (spells_block k ds bs ts us vs head sp sb)))
 
 -- a block ends
 ended-next : (c : Context) (o : Opening) (cs : List Placed) (t : Token) → DeclsNext c o cs → t.tok ≡ tok.Key key.EndVar
     → BlocksNext c (with_block o) (cs ++ at 0 t ∷ [])
 ended-next c o cs t h k =
-    subst (λ (x : List DeclTree). BlocksNext c (with_blocks o.front (record { class = o.class; decls = x } ∷ [])) (cs ++ at 0 t ∷ [])) (append-nil o.decls)
+    subst (λ (x : List DeclTree). BlocksNext c (with_blocks o.front (record { section = o.section; decls = x } ∷ [])) (cs ++ at 0 t ∷ [])) (append-nil o.decls)
     (h [] (at 0 t ∷ []) (spells_end_var t k))
 
 -- ---- the declarations
@@ -137,9 +137,9 @@ decl-next : (c : Context) (o : Opening) (hs ts us : List Placed) (ds : List Decl
 decl-next c o hs ts us ds ty init t h sn k si more vs sp =
     let decl : DeclTree = record { names = ds; ty = ty; init = init } in
     let all : List Placed = ts ++ at 0 t ∷ us in
-    subst (λ (x : List Placed). BlocksNext c (with_blocks o.front (record { class = o.class; decls = (o.decls ++ decl ∷ []) ++ more } ∷ [])) x)
+    subst (λ (x : List Placed). BlocksNext c (with_blocks o.front (record { section = o.section; decls = (o.decls ++ decl ∷ []) ++ more } ∷ [])) x)
     (sym (append_assoc hs all vs))
-    (subst (λ (x : List DeclTree). BlocksNext c (with_blocks o.front (record { class = o.class; decls = x } ∷ [])) (hs ++ (all ++ vs)))
+    (subst (λ (x : List DeclTree). BlocksNext c (with_blocks o.front (record { section = o.section; decls = x } ∷ [])) (hs ++ (all ++ vs)))
     (sym (append_assoc o.decls (decl ∷ []) more))
     (h (decl ∷ more) (all ++ vs) (spells_next_decl decl more all vs (spells_decl ds ty init t ts us sn k si) sp)))
 
@@ -173,10 +173,10 @@ decl-kept c t o m cs h mk =
 block-kept : (c : Context) (t : Token) (f : Front) (m : Mark) (cs : List Placed) → BlocksNext c f cs → IsMark m t.tok → Kept c t cs (block_at c f m t)
 block-kept c t f m cs h mk =
     let P : Result State SyntaxFault → Type 0 = Kept c t cs in
-    chosen P (is m mark.VarInput) (Ok (at_decl (begun f class.Input))) _
-    (λ e. outside c t cs (at_decl (begun f class.Input)) (begun-next c f class.Input cs (at 0 t ∷ []) h (spells_input t (mk mark.VarInput e))))
-    (chosen P (is m mark.VarOutput) (Ok (at_decl (begun f class.Output))) _
-    (λ e. outside c t cs (at_decl (begun f class.Output)) (begun-next c f class.Output cs (at 0 t ∷ []) h (spells_output t (mk mark.VarOutput e))))
+    chosen P (is m mark.VarInput) (Ok (at_decl (begun f section.Input))) _
+    (λ e. outside c t cs (at_decl (begun f section.Input)) (begun-next c f section.Input cs (at 0 t ∷ []) h (spells_input t (mk mark.VarInput e))))
+    (chosen P (is m mark.VarOutput) (Ok (at_decl (begun f section.Output))) _
+    (λ e. outside c t cs (at_decl (begun f section.Output)) (begun-next c f section.Output cs (at 0 t ∷ []) h (spells_output t (mk mark.VarOutput e))))
     (chosen P (is m mark.Var) (Ok (at_var f)) _
     (λ e. outside c t cs (at_var f) (cs, t, h, mk mark.Var e, refl))
     (subst (λ (x : List Placed). Kept c t x (body_step f (stmt_step c [] no_stmts start t))) (append-nil cs)
@@ -187,15 +187,15 @@ var-kept c t f m cs h mk =
     let P : Result State SyntaxFault → Type 0 = Kept c t (h.0 ++ at 0 h.1 ∷ []) in
     let tokens : h.0 ++ (at 0 h.1 ∷ at 0 t ∷ []) ≡ (h.0 ++ at 0 h.1 ∷ []) ++ at 0 t ∷ [] = simp append_assoc in
     subst (λ (x : List Placed). Kept c t x (var_at c f m t)) (sym h.4)
-    (chosen P (is m mark.Constant) (Ok (at_decl (begun f class.Constant))) _
-    (λ e. outside c t (h.0 ++ at 0 h.1 ∷ []) (at_decl (begun f class.Constant))
-    (subst (λ (x : List Placed). DeclsNext c (begun f class.Constant) x) tokens
-    (begun-next c f class.Constant h.0 (at 0 h.1 ∷ at 0 t ∷ []) h.2 (spells_constant h.1 t h.3 (mk mark.Constant e)))))
-    (chosen P (is m mark.Retain) (Ok (at_decl (begun f class.Retain))) (decl_at c (begun f class.Local) m t)
-    (λ e. outside c t (h.0 ++ at 0 h.1 ∷ []) (at_decl (begun f class.Retain))
-    (subst (λ (x : List Placed). DeclsNext c (begun f class.Retain) x) tokens
-    (begun-next c f class.Retain h.0 (at 0 h.1 ∷ at 0 t ∷ []) h.2 (spells_retain h.1 t h.3 (mk mark.Retain e)))))
-    (decl-kept c t (begun f class.Local) m (h.0 ++ at 0 h.1 ∷ []) (begun-next c f class.Local h.0 (at 0 h.1 ∷ []) h.2 (spells_local h.1 h.3)) mk)))
+    (chosen P (is m mark.Constant) (Ok (at_decl (begun f section.Constant))) _
+    (λ e. outside c t (h.0 ++ at 0 h.1 ∷ []) (at_decl (begun f section.Constant))
+    (subst (λ (x : List Placed). DeclsNext c (begun f section.Constant) x) tokens
+    (begun-next c f section.Constant h.0 (at 0 h.1 ∷ at 0 t ∷ []) h.2 (spells_constant h.1 t h.3 (mk mark.Constant e)))))
+    (chosen P (is m mark.Retain) (Ok (at_decl (begun f section.Retain))) (decl_at c (begun f section.Local) m t)
+    (λ e. outside c t (h.0 ++ at 0 h.1 ∷ []) (at_decl (begun f section.Retain))
+    (subst (λ (x : List Placed). DeclsNext c (begun f section.Retain) x) tokens
+    (begun-next c f section.Retain h.0 (at 0 h.1 ∷ at 0 t ∷ []) h.2 (spells_retain h.1 t h.3 (mk mark.Retain e)))))
+    (decl-kept c t (begun f section.Local) m (h.0 ++ at 0 h.1 ∷ []) (begun-next c f section.Local h.0 (at 0 h.1 ∷ []) h.2 (spells_local h.1 h.3)) mk)))
 
 type-kept : (c : Context) (t : Token) (o : Opening) (ds : List DeclaredTree) (m : Mark) (cs : List Placed) → TypeNext c o ds cs → IsMark m t.tok
     → Kept c t cs (type_at o ds m t)

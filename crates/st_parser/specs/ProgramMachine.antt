@@ -5,8 +5,8 @@ use Rattle.vcp_base.specs.declared.spot.Spot.{Spot}
 use Rattle.vcp_base.specs.declared.ty.Ty.{Ty}
 use Rattle.vcp_base.specs.declared.ty.Ty.TheVariants as ty
 use Rattle.st_lexer.specs.declared.token.Token.{Token}
-use Rattle.st_tree.specs.declared.program.Class.{Class}
-use Rattle.st_tree.specs.declared.program.Class.TheVariants as class
+use Rattle.st_tree.specs.declared.program.Section.{Section}
+use Rattle.st_tree.specs.declared.program.Section.TheVariants as section
 use Rattle.st_tree.specs.ExprTree.{ExprTree}
 use Rattle.st_tree.specs.StmtTree.{StmtTrees, no_stmts}
 use Rattle.st_tree.specs.ProgramTree.{DeclaredTree, DeclTree, BlockTree, ProgramTree}
@@ -26,7 +26,7 @@ pub record Front : Type 0 where
 -- a block that is open, and the declarations that are whole
 pub record Opening : Type 0 where
   pub front : Front
-  pub class : Class
+  pub section : Section
   pub decls : List DeclTree
 
 -- what was read last
@@ -49,14 +49,14 @@ declared c t = record { name = c.bytes t; spot = t.spot }
 
 -- the block with one declaration more
 abbrev pub with_decl : Opening → List DeclaredTree → Ty → Option ExprTree → Opening
-with_decl o ds ty init = record { front = o.front; class = o.class; decls = o.decls ++ record { names = ds; ty = ty; init = init } ∷ [] }
+with_decl o ds ty init = record { front = o.front; section = o.section; decls = o.decls ++ record { names = ds; ty = ty; init = init } ∷ [] }
 
 -- the program's front with the block that ends
 abbrev pub with_block : Opening → Front
-with_block o = record { name = o.front.name; blocks = o.front.blocks ++ record { class = o.class; decls = o.decls } ∷ [] }
+with_block o = record { name = o.front.name; blocks = o.front.blocks ++ record { section = o.section; decls = o.decls } ∷ [] }
 
-abbrev pub begun : Front → Class → Opening
-begun f k = record { front = f; class = k; decls = [] }
+abbrev pub begun : Front → Section → Opening
+begun f k = record { front = f; section = k; decls = [] }
 
 abbrev pub body_step : Front → Result At SyntaxFault → Result State SyntaxFault
 body_step f (Ok a) = Ok (in_body f a.outer a.stmts a.phase)
@@ -71,17 +71,17 @@ decl_at c o m t =
 -- a token where a block may begin, or the body
 abbrev pub block_at : Context → Front → Mark → Token → Result State SyntaxFault
 block_at c f m t =
-    cond (is m mark.VarInput) (Ok (at_decl (begun f class.Input)))
-    (cond (is m mark.VarOutput) (Ok (at_decl (begun f class.Output)))
+    cond (is m mark.VarInput) (Ok (at_decl (begun f section.Input)))
+    (cond (is m mark.VarOutput) (Ok (at_decl (begun f section.Output)))
     (cond (is m mark.Var) (Ok (at_var f))
     (body_step f (stmt_step c [] no_stmts start t))))
 
 -- a token behind VAR
 abbrev pub var_at : Context → Front → Mark → Token → Result State SyntaxFault
 var_at c f m t =
-    cond (is m mark.Constant) (Ok (at_decl (begun f class.Constant)))
-    (cond (is m mark.Retain) (Ok (at_decl (begun f class.Retain)))
-    (decl_at c (begun f class.Local) m t))
+    cond (is m mark.Constant) (Ok (at_decl (begun f section.Constant)))
+    (cond (is m mark.Retain) (Ok (at_decl (begun f section.Retain)))
+    (decl_at c (begun f section.Local) m t))
 
 -- the word of a type
 abbrev pub type_at : Opening → List DeclaredTree → Mark → Token → Result State SyntaxFault

@@ -15,7 +15,7 @@ abbrev pub front : Front → machine.Front
 front f = record { name = f.name; blocks = map block_tree f.blocks.items.items }
 
 abbrev pub opening : Opening → machine.Opening
-opening o = record { front = front o.front; class = o.class; decls = map decl_tree o.decls.items.items }
+opening o = record { front = front o.front; section = o.section; decls = map decl_tree o.decls.items.items }
 
 abbrev pub program : State → machine.State
 program state_is.AtProgram = machine.at_program

@@ -24,7 +24,7 @@ use crate::names::{Source, name_of};
 use crate::state::{At, Front, Opening, State};
 use crate::statements::stmt_step;
 use st_lexer::Token;
-use st_tree::{Block, Blocks, Class, Decl, Declared, DeclaredNames, Decls, Expr};
+use st_tree::{Block, Blocks, Decl, Declared, DeclaredNames, Decls, Expr, Section};
 use std::alloc::Global;
 use vcp_base::{Memory, Ty};
 
@@ -52,14 +52,14 @@ fn with_decl(
 {
     let Opening {
         front,
-        class,
+        section,
         decls,
     } = opening;
     let mut decls = decls;
     decls.push(Decl { names, ty, init })?;
     Ok(Opening {
         front,
-        class,
+        section,
         decls,
     })
 }
@@ -70,22 +70,22 @@ fn with_block(opening: Opening) -> Result<Front, Memory>
 {
     let Opening {
         front,
-        class,
+        section,
         decls,
     } = opening;
     let Front { name, blocks } = front;
     let mut blocks = blocks;
-    blocks.push(Block { class, decls })?;
+    blocks.push(Block { section, decls })?;
     Ok(Front { name, blocks })
 }
 
 // A block of no declarations yet.
-fn begun(alloc: Global, front: Front, class: Class) -> Opening
-    ensures { view.opening result ≡ machine.begun (view.front front) class }
+fn begun(alloc: Global, front: Front, section: Section) -> Opening
+    ensures { view.opening result ≡ machine.begun (view.front front) section }
 {
     Opening {
         front,
-        class,
+        section,
         decls: Decls::new(alloc),
     }
 }
@@ -166,11 +166,11 @@ fn block_at(source: Source, front: Front, t: Token) -> Result<State, SyntaxFault
 {
     let mark = mark_of(t.tok);
     if is(mark, Mark::VarInput) {
-        let opening = begun(source.alloc, front, Class::Input);
+        let opening = begun(source.alloc, front, Section::Input);
         return Ok(State::AtDecl { opening });
     }
     if is(mark, Mark::VarOutput) {
-        let opening = begun(source.alloc, front, Class::Output);
+        let opening = begun(source.alloc, front, Section::Output);
         return Ok(State::AtDecl { opening });
     }
     if is(mark, Mark::Var) {
@@ -187,14 +187,14 @@ fn var_at(source: Source, front: Front, t: Token) -> Result<State, SyntaxFault>
 {
     let mark = mark_of(t.tok);
     if is(mark, Mark::Constant) {
-        let opening = begun(source.alloc, front, Class::Constant);
+        let opening = begun(source.alloc, front, Section::Constant);
         return Ok(State::AtDecl { opening });
     }
     if is(mark, Mark::Retain) {
-        let opening = begun(source.alloc, front, Class::Retain);
+        let opening = begun(source.alloc, front, Section::Retain);
         return Ok(State::AtDecl { opening });
     }
-    let opening = begun(source.alloc, front, Class::Local);
+    let opening = begun(source.alloc, front, Section::Local);
     decl_at(source, opening, mark, t)
 }
 

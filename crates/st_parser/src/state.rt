@@ -4,7 +4,7 @@
 //! apart in place, variant by variant, in the proof of each function that holds it.
 
 use crate::forms::{Form, Mode};
-use st_tree::{Arms, Blocks, Branches, Class, DeclaredNames, Decls, Expr, Labels, Stmts};
+use st_tree::{Arms, Blocks, Branches, DeclaredNames, Decls, Expr, Labels, Section, Stmts};
 use vcp_base::{Spot, Text, Ty};
 
 /// A CASE and the branches that are whole.
@@ -143,7 +143,7 @@ pub struct Front {
 #[derive(Drop)]
 pub struct Opening {
     pub front: Front,
-    pub class: Class,
+    pub section: Section,
     pub decls: Decls,
 }
 

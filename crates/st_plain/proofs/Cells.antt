@@ -45,11 +45,11 @@ no-inputs-left [] (v ∷ m) e = absurd (omega (arith, e))
 no-inputs-left (s ∷ slots) [] e = absurd (omega (arith, e))
 no-inputs-left (s ∷ slots) (v ∷ m) e = refl
 
-input-first : (s : Slot) (slots : List Slot) (x v : ℤ) (row m : List ℤ) → is_input s.class ≡ true
+input-first : (s : Slot) (slots : List Slot) (x v : ℤ) (row m : List ℤ) → is_input s.section ≡ true
     → with_inputs (s ∷ slots) (x ∷ row) (v ∷ m) ≡ x ∷ with_inputs slots row m
 input-first s slots x v row m e = ap (λ b. cond b (x ∷ with_inputs slots row m) (v ∷ with_inputs slots (x ∷ row) m)) e
 
-kept-first : (s : Slot) (slots : List Slot) (v : ℤ) (row m : List ℤ) → is_input s.class ≡ false → length slots ≡ length m
+kept-first : (s : Slot) (slots : List Slot) (v : ℤ) (row m : List ℤ) → is_input s.section ≡ false → length slots ≡ length m
     → with_inputs (s ∷ slots) row (v ∷ m) ≡ v ∷ with_inputs slots row m
 kept-first s slots v [] m e same = ap (λ t. v ∷ t) (sym (no-inputs-left slots m same))
 kept-first s slots v (x ∷ row) m e same = ap (λ b. cond b (x ∷ with_inputs slots row m) (v ∷ with_inputs slots (x ∷ row) m)) e
@@ -58,7 +58,7 @@ some-in : (t : Ty) (ts : List Ty) (row : List ℤ) → AreIn (t ∷ ts) row → 
 some-in t ts [] h = absurd h
 some-in t ts (v ∷ row) h = omega arith
 
-pub input-there : (all : List Slot) (s : Slot) (slots : List Slot) (row : List ℤ) (n : ℕ) → all ≡ s ∷ slots → is_input s.class ≡ true
+pub input-there : (all : List Slot) (s : Slot) (slots : List Slot) (row : List ℤ) (n : ℕ) → all ≡ s ∷ slots → is_input s.section ≡ true
     → AreIn (input_types all) (drop n row) → n < length row
 input-there all s slots row n is e h =
     let first : AreIn (input_types (s ∷ slots)) (drop n row) = subst (λ x. AreIn (input_types x) (drop n row)) is h in
@@ -66,7 +66,7 @@ input-there all s slots row n is e h =
     let some : 0 < length (drop n row) = some-in s.ty (input_types slots) (drop n row) one in
     omega (arith, some, length-drop n row)
 
-pub inputs-taken : (all : List Slot) (s : Slot) (slots : List Slot) (row : List ℤ) (n next : ℕ) (x : ℤ) → all ≡ s ∷ slots → is_input s.class ≡ true
+pub inputs-taken : (all : List Slot) (s : Slot) (slots : List Slot) (row : List ℤ) (n next : ℕ) (x : ℤ) → all ≡ s ∷ slots → is_input s.section ≡ true
     → slice_get row n ≡ Some x → next ≡ n + 1
     → AreIn (input_types all) (drop n row) → AreIn (input_types slots) (drop next row)
 inputs-taken all s slots row n next x is e there more h =
@@ -75,7 +75,7 @@ inputs-taken all s slots row n next x is e there more h =
     let cut : AreIn (s.ty ∷ input_types slots) (x ∷ drop (n + 1) row) = subst (λ r. AreIn (s.ty ∷ input_types slots) r) (drop-item row n x there) one in
     subst (λ k. AreIn (input_types slots) (drop k row)) (sym more) cut.1
 
-pub inputs-kept : (all : List Slot) (s : Slot) (slots : List Slot) (row : List ℤ) (n next : ℕ) → all ≡ s ∷ slots → is_input s.class ≡ false → next ≡ n
+pub inputs-kept : (all : List Slot) (s : Slot) (slots : List Slot) (row : List ℤ) (n next : ℕ) → all ≡ s ∷ slots → is_input s.section ≡ false → next ≡ n
     → AreIn (input_types all) (drop n row) → AreIn (input_types slots) (drop next row)
 inputs-kept all s slots row n next is e same h =
     let first : AreIn (input_types (s ∷ slots)) (drop n row) = subst (λ y. AreIn (input_types y) (drop n row)) is h in
@@ -83,7 +83,7 @@ inputs-kept all s slots row n next is e same h =
     subst (λ k. AreIn (input_types slots) (drop k row)) (sym same) one
 
 pub values-taken : (slots : List Slot) (i : ℕ) (s : Slot) (row before values : List ℤ) (n next : ℕ) (x b : ℤ) (w : List ℤ) → i < length slots
-    → s ≡ get_or slots i s → is_input s.class ≡ true
+    → s ≡ get_or slots i s → is_input s.section ≡ true
     → slice_get row n ≡ Some x → next ≡ n + 1 → slice_get before i ≡ Some b → i < length values
     → take i values ++ with_inputs (drop i slots) (drop n row) (drop i before) ≡ w
     → take (i + 1) (slice_set values i x) ++ with_inputs (drop (i + 1) slots) (drop next row) (drop (i + 1) before) ≡ w
@@ -96,7 +96,7 @@ values-taken slots i s row before values n next x b w lt is e there more kept in
     set-one values i x _ w inside (ap (λ t. take i values ++ t) (sym first) ∙ h)
 
 pub values-kept : (slots : List Slot) (i : ℕ) (s : Slot) (row before values : List ℤ) (n next : ℕ) (x b : ℤ) (w : List ℤ) → i < length slots
-    → s ≡ get_or slots i s → is_input s.class ≡ false
+    → s ≡ get_or slots i s → is_input s.section ≡ false
     → x ≡ b → next ≡ n → slice_get before i ≡ Some b → length before ≡ length slots → i < length values
     → take i values ++ with_inputs (drop i slots) (drop n row) (drop i before) ≡ w
     → take (i + 1) (slice_set values i x) ++ with_inputs (drop (i + 1) slots) (drop next row) (drop (i + 1) before) ≡ w
@@ -115,22 +115,22 @@ slots-at slots i s lt is = drop-at slots i s lt is
 
 -- ---- outputs
 
-output-first : (s : Slot) (slots : List Slot) (v : ℤ) (m : List ℤ) → is_output s.class ≡ true → outputs (s ∷ slots) (v ∷ m) ≡ v ∷ outputs slots m
+output-first : (s : Slot) (slots : List Slot) (v : ℤ) (m : List ℤ) → is_output s.section ≡ true → outputs (s ∷ slots) (v ∷ m) ≡ v ∷ outputs slots m
 output-first s slots v m e = ap (λ b. cond b (v ∷ outputs slots m) (outputs slots m)) e
 
-other-first : (s : Slot) (slots : List Slot) (v : ℤ) (m : List ℤ) → is_output s.class ≡ false → outputs (s ∷ slots) (v ∷ m) ≡ outputs slots m
+other-first : (s : Slot) (slots : List Slot) (v : ℤ) (m : List ℤ) → is_output s.section ≡ false → outputs (s ∷ slots) (v ∷ m) ≡ outputs slots m
 other-first s slots v m e = ap (λ b. cond b (v ∷ outputs slots m) (outputs slots m)) e
 
-pub cells-of-output : (all : List Slot) (s : Slot) (slots : List Slot) → all ≡ s ∷ slots → is_output s.class ≡ true
+pub cells-of-output : (all : List Slot) (s : Slot) (slots : List Slot) → all ≡ s ∷ slots → is_output s.section ≡ true
     → length (output_types all) ≡ suc (length (output_types slots))
 cells-of-output all s slots is e = ap (λ x. length (output_types x)) is ∙ ap (λ b. length (cond b (s.ty ∷ output_types slots) (output_types slots))) e
 
-pub cells-of-other : (all : List Slot) (s : Slot) (slots : List Slot) → all ≡ s ∷ slots → is_output s.class ≡ false
+pub cells-of-other : (all : List Slot) (s : Slot) (slots : List Slot) → all ≡ s ∷ slots → is_output s.section ≡ false
     → length (output_types all) ≡ length (output_types slots)
 cells-of-other all s slots is e = ap (λ x. length (output_types x)) is ∙ ap (λ b. length (cond b (s.ty ∷ output_types slots) (output_types slots))) e
 
 pub outputs-put : (slots : List Slot) (i : ℕ) (s : Slot) (values out next_out : List ℤ) (n next : ℕ) (v : ℤ) (w : List ℤ) → i < length slots
-    → s ≡ get_or slots i s → is_output s.class ≡ true
+    → s ≡ get_or slots i s → is_output s.section ≡ true
     → slice_get values i ≡ Some v → n < length out → next_out ≡ slice_set out n v → next ≡ n + 1
     → take n out ++ outputs (drop i slots) (drop i values) ≡ w → take next next_out ++ outputs (drop (i + 1) slots) (drop (i + 1) values) ≡ w
 outputs-put slots i s values out next_out n next v w lt is e there inside put more h =
@@ -140,7 +140,7 @@ outputs-put slots i s values out next_out n next v w lt is e there inside put mo
     ∙ set-one out n v _ w inside (ap (λ t. take n out ++ t) (sym first) ∙ h)
 
 pub outputs-left : (slots : List Slot) (i : ℕ) (s : Slot) (values out next_out : List ℤ) (n next : ℕ) (v : ℤ) (w : List ℤ) → i < length slots
-    → s ≡ get_or slots i s → is_output s.class ≡ false
+    → s ≡ get_or slots i s → is_output s.section ≡ false
     → slice_get values i ≡ Some v → next_out ≡ out → next ≡ n
     → take n out ++ outputs (drop i slots) (drop i values) ≡ w → take next next_out ++ outputs (drop (i + 1) slots) (drop (i + 1) values) ≡ w
 outputs-left slots i s values out next_out n next v w lt is e there put more h =
@@ -169,20 +169,20 @@ which false = inr refl
 
 pub values-next : (slots : List Slot) (i : ℕ) (s : Slot) (row before values : List ℤ) (n next : ℕ) (x b : ℤ) (w : List ℤ) → i < length slots
     → s ≡ get_or slots i s
-    → (is_input s.class ≡ true → slice_get row n ≡ Some x) → (is_input s.class ≡ true → next ≡ n + 1) → (is_input s.class ≡ false → x ≡ b)
-    → (is_input s.class ≡ false → next ≡ n)
+    → (is_input s.section ≡ true → slice_get row n ≡ Some x) → (is_input s.section ≡ true → next ≡ n + 1) → (is_input s.section ≡ false → x ≡ b)
+    → (is_input s.section ≡ false → next ≡ n)
     → slice_get before i ≡ Some b → length before ≡ length slots → i < length values
     → take i values ++ with_inputs (drop i slots) (drop n row) (drop i before) ≡ w
     → take (i + 1) (slice_set values i x) ++ with_inputs (drop (i + 1) slots) (drop next row) (drop (i + 1) before) ≡ w
-values-next slots i s row before values n next x b w lt is there more stays same kept lengths inside h = elim (which (is_input s.class)) [
+values-next slots i s row before values n next x b w lt is there more stays same kept lengths inside h = elim (which (is_input s.section)) [
   | inl e ↦ values-taken slots i s row before values n next x b w lt is e (there e) (more e) kept inside h
   | inr e ↦ values-kept slots i s row before values n next x b w lt is e (stays e) (same e) kept lengths inside h
 ]
 
 pub inputs-next : (slots : List Slot) (i : ℕ) (s : Slot) (row : List ℤ) (n next : ℕ) (x : ℤ) → i < length slots → s ≡ get_or slots i s
-    → (is_input s.class ≡ true → slice_get row n ≡ Some x) → (is_input s.class ≡ true → next ≡ n + 1) → (is_input s.class ≡ false → next ≡ n)
+    → (is_input s.section ≡ true → slice_get row n ≡ Some x) → (is_input s.section ≡ true → next ≡ n + 1) → (is_input s.section ≡ false → next ≡ n)
     → AreIn (input_types (drop i slots)) (drop n row) → AreIn (input_types (drop (i + 1) slots)) (drop next row)
-inputs-next slots i s row n next x lt is there more same h = elim (which (is_input s.class)) [
+inputs-next slots i s row n next x lt is there more same h = elim (which (is_input s.section)) [
   | inl e ↦ inputs-taken (drop i slots) s (drop (i + 1) slots) row n next x (drop-at slots i s lt is) e (there e) (more e) h
   | inr e ↦ inputs-kept (drop i slots) s (drop (i + 1) slots) row n next (drop-at slots i s lt is) e (same e) h
 ]
@@ -195,11 +195,11 @@ at-most-one b n next i more same le = elim (which b) [
 
 pub outputs-next : (slots : List Slot) (i : ℕ) (s : Slot) (values out next_out : List ℤ) (n next : ℕ) (v : ℤ) (w : List ℤ) → i < length slots
     → s ≡ get_or slots i s
-    → (is_output s.class ≡ true → next_out ≡ slice_set out n v) → (is_output s.class ≡ true → next ≡ n + 1) → (is_output s.class ≡ false → next_out ≡ out)
-    → (is_output s.class ≡ false → next ≡ n)
+    → (is_output s.section ≡ true → next_out ≡ slice_set out n v) → (is_output s.section ≡ true → next ≡ n + 1) → (is_output s.section ≡ false → next_out ≡ out)
+    → (is_output s.section ≡ false → next ≡ n)
     → slice_get values i ≡ Some v → n + length (output_types (drop i slots)) ≡ length out
     → take n out ++ outputs (drop i slots) (drop i values) ≡ w → take next next_out ++ outputs (drop (i + 1) slots) (drop (i + 1) values) ≡ w
-outputs-next slots i s values out next_out n next v w lt is put more left same there cells h = elim (which (is_output s.class)) [
+outputs-next slots i s values out next_out n next v w lt is put more left same there cells h = elim (which (is_output s.section)) [
   | inl e ↦
       (let more_cells : length (output_types (drop i slots)) ≡ suc (length (output_types (drop (i + 1) slots))) =
       cells-of-output (drop i slots) s (drop (i + 1) slots) (drop-at slots i s lt is) e in
@@ -209,10 +209,10 @@ outputs-next slots i s values out next_out n next v w lt is put more left same t
 ]
 
 pub cells-next : (slots : List Slot) (i : ℕ) (s : Slot) (out next_out : List ℤ) (n next : ℕ) (v : ℤ) → i < length slots → s ≡ get_or slots i s
-    → (is_output s.class ≡ true → next_out ≡ slice_set out n v) → (is_output s.class ≡ true → next ≡ n + 1) → (is_output s.class ≡ false → next_out ≡ out)
-    → (is_output s.class ≡ false → next ≡ n)
+    → (is_output s.section ≡ true → next_out ≡ slice_set out n v) → (is_output s.section ≡ true → next ≡ n + 1) → (is_output s.section ≡ false → next_out ≡ out)
+    → (is_output s.section ≡ false → next ≡ n)
     → n + length (output_types (drop i slots)) ≡ length out → next + length (output_types (drop (i + 1) slots)) ≡ length next_out
-cells-next slots i s out next_out n next v lt is put more left same cells = elim (which (is_output s.class)) [
+cells-next slots i s out next_out n next v lt is put more left same cells = elim (which (is_output s.section)) [
   | inl e ↦
       (let more_cells : length (output_types (drop i slots)) ≡ suc (length (output_types (drop (i + 1) slots))) =
       cells-of-output (drop i slots) s (drop (i + 1) slots) (drop-at slots i s lt is) e in

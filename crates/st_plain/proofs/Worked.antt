@@ -4,8 +4,8 @@ use Rattle.vcp_base.specs.declared.spot.Spot.{Spot}
 use Rattle.vcp_base.specs.declared.ty.Ty.TheVariants as ty
 use Rattle.vcp_base.specs.declared.kind.StopKind.TheVariants as why
 use Rattle.st_tree.specs.declared.expr.BinOp.TheVariants as bin
-use Rattle.st_tree.specs.declared.program.Class.{Class}
-use Rattle.st_tree.specs.declared.program.Class.TheVariants as class
+use Rattle.st_tree.specs.declared.program.Section.{Section}
+use Rattle.st_tree.specs.declared.program.Section.TheVariants as section
 use Rattle.vcp_typed.specs.declared.slot.Slot.{Slot}
 use Rattle.vcp_typed.specs.TExprTree.{TExprTree, literal, get, binary}
 use Rattle.vcp_typed.specs.TStmtTree.{TStmtTree, TStmtTrees, assign, for_, no_tstmts, and_tstmt}
@@ -17,8 +17,8 @@ use Rattle.st_plain.specs.Depth.{stmts_depth}
 abbrev at : ℕ → ℕ → Spot
 at line col = record { line = line; col = col }
 
-abbrev slot : List ℕ → Class → ℤ → Slot
-slot name c init = record { name = name; spot = at 1 1; class = c; ty = ty.Int; init = init }
+abbrev slot : List ℕ → Section → ℤ → Slot
+slot name c init = record { name = name; spot = at 1 1; section = c; ty = ty.Int; init = init }
 
 abbrev int : ℤ → TExprTree
 int v = literal ty.Int v (at 1 1)
@@ -30,7 +30,7 @@ plus a b p = binary bin.Add ty.Int a b p
 
 abbrev next : Program
 next = record {
-  slots = slot (120 ∷ []) class.Input (pos 0) ∷ slot (121 ∷ []) class.Output (pos 0) ∷ [];
+  slots = slot (120 ∷ []) section.Input (pos 0) ∷ slot (121 ∷ []) section.Output (pos 0) ∷ [];
   body =
       and_tstmt (assign 1 (plus (get 0 ty.Int) (int (pos 1)) (at 4 8)) (at 4 1)) no_tstmts;
 }
@@ -61,7 +61,7 @@ no-rows = refl
 
 abbrev counter : Program
 counter = record {
-  slots = slot (110 ∷ []) class.Local (pos 0) ∷ slot (121 ∷ []) class.Output (pos 0) ∷ [];
+  slots = slot (110 ∷ []) section.Local (pos 0) ∷ slot (121 ∷ []) section.Output (pos 0) ∷ [];
   body = and_tstmt (assign 0 (plus (get 0 ty.Int) (int (pos 1)) (at 4 8)) (at 4 1)) (and_tstmt (assign 1 (get 0 ty.Int) (at 5 1)) no_tstmts);
 }
 
@@ -73,7 +73,7 @@ counted = refl
 
 abbrev product : Program
 product = record {
-  slots = slot (120 ∷ []) class.Input (pos 0) ∷ slot (105 ∷ []) class.Local (pos 0) ∷ slot (121 ∷ []) class.Output (pos 0) ∷ [];
+  slots = slot (120 ∷ []) section.Input (pos 0) ∷ slot (105 ∷ []) section.Local (pos 0) ∷ slot (121 ∷ []) section.Output (pos 0) ∷ [];
   body = and_tstmt (assign 2 (int (pos 1)) (at 5 1))
       (and_tstmt (for_ 1 (pos 1) (pos 1) 5 (and_tstmt (assign 2 (binary bin.Mul ty.Int (get 2 ty.Int) (get 0 ty.Int) (at 7 10)) (at 7 3)) no_tstmts)
       (at 6 5)) no_tstmts);

@@ -6,7 +6,7 @@ ghost use Rattle.vcp_base.specs.Types.{AreIn};
 ghost use Rattle.vcp_typed.specs.Fitting.{input_types, output_types};
 ghost use Rattle.vcp_typed.specs.SourceRun.{is_input as is_input_of, is_output as is_output_of, initial, with_inputs, outputs};
 
-use st_tree::Class;
+use st_tree::Section;
 use std::alloc::Global;
 use vcp_base::{Memory, Row};
 use vcp_typed::Slot;
@@ -22,28 +22,28 @@ pub fn initial_values(alloc: Global, slots: &[Slot]) -> Result<Row, Memory>
     Ok(values)
 }
 
-fn is_input(class: Class) -> bool
-    ensures { result ≡ is_input_of class }
+fn is_input(section: Section) -> bool
+    ensures { result ≡ is_input_of section }
 {
-    matches!(class, Class::Input)
+    matches!(section, Section::Input)
 }
 
-fn is_output(class: Class) -> bool
-    ensures { result ≡ is_output_of class }
+fn is_output(section: Section) -> bool
+    ensures { result ≡ is_output_of section }
 {
-    matches!(class, Class::Output)
+    matches!(section, Section::Output)
 }
 
 /// The next value of the row for an input, and else the value that is kept.
-fn input_or_kept(class: Class, row: &Row, next: &mut usize, kept: i64) -> i64
+fn input_or_kept(section: Section, row: &Row, next: &mut usize, kept: i64) -> i64
     requires few { next.old ≤ most_names }
-    requires there { is_input_of class ≡ true → next.old < length row.now }
-    ensures input { is_input_of class ≡ true → slice_get row.now next.old ≡ Some result }
-    ensures taken { is_input_of class ≡ true → next.new ≡ next.old + 1 }
-    ensures kept { is_input_of class ≡ false → result ≡ kept }
-    ensures same { is_input_of class ≡ false → next.new ≡ next.old }
+    requires there { is_input_of section ≡ true → next.old < length row.now }
+    ensures input { is_input_of section ≡ true → slice_get row.now next.old ≡ Some result }
+    ensures taken { is_input_of section ≡ true → next.new ≡ next.old + 1 }
+    ensures kept { is_input_of section ≡ false → result ≡ kept }
+    ensures same { is_input_of section ≡ false → next.new ≡ next.old }
 {
-    if is_input(class) {
+    if is_input(section) {
         let value = row.at(*next);
         *next += 1;
         value
@@ -62,22 +62,22 @@ pub fn set_inputs(slots: &[Slot], row: &Row, before: &Row, values: &mut Row)
 {
     let mut next = 0;
     'each: for (i, slot) in slots.iter().enumerate() {
-        let value = input_or_kept(slot.class, row, &mut next, before.at(i));
+        let value = input_or_kept(slot.section, row, &mut next, before.at(i));
         values.set(i as u32, value);
     }
 }
 
-/// Sets the next cell of the row, where the class is that of an output.
-fn put_output(class: Class, value: i64, out: &mut Row, next: &mut u32)
+/// Sets the next cell of the row, where the section is that of an output.
+fn put_output(section: Section, value: i64, out: &mut Row, next: &mut u32)
     requires few { next.old < most_names }
-    requires cell { is_output_of class ≡ true → next.old < length out.old }
-    ensures put { is_output_of class ≡ true → out.new ≡ slice_set out.old next.old value }
-    ensures counted { is_output_of class ≡ true → next.new ≡ next.old + 1 }
-    ensures left { is_output_of class ≡ false → out.new ≡ out.old }
-    ensures same { is_output_of class ≡ false → next.new ≡ next.old }
+    requires cell { is_output_of section ≡ true → next.old < length out.old }
+    ensures put { is_output_of section ≡ true → out.new ≡ slice_set out.old next.old value }
+    ensures counted { is_output_of section ≡ true → next.new ≡ next.old + 1 }
+    ensures left { is_output_of section ≡ false → out.new ≡ out.old }
+    ensures same { is_output_of section ≡ false → next.new ≡ next.old }
     ensures cells { length out.new ≡ length out.old }
 {
-    if is_output(class) {
+    if is_output(section) {
         out.set(*next, value);
         *next += 1;
     }
@@ -93,6 +93,6 @@ pub fn set_outputs(slots: &[Slot], values: &Row, out: &mut Row)
 {
     let mut next = 0;
     'each: for (i, slot) in slots.iter().enumerate() {
-        put_output(slot.class, values.at(i), out, &mut next);
+        put_output(slot.section, values.at(i), out, &mut next);
     }
 }

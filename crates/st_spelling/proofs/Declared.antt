@@ -140,7 +140,7 @@ module _ (bytes : Token → List ℕ) (short : (t : Token) → length (bytes t) 
   of-blocks : {bs : List BlockTree} {ts : List Placed} → SpellsBlocks bytes bs ts → Each bytes ts
       → AreDeclarable (flat_map (λ b. flat_map (λ d. d.names) b.decls) bs)
   of-blocks spells_no_block h = All-nil (λ (d : DeclaredTree). IsDeclarable d.name)
-  of-blocks (spells_block class ds bs ts us vs sh sa sb) h =
+  of-blocks (spells_block section ds bs ts us vs sh sa sb) h =
       let p = parted bytes ts (us ++ vs) h in
       let q = parted bytes us vs p.1 in
       All-append (λ (d : DeclaredTree). IsDeclarable d.name) (flat_map (λ d. d.names) ds) _ (of-decls sa q.0) (of-blocks sb q.1)

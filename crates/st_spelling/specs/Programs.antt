@@ -11,8 +11,8 @@ use Rattle.st_lexer.specs.declared.token.Key.TheVariants as key
 use Rattle.st_lexer.specs.declared.token.Sym.TheVariants as sym
 use Rattle.st_lexer.specs.declared.token.Tok.TheVariants as tok
 use Rattle.st_lexer.specs.declared.token.Token.{Token}
-use Rattle.st_tree.specs.declared.program.Class.{Class}
-use Rattle.st_tree.specs.declared.program.Class.TheVariants as class
+use Rattle.st_tree.specs.declared.program.Section.{Section}
+use Rattle.st_tree.specs.declared.program.Section.TheVariants as section
 use Rattle.st_tree.specs.ExprTree.{ExprTree}
 use Rattle.st_tree.specs.StmtTree.{StmtTrees}
 use Rattle.st_tree.specs.ProgramTree.{DeclaredTree, DeclTree, BlockTree, ProgramTree}
@@ -69,28 +69,28 @@ pub data SpellsDecls (bytes : Token → List ℕ) : List DeclTree → List Place
       SpellsDecls bytes ds us →
       SpellsDecls bytes (d ∷ ds) (ts ++ us)
 
--- the head of a block of this class
-pub data SpellsHead : Class → List Placed → Type 0 where
-  spells_input : (t : Token) → t.tok ≡ tok.Key key.VarInput → SpellsHead class.Input (at 0 t ∷ [])
-  spells_output : (t : Token) → t.tok ≡ tok.Key key.VarOutput → SpellsHead class.Output (at 0 t ∷ [])
-  spells_local : (t : Token) → t.tok ≡ tok.Key key.Var → SpellsHead class.Local (at 0 t ∷ [])
+-- the head of a block of this section
+pub data SpellsHead : Section → List Placed → Type 0 where
+  spells_input : (t : Token) → t.tok ≡ tok.Key key.VarInput → SpellsHead section.Input (at 0 t ∷ [])
+  spells_output : (t : Token) → t.tok ≡ tok.Key key.VarOutput → SpellsHead section.Output (at 0 t ∷ [])
+  spells_local : (t : Token) → t.tok ≡ tok.Key key.Var → SpellsHead section.Local (at 0 t ∷ [])
   spells_constant : (t u : Token) →
       t.tok ≡ tok.Key key.Var →
       u.tok ≡ tok.Key key.Constant →
-      SpellsHead class.Constant (at 0 t ∷ at 0 u ∷ [])
+      SpellsHead section.Constant (at 0 t ∷ at 0 u ∷ [])
   spells_retain : (t u : Token) →
       t.tok ≡ tok.Key key.Var →
       u.tok ≡ tok.Key key.Retain →
-      SpellsHead class.Retain (at 0 t ∷ at 0 u ∷ [])
+      SpellsHead section.Retain (at 0 t ∷ at 0 u ∷ [])
 
 -- the blocks of a program
 pub data SpellsBlocks (bytes : Token → List ℕ) : List BlockTree → List Placed → Type 0 where
   spells_no_block : SpellsBlocks bytes [] []
-  spells_block : (class : Class) (ds : List DeclTree) (bs : List BlockTree) (ts us vs : List Placed) →
-      SpellsHead class ts →
+  spells_block : (section : Section) (ds : List DeclTree) (bs : List BlockTree) (ts us vs : List Placed) →
+      SpellsHead section ts →
       SpellsDecls bytes ds us →
       SpellsBlocks bytes bs vs →
-      SpellsBlocks bytes (record { class = class; decls = ds } ∷ bs) (ts ++ (us ++ vs))
+      SpellsBlocks bytes (record { section = section; decls = ds } ∷ bs) (ts ++ (us ++ vs))
 
 -- a program
 pub data SpellsProgram (bytes : Token → List ℕ) : ProgramTree → List Placed → Type 0 where

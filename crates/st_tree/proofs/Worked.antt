@@ -5,7 +5,7 @@ use Rattle.vcp_base.specs.declared.spot.Spot.{Spot}
 use Rattle.vcp_base.specs.declared.ty.Ty.TheVariants as ty
 use Rattle.st_tree.specs.declared.expr.UnOp.TheVariants as sign
 use Rattle.st_tree.specs.declared.expr.BinOp.TheVariants as op
-use Rattle.st_tree.specs.declared.program.Class.TheVariants as class
+use Rattle.st_tree.specs.declared.program.Section.TheVariants as section
 use Rattle.st_tree.specs.ExprTree.{ExprTree, literal, name, unary, binary, call, no_exprs, and_expr}
 use Rattle.st_tree.specs.StmtTree.{StmtTree, StmtTrees, ArmTrees, LabelTree, assign, if_, case, for_, no_stmts, and_stmt, no_arms, and_arm, no_branches}
 use Rattle.st_tree.specs.StmtTree.{and_branch, no_other, other}
@@ -60,14 +60,14 @@ repetition = refl
 -- PROGRAM f VAR_INPUT a : INT; END_VAR END_PROGRAM
 program : bare (record {
   name = f;
-  blocks = record { class = class.Input; decls = record { names = record { name = a; spot = at 21 } ∷ []; ty = ty.Int; init = None } ∷ [] } ∷ [];
+  blocks = record { section = section.Input; decls = record { names = record { name = a; spot = at 21 } ∷ []; ty = ty.Int; init = None } ∷ [] } ∷ [];
   body =
       no_stmts;
 })
     ≡ record {
       name = f;
       blocks =
-          record { class = class.Input; decls = record { names = record { name = a; spot = nowhere } ∷ []; ty = ty.Int; init = None } ∷ [] } ∷ [];
+          record { section = section.Input; decls = record { names = record { name = a; spot = nowhere } ∷ []; ty = ty.Int; init = None } ∷ [] } ∷ [];
       body = no_stmts;
     }
 program = refl

@@ -61,7 +61,7 @@ abbrev pub bare_decl : DeclTree → DeclTree
 bare_decl d = record { names = map bare_declared d.names; ty = d.ty; init = bare_expr_or_none d.init }
 
 abbrev pub bare_block : BlockTree → BlockTree
-bare_block b = record { class = b.class; decls = map bare_decl b.decls }
+bare_block b = record { section = b.section; decls = map bare_decl b.decls }
 
 abbrev pub bare : ProgramTree → ProgramTree
 bare p = record { name = p.name; blocks = map bare_block p.blocks; body = bare_stmts p.body }

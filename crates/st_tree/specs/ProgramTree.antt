@@ -2,7 +2,7 @@
 use Rattle.std.specs.Prelude.{ℕ, List, Option}
 use Rattle.vcp_base.specs.declared.spot.Spot.{Spot}
 use Rattle.vcp_base.specs.declared.ty.Ty.{Ty}
-use Rattle.st_tree.specs.declared.program.Class.{Class}
+use Rattle.st_tree.specs.declared.program.Section.{Section}
 use Rattle.st_tree.specs.ExprTree.{ExprTree}
 use Rattle.st_tree.specs.StmtTree.{StmtTrees}
 
@@ -16,7 +16,7 @@ pub record DeclTree : Type 0 where
   pub init : Option ExprTree
 
 pub record BlockTree : Type 0 where
-  pub class : Class
+  pub section : Section
   pub decls : List DeclTree
 
 pub record ProgramTree : Type 0 where

@@ -15,7 +15,7 @@ abbrev pub decl_tree : Decl → DeclTree
 decl_tree d = record { names = map declared_tree d.names.items.items; ty = d.ty; init = expr_tree_or_none d.init }
 
 abbrev pub block_tree : Block → BlockTree
-block_tree b = record { class = b.class; decls = map decl_tree b.decls.items.items }
+block_tree b = record { section = b.section; decls = map decl_tree b.decls.items.items }
 
 abbrev pub program_tree : Program → ProgramTree
 program_tree p = record { name = p.name; blocks = map block_tree p.blocks.items.items; body = stmt_trees p.body.items.items }

@@ -16,6 +16,6 @@ mod stmt;
 
 pub use expr::{BinOp, Expr, Exprs, UnOp};
 pub use laws::{trees_of_appended, trees_of_nodes};
-pub use program::{Block, Blocks, Class, Decl, Declared, DeclaredNames, Decls, Program};
+pub use program::{Block, Blocks, Decl, Declared, DeclaredNames, Decls, Program, Section};
 pub use same_program::same_tree;
 pub use stmt::{Arm, Arms, Branch, Branches, Label, Labels, Stmt, Stmts};

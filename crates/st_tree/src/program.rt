@@ -10,7 +10,7 @@ use vcp_base::{Memory, Spot, Text, Ty};
 
 /// What a block declares.
 #[derive(Clone, Copy, Debug, PartialEq, Eq, Drop)]
-pub enum Class {
+pub enum Section {
     /// VAR_INPUT
     Input,
     /// VAR_OUTPUT
@@ -53,7 +53,7 @@ pub struct Decls {
 /// A block of declarations.
 #[derive(Drop)]
 pub struct Block {
-    pub class: Class,
+    pub section: Section,
     pub decls: Decls,
 }
 

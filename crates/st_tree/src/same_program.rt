@@ -58,7 +58,7 @@ fn same_decls(a: &[Decl], b: &[Decl]) -> bool
 fn same_block(a: &Block, b: &Block) -> bool
     ensures { IsTrue result ↔ (bare_block (block_tree a.now) ≡ bare_block (block_tree b.now)) }
 {
-    a.class == b.class && same_decls(&a.decls.items, &b.decls.items)
+    a.section == b.section && same_decls(&a.decls.items, &b.decls.items)
 }
 
 fn same_blocks(a: &[Block], b: &[Block]) -> bool

@@ -8,8 +8,8 @@ use Rattle.vcp_base.specs.declared.ty.Ty.{Ty}
 use Rattle.vcp_base.specs.declared.ty.Ty.TheVariants as ty
 use Rattle.vcp_base.specs.Names.{SameName, is_same_name}
 use Rattle.vcp_base.specs.Types.{fits, within}
-use Rattle.st_tree.specs.declared.program.Class.{Class}
-use Rattle.st_tree.specs.declared.program.Class.TheVariants as class
+use Rattle.st_tree.specs.declared.program.Section.{Section}
+use Rattle.st_tree.specs.declared.program.Section.TheVariants as section
 use Rattle.st_tree.specs.ExprTree.{ExprTree}
 use Rattle.st_tree.specs.ProgramTree.{DeclaredTree, DeclTree, BlockTree}
 use Rattle.vcp_typed.specs.declared.slot.Slot.{Slot}
@@ -93,28 +93,28 @@ slots-push before (s ∷ ss) x h k = (h.0, slots-push (before ++ s ∷ []) ss x 
 slot-kept : (slots : List Slot) (x : Slot) (e : Entry) → HasSlot slots e → HasSlot (slots ++ x ∷ []) e
 slot-kept slots x e h = (h.0, front-kept slots x h.0 e.slot h.1, h.2, h.3)
 
-entry-kept : (slots : List Slot) (x : Slot) (e : Entry) (c : Class) → IsEntry slots e c → IsEntry (slots ++ x ∷ []) e c
-entry-kept slots x e class.Constant h = h
-entry-kept slots x e class.Input h = slot-kept slots x e h
-entry-kept slots x e class.Output h = slot-kept slots x e h
-entry-kept slots x e class.Local h = slot-kept slots x e h
-entry-kept slots x e class.Retain h = slot-kept slots x e h
+entry-kept : (slots : List Slot) (x : Slot) (e : Entry) (c : Section) → IsEntry slots e c → IsEntry (slots ++ x ∷ []) e c
+entry-kept slots x e section.Constant h = h
+entry-kept slots x e section.Input h = slot-kept slots x e h
+entry-kept slots x e section.Output h = slot-kept slots x e h
+entry-kept slots x e section.Local h = slot-kept slots x e h
+entry-kept slots x e section.Retain h = slot-kept slots x e h
 
-entry-variable : (slots : List Slot) (e : Entry) (c : Class) → is_constant c ≡ false → HasSlot slots e → IsEntry slots e c
-entry-variable slots e class.Constant k h = absurd cc
-entry-variable slots e class.Input k h = h
-entry-variable slots e class.Output k h = h
-entry-variable slots e class.Local k h = h
-entry-variable slots e class.Retain k h = h
+entry-variable : (slots : List Slot) (e : Entry) (c : Section) → is_constant c ≡ false → HasSlot slots e → IsEntry slots e c
+entry-variable slots e section.Constant k h = absurd cc
+entry-variable slots e section.Input k h = h
+entry-variable slots e section.Output k h = h
+entry-variable slots e section.Local k h = h
+entry-variable slots e section.Retain k h = h
 
-entry-constant : (slots : List Slot) (e : Entry) (c : Class) → is_constant c ≡ true → fits e.ty e.value ≡ true → IsEntry slots e c
-entry-constant slots e class.Constant k h = h
-entry-constant slots e class.Input k h = absurd cc
-entry-constant slots e class.Output k h = absurd cc
-entry-constant slots e class.Local k h = absurd cc
-entry-constant slots e class.Retain k h = absurd cc
+entry-constant : (slots : List Slot) (e : Entry) (c : Section) → is_constant c ≡ true → fits e.ty e.value ≡ true → IsEntry slots e c
+entry-constant slots e section.Constant k h = h
+entry-constant slots e section.Input k h = absurd cc
+entry-constant slots e section.Output k h = absurd cc
+entry-constant slots e section.Local k h = absurd cc
+entry-constant slots e section.Retain k h = absurd cc
 
-not-constant : (c : Class) → is_constant c ≡ false → c ≡ class.Constant → ⊥
+not-constant : (c : Section) → is_constant c ≡ false → c ≡ section.Constant → ⊥
 not-constant c e f = let k : is_constant c ≡ true = ap is_constant f in absurd cc
 
 -- ---- what has been made
@@ -132,29 +132,29 @@ nothing-sound = record {
   named = λ n h. All-nil (λ r. SameName r.name n → ⊥);
 }
 
-scope-push : (slots : List Slot) (es : List Entry) (x : Entry) → IsScope slots es → IsEntry slots x x.class → IsScope slots (es ++ x ∷ [])
+scope-push : (slots : List Slot) (es : List Entry) (x : Entry) → IsScope slots es → IsEntry slots x x.section → IsScope slots (es ++ x ∷ [])
 scope-push slots es x h k = λ n e f. elim (find-push es x e n f) [
   | inl g ↦ h n e g
-  | inr g ↦ subst (λ y. IsEntry slots y y.class) g k
+  | inr g ↦ subst (λ y. IsEntry slots y y.section) g k
 ]
 
 scope-kept : (slots : List Slot) (s : Slot) (es : List Entry) → IsScope slots es → IsScope (slots ++ s ∷ []) es
-scope-kept slots s es h = λ n e f. entry-kept slots s e e.class (h n e f)
+scope-kept slots s es h = λ n e f. entry-kept slots s e e.section (h n e f)
 
 -- the entry and the slot of one name more
-abbrev new_entry : Made → Class → Ty → ℤ → DeclaredTree → Entry
-new_entry m k t v d = record { name = d.name; class = k; ty = t; value = v; slot = length m.slots }
+abbrev new_entry : Made → Section → Ty → ℤ → DeclaredTree → Entry
+new_entry m k t v d = record { name = d.name; section = k; ty = t; value = v; slot = length m.slots }
 
-abbrev new_slot : Class → Ty → ℤ → DeclaredTree → Slot
-new_slot k t v d = record { name = d.name; spot = d.spot; class = k; ty = t; init = v }
+abbrev new_slot : Section → Ty → ℤ → DeclaredTree → Slot
+new_slot k t v d = record { name = d.name; spot = d.spot; section = k; ty = t; init = v }
 
-abbrev added_if : Bool → Made → Class → Ty → ℤ → DeclaredTree → Made
+abbrev added_if : Bool → Made → Section → Ty → ℤ → DeclaredTree → Made
 added_if b m k t v d = record {
   entries = m.entries ++ new_entry m k t v d ∷ [];
   slots = cond b m.slots (m.slots ++ new_slot k t v d ∷ []);
 }
 
-added-sound : (m : Made) (k : Class) (t : Ty) (v : ℤ) (d : DeclaredTree) (b : Bool) → is_constant k ≡ b → IsSound m → find m.entries d.name ≡ None
+added-sound : (m : Made) (k : Section) (t : Ty) (v : ℤ) (d : DeclaredTree) (b : Bool) → is_constant k ≡ b → IsSound m → find m.entries d.name ≡ None
     → IsDeclarable d.name → fits t v ≡ true → IsSound (added_if b m k t v d)
 added-sound m k t v d true c h n w f = record {
   slots = h.slots;
@@ -173,7 +173,7 @@ added-sound m k t v d false c h n w f =
           All-push (λ r. SameName r.name o → ⊥) m.slots s (h.named o r.0) (other-name d.name o r.1);
     }
 
-name-sound : (m : Made) (k : Class) (t : Ty) (v : ℤ) (d : DeclaredTree) (b : Bool) → is_new m d.name ≡ b → IsSound m → IsDeclarable d.name → fits t v ≡ true
+name-sound : (m : Made) (k : Section) (t : Ty) (v : ℤ) (d : DeclaredTree) (b : Bool) → is_new m d.name ≡ b → IsSound m → IsDeclarable d.name → fits t v ≡ true
     → IsSound (cond b (added m k t v d) m)
 name-sound m k t v d false e h w f = h
 name-sound m k t v d true e h w f = added-sound m k t v d (is_constant k) refl h (new-none (find m.entries d.name) e) w f
@@ -200,7 +200,7 @@ init-known m (Some e) h = constant-fits m.slots m.entries e h
 
 -- ---- declarations
 
-names-sound : (m : Made) (k : Class) (t : Ty) (v : ℤ) (x : Option Known) (ds : List DeclaredTree) → IsSound m → AreDeclarable ds
+names-sound : (m : Made) (k : Section) (t : Ty) (v : ℤ) (x : Option Known) (ds : List DeclaredTree) → IsSound m → AreDeclarable ds
     → ((Misfit x t → ⊥) → fits t v ≡ true) → ((f : Fault) → NamesFault m k t v x ds f → ⊥) → IsSound (after_names m k t v ds)
 names-sound m k t v x [] h w f never = h
 names-sound m k t v x (d ∷ ds) h w f never =
@@ -208,13 +208,13 @@ names-sound m k t v x (d ∷ ds) h w f never =
     let one = name-sound m k t v d (is_new m d.name) refl h (All-head (λ y. IsDeclarable y.name) d ds w) fit in
     names-sound (after_name m k t v d) k t v x ds one (All-tail (λ y. IsDeclarable y.name) d ds w) f (λ g e. never g (inr (inr e)))
 
-decl-sound : (all : List Entry) (k : Class) (m : Made) (d : DeclTree) → IsSound m → AreDeclarable d.names → ((f : Fault) → DeclFault all k m d f → ⊥)
+decl-sound : (all : List Entry) (k : Section) (m : Made) (d : DeclTree) → IsSound m → AreDeclarable d.names → ((f : Fault) → DeclFault all k m d f → ⊥)
     → IsSound (after_decl k m d)
 decl-sound all k m d h w never =
     names-sound m k d.ty (init_value m d.init) (known_init m d.init) d.names h w
     (λ e. value-fits (known_init m d.init) d.ty (init-known m d.init h.scope) e) (λ f e. never f (inr e))
 
-decls-sound : (all : List Entry) (k : Class) (m : Made) (ds : List DeclTree) → IsSound m → AreDeclarable (flat_map (λ d. d.names) ds)
+decls-sound : (all : List Entry) (k : Section) (m : Made) (ds : List DeclTree) → IsSound m → AreDeclarable (flat_map (λ d. d.names) ds)
     → ((f : Fault) → DeclsFault all k m ds f → ⊥) → IsSound (after_decls k m ds)
 decls-sound all k m [] h w never = h
 decls-sound all k m (d ∷ ds) h w never =
@@ -229,8 +229,8 @@ pub blocks-sound : (all : List Entry) (m : Made) (bs : List BlockTree) → IsSou
     → ((f : Fault) → BlocksFault all m bs f → ⊥) → IsSound (after_blocks m bs)
 blocks-sound all m [] h w never = h
 blocks-sound all m (b ∷ bs) h w never =
-    let one = decls-sound all b.class m b.decls h (all-front (λ y. IsDeclarable y.name) (block_names b) (flat_map block_names bs) w) (λ f e. never f (inl e)) in
-    blocks-sound all (after_decls b.class m b.decls) bs one (all-back (λ y. IsDeclarable y.name) (block_names b) (flat_map block_names bs) w)
+    let one = decls-sound all b.section m b.decls h (all-front (λ y. IsDeclarable y.name) (block_names b) (flat_map block_names bs) w) (λ f e. never f (inl e)) in
+    blocks-sound all (after_decls b.section m b.decls) bs one (all-back (λ y. IsDeclarable y.name) (block_names b) (flat_map block_names bs) w)
     (λ f e. never f (inr e))
 
 -- ---- how many slots there are
@@ -239,11 +239,11 @@ slots-if : (b : Bool) (ss : List Slot) (x : Slot) → length (cond b ss (ss ++ x
 slots-if true ss x = omega arith
 slots-if false ss x = let e = length-append ss (x ∷ []) in let o : length (x ∷ []) ≡ 1 = refl in omega arith
 
-name-length : (m : Made) (k : Class) (t : Ty) (v : ℤ) (d : DeclaredTree) (b : Bool) → length (cond b (added m k t v d) m).slots ≤ suc (length m.slots)
+name-length : (m : Made) (k : Section) (t : Ty) (v : ℤ) (d : DeclaredTree) (b : Bool) → length (cond b (added m k t v d) m).slots ≤ suc (length m.slots)
 name-length m k t v d true = slots-if (is_constant k) m.slots (new_slot k t v d)
 name-length m k t v d false = omega arith
 
-names-length : (m : Made) (k : Class) (t : Ty) (v : ℤ) (ds : List DeclaredTree) → length (after_names m k t v ds).slots ≤ length m.slots + length ds
+names-length : (m : Made) (k : Section) (t : Ty) (v : ℤ) (ds : List DeclaredTree) → length (after_names m k t v ds).slots ≤ length m.slots + length ds
 names-length m k t v [] = let none : List DeclaredTree = [] in let e : length none ≡ 0 = refl in omega arith
 names-length m k t v (d ∷ ds) =
     let one = name-length m k t v d (is_new m d.name) in
@@ -251,7 +251,7 @@ names-length m k t v (d ∷ ds) =
     let e : length (d ∷ ds) ≡ suc (length ds) = refl in
     omega arith
 
-decls-length : (k : Class) (m : Made) (ds : List DeclTree) → length (after_decls k m ds).slots ≤ length m.slots + length (flat_map (λ d. d.names) ds)
+decls-length : (k : Section) (m : Made) (ds : List DeclTree) → length (after_decls k m ds).slots ≤ length m.slots + length (flat_map (λ d. d.names) ds)
 decls-length k m [] = let none : List DeclaredTree = [] in let e : length none ≡ 0 = refl in omega arith
 decls-length k m (d ∷ ds) =
     let one = names-length m k d.ty (init_value m d.init) d.names in
@@ -263,7 +263,7 @@ decls-length k m (d ∷ ds) =
 pub blocks-length : (m : Made) (bs : List BlockTree) → length (after_blocks m bs).slots ≤ length m.slots + length (flat_map block_names bs)
 blocks-length m [] = let none : List DeclaredTree = [] in let e : length none ≡ 0 = refl in omega arith
 blocks-length m (b ∷ bs) =
-    let one = decls-length b.class m b.decls in
-    let rest = blocks-length (after_decls b.class m b.decls) bs in
+    let one = decls-length b.section m b.decls in
+    let rest = blocks-length (after_decls b.section m b.decls) bs in
     let e = length-append (block_names b) (flat_map block_names bs) in
     omega arith

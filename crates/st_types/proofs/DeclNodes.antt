@@ -3,7 +3,7 @@ use Rattle.std.proofs.Common.{◌≡◌, ◌⊎◌, inl, inr, ℕ, ℤ, false, L
 use Rattle.vcp_base.specs.declared.spot.Spot.{Spot}
 use Rattle.vcp_base.specs.declared.ty.Ty.{Ty}
 use Rattle.st_tree.specs.declared.expr.UnOp.{UnOp}
-use Rattle.st_tree.specs.declared.program.Class.{Class}
+use Rattle.st_tree.specs.declared.program.Section.{Section}
 use Rattle.st_tree.specs.ExprTree.{ExprTree, literal, name, unary}
 use Rattle.st_tree.specs.ProgramTree.{DeclaredTree, DeclTree, BlockTree}
 use Rattle.st_types.specs.declared.fault.Fault.{Fault}
@@ -35,43 +35,43 @@ init-inside : (all before : List Entry) (i : Option ExprTree) (f : Fault) → In
 init-inside all before None f h = absurd h
 init-inside all before (Some e) f h = inl h
 
-decl-split : (all : List Entry) (k : Class) (m : Made) (d : DeclTree) (f : Fault) → DeclFault all k m d f → DeclForm k m d f ⊎ InitInside all d.init f
+decl-split : (all : List Entry) (k : Section) (m : Made) (d : DeclTree) (f : Fault) → DeclFault all k m d f → DeclForm k m d f ⊎ InitInside all d.init f
 decl-split all k m d f (inl h) = elim (init-split all m.entries d.init f h) [ inl a ↦ inl (inl a) | inr b ↦ inr b ]
 decl-split all k m d f (inr h) = inl (inr h)
 
-decl-form : (all : List Entry) (k : Class) (m : Made) (d : DeclTree) (f : Fault) → DeclForm k m d f → DeclFault all k m d f
+decl-form : (all : List Entry) (k : Section) (m : Made) (d : DeclTree) (f : Fault) → DeclForm k m d f → DeclFault all k m d f
 decl-form all k m d f (inl h) = inl (init-form all m.entries d.init f h)
 decl-form all k m d f (inr h) = inr h
 
-decls-split : (all : List Entry) (k : Class) (m : Made) (ds : List DeclTree) (f : Fault) → DeclsFault all k m ds f → DeclsForm k m ds f ⊎ DeclsInside all ds f
+decls-split : (all : List Entry) (k : Section) (m : Made) (ds : List DeclTree) (f : Fault) → DeclsFault all k m ds f → DeclsForm k m ds f ⊎ DeclsInside all ds f
 decls-split all k m [] f h = absurd h
 decls-split all k m (d ∷ ds) f (inl h) = elim (decl-split all k m d f h) [ inl a ↦ inl (inl a) | inr b ↦ inr (inl b) ]
 decls-split all k m (d ∷ ds) f (inr h) = elim (decls-split all k (after_decl k m d) ds f h) [ inl a ↦ inl (inr a) | inr b ↦ inr (inr b) ]
 
-decls-form : (all : List Entry) (k : Class) (m : Made) (ds : List DeclTree) (f : Fault) → DeclsForm k m ds f → DeclsFault all k m ds f
+decls-form : (all : List Entry) (k : Section) (m : Made) (ds : List DeclTree) (f : Fault) → DeclsForm k m ds f → DeclsFault all k m ds f
 decls-form all k m [] f h = absurd h
 decls-form all k m (d ∷ ds) f (inl h) = inl (decl-form all k m d f h)
 decls-form all k m (d ∷ ds) f (inr h) = inr (decls-form all k (after_decl k m d) ds f h)
 
-decls-inside : (all : List Entry) (k : Class) (m : Made) (ds : List DeclTree) (f : Fault) → DeclsInside all ds f → DeclsFault all k m ds f
+decls-inside : (all : List Entry) (k : Section) (m : Made) (ds : List DeclTree) (f : Fault) → DeclsInside all ds f → DeclsFault all k m ds f
 decls-inside all k m [] f h = absurd h
 decls-inside all k m (d ∷ ds) f (inl h) = inl (inl (init-inside all m.entries d.init f h))
 decls-inside all k m (d ∷ ds) f (inr h) = inr (decls-inside all k (after_decl k m d) ds f h)
 
 blocks-split : (all : List Entry) (m : Made) (bs : List BlockTree) (f : Fault) → BlocksFault all m bs f → BlocksForm m bs f ⊎ BlocksInside all bs f
 blocks-split all m [] f h = absurd h
-blocks-split all m (b ∷ bs) f (inl h) = elim (decls-split all b.class m b.decls f h) [ inl a ↦ inl (inl a) | inr b ↦ inr (inl b) ]
-blocks-split all m (b ∷ bs) f (inr h) = elim (blocks-split all (after_decls b.class m b.decls) bs f h) [ inl a ↦ inl (inr a) | inr b ↦ inr (inr b) ]
+blocks-split all m (b ∷ bs) f (inl h) = elim (decls-split all b.section m b.decls f h) [ inl a ↦ inl (inl a) | inr b ↦ inr (inl b) ]
+blocks-split all m (b ∷ bs) f (inr h) = elim (blocks-split all (after_decls b.section m b.decls) bs f h) [ inl a ↦ inl (inr a) | inr b ↦ inr (inr b) ]
 
 blocks-form : (all : List Entry) (m : Made) (bs : List BlockTree) (f : Fault) → BlocksForm m bs f → BlocksFault all m bs f
 blocks-form all m [] f h = absurd h
-blocks-form all m (b ∷ bs) f (inl h) = inl (decls-form all b.class m b.decls f h)
-blocks-form all m (b ∷ bs) f (inr h) = inr (blocks-form all (after_decls b.class m b.decls) bs f h)
+blocks-form all m (b ∷ bs) f (inl h) = inl (decls-form all b.section m b.decls f h)
+blocks-form all m (b ∷ bs) f (inr h) = inr (blocks-form all (after_decls b.section m b.decls) bs f h)
 
 blocks-inside : (all : List Entry) (m : Made) (bs : List BlockTree) (f : Fault) → BlocksInside all bs f → BlocksFault all m bs f
 blocks-inside all m [] f h = absurd h
-blocks-inside all m (b ∷ bs) f (inl h) = inl (decls-inside all b.class m b.decls f h)
-blocks-inside all m (b ∷ bs) f (inr h) = inr (blocks-inside all (after_decls b.class m b.decls) bs f h)
+blocks-inside all m (b ∷ bs) f (inl h) = inl (decls-inside all b.section m b.decls f h)
+blocks-inside all m (b ∷ bs) f (inr h) = inr (blocks-inside all (after_decls b.section m b.decls) bs f h)
 
 -- both walks together meet all faults of declarations
 pub two-walks : (a b c : Option Fault) (all : List Entry) (m n end : Made) (bs : List BlockTree) → Makes a b n end (BlocksForm m bs)
@@ -121,10 +121,10 @@ other-judges s e p a b at never none h = record {
 
 -- ---- names
 
-pub no-names : (k : Class) (t : Ty) (v : ℤ) (x : Option Known) (m : Made) (a : Option Fault) → Makes a a m m (NamesFault m k t v x [])
+pub no-names : (k : Section) (t : Ty) (v : ℤ) (x : Option Known) (m : Made) (a : Option Fault) → Makes a a m m (NamesFault m k t v x [])
 no-names k t v x m a = record { notes = quiet a (NamesFault m k t v x []) (λ f h. h); gives = refl }
 
-pub one-name : (k : Class) (t : Ty) (v : ℤ) (x : Option Known) (d : DeclaredTree) (ds : List DeclaredTree) (m n end : Made) (a b c e : Option Fault)
+pub one-name : (k : Section) (t : Ty) (v : ℤ) (x : Option Known) (d : DeclaredTree) (ds : List DeclaredTree) (m n end : Made) (a b c e : Option Fault)
     → Notes a b (λ f. (f ≡ fault rule.Duplicate d.spot) × (is_new m d.name ≡ false)) → n ≡ after_name m k t v d
     → Notes b c (λ f. (f ≡ fault rule.Mismatch d.spot) × Misfit x t)
     → Makes c e end (after_names n k t v ds) (NamesFault n k t v x ds)
@@ -140,7 +140,7 @@ one-name k t v x d ds m n end a b c e n1 is n2 rest =
 
 -- ---- declarations and blocks
 
-pub one-init : (k : Class) (d : DeclTree) (m n : Made) (a b c : Option Fault) (x : Option Known)
+pub one-init : (k : Section) (d : DeclTree) (m n : Made) (a b c : Option Fault) (x : Option Known)
     → JudgesInit m d.init a b x → MakesNames k d.ty x d.names m n b c → Makes a c n (after_decl k m d) (DeclForm k m d)
 one-init k d m n a b c x init names =
     let r = subst (λ y. MakesNames k d.ty y d.names m n b c) init.gives names in
@@ -149,10 +149,10 @@ one-init k d m n a b c x init names =
       gives = r.gives;
     }
 
-pub no-decls : (k : Class) (m : Made) (a : Option Fault) → Makes a a m m (DeclsForm k m [])
+pub no-decls : (k : Section) (m : Made) (a : Option Fault) → Makes a a m m (DeclsForm k m [])
 no-decls k m a = record { notes = quiet a (DeclsForm k m []) (λ f h. h); gives = refl }
 
-pub one-decl : (k : Class) (d : DeclTree) (ds : List DeclTree) (m n end : Made) (a b c : Option Fault)
+pub one-decl : (k : Section) (d : DeclTree) (ds : List DeclTree) (m n end : Made) (a b c : Option Fault)
     → Makes a b n (after_decl k m d) (DeclForm k m d)
     → Makes b c end (after_decls k n ds) (DeclsForm k n ds)
     → Makes a c end (after_decls k m (d ∷ ds)) (DeclsForm k m (d ∷ ds))
@@ -164,9 +164,9 @@ pub no-blocks : (m : Made) (a : Option Fault) → Makes a a m m (BlocksForm m []
 no-blocks m a = record { notes = quiet a (BlocksForm m []) (λ f h. h); gives = refl }
 
 pub one-block : (g : BlockTree) (bs : List BlockTree) (m n end : Made) (a b c : Option Fault)
-    → Makes a b n (after_decls g.class m g.decls) (DeclsForm g.class m g.decls)
+    → Makes a b n (after_decls g.section m g.decls) (DeclsForm g.section m g.decls)
     → Makes b c end (after_blocks n bs) (BlocksForm n bs)
     → Makes a c end (after_blocks m (g ∷ bs)) (BlocksForm m (g ∷ bs))
 one-block g bs m n end a b c first rest =
     let r = subst (λ y. Makes b c end (after_blocks y bs) (BlocksForm y bs)) first.gives rest in
-    record { notes = pair a b c (DeclsForm g.class m g.decls) (BlocksForm (after_decls g.class m g.decls) bs) first.notes r.notes; gives = r.gives }
+    record { notes = pair a b c (DeclsForm g.section m g.decls) (BlocksForm (after_decls g.section m g.decls) bs) first.notes r.notes; gives = r.gives }

@@ -7,8 +7,8 @@ use Rattle.vcp_base.specs.declared.ty.Ty.TheVariants as ty
 use Rattle.vcp_base.specs.Types.{within}
 use Rattle.st_tree.specs.declared.expr.UnOp.{UnOp}
 use Rattle.st_tree.specs.declared.expr.BinOp.{BinOp}
-use Rattle.st_tree.specs.declared.program.Class.{Class}
-use Rattle.st_tree.specs.declared.program.Class.TheVariants as class
+use Rattle.st_tree.specs.declared.program.Section.{Section}
+use Rattle.st_tree.specs.declared.program.Section.TheVariants as section
 use Rattle.st_tree.specs.ExprTree.{ExprTree, ExprTrees, literal, name, unary, binary, call, no_exprs, and_expr}
 use Rattle.vcp_typed.specs.declared.expr.Fun.{Fun}
 use Rattle.vcp_typed.specs.declared.expr.Fun.TheVariants as fun
@@ -203,12 +203,12 @@ takes f (a ∷ b ∷ c ∷ d ∷ us) = tt
 
 -- ---- the type of the checked expression is the type
 
-got-type : (spot : Spot) (e : Entry) (c : Class) → ty_of (got spot e c) ≡ e.ty
-got-type spot e class.Constant = refl
-got-type spot e class.Input = refl
-got-type spot e class.Output = refl
-got-type spot e class.Local = refl
-got-type spot e class.Retain = refl
+got-type : (spot : Spot) (e : Entry) (c : Section) → ty_of (got spot e c) ≡ e.ty
+got-type spot e section.Constant = refl
+got-type spot e section.Input = refl
+got-type spot e section.Output = refl
+got-type spot e section.Local = refl
+got-type spot e section.Retain = refl
 
 sign-is : (op : UnOp) (l : Option Untyped) (spot : Spot) (a : Option typed.TExprTree)
     → option_map ty_of (sign_of op l spot a) ≡ sign_type op l (option_map ty_of a)
@@ -244,7 +244,7 @@ more-is (Some a) (Some es) = refl
 mutual
   pub typed-is : (s : List Entry) (e : ExprTree) → option_map ty_of (expr_of s e) ≡ type_of s e
   typed-is s (literal t v spot) = map-back ty_of (λ u. typed.literal u v spot) (λ u. refl) (literal_type t v)
-  typed-is s (name n spot) = map-same ty_of (λ e. got spot e e.class) (λ e. e.ty) (λ e. got-type spot e e.class) (find s n)
+  typed-is s (name n spot) = map-same ty_of (λ e. got spot e e.section) (λ e. e.ty) (λ e. got-type spot e e.section) (find s n)
   typed-is s (unary op a spot) = sign-is op (negated op a) spot (expr_of s a) ∙ ap (sign_type op (negated op a)) (typed-is s a)
   typed-is s (binary op a b spot) = operation-is op spot (expr_of s a) (expr_of s b)
       ∙ ap₂ (both (λ t u. option_map (result op) (common op t u))) (typed-is s a) (typed-is s b)

@@ -8,7 +8,7 @@ use Rattle.vcp_base.specs.declared.ty.Ty.{Ty}
 use Rattle.vcp_base.specs.Types.{is_bool, within}
 use Rattle.st_tree.specs.declared.expr.UnOp.{UnOp}
 use Rattle.st_tree.specs.declared.expr.BinOp.{BinOp}
-use Rattle.st_tree.specs.declared.program.Class.{Class}
+use Rattle.st_tree.specs.declared.program.Section.{Section}
 use Rattle.st_tree.specs.ExprTree.{ExprTree, ExprTrees, literal, name, unary, binary, call, no_exprs, and_expr}
 use Rattle.st_tree.specs.StmtTree.{LabelTree, StmtTree, StmtTrees, ArmTrees, BranchTrees, OtherTree, assign, if_, case, for_, no_stmts, and_stmt, no_arms}
 use Rattle.st_tree.specs.StmtTree.{and_arm, no_branches, and_branch, no_other, other}
@@ -267,7 +267,7 @@ abbrev mutual
 abbrev misfit-or : (x : Option Known) (t : Ty) → Misfit x t ⊎ (Misfit x t → ⊥)
 misfit-or x t = some-or (λ (k : Known). within k.ty t ≡ false) x (λ k. false-or (within k.ty t))
 
-abbrev names-least : (m : Made) (k : Class) (t : Ty) (v : ℤ) (x : Option Known) (ds : List DeclaredTree) → Least (NamesFault m k t v x ds)
+abbrev names-least : (m : Made) (k : Section) (t : Ty) (v : ℤ) (x : Option Known) (ds : List DeclaredTree) → Least (NamesFault m k t v x ds)
 names-least m k t v x [] = none-least
 names-least m k t v x (d ∷ ds) =
     or-least (λ f. (f ≡ fault rule.Duplicate d.spot) × (is_new m d.name ≡ false))
@@ -285,12 +285,12 @@ abbrev init-least : (all before : List Entry) (init : Option ExprTree) → Least
 init-least all before None = none-least
 init-least all before (Some e) = value-least all before e
 
-abbrev decl-least : (all : List Entry) (k : Class) (m : Made) (d : DeclTree) → Least (DeclFault all k m d)
+abbrev decl-least : (all : List Entry) (k : Section) (m : Made) (d : DeclTree) → Least (DeclFault all k m d)
 decl-least all k m d =
     or-least (InitFault all m.entries d.init) (NamesFault m k d.ty (init_value m d.init) (known_init m d.init) d.names)
     (init-least all m.entries d.init) (names-least m k d.ty (init_value m d.init) (known_init m d.init) d.names)
 
-abbrev decls-least : (all : List Entry) (k : Class) (m : Made) (ds : List DeclTree) → Least (DeclsFault all k m ds)
+abbrev decls-least : (all : List Entry) (k : Section) (m : Made) (ds : List DeclTree) → Least (DeclsFault all k m ds)
 decls-least all k m [] = none-least
 decls-least all k m (d ∷ ds) =
     or-least (DeclFault all k m d) (DeclsFault all k (after_decl k m d) ds) (decl-least all k m d) (decls-least all k (after_decl k m d) ds)
@@ -298,8 +298,8 @@ decls-least all k m (d ∷ ds) =
 abbrev blocks-least : (all : List Entry) (m : Made) (bs : List BlockTree) → Least (BlocksFault all m bs)
 blocks-least all m [] = none-least
 blocks-least all m (b ∷ bs) =
-    or-least (DeclsFault all b.class m b.decls) (BlocksFault all (after_decls b.class m b.decls) bs)
-    (decls-least all b.class m b.decls) (blocks-least all (after_decls b.class m b.decls) bs)
+    or-least (DeclsFault all b.section m b.decls) (BlocksFault all (after_decls b.section m b.decls) bs)
+    (decls-least all b.section m b.decls) (blocks-least all (after_decls b.section m b.decls) bs)
 
 -- a program has a least fault, or none
 abbrev pub program-least : (p : ProgramTree) → Least (FaultAt p)

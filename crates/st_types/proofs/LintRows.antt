@@ -4,7 +4,7 @@ use Rattle.vcp_base.specs.declared.ty.Ty.{Ty}
 use Rattle.vcp_base.specs.declared.ty.Ty.TheVariants as ty
 use Rattle.st_tree.specs.declared.expr.UnOp.TheVariants as un
 use Rattle.st_tree.specs.declared.expr.BinOp.TheVariants as bin
-use Rattle.st_tree.specs.declared.program.Class.TheVariants as class
+use Rattle.st_tree.specs.declared.program.Section.TheVariants as section
 use Rattle.st_tree.specs.ExprTree.{ExprTree, literal, name, unary, binary, call, no_exprs, and_expr}
 use Rattle.st_tree.specs.StmtTree.{LabelTree, StmtTree, assign, case, for_, no_stmts, and_stmt, no_branches, and_branch, no_other}
 use Rattle.st_tree.specs.ProgramTree.{BlockTree, ProgramTree}
@@ -25,16 +25,16 @@ use Rattle.st_types.proofs.TypingRows.{at, decl, vars, checks, label, range}
 abbrev header : List BlockTree
 header =
     record {
-      class = class.Input;
+      section = section.Input;
       decls = decl (codes "i") (at 2 11) ty.Int None ∷ decl (codes "d") (at 2 20) ty.Dint None ∷ decl (codes "l") (at 2 30) ty.Lint None ∷ [];
     }
     ∷ record {
-      class = class.Output;
+      section = section.Output;
       decls =
           decl (codes "q") (at 3 12) ty.Lint None ∷ decl (codes "r") (at 3 22) ty.Dint None ∷ decl (codes "c") (at 3 31) ty.Bool None ∷ [];
     }
-    ∷ record { class = class.Local; decls = decl (codes "m") (at 4 5) ty.Lint None ∷ [] }
-    ∷ record { class = class.Constant; decls = decl (codes "T") (at 5 14) ty.Int (Some (literal None (pos 3) (at 5 23))) ∷ [] }
+    ∷ record { section = section.Local; decls = decl (codes "m") (at 4 5) ty.Lint None ∷ [] }
+    ∷ record { section = section.Constant; decls = decl (codes "T") (at 5 14) ty.Int (Some (literal None (pos 3) (at 5 23))) ∷ [] }
     ∷ []
 
 -- the names that the header declares
@@ -198,8 +198,8 @@ label_beyond = refl
 abbrev of_type : Ty → ExprTree → ProgramTree
 of_type t e = record {
   name = codes "p";
-  blocks = record { class = class.Input; decls = decl (codes "x") (at 2 11) t None ∷ [] }
-      ∷ record { class = class.Output; decls = decl (codes "y") (at 3 12) t None ∷ [] } ∷ [];
+  blocks = record { section = section.Input; decls = decl (codes "x") (at 2 11) t None ∷ [] }
+      ∷ record { section = section.Output; decls = decl (codes "y") (at 3 12) t None ∷ [] } ∷ [];
   body = and_stmt (assign (codes "y") e (at 4 1)) no_stmts;
 }
 

@@ -14,8 +14,8 @@ use Rattle.st_tree.specs.declared.expr.UnOp.{UnOp}
 use Rattle.st_tree.specs.declared.expr.UnOp.TheVariants as un
 use Rattle.st_tree.specs.declared.expr.BinOp.{BinOp}
 use Rattle.st_tree.specs.declared.expr.BinOp.TheVariants as bin
-use Rattle.st_tree.specs.declared.program.Class.{Class}
-use Rattle.st_tree.specs.declared.program.Class.TheVariants as class
+use Rattle.st_tree.specs.declared.program.Section.{Section}
+use Rattle.st_tree.specs.declared.program.Section.TheVariants as section
 use Rattle.st_tree.specs.ExprTree.{ExprTree, ExprTrees, literal, name, unary, binary, call, no_exprs, and_expr}
 use Rattle.st_tree.specs.StmtTree.{LabelTree, StmtTree, StmtTrees, ArmTrees, BranchTrees, OtherTree, assign, if_, case, for_, no_stmts, and_stmt, no_arms}
 use Rattle.st_tree.specs.StmtTree.{and_arm, no_branches, and_branch, no_other, other}
@@ -42,21 +42,21 @@ use Rattle.st_types.proofs.TurnsFit.{turns-fit}
 
 -- ---- a scope over slots
 
--- an entry's slot is there, with its type and class
+-- an entry's slot is there, with its type and section
 abbrev pub HasSlot : List Slot → Entry → Type 0
-HasSlot slots e = (s : Slot) × (slice_get slots e.slot ≡ Some s) × (s.ty ≡ e.ty) × (s.class ≡ e.class)
+HasSlot slots e = (s : Slot) × (slice_get slots e.slot ≡ Some s) × (s.ty ≡ e.ty) × (s.section ≡ e.section)
 
 -- a constant's value is in its type, and another entry has its slot
-abbrev pub IsEntry : List Slot → Entry → Class → Type 0
-IsEntry slots e class.Constant = fits e.ty e.value ≡ true
-IsEntry slots e class.Input = HasSlot slots e
-IsEntry slots e class.Output = HasSlot slots e
-IsEntry slots e class.Local = HasSlot slots e
-IsEntry slots e class.Retain = HasSlot slots e
+abbrev pub IsEntry : List Slot → Entry → Section → Type 0
+IsEntry slots e section.Constant = fits e.ty e.value ≡ true
+IsEntry slots e section.Input = HasSlot slots e
+IsEntry slots e section.Output = HasSlot slots e
+IsEntry slots e section.Local = HasSlot slots e
+IsEntry slots e section.Retain = HasSlot slots e
 
 -- each name that is declared stands for an entry over these slots
 abbrev pub IsScope : List Slot → List Entry → Type 0
-IsScope slots es = (n : List ℕ) (e : Entry) → find es n ≡ Some e → IsEntry slots e e.class
+IsScope slots es = (n : List ℕ) (e : Entry) → find es n ≡ Some e → IsEntry slots e e.section
 
 -- ---- values in their types
 
@@ -108,17 +108,17 @@ literal-made : (slots : List Slot) (v : ℤ) (spot : Spot) (o : Option Ty) → F
 literal-made slots v spot None h = tt
 literal-made slots v spot (Some t) h = h
 
-got-made : (slots : List Slot) (spot : Spot) (e : Entry) (c : Class) → IsEntry slots e c → IsExpr slots (got spot e c)
-got-made slots spot e class.Constant h = h
-got-made slots spot e class.Input h = (h.0, h.1, h.2)
-got-made slots spot e class.Output h = (h.0, h.1, h.2)
-got-made slots spot e class.Local h = (h.0, h.1, h.2)
-got-made slots spot e class.Retain h = (h.0, h.1, h.2)
+got-made : (slots : List Slot) (spot : Spot) (e : Entry) (c : Section) → IsEntry slots e c → IsExpr slots (got spot e c)
+got-made slots spot e section.Constant h = h
+got-made slots spot e section.Input h = (h.0, h.1, h.2)
+got-made slots spot e section.Output h = (h.0, h.1, h.2)
+got-made slots spot e section.Local h = (h.0, h.1, h.2)
+got-made slots spot e section.Retain h = (h.0, h.1, h.2)
 
-name-made : (slots : List Slot) (spot : Spot) (o : Option Entry) → ((e : Entry) → o ≡ Some e → IsEntry slots e e.class)
-    → IsMade slots (option_map (λ e. got spot e e.class) o)
+name-made : (slots : List Slot) (spot : Spot) (o : Option Entry) → ((e : Entry) → o ≡ Some e → IsEntry slots e e.section)
+    → IsMade slots (option_map (λ e. got spot e e.section) o)
 name-made slots spot None h = tt
-name-made slots spot (Some e) h = got-made slots spot e e.class (h e refl)
+name-made slots spot (Some e) h = got-made slots spot e e.section (h e refl)
 
 widens-within : (u t : Ty) → widens u t ≡ true → within u t ≡ true
 widens-within ty.Bool ty.Bool w = absurd cc
@@ -340,18 +340,18 @@ known-literal : (v : ℤ) (t o : Option Ty) → FitsTo v o → KnownFits (both k
 known-literal v t None h = tt
 known-literal v t (Some u) h = h
 
-entry-known : (slots : List Slot) (e : Entry) (c : Class) → IsEntry slots e c
+entry-known : (slots : List Slot) (e : Entry) (c : Section) → IsEntry slots e c
     → KnownFits (both known_form (cond (is_constant c) (Some (record { ty = Some e.ty; value = e.value })) None) (Some e.ty))
-entry-known slots e class.Constant h = h
-entry-known slots e class.Input h = tt
-entry-known slots e class.Output h = tt
-entry-known slots e class.Local h = tt
-entry-known slots e class.Retain h = tt
+entry-known slots e section.Constant h = h
+entry-known slots e section.Input h = tt
+entry-known slots e section.Output h = tt
+entry-known slots e section.Local h = tt
+entry-known slots e section.Retain h = tt
 
-name-known : (slots : List Slot) (o : Option Entry) → ((e : Entry) → o ≡ Some e → IsEntry slots e e.class)
+name-known : (slots : List Slot) (o : Option Entry) → ((e : Entry) → o ≡ Some e → IsEntry slots e e.section)
     → KnownFits (both known_form (option_and_then form_of_entry o) (option_map (λ e. e.ty) o))
 name-known slots None h = tt
-name-known slots (Some e) h = entry-known slots e e.class (h e refl)
+name-known slots (Some e) h = entry-known slots e e.section (h e refl)
 
 negated-known : (op : UnOp) (o : Option Untyped) (t : Option Ty) → KnownFits (both known_form (option_map form_of_negated o) (sign_type op o t))
 negated-known op None t = tt
@@ -397,12 +397,12 @@ BranchesMade slots held t o = IfSome o (AreBranches slots held t)
 abbrev OtherMade : List Slot → List ℕ → Option checked.TOtherTree → Type 0
 OtherMade slots held o = IfSome o (IsOther slots held)
 
-has-slot : (slots : List Slot) (e : Entry) (c : Class) → IsEntry slots e c → is_set c ≡ true → HasSlot slots e
-has-slot slots e class.Constant h k = absurd cc
-has-slot slots e class.Input h k = absurd cc
-has-slot slots e class.Output h k = h
-has-slot slots e class.Local h k = h
-has-slot slots e class.Retain h k = h
+has-slot : (slots : List Slot) (e : Entry) (c : Section) → IsEntry slots e c → is_set c ≡ true → HasSlot slots e
+has-slot slots e section.Constant h k = absurd cc
+has-slot slots e section.Input h k = absurd cc
+has-slot slots e section.Output h k = h
+has-slot slots e section.Local h k = h
+has-slot slots e section.Retain h k = h
 
 free-parts : (a h : Bool) → a && not h ≡ true → (a ≡ true) × (h ≡ false)
 free-parts true false e = (refl, refl)
@@ -414,14 +414,14 @@ two-parts true true e = (refl, refl)
 two-parts true false e = absurd cc
 two-parts false b e = absurd cc
 
-may-set : (slots : List Slot) (held : List ℕ) (e : Entry) (t : Ty) → e.ty ≡ t → IsEntry slots e e.class → is_free held e ≡ true → MaySet slots held e.slot t
+may-set : (slots : List Slot) (held : List ℕ) (e : Entry) (t : Ty) → e.ty ≡ t → IsEntry slots e e.section → is_free held e ≡ true → MaySet slots held e.slot t
 may-set slots held e t is h k =
-    let f = free-parts (is_set e.class) (list_any (λ n. n == e.slot) held) k in
-    let s = has-slot slots e e.class h f.0 in
+    let f = free-parts (is_set e.section) (list_any (λ n. n == e.slot) held) k in
+    let s = has-slot slots e e.section h f.0 in
     record { of = s.0; there = s.1; ty = s.2 ∙ is; set = ap is_set s.3 ∙ f.0; free = f.1 }
 
 assign-if : (slots : List Slot) (held : List ℕ) (spot : Spot) (e : Entry) (x : typed.TExprTree) (b : Bool) → is_free held e && within (ty_of x) e.ty ≡ b
-    → IsEntry slots e e.class → IsExpr slots x → StmtMade slots held (cond b (Some (checked.assign e.slot (widened e.ty (ty_of x) x) spot)) None)
+    → IsEntry slots e e.section → IsExpr slots x → StmtMade slots held (cond b (Some (checked.assign e.slot (widened e.ty (ty_of x) x) spot)) None)
 assign-if slots held spot e x false k h i = tt
 assign-if slots held spot e x true k h i =
     let p = two-parts (is_free held e) (within (ty_of x) e.ty) k in
@@ -429,7 +429,7 @@ assign-if slots held spot e x true k h i =
     (may-set slots held e (ty_of (widened e.ty (ty_of x) x)) (sym w.1) h p.0, w.0)
 
 assign-made : (slots : List Slot) (held : List ℕ) (spot : Spot) (o : Option Entry) (x : Option typed.TExprTree)
-    → ((e : Entry) → o ≡ Some e → IsEntry slots e e.class) → IsMade slots x → StmtMade slots held (both (assign_of held spot) o x)
+    → ((e : Entry) → o ≡ Some e → IsEntry slots e e.section) → IsMade slots x → StmtMade slots held (both (assign_of held spot) o x)
 assign-made slots held spot None x h i = tt
 assign-made slots held spot (Some e) None h i = tt
 assign-made slots held spot (Some e) (Some x) h i = assign-if slots held spot e x (is_free held e && within (ty_of x) e.ty) refl (h e refl) i
@@ -467,22 +467,22 @@ case-made slots held spot None t b o e h i j = tt
 case-made slots held spot (Some x) t b o e h i j = case-if slots held spot x (is_bool (ty_of x)) b o refl h (i (ty_of x) e) j
 
 -- a variable that may be set is no constant
-set-variable : (c : Class) → is_set c ≡ true → is_constant c ≡ false
-set-variable class.Input e = refl
-set-variable class.Output e = refl
-set-variable class.Local e = refl
-set-variable class.Retain e = refl
-set-variable class.Constant e = absurd cc
+set-variable : (c : Section) → is_set c ≡ true → is_constant c ≡ false
+set-variable section.Input e = refl
+set-variable section.Output e = refl
+set-variable section.Local e = refl
+set-variable section.Retain e = refl
+set-variable section.Constant e = absurd cc
 
 -- the FORs round the body of one over a variable that may be set
 held-free : (slots : List Slot) (held : List ℕ) (e : Entry) (body : checked.TStmtTrees) → is_free held e ≡ true → AreStmts slots (held_in held (Some e)) body
     → AreStmts slots (held ++ e.slot ∷ []) body
 held-free slots held e body f h =
-    let set = (two-parts (is_set e.class) (not (list_any (λ n. n == e.slot) held)) f).0 in
-    subst (λ (b : Bool). AreStmts slots (cond b held (held ++ e.slot ∷ [])) body) (set-variable e.class set) h
+    let set = (two-parts (is_set e.section) (not (list_any (λ n. n == e.slot) held)) f).0 in
+    subst (λ (b : Bool). AreStmts slots (cond b held (held ++ e.slot ∷ [])) body) (set-variable e.section set) h
 
 held-made : (slots : List Slot) (held : List ℕ) (spot : Spot) (e : Entry) (v w q : ℤ) (body : checked.TStmtTrees) (b : Bool)
-    → is_free held e && not (is_bool e.ty) ≡ b → IsEntry slots e e.class → fits e.ty v ≡ true → fits e.ty w ≡ true → (q ≡ pos 0 → ⊥)
+    → is_free held e && not (is_bool e.ty) ≡ b → IsEntry slots e e.section → fits e.ty v ≡ true → fits e.ty w ≡ true → (q ≡ pos 0 → ⊥)
     → AreStmts slots (held_in held (Some e)) body → StmtMade slots held (cond b (Some (checked.for_ e.slot v q (turns_of v w q) body spot)) None)
 held-made slots held spot e v w q body false k h f g i j = tt
 held-made slots held spot e v w q body true k h f g i j =
@@ -490,7 +490,7 @@ held-made slots held spot e v w q body true k h f g i j =
     (e.ty, may-set slots held e e.ty refl h p.0, number-joins e.ty p.1, f, turns-fit e.ty v w q i f g, held-free slots held e body p.0 j)
 
 for-made : (slots : List Slot) (held : List ℕ) (spot : Spot) (s : List Entry) (o : Option Entry) (first last : ExprTree) (v w q : Option ℤ)
-    (body : Option checked.TStmtTrees) → ((e : Entry) → o ≡ Some e → IsEntry slots e e.class) → number_in s (entry_type o) first ≡ v
+    (body : Option checked.TStmtTrees) → ((e : Entry) → o ≡ Some e → IsEntry slots e e.section) → number_in s (entry_type o) first ≡ v
     → number_in s (entry_type o) last ≡ w → IfSome q (λ x. x ≡ pos 0 → ⊥) → StmtsMade slots (held_in held o) body
     → StmtMade slots held (for_of held spot o v w q body)
 for-made slots held spot s None first last v w q body h f g i j = tt

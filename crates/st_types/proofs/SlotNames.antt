@@ -2,7 +2,7 @@
 use Rattle.std.proofs.Common.{◌≡◌, ℕ, ℤ, Bool, true, false, cond, ◌&&◌, List, [], ◌∷◌, ◌++◌, flat_map, Option, Some, None, option_map, refl, ap, subst}
 use Rattle.std.specs.List.{list_all}
 use Rattle.vcp_base.specs.declared.ty.Ty.{Ty}
-use Rattle.st_tree.specs.declared.program.Class.{Class}
+use Rattle.st_tree.specs.declared.program.Section.{Section}
 use Rattle.st_tree.specs.ProgramTree.{DeclaredTree, DeclTree, BlockTree, ProgramTree}
 use Rattle.st_tree.specs.Declarable.{names_of}
 use Rattle.vcp_typed.specs.declared.slot.Slot.{Slot}
@@ -55,13 +55,13 @@ either_made : (test : List ℕ → Bool) (b : Bool) (m n : Made) → SlotsPass t
 either_made test true m n h k = h
 either_made test false m n h k = k
 
-with-slot : (test : List ℕ → Bool) (ss : List Slot) (k : Class) (d : DeclaredTree) (t : Ty) (v : ℤ) → SlotsPass test ss → test d.name ≡ true
+with-slot : (test : List ℕ → Bool) (ss : List Slot) (k : Section) (d : DeclaredTree) (t : Ty) (v : ℤ) → SlotsPass test ss → test d.name ≡ true
     → SlotsPass test (slots_with ss k d t v)
 with-slot test ss k d t v h e =
-    either_slots test (is_constant k) ss (ss ++ record { name = d.name; spot = d.spot; class = k; ty = t; init = v } ∷ []) h
-    (all-push test ss (record { name = d.name; spot = d.spot; class = k; ty = t; init = v }) h e)
+    either_slots test (is_constant k) ss (ss ++ record { name = d.name; spot = d.spot; section = k; ty = t; init = v } ∷ []) h
+    (all-push test ss (record { name = d.name; spot = d.spot; section = k; ty = t; init = v }) h e)
 
-names-pass : (test : List ℕ → Bool) (m : Made) (k : Class) (t : Ty) (v : ℤ) (ds : List DeclaredTree) → SlotsPass test m.slots → NamesPass test ds
+names-pass : (test : List ℕ → Bool) (m : Made) (k : Section) (t : Ty) (v : ℤ) (ds : List DeclaredTree) → SlotsPass test m.slots → NamesPass test ds
     → SlotsPass test (after_names m k t v ds).slots
 names-pass test m k t v [] h g = h
 names-pass test m k t v (d ∷ ds) h g =
@@ -70,7 +70,7 @@ names-pass test m k t v (d ∷ ds) h g =
     (with-slot test m.slots k d t v h (first_part (test d.name) (list_all (λ x. test x.name) ds) g)) h)
     (second_part (test d.name) (list_all (λ x. test x.name) ds) g)
 
-decls-pass : (test : List ℕ → Bool) (k : Class) (m : Made) (ds : List DeclTree) → SlotsPass test m.slots → NamesPass test (flat_map (λ d. d.names) ds)
+decls-pass : (test : List ℕ → Bool) (k : Section) (m : Made) (ds : List DeclTree) → SlotsPass test m.slots → NamesPass test (flat_map (λ d. d.names) ds)
     → SlotsPass test (after_decls k m ds).slots
 decls-pass test k m [] h g = h
 decls-pass test k m (d ∷ ds) h g =
@@ -82,8 +82,8 @@ blocks-pass : (test : List ℕ → Bool) (m : Made) (bs : List BlockTree) → Sl
     → NamesPass test (flat_map (λ b. flat_map (λ d. d.names) b.decls) bs) → SlotsPass test (after_blocks m bs).slots
 blocks-pass test m [] h g = h
 blocks-pass test m (b ∷ bs) h g =
-    blocks-pass test (after_decls b.class m b.decls) bs
-    (decls-pass test b.class m b.decls h (all-front test (flat_map (λ d. d.names) b.decls) (flat_map (λ c. flat_map (λ d. d.names) c.decls) bs) g))
+    blocks-pass test (after_decls b.section m b.decls) bs
+    (decls-pass test b.section m b.decls h (all-front test (flat_map (λ d. d.names) b.decls) (flat_map (λ c. flat_map (λ d. d.names) c.decls) bs) g))
     (all-behind test (flat_map (λ d. d.names) b.decls) (flat_map (λ c. flat_map (λ d. d.names) c.decls) bs) g)
 
 slots-are : (p : ProgramTree) (t : Program) (o : Option TStmtTrees)

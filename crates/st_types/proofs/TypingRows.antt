@@ -8,7 +8,7 @@ use Rattle.vcp_base.specs.declared.ty.Ty.TheVariants as ty
 use Rattle.st_tree.specs.declared.expr.UnOp.TheVariants as un
 use Rattle.st_tree.specs.declared.expr.BinOp.{BinOp}
 use Rattle.st_tree.specs.declared.expr.BinOp.TheVariants as bin
-use Rattle.st_tree.specs.declared.program.Class.TheVariants as class
+use Rattle.st_tree.specs.declared.program.Section.TheVariants as section
 use Rattle.st_tree.specs.ExprTree.{ExprTree, literal, name, unary, binary, call, no_exprs, and_expr}
 use Rattle.st_tree.specs.StmtTree.{LabelTree, StmtTree, StmtTrees, assign, if_, case, for_, no_stmts, and_stmt, no_arms, and_arm, no_branches, and_branch}
 use Rattle.st_tree.specs.StmtTree.{no_other, other}
@@ -41,16 +41,16 @@ decl n spot t init = record { names = record { name = n; spot = spot } ∷ []; t
 abbrev header : List BlockTree
 header =
     record {
-      class = class.Input;
+      section = section.Input;
       decls = decl (codes "i") (at 2 11) ty.Int None ∷ decl (codes "d") (at 2 20) ty.Dint None ∷ decl (codes "b") (at 2 30) ty.Bool None ∷ [];
     }
     ∷ record {
-      class = class.Output;
+      section = section.Output;
       decls =
           decl (codes "q") (at 3 12) ty.Dint None ∷ decl (codes "r") (at 3 22) ty.Int None ∷ decl (codes "c") (at 3 31) ty.Bool None ∷ [];
     }
-    ∷ record { class = class.Local; decls = decl (codes "k") (at 4 5) ty.Int None ∷ [] }
-    ∷ record { class = class.Constant; decls = decl (codes "T") (at 5 14) ty.Int (Some (literal None (pos 3) (at 5 23))) ∷ [] }
+    ∷ record { section = section.Local; decls = decl (codes "k") (at 4 5) ty.Int None ∷ [] }
+    ∷ record { section = section.Constant; decls = decl (codes "T") (at 5 14) ty.Int (Some (literal None (pos 3) (at 5 23))) ∷ [] }
     ∷ []
 
 -- the names that the header declares
@@ -63,7 +63,7 @@ one x = record { name = codes "p"; blocks = header; body = and_stmt x no_stmts }
 
 -- a program of one block of variables in line 2, without a body
 abbrev pub vars : List DeclTree → ProgramTree
-vars ds = record { name = codes "p"; blocks = record { class = class.Local; decls = ds } ∷ []; body = no_stmts }
+vars ds = record { name = codes "p"; blocks = record { section = section.Local; decls = ds } ∷ []; body = no_stmts }
 
 abbrev set : List ℕ → ExprTree → ProgramTree
 set n e = one (assign n e (at 6 1))
@@ -611,7 +611,7 @@ selects_unknown = refl
 -- VAR a : INT := zz; END_VAR, and zz := 1 in line 3: the earlier line comes first, whatever its column
 earlier_line : first_fault (record {
   name = codes "p";
-  blocks = record { class = class.Local; decls = decl (codes "a") (at 2 5) ty.Int (Some (name (codes "zz") (at 2 16))) ∷ [] } ∷ [];
+  blocks = record { section = section.Local; decls = decl (codes "a") (at 2 5) ty.Int (Some (name (codes "zz") (at 2 16))) ∷ [] } ∷ [];
   body =
       and_stmt (assign (codes "zz") (num 1 7) (at 3 1)) no_stmts;
 }) ≡ Some (fault rule.Unknown (at 2 16))
@@ -620,7 +620,7 @@ earlier_line = refl
 -- VAR CONSTANT a : INT := a; END_VAR: a constant isn't declared before itself
 own_name : first_fault (record {
   name = codes "p";
-  blocks = record { class = class.Constant; decls = decl (codes "a") (at 2 5) ty.Int (Some (name (codes "a") (at 2 16))) ∷ [] } ∷ [];
+  blocks = record { section = section.Constant; decls = decl (codes "a") (at 2 5) ty.Int (Some (name (codes "a") (at 2 16))) ∷ [] } ∷ [];
   body = no_stmts;
 })
     ≡ Some (fault rule.Bound (at 2 16))
@@ -749,16 +749,16 @@ literal_alone = refl
 abbrev first : ProgramTree
 first = record {
   name = codes "p";
-  blocks = record { class = class.Input; decls = decl (codes "x") (at 2 11) ty.Dint None ∷ [] }
-      ∷ record { class = class.Output; decls = decl (codes "y") (at 3 12) ty.Dint None ∷ [] } ∷ [];
+  blocks = record { section = section.Input; decls = decl (codes "x") (at 2 11) ty.Dint None ∷ [] }
+      ∷ record { section = section.Output; decls = decl (codes "y") (at 3 12) ty.Dint None ∷ [] } ∷ [];
   body = and_stmt (assign (codes "y") (binary bin.Add (name (codes "x") (at 4 6)) (literal None (pos 1) (at 4 10)) (at 4 8)) (at 4 1)) no_stmts;
 }
 
 abbrev first_checked : Program
 first_checked = record {
   slots =
-      record { name = codes "x"; spot = at 2 11; class = class.Input; ty = ty.Dint; init = pos 0 }
-      ∷ record { name = codes "y"; spot = at 3 12; class = class.Output; ty = ty.Dint; init = pos 0 } ∷ [];
+      record { name = codes "x"; spot = at 2 11; section = section.Input; ty = ty.Dint; init = pos 0 }
+      ∷ record { name = codes "y"; spot = at 3 12; section = section.Output; ty = ty.Dint; init = pos 0 } ∷ [];
   body = checked.and_tstmt
       (checked.assign 1 (typed.binary bin.Add ty.Dint (typed.get 0 ty.Dint) (typed.literal ty.Dint (pos 1) (at 4 10)) (at 4 8)) (at 4 1)) checked.no_tstmts;
 }
@@ -773,8 +773,8 @@ first_size = refl
 abbrev counting : StmtTrees → ProgramTree
 counting body = record {
   name = codes "p";
-  blocks = record { class = class.Output; decls = decl (codes "y") (at 2 12) ty.Dint None ∷ [] }
-      ∷ record { class = class.Local; decls = decl (codes "i") (at 3 5) ty.Dint None ∷ [] } ∷ [];
+  blocks = record { section = section.Output; decls = decl (codes "y") (at 2 12) ty.Dint None ∷ [] }
+      ∷ record { section = section.Local; decls = decl (codes "i") (at 3 5) ty.Dint None ∷ [] } ∷ [];
   body = body;
 }
 
@@ -791,8 +791,8 @@ largest = refl
 -- y and i
 abbrev counting_slots : List Slot
 counting_slots =
-    record { name = codes "y"; spot = at 2 12; class = class.Output; ty = ty.Dint; init = pos 0 }
-    ∷ record { name = codes "i"; spot = at 3 5; class = class.Local; ty = ty.Dint; init = pos 0 } ∷ []
+    record { name = codes "y"; spot = at 2 12; section = section.Output; ty = ty.Dint; init = pos 0 }
+    ∷ record { name = codes "i"; spot = at 3 5; section = section.Local; ty = ty.Dint; init = pos 0 } ∷ []
 
 -- the loop, and what follows it
 abbrev long_checked : checked.TStmtTrees → checked.TStmtTrees

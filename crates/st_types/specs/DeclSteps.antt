@@ -3,7 +3,7 @@
 -- How the typing works, and no promise: what it promises is in Typing.
 use Rattle.std.specs.Prelude.{◌≡◌, ◌⊎◌, List, [], ◌∷◌, Option, Some, None}
 use Rattle.vcp_base.specs.declared.ty.Ty.{Ty}
-use Rattle.st_tree.specs.declared.program.Class.{Class}
+use Rattle.st_tree.specs.declared.program.Section.{Section}
 use Rattle.st_tree.specs.ExprTree.{ExprTree}
 use Rattle.st_tree.specs.ProgramTree.{DeclaredTree, DeclTree, BlockTree}
 use Rattle.st_types.specs.declared.declaration.Declarations.{Declarations}
@@ -29,16 +29,16 @@ abbrev pub InitForm : List Entry → Option ExprTree → Fault → Type 0
 InitForm before None f = ⊥
 InitForm before (Some e) f = FormFault before e f
 
-abbrev pub DeclForm : Class → Made → DeclTree → Fault → Type 0
+abbrev pub DeclForm : Section → Made → DeclTree → Fault → Type 0
 DeclForm k m d f = InitForm m.entries d.init f ⊎ NamesFault m k d.ty (init_value m d.init) (known_init m d.init) d.names f
 
-abbrev pub DeclsForm : Class → Made → List DeclTree → Fault → Type 0
+abbrev pub DeclsForm : Section → Made → List DeclTree → Fault → Type 0
 DeclsForm k m [] f = ⊥
 DeclsForm k m (d ∷ ds) f = DeclForm k m d f ⊎ DeclsForm k (after_decl k m d) ds f
 
 abbrev pub BlocksForm : Made → List BlockTree → Fault → Type 0
 BlocksForm m [] f = ⊥
-BlocksForm m (b ∷ bs) f = DeclsForm b.class m b.decls f ⊎ BlocksForm (after_decls b.class m b.decls) bs f
+BlocksForm m (b ∷ bs) f = DeclsForm b.section m b.decls f ⊎ BlocksForm (after_decls b.section m b.decls) bs f
 
 -- ---- faults inside initial values
 
@@ -70,11 +70,11 @@ pub record Makes (old new : Option Fault) (n end : Made) (F : Fault → Type 0) 
   pub notes : Notes old new F
   pub gives : n ≡ end
 
--- the names of a declaration are read: its class, its type, and the constant that is its initial value
-abbrev pub MakesNames : Class → Ty → Option Known → List DeclaredTree → Made → Made → Option Fault → Option Fault → Type 0
+-- the names of a declaration are read: its section, its type, and the constant that is its initial value
+abbrev pub MakesNames : Section → Ty → Option Known → List DeclaredTree → Made → Made → Option Fault → Option Fault → Type 0
 MakesNames k t x ds m n old new = Makes old new n (after_names m k t (value_or_zero x) ds) (NamesFault m k t (value_or_zero x) x ds)
 
-abbrev pub MakesDecls : Class → List DeclTree → Made → Made → Option Fault → Option Fault → Type 0
+abbrev pub MakesDecls : Section → List DeclTree → Made → Made → Option Fault → Option Fault → Type 0
 MakesDecls k ds m n old new = Makes old new n (after_decls k m ds) (DeclsForm k m ds)
 
 abbrev pub MakesBlocks : List BlockTree → Made → Made → Option Fault → Option Fault → Type 0

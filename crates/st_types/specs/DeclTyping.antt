@@ -2,7 +2,7 @@
 use Rattle.std.specs.Prelude.{◌≡◌, ◌⊎◌, ℕ, ℤ, pos, Bool, false, cond, is_none, List, [], ◌∷◌, ◌++◌, length, Option, Some, None}
 use Rattle.vcp_base.specs.declared.ty.Ty.{Ty}
 use Rattle.vcp_base.specs.Types.{within}
-use Rattle.st_tree.specs.declared.program.Class.{Class}
+use Rattle.st_tree.specs.declared.program.Section.{Section}
 use Rattle.st_tree.specs.ExprTree.{ExprTree}
 use Rattle.st_tree.specs.ProgramTree.{DeclaredTree, DeclTree, BlockTree}
 use Rattle.vcp_typed.specs.declared.slot.Slot.{Slot}
@@ -26,20 +26,20 @@ abbrev pub is_new : Made → List ℕ → Bool
 is_new m n = is_none (find m.entries n)
 
 -- the slots with one more, unless it is a constant
-abbrev pub slots_with : List Slot → Class → DeclaredTree → Ty → ℤ → List Slot
-slots_with ss k d t v = cond (is_constant k) ss (ss ++ record { name = d.name; spot = d.spot; class = k; ty = t; init = v } ∷ [])
+abbrev pub slots_with : List Slot → Section → DeclaredTree → Ty → ℤ → List Slot
+slots_with ss k d t v = cond (is_constant k) ss (ss ++ record { name = d.name; spot = d.spot; section = k; ty = t; init = v } ∷ [])
 
-abbrev pub added : Made → Class → Ty → ℤ → DeclaredTree → Made
+abbrev pub added : Made → Section → Ty → ℤ → DeclaredTree → Made
 added m k t v d = record {
-  entries = m.entries ++ record { name = d.name; class = k; ty = t; value = v; slot = length m.slots } ∷ [];
+  entries = m.entries ++ record { name = d.name; section = k; ty = t; value = v; slot = length m.slots } ∷ [];
   slots = slots_with m.slots k d t v;
 }
 
 -- after one more name; the first declaration of a name counts
-abbrev pub after_name : Made → Class → Ty → ℤ → DeclaredTree → Made
+abbrev pub after_name : Made → Section → Ty → ℤ → DeclaredTree → Made
 after_name m k t v d = cond (is_new m d.name) (added m k t v d) m
 
-abbrev pub after_names : Made → Class → Ty → ℤ → List DeclaredTree → Made
+abbrev pub after_names : Made → Section → Ty → ℤ → List DeclaredTree → Made
 after_names m k t v [] = m
 after_names m k t v (d ∷ ds) = after_names (after_name m k t v d) k t v ds
 
@@ -66,7 +66,7 @@ Misfit k t = (x : Known) × (k ≡ Some x) × (within x.ty t ≡ false)
 -- ---- faults
 
 -- f is a fault of the names of a declaration with this initial value, each of which is told
-abbrev pub NamesFault : Made → Class → Ty → ℤ → Option Known → List DeclaredTree → Fault → Type 0
+abbrev pub NamesFault : Made → Section → Ty → ℤ → Option Known → List DeclaredTree → Fault → Type 0
 NamesFault m k t v x [] f = ⊥
 NamesFault m k t v x (d ∷ ds) f =
     ((f ≡ fault rule.Duplicate d.spot) × (is_new m d.name ≡ false))
@@ -82,25 +82,25 @@ InitFault all before None f = ⊥
 InitFault all before (Some e) f = ValueFault all before e f
 
 -- after a declaration
-abbrev pub after_decl : Class → Made → DeclTree → Made
+abbrev pub after_decl : Section → Made → DeclTree → Made
 after_decl k m d = after_names m k d.ty (init_value m d.init) d.names
 
 -- f is a fault of a declaration
-abbrev pub DeclFault : List Entry → Class → Made → DeclTree → Fault → Type 0
+abbrev pub DeclFault : List Entry → Section → Made → DeclTree → Fault → Type 0
 DeclFault all k m d f = InitFault all m.entries d.init f ⊎ NamesFault m k d.ty (init_value m d.init) (known_init m d.init) d.names f
 
-abbrev pub after_decls : Class → Made → List DeclTree → Made
+abbrev pub after_decls : Section → Made → List DeclTree → Made
 after_decls k m [] = m
 after_decls k m (d ∷ ds) = after_decls k (after_decl k m d) ds
 
-abbrev pub DeclsFault : List Entry → Class → Made → List DeclTree → Fault → Type 0
+abbrev pub DeclsFault : List Entry → Section → Made → List DeclTree → Fault → Type 0
 DeclsFault all k m [] f = ⊥
 DeclsFault all k m (d ∷ ds) f = DeclFault all k m d f ⊎ DeclsFault all k (after_decl k m d) ds f
 
 abbrev pub after_blocks : Made → List BlockTree → Made
 after_blocks m [] = m
-after_blocks m (b ∷ bs) = after_blocks (after_decls b.class m b.decls) bs
+after_blocks m (b ∷ bs) = after_blocks (after_decls b.section m b.decls) bs
 
 abbrev pub BlocksFault : List Entry → Made → List BlockTree → Fault → Type 0
 BlocksFault all m [] f = ⊥
-BlocksFault all m (b ∷ bs) f = DeclsFault all b.class m b.decls f ⊎ BlocksFault all (after_decls b.class m b.decls) bs f
+BlocksFault all m (b ∷ bs) f = DeclsFault all b.section m b.decls f ⊎ BlocksFault all (after_decls b.section m b.decls) bs f

@@ -8,8 +8,8 @@ use Rattle.vcp_base.specs.Types.{fits, within}
 use Rattle.st_tree.specs.declared.expr.UnOp.{UnOp}
 use Rattle.st_tree.specs.declared.expr.UnOp.TheVariants as un
 use Rattle.st_tree.specs.declared.expr.BinOp.{BinOp}
-use Rattle.st_tree.specs.declared.program.Class.{Class}
-use Rattle.st_tree.specs.declared.program.Class.TheVariants as class
+use Rattle.st_tree.specs.declared.program.Section.{Section}
+use Rattle.st_tree.specs.declared.program.Section.TheVariants as section
 use Rattle.st_tree.specs.ExprTree.{ExprTree, ExprTrees, literal, name, unary, binary, call, no_exprs, and_expr}
 use Rattle.vcp_typed.specs.declared.expr.Fun.{Fun}
 use Rattle.vcp_typed.specs.declared.expr.Fun.TheVariants as fun
@@ -182,12 +182,12 @@ abbrev mutual
 -- ---- checked expressions
 
 -- what a name stands for: a constant by its value at the place of its use, and a variable by its slot
-abbrev pub got : Spot → Entry → Class → typed.TExprTree
-got spot e class.Constant = typed.literal e.ty e.value spot
-got spot e class.Input = typed.get e.slot e.ty
-got spot e class.Output = typed.get e.slot e.ty
-got spot e class.Local = typed.get e.slot e.ty
-got spot e class.Retain = typed.get e.slot e.ty
+abbrev pub got : Spot → Entry → Section → typed.TExprTree
+got spot e section.Constant = typed.literal e.ty e.value spot
+got spot e section.Input = typed.get e.slot e.ty
+got spot e section.Output = typed.get e.slot e.ty
+got spot e section.Local = typed.get e.slot e.ty
+got spot e section.Retain = typed.get e.slot e.ty
 
 -- an expression as one of the wider type t; a literal becomes one of that type
 abbrev pub as_type : Ty → typed.TExprTree → typed.TExprTree
@@ -220,7 +220,7 @@ call_of f spot es =
 abbrev mutual
   pub expr_of : List Entry → ExprTree → Option typed.TExprTree
   expr_of s (literal t v spot) = option_map (λ u. typed.literal u v spot) (literal_type t v)
-  expr_of s (name n spot) = option_map (λ e. got spot e e.class) (find s n)
+  expr_of s (name n spot) = option_map (λ e. got spot e e.section) (find s n)
   expr_of s (unary op a spot) = sign_of op (negated op a) spot (expr_of s a)
   expr_of s (binary op a b spot) = both (operation_of op spot) (expr_of s a) (expr_of s b)
   expr_of s (call n es spot) = option_and_then (λ f. option_and_then (call_of f spot) (exprs_of s es)) (called n (count es))

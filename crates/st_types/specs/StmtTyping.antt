@@ -6,8 +6,8 @@ use Rattle.vcp_base.specs.declared.spot.Spot.{Spot}
 use Rattle.vcp_base.specs.declared.ty.Ty.{Ty}
 use Rattle.vcp_base.specs.Types.{fits, is_bool, within}
 use Rattle.vcp_base.specs.Kinds.{same}
-use Rattle.st_tree.specs.declared.program.Class.{Class}
-use Rattle.st_tree.specs.declared.program.Class.TheVariants as class
+use Rattle.st_tree.specs.declared.program.Section.{Section}
+use Rattle.st_tree.specs.declared.program.Section.TheVariants as section
 use Rattle.st_tree.specs.ExprTree.{ExprTree, literal, name, unary, binary, call}
 use Rattle.st_tree.specs.StmtTree.{LabelTree, StmtTree, StmtTrees, ArmTrees, BranchTrees, OtherTree, assign, if_, case, for_, no_stmts, and_stmt, no_arms}
 use Rattle.st_tree.specs.StmtTree.{and_arm, no_branches, and_branch, no_other, other}
@@ -32,16 +32,16 @@ spot_of (call n es spot) = spot
 
 -- ---- constants
 
-abbrev pub is_constant : Class → Bool
-is_constant class.Input = false
-is_constant class.Output = false
-is_constant class.Local = false
-is_constant class.Retain = false
-is_constant class.Constant = true
+abbrev pub is_constant : Section → Bool
+is_constant section.Input = false
+is_constant section.Output = false
+is_constant section.Local = false
+is_constant section.Retain = false
+is_constant section.Constant = true
 
 -- the form of a declared constant; a variable has none
 abbrev pub form_of_entry : Entry → Option Form
-form_of_entry e = cond (is_constant e.class) (Some (record { ty = Some e.ty; value = e.value })) None
+form_of_entry e = cond (is_constant e.section) (Some (record { ty = Some e.ty; value = e.value })) None
 
 abbrev pub form_of_negated : Untyped → Form
 form_of_negated l = record { ty = None; value = neg_ℤ l.value }
@@ -81,7 +81,7 @@ number_in s t e = both (λ x u. form_number (Some x) (form s e)) t (type_of s e)
 
 -- the variable may be set inside FORs over the slots `held`
 abbrev pub is_free : List ℕ → Entry → Bool
-is_free held e = is_set e.class && not (list_any (λ n. n == e.slot) held)
+is_free held e = is_set e.section && not (list_any (λ n. n == e.slot) held)
 
 -- f is a fault of a name that is set, which stands for this
 abbrev pub NameFault : List ℕ → Option Entry → Spot → Fault → Type 0
@@ -155,7 +155,7 @@ LabelsFault s t (l ∷ ls) f = LabelFault s t l f ⊎ LabelsFault s t ls f
 -- the FORs round the body of one over this name; a constant has no slot
 abbrev pub held_in : List ℕ → Option Entry → List ℕ
 held_in held None = held
-held_in held (Some e) = cond (is_constant e.class) held (held ++ e.slot ∷ [])
+held_in held (Some e) = cond (is_constant e.section) held (held ++ e.slot ∷ [])
 
 -- f is a fault of the statement, which stands inside FORs over the slots `held`
 abbrev mutual

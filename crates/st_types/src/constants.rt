@@ -60,7 +60,7 @@ pub(crate) fn spot_of(e: &Expr) -> Spot
 fn form_of_entry(e: &Entry) -> Option<Form>
     ensures { result ≡ entry_form e.now }
 {
-    if !is_constant(e.class) {
+    if !is_constant(e.section) {
         return None;
     }
     Some(Form {

@@ -17,7 +17,7 @@ use crate::initial::initial;
 use crate::names::{Entry, Names};
 use crate::note::note;
 use crate::variable::is_constant;
-use st_tree::{Block, Class, Decl, Declared, Expr};
+use st_tree::{Block, Decl, Declared, Expr, Section};
 use std::alloc::Global;
 use vcp_base::{Memory, Spot, Text, Ty, within};
 use vcp_typed::{Slot, Slots};
@@ -32,7 +32,7 @@ pub(crate) struct Declarations {
 /// What a declaration says of its names: the constant that is their initial value is none where there is none.
 #[derive(Clone, Copy, Drop)]
 struct Kind {
-    class: Class,
+    section: Section,
     ty: Ty,
     init: Option<Known>,
 }
@@ -73,15 +73,15 @@ fn next_slot(slots: &Slots) -> Result<u32, Memory>
 
 // Appends the variable that a name declares; a constant has no slot.
 fn add_slot(alloc: Global, slots: &mut Slots, kind: Kind, d: &Declared) -> Result<(), Memory>
-    ensures { OnOk result (slots.new.items.items ≡ slots_with slots.old.items.items kind.class (declared_tree d.now) kind.ty (zero_or kind.init)) }
+    ensures { OnOk result (slots.new.items.items ≡ slots_with slots.old.items.items kind.section (declared_tree d.now) kind.ty (zero_or kind.init)) }
 {
-    if is_constant(kind.class) {
+    if is_constant(kind.section) {
         return Ok(());
     }
     slots.push(Slot {
         name: Text::copy_of(alloc, d.name.bytes())?,
         spot: d.spot,
-        class: kind.class,
+        section: kind.section,
         ty: kind.ty,
         init: value_or_zero(kind.init),
     })
@@ -96,11 +96,11 @@ fn add_name(
     first: &mut Option<Fault>,
 ) -> Result<(), Memory>
     ensures notes { OnOk result (Notes first.old first.new (λ f. (f ≡ fault rule_.Duplicate d.now.spot) × (is_new (made_by made.old) d.now.name ≡ false))) }
-    ensures gives { OnOk result (made_by made.new ≡ after_name (made_by made.old) kind.class kind.ty (zero_or kind.init) (declared_tree d.now)) }
+    ensures gives { OnOk result (made_by made.new ≡ after_name (made_by made.old) kind.section kind.ty (zero_or kind.init) (declared_tree d.now)) }
 {
     let entry = Entry {
         name: Text::copy_of(alloc, d.name.bytes())?,
-        class: kind.class,
+        section: kind.section,
         ty: kind.ty,
         value: value_or_zero(kind.init),
         slot: next_slot(&made.slots)?,
@@ -121,7 +121,7 @@ fn add_names(
     names: &[Declared],
     first: &mut Option<Fault>,
 ) -> Result<(), Memory>
-    ensures { OnOk result (MakesNames kind.class kind.ty kind.init (map declared_tree names.now) (made_by made.old) (made_by made.new) first.old first.new) }
+    ensures { OnOk result (MakesNames kind.section kind.ty kind.init (map declared_tree names.now) (made_by made.old) (made_by made.new) first.old first.new) }
 {
     'each: for d in names {
         add_name(alloc, made, kind, d, first)?;
@@ -148,17 +148,17 @@ fn initial_or_none(
 fn add_declaration(
     alloc: Global,
     made: &mut Declarations,
-    class: Class,
+    section: Section,
     d: &Decl,
     first: &mut Option<Fault>,
 ) -> Result<(), Memory>
     ensures { OnOk result (Makes first.old first.new (made_by made.new)
-        (after_decl class (made_by made.old) (decl_tree d.now))
-        (DeclForm class (made_by made.old) (decl_tree d.now))) }
+        (after_decl section (made_by made.old) (decl_tree d.now))
+        (DeclForm section (made_by made.old) (decl_tree d.now))) }
 {
     let init = initial_or_none(made, &d.init, first)?;
     let kind = Kind {
-        class,
+        section,
         ty: d.ty,
         init,
     };
@@ -169,14 +169,14 @@ fn add_declaration(
 fn add_declarations(
     alloc: Global,
     made: &mut Declarations,
-    class: Class,
+    section: Section,
     decls: &[Decl],
     first: &mut Option<Fault>,
 ) -> Result<(), Memory>
-    ensures { OnOk result (MakesDecls class (map decl_tree decls.now) (made_by made.old) (made_by made.new) first.old first.new) }
+    ensures { OnOk result (MakesDecls section (map decl_tree decls.now) (made_by made.old) (made_by made.new) first.old first.new) }
 {
     'each: for d in decls {
-        add_declaration(alloc, made, class, d, first)?;
+        add_declaration(alloc, made, section, d, first)?;
     }
     Ok(())
 }
@@ -191,7 +191,7 @@ fn add_blocks(
     ensures { OnOk result (MakesBlocks (map block_tree blocks.now) (made_by made.old) (made_by made.new) first.old first.new) }
 {
     'each: for b in blocks {
-        add_declarations(alloc, made, b.class, &b.decls.items, first)?;
+        add_declarations(alloc, made, b.section, &b.decls.items, first)?;
     }
     Ok(())
 }

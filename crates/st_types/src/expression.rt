@@ -19,21 +19,21 @@ use crate::literal::{Untyped, literal_type, minus, negated};
 use crate::names::Entry;
 use crate::note::note;
 use crate::operator::{common, signed, widened};
-use st_tree::{BinOp, Class, Expr, UnOp, trees_of_nodes};
+use st_tree::{BinOp, Expr, Section, UnOp, trees_of_nodes};
 use std::alloc::Global;
 use vcp_base::{Memory, Spot, Ty};
 use vcp_typed::{Fun, TExpr, TExprs, ty_of};
 
 // What a name stands for.
 fn got(spot: Spot, e: &Entry) -> TExpr
-    ensures { texpr_tree result ≡ got_of spot e.now e.now.class }
+    ensures { texpr_tree result ≡ got_of spot e.now e.now.section }
 {
-    match e.class {
-        Class::Constant => TExpr::literal(e.ty, e.value, spot),
-        Class::Input => TExpr::get(e.slot, e.ty),
-        Class::Output => TExpr::get(e.slot, e.ty),
-        Class::Local => TExpr::get(e.slot, e.ty),
-        Class::Retain => TExpr::get(e.slot, e.ty),
+    match e.section {
+        Section::Constant => TExpr::literal(e.ty, e.value, spot),
+        Section::Input => TExpr::get(e.slot, e.ty),
+        Section::Output => TExpr::get(e.slot, e.ty),
+        Section::Local => TExpr::get(e.slot, e.ty),
+        Section::Retain => TExpr::get(e.slot, e.ty),
     }
 }
 

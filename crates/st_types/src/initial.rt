@@ -53,7 +53,7 @@ fn of_negated(l: Untyped) -> Option<Known>
 fn of_entry(e: &Entry) -> Option<Known>
     ensures { result ≡ both known_form (form_of_entry e.now) (Some e.now.ty) }
 {
-    if !is_constant(e.class) {
+    if !is_constant(e.section) {
         return None;
     }
     Some(Known {

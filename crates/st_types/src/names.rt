@@ -4,16 +4,16 @@ ghost use Rattle.std.specs.Prelude.{◌≡◌, [], ◌∷◌, ◌++◌, length, 
 ghost use Rattle.st_types.specs.Scope.{find};
 
 use indexmap::IndexMap;
-use st_tree::Class;
+use st_tree::Section;
 use std::alloc::Global;
 use std::marker::Model;
 use vcp_base::{Memory, Text, Ty};
 
-/// A declared name, as it is written: its class and type; a constant's value, and a variable's slot.
+/// A declared name, as it is written: its section and type; a constant's value, and a variable's slot.
 #[derive(Drop)]
 pub struct Entry {
     pub name: Text,
-    pub class: Class,
+    pub section: Section,
     pub ty: Ty,
     pub value: i64,
     pub slot: u32,

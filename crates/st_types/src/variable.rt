@@ -11,33 +11,33 @@ ghost use Rattle.st_types.specs.StmtTyping.{NameFault, IsBool};
 use crate::fault::{Fault, Rule};
 use crate::names::Entry;
 use crate::note::note;
-use st_tree::Class;
+use st_tree::Section;
 use std::alloc::Global;
 use vcp_base::{Memory, Spot, Ty, is_bool};
 
-/// Whether statements may set variables of the class.
-pub fn is_set(class: Class) -> bool
-    ensures { result ≡ is_set_of class }
+/// Whether statements may set variables of the section.
+pub fn is_set(section: Section) -> bool
+    ensures { result ≡ is_set_of section }
 {
-    match class {
-        Class::Input => false,
-        Class::Output => true,
-        Class::Local => true,
-        Class::Retain => true,
-        Class::Constant => false,
+    match section {
+        Section::Input => false,
+        Section::Output => true,
+        Section::Local => true,
+        Section::Retain => true,
+        Section::Constant => false,
     }
 }
 
-/// Whether names of the class are constants.
-pub(crate) fn is_constant(class: Class) -> bool
-    ensures { result ≡ is_constant_of class }
+/// Whether names of the section are constants.
+pub(crate) fn is_constant(section: Section) -> bool
+    ensures { result ≡ is_constant_of section }
 {
-    match class {
-        Class::Input => false,
-        Class::Output => false,
-        Class::Local => false,
-        Class::Retain => false,
-        Class::Constant => true,
+    match section {
+        Section::Input => false,
+        Section::Output => false,
+        Section::Local => false,
+        Section::Retain => false,
+        Section::Constant => true,
     }
 }
 
@@ -45,7 +45,7 @@ pub(crate) fn is_constant(class: Class) -> bool
 pub(crate) fn is_free(held: &[u32], x: &Entry) -> bool
     ensures { result ≡ is_free_of held.now x.now }
 {
-    is_set(x.class) && !held.contains(&x.slot)
+    is_set(x.section) && !held.contains(&x.slot)
 }
 
 /// The type of what was found.
@@ -89,7 +89,7 @@ pub(crate) fn held_in(alloc: Global, held: &[u32], x: Option<&Entry>) -> Result<
 {
     let mut inner = held.to_vec(alloc)?;
     if let Some(x) = x {
-        if !is_constant(x.class) {
+        if !is_constant(x.section) {
             inner.push(x.slot)?;
         }
     }

@@ -3,7 +3,7 @@ use Rattle.std.proofs.Common.{◌≡◌, ℕ, List, [], ◌∷◌, ◌++◌, Opt
 use Rattle.st_lexer.specs.declared.token.Key.TheVariants as key
 use Rattle.st_lexer.specs.declared.token.Sym.TheVariants as symbol
 use Rattle.st_lexer.specs.declared.token.Token.{Token}
-use Rattle.st_tree.specs.declared.program.Class.{Class}
+use Rattle.st_tree.specs.declared.program.Section.{Section}
 use Rattle.st_tree.specs.ExprTree.{ExprTree}
 use Rattle.st_tree.specs.ProgramTree.{DeclaredTree, DeclTree, BlockTree, ProgramTree}
 use Rattle.st_tree.specs.Bare.{bare_expr_or_none, bare_declared, bare_decl, bare_block, bare, nowhere}
@@ -47,7 +47,7 @@ record DeclsAgain (bytes : Token → List ℕ) (limit : ℕ) (ds : List DeclTree
   spells : SpellsDecls bytes trees placing.placed
   same : map bare_decl trees ≡ map bare_decl ds
 
-record HeadAgain (limit : ℕ) (k : Class) (ts : List Token) : Type 0 where
+record HeadAgain (limit : ℕ) (k : Section) (ts : List Token) : Type 0 where
   placing : Placing limit ts
   spells : SpellsHead k placing.placed
 
@@ -141,7 +141,7 @@ module _ (b c : Token → List ℕ) (limit : ℕ) where
         same = λ i. p.same i ∷ q.same i;
       }
 
-  head_again : {k : Class} {ps : List Placed} → SpellsHead k ps → Within limit ps → (us : List Token) → Written c (canon.head k) us → HeadAgain limit k us
+  head_again : {k : Section} {ps : List Placed} → SpellsHead k ps → Within limit ps → (us : List Token) → Written c (canon.head k) us → HeadAgain limit k us
   head_again (spells_input t k) within us w =
       record { placing = last_token limit 0 w.0 w.1 us within.0 w.2 w.5; spells = spells_input w.0 w.3 }
   head_again (spells_output t k) within us w =
@@ -176,10 +176,10 @@ module _ (b c : Token → List ℕ) (limit : ℕ) where
       let q = decls_again s inner.0 r2.front r2.front_is in
       let m = blocks_again u inner.1 r2.back r2.back_is in
       record {
-        trees = record { class = k; decls = q.trees } ∷ m.trees;
+        trees = record { section = k; decls = q.trees } ∷ m.trees;
         placing = both limit r.front r.back us r.parts p.placing (both limit r2.front r2.back r.back r2.parts q.placing m.placing);
         spells = spells_block k q.trees m.trees p.placing.placed q.placing.placed m.placing.placed p.spells q.spells m.spells;
-        same = λ i. record { class = k; decls = q.same i } ∷ m.same i;
+        same = λ i. record { section = k; decls = q.same i } ∷ m.same i;
       }
 
   pub again : {p : ProgramTree} {ps : List Placed} → SpellsProgram b p ps → Within limit ps → (us : List Token) → Written c (canon.program p) us

@@ -5,8 +5,8 @@ use Rattle.st_lexer.specs.declared.token.Key.TheVariants as key
 use Rattle.st_lexer.specs.declared.token.Sym.TheVariants as symbol
 use Rattle.st_lexer.specs.declared.token.Token.{Token}
 use Rattle.st_lexer.specs.Reading.{Reads}
-use Rattle.st_tree.specs.declared.program.Class.{Class}
-use Rattle.st_tree.specs.declared.program.Class.TheVariants as class
+use Rattle.st_tree.specs.declared.program.Section.{Section}
+use Rattle.st_tree.specs.declared.program.Section.TheVariants as section
 use Rattle.st_tree.specs.ExprTree.{ExprTree}
 use Rattle.st_tree.specs.ProgramTree.{DeclaredTree, DeclTree, BlockTree, ProgramTree}
 use Rattle.st_spelling.specs.Operators.{any_level}
@@ -77,19 +77,19 @@ fit-var-line k ys fit =
     fit-line 0 (lexeme.word key.Var ∷ lexeme.blank ∷ lexeme.word k ∷ []) ys
     (fit-key key.Var _ refl, (fit-blank _, (fit-key k _ refl, (fit-line-end _, fit))))
 
-fit-head : (c : Class) (ys : List lexeme.Lexeme) → AllFit ys → AllFit (lexeme.line 0 (head c) ++ ys)
-fit-head class.Input ys fit = fit-word-line key.VarInput ys fit
-fit-head class.Output ys fit = fit-word-line key.VarOutput ys fit
-fit-head class.Local ys fit = fit-word-line key.Var ys fit
-fit-head class.Constant ys fit = fit-var-line key.Constant ys fit
-fit-head class.Retain ys fit = fit-var-line key.Retain ys fit
+fit-head : (c : Section) (ys : List lexeme.Lexeme) → AllFit ys → AllFit (lexeme.line 0 (head c) ++ ys)
+fit-head section.Input ys fit = fit-word-line key.VarInput ys fit
+fit-head section.Output ys fit = fit-word-line key.VarOutput ys fit
+fit-head section.Local ys fit = fit-word-line key.Var ys fit
+fit-head section.Constant ys fit = fit-var-line key.Constant ys fit
+fit-head section.Retain ys fit = fit-var-line key.Retain ys fit
 
 fit-block : (b : BlockTree) (ys : List lexeme.Lexeme) → ReadableDecls b.decls → AllFit ys → AllFit (block b ++ ys)
 fit-block b ys r fit =
     let end = lexeme.line 0 (lexeme.word key.EndVar ∷ []) in
     let rest = flat_map decl b.decls ++ end in
-    joined (lexeme.line 0 (head b.class)) rest ys
-    (fit-head b.class (rest ++ ys) (joined (flat_map decl b.decls) end ys (fit-decls b.decls (end ++ ys) r (fit-word-line key.EndVar ys fit))))
+    joined (lexeme.line 0 (head b.section)) rest ys
+    (fit-head b.section (rest ++ ys) (joined (flat_map decl b.decls) end ys (fit-decls b.decls (end ++ ys) r (fit-word-line key.EndVar ys fit))))
 
 fit-blocks : (bs : List BlockTree) (ys : List lexeme.Lexeme) → ReadableBlocks bs → AllFit ys → AllFit (flat_map block bs ++ ys)
 fit-blocks [] ys r fit = fit

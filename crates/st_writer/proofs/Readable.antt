@@ -159,7 +159,7 @@ module _ (bytes : Token → List ℕ) where
 
   of-blocks : {bs : List BlockTree} {ts : List Placed} → SpellsBlocks bytes bs ts → Each bytes ts → ReadableBlocks bs
   of-blocks spells_no_block h = tt
-  of-blocks (spells_block class ds bs ts us vs sh sa sb) h =
+  of-blocks (spells_block section ds bs ts us vs sh sa sb) h =
       let p = parted bytes ts (us ++ vs) h in let q = parted bytes us vs p.1 in (of-decls sa q.0, of-blocks sb q.1)
 
   of-program : {p : ProgramTree} {ts : List Placed} → SpellsProgram bytes p ts → Each bytes ts → Readable p

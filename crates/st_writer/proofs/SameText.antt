@@ -155,7 +155,7 @@ blocks-bare [] = refl
 blocks-bare (b ∷ bs) =
     let first = decls-bare b.decls in
     let rest = blocks-bare bs in
-    λ i. (lexeme.line 0 (head b.class) ++ (first i ++ lexeme.line 0 (lexeme.word key.EndVar ∷ []))) ++ rest i
+    λ i. (lexeme.line 0 (head b.section) ++ (first i ++ lexeme.line 0 (lexeme.word key.EndVar ∷ []))) ++ rest i
 
 program-bare : (p : ProgramTree) → program (bare p) ≡ program p
 program-bare p =

@@ -2,7 +2,7 @@
 use Rattle.std.specs.Prelude.{◌≡◌, refl, ℕ, List, [], ◌∷◌, ◌++◌, None, Some, pos, codes}
 use Rattle.vcp_base.specs.declared.spot.Spot.{Spot}
 use Rattle.vcp_base.specs.declared.ty.Ty.TheVariants as ty
-use Rattle.st_tree.specs.declared.program.Class.TheVariants as class
+use Rattle.st_tree.specs.declared.program.Section.TheVariants as section
 use Rattle.st_tree.specs.declared.expr.UnOp.TheVariants as un
 use Rattle.st_tree.specs.declared.expr.BinOp.TheVariants as bin
 use Rattle.st_tree.specs.ExprTree.{ExprTree, literal, name, unary, binary, call, no_exprs, and_expr}
@@ -21,8 +21,8 @@ v n = name n o
 -- y := x + z on a DINT, into a LINT (numbers are not computed here: their digits are those of std)
 increment : canonical (record {
   name = codes "p";
-  blocks = record { class = class.Input; decls = record { names = record { name = codes "x"; spot = o } ∷ []; ty = ty.Dint; init = None } ∷ [] }
-      ∷ record { class = class.Output; decls = record { names = record { name = codes "y"; spot = o } ∷ []; ty = ty.Lint; init = None } ∷ [] } ∷ [];
+  blocks = record { section = section.Input; decls = record { names = record { name = codes "x"; spot = o } ∷ []; ty = ty.Dint; init = None } ∷ [] }
+      ∷ record { section = section.Output; decls = record { names = record { name = codes "y"; spot = o } ∷ []; ty = ty.Lint; init = None } ∷ [] } ∷ [];
   body = and_stmt (assign (codes "y") (binary bin.Add (v (codes "x")) (v (codes "z")) o) o) no_stmts;
 }) ≡ codes "PROGRAM p" ++ 10 ∷ codes "VAR_INPUT" ++ 10 ∷ codes "  x : DINT;" ++ 10 ∷ codes "END_VAR" ++ 10 ∷ codes "VAR_OUTPUT" ++ 10 ∷ codes "  y : LINT;"
     ++ 10

@@ -2,8 +2,8 @@
 use Rattle.std.specs.Prelude.{ℕ, List, [], ◌∷◌, ◌++◌, flat_map, Option, Some, None}
 use Rattle.st_lexer.specs.declared.token.Key.TheVariants as key
 use Rattle.st_lexer.specs.declared.token.Sym.TheVariants as sym
-use Rattle.st_tree.specs.declared.program.Class.{Class}
-use Rattle.st_tree.specs.declared.program.Class.TheVariants as class
+use Rattle.st_tree.specs.declared.program.Section.{Section}
+use Rattle.st_tree.specs.declared.program.Section.TheVariants as section
 use Rattle.st_tree.specs.ExprTree.{ExprTree}
 use Rattle.st_tree.specs.ProgramTree.{DeclaredTree, DeclTree, BlockTree, ProgramTree}
 use Rattle.st_spelling.specs.Operators.{any_level}
@@ -34,15 +34,15 @@ decl d =
     ∷ (init d.init ++ lexeme.symbol sym.Semi ∷ []))
 
 -- the head of a block
-abbrev pub head : Class → List lexeme.Lexeme
-head class.Input = lexeme.word key.VarInput ∷ []
-head class.Output = lexeme.word key.VarOutput ∷ []
-head class.Local = lexeme.word key.Var ∷ []
-head class.Constant = lexeme.word key.Var ∷ lexeme.blank ∷ lexeme.word key.Constant ∷ []
-head class.Retain = lexeme.word key.Var ∷ lexeme.blank ∷ lexeme.word key.Retain ∷ []
+abbrev pub head : Section → List lexeme.Lexeme
+head section.Input = lexeme.word key.VarInput ∷ []
+head section.Output = lexeme.word key.VarOutput ∷ []
+head section.Local = lexeme.word key.Var ∷ []
+head section.Constant = lexeme.word key.Var ∷ lexeme.blank ∷ lexeme.word key.Constant ∷ []
+head section.Retain = lexeme.word key.Var ∷ lexeme.blank ∷ lexeme.word key.Retain ∷ []
 
 abbrev pub block : BlockTree → List lexeme.Lexeme
-block b = lexeme.line 0 (head b.class) ++ (flat_map decl b.decls ++ lexeme.line 0 (lexeme.word key.EndVar ∷ []))
+block b = lexeme.line 0 (head b.section) ++ (flat_map decl b.decls ++ lexeme.line 0 (lexeme.word key.EndVar ∷ []))
 
 -- the program: its body is at level 1
 abbrev pub program : ProgramTree → List lexeme.Lexeme

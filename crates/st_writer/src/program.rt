@@ -19,7 +19,7 @@ ghost use Rattle.st_writer.specs.Lexemes as lexeme;
 use crate::expr::ANY;
 use crate::writer::Writer;
 use st_lexer::{Key, Sym};
-use st_tree::{Block, Class, Decl, Declared, Expr, Program};
+use st_tree::{Block, Decl, Declared, Expr, Program, Section};
 use std::alloc::Global;
 use vcp_base::{Memory, Text, Ty};
 
@@ -101,15 +101,15 @@ impl Writer {
 
     // Writes the words with which a block begins.
     #[tactic(auto, using(crate::proofs::Extends::writing))]
-    fn class(&mut self, class: Class) -> Result<(), Memory>
-        ensures text { OnOk result (self.new ≡ extended self.old (spec.head class)) }
+    fn section(&mut self, section: Section) -> Result<(), Memory>
+        ensures text { OnOk result (self.new ≡ extended self.old (spec.head section)) }
     {
-        match class {
-            Class::Input => self.word(Key::VarInput),
-            Class::Output => self.word(Key::VarOutput),
-            Class::Local => self.word(Key::Var),
-            Class::Constant => self.var_and(Key::Constant),
-            Class::Retain => self.var_and(Key::Retain),
+        match section {
+            Section::Input => self.word(Key::VarInput),
+            Section::Output => self.word(Key::VarOutput),
+            Section::Local => self.word(Key::Var),
+            Section::Constant => self.var_and(Key::Constant),
+            Section::Retain => self.var_and(Key::Retain),
         }
     }
 
@@ -127,7 +127,7 @@ impl Writer {
     fn block(&mut self, block: &Block) -> Result<(), Memory>
         ensures text { OnOk result (self.new ≡ extended self.old (spec.block (block_tree block.now))) }
     {
-        self.class(block.class)?;
+        self.section(block.section)?;
         self.line_end()?;
         self.decls(&block.decls.items)?;
         self.keyword_line(Key::EndVar)

@@ -48,7 +48,7 @@ no_inputs used (t ∷ ts) = hides_input (used t) t (hidden_slots used ts) (no_in
 front_inputs : (slots more : List Slot) → input_columns more ≡ [] → input_columns (slots ++ more) ≡ input_columns slots
 front_inputs [] more none = none
 front_inputs (s ∷ slots) more none =
-    ap (λ (l : List Column). cond (is_input s.class) (record { name = s.name; ty = s.ty } ∷ l) l) (front_inputs slots more none)
+    ap (λ (l : List Column). cond (is_input s.section) (record { name = s.name; ty = s.ty } ∷ l) l) (front_inputs slots more none)
 
 hides_output : (used : Bool) (t : Ty) (slots : List Slot) → output_columns slots ≡ [] → output_columns (cond used (hidden_slot t ∷ slots) slots) ≡ []
 hides_output true t slots none = none
@@ -61,7 +61,7 @@ no_outputs used (t ∷ ts) = hides_output (used t) t (hidden_slots used ts) (no_
 front_outputs : (slots more : List Slot) → output_columns more ≡ [] → output_columns (slots ++ more) ≡ output_columns slots
 front_outputs [] more none = none
 front_outputs (s ∷ slots) more none =
-    ap (λ (l : List Column). cond (is_output s.class) (record { name = s.name; ty = s.ty } ∷ l) l) (front_outputs slots more none)
+    ap (λ (l : List Column). cond (is_output s.section) (record { name = s.name; ty = s.ty } ∷ l) l) (front_outputs slots more none)
 
 pub inputs_are : (i : Il) → input_columns (typed_il i).slots ≡ input_columns i.slots
 inputs_are i = front_inputs i.slots (hidden_of i) (no_inputs (used_by i.code) all_types)

@@ -21,13 +21,13 @@ few-more false x xs n h = omega (arith, h)
 -- the types of the columns of the inputs are those of the inputs
 pub types-of-inputs : (slots : List Slot) → types_of (input_columns slots) ≡ input_types slots
 types-of-inputs [] = refl
-types-of-inputs (s ∷ slots) = either-map (λ (c : Column). c.ty) (is_input s.class) _ (input_columns slots) s.ty (input_types slots) refl (types-of-inputs slots)
+types-of-inputs (s ∷ slots) = either-map (λ (c : Column). c.ty) (is_input s.section) _ (input_columns slots) s.ty (input_types slots) refl (types-of-inputs slots)
 
 -- and those of the outputs
 pub types-of-outputs : (slots : List Slot) → types_of (output_columns slots) ≡ output_types slots
 types-of-outputs [] = refl
 types-of-outputs (s ∷ slots) =
-    either-map (λ (c : Column). c.ty) (is_output s.class) _ (output_columns slots) s.ty (output_types slots) refl (types-of-outputs slots)
+    either-map (λ (c : Column). c.ty) (is_output s.section) _ (output_columns slots) s.ty (output_types slots) refl (types-of-outputs slots)
 
 -- there are as many values as types
 pub in-length : (types : List Ty) (values : List ℤ) → AreIn types values → length values ≡ length types
@@ -43,7 +43,7 @@ inputs-count slots = sym (length-map (input_columns slots) (λ (c : Column). c.t
 -- and no more columns of inputs than slots
 pub inputs-few : (slots : List Slot) → length (input_columns slots) ≤ length slots
 inputs-few [] = lit≤ tt
-inputs-few (s ∷ slots) = few-more (is_input s.class) _ (input_columns slots) (length slots) (inputs-few slots)
+inputs-few (s ∷ slots) = few-more (is_input s.section) _ (input_columns slots) (length slots) (inputs-few slots)
 
 -- and as many columns of outputs as types of outputs
 pub outputs-count : (slots : List Slot) → length (output_columns slots) ≡ length (output_types slots)

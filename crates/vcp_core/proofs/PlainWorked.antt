@@ -4,8 +4,8 @@ use Rattle.std.specs.Fmt.{digits}
 use Rattle.vcp_base.specs.declared.spot.Spot.{Spot}
 use Rattle.vcp_base.specs.declared.ty.Ty.TheVariants as ty
 use Rattle.st_tree.specs.declared.expr.BinOp.TheVariants as bin
-use Rattle.st_tree.specs.declared.program.Class.{Class}
-use Rattle.st_tree.specs.declared.program.Class.TheVariants as class
+use Rattle.st_tree.specs.declared.program.Section.{Section}
+use Rattle.st_tree.specs.declared.program.Section.TheVariants as section
 use Rattle.vcp_typed.specs.declared.slot.Slot.{Slot}
 use Rattle.vcp_typed.specs.TExprTree.{literal, get, binary}
 use Rattle.vcp_typed.specs.TStmtTree.{assign, for_, no_tstmts, and_tstmt}
@@ -20,8 +20,8 @@ abbrev at : ℕ → Spot
 at col = record { line = 1; col = col }
 
 -- a DINT under a name, which begins as 0
-abbrev variable : List ℕ → Class → Slot
-variable name class = record { name = name; spot = at 1; class = class; ty = ty.Dint; init = pos 0 }
+abbrev variable : List ℕ → Section → Slot
+variable name section = record { name = name; spot = at 1; section = section; ty = ty.Dint; init = pos 0 }
 
 -- rows that are left, each of one DINT, and the refusal behind them or none
 abbrev left : List (List ℤ) → Option RowFault → RowsLeft
@@ -34,7 +34,7 @@ cycles rows = record { types = []; rows = rows; refusal = None; ended = false }
 -- VAR_INPUT x : DINT; VAR_OUTPUT y : DINT; y := x + 1; the operator stands at 1:8
 abbrev addition : Program
 addition = record {
-  slots = variable (codes "x") class.Input ∷ variable (codes "y") class.Output ∷ [];
+  slots = variable (codes "x") section.Input ∷ variable (codes "y") section.Output ∷ [];
   body = and_tstmt (assign 1 (binary bin.Add ty.Dint (get 0 ty.Dint) (literal ty.Dint (pos 1) (at 10)) (at 8)) (at 4)) no_tstmts;
 }
 
@@ -65,7 +65,7 @@ before-a-first-refusal = refl
 -- VAR_OUTPUT y : DINT; VAR i : DINT; VAR_OUTPUT z : DINT; FOR i := 1 TO -1 BY -1 DO y := 6 / i; END_FOR; the operator stands at 1:8
 abbrev division : Program
 division = record {
-  slots = variable (codes "y") class.Output ∷ variable (codes "i") class.Local ∷ variable (codes "z") class.Output ∷ [];
+  slots = variable (codes "y") section.Output ∷ variable (codes "i") section.Local ∷ variable (codes "z") section.Output ∷ [];
   body = and_tstmt
       (for_ 1 (pos 1) (negsuc 0) 3 (and_tstmt (assign 0 (binary bin.Div ty.Dint (literal ty.Dint (pos 6) (at 6)) (get 1 ty.Dint) (at 8)) (at 4)) no_tstmts)
       (at 2)) no_tstmts;
@@ -78,7 +78,7 @@ in-a-turn = refl
 
 -- a program without outputs
 abbrev silent : Program
-silent = record { slots = variable (codes "i") class.Local ∷ []; body = no_tstmts }
+silent = record { slots = variable (codes "i") section.Local ∷ []; body = no_tstmts }
 
 without-outputs : plain_text silent (cycles ([] ∷ [] ∷ [])) ≡ codes "cycle\n0\n1\nend 2\n"
 unfolding digits

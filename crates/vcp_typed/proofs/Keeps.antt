@@ -318,7 +318,7 @@ inputs-fit [] row m h f = tt
 inputs-fit (s ∷ slots) row [] h f = absurd f
 inputs-fit (s ∷ slots) [] (v ∷ m) h f = f
 inputs-fit (s ∷ slots) (x ∷ row) (v ∷ m) h f =
-    one-input (is_input s.class) s.ty (input_types slots) (map (λ r. r.ty) slots) x v row _ _ h f.0
+    one-input (is_input s.section) s.ty (input_types slots) (map (λ r. r.ty) slots) x v row _ _ h f.0
     (λ k. inputs-fit slots row m k f.1) (λ k. inputs-fit slots (x ∷ row) m k f.1)
 
 one-output : (b : Bool) (t : Ty) (ts : List Ty) (v : ℤ) (m : List ℤ) → fits t v ≡ true → AreIn ts m → AreIn (cond b (t ∷ ts) ts) (cond b (v ∷ m) m)
@@ -328,7 +328,7 @@ one-output false t ts v m f h = h
 pub outputs-fit : (slots : List Slot) (m : List ℤ) → AreFit slots m → AreIn (output_types slots) (outputs slots m)
 outputs-fit [] m f = tt
 outputs-fit (s ∷ slots) [] f = absurd f
-outputs-fit (s ∷ slots) (v ∷ m) f = one-output (is_output s.class) s.ty _ v _ f.0 (outputs-fit slots m f.1)
+outputs-fit (s ∷ slots) (v ∷ m) f = one-output (is_output s.section) s.ty _ v _ f.0 (outputs-fit slots m f.1)
 
 rows-after : (slots : List Slot) (next : List ℤ → Run) (r : Result (List ℤ) Stop) → IfOk r (AreFit slots)
     → ((m : List ℤ) → AreFit slots m → AreRows (output_types slots) (next m).rows) → AreRows (output_types slots) (after_cycle slots next r).rows

@@ -8,8 +8,8 @@ use Rattle.vcp_base.specs.declared.kind.StopKind.TheVariants as why
 use Rattle.st_tree.specs.declared.expr.UnOp.TheVariants as un
 use Rattle.st_tree.specs.declared.expr.BinOp.{BinOp}
 use Rattle.st_tree.specs.declared.expr.BinOp.TheVariants as bin
-use Rattle.st_tree.specs.declared.program.Class.{Class}
-use Rattle.st_tree.specs.declared.program.Class.TheVariants as class
+use Rattle.st_tree.specs.declared.program.Section.{Section}
+use Rattle.st_tree.specs.declared.program.Section.TheVariants as section
 use Rattle.vcp_typed.specs.declared.expr.Fun.{Fun}
 use Rattle.vcp_typed.specs.declared.expr.Fun.TheVariants as fun
 use Rattle.vcp_typed.specs.declared.slot.Slot.{Slot}
@@ -20,7 +20,7 @@ use Rattle.vcp_typed.specs.TStmtTree.{no_tother, tother}
 use Rattle.vcp_typed.specs.Meaning.{Stop, value, do_stmt}
 use Rattle.vcp_typed.specs.Rules.{common, result, signed, arguments}
 use Rattle.vcp_typed.specs.SourceRun.{Program, source_run}
-use Rattle.vcp_typed.specs.Size.{operator_size, function_size, class_size, stmt_size, size}
+use Rattle.vcp_typed.specs.Size.{operator_size, function_size, section_size, stmt_size, size}
 use Rattle.vcp_typed.specs.Checked.{MaySet, IsLabel, AreTurns, IsExpr, is_set}
 
 -- a place of the first line
@@ -64,8 +64,8 @@ abbrev functions : List Fun
 functions = fun.Abs ∷ fun.Min ∷ fun.Max ∷ fun.Limit ∷ fun.Sel ∷ fun.IntToDint ∷ fun.IntToLint ∷ fun.DintToInt ∷ fun.DintToLint ∷ fun.LintToInt ∷ fun.LintToDint
     ∷ fun.BoolToInt ∷ []
 
-abbrev classes : List Class
-classes = class.Input ∷ class.Output ∷ class.Local ∷ class.Retain ∷ class.Constant ∷ []
+abbrev sections : List Section
+sections = section.Input ∷ section.Output ∷ section.Local ∷ section.Retain ∷ section.Constant ∷ []
 
 -- the common type of an operator's operands: a row for each type of the left one, in it a column for each of the right one
 abbrev common_table : BinOp → List (List (Option Ty))
@@ -150,11 +150,11 @@ lint-arguments : map (λ f. arguments f ty.Lint) (fun.IntToLint ∷ fun.DintToLi
     ≡ Some (ty.Int ∷ []) ∷ Some (ty.Dint ∷ []) ∷ None ∷ Some (ty.Bool ∷ ty.Lint ∷ ty.Lint ∷ []) ∷ []
 lint-arguments = refl
 
-may-be-set : map is_set classes ≡ false ∷ true ∷ true ∷ true ∷ false ∷ []
+may-be-set : map is_set sections ≡ false ∷ true ∷ true ∷ true ∷ false ∷ []
 may-be-set = refl
 
-class-sizes : map class_size classes ≡ 1 ∷ 3 ∷ 2 ∷ 2 ∷ 0 ∷ []
-class-sizes = refl
+section-sizes : map section_size sections ≡ 1 ∷ 3 ∷ 2 ∷ 2 ∷ 0 ∷ []
+section-sizes = refl
 
 operator-sizes : map (λ ops. map operator_size ops) (arithmetic ∷ orders ∷ equalities ∷ logic ∷ [])
     ≡ (3 ∷ 3 ∷ 3 ∷ 3 ∷ 3 ∷ []) ∷ (3 ∷ 3 ∷ 4 ∷ 4 ∷ []) ∷ (3 ∷ 4 ∷ []) ∷ (3 ∷ 3 ∷ 3 ∷ []) ∷ []
@@ -382,12 +382,12 @@ choice-none = refl
 -- ---- programs
 
 -- VAR_INPUT x : DINT; VAR_OUTPUT y : DINT; y := x + 1;
-abbrev variable : ℕ → Class → Slot
-variable name c = record { name = name ∷ []; spot = at 1; class = c; ty = ty.Dint; init = pos 0 }
+abbrev variable : ℕ → Section → Slot
+variable name c = record { name = name ∷ []; spot = at 1; section = c; ty = ty.Dint; init = pos 0 }
 
 abbrev addition : Program
 addition = record {
-  slots = variable 120 class.Input ∷ variable 121 class.Output ∷ [];
+  slots = variable 120 section.Input ∷ variable 121 section.Output ∷ [];
   body = and_tstmt (assign 1 (binary bin.Add ty.Dint (get 0 ty.Dint) (literal ty.Dint (pos 1) (at 6)) (at 8)) (at 4)) no_tstmts;
 }
 
@@ -406,7 +406,7 @@ addition-stop = refl
 -- VAR_OUTPUT y : DINT; VAR i : DINT; FOR i := 1 TO n DO y := i; END_FOR;
 abbrev loop_to : ℕ → Program
 loop_to n = record {
-  slots = variable 121 class.Output ∷ variable 105 class.Local ∷ [];
+  slots = variable 121 section.Output ∷ variable 105 section.Local ∷ [];
   body = and_tstmt (for_ 1 (pos 1) (pos 1) n (and_tstmt (assign 0 (get 1 ty.Dint) (at 9)) no_tstmts) (at 4)) no_tstmts;
 }
 
@@ -426,7 +426,7 @@ loop-run = refl
 -- VAR_OUTPUT y : DINT; y := y + 1; over three cycles: y keeps its value from cycle to cycle
 abbrev counter : Program
 counter = record {
-  slots = variable 121 class.Output ∷ [];
+  slots = variable 121 section.Output ∷ [];
   body = and_tstmt (assign 0 (binary bin.Add ty.Dint (get 0 ty.Dint) (literal ty.Dint (pos 1) (at 6)) (at 8)) (at 4)) no_tstmts;
 }
 
@@ -437,7 +437,7 @@ counter-run = refl
 -- those of the inputs, in order of declaration, and so are those of the outputs
 abbrev exchange : Program
 exchange = record {
-  slots = variable 97 class.Input ∷ variable 112 class.Output ∷ variable 98 class.Input ∷ variable 113 class.Output ∷ [];
+  slots = variable 97 section.Input ∷ variable 112 section.Output ∷ variable 98 section.Input ∷ variable 113 section.Output ∷ [];
   body = and_tstmt (assign 1 (get 2 ty.Dint) (at 4)) (and_tstmt (assign 3 (get 0 ty.Dint) (at 9)) no_tstmts);
 }
 
@@ -449,8 +449,8 @@ exchange-run = refl
 abbrev initialised : Program
 initialised = record {
   slots =
-      record { name = 113 ∷ []; spot = at 1; class = class.Output; ty = ty.Dint; init = pos 9 }
-      ∷ record { name = 110 ∷ []; spot = at 1; class = class.Local; ty = ty.Dint; init = pos 2 } ∷ [];
+      record { name = 113 ∷ []; spot = at 1; section = section.Output; ty = ty.Dint; init = pos 9 }
+      ∷ record { name = 110 ∷ []; spot = at 1; section = section.Local; ty = ty.Dint; init = pos 2 } ∷ [];
   body = and_tstmt (assign 0 (binary bin.Add ty.Dint (get 0 ty.Dint) (get 1 ty.Dint) (at 8)) (at 4)) no_tstmts;
 }
 
@@ -460,11 +460,11 @@ initialised-run = refl
 -- ---- what isn't checked
 
 -- an input may not be set
-no-input : MaySet (variable 120 class.Input ∷ []) [] 0 ty.Dint → ⊥
-no-input m = let e : variable 120 class.Input ≡ m.of = cc in let f : false ≡ true = subst (λ (s : Slot). is_set s.class ≡ true) (sym e) m.set in absurd cc
+no-input : MaySet (variable 120 section.Input ∷ []) [] 0 ty.Dint → ⊥
+no-input m = let e : variable 120 section.Input ≡ m.of = cc in let f : false ≡ true = subst (λ (s : Slot). is_set s.section ≡ true) (sym e) m.set in absurd cc
 
 -- nor the control variable of an enclosing FOR
-no-control : MaySet (variable 105 class.Local ∷ []) (0 ∷ []) 0 ty.Dint → ⊥
+no-control : MaySet (variable 105 section.Local ∷ []) (0 ∷ []) 0 ty.Dint → ⊥
 no-control m = let f : true ≡ false = m.free in absurd cc
 
 -- 1 + FALSE has no type, and 40000 is no literal of INT

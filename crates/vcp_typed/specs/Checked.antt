@@ -6,8 +6,8 @@ use Rattle.vcp_base.specs.Names.{NameFits}
 use Rattle.vcp_base.specs.declared.ty.Ty.{Ty}
 use Rattle.vcp_base.specs.declared.ty.Ty.TheVariants as ty
 use Rattle.vcp_base.specs.Types.{fits}
-use Rattle.st_tree.specs.declared.program.Class.{Class}
-use Rattle.st_tree.specs.declared.program.Class.TheVariants as class
+use Rattle.st_tree.specs.declared.program.Section.{Section}
+use Rattle.st_tree.specs.declared.program.Section.TheVariants as section
 use Rattle.vcp_typed.specs.declared.slot.Slot.{Slot}
 use Rattle.vcp_typed.specs.declared.stmt.TLabel.{TLabel}
 use Rattle.vcp_typed.specs.TExprTree.{TExprTree, TExprTrees, literal, get, widen, unary, binary, call, no_texprs, and_texpr}
@@ -23,7 +23,7 @@ use Rattle.vcp_typed.specs.Size.{size}
 pub record SlotFits (before : List Slot) (s : Slot) : Type 0 where
   pub name : NameFits (λ (r : Slot). r.name) before s.name
   pub init : fits s.ty s.init ≡ true
-  pub variable : s.class ≡ class.Constant → ⊥
+  pub variable : s.section ≡ section.Constant → ⊥
 
 -- each slot may follow those before it
 abbrev pub SlotsFit : List Slot → List Slot → Type 0
@@ -66,19 +66,19 @@ abbrev mutual
 -- ---- statements
 
 -- a variable that a program may set
-abbrev pub is_set : Class → Bool
-is_set class.Input = false
-is_set class.Output = true
-is_set class.Local = true
-is_set class.Retain = true
-is_set class.Constant = false
+abbrev pub is_set : Section → Bool
+is_set section.Input = false
+is_set section.Output = true
+is_set section.Local = true
+is_set section.Retain = true
+is_set section.Constant = false
 
 -- the slot has the type, and may be set inside FORs over these slots: it is no input and none of them
 pub record MaySet (slots : List Slot) (held : List ℕ) (slot : ℕ) (t : Ty) : Type 0 where
   pub of : Slot
   pub there : slice_get slots slot ≡ Some of
   pub ty : of.ty ≡ t
-  pub set : is_set of.class ≡ true
+  pub set : is_set of.section ≡ true
   pub free : list_any (λ n. n == slot) held ≡ false
 
 -- so many values from v on are in the type

@@ -19,20 +19,20 @@ AreFit slots m = AreIn (map (λ s. s.ty) slots) m
 -- the types of the inputs, and of the outputs, in order of declaration
 abbrev pub input_types : List Slot → List Ty
 input_types [] = []
-input_types (s ∷ slots) = cond (is_input s.class) (s.ty ∷ input_types slots) (input_types slots)
+input_types (s ∷ slots) = cond (is_input s.section) (s.ty ∷ input_types slots) (input_types slots)
 
 abbrev pub output_types : List Slot → List Ty
 output_types [] = []
-output_types (s ∷ slots) = cond (is_output s.class) (s.ty ∷ output_types slots) (output_types slots)
+output_types (s ∷ slots) = cond (is_output s.section) (s.ty ∷ output_types slots) (output_types slots)
 
 -- the names and types of the inputs, and of the outputs, in order of declaration
 abbrev pub input_columns : List Slot → List Column
 input_columns [] = []
-input_columns (s ∷ slots) = cond (is_input s.class) (record { name = s.name; ty = s.ty } ∷ input_columns slots) (input_columns slots)
+input_columns (s ∷ slots) = cond (is_input s.section) (record { name = s.name; ty = s.ty } ∷ input_columns slots) (input_columns slots)
 
 abbrev pub output_columns : List Slot → List Column
 output_columns [] = []
-output_columns (s ∷ slots) = cond (is_output s.class) (record { name = s.name; ty = s.ty } ∷ output_columns slots) (output_columns slots)
+output_columns (s ∷ slots) = cond (is_output s.section) (record { name = s.name; ty = s.ty } ∷ output_columns slots) (output_columns slots)
 
 -- each turn names a slot
 pub record NameSlots (slots : List Slot) (turns : List Turn) : Type 0 where

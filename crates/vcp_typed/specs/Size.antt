@@ -3,8 +3,8 @@ use Rattle.std.specs.Prelude.{ℕ, zero, suc, ◌+◌, ◌*◌, min, cond, sum_b
 use Rattle.vcp_base.specs.Limits.{most_size}
 use Rattle.st_tree.specs.declared.expr.BinOp.{BinOp}
 use Rattle.st_tree.specs.declared.expr.BinOp.TheVariants as bin
-use Rattle.st_tree.specs.declared.program.Class.{Class}
-use Rattle.st_tree.specs.declared.program.Class.TheVariants as class
+use Rattle.st_tree.specs.declared.program.Section.{Section}
+use Rattle.st_tree.specs.declared.program.Section.TheVariants as section
 use Rattle.vcp_typed.specs.declared.expr.Fun.{Fun}
 use Rattle.vcp_typed.specs.declared.expr.Fun.TheVariants as fun
 use Rattle.vcp_typed.specs.declared.stmt.TLabel.{TLabel}
@@ -85,16 +85,16 @@ abbrev mutual
   other_size (tother body) = stmts_size body
 
 -- a variable; a constant takes none
-abbrev pub class_size : Class → ℕ
-class_size class.Input = 1
-class_size class.Output = 3
-class_size class.Local = 2
-class_size class.Retain = 2
-class_size class.Constant = 0
+abbrev pub section_size : Section → ℕ
+section_size section.Input = 1
+section_size section.Output = 3
+section_size section.Local = 2
+section_size section.Retain = 2
+section_size section.Constant = 0
 
 -- the Size of a program
 abbrev pub size : Program → ℕ
-size p = 2 + sum_by (λ s. class_size s.class) p.slots + stmts_size p.body
+size p = 2 + sum_by (λ s. section_size s.section) p.slots + stmts_size p.body
 
 -- a Size up to the first that is too large
 abbrev pub cut : ℕ → ℕ

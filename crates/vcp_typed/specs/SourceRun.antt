@@ -1,7 +1,7 @@
 -- SourceRun: the run of a program over rows of inputs.
 use Rattle.std.specs.Prelude.{ℤ, Bool, true, false, cond, List, [], ◌∷◌, Option, Some, None, Result, Ok, Err, map}
-use Rattle.st_tree.specs.declared.program.Class.{Class}
-use Rattle.st_tree.specs.declared.program.Class.TheVariants as class
+use Rattle.st_tree.specs.declared.program.Section.{Section}
+use Rattle.st_tree.specs.declared.program.Section.TheVariants as section
 use Rattle.vcp_typed.specs.declared.slot.Slot.{Slot}
 use Rattle.vcp_typed.specs.TStmtTree.{TStmtTrees}
 use Rattle.vcp_typed.specs.Meaning.{Stop, do_stmts}
@@ -11,19 +11,19 @@ pub record Program : Type 0 where
   pub slots : List Slot
   pub body : TStmtTrees
 
-abbrev pub is_input : Class → Bool
-is_input class.Input = true
-is_input class.Output = false
-is_input class.Local = false
-is_input class.Retain = false
-is_input class.Constant = false
+abbrev pub is_input : Section → Bool
+is_input section.Input = true
+is_input section.Output = false
+is_input section.Local = false
+is_input section.Retain = false
+is_input section.Constant = false
 
-abbrev pub is_output : Class → Bool
-is_output class.Input = false
-is_output class.Output = true
-is_output class.Local = false
-is_output class.Retain = false
-is_output class.Constant = false
+abbrev pub is_output : Section → Bool
+is_output section.Input = false
+is_output section.Output = true
+is_output section.Local = false
+is_output section.Retain = false
+is_output section.Constant = false
 
 -- the values before the first cycle
 abbrev pub initial : List Slot → List ℤ
@@ -34,13 +34,13 @@ abbrev pub with_inputs : List Slot → List ℤ → List ℤ → List ℤ
 with_inputs [] row m = []
 with_inputs (s ∷ slots) row [] = []
 with_inputs (s ∷ slots) [] (v ∷ m) = v ∷ m
-with_inputs (s ∷ slots) (x ∷ row) (v ∷ m) = cond (is_input s.class) (x ∷ with_inputs slots row m) (v ∷ with_inputs slots (x ∷ row) m)
+with_inputs (s ∷ slots) (x ∷ row) (v ∷ m) = cond (is_input s.section) (x ∷ with_inputs slots row m) (v ∷ with_inputs slots (x ∷ row) m)
 
 -- the values of the outputs, in order of declaration
 abbrev pub outputs : List Slot → List ℤ → List ℤ
 outputs [] m = []
 outputs (s ∷ slots) [] = []
-outputs (s ∷ slots) (v ∷ m) = cond (is_output s.class) (v ∷ outputs slots m) (outputs slots m)
+outputs (s ∷ slots) (v ∷ m) = cond (is_output s.section) (v ∷ outputs slots m) (outputs slots m)
 
 -- a cycle: the inputs are set, and the body is done
 abbrev pub cycle : Program → List ℤ → List ℤ → Result (List ℤ) Stop

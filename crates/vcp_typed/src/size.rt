@@ -3,14 +3,14 @@
 ghost use Rattle.std.specs.Prelude.{◌≡◌, ◌≤◌, ◌+◌, ◌*◌, sum_by};
 ghost use Rattle.vcp_base.specs.Limits.{most_size};
 ghost use Rattle.vcp_typed.specs.Size.{cut, operator_size, function_size, expr_size, exprs_size, label_size, stmt_size, stmts_size, arms_size, branches_size};
-ghost use Rattle.vcp_typed.specs.Size.{other_size, class_size, size};
+ghost use Rattle.vcp_typed.specs.Size.{other_size, section_size, size};
 ghost use Rattle.vcp_typed.specs.TExprViews.{texpr_tree, texpr_trees};
 ghost use Rattle.vcp_typed.specs.TStmtViews.{tstmt_tree, tstmt_trees, tarm_trees, tbranch_trees, tother_tree};
 
 use crate::expr::{Fun, TExpr};
 use crate::slot::{Slot, Slots};
 use crate::stmt::{TArm, TBranch, TLabel, TStmt, TStmts};
-use st_tree::{BinOp, Class};
+use st_tree::{BinOp, Section};
 use vcp_base::MOST_SIZE;
 
 /// The least Size that no program may have.
@@ -198,24 +198,24 @@ fn other_size(other: &Option<TStmts>) -> u32
     }
 }
 
-fn class_size(class: Class) -> u32
-    ensures { result ≡ class_size class }
+fn section_size(section: Section) -> u32
+    ensures { result ≡ section_size section }
 {
-    match class {
-        Class::Input => 1,
-        Class::Output => 3,
-        Class::Local => 2,
-        Class::Retain => 2,
-        Class::Constant => 0,
+    match section {
+        Section::Input => 1,
+        Section::Output => 3,
+        Section::Local => 2,
+        Section::Retain => 2,
+        Section::Constant => 0,
     }
 }
 
 fn slots_size(slots: &[Slot]) -> u32
-    ensures { result ≡ cut (sum_by (λ s. class_size s.class) slots.now) }
+    ensures { result ≡ cut (sum_by (λ s. section_size s.section) slots.now) }
 {
     let mut total = 0;
     'each: for s in slots {
-        total = plus(total, class_size(s.class));
+        total = plus(total, section_size(s.section));
     }
     total
 }

@@ -2,16 +2,16 @@
 
 ghost use Rattle.std.specs.Prelude.{◌≡◌, ◌<◌, [], ◌∷◌, ◌++◌, Some, OnOk, OnErr, length, slice_get};
 
-use st_tree::Class;
+use st_tree::Section;
 use std::alloc::Global;
 use vcp_base::{Memory, Spot, Text, Ty};
 
-/// A variable: its declared name with the spot, its class, its type and its initial value.
+/// A variable: its declared name with the spot, its section, its type and its initial value.
 #[derive(Debug, Drop)]
 pub struct Slot {
     pub name: Text,
     pub spot: Spot,
-    pub class: Class,
+    pub section: Section,
     pub ty: Ty,
     pub init: i64,
 }

@@ -11,7 +11,7 @@ use crate::size::size_of;
 use crate::slot::{Slot, Slots};
 use crate::stmt::TStmts;
 use crate::wide::is_wide;
-use st_tree::Class;
+use st_tree::Section;
 use std::alloc::Global;
 use std::marker::Model;
 use vcp_base::{Column, Columns, Memory, Text};
@@ -124,8 +124,8 @@ fn inputs_of(alloc: Global, slots: &[Slot]) -> Result<Columns, Memory>
 fn add_input(alloc: Global, columns: &mut Columns, slot: &Slot) -> Result<(), Memory>
     ensures { OnOk result (columns.new ≡ columns.old ++ input_columns (slot.now ∷ [])) }
 {
-    match slot.class {
-        Class::Input => columns.push(Column {
+    match slot.section {
+        Section::Input => columns.push(Column {
             name: Text::copy_of(alloc, slot.name.bytes())?,
             ty: slot.ty,
         }),
@@ -148,8 +148,8 @@ fn outputs_of(alloc: Global, slots: &[Slot]) -> Result<Columns, Memory>
 fn add_output(alloc: Global, columns: &mut Columns, slot: &Slot) -> Result<(), Memory>
     ensures { OnOk result (columns.new ≡ columns.old ++ output_columns_of (slot.now ∷ [])) }
 {
-    match slot.class {
-        Class::Output => columns.push(Column {
+    match slot.section {
+        Section::Output => columns.push(Column {
             name: Text::copy_of(alloc, slot.name.bytes())?,
             ty: slot.ty,
         }),

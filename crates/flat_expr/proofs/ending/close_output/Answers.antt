@@ -13,7 +13,7 @@ pub returns-then-not-is_output-clause-made : goal.returns-then-not-is_output-cla
 returns-then-not-is_output-clause-made c = λ s h same.
     let x = c.at-variable.result.now in
     let there : slice_get s.slots c.args.slot ≡ Some x = ap (λ l. slice_get l c.args.slot) same ∙ c.at-variable.ensures in
-    let isnt : is_output x.class ≡ false = cc in
+    let isnt : is_output x.section ≡ false = cc in
     let next : suc c.args.slot ≡ c.args.slot + 1 = omega arith in
     subst (λ n. Closes s n 0 c.args.graph.now c.args.known.now.items) next (closes_skip s c.args.slot 0 c.args.graph.now c.args.known.now.items x there isnt h)
 
@@ -21,7 +21,7 @@ pub returns-in_err-output-clause-refuses : goal.returns-in_err-output-clause-ref
 returns-in_err-output-clause-refuses c = λ s h same.
     let x = c.at-variable.result.now in
     let there : slice_get s.slots c.args.slot ≡ Some x = ap (λ l. slice_get l c.args.slot) same ∙ c.at-variable.ensures in
-    let is_one : is_output x.class ≡ true = cc in
+    let is_one : is_output x.section ≡ true = cc in
     let held = c.in_ok-k.ensures.made s h there in
     let q = err_from_is_err_and c.from_residual-in_err-output.result c.from_residual-in_err-output.ensures.1 in
     rw (q.1, q.2) (subst (λ r. IfErr r (NoRoom s)) c.in_err-output.was
@@ -32,7 +32,7 @@ pub returns-clause-made : goal.returns-clause-made
 returns-clause-made c = λ s h same.
     let x = c.at-variable.result.now in
     let there : slice_get s.slots c.args.slot ≡ Some x = ap (λ l. slice_get l c.args.slot) same ∙ c.at-variable.ensures in
-    let is_one : is_output x.class ≡ true = cc in
+    let is_one : is_output x.section ≡ true = cc in
     let held = c.in_ok-k.ensures.made s h there in
     let e = c.in_ok-output.ensures.added in
     let next : suc c.args.slot ≡ c.args.slot + 1 = omega arith in

@@ -15,7 +15,7 @@ each-preserved c =
     let f : SFits w64 c.input_or_kept-value.result = search rules in
     let g : SFits w64 c.at.result = search rules in
     let set = c.set.ensures ∙ ap (λ x. slice_set c.each.values c.each.i x) (to_z-of_z w64 c.input_or_kept-value.result f) in
-    let kept : is_input c.index-slots-i.result.class ≡ false → c.input_or_kept-value.result ≡ c.at.result = λ e. c.input_or_kept-value.ensures.kept e
+    let kept : is_input c.index-slots-i.result.section ≡ false → c.input_or_kept-value.result ≡ c.at.result = λ e. c.input_or_kept-value.ensures.kept e
     ∙ to_z-of_z w64 c.at.result g in
     let given = c.input_or_kept-value.ensures in
     record {
@@ -27,5 +27,5 @@ each-preserved c =
       inputs = inputs-next c.args.slots.now c.each.i c.index-slots-i.result c.args.row.now c.each.next c.input_or_kept-value.new.next c.input_or_kept-value.result
           c.each-test.true c.index-slots-i.is given.input given.taken given.same c.each.invariant.inputs;
       places = ap length set ∙ length-set c.each.values c.each.i c.input_or_kept-value.result ∙ c.each.invariant.places;
-      few = at-most-one (is_input c.index-slots-i.result.class) c.each.next c.input_or_kept-value.new.next c.each.i given.taken given.same c.each.invariant.few;
+      few = at-most-one (is_input c.index-slots-i.result.section) c.each.next c.input_or_kept-value.new.next c.each.i given.taken given.same c.each.invariant.few;
     }

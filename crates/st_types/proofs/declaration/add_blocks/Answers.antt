@@ -9,7 +9,7 @@ pub each-preserved : goal.each-preserved
 each-preserved c =
     let e : drop c.each.b-index c.args.blocks.now ≡ c.b-item.result ∷ drop (c.each.b-index + 1) c.args.blocks.now = grind (arith, common_steps) in
     let made = subst
-    (λ xs. MakesDecls c.b-item.result.class (map decl_tree xs) (made_by c.each.made)
+    (λ xs. MakesDecls c.b-item.result.section (map decl_tree xs) (made_by c.each.made)
     (made_by c.add_declarations.new.made) c.each.first c.add_declarations.new.first) c.deref.ensures.value c.in_ok-add_declarations.ensures in
     λ n end h. c.each.invariant n end
     (subst (λ bs. MakesBlocks (map block_tree bs) (made_by c.each.made) n c.each.first end) (sym e)

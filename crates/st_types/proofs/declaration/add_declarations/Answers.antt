@@ -9,8 +9,8 @@ pub each-preserved : goal.each-preserved
 each-preserved c =
     let e : drop c.each.d-index c.args.decls.now ≡ c.d-item.result ∷ drop (c.each.d-index + 1) c.args.decls.now = grind (arith, common_steps) in
     λ n end h. c.each.invariant n end
-    (subst (λ ds. MakesDecls c.args.class (map decl_tree ds) (made_by c.each.made) n c.each.first end) (sym e)
-    (one-decl c.args.class (decl_tree c.d-item.result) (map decl_tree (drop (c.each.d-index + 1) c.args.decls.now)) (made_by c.each.made)
+    (subst (λ ds. MakesDecls c.args.section (map decl_tree ds) (made_by c.each.made) n c.each.first end) (sym e)
+    (one-decl c.args.section (decl_tree c.d-item.result) (map decl_tree (drop (c.each.d-index + 1) c.args.decls.now)) (made_by c.each.made)
     (made_by c.add_declaration.new.made) n c.each.first c.add_declaration.new.first end
     c.in_ok-add_declaration.ensures h))
 
@@ -18,5 +18,5 @@ pub returns : goal.returns
 returns c =
     let e : drop c.each.d-index c.args.decls.now ≡ [] = grind (arith, common_steps) in
     c.each.invariant (made_by c.each.made) c.each.first
-    (subst (λ ds. MakesDecls c.args.class (map decl_tree ds) (made_by c.each.made) (made_by c.each.made) c.each.first c.each.first) (sym e)
-    (no-decls c.args.class (made_by c.each.made) c.each.first))
+    (subst (λ ds. MakesDecls c.args.section (map decl_tree ds) (made_by c.each.made) (made_by c.each.made) c.each.first c.each.first) (sym e)
+    (no-decls c.args.section (made_by c.each.made) c.each.first))

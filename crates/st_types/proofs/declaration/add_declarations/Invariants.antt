@@ -8,5 +8,5 @@ use Rattle.st_types.proofs.declaration.add_declarations.Given as goal
 -- what the rest makes from here on, all declarations make from the start on
 abbrev pub invariant-each : goal.invariant-each
 invariant-each l = (n : Made) (end : Option Fault)
-    → MakesDecls l.class (map decl_tree (drop l.d-index l.decls)) (made_by l.made) n l.first end
-    → MakesDecls l.class (map decl_tree l.decls) (made_by l.initial.made) n l.initial.first end
+    → MakesDecls l.section (map decl_tree (drop l.d-index l.decls)) (made_by l.made) n l.first end
+    → MakesDecls l.section (map decl_tree l.decls) (made_by l.initial.made) n l.initial.first end

@@ -11,8 +11,8 @@ each-preserved c =
     let k = c.args.kind in
     let e : drop c.each.d-index c.args.names.now ≡ c.d-item.result ∷ drop (c.each.d-index + 1) c.args.names.now = grind (arith, common_steps) in
     λ n end h. c.each.invariant n end
-    (subst (λ ds. MakesNames k.class k.ty k.init (map declared_tree ds) (made_by c.each.made) n c.each.first end) (sym e)
-    (one-name k.class k.ty (value_or_zero k.init) k.init (declared_tree c.d-item.result) (map declared_tree (drop (c.each.d-index + 1) c.args.names.now))
+    (subst (λ ds. MakesNames k.section k.ty k.init (map declared_tree ds) (made_by c.each.made) n c.each.first end) (sym e)
+    (one-name k.section k.ty (value_or_zero k.init) k.init (declared_tree c.d-item.result) (map declared_tree (drop (c.each.d-index + 1) c.args.names.now))
     (made_by c.each.made) (made_by c.add_name.new.made) n c.each.first c.add_name.new.first c.note_misfit.new.first end
     c.in_ok-add_name.ensures.notes c.in_ok-add_name.ensures.gives c.note_misfit.ensures h))
 
@@ -21,5 +21,5 @@ returns c =
     let k = c.args.kind in
     let e : drop c.each.d-index c.args.names.now ≡ [] = grind (arith, common_steps) in
     c.each.invariant (made_by c.each.made) c.each.first
-    (subst (λ ds. MakesNames k.class k.ty k.init (map declared_tree ds) (made_by c.each.made) (made_by c.each.made) c.each.first c.each.first) (sym e)
-    (no-names k.class k.ty (value_or_zero k.init) k.init (made_by c.each.made) c.each.first))
+    (subst (λ ds. MakesNames k.section k.ty k.init (map declared_tree ds) (made_by c.each.made) (made_by c.each.made) c.each.first c.each.first) (sym e)
+    (no-names k.section k.ty (value_or_zero k.init) k.init (made_by c.each.made) c.each.first))

@@ -8,5 +8,5 @@ use Rattle.st_types.proofs.declaration.add_names.Given as goal
 -- what the rest makes from here on, all names make from the start on
 abbrev pub invariant-each : goal.invariant-each
 invariant-each l = (n : Made) (end : Option Fault)
-    → MakesNames l.kind.class l.kind.ty l.kind.init (map declared_tree (drop l.d-index l.names)) (made_by l.made) n l.first end
-    → MakesNames l.kind.class l.kind.ty l.kind.init (map declared_tree l.names) (made_by l.initial.made) n l.initial.first end
+    → MakesNames l.kind.section l.kind.ty l.kind.init (map declared_tree (drop l.d-index l.names)) (made_by l.made) n l.first end
+    → MakesNames l.kind.section l.kind.ty l.kind.init (map declared_tree l.names) (made_by l.initial.made) n l.initial.first end

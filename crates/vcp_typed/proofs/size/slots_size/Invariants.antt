@@ -1,9 +1,9 @@
 use Rattle.std.proofs.Common.{◌≡◌, ◌+◌, ◌≤◌, drop, sum_by}
-use Rattle.vcp_typed.specs.Size.{cut, class_size}
+use Rattle.vcp_typed.specs.Size.{cut, section_size}
 use Rattle.vcp_typed.proofs.size.slots_size.Given as goal
 
 abbrev pub invariant-each : goal.invariant-each
 invariant-each l = record {
   low : l.total ≤ 65537;
-  is : cut (l.total + sum_by (λ s. class_size s.class) (drop l.s-index l.slots)) ≡ cut (sum_by (λ s. class_size s.class) l.slots);
+  is : cut (l.total + sum_by (λ s. section_size s.section) (drop l.s-index l.slots)) ≡ cut (sum_by (λ s. section_size s.section) l.slots);
 }
