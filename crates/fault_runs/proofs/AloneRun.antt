@@ -1,19 +1,15 @@
--- AloneRun: the run with one fault, by the table of values under one fault.
-use Rattle.std.proofs.Common.{◌≡◌, ℕ, zero, suc, ◌+◌, ◌<◌, ◌≤◌, ◌==◌, ◌&&◌, Bool, true, false, cond, nat_lt, List, [], ◌∷◌, length, map, Option, Some, None}
+-- AloneRun: the run with one fault, before which no difference stands.
+use Rattle.std.proofs.Common.{◌≡◌, ℕ, zero, suc, ◌+◌, ◌<◌, ◌==◌, ◌&&◌, Bool, true, false, cond, nat_lt, List, [], ◌∷◌, length, map, Option, Some, None}
 use Rattle.std.proofs.Common.{slice_get, ℤ, pos, ◌+ℤ◌, ◌*ℤ◌, unsigned_abs, refl, sym, ap, ◌∙◌, arith}
 use Rattle.std.specs.Option.{is_some}
 use Rattle.std.proofs.lemmas.Bool.{eq-eqb, eqb-true}
 use Rattle.std.proofs.lemmas.Int.{ints}
 use Rattle.std.proofs.lemmas.List.{get_or_past}
 use Rattle.std.proofs.Math.IntN.{*ℤ-zero, zero-*ℤ}
-use Rattle.vcp_base.specs.declared.code.Profile.{Profile}
 use Rattle.vcp_base.specs.declared.kind.Kind.{Kind}
 use Rattle.vcp_base.specs.declared.kind.Kind.TheVariants as kind
-use Rattle.vcp_base.specs.Code.{modulus}
 use Rattle.vcp_base.specs.Kinds.{multiplier, multipliers, operands, operand_type, outcome}
-use Rattle.vcp_base.specs.Limits.{most_cycles, most_step}
 use Rattle.vcp_base.specs.Values.{at}
-use Rattle.coded_unit.specs.WordLaws.{WordLaws}
 use Rattle.coded_unit.specs.Words.{modulo}
 use Rattle.op_graph.specs.declared.op.Op.{Op}
 use Rattle.op_graph.specs.GraphRun.{own, operand, outcome_of}
@@ -22,20 +18,18 @@ use Rattle.op_graph.specs.Laws.{ReadLaws}
 use Rattle.op_graph.specs.Lists.{Lists}
 use Rattle.op_graph.specs.Reads.{named}
 use Rattle.op_graph.specs.Rules.{IsGraph, reads_as}
-use Rattle.signature_table.specs.Signatures.{Numbers, IsTable, signature, stamp, expected}
+use Rattle.signature_table.specs.Signatures.{Numbers, signature, stamp}
 use Rattle.fault_script.specs.declared.act.Act.{Act}
 use Rattle.fault_script.specs.declared.act.Act.TheVariants as act
 use Rattle.fault_script.specs.declared.act.Fault.{Fault}
 use Rattle.fault_script.specs.Changes.{Acts, acts_of}
-use Rattle.fault_script.specs.Differences.{Frame, origin, read, read_as, brought, held_after, frame, OneFault}
+use Rattle.fault_script.specs.Differences.{Frame, origin, read, read_as, brought, held_after, frame, no_frame, OneFault}
 use Rattle.fault_script.specs.Fits.{is_sited}
 use Rattle.fault_runs.specs.Stepping.{Course, carry, raised, plain_operand, operand_under, done_under, outcome_under}
-use Rattle.fault_runs.specs.FaultRun.{frame_before, begun, course, operand_alone, outcome_alone, OneFaultRuns}
+use Rattle.fault_runs.specs.FaultRun.{frame_before, begun, course, undisturbed, OneFaultRuns}
 
 -- what the crates below promise
 pub record Laws : Type 0 where
-  pub words : (p : Profile) → WordLaws p
-  pub residues : (p : Profile) (seed step i n : ℕ) → step ≤ most_step → n < most_cycles → expected p seed step i n < modulus p
   pub reads : ReadLaws
   pub one : (t : Numbers) (g : Lists) (f : Fault) (op : Op) → slice_get g.operations f.op ≡ Some op → OneFault t g f op
 
@@ -104,24 +98,29 @@ nothing_brought d op none =
     let term : (j : ℕ) → multiplier op.kind j *ℤ read d op j ≡ pos 0 = λ j. term_zero op.kind j (read d op j) (nat_lt j (operands op.kind)) refl (none j) in
     sum_zero _ _ _ (term 0) (term 1) (term 2)
 
+-- in no frame nothing is read
+none_read_as : (op : Op) (j : ℕ) (k : Kind) → read_as no_frame op j k ≡ pos 0
+none_read_as op j kind.Load = refl
+none_read_as op j _ = refl
+
+none_read : (op : Op) → NothingRead no_frame op
+none_read op j h = none_read_as op j op.kind
+
 -- ---- the fault's operation
 
 choice : {X : Type 0} (b : Bool) (x y z : X) → (b ≡ true → x ≡ y) → cond b x z ≡ cond b y z
 choice true x y z h = h refl
 choice false x y z h = refl
 
-and_nothing : (o s x : ℤ) → x ≡ pos 0 → o +ℤ s +ℤ x ≡ o +ℤ s
-and_nothing o s x e = omega (arith, ints, e)
-
 added_alone : (t : Numbers) (g : Lists) (n : ℕ) (c : Course) (op : Op) (i : ℕ) (e : ℤ) (j : ℕ) → NothingRead c.differences op
     → nat_lt i (operands op.kind) ≡ true
-    → operand_under t g n c op (Some (act.OperandAdd i e)) j ≡ operand_alone t g n c op (act.OperandAdd i e) j
+    → operand_under t g n c op (Some (act.OperandAdd i e)) j ≡ operand_under t g n (undisturbed c) op (Some (act.OperandAdd i e)) j
 added_alone t g n c op i e j none sited =
     choice (i == j) _ _ _
     (λ same.
-    ap (λ (z : ℤ). plain_operand c.now op j +ℤ carry t.profile (modulo t.profile z) e)
-    (and_nothing (origin t g op j) (pos (stamp t.step n)) (read c.differences op j)
-    (none j (ap (λ m. nat_lt m (operands op.kind)) (sym (eqb-true i j same)) ∙ sited))))
+    let there = ap (λ m. nat_lt m (operands op.kind)) (sym (eqb-true i j same)) ∙ sited in
+    ap (λ (z : ℤ). plain_operand c.now op j +ℤ carry t.profile (modulo t.profile (origin t g op j +ℤ pos (stamp t.step n) +ℤ z)) e)
+    (none j there ∙ sym (none_read op j there)))
 
 three : (t : Numbers) (row : List ℤ) (op : Op) (x y z u v w : ℤ) → x ≡ u → y ≡ v → z ≡ w
     → outcome op.kind op.from op.ty (own row op.kind op.imm) x y z ≡ outcome op.kind op.from op.ty (own row op.kind op.imm) u v w
@@ -130,27 +129,18 @@ three t row op x y z u v w e f g =
     ap (λ (a : ℤ). outcome op.kind op.from op.ty o a y z) e ∙
     (ap (λ (a : ℤ). outcome op.kind op.from op.ty o u a z) f ∙ ap (λ (a : ℤ). outcome op.kind op.from op.ty o u v a) g)
 
-sum_of : (s d x : ℕ) (b : ℤ) → b ≡ pos 0 → pos s +ℤ pos d +ℤ b ≡ pos (s + d)
-sum_of s d x b e = omega (arith, ints, e)
-
-expected_residue : (laws : Laws) (t : Numbers) (n k : ℕ) (b : ℤ) → IsTable t → n < most_cycles → b ≡ pos 0
-    → modulo t.profile (pos (signature t.profile t.seed k) +ℤ pos (stamp t.step n) +ℤ b) ≡ expected t.profile t.seed t.step k n
-expected_residue laws t n k b table below e =
-    ap (modulo t.profile) (sum_of (signature t.profile t.seed k) (stamp t.step n) 0 b e)
-    ∙ (laws.words t.profile).small (expected t.profile t.seed t.step k n) (laws.residues t.profile t.seed t.step k n table.step_to below)
-
-act_alone : (laws : Laws) (t : Numbers) (g : Lists) (n : ℕ) (row : List ℤ) (c : Course) (k : ℕ) (op : Op) (a : Act) → IsTable t → n < most_cycles
-    → NothingRead c.differences op
-    → is_sited op.kind k a ≡ true → outcome_under t g n row c k op (Some a) ≡ outcome_alone t g n row c k op a
-act_alone laws t g n row c k op (act.OperandAdd i e) table below none sited =
+act_alone : (t : Numbers) (g : Lists) (n : ℕ) (row : List ℤ) (c : Course) (k : ℕ) (op : Op) (a : Act) → NothingRead c.differences op
+    → is_sited op.kind k a ≡ true → outcome_under t g n row c k op (Some a) ≡ outcome_under t g n row (undisturbed c) k op (Some a)
+act_alone t g n row c k op (act.OperandAdd i e) none sited =
     three t row op _ _ _ _ _ _ (added_alone t g n c op i e 0 none sited) (added_alone t g n c op i e 1 none sited) (added_alone t g n c op i e 2 none sited)
-act_alone laws t g n row c k op (act.OperandFrom i r) table below none sited = refl
-act_alone laws t g n row c k op (act.OperandStale i) table below none sited = refl
-act_alone laws t g n row c k op (act.ResultAdd e) table below none sited =
-    ap (λ r. raised t.profile r e (done_under t g n row c op (Some (act.ResultAdd e))))
-    (expected_residue laws t n k (brought c.differences op op.kind) table below (nothing_brought c.differences op none))
-act_alone laws t g n row c k op (act.Operator other) table below none sited = refl
-act_alone laws t g n row c k op act.Skip table below none sited = refl
+act_alone t g n row c k op (act.ResultAdd e) none sited =
+    ap (λ (z : ℤ). raised t.profile (modulo t.profile (pos (signature t.profile t.seed k) +ℤ pos (stamp t.step n) +ℤ z)) e
+    (done_under t g n row c op (Some (act.ResultAdd e))))
+    (nothing_brought c.differences op none ∙ sym (nothing_brought no_frame op (none_read op)))
+act_alone t g n row c k op (act.OperandFrom i r) none sited = refl
+act_alone t g n row c k op (act.OperandStale i) none sited = refl
+act_alone t g n row c k op (act.Operator other) none sited = refl
+act_alone t g n row c k op act.Skip none sited = refl
 
 this_op : (f : Fault) → acts_of (f ∷ []) f.cycle f.op ≡ Some f.act
 this_op f =
@@ -179,14 +169,14 @@ same_op : (a b : Option Op) (x y : Op) → a ≡ Some x → a ≡ Some y → x �
 same_op a b x y e f = cc
 
 pub one_fault_run : Laws → OneFaultRuns
-one_fault_run laws t g f graph table profile fits = record {
+one_fault_run laws t g f graph fits = record {
   there = λ op past held row values there many.
       let c = course (begun t g (acts_of (f ∷ [])) f.cycle past held row) values in
       let is : fits.op ≡ op = same_op (slice_get g.operations f.op) None fits.op op fits.there there in
       let sited : is_sited op.kind f.op f.act ≡ true = ap (λ (o : Op). is_sited o.kind f.op f.act) (sym is) ∙ fits.act.sited in
       ap (λ k. outcome_under t g f.cycle row c k op (acts_of (f ∷ []) f.cycle k)) many
       ∙ ap (outcome_under t g f.cycle row c f.op op) (this_op f)
-      ∙ act_alone laws t g f.cycle row c f.op op f.act table fits.cycle (nothing_read laws t g f op graph there) sited;
+      ∙ act_alone t g f.cycle row c f.op op f.act (nothing_read laws t g f op graph there) sited;
   elsewhere = λ n op past held row values none.
       let c = course (begun t g (acts_of (f ∷ [])) n past held row) values in
       ap (outcome_under t g n row c (length values) op) none ∙ without_act t g n row c (length values) op;

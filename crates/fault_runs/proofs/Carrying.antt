@@ -1,6 +1,6 @@
 -- Carrying: one call through the faults of a group.
 use Rattle.std.proofs.Common.{◌≡◌, ℕ, ◌-◌, ◌^◌, ◌<◌, Bool, true, false, cond, List, [], ◌∷◌, ◌++◌, Option, Some, None, ℤ, zero, suc, refl, sym}
-use Rattle.std.proofs.Common.{ap, subst, ◌∙◌, arith, inl, inr, length, drop, get_or, drop-cons, add-one, ◌+◌}
+use Rattle.std.proofs.Common.{ap, subst, ◌∙◌, arith, inl, inr, ◌+◌}
 use Rattle.std.proofs.lemmas.Bool.Decides.{nat_tests}
 use Rattle.coded_unit.specs.declared.call.Call.{Call}
 use Rattle.coded_unit.specs.declared.call.Answer.{Answer}
@@ -145,28 +145,6 @@ this_fault one more call this = (
 pub record DoneFrom (all rest : List Carried) (call : Call) : Type 0 where
   pub acts : act_at_call (faults_of all) (keeps_of all) call ≡ act_at_call (faults_of rest) (keeps_of rest) call
   pub words : word_at_call (faults_of all) (keeps_of all) call ≡ word_at_call (faults_of rest) (keeps_of rest) call
-
--- what stands from a place on
-pub rest_at : (all : List Carried) (i : ℕ) (one : Carried) → i < length all → one ≡ get_or all i one → drop i all ≡ one ∷ drop (i + 1) all
-rest_at all i one within is = rw add-one (drop-cons all i one within ∙ ap (λ (y : Carried). y ∷ drop (suc i) all) (sym is))
-
-pub done_on : (all rest more : List Carried) (one : Carried) (call : Call) → rest ≡ one ∷ more → is_call_of one.fault.cycle one.fault.op call ≡ false
-    → DoneFrom all rest call → DoneFrom all more call
-done_on all rest more one call is other done =
-    let later = other_fault one more call other in
-    record {
-      acts = done.acts ∙ (ap (λ (xs : List Carried). act_at_call (faults_of xs) (keeps_of xs) call) is ∙ later.0);
-      words = done.words ∙ (ap (λ (xs : List Carried). word_at_call (faults_of xs) (keeps_of xs) call) is ∙ later.1);
-    }
-
-pub done_here : (all rest more : List Carried) (one : Carried) (call : Call) → rest ≡ one ∷ more → is_call_of one.fault.cycle one.fault.op call ≡ true
-    → DoneFrom all rest call → (act_at_call (faults_of all) (keeps_of all) call ≡ act_with one.fault.act one.kept)
-    × (word_at_call (faults_of all) (keeps_of all) call ≡ word one.kept)
-done_here all rest more one call is this done =
-    let here = this_fault one more call this in (
-      done.acts ∙ (ap (λ (xs : List Carried). act_at_call (faults_of xs) (keeps_of xs) call) is ∙ here.0),
-      done.words ∙ (ap (λ (xs : List Carried). word_at_call (faults_of xs) (keeps_of xs) call) is ∙ here.1),
-    )
 
 -- what the one call needs
 pub ruleset one_call = (changed_asked, unchanged, skipped, made, right_of)

@@ -1,24 +1,22 @@
 -- FaultRun: the run of a graph under acts, on plain integers. Where an act adds a number to a word, the value goes by the residue that the word
 -- has, with its difference; no word stands in it.
-use Rattle.std.specs.Prelude.{◌≡◌, ℕ, zero, suc, ◌==◌, cond, List, [], ◌∷◌, ◌++◌, length, Option, Some, None, option_map, slice_get, Ok, ℤ, pos, ◌+ℤ◌}
-use Rattle.vcp_base.specs.Kinds.{Outcome, outcome}
+use Rattle.std.specs.Prelude.{◌≡◌, ℕ, zero, suc, cond, List, [], ◌∷◌, ◌++◌, length, Option, Some, None, option_map, slice_get, ℤ}
+use Rattle.vcp_base.specs.Kinds.{Outcome}
 use Rattle.vcp_base.specs.Types.{fits}
 use Rattle.vcp_base.specs.Values.{at}
 use Rattle.vcp_base.specs.declared.kind.StopKind.TheVariants as stop
-use Rattle.coded_unit.specs.Words.{modulo}
 use Rattle.op_graph.specs.declared.op.Op.{Op}
 use Rattle.op_graph.specs.declared.op.Outlet.{Outlet}
-use Rattle.op_graph.specs.GraphRun.{Cycle, Stop, after, own, initial, outcome_of, stored}
+use Rattle.op_graph.specs.GraphRun.{Cycle, Stop, after, initial, outcome_of, stored}
 use Rattle.op_graph.specs.Lists.{Lists}
 use Rattle.op_graph.specs.Rules.{IsGraph}
-use Rattle.signature_table.specs.Signatures.{Numbers, IsTable, stamp, expected}
+use Rattle.signature_table.specs.Signatures.{Numbers}
 use Rattle.fault_script.specs.declared.act.Act.{Act}
-use Rattle.fault_script.specs.declared.act.Act.TheVariants as act
 use Rattle.fault_script.specs.declared.act.Fault.{Fault}
 use Rattle.fault_script.specs.Changes.{Acts, acts_of}
-use Rattle.fault_script.specs.Differences.{Frame, no_frame, frame, origin}
+use Rattle.fault_script.specs.Differences.{Frame, no_frame, frame}
 use Rattle.fault_script.specs.Fits.{Fits}
-use Rattle.fault_runs.specs.Stepping.{Course, carry, raised, plain_operand, kind_under, outcome_under}
+use Rattle.fault_runs.specs.Stepping.{Course, outcome_under}
 
 -- What a cycle under acts begins with: the graph and the numbers of its code, the cycle's number and its row of inputs, its acts, the values of
 -- the whole cycle before and of the cells now, and the differences of the cycle before and of this one.
@@ -114,43 +112,22 @@ run_under t g acts rows = cycles_from t g acts 0 no_frame (initial g) rows
 abbrev pub fault_run : Numbers → Lists → List Fault → List (List ℤ) → List Cycle
 fault_run t g faults rows = run_under t g (acts_of faults) rows
 
--- ---- the values under one fault
+-- ---- one fault alone
 
--- the value of operand j of the fault's operation
-abbrev pub operand_alone : Numbers → Lists → ℕ → Course → Op → Act → ℕ → ℤ
-operand_alone t g n c op (act.OperandAdd i e) j =
-    cond (i == j) (plain_operand c.now op j +ℤ carry t.profile (modulo t.profile (origin t g op j +ℤ pos (stamp t.step n))) e) (plain_operand c.now op j)
-operand_alone t g n c op (act.OperandFrom i r) j = cond (i == j) (at c.now.given r) (plain_operand c.now op j)
-operand_alone t g n c op (act.OperandStale i) j = cond (i == j) (plain_operand c.past op j) (plain_operand c.now op j)
-operand_alone t g n c op (act.ResultAdd e) j = plain_operand c.now op j
-operand_alone t g n c op (act.Operator other) j = plain_operand c.now op j
-operand_alone t g n c op act.Skip j = plain_operand c.now op j
+-- what stands when an operation is done, but for differences, of which there are none
+abbrev pub undisturbed : Course → Course
+undisturbed c = record c { past_differences = no_frame; differences = no_frame }
 
--- what the function of its kind gives on them
-abbrev pub done_alone : Numbers → Lists → ℕ → List ℤ → Course → Op → Act → Outcome
-done_alone t g n row c op a =
-    outcome (kind_under (Some a) op.kind) op.from op.ty (own row op.kind op.imm)
-    (operand_alone t g n c op a 0) (operand_alone t g n c op a 1) (operand_alone t g n c op a 2)
-
--- The outcome of the fault's operation: no difference stands before it, so that the residue of its operand j is that of the operand's signature
--- and the stamp, and the residue of its own answer the expected one.
-abbrev pub outcome_alone : Numbers → Lists → ℕ → List ℤ → Course → ℕ → Op → Act → Outcome
-outcome_alone t g n row c k op (act.OperandAdd j e) = done_alone t g n row c op (act.OperandAdd j e)
-outcome_alone t g n row c k op (act.OperandFrom j r) = done_alone t g n row c op (act.OperandFrom j r)
-outcome_alone t g n row c k op (act.OperandStale j) = done_alone t g n row c op (act.OperandStale j)
-outcome_alone t g n row c k op (act.ResultAdd e) = raised t.profile (expected t.profile t.seed t.step k n) e (done_alone t g n row c op (act.ResultAdd e))
-outcome_alone t g n row c k op (act.Operator other) = done_alone t g n row c op (act.Operator other)
-outcome_alone t g n row c k op act.Skip = Ok (at c.past.given k)
-
--- One fault alone: at its operation the outcome is that of its act by the expected residues, and at every other operation, and in every other
--- cycle, that of the graph on the values that are there.
+-- One fault alone: no difference stands before it. At its operation the outcome is that of its act where the residues of the operation's operands and
+-- of its answer are those of their signatures and the stamp; at every other operation, and in every other cycle, it is that of the graph on the values
+-- that are there.
 pub record OneFaultRun (t : Numbers) (g : Lists) (f : Fault) : Type 0 where
   pub there : (op : Op) (past : Frame) (held row values : List ℤ) → slice_get g.operations f.op ≡ Some op → length values ≡ f.op →
       given_by (begun t g (acts_of (f ∷ [])) f.cycle past held row) values op
-      ≡ outcome_alone t g f.cycle row (course (begun t g (acts_of (f ∷ [])) f.cycle past held row) values) f.op op f.act
+      ≡ outcome_under t g f.cycle row (undisturbed (course (begun t g (acts_of (f ∷ [])) f.cycle past held row) values)) f.op op (Some f.act)
   pub elsewhere : (n : ℕ) (op : Op) (past : Frame) (held row values : List ℤ) → acts_of (f ∷ []) n (length values) ≡ None →
       given_by (begun t g (acts_of (f ∷ [])) n past held row) values op ≡ outcome_of held row values op
 
--- the law of one fault: for every graph, numbers that belong to its code, and fault that fits
+-- the law of one fault: for every graph, numbers and fault that fits
 abbrev pub OneFaultRuns : Type 0
-OneFaultRuns = (t : Numbers) (g : Lists) (f : Fault) → IsGraph g → IsTable t → t.profile ≡ g.profile → Fits g f → OneFaultRun t g f
+OneFaultRuns = (t : Numbers) (g : Lists) (f : Fault) → IsGraph g → Fits g f → OneFaultRun t g f

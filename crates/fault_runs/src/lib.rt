@@ -9,6 +9,7 @@ mod kept_words;
 mod laws;
 mod run_laws;
 mod scripted;
+mod taking;
 
 pub use kept_words::KeptWords;
 pub use laws::acts_keep_the_step_law;
@@ -16,4 +17,5 @@ pub use run_laws::{
     accepted_outputs_are_released, ends_under_acts_are_read_off_the_answers,
     one_fault_runs_by_its_act, runs_under_acts_keep_the_run_law, scripted_runs_are_right_runs,
 };
-pub use scripted::{Carried, Scripted, answered, carried_of, carried_with, changed, is_skip};
+pub use scripted::{Carried, Scripted, answered, carried_of, changed, is_skip};
+pub use taking::{Past, named, taken};

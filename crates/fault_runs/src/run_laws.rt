@@ -17,16 +17,14 @@ use signature_table::expected_residues_are_residues;
 
 /// Under one fault every operation but the fault's, in every cycle, gives what the graph gives on the
 /// values that are there; and where its act adds a number to a word, the value of the fault's operation
-/// goes by the expected residues alone, since no difference stands before it. It does nothing: it states
+/// goes by signatures and stamps alone, since no difference stands before it. It does nothing: it states
 /// a law.
 pub fn one_fault_runs_by_its_act()
     ensures { OneFaultRuns }
 {
-    // No difference stands before a fault, and so none is read by its operation, and its own residue is the expected one.
+    // No difference stands before a fault, and so none is read by its operation.
     one_fault_makes_its_difference();
     operands_are_there();
-    words_split_in_one_way();
-    expected_residues_are_residues();
 }
 
 /// The run law: over an honest unit the answers to the calls with the changes have, up to the first stop,

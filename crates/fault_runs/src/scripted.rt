@@ -41,7 +41,7 @@ pub struct Scripted<'u, U> {
 }
 
 /// The faults of a group, with the words that are kept for them; `Memory` where there is no room for them.
-pub fn carried_with(alloc: Global, group: &Group, kept: &KeptWords) -> Result<Vec<Carried>, Memory>
+fn carried_with(alloc: Global, group: &Group, kept: &KeptWords) -> Result<Vec<Carried>, Memory>
     requires { length kept.now ≡ length group.now }
     ensures faults { IfOk result (λ carried. faults_of carried.items ≡ group.now) }
     ensures kept { IfOk result (λ carried. keeps_of carried.items ≡ kept.now) }
