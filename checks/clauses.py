@@ -33,7 +33,7 @@ Of each public function, method, trait and type: what its comment says, then
   all that these name. If you accept them, you need not read code or proofs.
 - *broken by*: wrong lines of code that the proofs refuse: files of the crate's `must-fail/`, which the gate tries, or, where *by hand* stands behind it, of
   `checks/edits/`.
-- *shown by*: tests, as `CRATE::TEST`, and texts of rows that a program plays, as `session NAME` (`docs/SESSIONS.md`).
+- *shown by*: tests, as `CRATE::TEST`, and texts of rows that a program plays, as `session NAME` or `rows NAME` (`docs/SESSIONS.md`).
 
 A dash says that there is none: the proof alone shows that promise. A method of a trait that says nothing of its own has the words of the trait. At the end of a
 crate stand the modules of definitions that public contracts cite, with what is said of them.
@@ -71,7 +71,7 @@ class Marks:
                 text = file.read_text()
             except UnicodeDecodeError:
                 continue
-            word = "session " if file.suffix == ".session" else f"{crate}/"
+            word = {".session": "session ", ".rows": "rows "}.get(file.suffix, f"{crate}/")
             self.put(self.shown_by, marks(text, "# shows"), f"`{word}{file.stem}`", "", file)
 
     def read_tests(self, crate):
