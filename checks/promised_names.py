@@ -6,7 +6,7 @@
 
 Of docs/PROMISES.md, each claim: its clauses and its edits are there, named with their crates, an edit that the gate doesn't try is called so, and the definitions
 to be read have so many lines; and all that is named so elsewhere on that page is there.
-Of crates/play_sessions: each session of data/ is in args, and stdout has its line.
+Of crates/play_sessions and play_rows: each text of data/ is in args, and stdout has its line.
 Of docs/ARCHITECTURE.md: each crate stands in a layer and on none above it, and has its row in the table of crates and, but for those of tests,
 in that of main contracts; each name of a crate, a file or a definition is there; and the list of
 modules is the one that checks/cited_modules.py prints.
@@ -61,11 +61,6 @@ def is_clause(crates, cited):
     path, _, clause = rest.partition(".")
     found = crates[crate].named(path) if crate in crates else []
     return bool(found) and (not clause or any(clause in item.names_of_clauses() for item in found))
-
-
-def sessions():
-    """The names of the sessions that play_sessions has."""
-    return sorted(file.stem for file in (CRATES / "play_sessions" / "data").glob("*.session"))
 
 
 def quoted(text):
@@ -192,14 +187,15 @@ def faults_of_architecture(crates, names):
         yield "the list of modules differs from what checks/cited_modules.py prints"
 
 
-def faults_of_sessions():
-    """Whether each session is given to its program, and has its line of what is wanted."""
-    crate = CRATES / "play_sessions"
-    wanted = [f"{name}.session" for name in sessions()]
-    if (crate / "args").read_text().split("\n")[:-1] != wanted:
-        yield "args differs from the names of data/, in their order"
-    if [line.partition(":")[0] for line in (crate / "stdout").read_text().split("\n")[:-1]] != wanted:
-        yield "stdout has not one line for each name of data/, in their order"
+def faults_of_rows():
+    """Whether each text of rows is given to the program that plays it, and has its line of what is wanted."""
+    for name in ("play_sessions", "play_rows"):
+        crate = CRATES / name
+        wanted = sorted(file.name for file in (crate / "data").glob("*") if file.suffix in (".session", ".rows"))
+        if wanted and (crate / "args").read_text().split("\n")[:-1] != wanted:
+            yield f"{name}: args differs from the names of data/, in their order"
+        if wanted and [line.partition(":")[0] for line in (crate / "stdout").read_text().split("\n")[:-1]] != wanted:
+            yield f"{name}: stdout has not one line for each name of data/, in their order"
 
 
 def faults_of_glossary(crates, names):
@@ -283,7 +279,7 @@ def main():
     faults = [f"PROMISES: {fault}" for fault in [*faults_of_claims(crates), *faults_of_cited_names(crates)]]
     faults += [f"ARCHITECTURE: {fault}" for fault in faults_of_architecture(listed, names)]
     faults += [f"GLOSSARY: {fault}" for fault in faults_of_glossary(listed, names)]
-    faults += [f"play_sessions: {fault}" for fault in faults_of_sessions()]
+    faults += faults_of_rows()
     faults += [f"UNITS: {fault}" for fault in faults_of_units()]
     faults += [f"ASSESSOR: {fault}" for fault in faults_of_assessor()]
     print("\n".join(faults) or "promised_names: all is there")
